@@ -1,0 +1,44 @@
+-- What definitions by cases say of pairs.
+use Rattle.std.proofs.Common.{◌≡◌, ◌∙◌, ap, sym, refl}
+use denote.Hole.Carrier.{hidden}
+use Rattle.reo_values.specs.declared.kindred.Kindred as kindred
+use Rattle.reo_values.specs.declared.value.Value.TheBlock.{hidden-the_row-Couple-0}
+use Rattle.reo_values.specs.declared.kindred.Kindred.TheBlock.{hidden-the_row-Twins-0}
+use Rattle.reo_values.specs.declared.value.Couple.{Couple}
+use Rattle.reo_values.specs.declared.kindred.Twins.{Twins}
+use Rattle.reo_values.specs.declared.value.Value.TheVariants as values
+use Rattle.reo_values.specs.declared.kindred.Kindred.TheVariants as kinds
+use Rattle.reo_values.specs.declared.kindred.Kindred.{Kindred}
+use Rattle.reo_values.specs.Kind.{IsIn}
+use Rattle.reo_values.specs.Pair.{left_of, right_of}
+
+-- a pair is of a type of pairs where its parts are of the parts
+pub IsIn-Pair : (x : Couple) (y : Twins) → IsIn (values.Pair x) (kinds.Pair y) ≡ (IsIn x.left y.left × IsIn x.right y.right)
+unfolding hidden-the_row-Couple-0 hidden hidden-the_row-Twins-0
+IsIn-Pair x y = refl
+
+-- and of no other type
+pub IsIn_Pair-other : (x : Couple) (k : Kindred) → ((y : Twins) → k ≡ kinds.Pair y → ⊥) → IsIn (values.Pair x) k → ⊥
+unfolding hidden-the_row-Couple-0 hidden hidden-the_row-Twins-0
+IsIn_Pair-other x kindred.Unit other h = h
+IsIn_Pair-other x kindred.Bool other h = h
+IsIn_Pair-other x (kindred.Int a b) other h = h
+IsIn_Pair-other x (kindred.Sym a) other h = h
+IsIn_Pair-other x (kindred.Text a) other h = h
+IsIn_Pair-other x (kindred.Pair' m (kindred.more_of-Twins a b kindred.end_of-Twins)) other h = other (record { left = a; right = b }) refl
+
+-- pairs of equal parts are equal
+pub Pair_of-equal : (x y : Couple) → x.left ≡ y.left → x.right ≡ y.right → values.Pair x ≡ values.Pair y
+Pair_of-equal x y left right = ap values.Pair (λ i. record { left = left i; right = right i })
+
+-- and the parts of equal pairs are equal
+pub left_of-Pair : (x : Couple) → left_of (values.Pair x) ≡ x.left
+unfolding hidden-the_row-Couple-0 hidden
+left_of-Pair x = refl
+
+pub right_of-Pair : (x : Couple) → right_of (values.Pair x) ≡ x.right
+unfolding hidden-the_row-Couple-0 hidden
+right_of-Pair x = refl
+
+pub Pair-injective : (x y : Couple) → values.Pair x ≡ values.Pair y → (x.left ≡ y.left) × (x.right ≡ y.right)
+Pair-injective x y e = (sym (left_of-Pair x) ∙ ap left_of e ∙ left_of-Pair y, sym (right_of-Pair x) ∙ ap right_of e ∙ right_of-Pair y)

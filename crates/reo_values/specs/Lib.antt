@@ -1,0 +1,5 @@
+pub mod Filling
+pub mod Kind
+pub mod Lends
+pub mod Pair
+pub mod formers

@@ -1,0 +1,88 @@
+//! Types of items.
+ghost use Rattle.std.specs.Prelude.{◌≡◌, ◌↔◌, IfOk, IsTrue};
+ghost use Rattle.std.specs.List.{All};
+ghost use Rattle.reo_values.specs.Kind.{IsIn, IsPlain};
+
+use crate::{Boxed, Bytes, List, NoMemory, Value};
+use std::alloc::Global;
+
+/// A type of items.
+#[cycle(kindred)]
+#[derive(Drop)]
+pub enum Kindred {
+    /// The type with one item.
+    Unit,
+    /// The two truth values.
+    Bool,
+    /// The whole numbers from the first bound to the second, both included.
+    Int(i64, i64),
+    /// One item for each name.
+    Sym(List<Bytes>),
+    /// The texts of at most so many bytes, each from the space to the tilde.
+    Text(u16),
+    /// The pairs of an item of each of two types.
+    Pair(Boxed<Twins>),
+}
+
+/// The types of a pair's two items.
+#[cycle(kindred)]
+#[derive(Drop)]
+pub struct Twins {
+    pub left: Kindred,
+    pub right: Kindred,
+}
+
+fn all_plain(bytes: &[u8]) -> bool
+    ensures { IsTrue result ↔ All IsPlain bytes.now }
+{
+    bytes.iter().all(|byte| 32 <= *byte && *byte <= 126)
+}
+
+/// Whether an item is of a type. This takes no memory.
+pub fn is_in(item: &Value, kindred: &Kindred) -> bool
+    ensures { IsTrue result ↔ IsIn item.now kindred.now }
+{
+    match (item, kindred) {
+        (Value::Unit, Kindred::Unit) => true,
+        (Value::Bool(_), Kindred::Bool) => true,
+        (Value::Int(number), Kindred::Int(low, high)) => *low <= *number && *number <= *high,
+        (Value::Sym(place), Kindred::Sym(names)) => (*place as usize) < names.len(),
+        (Value::Text(bytes), Kindred::Text(most)) => {
+            bytes.len() <= *most as usize && all_plain(bytes.as_slice())
+        }
+        (Value::Pair(x), Kindred::Pair(y)) => {
+            let (x, y) = (x.get(), y.get());
+            is_in(&x.left, &y.left) && is_in(&x.right, &y.right)
+        }
+        _ => false,
+    }
+}
+
+fn copy_names(alloc: Global, names: &List<Bytes>) -> Result<List<Bytes>, NoMemory>
+    ensures { IfOk result (λ made. made ≡ names.now) }
+{
+    let mut made = List::new(alloc);
+    for name in names.as_slice() {
+        made.push(name.copy(alloc)?)?;
+    }
+    Ok(made)
+}
+
+/// An equal type. `NoMemory` is want of memory.
+pub fn copy_kindred(alloc: Global, kindred: &Kindred) -> Result<Kindred, NoMemory>
+    ensures { IfOk result (λ made. made ≡ kindred.now) }
+{
+    match kindred {
+        Kindred::Unit => Ok(Kindred::Unit),
+        Kindred::Bool => Ok(Kindred::Bool),
+        Kindred::Int(low, high) => Ok(Kindred::Int(*low, *high)),
+        Kindred::Sym(names) => Ok(Kindred::Sym(copy_names(alloc, names)?)),
+        Kindred::Text(most) => Ok(Kindred::Text(*most)),
+        Kindred::Pair(twins) => {
+            let twins = twins.get();
+            let left = copy_kindred(alloc, &twins.left)?;
+            let right = copy_kindred(alloc, &twins.right)?;
+            Ok(Kindred::Pair(Boxed::new(alloc, Twins { left, right })?))
+        }
+    }
+}

@@ -1,0 +1,26 @@
+//! Items, the types that they are of, and the lists that hold them.
+//!
+//! Contracts see a [`List`] and [`Bytes`] as plain lists, a [`Boxed`] value as the value
+//! in it, and an item as plain data: so equality in a contract is equality of what the
+//! program can tell apart, and never of addresses.
+#![tactic(auto)]
+
+mod boxed;
+mod bytes;
+mod copies;
+mod filling;
+mod kindred;
+mod list;
+mod value;
+
+pub use boxed::Boxed;
+pub use bytes::Bytes;
+pub use copies::Copies;
+pub use filling::Filling;
+pub use kindred::{Kindred, Twins, copy_kindred, is_in};
+pub use list::List;
+pub use value::{Couple, Value, copy, same_item};
+
+/// Want of memory.
+#[derive(Clone, Copy, Debug, PartialEq, Eq)]
+pub struct NoMemory;

@@ -1,0 +1,68 @@
+//! Items.
+ghost use Rattle.std.specs.Prelude.{◌≡◌, ◌↔◌, IfOk, IsTrue};
+
+use crate::{Boxed, Bytes, NoMemory};
+use std::alloc::Global;
+
+/// An item that flows through a connector.
+#[cycle(value)]
+#[derive(Drop)]
+pub enum Value {
+    /// The one item of the type unit.
+    Unit,
+    /// A truth value.
+    Bool(bool),
+    /// A whole number.
+    Int(i64),
+    /// The name at this place, from 0, in its type's list of names.
+    Sym(u16),
+    /// A text of printable bytes.
+    Text(Bytes),
+    /// Two items.
+    Pair(Boxed<Couple>),
+}
+
+/// The two items of a pair.
+#[cycle(value)]
+#[derive(Drop)]
+pub struct Couple {
+    pub left: Value,
+    pub right: Value,
+}
+
+/// Whether two items are equal. This takes no memory.
+pub fn same_item(a: &Value, b: &Value) -> bool
+    ensures { IsTrue result ↔ (a.now ≡ b.now) }
+{
+    match (a, b) {
+        (Value::Unit, Value::Unit) => true,
+        (Value::Bool(x), Value::Bool(y)) => *x == *y,
+        (Value::Int(x), Value::Int(y)) => *x == *y,
+        (Value::Sym(x), Value::Sym(y)) => *x == *y,
+        (Value::Text(x), Value::Text(y)) => x.as_slice() == y.as_slice(),
+        (Value::Pair(x), Value::Pair(y)) => {
+            let (x, y) = (x.get(), y.get());
+            same_item(&x.left, &y.left) && same_item(&x.right, &y.right)
+        }
+        _ => false,
+    }
+}
+
+/// An equal item. `NoMemory` is want of memory.
+pub fn copy(alloc: Global, item: &Value) -> Result<Value, NoMemory>
+    ensures { IfOk result (λ made. made ≡ item.now) }
+{
+    match item {
+        Value::Unit => Ok(Value::Unit),
+        Value::Bool(truth) => Ok(Value::Bool(*truth)),
+        Value::Int(number) => Ok(Value::Int(*number)),
+        Value::Sym(place) => Ok(Value::Sym(*place)),
+        Value::Text(bytes) => Ok(Value::Text(bytes.copy(alloc)?)),
+        Value::Pair(couple) => {
+            let couple = couple.get();
+            let left = copy(alloc, &couple.left)?;
+            let right = copy(alloc, &couple.right)?;
+            Ok(Value::Pair(Boxed::new(alloc, Couple { left, right })?))
+        }
+    }
+}
