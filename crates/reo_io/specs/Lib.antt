@@ -1,0 +1,9 @@
+pub mod Causes
+pub mod FailingCalls
+pub mod Fetches
+pub mod Memory
+pub mod Notes
+pub mod Real
+pub mod Sinks
+pub mod Sources
+pub mod Sure

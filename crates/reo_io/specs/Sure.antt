@@ -1,0 +1,26 @@
+-- What the objects that never fail hold.
+use Rattle.std.specs.Prelude.{ℕ, List, [], Option, Some, None, if◌then◌else◌}
+use Rattle.reo_io.specs.Fetches.{Folder}
+use Rattle.reo_io.specs.declared.sure_files.SureFiles.{SureFiles}
+use Rattle.reo_io.specs.declared.sure_sink.SureSink.{SureSink}
+use Rattle.reo_io.specs.declared.sure_source.SureSource.{SureSource}
+
+-- The files, where every other name stands for an empty file.
+abbrev pub sure_files : SureFiles → Folder
+sure_files files = record { files = files.files; others = Some [] }
+
+-- The bytes left in a source.
+abbrev pub sure_left : SureSource → List ℕ
+sure_left source = source.bytes
+
+-- The bytes that a sink has kept.
+abbrev pub sure_kept : SureSink → List ℕ
+sure_kept sink = sink.kept.items
+
+-- How many more bytes it has room for.
+abbrev pub sure_room : SureSink → ℕ
+sure_room sink = sink.kept.room
+
+-- The bytes so far, which it tells until one of them found no room.
+abbrev pub sure_told : SureSink → Option (List ℕ)
+sure_told sink = if sink.whole then Some sink.kept.items else None

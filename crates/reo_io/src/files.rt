@@ -1,0 +1,51 @@
+//! Files by their names.
+ghost use Rattle.std.specs.Prelude.{◌≡◌, ◌<◌, ◌^◌, List, ℕ, Option, []};
+
+use reo_values::Bytes;
+use std::alloc::Global;
+
+/// Why a fetch gave no whole file.
+#[derive(Clone, Copy, Debug, PartialEq, Eq)]
+pub enum FetchFault {
+    /// The file cannot be had. Its name was noted.
+    Failed,
+    /// The file is longer than the limit.
+    TooLong,
+    /// Memory is wanting.
+    NoMemory,
+}
+
+/// A file in memory.
+#[derive(Drop)]
+pub struct Named {
+    pub name: Bytes,
+    pub bytes: Bytes,
+}
+
+/// Gives files by their names.
+pub trait Files {
+    ghost use Rattle.reo_io.specs.Fetches.{Folder, Fetches, Holds, failed_after};
+
+    /// The files, where they are told.
+    ghost told: { Self → Option Folder };
+
+    /// The names whose fetch answered `Failed`, in that order.
+    ghost failed: { Self → List (List ℕ) };
+
+    /// Puts the bytes of a file, at most `limit`, into the empty `room`. `Failed` notes the name.
+    /// `TooLong` leaves the first `limit + 1` bytes in `room`. After `Failed` and `NoMemory` it is
+    /// empty.
+    fn fetch(
+        &mut self,
+        alloc: Global,
+        name: &[u8],
+        limit: usize,
+        room: &mut Bytes,
+    ) -> Result<(), FetchFault>
+        requires empty { room.old ≡ [] }
+        requires small { limit < 2 ^ 32 }
+        ensures size { Holds limit room.new result }
+        ensures bytes { Fetches (told self.old) name.now limit room.new result }
+        ensures cause { failed self.new ≡ failed_after (failed self.old) name.now result }
+        ensures told_same { told self.new ≡ told self.old };
+}

@@ -1,0 +1,28 @@
+//! Where bytes come from.
+ghost use Rattle.std.specs.Prelude.{◌≡◌, ◌<◌, ◌≤◌, List, ℕ, Option, length, IfOk};
+ghost use Rattle.reo_io.specs.Causes.{HasCause};
+ghost use Rattle.reo_io.specs.Sources.{Takes};
+
+/// Why a source gave nothing.
+#[derive(Clone, Copy, Debug, PartialEq, Eq)]
+pub enum SourceFault {
+    /// The source failed, and its count of faults rose.
+    Failed,
+}
+
+/// Gives bytes, one after another.
+pub trait Source {
+    /// The bytes left, where the source tells them.
+    ghost told: { Self → Option (List ℕ) };
+
+    /// How often the source has failed. It never falls.
+    ghost faults: { Self → ℕ };
+
+    /// Puts the next bytes at the front of the room, and answers how many. No byte is the end.
+    /// After `Failed` none was taken. No memory is taken.
+    fn take(&mut self, room: &mut [u8]) -> Result<usize, SourceFault>
+        requires { 0 < length room.old }
+        ensures bound { IfOk result (λ count. count ≤ length room.new) }
+        ensures bytes { Takes (told self.old) (told self.new) room.new result }
+        ensures cause { HasCause (faults self.old) (faults self.new) result };
+}

@@ -1,0 +1,49 @@
+//! The sink over any writer of std.
+ghost use Rattle.std.specs.Prelude.{◌≡◌, ◌<◌, length, None};
+ghost use Rattle.reo_io.specs.Causes.{HasCause, faults_after};
+ghost use Rattle.reo_io.specs.Sinks.{Puts};
+
+use crate::{Sink, SinkFault};
+use std::io::Write;
+
+/// The sink over a writer, which tells no bytes.
+#[derive(Drop)]
+pub struct StdSink<W> {
+    writer: W,
+    faults: u64,
+}
+
+impl<W: Write> StdSink<W> {
+    ghost use Rattle.reo_io.specs.Real.{writer_faults};
+
+    /// The sink over this writer, which has not failed yet.
+    pub fn new(writer: W) -> Self
+        ensures { writer_faults result ≡ 0 }
+    {
+        StdSink { writer, faults: 0 }
+    }
+}
+
+impl<W: Write> Sink for StdSink<W> {
+    ghost use Rattle.reo_io.specs.Real.{writer_faults};
+
+    ghost told = { λ _. None };
+
+    ghost faults = { writer_faults };
+
+    /// A write that takes no byte counts as a fault.
+    fn put(&mut self, piece: &[u8]) -> Result<usize, SinkFault>
+        requires { 0 < length piece.now }
+        ensures bytes { Puts None None piece.now result }
+        ensures cause { HasCause (writer_faults self.old) (writer_faults self.new) result }
+        ensures faults { writer_faults self.new ≡ faults_after (writer_faults self.old) result }
+    {
+        match self.writer.write(piece) {
+            Ok(count) if 0 < count => Ok(count),
+            _ => {
+                self.faults = self.faults.saturating_add(1);
+                Err(SinkFault::Failed)
+            }
+        }
+    }
+}

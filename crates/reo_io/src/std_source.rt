@@ -1,0 +1,49 @@
+//! The source over any reader of std.
+ghost use Rattle.std.specs.Prelude.{◌≡◌, ◌<◌, ◌≤◌, length, IfOk, None};
+ghost use Rattle.reo_io.specs.Causes.{HasCause, faults_after};
+ghost use Rattle.reo_io.specs.Sources.{Takes};
+
+use crate::{Source, SourceFault};
+use std::io::Read;
+
+/// The source over a reader, which tells no bytes.
+#[derive(Drop)]
+pub struct StdSource<R> {
+    reader: R,
+    faults: u64,
+}
+
+impl<R: Read> StdSource<R> {
+    ghost use Rattle.reo_io.specs.Real.{reader_faults};
+
+    /// The source over this reader, which has not failed yet.
+    pub fn new(reader: R) -> Self
+        ensures { reader_faults result ≡ 0 }
+    {
+        StdSource { reader, faults: 0 }
+    }
+}
+
+impl<R: Read> Source for StdSource<R> {
+    ghost use Rattle.reo_io.specs.Real.{reader_faults};
+
+    ghost told = { λ _. None };
+
+    ghost faults = { reader_faults };
+
+    fn take(&mut self, room: &mut [u8]) -> Result<usize, SourceFault>
+        requires { 0 < length room.old }
+        ensures bound { IfOk result (λ count. count ≤ length room.new) }
+        ensures bytes { Takes None None room.new result }
+        ensures cause { HasCause (reader_faults self.old) (reader_faults self.new) result }
+        ensures faults { reader_faults self.new ≡ faults_after (reader_faults self.old) result }
+    {
+        match self.reader.read(room) {
+            Ok(count) => Ok(count),
+            Err(_) => {
+                self.faults = self.faults.saturating_add(1);
+                Err(SourceFault::Failed)
+            }
+        }
+    }
+}

@@ -1,0 +1,48 @@
+//! Files in memory that never fail.
+ghost use Rattle.std.specs.Prelude.{◌≡◌, ◌<◌, ◌+◌, ◌^◌, [], IfOk, IsErrOf, IsOk, Some};
+
+use crate::lookup::{find_file, give};
+use crate::{FetchFault, Files, Named};
+use reo_values::{Bytes, List, NoMemory};
+use std::alloc::Global;
+
+/// Files in memory. A name that is not listed stands for an empty file.
+#[derive(Drop)]
+pub struct SureFiles {
+    files: List<Named>,
+}
+
+impl SureFiles {
+    ghost use Rattle.reo_io.specs.Sure.{sure_files};
+
+    /// These files; of two with one name the first counts.
+    pub fn new(_alloc: Global, files: List<Named>) -> Result<Self, NoMemory>
+        ensures made { IsOk result }
+        ensures told { IfOk result (λ made. sure_files made ≡ record { files = files; others = Some [] }) }
+    {
+        Ok(SureFiles { files })
+    }
+}
+
+impl Files for SureFiles {
+    ghost use Rattle.reo_io.specs.Fetches.{Fetches, Holds};
+    ghost use Rattle.reo_io.specs.Sure.{sure_files};
+    ghost use Rattle.std.specs.Prelude.{[], Some};
+
+    ghost told = { λ files. Some (sure_files files) };
+
+    ghost failed = { λ _. [] };
+
+    fn fetch(
+        &mut self,
+        _alloc: Global,
+        name: &[u8],
+        limit: usize,
+        room: &mut Bytes,
+    ) -> Result<(), FetchFault> {
+        match find_file(self.files.as_slice(), name) {
+            Some(bytes) => give(bytes.as_slice(), limit, room),
+            None => Ok(()),
+        }
+    }
+}
