@@ -1,0 +1,4 @@
+pub mod EndingText
+pub mod RoundText
+pub mod Spaced
+pub mod TraceText

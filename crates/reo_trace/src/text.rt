@@ -1,0 +1,163 @@
+//! The texts of lines.
+ghost use Rattle.std.specs.Prelude.{◌≡◌, ◌++◌, IfOk, OnOk, codes};
+ghost use Rattle.std.specs.Fmt.{decimal};
+ghost use Rattle.reo_trace.specs.EndingText.{ending_text};
+ghost use Rattle.reo_trace.specs.RoundText.{cell_text, entry_text, move_text, moves_text, round_text, sign_of};
+ghost use Rattle.reo_trace.specs.Spaced.{gap, spaced};
+
+use crate::{Cell, Ending, Entry, RoundLine};
+use reo_behaviour::{Move, Ports, Way};
+use reo_values::{Bytes, NoMemory, value_text};
+use std::alloc::Global;
+
+/// Adds a number in decimal.
+fn append_number(alloc: Global, text: &mut Bytes, number: u64) -> Result<(), NoMemory>
+    ensures { OnOk result (text.new ≡ text.old ++ decimal number) }
+{
+    match number.to_string(alloc) {
+        Ok(digits) => text.append(digits.as_bytes()),
+        Err(_) => Err(NoMemory),
+    }
+}
+
+/// Adds the space before the thing at a place: none before the first.
+fn append_gap(text: &mut Bytes, place: usize) -> Result<(), NoMemory>
+    ensures { OnOk result (text.new ≡ text.old ++ gap place) }
+{
+    if place == 0 {
+        Ok(())
+    } else {
+        text.push(b' ')
+    }
+}
+
+/// Adds the sign of a way.
+fn append_sign(text: &mut Bytes, way: Way) -> Result<(), NoMemory>
+    ensures { OnOk result (text.new ≡ text.old ++ sign_of way) }
+{
+    match way {
+        Way::In => text.append(b"!"),
+        Way::Out => text.append(b"?"),
+    }
+}
+
+/// Adds what flowed at one port.
+#[tactic(auto, unfolding(crate::specs::RoundText::move_text))]
+fn append_move(alloc: Global, text: &mut Bytes, ports: &Ports, one: &Move) -> Result<(), NoMemory>
+    ensures { OnOk result (text.new ≡ text.old ++ move_text ports.now.list one.now) }
+{
+    let Some(port) = ports.list.get(one.port) else {
+        return Ok(());
+    };
+    text.append(port.name.as_slice())?;
+    append_sign(text, port.way)?;
+    let item = value_text(alloc, &one.item, &port.kindred)?;
+    text.append(item.as_slice())
+}
+
+/// Adds what flowed at the ports, with single spaces between.
+fn append_flows(
+    alloc: Global,
+    text: &mut Bytes,
+    ports: &Ports,
+    moves: &[Move],
+) -> Result<(), NoMemory>
+    ensures { OnOk result (text.new ≡ text.old ++ spaced (move_text ports.now.list) moves.now) }
+{
+    for (place, one) in moves.iter().enumerate() {
+        append_gap(text, place)?;
+        append_move(alloc, text, ports, one)?;
+    }
+    Ok(())
+}
+
+/// Adds the moves of a round.
+fn append_moves(
+    alloc: Global,
+    text: &mut Bytes,
+    ports: &Ports,
+    line: &RoundLine,
+) -> Result<(), NoMemory>
+    ensures { OnOk result (text.new ≡ text.old ++ moves_text ports.now.list line.now.idle line.now.moves) }
+{
+    if line.idle {
+        text.append(b"idle")
+    } else if line.moves.is_empty() {
+        text.append(b"-")
+    } else {
+        append_flows(alloc, text, ports, line.moves.as_slice())
+    }
+}
+
+/// Adds the row of one side.
+fn append_cell(alloc: Global, text: &mut Bytes, cell: Cell) -> Result<(), NoMemory>
+    ensures { OnOk result (text.new ≡ text.old ++ cell_text cell) }
+{
+    match cell {
+        Cell::Row(row) => append_number(alloc, text, u64::from(row)),
+        Cell::Jam => text.append(b"j"),
+    }
+}
+
+/// Adds the rows of one primitive.
+#[tactic(auto, unfolding(crate::specs::RoundText::entry_text))]
+fn append_entry(alloc: Global, text: &mut Bytes, entry: Entry) -> Result<(), NoMemory>
+    ensures { OnOk result (text.new ≡ text.old ++ entry_text entry) }
+{
+    match entry {
+        Entry::One(cell) => append_cell(alloc, text, cell),
+        Entry::Two(mouth, tail) => {
+            append_cell(alloc, text, mouth)?;
+            text.append(b".")?;
+            append_cell(alloc, text, tail)
+        }
+    }
+}
+
+/// Adds the rows of all primitives, with single spaces between.
+fn append_entries(alloc: Global, text: &mut Bytes, entries: &[Entry]) -> Result<(), NoMemory>
+    ensures { OnOk result (text.new ≡ text.old ++ spaced entry_text entries.now) }
+{
+    for (place, entry) in entries.iter().enumerate() {
+        append_gap(text, place)?;
+        append_entry(alloc, text, *entry)?;
+    }
+    Ok(())
+}
+
+/// The text of a round line, its line feed included. `NoMemory` is want of memory.
+#[tactic(auto, unfolding(crate::specs::RoundText::round_text))]
+pub fn round_line_text(alloc: Global, ports: &Ports, line: &RoundLine) -> Result<Bytes, NoMemory>
+    ensures { IfOk result (λ text. text ≡ round_text ports.now.list line.now) }
+{
+    let mut text = Bytes::from_slice(alloc, b"round ")?;
+    append_number(alloc, &mut text, line.round)?;
+    text.append(b": ")?;
+    append_moves(alloc, &mut text, ports, line)?;
+    text.append(b" | ")?;
+    append_entries(alloc, &mut text, line.entries.as_slice())?;
+    text.append(b"\n")?;
+    Ok(text)
+}
+
+/// Words, a number of rounds, and the end of the line.
+fn after_rounds(alloc: Global, words: &[u8], rounds: u64) -> Result<Bytes, NoMemory>
+    ensures { IfOk result (λ text. text ≡ words.now ++ (decimal rounds ++ codes " rounds\n")) }
+{
+    let mut text = Bytes::from_slice(alloc, words)?;
+    append_number(alloc, &mut text, rounds)?;
+    text.append(b" rounds\n")?;
+    Ok(text)
+}
+
+/// The text of the last line, its line feed included. `NoMemory` is want of memory.
+#[tactic(auto, unfolding(crate::specs::EndingText::ending_text))]
+pub fn ending_line_text(alloc: Global, ending: &Ending) -> Result<Bytes, NoMemory>
+    ensures { IfOk result (λ text. text ≡ ending_text ending.now) }
+{
+    match ending {
+        Ending::Done { rounds } => after_rounds(alloc, b"done after ", *rounds),
+        Ending::Stuck { rounds } => after_rounds(alloc, b"stuck after ", *rounds),
+        Ending::Limit { rounds } => after_rounds(alloc, b"limit after ", *rounds),
+    }
+}

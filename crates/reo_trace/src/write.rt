@@ -1,0 +1,65 @@
+//! Writing lines.
+ghost use Rattle.std.specs.Prelude.{◌≡◌, ◌≤◌, OnOk, IsErrOf};
+ghost use Rattle.reo_io.specs.Causes.{Rose};
+ghost use Rattle.reo_io.specs.Sinks.{Appended, TookPart};
+ghost use Rattle.reo_trace.specs.EndingText.{ending_text};
+ghost use Rattle.reo_trace.specs.RoundText.{round_text};
+
+use crate::{Ending, RoundLine, ending_line_text, round_line_text};
+use reo_behaviour::Ports;
+use reo_io::{Sink, SinkFault, put_all};
+use std::alloc::Global;
+
+/// Why a line was not written.
+#[derive(Clone, Copy, Debug, PartialEq, Eq)]
+pub enum WriteFault {
+    /// The sink failed: it took a front of the line, and not the whole.
+    Failed,
+    /// Want of memory: the sink was not called.
+    NoMemory,
+}
+
+/// Writes a round line. The whole line is made first, and then put.
+///
+/// After `Failed`, which comes only where the sink's count of faults rose, a front of the line was taken, and not the whole. After `NoMemory` nothing was.
+pub fn write_round<S: Sink>(
+    alloc: Global,
+    ports: &Ports,
+    line: &RoundLine,
+    out: &mut S,
+) -> Result<(), WriteFault>
+    ensures ok { OnOk result (Appended (S.told out.old) (S.told out.new) (round_text ports.now.list line.now)) }
+    ensures failed { IsErrOf result WriteFault.Failed → TookPart (S.told out.old) (S.told out.new) (round_text ports.now.list line.now) }
+    ensures cause { IsErrOf result WriteFault.Failed → Rose (S.faults out.old) (S.faults out.new) }
+    ensures memory { IsErrOf result WriteFault.NoMemory → out.new ≡ out.old }
+    ensures count { S.faults out.old ≤ S.faults out.new }
+{
+    let Ok(text) = round_line_text(alloc, ports, line) else {
+        return Err(WriteFault::NoMemory);
+    };
+    match put_all(text.as_slice(), out) {
+        Ok(()) => Ok(()),
+        Err(SinkFault::Failed) => Err(WriteFault::Failed),
+    }
+}
+
+/// Writes the last line, as `write_round` writes a round line.
+pub fn write_ending<S: Sink>(
+    alloc: Global,
+    ending: &Ending,
+    out: &mut S,
+) -> Result<(), WriteFault>
+    ensures ok { OnOk result (Appended (S.told out.old) (S.told out.new) (ending_text ending.now)) }
+    ensures failed { IsErrOf result WriteFault.Failed → TookPart (S.told out.old) (S.told out.new) (ending_text ending.now) }
+    ensures cause { IsErrOf result WriteFault.Failed → Rose (S.faults out.old) (S.faults out.new) }
+    ensures memory { IsErrOf result WriteFault.NoMemory → out.new ≡ out.old }
+    ensures count { S.faults out.old ≤ S.faults out.new }
+{
+    let Ok(text) = ending_line_text(alloc, ending) else {
+        return Err(WriteFault::NoMemory);
+    };
+    match put_all(text.as_slice(), out) {
+        Ok(()) => Ok(()),
+        Err(SinkFault::Failed) => Err(WriteFault::Failed),
+    }
+}
