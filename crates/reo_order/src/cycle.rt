@@ -8,7 +8,12 @@ use crate::queue::{Queue, clear, empty, push_all};
 use std::alloc::{AllocError, Global};
 
 /// Whether an arrow lies on a directed cycle. The queue is empty before and after, so that one serves many searches.
-fn is_on_cycle(queue: &mut Queue, outs: &Links, ins: &Links, arrow: usize) -> Result<bool, AllocError>
+fn is_on_cycle(
+    queue: &mut Queue,
+    outs: &Links,
+    ins: &Links,
+    arrow: usize,
+) -> Result<bool, AllocError>
     requires arrows { length ins.now.ends.items ≡ length outs.now.ends.items }
     requires sides { length ins.now.first.items ≡ length outs.now.first.items }
     requires arrow { arrow < length outs.now.ends.items }

@@ -36,7 +36,12 @@ fn first_left(placed: &[bool]) -> Option<usize>
 /// # Errors
 ///
 /// `AllocError` where there is no memory.
-pub fn order_or_cycle(alloc: Global, from: &[usize], to: &[usize], sides: usize) -> Result<Sorted, AllocError>
+pub fn order_or_cycle(
+    alloc: Global,
+    from: &[usize],
+    to: &[usize],
+    sides: usize,
+) -> Result<Sorted, AllocError>
     requires arrows { length to.now ≡ length from.now }
     requires from { EachIndex from.now (λ j. slice_index from.now j < sides) }
     requires to { EachIndex to.now (λ j. slice_index to.now j < sides) }
