@@ -1,0 +1,11 @@
+pub mod Cases
+pub mod CountLemmas
+pub mod LayoutLemmas
+pub mod NetLemmas
+pub mod PortLemmas
+pub mod ReshapeLemmas
+pub mod SettleLemmas
+pub mod ShapeLemmas
+pub mod StepLemmas
+pub mod TableLemmas
+pub mod WireLemmas

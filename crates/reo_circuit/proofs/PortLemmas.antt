@@ -1,0 +1,36 @@
+-- One primitive changes.
+use Rattle.std.proofs.Common.{◌≡◌, ◌⊎◌, ℕ, zero, suc, ◌+◌, ◌<◌, ◌≤◌, List, [], ◌∷◌, ◌++◌, length, map, get_or, set, refl, ap, sym, ◌∙◌, arith}
+use Rattle.reo_behaviour.specs.Behaviour.{Behaviour}
+use Rattle.reo_behaviour.specs.Lawful.{SameShape}
+use Rattle.reo_behaviour.specs.Net.{behaviour_at}
+use Rattle.reo_behaviour.specs.Step.{change_at}
+use Rattle.reo_circuit.proofs.ReshapeLemmas.{Reshaped}
+
+pub change_is : {X : Type 0} (f : X → X) (xs : List X) (i : ℕ) (d : X) → i < length xs → set xs i (f (get_or xs i d)) ≡ change_at f xs i
+change_is f [] i d lt = refl
+change_is f (x ∷ xs) zero d lt = refl
+change_is f (x ∷ xs) (suc i) d lt = ap (λ ys. x ∷ ys) (change_is f xs i d (omega arith))
+
+pub change_length : {X : Type 0} (f : X → X) (xs : List X) (i : ℕ) → length (change_at f xs i) ≡ length xs
+change_length f [] i = refl
+change_length f (x ∷ xs) zero = refl
+change_length f (x ∷ xs) (suc i) = ap suc (change_length f xs i)
+
+same_shape : (b : Behaviour) → SameShape b b
+same_shape b = record { ends = refl; sides = refl; side_of = λ _. refl; takes_in = λ _. refl }
+
+module _ {P : Type 0} (behaviour : P → Behaviour) (f : P → P) (law : (p : P) → SameShape (behaviour p) (behaviour (f p))) where
+  count : (ps : List P) (i : ℕ) → length (map behaviour (change_at f ps i)) ≡ length (map behaviour ps)
+  count [] i = refl
+  count (p ∷ ps) zero = refl
+  count (p ∷ ps) (suc i) = ap suc (count ps i)
+
+  same : (ps : List P) (i k : ℕ) → SameShape (behaviour_at (map behaviour ps) k) (behaviour_at (map behaviour (change_at f ps i)) k)
+  same [] i k = same_shape (behaviour_at [] k)
+  same (p ∷ ps) zero zero = law p
+  same (p ∷ ps) zero (suc k) = same_shape (behaviour_at (map behaviour ps) k)
+  same (p ∷ ps) (suc i) zero = same_shape (behaviour p)
+  same (p ∷ ps) (suc i) (suc k) = same ps i k
+
+  pub changed : (ps : List P) (i : ℕ) → Reshaped (map behaviour ps) (map behaviour (change_at f ps i))
+  changed ps i = record { count = count ps i; same = λ k lt. same ps i k }

@@ -1,0 +1,5 @@
+pub mod Counts
+pub mod Fault
+pub mod Layout
+pub mod Parts
+pub mod Tables

@@ -1,0 +1,26 @@
+//! One primitive's offer changes.
+ghost use Rattle.std.specs.Prelude.{◌≡◌, ◌<◌, IsSome, map, length};
+ghost use Rattle.reo_behaviour.specs.Gate.{CanPlace, gate_at};
+ghost use Rattle.reo_behaviour.specs.Step.{change_at};
+
+use reo_behaviour::{Offer, Ported};
+
+/// Makes this the pending offer of one of the primitives.
+pub fn place_at<P: Ported>(primitives: &mut [P], index: usize, offer: Offer)
+    requires index { index < length primitives.old }
+    requires offer { CanPlace (gate_at (map P.gate primitives.old) index) offer }
+    ensures { primitives.new ≡ change_at (λ p. P.placed p offer) primitives.old index }
+{
+    let primitive = &mut primitives[index];
+    primitive.place(offer);
+}
+
+/// Takes the pending offer of one of the primitives back.
+pub fn withdraw_at<P: Ported>(primitives: &mut [P], index: usize)
+    requires index { index < length primitives.old }
+    requires pending { IsSome (gate_at (map P.gate primitives.old) index).pending }
+    ensures { primitives.new ≡ change_at P.withdrawn primitives.old index }
+{
+    let primitive = &mut primitives[index];
+    primitive.withdraw();
+}
