@@ -1,0 +1,51 @@
+-- The test of an item is true exactly where the item is of the type.
+use Rattle.std.proofs.Common.{ℕ, ℤ, ◌≤◌, ◌≤ℤ◌, ◌&&◌, Bool, true, false, nat_le, List, length, slice_index_or, refl, arith, T}
+use Rattle.std.proofs.lemmas.Bool.Decides.{nat_tests}
+use Rattle.std.proofs.lemmas.List.Sums.{AllPass-from_list_all, list_all-from_AllPass}
+use Rattle.std.specs.Bool.{Decides}
+use Rattle.std.specs.List.{All, list_all}
+use Rattle.std.specs.Int.Signed.{le_z, le_z_yes}
+use Rattle.reo_values.specs.declared.value.Value as value
+use Rattle.reo_values.specs.declared.kindred.Kindred as kindred
+use Rattle.reo_values.specs.declared.value.Value.{Value}
+use Rattle.reo_values.specs.declared.kindred.Kindred.{Kindred}
+use Rattle.reo_values.specs.Kind.{IsIn, IsPlain}
+use Rattle.reo_kinds.specs.Items.{is_item, is_plain}
+
+both_true : {a b : Bool} {P Q : Type 0} → Decides a P → Decides b Q → Decides (a && b) (P × Q)
+both_true {a = true} p q = (λ h. (p.0 refl, q.0 h), λ h. q.1 h.1)
+both_true {a = false} p q = (λ h. absurd cc, λ h. p.1 h.0)
+
+never : Decides false ⊥
+never = (λ h. absurd cc, λ h. absurd h)
+
+always : Decides true (Unit {0})
+always = (λ h. tt, λ h. refl)
+
+nat_le-is : (a b : ℕ) → Decides (nat_le a b) (a ≤ b)
+nat_le-is a b = (λ h. grind (arith, nat_tests), λ h. grind (arith, nat_tests))
+
+T_is : (b : Bool) → Decides b (T b)
+T_is true = (λ h. tt, λ h. refl)
+T_is false = (λ h. absurd cc, λ h. absurd h)
+
+le_z-is : (a b : ℤ) → Decides (le_z a b) (a ≤ℤ b)
+le_z-is a b = (λ h. le_z_yes ((T_is (le_z a b)).0 h), λ h. (T_is (le_z a b)).1 h.le)
+
+is_plain-is : (byte : ℕ) → Decides (is_plain byte) (IsPlain byte)
+is_plain-is byte = (λ h. (grind (arith, nat_tests), grind (arith, nat_tests)), λ h. grind (arith, nat_tests))
+
+list_all-is : (bytes : List ℕ) → Decides (list_all is_plain bytes) (All IsPlain bytes)
+list_all-is bytes = (
+  λ h k d below. (is_plain-is (slice_index_or bytes k d)).0 (AllPass-from_list_all is_plain bytes h k d below),
+  λ all. list_all-from_AllPass is_plain bytes (λ k d below. (is_plain-is (slice_index_or bytes k d)).1 (all k d below)),
+)
+
+pub is_item-is : (item : Value) (kindred : Kindred) → Decides (is_item item kindred) (IsIn item kindred)
+is_item-is value.Unit kindred.Unit = always
+is_item-is (value.Bool b) kindred.Bool = always
+is_item-is (value.Int z) (kindred.Int low high) = both_true (le_z-is low z) (le_z-is z high)
+is_item-is (value.Sym k) (kindred.Sym names) = (λ h. grind (arith, nat_tests), λ h. grind (arith, nat_tests))
+is_item-is (value.Text bytes) (kindred.Text most) = both_true (nat_le-is (length bytes) most) (list_all-is bytes)
+is_item-is (value.Pair' m (value.more_of-Couple x y _)) (kindred.Pair' n (kindred.more_of-Twins a b _)) = both_true (is_item-is x a) (is_item-is y b)
+is_item-is _ _ = never

@@ -1,0 +1,99 @@
+-- The kinds keep the laws of a port.
+use Rattle.std.proofs.Common.{◌≡◌, Bool, true, false, cond, Option, Some, None, refl}
+use Rattle.reo_values.specs.declared.value.Value.{Value}
+use Rattle.reo_behaviour.specs.declared.colouring.Chosen.{Chosen}
+use Rattle.reo_behaviour.specs.declared.port.Offer.{Offer}
+use Rattle.reo_behaviour.specs.declared.port.Offer.TheVariants.{Write, Take}
+use Rattle.reo_behaviour.specs.Marks.{is_flow}
+use Rattle.reo_behaviour.specs.Lawful.{SameShape}
+use Rattle.reo_behaviour.specs.Gate.{no_gate, CanPlace, IsGateWith}
+use Rattle.reo_kinds.specs.declared.kind.WriterPort.{WriterPort}
+use Rattle.reo_kinds.specs.declared.kind.TakerPort.{TakerPort}
+use Rattle.reo_kinds.specs.declared.kind.Kind.{Kind}
+use Rattle.reo_kinds.specs.declared.kind.Kind.TheVariants.{Writer, Taker, Sync, Lossy, SyncDrain, AsyncDrain, Merger, Replicator}
+use Rattle.reo_kinds.specs.Items.{is_item}
+use Rattle.reo_kinds.specs.Kinds.{behaviour_of, settled_kind, gate_of, placed_kind, withdrawn_kind, offering_if, unoffered, with_take}
+use Rattle.reo_kinds.specs.KindLaws.{same_shape}
+
+-- What is no port stays so.
+no_gate_stays : (pending : Option Offer) → pending ≡ None → IsGateWith no_gate no_gate pending
+no_gate_stays pending is = record { way = refl; accepts = λ _. refl; pending_is = rw (is) refl }
+
+offered_gate : (port : WriterPort) (item : Value) (fits : Bool) (is : is_item item port.kindred ≡ fits) → fits ≡ true
+    → IsGateWith (gate_of (Writer port)) (gate_of (Writer (offering_if port item fits is))) (Some (Write item))
+offered_gate port item true is fits = record { way = refl; accepts = λ _. refl; pending_is = refl }
+offered_gate port item false is fits = absurd cc
+
+-- An offer that is placed is pending, and the rest stays.
+pub placed_kind_gate : (kind : Kind) (offer : Offer) → CanPlace (gate_of kind) offer → IsGateWith (gate_of kind) (gate_of (placed_kind kind offer)) (Some offer)
+placed_kind_gate (Writer port) (Write item) can = offered_gate port item _ refl can.accepted
+placed_kind_gate (Writer port) Take can = let way = can.way in cc
+placed_kind_gate (Taker port) (Write item) can = let way = can.way in cc
+placed_kind_gate (Taker port) Take can = record { way = refl; accepts = λ _. refl; pending_is = refl }
+placed_kind_gate Sync offer can = let way = can.way in cc
+placed_kind_gate Lossy offer can = let way = can.way in cc
+placed_kind_gate SyncDrain offer can = let way = can.way in cc
+placed_kind_gate AsyncDrain offer can = let way = can.way in cc
+placed_kind_gate (Merger branches) offer can = let way = can.way in cc
+placed_kind_gate (Replicator branches) offer can = let way = can.way in cc
+
+pub placed_kind_shape : (kind : Kind) (offer : Offer) → SameShape (behaviour_of kind) (behaviour_of (placed_kind kind offer))
+placed_kind_shape (Writer port) (Write item) = record { ends = refl; sides = refl; side_of = λ _. refl; takes_in = λ _. refl }
+placed_kind_shape (Writer port) Take = same_shape _
+placed_kind_shape (Taker port) (Write item) = same_shape _
+placed_kind_shape (Taker port) Take = record { ends = refl; sides = refl; side_of = λ _. refl; takes_in = λ _. refl }
+placed_kind_shape Sync offer = same_shape _
+placed_kind_shape Lossy offer = same_shape _
+placed_kind_shape SyncDrain offer = same_shape _
+placed_kind_shape AsyncDrain offer = same_shape _
+placed_kind_shape (Merger branches) offer = same_shape _
+placed_kind_shape (Replicator branches) offer = same_shape _
+
+-- After a withdrawal nothing is pending, and the rest stays.
+pub withdrawn_kind_gate : (kind : Kind) → IsGateWith (gate_of kind) (gate_of (withdrawn_kind kind)) None
+withdrawn_kind_gate (Writer port) = record { way = refl; accepts = λ _. refl; pending_is = refl }
+withdrawn_kind_gate (Taker port) = record { way = refl; accepts = λ _. refl; pending_is = refl }
+withdrawn_kind_gate Sync = no_gate_stays None refl
+withdrawn_kind_gate Lossy = no_gate_stays None refl
+withdrawn_kind_gate SyncDrain = no_gate_stays None refl
+withdrawn_kind_gate AsyncDrain = no_gate_stays None refl
+withdrawn_kind_gate (Merger branches) = no_gate_stays None refl
+withdrawn_kind_gate (Replicator branches) = no_gate_stays None refl
+
+pub withdrawn_kind_shape : (kind : Kind) → SameShape (behaviour_of kind) (behaviour_of (withdrawn_kind kind))
+withdrawn_kind_shape (Writer port) = record { ends = refl; sides = refl; side_of = λ _. refl; takes_in = λ _. refl }
+withdrawn_kind_shape (Taker port) = record { ends = refl; sides = refl; side_of = λ _. refl; takes_in = λ _. refl }
+withdrawn_kind_shape Sync = same_shape _
+withdrawn_kind_shape Lossy = same_shape _
+withdrawn_kind_shape SyncDrain = same_shape _
+withdrawn_kind_shape AsyncDrain = same_shape _
+withdrawn_kind_shape (Merger branches) = same_shape _
+withdrawn_kind_shape (Replicator branches) = same_shape _
+
+-- Nothing is pending at what is no port, whether it flows or not.
+none_either_way : (flows : Bool) → cond {A = Option Offer} flows None None ≡ None
+none_either_way true = refl
+none_either_way false = refl
+
+-- A port that flows has its offer no more.
+writer_after : (port : WriterPort) (flows : Bool)
+    → IsGateWith (gate_of (Writer port)) (gate_of (Writer (cond flows (unoffered port) port))) (cond flows None (gate_of (Writer port)).pending)
+writer_after port true = record { way = refl; accepts = λ _. refl; pending_is = refl }
+writer_after port false = record { way = refl; accepts = λ _. refl; pending_is = refl }
+
+taker_after : (port : TakerPort) (flows : Bool)
+    → IsGateWith (gate_of (Taker port)) (gate_of (Taker (cond flows (with_take false) port))) (cond flows None (gate_of (Taker port)).pending)
+taker_after port true = record { way = refl; accepts = λ _. refl; pending_is = refl }
+taker_after port false = record { way = refl; accepts = λ _. refl; pending_is = refl }
+
+-- After a round the offer is gone where the port flowed, and else as it was. The rest stays.
+pub settled_kind_gate : (kind : Kind) (rows : Chosen) (taken : Option Value)
+    → IsGateWith (gate_of kind) (gate_of (settled_kind kind rows taken)) (cond (is_flow ((behaviour_of kind).mark 0 rows.first 0)) None (gate_of kind).pending)
+settled_kind_gate (Writer port) rows taken = writer_after port _
+settled_kind_gate (Taker port) rows taken = taker_after port _
+settled_kind_gate Sync rows taken = no_gate_stays _ (none_either_way _)
+settled_kind_gate Lossy rows taken = no_gate_stays _ (none_either_way _)
+settled_kind_gate SyncDrain rows taken = no_gate_stays _ (none_either_way _)
+settled_kind_gate AsyncDrain rows taken = no_gate_stays _ (none_either_way _)
+settled_kind_gate (Merger branches) rows taken = no_gate_stays _ (none_either_way _)
+settled_kind_gate (Replicator branches) rows taken = no_gate_stays _ (none_either_way _)

@@ -1,0 +1,82 @@
+//! The primitives.
+ghost use Rattle.std.specs.Prelude.{◌≡◌, ◌≤◌, ◌↔◌, IsTrue, true, false, None};
+ghost use Rattle.reo_kinds.specs.Items.{offer_fits};
+
+use reo_values::{Kindred, Value};
+
+/// A primitive: a port, a channel, or what joins several ends at one node.
+#[derive(Drop)]
+pub enum Kind {
+    /// Where a component writes items into the circuit.
+    Writer(WriterPort),
+    /// Where a component takes items out of the circuit.
+    Taker(TakerPort),
+    /// A channel whose two ends flow together.
+    Sync,
+    /// A channel that loses an item exactly where its sink end cannot flow.
+    Lossy,
+    /// A channel with two source ends that flow together.
+    SyncDrain,
+    /// A channel with two source ends of which one flows at a time.
+    AsyncDrain,
+    /// A node's inputs, of which one flows at a time, with its output.
+    Merger(Branches),
+    /// A node's input with its outputs, which all flow together.
+    Replicator(Branches),
+}
+
+/// A port where items of a type are written, with the pending offer.
+#[derive(Drop)]
+pub struct WriterPort {
+    pub kindred: Kindred,
+    pub offer: Option<Value>,
+    /// The offer is of the type.
+    pub ghost fitting: { offer_fits offer kindred ≡ true },
+}
+
+/// A port where items are taken, and whether a take is pending.
+#[derive(Drop)]
+pub struct TakerPort {
+    pub pending: bool,
+}
+
+/// How many inputs a merger has, or outputs a replicator: 2 to 8,192.
+#[derive(Clone, Copy, Debug)]
+pub struct Branches {
+    pub count: usize,
+    pub ghost some: { 2 ≤ count },
+    pub ghost few: { count ≤ 8192 },
+}
+
+impl WriterPort {
+    /// A port for items of this type, with no offer pending.
+    pub fn new(kindred: Kindred) -> Self
+        ensures kindred { result.kindred ≡ kindred }
+        ensures offer { result.offer ≡ None }
+    {
+        WriterPort {
+            kindred,
+            offer: None,
+        }
+    }
+}
+
+impl TakerPort {
+    /// A port with no take pending.
+    pub fn new() -> Self
+        ensures { result.pending ≡ false }
+    {
+        TakerPort { pending: false }
+    }
+}
+
+impl Branches {
+    /// So many branches.
+    pub fn new(count: usize) -> Self
+        requires some { 2 ≤ count }
+        requires few { count ≤ 8192 }
+        ensures { result.count ≡ count }
+    {
+        Branches { count }
+    }
+}

@@ -1,0 +1,65 @@
+//! The kinds as ports.
+ghost use Rattle.reo_kinds.specs.Kinds.{gate_of, placed_kind, withdrawn_kind};
+ghost use Rattle.reo_kinds.specs.GateLaws.{placed_kind_gate, placed_kind_shape, withdrawn_kind_gate, withdrawn_kind_shape, settled_kind_gate};
+
+use crate::kind::Kind;
+use crate::offer;
+use reo_behaviour::{Offer, Ported, Way};
+use reo_values::{Value, is_in};
+
+impl Ported for Kind {
+    ghost gate = { gate_of };
+
+    ghost placed = { placed_kind };
+
+    ghost withdrawn = { withdrawn_kind };
+
+    fn way(&self) -> Option<Way> {
+        match self {
+            Kind::Writer(_) => Some(Way::In),
+            Kind::Taker(_) => Some(Way::Out),
+            _ => None,
+        }
+    }
+
+    fn fits(&self, item: &Value) -> bool {
+        match self {
+            Kind::Writer(port) => is_in(item, &port.kindred),
+            _ => false,
+        }
+    }
+
+    fn pending(&self) -> bool {
+        match self {
+            Kind::Writer(port) => port.offer.is_some(),
+            Kind::Taker(port) => port.pending,
+            _ => false,
+        }
+    }
+
+    fn place(&mut self, offer: Offer) {
+        match (self, offer) {
+            (Kind::Writer(port), Offer::Write(item)) => offer::place(port, item),
+            (Kind::Taker(port), Offer::Take) => port.pending = true,
+            _ => {}
+        }
+    }
+
+    fn withdraw(&mut self) {
+        match self {
+            Kind::Writer(port) => offer::withdraw(port),
+            Kind::Taker(port) => port.pending = false,
+            _ => {}
+        }
+    }
+
+    ghost placed_gate = { placed_kind_gate };
+
+    ghost placed_shape = { placed_kind_shape };
+
+    ghost withdrawn_gate = { withdrawn_kind_gate };
+
+    ghost withdrawn_shape = { withdrawn_kind_shape };
+
+    ghost settled_gate = { settled_kind_gate };
+}

@@ -1,0 +1,186 @@
+//! The kinds as primitives.
+ghost use Rattle.std.specs.Prelude.{◌≡◌};
+ghost use Rattle.std.specs.Option.{option_copied};
+ghost use Rattle.reo_kinds.specs.Kinds.{behaviour_of, settled_kind};
+ghost use Rattle.reo_kinds.specs.KindLaws.{kind_lawful, kind_shape, kind_quiet};
+
+use crate::kind::Kind;
+use crate::{offer, table};
+use reo_behaviour::{Chosen, Mark, Primitive};
+use reo_values::{NoMemory, Value, copy, same_item};
+use std::alloc::Global;
+
+impl Primitive for Kind {
+    ghost behaviour = { behaviour_of };
+
+    ghost settled = { settled_kind };
+
+    fn ends(&self) -> usize {
+        match self {
+            Kind::Writer(_) | Kind::Taker(_) => 1,
+            Kind::Sync | Kind::Lossy | Kind::SyncDrain | Kind::AsyncDrain => 2,
+            Kind::Merger(branches) | Kind::Replicator(branches) => branches.count + 1,
+        }
+    }
+
+    fn sides(&self) -> usize {
+        match self {
+            Kind::Writer(_) | Kind::Taker(_) => 1,
+            Kind::Sync | Kind::Lossy | Kind::SyncDrain | Kind::AsyncDrain => 1,
+            Kind::Merger(_) | Kind::Replicator(_) => 1,
+        }
+    }
+
+    fn side_of(&self, _end: usize) -> usize {
+        match self {
+            Kind::Writer(_) | Kind::Taker(_) => 0,
+            Kind::Sync | Kind::Lossy | Kind::SyncDrain | Kind::AsyncDrain => 0,
+            Kind::Merger(_) | Kind::Replicator(_) => 0,
+        }
+    }
+
+    fn takes_in(&self, end: usize) -> bool {
+        match self {
+            Kind::Writer(_) => false,
+            Kind::Taker(_) | Kind::SyncDrain | Kind::AsyncDrain => true,
+            Kind::Sync | Kind::Lossy | Kind::Replicator(_) => end == 0,
+            Kind::Merger(branches) => end < branches.count,
+        }
+    }
+
+    fn rows(&self, _side: usize) -> usize {
+        match self {
+            Kind::Writer(port) => table::ready_rows(port.offer.is_some()),
+            Kind::Taker(port) => table::ready_rows(port.pending),
+            Kind::Sync | Kind::Lossy | Kind::SyncDrain | Kind::AsyncDrain => 4,
+            Kind::Merger(branches) | Kind::Replicator(branches) => branches.count + 3,
+        }
+    }
+
+    fn mark(&self, _side: usize, row: usize, end: usize) -> Mark {
+        match self {
+            Kind::Writer(port) => table::ready_mark(port.offer.is_some(), row),
+            Kind::Taker(port) => table::ready_mark(port.pending, row),
+            Kind::Sync | Kind::SyncDrain => match row {
+                0 => Mark::F,
+                1 => table::ends(Mark::R, Mark::G, end),
+                2 => table::ends(Mark::G, Mark::R, end),
+                _ => Mark::J,
+            },
+            Kind::Lossy => match row {
+                0 => Mark::F,
+                1 => table::ends(Mark::F, Mark::R, end),
+                2 => table::ends(Mark::R, Mark::G, end),
+                _ => Mark::J,
+            },
+            Kind::AsyncDrain => match row {
+                0 => table::ends(Mark::F, Mark::G, end),
+                1 => table::ends(Mark::G, Mark::F, end),
+                2 => Mark::R,
+                _ => Mark::J,
+            },
+            Kind::Merger(branches) => table::merger_mark(branches.count, row, end),
+            Kind::Replicator(branches) => table::replicator_mark(branches.count, row, end),
+        }
+    }
+
+    fn class(&self, _side: usize, row: usize, _turn: u64) -> usize {
+        match self {
+            Kind::Writer(port) => table::ready_class(port.offer.is_some(), row),
+            Kind::Taker(port) => table::ready_class(port.pending, row),
+            Kind::Sync | Kind::SyncDrain => match row {
+                0 => 0,
+                1 | 2 => 1,
+                _ => 2,
+            },
+            Kind::Lossy | Kind::AsyncDrain => match row {
+                0 => 0,
+                1 => 1,
+                2 => 2,
+                _ => 3,
+            },
+            Kind::Merger(branches) => table::merger_class(branches.count, row),
+            Kind::Replicator(branches) => table::replicator_class(branches.count, row),
+        }
+    }
+
+    fn from(&self, _side: usize, row: usize, _end: usize) -> Option<usize> {
+        match self {
+            Kind::Writer(_) | Kind::Taker(_) => None,
+            Kind::SyncDrain | Kind::AsyncDrain => None,
+            Kind::Sync | Kind::Lossy | Kind::Replicator(_) => Some(0),
+            Kind::Merger(_) => Some(row),
+        }
+    }
+
+    fn passes(&self, _side: usize, _row: usize, _end: usize, _item: &Value) -> bool {
+        match self {
+            Kind::Writer(_) | Kind::Taker(_) => true,
+            Kind::Sync | Kind::Lossy | Kind::SyncDrain | Kind::AsyncDrain => true,
+            Kind::Merger(_) | Kind::Replicator(_) => true,
+        }
+    }
+
+    fn gives(
+        &self,
+        alloc: Global,
+        _side: usize,
+        _row: usize,
+        _end: usize,
+        taken: Option<&Value>,
+    ) -> Result<Value, NoMemory> {
+        match given(self, taken) {
+            Some(item) => copy(alloc, item),
+            None => Err(NoMemory),
+        }
+    }
+
+    fn agrees(
+        &self,
+        _side: usize,
+        _row: usize,
+        _end: usize,
+        taken: Option<&Value>,
+        item: &Value,
+    ) -> bool {
+        match given(self, taken) {
+            Some(own) => same_item(own, item),
+            None => false,
+        }
+    }
+
+    fn settle(&mut self, rows: Chosen, _taken: Option<Value>) {
+        match self {
+            Kind::Writer(port) => {
+                if table::flows(port.offer.is_some(), rows.first) {
+                    offer::withdraw(port);
+                }
+            }
+            Kind::Taker(port) => {
+                if table::flows(port.pending, rows.first) {
+                    port.pending = false;
+                }
+            }
+            Kind::Sync | Kind::Lossy | Kind::SyncDrain | Kind::AsyncDrain => {}
+            Kind::Merger(_) | Kind::Replicator(_) => {}
+        }
+    }
+
+    ghost lawful = { kind_lawful };
+
+    ghost settled_shape = { kind_shape };
+
+    ghost quiet = { kind_quiet };
+}
+
+/// The item that a kind gives, where this item was taken at the end that decides.
+fn given<'a>(kind: &'a Kind, taken: Option<&'a Value>) -> Option<&'a Value>
+    ensures { option_copied result ≡ (behaviour_of kind.entry.now).given 0 0 0 (option_copied taken.entry) }
+{
+    match kind {
+        Kind::Writer(port) => port.offer.as_ref(),
+        Kind::Taker(_) | Kind::SyncDrain | Kind::AsyncDrain => None,
+        Kind::Sync | Kind::Lossy => taken,
+        Kind::Merger(_) | Kind::Replicator(_) => taken,
+    }
+}
