@@ -1,0 +1,10 @@
+pub mod Assignments
+pub mod FirstInside
+pub mod Items
+pub mod Jam
+pub mod Keys
+pub mod Mixing
+pub mod OneFirst
+pub mod OneItems
+pub mod Sets
+pub mod Sides

@@ -1,0 +1,10 @@
+//! Laws over circuits and their colourings. Each function is empty: its contract is a law.
+#![tactic(auto)]
+
+mod colourings;
+mod first;
+
+pub use colourings::{
+    each_part, jam_is_colouring, mix_is_colouring, one_colouring_for_rows, parts_are_colouring,
+};
+pub use first::{first_by_parts, first_inside, first_is_one, first_is_one_inside};
