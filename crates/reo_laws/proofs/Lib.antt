@@ -1,10 +1,14 @@
 pub mod Assignments
+pub mod Classes
 pub mod FirstInside
+pub mod Flows
 pub mod Items
 pub mod Jam
+pub mod Jams
 pub mod Keys
 pub mod Mixing
 pub mod OneFirst
 pub mod OneItems
+pub mod Search
 pub mod Sets
 pub mod Sides

@@ -1,6 +1,7 @@
 //! Colourings, closed sets and assignments.
 ghost use Rattle.reo_laws.specs.Jam.{JamIsColouring};
 ghost use Rattle.reo_laws.specs.PartLaws.{OneColouringForRows, PartsAreColouring, MixIsColouring, EachPart};
+ghost use Rattle.reo_laws.specs.Jams.{JamsWhole};
 
 /// Jam at every side, with no item, is a colouring.
 pub fn jam_is_colouring()
@@ -25,4 +26,9 @@ pub fn mix_is_colouring()
 /// Rows and items are a colouring exactly where they are an assignment of each part.
 pub fn each_part()
     ensures { EachPart }
+{}
+
+/// A colouring jams a part as a whole.
+pub fn jams_whole()
+    ensures { JamsWhole }
 {}

@@ -1,5 +1,5 @@
 //! The first colouring and the first assignment of a closed set.
-ghost use Rattle.reo_laws.specs.FirstLaws.{FirstIsOne, FirstIsOneInside, FirstInside, FirstByParts};
+ghost use Rattle.reo_laws.specs.FirstLaws.{FirstIsOne, FirstIsOneInside, FirstInside, FirstByParts, FirstJamsForCause, PartJamsForCause, NoneFlowsMore, FirstFlows};
 
 /// Where the joints have an order, two first colourings have the same rows and the same items.
 pub fn first_is_one()
@@ -19,4 +19,24 @@ pub fn first_inside()
 /// A colouring that is least on each part is the first.
 pub fn first_by_parts()
     ensures { FirstByParts }
+{}
+
+/// The first colouring jams no side of a closed set that has a three-colouring.
+pub fn first_jams_for_cause()
+    ensures { FirstJamsForCause }
+{}
+
+/// The first assignment of a closed set that has a three-colouring jams none of its sides.
+pub fn part_jams_for_cause()
+    ensures { PartJamsForCause }
+{}
+
+/// No colouring flows at more ends than the first.
+pub fn none_flows_more()
+    ensures { NoneFlowsMore }
+{}
+
+/// If any colouring flows, the first flows.
+pub fn first_flows()
+    ensures { FirstFlows }
 {}
