@@ -1,5 +1,5 @@
 -- The classes of two rows of a side.
-use Rattle.std.proofs.Common.{◌≡◌, ◌≢◌, ◌⊎◌, inl, inr, ℕ, ◌+◌, ◌<◌, ◌≤◌, refl, arith}
+use Rattle.std.proofs.Common.{◌≡◌, ◌≢◌, inl, inr, ℕ, ◌+◌, ◌<◌, ◌≤◌, arith}
 use Rattle.reo_behaviour.specs.declared.mark.Mark.TheVariants.{F}
 use Rattle.reo_behaviour.specs.Behaviour.{Behaviour, IsEndOf, IsPlainRow, FlowsWithin}
 use Rattle.reo_behaviour.specs.Lawful.{IsLawful}

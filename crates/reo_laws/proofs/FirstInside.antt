@@ -10,7 +10,7 @@ use Rattle.reo_laws.specs.Keys.{within}
 use Rattle.reo_laws.specs.FirstLaws.{FirstInside, FirstByParts}
 use Rattle.reo_laws.proofs.Sets.{restricted}
 use Rattle.reo_laws.proofs.Mixing.{mix, mixed_true, mixed_false}
-use Rattle.reo_laws.proofs.Keys.{key_inside, cmp_within, some_part, positions_in_range}
+use Rattle.reo_laws.proofs.Places.{key_inside, cmp_within, some_part, positions_in_range}
 
 pub first_inside : FirstInside
 first_inside net wired turn rows items first inside closed = record {

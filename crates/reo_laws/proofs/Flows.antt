@@ -1,15 +1,15 @@
 -- Where the first colouring jams and flows.
-use Rattle.std.proofs.Common.{◌≡◌, ◌≢◌, ◌⊎◌, inl, inr, ℕ, ◌+◌, ◌<◌, ◌≤◌, List, Option, Bool, true, false, not, length, get_or, refl, ap, sym, ◌∙◌, arith}
+use Rattle.std.proofs.Common.{◌≡◌, ◌≢◌, inl, inr, ℕ, ◌<◌, ◌≤◌, List, Option, Bool, true, false, not, length, get_or, refl, ap, sym, ◌∙◌, arith}
 use Rattle.std.specs.Prelude.{◌&&◌}
 use Rattle.std.specs.declared.cmp.Ordering.TheVariants.{Less}
 use Rattle.reo_values.specs.declared.value.Value.{Value}
 use Rattle.reo_behaviour.specs.declared.mark.Mark.TheVariants.{F}
 use Rattle.reo_behaviour.specs.declared.joint.End.{End}
 use Rattle.reo_behaviour.specs.Behaviour.{FlowsWithin}
-use Rattle.reo_behaviour.specs.Net.{Net, Side, all_sides, no_side, behaviour_at, first_side, end_of, side_at, mark_at}
+use Rattle.reo_behaviour.specs.Net.{Net, Side, all_sides, no_side, behaviour_at, end_of, side_at, mark_at}
 use Rattle.reo_behaviour.specs.Colouring.{IsColouring}
 use Rattle.reo_behaviour.specs.First.{Position, positions, order_by}
-use Rattle.reo_behaviour.specs.Wired.{IsWired, IsEnd}
+use Rattle.reo_behaviour.specs.Wired.{IsWired}
 use Rattle.reo_laws.specs.Parts.{IsClosed, IsAssignment, outside, mixed, mixed_items}
 use Rattle.reo_laws.specs.Keys.{IsLeastBy, AreLed, class_in}
 use Rattle.reo_laws.specs.Jams.{IsThreeColouring, jams}
@@ -17,7 +17,7 @@ use Rattle.reo_laws.specs.FirstLaws.{FirstJamsForCause, PartJamsForCause, NoneFl
 use Rattle.reo_laws.proofs.Sides.{Owner, owner_of, owner_side, owner_at, side_at_place, side_in_range, row_is}
 use Rattle.reo_laws.proofs.Sets.{everywhere, everywhere_closed, restricted, smaller, and_left, and_right, not_true, outside_closed}
 use Rattle.reo_laws.proofs.Mixing.{mix, mix_in, mixed_true, mixed_false}
-use Rattle.reo_laws.proofs.Keys.{cmp_within, positions_led}
+use Rattle.reo_laws.proofs.Places.{cmp_within, positions_led}
 use Rattle.reo_laws.proofs.Jams.{is_jam, end_jams, jams_closed, row_of, plain_of, last_of}
 use Rattle.reo_laws.proofs.Classes.{class_at_most, class_below}
 use Rattle.reo_laws.proofs.Search.{Decided, any_below, flow_or}

@@ -11,7 +11,7 @@ use Rattle.reo_behaviour.specs.declared.joint.Joint.{Joint}
 use Rattle.reo_behaviour.specs.Marks.{marks_match}
 use Rattle.reo_behaviour.specs.Behaviour.{Behaviour, IsEndOf, IsPlainRow}
 use Rattle.reo_behaviour.specs.Lawful.{IsLawful}
-use Rattle.reo_behaviour.specs.Net.{Net, Side, all_sides, no_side, behaviour_at, row_count, side_at, side_of_end, row_at, mark_at}
+use Rattle.reo_behaviour.specs.Net.{Net, all_sides, no_side, behaviour_at, row_count, side_at, row_at, mark_at}
 use Rattle.reo_behaviour.specs.Wired.{IsWired, IsEnd}
 use Rattle.reo_laws.specs.Parts.{IsClosed, IsAssignment}
 use Rattle.reo_laws.specs.Jams.{jams, JamsWhole}

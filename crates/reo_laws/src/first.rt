@@ -1,5 +1,6 @@
 //! The first colouring and the first assignment of a closed set.
 ghost use Rattle.reo_laws.specs.FirstLaws.{FirstIsOne, FirstIsOneInside, FirstInside, FirstByParts, FirstJamsForCause, PartJamsForCause, NoneFlowsMore, FirstFlows};
+ghost use Rattle.reo_laws.specs.Alike.{IsIsolated};
 
 /// Where the joints have an order, two first colourings have the same rows and the same items.
 pub fn first_is_one()
@@ -39,4 +40,9 @@ pub fn none_flows_more()
 /// If any colouring flows, the first flows.
 pub fn first_flows()
     ensures { FirstFlows }
+{}
+
+/// What is first on a closed set is also first there in a circuit that is alike on the set.
+pub fn is_isolated()
+    ensures { IsIsolated }
 {}

@@ -3,6 +3,7 @@ use Rattle.std.proofs.Common.{◌≡◌, ◌⊎◌, inl, inr, ℕ, zero, suc, �
 use Rattle.std.specs.Bool.{◌==◌}
 use Rattle.std.proofs.lemmas.List.{get_or_default}
 use Rattle.std.proofs.lemmas.Bool.Decides.{nat_tests}
+use Rattle.std.proofs.lemmas.List.Elements.{filter-append}
 use Rattle.std.specs.declared.cmp.Ordering.{Ordering}
 use Rattle.std.specs.declared.cmp.Ordering.TheVariants.{Less, Equal, Greater}
 use Rattle.std.specs.Ordering.{nat_cmp, ordering_then}
@@ -42,6 +43,13 @@ module _ (inside : ℕ → Bool) where
         | true ↦ λ e. ap (ordering_then (nat_cmp a b)) rest
         | false ↦ λ e. ap (λ (o : Ordering). ordering_then o (order_by ps x y)) (equal_numbers a b (ap p.number (h p.side e))) ∙ rest
       ] refl
+
+key-append : (ps qs : List Position) (rows : List ℕ) → key_at (ps ++ qs) rows ≡ key_at ps rows ++ key_at qs rows
+key-append [] qs rows = refl
+key-append (p ∷ ps) qs rows = ap (λ (xs : List ℕ). p.number (get_or rows p.side 0) ∷ xs) (key-append ps qs rows)
+
+pub key_split : (inside : ℕ → Bool) (ps qs : List Position) (rows : List ℕ) → key_at (within inside (ps ++ qs)) rows ≡ key_at (within inside ps) rows ++ key_at (within inside qs) rows
+key_split inside ps qs rows = ap (λ (both : List Position). key_at both rows) (filter-append (λ (p : Position). inside p.side) ps qs) ∙ key-append (within inside ps) (within inside qs) rows
 
 -- Of parts by number.
 module _ (part : ℕ → ℕ) where
@@ -121,10 +129,6 @@ classes_some_below turn (s ∷ ss) k x y zero e lt h = inl (rw add-zero at h)
 classes_some_below turn (s ∷ ss) k x y (suc j) e lt h =
     let shift : k + suc j ≡ suc k + j = omega arith in
     inr (classes_some_below turn ss (suc k) x y j e (omega arith) (rw shift at h))
-
-pub key-append : (ps qs : List Position) (rows : List ℕ) → key_at (ps ++ qs) rows ≡ key_at ps rows ++ key_at qs rows
-key-append [] qs rows = refl
-key-append (p ∷ ps) qs rows = ap (λ (xs : List ℕ). p.number (get_or rows p.side 0) ∷ xs) (key-append ps qs rows)
 
 in_range-append : (n : ℕ) (ps qs : List Position) → AreInRange n ps → AreInRange n qs → AreInRange n (ps ++ qs)
 in_range-append n [] qs h g = g
