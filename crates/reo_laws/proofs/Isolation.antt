@@ -1,0 +1,109 @@
+-- Circuits that are alike on a closed set.
+use Rattle.std.proofs.Common.{◌≡◌, ℕ, zero, suc, ◌+◌, ◌<◌, List, [], ◌∷◌, ◌++◌, Option, Bool, true, false, cond, length, get_or, refl, ap, sym, ◌∙◌, arith, zero-add, add-zero}
+use Rattle.std.specs.Ordering.{nat_cmp}
+use Rattle.std.specs.Cmp.Lexicographic.{slice_cmp}
+use Rattle.reo_values.specs.declared.value.Value.{Value}
+use Rattle.reo_behaviour.specs.declared.joint.Joint.{Joint}
+use Rattle.reo_behaviour.specs.Behaviour.{Behaviour, IsEndOf}
+use Rattle.reo_behaviour.specs.Lawful.{GivesAt}
+use Rattle.reo_behaviour.specs.Net.{Net, Side, all_sides, behaviour_at}
+use Rattle.reo_behaviour.specs.First.{Position, key_at, class_positions, row_positions, positions}
+use Rattle.reo_behaviour.specs.Wired.{IsWired}
+use Rattle.reo_laws.specs.Parts.{IsClosed, IsAssignment}
+use Rattle.reo_laws.specs.Keys.{within}
+use Rattle.reo_laws.specs.Alike.{AreAlike, net_with, IsIsolated}
+use Rattle.reo_laws.proofs.Sides.{owner_of, owner_side}
+use Rattle.reo_laws.proofs.Assignments.{first_same_at, sides_same, side_same, side_other, side_inside, carried}
+use Rattle.reo_laws.proofs.Places.{key_split}
+
+module _ (inside : ℕ → Bool) where
+  classes_same : (turn : ℕ) (ss tt : List Side) (k : ℕ) (x : List ℕ) → length tt ≡ length ss
+      → ((j : ℕ) (e : Side) → j < length ss → inside (k + j) ≡ true → (get_or tt j e).of.class (get_or tt j e).number (get_or x (k + j) 0) turn ≡ (get_or ss j e).of.class (get_or ss j e).number (get_or x (k + j) 0) turn)
+      → key_at (within inside (class_positions turn tt k)) x ≡ key_at (within inside (class_positions turn ss k)) x
+  classes_same turn [] [] k x n h = refl
+  classes_same turn [] (t ∷ ts) k x n h = absurd (omega arith)
+  classes_same turn (s ∷ ss) [] k x n h = absurd (omega arith)
+  classes_same turn (s ∷ ss) (t ∷ ts) k x n h =
+      let rest = classes_same turn ss ts (suc k) x (omega arith) (λ j e lt g.
+      let shift : k + suc j ≡ suc k + j = omega arith in
+      rw shift at (h (suc j) e (omega arith) (rw shift g))) in
+      elim (inside k) as (λ u. inside k ≡ u → key_at (cond u (record { side = k; number = λ row. t.of.class t.number row turn } ∷ within inside (class_positions turn ts (suc k))) (within inside (class_positions turn ts (suc k)))) x
+      ≡ key_at (cond u (record { side = k; number = λ row. s.of.class s.number row turn } ∷ within inside (class_positions turn ss (suc k))) (within inside (class_positions turn ss (suc k)))) x) [
+        | true ↦ λ g. let here : t.of.class t.number (get_or x k 0) turn ≡ s.of.class s.number (get_or x k 0) turn = rw add-zero at (h zero s (omega arith) (rw add-zero g)) in λ i. here i ∷ rest i
+        | false ↦ λ g. rest
+      ] refl
+
+  rows_same : (ss tt : List Side) (k : ℕ) → length tt ≡ length ss → row_positions tt k ≡ row_positions ss k
+  rows_same [] [] k n = refl
+  rows_same [] (t ∷ ts) k n = absurd (omega arith)
+  rows_same (s ∷ ss) [] k n = absurd (omega arith)
+  rows_same (s ∷ ss) (t ∷ ts) k n = ap (λ (ps : List Position). record { side = k; number = λ row. row } ∷ ps) (rows_same ss ts (suc k) (omega arith))
+
+module _ (bs ds : List Behaviour) (js : List Joint) (wired : IsWired (net_with bs js)) (inside : ℕ → Bool) (alike : AreAlike bs ds inside) where
+  abbrev net : Net
+  net = net_with bs js
+
+  abbrev other : Net
+  other = net_with ds js
+
+  -- The same rows and items are an assignment of both.
+  alike_assignment : IsClosed net inside → (rows : List ℕ) (items : List (Option Value)) → IsAssignment net inside rows items → IsAssignment other inside rows items
+  alike_assignment closed rows items is =
+      carried bs ds js wired inside alike closed rows rows items items is is.one_row is.one_item (λ k lt h. refl) (λ j d lt h. refl)
+
+  -- Both have the same key there.
+  alike_key : (rows : List ℕ) (items : List (Option Value)) → IsAssignment net inside rows items → (turn : ℕ) → key_at (within inside (positions other turn)) rows ≡ key_at (within inside (positions net turn)) rows
+  alike_key rows items is turn =
+      let count = sides_same bs ds js wired inside alike in
+      key_split inside (class_positions turn (all_sides ds) 0) (row_positions (all_sides ds) 0) rows
+      ∙ (λ i. classes_same inside turn (all_sides bs) (all_sides ds) 0 rows count (λ j d lt g.
+      let h : inside j ≡ true = rw zero-add at g in
+      let o = owner_of bs j lt in
+      let below = rw (owner_side bs j o d) at (is.in_tables j d lt h) in
+      rw zero-add (ap (λ (s : Side). s.of.class s.number (get_or rows j 0) turn) (side_other bs ds js wired inside alike j o d)
+      ∙ (side_inside bs ds js wired inside alike j o h).class (get_or rows j 0) turn below ∙ ap (λ (s : Side). s.of.class s.number (get_or rows j 0) turn) (sym (owner_side bs j o d)))) i
+      ++ key_at (within inside (rows_same inside (all_sides bs) (all_sides ds) 0 count i)) rows)
+      ∙ sym (key_split inside (class_positions turn (all_sides bs) 0) (row_positions (all_sides bs) 0) rows)
+
+  closed_too : IsClosed net inside → IsClosed other inside
+  closed_too closed = record {
+    along = λ j d lt.
+        ap inside (side_same bs ds js wired inside alike (get_or js j d).giver (wired.givers j d lt)) ∙ closed.along j d lt
+        ∙ ap inside (sym (side_same bs ds js wired inside alike (get_or js j d).taker (wired.takers j d lt)));
+  }
+
+  alike_back : AreAlike ds bs inside
+  alike_back = record {
+    count = sym alike.count;
+    shape = λ i lt. let shape = alike.shape i (omega (arith, alike.count)) in
+        record { ends = sym shape.ends; sides = sym shape.sides; side_of = λ end. sym (shape.side_of end); takes_in = λ end. sym (shape.takes_in end) };
+    sides = λ i side lt side_in h.
+        let b : Behaviour = behaviour_at bs i in
+        let d : Behaviour = behaviour_at ds i in
+        let i_in : i < length bs = omega (arith, alike.count) in
+        let shape = alike.shape i i_in in
+        let here_in = rw shape.sides at side_in in
+        let same = alike.sides i side i_in here_in (ap (λ (f : ℕ). inside (f + side)) (sym (first_same_at bs ds js wired inside alike i)) ∙ h) in
+        let end_back : (end : ℕ) → IsEndOf d side end → IsEndOf b side end = λ end is. (rw shape.ends at is.0, sym (shape.side_of end) ∙ is.1) in
+        let gives_back : (row end : ℕ) → GivesAt d side row end → GivesAt b side row end = λ row end gives.
+        let below = rw same.rows at gives.in_table in
+        record { of_side = here_in; in_table = below; is_end = end_back end gives.is_end; gives = sym (shape.takes_in end) ∙ gives.gives; flows = sym (same.mark row end below (end_back end gives.is_end)) ∙ gives.flows } in
+        record {
+          rows = sym same.rows;
+          mark = λ row end r is. sym (same.mark row end (rw same.rows at r) (end_back end is));
+          class = λ row turn r. sym (same.class row turn (rw same.rows at r));
+          from = λ row end gives. sym (same.from row end (gives_back row end gives));
+          given = λ row end taken gives. sym (same.given row end taken (gives_back row end gives));
+          passes = λ row end item r is takes. sym (same.passes row end item (rw same.rows at r) (end_back end is) (sym (shape.takes_in end) ∙ takes));
+        };
+  }
+
+pub isolated : IsIsolated
+isolated bs ds js wired wired_other inside closed alike turn rows items first = record {
+  assignment = alike_assignment bs ds js wired inside alike closed rows items first.assignment;
+  least = λ others other_items is less.
+      let back = alike_back bs ds js wired inside alike in
+      let closed_there = closed_too bs ds js wired inside alike closed in
+      first.least others other_items (alike_assignment ds bs js wired_other inside back closed_there others other_items is)
+      ((λ i. slice_cmp nat_cmp (alike_key ds bs js wired_other inside back others other_items is turn i) (sym (alike_key bs ds js wired inside alike rows items first.assignment turn) i)) ∙ less);
+}

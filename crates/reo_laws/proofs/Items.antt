@@ -1,0 +1,56 @@
+-- What an item hangs on.
+use Rattle.std.proofs.Common.{◌≡◌, ℕ, zero, suc, ◌<◌, List, [], ◌∷◌, Option, None, Some, true, false, cond, length, get_or, refl, ap, sym, ◌∙◌, arith}
+use Rattle.std.specs.Option.{option_and_then}
+use Rattle.std.proofs.lemmas.Bool.Decides.{nat_tests}
+use Rattle.reo_values.specs.declared.value.Value.{Value}
+use Rattle.reo_behaviour.specs.declared.mark.Mark.TheVariants.{F}
+use Rattle.reo_behaviour.specs.declared.joint.End.{End}
+use Rattle.reo_behaviour.specs.declared.joint.Joint.{Joint}
+use Rattle.reo_behaviour.specs.Behaviour.{Behaviour, IsEndOf}
+use Rattle.reo_behaviour.specs.Lawful.{GivesAt}
+use Rattle.reo_behaviour.specs.Net.{Net, behaviour_at, end_of, end_eq, row_at, mark_at}
+use Rattle.reo_behaviour.specs.Colouring.{taken_at, given_at, ItemFits}
+use Rattle.reo_behaviour.specs.Wired.{IsWired, IsEnd}
+
+-- Ends that the test takes for one are one.
+pub end_is : (a b : End) → end_eq a b ≡ true → a ≡ b
+end_is a b h =
+    let p : a.primitive ≡ b.primitive = grind (arith, nat_tests) in
+    let e : a.end ≡ b.end = grind (arith, nat_tests) in
+    λ i. record { primitive = p i; end = e i }
+
+taken_same : (joints : List Joint) (xs ys : List (Option Value)) (e : End) → length xs ≡ length joints → length ys ≡ length joints
+    → ((k : ℕ) (d : Joint) → k < length joints → (get_or joints k d).taker ≡ e → get_or xs k None ≡ get_or ys k None) → taken_at joints xs e ≡ taken_at joints ys e
+taken_same [] xs ys e m n h = refl
+taken_same (j ∷ js) [] ys e m n h = absurd (omega arith)
+taken_same (j ∷ js) (x ∷ xs) [] e m n h = absurd (omega arith)
+taken_same (j ∷ js) (x ∷ xs) (y ∷ ys) e m n h =
+    let rest : taken_at js xs e ≡ taken_at js ys e = taken_same js xs ys e (omega arith) (omega arith) (λ k d lt is. h (suc k) d (omega arith) is) in
+    elim (end_eq j.taker e) as (λ t. end_eq j.taker e ≡ t → cond t x (taken_at js xs e) ≡ cond t y (taken_at js ys e))
+    [ true ↦ λ is. h zero j (omega arith) (end_is j.taker e is) | false ↦ λ is. rest ] refl
+
+-- What a row gives hangs on the items that come in at its side.
+pub given_same : (net : Net) → IsWired net → (rows : List ℕ) (xs ys : List (Option Value)) (e : End) → IsEnd net.primitives e → length xs ≡ length net.joints → length ys ≡ length net.joints
+    → GivesAt (behaviour_at net.primitives e.primitive) ((behaviour_at net.primitives e.primitive).side_of e.end) (row_at net rows e) e.end
+    → ((from k : ℕ) (d : Joint) → IsEndOf (behaviour_at net.primitives e.primitive) ((behaviour_at net.primitives e.primitive).side_of e.end) from → k < length net.joints
+    → (get_or net.joints k d).taker ≡ end_of e.primitive from → get_or xs k None ≡ get_or ys k None)
+    → given_at net rows xs e ≡ given_at net rows ys e
+unfolding given_at
+given_same net wired rows xs ys e is m n gives h =
+    let b : Behaviour = behaviour_at net.primitives e.primitive in
+    let side : ℕ = b.side_of e.end in
+    let row : ℕ = row_at net rows e in
+    let lawful = wired.lawful e.primitive is.0 in
+    elim (b.from side row e.end) as (λ o. b.from side row e.end ≡ o → b.given side row e.end (option_and_then (λ from. taken_at net.joints xs (end_of e.primitive from)) o) ≡ b.given side row e.end (option_and_then (λ from. taken_at net.joints ys (end_of e.primitive from)) o)) [
+      | None ↦ λ none. refl
+      | Some from ↦ λ some.
+          ap (b.given side row e.end) (taken_same net.joints xs ys (end_of e.primitive from) m n (λ k d lt taker. h from k d (lawful.from_end side row e.end from gives some) lt taker))
+    ] refl
+
+-- The item at a joint is the one that is given there.
+pub fits_one : (net : Net) (a b : List ℕ) (xs ys : List (Option Value)) (j : Joint) (x y : Option Value) → mark_at net a j.giver ≡ mark_at net b j.giver
+    → (mark_at net b j.giver ≡ F → given_at net a xs j.giver ≡ given_at net b ys j.giver) → ItemFits net a xs j x → ItemFits net b ys j y → x ≡ y
+fits_one net a b xs ys j None None m g h i = refl
+fits_one net a b xs ys j None (Some y) m g h i = absurd (h (m ∙ i.flows))
+fits_one net a b xs ys j (Some x) None m g h i = absurd (i (sym m ∙ h.flows))
+fits_one net a b xs ys j (Some x) (Some y) m g h i = sym h.given ∙ g i.flows ∙ i.given

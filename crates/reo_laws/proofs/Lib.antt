@@ -1,0 +1,17 @@
+pub mod Assignments
+pub mod Classes
+pub mod Differences
+pub mod FirstInside
+pub mod Flows
+pub mod Isolation
+pub mod Items
+pub mod Jam
+pub mod Jams
+pub mod Mixing
+pub mod OneFirst
+pub mod OneItems
+pub mod Places
+pub mod Search
+pub mod Sets
+pub mod Sides
+pub mod Sublists

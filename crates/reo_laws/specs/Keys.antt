@@ -1,0 +1,64 @@
+-- The order of colourings, restricted to a set of sides.
+use Rattle.std.specs.Prelude.{ℕ, ◌<◌, ◌≤◌, ◌≢◌, ◌≡◌, Bool, List, [], ◌∷◌, ◌++◌, Option, length, map, filter, slice_index, slice_index_or}
+use Rattle.std.specs.declared.cmp.Ordering.{Ordering}
+use Rattle.std.specs.declared.cmp.Ordering.TheVariants.{Less}
+use Rattle.reo_values.specs.declared.value.Value.{Value}
+use Rattle.reo_behaviour.specs.Net.{Net, all_sides, no_side}
+use Rattle.reo_behaviour.specs.First.{Position, positions, order_by}
+use Rattle.reo_laws.specs.Parts.{IsAssignment}
+
+-- The places of the sides of a set.
+abbrev pub within : (ℕ → Bool) → List Position → List Position
+within inside ps = filter (λ (p : Position). inside p.side) ps
+
+-- The order of colourings by what they say of a set.
+abbrev pub order_in : Net → ℕ → (ℕ → Bool) → List ℕ → List ℕ → Ordering
+order_in net turn inside a b = order_by (within inside (positions net turn)) a b
+
+-- No assignment of the set stands before these rows, by the places of the set's sides.
+abbrev pub IsLeastBy : Net → (ℕ → Bool) → List Position → List ℕ → Type 0
+IsLeastBy net inside ps rows = (others : List ℕ) (other_items : List (Option Value)) → IsAssignment net inside others other_items → order_by (within inside ps) others rows ≢ Less
+
+-- No assignment of the set stands before these rows.
+abbrev pub IsLeastIn : Net → (ℕ → Bool) → ℕ → List ℕ → Type 0
+IsLeastIn net inside turn rows = IsLeastBy net inside (positions net turn) rows
+
+-- The first assignment of a set: no other stands before it.
+pub record IsFirstIn (net : Net) (inside : ℕ → Bool) (turn : ℕ) (rows : List ℕ) (items : List (Option Value)) : Type 0 where
+  pub assignment : IsAssignment net inside rows items
+  pub least : IsLeastIn net inside turn rows
+
+-- The class of the row of a side.
+abbrev pub class_in : Net → ℕ → List ℕ → ℕ → ℕ
+class_in net turn rows k = (slice_index_or (all_sides net.primitives) k no_side).of.class (slice_index_or (all_sides net.primitives) k no_side).number (slice_index rows k) turn
+
+-- The places are of the first n sides.
+abbrev pub AreInRange : ℕ → List Position → Type 0
+AreInRange n [] = Unit {0}
+AreInRange n (p ∷ ps) = (p.side < n) × AreInRange n ps
+
+-- Places by which the classes decide: rows of which no class is greater and some class is smaller stand before.
+pub record AreLed (net : Net) (turn : ℕ) (ps : List Position) : Type 0 where
+  pub in_range : AreInRange (length (all_sides net.primitives)) ps
+  pub decided : (x y : List ℕ) → ((k : ℕ) → k < length (all_sides net.primitives) → class_in net turn x k ≤ class_in net turn y k)
+      → (k : ℕ) → k < length (all_sides net.primitives) → class_in net turn x k < class_in net turn y k → order_by ps x y ≡ Less
+
+-- The place of the class of a side.
+abbrev pub class_position : Net → ℕ → ℕ → Position
+class_position net turn k = record {
+  side = k;
+  number = λ row. (slice_index_or (all_sides net.primitives) k no_side).of.class (slice_index_or (all_sides net.primitives) k no_side).number row turn;
+}
+
+-- The classes of some leading sides, and then the places of all sides.
+abbrev pub leading_positions : Net → ℕ → List ℕ → List Position
+leading_positions net turn leading = map (class_position net turn) leading ++ positions net turn
+
+-- All sides of a list are sides of the circuit.
+abbrev pub AreSides : Net → List ℕ → Type 0
+AreSides net [] = Unit {0}
+AreSides net (k ∷ ks) = (k < length (all_sides net.primitives)) × AreSides net ks
+
+-- Whichever sides lead, the classes decide.
+abbrev pub LeadingIsLed : Type 0
+LeadingIsLed = (net : Net) (turn : ℕ) (leading : List ℕ) → AreSides net leading → AreLed net turn (leading_positions net turn leading)

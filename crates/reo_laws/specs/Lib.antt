@@ -1,0 +1,9 @@
+pub mod Alike
+pub mod Differences
+pub mod FirstLaws
+pub mod Jam
+pub mod Jams
+pub mod Keys
+pub mod PartLaws
+pub mod Parts
+pub mod Sublists

@@ -1,0 +1,48 @@
+//! The first colouring and the first assignment of a closed set.
+ghost use Rattle.reo_laws.specs.FirstLaws.{FirstIsOne, FirstIsOneInside, FirstInside, FirstByParts, FirstJamsForCause, PartJamsForCause, NoneFlowsMore, FirstFlows};
+ghost use Rattle.reo_laws.specs.Alike.{IsIsolated};
+
+/// Where the joints have an order, two first colourings have the same rows and the same items.
+pub fn first_is_one()
+    ensures { FirstIsOne }
+{}
+
+/// Where the joints have an order, two first assignments of a closed set have the same rows and items there.
+pub fn first_is_one_inside()
+    ensures { FirstIsOneInside }
+{}
+
+/// On each closed set the first colouring is the first assignment.
+pub fn first_inside()
+    ensures { FirstInside }
+{}
+
+/// A colouring that is least on each part is the first.
+pub fn first_by_parts()
+    ensures { FirstByParts }
+{}
+
+/// The first colouring jams no side of a closed set that has a three-colouring.
+pub fn first_jams_for_cause()
+    ensures { FirstJamsForCause }
+{}
+
+/// The first assignment of a closed set that has a three-colouring jams none of its sides.
+pub fn part_jams_for_cause()
+    ensures { PartJamsForCause }
+{}
+
+/// No colouring flows at more ends than the first.
+pub fn none_flows_more()
+    ensures { NoneFlowsMore }
+{}
+
+/// If any colouring flows, the first flows.
+pub fn first_flows()
+    ensures { FirstFlows }
+{}
+
+/// What is first on a closed set is also first there in a circuit that is alike on the set.
+pub fn is_isolated()
+    ensures { IsIsolated }
+{}

@@ -1,0 +1,16 @@
+//! Laws over circuits and their colourings. Each function is empty: its contract is a law.
+#![tactic(auto)]
+
+mod colourings;
+mod first;
+mod keys;
+
+pub use colourings::{
+    each_part, jam_is_colouring, jams_whole, mix_is_colouring, one_colouring_for_rows,
+    parts_are_colouring,
+};
+pub use first::{
+    first_by_parts, first_flows, first_inside, first_is_one, first_is_one_inside,
+    first_jams_for_cause, is_isolated, none_flows_more, part_jams_for_cause,
+};
+pub use keys::{first_difference_decides, leading_is_led, part_keys};
