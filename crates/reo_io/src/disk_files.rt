@@ -1,12 +1,13 @@
 //! The files of the system.
-ghost use Rattle.std.specs.Prelude.{◌≡◌, ◌≤◌, ◌<◌, ◌+◌, ◌^◌, [], length};
+ghost use Rattle.std.specs.Prelude.{◌≡◌, ◌<◌, ◌^◌, []};
 
 use crate::failed_names::note;
+use crate::reading::read_file;
 use crate::{FetchFault, Files};
 use reo_values::{Bytes, List};
 use std::alloc::Global;
 use std::fs::File;
-use std::io::{self, Read};
+use std::io;
 use std::rt;
 
 /// The files of the system, whose content is not told.
@@ -28,33 +29,6 @@ impl<'a, R: rt::Files> DiskFiles<'a, R> {
             failed: List::new(alloc),
         }
     }
-}
-
-enum ReadFault {
-    Failed,
-    NoMemory,
-}
-
-/// Reads to the end, or until one byte more than the limit has come.
-fn read_some<F: Read>(file: &mut F, limit: usize, room: &mut Bytes) -> Result<(), ReadFault>
-    requires empty { room.old ≡ [] }
-    requires small { limit < 2 ^ 32 }
-    ensures { length room.new ≤ limit + 1 }
-{
-    let mut buffer = [0u8; 4096];
-    while room.len() <= limit {
-        let wanted = (limit + 1 - room.len()).min(4096);
-        match file.read(&mut buffer[..wanted]) {
-            Ok(0) => return Ok(()),
-            Ok(count) => {
-                if room.append(&buffer[..count]).is_err() {
-                    return Err(ReadFault::NoMemory);
-                }
-            }
-            Err(_) => return Err(ReadFault::Failed),
-        }
-    }
-    Ok(())
 }
 
 impl<R: rt::Files> Files for DiskFiles<'_, R> {
@@ -82,17 +56,9 @@ impl<R: rt::Files> Files for DiskFiles<'_, R> {
             }
             Err(_) => return Err(note(alloc, &mut self.failed, name)),
         };
-        match read_some(&mut file, limit, room) {
-            Ok(()) if room.len() <= limit => Ok(()),
-            Ok(()) => Err(FetchFault::TooLong),
-            Err(ReadFault::Failed) => {
-                room.clear();
-                Err(note(alloc, &mut self.failed, name))
-            }
-            Err(ReadFault::NoMemory) => {
-                room.clear();
-                Err(FetchFault::NoMemory)
-            }
+        match read_file(&mut file, limit, room) {
+            Err(FetchFault::Failed) => Err(note(alloc, &mut self.failed, name)),
+            given => given,
         }
     }
 }

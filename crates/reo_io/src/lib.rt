@@ -11,6 +11,7 @@ mod memory_files;
 mod memory_sink;
 mod memory_source;
 mod null_sink;
+mod reading;
 mod remaining;
 mod sink;
 mod source;

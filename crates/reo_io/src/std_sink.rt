@@ -1,5 +1,6 @@
 //! The sink over any writer of std.
 ghost use Rattle.std.specs.Prelude.{◌≡◌, ◌<◌, length, None};
+ghost use Rattle.std.specs.Io.KnownBytes.{WriteAppends};
 ghost use Rattle.reo_io.specs.Causes.{HasCause, faults_after};
 ghost use Rattle.reo_io.specs.Sinks.{Puts};
 
@@ -14,18 +15,19 @@ pub struct StdSink<W> {
 }
 
 impl<W: Write> StdSink<W> {
-    ghost use Rattle.reo_io.specs.Real.{writer_faults};
+    ghost use Rattle.reo_io.specs.Real.{writer_faults, writer_of};
 
     /// The sink over this writer, which has not failed yet.
     pub fn new(writer: W) -> Self
-        ensures { writer_faults result ≡ 0 }
+        ensures writer { writer_of result ≡ writer }
+        ensures faults { writer_faults result ≡ 0 }
     {
         StdSink { writer, faults: 0 }
     }
 }
 
 impl<W: Write> Sink for StdSink<W> {
-    ghost use Rattle.reo_io.specs.Real.{writer_faults};
+    ghost use Rattle.reo_io.specs.Real.{writer_faults, writer_of};
 
     ghost told = { λ _. None };
 
@@ -37,6 +39,8 @@ impl<W: Write> Sink for StdSink<W> {
         ensures bytes { Puts None None piece.now result }
         ensures cause { HasCause (writer_faults self.old) (writer_faults self.new) result }
         ensures faults { writer_faults self.new ≡ faults_after (writer_faults self.old) result }
+        // the call is one write of the writer, where it says what its writes keep
+        ensures written { WriteAppends (W.contents (writer_of self.old)) (W.contents (writer_of self.new)) result piece.now }
     {
         match self.writer.write(piece) {
             Ok(count) if 0 < count => Ok(count),

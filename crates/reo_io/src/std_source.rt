@@ -1,5 +1,6 @@
 //! The source over any reader of std.
 ghost use Rattle.std.specs.Prelude.{◌≡◌, ◌<◌, ◌≤◌, length, IfOk, None};
+ghost use Rattle.std.specs.Io.KnownBytes.{ReadConsumes};
 ghost use Rattle.reo_io.specs.Causes.{HasCause, faults_after};
 ghost use Rattle.reo_io.specs.Sources.{Takes};
 
@@ -14,18 +15,19 @@ pub struct StdSource<R> {
 }
 
 impl<R: Read> StdSource<R> {
-    ghost use Rattle.reo_io.specs.Real.{reader_faults};
+    ghost use Rattle.reo_io.specs.Real.{reader_faults, reader_of};
 
     /// The source over this reader, which has not failed yet.
     pub fn new(reader: R) -> Self
-        ensures { reader_faults result ≡ 0 }
+        ensures reader { reader_of result ≡ reader }
+        ensures faults { reader_faults result ≡ 0 }
     {
         StdSource { reader, faults: 0 }
     }
 }
 
 impl<R: Read> Source for StdSource<R> {
-    ghost use Rattle.reo_io.specs.Real.{reader_faults};
+    ghost use Rattle.reo_io.specs.Real.{reader_faults, reader_of};
 
     ghost told = { λ _. None };
 
@@ -37,6 +39,8 @@ impl<R: Read> Source for StdSource<R> {
         ensures bytes { Takes None None room.new result }
         ensures cause { HasCause (reader_faults self.old) (reader_faults self.new) result }
         ensures faults { reader_faults self.new ≡ faults_after (reader_faults self.old) result }
+        // the call is one read of the reader, where it says what its reads give
+        ensures read { ReadConsumes (R.remaining (reader_of self.old)) (R.remaining (reader_of self.new)) result room.new }
     {
         match self.reader.read(room) {
             Ok(count) => Ok(count),
