@@ -1,6 +1,5 @@
 -- What a front tells of cycles.
-use Rattle.std.proofs.Common.{◌≡◌, ◌⊎◌, inl, inr, ℕ, ◌<◌, Bool, true, false, List, length, get_or, arith, ◌∙◌}
-use Rattle.reo_order.specs.Arrows.{OnCycle, IsTopological}
+use Rattle.std.proofs.Common.{◌≡◌, ℕ, Bool, List, length, ◌∙◌}
 use Rattle.reo_order.specs.Front.{IsFront, AreOff}
 use Rattle.reo_order.proofs.WalkLemmas.{fed_off_cycle, on_cycle_back}
 
@@ -17,13 +16,4 @@ module _ (from to : List ℕ) where
   back_off one_each order placed back = record {
     flags = back.queue.flags ∙ one_each;
     none_on_cycle = λ j is on. let there = back.queue.there j is in fed_off_cycle to from order back.fed there.0 j there.1 there.2 (on_cycle_back from to one_each j on);
-  }
-
-  -- A front of all arrows is an order.
-  pub front_all : (order : List ℕ) (placed : List Bool) → IsFront from to order placed → ((j : ℕ) → j < length placed → get_or placed j false ≡ true) → IsTopological from to order
-  front_all order placed front all = record {
-    in_range = front.queue.in_range;
-    each = λ j lt. front.queue.there j (all j (omega (arith, front.queue.flags)));
-    once = front.queue.once;
-    fed = front.fed;
   }

@@ -1,11 +1,10 @@
 -- One more arrow in the list.
-use Rattle.std.proofs.Common.{◌≡◌, ◌≢◌, ◌⊎◌, inl, inr, ℕ, ◌+◌, ◌<◌, ◌≤◌, Bool, true, false, not, cond, List, [], ◌∷◌, ◌++◌, length, get_or, set, refl, ap, sym, ◌∙◌, arith, below_more, get_or-set_same, get_or-set_other}
-use Rattle.std.specs.List.{count_by}
+use Rattle.std.proofs.Common.{◌≡◌, ◌≢◌, inl, inr, ℕ, ◌+◌, ◌<◌, ◌≤◌, Bool, true, false, not, cond, List, [], ◌∷◌, ◌++◌, length, get_or, set, refl, ap, sym, ◌∙◌, arith, below_more, get_or-set_same, get_or-set_other}
 use Rattle.std.proofs.Math.Seq.{get_or-append_seam}
 use Rattle.std.proofs.lemmas.List.{length-append, length-set, get_or_append_left}
 use Rattle.std.proofs.lemmas.List.Sums.{sum_by-set}
 use Rattle.reo_order.specs.Links.{IsLast}
-use Rattle.reo_order.specs.Queue.{IsQueue, IsEmptyQueue, Grown, Pushed}
+use Rattle.reo_order.specs.Queue.{IsQueue, Grown, Pushed}
 use Rattle.reo_order.proofs.Cases.{eq_cases, lt_cases}
 
 pub grown_same : (xs : List ℕ) → Grown xs xs

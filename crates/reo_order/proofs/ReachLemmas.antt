@@ -1,7 +1,7 @@
 -- The arrows to which a arrow leads.
-use Rattle.std.proofs.Common.{◌≡◌, ◌≢◌, ◌⊎◌, inl, inr, ℕ, ◌+◌, ◌<◌, ◌≤◌, Bool, true, false, List, [], ◌∷◌, ◌++◌, length, get_or, refl, ap, sym, ◌∙◌, arith, below_more}
+use Rattle.std.proofs.Common.{◌≡◌, inl, inr, ℕ, ◌+◌, ◌<◌, ◌≤◌, Bool, true, false, List, [], ◌∷◌, length, get_or, sym, arith, below_more}
 use Rattle.reo_order.specs.Arrows.{Walk, Leads, OnCycle}
-use Rattle.reo_order.specs.Queue.{IsQueue, Grown, Pushed}
+use Rattle.reo_order.specs.Queue.{IsQueue, Pushed}
 use Rattle.reo_order.proofs.Cases.{lt_cases}
 use Rattle.reo_order.proofs.QueueLemmas.{placed_still}
 use Rattle.reo_order.proofs.WalkLemmas.{leads_one, leads_on}
@@ -15,15 +15,6 @@ pub record Reaching (from to : List ℕ) (arrow : ℕ) (order : List ℕ) (place
   pub closed : (m : ℕ) → m < at → (j : ℕ) → j < length from → get_or from j 0 ≡ get_or to (get_or order m 0) 0 → get_or placed j false ≡ true
 
 module _ (from to : List ℕ) (arrow : ℕ) where
-  pub reaching_begin : (old order : List ℕ) (placed : List Bool) → length old ≡ 0 → Pushed from (get_or to arrow 0) old order placed → Reaching from to arrow order placed 0
-  reaching_begin old order placed none p = record {
-    queue = p.queue;
-    within = omega arith;
-    sound = λ m lt. leads_one from to arrow (get_or order m 0) (p.only m (omega (arith, none)) lt);
-    begun = p.all;
-    closed = λ m lt. absurd (omega arith);
-  }
-
   pub reaching_more : (old new : List ℕ) (before after : List Bool) (at : ℕ) → Reaching from to arrow old before at → at < length old → Pushed from (get_or to (get_or old at 0) 0) old new after
       → Reaching from to arrow new after (at + 1)
   reaching_more old new before after at r lt p =

@@ -1,6 +1,6 @@
 -- Walks by arrows and by sides.
-use Rattle.std.proofs.Common.{◌≡◌, ◌↔◌, ℕ, ◌<◌, List, [], ◌∷◌, length, get_or, map, refl, sym, ◌∙◌}
-use Rattle.reo_order.specs.Arrows.{Walk, Leads, OnCycle, Joined, Chain, LiesOn, second, CycleBySides}
+use Rattle.std.proofs.Common.{◌≡◌, ℕ, ◌<◌, List, [], ◌∷◌, length, get_or, map, refl, sym}
+use Rattle.reo_order.specs.Arrows.{Walk, Chain, second, CycleBySides}
 
 module _ (from to : List ℕ) where
   chain_of : (j : ℕ) (js : List ℕ) (z : ℕ) → j < length from → Walk from to (get_or to j 0) js z → Chain from to (get_or from j 0) (map (λ k. get_or from k 0) js) z

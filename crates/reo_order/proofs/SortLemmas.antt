@@ -1,10 +1,10 @@
 -- Putting the arrows in order.
-use Rattle.std.proofs.Common.{◌≡◌, ◌≢◌, ◌⊎◌, inl, inr, ℕ, zero, suc, ◌+◌, ◌-◌, ◌<◌, ◌≤◌, Bool, true, false, not, List, [], ◌∷◌, ◌++◌, length, get_or, set, refl, ap, sym, ◌∙◌, arith, below_more, get_or-set_same, get_or-set_other}
+use Rattle.std.proofs.Common.{◌≡◌, ◌≢◌, inl, inr, ℕ, zero, suc, ◌+◌, ◌<◌, ◌≤◌, Bool, true, false, not, List, length, get_or, set, refl, ap, sym, ◌∙◌, arith, get_or-set_same, get_or-set_other}
 use Rattle.std.proofs.lemmas.List.{length-set}
-use Rattle.reo_order.specs.Arrows.{Walk, Leads, OnCycle, HasCycle, AreFed}
+use Rattle.reo_order.specs.Arrows.{Leads, HasCycle, AreFed}
 use Rattle.reo_order.specs.Front.{IsFront}
 use Rattle.reo_order.specs.Links.{IsLast}
-use Rattle.reo_order.specs.Queue.{IsQueue, Grown, Pushed, IsSkipped}
+use Rattle.reo_order.specs.Queue.{IsQueue, Pushed, IsSkipped}
 use Rattle.reo_order.proofs.Cases.{lt_cases, eq_cases}
 use Rattle.reo_order.proofs.QueueLemmas.{placed_still}
 use Rattle.reo_order.proofs.WalkLemmas.{leads_one, leads_on, stuck}
@@ -14,23 +14,6 @@ pub record Skipping (ends : List ℕ) (side : ℕ) (placed : List Bool) (old new
   pub within : new ≤ old
   pub passed : (j : ℕ) → new ≤ j → j < old → get_or ends j 0 ≡ side → get_or placed j false ≡ true
   pub here : (j : ℕ) → new ≡ j + 1 → get_or ends j 0 ≡ side
-
-pub skip_more : (ends : List ℕ) (side : ℕ) (placed : List Bool) (old j w : ℕ) → Skipping ends side placed old (j + 1) → IsLast ends (get_or ends j 0) j w → get_or placed j false ≡ true → Skipping ends side placed old w
-skip_more ends side placed old j w s last is =
-    let within = s.within in
-    let w_in = last.within in
-    let here = s.here j refl in
-    record {
-      within = omega arith;
-      passed = λ k le lt k_is. elim (lt_cases k j) [
-        | inl below ↦ absurd (last.none_after k le below (k_is ∙ sym here))
-        | inr above ↦ elim (eq_cases k j) [
-          | inl e ↦ rw e is
-          | inr ne ↦ s.passed k (omega arith) lt k_is
-        ]
-      ];
-      here = λ k e. last.here k e ∙ here;
-    }
 
 -- How far the arrows into a side are in the list: those from w on, and arrow w - 1 is not, or is still to be looked at.
 pub record IsWaiting (to order : List ℕ) (placed : List Bool) (at side w : ℕ) : Type 0 where

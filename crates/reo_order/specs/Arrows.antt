@@ -1,5 +1,5 @@
 -- Arrows between numbered sides: arrow j goes from side `from j` to side `to j`.
-use Rattle.std.specs.Prelude.{ℕ, ◌+◌, ◌<◌, ◌≤◌, ◌≡◌, ◌≢◌, ◌↔◌, List, [], ◌∷◌, length, slice_index}
+use Rattle.std.specs.Prelude.{ℕ, ◌<◌, ◌≡◌, ◌≢◌, ◌↔◌, List, [], ◌∷◌, length, slice_index}
 
 -- From a side along arrows to a side: the first starts there, each other one where the one before it ends.
 abbrev pub Walk : List ℕ → List ℕ → ℕ → List ℕ → ℕ → Type 0

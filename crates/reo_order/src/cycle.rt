@@ -7,7 +7,9 @@ use crate::links::Links;
 use crate::queue::{Queue, clear, empty, push_all};
 use std::alloc::{AllocError, Global};
 
-/// Whether an arrow lies on a directed cycle. The queue is empty before and after, so that one serves many searches.
+/// Whether an arrow lies on a directed cycle.
+///
+/// The queue is empty before and after, so that one serves many searches.
 fn is_on_cycle(
     queue: &mut Queue,
     outs: &Links,
@@ -42,7 +44,10 @@ fn is_off(front: &[bool], back: &[bool], arrow: usize) -> bool
     front[arrow] || back[arrow]
 }
 
-/// The least arrow on a directed cycle. Arrows with a flag in one of two lists are on none and are passed over.
+/// The least arrow on a directed cycle.
+///
+/// Arrows with a flag in one of two lists are on none and are passed over: those before all cycles, and those
+/// behind all. So only arrows between two cycles are searched from in vain.
 pub fn least_on_cycle(
     alloc: Global,
     outs: &Links,

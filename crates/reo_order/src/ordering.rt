@@ -15,8 +15,8 @@ pub enum Sorted {
     Cycle(usize),
 }
 
-/// The first place without a flag.
-fn first_left(placed: &[bool]) -> Option<usize>
+/// A place without a flag, where there is one.
+fn unplaced(placed: &[bool]) -> Option<usize>
     ensures { MatchOption result (EachIndex placed.now (λ j. slice_index_or placed.now j false ≡ true)) (λ j. (j < length placed.now) × (slice_index_or placed.now j false ≡ false)) }
 {
     for arrow in 0..placed.len() {
@@ -50,12 +50,13 @@ pub fn order_or_cycle(
     let outs = link(alloc, from, sides)?;
     let ins = link(alloc, to, sides)?;
     let front = sort(alloc, &outs, &ins)?;
-    match first_left(&front.placed) {
+    match unplaced(&front.placed) {
         None => Ok(Sorted::Order(front.order)),
         Some(_) => {
             let back = sort(alloc, &ins, &outs)?;
             match least_on_cycle(alloc, &outs, &ins, &front.placed, &back.placed)? {
                 Some(arrow) => Ok(Sorted::Cycle(arrow)),
+                // An arrow is left out of the front only where there is a cycle.
                 None => unreachable!(),
             }
         }

@@ -1,4 +1,4 @@
-use Rattle.std.proofs.Common.{◌≡◌, ◌<◌, ◌+◌, ℕ, List, true, false, length, get_or, arith, ◌∙◌, sym}
+use Rattle.std.proofs.Common.{◌≡◌, ◌<◌, ℕ, List, false, length, get_or, arith, ◌∙◌, sym}
 use Rattle.std.proofs.lemmas.List.{get_or_default}
 use Rattle.reo_order.proofs.ReachLemmas.{reaching_more, reaching_found, reaching_all}
 use Rattle.reo_order.proofs.cycle.is_on_cycle.Goals as goal

@@ -1,4 +1,4 @@
-use Rattle.std.proofs.Common.{◌≡◌, ◌<◌, ◌⊎◌, inl, inr, ℕ, true, false, arith, sym, ◌∙◌, below_more}
+use Rattle.std.proofs.Common.{inl, inr, ℕ, arith, below_more}
 use Rattle.reo_order.specs.Arrows.{OnCycle}
 use Rattle.reo_order.proofs.cycle.least_on_cycle.Goals as goal
 

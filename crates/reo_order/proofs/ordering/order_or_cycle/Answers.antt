@@ -1,5 +1,5 @@
-use Rattle.std.proofs.Common.{◌≡◌, ◌∙◌, sym, List, ℕ, length, ap}
-use Rattle.reo_order.proofs.FrontLemmas.{front_off, back_off, front_all}
+use Rattle.std.proofs.Common.{◌≡◌, length}
+use Rattle.reo_order.proofs.FrontLemmas.{front_off, back_off}
 use Rattle.reo_order.proofs.ordering.order_or_cycle.Goals as goal
 
 pub least_on_cycle-requires-clause-front : goal.least_on_cycle-requires-clause-front
@@ -13,7 +13,7 @@ least_on_cycle-requires-clause-back c =
 
 pub unreachable-requires : goal.unreachable-requires
 unreachable-requires c =
-    let left = rw (c.in-Some.is, c.deref.ensures.value) at c.first_left.ensures in
+    let left = rw (c.in-Some.is, c.deref.ensures.value) at c.unplaced.ensures in
     let cycle = c.in_ok-front.ensures.left c.in-Some.field-0 (rw c.in_ok-front.ensures.queue.flags at left.0) left.1 in
     let none = rw c.in-None-2.is at c.in_ok-arrow-in-Some.ensures in
     none cycle.0 cycle.1

@@ -1,7 +1,7 @@
 use Rattle.std.proofs.Common.{◌≡◌, ◌<◌, ◌+◌, ◌-◌, ◌++◌, ◌∷◌, [], set, get_or-set_same, ℕ, true, false, length, get_or, arith, ◌∙◌, sym}
 use Rattle.std.proofs.lemmas.List.{get_or_default}
 use Rattle.reo_order.specs.Links.{IsLast}
-use Rattle.reo_order.proofs.QueueLemmas.{Pushing, pushing_none, pushing_done, pushing_past, pushing_push}
+use Rattle.reo_order.proofs.QueueLemmas.{pushing_none, pushing_done, pushing_past, pushing_push}
 use Rattle.reo_order.proofs.queue.push_all.Goals as goal
 use Rattle.reo_order.proofs.queue.push_all.Goals.{then-not-index+in_ok-push, else-not-index}
 

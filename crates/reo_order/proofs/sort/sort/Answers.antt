@@ -1,7 +1,7 @@
 use Rattle.std.proofs.Common.{◌≡◌, ◌<◌, ◌+◌, ℕ, List, Bool, true, false, length, get_or, set, arith, ◌∙◌, sym, get_or-set_same, get_or-set_other, below_more}
 use Rattle.std.proofs.lemmas.List.{get_or_default, length-set}
 use Rattle.reo_order.specs.Queue.{Pushed}
-use Rattle.reo_order.proofs.SortLemmas.{Sorting, AreReady, sorting_none, sorting_push, ready_push, sorting_past, sorting_skip, sorting_done, ready_skip}
+use Rattle.reo_order.proofs.SortLemmas.{sorting_push, ready_push, sorting_past, sorting_skip, sorting_done, ready_skip}
 use Rattle.reo_order.proofs.sort.sort.Goals as goal
 use Rattle.reo_order.proofs.sort.sort.Goals.{then-index-eq0+in_ok-push_all, else-index-eq0, then-old-gt0+then-wait-eq0+in_ok-push_all-2, then-old-gt0+else-wait-eq0, else-old-gt0}
 

@@ -1,4 +1,4 @@
-use Rattle.std.proofs.Common.{◌≡◌, ℕ, ◌<◌, ◌-◌, true, false, length, get_or}
+use Rattle.std.proofs.Common.{◌≡◌, ◌-◌, length}
 use Rattle.reo_order.proofs.SortLemmas.{Sorting, AreReady}
 use Rattle.reo_order.proofs.sort.sort.Given as goal
 
