@@ -77,11 +77,11 @@ joined_of_count [] e one = absurd (omega (arith, one))
 joined_of_count (x ∷ xs) e one =
     elim (is_at e x) as (λ t. is_at e x ≡ t → cond t 1 0 + joints_at xs e ≡ 1 → IsJoined (x ∷ xs) e) [
       | true ↦ λ at n. record {
-          joint = 0;
-          in_range = omega arith;
-          here = λ d. at;
-          only = head_only e x xs (omega (arith, n));
-        }
+        joint = 0;
+        in_range = omega arith;
+        here = λ d. at;
+        only = head_only e x xs (omega (arith, n));
+      }
       | false ↦ λ fails n.
           let rest : IsJoined xs e = joined_of_count xs e (omega (arith, n)) in
           let lt = rest.in_range in

@@ -2,6 +2,7 @@ pub mod Cases
 pub mod CountLemmas
 pub mod LayoutLemmas
 pub mod NetLemmas
+pub mod OfferLemmas
 pub mod PortLemmas
 pub mod ReshapeLemmas
 pub mod SettleLemmas

@@ -1,9 +1,10 @@
 -- One primitive changes.
-use Rattle.std.proofs.Common.{◌≡◌, ◌⊎◌, ℕ, zero, suc, ◌+◌, ◌<◌, ◌≤◌, List, [], ◌∷◌, ◌++◌, length, map, get_or, set, refl, ap, sym, ◌∙◌, arith}
+use Rattle.std.proofs.Common.{◌≡◌, ◌≢◌, ◌⊎◌, ℕ, zero, suc, ◌+◌, ◌<◌, ◌≤◌, List, [], ◌∷◌, ◌++◌, length, map, get_or, set, refl, ap, sym, ◌∙◌, arith}
 use Rattle.reo_behaviour.specs.Behaviour.{Behaviour}
 use Rattle.reo_behaviour.specs.Lawful.{SameShape}
 use Rattle.reo_behaviour.specs.Net.{behaviour_at}
 use Rattle.reo_behaviour.specs.Step.{change_at}
+use Rattle.reo_behaviour.specs.Gate.{Gate, gate_at}
 use Rattle.reo_circuit.proofs.ReshapeLemmas.{Reshaped}
 
 pub change_is : {X : Type 0} (f : X → X) (xs : List X) (i : ℕ) (d : X) → i < length xs → set xs i (f (get_or xs i d)) ≡ change_at f xs i
@@ -34,3 +35,17 @@ module _ {P : Type 0} (behaviour : P → Behaviour) (f : P → P) (law : (p : P)
 
   pub changed : (ps : List P) (i : ℕ) → Reshaped (map behaviour ps) (map behaviour (change_at f ps i))
   changed ps i = record { count = count ps i; same = λ k lt. same ps i k }
+
+-- The gates after one primitive changed.
+module _ {P : Type 0} (gate : P → Gate) (f : P → P) where
+  pub gate_here : (Q : Gate → Gate → Type 0) → ((p : P) → Q (gate p) (gate (f p))) → (ps : List P) (i : ℕ) → i < length ps → Q (gate_at (map gate ps) i) (gate_at (map gate (change_at f ps i)) i)
+  gate_here Q law [] i lt = absurd (omega arith)
+  gate_here Q law (p ∷ ps) zero lt = law p
+  gate_here Q law (p ∷ ps) (suc i) lt = gate_here Q law ps i (omega arith)
+
+  pub gate_other : (ps : List P) (i k : ℕ) → k ≢ i → gate_at (map gate (change_at f ps i)) k ≡ gate_at (map gate ps) k
+  gate_other [] i k ne = refl
+  gate_other (p ∷ ps) zero zero ne = absurd (ne refl)
+  gate_other (p ∷ ps) zero (suc k) ne = refl
+  gate_other (p ∷ ps) (suc i) zero ne = refl
+  gate_other (p ∷ ps) (suc i) (suc k) ne = gate_other ps i k (λ e. ne (ap suc e))

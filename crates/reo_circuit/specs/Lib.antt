@@ -1,5 +1,6 @@
 pub mod Counts
 pub mod Fault
 pub mod Layout
+pub mod Offers
 pub mod Parts
 pub mod Tables

@@ -1,5 +1,5 @@
 //! Circuits.
-ghost use Rattle.std.specs.Prelude.{◌≡◌, ℕ, ◌+◌, ◌<◌, ◌≤◌, ◌^◌, ◌*◌, IfOk, IsSome, MatchResult, map, length, slice_index, slice_index_or};
+ghost use Rattle.std.specs.Prelude.{◌≡◌, ◌↔◌, IsTrue, ℕ, ◌+◌, ◌<◌, ◌≤◌, ◌^◌, ◌*◌, IfOk, IsSome, Some, None, MatchResult, map, length, slice_index, slice_index_or};
 ghost use Rattle.std.specs.List.{position_or_len};
 ghost use Rattle.reo_behaviour.specs.declared.joint.Joint.{Joint as JointEnds};
 ghost use Rattle.reo_behaviour.specs.Net.{net_of, all_sides, behaviour_at, first_side, row_at, mark_at, side_at, side_of_end, Side, row_count, end_of, is_at};
@@ -9,12 +9,13 @@ ghost use Rattle.reo_behaviour.specs.Step.{stepped, change_at};
 ghost use Rattle.reo_behaviour.specs.Gate.{CanPlace, gate_at};
 ghost use Rattle.reo_circuit.specs.Parts.{net_with, AreJoints};
 ghost use Rattle.reo_circuit.specs.Layout.{IsLaidOut};
+ghost use Rattle.reo_circuit.specs.Offers.{OffersAfterRound, OnlyGate};
 ghost use Rattle.reo_circuit.specs.Fault.{IsSound, IsNetFault};
 
 use crate::ends::ends_fault;
 use crate::fault::NetFault;
 use crate::layout::{Layout, Place, lay_out};
-use crate::ports::{place_at, withdraw_at};
+use crate::ports::{can_place, place_at, withdraw_at};
 use crate::step::step_all;
 use crate::tables::{mouth_table, port_table};
 use crate::turn::joint_order;
@@ -300,11 +301,40 @@ impl<P: Primitive> Circuit<P> {
 }
 
 impl<P: Ported> Circuit<P> {
+    /// What holds of offers in a round: where a port flows its offer is gone, and else it is as it
+    /// was.
+    pub fn known_offers(&self)
+        ensures { OffersAfterRound P.behaviour P.settled P.gate self.now }
+    {
+        self.known();
+        self.known_ports();
+    }
+
+    /// Whether an offer may be placed at a port: it has the port's way, nothing is pending there,
+    /// and a written item fits.
+    pub fn can_place(&self, port: usize, offer: &Offer) -> bool
+        requires { port < self.now.ports }
+        ensures { IsTrue result ↔ CanPlace (gate_at (map P.gate self.now.primitives) port) offer.now }
+    {
+        self.known_ports();
+        can_place(self.primitive(port), offer)
+    }
+
+    /// Whether an offer is pending at a port.
+    pub fn is_pending(&self, port: usize) -> bool
+        requires { port < self.now.ports }
+        ensures { IsTrue result ↔ IsSome (gate_at (map P.gate self.now.primitives) port).pending }
+    {
+        self.known_ports();
+        self.primitive(port).pending()
+    }
+
     /// Makes this the pending offer of a port. All else stays. This takes no memory.
     pub fn place(&mut self, port: usize, offer: Offer)
         requires port { port < self.old.ports }
         requires offer { CanPlace (gate_at (map P.gate self.old.primitives) port) offer }
-        ensures { self.new ≡ record self.old { primitives = change_at (λ p. P.placed p offer) self.old.primitives port } }
+        ensures circuit { self.new ≡ record self.old { primitives = change_at (λ p. P.placed p offer) self.old.primitives port } }
+        ensures offers { OnlyGate (map P.gate self.old.primitives) (map P.gate self.new.primitives) port (Some offer) }
     {
         place_at(self.primitives.as_mut_slice(), port, offer);
     }
@@ -313,7 +343,8 @@ impl<P: Ported> Circuit<P> {
     pub fn withdraw(&mut self, port: usize)
         requires port { port < self.old.ports }
         requires pending { IsSome (gate_at (map P.gate self.old.primitives) port).pending }
-        ensures { self.new ≡ record self.old { primitives = change_at P.withdrawn self.old.primitives port } }
+        ensures circuit { self.new ≡ record self.old { primitives = change_at P.withdrawn self.old.primitives port } }
+        ensures offers { OnlyGate (map P.gate self.old.primitives) (map P.gate self.new.primitives) port None }
     {
         withdraw_at(self.primitives.as_mut_slice(), port);
     }

@@ -21,3 +21,4 @@ pub use circuit::Circuit;
 pub use fault::NetFault;
 pub use flows::moves;
 pub use layout::Place;
+pub use parts::are_parts;

@@ -1,9 +1,20 @@
-//! One primitive's offer changes.
-ghost use Rattle.std.specs.Prelude.{◌≡◌, ◌<◌, IsSome, map, length};
+//! The offers at single ports.
+ghost use Rattle.std.specs.Prelude.{◌≡◌, ◌<◌, ◌↔◌, IsTrue, IsSome, map, length};
 ghost use Rattle.reo_behaviour.specs.Gate.{CanPlace, gate_at};
 ghost use Rattle.reo_behaviour.specs.Step.{change_at};
 
-use reo_behaviour::{Offer, Ported};
+use reo_behaviour::{Offer, Ported, Way};
+
+/// Whether an offer may be placed here.
+pub fn can_place<P: Ported>(primitive: &P, offer: &Offer) -> bool
+    ensures { IsTrue result ↔ CanPlace (P.gate primitive.now) offer.now }
+{
+    match (primitive.way(), offer) {
+        (Some(Way::In), Offer::Write(item)) => !primitive.pending() && primitive.fits(item),
+        (Some(Way::Out), Offer::Take) => !primitive.pending(),
+        _ => false,
+    }
+}
 
 /// Makes this the pending offer of one of the primitives.
 pub fn place_at<P: Ported>(primitives: &mut [P], index: usize, offer: Offer)

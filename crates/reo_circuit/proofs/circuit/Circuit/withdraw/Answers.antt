@@ -1,9 +1,11 @@
 -- The shape stays, so what holds of it stays.
-use Rattle.std.proofs.Common.{◌≡◌, ◌∙◌, ap, List, length, map}
+use Rattle.std.proofs.Common.{◌≡◌, ◌∙◌, ap, List, length, map, Some, None, arith}
+use Rattle.std.proofs.lemmas.List.{length-map}
+use Rattle.reo_behaviour.specs.Gate.{CanPlace, IsGateWith}
 use Rattle.reo_behaviour.specs.Behaviour.{Behaviour}
 use Rattle.reo_behaviour.specs.Step.{change_at}
 use Rattle.reo_circuit.proofs.ReshapeLemmas.{Reshaped, lawful_at, whole_slice}
-use Rattle.reo_circuit.proofs.PortLemmas.{changed}
+use Rattle.reo_circuit.proofs.PortLemmas.{changed, gate_here, gate_other}
 use Rattle.reo_circuit.proofs.ShapeLemmas.{all_same}
 use Rattle.reo_circuit.proofs.circuit.Circuit.withdraw.Goals as goal
 
@@ -18,3 +20,17 @@ invariant_of-self g c =
     let whole = whole_slice c.self.inside.primitives.len c.withdraw_at.new.primitives items c.self.inside.primitives.ok.0 (c.withdraw_at.auto.primitives ∙ ap length c.as_mut_slice.ensures.value) in
     let r : Reshaped bs ds = changed g.P.Primitive.behaviour f g.met.P.Ported.withdrawn_shape items c.args.port in
     rw (whole, new_is) (all_same bs ds c.self.inside.joints c.self.inside.ports c.self.inside.firsts c.self.inside.owners c.self.inside.order c.self.inside.mouths c.self.inside.port_joints r (lawful_at g.P.Primitive.behaviour g.met.P.Primitive.lawful news) c.self.invariant)
+
+pub returns-clause-offers : goal.returns-clause-offers
+returns-clause-offers g c =
+    let items : List g.row.P.Denot = c.self.inside.primitives.items in
+    let f : g.row.P.Denot → g.row.P.Denot = g.P.Ported.withdrawn in
+    let news : List g.row.P.Denot = change_at f items c.args.port in
+    let new_is : c.withdraw_at.new.primitives ≡ news = c.withdraw_at.ensures ∙ ap (λ xs. change_at f xs c.args.port) c.as_mut_slice.ensures.value in
+    let whole = whole_slice c.self.inside.primitives.len c.withdraw_at.new.primitives items c.self.inside.primitives.ok.0 (c.withdraw_at.auto.primitives ∙ ap length c.as_mut_slice.ensures.value) in
+    let within = c.self.invariant.5.within in
+    let port = rw (← c.self.view_is) at c.requires.port in
+    rw (whole, new_is, ← c.self.view_is) record {
+      here = gate_here g.P.Ported.gate f (λ a b. IsGateWith a b None) g.met.P.Ported.withdrawn_gate items c.args.port (omega (arith, within, port, length-map items g.P.Primitive.behaviour));
+      others = λ i ne. gate_other g.P.Ported.gate f items c.args.port i ne;
+    }
