@@ -8,3 +8,6 @@ mod primitive;
 mod table;
 
 pub use kind::{Branches, Kind, TakerPort, WriterPort};
+
+#[cfg(test)]
+mod tests;
