@@ -33,9 +33,15 @@ fn shown<P: Primitive>(alloc: Global, primitive: &P) -> Result<String, Fail> {
     Ok(text)
 }
 
-const FLOW: Chosen = Chosen { first: 0, second: 0 };
+const FLOW: Chosen = Chosen {
+    first: 0,
+    second: 0,
+};
 
-const QUIET: Chosen = Chosen { first: 1, second: 0 };
+const QUIET: Chosen = Chosen {
+    first: 1,
+    second: 0,
+};
 
 fn letter(mark: Mark) -> &'static str {
     match mark {
