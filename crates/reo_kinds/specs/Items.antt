@@ -2,6 +2,8 @@
 use Rattle.std.specs.Prelude.{ℕ, ◌&&◌, Bool, true, false, Option, Some, None, nat_lt, nat_le, length}
 use Rattle.std.specs.Int.Signed.{le_z}
 use Rattle.std.specs.List.{list_all}
+use Rattle.std.specs.Bool.{Decides}
+use Rattle.reo_values.specs.Kind.{IsIn}
 use Rattle.reo_values.specs.declared.value.Value as value
 use Rattle.reo_values.specs.declared.kindred.Kindred as kindred
 use Rattle.reo_values.specs.declared.value.Value.{Value}
@@ -25,3 +27,7 @@ is_item _ _ = false
 abbrev pub offer_fits : Option Value → Kindred → Bool
 offer_fits None kindred = true
 offer_fits (Some item) kindred = is_item item kindred
+
+-- the test is true exactly where the item is of the type
+abbrev pub ItemTestIsExact : Type 0
+ItemTestIsExact = (item : Value) (kindred : Kindred) → Decides (is_item item kindred) (IsIn item kindred)

@@ -1,5 +1,6 @@
 //! The primitives.
-ghost use Rattle.std.specs.Prelude.{◌≡◌, ◌≤◌, ◌↔◌, IsTrue, true, false, None};
+ghost use Rattle.std.specs.Prelude.{◌≡◌, ◌≤◌, ◌↔◌, IsTrue, true, false, None, Some};
+ghost use Rattle.reo_values.specs.Kind.{IsIn};
 ghost use Rattle.reo_kinds.specs.Items.{offer_fits};
 
 use reo_values::{Kindred, Value};
@@ -57,6 +58,18 @@ impl WriterPort {
         WriterPort {
             kindred,
             offer: None,
+        }
+    }
+
+    /// A port for items of this type, with this item of the type offered.
+    pub fn offering(kindred: Kindred, item: Value) -> Self
+        requires { IsIn item kindred }
+        ensures kindred { result.kindred ≡ kindred }
+        ensures offer { result.offer ≡ Some item }
+    {
+        WriterPort {
+            kindred,
+            offer: Some(item),
         }
     }
 }
