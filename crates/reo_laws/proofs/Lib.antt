@@ -7,6 +7,7 @@ pub mod Isolation
 pub mod Items
 pub mod Jam
 pub mod Jams
+pub mod Joined
 pub mod Mixing
 pub mod OneFirst
 pub mod OneItems
@@ -15,3 +16,4 @@ pub mod Search
 pub mod Sets
 pub mod Sides
 pub mod Sublists
+pub mod Told

@@ -1,5 +1,6 @@
 pub mod Alike
 pub mod Differences
+pub mod Ends
 pub mod FirstLaws
 pub mod Jam
 pub mod Jams
