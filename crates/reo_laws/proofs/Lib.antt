@@ -1,6 +1,7 @@
 pub mod Assignments
 pub mod Classes
 pub mod Differences
+pub mod Fill
 pub mod FirstInside
 pub mod Flows
 pub mod Isolation
@@ -8,6 +9,7 @@ pub mod Items
 pub mod Jam
 pub mod Jams
 pub mod Joined
+pub mod Least
 pub mod Mixing
 pub mod OneFirst
 pub mod OneItems

@@ -27,6 +27,10 @@ abbrev pub FirstIsOne : Type 0
 FirstIsOne = (net : Net) → IsWired net → (order : List ℕ) → IsOrder net order → (turn : ℕ) (a b : List ℕ) (xs ys : List (Option Value))
     → IsFirst net turn a xs → IsFirst net turn b ys → (a ≡ b) × (xs ≡ ys)
 
+-- Where the joints have an order, there is a first colouring.
+abbrev pub FirstExists : Type 0
+FirstExists = (net : Net) → IsWired net → (order : List ℕ) → IsOrder net order → (turn : ℕ) → (rows : List ℕ) × (items : List (Option Value)) × IsFirst net turn rows items
+
 -- On each closed set the first colouring is the first assignment.
 abbrev pub FirstInside : Type 0
 FirstInside = (net : Net) → IsWired net → (turn : ℕ) (rows : List ℕ) (items : List (Option Value)) → IsFirst net turn rows items

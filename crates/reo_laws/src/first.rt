@@ -1,6 +1,11 @@
 //! The first colouring and the first assignment of a closed set.
-ghost use Rattle.reo_laws.specs.FirstLaws.{FirstIsOne, FirstIsOneInside, FirstInside, FirstByParts, FirstJamsForCause, PartJamsForCause, NoneFlowsMore, FirstFlows};
+ghost use Rattle.reo_laws.specs.FirstLaws.{FirstExists, FirstIsOne, FirstIsOneInside, FirstInside, FirstByParts, FirstJamsForCause, PartJamsForCause, NoneFlowsMore, FirstFlows};
 ghost use Rattle.reo_laws.specs.Alike.{IsIsolated};
+
+/// Where the joints have an order, there is a first colouring.
+pub fn first_exists()
+    ensures { FirstExists }
+{}
 
 /// Where the joints have an order, two first colourings have the same rows and the same items.
 pub fn first_is_one()
