@@ -1,6 +1,6 @@
 //! The first colouring and the first assignment of a closed set.
-ghost use Rattle.reo_laws.specs.FirstLaws.{FirstExists, FirstIsOne, FirstIsOneInside, FirstInside, FirstByParts, FirstJamsForCause, PartJamsForCause, NoneFlowsMore, FirstFlows};
-ghost use Rattle.reo_laws.specs.Alike.{IsIsolated};
+ghost use Rattle.reo_laws.specs.FirstLaws.{FirstExists, FirstIsOne, FirstIsOneInside, FirstInside, FirstByParts, FirstJamsForCause, PartJamsForCause, NoneFlowsMore, FirstFlows, PartJamsExactly};
+ghost use Rattle.reo_laws.specs.Alike.{IsIsolated, FirstsAgree};
 
 /// Where the joints have an order, there is a first colouring.
 pub fn first_exists()
@@ -50,4 +50,14 @@ pub fn first_flows()
 /// What is first on a closed set is also first there in a circuit that is alike on the set.
 pub fn is_isolated()
     ensures { IsIsolated }
+{}
+
+/// The first assignment of a part jams its sides exactly where the part has no three-colouring.
+pub fn part_jams_exactly()
+    ensures { PartJamsExactly }
+{}
+
+/// The first colourings of two circuits that are alike on a closed set have the same rows and items there.
+pub fn firsts_agree()
+    ensures { FirstsAgree }
 {}

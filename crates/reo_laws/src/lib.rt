@@ -13,6 +13,7 @@ pub use colourings::{
 pub use ends::{classes_are_told, ends_are_joined, rows_are_told, source_is_taken};
 pub use first::{
     first_by_parts, first_exists, first_flows, first_inside, first_is_one, first_is_one_inside,
-    first_jams_for_cause, is_isolated, none_flows_more, part_jams_for_cause,
+    first_jams_for_cause, firsts_agree, is_isolated, none_flows_more, part_jams_exactly,
+    part_jams_for_cause,
 };
 pub use keys::{first_difference_decides, leading_is_led, part_keys};
