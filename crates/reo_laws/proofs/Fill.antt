@@ -9,7 +9,7 @@ use Rattle.reo_behaviour.specs.Marks.{marks_match}
 use Rattle.reo_behaviour.specs.Net.{Net, Side, all_sides, no_side, row_count, behaviour_at, end_of, side_at, row_at, mark_at}
 use Rattle.reo_behaviour.specs.Colouring.{AreRows, JointMatches, given_at, lets_in, ItemFits, IsColouring}
 use Rattle.reo_behaviour.specs.Wired.{IsWired, IsOrder}
-use Rattle.reo_laws.specs.Jam.{no_items}
+use Rattle.reo_laws.specs.JamRows.{no_items}
 use Rattle.reo_laws.proofs.Sides.{row_below, below_or, side_in_range, row_in_table}
 use Rattle.reo_laws.proofs.Items.{fits_one, given_fed, along_order}
 use Rattle.reo_laws.proofs.Assignments.{fits_same}

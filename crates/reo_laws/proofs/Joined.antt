@@ -10,6 +10,7 @@ use Rattle.reo_behaviour.specs.Net.{Net, behaviour_at, end_of, end_eq, is_at}
 use Rattle.reo_behaviour.specs.Wired.{IsWired, IsEnd}
 use Rattle.reo_laws.specs.Ends.{mark_in, from_in, EndsAreJoined, SourceIsTaken}
 use Rattle.reo_laws.proofs.Items.{end_is}
+use Rattle.reo_laws.proofs.Sides.{same_side_at}
 
 one_of : (a b : Bool) → (a || b) ≡ true → (a ≡ true) ⊎ (b ≡ true)
 one_of true b h = inl refl
@@ -95,5 +96,15 @@ source_taken net wired k row from d lt row_in flows is =
     let lawful = wired.lawful giver.primitive e_in.0 in
     let gives : GivesAt b (b.side_of giver.end) row giver.end =
     record { of_side = lawful.sides_in giver.end e_in.1; in_table = row_in; is_end = (e_in.1, refl); gives = wired.gives k d lt; flows = flows } in
-    (ends_joined net wired).taker_of (end_of giver.primitive from) (e_in.0, (lawful.from_end (b.side_of giver.end) row giver.end from gives is).0)
-    (lawful.from_takes (b.side_of giver.end) row giver.end from gives is)
+    let from_in = lawful.from_end (b.side_of giver.end) row giver.end from gives is in
+    let joined = ends_joined net wired in
+    let found = joined.taker_of (end_of giver.primitive from) (e_in.0, from_in.0) (lawful.from_takes (b.side_of giver.end) row giver.end from gives is) in (
+      found.0,
+      record {
+        in_range = found.1;
+        taker = found.2;
+        only = λ j z j_in same. joined.one_taker j found.0 z j_in found.1 (same ∙ sym (found.2 z));
+        same_side = same_side_at net giver from from_in;
+        flows = ap (λ (s : ℕ). b.mark s row from) from_in.1 ∙ lawful.from_flows (b.side_of giver.end) row giver.end from gives is;
+      },
+    )

@@ -9,9 +9,9 @@ use Rattle.reo_behaviour.specs.Net.{Net, Side, all_sides, row_count}
 use Rattle.reo_behaviour.specs.Colouring.{AreRows, IsColouring}
 use Rattle.reo_behaviour.specs.First.{Position, key_at, positions, order_by}
 use Rattle.reo_behaviour.specs.Wired.{IsWired, IsOrder}
-use Rattle.reo_laws.specs.Jam.{jam_rows, no_items}
+use Rattle.reo_laws.specs.JamRows.{jam_rows, no_items}
 use Rattle.reo_laws.specs.FirstLaws.{FirstExists}
-use Rattle.reo_laws.proofs.Jam.{jam_colouring}
+use Rattle.reo_laws.proofs.JamRows.{jam_colouring}
 use Rattle.reo_laws.proofs.Fill.{colouring_or}
 use Rattle.reo_laws.proofs.Search.{Decided, eq_or}
 

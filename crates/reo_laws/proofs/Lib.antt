@@ -6,7 +6,7 @@ pub mod FirstInside
 pub mod Flows
 pub mod Isolation
 pub mod Items
-pub mod Jam
+pub mod JamRows
 pub mod Jams
 pub mod Joined
 pub mod Least

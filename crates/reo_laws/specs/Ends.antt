@@ -4,8 +4,9 @@ use Rattle.reo_behaviour.specs.declared.mark.Mark.{Mark}
 use Rattle.reo_behaviour.specs.declared.mark.Mark.TheVariants.{F, G, R, J}
 use Rattle.reo_behaviour.specs.declared.joint.End.{End}
 use Rattle.reo_behaviour.specs.declared.joint.Joint.{Joint}
-use Rattle.reo_behaviour.specs.Net.{Net, Side, all_sides, no_side, row_count, behaviour_at, end_of, side_at}
+use Rattle.reo_behaviour.specs.Net.{Net, Side, all_sides, row_count, behaviour_at, end_of, side_at}
 use Rattle.reo_behaviour.specs.Wired.{IsWired, IsEnd}
+use Rattle.reo_laws.specs.Keys.{class_of}
 
 -- The mark that a row has at an end of its side.
 unfoldable pub mark_in : Net → ℕ → End → Mark
@@ -18,10 +19,6 @@ from_in net row e = (behaviour_at net.primitives e.primitive).from ((behaviour_a
 -- A row of the table of a side.
 abbrev pub IsRowOf : Net → ℕ → ℕ → Type 0
 IsRowOf net side row = (d : Side) → row < row_count (slice_index_or (all_sides net.primitives) side d)
-
--- The class of a row of a side.
-abbrev pub class_of : Net → ℕ → ℕ → ℕ → ℕ
-class_of net turn side row = (slice_index_or (all_sides net.primitives) side no_side).of.class (slice_index_or (all_sides net.primitives) side no_side).number row turn
 
 -- The same mark.
 abbrev pub same_mark : Mark → Mark → Bool
@@ -87,12 +84,21 @@ pub record AreEndsJoined (net : Net) : Type 0 where
   pub one_giver : (j k : ℕ) (d : Joint) → j < length net.joints → k < length net.joints → (slice_index_or net.joints j d).giver ≡ (slice_index_or net.joints k d).giver → j ≡ k
   pub one_taker : (j k : ℕ) (d : Joint) → j < length net.joints → k < length net.joints → (slice_index_or net.joints j d).taker ≡ (slice_index_or net.joints k d).taker → j ≡ k
 
+-- What each circuit keeps of its ends and joints.
 abbrev pub EndsAreJoined : Type 0
 EndsAreJoined = (net : Net) → IsWired net → AreEndsJoined net
 
--- Where what a row gives at a joint is decided by an end, that end is the taker of a joint.
+-- The one joint at the end that decides what a row gives: items come in there, with flow, at the side that gives.
+pub record IsSource (net : Net) (row : ℕ) (giver : End) (from joint : ℕ) : Type 0 where
+  pub in_range : joint < length net.joints
+  pub taker : (d : Joint) → (slice_index_or net.joints joint d).taker ≡ end_of giver.primitive from
+  pub only : (j : ℕ) (d : Joint) → j < length net.joints → (slice_index_or net.joints j d).taker ≡ end_of giver.primitive from → j ≡ joint
+  pub same_side : side_at net (end_of giver.primitive from) ≡ side_at net giver
+  pub flows : mark_in net row (end_of giver.primitive from) ≡ F
+
+-- Where an end decides what a row gives at a joint with flow, that end is the taker of exactly one joint, which flows.
 abbrev pub SourceIsTaken : Type 0
 SourceIsTaken = (net : Net) → IsWired net → (k row from : ℕ) (d : Joint) → k < length net.joints
     → row < (behaviour_at net.primitives (slice_index_or net.joints k d).giver.primitive).rows ((behaviour_at net.primitives (slice_index_or net.joints k d).giver.primitive).side_of (slice_index_or net.joints k d).giver.end)
     → mark_in net row (slice_index_or net.joints k d).giver ≡ F → from_in net row (slice_index_or net.joints k d).giver ≡ Some from
-    → (j : ℕ) × (j < length net.joints) × ((z : Joint) → (slice_index_or net.joints j z).taker ≡ end_of (slice_index_or net.joints k d).giver.primitive from)
+    → (joint : ℕ) × IsSource net row (slice_index_or net.joints k d).giver from joint

@@ -6,7 +6,7 @@ pub fn ends_are_joined()
     ensures { EndsAreJoined }
 {}
 
-/// Where what a row gives at a joint is decided by an end, that end is the taker of a joint.
+/// Where an end decides what a row gives at a joint with flow, that end is the taker of exactly one joint, which flows.
 pub fn source_is_taken()
     ensures { SourceIsTaken }
 {}
