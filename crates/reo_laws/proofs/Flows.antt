@@ -13,7 +13,7 @@ use Rattle.reo_behaviour.specs.Wired.{IsWired}
 use Rattle.reo_laws.specs.Parts.{IsClosed, IsAssignment, outside, mixed, mixed_items}
 use Rattle.reo_laws.specs.Keys.{IsLeastBy, AreLed, class_in}
 use Rattle.reo_laws.specs.Jams.{IsThreeColouring, jams}
-use Rattle.reo_laws.specs.FirstLaws.{FirstJamsForCause, PartJamsForCause, NoneFlowsMore, FirstFlows, FlowsToo, Flows}
+use Rattle.reo_laws.specs.FirstLaws.{FirstJamsForCause, PartJamsForCause, PartJamsExactly, NoneFlowsMore, FirstFlows, FlowsToo, Flows}
 use Rattle.reo_laws.proofs.Sides.{Owner, owner_of, owner_side, owner_at, side_at_place, side_in_range, row_is}
 use Rattle.reo_laws.proofs.Sets.{everywhere, everywhere_closed, restricted, smaller, and_left, and_right, not_true, outside_closed}
 use Rattle.reo_laws.proofs.Mixing.{mix, mix_in, mixed_true, mixed_false}
@@ -116,6 +116,24 @@ module _ (net : Net) (wired : IsWired net) (turn : ℕ) (ps : List Position) (le
 
 pub part_jams : PartJamsForCause
 part_jams net wired inside closed turn rows items first = calm net wired turn (positions net turn) (positions_led net turn) inside closed rows items first.assignment first.least
+
+pub part_jams_exactly : PartJamsExactly
+part_jams_exactly net wired inside part turn rows items first k lt h = (
+  λ jam others other_items three.
+      let calm : jams net rows k ≡ false = part_jams net wired inside part.closed turn rows items first others other_items three k lt h in
+      let wrong : true ≡ false = sym jam ∙ calm in
+      cc,
+  λ none. elim (jams net rows k) as (λ t. jams net rows k ≡ t → t ≡ true) [
+    | true ↦ λ e. refl
+    | false ↦ λ e.
+        absurd (none rows items (record {
+          assignment = first.assignment;
+          no_jam = λ s s_lt g.
+              let same = part.joined s k g h (λ i. inside i && jams net rows i) (jams_closed net wired inside part.closed rows items first.assignment) in
+              sym (ap (λ (t : Bool). t && jams net rows s) g) ∙ same ∙ ap (λ (t : Bool). t && jams net rows k) h ∙ e;
+        }))
+  ] refl,
+)
 
 pub first_jams : FirstJamsForCause
 first_jams net wired turn rows items first inside closed = part_jams net wired inside closed turn rows items (first_inside net wired turn rows items first inside closed)

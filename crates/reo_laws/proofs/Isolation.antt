@@ -11,33 +11,57 @@ use Rattle.reo_behaviour.specs.First.{Position, key_at, class_positions, row_pos
 use Rattle.reo_behaviour.specs.Wired.{IsWired}
 use Rattle.reo_laws.specs.Parts.{IsClosed, IsAssignment}
 use Rattle.reo_laws.specs.Keys.{within}
-use Rattle.reo_laws.specs.Alike.{AreAlike, net_with, IsIsolated}
+use Rattle.reo_laws.specs.Alike.{AreAlike, net_with, IsIsolated, FirstsAgree}
 use Rattle.reo_laws.proofs.Sides.{owner_of, owner_side}
 use Rattle.reo_laws.proofs.Assignments.{first_same_at, sides_same, side_same, side_other, side_inside, carried}
-use Rattle.reo_laws.proofs.Places.{key_split}
+use Rattle.reo_laws.proofs.FirstInside.{first_inside}
+use Rattle.reo_laws.proofs.OneFirst.{one_inside}
 
-module _ (inside : ℕ → Bool) where
-  classes_same : (turn : ℕ) (ss tt : List Side) (k : ℕ) (x : List ℕ) → length tt ≡ length ss
-      → ((j : ℕ) (e : Side) → j < length ss → inside (k + j) ≡ true → (get_or tt j e).of.class (get_or tt j e).number (get_or x (k + j) 0) turn ≡ (get_or ss j e).of.class (get_or ss j e).number (get_or x (k + j) 0) turn)
-      → key_at (within inside (class_positions turn tt k)) x ≡ key_at (within inside (class_positions turn ss k)) x
-  classes_same turn [] [] k x n h = refl
-  classes_same turn [] (t ∷ ts) k x n h = absurd (omega arith)
-  classes_same turn (s ∷ ss) [] k x n h = absurd (omega arith)
-  classes_same turn (s ∷ ss) (t ∷ ts) k x n h =
-      let rest = classes_same turn ss ts (suc k) x (omega arith) (λ j e lt g.
-      let shift : k + suc j ≡ suc k + j = omega arith in
-      rw shift at (h (suc j) e (omega arith) (rw shift g))) in
-      elim (inside k) as (λ u. inside k ≡ u → key_at (cond u (record { side = k; number = λ row. t.of.class t.number row turn } ∷ within inside (class_positions turn ts (suc k))) (within inside (class_positions turn ts (suc k)))) x
-      ≡ key_at (cond u (record { side = k; number = λ row. s.of.class s.number row turn } ∷ within inside (class_positions turn ss (suc k))) (within inside (class_positions turn ss (suc k)))) x) [
-        | true ↦ λ g. let here : t.of.class t.number (get_or x k 0) turn ≡ s.of.class s.number (get_or x k 0) turn = rw add-zero at (h zero s (omega arith) (rw add-zero g)) in λ i. here i ∷ rest i
-        | false ↦ λ g. rest
-      ] refl
+-- Places of the same sides, at each of which in the set the rows have the same number.
+module _ (inside : ℕ → Bool) (rows : List ℕ) where
+  abbrev ArePlaces : List Position → List Position → Type 0
+  ArePlaces [] [] = Unit {0}
+  ArePlaces [] (q ∷ qs) = ⊥
+  ArePlaces (p ∷ ps) [] = ⊥
+  ArePlaces (p ∷ ps) (q ∷ qs) = (p.side ≡ q.side) × (inside q.side ≡ true → p.number (get_or rows p.side 0) ≡ q.number (get_or rows q.side 0)) × ArePlaces ps qs
 
-  rows_same : (ss tt : List Side) (k : ℕ) → length tt ≡ length ss → row_positions tt k ≡ row_positions ss k
-  rows_same [] [] k n = refl
-  rows_same [] (t ∷ ts) k n = absurd (omega arith)
-  rows_same (s ∷ ss) [] k n = absurd (omega arith)
-  rows_same (s ∷ ss) (t ∷ ts) k n = ap (λ (ps : List Position). record { side = k; number = λ row. row } ∷ ps) (rows_same ss ts (suc k) (omega arith))
+  key_same : (ps qs : List Position) → ArePlaces ps qs → key_at (within inside ps) rows ≡ key_at (within inside qs) rows
+  key_same [] [] h = refl
+  key_same [] (q ∷ qs) h = absurd h
+  key_same (p ∷ ps) [] h = absurd h
+  key_same (p ∷ ps) (q ∷ qs) h =
+      let rest = key_same ps qs h.2 in
+      ap (λ (s : ℕ). key_at (cond (inside s) (p ∷ within inside ps) (within inside ps)) rows) h.0
+      ∙ (elim (inside q.side) as (λ t. inside q.side ≡ t → key_at (cond t (p ∷ within inside ps) (within inside ps)) rows ≡ key_at (cond t (q ∷ within inside qs) (within inside qs)) rows) [
+        | true ↦ λ e i. h.1 e i ∷ rest i
+        | false ↦ λ e. rest
+      ] refl)
+
+  places-append : (ps qs more others : List Position) → ArePlaces ps qs → ArePlaces more others → ArePlaces (ps ++ more) (qs ++ others)
+  places-append [] [] more others h g = g
+  places-append [] (q ∷ qs) more others h g = absurd h
+  places-append (p ∷ ps) [] more others h g = absurd h
+  places-append (p ∷ ps) (q ∷ qs) more others h g = (h.0, h.1, places-append ps qs more others h.2 g)
+
+  class_places : (turn : ℕ) (ss ts : List Side) (k : ℕ) → length ts ≡ length ss
+      → ((j : ℕ) (d : Side) → j < length ss → inside (k + j) ≡ true → (get_or ts j d).of.class (get_or ts j d).number (get_or rows (k + j) 0) turn ≡ (get_or ss j d).of.class (get_or ss j d).number (get_or rows (k + j) 0) turn)
+      → ArePlaces (class_positions turn ts k) (class_positions turn ss k)
+  class_places turn [] [] k n h = tt
+  class_places turn [] (t ∷ ts) k n h = absurd (omega arith)
+  class_places turn (s ∷ ss) [] k n h = absurd (omega arith)
+  class_places turn (s ∷ ss) (t ∷ ts) k n h = (
+    refl,
+    λ g. rw add-zero at (h zero s (omega arith) (rw add-zero g)),
+    class_places turn ss ts (suc k) (omega arith) (λ j d lt g.
+        let shift : k + suc j ≡ suc k + j = omega arith in
+        rw shift at (h (suc j) d (omega arith) (rw shift g))),
+  )
+
+  row_places : (ss ts : List Side) (k : ℕ) → length ts ≡ length ss → ArePlaces (row_positions ts k) (row_positions ss k)
+  row_places [] [] k n = tt
+  row_places [] (t ∷ ts) k n = absurd (omega arith)
+  row_places (s ∷ ss) [] k n = absurd (omega arith)
+  row_places (s ∷ ss) (t ∷ ts) k n = (refl, λ g. refl, row_places ss ts (suc k) (omega arith))
 
 module _ (bs ds : List Behaviour) (js : List Joint) (wired : IsWired (net_with bs js)) (inside : ℕ → Bool) (alike : AreAlike bs ds inside) where
   abbrev net : Net
@@ -55,15 +79,17 @@ module _ (bs ds : List Behaviour) (js : List Joint) (wired : IsWired (net_with b
   alike_key : (rows : List ℕ) (items : List (Option Value)) → IsAssignment net inside rows items → (turn : ℕ) → key_at (within inside (positions other turn)) rows ≡ key_at (within inside (positions net turn)) rows
   alike_key rows items is turn =
       let count = sides_same bs ds js wired inside alike in
-      key_split inside (class_positions turn (all_sides ds) 0) (row_positions (all_sides ds) 0) rows
-      ∙ (λ i. classes_same inside turn (all_sides bs) (all_sides ds) 0 rows count (λ j d lt g.
+      let ss : List Side = all_sides bs in
+      let ts : List Side = all_sides ds in
+      key_same inside rows (positions other turn) (positions net turn)
+      (places-append inside rows (class_positions turn ts 0) (class_positions turn ss 0) (row_positions ts 0) (row_positions ss 0)
+      (class_places inside rows turn ss ts 0 count (λ j d lt g.
       let h : inside j ≡ true = rw zero-add at g in
       let o = owner_of bs j lt in
       let below = rw (owner_side bs j o d) at (is.in_tables j d lt h) in
       rw zero-add (ap (λ (s : Side). s.of.class s.number (get_or rows j 0) turn) (side_other bs ds js wired inside alike j o d)
-      ∙ (side_inside bs ds js wired inside alike j o h).class (get_or rows j 0) turn below ∙ ap (λ (s : Side). s.of.class s.number (get_or rows j 0) turn) (sym (owner_side bs j o d)))) i
-      ++ key_at (within inside (rows_same inside (all_sides bs) (all_sides ds) 0 count i)) rows)
-      ∙ sym (key_split inside (class_positions turn (all_sides bs) 0) (row_positions (all_sides bs) 0) rows)
+      ∙ (side_inside bs ds js wired inside alike j o h).class (get_or rows j 0) turn below ∙ ap (λ (s : Side). s.of.class s.number (get_or rows j 0) turn) (sym (owner_side bs j o d)))))
+      (row_places inside rows ss ts 0 count))
 
   closed_too : IsClosed net inside → IsClosed other inside
   closed_too closed = record {
@@ -107,3 +133,10 @@ isolated bs ds js wired wired_other inside closed alike turn rows items first = 
       first.least others other_items (alike_assignment ds bs js wired_other inside back closed_there others other_items is)
       ((λ i. slice_cmp nat_cmp (alike_key ds bs js wired_other inside back others other_items is turn i) (sym (alike_key bs ds js wired inside alike rows items first.assignment turn) i)) ∙ less);
 }
+
+pub firsts_agree : FirstsAgree
+firsts_agree bs ds js wired wired_other order is_order inside closed alike turn rows others items other_items first first_other =
+    let closed_there = closed_too bs ds js wired inside alike closed in
+    one_inside (net_with ds js) wired_other order is_order inside closed_there turn rows others items other_items
+    (isolated bs ds js wired wired_other inside closed alike turn rows items (first_inside (net_with bs js) wired turn rows items first inside closed))
+    (first_inside (net_with ds js) wired_other turn others other_items first_other inside closed_there)

@@ -1,12 +1,15 @@
 pub mod Assignments
 pub mod Classes
 pub mod Differences
+pub mod Fill
 pub mod FirstInside
 pub mod Flows
 pub mod Isolation
 pub mod Items
-pub mod Jam
+pub mod JamRows
 pub mod Jams
+pub mod Joined
+pub mod Least
 pub mod Mixing
 pub mod OneFirst
 pub mod OneItems
@@ -15,3 +18,4 @@ pub mod Search
 pub mod Sets
 pub mod Sides
 pub mod Sublists
+pub mod Told

@@ -10,7 +10,7 @@ use Rattle.reo_laws.specs.PartLaws.{MixIsColouring}
 use Rattle.reo_laws.proofs.Assignments.{agreeing}
 use Rattle.reo_laws.proofs.Sets.{everywhere, everywhere_closed, outside_closed, both_closed, and_right, not_true, whole, halves}
 
-mixed_count : {A : Type 0} (inside : ℕ → Bool) (xs ys : List A) → length xs ≡ length ys → length (mixed inside xs ys) ≡ length xs
+pub mixed_count : {A : Type 0} (inside : ℕ → Bool) (xs ys : List A) → length xs ≡ length ys → length (mixed inside xs ys) ≡ length xs
 mixed_count inside [] ys n = refl
 mixed_count inside (x ∷ xs) [] n = absurd (omega arith)
 mixed_count inside (x ∷ xs) (y ∷ ys) n = ap suc (mixed_count (λ k. inside (suc k)) xs ys (omega arith))

@@ -60,7 +60,7 @@ one_inside net wired order is_order inside closed turn a b xs ys first_a first_b
     let keys = same_keys (within inside (positions net turn)) a b (first_b.least a xs first_a.assignment) (first_a.least b ys first_b.assignment) in
     let rows : (k : ℕ) → k < length ss → inside k ≡ true → get_or a k 0 ≡ get_or b k 0 = λ k lt h.
     rw zero-add at (rows_agree inside a b ss 0 (agree_later inside a b (class_positions turn ss 0) (row_positions ss 0) (agree inside a b (positions net turn) keys)) k lt (rw zero-add h)) in
-    record { rows = rows; items = one_items net wired inside closed a b xs ys first_a.assignment first_b.assignment rows order is_order }
+    record { rows = rows; items = λ j d lt h. one_items net wired order is_order inside closed a b xs ys first_a.assignment first_b.assignment rows j lt d h }
 
 pub one_first : FirstIsOne
 one_first net wired order is_order turn a b xs ys first_a first_b =

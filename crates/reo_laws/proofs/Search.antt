@@ -1,5 +1,5 @@
 -- Bounded search.
-use Rattle.std.proofs.Common.{◌≡◌, ◌⊎◌, inl, inr, ℕ, zero, suc, ◌<◌, true, false, refl, arith, below_more, add-one}
+use Rattle.std.proofs.Common.{◌≡◌, ◌⊎◌, inl, inr, ℕ, zero, suc, ◌<◌, true, false, refl, arith, below_more, add-one, Bool}
 use Rattle.std.specs.Bool.{◌==◌}
 use Rattle.std.proofs.lemmas.Bool.Decides.{nat_tests}
 use Rattle.reo_behaviour.specs.declared.mark.Mark.{Mark}
@@ -37,3 +37,14 @@ pub both_or : (P Q : Type 0) → Decided P → Decided Q → Decided (P × Q)
 both_or P Q (inl p) (inl q) = inl (p, q)
 both_or P Q (inl p) (inr h) = inr (λ both. h both.1)
 both_or P Q (inr h) q = inr (λ both. h both.0)
+
+pub bool_or : (t : Bool) → Decided (t ≡ true)
+bool_or true = inl refl
+bool_or false = inr (λ e. cc)
+
+pub all_below : (P : ℕ → Type 0) → ((k : ℕ) → Decided (P k)) → (n : ℕ) → Decided ((k : ℕ) → k < n → P k)
+all_below P test n =
+    elim (any_below (λ k. P k → ⊥) (λ k. not_or (P k) (test k)) n) [
+      | inl found ↦ inr (λ all. found.2 (all found.0 found.1))
+      | inr none ↦ inl (λ k lt. elim (test k) [ inl p ↦ p | inr not_p ↦ absurd (none k lt not_p) ])
+    ]

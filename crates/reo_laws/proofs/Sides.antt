@@ -53,7 +53,7 @@ pub record Owner (bs : List Behaviour) (k : ℕ) : Type 0 where
   pub number_in : number < (behaviour_at bs primitive).sides
   pub place : k ≡ first_side bs primitive + number
 
-below_or : (x y : ℕ) → (x < y) ⊎ (y ≤ x)
+pub below_or : (x y : ℕ) → (x < y) ⊎ (y ≤ x)
 below_or x y = elim (nat_lt x y) as (λ t. nat_lt x y ≡ t → (x < y) ⊎ (y ≤ x)) [ true ↦ λ e. inl (grind (arith, nat_tests)) | false ↦ λ e. inr (grind (arith, nat_tests)) ] refl
 
 pub owner_of : (bs : List Behaviour) (k : ℕ) → k < length (all_sides bs) → Owner bs k

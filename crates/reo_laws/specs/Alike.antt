@@ -5,9 +5,11 @@ use Rattle.reo_behaviour.specs.declared.joint.Joint.{Joint}
 use Rattle.reo_behaviour.specs.Behaviour.{Behaviour, IsEndOf}
 use Rattle.reo_behaviour.specs.Lawful.{SameShape, GivesAt}
 use Rattle.reo_behaviour.specs.Net.{Net, first_side, behaviour_at}
-use Rattle.reo_behaviour.specs.Wired.{IsWired}
+use Rattle.reo_behaviour.specs.First.{IsFirst}
+use Rattle.reo_behaviour.specs.Wired.{IsWired, IsOrder}
 use Rattle.reo_laws.specs.Parts.{IsClosed}
 use Rattle.reo_laws.specs.Keys.{IsFirstIn}
+use Rattle.reo_laws.specs.FirstLaws.{AreSameIn}
 
 -- A side with the same table and classes, the same items given and the same items let in.
 pub record SameSide (b d : Behaviour) (side : ℕ) : Type 0 where
@@ -32,3 +34,10 @@ net_with bs js = record { primitives = bs; joints = js }
 abbrev pub IsIsolated : Type 0
 IsIsolated = (bs ds : List Behaviour) (js : List Joint) → IsWired (net_with bs js) → IsWired (net_with ds js) → (inside : ℕ → Bool) → IsClosed (net_with bs js) inside → AreAlike bs ds inside
     → (turn : ℕ) (rows : List ℕ) (items : List (Option Value)) → IsFirstIn (net_with bs js) inside turn rows items → IsFirstIn (net_with ds js) inside turn rows items
+
+-- The first colourings of two circuits that are alike on a closed set have the same rows and items there.
+abbrev pub FirstsAgree : Type 0
+FirstsAgree = (bs ds : List Behaviour) (js : List Joint) → IsWired (net_with bs js) → IsWired (net_with ds js) → (order : List ℕ) → IsOrder (net_with ds js) order
+    → (inside : ℕ → Bool) → IsClosed (net_with bs js) inside → AreAlike bs ds inside
+    → (turn : ℕ) (rows others : List ℕ) (items other_items : List (Option Value)) → IsFirst (net_with bs js) turn rows items → IsFirst (net_with ds js) turn others other_items
+    → AreSameIn (net_with ds js) inside rows others items other_items

@@ -1,5 +1,5 @@
 -- Laws on the first colouring.
-use Rattle.std.specs.Prelude.{ℕ, ◌≡◌, ◌<◌, ◌==◌, Bool, true, false, List, Option, None, length, slice_index, slice_index_or}
+use Rattle.std.specs.Prelude.{ℕ, ◌≡◌, ◌<◌, ◌==◌, ◌↔◌, Bool, true, false, List, Option, None, length, slice_index, slice_index_or}
 use Rattle.reo_values.specs.declared.value.Value.{Value}
 use Rattle.reo_behaviour.specs.declared.mark.Mark.TheVariants.{F}
 use Rattle.reo_behaviour.specs.declared.joint.End.{End}
@@ -8,7 +8,7 @@ use Rattle.reo_behaviour.specs.Net.{Net, all_sides, mark_at}
 use Rattle.reo_behaviour.specs.Colouring.{IsColouring}
 use Rattle.reo_behaviour.specs.First.{IsFirst}
 use Rattle.reo_behaviour.specs.Wired.{IsWired, IsEnd, IsOrder}
-use Rattle.reo_laws.specs.Parts.{IsClosed, is_joint_inside}
+use Rattle.reo_laws.specs.Parts.{IsClosed, IsPart, is_joint_inside}
 use Rattle.reo_laws.specs.Keys.{IsLeastIn, IsFirstIn}
 use Rattle.reo_laws.specs.Jams.{jams, IsThreeColouring}
 
@@ -26,6 +26,10 @@ FirstIsOneInside = (net : Net) → IsWired net → (order : List ℕ) → IsOrde
 abbrev pub FirstIsOne : Type 0
 FirstIsOne = (net : Net) → IsWired net → (order : List ℕ) → IsOrder net order → (turn : ℕ) (a b : List ℕ) (xs ys : List (Option Value))
     → IsFirst net turn a xs → IsFirst net turn b ys → (a ≡ b) × (xs ≡ ys)
+
+-- Where the joints have an order, there is a first colouring.
+abbrev pub FirstExists : Type 0
+FirstExists = (net : Net) → IsWired net → (order : List ℕ) → IsOrder net order → (turn : ℕ) → (rows : List ℕ) × (items : List (Option Value)) × IsFirst net turn rows items
 
 -- On each closed set the first colouring is the first assignment.
 abbrev pub FirstInside : Type 0
@@ -68,3 +72,9 @@ abbrev pub PartJamsForCause : Type 0
 PartJamsForCause = (net : Net) → IsWired net → (inside : ℕ → Bool) → IsClosed net inside → (turn : ℕ) (rows : List ℕ) (items : List (Option Value)) → IsFirstIn net inside turn rows items
     → (others : List ℕ) (other_items : List (Option Value)) → IsThreeColouring net inside others other_items
     → (k : ℕ) → k < length (all_sides net.primitives) → inside k ≡ true → jams net rows k ≡ false
+
+-- The first assignment of a part jams each of its sides exactly where the part has no three-colouring.
+abbrev pub PartJamsExactly : Type 0
+PartJamsExactly = (net : Net) → IsWired net → (inside : ℕ → Bool) → IsPart net inside → (turn : ℕ) (rows : List ℕ) (items : List (Option Value)) → IsFirstIn net inside turn rows items
+    → (k : ℕ) → k < length (all_sides net.primitives) → inside k ≡ true
+    → (jams net rows k ≡ true) ↔ ((others : List ℕ) (other_items : List (Option Value)) → IsThreeColouring net inside others other_items → ⊥)

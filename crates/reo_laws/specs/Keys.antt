@@ -28,9 +28,13 @@ pub record IsFirstIn (net : Net) (inside : ℕ → Bool) (turn : ℕ) (rows : Li
   pub assignment : IsAssignment net inside rows items
   pub least : IsLeastIn net inside turn rows
 
--- The class of the row of a side.
+-- The class of a row of a side.
+abbrev pub class_of : Net → ℕ → ℕ → ℕ → ℕ
+class_of net turn k row = (slice_index_or (all_sides net.primitives) k no_side).of.class (slice_index_or (all_sides net.primitives) k no_side).number row turn
+
+-- The class that a list of rows has at a side.
 abbrev pub class_in : Net → ℕ → List ℕ → ℕ → ℕ
-class_in net turn rows k = (slice_index_or (all_sides net.primitives) k no_side).of.class (slice_index_or (all_sides net.primitives) k no_side).number (slice_index rows k) turn
+class_in net turn rows k = class_of net turn k (slice_index rows k)
 
 -- The places are of the first n sides.
 abbrev pub AreInRange : ℕ → List Position → Type 0
@@ -45,10 +49,7 @@ pub record AreLed (net : Net) (turn : ℕ) (ps : List Position) : Type 0 where
 
 -- The place of the class of a side.
 abbrev pub class_position : Net → ℕ → ℕ → Position
-class_position net turn k = record {
-  side = k;
-  number = λ row. (slice_index_or (all_sides net.primitives) k no_side).of.class (slice_index_or (all_sides net.primitives) k no_side).number row turn;
-}
+class_position net turn k = record { side = k; number = class_of net turn k }
 
 -- The classes of some leading sides, and then the places of all sides.
 abbrev pub leading_positions : Net → ℕ → List ℕ → List Position

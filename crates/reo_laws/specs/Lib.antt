@@ -1,7 +1,8 @@
 pub mod Alike
 pub mod Differences
+pub mod Ends
 pub mod FirstLaws
-pub mod Jam
+pub mod JamRows
 pub mod Jams
 pub mod Keys
 pub mod PartLaws

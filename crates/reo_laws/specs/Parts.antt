@@ -21,6 +21,11 @@ IsLinked net n s t = (inside : ℕ → Bool) → IsClosedBelow net n inside → 
 abbrev pub AreJoined : Net → ℕ → ℕ → Type 0
 AreJoined net s t = IsLinked net (length net.joints) s t
 
+-- Sides that are joined to each other and to no other side.
+pub record IsPart (net : Net) (inside : ℕ → Bool) : Type 0 where
+  pub closed : IsClosed net inside
+  pub joined : (s t : ℕ) → inside s ≡ true → inside t ≡ true → AreJoined net s t
+
 -- Whether the giver's side of a joint is in a set.
 abbrev pub is_joint_inside : Net → (ℕ → Bool) → Joint → Bool
 is_joint_inside net inside joint = inside (side_at net joint.giver)

@@ -1,9 +1,9 @@
 -- The rows of the sides of a set, as a list.
-use Rattle.std.specs.Prelude.{ℕ, ◌≡◌, Bool, List, [], ◌∷◌, ◌++◌, length, map, filter, slice_index, slice_index_or}
+use Rattle.std.specs.Prelude.{ℕ, ◌≡◌, Bool, List, [], ◌∷◌, ◌++◌, length, map, filter, slice_index}
 use Rattle.std.specs.List.{range_with_len}
-use Rattle.reo_behaviour.specs.Net.{Net, all_sides, no_side}
+use Rattle.reo_behaviour.specs.Net.{Net, all_sides}
 use Rattle.reo_behaviour.specs.First.{key_at, positions}
-use Rattle.reo_laws.specs.Keys.{within}
+use Rattle.reo_laws.specs.Keys.{within, class_of}
 
 -- The sides of a set, in order.
 abbrev pub sides_in : Net → (ℕ → Bool) → List ℕ
@@ -17,7 +17,7 @@ part_rows sides rows = map (λ side. slice_index rows side) sides
 abbrev pub part_classes : Net → ℕ → List ℕ → List ℕ → List ℕ
 part_classes net turn [] rows = []
 part_classes net turn (k ∷ ks) [] = []
-part_classes net turn (k ∷ ks) (r ∷ rs) = (slice_index_or (all_sides net.primitives) k no_side).of.class (slice_index_or (all_sides net.primitives) k no_side).number r turn ∷ part_classes net turn ks rs
+part_classes net turn (k ∷ ks) (r ∷ rs) = class_of net turn k r ∷ part_classes net turn ks rs
 
 -- The classes of the rows of some sides, and then the rows.
 abbrev pub part_key : Net → ℕ → List ℕ → List ℕ → List ℕ

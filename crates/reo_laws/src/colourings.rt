@@ -1,5 +1,5 @@
 //! Colourings, closed sets and assignments.
-ghost use Rattle.reo_laws.specs.Jam.{JamIsColouring};
+ghost use Rattle.reo_laws.specs.JamRows.{JamIsColouring};
 ghost use Rattle.reo_laws.specs.PartLaws.{OneColouringForRows, PartsAreColouring, MixIsColouring, EachPart};
 ghost use Rattle.reo_laws.specs.Jams.{JamsWhole};
 

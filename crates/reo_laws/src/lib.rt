@@ -2,6 +2,7 @@
 #![tactic(auto)]
 
 mod colourings;
+mod ends;
 mod first;
 mod keys;
 
@@ -9,8 +10,10 @@ pub use colourings::{
     each_part, jam_is_colouring, jams_whole, mix_is_colouring, one_colouring_for_rows,
     parts_are_colouring,
 };
+pub use ends::{classes_are_told, ends_are_joined, rows_are_told, source_is_taken};
 pub use first::{
-    first_by_parts, first_flows, first_inside, first_is_one, first_is_one_inside,
-    first_jams_for_cause, is_isolated, none_flows_more, part_jams_for_cause,
+    first_by_parts, first_exists, first_flows, first_inside, first_is_one, first_is_one_inside,
+    first_jams_for_cause, firsts_agree, is_isolated, none_flows_more, part_jams_exactly,
+    part_jams_for_cause,
 };
 pub use keys::{first_difference_decides, leading_is_led, part_keys};

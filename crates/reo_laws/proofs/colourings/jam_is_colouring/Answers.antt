@@ -1,4 +1,4 @@
-use Rattle.reo_laws.proofs.Jam.{jam_colouring}
+use Rattle.reo_laws.proofs.JamRows.{jam_colouring}
 use Rattle.reo_laws.proofs.colourings.jam_is_colouring.Goals as goal
 
 pub returns : goal.returns

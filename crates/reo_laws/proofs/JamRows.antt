@@ -6,7 +6,7 @@ use Rattle.reo_behaviour.specs.declared.mark.Mark.TheVariants.{J}
 use Rattle.reo_behaviour.specs.declared.joint.End.{End}
 use Rattle.reo_behaviour.specs.Net.{Net, Side, all_sides, row_count, side_at, side_of_end, row_at, mark_at}
 use Rattle.reo_behaviour.specs.Wired.{IsWired, IsEnd}
-use Rattle.reo_laws.specs.Jam.{jam_rows, JamIsColouring}
+use Rattle.reo_laws.specs.JamRows.{jam_rows, JamIsColouring}
 use Rattle.reo_laws.proofs.Sides.{are_rows, owner_of, owner_side, row_is, side_in_range, side_at_is}
 
 jam_row_of : (net : Net) (k : ℕ) (d : Side) → k < length (all_sides net.primitives) → get_or (jam_rows net) k 0 ≡ row_count (get_or (all_sides net.primitives) k d) - 1
