@@ -7,6 +7,7 @@ use crate::ReadFault;
 use std::marker::Model;
 
 /// A text and how far it was read. Contracts see the bytes that are left.
+#[derive(Drop)]
 pub struct Reader<'a> {
     text: &'a [u8],
     at: usize,

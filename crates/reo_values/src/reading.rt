@@ -1,5 +1,5 @@
 //! Reading an item again from its text.
-ghost use Rattle.std.specs.Prelude.{◌≡◌, ◌≢◌, ◌++◌, ◌∷◌, ◌<◌, ℕ, List, length, IfOk, IsErrOf, MatchOption, slice_index_or};
+ghost use Rattle.std.specs.Prelude.{◌≡◌, ◌≢◌, ◌++◌, ◌∷◌, [], ◌<◌, ℕ, List, length, IfOk, IsErrOf, MatchOption, slice_index_or};
 ghost use Rattle.reo_values.specs.ItemText.{escape, quoted, text_of};
 ghost use Rattle.reo_values.specs.Kind.{IsIn};
 ghost use Rattle.reo_values.specs.Reading.{HasWords, Ends, Reads, ReadsAgain};
@@ -61,9 +61,9 @@ fn word_item(alloc: Global, word: &[u8], kindred: &Kindred) -> Result<Value, Rea
     ensures none { IsErrOf result ReadFault.NotALiteral → (item : Value) → IsIn item kindred.now → word.now ≢ text_of item kindred.now }
 {
     match kindred {
-        Kindred::Unit if word == b"unit" => Ok(Value::Unit),
-        Kindred::Bool if word == b"true" => Ok(Value::Bool(true)),
-        Kindred::Bool if word == b"false" => Ok(Value::Bool(false)),
+        Kindred::Unit if word == b"unit".as_slice() => Ok(Value::Unit),
+        Kindred::Bool if word == b"true".as_slice() => Ok(Value::Bool(true)),
+        Kindred::Bool if word == b"false".as_slice() => Ok(Value::Bool(false)),
         Kindred::Int(low, high) => Ok(Value::Int(read_number(alloc, word, *low, *high)?)),
         Kindred::Sym(names) => match place_of(names.as_slice(), word) {
             Some(place) => Ok(Value::Sym(place)),
