@@ -24,7 +24,7 @@ use Rattle.reo_values.proofs.Members.{in_unit, in_bool, in_int, in_sym, in_text,
 use Rattle.reo_values.proofs.Numbers.{fits_between, mag_small}
 use Rattle.reo_values.proofs.Pairs.{Pair_of-equal, text_of-Pair}
 use Rattle.reo_values.proofs.Quotes.{quoted_unique}
-use Rattle.reo_values.proofs.Words.{first_or, word_unique, IsWord-name, IsWord-signed}
+use Rattle.reo_values.proofs.Words.{first_or, IsWord-tested, word_unique, IsWord-name, IsWord-signed}
 
 -- the text of a pair, with what comes after it
 pub pair_text : (x : Couple) (y : Twins) (r : List ℕ)
@@ -103,3 +103,20 @@ text_unique (kindred.Pair' m (kindred.more_of-Twins c d kindred.end_of-Twins)) a
 -- two items of one valid type with one text are one item
 pub text_tells : (k : Kindred) (a b : Value) → IsValid k → IsIn a k → IsIn b k → text_of a k ≡ text_of b k → a ≡ b
 text_tells k a b valid h g e = (text_unique k a b [] [] valid h g tt tt (ap (λ l. l ++ []) e)).0
+
+bool_word : (b : Bool) → IsWord (text_of (values.Bool b) kinds.Bool)
+bool_word true = IsWord-tested (codes "true") refl
+bool_word false = IsWord-tested (codes "false") refl
+
+-- the text of an item of such a type is a word
+pub IsWord-text : (k : Kindred) (item : Value) → HasWords k → IsValid k → IsIn item k → IsWord (text_of item k)
+IsWord-text kindred.Unit item words valid h = subst (λ v. IsWord (text_of v kinds.Unit)) (sym (in_unit item h)) (IsWord-tested (codes "unit") refl)
+IsWord-text kindred.Bool item words valid h = let x = in_bool item h in subst (λ v. IsWord (text_of v kinds.Bool)) (sym x.1) (bool_word x.0)
+IsWord-text (kindred.Int low high) item words valid h =
+    let x = in_int low high item h in
+    subst (λ v. IsWord (text_of v (kinds.Int low high))) (sym x.1) (IsWord-signed x.0 (fits_between low high x.0 valid.0 valid.1 x.2 x.3))
+IsWord-text (kindred.Sym names) item words valid h =
+    let x = in_sym names item h in
+    subst (λ v. IsWord (text_of v (kinds.Sym names))) (sym x.1) (name_at-IsWord names x.0 valid x.2)
+IsWord-text (kindred.Text most) item words valid h = absurd words
+IsWord-text (kindred.Pair' m (kindred.more_of-Twins c d kindred.end_of-Twins)) item words valid h = absurd words

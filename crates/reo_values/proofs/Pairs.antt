@@ -1,5 +1,5 @@
 -- What definitions by cases say of pairs.
-use Rattle.std.proofs.Common.{ℕ, zero, suc, List, None, get_or, ◌∷◌, ◌++◌, [], ◌≡◌, ◌∙◌, ap, sym, refl}
+use Rattle.std.proofs.Common.{ℕ, zero, suc, max, List, None, get_or, ◌∷◌, ◌++◌, [], ◌≡◌, ◌∙◌, ap, sym, refl}
 use Rattle.std.specs.Prelude.{slice_get}
 use denote.Hole.Carrier.{hidden}
 use Rattle.reo_values.specs.declared.kindred.Kindred as kindred
@@ -12,6 +12,7 @@ use Rattle.reo_values.specs.declared.kindred.Kindred.TheVariants as kinds
 use Rattle.reo_values.specs.declared.kindred.Kindred.{Kindred}
 use Rattle.reo_values.specs.ItemText.{text_of}
 use Rattle.reo_values.specs.Kind.{IsIn}
+use Rattle.reo_values.specs.Valid.{IsValid}
 use Rattle.reo_values.specs.Pair.{left_of, right_of}
 
 -- a pair is of a type of pairs where its parts are of the parts
@@ -28,6 +29,24 @@ IsIn_Pair-other x (kindred.Int a b) other h = h
 IsIn_Pair-other x (kindred.Sym a) other h = h
 IsIn_Pair-other x (kindred.Text a) other h = h
 IsIn_Pair-other x (kindred.Pair' m (kindred.more_of-Twins a b kindred.end_of-Twins)) other h = other (record { left = a; right = b }) refl
+
+-- a type of pairs is valid where its parts are
+pub IsValid-Pair : (y : Twins) → IsValid (kinds.Pair y) ≡ (IsValid y.left × IsValid y.right)
+unfolding hidden-the_row-Twins-0 hidden
+IsValid-Pair y = refl
+
+-- how deep pairs are nested in a type
+abbrev pub levels : Kindred → ℕ
+levels kindred.Unit = 0
+levels kindred.Bool = 0
+levels (kindred.Int a b) = 0
+levels (kindred.Sym a) = 0
+levels (kindred.Text a) = 0
+levels (kindred.Pair' m (kindred.more_of-Twins a b _)) = suc (max (levels a) (levels b))
+
+pub levels-Pair : (y : Twins) → levels (kinds.Pair y) ≡ suc (max (levels y.left) (levels y.right))
+unfolding hidden-the_row-Twins-0 hidden
+levels-Pair y = refl
 
 -- pairs of equal parts are equal
 pub Pair_of-equal : (x y : Couple) → x.left ≡ y.left → x.right ≡ y.right → values.Pair x ≡ values.Pair y

@@ -1,5 +1,5 @@
 -- Words, and where they end.
-use Rattle.std.proofs.Common.{◌≡◌, ◌∙◌, ◌<◌, ◌≤◌, ◌+◌, ◌%◌, ◌^◌, ℕ, ℤ, pos, negsuc, suc, List, [], ◌∷◌, ◌++◌, inl, inr, ap, refl, sym, subst, drop, arith}
+use Rattle.std.proofs.Common.{◌≡◌, ◌∙◌, ◌==◌, ◌||◌, ◌&&◌, not, Bool, true, false, ◌<◌, ◌≤◌, ◌+◌, ◌%◌, ◌^◌, ℕ, ℤ, pos, negsuc, suc, List, [], ◌∷◌, ◌++◌, inl, inr, ap, refl, sym, subst, drop, arith}
 use Rattle.std.specs.Prelude.{FitsSigned, codes}
 use Rattle.std.specs.List.{All}
 use Rattle.std.specs.Int.{w64}
@@ -60,3 +60,12 @@ name_no-end byte h e = grind arith
 pub IsWord-name : (name : List ℕ) → IsName name → IsWord name
 IsWord-name [] h = absurd h
 IsWord-name (byte ∷ bytes) h = All-cons (λ b. ¬ IsEnd b) byte bytes (name_no-end byte (inr h.0)) (All-weaker IsNameByte (λ b. ¬ IsEnd b) name_no-end bytes h.1)
+
+abbrev pub is_word : List ℕ → Bool
+is_word [] = true
+is_word (byte ∷ bytes) = not ((byte == 44) || (byte == 41)) && is_word bytes
+
+-- a word is told by a test
+pub IsWord-tested : (bytes : List ℕ) → is_word bytes ≡ true → IsWord bytes
+IsWord-tested [] h = All-nil (λ b. ¬ IsEnd b)
+IsWord-tested (byte ∷ bytes) h = All-cons (λ b. ¬ IsEnd b) byte bytes (grind arith) (IsWord-tested bytes (grind arith))

@@ -1,5 +1,5 @@
 -- The text of an item.
-use Rattle.std.specs.Prelude.{ℕ, List, [], ◌∷◌, ◌++◌, codes, slice_index_or, if◌then◌else◌, ◌==◌, ◌||◌}
+use Rattle.std.specs.Prelude.{ℕ, Bool, List, [], ◌∷◌, ◌++◌, codes, slice_index_or, if◌then◌else◌, ◌==◌, ◌||◌}
 use Rattle.std.specs.List.{flat_map}
 use Rattle.std.specs.Fmt.{signed_decimal}
 use Rattle.reo_values.specs.declared.value.Value as value
@@ -15,10 +15,14 @@ escape byte = if (byte == 34) || (byte == 92) then 92 ∷ byte ∷ [] else byte 
 abbrev pub quoted : List ℕ → List ℕ
 quoted bytes = 34 ∷ flat_map escape bytes ++ 34 ∷ []
 
+-- a truth value's word
+abbrev pub truth_text : Bool → List ℕ
+truth_text b = if b then codes "true" else codes "false"
+
 -- the text of an item of the type
 abbrev pub text_of : Value → Kindred → List ℕ
 text_of value.Unit kindred.Unit = codes "unit"
-text_of (value.Bool b) kindred.Bool = if b then codes "true" else codes "false"
+text_of (value.Bool b) kindred.Bool = truth_text b
 text_of (value.Int z) (kindred.Int low high) = signed_decimal z
 text_of (value.Sym k) (kindred.Sym names) = slice_index_or names k []
 text_of (value.Text bytes) (kindred.Text most) = quoted bytes

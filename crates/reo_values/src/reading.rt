@@ -1,6 +1,6 @@
 //! Reading an item again from its text.
-ghost use Rattle.std.specs.Prelude.{◌≡◌, ◌≢◌, ◌++◌, ◌∷◌, [], ◌<◌, ℕ, List, length, IfOk, IsErrOf, MatchOption, slice_index_or};
-ghost use Rattle.reo_values.specs.ItemText.{escape, quoted, text_of};
+ghost use Rattle.std.specs.Prelude.{◌≡◌, ◌≢◌, ◌++◌, ◌∷◌, [], ◌<◌, ℕ, Bool, List, codes, length, IfOk, OnOk, IsErrOf, MatchOption, slice_index_or};
+ghost use Rattle.reo_values.specs.ItemText.{escape, quoted, truth_text, text_of};
 ghost use Rattle.reo_values.specs.Kind.{IsIn};
 ghost use Rattle.reo_values.specs.Reading.{HasWords, Ends, Reads, ReadsAgain};
 ghost use Rattle.reo_values.specs.Valid.{AreNames, IsValid};
@@ -40,17 +40,44 @@ fn quoted_bytes(alloc: Global, reader: &mut Reader) -> Result<Bytes, ReadFault>
     Ok(made)
 }
 
+// The one word of the type unit.
+fn read_unit(word: &[u8]) -> Result<(), ReadFault>
+    ensures found { OnOk result (word.now ≡ codes "unit") }
+    ensures none { IsErrOf result ReadFault.NotALiteral → word.now ≢ codes "unit" }
+{
+    if word == b"unit".as_slice() {
+        Ok(())
+    } else {
+        Err(ReadFault::NotALiteral)
+    }
+}
+
+// The truth value of a word.
+fn read_truth(word: &[u8]) -> Result<bool, ReadFault>
+    ensures found { IfOk result (λ truth. word.now ≡ truth_text truth) }
+    ensures none { IsErrOf result ReadFault.NotALiteral → (truth : Bool) → word.now ≢ truth_text truth }
+{
+    if word == b"true".as_slice() {
+        Ok(true)
+    } else if word == b"false".as_slice() {
+        Ok(false)
+    } else {
+        Err(ReadFault::NotALiteral)
+    }
+}
+
 // The place of a name.
-fn place_of(names: &[Bytes], word: &[u8]) -> Option<u16>
+fn read_name(names: &[Bytes], word: &[u8]) -> Result<u16, ReadFault>
     requires { AreNames names.now }
-    ensures { MatchOption result ((k : ℕ) → k < length names.now → slice_index_or names.now k [] ≢ word.now) (λ k. (k < length names.now) × (slice_index_or names.now k [] ≡ word.now)) }
+    ensures found { IfOk result (λ k. (k < length names.now) × (word.now ≡ slice_index_or names.now k [])) }
+    ensures none { IsErrOf result ReadFault.NotALiteral → (k : ℕ) → k < length names.now → word.now ≢ slice_index_or names.now k [] }
 {
     for (place, name) in names.iter().enumerate() {
         if name.as_slice() == word {
-            return Some(place as u16);
+            return Ok(place as u16);
         }
     }
-    None
+    Err(ReadFault::NotALiteral)
 }
 
 // The item whose text is exactly this word.
@@ -61,14 +88,13 @@ fn word_item(alloc: Global, word: &[u8], kindred: &Kindred) -> Result<Value, Rea
     ensures none { IsErrOf result ReadFault.NotALiteral → (item : Value) → IsIn item kindred.now → word.now ≢ text_of item kindred.now }
 {
     match kindred {
-        Kindred::Unit if word == b"unit".as_slice() => Ok(Value::Unit),
-        Kindred::Bool if word == b"true".as_slice() => Ok(Value::Bool(true)),
-        Kindred::Bool if word == b"false".as_slice() => Ok(Value::Bool(false)),
+        Kindred::Unit => {
+            read_unit(word)?;
+            Ok(Value::Unit)
+        }
+        Kindred::Bool => Ok(Value::Bool(read_truth(word)?)),
         Kindred::Int(low, high) => Ok(Value::Int(read_number(alloc, word, *low, *high)?)),
-        Kindred::Sym(names) => match place_of(names.as_slice(), word) {
-            Some(place) => Ok(Value::Sym(place)),
-            None => Err(ReadFault::NotALiteral),
-        },
+        Kindred::Sym(names) => Ok(Value::Sym(read_name(names.as_slice(), word)?)),
         _ => Err(ReadFault::NotALiteral),
     }
 }
