@@ -32,7 +32,7 @@ pub struct Twins {
     pub right: Kindred,
 }
 
-fn all_plain(bytes: &[u8]) -> bool
+pub fn all_plain(bytes: &[u8]) -> bool
     ensures { IsTrue result ↔ All IsPlain bytes.now }
 {
     bytes.iter().all(|byte| 32 <= *byte && *byte <= 126)

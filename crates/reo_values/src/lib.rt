@@ -8,17 +8,28 @@
 mod boxed;
 mod bytes;
 mod copies;
+mod fault;
 mod filling;
+mod item_text;
 mod kindred;
+mod laws;
 mod list;
+mod number;
+mod reader;
+mod reading;
 mod value;
 
 pub use boxed::Boxed;
 pub use bytes::Bytes;
 pub use copies::Copies;
+pub use fault::ReadFault;
 pub use filling::Filling;
+pub use item_text::value_text;
 pub use kindred::{Kindred, Twins, copy_kindred, is_in};
+pub use laws::one_item_for_each_text;
 pub use list::List;
+pub use number::{number_text, read_number};
+pub use reading::read_value;
 pub use value::{Couple, Value, copy, same_item};
 
 /// Want of memory.
