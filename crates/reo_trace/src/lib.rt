@@ -4,6 +4,8 @@
 #![tactic(auto)]
 
 mod line;
+#[cfg(test)]
+mod tests;
 mod text;
 mod write;
 
