@@ -1,4 +1,5 @@
 pub mod EndingText
+pub mod Entries
 pub mod RoundText
 pub mod Spaced
 pub mod TraceText

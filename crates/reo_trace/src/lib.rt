@@ -3,10 +3,14 @@
 //! A trace has one line for each round, with what flowed at the ports and the row of each side, and then one line that says how the run ended.
 #![tactic(auto)]
 
+mod entries;
 mod line;
+#[cfg(test)]
+mod tests;
 mod text;
 mod write;
 
+pub use entries::line_of;
 pub use line::{Cell, Ending, Entry, RoundLine, Trace};
 pub use text::{ending_line_text, round_line_text};
 pub use write::{WriteFault, write_ending, write_round};

@@ -24,11 +24,7 @@ fn append_number(alloc: Global, text: &mut Bytes, number: u64) -> Result<(), NoM
 fn append_gap(text: &mut Bytes, place: usize) -> Result<(), NoMemory>
     ensures { OnOk result (text.new ≡ text.old ++ gap place) }
 {
-    if place == 0 {
-        Ok(())
-    } else {
-        text.push(b' ')
-    }
+    if place == 0 { Ok(()) } else { text.push(b' ') }
 }
 
 /// Adds the sign of a way.
