@@ -1,0 +1,3 @@
+pub mod CircuitForm
+pub mod Listed
+pub mod ScriptForm

@@ -1,0 +1,23 @@
+-- Texts in a row, with a text between each two.
+use Rattle.std.specs.Prelude.{ℕ, ◌<◌, ◌≤◌, ◌≡◌, ◌⊎◌, length, slice_get, Some, List, [], ◌∷◌, ◌++◌}
+use Rattle.std.specs.List.{flat_map}
+
+-- The text of the first thing, and then before each further one the text that stands between.
+abbrev pub listed : {X : Type 0} → List ℕ → (X → List ℕ) → List X → List ℕ
+listed between text [] = []
+listed between text (x ∷ xs) = text x ++ flat_map (λ y. between ++ text y) xs
+
+-- A byte that is a lower-case letter.
+abbrev pub IsLetter : ℕ → Type 0
+IsLetter byte = (97 ≤ byte) × (byte ≤ 122)
+
+-- A text that may have one line feed more at its end.
+abbrev pub IsText : List ℕ → List ℕ → Type 0
+IsText text form = (text ≡ form) ⊎ (text ≡ form ++ 10 ∷ [])
+
+-- Exactly one element of a list has a property.
+pub record IsOnce {X : Type 0} (Has : X → Type 0) (xs : List X) : Type 0 where
+  pub place : ℕ
+  pub in_range : place < length xs
+  pub here : (x : X) → slice_get xs place ≡ Some x → Has x
+  pub only : (i : ℕ) (x : X) → slice_get xs i ≡ Some x → Has x → i ≡ place

@@ -1,0 +1,61 @@
+-- The plainest scripts, and their texts.
+use Rattle.std.specs.Prelude.{ℕ, ◌<◌, ◌≡◌, List, [], ◌∷◌, ◌++◌, codes, length, map, slice_index, slice_get, Some, Option, None}
+use Rattle.std.specs.List.{flat_map}
+use Rattle.std.specs.Fmt.{signed_decimal}
+use Rattle.reo_values.specs.declared.value.Value as value
+use Rattle.reo_values.specs.declared.value.Value.{Value}
+use Rattle.reo_values.specs.declared.kindred.Kindred.TheVariants as kinds
+use Rattle.reo_values.specs.Kind.{IsIn}
+use Rattle.reo_values.specs.ItemText.{text_of}
+use Rattle.reo_behaviour.specs.declared.port.Way.TheVariants.{In, Out}
+use Rattle.reo_script.specs.declared.script.Action.{Action}
+use Rattle.reo_script.specs.declared.script.Action.TheVariants.{Write, Take}
+use Rattle.reo_script.specs.declared.script.Component.{Component}
+use Rattle.reo_script.specs.Actions.{AreApart, port_of}
+use Rattle.reo_forms.specs.declared.plainest.Parameter.{Parameter}
+use Rattle.reo_forms.specs.Listed.{listed, IsLetter, IsText}
+
+-- The letter of a port.
+abbrev pub letter_at : List Parameter → ℕ → ℕ
+letter_at parameters port = slice_index (map (λ (p : Parameter). p.letter) parameters) port
+
+-- The text of an item at a port.
+abbrev pub item_at_text : Option Parameter → Value → List ℕ
+item_at_text None item = []
+item_at_text (Some p) item = text_of item (kinds.Int p.low p.high)
+
+abbrev pub action_text : List Parameter → Action → List ℕ
+action_text parameters (Write port item) = codes "write " ++ (letter_at parameters port ∷ 32 ∷ (item_at_text (slice_get parameters port) item ++ codes "; "))
+action_text parameters (Take port) = codes "take " ++ (letter_at parameters port ∷ codes "; ")
+
+abbrev pub component_text : List Parameter → Component → List ℕ
+component_text parameters c = codes "component " ++ (c.name ++ (codes " { " ++ (flat_map (action_text parameters) c.actions ++ codes "}")))
+
+-- The text of a script: its components with a space between.
+abbrev pub script_text : List Parameter → List Component → List ℕ
+script_text parameters components = listed (codes " ") (component_text parameters) components
+
+-- An action at a port of its way: an item of the port's type is written at an `in` port, and an `out` port is taken from.
+abbrev pub IsPortAction : List Parameter → Action → Type 0
+IsPortAction parameters (Write port item) = (p : Parameter) × (slice_get parameters port ≡ Some p) × (p.way ≡ In) × IsIn item (kinds.Int p.low p.high)
+IsPortAction parameters (Take port) = (p : Parameter) × (slice_get parameters port ≡ Some p) × (p.way ≡ Out)
+
+-- A component whose name is one letter.
+abbrev pub IsLabel : List ℕ → Type 0
+IsLabel name = (letter : ℕ) × (name ≡ letter ∷ []) × IsLetter letter
+
+-- A script of the form: labels are letters, each action is at a port of its way, and no port is named by two components.
+pub record IsPlainScript (parameters : List Parameter) (components : List Component) : Type 0 where
+  pub labels : (k : ℕ) (c : Component) → slice_get components k ≡ Some c → IsLabel c.name
+  pub actions : (k l : ℕ) (c : Component) (a : Action) → slice_get components k ≡ Some c → slice_get c.actions l ≡ Some a → IsPortAction parameters a
+  pub apart : AreApart components
+
+-- The text that may have a line feed more: not that of the empty script.
+abbrev pub IsScriptText : List ℕ → List Parameter → List Component → Type 0
+IsScriptText text parameters [] = text ≡ []
+IsScriptText text parameters (c ∷ cs) = IsText text (script_text parameters (c ∷ cs))
+
+-- The text has the form, and says this script for these ports.
+pub record SaysScript (parameters : List Parameter) (text : List ℕ) (components : List Component) : Type 0 where
+  pub plain : IsPlainScript parameters components
+  pub text_is : IsScriptText text parameters components
