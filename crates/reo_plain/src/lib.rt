@@ -1,0 +1,8 @@
+//! The first colouring, by trying rows over the whole circuit, side by side.
+#![tactic(auto)]
+
+mod clash;
+mod jam;
+mod search;
+
+pub use search::plain_first;
