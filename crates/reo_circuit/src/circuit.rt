@@ -229,6 +229,30 @@ impl<P: Primitive> Circuit<P> {
         first + side
     }
 
+    /// How many rows the table of a side has, its jam row counted.
+    pub fn row_count(&self, side: usize) -> usize
+        requires { side < length (all_sides (net_of P.behaviour self.now).primitives) }
+        ensures { (e : Side) → result ≡ row_count (slice_index_or (all_sides (net_of P.behaviour self.now).primitives) side e) }
+    {
+        let place = self.owner(side);
+        self.primitive(place.primitive).rows(place.side)
+    }
+
+    /// Whether there is one row for each side, each in the table of its side.
+    pub fn are_rows(&self, rows: &[u32]) -> bool
+        ensures { IsTrue result ↔ AreRows (all_sides (net_of P.behaviour self.now).primitives) rows.now }
+    {
+        if rows.len() != self.sides() {
+            return false;
+        }
+        for side in 0..self.sides() {
+            if rows[side] as usize >= self.row_count(side) {
+                return false;
+            }
+        }
+        true
+    }
+
     /// The row of a side.
     pub fn row(&self, rows: &[u32], side: usize) -> usize
         requires rows { AreRows (all_sides (net_of P.behaviour self.now).primitives) rows.now }
