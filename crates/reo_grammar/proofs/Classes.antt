@@ -1,5 +1,5 @@
 -- Laws of the classes of tokens.
-use Rattle.std.proofs.Common.{◌≡◌, ℕ, zero, suc, ◌+◌, ◌≤◌, Bool, true, false, cond, List, [], ◌∷◌, ◌++◌, refl, sym, ◌∙◌, ap, arith, rules, nat_le}
+use Rattle.std.proofs.Common.{◌≡◌, ℕ, Bool, true, false, List, [], ◌∷◌, ◌++◌, refl, sym, ◌∙◌, ap, arith, rules, nat_le}
 use Rattle.std.proofs.lemmas.Slice.Eq.{bytes_eq-Decides}
 use Rattle.std.specs.Str.{bytes_eq}
 use Rattle.std.specs.Bool.{Decides}
@@ -9,8 +9,9 @@ use Rattle.std.proofs.lemmas.Bool.Decides.{nat_tests}
 use Rattle.reo_grammar.specs.Tokens.{Tok, Class, matches, is_fixed, is_name, is_number, is_text}
 use Rattle.reo_grammar.specs.Bytes.{and, or, is_not, one_of}
 use Rattle.reo_grammar.specs.Tokens.Class.{fixed, among, other, name, named, number, text}
+use Rattle.reo_grammar.specs.Grammar.{starts}
 use Rattle.reo_grammar.specs.Sight.{as_word, none_of, each_of, differ, apart, inside, matches_any, apart_from, all_apart, all_inside}
-use Rattle.reo_grammar.proofs.Sound.{Good, and-left, and-right, or-left, or-right, not-true, and-both}
+use Rattle.reo_grammar.proofs.Sound.{and-left, and-right, not-true, and-both}
 
 pub not-false : (b : Bool) → is_not b ≡ true → b ≡ false
 not-false true h = absurd (cc)
@@ -95,10 +96,13 @@ text-kind kinds.Sign h = absurd (cc)
 -- The kind that a class of names, numbers or texts has.
 of_name : (t : Tok) → matches name t ≡ true → t.kind ≡ kinds.Name
 of_name t h = name-kind t.kind h
+
 of_named : (t : Tok) (b : List ℕ) → matches (named b) t ≡ true → t.kind ≡ kinds.Name
 of_named t b h = name-kind t.kind (and-left _ _ h)
+
 of_number : (t : Tok) (l m : ℕ) → matches (number l m) t ≡ true → t.kind ≡ kinds.Number
 of_number t l m h = number-kind t.kind (and-left _ _ h)
+
 of_text : (t : Tok) → matches text t ≡ true → t.kind ≡ kinds.Text
 of_text t h = text-kind t.kind h
 
@@ -208,3 +212,20 @@ or_assoc false b c = refl
 pub matches_any-append : (cs ds : List Class) (t : Tok) → matches_any (cs ++ ds) t ≡ or (matches_any cs t) (matches_any ds t)
 matches_any-append [] ds t = refl
 matches_any-append (c ∷ cs) ds t = ap (λ b. or (matches c t) b) (matches_any-append cs ds t) ∙ or_assoc (matches c t) (matches_any cs t) (matches_any ds t)
+
+-- The next token is one of several words where it is the first of them or one of the others.
+pub starts_among-cons : (b : List ℕ) (bs : List (List ℕ)) (ts : List Tok) → starts (among (b ∷ bs)) ts ≡ or (starts (fixed b) ts) (starts (among bs) ts)
+starts_among-cons b bs [] = refl
+starts_among-cons b bs (t ∷ ts) = and-or (is_fixed t.kind) (bytes_eq t.bytes b) (one_of t.bytes bs)
+  where
+    and-or : (a b c : Bool) → and a (or b c) ≡ or (and a b) (and a c)
+    and-or true b c = refl
+    and-or false b c = refl
+
+pub starts_among-nil : (ts : List Tok) → starts (among []) ts ≡ false
+starts_among-nil [] = refl
+starts_among-nil (t ∷ ts) = and-false (is_fixed t.kind)
+  where
+    and-false : (a : Bool) → and a false ≡ false
+    and-false true = refl
+    and-false false = refl

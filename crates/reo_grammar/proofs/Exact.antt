@@ -1,13 +1,12 @@
 -- Reading by a table of rules is exact.
-use Rattle.std.proofs.Common.{◌≡◌, ℕ, zero, suc, ◌+◌, ◌≤◌, ◌<◌, Bool, true, false, cond, List, [], ◌∷◌, ◌++◌, length, ◌⊎◌, inl, inr, refl, sym, ◌∙◌, ap, append_assoc, append-nil, arith, length-append}
-use Rattle.reo_grammar.specs.Bytes.{and, or, is_not}
-use Rattle.reo_grammar.specs.Tokens.{Tok, Class, matches, is_real, AreReal}
-use Rattle.reo_grammar.specs.Conditions.{is_nullable, is_productive, is_guarded}
-use Rattle.reo_grammar.specs.Sight.{matches_any, firsts, mores, is_sighted}
-use Rattle.reo_grammar.specs.Grammar.{Grammar, Outcome, Derives, Links, read, reads, Within, loop, then, token_at, starts, line_of, Says, Begins, Refused}
+use Rattle.std.proofs.Common.{◌≡◌, ℕ, zero, suc, ◌+◌, ◌<◌, true, List, [], ◌∷◌, ◌++◌, length, sym, ◌∙◌, append_assoc, append-nil, arith}
+use Rattle.reo_grammar.specs.Tokens.{Tok}
+use Rattle.reo_grammar.specs.Conditions.{is_productive}
+use Rattle.reo_grammar.specs.Sight.{matches_any, is_sighted}
+use Rattle.reo_grammar.specs.Grammar.{Grammar, Outcome, Derives, read, reads, Within, Says, Refused}
 use Rattle.reo_grammar.specs.Grammar.Outcome.{got, bad, out}
-use Rattle.reo_grammar.proofs.Sound.{Good, Opens, Base, good, base, never}
-use Rattle.reo_grammar.specs.Language.{Sound, Sighted}
+use Rattle.reo_grammar.proofs.Sound.{Good, Opens, good, base, never}
+use Rattle.reo_grammar.specs.Language.{Sighted}
 use Rattle.reo_grammar.proofs.Complete.{Stops, Ready, complete, begin, got-good}
 use Rattle.reo_grammar.proofs.Deep.{Fine, below, depths, wider, deeper}
 use Rattle.reo_grammar.proofs.Local.{Kept, local, refused, passed}
@@ -24,7 +23,7 @@ module _ {Ref : Type 0} {tree : Ref → Type 0} {rules : (r : Ref) → Grammar R
   rule-complete zero r ts u x d st = absurd d
   rule-complete (suc k) r ts u x d st =
       complete (record { base = base s.sound k; given = Within rules k; first = s.first; more = s.more; never = never s.sound k; begins = begins k; complete = rule-complete k })
-        (rules r) (s.sound.productive r) (s.sighted r) ts u x d (rw (← s.more-is r) at st)
+      (rules r) (s.sound.productive r) (s.sighted r) ts u x d (rw (← s.more-is r) at st)
 
   abbrev pub ready : ℕ → Ready Ref tree
   ready k = record { base = base s.sound k; given = Within rules k; first = s.first; more = s.more; never = never s.sound k; begins = begins k; complete = rule-complete k }
@@ -35,19 +34,19 @@ module _ {Ref : Type 0} {tree : Ref → Type 0} {rules : (r : Ref) → Grammar R
 
   -- What is derived, with nothing behind it, is read.
   pub reads-whole : {A : Type 0} (k : ℕ) (g : Grammar Ref tree A) → is_productive g ≡ true → is_sighted s.first s.more g ≡ true → (ts : List Tok) (x : A)
-    → Derives (Within rules k) g ts x → read (reads rules k) g ts ≡ got x []
+      → Derives (Within rules k) g ts x → read (reads rules k) g ts ≡ got x []
   reads-whole k g p i ts x d = rw append-nil at (complete (ready k) g p i ts [] x d tt)
 
   -- What is read to the end is derived.
   pub derived : {A : Type 0} (k : ℕ) (g : Grammar Ref tree A) → is_productive g ≡ true → (ts : List Tok) (x : A)
-    → read (reads rules k) g ts ≡ got x [] → Derives (Within rules (suc k)) g ts x
+      → read (reads rules k) g ts ≡ got x [] → Derives (Within rules (suc k)) g ts x
   derived k g p ts x e =
       let (a, w, d) = got-good (Derives (Within rules (suc k)) g) ts (read (reads rules k) g ts) x [] (good (base s.sound k) g p ts) e in
       rw (w, append-nil) d
 
   -- The tokens before a bad one begin what is derived.
   pub begun : {A : Type 0} (k : ℕ) (g : Grammar Ref tree A) → is_productive g ≡ true → (ts u : List Tok)
-    → read (reads rules k) g ts ≡ bad u → (a : List Tok) × (ts ≡ a ++ u) × Opens (Derives (Within rules (suc k)) g) a
+      → read (reads rules k) g ts ≡ bad u → (a : List Tok) × (ts ≡ a ++ u) × Opens (Derives (Within rules (suc k)) g) a
   begun k g p ts u e = bad-good (Derives (Within rules (suc k)) g) ts (read (reads rules k) g ts) u (good (base s.sound k) g p ts) e
     where
       bad-good : {A : Type 0} (D : List Tok → A → Type 0) (ts : List Tok) (o : Outcome A) (u : List Tok) → Good D ts o → o ≡ bad u → (a : List Tok) × (ts ≡ a ++ u) × Opens D a
@@ -57,7 +56,7 @@ module _ {Ref : Type 0} {tree : Ref → Type 0} {rules : (r : Ref) → Grammar R
 
   -- No further tokens make what is derived of those up to a bad one.
   pub ended : {A : Type 0} (k : ℕ) (g : Grammar Ref tree A) → is_productive g ≡ true → is_sighted s.first s.more g ≡ true → (a : List Tok) (t : Tok) (u : List Tok)
-    → read (reads rules k) g (a ++ (t ∷ u)) ≡ bad (t ∷ u) → (v : List Tok) (x : A) → Derives (Within rules k) g (a ++ (t ∷ v)) x → ⊥
+      → read (reads rules k) g (a ++ (t ∷ u)) ≡ bad (t ∷ u) → (v : List Tok) (x : A) → Derives (Within rules k) g (a ++ (t ∷ v)) x → ⊥
   ended k g p i a t u e v x d =
       let h : Kept t u v (read (reads rules k) g (a ++ (t ∷ u))) (read (reads rules k) g (a ++ (t ∷ v))) = local t u v (base s.sound k) (rule-local t u v k) g p a in
       let h2 : read (reads rules k) g (a ++ (t ∷ v)) ≡ bad (t ∷ v) = refused t u v (read (reads rules k) g (a ++ (t ∷ v))) (rw e at h) in
@@ -85,20 +84,28 @@ module _ {Ref : Type 0} {tree : Ref → Type 0} {rules : (r : Ref) → Grammar R
         let (a, w, (c, x, b, d)) = begun k g p ts [] e in
         ((c, x, b, (suc k, moved (λ l. Derives (Within rules (suc k)) g l x) a ts c w d)), λ y q. let f : read (reads rules k) g ts ≡ got y [] = read-said y q in cc)
     refused-exact (t ∷ u) e =
-        let (a, w, (c, x, b, d)) = begun k g p ts (t ∷ u) e in
-        (a, w, (c, x, b, (suc k, d)), λ (v, y, _, (l, q)).
-          let d2 : Derives (Within rules (k + l)) g ((a ++ (t ∷ [])) ++ v) y = wider (Within rules l) (Within rules (k + l)) (deeper rules l (k + l) (omega arith)) g ((a ++ (t ∷ [])) ++ v) y q in
-          let e2 : read (reads rules (k + l)) g ts ≡ bad (t ∷ u) = sym (same_depth k (k + l) g p ts h (omega arith)).0 ∙ e in
-          ended (k + l) g p i a t u (rw w at e2) v y (rw append_assoc at d2))
+        let (a, w, (c, x, b, d)) = begun k g p ts (t ∷ u) e in (
+          a,
+          w,
+          (c, x, b, (suc k, d)),
+          λ (v, y, _, (l, q)).
+              let d2 : Derives (Within rules (k + l)) g ((a ++ (t ∷ [])) ++ v) y = wider (Within rules l) (Within rules (k + l)) (deeper rules l (k + l) (omega arith)) g ((a ++ (t ∷ [])) ++ v) y q in
+              let e2 : read (reads rules (k + l)) g ts ≡ bad (t ∷ u) = sym (same_depth k (k + l) g p ts h (omega arith)).0 ∙ e in
+              ended (k + l) g p i a t u (rw w at e2) v y (rw append_assoc at d2),
+        )
 
     -- A whole form with a token behind it: no text goes on with that token.
     pub refused-rest : (x : A) (t : Tok) (u : List Tok) → read (reads rules k) g ts ≡ got x (t ∷ u) → Refused rules g ts (t ∷ u)
     refused-rest x t u e =
-        let (a, w, d) = got-good (Derives (Within rules (suc k)) g) ts (read (reads rules k) g ts) x (t ∷ u) (good (base s.sound k) g p ts) e in
-        (a, w, ([], x, tt, (suc k, rw append-nil d)), λ (v, y, _, (l, q)).
-          let d2 : Derives (Within rules (k + l)) g ((a ++ (t ∷ [])) ++ v) y = wider (Within rules l) (Within rules (k + l)) (deeper rules l (k + l) (omega arith)) g ((a ++ (t ∷ [])) ++ v) y q in
-          let e2 : read (reads rules (k + l)) g ts ≡ got x (t ∷ u) = sym (same_depth k (k + l) g p ts h (omega arith)).0 ∙ e in
-          over (k + l) a t u x (rw w at e2) v y (rw append_assoc at d2))
+        let (a, w, d) = got-good (Derives (Within rules (suc k)) g) ts (read (reads rules k) g ts) x (t ∷ u) (good (base s.sound k) g p ts) e in (
+          a,
+          w,
+          ([], x, tt, (suc k, rw append-nil d)),
+          λ (v, y, _, (l, q)).
+              let d2 : Derives (Within rules (k + l)) g ((a ++ (t ∷ [])) ++ v) y = wider (Within rules l) (Within rules (k + l)) (deeper rules l (k + l) (omega arith)) g ((a ++ (t ∷ [])) ++ v) y q in
+              let e2 : read (reads rules (k + l)) g ts ≡ got x (t ∷ u) = sym (same_depth k (k + l) g p ts h (omega arith)).0 ∙ e in
+              over (k + l) a t u x (rw w at e2) v y (rw append_assoc at d2),
+        )
       where
         over : (m : ℕ) (a : List Tok) (t : Tok) (u : List Tok) (x : A) → read (reads rules m) g (a ++ (t ∷ u)) ≡ got x (t ∷ u) → (v : List Tok) (y : A) → Derives (Within rules m) g (a ++ (t ∷ v)) y → ⊥
         over m a t u x e v y d =
@@ -109,5 +116,13 @@ module _ {Ref : Type 0} {tree : Ref → Type 0} {rules : (r : Ref) → Grammar R
 
 -- A fault at a token is one of every longer text.
 pub refused-longer : {Ref : Type 0} {tree : Ref → Type 0} {A : Type 0} (rules : (r : Ref) → Grammar Ref tree (tree r)) (g : Grammar Ref tree A) (ts : List Tok) (t : Tok) (u more : List Tok)
-  → Refused rules g ts (t ∷ u) → Refused rules g (ts ++ more) (t ∷ (u ++ more))
+    → Refused rules g ts (t ∷ u) → Refused rules g (ts ++ more) (t ∷ (u ++ more))
 refused-longer rules g ts t u more (a, w, b, n) = (a, rw w (append_assoc a (t ∷ u) more), b, n)
+
+-- Tokens say one tree.
+pub one-tree : {Ref : Type 0} {tree : Ref → Type 0} {rules : (r : Ref) → Grammar Ref tree (tree r)} {A : Type 0} (s : Sighted Ref tree rules) (g : Grammar Ref tree A)
+    → is_productive g ≡ true → is_sighted s.first s.more g ≡ true → (ts : List Tok) (x y : A) → Says rules g ts x → Says rules g ts y → x ≡ y
+one-tree {rules = rules} s g p i ts x y d e =
+    let a : read (reads rules (suc (length ts))) g ts ≡ got x [] = read-said s g p i (suc (length ts)) ts (omega arith) x d in
+    let b : read (reads rules (suc (length ts))) g ts ≡ got y [] = read-said s g p i (suc (length ts)) ts (omega arith) y e in
+    cc

@@ -4,3 +4,6 @@ pub mod Complete
 pub mod Local
 pub mod Deep
 pub mod Exact
+pub mod Refusals
+pub mod Levels
+pub mod Lines

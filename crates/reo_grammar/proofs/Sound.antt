@@ -1,10 +1,10 @@
 -- What is got is derived, and what stands before a bad token begins something derived.
-use Rattle.std.proofs.Common.{◌≡◌, ℕ, zero, suc, ◌+◌, Bool, true, false, cond, List, [], ◌∷◌, ◌++◌, length, ◌⊎◌, inl, inr, refl, sym, ◌∙◌, ap, append_assoc, append-nil}
+use Rattle.std.proofs.Common.{◌≡◌, ℕ, zero, suc, Bool, true, false, cond, List, [], ◌∷◌, ◌++◌, length, inl, inr, refl, sym, ◌∙◌, ap, append_assoc, append-nil}
 use Rattle.reo_grammar.specs.Bytes.{and, or, is_not}
-use Rattle.reo_grammar.specs.Tokens.{Tok, Class, matches, is_real, AreReal}
-use Rattle.reo_grammar.specs.Conditions.{sample, is_inhabited, is_nullable, is_productive}
+use Rattle.reo_grammar.specs.Tokens.{Tok, Class, matches, AreReal}
+use Rattle.reo_grammar.specs.Conditions.{sample, is_nullable, is_productive}
 use Rattle.reo_grammar.specs.Language.{Sound}
-use Rattle.reo_grammar.specs.Grammar.{Grammar, Outcome, Derives, Links, read, reads, Within, loop, then, token_at, starts, line_of}
+use Rattle.reo_grammar.specs.Grammar.{Grammar, Outcome, Derives, Links, read, reads, Within, loop, then, starts, line_of}
 use Rattle.reo_grammar.specs.Grammar.Grammar.{nothing, token, both, made, either, chain, lined, rule}
 use Rattle.reo_grammar.specs.Grammar.Outcome.{got, bad, out}
 
@@ -36,7 +36,7 @@ Good D ts out = Unit {0}
 
 -- Something that is derived.
 pub some : {Ref : Type 0} {tree : Ref → Type 0} {A : Type 0} (R : (r : Ref) → List Tok → tree r → Type 0) (each : (r : Ref) → Some (R r))
-  (g : Grammar Ref tree A) → is_productive g ≡ true → Some (Derives R g)
+    (g : Grammar Ref tree A) → is_productive g ≡ true → Some (Derives R g)
 some R each (nothing x) p = ([], x, tt, (refl, refl))
 some R each (token c) p = (sample c ∷ [], sample c, (and-right _ _ p, tt), (refl, and-left _ _ p))
 some R each (both f g h) p =
@@ -51,10 +51,10 @@ some R each (rule r) p = each r
 
 -- A step after a first part.
 pub Good-then : {A B : Type 0} (D : List Tok → A → Type 0) (E : List Tok → B → Type 0) (ts : List Tok) (o : Outcome A) (k : A → List Tok → Outcome B)
-  → Good D ts o
-  → ((a s : List Tok) (x : A) → ts ≡ a ++ s → D a x → Good E ts (k x s))
-  → ((a : List Tok) (x : A) → D a x → Opens E a)
-  → Good E ts (then o k)
+    → Good D ts o
+    → ((a s : List Tok) (x : A) → ts ≡ a ++ s → D a x → Good E ts (k x s))
+    → ((a : List Tok) (x : A) → D a x → Opens E a)
+    → Good E ts (then o k)
 Good-then D E ts (got x s) k (a, e, d) next more = next a s x e d
 Good-then D E ts (bad s) k (a, e, (c, x, r, d)) next more = let (c', y, q, f) = more (a ++ c) x d in (a, e, (c ++ c', y, real-append c c' r q, rw (← append_assoc a c c') f))
 Good-then D E ts out k h next more = tt
@@ -81,7 +81,7 @@ append-empty (x ∷ a) b e = absurd (cc)
 
 -- What derives no token is nullable.
 pub null : {Ref : Type 0} {tree : Ref → Type 0} {A : Type 0} (R : (r : Ref) → List Tok → tree r → Type 0) (never : (r : Ref) (ts : List Tok) (x : tree r) → [] ≡ ts → R r ts x → ⊥)
-  (g : Grammar Ref tree A) (ts : List Tok) (x : A) → [] ≡ ts → Derives R g ts x → is_nullable g ≡ true
+    (g : Grammar Ref tree A) (ts : List Tok) (x : A) → [] ≡ ts → Derives R g ts x → is_nullable g ≡ true
 null R never (nothing y) ts x e d = refl
 null R never (token c) ts x e d = absurd (let k = e ∙ d.0 in cc)
 null R never (both f g h) ts x e (a, b, y, z, w, d1, d2, _) =
@@ -97,14 +97,14 @@ null R never (rule r) ts x e d = absurd (never r ts x e d)
 
 -- A part behind what was taken already.
 pub Good-after : {A B : Type 0} (D : List Tok → A → Type 0) (E : List Tok → B → Type 0) (f : A → B) (a s ts : List Tok) (o : Outcome A)
-  → ts ≡ a ++ s → Good D s o → ((b : List Tok) (y : A) → D b y → E (a ++ b) (f y)) → Good E ts (then o (λ y r. got (f y) r))
+    → ts ≡ a ++ s → Good D s o → ((b : List Tok) (y : A) → D b y → E (a ++ b) (f y)) → Good E ts (then o (λ y r. got (f y) r))
 Good-after D E f a s ts (got y r) e (b, w, d) k = (a ++ b, e ∙ ap (λ l. a ++ l) w ∙ sym (append_assoc a b r), k b y d)
 Good-after D E f a s ts (bad r) e (b, w, (c, y, q, d)) k =
     (a ++ b, e ∙ ap (λ l. a ++ l) w ∙ sym (append_assoc a b r), (c, f y, q, rw append_assoc (k (b ++ c) y d)))
 Good-after D E f a s ts out e h k = tt
 
 pub Good-map : {A : Type 0} (D E : List Tok → A → Type 0) (ts : List Tok) (o : Outcome A)
-  → ((a : List Tok) (x : A) → D a x → E a x) → Good D ts o → Good E ts o
+    → ((a : List Tok) (x : A) → D a x → E a x) → Good D ts o → Good E ts o
 Good-map D E ts (got x s) k (a, e, d) = (a, e, k a x d)
 Good-map D E ts (bad s) k (a, e, (c, x, q, d)) = (a, e, (c, x, q, k (a ++ c) x d))
 Good-map D E ts out k h = tt
@@ -129,21 +129,21 @@ abbrev pub Chained : {A B : Type 0} → (A → B → A) → (List Tok → A → 
 Chained f D H ts x = (n : ℕ) × Links f D H n ts x
 
 link-good : {A B : Type 0} (f : A → B → A) (D : List Tok → A → Type 0) (H : List Tok → B → Type 0) (whole a ts : List Tok) (m : ℕ) (x : A) (o : Outcome B) (k : A → List Tok → Outcome A)
-  → whole ≡ a ++ ts → Links f D H m a x → Good H ts o
-  → ((b r : List Tok) (y : B) → whole ≡ (a ++ b) ++ r → Links f D H (suc m) (a ++ b) (f x y) → Good (Chained f D H) whole (k (f x y) r))
-  → Good (Chained f D H) whole (then o (λ y r. k (f x y) r))
+    → whole ≡ a ++ ts → Links f D H m a x → Good H ts o
+    → ((b r : List Tok) (y : B) → whole ≡ (a ++ b) ++ r → Links f D H (suc m) (a ++ b) (f x y) → Good (Chained f D H) whole (k (f x y) r))
+    → Good (Chained f D H) whole (then o (λ y r. k (f x y) r))
 link-good f D H whole a ts m x (got y r) k e l (b, w, d) next = next b r y (e ∙ ap (λ t. a ++ t) w ∙ sym (append_assoc a b r)) (a, b, x, y, refl, l, d, refl)
 link-good f D H whole a ts m x (bad r) k e l (b, w, (c, y, q, d)) next =
     (a ++ b, e ∙ ap (λ t. a ++ t) w ∙ sym (append_assoc a b r), (c, f x y, q, (suc m, (a, b ++ c, x, y, append_assoc a b c, l, d, refl))))
 link-good f D H whole a ts m x out k e l h next = tt
 
 loop-good : {A B : Type 0} (f : A → B → A) (c : Class) (next : List Tok → Outcome B) (D : List Tok → A → Type 0) (H : List Tok → B → Type 0) → ((ts : List Tok) → Good H ts (next ts))
-  → (n : ℕ) (whole a ts : List Tok) (m : ℕ) (x : A) → whole ≡ a ++ ts → Links f D H m a x → Good (Chained f D H) whole (loop f c next n x ts)
+    → (n : ℕ) (whole a ts : List Tok) (m : ℕ) (x : A) → whole ≡ a ++ ts → Links f D H m a x → Good (Chained f D H) whole (loop f c next n x ts)
 loop-good f c next D H h zero whole a ts m x e l = (a, e, (m, l))
 loop-good f c next D H h (suc n) whole a ts m x e l =
     Good-if (Chained f D H) whole (starts c ts) _ _
-      (link-good f D H whole a ts m x (next ts) (λ z r. loop f c next n z r) e l (h ts) (λ b r y w l2. loop-good f c next D H h n whole (a ++ b) r (suc m) (f x y) w l2))
-      (a, e, (m, l))
+    (link-good f D H whole a ts m x (next ts) (λ z r. loop f c next n z r) e l (h ts) (λ b r y w l2. loop-good f c next D H h n whole (a ++ b) r (suc m) (f x y) w l2))
+    (a, e, (m, l))
 
 pub good : {Ref : Type 0} {tree : Ref → Type 0} {A : Type 0} (k : Base Ref tree) (g : Grammar Ref tree A) → is_productive g ≡ true → (ts : List Tok) → Good (Derives k.derives g) ts (read k.reader g ts)
 good k (nothing x) p ts = ([], refl, (refl, refl))
@@ -155,24 +155,24 @@ good k (token c) p (t ∷ ts) = tested (matches c t) refl
     tested false e = ([], refl, (sample c ∷ [], sample c, (and-right _ _ p, tt), (refl, and-left _ _ p)))
 good k (both f g h) p ts =
     Good-then (Derives k.derives g) (Derives k.derives (both f g h)) ts (read k.reader g ts) _ (good k g (and-left _ _ p) ts)
-      (λ a s x e d. Good-after (Derives k.derives h) (Derives k.derives (both f g h)) (f x) a s ts (read k.reader h s) e (good k h (and-right _ _ p) s)
-          (λ b y d2. (a, b, x, y, refl, d, d2, refl)))
-      (λ a x d. let (b, y, q, d2) = some k.derives k.each h (and-right _ _ p) in (b, f x y, q, (a, b, x, y, refl, d, d2, refl)))
+    (λ a s x e d. Good-after (Derives k.derives h) (Derives k.derives (both f g h)) (f x) a s ts (read k.reader h s) e (good k h (and-right _ _ p) s)
+    (λ b y d2. (a, b, x, y, refl, d, d2, refl)))
+    (λ a x d. let (b, y, q, d2) = some k.derives k.each h (and-right _ _ p) in (b, f x y, q, (a, b, x, y, refl, d, d2, refl)))
 good k (made f g) p ts =
     Good-after (Derives k.derives g) (Derives k.derives (made f g)) f [] ts ts (read k.reader g ts) refl (good k g p ts) (λ b y d. (y, d, refl))
 good k (either c g h) p ts =
     Good-if (Derives k.derives (either c g h)) ts (starts c ts) (read k.reader g ts) (read k.reader h ts)
-      (Good-map (Derives k.derives g) (Derives k.derives (either c g h)) ts (read k.reader g ts) (λ a x d. inl d) (good k g (and-left _ _ p) ts))
-      (Good-map (Derives k.derives h) (Derives k.derives (either c g h)) ts (read k.reader h ts) (λ a x d. inr d) (good k h (and-right _ _ p) ts))
+    (Good-map (Derives k.derives g) (Derives k.derives (either c g h)) ts (read k.reader g ts) (λ a x d. inl d) (good k g (and-left _ _ p) ts))
+    (Good-map (Derives k.derives h) (Derives k.derives (either c g h)) ts (read k.reader h ts) (λ a x d. inr d) (good k h (and-right _ _ p) ts))
 good k (chain f c g h) p ts =
     Good-then (Derives k.derives g) (Derives k.derives (chain f c g h)) ts (read k.reader g ts) _ (good k g (and-left _ _ (and-right _ _ p)) ts)
-      (λ a s x e d. loop-good f c (read k.reader h) (Derives k.derives g) (Derives k.derives h) (good k h (and-right _ _ (and-right _ _ p))) (length s) ts a s zero x e d)
-      (λ a x d. ([], x, tt, (zero, rw append-nil d)))
+    (λ a s x e d. loop-good f c (read k.reader h) (Derives k.derives g) (Derives k.derives h) (good k h (and-right _ _ (and-right _ _ p))) (length s) ts a s zero x e d)
+    (λ a x d. ([], x, tt, (zero, rw append-nil d)))
 good k (lined f g) p ts = lined-good f (read k.reader g ts) (Derives k.derives g) ts (good k g (and-right _ _ p) ts)
     (λ a x e d. not-true _ (and-left _ _ p) (null k.derives k.never g a x e d))
   where
     lined-good : {A B : Type 0} (f : ℕ → A → B) (o : Outcome A) (D : List Tok → A → Type 0) (ts : List Tok) → Good D ts o → ((a : List Tok) (x : A) → [] ≡ a → D a x → ⊥)
-      → Good (λ a z. (x : A) × D a x × (f (line_of a) x ≡ z)) ts (then o (λ x r. got (f (line_of ts) x) r))
+        → Good (λ a z. (x : A) × D a x × (f (line_of a) x ≡ z)) ts (then o (λ x r. got (f (line_of ts) x) r))
     lined-good f (got x s) D ts (a, e, d) h = (a, e, (x, d, ap (λ l. f l x) (sym (line_of-append a s (λ w. h a x w d)) ∙ ap line_of (sym e))))
     lined-good f (bad s) D ts (a, e, (c, x, q, d)) h = (a, e, (c, f (line_of (a ++ c)) x, q, (x, d, refl)))
     lined-good f out D ts g h = tt

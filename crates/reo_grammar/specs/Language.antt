@@ -1,5 +1,5 @@
 -- What a table of rules must meet to be read with one token of sight.
-use Rattle.std.specs.Prelude.{◌≡◌, ℕ, Bool, true, false, List}
+use Rattle.std.specs.Prelude.{◌≡◌, ℕ, true, false, List}
 use Rattle.reo_grammar.specs.Tokens.{Tok, Class, AreReal}
 use Rattle.reo_grammar.specs.Grammar.{Grammar, Derives, Within}
 use Rattle.reo_grammar.specs.Conditions.{is_nullable, is_productive, is_guarded}

@@ -4,4 +4,6 @@ pub mod Tokens
 pub mod Grammar
 pub mod Conditions
 pub mod Sight
+pub mod Levels
 pub mod Language
+pub mod Example

@@ -1,5 +1,5 @@
 -- One token of sight: which classes may begin a form, which may go on after it, and the test that these never meet.
-use Rattle.std.specs.Prelude.{◌≡◌, ℕ, zero, suc, ◌+◌, Bool, true, false, cond, List, [], ◌∷◌, ◌++◌, nat_le}
+use Rattle.std.specs.Prelude.{ℕ, Bool, true, false, cond, List, [], ◌∷◌, ◌++◌, nat_le}
 use Rattle.std.specs.Str.{bytes_eq}
 use Rattle.reo_grammar.specs.declared.kind.TokenKind.TheVariants as kinds
 use Rattle.reo_grammar.specs.Bytes.{and, or, is_not}

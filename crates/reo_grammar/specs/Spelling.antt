@@ -2,22 +2,22 @@
 use Rattle.std.specs.Prelude.{ℕ, ◌==◌, Bool, true, false, cond, List, [], ◌∷◌, nat_le, length, codes}
 use Rattle.reo_grammar.specs.declared.kind.TokenKind.{TokenKind}
 use Rattle.reo_grammar.specs.declared.kind.TokenKind.TheVariants as kinds
-use Rattle.reo_grammar.specs.Bytes.{and, or, is_not, is_digit, is_letter, is_name_byte, is_plain, is_escaped, each, one_of}
+use Rattle.reo_grammar.specs.Bytes.{and, is_not, is_digit, is_letter, is_name_byte, is_plain, is_escaped, each, one_of}
 
 -- The words that no name is.
 abbrev pub reserved : List (List ℕ)
 reserved =
     codes "type" ∷ codes "connector" ∷ codes "in" ∷ codes "out" ∷ codes "node" ∷ codes "sync" ∷ codes "lossy" ∷ codes "syncdrain"
-  ∷ codes "asyncdrain" ∷ codes "fifo1" ∷ codes "fifo" ∷ codes "filter" ∷ codes "map" ∷ codes "use" ∷ codes "with" ∷ codes "when"
-  ∷ codes "to" ∷ codes "unit" ∷ codes "bool" ∷ codes "int" ∷ codes "sym" ∷ codes "text" ∷ codes "pair" ∷ codes "it" ∷ codes "true"
-  ∷ codes "false" ∷ codes "first" ∷ codes "second" ∷ codes "length" ∷ codes "if" ∷ codes "component" ∷ codes "write" ∷ codes "take"
-  ∷ codes "within" ∷ codes "pause" ∷ codes "repeat" ∷ []
+    ∷ codes "asyncdrain" ∷ codes "fifo1" ∷ codes "fifo" ∷ codes "filter" ∷ codes "map" ∷ codes "use" ∷ codes "with" ∷ codes "when"
+    ∷ codes "to" ∷ codes "unit" ∷ codes "bool" ∷ codes "int" ∷ codes "sym" ∷ codes "text" ∷ codes "pair" ∷ codes "it" ∷ codes "true"
+    ∷ codes "false" ∷ codes "first" ∷ codes "second" ∷ codes "length" ∷ codes "if" ∷ codes "component" ∷ codes "write" ∷ codes "take"
+    ∷ codes "within" ∷ codes "pause" ∷ codes "repeat" ∷ []
 
 abbrev pub signs : List (List ℕ)
 signs =
     codes "(" ∷ codes ")" ∷ codes "{" ∷ codes "}" ∷ codes "," ∷ codes ";" ∷ codes ":" ∷ codes "." ∷ codes ".." ∷ codes "=" ∷ codes "=="
-  ∷ codes "!=" ∷ codes "<" ∷ codes "<=" ∷ codes ">" ∷ codes ">=" ∷ codes "+" ∷ codes "-" ∷ codes "*" ∷ codes "/" ∷ codes "%"
-  ∷ codes "&&" ∷ codes "||" ∷ codes "!" ∷ []
+    ∷ codes "!=" ∷ codes "<" ∷ codes "<=" ∷ codes ">" ∷ codes ">=" ∷ codes "+" ∷ codes "-" ∷ codes "*" ∷ codes "/" ∷ codes "%"
+    ∷ codes "&&" ∷ codes "||" ∷ codes "!" ∷ []
 
 -- A letter or `_`, and then letters, digits or `_`.
 abbrev pub is_spelled : List ℕ → Bool

@@ -63,3 +63,9 @@ matches name t = is_name t.kind
 matches (named b) t = and (is_name t.kind) (bytes_eq t.bytes b)
 matches (number low high) t = and (is_number t.kind) (and (nat_le low (number_from 0 t.bytes)) (nat_le (number_from 0 t.bytes) high))
 matches text t = is_text t.kind
+
+-- The same tokens, lines aside.
+abbrev pub Alike : List Tok → List Tok → Type 0
+Alike [] [] = Unit {0}
+Alike (t ∷ ts) (u ∷ us) = (t.kind ≡ u.kind) × (t.bytes ≡ u.bytes) × Alike ts us
+Alike _ _ = ⊥

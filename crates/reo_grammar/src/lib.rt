@@ -3,5 +3,13 @@
 #![tactic(auto)]
 
 mod kind;
+mod language;
 
 pub use kind::TokenKind;
+pub use language::{
+    Language, one_answer, one_tree, reading_is_exact, refusal_is_exact, refusal_of_front,
+    same_with_other_lines,
+};
+
+#[cfg(test)]
+mod tests;
