@@ -1,17 +1,30 @@
 -- How tokens are spelled: the bytes of each kind of token.
-use Rattle.std.specs.Prelude.{ℕ, ◌==◌, Bool, true, false, cond, List, [], ◌∷◌, nat_le, length, codes}
+use Rattle.std.specs.Prelude.{ℕ, ◌==◌, Bool, true, false, cond, List, [], ◌∷◌, ◌++◌, nat_le, length, codes}
 use Rattle.reo_grammar.specs.declared.kind.TokenKind.{TokenKind}
 use Rattle.reo_grammar.specs.declared.kind.TokenKind.TheVariants as kinds
 use Rattle.reo_grammar.specs.Bytes.{and, is_not, is_digit, is_letter, is_name_byte, is_plain, is_escaped, each, one_of}
 
--- The words that no name is.
+-- The words that no name is, in five groups.
+abbrev pub frame_words : List (List ℕ)
+frame_words =
+    codes "type" ∷ codes "connector" ∷ codes "in" ∷ codes "out" ∷ codes "node" ∷ codes "use" ∷ codes "with" ∷ codes "when" ∷ codes "to" ∷ []
+
+abbrev pub channel_words : List (List ℕ)
+channel_words =
+    codes "sync" ∷ codes "lossy" ∷ codes "syncdrain" ∷ codes "asyncdrain" ∷ codes "fifo1" ∷ codes "fifo" ∷ codes "filter" ∷ codes "map" ∷ []
+
+abbrev pub item_words : List (List ℕ)
+item_words =
+    codes "unit" ∷ codes "bool" ∷ codes "int" ∷ codes "sym" ∷ codes "text" ∷ codes "pair" ∷ codes "true" ∷ codes "false" ∷ []
+
+abbrev pub term_words : List (List ℕ)
+term_words = codes "it" ∷ codes "first" ∷ codes "second" ∷ codes "length" ∷ codes "if" ∷ []
+
+abbrev pub script_words : List (List ℕ)
+script_words = codes "component" ∷ codes "write" ∷ codes "take" ∷ codes "within" ∷ codes "pause" ∷ codes "repeat" ∷ []
+
 abbrev pub reserved : List (List ℕ)
-reserved =
-    codes "type" ∷ codes "connector" ∷ codes "in" ∷ codes "out" ∷ codes "node" ∷ codes "sync" ∷ codes "lossy" ∷ codes "syncdrain"
-    ∷ codes "asyncdrain" ∷ codes "fifo1" ∷ codes "fifo" ∷ codes "filter" ∷ codes "map" ∷ codes "use" ∷ codes "with" ∷ codes "when"
-    ∷ codes "to" ∷ codes "unit" ∷ codes "bool" ∷ codes "int" ∷ codes "sym" ∷ codes "text" ∷ codes "pair" ∷ codes "it" ∷ codes "true"
-    ∷ codes "false" ∷ codes "first" ∷ codes "second" ∷ codes "length" ∷ codes "if" ∷ codes "component" ∷ codes "write" ∷ codes "take"
-    ∷ codes "within" ∷ codes "pause" ∷ codes "repeat" ∷ []
+reserved = frame_words ++ (channel_words ++ (item_words ++ (term_words ++ script_words)))
 
 abbrev pub signs : List (List ℕ)
 signs =

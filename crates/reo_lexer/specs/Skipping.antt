@@ -1,0 +1,27 @@
+-- Parts of a text by where they end, as the reader of tokens finds them.
+use Rattle.std.specs.Prelude.{ℕ, ◌==◌, Bool, true, false, cond, List, [], ◌∷◌}
+use Rattle.reo_grammar.specs.Bytes.{is_not, is_plain, is_escaped}
+use Rattle.reo_lexer.specs.Gaps.{is_space, is_no_lf}
+
+-- What is left behind the gap in front. The flag says that a comment is open.
+abbrev pub behind : Bool → List ℕ → List ℕ
+behind true [] = []
+behind true (b ∷ bs) = behind (is_no_lf b) bs
+behind false [] = []
+behind false (b ∷ bs) = cond (is_space b) (behind false bs) (cond (b == 35) (behind true bs) (b ∷ bs))
+
+-- What is left behind the longest front of a class.
+abbrev pub past : (ℕ → Bool) → List ℕ → List ℕ
+past p [] = []
+past p (b ∷ bs) = cond (p b) (past p bs) (b ∷ bs)
+
+-- Where the inside of a text in quotes ends: what is left there, and whether a `\` stands before it. The flag says that one
+-- stands before the bytes.
+pub record Inside : Type 0 where
+  pub escape : Bool
+  pub left : List ℕ
+
+abbrev pub inside : Bool → List ℕ → Inside
+inside e [] = record { escape = e; left = [] }
+inside true (b ∷ bs) = cond (is_escaped b) (inside false bs) (record { escape = true; left = b ∷ bs })
+inside false (b ∷ bs) = cond (b == 92) (inside true bs) (cond (is_plain b) (inside false bs) (record { escape = false; left = b ∷ bs }))

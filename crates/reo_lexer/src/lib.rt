@@ -1,0 +1,8 @@
+//! Tokens of a text.
+#![tactic(auto)]
+
+mod token;
+mod words;
+
+pub use reo_grammar::TokenKind;
+pub use token::{LexFault, Token};
