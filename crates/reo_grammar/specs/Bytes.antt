@@ -33,6 +33,10 @@ is_plain b = and (and (nat_le 32 b) (nat_le b 126)) (and (is_not (b == 34)) (is_
 abbrev pub is_escaped : ℕ → Bool
 is_escaped b = or (b == 34) (b == 92)
 
+abbrev pub is_empty : List ℕ → Bool
+is_empty [] = true
+is_empty (b ∷ bs) = false
+
 -- Each byte is of a class.
 abbrev pub each : (ℕ → Bool) → List ℕ → Bool
 each p [] = true

@@ -2,7 +2,7 @@
 use Rattle.std.specs.Prelude.{ℕ, ◌==◌, Bool, true, false, cond, List, [], ◌∷◌, ◌++◌, nat_le, length, codes}
 use Rattle.reo_grammar.specs.declared.kind.TokenKind.{TokenKind}
 use Rattle.reo_grammar.specs.declared.kind.TokenKind.TheVariants as kinds
-use Rattle.reo_grammar.specs.Bytes.{and, is_not, is_digit, is_letter, is_name_byte, is_plain, is_escaped, each, one_of}
+use Rattle.reo_grammar.specs.Bytes.{and, is_not, is_digit, is_letter, is_name_byte, is_plain, is_escaped, is_empty, each, one_of}
 
 -- The words that no name is, in five groups.
 abbrev pub frame_words : List (List ℕ)
@@ -48,10 +48,6 @@ abbrev pub is_closed : Bool → List ℕ → Bool
 is_closed escape [] = false
 is_closed true (b ∷ bs) = and (is_escaped b) (is_closed false bs)
 is_closed false (b ∷ bs) = cond (b == 34) (is_empty bs) (cond (b == 92) (is_closed true bs) (and (is_plain b) (is_closed false bs)))
-  where
-    is_empty : List ℕ → Bool
-    is_empty [] = true
-    is_empty (b ∷ bs) = false
 
 -- The bytes have the form of a kind of token, a number's digits not counted.
 abbrev pub spells : TokenKind → List ℕ → Bool

@@ -1,6 +1,7 @@
 -- Parts of a text by where they end, as the reader of tokens finds them.
 use Rattle.std.specs.Prelude.{ℕ, ◌==◌, Bool, true, false, cond, List, [], ◌∷◌}
-use Rattle.reo_grammar.specs.Bytes.{is_not, is_plain, is_escaped}
+use Rattle.reo_grammar.specs.Bytes.{is_plain, is_escaped, one_of}
+use Rattle.reo_grammar.specs.Spelling.{signs}
 use Rattle.reo_lexer.specs.Gaps.{is_space, is_no_lf}
 
 -- What is left behind the gap in front. The flag says that a comment is open.
@@ -25,3 +26,9 @@ abbrev pub inside : Bool → List ℕ → Inside
 inside e [] = record { escape = e; left = [] }
 inside true (b ∷ bs) = cond (is_escaped b) (inside false bs) (record { escape = true; left = b ∷ bs })
 inside false (b ∷ bs) = cond (b == 92) (inside true bs) (cond (is_plain b) (inside false bs) (record { escape = false; left = b ∷ bs }))
+
+-- The length of the longest sign in front, 0 where there is none.
+abbrev pub sign_size : List ℕ → ℕ
+sign_size [] = 0
+sign_size (a ∷ []) = cond (one_of (a ∷ []) signs) 1 0
+sign_size (a ∷ b ∷ bs) = cond (one_of (a ∷ b ∷ []) signs) 2 (cond (one_of (a ∷ []) signs) 1 0)

@@ -1,6 +1,8 @@
 //! Tokens of a text.
 #![tactic(auto)]
 
+mod bytes;
+mod parts;
 mod token;
 mod words;
 
