@@ -5,3 +5,5 @@ pub mod Spelled
 pub mod Signs
 pub mod Fronts
 pub mod Once
+pub mod Found
+pub mod Reading

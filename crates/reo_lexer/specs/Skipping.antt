@@ -1,5 +1,11 @@
 -- Parts of a text by where they end, as the reader of tokens finds them.
-use Rattle.std.specs.Prelude.{ℕ, ◌==◌, Bool, true, false, cond, List, [], ◌∷◌}
+use Rattle.std.specs.Prelude.{ℕ, ◌+◌, ◌==◌, ◌≤◌, ◌<◌, Option, Some, None, Result, Ok, Err, Bool, true, false, cond, List, [], ◌∷◌, length, take, drop}
+use Rattle.reo_grammar.specs.declared.kind.TokenKind.{TokenKind}
+use Rattle.reo_lexer.specs.declared.token.Token.{Token}
+use Rattle.reo_lexer.specs.declared.token.LexFault.{LexFault}
+use Rattle.reo_lexer.specs.declared.token.LexFault.TheVariants as faults
+use Rattle.reo_lexer.specs.Lexing.{IsToken, Leads, AtEnd}
+use Rattle.reo_lexer.specs.Faults.{AtFault}
 use Rattle.reo_grammar.specs.Bytes.{is_plain, is_escaped, one_of}
 use Rattle.reo_grammar.specs.Spelling.{signs}
 use Rattle.reo_lexer.specs.Gaps.{is_space, is_no_lf}
@@ -32,3 +38,14 @@ abbrev pub sign_size : List ℕ → ℕ
 sign_size [] = 0
 sign_size (a ∷ []) = cond (one_of (a ∷ []) signs) 1 0
 sign_size (a ∷ b ∷ bs) = cond (one_of (a ∷ b ∷ []) signs) 2 (cond (one_of (a ∷ []) signs) 1 0)
+
+-- So many bytes in front are a token of the kind.
+abbrev pub IsFront : TokenKind → ℕ → List ℕ → Type 0
+IsFront kind n left = (n ≤ length left) × IsToken kind (take n left) (drop n left)
+
+-- What the next token is: none, where a gap alone is left; one that lies in the text, behind a gap; or the fault there.
+abbrev pub Finds : List ℕ → ℕ → ℕ → Result (Option Token) LexFault → Type 0
+Finds text at line (Ok None) = AtEnd line (drop at text)
+Finds text at line (Ok (Some t)) = Leads at line (drop at text) t (drop t.end text) × (at < t.end) × (t.end ≤ length text) × (t.line ≤ t.end + 1)
+Finds text at line (Err faults.NoMemory) = Unit {0}
+Finds text at line (Err f) = AtFault f line (drop at text)
