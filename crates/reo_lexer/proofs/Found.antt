@@ -129,7 +129,7 @@ text-wrong r e m i h b q =
         by false false true k h b q = absurd (cc)
         by false false false false h b q = refl
 
-take-all : (n : ℕ) (l : List ℕ) → length l ≤ n → take n l ≡ l
+pub take-all : (n : ℕ) (l : List ℕ) → length l ≤ n → take n l ≡ l
 take-all zero [] h = refl
 take-all (suc n) [] h = refl
 take-all zero (x ∷ l) h = absurd (omega arith)

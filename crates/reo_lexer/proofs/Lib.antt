@@ -7,3 +7,4 @@ pub mod Fronts
 pub mod Once
 pub mod Found
 pub mod Reading
+pub mod Next

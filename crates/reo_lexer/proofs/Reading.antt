@@ -5,6 +5,7 @@ use Rattle.reo_lexer.specs.declared.token.LexFault.{LexFault}
 use Rattle.reo_lexer.specs.declared.token.LexFault.TheVariants as faults
 use Rattle.reo_lexer.specs.Lexing.{Leads, Runs, AtEnd, IsTokens}
 use Rattle.reo_lexer.specs.Faults.{AtFault, IsFault, IsLexed, IsThese, IsThat}
+use Rattle.reo_lexer.specs.Skipping.{Finds}
 use Rattle.reo_lexer.proofs.Once.{Ending, EndsBy, once}
 use Rattle.reo_lexer.proofs.Once.Ending.{done, faulty}
 
@@ -39,3 +40,9 @@ only-that text (Err faults.NoMemory) f h i = tt
 only-that text (Err (faults.BadByte l)) f (us, h) (ts, i) = let e = (once (faulty (faults.BadByte l)) (faulty f) 0 1 text us ts h i).1 in cc
 only-that text (Err (faults.OpenText l)) f (us, h) (ts, i) = let e = (once (faulty (faults.OpenText l)) (faulty f) 0 1 text us ts h i).1 in cc
 only-that text (Err (faults.NumberTooLong l)) f (us, h) (ts, i) = let e = (once (faulty (faults.NumberTooLong l)) (faulty f) 0 1 text us ts h i).1 in cc
+
+pub lexed-fault : (text : List ℕ) (at line : ℕ) (ts : List Token) (f : LexFault) → SoFar text at line ts → Finds text at line (Err f) → IsLexed text (Err f)
+lexed-fault text at line ts (faults.BadByte l) h e = so_far-fault text at line ts (faults.BadByte l) h e
+lexed-fault text at line ts (faults.OpenText l) h e = so_far-fault text at line ts (faults.OpenText l) h e
+lexed-fault text at line ts (faults.NumberTooLong l) h e = so_far-fault text at line ts (faults.NumberTooLong l) h e
+lexed-fault text at line ts faults.NoMemory h e = tt

@@ -24,4 +24,4 @@ returns-then-inside-clause-err c =
       | then-inside-via-else-inside+then-rest-inside-ne34 w ↦ λ q. other-byte _ w.if-rest-inside-ne34.true ])))
 
 pub returns-clause-ok : goal.returns-clause-ok
-returns-clause-ok c = closed-at c.args.left.now c.requires.some c.requires.quote c.inside_of-inside.result.escape c.inside_of-inside.result.length c.inside_of-inside.ensures.rest c.if-inside.false (let k = c.inside_of-inside.ensures.within in omega arith) (sym c.is_break.ensures ∙ c.if-is_break.false)
+returns-clause-ok c = closed-at c.args.left.now c.requires.some c.requires.quote c.inside_of-inside.result.escape c.inside_of-inside.result.length c.inside_of-inside.ensures.rest c.if-inside.false (let k = c.inside_of-inside.ensures.within in omega arith) c.if-rest-inside-ne34.false
