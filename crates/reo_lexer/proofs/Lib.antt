@@ -8,3 +8,4 @@ pub mod Once
 pub mod Found
 pub mod Reading
 pub mod Next
+pub mod Spans

@@ -1,7 +1,8 @@
 //! Reading the tokens of a text.
-ghost use Rattle.std.specs.Prelude.{◌≡◌, ℕ, ◌+◌, ◌≤◌, ◌<◌, ◌^◌, length, drop, List, IfErr, Result};
-ghost use Rattle.reo_lexer.specs.Lexing.{Leads, AtEnd, IsTokens};
-ghost use Rattle.reo_lexer.specs.Faults.{AtFault, IsFault, IsLexed, IsThese, IsThat};
+ghost use Rattle.std.specs.Prelude.{◌≡◌, ◌+◌, ◌≤◌, ◌<◌, ◌^◌, length, List, IfOk, All};
+ghost use Rattle.reo_grammar.specs.Tokens.{AreReal};
+ghost use Rattle.reo_lexer.specs.Lexing.{IsTokens, Lies, toks_of};
+ghost use Rattle.reo_lexer.specs.Faults.{IsFault, IsLexed, IsThese, IsThat};
 ghost use Rattle.reo_lexer.specs.Skipping.{Finds};
 ghost use Rattle.reo_lexer.specs.declared.token.Token.{Token as TokenSpec};
 ghost use Rattle.reo_lexer.specs.declared.token.LexFault.{LexFault as FaultSpec};
@@ -59,6 +60,10 @@ pub fn lex(alloc: Global, text: &[u8]) -> Result<List<Token>, LexFault>
     ensures lexed { IsLexed text.now result }
     ensures tokens { (ts : List TokenSpec) → IsTokens text.now ts → IsThese ts result }
     ensures fault { (f : FaultSpec) → IsFault text.now f → IsThat f result }
+
+    // Each token's bytes lie in the text, and are spelled as its kind says.
+    ensures spans { IfOk result (λ ts. All (Lies text.now) ts) }
+    ensures real { IfOk result (λ ts. AreReal (toks_of text.now ts)) }
 {
     tokens_of(alloc, text)
 }
