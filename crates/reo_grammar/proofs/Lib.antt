@@ -1,0 +1,9 @@
+pub mod Sound
+pub mod Classes
+pub mod Complete
+pub mod Local
+pub mod Deep
+pub mod Exact
+pub mod Refusals
+pub mod Levels
+pub mod Lines

@@ -1,0 +1,9 @@
+pub mod Bytes
+pub mod Spelling
+pub mod Tokens
+pub mod Grammar
+pub mod Conditions
+pub mod Sight
+pub mod Levels
+pub mod Language
+pub mod Example

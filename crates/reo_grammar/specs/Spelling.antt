@@ -1,0 +1,64 @@
+-- How tokens are spelled: the bytes of each kind of token.
+use Rattle.std.specs.Prelude.{ℕ, ◌==◌, Bool, true, false, cond, List, [], ◌∷◌, ◌++◌, nat_le, length, codes}
+use Rattle.reo_grammar.specs.declared.kind.TokenKind.{TokenKind}
+use Rattle.reo_grammar.specs.declared.kind.TokenKind.TheVariants as kinds
+use Rattle.reo_grammar.specs.Bytes.{and, is_not, is_digit, is_letter, is_name_byte, is_plain, is_escaped, is_empty, each, one_of}
+
+-- The words that no name is, in five groups.
+abbrev pub frame_words : List (List ℕ)
+frame_words =
+    codes "type" ∷ codes "connector" ∷ codes "in" ∷ codes "out" ∷ codes "node" ∷ codes "use" ∷ codes "with" ∷ codes "when" ∷ codes "to" ∷ []
+
+abbrev pub channel_words : List (List ℕ)
+channel_words =
+    codes "sync" ∷ codes "lossy" ∷ codes "syncdrain" ∷ codes "asyncdrain" ∷ codes "fifo1" ∷ codes "fifo" ∷ codes "filter" ∷ codes "map" ∷ []
+
+abbrev pub item_words : List (List ℕ)
+item_words =
+    codes "unit" ∷ codes "bool" ∷ codes "int" ∷ codes "sym" ∷ codes "text" ∷ codes "pair" ∷ codes "true" ∷ codes "false" ∷ []
+
+abbrev pub term_words : List (List ℕ)
+term_words = codes "it" ∷ codes "first" ∷ codes "second" ∷ codes "length" ∷ codes "if" ∷ []
+
+abbrev pub script_words : List (List ℕ)
+script_words = codes "component" ∷ codes "write" ∷ codes "take" ∷ codes "within" ∷ codes "pause" ∷ codes "repeat" ∷ []
+
+abbrev pub reserved : List (List ℕ)
+reserved = frame_words ++ (channel_words ++ (item_words ++ (term_words ++ script_words)))
+
+abbrev pub signs : List (List ℕ)
+signs =
+    codes "(" ∷ codes ")" ∷ codes "{" ∷ codes "}" ∷ codes "," ∷ codes ";" ∷ codes ":" ∷ codes "." ∷ codes ".." ∷ codes "=" ∷ codes "=="
+    ∷ codes "!=" ∷ codes "<" ∷ codes "<=" ∷ codes ">" ∷ codes ">=" ∷ codes "+" ∷ codes "-" ∷ codes "*" ∷ codes "/" ∷ codes "%"
+    ∷ codes "&&" ∷ codes "||" ∷ codes "!" ∷ []
+
+-- A letter or `_`, and then letters, digits or `_`.
+abbrev pub is_spelled : List ℕ → Bool
+is_spelled [] = false
+is_spelled (b ∷ bs) = and (is_letter b) (each is_name_byte bs)
+
+-- One or more digits.
+abbrev pub is_digits : List ℕ → Bool
+is_digits [] = false
+is_digits (b ∷ bs) = and (is_digit b) (each is_digit bs)
+
+-- What stands behind the opening quote: plain bytes and escaped ones, and at the end, only there, the closing quote.
+-- The flag says that a `\` has come.
+abbrev pub is_closed : Bool → List ℕ → Bool
+is_closed escape [] = false
+is_closed true (b ∷ bs) = and (is_escaped b) (is_closed false bs)
+is_closed false (b ∷ bs) = cond (b == 34) (is_empty bs) (cond (b == 92) (is_closed true bs) (and (is_plain b) (is_closed false bs)))
+
+-- The bytes have the form of a kind of token, a number's digits not counted.
+abbrev pub spells : TokenKind → List ℕ → Bool
+spells kinds.Name b = and (is_spelled b) (is_not (one_of b reserved))
+spells kinds.Word b = one_of b reserved
+spells kinds.Number b = is_digits b
+spells kinds.Text [] = false
+spells kinds.Text (q ∷ b) = and (q == 34) (is_closed false b)
+spells kinds.Sign b = one_of b signs
+
+-- A number has at most 18 digits.
+abbrev pub is_short : TokenKind → List ℕ → Bool
+is_short kinds.Number b = nat_le (length b) 18
+is_short _ b = true

@@ -1,0 +1,11 @@
+pub mod Groups
+pub mod Skipped
+pub mod Quotes
+pub mod Spelled
+pub mod Signs
+pub mod Fronts
+pub mod Once
+pub mod Found
+pub mod Reading
+pub mod Next
+pub mod Spans

@@ -1,0 +1,20 @@
+-- What stands between tokens.
+use Rattle.std.specs.Prelude.{◌≡◌, ℕ, ◌==◌, Bool, true, false, List, [], ◌∷◌, ◌++◌, count_by}
+use Rattle.reo_grammar.specs.Bytes.{or, is_not, each}
+
+-- Space, tab, CR or LF.
+abbrev pub is_space : ℕ → Bool
+is_space b = or (b == 32) (or (b == 9) (or (b == 13) (b == 10)))
+
+abbrev pub is_no_lf : ℕ → Bool
+is_no_lf b = is_not (b == 10)
+
+-- Spaces, and comments from `#` to an LF.
+pub data IsGap : List ℕ → Type 0 where
+  no_gap : IsGap []
+  space : (b : ℕ) (g : List ℕ) → is_space b ≡ true → IsGap g → IsGap (b ∷ g)
+  comment : (c g : List ℕ) → each is_no_lf c ≡ true → IsGap g → IsGap (35 ∷ (c ++ (10 ∷ g)))
+
+-- The number of LFs.
+abbrev pub lines_in : List ℕ → ℕ
+lines_in bs = count_by (λ b. b == 10) bs

@@ -1,0 +1,48 @@
+-- The tokens of a text: gaps and tokens in turn, each token the longest that fits, with its span and its line.
+use Rattle.std.specs.Prelude.{◌≡◌, ℕ, ◌+◌, ◌-◌, ◌≤◌, ◌<◌, Bool, true, false, List, [], ◌∷◌, ◌++◌, length, take, drop, map, All}
+use Rattle.reo_grammar.specs.declared.kind.TokenKind.{TokenKind}
+use Rattle.reo_grammar.specs.Spelling.{spells, is_short}
+use Rattle.reo_grammar.specs.Tokens.{Tok, is_real}
+use Rattle.reo_lexer.specs.declared.token.Token.{Token}
+use Rattle.reo_lexer.specs.Gaps.{IsGap, lines_in}
+
+-- The bytes, with the rest behind them, are a token of a kind: spelled so, and no longer front is spelled as any token.
+pub record IsToken (kind : TokenKind) (bytes rest : List ℕ) : Type 0 where
+  pub spelled : spells kind bytes ≡ true
+  pub short : is_short kind bytes ≡ true
+  pub longest : (other : TokenKind) (more after : List ℕ) → rest ≡ more ++ after → spells other (bytes ++ more) ≡ true → more ≡ []
+
+-- At a place, on a line and with the text left there: a gap, and behind it the token, and behind that what is left.
+pub record Leads (at from : ℕ) (left : List ℕ) (t : Token) (after : List ℕ) : Type 0 where
+  pub gap : List ℕ
+  pub bytes : List ℕ
+  pub cut : left ≡ gap ++ (bytes ++ after)
+  pub between : IsGap gap
+  pub token : IsToken t.kind bytes after
+  pub start : t.start ≡ at + length gap
+  pub end : t.end ≡ t.start + length bytes
+  pub line : t.line ≡ from + lines_in gap
+
+-- From a place and a line on: these tokens with gaps before them, and then an end of some sort.
+abbrev pub Runs : (ℕ → List ℕ → Type 0) → ℕ → ℕ → List ℕ → List Token → Type 0
+Runs End at line left [] = End line left
+Runs End at line left (t ∷ ts) = (after : List ℕ) × Leads at line left t after × Runs End t.end t.line after ts
+
+-- A gap alone is left; at the end of a text an LF may be wanting.
+abbrev pub AtEnd : ℕ → List ℕ → Type 0
+AtEnd line left = IsGap (left ++ 10 ∷ [])
+
+-- The text is these tokens with gaps before, between and behind them.
+abbrev pub IsTokens : List ℕ → List Token → Type 0
+IsTokens text ts = Runs AtEnd 0 1 text ts
+
+-- A token as the grammar sees it.
+abbrev pub tok_of : List ℕ → Token → Tok
+tok_of text t = record { kind = t.kind; bytes = take (t.end - t.start) (drop t.start text); line = t.line }
+
+abbrev pub toks_of : List ℕ → List Token → List Tok
+toks_of text ts = map (tok_of text) ts
+
+-- The token's span lies in the text.
+abbrev pub Lies : List ℕ → Token → Type 0
+Lies text t = (t.start ≤ t.end) × (t.end ≤ length text)

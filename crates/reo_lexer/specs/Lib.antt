@@ -1,0 +1,4 @@
+pub mod Gaps
+pub mod Lexing
+pub mod Faults
+pub mod Skipping

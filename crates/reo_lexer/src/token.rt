@@ -1,0 +1,38 @@
+//! Tokens and faults.
+ghost use Rattle.std.specs.Prelude.{◌≡◌};
+use reo_grammar::TokenKind;
+use reo_values::NoMemory;
+
+/// A token of a text; its bytes are `text[start..end]`.
+#[derive(Clone, Copy, Debug, PartialEq, Eq)]
+pub struct Token {
+    pub kind: TokenKind,
+    /// The place of its first byte, from 0.
+    pub start: usize,
+    /// The place behind its last byte.
+    pub end: usize,
+    /// The line of its bytes, from 1.
+    pub line: u32,
+}
+
+/// Why a text has no tokens. Each line is counted from 1.
+#[derive(Clone, Copy, Debug, PartialEq, Eq)]
+pub enum LexFault {
+    /// A byte that begins no token, or one in a text in quotes that may not stand there; its line.
+    BadByte { line: u32 },
+    /// A text in quotes meets LF, CR or the end before its closing quote; the line of the opening one.
+    OpenText { line: u32 },
+    /// More than 18 digits in a row; their line.
+    NumberTooLong { line: u32 },
+    /// Want of memory.
+    NoMemory,
+}
+
+impl From<NoMemory> for LexFault {
+    ghost use Rattle.reo_lexer.specs.declared.token.LexFault.TheVariants.{NoMemory as OutOfMemory};
+    ghost from_gives = { λ _ e. e ≡ OutOfMemory };
+
+    fn from(_: NoMemory) -> Self {
+        LexFault::NoMemory
+    }
+}
