@@ -7,7 +7,6 @@ use crate::{
 use reo_values::{Bytes, List, NoMemory};
 use std::alloc::Global;
 use std::fs::{self, File};
-use std::io::{self, Read, Write};
 use std::process;
 use std::test::Fail;
 
@@ -35,22 +34,25 @@ fn two_puts(alloc: Global, sink: &mut MemorySink) -> Result<Bytes, NoMemory> {
     Ok(said)
 }
 
+/// The room, the most bytes of a call, the call that fails, and what `two_puts` says.
+const SINK_ROWS: [(usize, usize, u64, &[u8]); 8] = [
+    (9, 1, 0, b"..abcdz"),
+    (9, 1, 1, b"!.z"),
+    (9, 1, 2, b"!.az"),
+    (9, 1, 4, b"!.abcz"),
+    (9, 1, 5, b".!abcd"),
+    (9, 3, 2, b"!.abcz"),
+    (4, 9, 0, b".!abcd"),
+    (2, 3, 0, b"!!ab"),
+];
+
 #[test]
 fn a_memory_sink_takes_pieces(rt: HostRuntime) -> Result<(), Fail> {
     let alloc = rt.alloc();
-    for (room, piece, failing, said) in [
-        (9, 1, 0, b"..abcdz".as_slice()),
-        (9, 1, 1, b"!.z"),
-        (9, 1, 2, b"!.az"),
-        (9, 1, 4, b"!.abcz"),
-        (9, 1, 5, b".!abcd"),
-        (9, 3, 2, b"!.abcz"),
-        (4, 9, 0, b".!abcd"),
-        (2, 3, 0, b"!!ab"),
-    ] {
+    for (room, piece, failing, said) in SINK_ROWS {
         assert!(rt; 1 <= piece);
         let mut sink = MemorySink::new(alloc, room, piece, calls(alloc, failing, 0)?)?;
-        assert_eq!(rt; two_puts(alloc, &mut sink)?.as_slice(), said);
+        assert!(rt; two_puts(alloc, &mut sink)?.as_slice() == said);
     }
     Ok(())
 }
@@ -76,23 +78,25 @@ fn five_takes<S: Source>(alloc: Global, source: &mut S) -> Result<Bytes, NoMemor
     Ok(said)
 }
 
+/// The most bytes of a call, the calls that fail, and what `five_takes` says of `abc`.
+const SOURCE_ROWS: [(usize, u64, u64, &[u8]); 6] = [
+    (1, 0, 0, b"a|b|c|||"),
+    (1, 1, 0, b"!a|b|c||"),
+    (1, 2, 0, b"a|!b|c||"),
+    (1, 4, 5, b"a|b|c|!!"),
+    (9, 0, 0, b"ab|c||||"),
+    (2, 1, 3, b"!ab|!c||"),
+];
+
 #[test]
 fn a_memory_source_gives_pieces(rt: HostRuntime) -> Result<(), Fail> {
     let alloc = rt.alloc();
-    for (piece, failing, also_failing, said) in [
-        (1, 0, 0, b"a|b|c|||".as_slice()),
-        (1, 1, 0, b"!a|b|c||"),
-        (1, 2, 0, b"a|!b|c||"),
-        (1, 4, 5, b"a|b|c|!!"),
-        (9, 0, 0, b"ab|c||||"),
-        (2, 1, 3, b"!ab|!c||"),
-    ] {
+    for (piece, first, second, said) in SOURCE_ROWS {
         assert!(rt; 1 <= piece);
         let bytes = Bytes::from_slice(alloc, b"abc")?;
-        let failing = calls(alloc, failing, also_failing)?;
-        let mut source = MemorySource::new(alloc, bytes, piece, failing)?;
-        assert_eq!(rt; source.left(), b"abc".as_slice());
-        assert_eq!(rt; five_takes(alloc, &mut source)?.as_slice(), said);
+        let mut source = MemorySource::new(alloc, bytes, piece, calls(alloc, first, second)?)?;
+        assert!(rt; five_takes(alloc, &mut source)?.as_slice() == said);
+        assert!(rt; source.left().is_empty());
     }
     Ok(())
 }
@@ -131,26 +135,26 @@ fn fetched<F: Files>(
     Ok(said)
 }
 
+/// A name, a limit, the call that fails, and what `fetched` says of it in memory and surely.
+const FILE_ROWS: [(&[u8], u32, u64, &[u8], &[u8]); 8] = [
+    (b"a", 1, 0, b".q", b".q"),
+    (b"a", 0, 0, b">q", b">q"),
+    (b"ab", 3, 2, b".xyz", b".xyz"),
+    (b"ab", 2, 0, b">xyz", b">xyz"),
+    (b"ab", 1, 0, b">xy", b">xy"),
+    (b"ab", 3, 1, b"!", b".xyz"),
+    (b"abc", 9, 0, b"!", b"."),
+    (b"", 9, 0, b"!", b"."),
+];
+
 #[test]
 fn files_in_memory_are_found_by_their_whole_names(rt: HostRuntime) -> Result<(), Fail> {
     let alloc = rt.alloc();
-    for (name, limit, failing, said, surely_said) in [
-        (b"a".as_slice(), 1, 0, b".q".as_slice(), b".q".as_slice()),
-        (b"a", 0, 0, b">q", b">q"),
-        (b"ab", 3, 2, b".xyz", b".xyz"),
-        (b"ab", 2, 0, b">xyz", b">xyz"),
-        (b"ab", 1, 0, b">xy", b">xy"),
-        (b"ab", 3, 1, b"!", b".xyz"),
-        (b"abc", 9, 0, b"!", b"."),
-        (b"", 9, 0, b"!", b"."),
-    ] {
+    for (name, limit, failing, said, surely_said) in FILE_ROWS {
         let mut files = MemoryFiles::new(alloc, two_files(alloc)?, calls(alloc, failing, 0)?)?;
-        assert_eq!(rt; fetched(alloc, &mut files, name, limit)?.as_slice(), said);
+        assert!(rt; fetched(alloc, &mut files, name, limit)?.as_slice() == said);
         let mut files = SureFiles::new(alloc, two_files(alloc)?)?;
-        assert_eq!(rt;
-            fetched(alloc, &mut files, name, limit)?.as_slice(),
-            surely_said
-        );
+        assert!(rt; fetched(alloc, &mut files, name, limit)?.as_slice() == surely_said);
     }
     Ok(())
 }
@@ -176,90 +180,61 @@ fn fetch_surely(
 }
 
 #[test]
-fn the_sure_ones_never_fail(rt: HostRuntime) -> Result<(), Fail> {
+fn a_sure_sink_keeps_what_it_has_room_for(rt: HostRuntime) -> Result<(), Fail> {
     let alloc = rt.alloc();
     let mut sink = SureSink::new(alloc, 3)?;
-    for (piece, kept) in [
-        (b"ab".as_slice(), b"ab".as_slice()),
-        (b"cd", b"abc"),
-        (b"e", b"abc"),
-    ] {
-        assert_eq!(rt; put_surely(piece, &mut sink), Ok(()));
-        assert_eq!(rt; sink.bytes(), kept);
-    }
-    assert_eq!(rt; mark_of_put(b"a", &mut NullSink::new()), b'.');
-    let mut source = SureSource::new(alloc, Bytes::from_slice(alloc, b"abc")?)?;
-    assert_eq!(rt; source.left(), b"abc".as_slice());
-    assert_eq!(rt;
-        five_takes(alloc, &mut source)?.as_slice(),
-        b"ab|c||||".as_slice()
-    );
-    let mut files = SureFiles::new(alloc, two_files(alloc)?)?;
-    let mut room = Bytes::new(alloc);
-    assert_eq!(rt; fetch_surely(alloc, b"ab", &mut files, &mut room), Ok(()));
+    assert!(rt; put_surely(b"ab", &mut sink).is_ok());
+    assert!(rt; put_surely(b"cd", &mut sink).is_ok());
+    assert!(rt; put_surely(b"e", &mut sink).is_ok());
+    assert!(rt; sink.bytes() == b"abc".as_slice());
+    assert!(rt; mark_of_put(b"a", &mut NullSink::new()) == b'.');
     Ok(())
-}
-
-/// A reader that fails, and a writer that takes nothing.
-#[derive(Drop)]
-struct Broken;
-
-impl Read for Broken {
-    fn read(&mut self, _buf: &mut [u8]) -> io::Result<usize> {
-        Err(io::Error::from(io::ErrorKind::Other))
-    }
-}
-
-impl Write for Broken {
-    fn write(&mut self, _buf: &[u8]) -> io::Result<usize> {
-        Ok(0)
-    }
-
-    fn flush(&mut self) -> io::Result<()> {
-        Ok(())
-    }
 }
 
 #[test]
-fn the_real_source_and_sink_hand_faults_on(rt: HostRuntime) -> Result<(), Fail> {
+fn a_sure_source_gives_all(rt: HostRuntime) -> Result<(), Fail> {
     let alloc = rt.alloc();
-    assert_eq!(rt;
-        five_takes(alloc, &mut StdSource::new(Broken))?.as_slice(),
-        b"!!!!!".as_slice()
-    );
-    assert_eq!(rt; mark_of_put(b"a", &mut StdSink::new(Broken)), b'!');
+    let mut source = SureSource::new(alloc, Bytes::from_slice(alloc, b"abc")?)?;
+    assert!(rt; source.left() == b"abc".as_slice());
+    assert!(rt; five_takes(alloc, &mut source)?.as_slice() == b"ab|c||||".as_slice());
     Ok(())
+}
+
+/// Writes `abc` into a new file, and reads the file.
+fn write_and_read(rt: &HostRuntime, path: &str) -> Result<Bytes, Fail> {
+    let mut sink = StdSink::new(File::create(rt, path)?);
+    let mark = mark_of_put(b"abc", &mut sink);
+    let mut said = five_takes(rt.alloc(), &mut StdSource::new(File::open(rt, path)?))?;
+    said.push(mark)?;
+    Ok(said)
+}
+
+/// Puts into a file that is open for reading, and takes from one that is open for writing.
+fn the_wrong_way_round(rt: &HostRuntime, path: &str) -> Result<Bytes, Fail> {
+    let mark = mark_of_put(b"abc", &mut StdSink::new(File::open(rt, path)?));
+    let mut said = five_takes(rt.alloc(), &mut StdSource::new(File::create(rt, path)?))?;
+    said.push(mark)?;
+    Ok(said)
+}
+
+/// Limits, and what `fetched` says of a file that holds `abc`.
+const DISK_ROWS: [(u32, &[u8]); 4] = [(3, b".abc"), (2, b">abc"), (1, b">ab"), (0, b">a")];
+
+/// What is fetched of a file.
+fn disk_file(rt: &HostRuntime, path: &[u8], limit: u32) -> Result<Bytes, NoMemory> {
+    fetched(rt.alloc(), &mut DiskFiles::new(rt.alloc(), rt), path, limit)
 }
 
 #[test]
 fn the_real_ones_write_and_read_a_file(rt: HostRuntime) -> Result<(), Fail> {
-    let alloc = rt.alloc();
-    let path = format!(in alloc; "/tmp/reo_io_{}", process::id(rt.process()))?;
-    let mut sink = StdSink::new(File::create(&rt, path.as_str())?);
-    assert_eq!(rt; mark_of_put(b"abc", &mut sink), b'.');
-    let mut source = StdSource::new(File::open(&rt, path.as_str())?);
-    assert_eq!(rt;
-        five_takes(alloc, &mut source)?.as_slice(),
-        b"ab|c||||".as_slice()
-    );
-    let mut files = DiskFiles::new(alloc, &rt);
-    for (limit, said) in [
-        (3, b".abc".as_slice()),
-        (2, b">abc"),
-        (1, b">ab"),
-        (0, b">a"),
-    ] {
-        assert_eq!(rt;
-            fetched(alloc, &mut files, path.as_bytes(), limit)?.as_slice(),
-            said
-        );
+    let path = format!(in rt.alloc(); "/tmp/reo_io_{}", process::id(rt.process()))?;
+    assert!(rt; write_and_read(&rt, path.as_str())?.as_slice() == b"ab|c||||.".as_slice());
+    for (limit, said) in DISK_ROWS {
+        assert!(rt; disk_file(&rt, path.as_bytes(), limit)?.as_slice() == said);
     }
+    assert!(rt; the_wrong_way_round(&rt, path.as_str())?.as_slice() == b"!!!!!!".as_slice());
     fs::remove_file(&rt, path.as_str())?;
-    for name in [path.as_bytes(), b"\xff", b""] {
-        assert_eq!(rt;
-            fetched(alloc, &mut files, name, 9)?.as_slice(),
-            b"!".as_slice()
-        );
-    }
+    assert!(rt; disk_file(&rt, path.as_bytes(), 9)?.as_slice() == b"!".as_slice());
+    assert!(rt; disk_file(&rt, b"\xff", 9)?.as_slice() == b"!".as_slice());
     Ok(())
 }
