@@ -1,6 +1,6 @@
 -- Counts of faults, one call after another.
-use Rattle.std.proofs.Common.{◌≡◌, ℕ, ◌+◌, ◌-◌, ◌^◌, ◌≤◌, ◌∷◌, List, [], ◌++◌, length, min, ap, refl, arith, length-append}
-use Rattle.std.specs.Prelude.{Result, Ok, Err, OnErr, IsOk, IsErrOf}
+use Rattle.std.proofs.Common.{◌≡◌, ℕ, ◌≤◌, List, [], refl, arith}
+use Rattle.std.specs.Prelude.{Result, Ok, Err, IsOk, IsErrOf}
 use Rattle.reo_io.specs.Causes.{Rose, HasCause}
 use Rattle.reo_io.specs.Fetches.{failed_after}
 use Rattle.reo_io.specs.declared.files.FetchFault.{FetchFault}

@@ -4,7 +4,7 @@ use Rattle.std.specs.Option.{option_or}
 use Rattle.std.specs.Str.{bytes_eq}
 use Rattle.reo_io.specs.declared.files.Named.{Named}
 use Rattle.reo_io.specs.declared.files.FetchFault.{FetchFault}
-use Rattle.reo_io.specs.declared.files.FetchFault.TheVariants.{Failed, TooLong, NoMemory}
+use Rattle.reo_io.specs.declared.files.FetchFault.TheVariants.{Failed, TooLong}
 
 -- Files by their names, and what every other name stands for: an empty file, or none.
 pub record Folder : Type 0 where

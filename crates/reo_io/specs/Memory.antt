@@ -1,5 +1,5 @@
 -- What the objects in memory hold.
-use Rattle.std.specs.Prelude.{ℕ, List, [], Option, Some, None, if◌then◌else◌}
+use Rattle.std.specs.Prelude.{ℕ, List, None}
 use Rattle.reo_io.specs.Fetches.{Folder}
 use Rattle.reo_io.specs.declared.failing_calls.FailingCalls.{FailingCalls}
 use Rattle.reo_io.specs.declared.memory_files.MemoryFiles.{MemoryFiles}

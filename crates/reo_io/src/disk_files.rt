@@ -7,8 +7,7 @@ use crate::{FetchFault, Files};
 use reo_values::{Bytes, List};
 use std::alloc::Global;
 use std::fs::File;
-use std::io;
-use std::rt;
+use std::{io, rt};
 
 /// The files of the system, whose content is not told.
 #[derive(Drop)]

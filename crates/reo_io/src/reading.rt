@@ -46,13 +46,9 @@ pub(crate) fn read_file<F: Read>(
     match read_front(file, limit, room) {
         Ok(()) if room.len() <= limit => Ok(()),
         Ok(()) => Err(FetchFault::TooLong),
-        Err(FetchFault::NoMemory) => {
+        Err(fault) => {
             room.clear();
-            Err(FetchFault::NoMemory)
-        }
-        Err(_) => {
-            room.clear();
-            Err(FetchFault::Failed)
+            Err(fault)
         }
     }
 }

@@ -1,4 +1,4 @@
-use Rattle.std.proofs.Common.{◌∙◌, ◌+◌, ap, sym, ◌++◌, take, drop, refl, arith}
+use Rattle.std.proofs.Common.{◌∙◌, ap, sym, ◌++◌, take, drop, arith}
 use Rattle.std.proofs.lemmas.List.{drop-drop}
 use Rattle.reo_io.proofs.Slices.{take_all-drop, copied_to_front}
 use Rattle.reo_io.proofs.remaining.Remaining.move_to.Goals as goal
