@@ -12,16 +12,19 @@ use Rattle.reo_values.specs.declared.kindred.Kindred.{Kindred}
 use Rattle.reo_values.specs.Kind.{IsIn, IsPlain}
 use Rattle.reo_kinds.specs.Items.{is_item, is_plain}
 
+-- Two tests decide both facts.
 both_true : {a b : Bool} {P Q : Type 0} → Decides a P → Decides b Q → Decides (a && b) (P × Q)
 both_true {a = true} p q = (λ h. (p.0 refl, q.0 h), λ h. q.1 h.1)
 both_true {a = false} p q = (λ h. absurd cc, λ h. p.1 h.0)
 
+-- What never holds, and what always does.
 never : Decides false ⊥
 never = (λ h. absurd cc, λ h. absurd h)
 
 always : Decides true (Unit {0})
 always = (λ h. tt, λ h. refl)
 
+-- The order of numbers.
 nat_le-is : (a b : ℕ) → Decides (nat_le a b) (a ≤ b)
 nat_le-is a b = (λ h. grind (arith, nat_tests), λ h. grind (arith, nat_tests))
 
@@ -32,6 +35,7 @@ T_is false = (λ h. absurd cc, λ h. absurd h)
 le_z-is : (a b : ℤ) → Decides (le_z a b) (a ≤ℤ b)
 le_z-is a b = (λ h. le_z_yes ((T_is (le_z a b)).0 h), λ h. (T_is (le_z a b)).1 h.le)
 
+-- The bytes of a text.
 is_plain-is : (byte : ℕ) → Decides (is_plain byte) (IsPlain byte)
 is_plain-is byte = (λ h. (grind (arith, nat_tests), grind (arith, nat_tests)), λ h. grind (arith, nat_tests))
 
@@ -41,6 +45,7 @@ list_all-is bytes = (
   λ all. list_all-from_AllPass is_plain bytes (λ k d below. (is_plain-is (slice_index_or bytes k d)).1 (all k d below)),
 )
 
+-- The test of an item.
 pub is_item-is : (item : Value) (kindred : Kindred) → Decides (is_item item kindred) (IsIn item kindred)
 is_item-is value.Unit kindred.Unit = always
 is_item-is (value.Bool b) kindred.Bool = always
