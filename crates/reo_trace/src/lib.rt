@@ -4,6 +4,7 @@
 #![tactic(auto)]
 
 mod entries;
+mod idle;
 mod line;
 #[cfg(test)]
 mod tests;
@@ -11,6 +12,7 @@ mod text;
 mod write;
 
 pub use entries::line_of;
+pub use idle::idle_means_no_flow;
 pub use line::{Cell, Ending, Entry, RoundLine, Trace};
 pub use text::{ending_line_text, round_line_text};
 pub use write::{WriteFault, write_ending, write_round};
