@@ -1,15 +1,15 @@
 -- Joints and ends that do not flow.
-use Rattle.std.proofs.Common.{◌≡◌, ◌≢◌, ◌∙◌, ◌⊎◌, ◌&&◌, ◌||◌, inl, inr, ℕ, zero, suc, ◌<◌, Bool, true, false, not, List, [], ◌∷◌, length, get_or, ap, sym, refl, subst, arith}
-use Rattle.std.specs.Prelude.{IsTrue, ◌↔◌}
+use Rattle.std.proofs.Common.{◌≡◌, ◌≢◌, ◌∙◌, ◌⊎◌, ◌&&◌, ◌||◌, inl, inr, ℕ, zero, suc, ◌<◌, Bool, true, false, not, List, [], ◌∷◌, length, get_or, take, ◌+◌, ap, sym, refl, arith}
 use Rattle.std.specs.List.{list_all}
 use Rattle.std.proofs.lemmas.Bool.Decides.{nat_tests}
+use Rattle.std.proofs.lemmas.List.Folds.{list_all_at, list_all_more}
 use Rattle.reo_behaviour.specs.declared.mark.Mark.{Mark}
 use Rattle.reo_behaviour.specs.declared.mark.Mark.TheVariants.{F, G, R, J}
 use Rattle.reo_behaviour.specs.declared.joint.End.{End}
 use Rattle.reo_behaviour.specs.declared.joint.Joint.{Joint}
 use Rattle.reo_behaviour.specs.Marks.{is_flow}
 use Rattle.reo_behaviour.specs.Net.{Net, end_eq, end_of, is_at, mark_at}
-use Rattle.reo_behaviour.specs.Wired.{IsEnd, IsWired}
+use Rattle.reo_behaviour.specs.Wired.{IsWired}
 use Rattle.reo_trace.specs.Entries.{is_idle, is_still}
 use Rattle.reo_trace.specs.Idle.{NoEndFlows}
 
@@ -87,3 +87,13 @@ idle_ends net rows wired idle e is flows =
       | inl giver ↦ still.0 (ap (mark_at net rows) giver ∙ flows)
       | inr taker ↦ still.1 (ap (mark_at net rows) taker ∙ flows)
     ]
+
+-- what one joint says of all
+pub not_idle : (net : Net) (rows : List ℕ) (i : ℕ) (d : Joint) (answer : Bool) → i < length net.joints → answer ≡ is_still net rows (get_or net.joints i d) → answer ≡ false
+    → false ≡ is_idle net rows
+not_idle net rows i d answer lt e is = sym (list_all_at (is_still net rows) net.joints i d lt (sym e ∙ is))
+
+pub still_more : (net : Net) (rows : List ℕ) (i : ℕ) (d : Joint) (answer : Bool) → i < length net.joints → answer ≡ is_still net rows (get_or net.joints i d) → answer ≡ true
+    → list_all (is_still net rows) (take i net.joints) ≡ true → list_all (is_still net rows) (take (i + 1) net.joints) ≡ true
+still_more net rows i d answer lt e is before =
+    list_all_more (is_still net rows) net.joints i d lt ∙ ap (λ t. t && is_still net rows (get_or net.joints i d)) before ∙ sym e ∙ is

@@ -1,6 +1,8 @@
-//! The lines of a trace: what a round and an ending say, their texts, and the calls that write them.
+//! The lines of a trace: what a round and an ending say, their texts, and the calls that write
+//! them.
 //!
-//! A trace has one line for each round, with what flowed at the ports and the row of each side, and then one line that says how the run ended.
+//! A trace has one line for each round, with what flowed at the ports and the row of each side, and
+//! then one line that says how the run ended.
 #![tactic(auto)]
 
 mod entries;
