@@ -1,5 +1,5 @@
 -- What a round line says of a circuit's rows.
-use Rattle.std.specs.Prelude.{ℕ, ◌+◌, ◌==◌, ◌&&◌, ◌||◌, Bool, not, if◌then◌else◌, List, length, map}
+use Rattle.std.specs.Prelude.{ℕ, ◌+◌, ◌==◌, ◌||◌, Bool, not, if◌then◌else◌, List, length, map}
 use Rattle.std.specs.List.{list_all, range_with_len}
 use Rattle.reo_behaviour.specs.declared.colouring.Chosen.{Chosen}
 use Rattle.reo_behaviour.specs.declared.colouring.Move.{Move}

@@ -119,7 +119,9 @@ fn copy_moves(alloc: Global, moves: &[Move]) -> Result<List<Move>, NoMemory>
     Ok(made)
 }
 
-/// The line of a round in which the sides of the circuit have these rows and these items flow at its ports: whether any end flows, the moves, and for each primitive the numbers of its rows, of which the last of a side is its jam row.
+/// The line of a round in which the sides of the circuit have these rows and these items flow at
+/// its ports: whether any end flows, the moves, and for each primitive the numbers of its rows, of
+/// which the last of a side is its jam row.
 ///
 /// `NoMemory` is want of memory.
 pub fn line_of<P: Primitive>(

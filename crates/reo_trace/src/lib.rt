@@ -1,9 +1,12 @@
-//! The lines of a trace: what a round and an ending say, their texts, and the calls that write them.
+//! The lines of a trace: what a round and an ending say, their texts, and the calls that write
+//! them.
 //!
-//! A trace has one line for each round, with what flowed at the ports and the row of each side, and then one line that says how the run ended.
+//! A trace has one line for each round, with what flowed at the ports and the row of each side, and
+//! then one line that says how the run ended.
 #![tactic(auto)]
 
 mod entries;
+mod idle;
 mod line;
 #[cfg(test)]
 mod tests;
@@ -11,6 +14,7 @@ mod text;
 mod write;
 
 pub use entries::line_of;
+pub use idle::idle_means_no_flow;
 pub use line::{Cell, Ending, Entry, RoundLine, Trace};
 pub use text::{ending_line_text, round_line_text};
 pub use write::{WriteFault, write_ending, write_round};

@@ -9,7 +9,8 @@ use reo_values::{Bytes, Kindred, List, NoMemory, Value};
 use std::alloc::Global;
 use std::test::Fail;
 
-/// The in ports `a` and `c`, and the out port `b`, which all carry numbers, and the out port `t`, which carries texts.
+/// The in ports `a` and `c`, and the out port `b`, which all carry numbers, and the out port `t`,
+/// which carries texts.
 fn ports(alloc: Global) -> Result<Ports, NoMemory> {
     let mut list = List::new(alloc);
     for (name, way, kindred) in [

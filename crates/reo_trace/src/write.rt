@@ -41,7 +41,8 @@ impl From<SinkFault> for WriteFault {
 ///
 /// # Errors
 ///
-/// `Failed` comes only where the sink's count of faults rose: a front of the line was taken, and not the whole. `NoMemory` is want of memory: the sink stays as it was.
+/// `Failed` comes only where the sink's count of faults rose: a front of the line was taken, and
+/// not the whole. `NoMemory` is want of memory: the sink stays as it was.
 pub fn write_round<S: Sink>(
     alloc: Global,
     ports: &Ports,

@@ -3,7 +3,6 @@ ghost use Rattle.std.specs.Prelude.{◌≡◌, ◌++◌, IfOk, OnOk};
 ghost use Rattle.std.specs.List.{flat_map};
 ghost use Rattle.std.specs.Fmt.{signed_decimal};
 ghost use Rattle.reo_values.specs.ItemText.{escape, quoted, text_of};
-ghost use Rattle.reo_values.specs.Kind.{IsIn};
 
 use crate::{Bytes, Kindred, NoMemory, Value, number_text};
 use std::alloc::Global;
@@ -72,9 +71,9 @@ fn append_text(
 
 /// The text of an item of a type: `unit`, `true` or `false`, a number's decimal, a name, a text
 /// in quotes with `\"` and `\\` for a quote and a backslash in it, or a pair as `(left,right)`
-/// without spaces. `NoMemory` is want of memory.
+/// without spaces. An item of another kind than the type's has the empty text. `NoMemory` is want
+/// of memory.
 pub fn value_text(alloc: Global, item: &Value, kindred: &Kindred) -> Result<Bytes, NoMemory>
-    requires { IsIn item.now kindred.now }
     ensures { IfOk result (λ text. text ≡ text_of item.now kindred.now) }
 {
     let mut text = Bytes::new(alloc);
