@@ -37,3 +37,6 @@ pub use value::{Couple, Value, copy, same_item};
 /// Want of memory.
 #[derive(Clone, Copy, Debug, PartialEq, Eq)]
 pub struct NoMemory;
+
+#[cfg(test)]
+mod tests;
