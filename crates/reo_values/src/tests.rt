@@ -68,71 +68,100 @@ fn has_text(
     Ok(())
 }
 
-#[test]
-fn texts_of_items(rt: HostRuntime) -> Result<(), Fail> {
-    let alloc = rt.alloc();
-    let (deep, deep_type) = nested(alloc, 8)?;
-    for (item, kindred, written) in [
-        (Value::Unit, Kindred::Unit, b"unit".as_slice()),
-        (Value::Bool(true), Kindred::Bool, b"true".as_slice()),
-        (Value::Bool(false), Kindred::Bool, b"false".as_slice()),
-        (Value::Int(0), Kindred::Int(-1, 9), b"0".as_slice()),
-        (Value::Int(-120), Kindred::Int(-120, -120), b"-120".as_slice()),
-        (
-            Value::Int(1000000000),
-            Kindred::Int(-1000000000, 1000000000),
-            b"1000000000".as_slice(),
-        ),
-        (Value::Sym(0), colours(alloc)?, b"red".as_slice()),
-        (Value::Sym(1), colours(alloc)?, b"redder".as_slice()),
-        (Value::Sym(2), colours(alloc)?, b"_1".as_slice()),
-        (text(alloc, b"")?, Kindred::Text(0), b"\"\"".as_slice()),
-        (text(alloc, b"a ~")?, Kindred::Text(3), b"\"a ~\"".as_slice()),
-        (text(alloc, b"\"\\")?, Kindred::Text(2), b"\"\\\"\\\\\"".as_slice()),
-        (
-            pair(alloc, Value::Int(-3), text(alloc, b",)\"")?)?,
-            pair_type(alloc, Kindred::Int(-3, 3), Kindred::Text(9))?,
-            b"(-3,\",)\\\"\")".as_slice(),
-        ),
-        (
-            deep,
-            deep_type,
-            b"((((((((7,unit),unit),unit),unit),unit),unit),unit),unit)".as_slice(),
-        ),
-    ] {
-        has_text(&rt, alloc, &item, &kindred, written)?;
-    }
-    Ok(())
-}
-
-#[test]
-fn texts_of_no_item(rt: HostRuntime) -> Result<(), Fail> {
-    let alloc = rt.alloc();
-    for (kindred, text) in [
-        (Kindred::Unit, b"unit ".as_slice()),
-        (Kindred::Bool, b"tru".as_slice()),
-        (Kindred::Int(-9, 9), b"-0".as_slice()),
-        (Kindred::Int(-9, 9), b"05".as_slice()),
-        (Kindred::Int(-9, 9), b"+5".as_slice()),
-        (Kindred::Int(-9, 9), b"10".as_slice()),
-        (Kindred::Int(-9, 9), b"5,".as_slice()),
-        (Kindred::Int(-9, 9), b"".as_slice()),
-        (colours(alloc)?, b"re".as_slice()),
-        (Kindred::Text(2), b"\"abc\"".as_slice()),
-        (Kindred::Text(2), b"\"a".as_slice()),
-        (Kindred::Text(2), b"\"\\a\"".as_slice()),
-        (Kindred::Text(2), b"\"\n\"".as_slice()),
-        (Kindred::Text(2), b"\"a\"b".as_slice()),
-        (pair_type(alloc, Kindred::Unit, Kindred::Bool)?, b"(unit, true)".as_slice()),
-        (pair_type(alloc, Kindred::Unit, Kindred::Bool)?, b"(unit,true".as_slice()),
-    ] {
-        assert!(rt; is_valid(&kindred));
-        match read_value(alloc, text, &kindred) {
+fn has_no_item(
+    rt: &impl Abort,
+    alloc: Global,
+    kindred: &Kindred,
+    texts: &[&[u8]],
+) -> Result<(), Fail> {
+    assert!(rt; is_valid(kindred));
+    for text in texts {
+        match read_value(alloc, text, kindred) {
             Ok(_) => assert!(rt; false, "{text:?}"),
             Err(fault) => assert_eq!(rt; fault, ReadFault::NotALiteral),
         }
     }
     Ok(())
+}
+
+#[test]
+fn texts_of_plain_items(rt: HostRuntime) -> Result<(), Fail> {
+    let alloc = rt.alloc();
+    has_text(&rt, alloc, &Value::Unit, &Kindred::Unit, b"unit")?;
+    has_text(&rt, alloc, &Value::Bool(true), &Kindred::Bool, b"true")?;
+    has_text(&rt, alloc, &Value::Bool(false), &Kindred::Bool, b"false")?;
+    for (number, text) in [
+        (0, b"0".as_slice()),
+        (-120, b"-120".as_slice()),
+        (1000000000, b"1000000000".as_slice()),
+    ] {
+        let kindred = Kindred::Int(-1000000000, 1000000000);
+        has_text(&rt, alloc, &Value::Int(number), &kindred, text)?;
+    }
+    let colours = colours(alloc)?;
+    for (place, text) in [
+        (0, b"red".as_slice()),
+        (1, b"redder".as_slice()),
+        (2, b"_1".as_slice()),
+    ] {
+        has_text(&rt, alloc, &Value::Sym(place), &colours, text)?;
+    }
+    for (bytes, written) in [
+        (b"".as_slice(), b"\"\"".as_slice()),
+        (b"a ~".as_slice(), b"\"a ~\"".as_slice()),
+        (b"\"\\".as_slice(), b"\"\\\"\\\\\"".as_slice()),
+    ] {
+        has_text(&rt, alloc, &text(alloc, bytes)?, &Kindred::Text(3), written)?;
+    }
+    Ok(())
+}
+
+#[test]
+fn texts_of_pairs(rt: HostRuntime) -> Result<(), Fail> {
+    let alloc = rt.alloc();
+    let item = pair(alloc, Value::Int(-3), text(alloc, b",)\"")?)?;
+    let kindred = pair_type(alloc, Kindred::Int(-3, 3), Kindred::Text(9))?;
+    has_text(&rt, alloc, &item, &kindred, b"(-3,\",)\\\"\")")?;
+    has_no_item(
+        &rt,
+        alloc,
+        &kindred,
+        &[
+            b"(-3, \"\")",
+            b"(-3,\"\"",
+            b"(-3)",
+            b"(-3,\"\"))",
+            b"-3,\"\"",
+        ],
+    )?;
+    let (item, kindred) = nested(alloc, 8)?;
+    has_text(
+        &rt,
+        alloc,
+        &item,
+        &kindred,
+        b"((((((((7,unit),unit),unit),unit),unit),unit),unit),unit)",
+    )
+}
+
+#[test]
+fn texts_of_no_item(rt: HostRuntime) -> Result<(), Fail> {
+    let alloc = rt.alloc();
+    has_no_item(&rt, alloc, &Kindred::Unit, &[b"unit ", b"Unit", b""])?;
+    has_no_item(&rt, alloc, &Kindred::Bool, &[b"tru", b"truee"])?;
+    has_no_item(
+        &rt,
+        alloc,
+        &Kindred::Int(-9, 9),
+        &[b"-0", b"05", b"+5", b"10", b"-10", b"5,", b""],
+    )?;
+    has_no_item(&rt, alloc, &colours(alloc)?, &[b"re", b"reddest", b""])?;
+    has_no_item(
+        &rt,
+        alloc,
+        &Kindred::Text(2),
+        &[b"\"abc\"", b"\"a", b"a\"", b"\"\\a\"", b"\"\n\"", b"\"a\"b"],
+    )
 }
 
 #[test]
@@ -198,7 +227,10 @@ fn lists_grow(rt: HostRuntime) -> Result<(), Fail> {
     assert_eq!(rt; *list.at(1), 5);
     *list.at_mut(1) = 6;
     assert_eq!(rt; list.get(1).copied(), Some(6));
-    assert_eq!(rt; list.copied(alloc)?.into_vec().as_slice(), [3, 6, 7].as_slice());
+    assert_eq!(rt;
+        list.copied(alloc)?.into_vec().as_slice(),
+        [3, 6, 7].as_slice()
+    );
     assert_eq!(rt; list.pop(), Some(7));
     list.truncate(1);
     assert_eq!(rt; list.as_slice(), [3].as_slice());
