@@ -90,7 +90,7 @@ text_none most old none item rest h e =
 -- an item of a type of pairs has two parts, whose texts stand in its own
 pub pair_parts : (k : Kindred) (y : Twins) (old : List ℕ) → k ≡ kinds.Pair y → (item : Value) (rest : List ℕ) → IsIn item k → old ≡ text_of item k ++ rest
     → (x : Couple) × (item ≡ values.Pair x) × IsIn x.left y.left × IsIn x.right y.right
-      × (old ≡ 40 ∷ (text_of x.left y.left ++ 44 ∷ (text_of x.right y.right ++ 41 ∷ rest)))
+    × (old ≡ 40 ∷ (text_of x.left y.left ++ 44 ∷ (text_of x.right y.right ++ 41 ∷ rest)))
 pair_parts k y old p item rest h e =
     let x = in_pair y item (subst (λ t. IsIn item t) p h) in
     (x.0, x.1, x.2, x.3, e ∙ (λ i. text_of (x.1 i) (p i) ++ rest) ∙ pair_text x.0 y rest)
@@ -126,10 +126,11 @@ module _ (k : Kindred) (y : Twins) (old : List ℕ) (p : k ≡ kinds.Pair y) whe
   pair_found couple left right old1 new1 old2 new2 new made g h a b c d e =
       let pair : Couple = record { left = left; right = right } in
       let whole : old ≡ 40 ∷ (text_of left y.left ++ 44 ∷ (text_of right y.right ++ 41 ∷ new)) =
-          a ∙ ap (λ l. 40 ∷ l) (b ∙ ap (λ l. text_of left y.left ++ l) (c ∙ ap (λ l. 44 ∷ l) (d ∙ ap (λ l. text_of right y.right ++ l) e))) in
-      let member : IsIn (values.Pair pair) (kinds.Pair y) = rw (IsIn-Pair pair y) (g, h) in
-      (subst (λ t. IsIn (values.Pair couple) t) (sym p) (subst (λ v. IsIn (values.Pair v) (kinds.Pair y)) (sym made) member),
-       whole ∙ sym (pair_text pair y new) ∙ sym (λ i. text_of (values.Pair (made i)) (p i) ++ new))
+      a ∙ ap (λ l. 40 ∷ l) (b ∙ ap (λ l. text_of left y.left ++ l) (c ∙ ap (λ l. 44 ∷ l) (d ∙ ap (λ l. text_of right y.right ++ l) e))) in
+      let member : IsIn (values.Pair pair) (kinds.Pair y) = rw (IsIn-Pair pair y) (g, h) in (
+        subst (λ t. IsIn (values.Pair couple) t) (sym p) (subst (λ v. IsIn (values.Pair v) (kinds.Pair y)) (sym made) member),
+        whole ∙ sym (pair_text pair y new) ∙ sym (λ i. text_of (values.Pair (made i)) (p i) ++ new),
+      )
 
   module _ (item : Value) (rest : List ℕ) (h : IsIn item k) (e : old ≡ text_of item k ++ rest) where
     abbrev pub couple_of : Couple

@@ -32,7 +32,7 @@ pub pair_text : (x : Couple) (y : Twins) (r : List ℕ)
 pair_text x y r =
     ap (λ l. l ++ r) (text_of-Pair x y)
     ∙ ap (λ l. 40 ∷ l) (append_assoc (text_of x.left y.left ++ 44 ∷ text_of x.right y.right) (41 ∷ []) r
-      ∙ append_assoc (text_of x.left y.left) (44 ∷ text_of x.right y.right) (41 ∷ r))
+    ∙ append_assoc (text_of x.left y.left) (44 ∷ text_of x.right y.right) (41 ∷ r))
 
 -- the same equation where the items are given by equations
 along : (k : Kindred) (a b a' b' : Value) (r s : List ℕ) → a ≡ a' → b ≡ b' → text_of a k ++ r ≡ text_of b k ++ s → text_of a' k ++ r ≡ text_of b' k ++ s
@@ -78,7 +78,7 @@ text_unique (kindred.Int low high) a b r s valid h g p q e =
     let x = in_int low high a h in
     let y = in_int low high b g in
     let same = number_unique x.0 y.0 r s (fits_between low high x.0 valid.0 valid.1 x.2 x.3) (fits_between low high y.0 valid.0 valid.1 y.2 y.3) p q
-        (along (kinds.Int low high) a b (values.Int x.0) (values.Int y.0) r s x.1 y.1 e) in
+    (along (kinds.Int low high) a b (values.Int x.0) (values.Int y.0) r s x.1 y.1 e) in
     (x.1 ∙ ap values.Int same.0 ∙ sym y.1, same.1)
 text_unique (kindred.Sym names) a b r s valid h g p q e =
     let x = in_sym names a h in

@@ -23,7 +23,7 @@ escaped_unique [] (b ∷ bs) r s e = absurd (escape_no-quote b (flat_map escape 
 escaped_unique (a ∷ as') [] r s e = absurd (escape_no-quote a (flat_map escape as' ++ 34 ∷ r) s (sym (append_assoc (escape a) (flat_map escape as') (34 ∷ r)) ∙ e))
 escaped_unique (a ∷ as') (b ∷ bs) r s e =
     let first = escape_unique a b (flat_map escape as' ++ 34 ∷ r) (flat_map escape bs ++ 34 ∷ s)
-        (sym (append_assoc (escape a) (flat_map escape as') (34 ∷ r)) ∙ e ∙ append_assoc (escape b) (flat_map escape bs) (34 ∷ s)) in
+    (sym (append_assoc (escape a) (flat_map escape as') (34 ∷ r)) ∙ e ∙ append_assoc (escape b) (flat_map escape bs) (34 ∷ s)) in
     let more = escaped_unique as' bs r s first.1 in
     ((λ i. first.0 i ∷ more.0 i), more.1)
 
@@ -42,5 +42,5 @@ quoted_none [] (b ∷ bs) left rest e end none = none b (flat_map escape bs ++ 3
 quoted_none (m ∷ ms) [] left rest e end none = escape_no-quote m (flat_map escape ms ++ left) rest (sym (append_assoc (escape m) (flat_map escape ms) left) ∙ e)
 quoted_none (m ∷ ms) (b ∷ bs) left rest e end none =
     let first = escape_unique m b (flat_map escape ms ++ left) (flat_map escape bs ++ 34 ∷ rest)
-        (sym (append_assoc (escape m) (flat_map escape ms) left) ∙ e ∙ append_assoc (escape b) (flat_map escape bs) (34 ∷ rest)) in
+    (sym (append_assoc (escape m) (flat_map escape ms) left) ∙ e ∙ append_assoc (escape b) (flat_map escape bs) (34 ∷ rest)) in
     quoted_none ms bs left rest first.1 end none

@@ -13,5 +13,4 @@ pub fn one_item_for_each_text(a: &Value, b: &Value, kindred: &Kindred)
     requires b_in { IsIn b.now kindred.now }
     requires same { text_of a.now kindred.now ≡ text_of b.now kindred.now }
     ensures { a.now ≡ b.now }
-{
-}
+{}

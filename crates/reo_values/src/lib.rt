@@ -17,6 +17,7 @@ mod list;
 mod number;
 mod reader;
 mod reading;
+mod valid;
 mod value;
 
 pub use boxed::Boxed;
@@ -30,8 +31,12 @@ pub use laws::one_item_for_each_text;
 pub use list::List;
 pub use number::{number_text, read_number};
 pub use reading::read_value;
+pub use valid::{is_name, is_valid};
 pub use value::{Couple, Value, copy, same_item};
 
 /// Want of memory.
 #[derive(Clone, Copy, Debug, PartialEq, Eq)]
 pub struct NoMemory;
+
+#[cfg(test)]
+mod tests;

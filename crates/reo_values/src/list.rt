@@ -1,5 +1,5 @@
 //! A list that contracts see as a plain list.
-ghost use Rattle.std.specs.Prelude.{◌≡◌, ◌==◌, ◌<◌, [], ◌∷◌, ◌++◌, length, take, OnOk, OnErr, slice_get, slice_index_or, option_copied, option_to_list};
+ghost use Rattle.std.specs.Prelude.{◌≡◌, ◌==◌, ◌<◌, [], ◌∷◌, ◌++◌, length, take, OnOk, OnErr, MatchOption, slice_get, slice_index_or, option_copied};
 
 use crate::NoMemory;
 use std::alloc::Global;
@@ -96,9 +96,9 @@ impl<T> List<T> {
         &mut self.vec[index]
     }
 
-    /// Takes the last item out, or answers None where there is none.
+    /// Takes the last item out, or answers None exactly where there is none.
     pub fn pop(&mut self) -> Option<T>
-        ensures { self.old ≡ self.new ++ option_to_list result }
+        ensures { MatchOption result ((self.old ≡ []) × (self.new ≡ [])) (λ last. self.old ≡ self.new ++ last ∷ []) }
     {
         self.vec.pop()
     }

@@ -1,5 +1,5 @@
 //! What is left of a text while it is read.
-ghost use Rattle.std.specs.Prelude.{◌≡◌, ◌≢◌, ◌==◌, ◌++◌, ◌∷◌, [], ◌≤◌, ℕ, List, length, take, drop, OnOk, IsErrOf, MatchOption};
+ghost use Rattle.std.specs.Prelude.{◌≡◌, ◌≢◌, ◌==◌, ◌++◌, ◌∷◌, [], ◌≤◌, ℕ, List, length, take, drop, OnOk, IfErr, IsErrOf, MatchOption};
 ghost use Rattle.std.specs.List.{All};
 ghost use Rattle.reo_values.specs.Reading.{IsEnd, IsWord, Ends};
 
@@ -67,6 +67,7 @@ impl<'a> Reader<'a> {
     pub fn expect(&mut self, byte: u8) -> Result<(), ReadFault>
         ensures found { OnOk result (self.old ≡ byte ∷ self.new) }
         ensures none { IsErrOf result ReadFault.NotALiteral → (rest : List ℕ) → self.old ≢ byte ∷ rest }
+        ensures fault { IfErr result (λ fault. fault ≡ ReadFault.NotALiteral) }
     {
         match self.next() {
             Some(found) if found == byte => Ok(()),

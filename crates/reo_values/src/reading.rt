@@ -1,5 +1,5 @@
 //! Reading an item again from its text.
-ghost use Rattle.std.specs.Prelude.{◌≡◌, ◌≢◌, ◌++◌, ◌∷◌, [], ◌<◌, ℕ, Bool, List, codes, length, IfOk, OnOk, IsErrOf, MatchOption, slice_index_or};
+ghost use Rattle.std.specs.Prelude.{◌≡◌, ◌≢◌, ◌++◌, ◌∷◌, [], ◌<◌, ℕ, Bool, List, codes, length, IfOk, IfErr, OnOk, IsErrOf, MatchOption, slice_index_or};
 ghost use Rattle.reo_values.specs.ItemText.{escape, quoted, truth_text, text_of};
 ghost use Rattle.reo_values.specs.Kind.{IsIn};
 ghost use Rattle.reo_values.specs.Reading.{HasWords, Ends, Reads, ReadsAgain};
@@ -15,6 +15,7 @@ fn quoted_byte(reader: &mut Reader) -> Result<Option<u8>, ReadFault>
     ensures found { IfOk result (λ found. MatchOption found (reader.old ≡ 34 ∷ reader.new) (λ byte. reader.old ≡ escape byte ++ reader.new)) }
     ensures end { IsErrOf result ReadFault.NotALiteral → (rest : List ℕ) → reader.old ≢ 34 ∷ rest }
     ensures none { IsErrOf result ReadFault.NotALiteral → (byte : ℕ) (rest : List ℕ) → reader.old ≢ escape byte ++ rest }
+    ensures fault { IfErr result (λ fault. fault ≡ ReadFault.NotALiteral) }
 {
     match reader.next() {
         None => Err(ReadFault::NotALiteral),
@@ -44,6 +45,7 @@ fn quoted_bytes(alloc: Global, reader: &mut Reader) -> Result<Bytes, ReadFault>
 fn read_unit(word: &[u8]) -> Result<(), ReadFault>
     ensures found { OnOk result (word.now ≡ codes "unit") }
     ensures none { IsErrOf result ReadFault.NotALiteral → word.now ≢ codes "unit" }
+    ensures fault { IfErr result (λ fault. fault ≡ ReadFault.NotALiteral) }
 {
     if word == b"unit".as_slice() {
         Ok(())
@@ -56,6 +58,7 @@ fn read_unit(word: &[u8]) -> Result<(), ReadFault>
 fn read_truth(word: &[u8]) -> Result<bool, ReadFault>
     ensures found { IfOk result (λ truth. word.now ≡ truth_text truth) }
     ensures none { IsErrOf result ReadFault.NotALiteral → (truth : Bool) → word.now ≢ truth_text truth }
+    ensures fault { IfErr result (λ fault. fault ≡ ReadFault.NotALiteral) }
 {
     if word == b"true".as_slice() {
         Ok(true)
@@ -71,6 +74,7 @@ fn read_name(names: &[Bytes], word: &[u8]) -> Result<u16, ReadFault>
     requires { AreNames names.now }
     ensures found { IfOk result (λ k. (k < length names.now) × (word.now ≡ slice_index_or names.now k [])) }
     ensures none { IsErrOf result ReadFault.NotALiteral → (k : ℕ) → k < length names.now → word.now ≢ slice_index_or names.now k [] }
+    ensures fault { IfErr result (λ fault. fault ≡ ReadFault.NotALiteral) }
 {
     for (place, name) in names.iter().enumerate() {
         if name.as_slice() == word {

@@ -15,15 +15,17 @@ returns-in_default-clause-again t c =
 
 pub item-requires : goal.item-requires
 item-requires t c =
-    let is = c.in-Pair.is ∙ ap kinds.Pair (sym c.get-twins.ensures) in
-    (subst (λ n. levels c.get-twins.result.now.left < n) c.decreases (pair_deeper c.args.kindred.now c.get-twins.result.now is).0,
-     (pair_valid c.args.kindred.now c.get-twins.result.now is c.requires).0)
+    let is = c.in-Pair.is ∙ ap kinds.Pair (sym c.get-twins.ensures) in (
+      subst (λ n. levels c.get-twins.result.now.left < n) c.decreases (pair_deeper c.args.kindred.now c.get-twins.result.now is).0,
+      (pair_valid c.args.kindred.now c.get-twins.result.now is c.requires).0,
+    )
 
 pub item-requires-in-Pair : goal.item-requires-in-Pair
 item-requires-in-Pair t c =
-    let is = c.in-Pair.is ∙ ap kinds.Pair (sym c.get-twins.ensures) in
-    (subst (λ n. levels c.get-twins.result.now.right < n) c.decreases (pair_deeper c.args.kindred.now c.get-twins.result.now is).1,
-     (pair_valid c.args.kindred.now c.get-twins.result.now is c.requires).1)
+    let is = c.in-Pair.is ∙ ap kinds.Pair (sym c.get-twins.ensures) in (
+      subst (λ n. levels c.get-twins.result.now.right < n) c.decreases (pair_deeper c.args.kindred.now c.get-twins.result.now is).1,
+      (pair_valid c.args.kindred.now c.get-twins.result.now is c.requires).1,
+    )
 
 pub returns-in_err-expect-in-Pair-clause-again : goal.returns-in_err-expect-in-Pair-clause-again
 returns-in_err-expect-in-Pair-clause-again t c item rest h ends e =
@@ -36,14 +38,14 @@ pub returns-in_err-left-in-Pair-clause-again : goal.returns-in_err-left-in-Pair-
 returns-in_err-left-in-Pair-clause-again t c item rest h ends e =
     let is = c.in-Pair.is ∙ ap kinds.Pair (sym c.get-twins.ensures) in
     let left = left_reads c.args.kindred.now c.get-twins.result.now c.args.reader.now is item rest h e c.expect.new.self c.item.new.reader (Err c.in_err-left-in-Pair.field-0.0)
-        c.in_ok-expect-in-Pair.ensures.found c.in_err-left-in-Pair.ensures.again in
+    c.in_ok-expect-in-Pair.ensures.found c.in_err-left-in-Pair.ensures.again in
     reads_err c.from_residual-in_err-left-in-Pair.result c.in_err-left-in-Pair.field-0.0 _ item rest c.from_residual-in_err-left-in-Pair.ensures (reads_none _ _ _ _ left)
 
 pub returns-in_err-expect-in-Pair-2-clause-again : goal.returns-in_err-expect-in-Pair-2-clause-again
 returns-in_err-expect-in-Pair-2-clause-again t c item rest h ends e =
     let is = c.in-Pair.is ∙ ap kinds.Pair (sym c.get-twins.ensures) in
     let left = left_reads c.args.kindred.now c.get-twins.result.now c.args.reader.now is item rest h e c.expect.new.self c.item.new.reader (Ok c.in_ok-left-in-Pair.left)
-        c.in_ok-expect-in-Pair.ensures.found c.in_ok-left-in-Pair.ensures.again in
+    c.in_ok-expect-in-Pair.ensures.found c.in_ok-left-in-Pair.ensures.again in
     reads_err c.from_residual-in_err-expect-in-Pair-2.result c.in_err-expect-in-Pair-2.field-0.0 _ item rest c.from_residual-in_err-expect-in-Pair-2.ensures
     (λ fault. c.in_err-expect-in-Pair-2.ensures.none (ap Err fault) _ left.1)
 
@@ -51,16 +53,16 @@ pub returns-in_err-right-in-Pair-clause-again : goal.returns-in_err-right-in-Pai
 returns-in_err-right-in-Pair-clause-again t c item rest h ends e =
     let is = c.in-Pair.is ∙ ap kinds.Pair (sym c.get-twins.ensures) in
     let right = right_reads c.args.kindred.now c.get-twins.result.now c.args.reader.now is item rest h e c.expect.new.self c.item.new.reader c.expect-in-Pair.new.self c.item-in-Pair.new.reader
-        c.in_ok-left-in-Pair.left (Err c.in_err-right-in-Pair.field-0.0)
-        c.in_ok-expect-in-Pair.ensures.found c.in_ok-left-in-Pair.ensures.again c.in_ok-expect-in-Pair-2.ensures.found c.in_err-right-in-Pair.ensures.again in
+    c.in_ok-left-in-Pair.left (Err c.in_err-right-in-Pair.field-0.0)
+    c.in_ok-expect-in-Pair.ensures.found c.in_ok-left-in-Pair.ensures.again c.in_ok-expect-in-Pair-2.ensures.found c.in_err-right-in-Pair.ensures.again in
     reads_err c.from_residual-in_err-right-in-Pair.result c.in_err-right-in-Pair.field-0.0 _ item rest c.from_residual-in_err-right-in-Pair.ensures (reads_none _ _ _ _ right)
 
 pub returns-in_err-expect-in-Pair-3-clause-again : goal.returns-in_err-expect-in-Pair-3-clause-again
 returns-in_err-expect-in-Pair-3-clause-again t c item rest h ends e =
     let is = c.in-Pair.is ∙ ap kinds.Pair (sym c.get-twins.ensures) in
     let right = right_reads c.args.kindred.now c.get-twins.result.now c.args.reader.now is item rest h e c.expect.new.self c.item.new.reader c.expect-in-Pair.new.self c.item-in-Pair.new.reader
-        c.in_ok-left-in-Pair.left (Ok c.in_ok-right-in-Pair.right)
-        c.in_ok-expect-in-Pair.ensures.found c.in_ok-left-in-Pair.ensures.again c.in_ok-expect-in-Pair-2.ensures.found c.in_ok-right-in-Pair.ensures.again in
+    c.in_ok-left-in-Pair.left (Ok c.in_ok-right-in-Pair.right)
+    c.in_ok-expect-in-Pair.ensures.found c.in_ok-left-in-Pair.ensures.again c.in_ok-expect-in-Pair-2.ensures.found c.in_ok-right-in-Pair.ensures.again in
     reads_err c.from_residual-in_err-expect-in-Pair-3.result c.in_err-expect-in-Pair-3.field-0.0 _ item rest c.from_residual-in_err-expect-in-Pair-3.ensures
     (λ fault. c.in_err-expect-in-Pair-3.ensures.none (ap Err fault) _ right.1)
 
