@@ -1,5 +1,6 @@
 -- What components offer, and how far they come.
 use Rattle.std.specs.Prelude.{ℕ, ◌≡◌, ◌<◌, ◌==◌, Bool, true, false, cond, nat_lt, Option, Some, None, List, [], ◌∷◌, length, map, slice_get, slice_index_or}
+use Rattle.std.specs.Option.{option_or}
 use Rattle.reo_behaviour.specs.declared.port.Offer.{Offer}
 use Rattle.reo_behaviour.specs.declared.port.Offer.TheVariants.{Write as WriteOffer, Take as TakeOffer}
 use Rattle.reo_behaviour.specs.Gate.{Gate, gate_at, way_of, IsAccepted}
@@ -21,16 +22,16 @@ offer_of (Take port) = TakeOffer
 abbrev pub action_at : Component → ℕ → Option Action
 action_at component place = slice_get component.actions place
 
--- Whether an action is at a port.
-abbrev pub is_at_port : ℕ → Option Action → Bool
-is_at_port port None = false
-is_at_port port (Some action) = port_of action == port
+-- An action, if it is at this port.
+abbrev pub only_at : ℕ → Option Action → Option Action
+only_at port None = None
+only_at port (Some action) = cond (port_of action == port) (Some action) None
 
 -- The action that some component does at a port, with the components at these places.
 abbrev pub action_for : List Component → List ℕ → ℕ → Option Action
 action_for [] places port = None
 action_for (c ∷ cs) [] port = None
-action_for (c ∷ cs) (n ∷ ns) port = cond (is_at_port port (action_at c n)) (action_at c n) (action_for cs ns port)
+action_for (c ∷ cs) (n ∷ ns) port = option_or (only_at port (action_at c n)) (action_for cs ns port)
 
 -- Whether each component is at the end of its list.
 abbrev pub all_done : List Component → List ℕ → Bool
