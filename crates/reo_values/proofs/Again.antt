@@ -1,5 +1,5 @@
 -- What is read again from the text of an item.
-use Rattle.std.proofs.Common.{◌≡◌, ◌≢◌, ◌∙◌, ◌<◌, ◌≤◌, List, ℕ, ℤ, suc, max, [], ◌∷◌, ◌++◌, Bool, true, false, Result, Ok, Err, IfOk, inl, inr, drop, length, get_or, refl, sym, ap, subst, arith}
+use Rattle.std.proofs.Common.{◌≡◌, ◌≢◌, ◌∙◌, ◌<◌, ◌≤◌, List, ℕ, ℤ, suc, max, [], ◌∷◌, ◌++◌, Bool, Result, Ok, Err, IfOk, inl, inr, drop, length, get_or, refl, sym, ap, subst, arith}
 use Rattle.std.specs.Prelude.{◌≤ℤ◌, codes}
 use Rattle.std.specs.List.{All}
 use Rattle.std.specs.Fmt.{signed_decimal}

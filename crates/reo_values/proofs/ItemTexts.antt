@@ -1,5 +1,5 @@
 -- The text of an item, with what comes after it, tells the item.
-use Rattle.std.proofs.Common.{◌≡◌, ◌∙◌, ◌<◌, ◌⊎◌, ℕ, ℤ, List, [], ◌∷◌, ◌++◌, Bool, true, false, inl, inr, length, get_or, drop, ap, refl, sym, subst, append_assoc, append-nil, arith}
+use Rattle.std.proofs.Common.{◌≡◌, ◌∙◌, ◌<◌, ◌⊎◌, ℕ, ℤ, List, [], ◌∷◌, ◌++◌, Bool, true, false, inl, inr, length, get_or, drop, ap, refl, sym, subst, append_assoc, arith}
 use Rattle.std.specs.Prelude.{codes, FitsSigned}
 use Rattle.std.specs.Int.{w64}
 use Rattle.std.specs.Fmt.{signed_decimal}
@@ -18,7 +18,7 @@ use Rattle.reo_values.specs.declared.value.Value.TheVariants as values
 use Rattle.reo_values.specs.declared.kindred.Kindred.TheVariants as kinds
 use Rattle.reo_values.specs.ItemText.{text_of}
 use Rattle.reo_values.specs.Kind.{IsIn}
-use Rattle.reo_values.specs.Reading.{IsEnd, IsWord, Ends, HasWords}
+use Rattle.reo_values.specs.Reading.{IsWord, Ends, HasWords}
 use Rattle.reo_values.specs.Valid.{IsName, AreNames, IsValid}
 use Rattle.reo_values.proofs.Members.{in_unit, in_bool, in_int, in_sym, in_text, in_pair}
 use Rattle.reo_values.proofs.Numbers.{fits_between, mag_small}

@@ -1,14 +1,12 @@
 -- Words, and where they end.
-use Rattle.std.proofs.Common.{◌≡◌, ◌∙◌, ◌==◌, ◌||◌, ◌&&◌, not, Bool, true, false, ◌<◌, ◌≤◌, ◌+◌, ◌%◌, ◌^◌, ℕ, ℤ, pos, negsuc, suc, List, [], ◌∷◌, ◌++◌, inl, inr, ap, refl, sym, subst, drop, arith}
-use Rattle.std.specs.Prelude.{FitsSigned, codes}
-use Rattle.std.specs.List.{All}
+use Rattle.std.proofs.Common.{◌≡◌, ◌==◌, ◌||◌, ◌&&◌, not, Bool, true, ◌<◌, ◌+◌, ◌%◌, ◌^◌, ℕ, ℤ, pos, negsuc, suc, List, [], ◌∷◌, ◌++◌, inl, inr, ap, refl, sym, subst, drop, arith}
+use Rattle.std.specs.Prelude.{FitsSigned}
 use Rattle.std.specs.Int.{w64}
 use Rattle.std.specs.Fmt.{decimal, signed_decimal}
 use Rattle.std.proofs.lemmas.Fmt.{decimal_by_steps}
 use Rattle.std.proofs.lemmas.List.Elements.{All-nil, All-cons, All-head, All-tail, All-push, All-weaker}
-use Rattle.std.proofs.lemmas.Int.{ints}
 use Rattle.reo_values.specs.Reading.{IsEnd, IsWord, Ends}
-use Rattle.reo_values.specs.Valid.{IsName, IsNameStart, IsNameByte}
+use Rattle.reo_values.specs.Valid.{IsName, IsNameByte}
 use Rattle.reo_values.proofs.Numbers.{mag_small}
 
 -- the first byte, where there is one

@@ -1,4 +1,4 @@
-use Rattle.std.proofs.Common.{◌∙◌, [], ap, sym, append-nil, arith}
+use Rattle.std.proofs.Common.{◌∙◌, [], sym, append-nil, arith}
 use Rattle.std.proofs.lemmas.Grind.{common_steps}
 use Rattle.reo_values.specs.ItemText.{text_of}
 use Rattle.reo_values.proofs.Again.{reads_none}

@@ -1,5 +1,4 @@
-use Rattle.std.proofs.Common.{◌∙◌, ap, sym, rules}
-use Rattle.reo_values.specs.declared.kindred.Kindred.TheVariants as kinds
+use Rattle.std.proofs.Common.{rules}
 use Rattle.reo_values.proofs.Pairs.{IsValid-Pair}
 use Rattle.reo_values.proofs.valid.+is_valid.Goals as goal
 

@@ -1,4 +1,4 @@
-use Rattle.std.proofs.Common.{◌≡◌, ◌∙◌, [], List, ℕ, get_or, take, subst, sym}
+use Rattle.std.proofs.Common.{◌≡◌, ◌∙◌, [], get_or, take, subst, sym}
 use Rattle.std.specs.List.{Contains}
 use Rattle.std.proofs.lemmas.List.{get_or_default}
 use Rattle.reo_values.proofs.Distinct.{Apart-more}
