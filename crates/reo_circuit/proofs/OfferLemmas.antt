@@ -1,9 +1,8 @@
 -- What a round does to the offers at the ports.
-use Rattle.std.proofs.Common.{◌≡◌, ℕ, zero, suc, ◌+◌, ◌<◌, ◌≤◌, List, [], ◌∷◌, Option, None, cond, length, map, get_or, refl, ap, sym, ◌∙◌, arith, add-zero}
+use Rattle.std.proofs.Common.{◌≡◌, ℕ, zero, suc, ◌+◌, ◌<◌, List, [], ◌∷◌, Option, None, cond, length, map, get_or, ap, sym, ◌∙◌, arith, add-zero}
 use Rattle.std.proofs.lemmas.List.{length-map}
 use Rattle.std.proofs.lemmas.List.FromFn.{get_or-map-range_with_len, length-map-range_with_len}
 use Rattle.reo_values.specs.declared.value.Value.{Value}
-use Rattle.reo_behaviour.specs.declared.mark.Mark.{Mark}
 use Rattle.reo_behaviour.specs.declared.colouring.Chosen.{Chosen}
 use Rattle.reo_behaviour.specs.Marks.{is_flow}
 use Rattle.reo_behaviour.specs.Behaviour.{Behaviour}

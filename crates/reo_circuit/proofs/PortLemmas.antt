@@ -1,5 +1,5 @@
 -- One primitive changes.
-use Rattle.std.proofs.Common.{◌≡◌, ◌≢◌, ◌⊎◌, ℕ, zero, suc, ◌+◌, ◌<◌, ◌≤◌, List, [], ◌∷◌, ◌++◌, length, map, get_or, set, refl, ap, sym, ◌∙◌, arith}
+use Rattle.std.proofs.Common.{◌≡◌, ◌≢◌, ℕ, zero, suc, ◌<◌, List, [], ◌∷◌, length, map, get_or, set, refl, ap, arith}
 use Rattle.reo_behaviour.specs.Behaviour.{Behaviour}
 use Rattle.reo_behaviour.specs.Lawful.{SameShape}
 use Rattle.reo_behaviour.specs.Net.{behaviour_at}

@@ -1,6 +1,6 @@
 -- What holds of a circuit's shape stays when its primitives go on.
-use Rattle.std.proofs.Common.{◌≡◌, ℕ, zero, suc, ◌+◌, ◌<◌, ◌≤◌, List, [], ◌∷◌, ◌++◌, Option, length, map, get_or, take, drop, refl, ap, sym, ◌∙◌, arith, append-nil}
-use Rattle.std.specs.List.{flat_map, range_with_len}
+use Rattle.std.proofs.Common.{◌≡◌, ℕ, zero, suc, ◌+◌, ◌<◌, List, [], ◌∷◌, ◌++◌, Option, length, map, get_or, take, drop, refl, ap, sym, ◌∙◌, arith, append-nil}
+use Rattle.std.specs.List.{flat_map}
 use Rattle.std.proofs.lemmas.List.{length-append, take_all, drop_all}
 use Rattle.std.proofs.lemmas.List.FromFn.{length-map-range_with_len}
 use Rattle.reo_values.specs.declared.value.Value.{Value}
@@ -10,8 +10,8 @@ use Rattle.reo_behaviour.specs.declared.joint.End.{End}
 use Rattle.reo_circuit.specs.declared.layout.Place.{Place}
 use Rattle.reo_behaviour.specs.Behaviour.{Behaviour}
 use Rattle.reo_behaviour.specs.Lawful.{SameShape, IsLawful}
-use Rattle.reo_behaviour.specs.Net.{Net, Side, sides_of, all_sides, first_side, behaviour_at, side_at}
-use Rattle.reo_behaviour.specs.Wired.{IsWired, IsEnd, IsOrder, Feeds}
+use Rattle.reo_behaviour.specs.Net.{Side, sides_of, all_sides, first_side, behaviour_at, side_at}
+use Rattle.reo_behaviour.specs.Wired.{IsWired, IsEnd, IsOrder}
 use Rattle.reo_circuit.specs.Layout.{IsLaidOut}
 use Rattle.reo_behaviour.specs.Step.{settled_list}
 

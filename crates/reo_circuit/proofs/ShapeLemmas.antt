@@ -1,5 +1,5 @@
 -- The tables of a circuit stay where the shape of its primitives stays.
-use Rattle.std.proofs.Common.{◌≡◌, ℕ, ◌+◌, ◌<◌, ◌≤◌, ◌==◌, ◌&&◌, Bool, List, length, map, get_or, ap, sym, ◌∙◌, arith}
+use Rattle.std.proofs.Common.{◌≡◌, ℕ, ◌<◌, ◌==◌, ◌&&◌, Bool, List, length, ap, sym, ◌∙◌, arith}
 use Rattle.std.specs.List.{position_or_len}
 use Rattle.reo_behaviour.specs.declared.joint.Joint.{Joint}
 use Rattle.reo_behaviour.specs.Behaviour.{Behaviour}

@@ -1,6 +1,5 @@
 -- The items at the mouths, as the primitives go on.
-use Rattle.std.proofs.Common.{◌≡◌, ◌≢◌, ◌⊎◌, inl, inr, ℕ, zero, suc, ◌+◌, ◌<◌, ◌≤◌, ◌==◌, ◌&&◌, Bool, true, false, Option, None, List, [], ◌∷◌, length, map, get_or, set, refl, ap, sym, ◌∙◌, arith, get_or-set_other}
-use Rattle.std.specs.List.{position_or_len}
+use Rattle.std.proofs.Common.{◌≡◌, ◌≢◌, inl, inr, ℕ, zero, suc, ◌<◌, ◌≤◌, true, Option, None, List, [], ◌∷◌, length, get_or, set, refl, ap, sym, ◌∙◌, arith, get_or-set_other}
 use Rattle.std.proofs.lemmas.Bool.Decides.{nat_tests}
 use Rattle.std.proofs.lemmas.List.Sums.{passes_at_first}
 use Rattle.reo_values.specs.declared.value.Value.{Value}

@@ -1,14 +1,13 @@
 -- The numbers of sides, and what no fault tells of a circuit.
-use Rattle.std.proofs.Common.{◌≡◌, ◌≢◌, ℕ, zero, suc, ◌+◌, ◌<◌, ◌≤◌, List, [], ◌∷◌, ◌++◌, length, map, get_or, take, refl, ap, sym, ◌∙◌, arith, below_more}
+use Rattle.std.proofs.Common.{◌≡◌, ◌≢◌, ℕ, ◌+◌, ◌<◌, List, [], ◌∷◌, ◌++◌, length, map, get_or, take, ap, sym, ◌∙◌, arith, below_more}
 use Rattle.std.proofs.Math.Seq.{get_or-append_seam}
 use Rattle.std.proofs.lemmas.List.{length-map, get_or-map, get_or_default, length-append, get_or_append_left, take_more, map-append}
 use Rattle.reo_order.specs.Arrows.{IsTopological, NoCycle}
 use Rattle.reo_behaviour.specs.declared.joint.Joint.{Joint}
 use Rattle.reo_behaviour.specs.declared.joint.End.{End}
-use Rattle.reo_behaviour.specs.Behaviour.{Behaviour}
 use Rattle.reo_behaviour.specs.Lawful.{IsLawful}
 use Rattle.reo_behaviour.specs.Net.{Net, behaviour_at, first_side, side_at}
-use Rattle.reo_behaviour.specs.Wired.{IsWired, IsOrder, Feeds}
+use Rattle.reo_behaviour.specs.Wired.{IsWired, IsOrder}
 use Rattle.reo_circuit.specs.Parts.{AreJoints}
 use Rattle.reo_circuit.specs.Fault.{AllJoined, AllRight, from_sides, to_sides}
 

@@ -1,26 +1,26 @@
 //! Circuits.
-ghost use Rattle.std.specs.Prelude.{◌≡◌, ◌↔◌, IsTrue, ℕ, ◌+◌, ◌<◌, ◌≤◌, ◌^◌, ◌*◌, IfOk, IsSome, Some, None, MatchResult, map, length, slice_index, slice_index_or};
+ghost use Rattle.std.specs.Prelude.{◌≡◌, ℕ, ◌+◌, ◌<◌, ◌≤◌, ◌^◌, ◌*◌, IfOk, IsSome, Some, None, MatchResult, map, length, slice_index_or};
 ghost use Rattle.std.specs.List.{position_or_len};
 ghost use Rattle.reo_behaviour.specs.declared.joint.Joint.{Joint as JointEnds};
-ghost use Rattle.reo_behaviour.specs.Net.{net_of, all_sides, behaviour_at, first_side, row_at, mark_at, side_at, side_of_end, Side, row_count, end_of, is_at};
-ghost use Rattle.reo_behaviour.specs.Colouring.{IsColouring, AreRows};
+ghost use Rattle.reo_behaviour.specs.Net.{net_of, all_sides, behaviour_at, first_side, side_at, side_of_end, Side, end_of, is_at};
+ghost use Rattle.reo_behaviour.specs.Colouring.{IsColouring};
 ghost use Rattle.reo_behaviour.specs.Wired.{IsWired, IsEnd, IsOrder, ArePorts};
 ghost use Rattle.reo_behaviour.specs.Step.{stepped, change_at};
 ghost use Rattle.reo_behaviour.specs.Gate.{CanPlace, gate_at};
 ghost use Rattle.reo_circuit.specs.Parts.{net_with, AreJoints};
 ghost use Rattle.reo_circuit.specs.Layout.{IsLaidOut};
-ghost use Rattle.reo_circuit.specs.Offers.{OffersAfterRound, OnlyGate};
+ghost use Rattle.reo_circuit.specs.Offers.{OnlyGate};
 ghost use Rattle.reo_circuit.specs.Fault.{IsSound, IsNetFault};
 
 use crate::ends::ends_fault;
 use crate::fault::NetFault;
 use crate::layout::{Layout, Place, lay_out};
-use crate::ports::{can_place, place_at, withdraw_at};
+use crate::ports::{place_at, withdraw_at};
 use crate::step::step_all;
 use crate::tables::{mouth_table, port_table};
 use crate::turn::joint_order;
 use crate::way::way_fault;
-use reo_behaviour::{Colouring, End, Joint, Mark, Offer, Ported, Primitive};
+use reo_behaviour::{Colouring, End, Joint, Offer, Ported, Primitive};
 use reo_order::{Sorted, order_has_no_cycle};
 use reo_values::List;
 use std::alloc::Global;
@@ -229,75 +229,6 @@ impl<P: Primitive> Circuit<P> {
         first + side
     }
 
-    /// How many rows the table of a side has, its jam row counted.
-    pub fn row_count(&self, side: usize) -> usize
-        requires { side < length (all_sides (net_of P.behaviour self.now).primitives) }
-        ensures { (e : Side) → result ≡ row_count (slice_index_or (all_sides (net_of P.behaviour self.now).primitives) side e) }
-    {
-        let place = self.owner(side);
-        self.primitive(place.primitive).rows(place.side)
-    }
-
-    /// Whether there is one row for each side, each in the table of its side.
-    pub fn are_rows(&self, rows: &[u32]) -> bool
-        ensures { IsTrue result ↔ AreRows (all_sides (net_of P.behaviour self.now).primitives) rows.now }
-    {
-        if rows.len() != self.sides() {
-            return false;
-        }
-        for side in 0..self.sides() {
-            if rows[side] as usize >= self.row_count(side) {
-                return false;
-            }
-        }
-        true
-    }
-
-    /// The row of a side.
-    pub fn row(&self, rows: &[u32], side: usize) -> usize
-        requires rows { AreRows (all_sides (net_of P.behaviour self.now).primitives) rows.now }
-        requires side { side < length (all_sides (net_of P.behaviour self.now).primitives) }
-        ensures row { result ≡ slice_index rows.now side }
-        ensures in_table { (e : Side) → result < row_count (slice_index_or (all_sides (net_of P.behaviour self.now).primitives) side e) }
-    {
-        rows[side] as usize
-    }
-
-    /// The row of the side of an end.
-    #[tactic(auto, unfolding(reo_behaviour::specs::Net::row_at))]
-    pub fn row_at(&self, rows: &[u32], end: End) -> usize
-        requires end { IsEnd (net_of P.behaviour self.now).primitives end }
-        requires rows { AreRows (all_sides (net_of P.behaviour self.now).primitives) rows.now }
-        ensures row { result ≡ row_at (net_of P.behaviour self.now) rows.now end }
-        ensures in_table { result < row_count (side_of_end (net_of P.behaviour self.now) end) }
-    {
-        self.row(rows, self.side_of(end))
-    }
-
-    /// The mark of an end.
-    #[tactic(auto, unfolding(reo_behaviour::specs::Net::mark_at, reo_behaviour::specs::Net::row_at))]
-    pub fn mark_at(&self, rows: &[u32], end: End) -> Mark
-        requires end { IsEnd (net_of P.behaviour self.now).primitives end }
-        requires rows { AreRows (all_sides (net_of P.behaviour self.now).primitives) rows.now }
-        ensures { result ≡ mark_at (net_of P.behaviour self.now) rows.now end }
-    {
-        self.known();
-        let row = self.row_at(rows, end);
-        let primitive = self.primitive(end.primitive);
-        primitive.mark(primitive.side_of(end.end), row, end.end)
-    }
-
-    /// The class of the row of a side, in the round of this number.
-    pub fn class(&self, turn: u64, rows: &[u32], side: usize) -> usize
-        requires rows { AreRows (all_sides (net_of P.behaviour self.now).primitives) rows.now }
-        requires side { side < length (all_sides (net_of P.behaviour self.now).primitives) }
-        ensures { (e : Side) → result ≡ (slice_index_or (all_sides (net_of P.behaviour self.now).primitives) side e).of.class (slice_index_or (all_sides (net_of P.behaviour self.now).primitives) side e).number (slice_index rows.now side) turn }
-    {
-        let place = self.owner(side);
-        let row = self.row(rows, side);
-        self.primitive(place.primitive).class(place.side, row, turn)
-    }
-
     /// The joint at the one end of a port.
     pub fn port_joint(&self, port: usize) -> usize
         requires { port < self.now.ports }
@@ -325,34 +256,6 @@ impl<P: Primitive> Circuit<P> {
 }
 
 impl<P: Ported> Circuit<P> {
-    /// What holds of offers in a round: where a port flows its offer is gone, and else it is as it
-    /// was.
-    pub fn known_offers(&self)
-        ensures { OffersAfterRound P.behaviour P.settled P.gate self.now }
-    {
-        self.known();
-        self.known_ports();
-    }
-
-    /// Whether an offer may be placed at a port: it has the port's way, nothing is pending there,
-    /// and a written item fits.
-    pub fn can_place(&self, port: usize, offer: &Offer) -> bool
-        requires { port < self.now.ports }
-        ensures { IsTrue result ↔ CanPlace (gate_at (map P.gate self.now.primitives) port) offer.now }
-    {
-        self.known_ports();
-        can_place(self.primitive(port), offer)
-    }
-
-    /// Whether an offer is pending at a port.
-    pub fn is_pending(&self, port: usize) -> bool
-        requires { port < self.now.ports }
-        ensures { IsTrue result ↔ IsSome (gate_at (map P.gate self.now.primitives) port).pending }
-    {
-        self.known_ports();
-        self.primitive(port).pending()
-    }
-
     /// Makes this the pending offer of a port. All else stays. This takes no memory.
     pub fn place(&mut self, port: usize, offer: Offer)
         requires port { port < self.old.ports }

@@ -12,6 +12,7 @@ mod flows;
 mod layout;
 mod parts;
 mod ports;
+mod rows;
 mod step;
 mod tables;
 mod turn;

@@ -1,8 +1,10 @@
-//! The offers at single ports.
+//! Offers at ports.
 ghost use Rattle.std.specs.Prelude.{◌≡◌, ◌<◌, ◌↔◌, IsTrue, IsSome, map, length};
 ghost use Rattle.reo_behaviour.specs.Gate.{CanPlace, gate_at};
 ghost use Rattle.reo_behaviour.specs.Step.{change_at};
+ghost use Rattle.reo_circuit.specs.Offers.{OffersAfterRound};
 
+use crate::circuit::Circuit;
 use reo_behaviour::{Offer, Ported, Way};
 
 /// Whether an offer may be placed here.
@@ -34,4 +36,34 @@ pub fn withdraw_at<P: Ported>(primitives: &mut [P], index: usize)
 {
     let primitive = &mut primitives[index];
     primitive.withdraw();
+}
+
+impl<P: Ported> Circuit<P> {
+    /// What holds of offers in a round: where a port flows its offer is gone, and else it is as it
+    /// was.
+    pub fn known_offers(&self)
+        ensures { OffersAfterRound P.behaviour P.settled P.gate self.now }
+    {
+        self.known();
+        self.known_ports();
+    }
+
+    /// Whether an offer may be placed at a port: it has the port's way, nothing is pending there,
+    /// and a written item fits.
+    pub fn can_place(&self, port: usize, offer: &Offer) -> bool
+        requires { port < self.now.ports }
+        ensures { IsTrue result ↔ CanPlace (gate_at (map P.gate self.now.primitives) port) offer.now }
+    {
+        self.known_ports();
+        can_place(self.primitive(port), offer)
+    }
+
+    /// Whether an offer is pending at a port.
+    pub fn is_pending(&self, port: usize) -> bool
+        requires { port < self.now.ports }
+        ensures { IsTrue result ↔ IsSome (gate_at (map P.gate self.now.primitives) port).pending }
+    {
+        self.known_ports();
+        self.primitive(port).pending()
+    }
 }

@@ -1,11 +1,10 @@
-use Rattle.std.proofs.Common.{◌≡◌, ℕ, ◌+◌, ◌<◌, List, [], length, map, get_or, arith, ◌∙◌, sym, ap, below_more}
+use Rattle.std.proofs.Common.{ℕ, ◌<◌, List, [], length, map, arith, ◌∙◌, sym, below_more}
 use Rattle.std.proofs.lemmas.List.{get_or_default}
 use Rattle.reo_behaviour.specs.Behaviour.{Behaviour}
 use Rattle.reo_behaviour.specs.Net.{behaviour_at, end_of}
 use Rattle.reo_circuit.specs.Parts.{net_with}
 use Rattle.reo_circuit.specs.Fault.{IsBound}
 use Rattle.reo_circuit.proofs.CountLemmas.{joined_of_count, count_of_joined}
-use Rattle.reo_circuit.specs.Counts.{count_at}
 use Rattle.reo_circuit.proofs.ends.ends_fault.Goals as goal
 
 pub loop-index-preserved : goal.loop-index-preserved

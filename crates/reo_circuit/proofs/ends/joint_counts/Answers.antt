@@ -1,9 +1,7 @@
-use Rattle.std.proofs.Common.{◌≡◌, ℕ, ◌+◌, ◌<◌, List, length, map, get_or, arith, ◌∙◌, sym, ap}
+use Rattle.std.proofs.Common.{◌<◌, List, length, map, arith, ◌∙◌, ap}
 use Rattle.reo_behaviour.specs.declared.joint.Joint.{Joint}
 use Rattle.reo_behaviour.specs.Behaviour.{Behaviour}
-use Rattle.reo_behaviour.specs.Net.{behaviour_at}
-use Rattle.reo_behaviour.specs.Wired.{IsEnd}
-use Rattle.reo_circuit.proofs.CountLemmas.{counts_more, counts_few}
+use Rattle.reo_circuit.proofs.CountLemmas.{counts_more}
 use Rattle.reo_circuit.proofs.ReshapeLemmas.{whole_slice}
 use Rattle.reo_circuit.proofs.ends.joint_counts.Goals as goal
 

@@ -1,4 +1,4 @@
-use Rattle.std.proofs.Common.{◌≡◌, map, take}
+use Rattle.std.proofs.Common.{map, take}
 use Rattle.reo_circuit.specs.Counts.{AreCounts}
 use Rattle.reo_circuit.proofs.ends.joint_counts.Given as goal
 

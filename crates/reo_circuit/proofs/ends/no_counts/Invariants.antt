@@ -1,5 +1,4 @@
 use Rattle.std.proofs.Common.{◌≡◌, map, take}
-use Rattle.reo_behaviour.specs.Behaviour.{Behaviour}
 use Rattle.reo_circuit.proofs.CountLemmas.{zero_counts}
 use Rattle.reo_circuit.proofs.ends.no_counts.Given as goal
 

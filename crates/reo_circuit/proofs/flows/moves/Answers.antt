@@ -4,7 +4,7 @@ use Rattle.std.proofs.lemmas.Grind.{flat_map-append}
 use Rattle.std.proofs.lemmas.List.FromFn.{map-range_with_len_more}
 use Rattle.reo_behaviour.specs.declared.colouring.Move.{Move}
 use Rattle.reo_behaviour.specs.Net.{Net, net_of}
-use Rattle.reo_behaviour.specs.Moves.{moves_at, moves_of}
+use Rattle.reo_behaviour.specs.Moves.{moves_at}
 use Rattle.reo_circuit.proofs.flows.moves.Goals as goal
 
 map_same : (xs : List ℕ) → map (λ x. x) xs ≡ xs

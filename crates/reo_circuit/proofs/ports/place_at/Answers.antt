@@ -1,4 +1,3 @@
-use Rattle.std.proofs.Common.{◌≡◌, ◌∙◌, sym}
 use Rattle.reo_circuit.proofs.PortLemmas.{change_is}
 use Rattle.reo_circuit.proofs.ports.place_at.Goals as goal
 

@@ -1,12 +1,11 @@
-use Rattle.std.proofs.Common.{◌≡◌, ◌<◌, ◌+◌, ℕ, List, Option, None, length, map, get_or, set, drop, arith, ◌∙◌, sym, ap}
-use Rattle.std.proofs.lemmas.List.{get_or_default, get_or-map, length-map, length-set}
+use Rattle.std.proofs.Common.{◌≡◌, ◌<◌, ℕ, List, Option, None, length, map, arith, ◌∙◌, sym, ap}
+use Rattle.std.proofs.lemmas.List.{get_or-map, length-map, length-set}
 use Rattle.std.proofs.lemmas.List.FromFn.{get_or-map-range_with_len, length-map-range_with_len}
 use Rattle.reo_values.specs.declared.value.Value.{Value}
 use Rattle.reo_behaviour.specs.declared.colouring.Chosen.{Chosen}
-use Rattle.reo_behaviour.specs.declared.joint.Joint.{Joint}
 use Rattle.reo_behaviour.specs.Behaviour.{Behaviour, nothing}
-use Rattle.reo_behaviour.specs.Net.{Net, behaviour_at, all_sides, first_side}
-use Rattle.reo_behaviour.specs.Step.{is_mouth, mouth_of, taken_for, chosen_for, all_chosen, all_taken}
+use Rattle.reo_behaviour.specs.Net.{Net, behaviour_at, all_sides}
+use Rattle.reo_behaviour.specs.Step.{mouth_of, taken_for, chosen_for, all_chosen, all_taken}
 use Rattle.reo_circuit.proofs.NetLemmas.{rows_length, side_in}
 use Rattle.reo_circuit.proofs.ReshapeLemmas.{lawful_at, whole_slice}
 use Rattle.reo_circuit.proofs.SettleLemmas.{rest_same, same_at, settled_more}

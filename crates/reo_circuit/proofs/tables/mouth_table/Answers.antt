@@ -2,7 +2,6 @@ use Rattle.std.proofs.Common.{◌≡◌, ◌<◌, ℕ, List, length, map, get_or
 use Rattle.std.proofs.lemmas.List.{get_or_default, length-map, length-set, length-replicate}
 use Rattle.reo_behaviour.specs.declared.joint.Joint.{Joint}
 use Rattle.reo_behaviour.specs.Behaviour.{Behaviour}
-use Rattle.reo_behaviour.specs.Wired.{IsEnd}
 use Rattle.reo_behaviour.specs.Net.{behaviour_at}
 use Rattle.reo_behaviour.specs.Step.{is_mouth}
 use Rattle.reo_circuit.proofs.TableLemmas.{mouths_more, mouths_none, first_done}

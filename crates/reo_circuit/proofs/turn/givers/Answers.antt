@@ -1,7 +1,5 @@
-use Rattle.std.proofs.Common.{◌≡◌, ◌++◌, ◌∷◌, [], ℕ, ◌+◌, ◌<◌, List, length, map, take, get_or, arith, ◌∙◌, sym, ap}
+use Rattle.std.proofs.Common.{◌≡◌, ◌++◌, ◌∷◌, [], ℕ, ◌<◌, List, length, arith, ◌∙◌, sym, ap}
 use Rattle.reo_behaviour.specs.declared.joint.Joint.{Joint}
-use Rattle.reo_behaviour.specs.Behaviour.{Behaviour}
-use Rattle.reo_circuit.specs.Fault.{from_sides}
 use Rattle.reo_behaviour.specs.Net.{Net, side_at}
 use Rattle.reo_circuit.specs.Parts.{net_with}
 use Rattle.reo_circuit.proofs.WireLemmas.{below_push, map_more}

@@ -1,6 +1,6 @@
-use Rattle.std.proofs.Common.{◌≡◌, ℕ, ◌+◌, ◌<◌, List, length, map, get_or, arith, ◌∙◌, sym}
+use Rattle.std.proofs.Common.{ℕ, List, map, arith}
 use Rattle.reo_behaviour.specs.Behaviour.{Behaviour}
-use Rattle.reo_behaviour.specs.Net.{behaviour_at, first_side, all_sides, side_at}
+use Rattle.reo_behaviour.specs.Net.{behaviour_at, side_at}
 use Rattle.reo_circuit.proofs.NetLemmas.{side_in}
 use Rattle.reo_circuit.proofs.ReshapeLemmas.{lawful_at}
 use Rattle.reo_circuit.proofs.turn.side_number.Goals as goal

@@ -1,5 +1,5 @@
-use Rattle.std.proofs.Common.{◌≡◌, ℕ, ◌<◌, ◌≤◌, List, length, map, get_or, refl, arith}
-use Rattle.reo_behaviour.specs.Net.{Side, no_side, all_sides, net_of, row_count}
+use Rattle.std.proofs.Common.{◌<◌, List, length, refl, arith}
+use Rattle.reo_behaviour.specs.Net.{Side, no_side, all_sides, net_of}
 use Rattle.reo_circuit.proofs.NetLemmas.{are_rows, row_below, rows_length}
 use Rattle.reo_circuit.proofs.circuit.Circuit.are_rows.Goals as goal
 

@@ -1,6 +1,5 @@
 -- The class of a row, by its side.
-use Rattle.std.proofs.Common.{◌≡◌, ◌∙◌, arith, sym}
-use Rattle.reo_behaviour.specs.Net.{Net, Side, all_sides, behaviour_at, net_of}
+use Rattle.reo_behaviour.specs.Net.{Net, Side, behaviour_at, net_of}
 use Rattle.reo_circuit.proofs.circuit.Circuit.class.Goals as goal
 
 pub class-requires-clause-row : goal.class-requires-clause-row

@@ -1,5 +1,4 @@
 -- The row is in the table of the side of the end.
-use Rattle.std.proofs.Common.{◌≡◌, ℕ, ◌<◌}
 use Rattle.reo_circuit.proofs.circuit.Circuit.mark_at.Goals as goal
 
 pub mark-requires-clause-row : goal.mark-requires-clause-row

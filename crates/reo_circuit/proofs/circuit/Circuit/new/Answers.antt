@@ -1,6 +1,5 @@
 -- No fault was found, so what holds of each circuit holds.
-use Rattle.std.proofs.Common.{◌≡◌, ◌∙◌, List, ℕ, map, sym}
-use Rattle.reo_order.specs.Arrows.{IsTopological, NoCycle}
+use Rattle.reo_order.specs.Arrows.{NoCycle}
 use Rattle.reo_behaviour.specs.Net.{Net}
 use Rattle.reo_circuit.specs.Parts.{net_with}
 use Rattle.reo_circuit.specs.Fault.{AllJoined, AllRight, from_sides, to_sides}

@@ -1,4 +1,4 @@
-use Rattle.std.proofs.Common.{◌≡◌, ℕ, ◌+◌, ◌<◌, List, length, map, arith, rules, ◌∙◌}
+use Rattle.std.proofs.Common.{◌<◌, List, length, map, arith}
 use Rattle.std.proofs.lemmas.List.{length-map}
 use Rattle.reo_behaviour.specs.Behaviour.{Behaviour}
 use Rattle.reo_circuit.proofs.NetLemmas.{side_is}

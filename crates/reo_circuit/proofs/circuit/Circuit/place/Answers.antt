@@ -1,5 +1,5 @@
 -- The shape stays, so what holds of it stays.
-use Rattle.std.proofs.Common.{◌≡◌, ◌∙◌, ap, List, length, map, Some, None, arith}
+use Rattle.std.proofs.Common.{◌≡◌, ◌∙◌, ap, List, length, map, Some, arith}
 use Rattle.std.proofs.lemmas.List.{length-map}
 use Rattle.reo_behaviour.specs.Gate.{CanPlace, IsGateWith}
 use Rattle.reo_behaviour.specs.Behaviour.{Behaviour}

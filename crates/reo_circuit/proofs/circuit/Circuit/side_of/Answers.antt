@@ -1,6 +1,6 @@
 -- The side of an end is one of the sides.
-use Rattle.std.proofs.Common.{◌≡◌, ℕ, ◌+◌, ◌<◌, length, map, arith, rules, ◌∙◌}
-use Rattle.reo_behaviour.specs.Net.{all_sides, behaviour_at, first_side, side_at, Net, net_of}
+use Rattle.std.proofs.Common.{arith}
+use Rattle.reo_behaviour.specs.Net.{side_at, Net, net_of}
 use Rattle.reo_circuit.proofs.NetLemmas.{end_side_in, end_side_is}
 use Rattle.reo_circuit.proofs.circuit.Circuit.side_of.Goals as goal
 

@@ -1,5 +1,5 @@
 -- The shape stays, so what holds of it stays.
-use Rattle.std.proofs.Common.{◌≡◌, ◌∙◌, ap, List, ℕ, Option, length, map}
+use Rattle.std.proofs.Common.{◌≡◌, ◌∙◌, ap, List, Option, length, map}
 use Rattle.reo_values.specs.declared.value.Value.{Value}
 use Rattle.reo_behaviour.specs.declared.colouring.Chosen.{Chosen}
 use Rattle.reo_behaviour.specs.Behaviour.{Behaviour}

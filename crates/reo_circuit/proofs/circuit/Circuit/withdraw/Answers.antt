@@ -1,7 +1,7 @@
 -- The shape stays, so what holds of it stays.
-use Rattle.std.proofs.Common.{◌≡◌, ◌∙◌, ap, List, length, map, Some, None, arith}
+use Rattle.std.proofs.Common.{◌≡◌, ◌∙◌, ap, List, length, map, None, arith}
 use Rattle.std.proofs.lemmas.List.{length-map}
-use Rattle.reo_behaviour.specs.Gate.{CanPlace, IsGateWith}
+use Rattle.reo_behaviour.specs.Gate.{IsGateWith}
 use Rattle.reo_behaviour.specs.Behaviour.{Behaviour}
 use Rattle.reo_behaviour.specs.Step.{change_at}
 use Rattle.reo_circuit.proofs.ReshapeLemmas.{Reshaped, lawful_at, whole_slice}
