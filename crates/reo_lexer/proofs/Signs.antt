@@ -34,16 +34,16 @@ sign-starts a x h =
     few-of : (n : ℕ) → nat_le n 1 ≡ true → n ≤ 1
     few-of n h = grind (arith, nat_tests)
 
-too-long : (a b c : ℕ) (m : List ℕ) → one_of (a ∷ b ∷ c ∷ m) signs ≡ true → ⊥
+pub too-long : (a b c : ℕ) (m : List ℕ) → one_of (a ∷ b ∷ c ∷ m) signs ≡ true → ⊥
 too-long a b c m h = let f : length (b ∷ c ∷ m) ≤ 1 = (sign-starts a (b ∷ c ∷ m) h).few in absurd (omega arith)
 
-two-longest : (a b : ℕ) (rest : List ℕ) → one_of (a ∷ b ∷ []) signs ≡ true → Longest (a ∷ b ∷ []) rest
+pub two-longest : (a b : ℕ) (rest : List ℕ) → one_of (a ∷ b ∷ []) signs ≡ true → Longest (a ∷ b ∷ []) rest
 two-longest a b rest h k [] after w s = refl
 two-longest a b rest h k (c ∷ m) after w s =
     let f = sign-starts a (b ∷ []) h in
     absurd (too-long a b c m (by-other k a (b ∷ c ∷ m) f.no_letter f.no_digit f.no_quote s))
 
-one-longest : (a b : ℕ) (rest : List ℕ) → one_of (a ∷ []) signs ≡ true → one_of (a ∷ b ∷ []) signs ≡ false → Longest (a ∷ []) (b ∷ rest)
+pub one-longest : (a b : ℕ) (rest : List ℕ) → one_of (a ∷ []) signs ≡ true → one_of (a ∷ b ∷ []) signs ≡ false → Longest (a ∷ []) (b ∷ rest)
 one-longest a b rest h n k [] after w s = refl
 one-longest a b rest h n k (c ∷ []) after w s =
     let f = sign-starts a [] h in let e : b ≡ c = cc in
@@ -51,7 +51,7 @@ one-longest a b rest h n k (c ∷ []) after w s =
 one-longest a b rest h n k (c ∷ d ∷ m) after w s =
     let f = sign-starts a [] h in absurd (too-long a c d m (by-other k a (c ∷ d ∷ m) f.no_letter f.no_digit f.no_quote s))
 
-last-longest : (a : ℕ) → Longest (a ∷ []) []
+pub last-longest : (a : ℕ) → Longest (a ∷ []) []
 last-longest a k [] after w s = refl
 last-longest a k (c ∷ m) after w s = absurd (cc)
 
