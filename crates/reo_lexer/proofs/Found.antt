@@ -1,19 +1,19 @@
 -- The token or the fault in front.
-use Rattle.std.proofs.Common.{◌≡◌, ℕ, zero, suc, ◌+◌, ◌-◌, ◌≤◌, ◌<◌, Bool, true, false, cond, List, [], ◌∷◌, ◌++◌, length, take, drop, get_or, ◌⊎◌, inl, inr, refl, sym, ◌∙◌, ap, subst, arith, append_assoc, append-nil, length-append, length-drop, drop-cons, ◌==◌, nat_le}
+use Rattle.std.proofs.Common.{◌≡◌, ℕ, zero, suc, ◌+◌, ◌-◌, ◌≤◌, ◌<◌, Bool, true, false, cond, List, [], ◌∷◌, ◌++◌, length, take, drop, get_or, refl, sym, ◌∙◌, ap, subst, arith, append_assoc, length-append, length-drop, drop-cons, ◌==◌, nat_le}
 use Rattle.std.proofs.lemmas.Bool.Decides.{nat_tests}
 use Rattle.std.specs.List.{take_while}
 use Rattle.std.proofs.lemmas.List.Sums.{take_while-cons}
 use Rattle.reo_grammar.specs.declared.kind.TokenKind.{TokenKind}
 use Rattle.reo_grammar.specs.declared.kind.TokenKind.TheVariants as kinds
 use Rattle.reo_grammar.specs.Bytes.{and, or, is_not, is_digit, is_letter, is_name_byte, is_plain, is_escaped, each, one_of}
-use Rattle.reo_grammar.specs.Spelling.{spells, is_short, is_spelled, is_digits, is_closed, reserved, signs}
-use Rattle.reo_grammar.proofs.Sound.{and-left, and-right, and-both, or-left}
+use Rattle.reo_grammar.specs.Spelling.{spells, is_short, is_spelled, is_closed, reserved, signs}
+use Rattle.reo_grammar.proofs.Sound.{and-both, or-left}
 use Rattle.reo_lexer.specs.Gaps.{is_space}
 use Rattle.reo_lexer.specs.Lexing.{IsToken}
-use Rattle.reo_lexer.specs.Faults.{ends, goes, stops, is_break, is_wrong, BeginsNone, HasWrong, IsOpen, IsLong}
-use Rattle.reo_lexer.specs.Skipping.{past, Inside, inside, sign_size, IsFront}
-use Rattle.reo_lexer.proofs.Quotes.{inside-goes, goes-closed, halts, is_more}
-use Rattle.reo_lexer.proofs.Spelled.{name-longest, number-longest, text-longest, yes-not, not-yes}
+use Rattle.reo_lexer.specs.Faults.{stops, is_break, is_wrong, BeginsNone, HasWrong, IsOpen, IsLong}
+use Rattle.reo_lexer.specs.Skipping.{past, inside, sign_size, IsFront}
+use Rattle.reo_lexer.proofs.Quotes.{inside-goes, goes-closed, is_more}
+use Rattle.reo_lexer.proofs.Spelled.{name-longest, number-longest, text-longest, yes-not}
 use Rattle.reo_lexer.proofs.Signs.{sign-token, none-spelled}
 use Rattle.reo_lexer.proofs.Fronts.{take-cut, drop-cut, run-past}
 
@@ -31,7 +31,7 @@ past-cons : (p : ℕ → Bool) (b : ℕ) (r : List ℕ) → p b ≡ true → pas
 past-cons p b r h = rw h refl
 
 name-kind : (k : TokenKind) (left : List ℕ) (n : ℕ) → is_letter (get_or left 0 0) ≡ true → n ≡ length (take_while is_name_byte left)
-  → ((b : ℕ) (bs : List ℕ) → is_spelled (b ∷ bs) ≡ true → take n left ≡ b ∷ bs → (spells k (b ∷ bs) ≡ true) × (is_short k (b ∷ bs) ≡ true)) → IsFront k n left
+    → ((b : ℕ) (bs : List ℕ) → is_spelled (b ∷ bs) ≡ true → take n left ≡ b ∷ bs → (spells k (b ∷ bs) ≡ true) × (is_short k (b ∷ bs) ≡ true)) → IsFront k n left
 name-kind k [] n l e f = absurd (cc)
 name-kind k (b ∷ r) n l e f =
     let i : is_name_byte b ≡ true = or-left (is_letter b) (is_digit b) l in
@@ -42,7 +42,7 @@ name-kind k (b ∷ r) n l e f =
     let t : take n (b ∷ r) ≡ b ∷ take_while is_name_byte r = take-cut (b ∷ r) (b ∷ take_while is_name_byte r) (past is_name_byte r) n v m in
     let s = f b (take_while is_name_byte r) (and-both (is_letter b) (each is_name_byte (take_while is_name_byte r)) l a) t in
     front-of k (b ∷ r) (b ∷ take_while is_name_byte r) (past is_name_byte r) n v m
-      (record { spelled = s.0; short = s.1; longest = name-longest b (take_while is_name_byte r) (past is_name_byte r) l h })
+    (record { spelled = s.0; short = s.1; longest = name-longest b (take_while is_name_byte r) (past is_name_byte r) l h })
 
 -- Letters, digits and `_` in front are a reserved word or a name.
 pub word_front : (left : List ℕ) (n : ℕ) → is_letter (get_or left 0 0) ≡ true → n ≡ length (take_while is_name_byte left) → one_of (take n left) reserved ≡ true → IsFront kinds.Word n left
@@ -61,7 +61,7 @@ number-front (b ∷ r) n l e f =
     let v : b ∷ r ≡ (b ∷ take_while is_digit r) ++ past is_digit r = ap (λ l. b ∷ l) w in
     let m : n ≡ length (b ∷ take_while is_digit r) = e ∙ ap length c in
     front-of kinds.Number (b ∷ r) (b ∷ take_while is_digit r) (past is_digit r) n v m
-      (record { spelled = and-both (is_digit b) (each is_digit (take_while is_digit r)) l a; short = few (length (b ∷ take_while is_digit r)) (omega arith); longest = number-longest b (take_while is_digit r) (past is_digit r) l h })
+    (record { spelled = and-both (is_digit b) (each is_digit (take_while is_digit r)) l a; short = few (length (b ∷ take_while is_digit r)) (omega arith); longest = number-longest b (take_while is_digit r) (past is_digit r) l h })
   where
     few : (n : ℕ) → n ≤ 18 → nat_le n 18 ≡ true
     few n h = grind (arith, nat_tests)
@@ -93,7 +93,7 @@ sign-front (a ∷ r) n e h = (few a r n e, sign-token a r n (sym e) h)
         by false false e = omega arith
 
 pub none-front : (left : List ℕ) → 0 < length left → is_letter (get_or left 0 0) ≡ false → is_digit (get_or left 0 0) ≡ false → (get_or left 0 0 == 34) ≡ false
-  → is_space (get_or left 0 0) ≡ false → (get_or left 0 0 == 35) ≡ false → sign_size left ≡ 0 → BeginsNone left
+    → is_space (get_or left 0 0) ≡ false → (get_or left 0 0 == 35) ≡ false → sign_size left ≡ 0 → BeginsNone left
 none-front [] p l d q s h e = absurd (omega arith)
 none-front (a ∷ r) p l d q s h e = (a, r, refl, rw (s, h, q) refl, none-spelled a r l d q e)
 
@@ -106,13 +106,13 @@ text-front r m i h q =
     let k : is_closed false (body ++ 34 ∷ []) ≡ true = goes-closed false false body (34 ∷ []) g in
     let n : length body ≡ m = omega (arith, ap length w, length-append body (drop m r), length-drop m r) in
     front-of kinds.Text (34 ∷ r) (34 ∷ (body ++ 34 ∷ [])) (drop (suc m) r) (m + 2) (ap (λ l. 34 ∷ l) v) (omega (arith, length-append body (34 ∷ [])))
-      (record { spelled = k; short = refl; longest = text-longest (body ++ 34 ∷ []) (drop (suc m) r) k })
+    (record { spelled = k; short = refl; longest = text-longest (body ++ 34 ∷ []) (drop (suc m) r) k })
 
 pub text-open : (r : List ℕ) (e : Bool) (m : ℕ) → inside false r ≡ record { escape = e; left = drop m r } → stops (drop m r) ≡ true → IsOpen (34 ∷ r)
 text-open r e m i s = let (body, w, g, x) = rw i at (inside-goes false r) in (e, body, drop m r, ap (λ l. 34 ∷ l) w, g, s)
 
 pub text-wrong : (r : List ℕ) (e : Bool) (m : ℕ) → inside false r ≡ record { escape = e; left = drop m r } → m < length r → is_break (get_or r m 0) ≡ false
-  → (e ≡ false → (get_or r m 0 == 34) ≡ false) → HasWrong (34 ∷ r)
+    → (e ≡ false → (get_or r m 0 == 34) ≡ false) → HasWrong (34 ∷ r)
 text-wrong r e m i h b q =
     let (body, w, g, x) = rw i at (inside-goes false r) in
     let c : drop m r ≡ get_or r m 0 ∷ drop (suc m) r = drop-cons r m 0 h in

@@ -1,9 +1,9 @@
 -- Fronts of what is left.
-use Rattle.std.proofs.Common.{◌≡◌, ℕ, zero, suc, ◌+◌, ◌≤◌, ◌<◌, Bool, true, false, cond, List, [], ◌∷◌, ◌++◌, length, take, drop, ◌⊎◌, inl, inr, refl, sym, ◌∙◌, ap, arith, append_assoc, append-nil, length-append}
+use Rattle.std.proofs.Common.{◌≡◌, ℕ, Bool, true, false, cond, List, [], ◌∷◌, ◌++◌, length, take, drop, ◌⊎◌, inl, inr, refl, sym, ap, arith, length-append}
 use Rattle.std.proofs.Math.Seq.{take-append_seam}
 use Rattle.std.specs.List.{take_while}
 use Rattle.std.proofs.lemmas.List.Sums.{take_while-cons}
-use Rattle.reo_grammar.specs.Bytes.{and, is_not, each}
+use Rattle.reo_grammar.specs.Bytes.{each}
 use Rattle.reo_grammar.proofs.Sound.{and-both}
 use Rattle.reo_lexer.specs.Faults.{ends}
 use Rattle.reo_lexer.specs.Skipping.{past}
@@ -33,8 +33,9 @@ fronts (x ∷ a) b [] d e = inr (x ∷ a, refl, sym e)
 fronts (x ∷ a) b (y ∷ c) d e =
     let p : x ≡ y = cc in
     elim (fronts a b c d (cc)) [
-      inl (m, q, r) ↦ inl (m, rw (p, q) refl, r)
-    | inr (m, q, r) ↦ inr (m, rw (← p) (rw q refl), r) ]
+      | inl (m, q, r) ↦ inl (m, rw (p, q) refl, r)
+      | inr (m, q, r) ↦ inr (m, rw (← p) (rw q refl), r)
+    ]
 
 -- The longest front of a class, and what is behind it.
 pub run-past : (p : ℕ → Bool) (bs : List ℕ) → (bs ≡ take_while p bs ++ past p bs) × (each p (take_while p bs) ≡ true) × (ends p (past p bs) ≡ true)
@@ -42,6 +43,6 @@ run-past p [] = (refl, refl, refl)
 run-past p (b ∷ bs) = rw take_while-cons (by (p b) refl (run-past p bs))
   where
     by : (x : Bool) → p b ≡ x → (bs ≡ take_while p bs ++ past p bs) × (each p (take_while p bs) ≡ true) × (ends p (past p bs) ≡ true)
-      → (b ∷ bs ≡ cond x (b ∷ take_while p bs) [] ++ cond x (past p bs) (b ∷ bs)) × (each p (cond x (b ∷ take_while p bs) []) ≡ true) × (ends p (cond x (past p bs) (b ∷ bs)) ≡ true)
+        → (b ∷ bs ≡ cond x (b ∷ take_while p bs) [] ++ cond x (past p bs) (b ∷ bs)) × (each p (cond x (b ∷ take_while p bs) []) ≡ true) × (ends p (cond x (past p bs) (b ∷ bs)) ≡ true)
     by true e (w, i, j) = (ap (λ l. b ∷ l) w, and-both (p b) (each p (take_while p bs)) e i, j)
     by false e h = (refl, refl, rw e refl)

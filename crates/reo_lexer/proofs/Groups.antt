@@ -1,5 +1,5 @@
 -- Lists of words in groups.
-use Rattle.std.proofs.Common.{◌≡◌, ℕ, Bool, true, false, List, [], ◌∷◌, ◌++◌, refl, sym, ◌∙◌, ap}
+use Rattle.std.proofs.Common.{◌≡◌, ℕ, Bool, true, false, List, [], ◌∷◌, ◌++◌, refl, ◌∙◌, ap}
 use Rattle.std.specs.Str.{bytes_eq}
 use Rattle.reo_grammar.specs.Bytes.{or, one_of}
 use Rattle.reo_grammar.specs.Spelling.{frame_words, channel_words, item_words, term_words, script_words, reserved}
@@ -14,11 +14,11 @@ one_of-append b (x ∷ xs) ys = ap (λ c. or (bytes_eq b x) c) (one_of-append b 
 
 -- The groups of the reserved words.
 pub reserved_groups : (b : List ℕ)
-  → one_of b reserved ≡ or (one_of b frame_words) (or (one_of b channel_words) (or (one_of b item_words) (or (one_of b term_words) (one_of b script_words))))
+    → one_of b reserved ≡ or (one_of b frame_words) (or (one_of b channel_words) (or (one_of b item_words) (or (one_of b term_words) (one_of b script_words))))
 reserved_groups b =
     one_of-append b frame_words (channel_words ++ (item_words ++ (term_words ++ script_words)))
-  ∙ ap (λ c. or (one_of b frame_words) c)
-      (one_of-append b channel_words (item_words ++ (term_words ++ script_words))
-      ∙ ap (λ c. or (one_of b channel_words) c)
-          (one_of-append b item_words (term_words ++ script_words)
-          ∙ ap (λ c. or (one_of b item_words) c) (one_of-append b term_words script_words)))
+    ∙ ap (λ c. or (one_of b frame_words) c)
+    (one_of-append b channel_words (item_words ++ (term_words ++ script_words))
+    ∙ ap (λ c. or (one_of b channel_words) c)
+    (one_of-append b item_words (term_words ++ script_words)
+    ∙ ap (λ c. or (one_of b item_words) c) (one_of-append b term_words script_words)))

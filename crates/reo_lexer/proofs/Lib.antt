@@ -9,3 +9,4 @@ pub mod Found
 pub mod Reading
 pub mod Next
 pub mod Spans
+pub mod Cut

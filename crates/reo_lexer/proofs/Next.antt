@@ -1,14 +1,12 @@
 -- The next token from a place on.
-use Rattle.std.proofs.Common.{◌≡◌, ℕ, zero, suc, ◌+◌, ◌-◌, ◌≤◌, ◌<◌, Bool, true, false, cond, List, [], ◌∷◌, ◌++◌, length, take, drop, get_or, refl, sym, ◌∙◌, ap, subst, arith, append_assoc, append-nil, length-append, length-drop, drop-drop, ◌==◌, Ok, Err, Result}
+use Rattle.std.proofs.Common.{◌≡◌, ℕ, zero, suc, ◌+◌, ◌-◌, ◌≤◌, ◌<◌, Bool, true, false, cond, List, [], ◌∷◌, ◌++◌, length, take, drop, get_or, refl, sym, ◌∙◌, ap, subst, arith, append-nil, length-drop, drop-drop, ◌==◌, Err}
 use Rattle.std.proofs.lemmas.List.{take-append-drop}
-use Rattle.std.proofs.lemmas.Bool.Decides.{nat_tests}
 use Rattle.reo_grammar.specs.declared.kind.TokenKind.{TokenKind}
-use Rattle.reo_lexer.specs.declared.token.Token.{Token}
 use Rattle.reo_lexer.specs.declared.token.LexFault.{LexFault}
 use Rattle.reo_lexer.specs.declared.token.LexFault.TheVariants as faults
 use Rattle.reo_grammar.specs.Spelling.{spells}
 use Rattle.reo_lexer.specs.Gaps.{is_space, is_no_lf, IsGap, lines_in}
-use Rattle.reo_lexer.specs.Lexing.{IsToken, Leads, AtEnd}
+use Rattle.reo_lexer.specs.Lexing.{Leads, AtEnd}
 use Rattle.reo_lexer.specs.Faults.{BeginsFault, AtFault}
 use Rattle.reo_lexer.specs.Skipping.{behind, IsFront, Finds}
 use Rattle.reo_lexer.proofs.Skipped.{behind-gap, behind-end}
@@ -35,8 +33,8 @@ behind-stops true (x ∷ bs) b r e = behind-stops (is_no_lf x) bs b r e
 behind-stops false (x ∷ bs) b r e = by (is_space x) (x == 35) refl refl e (λ q. behind-stops false bs b r q) (λ q. behind-stops true bs b r q)
   where
     by : (y z : Bool) → is_space x ≡ y → (x == 35) ≡ z → cond y (behind false bs) (cond z (behind true bs) (x ∷ bs)) ≡ b ∷ r
-      → (behind false bs ≡ b ∷ r → (is_space b ≡ false) × ((b == 35) ≡ false)) → (behind true bs ≡ b ∷ r → (is_space b ≡ false) × ((b == 35) ≡ false))
-      → (is_space b ≡ false) × ((b == 35) ≡ false)
+        → (behind false bs ≡ b ∷ r → (is_space b ≡ false) × ((b == 35) ≡ false)) → (behind true bs ≡ b ∷ r → (is_space b ≡ false) × ((b == 35) ≡ false))
+        → (is_space b ≡ false) × ((b == 35) ≡ false)
     by true z p q e h i = h e
     by false true p q e h i = i e
     by false false p q e h i = let w : x ≡ b = cc in (rw w at p, rw w at q)
@@ -99,22 +97,25 @@ module _ (text : List ℕ) (at line n : ℕ) (within : at ≤ length text) (g : 
       (take n (drop at text), drop n (drop at text), sym (take-append-drop n (drop at text)), gap-front (drop at text) n here (omega (arith, length-drop at text)), rw w at v)
 
   pub lead-found : at + n < length text → (c : ℕ) → c ≡ lines_in (take n (from text at)) → (k : TokenKind) (m : ℕ) → IsFront k m (from text (at + n))
-    → Leads at line (drop at text) (record { kind = k; start = at + n; end = at + n + m; line = line + c }) (drop (at + n + m) text) × (0 < m) × (at + n + m ≤ length text)
+      → Leads at line (drop at text) (record { kind = k; start = at + n; end = at + n + m; line = line + c }) (drop (at + n + m) text) × (0 < m) × (at + n + m ≤ length text)
   lead-found h c e k m f =
       let w : c ≡ lines_in (take n (drop at text)) = rw (from-drop text at within) at e in
       let v : IsFront k m (drop n (drop at text)) = rw (further (omega arith)) at f in
       let s : n ≤ length (drop at text) = omega (arith, length-drop at text) in
-      let d : drop m (drop n (drop at text)) ≡ drop (at + n + m) text = ap (drop m) (drop-drop n at text) ∙ drop-drop m (at + n) text in
-      (record {
-         gap = take n (drop at text);
-         bytes = take m (drop n (drop at text));
-         cut = sym (take-append-drop n (drop at text)) ∙ ap (λ l. take n (drop at text) ++ l) (sym (take-append-drop m (drop n (drop at text))) ∙ ap (λ l. take m (drop n (drop at text)) ++ l) d);
-         between = gap-front (drop at text) n here (omega (arith, length-drop at text));
-         token = rw (← d) v.1;
-         start = ap (λ z. at + z) (sym (length-take n (drop at text) s));
-         end = ap (λ z. at + n + z) (sym (length-take m (drop n (drop at text)) v.0));
-         line = ap (λ z. line + z) w
-       }, some k m (drop n (drop at text)) v.1.spelled, omega (arith, length-drop at text, length-drop n (drop at text), v.0))
+      let d : drop m (drop n (drop at text)) ≡ drop (at + n + m) text = ap (drop m) (drop-drop n at text) ∙ drop-drop m (at + n) text in (
+        record {
+          gap = take n (drop at text);
+          bytes = take m (drop n (drop at text));
+          cut = sym (take-append-drop n (drop at text)) ∙ ap (λ l. take n (drop at text) ++ l) (sym (take-append-drop m (drop n (drop at text))) ∙ ap (λ l. take m (drop n (drop at text)) ++ l) d);
+          between = gap-front (drop at text) n here (omega (arith, length-drop at text));
+          token = rw (← d) v.1;
+          start = ap (λ z. at + z) (sym (length-take n (drop at text) s));
+          end = ap (λ z. at + n + z) (sym (length-take m (drop n (drop at text)) v.0));
+          line = ap (λ z. line + z) w;
+        },
+        some k m (drop n (drop at text)) v.1.spelled,
+        omega (arith, length-drop at text, length-drop n (drop at text), v.0),
+      )
     where
       some : (k : TokenKind) (m : ℕ) (l : List ℕ) → spells k (take m l) ≡ true → 0 < m
       some k zero l s = absurd (no-empty k s)

@@ -1,22 +1,22 @@
 -- A text has one list of tokens or one fault.
-use Rattle.std.proofs.Common.{◌≡◌, ℕ, zero, suc, ◌+◌, ◌≤◌, ◌<◌, Bool, true, false, cond, List, [], ◌∷◌, ◌++◌, length, ◌⊎◌, inl, inr, refl, sym, ◌∙◌, ap, subst, arith, append_assoc, append-nil, length-append, ◌==◌, nat_le}
+use Rattle.std.proofs.Common.{◌≡◌, ℕ, ◌+◌, ◌≤◌, ◌<◌, Bool, true, false, List, [], ◌∷◌, ◌++◌, length, ◌⊎◌, inl, inr, refl, sym, ◌∙◌, ap, subst, arith, append_assoc, append-nil, ◌==◌, nat_le}
 use Rattle.std.proofs.lemmas.Bool.Decides.{nat_tests}
 use Rattle.reo_grammar.specs.declared.kind.TokenKind.{TokenKind}
 use Rattle.reo_grammar.specs.declared.kind.TokenKind.TheVariants as kinds
 use Rattle.reo_grammar.specs.Bytes.{and, or, is_not, is_digit, each}
 use Rattle.reo_grammar.specs.Spelling.{spells, is_short, is_digits, is_closed}
-use Rattle.reo_grammar.proofs.Sound.{and-left, and-right, or-left, or-right}
+use Rattle.reo_grammar.proofs.Sound.{and-left, and-right}
 use Rattle.reo_grammar.proofs.Classes.{no-both}
 use Rattle.reo_lexer.specs.declared.token.Token.{Token}
 use Rattle.reo_lexer.specs.declared.token.LexFault.{LexFault}
 use Rattle.reo_lexer.specs.declared.token.LexFault.TheVariants as faults
 use Rattle.reo_lexer.specs.Gaps.{IsGap, is_space, lines_in}
 use Rattle.reo_lexer.specs.Lexing.{IsToken, Leads, Runs, AtEnd}
-use Rattle.reo_lexer.specs.Faults.{goes, stops, is_break, is_wrong, ends, BeginsNone, HasWrong, IsOpen, IsLong, BeginsFault, AtFault}
+use Rattle.reo_lexer.specs.Faults.{stops, is_break, is_wrong, BeginsNone, HasWrong, IsOpen, IsLong, BeginsFault, AtFault}
 use Rattle.reo_lexer.specs.Skipping.{behind, Inside, inside}
 use Rattle.reo_lexer.proofs.Skipped.{gap-skipped, end-behind, behind-here}
 use Rattle.reo_lexer.proofs.Quotes.{goes-inside, closed-goes, wrong-halts, stops-halts}
-use Rattle.reo_lexer.proofs.Spelled.{one-kind, no-empty, by-digit, by-quote, no_gap_head, token-head, digit-head, not-yes, each-next, ends-no, digit-parts}
+use Rattle.reo_lexer.proofs.Spelled.{one-kind, no-empty, by-digit, by-quote, no_gap_head, token-head, digit-head, not-yes, each-next, ends-no}
 use Rattle.reo_lexer.proofs.Fronts.{cancel, fronts}
 
 -- What begins no gap is what stands behind the gap before it.
@@ -42,12 +42,13 @@ same-gap left g h r s w v i j k l =
 same-bytes : (k l : TokenKind) (a b c d : List ℕ) → a ++ c ≡ b ++ d → IsToken k a c → IsToken l b d → (a ≡ b) × (c ≡ d) × (k ≡ l)
 same-bytes k l a b c d e t u =
     elim (fronts a c b d e) [
-      inl (m, q, r) ↦ let n : m ≡ [] = t.longest l m d r (rw q at u.spelled) in
-        let ab : a ≡ b = sym (rw (q, n, append-nil) refl) in
-        (ab, rw (r, n) refl, one-kind k l b (rw ab at t.spelled) u.spelled)
-    | inr (m, q, r) ↦ let n : m ≡ [] = u.longest k m c r (rw q at t.spelled) in
-        let ab : a ≡ b = rw (q, n, append-nil) refl in
-        (ab, sym (rw (r, n) refl), one-kind k l b (rw ab at t.spelled) u.spelled) ]
+      | inl (m, q, r) ↦ let n : m ≡ [] = t.longest l m d r (rw q at u.spelled) in
+          let ab : a ≡ b = sym (rw (q, n, append-nil) refl) in
+          (ab, rw (r, n) refl, one-kind k l b (rw ab at t.spelled) u.spelled)
+      | inr (m, q, r) ↦ let n : m ≡ [] = u.longest k m c r (rw q at t.spelled) in
+          let ab : a ≡ b = rw (q, n, append-nil) refl in
+          (ab, sym (rw (r, n) refl), one-kind k l b (rw ab at t.spelled) u.spelled)
+    ]
 
 made : TokenKind → ℕ → ℕ → ℕ → Token
 made k s e l = record { kind = k; start = s; end = e; line = l }
@@ -105,7 +106,7 @@ wrong-quote false b q p h = let k : is_wrong false 34 ≡ true = rw q at h in cc
 
 -- A text in quotes that is closed has no fault: what stands where its inside ends is its closing quote.
 quoted : (k : TokenKind) (bytes after : List ℕ) (to : Bool) (body tail : List ℕ) → spells k bytes ≡ true → bytes ++ after ≡ 34 ∷ (body ++ tail)
-  → inside false (body ++ tail) ≡ record { escape = to; left = tail } → (tail ≡ 34 ∷ after) × (to ≡ false)
+    → inside false (body ++ tail) ≡ record { escape = to; left = tail } → (tail ≡ 34 ∷ after) × (to ≡ false)
 quoted k [] after to body tail h w i = absurd (no-empty k h)
 quoted k (q ∷ bs) after to body tail h w i =
     let e : q ≡ 34 = cc in
@@ -144,11 +145,12 @@ token-long k (b ∷ bs) after t (x ∷ ds, r, w, d, e, n) =
     let i : is_digit b ≡ true = rw q (and-left (is_digit x) (each is_digit ds) d) in
     let j : is_digits (b ∷ bs) ≡ true = by-digit k b bs i t.spelled in
     elim (fronts (b ∷ bs) after (x ∷ ds) r w) [
-      inl (m, u, v) ↦
-        let z : m ≡ [] = t.longest kinds.Number m r v (let P : List ℕ → Type 0 = λ l. is_digits l ≡ true in subst P u d) in
-        let y : x ∷ ds ≡ b ∷ bs = u ∙ ap (λ l. (b ∷ bs) ++ l) z ∙ append-nil (b ∷ bs) in
-        few-digits k (b ∷ bs) t.spelled t.short j (let L : List ℕ → Type 0 = λ l. 18 < length l in subst L y n)
-    | inr (m, u, v) ↦ over m u v j ]
+      | inl (m, u, v) ↦
+          let z : m ≡ [] = t.longest kinds.Number m r v (let P : List ℕ → Type 0 = λ l. is_digits l ≡ true in subst P u d) in
+          let y : x ∷ ds ≡ b ∷ bs = u ∙ ap (λ l. (b ∷ bs) ++ l) z ∙ append-nil (b ∷ bs) in
+          few-digits k (b ∷ bs) t.spelled t.short j (let L : List ℕ → Type 0 = λ l. 18 < length l in subst L y n)
+      | inr (m, u, v) ↦ over m u v j
+    ]
   where
     over : (m : List ℕ) → b ∷ bs ≡ (x ∷ ds) ++ m → r ≡ m ++ after → is_digits (b ∷ bs) ≡ true → ⊥
     over [] u v j = let y : x ∷ ds ≡ b ∷ bs = sym (u ∙ append-nil (x ∷ ds)) in few-digits k (b ∷ bs) t.spelled t.short j (let L : List ℕ → Type 0 = λ l. 18 < length l in subst L y n)

@@ -1,5 +1,5 @@
 -- Texts in quotes: where their insides end.
-use Rattle.std.proofs.Common.{◌≡◌, ℕ, zero, suc, ◌+◌, ◌≤◌, Bool, true, false, cond, List, [], ◌∷◌, ◌++◌, length, ◌⊎◌, inl, inr, refl, sym, ◌∙◌, ap, append_assoc, append-nil, arith, ◌==◌, nat_le}
+use Rattle.std.proofs.Common.{◌≡◌, ℕ, Bool, true, false, cond, List, [], ◌∷◌, ◌++◌, refl, sym, ◌∙◌, ap, append_assoc, arith, ◌==◌, nat_le}
 use Rattle.std.proofs.lemmas.Bool.Decides.{nat_tests}
 use Rattle.reo_grammar.specs.Bytes.{and, or, is_not, is_plain, is_escaped, is_empty}
 use Rattle.reo_grammar.specs.Spelling.{is_closed}
@@ -59,7 +59,7 @@ inside-goes true (b ∷ bs) = by (is_escaped b) refl (inside-goes false bs)
 inside-goes false (b ∷ bs) = by (b == 92) (is_plain b) refl refl (inside-goes true bs) (inside-goes false bs)
   where
     by : (x y : Bool) → (b == 92) ≡ x → is_plain b ≡ y → Goes true bs (inside true bs) → Goes false bs (inside false bs)
-      → Goes false (b ∷ bs) (cond x (inside true bs) (cond y (inside false bs) (record { escape = false; left = b ∷ bs })))
+        → Goes false (b ∷ bs) (cond x (inside true bs) (cond y (inside false bs) (record { escape = false; left = b ∷ bs })))
     by true y h p g k = further_escape b bs (inside true bs) h g
     by false true h p g k = further_plain b bs (inside false bs) h p k
     by false false h p g k = here false (b ∷ bs) (no-more (b == 92) (is_plain b) h p)
@@ -88,9 +88,9 @@ goes-inside false to (b ∷ body) left g h = by (b == 92) (is_plain b) g
     (λ k. goes-inside true to body left k h) (λ k. goes-inside false to body left k h)
   where
     by : (x y : Bool) → cond x (goes true body to) (and y (goes false body to)) ≡ true
-      → (goes true body to ≡ true → inside true (body ++ left) ≡ record { escape = to; left = left })
-      → (goes false body to ≡ true → inside false (body ++ left) ≡ record { escape = to; left = left })
-      → cond x (inside true (body ++ left)) (cond y (inside false (body ++ left)) (record { escape = false; left = b ∷ (body ++ left) })) ≡ record { escape = to; left = left }
+        → (goes true body to ≡ true → inside true (body ++ left) ≡ record { escape = to; left = left })
+        → (goes false body to ≡ true → inside false (body ++ left) ≡ record { escape = to; left = left })
+        → cond x (inside true (body ++ left)) (cond y (inside false (body ++ left)) (record { escape = false; left = b ∷ (body ++ left) })) ≡ record { escape = to; left = left }
     by true y k i j = i k
     by false true k i j = j k
     by false false k i j = absurd (cc)
@@ -109,12 +109,14 @@ goes-closed false to (b ∷ body) rest g = by (b == 92) (is_plain b) refl refl g
   where
     plain-no-quote : is_plain b ≡ true → (b == 34) ≡ false
     plain-no-quote h = not-yes (b == 34) (and-left (is_not (b == 34)) (is_not (b == 92)) (and-right (and (nat_le 32 b) (nat_le b 126)) (and (is_not (b == 34)) (is_not (b == 92))) h))
+
     escape-no-quote : (b == 92) ≡ true → (b == 34) ≡ false
     escape-no-quote h = let n : b ≡ 92 = grind (arith, nat_tests) in rw n refl
+
     by : (x y : Bool) → (b == 92) ≡ x → is_plain b ≡ y → cond x (goes true body to) (and y (goes false body to)) ≡ true
-      → (goes true body to ≡ true → is_closed true (body ++ rest) ≡ is_closed to rest)
-      → (goes false body to ≡ true → is_closed false (body ++ rest) ≡ is_closed to rest)
-      → cond (b == 34) (is_empty (body ++ rest)) (cond x (is_closed true (body ++ rest)) (and y (is_closed false (body ++ rest)))) ≡ is_closed to rest
+        → (goes true body to ≡ true → is_closed true (body ++ rest) ≡ is_closed to rest)
+        → (goes false body to ≡ true → is_closed false (body ++ rest) ≡ is_closed to rest)
+        → cond (b == 34) (is_empty (body ++ rest)) (cond x (is_closed true (body ++ rest)) (and y (is_closed false (body ++ rest)))) ≡ is_closed to rest
     by true y h p k i j = rw (escape-no-quote h) (i k)
     by false true h p k i j = rw (plain-no-quote p) (j k)
     by false false h p k i j = absurd (cc)
@@ -133,9 +135,9 @@ closed-goes true (b ∷ bs) h =
 closed-goes false (b ∷ bs) h = by (b == 34) (b == 92) refl refl h (λ k. closed-goes true bs k) (λ k. closed-goes false bs k)
   where
     by : (x y : Bool) → (b == 34) ≡ x → (b == 92) ≡ y → cond x (is_empty bs) (cond y (is_closed true bs) (and (is_plain b) (is_closed false bs))) ≡ true
-      → (is_closed true bs ≡ true → (body : List ℕ) × (bs ≡ body ++ 34 ∷ []) × (goes true body false ≡ true))
-      → (is_closed false bs ≡ true → (body : List ℕ) × (bs ≡ body ++ 34 ∷ []) × (goes false body false ≡ true))
-      → (body : List ℕ) × (b ∷ bs ≡ body ++ 34 ∷ []) × (goes false body false ≡ true)
+        → (is_closed true bs ≡ true → (body : List ℕ) × (bs ≡ body ++ 34 ∷ []) × (goes true body false ≡ true))
+        → (is_closed false bs ≡ true → (body : List ℕ) × (bs ≡ body ++ 34 ∷ []) × (goes false body false ≡ true))
+        → (body : List ℕ) × (b ∷ bs ≡ body ++ 34 ∷ []) × (goes false body false ≡ true)
     by true y q e k i j = let n : b ≡ 34 = grind (arith, nat_tests) in ([], rw (n, empty-is bs k) refl, refl)
     by false true q e k i j = let (body, w, g) = i k in (b ∷ body, ap (λ l. b ∷ l) w, escape-step (b == 92) (goes true body false) (and (is_plain b) (goes false body false)) e g)
     by false false q e k i j =

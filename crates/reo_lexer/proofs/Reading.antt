@@ -1,5 +1,5 @@
 -- Reading token by token.
-use Rattle.std.proofs.Common.{◌≡◌, ℕ, zero, suc, ◌+◌, ◌-◌, ◌≤◌, ◌<◌, Bool, true, false, List, [], ◌∷◌, ◌++◌, length, take, drop, get_or, refl, sym, ◌∙◌, ap, subst, arith, append_assoc, append-nil, length-append, length-drop, ◌==◌, Ok, Err, Result}
+use Rattle.std.proofs.Common.{ℕ, List, [], ◌∷◌, ◌++◌, drop, append_assoc, append-nil, Ok, Err, Result}
 use Rattle.reo_lexer.specs.declared.token.Token.{Token}
 use Rattle.reo_lexer.specs.declared.token.LexFault.{LexFault}
 use Rattle.reo_lexer.specs.declared.token.LexFault.TheVariants as faults
@@ -17,7 +17,7 @@ pub so_far-start : (text : List ℕ) → SoFar text 0 1 []
 so_far-start text e us h = h
 
 pub so_far-more : (text : List ℕ) (at line : ℕ) (ts : List Token) (t : Token) → SoFar text at line ts → Leads at line (drop at text) t (drop t.end text)
-  → SoFar text t.end t.line (ts ++ t ∷ [])
+    → SoFar text t.end t.line (ts ++ t ∷ [])
 so_far-more text at line ts t h l e us r = rw append_assoc (h e (t ∷ us) (drop t.end text, l, r))
 
 pub so_far-end : (text : List ℕ) (at line : ℕ) (ts : List Token) → SoFar text at line ts → AtEnd line (drop at text) → IsTokens text ts

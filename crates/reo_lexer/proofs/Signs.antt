@@ -1,9 +1,9 @@
 -- The longest sign in front.
-use Rattle.std.proofs.Common.{◌≡◌, ℕ, zero, suc, ◌+◌, ◌≤◌, ◌<◌, Bool, true, false, cond, List, [], ◌∷◌, ◌++◌, length, take, drop, refl, sym, ◌∙◌, ap, arith, ◌==◌, nat_le}
+use Rattle.std.proofs.Common.{◌≡◌, ℕ, ◌≤◌, ◌<◌, Bool, true, false, cond, List, [], ◌∷◌, ◌++◌, length, take, drop, refl, arith, ◌==◌, nat_le}
 use Rattle.std.proofs.lemmas.Bool.Decides.{nat_tests}
 use Rattle.reo_grammar.specs.declared.kind.TokenKind.{TokenKind}
 use Rattle.reo_grammar.specs.declared.kind.TokenKind.TheVariants as kinds
-use Rattle.reo_grammar.specs.Bytes.{and, or, is_not, is_digit, is_letter, one_of}
+use Rattle.reo_grammar.specs.Bytes.{and, is_not, is_digit, is_letter, one_of}
 use Rattle.reo_grammar.specs.Spelling.{spells, signs}
 use Rattle.reo_grammar.proofs.Sound.{and-left, and-right}
 use Rattle.reo_grammar.proofs.Classes.{no-both}
@@ -28,22 +28,22 @@ sign-starts a x h =
       no_letter = not-yes (is_letter a) (and-left (is_not (is_letter a)) (and (is_not (is_digit a)) (is_not (a == 34))) s);
       no_digit = not-yes (is_digit a) (and-left (is_not (is_digit a)) (is_not (a == 34)) t);
       no_quote = not-yes (a == 34) (and-right (is_not (is_digit a)) (is_not (a == 34)) t);
-      few = few-of (length x) n
+      few = few-of (length x) n;
     }
   where
     few-of : (n : ℕ) → nat_le n 1 ≡ true → n ≤ 1
     few-of n h = grind (arith, nat_tests)
 
-too-long : (a b c : ℕ) (m : List ℕ) → one_of (a ∷ b ∷ c ∷ m) signs ≡ true → ⊥
+pub too-long : (a b c : ℕ) (m : List ℕ) → one_of (a ∷ b ∷ c ∷ m) signs ≡ true → ⊥
 too-long a b c m h = let f : length (b ∷ c ∷ m) ≤ 1 = (sign-starts a (b ∷ c ∷ m) h).few in absurd (omega arith)
 
-two-longest : (a b : ℕ) (rest : List ℕ) → one_of (a ∷ b ∷ []) signs ≡ true → Longest (a ∷ b ∷ []) rest
+pub two-longest : (a b : ℕ) (rest : List ℕ) → one_of (a ∷ b ∷ []) signs ≡ true → Longest (a ∷ b ∷ []) rest
 two-longest a b rest h k [] after w s = refl
 two-longest a b rest h k (c ∷ m) after w s =
     let f = sign-starts a (b ∷ []) h in
     absurd (too-long a b c m (by-other k a (b ∷ c ∷ m) f.no_letter f.no_digit f.no_quote s))
 
-one-longest : (a b : ℕ) (rest : List ℕ) → one_of (a ∷ []) signs ≡ true → one_of (a ∷ b ∷ []) signs ≡ false → Longest (a ∷ []) (b ∷ rest)
+pub one-longest : (a b : ℕ) (rest : List ℕ) → one_of (a ∷ []) signs ≡ true → one_of (a ∷ b ∷ []) signs ≡ false → Longest (a ∷ []) (b ∷ rest)
 one-longest a b rest h n k [] after w s = refl
 one-longest a b rest h n k (c ∷ []) after w s =
     let f = sign-starts a [] h in let e : b ≡ c = cc in
@@ -51,7 +51,7 @@ one-longest a b rest h n k (c ∷ []) after w s =
 one-longest a b rest h n k (c ∷ d ∷ m) after w s =
     let f = sign-starts a [] h in absurd (too-long a c d m (by-other k a (c ∷ d ∷ m) f.no_letter f.no_digit f.no_quote s))
 
-last-longest : (a : ℕ) → Longest (a ∷ []) []
+pub last-longest : (a : ℕ) → Longest (a ∷ []) []
 last-longest a k [] after w s = refl
 last-longest a k (c ∷ m) after w s = absurd (cc)
 
@@ -77,7 +77,7 @@ size_two x y = cond x 2 (cond y 1 0)
 
 -- A byte that is no letter, digit or quote and begins no sign begins no token.
 pub none-spelled : (a : ℕ) (r : List ℕ) → is_letter a ≡ false → is_digit a ≡ false → (a == 34) ≡ false → sign_size (a ∷ r) ≡ 0
-  → (k : TokenKind) (front more : List ℕ) → a ∷ r ≡ front ++ more → spells k front ≡ true → ⊥
+    → (k : TokenKind) (front more : List ℕ) → a ∷ r ≡ front ++ more → spells k front ≡ true → ⊥
 none-spelled a r l d q e k [] more w s = no-empty k s
 none-spelled a r l d q e k (x ∷ []) more w s =
     let i : a ≡ x = cc in one-none r e (by-other k a [] l d q (rw i s))

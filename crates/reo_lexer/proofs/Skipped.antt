@@ -1,7 +1,7 @@
 -- Gaps: what stands behind one.
-use Rattle.std.proofs.Common.{◌≡◌, ℕ, zero, suc, ◌+◌, ◌≤◌, Bool, true, false, cond, List, [], ◌∷◌, ◌++◌, length, refl, sym, ◌∙◌, ap, append_assoc, append-nil, arith, ◌==◌}
+use Rattle.std.proofs.Common.{◌≡◌, ℕ, Bool, true, false, cond, List, [], ◌∷◌, ◌++◌, refl, ◌∙◌, ap, append_assoc, append-nil, arith, ◌==◌}
 use Rattle.std.proofs.lemmas.Bool.Decides.{nat_tests}
-use Rattle.reo_grammar.specs.Bytes.{and, or, is_not, each}
+use Rattle.reo_grammar.specs.Bytes.{each}
 use Rattle.reo_grammar.proofs.Sound.{and-left, and-right, and-both}
 use Rattle.reo_lexer.specs.Gaps.{is_space, is_no_lf, IsGap}
 use Rattle.reo_lexer.specs.Gaps.IsGap.{no_gap, space, comment}
@@ -29,7 +29,7 @@ in_comment x bs r true e (c, g, h, i, w) = (x ∷ c, g, and-both (is_no_lf x) (e
 in_comment x bs r false e (g, i, w) = let n : x ≡ 10 = grind (arith, nat_tests) in ([], g, refl, i, rw (n, w) refl)
 
 in_gap : (x : ℕ) (bs r : List ℕ) (y z : Bool) → is_space x ≡ y → (x == 35) ≡ z → (y ≡ true → Skipped false bs r) → (z ≡ true → Skipped true bs r)
-  → (y ≡ false → z ≡ false → x ∷ bs ≡ r) → Skipped false (x ∷ bs) r
+    → (y ≡ false → z ≡ false → x ∷ bs ≡ r) → Skipped false (x ∷ bs) r
 in_gap x bs r true z e f h i w = let (g, k, v) = h refl in (x ∷ g, space x g e k, ap (λ l. x ∷ l) v)
 in_gap x bs r false true e f h i w = let (c, g, k, l, v) = i refl in let n : x ≡ 35 = grind (arith, nat_tests) in (35 ∷ (c ++ (10 ∷ g)), comment c g k l, rw (n, v, append_assoc) refl)
 in_gap x bs r false false e f h i w = ([], no_gap, w refl refl)
@@ -43,9 +43,9 @@ behind-gap false [] b r e = absurd (cc)
 behind-gap true (x ∷ bs) b r e = in_comment x bs (b ∷ r) (is_no_lf x) refl (behind-gap (is_no_lf x) bs b r e)
 behind-gap false (x ∷ bs) b r e =
     in_gap x bs (b ∷ r) (is_space x) (x == 35) refl refl
-      (λ q. behind-gap false bs b r (rw q at e))
-      (λ q. let s : is_space x ≡ false = not_space x q in behind-gap true bs b r (rw q at (rw s at e)))
-      (λ q p. rw p at (rw q at e))
+    (λ q. behind-gap false bs b r (rw q at e))
+    (λ q. let s : is_space x ≡ false = not_space x q in behind-gap true bs b r (rw q at (rw s at e)))
+    (λ q p. rw p at (rw q at e))
 
 -- Where nothing stands behind the gap, the text is a gap once it ends with an LF.
 abbrev pub Ended : Bool → List ℕ → Type 0
@@ -57,9 +57,9 @@ behind-end false [] e = (10 ∷ [], space 10 [] refl no_gap, refl)
 behind-end true (x ∷ bs) e = in_comment x (bs ++ 10 ∷ []) [] (is_no_lf x) refl (behind-end (is_no_lf x) bs e)
 behind-end false (x ∷ bs) e =
     in_gap x (bs ++ 10 ∷ []) [] (is_space x) (x == 35) refl refl
-      (λ q. behind-end false bs (rw q at e))
-      (λ q. let s : is_space x ≡ false = not_space x q in behind-end true bs (rw q at (rw s at e)))
-      (λ q p. absurd (let k = rw p at (rw q at e) in cc))
+    (λ q. behind-end false bs (rw q at e))
+    (λ q. let s : is_space x ≡ false = not_space x q in behind-end true bs (rw q at (rw s at e)))
+    (λ q p. absurd (let k = rw p at (rw q at e) in cc))
 
 -- What stands behind a gap stays behind it when more follows.
 pub behind-more : (y : Bool) (bs : List ℕ) (b : ℕ) (r s : List ℕ) → behind y bs ≡ b ∷ r → behind y (bs ++ s) ≡ b ∷ (r ++ s)
@@ -69,8 +69,8 @@ behind-more true (x ∷ bs) b r s e = behind-more (is_no_lf x) bs b r s e
 behind-more false (x ∷ bs) b r s e = by (is_space x) (x == 35) e (λ q. behind-more false bs b r s q) (λ q. behind-more true bs b r s q)
   where
     by : (y z : Bool) → cond y (behind false bs) (cond z (behind true bs) (x ∷ bs)) ≡ b ∷ r
-      → (behind false bs ≡ b ∷ r → behind false (bs ++ s) ≡ b ∷ (r ++ s)) → (behind true bs ≡ b ∷ r → behind true (bs ++ s) ≡ b ∷ (r ++ s))
-      → cond y (behind false (bs ++ s)) (cond z (behind true (bs ++ s)) (x ∷ (bs ++ s))) ≡ b ∷ (r ++ s)
+        → (behind false bs ≡ b ∷ r → behind false (bs ++ s) ≡ b ∷ (r ++ s)) → (behind true bs ≡ b ∷ r → behind true (bs ++ s) ≡ b ∷ (r ++ s))
+        → cond y (behind false (bs ++ s)) (cond z (behind true (bs ++ s)) (x ∷ (bs ++ s))) ≡ b ∷ (r ++ s)
     by true z e h i = h e
     by false true e h i = i e
     by false false e h i = let p : x ≡ b = cc in let q : bs ≡ r = cc in rw (p, q) refl

@@ -1,17 +1,15 @@
 -- The kind of a token by its bytes, and the longest token in front.
-use Rattle.std.proofs.Common.{◌≡◌, ℕ, zero, suc, ◌+◌, ◌≤◌, ◌<◌, Bool, true, false, cond, List, [], ◌∷◌, ◌++◌, length, ◌⊎◌, inl, inr, refl, sym, ◌∙◌, ap, append_assoc, append-nil, arith, ◌==◌, nat_le}
+use Rattle.std.proofs.Common.{◌≡◌, ℕ, ◌≤◌, Bool, true, false, cond, List, [], ◌∷◌, ◌++◌, length, refl, sym, ◌∙◌, arith, ◌==◌, nat_le}
 use Rattle.std.proofs.lemmas.Bool.Decides.{nat_tests}
 use Rattle.std.specs.Str.{bytes_eq}
 use Rattle.reo_grammar.specs.declared.kind.TokenKind.{TokenKind}
 use Rattle.reo_grammar.specs.declared.kind.TokenKind.TheVariants as kinds
 use Rattle.reo_grammar.specs.Bytes.{and, or, is_not, is_digit, is_letter, is_name_byte, each, one_of}
-use Rattle.reo_grammar.specs.Spelling.{spells, is_short, is_spelled, is_digits, is_closed, reserved, signs}
-use Rattle.reo_grammar.proofs.Sound.{and-left, and-right, and-both, or-left, or-right}
+use Rattle.reo_grammar.specs.Spelling.{spells, is_spelled, is_digits, is_closed, reserved, signs}
+use Rattle.reo_grammar.proofs.Sound.{and-left, and-right, and-both}
 use Rattle.reo_grammar.proofs.Classes.{same_bytes, or-cases, no-both}
 use Rattle.reo_lexer.specs.Faults.{ends}
 use Rattle.reo_lexer.specs.Gaps.{is_space}
-use Rattle.reo_lexer.specs.Lexing.{IsToken}
-use Rattle.reo_lexer.specs.Skipping.{sign_size}
 use Rattle.reo_lexer.proofs.Quotes.{closed-longest}
 
 -- Each of some lists of bytes passes a test.
@@ -52,8 +50,8 @@ pub letter-parts : (b : ℕ) → is_letter b ≡ true → (65 ≤ b)
 letter-parts b h = or-cases (and (nat_le 65 b) (nat_le b 90)) (or (and (nat_le 97 b) (nat_le b 122)) (b == 95)) h
     (λ e. let k : nat_le 65 b ≡ true = and-left _ _ e in grind (arith, nat_tests))
     (λ e. or-cases (and (nat_le 97 b) (nat_le b 122)) (b == 95) e
-      (λ f. let k : nat_le 97 b ≡ true = and-left _ _ f in grind (arith, nat_tests))
-      (λ f. grind (arith, nat_tests)))
+    (λ f. let k : nat_le 97 b ≡ true = and-left _ _ f in grind (arith, nat_tests))
+    (λ f. grind (arith, nat_tests)))
 
 pub digit-parts : (b : ℕ) → is_digit b ≡ true → (48 ≤ b) × (b ≤ 57)
 digit-parts b h =
@@ -109,9 +107,9 @@ spells-kind kinds.Sign (b ∷ bs) h =
     let s = and-left (and (is_not (is_letter b)) (and (is_not (is_digit b)) (is_not (b == 34)))) (nat_le (length bs) 1) (sign-like (b ∷ bs) h) in
     let t = and-right (is_not (is_letter b)) (and (is_not (is_digit b)) (is_not (b == 34))) s in
     by (is_letter b) (is_digit b) (b == 34) (cond (one_of (b ∷ bs) reserved) kinds.Word kinds.Name)
-      (not-yes (is_letter b) (and-left (is_not (is_letter b)) (and (is_not (is_digit b)) (is_not (b == 34))) s))
-      (not-yes (is_digit b) (and-left (is_not (is_digit b)) (is_not (b == 34)) t))
-      (not-yes (b == 34) (and-right (is_not (is_digit b)) (is_not (b == 34)) t))
+    (not-yes (is_letter b) (and-left (is_not (is_letter b)) (and (is_not (is_digit b)) (is_not (b == 34))) s))
+    (not-yes (is_digit b) (and-left (is_not (is_digit b)) (is_not (b == 34)) t))
+    (not-yes (b == 34) (and-right (is_not (is_digit b)) (is_not (b == 34)) t))
   where
     by : (x y z : Bool) (o : TokenKind) → x ≡ false → y ≡ false → z ≡ false → cond x o (cond y kinds.Number (cond z kinds.Text kinds.Sign)) ≡ kinds.Sign
     by false false false o h k l = refl
@@ -138,7 +136,7 @@ by-letter kinds.Number b bs l h = absurd (let k = letter-parts b l in let d = di
 by-letter kinds.Text b bs l h = absurd (let k = letter-parts b l in let q = quote-part b (and-left (b == 34) (is_closed false bs) h) in omega arith)
 by-letter kinds.Sign b bs l h =
     absurd (no-both (is_letter b) l (not-yes (is_letter b) (and-left (is_not (is_letter b)) (and (is_not (is_digit b)) (is_not (b == 34)))
-      (and-left (and (is_not (is_letter b)) (and (is_not (is_digit b)) (is_not (b == 34)))) (nat_le (length bs) 1) (sign-like (b ∷ bs) h)))))
+    (and-left (and (is_not (is_letter b)) (and (is_not (is_digit b)) (is_not (b == 34)))) (nat_le (length bs) 1) (sign-like (b ∷ bs) h)))))
 
 pub by-digit : (k : TokenKind) (b : ℕ) (bs : List ℕ) → is_digit b ≡ true → spells k (b ∷ bs) ≡ true → is_digits (b ∷ bs) ≡ true
 by-digit kinds.Name b bs l h = absurd (no-both (is_letter b) (and-left (is_letter b) (each is_name_byte bs) (and-left (is_spelled (b ∷ bs)) (is_not (one_of (b ∷ bs) reserved)) h)) (digit-no-letter b l))
@@ -147,8 +145,8 @@ by-digit kinds.Number b bs l h = h
 by-digit kinds.Text b bs l h = absurd (let k = digit-parts b l in let q = quote-part b (and-left (b == 34) (is_closed false bs) h) in omega arith)
 by-digit kinds.Sign b bs l h =
     absurd (no-both (is_digit b) l (not-yes (is_digit b) (and-left (is_not (is_digit b)) (is_not (b == 34))
-      (and-right (is_not (is_letter b)) (and (is_not (is_digit b)) (is_not (b == 34)))
-      (and-left (and (is_not (is_letter b)) (and (is_not (is_digit b)) (is_not (b == 34)))) (nat_le (length bs) 1) (sign-like (b ∷ bs) h))))))
+    (and-right (is_not (is_letter b)) (and (is_not (is_digit b)) (is_not (b == 34)))
+    (and-left (and (is_not (is_letter b)) (and (is_not (is_digit b)) (is_not (b == 34)))) (nat_le (length bs) 1) (sign-like (b ∷ bs) h))))))
 
 pub by-quote : (k : TokenKind) (bs : List ℕ) → spells k (34 ∷ bs) ≡ true → is_closed false bs ≡ true
 by-quote kinds.Name bs h = absurd (cc)
@@ -200,14 +198,14 @@ no_gap_head (b ∷ bs) = and (is_not (is_space b)) (is_not (b == 35))
 head-by-bounds : (b : ℕ) (bs : List ℕ) → 36 ≤ b → no_gap_head (b ∷ bs) ≡ true
 head-by-bounds b bs h =
     and-both (is_not (is_space b)) (is_not (b == 35))
-      (yes-not (is_space b) (never (is_space b) (λ e. or-cases (b == 32) (or (b == 9) (or (b == 13) (b == 10))) e
-        (λ q. let n : b ≡ 32 = grind (arith, nat_tests) in absurd (omega arith))
-        (λ q. or-cases (b == 9) (or (b == 13) (b == 10)) q
-          (λ w. let n : b ≡ 9 = grind (arith, nat_tests) in absurd (omega arith))
-          (λ w. or-cases (b == 13) (b == 10) w
-            (λ v. let n : b ≡ 13 = grind (arith, nat_tests) in absurd (omega arith))
-            (λ v. let n : b ≡ 10 = grind (arith, nat_tests) in absurd (omega arith)))))))
-      (yes-not (b == 35) (never (b == 35) (λ e. let n : b ≡ 35 = grind (arith, nat_tests) in absurd (omega arith))))
+    (yes-not (is_space b) (never (is_space b) (λ e. or-cases (b == 32) (or (b == 9) (or (b == 13) (b == 10))) e
+    (λ q. let n : b ≡ 32 = grind (arith, nat_tests) in absurd (omega arith))
+    (λ q. or-cases (b == 9) (or (b == 13) (b == 10)) q
+    (λ w. let n : b ≡ 9 = grind (arith, nat_tests) in absurd (omega arith))
+    (λ w. or-cases (b == 13) (b == 10) w
+    (λ v. let n : b ≡ 13 = grind (arith, nat_tests) in absurd (omega arith))
+    (λ v. let n : b ≡ 10 = grind (arith, nat_tests) in absurd (omega arith)))))))
+    (yes-not (b == 35) (never (b == 35) (λ e. let n : b ≡ 35 = grind (arith, nat_tests) in absurd (omega arith))))
 
 pub digit-head : (b : ℕ) (bs : List ℕ) → is_digit b ≡ true → no_gap_head (b ∷ bs) ≡ true
 digit-head b bs h = let d = digit-parts b h in head-by-bounds b bs (omega arith)

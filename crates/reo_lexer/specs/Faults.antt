@@ -39,7 +39,7 @@ is_wrong false b = and (and (is_not (is_plain b)) (is_not (is_escaped b))) (is_n
 -- What is left begins with a byte that begins no token, no text in quotes and no gap.
 abbrev pub BeginsNone : List ℕ → Type 0
 BeginsNone left = (b : ℕ) × (r : List ℕ) × (left ≡ b ∷ r) × (or (is_space b) (or (b == 35) (b == 34)) ≡ false)
-  × ((kind : TokenKind) (front more : List ℕ) → left ≡ front ++ more → spells kind front ≡ true → ⊥)
+    × ((kind : TokenKind) (front more : List ℕ) → left ≡ front ++ more → spells kind front ≡ true → ⊥)
 
 -- It begins with a text in quotes in which a wrong byte stands before any end of it.
 abbrev pub HasWrong : List ℕ → Type 0

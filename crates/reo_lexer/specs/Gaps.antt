@@ -1,5 +1,5 @@
 -- What stands between tokens.
-use Rattle.std.specs.Prelude.{◌≡◌, ℕ, ◌==◌, Bool, true, false, List, [], ◌∷◌, ◌++◌, count_by}
+use Rattle.std.specs.Prelude.{◌≡◌, ℕ, ◌==◌, Bool, true, List, [], ◌∷◌, ◌++◌, count_by}
 use Rattle.reo_grammar.specs.Bytes.{or, is_not, each}
 
 -- Space, tab, CR or LF.

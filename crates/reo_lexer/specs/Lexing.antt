@@ -1,8 +1,8 @@
 -- The tokens of a text: gaps and tokens in turn, each token the longest that fits, with its span and its line.
-use Rattle.std.specs.Prelude.{◌≡◌, ℕ, ◌+◌, ◌-◌, ◌≤◌, ◌<◌, Bool, true, false, List, [], ◌∷◌, ◌++◌, length, take, drop, map, All}
+use Rattle.std.specs.Prelude.{◌≡◌, ℕ, ◌+◌, ◌-◌, ◌≤◌, true, List, [], ◌∷◌, ◌++◌, length, take, drop, map}
 use Rattle.reo_grammar.specs.declared.kind.TokenKind.{TokenKind}
 use Rattle.reo_grammar.specs.Spelling.{spells, is_short}
-use Rattle.reo_grammar.specs.Tokens.{Tok, is_real}
+use Rattle.reo_grammar.specs.Tokens.{Tok}
 use Rattle.reo_lexer.specs.declared.token.Token.{Token}
 use Rattle.reo_lexer.specs.Gaps.{IsGap, lines_in}
 

@@ -7,13 +7,11 @@ ghost use Rattle.reo_lexer.specs.Skipping.{Finds};
 ghost use Rattle.reo_lexer.specs.declared.token.Token.{Token as TokenSpec};
 ghost use Rattle.reo_lexer.specs.declared.token.LexFault.{LexFault as FaultSpec};
 
-use std::alloc::Global;
-
-use reo_values::List;
-
 use crate::front::front_of;
 use crate::parts::{gap_length, lines_in};
 use crate::{LexFault, Token};
+use reo_values::List;
+use std::alloc::Global;
 
 /// The next token from a place and a line on, or None where a gap alone is left.
 fn next_token(text: &[u8], at: usize, line: u32) -> Result<Option<Token>, LexFault>

@@ -11,3 +11,6 @@ mod words;
 pub use lexer::lex;
 pub use reo_grammar::TokenKind;
 pub use token::{LexFault, Token};
+
+#[cfg(test)]
+mod tests;

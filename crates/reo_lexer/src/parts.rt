@@ -54,13 +54,7 @@ pub fn sign_length(left: &[u8]) -> usize
 {
     match left {
         [] => 0,
-        [_] => {
-            if is_sign(left) {
-                1
-            } else {
-                0
-            }
-        }
+        [_] => { if is_sign(left) { 1 } else { 0 } }
         [_, _, ..] => {
             if is_sign(&left[..2]) {
                 2

@@ -1,5 +1,6 @@
 //! Tokens and faults.
 ghost use Rattle.std.specs.Prelude.{◌≡◌};
+
 use reo_grammar::TokenKind;
 use reo_values::NoMemory;
 
@@ -30,6 +31,7 @@ pub enum LexFault {
 
 impl From<NoMemory> for LexFault {
     ghost use Rattle.reo_lexer.specs.declared.token.LexFault.TheVariants.{NoMemory as OutOfMemory};
+
     ghost from_gives = { λ _ e. e ≡ OutOfMemory };
 
     fn from(_: NoMemory) -> Self {

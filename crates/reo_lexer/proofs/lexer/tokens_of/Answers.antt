@@ -1,5 +1,5 @@
 use Rattle.std.proofs.lemmas.Result.{err_from_is_err_and}
-use Rattle.reo_lexer.proofs.Reading.{lexed-fault, so_far-end, so_far-start, so_far-more}
+use Rattle.reo_lexer.proofs.Reading.{lexed-fault, so_far-end}
 use Rattle.reo_lexer.proofs.lexer.tokens_of.Goals as goal
 
 pub returns-in_err-token : goal.returns-in_err-token

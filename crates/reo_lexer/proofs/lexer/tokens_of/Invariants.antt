@@ -1,4 +1,4 @@
-use Rattle.std.proofs.Common.{◌≡◌, ◌≤◌, ◌+◌, ◌-◌, length}
+use Rattle.std.proofs.Common.{◌≤◌, ◌+◌, ◌-◌, length}
 use Rattle.reo_lexer.proofs.Reading.{SoFar}
 use Rattle.reo_lexer.proofs.lexer.tokens_of.Given as goal
 

@@ -1,0 +1,27 @@
+-- Texts for tokens.
+use Rattle.std.specs.Prelude.{◌≡◌, ℕ, Bool, true, false, List, [], ◌∷◌, ◌++◌, take}
+use Rattle.reo_grammar.specs.declared.kind.TokenKind.{TokenKind}
+use Rattle.reo_grammar.specs.declared.kind.TokenKind.TheVariants as kinds
+use Rattle.reo_grammar.specs.Bytes.{is_not, is_digit, is_name_byte, one_of}
+use Rattle.reo_grammar.specs.Spelling.{signs}
+use Rattle.reo_grammar.specs.Tokens.{Tok, Alike}
+use Rattle.reo_lexer.specs.declared.token.Token.{Token}
+use Rattle.reo_lexer.specs.Lexing.{IsTokens, toks_of}
+
+-- The next byte does not go on with a token of these bytes.
+abbrev pub is_cut : TokenKind → List ℕ → List ℕ → Bool
+is_cut k bytes [] = true
+is_cut kinds.Name bytes (b ∷ r) = is_not (is_name_byte b)
+is_cut kinds.Word bytes (b ∷ r) = is_not (is_name_byte b)
+is_cut kinds.Number bytes (b ∷ r) = is_not (is_digit b)
+is_cut kinds.Text bytes (b ∷ r) = true
+is_cut kinds.Sign bytes (b ∷ r) = is_not (one_of (bytes ++ b ∷ []) signs)
+
+-- The bytes of tokens, an LF before each.
+abbrev pub written : List Tok → List ℕ
+written [] = []
+written (t ∷ ts) = 10 ∷ (t.bytes ++ written ts)
+
+-- A text with these tokens goes on to one that has those behind them, lines aside.
+abbrev pub GoesOn : List ℕ → List Token → List Tok → Type 0
+GoesOn text ts c = (more : List ℕ) × (us : List Token) × IsTokens (text ++ more) (ts ++ us) × Alike c (toks_of (text ++ more) us)
