@@ -1,0 +1,213 @@
+-- Rounds, one after another.
+use Rattle.std.proofs.Common.{◌≡◌, ◌∙◌, ◌⊎◌, ℕ, suc, zero, ◌+◌, ◌<◌, ◌≤◌, ◌==◌, cond, Bool, true, false, List, [], ◌∷◌, ◌++◌, ap, sym, refl, subst, inl, inr, length, arith, append_assoc, length-append, add-one}
+use Rattle.std.proofs.lemmas.List.{append-nil}
+use Rattle.std.proofs.lemmas.Grind.{flat_map-append}
+use Rattle.std.proofs.lemmas.List.Sums.{sum_by-append}
+use Rattle.std.proofs.lemmas.Bool.Decides.{nat_tests}
+use Rattle.std.specs.List.{count_by, flat_map}
+use Rattle.std.specs.Prelude.{Option, Some, None}
+use Rattle.reo_values.specs.declared.value.Value.{Value}
+use Rattle.reo_behaviour.specs.declared.colouring.Move.{Move}
+use Rattle.reo_behaviour.specs.declared.port.Port.{Port}
+use Rattle.reo_behaviour.specs.declared.port.Way.{Way}
+use Rattle.reo_behaviour.specs.First.{IsFirst}
+use Rattle.reo_behaviour.specs.Moves.{moves_of}
+use Rattle.reo_behaviour.specs.Net.{Wiring, net_of}
+use Rattle.reo_behaviour.specs.Step.{stepped}
+use Rattle.reo_io.specs.Sinks.{Appended, TookPart}
+use Rattle.reo_io.proofs.Taken.{Appended-none, Appended-append}
+use Rattle.reo_script.specs.declared.script.Component.{Component}
+use Rattle.reo_script.specs.Actions.{all_done}
+use Rattle.reo_trace.specs.declared.line.RoundLine.{RoundLine}
+use Rattle.reo_trace.specs.declared.line.Ending.{Ending}
+use Rattle.reo_trace.specs.declared.line.Ending.TheVariants.{Done, Stuck, Limit}
+use Rattle.reo_trace.specs.Entries.{line_for}
+use Rattle.reo_trace.specs.RoundText.{round_text}
+use Rattle.reo_trace.specs.EndingText.{ending_text}
+use Rattle.reo_trace.specs.TraceText.{rounds_text, trace_text}
+use Rattle.reo_runner.specs.declared.plan.Plan.{Plan}
+use Rattle.reo_runner.specs.declared.outcome.Outcome.{Outcome}
+use Rattle.reo_runner.specs.declared.outcome.Tally.{Tally}
+use Rattle.reo_runner.specs.declared.outcome.End2.{End2}
+use Rattle.reo_runner.specs.declared.outcome.End2.TheVariants as ends
+use Rattle.reo_runner.specs.Plan.{IsPlan}
+use Rattle.reo_runner.specs.Round.{Rules, State, Choosing, RoundOf, ready, advanced}
+use Rattle.reo_runner.specs.Run.{Runs, Rounds, IsRun, Follows, end_after}
+use Rattle.reo_runner.specs.Outcome.{moved, goes, is_in, is_out, Counts, Tallies, HasTally, Closes, ClosesAs, end_of, Ran, Kept, Cut, OwesRound, OwesEnding, AreLines, SoFar, ByEnd, CameTo}
+
+module _ {P : Type 0} (Suits : Choosing) (r : Rules P) (components : List Component) (limit : ℕ) where
+  -- A round after which the run goes on.
+  pub rounds_more : (turn t : ℕ) (a : State P) (lines : List RoundLine) (m : State P) (line : RoundLine) (b : State P) → t ≡ turn + length lines → Rounds Suits r components limit turn a lines m
+      → RoundOf Suits r components t m line b → end_after components limit t line.idle b.places ≡ None → Rounds Suits r components limit turn a (lines ++ line ∷ []) b
+  rounds_more turn t a [] m line b count same round goes_on =
+      let here : turn ≡ t = omega (arith, count) in
+      rw (here, same) (b, round, goes_on, refl)
+  rounds_more turn t a (x ∷ xs) m line b count (n, first, on, rest) round goes_on =
+      (n, first, on, rounds_more (turn + 1) t n xs m line b (omega (arith, count)) rest round goes_on)
+
+  -- The last round.
+  pub runs_close : (turn t : ℕ) (a : State P) (lines : List RoundLine) (m : State P) (line : RoundLine) (b : State P) (ending : Ending) → t ≡ turn + length lines → Rounds Suits r components limit turn a lines m
+      → RoundOf Suits r components t m line b → end_after components limit t line.idle b.places ≡ Some ending → Runs Suits r components limit turn a (lines ++ line ∷ []) ending
+  runs_close turn t a [] m line b ending count same round ends_here =
+      let here : turn ≡ t = omega (arith, count) in
+      rw (here, same) (b, round, rw ends_here (refl, refl))
+  runs_close turn t a (x ∷ xs) m line b ending count (n, first, on, rest) round ends_here =
+      (n, first, rw on (runs_close (turn + 1) t n xs m line b ending (omega (arith, count)) rest round ends_here))
+
+-- The text of one line more.
+text_more : (ports : List Port) (lines : List RoundLine) (line : RoundLine) → rounds_text ports (lines ++ line ∷ []) ≡ rounds_text ports lines ++ round_text ports line
+text_more ports lines line = flat_map-append (round_text ports) lines (line ∷ []) ∙ ap (λ z. rounds_text ports lines ++ z) (append-nil (round_text ports line))
+
+pub text_on : (ports : List Port) (before mid now : Option (List ℕ)) (lines : List RoundLine) (line : RoundLine) → Appended before mid (rounds_text ports lines) → Appended mid now (round_text ports line) → Appended before now (rounds_text ports (lines ++ line ∷ []))
+text_on ports before mid now lines line p q = subst (λ z. Appended before now z) (sym (text_more ports lines line)) (Appended-append before mid now _ _ p q)
+
+moved_more : (is : Way → Bool) (ports : List Port) (lines : List RoundLine) (line : RoundLine) → moved is ports (lines ++ line ∷ []) ≡ moved is ports lines + count_by (goes is ports) line.moves
+moved_more is ports lines line =
+    ap (λ (ms : List Move). count_by (goes is ports) ms) (flat_map-append (λ (l : RoundLine). l.moves) lines (line ∷ []) ∙ ap (λ (z : List Move). flat_map (λ (l : RoundLine). l.moves) lines ++ z) (append-nil line.moves))
+    ∙ sum_by-append (λ m. cond (goes is ports m) 1 0) (flat_map (λ (l : RoundLine). l.moves) lines) line.moves
+
+-- The numbers after one round more.
+pub tally_more : (ports : List Port) (lines : List RoundLine) (line : RoundLine) (old new : Tally) → Tallies ports lines old → new.rounds ≡ old.rounds + 1
+    → new.written ≡ old.written + count_by (goes is_in ports) line.moves → new.delivered ≡ old.delivered + count_by (goes is_out ports) line.moves → Tallies ports (lines ++ line ∷ []) new
+tally_more ports lines line old new t rounds written delivered = record {
+  rounds = omega (arith, rounds, t.rounds, length-append lines (line ∷ []));
+  written = written ∙ ap (λ n. n + count_by (goes is_in ports) line.moves) t.written ∙ sym (moved_more is_in ports lines line);
+  delivered = delivered ∙ ap (λ n. n + count_by (goes is_out ports) line.moves) t.delivered ∙ sym (moved_more is_out ports lines line);
+}
+
+pub counted : (ports : List Port) (lines : List RoundLine) (t : Tally) (o : Outcome) → Tallies ports lines t → HasTally t o → Counts ports lines o
+counted ports lines t o is has = record { rounds = has.rounds ∙ is.rounds; written = has.written ∙ is.written; delivered = has.delivered ∙ is.delivered }
+
+-- What was planned and done is a round.
+pub round_planned : {P : Type 0} (r : Rules P) (components : List Component) (turn : ℕ) (a : State P) (w : Wiring P) (p : Plan) (b : Wiring P) → w ≡ ready r components a → IsPlan r.behaviour components turn w a.places p
+    → b ≡ record w { primitives = stepped r.behaviour r.settled w p.colouring.rows p.colouring.items }
+    → RoundOf IsFirst r components turn a p.line (record { circuit = b; places = p.places })
+round_planned r components turn a w p b same plan step = record {
+  rows = p.colouring.rows;
+  items = p.colouring.items;
+  suits = subst (λ x. IsFirst (net_of r.behaviour x) turn p.colouring.rows p.colouring.items) same plan.first;
+  shown = plan.line_is ∙ ap (λ (x : Wiring _). line_for (net_of r.behaviour x) turn p.colouring.rows (moves_of (net_of r.behaviour x) x.ports p.colouring.rows p.colouring.items)) same;
+  circuit = step ∙ ap (λ (x : Wiring _). record x { primitives = stepped r.behaviour r.settled x p.colouring.rows p.colouring.items }) same;
+  places = plan.places_are ∙ ap (λ (x : Wiring _). advanced (net_of r.behaviour x) p.colouring.rows components a.places) same;
+}
+
+-- The number in an ending.
+abbrev pub rounds_in : Ending → ℕ
+rounds_in (Done n) = n
+rounds_in (Stuck n) = n
+rounds_in (Limit n) = n
+
+ending_cases : (done idle full : Bool) (turn : ℕ) (ending : Ending) → cond done (Some (Done turn)) (cond idle (Some (Stuck turn)) (cond full (Some (Limit turn)) None)) ≡ Some ending → rounds_in ending ≡ turn
+ending_cases true idle full turn ending e = let same : ending ≡ Done turn = cc in rw same refl
+ending_cases false true full turn ending e = let same : ending ≡ Stuck turn = cc in rw same refl
+ending_cases false false true turn ending e = let same : ending ≡ Limit turn = cc in rw same refl
+ending_cases false false false turn ending e = absurd (cc)
+
+ending_rounds : (components : List Component) (limit turn : ℕ) (idle : Bool) (places : List ℕ) (ending : Ending) → end_after components limit turn idle places ≡ Some ending → rounds_in ending ≡ turn
+ending_rounds components limit turn idle places ending e = ending_cases (all_done components places) idle (turn == limit) turn ending e
+
+module _ {P : Type 0} (Suits : Choosing) (r : Rules P) (ports : List Port) (components : List Component) (limit : ℕ) (start : State P) where
+  ran : (ending : Ending) (before mid now : Option (List ℕ)) (o : Outcome) (lines : List RoundLine) → IsRun Suits r components limit start lines ending
+      → Appended before mid (rounds_text ports lines) → Counts ports lines o → Appended mid now (ending_text ending) → Ran Suits r ports components limit start ending before now o
+  ran ending before mid now o lines run app counts closes = record {
+    lines = lines;
+    run = run;
+    text = Appended-append before mid now (rounds_text ports lines) (ending_text ending) app closes;
+    counts = counts;
+  }
+
+  -- A whole run, and the call that writes its ending.
+  by_end : (ending : Ending) (before mid now : Option (List ℕ)) (o : Outcome) (e : End2) (lines : List RoundLine) → IsRun Suits r components limit start lines ending
+      → Appended before mid (rounds_text ports lines) → Counts ports lines o → rounds_in ending ≡ o.rounds → ClosesAs ending mid now e → ByEnd Suits r ports components limit start before now o e
+  by_end ending before mid now o ends.WriteFault lines run app counts same closes = record {
+    lines = lines;
+    owed = ending_text ending;
+    owes = inr (record { ending = ending; run = run; owed_is = refl });
+    between = mid;
+    text = app;
+    part = closes;
+    counts = counts;
+  }
+  by_end ending before mid now o ends.NoMemory lines run app counts same closes = record {
+    lines = lines;
+    are = inr (ending, run);
+    text = subst (λ (z : Option (List ℕ)). Appended before z (rounds_text ports lines)) (sym closes) app;
+    counts = counts;
+  }
+  by_end (Done n) before mid now o ends.Done lines run app counts same closes = subst (λ (k : ℕ). Ran Suits r ports components limit start (Done k) before now o) same (ran (Done n) before mid now o lines run app counts closes.1)
+  by_end (Stuck n) before mid now o ends.Done lines run app counts same closes = let wrong = closes.0 in cc
+  by_end (Limit n) before mid now o ends.Done lines run app counts same closes = let wrong = closes.0 in cc
+  by_end (Done n) before mid now o ends.Stuck lines run app counts same closes = let wrong = closes.0 in cc
+  by_end (Stuck n) before mid now o ends.Stuck lines run app counts same closes = subst (λ (k : ℕ). Ran Suits r ports components limit start (Stuck k) before now o) same (ran (Stuck n) before mid now o lines run app counts closes.1)
+  by_end (Limit n) before mid now o ends.Stuck lines run app counts same closes = let wrong = closes.0 in cc
+  by_end (Done n) before mid now o ends.Limit lines run app counts same closes = let wrong = closes.0 in cc
+  by_end (Stuck n) before mid now o ends.Limit lines run app counts same closes = let wrong = closes.0 in cc
+  by_end (Limit n) before mid now o ends.Limit lines run app counts same closes = subst (λ (k : ℕ). Ran Suits r ports components limit start (Limit k) before now o) same (ran (Limit n) before mid now o lines run app counts closes.1)
+
+  pub closed_by : (ending : Ending) (before mid now : Option (List ℕ)) (o : Outcome) (t : Tally) (lines : List RoundLine) → IsRun Suits r components limit start lines ending
+      → Appended before mid (rounds_text ports lines) → Tallies ports lines t → rounds_in ending ≡ t.rounds → Closes ending t mid now o → CameTo Suits r ports components limit start before now o
+  closed_by ending before mid now o t lines run app tallies same closes =
+      by_end ending before mid now o o.end lines run app (counted ports lines t o tallies closes.tally) (same ∙ sym closes.tally.rounds) closes.text
+
+  -- A round after which the run ends.
+  pub ended : (before mid next now : Option (List ℕ)) (turn : ℕ) (a : State P) (line : RoundLine) (b : State P) (ending : Ending) (o : Outcome) (old new : Tally) → all_done components start.places ≡ false
+      → (so_far : SoFar Suits r ports components limit start before mid turn a old) → RoundOf Suits r components turn a line b → Appended mid next (round_text ports line) → Tallies ports (so_far.lines ++ line ∷ []) new
+      → end_after components limit turn line.idle b.places ≡ Some ending → Closes ending new next now o → CameTo Suits r ports components limit start before now o
+  ended before mid next now turn a line b ending o old new begun so_far round text tallies ends_here closes =
+      let run : IsRun Suits r components limit start (so_far.lines ++ line ∷ []) ending = rw begun (runs_close Suits r components limit 1 turn start so_far.lines a line b ending (omega (arith, so_far.count)) so_far.rounds round ends_here) in
+      let same : rounds_in ending ≡ new.rounds = ending_rounds components limit turn line.idle b.places ending ends_here ∙ omega (arith, tallies.rounds, so_far.count, length-append so_far.lines (line ∷ [])) in
+      closed_by ending before next now o new (so_far.lines ++ line ∷ []) run (text_on ports before mid next so_far.lines line so_far.text text) tallies same closes
+
+  -- A round after which the run goes on.
+  pub so_far_more : (before mid now : Option (List ℕ)) (turn : ℕ) (a : State P) (line : RoundLine) (b : State P) (old new : Tally) → (so_far : SoFar Suits r ports components limit start before mid turn a old)
+      → RoundOf Suits r components turn a line b → Appended mid now (round_text ports line) → end_after components limit turn line.idle b.places ≡ None → Tallies ports (so_far.lines ++ line ∷ []) new
+      → SoFar Suits r ports components limit start before now (turn + 1) b new
+  so_far_more before mid now turn a line b old new so_far round text goes_on tallies = record {
+    lines = so_far.lines ++ line ∷ [];
+    rounds = rounds_more Suits r components limit 1 turn start so_far.lines a line b (omega (arith, so_far.count)) so_far.rounds round goes_on;
+    count = omega (arith, so_far.count, length-append so_far.lines (line ∷ []));
+    text = text_on ports before mid now so_far.lines line so_far.text text;
+    tallies = tallies;
+  }
+
+  -- The sink failed on a round line.
+  pub cut_round : (before mid now : Option (List ℕ)) (turn : ℕ) (a : State P) (line : RoundLine) (b : State P) (t : Tally) (o : Outcome) → SoFar Suits r ports components limit start before mid turn a t
+      → RoundOf Suits r components turn a line b → TookPart mid now (round_text ports line) → HasTally t o → o.end ≡ ends.WriteFault → CameTo Suits r ports components limit start before now o
+  cut_round before mid now turn a line b t o so_far round part has is =
+      let cut : Cut Suits r ports components limit start before now o = record {
+        lines = so_far.lines;
+        owed = round_text ports line;
+        owes = inl (record { state = a; rounds = so_far.rounds; line = line; next = b; round = subst (λ (k : ℕ). RoundOf Suits r components k a line b) so_far.count round; owed_is = refl });
+        between = mid;
+        text = so_far.text;
+        part = part;
+        counts = counted ports so_far.lines t o so_far.tallies has;
+      } in
+      subst (λ (e : End2). ByEnd Suits r ports components limit start before now o e) (sym is) cut
+
+  -- Memory was wanting between two lines.
+  pub kept : (before now : Option (List ℕ)) (turn : ℕ) (a : State P) (t : Tally) (o : Outcome) → SoFar Suits r ports components limit start before now turn a t → HasTally t o → o.end ≡ ends.NoMemory
+      → CameTo Suits r ports components limit start before now o
+  kept before now turn a t o so_far has is =
+      let whole : Kept Suits r ports components limit start before now o = record { lines = so_far.lines; are = inl (a, so_far.rounds); text = so_far.text; counts = counted ports so_far.lines t o so_far.tallies has } in
+      subst (λ (e : End2). ByEnd Suits r ports components limit start before now o e) (sym is) whole
+
+  -- Nothing was made yet.
+  pub so_far_none : (before : Option (List ℕ)) (a : State P) (t : Tally) → start ≡ a → t.rounds ≡ 0 → t.written ≡ 0 → t.delivered ≡ 0 → SoFar Suits r ports components limit start before before 1 a t
+  so_far_none before a t same rounds written delivered = record {
+    lines = [];
+    rounds = same;
+    count = refl;
+    text = Appended-none before;
+    tallies = record { rounds = rounds; written = written; delivered = delivered };
+  }
+
+pub is_none : {X : Type 0} (o : Option X) → ((x : X) → o ≡ Some x → ⊥) → o ≡ None
+is_none None h = refl
+is_none (Some x) h = absurd (h x refl)
+
+pub not_at_limit : (done idle : Bool) (turn limit : ℕ) → cond done (Some (Done turn)) (cond idle (Some (Stuck turn)) (cond (turn == limit) (Some (Limit turn)) None)) ≡ None → turn ≤ limit → turn + 1 ≤ limit
+not_at_limit true idle turn limit h k = absurd (cc)
+not_at_limit false true turn limit h k = absurd (cc)
+not_at_limit false false turn limit h k =
+    elim (turn == limit) as (λ b. (turn == limit) ≡ b → cond b (Some (Limit turn)) None ≡ None → turn + 1 ≤ limit) [ true ↦ λ e h. absurd (cc) | false ↦ λ e h. grind (arith, nat_tests) ] refl h

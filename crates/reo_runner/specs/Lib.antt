@@ -1,0 +1,4 @@
+pub mod Outcome
+pub mod Plan
+pub mod Round
+pub mod Run
