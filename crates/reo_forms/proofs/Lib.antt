@@ -1,0 +1,6 @@
+pub mod Numerals
+pub mod Parts
+pub mod Rows
+pub mod Eachs
+pub mod Ports
+pub mod Counts

@@ -1,3 +1,4 @@
 pub mod CircuitForm
 pub mod Listed
+pub mod Reading
 pub mod ScriptForm
