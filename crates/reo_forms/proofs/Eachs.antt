@@ -1,9 +1,9 @@
 -- What holds of each element of a list.
 use Rattle.std.proofs.Common.{◌≡◌, ◌∙◌, ◌<◌, ◌+◌, ◌==◌, ℕ, zero, suc, Bool, true, false, List, [], ◌∷◌, Some, None, length, get_or, ◌⊎◌, inl, inr, refl, sym, subst, ap, arith}
-use Rattle.std.specs.Prelude.{slice_get}
+use Rattle.std.specs.Prelude.{slice_get, nat_lt}
 use Rattle.reo_forms.specs.Reading.{Each}
 
-below_or : (i n : ℕ) → i < n + 1 → (i < n) ⊎ (i ≡ n)
+pub below_or : (i n : ℕ) → i < n + 1 → (i < n) ⊎ (i ≡ n)
 below_or i n h = grind arith
 
 -- A property of each element before a place.
@@ -37,3 +37,19 @@ before_more Good xs n d below here i x h is =
       | inl less ↦ below i x less is
       | inr same ↦ subst Good (ap (λ k. get_or xs k d) (sym same) ∙ get_is xs i x d is) here
     ]
+
+-- What was read at a place stands there.
+less_tested : (a b : ℕ) → true ≡ nat_lt a b → a < b
+less_tested a b e = grind arith
+
+less_test_fails : (a b : ℕ) → false ≡ nat_lt a b → a < b → ⊥
+less_test_fails a b e h = grind arith
+
+pub found_at : {X : Type 0} (xs : List X) (i : ℕ) (x : X) → true ≡ nat_lt i (length xs) → x ≡ get_or xs i x → slice_get xs i ≡ Some x
+found_at xs i x less is = get_at xs i x (less_tested i (length xs) less) ∙ ap Some (sym is)
+
+pub none_at : {X : Type 0} (xs : List X) (i : ℕ) (x : X) → false ≡ nat_lt i (length xs) → slice_get xs i ≡ Some x → ⊥
+none_at xs i x past at_i = less_test_fails i (length xs) past (get_within xs i x at_i)
+
+pub one_at : {X : Type 0} (xs : List X) (i : ℕ) (x y : X) → slice_get xs i ≡ Some x → slice_get xs i ≡ Some y → x ≡ y
+one_at xs i x y a b = cc

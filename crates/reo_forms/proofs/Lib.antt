@@ -4,3 +4,5 @@ pub mod Rows
 pub mod Eachs
 pub mod Ports
 pub mod Counts
+pub mod Actions
+pub mod Apart

@@ -24,7 +24,7 @@ like_first ps same i p at_i q at_0 = same i 0 p q at_i at_0
 abbrev pub AreDifferentBefore : List Parameter → ℕ → Type 0
 AreDifferentBefore ps n = (i j : ℕ) (p q : Parameter) → i < j → j < n → slice_get ps i ≡ Some p → slice_get ps j ≡ Some q → p.letter ≢ q.letter
 
-order : (i j : ℕ) → (i ≡ j) ⊎ (i < j) ⊎ (j < i)
+pub order : (i j : ℕ) → (i ≡ j) ⊎ (i < j) ⊎ (j < i)
 order i j = grind arith
 
 pub are_different : (ps : List Parameter) → AreDifferentBefore ps (length ps) → AreDifferent ps

@@ -5,9 +5,13 @@ mod circuit;
 mod circuit_text;
 mod fault;
 mod plain;
+mod plain_script;
 mod plainest;
 mod reader;
+mod script;
+mod script_text;
 
 pub use circuit::read_circuit;
 pub use fault::FormFault;
 pub use plainest::{Joined, Parameter, Plainest};
+pub use script::read_script;
