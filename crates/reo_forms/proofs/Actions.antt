@@ -1,5 +1,5 @@
 -- How the texts of actions and components are put together.
-use Rattle.std.proofs.Common.{◌≡◌, ◌∙◌, ◌≤◌, ℕ, ℤ, zero, suc, Bool, true, false, List, [], ◌∷◌, ◌++◌, codes, Some, None, Option, refl, sym, ap, inl, inr, arith, append_assoc, append-nil}
+use Rattle.std.proofs.Common.{◌≡◌, ◌∙◌, ℕ, ℤ, zero, suc, true, false, List, [], ◌∷◌, ◌++◌, codes, Some, refl, sym, ap, inl, inr, append_assoc, append-nil}
 use Rattle.std.specs.Prelude.{slice_get}
 use Rattle.std.specs.List.{flat_map}
 use denote.Hole.Carrier.{hidden}
@@ -15,7 +15,6 @@ use Rattle.reo_script.specs.declared.script.Component.{Component}
 use Rattle.reo_forms.specs.declared.plainest.Parameter.{Parameter}
 use Rattle.reo_forms.specs.ScriptForm.{letter_at, item_at_text, action_text, component_text, script_text, IsPortAction, IsPlainScript, IsScriptText}
 use Rattle.reo_forms.specs.Components.{IsPlainComponent}
-use Rattle.reo_forms.specs.Listed.{IsText}
 use Rattle.reo_forms.specs.Reading.{goes_on, Each}
 
 pub letter_of : (ps : List Parameter) (i : ℕ) (p : Parameter) → slice_get ps i ≡ Some p → letter_at ps i ≡ p.letter
@@ -32,7 +31,7 @@ pub component_parts : (ps : List Parameter) (c : Component) (rest : List ℕ) �
 component_parts ps c rest =
     let more = flat_map (action_text ps) c.actions in
     ap (λ l. codes "component " ++ l) (append_assoc c.name (codes " { " ++ (more ++ codes "}")) rest
-      ∙ ap (λ l. c.name ++ (codes " { " ++ l)) (append_assoc more (codes "}") rest))
+    ∙ ap (λ l. c.name ++ (codes " { " ++ l)) (append_assoc more (codes "}") rest))
 
 pub action_goes : (ps : List Parameter) (a : Action) (rest : List ℕ) → goes_on 125 (action_text ps a ++ rest) ≡ true
 action_goes ps (Write port item) rest = refl

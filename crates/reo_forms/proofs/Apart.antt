@@ -1,12 +1,12 @@
 -- No port is named by two components where that is so at each port.
-use Rattle.std.proofs.Common.{◌≡◌, ◌∙◌, ◌<◌, ℕ, List, Some, length, get_or, refl, sym, subst, ap, arith}
+use Rattle.std.proofs.Common.{◌∙◌, ◌<◌, ℕ, List, length, get_or, refl, sym, ap}
 use Rattle.std.specs.Prelude.{slice_get}
 use Rattle.reo_script.specs.declared.script.Action.{Action}
 use Rattle.reo_script.specs.declared.script.Action.TheVariants.{Write, Take}
 use Rattle.reo_script.specs.declared.script.Component.{Component}
 use Rattle.reo_script.specs.Actions.{AreApart, port_of}
 use Rattle.reo_forms.specs.declared.plainest.Parameter.{Parameter}
-use Rattle.reo_forms.specs.Components.{IsPlainComponent, Names, IsApartAt}
+use Rattle.reo_forms.specs.Components.{IsPlainComponent, IsApartAt}
 use Rattle.reo_forms.specs.Reading.{Each}
 use Rattle.reo_forms.specs.ScriptForm.{IsPortAction}
 use Rattle.reo_forms.proofs.Eachs.{get_at, get_is, get_within}

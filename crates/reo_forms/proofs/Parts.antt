@@ -1,15 +1,13 @@
 -- How the texts of parameters and channels are put together.
-use Rattle.std.specs.Prelude.{slice_get}
-use Rattle.std.proofs.Common.{◌≡◌, ◌≢◌, ◌≤◌, ◌==◌, not, Some, suc, subst,  ◌∙◌, ℕ, Bool, true, false, List, [], ◌∷◌, ◌++◌, codes, refl, sym, ap, inl, inr, arith, append_assoc}
+use Rattle.std.proofs.Common.{◌≡◌, ◌≢◌, ◌≤◌, ◌==◌, not, suc, ◌∙◌, ℕ, true, false, List, [], ◌∷◌, ◌++◌, codes, refl, ap, inl, inr, arith, append_assoc}
 use Rattle.std.specs.List.{flat_map}
 use Rattle.std.specs.Fmt.{signed_decimal}
 use Rattle.reo_behaviour.specs.declared.port.Way.TheVariants.{In, Out}
 use Rattle.reo_forms.specs.declared.plainest.Parameter.{Parameter}
-use Rattle.reo_forms.specs.declared.plainest.Joined.{Joined}
 use Rattle.reo_forms.specs.declared.plainest.Plainest.{Plainest}
 use Rattle.reo_forms.specs.CircuitForm.{way_text, parameter_text, channel_text, circuit_text, IsParameter}
 use Rattle.reo_forms.specs.Listed.{listed}
-use Rattle.reo_forms.specs.Reading.{goes_on, IsFigure, Ends, Each}
+use Rattle.reo_forms.specs.Reading.{goes_on, Ends, Each}
 
 pub parameter_parts : (p : Parameter) (rest : List ℕ) → parameter_text p ++ rest
     ≡ way_text p.way ++ (p.letter ∷ (codes ": int " ++ (signed_decimal p.low ++ (codes ".." ++ (signed_decimal p.high ++ rest)))))
@@ -51,10 +49,10 @@ pub no_parameters : (ps : List Parameter) (rest left : List ℕ) → goes_on 41 
 no_parameters [] rest left stopped e = (refl, e)
 no_parameters (p ∷ ps) rest left stopped e =
     absurd (
-      let more = flat_map (λ q. codes ", " ++ parameter_text q) ps in
-      let goes = parameter_goes p (more ++ rest) in
-      let same : goes_on 41 left ≡ goes_on 41 (parameter_text p ++ (more ++ rest)) = ap (goes_on 41) (e ∙ append_assoc (parameter_text p) more rest) in
-      cc)
+    let more = flat_map (λ q. codes ", " ++ parameter_text q) ps in
+    let goes = parameter_goes p (more ++ rest) in
+    let same : goes_on 41 left ≡ goes_on 41 (parameter_text p ++ (more ++ rest)) = ap (goes_on 41) (e ∙ append_assoc (parameter_text p) more rest) in
+    cc)
 
 -- Parameters that have a text: the first, and the others.
 pub record IsFirst (left : List ℕ) (ps : List Parameter) (rest : List ℕ) : Type 0 where

@@ -1,8 +1,7 @@
 -- Parameters of one type and of different letters, and channels that are joined once.
-use Rattle.std.proofs.Common.{◌≡◌, ◌≢◌, ◌∙◌, ◌<◌, ◌≤◌, ◌+◌, ◌==◌, ◌⊎◌, inl, inr, ℕ, zero, suc, Bool, true, false, List, [], ◌∷◌, Some, None, length, get_or, count_by, refl, sym, subst, ap, arith}
-use Rattle.std.specs.Prelude.{slice_get, cond}
+use Rattle.std.proofs.Common.{◌≡◌, ◌≢◌, ◌∙◌, ◌<◌, ◌⊎◌, inl, inr, ℕ, List, [], ◌∷◌, Some, length, refl, sym, arith}
+use Rattle.std.specs.Prelude.{slice_get}
 use Rattle.reo_forms.specs.declared.plainest.Parameter.{Parameter}
-use Rattle.reo_forms.specs.Listed.{IsOnce}
 use Rattle.reo_forms.specs.Reading.{Each, HaveOneType, AreDifferent}
 use Rattle.reo_forms.proofs.Eachs.{get_within}
 
@@ -29,10 +28,9 @@ order i j = grind arith
 
 pub are_different : (ps : List Parameter) → AreDifferentBefore ps (length ps) → AreDifferent ps
 are_different ps below i j p q at_i at_j same = elim (order i j) [
-    | inl e ↦ e
-    | inr other ↦ elim other [
-      | inl less ↦ absurd (below i j p q less (get_within ps j q at_j) at_i at_j same)
-      | inr more ↦ absurd (below j i q p more (get_within ps i p at_i) at_j at_i (sym same))
-    ]
+  | inl e ↦ e
+  | inr other ↦ elim other [
+    | inl less ↦ absurd (below i j p q less (get_within ps j q at_j) at_i at_j same)
+    | inr more ↦ absurd (below j i q p more (get_within ps i p at_i) at_j at_i (sym same))
   ]
-
+]

@@ -1,5 +1,5 @@
 -- Texts in a row, read one by one until one stops them.
-use Rattle.std.proofs.Common.{◌≡◌, ◌∙◌, ℕ, suc, Bool, true, false, List, [], ◌∷◌, ◌++◌, refl, sym, ap, subst, append_assoc, append-nil}
+use Rattle.std.proofs.Common.{◌≡◌, ◌∙◌, ℕ, suc, true, false, List, [], ◌∷◌, ◌++◌, refl, sym, ap, subst, append_assoc, append-nil}
 use Rattle.std.specs.List.{flat_map}
 use Rattle.reo_forms.specs.Reading.{goes_on, Each}
 
@@ -51,9 +51,9 @@ module _ {X : Type 0} (Good : X → Type 0) (Ended : List ℕ → Type 0) (text 
       finish xs rest [] good whole e = (sym (whole ∙ append-nil made), e)
       finish xs rest (y ∷ ys) good whole e =
           absurd (
-            let p = text_goes y (flat_map text ys ++ rest) (good 0 y refl) in
-            let q : goes_on stop left ≡ goes_on stop (text y ++ (flat_map text ys ++ rest)) = ap (goes_on stop) (e ∙ append_assoc (text y) (flat_map text ys) rest) in
-            cc)
+          let p = text_goes y (flat_map text ys ++ rest) (good 0 y refl) in
+          let q : goes_on stop left ≡ goes_on stop (text y ++ (flat_map text ys ++ rest)) = ap (goes_on stop) (e ∙ append_assoc (text y) (flat_map text ys) rest) in
+          cc)
 
       -- Where the reading stops, all were read.
       pub left_none : (xs : List X) (rest : List ℕ) → Each Good xs → goes_on stop rest ≡ false → initial ≡ flat_map text xs ++ rest → (made ≡ first ++ xs) × (left ≡ rest)

@@ -10,6 +10,8 @@ mod plainest;
 mod reader;
 mod script;
 mod script_text;
+#[cfg(test)]
+mod tests;
 
 pub use circuit::read_circuit;
 pub use fault::FormFault;

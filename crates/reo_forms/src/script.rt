@@ -59,11 +59,7 @@ fn item_at(
 }
 
 // An action that writes, and the space after it.
-fn write(
-    alloc: Global,
-    reader: &mut Reader,
-    parameters: &[Parameter],
-) -> Result<Action, NoMemory>
+fn write(alloc: Global, reader: &mut Reader, parameters: &[Parameter]) -> Result<Action, NoMemory>
     requires { AreDifferent parameters.now }
     ensures again { (port : ℕ) (item : Item) (rest : List ℕ) → IsPortAction parameters.now (Action.Write port item) → reader.old ≡ action_text parameters.now (Action.Write port item) ++ rest → IfOk result (λ found. (found ≡ Action.Write port item) × (reader.new ≡ rest)) }
     ensures shorter { length reader.new ≤ length reader.old - 1 }
@@ -91,11 +87,7 @@ fn take(reader: &mut Reader, parameters: &[Parameter]) -> Action
 }
 
 // An action and the space after it.
-fn action(
-    alloc: Global,
-    reader: &mut Reader,
-    parameters: &[Parameter],
-) -> Result<Action, NoMemory>
+fn action(alloc: Global, reader: &mut Reader, parameters: &[Parameter]) -> Result<Action, NoMemory>
     requires { AreDifferent parameters.now }
     ensures again { (a : Act) (rest : List ℕ) → IsPortAction parameters.now a → reader.old ≡ action_text parameters.now a ++ rest → IfOk result (λ found. (found ≡ a) × (reader.new ≡ rest)) }
     ensures shorter { length reader.new ≤ length reader.old - 1 }

@@ -1,4 +1,4 @@
-use Rattle.std.proofs.Common.{◌≡◌, ◌∙◌, ◌++◌, ap, drop, refl}
+use Rattle.std.proofs.Common.{◌∙◌, ap, drop, refl}
 use Rattle.reo_forms.proofs.Parts.{circuit_parts}
 use Rattle.reo_forms.proofs.circuit.candidate.Goals as goal
 

@@ -1,4 +1,4 @@
-use Rattle.std.proofs.Common.{◌≡◌, ◌∙◌, ◌∷◌, ◌++◌, ℤ, pos, ◌^◌, ap, sym, subst, drop, arith}
+use Rattle.std.proofs.Common.{◌≡◌, ◌∙◌, ◌∷◌, ◌++◌, pos, ◌^◌, ap, sym, subst, drop, arith}
 use Rattle.std.specs.Prelude.{slice_index, ◌≤ℤ◌, neg_ℤ, FitsSigned}
 use Rattle.std.specs.Int.{w64}
 use Rattle.std.specs.Fmt.{signed_decimal}

@@ -1,4 +1,4 @@
-use Rattle.std.proofs.Common.{◌≡◌, ◌∙◌, ◌++◌, [], ◌∷◌, ap, sym}
+use Rattle.std.proofs.Common.{◌∙◌, ◌++◌, [], ◌∷◌, ap, sym}
 use Rattle.reo_forms.proofs.Parts.{no_parameters, some_parameter, row_ends}
 use Rattle.reo_forms.proofs.circuit.parameters.Goals as goal
 

@@ -1,6 +1,5 @@
 use Rattle.std.proofs.Common.{◌≡◌, ◌∙◌, ◌++◌, [], ◌∷◌, ℕ, List, inl, inr, sym, ap, subst, append-nil}
-use Rattle.reo_forms.specs.declared.plainest.Plainest.{Plainest}
-use Rattle.reo_forms.specs.CircuitForm.{circuit_text, IsPlainest, SaysCircuit}
+use Rattle.reo_forms.specs.CircuitForm.{circuit_text, IsPlainest}
 use Rattle.reo_forms.specs.Listed.{IsText}
 use Rattle.reo_forms.proofs.circuit.read_circuit.Goals as goal
 

@@ -6,10 +6,11 @@ use Rattle.reo_forms.proofs.plain.is_once.Goals as goal
 
 pub returns : goal.returns
 returns c =
-    let test = λ (x : Joined). letter_for c.args.way x == c.args.letter in
-    (λ one. once_as (λ (x : Joined). test x ≡ true) (λ (x : Joined). letter_for c.args.way x ≡ c.args.letter) c.args.channels.now
-        (λ x. equal_tested (letter_for c.args.way x) c.args.letter) (λ x. test_equal (letter_for c.args.way x) c.args.letter)
-        (once_counted test c.args.channels.now (sym c.count_joined.ensures ∙ equal_tested c.count_joined.result 1 one)),
-     λ once. test_equal c.count_joined.result 1 (c.count_joined.ensures ∙ counted_once test c.args.channels.now
-        (once_as (λ (x : Joined). letter_for c.args.way x ≡ c.args.letter) (λ (x : Joined). test x ≡ true) c.args.channels.now
-          (λ x. test_equal (letter_for c.args.way x) c.args.letter) (λ x. equal_tested (letter_for c.args.way x) c.args.letter) once)))
+    let test = λ (x : Joined). letter_for c.args.way x == c.args.letter in (
+      λ one. once_as (λ (x : Joined). test x ≡ true) (λ (x : Joined). letter_for c.args.way x ≡ c.args.letter) c.args.channels.now
+          (λ x. equal_tested (letter_for c.args.way x) c.args.letter) (λ x. test_equal (letter_for c.args.way x) c.args.letter)
+          (once_counted test c.args.channels.now (sym c.count_joined.ensures ∙ equal_tested c.count_joined.result 1 one)),
+      λ once. test_equal c.count_joined.result 1 (c.count_joined.ensures ∙ counted_once test c.args.channels.now
+          (once_as (λ (x : Joined). letter_for c.args.way x ≡ c.args.letter) (λ (x : Joined). test x ≡ true) c.args.channels.now
+          (λ x. test_equal (letter_for c.args.way x) c.args.letter) (λ x. equal_tested (letter_for c.args.way x) c.args.letter) once)),
+    )

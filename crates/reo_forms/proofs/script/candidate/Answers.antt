@@ -1,4 +1,4 @@
-use Rattle.std.proofs.Common.{◌≡◌, ◌∙◌, ◌++◌, [], ◌∷◌, ap, sym}
+use Rattle.std.proofs.Common.{◌∙◌, ◌++◌, [], ◌∷◌, ap, sym}
 use Rattle.reo_forms.proofs.Actions.{no_components, some_component}
 use Rattle.reo_forms.proofs.script.candidate.Goals as goal
 

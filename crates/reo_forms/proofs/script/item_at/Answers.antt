@@ -1,4 +1,4 @@
-use Rattle.std.proofs.Common.{◌≡◌, ◌∙◌, ◌++◌, ap, sym, subst}
+use Rattle.std.proofs.Common.{◌∙◌, ◌++◌, ap, subst}
 use Rattle.reo_values.specs.Kind.{IsIn}
 use Rattle.reo_values.specs.ItemText.{text_of}
 use Rattle.reo_values.specs.declared.kindred.Kindred.TheVariants as kinds

@@ -1,4 +1,4 @@
-use Rattle.std.proofs.Common.{◌≡◌, ◌∙◌, drop, ap}
+use Rattle.std.proofs.Common.{◌∙◌, drop, ap}
 use Rattle.reo_forms.proofs.script.next_component.Goals as goal
 
 pub returns-clause-again : goal.returns-clause-again

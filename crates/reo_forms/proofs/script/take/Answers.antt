@@ -1,4 +1,4 @@
-use Rattle.std.proofs.Common.{◌≡◌, ◌∙◌, drop, ap, sym}
+use Rattle.std.proofs.Common.{◌∙◌, drop, ap, sym}
 use Rattle.std.specs.Prelude.{slice_index}
 use Rattle.reo_script.specs.declared.script.Action.TheVariants.{Take}
 use Rattle.reo_forms.proofs.Actions.{letter_of}

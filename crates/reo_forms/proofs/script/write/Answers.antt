@@ -1,7 +1,7 @@
-use Rattle.std.proofs.Common.{◌≡◌, ◌∙◌, ◌++◌, ◌∷◌, Some, codes, drop, ap, sym, arith}
+use Rattle.std.proofs.Common.{◌∙◌, ◌++◌, ◌∷◌, codes, drop, ap, sym, arith}
 use Rattle.std.specs.Prelude.{slice_index, slice_get}
 use Rattle.reo_script.specs.declared.script.Action.TheVariants.{Write}
-use Rattle.reo_forms.specs.ScriptForm.{letter_at, item_at_text}
+use Rattle.reo_forms.specs.ScriptForm.{item_at_text}
 use Rattle.reo_forms.proofs.Parts.{ends_at}
 use Rattle.reo_forms.proofs.Actions.{letter_of, write_parts}
 use Rattle.reo_forms.proofs.script.write.Goals as goal

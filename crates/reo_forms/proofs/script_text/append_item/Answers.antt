@@ -1,4 +1,4 @@
-use Rattle.std.proofs.Common.{◌≡◌, ◌∙◌, ◌++◌, sym, ap, append-nil}
+use Rattle.std.proofs.Common.{◌∙◌, ◌++◌, sym, ap, append-nil}
 use Rattle.reo_forms.proofs.Actions.{no_text}
 use Rattle.reo_forms.proofs.script_text.append_item.Goals as goal
 
