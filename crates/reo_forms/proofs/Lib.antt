@@ -6,3 +6,6 @@ pub mod Ports
 pub mod Counts
 pub mod Actions
 pub mod Apart
+pub mod CircuitTells
+pub mod RowTells
+pub mod ScriptTells

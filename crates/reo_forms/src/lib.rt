@@ -4,6 +4,7 @@
 mod circuit;
 mod circuit_text;
 mod fault;
+mod laws;
 mod plain;
 mod plain_script;
 mod plainest;
@@ -15,5 +16,6 @@ mod tests;
 
 pub use circuit::read_circuit;
 pub use fault::FormFault;
+pub use laws::{one_circuit, one_script};
 pub use plainest::{Joined, Parameter, Plainest};
 pub use script::read_script;
