@@ -1,5 +1,5 @@
 -- The plainest circuits, and their texts.
-use Rattle.std.specs.Prelude.{ℕ, ℤ, pos, neg_ℤ, ◌<◌, ◌≤◌, ◌≤ℤ◌, ◌≡◌, ◌^◌, List, [], ◌∷◌, ◌++◌, codes, length, slice_get, Some}
+use Rattle.std.specs.Prelude.{ℕ, pos, neg_ℤ, ◌≤◌, ◌≤ℤ◌, ◌≡◌, ◌^◌, List, ◌∷◌, ◌++◌, codes, length, slice_get, Some}
 use Rattle.std.specs.List.{flat_map}
 use Rattle.std.specs.Fmt.{signed_decimal}
 use Rattle.reo_behaviour.specs.declared.port.Way.{Way}

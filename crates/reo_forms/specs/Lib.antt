@@ -1,3 +1,5 @@
 pub mod CircuitForm
+pub mod Components
 pub mod Listed
+pub mod Reading
 pub mod ScriptForm

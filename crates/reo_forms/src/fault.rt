@@ -1,0 +1,23 @@
+//! Why a text is read as no circuit or script of the form.
+ghost use Rattle.std.specs.Prelude.{◌≡◌};
+
+use reo_values::NoMemory;
+
+/// Why reading gave nothing.
+#[derive(Clone, Copy, Debug, PartialEq, Eq)]
+pub enum FormFault {
+    /// The text is not of the form.
+    NotOfForm,
+    /// Want of memory.
+    NoMemory,
+}
+
+impl From<NoMemory> for FormFault {
+    ghost use Rattle.reo_forms.specs.declared.fault.FormFault.TheVariants.{NoMemory as OutOfMemory};
+
+    ghost from_gives = { λ _ e. e ≡ OutOfMemory };
+
+    fn from(_: NoMemory) -> Self {
+        FormFault::NoMemory
+    }
+}

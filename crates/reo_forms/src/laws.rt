@@ -1,0 +1,25 @@
+//! Laws of the two forms.
+ghost use Rattle.std.specs.Prelude.{◌≡◌};
+ghost use Rattle.reo_forms.specs.CircuitForm.{IsParameter, SaysCircuit};
+ghost use Rattle.reo_forms.specs.ScriptForm.{SaysScript};
+ghost use Rattle.reo_forms.specs.Reading.{Each, AreDifferent};
+
+use crate::{Parameter, Plainest};
+use reo_script::Script;
+use reo_values::List;
+
+/// A text says at most one circuit.
+pub fn one_circuit(text: &[u8], a: &Plainest, b: &Plainest)
+    requires a_said { SaysCircuit text.now a.now }
+    requires b_said { SaysCircuit text.now b.now }
+    ensures { a.now ≡ b.now }
+{}
+
+/// A text says at most one script for the ports of these parameters.
+pub fn one_script(text: &[u8], parameters: &List<Parameter>, a: &Script, b: &Script)
+    requires different { AreDifferent parameters.now }
+    requires each { Each IsParameter parameters.now }
+    requires a_said { SaysScript parameters.now text.now a.now.components }
+    requires b_said { SaysScript parameters.now text.now b.now.components }
+    ensures { a.now.components ≡ b.now.components }
+{}

@@ -1,0 +1,161 @@
+//! Whether what was read is a circuit of the form.
+ghost use Rattle.std.specs.Prelude.{◌≡◌, ◌≤◌, ◌<◌, ◌↔◌, ℕ, IsTrue, length, slice_get, Some, count_by, ◌==◌};
+ghost use Rattle.reo_behaviour.specs.declared.port.Way.TheVariants.{In, Out};
+ghost use Rattle.reo_forms.specs.declared.plainest.Parameter.{Parameter as Port};
+ghost use Rattle.reo_forms.specs.declared.plainest.Joined.{Joined as Channel};
+ghost use Rattle.reo_forms.specs.CircuitForm.{letter_for, IsParameter, IsPlainest};
+ghost use Rattle.reo_forms.specs.Listed.{IsLetter, IsOnce};
+ghost use Rattle.reo_forms.specs.Reading.{Each, AreDifferent, HaveOneType, IsNamed};
+
+use crate::circuit::MOST;
+use crate::{Joined, Parameter, Plainest};
+use reo_behaviour::Way;
+
+/// Whether a byte is a lower-case letter.
+pub fn is_letter(byte: u8) -> bool
+    ensures { IsTrue result ↔ IsLetter byte }
+{
+    b'a' <= byte && byte <= b'z'
+}
+
+fn is_parameter(parameter: &Parameter) -> bool
+    ensures { IsTrue result ↔ IsParameter parameter.now }
+{
+    is_letter(parameter.letter)
+        && -MOST <= parameter.low
+        && parameter.high <= MOST
+        && parameter.low <= parameter.high
+}
+
+fn are_parameters(parameters: &[Parameter]) -> bool
+    ensures { IsTrue result ↔ Each IsParameter parameters.now }
+{
+    for parameter in parameters {
+        if !is_parameter(parameter) {
+            return false;
+        }
+    }
+    true
+}
+
+fn have_one_type(parameters: &[Parameter]) -> bool
+    ensures { IsTrue result ↔ HaveOneType parameters.now }
+{
+    for parameter in parameters {
+        if parameter.low != parameters[0].low || parameter.high != parameters[0].high {
+            return false;
+        }
+    }
+    true
+}
+
+// Whether a parameter of this letter stands before a place.
+fn is_before(parameters: &[Parameter], place: usize, letter: u8) -> bool
+    requires { place ≤ length parameters.now }
+    ensures { IsTrue result ↔ ((i : ℕ) × (p : Port) × (i < place) × (slice_get parameters.now i ≡ Some p) × (p.letter ≡ letter)) }
+{
+    for i in 0..place {
+        if parameters[i].letter == letter {
+            return true;
+        }
+    }
+    false
+}
+
+fn are_different(parameters: &[Parameter]) -> bool
+    ensures { IsTrue result ↔ AreDifferent parameters.now }
+{
+    for (place, parameter) in parameters.iter().enumerate() {
+        if is_before(parameters, place, parameter.letter) {
+            return false;
+        }
+    }
+    true
+}
+
+// Whether this is the letter of a parameter of this way.
+fn is_named(parameters: &[Parameter], way: Way, letter: u8) -> bool
+    ensures { IsTrue result ↔ IsNamed parameters.now way letter }
+{
+    for parameter in parameters {
+        if parameter.way == way && parameter.letter == letter {
+            return true;
+        }
+    }
+    false
+}
+
+// The letter at which a channel is joined to a port of this way.
+fn letter_for(way: Way, channel: &Joined) -> u8
+    ensures { result ≡ letter_for way channel.now }
+{
+    match way {
+        Way::In => channel.source,
+        Way::Out => channel.sink,
+    }
+}
+
+// How many channels are joined to the port.
+fn count_joined(channels: &[Joined], way: Way, letter: u8) -> usize
+    ensures { result ≡ count_by (λ (x : Channel). letter_for way x == letter) channels.now }
+{
+    channels
+        .iter()
+        .filter(|channel| letter_for(way, channel) == letter)
+        .count()
+}
+
+// Whether exactly one channel is joined to the port.
+fn is_once(channels: &[Joined], way: Way, letter: u8) -> bool
+    ensures { IsTrue result ↔ IsOnce (λ (x : Channel). letter_for way x ≡ letter) channels.now }
+{
+    count_joined(channels, way, letter) == 1
+}
+
+fn are_joined_once(parameters: &[Parameter], channels: &[Joined]) -> bool
+    ensures { IsTrue result ↔ Each (λ (p : Port). IsOnce (λ (x : Channel). letter_for p.way x ≡ p.letter) channels.now) parameters.now }
+{
+    for parameter in parameters {
+        if !is_once(channels, parameter.way, parameter.letter) {
+            return false;
+        }
+    }
+    true
+}
+
+fn are_between_ports(parameters: &[Parameter], channels: &[Joined]) -> bool
+    ensures { IsTrue result ↔ Each (λ (x : Channel). IsNamed parameters.now In x.source × IsNamed parameters.now Out x.sink) channels.now }
+{
+    for channel in channels {
+        if !is_named(parameters, Way::In, channel.source)
+            || !is_named(parameters, Way::Out, channel.sink)
+        {
+            return false;
+        }
+    }
+    true
+}
+
+/// Whether this is a circuit of the form.
+pub fn is_plainest(circuit: &Plainest) -> bool
+    ensures { IsTrue result ↔ IsPlainest circuit.now }
+{
+    let parameters = circuit.parameters.as_slice();
+    let channels = circuit.channels.as_slice();
+    if !are_parameters(parameters) {
+        return false;
+    }
+    if !have_one_type(parameters) {
+        return false;
+    }
+    if !are_different(parameters) {
+        return false;
+    }
+    if circuit.channels.is_empty() || circuit.channels.len() > 4 {
+        return false;
+    }
+    if !are_joined_once(parameters, channels) {
+        return false;
+    }
+    are_between_ports(parameters, channels)
+}

@@ -1,0 +1,150 @@
+//! The text of a script.
+ghost use Rattle.std.specs.Prelude.{◌≡◌, ◌++◌, ◌↔◌, IsTrue, IfOk, OnOk, codes, slice_get};
+ghost use Rattle.std.specs.List.{flat_map};
+ghost use Rattle.reo_values.specs.ItemText.{text_of};
+ghost use Rattle.reo_values.specs.declared.kindred.Kindred.TheVariants.{Int as IntOf};
+ghost use Rattle.reo_forms.specs.ScriptForm.{letter_at, item_at_text, action_text, component_text, script_text, IsScriptText};
+
+use crate::Parameter;
+use crate::circuit_text::{append_number, is_text};
+use reo_script::{Action, Component};
+use reo_values::{Bytes, NoMemory, Value};
+use std::alloc::Global;
+
+fn letter_at(parameters: &[Parameter], port: usize) -> u8
+    ensures { result ≡ letter_at parameters.now port }
+{
+    match parameters.get(port) {
+        Some(p) => p.letter,
+        None => 0,
+    }
+}
+
+// The text of an item of the parameter's type.
+fn append_item(
+    alloc: Global,
+    out: &mut Bytes,
+    parameter: &Parameter,
+    item: &Value,
+) -> Result<(), NoMemory>
+    ensures { OnOk result (out.new ≡ out.old ++ text_of item.now (IntOf parameter.now.low parameter.now.high)) }
+{
+    match item {
+        Value::Int(number) => append_number(alloc, out, *number),
+        _ => Ok(()),
+    }
+}
+
+fn append_item_at(
+    alloc: Global,
+    out: &mut Bytes,
+    parameters: &[Parameter],
+    port: usize,
+    item: &Value,
+) -> Result<(), NoMemory>
+    ensures { OnOk result (out.new ≡ out.old ++ item_at_text (slice_get parameters.now port) item.now) }
+{
+    match parameters.get(port) {
+        Some(parameter) => append_item(alloc, out, parameter, item),
+        None => Ok(()),
+    }
+}
+
+fn append_action(
+    alloc: Global,
+    out: &mut Bytes,
+    parameters: &[Parameter],
+    action: &Action,
+) -> Result<(), NoMemory>
+    ensures { OnOk result (out.new ≡ out.old ++ action_text parameters.now action.now) }
+{
+    match action {
+        Action::Write { port, item } => {
+            out.append(b"write ")?;
+            out.push(letter_at(parameters, *port))?;
+            out.push(b' ')?;
+            append_item_at(alloc, out, parameters, *port, item)?;
+        }
+        Action::Take { port } => {
+            out.append(b"take ")?;
+            out.push(letter_at(parameters, *port))?;
+        }
+    }
+    out.append(b"; ")
+}
+
+fn append_actions(
+    alloc: Global,
+    out: &mut Bytes,
+    parameters: &[Parameter],
+    actions: &[Action],
+) -> Result<(), NoMemory>
+    ensures { OnOk result (out.new ≡ out.old ++ flat_map (action_text parameters.now) actions.now) }
+{
+    for action in actions {
+        append_action(alloc, out, parameters, action)?;
+    }
+    Ok(())
+}
+
+fn append_component(
+    alloc: Global,
+    out: &mut Bytes,
+    parameters: &[Parameter],
+    component: &Component,
+) -> Result<(), NoMemory>
+    ensures { OnOk result (out.new ≡ out.old ++ component_text parameters.now component.now) }
+{
+    out.append(b"component ")?;
+    out.append(component.name.as_slice())?;
+    out.append(b" { ")?;
+    append_actions(alloc, out, parameters, component.actions.as_slice())?;
+    out.append(b"}")
+}
+
+fn append_next(
+    alloc: Global,
+    out: &mut Bytes,
+    parameters: &[Parameter],
+    component: &Component,
+) -> Result<(), NoMemory>
+    ensures { OnOk result (out.new ≡ out.old ++ (codes " " ++ component_text parameters.now component.now)) }
+{
+    out.append(b" ")?;
+    append_component(alloc, out, parameters, component)
+}
+
+fn append_others(
+    alloc: Global,
+    out: &mut Bytes,
+    parameters: &[Parameter],
+    components: &[Component],
+) -> Result<(), NoMemory>
+    ensures { OnOk result (out.new ≡ out.old ++ flat_map (λ c. codes " " ++ component_text parameters.now c) components.now) }
+{
+    for component in components {
+        append_next(alloc, out, parameters, component)?;
+    }
+    Ok(())
+}
+
+/// Whether a text is that of a script: where there is a component, with or without a line
+/// feed at its end.
+pub fn is_script_text(
+    alloc: Global,
+    text: &[u8],
+    parameters: &[Parameter],
+    components: &[Component],
+) -> Result<bool, NoMemory>
+    ensures { IfOk result (λ same. IsTrue same ↔ IsScriptText text.now parameters.now components.now) }
+{
+    match components.split_first() {
+        Some((first, others)) => {
+            let mut form = Bytes::new(alloc);
+            append_component(alloc, &mut form, parameters, first)?;
+            append_others(alloc, &mut form, parameters, others)?;
+            is_text(text, form)
+        }
+        None => Ok(text.is_empty()),
+    }
+}
