@@ -2,5 +2,9 @@
 #![tactic(auto)]
 
 mod flat;
+mod laws;
+mod parts;
+mod seen;
 
-pub use flat::Flat;
+pub use flat::{Flat, build};
+pub use laws::{has_few_parts, is_sound, script_fits};

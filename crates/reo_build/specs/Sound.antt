@@ -1,0 +1,32 @@
+-- A circuit of the form is small, and has no fault.
+use Rattle.std.specs.Prelude.{◌≤◌, length}
+use Rattle.reo_behaviour.specs.Net.{Net}
+use Rattle.reo_behaviour.specs.Wired.{ArePorts}
+use Rattle.reo_circuit.specs.Parts.{net_with, AreJoints}
+use Rattle.reo_circuit.specs.Fault.{IsSound}
+use Rattle.reo_kinds.specs.Kinds.{behaviour_of}
+use Rattle.reo_forms.specs.declared.plainest.Plainest.{Plainest}
+use Rattle.reo_forms.specs.CircuitForm.{IsPlainest}
+use Rattle.reo_build.specs.Flat.{primitives_of, joints_from}
+
+-- The circuit as mathematics.
+abbrev pub net_for : Plainest → Net
+net_for c = net_with behaviour_of (primitives_of c) (joints_from c 0 c.parameters)
+
+-- At most eight ports, twelve primitives and eight joints.
+pub record FewParts (c : Plainest) : Type 0 where
+  pub ports : length c.parameters ≤ 8
+  pub primitives : length (primitives_of c) ≤ 12
+  pub joints : length (joints_from c 0 c.parameters) ≤ 8
+
+abbrev pub HasFewParts : Type 0
+HasFewParts = (c : Plainest) → IsPlainest c → FewParts c
+
+-- What a circuit is made from, and no fault in it.
+pub record SoundParts (c : Plainest) : Type 0 where
+  pub ports : ArePorts (net_for c).primitives (length c.parameters)
+  pub ends : AreJoints (net_for c)
+  pub sound : IsSound (net_for c)
+
+abbrev pub IsSoundForm : Type 0
+IsSoundForm = (c : Plainest) → IsPlainest c → SoundParts c
