@@ -1,0 +1,7 @@
+//! Worked circuits, whose first colourings were found by hand: tests alone.
+#![tactic(auto)]
+
+#[cfg(test)]
+mod circuits;
+#[cfg(test)]
+mod tests;

@@ -1,0 +1,155 @@
+//! The first colourings of worked circuits.
+use crate::circuits::{first_rows, merger, replicator, taker, writer};
+use reo_kinds::Kind;
+use std::test::Fail;
+
+/// One channel. Rows of the writer, the taker and the channel: F R J or G J for a port, FF RG GR JJ for the channel.
+const ONE: [(bool, bool, [u32; 3]); 4] = [
+    (true, true, [0, 0, 0]),
+    // the taker gives the reason
+    (true, false, [1, 0, 2]),
+    // the writer gives the reason
+    (false, true, [0, 1, 1]),
+    // both rows without flow are colourings of equal classes, and the lesser row decides
+    (false, false, [0, 0, 1]),
+];
+
+#[test]
+fn one_channel_flows_where_both_offer(rt: HostRuntime) -> Result<(), Fail> {
+    let alloc = rt.alloc();
+    for (offered, pending, want) in ONE {
+        let primitives = vec![in alloc; writer(offered), taker(pending), Kind::Sync]?;
+        let rows = first_rows(&rt, alloc, primitives, 2, &[[0, 0, 2, 0], [2, 1, 1, 0]])?;
+        assert_eq!(rt; rows.as_slice(), want.as_slice());
+    }
+    Ok(())
+}
+
+#[test]
+fn two_channels_are_two_parts(rt: HostRuntime) -> Result<(), Fail> {
+    let alloc = rt.alloc();
+    let joints = [[0, 0, 4, 0], [4, 1, 1, 0], [2, 0, 5, 0], [5, 1, 3, 0]];
+    for (a, b, [w, t, s]) in ONE {
+        for (c, d, [x, u, z]) in ONE {
+            let primitives = vec![in alloc;
+                writer(a),
+                taker(b),
+                writer(c),
+                taker(d),
+                Kind::Sync,
+                Kind::Sync,
+            ]?;
+            let rows = first_rows(&rt, alloc, primitives, 4, &joints)?;
+            assert_eq!(rt; rows.as_slice(), [w, t, x, u, s, z].as_slice());
+        }
+    }
+    Ok(())
+}
+
+#[test]
+fn a_lossy_channel_loses_where_nothing_is_taken(rt: HostRuntime) -> Result<(), Fail> {
+    let alloc = rt.alloc();
+    for (pending, want) in [(false, [0, 0, 1]), (true, [0, 0, 0])] {
+        let primitives = vec![in alloc; writer(true), taker(pending), Kind::Lossy]?;
+        let rows = first_rows(&rt, alloc, primitives, 2, &[[0, 0, 2, 0], [2, 1, 1, 0]])?;
+        assert_eq!(rt; rows.as_slice(), want.as_slice());
+    }
+    Ok(())
+}
+
+#[test]
+fn drains(rt: HostRuntime) -> Result<(), Fail> {
+    let alloc = rt.alloc();
+    let joints = [[0, 0, 2, 0], [1, 0, 2, 1]];
+    let alone = vec![in alloc; writer(true), writer(false), Kind::SyncDrain]?;
+    let rows = first_rows(&rt, alloc, alone, 2, &joints)?;
+    assert_eq!(rt; rows.as_slice(), [1, 0, 2].as_slice());
+    let tie = vec![in alloc; writer(true), writer(true), Kind::AsyncDrain]?;
+    let rows = first_rows(&rt, alloc, tie, 2, &joints)?;
+    assert_eq!(rt; rows.as_slice(), [0, 1, 0].as_slice());
+    let twice = vec![in alloc; writer(true), Kind::SyncDrain, replicator(2)]?;
+    let rows = first_rows(
+        &rt,
+        alloc,
+        twice,
+        1,
+        &[[0, 0, 2, 0], [2, 1, 1, 0], [2, 2, 1, 1]],
+    )?;
+    assert_eq!(rt; rows.as_slice(), [0, 0, 0].as_slice());
+    Ok(())
+}
+
+#[test]
+fn a_jam_stays_in_its_part(rt: HostRuntime) -> Result<(), Fail> {
+    let alloc = rt.alloc();
+    let primitives = vec![in alloc;
+        writer(true),
+        taker(true),
+        writer(true),
+        taker(true),
+        Kind::Sync,
+        Kind::Sync,
+        Kind::Sync,
+        replicator(2),
+        merger(),
+    ]?;
+    let joints = [
+        [0, 0, 7, 0],
+        [7, 1, 4, 0],
+        [7, 2, 5, 0],
+        [4, 1, 8, 0],
+        [5, 1, 8, 1],
+        [8, 2, 1, 0],
+        [2, 0, 6, 0],
+        [6, 1, 3, 0],
+    ];
+    let rows = first_rows(&rt, alloc, primitives, 4, &joints)?;
+    assert_eq!(rt; rows.as_slice(), [2, 2, 0, 0, 3, 3, 0, 4, 4].as_slice());
+    Ok(())
+}
+
+/// Lossy channels from a to x and y, channels from each of these to its own taker and to k, and a drain of a and k: what is
+/// written goes to exactly one of the two takers.
+#[test]
+fn an_exclusive_router_takes_one_way(rt: HostRuntime) -> Result<(), Fail> {
+    let alloc = rt.alloc();
+    let primitives = vec![in alloc;
+        writer(true),
+        taker(true),
+        taker(true),
+        Kind::Lossy,
+        Kind::Lossy,
+        Kind::Sync,
+        Kind::Sync,
+        Kind::Sync,
+        Kind::Sync,
+        Kind::SyncDrain,
+        replicator(3),
+        replicator(2),
+        replicator(2),
+        merger(),
+    ]?;
+    let joints = [
+        [0, 0, 10, 0],
+        [10, 1, 3, 0],
+        [10, 2, 4, 0],
+        [10, 3, 9, 0],
+        [5, 1, 1, 0],
+        [7, 1, 2, 0],
+        [3, 1, 11, 0],
+        [11, 1, 5, 0],
+        [11, 2, 6, 0],
+        [4, 1, 12, 0],
+        [12, 1, 7, 0],
+        [12, 2, 8, 0],
+        [6, 1, 13, 0],
+        [8, 1, 13, 1],
+        [13, 2, 9, 1],
+    ];
+    let rows = first_rows(&rt, alloc, primitives, 3, &joints)?;
+    assert_eq!(rt;
+        rows.as_slice(),
+        [0, 0, 1, 0, 1, 0, 0, 1, 2, 0, 0, 0, 3, 0].as_slice()
+    );
+    Ok(())
+}
