@@ -1,12 +1,11 @@
 -- What is a circuit of the form, item by item.
 use Rattle.std.proofs.Common.{◌≡◌, ℕ, ℤ, pos, neg_ℤ, zero, suc, ◌+◌, ◌<◌, ◌≤◌, ◌≤ℤ◌, ◌^◌, List, [], ◌∷◌, length, slice_get, Some, refl, ap, sym, ◌∙◌, subst, arith}
-use Rattle.reo_behaviour.specs.declared.port.Way.{Way}
 use Rattle.reo_behaviour.specs.declared.port.Way.TheVariants.{In, Out}
 use Rattle.reo_forms.specs.declared.plainest.Parameter.{Parameter}
 use Rattle.reo_forms.specs.declared.plainest.Joined.{Joined}
 use Rattle.reo_forms.specs.declared.plainest.Plainest.{Plainest}
 use Rattle.reo_forms.specs.Listed.{IsLetter, IsOnce}
-use Rattle.reo_forms.specs.CircuitForm.{letter_for, IsParameter, IsParameterAt, IsPlainest}
+use Rattle.reo_forms.specs.CircuitForm.{letter_for, IsParameterAt, IsPlainest}
 
 -- Each item of a list, the first of which has this number.
 abbrev pub Each : {X : Type 0} → (ℕ → X → Type 0) → ℕ → List X → Type 0

@@ -1,4 +1,4 @@
-use Rattle.std.proofs.Common.{◌≡◌, ℕ, pos, negsuc, ◌-◌, List, [], ◌∷◌, refl, arith}
+use Rattle.std.proofs.Common.{pos, negsuc, ◌-◌, [], ◌∷◌, refl, arith}
 use Rattle.std.proofs.lemmas.Int.{ints}
 use Rattle.reo_behaviour.specs.declared.port.Way.TheVariants.{In, Out}
 use Rattle.reo_forms.specs.declared.plainest.Parameter.{Parameter}
