@@ -8,3 +8,6 @@ mod seen;
 
 pub use flat::{Flat, build};
 pub use laws::{has_few_parts, is_sound, script_fits};
+
+#[cfg(test)]
+mod tests;
