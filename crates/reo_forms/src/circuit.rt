@@ -128,8 +128,9 @@ fn candidate(alloc: Global, text: &[u8]) -> Result<Plainest, NoMemory>
     })
 }
 
-/// The circuit that the text says: the first connector's parameters and channels. `NotOfForm`
-/// comes exactly where the text says no circuit, and `NoMemory` is want of memory.
+/// The circuit that a text of the circuit form says: the parameters and the channels of its one
+/// connector. `NotOfForm` comes exactly where the text says no circuit, and `NoMemory` is want
+/// of memory.
 pub fn read_circuit(alloc: Global, text: &[u8]) -> Result<Plainest, FormFault>
     ensures said { IfOk result (λ c. SaysCircuit text.now c) }
     ensures refused { IsErrOf result FormFault.NotOfForm → (c : Circuit) → SaysCircuit text.now c → ⊥ }

@@ -1,4 +1,13 @@
-//! The plainest circuits and scripts, read from their bytes: `sync` channels between ports of one `int` type.
+//! The plainest circuits and scripts, read from their bytes.
+//!
+//! A circuit is one connector of one to four `sync` channels between ports of one `int` type.
+//! Each port is a lower-case letter, and is joined to exactly one channel:
+//! `connector main(in a: int 0..9, out b: int 0..9) { sync a b; }`. A script is empty, or
+//! components with a space between: `component p { write a 3; } component q { take b; }`.
+//! Each text may have one line feed at its end, but not that of the empty script.
+//!
+//! Reading refuses nothing on the way. What was read is judged, and its text is made again and
+//! compared with the text that was given.
 #![tactic(auto)]
 
 mod circuit;
