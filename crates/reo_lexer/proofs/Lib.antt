@@ -10,3 +10,4 @@ pub mod Reading
 pub mod Next
 pub mod Spans
 pub mod Cut
+pub mod Onward
