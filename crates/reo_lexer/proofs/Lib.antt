@@ -11,3 +11,4 @@ pub mod Next
 pub mod Spans
 pub mod Cut
 pub mod Onward
+pub mod Begun

@@ -9,7 +9,7 @@ mod parts;
 mod token;
 mod words;
 
-pub use laws::{one_reading, real_tokens_follow, tokens_of_front};
+pub use laws::{one_reading, real_tokens_follow, refusals_of_texts, tokens_of_front};
 pub use lexer::lex;
 pub use reo_grammar::TokenKind;
 pub use token::{LexFault, Token};
