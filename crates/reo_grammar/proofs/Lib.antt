@@ -7,3 +7,4 @@ pub mod Exact
 pub mod Refusals
 pub mod Levels
 pub mod Lines
+pub mod Numbers

@@ -1,18 +1,18 @@
 -- Tokens by the byte that follows them.
-use Rattle.std.proofs.Common.{◌≡◌, ℕ, zero, suc, ◌+◌, ◌≤◌, ◌<◌, Bool, true, false, cond, List, [], ◌∷◌, ◌++◌, length, ◌⊎◌, inl, inr, refl, sym, ◌∙◌, ap, subst, arith, append_assoc, append-nil, ◌==◌, nat_le}
+use Rattle.std.proofs.Common.{◌≡◌, ℕ, ◌≤◌, Bool, true, false, cond, List, [], ◌∷◌, ◌++◌, inl, inr, refl, sym, ◌∙◌, ap, subst, arith, append_assoc, append-nil, ◌==◌, nat_le}
 use Rattle.std.proofs.lemmas.Bool.Decides.{nat_tests}
 use Rattle.reo_grammar.specs.declared.kind.TokenKind.{TokenKind}
 use Rattle.reo_grammar.specs.declared.kind.TokenKind.TheVariants as kinds
-use Rattle.reo_grammar.specs.Bytes.{and, or, is_not, is_digit, is_letter, is_name_byte, is_plain, is_escaped, is_empty, each, one_of}
-use Rattle.reo_grammar.specs.Spelling.{spells, is_short, is_spelled, is_digits, is_closed, reserved, signs}
+use Rattle.reo_grammar.specs.Bytes.{and, is_not, is_digit, is_letter, is_name_byte, is_plain, is_escaped, is_empty, each, one_of}
+use Rattle.reo_grammar.specs.Spelling.{spells, is_short, is_spelled, is_closed, reserved, signs}
 use Rattle.reo_grammar.proofs.Sound.{and-left, and-right, and-both}
-use Rattle.reo_grammar.proofs.Classes.{or-cases, no-both}
-use Rattle.reo_lexer.specs.Gaps.{IsGap, is_no_lf}
+use Rattle.reo_grammar.proofs.Classes.{or-cases}
+use Rattle.reo_lexer.specs.Gaps.{is_no_lf}
 use Rattle.reo_lexer.specs.Faults.{ends}
 use Rattle.reo_lexer.specs.Lexing.{IsToken}
 use Rattle.reo_lexer.specs.Written.{is_cut}
 use Rattle.reo_lexer.proofs.Spelled.{one_of-passes, name-longest, number-longest, text-longest, reserved-spelled, not-yes, yes-not, never, letter-parts, digit-parts, quote-part, Longest}
-use Rattle.reo_lexer.proofs.Signs.{two-longest, one-longest, last-longest, sign-starts, too-long}
+use Rattle.reo_lexer.proofs.Signs.{two-longest, one-longest, last-longest, too-long}
 use Rattle.reo_lexer.proofs.Fronts.{fronts}
 
 name-cut : (k : TokenKind) (bytes rest : List ℕ) → is_spelled bytes ≡ true → ends is_name_byte rest ≡ true → Longest bytes rest
@@ -92,8 +92,9 @@ closed-no-lf false (b ∷ bs) h = by (b == 34) (b == 92) refl refl h (λ k. clos
     empty-each : (l : List ℕ) → is_empty l ≡ true → each is_no_lf l ≡ true
     empty-each [] h = refl
     empty-each (x ∷ l) h = absurd (cc)
+
     by : (x y : Bool) → (b == 34) ≡ x → (b == 92) ≡ y → cond x (is_empty bs) (cond y (is_closed true bs) (and (is_plain b) (is_closed false bs))) ≡ true
-      → (is_closed true bs ≡ true → each is_no_lf bs ≡ true) → (is_closed false bs ≡ true → each is_no_lf bs ≡ true) → and (is_no_lf b) (each is_no_lf bs) ≡ true
+        → (is_closed true bs ≡ true → each is_no_lf bs ≡ true) → (is_closed false bs ≡ true → each is_no_lf bs ≡ true) → and (is_no_lf b) (each is_no_lf bs) ≡ true
     by true y p q k i j = let n : b ≡ 34 = grind (arith, nat_tests) in and-both (is_no_lf b) (each is_no_lf bs) (high-no-lf b (omega arith)) (empty-each bs k)
     by false true p q k i j = let n : b ≡ 92 = grind (arith, nat_tests) in and-both (is_no_lf b) (each is_no_lf bs) (high-no-lf b (omega arith)) (i k)
     by false false p q k i j =
@@ -139,8 +140,9 @@ token-longer k bytes rest more t = record { spelled = t.spelled; short = t.short
     longer : Longest bytes (rest ++ (10 ∷ more))
     longer l m after w s =
         elim (fronts m after rest (10 ∷ more) (sym w)) [
-          inl (x, q, r) ↦ t.longest l m x q s
-        | inr (x, q, r) ↦ over x q r ]
+          | inl (x, q, r) ↦ t.longest l m x q s
+          | inr (x, q, r) ↦ over x q r
+        ]
       where
         over : (x : List ℕ) → m ≡ rest ++ x → 10 ∷ more ≡ x ++ after → m ≡ []
         over [] q r = let e : rest ≡ m ++ [] = sym (append-nil rest) ∙ sym q ∙ sym (append-nil m) in t.longest l m [] e s

@@ -10,3 +10,5 @@ pub mod Reading
 pub mod Next
 pub mod Spans
 pub mod Cut
+pub mod Onward
+pub mod Begun

@@ -1,5 +1,5 @@
 -- Reading token by token.
-use Rattle.std.proofs.Common.{ℕ, List, [], ◌∷◌, ◌++◌, drop, append_assoc, append-nil, Ok, Err, Result}
+use Rattle.std.proofs.Common.{◌≡◌, ℕ, List, [], ◌∷◌, ◌++◌, drop, append_assoc, append-nil, Ok, Err, Result}
 use Rattle.reo_lexer.specs.declared.token.Token.{Token}
 use Rattle.reo_lexer.specs.declared.token.LexFault.{LexFault}
 use Rattle.reo_lexer.specs.declared.token.LexFault.TheVariants as faults
@@ -46,3 +46,12 @@ lexed-fault text at line ts (faults.BadByte l) h e = so_far-fault text at line t
 lexed-fault text at line ts (faults.OpenText l) h e = so_far-fault text at line ts (faults.OpenText l) h e
 lexed-fault text at line ts (faults.NumberTooLong l) h e = so_far-fault text at line ts (faults.NumberTooLong l) h e
 lexed-fault text at line ts faults.NoMemory h e = tt
+
+pub one-list : (text : List ℕ) (ts us : List Token) → IsTokens text ts → IsTokens text us → ts ≡ us
+one-list text ts us h i = (once done done 0 1 text ts us h i).0
+
+pub one-fault : (text : List ℕ) (f g : LexFault) → IsFault text f → IsFault text g → f ≡ g
+one-fault text f g (ts, h) (us, i) = let e = (once (faulty f) (faulty g) 0 1 text ts us h i).1 in cc
+
+pub not-both : (text : List ℕ) (ts : List Token) (f : LexFault) → IsTokens text ts → IsFault text f → ⊥
+not-both text ts f h (us, i) = let e = (once done (faulty f) 0 1 text ts us h i).1 in absurd (cc)

@@ -19,8 +19,8 @@ all-lie text [] h k d i = absurd (omega arith)
 all-lie text (t ∷ ts) (h, hs) zero d i = h
 all-lie text (t ∷ ts) (h, hs) (suc k) d i = all-lie text ts hs k d (omega arith)
 
-lead-lies : (text : List ℕ) (at line : ℕ) (left : List ℕ) (t : Token) (after : List ℕ) → at ≤ length text → left ≡ drop at text → Leads at line left t after
-    → Lies text t × (after ≡ drop t.end text) × (is_real (tok_of text t) ≡ true)
+pub lead-lies : (text : List ℕ) (at line : ℕ) (left : List ℕ) (t : Token) (after : List ℕ) → at ≤ length text → left ≡ drop at text → (l : Leads at line left t after)
+    → Lies text t × (after ≡ drop t.end text) × (take (t.end - t.start) (drop t.start text) ≡ l.bytes) × (is_real (tok_of text t) ≡ true)
 lead-lies text at line left t after h e l =
     let n : length text ≡ at + length left = omega (arith, length-drop at text, ap length e) in
     let m : length left ≡ length l.gap + (length l.bytes + length after) = ap length l.cut ∙ length-append l.gap (l.bytes ++ after) ∙ ap (λ z. length l.gap + z) (length-append l.bytes after) in
@@ -29,13 +29,13 @@ lead-lies text at line left t after h e l =
     let b : take (t.end - t.start) (drop t.start text) ≡ l.bytes = take-cut (drop t.start text) l.bytes after (t.end - t.start) d (omega (arith, l.end)) in
     let f : drop t.end text ≡ after =
     ap (λ z. drop z text) (l.end ∙ omega arith) ∙ sym (drop-drop (length l.bytes) t.start text) ∙ drop-cut (drop t.start text) l.bytes after (length l.bytes) d refl in
-    ((omega (arith, l.end), omega (arith, l.end, l.start)), sym f, rw b (and-both (spells t.kind l.bytes) (is_short t.kind l.bytes) l.token.spelled l.token.short))
+    ((omega (arith, l.end), omega (arith, l.end, l.start)), sym f, b, rw b (and-both (spells t.kind l.bytes) (is_short t.kind l.bytes) l.token.spelled l.token.short))
 
 pub runs-lie : (End : ℕ → List ℕ → Type 0) (text : List ℕ) (at line : ℕ) (left : List ℕ) (ts : List Token) → at ≤ length text → left ≡ drop at text → Runs End at line left ts
     → AllLie text ts × AreReal (toks_of text ts)
 runs-lie End text at line left [] h e r = (tt, tt)
 runs-lie End text at line left (t ∷ ts) h e (after, l, r) =
-    let (p, q, w) = lead-lies text at line left t after h e l in
+    let (p, q, _, w) = lead-lies text at line left t after h e l in
     let (i, j) = runs-lie End text t.end t.line after ts p.1 q r in
     ((p, i), (w, j))
 

@@ -1,10 +1,11 @@
 -- Texts for tokens.
-use Rattle.std.specs.Prelude.{◌≡◌, ℕ, Bool, true, false, List, [], ◌∷◌, ◌++◌, take}
+use Rattle.std.specs.Prelude.{ℕ, Bool, true, List, [], ◌∷◌, ◌++◌}
 use Rattle.reo_grammar.specs.declared.kind.TokenKind.{TokenKind}
 use Rattle.reo_grammar.specs.declared.kind.TokenKind.TheVariants as kinds
 use Rattle.reo_grammar.specs.Bytes.{is_not, is_digit, is_name_byte, one_of}
 use Rattle.reo_grammar.specs.Spelling.{signs}
 use Rattle.reo_grammar.specs.Tokens.{Tok, Alike}
+use Rattle.reo_grammar.specs.Grammar.{Grammar, Says}
 use Rattle.reo_lexer.specs.declared.token.Token.{Token}
 use Rattle.reo_lexer.specs.Lexing.{IsTokens, toks_of}
 
@@ -25,3 +26,7 @@ written (t ∷ ts) = 10 ∷ (t.bytes ++ written ts)
 -- A text with these tokens goes on to one that has those behind them, lines aside.
 abbrev pub GoesOn : List ℕ → List Token → List Tok → Type 0
 GoesOn text ts c = (more : List ℕ) × (us : List Token) × IsTokens (text ++ more) (ts ++ us) × Alike c (toks_of (text ++ more) us)
+
+-- The text goes on to one of which the grammar says something.
+abbrev pub IsBegun : {Ref : Type 0} {tree : Ref → Type 0} {A : Type 0} → ((r : Ref) → Grammar Ref tree (tree r)) → Grammar Ref tree A → List ℕ → Type 0
+IsBegun {A = A} rules g text = (more : List ℕ) × (ts : List Token) × (x : A) × IsTokens (text ++ more) ts × Says rules g (toks_of (text ++ more) ts) x

@@ -1,8 +1,12 @@
 //! Tokens and faults of texts.
 ghost use Rattle.std.specs.Prelude.{◌<◌, ◌^◌, length};
 
-use crate::{LexFault, Token, TokenKind, lex};
+use crate::{
+    LexFault, Token, TokenKind, lex, one_reading, real_tokens_follow, refusals_of_texts,
+    tokens_of_front,
+};
 use TokenKind::{Name, Number, Sign, Text, Word};
+use reo_grammar::Language;
 use std::alloc::Global;
 use std::process::Abort;
 use std::test::Fail;
@@ -94,4 +98,35 @@ fn faults(rt: HostRuntime) {
             Err(fault) => assert_eq!(rt; fault, wanted, "at {text:?}"),
         }
     }
+}
+
+struct Nested;
+
+impl Language for Nested {
+    ghost use Rattle.std.specs.Prelude.{ℕ, refl};
+    ghost use Rattle.reo_grammar.specs.Example.{Rule as NestedRule, depth_of, nested_form, example_rules, example_table};
+
+    ghost Rule = { NestedRule };
+
+    ghost tree_of = { depth_of };
+
+    ghost Tree = { ℕ };
+
+    ghost rules = { example_rules };
+
+    ghost form = { nested_form };
+
+    ghost table = { example_table };
+
+    ghost productive = { refl };
+
+    ghost sighted = { refl };
+}
+
+#[test]
+fn laws() {
+    one_reading();
+    tokens_of_front();
+    real_tokens_follow();
+    refusals_of_texts::<Nested>();
 }
