@@ -1,0 +1,35 @@
+use Rattle.std.proofs.Common.{inl, refl, ap, []}
+use Rattle.std.specs.Prelude.{Err, codes}
+use Rattle.reo_io.specs.Fetches.{file_of}
+use Rattle.reo_io.proofs.Taken.{Appended-none}
+use Rattle.reo_top.specs.Whole.{content_of, script_owed, Missed}
+use Rattle.reo_top.proofs.CaseLemmas.{refused, wanted, if_told, told_always}
+use Rattle.reo_top.proofs.StageLemmas.{script_lifted, no_script, long_script}
+use Rattle.reo_top.proofs.running.run_script.Goals as goal
+
+pub returns-in-Err-TooLong-clause-cases : goal.returns-in-Err-TooLong-clause-cases
+returns-in-Err-TooLong-clause-cases g c =
+    if_told (g.F.Files.told c.args.files.now)
+    (λ folder fetched. refused (script_owed (Missed (g.F.Files.failed c.args.files.now) (g.F.Files.failed c.fetch.new.files) c.args.name.now) c.args.plainest.now (content_of (file_of folder c.args.name.now))) (codes "too long script\n") 4 _ _ _ _ _
+    (long_script c.args.plainest.now (content_of (file_of folder c.args.name.now)) fetched) c.refuse-in-Err-TooLong.ensures.refuses)
+    (rw c.in-Err-TooLong.field-0-is at c.in-Err-TooLong.ensures.content)
+
+pub returns-in-Err-NoMemory-clause-cases : goal.returns-in-Err-NoMemory-clause-cases
+returns-in-Err-NoMemory-clause-cases g c =
+    told_always (g.F.Files.told c.args.files.now)
+    (λ folder. wanted (script_owed (Missed (g.F.Files.failed c.args.files.now) (g.F.Files.failed c.fetch.new.files) c.args.name.now) c.args.plainest.now (content_of (file_of folder c.args.name.now))) [] _ _ _ _ _ _ (inl refl) (Appended-none _) c.want.ensures.wants)
+
+pub returns-in-Ok-read_script-clause-cases : goal.returns-in-Ok-read_script-clause-cases
+returns-in-Ok-read_script-clause-cases g c =
+    let says = rw c.as_slice.ensures at c.in-Ok-read_script.ensures.said in
+    if_told (g.F.Files.told c.args.files.now)
+    (λ folder fetched. script_lifted c.args.plainest.now c.in-Ok-read_script.script.components (Missed (g.F.Files.failed c.args.files.now) (g.F.Files.failed c.fetch.new.files) c.args.name.now) (content_of (file_of folder c.args.name.now)) c.in-Ok.text fetched says _ _ _ _ _ c.run_both.ensures.cases)
+    c.in-Ok.ensures.content
+
+pub returns-in-Err-NotOfForm-clause-cases : goal.returns-in-Err-NotOfForm-clause-cases
+returns-in-Err-NotOfForm-clause-cases g c =
+    let none = rw c.as_slice.ensures at (c.in-Err-NotOfForm.ensures.refused (ap (λ x. Err x) c.in-Err-NotOfForm.field-0-is)) in
+    if_told (g.F.Files.told c.args.files.now)
+    (λ folder fetched. refused (script_owed (Missed (g.F.Files.failed c.args.files.now) (g.F.Files.failed c.fetch.new.files) c.args.name.now) c.args.plainest.now (content_of (file_of folder c.args.name.now))) (codes "not built script\n") 12 _ _ _ _ _
+    (no_script c.args.plainest.now (content_of (file_of folder c.args.name.now)) c.in-Ok.text fetched none) c.refuse-in-Err-NotOfForm.ensures.refuses)
+    c.in-Ok.ensures.content

@@ -1,0 +1,64 @@
+-- What a command has written, and its status.
+use Rattle.std.specs.Prelude.{ℕ, ◌≡◌, ◌⊎◌, List, Option, codes}
+use Rattle.reo_io.specs.Causes.{Rose}
+use Rattle.reo_io.specs.Sinks.{Appended, TookPart}
+
+-- What a command owes: whole outputs with their statuses, the line of a fetch that failed, whole round lines with the next one, and whole lines.
+pub record Owed : Type 1 where
+  pub whole : List ℕ → ℕ → Type 0
+  pub fault : List ℕ → Type 0
+  pub rounds : List ℕ → Type 0
+  pub lines : List ℕ → Type 0
+
+-- A whole output, or the line of a fetch that failed, or whole round lines and the next one.
+abbrev pub Begins : Owed → List ℕ → Type 0
+Begins owed bytes = ((code : ℕ) × owed.whole bytes code) ⊎ (owed.fault bytes ⊎ owed.rounds bytes)
+
+abbrev pub no_memory : List ℕ
+no_memory = codes "no memory\n"
+
+-- The whole output was written, with its status.
+pub record Wrote (owed : Owed) (before now : Option (List ℕ)) (code : ℕ) : Type 0 where
+  pub bytes : List ℕ
+  pub is : owed.whole bytes code
+  pub text : Appended before now bytes
+
+-- The line of a fetch that failed was written.
+pub record Missed (owed : Owed) (before now : Option (List ℕ)) (code : ℕ) : Type 0 where
+  pub bytes : List ℕ
+  pub is : owed.fault bytes
+  pub text : Appended before now bytes
+  pub status : code ≡ 3
+
+-- The sink failed, and has got a front of what was owed.
+pub record Broke (owed : Owed) (before now : Option (List ℕ)) (was is : ℕ) (code : ℕ) : Type 0 where
+  pub bytes : List ℕ
+  pub begins : Begins owed bytes
+  pub part : TookPart before now bytes
+  pub rose : Rose was is
+  pub status : code ≡ 9
+
+-- Memory was wanting: whole lines were written, and then that, or a front of that where the sink failed.
+pub record Wanted (owed : Owed) (before now : Option (List ℕ)) (code : ℕ) : Type 0 where
+  pub bytes : List ℕ
+  pub lines : owed.lines bytes
+  pub between : Option (List ℕ)
+  pub text : Appended before between bytes
+  pub last : Appended between now no_memory ⊎ TookPart between now no_memory
+  pub status : code ≡ 10
+
+-- One of the four cases holds.
+abbrev pub Cases : Owed → Option (List ℕ) → Option (List ℕ) → ℕ → ℕ → ℕ → Type 0
+Cases owed before now was is code = Wrote owed before now code ⊎ (Missed owed before now code ⊎ (Broke owed before now was is code ⊎ Wanted owed before now code))
+
+-- A line with its status.
+abbrev pub IsLine : List ℕ → ℕ → List ℕ → ℕ → Type 0
+IsLine line status bytes code = (bytes ≡ line) × (code ≡ status)
+
+-- What a call that writes a line has come to: it was written, or the sink failed on it.
+abbrev pub Refuses : List ℕ → ℕ → Option (List ℕ) → Option (List ℕ) → ℕ → ℕ → ℕ → Type 0
+Refuses line status before now was is code = ((code ≡ status) × Appended before now line) ⊎ ((code ≡ 9) × TookPart before now line × Rose was is)
+
+-- What a call that reports want of memory has come to.
+abbrev pub Wants : Option (List ℕ) → Option (List ℕ) → ℕ → Type 0
+Wants before now code = (code ≡ 10) × (Appended before now no_memory ⊎ TookPart before now no_memory)

@@ -1,0 +1,28 @@
+//! Answers: a line and a status.
+ghost use Rattle.std.specs.Prelude.{◌≡◌, ◌≤◌};
+ghost use Rattle.reo_top.specs.Cases.{Refuses, Wants};
+
+use crate::top::Status;
+use reo_io::{Sink, put_all};
+
+/// Writes the line of a refusal, and answers its status: 9 where the sink does not take it whole.
+pub(crate) fn refuse<S: Sink>(line: &[u8], status: u8, out: &mut S) -> Status
+    ensures refuses { Refuses line.now status (S.told out.old) (S.told out.new) (S.faults out.old) (S.faults out.new) result.code }
+    ensures later { S.faults out.old ≤ S.faults out.new }
+{
+    match put_all(line, out) {
+        Ok(()) => Status { code: status },
+        Err(_) => Status { code: 9 },
+    }
+}
+
+/// Writes that memory was wanting, if the sink takes it.
+pub(crate) fn want<S: Sink>(out: &mut S) -> Status
+    ensures wants { Wants (S.told out.old) (S.told out.new) result.code }
+    ensures later { S.faults out.old ≤ S.faults out.new }
+{
+    match put_all(b"no memory\n", out) {
+        Ok(()) => Status { code: 10 },
+        Err(_) => Status { code: 10 },
+    }
+}
