@@ -137,6 +137,10 @@ circuit_owed MissedCircuit MissedScript circuit script = record {
 abbrev pub Missed : List (List ℕ) → List (List ℕ) → List ℕ → Type 0
 Missed before now name = now ≡ before ++ name ∷ []
 
+-- The fetch of a file that these words name failed, and was noted.
+abbrev pub MissedOne : List (List ℕ) → List (List ℕ) → List (List ℕ) → Type 0
+MissedOne words before now = (circuit script : List ℕ) × IsRunWords words circuit script × (Missed before now circuit ⊎ Missed before now script)
+
 module _ (words : List (List ℕ)) (folder : Folder) (before now : List (List ℕ)) where
   -- The circuit and the script that the words name.
   pub record Names : Type 0 where

@@ -1,5 +1,6 @@
 //! Answers: a line and a status.
-ghost use Rattle.std.specs.Prelude.{◌≡◌, ◌≤◌};
+ghost use Rattle.std.specs.Prelude.{◌≡◌, ◌≤◌, ◌⊎◌};
+ghost use Rattle.reo_io.specs.Causes.{Rose};
 ghost use Rattle.reo_top.specs.Cases.{Refuses, Wants};
 
 use crate::top::Status;
@@ -9,6 +10,8 @@ use reo_io::{Sink, put_all};
 pub(crate) fn refuse<S: Sink>(line: &[u8], status: u8, out: &mut S) -> Status
     ensures refuses { Refuses line.now status (S.told out.old) (S.told out.new) (S.faults out.old) (S.faults out.new) result.code }
     ensures later { S.faults out.old ≤ S.faults out.new }
+    ensures statuses { (result.code ≡ status) ⊎ (result.code ≡ 9) }
+    ensures rose { result.code ≡ 9 → (status ≡ 9) ⊎ Rose (S.faults out.old) (S.faults out.new) }
 {
     match put_all(line, out) {
         Ok(()) => Status { code: status },
@@ -20,6 +23,7 @@ pub(crate) fn refuse<S: Sink>(line: &[u8], status: u8, out: &mut S) -> Status
 pub(crate) fn want<S: Sink>(out: &mut S) -> Status
     ensures wants { Wants (S.told out.old) (S.told out.new) result.code }
     ensures later { S.faults out.old ≤ S.faults out.new }
+    ensures status { result.code ≡ 10 }
 {
     match put_all(b"no memory\n", out) {
         Ok(()) => Status { code: 10 },

@@ -1,8 +1,9 @@
 //! A circuit that is read, a script that is fetched and read, and their run.
-ghost use Rattle.std.specs.Prelude.{◌≡◌, ◌≤◌, IfSome};
+ghost use Rattle.std.specs.Prelude.{◌≡◌, ◌≢◌, ◌≤◌, ◌⊎◌, IfSome};
 ghost use Rattle.reo_io.specs.Fetches.{file_of};
 ghost use Rattle.reo_forms.specs.CircuitForm.{IsPlainest};
 ghost use Rattle.reo_forms.specs.ScriptForm.{IsPlainScript};
+ghost use Rattle.reo_io.specs.Causes.{Rose};
 ghost use Rattle.reo_top.specs.Cases.{Cases};
 ghost use Rattle.reo_top.specs.Whole.{run_owed, script_owed, circuit_owed, content_of, Missed};
 
@@ -25,6 +26,9 @@ fn run_both<S: Sink>(alloc: Global, plainest: &Plainest, script: &Script, out: &
     requires script { IsPlainScript plainest.now.parameters script.now.components }
     ensures cases { Cases (run_owed plainest.now script.now.components) (S.told out.old) (S.told out.new) (S.faults out.old) (S.faults out.new) result.code }
     ensures later { S.faults out.old ≤ S.faults out.new }
+    ensures rose { result.code ≡ 9 → Rose (S.faults out.old) (S.faults out.new) }
+    ensures formed { result.code ≢ 2 }
+    ensures fetched { result.code ≢ 3 }
 {
     has_few_parts();
     script_fits();
@@ -52,6 +56,9 @@ fn run_script<F: Files, S: Sink>(
     requires { IsPlainest plainest.now }
     ensures cases { IfSome (F.told files.old) (λ folder. Cases (script_owed (Missed (F.failed files.old) (F.failed files.new) name.now) plainest.now (content_of (file_of folder name.now))) (S.told out.old) (S.told out.new) (S.faults out.old) (S.faults out.new) result.code) }
     ensures later { S.faults out.old ≤ S.faults out.new }
+    ensures rose { result.code ≡ 9 → Rose (S.faults out.old) (S.faults out.new) }
+    ensures formed { result.code ≢ 2 }
+    ensures missed { result.code ≡ 3 → Missed (F.failed files.old) (F.failed files.new) name.now }
 {
     let text = match fetch(alloc, name, files) {
         Ok(text) => text,
@@ -76,6 +83,9 @@ pub(crate) fn run_circuit<F: Files, S: Sink>(
 ) -> Status
     ensures cases { IfSome (F.told files.old) (λ folder. Cases (circuit_owed (Missed (F.failed files.old) (F.failed files.new) circuit.now) (Missed (F.failed files.old) (F.failed files.new) script.now) (content_of (file_of folder circuit.now)) (content_of (file_of folder script.now))) (S.told out.old) (S.told out.new) (S.faults out.old) (S.faults out.new) result.code) }
     ensures later { S.faults out.old ≤ S.faults out.new }
+    ensures rose { result.code ≡ 9 → Rose (S.faults out.old) (S.faults out.new) }
+    ensures formed { result.code ≢ 2 }
+    ensures missed { result.code ≡ 3 → Missed (F.failed files.old) (F.failed files.new) circuit.now ⊎ Missed (F.failed files.old) (F.failed files.new) script.now }
 {
     let text = match fetch(alloc, circuit, files) {
         Ok(text) => text,

@@ -1,7 +1,8 @@
 //! The top call.
 ghost use Rattle.std.specs.Prelude.{◌≡◌, ◌≤◌, ℕ, List as Items, [], length, slice_index_or, true, false, IfSome};
+ghost use Rattle.reo_io.specs.Causes.{Rose};
 ghost use Rattle.reo_top.specs.Cases.{Cases};
-ghost use Rattle.reo_top.specs.Whole.{IsRunWords, command_owed};
+ghost use Rattle.reo_top.specs.Whole.{IsRunWords, MissedOne, command_owed};
 
 use crate::answer::refuse;
 use crate::running::run_circuit;
@@ -44,6 +45,9 @@ pub fn reo<F: Files, R: Source, S: Sink>(
     ensures cases { IfSome (F.told files.old) (λ folder. Cases (command_owed words.now folder (F.failed files.old) (F.failed files.new)) (S.told out.old) (S.told out.new) (S.faults out.old) (S.faults out.new) result.code) }
     ensures source { source.new ≡ source.old }
     ensures later { S.faults out.old ≤ S.faults out.new }
+    ensures rose { result.code ≡ 9 → Rose (S.faults out.old) (S.faults out.new) }
+    ensures refused { result.code ≡ 2 → (circuit script : Items ℕ) → IsRunWords words.now circuit script → ⊥ }
+    ensures missed { result.code ≡ 3 → MissedOne words.now (F.failed files.old) (F.failed files.new) }
 {
     let _ = source;
     let words = words.as_slice();
