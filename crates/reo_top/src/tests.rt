@@ -110,6 +110,41 @@ fn a_run_is_written(rt: HostRuntime) -> Result<(), Fail> {
     Ok(())
 }
 
+/// The sink takes one byte a call and fails at this call, and so does the first fetch where that is asked for.
+fn cut(alloc: Global, put: u64, fetch: u64) -> Result<(u8, Bytes), NoMemory> {
+    let mut files = List::new(alloc);
+    files.push(named(alloc, b"C", ONE)?)?;
+    files.push(named(alloc, b"S", GIVE)?)?;
+    let mut files = MemoryFiles::new(alloc, files, calls(alloc, fetch)?)?;
+    let mut source = MemorySource::new(alloc, Bytes::new(alloc), 1, List::new(alloc))?;
+    let mut sink = MemorySink::new(alloc, 99, 1, calls(alloc, put)?)?;
+    let words = words(alloc, &[b"run", b"C", b"S"])?;
+    let status = reo(alloc, &words, &mut files, &mut source, &mut sink);
+    let written = Bytes::from_slice(alloc, sink.bytes())?;
+    Ok((status.code, written))
+}
+
+#[test]
+fn a_failing_sink_has_a_front(rt: HostRuntime) -> Result<(), Fail> {
+    let alloc = rt.alloc();
+    let mut front = Bytes::new(alloc);
+    let mut put = 1;
+    for byte in GIVEN {
+        let (code, written) = cut(alloc, put, 0)?;
+        assert!(rt; code == 9);
+        assert!(rt; written.as_slice() == front.as_slice());
+        front.push(*byte)?;
+        put += 1;
+    }
+    let (code, written) = cut(alloc, put, 0)?;
+    assert!(rt; code == 0);
+    assert!(rt; written.as_slice() == GIVEN);
+    let (code, written) = cut(alloc, 1, 1)?;
+    assert!(rt; code == 9);
+    assert!(rt; written.as_slice() == b"".as_slice());
+    Ok(())
+}
+
 /// Words, the status and what is written.
 const WORD_ROWS: [(&[&[u8]], u8, &[u8]); 8] = [
     (&[], 2, b"words refused\n"),
