@@ -134,7 +134,7 @@ fn a_failing_sink_has_a_front(rt: HostRuntime) -> Result<(), Fail> {
         assert!(rt; code == 9);
         assert!(rt; written.as_slice() == front.as_slice());
         front.push(*byte)?;
-        put += 1;
+        put = put.wrapping_add(1);
     }
     let (code, written) = cut(alloc, put, 0)?;
     assert!(rt; code == 0);

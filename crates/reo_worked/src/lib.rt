@@ -4,4 +4,6 @@
 #[cfg(test)]
 mod circuits;
 #[cfg(test)]
+mod row_lists;
+#[cfg(test)]
 mod tests;
