@@ -73,3 +73,60 @@ fn the_row_lists_of_one_channel(rt: HostRuntime) -> Result<(), Fail> {
     }
     Ok(())
 }
+
+/// The joints of two channels between two writers and two takers: a giver's primitive and end, and then a taker's.
+const JOINTS: [[usize; 4]; 4] = [[0, 0, 4, 0], [4, 1, 1, 0], [2, 0, 5, 0], [5, 1, 3, 0]];
+
+/// The mark of an end of a primitive by its number, if there is one.
+fn mark_at(primitives: &[Kind], rows: &[usize], primitive: usize, end: usize) -> Option<Mark> {
+    match primitives.get(primitive) {
+        Some(found) => match rows.get(primitive) {
+            Some(row) => mark(found, *row, end),
+            None => None,
+        },
+        None => None,
+    }
+}
+
+/// Whether the rows of all primitives suit all joints.
+fn suit_joints(primitives: &[Kind], rows: &[usize]) -> bool {
+    for [giver, source, taker, sink] in JOINTS {
+        let given = mark_at(primitives, rows, giver, source);
+        if !suit(given, mark_at(primitives, rows, taker, sink)) {
+            return false;
+        }
+    }
+    true
+}
+
+/// The row list of one channel with this number, of 36.
+fn row_list(number: usize) -> [usize; 3] {
+    [number / 12, number / 4 % 3, number % 4]
+}
+
+#[test]
+fn the_row_lists_of_two_channels(rt: HostRuntime) -> Result<(), Fail> {
+    let alloc = rt.alloc();
+    for (a, b, _, first) in CASES {
+        for (c, d, _, second) in CASES {
+            let primitives = vec![in alloc;
+                writer(a),
+                taker(b),
+                writer(c),
+                taker(d),
+                Kind::Sync,
+                Kind::Sync,
+            ]?;
+            for one in 0..36 {
+                for other in 0..36 {
+                    let [w, t, s] = row_list(one);
+                    let [x, u, z] = row_list(other);
+                    let listed = is_listed(first, [w, t, s]) && is_listed(second, [x, u, z]);
+                    let suits = suit_joints(primitives.as_slice(), &[w, t, x, u, s, z]);
+                    assert!(rt; suits == listed);
+                }
+            }
+        }
+    }
+    Ok(())
+}
