@@ -3,6 +3,7 @@ use reo_behaviour::{End, Joint};
 use reo_circuit::{Circuit, are_parts};
 use reo_kinds::{Branches, Kind, TakerPort, WriterPort};
 use reo_plain::plain_first;
+use reo_rows::fill;
 use reo_values::{Kindred, List, Value};
 use std::alloc::Global;
 use std::process::Abort;
@@ -35,15 +36,15 @@ pub fn replicator(outputs: usize) -> Kind {
     })
 }
 
-/// The rows of the first colouring in round 1 of these primitives, the first of which are ports. A joint is a giver's
-/// primitive and end, and then a taker's.
-pub fn first_rows(
+/// The circuit of these primitives, the first of which are ports. A joint is a giver's primitive and end, and then a
+/// taker's.
+fn circuit(
     rt: &impl Abort,
     alloc: Global,
     primitives: Vec<Kind>,
     ports: usize,
     joints: &[[usize; 4]],
-) -> Result<List<u32>, Fail> {
+) -> Result<Circuit<Kind>, Fail> {
     let mut list = List::new(alloc);
     for [giver, source, taker, sink] in joints {
         list.push(Joint {
@@ -60,6 +61,30 @@ pub fn first_rows(
     let primitives = List::from_vec(primitives);
     assert!(rt; are_parts(primitives.as_slice(), ports, list.as_slice()));
     assert!(rt; primitives.len() < 100 && list.len() < 100);
-    let circuit = Circuit::new(alloc, primitives, ports, list)?;
+    Ok(Circuit::new(alloc, primitives, ports, list)?)
+}
+
+/// The rows of the first colouring of a circuit in round 1.
+pub fn first_rows(
+    rt: &impl Abort,
+    alloc: Global,
+    primitives: Vec<Kind>,
+    ports: usize,
+    joints: &[[usize; 4]],
+) -> Result<List<u32>, Fail> {
+    let circuit = circuit(rt, alloc, primitives, ports, joints)?;
     Ok(plain_first(alloc, &circuit, 1)?.rows)
+}
+
+/// The items that the rows of the first colouring of a circuit determine, in round 1.
+pub fn filled_items(
+    rt: &impl Abort,
+    alloc: Global,
+    primitives: Vec<Kind>,
+    ports: usize,
+    joints: &[[usize; 4]],
+) -> Result<List<Option<Value>>, Fail> {
+    let circuit = circuit(rt, alloc, primitives, ports, joints)?;
+    let first = plain_first(alloc, &circuit, 1)?;
+    Ok(fill(alloc, &circuit, first.rows)?.items)
 }

@@ -1,6 +1,7 @@
 //! The first colourings of worked circuits.
-use crate::circuits::{first_rows, merger, replicator, taker, writer};
+use crate::circuits::{filled_items, first_rows, merger, replicator, taker, writer};
 use reo_kinds::Kind;
+use reo_values::Value;
 use std::test::Fail;
 
 /// One channel. Rows of the writer, the taker and the channel: F R J or G J for a port, FF RG GR JJ for the channel.
@@ -21,6 +22,28 @@ fn one_channel_flows_where_both_offer(rt: HostRuntime) -> Result<(), Fail> {
         let primitives = vec![in alloc; writer(offered), taker(pending), Kind::Sync]?;
         let rows = first_rows(&rt, alloc, primitives, 2, &[[0, 0, 2, 0], [2, 1, 1, 0]])?;
         assert_eq!(rt; rows.as_slice(), want.as_slice());
+    }
+    Ok(())
+}
+
+/// Whether an item is the number 3.
+fn is_three(item: &Option<Value>) -> bool {
+    match item {
+        Some(Value::Int(number)) => *number == 3,
+        _ => false,
+    }
+}
+
+#[test]
+fn an_item_stands_at_each_joint_that_flows(rt: HostRuntime) -> Result<(), Fail> {
+    let alloc = rt.alloc();
+    for (offered, pending, [flows, _, _]) in ONE {
+        let primitives = vec![in alloc; writer(offered), taker(pending), Kind::Sync]?;
+        let items = filled_items(&rt, alloc, primitives, 2, &[[0, 0, 2, 0], [2, 1, 1, 0]])?;
+        assert!(rt; items.len() == 2);
+        for item in items.as_slice() {
+            assert!(rt; is_three(item) == (offered && pending && flows == 0));
+        }
     }
     Ok(())
 }
