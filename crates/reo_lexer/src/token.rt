@@ -3,6 +3,7 @@ ghost use Rattle.std.specs.Prelude.{◌≡◌};
 
 use reo_grammar::TokenKind;
 use reo_values::NoMemory;
+use thiserror::Error;
 
 /// A token of a text; its bytes are `text[start..end]`.
 #[derive(Clone, Copy, Debug, PartialEq, Eq)]
@@ -17,15 +18,19 @@ pub struct Token {
 }
 
 /// Why a text has no tokens. Each line is counted from 1.
-#[derive(Clone, Copy, Debug, PartialEq, Eq)]
+#[derive(Clone, Copy, Debug, PartialEq, Eq, Error)]
 pub enum LexFault {
     /// A byte that begins no token, or one in a text in quotes that may not stand there; its line.
+    #[error("line {line}: bad byte")]
     BadByte { line: u32 },
     /// A text in quotes meets LF, CR or the end before its closing quote; the line of the opening one.
+    #[error("line {line}: open text")]
     OpenText { line: u32 },
     /// More than 18 digits in a row; their line.
+    #[error("line {line}: number too long")]
     NumberTooLong { line: u32 },
     /// Want of memory.
+    #[error("no memory")]
     NoMemory,
 }
 
