@@ -1,9 +1,9 @@
-use Rattle.std.proofs.Common.{inl, refl, ap, []}
+use Rattle.std.proofs.Common.{ap}
 use Rattle.std.specs.Prelude.{Err, codes}
 use Rattle.reo_io.specs.Fetches.{file_of}
-use Rattle.reo_io.proofs.Taken.{Appended-none}
-use Rattle.reo_top.specs.Whole.{content_of, circuit_owed, Missed}
-use Rattle.reo_top.proofs.CaseLemmas.{refused, wanted, if_told, if_both, told_always}
+use Rattle.reo_top.specs.Texts.{content_of}
+use Rattle.reo_top.specs.Whole.{circuit_owed, Missed}
+use Rattle.reo_top.proofs.CaseLemmas.{refused, wanted_first, if_told, if_both, told_always}
 use Rattle.reo_top.proofs.StageLemmas.{circuit_lifted, no_circuit, long_circuit}
 use Rattle.reo_top.proofs.running.run_circuit.Goals as goal
 
@@ -17,7 +17,7 @@ returns-in-Err-TooLong-clause-cases g c =
 pub returns-in-Err-NoMemory-clause-cases : goal.returns-in-Err-NoMemory-clause-cases
 returns-in-Err-NoMemory-clause-cases g c =
     told_always (g.F.Files.told c.args.files.now)
-    (λ folder. wanted (circuit_owed (Missed (g.F.Files.failed c.args.files.now) (g.F.Files.failed c.fetch.new.files) c.args.circuit.now) (Missed (g.F.Files.failed c.args.files.now) (g.F.Files.failed c.fetch.new.files) c.args.script.now) (content_of (file_of folder c.args.circuit.now)) (content_of (file_of folder c.args.script.now))) [] _ _ _ _ _ _ (inl refl) (Appended-none _) c.want.ensures.wants)
+    (λ folder. wanted_first (circuit_owed (Missed (g.F.Files.failed c.args.files.now) (g.F.Files.failed c.fetch.new.files) c.args.circuit.now) (Missed (g.F.Files.failed c.args.files.now) (g.F.Files.failed c.fetch.new.files) c.args.script.now) (content_of (file_of folder c.args.circuit.now)) (content_of (file_of folder c.args.script.now))) _ _ _ _ _ c.want.ensures.wants)
 
 pub returns-in-Ok-read_circuit-clause-cases : goal.returns-in-Ok-read_circuit-clause-cases
 returns-in-Ok-read_circuit-clause-cases g c =
@@ -38,4 +38,4 @@ returns-in-Err-NotOfForm-clause-cases g c =
 pub returns-clause-cases : goal.returns-clause-cases
 returns-clause-cases g c =
     told_always (g.F.Files.told c.args.files.now)
-    (λ folder. wanted (circuit_owed (Missed (g.F.Files.failed c.args.files.now) (g.F.Files.failed c.fetch.new.files) c.args.circuit.now) (Missed (g.F.Files.failed c.args.files.now) (g.F.Files.failed c.fetch.new.files) c.args.script.now) (content_of (file_of folder c.args.circuit.now)) (content_of (file_of folder c.args.script.now))) [] _ _ _ _ _ _ (inl refl) (Appended-none _) c.want-in-Err-NoMemory-read_circuit.ensures.wants)
+    (λ folder. wanted_first (circuit_owed (Missed (g.F.Files.failed c.args.files.now) (g.F.Files.failed c.fetch.new.files) c.args.circuit.now) (Missed (g.F.Files.failed c.args.files.now) (g.F.Files.failed c.fetch.new.files) c.args.script.now) (content_of (file_of folder c.args.circuit.now)) (content_of (file_of folder c.args.script.now))) _ _ _ _ _ c.want-in-Err-NoMemory-read_circuit.ensures.wants)
