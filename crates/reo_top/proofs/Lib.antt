@@ -1,3 +1,4 @@
 pub mod CaseLemmas
 pub mod LineLemmas
 pub mod StageLemmas
+pub mod StatusLemmas
