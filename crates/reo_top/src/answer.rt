@@ -21,8 +21,8 @@ pub(crate) fn refuse<S: Sink>(line: &[u8], status: u8, out: &mut S) -> Status
     }
 }
 
-/// Writes that memory was wanting, if the sink takes it.
-pub(crate) fn want<S: Sink>(out: &mut S) -> Status
+/// Writes that memory was wanting, if the sink takes it. No memory is taken.
+pub fn want<S: Sink>(out: &mut S) -> Status
     ensures wants { Wants (S.told out.old) (S.told out.new) result.code }
     ensures later { S.faults out.old ≤ S.faults out.new }
     ensures status { result.code ≡ 10 }
