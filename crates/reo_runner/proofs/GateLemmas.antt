@@ -1,17 +1,15 @@
 -- What stays of the ports through a round.
-use Rattle.std.proofs.Common.{◌≡◌, ◌∙◌, ℕ, zero, suc, ◌+◌, ◌<◌, cond, Bool, true, false, List, [], ◌∷◌, ap, sym, refl, length, map, arith, zero-add}
-use Rattle.std.specs.Prelude.{Option, Some, None, nat_lt, slice_get}
-use Rattle.std.proofs.lemmas.Bool.Decides.{nat_tests}
+use Rattle.std.proofs.Common.{◌≡◌, ◌∙◌, ℕ, zero, suc, ◌+◌, cond, true, false, List, [], ◌∷◌, refl, map, arith, zero-add}
+use Rattle.std.specs.Prelude.{Option, Some, None, nat_lt}
 use Rattle.reo_values.specs.declared.value.Value.{Value}
 use Rattle.reo_behaviour.specs.declared.colouring.Chosen.{Chosen}
 use Rattle.reo_behaviour.specs.declared.port.Offer.{Offer}
 use Rattle.reo_behaviour.specs.declared.port.Offer.TheVariants.{Write, Take}
-use Rattle.reo_behaviour.specs.Gate.{Gate, gate_at, no_gate, CanPlace, IsGateWith, way_of, IsAccepted}
-use Rattle.reo_behaviour.specs.Marks.{is_flow}
+use Rattle.reo_behaviour.specs.Gate.{Gate, gate_at, CanPlace, IsGateWith, IsAccepted}
 use Rattle.reo_behaviour.specs.Step.{settled_list}
 use Rattle.reo_script.specs.declared.script.Action.{Action}
 use Rattle.reo_script.specs.declared.script.Component.{Component}
-use Rattle.reo_script.specs.Actions.{port_of, offer_of, action_for, IsActionFor, IsScriptFor}
+use Rattle.reo_script.specs.Actions.{port_of, offer_of, action_for, IsScriptFor}
 use Rattle.reo_runner.specs.Round.{Rules, cleared, with_pending, ports_ready, IsTakenAt}
 use Rattle.reo_runner.proofs.OfferLemmas.{cleared_gate, can_place, taken_at_port}
 

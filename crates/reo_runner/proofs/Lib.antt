@@ -1,5 +1,9 @@
 pub mod CountLemmas
+pub mod EndLemmas
 pub mod GateLemmas
 pub mod OfferLemmas
+pub mod OrderLemmas
 pub mod PlaceLemmas
 pub mod RunLemmas
+pub mod TextLemmas
+pub mod WholeLemmas

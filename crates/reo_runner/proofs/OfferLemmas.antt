@@ -1,17 +1,15 @@
 -- Offers that are made pending, port by port.
-use Rattle.std.proofs.Common.{◌≡◌, ◌∙◌, ℕ, zero, suc, ◌+◌, ◌<◌, ◌≤◌, cond, Bool, true, false, List, [], ◌∷◌, ◌++◌, ap, sym, refl, subst, length, map, get_or, drop, arith, add-one, zero-add}
+use Rattle.std.proofs.Common.{◌≡◌, ◌∙◌, ℕ, zero, suc, ◌+◌, ◌<◌, ◌≤◌, cond, true, false, List, [], ◌∷◌, ap, sym, refl, length, map, get_or, arith}
 use Rattle.std.specs.Prelude.{Option, Some, None, is_some, nat_lt, slice_get, ◌==◌}
 use Rattle.std.specs.Option.{option_or}
-use Rattle.std.proofs.Math.Seq.{drop-cons}
-use Rattle.std.proofs.lemmas.List.{get_or-map, drop_all}
 use Rattle.std.proofs.lemmas.Bool.Decides.{nat_tests}
 use Rattle.reo_behaviour.specs.declared.port.Offer.{Offer}
 use Rattle.reo_behaviour.specs.declared.port.Offer.TheVariants.{Write, Take}
-use Rattle.reo_behaviour.specs.Gate.{Gate, gate_at, no_gate, CanPlace, IsGateWith, way_of, IsAccepted}
+use Rattle.reo_behaviour.specs.Gate.{Gate, gate_at, CanPlace, IsGateWith, IsAccepted}
 use Rattle.reo_behaviour.specs.Step.{change_at}
 use Rattle.reo_script.specs.declared.script.Action.{Action}
 use Rattle.reo_script.specs.declared.script.Component.{Component}
-use Rattle.reo_script.specs.Actions.{port_of, offer_of, action_at, only_at, action_for, IsActionFor, AreActionsFor, IsScriptFor}
+use Rattle.reo_script.specs.Actions.{port_of, offer_of, action_at, only_at, action_for, AreActionsFor}
 use Rattle.reo_runner.specs.Round.{Rules, cleared, with_pending, ports_ready, IsTakenAt}
 
 -- One element of a list, by two functions that agree there.

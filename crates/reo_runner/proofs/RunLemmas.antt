@@ -1,12 +1,10 @@
 -- Rounds, one after another.
-use Rattle.std.proofs.Common.{◌≡◌, ◌∙◌, ◌⊎◌, ℕ, suc, zero, ◌+◌, ◌<◌, ◌≤◌, ◌==◌, cond, Bool, true, false, List, [], ◌∷◌, ◌++◌, ap, sym, refl, subst, inl, inr, length, arith, append_assoc, length-append, add-one}
+use Rattle.std.proofs.Common.{◌≡◌, ◌∙◌, ℕ, ◌+◌, cond, Bool, false, List, [], ◌∷◌, ◌++◌, ap, sym, refl, subst, length, arith, append_assoc, length-append}
 use Rattle.std.proofs.lemmas.List.{append-nil}
 use Rattle.std.proofs.lemmas.Grind.{flat_map-append}
 use Rattle.std.proofs.lemmas.List.Sums.{sum_by-append}
-use Rattle.std.proofs.lemmas.Bool.Decides.{nat_tests}
 use Rattle.std.specs.List.{count_by, flat_map}
 use Rattle.std.specs.Prelude.{Option, Some, None}
-use Rattle.reo_values.specs.declared.value.Value.{Value}
 use Rattle.reo_behaviour.specs.declared.colouring.Move.{Move}
 use Rattle.reo_behaviour.specs.declared.port.Port.{Port}
 use Rattle.reo_behaviour.specs.declared.port.Way.{Way}
@@ -24,7 +22,7 @@ use Rattle.reo_trace.specs.declared.line.Ending.TheVariants.{Done, Stuck, Limit}
 use Rattle.reo_trace.specs.Entries.{line_for}
 use Rattle.reo_trace.specs.RoundText.{round_text}
 use Rattle.reo_trace.specs.EndingText.{ending_text}
-use Rattle.reo_trace.specs.TraceText.{rounds_text, trace_text}
+use Rattle.reo_trace.specs.TraceText.{rounds_text}
 use Rattle.reo_runner.specs.declared.plan.Plan.{Plan}
 use Rattle.reo_runner.specs.declared.outcome.Outcome.{Outcome}
 use Rattle.reo_runner.specs.declared.outcome.Tally.{Tally}
@@ -32,8 +30,11 @@ use Rattle.reo_runner.specs.declared.outcome.End2.{End2}
 use Rattle.reo_runner.specs.declared.outcome.End2.TheVariants as ends
 use Rattle.reo_runner.specs.Plan.{IsPlan}
 use Rattle.reo_runner.specs.Round.{Rules, State, Choosing, RoundOf, ready, advanced}
-use Rattle.reo_runner.specs.Run.{Runs, Rounds, IsRun, Follows, end_after}
-use Rattle.reo_runner.specs.Outcome.{moved, goes, is_in, is_out, Counts, Tallies, HasTally, Closes, ClosesAs, end_of, Ran, Kept, Cut, OwesRound, OwesEnding, AreLines, SoFar, ByEnd, CameTo}
+use Rattle.reo_runner.specs.Run.{Runs, Rounds, IsRun, end_after}
+use Rattle.reo_runner.specs.Outcome.{moved, goes, is_in, is_out, Counts, Tallies, HasTally, Closes, ClosesAs, Ran, Kept, Cut, SoFar, ByEnd, CameTo}
+use Rattle.reo_runner.specs.Whole.{GoesOn, HasRun}
+use Rattle.reo_runner.proofs.EndLemmas.{rounds_in, ending_rounds}
+use Rattle.reo_runner.proofs.TextLemmas.{text_on, front_of}
 
 module _ {P : Type 0} (Suits : Choosing) (r : Rules P) (components : List Component) (limit : ℕ) where
   -- A round after which the run goes on.
@@ -53,13 +54,6 @@ module _ {P : Type 0} (Suits : Choosing) (r : Rules P) (components : List Compon
       rw (here, same) (b, round, rw ends_here (refl, refl))
   runs_close turn t a (x ∷ xs) m line b ending count (n, first, on, rest) round ends_here =
       (n, first, rw on (runs_close (turn + 1) t n xs m line b ending (omega (arith, count)) rest round ends_here))
-
--- The text of one line more.
-text_more : (ports : List Port) (lines : List RoundLine) (line : RoundLine) → rounds_text ports (lines ++ line ∷ []) ≡ rounds_text ports lines ++ round_text ports line
-text_more ports lines line = flat_map-append (round_text ports) lines (line ∷ []) ∙ ap (λ z. rounds_text ports lines ++ z) (append-nil (round_text ports line))
-
-pub text_on : (ports : List Port) (before mid now : Option (List ℕ)) (lines : List RoundLine) (line : RoundLine) → Appended before mid (rounds_text ports lines) → Appended mid now (round_text ports line) → Appended before now (rounds_text ports (lines ++ line ∷ []))
-text_on ports before mid now lines line p q = subst (λ z. Appended before now z) (sym (text_more ports lines line)) (Appended-append before mid now _ _ p q)
 
 moved_more : (is : Way → Bool) (ports : List Port) (lines : List RoundLine) (line : RoundLine) → moved is ports (lines ++ line ∷ []) ≡ moved is ports lines + count_by (goes is ports) line.moves
 moved_more is ports lines line =
@@ -91,21 +85,6 @@ round_planned r components turn a w p b same plan step = record {
   places = plan.places_are ∙ ap (λ (x : Wiring _). advanced (net_of r.behaviour x) p.colouring.rows components a.places) same;
 }
 
--- The number in an ending.
-abbrev pub rounds_in : Ending → ℕ
-rounds_in (Done n) = n
-rounds_in (Stuck n) = n
-rounds_in (Limit n) = n
-
-ending_cases : (done idle full : Bool) (turn : ℕ) (ending : Ending) → cond done (Some (Done turn)) (cond idle (Some (Stuck turn)) (cond full (Some (Limit turn)) None)) ≡ Some ending → rounds_in ending ≡ turn
-ending_cases true idle full turn ending e = let same : ending ≡ Done turn = cc in rw same refl
-ending_cases false true full turn ending e = let same : ending ≡ Stuck turn = cc in rw same refl
-ending_cases false false true turn ending e = let same : ending ≡ Limit turn = cc in rw same refl
-ending_cases false false false turn ending e = absurd (cc)
-
-ending_rounds : (components : List Component) (limit turn : ℕ) (idle : Bool) (places : List ℕ) (ending : Ending) → end_after components limit turn idle places ≡ Some ending → rounds_in ending ≡ turn
-ending_rounds components limit turn idle places ending e = ending_cases (all_done components places) idle (turn == limit) turn ending e
-
 module _ {P : Type 0} (Suits : Choosing) (r : Rules P) (ports : List Port) (components : List Component) (limit : ℕ) (start : State P) where
   ran : (ending : Ending) (before mid now : Option (List ℕ)) (o : Outcome) (lines : List RoundLine) → IsRun Suits r components limit start lines ending
       → Appended before mid (rounds_text ports lines) → Counts ports lines o → Appended mid now (ending_text ending) → Ran Suits r ports components limit start ending before now o
@@ -116,13 +95,18 @@ module _ {P : Type 0} (Suits : Choosing) (r : Rules P) (ports : List Port) (comp
     counts = counts;
   }
 
+  -- A whole run goes on with no line.
+  made : (ending : Ending) (lines : List RoundLine) → IsRun Suits r components limit start lines ending → GoesOn Suits r components limit start lines
+  made ending lines run = record { rest = []; ending = ending; run = subst (λ (ls : List RoundLine). IsRun Suits r components limit start ls ending) (sym (append-nil lines)) run }
+
   -- A whole run, and the call that writes its ending.
   by_end : (ending : Ending) (before mid now : Option (List ℕ)) (o : Outcome) (e : End2) (lines : List RoundLine) → IsRun Suits r components limit start lines ending
       → Appended before mid (rounds_text ports lines) → Counts ports lines o → rounds_in ending ≡ o.rounds → ClosesAs ending mid now e → ByEnd Suits r ports components limit start before now o e
+  unfolding made
   by_end ending before mid now o ends.WriteFault lines run app counts same closes = record {
     lines = lines;
-    owed = ending_text ending;
-    owes = inr (record { ending = ending; run = run; owed_is = refl });
+    whole = made ending lines run;
+    front = front_of ports before mid now lines [] ending app closes;
     between = mid;
     text = app;
     part = closes;
@@ -130,7 +114,7 @@ module _ {P : Type 0} (Suits : Choosing) (r : Rules P) (ports : List Port) (comp
   }
   by_end ending before mid now o ends.NoMemory lines run app counts same closes = record {
     lines = lines;
-    are = inr (ending, run);
+    whole = made ending lines run;
     text = subst (λ (z : Option (List ℕ)). Appended before z (rounds_text ports lines)) (sym closes) app;
     counts = counts;
   }
@@ -171,25 +155,34 @@ module _ {P : Type 0} (Suits : Choosing) (r : Rules P) (ports : List Port) (comp
   }
 
   -- The sink failed on a round line.
-  pub cut_round : (before mid now : Option (List ℕ)) (turn : ℕ) (a : State P) (line : RoundLine) (b : State P) (t : Tally) (o : Outcome) → SoFar Suits r ports components limit start before mid turn a t
+  pub cut_round : HasRun Suits r components limit start → all_done components start.places ≡ false
+      → (before mid now : Option (List ℕ)) (turn : ℕ) (a : State P) (line : RoundLine) (b : State P) (t : Tally) (o : Outcome) → SoFar Suits r ports components limit start before mid turn a t
       → RoundOf Suits r components turn a line b → TookPart mid now (round_text ports line) → HasTally t o → o.end ≡ ends.WriteFault → CameTo Suits r ports components limit start before now o
-  cut_round before mid now turn a line b t o so_far round part has is =
+  cut_round runs begun before mid now turn a line b t o so_far round part has is =
+      let lines : List RoundLine = so_far.lines in
+      let more = runs.after_next lines a line b (record { begun = begun; rounds = so_far.rounds }) (subst (λ (k : ℕ). RoundOf Suits r components k a line b) so_far.count round) in
       let cut : Cut Suits r ports components limit start before now o = record {
-        lines = so_far.lines;
-        owed = round_text ports line;
-        owes = inl (record { state = a; rounds = so_far.rounds; line = line; next = b; round = subst (λ (k : ℕ). RoundOf Suits r components k a line b) so_far.count round; owed_is = refl });
+        lines = lines;
+        whole = record {
+          rest = line ∷ more.rest;
+          ending = more.ending;
+          run = subst (λ (ls : List RoundLine). IsRun Suits r components limit start ls more.ending) (append_assoc lines (line ∷ []) more.rest) more.run;
+        };
+        front = front_of ports before mid now lines (line ∷ more.rest) more.ending so_far.text part;
         between = mid;
         text = so_far.text;
         part = part;
-        counts = counted ports so_far.lines t o so_far.tallies has;
+        counts = counted ports lines t o so_far.tallies has;
       } in
       subst (λ (e : End2). ByEnd Suits r ports components limit start before now o e) (sym is) cut
 
   -- Memory was wanting between two lines.
-  pub kept : (before now : Option (List ℕ)) (turn : ℕ) (a : State P) (t : Tally) (o : Outcome) → SoFar Suits r ports components limit start before now turn a t → HasTally t o → o.end ≡ ends.NoMemory
+  pub kept : HasRun Suits r components limit start → all_done components start.places ≡ false
+      → (before now : Option (List ℕ)) (turn : ℕ) (a : State P) (t : Tally) (o : Outcome) → SoFar Suits r ports components limit start before now turn a t → HasTally t o → o.end ≡ ends.NoMemory
       → CameTo Suits r ports components limit start before now o
-  kept before now turn a t o so_far has is =
-      let whole : Kept Suits r ports components limit start before now o = record { lines = so_far.lines; are = inl (a, so_far.rounds); text = so_far.text; counts = counted ports so_far.lines t o so_far.tallies has } in
+  kept runs begun before now turn a t o so_far has is =
+      let rest = runs.after so_far.lines a (record { begun = begun; rounds = so_far.rounds }) in
+      let whole : Kept Suits r ports components limit start before now o = record { lines = so_far.lines; whole = rest; text = so_far.text; counts = counted ports so_far.lines t o so_far.tallies has } in
       subst (λ (e : End2). ByEnd Suits r ports components limit start before now o e) (sym is) whole
 
   -- Nothing was made yet.
@@ -201,13 +194,3 @@ module _ {P : Type 0} (Suits : Choosing) (r : Rules P) (ports : List Port) (comp
     text = Appended-none before;
     tallies = record { rounds = rounds; written = written; delivered = delivered };
   }
-
-pub is_none : {X : Type 0} (o : Option X) → ((x : X) → o ≡ Some x → ⊥) → o ≡ None
-is_none None h = refl
-is_none (Some x) h = absurd (h x refl)
-
-pub not_at_limit : (done idle : Bool) (turn limit : ℕ) → cond done (Some (Done turn)) (cond idle (Some (Stuck turn)) (cond (turn == limit) (Some (Limit turn)) None)) ≡ None → turn ≤ limit → turn + 1 ≤ limit
-not_at_limit true idle turn limit h k = absurd (cc)
-not_at_limit false true turn limit h k = absurd (cc)
-not_at_limit false false turn limit h k =
-    elim (turn == limit) as (λ b. (turn == limit) ≡ b → cond b (Some (Limit turn)) None ≡ None → turn + 1 ≤ limit) [ true ↦ λ e h. absurd (cc) | false ↦ λ e h. grind (arith, nat_tests) ] refl h

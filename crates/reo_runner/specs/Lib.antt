@@ -2,3 +2,4 @@ pub mod Outcome
 pub mod Plan
 pub mod Round
 pub mod Run
+pub mod Whole

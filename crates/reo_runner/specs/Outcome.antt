@@ -1,5 +1,5 @@
 -- How a run comes out, and what it has written.
-use Rattle.std.specs.Prelude.{ℕ, ◌+◌, ◌≡◌, Bool, true, false, Option, Some, None, List, [], ◌∷◌, ◌++◌, length, map, ◌⊎◌, slice_get}
+use Rattle.std.specs.Prelude.{ℕ, ◌+◌, ◌≡◌, Bool, true, false, Option, Some, None, List, [], ◌∷◌, ◌++◌, length, slice_get}
 use Rattle.std.specs.List.{count_by, flat_map}
 use Rattle.reo_io.specs.Sinks.{Appended, TookPart}
 use Rattle.reo_behaviour.specs.declared.colouring.Move.{Move}
@@ -13,8 +13,9 @@ use Rattle.reo_trace.specs.declared.line.Ending.TheVariants.{Done, Stuck, Limit}
 use Rattle.reo_trace.specs.RoundText.{round_text}
 use Rattle.reo_trace.specs.EndingText.{ending_text}
 use Rattle.reo_trace.specs.TraceText.{rounds_text, trace_text}
-use Rattle.reo_runner.specs.Round.{Rules, State, Choosing, RoundOf}
+use Rattle.reo_runner.specs.Round.{Rules, State, Choosing}
 use Rattle.reo_runner.specs.Run.{IsRun, Rounds}
+use Rattle.reo_runner.specs.Whole.{GoesOn}
 use Rattle.reo_runner.specs.declared.outcome.Outcome.{Outcome}
 use Rattle.reo_runner.specs.declared.outcome.Tally.{Tally}
 use Rattle.reo_runner.specs.declared.outcome.End2.{End2}
@@ -80,6 +81,11 @@ pub record Tallies (ports : List Port) (lines : List RoundLine) (t : Tally) : Ty
   pub written : t.written ≡ moved is_in ports lines
   pub delivered : t.delivered ≡ moved is_out ports lines
 
+-- The line that stands next in a trace.
+abbrev pub next_text : List Port → List RoundLine → Ending → List ℕ
+next_text ports [] ending = ending_text ending
+next_text ports (line ∷ rest) ending = round_text ports line
+
 module _ {P : Type 0} (Suits : Choosing) (r : Rules P) (ports : List Port) (components : List Component) (limit : ℕ) (start : State P) where
   -- The whole trace was written.
   pub record Ran (ending : Ending) (before now : Option (List ℕ)) (o : Outcome) : Type 0 where
@@ -88,40 +94,21 @@ module _ {P : Type 0} (Suits : Choosing) (r : Rules P) (ports : List Port) (comp
     pub text : Appended before now (trace_text ports lines ending)
     pub counts : Counts ports lines o
 
-  -- The first round lines of a run, after which it goes on, or all of them.
-  abbrev pub AreLines : List RoundLine → Type 0
-  AreLines lines = ((state : State P) × Rounds Suits r components limit 1 start lines state) ⊎ ((ending : Ending) × IsRun Suits r components limit start lines ending)
-
-  -- Whole round lines were written, in order and none skipped.
-  pub record Kept (before now : Option (List ℕ)) (o : Outcome) : Type 0 where
-    pub lines : List RoundLine
-    pub are : AreLines lines
-    pub text : Appended before now (rounds_text ports lines)
-    pub counts : Counts ports lines o
-
-  -- After some whole rounds the text of the next round line is owed.
-  pub record OwesRound (lines : List RoundLine) (owed : List ℕ) : Type 0 where
-    pub state : State P
-    pub rounds : Rounds Suits r components limit 1 start lines state
-    pub line : RoundLine
-    pub next : State P
-    pub round : RoundOf Suits r components (length lines + 1) state line next
-    pub owed_is : owed ≡ round_text ports line
-
-  -- After all rounds the text of the ending is owed.
-  pub record OwesEnding (lines : List RoundLine) (owed : List ℕ) : Type 0 where
-    pub ending : Ending
-    pub run : IsRun Suits r components limit start lines ending
-    pub owed_is : owed ≡ ending_text ending
-
-  -- Whole round lines were written, and of the line that is owed next a front, and not the whole.
+  -- The sink has got a front of the trace, and not the whole: these round lines, and of the next line a part.
   pub record Cut (before now : Option (List ℕ)) (o : Outcome) : Type 0 where
     pub lines : List RoundLine
-    pub owed : List ℕ
-    pub owes : OwesRound lines owed ⊎ OwesEnding lines owed
+    pub whole : GoesOn Suits r components limit start lines
+    pub front : TookPart before now (trace_text ports (lines ++ whole.rest) whole.ending)
     pub between : Option (List ℕ)
     pub text : Appended before between (rounds_text ports lines)
-    pub part : TookPart between now owed
+    pub part : TookPart between now (next_text ports whole.rest whole.ending)
+    pub counts : Counts ports lines o
+
+  -- The sink has got whole lines of the trace, in order and none skipped.
+  pub record Kept (before now : Option (List ℕ)) (o : Outcome) : Type 0 where
+    pub lines : List RoundLine
+    pub whole : GoesOn Suits r components limit start lines
+    pub text : Appended before now (rounds_text ports lines)
     pub counts : Counts ports lines o
 
   -- So far: these round lines were made and written.
@@ -140,6 +127,6 @@ module _ {P : Type 0} (Suits : Choosing) (r : Rules P) (ports : List Port) (comp
   ByEnd before now o ends.WriteFault = Cut before now o
   ByEnd before now o ends.NoMemory = Kept before now o
 
-  -- What a run has come to: the whole trace was written, or a front of it after a fault, or whole lines of it after want of memory.
+  -- What a run has come to: the whole trace was written, or a front of it before a fault, or whole lines of it before memory was wanting.
   abbrev pub CameTo : Option (List ℕ) → Option (List ℕ) → Outcome → Type 0
   CameTo before now o = ByEnd before now o o.end

@@ -1,5 +1,5 @@
 -- One round of a run.
-use Rattle.std.specs.Prelude.{ℕ, zero, suc, ◌+◌, ◌≡◌, Bool, cond, nat_lt, is_some, Option, Some, None, List, [], ◌∷◌, map}
+use Rattle.std.specs.Prelude.{ℕ, suc, ◌+◌, ◌≡◌, cond, nat_lt, is_some, Option, Some, None, List, [], ◌∷◌}
 use Rattle.reo_values.specs.declared.value.Value.{Value}
 use Rattle.reo_behaviour.specs.declared.colouring.Chosen.{Chosen}
 use Rattle.reo_behaviour.specs.declared.port.Offer.{Offer}

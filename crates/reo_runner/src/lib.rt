@@ -2,10 +2,12 @@
 #![tactic(auto)]
 
 mod advance;
+mod laws;
 mod offers;
 mod outcome;
 mod plan;
 mod runner;
 
+pub use laws::{has_run, known_order, one_trace, trace_exists};
 pub use outcome::{End2, Outcome};
 pub use runner::run;

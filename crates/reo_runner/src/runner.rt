@@ -8,6 +8,7 @@ ghost use Rattle.reo_runner.specs.Run.{start_of, end_after};
 ghost use Rattle.reo_runner.specs.Outcome.{CameTo, Closes, end_of};
 
 use crate::advance::{are_done, begin};
+use crate::laws::has_run;
 use crate::offers::{go_on, make_ready};
 use crate::outcome::{End2, Outcome, Tally};
 use crate::plan::{Plan, make_plan};
@@ -68,8 +69,10 @@ fn close<S: Sink>(alloc: Global, ending: Ending, tally: Tally, out: &mut S) -> O
 /// steps, and then the ending.
 ///
 /// The run is done before the first round where every component is done. After each round it ends where every component
-/// is done, else where the round was idle, else where `limit` rounds were made. After a fault of the sink it has got a
-/// front of the trace, and after want of memory whole lines of it.
+/// is done, else where the round was idle, else where `limit` rounds were made.
+///
+/// After a fault the sink has got a front of the trace, and the outcome counts the round lines that it has got whole.
+/// After want of memory it has got whole round lines of the trace, in order and none skipped, and the outcome counts these.
 pub fn run<P: Ported, S: Sink>(
     alloc: Global,
     mut circuit: Circuit<P>,
@@ -87,6 +90,7 @@ pub fn run<P: Ported, S: Sink>(
     ensures later { S.faults out.old ≤ S.faults out.new }
 {
     let components = script.components.as_slice();
+    has_run(&circuit, components, limit);
     let mut tally = Tally::new();
     let Ok(mut places) = begin(alloc, components) else {
         return tally.outcome(End2::NoMemory);

@@ -1,41 +1,49 @@
 -- The four cases, from a stage to the next.
-use Rattle.std.proofs.Common.{◌≡◌, ◌∙◌, inl, inr, ℕ, List, [], ◌∷◌, sym, subst, ap, length, get_or, arith, false, true≢false}
+use Rattle.std.proofs.Common.{◌≡◌, ◌∙◌, ◌⊎◌, inl, inr, refl, ◌++◌, ℕ, List, [], ◌∷◌, sym, subst, ap, length, get_or, arith, false, true≢false}
 use Rattle.std.proofs.Math.Dec.{eqb}
 use Rattle.std.proofs.lemmas.Bool.{not-false}
 use Rattle.std.specs.Cmp.Lexicographic.{pointwise, bytes_decides}
 use Rattle.std.specs.Prelude.{◌≢◌, ◌==◌, not, Bool, Option, Some, None, IfSome, codes}
 use Rattle.reo_io.specs.Sinks.{Appended}
+use Rattle.reo_io.proofs.Taken.{Appended-none}
 use Rattle.reo_top.specs.Whole.{IsRunWords}
-use Rattle.reo_top.specs.Cases.{Owed, Begins, Cases, Refuses, Wants}
+use Rattle.reo_top.specs.Cases.{Owed, IsOutput, AreFirstLines, Cases, Refuses, Wants}
 
 -- A line that is owed as a whole was written, or a front of it.
 pub refused : (owed : Owed) (line : List ℕ) (status : ℕ) (before now : Option (List ℕ)) (was is code : ℕ) → owed.whole line status → Refuses line status before now was is code → Cases owed before now was is code
 refused owed line status before now was is code h (inl (e, app)) = inl (record { bytes = line; is = subst (λ (k : ℕ). owed.whole line k) (sym e) h; text = app })
-refused owed line status before now was is code h (inr (e, part, rose)) = inr (inr (inl (record { bytes = line; begins = inl (status, h); part = part; rose = rose; status = e })))
+refused owed line status before now was is code h (inr (e, part, rose)) = inr (inr (inl (record { bytes = line; output = inl (status, h); part = part; rose = rose; status = e })))
 
 -- The same of the line of a fetch that failed.
 pub missed : (owed : Owed) (line : List ℕ) (before now : Option (List ℕ)) (was is code : ℕ) → owed.fault line → Refuses line 3 before now was is code → Cases owed before now was is code
 missed owed line before now was is code h (inl (e, app)) = inr (inl (record { bytes = line; is = h; text = app; status = e }))
-missed owed line before now was is code h (inr (e, part, rose)) = inr (inr (inl (record { bytes = line; begins = inr (inl h); part = part; rose = rose; status = e })))
+missed owed line before now was is code h (inr (e, part, rose)) = inr (inr (inl (record { bytes = line; output = inr h; part = part; rose = rose; status = e })))
 
 -- Memory was wanting after whole lines.
-pub wanted : (owed : Owed) (bytes : List ℕ) (before mid now : Option (List ℕ)) (was is code : ℕ) → owed.lines bytes → Appended before mid bytes → Wants mid now code → Cases owed before now was is code
-wanted owed bytes before mid now was is code h app wants = inr (inr (inr (record { bytes = bytes; lines = h; between = mid; text = app; last = wants.1; status = wants.0 })))
+pub wanted : (owed : Owed) (lines : List ℕ) (before mid now : Option (List ℕ)) (was is code : ℕ) → (lines ≡ []) ⊎ AreFirstLines owed lines → Appended before mid lines → Wants mid now code → Cases owed before now was is code
+wanted owed lines before mid now was is code h app wants = inr (inr (inr (record { lines = lines; first = h; between = mid; text = app; last = wants.1; status = wants.0 })))
 
-begins_lifted : (a b : Owed) → ((x : List ℕ) (k : ℕ) → a.whole x k → b.whole x k) → ((x : List ℕ) → a.fault x → b.fault x) → ((x : List ℕ) → a.rounds x → b.rounds x) → (x : List ℕ) → Begins a x → Begins b x
-begins_lifted a b whole fault rounds x (inl (k, h)) = inl (k, whole x k h)
-begins_lifted a b whole fault rounds x (inr (inl h)) = inr (inl (fault x h))
-begins_lifted a b whole fault rounds x (inr (inr h)) = inr (inr (rounds x h))
+-- Memory was wanting before the first line.
+pub wanted_first : (owed : Owed) (before now : Option (List ℕ)) (was is code : ℕ) → Wants before now code → Cases owed before now was is code
+wanted_first owed before now was is code wants = wanted owed [] before before now was is code (inl refl) (Appended-none before) wants
+
+output_lifted : (a b : Owed) → ((x : List ℕ) (k : ℕ) → a.whole x k → b.whole x k) → ((x : List ℕ) → a.fault x → b.fault x) → (x : List ℕ) → IsOutput a x → IsOutput b x
+output_lifted a b whole fault x (inl (k, h)) = inl (k, whole x k h)
+output_lifted a b whole fault x (inr h) = inr (fault x h)
+
+lines_lifted : (a b : Owed) → ((x : List ℕ) (k : ℕ) → a.whole x k → b.whole x k) → (lines : List ℕ) → (lines ≡ []) ⊎ AreFirstLines a lines → (lines ≡ []) ⊎ AreFirstLines b lines
+lines_lifted a b whole lines (inl none) = inl none
+lines_lifted a b whole lines (inr some) = inr (record { rest = some.rest; code = some.code; is = whole (lines ++ some.rest) some.code some.is; front = some.front; ends = some.ends })
 
 -- What is owed in a stage is owed before it.
-pub lifted : (a b : Owed) → ((x : List ℕ) (k : ℕ) → a.whole x k → b.whole x k) → ((x : List ℕ) → a.fault x → b.fault x) → ((x : List ℕ) → a.rounds x → b.rounds x) → ((x : List ℕ) → a.lines x → b.lines x)
+pub lifted : (a b : Owed) → ((x : List ℕ) (k : ℕ) → a.whole x k → b.whole x k) → ((x : List ℕ) → a.fault x → b.fault x)
     → (before now : Option (List ℕ)) (was is code : ℕ) → Cases a before now was is code → Cases b before now was is code
-lifted a b whole fault rounds lines before now was is code (inl wrote) = inl (record { bytes = wrote.bytes; is = whole wrote.bytes code wrote.is; text = wrote.text })
-lifted a b whole fault rounds lines before now was is code (inr (inl miss)) = inr (inl (record { bytes = miss.bytes; is = fault miss.bytes miss.is; text = miss.text; status = miss.status }))
-lifted a b whole fault rounds lines before now was is code (inr (inr (inl broke))) =
-    inr (inr (inl (record { bytes = broke.bytes; begins = begins_lifted a b whole fault rounds broke.bytes broke.begins; part = broke.part; rose = broke.rose; status = broke.status })))
-lifted a b whole fault rounds lines before now was is code (inr (inr (inr want))) =
-    inr (inr (inr (record { bytes = want.bytes; lines = lines want.bytes want.lines; between = want.between; text = want.text; last = want.last; status = want.status })))
+lifted a b whole fault before now was is code (inl wrote) = inl (record { bytes = wrote.bytes; is = whole wrote.bytes code wrote.is; text = wrote.text })
+lifted a b whole fault before now was is code (inr (inl miss)) = inr (inl (record { bytes = miss.bytes; is = fault miss.bytes miss.is; text = miss.text; status = miss.status }))
+lifted a b whole fault before now was is code (inr (inr (inl broke))) =
+    inr (inr (inl (record { bytes = broke.bytes; output = output_lifted a b whole fault broke.bytes broke.output; part = broke.part; rose = broke.rose; status = broke.status })))
+lifted a b whole fault before now was is code (inr (inr (inr want))) =
+    inr (inr (inr (record { lines = want.lines; first = lines_lifted a b whole want.lines want.first; between = want.between; text = want.text; last = want.last; status = want.status })))
 
 -- What holds of a value that is told gives what follows from it.
 pub if_told : {X : Type 0} (o : Option X) {A B : X → Type 0} → ((x : X) → A x → B x) → IfSome o A → IfSome o B

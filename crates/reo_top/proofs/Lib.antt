@@ -1,2 +1,4 @@
 pub mod CaseLemmas
+pub mod LineLemmas
 pub mod StageLemmas
+pub mod StatusLemmas

@@ -1,18 +1,24 @@
 -- What a command has written, and its status.
-use Rattle.std.specs.Prelude.{ℕ, ◌≡◌, ◌⊎◌, List, Option, codes}
+use Rattle.std.specs.Prelude.{ℕ, ◌≡◌, ◌⊎◌, ◌++◌, ◌==◌, ◌||◌, Bool, List, [], Option, codes}
 use Rattle.reo_io.specs.Causes.{Rose}
 use Rattle.reo_io.specs.Sinks.{Appended, TookPart}
 
--- What a command owes: whole outputs with their statuses, the line of a fetch that failed, whole round lines with the next one, and whole lines.
+-- What a command owes: whole outputs, each with its status, and the line of a fetch that failed.
 pub record Owed : Type 1 where
   pub whole : List ℕ → ℕ → Type 0
   pub fault : List ℕ → Type 0
-  pub rounds : List ℕ → Type 0
-  pub lines : List ℕ → Type 0
 
--- A whole output, or the line of a fetch that failed, or whole round lines and the next one.
-abbrev pub Begins : Owed → List ℕ → Type 0
-Begins owed bytes = ((code : ℕ) × owed.whole bytes code) ⊎ (owed.fault bytes ⊎ owed.rounds bytes)
+-- A whole output, or the line of a fetch that failed.
+abbrev pub IsOutput : Owed → List ℕ → Type 0
+IsOutput owed bytes = ((code : ℕ) × owed.whole bytes code) ⊎ owed.fault bytes
+
+-- Whole lines at the front of a whole output, in order and none skipped.
+pub record AreFirstLines (owed : Owed) (lines : List ℕ) : Type 0 where
+  pub rest : List ℕ
+  pub code : ℕ
+  pub is : owed.whole (lines ++ rest) code
+  pub front : List ℕ
+  pub ends : lines ≡ front ++ codes "\n"
 
 abbrev pub no_memory : List ℕ
 no_memory = codes "no memory\n"
@@ -30,20 +36,20 @@ pub record Missed (owed : Owed) (before now : Option (List ℕ)) (code : ℕ) : 
   pub text : Appended before now bytes
   pub status : code ≡ 3
 
--- The sink failed, and has got a front of what was owed.
+-- The sink failed, and has got a front of an output, and not the whole.
 pub record Broke (owed : Owed) (before now : Option (List ℕ)) (was is : ℕ) (code : ℕ) : Type 0 where
   pub bytes : List ℕ
-  pub begins : Begins owed bytes
+  pub output : IsOutput owed bytes
   pub part : TookPart before now bytes
   pub rose : Rose was is
   pub status : code ≡ 9
 
--- Memory was wanting: whole lines were written, and then that, or a front of that where the sink failed.
+-- Memory was wanting: no line or the first lines of a whole output were written, and then that, or a front of that where the sink failed.
 pub record Wanted (owed : Owed) (before now : Option (List ℕ)) (code : ℕ) : Type 0 where
-  pub bytes : List ℕ
-  pub lines : owed.lines bytes
+  pub lines : List ℕ
+  pub first : (lines ≡ []) ⊎ AreFirstLines owed lines
   pub between : Option (List ℕ)
-  pub text : Appended before between bytes
+  pub text : Appended before between lines
   pub last : Appended between now no_memory ⊎ TookPart between now no_memory
   pub status : code ≡ 10
 
@@ -62,3 +68,15 @@ Refuses line status before now was is code = ((code ≡ status) × Appended befo
 -- What a call that reports want of memory has come to.
 abbrev pub Wants : Option (List ℕ) → Option (List ℕ) → ℕ → Type 0
 Wants before now code = (code ≡ 10) × (Appended before now no_memory ⊎ TookPart before now no_memory)
+
+-- The statuses of a command.
+abbrev pub is_status : ℕ → Bool
+is_status code = (code == 0) || ((code == 1) || ((code == 2) || ((code == 3) || ((code == 4) || ((code == 8) || ((code == 9) || ((code == 10) || (code == 12))))))))
+
+-- The statuses of what is no whole output: a fetch failed, the sink failed, memory was wanting.
+abbrev pub IsFailure : ℕ → Type 0
+IsFailure code = (code ≡ 3) ⊎ ((code ≡ 9) ⊎ (code ≡ 10))
+
+-- The status is that of each whole output, unless something failed.
+abbrev pub IsStatusOf : Owed → ℕ → Type 0
+IsStatusOf owed code = (bytes : List ℕ) (status : ℕ) → owed.whole bytes status → (code ≡ status) ⊎ IsFailure code

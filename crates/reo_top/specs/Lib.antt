@@ -1,3 +1,5 @@
 pub mod Cases
 pub mod Fetched
+pub mod Texts
+pub mod Traces
 pub mod Whole

@@ -6,6 +6,7 @@ mod fetching;
 mod running;
 mod top;
 
+pub use answer::want;
 pub use top::{Status, reo};
 
 #[cfg(test)]

@@ -1,11 +1,12 @@
 //! A circuit that is read, a script that is fetched and read, and their run.
-ghost use Rattle.std.specs.Prelude.{◌≡◌, ◌≢◌, ◌≤◌, ◌⊎◌, IfSome};
+ghost use Rattle.std.specs.Prelude.{◌≡◌, ◌≢◌, ◌≤◌, ◌⊎◌, IfSome, IsTrue};
 ghost use Rattle.reo_io.specs.Fetches.{file_of};
 ghost use Rattle.reo_forms.specs.CircuitForm.{IsPlainest};
 ghost use Rattle.reo_forms.specs.ScriptForm.{IsPlainScript};
 ghost use Rattle.reo_io.specs.Causes.{Rose};
-ghost use Rattle.reo_top.specs.Cases.{Cases};
-ghost use Rattle.reo_top.specs.Whole.{run_owed, script_owed, circuit_owed, content_of, Missed};
+ghost use Rattle.reo_top.specs.Cases.{Cases, IsStatusOf, is_status};
+ghost use Rattle.reo_top.specs.Texts.{content_of};
+ghost use Rattle.reo_top.specs.Whole.{run_owed, script_owed, circuit_owed, Missed};
 
 use crate::answer::{refuse, want};
 use crate::fetching::fetch;
@@ -13,7 +14,8 @@ use crate::top::Status;
 use reo_build::{build, has_few_parts, script_fits};
 use reo_forms::{FormFault, Plainest, read_circuit, read_script};
 use reo_io::{FetchFault, Files, Sink};
-use reo_runner::{End2, run};
+use reo_kinds::Kind;
+use reo_runner::{End2, known_order, one_trace, run};
 use reo_script::Script;
 use std::alloc::Global;
 
@@ -25,6 +27,8 @@ fn run_both<S: Sink>(alloc: Global, plainest: &Plainest, script: &Script, out: &
     requires circuit { IsPlainest plainest.now }
     requires script { IsPlainScript plainest.now.parameters script.now.components }
     ensures cases { Cases (run_owed plainest.now script.now.components) (S.told out.old) (S.told out.new) (S.faults out.old) (S.faults out.new) result.code }
+    ensures exact { IsStatusOf (run_owed plainest.now script.now.components) result.code }
+    ensures status { IsTrue (is_status result.code) }
     ensures later { S.faults out.old ≤ S.faults out.new }
     ensures rose { result.code ≡ 9 → Rose (S.faults out.old) (S.faults out.new) }
     ensures formed { result.code ≢ 2 }
@@ -35,6 +39,8 @@ fn run_both<S: Sink>(alloc: Global, plainest: &Plainest, script: &Script, out: &
     let Ok(flat) = build(alloc, plainest) else {
         return want(out);
     };
+    known_order(&flat.circuit);
+    one_trace::<Kind>();
     let outcome = run(alloc, flat.circuit, &flat.ports, script, ROUNDS, out);
     match outcome.end {
         End2::Done => Status { code: 0 },
@@ -55,6 +61,8 @@ fn run_script<F: Files, S: Sink>(
 ) -> Status
     requires { IsPlainest plainest.now }
     ensures cases { IfSome (F.told files.old) (λ folder. Cases (script_owed (Missed (F.failed files.old) (F.failed files.new) name.now) plainest.now (content_of (file_of folder name.now))) (S.told out.old) (S.told out.new) (S.faults out.old) (S.faults out.new) result.code) }
+    ensures exact { IfSome (F.told files.old) (λ folder. IsStatusOf (script_owed (Missed (F.failed files.old) (F.failed files.new) name.now) plainest.now (content_of (file_of folder name.now))) result.code) }
+    ensures status { IsTrue (is_status result.code) }
     ensures later { S.faults out.old ≤ S.faults out.new }
     ensures rose { result.code ≡ 9 → Rose (S.faults out.old) (S.faults out.new) }
     ensures formed { result.code ≢ 2 }
@@ -82,6 +90,8 @@ pub(crate) fn run_circuit<F: Files, S: Sink>(
     out: &mut S,
 ) -> Status
     ensures cases { IfSome (F.told files.old) (λ folder. Cases (circuit_owed (Missed (F.failed files.old) (F.failed files.new) circuit.now) (Missed (F.failed files.old) (F.failed files.new) script.now) (content_of (file_of folder circuit.now)) (content_of (file_of folder script.now))) (S.told out.old) (S.told out.new) (S.faults out.old) (S.faults out.new) result.code) }
+    ensures exact { IfSome (F.told files.old) (λ folder. IsStatusOf (circuit_owed (Missed (F.failed files.old) (F.failed files.new) circuit.now) (Missed (F.failed files.old) (F.failed files.new) script.now) (content_of (file_of folder circuit.now)) (content_of (file_of folder script.now))) result.code) }
+    ensures status { IsTrue (is_status result.code) }
     ensures later { S.faults out.old ≤ S.faults out.new }
     ensures rose { result.code ≡ 9 → Rose (S.faults out.old) (S.faults out.new) }
     ensures formed { result.code ≢ 2 }

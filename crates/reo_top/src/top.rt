@@ -1,7 +1,7 @@
 //! The top call.
-ghost use Rattle.std.specs.Prelude.{◌≡◌, ◌≤◌, ℕ, List as Items, [], length, slice_index_or, true, false, IfSome};
+ghost use Rattle.std.specs.Prelude.{◌≡◌, ◌≤◌, ℕ, List as Items, [], length, slice_index_or, true, false, IfSome, IsTrue};
 ghost use Rattle.reo_io.specs.Causes.{Rose};
-ghost use Rattle.reo_top.specs.Cases.{Cases};
+ghost use Rattle.reo_top.specs.Cases.{Cases, IsStatusOf, is_status};
 ghost use Rattle.reo_top.specs.Whole.{IsRunWords, MissedOne, command_owed};
 
 use crate::answer::refuse;
@@ -43,7 +43,9 @@ pub fn reo<F: Files, R: Source, S: Sink>(
     out: &mut S,
 ) -> Status
     ensures cases { IfSome (F.told files.old) (λ folder. Cases (command_owed words.now folder (F.failed files.old) (F.failed files.new)) (S.told out.old) (S.told out.new) (S.faults out.old) (S.faults out.new) result.code) }
+    ensures exact { IfSome (F.told files.old) (λ folder. IsStatusOf (command_owed words.now folder (F.failed files.old) (F.failed files.new)) result.code) }
     ensures source { source.new ≡ source.old }
+    ensures status { IsTrue (is_status result.code) }
     ensures later { S.faults out.old ≤ S.faults out.new }
     ensures rose { result.code ≡ 9 → Rose (S.faults out.old) (S.faults out.new) }
     ensures refused { result.code ≡ 2 → (circuit script : Items ℕ) → IsRunWords words.now circuit script → ⊥ }

@@ -1,6 +1,4 @@
-use Rattle.std.proofs.Common.{◌≡◌, ◌∙◌, ◌<◌, sym, ap, length, List, get_or, rules, arith}
-use Rattle.std.proofs.lemmas.List.{length-map}
-use Rattle.reo_behaviour.specs.Net.{Wiring}
+use Rattle.std.proofs.Common.{◌∙◌, ap}
 use Rattle.reo_runner.specs.Round.{rules_of, cleared}
 use Rattle.reo_runner.proofs.OfferLemmas.{change_same, change_none, cleared_some, cleared_none}
 use Rattle.reo_runner.proofs.offers.clear.Goals as goal

@@ -1,4 +1,4 @@
-use Rattle.std.proofs.Common.{◌≡◌, sym, ap, map, List, Option}
+use Rattle.std.proofs.Common.{map}
 use Rattle.reo_behaviour.specs.Net.{net_of}
 use Rattle.reo_behaviour.specs.Step.{stepped, all_chosen, all_taken}
 use Rattle.reo_runner.proofs.GateLemmas.{settled_same, script_kept, same_as}

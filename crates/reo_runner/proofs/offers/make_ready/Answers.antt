@@ -1,11 +1,7 @@
-use Rattle.std.proofs.Common.{◌≡◌, ◌∙◌, ◌<◌, ◌+◌, suc, sym, ap, length, List, ℕ, refl, add-one, zero-add, arith}
-use Rattle.std.specs.Prelude.{Option, map}
-use Rattle.reo_behaviour.specs.Gate.{gate_at}
+use Rattle.std.proofs.Common.{◌≡◌, ◌∙◌, sym, ap, ℕ, refl, add-one, zero-add, arith}
+use Rattle.std.specs.Prelude.{map}
 use Rattle.reo_behaviour.specs.Net.{Wiring}
-use Rattle.reo_behaviour.specs.Step.{change_at}
-use Rattle.reo_script.specs.declared.script.Action.{Action}
-use Rattle.reo_script.specs.Actions.{action_for}
-use Rattle.reo_runner.specs.Round.{rules_of, with_pending, ports_ready, IsTakenAt}
+use Rattle.reo_runner.specs.Round.{rules_of}
 use Rattle.reo_runner.proofs.OfferLemmas.{ready_none, ready_gate, ready_more, taken_at_port}
 use Rattle.reo_runner.proofs.GateLemmas.{ready_script}
 use Rattle.reo_runner.proofs.offers.make_ready.Goals as goal

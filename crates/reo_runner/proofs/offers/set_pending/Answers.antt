@@ -1,12 +1,9 @@
-use Rattle.std.proofs.Common.{◌≡◌, ◌∙◌, ◌<◌, sym, ap, length, List, refl, arith}
-use Rattle.std.specs.Prelude.{Option, Some, map}
-use Rattle.std.specs.Option.{option_copied}
+use Rattle.std.proofs.Common.{◌∙◌, ◌<◌, ap, length, arith}
+use Rattle.std.specs.Prelude.{map}
 use Rattle.std.proofs.lemmas.List.{length-map}
-use Rattle.reo_behaviour.specs.Gate.{gate_at, CanPlace}
-use Rattle.reo_behaviour.specs.Step.{change_at}
-use Rattle.reo_script.specs.declared.script.Action.{Action}
+use Rattle.reo_behaviour.specs.Gate.{gate_at}
 use Rattle.reo_script.specs.Actions.{offer_of}
-use Rattle.reo_runner.specs.Round.{rules_of, cleared, with_pending, IsTakenAt}
+use Rattle.reo_runner.specs.Round.{rules_of, cleared}
 use Rattle.reo_runner.proofs.OfferLemmas.{cleared_gate_at, can_place, change_twice}
 use Rattle.reo_runner.proofs.offers.set_pending.Goals as goal
 

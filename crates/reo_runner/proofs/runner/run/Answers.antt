@@ -1,5 +1,5 @@
-use Rattle.std.proofs.Common.{rules, ◌≡◌, ◌∙◌, ◌+◌, ◌*◌, ◌^◌, ◌<◌, ◌≤◌, sym, subst, refl, ap, ℕ, List, [], length, map, arith, true, false}
-use Rattle.std.specs.Prelude.{Option, Some, None, Err}
+use Rattle.std.proofs.Common.{◌≡◌, ◌∙◌, ◌≤◌, sym, subst, refl, ap, ℕ, List, [], length, arith, true}
+use Rattle.std.specs.Prelude.{Err}
 use Rattle.std.specs.List.{count_by}
 use Rattle.std.proofs.lemmas.List.{length-map}
 use Rattle.std.proofs.lemmas.List.Sums.{count_by-le-length}
@@ -19,7 +19,8 @@ use Rattle.reo_runner.specs.Round.{State, rules_of, ready}
 use Rattle.reo_runner.specs.Run.{start_of}
 use Rattle.reo_runner.specs.Outcome.{CameTo, goes, is_in, is_out}
 use Rattle.reo_runner.proofs.CountLemmas.{moves_few}
-use Rattle.reo_runner.proofs.RunLemmas.{round_planned, closed_by, cut_round, ended, so_far_more, so_far_none, tally_more, is_none, not_at_limit}
+use Rattle.reo_runner.proofs.EndLemmas.{is_none, not_at_limit}
+use Rattle.reo_runner.proofs.RunLemmas.{round_planned, closed_by, cut_round, kept, ended, so_far_more, so_far_none, tally_more}
 use Rattle.reo_runner.proofs.runner.run.Goals as goal
 
 pub returns-then-are_done-clause-came : goal.returns-then-are_done-clause-came
@@ -66,7 +67,7 @@ returns-in-Err-Failed-clause-came g c =
     let next : Wiring g.row.P.Denot = record c.make_ready.new.circuit { primitives = stepped g.P.Primitive.behaviour g.P.Primitive.settled c.make_ready.new.circuit made.colouring.rows made.colouring.items } in
     let round = round_planned r cs turn now c.make_ready.new.circuit made next is_ready plan refl in
     let part = c.in-Err-Failed.ensures.failed (ap (λ x. Err x) c.in-Err-Failed.field-0-is) in
-    let came = cut_round IsFirst r ports cs c.args.limit (start_of c.args.circuit cs) _ _ _ turn now made.line _ c.loop-places.tally c.outcome-in-Err-Failed.result c.loop-places.invariant.so_far round part c.outcome-in-Err-Failed.ensures.tally c.outcome-in-Err-Failed.ensures.end in
+    let came = cut_round IsFirst r ports cs c.args.limit (start_of c.args.circuit cs) c.has_run.ensures c.loop-places.invariant.begun _ _ _ turn now made.line _ c.loop-places.tally c.outcome-in-Err-Failed.result c.loop-places.invariant.so_far round part c.outcome-in-Err-Failed.ensures.tally c.outcome-in-Err-Failed.ensures.end in
     subst (λ (x : List Component). CameTo IsFirst r ports x c.args.limit (start_of c.args.circuit x) (g.S.Sink.told c.args.out.now) (g.S.Sink.told c.write_round.new.out) c.outcome-in-Err-Failed.result) c.as_slice-components.ensures came
 
 pub after-tally-requires-clause-few : goal.after-tally-requires-clause-few
@@ -140,3 +141,34 @@ loop-places-preserved g c =
       delivered = omega (arith, delivered, most_out, few, c.requires.few_ports, c.after-tally.ensures.rounds, c.loop-places.invariant.delivered);
       count = omega (arith, c.loop-places.invariant.count, c.in-Ok-write_round.ensures.count);
     }
+
+pub returns-in_default-make_ready-clause-came : goal.returns-in_default-make_ready-clause-came
+returns-in_default-make_ready-clause-came g c =
+    let r = rules_of g.P.Primitive.behaviour g.P.Primitive.settled g.P.Ported.gate g.P.Ported.placed g.P.Ported.withdrawn in
+    let cs : List Component = c.as_slice-components.result.now in
+    let ports : List Port = c.args.ports.now.list in
+    let now : State g.row.P.Denot = record { circuit = c.loop-places.circuit; places = c.loop-places.places } in
+    let came = kept IsFirst r ports cs c.args.limit (start_of c.args.circuit cs) c.has_run.ensures c.loop-places.invariant.begun _ _ c.loop-places.turn now c.loop-places.tally c.outcome-in_default-make_ready.result c.loop-places.invariant.so_far
+    c.outcome-in_default-make_ready.ensures.tally c.outcome-in_default-make_ready.ensures.end in
+    subst (λ (x : List Component). CameTo IsFirst r ports x c.args.limit (start_of c.args.circuit x) (g.S.Sink.told c.args.out.now) (g.S.Sink.told c.loop-places.out) c.outcome-in_default-make_ready.result) c.as_slice-components.ensures came
+
+pub returns-in_default-make_plan-clause-came : goal.returns-in_default-make_plan-clause-came
+returns-in_default-make_plan-clause-came g c =
+    let r = rules_of g.P.Primitive.behaviour g.P.Primitive.settled g.P.Ported.gate g.P.Ported.placed g.P.Ported.withdrawn in
+    let cs : List Component = c.as_slice-components.result.now in
+    let ports : List Port = c.args.ports.now.list in
+    let now : State g.row.P.Denot = record { circuit = c.loop-places.circuit; places = c.loop-places.places } in
+    let came = kept IsFirst r ports cs c.args.limit (start_of c.args.circuit cs) c.has_run.ensures c.loop-places.invariant.begun _ _ c.loop-places.turn now c.loop-places.tally c.outcome-in_default-make_plan.result c.loop-places.invariant.so_far
+    c.outcome-in_default-make_plan.ensures.tally c.outcome-in_default-make_plan.ensures.end in
+    subst (λ (x : List Component). CameTo IsFirst r ports x c.args.limit (start_of c.args.circuit x) (g.S.Sink.told c.args.out.now) (g.S.Sink.told c.loop-places.out) c.outcome-in_default-make_plan.result) c.as_slice-components.ensures came
+
+pub returns-in-Err-NoMemory-clause-came : goal.returns-in-Err-NoMemory-clause-came
+returns-in-Err-NoMemory-clause-came g c =
+    let r = rules_of g.P.Primitive.behaviour g.P.Primitive.settled g.P.Ported.gate g.P.Ported.placed g.P.Ported.withdrawn in
+    let cs : List Component = c.as_slice-components.result.now in
+    let ports : List Port = c.args.ports.now.list in
+    let now : State g.row.P.Denot = record { circuit = c.loop-places.circuit; places = c.loop-places.places } in
+    let came = kept IsFirst r ports cs c.args.limit (start_of c.args.circuit cs) c.has_run.ensures c.loop-places.invariant.begun _ _ c.loop-places.turn now c.loop-places.tally c.outcome-in-Err-NoMemory.result c.loop-places.invariant.so_far
+    c.outcome-in-Err-NoMemory.ensures.tally c.outcome-in-Err-NoMemory.ensures.end in
+    let same : c.write_round.new.out ≡ c.loop-places.out = c.in-Err-NoMemory.ensures.memory (ap (λ x. Err x) c.in-Err-NoMemory.field-0-is) in
+    subst (λ (x : List Component). CameTo IsFirst r ports x c.args.limit (start_of c.args.circuit x) (g.S.Sink.told c.args.out.now) (g.S.Sink.told c.write_round.new.out) c.outcome-in-Err-NoMemory.result) c.as_slice-components.ensures (rw same came)

@@ -1,7 +1,7 @@
 use Rattle.std.proofs.Common.{length, ◌-◌, ◌+◌, ◌≤◌, ◌≡◌, ◌^◌, ◌*◌, false, map}
 use Rattle.reo_behaviour.specs.First.{IsFirst}
 use Rattle.reo_script.specs.Actions.{all_done, IsScriptFor}
-use Rattle.reo_runner.specs.Round.{State, rules_of}
+use Rattle.reo_runner.specs.Round.{rules_of}
 use Rattle.reo_runner.specs.Run.{start_of}
 use Rattle.reo_runner.specs.Outcome.{SoFar}
 use Rattle.reo_runner.proofs.runner.run.Given as goal

@@ -1,23 +1,20 @@
-use Rattle.std.proofs.Common.{inl, subst, refl, List, []}
+use Rattle.std.proofs.Common.{subst, List}
 use Rattle.reo_behaviour.specs.First.{IsFirst}
-use Rattle.reo_io.proofs.Taken.{Appended-none}
 use Rattle.reo_script.specs.declared.script.Component.{Component}
-use Rattle.reo_trace.specs.TraceText.{rounds_text}
 use Rattle.reo_forms.specs.declared.plainest.Plainest.{Plainest}
 use Rattle.reo_build.specs.Flat.{ports_of}
 use Rattle.reo_runner.specs.declared.outcome.End2.{End2}
-use Rattle.reo_runner.specs.Outcome.{Cut, Kept, ByEnd}
-use Rattle.reo_top.specs.Whole.{kind_rules, most_rounds, start_for, run_owed, IsFront}
-use Rattle.reo_top.proofs.CaseLemmas.{wanted}
-use Rattle.reo_top.proofs.StageLemmas.{run_broke}
+use Rattle.reo_trace.specs.declared.line.Ending.TheVariants.{Done, Stuck, Limit}
+use Rattle.reo_runner.specs.Outcome.{Ran, Cut, Kept, ByEnd}
+use Rattle.reo_top.specs.Traces.{kind_rules, most_rounds, start_for}
+use Rattle.reo_top.specs.Whole.{run_owed}
+use Rattle.reo_top.proofs.CaseLemmas.{wanted_first}
+use Rattle.reo_top.proofs.StageLemmas.{run_broke, run_wanted}
+use Rattle.reo_top.proofs.StatusLemmas.{ran_as}
 use Rattle.reo_top.proofs.running.run_both.Goals as goal
 
 pub returns-in_default-clause-cases : goal.returns-in_default-clause-cases
-returns-in_default-clause-cases g c =
-    let plainest : Plainest = c.args.plainest.now in
-    let cs : List Component = c.args.script.now.components in
-    let front : IsFront plainest cs [] = record { lines = []; are = inl (start_for plainest cs, refl); bytes_are = refl } in
-    wanted (run_owed plainest cs) [] _ _ _ _ _ _ front (Appended-none _) c.want.ensures.wants
+returns-in_default-clause-cases g c = wanted_first (run_owed c.args.plainest.now c.args.script.now.components) _ _ _ _ _ c.want.ensures.wants
 
 pub run-outcome-requires-clause-script : goal.run-outcome-requires-clause-script
 run-outcome-requires-clause-script g c = rw c.in-Ok.ensures.circuit (c.script_fits.ensures c.args.plainest.now c.args.script.now.components c.requires.circuit c.requires.script)
@@ -38,5 +35,34 @@ returns-clause-cases g c =
     let came = rw (c.in-Ok.ensures.circuit, c.in-Ok.ensures.ports) at c.run-outcome.ensures.came in
     let kept : Kept IsFirst kind_rules (ports_of plainest) cs most_rounds (start_for plainest cs) (g.S.Sink.told c.args.out.now) (g.S.Sink.told c.run-outcome.new.out) c.run-outcome.result =
     subst (λ (e : End2). ByEnd IsFirst kind_rules (ports_of plainest) cs most_rounds (start_for plainest cs) (g.S.Sink.told c.args.out.now) (g.S.Sink.told c.run-outcome.new.out) c.run-outcome.result e) c.in-NoMemory.is came in
-    let front : IsFront plainest cs (rounds_text (ports_of plainest) kept.lines) = record { lines = kept.lines; are = kept.are; bytes_are = refl } in
-    wanted (run_owed plainest cs) (rounds_text (ports_of plainest) kept.lines) _ _ _ _ _ _ front kept.text c.want-in-NoMemory.ensures.wants
+    run_wanted plainest cs _ _ _ _ _ _ c.run-outcome.result kept c.want-in-NoMemory.ensures.wants
+
+pub returns-in-Done-clause-exact : goal.returns-in-Done-clause-exact
+returns-in-Done-clause-exact g c =
+    let plainest : Plainest = c.args.plainest.now in
+    let cs : List Component = c.args.script.now.components in
+    let order = rw c.in-Ok.ensures.circuit at c.known_order.ensures in
+    let came = rw (c.in-Ok.ensures.circuit, c.in-Ok.ensures.ports) at c.run-outcome.ensures.came in
+    let ran : Ran IsFirst kind_rules (ports_of plainest) cs most_rounds (start_for plainest cs) (Done c.run-outcome.result.rounds) (g.S.Sink.told c.args.out.now) (g.S.Sink.told c.run-outcome.new.out) c.run-outcome.result =
+    subst (λ (e : End2). ByEnd IsFirst kind_rules (ports_of plainest) cs most_rounds (start_for plainest cs) (g.S.Sink.told c.args.out.now) (g.S.Sink.told c.run-outcome.new.out) c.run-outcome.result e) c.in-Done.is came in
+    ran_as plainest cs (c.one_trace.ensures cs most_rounds (start_for plainest cs) order) (Done c.run-outcome.result.rounds) _ _ c.run-outcome.result ran
+
+pub returns-in-Stuck-clause-exact : goal.returns-in-Stuck-clause-exact
+returns-in-Stuck-clause-exact g c =
+    let plainest : Plainest = c.args.plainest.now in
+    let cs : List Component = c.args.script.now.components in
+    let order = rw c.in-Ok.ensures.circuit at c.known_order.ensures in
+    let came = rw (c.in-Ok.ensures.circuit, c.in-Ok.ensures.ports) at c.run-outcome.ensures.came in
+    let ran : Ran IsFirst kind_rules (ports_of plainest) cs most_rounds (start_for plainest cs) (Stuck c.run-outcome.result.rounds) (g.S.Sink.told c.args.out.now) (g.S.Sink.told c.run-outcome.new.out) c.run-outcome.result =
+    subst (λ (e : End2). ByEnd IsFirst kind_rules (ports_of plainest) cs most_rounds (start_for plainest cs) (g.S.Sink.told c.args.out.now) (g.S.Sink.told c.run-outcome.new.out) c.run-outcome.result e) c.in-Stuck.is came in
+    ran_as plainest cs (c.one_trace.ensures cs most_rounds (start_for plainest cs) order) (Stuck c.run-outcome.result.rounds) _ _ c.run-outcome.result ran
+
+pub returns-in-Limit-clause-exact : goal.returns-in-Limit-clause-exact
+returns-in-Limit-clause-exact g c =
+    let plainest : Plainest = c.args.plainest.now in
+    let cs : List Component = c.args.script.now.components in
+    let order = rw c.in-Ok.ensures.circuit at c.known_order.ensures in
+    let came = rw (c.in-Ok.ensures.circuit, c.in-Ok.ensures.ports) at c.run-outcome.ensures.came in
+    let ran : Ran IsFirst kind_rules (ports_of plainest) cs most_rounds (start_for plainest cs) (Limit c.run-outcome.result.rounds) (g.S.Sink.told c.args.out.now) (g.S.Sink.told c.run-outcome.new.out) c.run-outcome.result =
+    subst (λ (e : End2). ByEnd IsFirst kind_rules (ports_of plainest) cs most_rounds (start_for plainest cs) (g.S.Sink.told c.args.out.now) (g.S.Sink.told c.run-outcome.new.out) c.run-outcome.result e) c.in-Limit.is came in
+    ran_as plainest cs (c.one_trace.ensures cs most_rounds (start_for plainest cs) order) (Limit c.run-outcome.result.rounds) _ _ c.run-outcome.result ran

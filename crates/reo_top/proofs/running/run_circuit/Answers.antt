@@ -1,10 +1,11 @@
-use Rattle.std.proofs.Common.{inl, refl, ap, []}
+use Rattle.std.proofs.Common.{ap}
 use Rattle.std.specs.Prelude.{Err, codes}
 use Rattle.reo_io.specs.Fetches.{file_of}
-use Rattle.reo_io.proofs.Taken.{Appended-none}
-use Rattle.reo_top.specs.Whole.{content_of, circuit_owed, Missed}
-use Rattle.reo_top.proofs.CaseLemmas.{refused, wanted, if_told, if_both, told_always}
+use Rattle.reo_top.specs.Texts.{content_of}
+use Rattle.reo_top.specs.Whole.{circuit_owed, Missed}
+use Rattle.reo_top.proofs.CaseLemmas.{refused, wanted_first, if_told, if_both, told_always}
 use Rattle.reo_top.proofs.StageLemmas.{circuit_lifted, no_circuit, long_circuit}
+use Rattle.reo_top.proofs.StatusLemmas.{circuit_as}
 use Rattle.reo_top.proofs.running.run_circuit.Goals as goal
 
 pub returns-in-Err-TooLong-clause-cases : goal.returns-in-Err-TooLong-clause-cases
@@ -17,7 +18,7 @@ returns-in-Err-TooLong-clause-cases g c =
 pub returns-in-Err-NoMemory-clause-cases : goal.returns-in-Err-NoMemory-clause-cases
 returns-in-Err-NoMemory-clause-cases g c =
     told_always (g.F.Files.told c.args.files.now)
-    (λ folder. wanted (circuit_owed (Missed (g.F.Files.failed c.args.files.now) (g.F.Files.failed c.fetch.new.files) c.args.circuit.now) (Missed (g.F.Files.failed c.args.files.now) (g.F.Files.failed c.fetch.new.files) c.args.script.now) (content_of (file_of folder c.args.circuit.now)) (content_of (file_of folder c.args.script.now))) [] _ _ _ _ _ _ (inl refl) (Appended-none _) c.want.ensures.wants)
+    (λ folder. wanted_first (circuit_owed (Missed (g.F.Files.failed c.args.files.now) (g.F.Files.failed c.fetch.new.files) c.args.circuit.now) (Missed (g.F.Files.failed c.args.files.now) (g.F.Files.failed c.fetch.new.files) c.args.script.now) (content_of (file_of folder c.args.circuit.now)) (content_of (file_of folder c.args.script.now))) _ _ _ _ _ c.want.ensures.wants)
 
 pub returns-in-Ok-read_circuit-clause-cases : goal.returns-in-Ok-read_circuit-clause-cases
 returns-in-Ok-read_circuit-clause-cases g c =
@@ -38,4 +39,13 @@ returns-in-Err-NotOfForm-clause-cases g c =
 pub returns-clause-cases : goal.returns-clause-cases
 returns-clause-cases g c =
     told_always (g.F.Files.told c.args.files.now)
-    (λ folder. wanted (circuit_owed (Missed (g.F.Files.failed c.args.files.now) (g.F.Files.failed c.fetch.new.files) c.args.circuit.now) (Missed (g.F.Files.failed c.args.files.now) (g.F.Files.failed c.fetch.new.files) c.args.script.now) (content_of (file_of folder c.args.circuit.now)) (content_of (file_of folder c.args.script.now))) [] _ _ _ _ _ _ (inl refl) (Appended-none _) c.want-in-Err-NoMemory-read_circuit.ensures.wants)
+    (λ folder. wanted_first (circuit_owed (Missed (g.F.Files.failed c.args.files.now) (g.F.Files.failed c.fetch.new.files) c.args.circuit.now) (Missed (g.F.Files.failed c.args.files.now) (g.F.Files.failed c.fetch.new.files) c.args.script.now) (content_of (file_of folder c.args.circuit.now)) (content_of (file_of folder c.args.script.now))) _ _ _ _ _ c.want-in-Err-NoMemory-read_circuit.ensures.wants)
+
+pub returns-in-Ok-read_circuit-clause-exact : goal.returns-in-Ok-read_circuit-clause-exact
+returns-in-Ok-read_circuit-clause-exact g c =
+    let said = rw c.as_slice.ensures at c.in-Ok-read_circuit.ensures.said in
+    let exact = rw c.in-Ok.ensures.told at c.run_script.ensures.exact in
+    if_told (g.F.Files.told c.args.files.now)
+    (λ folder both. circuit_as (content_of (file_of folder c.args.circuit.now)) (content_of (file_of folder c.args.script.now)) (Missed (g.F.Files.failed c.args.files.now) (g.F.Files.failed c.run_script.new.files) c.args.circuit.now)
+    (Missed (g.F.Files.failed c.args.files.now) (g.F.Files.failed c.run_script.new.files) c.args.script.now) c.in-Ok-read_circuit.plainest c.in-Ok.text both.0 said c.run_script.result.code both.1)
+    (if_both (g.F.Files.told c.args.files.now) _ _ c.in-Ok.ensures.content exact)

@@ -1,10 +1,11 @@
-use Rattle.std.proofs.Common.{inl, refl, ap, []}
+use Rattle.std.proofs.Common.{ap}
 use Rattle.std.specs.Prelude.{Err, codes}
 use Rattle.reo_io.specs.Fetches.{file_of}
-use Rattle.reo_io.proofs.Taken.{Appended-none}
-use Rattle.reo_top.specs.Whole.{content_of, script_owed, Missed}
-use Rattle.reo_top.proofs.CaseLemmas.{refused, wanted, if_told, told_always}
+use Rattle.reo_top.specs.Texts.{content_of}
+use Rattle.reo_top.specs.Whole.{script_owed, Missed}
+use Rattle.reo_top.proofs.CaseLemmas.{refused, wanted_first, if_told, told_always}
 use Rattle.reo_top.proofs.StageLemmas.{script_lifted, no_script, long_script}
+use Rattle.reo_top.proofs.StatusLemmas.{script_as}
 use Rattle.reo_top.proofs.running.run_script.Goals as goal
 
 pub returns-in-Err-TooLong-clause-cases : goal.returns-in-Err-TooLong-clause-cases
@@ -17,7 +18,7 @@ returns-in-Err-TooLong-clause-cases g c =
 pub returns-in-Err-NoMemory-clause-cases : goal.returns-in-Err-NoMemory-clause-cases
 returns-in-Err-NoMemory-clause-cases g c =
     told_always (g.F.Files.told c.args.files.now)
-    (λ folder. wanted (script_owed (Missed (g.F.Files.failed c.args.files.now) (g.F.Files.failed c.fetch.new.files) c.args.name.now) c.args.plainest.now (content_of (file_of folder c.args.name.now))) [] _ _ _ _ _ _ (inl refl) (Appended-none _) c.want.ensures.wants)
+    (λ folder. wanted_first (script_owed (Missed (g.F.Files.failed c.args.files.now) (g.F.Files.failed c.fetch.new.files) c.args.name.now) c.args.plainest.now (content_of (file_of folder c.args.name.now))) _ _ _ _ _ c.want.ensures.wants)
 
 pub returns-in-Ok-read_script-clause-cases : goal.returns-in-Ok-read_script-clause-cases
 returns-in-Ok-read_script-clause-cases g c =
@@ -32,4 +33,17 @@ returns-in-Err-NotOfForm-clause-cases g c =
     if_told (g.F.Files.told c.args.files.now)
     (λ folder fetched. refused (script_owed (Missed (g.F.Files.failed c.args.files.now) (g.F.Files.failed c.fetch.new.files) c.args.name.now) c.args.plainest.now (content_of (file_of folder c.args.name.now))) (codes "not built script\n") 12 _ _ _ _ _
     (no_script c.args.plainest.now (content_of (file_of folder c.args.name.now)) c.in-Ok.text fetched none) c.refuse-in-Err-NotOfForm.ensures.refuses)
+    c.in-Ok.ensures.content
+
+pub returns-clause-cases : goal.returns-clause-cases
+returns-clause-cases g c =
+    told_always (g.F.Files.told c.args.files.now)
+    (λ folder. wanted_first (script_owed (Missed (g.F.Files.failed c.args.files.now) (g.F.Files.failed c.fetch.new.files) c.args.name.now) c.args.plainest.now (content_of (file_of folder c.args.name.now))) _ _ _ _ _ c.want-in-Err-NoMemory-read_script.ensures.wants)
+
+pub returns-in-Ok-read_script-clause-exact : goal.returns-in-Ok-read_script-clause-exact
+returns-in-Ok-read_script-clause-exact g c =
+    let says = rw c.as_slice.ensures at c.in-Ok-read_script.ensures.said in
+    if_told (g.F.Files.told c.args.files.now)
+    (λ folder fetched. script_as c.args.plainest.now (content_of (file_of folder c.args.name.now)) c.requires (Missed (g.F.Files.failed c.args.files.now) (g.F.Files.failed c.fetch.new.files) c.args.name.now) c.in-Ok-read_script.script.components c.in-Ok.text fetched says
+    c.run_both.result.code c.run_both.ensures.exact)
     c.in-Ok.ensures.content

@@ -1,4 +1,4 @@
-use Rattle.std.proofs.Common.{arith, rules}
+use Rattle.std.proofs.Common.{arith}
 use Rattle.reo_runner.proofs.CountLemmas.{both_ways}
 use Rattle.reo_runner.proofs.outcome.Tally.after.Goals as goal
 

@@ -1,0 +1,77 @@
+-- The joints of a circuit stay in order through a round.
+use Rattle.std.proofs.Common.{◌≡◌, ◌∙◌, ℕ, zero, suc, cond, true, false, List, [], ◌∷◌, sym, refl, subst, length, map, arith}
+use Rattle.std.specs.Prelude.{Option, Some, None, nat_lt, is_some}
+use Rattle.std.proofs.lemmas.List.{length-map}
+use Rattle.reo_values.specs.declared.value.Value.{Value}
+use Rattle.reo_behaviour.specs.declared.colouring.Chosen.{Chosen}
+use Rattle.reo_behaviour.specs.declared.joint.Joint.{Joint}
+use Rattle.reo_behaviour.specs.declared.port.Offer.{Offer}
+use Rattle.reo_behaviour.specs.Behaviour.{Behaviour}
+use Rattle.reo_behaviour.specs.Lawful.{IsLawful, SameShape}
+use Rattle.reo_behaviour.specs.Net.{Wiring, net_of, behaviour_at}
+use Rattle.reo_behaviour.specs.Step.{stepped, all_chosen, all_taken}
+use Rattle.reo_circuit.proofs.ReshapeLemmas.{Reshaped, reshaped, lawful_at, wired_same, order_same}
+use Rattle.reo_script.specs.declared.script.Action.{Action}
+use Rattle.reo_script.specs.declared.script.Component.{Component}
+use Rattle.reo_script.specs.Actions.{offer_of, action_for}
+use Rattle.reo_trace.specs.declared.line.RoundLine.{RoundLine}
+use Rattle.reo_runner.specs.Round.{Rules, State, Choosing, RoundOf, cleared, with_pending, ports_ready, ready}
+use Rattle.reo_runner.specs.Whole.{HasOrder}
+use Rattle.reo_runner.proofs.OfferLemmas.{ready_length}
+
+-- What stands in a circuit keeps its laws, and its shape whatever happens to it.
+pub record KeepsShape {P : Type 0} (r : Rules P) : Type 0 where
+  pub lawful : (p : P) → IsLawful (r.behaviour p)
+  pub settled : (p : P) (rows : Chosen) (taken : Option Value) → SameShape (r.behaviour p) (r.behaviour (r.settled p rows taken))
+  pub placed : (p : P) (offer : Offer) → SameShape (r.behaviour p) (r.behaviour (r.placed p offer))
+  pub withdrawn : (p : P) → SameShape (r.behaviour p) (r.behaviour (r.withdrawn p))
+
+same_shape : (b : Behaviour) → SameShape b b
+same_shape b = record { ends = refl; sides = refl; side_of = λ _. refl; takes_in = λ _. refl }
+
+shape_then : (a b d : Behaviour) → SameShape a b → SameShape b d → SameShape a d
+shape_then a b d p q = record { ends = q.ends ∙ p.ends; sides = q.sides ∙ p.sides; side_of = λ e. q.side_of e ∙ p.side_of e; takes_in = λ e. q.takes_in e ∙ p.takes_in e }
+
+module _ {P : Type 0} (r : Rules P) (k : KeepsShape r) where
+  cleared_shape : (p : P) → SameShape (r.behaviour p) (r.behaviour (cleared r p))
+  cleared_shape p =
+      elim (is_some (r.gate p).pending) as (λ b. SameShape (r.behaviour p) (r.behaviour (cond b (r.withdrawn p) p)))
+      [ true ↦ k.withdrawn p | false ↦ same_shape (r.behaviour p) ]
+
+  pending_shape : (o : Option Action) (p : P) → SameShape (r.behaviour p) (r.behaviour (with_pending r o p))
+  pending_shape None p = cleared_shape p
+  pending_shape (Some action) p =
+      shape_then (r.behaviour p) (r.behaviour (cleared r p)) (r.behaviour (with_pending r (Some action) p)) (cleared_shape p) (k.placed (cleared r p) (offer_of action))
+
+  ready_shape : (components : List Component) (places : List ℕ) (ps : List P) (limit n i : ℕ)
+      → SameShape (behaviour_at (map r.behaviour ps) i) (behaviour_at (map r.behaviour (ports_ready r components places limit n ps)) i)
+  ready_shape components places [] limit n i = same_shape (behaviour_at [] i)
+  ready_shape components places (p ∷ ps) limit n zero =
+      elim (nat_lt n limit) as (λ b. SameShape (r.behaviour p) (r.behaviour (cond b (with_pending r (action_for components places n) p) p)))
+      [ true ↦ pending_shape (action_for components places n) p | false ↦ same_shape (r.behaviour p) ]
+  ready_shape components places (p ∷ ps) limit n (suc i) = ready_shape components places ps limit (suc n) i
+
+  kept : (ps qs : List P) (joints : List Joint) → Reshaped (map r.behaviour ps) (map r.behaviour qs) → HasOrder (record { primitives = map r.behaviour ps; joints = joints }) → HasOrder (record { primitives = map r.behaviour qs; joints = joints })
+  kept ps qs joints same old = record {
+    wired = wired_same (map r.behaviour ps) (map r.behaviour qs) same joints old.wired (lawful_at r.behaviour k.lawful qs);
+    order = old.order;
+    is_order = order_same (map r.behaviour ps) (map r.behaviour qs) same joints old.wired old.order old.is_order;
+  }
+
+  pub ready_order : (components : List Component) (a : State P) → HasOrder (net_of r.behaviour a.circuit) → HasOrder (net_of r.behaviour (ready r components a))
+  ready_order components a old =
+      let ps : List P = a.circuit.primitives in
+      let qs : List P = ports_ready r components a.places a.circuit.ports 0 ps in
+      let count : length (map r.behaviour qs) ≡ length (map r.behaviour ps) = omega (arith, ready_length r components a.places ps a.circuit.ports 0, length-map ps r.behaviour, length-map qs r.behaviour) in
+      kept ps qs a.circuit.joints (record { count = count; same = λ i lt. ready_shape components a.places ps a.circuit.ports 0 i }) old
+
+  stepped_order : (w : Wiring P) (rows : List ℕ) (items : List (Option Value)) → HasOrder (net_of r.behaviour w) → HasOrder (net_of r.behaviour (record w { primitives = stepped r.behaviour r.settled w rows items }))
+  stepped_order w rows items old =
+      kept w.primitives (stepped r.behaviour r.settled w rows items) w.joints
+      (reshaped r.behaviour r.settled k.settled w.primitives (all_chosen (net_of r.behaviour w) rows) (all_taken (net_of r.behaviour w) items)) old
+
+  -- After a round the joints are in order.
+  pub round_order : (Suits : Choosing) (components : List Component) (turn : ℕ) (a : State P) (line : RoundLine) (b : State P) → RoundOf Suits r components turn a line b
+      → HasOrder (net_of r.behaviour a.circuit) → HasOrder (net_of r.behaviour b.circuit)
+  round_order Suits components turn a line b round old =
+      subst (λ (w : Wiring P). HasOrder (net_of r.behaviour w)) (sym round.circuit) (stepped_order (ready r components a) round.rows round.items (ready_order components a old))

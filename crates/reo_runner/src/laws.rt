@@ -1,0 +1,47 @@
+//! Laws of runs.
+ghost use Rattle.std.specs.Prelude.{◌≡◌, ◌≤◌};
+ghost use Rattle.reo_behaviour.specs.First.{IsFirst};
+ghost use Rattle.reo_behaviour.specs.Net.{net_of};
+ghost use Rattle.reo_runner.specs.Round.{rules_of};
+ghost use Rattle.reo_runner.specs.Run.{start_of};
+ghost use Rattle.reo_runner.specs.Whole.{HasOrder, HasRun, RunExists, RunIsOne};
+
+use reo_behaviour::Ported;
+use reo_circuit::Circuit;
+use reo_laws::{first_exists, first_is_one};
+use reo_script::Component;
+
+/// Where the joints have an order, there is a run from each start, and each beginning of a run
+/// goes on to a whole run, also with any round that can come next.
+pub fn trace_exists<P: Ported>()
+    ensures { RunExists (rules_of P.behaviour P.settled P.gate P.placed P.withdrawn) }
+{
+    first_exists();
+}
+
+/// Where the joints have an order, two runs from one start have the same lines and the same
+/// ending.
+pub fn one_trace<P: Ported>()
+    ensures { RunIsOne (rules_of P.behaviour P.settled P.gate P.placed P.withdrawn) }
+{
+    first_is_one();
+}
+
+/// What holds of each circuit: its joints have an order.
+pub fn known_order<P: Ported>(circuit: &Circuit<P>)
+    ensures { HasOrder (net_of P.behaviour circuit.now) }
+{
+    circuit.known();
+    let _order = circuit.order();
+}
+
+/// There is a run of each script on each circuit, and each beginning of one goes on to a whole run.
+pub fn has_run<P: Ported>(circuit: &Circuit<P>, components: &[Component], limit: u64)
+    requires { 1 ≤ limit }
+    ensures { HasRun IsFirst (rules_of P.behaviour P.settled P.gate P.placed P.withdrawn) components.now limit (start_of circuit.now components.now) }
+{
+    let _ = components;
+    let _ = limit;
+    known_order(circuit);
+    trace_exists::<P>();
+}
