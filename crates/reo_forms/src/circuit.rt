@@ -5,7 +5,7 @@ ghost use Rattle.reo_behaviour.specs.declared.port.Way.{Way as Ways};
 ghost use Rattle.reo_forms.specs.declared.plainest.Parameter.{Parameter as Port};
 ghost use Rattle.reo_forms.specs.declared.plainest.Joined.{Joined as Channel};
 ghost use Rattle.reo_forms.specs.declared.plainest.Plainest.{Plainest as Circuit};
-ghost use Rattle.reo_forms.specs.CircuitForm.{way_text, parameter_text, channel_text, circuit_text, IsParameter, IsPlainest, SaysCircuit};
+ghost use Rattle.reo_forms.specs.CircuitForm.{way_text, parameter_text, channel_text, circuit_text, IsParameter, IsBetweenNames, IsPlainest, SaysCircuit};
 ghost use Rattle.reo_forms.specs.Listed.{listed};
 ghost use Rattle.reo_forms.specs.Reading.{goes_on, Ends, Each};
 
@@ -14,7 +14,7 @@ use crate::plain::is_plainest;
 use crate::reader::{Reader, number};
 use crate::{FormFault, Joined, Parameter, Plainest};
 use reo_behaviour::Way;
-use reo_values::{List, NoMemory};
+use reo_values::{Bytes, List, NoMemory};
 use std::alloc::Global;
 
 /// The greatest bound of a type.
@@ -40,14 +40,14 @@ fn parameter(alloc: Global, reader: &mut Reader) -> Result<Parameter, NoMemory>
     ensures shorter { length reader.new ≤ length reader.old - 1 }
 {
     let way = way(reader);
-    let letter = reader.next();
+    let name = Bytes::from_slice(alloc, reader.word())?;
     reader.skip(6);
     let low = number(alloc, reader, -MOST, MOST)?;
     reader.skip(2);
     let high = number(alloc, reader, -MOST, MOST)?;
     Ok(Parameter {
         way,
-        letter,
+        name,
         low,
         high,
     })
@@ -90,25 +90,25 @@ fn parameters(alloc: Global, reader: &mut Reader) -> Result<List<Parameter>, NoM
 }
 
 // A channel and the space after it.
-fn channel(reader: &mut Reader) -> Joined
-    ensures again { (x : Channel) (rest : List ℕ) → reader.old ≡ channel_text x ++ rest → (result ≡ x) × (reader.new ≡ rest) }
+fn channel(alloc: Global, reader: &mut Reader) -> Result<Joined, NoMemory>
+    ensures again { (x : Channel) (rest : List ℕ) → IsBetweenNames x → reader.old ≡ channel_text x ++ rest → IfOk result (λ found. (found ≡ x) × (reader.new ≡ rest)) }
     ensures shorter { length reader.new ≤ length reader.old - 1 }
 {
     reader.skip(5);
-    let source = reader.next();
+    let source = Bytes::from_slice(alloc, reader.word())?;
     reader.skip(1);
-    let sink = reader.next();
+    let sink = Bytes::from_slice(alloc, reader.word())?;
     reader.skip(2);
-    Joined { source, sink }
+    Ok(Joined { source, sink })
 }
 
 // All channels.
 fn channels(alloc: Global, reader: &mut Reader) -> Result<List<Joined>, NoMemory>
-    ensures { (xs : List Channel) (rest : List ℕ) → goes_on 125 rest ≡ false → reader.old ≡ flat_map channel_text xs ++ rest → IfOk result (λ found. (found ≡ xs) × (reader.new ≡ rest)) }
+    ensures { (xs : List Channel) (rest : List ℕ) → Each IsBetweenNames xs → goes_on 125 rest ≡ false → reader.old ≡ flat_map channel_text xs ++ rest → IfOk result (λ found. (found ≡ xs) × (reader.new ≡ rest)) }
 {
     let mut made = List::new(alloc);
     while reader.goes_on(b'}') {
-        made.push(channel(reader))?;
+        made.push(channel(alloc, reader)?)?;
     }
     Ok(made)
 }

@@ -31,7 +31,7 @@ fn append_parameter(alloc: Global, out: &mut Bytes, parameter: &Parameter) -> Re
     ensures { OnOk result (out.new ≡ out.old ++ parameter_text parameter.now) }
 {
     append_way(out, parameter.way)?;
-    out.push(parameter.letter)?;
+    out.append(parameter.name.as_slice())?;
     out.append(b": int ")?;
     append_number(alloc, out, parameter.low)?;
     out.append(b"..")?;
@@ -74,9 +74,9 @@ fn append_channel(out: &mut Bytes, channel: &Joined) -> Result<(), NoMemory>
     ensures { OnOk result (out.new ≡ out.old ++ channel_text channel.now) }
 {
     out.append(b"sync ")?;
-    out.push(channel.source)?;
-    out.push(b' ')?;
-    out.push(channel.sink)?;
+    out.append(channel.source.as_slice())?;
+    out.append(b" ")?;
+    out.append(channel.sink.as_slice())?;
     out.append(b"; ")
 }
 

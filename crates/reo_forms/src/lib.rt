@@ -1,7 +1,7 @@
 //! The plainest circuits and scripts, read from their bytes.
 //!
 //! A circuit is one connector of one to four `sync` channels between ports of one `int` type.
-//! Each port is a lower-case letter, and is joined to exactly one channel:
+//! Each port is joined to exactly one channel:
 //! `connector main(in a: int 0..9, out b: int 0..9) { sync a b; }`. A script is empty, or
 //! components with a space between: `component p { write a 3; } component q { take b; }`.
 //! Each text may have one line feed at its end, but not that of the empty script.
@@ -26,5 +26,6 @@ mod tests;
 pub use circuit::read_circuit;
 pub use fault::FormFault;
 pub use laws::{one_circuit, one_script};
+pub use plain::is_plainest;
 pub use plainest::{Joined, Parameter, Plainest};
 pub use script::read_script;

@@ -3,7 +3,7 @@ ghost use Rattle.std.specs.Prelude.{◌≡◌, ◌++◌, ◌↔◌, IsTrue, IfOk
 ghost use Rattle.std.specs.List.{flat_map};
 ghost use Rattle.reo_values.specs.ItemText.{text_of};
 ghost use Rattle.reo_values.specs.declared.kindred.Kindred.TheVariants.{Int as IntOf};
-ghost use Rattle.reo_forms.specs.ScriptForm.{letter_at, item_at_text, action_text, component_text, script_text, IsScriptText};
+ghost use Rattle.reo_forms.specs.ScriptForm.{name_text, item_at_text, action_text, component_text, script_text, IsScriptText};
 
 use crate::Parameter;
 use crate::circuit_text::{append_number, is_text};
@@ -11,12 +11,12 @@ use reo_script::{Action, Component};
 use reo_values::{Bytes, NoMemory, Value};
 use std::alloc::Global;
 
-fn letter_at(parameters: &[Parameter], port: usize) -> u8
-    ensures { result ≡ letter_at parameters.now port }
+fn name_at(parameters: &[Parameter], port: usize) -> &[u8]
+    ensures { result.now ≡ name_text (slice_get parameters.now port) }
 {
     match parameters.get(port) {
-        Some(p) => p.letter,
-        None => 0,
+        Some(parameter) => parameter.name.as_slice(),
+        None => &[],
     }
 }
 
@@ -61,13 +61,13 @@ fn append_action(
     match action {
         Action::Write { port, item } => {
             out.append(b"write ")?;
-            out.push(letter_at(parameters, *port))?;
-            out.push(b' ')?;
+            out.append(name_at(parameters, *port))?;
+            out.append(b" ")?;
             append_item_at(alloc, out, parameters, *port, item)?;
         }
         Action::Take { port } => {
             out.append(b"take ")?;
-            out.push(letter_at(parameters, *port))?;
+            out.append(name_at(parameters, *port))?;
         }
     }
     out.append(b"; ")

@@ -2,27 +2,36 @@
 use crate::{FormFault, Plainest, read_circuit, read_script};
 use reo_behaviour::Way;
 use reo_script::{Action, Script};
-use reo_values::Value;
+use reo_values::{Bytes, Value};
 use std::alloc::Global;
 use std::test::Fail;
 
 const ONE: &[u8] = b"connector main(in a: int 0..9, out b: int 0..9) { sync a b; }";
 
-/// A circuit as text: `<` or `>` for the way, the letter and the bounds of each parameter, and
-/// the letters of each channel.
+/// Bytes as text.
+fn show_name(text: &mut String, name: &Bytes) -> Result<(), Fail> {
+    for byte in name.as_slice() {
+        text.push(*byte as char)?;
+    }
+    Ok(())
+}
+
+/// A circuit as text: `<` or `>` for the way, the name and the bounds of each parameter, and
+/// the names of each channel.
 fn show_circuit(text: &mut String, circuit: &Plainest) -> Result<(), Fail> {
     for parameter in circuit.parameters.as_slice() {
         text.push(match parameter.way {
             Way::In => '<',
             Way::Out => '>',
         })?;
-        text.push(parameter.letter as char)?;
+        show_name(text, &parameter.name)?;
         let (low, high) = (parameter.low, parameter.high);
-        write!(text, "{low}:{high} ")?;
+        write!(text, " {low}:{high} ")?;
     }
     for channel in circuit.channels.as_slice() {
-        text.push(channel.source as char)?;
-        text.push(channel.sink as char)?;
+        show_name(text, &channel.source)?;
+        text.push('-')?;
+        show_name(text, &channel.sink)?;
         text.push(' ')?;
     }
     Ok(())
@@ -31,9 +40,7 @@ fn show_circuit(text: &mut String, circuit: &Plainest) -> Result<(), Fail> {
 /// A script as text: each component's letter, and its actions with the numbers of their ports.
 fn show_script(text: &mut String, script: &Script) -> Result<(), Fail> {
     for component in script.components.as_slice() {
-        for letter in component.name.as_slice() {
-            text.push(*letter as char)?;
-        }
+        show_name(text, &component.name)?;
         for action in component.actions.as_slice() {
             match action {
                 Action::Write { port, item } => match item {
@@ -83,18 +90,18 @@ fn script_read(alloc: Global, text: &[u8]) -> Result<String, Fail> {
 fn circuits_are_read(rt: HostRuntime) -> Result<(), Fail> {
     let alloc = rt.alloc();
     for (text, want) in [
-        (ONE, "<a0:9 >b0:9 ab "),
+        (ONE, "<a 0:9 >b 0:9 a-b "),
         (
             b"connector main(in a: int 0..9, out b: int 0..9) { sync a b; }\n".as_slice(),
-            "<a0:9 >b0:9 ab ",
+            "<a 0:9 >b 0:9 a-b ",
         ),
         (
             b"connector main(in a: int 0..9, out b: int 0..9, in c: int 0..9, out d: int 0..9) { sync a b; sync c d; }".as_slice(),
-            "<a0:9 >b0:9 <c0:9 >d0:9 ab cd ",
+            "<a 0:9 >b 0:9 <c 0:9 >d 0:9 a-b c-d ",
         ),
         (
             b"connector main(out z: int -1000000000..0, in y: int -1000000000..0) { sync y z; }".as_slice(),
-            ">z-1000000000:0 <y-1000000000:0 yz ",
+            ">z -1000000000:0 <y -1000000000:0 y-z ",
         ),
     ] {
         assert_eq!(rt; circuit_read(alloc, text)?.as_str(), want);
@@ -124,7 +131,7 @@ fn other_circuits_are_refused(rt: HostRuntime) -> Result<(), Fail> {
         b"connector main(in a: int 0..9,  out b: int 0..9) { sync a b; }".as_slice(),
         b"connector main(in a: int 0..9, out b: int 0..9) { sync a b;}".as_slice(),
         b"connector main(in a: int 0..9, out b: int 0..9) { sync a b; }\n\n".as_slice(),
-        b"connector main(in A: int 0..9, out b: int 0..9) { sync A b; }".as_slice(),
+        b"connector main(in 1: int 0..9, out b: int 0..9) { sync 1 b; }".as_slice(),
     ] {
         assert_eq!(rt; circuit_read(alloc, text)?.as_str(), "no");
     }

@@ -33,3 +33,6 @@ returns-in-Err-NotOfForm-clause-cases g c =
     (λ folder fetched. refused (script_owed (Missed (g.F.Files.failed c.args.files.now) (g.F.Files.failed c.fetch.new.files) c.args.name.now) c.args.plainest.now (content_of (file_of folder c.args.name.now))) (codes "not built script\n") 12 _ _ _ _ _
     (no_script c.args.plainest.now (content_of (file_of folder c.args.name.now)) c.in-Ok.text fetched none) c.refuse-in-Err-NotOfForm.ensures.refuses)
     c.in-Ok.ensures.content
+
+pub read_script-requires-clause-names : goal.read_script-requires-clause-names
+read_script-requires-clause-names c i p at_i = (c.requires.parameters i p at_i).name
