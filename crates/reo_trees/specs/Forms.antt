@@ -1,0 +1,64 @@
+-- What the forms of the circuit text are made of.
+use Rattle.std.specs.Prelude.{ℕ, List, [], ◌∷◌, ◌++◌, codes}
+use Rattle.reo_grammar.specs.Tokens.{Tok, Class, number_from}
+use Rattle.reo_grammar.specs.Tokens.Class.{fixed, name, number, text}
+use Rattle.reo_grammar.specs.Grammar.{Grammar}
+use Rattle.reo_grammar.specs.Grammar.Grammar.{nothing, token, both, made, either, chain}
+use Rattle.reo_trees.specs.declared.types.TypeTerm.{TypeTerm}
+use Rattle.reo_trees.specs.declared.literals.Literal.{Literal}
+use Rattle.reo_trees.specs.declared.terms.Term.{Term}
+use Rattle.reo_trees.specs.declared.terms.Opened.{Opened}
+use Rattle.reo_trees.specs.Texts.{text_bytes}
+
+-- The rules that lead back to themselves: types, literals, terms, and what a `!` or `-` stands before.
+pub data Rule : Type 0 where
+  type_rule literal_rule term_rule unary_rule : Rule
+
+-- What each rule's texts stand for.
+abbrev pub tree_of : Rule → Type 0
+tree_of type_rule = TypeTerm
+tree_of literal_rule = Literal
+tree_of term_rule = Term
+tree_of unary_rule = Opened
+
+abbrev pub G : Type 0 → Type 1
+G A = Grammar Rule tree_of A
+
+-- A reserved word or a sign.
+abbrev pub word : List ℕ → G (Unit {0})
+word b = made (λ t. tt) (token (fixed b))
+
+-- One that stands for a value.
+abbrev pub word_as : {A : Type 0} → A → List ℕ → G A
+word_as x b = made (λ u. x) (word b)
+
+abbrev pub name_form : G (List ℕ)
+name_form = made (λ t. t.bytes) (token name)
+
+-- A number from the first to the second.
+abbrev pub number_form : ℕ → ℕ → G ℕ
+number_form low high = made (λ t. number_from 0 t.bytes) (token (number low high))
+
+abbrev pub text_form : G (List ℕ)
+text_form = made (λ t. text_bytes t.bytes) (token text)
+
+-- The first part and then the second, with the value of the second, or of the first.
+infixr 6 ◌▸◌
+abbrev pub ◌▸◌ : {A B : Type 0} → G A → G B → G B
+g ▸ h = both (λ x y. y) g h
+
+infixl 7 ◌◂◌
+abbrev pub ◌◂◌ : {A B : Type 0} → G A → G B → G A
+g ◂ h = both (λ x y. x) g h
+
+-- One more at the end of a list.
+abbrev pub listed : {A : Type 0} → List A → A → List A
+listed xs x = xs ++ x ∷ []
+
+-- One part behind a comma.
+abbrev pub further : {A : Type 0} → G A → G A
+further g = word (codes ",") ▸ g
+
+-- One part or more, with commas between them.
+abbrev pub comma_form : {A : Type 0} → G A → G (List A)
+comma_form g = chain listed (fixed (codes ",")) (made (λ x. x ∷ []) g) (further g)

@@ -1,0 +1,12 @@
+pub mod Texts
+pub mod Forms
+pub mod Types
+pub mod Literals
+pub mod Operators
+pub mod Terms
+pub mod Channels
+pub mod Items
+pub mod Programs
+pub mod Rules
+pub mod Table
+pub mod Says

@@ -1,0 +1,7 @@
+//! The laws of texts.
+use crate::one_program;
+
+#[test]
+fn laws(rt: HostRuntime) {
+    one_program();
+}
