@@ -1,4 +1,5 @@
 pub mod Numerals
+pub mod Optional
 pub mod Parts
 pub mod Rows
 pub mod Eachs
@@ -9,3 +10,4 @@ pub mod Apart
 pub mod CircuitTells
 pub mod RowTells
 pub mod ScriptTells
+pub mod Shapes

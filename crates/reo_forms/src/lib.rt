@@ -12,20 +12,25 @@
 
 mod circuit;
 mod circuit_text;
+mod connectors;
 mod fault;
 mod laws;
 mod plain;
 mod plain_script;
 mod plainest;
+mod programs;
 mod reader;
 mod script;
 mod script_text;
+#[cfg(test)]
+mod shape_tests;
 #[cfg(test)]
 mod tests;
 
 pub use circuit::read_circuit;
 pub use fault::FormFault;
-pub use laws::{one_circuit, one_script};
+pub use laws::{one_circuit, one_script, one_shape};
 pub use plain::is_plainest;
 pub use plainest::{Joined, Parameter, Plainest};
+pub use programs::shape;
 pub use script::read_script;

@@ -18,7 +18,7 @@ fn show_name(text: &mut String, name: &Bytes) -> Result<(), Fail> {
 
 /// A circuit as text: `<` or `>` for the way, the name and the bounds of each parameter, and
 /// the names of each channel.
-fn show_circuit(text: &mut String, circuit: &Plainest) -> Result<(), Fail> {
+pub fn show_circuit(text: &mut String, circuit: &Plainest) -> Result<(), Fail> {
     for parameter in circuit.parameters.as_slice() {
         text.push(match parameter.way {
             Way::In => '<',
@@ -55,7 +55,7 @@ fn show_script(text: &mut String, script: &Script) -> Result<(), Fail> {
     Ok(())
 }
 
-fn show_fault(text: &mut String, fault: FormFault) -> Result<(), Fail> {
+pub fn show_fault(text: &mut String, fault: FormFault) -> Result<(), Fail> {
     text.push_str(match fault {
         FormFault::NotOfForm => "no",
         FormFault::NoMemory => "no memory",
