@@ -1,5 +1,5 @@
 -- How the texts of actions and components are put together.
-use Rattle.std.proofs.Common.{◌≡◌, ◌∙◌, ℕ, ℤ, zero, suc, true, false, List, [], ◌∷◌, ◌++◌, codes, Option, Some, refl, sym, ap, inl, inr, append_assoc, append-nil}
+use Rattle.std.proofs.Common.{◌≡◌, ◌∙◌, ℕ, ℤ, suc, true, false, List, [], ◌∷◌, ◌++◌, codes, Option, Some, refl, sym, ap, inl, inr, append_assoc, append-nil}
 use Rattle.std.specs.Prelude.{slice_get}
 use Rattle.std.specs.List.{flat_map}
 use denote.Hole.Carrier.{hidden}

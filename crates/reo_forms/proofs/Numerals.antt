@@ -1,5 +1,5 @@
 -- The text of a number or a name, and where it ends.
-use Rattle.std.proofs.Common.{◌≡◌, ◌<◌, ◌+◌, ◌%◌, ◌^◌, ℕ, ℤ, pos, negsuc, suc, List, [], ◌∷◌, ◌++◌, inl, inr, ap, refl, sym, subst, drop, arith}
+use Rattle.std.proofs.Common.{◌≡◌, ◌≤◌, ◌<◌, ◌+◌, ◌%◌, ◌^◌, ℕ, ℤ, pos, negsuc, suc, List, [], ◌∷◌, ◌++◌, inl, inr, ap, refl, sym, subst, drop, arith}
 use Rattle.std.specs.Prelude.{FitsSigned, neg_ℤ, ◌≤ℤ◌}
 use Rattle.std.specs.Int.{w64}
 use Rattle.std.specs.Fmt.{decimal, signed_decimal}
@@ -41,6 +41,19 @@ signed_word (negsuc n) f = All-cons IsWordByte 45 (decimal (suc n)) (inl refl) (
 pub name_word : (name : List ℕ) → IsName name → IsWord name
 name_word [] h = absurd h
 name_word (byte ∷ bytes) h = All-cons IsWordByte byte bytes (inr (inr h.0)) (All-weaker IsNameByte IsWordByte (λ b in_name. inr in_name) bytes h.1)
+
+-- Bytes that end a name or a number.
+low_ends : (byte : ℕ) → byte ≤ 44 → IsWordByte byte → ⊥
+low_ends byte low in_word = grind arith
+
+semicolon_none : (byte : ℕ) → byte ≡ 59 → IsWordByte byte → ⊥
+semicolon_none byte mark in_word = grind arith
+
+pub space_ends : (rest : List ℕ) → Ends (32 ∷ rest)
+space_ends rest = low_ends 32 (omega arith)
+
+pub semicolon_ends : (rest : List ℕ) → Ends (59 ∷ rest)
+semicolon_ends rest = semicolon_none 59 refl
 
 pub fits_small : (z : ℤ) → neg_ℤ (pos (10 ^ 9)) ≤ℤ z → z ≤ℤ pos (10 ^ 9) → FitsSigned w64 z
 fits_small z low high = omega (arith, ints)

@@ -16,11 +16,11 @@ use Rattle.reo_forms.specs.CircuitForm.{IsParameter}
 use Rattle.reo_forms.specs.ScriptForm.{action_text, component_text, IsPortAction, SaysScript}
 use Rattle.reo_forms.specs.Components.{IsPlainComponent}
 use Rattle.reo_forms.specs.Reading.{Ends, Each, AreDifferent}
-use Rattle.reo_forms.proofs.Parts.{space_ends, semicolon_ends}
+use Rattle.reo_forms.proofs.Numerals.{space_ends, semicolon_ends}
 use Rattle.reo_forms.proofs.Eachs.{one_at}
 use Rattle.reo_forms.proofs.Actions.{write_parts, take_parts, component_parts, action_goes, script_front, plain_components}
 use Rattle.reo_forms.proofs.RowTells.{Tells, row_tells, listed_tells}
-use Rattle.reo_forms.proofs.CircuitTells.{name_tells, number_tells, low_fits, high_fits}
+use Rattle.reo_forms.proofs.WordTells.{name_tells, number_tells, low_fits, high_fits}
 
 -- The text of an item tells the item.
 item_tells : (p : Parameter) (x y : Value) (r s : List ℕ) → IsParameter p → IsIn x (kinds.Int p.low p.high) → IsIn y (kinds.Int p.low p.high) → Ends r → Ends s

@@ -1,39 +1,19 @@
--- The plainest circuits, and their texts.
-use Rattle.std.specs.Prelude.{ℕ, pos, neg_ℤ, ◌≤◌, ◌≤ℤ◌, ◌≡◌, ◌^◌, List, ◌++◌, codes, length, slice_get, Some}
-use Rattle.std.specs.List.{flat_map}
-use Rattle.std.specs.Fmt.{signed_decimal}
+-- The plainest circuits.
+use Rattle.std.specs.Prelude.{ℕ, pos, neg_ℤ, ◌≤◌, ◌≤ℤ◌, ◌≡◌, ◌^◌, List, length, slice_get, Some}
 use Rattle.reo_behaviour.specs.declared.port.Way.{Way}
 use Rattle.reo_behaviour.specs.declared.port.Way.TheVariants.{In, Out}
 use Rattle.reo_forms.specs.declared.plainest.Parameter.{Parameter}
 use Rattle.reo_forms.specs.declared.plainest.Joined.{Joined}
 use Rattle.reo_forms.specs.declared.plainest.Plainest.{Plainest}
 use Rattle.reo_values.specs.Valid.{IsName}
-use Rattle.reo_forms.specs.Listed.{listed, IsText, IsOnce}
+use Rattle.reo_forms.specs.Listed.{IsOnce}
 
-abbrev pub way_text : Way → List ℕ
-way_text In = codes "in "
-way_text Out = codes "out "
-
-abbrev pub parameter_text : Parameter → List ℕ
-parameter_text p = way_text p.way ++ (p.name ++ (codes ": int " ++ (signed_decimal p.low ++ (codes ".." ++ signed_decimal p.high))))
-
-abbrev pub channel_text : Joined → List ℕ
-channel_text c = codes "sync " ++ (c.source ++ (codes " " ++ (c.sink ++ codes "; ")))
-
--- The text of a circuit: its parameters with a comma and a space between, and its channels.
-abbrev pub circuit_text : Plainest → List ℕ
-circuit_text c = codes "connector main(" ++ (listed (codes ", ") parameter_text c.parameters ++ (codes ") { " ++ (flat_map channel_text c.channels ++ codes "}")))
-
--- A parameter whose name is one, and whose bounds are in order and not too great.
+-- A parameter whose name is a name of the language, and whose bounds are in order, each from -10^9 to 10^9.
 pub record IsParameter (p : Parameter) : Type 0 where
   pub name : IsName p.name
   pub least : neg_ℤ (pos (10 ^ 9)) ≤ℤ p.low
   pub most : p.high ≤ℤ pos (10 ^ 9)
   pub ordered : p.low ≤ℤ p.high
-
--- A channel between names.
-abbrev pub IsBetweenNames : Joined → Type 0
-IsBetweenNames c = IsName c.source × IsName c.sink
 
 -- The name at which a channel is joined to a port of this way.
 abbrev pub name_for : Way → Joined → List ℕ
@@ -54,8 +34,3 @@ pub record IsPlainest (c : Plainest) : Type 0 where
   pub each_port : (i : ℕ) (p : Parameter) → IsParameterAt c i p → IsOnce (λ (x : Joined). name_for p.way x ≡ p.name) c.channels
   pub each_source : (k : ℕ) (x : Joined) → slice_get c.channels k ≡ Some x → (i : ℕ) × (p : Parameter) × IsParameterAt c i p × (p.way ≡ In) × (p.name ≡ x.source)
   pub each_sink : (k : ℕ) (x : Joined) → slice_get c.channels k ≡ Some x → (i : ℕ) × (p : Parameter) × IsParameterAt c i p × (p.way ≡ Out) × (p.name ≡ x.sink)
-
--- The text has the form, and says this circuit.
-pub record SaysCircuit (text : List ℕ) (c : Plainest) : Type 0 where
-  pub plainest : IsPlainest c
-  pub text_is : IsText text (circuit_text c)

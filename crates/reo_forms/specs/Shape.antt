@@ -1,5 +1,5 @@
 -- The programs that have the shape of a circuit of the form.
-use Rattle.std.specs.Prelude.{◌≡◌, Bool, true, false, List, [], ◌∷◌, Option, Some, None, map, codes}
+use Rattle.std.specs.Prelude.{◌≡◌, Bool, true, false, [], ◌∷◌, Option, Some, None, map, codes}
 use Rattle.reo_behaviour.specs.declared.port.Way.{Way}
 use Rattle.reo_behaviour.specs.declared.port.Way.TheVariants.{In, Out}
 use Rattle.reo_trees.specs.declared.programs.Program.{Program}

@@ -1,4 +1,4 @@
-//! Whether what was read is a circuit of the form.
+//! Whether parameters and channels are a circuit of the form.
 ghost use Rattle.std.specs.Prelude.{◌≡◌, ◌≤◌, ◌<◌, ◌↔◌, ℕ, IsTrue, length, slice_get, Some, count_by};
 ghost use Rattle.std.specs.Str.{bytes_eq};
 ghost use Rattle.reo_behaviour.specs.declared.port.Way.TheVariants.{In, Out};
@@ -8,10 +8,12 @@ ghost use Rattle.reo_forms.specs.CircuitForm.{name_for, IsParameter, IsPlainest}
 ghost use Rattle.reo_forms.specs.Listed.{IsOnce};
 ghost use Rattle.reo_forms.specs.Reading.{Each, AreDifferent, HaveOneType, IsNamed};
 
-use crate::circuit::MOST;
 use crate::{Joined, Parameter, Plainest};
 use reo_behaviour::Way;
 use reo_values::is_name;
+
+/// The greatest bound of a type.
+const MOST: i64 = 1_000_000_000;
 
 fn is_parameter(parameter: &Parameter) -> bool
     ensures { IsTrue result ↔ IsParameter parameter.now }

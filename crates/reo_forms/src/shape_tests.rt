@@ -72,9 +72,9 @@ fn connector(
     })
 }
 
-/// `connector main(in a: int 0..9, out b: int 0..9) { sync a b; }`, with another name.
-fn one_channel(alloc: Global, name: &[u8]) -> Result<Connector, NoMemory> {
-    connector(alloc, name, &[(IN, A, 0, 9), (OUT, B, 0, 9)], &[(A, B)])
+/// `connector main(in a: int 0..9, out ab: int 0..9) { sync a ab; }`, with another name.
+pub fn one_channel(alloc: Global, name: &[u8]) -> Result<Connector, NoMemory> {
+    connector(alloc, name, &[(IN, A, 0, 9), (OUT, AB, 0, 9)], &[(A, AB)])
 }
 
 /// What the shape of a program is read as.
@@ -87,7 +87,7 @@ fn shown(alloc: Global, program: &Program) -> Result<String, Fail> {
     Ok(text)
 }
 
-fn alone(alloc: Global, connector: Connector) -> Result<Program, NoMemory> {
+pub fn alone(alloc: Global, connector: Connector) -> Result<Program, NoMemory> {
     let mut declarations = List::new(alloc);
     declarations.push(Declaration::Made(connector))?;
     Ok(Program { declarations })

@@ -1,4 +1,4 @@
-use Rattle.std.proofs.Common.{◌≡◌, ◌∙◌, ◌==◌, sym, true}
+use Rattle.std.proofs.Common.{◌≡◌, ◌∙◌, sym, true}
 use Rattle.std.specs.Str.{bytes_eq}
 use Rattle.reo_forms.specs.declared.plainest.Joined.{Joined}
 use Rattle.reo_forms.specs.CircuitForm.{name_for}

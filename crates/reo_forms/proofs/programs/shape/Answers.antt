@@ -1,4 +1,4 @@
-use Rattle.std.proofs.Common.{◌≡◌, ◌∙◌, sym, ap, subst}
+use Rattle.std.proofs.Common.{◌∙◌, sym, ap, subst}
 use Rattle.reo_trees.specs.declared.programs.Connector.{Connector}
 use Rattle.reo_forms.specs.CircuitForm.{IsPlainest}
 use Rattle.reo_forms.proofs.Counts.{test_bytes}
