@@ -15,7 +15,7 @@ use Rattle.reo_kinds.specs.Kinds.{behaviour_of}
 use Rattle.reo_forms.specs.declared.plainest.Parameter.{Parameter}
 use Rattle.reo_forms.specs.declared.plainest.Joined.{Joined}
 use Rattle.reo_forms.specs.declared.plainest.Plainest.{Plainest}
-use Rattle.reo_forms.specs.CircuitForm.{letter_for, IsParameterAt, IsPlainest}
+use Rattle.reo_forms.specs.CircuitForm.{name_for, IsParameterAt, IsPlainest}
 use Rattle.reo_build.specs.Flat.{kindred_of, port_kind, channel_at, joint_between}
 use Rattle.reo_build.specs.Sound.{net_for, SoundParts}
 use Rattle.reo_build.proofs.Places.{parameter, parameter_at, place_of, no_channel, IsPlaced, is_placed, end_for, same_way, ports_apart, joints_length, joint_is}
@@ -61,15 +61,15 @@ pub record IsPortOf (c : Plainest) (w : Way) (x : Joined) : Type 0 where
   pub parameter_is : Parameter
   pub at : IsParameterAt c port parameter_is
   pub way : parameter_is.way ≡ w
-  pub letter : letter_for parameter_is.way x ≡ parameter_is.letter
+  pub name : name_for parameter_is.way x ≡ parameter_is.name
 
 port_of : (c : Plainest) → IsPlainest c → (w : Way) (k : ℕ) (x : Joined) → slice_get c.channels k ≡ Some x → IsPortOf c w x
 port_of c plain In k x is =
     let found = plain.each_source k x is in
-    record { port = found.0; parameter_is = found.1; at = found.2; way = found.3; letter = ap (λ (w : Way). letter_for w x) found.3 ∙ sym found.4 }
+    record { port = found.0; parameter_is = found.1; at = found.2; way = found.3; name = ap (λ (w : Way). name_for w x) found.3 ∙ sym found.4 }
 port_of c plain Out k x is =
     let found = plain.each_sink k x is in
-    record { port = found.0; parameter_is = found.1; at = found.2; way = found.3; letter = ap (λ (w : Way). letter_for w x) found.3 ∙ sym found.4 }
+    record { port = found.0; parameter_is = found.1; at = found.2; way = found.3; name = ap (λ (w : Way). name_for w x) found.3 ∙ sym found.4 }
 
 channel_joined : (c : Plainest) → IsPlainest c → (w : Way) (k n : ℕ) → k < length c.channels → n ≡ length c.parameters + k → IsJoined (net_for c).joints (end_of n (end_for w))
 channel_joined c plain w k n lt n_is =
@@ -77,7 +77,7 @@ channel_joined c plain w k n lt n_is =
     let x_at : slice_get c.channels k ≡ Some x = slice_get-get_or c.channels k no_channel lt in
     let own : IsPortOf c w x = port_of c plain w k x x_at in
     let placed : IsPlaced c own.parameter_is = is_placed c plain own.port own.parameter_is own.at in
-    let place : k ≡ place_of c own.parameter_is = placed.only k x x_at own.letter in
+    let place : k ≡ place_of c own.parameter_is = placed.only k x x_at own.name in
     let channel : channel_at c own.parameter_is ≡ n = omega (arith, place, n_is) in
     let between : joint_between own.parameter_is.way own.port (channel_at c own.parameter_is) ≡ joint_between w own.port n =
     ap (λ (v : Way). joint_between v own.port (channel_at c own.parameter_is)) own.way ∙ ap (λ (m : ℕ). joint_between w own.port m) channel in

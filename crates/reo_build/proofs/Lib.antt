@@ -1,6 +1,5 @@
 pub mod Cycles
 pub mod Few
 pub mod Joining
-pub mod Listed
 pub mod Places
 pub mod Sides

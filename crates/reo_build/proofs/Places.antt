@@ -1,7 +1,8 @@
 -- What stands where among the primitives and the joints.
-use Rattle.std.proofs.Common.{◌≡◌, ◌≢◌, ℕ, zero, suc, pos, ◌+◌, ◌<◌, ◌≤◌, ◌==◌, Bool, true, false, List, [], ◌∷◌, ◌++◌, length, map, take, get_or, slice_get, not, add-one, Some, refl, ap, sym, ◌∙◌, subst, arith}
+use Rattle.std.proofs.Common.{◌≡◌, ◌≢◌, ℕ, zero, suc, pos, ◌+◌, ◌<◌, ◌≤◌, Bool, true, false, List, [], ◌∷◌, ◌++◌, length, map, take, get_or, slice_get, not, add-one, Some, refl, ap, sym, ◌∙◌, subst, arith}
 use Rattle.std.specs.List.{position_or_len}
-use Rattle.std.proofs.lemmas.Bool.Decides.{nat_tests}
+use Rattle.std.specs.Str.{bytes_eq}
+use Rattle.std.proofs.lemmas.Slice.Eq.{bytes_eq-Decides}
 use Rattle.std.proofs.lemmas.List.{length-map, length-append}
 use Rattle.std.proofs.lemmas.List.Sums.{position_or_len_is, prefix_len-le-length}
 use Rattle.std.proofs.lemmas.Option.{slice_get-get_or}
@@ -15,20 +16,20 @@ use Rattle.reo_forms.specs.declared.plainest.Parameter.{Parameter}
 use Rattle.reo_forms.specs.declared.plainest.Joined.{Joined}
 use Rattle.reo_forms.specs.declared.plainest.Plainest.{Plainest}
 use Rattle.reo_forms.specs.Listed.{IsOnce}
-use Rattle.reo_forms.specs.CircuitForm.{letter_for, IsParameterAt, IsPlainest}
+use Rattle.reo_forms.specs.CircuitForm.{name_for, IsParameterAt, IsPlainest}
 use Rattle.reo_build.specs.Flat.{kindred_of, port_kind, primitives_of, channel_at, joint_between, joints_from}
 
 abbrev pub kind_of : Parameter → Kind
 kind_of p = port_kind p.way (kindred_of p)
 
 abbrev pub port_seen : Parameter → Port
-port_seen p = record { name = p.letter ∷ []; way = p.way; kindred = kindred_of p }
+port_seen p = record { name = p.name; way = p.way; kindred = kindred_of p }
 
 abbrev pub no_parameter : Parameter
-no_parameter = record { way = In; letter = 0; low = pos 0; high = pos 0 }
+no_parameter = record { way = In; name = []; low = pos 0; high = pos 0 }
 
 abbrev pub no_channel : Joined
-no_channel = record { source = 0; sink = 0 }
+no_channel = record { source = []; sink = [] }
 
 -- The parameter of a number.
 abbrev pub parameter : Plainest → ℕ → Parameter
@@ -95,22 +96,26 @@ pub joints_more : (c : Plainest) (k : ℕ) (ps : List Parameter) (i n : ℕ) (p 
 joints_more c k ps i n p lt is e = rw add-one (joints_suc c k ps i n p lt is e)
 
 -- The one channel of a port.
-pub place_le : (w : Way) (name : ℕ) (xs : List Joined) → position_or_len (λ (x : Joined). letter_for w x == name) xs ≤ length xs
-place_le w name xs = prefix_len-le-length (λ (x : Joined). not (letter_for w x == name)) xs
+pub place_le : (w : Way) (name : List ℕ) (xs : List Joined) → position_or_len (λ (x : Joined). bytes_eq (name_for w x) name) xs ≤ length xs
+place_le w name xs = prefix_len-le-length (λ (x : Joined). not (bytes_eq (name_for w x) name)) xs
 
 abbrev pub test_of : Parameter → Joined → Bool
-test_of p x = letter_for p.way x == p.letter
+test_of p x = bytes_eq (name_for p.way x) p.name
 
 abbrev pub place_of : Plainest → Parameter → ℕ
-place_of c p = position_or_len (λ (x : Joined). letter_for p.way x == p.letter) c.channels
+place_of c p = position_or_len (λ (x : Joined). bytes_eq (name_for p.way x) p.name) c.channels
 
-test_yes : (p : Parameter) (x : Joined) → letter_for p.way x ≡ p.letter → test_of p x ≡ true
-test_yes p x e = grind (arith, nat_tests)
+unequal : (b : Bool) → (b ≡ true → ⊥) → b ≡ false
+unequal true other = absurd (other refl)
+unequal false other = refl
 
-test_no : (p : Parameter) (x : Joined) → letter_for p.way x ≢ p.letter → test_of p x ≡ false
-test_no p x e = grind (arith, nat_tests)
+test_yes : (p : Parameter) (x : Joined) → name_for p.way x ≡ p.name → test_of p x ≡ true
+test_yes p x e = (bytes_eq-Decides (name_for p.way x) p.name).1 e
 
-pub place_is : (c : Plainest) (p : Parameter) (once : IsOnce (λ (x : Joined). letter_for p.way x ≡ p.letter) c.channels) → place_of c p ≡ once.place
+test_no : (p : Parameter) (x : Joined) → name_for p.way x ≢ p.name → test_of p x ≡ false
+test_no p x e = unequal (bytes_eq (name_for p.way x) p.name) (λ t. e ((bytes_eq-Decides (name_for p.way x) p.name).0 t))
+
+pub place_is : (c : Plainest) (p : Parameter) (once : IsOnce (λ (x : Joined). name_for p.way x ≡ p.name) c.channels) → place_of c p ≡ once.place
 place_is c p once =
     position_or_len_is (test_of p) c.channels once.place no_channel (omega (arith, once.in_range))
     (λ k lt.
@@ -120,15 +125,15 @@ place_is c p once =
     omega (arith, lt, e)))
     (λ lt. test_yes p (get_or c.channels once.place no_channel) (once.here (get_or c.channels once.place no_channel) (slice_get-get_or c.channels once.place no_channel lt)))
 
--- Where the channel of a port stands, and that it alone has the port's letter.
+-- Where the channel of a port stands, and that it alone has the port's name.
 pub record IsPlaced (c : Plainest) (p : Parameter) : Type 0 where
   pub in_range : place_of c p < length c.channels
-  pub here : (x : Joined) → slice_get c.channels (place_of c p) ≡ Some x → letter_for p.way x ≡ p.letter
-  pub only : (k : ℕ) (x : Joined) → slice_get c.channels k ≡ Some x → letter_for p.way x ≡ p.letter → k ≡ place_of c p
+  pub here : (x : Joined) → slice_get c.channels (place_of c p) ≡ Some x → name_for p.way x ≡ p.name
+  pub only : (k : ℕ) (x : Joined) → slice_get c.channels k ≡ Some x → name_for p.way x ≡ p.name → k ≡ place_of c p
 
 pub is_placed : (c : Plainest) → IsPlainest c → (i : ℕ) (p : Parameter) → IsParameterAt c i p → IsPlaced c p
 is_placed c plain i p is =
-    let once : IsOnce (λ (x : Joined). letter_for p.way x ≡ p.letter) c.channels = plain.each_port i p is in
+    let once : IsOnce (λ (x : Joined). name_for p.way x ≡ p.name) c.channels = plain.each_port i p is in
     let e : place_of c p ≡ once.place = place_is c p once in
     record {
       in_range = rw e once.in_range;
@@ -154,8 +159,8 @@ ports_apart c plain i j p q p_at q_at ways places =
     let qq : IsPlaced c q = is_placed c plain j q q_at in
     let x : Joined = get_or c.channels (place_of c p) no_channel in
     let at : slice_get c.channels (place_of c p) ≡ Some x = slice_get-get_or c.channels (place_of c p) no_channel pp.in_range in
-    let left : letter_for p.way x ≡ p.letter = pp.here x at in
+    let left : name_for p.way x ≡ p.name = pp.here x at in
     let P : ℕ → Type 0 = λ (n : ℕ). slice_get c.channels n ≡ Some x in
-    let right : letter_for q.way x ≡ q.letter = qq.here x (subst P places at) in
-    let ways_letter : letter_for p.way x ≡ letter_for q.way x = ap (λ (w : Way). letter_for w x) ways in
-    plain.distinct i j p q p_at q_at (sym left ∙ ways_letter ∙ right)
+    let right : name_for q.way x ≡ q.name = qq.here x (subst P places at) in
+    let ways_name : name_for p.way x ≡ name_for q.way x = ap (λ (w : Way). name_for w x) ways in
+    plain.distinct i j p q p_at q_at (sym left ∙ ways_name ∙ right)

@@ -1,6 +1,7 @@
 -- What the plainest circuits are put together to.
-use Rattle.std.specs.Prelude.{ℕ, suc, ◌+◌, ◌==◌, refl, false, None, List, [], ◌∷◌, ◌++◌, length, map}
+use Rattle.std.specs.Prelude.{ℕ, suc, ◌+◌, refl, false, None, List, [], ◌∷◌, ◌++◌, length, map}
 use Rattle.std.specs.List.{position_or_len}
+use Rattle.std.specs.Str.{bytes_eq}
 use Rattle.reo_values.specs.declared.kindred.Kindred.{Kindred}
 use Rattle.reo_values.specs.declared.kindred.Kindred.TheVariants as kinds
 use Rattle.reo_behaviour.specs.declared.joint.Joint.{Joint}
@@ -13,7 +14,7 @@ use Rattle.reo_kinds.specs.declared.kind.Kind.TheVariants.{Writer, Taker, Sync}
 use Rattle.reo_forms.specs.declared.plainest.Parameter.{Parameter}
 use Rattle.reo_forms.specs.declared.plainest.Joined.{Joined}
 use Rattle.reo_forms.specs.declared.plainest.Plainest.{Plainest}
-use Rattle.reo_forms.specs.CircuitForm.{letter_for}
+use Rattle.reo_forms.specs.CircuitForm.{name_for}
 
 -- The type of the items at a port.
 abbrev pub kindred_of : Parameter → Kindred
@@ -30,7 +31,7 @@ primitives_of c = map (λ (p : Parameter). port_kind p.way (kindred_of p)) c.par
 
 -- The first channel that is joined to a port, by its place among the primitives.
 abbrev pub channel_at : Plainest → Parameter → ℕ
-channel_at c p = length c.parameters + position_or_len (λ (x : Joined). letter_for p.way x == p.letter) c.channels
+channel_at c p = length c.parameters + position_or_len (λ (x : Joined). bytes_eq (name_for p.way x) p.name) c.channels
 
 -- The joint of a port's node: from the writer into the channel, or out of the channel to the taker.
 abbrev pub joint_between : Way → ℕ → ℕ → Joint
@@ -48,4 +49,4 @@ circuit_of c = record { primitives = primitives_of c; ports = length c.parameter
 
 -- The ports, as users see them.
 abbrev pub ports_of : Plainest → List Port
-ports_of c = map (λ (p : Parameter). record { name = p.letter ∷ []; way = p.way; kindred = kindred_of p }) c.parameters
+ports_of c = map (λ (p : Parameter). record { name = p.name; way = p.way; kindred = kindred_of p }) c.parameters

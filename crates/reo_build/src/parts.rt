@@ -1,9 +1,10 @@
 //! What a circuit of the form is made from: its primitives and its joints.
-ghost use Rattle.std.specs.Prelude.{◌≡◌, ◌==◌, ◌+◌, ◌<◌, ◌≤◌, ◌^◌, IfOk, length};
+ghost use Rattle.std.specs.Prelude.{◌≡◌, ◌+◌, ◌<◌, ◌≤◌, ◌^◌, IfOk, length};
 ghost use Rattle.std.specs.List.{position_or_len};
+ghost use Rattle.std.specs.Str.{bytes_eq};
 ghost use Rattle.reo_behaviour.specs.Net.{end_of};
 ghost use Rattle.reo_forms.specs.declared.plainest.Joined.{Joined as Channel};
-ghost use Rattle.reo_forms.specs.CircuitForm.{letter_for};
+ghost use Rattle.reo_forms.specs.CircuitForm.{name_for};
 ghost use Rattle.reo_build.specs.Flat.{kindred_of, port_kind, primitives_of, channel_at, joint_between, joints_from};
 
 use reo_behaviour::{End, Joint, Way};
@@ -46,23 +47,23 @@ pub fn primitives(alloc: Global, plainest: &Plainest) -> Result<List<Kind>, NoMe
     Ok(list)
 }
 
-/// The letter at which a channel is joined to a port of this way.
-fn letter(way: Way, channel: &Joined) -> u8
-    ensures { result ≡ letter_for way channel.now }
+/// The name at which a channel is joined to a port of this way.
+fn name_for(way: Way, channel: &Joined) -> &[u8]
+    ensures { result.now ≡ name_for way channel.now }
 {
     match way {
-        Way::In => channel.source,
-        Way::Out => channel.sink,
+        Way::In => channel.source.as_slice(),
+        Way::Out => channel.sink.as_slice(),
     }
 }
 
 /// The first channel that is joined to a port, by its place among all channels.
-fn channel_of(channels: &[Joined], way: Way, name: u8) -> usize
-    ensures { result ≡ position_or_len (λ (x : Channel). letter_for way x == name) channels.now }
+fn channel_of(channels: &[Joined], way: Way, name: &[u8]) -> usize
+    ensures { result ≡ position_or_len (λ (x : Channel). bytes_eq (name_for way x) name.now) channels.now }
 {
     let mut place = 0;
     for channel in channels {
-        if letter(way, channel) == name {
+        if name_for(way, channel) == name {
             return place;
         }
         place += 1;
@@ -103,7 +104,7 @@ pub fn joints(alloc: Global, plainest: &Plainest) -> Result<List<Joint>, NoMemor
     let mut list = List::new(alloc);
     for port in 0..plainest.parameters.len() {
         let parameter = plainest.parameters.at(port);
-        let place = channel_of(channels, parameter.way, parameter.letter);
+        let place = channel_of(channels, parameter.way, parameter.name.as_slice());
         let channel = plainest.parameters.len() + place;
         list.push(joint_between(parameter.way, port, channel))?;
     }

@@ -1,21 +1,12 @@
 //! The ports of a circuit of the form, as users see them.
-ghost use Rattle.std.specs.Prelude.{◌≡◌, [], ◌∷◌, IfOk};
+ghost use Rattle.std.specs.Prelude.{◌≡◌, IfOk};
 ghost use Rattle.reo_build.specs.Flat.{ports_of};
 
 use crate::parts::kindred;
 use reo_behaviour::{Port, Ports};
-use reo_forms::{Parameter, Plainest};
-use reo_values::{Bytes, List, NoMemory};
+use reo_forms::Plainest;
+use reo_values::{List, NoMemory};
 use std::alloc::Global;
-
-/// The name of one letter. `NoMemory` is want of memory.
-fn name(alloc: Global, letter: u8) -> Result<Bytes, NoMemory>
-    ensures { IfOk result (λ name. name ≡ letter ∷ []) }
-{
-    let mut name = Bytes::new(alloc);
-    name.push(letter)?;
-    Ok(name)
-}
 
 /// The ports, in the order of the parameters. `NoMemory` is want of memory.
 pub fn ports(alloc: Global, plainest: &Plainest) -> Result<Ports, NoMemory>
@@ -25,7 +16,7 @@ pub fn ports(alloc: Global, plainest: &Plainest) -> Result<Ports, NoMemory>
     let mut list = List::new(alloc);
     for parameter in parameters {
         list.push(Port {
-            name: name(alloc, parameter.letter)?,
+            name: parameter.name.copy(alloc)?,
             way: parameter.way,
             kindred: kindred(parameter),
         })?;

@@ -1,64 +1,54 @@
 //! The two circuits that are worked out by hand: their primitives, joints and ports.
-ghost use Rattle.std.specs.Prelude.{◌≡◌, IfOk, pos, negsuc};
-ghost use Rattle.reo_forms.specs.CircuitForm.{IsPlainest};
-
 use crate::{Flat, build};
 use reo_behaviour::{Joint, Port, Way};
-use reo_forms::{Joined, Parameter, Plainest};
+use reo_forms::{Joined, Parameter, Plainest, is_plainest};
 use reo_kinds::Kind;
-use reo_values::{Kindred, List};
-use std::alloc::{AllocError, Global};
+use reo_values::{Bytes, Kindred, List, NoMemory};
+use std::alloc::Global;
 use std::test::Fail;
 
-fn parameter(way: Way, letter: u8) -> Parameter
-    ensures { result ≡ record { way = way; letter = letter; low = negsuc 4; high = pos 5 } }
-{
-    Parameter {
+fn parameter(alloc: Global, way: Way, name: &[u8]) -> Result<Parameter, NoMemory> {
+    Ok(Parameter {
         way,
-        letter,
+        name: Bytes::from_slice(alloc, name)?,
         low: -5,
         high: 5,
-    }
-}
-
-/// `connector main(in a: int -5..5, out b: int -5..5) { sync a b; }`
-fn two_ports(alloc: Global) -> Result<Plainest, AllocError>
-    ensures { IfOk result (λ plainest. IsPlainest plainest) }
-{
-    let parameters = vec![in alloc; parameter(Way::In, b'a'), parameter(Way::Out, b'b')]?;
-    let channels = vec![in alloc;
-        Joined {
-            source: b'a',
-            sink: b'b'
-        },
-    ]?;
-    Ok(Plainest {
-        parameters: List::from_vec(parameters),
-        channels: List::from_vec(channels),
     })
 }
 
-/// `connector main(out d: int -5..5, in a: int -5..5, in b: int -5..5, out c: int -5..5) { sync b c; sync a d; }`
-fn four_ports(alloc: Global) -> Result<Plainest, AllocError>
-    ensures { IfOk result (λ plainest. IsPlainest plainest) }
-{
-    let first = parameter(Way::Out, b'd');
-    let second = parameter(Way::In, b'a');
-    let third = parameter(Way::In, b'b');
-    let fourth = parameter(Way::Out, b'c');
-    let parameters = vec![in alloc; first, second, third, fourth]?;
-    let one = Joined {
-        source: b'b',
-        sink: b'c',
-    };
-    let other = Joined {
-        source: b'a',
-        sink: b'd',
-    };
-    let channels = vec![in alloc; one, other]?;
+fn joined(alloc: Global, source: &[u8], sink: &[u8]) -> Result<Joined, NoMemory> {
+    Ok(Joined {
+        source: Bytes::from_slice(alloc, source)?,
+        sink: Bytes::from_slice(alloc, sink)?,
+    })
+}
+
+/// `connector main(in a: int -5..5, out ab: int -5..5) { sync a ab; }`
+fn two_ports(alloc: Global) -> Result<Plainest, NoMemory> {
+    let mut parameters = List::new(alloc);
+    parameters.push(parameter(alloc, Way::In, b"a")?)?;
+    parameters.push(parameter(alloc, Way::Out, b"ab")?)?;
+    let mut channels = List::new(alloc);
+    channels.push(joined(alloc, b"a", b"ab")?)?;
     Ok(Plainest {
-        parameters: List::from_vec(parameters),
-        channels: List::from_vec(channels),
+        parameters,
+        channels,
+    })
+}
+
+/// `connector main(out d: int -5..5, in a: int -5..5, in a1: int -5..5, out c: int -5..5) { sync a1 c; sync a d; }`
+fn four_ports(alloc: Global) -> Result<Plainest, NoMemory> {
+    let mut parameters = List::new(alloc);
+    parameters.push(parameter(alloc, Way::Out, b"d")?)?;
+    parameters.push(parameter(alloc, Way::In, b"a")?)?;
+    parameters.push(parameter(alloc, Way::In, b"a1")?)?;
+    parameters.push(parameter(alloc, Way::Out, b"c")?)?;
+    let mut channels = List::new(alloc);
+    channels.push(joined(alloc, b"a1", b"c")?)?;
+    channels.push(joined(alloc, b"a", b"d")?)?;
+    Ok(Plainest {
+        parameters,
+        channels,
     })
 }
 
@@ -112,12 +102,11 @@ fn are_joints(joints: &[Joint], ends: &[[usize; 4]]) -> bool {
 }
 
 /// A port by its name and its way.
-fn is_port(port: &Port, name: u8, way: Way) -> bool {
-    let names = port.name.as_slice();
-    names.len() == 1 && names[0] == name && port.way == way && is_narrow(&port.kindred)
+fn is_port(port: &Port, name: &[u8], way: Way) -> bool {
+    port.name.as_slice() == name && port.way == way && is_narrow(&port.kindred)
 }
 
-fn are_ports(ports: &[Port], wanted: &[(u8, Way)]) -> bool {
+fn are_ports(ports: &[Port], wanted: &[(&[u8], Way)]) -> bool {
     ports.len() == wanted.len()
         && ports
             .iter()
@@ -131,7 +120,7 @@ fn is_two(flat: &Flat) -> bool {
         && are_joints(flat.circuit.joints(), &[[0, 0, 2, 0], [2, 1, 1, 0]])
         && are_ports(
             flat.ports.list.as_slice(),
-            &[(b'a', Way::In), (b'b', Way::Out)],
+            &[(b"a".as_slice(), Way::In), (b"ab".as_slice(), Way::Out)],
         )
 }
 
@@ -145,24 +134,22 @@ fn is_four(flat: &Flat) -> bool {
         && are_ports(
             flat.ports.list.as_slice(),
             &[
-                (b'd', Way::Out),
-                (b'a', Way::In),
-                (b'b', Way::In),
-                (b'c', Way::Out),
+                (b"d".as_slice(), Way::Out),
+                (b"a".as_slice(), Way::In),
+                (b"a1".as_slice(), Way::In),
+                (b"c".as_slice(), Way::Out),
             ],
         )
 }
 
 fn two_is_right(alloc: Global) -> Result<bool, Fail> {
     let plainest = two_ports(alloc)?;
-    let flat = build(alloc, &plainest)?;
-    Ok(is_two(&flat))
+    Ok(is_plainest(&plainest) && is_two(&build(alloc, &plainest)?))
 }
 
 fn four_is_right(alloc: Global) -> Result<bool, Fail> {
     let plainest = four_ports(alloc)?;
-    let flat = build(alloc, &plainest)?;
-    Ok(is_four(&flat))
+    Ok(is_plainest(&plainest) && is_four(&build(alloc, &plainest)?))
 }
 
 #[test]

@@ -1,5 +1,5 @@
 -- How the texts of actions and components are put together.
-use Rattle.std.proofs.Common.{◌≡◌, ◌∙◌, ℕ, ℤ, zero, suc, true, false, List, [], ◌∷◌, ◌++◌, codes, Some, refl, sym, ap, inl, inr, append_assoc, append-nil}
+use Rattle.std.proofs.Common.{◌≡◌, ◌∙◌, ℕ, ℤ, suc, true, false, List, [], ◌∷◌, ◌++◌, codes, Option, Some, refl, sym, ap, inl, inr, append_assoc, append-nil}
 use Rattle.std.specs.Prelude.{slice_get}
 use Rattle.std.specs.List.{flat_map}
 use denote.Hole.Carrier.{hidden}
@@ -13,18 +13,21 @@ use Rattle.reo_script.specs.declared.script.Action.{Action}
 use Rattle.reo_script.specs.declared.script.Action.TheVariants.{Write, Take}
 use Rattle.reo_script.specs.declared.script.Component.{Component}
 use Rattle.reo_forms.specs.declared.plainest.Parameter.{Parameter}
-use Rattle.reo_forms.specs.ScriptForm.{letter_at, item_at_text, action_text, component_text, script_text, IsPortAction, IsPlainScript, IsScriptText}
+use Rattle.reo_forms.specs.ScriptForm.{name_text, item_at_text, action_text, component_text, script_text, IsPortAction, IsPlainScript, IsScriptText}
 use Rattle.reo_forms.specs.Components.{IsPlainComponent}
 use Rattle.reo_forms.specs.Reading.{goes_on, Each}
 
-pub letter_of : (ps : List Parameter) (i : ℕ) (p : Parameter) → slice_get ps i ≡ Some p → letter_at ps i ≡ p.letter
-letter_of [] i p h = absurd (cc)
-letter_of (q ∷ ps) zero p h = let same : q ≡ p = cc in ap (λ (x : Parameter). x.letter) same
-letter_of (q ∷ ps) (suc i) p h = letter_of ps i p h
+pub write_parts : (ps : List Parameter) (port : ℕ) (p : Parameter) (item : Value) (rest : List ℕ) → slice_get ps port ≡ Some p → action_text ps (Write port item) ++ rest
+    ≡ codes "write " ++ (p.name ++ (codes " " ++ (text_of item (kinds.Int p.low p.high) ++ (codes "; " ++ rest))))
+write_parts ps port p item rest at_port =
+    let text = text_of item (kinds.Int p.low p.high) in
+    ap (λ (o : Option Parameter). (codes "write " ++ (name_text o ++ (codes " " ++ (item_at_text o item ++ codes "; ")))) ++ rest) at_port
+    ∙ ap (λ l. codes "write " ++ l) (append_assoc p.name (codes " " ++ (text ++ codes "; ")) rest ∙ ap (λ l. p.name ++ (codes " " ++ l)) (append_assoc text (codes "; ") rest))
 
-pub write_parts : (ps : List Parameter) (port : ℕ) (item : Value) (rest : List ℕ) → action_text ps (Write port item) ++ rest
-    ≡ codes "write " ++ (letter_at ps port ∷ 32 ∷ (item_at_text (slice_get ps port) item ++ (codes "; " ++ rest)))
-write_parts ps port item rest = ap (λ l. codes "write " ++ (letter_at ps port ∷ 32 ∷ l)) (append_assoc (item_at_text (slice_get ps port) item) (codes "; ") rest)
+pub take_parts : (ps : List Parameter) (port : ℕ) (p : Parameter) (rest : List ℕ) → slice_get ps port ≡ Some p → action_text ps (Take port) ++ rest
+    ≡ codes "take " ++ (p.name ++ (codes "; " ++ rest))
+take_parts ps port p rest at_port =
+    ap (λ (o : Option Parameter). (codes "take " ++ (name_text o ++ codes "; ")) ++ rest) at_port ∙ ap (λ l. codes "take " ++ l) (append_assoc p.name (codes "; ") rest)
 
 pub component_parts : (ps : List Parameter) (c : Component) (rest : List ℕ) → component_text ps c ++ rest
     ≡ codes "component " ++ (c.name ++ (codes " { " ++ (flat_map (action_text ps) c.actions ++ (codes "}" ++ rest))))

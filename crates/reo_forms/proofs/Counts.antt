@@ -2,6 +2,8 @@
 use Rattle.std.proofs.Common.{◌≡◌, ◌∙◌, ◌<◌, ◌+◌, ◌==◌, ◌⊎◌, inl, inr, ℕ, zero, suc, Bool, true, false, List, [], ◌∷◌, Some, length, refl, sym, ap, arith}
 use Rattle.std.specs.Prelude.{slice_get, cond, count_by}
 use Rattle.std.proofs.lemmas.List.Sums.{sum_by-cons}
+use Rattle.std.specs.Str.{bytes_eq}
+use Rattle.std.proofs.lemmas.Slice.Eq.{bytes_eq-Decides}
 use Rattle.reo_forms.specs.Listed.{IsOnce}
 
 true_or : (b : Bool) → (b ≡ true) ⊎ (b ≡ false)
@@ -90,6 +92,12 @@ once_as P Q xs to from once = record {
 
 pub equal_tested : (a b : ℕ) → (a == b) ≡ true → a ≡ b
 equal_tested a b e = grind arith
+
+pub bytes_tested : (a b : List ℕ) → bytes_eq a b ≡ true → a ≡ b
+bytes_tested a b e = (bytes_eq-Decides a b).0 e
+
+pub test_bytes : (a b : List ℕ) → a ≡ b → bytes_eq a b ≡ true
+test_bytes a b e = (bytes_eq-Decides a b).1 e
 
 pub test_equal : (a b : ℕ) → a ≡ b → (a == b) ≡ true
 test_equal a b e = grind arith

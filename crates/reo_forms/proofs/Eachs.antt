@@ -38,6 +38,13 @@ before_more Good xs n d below here i x h is =
       | inr same ↦ subst Good (ap (λ k. get_or xs k d) (sym same) ∙ get_is xs i x d is) here
     ]
 
+-- What a loop reads at a place stands there.
+pub item_is : {X : Type 0} (xs : List X) (i : ℕ) (x : X) → i < length xs → x ≡ get_or xs i x → slice_get xs i ≡ Some x
+item_is xs i x h e = get_at xs i x h ∙ ap Some (sym e)
+
+pub before_item : {X : Type 0} (Good : X → Type 0) (xs : List X) (n : ℕ) (x : X) → Before Good xs n → x ≡ get_or xs n x → Good x → Before Good xs (n + 1)
+before_item Good xs n x below e here = before_more Good xs n x below (subst Good e here)
+
 -- What was read at a place stands there.
 less_tested : (a b : ℕ) → true ≡ nat_lt a b → a < b
 less_tested a b e = grind arith

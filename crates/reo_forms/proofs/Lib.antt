@@ -1,11 +1,12 @@
 pub mod Numerals
-pub mod Parts
+pub mod Optional
 pub mod Rows
 pub mod Eachs
 pub mod Ports
 pub mod Counts
 pub mod Actions
 pub mod Apart
-pub mod CircuitTells
 pub mod RowTells
 pub mod ScriptTells
+pub mod Shapes
+pub mod WordTells

@@ -1,4 +1,4 @@
--- Parameters of one type and of different letters, and channels that are joined once.
+-- Parameters of one type and of different names, and channels that are joined once.
 use Rattle.std.proofs.Common.{◌≡◌, ◌≢◌, ◌∙◌, ◌<◌, ◌⊎◌, inl, inr, ℕ, List, [], ◌∷◌, Some, length, refl, sym, arith}
 use Rattle.std.specs.Prelude.{slice_get}
 use Rattle.reo_forms.specs.declared.plainest.Parameter.{Parameter}
@@ -19,9 +19,9 @@ one_type (f ∷ ps) like i j p q at_i at_j =
 pub like_first : (ps : List Parameter) → HaveOneType ps → Each (IsLikeFirst ps) ps
 like_first ps same i p at_i q at_0 = same i 0 p q at_i at_0
 
--- Different letters before a place.
+-- Different names before a place.
 abbrev pub AreDifferentBefore : List Parameter → ℕ → Type 0
-AreDifferentBefore ps n = (i j : ℕ) (p q : Parameter) → i < j → j < n → slice_get ps i ≡ Some p → slice_get ps j ≡ Some q → p.letter ≢ q.letter
+AreDifferentBefore ps n = (i j : ℕ) (p q : Parameter) → i < j → j < n → slice_get ps i ≡ Some p → slice_get ps j ≡ Some q → p.name ≢ q.name
 
 pub order : (i j : ℕ) → (i ≡ j) ⊎ (i < j) ⊎ (j < i)
 order i j = grind arith

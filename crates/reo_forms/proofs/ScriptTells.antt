@@ -13,17 +13,14 @@ use Rattle.reo_script.specs.declared.script.Action.TheVariants.{Write, Take}
 use Rattle.reo_script.specs.declared.script.Component.{Component}
 use Rattle.reo_forms.specs.declared.plainest.Parameter.{Parameter}
 use Rattle.reo_forms.specs.CircuitForm.{IsParameter}
-use Rattle.reo_forms.specs.ScriptForm.{letter_at, item_at_text, action_text, component_text, IsPortAction, SaysScript}
+use Rattle.reo_forms.specs.ScriptForm.{action_text, component_text, IsPortAction, SaysScript}
 use Rattle.reo_forms.specs.Components.{IsPlainComponent}
 use Rattle.reo_forms.specs.Reading.{Ends, Each, AreDifferent}
-use Rattle.reo_forms.proofs.Parts.{ends_at}
+use Rattle.reo_forms.proofs.Numerals.{space_ends, semicolon_ends}
 use Rattle.reo_forms.proofs.Eachs.{one_at}
-use Rattle.reo_forms.proofs.Actions.{letter_of, write_parts, component_parts, action_goes, script_front, plain_components}
+use Rattle.reo_forms.proofs.Actions.{write_parts, take_parts, component_parts, action_goes, script_front, plain_components}
 use Rattle.reo_forms.proofs.RowTells.{Tells, row_tells, listed_tells}
-use Rattle.reo_forms.proofs.CircuitTells.{number_tells, low_fits, high_fits}
-
-semicolon_ends : (rest : List ℕ) → Ends (59 ∷ rest)
-semicolon_ends rest = ends_at 59 rest (λ e. absurd (cc)) (λ a b. absurd (omega arith))
+use Rattle.reo_forms.proofs.WordTells.{name_tells, number_tells, low_fits, high_fits}
 
 -- The text of an item tells the item.
 item_tells : (p : Parameter) (x y : Value) (r s : List ℕ) → IsParameter p → IsIn x (kinds.Int p.low p.high) → IsIn y (kinds.Int p.low p.high) → Ends r → Ends s
@@ -38,28 +35,36 @@ item_tells p x y r s good in_x in_y ends_r ends_s e =
     (m.1 ∙ ap values.Int same.0 ∙ sym n.1, same.1)
 
 module _ (ps : List Parameter) (different : AreDifferent ps) (each : Each IsParameter ps) where
-  -- The letter of a port tells the port.
-  port_tells : (i j : ℕ) (p q : Parameter) → slice_get ps i ≡ Some p → slice_get ps j ≡ Some q → letter_at ps i ≡ letter_at ps j → i ≡ j
-  port_tells i j p q at_i at_j same = different i j p q at_i at_j (sym (letter_of ps i p at_i) ∙ same ∙ letter_of ps j q at_j)
+  -- The name of a port tells the port, and what comes after it.
+  port_tells : (i j : ℕ) (p q : Parameter) (r s : List ℕ) → slice_get ps i ≡ Some p → slice_get ps j ≡ Some q → Ends r → Ends s → p.name ++ r ≡ q.name ++ s → (i ≡ j) × (r ≡ s)
+  port_tells i j p q r s at_i at_j ends_r ends_s e =
+      let same = name_tells p.name q.name r s (each i p at_i).name (each j q at_j).name ends_r ends_s e in
+      (different i j p q at_i at_j same.0, same.1)
 
   write_tells : (i j : ℕ) (x y : Value) (r s : List ℕ) → IsPortAction ps (Write i x) → IsPortAction ps (Write j y)
       → action_text ps (Write i x) ++ r ≡ action_text ps (Write j y) ++ s → (Write i x ≡ Write j y) × (r ≡ s)
   write_tells i j x y r s good_x good_y e =
-      let whole = sym (write_parts ps i x r) ∙ e ∙ write_parts ps j y s in
-      let port = port_tells i j good_x.0 good_y.0 good_x.1 good_y.1 (ap (λ l. slice_index l 6) whole) in
-      let one = one_at ps j good_x.0 good_y.0 (ap (slice_get ps) (sym port) ∙ good_x.1) good_y.1 in
-      let texts = sym (ap (λ o. item_at_text o x ++ (codes "; " ++ r)) good_x.1) ∙ ap (λ l. drop 8 l) whole ∙ ap (λ o. item_at_text o y ++ (codes "; " ++ s)) good_y.1 in
+      let p = good_x.0 in
+      let q = good_y.0 in
+      let rest_x = text_of x (kinds.Int p.low p.high) ++ (codes "; " ++ r) in
+      let rest_y = text_of y (kinds.Int q.low q.high) ++ (codes "; " ++ s) in
+      let whole = sym (write_parts ps i p x r good_x.1) ∙ e ∙ write_parts ps j q y s good_y.1 in
+      let port = port_tells i j p q (codes " " ++ rest_x) (codes " " ++ rest_y) good_x.1 good_y.1 (space_ends rest_x) (space_ends rest_y) (ap (λ l. drop 6 l) whole) in
+      let one = one_at ps j p q (ap (slice_get ps) (sym port.0) ∙ good_x.1) good_y.1 in
+      let texts = ap (λ l. drop 1 l) port.1 in
       let in_y = subst (λ (p : Parameter). IsIn y (kinds.Int p.low p.high)) (sym one) good_y.3 in
       let same = item_tells good_x.0 x y (codes "; " ++ r) (codes "; " ++ s) (each i good_x.0 good_x.1) good_x.3 in_y (semicolon_ends (32 ∷ r)) (semicolon_ends (32 ∷ s))
       (texts ∙ ap (λ (p : Parameter). text_of y (kinds.Int p.low p.high) ++ (codes "; " ++ s)) (sym one)) in
-      ((λ k. Write (port k) (same.0 k)), ap (λ l. drop 2 l) same.1)
+      ((λ k. Write (port.0 k) (same.0 k)), ap (λ l. drop 2 l) same.1)
 
   action_tells : Tells (IsPortAction ps) (λ (rest : List ℕ). Unit {0}) (action_text ps)
   action_tells (Write i x) (Write j y) r s good_x good_y ends_r ends_s e = write_tells i j x y r s good_x good_y e
   action_tells (Write i x) (Take j) r s good_x good_y ends_r ends_s e = absurd (let head : 119 ≡ 116 = ap (λ l. slice_index l 0) e in omega (arith, head))
   action_tells (Take i) (Write j y) r s good_x good_y ends_r ends_s e = absurd (let head : 116 ≡ 119 = ap (λ l. slice_index l 0) e in omega (arith, head))
   action_tells (Take i) (Take j) r s good_x good_y ends_r ends_s e =
-      (ap Take (port_tells i j good_x.0 good_y.0 good_x.1 good_y.1 (ap (λ l. slice_index l 5) e)), ap (λ l. drop 8 l) e)
+      let whole = sym (take_parts ps i good_x.0 r good_x.1) ∙ e ∙ take_parts ps j good_y.0 s good_y.1 in
+      let port = port_tells i j good_x.0 good_y.0 (codes "; " ++ r) (codes "; " ++ s) good_x.1 good_y.1 (semicolon_ends (32 ∷ r)) (semicolon_ends (32 ∷ s)) (ap (λ l. drop 5 l) whole) in
+      (ap Take port.0, ap (λ l. drop 2 l) port.1)
 
   component_tells : Tells (IsPlainComponent ps) (λ (rest : List ℕ). Unit {0}) (component_text ps)
   component_tells c d r s good_c good_d ends_r ends_s e =

@@ -1,56 +1,36 @@
--- The plainest circuits, and their texts.
-use Rattle.std.specs.Prelude.{ℕ, pos, neg_ℤ, ◌≤◌, ◌≤ℤ◌, ◌≡◌, ◌^◌, List, ◌∷◌, ◌++◌, codes, length, slice_get, Some}
-use Rattle.std.specs.List.{flat_map}
-use Rattle.std.specs.Fmt.{signed_decimal}
+-- The plainest circuits.
+use Rattle.std.specs.Prelude.{ℕ, pos, neg_ℤ, ◌≤◌, ◌≤ℤ◌, ◌≡◌, ◌^◌, List, length, slice_get, Some}
 use Rattle.reo_behaviour.specs.declared.port.Way.{Way}
 use Rattle.reo_behaviour.specs.declared.port.Way.TheVariants.{In, Out}
 use Rattle.reo_forms.specs.declared.plainest.Parameter.{Parameter}
 use Rattle.reo_forms.specs.declared.plainest.Joined.{Joined}
 use Rattle.reo_forms.specs.declared.plainest.Plainest.{Plainest}
-use Rattle.reo_forms.specs.Listed.{listed, IsLetter, IsText, IsOnce}
+use Rattle.reo_values.specs.Valid.{IsName}
+use Rattle.reo_forms.specs.Listed.{IsOnce}
 
-abbrev pub way_text : Way → List ℕ
-way_text In = codes "in "
-way_text Out = codes "out "
-
-abbrev pub parameter_text : Parameter → List ℕ
-parameter_text p = way_text p.way ++ (p.letter ∷ (codes ": int " ++ (signed_decimal p.low ++ (codes ".." ++ signed_decimal p.high))))
-
-abbrev pub channel_text : Joined → List ℕ
-channel_text c = codes "sync " ++ (c.source ∷ 32 ∷ c.sink ∷ codes "; ")
-
--- The text of a circuit: its parameters with a comma and a space between, and its channels.
-abbrev pub circuit_text : Plainest → List ℕ
-circuit_text c = codes "connector main(" ++ (listed (codes ", ") parameter_text c.parameters ++ (codes ") { " ++ (flat_map channel_text c.channels ++ codes "}")))
-
--- A parameter with a letter for its name, and bounds in order that are not too great.
+-- A parameter whose name is a name of the language, and whose bounds are in order, each from -10^9 to 10^9.
 pub record IsParameter (p : Parameter) : Type 0 where
-  pub letter : IsLetter p.letter
+  pub name : IsName p.name
   pub least : neg_ℤ (pos (10 ^ 9)) ≤ℤ p.low
   pub most : p.high ≤ℤ pos (10 ^ 9)
   pub ordered : p.low ≤ℤ p.high
 
--- The letter at which a channel is joined to a port of this way.
-abbrev pub letter_for : Way → Joined → ℕ
-letter_for In c = c.source
-letter_for Out c = c.sink
+-- The name at which a channel is joined to a port of this way.
+abbrev pub name_for : Way → Joined → List ℕ
+name_for In c = c.source
+name_for Out c = c.sink
 
 abbrev pub IsParameterAt : Plainest → ℕ → Parameter → Type 0
 IsParameterAt c i p = slice_get c.parameters i ≡ Some p
 
--- A circuit of the form: its parameters have different letters and one type, and there are one to four channels;
--- each `in` letter is the source of exactly one of them, each `out` letter the sink of exactly one, and no other letter stands in a channel.
+-- A circuit of the form: its parameters have different names and one type, and there are one to four channels;
+-- each `in` name is the source of exactly one of them, each `out` name the sink of exactly one, and no other name stands in a channel.
 pub record IsPlainest (c : Plainest) : Type 0 where
   pub parameters : (i : ℕ) (p : Parameter) → IsParameterAt c i p → IsParameter p
   pub one_type : (i j : ℕ) (p q : Parameter) → IsParameterAt c i p → IsParameterAt c j q → (p.low ≡ q.low) × (p.high ≡ q.high)
-  pub distinct : (i j : ℕ) (p q : Parameter) → IsParameterAt c i p → IsParameterAt c j q → p.letter ≡ q.letter → i ≡ j
+  pub distinct : (i j : ℕ) (p q : Parameter) → IsParameterAt c i p → IsParameterAt c j q → p.name ≡ q.name → i ≡ j
   pub some_channel : 1 ≤ length c.channels
   pub few_channels : length c.channels ≤ 4
-  pub each_port : (i : ℕ) (p : Parameter) → IsParameterAt c i p → IsOnce (λ (x : Joined). letter_for p.way x ≡ p.letter) c.channels
-  pub each_source : (k : ℕ) (x : Joined) → slice_get c.channels k ≡ Some x → (i : ℕ) × (p : Parameter) × IsParameterAt c i p × (p.way ≡ In) × (p.letter ≡ x.source)
-  pub each_sink : (k : ℕ) (x : Joined) → slice_get c.channels k ≡ Some x → (i : ℕ) × (p : Parameter) × IsParameterAt c i p × (p.way ≡ Out) × (p.letter ≡ x.sink)
-
--- The text has the form, and says this circuit.
-pub record SaysCircuit (text : List ℕ) (c : Plainest) : Type 0 where
-  pub plainest : IsPlainest c
-  pub text_is : IsText text (circuit_text c)
+  pub each_port : (i : ℕ) (p : Parameter) → IsParameterAt c i p → IsOnce (λ (x : Joined). name_for p.way x ≡ p.name) c.channels
+  pub each_source : (k : ℕ) (x : Joined) → slice_get c.channels k ≡ Some x → (i : ℕ) × (p : Parameter) × IsParameterAt c i p × (p.way ≡ In) × (p.name ≡ x.source)
+  pub each_sink : (k : ℕ) (x : Joined) → slice_get c.channels k ≡ Some x → (i : ℕ) × (p : Parameter) × IsParameterAt c i p × (p.way ≡ Out) × (p.name ≡ x.sink)

@@ -3,3 +3,4 @@ pub mod Components
 pub mod Listed
 pub mod Reading
 pub mod ScriptForm
+pub mod Shape

@@ -1,5 +1,5 @@
 -- The plainest scripts, and their texts.
-use Rattle.std.specs.Prelude.{ℕ, ◌≡◌, List, [], ◌∷◌, ◌++◌, codes, map, slice_index, slice_get, Some, Option, None}
+use Rattle.std.specs.Prelude.{ℕ, ◌≡◌, List, [], ◌∷◌, ◌++◌, codes, slice_get, Some, Option, None}
 use Rattle.std.specs.List.{flat_map}
 use Rattle.reo_values.specs.declared.value.Value.{Value}
 use Rattle.reo_values.specs.declared.kindred.Kindred.TheVariants as kinds
@@ -13,9 +13,10 @@ use Rattle.reo_script.specs.Actions.{AreApart}
 use Rattle.reo_forms.specs.declared.plainest.Parameter.{Parameter}
 use Rattle.reo_forms.specs.Listed.{listed, IsLetter, IsText}
 
--- The letter of a port.
-abbrev pub letter_at : List Parameter → ℕ → ℕ
-letter_at parameters port = slice_index (map (λ (p : Parameter). p.letter) parameters) port
+-- The name of a port.
+abbrev pub name_text : Option Parameter → List ℕ
+name_text None = []
+name_text (Some p) = p.name
 
 -- The text of an item at a port.
 abbrev pub item_at_text : Option Parameter → Value → List ℕ
@@ -23,8 +24,8 @@ item_at_text None item = []
 item_at_text (Some p) item = text_of item (kinds.Int p.low p.high)
 
 abbrev pub action_text : List Parameter → Action → List ℕ
-action_text parameters (Write port item) = codes "write " ++ (letter_at parameters port ∷ 32 ∷ (item_at_text (slice_get parameters port) item ++ codes "; "))
-action_text parameters (Take port) = codes "take " ++ (letter_at parameters port ∷ codes "; ")
+action_text parameters (Write port item) = codes "write " ++ (name_text (slice_get parameters port) ++ (codes " " ++ (item_at_text (slice_get parameters port) item ++ codes "; ")))
+action_text parameters (Take port) = codes "take " ++ (name_text (slice_get parameters port) ++ codes "; ")
 
 abbrev pub component_text : List Parameter → Component → List ℕ
 component_text parameters c = codes "component " ++ (c.name ++ (codes " { " ++ (flat_map (action_text parameters) c.actions ++ codes "}")))

@@ -1,17 +1,19 @@
-//! Laws of the two forms.
+//! Laws of shapes and of scripts.
 ghost use Rattle.std.specs.Prelude.{◌≡◌};
-ghost use Rattle.reo_forms.specs.CircuitForm.{IsParameter, SaysCircuit};
+ghost use Rattle.reo_forms.specs.CircuitForm.{IsParameter};
 ghost use Rattle.reo_forms.specs.ScriptForm.{SaysScript};
 ghost use Rattle.reo_forms.specs.Reading.{Each, AreDifferent};
+ghost use Rattle.reo_forms.specs.Shape.{HasShape};
 
 use crate::{Parameter, Plainest};
 use reo_script::Script;
+use reo_trees::Program;
 use reo_values::List;
 
-/// A text says at most one circuit.
-pub fn one_circuit(text: &[u8], a: &Plainest, b: &Plainest)
-    requires a_said { SaysCircuit text.now a.now }
-    requires b_said { SaysCircuit text.now b.now }
+/// A program has the shape of at most one circuit.
+pub fn one_shape(program: &Program, a: &Plainest, b: &Plainest)
+    requires a_has { HasShape program.now a.now }
+    requires b_has { HasShape program.now b.now }
     ensures { a.now ≡ b.now }
 {}
 

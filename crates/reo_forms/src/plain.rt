@@ -1,27 +1,24 @@
-//! Whether what was read is a circuit of the form.
-ghost use Rattle.std.specs.Prelude.{◌≡◌, ◌≤◌, ◌<◌, ◌↔◌, ℕ, IsTrue, length, slice_get, Some, count_by, ◌==◌};
+//! Whether parameters and channels are a circuit of the form.
+ghost use Rattle.std.specs.Prelude.{◌≡◌, ◌≤◌, ◌<◌, ◌↔◌, ℕ, IsTrue, length, slice_get, Some, count_by};
+ghost use Rattle.std.specs.Str.{bytes_eq};
 ghost use Rattle.reo_behaviour.specs.declared.port.Way.TheVariants.{In, Out};
 ghost use Rattle.reo_forms.specs.declared.plainest.Parameter.{Parameter as Port};
 ghost use Rattle.reo_forms.specs.declared.plainest.Joined.{Joined as Channel};
-ghost use Rattle.reo_forms.specs.CircuitForm.{letter_for, IsParameter, IsPlainest};
-ghost use Rattle.reo_forms.specs.Listed.{IsLetter, IsOnce};
+ghost use Rattle.reo_forms.specs.CircuitForm.{name_for, IsParameter, IsPlainest};
+ghost use Rattle.reo_forms.specs.Listed.{IsOnce};
 ghost use Rattle.reo_forms.specs.Reading.{Each, AreDifferent, HaveOneType, IsNamed};
 
-use crate::circuit::MOST;
 use crate::{Joined, Parameter, Plainest};
 use reo_behaviour::Way;
+use reo_values::is_name;
 
-/// Whether a byte is a lower-case letter.
-pub fn is_letter(byte: u8) -> bool
-    ensures { IsTrue result ↔ IsLetter byte }
-{
-    b'a' <= byte && byte <= b'z'
-}
+/// The greatest bound of a type.
+const MOST: i64 = 1_000_000_000;
 
 fn is_parameter(parameter: &Parameter) -> bool
     ensures { IsTrue result ↔ IsParameter parameter.now }
 {
-    is_letter(parameter.letter)
+    is_name(parameter.name.as_slice())
         && -MOST <= parameter.low
         && parameter.high <= MOST
         && parameter.low <= parameter.high
@@ -49,13 +46,13 @@ fn have_one_type(parameters: &[Parameter]) -> bool
     true
 }
 
-// Whether a parameter of this letter stands before a place.
-fn is_before(parameters: &[Parameter], place: usize, letter: u8) -> bool
+// Whether a parameter of this name stands before a place.
+fn is_before(parameters: &[Parameter], place: usize, name: &[u8]) -> bool
     requires { place ≤ length parameters.now }
-    ensures { IsTrue result ↔ ((i : ℕ) × (p : Port) × (i < place) × (slice_get parameters.now i ≡ Some p) × (p.letter ≡ letter)) }
+    ensures { IsTrue result ↔ ((i : ℕ) × (p : Port) × (i < place) × (slice_get parameters.now i ≡ Some p) × (p.name ≡ name.now)) }
 {
     for i in 0..place {
-        if parameters[i].letter == letter {
+        if parameters[i].name.as_slice() == name {
             return true;
         }
     }
@@ -66,57 +63,57 @@ fn are_different(parameters: &[Parameter]) -> bool
     ensures { IsTrue result ↔ AreDifferent parameters.now }
 {
     for (place, parameter) in parameters.iter().enumerate() {
-        if is_before(parameters, place, parameter.letter) {
+        if is_before(parameters, place, parameter.name.as_slice()) {
             return false;
         }
     }
     true
 }
 
-// Whether this is the letter of a parameter of this way.
-fn is_named(parameters: &[Parameter], way: Way, letter: u8) -> bool
-    ensures { IsTrue result ↔ IsNamed parameters.now way letter }
+// Whether this is the name of a parameter of this way.
+fn is_named(parameters: &[Parameter], way: Way, name: &[u8]) -> bool
+    ensures { IsTrue result ↔ IsNamed parameters.now way name.now }
 {
     for parameter in parameters {
-        if parameter.way == way && parameter.letter == letter {
+        if parameter.way == way && parameter.name.as_slice() == name {
             return true;
         }
     }
     false
 }
 
-// The letter at which a channel is joined to a port of this way.
-fn letter_for(way: Way, channel: &Joined) -> u8
-    ensures { result ≡ letter_for way channel.now }
+// The name at which a channel is joined to a port of this way.
+fn name_for(way: Way, channel: &Joined) -> &[u8]
+    ensures { result.now ≡ name_for way channel.now }
 {
     match way {
-        Way::In => channel.source,
-        Way::Out => channel.sink,
+        Way::In => channel.source.as_slice(),
+        Way::Out => channel.sink.as_slice(),
     }
 }
 
 // How many channels are joined to the port.
-fn count_joined(channels: &[Joined], way: Way, letter: u8) -> usize
-    ensures { result ≡ count_by (λ (x : Channel). letter_for way x == letter) channels.now }
+fn count_joined(channels: &[Joined], way: Way, name: &[u8]) -> usize
+    ensures { result ≡ count_by (λ (x : Channel). bytes_eq (name_for way x) name.now) channels.now }
 {
     channels
         .iter()
-        .filter(|channel| letter_for(way, channel) == letter)
+        .filter(|channel| name_for(way, channel) == name)
         .count()
 }
 
 // Whether exactly one channel is joined to the port.
-fn is_once(channels: &[Joined], way: Way, letter: u8) -> bool
-    ensures { IsTrue result ↔ IsOnce (λ (x : Channel). letter_for way x ≡ letter) channels.now }
+fn is_once(channels: &[Joined], way: Way, name: &[u8]) -> bool
+    ensures { IsTrue result ↔ IsOnce (λ (x : Channel). name_for way x ≡ name.now) channels.now }
 {
-    count_joined(channels, way, letter) == 1
+    count_joined(channels, way, name) == 1
 }
 
 fn are_joined_once(parameters: &[Parameter], channels: &[Joined]) -> bool
-    ensures { IsTrue result ↔ Each (λ (p : Port). IsOnce (λ (x : Channel). letter_for p.way x ≡ p.letter) channels.now) parameters.now }
+    ensures { IsTrue result ↔ Each (λ (p : Port). IsOnce (λ (x : Channel). name_for p.way x ≡ p.name) channels.now) parameters.now }
 {
     for parameter in parameters {
-        if !is_once(channels, parameter.way, parameter.letter) {
+        if !is_once(channels, parameter.way, parameter.name.as_slice()) {
             return false;
         }
     }
@@ -127,8 +124,8 @@ fn are_between_ports(parameters: &[Parameter], channels: &[Joined]) -> bool
     ensures { IsTrue result ↔ Each (λ (x : Channel). IsNamed parameters.now In x.source × IsNamed parameters.now Out x.sink) channels.now }
 {
     for channel in channels {
-        if !is_named(parameters, Way::In, channel.source)
-            || !is_named(parameters, Way::Out, channel.sink)
+        if !is_named(parameters, Way::In, channel.source.as_slice())
+            || !is_named(parameters, Way::Out, channel.sink.as_slice())
         {
             return false;
         }

@@ -5,15 +5,22 @@ ghost use Rattle.reo_values.specs.declared.kindred.Kindred.TheVariants.{Int as I
 ghost use Rattle.reo_behaviour.specs.declared.port.Way.TheVariants.{In, Out};
 ghost use Rattle.reo_script.specs.declared.script.Component.{Component as Part};
 ghost use Rattle.reo_script.specs.Actions.{port_of};
+ghost use Rattle.reo_forms.specs.Listed.{IsLetter};
 ghost use Rattle.reo_forms.specs.ScriptForm.{IsLabel, IsPortAction, IsPlainScript};
 ghost use Rattle.reo_forms.specs.Components.{IsPlainComponent, Names, IsApartAt};
 ghost use Rattle.reo_forms.specs.Reading.{Each};
 
 use crate::Parameter;
-use crate::plain::is_letter;
 use reo_behaviour::Way;
 use reo_script::{Action, Component};
 use reo_values::{Bytes, Kindred, Value, is_in};
+
+// Whether a byte is a lower-case letter.
+fn is_letter(byte: u8) -> bool
+    ensures { IsTrue result ↔ IsLetter byte }
+{
+    b'a' <= byte && byte <= b'z'
+}
 
 fn is_label(name: &Bytes) -> bool
     ensures { IsTrue result ↔ IsLabel name.now }

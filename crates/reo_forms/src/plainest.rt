@@ -1,22 +1,21 @@
-//! What a text of the circuit form says.
+//! What a circuit of the form is.
 use reo_behaviour::Way;
-use reo_values::List;
+use reo_values::{Bytes, List};
 
 /// A parameter of the one connector: a port whose items are the numbers from `low` to `high`.
-#[derive(Clone, Copy, Debug, PartialEq, Eq)]
+#[derive(Drop)]
 pub struct Parameter {
     pub way: Way,
-    /// Its name, a lower-case letter.
-    pub letter: u8,
+    pub name: Bytes,
     pub low: i64,
     pub high: i64,
 }
 
-/// A `sync` channel, from the port of one letter to the port of another.
-#[derive(Clone, Copy, Debug, PartialEq, Eq)]
+/// A `sync` channel, from the port of one name to the port of another.
+#[derive(Drop)]
 pub struct Joined {
-    pub source: u8,
-    pub sink: u8,
+    pub source: Bytes,
+    pub sink: Bytes,
 }
 
 /// A circuit of the form.

@@ -1,8 +1,9 @@
 //! What is left of a text while it is read. Nothing is refused here: what was read is judged
 //! and compared with the text afterwards.
-ghost use Rattle.std.specs.Prelude.{◌≡◌, ◌++◌, ◌≤◌, ◌<◌, ℕ, ℤ, ◌≤ℤ◌, List, IfOk, IsTrue, length, take, drop, slice_index};
+ghost use Rattle.std.specs.Prelude.{◌≡◌, ◌++◌, ◌≤◌, ◌<◌, ◌↔◌, ℕ, ℤ, ◌≤ℤ◌, List, IfOk, IsTrue, length, take, drop, slice_index};
 ghost use Rattle.std.specs.Fmt.{signed_decimal};
-ghost use Rattle.reo_forms.specs.Reading.{goes_on, AreFigures, Ends};
+ghost use Rattle.reo_values.specs.Valid.{IsNameByte};
+ghost use Rattle.reo_forms.specs.Reading.{goes_on, IsWord, Ends};
 
 use reo_values::{NoMemory, ReadFault, read_number};
 use std::alloc::Global;
@@ -25,14 +26,24 @@ impl<'a> Model for Reader<'a> {
     ghost invariant = { λ r. r.at ≤ length r.text.now };
 }
 
-// How many bytes at the front can stand in a number.
-fn figures(text: &[u8]) -> usize
+// Whether a byte can stand in a name.
+fn is_name_byte(byte: u8) -> bool
+    ensures { IsTrue result ↔ IsNameByte byte }
+{
+    (b'0' <= byte && byte <= b'9')
+        || (b'A' <= byte && byte <= b'Z')
+        || byte == b'_'
+        || (b'a' <= byte && byte <= b'z')
+}
+
+// How many bytes at the front can stand in a name or a number.
+fn word_length(text: &[u8]) -> usize
     ensures within { result ≤ length text.now }
-    ensures figures { AreFigures (take result text.now) }
+    ensures word { IsWord (take result text.now) }
     ensures ends { Ends (drop result text.now) }
 {
     for (at, byte) in text.iter().enumerate() {
-        if *byte != b'-' && (*byte < b'0' || *byte > b'9') {
+        if *byte != b'-' && !is_name_byte(*byte) {
             return at;
         }
     }
@@ -76,14 +87,15 @@ impl<'a> Reader<'a> {
         byte
     }
 
-    /// Takes all bytes at the front that can stand in a number.
+    /// Takes all bytes at the front that can stand in a name or a number.
     pub fn word(&mut self) -> &'a [u8]
         ensures all { self.old ≡ result.now ++ self.new }
-        ensures figures { AreFigures result.now }
+        ensures word { IsWord result.now }
         ensures ends { Ends self.new }
+        ensures again { (word rest : List ℕ) → IsWord word → Ends rest → self.old ≡ word ++ rest → (result.now ≡ word) × (self.new ≡ rest) }
     {
         let left = &self.text[self.at..];
-        let count = figures(left);
+        let count = word_length(left);
         self.at += count;
         &left[..count]
     }

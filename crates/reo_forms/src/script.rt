@@ -10,7 +10,7 @@ ghost use Rattle.reo_script.specs.declared.script.Component.{Component as Part};
 ghost use Rattle.reo_forms.specs.declared.plainest.Parameter.{Parameter as Port};
 ghost use Rattle.reo_forms.specs.ScriptForm.{action_text, component_text, script_text, IsPortAction, SaysScript};
 ghost use Rattle.reo_forms.specs.Components.{IsPlainComponent};
-ghost use Rattle.reo_forms.specs.Reading.{goes_on, Ends, Each, AreDifferent};
+ghost use Rattle.reo_forms.specs.Reading.{goes_on, Ends, Each, AreDifferent, HaveNames};
 
 use crate::plain_script::is_plain_script;
 use crate::reader::{Reader, number};
@@ -20,13 +20,13 @@ use reo_script::{Action, Component, Script};
 use reo_values::{Bytes, List, NoMemory, Value};
 use std::alloc::Global;
 
-// The place of the parameter with this letter: past the end where there is none.
-fn place_of(parameters: &[Parameter], letter: u8) -> usize
+// The place of the parameter with this name: past the end where there is none.
+fn place_of(parameters: &[Parameter], name: &[u8]) -> usize
     requires { AreDifferent parameters.now }
-    ensures { (i : ℕ) (p : Port) → slice_get parameters.now i ≡ Some p → p.letter ≡ letter → result ≡ i }
+    ensures { (i : ℕ) (p : Port) → slice_get parameters.now i ≡ Some p → p.name ≡ name.now → result ≡ i }
 {
     for (place, parameter) in parameters.iter().enumerate() {
-        if parameter.letter == letter {
+        if parameter.name.as_slice() == name {
             return place;
         }
     }
@@ -34,8 +34,8 @@ fn place_of(parameters: &[Parameter], letter: u8) -> usize
 }
 
 // An item of a type: any item where none has the text that is next.
-fn item(alloc: Global, reader: &mut Reader, parameter: Parameter) -> Result<Value, NoMemory>
-    ensures again { (item : Item) (rest : List ℕ) → IsIn item (IntOf parameter.low parameter.high) → Ends rest → reader.old ≡ text_of item (IntOf parameter.low parameter.high) ++ rest → IfOk result (λ found. (found ≡ item) × (reader.new ≡ rest)) }
+fn item(alloc: Global, reader: &mut Reader, parameter: &Parameter) -> Result<Value, NoMemory>
+    ensures again { (item : Item) (rest : List ℕ) → IsIn item (IntOf parameter.now.low parameter.now.high) → Ends rest → reader.old ≡ text_of item (IntOf parameter.now.low parameter.now.high) ++ rest → IfOk result (λ found. (found ≡ item) × (reader.new ≡ rest)) }
     ensures shorter { length reader.new ≤ length reader.old }
 {
     let number = number(alloc, reader, parameter.low, parameter.high)?;
@@ -53,20 +53,20 @@ fn item_at(
     ensures shorter { length reader.new ≤ length reader.old }
 {
     match parameters.get(port) {
-        Some(parameter) => item(alloc, reader, *parameter),
+        Some(parameter) => item(alloc, reader, parameter),
         None => Ok(Value::Unit),
     }
 }
 
 // An action that writes, and the space after it.
 fn write(alloc: Global, reader: &mut Reader, parameters: &[Parameter]) -> Result<Action, NoMemory>
-    requires { AreDifferent parameters.now }
+    requires different { AreDifferent parameters.now }
+    requires names { HaveNames parameters.now }
     ensures again { (port : ℕ) (item : Item) (rest : List ℕ) → IsPortAction parameters.now (Action.Write port item) → reader.old ≡ action_text parameters.now (Action.Write port item) ++ rest → IfOk result (λ found. (found ≡ Action.Write port item) × (reader.new ≡ rest)) }
     ensures shorter { length reader.new ≤ length reader.old - 1 }
 {
     reader.skip(6);
-    let letter = reader.next();
-    let port = place_of(parameters, letter);
+    let port = place_of(parameters, reader.word());
     reader.skip(1);
     let item = item_at(alloc, reader, parameters, port)?;
     reader.skip(2);
@@ -75,20 +75,21 @@ fn write(alloc: Global, reader: &mut Reader, parameters: &[Parameter]) -> Result
 
 // An action that takes, and the space after it.
 fn take(reader: &mut Reader, parameters: &[Parameter]) -> Action
-    requires { AreDifferent parameters.now }
+    requires different { AreDifferent parameters.now }
+    requires names { HaveNames parameters.now }
     ensures again { (port : ℕ) (rest : List ℕ) → IsPortAction parameters.now (Action.Take port) → reader.old ≡ action_text parameters.now (Action.Take port) ++ rest → (result ≡ Action.Take port) × (reader.new ≡ rest) }
     ensures shorter { length reader.new ≤ length reader.old - 1 }
 {
     reader.skip(5);
-    let letter = reader.next();
-    let port = place_of(parameters, letter);
+    let port = place_of(parameters, reader.word());
     reader.skip(2);
     Action::Take { port }
 }
 
 // An action and the space after it.
 fn action(alloc: Global, reader: &mut Reader, parameters: &[Parameter]) -> Result<Action, NoMemory>
-    requires { AreDifferent parameters.now }
+    requires different { AreDifferent parameters.now }
+    requires names { HaveNames parameters.now }
     ensures again { (a : Act) (rest : List ℕ) → IsPortAction parameters.now a → reader.old ≡ action_text parameters.now a ++ rest → IfOk result (λ found. (found ≡ a) × (reader.new ≡ rest)) }
     ensures shorter { length reader.new ≤ length reader.old - 1 }
 {
@@ -105,7 +106,8 @@ fn actions(
     reader: &mut Reader,
     parameters: &[Parameter],
 ) -> Result<List<Action>, NoMemory>
-    requires { AreDifferent parameters.now }
+    requires different { AreDifferent parameters.now }
+    requires names { HaveNames parameters.now }
     ensures again { (l : List Act) (rest : List ℕ) → Each (IsPortAction parameters.now) l → goes_on 125 rest ≡ false → reader.old ≡ flat_map (action_text parameters.now) l ++ rest → IfOk result (λ found. (found ≡ l) × (reader.new ≡ rest)) }
     ensures shorter { length reader.new ≤ length reader.old }
 {
@@ -122,7 +124,8 @@ fn component(
     reader: &mut Reader,
     parameters: &[Parameter],
 ) -> Result<Component, NoMemory>
-    requires { AreDifferent parameters.now }
+    requires different { AreDifferent parameters.now }
+    requires names { HaveNames parameters.now }
     ensures again { (c : Part) (rest : List ℕ) → IsPlainComponent parameters.now c → reader.old ≡ component_text parameters.now c ++ rest → IfOk result (λ found. (found ≡ c) × (reader.new ≡ rest)) }
     ensures shorter { length reader.new ≤ length reader.old - 1 }
 {
@@ -142,7 +145,8 @@ fn next_component(
     reader: &mut Reader,
     parameters: &[Parameter],
 ) -> Result<Component, NoMemory>
-    requires { AreDifferent parameters.now }
+    requires different { AreDifferent parameters.now }
+    requires names { HaveNames parameters.now }
     ensures again { (c : Part) (rest : List ℕ) → IsPlainComponent parameters.now c → reader.old ≡ (codes " " ++ component_text parameters.now c) ++ rest → IfOk result (λ found. (found ≡ c) × (reader.new ≡ rest)) }
     ensures shorter { length reader.new ≤ length reader.old - 1 }
 {
@@ -157,7 +161,8 @@ fn more_components(
     parameters: &[Parameter],
     made: &mut List<Component>,
 ) -> Result<(), NoMemory>
-    requires { AreDifferent parameters.now }
+    requires different { AreDifferent parameters.now }
+    requires names { HaveNames parameters.now }
     ensures { (cs : List Part) (rest : List ℕ) → Each (IsPlainComponent parameters.now) cs → goes_on 10 rest ≡ false → reader.old ≡ flat_map (λ c. codes " " ++ component_text parameters.now c) cs ++ rest → IfOk result (λ done. (made.new ≡ made.old ++ cs) × (reader.new ≡ rest)) }
 {
     while reader.goes_on(b'\n') {
@@ -172,7 +177,8 @@ fn candidate(
     text: &[u8],
     parameters: &[Parameter],
 ) -> Result<List<Component>, NoMemory>
-    requires { AreDifferent parameters.now }
+    requires different { AreDifferent parameters.now }
+    requires names { HaveNames parameters.now }
     ensures { (cs : List Part) (rest : List ℕ) → Each (IsPlainComponent parameters.now) cs → goes_on 10 rest ≡ false → text.now ≡ script_text parameters.now cs ++ rest → IfOk result (λ found. found ≡ cs) }
 {
     let mut reader = Reader::new(text);
@@ -185,15 +191,16 @@ fn candidate(
     Ok(made)
 }
 
-/// The script that the text says at the ports of these parameters, whose letters are
-/// different. `NotOfForm` comes exactly where the text says no script, and `NoMemory` is want
+/// The script that the text says at the ports of these parameters, whose names are different.
+/// `NotOfForm` comes exactly where the text says no script, and `NoMemory` is want
 /// of memory.
 pub fn read_script(
     alloc: Global,
     text: &[u8],
     parameters: &List<Parameter>,
 ) -> Result<Script, FormFault>
-    requires { AreDifferent parameters.now }
+    requires different { AreDifferent parameters.now }
+    requires names { HaveNames parameters.now }
     ensures said { IfOk result (λ s. SaysScript parameters.now text.now s.components) }
     ensures refused { IsErrOf result FormFault.NotOfForm → (cs : List Part) → SaysScript parameters.now text.now cs → ⊥ }
 {

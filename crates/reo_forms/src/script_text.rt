@@ -3,20 +3,29 @@ ghost use Rattle.std.specs.Prelude.{◌≡◌, ◌++◌, ◌↔◌, IsTrue, IfOk
 ghost use Rattle.std.specs.List.{flat_map};
 ghost use Rattle.reo_values.specs.ItemText.{text_of};
 ghost use Rattle.reo_values.specs.declared.kindred.Kindred.TheVariants.{Int as IntOf};
-ghost use Rattle.reo_forms.specs.ScriptForm.{letter_at, item_at_text, action_text, component_text, script_text, IsScriptText};
+ghost use Rattle.std.specs.Fmt.{signed_decimal};
+ghost use Rattle.reo_forms.specs.Listed.{IsText};
+ghost use Rattle.reo_forms.specs.ScriptForm.{name_text, item_at_text, action_text, component_text, script_text, IsScriptText};
 
 use crate::Parameter;
-use crate::circuit_text::{append_number, is_text};
 use reo_script::{Action, Component};
-use reo_values::{Bytes, NoMemory, Value};
+use reo_values::{Bytes, NoMemory, Value, number_text};
 use std::alloc::Global;
 
-fn letter_at(parameters: &[Parameter], port: usize) -> u8
-    ensures { result ≡ letter_at parameters.now port }
+// The decimal text of a number.
+fn append_number(alloc: Global, out: &mut Bytes, number: i64) -> Result<(), NoMemory>
+    ensures { OnOk result (out.new ≡ out.old ++ signed_decimal number) }
+{
+    let text = number_text(alloc, number)?;
+    out.append(text.as_slice())
+}
+
+fn name_at(parameters: &[Parameter], port: usize) -> &[u8]
+    ensures { result.now ≡ name_text (slice_get parameters.now port) }
 {
     match parameters.get(port) {
-        Some(p) => p.letter,
-        None => 0,
+        Some(parameter) => parameter.name.as_slice(),
+        None => &[],
     }
 }
 
@@ -61,13 +70,13 @@ fn append_action(
     match action {
         Action::Write { port, item } => {
             out.append(b"write ")?;
-            out.push(letter_at(parameters, *port))?;
-            out.push(b' ')?;
+            out.append(name_at(parameters, *port))?;
+            out.append(b" ")?;
             append_item_at(alloc, out, parameters, *port, item)?;
         }
         Action::Take { port } => {
             out.append(b"take ")?;
-            out.push(letter_at(parameters, *port))?;
+            out.append(name_at(parameters, *port))?;
         }
     }
     out.append(b"; ")
@@ -126,6 +135,18 @@ fn append_others(
         append_next(alloc, out, parameters, component)?;
     }
     Ok(())
+}
+
+// Whether a text is this form, with or without a line feed at its end.
+fn is_text(text: &[u8], form: Bytes) -> Result<bool, NoMemory>
+    ensures { IfOk result (λ same. IsTrue same ↔ IsText text.now form) }
+{
+    if text == form.as_slice() {
+        return Ok(true);
+    }
+    let mut form = form;
+    form.push(b'\n')?;
+    Ok(text == form.as_slice())
 }
 
 /// Whether a text is that of a script: where there is a component, with or without a line

@@ -6,7 +6,7 @@ use Rattle.std.specs.Cmp.Lexicographic.{pointwise, bytes_decides}
 use Rattle.std.specs.Prelude.{◌≢◌, ◌==◌, not, Bool, Option, Some, None, IfSome, codes}
 use Rattle.reo_io.specs.Sinks.{Appended}
 use Rattle.reo_io.proofs.Taken.{Appended-none}
-use Rattle.reo_top.specs.Whole.{IsRunWords}
+use Rattle.reo_top.specs.Words.{IsRunWords, IsPrintWords}
 use Rattle.reo_top.specs.Cases.{Owed, IsOutput, AreFirstLines, Cases, Refuses, Wants}
 
 -- A line that is owed as a whole was written, or a front of it.
@@ -71,6 +71,17 @@ words_of_run (x ∷ y ∷ z ∷ []) name circuit script long a b d is some_circu
   some_script = λ e. some_script (d ∙ e);
 }
 words_of_run (x ∷ y ∷ z ∷ w ∷ ws) name circuit script long a b d is some_circuit some_script = absurd (omega (arith, long))
+
+-- Two words, of which the first is the name of the command and the other is not empty.
+pub words_of_print : (words : List (List ℕ)) (name circuit : List ℕ) → length words ≡ 2 → name ≡ get_or words 0 name → circuit ≡ get_or words 1 circuit
+    → name ≡ codes "print" → circuit ≢ [] → IsPrintWords words (get_or words 1 [])
+words_of_print [] name circuit long a b is some_circuit = absurd (omega (arith, long))
+words_of_print (x ∷ []) name circuit long a b is some_circuit = absurd (omega (arith, long))
+words_of_print (x ∷ y ∷ []) name circuit long a b is some_circuit = record {
+  words_are = ap (λ w. w ∷ y ∷ []) (sym a ∙ is);
+  some_circuit = λ e. some_circuit (b ∙ e);
+}
+words_of_print (x ∷ y ∷ z ∷ ws) name circuit long a b is some_circuit = absurd (omega (arith, long))
 
 -- A word whose length is not nought is some word.
 pub some_word : (word : List ℕ) (none : Bool) → none ≡ (length word == 0) → none ≡ false → word ≢ []

@@ -71,7 +71,7 @@ Wants before now code = (code ≡ 10) × (Appended before now no_memory ⊎ Took
 
 -- The statuses of a command.
 abbrev pub is_status : ℕ → Bool
-is_status code = (code == 0) || ((code == 1) || ((code == 2) || ((code == 3) || ((code == 4) || ((code == 8) || ((code == 9) || ((code == 10) || (code == 12))))))))
+is_status code = (code == 0) || ((code == 1) || ((code == 2) || ((code == 3) || ((code == 4) || ((code == 5) || ((code == 8) || ((code == 9) || ((code == 10) || (code == 12)))))))))
 
 -- The statuses of what is no whole output: a fetch failed, the sink failed, memory was wanting.
 abbrev pub IsFailure : ℕ → Type 0

@@ -1,5 +1,8 @@
 pub mod Cases
-pub mod Fetched
 pub mod Texts
+pub mod Refusals
+pub mod Circuits
 pub mod Traces
+pub mod Words
 pub mod Whole
+pub mod Fetched

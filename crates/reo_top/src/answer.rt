@@ -1,4 +1,4 @@
-//! Answers: a line and a status.
+//! Answers: a text and a status.
 ghost use Rattle.std.specs.Prelude.{◌≡◌, ◌≤◌, ◌⊎◌, IsTrue};
 ghost use Rattle.reo_io.specs.Causes.{Rose};
 ghost use Rattle.reo_top.specs.Cases.{Refuses, Wants, is_status};
@@ -6,23 +6,23 @@ ghost use Rattle.reo_top.specs.Cases.{Refuses, Wants, is_status};
 use crate::top::Status;
 use reo_io::{Sink, put_all};
 
-/// Writes the line of a refusal, and answers its status: 9 where the sink does not take it whole.
-pub(crate) fn refuse<S: Sink>(line: &[u8], status: u8, out: &mut S) -> Status
+/// Writes a text whole, and answers this status: 9 where the sink does not take it whole.
+pub(crate) fn answer<S: Sink>(text: &[u8], status: u8, out: &mut S) -> Status
     requires { IsTrue (is_status status) }
-    ensures refuses { Refuses line.now status (S.told out.old) (S.told out.new) (S.faults out.old) (S.faults out.new) result.code }
+    ensures answers { Refuses text.now status (S.told out.old) (S.told out.new) (S.faults out.old) (S.faults out.new) result.code }
     ensures later { S.faults out.old ≤ S.faults out.new }
     ensures one { (result.code ≡ status) ⊎ (result.code ≡ 9) }
     ensures status { IsTrue (is_status result.code) }
     ensures rose { result.code ≡ 9 → (status ≡ 9) ⊎ Rose (S.faults out.old) (S.faults out.new) }
 {
-    match put_all(line, out) {
+    match put_all(text, out) {
         Ok(()) => Status { code: status },
         Err(_) => Status { code: 9 },
     }
 }
 
-/// Writes that memory was wanting, if the sink takes it. No memory is taken.
-pub fn want<S: Sink>(out: &mut S) -> Status
+/// Writes that memory was wanting, if the sink takes it.
+pub(crate) fn want<S: Sink>(out: &mut S) -> Status
     ensures wants { Wants (S.told out.old) (S.told out.new) result.code }
     ensures later { S.faults out.old ≤ S.faults out.new }
     ensures status { result.code ≡ 10 }

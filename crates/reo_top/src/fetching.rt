@@ -1,5 +1,5 @@
 //! Fetching circuits and scripts.
-ghost use Rattle.std.specs.Prelude.{◌≡◌, IfSome};
+ghost use Rattle.std.specs.Prelude.{◌≡◌, ◌≤◌, length, IfOk, IfSome};
 ghost use Rattle.reo_io.specs.Fetches.{file_of, failed_after};
 ghost use Rattle.reo_top.specs.Fetched.{IsFetched};
 
@@ -18,6 +18,7 @@ pub(crate) fn fetch<F: Files>(
 ) -> Result<Bytes, FetchFault>
     ensures told { F.told files.new ≡ F.told files.old }
     ensures failed { F.failed files.new ≡ failed_after (F.failed files.old) name.now result }
+    ensures size { IfOk result (λ bytes. length bytes ≤ 1048576) }
     ensures content { IfSome (F.told files.old) (λ folder. IsFetched (file_of folder name.now) result) }
 {
     let mut room = Bytes::new(alloc);

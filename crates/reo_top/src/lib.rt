@@ -2,11 +2,13 @@
 #![tactic(auto)]
 
 mod answer;
+mod circuit;
 mod fetching;
+mod printing;
+mod refusal;
 mod running;
 mod top;
 
-pub use answer::want;
 pub use top::{Status, reo};
 
 #[cfg(test)]

@@ -6,17 +6,20 @@ ghost use Rattle.reo_forms.specs.ScriptForm.{IsPlainScript};
 ghost use Rattle.reo_io.specs.Causes.{Rose};
 ghost use Rattle.reo_top.specs.Cases.{Cases, IsStatusOf, is_status};
 ghost use Rattle.reo_top.specs.Texts.{content_of};
-ghost use Rattle.reo_top.specs.Whole.{run_owed, script_owed, circuit_owed, Missed};
+ghost use Rattle.reo_top.specs.Whole.{run_owed, script_owed, shape_owed, both_owed};
+ghost use Rattle.reo_top.specs.Words.{Missed};
 
-use crate::answer::{refuse, want};
+use crate::answer::{answer, want};
+use crate::circuit::{read_program, refuse_circuit};
 use crate::fetching::fetch;
 use crate::top::Status;
 use reo_build::{build, has_few_parts, script_fits};
-use reo_forms::{FormFault, Plainest, read_circuit, read_script};
+use reo_forms::{FormFault, Plainest, read_script, shape};
 use reo_io::{FetchFault, Files, Sink};
 use reo_kinds::Kind;
 use reo_runner::{End2, known_order, one_trace, run};
 use reo_script::Script;
+use reo_trees::Program;
 use std::alloc::Global;
 
 /// The most rounds of a run.
@@ -70,13 +73,36 @@ fn run_script<F: Files, S: Sink>(
 {
     let text = match fetch(alloc, name, files) {
         Ok(text) => text,
-        Err(FetchFault::Failed) => return refuse(b"read fault script\n", 3, out),
-        Err(FetchFault::TooLong) => return refuse(b"too long script\n", 4, out),
+        Err(FetchFault::Failed) => return answer(b"read fault script\n", 3, out),
+        Err(FetchFault::TooLong) => return answer(b"too long script\n", 4, out),
         Err(FetchFault::NoMemory) => return want(out),
     };
     match read_script(alloc, text.as_slice(), &plainest.parameters) {
         Ok(script) => run_both(alloc, plainest, &script, out),
-        Err(FormFault::NotOfForm) => refuse(b"not built script\n", 12, out),
+        Err(FormFault::NotOfForm) => answer(b"not built script\n", 12, out),
+        Err(FormFault::NoMemory) => want(out),
+    }
+}
+
+/// Judges the shape of a program, and runs the script on it.
+fn run_program<F: Files, S: Sink>(
+    alloc: Global,
+    program: &Program,
+    script: &[u8],
+    files: &mut F,
+    out: &mut S,
+) -> Status
+    ensures cases { IfSome (F.told files.old) (λ folder. Cases (shape_owed (Missed (F.failed files.old) (F.failed files.new) script.now) program.now (content_of (file_of folder script.now))) (S.told out.old) (S.told out.new) (S.faults out.old) (S.faults out.new) result.code) }
+    ensures exact { IfSome (F.told files.old) (λ folder. IsStatusOf (shape_owed (Missed (F.failed files.old) (F.failed files.new) script.now) program.now (content_of (file_of folder script.now))) result.code) }
+    ensures status { IsTrue (is_status result.code) }
+    ensures later { S.faults out.old ≤ S.faults out.new }
+    ensures rose { result.code ≡ 9 → Rose (S.faults out.old) (S.faults out.new) }
+    ensures formed { result.code ≢ 2 }
+    ensures missed { result.code ≡ 3 → Missed (F.failed files.old) (F.failed files.new) script.now }
+{
+    match shape(alloc, program) {
+        Ok(plainest) => run_script(alloc, &plainest, script, files, out),
+        Err(FormFault::NotOfForm) => answer(b"not built circuit\n", 12, out),
         Err(FormFault::NoMemory) => want(out),
     }
 }
@@ -89,23 +115,16 @@ pub(crate) fn run_circuit<F: Files, S: Sink>(
     files: &mut F,
     out: &mut S,
 ) -> Status
-    ensures cases { IfSome (F.told files.old) (λ folder. Cases (circuit_owed (Missed (F.failed files.old) (F.failed files.new) circuit.now) (Missed (F.failed files.old) (F.failed files.new) script.now) (content_of (file_of folder circuit.now)) (content_of (file_of folder script.now))) (S.told out.old) (S.told out.new) (S.faults out.old) (S.faults out.new) result.code) }
-    ensures exact { IfSome (F.told files.old) (λ folder. IsStatusOf (circuit_owed (Missed (F.failed files.old) (F.failed files.new) circuit.now) (Missed (F.failed files.old) (F.failed files.new) script.now) (content_of (file_of folder circuit.now)) (content_of (file_of folder script.now))) result.code) }
+    ensures cases { IfSome (F.told files.old) (λ folder. Cases (both_owed (Missed (F.failed files.old) (F.failed files.new) circuit.now) (Missed (F.failed files.old) (F.failed files.new) script.now) (content_of (file_of folder circuit.now)) (content_of (file_of folder script.now))) (S.told out.old) (S.told out.new) (S.faults out.old) (S.faults out.new) result.code) }
+    ensures exact { IfSome (F.told files.old) (λ folder. IsStatusOf (both_owed (Missed (F.failed files.old) (F.failed files.new) circuit.now) (Missed (F.failed files.old) (F.failed files.new) script.now) (content_of (file_of folder circuit.now)) (content_of (file_of folder script.now))) result.code) }
     ensures status { IsTrue (is_status result.code) }
     ensures later { S.faults out.old ≤ S.faults out.new }
     ensures rose { result.code ≡ 9 → Rose (S.faults out.old) (S.faults out.new) }
     ensures formed { result.code ≢ 2 }
     ensures missed { result.code ≡ 3 → Missed (F.failed files.old) (F.failed files.new) circuit.now ⊎ Missed (F.failed files.old) (F.failed files.new) script.now }
 {
-    let text = match fetch(alloc, circuit, files) {
-        Ok(text) => text,
-        Err(FetchFault::Failed) => return refuse(b"read fault circuit\n", 3, out),
-        Err(FetchFault::TooLong) => return refuse(b"too long circuit\n", 4, out),
-        Err(FetchFault::NoMemory) => return want(out),
-    };
-    match read_circuit(alloc, text.as_slice()) {
-        Ok(plainest) => run_script(alloc, &plainest, script, files, out),
-        Err(FormFault::NotOfForm) => refuse(b"not built circuit\n", 12, out),
-        Err(FormFault::NoMemory) => want(out),
+    match read_program(alloc, circuit, files) {
+        Ok(program) => run_program(alloc, &program, script, files, out),
+        Err(fault) => refuse_circuit(alloc, fault, out),
     }
 }

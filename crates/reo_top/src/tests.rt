@@ -19,6 +19,12 @@ const TWICE: &[u8] = b"component p { write a 3; write a 4; } component q { take 
 const LATER: &[u8] =
     b"component p { write a 1; } component q { write c 2; } component r { take d; }";
 
+/// A circuit of the shape in another layout, with names of several letters.
+const LONG_NAMES: &[u8] =
+    b"# a wire\nconnector main(in from: int 0..09,out to_1:int 0..9)\n{sync from to_1;}";
+
+const LONG_GIVE: &[u8] = b"component p { write from 3; } component q { take to_1; }\n";
+
 const GIVEN: &[u8] = b"round 1: a!3 b?3 | 0 0 0\ndone after 1 rounds\n";
 
 fn named(alloc: Global, name: &[u8], bytes: &[u8]) -> Result<Named, NoMemory> {
@@ -62,7 +68,7 @@ fn answer(
 }
 
 /// A circuit, a script, the fetch that fails, the sink's room, the status, and what is written.
-const ROWS: [(&[u8], &[u8], u64, u32, u8, &[u8]); 12] = [
+const ROWS: [(&[u8], &[u8], u64, u32, u8, &[u8]); 14] = [
     (ONE, GIVE, 0, 99, 0, GIVEN),
     (
         ONE,
@@ -91,6 +97,22 @@ const ROWS: [(&[u8], &[u8], u64, u32, u8, &[u8]); 12] = [
     ),
     (LOSSY, GIVE, 0, 99, 12, b"not built circuit\n"),
     (b"", GIVE, 0, 99, 12, b"not built circuit\n"),
+    (
+        b"connector",
+        GIVE,
+        2,
+        99,
+        5,
+        b"circuit refused: line 1: syntax\n",
+    ),
+    (
+        LONG_NAMES,
+        LONG_GIVE,
+        0,
+        99,
+        0,
+        b"round 1: from!3 to_1?3 | 0 0 0\ndone after 1 rounds\n",
+    ),
     (ONE, GIVE, 1, 99, 3, b"read fault circuit\n"),
     (ONE, GIVE, 2, 99, 3, b"read fault script\n"),
     (LOSSY, GIVE, 2, 99, 12, b"not built circuit\n"),
@@ -146,7 +168,7 @@ fn a_failing_sink_has_a_front(rt: HostRuntime) -> Result<(), Fail> {
 }
 
 /// Words, the status and what is written.
-const WORD_ROWS: [(&[&[u8]], u8, &[u8]); 8] = [
+const WORD_ROWS: [(&[&[u8]], u8, &[u8]); 12] = [
     (&[], 2, b"words refused\n"),
     (&[b"run", b"C"], 2, b"words refused\n"),
     (&[b"run", b"C", b"S", b"S"], 2, b"words refused\n"),
@@ -155,6 +177,10 @@ const WORD_ROWS: [(&[&[u8]], u8, &[u8]); 8] = [
     (&[b"run", b"C", b""], 2, b"words refused\n"),
     (&[b"run", b"D", b"S"], 3, b"read fault circuit\n"),
     (&[b"run", b"C", b"D"], 3, b"read fault script\n"),
+    (&[b"print"], 2, b"words refused\n"),
+    (&[b"print", b""], 2, b"words refused\n"),
+    (&[b"print", b"C", b"S"], 2, b"words refused\n"),
+    (&[b"print", b"D"], 3, b"read fault circuit\n"),
 ];
 
 #[test]
@@ -165,6 +191,103 @@ fn words_name_the_files(rt: HostRuntime) -> Result<(), Fail> {
         assert!(rt; code == status);
         assert!(rt; written.as_slice() == text);
     }
+    Ok(())
+}
+
+/// A circuit text, the status of its print, and what is written.
+const PRINT_ROWS: [(&[u8], u8, &[u8]); 10] = [
+    (
+        b"connector   main ( in a:int 0..09 , out b : int 0..9){sync a b;}#x",
+        0,
+        b"connector main(in a: int 0..9, out b: int 0..9) {\n  sync a b;\n}\n",
+    ),
+    (
+        b"connector main(in a: int 0..9, out b: int 0..99) { map a b to ((it + 1)) * (2 * it); }",
+        0,
+        b"connector main(in a: int 0..9, out b: int 0..99) {\n  map a b to (it + 1) * (2 * it);\n}\n",
+    ),
+    (
+        b"type t=sym{red,green};connector c(){}",
+        0,
+        b"type t = sym { red, green };\nconnector c() {\n}\n",
+    ),
+    (b"", 0, b""),
+    (b"\n@", 5, b"circuit refused: line 2: bad byte\n"),
+    (b"\n\n\"a\n", 5, b"circuit refused: line 3: open text\n"),
+    (
+        b"1234567890123456789",
+        5,
+        b"circuit refused: line 1: number too long\n",
+    ),
+    (
+        b"connector main() { fifo 1025 a b; }",
+        5,
+        b"circuit refused: line 1: syntax\n",
+    ),
+    (DEEP, 5, b"circuit refused: line 2: too deep\n"),
+    (
+        b"connector main() { lossy a b; }",
+        0,
+        b"connector main() {\n  lossy a b;\n}\n",
+    ),
+];
+
+/// `it` inside 65 groupings, on line 2.
+const DEEP: &[u8] =
+    b"connector main(in a: int 0..9, out b: int 0..9) { map a b to\n(((((((((((((((((((((((((((((((((((((((((((((((((((((((((((((((((it))))))))))))))))))))))))))))))))))))))))))))))))))))))))))))))))); }";
+
+#[test]
+fn a_circuit_is_printed(rt: HostRuntime) -> Result<(), Fail> {
+    let alloc = rt.alloc();
+    let words = words(alloc, &[b"print", b"C"])?;
+    for (circuit, status, text) in PRINT_ROWS {
+        let (code, written) = answer(alloc, &words, circuit, b"", 0, 200)?;
+        assert!(rt; code == status);
+        assert!(rt; written.as_slice() == text);
+    }
+    Ok(())
+}
+
+/// A circuit that says a program and is not of the shape.
+const WHOLE: &[u8] = b"connector main(in a: unit) {\nsyncdrain a a; }";
+
+/// Where its tokens end, but for the last, each with the line of the fault of what stands before.
+const CUTS: [(u32, &[u8]); 13] = [
+    (9, b"circuit refused: line 1: syntax\n"),
+    (14, b"circuit refused: line 1: syntax\n"),
+    (15, b"circuit refused: line 1: syntax\n"),
+    (17, b"circuit refused: line 1: syntax\n"),
+    (19, b"circuit refused: line 1: syntax\n"),
+    (20, b"circuit refused: line 1: syntax\n"),
+    (25, b"circuit refused: line 1: syntax\n"),
+    (26, b"circuit refused: line 1: syntax\n"),
+    (28, b"circuit refused: line 1: syntax\n"),
+    (38, b"circuit refused: line 2: syntax\n"),
+    (40, b"circuit refused: line 2: syntax\n"),
+    (42, b"circuit refused: line 2: syntax\n"),
+    (43, b"circuit refused: line 2: syntax\n"),
+];
+
+#[test]
+fn a_cut_text_is_refused_at_its_last_token(rt: HostRuntime) -> Result<(), Fail> {
+    let alloc = rt.alloc();
+    let run = words(alloc, &[b"run", b"C", b"S"])?;
+    let print = words(alloc, &[b"print", b"C"])?;
+    for (end, text) in CUTS {
+        let Some(cut) = WHOLE.get(..end as usize) else {
+            assert!(rt; false);
+            continue;
+        };
+        let (code, written) = answer(alloc, &run, cut, b"", 0, 99)?;
+        assert!(rt; code == 5);
+        assert!(rt; written.as_slice() == text);
+        let (code, written) = answer(alloc, &print, cut, b"", 0, 99)?;
+        assert!(rt; code == 5);
+        assert!(rt; written.as_slice() == text);
+    }
+    let (code, written) = answer(alloc, &run, WHOLE, b"", 0, 99)?;
+    assert!(rt; code == 12);
+    assert!(rt; written.as_slice() == b"not built circuit\n".as_slice());
     Ok(())
 }
 

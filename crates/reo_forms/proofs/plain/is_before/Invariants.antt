@@ -4,4 +4,4 @@ use Rattle.reo_forms.proofs.Eachs.{Before}
 use Rattle.reo_forms.proofs.plain.is_before.Given as goal
 
 abbrev pub invariant-loop-i : goal.invariant-loop-i
-invariant-loop-i l = Before (λ (p : Parameter). p.letter ≡ l.letter → ⊥) l.parameters l.i
+invariant-loop-i l = Before (λ (p : Parameter). p.name ≡ l.name → ⊥) l.parameters l.i

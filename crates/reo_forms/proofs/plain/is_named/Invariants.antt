@@ -4,4 +4,4 @@ use Rattle.reo_forms.proofs.Eachs.{Before}
 use Rattle.reo_forms.proofs.plain.is_named.Given as goal
 
 abbrev pub invariant-loop-parameter : goal.invariant-loop-parameter
-invariant-loop-parameter l = Before (λ (p : Parameter). (p.way ≡ l.way) × (p.letter ≡ l.letter) → ⊥) l.parameters l.parameter-index
+invariant-loop-parameter l = Before (λ (p : Parameter). (p.way ≡ l.way) × (p.name ≡ l.name) → ⊥) l.parameters l.parameter-index

@@ -3,7 +3,7 @@ use Rattle.reo_behaviour.specs.declared.port.Way.TheVariants.{In, Out}
 use Rattle.reo_forms.specs.declared.plainest.Parameter.{Parameter}
 use Rattle.reo_forms.specs.declared.plainest.Joined.{Joined}
 use Rattle.reo_forms.specs.declared.plainest.Plainest.{Plainest}
-use Rattle.reo_forms.specs.CircuitForm.{letter_for, IsParameter, IsPlainest}
+use Rattle.reo_forms.specs.CircuitForm.{name_for, IsParameter, IsPlainest}
 use Rattle.reo_forms.specs.Listed.{IsOnce}
 use Rattle.reo_forms.specs.Reading.{Each, HaveOneType, AreDifferent, IsNamed}
 use Rattle.reo_forms.proofs.plain.is_plainest.Goals as goal
@@ -18,7 +18,7 @@ some : (n : ℕ) → (n == 0) ≡ false → 1 ≤ n
 some n h = grind arith
 
 abbrev AreOnce : List Parameter → List Joined → Type 0
-AreOnce ps xs = Each (λ (p : Parameter). IsOnce (λ (x : Joined). letter_for p.way x ≡ p.letter) xs) ps
+AreOnce ps xs = Each (λ (p : Parameter). IsOnce (λ (x : Joined). name_for p.way x ≡ p.name) xs) ps
 
 abbrev AreBetween : List Parameter → List Joined → Type 0
 AreBetween ps xs = Each (λ (x : Joined). IsNamed ps In x.source × IsNamed ps Out x.sink) xs

@@ -3,7 +3,7 @@ use Rattle.std.proofs.lemmas.Int.{to_z-of_z}
 use Rattle.std.proofs.lemmas.Fmt.{signed_decimal_injective}
 use Rattle.std.specs.Fmt.{signed_decimal}
 use Rattle.reo_values.proofs.Numbers.{fits_between, mag_small}
-use Rattle.reo_forms.proofs.Numerals.{figures_unique, signed_figures}
+use Rattle.reo_forms.proofs.Numerals.{signed_word}
 use Rattle.reo_forms.proofs.reader.number.Goals as goal
 
 pub returns-in-Ok-clause-again : goal.returns-in-Ok-clause-again
@@ -11,7 +11,7 @@ returns-in-Ok-clause-again c z rest low high ends e =
     let fits_low = c.ranges.low in
     let fits_high = c.ranges.high in
     let fits = fits_between _ _ _ c.ranges.low c.ranges.high low high in
-    let parts = figures_unique c.word-word.result.now (signed_decimal z) c.word-word.new.self rest c.word-word.ensures.figures (signed_figures z fits) c.word-word.ensures.ends ends (sym c.word-word.ensures.all ∙ e) in
+    let parts = c.word-word.ensures.again (signed_decimal z) rest (signed_word z fits) ends e in
     let found = simp to_z-of_z at c.in-Ok.ensures.found in
     let fits_found = fits_between _ _ _ c.ranges.low c.ranges.high found.0 found.1 in
     let same : c.in-Ok.number ≡ z = signed_decimal_injective _ _ (mag_small _ fits_found) (mag_small z fits) (sym found.2 ∙ parts.0) in
@@ -22,6 +22,6 @@ returns-in-Err-NotALiteral-clause-again c z rest low high ends e =
     let fits_low = c.ranges.low in
     let fits_high = c.ranges.high in
     let fits = fits_between _ _ _ c.ranges.low c.ranges.high low high in
-    let parts = figures_unique c.word-word.result.now (signed_decimal z) c.word-word.new.self rest c.word-word.ensures.figures (signed_figures z fits) c.word-word.ensures.ends ends (sym c.word-word.ensures.all ∙ e) in
+    let parts = c.word-word.ensures.again (signed_decimal z) rest (signed_word z fits) ends e in
     let none = simp to_z-of_z at c.in-Err-NotALiteral.ensures.none in
     absurd (none (ap Err c.in-Err-NotALiteral.field-0-is) z low high parts.0)

@@ -4,4 +4,4 @@ use Rattle.reo_forms.proofs.Eachs.{Before}
 use Rattle.reo_forms.proofs.script.place_of.Given as goal
 
 abbrev pub invariant-loop-place : goal.invariant-loop-place
-invariant-loop-place l = Before (λ (p : Parameter). p.letter ≡ l.letter → ⊥) l.parameters l.place
+invariant-loop-place l = Before (λ (p : Parameter). p.name ≡ l.name → ⊥) l.parameters l.place

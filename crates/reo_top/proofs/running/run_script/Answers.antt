@@ -2,7 +2,8 @@ use Rattle.std.proofs.Common.{ap}
 use Rattle.std.specs.Prelude.{Err, codes}
 use Rattle.reo_io.specs.Fetches.{file_of}
 use Rattle.reo_top.specs.Texts.{content_of}
-use Rattle.reo_top.specs.Whole.{script_owed, Missed}
+use Rattle.reo_top.specs.Whole.{script_owed}
+use Rattle.reo_top.specs.Words.{Missed}
 use Rattle.reo_top.proofs.CaseLemmas.{refused, wanted_first, if_told, told_always}
 use Rattle.reo_top.proofs.StageLemmas.{script_lifted, no_script, long_script}
 use Rattle.reo_top.proofs.StatusLemmas.{script_as}
@@ -12,7 +13,7 @@ pub returns-in-Err-TooLong-clause-cases : goal.returns-in-Err-TooLong-clause-cas
 returns-in-Err-TooLong-clause-cases g c =
     if_told (g.F.Files.told c.args.files.now)
     (λ folder fetched. refused (script_owed (Missed (g.F.Files.failed c.args.files.now) (g.F.Files.failed c.fetch.new.files) c.args.name.now) c.args.plainest.now (content_of (file_of folder c.args.name.now))) (codes "too long script\n") 4 _ _ _ _ _
-    (long_script c.args.plainest.now (content_of (file_of folder c.args.name.now)) fetched) c.refuse-in-Err-TooLong.ensures.refuses)
+    (long_script c.args.plainest.now (content_of (file_of folder c.args.name.now)) fetched) c.answer-in-Err-TooLong.ensures.answers)
     (rw c.in-Err-TooLong.field-0-is at c.in-Err-TooLong.ensures.content)
 
 pub returns-in-Err-NoMemory-clause-cases : goal.returns-in-Err-NoMemory-clause-cases
@@ -32,7 +33,7 @@ returns-in-Err-NotOfForm-clause-cases g c =
     let none = rw c.as_slice.ensures at (c.in-Err-NotOfForm.ensures.refused (ap (λ x. Err x) c.in-Err-NotOfForm.field-0-is)) in
     if_told (g.F.Files.told c.args.files.now)
     (λ folder fetched. refused (script_owed (Missed (g.F.Files.failed c.args.files.now) (g.F.Files.failed c.fetch.new.files) c.args.name.now) c.args.plainest.now (content_of (file_of folder c.args.name.now))) (codes "not built script\n") 12 _ _ _ _ _
-    (no_script c.args.plainest.now (content_of (file_of folder c.args.name.now)) c.in-Ok.text fetched none) c.refuse-in-Err-NotOfForm.ensures.refuses)
+    (no_script c.args.plainest.now (content_of (file_of folder c.args.name.now)) c.in-Ok.text fetched none) c.answer-in-Err-NotOfForm.ensures.answers)
     c.in-Ok.ensures.content
 
 pub returns-clause-cases : goal.returns-clause-cases
@@ -47,3 +48,6 @@ returns-in-Ok-read_script-clause-exact g c =
     (λ folder fetched. script_as c.args.plainest.now (content_of (file_of folder c.args.name.now)) c.requires (Missed (g.F.Files.failed c.args.files.now) (g.F.Files.failed c.fetch.new.files) c.args.name.now) c.in-Ok-read_script.script.components c.in-Ok.text fetched says
     c.run_both.result.code c.run_both.ensures.exact)
     c.in-Ok.ensures.content
+
+pub read_script-requires-clause-names : goal.read_script-requires-clause-names
+read_script-requires-clause-names g c i p at_i = (c.requires.parameters i p at_i).name

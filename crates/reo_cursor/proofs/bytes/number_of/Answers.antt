@@ -1,0 +1,14 @@
+use Rattle.std.proofs.Common.{◌<◌, ◌+◌, ◌-◌, ◌*◌, get_or, arith}
+use Rattle.reo_cursor.proofs.Digits.{step-below, digit-at}
+use Rattle.reo_cursor.proofs.bytes.number_of.Goals as goal
+
+pub overflow_mul-value : goal.overflow_mul-value
+overflow_mul-value c =
+    let h = step-below c.loop-digit.value c.args.digits.now c.loop-digit.digit-index 0 c.loop-digit-test.true c.loop-digit.invariant c.requires.short in omega arith
+
+pub overflow_sub-value : goal.overflow_sub-value
+overflow_sub-value c = digit-at c.args.digits.now c.loop-digit.digit-index 0 c.requires.digits c.loop-digit-test.true
+
+pub overflow_add-value : goal.overflow_add-value
+overflow_add-value c =
+    let h = step-below c.loop-digit.value c.args.digits.now c.loop-digit.digit-index 0 c.loop-digit-test.true c.loop-digit.invariant c.requires.short in omega arith

@@ -1,0 +1,305 @@
+//! Programs that have the shape of a circuit of the form, and programs that do not.
+use crate::shape;
+use crate::tests::{show_circuit, show_fault};
+use reo_trees::{
+    Channel, Connector, Declaration, Form, Item, Parameter as Written, Program, Shape as Kind,
+    TypeTerm,
+};
+use reo_values::{Bytes, List, NoMemory};
+use std::alloc::Global;
+use std::test::Fail;
+
+const IN: bool = true;
+
+const OUT: bool = false;
+
+const A: &[u8] = b"a";
+
+const AB: &[u8] = b"ab";
+
+const B: &[u8] = b"b";
+
+const C: &[u8] = b"c";
+
+const LONG: &[u8] = b"_Left_0123456789";
+
+const MAIN: &[u8] = b"main";
+
+fn term(kind: Kind) -> TypeTerm {
+    TypeTerm {
+        line: 3,
+        shape: kind,
+    }
+}
+
+fn written(alloc: Global, inward: bool, name: &[u8], kind: Kind) -> Result<Written, NoMemory> {
+    Ok(Written {
+        line: 2,
+        inward,
+        name: Bytes::from_slice(alloc, name)?,
+        term: term(kind),
+    })
+}
+
+fn item(alloc: Global, channel: Channel, first: &[u8], second: &[u8]) -> Result<Item, NoMemory> {
+    let form = Form::Joined {
+        channel,
+        first: Bytes::from_slice(alloc, first)?,
+        second: Bytes::from_slice(alloc, second)?,
+    };
+    Ok(Item { line: 4, form })
+}
+
+fn connector(
+    alloc: Global,
+    name: &[u8],
+    ports: &[(bool, &[u8], i64, i64)],
+    channels: &[(&[u8], &[u8])],
+) -> Result<Connector, NoMemory> {
+    let mut parameters = List::new(alloc);
+    for port in ports {
+        parameters.push(written(alloc, port.0, port.1, Kind::Int(port.2, port.3))?)?;
+    }
+    let mut items = List::new(alloc);
+    for channel in channels {
+        items.push(item(alloc, Channel::Sync, channel.0, channel.1)?)?;
+    }
+    Ok(Connector {
+        line: 1,
+        name: Bytes::from_slice(alloc, name)?,
+        parameters,
+        items,
+    })
+}
+
+/// `connector main(in a: int 0..9, out ab: int 0..9) { sync a ab; }`, with another name.
+pub fn one_channel(alloc: Global, name: &[u8]) -> Result<Connector, NoMemory> {
+    connector(alloc, name, &[(IN, A, 0, 9), (OUT, AB, 0, 9)], &[(A, AB)])
+}
+
+/// What the shape of a program is read as.
+fn shown(alloc: Global, program: &Program) -> Result<String, Fail> {
+    let mut text = String::new(alloc);
+    match shape(alloc, program) {
+        Ok(circuit) => show_circuit(&mut text, &circuit)?,
+        Err(fault) => show_fault(&mut text, fault)?,
+    }
+    Ok(text)
+}
+
+pub fn alone(alloc: Global, connector: Connector) -> Result<Program, NoMemory> {
+    let mut declarations = List::new(alloc);
+    declarations.push(Declaration::Made(connector))?;
+    Ok(Program { declarations })
+}
+
+#[test]
+fn shapes_are_found(rt: HostRuntime) -> Result<(), Fail> {
+    let alloc = rt.alloc();
+    for (ports, channels, want) in [
+        (
+            [(IN, A, 0, 9), (OUT, B, 0, 9)].as_slice(),
+            [(A, B)].as_slice(),
+            "<a 0:9 >b 0:9 a-b ",
+        ),
+        (
+            [(OUT, LONG, -1_000_000_000, 0), (IN, AB, -1_000_000_000, 0)].as_slice(),
+            [(AB, LONG)].as_slice(),
+            ">_Left_0123456789 -1000000000:0 <ab -1000000000:0 ab-_Left_0123456789 ",
+        ),
+        (
+            [
+                (IN, A, 7, 7),
+                (IN, AB, 7, 7),
+                (OUT, B, 7, 7),
+                (OUT, C, 7, 7),
+            ]
+            .as_slice(),
+            [(AB, B), (A, C)].as_slice(),
+            "<a 7:7 <ab 7:7 >b 7:7 >c 7:7 ab-b a-c ",
+        ),
+        (
+            [(IN, A, 9, 0), (OUT, B, 9, 0)].as_slice(),
+            [(A, B)].as_slice(),
+            "no",
+        ),
+        (
+            [(IN, A, 0, 9), (OUT, B, 0, 8)].as_slice(),
+            [(A, B)].as_slice(),
+            "no",
+        ),
+    ] {
+        let program = alone(alloc, connector(alloc, MAIN, ports, channels)?)?;
+        assert_eq!(rt; shown(alloc, &program)?.as_str(), want);
+    }
+    Ok(())
+}
+
+/// A circuit of ports of `int 0..9` with names of one byte, `<` for an `in` port, and of channels
+/// from these sources to these sinks.
+fn small(
+    alloc: Global,
+    ways: &[u8],
+    names: &[u8],
+    sources: &[u8],
+    sinks: &[u8],
+) -> Result<Program, NoMemory> {
+    let mut made = connector(alloc, MAIN, &[], &[])?;
+    for (way, name) in ways.iter().zip(names) {
+        let kind = Kind::Int(0, 9);
+        made.parameters
+            .push(written(alloc, *way == b'<', &[*name], kind)?)?;
+    }
+    for (source, sink) in sources.iter().zip(sinks) {
+        made.items
+            .push(item(alloc, Channel::Sync, &[*source], &[*sink])?)?;
+    }
+    alone(alloc, made)
+}
+
+#[test]
+fn other_circuits_have_no_shape(rt: HostRuntime) -> Result<(), Fail> {
+    let alloc = rt.alloc();
+    for (ways, names, sources, sinks, want) in [
+        (
+            b"<>".as_slice(),
+            b"ab".as_slice(),
+            b"a".as_slice(),
+            b"b".as_slice(),
+            "<a 0:9 >b 0:9 a-b ",
+        ),
+        (
+            b"".as_slice(),
+            b"".as_slice(),
+            b"".as_slice(),
+            b"".as_slice(),
+            "no",
+        ),
+        (
+            b"<>".as_slice(),
+            b"ab".as_slice(),
+            b"".as_slice(),
+            b"".as_slice(),
+            "no",
+        ),
+        (
+            b"".as_slice(),
+            b"".as_slice(),
+            b"a".as_slice(),
+            b"b".as_slice(),
+            "no",
+        ),
+        (
+            b"<>".as_slice(),
+            b"aa".as_slice(),
+            b"a".as_slice(),
+            b"a".as_slice(),
+            "no",
+        ),
+        (
+            b"<>".as_slice(),
+            b"a1".as_slice(),
+            b"a".as_slice(),
+            b"1".as_slice(),
+            "no",
+        ),
+        (
+            b"<<".as_slice(),
+            b"ab".as_slice(),
+            b"a".as_slice(),
+            b"b".as_slice(),
+            "no",
+        ),
+        (
+            b"><".as_slice(),
+            b"ab".as_slice(),
+            b"a".as_slice(),
+            b"b".as_slice(),
+            "no",
+        ),
+        (
+            b"<>".as_slice(),
+            b"ab".as_slice(),
+            b"a".as_slice(),
+            b"c".as_slice(),
+            "no",
+        ),
+        (
+            b"<>".as_slice(),
+            b"ab".as_slice(),
+            b"aa".as_slice(),
+            b"bb".as_slice(),
+            "no",
+        ),
+        (
+            b"<><>".as_slice(),
+            b"abcd".as_slice(),
+            b"a".as_slice(),
+            b"b".as_slice(),
+            "no",
+        ),
+        (
+            b"<<>".as_slice(),
+            b"acb".as_slice(),
+            b"ac".as_slice(),
+            b"cb".as_slice(),
+            "no",
+        ),
+        (
+            b"<><><><><>".as_slice(),
+            b"abcdefghij".as_slice(),
+            b"acegi".as_slice(),
+            b"bdfhj".as_slice(),
+            "no",
+        ),
+    ] {
+        let program = small(alloc, ways, names, sources, sinks)?;
+        assert_eq!(rt; shown(alloc, &program)?.as_str(), want);
+    }
+    Ok(())
+}
+
+#[test]
+fn other_declarations_have_no_shape(rt: HostRuntime) -> Result<(), Fail> {
+    let alloc = rt.alloc();
+    let none = Program {
+        declarations: List::new(alloc),
+    };
+    assert_eq!(rt; shown(alloc, &none)?.as_str(), "no");
+    let other = alone(alloc, one_channel(alloc, b"mains")?)?;
+    assert_eq!(rt; shown(alloc, &other)?.as_str(), "no");
+    let mut twice = alone(alloc, one_channel(alloc, MAIN)?)?;
+    twice
+        .declarations
+        .push(Declaration::Made(one_channel(alloc, MAIN)?))?;
+    assert_eq!(rt; shown(alloc, &twice)?.as_str(), "no");
+    let mut typed = alone(alloc, one_channel(alloc, MAIN)?)?;
+    typed.declarations.push(Declaration::Named {
+        line: 1,
+        name: Bytes::from_slice(alloc, A)?,
+        term: term(Kind::Unit),
+    })?;
+    assert_eq!(rt; shown(alloc, &typed)?.as_str(), "no");
+    Ok(())
+}
+
+#[test]
+fn other_items_and_types_have_no_shape(rt: HostRuntime) -> Result<(), Fail> {
+    let alloc = rt.alloc();
+    let mut lossy = connector(alloc, MAIN, &[(IN, A, 0, 9), (OUT, B, 0, 9)], &[])?;
+    lossy.items.push(item(alloc, Channel::Lossy, A, B)?)?;
+    assert_eq!(rt; shown(alloc, &alone(alloc, lossy)?)?.as_str(), "no");
+    let mut node = one_channel(alloc, MAIN)?;
+    node.items.push(Item {
+        line: 5,
+        form: Form::Node {
+            name: Bytes::from_slice(alloc, C)?,
+            term: term(Kind::Int(0, 9)),
+        },
+    })?;
+    assert_eq!(rt; shown(alloc, &alone(alloc, node)?)?.as_str(), "no");
+    let mut typed = connector(alloc, MAIN, &[(IN, A, 0, 9)], &[(A, B)])?;
+    typed.parameters.push(written(alloc, OUT, B, Kind::Bool)?)?;
+    assert_eq!(rt; shown(alloc, &alone(alloc, typed)?)?.as_str(), "no");
+    Ok(())
+}
