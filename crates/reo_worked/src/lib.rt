@@ -6,4 +6,6 @@ mod circuits;
 #[cfg(test)]
 mod row_lists;
 #[cfg(test)]
+mod states;
+#[cfg(test)]
 mod tests;
