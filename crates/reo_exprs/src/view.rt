@@ -66,9 +66,9 @@ fn one_view<'a>(op: Unary, x: View<'a>, of: &Kindred, item: &'a Value) -> View<'
     requires typed { AreTyped x of.now }
     requires near { IsTrue (is_near (number (value_of_view x item.now))) }
     requires member { IsIn item.now of.now }
-    ensures value { value_of_view result item.now ≡ unary_value op (value_of_view x item.now) }
+    ensures value { value_of_view result item.now ≡ unary_value op (value_of_view x.entry item.now) }
     ensures typed { AreTyped result of.now }
-    ensures work { work_of_view result ≤ work_of_view x }
+    ensures work { work_of_view result ≤ work_of_view x.entry }
 {
     match op {
         Unary::Not => View::Bool(!truth(&x, item)),
@@ -155,7 +155,7 @@ pub fn view_of<'a>(expr: &'a Expr, of: &Kindred, item: &'a Value) -> View<'a>
 pub fn is_item(x: View<'_>, value: &Value, of: &Kindred, item: &Value) -> bool
     requires typed { AreTyped x of.now }
     requires member { IsIn item.now of.now }
-    ensures { result ≡ same_value (value_of_view x item.now) value.now }
+    ensures { result ≡ same_value (value_of_view x.entry item.now) value.now }
 {
     match (x, value) {
         (View::Item(part), _) => same_item(part, value),
@@ -179,7 +179,7 @@ fn same_view(x: View<'_>, y: View<'_>, of: &Kindred, item: &Value) -> bool
     requires left { AreTyped x of.now }
     requires right { AreTyped y of.now }
     requires member { IsIn item.now of.now }
-    ensures { result ≡ same_value (value_of_view x item.now) (value_of_view y item.now) }
+    ensures { result ≡ same_value (value_of_view x.entry item.now) (value_of_view y.entry item.now) }
 {
     match (x, y) {
         (_, View::Item(part)) => is_item(x, part, of, item),
