@@ -1,2 +1,5 @@
 pub mod Corners
+pub mod InType
+pub mod Joined
+pub mod Options
 pub mod Trees
