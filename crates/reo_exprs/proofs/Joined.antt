@@ -1,6 +1,6 @@
 -- Types that lie inside others, and what a join contains.
 use Rattle.std.proofs.Common.{ℕ, ℤ, Bool, true, false, ◌≡◌, ◌≤◌, ◌∙◌, List, [], ◌∷◌, ap, sym, subst, refl, arith}
-use Rattle.std.specs.Prelude.{◌≤ℤ◌, bytes_eq}
+use Rattle.std.specs.Prelude.{◌≤ℤ◌, ◌↔◌, IsTrue, bytes_eq}
 use Rattle.std.specs.Cmp.Lexicographic.{pointwise}
 use Rattle.std.proofs.lemmas.Int.{ints, clamps}
 use Rattle.std.proofs.lemmas.Slice.Eq.{bytes_eq-Decides}
@@ -24,46 +24,6 @@ names_same [] [] e = refl
 names_same [] (y ∷ ys) e = absurd (cc)
 names_same (x ∷ xs) [] e = absurd (cc)
 names_same (x ∷ xs) (y ∷ ys) e = let h = from_both (bytes_eq x y) (pointwise bytes_eq xs ys) e in let f = names_same xs ys h.1 in let d = bytes_eq-Decides x y in grind arith
-
--- an item of a type is of each type that this lies inside
-pub item_inside : (s t : Kindred) (v : Value) → LiesInside s t → IsIn v s → IsIn v t
-unfolding hidden-the_row-Twins-0 hidden
-item_inside kindred.Unit kindred.Unit v l h = h
-item_inside kindred.Unit kindred.Bool v l h = absurd l
-item_inside kindred.Unit (kindred.Int c d) v l h = absurd l
-item_inside kindred.Unit (kindred.Sym c) v l h = absurd l
-item_inside kindred.Unit (kindred.Text c) v l h = absurd l
-item_inside kindred.Unit (kindred.Pair' n (kindred.more_of-Twins c d kindred.end_of-Twins)) v l h = absurd l
-item_inside kindred.Bool kindred.Unit v l h = absurd l
-item_inside kindred.Bool kindred.Bool v l h = h
-item_inside kindred.Bool (kindred.Int c d) v l h = absurd l
-item_inside kindred.Bool (kindred.Sym c) v l h = absurd l
-item_inside kindred.Bool (kindred.Text c) v l h = absurd l
-item_inside kindred.Bool (kindred.Pair' n (kindred.more_of-Twins c d kindred.end_of-Twins)) v l h = absurd l
-item_inside (kindred.Int a b) kindred.Unit v l h = absurd l
-item_inside (kindred.Int a b) kindred.Bool v l h = absurd l
-item_inside (kindred.Int a b) (kindred.Int c d) v l h = let x = in_int a b v h in subst (λ w. IsIn w (kinds.Int c d)) (sym x.1) (omega (arith, ints), omega (arith, ints))
-item_inside (kindred.Int a b) (kindred.Sym c) v l h = absurd l
-item_inside (kindred.Int a b) (kindred.Text c) v l h = absurd l
-item_inside (kindred.Int a b) (kindred.Pair' n (kindred.more_of-Twins c d kindred.end_of-Twins)) v l h = absurd l
-item_inside (kindred.Sym a) kindred.Unit v l h = absurd l
-item_inside (kindred.Sym a) kindred.Bool v l h = absurd l
-item_inside (kindred.Sym a) (kindred.Int c d) v l h = absurd l
-item_inside (kindred.Sym a) (kindred.Sym c) v l h = subst (λ n. IsIn v (kinds.Sym n)) l h
-item_inside (kindred.Sym a) (kindred.Text c) v l h = absurd l
-item_inside (kindred.Sym a) (kindred.Pair' n (kindred.more_of-Twins c d kindred.end_of-Twins)) v l h = absurd l
-item_inside (kindred.Text a) kindred.Unit v l h = absurd l
-item_inside (kindred.Text a) kindred.Bool v l h = absurd l
-item_inside (kindred.Text a) (kindred.Int c d) v l h = absurd l
-item_inside (kindred.Text a) (kindred.Sym c) v l h = absurd l
-item_inside (kindred.Text a) (kindred.Text c) v l h = let x = in_text a v h in subst (λ w. IsIn w (kinds.Text c)) (sym x.1) (omega arith, x.3)
-item_inside (kindred.Text a) (kindred.Pair' n (kindred.more_of-Twins c d kindred.end_of-Twins)) v l h = absurd l
-item_inside (kindred.Pair' m (kindred.more_of-Twins a b kindred.end_of-Twins)) kindred.Unit v l h = absurd l
-item_inside (kindred.Pair' m (kindred.more_of-Twins a b kindred.end_of-Twins)) kindred.Bool v l h = absurd l
-item_inside (kindred.Pair' m (kindred.more_of-Twins a b kindred.end_of-Twins)) (kindred.Int c d) v l h = absurd l
-item_inside (kindred.Pair' m (kindred.more_of-Twins a b kindred.end_of-Twins)) (kindred.Sym c) v l h = absurd l
-item_inside (kindred.Pair' m (kindred.more_of-Twins a b kindred.end_of-Twins)) (kindred.Text c) v l h = absurd l
-item_inside (kindred.Pair' m (kindred.more_of-Twins a b kindred.end_of-Twins)) (kindred.Pair' n (kindred.more_of-Twins c d kindred.end_of-Twins)) v l h = let x = in_pair (record { left = a; right = b }) v h in subst (λ w. IsIn w (kinds.Pair (record { left = c; right = d }))) (sym x.1) (rw (IsIn-Pair x.0 (record { left = c; right = d })) (item_inside a c x.0.left l.0 x.2, item_inside b d x.0.right l.1 x.3))
 
 -- a join contains its left type
 pub left_inside : (s t : Kindred) → joins s t ≡ true → LiesInside s (join_of s t)
@@ -144,3 +104,14 @@ right_inside (kindred.Pair' m (kindred.more_of-Twins a b kindred.end_of-Twins)) 
 right_inside (kindred.Pair' m (kindred.more_of-Twins a b kindred.end_of-Twins)) (kindred.Sym c) e = absurd (cc)
 right_inside (kindred.Pair' m (kindred.more_of-Twins a b kindred.end_of-Twins)) (kindred.Text c) e = absurd (cc)
 right_inside (kindred.Pair' m (kindred.more_of-Twins a b kindred.end_of-Twins)) (kindred.Pair' n (kindred.more_of-Twins c d kindred.end_of-Twins)) e = let h = from_both (joins a c) (joins b d) e in (right_inside a c h.0, right_inside b d h.1)
+
+-- types of names lie inside each other where the names are the same
+names_match : (xs : List (List ℕ)) → pointwise bytes_eq xs xs ≡ true
+names_match [] = refl
+names_match (x ∷ xs) = let d = bytes_eq-Decides x x in let h = names_match xs in grind arith
+
+pub sym_inside : (a b : Kindred) (xs ys : List (List ℕ)) (r : Bool) → a ≡ kinds.Sym xs → b ≡ kinds.Sym ys → r ≡ pointwise bytes_eq xs ys → IsTrue r ↔ LiesInside a b
+sym_inside a b xs ys r p q e = (
+  λ h. subst (λ k. LiesInside k b) (sym p) (subst (λ k. LiesInside (kinds.Sym xs) k) (sym q) (names_same xs ys (sym e ∙ h))),
+  λ h. e ∙ ap (λ n. pointwise bytes_eq n ys) (subst (λ k. LiesInside (kinds.Sym xs) k) q (subst (λ k. LiesInside k b) p h)) ∙ names_match ys,
+)
