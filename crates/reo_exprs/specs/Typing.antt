@@ -9,7 +9,7 @@ use Rattle.reo_values.specs.declared.operator.Binary.{Binary}
 use Rattle.reo_exprs.specs.declared.expr.Expr as expr
 use Rattle.reo_exprs.specs.declared.expr.Expr.{Expr}
 use Rattle.reo_exprs.specs.declared.interval.Interval.{Interval}
-use Rattle.reo_exprs.specs.Interval.{negated, sum, difference, product, quotient, remainder}
+use Rattle.reo_exprs.specs.Interval.{arithmetic, negated, sum, difference, product, quotient, remainder}
 use Rattle.reo_exprs.specs.Kinds.{kind_of, joins, join_of, is_within, interval_of, most_of, twins_of, is_bool}
 
 -- the type, where the test holds
@@ -84,6 +84,9 @@ unary_within op x = option_and_then within (unary_type op x)
 
 abbrev pub binary_within : Binary → Kindred → Kindred → Option Kindred
 binary_within op x y = if may_stand_right op y then option_and_then within (binary_type op x y) else None
+
+abbrev pub numbers_within : Binary → Kindred → Kindred → Option Kindred
+numbers_within op x y = if may_stand_right op y then option_and_then within (on_numbers (λ a b. int_type (arithmetic op a b)) x y) else None
 
 abbrev pub if_within : Kindred → Kindred → Kindred → Option Kindred
 if_within c x y = option_and_then within (if_type c x y)

@@ -8,7 +8,6 @@ use Rattle.reo_exprs.specs.declared.expr.Expr.{Expr}
 use Rattle.reo_exprs.specs.declared.expr.ExprPair.{ExprPair}
 use Rattle.reo_exprs.specs.declared.view.View.TheVariants as view
 use Rattle.reo_exprs.specs.declared.view.View.{View}
-use Rattle.reo_exprs.specs.Sound.{IsSound}
 use Rattle.reo_exprs.specs.Typing.{IsTyped}
 use Rattle.reo_exprs.specs.Valued.{value_of_expr}
 
@@ -24,7 +23,7 @@ value_of_view (view.Item part) item = part.now
 
 -- expressions that wait in a view have types
 abbrev pub AreTyped : View → Kindred → Type 0
-AreTyped (view.Pair p) of = IsSound p.now.left × IsTyped p.now.left of × IsSound p.now.right × IsTyped p.now.right of
+AreTyped (view.Pair p) of = IsTyped p.now.left of × IsTyped p.now.right of
 AreTyped v of = Unit {0}
 
 -- how much is left to do in an expression

@@ -1,6 +1,6 @@
 //! Intervals of whole numbers, from -10^18 to 10^18.
 ghost use Rattle.std.specs.Prelude.{◌≡◌, ◌*ℤ◌, ◌≤ℤ◌, ◌&&◌, IsTrue, pos};
-ghost use Rattle.reo_exprs.specs.Interval.{is_near, near_number, near, is_near_interval, negated, sum, difference, product, quotient, remainder, hull};
+ghost use Rattle.reo_exprs.specs.Interval.{is_near, near_number, near, is_near_interval, negated, sum, difference, product, quotient, remainder};
 
 /// The whole numbers from the first bound to the second, both included.
 #[derive(Clone, Copy, Debug, PartialEq, Eq)]
@@ -107,14 +107,4 @@ pub fn remainder(x: Interval, y: Interval) -> Option<Interval>
         x.high.min(y.high - 1)
     };
     near(low, high)
-}
-
-/// The least interval that contains both.
-pub fn hull(x: Interval, y: Interval) -> Interval
-    ensures { result ≡ hull x y }
-{
-    Interval {
-        low: x.low.min(y.low),
-        high: x.high.max(y.high),
-    }
 }

@@ -70,28 +70,34 @@ pub fn kind_of_expr(
         Expr::Int(_) => Ok(Some(Kindred::Int(0, 0))),
         Expr::Text(_) => Ok(Some(Kindred::Text(0))),
         Expr::Sym(names, _) => Ok(Some(Kindred::Sym(names.copied(alloc)?))),
-        Expr::One(op, operand) => match kind_of_expr(alloc, operand.get(), of)? {
-            Some(x) => Ok(one_kind(*op, x)),
-            None => Ok(None),
-        },
+        Expr::One(op, operand) => {
+            let Some(x) = kind_of_expr(alloc, operand.get(), of)? else {
+                return Ok(None);
+            };
+            Ok(one_kind(*op, x))
+        }
         Expr::Two(op, pair) => {
             let pair = pair.get();
-            let left = kind_of_expr(alloc, &pair.left, of)?;
-            let right = kind_of_expr(alloc, &pair.right, of)?;
-            match (left, right) {
-                (Some(x), Some(y)) => two_kind(alloc, *op, x, y),
-                _ => Ok(None),
-            }
+            let Some(x) = kind_of_expr(alloc, &pair.left, of)? else {
+                return Ok(None);
+            };
+            let Some(y) = kind_of_expr(alloc, &pair.right, of)? else {
+                return Ok(None);
+            };
+            two_kind(alloc, *op, x, y)
         }
         Expr::If(parts) => {
             let parts = parts.get();
-            let condition = kind_of_expr(alloc, &parts.condition, of)?;
-            let yes = kind_of_expr(alloc, &parts.yes, of)?;
-            let no = kind_of_expr(alloc, &parts.no, of)?;
-            match (condition, yes, no) {
-                (Some(c), Some(x), Some(y)) => Ok(choice_kind(c, x, y)),
-                _ => Ok(None),
-            }
+            let Some(condition) = kind_of_expr(alloc, &parts.condition, of)? else {
+                return Ok(None);
+            };
+            let Some(yes) = kind_of_expr(alloc, &parts.yes, of)? else {
+                return Ok(None);
+            };
+            let Some(no) = kind_of_expr(alloc, &parts.no, of)? else {
+                return Ok(None);
+            };
+            Ok(choice_kind(condition, yes, no))
         }
     }
 }

@@ -3,7 +3,7 @@ ghost use Rattle.std.specs.Prelude.{◌≡◌, ◌↔◌, IfOk, IsTrue, Some, No
 ghost use Rattle.std.specs.Cmp.Lexicographic.{pointwise};
 ghost use Rattle.reo_exprs.specs.Kinds.{kind_of, joins, join_of, LiesInside, is_within, interval_of, is_bool};
 
-use crate::interval::{Interval, hull, is_near};
+use crate::interval::{Interval, is_near};
 use reo_values::{Boxed, Bytes, Copies, Kindred, NoMemory, Twins, copy_kindred};
 use std::alloc::Global;
 
@@ -29,15 +29,11 @@ pub fn kind_of(alloc: Global, kindred: &Kindred) -> Result<Kindred, NoMemory>
 fn same_names(a: &[Bytes], b: &[Bytes]) -> bool
     ensures { result ≡ pointwise bytes_eq a.now b.now }
 {
-    if a.len() != b.len() {
-        return false;
+    match (a.split_first(), b.split_first()) {
+        (Some((x, xs)), Some((y, ys))) => x.as_slice() == y.as_slice() && same_names(xs, ys),
+        (None, None) => true,
+        _ => false,
     }
-    for (place, name) in a.iter().enumerate() {
-        if name.as_slice() != b[place].as_slice() {
-            return false;
-        }
-    }
-    true
 }
 
 /// Whether two types join: their kinds are equal. This takes no memory.
@@ -61,32 +57,32 @@ pub fn joins(a: &Kindred, b: &Kindred) -> bool
 /// The join of two types that join: the least interval that contains both, and the greater
 /// length. `NoMemory` is want of memory.
 pub fn join(alloc: Global, a: &Kindred, b: &Kindred) -> Result<Kindred, NoMemory>
-    requires { IsTrue (joins a.now b.now) }
     ensures { IfOk result (λ made. made ≡ join_of a.now b.now) }
 {
-    match (a, b) {
-        (Kindred::Int(low, high), Kindred::Int(low2, high2)) => {
-            let x = Interval {
-                low: *low,
-                high: *high,
-            };
-            let y = Interval {
-                low: *low2,
-                high: *high2,
-            };
-            let both = hull(x, y);
-            Ok(Kindred::Int(both.low, both.high))
-        }
-        (Kindred::Text(most), Kindred::Text(most2)) => {
-            let (most, most2) = (*most, *most2);
-            Ok(Kindred::Text(most.max(most2)))
-        }
-        (Kindred::Pair(x), Kindred::Pair(y)) => {
-            let (x, y) = (x.get(), y.get());
-            let left = join(alloc, &x.left, &y.left)?;
-            let right = join(alloc, &x.right, &y.right)?;
-            Ok(Kindred::Pair(Boxed::new(alloc, Twins { left, right })?))
-        }
+    match a {
+        Kindred::Int(low, high) => match b {
+            Kindred::Int(low2, high2) => {
+                let (low, high, low2, high2) = (*low, *high, *low2, *high2);
+                Ok(Kindred::Int(low.min(low2), high.max(high2)))
+            }
+            _ => copy_kindred(alloc, a),
+        },
+        Kindred::Text(most) => match b {
+            Kindred::Text(most2) => {
+                let (most, most2) = (*most, *most2);
+                Ok(Kindred::Text(most.max(most2)))
+            }
+            _ => copy_kindred(alloc, a),
+        },
+        Kindred::Pair(x) => match b {
+            Kindred::Pair(y) => {
+                let (x, y) = (x.get(), y.get());
+                let left = join(alloc, &x.left, &y.left)?;
+                let right = join(alloc, &x.right, &y.right)?;
+                Ok(Kindred::Pair(Boxed::new(alloc, Twins { left, right })?))
+            }
+            _ => copy_kindred(alloc, a),
+        },
         _ => copy_kindred(alloc, a),
     }
 }

@@ -1,9 +1,9 @@
 //! The type of an expression.
-ghost use Rattle.std.specs.Prelude.{◌≡◌, IfOk, IsTrue, IsSome, Some, None};
+ghost use Rattle.std.specs.Prelude.{◌≡◌, IfOk, IsTrue, IsSome, Some, None, nat_le};
 ghost use Rattle.std.specs.Result.{IsErrOf};
 ghost use Rattle.reo_exprs.specs.Interval.{is_near_interval, near, arithmetic};
 ghost use Rattle.reo_exprs.specs.Kinds.{is_within};
-ghost use Rattle.reo_exprs.specs.Typing.{within, is_positive, may_stand_right, int_type, unary_within, binary_within, if_within, kind_of_expr, type_of_expr};
+ghost use Rattle.reo_exprs.specs.Typing.{provided, within, may_stand_right, int_type, unary_within, numbers_within, binary_within, if_within, kind_of_expr, type_of_expr};
 
 use crate::interval::{Interval, difference, negated, product, quotient, remainder, sum};
 use crate::kind::kind_of_expr;
@@ -71,7 +71,11 @@ fn arithmetic(op: Binary, x: Interval, y: Interval) -> Option<Interval>
     }
 }
 
-fn number_type(op: Binary, x: &Kindred, y: &Kindred) -> Option<Kindred> {
+fn number_type(op: Binary, x: &Kindred, y: &Kindred) -> Option<Kindred>
+    requires left { IsTrue (is_within x.now) }
+    requires right { IsTrue (is_within y.now) }
+    ensures { result ≡ numbers_within op x.now y.now }
+{
     let (x, y) = (interval_of(x)?, interval_of(y)?);
     if !may_stand_right(op, y) {
         return None;
@@ -119,7 +123,9 @@ fn choice_type(
     }
 }
 
-fn literal_text_type(length: usize) -> Option<Kindred> {
+fn literal_text_type(length: usize) -> Option<Kindred>
+    ensures { result ≡ provided (nat_le length 1024) (Kindred.Text length) }
+{
     if length <= 1024 {
         Some(Kindred::Text(length as u16))
     } else {
@@ -138,28 +144,34 @@ fn type_within(alloc: Global, expr: &Expr, of: &Kindred) -> Result<Option<Kindre
         Expr::Int(number) => Ok(within(Kindred::Int(*number, *number))),
         Expr::Text(bytes) => Ok(literal_text_type(bytes.len())),
         Expr::Sym(names, _) => Ok(Some(Kindred::Sym(names.copied(alloc)?))),
-        Expr::One(op, operand) => match type_within(alloc, operand.get(), of)? {
-            Some(x) => Ok(one_type(*op, x)),
-            None => Ok(None),
-        },
+        Expr::One(op, operand) => {
+            let Some(x) = type_within(alloc, operand.get(), of)? else {
+                return Ok(None);
+            };
+            Ok(one_type(*op, x))
+        }
         Expr::Two(op, pair) => {
             let pair = pair.get();
-            let left = type_within(alloc, &pair.left, of)?;
-            let right = type_within(alloc, &pair.right, of)?;
-            match (left, right) {
-                (Some(x), Some(y)) => two_type(alloc, *op, x, y),
-                _ => Ok(None),
-            }
+            let Some(x) = type_within(alloc, &pair.left, of)? else {
+                return Ok(None);
+            };
+            let Some(y) = type_within(alloc, &pair.right, of)? else {
+                return Ok(None);
+            };
+            two_type(alloc, *op, x, y)
         }
         Expr::If(parts) => {
             let parts = parts.get();
-            let condition = type_within(alloc, &parts.condition, of)?;
-            let yes = type_within(alloc, &parts.yes, of)?;
-            let no = type_within(alloc, &parts.no, of)?;
-            match (condition, yes, no) {
-                (Some(c), Some(x), Some(y)) => choice_type(alloc, &c, &x, &y),
-                _ => Ok(None),
-            }
+            let Some(condition) = type_within(alloc, &parts.condition, of)? else {
+                return Ok(None);
+            };
+            let Some(yes) = type_within(alloc, &parts.yes, of)? else {
+                return Ok(None);
+            };
+            let Some(no) = type_within(alloc, &parts.no, of)? else {
+                return Ok(None);
+            };
+            choice_type(alloc, &condition, &yes, &no)
         }
     }
 }

@@ -1,7 +1,6 @@
 //! The value of an expression.
 ghost use Rattle.std.specs.Prelude.{◌≡◌, ◌↔◌, IfOk, IsTrue, Some};
 ghost use Rattle.reo_values.specs.Kind.{IsIn};
-ghost use Rattle.reo_exprs.specs.Sound.{IsSound};
 ghost use Rattle.reo_exprs.specs.Typing.{IsTyped, type_of_expr};
 ghost use Rattle.reo_exprs.specs.Valued.{truth, value_of_expr};
 
@@ -17,7 +16,6 @@ pub fn value_of(
     of: &Kindred,
     item: &Value,
 ) -> Result<Value, NoMemory>
-    requires sound { IsSound expr.now }
     requires typed { IsTyped expr.now of.now }
     requires member { IsIn item.now of.now }
     ensures { IfOk result (λ made. made ≡ value_of_expr expr.now item.now) }
@@ -39,7 +37,6 @@ pub fn value_of(
 
 /// Whether a value is that of an expression on an item. This takes no memory.
 pub fn value_is(expr: &Expr, of: &Kindred, item: &Value, value: &Value) -> bool
-    requires sound { IsSound expr.now }
     requires typed { IsTyped expr.now of.now }
     requires member { IsIn item.now of.now }
     ensures { IsTrue result ↔ (value_of_expr expr.now item.now ≡ value.now) }
@@ -50,7 +47,6 @@ pub fn value_is(expr: &Expr, of: &Kindred, item: &Value, value: &Value) -> bool
 /// Whether the value of an expression on an item is true, where its type is that of truth values.
 /// This takes no memory.
 pub fn truth_of(expr: &Expr, of: &Kindred, item: &Value) -> bool
-    requires sound { IsSound expr.now }
     requires typed { type_of_expr expr.now of.now ≡ Some Kindred.Bool }
     requires member { IsIn item.now of.now }
     ensures { value_of_expr expr.now item.now ≡ Value.Bool result }

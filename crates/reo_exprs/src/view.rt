@@ -2,7 +2,6 @@
 ghost use Rattle.std.specs.Prelude.{◌≡◌, ◌≤◌, ◌+◌, IsTrue, pos, length};
 ghost use Rattle.reo_values.specs.Kind.{IsIn};
 ghost use Rattle.reo_exprs.specs.Interval.{is_near};
-ghost use Rattle.reo_exprs.specs.Sound.{IsSound};
 ghost use Rattle.reo_exprs.specs.Typing.{IsTyped};
 ghost use Rattle.reo_exprs.specs.Valued.{truth, number, bytes_of, same_value, unary_value, binary_value, value_of_expr};
 ghost use Rattle.reo_exprs.specs.Views.{AreTyped, value_of_view, work, work_of_view};
@@ -90,7 +89,6 @@ fn one_view<'a>(op: Unary, x: View<'a>, of: &Kindred, item: &'a Value) -> View<'
 // The value of an operator on those of its operands.
 #[cycle(seeing)]
 fn two_view<'a>(op: Binary, pair: &'a ExprPair, of: &Kindred, item: &'a Value) -> View<'a>
-    requires sound { IsSound (Expr.Two op pair.now) }
     requires typed { IsTyped (Expr.Two op pair.now) of.now }
     requires member { IsIn item.now of.now }
     ensures value { value_of_view result item.now ≡ value_of_expr (Expr.Two op pair.now) item.now }
@@ -123,7 +121,6 @@ fn two_view<'a>(op: Binary, pair: &'a ExprPair, of: &Kindred, item: &'a Value) -
 /// The value of an expression on an item. Each part of the expression is looked at once at most.
 #[cycle(seeing)]
 pub fn view_of<'a>(expr: &'a Expr, of: &Kindred, item: &'a Value) -> View<'a>
-    requires sound { IsSound expr.now }
     requires typed { IsTyped expr.now of.now }
     requires member { IsIn item.now of.now }
     ensures value { value_of_view result item.now ≡ value_of_expr expr.now item.now }

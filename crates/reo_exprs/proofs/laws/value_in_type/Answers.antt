@@ -1,6 +1,5 @@
-use Rattle.reo_exprs.proofs.Corners.{product_has, quotient_has}
-use Rattle.reo_exprs.proofs.Trees.{work-If}
+use Rattle.reo_exprs.proofs.InType.{value_in_type}
 use Rattle.reo_exprs.proofs.laws.value_in_type.Goals as goal
 
 pub returns : goal.returns
-returns c = product_has
+returns c = value_in_type c.args.expr.now c.args.of.now c.args.kindred.now c.args.item.now c.requires.sound c.requires.typed c.requires.member
