@@ -1,1 +1,2 @@
 pub mod ItemTests
+pub mod RuleLemmas

@@ -10,7 +10,7 @@ use Rattle.reo_behaviour.specs.Gate.{no_gate, CanPlace, IsGateWith}
 use Rattle.reo_kinds.specs.declared.kind.WriterPort.{WriterPort}
 use Rattle.reo_kinds.specs.declared.kind.TakerPort.{TakerPort}
 use Rattle.reo_kinds.specs.declared.kind.Kind.{Kind}
-use Rattle.reo_kinds.specs.declared.kind.Kind.TheVariants.{Writer, Taker, Sync, Lossy, SyncDrain, AsyncDrain, Merger, Replicator}
+use Rattle.reo_kinds.specs.declared.kind.Kind.TheVariants.{Writer, Taker, Sync, Lossy, SyncDrain, AsyncDrain, Filter, Map, Merger, Replicator}
 use Rattle.reo_kinds.specs.Items.{is_item}
 use Rattle.reo_kinds.specs.Kinds.{behaviour_of, settled_kind, gate_of, placed_kind, withdrawn_kind, offering_if, unoffered, with_take}
 use Rattle.reo_kinds.specs.KindLaws.{same_shape}
@@ -34,6 +34,8 @@ placed_kind_gate Sync offer can = let way = can.way in cc
 placed_kind_gate Lossy offer can = let way = can.way in cc
 placed_kind_gate SyncDrain offer can = let way = can.way in cc
 placed_kind_gate AsyncDrain offer can = let way = can.way in cc
+placed_kind_gate (Filter rule) offer can = let way = can.way in cc
+placed_kind_gate (Map rule) offer can = let way = can.way in cc
 placed_kind_gate (Merger branches) offer can = let way = can.way in cc
 placed_kind_gate (Replicator branches) offer can = let way = can.way in cc
 
@@ -46,6 +48,8 @@ placed_kind_shape Sync offer = same_shape _
 placed_kind_shape Lossy offer = same_shape _
 placed_kind_shape SyncDrain offer = same_shape _
 placed_kind_shape AsyncDrain offer = same_shape _
+placed_kind_shape (Filter rule) offer = same_shape _
+placed_kind_shape (Map rule) offer = same_shape _
 placed_kind_shape (Merger branches) offer = same_shape _
 placed_kind_shape (Replicator branches) offer = same_shape _
 
@@ -57,6 +61,8 @@ withdrawn_kind_gate Sync = no_gate_stays None refl
 withdrawn_kind_gate Lossy = no_gate_stays None refl
 withdrawn_kind_gate SyncDrain = no_gate_stays None refl
 withdrawn_kind_gate AsyncDrain = no_gate_stays None refl
+withdrawn_kind_gate (Filter rule) = no_gate_stays None refl
+withdrawn_kind_gate (Map rule) = no_gate_stays None refl
 withdrawn_kind_gate (Merger branches) = no_gate_stays None refl
 withdrawn_kind_gate (Replicator branches) = no_gate_stays None refl
 
@@ -67,6 +73,8 @@ withdrawn_kind_shape Sync = same_shape _
 withdrawn_kind_shape Lossy = same_shape _
 withdrawn_kind_shape SyncDrain = same_shape _
 withdrawn_kind_shape AsyncDrain = same_shape _
+withdrawn_kind_shape (Filter rule) = same_shape _
+withdrawn_kind_shape (Map rule) = same_shape _
 withdrawn_kind_shape (Merger branches) = same_shape _
 withdrawn_kind_shape (Replicator branches) = same_shape _
 
@@ -95,5 +103,7 @@ settled_kind_gate Sync rows taken = no_gate_stays _ (none_either_way _)
 settled_kind_gate Lossy rows taken = no_gate_stays _ (none_either_way _)
 settled_kind_gate SyncDrain rows taken = no_gate_stays _ (none_either_way _)
 settled_kind_gate AsyncDrain rows taken = no_gate_stays _ (none_either_way _)
+settled_kind_gate (Filter rule) rows taken = no_gate_stays _ (none_either_way _)
+settled_kind_gate (Map rule) rows taken = no_gate_stays _ (none_either_way _)
 settled_kind_gate (Merger branches) rows taken = no_gate_stays _ (none_either_way _)
 settled_kind_gate (Replicator branches) rows taken = no_gate_stays _ (none_either_way _)

@@ -8,10 +8,11 @@ use Rattle.reo_behaviour.specs.Marks.{is_flow}
 use Rattle.reo_behaviour.specs.Behaviour.{Behaviour}
 use Rattle.reo_behaviour.specs.Lawful.{IsLawful, SameShape, IsQuiet}
 use Rattle.reo_kinds.specs.declared.kind.Kind.{Kind}
-use Rattle.reo_kinds.specs.declared.kind.Kind.TheVariants.{Writer, Taker, Sync, Lossy, SyncDrain, AsyncDrain, Merger, Replicator}
+use Rattle.reo_kinds.specs.declared.kind.Kind.TheVariants.{Writer, Taker, Sync, Lossy, SyncDrain, AsyncDrain, Filter, Map, Merger, Replicator}
 use Rattle.reo_kinds.specs.Kinds.{behaviour_of, settled_kind}
 use Rattle.reo_kinds.specs.PortLaws.{writer_lawful, taker_lawful}
-use Rattle.reo_kinds.specs.ChannelLaws.{sync_lawful, lossy_lawful, sync_drain_lawful, async_drain_lawful}
+use Rattle.reo_kinds.specs.Rules.{accepts, image}
+use Rattle.reo_kinds.specs.ChannelLaws.{sync_lawful, lossy_lawful, sync_drain_lawful, async_drain_lawful, filter_lawful, map_lawful}
 use Rattle.reo_kinds.specs.BranchLaws.{merger_lawful, replicator_lawful}
 
 pub kind_lawful : (kind : Kind) → IsLawful (behaviour_of kind)
@@ -21,6 +22,8 @@ kind_lawful Sync = sync_lawful
 kind_lawful Lossy = lossy_lawful
 kind_lawful SyncDrain = sync_drain_lawful
 kind_lawful AsyncDrain = async_drain_lawful
+kind_lawful (Filter rule) = filter_lawful (accepts rule)
+kind_lawful (Map rule) = map_lawful (image rule)
 kind_lawful (Merger branches) = merger_lawful branches.count branches.few
 kind_lawful (Replicator branches) = replicator_lawful branches.count branches.few
 
@@ -35,6 +38,8 @@ kind_shape Sync rows taken = same_shape _
 kind_shape Lossy rows taken = same_shape _
 kind_shape SyncDrain rows taken = same_shape _
 kind_shape AsyncDrain rows taken = same_shape _
+kind_shape (Filter rule) rows taken = same_shape _
+kind_shape (Map rule) rows taken = same_shape _
 kind_shape (Merger branches) rows taken = same_shape _
 kind_shape (Replicator branches) rows taken = same_shape _
 
@@ -52,5 +57,7 @@ kind_quiet Sync rows quiet = refl
 kind_quiet Lossy rows quiet = refl
 kind_quiet SyncDrain rows quiet = refl
 kind_quiet AsyncDrain rows quiet = refl
+kind_quiet (Filter rule) rows quiet = refl
+kind_quiet (Map rule) rows quiet = refl
 kind_quiet (Merger branches) rows quiet = refl
 kind_quiet (Replicator branches) rows quiet = refl

@@ -13,9 +13,10 @@ use Rattle.reo_behaviour.specs.Gate.{Gate, no_gate}
 use Rattle.reo_kinds.specs.declared.kind.WriterPort.{WriterPort}
 use Rattle.reo_kinds.specs.declared.kind.TakerPort.{TakerPort}
 use Rattle.reo_kinds.specs.declared.kind.Kind.{Kind}
-use Rattle.reo_kinds.specs.declared.kind.Kind.TheVariants.{Writer, Taker, Sync, Lossy, SyncDrain, AsyncDrain, Merger, Replicator}
+use Rattle.reo_kinds.specs.declared.kind.Kind.TheVariants.{Writer, Taker, Sync, Lossy, SyncDrain, AsyncDrain, Filter, Map, Merger, Replicator}
 use Rattle.reo_kinds.specs.Items.{is_item}
-use Rattle.reo_kinds.specs.Tables.{writer, taker, sync, lossy, sync_drain, async_drain, merger, replicator, ready_mark}
+use Rattle.reo_kinds.specs.Rules.{accepts, image}
+use Rattle.reo_kinds.specs.Tables.{writer, taker, sync, lossy, sync_drain, async_drain, filter, map_table, merger, replicator, ready_mark}
 
 -- The table of a kind in its present state.
 abbrev pub behaviour_of : Kind → Behaviour
@@ -25,6 +26,8 @@ behaviour_of Sync = sync
 behaviour_of Lossy = lossy
 behaviour_of SyncDrain = sync_drain
 behaviour_of AsyncDrain = async_drain
+behaviour_of (Filter rule) = filter (accepts rule)
+behaviour_of (Map rule) = map_table (image rule)
 behaviour_of (Merger branches) = merger branches.count
 behaviour_of (Replicator branches) = replicator branches.count
 
@@ -43,6 +46,8 @@ settled_kind Sync rows taken = Sync
 settled_kind Lossy rows taken = Lossy
 settled_kind SyncDrain rows taken = SyncDrain
 settled_kind AsyncDrain rows taken = AsyncDrain
+settled_kind (Filter rule) rows taken = Filter rule
+settled_kind (Map rule) rows taken = Map rule
 settled_kind (Merger branches) rows taken = Merger branches
 settled_kind (Replicator branches) rows taken = Replicator branches
 
@@ -54,6 +59,8 @@ gate_of Sync = no_gate
 gate_of Lossy = no_gate
 gate_of SyncDrain = no_gate
 gate_of AsyncDrain = no_gate
+gate_of (Filter rule) = no_gate
+gate_of (Map rule) = no_gate
 gate_of (Merger branches) = no_gate
 gate_of (Replicator branches) = no_gate
 
@@ -75,6 +82,8 @@ placed_kind Sync offer = Sync
 placed_kind Lossy offer = Lossy
 placed_kind SyncDrain offer = SyncDrain
 placed_kind AsyncDrain offer = AsyncDrain
+placed_kind (Filter rule) offer = Filter rule
+placed_kind (Map rule) offer = Map rule
 placed_kind (Merger branches) offer = Merger branches
 placed_kind (Replicator branches) offer = Replicator branches
 
@@ -86,5 +95,7 @@ withdrawn_kind Sync = Sync
 withdrawn_kind Lossy = Lossy
 withdrawn_kind SyncDrain = SyncDrain
 withdrawn_kind AsyncDrain = AsyncDrain
+withdrawn_kind (Filter rule) = Filter rule
+withdrawn_kind (Map rule) = Map rule
 withdrawn_kind (Merger branches) = Merger branches
 withdrawn_kind (Replicator branches) = Replicator branches

@@ -1,4 +1,7 @@
 pub mod Items
+pub mod Predicates
+pub mod Rules
+pub mod Given
 pub mod Tables
 pub mod Kinds
 pub mod PortLaws

@@ -1,5 +1,6 @@
 -- The tables of the kinds. Ends stand in the order given; the jam row is the last.
-use Rattle.std.specs.Prelude.{ℕ, ◌+◌, Bool, true, false, Option, Some, None, is_some, cond, ◌==◌, nat_lt}
+use Rattle.std.specs.Prelude.{ℕ, ◌+◌, Bool, true, false, not, Option, Some, None, is_some, cond, ◌==◌, nat_lt}
+use Rattle.std.specs.Option.{option_map}
 use Rattle.reo_values.specs.declared.value.Value.{Value}
 use Rattle.reo_behaviour.specs.declared.mark.Mark.{Mark}
 use Rattle.reo_behaviour.specs.declared.mark.Mark.TheVariants.{F, G, R, J}
@@ -14,6 +15,9 @@ three_rows a b last row = cond (row == 0) a (cond (row == 1) b last)
 
 abbrev pub four_rows : {X : Type 0} → X → X → X → X → ℕ → X
 four_rows a b c last row = cond (row == 0) a (cond (row == 1) b (cond (row == 2) c last))
+
+abbrev pub five_rows : {X : Type 0} → X → X → X → X → X → ℕ → X
+five_rows a b c d last row = cond (row == 0) a (cond (row == 1) b (cond (row == 2) c (cond (row == 3) d last)))
 
 -- The marks of the two ends of a channel.
 abbrev pub ends : Mark → Mark → ℕ → Mark
@@ -120,6 +124,36 @@ async_drain = record {
   from = λ _ _ _. None;
   passes = λ _ _ _ _. true;
   given = λ _ _ _ _. None;
+}
+
+-- Filter (in, out): FF, FG, RG, GR; classes 0 1 2 2, jam 3. Row 0 lets in what is accepted, row 1 what is not.
+abbrev pub filter : (Value → Bool) → Behaviour
+filter accepts = record {
+  ends = 2;
+  sides = 1;
+  side_of = λ _. 0;
+  takes_in = λ end. end == 0;
+  rows = λ _. 5;
+  mark = λ _ row. five_rows (ends F F) (ends F G) (ends R G) (ends G R) (ends J J) row;
+  class = λ _ row _. five_rows 0 1 2 2 3 row;
+  from = λ _ _ _. Some 0;
+  passes = λ _ row _ item. three_rows (accepts item) (not (accepts item)) true row;
+  given = λ _ _ _ taken. taken;
+}
+
+-- Map (in, out): FF, RG, GR; classes 0 1 1, jam 2. What it gives is the image of the item at in.
+abbrev pub map_table : (Value → Value) → Behaviour
+map_table image = record {
+  ends = 2;
+  sides = 1;
+  side_of = λ _. 0;
+  takes_in = λ end. end == 0;
+  rows = λ _. 4;
+  mark = λ _ row. four_rows (ends F F) (ends R G) (ends G R) (ends J J) row;
+  class = λ _ row _. four_rows 0 1 1 2 row;
+  from = λ _ _ _. Some 0;
+  passes = λ _ _ _ _. true;
+  given = λ _ _ _ taken. option_map image taken;
 }
 
 -- The marks of the inputs and of the output of a merger with so many inputs.

@@ -1,8 +1,11 @@
 //! The primitives.
 ghost use Rattle.std.specs.Prelude.{◌≡◌, ◌≤◌, ◌↔◌, IsTrue, true, false, None, Some};
 ghost use Rattle.reo_values.specs.Kind.{IsIn};
+ghost use Rattle.reo_exprs.specs.Typing.{IsTyped};
 ghost use Rattle.reo_kinds.specs.Items.{offer_fits};
+ghost use Rattle.reo_kinds.specs.Predicates.{IsPredicate, IsTyped-prop};
 
+use reo_exprs::Expr;
 use reo_values::{Kindred, Value};
 
 /// A primitive: a port, a channel, or what joins several ends at one node.
@@ -20,6 +23,10 @@ pub enum Kind {
     SyncDrain,
     /// A channel with two source ends of which one flows at a time.
     AsyncDrain,
+    /// A channel that passes the items on for which its expression is true, and loses all others.
+    Filter(FilterRule),
+    /// A channel that gives its expression's value on the item that it takes.
+    Map(MapRule),
     /// A node's inputs, of which one flows at a time, with its output.
     Merger(Branches),
     /// A node's input with its outputs, which all flow together.
@@ -39,6 +46,24 @@ pub struct WriterPort {
 #[derive(Drop)]
 pub struct TakerPort {
     pub pending: bool,
+}
+
+/// A filter's expression, and the type of the items at its source end.
+#[derive(Drop)]
+pub struct FilterRule {
+    pub of: Kindred,
+    pub expr: Expr,
+    /// The expression's type is that of truth values, where `it` has the source end's type.
+    pub ghost typed: { IsPredicate expr of },
+}
+
+/// A map's expression, and the type of the items at its source end.
+#[derive(Drop)]
+pub struct MapRule {
+    pub of: Kindred,
+    pub expr: Expr,
+    /// The expression has a type, where `it` has the source end's type.
+    pub ghost typed: { IsTyped expr of } by { IsTyped-prop of-code expr of },
 }
 
 /// How many inputs a merger has, or outputs a replicator: 2 to 8,192.
@@ -80,6 +105,28 @@ impl TakerPort {
         ensures { result.pending ≡ false }
     {
         TakerPort { pending: false }
+    }
+}
+
+impl FilterRule {
+    /// A filter of items of this type by this expression.
+    pub fn new(of: Kindred, expr: Expr) -> Self
+        requires { IsPredicate expr of }
+        ensures of { result.of ≡ of }
+        ensures expr { result.expr ≡ expr }
+    {
+        FilterRule { of, expr }
+    }
+}
+
+impl MapRule {
+    /// A map of items of this type by this expression.
+    pub fn new(of: Kindred, expr: Expr) -> Self
+        requires { IsTyped expr of }
+        ensures of { result.of ≡ of }
+        ensures expr { result.expr ≡ expr }
+    {
+        MapRule { of, expr }
     }
 }
 

@@ -1,11 +1,10 @@
 //! The kinds as primitives.
-ghost use Rattle.std.specs.Prelude.{◌≡◌};
-ghost use Rattle.std.specs.Option.{option_copied};
 ghost use Rattle.reo_kinds.specs.Kinds.{behaviour_of, settled_kind};
 ghost use Rattle.reo_kinds.specs.KindLaws.{kind_lawful, kind_shape, kind_quiet};
 
+use crate::given::{Given, given_by};
 use crate::kind::Kind;
-use crate::{offer, table};
+use crate::{offer, rule, table};
 use reo_behaviour::{Chosen, Mark, Primitive};
 use reo_values::{NoMemory, Value, copy, same_item};
 use std::alloc::Global;
@@ -19,6 +18,7 @@ impl Primitive for Kind {
         match self {
             Kind::Writer(_) | Kind::Taker(_) => 1,
             Kind::Sync | Kind::Lossy | Kind::SyncDrain | Kind::AsyncDrain => 2,
+            Kind::Filter(_) | Kind::Map(_) => 2,
             Kind::Merger(branches) | Kind::Replicator(branches) => branches.count + 1,
         }
     }
@@ -27,6 +27,7 @@ impl Primitive for Kind {
         match self {
             Kind::Writer(_) | Kind::Taker(_) => 1,
             Kind::Sync | Kind::Lossy | Kind::SyncDrain | Kind::AsyncDrain => 1,
+            Kind::Filter(_) | Kind::Map(_) => 1,
             Kind::Merger(_) | Kind::Replicator(_) => 1,
         }
     }
@@ -35,6 +36,7 @@ impl Primitive for Kind {
         match self {
             Kind::Writer(_) | Kind::Taker(_) => 0,
             Kind::Sync | Kind::Lossy | Kind::SyncDrain | Kind::AsyncDrain => 0,
+            Kind::Filter(_) | Kind::Map(_) => 0,
             Kind::Merger(_) | Kind::Replicator(_) => 0,
         }
     }
@@ -43,7 +45,8 @@ impl Primitive for Kind {
         match self {
             Kind::Writer(_) => false,
             Kind::Taker(_) | Kind::SyncDrain | Kind::AsyncDrain => true,
-            Kind::Sync | Kind::Lossy | Kind::Replicator(_) => end == 0,
+            Kind::Sync | Kind::Lossy | Kind::Filter(_) | Kind::Map(_) => end == 0,
+            Kind::Replicator(_) => end == 0,
             Kind::Merger(branches) => end < branches.count,
         }
     }
@@ -52,7 +55,8 @@ impl Primitive for Kind {
         match self {
             Kind::Writer(port) => table::ready_rows(port.offer.is_some()),
             Kind::Taker(port) => table::ready_rows(port.pending),
-            Kind::Sync | Kind::Lossy | Kind::SyncDrain | Kind::AsyncDrain => 4,
+            Kind::Sync | Kind::Lossy | Kind::SyncDrain | Kind::AsyncDrain | Kind::Map(_) => 4,
+            Kind::Filter(_) => 5,
             Kind::Merger(branches) | Kind::Replicator(branches) => branches.count + 3,
         }
     }
@@ -61,7 +65,7 @@ impl Primitive for Kind {
         match self {
             Kind::Writer(port) => table::ready_mark(port.offer.is_some(), row),
             Kind::Taker(port) => table::ready_mark(port.pending, row),
-            Kind::Sync | Kind::SyncDrain => match row {
+            Kind::Sync | Kind::SyncDrain | Kind::Map(_) => match row {
                 0 => Mark::F,
                 1 => table::ends(Mark::R, Mark::G, end),
                 2 => table::ends(Mark::G, Mark::R, end),
@@ -79,6 +83,7 @@ impl Primitive for Kind {
                 2 => Mark::R,
                 _ => Mark::J,
             },
+            Kind::Filter(_) => table::filter_mark(row, end),
             Kind::Merger(branches) => table::merger_mark(branches.count, row, end),
             Kind::Replicator(branches) => table::replicator_mark(branches.count, row, end),
         }
@@ -88,7 +93,7 @@ impl Primitive for Kind {
         match self {
             Kind::Writer(port) => table::ready_class(port.offer.is_some(), row),
             Kind::Taker(port) => table::ready_class(port.pending, row),
-            Kind::Sync | Kind::SyncDrain => match row {
+            Kind::Sync | Kind::SyncDrain | Kind::Map(_) => match row {
                 0 => 0,
                 1 | 2 => 1,
                 _ => 2,
@@ -99,6 +104,7 @@ impl Primitive for Kind {
                 2 => 2,
                 _ => 3,
             },
+            Kind::Filter(_) => table::filter_class(row),
             Kind::Merger(branches) => table::merger_class(branches.count, row),
             Kind::Replicator(branches) => table::replicator_class(branches.count, row),
         }
@@ -108,15 +114,21 @@ impl Primitive for Kind {
         match self {
             Kind::Writer(_) | Kind::Taker(_) => None,
             Kind::SyncDrain | Kind::AsyncDrain => None,
-            Kind::Sync | Kind::Lossy | Kind::Replicator(_) => Some(0),
+            Kind::Sync | Kind::Lossy | Kind::Filter(_) | Kind::Map(_) => Some(0),
+            Kind::Replicator(_) => Some(0),
             Kind::Merger(_) => Some(row),
         }
     }
 
-    fn passes(&self, _side: usize, _row: usize, _end: usize, _item: &Value) -> bool {
+    fn passes(&self, _side: usize, row: usize, _end: usize, item: &Value) -> bool {
         match self {
+            Kind::Filter(filter) => match row {
+                0 => rule::accepts(filter, item),
+                1 => !rule::accepts(filter, item),
+                _ => true,
+            },
             Kind::Writer(_) | Kind::Taker(_) => true,
-            Kind::Sync | Kind::Lossy | Kind::SyncDrain | Kind::AsyncDrain => true,
+            Kind::Sync | Kind::Lossy | Kind::SyncDrain | Kind::AsyncDrain | Kind::Map(_) => true,
             Kind::Merger(_) | Kind::Replicator(_) => true,
         }
     }
@@ -129,9 +141,10 @@ impl Primitive for Kind {
         _end: usize,
         taken: Option<&Value>,
     ) -> Result<Value, NoMemory> {
-        match given(self, taken) {
-            Some(item) => copy(alloc, item),
-            None => unreachable!(),
+        match given_by(self, taken) {
+            Given::Same(item) => copy(alloc, item),
+            Given::Image(map, item) => rule::image(alloc, map, item),
+            Given::Nothing => unreachable!(),
         }
     }
 
@@ -143,9 +156,10 @@ impl Primitive for Kind {
         taken: Option<&Value>,
         item: &Value,
     ) -> bool {
-        match given(self, taken) {
-            Some(own) => same_item(own, item),
-            None => false,
+        match given_by(self, taken) {
+            Given::Same(own) => same_item(own, item),
+            Given::Image(map, own) => rule::is_image(map, own, item),
+            Given::Nothing => false,
         }
     }
 
@@ -162,6 +176,7 @@ impl Primitive for Kind {
                 }
             }
             Kind::Sync | Kind::Lossy | Kind::SyncDrain | Kind::AsyncDrain => {}
+            Kind::Filter(_) | Kind::Map(_) => {}
             Kind::Merger(_) | Kind::Replicator(_) => {}
         }
     }
@@ -171,16 +186,4 @@ impl Primitive for Kind {
     ghost settled_shape = { kind_shape };
 
     ghost quiet = { kind_quiet };
-}
-
-/// The item that a kind gives, where this item was taken at the end that decides.
-fn given<'a>(kind: &'a Kind, taken: Option<&'a Value>) -> Option<&'a Value>
-    ensures { option_copied result ≡ (behaviour_of kind.entry.now).given 0 0 0 (option_copied taken.entry) }
-{
-    match kind {
-        Kind::Writer(port) => port.offer.as_ref(),
-        Kind::Taker(_) | Kind::SyncDrain | Kind::AsyncDrain => None,
-        Kind::Sync | Kind::Lossy => taken,
-        Kind::Merger(_) | Kind::Replicator(_) => taken,
-    }
 }

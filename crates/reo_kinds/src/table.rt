@@ -1,7 +1,8 @@
 //! The literal tables: what stands in each row.
 ghost use Rattle.std.specs.Prelude.{◌≡◌, ◌≤◌};
+ghost use Rattle.reo_behaviour.specs.declared.mark.Mark.TheVariants.{F, G, R, J};
 ghost use Rattle.reo_behaviour.specs.Marks.{is_flow};
-ghost use Rattle.reo_kinds.specs.Tables.{ready_mark, ready_rows, ready_class, ends, merger_mark, merger_class, replicator_mark, replicator_class};
+ghost use Rattle.reo_kinds.specs.Tables.{ready_mark, ready_rows, ready_class, ends, five_rows, merger_mark, merger_class, replicator_mark, replicator_class};
 
 use reo_behaviour::Mark;
 
@@ -48,6 +49,31 @@ pub fn ends(first: Mark, second: Mark, end: usize) -> Mark
     ensures { result ≡ ends first second end }
 {
     if end == 0 { first } else { second }
+}
+
+/// A filter: flow through, flow that is lost, and the two reasons.
+pub fn filter_mark(row: usize, end: usize) -> Mark
+    ensures { result ≡ five_rows (ends F F) (ends F G) (ends R G) (ends G R) (ends J J) row end }
+{
+    match row {
+        0 => Mark::F,
+        1 => ends(Mark::F, Mark::G, end),
+        2 => ends(Mark::R, Mark::G, end),
+        3 => ends(Mark::G, Mark::R, end),
+        _ => Mark::J,
+    }
+}
+
+/// The classes of a filter.
+pub fn filter_class(row: usize) -> usize
+    ensures { result ≡ five_rows 0 1 2 2 3 row }
+{
+    match row {
+        0 => 0,
+        1 => 1,
+        2 | 3 => 2,
+        _ => 3,
+    }
 }
 
 /// A merger with so many inputs, whose output is the end after them.

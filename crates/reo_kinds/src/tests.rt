@@ -6,7 +6,7 @@ use std::alloc::Global;
 use std::test::Fail;
 
 /// A primitive as text. For each row: the marks, `/` and the class; for each end that gives with flow `end<from`, or `end<-`.
-fn shown<P: Primitive>(alloc: Global, primitive: &P) -> Result<String, Fail> {
+pub fn shown<P: Primitive>(alloc: Global, primitive: &P) -> Result<String, Fail> {
     let mut text = String::new(alloc);
     for side in 0..primitive.sides() {
         for row in 0..primitive.rows(side) {
@@ -65,13 +65,23 @@ fn taking(pending: bool) -> Kind {
 }
 
 #[test]
-fn each_kind_has_its_table(rt: HostRuntime) -> Result<(), Fail> {
+fn each_port_has_its_table(rt: HostRuntime) -> Result<(), Fail> {
     let alloc = rt.alloc();
     for (kind, want) in [
         (&offering(3), "F/0 0<-, R/1, J/2, "),
         (&offering(10), "G/0, J/1, "),
         (&taking(true), "F/0, R/1, J/2, "),
         (&taking(false), "G/0, J/1, "),
+    ] {
+        assert_eq!(rt; shown(alloc, kind)?.as_str(), want);
+    }
+    Ok(())
+}
+
+#[test]
+fn each_channel_and_node_has_its_table(rt: HostRuntime) -> Result<(), Fail> {
+    let alloc = rt.alloc();
+    for (kind, want) in [
         (&Kind::Sync, "FF/0 1<0, RG/1, GR/1, JJ/2, "),
         (&Kind::Lossy, "FF/0 1<0, FR/1, RG/2, JJ/3, "),
         (&Kind::SyncDrain, "FF/0, RG/1, GR/1, JJ/2, "),

@@ -1,6 +1,6 @@
 //! How the tests put circuits together.
-use reo_behaviour::{End, Joint};
-use reo_circuit::{Circuit, are_parts};
+use reo_behaviour::{End, Joint, Offer, Ported};
+use reo_circuit::{Circuit, NetFault, are_parts};
 use reo_kinds::{Branches, Kind, TakerPort, WriterPort};
 use reo_plain::plain_first;
 use reo_rows::fill;
@@ -17,6 +17,17 @@ pub fn writer(offered: bool) -> Kind {
     } else {
         WriterPort::new(kindred)
     })
+}
+
+/// A port where the items 0 to 9 are written, with this one offered, or nothing.
+pub fn offering(item: Option<i64>) -> Kind {
+    let mut writer = Kind::Writer(WriterPort::new(Kindred::Int(0, 9)));
+    if let Some(number) = item {
+        if writer.fits(&Value::Int(number)) {
+            writer.place(Offer::Write(Value::Int(number)));
+        }
+    }
+    writer
 }
 
 /// A port where items are taken.
@@ -36,15 +47,15 @@ pub fn replicator(outputs: usize) -> Kind {
     })
 }
 
-/// The circuit of these primitives, the first of which are ports. A joint is a giver's primitive and end, and then a
-/// taker's.
-fn circuit(
+/// The circuit of these primitives, the first of which are ports, or its fault. A joint is a giver's primitive and end,
+/// and then a taker's.
+pub fn made(
     rt: &impl Abort,
     alloc: Global,
     primitives: Vec<Kind>,
     ports: usize,
     joints: &[[usize; 4]],
-) -> Result<Circuit<Kind>, Fail> {
+) -> Result<Result<Circuit<Kind>, NetFault>, Fail> {
     let mut list = List::new(alloc);
     for [giver, source, taker, sink] in joints {
         list.push(Joint {
@@ -61,7 +72,7 @@ fn circuit(
     let primitives = List::from_vec(primitives);
     assert!(rt; are_parts(primitives.as_slice(), ports, list.as_slice()));
     assert!(rt; primitives.len() < 100 && list.len() < 100);
-    Ok(Circuit::new(alloc, primitives, ports, list)?)
+    Ok(Circuit::new(alloc, primitives, ports, list))
 }
 
 /// The rows of the first colouring of a circuit in round 1.
@@ -72,7 +83,7 @@ pub fn first_rows(
     ports: usize,
     joints: &[[usize; 4]],
 ) -> Result<List<u32>, Fail> {
-    let circuit = circuit(rt, alloc, primitives, ports, joints)?;
+    let circuit = made(rt, alloc, primitives, ports, joints)??;
     Ok(plain_first(alloc, &circuit, 1)?.rows)
 }
 
@@ -84,7 +95,7 @@ pub fn filled_items(
     ports: usize,
     joints: &[[usize; 4]],
 ) -> Result<List<Option<Value>>, Fail> {
-    let circuit = circuit(rt, alloc, primitives, ports, joints)?;
+    let circuit = made(rt, alloc, primitives, ports, joints)??;
     let first = plain_first(alloc, &circuit, 1)?;
     Ok(fill(alloc, &circuit, first.rows)?.items)
 }

@@ -4,6 +4,12 @@
 #[cfg(test)]
 mod circuits;
 #[cfg(test)]
+mod refused;
+#[cfg(test)]
 mod row_lists;
+#[cfg(test)]
+mod rules;
+#[cfg(test)]
+mod states;
 #[cfg(test)]
 mod tests;

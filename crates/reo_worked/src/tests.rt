@@ -69,53 +69,11 @@ fn two_channels_are_two_parts(rt: HostRuntime) -> Result<(), Fail> {
     Ok(())
 }
 
-#[test]
-fn a_lossy_channel_loses_where_nothing_is_taken(rt: HostRuntime) -> Result<(), Fail> {
-    let alloc = rt.alloc();
-    for (pending, want) in [(false, [0, 0, 1]), (true, [0, 0, 0])] {
-        let primitives = vec![in alloc; writer(true), taker(pending), Kind::Lossy]?;
-        let rows = first_rows(&rt, alloc, primitives, 2, &[[0, 0, 2, 0], [2, 1, 1, 0]])?;
-        assert_eq!(rt; rows.as_slice(), want.as_slice());
-    }
-    Ok(())
-}
-
-#[test]
-fn drains(rt: HostRuntime) -> Result<(), Fail> {
-    let alloc = rt.alloc();
-    let joints = [[0, 0, 2, 0], [1, 0, 2, 1]];
-    let alone = vec![in alloc; writer(true), writer(false), Kind::SyncDrain]?;
-    let rows = first_rows(&rt, alloc, alone, 2, &joints)?;
-    assert_eq!(rt; rows.as_slice(), [1, 0, 2].as_slice());
-    let tie = vec![in alloc; writer(true), writer(true), Kind::AsyncDrain]?;
-    let rows = first_rows(&rt, alloc, tie, 2, &joints)?;
-    assert_eq!(rt; rows.as_slice(), [0, 1, 0].as_slice());
-    let twice = vec![in alloc; writer(true), Kind::SyncDrain, replicator(2)]?;
-    let rows = first_rows(
-        &rt,
-        alloc,
-        twice,
-        1,
-        &[[0, 0, 2, 0], [2, 1, 1, 0], [2, 2, 1, 1]],
-    )?;
-    assert_eq!(rt; rows.as_slice(), [0, 0, 0].as_slice());
-    Ok(())
-}
-
+/// Two channels from a replicator to a merger, which takes from one of them, beside a part of one channel. Rows of the
+/// first part: the writer, the taker, the channels, the replicator and the merger.
 #[test]
 fn a_jam_stays_in_its_part(rt: HostRuntime) -> Result<(), Fail> {
     let alloc = rt.alloc();
-    let primitives = vec![in alloc;
-        writer(true),
-        taker(true),
-        writer(true),
-        taker(true),
-        Kind::Sync,
-        Kind::Sync,
-        Kind::Sync,
-        replicator(2),
-        merger(),
-    ]?;
     let joints = [
         [0, 0, 7, 0],
         [7, 1, 4, 0],
@@ -126,8 +84,29 @@ fn a_jam_stays_in_its_part(rt: HostRuntime) -> Result<(), Fail> {
         [2, 0, 6, 0],
         [6, 1, 3, 0],
     ];
-    let rows = first_rows(&rt, alloc, primitives, 4, &joints)?;
-    assert_eq!(rt; rows.as_slice(), [2, 2, 0, 0, 3, 3, 0, 4, 4].as_slice());
+    for (a, b, [w, t, s, z, r, m]) in [
+        // all outputs of the replicator flow, and one input of the merger
+        (true, true, [2, 2, 3, 3, 4, 4]),
+        (true, false, [1, 0, 1, 2, 3, 2]),
+        (false, true, [0, 1, 1, 1, 1, 3]),
+        (false, false, [0, 0, 1, 1, 1, 2]),
+    ] {
+        for (c, d, [x, u, y]) in ONE {
+            let primitives = vec![in alloc;
+                writer(a),
+                taker(b),
+                writer(c),
+                taker(d),
+                Kind::Sync,
+                Kind::Sync,
+                Kind::Sync,
+                replicator(2),
+                merger(),
+            ]?;
+            let rows = first_rows(&rt, alloc, primitives, 4, &joints)?;
+            assert_eq!(rt; rows.as_slice(), [w, t, x, u, s, z, y, r, m].as_slice());
+        }
+    }
     Ok(())
 }
 

@@ -1,0 +1,10 @@
+pub mod Children
+pub mod Corners
+pub mod InType
+pub mod Joined
+pub mod Near
+pub mod Options
+pub mod Steps
+pub mod Trees
+pub mod Twinned
+pub mod ValidType

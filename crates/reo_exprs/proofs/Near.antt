@@ -1,0 +1,65 @@
+-- Numbers from -10^18 to 10^18.
+use Rattle.std.proofs.Common.{Bool, true, false, ◌&&◌, ◌≡◌, ◌∙◌, ◌^◌, ◌*◌, ℤ, pos, neg_ℤ, ◌*ℤ◌, ◌-ℤ◌, Option, Some, None, ap, sym, refl, arith}
+use Rattle.std.specs.Prelude.{◌≤ℤ◌, IsTrue, int_le, if◌then◌else◌, FitsSigned}
+use Rattle.std.specs.Int.{int_min, int_max, w64}
+use Rattle.std.proofs.lemmas.Int.{ints, clamps}
+use Rattle.reo_exprs.specs.declared.interval.Interval.{Interval}
+use Rattle.reo_exprs.specs.Interval.{is_near, near_number, is_near_interval, near, least, greatest}
+use Rattle.reo_exprs.proofs.Options.{from_both, some_same}
+
+pub near_bounds : (z : ℤ) → is_near z ≡ true → (neg_ℤ (pos (10 ^ 18)) ≤ℤ z) × (z ≤ℤ pos (10 ^ 18))
+near_bounds z h = let x = from_both (int_le (neg_ℤ (pos (10 ^ 18))) z) (int_le z (pos (10 ^ 18))) h in (grind (arith, ints), grind (arith, ints))
+
+pub interval_bounds : (x : Interval) → IsTrue (is_near_interval x)
+    → (neg_ℤ (pos (10 ^ 18)) ≤ℤ x.low) × (x.low ≤ℤ pos (10 ^ 18)) × (neg_ℤ (pos (10 ^ 18)) ≤ℤ x.high) × (x.high ≤ℤ pos (10 ^ 18))
+interval_bounds x h =
+    let y = from_both (is_near x.low) (is_near x.high) h in
+    let a = near_bounds x.low y.0 in
+    let b = near_bounds x.high y.1 in
+    (a.0, a.1, b.0, b.1)
+
+-- near numbers fit 64 bits, and so do their sums and differences
+pub near_fits : (z : ℤ) → neg_ℤ (pos (10 ^ 18)) ≤ℤ z → z ≤ℤ pos (10 ^ 18) → FitsSigned w64 z
+near_fits z a b = omega (arith, ints)
+
+pub twice_fits : (z : ℤ) → neg_ℤ (pos (2 * 10 ^ 18)) ≤ℤ z → z ≤ℤ pos (2 * 10 ^ 18) → FitsSigned w64 z
+twice_fits z a b = omega (arith, ints)
+
+pub minus_is : (z : ℤ) → pos 0 -ℤ z ≡ neg_ℤ z
+minus_is z = omega (arith, ints)
+
+near_from : (z : ℤ) → neg_ℤ (pos (10 ^ 18)) ≤ℤ z → z ≤ℤ pos (10 ^ 18) → is_near z ≡ true
+near_from z a b = grind (arith, ints)
+
+-- a number that is not near lies in no near interval
+far_test : (p : ℤ) → near_number p ≡ None → is_near p ≡ true → ⊥
+far_test p e h = let n : Some p ≡ None = sym (ap (λ b. if b then Some p else None) h) ∙ e in absurd (cc)
+
+none_if : (b : Bool) (x : Interval) → (b ≡ true → ⊥) → (if b then Some x else None) ≡ None
+none_if true x h = absurd (h refl)
+none_if false x h = refl
+
+pub far_inside : (x : Interval) (p : ℤ) → x.low ≤ℤ p → p ≤ℤ x.high → near_number p ≡ None → near x ≡ None
+far_inside x p a b e = none_if (is_near_interval x) x (λ h.
+    let g = interval_bounds x h in
+    let k : is_near p ≡ true = near_from p (omega (arith, ints)) (omega (arith, ints)) in
+    far_test p e k)
+
+from_test : (b : Bool) (p q : ℤ) → (if b then Some p else None) ≡ Some q → (b ≡ true) × (p ≡ q)
+from_test true p q e = (refl, some_same p q e)
+from_test false p q e = absurd (cc)
+
+pub some_test : (p q : ℤ) → near_number p ≡ Some q → (is_near p ≡ true) × (p ≡ q)
+some_test p q e = from_test (is_near p) p q e
+
+-- and a list of near numbers has near bounds
+pub all_near : (p q r s : ℤ) → is_near p ≡ true → is_near q ≡ true → is_near r ≡ true → is_near s ≡ true
+    → near (record { low = least p q r s; high = greatest p q r s }) ≡ Some (record { low = least p q r s; high = greatest p q r s })
+all_near p q r s a b c d =
+    let x = near_bounds p a in
+    let y = near_bounds q b in
+    let z = near_bounds r c in
+    let w = near_bounds s d in
+    let m : is_near (least p q r s) ≡ true = near_from (least p q r s) (omega (arith, ints, clamps)) (omega (arith, ints, clamps)) in
+    let n : is_near (greatest p q r s) ≡ true = near_from (greatest p q r s) (omega (arith, ints, clamps)) (omega (arith, ints, clamps)) in
+    λ i. if m i && n i then Some (record { low = least p q r s; high = greatest p q r s }) else None

@@ -1,0 +1,6 @@
+pub mod Interval
+pub mod Kinds
+pub mod Sound
+pub mod Typing
+pub mod Valued
+pub mod Views

@@ -1,0 +1,110 @@
+//! Intervals of whole numbers, from -10^18 to 10^18.
+ghost use Rattle.std.specs.Prelude.{◌≡◌, ◌*ℤ◌, ◌≤ℤ◌, ◌&&◌, IsTrue, pos};
+ghost use Rattle.reo_exprs.specs.Interval.{is_near, near_number, near, is_near_interval, negated, sum, difference, product, quotient, remainder};
+
+/// The whole numbers from the first bound to the second, both included.
+#[derive(Clone, Copy, Debug, PartialEq, Eq)]
+pub struct Interval {
+    pub low: i64,
+    pub high: i64,
+}
+
+const REACH: i64 = 1_000_000_000_000_000_000;
+
+pub fn is_near(number: i64) -> bool
+    ensures { result ≡ is_near number }
+{
+    -REACH <= number && number <= REACH
+}
+
+fn near_number(number: i64) -> Option<i64>
+    ensures { result ≡ near_number number }
+{
+    if is_near(number) { Some(number) } else { None }
+}
+
+fn near(low: i64, high: i64) -> Option<Interval>
+    ensures { result ≡ near (record { low = low; high = high }) }
+{
+    if is_near(low) && is_near(high) {
+        Some(Interval { low, high })
+    } else {
+        None
+    }
+}
+
+pub fn negated(x: Interval) -> Option<Interval>
+    requires { IsTrue (is_near_interval x) }
+    ensures { result ≡ near (negated x) }
+{
+    near(-x.high, -x.low)
+}
+
+pub fn sum(x: Interval, y: Interval) -> Option<Interval>
+    requires left { IsTrue (is_near_interval x) }
+    requires right { IsTrue (is_near_interval y) }
+    ensures { result ≡ near (sum x y) }
+{
+    near(x.low + y.low, x.high + y.high)
+}
+
+pub fn difference(x: Interval, y: Interval) -> Option<Interval>
+    requires left { IsTrue (is_near_interval x) }
+    requires right { IsTrue (is_near_interval y) }
+    ensures { result ≡ near (difference x y) }
+{
+    near(x.low - y.high, x.high - y.low)
+}
+
+// A product, where it lies from -10^18 to 10^18.
+fn times(a: i64, b: i64) -> Option<i64>
+    ensures { result ≡ near_number (a *ℤ b) }
+{
+    match a.checked_mul(b) {
+        Some(number) => near_number(number),
+        None => None,
+    }
+}
+
+pub fn product(x: Interval, y: Interval) -> Option<Interval>
+    ensures { result ≡ near (product x y) }
+{
+    let a = times(x.low, y.low)?;
+    let b = times(x.low, y.high)?;
+    let c = times(x.high, y.low)?;
+    let d = times(x.high, y.high)?;
+    Some(Interval {
+        low: a.min(b).min(c.min(d)),
+        high: a.max(b).max(c.max(d)),
+    })
+}
+
+pub fn quotient(x: Interval, y: Interval) -> Option<Interval>
+    requires low { pos 1 ≤ℤ y.low }
+    requires high { pos 1 ≤ℤ y.high }
+    ensures { result ≡ near (quotient x y) }
+{
+    let a = x.low / y.low;
+    let b = x.low / y.high;
+    let c = x.high / y.low;
+    let d = x.high / y.high;
+    near(a.min(b).min(c.min(d)), a.max(b).max(c.max(d)))
+}
+
+pub fn remainder(x: Interval, y: Interval) -> Option<Interval>
+    requires left { IsTrue (is_near_interval x) }
+    requires right { IsTrue (is_near_interval y) }
+    ensures { result ≡ near (remainder x y) }
+{
+    let low = if 0 <= x.low {
+        0
+    } else {
+        x.low.max(1 - y.high)
+    };
+    let high = if x.high <= 0 {
+        0
+    } else {
+        x.high.min(y.high - 1)
+    };
+    near(low, high)
+}

@@ -1,0 +1,103 @@
+//! The kind of an expression.
+ghost use Rattle.std.specs.Prelude.{◌≡◌, IfOk};
+ghost use Rattle.reo_exprs.specs.Kinds.{kind_of as bare};
+ghost use Rattle.reo_exprs.specs.Typing.{unary_kind, binary_kind, if_kind, kind_of_expr as kind_by_table};
+
+use crate::Expr;
+use crate::kinds::{interval_of, is_bool, join, joins, kind_of};
+use crate::parts::{left_type, provided, right_type};
+use reo_values::{Binary, Boxed, Copies, Kindred, NoMemory, Twins, Unary};
+use std::alloc::Global;
+
+fn one_kind(op: Unary, x: Kindred) -> Option<Kindred>
+    requires { bare x ≡ x }
+    ensures { result ≡ unary_kind op x }
+{
+    match op {
+        Unary::Not => provided(is_bool(&x), Kindred::Bool),
+        Unary::Minus => provided(interval_of(&x).is_some(), Kindred::Int(0, 0)),
+        Unary::First => left_type(x),
+        Unary::Second => right_type(x),
+        Unary::Length => match x {
+            Kindred::Text(_) => Some(Kindred::Int(0, 0)),
+            _ => None,
+        },
+    }
+}
+
+fn two_kind(alloc: Global, op: Binary, x: Kindred, y: Kindred) -> Result<Option<Kindred>, NoMemory>
+    requires left { bare x ≡ x }
+    requires right { bare y ≡ y }
+    ensures { IfOk result (λ made. made ≡ binary_kind op x y) }
+{
+    let numbers = interval_of(&x).is_some() && interval_of(&y).is_some();
+    match op {
+        Binary::Or | Binary::And => Ok(provided(is_bool(&x) && is_bool(&y), Kindred::Bool)),
+        Binary::Eq | Binary::Ne => Ok(provided(joins(&x, &y), Kindred::Bool)),
+        Binary::Lt | Binary::Le | Binary::Gt | Binary::Ge => Ok(provided(numbers, Kindred::Bool)),
+        Binary::Add | Binary::Sub | Binary::Mul | Binary::Div | Binary::Rem => {
+            Ok(provided(numbers, Kindred::Int(0, 0)))
+        }
+        Binary::Pair => {
+            let twins = Twins { left: x, right: y };
+            Ok(Some(Kindred::Pair(Boxed::new(alloc, twins)?)))
+        }
+    }
+}
+
+fn choice_kind(condition: Kindred, yes: Kindred, no: Kindred) -> Option<Kindred>
+    requires left { bare yes ≡ yes }
+    requires right { bare no ≡ no }
+    ensures { result ≡ if_kind condition yes no }
+{
+    let fits = is_bool(&condition) && joins(&yes, &no);
+    provided(fits, yes)
+}
+
+/// The kind of an expression where `it` has a type, or None exactly where a part of it is of a
+/// kind that does not fit where it stands. `NoMemory` is want of memory.
+pub fn kind_of_expr(
+    alloc: Global,
+    expr: &Expr,
+    of: &Kindred,
+) -> Result<Option<Kindred>, NoMemory>
+    ensures { IfOk result (λ made. made ≡ kind_by_table expr.now of.now) }
+{
+    match expr {
+        Expr::It => Ok(Some(kind_of(alloc, of)?)),
+        Expr::Unit => Ok(Some(Kindred::Unit)),
+        Expr::Bool(_) => Ok(Some(Kindred::Bool)),
+        Expr::Int(_) => Ok(Some(Kindred::Int(0, 0))),
+        Expr::Text(_) => Ok(Some(Kindred::Text(0))),
+        Expr::Sym(names, _) => Ok(Some(Kindred::Sym(names.copied(alloc)?))),
+        Expr::One(op, operand) => {
+            let Some(x) = kind_of_expr(alloc, operand.get(), of)? else {
+                return Ok(None);
+            };
+            Ok(one_kind(*op, x))
+        }
+        Expr::Two(op, pair) => {
+            let pair = pair.get();
+            let Some(x) = kind_of_expr(alloc, &pair.left, of)? else {
+                return Ok(None);
+            };
+            let Some(y) = kind_of_expr(alloc, &pair.right, of)? else {
+                return Ok(None);
+            };
+            two_kind(alloc, *op, x, y)
+        }
+        Expr::If(parts) => {
+            let parts = parts.get();
+            let Some(condition) = kind_of_expr(alloc, &parts.condition, of)? else {
+                return Ok(None);
+            };
+            let Some(yes) = kind_of_expr(alloc, &parts.yes, of)? else {
+                return Ok(None);
+            };
+            let Some(no) = kind_of_expr(alloc, &parts.no, of)? else {
+                return Ok(None);
+            };
+            Ok(choice_kind(condition, yes, no))
+        }
+    }
+}

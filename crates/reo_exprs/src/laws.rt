@@ -1,0 +1,34 @@
+//! Laws of expressions, their types and their values.
+ghost use Rattle.std.specs.Prelude.{◌≡◌, Some};
+ghost use Rattle.reo_values.specs.Kind.{IsIn};
+ghost use Rattle.reo_values.specs.Valid.{IsValid};
+ghost use Rattle.reo_exprs.specs.Kinds.{LiesInside};
+ghost use Rattle.reo_exprs.specs.Sound.{IsSound};
+ghost use Rattle.reo_exprs.specs.Typing.{type_of_expr};
+ghost use Rattle.reo_exprs.specs.Valued.{value_of_expr};
+
+use crate::Expr;
+use reo_values::{Kindred, Value};
+
+/// The value of an expression is of the expression's type, for every item.
+pub fn value_in_type(expr: &Expr, of: &Kindred, kindred: &Kindred, item: &Value)
+    requires sound { IsSound expr.now }
+    requires typed { type_of_expr expr.now of.now ≡ Some kindred.now }
+    requires member { IsIn item.now of.now }
+    ensures { IsIn (value_of_expr expr.now item.now) kindred.now }
+{}
+
+/// An item of a type is of each type that the type lies inside.
+pub fn item_in_wider_type(item: &Value, a: &Kindred, b: &Kindred)
+    requires inside { LiesInside a.now b.now }
+    requires member { IsIn item.now a.now }
+    ensures { IsIn item.now b.now }
+{}
+
+/// The type of an expression is valid, where that of the item is.
+pub fn type_is_valid(expr: &Expr, of: &Kindred, kindred: &Kindred)
+    requires sound { IsSound expr.now }
+    requires typed { type_of_expr expr.now of.now ≡ Some kindred.now }
+    requires valid { IsValid of.now }
+    ensures { IsValid kindred.now }
+{}

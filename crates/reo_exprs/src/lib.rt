@@ -1,0 +1,23 @@
+//! Expressions: their types and their values.
+#![tactic(auto)]
+
+mod expr;
+mod fault;
+mod interval;
+mod kind;
+mod kinds;
+mod laws;
+mod parts;
+mod typing;
+mod value;
+mod view;
+
+pub use expr::{Expr, ExprPair, ExprTriple};
+pub use fault::TypeFault;
+pub use kinds::{joins, lies_inside};
+pub use laws::{item_in_wider_type, type_is_valid, value_in_type};
+pub use typing::type_of;
+pub use value::{truth_of, value_is, value_of};
+
+#[cfg(test)]
+mod tests;

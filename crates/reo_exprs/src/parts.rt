@@ -1,0 +1,33 @@
+//! Steps that the kind and the type of an expression share.
+ghost use Rattle.std.specs.Prelude.{◌≡◌, option_map};
+ghost use Rattle.reo_exprs.specs.Kinds.{twins_of};
+ghost use Rattle.reo_exprs.specs.Typing.{provided};
+
+use reo_values::Kindred;
+
+/// The type, where the test holds.
+pub fn provided(test: bool, kindred: Kindred) -> Option<Kindred>
+    ensures { result ≡ provided test kindred }
+{
+    if test { Some(kindred) } else { None }
+}
+
+/// The type of the left parts, of a type of pairs.
+pub fn left_type(kindred: Kindred) -> Option<Kindred>
+    ensures { result ≡ option_map (λ t. t.left) (twins_of kindred) }
+{
+    match kindred {
+        Kindred::Pair(twins) => Some(twins.into_inner().left),
+        _ => None,
+    }
+}
+
+/// The type of the right parts, of a type of pairs.
+pub fn right_type(kindred: Kindred) -> Option<Kindred>
+    ensures { result ≡ option_map (λ t. t.right) (twins_of kindred) }
+{
+    match kindred {
+        Kindred::Pair(twins) => Some(twins.into_inner().right),
+        _ => None,
+    }
+}

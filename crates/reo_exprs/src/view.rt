@@ -1,0 +1,204 @@
+//! Values of expressions, seen without memory.
+ghost use Rattle.std.specs.Prelude.{◌≡◌, ◌≤◌, ◌+◌, IsTrue, pos, length};
+ghost use Rattle.reo_values.specs.Kind.{IsIn};
+ghost use Rattle.reo_exprs.specs.Interval.{is_near};
+ghost use Rattle.reo_exprs.specs.Typing.{IsTyped};
+ghost use Rattle.reo_exprs.specs.Valued.{truth, number, bytes_of, same_value, unary_value, binary_value, value_of_expr};
+ghost use Rattle.reo_exprs.specs.Views.{AreTyped, value_of_view, work, work_of_view};
+
+use crate::{Expr, ExprPair};
+use reo_values::{Binary, Kindred, Unary, Value, same_item};
+
+/// The value of an expression, as parts of the item and of the expression.
+#[derive(Clone, Copy)]
+pub enum View<'a> {
+    /// The item of the type unit.
+    Unit,
+    /// A truth value.
+    Bool(bool),
+    /// A whole number.
+    Int(i64),
+    /// The name at this place.
+    Sym(u16),
+    /// A text.
+    Text(&'a [u8]),
+    /// The pair of the values of two expressions.
+    Pair(&'a ExprPair),
+    /// An item, or a part of one.
+    Item(&'a Value),
+}
+
+/// The truth of a truth value.
+pub fn truth(view: &View<'_>, item: &Value) -> bool
+    ensures { result ≡ truth (value_of_view view.now item.now) }
+{
+    match view {
+        View::Bool(truth) => *truth,
+        View::Item(Value::Bool(truth)) => *truth,
+        _ => false,
+    }
+}
+
+fn number(view: &View<'_>, item: &Value) -> i64
+    ensures { result ≡ number (value_of_view view.now item.now) }
+{
+    match view {
+        View::Int(number) => *number,
+        View::Item(Value::Int(number)) => *number,
+        _ => 0,
+    }
+}
+
+fn length(view: &View<'_>, item: &Value) -> i64
+    ensures { result ≡ pos (length (bytes_of (value_of_view view.now item.now))) }
+{
+    match view {
+        View::Text(bytes) => bytes.len() as i64,
+        View::Item(Value::Text(bytes)) => bytes.as_slice().len() as i64,
+        _ => 0,
+    }
+}
+
+// The value of an operator on that of its operand.
+#[cycle(seeing)]
+fn one_view<'a>(op: Unary, x: View<'a>, of: &Kindred, item: &'a Value) -> View<'a>
+    requires typed { AreTyped x of.now }
+    requires near { IsTrue (is_near (number (value_of_view x item.now))) }
+    requires member { IsIn item.now of.now }
+    ensures value { value_of_view result item.now ≡ unary_value op (value_of_view x.entry item.now) }
+    ensures typed { AreTyped result of.now }
+    ensures work { work_of_view result ≤ work_of_view x.entry }
+{
+    match op {
+        Unary::Not => View::Bool(!truth(&x, item)),
+        Unary::Minus => View::Int(-number(&x, item)),
+        Unary::Length => View::Int(length(&x, item)),
+        Unary::First => match x {
+            View::Pair(pair) => view_of(&pair.left, of, item),
+            View::Item(Value::Pair(couple)) => View::Item(&couple.get().left),
+            other => other,
+        },
+        Unary::Second => match x {
+            View::Pair(pair) => view_of(&pair.right, of, item),
+            View::Item(Value::Pair(couple)) => View::Item(&couple.get().right),
+            other => other,
+        },
+    }
+}
+
+// The value of an operator on those of its operands.
+#[cycle(seeing)]
+fn two_view<'a>(op: Binary, pair: &'a ExprPair, of: &Kindred, item: &'a Value) -> View<'a>
+    requires typed { IsTyped (Expr.Two op pair.now) of.now }
+    requires member { IsIn item.now of.now }
+    ensures value { value_of_view result item.now ≡ value_of_expr (Expr.Two op pair.now) item.now }
+    ensures typed { AreTyped result of.now }
+    ensures work { work_of_view result ≤ work pair.now.left + work pair.now.right + 3 }
+{
+    if op == Binary::Pair {
+        return View::Pair(pair);
+    }
+    let x = view_of(&pair.left, of, item);
+    let y = view_of(&pair.right, of, item);
+    match op {
+        Binary::Or => View::Bool(truth(&x, item) || truth(&y, item)),
+        Binary::And => View::Bool(truth(&x, item) && truth(&y, item)),
+        Binary::Eq => View::Bool(same_view(x, y, of, item)),
+        Binary::Ne => View::Bool(!same_view(x, y, of, item)),
+        Binary::Lt => View::Bool(number(&x, item) < number(&y, item)),
+        Binary::Le => View::Bool(number(&x, item) <= number(&y, item)),
+        Binary::Gt => View::Bool(number(&x, item) > number(&y, item)),
+        Binary::Ge => View::Bool(number(&x, item) >= number(&y, item)),
+        Binary::Add => View::Int(number(&x, item) + number(&y, item)),
+        Binary::Sub => View::Int(number(&x, item) - number(&y, item)),
+        Binary::Mul => View::Int(number(&x, item) * number(&y, item)),
+        Binary::Div => View::Int(number(&x, item) / number(&y, item)),
+        Binary::Rem => View::Int(number(&x, item) % number(&y, item)),
+        Binary::Pair => View::Pair(pair),
+    }
+}
+
+/// The value of an expression on an item. Each part of the expression is looked at once at most.
+#[cycle(seeing)]
+pub fn view_of<'a>(expr: &'a Expr, of: &Kindred, item: &'a Value) -> View<'a>
+    requires typed { IsTyped expr.now of.now }
+    requires member { IsIn item.now of.now }
+    ensures value { value_of_view result item.now ≡ value_of_expr expr.now item.now }
+    ensures typed { AreTyped result of.now }
+    ensures work { work_of_view result ≤ work expr.now }
+{
+    match expr {
+        Expr::It => View::Item(item),
+        Expr::Unit => View::Unit,
+        Expr::Bool(truth) => View::Bool(*truth),
+        Expr::Int(number) => View::Int(*number),
+        Expr::Text(bytes) => View::Text(bytes.as_slice()),
+        Expr::Sym(_, place) => View::Sym(*place),
+        Expr::One(op, operand) => one_view(*op, view_of(operand.get(), of, item), of, item),
+        Expr::Two(op, pair) => two_view(*op, pair.get(), of, item),
+        Expr::If(parts) => {
+            let parts = parts.get();
+            if truth(&view_of(&parts.condition, of, item), item) {
+                view_of(&parts.yes, of, item)
+            } else {
+                view_of(&parts.no, of, item)
+            }
+        }
+    }
+}
+
+/// Whether a value is an item.
+#[cycle(seeing)]
+pub fn is_item(x: View<'_>, value: &Value, of: &Kindred, item: &Value) -> bool
+    requires typed { AreTyped x of.now }
+    requires member { IsIn item.now of.now }
+    ensures { result ≡ same_value (value_of_view x.entry item.now) value.now }
+{
+    match (x, value) {
+        (View::Item(part), _) => same_item(part, value),
+        (View::Unit, Value::Unit) => true,
+        (View::Bool(a), Value::Bool(b)) => a == *b,
+        (View::Int(a), Value::Int(b)) => a == *b,
+        (View::Sym(a), Value::Sym(b)) => a == *b,
+        (View::Text(a), Value::Text(b)) => a == b.as_slice(),
+        (View::Pair(pair), Value::Pair(couple)) => {
+            let couple = couple.get();
+            is_item(view_of(&pair.left, of, item), &couple.left, of, item)
+                && is_item(view_of(&pair.right, of, item), &couple.right, of, item)
+        }
+        _ => false,
+    }
+}
+
+/// Whether two values are equal.
+#[cycle(seeing)]
+fn same_view(x: View<'_>, y: View<'_>, of: &Kindred, item: &Value) -> bool
+    requires left { AreTyped x of.now }
+    requires right { AreTyped y of.now }
+    requires member { IsIn item.now of.now }
+    ensures { result ≡ same_value (value_of_view x.entry item.now) (value_of_view y.entry item.now) }
+{
+    match (x, y) {
+        (_, View::Item(part)) => is_item(x, part, of, item),
+        (View::Item(part), _) => is_item(y, part, of, item),
+        (View::Unit, View::Unit) => true,
+        (View::Bool(a), View::Bool(b)) => a == b,
+        (View::Int(a), View::Int(b)) => a == b,
+        (View::Sym(a), View::Sym(b)) => a == b,
+        (View::Text(a), View::Text(b)) => a == b,
+        (View::Pair(a), View::Pair(b)) => {
+            same_view(
+                view_of(&a.left, of, item),
+                view_of(&b.left, of, item),
+                of,
+                item,
+            ) && same_view(
+                view_of(&a.right, of, item),
+                view_of(&b.right, of, item),
+                of,
+                item,
+            )
+        }
+        _ => false,
+    }
+}
