@@ -1,0 +1,96 @@
+//! The text of items.
+ghost use Rattle.std.specs.Prelude.{◌≡◌, ◌++◌, OnOk};
+ghost use Rattle.reo_syntax.specs.ItemText.{channel_head, channel_tail, held_text, form_of_item_text, item_text};
+
+use crate::bytes::append_size;
+use crate::literal::{append_literal, append_literals};
+use crate::spread::append_names;
+use crate::term::append_term;
+use crate::type_term::append_type;
+use reo_trees::{Channel, Form, Item, Literal};
+use reo_values::{Bytes, NoMemory};
+use std::alloc::Global;
+
+fn append_head(alloc: Global, out: &mut Bytes, channel: &Channel) -> Result<(), NoMemory>
+    ensures { OnOk result (out.new ≡ out.old ++ channel_head channel.now) }
+{
+    match channel {
+        Channel::Sync => out.append(b"sync "),
+        Channel::Lossy => out.append(b"lossy "),
+        Channel::SyncDrain => out.append(b"syncdrain "),
+        Channel::AsyncDrain => out.append(b"asyncdrain "),
+        Channel::Fifo1(_) => out.append(b"fifo1 "),
+        Channel::Fifo(size, _) => {
+            out.append(b"fifo ")?;
+            append_size(alloc, out, *size)?;
+            out.append(b" ")
+        }
+        Channel::Filter(_) => out.append(b"filter "),
+        Channel::Map(_) => out.append(b"map "),
+    }
+}
+
+fn append_held(alloc: Global, out: &mut Bytes, held: &[Literal]) -> Result<(), NoMemory>
+    ensures { OnOk result (out.new ≡ out.old ++ held_text held.now) }
+{
+    if held.is_empty() {
+        return Ok(());
+    }
+    out.append(b" with ")?;
+    append_literals(alloc, out, held)
+}
+
+fn append_tail(alloc: Global, out: &mut Bytes, channel: &Channel) -> Result<(), NoMemory>
+    ensures { OnOk result (out.new ≡ out.old ++ channel_tail channel.now) }
+{
+    match channel {
+        Channel::Fifo1(Some(literal)) => {
+            out.append(b" with ")?;
+            append_literal(alloc, out, literal)
+        }
+        Channel::Fifo(_, held) => append_held(alloc, out, held.as_slice()),
+        Channel::Filter(term) => {
+            out.append(b" when ")?;
+            append_term(alloc, out, term)
+        }
+        Channel::Map(term) => {
+            out.append(b" to ")?;
+            append_term(alloc, out, term)
+        }
+        _ => Ok(()),
+    }
+}
+
+/// Adds an item, with its `;`.
+pub fn append_item(alloc: Global, out: &mut Bytes, item: &Item) -> Result<(), NoMemory>
+    ensures { OnOk result (out.new ≡ out.old ++ item_text item.now) }
+{
+    match &item.form {
+        Form::Node { name, term } => {
+            out.append(b"node ")?;
+            out.append(name.as_slice())?;
+            out.append(b": ")?;
+            append_type(alloc, out, term)?;
+            out.append(b";")
+        }
+        Form::Joined {
+            channel,
+            first,
+            second,
+        } => {
+            append_head(alloc, out, channel)?;
+            out.append(first.as_slice())?;
+            out.append(b" ")?;
+            out.append(second.as_slice())?;
+            append_tail(alloc, out, channel)?;
+            out.append(b";")
+        }
+        Form::Used { name, arguments } => {
+            out.append(b"use ")?;
+            out.append(name.as_slice())?;
+            out.append(b"(")?;
+            append_names(out, arguments.as_slice())?;
+            out.append(b");")
+        }
+    }
+}

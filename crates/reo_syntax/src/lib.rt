@@ -1,0 +1,22 @@
+//! The canonical text of a circuit program.
+#![tactic(auto)]
+
+mod bytes;
+mod item;
+mod laws;
+mod literal;
+mod program;
+mod spread;
+mod term;
+mod type_term;
+
+pub use laws::canonical_text_says_the_program;
+pub use program::print;
+pub use reo_trees::{
+    Binary, Channel, Circuits, Connector, Constant, Declaration, Form, Item, Literal, LiteralPair,
+    Opened, Parameter, Program, Shape, Term, TermForm, TermPair, TermTriple, TypePair, TypeTerm,
+    Unary, one_program,
+};
+
+#[cfg(test)]
+mod tests;
