@@ -2,12 +2,15 @@
 #![tactic(auto)]
 
 use reo_io::{DiskFiles, StdSink, StdSource};
-use reo_top::{reo, want};
+use reo_top::{Status, reo};
 use reo_values::{Bytes, List, NoMemory};
 use std::alloc::Global;
 use std::process::ExitCode;
 use std::rt::Env;
 use std::{env, io};
+
+/// Memory was wanting before the command could begin.
+const NO_MEMORY: Status = Status { code: 10 };
 
 /// The words behind the program's name. Where the system cannot give them, there are none.
 fn words_given(rt: &(impl Env + AllocGlobal)) -> Result<List<Bytes>, NoMemory> {
@@ -25,14 +28,14 @@ fn words_given(rt: &(impl Env + AllocGlobal)) -> Result<List<Bytes>, NoMemory> {
 
 fn main(rt: HostRuntime) -> ExitCode {
     let alloc: Global = rt.alloc();
-    let mut sink = StdSink::new(io::writer(&rt));
     let status = match words_given(&rt) {
         Ok(words) => {
             let mut files = DiskFiles::new(alloc, &rt);
             let mut source = StdSource::new(rt.reader());
+            let mut sink = StdSink::new(io::writer(&rt));
             reo(alloc, &words, &mut files, &mut source, &mut sink)
         }
-        Err(NoMemory) => want(&mut sink),
+        Err(NoMemory) => NO_MEMORY,
     };
     ExitCode::from(status.code)
 }
