@@ -1,5 +1,5 @@
 //! The place among the tokens.
-ghost use Rattle.std.specs.Prelude.{◌≡◌, ◌≢◌, ℕ, ◌<◌, ◌≤◌, List, [], ◌∷◌, drop, length, All, MatchOption, true};
+ghost use Rattle.std.specs.Prelude.{◌≡◌, ◌≢◌, ℕ, ◌<◌, ◌≤◌, List, [], ◌∷◌, drop, length, All, MatchOption, IfOk, true};
 ghost use Rattle.reo_grammar.specs.Tokens.{Tok, AreReal, is_real};
 ghost use Rattle.reo_grammar.specs.Tokens.Class.{fixed, other, name as name_class, number as number_class, text as text_class};
 ghost use Rattle.reo_grammar.specs.Grammar.{starts, line_of};
@@ -188,7 +188,8 @@ impl<'a> Cursor<'a> {
 
     /// Takes a number from `low` to `high`.
     pub fn number(&mut self, low: u64, high: u64) -> Result<u64, Halt>
-        ensures { Gives result self.new (number_at low high self.old) }
+        ensures read { Gives result self.new (number_at low high self.old) }
+        ensures range { IfOk result (λ n. (low ≤ n) × (n ≤ high)) }
     {
         match self.value() {
             Some(value) if low <= value && value <= high => {

@@ -1,0 +1,7 @@
+pub mod Among
+pub mod Turns
+pub mod Fronts
+pub mod Counts
+pub mod Whole
+pub mod Answering
+pub mod Only

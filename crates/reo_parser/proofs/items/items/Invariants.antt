@@ -1,0 +1,13 @@
+use Rattle.std.proofs.Common.{◌≡◌, [], length, codes}
+use Rattle.reo_grammar.specs.Tokens.Class.{fixed, other}
+use Rattle.reo_grammar.specs.Grammar.Grammar.{rule}
+use Rattle.reo_trees.specs.Forms.{listed, further}
+use Rattle.reo_trees.specs.Items.{item_form}
+use Rattle.reo_parser.specs.Reading.{goes_on}
+use Rattle.reo_parser.proofs.items.items.Given as goal
+
+abbrev pub invariant-items : goal.invariant-items
+invariant-items l = goes_on listed (other (codes "}")) item_form l.room l.items l.cursor ≡ goes_on listed (other (codes "}")) item_form l.room [] l.initial.cursor
+
+abbrev pub decreases-items : goal.decreases-items
+decreases-items l = length l.cursor

@@ -1,0 +1,21 @@
+use Rattle.std.proofs.Common.{◌≡◌, length, arith}
+use Rattle.reo_grammar.specs.declared.kind.TokenKind.TheVariants as kinds
+use Rattle.reo_parser.proofs.Answering.{cut-real, deep-said, deep-begun, syntax-above}
+use Rattle.reo_parser.proofs.texts.answer_above.Goals as goal
+use Rattle.reo_parser.proofs.texts.answer_above.Goals.{in-Said, in-Refused+then-refused-place, in-Refused+else-refused-place}
+
+pub read_all-requires-clause-real : goal.read_all-requires-clause-real
+read_all-requires-clause-real c =
+    cut-real c.args.text.now c.args.tokens.now c.requires.tokens c.args.place (record { kind = kinds.Name; start = 0; end = 0; line = 0 }) c.requires.levels c.requires.real
+
+pub returns : goal.returns
+returns c = elim c.match-branch-2.branch [
+  | in-Said w ↦ rw w.result-is
+      (deep-said c.args.text.now c.args.tokens.now c.requires.tokens c.args.place (record { kind = kinds.Name; start = 0; end = 0; line = 0 }) c.requires.levels w.in-Said.field-0 (rw w.in-Said.is at c.in_ok-refused.ensures))
+  | in-Refused+then-refused-place w ↦
+      let q = rw w.in-Refused.is at c.in_ok-refused.ensures in
+      rw w.result-is (syntax-above c.args.text.now c.args.tokens.now c.requires.tokens c.args.place (record { kind = kinds.Name; start = 0; end = 0; line = 0 }) c.requires.levels w.in-Refused.refused q.1 w.if-refused-place.true)
+  | in-Refused+else-refused-place w ↦
+      let q = rw w.in-Refused.is at c.in_ok-refused.ensures in
+      rw w.result-is (deep-begun c.args.text.now c.args.tokens.now c.requires.tokens c.args.place (record { kind = kinds.Name; start = 0; end = 0; line = 0 }) c.requires.levels w.in-Refused.refused q.1 w.if-refused-place.false)
+]

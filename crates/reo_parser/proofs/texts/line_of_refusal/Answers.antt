@@ -1,0 +1,8 @@
+use Rattle.std.proofs.Common.{◌≡◌}
+use Rattle.reo_grammar.specs.declared.kind.TokenKind.TheVariants as kinds
+use Rattle.reo_parser.proofs.Answering.{refusal-line}
+use Rattle.reo_parser.proofs.texts.line_of_refusal.Goals as goal
+
+pub returns : goal.returns
+returns c text h =
+    refusal-line text c.args.tokens.now c.args.place c.min.result (record { kind = kinds.Name; start = 0; end = 0; line = 0 }) c.requires c.min.ensures h
