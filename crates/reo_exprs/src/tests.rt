@@ -20,10 +20,7 @@ fn two(alloc: Global, op: Binary, left: Expr, right: Expr) -> Result<Expr, NoMem
 }
 
 fn choice(alloc: Global, condition: Expr, yes: Expr, no: Expr) -> Result<Expr, NoMemory> {
-    Ok(Expr::If(Boxed::new(
-        alloc,
-        ExprTriple { condition, yes, no },
-    )?))
+    Ok(Expr::If(Boxed::new(alloc, ExprTriple { condition, yes, no })?))
 }
 
 fn pair_type(alloc: Global, left: Kindred, right: Kindred) -> Result<Kindred, NoMemory> {
@@ -150,12 +147,24 @@ fn operators_on_one_number_have_their_intervals(rt: HostRuntime) -> Result<(), F
     let rest = two(alloc, Binary::Rem, Expr::It, Expr::Int(4))?;
     has_type(&rt, alloc, &rest, &of, &Kindred::Int(-3, 3))?;
     let minus = one(alloc, Unary::Minus, Expr::It)?;
-    has_type(&rt, alloc, &minus, &Kindred::Int(-2, 5), &Kindred::Int(-5, 2))?;
+    has_type(
+        &rt,
+        alloc,
+        &minus,
+        &Kindred::Int(-2, 5),
+        &Kindred::Int(-5, 2),
+    )?;
     let twice = two(alloc, Binary::Mul, Expr::It, Expr::Int(2))?;
     let more = two(alloc, Binary::Add, twice, Expr::Int(1))?;
     has_type(&rt, alloc, &more, &Kindred::Int(0, 9), &Kindred::Int(1, 19))?;
     let length = one(alloc, Unary::Length, Expr::It)?;
-    has_type(&rt, alloc, &length, &Kindred::Text(12), &Kindred::Int(0, 12))
+    has_type(
+        &rt,
+        alloc,
+        &length,
+        &Kindred::Text(12),
+        &Kindred::Int(0, 12),
+    )
 }
 
 #[test]
@@ -163,7 +172,12 @@ fn broken_bounds_are_refused(rt: HostRuntime) -> Result<(), Fail> {
     let alloc = rt.alloc();
     let far = 1_000_000_000_000_000_000;
     let rows = [
-        (Binary::Mul, (-1_000_000_000, 1_000_000_000), (0, 1_000_000_000), false),
+        (
+            Binary::Mul,
+            (-1_000_000_000, 1_000_000_000),
+            (0, 1_000_000_000),
+            false,
+        ),
         (Binary::Mul, (0, 1_000_000_001), (0, 1_000_000_000), true),
         (Binary::Mul, (0, far), (0, far), true),
         (Binary::Add, (far, far), (0, 0), false),
@@ -180,7 +194,10 @@ fn broken_bounds_are_refused(rt: HostRuntime) -> Result<(), Fail> {
         if broken {
             has_fault(&rt, alloc, &expr, &of, TypeFault::Range);
         } else {
-            assert!(&rt; type_of(alloc, &expr, &of).is_ok(), "{op:?} {a} {b} {c} {d}");
+            assert!(&rt;
+                type_of(alloc, &expr, &of).is_ok(),
+                "{op:?} {a} {b} {c} {d}"
+            );
         }
     }
     let mut long = Bytes::new(alloc);
@@ -190,7 +207,13 @@ fn broken_bounds_are_refused(rt: HostRuntime) -> Result<(), Fail> {
     let longest = Expr::Text(long.copy(alloc)?);
     has_type(&rt, alloc, &longest, &Kindred::Unit, &Kindred::Text(1024))?;
     long.push(b'a')?;
-    has_fault(&rt, alloc, &Expr::Text(long), &Kindred::Unit, TypeFault::Range);
+    has_fault(
+        &rt,
+        alloc,
+        &Expr::Text(long),
+        &Kindred::Unit,
+        TypeFault::Range,
+    );
     Ok(())
 }
 
@@ -222,7 +245,13 @@ fn types_join_where_their_kinds_are_equal(rt: HostRuntime) -> Result<(), Fail> {
     let texts = choice(alloc, Expr::Bool(false), Expr::It, longer)?;
     has_type(&rt, alloc, &texts, &Kindred::Text(1), &Kindred::Text(2))?;
     let numbers = choice(alloc, Expr::Bool(false), Expr::It, Expr::Int(20))?;
-    has_type(&rt, alloc, &numbers, &Kindred::Int(-1, 9), &Kindred::Int(-1, 20))?;
+    has_type(
+        &rt,
+        alloc,
+        &numbers,
+        &Kindred::Int(-1, 9),
+        &Kindred::Int(-1, 20),
+    )?;
     let (some, more) = (numbered(alloc, 1023)?, numbered(alloc, 1024)?);
     let (some, more) = (Kindred::Sym(some), Kindred::Sym(more));
     assert!(&rt; joins(&more, &more));
@@ -263,19 +292,68 @@ fn other_values_are_the_usual_ones(rt: HostRuntime) -> Result<(), Fail> {
     let alloc = rt.alloc();
     let word = Expr::Text(text(alloc, b"\"\\")?);
     let length = one(alloc, Unary::Length, word)?;
-    has_value(&rt, alloc, &length, &Kindred::Unit, &Value::Unit, &Value::Int(2))?;
+    has_value(
+        &rt,
+        alloc,
+        &length,
+        &Kindred::Unit,
+        &Value::Unit,
+        &Value::Int(2),
+    )?;
     let last = Expr::Sym(numbered(alloc, 1024)?, 1023);
-    has_value(&rt, alloc, &last, &Kindred::Unit, &Value::Unit, &Value::Sym(1023))?;
+    has_value(
+        &rt,
+        alloc,
+        &last,
+        &Kindred::Unit,
+        &Value::Unit,
+        &Value::Sym(1023),
+    )?;
     let truth = Kindred::Bool;
     let not = one(alloc, Unary::Not, Expr::It)?;
-    has_value(&rt, alloc, &not, &truth, &Value::Bool(true), &Value::Bool(false))?;
+    has_value(
+        &rt,
+        alloc,
+        &not,
+        &truth,
+        &Value::Bool(true),
+        &Value::Bool(false),
+    )?;
     let either = two(alloc, Binary::Or, Expr::It, Expr::Bool(false))?;
-    has_value(&rt, alloc, &either, &truth, &Value::Bool(true), &Value::Bool(true))?;
+    has_value(
+        &rt,
+        alloc,
+        &either,
+        &truth,
+        &Value::Bool(true),
+        &Value::Bool(true),
+    )?;
     let both = two(alloc, Binary::And, Expr::It, Expr::Bool(false))?;
-    has_value(&rt, alloc, &both, &truth, &Value::Bool(true), &Value::Bool(false))?;
+    has_value(
+        &rt,
+        alloc,
+        &both,
+        &truth,
+        &Value::Bool(true),
+        &Value::Bool(false),
+    )?;
     let chosen = choice(alloc, Expr::It, Expr::Int(1), Expr::Int(2))?;
-    has_value(&rt, alloc, &chosen, &truth, &Value::Bool(true), &Value::Int(1))?;
-    has_value(&rt, alloc, &chosen, &truth, &Value::Bool(false), &Value::Int(2))
+    has_value(
+        &rt,
+        alloc,
+        &chosen,
+        &truth,
+        &Value::Bool(true),
+        &Value::Int(1),
+    )?;
+    has_value(
+        &rt,
+        alloc,
+        &chosen,
+        &truth,
+        &Value::Bool(false),
+        &Value::Int(2),
+    )
 }
 
 // A pair of equal items, of pairs of equal items and so on, by an expression and by hand.
@@ -305,7 +383,12 @@ fn many_levels_take_few_steps(rt: HostRuntime) -> Result<(), Fail> {
     for _ in 0..64 {
         let made = two(alloc, Binary::Pair, expr, Expr::It)?;
         let same = two(alloc, Binary::Eq, Expr::It, Expr::It)?;
-        let made = choice(alloc, same, made, two(alloc, Binary::Pair, Expr::It, Expr::It)?)?;
+        let made = choice(
+            alloc,
+            same,
+            made,
+            two(alloc, Binary::Pair, Expr::It, Expr::It)?,
+        )?;
         expr = one(alloc, Unary::First, made)?;
     }
     has_value(&rt, alloc, &expr, &of, &Value::Int(7), &Value::Int(7))
