@@ -1,20 +1,15 @@
 -- Texts in a row tell what they are texts of.
-use Rattle.std.proofs.Common.{◌≡◌, ◌∙◌, ℕ, suc, true, false, List, [], ◌∷◌, ◌++◌, refl, sym, ap, subst, append_assoc}
+use Rattle.std.proofs.Common.{◌≡◌, ◌∙◌, ℕ, suc, true, false, List, [], ◌∷◌, ◌++◌, refl, sym, ap, append_assoc}
 use Rattle.std.specs.List.{flat_map}
 use Rattle.reo_forms.specs.Reading.{goes_on, Each}
 use Rattle.reo_forms.specs.Listed.{listed}
 
 -- A text tells what it is a text of, and what comes after it.
-abbrev pub Tells : {X : Type 0} → (X → Type 0) → (List ℕ → Type 0) → (X → List ℕ) → Type 0
-Tells {X} Good Ended text = (x y : X) (r s : List ℕ) → Good x → Good y → Ended r → Ended s → text x ++ r ≡ text y ++ s → (x ≡ y) × (r ≡ s)
+abbrev pub Tells : {X : Type 0} → (X → Type 0) → (X → List ℕ) → Type 0
+Tells {X} Good text = (x y : X) (r s : List ℕ) → Good x → Good y → text x ++ r ≡ text y ++ s → (x ≡ y) × (r ≡ s)
 
-module _ {X : Type 0} (Good : X → Type 0) (Ended : List ℕ → Type 0) (stop : ℕ) (stop_ends : (rest : List ℕ) → goes_on stop rest ≡ false → Ended rest) where
-  module _ (text : X → List ℕ) (text_ends : (x : X) (rest : List ℕ) → Good x → Ended (text x ++ rest))
-      (text_goes : (x : X) (rest : List ℕ) → Good x → goes_on stop (text x ++ rest) ≡ true) (tells : Tells Good Ended text) where
-    pub row_ends : (xs : List X) (rest : List ℕ) → Each Good xs → goes_on stop rest ≡ false → Ended (flat_map text xs ++ rest)
-    row_ends [] rest good stops = stop_ends rest stops
-    row_ends (x ∷ xs) rest good stops = subst Ended (sym (append_assoc (text x) (flat_map text xs) rest)) (text_ends x (flat_map text xs ++ rest) (good 0 x refl))
-
+module _ {X : Type 0} (Good : X → Type 0) (stop : ℕ) where
+  module _ (text : X → List ℕ) (text_goes : (x : X) (rest : List ℕ) → Good x → goes_on stop (text x ++ rest) ≡ true) (tells : Tells Good text) where
     -- no row is the end of another
     stops_not : (x : X) (xs : List X) (r s : List ℕ) → Good x → goes_on stop r ≡ false → r ≡ flat_map text (x ∷ xs) ++ s → ⊥
     stops_not x xs r s good stops e =
@@ -30,15 +25,15 @@ module _ {X : Type 0} (Good : X → Type 0) (Ended : List ℕ → Type 0) (stop 
     row_tells (x ∷ xs) (y ∷ ys) r s good_x good_y stop_r stop_s e =
         let more_x = λ (i : ℕ) (z : X). good_x (suc i) z in
         let more_y = λ (i : ℕ) (z : X). good_y (suc i) z in
-        let first = tells x y (flat_map text xs ++ r) (flat_map text ys ++ s) (good_x 0 x refl) (good_y 0 y refl) (row_ends xs r more_x stop_r) (row_ends ys s more_y stop_s)
+        let first = tells x y (flat_map text xs ++ r) (flat_map text ys ++ s) (good_x 0 x refl) (good_y 0 y refl)
         (sym (append_assoc (text x) (flat_map text xs) r) ∙ e ∙ append_assoc (text y) (flat_map text ys) s) in
         let more = row_tells xs ys r s more_x more_y stop_r stop_s first.1 in
         ((λ i. first.0 i ∷ more.0 i), more.1)
 
-  module _ (text : X → List ℕ) (between : List ℕ) (next_ends : (x : X) (rest : List ℕ) → Good x → Ended ((between ++ text x) ++ rest))
+  module _ (text : X → List ℕ) (between : List ℕ)
       (text_goes : (x : X) (rest : List ℕ) → Good x → goes_on stop (text x ++ rest) ≡ true)
       (next_goes : (x : X) (rest : List ℕ) → Good x → goes_on stop ((between ++ text x) ++ rest) ≡ true)
-      (tells : Tells Good Ended text) (next_tells : Tells Good Ended (λ x. between ++ text x)) where
+      (tells : Tells Good text) (next_tells : Tells Good (λ x. between ++ text x)) where
     none_tells : (x : X) (xs : List X) (r s : List ℕ) → Good x → goes_on stop r ≡ false → r ≡ listed between text (x ∷ xs) ++ s → ⊥
     none_tells x xs r s good stops e =
         let more = flat_map (λ y. between ++ text y) xs in
@@ -56,7 +51,6 @@ module _ {X : Type 0} (Good : X → Type 0) (Ended : List ℕ → Type 0) (stop 
         let more_x = λ (i : ℕ) (z : X). good_x (suc i) z in
         let more_y = λ (i : ℕ) (z : X). good_y (suc i) z in
         let first = tells x y (flat_map next xs ++ r) (flat_map next ys ++ s) (good_x 0 x refl) (good_y 0 y refl)
-        (row_ends next next_ends next_goes next_tells xs r more_x stop_r) (row_ends next next_ends next_goes next_tells ys s more_y stop_s)
         (sym (append_assoc (text x) (flat_map next xs) r) ∙ e ∙ append_assoc (text y) (flat_map next ys) s) in
-        let more = row_tells next next_ends next_goes next_tells xs ys r s more_x more_y stop_r stop_s first.1 in
+        let more = row_tells next next_goes next_tells xs ys r s more_x more_y stop_r stop_s first.1 in
         ((λ i. first.0 i ∷ more.0 i), more.1)

@@ -57,32 +57,32 @@ module _ (ps : List Parameter) (different : AreDifferent ps) (each : Each IsPara
       (texts ∙ ap (λ (p : Parameter). text_of y (kinds.Int p.low p.high) ++ (codes "; " ++ s)) (sym one)) in
       ((λ k. Write (port.0 k) (same.0 k)), ap (λ l. drop 2 l) same.1)
 
-  action_tells : Tells (IsPortAction ps) (λ (rest : List ℕ). Unit {0}) (action_text ps)
-  action_tells (Write i x) (Write j y) r s good_x good_y ends_r ends_s e = write_tells i j x y r s good_x good_y e
-  action_tells (Write i x) (Take j) r s good_x good_y ends_r ends_s e = absurd (let head : 119 ≡ 116 = ap (λ l. slice_index l 0) e in omega (arith, head))
-  action_tells (Take i) (Write j y) r s good_x good_y ends_r ends_s e = absurd (let head : 116 ≡ 119 = ap (λ l. slice_index l 0) e in omega (arith, head))
-  action_tells (Take i) (Take j) r s good_x good_y ends_r ends_s e =
+  action_tells : Tells (IsPortAction ps) (action_text ps)
+  action_tells (Write i x) (Write j y) r s good_x good_y e = write_tells i j x y r s good_x good_y e
+  action_tells (Write i x) (Take j) r s good_x good_y e = absurd (let head : 119 ≡ 116 = ap (λ l. slice_index l 0) e in omega (arith, head))
+  action_tells (Take i) (Write j y) r s good_x good_y e = absurd (let head : 116 ≡ 119 = ap (λ l. slice_index l 0) e in omega (arith, head))
+  action_tells (Take i) (Take j) r s good_x good_y e =
       let whole = sym (take_parts ps i good_x.0 r good_x.1) ∙ e ∙ take_parts ps j good_y.0 s good_y.1 in
       let port = port_tells i j good_x.0 good_y.0 (codes "; " ++ r) (codes "; " ++ s) good_x.1 good_y.1 (semicolon_ends (32 ∷ r)) (semicolon_ends (32 ∷ s)) (ap (λ l. drop 5 l) whole) in
       (ap Take port.0, ap (λ l. drop 2 l) port.1)
 
-  component_tells : Tells (IsPlainComponent ps) (λ (rest : List ℕ). Unit {0}) (component_text ps)
-  component_tells c d r s good_c good_d ends_r ends_s e =
+  component_tells : Tells (IsPlainComponent ps) (component_text ps)
+  component_tells c d r s good_c good_d e =
       let more = λ (x : Component) (rest : List ℕ). codes " { " ++ (flat_map (action_text ps) x.actions ++ (codes "}" ++ rest)) in
       let whole = sym (ap (λ n. n ++ more c r) good_c.0.1) ∙ ap (λ l. drop 10 l) (sym (component_parts ps c r) ∙ e ∙ component_parts ps d s) ∙ ap (λ n. n ++ more d s) good_d.0.1 in
       let name = good_c.0.1 ∙ ap (λ b. b ∷ []) (ap (λ l. slice_index l 0) whole) ∙ sym good_d.0.1 in
-      let actions = row_tells (IsPortAction ps) (λ (rest : List ℕ). Unit {0}) 125 (λ rest h. tt) (action_text ps) (λ a rest h. tt) (λ a rest h. action_goes ps a rest) action_tells
+      let actions = row_tells (IsPortAction ps) 125 (action_text ps) (λ a rest h. action_goes ps a rest) action_tells
       c.actions d.actions (codes "}" ++ r) (codes "}" ++ s) good_c.1 good_d.1 refl refl (ap (λ l. drop 4 l) whole) in
       ((λ i. record { name = name i; actions = actions.0 i }), ap (λ l. drop 1 l) actions.1)
 
-  next_component_tells : Tells (IsPlainComponent ps) (λ (rest : List ℕ). Unit {0}) (λ c. codes " " ++ component_text ps c)
-  next_component_tells c d r s good_c good_d ends_r ends_s e = component_tells c d r s good_c good_d ends_r ends_s (ap (λ l. drop 1 l) e)
+  next_component_tells : Tells (IsPlainComponent ps) (λ c. codes " " ++ component_text ps c)
+  next_component_tells c d r s good_c good_d e = component_tells c d r s good_c good_d (ap (λ l. drop 1 l) e)
 
   -- A text says at most one script for these ports.
   pub script_tells : (text : List ℕ) (cs ds : List Component) → SaysScript ps text cs → SaysScript ps text ds → cs ≡ ds
   script_tells text cs ds says_c says_d =
       let f = script_front text ps cs says_c.text_is in
       let g = script_front text ps ds says_d.text_is in
-      let same = listed_tells (IsPlainComponent ps) (λ (rest : List ℕ). Unit {0}) 10 (λ rest h. tt) (component_text ps) (codes " ") (λ c rest h. tt) (λ c rest h. refl) (λ c rest h. refl)
+      let same = listed_tells (IsPlainComponent ps) 10 (component_text ps) (codes " ") (λ c rest h. refl) (λ c rest h. refl)
       component_tells next_component_tells cs ds f.0 g.0 (plain_components ps cs says_c.plain) (plain_components ps ds says_d.plain) f.2 g.2 (sym f.1 ∙ g.1) in
       same.0

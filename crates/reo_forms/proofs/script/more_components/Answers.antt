@@ -1,4 +1,4 @@
-use Rattle.std.proofs.Common.{◌∙◌, ◌++◌, ℕ, List, codes, refl, sym, subst}
+use Rattle.std.proofs.Common.{◌∙◌, ◌++◌, codes, refl, sym, subst}
 use Rattle.reo_script.specs.declared.script.Component.{Component}
 use Rattle.reo_forms.specs.ScriptForm.{component_text}
 use Rattle.reo_forms.specs.Components.{IsPlainComponent}
@@ -8,12 +8,12 @@ use Rattle.reo_forms.proofs.script.more_components.Goals as goal
 pub loop-alloc-preserved : goal.loop-alloc-preserved
 loop-alloc-preserved c =
     let ps = c.args.parameters.now in
-    let all = left_more (IsPlainComponent ps) (λ (rest : List ℕ). Unit {0}) (λ (x : Component). codes " " ++ component_text ps x) 10 c.args.made.now c.loop-alloc.made c.args.reader.now c.loop-alloc.reader c.loop-alloc.invariant
-    (sym c.goes_on.ensures.exact ∙ c.loop-alloc-test.true) (λ rest h. tt) (λ x rest h. tt) c.in_ok-next_component.field-0 c.next_component.new.reader (λ x rest good ends. c.in_ok-next_component.ensures.again x rest good) in
-    subst (λ made. IsLeft (IsPlainComponent ps) (λ (rest : List ℕ). Unit {0}) (λ (x : Component). codes " " ++ component_text ps x) 10 c.args.made.now c.args.reader.now made c.next_component.new.reader) (sym c.in_ok-push.ensures.ok) all
+    let all = left_more (IsPlainComponent ps) (λ (x : Component). codes " " ++ component_text ps x) 10 c.args.made.now c.loop-alloc.made c.args.reader.now c.loop-alloc.reader c.loop-alloc.invariant
+    (sym c.goes_on.ensures.exact ∙ c.loop-alloc-test.true) c.in_ok-next_component.field-0 c.next_component.new.reader c.in_ok-next_component.ensures.again in
+    subst (λ made. IsLeft (IsPlainComponent ps) (λ (x : Component). codes " " ++ component_text ps x) 10 c.args.made.now c.args.reader.now made c.next_component.new.reader) (sym c.in_ok-push.ensures.ok) all
 
 pub returns : goal.returns
 returns c cs rest good stops e =
     let ps = c.args.parameters.now in
-    left_none (IsPlainComponent ps) (λ (rest : List ℕ). Unit {0}) (λ (x : Component). codes " " ++ component_text ps x) 10 c.args.made.now c.loop-alloc.made c.args.reader.now c.loop-alloc.reader c.loop-alloc.invariant
+    left_none (IsPlainComponent ps) (λ (x : Component). codes " " ++ component_text ps x) 10 c.args.made.now c.loop-alloc.made c.args.reader.now c.loop-alloc.reader c.loop-alloc.invariant
     (sym c.goes_on.ensures.exact ∙ c.loop-alloc-test.false) (λ x rest' h. refl) cs rest good stops e
