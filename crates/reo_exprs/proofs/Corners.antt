@@ -1,5 +1,5 @@
 -- The interval of a product, a quotient or a remainder has all of them.
-use Rattle.std.proofs.Common.{◌≡◌, ◌<◌, ◌≤◌, ◌+◌, ◌*◌, ◌/◌, ◌%◌, ℕ, zero, suc, ℤ, pos, negsuc, neg_ℤ, ◌*ℤ◌, ◌-ℤ◌, ◌⊎◌, inl, inr, ap, sym, subst, arith}
+use Rattle.std.proofs.Common.{◌≡◌, ◌<◌, ◌≤◌, ◌+◌, ◌*◌, ◌/◌, ◌%◌, ℕ, zero, suc, ℤ, pos, negsuc, neg_ℤ, ◌*ℤ◌, ◌-ℤ◌, ◌⊎◌, inl, inr, Option, Some, None, ap, sym, subst, arith}
 use Rattle.std.specs.Prelude.{◌≤ℤ◌, if◌then◌else◌, int_div, int_rem, int_le}
 use Rattle.std.specs.Int.{int_min, int_max}
 use Rattle.std.proofs.lemmas.Int.{ints, clamps}
@@ -7,7 +7,8 @@ use Rattle.std.proofs.lemmas.Nat.{mul-le, le-div}
 use Rattle.std.proofs.Math.Nat.{div-mul-le_self, mod-lt, mod-le}
 use Rattle.std.proofs.Math.IntN.{pos-*ℤ-pos, negsuc-*ℤ-pos, *ℤ-negsuc, *ℤ_comm}
 use Rattle.reo_exprs.specs.declared.interval.Interval.{Interval}
-use Rattle.reo_exprs.specs.Interval.{least, greatest, corners, product, quotient, remainder}
+use Rattle.reo_exprs.specs.Interval.{least, greatest, corners, product, quotient, remainder, near, near_number}
+use Rattle.reo_exprs.proofs.Near.{far_inside}
 
 -- a number lies between two, in one order or the other
 abbrev pub Between : ℤ → ℤ → ℤ → Type 0
@@ -122,3 +123,28 @@ module _ (x y : Interval) (v w : ℤ) (a : x.low ≤ℤ v) (b : v ≤ℤ x.high)
       let above : pos 1 ≤ℤ w = omega (arith, ints) in
       let rest = remains v w above in
       (lower_rest x.low v w y.high (int_rem v w) above d a rest, upper_rest x.high v w y.high (int_rem v w) above d b rest)
+
+-- where a corner is far, so is the interval
+pub product_far_a : (x y : Interval) → None ≡ near_number (x.low *ℤ y.low) → near (product x y) ≡ None
+product_far_a x y e =
+    let low = lowest (x.low *ℤ y.low) (x.low *ℤ y.high) (x.high *ℤ y.low) (x.high *ℤ y.high) in
+    let high = highest (x.low *ℤ y.low) (x.low *ℤ y.high) (x.high *ℤ y.low) (x.high *ℤ y.high) in
+    far_inside (product x y) (x.low *ℤ y.low) low.0 high.0 (sym e)
+
+pub product_far_b : (x y : Interval) → None ≡ near_number (x.low *ℤ y.high) → near (product x y) ≡ None
+product_far_b x y e =
+    let low = lowest (x.low *ℤ y.low) (x.low *ℤ y.high) (x.high *ℤ y.low) (x.high *ℤ y.high) in
+    let high = highest (x.low *ℤ y.low) (x.low *ℤ y.high) (x.high *ℤ y.low) (x.high *ℤ y.high) in
+    far_inside (product x y) (x.low *ℤ y.high) low.1 high.1 (sym e)
+
+pub product_far_c : (x y : Interval) → None ≡ near_number (x.high *ℤ y.low) → near (product x y) ≡ None
+product_far_c x y e =
+    let low = lowest (x.low *ℤ y.low) (x.low *ℤ y.high) (x.high *ℤ y.low) (x.high *ℤ y.high) in
+    let high = highest (x.low *ℤ y.low) (x.low *ℤ y.high) (x.high *ℤ y.low) (x.high *ℤ y.high) in
+    far_inside (product x y) (x.high *ℤ y.low) low.2 high.2 (sym e)
+
+pub product_far_d : (x y : Interval) → None ≡ near_number (x.high *ℤ y.high) → near (product x y) ≡ None
+product_far_d x y e =
+    let low = lowest (x.low *ℤ y.low) (x.low *ℤ y.high) (x.high *ℤ y.low) (x.high *ℤ y.high) in
+    let high = highest (x.low *ℤ y.low) (x.low *ℤ y.high) (x.high *ℤ y.low) (x.high *ℤ y.high) in
+    far_inside (product x y) (x.high *ℤ y.high) low.3 high.3 (sym e)

@@ -266,7 +266,7 @@ module _ (S : Type 0) where
   lies_inside (kindred.Pair' n (kindred.more_of-Twins a b kindred.end_of-Twins)) (kindred.Pair' j (kindred.more_of-Twins c d kindred.end_of-Twins)) (value.Pair' m (value.more_of-Couple x y value.end_of-Couple)) l h = (lies_inside a c x l.0 h.0, lies_inside b d y l.1 h.1)
 
   -- what an item of such a type has
-  number_in : (v : Value) (x : Interval) → Lies S v (int_type x) → (x.low ≤ℤ number v) × (number v ≤ℤ x.high)
+  pub number_in : (v : Value) (x : Interval) → Lies S v (int_type x) → (x.low ≤ℤ number v) × (number v ≤ℤ x.high)
   number_in value.Unit x h = absurd h
   number_in (value.Bool b) x h = absurd h
   number_in (value.Int z) x h = h

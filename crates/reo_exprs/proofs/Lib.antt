@@ -1,9 +1,12 @@
 pub mod Children
+pub mod Choices
 pub mod Corners
 pub mod InType
 pub mod Joined
 pub mod Near
 pub mod Options
+pub mod Same
+pub mod Seen
 pub mod Steps
 pub mod Trees
 pub mod Twinned

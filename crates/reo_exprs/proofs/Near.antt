@@ -1,5 +1,5 @@
 -- Numbers from -10^18 to 10^18.
-use Rattle.std.proofs.Common.{Bool, true, false, ◌&&◌, ◌≡◌, ◌∙◌, ◌^◌, ◌*◌, ℤ, pos, neg_ℤ, ◌*ℤ◌, ◌-ℤ◌, Option, Some, None, ap, sym, refl, arith}
+use Rattle.std.proofs.Common.{Bool, true, false, ◌&&◌, ◌≡◌, ◌∙◌, ◌^◌, ◌*◌, ℤ, pos, neg_ℤ, ◌*ℤ◌, ◌-ℤ◌, to_z, of_z, Option, Some, None, ap, sym, refl, arith}
 use Rattle.std.specs.Prelude.{◌≤ℤ◌, IsTrue, int_le, if◌then◌else◌, FitsSigned}
 use Rattle.std.specs.Int.{int_min, int_max, w64}
 use Rattle.std.proofs.lemmas.Int.{ints, clamps}
@@ -28,7 +28,7 @@ twice_fits z a b = omega (arith, ints)
 pub minus_is : (z : ℤ) → pos 0 -ℤ z ≡ neg_ℤ z
 minus_is z = omega (arith, ints)
 
-near_from : (z : ℤ) → neg_ℤ (pos (10 ^ 18)) ≤ℤ z → z ≤ℤ pos (10 ^ 18) → is_near z ≡ true
+pub near_from : (z : ℤ) → neg_ℤ (pos (10 ^ 18)) ≤ℤ z → z ≤ℤ pos (10 ^ 18) → is_near z ≡ true
 near_from z a b = grind (arith, ints)
 
 -- a number that is not near lies in no near interval
@@ -63,3 +63,12 @@ all_near p q r s a b c d =
     let m : is_near (least p q r s) ≡ true = near_from (least p q r s) (omega (arith, ints, clamps)) (omega (arith, ints, clamps)) in
     let n : is_near (greatest p q r s) ≡ true = near_from (greatest p q r s) (omega (arith, ints, clamps)) (omega (arith, ints, clamps)) in
     λ i. if m i && n i then Some (record { low = least p q r s; high = greatest p q r s }) else None
+
+-- the least and the greatest of four, found two by two
+pub least_told : (a b c d m n r : ℤ) → FitsSigned w64 a → FitsSigned w64 b → FitsSigned w64 c → FitsSigned w64 d → m ≡ int_min a b → n ≡ int_min c d
+    → r ≡ int_min (to_z w64 (of_z w64 m)) (to_z w64 (of_z w64 n)) → to_z w64 (of_z w64 r) ≡ least a b c d
+least_told a b c d m n r f g h k p q e = omega (arith, ints, clamps)
+
+pub greatest_told : (a b c d m n r : ℤ) → FitsSigned w64 a → FitsSigned w64 b → FitsSigned w64 c → FitsSigned w64 d → m ≡ int_max a b → n ≡ int_max c d
+    → r ≡ int_max (to_z w64 (of_z w64 m)) (to_z w64 (of_z w64 n)) → to_z w64 (of_z w64 r) ≡ greatest a b c d
+greatest_told a b c d m n r f g h k p q e = omega (arith, ints, clamps)

@@ -22,7 +22,7 @@ use Rattle.reo_exprs.proofs.InType.{is_number}
 use Rattle.reo_exprs.specs.Typing.{within, kind_of_expr, type_of_expr, unary_kind, binary_kind, if_kind, unary_type, binary_type, if_type, unary_within, binary_within, if_within}
 use Rattle.reo_exprs.proofs.Options.{some_same, from_and_then, from_map, from_both}
 use Rattle.reo_exprs.proofs.Trees.{kind-One, kind-Two, kind-If, type-One, type-Two, type-If}
-use Rattle.reo_exprs.proofs.Twinned.{join_of-Pair, twins_of-Pair, twins_of-other, kind_of-Pair, Twins_of-equal}
+use Rattle.reo_exprs.proofs.Twinned.{join_of-Pair, join_of_Pair-other, twins_of-Pair, twins_of-other, kind_of-Pair, Twins_of-equal}
 
 -- the parts of a type of pairs
 pub part_told : (f : Twins → Kindred) (k : Kindred) (y z : Twins) → k ≡ kinds.Pair y → z ≡ y → Some (f z) ≡ option_map f (twins_of k)
@@ -78,6 +78,9 @@ join_pair a b x y x' y' l r made p q e f g h m =
     ∙ Twins_of-equal (record { left = l; right = r }) (record { left = join_of x.left y.left; right = join_of x.right y.right })
       (g ∙ (λ i. join_of (e i).left (f i).left)) (h ∙ (λ i. join_of (e i).right (f i).right))
     ∙ sym (join_of-Pair x y) ∙ sym (λ i. join_of (p i) (q i))
+
+pub join_plain : (a b : Kindred) (x : Twins) → a ≡ kinds.Pair x → ((y : Twins) → b ≡ kinds.Pair y → ⊥) → a ≡ join_of a b
+join_plain a b x p other = p ∙ sym (join_of_Pair-other x b other) ∙ sym (ap (λ k. join_of k b) p)
 
 left_part : (k : Kindred) → is_within k ≡ true → option_and_then within (option_map (λ t. t.left) (twins_of k)) ≡ option_map (λ t. t.left) (twins_of k)
 unfolding hidden-the_row-Twins-0 hidden

@@ -58,13 +58,16 @@ product x y = corners (λ a b. a *ℤ b) x y
 abbrev pub quotient : Interval → Interval → Interval
 quotient x y = corners int_div x y
 
+-- the least and the greatest remainder of numbers from the low bound or to the high one, by numbers up to the divisor
+abbrev pub least_rest : ℤ → ℤ → ℤ
+least_rest low divisor = if int_le (pos 0) low then pos 0 else int_max low (pos 1 -ℤ divisor)
+
+abbrev pub greatest_rest : ℤ → ℤ → ℤ
+greatest_rest high divisor = if int_le high (pos 0) then pos 0 else int_min high (divisor -ℤ pos 1)
+
 -- and their remainders, each with the sign of the number that is divided
 abbrev pub remainder : Interval → Interval → Interval
-remainder x y =
-    record {
-      low = if int_le (pos 0) x.low then pos 0 else int_max x.low (pos 1 -ℤ y.high);
-      high = if int_le x.high (pos 0) then pos 0 else int_min x.high (y.high -ℤ pos 1);
-    }
+remainder x y = record { low = least_rest x.low y.high; high = greatest_rest x.high y.high }
 
 -- the least interval that contains two
 abbrev pub hull : Interval → Interval → Interval

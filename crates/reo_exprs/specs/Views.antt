@@ -26,6 +26,11 @@ abbrev pub AreTyped : View → Kindred → Type 0
 AreTyped (view.Pair p) of = IsTyped p.now.left of × IsTyped p.now.right of
 AreTyped v of = Unit {0}
 
+-- the view is of no item
+abbrev pub IsMade : View → Type 0
+IsMade (view.Item part) = ⊥
+IsMade v = Unit {0}
+
 -- how much is left to do in an expression
 abbrev pub work : Expr → ℕ
 work (expr.One' op m (expr.more_of-Expr x _)) = work x + 2

@@ -1,6 +1,6 @@
 //! Intervals of whole numbers, from -10^18 to 10^18.
 ghost use Rattle.std.specs.Prelude.{◌≡◌, ◌*ℤ◌, ◌≤ℤ◌, ◌&&◌, IsTrue, pos};
-ghost use Rattle.reo_exprs.specs.Interval.{is_near, near_number, near, is_near_interval, negated, sum, difference, product, quotient, remainder};
+ghost use Rattle.reo_exprs.specs.Interval.{is_near, near_number, near, is_near_interval, negated, sum, difference, product, quotient, remainder, least_rest, greatest_rest};
 
 /// The whole numbers from the first bound to the second, both included.
 #[derive(Clone, Copy, Debug, PartialEq, Eq)]
@@ -91,20 +91,23 @@ pub fn quotient(x: Interval, y: Interval) -> Option<Interval>
     near(a.min(b).min(c.min(d)), a.max(b).max(c.max(d)))
 }
 
+fn least_rest(low: i64, divisor: i64) -> i64
+    requires { IsTrue (is_near divisor) }
+    ensures { result ≡ least_rest low divisor }
+{
+    if 0 <= low { 0 } else { low.max(1 - divisor) }
+}
+
+fn greatest_rest(high: i64, divisor: i64) -> i64
+    requires { IsTrue (is_near divisor) }
+    ensures { result ≡ greatest_rest high divisor }
+{
+    if high <= 0 { 0 } else { high.min(divisor - 1) }
+}
+
 pub fn remainder(x: Interval, y: Interval) -> Option<Interval>
-    requires left { IsTrue (is_near_interval x) }
-    requires right { IsTrue (is_near_interval y) }
+    requires { IsTrue (is_near_interval y) }
     ensures { result ≡ near (remainder x y) }
 {
-    let low = if 0 <= x.low {
-        0
-    } else {
-        x.low.max(1 - y.high)
-    };
-    let high = if x.high <= 0 {
-        0
-    } else {
-        x.high.min(y.high - 1)
-    };
-    near(low, high)
+    near(least_rest(x.low, y.high), greatest_rest(x.high, y.high))
 }

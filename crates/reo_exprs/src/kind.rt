@@ -4,8 +4,8 @@ ghost use Rattle.reo_exprs.specs.Kinds.{kind_of as bare};
 ghost use Rattle.reo_exprs.specs.Typing.{unary_kind, binary_kind, if_kind, kind_of_expr as kind_by_table};
 
 use crate::Expr;
-use crate::kinds::{interval_of, is_bool, join, joins, kind_of};
-use crate::parts::{left_type, provided, right_type};
+use crate::kinds::{interval_of, is_bool, joins, kind_of};
+use crate::parts::{left_type, may_choose, provided, right_type};
 use reo_values::{Binary, Boxed, Copies, Kindred, NoMemory, Twins, Unary};
 use std::alloc::Global;
 
@@ -45,12 +45,11 @@ fn two_kind(alloc: Global, op: Binary, x: Kindred, y: Kindred) -> Result<Option<
     }
 }
 
-fn choice_kind(condition: Kindred, yes: Kindred, no: Kindred) -> Option<Kindred>
-    requires left { bare yes ≡ yes }
-    requires right { bare no ≡ no }
-    ensures { result ≡ if_kind condition yes no }
+fn choice_kind(condition: &Kindred, yes: Kindred, no: &Kindred) -> Option<Kindred>
+    requires { bare yes ≡ yes }
+    ensures { result ≡ if_kind condition.now yes no.now }
 {
-    let fits = is_bool(&condition) && joins(&yes, &no);
+    let fits = may_choose(condition, &yes, no);
     provided(fits, yes)
 }
 
@@ -97,7 +96,7 @@ pub fn kind_of_expr(
             let Some(no) = kind_of_expr(alloc, &parts.no, of)? else {
                 return Ok(None);
             };
-            Ok(choice_kind(condition, yes, no))
+            Ok(choice_kind(&condition, yes, &no))
         }
     }
 }

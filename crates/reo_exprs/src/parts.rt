@@ -1,8 +1,9 @@
 //! Steps that the kind and the type of an expression share.
-ghost use Rattle.std.specs.Prelude.{◌≡◌, option_map};
-ghost use Rattle.reo_exprs.specs.Kinds.{twins_of};
+ghost use Rattle.std.specs.Prelude.{◌≡◌, ◌&&◌, option_map};
+ghost use Rattle.reo_exprs.specs.Kinds.{twins_of, is_bool, joins};
 ghost use Rattle.reo_exprs.specs.Typing.{provided};
 
+use crate::kinds::{is_bool, joins};
 use reo_values::Kindred;
 
 /// The type, where the test holds.
@@ -30,4 +31,11 @@ pub fn right_type(kindred: Kindred) -> Option<Kindred>
         Kindred::Pair(twins) => Some(twins.into_inner().right),
         _ => None,
     }
+}
+
+/// Whether an `if` may choose by the first type, from the other two.
+pub fn may_choose(condition: &Kindred, yes: &Kindred, no: &Kindred) -> bool
+    ensures { result ≡ (is_bool condition.now && joins yes.now no.now) }
+{
+    is_bool(condition) && joins(yes, no)
 }

@@ -8,7 +8,7 @@ ghost use Rattle.reo_exprs.specs.Typing.{provided, within, may_stand_right, int_
 use crate::interval::{Interval, difference, negated, product, quotient, remainder, sum};
 use crate::kind::kind_of_expr;
 use crate::kinds::{interval_of, is_bool, is_within, join, joins};
-use crate::parts::{left_type, provided, right_type};
+use crate::parts::{left_type, may_choose, provided, right_type};
 use crate::{Expr, TypeFault};
 use reo_values::{Binary, Boxed, Copies, Kindred, NoMemory, Twins, Unary, copy_kindred};
 use std::alloc::Global;
@@ -116,7 +116,7 @@ fn choice_type(
     requires right { IsTrue (is_within no.now) }
     ensures { IfOk result (λ made. made ≡ if_within condition.now yes.now no.now) }
 {
-    if is_bool(condition) && joins(yes, no) {
+    if may_choose(condition, yes, no) {
         Ok(Some(join(alloc, yes, no)?))
     } else {
         Ok(None)

@@ -1,10 +1,10 @@
 //! Values of expressions, seen without memory.
-ghost use Rattle.std.specs.Prelude.{◌≡◌, ◌≤◌, ◌+◌, IsTrue, pos, length};
+ghost use Rattle.std.specs.Prelude.{◌≡◌, ◌≢◌, ◌&&◌, ◌||◌, ◌≤◌, ◌+◌, IsTrue, pos, length};
 ghost use Rattle.reo_values.specs.Kind.{IsIn};
 ghost use Rattle.reo_exprs.specs.Interval.{is_near};
-ghost use Rattle.reo_exprs.specs.Typing.{IsTyped};
+ghost use Rattle.reo_exprs.specs.Typing.{IsTyped, may_stand_right};
 ghost use Rattle.reo_exprs.specs.Valued.{truth, number, bytes_of, same_value, unary_value, binary_value, value_of_expr};
-ghost use Rattle.reo_exprs.specs.Views.{AreTyped, value_of_view, work, work_of_view};
+ghost use Rattle.reo_exprs.specs.Views.{AreTyped, IsMade, value_of_view, work, work_of_view};
 
 use crate::{Expr, ExprPair};
 use reo_values::{Binary, Kindred, Unary, Value, same_item};
@@ -86,35 +86,63 @@ fn one_view<'a>(op: Unary, x: View<'a>, of: &Kindred, item: &'a Value) -> View<'
     }
 }
 
-// The value of an operator on those of its operands.
+fn either(x: bool, y: bool) -> bool
+    ensures { result ≡ (x || y) }
+{
+    x || y
+}
+
+fn both(x: bool, y: bool) -> bool
+    ensures { result ≡ (x && y) }
+{
+    x && y
+}
+
+// The value of an operator on numbers.
+fn calculated<'a>(op: Binary, x: i64, y: i64) -> View<'a>
+    requires apart { op ≢ Binary.Pair }
+    requires fits { IsTrue (is_near (number (binary_value op (Value.Int x) (Value.Int y)))) }
+    requires divisor { IsTrue (may_stand_right op (Kindred.Int y y)) }
+    ensures value { (item : Value) → value_of_view result item ≡ binary_value op (Value.Int x) (Value.Int y) }
+    ensures typed { (of : Kindred) → AreTyped result of }
+    ensures work { work_of_view result ≡ 0 }
+{
+    match op {
+        Binary::Or => View::Bool(false),
+        Binary::And => View::Bool(false),
+        Binary::Eq => View::Bool(x == y),
+        Binary::Ne => View::Bool(x != y),
+        Binary::Lt => View::Bool(x < y),
+        Binary::Le => View::Bool(x <= y),
+        Binary::Gt => View::Bool(x > y),
+        Binary::Ge => View::Bool(x >= y),
+        Binary::Add => View::Int(x + y),
+        Binary::Sub => View::Int(x - y),
+        Binary::Mul => View::Int(x * y),
+        Binary::Div => View::Int(x / y),
+        Binary::Rem => View::Int(x % y),
+        Binary::Pair => unreachable!(),
+    }
+}
+
+// The value of an operator other than a pair on those of its operands.
 #[cycle(seeing)]
 fn two_view<'a>(op: Binary, pair: &'a ExprPair, of: &Kindred, item: &'a Value) -> View<'a>
+    requires apart { op ≢ Binary.Pair }
     requires typed { IsTyped (Expr.Two op pair.now) of.now }
     requires member { IsIn item.now of.now }
     ensures value { value_of_view result item.now ≡ value_of_expr (Expr.Two op pair.now) item.now }
     ensures typed { AreTyped result of.now }
-    ensures work { work_of_view result ≤ work pair.now.left + work pair.now.right + 3 }
+    ensures work { work_of_view result ≡ 0 }
 {
-    if op == Binary::Pair {
-        return View::Pair(pair);
-    }
     let x = view_of(&pair.left, of, item);
     let y = view_of(&pair.right, of, item);
     match op {
-        Binary::Or => View::Bool(truth(&x, item) || truth(&y, item)),
-        Binary::And => View::Bool(truth(&x, item) && truth(&y, item)),
+        Binary::Or => View::Bool(either(truth(&x, item), truth(&y, item))),
+        Binary::And => View::Bool(both(truth(&x, item), truth(&y, item))),
         Binary::Eq => View::Bool(same_view(x, y, of, item)),
         Binary::Ne => View::Bool(!same_view(x, y, of, item)),
-        Binary::Lt => View::Bool(number(&x, item) < number(&y, item)),
-        Binary::Le => View::Bool(number(&x, item) <= number(&y, item)),
-        Binary::Gt => View::Bool(number(&x, item) > number(&y, item)),
-        Binary::Ge => View::Bool(number(&x, item) >= number(&y, item)),
-        Binary::Add => View::Int(number(&x, item) + number(&y, item)),
-        Binary::Sub => View::Int(number(&x, item) - number(&y, item)),
-        Binary::Mul => View::Int(number(&x, item) * number(&y, item)),
-        Binary::Div => View::Int(number(&x, item) / number(&y, item)),
-        Binary::Rem => View::Int(number(&x, item) % number(&y, item)),
-        Binary::Pair => View::Pair(pair),
+        _ => calculated(op, number(&x, item), number(&y, item)),
     }
 }
 
@@ -135,7 +163,13 @@ pub fn view_of<'a>(expr: &'a Expr, of: &Kindred, item: &'a Value) -> View<'a>
         Expr::Text(bytes) => View::Text(bytes.as_slice()),
         Expr::Sym(_, place) => View::Sym(*place),
         Expr::One(op, operand) => one_view(*op, view_of(operand.get(), of, item), of, item),
-        Expr::Two(op, pair) => two_view(*op, pair.get(), of, item),
+        Expr::Two(op, pair) => {
+            let pair = pair.get();
+            match *op {
+                Binary::Pair => View::Pair(pair),
+                _ => two_view(*op, pair, of, item),
+            }
+        }
         Expr::If(parts) => {
             let parts = parts.get();
             if truth(&view_of(&parts.condition, of, item), item) {
@@ -170,6 +204,34 @@ pub fn is_item(x: View<'_>, value: &Value, of: &Kindred, item: &Value) -> bool
     }
 }
 
+// Whether the values of views that are no items are equal.
+#[cycle(seeing)]
+fn same_made(x: View<'_>, y: View<'_>, of: &Kindred, item: &Value) -> bool
+    requires left { AreTyped x of.now }
+    requires right { AreTyped y of.now }
+    requires left_made { IsMade x }
+    requires right_made { IsMade y }
+    requires member { IsIn item.now of.now }
+    ensures { result ≡ same_value (value_of_view x.entry item.now) (value_of_view y.entry item.now) }
+{
+    match (x, y) {
+        (View::Unit, View::Unit) => true,
+        (View::Bool(a), View::Bool(b)) => a == b,
+        (View::Int(a), View::Int(b)) => a == b,
+        (View::Sym(a), View::Sym(b)) => a == b,
+        (View::Text(a), View::Text(b)) => a == b,
+        (View::Pair(a), View::Pair(b)) => {
+            let (left, other) = (view_of(&a.left, of, item), view_of(&b.left, of, item));
+            if !same_view(left, other, of, item) {
+                return false;
+            }
+            let (right, other) = (view_of(&a.right, of, item), view_of(&b.right, of, item));
+            same_view(right, other, of, item)
+        }
+        _ => false,
+    }
+}
+
 /// Whether two values are equal.
 #[cycle(seeing)]
 fn same_view(x: View<'_>, y: View<'_>, of: &Kindred, item: &Value) -> bool
@@ -178,27 +240,11 @@ fn same_view(x: View<'_>, y: View<'_>, of: &Kindred, item: &Value) -> bool
     requires member { IsIn item.now of.now }
     ensures { result ≡ same_value (value_of_view x.entry item.now) (value_of_view y.entry item.now) }
 {
-    match (x, y) {
-        (_, View::Item(part)) => is_item(x, part, of, item),
-        (View::Item(part), _) => is_item(y, part, of, item),
-        (View::Unit, View::Unit) => true,
-        (View::Bool(a), View::Bool(b)) => a == b,
-        (View::Int(a), View::Int(b)) => a == b,
-        (View::Sym(a), View::Sym(b)) => a == b,
-        (View::Text(a), View::Text(b)) => a == b,
-        (View::Pair(a), View::Pair(b)) => {
-            same_view(
-                view_of(&a.left, of, item),
-                view_of(&b.left, of, item),
-                of,
-                item,
-            ) && same_view(
-                view_of(&a.right, of, item),
-                view_of(&b.right, of, item),
-                of,
-                item,
-            )
-        }
-        _ => false,
+    match x {
+        View::Item(part) => is_item(y, part, of, item),
+        _ => match y {
+            View::Item(part) => is_item(x, part, of, item),
+            _ => same_made(x, y, of, item),
+        },
     }
 }

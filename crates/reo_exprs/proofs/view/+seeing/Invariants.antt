@@ -16,3 +16,6 @@ decreases-is_item l = work_of_view l.x
 
 abbrev pub decreases-same_view : goal.decreases-same_view
 decreases-same_view l = work_of_view l.x + work_of_view l.y + 1
+
+abbrev pub decreases-same_made : goal.decreases-same_made
+decreases-same_made l = work_of_view l.x + work_of_view l.y
