@@ -46,13 +46,13 @@ pub fn plain(cursor: &mut Cursor, alloc: Global) -> Result<Form, Halt>
     ensures { Gives result cursor.new (read_plain plain_form cursor.old) }
 {
     let channel = plain_channel(cursor)?;
-    let first = cursor.name(alloc)?;
-    let second = cursor.name(alloc)?;
+    let left = cursor.name(alloc)?;
+    let right = cursor.name(alloc)?;
     cursor.expect(b";")?;
     Ok(Form::Joined {
         channel,
-        first,
-        second,
+        first: left,
+        second: right,
     })
 }
 
