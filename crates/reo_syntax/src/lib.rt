@@ -19,4 +19,6 @@ pub use reo_trees::{
 };
 
 #[cfg(test)]
+mod term_tests;
+#[cfg(test)]
 mod tests;

@@ -1,15 +1,15 @@
 //! Canonical texts of trees.
+use crate::term_tests::it;
 use crate::{
-    Binary, Channel, Connector, Constant, Declaration, Form, Item, Literal, LiteralPair, Parameter,
-    Program, Shape, Term, TermForm, TermPair, TermTriple, TypePair, TypeTerm, Unary,
-    canonical_text_says_the_program, print,
+    Channel, Connector, Constant, Declaration, Form, Item, Literal, LiteralPair, Parameter,
+    Program, Shape, TypePair, TypeTerm, canonical_text_says_the_program, print,
 };
 use reo_values::{Boxed, Bytes, List, NoMemory};
 use std::alloc::Global;
 use std::process::Abort;
 use std::test::Fail;
 
-fn name(alloc: Global, text: &[u8]) -> Result<Bytes, NoMemory> {
+pub fn name(alloc: Global, text: &[u8]) -> Result<Bytes, NoMemory> {
     Bytes::from_slice(alloc, text)
 }
 
@@ -34,7 +34,7 @@ fn port(alloc: Global, inward: bool, text: &[u8], shape: Shape) -> Result<Parame
     })
 }
 
-fn channel(alloc: Global, channel: Channel) -> Result<Item, NoMemory> {
+pub fn channel(alloc: Global, channel: Channel) -> Result<Item, NoMemory> {
     let form = Form::Joined {
         channel,
         first: name(alloc, b"a")?,
@@ -74,7 +74,7 @@ fn prints(
 }
 
 /// A connector with this one item has this text.
-fn item(rt: &impl Abort, alloc: Global, item: Item, wanted: &[u8]) -> Result<(), NoMemory> {
+pub fn item(rt: &impl Abort, alloc: Global, item: Item, wanted: &[u8]) -> Result<(), NoMemory> {
     let mut items = List::new(alloc);
     items.push(item)?;
     let mut declarations = List::new(alloc);
@@ -83,44 +83,6 @@ fn item(rt: &impl Abort, alloc: Global, item: Item, wanted: &[u8]) -> Result<(),
     text.append(wanted)?;
     text.append(b"\n}\n")?;
     prints(rt, alloc, declarations, text.as_slice())
-}
-
-fn term(form: TermForm) -> Term {
-    Term { line: 4, form }
-}
-
-fn it() -> Term {
-    term(TermForm::It)
-}
-
-fn number(value: i64) -> Term {
-    term(TermForm::Int(value))
-}
-
-fn truth(value: bool) -> Term {
-    term(TermForm::Bool(value))
-}
-
-fn one(alloc: Global, operator: Unary, operand: Term) -> Result<Term, NoMemory> {
-    Ok(term(TermForm::One(operator, Boxed::new(alloc, operand)?)))
-}
-
-fn two(alloc: Global, operator: Binary, left: Term, right: Term) -> Result<Term, NoMemory> {
-    let pair = Boxed::new(alloc, TermPair { left, right })?;
-    Ok(term(TermForm::Two(operator, pair)))
-}
-
-/// A map to this term has this text behind `to`.
-fn maps(rt: &impl Abort, alloc: Global, term: Term, wanted: &[u8]) -> Result<(), NoMemory> {
-    let mut text = Bytes::from_slice(alloc, b"map a b to ")?;
-    text.append(wanted)?;
-    text.append(b";")?;
-    item(
-        rt,
-        alloc,
-        channel(alloc, Channel::Map(term))?,
-        text.as_slice(),
-    )
 }
 
 #[test]
@@ -229,8 +191,8 @@ fn channels(rt: HostRuntime) -> Result<(), Fail> {
     joins(&rt, alloc, Channel::Lossy, b"lossy a b;")?;
     joins(&rt, alloc, Channel::SyncDrain, b"syncdrain a b;")?;
     joins(&rt, alloc, Channel::AsyncDrain, b"asyncdrain a b;")?;
-    let filter = Channel::Filter(truth(true));
-    joins(&rt, alloc, filter, b"filter a b when true;")?;
+    let filter = Channel::Filter(it());
+    joins(&rt, alloc, filter, b"filter a b when it;")?;
     Ok(())
 }
 
@@ -263,100 +225,6 @@ fn buffers(rt: HostRuntime) -> Result<(), Fail> {
     let partly = Channel::Fifo(12, four(alloc)?);
     let wanted = b"fifo 12 a b with -1, (true,\"x \\\"\\\\\"), unit, 0;";
     joins(&rt, alloc, partly, wanted)?;
-    Ok(())
-}
-
-/// Two operators: the left one in the left operand.
-fn in_left(alloc: Global, left: Binary, whole: Binary) -> Result<Term, NoMemory> {
-    two(alloc, whole, two(alloc, left, it(), number(2))?, number(3))
-}
-
-/// Two operators: the right one in the right operand.
-fn in_right(alloc: Global, whole: Binary, right: Binary) -> Result<Term, NoMemory> {
-    two(alloc, whole, it(), two(alloc, right, number(2), number(3))?)
-}
-
-fn sum_and_product(alloc: Global) -> Result<Term, NoMemory> {
-    let sum = two(alloc, Binary::Add, it(), number(1))?;
-    let product = two(alloc, Binary::Mul, number(2), it())?;
-    two(alloc, Binary::Mul, sum, product)
-}
-
-#[test]
-fn groupings_of_sums(rt: HostRuntime) -> Result<(), Fail> {
-    let alloc = rt.alloc();
-    maps(&rt, alloc, sum_and_product(alloc)?, b"(it + 1) * (2 * it)")?;
-    let right = in_right(alloc, Binary::Sub, Binary::Sub)?;
-    maps(&rt, alloc, right, b"it - (2 - 3)")?;
-    let left = in_left(alloc, Binary::Sub, Binary::Sub)?;
-    maps(&rt, alloc, left, b"it - 2 - 3")?;
-    let left = in_left(alloc, Binary::Rem, Binary::Lt)?;
-    maps(&rt, alloc, left, b"it % 2 < 3")?;
-    Ok(())
-}
-
-#[test]
-fn groupings_of_truths(rt: HostRuntime) -> Result<(), Fail> {
-    let alloc = rt.alloc();
-    let left = in_left(alloc, Binary::Eq, Binary::Ne)?;
-    maps(&rt, alloc, left, b"(it == 2) != 3")?;
-    let left = in_left(alloc, Binary::Or, Binary::And)?;
-    maps(&rt, alloc, left, b"(it || 2) && 3")?;
-    let left = in_left(alloc, Binary::And, Binary::Or)?;
-    maps(&rt, alloc, left, b"it && 2 || 3")?;
-    let right = in_right(alloc, Binary::Or, Binary::Or)?;
-    maps(&rt, alloc, right, b"it || (2 || 3)")?;
-    Ok(())
-}
-
-fn minus(alloc: Global, operand: Term) -> Result<Term, NoMemory> {
-    one(alloc, Unary::Minus, operand)
-}
-
-#[test]
-fn signs_before_operands(rt: HostRuntime) -> Result<(), Fail> {
-    let alloc = rt.alloc();
-    let not = one(alloc, Unary::Not, minus(alloc, it())?)?;
-    maps(&rt, alloc, not, b"!-it")?;
-    let again = minus(alloc, minus(alloc, number(1))?)?;
-    maps(&rt, alloc, again, b"--1")?;
-    Ok(())
-}
-
-#[test]
-fn signs_and_products(rt: HostRuntime) -> Result<(), Fail> {
-    let alloc = rt.alloc();
-    let product = two(alloc, Binary::Div, it(), number(2))?;
-    maps(&rt, alloc, minus(alloc, product)?, b"-(it / 2)")?;
-    let product = two(alloc, Binary::Mul, minus(alloc, it())?, number(2))?;
-    maps(&rt, alloc, product, b"-it * 2")?;
-    Ok(())
-}
-
-fn choice(alloc: Global) -> Result<Term, NoMemory> {
-    let parts = TermTriple {
-        condition: two(alloc, Binary::Ge, it(), number(1))?,
-        yes: term(TermForm::Sym(name(alloc, b"t")?, name(alloc, b"red")?)),
-        no: term(TermForm::Text(name(alloc, b"a\"b\\")?)),
-    };
-    Ok(term(TermForm::If(Boxed::new(alloc, parts)?)))
-}
-
-#[test]
-fn pairs_calls_and_choices(rt: HostRuntime) -> Result<(), Fail> {
-    let alloc = rt.alloc();
-    let pairs = in_right(alloc, Binary::Pair, Binary::Pair)?;
-    maps(&rt, alloc, pairs, b"(it, (2, 3))")?;
-    let pairs = in_left(alloc, Binary::Pair, Binary::Pair)?;
-    maps(
-        &rt,
-        alloc,
-        one(alloc, Unary::First, pairs)?,
-        b"first(((it, 2), 3))",
-    )?;
-    maps(&rt, alloc, one(alloc, Unary::Length, it())?, b"length(it)")?;
-    let wanted = b"if(it >= 1, t.red, \"a\\\"b\\\\\")";
-    maps(&rt, alloc, choice(alloc)?, wanted)?;
     Ok(())
 }
 
