@@ -153,3 +153,33 @@ pair_left x part c item e f = ap (λ v. left_of (value_of_view v item)) e ∙ ap
 
 pub pair_right : (x : View) (part : Bor Value) (c : Couple) (item : Value) → x ≡ view.Item part → part.now ≡ values.Pair c → right_of (value_of_view x item) ≡ c.right
 pair_right x part c item e f = ap (λ v. right_of (value_of_view v item)) e ∙ ap right_of f ∙ right_of-Pair c
+
+bool_value : (v : Value) → Lies ⊥ v kinds.Bool → v ≡ values.Bool (truth v)
+bool_value value.Unit h = absurd h
+bool_value (value.Bool b) h = refl
+bool_value (value.Int z) h = absurd h
+bool_value (value.Sym k) h = absurd h
+bool_value (value.Text bytes) h = absurd h
+bool_value (value.Pair' m (value.more_of-Couple l r _)) h = absurd h
+
+-- the value of an expression of truth values is one
+pub truth_told : (e : Expr) (of : Kindred) (item : Value) → type_of_expr e of ≡ Some kinds.Bool → IsIn item of → value_of_expr e item ≡ values.Bool (truth (value_of_expr e item))
+truth_told e of item h m = bool_value (value_of_expr e item) (value_in ⊥ e of kinds.Bool item (λ q. absurd q) h (lies_in ⊥ item of m))
+
+pub left_of-other : (v : Value) → ((c : Couple) → v ≡ values.Pair c → ⊥) → v ≡ left_of v
+unfolding hidden-the_row-Couple-0 hidden
+left_of-other value.Unit other = refl
+left_of-other (value.Bool b) other = refl
+left_of-other (value.Int z) other = refl
+left_of-other (value.Sym k) other = refl
+left_of-other (value.Text bytes) other = refl
+left_of-other (value.Pair' m (value.more_of-Couple l r value.end_of-Couple)) other = absurd (other (record { left = l; right = r }) refl)
+
+pub right_of-other : (v : Value) → ((c : Couple) → v ≡ values.Pair c → ⊥) → v ≡ right_of v
+unfolding hidden-the_row-Couple-0 hidden
+right_of-other value.Unit other = refl
+right_of-other (value.Bool b) other = refl
+right_of-other (value.Int z) other = refl
+right_of-other (value.Sym k) other = refl
+right_of-other (value.Text bytes) other = refl
+right_of-other (value.Pair' m (value.more_of-Couple l r value.end_of-Couple)) other = absurd (other (record { left = l; right = r }) refl)

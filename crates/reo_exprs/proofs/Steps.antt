@@ -76,7 +76,7 @@ pub join_pair : (a b : Kindred) (x y x' y' : Twins) (l r : Kindred) (made : Twin
 join_pair a b x y x' y' l r made p q e f g h m =
     ap kinds.Pair m
     ∙ Twins_of-equal (record { left = l; right = r }) (record { left = join_of x.left y.left; right = join_of x.right y.right })
-      (g ∙ (λ i. join_of (e i).left (f i).left)) (h ∙ (λ i. join_of (e i).right (f i).right))
+    (g ∙ (λ i. join_of (e i).left (f i).left)) (h ∙ (λ i. join_of (e i).right (f i).right))
     ∙ sym (join_of-Pair x y) ∙ sym (λ i. join_of (p i) (q i))
 
 pub join_plain : (a b : Kindred) (x : Twins) → a ≡ kinds.Pair x → ((y : Twins) → b ≡ kinds.Pair y → ⊥) → a ≡ join_of a b

@@ -41,4 +41,3 @@ pub struct ExprTriple {
     pub yes: Expr,
     pub no: Expr,
 }
-

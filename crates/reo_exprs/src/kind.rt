@@ -55,11 +55,7 @@ fn choice_kind(condition: &Kindred, yes: Kindred, no: &Kindred) -> Option<Kindre
 
 /// The kind of an expression where `it` has a type, or None exactly where a part of it is of a
 /// kind that does not fit where it stands. `NoMemory` is want of memory.
-pub fn kind_of_expr(
-    alloc: Global,
-    expr: &Expr,
-    of: &Kindred,
-) -> Result<Option<Kindred>, NoMemory>
+pub fn kind_of_expr(alloc: Global, expr: &Expr, of: &Kindred) -> Result<Option<Kindred>, NoMemory>
     ensures { IfOk result (λ made. made ≡ kind_by_table expr.now of.now) }
 {
     match expr {

@@ -4,18 +4,13 @@ ghost use Rattle.reo_values.specs.Kind.{IsIn};
 ghost use Rattle.reo_exprs.specs.Typing.{IsTyped, type_of_expr};
 ghost use Rattle.reo_exprs.specs.Valued.{truth, value_of_expr};
 
-use crate::view::{View, is_item, truth, view_of};
 use crate::Expr;
+use crate::view::{View, is_item, truth, view_of};
 use reo_values::{Boxed, Bytes, Couple, Kindred, NoMemory, Value, copy};
 use std::alloc::Global;
 
 /// The value of an expression on an item. `NoMemory` is want of memory.
-pub fn value_of(
-    alloc: Global,
-    expr: &Expr,
-    of: &Kindred,
-    item: &Value,
-) -> Result<Value, NoMemory>
+pub fn value_of(alloc: Global, expr: &Expr, of: &Kindred, item: &Value) -> Result<Value, NoMemory>
     requires typed { IsTyped expr.now of.now }
     requires member { IsIn item.now of.now }
     ensures { IfOk result (λ made. made ≡ value_of_expr expr.now item.now) }

@@ -1,6 +1,7 @@
 //! Values of expressions, seen without memory.
 ghost use Rattle.std.specs.Prelude.{◌≡◌, ◌≢◌, ◌&&◌, ◌||◌, ◌≤◌, ◌+◌, IsTrue, pos, length};
 ghost use Rattle.reo_values.specs.Kind.{IsIn};
+ghost use Rattle.reo_values.specs.Pair.{left_of, right_of};
 ghost use Rattle.reo_exprs.specs.Interval.{is_near};
 ghost use Rattle.reo_exprs.specs.Typing.{IsTyped, may_stand_right};
 ghost use Rattle.reo_exprs.specs.Valued.{truth, number, bytes_of, same_value, unary_value, binary_value, value_of_expr};
@@ -59,6 +60,24 @@ fn length(view: &View<'_>, item: &Value) -> i64
     }
 }
 
+fn left_part(item: &Value) -> &Value
+    ensures { result.now ≡ left_of item.now }
+{
+    match item {
+        Value::Pair(couple) => &couple.get().left,
+        _ => item,
+    }
+}
+
+fn right_part(item: &Value) -> &Value
+    ensures { result.now ≡ right_of item.now }
+{
+    match item {
+        Value::Pair(couple) => &couple.get().right,
+        _ => item,
+    }
+}
+
 // The value of an operator on that of its operand.
 #[cycle(seeing)]
 fn one_view<'a>(op: Unary, x: View<'a>, of: &Kindred, item: &'a Value) -> View<'a>
@@ -75,12 +94,12 @@ fn one_view<'a>(op: Unary, x: View<'a>, of: &Kindred, item: &'a Value) -> View<'
         Unary::Length => View::Int(length(&x, item)),
         Unary::First => match x {
             View::Pair(pair) => view_of(&pair.left, of, item),
-            View::Item(Value::Pair(couple)) => View::Item(&couple.get().left),
+            View::Item(part) => View::Item(left_part(part)),
             other => other,
         },
         Unary::Second => match x {
             View::Pair(pair) => view_of(&pair.right, of, item),
-            View::Item(Value::Pair(couple)) => View::Item(&couple.get().right),
+            View::Item(part) => View::Item(right_part(part)),
             other => other,
         },
     }

@@ -27,7 +27,7 @@ pub two_kind-requires-clause-right : goal.two_kind-requires-clause-right
 two_kind-requires-clause-right t c = is_kind c.get-pair.result.now.right c.args.of.now c.in-Some-3.y (sym c.in_ok-y-in-Two.ensures ∙ c.in-Some-3.is)
 
 pub returns-in-Some-3 : goal.returns-in-Some-3
-returns-in-Some-3 t c = 
+returns-in-Some-3 t c =
     let whole : binary_kind c.in-Two.op c.in-Some-2.x c.in-Some-3.y ≡ kind_of_expr c.args.expr.now c.args.of.now =
     two_kinded c.args.expr.now c.args.of.now (binary_kind c.in-Two.op c.in-Some-2.x c.in-Some-3.y) c.in-Two.op c.get-pair.result.now c.in-Some-2.x c.in-Some-3.y (c.in-Two.is ∙ ap (λ p. exprs.Two c.in-Two.op p) (sym c.get-pair.ensures)) (sym c.in-Some-2.is ∙ c.in_ok-x-in-Two.ensures) (sym c.in-Some-3.is ∙ c.in_ok-y-in-Two.ensures) refl in
     subst (λ k. IfOk c.two_kind.result (λ made. made ≡ k)) whole c.two_kind.ensures

@@ -28,7 +28,7 @@ pub two_type-requires-clause-right : goal.two_type-requires-clause-right
 two_type-requires-clause-right t c = type_near c.get-pair.result.now.right c.args.of.now c.in-Some-3.y (sym c.in_ok-y-in-Two.ensures ∙ c.in-Some-3.is)
 
 pub returns-in-Some-3 : goal.returns-in-Some-3
-returns-in-Some-3 t c = 
+returns-in-Some-3 t c =
     let whole : binary_within c.in-Two.op c.in-Some-2.x c.in-Some-3.y ≡ type_of_expr c.args.expr.now c.args.of.now =
     two_typed c.args.expr.now c.args.of.now (binary_within c.in-Two.op c.in-Some-2.x c.in-Some-3.y) c.in-Two.op c.get-pair.result.now c.in-Some-2.x c.in-Some-3.y (c.in-Two.is ∙ ap (λ p. exprs.Two c.in-Two.op p) (sym c.get-pair.ensures)) (sym c.in-Some-2.is ∙ c.in_ok-x-in-Two.ensures) (sym c.in-Some-3.is ∙ c.in_ok-y-in-Two.ensures) refl in
     subst (λ k. IfOk c.two_type.result (λ made. made ≡ k)) whole c.two_type.ensures
@@ -49,7 +49,7 @@ pub choice_type-requires-clause-right : goal.choice_type-requires-clause-right
 choice_type-requires-clause-right t c = type_near c.get-parts.result.now.no c.args.of.now c.in-Some-6.no (sym c.in_ok-no-in-If.ensures ∙ c.in-Some-6.is)
 
 pub returns-in-Some-6 : goal.returns-in-Some-6
-returns-in-Some-6 t c = 
+returns-in-Some-6 t c =
     let whole : if_within c.in-Some-4.condition c.in-Some-5.yes c.in-Some-6.no ≡ type_of_expr c.args.expr.now c.args.of.now =
     if_typed c.args.expr.now c.args.of.now (if_within c.in-Some-4.condition c.in-Some-5.yes c.in-Some-6.no) c.get-parts.result.now c.in-Some-4.condition c.in-Some-5.yes c.in-Some-6.no (c.in-If.is ∙ ap exprs.If (sym c.get-parts.ensures)) (sym c.in-Some-4.is ∙ c.in_ok-condition-in-If.ensures) (sym c.in-Some-5.is ∙ c.in_ok-yes-in-If.ensures) (sym c.in-Some-6.is ∙ c.in_ok-no-in-If.ensures) refl in
     subst (λ k. IfOk c.choice_type.result (λ made. made ≡ k)) whole c.choice_type.ensures

@@ -6,6 +6,7 @@ use Rattle.reo_values.specs.declared.operator.Unary.TheVariants as unary
 use Rattle.reo_values.specs.declared.operator.Binary.TheVariants as binary
 use Rattle.reo_values.specs.declared.kindred.Kindred.TheVariants as kinds
 use Rattle.reo_values.specs.declared.value.Value.TheVariants as values
+use Rattle.reo_values.specs.Pair.{left_of, right_of}
 use Rattle.reo_exprs.specs.declared.expr.Expr.TheVariants as exprs
 use Rattle.reo_exprs.specs.Interval.{is_near}
 use Rattle.reo_exprs.specs.Typing.{IsTyped, may_stand_right}
@@ -13,7 +14,7 @@ use Rattle.reo_exprs.specs.Valued.{truth, number, same_value, unary_value, binar
 use Rattle.reo_exprs.specs.Views.{AreTyped, value_of_view, work, work_of_view}
 use Rattle.reo_exprs.proofs.Children.{typed_operand, typed_operands, typed_parts, near_value}
 use Rattle.reo_exprs.proofs.Same.{test_told, same_flip}
-use Rattle.reo_exprs.proofs.Seen.{one_work, two_work, if_work, by_numbers, divisor_fits, result_near, waiting_left, waiting_right, waiting_same, waiting_other, seen_pair, pair_left, pair_right, both_waiting}
+use Rattle.reo_exprs.proofs.Seen.{one_work, two_work, if_work, by_numbers, divisor_fits, result_near, waiting_left, waiting_right, waiting_same, waiting_other, seen_pair, both_waiting}
 use Rattle.reo_exprs.proofs.Trees.{value-One, value-Two, value-If}
 use Rattle.reo_exprs.proofs.view.+seeing.Goals as goal
 
@@ -118,13 +119,13 @@ pub one_view-returns-in-Pair-x-clause-value : goal.one_view-returns-in-Pair-x-cl
 one_view-returns-in-Pair-x-clause-value t c =
     c.view_of-in-Pair-x.ensures.value ∙ sym (waiting_right c.args.x c.in-Pair-x.pair c.args.item.now c.in-Pair-x.is) ∙ sym (ap (λ o. unary_value o (value_of_view c.args.x c.args.item.now)) c.in-Second.is)
 
-pub one_view-returns-in-Item-Pair-clause-value : goal.one_view-returns-in-Item-Pair-clause-value
-one_view-returns-in-Item-Pair-clause-value t c =
-    ap (λ y. y.left) c.get.ensures ∙ sym (pair_left c.args.x c.in-Item-Pair.field-0 c.in-Item-Pair.couple c.args.item.now c.in-Item-Pair.is c.in-Item-Pair.field-0-is) ∙ sym (ap (λ o. unary_value o (value_of_view c.args.x c.args.item.now)) c.in-First.is)
+pub one_view-returns-in-Item-clause-value : goal.one_view-returns-in-Item-clause-value
+one_view-returns-in-Item-clause-value t c =
+    c.left_part.ensures ∙ sym (ap (λ v. left_of (value_of_view v c.args.item.now)) c.in-Item.is) ∙ sym (ap (λ o. unary_value o (value_of_view c.args.x c.args.item.now)) c.in-First.is)
 
-pub one_view-returns-in-Item-Pair-x-clause-value : goal.one_view-returns-in-Item-Pair-x-clause-value
-one_view-returns-in-Item-Pair-x-clause-value t c =
-    ap (λ y. y.right) c.get-in-Item-Pair-x.ensures ∙ sym (pair_right c.args.x c.in-Item-Pair-x.field-0 c.in-Item-Pair-x.couple c.args.item.now c.in-Item-Pair-x.is c.in-Item-Pair-x.field-0-is) ∙ sym (ap (λ o. unary_value o (value_of_view c.args.x c.args.item.now)) c.in-Second.is)
+pub one_view-returns-in-Item-x-clause-value : goal.one_view-returns-in-Item-x-clause-value
+one_view-returns-in-Item-x-clause-value t c =
+    c.right_part.ensures ∙ sym (ap (λ v. right_of (value_of_view v c.args.item.now)) c.in-Item-x.is) ∙ sym (ap (λ o. unary_value o (value_of_view c.args.x c.args.item.now)) c.in-Second.is)
 
 pub is_item-returns-in-Item-default : goal.is_item-returns-in-Item-default
 is_item-returns-in-Item-default t c =
