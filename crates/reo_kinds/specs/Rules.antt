@@ -1,5 +1,5 @@
 -- What filters and maps do with an item. An item outside the source end's type is not accepted, and its image is `unit`.
-use Rattle.std.specs.Prelude.{◌&&◌, Bool, cond, Option, Some, None}
+use Rattle.std.specs.Prelude.{◌&&◌, Bool, cond}
 use Rattle.reo_values.specs.declared.value.Value.{Value}
 use Rattle.reo_values.specs.declared.value.Value.TheVariants as values
 use Rattle.reo_exprs.specs.Valued.{truth, value_of_expr}

@@ -127,6 +127,12 @@ async_drain = record {
 }
 
 -- Filter (in, out): FF, FG, RG, GR; classes 0 1 2 2, jam 3. Row 0 lets in what is accepted, row 1 what is not.
+abbrev pub filter_mark : ℕ → ℕ → Mark
+filter_mark row end = five_rows (ends F F) (ends F G) (ends R G) (ends G R) (ends J J) row end
+
+abbrev pub filter_class : ℕ → ℕ
+filter_class row = five_rows 0 1 2 2 3 row
+
 abbrev pub filter : (Value → Bool) → Behaviour
 filter accepts = record {
   ends = 2;
@@ -134,8 +140,8 @@ filter accepts = record {
   side_of = λ _. 0;
   takes_in = λ end. end == 0;
   rows = λ _. 5;
-  mark = λ _ row. five_rows (ends F F) (ends F G) (ends R G) (ends G R) (ends J J) row;
-  class = λ _ row _. five_rows 0 1 2 2 3 row;
+  mark = λ _ row end. filter_mark row end;
+  class = λ _ row _. filter_class row;
   from = λ _ _ _. Some 0;
   passes = λ _ row _ item. three_rows (accepts item) (not (accepts item)) true row;
   given = λ _ _ _ taken. taken;

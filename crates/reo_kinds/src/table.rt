@@ -1,8 +1,7 @@
 //! The literal tables: what stands in each row.
 ghost use Rattle.std.specs.Prelude.{◌≡◌, ◌≤◌};
-ghost use Rattle.reo_behaviour.specs.declared.mark.Mark.TheVariants.{F, G, R, J};
 ghost use Rattle.reo_behaviour.specs.Marks.{is_flow};
-ghost use Rattle.reo_kinds.specs.Tables.{ready_mark, ready_rows, ready_class, ends, five_rows, merger_mark, merger_class, replicator_mark, replicator_class};
+ghost use Rattle.reo_kinds.specs.Tables.{ready_mark, ready_rows, ready_class, ends, filter_mark, filter_class, merger_mark, merger_class, replicator_mark, replicator_class};
 
 use reo_behaviour::Mark;
 
@@ -53,7 +52,7 @@ pub fn ends(first: Mark, second: Mark, end: usize) -> Mark
 
 /// A filter: flow through, flow that is lost, and the two reasons.
 pub fn filter_mark(row: usize, end: usize) -> Mark
-    ensures { result ≡ five_rows (ends F F) (ends F G) (ends R G) (ends G R) (ends J J) row end }
+    ensures { result ≡ filter_mark row end }
 {
     match row {
         0 => Mark::F,
@@ -66,7 +65,7 @@ pub fn filter_mark(row: usize, end: usize) -> Mark
 
 /// The classes of a filter.
 pub fn filter_class(row: usize) -> usize
-    ensures { result ≡ five_rows 0 1 2 2 3 row }
+    ensures { result ≡ filter_class row }
 {
     match row {
         0 => 0,
