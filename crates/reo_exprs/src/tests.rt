@@ -55,25 +55,18 @@ fn on_parts(alloc: Global, op: Binary) -> Result<Expr, NoMemory> {
     two(alloc, op, left, right)
 }
 
-fn has_type(
-    rt: &impl Abort,
-    alloc: Global,
-    expr: &Expr,
-    of: &Kindred,
-    wanted: &Kindred,
-) -> Result<(), Fail> {
-    match type_of(alloc, expr, of) {
+fn has_type(rt: &impl Abort, alloc: Global, expr: Expr, of: &Kindred, wanted: &Kindred) {
+    match type_of(alloc, &expr, of) {
         Ok(found) => {
             assert!(rt; lies_inside(&found, wanted));
             assert!(rt; lies_inside(wanted, &found));
         }
         Err(fault) => assert!(rt; false, "{fault:?}"),
     }
-    Ok(())
 }
 
-fn has_fault(rt: &impl Abort, alloc: Global, expr: &Expr, of: &Kindred, wanted: TypeFault) {
-    match type_of(alloc, expr, of) {
+fn has_fault(rt: &impl Abort, alloc: Global, expr: Expr, of: &Kindred, wanted: TypeFault) {
+    match type_of(alloc, &expr, of) {
         Ok(_) => assert!(rt; false, "a type, and no {wanted:?}"),
         Err(fault) => assert!(rt; fault == wanted, "{fault:?}, and no {wanted:?}"),
     }
