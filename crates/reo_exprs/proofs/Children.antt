@@ -1,10 +1,9 @@
 -- The parts of a typed expression are typed, and its numbers are near.
-use Rattle.std.proofs.Common.{Bool, true, false, ◌≡◌, ◌∙◌, ℤ, pos, Option, Some, None, ap, sym, subst, refl, arith}
-use Rattle.std.specs.Prelude.{◌≤ℤ◌, option_and_then, if◌then◌else◌}
+use Rattle.std.proofs.Common.{true, ◌≡◌, ◌∙◌, Some, ap, sym}
+use Rattle.std.specs.Prelude.{option_and_then}
 use Rattle.reo_values.specs.declared.value.Value.{Value}
 use Rattle.reo_values.specs.declared.kindred.Kindred.{Kindred}
 use Rattle.reo_values.specs.declared.operator.Unary.{Unary}
-use Rattle.reo_values.specs.declared.operator.Binary.TheVariants as binary
 use Rattle.reo_values.specs.declared.operator.Binary.{Binary}
 use Rattle.reo_values.specs.Kind.{IsIn}
 use Rattle.reo_exprs.specs.declared.expr.Expr.{Expr}
@@ -12,12 +11,11 @@ use Rattle.reo_exprs.specs.declared.expr.Expr.TheVariants as exprs
 use Rattle.reo_exprs.specs.declared.expr.ExprPair.{ExprPair}
 use Rattle.reo_exprs.specs.declared.expr.ExprTriple.{ExprTriple}
 use Rattle.reo_exprs.specs.Interval.{is_near}
-use Rattle.reo_exprs.specs.Sound.{IsSound}
 use Rattle.reo_exprs.specs.Typing.{type_of_expr, unary_within, binary_within, if_within, IsTyped}
 use Rattle.reo_exprs.specs.Valued.{number, value_of_expr}
 use Rattle.reo_exprs.proofs.InType.{value_near}
 use Rattle.reo_exprs.proofs.Options.{from_and_then}
-use Rattle.reo_exprs.proofs.Trees.{type-One, type-Two, type-If, sound-One, sound-Two, sound-If}
+use Rattle.reo_exprs.proofs.Trees.{type-One, type-Two, type-If}
 
 module _ (e : Expr) (of : Kindred) (typed : IsTyped e of) where
   pub typed_operand : (op : Unary) (x : Expr) → e ≡ exprs.One op x → IsTyped x of

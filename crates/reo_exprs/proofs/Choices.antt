@@ -1,5 +1,5 @@
 -- The types of pairs, of numbers and of a choice.
-use Rattle.std.proofs.Common.{Bool, true, false, ◌&&◌, ◌≡◌, ◌∙◌, ℤ, Option, Some, None, ap, sym, refl, arith}
+use Rattle.std.proofs.Common.{Bool, true, false, ◌&&◌, ◌≡◌, ◌∙◌, ℤ, Some, None, ap, sym, refl, arith}
 use Rattle.std.specs.Prelude.{IsTrue, option_and_then, option_map, if◌then◌else◌}
 use Rattle.std.specs.Int.{int_min, int_max}
 use Rattle.std.proofs.lemmas.Int.{ints, clamps}

@@ -1,5 +1,5 @@
 -- The interval of a product, a quotient or a remainder has all of them.
-use Rattle.std.proofs.Common.{◌≡◌, ◌<◌, ◌≤◌, ◌+◌, ◌*◌, ◌/◌, ◌%◌, ℕ, zero, suc, ℤ, pos, negsuc, neg_ℤ, ◌*ℤ◌, ◌-ℤ◌, ◌⊎◌, inl, inr, Option, Some, None, ap, sym, subst, arith}
+use Rattle.std.proofs.Common.{◌≡◌, ◌<◌, ◌≤◌, ◌*◌, ◌/◌, ℕ, suc, ℤ, pos, negsuc, ◌*ℤ◌, ◌-ℤ◌, ◌⊎◌, inl, inr, None, sym, arith}
 use Rattle.std.specs.Prelude.{◌≤ℤ◌, if◌then◌else◌, int_div, int_rem, int_le}
 use Rattle.std.specs.Int.{int_min, int_max}
 use Rattle.std.proofs.lemmas.Int.{ints, clamps}
@@ -7,7 +7,7 @@ use Rattle.std.proofs.lemmas.Nat.{mul-le, le-div}
 use Rattle.std.proofs.Math.Nat.{div-mul-le_self, mod-lt, mod-le}
 use Rattle.std.proofs.Math.IntN.{pos-*ℤ-pos, negsuc-*ℤ-pos, *ℤ-negsuc, *ℤ_comm}
 use Rattle.reo_exprs.specs.declared.interval.Interval.{Interval}
-use Rattle.reo_exprs.specs.Interval.{least, greatest, corners, product, quotient, remainder, near, near_number}
+use Rattle.reo_exprs.specs.Interval.{least, greatest, product, quotient, remainder, near, near_number}
 use Rattle.reo_exprs.proofs.Near.{far_inside}
 
 -- a number lies between two, in one order or the other

@@ -1,5 +1,5 @@
 -- The value of an expression is of its type, and its numbers are near.
-use Rattle.std.proofs.Common.{ℕ, ℤ, pos, neg_ℤ, ◌+ℤ◌, ◌-ℤ◌, ◌*ℤ◌, Bool, true, false, not, ◌&&◌, ◌||◌, ◌≡◌, ◌<◌, ◌≤◌, ◌∙◌, List, [], ◌∷◌, length, Option, Some, None, ap, sym, subst, refl, arith}
+use Rattle.std.proofs.Common.{ℕ, ℤ, pos, neg_ℤ, ◌+ℤ◌, ◌-ℤ◌, ◌*ℤ◌, Bool, true, false, not, ◌&&◌, ◌||◌, ◌≡◌, ◌<◌, ◌≤◌, ◌∙◌, length, Some, ap, sym, subst, refl, arith}
 use Rattle.std.specs.Prelude.{◌≤ℤ◌, option_and_then, option_map, if◌then◌else◌, int_lt, int_le, int_div, int_rem}
 use Rattle.std.specs.List.{All}
 use Rattle.std.proofs.lemmas.Int.{ints}
@@ -28,7 +28,7 @@ use Rattle.reo_exprs.specs.declared.interval.Interval.{Interval}
 use Rattle.reo_exprs.specs.Interval.{is_near, negated, sum, difference, product, quotient, remainder}
 use Rattle.reo_exprs.specs.Kinds.{joins, join_of, LiesInside, is_within, is_bool, interval_of, most_of, twins_of}
 use Rattle.reo_exprs.specs.Sound.{IsSound}
-use Rattle.reo_exprs.specs.Typing.{provided, within, int_type, on_numbers, is_positive, may_stand_right, unary_type, binary_type, if_type, unary_within, binary_within, if_within, type_of_expr}
+use Rattle.reo_exprs.specs.Typing.{within, int_type, on_numbers, is_positive, may_stand_right, unary_type, binary_type, if_type, unary_within, binary_within, if_within, type_of_expr}
 use Rattle.reo_exprs.specs.Valued.{truth, same_value, number, bytes_of, unary_value, binary_value, value_of_expr}
 use Rattle.reo_exprs.proofs.Corners.{product_has, quotient_has, remainder_has}
 use Rattle.reo_exprs.proofs.Joined.{left_inside, right_inside}

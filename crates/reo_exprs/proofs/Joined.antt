@@ -1,20 +1,14 @@
 -- Types that lie inside others, and what a join contains.
-use Rattle.std.proofs.Common.{ℕ, ℤ, Bool, true, false, ◌≡◌, ◌≤◌, ◌∙◌, List, [], ◌∷◌, ap, sym, subst, refl, arith}
-use Rattle.std.specs.Prelude.{◌≤ℤ◌, ◌↔◌, IsTrue, bytes_eq}
+use Rattle.std.proofs.Common.{ℕ, Bool, true, ◌≡◌, ◌∙◌, List, [], ◌∷◌, ap, sym, subst, refl, arith}
+use Rattle.std.specs.Prelude.{◌↔◌, IsTrue, bytes_eq}
 use Rattle.std.specs.Cmp.Lexicographic.{pointwise}
 use Rattle.std.proofs.lemmas.Int.{ints, clamps}
 use Rattle.std.proofs.lemmas.Slice.Eq.{bytes_eq-Decides}
 use denote.Hole.Carrier.{hidden}
-use Rattle.reo_values.specs.declared.value.Value.{Value}
-use Rattle.reo_values.specs.declared.value.Value.TheVariants as values
 use Rattle.reo_values.specs.declared.kindred.Kindred as kindred
 use Rattle.reo_values.specs.declared.kindred.Kindred.{Kindred}
 use Rattle.reo_values.specs.declared.kindred.Kindred.TheVariants as kinds
 use Rattle.reo_values.specs.declared.kindred.Kindred.TheBlock.{hidden-the_row-Twins-0}
-use Rattle.reo_values.specs.declared.kindred.Twins.{Twins}
-use Rattle.reo_values.specs.Kind.{IsIn}
-use Rattle.reo_values.proofs.Members.{in_int, in_text, in_pair}
-use Rattle.reo_values.proofs.Pairs.{IsIn-Pair}
 use Rattle.reo_exprs.specs.Kinds.{joins, join_of, LiesInside}
 use Rattle.reo_exprs.proofs.Options.{from_both}
 

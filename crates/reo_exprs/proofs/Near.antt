@@ -1,5 +1,5 @@
 -- Numbers from -10^18 to 10^18.
-use Rattle.std.proofs.Common.{Bool, true, false, ◌&&◌, ◌≡◌, ◌∙◌, ◌^◌, ◌*◌, ℤ, pos, neg_ℤ, ◌*ℤ◌, ◌-ℤ◌, to_z, of_z, Option, Some, None, ap, sym, refl, arith}
+use Rattle.std.proofs.Common.{Bool, true, false, ◌&&◌, ◌≡◌, ◌∙◌, ◌^◌, ◌*◌, ℤ, pos, neg_ℤ, ◌-ℤ◌, to_z, of_z, Some, None, ap, sym, refl, arith}
 use Rattle.std.specs.Prelude.{◌≤ℤ◌, IsTrue, int_le, if◌then◌else◌, FitsSigned}
 use Rattle.std.specs.Int.{int_min, int_max, w64}
 use Rattle.std.proofs.lemmas.Int.{ints, clamps}

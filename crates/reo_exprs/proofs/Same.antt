@@ -1,5 +1,5 @@
 -- When the test of two items says that they are equal.
-use Rattle.std.proofs.Common.{ℕ, ℤ, Bool, true, false, not, ◌&&◌, ◌==◌, ◌≡◌, ◌∙◌, List, ap, sym, subst, refl, arith}
+use Rattle.std.proofs.Common.{ℕ, ℤ, Bool, true, false, ◌&&◌, ◌==◌, ◌≡◌, ◌∙◌, List, ap, sym, refl, arith}
 use Rattle.std.specs.Prelude.{IsTrue, ◌↔◌, bytes_eq}
 use Rattle.std.specs.Ordering.{int_eq}
 use Rattle.std.proofs.lemmas.Bool.Decides.{Decides-int_eq}
@@ -9,7 +9,6 @@ use Rattle.reo_values.specs.declared.value.Value as value
 use Rattle.reo_values.specs.declared.value.Value.{Value}
 use Rattle.reo_values.specs.declared.value.Value.TheVariants as values
 use Rattle.reo_values.specs.declared.value.Value.TheBlock.{hidden-the_row-Couple-0}
-use Rattle.reo_values.specs.declared.value.Couple.{Couple}
 use Rattle.reo_values.proofs.Pairs.{Pair_of-equal}
 use Rattle.reo_exprs.specs.Valued.{same_value}
 use Rattle.reo_exprs.proofs.Options.{from_both}

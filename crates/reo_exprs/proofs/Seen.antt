@@ -1,8 +1,6 @@
 -- What is seen of the value of an expression.
-use Rattle.std.proofs.Common.{ℕ, Bor, ◌+◌, ◌*◌, ◌<◌, ◌≤◌, Bool, true, false, not, ◌&&◌, ◌||◌, ◌≡◌, ◌≢◌, ◌∙◌, ℤ, pos, Option, Some, None, ap, sym, subst, refl, arith}
-use Rattle.std.specs.Prelude.{◌≤ℤ◌, ◌↔◌, IsTrue, int_le, option_and_then, if◌then◌else◌, FitsSigned, bytes_eq}
-use Rattle.std.specs.Int.{w64}
-use Rattle.std.specs.Ordering.{int_eq}
+use Rattle.std.proofs.Common.{Bor, ◌+◌, Bool, true, false, ◌&&◌, ◌≡◌, ◌≢◌, ◌∙◌, ℤ, pos, Some, ap, sym, subst, refl, arith}
+use Rattle.std.specs.Prelude.{◌≤ℤ◌, int_le, option_and_then}
 use Rattle.std.proofs.lemmas.Int.{ints}
 use denote.Hole.Carrier.{hidden}
 use Rattle.reo_values.specs.declared.value.Value as value
@@ -26,9 +24,8 @@ use Rattle.reo_exprs.specs.declared.interval.Interval.{Interval}
 use Rattle.reo_exprs.specs.declared.view.View.TheVariants as view
 use Rattle.reo_exprs.specs.declared.view.View.{View}
 use Rattle.reo_exprs.specs.Interval.{is_near, quotient, remainder}
-use Rattle.reo_exprs.specs.Kinds.{joins}
 use Rattle.reo_exprs.specs.Typing.{int_type, type_of_expr, binary_within, binary_type, within, IsTyped, is_positive, may_stand_right}
-use Rattle.reo_exprs.specs.Valued.{truth, number, same_value, unary_value, binary_value, value_of_expr}
+use Rattle.reo_exprs.specs.Valued.{truth, number, same_value, binary_value, value_of_expr}
 use Rattle.reo_exprs.specs.Views.{AreTyped, IsMade, value_of_view, work, work_of_view}
 use Rattle.reo_exprs.proofs.Children.{near_value}
 use Rattle.reo_exprs.proofs.InType.{from_numbers, value_in, lies_in, number_in, Lies}

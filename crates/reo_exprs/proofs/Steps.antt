@@ -1,5 +1,5 @@
 -- The kind and the type of an expression, from those of its parts.
-use Rattle.std.proofs.Common.{Bool, true, false, ◌≡◌, ◌∙◌, ℤ, pos, Option, Some, None, ap, sym, subst, refl}
+use Rattle.std.proofs.Common.{true, ◌≡◌, ◌∙◌, pos, Option, Some, None, ap, sym, refl}
 use Rattle.std.specs.Prelude.{option_and_then, option_map, IsTrue, if◌then◌else◌}
 use denote.Hole.Carrier.{hidden}
 use Rattle.reo_values.specs.declared.kindred.Kindred as kindred

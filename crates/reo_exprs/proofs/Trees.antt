@@ -1,5 +1,5 @@
 -- What definitions by cases say of the parts of an expression.
-use Rattle.std.proofs.Common.{ℕ, Bool, ◌≡◌, ◌+◌, refl, Option, Some, None}
+use Rattle.std.proofs.Common.{◌≡◌, ◌+◌, refl}
 use Rattle.std.specs.Prelude.{option_and_then, if◌then◌else◌}
 use denote.Hole.Carrier.{hidden}
 use Rattle.reo_values.specs.declared.value.Value.{Value}

@@ -1,5 +1,5 @@
 -- What definitions by cases say of types of pairs.
-use Rattle.std.proofs.Common.{ℤ, Bool, true, false, ◌&&◌, ◌≡◌, ◌∙◌, Option, Some, None, ap, sym, subst, refl}
+use Rattle.std.proofs.Common.{ℤ, true, false, ◌&&◌, ◌≡◌, Some, None, ap, refl}
 use denote.Hole.Carrier.{hidden}
 use Rattle.reo_values.specs.declared.value.Value as value
 use Rattle.reo_values.specs.declared.value.Value.{Value}
@@ -11,7 +11,7 @@ use Rattle.reo_values.specs.declared.kindred.Kindred.{Kindred}
 use Rattle.reo_values.specs.declared.kindred.Kindred.TheVariants as kinds
 use Rattle.reo_values.specs.declared.kindred.Kindred.TheBlock.{hidden-the_row-Twins-0}
 use Rattle.reo_values.specs.declared.kindred.Twins.{Twins}
-use Rattle.reo_exprs.specs.Kinds.{kind_of, joins, join_of, LiesInside, is_within, twins_of, most_of}
+use Rattle.reo_exprs.specs.Kinds.{kind_of, joins, join_of, LiesInside, is_within, twins_of}
 use Rattle.reo_exprs.specs.Valued.{same_value}
 
 -- of two pairs

@@ -1,7 +1,7 @@
 -- The type of a sound expression is valid, where the item's is.
-use Rattle.std.proofs.Common.{ℕ, ℤ, pos, neg_ℤ, ◌+ℤ◌, ◌-ℤ◌, ◌*ℤ◌, Bool, true, false, ◌&&◌, ◌≡◌, ◌≤◌, ◌∙◌, length, Option, Some, None, ap, sym, subst, refl, arith}
-use Rattle.std.specs.Prelude.{◌≤ℤ◌, FitsSigned, option_and_then, option_map, if◌then◌else◌, int_le, int_div}
-use Rattle.std.specs.Int.{int_min, int_max, w64}
+use Rattle.std.proofs.Common.{ℤ, pos, ◌-ℤ◌, ◌*ℤ◌, Bool, true, ◌&&◌, ◌≡◌, ◌∙◌, length, Some, ap, sym, subst, arith}
+use Rattle.std.specs.Prelude.{◌≤ℤ◌, option_and_then, if◌then◌else◌, int_le, int_div}
+use Rattle.std.specs.Int.{int_min, int_max}
 use Rattle.std.proofs.lemmas.Int.{ints, clamps}
 use denote.Hole.Carrier.{hidden}
 use Rattle.reo_values.specs.declared.kindred.Kindred as kindred

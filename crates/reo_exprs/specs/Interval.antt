@@ -1,5 +1,5 @@
 -- Intervals of whole numbers.
-use Rattle.std.specs.Prelude.{Bool, Option, Some, None, ◌&&◌, ◌^◌, ◌*ℤ◌, ◌+ℤ◌, ◌-ℤ◌, neg_ℤ, ℤ, pos, int_le, int_lt, int_div, if◌then◌else◌}
+use Rattle.std.specs.Prelude.{Bool, Option, Some, None, ◌&&◌, ◌^◌, ◌*ℤ◌, ◌+ℤ◌, ◌-ℤ◌, neg_ℤ, ℤ, pos, int_le, int_div, if◌then◌else◌}
 use Rattle.std.specs.Int.{int_min, int_max}
 use Rattle.reo_values.specs.declared.operator.Binary.TheVariants as binary
 use Rattle.reo_values.specs.declared.operator.Binary.{Binary}

@@ -1,5 +1,5 @@
 -- The type of an expression.
-use Rattle.std.specs.Prelude.{ℕ, Bool, true, ◌&&◌, ◌≡◌, ℤ, pos, int_le, List, length, nat_le, Option, Some, None, option_map, option_and_then, if◌then◌else◌}
+use Rattle.std.specs.Prelude.{Bool, true, ◌&&◌, ◌≡◌, pos, int_le, length, nat_le, Option, Some, None, option_map, option_and_then, if◌then◌else◌}
 use Rattle.reo_values.specs.declared.kindred.Kindred.{Kindred}
 use Rattle.reo_values.specs.declared.kindred.Kindred.TheVariants as kinds
 use Rattle.reo_values.specs.declared.operator.Unary.TheVariants as unary

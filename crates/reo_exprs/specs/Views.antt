@@ -1,11 +1,10 @@
 -- Values seen without memory.
-use Rattle.std.specs.Prelude.{ℕ, zero, ◌+◌}
+use Rattle.std.specs.Prelude.{ℕ, ◌+◌}
 use Rattle.reo_values.specs.declared.kindred.Kindred.{Kindred}
 use Rattle.reo_values.specs.declared.value.Value.{Value}
 use Rattle.reo_values.specs.declared.value.Value.TheVariants as values
 use Rattle.reo_exprs.specs.declared.expr.Expr as expr
 use Rattle.reo_exprs.specs.declared.expr.Expr.{Expr}
-use Rattle.reo_exprs.specs.declared.expr.ExprPair.{ExprPair}
 use Rattle.reo_exprs.specs.declared.view.View.TheVariants as view
 use Rattle.reo_exprs.specs.declared.view.View.{View}
 use Rattle.reo_exprs.specs.Typing.{IsTyped}

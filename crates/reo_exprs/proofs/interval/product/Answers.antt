@@ -1,7 +1,7 @@
-use Rattle.std.proofs.Common.{◌∙◌, ◌≡◌, ◌*ℤ◌, Some, true, sym, subst, rules, arith, to_z, of_z}
+use Rattle.std.proofs.Common.{◌∙◌, ◌≡◌, ◌*ℤ◌, Some, true, sym, subst, rules, to_z, of_z}
 use Rattle.std.specs.Prelude.{FitsSigned}
 use Rattle.std.specs.Int.{w64}
-use Rattle.std.proofs.lemmas.Int.{ints, clamps, to_z-of_z}
+use Rattle.std.proofs.lemmas.Int.{to_z-of_z}
 use Rattle.reo_exprs.specs.Interval.{is_near, least, greatest}
 use Rattle.reo_exprs.proofs.Near.{near_bounds, near_fits, some_test, all_near, least_told, greatest_told}
 use Rattle.reo_exprs.proofs.Corners.{product_far_a, product_far_b, product_far_c, product_far_d}

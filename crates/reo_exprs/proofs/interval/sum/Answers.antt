@@ -1,4 +1,4 @@
-use Rattle.std.proofs.Common.{◌+ℤ◌, rules, arith}
+use Rattle.std.proofs.Common.{◌+ℤ◌, arith}
 use Rattle.std.specs.Prelude.{FitsSigned}
 use Rattle.std.specs.Int.{w64}
 use Rattle.std.proofs.lemmas.Int.{ints, to_z-of_z}

@@ -1,7 +1,7 @@
 use Rattle.std.proofs.Common.{◌∙◌, ◌≡◌, None, ap, sym, subst, refl}
 use Rattle.std.specs.Prelude.{IfOk}
 use Rattle.reo_exprs.specs.declared.expr.Expr.TheVariants as exprs
-use Rattle.reo_exprs.specs.Typing.{kind_of_expr, binary_kind, if_kind}
+use Rattle.reo_exprs.specs.Typing.{kind_of_expr, binary_kind}
 use Rattle.reo_exprs.proofs.Steps.{is_kind, one_kinded, one_unkinded, two_kinded, two_unkinded, if_kinded, if_unkinded}
 use Rattle.reo_exprs.proofs.kind.+kind_of_expr.Goals as goal
 

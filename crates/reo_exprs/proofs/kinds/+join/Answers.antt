@@ -1,6 +1,5 @@
-use Rattle.std.proofs.Common.{◌∙◌, sym, ap, subst}
+use Rattle.std.proofs.Common.{subst}
 use Rattle.std.specs.Prelude.{IfOk, ◌≡◌}
-use Rattle.reo_exprs.specs.Kinds.{join_of}
 use Rattle.reo_exprs.proofs.Steps.{join_pair, join_plain}
 use Rattle.reo_exprs.proofs.kinds.+join.Goals as goal
 

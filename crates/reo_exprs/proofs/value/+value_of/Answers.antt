@@ -1,4 +1,4 @@
-use Rattle.std.proofs.Common.{◌<◌, ◌+◌, subst, arith}
+use Rattle.std.proofs.Common.{◌<◌, subst, arith}
 use Rattle.reo_exprs.specs.Views.{work}
 use Rattle.reo_exprs.proofs.Seen.{waiting, waiting_work}
 use Rattle.reo_exprs.proofs.value.+value_of.Goals as goal

@@ -1,8 +1,7 @@
-use Rattle.std.proofs.Common.{ℕ, ◌+◌, ◌<◌, ◌≤◌, ◌≡◌, ◌∙◌, Bool, true, false, not, ◌&&◌, ◌||◌, pos, ap, sym, subst, refl, rules, arith}
-use Rattle.std.specs.Prelude.{IsTrue, FitsSigned, if◌then◌else◌}
+use Rattle.std.proofs.Common.{◌+◌, ◌<◌, ◌≡◌, ◌∙◌, true, false, not, ◌&&◌, ◌||◌, ap, sym, subst, refl, rules, arith}
+use Rattle.std.specs.Prelude.{FitsSigned, if◌then◌else◌}
 use Rattle.std.specs.Int.{w64}
 use Rattle.std.proofs.lemmas.Int.{to_z-of_z}
-use Rattle.reo_values.specs.declared.operator.Unary.TheVariants as unary
 use Rattle.reo_values.specs.declared.operator.Binary.TheVariants as binary
 use Rattle.reo_values.specs.declared.kindred.Kindred.TheVariants as kinds
 use Rattle.reo_values.specs.declared.value.Value.TheVariants as values
@@ -11,7 +10,7 @@ use Rattle.reo_exprs.specs.declared.expr.Expr.TheVariants as exprs
 use Rattle.reo_exprs.specs.Interval.{is_near}
 use Rattle.reo_exprs.specs.Typing.{IsTyped, may_stand_right}
 use Rattle.reo_exprs.specs.Valued.{truth, number, same_value, unary_value, binary_value, value_of_expr}
-use Rattle.reo_exprs.specs.Views.{AreTyped, value_of_view, work, work_of_view}
+use Rattle.reo_exprs.specs.Views.{value_of_view, work, work_of_view}
 use Rattle.reo_exprs.proofs.Children.{typed_operand, typed_operands, typed_parts, near_value}
 use Rattle.reo_exprs.proofs.Same.{test_told, same_flip}
 use Rattle.reo_exprs.proofs.Seen.{one_work, two_work, if_work, by_numbers, divisor_fits, result_near, waiting_left, waiting_right, waiting_same, waiting_other, seen_pair, both_waiting}
