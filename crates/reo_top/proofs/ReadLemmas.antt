@@ -19,6 +19,7 @@ use Rattle.reo_forms.specs.declared.plainest.Plainest.{Plainest}
 use Rattle.reo_forms.specs.Shape.{HasShape}
 use Rattle.reo_top.specs.Words.{Missed}
 use Rattle.reo_top.specs.Whole.{circuit_owed, text_owed, shape_owed}
+use Rattle.reo_top.proofs.StatusLemmas.{AllWhole}
 
 -- The bytes of a file are one.
 same_bytes : (t u : List ℕ) → text t ≡ text u → u ≡ t
@@ -64,8 +65,8 @@ refused_only content bytes f r same is only q h =
     ok_is_no_fault q (fault_of r) (Ok q) (Err (fault_of r)) refl refl (sym (this_on (Ok q) r.line r.cause this))
 
 -- What is owed for a circuit that is read is what comes then.
-pub read_as : (MissedCircuit : Type 0) (circuit : Content) (more : Program → Owed) (p : Program) (code : ℕ) → IsProgram circuit p → IsReadOnlyAs circuit (Ok p) → IsStatusOf (more p) code → IsStatusOf (circuit_owed MissedCircuit circuit more) code
-read_as MissedCircuit circuit more p code read only exact = λ bytes status h. elim h [
+pub read_as : (MissedCircuit : Type 0) (circuit : Content) (more : Program → Owed) (p : Program) (Told : List ℕ → ℕ → Type 0) → IsProgram circuit p → IsReadOnlyAs circuit (Ok p) → AllWhole (more p) Told → AllWhole (circuit_owed MissedCircuit circuit more) Told
+read_as MissedCircuit circuit more p Told read only exact = λ bytes status h. elim h [
   | inl none ↦
       let here : unread_whole (text read.bytes) bytes status = subst (λ (z : Content). unread_whole z bytes status) read.text_is none in
       absurd (only.1 here.0 (record { bytes = read.bytes; text_is = read.text_is; answers = here.1 }))

@@ -6,7 +6,7 @@ use Rattle.reo_top.specs.Words.{Missed}
 use Rattle.reo_top.specs.Whole.{shape_owed}
 use Rattle.reo_top.proofs.CaseLemmas.{refused, wanted_first, if_told, told_always}
 use Rattle.reo_top.proofs.StageLemmas.{shape_lifted}
-use Rattle.reo_top.proofs.StatusLemmas.{shape_as}
+use Rattle.reo_top.proofs.StatusLemmas.{has_status, shape_as}
 use Rattle.reo_top.proofs.ReadLemmas.{no_shape_as}
 use Rattle.reo_top.proofs.running.run_program.Goals as goal
 
@@ -19,7 +19,7 @@ returns-in-Ok-clause-cases g c =
 pub returns-in-Ok-clause-exact : goal.returns-in-Ok-clause-exact
 returns-in-Ok-clause-exact g c =
     if_told (g.F.Files.told c.args.files.now)
-    (λ folder h. shape_as (Missed (g.F.Files.failed c.args.files.now) (g.F.Files.failed c.run_script.new.files) c.args.script.now) c.args.program.now (content_of (file_of folder c.args.script.now)) c.in-Ok.plainest c.run_script.result.code c.in-Ok.ensures.said h)
+    (λ folder h. shape_as (Missed (g.F.Files.failed c.args.files.now) (g.F.Files.failed c.run_script.new.files) c.args.script.now) c.args.program.now (content_of (file_of folder c.args.script.now)) c.in-Ok.plainest (has_status c.run_script.result.code) c.in-Ok.ensures.said h)
     c.run_script.ensures.exact
 
 pub returns-in-Err-NotOfForm-clause-cases : goal.returns-in-Err-NotOfForm-clause-cases

@@ -6,7 +6,7 @@ use Rattle.reo_top.specs.Whole.{script_owed}
 use Rattle.reo_top.specs.Words.{Missed}
 use Rattle.reo_top.proofs.CaseLemmas.{refused, wanted_first, if_told, told_always}
 use Rattle.reo_top.proofs.StageLemmas.{script_lifted, no_script, long_script}
-use Rattle.reo_top.proofs.StatusLemmas.{script_as}
+use Rattle.reo_top.proofs.StatusLemmas.{has_status, script_as}
 use Rattle.reo_top.proofs.running.run_script.Goals as goal
 
 pub returns-in-Err-TooLong-clause-cases : goal.returns-in-Err-TooLong-clause-cases
@@ -46,7 +46,7 @@ returns-in-Ok-read_script-clause-exact g c =
     let says = rw c.as_slice.ensures at c.in-Ok-read_script.ensures.said in
     if_told (g.F.Files.told c.args.files.now)
     (λ folder fetched. script_as c.args.plainest.now (content_of (file_of folder c.args.name.now)) c.requires (Missed (g.F.Files.failed c.args.files.now) (g.F.Files.failed c.fetch.new.files) c.args.name.now) c.in-Ok-read_script.script.components c.in-Ok.text fetched says
-    c.run_both.result.code c.run_both.ensures.exact)
+    (has_status c.run_both.result.code) c.run_both.ensures.exact)
     c.in-Ok.ensures.content
 
 pub read_script-requires-clause-names : goal.read_script-requires-clause-names

@@ -5,8 +5,9 @@ use Rattle.reo_io.specs.Fetches.{Folder}
 use Rattle.reo_top.specs.Words.{IsRunWords, IsPrintWords, HasNoForm}
 use Rattle.reo_top.specs.Whole.{command_owed, RunNames, PrintName}
 use Rattle.reo_top.proofs.CaseLemmas.{refused, if_told, told_always}
+use Rattle.reo_top.proofs.HeadlineLemmas.{headline}
 use Rattle.reo_top.proofs.StageLemmas.{run_lifted, print_lifted}
-use Rattle.reo_top.proofs.StatusLemmas.{run_as, print_as}
+use Rattle.reo_top.proofs.StatusLemmas.{has_status, run_as, print_as}
 use Rattle.reo_top.proofs.top.reo.Goals as goal
 
 pub returns-then-are_run_words-clause-cases : goal.returns-then-are_run_words-clause-cases
@@ -32,7 +33,7 @@ returns-then-are_run_words-clause-exact g c =
     let names : (folder : Folder) → RunNames words folder (g.F.Files.failed c.args.files.now) (g.F.Files.failed c.run_circuit.new.files) = λ folder. record { circuit = get_or words 1 []; script = get_or words 2 []; form = form } in
     let exact = rw (circuit_is, script_is) at c.run_circuit.ensures.exact in
     if_told (g.F.Files.told c.args.files.now)
-    (λ folder h. run_as words folder (g.F.Files.failed c.args.files.now) (g.F.Files.failed c.run_circuit.new.files) (names folder) c.run_circuit.result.code h)
+    (λ folder h. run_as words folder (g.F.Files.failed c.args.files.now) (g.F.Files.failed c.run_circuit.new.files) (names folder) (has_status c.run_circuit.result.code) h)
     exact
 
 pub returns-then-are_print_words-clause-cases : goal.returns-then-are_print_words-clause-cases
@@ -56,7 +57,7 @@ returns-then-are_print_words-clause-exact g c =
     let name : (folder : Folder) → PrintName words folder (g.F.Files.failed c.args.files.now) (g.F.Files.failed c.print_circuit.new.files) = λ folder. record { circuit = get_or words 1 []; form = form } in
     let exact = rw circuit_is at c.print_circuit.ensures.exact in
     if_told (g.F.Files.told c.args.files.now)
-    (λ folder h. print_as words folder (g.F.Files.failed c.args.files.now) (g.F.Files.failed c.print_circuit.new.files) (name folder) c.print_circuit.result.code h)
+    (λ folder h. print_as words folder (g.F.Files.failed c.args.files.now) (g.F.Files.failed c.print_circuit.new.files) (name folder) (has_status c.print_circuit.result.code) h)
     exact
 
 pub returns-else-are_print_words-clause-cases : goal.returns-else-are_print_words-clause-cases
@@ -69,3 +70,21 @@ returns-else-are_print_words-clause-cases g c =
     told_always (g.F.Files.told c.args.files.now)
     (λ folder. refused (command_owed words folder failed failed) (codes "words refused\n") 2 _ _ _ _ _
     (inl (none, (refl, refl))) c.answer.ensures.answers)
+
+pub returns-then-are_run_words-clause-headline : goal.returns-then-are_run_words-clause-headline
+returns-then-are_run_words-clause-headline g c =
+    if_told (g.F.Files.told c.args.files.now)
+    (λ folder h. headline c.runs_are_justified.ensures c.is_sound.ensures c.args.words.now folder (g.F.Files.failed c.args.files.now) (g.F.Files.failed c.run_circuit.new.files) _ _ _ _ _ h)
+    (returns-then-are_run_words-clause-cases g c)
+
+pub returns-then-are_print_words-clause-headline : goal.returns-then-are_print_words-clause-headline
+returns-then-are_print_words-clause-headline g c =
+    if_told (g.F.Files.told c.args.files.now)
+    (λ folder h. headline c.runs_are_justified.ensures c.is_sound.ensures c.args.words.now folder (g.F.Files.failed c.args.files.now) (g.F.Files.failed c.print_circuit.new.files) _ _ _ _ _ h)
+    (returns-then-are_print_words-clause-cases g c)
+
+pub returns-else-are_print_words-clause-headline : goal.returns-else-are_print_words-clause-headline
+returns-else-are_print_words-clause-headline g c =
+    if_told (g.F.Files.told c.args.files.now)
+    (λ folder h. headline c.runs_are_justified.ensures c.is_sound.ensures c.args.words.now folder (g.F.Files.failed c.args.files.now) (g.F.Files.failed c.args.files.now) _ _ _ _ _ h)
+    (returns-else-are_print_words-clause-cases g c)
