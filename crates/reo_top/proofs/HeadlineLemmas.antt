@@ -25,7 +25,7 @@ use Rattle.reo_top.specs.Traces.{kind_rules, most_rounds, start_for, IsTraceOf}
 use Rattle.reo_top.specs.Whole.{RunNames, shape_owed, command_owed}
 use Rattle.reo_top.specs.Words.{Missed}
 use Rattle.reo_top.proofs.ReadLemmas.{read_as, read_only}
-use Rattle.reo_top.proofs.StatusLemmas.{run_as, script_as, shape_as}
+use Rattle.reo_top.proofs.OutputLemmas.{run_as, script_as, shape_as}
 
 -- A circuit of the form is put together well.
 wired : IsSoundForm → (c : Plainest) → IsPlainest c → IsWired (net_of behaviour_of (circuit_of c))

@@ -2,5 +2,5 @@ pub mod CaseLemmas
 pub mod HeadlineLemmas
 pub mod LineLemmas
 pub mod StageLemmas
-pub mod StatusLemmas
+pub mod OutputLemmas
 pub mod ReadLemmas

@@ -1,7 +1,7 @@
 //! The top call.
 ghost use Rattle.std.specs.Prelude.{◌≡◌, ◌≤◌, ℕ, List as Items, [], length, slice_index_or, true, false, IfSome, IsTrue};
 ghost use Rattle.reo_io.specs.Causes.{Rose};
-ghost use Rattle.reo_top.specs.Cases.{Cases, IsStatusOf, is_status};
+ghost use Rattle.reo_top.specs.Cases.{Cases, IsOnlyOutput, is_status};
 ghost use Rattle.reo_top.specs.Headline.{Headline};
 ghost use Rattle.reo_top.specs.Whole.{command_owed};
 ghost use Rattle.reo_top.specs.Words.{IsRunWords, IsPrintWords, HasNoForm, MissedOne};
@@ -69,7 +69,7 @@ pub fn reo<F: Files, R: Source, S: Sink>(
 ) -> Status
     ensures headline { IfSome (F.told files.old) (λ folder. Headline words.now folder (S.told out.old) (S.told out.new) result.code) }
     ensures cases { IfSome (F.told files.old) (λ folder. Cases (command_owed words.now folder (F.failed files.old) (F.failed files.new)) (S.told out.old) (S.told out.new) (S.faults out.old) (S.faults out.new) result.code) }
-    ensures exact { IfSome (F.told files.old) (λ folder. IsStatusOf (command_owed words.now folder (F.failed files.old) (F.failed files.new)) result.code) }
+    ensures exact { IfSome (F.told files.old) (λ folder. IsOnlyOutput (command_owed words.now folder (F.failed files.old) (F.failed files.new)) (S.told out.old) (S.told out.new) result.code) }
     ensures source { source.new ≡ source.old }
     ensures status { IsTrue (is_status result.code) }
     ensures later { S.faults out.old ≤ S.faults out.new }

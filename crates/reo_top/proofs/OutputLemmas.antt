@@ -1,5 +1,5 @@
--- What holds of the one whole output of a stage holds of that before it; so its status.
-use Rattle.std.proofs.Common.{◌≡◌, ◌∙◌, ◌⊎◌, inl, inr, ℕ, List, [], sym, subst, ap, get_or, length, arith}
+-- What holds of the one whole output of a stage holds of that before it.
+use Rattle.std.proofs.Common.{◌≡◌, ◌∙◌, inl, inr, ℕ, List, [], sym, subst, ap, get_or, length, arith}
 use Rattle.std.specs.Prelude.{Option}
 use Rattle.reo_behaviour.specs.First.{IsFirst}
 use Rattle.reo_io.specs.Fetches.{Folder, file_of}
@@ -14,7 +14,9 @@ use Rattle.reo_build.specs.Flat.{ports_of}
 use Rattle.reo_runner.specs.declared.outcome.Outcome.{Outcome}
 use Rattle.reo_runner.specs.Outcome.{Ran}
 use Rattle.reo_runner.specs.Whole.{HasOneRun}
-use Rattle.reo_top.specs.Cases.{Owed, IsFailure, IsStatusOf}
+use Rattle.reo_io.specs.Sinks.{Appended}
+use Rattle.reo_trace.specs.TraceText.{trace_text}
+use Rattle.reo_top.specs.Cases.{Owed, IsLine, Refuses, Wholly, IsOnlyOutput}
 use Rattle.reo_trees.specs.declared.programs.Program.{Program}
 use Rattle.reo_top.specs.Texts.{Content, text, content_of, IsScriptText}
 use Rattle.reo_top.specs.Words.{IsRunWords, IsPrintWords, Missed}
@@ -25,17 +27,20 @@ use Rattle.reo_top.specs.Whole.{run_owed, script_whole, script_owed, shape_owed,
 abbrev pub AllWhole : Owed → (List ℕ → ℕ → Type 0) → Type 0
 AllWhole owed Told = (bytes : List ℕ) (status : ℕ) → owed.whole bytes status → Told bytes status
 
--- The status is this, unless something failed.
-abbrev pub has_status : ℕ → List ℕ → ℕ → Type 0
-has_status code bytes status = (code ≡ status) ⊎ IsFailure code
+-- A line that was written, unless the sink failed.
+pub line_as : (line : List ℕ) (owed : ℕ) (before now : Option (List ℕ)) (was is code : ℕ) → Refuses line owed before now was is code
+    → (bytes : List ℕ) (status : ℕ) → IsLine line owed bytes status → Wholly before now code bytes status
+line_as line owed before now was is code (inl (e, app)) bytes status (same, same_status) = inl (e ∙ sym same_status, subst (λ (x : List ℕ). Appended before now x) (sym same) app)
+line_as line owed before now was is code (inr (e, part, rose)) bytes status h = inr (inr (inl e))
 
 -- A run came to its end.
 pub ran_as : (c : Plainest) (components : List Component) → HasOneRun IsFirst kind_rules components most_rounds (start_for c components)
     → (ending : Ending) (before now : Option (List ℕ)) (o : Outcome) → Ran IsFirst kind_rules (ports_of c) components most_rounds (start_for c components) ending before now o
-    → IsStatusOf (run_owed c components) (status_of ending)
+    → IsOnlyOutput (run_owed c components) before now (status_of ending)
 ran_as c components one ending before now o ran = λ bytes status trace.
     let same = one trace.lines ran.lines trace.ending ending trace.run ran.run in
-    inl (sym (trace.status ∙ ap status_of same.1))
+    let text : bytes ≡ trace_text (ports_of c) ran.lines ending = trace.bytes_are ∙ (λ i. trace_text (ports_of c) (same.0 i) (same.1 i)) in
+    inl (sym (trace.status ∙ ap status_of same.1), subst (λ (x : List ℕ). Appended before now x) (sym text) ran.text)
 
 -- A script that was read.
 module _ (c : Plainest) (script : Content) where
