@@ -67,6 +67,7 @@ refusal_for (faults.TooDeep line) = Some (record { line = line; cause = TooDeep 
 refusal_for faults.NoMemory = None
 
 refusal_back : (line : ℕ) (cause : Cause) → refusal_for (fault_on line cause) ≡ Some (record { line = line; cause = cause })
+unfolding refusal_for
 refusal_back line BadByte = refl
 refusal_back line OpenText = refl
 refusal_back line NumberTooLong = refl
