@@ -1,5 +1,6 @@
 pub mod Cycles
 pub mod Few
 pub mod Joining
+pub mod Named
 pub mod Places
 pub mod Sides

@@ -1,13 +1,15 @@
 -- A circuit of the form is small, and has no fault.
-use Rattle.std.specs.Prelude.{◌≤◌, length}
+use Rattle.std.specs.Prelude.{ℕ, ◌≡◌, ◌+◌, ◌≤◌, length, slice_get, Some}
 use Rattle.reo_behaviour.specs.Net.{Net}
 use Rattle.reo_behaviour.specs.Wired.{ArePorts}
 use Rattle.reo_circuit.specs.Parts.{net_with, AreJoints}
 use Rattle.reo_circuit.specs.Fault.{IsSound}
 use Rattle.reo_kinds.specs.Kinds.{behaviour_of}
+use Rattle.reo_forms.specs.declared.plainest.Parameter.{Parameter}
+use Rattle.reo_forms.specs.declared.plainest.Joined.{Joined}
 use Rattle.reo_forms.specs.declared.plainest.Plainest.{Plainest}
-use Rattle.reo_forms.specs.CircuitForm.{IsPlainest}
-use Rattle.reo_build.specs.Flat.{primitives_of, joints_from}
+use Rattle.reo_forms.specs.CircuitForm.{name_for, IsParameterAt, IsPlainest}
+use Rattle.reo_build.specs.Flat.{primitives_of, joint_between, joints_from}
 
 -- The circuit as mathematics.
 abbrev pub net_for : Plainest → Net
@@ -30,3 +32,8 @@ pub record SoundParts (c : Plainest) : Type 0 where
 
 abbrev pub IsSoundForm : Type 0
 IsSoundForm = (c : Plainest) → IsPlainest c → SoundParts c
+
+-- The joint of a port has the port's number, and is between the port and each channel that has the port's name at the end for its way.
+abbrev pub JoinsByName : Type 0
+JoinsByName = (c : Plainest) → IsPlainest c → (i k : ℕ) (p : Parameter) (x : Joined) → IsParameterAt c i p → slice_get c.channels k ≡ Some x → name_for p.way x ≡ p.name
+    → slice_get (joints_from c 0 c.parameters) i ≡ Some (joint_between p.way i (length c.parameters + k))

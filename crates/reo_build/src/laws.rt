@@ -1,5 +1,5 @@
 //! Laws of the plainest circuits and scripts. Each function is empty: its contract is a law.
-ghost use Rattle.reo_build.specs.Sound.{HasFewParts, IsSoundForm};
+ghost use Rattle.reo_build.specs.Sound.{HasFewParts, IsSoundForm, JoinsByName};
 ghost use Rattle.reo_build.specs.ScriptFits.{ScriptFits};
 
 use reo_kinds::item_test_is_exact;
@@ -15,6 +15,12 @@ pub fn has_few_parts()
 /// first primitives can be a port, and its joints are between ends that there are.
 pub fn is_sound()
     ensures { IsSoundForm }
+{}
+
+/// In a circuit of the form the joint of a port has the port's number, and is between the port and
+/// the channel that has the port's name: its source for an `in` port, its sink for an `out` port.
+pub fn joins_by_name()
+    ensures { JoinsByName }
 {}
 
 /// A script of the form is one for the ports of the circuit: each action is at a port of its way,

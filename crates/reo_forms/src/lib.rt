@@ -13,6 +13,8 @@
 mod connectors;
 mod fault;
 mod laws;
+#[cfg(test)]
+mod other_tests;
 mod plain;
 mod plain_script;
 mod plainest;

@@ -9,30 +9,30 @@ use reo_values::{Bytes, List, NoMemory};
 use std::alloc::Global;
 use std::test::Fail;
 
-const IN: bool = true;
+pub const IN: bool = true;
 
-const OUT: bool = false;
+pub const OUT: bool = false;
 
-const A: &[u8] = b"a";
+pub const A: &[u8] = b"a";
 
 const AB: &[u8] = b"ab";
 
-const B: &[u8] = b"b";
+pub const B: &[u8] = b"b";
 
-const C: &[u8] = b"c";
+pub const C: &[u8] = b"c";
 
 const LONG: &[u8] = b"_Left_0123456789";
 
-const MAIN: &[u8] = b"main";
+pub const MAIN: &[u8] = b"main";
 
-fn term(kind: Kind) -> TypeTerm {
+pub fn term(kind: Kind) -> TypeTerm {
     TypeTerm {
         line: 3,
         shape: kind,
     }
 }
 
-fn written(alloc: Global, inward: bool, name: &[u8], kind: Kind) -> Result<Written, NoMemory> {
+pub fn written(alloc: Global, inward: bool, name: &[u8], kind: Kind) -> Result<Written, NoMemory> {
     Ok(Written {
         line: 2,
         inward,
@@ -41,7 +41,12 @@ fn written(alloc: Global, inward: bool, name: &[u8], kind: Kind) -> Result<Writt
     })
 }
 
-fn item(alloc: Global, channel: Channel, first: &[u8], second: &[u8]) -> Result<Item, NoMemory> {
+pub fn item(
+    alloc: Global,
+    channel: Channel,
+    first: &[u8],
+    second: &[u8],
+) -> Result<Item, NoMemory> {
     let form = Form::Joined {
         channel,
         first: Bytes::from_slice(alloc, first)?,
@@ -50,7 +55,7 @@ fn item(alloc: Global, channel: Channel, first: &[u8], second: &[u8]) -> Result<
     Ok(Item { line: 4, form })
 }
 
-fn connector(
+pub fn connector(
     alloc: Global,
     name: &[u8],
     ports: &[(bool, &[u8], i64, i64)],
@@ -78,7 +83,7 @@ pub fn one_channel(alloc: Global, name: &[u8]) -> Result<Connector, NoMemory> {
 }
 
 /// What the shape of a program is read as.
-fn shown(alloc: Global, program: &Program) -> Result<String, Fail> {
+pub fn shown(alloc: Global, program: &Program) -> Result<String, Fail> {
     let mut text = String::new(alloc);
     match shape(alloc, program) {
         Ok(circuit) => show_circuit(&mut text, &circuit)?,
@@ -256,50 +261,5 @@ fn other_circuits_have_no_shape(rt: HostRuntime) -> Result<(), Fail> {
         let program = small(alloc, ways, names, sources, sinks)?;
         assert_eq!(rt; shown(alloc, &program)?.as_str(), want);
     }
-    Ok(())
-}
-
-#[test]
-fn other_declarations_have_no_shape(rt: HostRuntime) -> Result<(), Fail> {
-    let alloc = rt.alloc();
-    let none = Program {
-        declarations: List::new(alloc),
-    };
-    assert_eq!(rt; shown(alloc, &none)?.as_str(), "no");
-    let other = alone(alloc, one_channel(alloc, b"mains")?)?;
-    assert_eq!(rt; shown(alloc, &other)?.as_str(), "no");
-    let mut twice = alone(alloc, one_channel(alloc, MAIN)?)?;
-    twice
-        .declarations
-        .push(Declaration::Made(one_channel(alloc, MAIN)?))?;
-    assert_eq!(rt; shown(alloc, &twice)?.as_str(), "no");
-    let mut typed = alone(alloc, one_channel(alloc, MAIN)?)?;
-    typed.declarations.push(Declaration::Named {
-        line: 1,
-        name: Bytes::from_slice(alloc, A)?,
-        term: term(Kind::Unit),
-    })?;
-    assert_eq!(rt; shown(alloc, &typed)?.as_str(), "no");
-    Ok(())
-}
-
-#[test]
-fn other_items_and_types_have_no_shape(rt: HostRuntime) -> Result<(), Fail> {
-    let alloc = rt.alloc();
-    let mut lossy = connector(alloc, MAIN, &[(IN, A, 0, 9), (OUT, B, 0, 9)], &[])?;
-    lossy.items.push(item(alloc, Channel::Lossy, A, B)?)?;
-    assert_eq!(rt; shown(alloc, &alone(alloc, lossy)?)?.as_str(), "no");
-    let mut node = one_channel(alloc, MAIN)?;
-    node.items.push(Item {
-        line: 5,
-        form: Form::Node {
-            name: Bytes::from_slice(alloc, C)?,
-            term: term(Kind::Int(0, 9)),
-        },
-    })?;
-    assert_eq!(rt; shown(alloc, &alone(alloc, node)?)?.as_str(), "no");
-    let mut typed = connector(alloc, MAIN, &[(IN, A, 0, 9)], &[(A, B)])?;
-    typed.parameters.push(written(alloc, OUT, B, Kind::Bool)?)?;
-    assert_eq!(rt; shown(alloc, &alone(alloc, typed)?)?.as_str(), "no");
     Ok(())
 }

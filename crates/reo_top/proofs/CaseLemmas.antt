@@ -3,11 +3,13 @@ use Rattle.std.proofs.Common.{◌≡◌, ◌∙◌, ◌⊎◌, inl, inr, refl, �
 use Rattle.std.proofs.Math.Dec.{eqb}
 use Rattle.std.proofs.lemmas.Bool.{not-false}
 use Rattle.std.specs.Cmp.Lexicographic.{pointwise, bytes_decides}
-use Rattle.std.specs.Prelude.{◌≢◌, ◌==◌, not, Bool, Option, Some, None, IfSome, codes}
+use Rattle.std.specs.Prelude.{◌≢◌, ◌≤◌, ◌==◌, not, Bool, Option, Some, None, IfSome, codes}
 use Rattle.reo_io.specs.Sinks.{Appended}
 use Rattle.reo_io.proofs.Taken.{Appended-none}
 use Rattle.reo_top.specs.Words.{IsRunWords, IsPrintWords}
-use Rattle.reo_top.specs.Cases.{Owed, IsOutput, AreFirstLines, Cases, Refuses, Wants}
+use Rattle.reo_io.specs.Causes.{Rose}
+use Rattle.reo_io.proofs.Counts.{Rose-since}
+use Rattle.reo_top.specs.Cases.{Owed, IsOutput, AreFirstLines, Cases, IsLine, IsWritten, Refuses, SaysWant, Wants}
 
 -- A line that is owed as a whole was written, or a front of it.
 pub refused : (owed : Owed) (line : List ℕ) (status : ℕ) (before now : Option (List ℕ)) (was is code : ℕ) → owed.whole line status → Refuses line status before now was is code → Cases owed before now was is code
@@ -19,13 +21,23 @@ pub missed : (owed : Owed) (line : List ℕ) (before now : Option (List ℕ)) (w
 missed owed line before now was is code h (inl (e, app)) = inr (inl (record { bytes = line; is = h; text = app; status = e }))
 missed owed line before now was is code h (inr (e, part, rose)) = inr (inr (inl (record { bytes = line; output = inr h; part = part; rose = rose; status = e })))
 
--- Memory was wanting after whole lines.
-pub wanted : (owed : Owed) (lines : List ℕ) (before mid now : Option (List ℕ)) (was is code : ℕ) → (lines ≡ []) ⊎ AreFirstLines owed lines → Appended before mid lines → Wants mid now code → Cases owed before now was is code
-wanted owed lines before mid now was is code h app wants = inr (inr (inr (record { lines = lines; first = h; between = mid; text = app; last = wants.1; status = wants.0 })))
+-- A line is the one that is owed, or the sink failed.
+pub line_as : (line : List ℕ) (owed : ℕ) (before now : Option (List ℕ)) (was is code : ℕ) → Refuses line owed before now was is code
+    → (bytes : List ℕ) (status : ℕ) → IsLine line owed bytes status → IsWritten before now code bytes status
+line_as line owed before now was is code (inl (e, app)) bytes status same = inl (e ∙ sym same.1, subst (λ (z : List ℕ). Appended before now z) (sym same.0) app)
+line_as line owed before now was is code (inr (e, part, rose)) bytes status same = inr (inr (inl e))
+
+-- Memory was wanting after whole lines: what failed since then has failed since the beginning.
+since : (between now : Option (List ℕ)) (was amid is : ℕ) → was ≤ amid → SaysWant between now amid is → SaysWant between now was is
+since between now was amid is later (inl all) = inl all
+since between now was amid is later (inr (part, rose)) = inr (part, Rose-since was amid is later rose)
+
+pub wanted : (owed : Owed) (lines : List ℕ) (before mid now : Option (List ℕ)) (was amid is code : ℕ) → was ≤ amid → (lines ≡ []) ⊎ AreFirstLines owed lines → Appended before mid lines → Wants mid now amid is code → Cases owed before now was is code
+wanted owed lines before mid now was amid is code later h app wants = inr (inr (inr (record { lines = lines; first = h; between = mid; text = app; last = since mid now was amid is later wants.1; status = wants.0 })))
 
 -- Memory was wanting before the first line.
-pub wanted_first : (owed : Owed) (before now : Option (List ℕ)) (was is code : ℕ) → Wants before now code → Cases owed before now was is code
-wanted_first owed before now was is code wants = wanted owed [] before before now was is code (inl refl) (Appended-none before) wants
+pub wanted_first : (owed : Owed) (before now : Option (List ℕ)) (was is code : ℕ) → Wants before now was is code → Cases owed before now was is code
+wanted_first owed before now was is code wants = wanted owed [] before before now was was is code (omega arith) (inl refl) (Appended-none before) wants
 
 output_lifted : (a b : Owed) → ((x : List ℕ) (k : ℕ) → a.whole x k → b.whole x k) → ((x : List ℕ) → a.fault x → b.fault x) → (x : List ℕ) → IsOutput a x → IsOutput b x
 output_lifted a b whole fault x (inl (k, h)) = inl (k, whole x k h)

@@ -3,3 +3,4 @@ pub mod LineLemmas
 pub mod StageLemmas
 pub mod StatusLemmas
 pub mod ReadLemmas
+pub mod BlameLemmas

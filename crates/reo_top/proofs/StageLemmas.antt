@@ -1,6 +1,6 @@
 -- The stages of a run, from the last to the first.
 use Rattle.std.proofs.Common.{◌≡◌, ◌∙◌, inl, inr, ℕ, List, ◌++◌, sym, refl, subst, ap, append_assoc}
-use Rattle.std.specs.Prelude.{Option, Err, codes}
+use Rattle.std.specs.Prelude.{◌≤◌, Option, Err, codes}
 use Rattle.std.proofs.lemmas.Grind.{flat_map-append}
 use Rattle.reo_behaviour.specs.First.{IsFirst}
 use Rattle.reo_io.specs.Causes.{Rose}
@@ -56,13 +56,13 @@ module _ (c : Plainest) (components : List Component) where
       }
 
   -- Memory was wanting in a run.
-  pub run_wanted : (before mid now : Option (List ℕ)) (was is code : ℕ) (o : Outcome) → Kept IsFirst kind_rules (ports_of c) components most_rounds (start_for c components) before mid o → Wants mid now code
-      → Cases (run_owed c components) before now was is code
-  run_wanted before mid now was is code o kept wants =
+  pub run_wanted : (before mid now : Option (List ℕ)) (was amid is code : ℕ) (o : Outcome) → was ≤ amid → Kept IsFirst kind_rules (ports_of c) components most_rounds (start_for c components) before mid o
+      → Wants mid now amid is code → Cases (run_owed c components) before now was is code
+  run_wanted before mid now was amid is code o later kept wants =
       let lines : List ℕ = rounds_text (ports_of c) kept.lines in
       elim (rounds_end (ports_of c) kept.lines) [
-        | inl none ↦ wanted (run_owed c components) lines before mid now was is code (inl none) kept.text wants
-        | inr ends ↦ wanted (run_owed c components) lines before mid now was is code (inr (first_lines before mid o kept ends)) kept.text wants
+        | inl none ↦ wanted (run_owed c components) lines before mid now was amid is code later (inl none) kept.text wants
+        | inr ends ↦ wanted (run_owed c components) lines before mid now was amid is code later (inr (first_lines before mid o kept ends)) kept.text wants
       ]
 
   -- From a script that is read to its run.

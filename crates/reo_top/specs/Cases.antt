@@ -1,5 +1,5 @@
 -- What a command has written, and its status.
-use Rattle.std.specs.Prelude.{ℕ, ◌≡◌, ◌⊎◌, ◌++◌, ◌==◌, ◌||◌, Bool, List, [], Option, codes}
+use Rattle.std.specs.Prelude.{ℕ, ◌≡◌, ◌⊎◌, ◌++◌, List, [], Option, codes}
 use Rattle.reo_io.specs.Causes.{Rose}
 use Rattle.reo_io.specs.Sinks.{Appended, TookPart}
 
@@ -44,18 +44,22 @@ pub record Broke (owed : Owed) (before now : Option (List ℕ)) (was is : ℕ) (
   pub rose : Rose was is
   pub status : code ≡ 9
 
--- Memory was wanting: no line or the first lines of a whole output were written, and then that, or a front of that where the sink failed.
-pub record Wanted (owed : Owed) (before now : Option (List ℕ)) (code : ℕ) : Type 0 where
+-- That memory was wanting was written, or a front of that where the sink failed on it.
+abbrev pub SaysWant : Option (List ℕ) → Option (List ℕ) → ℕ → ℕ → Type 0
+SaysWant before now was is = Appended before now no_memory ⊎ (TookPart before now no_memory × Rose was is)
+
+-- Memory was wanting: no line or the first lines of a whole output were written, and then that.
+pub record Wanted (owed : Owed) (before now : Option (List ℕ)) (was is : ℕ) (code : ℕ) : Type 0 where
   pub lines : List ℕ
   pub first : (lines ≡ []) ⊎ AreFirstLines owed lines
   pub between : Option (List ℕ)
   pub text : Appended before between lines
-  pub last : Appended between now no_memory ⊎ TookPart between now no_memory
+  pub last : SaysWant between now was is
   pub status : code ≡ 10
 
 -- One of the four cases holds.
 abbrev pub Cases : Owed → Option (List ℕ) → Option (List ℕ) → ℕ → ℕ → ℕ → Type 0
-Cases owed before now was is code = Wrote owed before now code ⊎ (Missed owed before now code ⊎ (Broke owed before now was is code ⊎ Wanted owed before now code))
+Cases owed before now was is code = Wrote owed before now code ⊎ (Missed owed before now code ⊎ (Broke owed before now was is code ⊎ Wanted owed before now was is code))
 
 -- A line with its status.
 abbrev pub IsLine : List ℕ → ℕ → List ℕ → ℕ → Type 0
@@ -66,17 +70,17 @@ abbrev pub Refuses : List ℕ → ℕ → Option (List ℕ) → Option (List ℕ
 Refuses line status before now was is code = ((code ≡ status) × Appended before now line) ⊎ ((code ≡ 9) × TookPart before now line × Rose was is)
 
 -- What a call that reports want of memory has come to.
-abbrev pub Wants : Option (List ℕ) → Option (List ℕ) → ℕ → Type 0
-Wants before now code = (code ≡ 10) × (Appended before now no_memory ⊎ TookPart before now no_memory)
-
--- The statuses of a command.
-abbrev pub is_status : ℕ → Bool
-is_status code = (code == 0) || ((code == 1) || ((code == 2) || ((code == 3) || ((code == 4) || ((code == 5) || ((code == 8) || ((code == 9) || ((code == 10) || (code == 12)))))))))
+abbrev pub Wants : Option (List ℕ) → Option (List ℕ) → ℕ → ℕ → ℕ → Type 0
+Wants before now was is code = (code ≡ 10) × SaysWant before now was is
 
 -- The statuses of what is no whole output: a fetch failed, the sink failed, memory was wanting.
 abbrev pub IsFailure : ℕ → Type 0
 IsFailure code = (code ≡ 3) ⊎ ((code ≡ 9) ⊎ (code ≡ 10))
 
--- The status is that of each whole output, unless something failed.
-abbrev pub IsStatusOf : Owed → ℕ → Type 0
-IsStatusOf owed code = (bytes : List ℕ) (status : ℕ) → owed.whole bytes status → (code ≡ status) ⊎ IsFailure code
+-- These bytes were written, with their status, unless something failed.
+abbrev pub IsWritten : Option (List ℕ) → Option (List ℕ) → ℕ → List ℕ → ℕ → Type 0
+IsWritten before now code bytes status = ((code ≡ status) × Appended before now bytes) ⊎ IsFailure code
+
+-- Each whole output was written, with its status, unless something failed: there is no other than that.
+abbrev pub IsExact : Owed → Option (List ℕ) → Option (List ℕ) → ℕ → Type 0
+IsExact owed before now code = (bytes : List ℕ) (status : ℕ) → owed.whole bytes status → IsWritten before now code bytes status

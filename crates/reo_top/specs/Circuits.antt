@@ -30,10 +30,10 @@ IsReadAs content (Err (Refused r)) = IsRefused content r
 IsReadAs content (Err Failed) = Unit {0}
 IsReadAs content (Err NoMemory) = Unit {0}
 
--- The file says no other program, and is not refused where it says one.
+-- The file says no other program, and is not refused where it says one; what is refused says none, and is refused for no other cause.
 abbrev pub IsReadOnlyAs : Content → Result Program CircuitFault → Type 0
 IsReadOnlyAs content (Ok p) = ((q : Program) → IsProgram content q → q ≡ p) × ((r : Refusal) → IsRefused content r → ⊥)
-IsReadOnlyAs content (Err (Refused r)) = (q : Program) → IsProgram content q → ⊥
+IsReadOnlyAs content (Err (Refused r)) = ((q : Program) → IsProgram content q → ⊥) × ((s : Refusal) → IsRefused content s → s ≡ r)
 IsReadOnlyAs content _ = Unit {0}
 
 -- The names whose fetch failed, after this one was read.
@@ -51,5 +51,5 @@ unread_whole (text t) bytes code = (r : Refusal) × Answers t (Err (fault_of r))
 abbrev pub IsRefusedWith : CircuitFault → Option (List ℕ) → Option (List ℕ) → ℕ → ℕ → ℕ → Type 0
 IsRefusedWith Failed before now was is code = Refuses (codes "read fault circuit\n") 3 before now was is code
 IsRefusedWith TooLong before now was is code = Refuses (codes "too long circuit\n") 4 before now was is code
-IsRefusedWith (Refused r) before now was is code = Refuses (refusal_text r) 5 before now was is code ⊎ Wants before now code
-IsRefusedWith NoMemory before now was is code = Wants before now code
+IsRefusedWith (Refused r) before now was is code = Refuses (refusal_text r) 5 before now was is code ⊎ Wants before now was is code
+IsRefusedWith NoMemory before now was is code = Wants before now was is code

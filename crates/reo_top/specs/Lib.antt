@@ -6,3 +6,5 @@ pub mod Traces
 pub mod Words
 pub mod Whole
 pub mod Fetched
+pub mod Blame
+pub mod Statuses

@@ -20,9 +20,3 @@ pub record HasNoForm (words : List (List ℕ)) : Type 0 where
 -- A fetch of this name failed: it was noted behind the names that failed before.
 abbrev pub Missed : List (List ℕ) → List (List ℕ) → List ℕ → Type 0
 Missed before now name = now ≡ before ++ name ∷ []
-
--- The fetch of a file that these words name failed, and was noted.
-abbrev pub MissedOne : List (List ℕ) → List (List ℕ) → List (List ℕ) → Type 0
-MissedOne words before now =
-    ((circuit script : List ℕ) × IsRunWords words circuit script × (Missed before now circuit ⊎ Missed before now script))
-    ⊎ ((circuit : List ℕ) × IsPrintWords words circuit × Missed before now circuit)

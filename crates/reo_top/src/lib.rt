@@ -12,4 +12,8 @@ mod top;
 pub use top::{Status, reo};
 
 #[cfg(test)]
+mod run_tests;
+#[cfg(test)]
 mod tests;
+#[cfg(test)]
+mod text_tests;

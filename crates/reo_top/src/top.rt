@@ -1,9 +1,11 @@
 //! The top call.
-ghost use Rattle.std.specs.Prelude.{◌≡◌, ◌≤◌, ℕ, List as Items, [], length, slice_index_or, true, false, IfSome, IsTrue};
+ghost use Rattle.std.specs.Prelude.{◌≡◌, ◌≤◌, ℕ, List as Items, [], length, slice_index_or, true, false, IfSome, codes};
 ghost use Rattle.reo_io.specs.Causes.{Rose};
-ghost use Rattle.reo_top.specs.Cases.{Cases, IsStatusOf, is_status};
+ghost use Rattle.reo_top.specs.Blame.{BlamesFor};
+ghost use Rattle.reo_top.specs.Cases.{Cases, IsExact, Refuses};
+ghost use Rattle.reo_top.specs.Statuses.{IsStatusFor};
 ghost use Rattle.reo_top.specs.Whole.{command_owed};
-ghost use Rattle.reo_top.specs.Words.{IsRunWords, IsPrintWords, HasNoForm, MissedOne};
+ghost use Rattle.reo_top.specs.Words.{IsRunWords, IsPrintWords, HasNoForm};
 
 use crate::answer::answer;
 use crate::printing::print_circuit;
@@ -60,13 +62,13 @@ pub fn reo<F: Files, R: Source, S: Sink>(
     out: &mut S,
 ) -> Status
     ensures cases { IfSome (F.told files.old) (λ folder. Cases (command_owed words.now folder (F.failed files.old) (F.failed files.new)) (S.told out.old) (S.told out.new) (S.faults out.old) (S.faults out.new) result.code) }
-    ensures exact { IfSome (F.told files.old) (λ folder. IsStatusOf (command_owed words.now folder (F.failed files.old) (F.failed files.new)) result.code) }
+    ensures exact { IfSome (F.told files.old) (λ folder. IsExact (command_owed words.now folder (F.failed files.old) (F.failed files.new)) (S.told out.old) (S.told out.new) result.code) }
     ensures source { source.new ≡ source.old }
-    ensures status { IsTrue (is_status result.code) }
+    ensures status { IsStatusFor words.now result.code }
     ensures later { S.faults out.old ≤ S.faults out.new }
     ensures rose { result.code ≡ 9 → Rose (S.faults out.old) (S.faults out.new) }
-    ensures refused { result.code ≡ 2 → HasNoForm words.now }
-    ensures missed { result.code ≡ 3 → MissedOne words.now (F.failed files.old) (F.failed files.new) }
+    ensures refused { HasNoForm words.now → Refuses (codes "words refused\n") 2 (S.told out.old) (S.told out.new) (S.faults out.old) (S.faults out.new) result.code }
+    ensures missed { BlamesFor (F.failed files.old) (F.failed files.new) (S.told out.old) (S.told out.new) (S.faults out.old) (S.faults out.new) result.code words.now }
 {
     let _ = source;
     let words = words.as_slice();

@@ -1,4 +1,4 @@
-use Rattle.std.proofs.Common.{inr, refl}
+use Rattle.std.proofs.Common.{inl, inr, refl, arith}
 use Rattle.reo_io.specs.Fetches.{file_of}
 use Rattle.reo_syntax.specs.Canonical.{canonical_text}
 use Rattle.reo_top.specs.Texts.{content_of}
@@ -7,6 +7,7 @@ use Rattle.reo_top.specs.Whole.{text_owed, print_owed}
 use Rattle.reo_top.proofs.CaseLemmas.{refused, wanted_first, if_told, if_both, told_always}
 use Rattle.reo_top.proofs.StageLemmas.{circuit_refused}
 use Rattle.reo_top.proofs.ReadLemmas.{missed_from, read_as, refused_as, text_as}
+use Rattle.reo_top.proofs.BlameLemmas.{circuit_blamed, no_miss}
 use Rattle.reo_top.proofs.printing.print_circuit.Goals as goal
 
 pub returns-in-Err-clause-cases : goal.returns-in-Err-clause-cases
@@ -32,11 +33,22 @@ returns-in-Ok-print-clause-cases g c =
 
 pub returns-in-Ok-print-clause-exact : goal.returns-in-Ok-print-clause-exact
 returns-in-Ok-print-clause-exact g c =
+    let written = rw (c.as_slice.ensures, c.in-Ok-print.ensures) at c.answer.ensures.answers in
     if_told (g.F.Files.told c.args.files.now)
-    (λ folder both. read_as (Missed (g.F.Files.failed c.args.files.now) (g.F.Files.failed c.read_program.new.files) c.args.name.now) (content_of (file_of folder c.args.name.now)) text_owed c.in-Ok.program _ both.0 both.1 (text_as c.in-Ok.program _ c.answer.ensures.one))
+    (λ folder both. read_as (Missed (g.F.Files.failed c.args.files.now) (g.F.Files.failed c.read_program.new.files) c.args.name.now) (content_of (file_of folder c.args.name.now)) text_owed c.in-Ok.program _ _ _ both.0 both.1 (text_as c.in-Ok.program _ _ _ _ _ written))
     (if_both (g.F.Files.told c.args.files.now) _ _ c.in-Ok.ensures.content c.in-Ok.ensures.only)
 
 pub returns-clause-cases : goal.returns-clause-cases
 returns-clause-cases g c =
     told_always (g.F.Files.told c.args.files.now)
     (λ folder. wanted_first (print_owed (Missed (g.F.Files.failed c.args.files.now) (g.F.Files.failed c.read_program.new.files) c.args.name.now) (content_of (file_of folder c.args.name.now))) _ _ _ _ _ c.want.ensures.wants)
+
+pub returns-in-Err-clause-missed : goal.returns-in-Err-clause-missed
+returns-in-Err-clause-missed g c =
+    circuit_blamed (g.F.Files.failed c.args.files.now) (g.F.Files.failed c.read_program.new.files) c.args.name.now c.in-Err.fault c.in-Err.ensures.failed _ _ _ _ _ c.refuse_circuit.ensures.missed c.refuse_circuit.ensures.refused
+
+pub returns-in-Ok-print-clause-missed : goal.returns-in-Ok-print-clause-missed
+returns-in-Ok-print-clause-missed g c = inl (c.in-Ok.ensures.failed, no_miss 0 c.answer.result.code refl c.answer.ensures.one)
+
+pub returns-clause-missed : goal.returns-clause-missed
+returns-clause-missed g c = inl (c.in-Ok.ensures.failed, λ e. omega (arith, e, c.want.ensures.status))

@@ -35,7 +35,7 @@ returns-clause-cases g c =
     let came = rw (c.in-Ok.ensures.circuit, c.in-Ok.ensures.ports) at c.run-outcome.ensures.came in
     let kept : Kept IsFirst kind_rules (ports_of plainest) cs most_rounds (start_for plainest cs) (g.S.Sink.told c.args.out.now) (g.S.Sink.told c.run-outcome.new.out) c.run-outcome.result =
     subst (λ (e : End2). ByEnd IsFirst kind_rules (ports_of plainest) cs most_rounds (start_for plainest cs) (g.S.Sink.told c.args.out.now) (g.S.Sink.told c.run-outcome.new.out) c.run-outcome.result e) c.in-NoMemory.is came in
-    run_wanted plainest cs _ _ _ _ _ _ c.run-outcome.result kept c.want-in-NoMemory.ensures.wants
+    run_wanted plainest cs _ _ _ _ _ _ _ c.run-outcome.result c.run-outcome.ensures.later kept c.want-in-NoMemory.ensures.wants
 
 pub returns-in-Done-clause-exact : goal.returns-in-Done-clause-exact
 returns-in-Done-clause-exact g c =

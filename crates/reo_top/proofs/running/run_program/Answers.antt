@@ -1,4 +1,4 @@
-use Rattle.std.proofs.Common.{inl, refl, ap}
+use Rattle.std.proofs.Common.{inl, refl, ap, arith}
 use Rattle.std.specs.Prelude.{Err, codes}
 use Rattle.reo_io.specs.Fetches.{file_of}
 use Rattle.reo_top.specs.Texts.{content_of}
@@ -8,6 +8,7 @@ use Rattle.reo_top.proofs.CaseLemmas.{refused, wanted_first, if_told, told_alway
 use Rattle.reo_top.proofs.StageLemmas.{shape_lifted}
 use Rattle.reo_top.proofs.StatusLemmas.{shape_as}
 use Rattle.reo_top.proofs.ReadLemmas.{no_shape_as}
+use Rattle.reo_top.proofs.BlameLemmas.{no_miss}
 use Rattle.reo_top.proofs.running.run_program.Goals as goal
 
 pub returns-in-Ok-clause-cases : goal.returns-in-Ok-clause-cases
@@ -19,7 +20,7 @@ returns-in-Ok-clause-cases g c =
 pub returns-in-Ok-clause-exact : goal.returns-in-Ok-clause-exact
 returns-in-Ok-clause-exact g c =
     if_told (g.F.Files.told c.args.files.now)
-    (λ folder h. shape_as (Missed (g.F.Files.failed c.args.files.now) (g.F.Files.failed c.run_script.new.files) c.args.script.now) c.args.program.now (content_of (file_of folder c.args.script.now)) c.in-Ok.plainest c.run_script.result.code c.in-Ok.ensures.said h)
+    (λ folder h. shape_as (Missed (g.F.Files.failed c.args.files.now) (g.F.Files.failed c.run_script.new.files) c.args.script.now) c.args.program.now (content_of (file_of folder c.args.script.now)) c.in-Ok.plainest c.in-Ok.ensures.said _ _ c.run_script.result.code h)
     c.run_script.ensures.exact
 
 pub returns-in-Err-NotOfForm-clause-cases : goal.returns-in-Err-NotOfForm-clause-cases
@@ -33,9 +34,15 @@ pub returns-in-Err-NotOfForm-clause-exact : goal.returns-in-Err-NotOfForm-clause
 returns-in-Err-NotOfForm-clause-exact g c =
     let none = c.in-Err-NotOfForm.ensures.refused (ap (λ x. Err x) c.in-Err-NotOfForm.field-0-is) in
     told_always (g.F.Files.told c.args.files.now)
-    (λ folder. no_shape_as (Missed (g.F.Files.failed c.args.files.now) (g.F.Files.failed c.args.files.now) c.args.script.now) c.args.program.now (content_of (file_of folder c.args.script.now)) c.answer.result.code none c.answer.ensures.one)
+    (λ folder. no_shape_as (Missed (g.F.Files.failed c.args.files.now) (g.F.Files.failed c.args.files.now) c.args.script.now) c.args.program.now (content_of (file_of folder c.args.script.now)) none _ _ _ _ c.answer.result.code c.answer.ensures.answers)
 
 pub returns-in-Err-NoMemory-clause-cases : goal.returns-in-Err-NoMemory-clause-cases
 returns-in-Err-NoMemory-clause-cases g c =
     told_always (g.F.Files.told c.args.files.now)
     (λ folder. wanted_first (shape_owed (Missed (g.F.Files.failed c.args.files.now) (g.F.Files.failed c.args.files.now) c.args.script.now) c.args.program.now (content_of (file_of folder c.args.script.now))) _ _ _ _ _ c.want.ensures.wants)
+
+pub returns-in-Err-NotOfForm-clause-missed : goal.returns-in-Err-NotOfForm-clause-missed
+returns-in-Err-NotOfForm-clause-missed g c = inl (refl, no_miss 12 c.answer.result.code refl c.answer.ensures.one)
+
+pub returns-in-Err-NoMemory-clause-missed : goal.returns-in-Err-NoMemory-clause-missed
+returns-in-Err-NoMemory-clause-missed g c = inl (refl, λ e. omega (arith, e, c.want.ensures.status))

@@ -1,4 +1,4 @@
-use Rattle.std.proofs.Common.{ap}
+use Rattle.std.proofs.Common.{inl, inr, ap, refl, arith}
 use Rattle.std.specs.Prelude.{Err, codes}
 use Rattle.reo_io.specs.Fetches.{file_of}
 use Rattle.reo_top.specs.Texts.{content_of}
@@ -7,6 +7,8 @@ use Rattle.reo_top.specs.Words.{Missed}
 use Rattle.reo_top.proofs.CaseLemmas.{refused, wanted_first, if_told, told_always}
 use Rattle.reo_top.proofs.StageLemmas.{script_lifted, no_script, long_script}
 use Rattle.reo_top.proofs.StatusLemmas.{script_as}
+use Rattle.reo_top.proofs.ReadLemmas.{long_script_as, no_script_as}
+use Rattle.reo_top.proofs.BlameLemmas.{no_miss}
 use Rattle.reo_top.proofs.running.run_script.Goals as goal
 
 pub returns-in-Err-TooLong-clause-cases : goal.returns-in-Err-TooLong-clause-cases
@@ -46,8 +48,40 @@ returns-in-Ok-read_script-clause-exact g c =
     let says = rw c.as_slice.ensures at c.in-Ok-read_script.ensures.said in
     if_told (g.F.Files.told c.args.files.now)
     (λ folder fetched. script_as c.args.plainest.now (content_of (file_of folder c.args.name.now)) c.requires (Missed (g.F.Files.failed c.args.files.now) (g.F.Files.failed c.fetch.new.files) c.args.name.now) c.in-Ok-read_script.script.components c.in-Ok.text fetched says
-    c.run_both.result.code c.run_both.ensures.exact)
+    _ _ c.run_both.result.code c.run_both.ensures.exact)
     c.in-Ok.ensures.content
 
 pub read_script-requires-clause-names : goal.read_script-requires-clause-names
 read_script-requires-clause-names g c i p at_i = (c.requires.parameters i p at_i).name
+
+pub returns-in-Err-TooLong-clause-exact : goal.returns-in-Err-TooLong-clause-exact
+returns-in-Err-TooLong-clause-exact g c =
+    if_told (g.F.Files.told c.args.files.now)
+    (λ folder fetched. long_script_as (Missed (g.F.Files.failed c.args.files.now) (g.F.Files.failed c.fetch.new.files) c.args.name.now) c.args.plainest.now (content_of (file_of folder c.args.name.now)) fetched _ _ _ _ _ c.answer-in-Err-TooLong.ensures.answers)
+    (rw c.in-Err-TooLong.field-0-is at c.in-Err-TooLong.ensures.content)
+
+pub returns-in-Err-NotOfForm-clause-exact : goal.returns-in-Err-NotOfForm-clause-exact
+returns-in-Err-NotOfForm-clause-exact g c =
+    let none = rw c.as_slice.ensures at (c.in-Err-NotOfForm.ensures.refused (ap (λ x. Err x) c.in-Err-NotOfForm.field-0-is)) in
+    if_told (g.F.Files.told c.args.files.now)
+    (λ folder fetched. no_script_as (Missed (g.F.Files.failed c.args.files.now) (g.F.Files.failed c.fetch.new.files) c.args.name.now) c.args.plainest.now (content_of (file_of folder c.args.name.now)) c.in-Ok.text fetched none
+    _ _ _ _ _ c.answer-in-Err-NotOfForm.ensures.answers)
+    c.in-Ok.ensures.content
+
+pub returns-in-Err-Failed-clause-missed : goal.returns-in-Err-Failed-clause-missed
+returns-in-Err-Failed-clause-missed g c = inr (rw c.in-Err-Failed.field-0-is at c.in-Err-Failed.ensures.failed, c.answer.ensures.answers)
+
+pub returns-in-Err-TooLong-clause-missed : goal.returns-in-Err-TooLong-clause-missed
+returns-in-Err-TooLong-clause-missed g c = inl (rw c.in-Err-TooLong.field-0-is at c.in-Err-TooLong.ensures.failed, no_miss 4 c.answer-in-Err-TooLong.result.code refl c.answer-in-Err-TooLong.ensures.one)
+
+pub returns-in-Err-NoMemory-clause-missed : goal.returns-in-Err-NoMemory-clause-missed
+returns-in-Err-NoMemory-clause-missed g c = inl (rw c.in-Err-NoMemory.field-0-is at c.in-Err-NoMemory.ensures.failed, λ e. omega (arith, e, c.want.ensures.status))
+
+pub returns-in-Ok-read_script-clause-missed : goal.returns-in-Ok-read_script-clause-missed
+returns-in-Ok-read_script-clause-missed g c = inl (c.in-Ok.ensures.failed, c.run_both.ensures.fetched)
+
+pub returns-in-Err-NotOfForm-clause-missed : goal.returns-in-Err-NotOfForm-clause-missed
+returns-in-Err-NotOfForm-clause-missed g c = inl (c.in-Ok.ensures.failed, no_miss 12 c.answer-in-Err-NotOfForm.result.code refl c.answer-in-Err-NotOfForm.ensures.one)
+
+pub returns-clause-missed : goal.returns-clause-missed
+returns-clause-missed g c = inl (c.in-Ok.ensures.failed, λ e. omega (arith, e, c.want-in-Err-NoMemory-read_script.ensures.status))
