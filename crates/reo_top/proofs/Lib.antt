@@ -1,4 +1,5 @@
 pub mod CaseLemmas
+pub mod HeadlineLemmas
 pub mod LineLemmas
 pub mod StageLemmas
 pub mod StatusLemmas

@@ -15,6 +15,7 @@ use Rattle.reo_lexer.specs.declared.token.LexFault.TheVariants as lexing
 use Rattle.reo_parser.specs.declared.fault.ParseFault.TheVariants as faults
 use Rattle.reo_top.specs.Cases.{Owed, IsLine, Refuses, IsExact}
 use Rattle.reo_top.proofs.CaseLemmas.{line_as}
+use Rattle.reo_top.proofs.StatusLemmas.{AllWhole}
 use Rattle.reo_top.specs.Texts.{Content, gone, long, text, IsScriptText}
 use Rattle.reo_top.specs.Circuits.{IsProgram, IsRefused, IsReadAs, IsReadOnlyAs, IsRefusedWith, unread_whole, missed_after}
 use Rattle.reo_syntax.specs.Canonical.{canonical_text}
@@ -96,9 +97,9 @@ refused_only content bytes f r same is only = (
 )
 
 -- What is owed for a circuit that is read is what comes then.
-pub read_as : (MissedCircuit : Type 0) (circuit : Content) (more : Program → Owed) (p : Program) (before now : Option (List ℕ)) (code : ℕ) → IsProgram circuit p → IsReadOnlyAs circuit (Ok p)
-    → IsExact (more p) before now code → IsExact (circuit_owed MissedCircuit circuit more) before now code
-read_as MissedCircuit circuit more p before now code read only exact = λ bytes status h. elim h [
+pub read_as : (MissedCircuit : Type 0) (circuit : Content) (more : Program → Owed) (p : Program) (Told : List ℕ → ℕ → Type 0) → IsProgram circuit p → IsReadOnlyAs circuit (Ok p)
+    → AllWhole (more p) Told → AllWhole (circuit_owed MissedCircuit circuit more) Told
+read_as MissedCircuit circuit more p Told read only exact = λ bytes status h. elim h [
   | inl none ↦
       let here : unread_whole (text read.bytes) bytes status = subst (λ (z : Content). unread_whole z bytes status) read.text_is none in
       absurd (only.1 here.0 (record { bytes = read.bytes; text_is = read.text_is; answers = here.1 }))

@@ -17,13 +17,17 @@ use Rattle.reo_build.specs.Flat.{ports_of}
 use Rattle.reo_runner.specs.declared.outcome.Outcome.{Outcome}
 use Rattle.reo_runner.specs.Outcome.{Ran}
 use Rattle.reo_runner.specs.Whole.{HasOneRun}
-use Rattle.reo_top.specs.Cases.{IsExact, Refuses}
+use Rattle.reo_top.specs.Cases.{Owed, IsExact, Refuses}
 use Rattle.reo_trees.specs.declared.programs.Program.{Program}
 use Rattle.reo_top.specs.Texts.{Content, text, content_of, IsScriptText}
 use Rattle.reo_top.specs.Words.{IsRunWords, IsPrintWords, HasNoForm, Missed}
 use Rattle.reo_top.proofs.CaseLemmas.{line_as}
 use Rattle.reo_top.specs.Traces.{kind_rules, most_rounds, start_for, status_of, IsTraceOf}
 use Rattle.reo_top.specs.Whole.{run_owed, script_whole, script_owed, shape_owed, print_owed, both_owed, RunNames, PrintName, run_owed_for, print_owed_for, command_owed}
+
+-- Each whole output is as told.
+abbrev pub AllWhole : Owed → (List ℕ → ℕ → Type 0) → Type 0
+AllWhole owed Told = (bytes : List ℕ) (status : ℕ) → owed.whole bytes status → Told bytes status
 
 -- A run came to its end.
 pub ran_as : (c : Plainest) (components : List Component) → HasOneRun IsFirst kind_rules components most_rounds (start_for c components)
@@ -38,8 +42,8 @@ ran_as c components one ending before now o ran = λ bytes status trace.
 -- A script that was read.
 module _ (c : Plainest) (script : Content) where
   pub script_as : IsPlainest c → (MissedScript : Type 0) (components : List Component) (t : List ℕ) → script ≡ text t → IsScriptText c t components
-      → (before now : Option (List ℕ)) (code : ℕ) → IsExact (run_owed c components) before now code → IsExact (script_owed MissedScript c script) before now code
-  script_as plain MissedScript components t same says before now code exact = λ bytes status h.
+      → (Told : List ℕ → ℕ → Type 0) → AllWhole (run_owed c components) Told → AllWhole (script_owed MissedScript c script) Told
+  script_as plain MissedScript components t same says Told exact = λ bytes status h.
       let here : script_whole c (text t) bytes status = subst (λ (z : Content). script_whole c z bytes status) same h in
       elim here [
         | inl none ↦ absurd (none.0 components says)
@@ -48,8 +52,8 @@ module _ (c : Plainest) (script : Content) where
 
 -- A circuit of the form.
 pub shape_as : (MissedScript : Type 0) (p : Program) (script : Content) (c : Plainest) → HasShape p c
-    → (before now : Option (List ℕ)) (code : ℕ) → IsExact (script_owed MissedScript c script) before now code → IsExact (shape_owed MissedScript p script) before now code
-shape_as MissedScript p script c has before now code exact = λ bytes status h. elim h [
+    → (Told : List ℕ → ℕ → Type 0) → AllWhole (script_owed MissedScript c script) Told → AllWhole (shape_owed MissedScript p script) Told
+shape_as MissedScript p script c has Told exact = λ bytes status h. elim h [
   | inl none ↦ absurd (none.0 c has)
   | inr found ↦ exact bytes status (subst (λ (x : Plainest). script_whole x script bytes status) (shape_tells p found.0 c found.1 has) found.2)
 ]
@@ -59,9 +63,9 @@ run_is_no_print : (words : List (List ℕ)) (circuit script other : List ℕ) �
 run_is_no_print words circuit script other run print = absurd (omega (arith, ap length (sym run.words_are ∙ print.words_are)))
 
 -- The words name one circuit and one script.
-module _ (words : List (List ℕ)) (folder : Folder) (before now : List (List ℕ)) (told told_now : Option (List ℕ)) (code : ℕ) where
-  pub run_as : (n : RunNames words folder before now) → IsExact (run_owed_for words folder before now n) told told_now code → IsExact (command_owed words folder before now) told told_now code
-  run_as n exact = λ bytes status h. elim h [
+module _ (words : List (List ℕ)) (folder : Folder) (before now : List (List ℕ)) where
+  pub run_as : (Told : List ℕ → ℕ → Type 0) (n : RunNames words folder before now) → AllWhole (run_owed_for words folder before now n) Told → AllWhole (command_owed words folder before now) Told
+  run_as Told n exact = λ bytes status h. elim h [
     | inl none ↦ absurd (none.0.no_run n.circuit n.script n.form)
     | inr (inl found) ↦
         let same = sym found.0.form.words_are ∙ n.form.words_are in
@@ -73,15 +77,15 @@ module _ (words : List (List ℕ)) (folder : Folder) (before now : List (List �
   ]
 
   -- Words without form are owed their refusal alone.
-  pub no_form_as : HasNoForm words → (was is : ℕ) → Refuses (codes "words refused\n") 2 told told_now was is code → IsExact (command_owed words folder before now) told told_now code
-  no_form_as none was is h = λ bytes status whole. elim whole [
+  pub no_form_as : (told told_now : Option (List ℕ)) (code : ℕ) → HasNoForm words → (was is : ℕ) → Refuses (codes "words refused\n") 2 told told_now was is code → IsExact (command_owed words folder before now) told told_now code
+  no_form_as told told_now code none was is h = λ bytes status whole. elim whole [
     | inl line ↦ line_as (codes "words refused\n") 2 told told_now was is code h bytes status line.1
     | inr (inl found) ↦ absurd (none.no_run found.0.circuit found.0.script found.0.form)
     | inr (inr found) ↦ absurd (none.no_print found.0.circuit found.0.form)
   ]
 
-  pub print_as : (n : PrintName words folder before now) → IsExact (print_owed_for words folder before now n) told told_now code → IsExact (command_owed words folder before now) told told_now code
-  print_as n exact = λ bytes status h. elim h [
+  pub print_as : (Told : List ℕ → ℕ → Type 0) (n : PrintName words folder before now) → AllWhole (print_owed_for words folder before now n) Told → AllWhole (command_owed words folder before now) Told
+  print_as Told n exact = λ bytes status h. elim h [
     | inl none ↦ absurd (none.0.no_print n.circuit n.form)
     | inr (inl found) ↦ absurd (run_is_no_print words found.0.circuit found.0.script n.circuit found.0.form n.form)
     | inr (inr found) ↦

@@ -6,5 +6,6 @@ pub mod Traces
 pub mod Words
 pub mod Whole
 pub mod Fetched
+pub mod Headline
 pub mod Blame
 pub mod Statuses

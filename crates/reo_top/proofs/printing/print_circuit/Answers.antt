@@ -1,6 +1,7 @@
 use Rattle.std.proofs.Common.{inl, inr, refl, arith}
 use Rattle.reo_io.specs.Fetches.{file_of}
 use Rattle.reo_syntax.specs.Canonical.{canonical_text}
+use Rattle.reo_top.specs.Cases.{IsWritten}
 use Rattle.reo_top.specs.Texts.{content_of}
 use Rattle.reo_top.specs.Words.{Missed}
 use Rattle.reo_top.specs.Whole.{text_owed, print_owed}
@@ -35,7 +36,7 @@ pub returns-in-Ok-print-clause-exact : goal.returns-in-Ok-print-clause-exact
 returns-in-Ok-print-clause-exact g c =
     let written = rw (c.as_slice.ensures, c.in-Ok-print.ensures) at c.answer.ensures.answers in
     if_told (g.F.Files.told c.args.files.now)
-    (λ folder both. read_as (Missed (g.F.Files.failed c.args.files.now) (g.F.Files.failed c.read_program.new.files) c.args.name.now) (content_of (file_of folder c.args.name.now)) text_owed c.in-Ok.program _ _ _ both.0 both.1 (text_as c.in-Ok.program _ _ _ _ _ written))
+    (λ folder both. read_as (Missed (g.F.Files.failed c.args.files.now) (g.F.Files.failed c.read_program.new.files) c.args.name.now) (content_of (file_of folder c.args.name.now)) text_owed c.in-Ok.program (IsWritten (g.S.Sink.told c.args.out.now) (g.S.Sink.told c.answer.new.out) c.answer.result.code) both.0 both.1 (text_as c.in-Ok.program _ _ _ _ _ written))
     (if_both (g.F.Files.told c.args.files.now) _ _ c.in-Ok.ensures.content c.in-Ok.ensures.only)
 
 pub returns-clause-cases : goal.returns-clause-cases

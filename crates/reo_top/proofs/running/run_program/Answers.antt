@@ -1,6 +1,7 @@
 use Rattle.std.proofs.Common.{inl, refl, ap, arith}
 use Rattle.std.specs.Prelude.{Err, codes}
 use Rattle.reo_io.specs.Fetches.{file_of}
+use Rattle.reo_top.specs.Cases.{IsWritten}
 use Rattle.reo_top.specs.Texts.{content_of}
 use Rattle.reo_top.specs.Words.{Missed}
 use Rattle.reo_top.specs.Whole.{shape_owed}
@@ -20,7 +21,7 @@ returns-in-Ok-clause-cases g c =
 pub returns-in-Ok-clause-exact : goal.returns-in-Ok-clause-exact
 returns-in-Ok-clause-exact g c =
     if_told (g.F.Files.told c.args.files.now)
-    (λ folder h. shape_as (Missed (g.F.Files.failed c.args.files.now) (g.F.Files.failed c.run_script.new.files) c.args.script.now) c.args.program.now (content_of (file_of folder c.args.script.now)) c.in-Ok.plainest c.in-Ok.ensures.said _ _ c.run_script.result.code h)
+    (λ folder h. shape_as (Missed (g.F.Files.failed c.args.files.now) (g.F.Files.failed c.run_script.new.files) c.args.script.now) c.args.program.now (content_of (file_of folder c.args.script.now)) c.in-Ok.plainest c.in-Ok.ensures.said (IsWritten (g.S.Sink.told c.args.out.now) (g.S.Sink.told c.run_script.new.out) c.run_script.result.code) h)
     c.run_script.ensures.exact
 
 pub returns-in-Err-NotOfForm-clause-cases : goal.returns-in-Err-NotOfForm-clause-cases

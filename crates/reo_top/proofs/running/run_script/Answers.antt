@@ -1,6 +1,7 @@
 use Rattle.std.proofs.Common.{inl, inr, ap, refl, arith}
 use Rattle.std.specs.Prelude.{Err, codes}
 use Rattle.reo_io.specs.Fetches.{file_of}
+use Rattle.reo_top.specs.Cases.{IsWritten}
 use Rattle.reo_top.specs.Texts.{content_of}
 use Rattle.reo_top.specs.Whole.{script_owed}
 use Rattle.reo_top.specs.Words.{Missed}
@@ -48,7 +49,7 @@ returns-in-Ok-read_script-clause-exact g c =
     let says = rw c.as_slice.ensures at c.in-Ok-read_script.ensures.said in
     if_told (g.F.Files.told c.args.files.now)
     (λ folder fetched. script_as c.args.plainest.now (content_of (file_of folder c.args.name.now)) c.requires (Missed (g.F.Files.failed c.args.files.now) (g.F.Files.failed c.fetch.new.files) c.args.name.now) c.in-Ok-read_script.script.components c.in-Ok.text fetched says
-    _ _ c.run_both.result.code c.run_both.ensures.exact)
+    (IsWritten (g.S.Sink.told c.args.out.now) (g.S.Sink.told c.run_both.new.out) c.run_both.result.code) c.run_both.ensures.exact)
     c.in-Ok.ensures.content
 
 pub read_script-requires-clause-names : goal.read_script-requires-clause-names

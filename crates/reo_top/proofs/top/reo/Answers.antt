@@ -2,9 +2,11 @@ use Rattle.std.proofs.Common.{◌≡◌, ◌∙◌, inl, inr, refl, ℕ, List, [
 use Rattle.std.proofs.lemmas.List.{get_or_default}
 use Rattle.std.specs.Prelude.{codes}
 use Rattle.reo_io.specs.Fetches.{Folder}
+use Rattle.reo_top.specs.Cases.{IsWritten}
 use Rattle.reo_top.specs.Words.{IsRunWords, IsPrintWords, HasNoForm}
 use Rattle.reo_top.specs.Whole.{command_owed, RunNames, PrintName}
 use Rattle.reo_top.proofs.CaseLemmas.{refused, if_told, told_always}
+use Rattle.reo_top.proofs.HeadlineLemmas.{headline}
 use Rattle.reo_top.proofs.StageLemmas.{run_lifted, print_lifted}
 use Rattle.reo_top.proofs.StatusLemmas.{run_as, print_as, no_form_as}
 use Rattle.reo_top.proofs.BlameLemmas.{run_blamed, print_blamed}
@@ -33,7 +35,7 @@ returns-then-are_run_words-clause-exact g c =
     let names : (folder : Folder) → RunNames words folder (g.F.Files.failed c.args.files.now) (g.F.Files.failed c.run_circuit.new.files) = λ folder. record { circuit = get_or words 1 []; script = get_or words 2 []; form = form } in
     let exact = rw (circuit_is, script_is) at c.run_circuit.ensures.exact in
     if_told (g.F.Files.told c.args.files.now)
-    (λ folder h. run_as words folder (g.F.Files.failed c.args.files.now) (g.F.Files.failed c.run_circuit.new.files) _ _ c.run_circuit.result.code (names folder) h)
+    (λ folder h. run_as words folder (g.F.Files.failed c.args.files.now) (g.F.Files.failed c.run_circuit.new.files) (IsWritten (g.S.Sink.told c.args.out.now) (g.S.Sink.told c.run_circuit.new.out) c.run_circuit.result.code) (names folder) h)
     exact
 
 pub returns-then-are_print_words-clause-cases : goal.returns-then-are_print_words-clause-cases
@@ -57,7 +59,7 @@ returns-then-are_print_words-clause-exact g c =
     let name : (folder : Folder) → PrintName words folder (g.F.Files.failed c.args.files.now) (g.F.Files.failed c.print_circuit.new.files) = λ folder. record { circuit = get_or words 1 []; form = form } in
     let exact = rw circuit_is at c.print_circuit.ensures.exact in
     if_told (g.F.Files.told c.args.files.now)
-    (λ folder h. print_as words folder (g.F.Files.failed c.args.files.now) (g.F.Files.failed c.print_circuit.new.files) _ _ c.print_circuit.result.code (name folder) h)
+    (λ folder h. print_as words folder (g.F.Files.failed c.args.files.now) (g.F.Files.failed c.print_circuit.new.files) (IsWritten (g.S.Sink.told c.args.out.now) (g.S.Sink.told c.print_circuit.new.out) c.print_circuit.result.code) (name folder) h)
     exact
 
 pub returns-else-are_print_words-clause-cases : goal.returns-else-are_print_words-clause-cases
@@ -130,3 +132,21 @@ returns-then-are_print_words-clause-missed g c =
     let circuit_is : c.as_slice-then-are_print_words.result.now ≡ get_or words 1 [] = c.as_slice-then-are_print_words.ensures ∙ (rw c.as_slice-words.ensures at c.index-words-1-then-are_print_words.is) ∙ get_or_default words 1 _ [] (omega (arith, long)) in
     let blames = rw circuit_is at c.print_circuit.ensures.missed in
     print_blamed words _ _ _ _ _ _ _ _ form blames
+
+pub returns-then-are_run_words-clause-headline : goal.returns-then-are_run_words-clause-headline
+returns-then-are_run_words-clause-headline g c =
+    if_told (g.F.Files.told c.args.files.now)
+    (λ folder h. headline c.runs_are_justified.ensures c.is_sound.ensures c.args.words.now folder (g.F.Files.failed c.args.files.now) (g.F.Files.failed c.run_circuit.new.files) _ _ _ _ _ h)
+    (returns-then-are_run_words-clause-cases g c)
+
+pub returns-then-are_print_words-clause-headline : goal.returns-then-are_print_words-clause-headline
+returns-then-are_print_words-clause-headline g c =
+    if_told (g.F.Files.told c.args.files.now)
+    (λ folder h. headline c.runs_are_justified.ensures c.is_sound.ensures c.args.words.now folder (g.F.Files.failed c.args.files.now) (g.F.Files.failed c.print_circuit.new.files) _ _ _ _ _ h)
+    (returns-then-are_print_words-clause-cases g c)
+
+pub returns-else-are_print_words-clause-headline : goal.returns-else-are_print_words-clause-headline
+returns-else-are_print_words-clause-headline g c =
+    if_told (g.F.Files.told c.args.files.now)
+    (λ folder h. headline c.runs_are_justified.ensures c.is_sound.ensures c.args.words.now folder (g.F.Files.failed c.args.files.now) (g.F.Files.failed c.args.files.now) _ _ _ _ _ h)
+    (returns-else-are_print_words-clause-cases g c)
