@@ -14,6 +14,7 @@ pub mod Mixing
 pub mod OneFirst
 pub mod OneItems
 pub mod Places
+pub mod Reasons
 pub mod Search
 pub mod Sets
 pub mod Sides

@@ -7,4 +7,5 @@ pub mod Jams
 pub mod Keys
 pub mod PartLaws
 pub mod Parts
+pub mod Reasons
 pub mod Sublists

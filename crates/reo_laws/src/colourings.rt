@@ -2,6 +2,7 @@
 ghost use Rattle.reo_laws.specs.JamRows.{JamIsColouring};
 ghost use Rattle.reo_laws.specs.PartLaws.{OneColouringForRows, PartsAreColouring, MixIsColouring, EachPart};
 ghost use Rattle.reo_laws.specs.Jams.{JamsWhole};
+ghost use Rattle.reo_laws.specs.Reasons.{ReasonsAreGiven};
 
 /// Jam at every side, with no item, is a colouring.
 pub fn jam_is_colouring()
@@ -31,4 +32,9 @@ pub fn each_part()
 /// A colouring jams a part as a whole.
 pub fn jams_whole()
     ensures { JamsWhole }
+{}
+
+/// A colouring gives each reason for no flow that it requires.
+pub fn reasons_are_given()
+    ensures { ReasonsAreGiven }
 {}

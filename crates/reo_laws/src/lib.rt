@@ -8,7 +8,7 @@ mod keys;
 
 pub use colourings::{
     each_part, jam_is_colouring, jams_whole, mix_is_colouring, one_colouring_for_rows,
-    parts_are_colouring,
+    parts_are_colouring, reasons_are_given,
 };
 pub use ends::{classes_are_told, ends_are_joined, rows_are_told, source_is_taken};
 pub use first::{

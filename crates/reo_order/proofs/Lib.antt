@@ -6,3 +6,4 @@ pub mod ReachLemmas
 pub mod SortLemmas
 pub mod FrontLemmas
 pub mod SideLemmas
+pub mod ExistLemmas

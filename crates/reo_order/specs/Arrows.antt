@@ -1,5 +1,5 @@
 -- Arrows between numbered sides: arrow j goes from side `from j` to side `to j`.
-use Rattle.std.specs.Prelude.{ℕ, ◌<◌, ◌≡◌, ◌≢◌, ◌↔◌, List, [], ◌∷◌, length, slice_index}
+use Rattle.std.specs.Prelude.{ℕ, ◌<◌, ◌≡◌, ◌≢◌, ◌↔◌, ◌⊎◌, List, [], ◌∷◌, length, slice_index}
 
 -- From a side along arrows to a side: the first starts there, each other one where the one before it ends.
 abbrev pub Walk : List ℕ → List ℕ → ℕ → List ℕ → ℕ → Type 0
@@ -73,3 +73,7 @@ CycleBySides = (from to : List ℕ) (j : ℕ) → OnCycle from to j ↔ LiesOn f
 -- Arrows that stand in an order are on no cycle.
 abbrev pub OrderHasNoCycle : Type 0
 OrderHasNoCycle = (from to order : List ℕ) → IsTopological from to order → NoCycle from to
+
+-- There is an order of all arrows, or some arrow lies on a directed cycle.
+abbrev pub OrderExists : Type 0
+OrderExists = (from to : List ℕ) → ((order : List ℕ) × IsTopological from to order) ⊎ HasCycle from to

@@ -12,7 +12,7 @@ mod ordering;
 mod queue;
 mod sort;
 
-pub use laws::{cycle_by_sides, order_has_no_cycle};
+pub use laws::{cycle_by_sides, order_exists, order_has_no_cycle};
 pub use ordering::{Sorted, order_or_cycle};
 
 #[cfg(test)]

@@ -1,61 +1,20 @@
-//! How the tests put circuits together.
-use reo_behaviour::{End, Joint, Offer, Ported};
+//! How the tests put circuits together, and what they assert of them.
+use crate::pieces::{Piece, kinds};
+use reo_behaviour::{Colouring, End, Joint};
 use reo_circuit::{Circuit, NetFault, are_parts};
-use reo_kinds::{Branches, Kind, TakerPort, WriterPort};
+use reo_kinds::Kind;
 use reo_plain::plain_first;
 use reo_rows::fill;
-use reo_values::{Kindred, List, Value};
+use reo_values::{List, NoMemory, Value};
 use std::alloc::Global;
 use std::process::Abort;
 use std::test::Fail;
 
-/// A port where the items 0 to 9 are written, with 3 offered or nothing.
-pub fn writer(offered: bool) -> Kind {
-    let kindred = Kindred::Int(0, 9);
-    Kind::Writer(if offered {
-        WriterPort::offering(kindred, Value::Int(3))
-    } else {
-        WriterPort::new(kindred)
-    })
-}
+/// The joints of a channel, a filter or a map between a writer and a taker.
+pub const BETWEEN: [[usize; 4]; 2] = [[0, 0, 2, 0], [2, 1, 1, 0]];
 
-/// A port where the items 0 to 9 are written, with this one offered, or nothing.
-pub fn offering(item: Option<i64>) -> Kind {
-    let mut writer = Kind::Writer(WriterPort::new(Kindred::Int(0, 9)));
-    if let Some(number) = item {
-        if writer.fits(&Value::Int(number)) {
-            writer.place(Offer::Write(Value::Int(number)));
-        }
-    }
-    writer
-}
-
-/// A port where items are taken.
-pub fn taker(pending: bool) -> Kind {
-    Kind::Taker(TakerPort { pending })
-}
-
-pub fn merger() -> Kind {
-    Kind::Merger(Branches::new(2))
-}
-
-pub fn replicator(outputs: usize) -> Kind {
-    Kind::Replicator(if outputs == 3 {
-        Branches::new(3)
-    } else {
-        Branches::new(2)
-    })
-}
-
-/// The circuit of these primitives, the first of which are ports, or its fault. A joint is a giver's primitive and end,
-/// and then a taker's.
-pub fn made(
-    rt: &impl Abort,
-    alloc: Global,
-    primitives: Vec<Kind>,
-    ports: usize,
-    joints: &[[usize; 4]],
-) -> Result<Result<Circuit<Kind>, NetFault>, Fail> {
+/// The joints of these numbers: a giver's primitive and end, and then a taker's.
+fn joined(alloc: Global, joints: &[[usize; 4]]) -> Result<List<Joint>, NoMemory> {
     let mut list = List::new(alloc);
     for [giver, source, taker, sink] in joints {
         list.push(Joint {
@@ -69,33 +28,114 @@ pub fn made(
             },
         })?;
     }
-    let primitives = List::from_vec(primitives);
-    assert!(rt; are_parts(primitives.as_slice(), ports, list.as_slice()));
-    assert!(rt; primitives.len() < 100 && list.len() < 100);
-    Ok(Circuit::new(alloc, primitives, ports, list))
+    Ok(list)
+}
+
+/// The circuit of these pieces, the first of which are ports, or its fault.
+fn made(
+    rt: &impl Abort,
+    alloc: Global,
+    pieces: &[Piece],
+    ports: usize,
+    joints: &[[usize; 4]],
+) -> Result<Result<Circuit<Kind>, NetFault>, Fail> {
+    let joints = joined(alloc, joints)?;
+    let primitives = kinds(rt, alloc, pieces)?;
+    assert!(rt; are_parts(primitives.as_slice(), ports, joints.as_slice()));
+    assert!(rt; primitives.len() < 100 && joints.len() < 100);
+    Ok(Circuit::new(alloc, primitives, ports, joints))
+}
+
+/// Asserts that these pieces are no circuit, for this fault.
+pub fn fault_is(
+    rt: &impl Abort,
+    alloc: Global,
+    pieces: &[Piece],
+    joints: &[[usize; 4]],
+    want: NetFault,
+) -> Result<(), Fail> {
+    match made(rt, alloc, pieces, 2, joints)? {
+        Ok(_) => assert!(rt; false, "{want:?} is not seen"),
+        Err(fault) => assert_eq!(rt; fault, want),
+    }
+    Ok(())
 }
 
 /// The rows of the first colouring of a circuit in round 1.
-pub fn first_rows(
+fn first_rows(
     rt: &impl Abort,
     alloc: Global,
-    primitives: Vec<Kind>,
+    pieces: &[Piece],
     ports: usize,
     joints: &[[usize; 4]],
 ) -> Result<List<u32>, Fail> {
-    let circuit = made(rt, alloc, primitives, ports, joints)??;
+    let circuit = made(rt, alloc, pieces, ports, joints)??;
     Ok(plain_first(alloc, &circuit, 1)?.rows)
 }
 
-/// The items that the rows of the first colouring of a circuit determine, in round 1.
-pub fn filled_items(
+/// Asserts that these are the rows of the first colouring of a circuit in round 1.
+pub fn rows_are(
     rt: &impl Abort,
     alloc: Global,
-    primitives: Vec<Kind>,
+    pieces: &[Piece],
     ports: usize,
     joints: &[[usize; 4]],
+    want: &[u32],
+) -> Result<(), Fail> {
+    let rows = first_rows(rt, alloc, pieces, ports, joints)?;
+    assert_eq!(rt; rows.as_slice(), want);
+    Ok(())
+}
+
+/// Whether a joint's item is this number, or both are missing.
+fn is_number(item: &Option<Value>, want: Option<i64>) -> bool {
+    match (item, want) {
+        (Some(Value::Int(number)), Some(want)) => *number == want,
+        (None, None) => true,
+        _ => false,
+    }
+}
+
+/// The first colouring in round 1, with the items that its rows determine.
+fn filled(alloc: Global, circuit: &Circuit<Kind>) -> Result<Colouring, NoMemory> {
+    let first = plain_first(alloc, circuit, 1)?;
+    fill(alloc, circuit, first.rows)
+}
+
+/// The items that the rows of the first colouring of a circuit with two ports determine, in round 1.
+fn first_items(
+    rt: &impl Abort,
+    alloc: Global,
+    pieces: &[Piece],
+    joints: &[[usize; 4]],
 ) -> Result<List<Option<Value>>, Fail> {
-    let circuit = made(rt, alloc, primitives, ports, joints)??;
-    let first = plain_first(alloc, &circuit, 1)?;
-    Ok(fill(alloc, &circuit, first.rows)?.items)
+    let circuit = made(rt, alloc, pieces, 2, joints)??;
+    Ok(filled(alloc, &circuit)?.items)
+}
+
+/// Whether these are the numbers at the joints.
+fn are_numbers(items: &[Option<Value>], want: &[Option<i64>]) -> bool {
+    if items.len() != want.len() {
+        return false;
+    }
+    for index in 0..items.len() {
+        if !is_number(&items[index], want[index]) {
+            return false;
+        }
+    }
+    true
+}
+
+/// Asserts that these are the items that the rows of the first colouring of a circuit with two ports determine, in
+/// round 1.
+pub fn items_are(
+    rt: &impl Abort,
+    alloc: Global,
+    pieces: &[Piece],
+    joints: &[[usize; 4]],
+    want: &[Option<i64>],
+) -> Result<(), Fail> {
+    let items = first_items(rt, alloc, pieces, joints)?;
+    assert!(rt; are_numbers(items.as_slice(), want));
+    Ok(())
 }

@@ -4,6 +4,8 @@
 #[cfg(test)]
 mod circuits;
 #[cfg(test)]
+mod pieces;
+#[cfg(test)]
 mod refused;
 #[cfg(test)]
 mod row_lists;

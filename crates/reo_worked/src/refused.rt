@@ -1,7 +1,7 @@
 //! What is no circuit, and the first fault of it.
-use crate::circuits::{made, merger, replicator, taker, writer};
+use crate::circuits::fault_is;
+use crate::pieces::Piece::{Merger, Replicator, Sync, Taker, Writer};
 use reo_circuit::NetFault;
-use reo_kinds::Kind;
 use std::test::Fail;
 
 /// Joints between a writer, a taker and a channel, and the fault.
@@ -24,43 +24,52 @@ const CHANNELS: [(&[[usize; 4]], NetFault); 6] = [
 
 #[test]
 fn ends_and_ways_are_right_in_each_circuit(rt: HostRuntime) -> Result<(), Fail> {
-    let alloc = rt.alloc();
     for (joints, want) in CHANNELS {
-        let primitives = vec![in alloc; writer(true), taker(true), Kind::Sync]?;
-        match made(&rt, alloc, primitives, 2, joints)? {
-            Ok(_) => assert!(rt; false, "{want:?} is not seen"),
-            Err(fault) => assert_eq!(rt; fault, want),
-        }
+        fault_is(
+            &rt,
+            rt.alloc(),
+            &[Writer(true), Taker(true), Sync],
+            joints,
+            want,
+        )?;
     }
     Ok(())
 }
 
+/// Joints of two channels in a ring, beside a writer joined to a taker; and the taker joined to the writer.
+const RINGS: [([[usize; 4]; 3], NetFault); 2] = [
+    (
+        [[0, 0, 1, 0], [2, 1, 3, 0], [3, 1, 2, 0]],
+        NetFault::Cycle { joint: 1 },
+    ),
+    (
+        [[1, 0, 0, 0], [2, 1, 3, 0], [3, 1, 2, 0]],
+        NetFault::Way { joint: 0 },
+    ),
+];
+
 #[test]
-fn no_circuit_has_a_directed_cycle(rt: HostRuntime) -> Result<(), Fail> {
-    let alloc = rt.alloc();
-    // two channels in a ring, beside a writer joined to a taker; and the taker joined to the writer
-    for (joints, want) in [
-        (
-            [[0, 0, 1, 0], [2, 1, 3, 0], [3, 1, 2, 0]],
-            NetFault::Cycle { joint: 1 },
-        ),
-        (
-            [[1, 0, 0, 0], [2, 1, 3, 0], [3, 1, 2, 0]],
-            NetFault::Way { joint: 0 },
-        ),
-    ] {
-        let primitives = vec![in alloc; writer(true), taker(true), Kind::Sync, Kind::Sync]?;
-        match made(&rt, alloc, primitives, 2, &joints)? {
-            Ok(_) => assert!(rt; false, "{want:?} is not seen"),
-            Err(fault) => assert_eq!(rt; fault, want),
-        }
-    }
-    // from a merger to a replicator and back, with the writer before and the taker behind
-    let joints = [[0, 0, 2, 0], [3, 1, 1, 0], [3, 2, 2, 1], [2, 2, 3, 0]];
-    let primitives = vec![in alloc; writer(true), taker(true), merger(), replicator(2)]?;
-    match made(&rt, alloc, primitives, 2, &joints)? {
-        Ok(_) => assert!(rt; false, "the cycle is not seen"),
-        Err(fault) => assert_eq!(rt; fault, NetFault::Cycle { joint: 2 }),
+fn no_circuit_has_a_directed_cycle_of_channels(rt: HostRuntime) -> Result<(), Fail> {
+    for (joints, want) in RINGS {
+        fault_is(
+            &rt,
+            rt.alloc(),
+            &[Writer(true), Taker(true), Sync, Sync],
+            &joints,
+            want,
+        )?;
     }
     Ok(())
+}
+
+/// From a merger to a replicator and back, with the writer before and the taker behind.
+#[test]
+fn no_circuit_has_a_directed_cycle_through_nodes(rt: HostRuntime) -> Result<(), Fail> {
+    fault_is(
+        &rt,
+        rt.alloc(),
+        &[Writer(true), Taker(true), Merger(2), Replicator(2)],
+        &[[0, 0, 2, 0], [3, 1, 1, 0], [3, 2, 2, 1], [2, 2, 3, 0]],
+        NetFault::Cycle { joint: 2 },
+    )
 }

@@ -1,5 +1,7 @@
 //! All row lists of one channel and of two, and which of them suit the joints.
-use crate::circuits::{taker, writer};
+use crate::circuits::BETWEEN;
+use crate::pieces::Piece::{self, Taker, Writer};
+use crate::pieces::kinds;
 use reo_behaviour::{Mark, Primitive, marks_match};
 use reo_kinds::Kind;
 use std::test::Fail;
@@ -36,11 +38,26 @@ fn suit(giver: Option<Mark>, taker: Option<Mark>) -> bool {
     }
 }
 
-/// Whether the rows of a writer, a taker and the channel between them suit both joints.
-fn all_suit(writer: &Kind, taker: &Kind, rows: [usize; 3]) -> bool {
-    let [w, t, s] = rows;
-    suit(mark(writer, w, 0), mark(&Kind::Sync, s, 0))
-        && suit(mark(&Kind::Sync, s, 1), mark(taker, t, 0))
+/// The mark of an end of a primitive by its number, if there is one.
+fn mark_at(primitives: &[Kind], rows: &[usize], primitive: usize, end: usize) -> Option<Mark> {
+    match primitives.get(primitive) {
+        Some(found) => match rows.get(primitive) {
+            Some(row) => mark(found, *row, end),
+            None => None,
+        },
+        None => None,
+    }
+}
+
+/// Whether the rows of all primitives suit these joints.
+fn suit_joints(primitives: &[Kind], rows: &[usize], joints: &[[usize; 4]]) -> bool {
+    for [giver, source, taker, sink] in joints {
+        let given = mark_at(primitives, rows, *giver, *source);
+        if !suit(given, mark_at(primitives, rows, *taker, *sink)) {
+            return false;
+        }
+    }
+    true
 }
 
 /// Whether rows are in a list.
@@ -53,23 +70,43 @@ fn is_listed(list: &[[usize; 3]], rows: [usize; 3]) -> bool {
     false
 }
 
+/// The row list of one channel with this number, of 36.
+fn row_list(number: usize) -> [usize; 3] {
+    [number / 12, number / 4 % 3, number % 4]
+}
+
+/// Whether the listed row lists of one channel suit its joints, and no others.
+fn just_listed_suit(primitives: &[Kind], list: &[[usize; 3]]) -> bool {
+    for number in 0..36 {
+        let rows = row_list(number);
+        if suit_joints(primitives, &rows, &BETWEEN) != is_listed(list, rows) {
+            return false;
+        }
+    }
+    true
+}
+
+/// How many row lists one channel has.
+fn count_row_lists(primitives: &[Kind]) -> u32 {
+    let mut count: u32 = 0;
+    for number in 0..36 {
+        let rows = row_list(number);
+        let writer = mark_at(primitives, &rows, 0, 0);
+        let taker = mark_at(primitives, &rows, 1, 0);
+        if writer.is_some() && taker.is_some() {
+            count = count.wrapping_add(1);
+        }
+    }
+    count
+}
+
 #[test]
 fn the_row_lists_of_one_channel(rt: HostRuntime) -> Result<(), Fail> {
     for (offered, pending, count, colourings) in CASES {
-        let (writer, taker) = (writer(offered), taker(pending));
-        let mut seen: u32 = 0;
-        for w in 0..3 {
-            for t in 0..3 {
-                for s in 0..4 {
-                    let rows = [w, t, s];
-                    assert!(rt; all_suit(&writer, &taker, rows) == is_listed(colourings, rows));
-                    if mark(&writer, w, 0).is_some() && mark(&taker, t, 0).is_some() {
-                        seen = seen.wrapping_add(1);
-                    }
-                }
-            }
-        }
-        assert!(rt; seen == count);
+        let pieces = [Writer(offered), Taker(pending), Piece::Sync];
+        let primitives = kinds(&rt, rt.alloc(), &pieces)?;
+        assert!(rt; just_listed_suit(primitives.as_slice(), colourings));
+        assert!(rt; count_row_lists(primitives.as_slice()) == count);
     }
     Ok(())
 }
@@ -77,55 +114,33 @@ fn the_row_lists_of_one_channel(rt: HostRuntime) -> Result<(), Fail> {
 /// The joints of two channels between two writers and two takers: a giver's primitive and end, and then a taker's.
 const JOINTS: [[usize; 4]; 4] = [[0, 0, 4, 0], [4, 1, 1, 0], [2, 0, 5, 0], [5, 1, 3, 0]];
 
-/// The mark of an end of a primitive by its number, if there is one.
-fn mark_at(primitives: &[Kind], rows: &[usize], primitive: usize, end: usize) -> Option<Mark> {
-    match primitives.get(primitive) {
-        Some(found) => match rows.get(primitive) {
-            Some(row) => mark(found, *row, end),
-            None => None,
-        },
-        None => None,
-    }
-}
-
-/// Whether the rows of all primitives suit all joints.
-fn suit_joints(primitives: &[Kind], rows: &[usize]) -> bool {
-    for [giver, source, taker, sink] in JOINTS {
-        let given = mark_at(primitives, rows, giver, source);
-        if !suit(given, mark_at(primitives, rows, taker, sink)) {
+/// Whether the row lists of two channels suit their joints just where that of each channel is listed.
+fn just_pairs_suit(primitives: &[Kind], first: &[[usize; 3]], second: &[[usize; 3]]) -> bool {
+    for number in 0..36 * 36 {
+        let [w, t, s] = row_list(number / 36);
+        let [x, u, z] = row_list(number % 36);
+        let listed = is_listed(first, [w, t, s]) && is_listed(second, [x, u, z]);
+        if suit_joints(primitives, &[w, t, x, u, s, z], &JOINTS) != listed {
             return false;
         }
     }
     true
 }
 
-/// The row list of one channel with this number, of 36.
-fn row_list(number: usize) -> [usize; 3] {
-    [number / 12, number / 4 % 3, number % 4]
-}
-
 #[test]
 fn the_row_lists_of_two_channels(rt: HostRuntime) -> Result<(), Fail> {
-    let alloc = rt.alloc();
     for (a, b, _, first) in CASES {
         for (c, d, _, second) in CASES {
-            let primitives = vec![in alloc;
-                writer(a),
-                taker(b),
-                writer(c),
-                taker(d),
-                Kind::Sync,
-                Kind::Sync,
-            ]?;
-            for one in 0..36 {
-                for other in 0..36 {
-                    let [w, t, s] = row_list(one);
-                    let [x, u, z] = row_list(other);
-                    let listed = is_listed(first, [w, t, s]) && is_listed(second, [x, u, z]);
-                    let suits = suit_joints(primitives.as_slice(), &[w, t, x, u, s, z]);
-                    assert!(rt; suits == listed);
-                }
-            }
+            let pieces = [
+                Writer(a),
+                Taker(b),
+                Writer(c),
+                Taker(d),
+                Piece::Sync,
+                Piece::Sync,
+            ];
+            let primitives = kinds(&rt, rt.alloc(), &pieces)?;
+            assert!(rt; just_pairs_suit(primitives.as_slice(), first, second));
         }
     }
     Ok(())

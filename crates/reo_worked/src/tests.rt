@@ -1,7 +1,6 @@
 //! The first colourings of worked circuits.
-use crate::circuits::{filled_items, first_rows, merger, replicator, taker, writer};
-use reo_kinds::Kind;
-use reo_values::Value;
+use crate::circuits::{BETWEEN, items_are, rows_are};
+use crate::pieces::Piece::{Lossy, Merger, Replicator, Sync, SyncDrain, Taker, Writer};
 use std::test::Fail;
 
 /// One channel. Rows of the writer, the taker and the channel: F R J or G J for a port, FF RG GR JJ for the channel.
@@ -17,94 +16,77 @@ const ONE: [(bool, bool, [u32; 3]); 4] = [
 
 #[test]
 fn one_channel_flows_where_both_offer(rt: HostRuntime) -> Result<(), Fail> {
-    let alloc = rt.alloc();
     for (offered, pending, want) in ONE {
-        let primitives = vec![in alloc; writer(offered), taker(pending), Kind::Sync]?;
-        let rows = first_rows(&rt, alloc, primitives, 2, &[[0, 0, 2, 0], [2, 1, 1, 0]])?;
-        assert_eq!(rt; rows.as_slice(), want.as_slice());
+        let pieces = [Writer(offered), Taker(pending), Sync];
+        rows_are(&rt, rt.alloc(), &pieces, 2, &BETWEEN, &want)?;
     }
     Ok(())
 }
 
-/// Whether an item is the number 3.
-fn is_three(item: &Option<Value>) -> bool {
-    match item {
-        Some(Value::Int(number)) => *number == 3,
-        _ => false,
-    }
-}
-
 #[test]
 fn an_item_stands_at_each_joint_that_flows(rt: HostRuntime) -> Result<(), Fail> {
-    let alloc = rt.alloc();
-    for (offered, pending, [flows, _, _]) in ONE {
-        let primitives = vec![in alloc; writer(offered), taker(pending), Kind::Sync]?;
-        let items = filled_items(&rt, alloc, primitives, 2, &[[0, 0, 2, 0], [2, 1, 1, 0]])?;
-        assert!(rt; items.len() == 2);
-        for item in items.as_slice() {
-            assert!(rt; is_three(item) == (offered && pending && flows == 0));
-        }
+    for (offered, pending, item) in [
+        (true, true, Some(3)),
+        (true, false, None),
+        (false, true, None),
+        (false, false, None),
+    ] {
+        let pieces = [Writer(offered), Taker(pending), Sync];
+        items_are(&rt, rt.alloc(), &pieces, &BETWEEN, &[item, item])?;
     }
     Ok(())
 }
 
 #[test]
 fn two_channels_are_two_parts(rt: HostRuntime) -> Result<(), Fail> {
-    let alloc = rt.alloc();
     let joints = [[0, 0, 4, 0], [4, 1, 1, 0], [2, 0, 5, 0], [5, 1, 3, 0]];
     for (a, b, [w, t, s]) in ONE {
         for (c, d, [x, u, z]) in ONE {
-            let primitives = vec![in alloc;
-                writer(a),
-                taker(b),
-                writer(c),
-                taker(d),
-                Kind::Sync,
-                Kind::Sync,
-            ]?;
-            let rows = first_rows(&rt, alloc, primitives, 4, &joints)?;
-            assert_eq!(rt; rows.as_slice(), [w, t, x, u, s, z].as_slice());
+            let pieces = [Writer(a), Taker(b), Writer(c), Taker(d), Sync, Sync];
+            rows_are(&rt, rt.alloc(), &pieces, 4, &joints, &[w, t, x, u, s, z])?;
         }
     }
     Ok(())
 }
 
-/// Two channels from a replicator to a merger, which takes from one of them, beside a part of one channel. Rows of the
-/// first part: the writer, the taker, the channels, the replicator and the merger.
+/// The joints of two channels from a replicator to a merger, which takes from one of them, beside a part of one channel.
+const TWO_PARTS: [[usize; 4]; 8] = [
+    [0, 0, 7, 0],
+    [7, 1, 4, 0],
+    [7, 2, 5, 0],
+    [4, 1, 8, 0],
+    [5, 1, 8, 1],
+    [8, 2, 1, 0],
+    [2, 0, 6, 0],
+    [6, 1, 3, 0],
+];
+
+/// Rows of the first part: the writer, the taker, the channels, the replicator and the merger.
+const JAMMED: [(bool, bool, [u32; 6]); 4] = [
+    // all outputs of the replicator flow, and one input of the merger
+    (true, true, [2, 2, 3, 3, 4, 4]),
+    (true, false, [1, 0, 1, 2, 3, 2]),
+    (false, true, [0, 1, 1, 1, 1, 3]),
+    (false, false, [0, 0, 1, 1, 1, 2]),
+];
+
 #[test]
 fn a_jam_stays_in_its_part(rt: HostRuntime) -> Result<(), Fail> {
-    let alloc = rt.alloc();
-    let joints = [
-        [0, 0, 7, 0],
-        [7, 1, 4, 0],
-        [7, 2, 5, 0],
-        [4, 1, 8, 0],
-        [5, 1, 8, 1],
-        [8, 2, 1, 0],
-        [2, 0, 6, 0],
-        [6, 1, 3, 0],
-    ];
-    for (a, b, [w, t, s, z, r, m]) in [
-        // all outputs of the replicator flow, and one input of the merger
-        (true, true, [2, 2, 3, 3, 4, 4]),
-        (true, false, [1, 0, 1, 2, 3, 2]),
-        (false, true, [0, 1, 1, 1, 1, 3]),
-        (false, false, [0, 0, 1, 1, 1, 2]),
-    ] {
+    for (a, b, [w, t, s, z, r, m]) in JAMMED {
         for (c, d, [x, u, y]) in ONE {
-            let primitives = vec![in alloc;
-                writer(a),
-                taker(b),
-                writer(c),
-                taker(d),
-                Kind::Sync,
-                Kind::Sync,
-                Kind::Sync,
-                replicator(2),
-                merger(),
-            ]?;
-            let rows = first_rows(&rt, alloc, primitives, 4, &joints)?;
-            assert_eq!(rt; rows.as_slice(), [w, t, x, u, s, z, y, r, m].as_slice());
+            let pieces = [
+                Writer(a),
+                Taker(b),
+                Writer(c),
+                Taker(d),
+                Sync,
+                Sync,
+                Sync,
+                Replicator(2),
+                Merger(2),
+            ];
+            let want = [w, t, x, u, s, z, y, r, m];
+            rows_are(&rt, rt.alloc(), &pieces, 4, &TWO_PARTS, &want)?;
         }
     }
     Ok(())
@@ -114,23 +96,22 @@ fn a_jam_stays_in_its_part(rt: HostRuntime) -> Result<(), Fail> {
 /// written goes to exactly one of the two takers.
 #[test]
 fn an_exclusive_router_takes_one_way(rt: HostRuntime) -> Result<(), Fail> {
-    let alloc = rt.alloc();
-    let primitives = vec![in alloc;
-        writer(true),
-        taker(true),
-        taker(true),
-        Kind::Lossy,
-        Kind::Lossy,
-        Kind::Sync,
-        Kind::Sync,
-        Kind::Sync,
-        Kind::Sync,
-        Kind::SyncDrain,
-        replicator(3),
-        replicator(2),
-        replicator(2),
-        merger(),
-    ]?;
+    let pieces = [
+        Writer(true),
+        Taker(true),
+        Taker(true),
+        Lossy,
+        Lossy,
+        Sync,
+        Sync,
+        Sync,
+        Sync,
+        SyncDrain,
+        Replicator(3),
+        Replicator(2),
+        Replicator(2),
+        Merger(2),
+    ];
     let joints = [
         [0, 0, 10, 0],
         [10, 1, 3, 0],
@@ -148,10 +129,6 @@ fn an_exclusive_router_takes_one_way(rt: HostRuntime) -> Result<(), Fail> {
         [8, 1, 13, 1],
         [13, 2, 9, 1],
     ];
-    let rows = first_rows(&rt, alloc, primitives, 3, &joints)?;
-    assert_eq!(rt;
-        rows.as_slice(),
-        [0, 0, 1, 0, 1, 0, 0, 1, 2, 0, 0, 0, 3, 0].as_slice()
-    );
-    Ok(())
+    let want = [0, 0, 1, 0, 1, 0, 0, 1, 2, 0, 0, 0, 3, 0];
+    rows_are(&rt, rt.alloc(), &pieces, 3, &joints, &want)
 }
