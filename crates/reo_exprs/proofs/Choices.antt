@@ -15,7 +15,7 @@ use Rattle.reo_exprs.specs.declared.interval.Interval.{Interval}
 use Rattle.reo_exprs.specs.Interval.{is_near, is_near_interval, near, arithmetic}
 use Rattle.reo_exprs.specs.Kinds.{kind_of, joins, join_of, is_within, is_bool, interval_of}
 use Rattle.reo_exprs.specs.Typing.{provided, within, int_type, may_stand_right, numbers_within, binary_kind, binary_within, if_kind, if_within}
-use Rattle.reo_exprs.proofs.InType.{is_number}
+use Rattle.reo_exprs.proofs.Shapes.{is_number}
 use Rattle.reo_exprs.proofs.Near.{near_bounds, near_from}
 use Rattle.reo_exprs.proofs.Options.{from_both}
 use Rattle.reo_exprs.proofs.Twinned.{kind_of-Pair, within-Pair, Twins_of-equal}

@@ -1,24 +1,20 @@
--- The value of an expression is of its type, and its numbers are near.
-use Rattle.std.proofs.Common.{ℕ, ℤ, pos, neg_ℤ, ◌+ℤ◌, ◌-ℤ◌, ◌*ℤ◌, Bool, true, false, not, ◌&&◌, ◌||◌, ◌≡◌, ◌<◌, ◌≤◌, ◌∙◌, length, Some, ap, sym, subst, refl, arith}
-use Rattle.std.specs.Prelude.{◌≤ℤ◌, option_and_then, option_map, if◌then◌else◌, int_lt, int_le, int_div, int_rem}
-use Rattle.std.specs.List.{All}
+-- The value of an expression is of its type, and its number is near.
+use Rattle.std.proofs.Common.{ℕ, ℤ, pos, neg_ℤ, ◌+ℤ◌, ◌-ℤ◌, ◌*ℤ◌, Bool, true, false, not, ◌&&◌, ◌||◌, ◌≡◌, ◌≤◌, ◌∙◌, length, Some, ap, sym, subst, arith}
+use Rattle.std.specs.Prelude.{◌≤ℤ◌, option_and_then, if◌then◌else◌, int_lt, int_le, int_div, int_rem}
 use Rattle.std.proofs.lemmas.Int.{ints}
 use denote.Hole.Carrier.{hidden}
 use Rattle.reo_values.specs.declared.value.Value as value
 use Rattle.reo_values.specs.declared.value.Value.{Value}
 use Rattle.reo_values.specs.declared.value.Value.TheVariants as values
-use Rattle.reo_values.specs.declared.value.Value.TheBlock.{hidden-the_row-Couple-0}
 use Rattle.reo_values.specs.declared.value.Couple.{Couple}
-use Rattle.reo_values.specs.declared.kindred.Kindred as kindred
 use Rattle.reo_values.specs.declared.kindred.Kindred.{Kindred}
 use Rattle.reo_values.specs.declared.kindred.Kindred.TheVariants as kinds
-use Rattle.reo_values.specs.declared.kindred.Kindred.TheBlock.{hidden-the_row-Twins-0}
 use Rattle.reo_values.specs.declared.kindred.Twins.{Twins}
 use Rattle.reo_values.specs.declared.operator.Unary.TheVariants as unary
 use Rattle.reo_values.specs.declared.operator.Unary.{Unary}
 use Rattle.reo_values.specs.declared.operator.Binary.TheVariants as binary
 use Rattle.reo_values.specs.declared.operator.Binary.{Binary}
-use Rattle.reo_values.specs.Kind.{IsIn, IsPlain}
+use Rattle.reo_values.specs.Kind.{IsIn}
 use Rattle.reo_values.specs.Pair.{left_of, right_of}
 use Rattle.reo_values.proofs.Pairs.{left_of-Pair, right_of-Pair}
 use Rattle.reo_exprs.specs.declared.expr.Expr as expr
@@ -26,246 +22,19 @@ use Rattle.reo_exprs.specs.declared.expr.Expr.{Expr}
 use Rattle.reo_exprs.specs.declared.expr.Expr.TheBlock.{hidden-the_row-Expr-0, hidden-the_row-ExprPair-1, hidden-the_row-ExprTriple-2}
 use Rattle.reo_exprs.specs.declared.interval.Interval.{Interval}
 use Rattle.reo_exprs.specs.Interval.{is_near, negated, sum, difference, product, quotient, remainder}
-use Rattle.reo_exprs.specs.Kinds.{joins, join_of, LiesInside, is_within, is_bool, interval_of, most_of, twins_of}
+use Rattle.reo_exprs.specs.Kinds.{joins, join_of, is_bool, interval_of, most_of, twins_of}
 use Rattle.reo_exprs.specs.Sound.{IsSound}
 use Rattle.reo_exprs.specs.Typing.{within, int_type, on_numbers, is_positive, may_stand_right, unary_type, binary_type, if_type, unary_within, binary_within, if_within, type_of_expr}
 use Rattle.reo_exprs.specs.Valued.{truth, same_value, number, bytes_of, unary_value, binary_value, value_of_expr}
 use Rattle.reo_exprs.proofs.Corners.{product_has, quotient_has, remainder_has}
 use Rattle.reo_exprs.proofs.Joined.{left_inside, right_inside}
 use Rattle.reo_exprs.proofs.Options.{some_same, from_and_then, from_map, from_provided, from_if, from_both, from_within}
-
--- the item is of the type; that its names are the type's and its texts printable is said where S holds
-abbrev pub Lies : Type 0 → Value → Kindred → Type 0
-Lies S value.Unit kindred.Unit = Unit {0}
-Lies S (value.Bool b) kindred.Bool = Unit {0}
-Lies S (value.Int z) (kindred.Int low high) = (low ≤ℤ z) × (z ≤ℤ high)
-Lies S (value.Sym k) (kindred.Sym names) = S → k < length names
-Lies S (value.Text bytes) (kindred.Text most) = (length bytes ≤ most) × (S → All IsPlain bytes)
-Lies S (value.Pair' m (value.more_of-Couple x y _)) (kindred.Pair' n (kindred.more_of-Twins a b _)) = Lies S x a × Lies S y b
-Lies S _ _ = ⊥
-
--- a type with an interval is one of numbers, and so on
-pub is_number : (k : Kindred) (x : Interval) → interval_of k ≡ Some x → k ≡ int_type x
-is_number kindred.Unit x e = absurd (cc)
-is_number kindred.Bool x e = absurd (cc)
-is_number (kindred.Int a b) x e = ap int_type (some_same (record { low = a; high = b }) x e)
-is_number (kindred.Sym names) x e = absurd (cc)
-is_number (kindred.Text most) x e = absurd (cc)
-is_number (kindred.Pair' n (kindred.more_of-Twins a b kindred.end_of-Twins)) x e = absurd (cc)
-
-is_text : (k : Kindred) (n : ℕ) → most_of k ≡ Some n → k ≡ kinds.Text n
-is_text kindred.Unit j e = absurd (cc)
-is_text kindred.Bool j e = absurd (cc)
-is_text (kindred.Int a b) j e = absurd (cc)
-is_text (kindred.Sym names) j e = absurd (cc)
-is_text (kindred.Text most) j e = ap kinds.Text (some_same most j e)
-is_text (kindred.Pair' n (kindred.more_of-Twins a b kindred.end_of-Twins)) j e = absurd (cc)
-
-pub is_pair : (k : Kindred) (t : Twins) → twins_of k ≡ Some t → k ≡ kinds.Pair t
-unfolding hidden-the_row-Twins-0 hidden
-is_pair kindred.Unit t e = absurd (cc)
-is_pair kindred.Bool t e = absurd (cc)
-is_pair (kindred.Int a b) t e = absurd (cc)
-is_pair (kindred.Sym names) t e = absurd (cc)
-is_pair (kindred.Text most) t e = absurd (cc)
-is_pair (kindred.Pair' n (kindred.more_of-Twins a b kindred.end_of-Twins)) t e = ap kinds.Pair (some_same (record { left = a; right = b }) t e)
-
--- the intervals of the type of an expression are near
-pub type_near : (e : Expr) (of t : Kindred) → type_of_expr e of ≡ Some t → is_within t ≡ true
-unfolding hidden-the_row-Expr-0 hidden-the_row-ExprPair-1 hidden-the_row-ExprTriple-2 hidden
-type_near expr.It of t e = (from_within of t e).0
-type_near expr.Unit of t e = sym (ap is_within (some_same kinds.Unit t e))
-type_near (expr.Bool b) of t e = sym (ap is_within (some_same kinds.Bool t e))
-type_near (expr.Int n) of t e = (from_within (kinds.Int n n) t e).0
-type_near (expr.Text bytes) of t e = sym (ap is_within (from_provided _ (kinds.Text (length bytes)) t e).1)
-type_near (expr.Sym names k) of t e = sym (ap is_within (some_same (kinds.Sym names) t e))
-type_near (expr.One' op m' (expr.more_of-Expr x _)) of t e =
-    let h = from_and_then (λ a. unary_within op a) (type_of_expr x of) t e in
-    let g = from_and_then within (unary_type op h.0) t h.2 in
-    (from_within g.0 t g.2).0
-type_near (expr.Two' op m' (expr.more_of-ExprPair x y _)) of t e =
-    let h = from_and_then (λ a. option_and_then (λ b. binary_within op a b) (type_of_expr y of)) (type_of_expr x of) t e in
-    let g = from_and_then (λ b. binary_within op h.0 b) (type_of_expr y of) t h.2 in
-    let i = from_if (may_stand_right op g.0) (option_and_then within (binary_type op h.0 g.0)) t g.2 in
-    let j = from_and_then within (binary_type op h.0 g.0) t i.1 in
-    (from_within j.0 t j.2).0
-type_near (expr.If' m' (expr.more_of-ExprTriple c x y _)) of t e =
-    let f = from_and_then (λ a. option_and_then (λ b. option_and_then (λ d. if_within a b d) (type_of_expr y of)) (type_of_expr x of)) (type_of_expr c of) t e in
-    let h = from_and_then (λ b. option_and_then (λ d. if_within f.0 b d) (type_of_expr y of)) (type_of_expr x of) t f.2 in
-    let g = from_and_then (λ d. if_within f.0 h.0 d) (type_of_expr y of) t h.2 in
-    let j = from_and_then within (if_type f.0 h.0 g.0) t g.2 in
-    (from_within j.0 t j.2).0
-
-near_between : (a z b : ℤ) → a ≤ℤ z → z ≤ℤ b → is_near a ≡ true → is_near b ≡ true → is_near z ≡ true
-near_between a z b h g e f = grind (arith, ints)
-
--- the intervals of two types of numbers
-pub from_numbers : (f : Interval → Interval → Kindred) (a b t : Kindred) → on_numbers f a b ≡ Some t → (x : Interval) × (y : Interval) × (a ≡ int_type x) × (b ≡ int_type y) × (f x y ≡ t)
-from_numbers f a b t e =
-    let h = from_and_then (λ x. option_map (λ y. f x y) (interval_of b)) (interval_of a) t e in
-    let g = from_map (λ y. f h.0 y) (interval_of b) t h.2 in
-    (h.0, g.0, is_number a h.0 h.1, is_number b g.0 g.1, g.2)
+use Rattle.reo_exprs.proofs.Shapes.{is_number, is_text, is_pair, from_numbers}
+use Rattle.reo_exprs.proofs.Lies.{Lies, lies_in, in_lies, Lies-Pair, pair_lies, lies_inside}
+use Rattle.reo_exprs.proofs.NearType.{type_near, number_near}
 
 module _ (S : Type 0) where
-  pub lies_in : (v : Value) (t : Kindred) → IsIn v t → Lies S v t
-  lies_in value.Unit kindred.Unit h = h
-  lies_in value.Unit kindred.Bool h = absurd h
-  lies_in value.Unit (kindred.Int a b) h = absurd h
-  lies_in value.Unit (kindred.Sym names) h = absurd h
-  lies_in value.Unit (kindred.Text most) h = absurd h
-  lies_in value.Unit (kindred.Pair' n (kindred.more_of-Twins a b kindred.end_of-Twins)) h = absurd h
-  lies_in (value.Bool q) kindred.Unit h = absurd h
-  lies_in (value.Bool q) kindred.Bool h = h
-  lies_in (value.Bool q) (kindred.Int a b) h = absurd h
-  lies_in (value.Bool q) (kindred.Sym names) h = absurd h
-  lies_in (value.Bool q) (kindred.Text most) h = absurd h
-  lies_in (value.Bool q) (kindred.Pair' n (kindred.more_of-Twins a b kindred.end_of-Twins)) h = absurd h
-  lies_in (value.Int z) kindred.Unit h = absurd h
-  lies_in (value.Int z) kindred.Bool h = absurd h
-  lies_in (value.Int z) (kindred.Int a b) h = h
-  lies_in (value.Int z) (kindred.Sym names) h = absurd h
-  lies_in (value.Int z) (kindred.Text most) h = absurd h
-  lies_in (value.Int z) (kindred.Pair' n (kindred.more_of-Twins a b kindred.end_of-Twins)) h = absurd h
-  lies_in (value.Sym k) kindred.Unit h = absurd h
-  lies_in (value.Sym k) kindred.Bool h = absurd h
-  lies_in (value.Sym k) (kindred.Int a b) h = absurd h
-  lies_in (value.Sym k) (kindred.Sym names) h = (λ p. h)
-  lies_in (value.Sym k) (kindred.Text most) h = absurd h
-  lies_in (value.Sym k) (kindred.Pair' n (kindred.more_of-Twins a b kindred.end_of-Twins)) h = absurd h
-  lies_in (value.Text bytes) kindred.Unit h = absurd h
-  lies_in (value.Text bytes) kindred.Bool h = absurd h
-  lies_in (value.Text bytes) (kindred.Int a b) h = absurd h
-  lies_in (value.Text bytes) (kindred.Sym names) h = absurd h
-  lies_in (value.Text bytes) (kindred.Text most) h = (h.0, λ p. h.1)
-  lies_in (value.Text bytes) (kindred.Pair' n (kindred.more_of-Twins a b kindred.end_of-Twins)) h = absurd h
-  lies_in (value.Pair' m (value.more_of-Couple x y value.end_of-Couple)) kindred.Unit h = absurd h
-  lies_in (value.Pair' m (value.more_of-Couple x y value.end_of-Couple)) kindred.Bool h = absurd h
-  lies_in (value.Pair' m (value.more_of-Couple x y value.end_of-Couple)) (kindred.Int a b) h = absurd h
-  lies_in (value.Pair' m (value.more_of-Couple x y value.end_of-Couple)) (kindred.Sym names) h = absurd h
-  lies_in (value.Pair' m (value.more_of-Couple x y value.end_of-Couple)) (kindred.Text most) h = absurd h
-  lies_in (value.Pair' m (value.more_of-Couple x y value.end_of-Couple)) (kindred.Pair' n (kindred.more_of-Twins a b kindred.end_of-Twins)) h = (lies_in x a h.0, lies_in y b h.1)
-
-  pub in_lies : S → (v : Value) (t : Kindred) → Lies S v t → IsIn v t
-  in_lies p value.Unit kindred.Unit h = h
-  in_lies p value.Unit kindred.Bool h = absurd h
-  in_lies p value.Unit (kindred.Int a b) h = absurd h
-  in_lies p value.Unit (kindred.Sym names) h = absurd h
-  in_lies p value.Unit (kindred.Text most) h = absurd h
-  in_lies p value.Unit (kindred.Pair' n (kindred.more_of-Twins a b kindred.end_of-Twins)) h = absurd h
-  in_lies p (value.Bool q) kindred.Unit h = absurd h
-  in_lies p (value.Bool q) kindred.Bool h = h
-  in_lies p (value.Bool q) (kindred.Int a b) h = absurd h
-  in_lies p (value.Bool q) (kindred.Sym names) h = absurd h
-  in_lies p (value.Bool q) (kindred.Text most) h = absurd h
-  in_lies p (value.Bool q) (kindred.Pair' n (kindred.more_of-Twins a b kindred.end_of-Twins)) h = absurd h
-  in_lies p (value.Int z) kindred.Unit h = absurd h
-  in_lies p (value.Int z) kindred.Bool h = absurd h
-  in_lies p (value.Int z) (kindred.Int a b) h = h
-  in_lies p (value.Int z) (kindred.Sym names) h = absurd h
-  in_lies p (value.Int z) (kindred.Text most) h = absurd h
-  in_lies p (value.Int z) (kindred.Pair' n (kindred.more_of-Twins a b kindred.end_of-Twins)) h = absurd h
-  in_lies p (value.Sym k) kindred.Unit h = absurd h
-  in_lies p (value.Sym k) kindred.Bool h = absurd h
-  in_lies p (value.Sym k) (kindred.Int a b) h = absurd h
-  in_lies p (value.Sym k) (kindred.Sym names) h = h p
-  in_lies p (value.Sym k) (kindred.Text most) h = absurd h
-  in_lies p (value.Sym k) (kindred.Pair' n (kindred.more_of-Twins a b kindred.end_of-Twins)) h = absurd h
-  in_lies p (value.Text bytes) kindred.Unit h = absurd h
-  in_lies p (value.Text bytes) kindred.Bool h = absurd h
-  in_lies p (value.Text bytes) (kindred.Int a b) h = absurd h
-  in_lies p (value.Text bytes) (kindred.Sym names) h = absurd h
-  in_lies p (value.Text bytes) (kindred.Text most) h = (h.0, h.1 p)
-  in_lies p (value.Text bytes) (kindred.Pair' n (kindred.more_of-Twins a b kindred.end_of-Twins)) h = absurd h
-  in_lies p (value.Pair' m (value.more_of-Couple x y value.end_of-Couple)) kindred.Unit h = absurd h
-  in_lies p (value.Pair' m (value.more_of-Couple x y value.end_of-Couple)) kindred.Bool h = absurd h
-  in_lies p (value.Pair' m (value.more_of-Couple x y value.end_of-Couple)) (kindred.Int a b) h = absurd h
-  in_lies p (value.Pair' m (value.more_of-Couple x y value.end_of-Couple)) (kindred.Sym names) h = absurd h
-  in_lies p (value.Pair' m (value.more_of-Couple x y value.end_of-Couple)) (kindred.Text most) h = absurd h
-  in_lies p (value.Pair' m (value.more_of-Couple x y value.end_of-Couple)) (kindred.Pair' n (kindred.more_of-Twins a b kindred.end_of-Twins)) h = (in_lies p x a h.0, in_lies p y b h.1)
-
-  Lies-Pair : (x : Couple) (y : Twins) → Lies S (values.Pair x) (kinds.Pair y) ≡ (Lies S x.left y.left × Lies S x.right y.right)
-  unfolding hidden-the_row-Couple-0 hidden hidden-the_row-Twins-0
-  Lies-Pair x y = refl
-
-  pair_lies : (y : Twins) (v : Value) → Lies S v (kinds.Pair y) → (x : Couple) × (v ≡ values.Pair x) × Lies S x.left y.left × Lies S x.right y.right
-  unfolding hidden-the_row-Couple-0 hidden hidden-the_row-Twins-0
-  pair_lies y value.Unit h = absurd h
-  pair_lies y (value.Bool b) h = absurd h
-  pair_lies y (value.Int z) h = absurd h
-  pair_lies y (value.Sym k) h = absurd h
-  pair_lies y (value.Text bytes) h = absurd h
-  pair_lies y (value.Pair' m (value.more_of-Couple l r value.end_of-Couple)) h = (record { left = l; right = r }, refl, h.0, h.1)
-
-  -- an item of a type is of each type that this lies inside
-  pub lies_inside : (s t : Kindred) (v : Value) → LiesInside s t → Lies S v s → Lies S v t
-  lies_inside kindred.Unit kindred.Unit value.Unit l h = h
-  lies_inside kindred.Unit kindred.Unit (value.Bool q) l h = absurd h
-  lies_inside kindred.Unit kindred.Unit (value.Int z) l h = absurd h
-  lies_inside kindred.Unit kindred.Unit (value.Sym k) l h = absurd h
-  lies_inside kindred.Unit kindred.Unit (value.Text bytes) l h = absurd h
-  lies_inside kindred.Unit kindred.Unit (value.Pair' m (value.more_of-Couple x y value.end_of-Couple)) l h = absurd h
-  lies_inside kindred.Unit kindred.Bool v l h = absurd l
-  lies_inside kindred.Unit (kindred.Int c d) v l h = absurd l
-  lies_inside kindred.Unit (kindred.Sym names2) v l h = absurd l
-  lies_inside kindred.Unit (kindred.Text most2) v l h = absurd l
-  lies_inside kindred.Unit (kindred.Pair' j (kindred.more_of-Twins c d kindred.end_of-Twins)) v l h = absurd l
-  lies_inside kindred.Bool kindred.Unit v l h = absurd l
-  lies_inside kindred.Bool kindred.Bool value.Unit l h = absurd h
-  lies_inside kindred.Bool kindred.Bool (value.Bool q) l h = h
-  lies_inside kindred.Bool kindred.Bool (value.Int z) l h = absurd h
-  lies_inside kindred.Bool kindred.Bool (value.Sym k) l h = absurd h
-  lies_inside kindred.Bool kindred.Bool (value.Text bytes) l h = absurd h
-  lies_inside kindred.Bool kindred.Bool (value.Pair' m (value.more_of-Couple x y value.end_of-Couple)) l h = absurd h
-  lies_inside kindred.Bool (kindred.Int c d) v l h = absurd l
-  lies_inside kindred.Bool (kindred.Sym names2) v l h = absurd l
-  lies_inside kindred.Bool (kindred.Text most2) v l h = absurd l
-  lies_inside kindred.Bool (kindred.Pair' j (kindred.more_of-Twins c d kindred.end_of-Twins)) v l h = absurd l
-  lies_inside (kindred.Int a b) kindred.Unit v l h = absurd l
-  lies_inside (kindred.Int a b) kindred.Bool v l h = absurd l
-  lies_inside (kindred.Int a b) (kindred.Int c d) value.Unit l h = absurd h
-  lies_inside (kindred.Int a b) (kindred.Int c d) (value.Bool q) l h = absurd h
-  lies_inside (kindred.Int a b) (kindred.Int c d) (value.Int z) l h = (omega (arith, ints), omega (arith, ints))
-  lies_inside (kindred.Int a b) (kindred.Int c d) (value.Sym k) l h = absurd h
-  lies_inside (kindred.Int a b) (kindred.Int c d) (value.Text bytes) l h = absurd h
-  lies_inside (kindred.Int a b) (kindred.Int c d) (value.Pair' m (value.more_of-Couple x y value.end_of-Couple)) l h = absurd h
-  lies_inside (kindred.Int a b) (kindred.Sym names2) v l h = absurd l
-  lies_inside (kindred.Int a b) (kindred.Text most2) v l h = absurd l
-  lies_inside (kindred.Int a b) (kindred.Pair' j (kindred.more_of-Twins c d kindred.end_of-Twins)) v l h = absurd l
-  lies_inside (kindred.Sym names) kindred.Unit v l h = absurd l
-  lies_inside (kindred.Sym names) kindred.Bool v l h = absurd l
-  lies_inside (kindred.Sym names) (kindred.Int c d) v l h = absurd l
-  lies_inside (kindred.Sym names) (kindred.Sym names2) value.Unit l h = absurd h
-  lies_inside (kindred.Sym names) (kindred.Sym names2) (value.Bool q) l h = absurd h
-  lies_inside (kindred.Sym names) (kindred.Sym names2) (value.Int z) l h = absurd h
-  lies_inside (kindred.Sym names) (kindred.Sym names2) (value.Sym k) l h = λ p. subst (λ o. k < length o) l (h p)
-  lies_inside (kindred.Sym names) (kindred.Sym names2) (value.Text bytes) l h = absurd h
-  lies_inside (kindred.Sym names) (kindred.Sym names2) (value.Pair' m (value.more_of-Couple x y value.end_of-Couple)) l h = absurd h
-  lies_inside (kindred.Sym names) (kindred.Text most2) v l h = absurd l
-  lies_inside (kindred.Sym names) (kindred.Pair' j (kindred.more_of-Twins c d kindred.end_of-Twins)) v l h = absurd l
-  lies_inside (kindred.Text most) kindred.Unit v l h = absurd l
-  lies_inside (kindred.Text most) kindred.Bool v l h = absurd l
-  lies_inside (kindred.Text most) (kindred.Int c d) v l h = absurd l
-  lies_inside (kindred.Text most) (kindred.Sym names2) v l h = absurd l
-  lies_inside (kindred.Text most) (kindred.Text most2) value.Unit l h = absurd h
-  lies_inside (kindred.Text most) (kindred.Text most2) (value.Bool q) l h = absurd h
-  lies_inside (kindred.Text most) (kindred.Text most2) (value.Int z) l h = absurd h
-  lies_inside (kindred.Text most) (kindred.Text most2) (value.Sym k) l h = absurd h
-  lies_inside (kindred.Text most) (kindred.Text most2) (value.Text bytes) l h = (omega arith, h.1)
-  lies_inside (kindred.Text most) (kindred.Text most2) (value.Pair' m (value.more_of-Couple x y value.end_of-Couple)) l h = absurd h
-  lies_inside (kindred.Text most) (kindred.Pair' j (kindred.more_of-Twins c d kindred.end_of-Twins)) v l h = absurd l
-  lies_inside (kindred.Pair' n (kindred.more_of-Twins a b kindred.end_of-Twins)) kindred.Unit v l h = absurd l
-  lies_inside (kindred.Pair' n (kindred.more_of-Twins a b kindred.end_of-Twins)) kindred.Bool v l h = absurd l
-  lies_inside (kindred.Pair' n (kindred.more_of-Twins a b kindred.end_of-Twins)) (kindred.Int c d) v l h = absurd l
-  lies_inside (kindred.Pair' n (kindred.more_of-Twins a b kindred.end_of-Twins)) (kindred.Sym names2) v l h = absurd l
-  lies_inside (kindred.Pair' n (kindred.more_of-Twins a b kindred.end_of-Twins)) (kindred.Text most2) v l h = absurd l
-  lies_inside (kindred.Pair' n (kindred.more_of-Twins a b kindred.end_of-Twins)) (kindred.Pair' j (kindred.more_of-Twins c d kindred.end_of-Twins)) value.Unit l h = absurd h
-  lies_inside (kindred.Pair' n (kindred.more_of-Twins a b kindred.end_of-Twins)) (kindred.Pair' j (kindred.more_of-Twins c d kindred.end_of-Twins)) (value.Bool q) l h = absurd h
-  lies_inside (kindred.Pair' n (kindred.more_of-Twins a b kindred.end_of-Twins)) (kindred.Pair' j (kindred.more_of-Twins c d kindred.end_of-Twins)) (value.Int z) l h = absurd h
-  lies_inside (kindred.Pair' n (kindred.more_of-Twins a b kindred.end_of-Twins)) (kindred.Pair' j (kindred.more_of-Twins c d kindred.end_of-Twins)) (value.Sym k) l h = absurd h
-  lies_inside (kindred.Pair' n (kindred.more_of-Twins a b kindred.end_of-Twins)) (kindred.Pair' j (kindred.more_of-Twins c d kindred.end_of-Twins)) (value.Text bytes) l h = absurd h
-  lies_inside (kindred.Pair' n (kindred.more_of-Twins a b kindred.end_of-Twins)) (kindred.Pair' j (kindred.more_of-Twins c d kindred.end_of-Twins)) (value.Pair' m (value.more_of-Couple x y value.end_of-Couple)) l h = (lies_inside a c x l.0 h.0, lies_inside b d y l.1 h.1)
-
-  -- what an item of such a type has
+  -- what an item of a type of numbers, or of texts, has
   pub number_in : (v : Value) (x : Interval) → Lies S v (int_type x) → (x.low ≤ℤ number v) × (number v ≤ℤ x.high)
   number_in value.Unit x h = absurd h
   number_in (value.Bool b) x h = absurd h
@@ -319,7 +88,7 @@ module _ (S : Type 0) where
     binary_in binary.Pair t f e =
         let pair : Couple = record { left = v; right = w } in
         let twins : Twins = record { left = a; right = b } in
-        subst (λ k. Lies S (values.Pair pair) k) (some_same (kinds.Pair twins) t e) (rw (Lies-Pair pair twins) (p, q))
+        subst (λ k. Lies S (values.Pair pair) k) (some_same (kinds.Pair twins) t e) (rw (Lies-Pair S pair twins) (p, q))
 
   unary_in : (op : Unary) (v : Value) (a t : Kindred) → Lies S v a → unary_type op a ≡ Some t → Lies S (unary_value op v) t
   unary_in unary.Not v a t p e = bool_in (not (truth v)) t (from_provided (is_bool a) kinds.Bool t e).1
@@ -329,11 +98,11 @@ module _ (S : Type 0) where
       subst (λ k. Lies S (values.Int (neg_ℤ (number v))) k) h.2 (omega (arith, ints), omega (arith, ints))
   unary_in unary.First v a t p e =
       let h = from_map (λ y. y.left) (twins_of a) t e in
-      let x = pair_lies h.0 v (subst (λ k. Lies S v k) (is_pair a h.0 h.1) p) in
+      let x = pair_lies S h.0 v (subst (λ k. Lies S v k) (is_pair a h.0 h.1) p) in
       subst (λ k. Lies S (left_of v) k) h.2 (subst (λ w. Lies S w h.0.left) (sym (ap left_of x.1 ∙ left_of-Pair x.0)) x.2)
   unary_in unary.Second v a t p e =
       let h = from_map (λ y. y.right) (twins_of a) t e in
-      let x = pair_lies h.0 v (subst (λ k. Lies S v k) (is_pair a h.0 h.1) p) in
+      let x = pair_lies S h.0 v (subst (λ k. Lies S v k) (is_pair a h.0 h.1) p) in
       subst (λ k. Lies S (right_of v) k) h.2 (subst (λ w. Lies S w h.0.right) (sym (ap right_of x.1 ∙ right_of-Pair x.0)) x.3)
   unary_in unary.Length v a t p e =
       let h = from_map (λ most. kinds.Int (pos 0) (pos most)) (most_of a) t e in
@@ -348,7 +117,7 @@ module _ (S : Type 0) where
   if_in c v w k a b t p q e =
       let h = from_provided (is_bool k && joins a b) (join_of a b) t e in
       let j = (from_both (is_bool k) (joins a b) h.0).1 in
-      subst (λ u. Lies S (if c then v else w) u) h.1 (chosen c v w (join_of a b) (lies_inside a (join_of a b) v (left_inside a b j) p) (lies_inside b (join_of a b) w (right_inside a b j) q))
+      subst (λ u. Lies S (if c then v else w) u) h.1 (chosen c v w (join_of a b) (lies_inside S a (join_of a b) v (left_inside a b j) p) (lies_inside S b (join_of a b) w (right_inside a b j) q))
 
   int_in : (z : ℤ) → Lies S (values.Int z) (kinds.Int z z)
   int_in z = (omega (arith, ints), omega (arith, ints))
@@ -381,30 +150,9 @@ module _ (S : Type 0) where
       subst (λ k. Lies S (if truth (value_of_expr c item) then value_of_expr x item else value_of_expr y item) k) (from_within j.0 t j.2).1
       (if_in (truth (value_of_expr c item)) (value_of_expr x item) (value_of_expr y item) f.0 h.0 g.0 j.0 (value_in x of h.0 item (λ p. (s p).1) h.1 m) (value_in y of g.0 item (λ p. (s p).2) g.1 m) j.1)
 
-  near_in : (z : ℤ) (k : Kindred) → Lies S (values.Int z) k → is_within k ≡ true → is_near z ≡ true
-  near_in z kindred.Unit h e = absurd h
-  near_in z kindred.Bool h e = absurd h
-  near_in z (kindred.Int a b) h e = let x = from_both (is_near a) (is_near b) e in near_between a z b h.0 h.1 x.0 x.1
-  near_in z (kindred.Sym names) h e = absurd h
-  near_in z (kindred.Text most) h e = absurd h
-  near_in z (kindred.Pair' n (kindred.more_of-Twins a b kindred.end_of-Twins)) h e = absurd h
-
-  -- so is each number of that type; what is no number counts as 0
-  pub number_near : (v : Value) (k : Kindred) → Lies S v k → is_within k ≡ true → is_near (number v) ≡ true
-  number_near value.Unit k2 h e = refl
-  number_near (value.Bool b) k2 h e = refl
-  number_near (value.Int z) k2 h e = near_in z k2 h e
-  number_near (value.Sym k) k2 h e = refl
-  number_near (value.Text bytes) k2 h e = refl
-  number_near (value.Pair' m (value.more_of-Couple l r _)) k2 h e = refl
-
 -- the value of a sound expression that has a type is of that type
 pub value_in_type : (e : Expr) (of t : Kindred) (item : Value) → IsSound e → type_of_expr e of ≡ Some t → IsIn item of → IsIn (value_of_expr e item) t
 value_in_type e of t item s h m = in_lies (Unit {0}) tt (value_of_expr e item) t (value_in (Unit {0}) e of t item (λ p. s) h (lies_in (Unit {0}) item of m))
-
--- an item of a type is of each type that this lies inside
-pub item_inside : (s t : Kindred) (v : Value) → LiesInside s t → IsIn v s → IsIn v t
-item_inside s t v l h = in_lies (Unit {0}) tt v t (lies_inside (Unit {0}) s t v l (lies_in (Unit {0}) v s h))
 
 -- the number of the value of an expression that has a type is near
 pub value_near : (e : Expr) (of t : Kindred) (item : Value) → type_of_expr e of ≡ Some t → IsIn item of → is_near (number (value_of_expr e item)) ≡ true

@@ -100,7 +100,7 @@ right_inside (kindred.Pair' m (kindred.more_of-Twins a b kindred.end_of-Twins)) 
 right_inside (kindred.Pair' m (kindred.more_of-Twins a b kindred.end_of-Twins)) (kindred.Pair' n (kindred.more_of-Twins c d kindred.end_of-Twins)) e = let h = from_both (joins a c) (joins b d) e in (right_inside a c h.0, right_inside b d h.1)
 
 -- types of names lie inside each other where the names are the same
-names_match : (xs : List (List ℕ)) → pointwise bytes_eq xs xs ≡ true
+pub names_match : (xs : List (List ℕ)) → pointwise bytes_eq xs xs ≡ true
 names_match [] = refl
 names_match (x ∷ xs) = let d = bytes_eq-Decides x x in let h = names_match xs in grind arith
 

@@ -3,10 +3,15 @@ pub mod Choices
 pub mod Corners
 pub mod InType
 pub mod Joined
+pub mod Kinded
+pub mod Least
+pub mod Lies
 pub mod Near
+pub mod NearType
 pub mod Options
 pub mod Same
 pub mod Seen
+pub mod Shapes
 pub mod Steps
 pub mod Trees
 pub mod Twinned

@@ -28,5 +28,9 @@ pub from_both : (a b : Bool) → (a && b) ≡ true → (a ≡ true) × (b ≡ tr
 from_both true b e = (refl, e)
 from_both false b e = absurd (cc)
 
+pub to_both : (a b : Bool) → a ≡ true → b ≡ true → (a && b) ≡ true
+to_both true b e f = f
+to_both false b e f = absurd (cc)
+
 pub from_within : (k t : Kindred) → within k ≡ Some t → (is_within t ≡ true) × (k ≡ t)
 from_within k t e = let x = from_provided (is_within k) k t e in (sym (ap is_within x.1) ∙ x.0, x.1)

@@ -28,8 +28,10 @@ use Rattle.reo_exprs.specs.Typing.{int_type, type_of_expr, binary_within, binary
 use Rattle.reo_exprs.specs.Valued.{truth, number, same_value, binary_value, value_of_expr}
 use Rattle.reo_exprs.specs.Views.{AreTyped, IsMade, value_of_view, work, work_of_view}
 use Rattle.reo_exprs.proofs.Children.{near_value}
-use Rattle.reo_exprs.proofs.InType.{from_numbers, value_in, lies_in, number_in, Lies}
+use Rattle.reo_exprs.proofs.InType.{value_in, number_in}
+use Rattle.reo_exprs.proofs.Lies.{lies_in, Lies}
 use Rattle.reo_exprs.proofs.Options.{from_and_then, from_if, from_both}
+use Rattle.reo_exprs.proofs.Shapes.{from_numbers}
 use Rattle.reo_exprs.proofs.Trees.{type-Two, value-Two, work-One, work-Two, work-If}
 use Rattle.reo_exprs.proofs.Twinned.{same-Pair, same_Pair-other}
 

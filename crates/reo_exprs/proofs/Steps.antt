@@ -18,7 +18,7 @@ use Rattle.reo_exprs.specs.declared.expr.ExprTriple.{ExprTriple}
 use Rattle.reo_exprs.specs.Kinds.{kind_of, join_of, twins_of, interval_of, is_within}
 use Rattle.reo_exprs.specs.declared.interval.Interval.{Interval}
 use Rattle.reo_exprs.specs.Interval.{is_near_interval}
-use Rattle.reo_exprs.proofs.InType.{is_number}
+use Rattle.reo_exprs.proofs.Shapes.{is_number}
 use Rattle.reo_exprs.specs.Typing.{within, kind_of_expr, type_of_expr, unary_kind, binary_kind, if_kind, unary_type, binary_type, if_type, unary_within, binary_within, if_within}
 use Rattle.reo_exprs.proofs.Options.{some_same, from_and_then, from_map, from_both}
 use Rattle.reo_exprs.proofs.Trees.{kind-One, kind-Two, kind-If, type-One, type-Two, type-If}
@@ -42,7 +42,7 @@ kind_twice (kindred.Text a) = refl
 kind_twice (kindred.Pair' m (kindred.more_of-Twins a b kindred.end_of-Twins)) =
     Twins_of-equal (record { left = kind_of (kind_of a); right = kind_of (kind_of b) }) (record { left = kind_of a; right = kind_of b }) (kind_twice a) (kind_twice b)
 
-kind_parts : (x y : Twins) → kinds.Pair x ≡ kinds.Pair y → x ≡ y
+pub kind_parts : (x y : Twins) → kinds.Pair x ≡ kinds.Pair y → x ≡ y
 kind_parts x y e = some_same x y (sym (twins_of-Pair x) ∙ ap twins_of e ∙ twins_of-Pair y)
 
 pub left_kind : (k : Kindred) → kind_of k ≡ k → option_map kind_of (option_map (λ t. t.left) (twins_of k)) ≡ option_map (λ t. t.left) (twins_of k)

@@ -23,9 +23,9 @@ use Rattle.reo_exprs.specs.Interval.{is_near, least, greatest, negated, sum, dif
 use Rattle.reo_exprs.specs.Kinds.{joins, join_of, is_within, is_bool, interval_of, most_of, twins_of}
 use Rattle.reo_exprs.specs.Sound.{IsSound}
 use Rattle.reo_exprs.specs.Typing.{provided, within, int_type, on_numbers, is_positive, may_stand_right, unary_type, binary_type, if_type, unary_within, binary_within, if_within, type_of_expr}
-use Rattle.reo_exprs.proofs.InType.{is_number, is_pair, from_numbers}
 use Rattle.reo_exprs.proofs.Near.{near_bounds, near_fits}
 use Rattle.reo_exprs.proofs.Options.{some_same, from_and_then, from_map, from_provided, from_if, from_both, from_within}
+use Rattle.reo_exprs.proofs.Shapes.{is_number, is_pair, from_numbers}
 
 -- an interval in order whose bounds are near
 near_valid : (x : Interval) → is_within (int_type x) ≡ true → x.low ≤ℤ x.high → IsValid (int_type x)

@@ -1,8 +1,9 @@
 //! Laws of expressions, their types and their values.
-ghost use Rattle.std.specs.Prelude.{◌≡◌, Some};
+ghost use Rattle.std.specs.Prelude.{◌≡◌, ◌↔◌, IsTrue, Some};
 ghost use Rattle.reo_values.specs.Kind.{IsIn};
 ghost use Rattle.reo_values.specs.Valid.{IsValid};
-ghost use Rattle.reo_exprs.specs.Kinds.{LiesInside};
+ghost use Rattle.reo_exprs.specs.Kinds.{kind_of, joins, LiesInside};
+ghost use Rattle.reo_exprs.specs.Least.{IntervalsAreLeast};
 ghost use Rattle.reo_exprs.specs.Sound.{IsSound};
 ghost use Rattle.reo_exprs.specs.Typing.{type_of_expr};
 ghost use Rattle.reo_exprs.specs.Valued.{value_of_expr};
@@ -31,4 +32,16 @@ pub fn type_is_valid(expr: &Expr, of: &Kindred, kindred: &Kindred)
     requires typed { type_of_expr expr.now of.now ≡ Some kindred.now }
     requires valid { IsValid of.now }
     ensures { IsValid kindred.now }
+{}
+
+/// Two types join exactly where their kinds are equal.
+pub fn types_join_by_kind(a: &Kindred, b: &Kindred)
+    ensures { IsTrue (joins a.now b.now) ↔ (kind_of a.now ≡ kind_of b.now) }
+{}
+
+/// The interval of a sum, a difference, a product, a negated number, or a quotient by numbers of
+/// at least 1, is the least one with all results, and that of a join the least with the numbers
+/// of both. That of a remainder need not be the least.
+pub fn intervals_are_least()
+    ensures { IntervalsAreLeast }
 {}

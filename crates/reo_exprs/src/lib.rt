@@ -15,7 +15,9 @@ mod view;
 pub use expr::{Expr, ExprPair, ExprTriple};
 pub use fault::TypeFault;
 pub use kinds::{joins, lies_inside};
-pub use laws::{item_in_wider_type, type_is_valid, value_in_type};
+pub use laws::{
+    intervals_are_least, item_in_wider_type, type_is_valid, types_join_by_kind, value_in_type,
+};
 pub use typing::type_of;
 pub use value::{truth_of, value_is, value_of};
 

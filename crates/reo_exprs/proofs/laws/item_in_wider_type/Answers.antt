@@ -1,4 +1,4 @@
-use Rattle.reo_exprs.proofs.InType.{item_inside}
+use Rattle.reo_exprs.proofs.Lies.{item_inside}
 use Rattle.reo_exprs.proofs.laws.item_in_wider_type.Goals as goal
 
 pub returns : goal.returns

@@ -2,7 +2,7 @@ use Rattle.std.proofs.Common.{◌∙◌, ◌≡◌, None, ap, sym, subst, refl}
 use Rattle.std.specs.Prelude.{IfOk}
 use Rattle.reo_exprs.specs.declared.expr.Expr.TheVariants as exprs
 use Rattle.reo_exprs.specs.Typing.{type_of_expr, binary_within, if_within}
-use Rattle.reo_exprs.proofs.InType.{type_near}
+use Rattle.reo_exprs.proofs.NearType.{type_near}
 use Rattle.reo_exprs.proofs.Steps.{one_typed, one_untyped, two_typed, two_untyped, if_typed, if_untyped}
 use Rattle.reo_exprs.proofs.typing.+type_within.Goals as goal
 
