@@ -1,7 +1,7 @@
 -- Numbers read digit by digit.
-use Rattle.std.proofs.Common.{◌≡◌, ℕ, zero, suc, ◌+◌, ◌-◌, ◌*◌, ◌≤◌, ◌<◌, Bool, true, List, [], ◌∷◌, length, drop, get_or, refl, sym, ◌∙◌, ap, arith, add-one, nat_le}
+use Rattle.std.proofs.Common.{◌≡◌, ℕ, zero, suc, ◌+◌, ◌-◌, ◌*◌, ◌≤◌, ◌<◌, Bool, true, List, [], ◌∷◌, length, drop, get_or, refl, sym, ◌∙◌, arith, add-one, nat_le}
 use Rattle.std.proofs.lemmas.Bool.Decides.{nat_tests}
-use Rattle.reo_grammar.specs.Bytes.{and, is_digit, each}
+use Rattle.reo_grammar.specs.Bytes.{is_digit, each}
 use Rattle.reo_grammar.specs.Tokens.{number_from}
 use Rattle.reo_grammar.proofs.Sound.{and-left, and-right}
 

@@ -1,7 +1,6 @@
 -- The tokens that are left, as the cursor moves.
 use Rattle.std.proofs.Common.{◌≡◌, ℕ, zero, suc, ◌+◌, ◌≤◌, ◌<◌, true, List, [], ◌∷◌, length, drop, get_or, drop-drop, refl, sym, ◌∙◌, ap, arith, add-one}
-use Rattle.std.proofs.lemmas.List.{length-map}
-use Rattle.reo_grammar.specs.Tokens.{Tok, AreReal, is_real}
+use Rattle.reo_grammar.specs.Tokens.{AreReal, is_real}
 use Rattle.reo_lexer.specs.declared.token.Token.{Token}
 use Rattle.reo_lexer.specs.Lexing.{tok_of, toks_of}
 

@@ -47,5 +47,5 @@ example_table = record {
 }
 
 -- A choice between two forms that begin with a name is not decided.
-pub undecided : is_sighted example_first example_more (either name nested_form (both (λ t u. 1) (token name) (token name))) ≡ false
+pub undecided : is_sighted {tree = depth_of} {A = ℕ} example_first example_more (either name (made (λ t. 0) (token name)) (both (λ t u. 1) (token name) (token name))) ≡ false
 undecided = refl

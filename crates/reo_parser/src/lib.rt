@@ -13,10 +13,7 @@ mod texts;
 mod types;
 
 pub use fault::ParseFault;
-pub use literals::literal;
-pub use terms::term;
 pub use texts::parse;
-pub use types::type_term;
 
 #[cfg(test)]
 mod tests;

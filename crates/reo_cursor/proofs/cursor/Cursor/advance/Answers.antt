@@ -1,4 +1,4 @@
-use Rattle.std.proofs.Common.{◌≡◌, sym, drop, drop-drop}
+use Rattle.std.proofs.Common.{sym, drop-drop}
 use Rattle.reo_lexer.specs.Lexing.{toks_of}
 use Rattle.reo_cursor.proofs.cursor.Cursor.advance.Goals as goal
 

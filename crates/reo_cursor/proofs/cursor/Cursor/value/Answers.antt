@@ -1,5 +1,4 @@
-use Rattle.std.proofs.Common.{◌≡◌, sym, rules, arith}
-use Rattle.std.proofs.lemmas.Grind.{common_steps}
+use Rattle.std.proofs.Common.{rules}
 use Rattle.reo_grammar.proofs.Numbers.{real-number-below}
 use Rattle.reo_cursor.specs.Reading.{tok_seen}
 use Rattle.reo_cursor.proofs.cursor.Cursor.value.Goals as goal
