@@ -10,6 +10,6 @@ mod plan;
 mod round;
 mod runner;
 
-pub use laws::{has_run, known_order, one_trace, trace_exists};
+pub use laws::{has_run, known_order, one_trace, runs_are_justified, trace_exists};
 pub use outcome::{End2, Outcome};
 pub use runner::run;
