@@ -1,8 +1,21 @@
 -- What the real files, sources and sinks stand on, and their counts.
-use Rattle.std.specs.Prelude.{ℕ, List}
+use Rattle.std.specs.Prelude.{ℕ, List, Option, Result, None, Some, Err, IfSome}
+use Rattle.reo_io.specs.Fetches.{Folder, Gives}
 use Rattle.reo_io.specs.declared.disk_files.DiskFiles.{DiskFiles}
+use Rattle.reo_io.specs.declared.files.FetchFault.{FetchFault}
+use Rattle.reo_io.specs.declared.files.FetchFault.TheVariants.{Failed, NoMemory}
 use Rattle.reo_io.specs.declared.std_sink.StdSink.{StdSink}
 use Rattle.reo_io.specs.declared.std_source.StdSource.{StdSource}
+
+-- Real files are not told.
+abbrev pub disk_told : {R File Dir : Type 0} → DiskFiles R File Dir → Option Folder
+disk_told files = None
+
+-- Bytes come only from a file: they are those that it had left, where it says what it has left.
+abbrev pub WasRead : {File T : Type 0} → (File → Option (List ℕ)) → ℕ → List ℕ → Result T FetchFault → Type 0
+WasRead left limit room (Err Failed) = Unit {0}
+WasRead left limit room (Err NoMemory) = Unit {0}
+WasRead {File} left limit room result = (file : File) × IfSome (left file) (λ bytes. Gives (Some bytes) limit room result)
 
 -- The names whose fetch failed.
 abbrev pub disk_failed : {R File Dir : Type 0} → DiskFiles R File Dir → List (List ℕ)

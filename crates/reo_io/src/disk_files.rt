@@ -32,10 +32,10 @@ impl<'a, R: rt::Files> DiskFiles<'a, R> {
 }
 
 impl<R: rt::Files> Files for DiskFiles<'_, R> {
-    ghost use Rattle.reo_io.specs.Real.{disk_failed};
-    ghost use Rattle.std.specs.Prelude.{None};
+    ghost use Rattle.reo_io.specs.Fetches.{Fetches, Holds, failed_after};
+    ghost use Rattle.reo_io.specs.Real.{WasRead, disk_failed, disk_told};
 
-    ghost told = { λ _. None };
+    ghost told = { disk_told };
 
     ghost failed = { disk_failed };
 
@@ -45,7 +45,15 @@ impl<R: rt::Files> Files for DiskFiles<'_, R> {
         name: &[u8],
         limit: usize,
         room: &mut Bytes,
-    ) -> Result<(), FetchFault> {
+    ) -> Result<(), FetchFault>
+        requires empty { room.old ≡ [] }
+        requires small { limit < 2 ^ 32 }
+        ensures size { Holds limit room.new result }
+        ensures bytes { Fetches (disk_told self.old) name.now limit room.new result }
+        ensures cause { disk_failed self.new ≡ failed_after (disk_failed self.old) name.now result }
+        ensures told_same { disk_told self.new ≡ disk_told self.old }
+        ensures read { WasRead R.File.remaining limit room.new result }
+    {
         let Ok(path) = str::from_utf8(name) else {
             return Err(note(alloc, &mut self.failed, name));
         };

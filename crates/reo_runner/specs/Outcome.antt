@@ -13,7 +13,7 @@ use Rattle.reo_trace.specs.declared.line.Ending.TheVariants.{Done, Stuck, Limit}
 use Rattle.reo_trace.specs.RoundText.{round_text}
 use Rattle.reo_trace.specs.EndingText.{ending_text}
 use Rattle.reo_trace.specs.TraceText.{rounds_text, trace_text}
-use Rattle.reo_runner.specs.Round.{Rules, State, Choosing}
+use Rattle.reo_runner.specs.Round.{Rules, State, Choosing, RoundOf}
 use Rattle.reo_runner.specs.Run.{IsRun, Rounds}
 use Rattle.reo_runner.specs.Whole.{GoesOn}
 use Rattle.reo_runner.specs.declared.outcome.Outcome.{Outcome}
@@ -85,6 +85,13 @@ pub record Tallies (ports : List Port) (lines : List RoundLine) (t : Tally) : Ty
 abbrev pub next_text : List Port → List RoundLine → Ending → List ℕ
 next_text ports [] ending = ending_text ending
 next_text ports (line ∷ rest) ending = round_text ports line
+
+-- Of the line of the round that comes next the sink has got a part.
+pub record CutRound {P : Type 0} (Suits : Choosing) (r : Rules P) (ports : List Port) (components : List Component) (turn : ℕ) (a : State P) (before now : Option (List ℕ)) : Type 0 where
+  pub line : RoundLine
+  pub next : State P
+  pub round : RoundOf Suits r components turn a line next
+  pub part : TookPart before now (round_text ports line)
 
 module _ {P : Type 0} (Suits : Choosing) (r : Rules P) (ports : List Port) (components : List Component) (limit : ℕ) (start : State P) where
   -- The whole trace was written.

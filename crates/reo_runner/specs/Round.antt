@@ -31,6 +31,9 @@ pub record State (P : Type 0) : Type 0 where
   pub circuit : Wiring P
   pub places : List ℕ
 
+abbrev pub state_of : {P : Type 0} → Wiring P → List ℕ → State P
+state_of w places = record { circuit = w; places = places }
+
 -- A port with nothing pending.
 abbrev pub cleared : {P : Type 0} → Rules P → P → P
 cleared r p = cond (is_some (r.gate p).pending) (r.withdrawn p) p

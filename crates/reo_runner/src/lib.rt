@@ -2,10 +2,12 @@
 #![tactic(auto)]
 
 mod advance;
+mod ending;
 mod laws;
 mod offers;
 mod outcome;
 mod plan;
+mod round;
 mod runner;
 
 pub use laws::{has_run, known_order, one_trace, runs_are_justified, trace_exists};

@@ -1,67 +1,62 @@
 //! The run.
-ghost use Rattle.std.specs.Prelude.{◌≡◌, ◌≤◌, ◌<◌, ◌^◌, ℕ, length, map};
+ghost use Rattle.std.specs.Prelude.{◌≡◌, ◌≤◌, ◌<◌, ◌^◌, ℕ, false, length, map};
 ghost use Rattle.reo_behaviour.specs.First.{IsFirst};
 ghost use Rattle.reo_io.specs.Causes.{Rose};
-ghost use Rattle.reo_script.specs.Actions.{IsScriptFor};
+ghost use Rattle.reo_script.specs.Actions.{IsScriptFor, all_done, beginnings};
 ghost use Rattle.reo_runner.specs.Round.{rules_of};
-ghost use Rattle.reo_runner.specs.Run.{start_of, end_after};
-ghost use Rattle.reo_runner.specs.Outcome.{CameTo, Closes, end_of};
+ghost use Rattle.reo_runner.specs.Run.{start_of};
+ghost use Rattle.reo_runner.specs.Outcome.{CameTo};
 
 use crate::advance::{are_done, begin};
+use crate::ending::{close, ending_after};
 use crate::laws::has_run;
-use crate::offers::{go_on, make_ready};
 use crate::outcome::{End2, Outcome, Tally};
-use crate::plan::{Plan, make_plan};
+use crate::round::make_round;
 use reo_behaviour::{Ported, Ports};
 use reo_circuit::Circuit;
 use reo_io::Sink;
 use reo_script::{Component, Script};
-use reo_trace::{Ending, WriteFault, write_ending, write_round};
+use reo_trace::{Ending, WriteFault};
+use reo_values::List;
 use std::alloc::Global;
 
-/// How the run ends after a round, if it does.
-fn ending_after(
+/// The rounds of a run of which some component is not done, and its ending.
+fn make_rounds<P: Ported, S: Sink>(
+    alloc: Global,
+    mut circuit: Circuit<P>,
+    ports: &Ports,
     components: &[Component],
-    places: &[usize],
-    turn: u64,
+    mut places: List<usize>,
     limit: u64,
-    idle: bool,
-) -> Option<Ending>
-    requires { length places.now ≡ length components.now }
-    ensures { result ≡ end_after components.now limit turn idle places.now }
-{
-    if are_done(components, places) {
-        Some(Ending::Done { rounds: turn })
-    } else if idle {
-        Some(Ending::Stuck { rounds: turn })
-    } else if turn == limit {
-        Some(Ending::Limit { rounds: turn })
-    } else {
-        None
-    }
-}
-
-/// The end that an outcome names for an ending.
-fn end_of(ending: Ending) -> End2
-    ensures { result ≡ end_of ending }
-{
-    match ending {
-        Ending::Done { .. } => End2::Done,
-        Ending::Stuck { .. } => End2::Stuck,
-        Ending::Limit { .. } => End2::Limit,
-    }
-}
-
-/// Writes the ending of a run, and answers its outcome.
-fn close<S: Sink>(alloc: Global, ending: Ending, tally: Tally, out: &mut S) -> Outcome
-    ensures text { Closes ending tally (S.told out.old) (S.told out.new) result }
+    out: &mut S,
+) -> Outcome
+    requires some_round { 1 ≤ limit }
+    requires few_rounds { limit ≤ 10 ^ 9 }
+    requires few_ports { circuit.ports < 2 ^ 31 }
+    requires script { IsScriptFor (map P.gate circuit.primitives) circuit.ports components.now }
+    requires places { places ≡ beginnings components.now }
+    requires begun { all_done components.now places ≡ false }
+    ensures came { CameTo IsFirst (rules_of P.behaviour P.settled P.gate P.placed P.withdrawn) ports.now.list components.now limit (start_of circuit components.now) (S.told out.old) (S.told out.new) result }
     ensures cause { result.end ≡ End2.WriteFault → Rose (S.faults out.old) (S.faults out.new) }
     ensures later { S.faults out.old ≤ S.faults out.new }
 {
-    match write_ending(alloc, &ending, out) {
-        Ok(()) => tally.outcome(end_of(ending)),
-        Err(WriteFault::Failed) => tally.outcome(End2::WriteFault),
-        Err(WriteFault::NoMemory) => tally.outcome(End2::NoMemory),
+    has_run(&circuit, components, limit);
+    let mut tally = Tally::new();
+    let mut turn = 1;
+    loop {
+        let now = places.as_slice();
+        let made = match make_round(alloc, &mut circuit, ports, components, now, turn, out) {
+            Ok(made) => made,
+            Err(WriteFault::Failed) => return tally.outcome(End2::WriteFault),
+            Err(WriteFault::NoMemory) => return tally.outcome(End2::NoMemory),
+        };
+        tally = tally.after(ports, made.line.moves.as_slice());
+        places = made.places;
+        let ends = ending_after(components, places.as_slice(), turn, limit, made.line.idle);
+        if let Some(ending) = ends {
+            return close(alloc, ending, tally, out);
+        }
+        turn += 1;
     }
 }
 
@@ -75,7 +70,7 @@ fn close<S: Sink>(alloc: Global, ending: Ending, tally: Tally, out: &mut S) -> O
 /// After want of memory it has got whole round lines of the trace, in order and none skipped, and the outcome counts these.
 pub fn run<P: Ported, S: Sink>(
     alloc: Global,
-    mut circuit: Circuit<P>,
+    circuit: Circuit<P>,
     ports: &Ports,
     script: &Script,
     limit: u64,
@@ -91,38 +86,12 @@ pub fn run<P: Ported, S: Sink>(
 {
     let components = script.components.as_slice();
     has_run(&circuit, components, limit);
-    let mut tally = Tally::new();
-    let Ok(mut places) = begin(alloc, components) else {
+    let tally = Tally::new();
+    let Ok(places) = begin(alloc, components) else {
         return tally.outcome(End2::NoMemory);
     };
     if are_done(components, places.as_slice()) {
         return close(alloc, Ending::Done { rounds: 0 }, tally, out);
     }
-    let mut turn = 1;
-    loop {
-        let Ok(()) = make_ready(alloc, &mut circuit, components, places.as_slice()) else {
-            return tally.outcome(End2::NoMemory);
-        };
-        let Ok(made) = make_plan(alloc, &circuit, components, places.as_slice(), turn) else {
-            return tally.outcome(End2::NoMemory);
-        };
-        let Plan {
-            colouring,
-            line,
-            places: next,
-        } = made;
-        match write_round(alloc, ports, &line, out) {
-            Ok(()) => {}
-            Err(WriteFault::Failed) => return tally.outcome(End2::WriteFault),
-            Err(WriteFault::NoMemory) => return tally.outcome(End2::NoMemory),
-        }
-        go_on(&mut circuit, colouring, components);
-        tally = tally.after(ports, line.moves.as_slice());
-        places = next;
-        let ends = ending_after(components, places.as_slice(), turn, limit, line.idle);
-        if let Some(ending) = ends {
-            return close(alloc, ending, tally, out);
-        }
-        turn += 1;
-    }
+    make_rounds(alloc, circuit, ports, components, places, limit, out)
 }

@@ -1,16 +1,16 @@
 use Rattle.std.proofs.Common.{length, ◌-◌, ◌+◌, ◌≤◌, ◌≡◌, ◌^◌, ◌*◌, false, map}
 use Rattle.reo_behaviour.specs.First.{IsFirst}
 use Rattle.reo_script.specs.Actions.{all_done, IsScriptFor}
-use Rattle.reo_runner.specs.Round.{rules_of}
+use Rattle.reo_runner.specs.Round.{rules_of, state_of}
 use Rattle.reo_runner.specs.Run.{start_of}
 use Rattle.reo_runner.specs.Outcome.{SoFar}
-use Rattle.reo_runner.proofs.runner.run.Given as goal
+use Rattle.reo_runner.proofs.runner.make_rounds.Given as goal
 
 -- The lines so far are those of the first rounds, and the numbers are small.
-abbrev pub invariant-loop-places : goal.invariant-loop-places
-invariant-loop-places g l = record {
+abbrev pub invariant-loop-made : goal.invariant-loop-made
+invariant-loop-made g l = record {
   so_far : SoFar IsFirst (rules_of g.P.Primitive.behaviour g.P.Primitive.settled g.P.Ported.gate g.P.Ported.placed g.P.Ported.withdrawn) l.ports.list l.components l.fn.limit (start_of l.fn.circuit l.components)
-      (g.S.Sink.told l.fn.out) (g.S.Sink.told l.out) l.turn (record { circuit = l.circuit; places = l.places }) l.tally;
+      (g.S.Sink.told l.fn.out) (g.S.Sink.told l.out) l.turn (state_of l.circuit l.places) l.tally;
   script : IsScriptFor (map g.P.Ported.gate l.circuit.primitives) l.circuit.ports l.components;
   ports : l.circuit.ports ≡ l.fn.circuit.ports;
   same : length l.places ≡ length l.components;
@@ -22,5 +22,5 @@ invariant-loop-places g l = record {
   count : g.S.Sink.faults l.fn.out ≤ g.S.Sink.faults l.out;
 }
 
-abbrev pub decreases-loop-places : goal.decreases-loop-places
-decreases-loop-places g l = l.fn.limit - l.turn
+abbrev pub decreases-loop-made : goal.decreases-loop-made
+decreases-loop-made g l = l.fn.limit - l.turn
