@@ -1,6 +1,7 @@
 pub mod CountLemmas
 pub mod EndLemmas
 pub mod GateLemmas
+pub mod JustifiedLemmas
 pub mod OfferLemmas
 pub mod OrderLemmas
 pub mod PlaceLemmas

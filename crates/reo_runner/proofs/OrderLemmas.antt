@@ -10,6 +10,7 @@ use Rattle.reo_behaviour.specs.Behaviour.{Behaviour}
 use Rattle.reo_behaviour.specs.Lawful.{IsLawful, SameShape}
 use Rattle.reo_behaviour.specs.Net.{Wiring, net_of, behaviour_at}
 use Rattle.reo_behaviour.specs.Step.{stepped, all_chosen, all_taken}
+use Rattle.reo_behaviour.specs.Wired.{IsWired}
 use Rattle.reo_circuit.proofs.ReshapeLemmas.{Reshaped, reshaped, lawful_at, wired_same, order_same}
 use Rattle.reo_script.specs.declared.script.Action.{Action}
 use Rattle.reo_script.specs.declared.script.Component.{Component}
@@ -51,27 +52,46 @@ module _ {P : Type 0} (r : Rules P) (k : KeepsShape r) where
       [ true ↦ pending_shape (action_for components places n) p | false ↦ same_shape (r.behaviour p) ]
   ready_shape components places (p ∷ ps) limit n (suc i) = ready_shape components places ps limit (suc n) i
 
+  -- What holds of a circuit stays where its primitives keep their shapes.
+  kept_wired : (ps qs : List P) (joints : List Joint) → Reshaped (map r.behaviour ps) (map r.behaviour qs) → IsWired (record { primitives = map r.behaviour ps; joints = joints })
+      → IsWired (record { primitives = map r.behaviour qs; joints = joints })
+  kept_wired ps qs joints same wired = wired_same (map r.behaviour ps) (map r.behaviour qs) same joints wired (lawful_at r.behaviour k.lawful qs)
+
   kept : (ps qs : List P) (joints : List Joint) → Reshaped (map r.behaviour ps) (map r.behaviour qs) → HasOrder (record { primitives = map r.behaviour ps; joints = joints }) → HasOrder (record { primitives = map r.behaviour qs; joints = joints })
   kept ps qs joints same old = record {
-    wired = wired_same (map r.behaviour ps) (map r.behaviour qs) same joints old.wired (lawful_at r.behaviour k.lawful qs);
+    wired = kept_wired ps qs joints same old.wired;
     order = old.order;
     is_order = order_same (map r.behaviour ps) (map r.behaviour qs) same joints old.wired old.order old.is_order;
   }
 
-  pub ready_order : (components : List Component) (a : State P) → HasOrder (net_of r.behaviour a.circuit) → HasOrder (net_of r.behaviour (ready r components a))
-  ready_order components a old =
+  ready_same : (components : List Component) (a : State P) → Reshaped (map r.behaviour a.circuit.primitives) (map r.behaviour (ready r components a).primitives)
+  ready_same components a =
       let ps : List P = a.circuit.primitives in
       let qs : List P = ports_ready r components a.places a.circuit.ports 0 ps in
       let count : length (map r.behaviour qs) ≡ length (map r.behaviour ps) = omega (arith, ready_length r components a.places ps a.circuit.ports 0, length-map ps r.behaviour, length-map qs r.behaviour) in
-      kept ps qs a.circuit.joints (record { count = count; same = λ i lt. ready_shape components a.places ps a.circuit.ports 0 i }) old
+      record { count = count; same = λ i lt. ready_shape components a.places ps a.circuit.ports 0 i }
 
-  stepped_order : (w : Wiring P) (rows : List ℕ) (items : List (Option Value)) → HasOrder (net_of r.behaviour w) → HasOrder (net_of r.behaviour (record w { primitives = stepped r.behaviour r.settled w rows items }))
-  stepped_order w rows items old =
-      kept w.primitives (stepped r.behaviour r.settled w rows items) w.joints
-      (reshaped r.behaviour r.settled k.settled w.primitives (all_chosen (net_of r.behaviour w) rows) (all_taken (net_of r.behaviour w) items)) old
+  stepped_same : (w : Wiring P) (rows : List ℕ) (items : List (Option Value)) → Reshaped (map r.behaviour w.primitives) (map r.behaviour (stepped r.behaviour r.settled w rows items))
+  stepped_same w rows items = reshaped r.behaviour r.settled k.settled w.primitives (all_chosen (net_of r.behaviour w) rows) (all_taken (net_of r.behaviour w) items)
+
+  pub ready_wired : (components : List Component) (a : State P) → IsWired (net_of r.behaviour a.circuit) → IsWired (net_of r.behaviour (ready r components a))
+  ready_wired components a wired = kept_wired a.circuit.primitives (ready r components a).primitives a.circuit.joints (ready_same components a) wired
+
+  pub ready_order : (components : List Component) (a : State P) → HasOrder (net_of r.behaviour a.circuit) → HasOrder (net_of r.behaviour (ready r components a))
+  ready_order components a old = kept a.circuit.primitives (ready r components a).primitives a.circuit.joints (ready_same components a) old
+
+  -- After a round the circuit is put together well.
+  pub round_wired : (Suits : Choosing) (components : List Component) (turn : ℕ) (a : State P) (line : RoundLine) (b : State P) → RoundOf Suits r components turn a line b
+      → IsWired (net_of r.behaviour a.circuit) → IsWired (net_of r.behaviour b.circuit)
+  round_wired Suits components turn a line b round wired =
+      let w : Wiring P = ready r components a in
+      subst (λ (v : Wiring P). IsWired (net_of r.behaviour v)) (sym round.circuit)
+      (kept_wired w.primitives (stepped r.behaviour r.settled w round.rows round.items) w.joints (stepped_same w round.rows round.items) (ready_wired components a wired))
 
   -- After a round the joints are in order.
   pub round_order : (Suits : Choosing) (components : List Component) (turn : ℕ) (a : State P) (line : RoundLine) (b : State P) → RoundOf Suits r components turn a line b
       → HasOrder (net_of r.behaviour a.circuit) → HasOrder (net_of r.behaviour b.circuit)
   round_order Suits components turn a line b round old =
-      subst (λ (w : Wiring P). HasOrder (net_of r.behaviour w)) (sym round.circuit) (stepped_order (ready r components a) round.rows round.items (ready_order components a old))
+      let w : Wiring P = ready r components a in
+      subst (λ (v : Wiring P). HasOrder (net_of r.behaviour v)) (sym round.circuit)
+      (kept w.primitives (stepped r.behaviour r.settled w round.rows round.items) w.joints (stepped_same w round.rows round.items) (ready_order components a old))

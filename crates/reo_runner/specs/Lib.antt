@@ -1,3 +1,4 @@
+pub mod Justified
 pub mod Outcome
 pub mod Plan
 pub mod Round

@@ -2,14 +2,16 @@
 ghost use Rattle.std.specs.Prelude.{◌≡◌, ◌≤◌};
 ghost use Rattle.reo_behaviour.specs.First.{IsFirst};
 ghost use Rattle.reo_behaviour.specs.Net.{net_of};
+ghost use Rattle.reo_runner.specs.Justified.{RunsAreJustified};
 ghost use Rattle.reo_runner.specs.Round.{rules_of};
 ghost use Rattle.reo_runner.specs.Run.{start_of};
 ghost use Rattle.reo_runner.specs.Whole.{HasOrder, HasRun, RunExists, RunIsOne};
 
 use reo_behaviour::Ported;
 use reo_circuit::Circuit;
-use reo_laws::{first_exists, first_is_one};
+use reo_laws::{first_exists, first_flows, first_is_one, first_jams_for_cause};
 use reo_script::Component;
+use reo_trace::idle_means_no_flow;
 
 /// Where the joints have an order, there is a run from each start, and each beginning of a run
 /// goes on to a whole run, also with any round that can come next.
@@ -25,6 +27,16 @@ pub fn one_trace<P: Ported>()
     ensures { RunIsOne (rules_of P.behaviour P.settled P.gate P.placed P.withdrawn) }
 {
     first_is_one();
+}
+
+/// In every circuit each round of a run by first colourings is idle only where no colouring flows,
+/// and jams only what has no three-colouring.
+pub fn runs_are_justified<P: Ported>()
+    ensures { RunsAreJustified (rules_of P.behaviour P.settled P.gate P.placed P.withdrawn) }
+{
+    first_flows();
+    first_jams_for_cause();
+    idle_means_no_flow();
 }
 
 /// What holds of each circuit: its joints have an order.

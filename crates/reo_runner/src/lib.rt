@@ -8,6 +8,6 @@ mod outcome;
 mod plan;
 mod runner;
 
-pub use laws::{has_run, known_order, one_trace, trace_exists};
+pub use laws::{has_run, known_order, one_trace, runs_are_justified, trace_exists};
 pub use outcome::{End2, Outcome};
 pub use runner::run;

@@ -1,5 +1,6 @@
 pub mod CaseLemmas
+pub mod HeadlineLemmas
 pub mod LineLemmas
 pub mod StageLemmas
-pub mod StatusLemmas
+pub mod OutputLemmas
 pub mod ReadLemmas

@@ -6,3 +6,4 @@ pub mod Traces
 pub mod Words
 pub mod Whole
 pub mod Fetched
+pub mod Headline
