@@ -113,10 +113,6 @@ const QUIET: Chosen = Chosen {
     second: 0,
 };
 
-fn writer() -> Kind {
-    Kind::Writer(WriterPort::new(Kindred::Int(0, 9)))
-}
-
 /// A writer to which the number is offered, where it fits.
 fn offered(number: i64) -> Kind {
     let mut writer = Kind::Writer(WriterPort::new(Kindred::Int(0, 9)));
@@ -209,16 +205,24 @@ fn given_after_a_quiet_round(alloc: Global) -> Result<Value, NoMemory> {
     writer.gives(alloc, 0, 0, 0, None)
 }
 
+fn is_offered_after_a_round(rows: Chosen) -> bool {
+    let mut writer = offered(9);
+    writer.settle(rows, None);
+    writer.pending()
+}
+
+fn writer_fits(number: i64) -> bool {
+    Kind::Writer(WriterPort::new(Kindred::Int(0, 9))).fits(&Value::Int(number))
+}
+
 #[test]
 fn a_writer_keeps_its_offer_until_it_flows(rt: HostRuntime) -> Result<(), Fail> {
-    assert!(rt; writer().way() == Some(Way::In) && !writer().pending());
-    assert!(rt; writer().fits(&Value::Int(9)) && !writer().fits(&Value::Int(10)));
+    let writer = Kind::Writer(WriterPort::new(Kindred::Int(0, 9)));
+    assert!(rt; writer.way() == Some(Way::In) && !writer.pending());
+    assert!(rt; writer_fits(9) && !writer_fits(10));
     assert!(rt; is_number(&given_after_a_quiet_round(rt.alloc())?, 9));
-    let mut writer = offered(9);
-    writer.settle(QUIET, None);
-    assert!(rt; writer.pending());
-    writer.settle(FLOW, None);
-    assert!(rt; !writer.pending());
+    assert!(rt; is_offered_after_a_round(QUIET));
+    assert!(rt; !is_offered_after_a_round(FLOW));
     Ok(())
 }
 
