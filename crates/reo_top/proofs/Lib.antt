@@ -1,6 +1,5 @@
 pub mod CaseLemmas
-pub mod HeadlineLemmas
 pub mod LineLemmas
 pub mod StageLemmas
-pub mod OutputLemmas
+pub mod StatusLemmas
 pub mod ReadLemmas

@@ -1,29 +1,24 @@
 -- Circuits that are read, and those that are refused.
-use Rattle.std.proofs.Common.{◌≡◌, ◌∙◌, ◌⊎◌, inl, inr, ℕ, List, ap, sym, subst, refl}
-use Rattle.std.specs.Prelude.{Option, Some, None, Result, Ok, Err, codes}
+use Rattle.std.proofs.Common.{◌≡◌, ◌∙◌, ◌⊎◌, inl, inr, ℕ, List, sym, subst, refl}
+use Rattle.std.specs.Prelude.{Option, Result, Ok, Err, codes}
 use Rattle.reo_trees.specs.declared.programs.Program.{Program}
 use Rattle.reo_trees.specs.Says.{SaysProgram}
-use Rattle.reo_io.specs.Fetches.{Folder}
-use Rattle.reo_lexer.specs.declared.token.LexFault.TheVariants as lexing
 use Rattle.reo_parser.specs.declared.fault.ParseFault.{ParseFault}
-use Rattle.reo_parser.specs.declared.fault.ParseFault.TheVariants as faults
-use Rattle.reo_script.specs.declared.script.Component.{Component}
 use Rattle.reo_parser.specs.Parsed.{Answers, IsParsed, IsThis}
 use Rattle.reo_top.specs.declared.refusal.Cause.TheVariants.{BadByte, OpenText, NumberTooLong, Syntax, TooDeep}
 use Rattle.reo_top.specs.declared.refusal.Cause.{Cause}
 use Rattle.reo_top.specs.declared.refusal.Refusal.{Refusal}
 use Rattle.reo_top.specs.declared.circuit.CircuitFault.{CircuitFault}
 use Rattle.reo_top.specs.declared.circuit.CircuitFault.TheVariants.{Failed, TooLong, Refused, NoMemory}
-use Rattle.reo_top.specs.Refusals.{refusal_text, fault_on, fault_of}
-use Rattle.reo_top.specs.Cases.{Owed, IsLine, Refuses, IsOnlyOutput}
-use Rattle.reo_top.specs.Texts.{Content, gone, long, text, IsScriptText}
+use Rattle.reo_top.specs.Refusals.{fault_on, fault_of}
+use Rattle.reo_top.specs.Cases.{Owed, Refuses, IsStatusOf}
+use Rattle.reo_top.specs.Texts.{Content, gone, long, text}
 use Rattle.reo_top.specs.Circuits.{IsProgram, IsRefused, IsReadAs, IsReadOnlyAs, IsRefusedWith, unread_whole, missed_after}
 use Rattle.reo_syntax.specs.Canonical.{canonical_text}
 use Rattle.reo_forms.specs.declared.plainest.Plainest.{Plainest}
 use Rattle.reo_forms.specs.Shape.{HasShape}
-use Rattle.reo_top.specs.Words.{HasNoForm, Missed}
-use Rattle.reo_top.specs.Whole.{circuit_owed, text_owed, script_whole, script_owed, shape_owed, command_owed}
-use Rattle.reo_top.proofs.OutputLemmas.{AllWhole, line_as}
+use Rattle.reo_top.specs.Words.{Missed}
+use Rattle.reo_top.specs.Whole.{circuit_owed, text_owed, shape_owed}
 
 -- The bytes of a file are one.
 same_bytes : (t u : List ℕ) → text t ≡ text u → u ≡ t
@@ -53,34 +48,6 @@ ok_is p q a b of_a of_b e = cc
 ok_is_no_fault : (p : Program) (f : ParseFault) (a b : Result Program ParseFault) → a ≡ Ok p → b ≡ Err f → a ≡ b → ⊥
 ok_is_no_fault p f a b of_a of_b e = cc
 
-fault_is : (f g : ParseFault) (a b : Result Program ParseFault) → a ≡ Err f → b ≡ Err g → a ≡ b → g ≡ f
-fault_is f g a b of_a of_b e = cc
-
--- The refusal that has a fault.
-refusal_for : ParseFault → Option Refusal
-refusal_for (faults.Lex (lexing.BadByte line)) = Some (record { line = line; cause = BadByte })
-refusal_for (faults.Lex (lexing.OpenText line)) = Some (record { line = line; cause = OpenText })
-refusal_for (faults.Lex (lexing.NumberTooLong line)) = Some (record { line = line; cause = NumberTooLong })
-refusal_for (faults.Lex lexing.NoMemory) = None
-refusal_for (faults.Syntax line) = Some (record { line = line; cause = Syntax })
-refusal_for (faults.TooDeep line) = Some (record { line = line; cause = TooDeep })
-refusal_for faults.NoMemory = None
-
-refusal_back : (line : ℕ) (cause : Cause) → refusal_for (fault_on line cause) ≡ Some (record { line = line; cause = cause })
-unfolding refusal_for
-refusal_back line BadByte = refl
-refusal_back line OpenText = refl
-refusal_back line NumberTooLong = refl
-refusal_back line Syntax = refl
-refusal_back line TooDeep = refl
-
-some_is : (r s : Refusal) → Some s ≡ Some r → s ≡ r
-some_is r s e = cc
-
--- Two refusals with one fault are one.
-one_refusal : (s r : Refusal) → fault_of s ≡ fault_of r → s ≡ r
-one_refusal s r e = some_is r s (sym (refusal_back s.line s.cause) ∙ ap refusal_for e ∙ refusal_back r.line r.cause)
-
 -- A text that is read says one program, and is not refused.
 pub read_only : (content : Content) (bytes : List ℕ) (p : Program) → content ≡ text bytes → ((answer : Result Program ParseFault) → Answers bytes answer → IsThis answer (Ok p)) → IsReadOnlyAs content (Ok p)
 read_only content bytes p same only = (
@@ -90,21 +57,15 @@ read_only content bytes p same only = (
 
 -- A text that is refused says no program.
 pub refused_only : (content : Content) (bytes : List ℕ) (f : ParseFault) (r : Refusal) → content ≡ text bytes → f ≡ fault_of r → ((answer : Result Program ParseFault) → Answers bytes answer → IsThis answer (Err f))
-    → IsReadOnlyAs content (Err (Refused r))
-refused_only content bytes f r same is only = (
-  (λ q h.
+    → (q : Program) → IsProgram content q → ⊥
+refused_only content bytes f r same is only q h =
     let said : SaysProgram bytes q = subst (λ (b : List ℕ). SaysProgram b q) (same_bytes bytes h.bytes (sym same ∙ h.text_is)) h.says in
     let this : IsThis (Ok q) (Err (fault_of r)) = subst (λ (x : ParseFault). IsThis (Ok q) (Err x)) is (only (Ok q) said) in
-    ok_is_no_fault q (fault_of r) (Ok q) (Err (fault_of r)) refl refl (sym (this_on (Ok q) r.line r.cause this))),
-  (λ s h.
-    let answers : Answers bytes (Err (fault_of s)) = subst (λ (b : List ℕ). Answers b (Err (fault_of s))) (same_bytes bytes h.bytes (sym same ∙ h.text_is)) h.answers in
-    let this : IsThis (Err (fault_of s)) (Err (fault_of r)) = subst (λ (x : ParseFault). IsThis (Err (fault_of s)) (Err x)) is (only (Err (fault_of s)) answers) in
-    one_refusal s r (fault_is (fault_of r) (fault_of s) (Err (fault_of r)) (Err (fault_of s)) refl refl (this_on (Err (fault_of s)) r.line r.cause this))),
-)
+    ok_is_no_fault q (fault_of r) (Ok q) (Err (fault_of r)) refl refl (sym (this_on (Ok q) r.line r.cause this))
 
 -- What is owed for a circuit that is read is what comes then.
-pub read_as : (MissedCircuit : Type 0) (circuit : Content) (more : Program → Owed) (p : Program) (Told : List ℕ → ℕ → Type 0) → IsProgram circuit p → IsReadOnlyAs circuit (Ok p) → AllWhole (more p) Told → AllWhole (circuit_owed MissedCircuit circuit more) Told
-read_as MissedCircuit circuit more p Told read only exact = λ bytes status h. elim h [
+pub read_as : (MissedCircuit : Type 0) (circuit : Content) (more : Program → Owed) (p : Program) (code : ℕ) → IsProgram circuit p → IsReadOnlyAs circuit (Ok p) → IsStatusOf (more p) code → IsStatusOf (circuit_owed MissedCircuit circuit more) code
+read_as MissedCircuit circuit more p code read only exact = λ bytes status h. elim h [
   | inl none ↦
       let here : unread_whole (text read.bytes) bytes status = subst (λ (z : Content). unread_whole z bytes status) read.text_is none in
       absurd (only.1 here.0 (record { bytes = read.bytes; text_is = read.text_is; answers = here.1 }))
@@ -120,21 +81,28 @@ not_long t e = cc
 
 -- A circuit that is not read has the status of its refusal.
 pub refused_as : (MissedCircuit : Type 0) (circuit : Content) (more : Program → Owed) (fault : CircuitFault) (before now : Option (List ℕ)) (was is code : ℕ) → IsReadAs circuit (Err fault) → IsReadOnlyAs circuit (Err fault)
-    → IsRefusedWith fault before now was is code → IsOnlyOutput (circuit_owed MissedCircuit circuit more) before now code
+    → IsRefusedWith fault before now was is code → IsStatusOf (circuit_owed MissedCircuit circuit more) code
 refused_as MissedCircuit circuit more Failed before now was is code read only h = λ bytes status whole. elim (refuses_as _ _ before now was is code h) [
   | inl e ↦ inr (inl e)
   | inr e ↦ inr (inr (inl e))
 ]
-refused_as MissedCircuit circuit more TooLong before now was is code read only h = λ bytes status whole. elim whole [
-  | inl none ↦ line_as (codes "too long circuit\n") 4 before now was is code h bytes status (subst (λ (z : Content). unread_whole z bytes status) read none)
-  | inr found ↦ absurd (not_long found.1.bytes (sym found.1.text_is ∙ read))
+refused_as MissedCircuit circuit more TooLong before now was is code read only h = λ bytes status whole. elim (refuses_as _ _ before now was is code h) [
+  | inl e ↦ elim whole [
+    | inl none ↦
+        let here : unread_whole long bytes status = subst (λ (z : Content). unread_whole z bytes status) read none in
+        inl (e ∙ sym here.1)
+    | inr found ↦ absurd (not_long found.1.bytes (sym found.1.text_is ∙ read))
+  ]
+  | inr e ↦ inr (inr (inl e))
 ]
-refused_as MissedCircuit circuit more (Refused r) before now was is code read only (inl h) = λ bytes status whole. elim whole [
-  | inl none ↦
-      let here : unread_whole (text read.bytes) bytes status = subst (λ (z : Content). unread_whole z bytes status) read.text_is none in
-      let same : here.0 ≡ r = only.1 here.0 (record { bytes = read.bytes; text_is = read.text_is; answers = here.1 }) in
-      line_as (refusal_text r) 5 before now was is code h bytes status (subst (λ (s : Refusal). IsLine (refusal_text s) 5 bytes status) same here.2)
-  | inr found ↦ absurd (only.0 found.0 found.1)
+refused_as MissedCircuit circuit more (Refused r) before now was is code read only (inl h) = λ bytes status whole. elim (refuses_as _ _ before now was is code h) [
+  | inl e ↦ elim whole [
+    | inl none ↦
+        let here : unread_whole (text read.bytes) bytes status = subst (λ (z : Content). unread_whole z bytes status) read.text_is none in
+        inl (e ∙ sym here.2.1)
+    | inr found ↦ absurd (only found.0 found.1)
+  ]
+  | inr e ↦ inr (inr (inl e))
 ]
 refused_as MissedCircuit circuit more (Refused r) before now was is code read only (inr h) = λ bytes status whole. inr (inr (inr h.0))
 refused_as MissedCircuit circuit more NoMemory before now was is code read only h = λ bytes status whole. inr (inr (inr h.0))
@@ -144,35 +112,14 @@ pub missed_from : (before now : List (List ℕ)) (name : List ℕ) (fault : Circ
 missed_from before now name fault is same = subst (λ (x : CircuitFault). now ≡ missed_after before name (Err x)) same is
 
 -- The text was written, or the sink failed.
-pub text_as : (p : Program) (before now : Option (List ℕ)) (was is code : ℕ) → Refuses (canonical_text p) 0 before now was is code → IsOnlyOutput (text_owed p) before now code
-text_as p before now was is code h = line_as (canonical_text p) 0 before now was is code h
+pub text_as : (p : Program) (code : ℕ) → (code ≡ 0) ⊎ (code ≡ 9) → IsStatusOf (text_owed p) code
+text_as p code (inl e) = λ bytes status h. inl (e ∙ sym h.1)
+text_as p code (inr e) = λ bytes status h. inr (inr (inl e))
 
 -- A program without the shape is not built.
-pub no_shape_as : (MissedScript : Type 0) (p : Program) (script : Content) (before now : Option (List ℕ)) (was is code : ℕ) → ((c : Plainest) → HasShape p c → ⊥) → Refuses (codes "not built circuit\n") 12 before now was is code
-    → IsOnlyOutput (shape_owed MissedScript p script) before now code
-no_shape_as MissedScript p script before now was is code none h = λ bytes status whole. elim whole [
-  | inl other ↦ line_as (codes "not built circuit\n") 12 before now was is code h bytes status other.1
+pub no_shape_as : (MissedScript : Type 0) (p : Program) (script : Content) (code : ℕ) → ((c : Plainest) → HasShape p c → ⊥) → (code ≡ 12) ⊎ (code ≡ 9) → IsStatusOf (shape_owed MissedScript p script) code
+no_shape_as MissedScript p script code none (inl e) = λ bytes status h. elim h [
+  | inl other ↦ inl (e ∙ sym other.1.1)
   | inr found ↦ absurd (none found.0 found.1)
 ]
-
--- A script that is too long, or not of its form.
-module _ (MissedScript : Type 0) (c : Plainest) (script : Content) (before now : Option (List ℕ)) (was is code : ℕ) where
-  pub long_script_as : script ≡ long → Refuses (codes "too long script\n") 4 before now was is code → IsOnlyOutput (script_owed MissedScript c script) before now code
-  long_script_as same h = λ bytes status whole. line_as (codes "too long script\n") 4 before now was is code h bytes status (subst (λ (z : Content). script_whole c z bytes status) same whole)
-
-  pub no_script_as : (t : List ℕ) → script ≡ text t → ((components : List Component) → IsScriptText c t components → ⊥) → Refuses (codes "not built script\n") 12 before now was is code → IsOnlyOutput (script_owed MissedScript c script) before now code
-  no_script_as t same none h = λ bytes status whole.
-      let here : script_whole c (text t) bytes status = subst (λ (z : Content). script_whole c z bytes status) same whole in
-      elim here [
-        | inl other ↦ line_as (codes "not built script\n") 12 before now was is code h bytes status other.1
-        | inr found ↦ absurd (none found.0 found.1)
-      ]
-
--- Words without form.
-pub no_form_as : (words : List (List ℕ)) (folder : Folder) (failed after : List (List ℕ)) (before now : Option (List ℕ)) (was is code : ℕ) → HasNoForm words → Refuses (codes "words refused\n") 2 before now was is code
-    → IsOnlyOutput (command_owed words folder failed after) before now code
-no_form_as words folder failed after before now was is code none h = λ bytes status whole. elim whole [
-  | inl other ↦ line_as (codes "words refused\n") 2 before now was is code h bytes status other.1
-  | inr (inl found) ↦ absurd (none.no_run found.0.circuit found.0.script found.0.form)
-  | inr (inr found) ↦ absurd (none.no_print found.0.circuit found.0.form)
-]
+no_shape_as MissedScript p script code none (inr e) = λ bytes status h. inr (inr (inl e))

@@ -77,10 +77,6 @@ is_status code = (code == 0) || ((code == 1) || ((code == 2) || ((code == 3) || 
 abbrev pub IsFailure : ℕ → Type 0
 IsFailure code = (code ≡ 3) ⊎ ((code ≡ 9) ⊎ (code ≡ 10))
 
--- These bytes were written, with this status, unless something failed.
-abbrev pub Wholly : Option (List ℕ) → Option (List ℕ) → ℕ → List ℕ → ℕ → Type 0
-Wholly before now code bytes status = ((code ≡ status) × Appended before now bytes) ⊎ IsFailure code
-
--- Each whole output is the one that was written, with its status, unless something failed.
-abbrev pub IsOnlyOutput : Owed → Option (List ℕ) → Option (List ℕ) → ℕ → Type 0
-IsOnlyOutput owed before now code = (bytes : List ℕ) (status : ℕ) → owed.whole bytes status → Wholly before now code bytes status
+-- The status is that of each whole output, unless something failed.
+abbrev pub IsStatusOf : Owed → ℕ → Type 0
+IsStatusOf owed code = (bytes : List ℕ) (status : ℕ) → owed.whole bytes status → (code ≡ status) ⊎ IsFailure code

@@ -30,10 +30,10 @@ IsReadAs content (Err (Refused r)) = IsRefused content r
 IsReadAs content (Err Failed) = Unit {0}
 IsReadAs content (Err NoMemory) = Unit {0}
 
--- The file says no other program and is refused for nothing else, and not both.
+-- The file says no other program, and is not refused where it says one.
 abbrev pub IsReadOnlyAs : Content → Result Program CircuitFault → Type 0
 IsReadOnlyAs content (Ok p) = ((q : Program) → IsProgram content q → q ≡ p) × ((r : Refusal) → IsRefused content r → ⊥)
-IsReadOnlyAs content (Err (Refused r)) = ((q : Program) → IsProgram content q → ⊥) × ((s : Refusal) → IsRefused content s → s ≡ r)
+IsReadOnlyAs content (Err (Refused r)) = (q : Program) → IsProgram content q → ⊥
 IsReadOnlyAs content _ = Unit {0}
 
 -- The names whose fetch failed, after this one was read.

@@ -6,4 +6,3 @@ pub mod Traces
 pub mod Words
 pub mod Whole
 pub mod Fetched
-pub mod Headline

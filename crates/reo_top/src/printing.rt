@@ -2,7 +2,7 @@
 ghost use Rattle.std.specs.Prelude.{◌≡◌, ◌≢◌, ◌≤◌, IfSome, IsTrue};
 ghost use Rattle.reo_io.specs.Causes.{Rose};
 ghost use Rattle.reo_io.specs.Fetches.{file_of};
-ghost use Rattle.reo_top.specs.Cases.{Cases, IsOnlyOutput, is_status};
+ghost use Rattle.reo_top.specs.Cases.{Cases, IsStatusOf, is_status};
 ghost use Rattle.reo_top.specs.Texts.{content_of};
 ghost use Rattle.reo_top.specs.Whole.{print_owed};
 ghost use Rattle.reo_top.specs.Words.{Missed};
@@ -22,7 +22,7 @@ pub(crate) fn print_circuit<F: Files, S: Sink>(
     out: &mut S,
 ) -> Status
     ensures cases { IfSome (F.told files.old) (λ folder. Cases (print_owed (Missed (F.failed files.old) (F.failed files.new) name.now) (content_of (file_of folder name.now))) (S.told out.old) (S.told out.new) (S.faults out.old) (S.faults out.new) result.code) }
-    ensures exact { IfSome (F.told files.old) (λ folder. IsOnlyOutput (print_owed (Missed (F.failed files.old) (F.failed files.new) name.now) (content_of (file_of folder name.now))) (S.told out.old) (S.told out.new) result.code) }
+    ensures exact { IfSome (F.told files.old) (λ folder. IsStatusOf (print_owed (Missed (F.failed files.old) (F.failed files.new) name.now) (content_of (file_of folder name.now))) result.code) }
     ensures status { IsTrue (is_status result.code) }
     ensures later { S.faults out.old ≤ S.faults out.new }
     ensures rose { result.code ≡ 9 → Rose (S.faults out.old) (S.faults out.new) }

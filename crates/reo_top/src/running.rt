@@ -4,7 +4,7 @@ ghost use Rattle.reo_io.specs.Fetches.{file_of};
 ghost use Rattle.reo_forms.specs.CircuitForm.{IsPlainest};
 ghost use Rattle.reo_forms.specs.ScriptForm.{IsPlainScript};
 ghost use Rattle.reo_io.specs.Causes.{Rose};
-ghost use Rattle.reo_top.specs.Cases.{Cases, IsOnlyOutput, is_status};
+ghost use Rattle.reo_top.specs.Cases.{Cases, IsStatusOf, is_status};
 ghost use Rattle.reo_top.specs.Texts.{content_of};
 ghost use Rattle.reo_top.specs.Whole.{run_owed, script_owed, shape_owed, both_owed};
 ghost use Rattle.reo_top.specs.Words.{Missed};
@@ -30,7 +30,7 @@ fn run_both<S: Sink>(alloc: Global, plainest: &Plainest, script: &Script, out: &
     requires circuit { IsPlainest plainest.now }
     requires script { IsPlainScript plainest.now.parameters script.now.components }
     ensures cases { Cases (run_owed plainest.now script.now.components) (S.told out.old) (S.told out.new) (S.faults out.old) (S.faults out.new) result.code }
-    ensures exact { IsOnlyOutput (run_owed plainest.now script.now.components) (S.told out.old) (S.told out.new) result.code }
+    ensures exact { IsStatusOf (run_owed plainest.now script.now.components) result.code }
     ensures status { IsTrue (is_status result.code) }
     ensures later { S.faults out.old ≤ S.faults out.new }
     ensures rose { result.code ≡ 9 → Rose (S.faults out.old) (S.faults out.new) }
@@ -64,7 +64,7 @@ fn run_script<F: Files, S: Sink>(
 ) -> Status
     requires { IsPlainest plainest.now }
     ensures cases { IfSome (F.told files.old) (λ folder. Cases (script_owed (Missed (F.failed files.old) (F.failed files.new) name.now) plainest.now (content_of (file_of folder name.now))) (S.told out.old) (S.told out.new) (S.faults out.old) (S.faults out.new) result.code) }
-    ensures exact { IfSome (F.told files.old) (λ folder. IsOnlyOutput (script_owed (Missed (F.failed files.old) (F.failed files.new) name.now) plainest.now (content_of (file_of folder name.now))) (S.told out.old) (S.told out.new) result.code) }
+    ensures exact { IfSome (F.told files.old) (λ folder. IsStatusOf (script_owed (Missed (F.failed files.old) (F.failed files.new) name.now) plainest.now (content_of (file_of folder name.now))) result.code) }
     ensures status { IsTrue (is_status result.code) }
     ensures later { S.faults out.old ≤ S.faults out.new }
     ensures rose { result.code ≡ 9 → Rose (S.faults out.old) (S.faults out.new) }
@@ -93,7 +93,7 @@ fn run_program<F: Files, S: Sink>(
     out: &mut S,
 ) -> Status
     ensures cases { IfSome (F.told files.old) (λ folder. Cases (shape_owed (Missed (F.failed files.old) (F.failed files.new) script.now) program.now (content_of (file_of folder script.now))) (S.told out.old) (S.told out.new) (S.faults out.old) (S.faults out.new) result.code) }
-    ensures exact { IfSome (F.told files.old) (λ folder. IsOnlyOutput (shape_owed (Missed (F.failed files.old) (F.failed files.new) script.now) program.now (content_of (file_of folder script.now))) (S.told out.old) (S.told out.new) result.code) }
+    ensures exact { IfSome (F.told files.old) (λ folder. IsStatusOf (shape_owed (Missed (F.failed files.old) (F.failed files.new) script.now) program.now (content_of (file_of folder script.now))) result.code) }
     ensures status { IsTrue (is_status result.code) }
     ensures later { S.faults out.old ≤ S.faults out.new }
     ensures rose { result.code ≡ 9 → Rose (S.faults out.old) (S.faults out.new) }
@@ -116,7 +116,7 @@ pub(crate) fn run_circuit<F: Files, S: Sink>(
     out: &mut S,
 ) -> Status
     ensures cases { IfSome (F.told files.old) (λ folder. Cases (both_owed (Missed (F.failed files.old) (F.failed files.new) circuit.now) (Missed (F.failed files.old) (F.failed files.new) script.now) (content_of (file_of folder circuit.now)) (content_of (file_of folder script.now))) (S.told out.old) (S.told out.new) (S.faults out.old) (S.faults out.new) result.code) }
-    ensures exact { IfSome (F.told files.old) (λ folder. IsOnlyOutput (both_owed (Missed (F.failed files.old) (F.failed files.new) circuit.now) (Missed (F.failed files.old) (F.failed files.new) script.now) (content_of (file_of folder circuit.now)) (content_of (file_of folder script.now))) (S.told out.old) (S.told out.new) result.code) }
+    ensures exact { IfSome (F.told files.old) (λ folder. IsStatusOf (both_owed (Missed (F.failed files.old) (F.failed files.new) circuit.now) (Missed (F.failed files.old) (F.failed files.new) script.now) (content_of (file_of folder circuit.now)) (content_of (file_of folder script.now))) result.code) }
     ensures status { IsTrue (is_status result.code) }
     ensures later { S.faults out.old ≤ S.faults out.new }
     ensures rose { result.code ≡ 9 → Rose (S.faults out.old) (S.faults out.new) }

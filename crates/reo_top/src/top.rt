@@ -1,18 +1,14 @@
 //! The top call.
 ghost use Rattle.std.specs.Prelude.{◌≡◌, ◌≤◌, ℕ, List as Items, [], length, slice_index_or, true, false, IfSome, IsTrue};
 ghost use Rattle.reo_io.specs.Causes.{Rose};
-ghost use Rattle.reo_top.specs.Cases.{Cases, IsOnlyOutput, is_status};
-ghost use Rattle.reo_top.specs.Headline.{Headline};
+ghost use Rattle.reo_top.specs.Cases.{Cases, IsStatusOf, is_status};
 ghost use Rattle.reo_top.specs.Whole.{command_owed};
 ghost use Rattle.reo_top.specs.Words.{IsRunWords, IsPrintWords, HasNoForm, MissedOne};
 
 use crate::answer::answer;
 use crate::printing::print_circuit;
 use crate::running::run_circuit;
-use reo_build::is_sound;
 use reo_io::{Files, Sink, Source};
-use reo_kinds::Kind;
-use reo_runner::runs_are_justified;
 use reo_values::{Bytes, List};
 use std::alloc::Global;
 
@@ -56,10 +52,6 @@ fn are_print_words(words: &[Bytes]) -> bool
 }
 
 /// The whole command: its words and files to bytes on the sink, and its status.
-///
-/// The headline: for every circuit and script that are accepted the bytes written are a trace whose every round is the
-/// first colouring, idle only where no colouring flows, and jams only what has no three-colouring. Else a fetch failed,
-/// the sink failed or memory was wanting, and the status says so.
 pub fn reo<F: Files, R: Source, S: Sink>(
     alloc: Global,
     words: &List<Bytes>,
@@ -67,9 +59,8 @@ pub fn reo<F: Files, R: Source, S: Sink>(
     source: &mut R,
     out: &mut S,
 ) -> Status
-    ensures headline { IfSome (F.told files.old) (λ folder. Headline words.now folder (S.told out.old) (S.told out.new) result.code) }
     ensures cases { IfSome (F.told files.old) (λ folder. Cases (command_owed words.now folder (F.failed files.old) (F.failed files.new)) (S.told out.old) (S.told out.new) (S.faults out.old) (S.faults out.new) result.code) }
-    ensures exact { IfSome (F.told files.old) (λ folder. IsOnlyOutput (command_owed words.now folder (F.failed files.old) (F.failed files.new)) (S.told out.old) (S.told out.new) result.code) }
+    ensures exact { IfSome (F.told files.old) (λ folder. IsStatusOf (command_owed words.now folder (F.failed files.old) (F.failed files.new)) result.code) }
     ensures source { source.new ≡ source.old }
     ensures status { IsTrue (is_status result.code) }
     ensures later { S.faults out.old ≤ S.faults out.new }
@@ -78,8 +69,6 @@ pub fn reo<F: Files, R: Source, S: Sink>(
     ensures missed { result.code ≡ 3 → MissedOne words.now (F.failed files.old) (F.failed files.new) }
 {
     let _ = source;
-    is_sound();
-    runs_are_justified::<Kind>();
     let words = words.as_slice();
     if are_run_words(words) {
         run_circuit(alloc, words[1].as_slice(), words[2].as_slice(), files, out)

@@ -7,7 +7,6 @@ use Rattle.reo_top.specs.Whole.{text_owed, print_owed}
 use Rattle.reo_top.proofs.CaseLemmas.{refused, wanted_first, if_told, if_both, told_always}
 use Rattle.reo_top.proofs.StageLemmas.{circuit_refused}
 use Rattle.reo_top.proofs.ReadLemmas.{missed_from, read_as, refused_as, text_as}
-use Rattle.reo_top.specs.Cases.{Wholly}
 use Rattle.reo_top.proofs.printing.print_circuit.Goals as goal
 
 pub returns-in-Err-clause-cases : goal.returns-in-Err-clause-cases
@@ -33,9 +32,8 @@ returns-in-Ok-print-clause-cases g c =
 
 pub returns-in-Ok-print-clause-exact : goal.returns-in-Ok-print-clause-exact
 returns-in-Ok-print-clause-exact g c =
-    let written = rw (c.as_slice.ensures, c.in-Ok-print.ensures) at c.answer.ensures.answers in
     if_told (g.F.Files.told c.args.files.now)
-    (λ folder both. read_as (Missed (g.F.Files.failed c.args.files.now) (g.F.Files.failed c.read_program.new.files) c.args.name.now) (content_of (file_of folder c.args.name.now)) text_owed c.in-Ok.program (Wholly (g.S.Sink.told c.args.out.now) (g.S.Sink.told c.answer.new.out) c.answer.result.code) both.0 both.1 (text_as c.in-Ok.program _ _ _ _ _ written))
+    (λ folder both. read_as (Missed (g.F.Files.failed c.args.files.now) (g.F.Files.failed c.read_program.new.files) c.args.name.now) (content_of (file_of folder c.args.name.now)) text_owed c.in-Ok.program _ both.0 both.1 (text_as c.in-Ok.program _ c.answer.ensures.one))
     (if_both (g.F.Files.told c.args.files.now) _ _ c.in-Ok.ensures.content c.in-Ok.ensures.only)
 
 pub returns-clause-cases : goal.returns-clause-cases

@@ -10,7 +10,7 @@ use Rattle.reo_top.specs.Traces.{kind_rules, most_rounds, start_for}
 use Rattle.reo_top.specs.Whole.{run_owed}
 use Rattle.reo_top.proofs.CaseLemmas.{wanted_first}
 use Rattle.reo_top.proofs.StageLemmas.{run_broke, run_wanted}
-use Rattle.reo_top.proofs.OutputLemmas.{ran_as}
+use Rattle.reo_top.proofs.StatusLemmas.{ran_as}
 use Rattle.reo_top.proofs.running.run_both.Goals as goal
 
 pub returns-in_default-clause-cases : goal.returns-in_default-clause-cases

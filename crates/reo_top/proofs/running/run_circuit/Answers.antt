@@ -5,7 +5,6 @@ use Rattle.reo_top.specs.Whole.{shape_owed}
 use Rattle.reo_top.proofs.CaseLemmas.{if_told, if_both}
 use Rattle.reo_top.proofs.StageLemmas.{circuit_lifted, circuit_refused}
 use Rattle.reo_top.proofs.ReadLemmas.{missed_from, read_as, refused_as}
-use Rattle.reo_top.specs.Cases.{Wholly}
 use Rattle.reo_top.proofs.running.run_circuit.Goals as goal
 
 pub returns-in-Ok-clause-cases : goal.returns-in-Ok-clause-cases
@@ -21,7 +20,7 @@ returns-in-Ok-clause-exact g c =
     let exact = rw c.in-Ok.ensures.told at c.run_program.ensures.exact in
     if_told (g.F.Files.told c.args.files.now)
     (λ folder all. read_as (Missed (g.F.Files.failed c.args.files.now) (g.F.Files.failed c.run_program.new.files) c.args.circuit.now) (content_of (file_of folder c.args.circuit.now))
-    (λ p. shape_owed (Missed (g.F.Files.failed c.args.files.now) (g.F.Files.failed c.run_program.new.files) c.args.script.now) p (content_of (file_of folder c.args.script.now))) c.in-Ok.program (Wholly (g.S.Sink.told c.args.out.now) (g.S.Sink.told c.run_program.new.out) c.run_program.result.code) all.0 all.1.0 all.1.1)
+    (λ p. shape_owed (Missed (g.F.Files.failed c.args.files.now) (g.F.Files.failed c.run_program.new.files) c.args.script.now) p (content_of (file_of folder c.args.script.now))) c.in-Ok.program _ all.0 all.1.0 all.1.1)
     (if_both (g.F.Files.told c.args.files.now) _ _ c.in-Ok.ensures.content (if_both (g.F.Files.told c.args.files.now) _ _ c.in-Ok.ensures.only exact))
 
 pub returns-in-Err-clause-cases : goal.returns-in-Err-clause-cases

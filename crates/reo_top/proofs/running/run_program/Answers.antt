@@ -2,12 +2,11 @@ use Rattle.std.proofs.Common.{inl, refl, ap}
 use Rattle.std.specs.Prelude.{Err, codes}
 use Rattle.reo_io.specs.Fetches.{file_of}
 use Rattle.reo_top.specs.Texts.{content_of}
-use Rattle.reo_top.specs.Cases.{Wholly}
 use Rattle.reo_top.specs.Words.{Missed}
 use Rattle.reo_top.specs.Whole.{shape_owed}
 use Rattle.reo_top.proofs.CaseLemmas.{refused, wanted_first, if_told, told_always}
 use Rattle.reo_top.proofs.StageLemmas.{shape_lifted}
-use Rattle.reo_top.proofs.OutputLemmas.{shape_as}
+use Rattle.reo_top.proofs.StatusLemmas.{shape_as}
 use Rattle.reo_top.proofs.ReadLemmas.{no_shape_as}
 use Rattle.reo_top.proofs.running.run_program.Goals as goal
 
@@ -20,7 +19,7 @@ returns-in-Ok-clause-cases g c =
 pub returns-in-Ok-clause-exact : goal.returns-in-Ok-clause-exact
 returns-in-Ok-clause-exact g c =
     if_told (g.F.Files.told c.args.files.now)
-    (λ folder h. shape_as (Missed (g.F.Files.failed c.args.files.now) (g.F.Files.failed c.run_script.new.files) c.args.script.now) c.args.program.now (content_of (file_of folder c.args.script.now)) c.in-Ok.plainest (Wholly (g.S.Sink.told c.args.out.now) (g.S.Sink.told c.run_script.new.out) c.run_script.result.code) c.in-Ok.ensures.said h)
+    (λ folder h. shape_as (Missed (g.F.Files.failed c.args.files.now) (g.F.Files.failed c.run_script.new.files) c.args.script.now) c.args.program.now (content_of (file_of folder c.args.script.now)) c.in-Ok.plainest c.run_script.result.code c.in-Ok.ensures.said h)
     c.run_script.ensures.exact
 
 pub returns-in-Err-NotOfForm-clause-cases : goal.returns-in-Err-NotOfForm-clause-cases
@@ -34,7 +33,7 @@ pub returns-in-Err-NotOfForm-clause-exact : goal.returns-in-Err-NotOfForm-clause
 returns-in-Err-NotOfForm-clause-exact g c =
     let none = c.in-Err-NotOfForm.ensures.refused (ap (λ x. Err x) c.in-Err-NotOfForm.field-0-is) in
     told_always (g.F.Files.told c.args.files.now)
-    (λ folder. no_shape_as (Missed (g.F.Files.failed c.args.files.now) (g.F.Files.failed c.args.files.now) c.args.script.now) c.args.program.now (content_of (file_of folder c.args.script.now)) _ _ _ _ _ none c.answer.ensures.answers)
+    (λ folder. no_shape_as (Missed (g.F.Files.failed c.args.files.now) (g.F.Files.failed c.args.files.now) c.args.script.now) c.args.program.now (content_of (file_of folder c.args.script.now)) c.answer.result.code none c.answer.ensures.one)
 
 pub returns-in-Err-NoMemory-clause-cases : goal.returns-in-Err-NoMemory-clause-cases
 returns-in-Err-NoMemory-clause-cases g c =

@@ -2,14 +2,11 @@ use Rattle.std.proofs.Common.{◌≡◌, ◌∙◌, inl, refl, ℕ, List, [], le
 use Rattle.std.proofs.lemmas.List.{get_or_default}
 use Rattle.std.specs.Prelude.{codes}
 use Rattle.reo_io.specs.Fetches.{Folder}
-use Rattle.reo_top.specs.Cases.{Wholly}
 use Rattle.reo_top.specs.Words.{IsRunWords, IsPrintWords, HasNoForm}
 use Rattle.reo_top.specs.Whole.{command_owed, RunNames, PrintName}
 use Rattle.reo_top.proofs.CaseLemmas.{refused, if_told, told_always}
-use Rattle.reo_top.proofs.HeadlineLemmas.{headline}
-use Rattle.reo_top.proofs.ReadLemmas.{no_form_as}
 use Rattle.reo_top.proofs.StageLemmas.{run_lifted, print_lifted}
-use Rattle.reo_top.proofs.OutputLemmas.{run_as, print_as}
+use Rattle.reo_top.proofs.StatusLemmas.{run_as, print_as}
 use Rattle.reo_top.proofs.top.reo.Goals as goal
 
 pub returns-then-are_run_words-clause-cases : goal.returns-then-are_run_words-clause-cases
@@ -35,7 +32,7 @@ returns-then-are_run_words-clause-exact g c =
     let names : (folder : Folder) → RunNames words folder (g.F.Files.failed c.args.files.now) (g.F.Files.failed c.run_circuit.new.files) = λ folder. record { circuit = get_or words 1 []; script = get_or words 2 []; form = form } in
     let exact = rw (circuit_is, script_is) at c.run_circuit.ensures.exact in
     if_told (g.F.Files.told c.args.files.now)
-    (λ folder h. run_as words folder (g.F.Files.failed c.args.files.now) (g.F.Files.failed c.run_circuit.new.files) (names folder) (Wholly (g.S.Sink.told c.args.out.now) (g.S.Sink.told c.run_circuit.new.out) c.run_circuit.result.code) h)
+    (λ folder h. run_as words folder (g.F.Files.failed c.args.files.now) (g.F.Files.failed c.run_circuit.new.files) (names folder) c.run_circuit.result.code h)
     exact
 
 pub returns-then-are_print_words-clause-cases : goal.returns-then-are_print_words-clause-cases
@@ -59,7 +56,7 @@ returns-then-are_print_words-clause-exact g c =
     let name : (folder : Folder) → PrintName words folder (g.F.Files.failed c.args.files.now) (g.F.Files.failed c.print_circuit.new.files) = λ folder. record { circuit = get_or words 1 []; form = form } in
     let exact = rw circuit_is at c.print_circuit.ensures.exact in
     if_told (g.F.Files.told c.args.files.now)
-    (λ folder h. print_as words folder (g.F.Files.failed c.args.files.now) (g.F.Files.failed c.print_circuit.new.files) (name folder) (Wholly (g.S.Sink.told c.args.out.now) (g.S.Sink.told c.print_circuit.new.out) c.print_circuit.result.code) h)
+    (λ folder h. print_as words folder (g.F.Files.failed c.args.files.now) (g.F.Files.failed c.print_circuit.new.files) (name folder) c.print_circuit.result.code h)
     exact
 
 pub returns-else-are_print_words-clause-cases : goal.returns-else-are_print_words-clause-cases
@@ -72,30 +69,3 @@ returns-else-are_print_words-clause-cases g c =
     told_always (g.F.Files.told c.args.files.now)
     (λ folder. refused (command_owed words folder failed failed) (codes "words refused\n") 2 _ _ _ _ _
     (inl (none, (refl, refl))) c.answer.ensures.answers)
-
-pub returns-else-are_print_words-clause-exact : goal.returns-else-are_print_words-clause-exact
-returns-else-are_print_words-clause-exact g c =
-    let words : List (List ℕ) = c.args.words.now in
-    let failed : List (List ℕ) = g.F.Files.failed c.args.files.now in
-    let no_run : (circuit script : List ℕ) → IsRunWords words circuit script → ⊥ = rw c.as_slice-words.ensures at (c.are_run_words.ensures.other c.if-are_run_words.false) in
-    let no_print : (circuit : List ℕ) → IsPrintWords words circuit → ⊥ = rw c.as_slice-words.ensures at (c.are_print_words.ensures.other c.if-are_print_words.false) in
-    told_always (g.F.Files.told c.args.files.now)
-    (λ folder. no_form_as words folder failed failed _ _ _ _ _ (record { no_run = no_run; no_print = no_print }) c.answer.ensures.answers)
-
-pub returns-then-are_run_words-clause-headline : goal.returns-then-are_run_words-clause-headline
-returns-then-are_run_words-clause-headline g c =
-    if_told (g.F.Files.told c.args.files.now)
-    (λ folder h. headline c.runs_are_justified.ensures c.is_sound.ensures c.args.words.now folder (g.F.Files.failed c.args.files.now) (g.F.Files.failed c.run_circuit.new.files) _ _ _ _ _ h)
-    (returns-then-are_run_words-clause-cases g c)
-
-pub returns-then-are_print_words-clause-headline : goal.returns-then-are_print_words-clause-headline
-returns-then-are_print_words-clause-headline g c =
-    if_told (g.F.Files.told c.args.files.now)
-    (λ folder h. headline c.runs_are_justified.ensures c.is_sound.ensures c.args.words.now folder (g.F.Files.failed c.args.files.now) (g.F.Files.failed c.print_circuit.new.files) _ _ _ _ _ h)
-    (returns-then-are_print_words-clause-cases g c)
-
-pub returns-else-are_print_words-clause-headline : goal.returns-else-are_print_words-clause-headline
-returns-else-are_print_words-clause-headline g c =
-    if_told (g.F.Files.told c.args.files.now)
-    (λ folder h. headline c.runs_are_justified.ensures c.is_sound.ensures c.args.words.now folder (g.F.Files.failed c.args.files.now) (g.F.Files.failed c.args.files.now) _ _ _ _ _ h)
-    (returns-else-are_print_words-clause-cases g c)

@@ -1,4 +1,4 @@
--- What holds of the one whole output of a stage holds of that before it.
+-- The status is that of the one whole output.
 use Rattle.std.proofs.Common.{◌≡◌, ◌∙◌, inl, inr, ℕ, List, [], sym, subst, ap, get_or, length, arith}
 use Rattle.std.specs.Prelude.{Option}
 use Rattle.reo_behaviour.specs.First.{IsFirst}
@@ -14,38 +14,25 @@ use Rattle.reo_build.specs.Flat.{ports_of}
 use Rattle.reo_runner.specs.declared.outcome.Outcome.{Outcome}
 use Rattle.reo_runner.specs.Outcome.{Ran}
 use Rattle.reo_runner.specs.Whole.{HasOneRun}
-use Rattle.reo_io.specs.Sinks.{Appended}
-use Rattle.reo_trace.specs.TraceText.{trace_text}
-use Rattle.reo_top.specs.Cases.{Owed, IsLine, Refuses, Wholly, IsOnlyOutput}
+use Rattle.reo_top.specs.Cases.{IsStatusOf}
 use Rattle.reo_trees.specs.declared.programs.Program.{Program}
 use Rattle.reo_top.specs.Texts.{Content, text, content_of, IsScriptText}
 use Rattle.reo_top.specs.Words.{IsRunWords, IsPrintWords, Missed}
 use Rattle.reo_top.specs.Traces.{kind_rules, most_rounds, start_for, status_of, IsTraceOf}
 use Rattle.reo_top.specs.Whole.{run_owed, script_whole, script_owed, shape_owed, print_owed, both_owed, RunNames, PrintName, run_owed_for, print_owed_for, command_owed}
 
--- Each whole output is as told.
-abbrev pub AllWhole : Owed → (List ℕ → ℕ → Type 0) → Type 0
-AllWhole owed Told = (bytes : List ℕ) (status : ℕ) → owed.whole bytes status → Told bytes status
-
--- A line that was written, unless the sink failed.
-pub line_as : (line : List ℕ) (owed : ℕ) (before now : Option (List ℕ)) (was is code : ℕ) → Refuses line owed before now was is code
-    → (bytes : List ℕ) (status : ℕ) → IsLine line owed bytes status → Wholly before now code bytes status
-line_as line owed before now was is code (inl (e, app)) bytes status (same, same_status) = inl (e ∙ sym same_status, subst (λ (x : List ℕ). Appended before now x) (sym same) app)
-line_as line owed before now was is code (inr (e, part, rose)) bytes status h = inr (inr (inl e))
-
 -- A run came to its end.
 pub ran_as : (c : Plainest) (components : List Component) → HasOneRun IsFirst kind_rules components most_rounds (start_for c components)
     → (ending : Ending) (before now : Option (List ℕ)) (o : Outcome) → Ran IsFirst kind_rules (ports_of c) components most_rounds (start_for c components) ending before now o
-    → IsOnlyOutput (run_owed c components) before now (status_of ending)
+    → IsStatusOf (run_owed c components) (status_of ending)
 ran_as c components one ending before now o ran = λ bytes status trace.
     let same = one trace.lines ran.lines trace.ending ending trace.run ran.run in
-    let text : bytes ≡ trace_text (ports_of c) ran.lines ending = trace.bytes_are ∙ (λ i. trace_text (ports_of c) (same.0 i) (same.1 i)) in
-    inl (sym (trace.status ∙ ap status_of same.1), subst (λ (x : List ℕ). Appended before now x) (sym text) ran.text)
+    inl (sym (trace.status ∙ ap status_of same.1))
 
 -- A script that was read.
 module _ (c : Plainest) (script : Content) where
-  pub script_as : IsPlainest c → (MissedScript : Type 0) (components : List Component) (t : List ℕ) → script ≡ text t → IsScriptText c t components → (Told : List ℕ → ℕ → Type 0) → AllWhole (run_owed c components) Told → AllWhole (script_owed MissedScript c script) Told
-  script_as plain MissedScript components t same says Told exact = λ bytes status h.
+  pub script_as : IsPlainest c → (MissedScript : Type 0) (components : List Component) (t : List ℕ) → script ≡ text t → IsScriptText c t components → (code : ℕ) → IsStatusOf (run_owed c components) code → IsStatusOf (script_owed MissedScript c script) code
+  script_as plain MissedScript components t same says code exact = λ bytes status h.
       let here : script_whole c (text t) bytes status = subst (λ (z : Content). script_whole c z bytes status) same h in
       elim here [
         | inl none ↦ absurd (none.0 components says)
@@ -53,8 +40,8 @@ module _ (c : Plainest) (script : Content) where
       ]
 
 -- A circuit of the form.
-pub shape_as : (MissedScript : Type 0) (p : Program) (script : Content) (c : Plainest) (Told : List ℕ → ℕ → Type 0) → HasShape p c → AllWhole (script_owed MissedScript c script) Told → AllWhole (shape_owed MissedScript p script) Told
-shape_as MissedScript p script c Told has exact = λ bytes status h. elim h [
+pub shape_as : (MissedScript : Type 0) (p : Program) (script : Content) (c : Plainest) (code : ℕ) → HasShape p c → IsStatusOf (script_owed MissedScript c script) code → IsStatusOf (shape_owed MissedScript p script) code
+shape_as MissedScript p script c code has exact = λ bytes status h. elim h [
   | inl none ↦ absurd (none.0 c has)
   | inr found ↦ exact bytes status (subst (λ (x : Plainest). script_whole x script bytes status) (shape_tells p found.0 c found.1 has) found.2)
 ]
@@ -65,8 +52,8 @@ run_is_no_print words circuit script other run print = absurd (omega (arith, ap 
 
 -- The words name one circuit and one script.
 module _ (words : List (List ℕ)) (folder : Folder) (before now : List (List ℕ)) where
-  pub run_as : (n : RunNames words folder before now) (Told : List ℕ → ℕ → Type 0) → AllWhole (run_owed_for words folder before now n) Told → AllWhole (command_owed words folder before now) Told
-  run_as n Told exact = λ bytes status h. elim h [
+  pub run_as : (n : RunNames words folder before now) (code : ℕ) → IsStatusOf (run_owed_for words folder before now n) code → IsStatusOf (command_owed words folder before now) code
+  run_as n code exact = λ bytes status h. elim h [
     | inl none ↦ absurd (none.0.no_run n.circuit n.script n.form)
     | inr (inl found) ↦
         let same = sym found.0.form.words_are ∙ n.form.words_are in
@@ -77,8 +64,8 @@ module _ (words : List (List ℕ)) (folder : Folder) (before now : List (List �
     | inr (inr found) ↦ absurd (run_is_no_print words n.circuit n.script found.0.circuit n.form found.0.form)
   ]
 
-  pub print_as : (n : PrintName words folder before now) (Told : List ℕ → ℕ → Type 0) → AllWhole (print_owed_for words folder before now n) Told → AllWhole (command_owed words folder before now) Told
-  print_as n Told exact = λ bytes status h. elim h [
+  pub print_as : (n : PrintName words folder before now) (code : ℕ) → IsStatusOf (print_owed_for words folder before now n) code → IsStatusOf (command_owed words folder before now) code
+  print_as n code exact = λ bytes status h. elim h [
     | inl none ↦ absurd (none.0.no_print n.circuit n.form)
     | inr (inl found) ↦ absurd (run_is_no_print words found.0.circuit found.0.script n.circuit found.0.form n.form)
     | inr (inr found) ↦
