@@ -1,5 +1,5 @@
 -- Types join exactly where their kinds are equal.
-use Rattle.std.proofs.Common.{ℕ, Bool, true, ◌&&◌, ◌≡◌, List, [], ◌∙◌, ap, sym, refl}
+use Rattle.std.proofs.Common.{ℕ, true, ◌≡◌, List, [], ◌∙◌, ap, sym, refl}
 use Rattle.std.specs.Prelude.{◌↔◌, IsTrue, bytes_eq}
 use Rattle.std.specs.Cmp.Lexicographic.{pointwise}
 use denote.Hole.Carrier.{hidden}

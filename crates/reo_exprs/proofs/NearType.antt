@@ -1,5 +1,5 @@
 -- The numbers of the type of an expression are near.
-use Rattle.std.proofs.Common.{ℤ, Bool, true, ◌≡◌, length, Some, ap, sym, refl, arith}
+use Rattle.std.proofs.Common.{ℤ, true, ◌≡◌, length, Some, ap, sym, refl, arith}
 use Rattle.std.specs.Prelude.{◌≤ℤ◌, option_and_then}
 use Rattle.std.proofs.lemmas.Int.{ints}
 use denote.Hole.Carrier.{hidden}

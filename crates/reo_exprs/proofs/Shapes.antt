@@ -1,5 +1,5 @@
 -- Types of numbers, of texts and of pairs, by what they have.
-use Rattle.std.proofs.Common.{ℕ, Bool, ◌≡◌, Some, ap}
+use Rattle.std.proofs.Common.{ℕ, ◌≡◌, Some, ap}
 use Rattle.std.specs.Prelude.{option_map}
 use denote.Hole.Carrier.{hidden}
 use Rattle.reo_values.specs.declared.kindred.Kindred as kindred

@@ -24,21 +24,11 @@ impl Primitive for Kind {
     }
 
     fn sides(&self) -> usize {
-        match self {
-            Kind::Writer(_) | Kind::Taker(_) => 1,
-            Kind::Sync | Kind::Lossy | Kind::SyncDrain | Kind::AsyncDrain => 1,
-            Kind::Filter(_) | Kind::Map(_) => 1,
-            Kind::Merger(_) | Kind::Replicator(_) => 1,
-        }
+        1
     }
 
     fn side_of(&self, _end: usize) -> usize {
-        match self {
-            Kind::Writer(_) | Kind::Taker(_) => 0,
-            Kind::Sync | Kind::Lossy | Kind::SyncDrain | Kind::AsyncDrain => 0,
-            Kind::Filter(_) | Kind::Map(_) => 0,
-            Kind::Merger(_) | Kind::Replicator(_) => 0,
-        }
+        0
     }
 
     fn takes_in(&self, end: usize) -> bool {

@@ -53,7 +53,7 @@ impl<'a> Reader<'a> {
 
     /// Takes the next byte, or answers None where nothing is left.
     pub fn next(&mut self) -> Option<u8>
-        ensures { MatchOption result (self.old ≡ []) (λ byte. self.old ≡ byte ∷ self.new) }
+        ensures { MatchOption result ((self.old ≡ []) × (self.new ≡ [])) (λ byte. self.old ≡ byte ∷ self.new) }
     {
         if self.at == self.text.len() {
             return None;
