@@ -1,6 +1,7 @@
 //! The command: `run CIRCUIT SCRIPT` writes the trace of the script on the circuit, `print CIRCUIT`
 //! the canonical text of the circuit.
 #![tactic(auto)]
+
 ghost use Rattle.std.specs.Prelude.{◌≡◌, map, drop, IfOk};
 ghost use Rattle.std.specs.String.{string_bytes};
 ghost use Rattle.std.specs.Vec.Iter.{into_iter_items};

@@ -39,8 +39,7 @@ module _ {P : Type 0} (r : Rules P) (k : KeepsShape r) (components : List Compon
   runs_on : (turn : ℕ) (a : State P) (lines : List RoundLine) (ending : Ending) → IsWired (net_of r.behaviour a.circuit) → Runs IsFirst r components limit turn a lines ending → Runs IsJustified r components limit turn a lines ending
   runs_on turn a [] ending wired h = h
   runs_on turn a (x ∷ xs) ending wired (b, round, on) =
-      let later = runs_on (turn + 1) b xs ending (round_wired r k IsFirst components turn a x b round wired) in
-      (
+      let later = runs_on (turn + 1) b xs ending (round_wired r k IsFirst components turn a x b round wired) in (
         b,
         round_justified turn a x b wired round,
         elim (end_after components limit turn x.idle b.places) as (λ o. Follows o xs ending (Runs IsFirst r components limit (turn + 1) b xs ending) → Follows o xs ending (Runs IsJustified r components limit (turn + 1) b xs ending)) [
