@@ -1,6 +1,6 @@
 -- What readers give, beside what reading by a grammar comes to.
 use Rattle.std.specs.Prelude.{◌≡◌, ℕ, Option, Some, None, cond, List, [], ◌∷◌, Result, Ok, Err}
-use Rattle.reo_grammar.specs.Tokens.{Tok, Class, is_number, number_from}
+use Rattle.reo_grammar.specs.Tokens.{Tok, is_number, number_from}
 use Rattle.reo_grammar.specs.Tokens.Class.{fixed, name, number, text}
 use Rattle.reo_grammar.specs.Grammar.{Outcome, token_at, then}
 use Rattle.reo_grammar.specs.Grammar.Outcome.{got, bad, out}

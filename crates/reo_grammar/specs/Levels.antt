@@ -41,15 +41,6 @@ operators_at ts = operators_back (reverse ts)
 abbrev pub IsAbove : ℕ → List Tok → Type 0
 IsAbove limit ts = limit + count_of (fixed (codes ")")) ts < count_of (fixed (codes "(")) ts + operators_at ts
 
--- More than so many `{` are open behind the last of these tokens.
-abbrev pub IsNested : ℕ → List Tok → Type 0
-IsNested limit ts = limit + count_of (fixed (codes "}")) ts < count_of (fixed (codes "{")) ts
-
 -- A fact on fronts holds of none of them.
 abbrev pub Nowhere : (List Tok → Type 0) → List Tok → Type 0
 Nowhere P ts = (a u : List Tok) (t : Tok) → ts ≡ a ++ (t ∷ u) → P (a ++ (t ∷ [])) → ⊥
-
--- The fact holds first of the front that ends with the first of the tokens left.
-abbrev pub FirstAt : (List Tok → Type 0) → List Tok → List Tok → Type 0
-FirstAt P ts [] = ⊥
-FirstAt P ts (t ∷ u) = (a : List Tok) × (ts ≡ a ++ (t ∷ u)) × P (a ++ (t ∷ [])) × Nowhere P a

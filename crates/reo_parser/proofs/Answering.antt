@@ -1,8 +1,8 @@
 -- Answers to texts, by what reading their tokens comes to.
-use Rattle.std.proofs.Common.{◌≡◌, ℕ, zero, suc, ◌+◌, ◌-◌, ◌≤◌, ◌<◌, List, [], ◌∷◌, ◌++◌, length, take, drop, get_or, Result, Ok, Err, refl, sym, ◌∙◌, ap, subst, arith, append_assoc, min, inl, inr}
+use Rattle.std.proofs.Common.{◌≡◌, ℕ, ◌+◌, ◌-◌, ◌≤◌, ◌<◌, List, [], ◌∷◌, ◌++◌, length, take, drop, get_or, Err, refl, sym, ◌∙◌, ap, subst, arith, append_assoc, min, inl, inr}
 use Rattle.std.proofs.Math.Nat.{eq-or-lt_of_le}
 use Rattle.std.proofs.lemmas.List.{take-append-drop, get_or-take, length-take-le}
-use Rattle.reo_grammar.specs.Tokens.{Tok, AreReal}
+use Rattle.reo_grammar.specs.Tokens.{AreReal}
 use Rattle.reo_grammar.specs.Grammar.{Says, Begins, Refused}
 use Rattle.reo_grammar.specs.Levels.{IsAbove, Nowhere}
 use Rattle.reo_grammar.proofs.Exact.{refused-longer}
@@ -17,11 +17,10 @@ use Rattle.reo_trees.specs.declared.programs.Program.{Program}
 use Rattle.reo_trees.specs.Programs.{program_form}
 use Rattle.reo_trees.specs.Rules.{circuit_rules}
 use Rattle.reo_trees.specs.Says.{most_levels}
-use Rattle.reo_parser.specs.declared.fault.ParseFault.{ParseFault}
 use Rattle.reo_parser.specs.declared.fault.ParseFault.TheVariants as faults
 use Rattle.reo_parser.specs.Counting.{IsFirstAbove}
 use Rattle.reo_parser.specs.Faults.{fault_of_lex}
-use Rattle.reo_parser.specs.Parsed.{last_line, refused_line, IsSyntax, IsTooDeep, Answers, IsParsed}
+use Rattle.reo_parser.specs.Parsed.{last_line, refused_line, Answers, IsParsed}
 use Rattle.reo_parser.proofs.Fronts.{take-next, toks-length, toks-take, take-front, nowhere-front}
 
 pub lexed-fault : (text : List ℕ) (f : LexFault) → IsLexed text (Err f) → IsParsed text (Err (fault_of_lex f))

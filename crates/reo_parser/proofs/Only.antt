@@ -1,5 +1,5 @@
 -- A text has one answer.
-use Rattle.std.proofs.Common.{◌≡◌, ℕ, ◌≤◌, zero, suc, ◌+◌, true, false, Bool, List, [], ◌∷◌, ◌++◌, length, inl, inr, ◌⊎◌, Result, Ok, Err, refl, sym, ◌∙◌, ap, arith, append_assoc, append-nil, length-append}
+use Rattle.std.proofs.Common.{◌≡◌, ℕ, ◌≤◌, ◌+◌, true, List, [], ◌∷◌, ◌++◌, length, inl, inr, ◌⊎◌, Result, Ok, Err, refl, sym, ◌∙◌, ap, arith, append_assoc, append-nil, length-append}
 use Rattle.reo_grammar.specs.declared.kind.TokenKind.{TokenKind}
 use Rattle.reo_grammar.specs.declared.kind.TokenKind.TheVariants as kinds
 use Rattle.reo_grammar.specs.Spelling.{spells}
@@ -9,7 +9,7 @@ use Rattle.reo_grammar.specs.Levels.{IsAbove, Nowhere}
 use Rattle.reo_grammar.proofs.Exact.{one-tree}
 use Rattle.reo_grammar.proofs.Refusals.{real-front, real-back, refused-silent, one-refusal, begins-front}
 use Rattle.reo_lexer.specs.declared.token.Token.{Token}
-use Rattle.reo_lexer.specs.Lexing.{IsTokens, Runs, AtEnd, Leads, toks_of}
+use Rattle.reo_lexer.specs.Lexing.{IsTokens, Runs, AtEnd, toks_of}
 use Rattle.reo_lexer.proofs.Reading.{one-list, one-fault, not-both}
 use Rattle.reo_lexer.proofs.Spans.{tokens-real}
 use Rattle.reo_trees.specs.declared.programs.Program.{Program}

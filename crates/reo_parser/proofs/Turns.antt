@@ -1,5 +1,5 @@
 -- A turn of each sort of loop: it takes a token at least, and reading goes on with one part more.
-use Rattle.std.proofs.Common.{◌≡◌, ℕ, ◌<◌, true, List, [], ◌∷◌, ◌++◌, length, refl, codes}
+use Rattle.std.proofs.Common.{◌≡◌, ℕ, ◌<◌, true, List, length, refl, codes}
 use Rattle.reo_values.specs.declared.operator.Binary.{Binary}
 use Rattle.reo_grammar.specs.Bytes.{is_not}
 use Rattle.reo_grammar.specs.Tokens.{Tok, Class}

@@ -1,5 +1,5 @@
 -- What reading all tokens of a text comes to.
-use Rattle.std.proofs.Common.{◌≡◌, ℕ, zero, suc, ◌-◌, ◌≤◌, ◌<◌, List, [], ◌∷◌, ◌++◌, length, drop, refl, sym, ◌∙◌, arith, append-nil}
+use Rattle.std.proofs.Common.{◌≡◌, ℕ, ◌-◌, ◌≤◌, ◌<◌, List, [], ◌∷◌, ◌++◌, length, drop, refl, sym, arith, append-nil}
 use Rattle.reo_grammar.specs.Tokens.{Tok}
 use Rattle.reo_grammar.specs.Grammar.{read, reads, Says, Refused}
 use Rattle.reo_grammar.specs.Grammar.Outcome.{got, bad, out}

@@ -7,7 +7,6 @@ use Rattle.std.specs.Prelude.{◌≢◌, ◌≤◌, ◌==◌, not, Bool, Option,
 use Rattle.reo_io.specs.Sinks.{Appended}
 use Rattle.reo_io.proofs.Taken.{Appended-none}
 use Rattle.reo_top.specs.Words.{IsRunWords, IsPrintWords}
-use Rattle.reo_io.specs.Causes.{Rose}
 use Rattle.reo_io.proofs.Counts.{Rose-since}
 use Rattle.reo_top.specs.Cases.{Owed, IsOutput, AreFirstLines, Cases, IsLine, IsWritten, Refuses, SaysWant, Wants}
 

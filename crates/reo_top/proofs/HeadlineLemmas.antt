@@ -1,5 +1,5 @@
 -- For an accepted circuit and script the trace of the run was written.
-use Rattle.std.proofs.Common.{◌≡◌, inl, inr, ℕ, List, subst}
+use Rattle.std.proofs.Common.{inl, inr, ℕ, List, subst}
 use Rattle.std.specs.Prelude.{Option, Result, Ok}
 use Rattle.reo_behaviour.specs.Net.{net_of}
 use Rattle.reo_behaviour.specs.Wired.{IsWired}

@@ -16,8 +16,8 @@ use Rattle.reo_parser.specs.declared.fault.ParseFault.TheVariants as faults
 use Rattle.reo_top.specs.Cases.{Owed, IsLine, Refuses, IsExact}
 use Rattle.reo_top.proofs.CaseLemmas.{line_as}
 use Rattle.reo_top.proofs.StatusLemmas.{AllWhole}
-use Rattle.reo_top.specs.Texts.{Content, gone, long, text, IsScriptText}
-use Rattle.reo_top.specs.Circuits.{IsProgram, IsRefused, IsReadAs, IsReadOnlyAs, IsRefusedWith, unread_whole, missed_after}
+use Rattle.reo_top.specs.Texts.{Content, long, text, IsScriptText}
+use Rattle.reo_top.specs.Circuits.{IsProgram, IsReadAs, IsReadOnlyAs, IsRefusedWith, unread_whole, missed_after}
 use Rattle.reo_syntax.specs.Canonical.{canonical_text}
 use Rattle.reo_forms.specs.declared.plainest.Plainest.{Plainest}
 use Rattle.reo_forms.specs.Shape.{HasShape}

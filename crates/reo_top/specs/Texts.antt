@@ -1,5 +1,5 @@
 -- What a file is to a command.
-use Rattle.std.specs.Prelude.{ℕ, ◌≡◌, nat_le, cond, List, Option, Some, None, length}
+use Rattle.std.specs.Prelude.{ℕ, nat_le, cond, List, Option, Some, None, length}
 use Rattle.reo_script.specs.declared.script.Component.{Component}
 use Rattle.reo_forms.specs.declared.plainest.Plainest.{Plainest}
 use Rattle.reo_forms.specs.ScriptForm.{SaysScript}

@@ -1,5 +1,5 @@
 -- Words of commands.
-use Rattle.std.specs.Prelude.{ℕ, ◌≡◌, ◌≢◌, ◌⊎◌, ◌++◌, List, [], ◌∷◌, codes}
+use Rattle.std.specs.Prelude.{ℕ, ◌≡◌, ◌≢◌, ◌++◌, List, [], ◌∷◌, codes}
 
 -- The words of a run: its name, and two names of files that are not empty.
 pub record IsRunWords (words : List (List ℕ)) (circuit script : List ℕ) : Type 0 where

@@ -8,7 +8,7 @@ use Rattle.reo_trees.specs.declared.items.Form.{Form}
 use Rattle.reo_trees.specs.declared.items.Form.TheVariants as forms
 use Rattle.reo_trees.specs.declared.items.Channel.{Channel}
 use Rattle.reo_trees.specs.declared.items.Channel.TheVariants as channels
-use Rattle.reo_trees.specs.Forms.{Rule, G, word, word_as, name_form, number_form, ◌▸◌, ◌◂◌, comma_form}
+use Rattle.reo_trees.specs.Forms.{G, word, word_as, name_form, number_form, ◌▸◌, ◌◂◌, comma_form}
 use Rattle.reo_trees.specs.Forms.Rule.{literal_rule, term_rule}
 
 -- The channels that are a word and two nodes.

@@ -1,9 +1,9 @@
 -- What the forms of the circuit text are made of.
 use Rattle.std.specs.Prelude.{ℕ, List, [], ◌∷◌, ◌++◌, codes}
-use Rattle.reo_grammar.specs.Tokens.{Tok, Class, number_from}
+use Rattle.reo_grammar.specs.Tokens.{number_from}
 use Rattle.reo_grammar.specs.Tokens.Class.{fixed, name, number, text}
 use Rattle.reo_grammar.specs.Grammar.{Grammar}
-use Rattle.reo_grammar.specs.Grammar.Grammar.{nothing, token, both, made, either, chain}
+use Rattle.reo_grammar.specs.Grammar.Grammar.{token, both, made, chain}
 use Rattle.reo_trees.specs.declared.types.TypeTerm.{TypeTerm}
 use Rattle.reo_trees.specs.declared.literals.Literal.{Literal}
 use Rattle.reo_trees.specs.declared.terms.Term.{Term}

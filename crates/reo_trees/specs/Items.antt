@@ -5,7 +5,7 @@ use Rattle.reo_grammar.specs.Grammar.Grammar.{nothing, both, either, chain, line
 use Rattle.reo_trees.specs.declared.items.Item.{Item}
 use Rattle.reo_trees.specs.declared.items.Form.{Form}
 use Rattle.reo_trees.specs.declared.items.Form.TheVariants as forms
-use Rattle.reo_trees.specs.Forms.{Rule, G, word, name_form, ◌▸◌, ◌◂◌, listed}
+use Rattle.reo_trees.specs.Forms.{G, word, name_form, ◌▸◌, ◌◂◌, listed}
 use Rattle.reo_trees.specs.Forms.Rule.{type_rule}
 use Rattle.reo_trees.specs.Types.{names_form}
 use Rattle.reo_trees.specs.Channels.{plain_channels, plain_form, fifo1_form, fifo_form, filter_form, map_form}

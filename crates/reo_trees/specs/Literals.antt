@@ -6,7 +6,7 @@ use Rattle.reo_grammar.specs.Grammar.Grammar.{both, made, either, lined, rule}
 use Rattle.reo_trees.specs.declared.literals.Literal.{Literal}
 use Rattle.reo_trees.specs.declared.literals.Constant.{Constant}
 use Rattle.reo_trees.specs.declared.literals.Constant.TheVariants as constants
-use Rattle.reo_trees.specs.Forms.{Rule, G, word, word_as, name_form, number_form, text_form, ◌▸◌, ◌◂◌}
+use Rattle.reo_trees.specs.Forms.{G, word, word_as, name_form, number_form, text_form, ◌▸◌, ◌◂◌}
 use Rattle.reo_trees.specs.Forms.Rule.{literal_rule}
 
 -- No number has more than 18 digits.

@@ -1,5 +1,5 @@
 -- Operators, and the terms that they make.
-use Rattle.std.specs.Prelude.{ℕ, List, [], ◌∷◌, codes}
+use Rattle.std.specs.Prelude.{ℕ, [], ◌∷◌, codes}
 use Rattle.reo_grammar.specs.Tokens.{Class}
 use Rattle.reo_grammar.specs.Tokens.Class.{fixed, among}
 use Rattle.reo_grammar.specs.Grammar.Grammar.{either}

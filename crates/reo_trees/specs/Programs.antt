@@ -8,8 +8,7 @@ use Rattle.reo_trees.specs.declared.programs.Declaration.{Declaration}
 use Rattle.reo_trees.specs.declared.programs.Declaration.TheVariants as declarations
 use Rattle.reo_trees.specs.declared.programs.Connector.{Connector}
 use Rattle.reo_trees.specs.declared.programs.Parameter.{Parameter}
-use Rattle.reo_trees.specs.declared.items.Item.{Item}
-use Rattle.reo_trees.specs.Forms.{Rule, G, word, word_as, name_form, ◌▸◌, ◌◂◌, listed, comma_form}
+use Rattle.reo_trees.specs.Forms.{G, word, word_as, name_form, ◌▸◌, ◌◂◌, listed, comma_form}
 use Rattle.reo_trees.specs.Forms.Rule.{type_rule}
 use Rattle.reo_trees.specs.Items.{items_form}
 

@@ -1,11 +1,10 @@
 -- One token of sight decides the rules of the circuit text.
-use Rattle.std.specs.Prelude.{◌≡◌, ℕ, true, false, List, [], ◌∷◌, codes, refl}
+use Rattle.std.specs.Prelude.{List, [], ◌∷◌, codes, refl}
 use Rattle.std.proofs.Common.{inl, inr}
 use Rattle.reo_grammar.specs.Tokens.{Class}
 use Rattle.reo_grammar.specs.Tokens.Class.{fixed}
-use Rattle.reo_grammar.specs.Grammar.{Derives, Within}
-use Rattle.reo_grammar.specs.Conditions.{sample, is_productive}
-use Rattle.reo_grammar.specs.Sight.{firsts, mores, is_sighted}
+use Rattle.reo_grammar.specs.Conditions.{sample}
+use Rattle.reo_grammar.specs.Sight.{firsts, mores}
 use Rattle.reo_grammar.specs.Language.{Sighted, Sound}
 use Rattle.reo_trees.specs.declared.types.Shape.TheVariants as shapes
 use Rattle.reo_trees.specs.declared.literals.Constant.TheVariants as constants
@@ -13,8 +12,6 @@ use Rattle.reo_trees.specs.declared.terms.TermForm.TheVariants as terms
 use Rattle.reo_trees.specs.Forms.{Rule, tree_of}
 use Rattle.reo_trees.specs.Forms.Rule.{type_rule, literal_rule, term_rule, unary_rule}
 use Rattle.reo_trees.specs.Operators.{opened}
-use Rattle.reo_trees.specs.Terms.{unary_form, comparison_form}
-use Rattle.reo_trees.specs.Programs.{program_form}
 use Rattle.reo_trees.specs.Rules.{circuit_rules}
 
 abbrev pub none_of_rules : Rule → List Class

@@ -1,15 +1,13 @@
 -- Terms in the circuit text.
-use Rattle.std.specs.Prelude.{ℕ, pos, true, false, List, codes}
+use Rattle.std.specs.Prelude.{ℕ, pos, true, false, codes}
 use Rattle.reo_grammar.specs.Tokens.Class.{fixed, name, number, text}
 use Rattle.reo_grammar.specs.Grammar.Grammar.{nothing, both, made, either, chain, lined, rule}
-use Rattle.reo_values.specs.declared.operator.Unary.{Unary}
-use Rattle.reo_values.specs.declared.operator.Binary.{Binary}
 use Rattle.reo_values.specs.declared.operator.Binary.TheVariants as binaries
 use Rattle.reo_trees.specs.declared.terms.Term.{Term}
 use Rattle.reo_trees.specs.declared.terms.TermForm.{TermForm}
 use Rattle.reo_trees.specs.declared.terms.TermForm.TheVariants as terms
 use Rattle.reo_trees.specs.declared.terms.Opened.{Opened}
-use Rattle.reo_trees.specs.Forms.{Rule, G, word, word_as, name_form, number_form, text_form, ◌▸◌, ◌◂◌}
+use Rattle.reo_trees.specs.Forms.{G, word, word_as, name_form, number_form, text_form, ◌▸◌, ◌◂◌}
 use Rattle.reo_trees.specs.Forms.Rule.{term_rule, unary_rule}
 use Rattle.reo_trees.specs.Literals.{greatest}
 use Rattle.reo_trees.specs.Operators.{Further, opened, joined, applied, prefixes, prefix_form, products, product_operator, sums, sum_operator, comparisons, comparison_operator, calls, call_operator}

@@ -6,7 +6,7 @@ use Rattle.reo_grammar.specs.Grammar.Grammar.{both, made, either, lined, rule}
 use Rattle.reo_trees.specs.declared.types.TypeTerm.{TypeTerm}
 use Rattle.reo_trees.specs.declared.types.Shape.{Shape}
 use Rattle.reo_trees.specs.declared.types.Shape.TheVariants as shapes
-use Rattle.reo_trees.specs.Forms.{Rule, G, word, word_as, name_form, number_form, ◌▸◌, ◌◂◌, comma_form}
+use Rattle.reo_trees.specs.Forms.{G, word, word_as, name_form, number_form, ◌▸◌, ◌◂◌, comma_form}
 use Rattle.reo_trees.specs.Forms.Rule.{type_rule}
 
 -- [ "-" ] NUMBER, which is at most 10^9

@@ -1,4 +1,4 @@
-use Rattle.std.proofs.Common.{◌≡◌, ◌∙◌, map, drop, ap, sym, length, List, String, Global}
+use Rattle.std.proofs.Common.{◌≡◌, ◌∙◌, map, ap, sym, length, List, String, Global}
 use Rattle.std.specs.String.{string_bytes}
 use Rattle.std.specs.Vec.Iter.{into_iter_items, into_iter_len}
 use Rattle.std.specs.Iterator.Adapters.{skip_source, skip_count}

@@ -1,5 +1,4 @@
-use Rattle.std.proofs.Common.{◌≡◌, refl, sym, ◌∙◌, codes}
-use Rattle.reo_grammar.specs.Tokens.Class.{fixed, other}
+use Rattle.std.proofs.Common.{refl, sym, ◌∙◌}
 use Rattle.reo_grammar.specs.Grammar.Grammar.{rule}
 use Rattle.reo_trees.specs.Forms.Rule.{literal_rule}
 use Rattle.reo_parser.proofs.Turns.{comma_turn}

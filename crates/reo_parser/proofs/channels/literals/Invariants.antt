@@ -1,5 +1,5 @@
-use Rattle.std.proofs.Common.{◌≡◌, [], length, codes}
-use Rattle.reo_grammar.specs.Tokens.Class.{fixed, other}
+use Rattle.std.proofs.Common.{◌≡◌, length, codes}
+use Rattle.reo_grammar.specs.Tokens.Class.{fixed}
 use Rattle.reo_grammar.specs.Grammar.Grammar.{rule}
 use Rattle.reo_trees.specs.Forms.{listed, further}
 use Rattle.reo_trees.specs.Forms.Rule.{literal_rule}

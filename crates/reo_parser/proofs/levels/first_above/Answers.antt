@@ -1,6 +1,6 @@
-use Rattle.std.proofs.Common.{◌≡◌, ℕ, ◌+◌, ◌<◌, ◌≤◌, List, [], ◌∷◌, ◌++◌, take, get_or, refl, sym, ◌∙◌, arith}
+use Rattle.std.proofs.Common.{◌+◌, ◌<◌, ◌≤◌, take, get_or, arith}
 use Rattle.reo_grammar.specs.declared.kind.TokenKind.TheVariants as kinds
-use Rattle.reo_grammar.specs.Levels.{IsAbove, Nowhere}
+use Rattle.reo_grammar.specs.Levels.{IsAbove}
 use Rattle.reo_lexer.specs.Lexing.{tok_of, toks_of}
 use Rattle.reo_trees.specs.Says.{most_levels}
 use Rattle.reo_cursor.specs.Reading.{tok_seen}

@@ -1,6 +1,4 @@
-use Rattle.std.proofs.Common.{◌≡◌, refl, sym, ◌∙◌, codes}
-use Rattle.reo_grammar.specs.Tokens.Class.{fixed, other}
-use Rattle.reo_grammar.specs.Grammar.Grammar.{rule}
+use Rattle.std.proofs.Common.{refl, sym, ◌∙◌}
 use Rattle.reo_trees.specs.Forms.{listed}
 use Rattle.reo_trees.specs.Programs.{declaration_words, declaration_form}
 use Rattle.reo_parser.proofs.Turns.{one_turn}

@@ -1,7 +1,5 @@
-use Rattle.std.proofs.Common.{◌≡◌, [], length, codes}
-use Rattle.reo_grammar.specs.Tokens.Class.{fixed, other}
-use Rattle.reo_grammar.specs.Grammar.Grammar.{rule}
-use Rattle.reo_trees.specs.Forms.{listed, further}
+use Rattle.std.proofs.Common.{◌≡◌, [], length}
+use Rattle.reo_trees.specs.Forms.{listed}
 use Rattle.reo_trees.specs.Programs.{declaration_words, declaration_form}
 use Rattle.reo_parser.specs.Reading.{goes_on}
 use Rattle.reo_parser.proofs.programs.declarations.Given as goal

@@ -1,6 +1,4 @@
-use Rattle.std.proofs.Common.{◌≡◌, refl, sym, ◌∙◌, codes}
-use Rattle.reo_grammar.specs.Tokens.Class.{fixed, other}
-use Rattle.reo_grammar.specs.Grammar.Grammar.{rule}
+use Rattle.std.proofs.Common.{refl, sym, ◌∙◌}
 use Rattle.reo_trees.specs.Programs.{parameter_form}
 use Rattle.reo_parser.proofs.Turns.{comma_turn}
 use Rattle.reo_parser.proofs.programs.parameters.Goals as goal

@@ -1,6 +1,5 @@
-use Rattle.std.proofs.Common.{◌≡◌, [], length, codes}
-use Rattle.reo_grammar.specs.Tokens.Class.{fixed, other}
-use Rattle.reo_grammar.specs.Grammar.Grammar.{rule}
+use Rattle.std.proofs.Common.{◌≡◌, length, codes}
+use Rattle.reo_grammar.specs.Tokens.Class.{fixed}
 use Rattle.reo_trees.specs.Forms.{listed, further}
 use Rattle.reo_trees.specs.Programs.{parameter_form}
 use Rattle.reo_parser.specs.Reading.{goes_on}

@@ -1,4 +1,4 @@
-use Rattle.std.proofs.Common.{◌≡◌, refl, sym, ◌∙◌, codes}
+use Rattle.std.proofs.Common.{refl, sym, ◌∙◌, codes}
 use Rattle.reo_values.specs.declared.operator.Binary.TheVariants as binaries
 use Rattle.reo_trees.specs.Operators.{products, product_operator, sums, sum_operator}
 use Rattle.reo_trees.specs.Terms.{unary_form, product_form, comparison_form, and_form}

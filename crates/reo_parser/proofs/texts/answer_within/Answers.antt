@@ -1,4 +1,4 @@
-use Rattle.std.proofs.Common.{◌≡◌, length, arith}
+use Rattle.std.proofs.Common.{arith}
 use Rattle.reo_parser.proofs.Answering.{some-tokens, syntax-within}
 use Rattle.reo_parser.proofs.Fronts.{toks-length}
 use Rattle.reo_parser.proofs.texts.answer_within.Goals as goal

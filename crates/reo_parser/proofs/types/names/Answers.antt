@@ -1,4 +1,4 @@
-use Rattle.std.proofs.Common.{◌≡◌, refl, sym, ◌∙◌}
+use Rattle.std.proofs.Common.{refl, sym, ◌∙◌}
 use Rattle.reo_trees.specs.Forms.{name_form}
 use Rattle.reo_parser.proofs.Turns.{comma_turn}
 use Rattle.reo_parser.proofs.types.names.Goals as goal

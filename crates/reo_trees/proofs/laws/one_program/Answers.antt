@@ -1,10 +1,8 @@
-use Rattle.std.proofs.Common.{◌≡◌, ℕ, List, refl}
-use Rattle.reo_grammar.specs.Grammar.{Says}
+use Rattle.std.proofs.Common.{refl}
 use Rattle.reo_grammar.proofs.Exact.{one-tree}
 use Rattle.reo_lexer.specs.Lexing.{toks_of}
 use Rattle.reo_lexer.proofs.Reading.{one-list}
 use Rattle.reo_trees.specs.Programs.{program_form}
-use Rattle.reo_trees.specs.Rules.{circuit_rules}
 use Rattle.reo_trees.specs.Table.{circuit_table}
 use Rattle.reo_trees.proofs.laws.one_program.Goals as goal
 
