@@ -2,9 +2,11 @@
 //! the canonical text of the circuit.
 #![tactic(auto)]
 
-ghost use Rattle.std.specs.Prelude.{◌≡◌, map, drop, IfOk};
+ghost use Rattle.std.specs.Prelude.{◌≡◌, map, drop, IfOk, MatchResult};
+ghost use Rattle.std.specs.Process.{exit_status};
 ghost use Rattle.std.specs.String.{string_bytes};
 ghost use Rattle.std.specs.Vec.Iter.{into_iter_items};
+ghost use Rattle.reo_top.specs.Statuses.{IsStatusFor};
 
 use reo_io::{DiskFiles, StdSink, StdSource};
 use reo_top::{Status, reo};
@@ -38,16 +40,24 @@ fn words_given(rt: &(impl Env + AllocGlobal)) -> Result<List<Bytes>, NoMemory> {
     }
 }
 
-fn main(rt: HostRuntime) -> ExitCode {
+/// What the process ends with: the status of the command with these words on the system's files
+/// and streams, or 10 where memory for the words was wanting.
+fn ended(rt: &HostRuntime, words: Result<List<Bytes>, NoMemory>) -> ExitCode
+    ensures { MatchResult words (λ words. IsStatusFor words (exit_status result)) (λ _. exit_status result ≡ 10) }
+{
     let alloc: Global = rt.alloc();
-    let status = match words_given(&rt) {
+    let status = match words {
         Ok(words) => {
-            let mut files = DiskFiles::new(alloc, &rt);
+            let mut files = DiskFiles::new(alloc, rt);
             let mut source = StdSource::new(rt.reader());
-            let mut sink = StdSink::new(io::writer(&rt));
+            let mut sink = StdSink::new(io::writer(rt));
             reo(alloc, &words, &mut files, &mut source, &mut sink)
         }
         Err(NoMemory) => NO_MEMORY,
     };
     ExitCode::from(status.code)
+}
+
+fn main(rt: HostRuntime) -> ExitCode {
+    ended(&rt, words_given(&rt))
 }
