@@ -16,7 +16,8 @@ use Rattle.reo_parser.specs.declared.fault.ParseFault.TheVariants as faults
 use Rattle.reo_top.specs.Cases.{Owed, IsLine, Refuses, IsExact}
 use Rattle.reo_top.proofs.CaseLemmas.{line_as}
 use Rattle.reo_top.proofs.StatusLemmas.{AllWhole}
-use Rattle.reo_top.specs.Texts.{Content, long, text, IsScriptText}
+use Rattle.reo_forms.specs.ScriptForm.{SaysScript}
+use Rattle.reo_top.specs.Texts.{Content, long, text}
 use Rattle.reo_top.specs.Circuits.{IsProgram, IsReadAs, IsReadOnlyAs, IsRefusedWith, unread_whole, missed_after}
 use Rattle.reo_syntax.specs.Canonical.{canonical_text}
 use Rattle.reo_forms.specs.declared.plainest.Plainest.{Plainest}
@@ -156,7 +157,7 @@ pub long_script_as : (MissedScript : Type 0) (c : Plainest) (script : Content) �
 long_script_as MissedScript c script same before now was is code h = λ bytes status whole.
     line_as (codes "too long script\n") 4 before now was is code h bytes status (subst (λ (z : Content). script_whole c z bytes status) same whole)
 
-pub no_script_as : (MissedScript : Type 0) (c : Plainest) (script : Content) (bytes : List ℕ) → script ≡ text bytes → ((components : List Component) → IsScriptText c bytes components → ⊥)
+pub no_script_as : (MissedScript : Type 0) (c : Plainest) (script : Content) (bytes : List ℕ) → script ≡ text bytes → ((components : List Component) → SaysScript c.parameters bytes components → ⊥)
     → (before now : Option (List ℕ)) (was is code : ℕ) → Refuses (codes "not built script\n") 12 before now was is code → IsExact (script_owed MissedScript c script) before now code
 no_script_as MissedScript c script bytes same none before now was is code h = λ output status whole.
     let here : script_whole c (text bytes) output status = subst (λ (z : Content). script_whole c z output status) same whole in

@@ -14,7 +14,8 @@ use Rattle.reo_build.specs.Flat.{ports_of}
 use Rattle.reo_runner.specs.declared.outcome.Outcome.{Outcome}
 use Rattle.reo_runner.specs.Outcome.{Cut, Kept}
 use Rattle.reo_top.specs.Cases.{Owed, AreFirstLines, Cases, Wants}
-use Rattle.reo_top.specs.Texts.{Content, long, text, IsScriptText}
+use Rattle.reo_forms.specs.ScriptForm.{SaysScript}
+use Rattle.reo_top.specs.Texts.{Content, long, text}
 use Rattle.reo_top.specs.Traces.{kind_rules, most_rounds, start_for, status_of}
 use Rattle.reo_trees.specs.declared.programs.Program.{Program}
 use Rattle.reo_forms.specs.Shape.{HasShape}
@@ -66,7 +67,7 @@ module _ (c : Plainest) (components : List Component) where
       ]
 
   -- From a script that is read to its run.
-  pub script_lifted : (MissedScript : Type 0) (script : Content) (bytes : List ℕ) → script ≡ text bytes → IsScriptText c bytes components
+  pub script_lifted : (MissedScript : Type 0) (script : Content) (bytes : List ℕ) → script ≡ text bytes → SaysScript c.parameters bytes components
       → (before now : Option (List ℕ)) (was is code : ℕ) → Cases (run_owed c components) before now was is code → Cases (script_owed MissedScript c script) before now was is code
   script_lifted MissedScript script bytes same says before now was is code cases =
       lifted (run_owed c components) (script_owed MissedScript c script)
@@ -75,7 +76,7 @@ module _ (c : Plainest) (components : List Component) where
       before now was is code cases
 
 -- A script that is not of its form.
-pub no_script : (c : Plainest) (script : Content) (bytes : List ℕ) → script ≡ text bytes → ((components : List Component) → IsScriptText c bytes components → ⊥) → script_whole c script (codes "not built script\n") 12
+pub no_script : (c : Plainest) (script : Content) (bytes : List ℕ) → script ≡ text bytes → ((components : List Component) → SaysScript c.parameters bytes components → ⊥) → script_whole c script (codes "not built script\n") 12
 no_script c script bytes same none = subst (λ (z : Content). script_whole c z (codes "not built script\n") 12) (sym same) (inl (none, (refl, refl)))
 
 pub long_script : (c : Plainest) (script : Content) → script ≡ long → script_whole c script (codes "too long script\n") 4

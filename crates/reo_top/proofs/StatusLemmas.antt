@@ -19,7 +19,8 @@ use Rattle.reo_runner.specs.Outcome.{Ran}
 use Rattle.reo_runner.specs.Whole.{HasOneRun}
 use Rattle.reo_top.specs.Cases.{Owed, IsExact, Refuses}
 use Rattle.reo_trees.specs.declared.programs.Program.{Program}
-use Rattle.reo_top.specs.Texts.{Content, text, content_of, IsScriptText}
+use Rattle.reo_forms.specs.ScriptForm.{SaysScript}
+use Rattle.reo_top.specs.Texts.{Content, text, content_of}
 use Rattle.reo_top.specs.Words.{IsRunWords, IsPrintWords, HasNoForm, Missed}
 use Rattle.reo_top.proofs.CaseLemmas.{line_as}
 use Rattle.reo_top.specs.Traces.{kind_rules, most_rounds, start_for, status_of, IsTraceOf}
@@ -41,7 +42,7 @@ ran_as c components one ending before now o ran = λ bytes status trace.
 
 -- A script that was read.
 module _ (c : Plainest) (script : Content) where
-  pub script_as : IsPlainest c → (MissedScript : Type 0) (components : List Component) (t : List ℕ) → script ≡ text t → IsScriptText c t components
+  pub script_as : IsPlainest c → (MissedScript : Type 0) (components : List Component) (t : List ℕ) → script ≡ text t → SaysScript c.parameters t components
       → (Told : List ℕ → ℕ → Type 0) → AllWhole (run_owed c components) Told → AllWhole (script_owed MissedScript c script) Told
   script_as plain MissedScript components t same says Told exact = λ bytes status h.
       let here : script_whole c (text t) bytes status = subst (λ (z : Content). script_whole c z bytes status) same h in

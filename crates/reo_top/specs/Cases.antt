@@ -30,7 +30,7 @@ pub record Wrote (owed : Owed) (before now : Option (List ℕ)) (code : ℕ) : T
   pub text : Appended before now bytes
 
 -- The line of a fetch that failed was written.
-pub record Missed (owed : Owed) (before now : Option (List ℕ)) (code : ℕ) : Type 0 where
+pub record ReadFault (owed : Owed) (before now : Option (List ℕ)) (code : ℕ) : Type 0 where
   pub bytes : List ℕ
   pub is : owed.fault bytes
   pub text : Appended before now bytes
@@ -59,7 +59,7 @@ pub record Wanted (owed : Owed) (before now : Option (List ℕ)) (was is : ℕ) 
 
 -- One of the four cases holds.
 abbrev pub Cases : Owed → Option (List ℕ) → Option (List ℕ) → ℕ → ℕ → ℕ → Type 0
-Cases owed before now was is code = Wrote owed before now code ⊎ (Missed owed before now code ⊎ (Broke owed before now was is code ⊎ Wanted owed before now was is code))
+Cases owed before now was is code = Wrote owed before now code ⊎ (ReadFault owed before now code ⊎ (Broke owed before now was is code ⊎ Wanted owed before now was is code))
 
 -- A line with its status.
 abbrev pub IsLine : List ℕ → ℕ → List ℕ → ℕ → Type 0

@@ -14,7 +14,8 @@ use Rattle.reo_runner.specs.Justified.{IsJustified}
 use Rattle.reo_runner.specs.Run.{IsRun}
 use Rattle.reo_top.specs.Cases.{IsFailure}
 use Rattle.reo_top.specs.Circuits.{IsProgram}
-use Rattle.reo_top.specs.Texts.{text, content_of, IsScriptText}
+use Rattle.reo_forms.specs.ScriptForm.{SaysScript}
+use Rattle.reo_top.specs.Texts.{text, content_of}
 use Rattle.reo_top.specs.Traces.{kind_rules, most_rounds, start_for, status_of}
 use Rattle.reo_top.specs.Words.{IsRunWords}
 
@@ -30,7 +31,7 @@ pub record Accepted (words : List (List ℕ)) (folder : Folder) : Type 0 where
   pub script : List ℕ
   pub script_is : content_of (file_of folder script_name) ≡ text script
   pub components : List Component
-  pub says : IsScriptText circuit script components
+  pub says : SaysScript circuit.parameters script components
 
 -- The trace of the run was written, and the status is that of its ending. Each round is the first colouring in the written
 -- order, idle only where no colouring flows, and jams only what has no three-colouring.

@@ -1,8 +1,5 @@
 -- What a file is to a command.
 use Rattle.std.specs.Prelude.{ℕ, nat_le, cond, List, Option, Some, None, length}
-use Rattle.reo_script.specs.declared.script.Component.{Component}
-use Rattle.reo_forms.specs.declared.plainest.Plainest.{Plainest}
-use Rattle.reo_forms.specs.ScriptForm.{SaysScript}
 
 -- What a file is to a command: none, longer than the limit, or its bytes.
 pub data Content : Type 0 where
@@ -17,7 +14,3 @@ limit = 1048576
 abbrev pub content_of : Option (List ℕ) → Content
 content_of None = gone
 content_of (Some bytes) = cond (nat_le (length bytes) limit) (text bytes) long
-
--- The text says this script for the ports of a circuit.
-abbrev pub IsScriptText : Plainest → List ℕ → List Component → Type 0
-IsScriptText c bytes components = SaysScript c.parameters bytes components

@@ -7,7 +7,8 @@ use Rattle.reo_script.specs.declared.script.Component.{Component}
 use Rattle.reo_forms.specs.declared.plainest.Plainest.{Plainest}
 use Rattle.reo_forms.specs.Shape.{HasShape}
 use Rattle.reo_top.specs.Cases.{Owed, IsLine}
-use Rattle.reo_top.specs.Texts.{Content, gone, long, text, content_of, IsScriptText}
+use Rattle.reo_forms.specs.ScriptForm.{SaysScript}
+use Rattle.reo_top.specs.Texts.{Content, gone, long, text, content_of}
 use Rattle.reo_top.specs.Circuits.{IsProgram, unread_whole}
 use Rattle.reo_top.specs.Traces.{IsTraceOf}
 use Rattle.reo_top.specs.Words.{IsRunWords, IsPrintWords, HasNoForm, Missed}
@@ -21,8 +22,8 @@ abbrev pub script_whole : Plainest → Content → List ℕ → ℕ → Type 0
 script_whole c gone bytes code = IsLine (codes "read fault script\n") 3 bytes code
 script_whole c long bytes code = IsLine (codes "too long script\n") 4 bytes code
 script_whole c (text t) bytes code =
-    (((components : List Component) → IsScriptText c t components → ⊥) × IsLine (codes "not built script\n") 12 bytes code)
-    ⊎ ((components : List Component) × IsScriptText c t components × IsTraceOf c components bytes code)
+    (((components : List Component) → SaysScript c.parameters t components → ⊥) × IsLine (codes "not built script\n") 12 bytes code)
+    ⊎ ((components : List Component) × SaysScript c.parameters t components × IsTraceOf c components bytes code)
 
 -- The same, with the line of a fetch that failed.
 abbrev pub script_owed : Type 0 → Plainest → Content → Owed

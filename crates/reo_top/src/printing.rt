@@ -25,6 +25,7 @@ pub(crate) fn print_circuit<F: Files, S: Sink>(
 ) -> Status
     ensures cases { IfSome (F.told files.old) (λ folder. Cases (print_owed (Missed (F.failed files.old) (F.failed files.new) name.now) (content_of (file_of folder name.now))) (S.told out.old) (S.told out.new) (S.faults out.old) (S.faults out.new) result.code) }
     ensures exact { IfSome (F.told files.old) (λ folder. IsExact (print_owed (Missed (F.failed files.old) (F.failed files.new) name.now) (content_of (file_of folder name.now))) (S.told out.old) (S.told out.new) result.code) }
+    ensures told { F.told files.new ≡ F.told files.old }
     ensures status { IsTrue (is_print_status result.code) }
     ensures later { S.faults out.old ≤ S.faults out.new }
     ensures rose { result.code ≡ 9 → Rose (S.faults out.old) (S.faults out.new) }

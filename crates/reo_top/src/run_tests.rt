@@ -1,7 +1,10 @@
-//! Runs, and what a sink that fails has got of them.
+//! Runs, what a sink that fails has got of them, and runs over objects that never fail.
+ghost use Rattle.std.specs.Prelude.{◌≢◌};
+
 use crate::reo;
+use crate::top::Status;
 use crate::tests::{GIVE, ONE, answer, calls, named, words};
-use reo_io::{MemoryFiles, MemorySink, MemorySource};
+use reo_io::{MemoryFiles, MemorySink, MemorySource, SureFiles, SureSink, SureSource};
 use reo_values::{Bytes, List, NoMemory};
 use std::alloc::Global;
 use std::test::Fail;
@@ -126,5 +129,34 @@ fn a_failing_sink_has_a_front(rt: HostRuntime) -> Result<(), Fail> {
     }
     assert!(rt; breaks_to(alloc, put, 0, 0, GIVEN)?);
     assert!(rt; breaks_to(alloc, 1, 1, 9, b"")?);
+    Ok(())
+}
+
+/// The command over objects that never fail: it never answers that one did.
+fn answer_surely(
+    alloc: Global,
+    words: &List<Bytes>,
+    files: &mut SureFiles,
+    source: &mut SureSource,
+    out: &mut SureSink,
+) -> Status
+    ensures fetched { result.code ≢ 3 }
+    ensures taken { result.code ≢ 9 }
+{
+    reo(alloc, words, files, source, out)
+}
+
+#[test]
+fn a_run_over_objects_that_never_fail_is_written(rt: HostRuntime) -> Result<(), Fail> {
+    let alloc = rt.alloc();
+    let mut files = List::new(alloc);
+    files.push(named(alloc, b"C", ONE)?)?;
+    files.push(named(alloc, b"S", GIVE)?)?;
+    let mut files = SureFiles::new(alloc, files)?;
+    let mut source = SureSource::new(alloc, Bytes::new(alloc))?;
+    let mut sink = SureSink::new(alloc, 99)?;
+    let words = words(alloc, &[b"run", b"C", b"S"])?;
+    let status = answer_surely(alloc, &words, &mut files, &mut source, &mut sink);
+    assert!(rt; status.code == 0 && sink.bytes() == GIVEN);
     Ok(())
 }

@@ -66,6 +66,7 @@ fn run_script<F: Files, S: Sink>(
     requires { IsPlainest plainest.now }
     ensures cases { IfSome (F.told files.old) (λ folder. Cases (script_owed (Missed (F.failed files.old) (F.failed files.new) name.now) plainest.now (content_of (file_of folder name.now))) (S.told out.old) (S.told out.new) (S.faults out.old) (S.faults out.new) result.code) }
     ensures exact { IfSome (F.told files.old) (λ folder. IsExact (script_owed (Missed (F.failed files.old) (F.failed files.new) name.now) plainest.now (content_of (file_of folder name.now))) (S.told out.old) (S.told out.new) result.code) }
+    ensures told { F.told files.new ≡ F.told files.old }
     ensures status { IsTrue (is_run_status result.code) }
     ensures later { S.faults out.old ≤ S.faults out.new }
     ensures rose { result.code ≡ 9 → Rose (S.faults out.old) (S.faults out.new) }
@@ -94,6 +95,7 @@ fn run_program<F: Files, S: Sink>(
 ) -> Status
     ensures cases { IfSome (F.told files.old) (λ folder. Cases (shape_owed (Missed (F.failed files.old) (F.failed files.new) script.now) program.now (content_of (file_of folder script.now))) (S.told out.old) (S.told out.new) (S.faults out.old) (S.faults out.new) result.code) }
     ensures exact { IfSome (F.told files.old) (λ folder. IsExact (shape_owed (Missed (F.failed files.old) (F.failed files.new) script.now) program.now (content_of (file_of folder script.now))) (S.told out.old) (S.told out.new) result.code) }
+    ensures told { F.told files.new ≡ F.told files.old }
     ensures status { IsTrue (is_run_status result.code) }
     ensures later { S.faults out.old ≤ S.faults out.new }
     ensures rose { result.code ≡ 9 → Rose (S.faults out.old) (S.faults out.new) }
@@ -116,6 +118,7 @@ pub(crate) fn run_circuit<F: Files, S: Sink>(
 ) -> Status
     ensures cases { IfSome (F.told files.old) (λ folder. Cases (both_owed (Missed (F.failed files.old) (F.failed files.new) circuit.now) (Missed (F.failed files.old) (F.failed files.new) script.now) (content_of (file_of folder circuit.now)) (content_of (file_of folder script.now))) (S.told out.old) (S.told out.new) (S.faults out.old) (S.faults out.new) result.code) }
     ensures exact { IfSome (F.told files.old) (λ folder. IsExact (both_owed (Missed (F.failed files.old) (F.failed files.new) circuit.now) (Missed (F.failed files.old) (F.failed files.new) script.now) (content_of (file_of folder circuit.now)) (content_of (file_of folder script.now))) (S.told out.old) (S.told out.new) result.code) }
+    ensures told { F.told files.new ≡ F.told files.old }
     ensures status { IsTrue (is_run_status result.code) }
     ensures later { S.faults out.old ≤ S.faults out.new }
     ensures rose { result.code ≡ 9 → Rose (S.faults out.old) (S.faults out.new) }

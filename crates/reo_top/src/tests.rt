@@ -89,11 +89,21 @@ pub fn prints_to(alloc: Global, circuit: &[u8], status: u8, text: &[u8]) -> Resu
 }
 
 /// Words, the status and what is written.
-const WORD_ROWS: [(&[&[u8]], u8, &[u8]); 12] = [
+const WORD_ROWS: [(&[&[u8]], u8, &[u8]); 14] = [
     (&[], 2, b"words refused\n"),
     (&[b"run", b"C"], 2, b"words refused\n"),
     (&[b"run", b"C", b"S", b"S"], 2, b"words refused\n"),
     (&[b"walk", b"C", b"S"], 2, b"words refused\n"),
+    (
+        &[b"run", b"C", b"S", b"--rounds", b"5", b"--budget", b"5"],
+        2,
+        b"words refused\n",
+    ),
+    (
+        &[b"run", b"C", b"S", b"--budget", b"0"],
+        2,
+        b"words refused\n",
+    ),
     (&[b"run", b"", b"S"], 2, b"words refused\n"),
     (&[b"run", b"C", b""], 2, b"words refused\n"),
     (&[b"run", b"D", b"S"], 3, b"read fault circuit\n"),

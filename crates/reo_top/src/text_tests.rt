@@ -1,11 +1,16 @@
 //! Circuit texts that are printed, and texts that are refused.
-use crate::tests::{prints_to, runs_to};
+use crate::tests::{ONE, prints_to, runs_to};
 use reo_values::NoMemory;
 use std::alloc::Global;
 use std::test::Fail;
 
 /// A circuit text, the status of its print, and what is written.
-const PRINT_ROWS: [(&[u8], u8, &[u8]); 10] = [
+const PRINT_ROWS: [(&[u8], u8, &[u8]); 11] = [
+    (
+        ONE,
+        0,
+        b"connector main(in a: int 0..9, out b: int 0..9) {\n  sync a b;\n}\n",
+    ),
     (
         b"connector   main ( in a:int 0..09 , out b : int 0..9){sync a b;}#x",
         0,

@@ -73,6 +73,7 @@ pub fn reo<F: Files, R: Source, S: Sink>(
     ensures headline { IfSome (F.told files.old) (λ folder. Headline words.now folder (S.told out.old) (S.told out.new) result.code) }
     ensures cases { IfSome (F.told files.old) (λ folder. Cases (command_owed words.now folder (F.failed files.old) (F.failed files.new)) (S.told out.old) (S.told out.new) (S.faults out.old) (S.faults out.new) result.code) }
     ensures exact { IfSome (F.told files.old) (λ folder. IsExact (command_owed words.now folder (F.failed files.old) (F.failed files.new)) (S.told out.old) (S.told out.new) result.code) }
+    ensures told { F.told files.new ≡ F.told files.old }
     ensures source { source.new ≡ source.old }
     ensures status { IsStatusFor words.now result.code }
     ensures later { S.faults out.old ≤ S.faults out.new }
