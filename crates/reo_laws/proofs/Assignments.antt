@@ -13,7 +13,7 @@ use Rattle.reo_behaviour.specs.Net.{Net, Side, all_sides, sides_of, first_side, 
 use Rattle.reo_behaviour.specs.Colouring.{taken_at, given_at, lets_in, ItemFits}
 use Rattle.reo_behaviour.specs.Wired.{IsWired, IsEnd}
 use Rattle.reo_laws.specs.Parts.{is_joint_inside, IsClosed, IsAssignment}
-use Rattle.reo_laws.specs.Alike.{SameSide, AreAlike, net_with}
+use Rattle.reo_laws.specs.Alike.{SameSide, AreAlike, net_of_parts}
 use Rattle.reo_laws.proofs.Sides.{side_count, side_is, Owner, owner_of, owner_side, side_at_place, row_is, same_side_at, side_in_range, row_in_table, gives_at}
 use Rattle.reo_laws.proofs.Items.{given_same}
 
@@ -46,12 +46,12 @@ pub fits_same : (net other : Net) (a b : List ℕ) (xs ys : List (Option Value))
 fits_same net other a b xs ys j None m g l h = λ e. h (sym m ∙ e)
 fits_same net other a b xs ys j (Some item) m g l h = record { flows = m ∙ h.flows; given = g h.flows ∙ h.given; let_in = l item ∙ h.let_in }
 
-module _ (bs ds : List Behaviour) (js : List Joint) (wired : IsWired (net_with bs js)) (inside : ℕ → Bool) (alike : AreAlike bs ds inside) where
+module _ (bs ds : List Behaviour) (js : List Joint) (wired : IsWired (net_of_parts bs js)) (inside : ℕ → Bool) (alike : AreAlike bs ds inside) where
   abbrev net : Net
-  net = net_with bs js
+  net = net_of_parts bs js
 
   abbrev other : Net
-  other = net_with ds js
+  other = net_of_parts ds js
 
   pub first_same_at : (i : ℕ) → first_side ds i ≡ first_side bs i
   first_same_at = first_same bs ds alike.count alike.shape

@@ -11,7 +11,7 @@ use Rattle.reo_behaviour.specs.First.{Position, key_at, class_positions, row_pos
 use Rattle.reo_behaviour.specs.Wired.{IsWired}
 use Rattle.reo_laws.specs.Parts.{IsClosed, IsAssignment}
 use Rattle.reo_laws.specs.Keys.{within}
-use Rattle.reo_laws.specs.Alike.{AreAlike, net_with, IsIsolated, FirstsAgree}
+use Rattle.reo_laws.specs.Alike.{AreAlike, net_of_parts, IsIsolated, FirstsAgree}
 use Rattle.reo_laws.proofs.Sides.{owner_of, owner_side}
 use Rattle.reo_laws.proofs.Assignments.{first_same_at, sides_same, side_same, side_other, side_inside, carried}
 use Rattle.reo_laws.proofs.FirstInside.{first_inside}
@@ -63,12 +63,12 @@ module _ (inside : ℕ → Bool) (rows : List ℕ) where
   row_places (s ∷ ss) [] k n = absurd (omega arith)
   row_places (s ∷ ss) (t ∷ ts) k n = (refl, λ g. refl, row_places ss ts (suc k) (omega arith))
 
-module _ (bs ds : List Behaviour) (js : List Joint) (wired : IsWired (net_with bs js)) (inside : ℕ → Bool) (alike : AreAlike bs ds inside) where
+module _ (bs ds : List Behaviour) (js : List Joint) (wired : IsWired (net_of_parts bs js)) (inside : ℕ → Bool) (alike : AreAlike bs ds inside) where
   abbrev net : Net
-  net = net_with bs js
+  net = net_of_parts bs js
 
   abbrev other : Net
-  other = net_with ds js
+  other = net_of_parts ds js
 
   -- The same rows and items are an assignment of both.
   alike_assignment : IsClosed net inside → (rows : List ℕ) (items : List (Option Value)) → IsAssignment net inside rows items → IsAssignment other inside rows items
@@ -137,6 +137,6 @@ isolated bs ds js wired wired_other inside closed alike turn rows items first = 
 pub firsts_agree : FirstsAgree
 firsts_agree bs ds js wired wired_other order is_order inside closed alike turn rows others items other_items first first_other =
     let closed_there = closed_too bs ds js wired inside alike closed in
-    one_inside (net_with ds js) wired_other order is_order inside closed_there turn rows others items other_items
-    (isolated bs ds js wired wired_other inside closed alike turn rows items (first_inside (net_with bs js) wired turn rows items first inside closed))
-    (first_inside (net_with ds js) wired_other turn others other_items first_other inside closed_there)
+    one_inside (net_of_parts ds js) wired_other order is_order inside closed_there turn rows others items other_items
+    (isolated bs ds js wired wired_other inside closed alike turn rows items (first_inside (net_of_parts bs js) wired turn rows items first inside closed))
+    (first_inside (net_of_parts ds js) wired_other turn others other_items first_other inside closed_there)

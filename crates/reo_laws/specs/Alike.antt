@@ -27,17 +27,17 @@ pub record AreAlike (bs ds : List Behaviour) (inside : ℕ → Bool) : Type 0 wh
   pub sides : (i side : ℕ) → i < length bs → side < (behaviour_at bs i).sides → inside (first_side bs i + side) ≡ true → SameSide (behaviour_at bs i) (behaviour_at ds i) side
 
 -- These primitives with these joints.
-abbrev pub net_with : List Behaviour → List Joint → Net
-net_with bs js = record { primitives = bs; joints = js }
+abbrev pub net_of_parts : List Behaviour → List Joint → Net
+net_of_parts bs js = record { primitives = bs; joints = js }
 
 -- What is first on a closed set is also first there in a circuit that is alike on the set.
 abbrev pub IsIsolated : Type 0
-IsIsolated = (bs ds : List Behaviour) (js : List Joint) → IsWired (net_with bs js) → IsWired (net_with ds js) → (inside : ℕ → Bool) → IsClosed (net_with bs js) inside → AreAlike bs ds inside
-    → (turn : ℕ) (rows : List ℕ) (items : List (Option Value)) → IsFirstIn (net_with bs js) inside turn rows items → IsFirstIn (net_with ds js) inside turn rows items
+IsIsolated = (bs ds : List Behaviour) (js : List Joint) → IsWired (net_of_parts bs js) → IsWired (net_of_parts ds js) → (inside : ℕ → Bool) → IsClosed (net_of_parts bs js) inside → AreAlike bs ds inside
+    → (turn : ℕ) (rows : List ℕ) (items : List (Option Value)) → IsFirstIn (net_of_parts bs js) inside turn rows items → IsFirstIn (net_of_parts ds js) inside turn rows items
 
 -- The first colourings of two circuits that are alike on a closed set have the same rows and items there.
 abbrev pub FirstsAgree : Type 0
-FirstsAgree = (bs ds : List Behaviour) (js : List Joint) → IsWired (net_with bs js) → IsWired (net_with ds js) → (order : List ℕ) → IsOrder (net_with ds js) order
-    → (inside : ℕ → Bool) → IsClosed (net_with bs js) inside → AreAlike bs ds inside
-    → (turn : ℕ) (rows others : List ℕ) (items other_items : List (Option Value)) → IsFirst (net_with bs js) turn rows items → IsFirst (net_with ds js) turn others other_items
-    → AreSameIn (net_with ds js) inside rows others items other_items
+FirstsAgree = (bs ds : List Behaviour) (js : List Joint) → IsWired (net_of_parts bs js) → IsWired (net_of_parts ds js) → (order : List ℕ) → IsOrder (net_of_parts ds js) order
+    → (inside : ℕ → Bool) → IsClosed (net_of_parts bs js) inside → AreAlike bs ds inside
+    → (turn : ℕ) (rows others : List ℕ) (items other_items : List (Option Value)) → IsFirst (net_of_parts bs js) turn rows items → IsFirst (net_of_parts ds js) turn others other_items
+    → AreSameIn (net_of_parts ds js) inside rows others items other_items

@@ -4,7 +4,7 @@ use Rattle.reo_values.specs.declared.value.Value.{Value}
 use Rattle.reo_behaviour.specs.Net.{Net, all_sides, no_side, row_count}
 use Rattle.reo_behaviour.specs.Colouring.{IsColouring}
 use Rattle.reo_behaviour.specs.Wired.{IsWired}
-use Rattle.reo_laws.specs.Parts.{AreJoined, IsAssignment}
+use Rattle.reo_laws.specs.Parts.{SamePart, IsAssignment}
 
 -- Whether a side has its jam row.
 abbrev pub jams : Net → List ℕ → ℕ → Bool
@@ -18,4 +18,4 @@ pub record IsThreeColouring (net : Net) (inside : ℕ → Bool) (rows : List ℕ
 -- A colouring jams a part as a whole.
 abbrev pub JamsWhole : Type 0
 JamsWhole = (net : Net) → IsWired net → (rows : List ℕ) (items : List (Option Value)) → IsColouring net rows items
-    → (s t : ℕ) → AreJoined net s t → jams net rows s ≡ jams net rows t
+    → (s t : ℕ) → SamePart net s t → jams net rows s ≡ jams net rows t

@@ -1,6 +1,5 @@
 -- The order of colourings, restricted to a set of sides.
 use Rattle.std.specs.Prelude.{ℕ, ◌<◌, ◌≤◌, ◌≢◌, ◌≡◌, Bool, List, [], ◌∷◌, ◌++◌, Option, length, map, filter, slice_index, slice_index_or}
-use Rattle.std.specs.declared.cmp.Ordering.{Ordering}
 use Rattle.std.specs.declared.cmp.Ordering.TheVariants.{Less}
 use Rattle.reo_values.specs.declared.value.Value.{Value}
 use Rattle.reo_behaviour.specs.Net.{Net, all_sides, no_side}
@@ -10,10 +9,6 @@ use Rattle.reo_laws.specs.Parts.{IsAssignment}
 -- The places of the sides of a set.
 abbrev pub within : (ℕ → Bool) → List Position → List Position
 within inside ps = filter (λ (p : Position). inside p.side) ps
-
--- The order of colourings by what they say of a set.
-abbrev pub order_in : Net → ℕ → (ℕ → Bool) → List ℕ → List ℕ → Ordering
-order_in net turn inside a b = order_by (within inside (positions net turn)) a b
 
 -- No assignment of the set stands before these rows, by the places of the set's sides.
 abbrev pub IsLeastBy : Net → (ℕ → Bool) → List Position → List ℕ → Type 0

@@ -18,19 +18,20 @@ abbrev pub IsLinked : Net → ℕ → ℕ → ℕ → Type 0
 IsLinked net n s t = (inside : ℕ → Bool) → IsClosedBelow net n inside → inside s ≡ inside t
 
 -- Two sides of one part.
-abbrev pub AreJoined : Net → ℕ → ℕ → Type 0
-AreJoined net s t = IsLinked net (length net.joints) s t
+abbrev pub SamePart : Net → ℕ → ℕ → Type 0
+SamePart net s t = IsLinked net (length net.joints) s t
 
--- Sides that are joined to each other and to no other side.
+-- Sides, at least one, that are joined to each other and to no other side.
 pub record IsPart (net : Net) (inside : ℕ → Bool) : Type 0 where
+  pub some : (s : ℕ) × (s < length (all_sides net.primitives)) × (inside s ≡ true)
   pub closed : IsClosed net inside
-  pub joined : (s t : ℕ) → inside s ≡ true → inside t ≡ true → AreJoined net s t
+  pub joined : (s t : ℕ) → inside s ≡ true → inside t ≡ true → SamePart net s t
 
 -- Whether the giver's side of a joint is in a set.
 abbrev pub is_joint_inside : Net → (ℕ → Bool) → Joint → Bool
 is_joint_inside net inside joint = inside (side_at net joint.giver)
 
--- Rows and items that are as in a colouring at the sides of a set and at the joints between them. Elsewhere they are any.
+-- Rows and items that are as in a colouring at the sides of a set and at the joints that start there. Elsewhere they are any.
 pub record IsAssignment (net : Net) (inside : ℕ → Bool) (rows : List ℕ) (items : List (Option Value)) : Type 0 where
   pub one_row : length rows ≡ length (all_sides net.primitives)
   pub one_item : length items ≡ length net.joints
