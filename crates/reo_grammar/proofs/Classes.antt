@@ -86,7 +86,7 @@ number-kind kinds.Name h = absurd (cc)
 number-kind kinds.Text h = absurd (cc)
 number-kind kinds.Sign h = absurd (cc)
 
-text-kind : (k : TokenKind) → is_text k ≡ true → k ≡ kinds.Text
+pub text-kind : (k : TokenKind) → is_text k ≡ true → k ≡ kinds.Text
 text-kind kinds.Text h = refl
 text-kind kinds.Word h = absurd (cc)
 text-kind kinds.Number h = absurd (cc)
