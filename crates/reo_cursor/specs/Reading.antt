@@ -1,5 +1,5 @@
 -- What readers give, beside what reading by a grammar comes to.
-use Rattle.std.specs.Prelude.{◌≡◌, ℕ, Option, Some, None, cond, List, [], ◌∷◌, Result, Ok, Err}
+use Rattle.std.specs.Prelude.{◌≡◌, ℕ, Option, Some, None, cond, List, [], ◌∷◌, Result, Ok, Err, IsErrOf}
 use Rattle.reo_grammar.specs.Tokens.{Lexeme, is_number, number_from}
 use Rattle.reo_grammar.specs.Tokens.Class.{fixed, name, number, text}
 use Rattle.reo_grammar.specs.Grammar.{Outcome, token_at, then}
@@ -19,6 +19,14 @@ Gives (Ok x) left o = o ≡ got x left
 Gives (Err halts.Syntax) left o = o ≡ bad left
 Gives (Err halts.Room) left o = o ≡ out
 Gives (Err halts.NoMemory) left o = Unit {0}
+
+-- The answer is not want of memory.
+abbrev pub NeedsNoMemory : {A : Type 0} → Result A Halt → Type 0
+NeedsNoMemory r = IsErrOf r halts.NoMemory → ⊥
+
+-- Where the answer is want of memory, the tokens left are those of before.
+abbrev pub StaysWithoutMemory : {A : Type 0} → Result A Halt → List Lexeme → List Lexeme → Type 0
+StaysWithoutMemory r old new = IsErrOf r halts.NoMemory → new ≡ old
 
 -- The number that the next token is.
 abbrev pub value_at : List Lexeme → Option ℕ

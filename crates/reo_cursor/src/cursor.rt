@@ -4,7 +4,7 @@ ghost use Rattle.reo_grammar.specs.Tokens.{Lexeme, AreReal, is_real};
 ghost use Rattle.reo_grammar.specs.Tokens.Class.{fixed, other, name as name_class, number as number_class, text as text_class};
 ghost use Rattle.reo_grammar.specs.Grammar.{starts, line_of};
 ghost use Rattle.reo_lexer.specs.Lexing.{Lies, lexemes_of};
-ghost use Rattle.reo_cursor.specs.Reading.{Gives, lexeme_seen, value_at, word_at, name_at, number_at, text_at};
+ghost use Rattle.reo_cursor.specs.Reading.{Gives, NeedsNoMemory, StaysWithoutMemory, lexeme_seen, value_at, word_at, name_at, number_at, text_at};
 
 use crate::bytes::{number_of, text_of};
 use crate::{Halt, Seen, seen_of};
@@ -147,8 +147,13 @@ impl<'a> Cursor<'a> {
     }
 
     /// Takes this word or sign.
+    ///
+    /// # Errors
+    ///
+    /// `Syntax`: the next token is another one, or none is left. The cursor stays where it was.
     pub fn expect(&mut self, word: &[u8]) -> Result<(), Halt>
-        ensures { Gives result self.new (word_at word.now self.old) }
+        ensures read { Gives result self.new (word_at word.now self.old) }
+        ensures memory { NeedsNoMemory result }
     {
         if self.is(word) {
             self.advance();
@@ -159,8 +164,14 @@ impl<'a> Cursor<'a> {
     }
 
     /// Takes a name.
+    ///
+    /// # Errors
+    ///
+    /// `Syntax`: the next token is no name, or none is left. `NoMemory`: want of memory for the
+    /// name's bytes. The cursor stays where it was.
     pub fn name(&mut self, alloc: Global) -> Result<Bytes, Halt>
-        ensures { Gives result self.new (name_at self.old) }
+        ensures read { Gives result self.new (name_at self.old) }
+        ensures memory { StaysWithoutMemory result self.old self.new }
     {
         match self.next() {
             Some(seen) if seen.kind == TokenKind::Name => {
@@ -173,8 +184,14 @@ impl<'a> Cursor<'a> {
     }
 
     /// Takes a text in quotes, for the bytes that it stands for.
+    ///
+    /// # Errors
+    ///
+    /// `Syntax`: the next token is no text, or none is left. `NoMemory`: want of memory for the
+    /// text's bytes. The cursor stays where it was.
     pub fn text(&mut self, alloc: Global) -> Result<Bytes, Halt>
-        ensures { Gives result self.new (text_at self.old) }
+        ensures read { Gives result self.new (text_at self.old) }
+        ensures memory { StaysWithoutMemory result self.old self.new }
     {
         match self.next() {
             Some(seen) if seen.kind == TokenKind::Text => {
@@ -187,9 +204,14 @@ impl<'a> Cursor<'a> {
     }
 
     /// Takes a number from `low` to `high`.
+    ///
+    /// # Errors
+    ///
+    /// `Syntax`: the next token is no such number, or none is left. The cursor stays where it was.
     pub fn number(&mut self, low: u64, high: u64) -> Result<u64, Halt>
         ensures read { Gives result self.new (number_at low high self.old) }
         ensures range { IfOk result (λ n. (low ≤ n) × (n ≤ high)) }
+        ensures memory { NeedsNoMemory result }
     {
         match self.value() {
             Some(value) if low <= value && value <= high => {
