@@ -1,10 +1,10 @@
 //! The place among the tokens.
 ghost use Rattle.std.specs.Prelude.{◌≡◌, ◌≢◌, ℕ, ◌<◌, ◌≤◌, List, [], ◌∷◌, drop, length, All, MatchOption, IfOk, true};
-ghost use Rattle.reo_grammar.specs.Tokens.{Tok, AreReal, is_real};
+ghost use Rattle.reo_grammar.specs.Tokens.{Lexeme, AreReal, is_real};
 ghost use Rattle.reo_grammar.specs.Tokens.Class.{fixed, other, name as name_class, number as number_class, text as text_class};
 ghost use Rattle.reo_grammar.specs.Grammar.{starts, line_of};
-ghost use Rattle.reo_lexer.specs.Lexing.{Lies, toks_of};
-ghost use Rattle.reo_cursor.specs.Reading.{Gives, tok_seen, value_at, word_at, name_at, number_at, text_at};
+ghost use Rattle.reo_lexer.specs.Lexing.{Lies, lexemes_of};
+ghost use Rattle.reo_cursor.specs.Reading.{Gives, NeedsNoMemory, StaysWithoutMemory, lexeme_seen, value_at, word_at, name_at, number_at, text_at};
 
 use crate::bytes::{number_of, text_of};
 use crate::{Halt, Seen, seen_of};
@@ -23,22 +23,22 @@ pub struct Cursor<'a> {
 
 impl<'a> Model for Cursor<'a> {
     ghost use Rattle.std.specs.Prelude.{List, drop, ◌≤◌, length, All};
-    ghost use Rattle.reo_grammar.specs.Tokens.{Tok, AreReal};
-    ghost use Rattle.reo_lexer.specs.Lexing.{Lies, toks_of};
+    ghost use Rattle.reo_grammar.specs.Tokens.{Lexeme, AreReal};
+    ghost use Rattle.reo_lexer.specs.Lexing.{Lies, lexemes_of};
 
-    ghost Value = { List Tok };
+    ghost Value = { List Lexeme };
 
-    ghost view = { λ c. drop c.at (toks_of c.text.now c.tokens.now) };
+    ghost view = { λ c. drop c.at (lexemes_of c.text.now c.tokens.now) };
 
-    ghost invariant = { λ c. (c.at ≤ length c.tokens.now) × All (Lies c.text.now) c.tokens.now × AreReal (toks_of c.text.now c.tokens.now) };
+    ghost invariant = { λ c. (c.at ≤ length c.tokens.now) × All (Lies c.text.now) c.tokens.now × AreReal (lexemes_of c.text.now c.tokens.now) };
 }
 
 impl<'a> Cursor<'a> {
     /// Before all tokens of a text.
     pub fn new(text: &'a [u8], tokens: &'a [Token]) -> Cursor<'a>
         requires spans { All (Lies text.now) tokens.now }
-        requires real { AreReal (toks_of text.now tokens.now) }
-        ensures { result ≡ toks_of text.now tokens.now }
+        requires real { AreReal (lexemes_of text.now tokens.now) }
+        ensures { result ≡ lexemes_of text.now tokens.now }
     {
         Cursor {
             text,
@@ -56,8 +56,8 @@ impl<'a> Cursor<'a> {
 
     /// The next token, or None at the end.
     pub fn next(&self) -> Option<Seen<'a>>
-        ensures seen { MatchOption result (self.now ≡ []) (λ s. self.now ≡ tok_seen s ∷ drop 1 self.now) }
-        ensures real { MatchOption result (Unit {0}) (λ s. is_real (tok_seen s) ≡ true) }
+        ensures seen { MatchOption result (self.now ≡ []) (λ s. self.now ≡ lexeme_seen s ∷ drop 1 self.now) }
+        ensures real { MatchOption result (Unit {0}) (λ s. is_real (lexeme_seen s) ≡ true) }
     {
         if self.at < self.tokens.len() {
             Some(seen_of(self.text, self.tokens[self.at]))
@@ -147,8 +147,13 @@ impl<'a> Cursor<'a> {
     }
 
     /// Takes this word or sign.
+    ///
+    /// # Errors
+    ///
+    /// `Syntax`: the next token is another one, or none is left. The cursor stays where it was.
     pub fn expect(&mut self, word: &[u8]) -> Result<(), Halt>
-        ensures { Gives result self.new (word_at word.now self.old) }
+        ensures read { Gives result self.new (word_at word.now self.old) }
+        ensures memory { NeedsNoMemory result }
     {
         if self.is(word) {
             self.advance();
@@ -159,8 +164,14 @@ impl<'a> Cursor<'a> {
     }
 
     /// Takes a name.
+    ///
+    /// # Errors
+    ///
+    /// `Syntax`: the next token is no name, or none is left. `NoMemory`: want of memory for the
+    /// name's bytes. The cursor stays where it was.
     pub fn name(&mut self, alloc: Global) -> Result<Bytes, Halt>
-        ensures { Gives result self.new (name_at self.old) }
+        ensures read { Gives result self.new (name_at self.old) }
+        ensures memory { StaysWithoutMemory result self.old self.new }
     {
         match self.next() {
             Some(seen) if seen.kind == TokenKind::Name => {
@@ -173,8 +184,14 @@ impl<'a> Cursor<'a> {
     }
 
     /// Takes a text in quotes, for the bytes that it stands for.
+    ///
+    /// # Errors
+    ///
+    /// `Syntax`: the next token is no text, or none is left. `NoMemory`: want of memory for the
+    /// text's bytes. The cursor stays where it was.
     pub fn text(&mut self, alloc: Global) -> Result<Bytes, Halt>
-        ensures { Gives result self.new (text_at self.old) }
+        ensures read { Gives result self.new (text_at self.old) }
+        ensures memory { StaysWithoutMemory result self.old self.new }
     {
         match self.next() {
             Some(seen) if seen.kind == TokenKind::Text => {
@@ -187,9 +204,14 @@ impl<'a> Cursor<'a> {
     }
 
     /// Takes a number from `low` to `high`.
+    ///
+    /// # Errors
+    ///
+    /// `Syntax`: the next token is no such number, or none is left. The cursor stays where it was.
     pub fn number(&mut self, low: u64, high: u64) -> Result<u64, Halt>
         ensures read { Gives result self.new (number_at low high self.old) }
         ensures range { IfOk result (λ n. (low ≤ n) × (n ≤ high)) }
+        ensures memory { NeedsNoMemory result }
     {
         match self.value() {
             Some(value) if low <= value && value <= high => {

@@ -6,7 +6,7 @@ use Rattle.std.specs.Bool.{Decides}
 use Rattle.reo_grammar.specs.declared.kind.TokenKind.{TokenKind}
 use Rattle.reo_grammar.specs.declared.kind.TokenKind.TheVariants as kinds
 use Rattle.std.proofs.lemmas.Bool.Decides.{nat_tests}
-use Rattle.reo_grammar.specs.Tokens.{Tok, Class, matches, is_fixed, is_name, is_number, is_text}
+use Rattle.reo_grammar.specs.Tokens.{Lexeme, Class, matches, is_fixed, is_name, is_number, is_text}
 use Rattle.reo_grammar.specs.Bytes.{and, or, is_not, one_of}
 use Rattle.reo_grammar.specs.Tokens.Class.{fixed, among, other, name, named, number, text}
 use Rattle.reo_grammar.specs.Grammar.{starts}
@@ -57,16 +57,16 @@ same_word kinds.Number b l d h = absurd (cc)
 same_word kinds.Text b l d h = absurd (cc)
 
 -- A class that a word or sign is of.
-of_word : (t : Tok) (b : List ℕ) (d : Class) → matches (fixed b) t ≡ true → matches d t ≡ matches d (as_word b)
+of_word : (t : Lexeme) (b : List ℕ) (d : Class) → matches (fixed b) t ≡ true → matches d t ≡ matches d (as_word b)
 of_word t b d h = let e : t.bytes ≡ b = same_bytes t.bytes b (and-right _ _ h) in same_word t.kind t.bytes t.line d (and-left _ _ h) ∙ ap (λ x. matches d (as_word x)) e
 
-one_of-none : (t : Tok) (bs : List (List ℕ)) (d : Class) → is_fixed t.kind ≡ true → one_of t.bytes bs ≡ true → none_of d bs ≡ true → matches d t ≡ false
+one_of-none : (t : Lexeme) (bs : List (List ℕ)) (d : Class) → is_fixed t.kind ≡ true → one_of t.bytes bs ≡ true → none_of d bs ≡ true → matches d t ≡ false
 one_of-none t [] d k h n = absurd (cc)
 one_of-none t (b ∷ bs) d k h n = or-cases (bytes_eq t.bytes b) (one_of t.bytes bs) h
     (λ e. of_word t b d (and-both _ _ k e) ∙ not-false _ (and-left _ _ n))
     (λ e. one_of-none t bs d k e (and-right _ _ n))
 
-one_of-each : (t : Tok) (bs : List (List ℕ)) (d : Class) → is_fixed t.kind ≡ true → one_of t.bytes bs ≡ true → each_of d bs ≡ true → matches d t ≡ true
+one_of-each : (t : Lexeme) (bs : List (List ℕ)) (d : Class) → is_fixed t.kind ≡ true → one_of t.bytes bs ≡ true → each_of d bs ≡ true → matches d t ≡ true
 one_of-each t [] d k h n = absurd (cc)
 one_of-each t (b ∷ bs) d k h n = or-cases (bytes_eq t.bytes b) (one_of t.bytes bs) h
     (λ e. of_word t b d (and-both _ _ k e) ∙ and-left _ _ n)
@@ -86,7 +86,7 @@ number-kind kinds.Name h = absurd (cc)
 number-kind kinds.Text h = absurd (cc)
 number-kind kinds.Sign h = absurd (cc)
 
-text-kind : (k : TokenKind) → is_text k ≡ true → k ≡ kinds.Text
+pub text-kind : (k : TokenKind) → is_text k ≡ true → k ≡ kinds.Text
 text-kind kinds.Text h = refl
 text-kind kinds.Word h = absurd (cc)
 text-kind kinds.Number h = absurd (cc)
@@ -94,19 +94,19 @@ text-kind kinds.Name h = absurd (cc)
 text-kind kinds.Sign h = absurd (cc)
 
 -- The kind that a class of names, numbers or texts has.
-of_name : (t : Tok) → matches name t ≡ true → t.kind ≡ kinds.Name
+of_name : (t : Lexeme) → matches name t ≡ true → t.kind ≡ kinds.Name
 of_name t h = name-kind t.kind h
 
-of_named : (t : Tok) (b : List ℕ) → matches (named b) t ≡ true → t.kind ≡ kinds.Name
+of_named : (t : Lexeme) (b : List ℕ) → matches (named b) t ≡ true → t.kind ≡ kinds.Name
 of_named t b h = name-kind t.kind (and-left _ _ h)
 
-of_number : (t : Tok) (l m : ℕ) → matches (number l m) t ≡ true → t.kind ≡ kinds.Number
+of_number : (t : Lexeme) (l m : ℕ) → matches (number l m) t ≡ true → t.kind ≡ kinds.Number
 of_number t l m h = number-kind t.kind (and-left _ _ h)
 
-of_text : (t : Tok) → matches text t ≡ true → t.kind ≡ kinds.Text
+of_text : (t : Lexeme) → matches text t ≡ true → t.kind ≡ kinds.Text
 of_text t h = text-kind t.kind h
 
-differ-no : (c d : Class) (t : Tok) → differ c d ≡ true → matches c t ≡ true → matches d t ≡ true → ⊥
+differ-no : (c d : Class) (t : Lexeme) → differ c d ≡ true → matches c t ≡ true → matches d t ≡ true → ⊥
 differ-no name (number l m) t h p q = let a = of_name t p in let b = of_number t l m q in cc
 differ-no name text t h p q = let a = of_name t p in let b = of_text t q in cc
 differ-no (named b) (named d) t h p q =
@@ -122,13 +122,13 @@ differ-no text name t h p q = let a = of_name t q in let b = of_text t p in cc
 differ-no text (number l m) t h p q = let a = of_text t p in let b = of_number t l m q in cc
 differ-no _ _ t h p q = cc
 
-word-apart : (b : List ℕ) (d : Class) (t : Tok) → is_not (matches d (as_word b)) ≡ true → matches (fixed b) t ≡ true → matches d t ≡ true → ⊥
+word-apart : (b : List ℕ) (d : Class) (t : Lexeme) → is_not (matches d (as_word b)) ≡ true → matches (fixed b) t ≡ true → matches d t ≡ true → ⊥
 word-apart b d t h p q = not-true (matches d (as_word b)) h (sym (of_word t b d p) ∙ q)
 
-words-apart : (bs : List (List ℕ)) (d : Class) (t : Tok) → none_of d bs ≡ true → matches (among bs) t ≡ true → matches d t ≡ true → ⊥
+words-apart : (bs : List (List ℕ)) (d : Class) (t : Lexeme) → none_of d bs ≡ true → matches (among bs) t ≡ true → matches d t ≡ true → ⊥
 words-apart bs d t h p q = let e : matches d t ≡ false = one_of-none t bs d (and-left _ _ p) (and-right _ _ p) h in no-both (matches d t) q e
 
-pub apart-no : (c d : Class) (t : Tok) → apart c d ≡ true → matches c t ≡ true → matches d t ≡ true → ⊥
+pub apart-no : (c d : Class) (t : Lexeme) → apart c d ≡ true → matches c t ≡ true → matches d t ≡ true → ⊥
 apart-no (fixed b) d t h p q = word-apart b d t h p q
 apart-no (among bs) d t h p q = words-apart bs d t h p q
 apart-no (other x) (fixed b) t h p q = word-apart b (other x) t h q p
@@ -168,7 +168,7 @@ apart-no text (number l m) t h p q = differ-no text (number l m) t h p q
 apart-no text text t h p q = differ-no text text t h p q
 
 -- A name, a number or a text is no word.
-of_kind : (t : Tok) (b : List ℕ) → is_fixed t.kind ≡ false → matches (other b) t ≡ true
+of_kind : (t : Lexeme) (b : List ℕ) → is_fixed t.kind ≡ false → matches (other b) t ≡ true
 of_kind t b h = rw h refl
 
 le_le : (a b c : ℕ) → nat_le a b ≡ true → nat_le b c ≡ true → nat_le a c ≡ true
@@ -177,7 +177,7 @@ le_le a b c h k = grind (arith, nat_tests)
 between : (a b c d x : ℕ) → and (nat_le c a) (nat_le b d) ≡ true → and (nat_le a x) (nat_le x b) ≡ true → and (nat_le c x) (nat_le x d) ≡ true
 between a b c d x h k = and-both _ _ (le_le c a x (and-left _ _ h) (and-left _ _ k)) (le_le x b d (and-right _ _ k) (and-right _ _ h))
 
-pub inside-yes : (c d : Class) (t : Tok) → inside c d ≡ true → matches c t ≡ true → matches d t ≡ true
+pub inside-yes : (c d : Class) (t : Lexeme) → inside c d ≡ true → matches c t ≡ true → matches d t ≡ true
 inside-yes (fixed b) d t h p = of_word t b d p ∙ h
 inside-yes (among bs) d t h p = one_of-each t bs d (and-left _ _ p) (and-right _ _ p) h
 inside-yes name name t h p = p
@@ -193,15 +193,15 @@ inside-yes text (other b) t h p = of_kind t b (rw (of_text t p) refl)
 inside-yes (number l m) (other b) t h p = of_kind t b (rw (of_number t l m p) refl)
 inside-yes _ _ t h p = absurd (cc)
 
-pub starts_of : (cs : List Class) (d : Class) (t : Tok) → all_inside cs d ≡ true → matches_any cs t ≡ true → matches d t ≡ true
+pub starts_of : (cs : List Class) (d : Class) (t : Lexeme) → all_inside cs d ≡ true → matches_any cs t ≡ true → matches d t ≡ true
 starts_of [] d t h p = absurd (cc)
 starts_of (c ∷ cs) d t h p = or-cases (matches c t) (matches_any cs t) p (λ e. inside-yes c d t (and-left _ _ h) e) (λ e. starts_of cs d t (and-right _ _ h) e)
 
-pub apart_from-no : (c : Class) (ds : List Class) (t : Tok) → apart_from c ds ≡ true → matches c t ≡ true → matches_any ds t ≡ true → ⊥
+pub apart_from-no : (c : Class) (ds : List Class) (t : Lexeme) → apart_from c ds ≡ true → matches c t ≡ true → matches_any ds t ≡ true → ⊥
 apart_from-no c [] t h p q = cc
 apart_from-no c (d ∷ ds) t h p q = or-cases (matches d t) (matches_any ds t) q (λ e. apart-no c d t (and-left _ _ h) p e) (λ e. apart_from-no c ds t (and-right _ _ h) p e)
 
-pub all_apart-no : (cs ds : List Class) (t : Tok) → all_apart cs ds ≡ true → matches_any cs t ≡ true → matches_any ds t ≡ true → ⊥
+pub all_apart-no : (cs ds : List Class) (t : Lexeme) → all_apart cs ds ≡ true → matches_any cs t ≡ true → matches_any ds t ≡ true → ⊥
 all_apart-no [] ds t h p q = cc
 all_apart-no (c ∷ cs) ds t h p q = or-cases (matches c t) (matches_any cs t) p (λ e. apart_from-no c ds t (and-left _ _ h) e q) (λ e. all_apart-no cs ds t (and-right _ _ h) e q)
 
@@ -209,12 +209,12 @@ or_assoc : (a b c : Bool) → or a (or b c) ≡ or (or a b) c
 or_assoc true b c = refl
 or_assoc false b c = refl
 
-pub matches_any-append : (cs ds : List Class) (t : Tok) → matches_any (cs ++ ds) t ≡ or (matches_any cs t) (matches_any ds t)
+pub matches_any-append : (cs ds : List Class) (t : Lexeme) → matches_any (cs ++ ds) t ≡ or (matches_any cs t) (matches_any ds t)
 matches_any-append [] ds t = refl
 matches_any-append (c ∷ cs) ds t = ap (λ b. or (matches c t) b) (matches_any-append cs ds t) ∙ or_assoc (matches c t) (matches_any cs t) (matches_any ds t)
 
 -- The next token is one of several words where it is the first of them or one of the others.
-pub starts_among-cons : (b : List ℕ) (bs : List (List ℕ)) (ts : List Tok) → starts (among (b ∷ bs)) ts ≡ or (starts (fixed b) ts) (starts (among bs) ts)
+pub starts_among-cons : (b : List ℕ) (bs : List (List ℕ)) (ts : List Lexeme) → starts (among (b ∷ bs)) ts ≡ or (starts (fixed b) ts) (starts (among bs) ts)
 starts_among-cons b bs [] = refl
 starts_among-cons b bs (t ∷ ts) = and-or (is_fixed t.kind) (bytes_eq t.bytes b) (one_of t.bytes bs)
   where
@@ -222,7 +222,7 @@ starts_among-cons b bs (t ∷ ts) = and-or (is_fixed t.kind) (bytes_eq t.bytes b
     and-or true b c = refl
     and-or false b c = refl
 
-pub starts_among-nil : (ts : List Tok) → starts (among []) ts ≡ false
+pub starts_among-nil : (ts : List Lexeme) → starts (among []) ts ≡ false
 starts_among-nil [] = refl
 starts_among-nil (t ∷ ts) = and-false (is_fixed t.kind)
   where

@@ -1,7 +1,7 @@
 -- What is derived is read again, whatever follows that does not go on with it.
 use Rattle.std.proofs.Common.{◌≡◌, ℕ, zero, suc, ◌≤◌, ◌<◌, Bool, true, false, cond, List, [], ◌∷◌, ◌++◌, length, ◌⊎◌, inl, inr, refl, sym, ◌∙◌, ap, append_assoc, arith, length-append}
 use Rattle.reo_grammar.specs.Bytes.{and, is_not}
-use Rattle.reo_grammar.specs.Tokens.{Tok, Class, matches}
+use Rattle.reo_grammar.specs.Tokens.{Lexeme, Class, matches}
 use Rattle.reo_grammar.specs.Conditions.{is_nullable, is_productive}
 use Rattle.reo_grammar.specs.Sight.{matches_any, apart_from, all_apart, all_inside, firsts, mores, is_sighted}
 use Rattle.reo_grammar.specs.Grammar.{Grammar, Outcome, Derives, Links, read, loop, then, starts, line_of}
@@ -11,23 +11,23 @@ use Rattle.reo_grammar.proofs.Sound.{Good, Base, good, and-left, and-right, or-l
 use Rattle.reo_grammar.proofs.Classes.{false-not, starts_of, apart_from-no, all_apart-no, matches_any-append}
 
 -- Nothing of these classes stands next.
-abbrev pub Stops : List Class → List Tok → Type 0
+abbrev pub Stops : List Class → List Lexeme → Type 0
 Stops cs [] = Unit {0}
 Stops cs (t ∷ ts) = matches_any cs t ≡ true → ⊥
 
-pub Stops-left : (cs ds : List Class) (s : List Tok) → Stops (cs ++ ds) s → Stops cs s
+pub Stops-left : (cs ds : List Class) (s : List Lexeme) → Stops (cs ++ ds) s → Stops cs s
 Stops-left cs ds [] h = tt
 Stops-left cs ds (t ∷ s) h = λ e. h (matches_any-append cs ds t ∙ or-left _ _ e)
 
-pub Stops-right : (cs ds : List Class) (s : List Tok) → Stops (cs ++ ds) s → Stops ds s
+pub Stops-right : (cs ds : List Class) (s : List Lexeme) → Stops (cs ++ ds) s → Stops ds s
 Stops-right cs ds [] h = tt
 Stops-right cs ds (t ∷ s) h = λ e. h (matches_any-append cs ds t ∙ or-right _ _ e)
 
-pub Stops-starts : (c : Class) (cs : List Class) (s : List Tok) → Stops (c ∷ cs) s → starts c s ≡ false
+pub Stops-starts : (c : Class) (cs : List Class) (s : List Lexeme) → Stops (c ∷ cs) s → starts c s ≡ false
 Stops-starts c cs [] h = refl
 Stops-starts c cs (t ∷ s) h = false-not (matches c t) (λ e. h (or-left _ _ e))
 
-pub split_front : (a b ts : List Tok) (t : Tok) → t ∷ ts ≡ a ++ b → (([] ≡ a) × (t ∷ ts ≡ b)) ⊎ ((c : List Tok) × (a ≡ t ∷ c))
+pub split_front : (a b ts : List Lexeme) (t : Lexeme) → t ∷ ts ≡ a ++ b → (([] ≡ a) × (t ∷ ts ≡ b)) ⊎ ((c : List Lexeme) × (a ≡ t ∷ c))
 split_front [] b ts t e = inl (refl, e)
 split_front (u ∷ a) b ts t e = inr (a, cc)
 
@@ -39,17 +39,17 @@ cond-false : {A : Type 0} (b : Bool) (x y : A) → b ≡ false → cond b x y �
 cond-false true x y h = absurd (cc)
 cond-false false x y h = refl
 
-any-left : (cs ds : List Class) (t : Tok) → matches_any cs t ≡ true → matches_any (cs ++ ds) t ≡ true
+any-left : (cs ds : List Class) (t : Lexeme) → matches_any cs t ≡ true → matches_any (cs ++ ds) t ≡ true
 any-left cs ds t h = matches_any-append cs ds t ∙ or-left _ _ h
 
-any-right : (cs ds : List Class) (t : Tok) → matches_any ds t ≡ true → matches_any (cs ++ ds) t ≡ true
+any-right : (cs ds : List Class) (t : Lexeme) → matches_any ds t ≡ true → matches_any (cs ++ ds) t ≡ true
 any-right cs ds t h = matches_any-append cs ds t ∙ or-right _ _ h
 
 -- What is derived begins with a first token.
-pub begin : {Ref : Type 0} {tree : Ref → Type 0} {A : Type 0} (F : Ref → List Class) (R : (r : Ref) → List Tok → tree r → Type 0)
-    (never : (r : Ref) (ts : List Tok) (x : tree r) → [] ≡ ts → R r ts x → ⊥)
-    (each : (r : Ref) (ts : List Tok) (t : Tok) (us : List Tok) (x : tree r) → t ∷ us ≡ ts → R r ts x → matches_any (F r) t ≡ true)
-    (g : Grammar Ref tree A) (ts : List Tok) (t : Tok) (us : List Tok) (x : A) → t ∷ us ≡ ts → Derives R g ts x → matches_any (firsts F g) t ≡ true
+pub begin : {Ref : Type 0} {tree : Ref → Type 0} {A : Type 0} (F : Ref → List Class) (R : (r : Ref) → List Lexeme → tree r → Type 0)
+    (never : (r : Ref) (ts : List Lexeme) (x : tree r) → [] ≡ ts → R r ts x → ⊥)
+    (each : (r : Ref) (ts : List Lexeme) (t : Lexeme) (us : List Lexeme) (x : tree r) → t ∷ us ≡ ts → R r ts x → matches_any (F r) t ≡ true)
+    (g : Grammar Ref tree A) (ts : List Lexeme) (t : Lexeme) (us : List Lexeme) (x : A) → t ∷ us ≡ ts → Derives R g ts x → matches_any (firsts F g) t ≡ true
 begin F R never each (nothing y) ts t us x e d = absurd (let k = e ∙ d.0 in cc)
 begin F R never each (token c) ts t us x e d = let k : t ≡ x = (let w = e ∙ d.0 in cc) in or-left (matches c t) false (rw k d.1)
 begin F R never each (both f g h) ts t us x e (a, b, y, z, w, d1, d2, _) =
@@ -70,9 +70,9 @@ begin F R never each (lined f g) ts t us x e (y, d, _) = begin F R never each g 
 begin F R never each (rule r) ts t us x e d = each r ts t us x e d
 
 -- A loop has turns enough where it has as many as there are tokens.
-pub loop-enough : {A B : Type 0} (f : A → B → A) (c : Class) (next : List Tok → Outcome B)
-    → ((ts : List Tok) (y : B) (r : List Tok) → next ts ≡ got y r → length r < length ts)
-    → (n m : ℕ) (x : A) (ts : List Tok) → length ts ≤ n → length ts ≤ m → loop f c next n x ts ≡ loop f c next m x ts
+pub loop-enough : {A B : Type 0} (f : A → B → A) (c : Class) (next : List Lexeme → Outcome B)
+    → ((ts : List Lexeme) (y : B) (r : List Lexeme) → next ts ≡ got y r → length r < length ts)
+    → (n m : ℕ) (x : A) (ts : List Lexeme) → length ts ≤ n → length ts ≤ m → loop f c next n x ts ≡ loop f c next m x ts
 loop-enough f c next less zero zero x ts h k = refl
 loop-enough f c next less zero (suc m) x [] h k = refl
 loop-enough f c next less zero (suc m) x (t ∷ ts) h k = absurd (omega arith)
@@ -80,43 +80,43 @@ loop-enough f c next less (suc n) zero x [] h k = refl
 loop-enough f c next less (suc n) zero x (t ∷ ts) h k = absurd (omega arith)
 loop-enough {A = A} {B = B} f c next less (suc n) (suc m) x ts h k = ap (λ o. cond (starts c ts) o (got x ts)) (same (next ts) (λ y r e. loop-enough f c next less n m (f x y) r (let l : length r < length ts = less ts y r e in omega arith) (let l : length r < length ts = less ts y r e in omega arith)))
   where
-    same : (o : Outcome B) → ((y : B) (r : List Tok) → o ≡ got y r → loop f c next n (f x y) r ≡ loop f c next m (f x y) r)
+    same : (o : Outcome B) → ((y : B) (r : List Lexeme) → o ≡ got y r → loop f c next n (f x y) r ≡ loop f c next m (f x y) r)
         → then o (λ y r. loop f c next n (f x y) r) ≡ then o (λ y r. loop f c next m (f x y) r)
     same (got y r) i = i y r refl
     same (bad r) i = refl
     same out i = refl
 
 -- What stands between two parts lets the first end.
-between : {Ref : Type 0} {tree : Ref → Type 0} {A B : Type 0} (F M : Ref → List Class) (R : (r : Ref) → List Tok → tree r → Type 0)
-    (never : (r : Ref) (ts : List Tok) (x : tree r) → [] ≡ ts → R r ts x → ⊥)
-    (each : (r : Ref) (ts : List Tok) (t : Tok) (us : List Tok) (x : tree r) → t ∷ us ≡ ts → R r ts x → matches_any (F r) t ≡ true)
-    (g : Grammar Ref tree A) (h : Grammar Ref tree B) (b s : List Tok) (y : B)
+between : {Ref : Type 0} {tree : Ref → Type 0} {A B : Type 0} (F M : Ref → List Class) (R : (r : Ref) → List Lexeme → tree r → Type 0)
+    (never : (r : Ref) (ts : List Lexeme) (x : tree r) → [] ≡ ts → R r ts x → ⊥)
+    (each : (r : Ref) (ts : List Lexeme) (t : Lexeme) (us : List Lexeme) (x : tree r) → t ∷ us ≡ ts → R r ts x → matches_any (F r) t ≡ true)
+    (g : Grammar Ref tree A) (h : Grammar Ref tree B) (b s : List Lexeme) (y : B)
     → all_apart (firsts F h) (mores M g) ≡ true → Derives R h b y → Stops (cond (is_nullable h) (mores M g) []) s → Stops (mores M g) (b ++ s)
 between F M R never each g h [] s y p d st = let e : is_nullable h ≡ true = null R never h [] y refl d in rw (cond-true (is_nullable h) (mores M g) [] e) at st
 between F M R never each g h (t ∷ b) s y p d st = λ e. all_apart-no (firsts F h) (mores M g) t p (begin F R never each h (t ∷ b) t b y refl d) e
 
 -- A loop makes one turn at each further part.
-loop-turn : {A B : Type 0} (f : A → B → A) (c : Class) (next : List Tok → Outcome B)
-    → ((ts : List Tok) (y : B) (r : List Tok) → next ts ≡ got y r → length r < length ts)
-    → (x : A) (y : B) (t : Tok) (ts r : List Tok) → matches c t ≡ true → next (t ∷ ts) ≡ got y r
+loop-turn : {A B : Type 0} (f : A → B → A) (c : Class) (next : List Lexeme → Outcome B)
+    → ((ts : List Lexeme) (y : B) (r : List Lexeme) → next ts ≡ got y r → length r < length ts)
+    → (x : A) (y : B) (t : Lexeme) (ts r : List Lexeme) → matches c t ≡ true → next (t ∷ ts) ≡ got y r
     → loop f c next (length (t ∷ ts)) x (t ∷ ts) ≡ loop f c next (length r) (f x y) r
 loop-turn f c next less x y t ts r m e =
     let l : length r < length (t ∷ ts) = less (t ∷ ts) y r e in
     let k : loop f c next (length ts) (f x y) r ≡ loop f c next (length r) (f x y) r = loop-enough f c next less (length ts) (length r) (f x y) r (omega arith) (omega arith) in
     rw (m, e) k
 
-pub got-good : {A : Type 0} (D : List Tok → A → Type 0) (ts : List Tok) (o : Outcome A) (y : A) (r : List Tok) → Good D ts o → o ≡ got y r → (a : List Tok) × (ts ≡ a ++ r) × D a y
+pub got-good : {A : Type 0} (D : List Lexeme → A → Type 0) (ts : List Lexeme) (o : Outcome A) (y : A) (r : List Lexeme) → Good D ts o → o ≡ got y r → (a : List Lexeme) × (ts ≡ a ++ r) × D a y
 got-good D ts (got x s) y r (a, w, d) e = let p : x ≡ y = cc in let q : s ≡ r = cc in (a, rw (← q) w, rw (← p) d)
 got-good D ts (bad s) y r h e = absurd (cc)
 got-good D ts out y r h e = absurd (cc)
 
-pub longer : (a r ts : List Tok) → ts ≡ a ++ r → ([] ≡ a → ⊥) → length r < length ts
+pub longer : (a r ts : List Lexeme) → ts ≡ a ++ r → ([] ≡ a → ⊥) → length r < length ts
 longer [] r ts e h = absurd (h refl)
 longer (t ∷ a) r ts e h = omega (arith, ap length e, length-append a r)
 
 -- A form that derives no empty list takes a token.
 pub shrinks : {Ref : Type 0} {tree : Ref → Type 0} {A : Type 0} (k : Base Ref tree) (g : Grammar Ref tree A) → is_productive g ≡ true → is_not (is_nullable g) ≡ true
-    → (ts : List Tok) (y : A) (r : List Tok) → read k.reader g ts ≡ got y r → length r < length ts
+    → (ts : List Lexeme) (y : A) (r : List Lexeme) → read k.reader g ts ≡ got y r → length r < length ts
 shrinks k g p n ts y r e =
     let (a, w, d) = got-good (Derives k.derives g) ts (read k.reader g ts) y r (good k g p ts) e in
     longer a r ts w (λ i. not-true (is_nullable g) n (null k.derives k.never g a y i d))
@@ -124,12 +124,12 @@ shrinks k g p n ts y r e =
 -- What the readers of rules owe.
 pub record Ready (Ref : Type 0) (tree : Ref → Type 0) : Type 1 where
   pub base : Base Ref tree
-  pub given : (r : Ref) → List Tok → tree r → Type 0
+  pub given : (r : Ref) → List Lexeme → tree r → Type 0
   pub first : Ref → List Class
   pub more : Ref → List Class
-  pub never : (r : Ref) (ts : List Tok) (x : tree r) → [] ≡ ts → given r ts x → ⊥
-  pub begins : (r : Ref) (ts : List Tok) (t : Tok) (us : List Tok) (x : tree r) → t ∷ us ≡ ts → given r ts x → matches_any (first r) t ≡ true
-  pub complete : (r : Ref) (ts s : List Tok) (x : tree r) → given r ts x → Stops (more r) s → base.reader r (ts ++ s) ≡ got x s
+  pub never : (r : Ref) (ts : List Lexeme) (x : tree r) → [] ≡ ts → given r ts x → ⊥
+  pub begins : (r : Ref) (ts : List Lexeme) (t : Lexeme) (us : List Lexeme) (x : tree r) → t ∷ us ≡ ts → given r ts x → matches_any (first r) t ≡ true
+  pub complete : (r : Ref) (ts s : List Lexeme) (x : tree r) → given r ts x → Stops (more r) s → base.reader r (ts ++ s) ≡ got x s
 
 five : (a b c d e : Bool) → and a (and b (and c (and d e))) ≡ true → (a ≡ true) × (b ≡ true) × (c ≡ true) × (d ≡ true) × (e ≡ true)
 five true true true d e h = (refl, refl, refl, and-left _ _ h, and-right _ _ h)
@@ -138,26 +138,26 @@ five true false c d e h = absurd (cc)
 five true true false d e h = absurd (cc)
 
 module _ {Ref : Type 0} {tree : Ref → Type 0} (k : Ready Ref tree) where
-  starts-yes : {A : Type 0} (g : Grammar Ref tree A) (c : Class) (ts s : List Tok) (x : A) → all_inside (firsts k.first g) c ≡ true → is_not (is_nullable g) ≡ true
+  starts-yes : {A : Type 0} (g : Grammar Ref tree A) (c : Class) (ts s : List Lexeme) (x : A) → all_inside (firsts k.first g) c ≡ true → is_not (is_nullable g) ≡ true
       → Derives k.given g ts x → starts c (ts ++ s) ≡ true
   starts-yes g c [] s x h n d = absurd (not-true (is_nullable g) n (null k.given k.never g [] x refl d))
   starts-yes g c (t ∷ ts) s x h n d = starts_of (firsts k.first g) c t h (begin k.first k.given k.never k.begins g (t ∷ ts) t ts x refl d)
 
-  starts-no : {A : Type 0} (g : Grammar Ref tree A) (c : Class) (cs : List Class) (ts s : List Tok) (x : A) → apart_from c (firsts k.first g) ≡ true
+  starts-no : {A : Type 0} (g : Grammar Ref tree A) (c : Class) (cs : List Class) (ts s : List Lexeme) (x : A) → apart_from c (firsts k.first g) ≡ true
       → Derives k.given g ts x → Stops (cond (is_nullable g) (c ∷ []) [] ++ cs) s → starts c (ts ++ s) ≡ false
   starts-no g c cs [] s x h d st = Stops-starts c cs s (rw (cond-true (is_nullable g) (c ∷ []) [] (null k.given k.never g [] x refl d)) at st)
   starts-no g c cs (t ∷ ts) s x h d st = false-not (matches c t) (λ e. apart_from-no c (firsts k.first g) t h e (begin k.first k.given k.never k.begins g (t ∷ ts) t ts x refl d))
 
-  pub loop-ends : {A B : Type 0} (f : A → B → A) (c : Class) (next : List Tok → Outcome B) (x : A) (s : List Tok) → starts c s ≡ false → loop f c next (length s) x s ≡ got x s
+  pub loop-ends : {A B : Type 0} (f : A → B → A) (c : Class) (next : List Lexeme → Outcome B) (x : A) (s : List Lexeme) → starts c s ≡ false → loop f c next (length s) x s ≡ got x s
   loop-ends f c next x [] h = refl
   loop-ends f c next x (t ∷ s) h = cond-false (matches c t) _ (got x (t ∷ s)) h
 
   links : {A B : Type 0} (f : A → B → A) (c : Class) (g : Grammar Ref tree A) (h : Grammar Ref tree B)
-      → ((a s : List Tok) (x : A) → Derives k.given g a x → Stops (mores k.more g) s → read k.base.reader g (a ++ s) ≡ got x s)
-      → ((a s : List Tok) (x : B) → Derives k.given h a x → Stops (mores k.more h) s → read k.base.reader h (a ++ s) ≡ got x s)
-      → ((ts : List Tok) (y : B) (r : List Tok) → read k.base.reader h ts ≡ got y r → length r < length ts)
+      → ((a s : List Lexeme) (x : A) → Derives k.given g a x → Stops (mores k.more g) s → read k.base.reader g (a ++ s) ≡ got x s)
+      → ((a s : List Lexeme) (x : B) → Derives k.given h a x → Stops (mores k.more h) s → read k.base.reader h (a ++ s) ≡ got x s)
+      → ((ts : List Lexeme) (y : B) (r : List Lexeme) → read k.base.reader h ts ≡ got y r → length r < length ts)
       → is_not (is_nullable h) ≡ true → all_inside (firsts k.first h) c ≡ true → apart_from c (mores k.more g ++ mores k.more h) ≡ true
-      → (n : ℕ) (a s : List Tok) (x : A) → Links f (Derives k.given g) (Derives k.given h) n a x → Stops (mores k.more g ++ mores k.more h) s
+      → (n : ℕ) (a s : List Lexeme) (x : A) → Links f (Derives k.given g) (Derives k.given h) n a x → Stops (mores k.more g ++ mores k.more h) s
       → read k.base.reader (chain f c g h) (a ++ s) ≡ loop f c (read k.base.reader h) (length s) x s
   links f c g h cg ch less nn ins ap zero a s x d st =
       let e : read k.base.reader g (a ++ s) ≡ got x s = cg a s x d (Stops-left (mores k.more g) (mores k.more h) s st) in rw e refl
@@ -172,7 +172,7 @@ module _ {Ref : Type 0} {tree : Ref → Type 0} (k : Ready Ref tree) where
       let e4 : ts ++ s ≡ a ++ (t ∷ (b ++ s)) = rw w (append_assoc a (t ∷ b) s) in
       rw (← v) (rw e4 (e1 ∙ e3))
 
-  pub complete : {A : Type 0} (g : Grammar Ref tree A) → is_productive g ≡ true → is_sighted k.first k.more g ≡ true → (ts s : List Tok) (x : A)
+  pub complete : {A : Type 0} (g : Grammar Ref tree A) → is_productive g ≡ true → is_sighted k.first k.more g ≡ true → (ts s : List Lexeme) (x : A)
       → Derives k.given g ts x → Stops (mores k.more g) s → read k.base.reader g (ts ++ s) ≡ got x s
   complete (nothing y) p i ts s x (e, w) st = rw (e, w) refl
   complete (token c) p i ts s x (e, m) st = rw (e, m) refl
@@ -210,23 +210,23 @@ module _ {Ref : Type 0} {tree : Ref → Type 0} (k : Ready Ref tree) where
   complete (rule r) p i ts s x d st = k.complete r ts s x d st
 
 -- One turn of a loop, by the outcome of its further part.
-pub turn : {A B : Type 0} (f : A → B → A) (c : Class) (next : List Tok → Outcome B)
-    → ((ts : List Tok) (y : B) (r : List Tok) → next ts ≡ got y r → length r < length ts)
-    → (x : A) (y : B) (ts r : List Tok) → starts c ts ≡ true → next ts ≡ got y r
+pub turn : {A B : Type 0} (f : A → B → A) (c : Class) (next : List Lexeme → Outcome B)
+    → ((ts : List Lexeme) (y : B) (r : List Lexeme) → next ts ≡ got y r → length r < length ts)
+    → (x : A) (y : B) (ts r : List Lexeme) → starts c ts ≡ true → next ts ≡ got y r
     → loop f c next (length ts) x ts ≡ loop f c next (length r) (f x y) r
 turn f c next less x y [] r h e = absurd (cc)
 turn f c next less x y (t ∷ ts) r h e = loop-turn f c next less x y t ts r h e
 
-pub turn_bad : {A B : Type 0} (f : A → B → A) (c : Class) (next : List Tok → Outcome B) (x : A) (ts r : List Tok) → starts c ts ≡ true → next ts ≡ bad r
+pub turn_bad : {A B : Type 0} (f : A → B → A) (c : Class) (next : List Lexeme → Outcome B) (x : A) (ts r : List Lexeme) → starts c ts ≡ true → next ts ≡ bad r
     → loop f c next (length ts) x ts ≡ bad r
 turn_bad f c next x [] r h e = absurd (cc)
 turn_bad f c next x (t ∷ ts) r h e = rw (h, e) refl
 
-pub turn_out : {A B : Type 0} (f : A → B → A) (c : Class) (next : List Tok → Outcome B) (x : A) (ts : List Tok) → starts c ts ≡ true → next ts ≡ out
+pub turn_out : {A B : Type 0} (f : A → B → A) (c : Class) (next : List Lexeme → Outcome B) (x : A) (ts : List Lexeme) → starts c ts ≡ true → next ts ≡ out
     → loop f c next (length ts) x ts ≡ out
 turn_out f c next x [] h e = absurd (cc)
 turn_out f c next x (t ∷ ts) h e = rw (h, e) refl
 
-pub turn_end : {A B : Type 0} (f : A → B → A) (c : Class) (next : List Tok → Outcome B) (x : A) (s : List Tok) → starts c s ≡ false → loop f c next (length s) x s ≡ got x s
+pub turn_end : {A B : Type 0} (f : A → B → A) (c : Class) (next : List Lexeme → Outcome B) (x : A) (s : List Lexeme) → starts c s ≡ false → loop f c next (length s) x s ≡ got x s
 turn_end f c next x [] h = refl
 turn_end f c next x (t ∷ s) h = cond-false (matches c t) _ (got x (t ∷ s)) h

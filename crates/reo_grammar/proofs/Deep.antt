@@ -1,7 +1,7 @@
 -- A depth above the number of tokens is enough.
 use Rattle.std.proofs.Common.{◌≡◌, ℕ, zero, suc, ◌≤◌, ◌<◌, Bool, true, false, cond, List, [], ◌∷◌, length, inl, inr, refl, ap, arith, length-append}
 use Rattle.reo_grammar.specs.Bytes.{is_not}
-use Rattle.reo_grammar.specs.Tokens.{Tok, Class, matches}
+use Rattle.reo_grammar.specs.Tokens.{Lexeme, Class, matches}
 use Rattle.reo_grammar.specs.Conditions.{is_nullable, is_productive, is_guarded}
 use Rattle.reo_grammar.specs.Grammar.{Grammar, Outcome, Derives, Links, read, reads, Within, loop, then, token_at, starts, line_of}
 use Rattle.reo_grammar.specs.Grammar.Grammar.{nothing, token, both, made, either, chain, lined, rule}
@@ -14,10 +14,10 @@ use Rattle.reo_grammar.proofs.Complete.{got-good, shrinks}
 abbrev pub Fine : {A : Type 0} → Outcome A → Outcome A → Type 0
 Fine o p = (o ≡ p) × (o ≡ out → ⊥)
 
-Fine-got : {A : Type 0} (x : A) (s : List Tok) → Fine (got x s) (got x s)
+Fine-got : {A : Type 0} (x : A) (s : List Lexeme) → Fine (got x s) (got x s)
 Fine-got x s = (refl, λ e. cc)
 
-Fine-then : {A B : Type 0} (o p : Outcome A) (k l : A → List Tok → Outcome B) → Fine o p → ((x : A) (s : List Tok) → o ≡ got x s → Fine (k x s) (l x s)) → Fine (then o k) (then p l)
+Fine-then : {A B : Type 0} (o p : Outcome A) (k l : A → List Lexeme → Outcome B) → Fine o p → ((x : A) (s : List Lexeme) → o ≡ got x s → Fine (k x s) (l x s)) → Fine (then o k) (then p l)
 Fine-then (got x s) p k l (e, n) next = rw (← e) (next x s refl)
 Fine-then (bad s) p k l (e, n) next = rw (← e) (refl, λ i. cc)
 Fine-then out p k l (e, n) next = absurd (n refl)
@@ -26,18 +26,18 @@ Fine-if : {A : Type 0} (b : Bool) (o p q u : Outcome A) → Fine o p → Fine q 
 Fine-if true o p q u h i = h
 Fine-if false o p q u h i = i
 
-Fine-at : (c : Class) (ts : List Tok) → Fine (token_at c ts) (token_at c ts)
+Fine-at : (c : Class) (ts : List Lexeme) → Fine (token_at c ts) (token_at c ts)
 Fine-at c [] = (refl, λ e. cc)
 Fine-at c (t ∷ ts) = Fine-if (matches c t) (got t ts) (got t ts) (bad (t ∷ ts)) (bad (t ∷ ts)) (refl, λ e. cc) (refl, λ e. cc)
 
 -- What is left is no longer.
 pub keeps : {Ref : Type 0} {tree : Ref → Type 0} {A : Type 0} (k : Base Ref tree) (g : Grammar Ref tree A) → is_productive g ≡ true
-    → (ts : List Tok) (y : A) (r : List Tok) → read k.reader g ts ≡ got y r → length r ≤ length ts
+    → (ts : List Lexeme) (y : A) (r : List Lexeme) → read k.reader g ts ≡ got y r → length r ≤ length ts
 keeps k g p ts y r e = let (a, w, d) = got-good (Derives k.derives g) ts (read k.reader g ts) y r (good k g p ts) e in omega (arith, ap length w, length-append a r)
 
-loop-fine : {A B : Type 0} (f : A → B → A) (c : Class) (next also : List Tok → Outcome B) (m : ℕ)
-    → ((s : List Tok) → length s ≤ m → Fine (next s) (also s)) → ((s : List Tok) (y : B) (q : List Tok) → next s ≡ got y q → length q ≤ length s)
-    → (n : ℕ) (x : A) (s : List Tok) → length s ≤ m → Fine (loop f c next n x s) (loop f c also n x s)
+loop-fine : {A B : Type 0} (f : A → B → A) (c : Class) (next also : List Lexeme → Outcome B) (m : ℕ)
+    → ((s : List Lexeme) → length s ≤ m → Fine (next s) (also s)) → ((s : List Lexeme) (y : B) (q : List Lexeme) → next s ≡ got y q → length q ≤ length s)
+    → (n : ℕ) (x : A) (s : List Lexeme) → length s ≤ m → Fine (loop f c next n x s) (loop f c also n x s)
 loop-fine f c next also m fine keep zero x s h = Fine-got x s
 loop-fine f c next also m fine keep (suc n) x s h =
     Fine-if (starts c s) _ _ (got x s) (got x s)
@@ -45,9 +45,9 @@ loop-fine f c next also m fine keep (suc n) x s h =
     (λ y q e. loop-fine f c next also m fine keep n (f x y) q (let i : length q ≤ length s = keep s y q e in omega arith)))
     (Fine-got x s)
 
-module _ {Ref : Type 0} {tree : Ref → Type 0} (k : Base Ref tree) (also : (r : Ref) → List Tok → Outcome (tree r)) (n : ℕ)
-    (each : (r : Ref) (ts : List Tok) → length ts < n → Fine (k.reader r ts) (also r ts)) where
-  pub below : {A : Type 0} (g : Grammar Ref tree A) → is_productive g ≡ true → (ts : List Tok) → length ts < n → Fine (read k.reader g ts) (read also g ts)
+module _ {Ref : Type 0} {tree : Ref → Type 0} (k : Base Ref tree) (also : (r : Ref) → List Lexeme → Outcome (tree r)) (n : ℕ)
+    (each : (r : Ref) (ts : List Lexeme) → length ts < n → Fine (k.reader r ts) (also r ts)) where
+  pub below : {A : Type 0} (g : Grammar Ref tree A) → is_productive g ≡ true → (ts : List Lexeme) → length ts < n → Fine (read k.reader g ts) (read also g ts)
   below (nothing x) p ts h = Fine-got x ts
   below (token c) p ts h = Fine-at c ts
   below (both f g i) p ts h =
@@ -64,7 +64,7 @@ module _ {Ref : Type 0} {tree : Ref → Type 0} (k : Base Ref tree) (also : (r :
   below (lined f g) p ts h = Fine-then (read k.reader g ts) (read also g ts) (λ x s. got (f (line_of ts) x) s) (λ x s. got (f (line_of ts) x) s) (below g (and-right _ _ p) ts h) (λ x s e. Fine-got (f (line_of ts) x) s)
   below (rule r) p ts h = each r ts h
 
-  pub fine : {A : Type 0} (g : Grammar Ref tree A) → is_productive g ≡ true → is_guarded g ≡ true → (ts : List Tok) → length ts ≤ n → Fine (read k.reader g ts) (read also g ts)
+  pub fine : {A : Type 0} (g : Grammar Ref tree A) → is_productive g ≡ true → is_guarded g ≡ true → (ts : List Lexeme) → length ts ≤ n → Fine (read k.reader g ts) (read also g ts)
   fine (nothing x) p w ts h = Fine-got x ts
   fine (token c) p w ts h = Fine-at c ts
   fine (both f g i) p w ts h =
@@ -86,20 +86,20 @@ module _ {Ref : Type 0} {tree : Ref → Type 0} (k : Base Ref tree) (also : (r :
 
 -- Two depths above the number of tokens read alike, and neither runs out.
 pub depths : {Ref : Type 0} {tree : Ref → Type 0} {rules : (r : Ref) → Grammar Ref tree (tree r)} (s : Sound Ref tree rules) → ((r : Ref) → is_guarded (rules r) ≡ true)
-    → (k l : ℕ) (r : Ref) (ts : List Tok) → length ts < k → length ts < l → Fine (reads rules k r ts) (reads rules l r ts)
+    → (k l : ℕ) (r : Ref) (ts : List Lexeme) → length ts < k → length ts < l → Fine (reads rules k r ts) (reads rules l r ts)
 depths s w zero l r ts h i = absurd (omega arith)
 depths s w (suc k) zero r ts h i = absurd (omega arith)
 depths {rules = rules} s w (suc k) (suc l) r ts h i =
     fine (base s k) (reads rules l) (length ts) (λ q us j. depths s w k l q us (omega arith) (omega arith)) (rules r) (s.productive r) (w r) ts (omega arith)
 
 -- A derivation from rules stays one where the rules derive more.
-pub wider-links : {A B : Type 0} (f : A → B → A) (D E : List Tok → A → Type 0) (H I : List Tok → B → Type 0)
-    → ((a : List Tok) (x : A) → D a x → E a x) → ((a : List Tok) (y : B) → H a y → I a y) → (n : ℕ) (ts : List Tok) (x : A) → Links f D H n ts x → Links f E I n ts x
+pub wider-links : {A B : Type 0} (f : A → B → A) (D E : List Lexeme → A → Type 0) (H I : List Lexeme → B → Type 0)
+    → ((a : List Lexeme) (x : A) → D a x → E a x) → ((a : List Lexeme) (y : B) → H a y → I a y) → (n : ℕ) (ts : List Lexeme) (x : A) → Links f D H n ts x → Links f E I n ts x
 wider-links f D E H I d h zero ts x l = d ts x l
 wider-links f D E H I d h (suc n) ts x (a, b, y, z, w, l, e, v) = (a, b, y, z, w, wider-links f D E H I d h n a y l, h b z e, v)
 
-pub wider : {Ref : Type 0} {tree : Ref → Type 0} {A : Type 0} (R S : (r : Ref) → List Tok → tree r → Type 0) → ((r : Ref) (ts : List Tok) (x : tree r) → R r ts x → S r ts x)
-    → (g : Grammar Ref tree A) (ts : List Tok) (x : A) → Derives R g ts x → Derives S g ts x
+pub wider : {Ref : Type 0} {tree : Ref → Type 0} {A : Type 0} (R S : (r : Ref) → List Lexeme → tree r → Type 0) → ((r : Ref) (ts : List Lexeme) (x : tree r) → R r ts x → S r ts x)
+    → (g : Grammar Ref tree A) (ts : List Lexeme) (x : A) → Derives R g ts x → Derives S g ts x
 wider R S m (nothing y) ts x d = d
 wider R S m (token c) ts x d = d
 wider R S m (both f g h) ts x (a, b, y, z, w, d1, d2, v) = (a, b, y, z, w, wider R S m g a y d1, wider R S m h b z d2, v)
@@ -110,7 +110,7 @@ wider R S m (chain f c g h) ts x (n, l) = (n, wider-links f (Derives R g) (Deriv
 wider R S m (lined f g) ts x (y, d, v) = (y, wider R S m g ts y d, v)
 wider R S m (rule r) ts x d = m r ts x d
 
-pub deeper : {Ref : Type 0} {tree : Ref → Type 0} (rules : (r : Ref) → Grammar Ref tree (tree r)) (k l : ℕ) → k ≤ l → (r : Ref) (ts : List Tok) (x : tree r) → Within rules k r ts x → Within rules l r ts x
+pub deeper : {Ref : Type 0} {tree : Ref → Type 0} (rules : (r : Ref) → Grammar Ref tree (tree r)) (k l : ℕ) → k ≤ l → (r : Ref) (ts : List Lexeme) (x : tree r) → Within rules k r ts x → Within rules l r ts x
 deeper rules zero l h r ts x d = absurd d
 deeper rules (suc k) zero h r ts x d = absurd (omega arith)
 deeper rules (suc k) (suc l) h r ts x d = wider (Within rules k) (Within rules l) (deeper rules k l (omega arith)) (rules r) ts x d

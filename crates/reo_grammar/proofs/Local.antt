@@ -1,6 +1,6 @@
 -- A reader looks no further than the token that it refuses.
 use Rattle.std.proofs.Common.{◌≡◌, ℕ, zero, suc, ◌+◌, ◌≤◌, Bool, true, false, cond, List, [], ◌∷◌, ◌++◌, length, ◌⊎◌, inl, inr, refl, ap, arith, length-append}
-use Rattle.reo_grammar.specs.Tokens.{Tok, Class, matches}
+use Rattle.reo_grammar.specs.Tokens.{Lexeme, Class, matches}
 use Rattle.reo_grammar.specs.Conditions.{is_productive}
 use Rattle.reo_grammar.specs.Grammar.{Grammar, Outcome, Derives, read, loop, then, starts, line_of}
 use Rattle.reo_grammar.specs.Grammar.Grammar.{nothing, token, both, made, either, chain, lined, rule}
@@ -14,20 +14,20 @@ Low n (got x s) = length s ≤ n
 Low n (bad s) = length s ≤ n
 Low n out = Unit {0}
 
-good-low : {A : Type 0} (D : List Tok → A → Type 0) (n : ℕ) (ts : List Tok) (o : Outcome A) → Good D ts o → length ts ≤ n → Low n o
+good-low : {A : Type 0} (D : List Lexeme → A → Type 0) (n : ℕ) (ts : List Lexeme) (o : Outcome A) → Good D ts o → length ts ≤ n → Low n o
 good-low D n ts (got x s) (a, e, d) h = omega (arith, ap length e, length-append a s)
 good-low D n ts (bad s) (a, e, o) h = omega (arith, ap length e, length-append a s)
 good-low D n ts out g h = tt
 
-module _ (t : Tok) (r r' : List Tok) where
+module _ (t : Lexeme) (r r' : List Lexeme) where
   -- The same up to the token t, and then what follows it.
-  abbrev pub Alike : List Tok → List Tok → Type 0
-  Alike ts ts' = (f : List Tok) × (ts ≡ f ++ (t ∷ r)) × (ts' ≡ f ++ (t ∷ r'))
+  abbrev pub Alike : List Lexeme → List Lexeme → Type 0
+  Alike ts ts' = (f : List Lexeme) × (ts ≡ f ++ (t ∷ r)) × (ts' ≡ f ++ (t ∷ r'))
 
   -- What ends before t has passed ends alike.
   abbrev pub Kept : {A : Type 0} → Outcome A → Outcome A → Type 0
-  Kept (got x s) o = ((f : List Tok) × (s ≡ f ++ (t ∷ r)) × (o ≡ got x (f ++ (t ∷ r')))) ⊎ (length s ≤ length r)
-  Kept (bad s) o = ((f : List Tok) × (s ≡ f ++ (t ∷ r)) × (o ≡ bad (f ++ (t ∷ r')))) ⊎ (length s ≤ length r)
+  Kept (got x s) o = ((f : List Lexeme) × (s ≡ f ++ (t ∷ r)) × (o ≡ got x (f ++ (t ∷ r')))) ⊎ (length s ≤ length r)
+  Kept (bad s) o = ((f : List Lexeme) × (s ≡ f ++ (t ∷ r)) × (o ≡ bad (f ++ (t ∷ r')))) ⊎ (length s ≤ length r)
   Kept out o = Unit {0}
 
   Low-kept : {A : Type 0} (o p : Outcome A) → Low (length r) o → Kept o p
@@ -35,9 +35,9 @@ module _ (t : Tok) (r r' : List Tok) where
   Low-kept (bad s) p h = inr h
   Low-kept out p h = tt
 
-  Kept-then : {A B : Type 0} (o p : Outcome A) (k l : A → List Tok → Outcome B) → Kept o p
-      → ((x : A) (f : List Tok) → Kept (k x (f ++ (t ∷ r))) (l x (f ++ (t ∷ r'))))
-      → ((x : A) (s : List Tok) → length s ≤ length r → Low (length r) (k x s))
+  Kept-then : {A B : Type 0} (o p : Outcome A) (k l : A → List Lexeme → Outcome B) → Kept o p
+      → ((x : A) (f : List Lexeme) → Kept (k x (f ++ (t ∷ r))) (l x (f ++ (t ∷ r'))))
+      → ((x : A) (s : List Lexeme) → length s ≤ length r → Low (length r) (k x s))
       → Kept (then o k) (then p l)
   Kept-then (got x s) p k l (inl (f, e, w)) next low = rw (e, w) (next x f)
   Kept-then (got x s) p k l (inr h) next low = Low-kept (k x s) (then p l) (low x s h)
@@ -49,23 +49,23 @@ module _ (t : Tok) (r r' : List Tok) where
   Kept-if true o p q u h i = h
   Kept-if false o p q u h i = i
 
-  starts-alike : (c : Class) (f : List Tok) → starts c (f ++ (t ∷ r')) ≡ starts c (f ++ (t ∷ r))
+  starts-alike : (c : Class) (f : List Lexeme) → starts c (f ++ (t ∷ r')) ≡ starts c (f ++ (t ∷ r))
   starts-alike c [] = refl
   starts-alike c (u ∷ f) = refl
 
-  line-alike : (f : List Tok) → line_of (f ++ (t ∷ r')) ≡ line_of (f ++ (t ∷ r))
+  line-alike : (f : List Lexeme) → line_of (f ++ (t ∷ r')) ≡ line_of (f ++ (t ∷ r))
   line-alike [] = refl
   line-alike (u ∷ f) = refl
 
-  Kept-at : (b : Bool) (u : Tok) (f : List Tok) → Kept {A = Tok} (cond b (got u (f ++ (t ∷ r))) (bad (u ∷ (f ++ (t ∷ r))))) (cond b (got u (f ++ (t ∷ r'))) (bad (u ∷ (f ++ (t ∷ r')))))
+  Kept-at : (b : Bool) (u : Lexeme) (f : List Lexeme) → Kept {A = Lexeme} (cond b (got u (f ++ (t ∷ r))) (bad (u ∷ (f ++ (t ∷ r))))) (cond b (got u (f ++ (t ∷ r'))) (bad (u ∷ (f ++ (t ∷ r')))))
   Kept-at true u f = inl (f, refl, refl)
   Kept-at false u f = inl (u ∷ f, refl, refl)
 
-  Kept-here : (b : Bool) → Kept {A = Tok} (cond b (got t r) (bad (t ∷ r))) (cond b (got t r') (bad (t ∷ r')))
+  Kept-here : (b : Bool) → Kept {A = Lexeme} (cond b (got t r) (bad (t ∷ r))) (cond b (got t r') (bad (t ∷ r')))
   Kept-here true = inr (omega arith)
   Kept-here false = inl ([], refl, refl)
 
-  Low-then : {A B : Type 0} (o : Outcome A) (k : A → List Tok → Outcome B) → Low (length r) o → ((x : A) (s : List Tok) → length s ≤ length r → Low (length r) (k x s)) → Low (length r) (then o k)
+  Low-then : {A B : Type 0} (o : Outcome A) (k : A → List Lexeme → Outcome B) → Low (length r) o → ((x : A) (s : List Lexeme) → length s ≤ length r → Low (length r) (k x s)) → Low (length r) (then o k)
   Low-then (got x s) k h low = low x s h
   Low-then (bad s) k h low = h
   Low-then out k h low = tt
@@ -74,24 +74,24 @@ module _ (t : Tok) (r r' : List Tok) where
   Low-if true o p h i = h
   Low-if false o p h i = i
 
-  module _ {A B : Type 0} (f : A → B → A) (c : Class) (next : List Tok → Outcome B)
-      (low : (s : List Tok) → length s ≤ length r → Low (length r) (next s))
-      (kept : (g : List Tok) → Kept (next (g ++ (t ∷ r))) (next (g ++ (t ∷ r')))) where
-    loop-low : (n : ℕ) (x : A) (s : List Tok) → length s ≤ length r → Low (length r) (loop f c next n x s)
+  module _ {A B : Type 0} (f : A → B → A) (c : Class) (next : List Lexeme → Outcome B)
+      (low : (s : List Lexeme) → length s ≤ length r → Low (length r) (next s))
+      (kept : (g : List Lexeme) → Kept (next (g ++ (t ∷ r))) (next (g ++ (t ∷ r')))) where
+    loop-low : (n : ℕ) (x : A) (s : List Lexeme) → length s ≤ length r → Low (length r) (loop f c next n x s)
     loop-low zero x s h = h
     loop-low (suc n) x s h = Low-if (starts c s) _ (got x s) (Low-then (next s) (λ y q. loop f c next n (f x y) q) (low s h) (λ y q i. loop-low n (f x y) q i)) h
 
-    loop-kept : (n : ℕ) (x : A) (g : List Tok) → Kept (loop f c next n x (g ++ (t ∷ r))) (loop f c next n x (g ++ (t ∷ r')))
+    loop-kept : (n : ℕ) (x : A) (g : List Lexeme) → Kept (loop f c next n x (g ++ (t ∷ r))) (loop f c next n x (g ++ (t ∷ r')))
     loop-kept zero x g = inl (g, refl, refl)
     loop-kept (suc n) x g = rw (starts-alike c g) (Kept-if (starts c (g ++ (t ∷ r))) _ _ _ _
         (Kept-then (next (g ++ (t ∷ r))) (next (g ++ (t ∷ r'))) (λ y q. loop f c next n (f x y) q) (λ y q. loop f c next n (f x y) q) (kept g) (λ y h. loop-kept n (f x y) h) (λ y s h. loop-low n (f x y) s h))
         (inl (g, refl, refl)))
 
-  module _ {Ref : Type 0} {tree : Ref → Type 0} (k : Base Ref tree) (each : (q : Ref) (f : List Tok) → Kept (k.reader q (f ++ (t ∷ r))) (k.reader q (f ++ (t ∷ r')))) where
-    read-low : {A : Type 0} (g : Grammar Ref tree A) → is_productive g ≡ true → (s : List Tok) → length s ≤ length r → Low (length r) (read k.reader g s)
+  module _ {Ref : Type 0} {tree : Ref → Type 0} (k : Base Ref tree) (each : (q : Ref) (f : List Lexeme) → Kept (k.reader q (f ++ (t ∷ r))) (k.reader q (f ++ (t ∷ r')))) where
+    read-low : {A : Type 0} (g : Grammar Ref tree A) → is_productive g ≡ true → (s : List Lexeme) → length s ≤ length r → Low (length r) (read k.reader g s)
     read-low g p s h = good-low (Derives k.derives g) (length r) s (read k.reader g s) (good k g p s) h
 
-    pub local : {A : Type 0} (g : Grammar Ref tree A) → is_productive g ≡ true → (f : List Tok) → Kept (read k.reader g (f ++ (t ∷ r))) (read k.reader g (f ++ (t ∷ r')))
+    pub local : {A : Type 0} (g : Grammar Ref tree A) → is_productive g ≡ true → (f : List Lexeme) → Kept (read k.reader g (f ++ (t ∷ r))) (read k.reader g (f ++ (t ∷ r')))
     local (nothing x) p f = inl (f, refl, refl)
     local (token c) p [] = Kept-here (matches c t)
     local (token c) p (u ∷ f) = Kept-at (matches c u) u f
@@ -117,13 +117,13 @@ module _ (t : Tok) (r r' : List Tok) where
     local (rule q) p f = each q f
 
 -- What is refused at a token is refused there, whatever follows it.
-pub refused : {A : Type 0} (t : Tok) (r r' : List Tok) (p : Outcome A) → Kept t r r' (bad (t ∷ r)) p → p ≡ bad (t ∷ r')
+pub refused : {A : Type 0} (t : Lexeme) (r r' : List Lexeme) (p : Outcome A) → Kept t r r' (bad (t ∷ r)) p → p ≡ bad (t ∷ r')
 refused t r r' p (inl ([], e, w)) = w
 refused t r r' p (inl (u ∷ f, e, w)) = absurd (omega (arith, ap length e, length-append f (t ∷ r)))
 refused t r r' p (inr h) = absurd (omega arith)
 
 -- What ends before a token ends there, whatever follows it.
-pub passed : {A : Type 0} (t : Tok) (r r' : List Tok) (x : A) (p : Outcome A) → Kept t r r' (got x (t ∷ r)) p → p ≡ got x (t ∷ r')
+pub passed : {A : Type 0} (t : Lexeme) (r r' : List Lexeme) (x : A) (p : Outcome A) → Kept t r r' (got x (t ∷ r)) p → p ≡ got x (t ∷ r')
 passed t r r' x p (inl ([], e, w)) = w
 passed t r r' x p (inl (u ∷ f, e, w)) = absurd (omega (arith, ap length e, length-append f (t ∷ r)))
 passed t r r' x p (inr h) = absurd (omega arith)

@@ -6,7 +6,7 @@ use Rattle.reo_grammar.specs.declared.kind.TokenKind.{TokenKind}
 use Rattle.reo_grammar.specs.declared.kind.TokenKind.TheVariants as kinds
 use Rattle.reo_grammar.specs.Bytes.{and, is_digit, each}
 use Rattle.reo_grammar.specs.Spelling.{spells, is_short, is_digits}
-use Rattle.reo_grammar.specs.Tokens.{Tok, is_real, number_from}
+use Rattle.reo_grammar.specs.Tokens.{Lexeme, is_real, number_from}
 use Rattle.reo_grammar.proofs.Sound.{and-left, and-right}
 
 digit-bound : (b : ℕ) → is_digit b ≡ true → b - 48 ≤ 9
@@ -23,7 +23,7 @@ number-below n m (b ∷ bs) e h =
     subst (λ z. number_from (n * 10 + (b - 48)) bs < z) w i
 
 -- A number that texts have is below 10 ^ 18.
-pub real-number-below : (t : Tok) → t.kind ≡ kinds.Number → is_real t ≡ true → number_from 0 t.bytes < 10 ^ 18
+pub real-number-below : (t : Lexeme) → t.kind ≡ kinds.Number → is_real t ≡ true → number_from 0 t.bytes < 10 ^ 18
 real-number-below t k h = by t.kind t.bytes k h
   where
     short : (n : ℕ) → nat_le n 18 ≡ true → n ≤ 18

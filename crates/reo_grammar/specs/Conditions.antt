@@ -4,7 +4,7 @@ use Rattle.std.specs.Prelude.{ℕ, ◌+◌, Bool, true, false, cond, List, [], �
 use Rattle.reo_grammar.specs.declared.kind.TokenKind.{TokenKind}
 use Rattle.reo_grammar.specs.declared.kind.TokenKind.TheVariants as kinds
 use Rattle.reo_grammar.specs.Bytes.{and, or, is_not, is_letter}
-use Rattle.reo_grammar.specs.Tokens.{Tok, Class, matches, is_real}
+use Rattle.reo_grammar.specs.Tokens.{Lexeme, Class, matches, is_real}
 use Rattle.reo_grammar.specs.Tokens.Class.{fixed, among, other, name, named, number, text}
 use Rattle.reo_grammar.specs.Grammar.{Grammar}
 use Rattle.reo_grammar.specs.Grammar.Grammar.{nothing, token, both, made, either, chain, lined, rule}
@@ -14,11 +14,11 @@ abbrev pub fixed_kind : List ℕ → TokenKind
 fixed_kind [] = kinds.Sign
 fixed_kind (b ∷ bs) = cond (is_letter b) kinds.Word kinds.Sign
 
-abbrev pub fixed_token : List ℕ → Tok
+abbrev pub fixed_token : List ℕ → Lexeme
 fixed_token b = record { kind = fixed_kind b; bytes = b; line = 0 }
 
 -- A token of a class.
-abbrev pub sample : Class → Tok
+abbrev pub sample : Class → Lexeme
 sample (fixed b) = fixed_token b
 sample (among []) = fixed_token []
 sample (among (b ∷ bs)) = fixed_token b

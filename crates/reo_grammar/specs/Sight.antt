@@ -3,14 +3,14 @@ use Rattle.std.specs.Prelude.{ℕ, Bool, true, false, cond, List, [], ◌∷◌,
 use Rattle.std.specs.Str.{bytes_eq}
 use Rattle.reo_grammar.specs.declared.kind.TokenKind.TheVariants as kinds
 use Rattle.reo_grammar.specs.Bytes.{and, or, is_not}
-use Rattle.reo_grammar.specs.Tokens.{Tok, Class, matches}
+use Rattle.reo_grammar.specs.Tokens.{Lexeme, Class, matches}
 use Rattle.reo_grammar.specs.Tokens.Class.{fixed, among, other, name, named, number, text}
 use Rattle.reo_grammar.specs.Conditions.{is_nullable}
 use Rattle.reo_grammar.specs.Grammar.{Grammar}
 use Rattle.reo_grammar.specs.Grammar.Grammar.{nothing, token, both, made, either, chain, lined, rule}
 
 -- The word or sign of these bytes.
-abbrev pub as_word : List ℕ → Tok
+abbrev pub as_word : List ℕ → Lexeme
 as_word b = record { kind = kinds.Word; bytes = b; line = 0 }
 
 -- None of these words is of the class.
@@ -62,7 +62,7 @@ inside (number l h) (other b) = true
 inside _ _ = false
 
 -- The token is of one of the classes.
-abbrev pub matches_any : List Class → Tok → Bool
+abbrev pub matches_any : List Class → Lexeme → Bool
 matches_any [] t = false
 matches_any (c ∷ cs) t = or (matches c t) (matches_any cs t)
 

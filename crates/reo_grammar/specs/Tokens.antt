@@ -6,17 +6,17 @@ use Rattle.reo_grammar.specs.declared.kind.TokenKind.TheVariants as kinds
 use Rattle.reo_grammar.specs.Bytes.{and, is_not, one_of}
 use Rattle.reo_grammar.specs.Spelling.{spells, is_short}
 
--- A token: its kind, its bytes as they stand in the text, and its line.
-pub record Tok : Type 0 where
+-- A lexeme is a token as the grammar sees it: its kind, its bytes as they stand in the text, and its line.
+pub record Lexeme : Type 0 where
   pub kind : TokenKind
   pub bytes : List ℕ
   pub line : ℕ
 
 -- A token that some text has.
-abbrev pub is_real : Tok → Bool
+abbrev pub is_real : Lexeme → Bool
 is_real t = and (spells t.kind t.bytes) (is_short t.kind t.bytes)
 
-abbrev pub AreReal : List Tok → Type 0
+abbrev pub AreReal : List Lexeme → Type 0
 AreReal [] = Unit {0}
 AreReal (t ∷ ts) = (is_real t ≡ true) × AreReal ts
 
@@ -55,7 +55,7 @@ is_text kinds.Text = true
 is_text _ = false
 
 -- The token is of the class.
-abbrev pub matches : Class → Tok → Bool
+abbrev pub matches : Class → Lexeme → Bool
 matches (fixed b) t = and (is_fixed t.kind) (bytes_eq t.bytes b)
 matches (among bs) t = and (is_fixed t.kind) (one_of t.bytes bs)
 matches (other b) t = is_not (and (is_fixed t.kind) (bytes_eq t.bytes b))
@@ -65,7 +65,7 @@ matches (number low high) t = and (is_number t.kind) (and (nat_le low (number_fr
 matches text t = is_text t.kind
 
 -- The same tokens, lines aside.
-abbrev pub Alike : List Tok → List Tok → Type 0
+abbrev pub Alike : List Lexeme → List Lexeme → Type 0
 Alike [] [] = Unit {0}
 Alike (t ∷ ts) (u ∷ us) = (t.kind ≡ u.kind) × (t.bytes ≡ u.bytes) × Alike ts us
 Alike _ _ = ⊥

@@ -1,12 +1,12 @@
 -- Tokens of a front of a text, and texts that go on.
 use Rattle.std.proofs.Common.{◌≡◌, ℕ, zero, suc, ◌+◌, ◌≤◌, true, List, [], ◌∷◌, ◌++◌, length, take, drop, refl, sym, ◌∙◌, ap, subst, arith, append_assoc, append-nil, length-append, zero-add}
 use Rattle.reo_grammar.specs.Spelling.{spells, is_short}
-use Rattle.reo_grammar.specs.Tokens.{Tok, AreReal, Alike}
+use Rattle.reo_grammar.specs.Tokens.{Lexeme, AreReal, Alike}
 use Rattle.reo_grammar.proofs.Sound.{and-left, and-right}
 use Rattle.reo_lexer.specs.declared.token.Token.{Token}
 use Rattle.reo_lexer.specs.Gaps.{IsGap, lines_in}
 use Rattle.reo_lexer.specs.Gaps.IsGap.{no_gap, space, comment}
-use Rattle.reo_lexer.specs.Lexing.{IsToken, Leads, Runs, AtEnd, IsTokens, toks_of}
+use Rattle.reo_lexer.specs.Lexing.{IsToken, Leads, Runs, AtEnd, IsTokens, lexemes_of}
 use Rattle.reo_lexer.specs.Written.{is_cut, written, GoesOn}
 use Rattle.reo_lexer.proofs.Spans.{lead-lies}
 use Rattle.reo_lexer.proofs.Cut.{cut-token, lf-cut, token-shorter, token-longer}
@@ -49,8 +49,8 @@ front-tokens text ts t us h =
     rw e i
 
 -- Tokens that texts have follow a text that ends.
-pub written-runs : (text : List ℕ) (at line : ℕ) (left : List ℕ) (c : List Tok) → at ≤ length text → left ++ written c ≡ drop at text → AtEnd line left → AreReal c
-    → (us : List Token) × Runs AtEnd at line (left ++ written c) us × Alike c (toks_of text us)
+pub written-runs : (text : List ℕ) (at line : ℕ) (left : List ℕ) (c : List Lexeme) → at ≤ length text → left ++ written c ≡ drop at text → AtEnd line left → AreReal c
+    → (us : List Token) × Runs AtEnd at line (left ++ written c) us × Alike c (lexemes_of text us)
 written-runs text at line left [] h e a r = ([], rw append-nil a, tt)
 written-runs text at line left (t ∷ c) h e a (x, r) =
     let s : spells t.kind t.bytes ≡ true = and-left (spells t.kind t.bytes) (is_short t.kind t.bytes) x in
@@ -63,12 +63,12 @@ written-runs text at line left (t ∷ c) h e a (x, r) =
     let (us, i, j) = written-runs text u.end u.line [] c p.1 d lf_gap r in
     (u ∷ us, (written c, l, i), (refl, sym b, j))
   where
-    next : (k : _) (bytes : List ℕ) (c : List Tok) → spells k bytes ≡ true → is_cut k bytes (written c) ≡ true
+    next : (k : _) (bytes : List ℕ) (c : List Lexeme) → spells k bytes ≡ true → is_cut k bytes (written c) ≡ true
     next k bytes [] s = refl
     next k bytes (t ∷ c) s = lf-cut k bytes (t.bytes ++ written c) s
 
-pub goes-on : (text whole : List ℕ) (at line : ℕ) (left : List ℕ) (ts : List Token) (c : List Tok) → at ≤ length whole → left ++ written c ≡ drop at whole
-    → Runs AtEnd at line left ts → AreReal c → (us : List Token) × Runs AtEnd at line (left ++ written c) (ts ++ us) × Alike c (toks_of whole us)
+pub goes-on : (text whole : List ℕ) (at line : ℕ) (left : List ℕ) (ts : List Token) (c : List Lexeme) → at ≤ length whole → left ++ written c ≡ drop at whole
+    → Runs AtEnd at line left ts → AreReal c → (us : List Token) × Runs AtEnd at line (left ++ written c) (ts ++ us) × Alike c (lexemes_of whole us)
 goes-on text whole at line left [] c h e r x = written-runs whole at line left c h e r x
 goes-on text whole at line left (t ∷ ts) c h e (after, l, r) x =
     let w : left ++ written c ≡ l.gap ++ (l.bytes ++ (after ++ written c)) = ap (λ z. z ++ written c) l.cut ∙ append_assoc l.gap (l.bytes ++ after) (written c) ∙ ap (λ z. l.gap ++ z) (append_assoc l.bytes after (written c)) in
@@ -78,11 +78,11 @@ goes-on text whole at line left (t ∷ ts) c h e (after, l, r) x =
     let (us, i, j) = goes-on text whole t.end t.line after ts c p.1 d r x in
     (us, (after ++ written c, m, i), j)
   where
-    kept : (k : _) (bytes after : List ℕ) (c : List Tok) → IsToken k bytes after → IsToken k bytes (after ++ written c)
+    kept : (k : _) (bytes after : List ℕ) (c : List Lexeme) → IsToken k bytes after → IsToken k bytes (after ++ written c)
     kept k bytes after [] t = rw append-nil t
     kept k bytes after (u ∷ c) t = token-longer k bytes after (u.bytes ++ written c) t
 
-pub real-goes-on : (text : List ℕ) (ts : List Token) (c : List Tok) → IsTokens text ts → AreReal c → GoesOn text ts c
+pub real-goes-on : (text : List ℕ) (ts : List Token) (c : List Lexeme) → IsTokens text ts → AreReal c → GoesOn text ts c
 real-goes-on text ts c h r =
     let (us, i, j) = goes-on text (text ++ written c) 0 1 text ts c (omega arith) refl h r in
     (written c, us, i, j)

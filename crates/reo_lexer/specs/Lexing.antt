@@ -2,7 +2,7 @@
 use Rattle.std.specs.Prelude.{◌≡◌, ℕ, ◌+◌, ◌-◌, ◌≤◌, true, List, [], ◌∷◌, ◌++◌, length, take, drop, map}
 use Rattle.reo_grammar.specs.declared.kind.TokenKind.{TokenKind}
 use Rattle.reo_grammar.specs.Spelling.{spells, is_short}
-use Rattle.reo_grammar.specs.Tokens.{Tok}
+use Rattle.reo_grammar.specs.Tokens.{Lexeme}
 use Rattle.reo_lexer.specs.declared.token.Token.{Token}
 use Rattle.reo_lexer.specs.Gaps.{IsGap, lines_in}
 
@@ -36,12 +36,12 @@ AtEnd line left = IsGap (left ++ 10 ∷ [])
 abbrev pub IsTokens : List ℕ → List Token → Type 0
 IsTokens text ts = Runs AtEnd 0 1 text ts
 
--- A token as the grammar sees it.
-abbrev pub tok_of : List ℕ → Token → Tok
-tok_of text t = record { kind = t.kind; bytes = take (t.end - t.start) (drop t.start text); line = t.line }
+-- The lexeme of a token.
+abbrev pub lexeme_of : List ℕ → Token → Lexeme
+lexeme_of text t = record { kind = t.kind; bytes = take (t.end - t.start) (drop t.start text); line = t.line }
 
-abbrev pub toks_of : List ℕ → List Token → List Tok
-toks_of text ts = map (tok_of text) ts
+abbrev pub lexemes_of : List ℕ → List Token → List Lexeme
+lexemes_of text ts = map (lexeme_of text) ts
 
 -- The token's span lies in the text.
 abbrev pub Lies : List ℕ → Token → Type 0

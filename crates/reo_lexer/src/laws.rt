@@ -1,10 +1,10 @@
 //! Laws of tokens and texts.
 ghost use Rattle.std.specs.Prelude.{◌≡◌, ℕ, List, [], ◌++◌, ◌∷◌, take};
-ghost use Rattle.reo_grammar.specs.Tokens.{Tok, AreReal};
+ghost use Rattle.reo_grammar.specs.Tokens.{Lexeme, AreReal};
 ghost use Rattle.reo_lexer.specs.declared.token.Token.{Token as TokenSpec};
 ghost use Rattle.reo_lexer.specs.declared.token.LexFault.{LexFault as FaultSpec};
 ghost use Rattle.reo_grammar.specs.Grammar.{Says, Refused};
-ghost use Rattle.reo_lexer.specs.Lexing.{IsTokens, toks_of};
+ghost use Rattle.reo_lexer.specs.Lexing.{IsTokens, lexemes_of};
 ghost use Rattle.reo_lexer.specs.Faults.{IsFault};
 ghost use Rattle.reo_lexer.specs.Written.{GoesOn, IsBegun};
 
@@ -25,17 +25,17 @@ pub fn tokens_of_front()
 /// A text that has tokens goes on to one that has any real tokens behind them, lines aside: so real tokens are those
 /// that texts have.
 pub fn real_tokens_follow()
-    ensures { (text : List ℕ) (ts : List TokenSpec) (more : List Tok) → IsTokens text ts → AreReal more → GoesOn text ts more }
+    ensures { (text : List ℕ) (ts : List TokenSpec) (more : List Lexeme) → IsTokens text ts → AreReal more → GoesOn text ts more }
 {}
 
 /// Refusals of texts by a language. The text before a refused token goes on to a text of the language, and so does a
 /// text that is refused at its end. No text of the language has the same tokens up to and including a refused one.
 pub fn refusals_of_texts<L: Language>()
     ensures before { (text : List ℕ) (ts us : List TokenSpec) (t : TokenSpec) → IsTokens text (ts ++ t ∷ us)
-        → Refused L.rules L.form (toks_of text (ts ++ t ∷ us)) (toks_of text (t ∷ us)) → IsBegun L.rules L.form (take t.start text) }
-    ensures at_end { (text : List ℕ) (ts : List TokenSpec) → IsTokens text ts → Refused L.rules L.form (toks_of text ts) [] → IsBegun L.rules L.form text }
+        → Refused L.rules L.form (lexemes_of text (ts ++ t ∷ us)) (lexemes_of text (t ∷ us)) → IsBegun L.rules L.form (take t.start text) }
+    ensures at_end { (text : List ℕ) (ts : List TokenSpec) → IsTokens text ts → Refused L.rules L.form (lexemes_of text ts) [] → IsBegun L.rules L.form text }
     ensures behind { (text other : List ℕ) (ts us vs : List TokenSpec) (t : TokenSpec) (x : L.Tree) → IsTokens text (ts ++ t ∷ us)
-        → Refused L.rules L.form (toks_of text (ts ++ t ∷ us)) (toks_of text (t ∷ us))
-        → toks_of other (ts ++ t ∷ []) ≡ toks_of text (ts ++ t ∷ []) → IsTokens other (ts ++ t ∷ vs)
-        → Says L.rules L.form (toks_of other (ts ++ t ∷ vs)) x → ⊥ }
+        → Refused L.rules L.form (lexemes_of text (ts ++ t ∷ us)) (lexemes_of text (t ∷ us))
+        → lexemes_of other (ts ++ t ∷ []) ≡ lexemes_of text (ts ++ t ∷ []) → IsTokens other (ts ++ t ∷ vs)
+        → Says L.rules L.form (lexemes_of other (ts ++ t ∷ vs)) x → ⊥ }
 {}

@@ -1,7 +1,7 @@
 //! Reading the tokens of a text.
 ghost use Rattle.std.specs.Prelude.{◌≡◌, ◌+◌, ◌≤◌, ◌<◌, ◌^◌, length, List, IfOk, All};
 ghost use Rattle.reo_grammar.specs.Tokens.{AreReal};
-ghost use Rattle.reo_lexer.specs.Lexing.{IsTokens, Lies, toks_of};
+ghost use Rattle.reo_lexer.specs.Lexing.{IsTokens, Lies, lexemes_of};
 ghost use Rattle.reo_lexer.specs.Faults.{IsFault, IsLexed, IsThese, IsThat};
 ghost use Rattle.reo_lexer.specs.Skipping.{Finds};
 ghost use Rattle.reo_lexer.specs.declared.token.Token.{Token as TokenSpec};
@@ -61,7 +61,7 @@ pub fn lex(alloc: Global, text: &[u8]) -> Result<List<Token>, LexFault>
 
     // Each token's bytes lie in the text, and are spelled as its kind says.
     ensures spans { IfOk result (λ ts. All (Lies text.now) ts) }
-    ensures real { IfOk result (λ ts. AreReal (toks_of text.now ts)) }
+    ensures real { IfOk result (λ ts. AreReal (lexemes_of text.now ts)) }
 {
     tokens_of(alloc, text)
 }

@@ -1,10 +1,10 @@
 -- What the readers of forms give.
 use Rattle.std.specs.Prelude.{ℕ, ◌≤◌, List, length, drop}
 use Rattle.reo_values.specs.declared.operator.Binary.{Binary}
-use Rattle.reo_grammar.specs.Tokens.{Tok, Class}
+use Rattle.reo_grammar.specs.Tokens.{Lexeme, Class}
 use Rattle.reo_grammar.specs.Grammar.{Outcome, Says, Refused, read, reads, loop}
 use Rattle.reo_trees.specs.declared.terms.Term.{Term}
-use Rattle.reo_trees.specs.Forms.{G}
+use Rattle.reo_trees.specs.Forms.{FormOf}
 use Rattle.reo_trees.specs.Operators.{Further}
 use Rattle.reo_trees.specs.Programs.{program_form}
 use Rattle.reo_trees.specs.Rules.{circuit_rules}
@@ -12,11 +12,11 @@ use Rattle.reo_parser.specs.declared.texts.Outcome.{Outcome as Answer}
 use Rattle.reo_parser.specs.declared.texts.Outcome.TheVariants as outcomes
 
 -- Reading a form without rules.
-abbrev pub read_plain : {A : Type 0} → G A → List Tok → Outcome A
+abbrev pub read_plain : {A : Type 0} → FormOf A → List Lexeme → Outcome A
 read_plain g ts = read (reads circuit_rules 0) g ts
 
 -- Going on with further parts behind a first one.
-abbrev pub goes_on : {A B : Type 0} → (A → B → A) → Class → G B → ℕ → A → List Tok → Outcome A
+abbrev pub goes_on : {A B : Type 0} → (A → B → A) → Class → FormOf B → ℕ → A → List Lexeme → Outcome A
 goes_on f c h room x ts = loop f c (read (reads circuit_rules room) h) (length ts) x ts
 
 -- An operator and its right operand, wherever that begins.
@@ -24,6 +24,6 @@ abbrev pub operand : Binary → Term → Further
 operand o x = record { operator = o; right = record { start = 0; term = x } }
 
 -- The tokens say the program, or are refused at the place, which is past the last one where they only begin a text.
-abbrev pub IsRead : List Tok → Answer → Type 0
+abbrev pub IsRead : List Lexeme → Answer → Type 0
 IsRead ts (outcomes.Said p) = Says circuit_rules program_form ts p
 IsRead ts (outcomes.Refused place) = (place ≤ length ts) × Refused circuit_rules program_form ts (drop place ts)

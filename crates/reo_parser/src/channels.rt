@@ -42,6 +42,7 @@ fn plain_channel(cursor: &mut Cursor) -> Result<Channel, Halt>
     }
 }
 
+/// A channel that is a word and two nodes.
 pub fn plain(cursor: &mut Cursor, alloc: Global) -> Result<Form, Halt>
     ensures { Gives result cursor.new (read_plain plain_form cursor.old) }
 {
@@ -69,6 +70,7 @@ fn held(cursor: &mut Cursor, alloc: Global, room: usize) -> Result<Option<Litera
     }
 }
 
+/// A buffer with one place and what it holds at first, with rules nested at most `room` deep.
 pub fn fifo1(cursor: &mut Cursor, alloc: Global, room: usize) -> Result<Form, Halt>
     ensures { Gives result cursor.new (read (reads circuit_rules room) fifo1_form cursor.old) }
 {
@@ -110,6 +112,7 @@ fn held_list(cursor: &mut Cursor, alloc: Global, room: usize) -> Result<List<Lit
     }
 }
 
+/// A buffer with a size and what it holds at first, with rules nested at most `room` deep.
 pub fn fifo(cursor: &mut Cursor, alloc: Global, room: usize) -> Result<Form, Halt>
     ensures { Gives result cursor.new (read (reads circuit_rules room) fifo_form cursor.old) }
 {
@@ -126,6 +129,7 @@ pub fn fifo(cursor: &mut Cursor, alloc: Global, room: usize) -> Result<Form, Hal
     })
 }
 
+/// A filter with its test, with rules nested at most `room` deep.
 pub fn filter(cursor: &mut Cursor, alloc: Global, room: usize) -> Result<Form, Halt>
     ensures { Gives result cursor.new (read (reads circuit_rules room) filter_form cursor.old) }
 {
@@ -142,6 +146,7 @@ pub fn filter(cursor: &mut Cursor, alloc: Global, room: usize) -> Result<Form, H
     })
 }
 
+/// A map with its value, with rules nested at most `room` deep.
 pub fn map(cursor: &mut Cursor, alloc: Global, room: usize) -> Result<Form, Halt>
     ensures { Gives result cursor.new (read (reads circuit_rules room) map_form cursor.old) }
 {

@@ -1,10 +1,10 @@
 //! The levels of tokens.
 ghost use Rattle.std.specs.Prelude.{◌≡◌, ℕ, ◌+◌, ◌<◌, ◌^◌, ◌++◌, ◌∷◌, [], List, Bool, length, All, MatchOption, IsTrue, ◌↔◌};
-ghost use Rattle.reo_grammar.specs.Tokens.{Tok, matches};
+ghost use Rattle.reo_grammar.specs.Tokens.{Lexeme, matches};
 ghost use Rattle.reo_grammar.specs.Levels.{operators as operator_signs, term_starts, term_ends, IsAbove, Nowhere};
-ghost use Rattle.reo_lexer.specs.Lexing.{Lies, toks_of};
+ghost use Rattle.reo_lexer.specs.Lexing.{Lies, lexemes_of};
 ghost use Rattle.reo_trees.specs.Says.{most_levels};
-ghost use Rattle.reo_cursor.specs.Reading.{tok_seen};
+ghost use Rattle.reo_cursor.specs.Reading.{lexeme_seen};
 ghost use Rattle.reo_parser.specs.Counting.{Counts, IsFirstAbove};
 
 use reo_cursor::{Seen, seen_of};
@@ -28,20 +28,20 @@ pub struct Levels {
 
 #[tactic(auto, using(crate::proofs::Among::matches_more))]
 fn starts_term(seen: Seen) -> bool
-    ensures { result ≡ matches term_starts (tok_seen seen.entry) }
+    ensures { result ≡ matches term_starts (lexeme_seen seen.entry) }
 {
     seen.is(b"when") || seen.is(b"to")
 }
 
 #[tactic(auto, using(crate::proofs::Among::matches_more))]
 fn ends_term(seen: Seen) -> bool
-    ensures { result ≡ matches term_ends (tok_seen seen.entry) }
+    ensures { result ≡ matches term_ends (lexeme_seen seen.entry) }
 {
     seen.is(b";") || seen.is(b"{") || seen.is(b"}")
 }
 
 fn is_operator(seen: Seen) -> bool
-    ensures { result ≡ matches operator_signs (tok_seen seen.entry) }
+    ensures { result ≡ matches operator_signs (lexeme_seen seen.entry) }
 {
     match seen.kind {
         TokenKind::Word | TokenKind::Sign => matches!(
@@ -83,7 +83,7 @@ impl Levels {
         requires opened { self.opened < 2 ^ 63 }
         requires closed { self.closed < 2 ^ 63 }
         requires operators { self.operators < 2 ^ 63 }
-        ensures { (ts : List Tok) → Counts self ts → Counts result (ts ++ tok_seen seen.entry ∷ []) }
+        ensures { (ts : List Lexeme) → Counts self ts → Counts result (ts ++ lexeme_seen seen.entry ∷ []) }
     {
         let starts = starts_term(seen);
         let ends = ends_term(seen);
@@ -104,7 +104,7 @@ impl Levels {
         requires opened { self.opened < 2 ^ 63 }
         requires closed { self.closed < 2 ^ 63 }
         requires operators { self.operators < 2 ^ 63 }
-        ensures { (ts : List Tok) → Counts self ts → IsTrue result ↔ IsAbove most_levels ts }
+        ensures { (ts : List Lexeme) → Counts self ts → IsTrue result ↔ IsAbove most_levels ts }
     {
         MOST_LEVELS + self.closed < self.opened + self.operators
     }
@@ -114,7 +114,7 @@ impl Levels {
 pub fn first_above(text: &[u8], tokens: &[Token]) -> Option<usize>
     requires spans { All (Lies text.now) tokens.now }
     requires few { length tokens.now < 2 ^ 32 }
-    ensures { MatchOption result (Nowhere (IsAbove most_levels) (toks_of text.now tokens.now)) (λ place. IsFirstAbove (toks_of text.now tokens.now) place) }
+    ensures { MatchOption result (Nowhere (IsAbove most_levels) (lexemes_of text.now tokens.now)) (λ place. IsFirstAbove (lexemes_of text.now tokens.now) place) }
 {
     let mut levels = Levels::new();
     for (place, token) in tokens.iter().enumerate() {

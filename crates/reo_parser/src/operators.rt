@@ -16,6 +16,7 @@ pub fn is_prefix(cursor: &Cursor) -> bool
     cursor.is(b"!") || cursor.is(b"-")
 }
 
+/// The operator `!` or `-`.
 pub fn prefix(cursor: &mut Cursor) -> Result<Unary, Halt>
     ensures { Gives result cursor.new (read_plain prefix_form cursor.old) }
 {
@@ -36,6 +37,7 @@ pub fn is_product(cursor: &Cursor) -> bool
     cursor.is(b"*") || cursor.is(b"/") || cursor.is(b"%")
 }
 
+/// The operator `*`, `/` or `%`.
 pub fn product_operator(cursor: &mut Cursor) -> Result<Binary, Halt>
     ensures { Gives result cursor.new (read_plain product_form cursor.old) }
 {
@@ -59,6 +61,7 @@ pub fn is_sum(cursor: &Cursor) -> bool
     cursor.is(b"+") || cursor.is(b"-")
 }
 
+/// The operator `+` or `-`.
 pub fn sum_operator(cursor: &mut Cursor) -> Result<Binary, Halt>
     ensures { Gives result cursor.new (read_plain sum_form cursor.old) }
 {
@@ -84,6 +87,7 @@ pub fn is_comparison(cursor: &Cursor) -> bool
         || cursor.is(b">=")
 }
 
+/// The comparison `==`, `!=`, `<`, `<=`, `>` or `>=`.
 pub fn comparison_operator(cursor: &mut Cursor) -> Result<Binary, Halt>
     ensures { Gives result cursor.new (read_plain comparison_form cursor.old) }
 {
@@ -116,6 +120,7 @@ pub fn is_call(cursor: &Cursor) -> bool
     cursor.is(b"first") || cursor.is(b"second") || cursor.is(b"length")
 }
 
+/// The call `first`, `second` or `length`.
 pub fn call_operator(cursor: &mut Cursor) -> Result<Unary, Halt>
     ensures { Gives result cursor.new (read_plain call_form cursor.old) }
 {

@@ -2,7 +2,7 @@
 ghost use Rattle.std.specs.Prelude.{◌≡◌, ℕ, ◌<◌, ◌≤◌, ◌^◌, List, length, drop, All, Result, IfOk};
 ghost use Rattle.reo_grammar.specs.Tokens.{AreReal};
 ghost use Rattle.reo_grammar.specs.Levels.{IsAbove, Nowhere};
-ghost use Rattle.reo_lexer.specs.Lexing.{IsTokens, Lies, toks_of};
+ghost use Rattle.reo_lexer.specs.Lexing.{IsTokens, Lies, lexemes_of};
 ghost use Rattle.reo_trees.specs.declared.programs.Program.{Program as ProgramSpec};
 ghost use Rattle.reo_trees.specs.Says.{most_levels};
 ghost use Rattle.reo_parser.specs.declared.fault.ParseFault.{ParseFault as FaultSpec};
@@ -30,9 +30,9 @@ pub enum Outcome {
 
 fn read_all(alloc: Global, text: &[u8], tokens: &[Token]) -> Result<Outcome, NoMemory>
     requires spans { All (Lies text.now) tokens.now }
-    requires real { AreReal (toks_of text.now tokens.now) }
+    requires real { AreReal (lexemes_of text.now tokens.now) }
     requires few { length tokens.now < 2 ^ 32 }
-    ensures { IfOk result (IsRead (toks_of text.now tokens.now)) }
+    ensures { IfOk result (IsRead (lexemes_of text.now tokens.now)) }
 {
     let mut cursor = Cursor::new(text, tokens);
     match program(&mut cursor, alloc, tokens.len() + 1) {
@@ -56,7 +56,7 @@ fn read_all(alloc: Global, text: &[u8], tokens: &[Token]) -> Result<Outcome, NoM
 /// The line of the token that is refused, or of the last token where all are but a beginning.
 fn line_of_refusal(tokens: &[Token], place: usize) -> u32
     requires { 0 < length tokens.now }
-    ensures { (text : List ℕ) → place ≤ length tokens.now → result ≡ refused_line (toks_of text tokens.now) (drop place (toks_of text tokens.now)) }
+    ensures { (text : List ℕ) → place ≤ length tokens.now → result ≡ refused_line (lexemes_of text tokens.now) (drop place (lexemes_of text tokens.now)) }
 {
     tokens[place.min(tokens.len() - 1)].line
 }
@@ -65,9 +65,9 @@ fn line_of_refusal(tokens: &[Token], place: usize) -> u32
 fn answer_within(alloc: Global, text: &[u8], tokens: &[Token]) -> Result<Program, ParseFault>
     requires tokens { IsTokens text.now tokens.now }
     requires spans { All (Lies text.now) tokens.now }
-    requires real { AreReal (toks_of text.now tokens.now) }
+    requires real { AreReal (lexemes_of text.now tokens.now) }
     requires few { length tokens.now < 2 ^ 32 }
-    requires levels { Nowhere (IsAbove most_levels) (toks_of text.now tokens.now) }
+    requires levels { Nowhere (IsAbove most_levels) (lexemes_of text.now tokens.now) }
     ensures { IsParsed text.now result }
 {
     match read_all(alloc, text, tokens)? {
@@ -88,9 +88,9 @@ fn answer_above(
 ) -> Result<Program, ParseFault>
     requires tokens { IsTokens text.now tokens.now }
     requires spans { All (Lies text.now) tokens.now }
-    requires real { AreReal (toks_of text.now tokens.now) }
+    requires real { AreReal (lexemes_of text.now tokens.now) }
     requires few { length tokens.now < 2 ^ 32 }
-    requires levels { IsFirstAbove (toks_of text.now tokens.now) place }
+    requires levels { IsFirstAbove (lexemes_of text.now tokens.now) place }
     ensures { IsParsed text.now result }
 {
     let too_deep = ParseFault::TooDeep {

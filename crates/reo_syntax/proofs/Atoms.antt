@@ -6,7 +6,7 @@ use denote.Hole.Carrier.{hidden}
 use Rattle.reo_grammar.specs.declared.kind.TokenKind.TheVariants as kinds
 use Rattle.reo_grammar.specs.Bytes.{is_not, is_letter, is_digit, is_name_byte, each, one_of}
 use Rattle.reo_grammar.specs.Spelling.{spells, is_short, is_spelled, is_digits, reserved}
-use Rattle.reo_grammar.specs.Tokens.{Tok, matches, is_real, number_from}
+use Rattle.reo_grammar.specs.Tokens.{Lexeme, matches, is_real, number_from}
 use Rattle.reo_grammar.specs.Tokens.Class.{fixed, name, number}
 use Rattle.reo_grammar.specs.Grammar.Grammar.{rule}
 use Rattle.reo_grammar.proofs.Sound.{and-left}
@@ -40,7 +40,7 @@ use Rattle.reo_syntax.proofs.Quotes.{out-quoted}
 use Rattle.reo_syntax.proofs.Levels.{begins-append, term-out}
 
 -- Its text is the same wherever it stands, and says it.
-pub record Plain (ts : List Tok) (x : TermForm) : Type 0 where
+pub record Plain (ts : List Lexeme) (x : TermForm) : Type 0 where
   pub same : (m : ℕ) → form_text m x ≡ form_text 0 x
   pub binds : own x ≡ 6
   pub first : begins (form_text 0 x) ≡ true
@@ -52,7 +52,7 @@ letter-begins b bs h = let k : 65 ≤ b = letter-parts b h in yes-not (b == 61) 
 digit-begins : (b : ℕ) (bs : List ℕ) → is_digit b ≡ true → begins (b ∷ bs) ≡ true
 digit-begins b bs h = let k = digit-parts b h in yes-not (b == 61) (never (b == 61) (λ e. let n : b ≡ 61 = grind (arith, nat_tests) in absurd (omega arith)))
 
-name-spelled : (t : Tok) → matches name t ≡ true → is_real t ≡ true → is_spelled t.bytes ≡ true
+name-spelled : (t : Lexeme) → matches name t ≡ true → is_real t ≡ true → is_spelled t.bytes ≡ true
 name-spelled t m q =
     let s : spells kinds.Name t.bytes ≡ true = subst (λ k. spells k t.bytes ≡ true) (name-kind t.kind m) (and-left (spells t.kind t.bytes) (is_short t.kind t.bytes) q) in
     and-left (is_spelled t.bytes) (is_not (one_of t.bytes reserved)) s
@@ -73,11 +73,11 @@ dot-cut (b ∷ bs) r h =
     let e : (b == 46) ≡ false = never (b == 46) (λ e. let n : b ≡ 46 = grind (arith, nat_tests) in absurd (omega arith)) in
     rw e refl
 
-bare-name : (t : Tok) (r : List ℕ) → matches name t ≡ true → is_real t ≡ true → is_cut kinds.Name t.bytes r ≡ true → Out name_form t.bytes (t ∷ []) r (λ n. t.bytes ≡ n)
+bare-name : (t : Lexeme) (r : List ℕ) → matches name t ≡ true → is_real t ≡ true → is_cut kinds.Name t.bytes r ≡ true → Out name_form t.bytes (t ∷ []) r (λ n. t.bytes ≡ n)
 bare-name t r m q h = out-text (append-nil t.bytes) (out-name t [] r m q refl h)
 
 pub see-term : {w : World} → w.Holds term_rule ≡ Claim term_rule → See w (rule term_rule) (λ ts x. Tight 0 ts x.form)
-see-term {w = w} k = see-rule (λ a x h. subst (λ (P : List Tok → Term → Type 0). P a x) k h)
+see-term {w = w} k = see-rule (λ a x h. subst (λ (P : List Lexeme → Term → Type 0). P a x) k h)
 
 see-symbol : {w : World} → See w symbol_form Plain
 see-symbol = see-both (see-both (see-made (see-token (λ t m q. see-word (λ u p. see-made (see-token (λ v n s.
@@ -93,13 +93,13 @@ see-symbol = see-both (see-both (see-made (see-token (λ t m q. see-word (λ u p
 same-one : (u : Unary) (x y : Term) → SameTerm x y → bare_form (terms.One u x) ≡ bare_form (terms.One u y)
 same-one u x y e = bare-one u x ∙ ap (λ (f : TermForm). terms.One u (record { line = 0; form = f })) e ∙ sym (bare-one u y)
 
-record Call (u : Unary) (t : Tok) : Type 0 where
+record Call (u : Unary) (t : Lexeme) : Type 0 where
   pub out : (r : List ℕ) → Out call_operator (unary_text u) (t ∷ []) (codes "(" ++ r) (λ y. u ≡ y)
   pub shape : (m : ℕ) (f : ℕ → List ℕ) → applied_text m u f ≡ unary_text u ++ (codes "(" ++ (f 0 ++ codes ")"))
   pub first : begins (unary_text u) ≡ true
   pub binds : (x : Term) → own (terms.One u x) ≡ 6
 
-call-plain : (u : Unary) (t p : Tok) (a : List Tok) (x : Term) (v : Tok) → Call u t → matches (fixed (codes "(")) p ≡ true → Tight 0 a x.form → matches (fixed (codes ")")) v ≡ true
+call-plain : (u : Unary) (t p : Lexeme) (a : List Lexeme) (x : Term) (v : Lexeme) → Call u t → matches (fixed (codes "(")) p ≡ true → Tight 0 a x.form → matches (fixed (codes ")")) v ≡ true
     → Plain ((t ∷ []) ++ ((p ∷ []) ++ (a ++ (v ∷ [])))) (terms.One u x)
 call-plain u t p a x v c m h n =
     let e : (i : ℕ) → form_text i (terms.One u x) ≡ unary_text u ++ (codes "(" ++ (form_text 0 x.form ++ codes ")")) = λ i. form-one i u x ∙ c.shape i (λ j. form_text j x.form) in
@@ -114,19 +114,19 @@ call-plain u t p a x v c m h n =
           (λ d f e j. ap (λ (z : Unary). bare_form (terms.One z x)) e ∙ same-one d x f j))))))))));
     }
 
-first-call : (t : Tok) → matches (fixed (codes "first")) t ≡ true → Call unaries.First t
+first-call : (t : Lexeme) → matches (fixed (codes "first")) t ≡ true → Call unaries.First t
 unfolding hidden-the_row-Term-0 hidden
 first-call t m = record { out = λ r. out-left (out-word-as unaries.First (codes "first") [] t (codes "(" ++ r) m refl refl (λ y. unaries.First ≡ y) refl); shape = λ i f. refl; first = refl; binds = λ x. refl }
 
-second-call : (t : Tok) → matches (fixed (codes "second")) t ≡ true → Call unaries.Second t
+second-call : (t : Lexeme) → matches (fixed (codes "second")) t ≡ true → Call unaries.Second t
 unfolding hidden-the_row-Term-0 hidden
 second-call t m = record { out = λ r. out-right (out-left (out-word-as unaries.Second (codes "second") [] t (codes "(" ++ r) m refl refl (λ y. unaries.Second ≡ y) refl)); shape = λ i f. refl; first = refl; binds = λ x. refl }
 
-length-call : (t : Tok) → matches (fixed (codes "length")) t ≡ true → Call unaries.Length t
+length-call : (t : Lexeme) → matches (fixed (codes "length")) t ≡ true → Call unaries.Length t
 unfolding hidden-the_row-Term-0 hidden
 length-call t m = record { out = λ r. out-right (out-right (out-word-as unaries.Length (codes "length") [] t (codes "(" ++ r) m refl refl (λ y. unaries.Length ≡ y) refl)); shape = λ i f. refl; first = refl; binds = λ x. refl }
 
-see-argument : {w : World} → w.Holds term_rule ≡ Claim term_rule → (u : Unary) (t : Tok) → Call u t → See w (word (codes "(") ▸ rule term_rule ◂ word (codes ")")) (λ b x. Plain ((t ∷ []) ++ b) (terms.One u x))
+see-argument : {w : World} → w.Holds term_rule ≡ Claim term_rule → (u : Unary) (t : Lexeme) → Call u t → See w (word (codes "(") ▸ rule term_rule ◂ word (codes ")")) (λ b x. Plain ((t ∷ []) ++ b) (terms.One u x))
 see-argument k u t c = see-both (see-word (λ p m. see-both (see-then (see-term k) (λ a x h. see-word (λ v n. call-plain u t p a x v c m h n)))))
 
 see-call : {w : World} → w.Holds term_rule ≡ Claim term_rule → See w call_form Plain
@@ -143,7 +143,7 @@ own-if : (p : TermTriple) → own (terms.If p) ≡ 6
 unfolding hidden-the_row-TermTriple-2 hidden
 own-if p = refl
 
-if-plain : (t u : Tok) (a : List Tok) (c : Term) (v : Tok) (b : List Tok) (x : Term) (d : Tok) (e : List Tok) (y : Term) (f : Tok)
+if-plain : (t u : Lexeme) (a : List Lexeme) (c : Term) (v : Lexeme) (b : List Lexeme) (x : Term) (d : Lexeme) (e : List Lexeme) (y : Term) (f : Lexeme)
     → matches (fixed (codes "if")) t ≡ true → matches (fixed (codes "(")) u ≡ true → Tight 0 a c.form → matches (fixed (codes ",")) v ≡ true → Tight 0 b x.form → matches (fixed (codes ",")) d ≡ true
     → Tight 0 e y.form → matches (fixed (codes ")")) f ≡ true
     → Plain ((t ∷ []) ++ ((u ∷ []) ++ ((a ++ (v ∷ [])) ++ ((b ++ (d ∷ [])) ++ (e ++ (f ∷ [])))))) (terms.If (record { condition = c; yes = x; no = y }))
@@ -171,7 +171,7 @@ see-if k = see-both (see-word (λ t m. see-both (see-word (λ u n. see-both (see
     see-both (see-both (see-then (see-term k) (λ b x i. see-word (λ d q. see-both (see-then (see-term k) (λ e y j. see-word (λ f s.
     if-plain t u a c v b x d e y f m n h p i q j s)))))))))))))))
 
-number-begins : (t : Tok) → matches (number 0 greatest) t ≡ true → is_real t ≡ true → begins (decimal (number_from 0 t.bytes)) ≡ true
+number-begins : (t : Lexeme) → matches (number 0 greatest) t ≡ true → is_real t ≡ true → begins (decimal (number_from 0 t.bytes)) ≡ true
 number-begins t m q =
     let b : number_from 0 t.bytes < 10 ^ 18 = real-number-below t (number-kind t.kind (and-left _ _ m)) q in
     digits-begin (decimal (number_from 0 t.bytes)) (decimal-value (number_from 0 t.bytes) (omega arith)).0

@@ -1,7 +1,7 @@
 -- What is claimed of each rule's texts.
 use Rattle.std.proofs.Common.{◌≡◌, ℕ, zero, suc, ◌≤◌, ◌⊎◌, ◌==◌, Bool, true, false, List, [], ◌∷◌}
 use Rattle.reo_grammar.specs.Bytes.{is_not}
-use Rattle.reo_grammar.specs.Tokens.{Tok}
+use Rattle.reo_grammar.specs.Tokens.{Lexeme}
 use Rattle.reo_grammar.specs.Grammar.Grammar.{rule}
 use Rattle.reo_values.specs.declared.operator.Unary.TheVariants as unaries
 use Rattle.reo_trees.specs.declared.types.Shape.{Shape}
@@ -12,7 +12,7 @@ use Rattle.reo_trees.specs.declared.terms.TermForm as form
 use Rattle.reo_trees.specs.declared.terms.TermForm.{TermForm}
 use Rattle.reo_trees.specs.declared.terms.Term.{Term}
 use Rattle.reo_trees.specs.declared.terms.Opened.{Opened}
-use Rattle.reo_trees.specs.Forms.{Rule, tree_of, G}
+use Rattle.reo_trees.specs.Forms.{Rule, tree_of, FormOf}
 use Rattle.reo_trees.specs.Forms.Rule.{type_rule, literal_rule, term_rule, unary_rule}
 use Rattle.reo_trees.specs.Terms.{or_form, and_form, comparison_form, sum_form, product_form, unary_form, atom_form}
 use Rattle.reo_syntax.specs.TypeText.{type_text}
@@ -23,10 +23,10 @@ use Rattle.reo_syntax.proofs.Row.{is_apart}
 use Rattle.reo_syntax.proofs.Again.{Out}
 
 -- The text of a tree, before what a test allows, is of the form again, with the same tree.
-abbrev pub After : {A : Type 0} → (List ℕ → Bool) → G A → (A → List ℕ) → (A → A → Type 0) → List Tok → A → Type 0
+abbrev pub After : {A : Type 0} → (List ℕ → Bool) → FormOf A → (A → List ℕ) → (A → A → Type 0) → List Lexeme → A → Type 0
 After F g f S ts x = (r : List ℕ) → F r ≡ true → Out g (f x) ts r (S x)
 
-abbrev pub Again : {A : Type 0} → G A → (A → List ℕ) → (A → A → Type 0) → List Tok → A → Type 0
+abbrev pub Again : {A : Type 0} → FormOf A → (A → List ℕ) → (A → A → Type 0) → List Lexeme → A → Type 0
 Again g f S ts x = After is_apart g f S ts x
 
 abbrev pub SameShape : Shape → Shape → Type 0
@@ -48,7 +48,7 @@ abbrev pub SameTerm : Term → Term → Type 0
 SameTerm x y = bare_form x.form ≡ bare_form y.form
 
 -- The forms of terms by how tightly they bind.
-abbrev pub level_form : ℕ → G Opened
+abbrev pub level_form : ℕ → FormOf Opened
 level_form zero = or_form
 level_form (suc zero) = and_form
 level_form (suc (suc zero)) = comparison_form
@@ -70,15 +70,15 @@ begins [] = false
 begins (b ∷ bs) = is_not (b == 61)
 
 -- The text of the term, where it must bind so tightly, is such a form again, with the same term.
-pub record Printed (m : ℕ) (ts : List Tok) (x : TermForm) : Type 0 where
+pub record Printed (m : ℕ) (ts : List Lexeme) (x : TermForm) : Type 0 where
   pub first : begins (form_text m x) ≡ true
   pub out : (r : List ℕ) → is_apart r ≡ true → Out (level_form m) (form_text m x) ts r (SameForm x)
 
 -- It is so wherever the form or the term binds at least so tightly.
-pub record Tight (n : ℕ) (ts : List Tok) (x : TermForm) : Type 0 where
+pub record Tight (n : ℕ) (ts : List Lexeme) (x : TermForm) : Type 0 where
   pub at : (m : ℕ) → (m ≤ n) ⊎ (m ≤ own x) → Printed m ts x
 
-abbrev pub Claim : (r : Rule) → List Tok → tree_of r → Type 0
+abbrev pub Claim : (r : Rule) → List Lexeme → tree_of r → Type 0
 Claim type_rule ts t = Again (rule type_rule) type_text SameType ts t
 Claim literal_rule ts l = Again (rule literal_rule) literal_text SameLiteral ts l
 Claim term_rule ts t = Tight 0 ts t.form

@@ -7,7 +7,7 @@ use Rattle.reo_grammar.specs.declared.kind.TokenKind.{TokenKind}
 use Rattle.reo_grammar.specs.declared.kind.TokenKind.TheVariants as kinds
 use Rattle.reo_grammar.specs.Bytes.{and, is_digit, each}
 use Rattle.reo_grammar.specs.Spelling.{is_digits}
-use Rattle.reo_grammar.specs.Tokens.{Tok, matches, is_real, is_number, is_fixed, number_from}
+use Rattle.reo_grammar.specs.Tokens.{Lexeme, matches, is_real, is_number, is_fixed, number_from}
 use Rattle.reo_grammar.specs.Tokens.Class.{number}
 use Rattle.reo_grammar.proofs.Sound.{and-left, and-right, and-both}
 use Rattle.reo_grammar.proofs.Numbers.{real-number-below}
@@ -46,7 +46,7 @@ decimal-value n h =
     (λ m ds l p. (digits-snoc ds (48 + m % 10) p.0 (digit-of (m % 10) (below-ten m)), value-snoc 0 ds (48 + m % 10) ∙ last-value m (number_from 0 ds) p.1))
     n h
 
-abbrev pub number_token : ℕ → Tok
+abbrev pub number_token : ℕ → Lexeme
 number_token n = record { kind = kinds.Number; bytes = decimal n; line = 0 }
 
 short-number : (n : ℕ) → n < 10 ^ 18 → nat_le (length (decimal n)) 18 ≡ true
@@ -66,7 +66,7 @@ number-loose : (k : TokenKind) → is_number k ≡ true → is_fixed k ≡ false
 number-loose k h = rw (number-kind k h) refl
 
 -- A token of a number, in decimal without leading zeros.
-pub out-number : (low high : ℕ) (t : Tok) (gap r : List ℕ) → matches (number low high) t ≡ true → is_real t ≡ true → each is_space gap ≡ true
+pub out-number : (low high : ℕ) (t : Lexeme) (gap r : List ℕ) → matches (number low high) t ≡ true → is_real t ≡ true → each is_space gap ≡ true
     → is_cut kinds.Number [] (gap ++ r) ≡ true → Out (number_form low high) (decimal (number_from 0 t.bytes) ++ gap) (t ∷ []) r (λ n. number_from 0 t.bytes ≡ n)
 out-number low high t gap r m q s i =
     let k : is_number t.kind ≡ true = and-left _ _ m in

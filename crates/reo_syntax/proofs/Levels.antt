@@ -3,7 +3,7 @@ use Rattle.std.proofs.Common.{◌≡◌, ℕ, zero, suc, ◌+◌, ◌-◌, ◌�
 use Rattle.std.proofs.lemmas.Bool.Decides.{nat_tests}
 use denote.Hole.Carrier.{hidden}
 use Rattle.reo_grammar.specs.declared.kind.TokenKind.TheVariants as kinds
-use Rattle.reo_grammar.specs.Tokens.{Tok, matches}
+use Rattle.reo_grammar.specs.Tokens.{Lexeme, matches}
 use Rattle.reo_grammar.specs.Tokens.Class.{fixed}
 use Rattle.reo_grammar.specs.Grammar.Grammar.{rule}
 use Rattle.reo_lexer.specs.Written.{is_cut}
@@ -26,11 +26,11 @@ use Rattle.reo_syntax.proofs.Again.{Out, out-both, out-first, out-right, out-not
 use Rattle.reo_syntax.proofs.Claims.{SameTerm, level_form, own, begins, Tight}
 use Rattle.reo_syntax.proofs.Unfold.{form-two, joined-infix}
 
-out-same : {A : Type 0} {g : Rattle.reo_trees.specs.Forms.G A} {a : List ℕ} {ts us : List Tok} {r : List ℕ} {S : A → Type 0} → ts ≡ us → Out g a ts r S → Out g a us r S
+out-same : {A : Type 0} {g : Rattle.reo_trees.specs.Forms.FormOf A} {a : List ℕ} {ts us : List Lexeme} {r : List ℕ} {S : A → Type 0} → ts ≡ us → Out g a ts r S → Out g a us r S
 out-same {g = g} {a = a} {r = r} {S = S} e x = subst (λ l. Out g a l r S) e x
 
 -- What binds tightly is also of the forms that bind less.
-lower-one : (m : ℕ) {a : List ℕ} {ts : List Tok} {r : List ℕ} {S : Opened → Type 0} → Out (level_form (suc m)) a ts r S → Out (level_form m) a ts r S
+lower-one : (m : ℕ) {a : List ℕ} {ts : List Lexeme} {r : List ℕ} {S : Opened → Type 0} → Out (level_form (suc m)) a ts r S → Out (level_form m) a ts r S
 lower-one zero o = out-first o
 lower-one (suc zero) o = out-first o
 lower-one (suc (suc zero)) {a = a} {ts = ts} {r = r} {S = S} o =
@@ -40,12 +40,12 @@ lower-one (suc (suc (suc (suc zero)))) o = out-first o
 lower-one (suc (suc (suc (suc (suc zero))))) o = out-right o
 lower-one (suc (suc (suc (suc (suc (suc n)))))) o = o
 
-lower-by : (d m n : ℕ) {a : List ℕ} {ts : List Tok} {r : List ℕ} {S : Opened → Type 0} → n ≡ d + m → Out (level_form n) a ts r S → Out (level_form m) a ts r S
+lower-by : (d m n : ℕ) {a : List ℕ} {ts : List Lexeme} {r : List ℕ} {S : Opened → Type 0} → n ≡ d + m → Out (level_form n) a ts r S → Out (level_form m) a ts r S
 lower-by zero m n {a = a} {ts = ts} {r = r} {S = S} e o = let k : n ≡ m = omega arith in subst (λ i. Out (level_form i) a ts r S) k o
 lower-by (suc d) m zero e o = absurd (omega arith)
 lower-by (suc d) m (suc n) e o = lower-by d m n (omega arith) (lower-one n o)
 
-pub lower : (m n : ℕ) {a : List ℕ} {ts : List Tok} {r : List ℕ} {S : Opened → Type 0} → m ≤ n → Out (level_form n) a ts r S → Out (level_form m) a ts r S
+pub lower : (m n : ℕ) {a : List ℕ} {ts : List Lexeme} {r : List ℕ} {S : Opened → Type 0} → m ≤ n → Out (level_form n) a ts r S → Out (level_form m) a ts r S
 lower m n h o = lower-by (n - m) m n (omega arith) o
 
 pub begins-append : (a b : List ℕ) → begins a ≡ true → begins (a ++ b) ≡ true
@@ -112,14 +112,14 @@ two-text m o p h k =
     form-two m o p ∙ joined-infix m o (λ i. form_text i p.left.form) (λ i. form_text i p.right.form) h
     ∙ ungrouped m (tightness o) (infix_text o (form_text (left_tightness o) p.left.form) (form_text (tightness o + 1) p.right.form)) k
 
-pub weaker : (n k : ℕ) (ts : List Tok) (x : TermForm) → n ≤ k → Tight k ts x → Tight n ts x
+pub weaker : (n k : ℕ) (ts : List Lexeme) (x : TermForm) → n ≤ k → Tight k ts x → Tight n ts x
 weaker n k ts x h t = record { at = λ m c. elim c [ inl l ↦ t.at m (inl (omega arith)) | inr l ↦ t.at m (inr l) ] }
 
 -- A term as the rule of terms has it.
-pub term-out : (ts : List Tok) (x : Term) → Tight 0 ts x.form → (r : List ℕ) → is_apart r ≡ true → Out (rule term_rule) (form_text 0 x.form) ts r (SameTerm x)
+pub term-out : (ts : List Lexeme) (x : Term) → Tight 0 ts x.form → (r : List ℕ) → is_apart r ≡ true → Out (rule term_rule) (form_text 0 x.form) ts r (SameTerm x)
 term-out ts x t r h = out-rule term_rule (out-made (SameTerm x) ((t.at 0 (inl (omega arith))).out r h) (λ o e. e))
 
 -- A grouping taken away.
-pub out-grouped : {A : Type 0} {g : Rattle.reo_trees.specs.Forms.G A} {a : List ℕ} {ts : List Tok} {r : List ℕ} {S : A → Type 0} (t u : Tok) → matches (fixed (codes "(")) t ≡ true → matches (fixed (codes ")")) u ≡ true
+pub out-grouped : {A : Type 0} {g : Rattle.reo_trees.specs.Forms.FormOf A} {a : List ℕ} {ts : List Lexeme} {r : List ℕ} {S : A → Type 0} (t u : Lexeme) → matches (fixed (codes "(")) t ≡ true → matches (fixed (codes ")")) u ≡ true
     → Out g a ts r S → Out g a ((t ∷ []) ++ (ts ++ (u ∷ []))) r S
 out-grouped {ts = ts} t u m p x = record { us = x.us; row = x.row; thin = thin-group t u x.us ts (paren-opens t m) (paren-closes u p) x.thin; says = x.says }

@@ -3,12 +3,12 @@ use Rattle.std.proofs.Common.{◌≡◌, ℕ, zero, suc, ◌+◌, ◌-◌, ◌==
 use Rattle.std.specs.Prelude.{◌||◌}
 use Rattle.std.specs.List.{flat_map}
 use Rattle.std.proofs.lemmas.Bool.Decides.{nat_tests}
-use Rattle.reo_grammar.specs.declared.kind.TokenKind.{TokenKind}
 use Rattle.reo_grammar.specs.declared.kind.TokenKind.TheVariants as kinds
 use Rattle.reo_grammar.specs.Bytes.{and, or, is_plain, is_escaped}
 use Rattle.reo_grammar.specs.Spelling.{spells, is_short, is_closed}
-use Rattle.reo_grammar.specs.Tokens.{Tok, matches, is_real, is_text}
+use Rattle.reo_grammar.specs.Tokens.{Lexeme, matches, is_real}
 use Rattle.reo_grammar.specs.Tokens.Class.{text}
+use Rattle.reo_grammar.proofs.Classes.{text-kind}
 use Rattle.reo_grammar.proofs.Sound.{and-left, and-right}
 use Rattle.reo_lexer.proofs.Spelled.{quote-part}
 use Rattle.reo_lexer.specs.Written.{is_cut}
@@ -87,15 +87,8 @@ pub quoted-again : (b : List ℕ) → spells kinds.Text b ≡ true → quoted (t
 quoted-again [] h = absurd (cc)
 quoted-again (q ∷ bs) h = quoted-by q bs (quote-part q (and-left (q == 34) (is_closed false bs) h)) (and-right (q == 34) (is_closed false bs) h)
 
-text-kind : (k : TokenKind) → is_text k ≡ true → k ≡ kinds.Text
-text-kind kinds.Text h = refl
-text-kind kinds.Name h = absurd (cc)
-text-kind kinds.Word h = absurd (cc)
-text-kind kinds.Number h = absurd (cc)
-text-kind kinds.Sign h = absurd (cc)
-
 -- A token of a text in quotes.
-pub out-quoted : (t : Tok) (r : List ℕ) → matches text t ≡ true → is_real t ≡ true → Out text_form (quoted (text_bytes t.bytes)) (t ∷ []) r (λ b. text_bytes t.bytes ≡ b)
+pub out-quoted : (t : Lexeme) (r : List ℕ) → matches text t ≡ true → is_real t ≡ true → Out text_form (quoted (text_bytes t.bytes)) (t ∷ []) r (λ b. text_bytes t.bytes ≡ b)
 out-quoted t r m q =
     let k : t.kind ≡ kinds.Text = text-kind t.kind m in
     let s : spells kinds.Text t.bytes ≡ true = subst (λ z. spells z t.bytes ≡ true) k (and-left (spells t.kind t.bytes) (is_short t.kind t.bytes) q) in

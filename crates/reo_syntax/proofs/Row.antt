@@ -4,19 +4,19 @@ use Rattle.reo_grammar.specs.declared.kind.TokenKind.{TokenKind}
 use Rattle.reo_grammar.specs.declared.kind.TokenKind.TheVariants as kinds
 use Rattle.reo_grammar.specs.Bytes.{and, or, is_not, is_digit, is_name_byte, one_of}
 use Rattle.reo_grammar.specs.Spelling.{spells, is_short, signs}
-use Rattle.reo_grammar.specs.Tokens.{Tok, is_real, Alike}
+use Rattle.reo_grammar.specs.Tokens.{Lexeme, is_real, Alike}
 use Rattle.reo_grammar.proofs.Sound.{and-left, and-right}
 use Rattle.reo_lexer.specs.declared.token.Token.{Token}
 use Rattle.reo_lexer.specs.Gaps.{IsGap, lines_in}
 use Rattle.reo_lexer.specs.Gaps.IsGap.{no_gap, space, comment}
-use Rattle.reo_lexer.specs.Lexing.{Leads, Runs, AtEnd, IsTokens, toks_of}
+use Rattle.reo_lexer.specs.Lexing.{Leads, Runs, AtEnd, IsTokens, lexemes_of}
 use Rattle.reo_lexer.specs.Written.{is_cut}
 use Rattle.reo_lexer.proofs.Spans.{lead-lies}
 use Rattle.reo_lexer.proofs.Spelled.{one_of-passes, not-yes, yes-not, never}
 use Rattle.reo_lexer.proofs.Cut.{cut-token}
 
 -- The bytes, with the rest behind them, are these tokens with blanks around them.
-abbrev pub Row : List ℕ → List Tok → List ℕ → Type 0
+abbrev pub Row : List ℕ → List Lexeme → List ℕ → Type 0
 Row bytes [] rest = IsGap bytes
 Row bytes (t ∷ ts) rest = (gap : List ℕ) × (after : List ℕ) × (bytes ≡ gap ++ (t.bytes ++ after)) × IsGap gap × (is_real t ≡ true) × (is_cut t.kind t.bytes (after ++ rest) ≡ true) × Row after ts rest
 
@@ -26,12 +26,12 @@ gap-append g h (space b r e j) i = space b (r ++ h) e (gap-append r h j i)
 gap-append g h (comment c r e j) i = rw append_assoc (comment c (r ++ h) e (gap-append r h j i))
 
 -- A gap before a row.
-pub gap-row : (g b : List ℕ) (ts : List Tok) (r : List ℕ) → IsGap g → Row b ts r → Row (g ++ b) ts r
+pub gap-row : (g b : List ℕ) (ts : List Lexeme) (r : List ℕ) → IsGap g → Row b ts r → Row (g ++ b) ts r
 gap-row g b [] r i h = gap-append g b i h
 gap-row g b (t ∷ ts) r i (gap, after, e, j, x, c, h) = (g ++ gap, after, ap (λ l. g ++ l) e ∙ sym (append_assoc g gap (t.bytes ++ after)), gap-append g gap i j, x, c, h)
 
 -- Two rows, one behind the other.
-pub row-append : (a b : List ℕ) (ts us : List Tok) (r : List ℕ) → Row a ts (b ++ r) → Row b us r → Row (a ++ b) (ts ++ us) r
+pub row-append : (a b : List ℕ) (ts us : List Lexeme) (r : List ℕ) → Row a ts (b ++ r) → Row b us r → Row (a ++ b) (ts ++ us) r
 row-append a b [] us r h i = gap-row a b us r h i
 row-append a b (t ∷ ts) us r (gap, after, e, j, q, c, h) i = (
   gap,
@@ -44,15 +44,15 @@ row-append a b (t ∷ ts) us r (gap, after, e, j, q, c, h) i = (
 )
 
 -- One token.
-pub token-row : (t : Tok) (r : List ℕ) → is_real t ≡ true → is_cut t.kind t.bytes r ≡ true → Row t.bytes (t ∷ []) r
+pub token-row : (t : Lexeme) (r : List ℕ) → is_real t ≡ true → is_cut t.kind t.bytes r ≡ true → Row t.bytes (t ∷ []) r
 token-row t r h c = ([], [], sym (append-nil t.bytes), no_gap, h, c, no_gap)
 
 lf_gap : IsGap (10 ∷ [])
 lf_gap = space 10 [] refl no_gap
 
 -- Tokens in a row to the end of a text are the tokens there, lines aside.
-row-runs : (text : List ℕ) (at line : ℕ) (left : List ℕ) (ts : List Tok) → at ≤ length text → left ≡ drop at text → Row left ts []
-    → (us : List Token) × Runs AtEnd at line left us × Alike ts (toks_of text us)
+row-runs : (text : List ℕ) (at line : ℕ) (left : List ℕ) (ts : List Lexeme) → at ≤ length text → left ≡ drop at text → Row left ts []
+    → (us : List Token) × Runs AtEnd at line left us × Alike ts (lexemes_of text us)
 row-runs text at line left [] h e g = ([], gap-append left (10 ∷ []) g lf_gap, tt)
 row-runs text at line left (t ∷ ts) h e (gap, after, w, g, x, c, r) =
     let s : spells t.kind t.bytes ≡ true = and-left (spells t.kind t.bytes) (is_short t.kind t.bytes) x in
@@ -64,7 +64,7 @@ row-runs text at line left (t ∷ ts) h e (gap, after, w, g, x, c, r) =
     let (us, i, j) = row-runs text u.end u.line after ts p.1 d r in
     (u ∷ us, (after, l, i), (refl, sym b, j))
 
-pub row-tokens : (text : List ℕ) (ts : List Tok) → Row text ts [] → (us : List Token) × IsTokens text us × Alike ts (toks_of text us)
+pub row-tokens : (text : List ℕ) (ts : List Lexeme) → Row text ts [] → (us : List Token) × IsTokens text us × Alike ts (lexemes_of text us)
 row-tokens text ts h = row-runs text 0 1 text ts (omega arith) refl h
 
 -- The next byte, if there is one, goes on with no name, no number and no sign.

@@ -21,34 +21,35 @@ tree_of literal_rule = Literal
 tree_of term_rule = Term
 tree_of unary_rule = Opened
 
-abbrev pub G : Type 0 → Type 1
-G A = Grammar Rule tree_of A
+-- A grammar of circuit texts that stand for values of this type.
+abbrev pub FormOf : Type 0 → Type 1
+FormOf A = Grammar Rule tree_of A
 
 -- A reserved word or a sign.
-abbrev pub word : List ℕ → G (Unit {0})
+abbrev pub word : List ℕ → FormOf (Unit {0})
 word b = made (λ t. tt) (token (fixed b))
 
 -- One that stands for a value.
-abbrev pub word_as : {A : Type 0} → A → List ℕ → G A
+abbrev pub word_as : {A : Type 0} → A → List ℕ → FormOf A
 word_as x b = made (λ u. x) (word b)
 
-abbrev pub name_form : G (List ℕ)
+abbrev pub name_form : FormOf (List ℕ)
 name_form = made (λ t. t.bytes) (token name)
 
 -- A number from the first to the second.
-abbrev pub number_form : ℕ → ℕ → G ℕ
+abbrev pub number_form : ℕ → ℕ → FormOf ℕ
 number_form low high = made (λ t. number_from 0 t.bytes) (token (number low high))
 
-abbrev pub text_form : G (List ℕ)
+abbrev pub text_form : FormOf (List ℕ)
 text_form = made (λ t. text_bytes t.bytes) (token text)
 
 -- The first part and then the second, with the value of the second, or of the first.
 infixr 6 ◌▸◌
-abbrev pub ◌▸◌ : {A B : Type 0} → G A → G B → G B
+abbrev pub ◌▸◌ : {A B : Type 0} → FormOf A → FormOf B → FormOf B
 g ▸ h = both (λ x y. y) g h
 
 infixl 7 ◌◂◌
-abbrev pub ◌◂◌ : {A B : Type 0} → G A → G B → G A
+abbrev pub ◌◂◌ : {A B : Type 0} → FormOf A → FormOf B → FormOf A
 g ◂ h = both (λ x y. x) g h
 
 -- One more at the end of a list.
@@ -56,9 +57,9 @@ abbrev pub listed : {A : Type 0} → List A → A → List A
 listed xs x = xs ++ x ∷ []
 
 -- One part behind a comma.
-abbrev pub further : {A : Type 0} → G A → G A
+abbrev pub further : {A : Type 0} → FormOf A → FormOf A
 further g = word (codes ",") ▸ g
 
 -- One part or more, with commas between them.
-abbrev pub comma_form : {A : Type 0} → G A → G (List A)
+abbrev pub comma_form : {A : Type 0} → FormOf A → FormOf (List A)
 comma_form g = chain listed (fixed (codes ",")) (made (λ x. x ∷ []) g) (further g)

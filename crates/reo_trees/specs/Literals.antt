@@ -6,7 +6,7 @@ use Rattle.reo_grammar.specs.Grammar.Grammar.{both, made, either, lined, rule}
 use Rattle.reo_trees.specs.declared.literals.Literal.{Literal}
 use Rattle.reo_trees.specs.declared.literals.Constant.{Constant}
 use Rattle.reo_trees.specs.declared.literals.Constant.TheVariants as constants
-use Rattle.reo_trees.specs.Forms.{G, word, word_as, name_form, number_form, text_form, ◌▸◌, ◌◂◌}
+use Rattle.reo_trees.specs.Forms.{FormOf, word, word_as, name_form, number_form, text_form, ◌▸◌, ◌◂◌}
 use Rattle.reo_trees.specs.Forms.Rule.{literal_rule}
 
 -- No number has more than 18 digits.
@@ -14,16 +14,16 @@ abbrev pub greatest : ℕ
 greatest = 10 ^ 18
 
 -- "-" NUMBER
-abbrev pub minus_form : G Constant
+abbrev pub minus_form : FormOf Constant
 minus_form = word (codes "-") ▸ made (λ n. constants.Int (neg_ℤ (pos n))) (number_form 0 greatest)
 
 -- "(" literal "," literal ")"
-abbrev pub literal_pair_form : G Constant
+abbrev pub literal_pair_form : FormOf Constant
 literal_pair_form =
     word (codes "(") ▸
     both (λ x y. constants.Pair (record { left = x; right = y })) (rule literal_rule ◂ word (codes ",")) (rule literal_rule ◂ word (codes ")"))
 
-abbrev pub constant_form : G Constant
+abbrev pub constant_form : FormOf Constant
 constant_form =
     either (fixed (codes "unit")) (word_as constants.Unit (codes "unit"))
     (either (fixed (codes "true")) (word_as (constants.Bool true) (codes "true"))
@@ -34,5 +34,5 @@ constant_form =
     (either (fixed (codes "(")) literal_pair_form
     (made (λ n. constants.Name n) name_form)))))))
 
-abbrev pub literal_form : G Literal
+abbrev pub literal_form : FormOf Literal
 literal_form = lined (λ l c. record { line = l; constant = c }) constant_form

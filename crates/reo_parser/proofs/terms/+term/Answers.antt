@@ -30,21 +30,21 @@ sum-sum-preserved t c =
 pub and_term-and_term-smaller : goal.and_term-and_term-smaller
 and_term-and_term-smaller t c =
     (word_turn binaries.And (codes "&&") comparison_form refl refl c.args.room c.and_term.left c.in_ok-right.right c.and_term.cursor c.expect.new.self c.comparison-in-and_term.new.cursor
-    (sym c.and_term-test.ensures) c.in_ok-expect.ensures c.in_ok-right.ensures).0
+    (sym c.and_term-test.ensures) c.in_ok-expect.ensures.read c.in_ok-right.ensures).0
 
 pub and_term-and_term-preserved : goal.and_term-and_term-preserved
 and_term-and_term-preserved t c =
     rw c.in_ok-left-2.ensures.ok
     (sym (word_turn binaries.And (codes "&&") comparison_form refl refl c.args.room c.and_term.left c.in_ok-right.right c.and_term.cursor c.expect.new.self c.comparison-in-and_term.new.cursor
-    (sym c.and_term-test.ensures) c.in_ok-expect.ensures c.in_ok-right.ensures).1 ∙ c.and_term.invariant)
+    (sym c.and_term-test.ensures) c.in_ok-expect.ensures.read c.in_ok-right.ensures).1 ∙ c.and_term.invariant)
 
 pub or_term-or_term-smaller : goal.or_term-or_term-smaller
 or_term-or_term-smaller t c =
     (word_turn binaries.Or (codes "||") and_form refl refl c.args.room c.or_term.left c.in_ok-right.right c.or_term.cursor c.expect.new.self c.and_term-in-or_term.new.cursor
-    (sym c.or_term-test.ensures) c.in_ok-expect.ensures c.in_ok-right.ensures).0
+    (sym c.or_term-test.ensures) c.in_ok-expect.ensures.read c.in_ok-right.ensures).0
 
 pub or_term-or_term-preserved : goal.or_term-or_term-preserved
 or_term-or_term-preserved t c =
     rw c.in_ok-left-2.ensures.ok
     (sym (word_turn binaries.Or (codes "||") and_form refl refl c.args.room c.or_term.left c.in_ok-right.right c.or_term.cursor c.expect.new.self c.and_term-in-or_term.new.cursor
-    (sym c.or_term-test.ensures) c.in_ok-expect.ensures c.in_ok-right.ensures).1 ∙ c.or_term.invariant)
+    (sym c.or_term-test.ensures) c.in_ok-expect.ensures.read c.in_ok-right.ensures).1 ∙ c.or_term.invariant)
