@@ -4,7 +4,6 @@ use Rattle.std.specs.Prelude.{IsTrue, option_and_then, option_map, if◌then◌e
 use Rattle.std.specs.Int.{int_min, int_max}
 use Rattle.std.proofs.lemmas.Int.{ints, clamps}
 use denote.Hole.Carrier.{hidden}
-use Rattle.reo_values.specs.declared.kindred.Kindred as kindred
 use Rattle.reo_values.specs.declared.kindred.Kindred.{Kindred}
 use Rattle.reo_values.specs.declared.kindred.Kindred.TheVariants as kinds
 use Rattle.reo_values.specs.declared.kindred.Kindred.TheBlock.{hidden-the_row-Twins-0}
@@ -15,15 +14,18 @@ use Rattle.reo_exprs.specs.declared.interval.Interval.{Interval}
 use Rattle.reo_exprs.specs.Interval.{is_near, is_near_interval, near, arithmetic}
 use Rattle.reo_exprs.specs.Kinds.{kind_of, joins, join_of, is_within, is_bool, interval_of}
 use Rattle.reo_exprs.specs.Typing.{provided, within, int_type, may_stand_right, numbers_within, binary_kind, binary_within, if_kind, if_within}
+use Rattle.reo_exprs.proofs.JoinCases.{where_joined}
 use Rattle.reo_exprs.proofs.Shapes.{is_number}
 use Rattle.reo_exprs.proofs.Near.{near_bounds, near_from}
 use Rattle.reo_exprs.proofs.Options.{from_both}
 use Rattle.reo_exprs.proofs.Twinned.{kind_of-Pair, within-Pair, Twins_of-equal}
 
+-- the type of an interval that a test let through
 within_told : (b : Bool) (x made : Interval) → Some made ≡ (if b then Some x else None) → Some (int_type made) ≡ (if b then Some (int_type x) else None)
 within_told true x made e = ap (λ o. option_map int_type o) e
 within_told false x made e = absurd (cc)
 
+-- an `if` whose test is true gives its first value
 chosen_by : {T : Type 0} (b : Bool) (x y : T) → true ≡ b → (if b then x else y) ≡ x
 chosen_by true x y e = refl
 chosen_by false x y e = absurd (cc)
@@ -38,13 +40,14 @@ numbers_told op k l x y made p q s e =
     ∙ sym (chosen_by (may_stand_right op (int_type y)) (within (int_type (arithmetic op x y))) None s)
     ∙ sym (λ i. numbers_within op (f i) (g i))
 
--- the kind and the type of a pair
+-- the kind of a pair of kinds
 pub pair_kinded : (op : Binary) (x y : Kindred) (made : Twins) → op ≡ binary.Pair → made ≡ record { left = x; right = y } → kind_of x ≡ x → kind_of y ≡ y
     → Some (kinds.Pair made) ≡ binary_kind op x y
 pair_kinded op x y made p e f g =
     let twins : Twins = record { left = x; right = y } in
     ap (λ t. Some (kinds.Pair t)) e ∙ sym (ap Some (kind_of-Pair twins ∙ Twins_of-equal (record { left = kind_of x; right = kind_of y }) twins f g)) ∙ sym (ap (λ o. binary_kind o x y) p)
 
+-- the type of a pair, where the types of its parts are near
 pub pair_typed : (op : Binary) (x y : Kindred) (made : Twins) → op ≡ binary.Pair → made ≡ record { left = x; right = y } → IsTrue (is_within x) → IsTrue (is_within y)
     → Some (kinds.Pair made) ≡ binary_within op x y
 pair_typed op x y made p e f g =
@@ -52,100 +55,50 @@ pair_typed op x y made p e f g =
     let both : is_within (kinds.Pair twins) ≡ true = within-Pair twins ∙ (λ i. f i && g i) in
     ap (λ t. Some (kinds.Pair t)) e ∙ sym (chosen_by (is_within (kinds.Pair twins)) (Some (kinds.Pair twins)) None (sym both)) ∙ sym (ap (λ o. binary_within o x y) p)
 
+-- the less of two near numbers is near
 near_least : (a b : ℤ) → is_near a ≡ true → is_near b ≡ true → is_near (int_min a b) ≡ true
 near_least a b f g = let p = near_bounds a f in let q = near_bounds b g in near_from (int_min a b) (omega (arith, ints, clamps)) (omega (arith, ints, clamps))
 
+-- and the greater
 near_greatest : (a b : ℤ) → is_near a ≡ true → is_near b ≡ true → is_near (int_max a b) ≡ true
 near_greatest a b f g = let p = near_bounds a f in let q = near_bounds b g in near_from (int_max a b) (omega (arith, ints, clamps)) (omega (arith, ints, clamps))
 
 -- a join is of the kind of its left type
 join_kind : (s t : Kindred) → joins s t ≡ true → kind_of (join_of s t) ≡ kind_of s
 unfolding hidden-the_row-Twins-0 hidden
-join_kind kindred.Unit kindred.Unit e = refl
-join_kind kindred.Unit kindred.Bool e = absurd (cc)
-join_kind kindred.Unit (kindred.Int c d) e = absurd (cc)
-join_kind kindred.Unit (kindred.Sym names2) e = absurd (cc)
-join_kind kindred.Unit (kindred.Text most2) e = absurd (cc)
-join_kind kindred.Unit (kindred.Pair' j (kindred.more_of-Twins c d kindred.end_of-Twins)) e = absurd (cc)
-join_kind kindred.Bool kindred.Unit e = absurd (cc)
-join_kind kindred.Bool kindred.Bool e = refl
-join_kind kindred.Bool (kindred.Int c d) e = absurd (cc)
-join_kind kindred.Bool (kindred.Sym names2) e = absurd (cc)
-join_kind kindred.Bool (kindred.Text most2) e = absurd (cc)
-join_kind kindred.Bool (kindred.Pair' j (kindred.more_of-Twins c d kindred.end_of-Twins)) e = absurd (cc)
-join_kind (kindred.Int a b) kindred.Unit e = absurd (cc)
-join_kind (kindred.Int a b) kindred.Bool e = absurd (cc)
-join_kind (kindred.Int a b) (kindred.Int c d) e = refl
-join_kind (kindred.Int a b) (kindred.Sym names2) e = absurd (cc)
-join_kind (kindred.Int a b) (kindred.Text most2) e = absurd (cc)
-join_kind (kindred.Int a b) (kindred.Pair' j (kindred.more_of-Twins c d kindred.end_of-Twins)) e = absurd (cc)
-join_kind (kindred.Sym names) kindred.Unit e = absurd (cc)
-join_kind (kindred.Sym names) kindred.Bool e = absurd (cc)
-join_kind (kindred.Sym names) (kindred.Int c d) e = absurd (cc)
-join_kind (kindred.Sym names) (kindred.Sym names2) e = refl
-join_kind (kindred.Sym names) (kindred.Text most2) e = absurd (cc)
-join_kind (kindred.Sym names) (kindred.Pair' j (kindred.more_of-Twins c d kindred.end_of-Twins)) e = absurd (cc)
-join_kind (kindred.Text most) kindred.Unit e = absurd (cc)
-join_kind (kindred.Text most) kindred.Bool e = absurd (cc)
-join_kind (kindred.Text most) (kindred.Int c d) e = absurd (cc)
-join_kind (kindred.Text most) (kindred.Sym names2) e = absurd (cc)
-join_kind (kindred.Text most) (kindred.Text most2) e = refl
-join_kind (kindred.Text most) (kindred.Pair' j (kindred.more_of-Twins c d kindred.end_of-Twins)) e = absurd (cc)
-join_kind (kindred.Pair' n (kindred.more_of-Twins a b kindred.end_of-Twins)) kindred.Unit e = absurd (cc)
-join_kind (kindred.Pair' n (kindred.more_of-Twins a b kindred.end_of-Twins)) kindred.Bool e = absurd (cc)
-join_kind (kindred.Pair' n (kindred.more_of-Twins a b kindred.end_of-Twins)) (kindred.Int c d) e = absurd (cc)
-join_kind (kindred.Pair' n (kindred.more_of-Twins a b kindred.end_of-Twins)) (kindred.Sym names2) e = absurd (cc)
-join_kind (kindred.Pair' n (kindred.more_of-Twins a b kindred.end_of-Twins)) (kindred.Text most2) e = absurd (cc)
-join_kind (kindred.Pair' n (kindred.more_of-Twins a b kindred.end_of-Twins)) (kindred.Pair' j (kindred.more_of-Twins c d kindred.end_of-Twins)) e = let h = from_both (joins a c) (joins b d) e in Twins_of-equal (record { left = kind_of (join_of a c); right = kind_of (join_of b d) }) (record { left = kind_of a; right = kind_of b }) (join_kind a c h.0) (join_kind b d h.1)
+join_kind s t e =
+    where_joined (λ a b. kind_of (join_of a b) ≡ kind_of a) (record {
+      units = refl;
+      truths = refl;
+      numbers = λ a b c d. refl;
+      names = λ xs ys p. refl;
+      texts = λ m n. refl;
+      pairs = λ x y l r. Twins_of-equal (record { left = kind_of (join_of x.left y.left); right = kind_of (join_of x.right y.right) }) (record { left = kind_of x.left; right = kind_of x.right }) l r;
+    }) s t e
 
 -- and its intervals are near where those of both are
 join_near : (s t : Kindred) → joins s t ≡ true → is_within s ≡ true → is_within t ≡ true → is_within (join_of s t) ≡ true
 unfolding hidden-the_row-Twins-0 hidden
-join_near kindred.Unit kindred.Unit e f g = refl
-join_near kindred.Unit kindred.Bool e f g = absurd (cc)
-join_near kindred.Unit (kindred.Int c d) e f g = absurd (cc)
-join_near kindred.Unit (kindred.Sym names2) e f g = absurd (cc)
-join_near kindred.Unit (kindred.Text most2) e f g = absurd (cc)
-join_near kindred.Unit (kindred.Pair' j (kindred.more_of-Twins c d kindred.end_of-Twins)) e f g = absurd (cc)
-join_near kindred.Bool kindred.Unit e f g = absurd (cc)
-join_near kindred.Bool kindred.Bool e f g = refl
-join_near kindred.Bool (kindred.Int c d) e f g = absurd (cc)
-join_near kindred.Bool (kindred.Sym names2) e f g = absurd (cc)
-join_near kindred.Bool (kindred.Text most2) e f g = absurd (cc)
-join_near kindred.Bool (kindred.Pair' j (kindred.more_of-Twins c d kindred.end_of-Twins)) e f g = absurd (cc)
-join_near (kindred.Int a b) kindred.Unit e f g = absurd (cc)
-join_near (kindred.Int a b) kindred.Bool e f g = absurd (cc)
-join_near (kindred.Int a b) (kindred.Int c d) e f g = let h = from_both (is_near a) (is_near b) f in let k = from_both (is_near c) (is_near d) g in (λ i. near_least a c h.0 k.0 i && near_greatest b d h.1 k.1 i)
-join_near (kindred.Int a b) (kindred.Sym names2) e f g = absurd (cc)
-join_near (kindred.Int a b) (kindred.Text most2) e f g = absurd (cc)
-join_near (kindred.Int a b) (kindred.Pair' j (kindred.more_of-Twins c d kindred.end_of-Twins)) e f g = absurd (cc)
-join_near (kindred.Sym names) kindred.Unit e f g = absurd (cc)
-join_near (kindred.Sym names) kindred.Bool e f g = absurd (cc)
-join_near (kindred.Sym names) (kindred.Int c d) e f g = absurd (cc)
-join_near (kindred.Sym names) (kindred.Sym names2) e f g = refl
-join_near (kindred.Sym names) (kindred.Text most2) e f g = absurd (cc)
-join_near (kindred.Sym names) (kindred.Pair' j (kindred.more_of-Twins c d kindred.end_of-Twins)) e f g = absurd (cc)
-join_near (kindred.Text most) kindred.Unit e f g = absurd (cc)
-join_near (kindred.Text most) kindred.Bool e f g = absurd (cc)
-join_near (kindred.Text most) (kindred.Int c d) e f g = absurd (cc)
-join_near (kindred.Text most) (kindred.Sym names2) e f g = absurd (cc)
-join_near (kindred.Text most) (kindred.Text most2) e f g = refl
-join_near (kindred.Text most) (kindred.Pair' j (kindred.more_of-Twins c d kindred.end_of-Twins)) e f g = absurd (cc)
-join_near (kindred.Pair' n (kindred.more_of-Twins a b kindred.end_of-Twins)) kindred.Unit e f g = absurd (cc)
-join_near (kindred.Pair' n (kindred.more_of-Twins a b kindred.end_of-Twins)) kindred.Bool e f g = absurd (cc)
-join_near (kindred.Pair' n (kindred.more_of-Twins a b kindred.end_of-Twins)) (kindred.Int c d) e f g = absurd (cc)
-join_near (kindred.Pair' n (kindred.more_of-Twins a b kindred.end_of-Twins)) (kindred.Sym names2) e f g = absurd (cc)
-join_near (kindred.Pair' n (kindred.more_of-Twins a b kindred.end_of-Twins)) (kindred.Text most2) e f g = absurd (cc)
-join_near (kindred.Pair' n (kindred.more_of-Twins a b kindred.end_of-Twins)) (kindred.Pair' j (kindred.more_of-Twins c d kindred.end_of-Twins)) e f g = let h = from_both (joins a c) (joins b d) e in let k = from_both (is_within a) (is_within b) f in let l = from_both (is_within c) (is_within d) g in (λ i. join_near a c h.0 k.0 l.0 i && join_near b d h.1 k.1 l.1 i)
+join_near s t e =
+    where_joined (λ a b. is_within a ≡ true → is_within b ≡ true → is_within (join_of a b) ≡ true) (record {
+      units = λ f g. refl;
+      truths = λ f g. refl;
+      numbers = λ a b c d f g. let h = from_both (is_near a) (is_near b) f in let k = from_both (is_near c) (is_near d) g in λ i. near_least a c h.0 k.0 i && near_greatest b d h.1 k.1 i;
+      names = λ xs ys p f g. refl;
+      texts = λ m n f g. refl;
+      pairs = λ x y l r f g. let h = from_both (is_within x.left) (is_within x.right) f in let k = from_both (is_within y.left) (is_within y.right) g in λ i. l h.0 k.0 i && r h.1 k.1 i;
+    }) s t e
 
+-- the kind of a type that a test lets through
 kind_if : (b : Bool) (x y : Kindred) → (b ≡ true → kind_of x ≡ y) → (if b then Some y else None) ≡ option_map kind_of (provided b x)
 kind_if true x y h = ap Some (sym (h refl))
 kind_if false x y h = refl
 
--- the kind and the type of a choice
+-- the kind of a choice is that of its first type, where the types join
 pub choice_kinded : (c x y : Kindred) → kind_of x ≡ x → provided (is_bool c && joins x y) x ≡ if_kind c x y
 choice_kinded c x y f = kind_if (is_bool c && joins x y) (join_of x y) x (λ h. join_kind x y (from_both (is_bool c) (joins x y) h).1 ∙ f)
 
+-- the type of a choice is the join, which is near
 pub choice_typed : (c x y made : Kindred) → true ≡ (is_bool c && joins x y) → IsTrue (is_within x) → IsTrue (is_within y) → made ≡ join_of x y → Some made ≡ if_within c x y
 choice_typed c x y made p f g e =
     let both : (is_bool c && joins x y) ≡ true = sym p in

@@ -2,6 +2,7 @@ pub mod Children
 pub mod Choices
 pub mod Corners
 pub mod InType
+pub mod JoinCases
 pub mod Joined
 pub mod Kinded
 pub mod Least

@@ -4,7 +4,6 @@ use Rattle.std.specs.Prelude.{◌≤ℤ◌, option_and_then, if◌then◌else◌
 use Rattle.std.specs.Int.{int_min, int_max}
 use Rattle.std.proofs.lemmas.Int.{ints, clamps}
 use denote.Hole.Carrier.{hidden}
-use Rattle.reo_values.specs.declared.kindred.Kindred as kindred
 use Rattle.reo_values.specs.declared.kindred.Kindred.{Kindred}
 use Rattle.reo_values.specs.declared.kindred.Kindred.TheVariants as kinds
 use Rattle.reo_values.specs.declared.kindred.Kindred.TheBlock.{hidden-the_row-Twins-0}
@@ -23,11 +22,12 @@ use Rattle.reo_exprs.specs.Interval.{is_near, least, greatest, negated, sum, dif
 use Rattle.reo_exprs.specs.Kinds.{joins, join_of, is_within, is_bool, interval_of, most_of, twins_of}
 use Rattle.reo_exprs.specs.Sound.{IsSound}
 use Rattle.reo_exprs.specs.Typing.{provided, within, int_type, on_numbers, is_positive, may_stand_right, unary_type, binary_type, if_type, unary_within, binary_within, if_within, type_of_expr}
+use Rattle.reo_exprs.proofs.JoinCases.{where_joined}
 use Rattle.reo_exprs.proofs.Near.{near_bounds, near_fits}
 use Rattle.reo_exprs.proofs.Options.{some_same, from_and_then, from_map, from_provided, from_if, from_both, from_within}
 use Rattle.reo_exprs.proofs.Shapes.{is_number, is_pair, from_numbers}
 
--- an interval in order whose bounds are near
+-- the type of an interval in order whose bounds are near is valid
 near_valid : (x : Interval) → is_within (int_type x) ≡ true → x.low ≤ℤ x.high → IsValid (int_type x)
 near_valid x h g =
     let b = from_both (is_near x.low) (is_near x.high) h in
@@ -35,32 +35,40 @@ near_valid x h g =
     let q = near_bounds x.high b.1 in
     (near_fits x.low p.0 p.1, near_fits x.high q.0 q.1, g)
 
+-- a valid type of numbers has its interval in order
 in_order : (k : Kindred) (x : Interval) → k ≡ int_type x → IsValid k → x.low ≤ℤ x.high
 in_order k x e v = (subst (λ t. IsValid t) e v).2
 
+-- the least of four numbers is at most the greatest
 corners_order : (p q r s : ℤ) → least p q r s ≤ℤ greatest p q r s
 corners_order p q r s = omega (arith, ints, clamps)
 
+-- the interval of remainders is in order
 rest_order : (a b c d : ℤ) → a ≤ℤ b → c ≤ℤ d → pos 1 ≤ℤ c
     → (if int_le (pos 0) a then pos 0 else int_max a (pos 1 -ℤ d)) ≤ℤ (if int_le b (pos 0) then pos 0 else int_min b (d -ℤ pos 1))
 rest_order a b c d h g e = grind (arith, ints, clamps)
 
 module _ (a b : Kindred) (v : IsValid a) (w : IsValid b) where
+  -- the type of an operator's numbers is valid, where it keeps intervals in order
   numbers_valid : (f : Interval → Interval → Interval) (t : Kindred) → is_within t ≡ true → on_numbers (λ x y. int_type (f x y)) a b ≡ Some t
       → ((x y : Interval) → b ≡ int_type y → x.low ≤ℤ x.high → y.low ≤ℤ y.high → (f x y).low ≤ℤ (f x y).high) → IsValid t
   numbers_valid f t n e ordered =
       let h = from_numbers (λ x y. int_type (f x y)) a b t e in
       subst (λ k. IsValid k) h.4 (near_valid (f h.0 h.1) (ap is_within h.4 ∙ n) (ordered h.0 h.1 h.3 (in_order a h.0 h.2 v) (in_order b h.1 h.3 w)))
 
+  -- and so is that of a comparison of numbers
   truths_valid : (t : Kindred) → on_numbers (λ x y. kinds.Bool) a b ≡ Some t → IsValid t
   truths_valid t e = let h = from_numbers (λ x y. kinds.Bool) a b t e in subst (λ k. IsValid k) h.4 tt
 
+  -- and that of a test
   test_valid : (test : Bool) (t : Kindred) → provided test kinds.Bool ≡ Some t → IsValid t
   test_valid test t e = subst (λ k. IsValid k) (from_provided test kinds.Bool t e).1 tt
 
+  -- a type of divisors has none below 1
   least_divisor : (y : Interval) → b ≡ int_type y → is_positive b ≡ true → pos 1 ≤ℤ y.low
   least_divisor y e h = let g = from_both (int_le (pos 1) y.low) (int_le (pos 1) y.high) (sym (ap is_positive e) ∙ h) in grind (arith, ints)
 
+  -- the type of an operator with two operands is valid, where theirs are
   binary_valid : (op : Binary) (t : Kindred) → may_stand_right op b ≡ true → is_within t ≡ true → binary_type op a b ≡ Some t → IsValid t
   binary_valid binary.Or t f n e = test_valid (is_bool a && is_bool b) t e
   binary_valid binary.And t f n e = test_valid (is_bool a && is_bool b) t e
@@ -79,9 +87,11 @@ module _ (a b : Kindred) (v : IsValid a) (w : IsValid b) where
       let twins : Twins = record { left = a; right = b } in
       subst (λ k. IsValid k) (some_same (kinds.Pair twins) t e) (rw (IsValid-Pair twins) (v, w))
 
+-- the parts of a valid type of pairs are valid
 pair_valid : (k : Kindred) (y : Twins) → k ≡ kinds.Pair y → IsValid k → IsValid y.left × IsValid y.right
 pair_valid k y p valid = rw IsValid-Pair at (subst IsValid p valid)
 
+-- the type of an operator with one operand is valid, where the operand's is
 unary_valid : (op : Unary) (a t : Kindred) → IsValid a → is_within t ≡ true → unary_type op a ≡ Some t → IsValid t
 unary_valid unary.Not a t v n e = subst (λ k. IsValid k) (from_provided (is_bool a) kinds.Bool t e).1 tt
 unary_valid unary.Minus a t v n e =
@@ -98,53 +108,30 @@ unary_valid unary.Length a t v n e =
     let h = from_map (λ most. kinds.Int (pos 0) (pos most)) (most_of a) t e in
     subst (λ k. IsValid k) h.2 (near_valid (record { low = pos 0; high = pos h.0 }) (ap is_within h.2 ∙ n) (omega (arith, ints)))
 
+-- a join of valid types is valid
 join_valid : (s t : Kindred) → joins s t ≡ true → IsValid s → IsValid t → IsValid (join_of s t)
 unfolding hidden-the_row-Twins-0 hidden
-join_valid kindred.Unit kindred.Unit e v w = tt
-join_valid kindred.Unit kindred.Bool e v w = absurd (cc)
-join_valid kindred.Unit (kindred.Int c d) e v w = absurd (cc)
-join_valid kindred.Unit (kindred.Sym names2) e v w = absurd (cc)
-join_valid kindred.Unit (kindred.Text most2) e v w = absurd (cc)
-join_valid kindred.Unit (kindred.Pair' j (kindred.more_of-Twins c d kindred.end_of-Twins)) e v w = absurd (cc)
-join_valid kindred.Bool kindred.Unit e v w = absurd (cc)
-join_valid kindred.Bool kindred.Bool e v w = tt
-join_valid kindred.Bool (kindred.Int c d) e v w = absurd (cc)
-join_valid kindred.Bool (kindred.Sym names2) e v w = absurd (cc)
-join_valid kindred.Bool (kindred.Text most2) e v w = absurd (cc)
-join_valid kindred.Bool (kindred.Pair' j (kindred.more_of-Twins c d kindred.end_of-Twins)) e v w = absurd (cc)
-join_valid (kindred.Int a b) kindred.Unit e v w = absurd (cc)
-join_valid (kindred.Int a b) kindred.Bool e v w = absurd (cc)
-join_valid (kindred.Int a b) (kindred.Int c d) e v w = (omega (arith, ints, clamps), omega (arith, ints, clamps), omega (arith, ints, clamps))
-join_valid (kindred.Int a b) (kindred.Sym names2) e v w = absurd (cc)
-join_valid (kindred.Int a b) (kindred.Text most2) e v w = absurd (cc)
-join_valid (kindred.Int a b) (kindred.Pair' j (kindred.more_of-Twins c d kindred.end_of-Twins)) e v w = absurd (cc)
-join_valid (kindred.Sym names) kindred.Unit e v w = absurd (cc)
-join_valid (kindred.Sym names) kindred.Bool e v w = absurd (cc)
-join_valid (kindred.Sym names) (kindred.Int c d) e v w = absurd (cc)
-join_valid (kindred.Sym names) (kindred.Sym names2) e v w = v
-join_valid (kindred.Sym names) (kindred.Text most2) e v w = absurd (cc)
-join_valid (kindred.Sym names) (kindred.Pair' j (kindred.more_of-Twins c d kindred.end_of-Twins)) e v w = absurd (cc)
-join_valid (kindred.Text most) kindred.Unit e v w = absurd (cc)
-join_valid (kindred.Text most) kindred.Bool e v w = absurd (cc)
-join_valid (kindred.Text most) (kindred.Int c d) e v w = absurd (cc)
-join_valid (kindred.Text most) (kindred.Sym names2) e v w = absurd (cc)
-join_valid (kindred.Text most) (kindred.Text most2) e v w = tt
-join_valid (kindred.Text most) (kindred.Pair' j (kindred.more_of-Twins c d kindred.end_of-Twins)) e v w = absurd (cc)
-join_valid (kindred.Pair' n (kindred.more_of-Twins a b kindred.end_of-Twins)) kindred.Unit e v w = absurd (cc)
-join_valid (kindred.Pair' n (kindred.more_of-Twins a b kindred.end_of-Twins)) kindred.Bool e v w = absurd (cc)
-join_valid (kindred.Pair' n (kindred.more_of-Twins a b kindred.end_of-Twins)) (kindred.Int c d) e v w = absurd (cc)
-join_valid (kindred.Pair' n (kindred.more_of-Twins a b kindred.end_of-Twins)) (kindred.Sym names2) e v w = absurd (cc)
-join_valid (kindred.Pair' n (kindred.more_of-Twins a b kindred.end_of-Twins)) (kindred.Text most2) e v w = absurd (cc)
-join_valid (kindred.Pair' n (kindred.more_of-Twins a b kindred.end_of-Twins)) (kindred.Pair' j (kindred.more_of-Twins c d kindred.end_of-Twins)) e v w = let h = from_both (joins a c) (joins b d) e in (join_valid a c h.0 v.0 w.0, join_valid b d h.1 v.1 w.1)
+join_valid s t e =
+    where_joined (λ a b. IsValid a → IsValid b → IsValid (join_of a b)) (record {
+      units = λ v w. tt;
+      truths = λ v w. tt;
+      numbers = λ a b c d v w. (omega (arith, ints, clamps), omega (arith, ints, clamps), omega (arith, ints, clamps));
+      names = λ xs ys p v w. v;
+      texts = λ m n v w. tt;
+      pairs = λ x y l r v w. (l v.0 w.0, r v.1 w.1);
+    }) s t e
 
+-- the type of a choice is valid, where those that it joins are
 if_valid : (k a b t : Kindred) → IsValid a → IsValid b → if_type k a b ≡ Some t → IsValid t
 if_valid k a b t v w e =
     let h = from_provided (is_bool k && joins a b) (join_of a b) t e in
     subst (λ u. IsValid u) h.1 (join_valid a b (from_both (is_bool k) (joins a b) h.0).1 v w)
 
+-- what `within` lets through of a valid type is valid
 within_valid : (k t : Kindred) → within k ≡ Some t → IsValid k → IsValid t
 within_valid k t e v = subst (λ u. IsValid u) (from_within k t e).1 v
 
+-- the type of a sound expression is valid, where the item's is
 pub type_valid : (e : Expr) (of t : Kindred) → IsSound e → type_of_expr e of ≡ Some t → IsValid of → IsValid t
 unfolding hidden-the_row-Expr-0 hidden-the_row-ExprPair-1 hidden-the_row-ExprTriple-2 hidden
 type_valid expr.It of t s e v = within_valid of t e v

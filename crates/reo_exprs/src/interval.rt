@@ -11,6 +11,7 @@ pub struct Interval {
 
 const REACH: i64 = 1_000_000_000_000_000_000;
 
+/// Whether a number lies from -10^18 to 10^18.
 pub fn is_near(number: i64) -> bool
     ensures { result ≡ is_near number }
 {
@@ -33,6 +34,7 @@ fn near(low: i64, high: i64) -> Option<Interval>
     }
 }
 
+/// The interval of the negated numbers; None where a bound leaves -10^18 to 10^18.
 pub fn negated(x: Interval) -> Option<Interval>
     requires { IsTrue (is_near_interval x) }
     ensures { result ≡ near (negated x) }
@@ -40,6 +42,7 @@ pub fn negated(x: Interval) -> Option<Interval>
     near(-x.high, -x.low)
 }
 
+/// The interval of the sums; None where a bound leaves -10^18 to 10^18.
 pub fn sum(x: Interval, y: Interval) -> Option<Interval>
     requires left { IsTrue (is_near_interval x) }
     requires right { IsTrue (is_near_interval y) }
@@ -48,6 +51,7 @@ pub fn sum(x: Interval, y: Interval) -> Option<Interval>
     near(x.low + y.low, x.high + y.high)
 }
 
+/// The interval of the differences; None where a bound leaves -10^18 to 10^18.
 pub fn difference(x: Interval, y: Interval) -> Option<Interval>
     requires left { IsTrue (is_near_interval x) }
     requires right { IsTrue (is_near_interval y) }
@@ -66,6 +70,8 @@ fn times(a: i64, b: i64) -> Option<i64>
     }
 }
 
+/// The interval from the least product of two bounds to the greatest; None where one of these
+/// leaves -10^18 to 10^18.
 pub fn product(x: Interval, y: Interval) -> Option<Interval>
     ensures { result ≡ near (product x y) }
 {
@@ -79,6 +85,8 @@ pub fn product(x: Interval, y: Interval) -> Option<Interval>
     })
 }
 
+/// The interval from the least quotient of two bounds, rounded towards zero, to the greatest; None
+/// where one of these leaves -10^18 to 10^18.
 pub fn quotient(x: Interval, y: Interval) -> Option<Interval>
     requires low { pos 1 ≤ℤ y.low }
     requires high { pos 1 ≤ℤ y.high }
@@ -105,6 +113,8 @@ fn greatest_rest(high: i64, divisor: i64) -> i64
     if high <= 0 { 0 } else { high.min(divisor - 1) }
 }
 
+/// An interval with the remainders, each with the sign of the number that is divided; None where a
+/// bound leaves -10^18 to 10^18.
 pub fn remainder(x: Interval, y: Interval) -> Option<Interval>
     requires { IsTrue (is_near_interval y) }
     ensures { result ≡ near (remainder x y) }

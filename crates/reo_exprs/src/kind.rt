@@ -65,12 +65,10 @@ pub fn kind_of_expr(alloc: Global, expr: &Expr, of: &Kindred) -> Result<Option<K
         Expr::Int(_) => Ok(Some(Kindred::Int(0, 0))),
         Expr::Text(_) => Ok(Some(Kindred::Text(0))),
         Expr::Sym(names, _) => Ok(Some(Kindred::Sym(names.copied(alloc)?))),
-        Expr::One(op, operand) => {
-            let Some(x) = kind_of_expr(alloc, operand.get(), of)? else {
-                return Ok(None);
-            };
-            Ok(one_kind(*op, x))
-        }
+        Expr::One(op, operand) => match kind_of_expr(alloc, operand.get(), of)? {
+            Some(x) => Ok(one_kind(*op, x)),
+            None => Ok(None),
+        },
         Expr::Two(op, pair) => {
             let pair = pair.get();
             let Some(x) = kind_of_expr(alloc, &pair.left, of)? else {

@@ -144,12 +144,10 @@ fn type_within(alloc: Global, expr: &Expr, of: &Kindred) -> Result<Option<Kindre
         Expr::Int(number) => Ok(within(Kindred::Int(*number, *number))),
         Expr::Text(bytes) => Ok(literal_text_type(bytes.len())),
         Expr::Sym(names, _) => Ok(Some(Kindred::Sym(names.copied(alloc)?))),
-        Expr::One(op, operand) => {
-            let Some(x) = type_within(alloc, operand.get(), of)? else {
-                return Ok(None);
-            };
-            Ok(one_type(*op, x))
-        }
+        Expr::One(op, operand) => match type_within(alloc, operand.get(), of)? {
+            Some(x) => Ok(one_type(*op, x)),
+            None => Ok(None),
+        },
         Expr::Two(op, pair) => {
             let pair = pair.get();
             let Some(x) = type_within(alloc, &pair.left, of)? else {

@@ -1,57 +1,47 @@
-use Rattle.std.proofs.Common.{◌∙◌, ◌≡◌, ◌*ℤ◌, Some, true, sym, subst, rules, to_z, of_z}
+use Rattle.std.proofs.Common.{◌∙◌, ◌≡◌, ◌*ℤ◌, Some, true, false, sym, subst, rules, to_z, of_z}
 use Rattle.std.specs.Prelude.{FitsSigned}
 use Rattle.std.specs.Int.{w64}
 use Rattle.std.proofs.lemmas.Int.{to_z-of_z}
 use Rattle.reo_exprs.specs.Interval.{is_near, least, greatest}
-use Rattle.reo_exprs.proofs.Near.{near_bounds, near_fits, some_test, all_near, least_told, greatest_told}
-use Rattle.reo_exprs.proofs.Corners.{product_far_a, product_far_b, product_far_c, product_far_d}
+use Rattle.reo_exprs.proofs.Near.{BoundsFit, kept, near_bounds, near_fits, some_test, all_near, least_told, greatest_told}
+use Rattle.reo_exprs.proofs.Corners.{product_far}
 use Rattle.reo_exprs.proofs.interval.product.Goals as goal
 
 pub returns-in_err-a : goal.returns-in_err-a
 returns-in_err-a c =
-    let f0 : FitsSigned w64 c.args.x.low = search rules in
-    let f1 : FitsSigned w64 c.args.x.high = search rules in
-    let f2 : FitsSigned w64 c.args.y.low = search rules in
-    let f3 : FitsSigned w64 c.args.y.high = search rules in
-    c.from_residual.ensures ∙ sym (product_far_a c.args.x c.args.y (simp to_z-of_z at c.in_err-a.ensures))
+    let x : BoundsFit c.args.x = search rules in
+    let y : BoundsFit c.args.y = search rules in
+    c.from_residual.ensures ∙ sym (product_far c.args.x c.args.y false false (simp kept at c.in_err-a.ensures))
 
 pub returns-in_err-b : goal.returns-in_err-b
 returns-in_err-b c =
-    let f0 : FitsSigned w64 c.args.x.low = search rules in
-    let f1 : FitsSigned w64 c.args.x.high = search rules in
-    let f2 : FitsSigned w64 c.args.y.low = search rules in
-    let f3 : FitsSigned w64 c.args.y.high = search rules in
-    c.from_residual-in_err-b.ensures ∙ sym (product_far_b c.args.x c.args.y (simp to_z-of_z at c.in_err-b.ensures))
+    let x : BoundsFit c.args.x = search rules in
+    let y : BoundsFit c.args.y = search rules in
+    c.from_residual-in_err-b.ensures ∙ sym (product_far c.args.x c.args.y false true (simp kept at c.in_err-b.ensures))
 
 pub returns-in_err-c : goal.returns-in_err-c
 returns-in_err-c c =
-    let f0 : FitsSigned w64 c.args.x.low = search rules in
-    let f1 : FitsSigned w64 c.args.x.high = search rules in
-    let f2 : FitsSigned w64 c.args.y.low = search rules in
-    let f3 : FitsSigned w64 c.args.y.high = search rules in
-    c.from_residual-in_err-c.ensures ∙ sym (product_far_c c.args.x c.args.y (simp to_z-of_z at c.in_err-c.ensures))
+    let x : BoundsFit c.args.x = search rules in
+    let y : BoundsFit c.args.y = search rules in
+    c.from_residual-in_err-c.ensures ∙ sym (product_far c.args.x c.args.y true false (simp kept at c.in_err-c.ensures))
 
 pub returns-in_err-d : goal.returns-in_err-d
 returns-in_err-d c =
-    let f0 : FitsSigned w64 c.args.x.low = search rules in
-    let f1 : FitsSigned w64 c.args.x.high = search rules in
-    let f2 : FitsSigned w64 c.args.y.low = search rules in
-    let f3 : FitsSigned w64 c.args.y.high = search rules in
-    c.from_residual-in_err-d.ensures ∙ sym (product_far_d c.args.x c.args.y (simp to_z-of_z at c.in_err-d.ensures))
+    let x : BoundsFit c.args.x = search rules in
+    let y : BoundsFit c.args.y = search rules in
+    c.from_residual-in_err-d.ensures ∙ sym (product_far c.args.x c.args.y true true (simp kept at c.in_err-d.ensures))
 
 pub returns : goal.returns
 returns c =
-    let f0 : FitsSigned w64 c.args.x.low = search rules in
-    let f1 : FitsSigned w64 c.args.x.high = search rules in
-    let f2 : FitsSigned w64 c.args.y.low = search rules in
-    let f3 : FitsSigned w64 c.args.y.high = search rules in
-    let pa = some_test (c.args.x.low *ℤ c.args.y.low) c.in_ok-a.a (sym (simp to_z-of_z at c.in_ok-a.ensures)) in
+    let x : BoundsFit c.args.x = search rules in
+    let y : BoundsFit c.args.y = search rules in
+    let pa = some_test (c.args.x.low *ℤ c.args.y.low) c.in_ok-a.a (sym (simp kept at c.in_ok-a.ensures)) in
     let ba = near_bounds c.in_ok-a.a (subst (λ z. is_near z ≡ true) pa.1 pa.0) in
-    let pb = some_test (c.args.x.low *ℤ c.args.y.high) c.in_ok-b.b (sym (simp to_z-of_z at c.in_ok-b.ensures)) in
+    let pb = some_test (c.args.x.low *ℤ c.args.y.high) c.in_ok-b.b (sym (simp kept at c.in_ok-b.ensures)) in
     let bb = near_bounds c.in_ok-b.b (subst (λ z. is_near z ≡ true) pb.1 pb.0) in
-    let pc = some_test (c.args.x.high *ℤ c.args.y.low) c.in_ok-c.c (sym (simp to_z-of_z at c.in_ok-c.ensures)) in
+    let pc = some_test (c.args.x.high *ℤ c.args.y.low) c.in_ok-c.c (sym (simp kept at c.in_ok-c.ensures)) in
     let bc = near_bounds c.in_ok-c.c (subst (λ z. is_near z ≡ true) pc.1 pc.0) in
-    let pd = some_test (c.args.x.high *ℤ c.args.y.high) c.in_ok-d.d (sym (simp to_z-of_z at c.in_ok-d.ensures)) in
+    let pd = some_test (c.args.x.high *ℤ c.args.y.high) c.in_ok-d.d (sym (simp kept at c.in_ok-d.ensures)) in
     let bd = near_bounds c.in_ok-d.d (subst (λ z. is_near z ≡ true) pd.1 pd.0) in
     let fa : FitsSigned w64 c.in_ok-a.a = near_fits c.in_ok-a.a ba.0 ba.1 in
     let fb : FitsSigned w64 c.in_ok-b.b = near_fits c.in_ok-b.b bb.0 bb.1 in

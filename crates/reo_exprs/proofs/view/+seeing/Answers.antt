@@ -1,5 +1,5 @@
 use Rattle.std.proofs.Common.{◌+◌, ◌<◌, ◌≡◌, ◌∙◌, true, false, not, ◌&&◌, ◌||◌, ap, sym, subst, refl, rules, arith}
-use Rattle.std.specs.Prelude.{FitsSigned, if◌then◌else◌}
+use Rattle.std.specs.Prelude.{if◌then◌else◌}
 use Rattle.std.specs.Int.{w64}
 use Rattle.std.proofs.lemmas.Int.{to_z-of_z}
 use Rattle.reo_values.specs.declared.operator.Binary.TheVariants as binary
@@ -192,10 +192,8 @@ two_view-returns-in-Ne-clause-value t c =
 
 pub two_view-calculated-requires : goal.two_view-calculated-requires
 two_view-calculated-requires t c =
-    let f : FitsSigned w64 c.number.result = search rules in
-    let g : FitsSigned w64 c.number-in_default.result = search rules in
-    let x = to_z-of_z w64 c.number.result f ∙ (c.number.ensures ∙ ap number c.view_of-x.ensures.value) in
-    let y = to_z-of_z w64 c.number-in_default.result g ∙ (c.number-in_default.ensures ∙ ap number c.view_of-y.ensures.value) in
+    let x = to_z-of_z w64 c.number.result (search rules) ∙ (c.number.ensures ∙ ap number c.view_of-x.ensures.value) in
+    let y = to_z-of_z w64 c.number-in_default.result (search rules) ∙ (c.number-in_default.ensures ∙ ap number c.view_of-y.ensures.value) in
     record {
       apart = c.requires.apart;
       fits = ap (λ v. is_near (number v)) ((λ i. binary_value c.args.op (values.Int (x i)) (values.Int (y i))) ∙ by_numbers c.args.op (value_of_expr c.args.pair.now.left c.args.item.now) (value_of_expr c.args.pair.now.right c.args.item.now) c.in_default.not-Or c.in_default.not-And c.in_default.not-Eq c.in_default.not-Ne c.requires.apart) ∙ result_near c.args.op c.args.pair.now c.args.of.now c.args.item.now c.requires.typed c.requires.member;
@@ -204,10 +202,8 @@ two_view-calculated-requires t c =
 
 pub two_view-returns-in_default : goal.two_view-returns-in_default
 two_view-returns-in_default t c =
-    let f : FitsSigned w64 c.number.result = search rules in
-    let g : FitsSigned w64 c.number-in_default.result = search rules in
-    let x = to_z-of_z w64 c.number.result f ∙ (c.number.ensures ∙ ap number c.view_of-x.ensures.value) in
-    let y = to_z-of_z w64 c.number-in_default.result g ∙ (c.number-in_default.ensures ∙ ap number c.view_of-y.ensures.value) in
+    let x = to_z-of_z w64 c.number.result (search rules) ∙ (c.number.ensures ∙ ap number c.view_of-x.ensures.value) in
+    let y = to_z-of_z w64 c.number-in_default.result (search rules) ∙ (c.number-in_default.ensures ∙ ap number c.view_of-y.ensures.value) in
     record {
       value = c.calculated.ensures.value c.args.item.now ∙ (λ i. binary_value c.args.op (values.Int (x i)) (values.Int (y i))) ∙ by_numbers c.args.op (value_of_expr c.args.pair.now.left c.args.item.now) (value_of_expr c.args.pair.now.right c.args.item.now) c.in_default.not-Or c.in_default.not-And c.in_default.not-Eq c.in_default.not-Ne c.requires.apart ∙ sym (value-Two c.args.op c.args.pair.now c.args.item.now);
       typed = c.calculated.ensures.typed c.args.of.now;
