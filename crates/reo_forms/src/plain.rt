@@ -5,8 +5,8 @@ ghost use Rattle.reo_behaviour.specs.declared.port.Way.TheVariants.{In, Out};
 ghost use Rattle.reo_forms.specs.declared.plainest.Parameter.{Parameter as Port};
 ghost use Rattle.reo_forms.specs.declared.plainest.Joined.{Joined as Channel};
 ghost use Rattle.reo_forms.specs.CircuitForm.{name_for, IsParameter, IsPlainest};
-ghost use Rattle.reo_forms.specs.Listed.{IsOnce};
-ghost use Rattle.reo_forms.specs.Reading.{Each, AreDifferent, HaveOneType, IsNamed};
+ghost use Rattle.reo_forms.specs.Listed.{IsOnce, Each};
+ghost use Rattle.reo_forms.specs.Parameters.{AreDifferent, HaveOneType, IsNamed};
 
 use crate::{Joined, Parameter, Plainest};
 use reo_behaviour::Way;
