@@ -82,23 +82,13 @@ fn is_named(parameters: &[Parameter], way: Way, name: &[u8]) -> bool
     false
 }
 
-// The name at which a channel is joined to a port of this way.
-fn name_for(way: Way, channel: &Joined) -> &[u8]
-    ensures { result.now ≡ name_for way channel.now }
-{
-    match way {
-        Way::In => channel.source.as_slice(),
-        Way::Out => channel.sink.as_slice(),
-    }
-}
-
 // How many channels are joined to the port.
 fn count_joined(channels: &[Joined], way: Way, name: &[u8]) -> usize
     ensures { result ≡ count_by (λ (x : Channel). bytes_eq (name_for way x) name.now) channels.now }
 {
     channels
         .iter()
-        .filter(|channel| name_for(way, channel) == name)
+        .filter(|channel| channel.name_for(way) == name)
         .count()
 }
 
