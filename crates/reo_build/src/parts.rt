@@ -47,23 +47,13 @@ pub fn primitives(alloc: Global, plainest: &Plainest) -> Result<List<Kind>, NoMe
     Ok(list)
 }
 
-/// The name at which a channel is joined to a port of this way.
-fn name_for(way: Way, channel: &Joined) -> &[u8]
-    ensures { result.now ≡ name_for way channel.now }
-{
-    match way {
-        Way::In => channel.source.as_slice(),
-        Way::Out => channel.sink.as_slice(),
-    }
-}
-
 /// The first channel that is joined to a port, by its place among all channels.
 fn channel_of(channels: &[Joined], way: Way, name: &[u8]) -> usize
     ensures { result ≡ position_or_len (λ (x : Channel). bytes_eq (name_for way x) name.now) channels.now }
 {
     let mut place = 0;
     for channel in channels {
-        if name_for(way, channel) == name {
+        if channel.name_for(way) == name {
             return place;
         }
         place += 1;

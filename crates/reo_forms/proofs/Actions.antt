@@ -15,7 +15,8 @@ use Rattle.reo_script.specs.declared.script.Component.{Component}
 use Rattle.reo_forms.specs.declared.plainest.Parameter.{Parameter}
 use Rattle.reo_forms.specs.ScriptForm.{name_text, item_at_text, action_text, component_text, script_text, IsPortAction, IsPlainScript, IsScriptText}
 use Rattle.reo_forms.specs.Components.{IsPlainComponent}
-use Rattle.reo_forms.specs.Reading.{goes_on, Each}
+use Rattle.reo_forms.specs.Reading.{goes_on}
+use Rattle.reo_forms.specs.Listed.{Each}
 
 pub write_parts : (ps : List Parameter) (port : ℕ) (p : Parameter) (item : Value) (rest : List ℕ) → slice_get ps port ≡ Some p → action_text ps (Write port item) ++ rest
     ≡ codes "write " ++ (p.name ++ (codes " " ++ (text_of item (kinds.Int p.low p.high) ++ (codes "; " ++ rest))))

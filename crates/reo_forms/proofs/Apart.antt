@@ -7,7 +7,7 @@ use Rattle.reo_script.specs.declared.script.Component.{Component}
 use Rattle.reo_script.specs.Actions.{AreApart, port_of}
 use Rattle.reo_forms.specs.declared.plainest.Parameter.{Parameter}
 use Rattle.reo_forms.specs.Components.{IsPlainComponent, IsApartAt}
-use Rattle.reo_forms.specs.Reading.{Each}
+use Rattle.reo_forms.specs.Listed.{Each}
 use Rattle.reo_forms.specs.ScriptForm.{IsPortAction}
 use Rattle.reo_forms.proofs.Eachs.{get_at, get_is, get_within}
 

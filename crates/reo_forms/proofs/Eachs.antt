@@ -1,7 +1,7 @@
 -- What holds of each element of a list.
 use Rattle.std.proofs.Common.{◌≡◌, ◌∙◌, ◌<◌, ◌+◌, ℕ, zero, suc, true, false, List, [], ◌∷◌, Some, length, get_or, ◌⊎◌, inl, inr, refl, sym, subst, ap, arith}
 use Rattle.std.specs.Prelude.{slice_get, nat_lt}
-use Rattle.reo_forms.specs.Reading.{Each}
+use Rattle.reo_forms.specs.Listed.{Each}
 
 pub below_or : (i n : ℕ) → i < n + 1 → (i < n) ⊎ (i ≡ n)
 below_or i n h = grind arith

@@ -2,7 +2,8 @@
 use Rattle.std.proofs.Common.{◌≡◌, ◌≢◌, ◌∙◌, ◌<◌, ◌⊎◌, inl, inr, ℕ, List, [], ◌∷◌, Some, length, refl, sym, arith}
 use Rattle.std.specs.Prelude.{slice_get}
 use Rattle.reo_forms.specs.declared.plainest.Parameter.{Parameter}
-use Rattle.reo_forms.specs.Reading.{Each, HaveOneType, AreDifferent}
+use Rattle.reo_forms.specs.Listed.{Each}
+use Rattle.reo_forms.specs.Parameters.{HaveOneType, AreDifferent}
 use Rattle.reo_forms.proofs.Eachs.{get_within}
 
 -- A parameter of the type of the first.

@@ -1,8 +1,8 @@
 -- Texts in a row tell what they are texts of.
 use Rattle.std.proofs.Common.{◌≡◌, ◌∙◌, ℕ, suc, true, false, List, [], ◌∷◌, ◌++◌, refl, sym, ap, append_assoc}
 use Rattle.std.specs.List.{flat_map}
-use Rattle.reo_forms.specs.Reading.{goes_on, Each}
-use Rattle.reo_forms.specs.Listed.{listed}
+use Rattle.reo_forms.specs.Reading.{goes_on}
+use Rattle.reo_forms.specs.Listed.{listed, Each}
 
 -- A text tells what it is a text of, and what comes after it.
 abbrev pub Tells : {X : Type 0} → (X → Type 0) → (X → List ℕ) → Type 0

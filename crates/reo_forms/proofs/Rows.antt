@@ -1,7 +1,8 @@
 -- Texts in a row, read one by one until one stops them.
 use Rattle.std.proofs.Common.{◌≡◌, ◌∙◌, ℕ, suc, true, false, List, [], ◌∷◌, ◌++◌, refl, sym, ap, append_assoc, append-nil}
 use Rattle.std.specs.List.{flat_map}
-use Rattle.reo_forms.specs.Reading.{goes_on, Each}
+use Rattle.reo_forms.specs.Reading.{goes_on}
+use Rattle.reo_forms.specs.Listed.{Each}
 
 module _ {X : Type 0} (Good : X → Type 0) (text : X → List ℕ) (stop : ℕ) where
   -- After what was made these are still to come, and then the rest.

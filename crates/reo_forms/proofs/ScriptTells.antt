@@ -15,7 +15,9 @@ use Rattle.reo_forms.specs.declared.plainest.Parameter.{Parameter}
 use Rattle.reo_forms.specs.CircuitForm.{IsParameter}
 use Rattle.reo_forms.specs.ScriptForm.{action_text, component_text, IsPortAction, SaysScript}
 use Rattle.reo_forms.specs.Components.{IsPlainComponent}
-use Rattle.reo_forms.specs.Reading.{Ends, Each, AreDifferent}
+use Rattle.reo_forms.specs.Reading.{Ends}
+use Rattle.reo_forms.specs.Listed.{Each}
+use Rattle.reo_forms.specs.Parameters.{AreDifferent}
 use Rattle.reo_forms.proofs.Numerals.{space_ends, semicolon_ends}
 use Rattle.reo_forms.proofs.Eachs.{one_at}
 use Rattle.reo_forms.proofs.Actions.{write_parts, take_parts, component_parts, action_goes, script_front, plain_components}

@@ -6,7 +6,8 @@ use Rattle.reo_forms.specs.declared.plainest.Parameter.{Parameter}
 use Rattle.reo_forms.specs.declared.plainest.Joined.{Joined}
 use Rattle.reo_forms.specs.declared.plainest.Plainest.{Plainest}
 use Rattle.reo_values.specs.Valid.{IsName}
-use Rattle.reo_forms.specs.Listed.{IsOnce}
+use Rattle.reo_forms.specs.Listed.{Each, IsOnce}
+use Rattle.reo_forms.specs.Parameters.{AreDifferent, HaveOneType, IsNamed}
 
 -- A parameter whose name is a name of the language, and whose bounds are in order, each from -10^9 to 10^9.
 pub record IsParameter (p : Parameter) : Type 0 where
@@ -26,11 +27,11 @@ IsParameterAt c i p = slice_get c.parameters i ≡ Some p
 -- A circuit of the form: its parameters have different names and one type, and there are one to four channels;
 -- each `in` name is the source of exactly one of them, each `out` name the sink of exactly one, and no other name stands in a channel.
 pub record IsPlainest (c : Plainest) : Type 0 where
-  pub parameters : (i : ℕ) (p : Parameter) → IsParameterAt c i p → IsParameter p
-  pub one_type : (i j : ℕ) (p q : Parameter) → IsParameterAt c i p → IsParameterAt c j q → (p.low ≡ q.low) × (p.high ≡ q.high)
-  pub distinct : (i j : ℕ) (p q : Parameter) → IsParameterAt c i p → IsParameterAt c j q → p.name ≡ q.name → i ≡ j
+  pub parameters : Each IsParameter c.parameters
+  pub one_type : HaveOneType c.parameters
+  pub distinct : AreDifferent c.parameters
   pub some_channel : 1 ≤ length c.channels
   pub few_channels : length c.channels ≤ 4
-  pub each_port : (i : ℕ) (p : Parameter) → IsParameterAt c i p → IsOnce (λ (x : Joined). name_for p.way x ≡ p.name) c.channels
-  pub each_source : (k : ℕ) (x : Joined) → slice_get c.channels k ≡ Some x → (i : ℕ) × (p : Parameter) × IsParameterAt c i p × (p.way ≡ In) × (p.name ≡ x.source)
-  pub each_sink : (k : ℕ) (x : Joined) → slice_get c.channels k ≡ Some x → (i : ℕ) × (p : Parameter) × IsParameterAt c i p × (p.way ≡ Out) × (p.name ≡ x.sink)
+  pub each_port : Each (λ (p : Parameter). IsOnce (λ (x : Joined). name_for p.way x ≡ p.name) c.channels) c.parameters
+  pub each_source : Each (λ (x : Joined). IsNamed c.parameters In x.source) c.channels
+  pub each_sink : Each (λ (x : Joined). IsNamed c.parameters Out x.sink) c.channels

@@ -4,7 +4,7 @@ use Rattle.reo_script.specs.declared.script.Action.{Action}
 use Rattle.reo_script.specs.declared.script.Component.{Component}
 use Rattle.reo_script.specs.Actions.{port_of}
 use Rattle.reo_forms.specs.declared.plainest.Parameter.{Parameter}
-use Rattle.reo_forms.specs.Reading.{Each}
+use Rattle.reo_forms.specs.Listed.{Each}
 use Rattle.reo_forms.specs.ScriptForm.{IsLabel, IsPortAction}
 
 -- A component of the form: its name is a letter, and each action is at a port of its way.

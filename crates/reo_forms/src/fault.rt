@@ -1,4 +1,4 @@
-//! Why a text is read as no circuit or script of the form.
+//! Why a program has no shape, or a text says no script.
 ghost use Rattle.std.specs.Prelude.{◌≡◌};
 
 use reo_values::NoMemory;
@@ -6,7 +6,7 @@ use reo_values::NoMemory;
 /// Why reading gave nothing.
 #[derive(Clone, Copy, Debug, PartialEq, Eq)]
 pub enum FormFault {
-    /// The text is not of the form.
+    /// It is not of the form.
     NotOfForm,
     /// Want of memory.
     NoMemory,

@@ -2,7 +2,8 @@
 ghost use Rattle.std.specs.Prelude.{◌≡◌};
 ghost use Rattle.reo_forms.specs.CircuitForm.{IsParameter};
 ghost use Rattle.reo_forms.specs.ScriptForm.{SaysScript};
-ghost use Rattle.reo_forms.specs.Reading.{Each, AreDifferent};
+ghost use Rattle.reo_forms.specs.Listed.{Each};
+ghost use Rattle.reo_forms.specs.Parameters.{AreDifferent};
 ghost use Rattle.reo_forms.specs.Shape.{HasShape};
 
 use crate::{Parameter, Plainest};

@@ -5,8 +5,8 @@ ghost use Rattle.reo_behaviour.specs.declared.port.Way.TheVariants.{In, Out};
 ghost use Rattle.reo_forms.specs.declared.plainest.Parameter.{Parameter as Port};
 ghost use Rattle.reo_forms.specs.declared.plainest.Joined.{Joined as Channel};
 ghost use Rattle.reo_forms.specs.CircuitForm.{name_for, IsParameter, IsPlainest};
-ghost use Rattle.reo_forms.specs.Listed.{IsOnce};
-ghost use Rattle.reo_forms.specs.Reading.{Each, AreDifferent, HaveOneType, IsNamed};
+ghost use Rattle.reo_forms.specs.Listed.{IsOnce, Each};
+ghost use Rattle.reo_forms.specs.Parameters.{AreDifferent, HaveOneType, IsNamed};
 
 use crate::{Joined, Parameter, Plainest};
 use reo_behaviour::Way;
@@ -82,23 +82,13 @@ fn is_named(parameters: &[Parameter], way: Way, name: &[u8]) -> bool
     false
 }
 
-// The name at which a channel is joined to a port of this way.
-fn name_for(way: Way, channel: &Joined) -> &[u8]
-    ensures { result.now ≡ name_for way channel.now }
-{
-    match way {
-        Way::In => channel.source.as_slice(),
-        Way::Out => channel.sink.as_slice(),
-    }
-}
-
 // How many channels are joined to the port.
 fn count_joined(channels: &[Joined], way: Way, name: &[u8]) -> usize
     ensures { result ≡ count_by (λ (x : Channel). bytes_eq (name_for way x) name.now) channels.now }
 {
     channels
         .iter()
-        .filter(|channel| name_for(way, channel) == name)
+        .filter(|channel| channel.name_for(way) == name)
         .count()
 }
 

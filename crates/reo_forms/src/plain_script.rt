@@ -5,10 +5,9 @@ ghost use Rattle.reo_values.specs.declared.kindred.Kindred.TheVariants.{Int as I
 ghost use Rattle.reo_behaviour.specs.declared.port.Way.TheVariants.{In, Out};
 ghost use Rattle.reo_script.specs.declared.script.Component.{Component as Part};
 ghost use Rattle.reo_script.specs.Actions.{port_of};
-ghost use Rattle.reo_forms.specs.Listed.{IsLetter};
+ghost use Rattle.reo_forms.specs.Listed.{IsLetter, Each};
 ghost use Rattle.reo_forms.specs.ScriptForm.{IsLabel, IsPortAction, IsPlainScript};
 ghost use Rattle.reo_forms.specs.Components.{IsPlainComponent, Names, IsApartAt};
-ghost use Rattle.reo_forms.specs.Reading.{Each};
 
 use crate::Parameter;
 use reo_behaviour::Way;

@@ -1,4 +1,7 @@
 //! What a circuit of the form is.
+ghost use Rattle.std.specs.Prelude.{◌≡◌};
+ghost use Rattle.reo_forms.specs.CircuitForm.{name_for};
+
 use reo_behaviour::Way;
 use reo_values::{Bytes, List};
 
@@ -16,6 +19,19 @@ pub struct Parameter {
 pub struct Joined {
     pub source: Bytes,
     pub sink: Bytes,
+}
+
+impl Joined {
+    /// The name at which the channel is joined to a port of this way: its source for an `in`
+    /// port, its sink for an `out` port.
+    pub fn name_for(&self, way: Way) -> &[u8]
+        ensures { result.now ≡ name_for way self.now }
+    {
+        match way {
+            Way::In => self.source.as_slice(),
+            Way::Out => self.sink.as_slice(),
+        }
+    }
 }
 
 /// A circuit of the form.

@@ -10,7 +10,9 @@ ghost use Rattle.reo_script.specs.declared.script.Component.{Component as Part};
 ghost use Rattle.reo_forms.specs.declared.plainest.Parameter.{Parameter as Port};
 ghost use Rattle.reo_forms.specs.ScriptForm.{action_text, component_text, script_text, IsPortAction, SaysScript};
 ghost use Rattle.reo_forms.specs.Components.{IsPlainComponent};
-ghost use Rattle.reo_forms.specs.Reading.{goes_on, Ends, Each, AreDifferent, HaveNames};
+ghost use Rattle.reo_forms.specs.Reading.{goes_on, Ends};
+ghost use Rattle.reo_forms.specs.Listed.{Each};
+ghost use Rattle.reo_forms.specs.Parameters.{AreDifferent, HaveNames};
 
 use crate::plain_script::is_plain_script;
 use crate::reader::{Reader, number};

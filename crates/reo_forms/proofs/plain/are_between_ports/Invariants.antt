@@ -1,6 +1,6 @@
 use Rattle.reo_behaviour.specs.declared.port.Way.TheVariants.{In, Out}
 use Rattle.reo_forms.specs.declared.plainest.Joined.{Joined}
-use Rattle.reo_forms.specs.Reading.{IsNamed}
+use Rattle.reo_forms.specs.Parameters.{IsNamed}
 use Rattle.reo_forms.proofs.Eachs.{Before}
 use Rattle.reo_forms.proofs.plain.are_between_ports.Given as goal
 

@@ -4,8 +4,8 @@ use Rattle.reo_forms.specs.declared.plainest.Parameter.{Parameter}
 use Rattle.reo_forms.specs.declared.plainest.Joined.{Joined}
 use Rattle.reo_forms.specs.declared.plainest.Plainest.{Plainest}
 use Rattle.reo_forms.specs.CircuitForm.{name_for, IsParameter, IsPlainest}
-use Rattle.reo_forms.specs.Listed.{IsOnce}
-use Rattle.reo_forms.specs.Reading.{Each, HaveOneType, AreDifferent, IsNamed}
+use Rattle.reo_forms.specs.Listed.{IsOnce, Each}
+use Rattle.reo_forms.specs.Parameters.{HaveOneType, AreDifferent, IsNamed}
 use Rattle.reo_forms.proofs.plain.is_plainest.Goals as goal
 
 pub returns-then-not-are_parameters : goal.returns-then-not-are_parameters
