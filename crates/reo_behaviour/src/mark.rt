@@ -1,6 +1,6 @@
 //! Marks, and the joint rule.
 ghost use Rattle.std.specs.Prelude.{◌≡◌};
-ghost use Rattle.reo_behaviour.specs.Marks.{marks_match};
+ghost use Rattle.reo_behaviour.specs.Marks.{is_flow, marks_match};
 
 /// What a primitive says of one of its ends in one round.
 #[derive(Clone, Copy, Debug, PartialEq, Eq)]
@@ -13,6 +13,15 @@ pub enum Mark {
     R,
     /// Jam: the part of the circuit around this end has no colouring of the three others.
     J,
+}
+
+impl Mark {
+    /// Whether an item flows.
+    pub fn is_flow(self) -> bool
+        ensures { result ≡ is_flow self }
+    {
+        matches!(self, Mark::F)
+    }
 }
 
 /// The joint rule: both ends flow, or both jam, or neither flows or jams and at least one gives a reason.

@@ -2,12 +2,14 @@
 use Rattle.std.proofs.Common.{◌≡◌, ◌≢◌, inl, inr, ℕ, zero, suc, ◌+◌, ◌<◌, ◌≤◌, ◌==◌, Bool, true, false, cond, List, length, get_or, set, replicate, refl, arith, below_more, get_or-set_same, get_or-set_other}
 use Rattle.std.specs.List.{position_or_len}
 use Rattle.std.proofs.lemmas.Bool.Decides.{nat_tests}
-use Rattle.std.proofs.lemmas.List.Sums.{position_or_len_is}
+use Rattle.std.proofs.lemmas.List.Sums.{position_or_len_is, fails_before_first}
+use Rattle.reo_behaviour.specs.declared.joint.End.{End}
 use Rattle.reo_behaviour.specs.declared.joint.Joint.{Joint}
 use Rattle.reo_behaviour.specs.Behaviour.{Behaviour}
 use Rattle.reo_behaviour.specs.Net.{behaviour_at, end_of, is_at}
 use Rattle.reo_behaviour.specs.Step.{is_mouth}
-use Rattle.reo_circuit.proofs.Cases.{eq_cases}
+use Rattle.reo_behaviour.specs.Wired.{IsJoined}
+use Rattle.reo_circuit.proofs.Cases.{eq_cases, lt_cases}
 
 -- Place m is the first of the first k joints that passes the test, or n.
 pub record IsFirstOf (test : Joint → Bool) (joints : List Joint) (k m : ℕ) : Type 0 where
@@ -98,3 +100,16 @@ pub ports_more : (joints : List Joint) (k : ℕ) (j : Joint) (old new : List ℕ
     → ((i : ℕ) → i < length old → get_or new i 0 ≡ cond (is_at (end_of i 0) j) (cond (get_or old i 0 == length joints) k (get_or old i 0)) (get_or old i 0))
     → (i : ℕ) → i < length old → IsFirstOf (is_at (end_of i 0)) joints (k + 1) (get_or new i 0)
 ports_more joints k j old new lt at firsts noted i i_lt = rw (noted i i_lt) (first_step (is_at (end_of i 0)) joints k j lt at (get_or old i 0) (firsts i i_lt))
+
+-- The first joint at an end that is joined is one of the joints.
+pub joined_in : (joints : List Joint) (e : End) → IsJoined joints e → position_or_len (is_at e) joints < length joints
+joined_in joints e is =
+    let d : Joint = record { giver = e; taker = e } in
+    elim (lt_cases (position_or_len (is_at e) joints) (length joints)) [
+      | inl lt ↦ lt
+      | inr past ↦
+          let before : is.joint < position_or_len (is_at e) joints = omega (arith, is.in_range, past) in
+          let not_here : is_at e (get_or joints is.joint d) ≡ false = fails_before_first (is_at e) joints is.joint d before in
+          let here : is_at e (get_or joints is.joint d) ≡ true = is.here d in
+          cc
+    ]

@@ -232,8 +232,11 @@ impl<P: Primitive> Circuit<P> {
     /// The joint at the one end of a port.
     pub fn port_joint(&self, port: usize) -> usize
         requires { port < self.now.ports }
-        ensures { result ≡ position_or_len (is_at (end_of port 0)) self.now.joints }
+        ensures joint { result ≡ position_or_len (is_at (end_of port 0)) self.now.joints }
+        ensures in_range { result < length self.now.joints }
     {
+        self.known();
+        self.known_ports();
         *self.port_joints.at(port)
     }
 

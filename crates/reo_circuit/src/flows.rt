@@ -5,7 +5,7 @@ ghost use Rattle.reo_behaviour.specs.Colouring.{AreRows};
 ghost use Rattle.reo_behaviour.specs.Moves.{item_at, moves_at, moves_of};
 
 use crate::circuit::Circuit;
-use reo_behaviour::{Colouring, End, Mark, Move, Primitive};
+use reo_behaviour::{Colouring, End, Move, Primitive};
 use reo_values::{List, NoMemory, Value, copy};
 use std::alloc::Global;
 
@@ -13,11 +13,7 @@ use std::alloc::Global;
 fn item_of(items: &[Option<Value>], place: usize) -> Option<&Value>
     ensures { option_copied result ≡ slice_index_or items.now place None }
 {
-    if place < items.len() {
-        items[place].as_ref()
-    } else {
-        None
-    }
+    items.get(place)?.as_ref()
 }
 
 /// Adds what flows at a port.
@@ -38,7 +34,7 @@ fn add_move<P: Primitive>(
         end: 0,
     };
     let mark = circuit.mark_at(colouring.rows.as_slice(), end);
-    if matches!(mark, Mark::F) {
+    if mark.is_flow() {
         let found = item_of(colouring.items.as_slice(), circuit.port_joint(port));
         if let Some(value) = found {
             let item = copy(alloc, value)?;

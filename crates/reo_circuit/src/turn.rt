@@ -34,48 +34,36 @@ fn side_number<P: Primitive>(
     firsts[end.primitive] + side
 }
 
-/// The sides that the joints come from.
-fn givers<P: Primitive>(
-    alloc: Global,
-    primitives: &[P],
-    firsts: &[usize],
-    sides: usize,
-    joints: &[Joint],
-) -> Result<List<usize>, NoMemory>
-    requires joints { AreJoints (net_with P.behaviour primitives.now joints.now) }
-    requires firsts { AreFirsts (map P.behaviour primitives.now) firsts.now (length (map P.behaviour primitives.now)) }
-    requires sides { sides ≡ length (all_sides (map P.behaviour primitives.now)) }
-    ensures numbers { IfOk result (λ numbers. numbers ≡ from_sides (net_with P.behaviour primitives.now joints.now)) }
-    ensures in_range { IfOk result (λ numbers. EachIndex numbers (λ k. slice_index numbers k < sides)) }
-{
-    let mut numbers = List::new(alloc);
-    for index in 0..joints.len() {
-        let joint = joint_at(joints, index);
-        numbers.push(side_number(primitives, joints, firsts, sides, joint.giver))?;
-    }
-    Ok(numbers)
+/// The sides that joints come from, and those that they go to.
+struct JointSides {
+    from: List<usize>,
+    to: List<usize>,
 }
 
-/// The sides that the joints go to.
-fn takers<P: Primitive>(
+/// The sides of the joints.
+fn joint_sides<P: Primitive>(
     alloc: Global,
     primitives: &[P],
     firsts: &[usize],
     sides: usize,
     joints: &[Joint],
-) -> Result<List<usize>, NoMemory>
+) -> Result<JointSides, NoMemory>
     requires joints { AreJoints (net_with P.behaviour primitives.now joints.now) }
     requires firsts { AreFirsts (map P.behaviour primitives.now) firsts.now (length (map P.behaviour primitives.now)) }
     requires sides { sides ≡ length (all_sides (map P.behaviour primitives.now)) }
-    ensures numbers { IfOk result (λ numbers. numbers ≡ to_sides (net_with P.behaviour primitives.now joints.now)) }
-    ensures in_range { IfOk result (λ numbers. EachIndex numbers (λ k. slice_index numbers k < sides)) }
+    ensures from { IfOk result (λ made. made.from ≡ from_sides (net_with P.behaviour primitives.now joints.now)) }
+    ensures to { IfOk result (λ made. made.to ≡ to_sides (net_with P.behaviour primitives.now joints.now)) }
+    ensures from_range { IfOk result (λ made. EachIndex made.from (λ k. slice_index made.from k < sides)) }
+    ensures to_range { IfOk result (λ made. EachIndex made.to (λ k. slice_index made.to k < sides)) }
 {
-    let mut numbers = List::new(alloc);
+    let mut from = List::new(alloc);
+    let mut to = List::new(alloc);
     for index in 0..joints.len() {
-        let joint = joint_at(joints, index);
-        numbers.push(side_number(primitives, joints, firsts, sides, joint.taker))?;
+        let Joint { giver, taker } = joint_at(joints, index);
+        from.push(side_number(primitives, joints, firsts, sides, giver))?;
+        to.push(side_number(primitives, joints, firsts, sides, taker))?;
     }
-    Ok(numbers)
+    Ok(JointSides { from, to })
 }
 
 /// An order of the joints, or the least joint on a directed cycle.
@@ -91,9 +79,8 @@ pub fn joint_order<P: Primitive>(
     requires sides { sides ≡ length (all_sides (map P.behaviour primitives.now)) }
     ensures { IfOk result (IsSorted (from_sides (net_with P.behaviour primitives.now joints.now)) (to_sides (net_with P.behaviour primitives.now joints.now))) }
 {
-    let givers = givers(alloc, primitives, firsts, sides, joints)?;
-    let takers = takers(alloc, primitives, firsts, sides, joints)?;
-    match order_or_cycle(alloc, givers.as_slice(), takers.as_slice(), sides) {
+    let JointSides { from, to } = joint_sides(alloc, primitives, firsts, sides, joints)?;
+    match order_or_cycle(alloc, from.as_slice(), to.as_slice(), sides) {
         Ok(sorted) => Ok(sorted),
         Err(_) => Err(NoMemory),
     }

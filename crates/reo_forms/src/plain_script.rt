@@ -4,7 +4,6 @@ ghost use Rattle.reo_values.specs.Kind.{IsIn};
 ghost use Rattle.reo_values.specs.declared.kindred.Kindred.TheVariants.{Int as IntOf};
 ghost use Rattle.reo_behaviour.specs.declared.port.Way.TheVariants.{In, Out};
 ghost use Rattle.reo_script.specs.declared.script.Component.{Component as Part};
-ghost use Rattle.reo_script.specs.Actions.{port_of};
 ghost use Rattle.reo_forms.specs.Listed.{IsLetter, Each};
 ghost use Rattle.reo_forms.specs.ScriptForm.{IsLabel, IsPortAction, IsPlainScript};
 ghost use Rattle.reo_forms.specs.Components.{IsPlainComponent, Names, IsApartAt};
@@ -96,21 +95,12 @@ fn are_plain_components(parameters: &[Parameter], components: &[Component]) -> b
     true
 }
 
-fn port_of(action: &Action) -> usize
-    ensures { result ≡ port_of action.now }
-{
-    match action {
-        Action::Write { port, .. } => *port,
-        Action::Take { port } => *port,
-    }
-}
-
 // Whether an action of the component is at the port.
 fn names(component: &Component, port: usize) -> bool
     ensures { IsTrue result ↔ Names port component.now }
 {
     for action in component.actions.as_slice() {
-        if port_of(action) == port {
+        if action.port() == port {
             return true;
         }
     }

@@ -1,22 +1,20 @@
 -- Rows that begin others.
-use Rattle.std.proofs.Common.{◌≡◌, ◌≢◌, ◌⊎◌, inl, inr, ℕ, zero, suc, ◌+◌, ◌<◌, ◌≤◌, List, [], ◌∷◌, ◌++◌, Option, None, Bool, true, false, length, take, get_or, refl, ap, sym, subst, ◌∙◌, arith, rules, add-one, length-append}
+use Rattle.std.proofs.Common.{◌≡◌, ◌≢◌, ◌⊎◌, inl, inr, ℕ, ◌+◌, ◌<◌, ◌≤◌, List, [], ◌∷◌, ◌++◌, Option, true, false, length, get_or, refl, ap, sym, ◌∙◌, arith, length-append}
 use Rattle.std.specs.Ordering.{is_lt, ordering_reverse}
 use Rattle.std.specs.declared.cmp.Ordering.{Ordering}
 use Rattle.std.specs.declared.cmp.Ordering.TheVariants.{Less, Equal, Greater}
 use Rattle.std.specs.Cmp.Lexicographic.{nat_list_cmp_total}
 use Rattle.std.proofs.lemmas.List.{take_all, take_more, get_or-take}
-use Rattle.std.proofs.Math.Seq.{get_or-append_seam, take-length}
+use Rattle.std.proofs.Math.Seq.{get_or-append_seam}
 use Rattle.std.proofs.lemmas.List.{get_or_append_left}
 use Rattle.std.proofs.lemmas.Bool.Decides.{nat_tests}
 use Rattle.std.specs.Prelude.{nat_lt}
 use Rattle.reo_values.specs.declared.value.Value.{Value}
-use Rattle.reo_behaviour.specs.declared.joint.Joint.{Joint}
 use Rattle.reo_behaviour.specs.Net.{Net, Side, all_sides, row_count}
-use Rattle.reo_behaviour.specs.Colouring.{AreRows, IsColouring, RowsFit, JointMatches}
-use Rattle.reo_behaviour.specs.First.{Position, key_at, positions, order_of, IsFirst}
-use Rattle.reo_behaviour.specs.Wired.{IsWired}
-use Rattle.reo_laws.proofs.Sides.{are_rows, rows_length, row_below, side_in_range}
-use Rattle.reo_plain.specs.Begun.{AreFirstRows, Begins, IsChosen, NoneBegins, Improves}
+use Rattle.reo_behaviour.specs.Colouring.{AreRows, IsColouring}
+use Rattle.reo_behaviour.specs.First.{key_at, positions, order_of}
+use Rattle.reo_laws.proofs.Sides.{are_rows, rows_length}
+use Rattle.reo_plain.specs.Begun.{AreFirstRows, Begins, Improves}
 
 lt_cases : (x y : ℕ) → (x < y) ⊎ (y ≤ x)
 lt_cases x y = elim (nat_lt x y) as (λ t. nat_lt x y ≡ t → (x < y) ⊎ (y ≤ x)) [ true ↦ λ e. inl (grind (arith, nat_tests)) | false ↦ λ e. inr (grind (arith, nat_tests)) ] refl

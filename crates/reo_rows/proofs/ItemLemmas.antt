@@ -1,5 +1,5 @@
 -- Items that rows determine.
-use Rattle.std.proofs.Common.{◌≡◌, ◌≢◌, ◌⊎◌, inl, inr, ℕ, zero, suc, ◌+◌, ◌<◌, List, [], ◌∷◌, Option, None, Some, Bool, true, false, length, get_or, set, drop, refl, ap, sym, ◌∙◌, subst, arith, rules, cond, add-one, get_or-set_same, get_or-set_other}
+use Rattle.std.proofs.Common.{◌≡◌, ◌≢◌, ◌⊎◌, inl, inr, ℕ, zero, suc, ◌+◌, ◌<◌, List, Option, None, Some, true, false, length, get_or, set, drop, refl, ap, sym, ◌∙◌, arith, rules, cond, add-one, get_or-set_same, get_or-set_other}
 use Rattle.std.specs.Bool.{◌==◌}
 use Rattle.std.specs.Option.{option_and_then}
 use Rattle.std.proofs.Math.Seq.{drop-cons}
@@ -13,11 +13,11 @@ use Rattle.reo_behaviour.specs.declared.joint.Joint.{Joint}
 use Rattle.reo_behaviour.specs.Marks.{is_flow}
 use Rattle.reo_behaviour.specs.Behaviour.{Behaviour}
 use Rattle.reo_behaviour.specs.Net.{Net, all_sides, behaviour_at, end_eq, end_of, row_at, mark_at, side_at}
-use Rattle.reo_behaviour.specs.Colouring.{AreRows, taken_at, given_at, item_given, ItemFits, IsColouring, IsFilled, RowsFit}
+use Rattle.reo_behaviour.specs.Colouring.{AreRows, taken_at, given_at, item_given, ItemFits, IsColouring, IsFilled}
 use Rattle.reo_behaviour.specs.Wired.{IsWired, IsOrder, Feeds}
 use Rattle.reo_laws.proofs.Items.{given_same}
 use Rattle.reo_laws.proofs.Sides.{gives_at, row_in_table, row_below, side_in_range}
-use Rattle.reo_rows.specs.Filled.{AllFit, AreFilledBefore}
+use Rattle.reo_rows.specs.Filled.{AreFilledBefore}
 
 -- The item at the joint that goes to an end, from a joint on.
 pub taken_from : (joints : List Joint) (items : List (Option Value)) (e : End) (i : ℕ) (d : Joint) → i < length joints → length items ≡ length joints

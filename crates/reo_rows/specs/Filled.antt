@@ -3,7 +3,7 @@ use Rattle.std.specs.Prelude.{ℕ, ◌<◌, ◌≡◌, List, Option, None, lengt
 use Rattle.reo_values.specs.declared.value.Value.{Value}
 use Rattle.reo_behaviour.specs.declared.joint.Joint.{Joint}
 use Rattle.reo_behaviour.specs.Net.{Net}
-use Rattle.reo_behaviour.specs.Colouring.{item_given, ItemFits, JointMatches}
+use Rattle.reo_behaviour.specs.Colouring.{item_given, ItemFits}
 
 -- What stands at each joint fits there.
 abbrev pub AllFit : Net → List ℕ → List (Option Value) → Type 0

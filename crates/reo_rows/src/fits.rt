@@ -1,23 +1,15 @@
 //! Whether what stands at a joint fits there.
 ghost use Rattle.std.specs.Prelude.{◌≡◌, ◌<◌, ◌↔◌, IsTrue, Some, length, false, true};
 ghost use Rattle.reo_behaviour.specs.declared.mark.Mark.TheVariants.{F};
-ghost use Rattle.reo_behaviour.specs.Marks.{is_flow};
 ghost use Rattle.reo_behaviour.specs.Net.{net_of, all_sides, behaviour_at, mark_at};
 ghost use Rattle.reo_behaviour.specs.Colouring.{AreRows, given_at, lets_in, ItemFits};
 ghost use Rattle.reo_behaviour.specs.Wired.{IsEnd};
 ghost use Rattle.reo_rows.specs.Filled.{AllFit};
 
 use crate::taken::taken;
-use reo_behaviour::{End, Joint, Mark, Primitive};
+use reo_behaviour::{End, Joint, Primitive};
 use reo_circuit::Circuit;
 use reo_values::Value;
-
-/// Whether a mark is flow.
-pub(crate) fn is_flow(mark: Mark) -> bool
-    ensures { result ≡ is_flow mark }
-{
-    matches!(mark, Mark::F)
-}
 
 /// Whether an item is what the row of an end gives there.
 fn is_given<P: Primitive>(
@@ -81,7 +73,7 @@ fn fits<P: Primitive>(
     requires takes { (behaviour_at (net_of P.behaviour circuit.now).primitives joint.taker.primitive).takes_in joint.taker.end ≡ true }
     ensures { IsTrue result ↔ ItemFits (net_of P.behaviour circuit.now) rows.now items.now joint item.now }
 {
-    let flows = is_flow(circuit.mark_at(rows, joint.giver));
+    let flows = circuit.mark_at(rows, joint.giver).is_flow();
     match item {
         None => !flows,
         Some(item) => {

@@ -125,6 +125,7 @@ pub fn fill<P: Primitive>(
     requires { RowsFit (net_of P.behaviour circuit.now) rows }
     ensures rows { IfOk result (λ filled. filled.rows ≡ rows) }
     ensures items { IfOk result (λ filled. IsFilled (net_of P.behaviour circuit.now) rows filled.items) }
+    ensures one { IfOk result (λ filled. (others : Items (Option Item)) → IsFilled (net_of P.behaviour circuit.now) rows others → others ≡ filled.items) }
 {
     let items = items_of(alloc, circuit, rows.as_slice())?;
     Ok(Colouring { rows, items })

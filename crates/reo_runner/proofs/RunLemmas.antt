@@ -31,7 +31,7 @@ use Rattle.reo_runner.specs.declared.outcome.End2.TheVariants as ends
 use Rattle.reo_runner.specs.Plan.{IsPlan}
 use Rattle.reo_runner.specs.Round.{Rules, State, Choosing, RoundOf, ready, advanced}
 use Rattle.reo_runner.specs.Run.{Runs, Rounds, IsRun, end_after}
-use Rattle.reo_runner.specs.Outcome.{moved, goes, is_in, is_out, Counts, Tallies, HasTally, Closes, ClosesAs, Ran, Kept, Cut, SoFar, ByEnd, CameTo}
+use Rattle.reo_runner.specs.Outcome.{moved, goes, is_in, is_out, Counts, tally_of, Closes, ClosesAs, Ran, Kept, Cut, SoFar, ByEnd, CameTo}
 use Rattle.reo_runner.specs.Whole.{GoesOn, HasRun}
 use Rattle.reo_runner.proofs.EndLemmas.{rounds_in, ending_rounds}
 use Rattle.reo_runner.proofs.TextLemmas.{text_on, front_of}
@@ -61,16 +61,16 @@ moved_more is ports lines line =
     ∙ sum_by-append (λ m. cond (goes is ports m) 1 0) (flat_map (λ (l : RoundLine). l.moves) lines) line.moves
 
 -- The numbers after one round more.
-pub tally_more : (ports : List Port) (lines : List RoundLine) (line : RoundLine) (old new : Tally) → Tallies ports lines old → new.rounds ≡ old.rounds + 1
-    → new.written ≡ old.written + count_by (goes is_in ports) line.moves → new.delivered ≡ old.delivered + count_by (goes is_out ports) line.moves → Tallies ports (lines ++ line ∷ []) new
+pub tally_more : (ports : List Port) (lines : List RoundLine) (line : RoundLine) (old new : Tally) → Counts ports lines old → new.rounds ≡ old.rounds + 1
+    → new.written ≡ old.written + count_by (goes is_in ports) line.moves → new.delivered ≡ old.delivered + count_by (goes is_out ports) line.moves → Counts ports (lines ++ line ∷ []) new
 tally_more ports lines line old new t rounds written delivered = record {
   rounds = omega (arith, rounds, t.rounds, length-append lines (line ∷ []));
   written = written ∙ ap (λ n. n + count_by (goes is_in ports) line.moves) t.written ∙ sym (moved_more is_in ports lines line);
   delivered = delivered ∙ ap (λ n. n + count_by (goes is_out ports) line.moves) t.delivered ∙ sym (moved_more is_out ports lines line);
 }
 
-pub counted : (ports : List Port) (lines : List RoundLine) (t : Tally) (o : Outcome) → Tallies ports lines t → HasTally t o → Counts ports lines o
-counted ports lines t o is has = record { rounds = has.rounds ∙ is.rounds; written = has.written ∙ is.written; delivered = has.delivered ∙ is.delivered }
+counted : (ports : List Port) (lines : List RoundLine) (t : Tally) (o : Outcome) → Counts ports lines t → tally_of o ≡ t → Counts ports lines (tally_of o)
+counted ports lines t o is has = subst (Counts ports lines) (sym has) is
 
 -- What was planned and done is a round.
 pub round_planned : {P : Type 0} (r : Rules P) (components : List Component) (turn : ℕ) (a : State P) (w : Wiring P) (p : Plan) (b : Wiring P) → w ≡ ready r components a → IsPlan r.behaviour components turn w a.places p
@@ -87,7 +87,7 @@ round_planned r components turn a w p b same plan step = record {
 
 module _ {P : Type 0} (Suits : Choosing) (r : Rules P) (ports : List Port) (components : List Component) (limit : ℕ) (start : State P) where
   ran : (ending : Ending) (before mid now : Option (List ℕ)) (o : Outcome) (lines : List RoundLine) → IsRun Suits r components limit start lines ending
-      → Appended before mid (rounds_text ports lines) → Counts ports lines o → Appended mid now (ending_text ending) → Ran Suits r ports components limit start ending before now o
+      → Appended before mid (rounds_text ports lines) → Counts ports lines (tally_of o) → Appended mid now (ending_text ending) → Ran Suits r ports components limit start ending before now o
   ran ending before mid now o lines run app counts closes = record {
     lines = lines;
     run = run;
@@ -101,7 +101,7 @@ module _ {P : Type 0} (Suits : Choosing) (r : Rules P) (ports : List Port) (comp
 
   -- A whole run, and the call that writes its ending.
   by_end : (ending : Ending) (before mid now : Option (List ℕ)) (o : Outcome) (e : End2) (lines : List RoundLine) → IsRun Suits r components limit start lines ending
-      → Appended before mid (rounds_text ports lines) → Counts ports lines o → rounds_in ending ≡ o.rounds → ClosesAs ending mid now e → ByEnd Suits r ports components limit start before now o e
+      → Appended before mid (rounds_text ports lines) → Counts ports lines (tally_of o) → rounds_in ending ≡ o.rounds → ClosesAs ending mid now e → ByEnd Suits r ports components limit start before now o e
   unfolding made
   by_end ending before mid now o ends.WriteFault lines run app counts same closes = record {
     lines = lines;
@@ -129,35 +129,35 @@ module _ {P : Type 0} (Suits : Choosing) (r : Rules P) (ports : List Port) (comp
   by_end (Limit n) before mid now o ends.Limit lines run app counts same closes = subst (λ (k : ℕ). Ran Suits r ports components limit start (Limit k) before now o) same (ran (Limit n) before mid now o lines run app counts closes.1)
 
   pub closed_by : (ending : Ending) (before mid now : Option (List ℕ)) (o : Outcome) (t : Tally) (lines : List RoundLine) → IsRun Suits r components limit start lines ending
-      → Appended before mid (rounds_text ports lines) → Tallies ports lines t → rounds_in ending ≡ t.rounds → Closes ending t mid now o → CameTo Suits r ports components limit start before now o
-  closed_by ending before mid now o t lines run app tallies same closes =
-      by_end ending before mid now o o.end lines run app (counted ports lines t o tallies closes.tally) (same ∙ sym closes.tally.rounds) closes.text
+      → Appended before mid (rounds_text ports lines) → Counts ports lines t → rounds_in ending ≡ t.rounds → Closes ending t mid now o → CameTo Suits r ports components limit start before now o
+  closed_by ending before mid now o t lines run app counts same closes =
+      by_end ending before mid now o o.end lines run app (counted ports lines t o counts closes.tally) (same ∙ sym (ap (λ (x : Tally). x.rounds) closes.tally)) closes.text
 
   -- A round after which the run ends.
   pub ended : (before mid next now : Option (List ℕ)) (turn : ℕ) (a : State P) (line : RoundLine) (b : State P) (ending : Ending) (o : Outcome) (old new : Tally) → all_done components start.places ≡ false
-      → (so_far : SoFar Suits r ports components limit start before mid turn a old) → RoundOf Suits r components turn a line b → Appended mid next (round_text ports line) → Tallies ports (so_far.lines ++ line ∷ []) new
+      → (so_far : SoFar Suits r ports components limit start before mid turn a old) → RoundOf Suits r components turn a line b → Appended mid next (round_text ports line) → Counts ports (so_far.lines ++ line ∷ []) new
       → end_after components limit turn line.idle b.places ≡ Some ending → Closes ending new next now o → CameTo Suits r ports components limit start before now o
-  ended before mid next now turn a line b ending o old new begun so_far round text tallies ends_here closes =
+  ended before mid next now turn a line b ending o old new begun so_far round text counts ends_here closes =
       let run : IsRun Suits r components limit start (so_far.lines ++ line ∷ []) ending = rw begun (runs_close Suits r components limit 1 turn start so_far.lines a line b ending (omega (arith, so_far.count)) so_far.rounds round ends_here) in
-      let same : rounds_in ending ≡ new.rounds = ending_rounds components limit turn line.idle b.places ending ends_here ∙ omega (arith, tallies.rounds, so_far.count, length-append so_far.lines (line ∷ [])) in
-      closed_by ending before next now o new (so_far.lines ++ line ∷ []) run (text_on ports before mid next so_far.lines line so_far.text text) tallies same closes
+      let same : rounds_in ending ≡ new.rounds = ending_rounds components limit turn line.idle b.places ending ends_here ∙ omega (arith, counts.rounds, so_far.count, length-append so_far.lines (line ∷ [])) in
+      closed_by ending before next now o new (so_far.lines ++ line ∷ []) run (text_on ports before mid next so_far.lines line so_far.text text) counts same closes
 
   -- A round after which the run goes on.
   pub so_far_more : (before mid now : Option (List ℕ)) (turn : ℕ) (a : State P) (line : RoundLine) (b : State P) (old new : Tally) → (so_far : SoFar Suits r ports components limit start before mid turn a old)
-      → RoundOf Suits r components turn a line b → Appended mid now (round_text ports line) → end_after components limit turn line.idle b.places ≡ None → Tallies ports (so_far.lines ++ line ∷ []) new
+      → RoundOf Suits r components turn a line b → Appended mid now (round_text ports line) → end_after components limit turn line.idle b.places ≡ None → Counts ports (so_far.lines ++ line ∷ []) new
       → SoFar Suits r ports components limit start before now (turn + 1) b new
-  so_far_more before mid now turn a line b old new so_far round text goes_on tallies = record {
+  so_far_more before mid now turn a line b old new so_far round text goes_on counts = record {
     lines = so_far.lines ++ line ∷ [];
     rounds = rounds_more Suits r components limit 1 turn start so_far.lines a line b (omega (arith, so_far.count)) so_far.rounds round goes_on;
     count = omega (arith, so_far.count, length-append so_far.lines (line ∷ []));
     text = text_on ports before mid now so_far.lines line so_far.text text;
-    tallies = tallies;
+    counts = counts;
   }
 
   -- The sink failed on a round line.
   pub cut_round : HasRun Suits r components limit start → all_done components start.places ≡ false
       → (before mid now : Option (List ℕ)) (turn : ℕ) (a : State P) (line : RoundLine) (b : State P) (t : Tally) (o : Outcome) → SoFar Suits r ports components limit start before mid turn a t
-      → RoundOf Suits r components turn a line b → TookPart mid now (round_text ports line) → HasTally t o → o.end ≡ ends.WriteFault → CameTo Suits r ports components limit start before now o
+      → RoundOf Suits r components turn a line b → TookPart mid now (round_text ports line) → tally_of o ≡ t → o.end ≡ ends.WriteFault → CameTo Suits r ports components limit start before now o
   cut_round runs begun before mid now turn a line b t o so_far round part has is =
       let lines : List RoundLine = so_far.lines in
       let more = runs.after_next lines a line b (record { begun = begun; rounds = so_far.rounds }) (subst (λ (k : ℕ). RoundOf Suits r components k a line b) so_far.count round) in
@@ -172,17 +172,17 @@ module _ {P : Type 0} (Suits : Choosing) (r : Rules P) (ports : List Port) (comp
         between = mid;
         text = so_far.text;
         part = part;
-        counts = counted ports lines t o so_far.tallies has;
+        counts = counted ports lines t o so_far.counts has;
       } in
       subst (λ (e : End2). ByEnd Suits r ports components limit start before now o e) (sym is) cut
 
   -- Memory was wanting between two lines.
   pub kept : HasRun Suits r components limit start → all_done components start.places ≡ false
-      → (before now : Option (List ℕ)) (turn : ℕ) (a : State P) (t : Tally) (o : Outcome) → SoFar Suits r ports components limit start before now turn a t → HasTally t o → o.end ≡ ends.NoMemory
+      → (before now : Option (List ℕ)) (turn : ℕ) (a : State P) (t : Tally) (o : Outcome) → SoFar Suits r ports components limit start before now turn a t → tally_of o ≡ t → o.end ≡ ends.NoMemory
       → CameTo Suits r ports components limit start before now o
   kept runs begun before now turn a t o so_far has is =
       let rest = runs.after so_far.lines a (record { begun = begun; rounds = so_far.rounds }) in
-      let whole : Kept Suits r ports components limit start before now o = record { lines = so_far.lines; whole = rest; text = so_far.text; counts = counted ports so_far.lines t o so_far.tallies has } in
+      let whole : Kept Suits r ports components limit start before now o = record { lines = so_far.lines; whole = rest; text = so_far.text; counts = counted ports so_far.lines t o so_far.counts has } in
       subst (λ (e : End2). ByEnd Suits r ports components limit start before now o e) (sym is) whole
 
   -- Nothing was made yet.
@@ -192,5 +192,5 @@ module _ {P : Type 0} (Suits : Choosing) (r : Rules P) (ports : List Port) (comp
     rounds = same;
     count = refl;
     text = Appended-none before;
-    tallies = record { rounds = rounds; written = written; delivered = delivered };
+    counts = record { rounds = rounds; written = written; delivered = delivered };
   }

@@ -47,11 +47,15 @@ goes is ports m = is (way_at ports m.port)
 abbrev pub moved : (Way → Bool) → List Port → List RoundLine → ℕ
 moved is ports lines = count_by (goes is ports) (flat_map (λ (line : RoundLine). line.moves) lines)
 
--- The numbers of an outcome are those of some rounds: how many they are, and what moved at `in` and at `out` ports in them.
-pub record Counts (ports : List Port) (lines : List RoundLine) (o : Outcome) : Type 0 where
-  pub rounds : o.rounds ≡ length lines
-  pub written : o.written ≡ moved is_in ports lines
-  pub delivered : o.delivered ≡ moved is_out ports lines
+-- The numbers of a tally are those of some rounds: how many they are, and what moved at `in` and at `out` ports in them.
+pub record Counts (ports : List Port) (lines : List RoundLine) (t : Tally) : Type 0 where
+  pub rounds : t.rounds ≡ length lines
+  pub written : t.written ≡ moved is_in ports lines
+  pub delivered : t.delivered ≡ moved is_out ports lines
+
+-- The numbers of an outcome.
+abbrev pub tally_of : Outcome → Tally
+tally_of o = record { rounds = o.rounds; written = o.written; delivered = o.delivered }
 
 -- The end that an outcome names for an ending of the trace.
 abbrev pub end_of : Ending → End2
@@ -65,21 +69,9 @@ ClosesAs ending before now ends.WriteFault = TookPart before now (ending_text en
 ClosesAs ending before now ends.NoMemory = now ≡ before
 ClosesAs ending before now end = (end ≡ end_of ending) × Appended before now (ending_text ending)
 
--- The numbers of a tally are those of an outcome.
-pub record HasTally (t : Tally) (o : Outcome) : Type 0 where
-  pub rounds : o.rounds ≡ t.rounds
-  pub written : o.written ≡ t.written
-  pub delivered : o.delivered ≡ t.delivered
-
 pub record Closes (ending : Ending) (t : Tally) (before now : Option (List ℕ)) (o : Outcome) : Type 0 where
-  pub tally : HasTally t o
+  pub tally : tally_of o ≡ t
   pub text : ClosesAs ending before now o.end
-
--- The numbers of a tally are those of some rounds.
-pub record Tallies (ports : List Port) (lines : List RoundLine) (t : Tally) : Type 0 where
-  pub rounds : t.rounds ≡ length lines
-  pub written : t.written ≡ moved is_in ports lines
-  pub delivered : t.delivered ≡ moved is_out ports lines
 
 -- The line that stands next in a trace.
 abbrev pub next_text : List Port → List RoundLine → Ending → List ℕ
@@ -99,7 +91,7 @@ module _ {P : Type 0} (Suits : Choosing) (r : Rules P) (ports : List Port) (comp
     pub lines : List RoundLine
     pub run : IsRun Suits r components limit start lines ending
     pub text : Appended before now (trace_text ports lines ending)
-    pub counts : Counts ports lines o
+    pub counts : Counts ports lines (tally_of o)
 
   -- The sink has got a front of the trace, and not the whole: these round lines, and of the next line a part.
   pub record Cut (before now : Option (List ℕ)) (o : Outcome) : Type 0 where
@@ -109,14 +101,14 @@ module _ {P : Type 0} (Suits : Choosing) (r : Rules P) (ports : List Port) (comp
     pub between : Option (List ℕ)
     pub text : Appended before between (rounds_text ports lines)
     pub part : TookPart between now (next_text ports whole.rest whole.ending)
-    pub counts : Counts ports lines o
+    pub counts : Counts ports lines (tally_of o)
 
   -- The sink has got whole lines of the trace, in order and none skipped.
   pub record Kept (before now : Option (List ℕ)) (o : Outcome) : Type 0 where
     pub lines : List RoundLine
     pub whole : GoesOn Suits r components limit start lines
     pub text : Appended before now (rounds_text ports lines)
-    pub counts : Counts ports lines o
+    pub counts : Counts ports lines (tally_of o)
 
   -- So far: these round lines were made and written.
   pub record SoFar (before now : Option (List ℕ)) (turn : ℕ) (state : State P) (t : Tally) : Type 0 where
@@ -124,7 +116,7 @@ module _ {P : Type 0} (Suits : Choosing) (r : Rules P) (ports : List Port) (comp
     pub rounds : Rounds Suits r components limit 1 start lines state
     pub count : turn ≡ length lines + 1
     pub text : Appended before now (rounds_text ports lines)
-    pub tallies : Tallies ports lines t
+    pub counts : Counts ports lines t
 
   -- What a run has come to, by its end.
   abbrev pub ByEnd : Option (List ℕ) → Option (List ℕ) → Outcome → End2 → Type 0

@@ -6,8 +6,7 @@ ghost use Rattle.reo_script.specs.declared.script.Action.{Action as Done};
 ghost use Rattle.reo_script.specs.Actions.{action_at, all_done, beginnings, port_of, IsScriptFor};
 ghost use Rattle.reo_runner.specs.Round.{progress, advanced};
 
-use crate::offers::port_of;
-use reo_behaviour::{End, Mark, Ported};
+use reo_behaviour::{End, Ported};
 use reo_circuit::Circuit;
 use reo_script::Component;
 use reo_values::{List, NoMemory};
@@ -50,10 +49,10 @@ fn flows<P: Ported>(circuit: &Circuit<P>, rows: &[u32], component: &Component, p
         None => false,
         Some(action) => {
             let end = End {
-                primitive: port_of(action),
+                primitive: action.port(),
                 end: 0,
             };
-            matches!(circuit.mark_at(rows, end), Mark::F)
+            circuit.mark_at(rows, end).is_flow()
         }
     }
 }

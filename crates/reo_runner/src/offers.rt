@@ -4,7 +4,7 @@ ghost use Rattle.reo_behaviour.specs.Gate.{gate_at};
 ghost use Rattle.reo_behaviour.specs.Net.{net_of};
 ghost use Rattle.reo_behaviour.specs.Colouring.{IsColouring};
 ghost use Rattle.reo_behaviour.specs.Step.{change_at, stepped};
-ghost use Rattle.reo_script.specs.Actions.{port_of, offer_of, action_at, only_at, action_for, IsScriptFor};
+ghost use Rattle.reo_script.specs.Actions.{offer_of, action_at, only_at, action_for, IsScriptFor};
 ghost use Rattle.reo_runner.specs.Round.{rules_of, cleared, with_pending, ports_ready, IsTakenAt};
 
 use reo_behaviour::{Colouring, Offer, Ported};
@@ -13,22 +13,12 @@ use reo_script::{Action, Component};
 use reo_values::{NoMemory, copy};
 use std::alloc::Global;
 
-/// The port of an action.
-pub(crate) fn port_of(action: &Action) -> usize
-    ensures { result ≡ port_of action.now }
-{
-    match action {
-        Action::Write { port, .. } => *port,
-        Action::Take { port } => *port,
-    }
-}
-
 /// The action of a component that is at a port, if its present action is.
 fn present_at(component: &Component, place: usize, port: usize) -> Option<&Action>
     ensures { option_copied result ≡ only_at port (action_at component.entry.now place) }
 {
     let action = component.actions.get(place)?;
-    if port_of(action) == port {
+    if action.port() == port {
         Some(action)
     } else {
         None

@@ -1,7 +1,7 @@
 //! How runs come out.
 ghost use Rattle.std.specs.Prelude.{◌≡◌, ◌<◌, ◌≤◌, ◌+◌, ◌^◌, length};
 ghost use Rattle.std.specs.List.{count_by};
-ghost use Rattle.reo_runner.specs.Outcome.{HasTally, goes, way_at, is_in, is_out};
+ghost use Rattle.reo_runner.specs.Outcome.{tally_of, goes, way_at, is_in, is_out};
 
 use reo_behaviour::{Move, Ports, Way};
 
@@ -106,7 +106,7 @@ impl Tally {
     /// The outcome with this end and these numbers.
     pub(crate) fn outcome(self, end: End2) -> Outcome
         ensures end { result.end ≡ end }
-        ensures tally { HasTally self result }
+        ensures tally { tally_of result ≡ self }
     {
         Outcome {
             end,

@@ -1,4 +1,7 @@
 //! Scripts, components and actions.
+ghost use Rattle.std.specs.Prelude.{◌≡◌};
+ghost use Rattle.reo_script.specs.Actions.{port_of};
+
 use reo_values::{Bytes, List, Value};
 
 /// The components of a system, in the order of their text.
@@ -21,4 +24,16 @@ pub enum Action {
     Write { port: usize, item: Value },
     /// Offers to take an item, until one flows.
     Take { port: usize },
+}
+
+impl Action {
+    /// The port that it is at.
+    pub fn port(&self) -> usize
+        ensures { result ≡ port_of self.now }
+    {
+        match self {
+            Action::Write { port, .. } => *port,
+            Action::Take { port } => *port,
+        }
+    }
 }

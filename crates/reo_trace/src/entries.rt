@@ -1,13 +1,12 @@
 //! The line of a round.
 ghost use Rattle.std.specs.Prelude.{◌≡◌, ◌<◌, ◌+◌, IfOk, length, slice_index, slice_index_or};
 ghost use Rattle.reo_behaviour.specs.Colouring.{AreRows};
-ghost use Rattle.reo_behaviour.specs.Marks.{is_flow};
 ghost use Rattle.reo_behaviour.specs.Net.{all_sides, behaviour_at, first_side, net_of};
 ghost use Rattle.reo_behaviour.specs.declared.joint.Joint.{Joint as JointEnds};
 ghost use Rattle.reo_trace.specs.Entries.{cell_of, entries_of, entry_at, is_idle, is_still, line_for};
 
 use crate::{Cell, Entry, RoundLine};
-use reo_behaviour::{Joint, Mark, Move, Primitive};
+use reo_behaviour::{Joint, Move, Primitive};
 use reo_circuit::Circuit;
 use reo_values::{List, NoMemory, copy};
 use std::alloc::Global;
@@ -72,13 +71,6 @@ fn entries_of<P: Primitive>(
     Ok(entries)
 }
 
-/// Whether a mark is flow.
-fn is_flow(mark: Mark) -> bool
-    ensures { result ≡ is_flow mark }
-{
-    matches!(mark, Mark::F)
-}
-
 /// Whether neither end of a joint flows.
 #[tactic(auto, unfolding(crate::specs::Entries::is_still))]
 fn is_still<P: Primitive>(circuit: &Circuit<P>, rows: &[u32], index: usize) -> bool
@@ -88,7 +80,7 @@ fn is_still<P: Primitive>(circuit: &Circuit<P>, rows: &[u32], index: usize) -> b
 {
     circuit.known();
     let Joint { giver, taker } = circuit.joint(index);
-    !(is_flow(circuit.mark_at(rows, giver)) || is_flow(circuit.mark_at(rows, taker)))
+    !(circuit.mark_at(rows, giver).is_flow() || circuit.mark_at(rows, taker).is_flow())
 }
 
 /// Whether nothing flows.

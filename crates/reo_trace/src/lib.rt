@@ -15,6 +15,6 @@ mod write;
 
 pub use entries::line_of;
 pub use idle::idle_means_no_flow;
-pub use line::{Cell, Ending, Entry, RoundLine, Trace};
+pub use line::{Cell, Ending, Entry, RoundLine};
 pub use text::{ending_line_text, round_line_text};
 pub use write::{WriteFault, write_ending, write_round};

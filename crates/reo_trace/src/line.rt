@@ -43,10 +43,3 @@ pub enum Ending {
     /// So many rounds were made, and no more are allowed.
     Limit { rounds: u64 },
 }
-
-/// A whole run: its rounds in order, and how it ended.
-#[derive(Drop)]
-pub struct Trace {
-    pub rounds: List<RoundLine>,
-    pub ending: Ending,
-}

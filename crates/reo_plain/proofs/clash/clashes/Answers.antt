@@ -1,7 +1,7 @@
-use Rattle.std.proofs.Common.{◌≡◌, ◌+◌, ◌<◌, ℕ, List, length, get_or, sym, below_more, arith}
+use Rattle.std.proofs.Common.{ℕ, List, get_or, below_more, arith}
 use Rattle.std.proofs.Math.Seq.{take-length}
 use Rattle.reo_behaviour.specs.declared.joint.Joint.{Joint}
-use Rattle.reo_behaviour.specs.Net.{Net, net_of, all_sides}
+use Rattle.reo_behaviour.specs.Net.{Net, net_of}
 use Rattle.reo_behaviour.specs.Colouring.{JointMatches}
 use Rattle.reo_laws.proofs.Sides.{side_in_range}
 use Rattle.reo_plain.specs.Begun.{Begins, IsChosen}

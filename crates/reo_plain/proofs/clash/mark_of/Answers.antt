@@ -1,5 +1,5 @@
-use Rattle.std.proofs.Common.{◌≡◌, ◌<◌, length, get_or, rules}
-use Rattle.reo_behaviour.specs.Net.{Net, net_of, no_side, side_at}
+use Rattle.std.proofs.Common.{◌<◌, length}
+use Rattle.reo_behaviour.specs.Net.{no_side}
 use Rattle.reo_plain.proofs.clash.mark_of.Goals as goal
 
 pub mark-requires-clause-row : goal.mark-requires-clause-row

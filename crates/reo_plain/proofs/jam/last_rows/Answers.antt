@@ -1,4 +1,4 @@
-use Rattle.std.proofs.Common.{◌≡◌, ◌∙◌, ◌-◌, ◌<◌, ℕ, List, length, map, get_or, arith}
+use Rattle.std.proofs.Common.{◌∙◌, ◌-◌, ◌<◌, ℕ, length, arith}
 use Rattle.std.proofs.lemmas.List.{take_more, length-map, get_or-map}
 use Rattle.reo_behaviour.specs.Net.{Net, Side, net_of, all_sides, row_count, no_side}
 use Rattle.reo_laws.specs.JamRows.{jam_rows}

@@ -1,4 +1,4 @@
-use Rattle.std.proofs.Common.{◌≡◌, ◌∙◌, ◌+◌, ◌<◌, ◌++◌, ◌∷◌, [], sym, ap, List, ℕ, length, take, get_or, arith}
+use Rattle.std.proofs.Common.{◌≡◌, ◌∙◌, ◌<◌, ◌++◌, ◌∷◌, [], ap, List, ℕ, length, arith}
 use Rattle.std.proofs.Math.Seq.{take-append_seam}
 use Rattle.reo_behaviour.specs.Net.{Net, net_of, all_sides, no_side}
 use Rattle.reo_laws.proofs.Sides.{row_below}

@@ -1,7 +1,7 @@
 use Rattle.std.proofs.Common.{◌≡◌, ◌≢◌, ◌<◌, ◌-◌, ℕ, List, Option, length, get_or}
 use Rattle.std.specs.declared.cmp.Ordering.TheVariants.{Less}
 use Rattle.reo_values.specs.declared.value.Value.{Value}
-use Rattle.reo_behaviour.specs.Net.{Net, net_of, all_sides}
+use Rattle.reo_behaviour.specs.Net.{net_of, all_sides}
 use Rattle.reo_behaviour.specs.Colouring.{IsColouring}
 use Rattle.reo_behaviour.specs.First.{order_of}
 use Rattle.reo_plain.specs.Begun.{Begins}

@@ -1,4 +1,3 @@
-use Rattle.std.proofs.Common.{◌≡◌, ◌∙◌, sym, ap, List, ℕ, length}
 use Rattle.reo_behaviour.specs.Net.{Net, net_of, all_sides}
 use Rattle.reo_behaviour.specs.First.{order_of}
 use Rattle.reo_laws.proofs.Sides.{rows_length}

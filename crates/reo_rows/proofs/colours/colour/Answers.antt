@@ -1,4 +1,4 @@
-use Rattle.std.proofs.Common.{◌≡◌, ◌∙◌, sym, ap, List, ℕ, Option}
+use Rattle.std.proofs.Common.{◌≡◌}
 use Rattle.reo_behaviour.specs.Net.{Net, net_of}
 use Rattle.reo_rows.specs.Filled.{AllFit}
 use Rattle.reo_rows.proofs.ItemLemmas.{filled_from}

@@ -1,4 +1,4 @@
-use Rattle.std.proofs.Common.{ℕ, ◌<◌, get_or, Option, None}
+use Rattle.std.proofs.Common.{ℕ, ◌<◌, get_or, None}
 use Rattle.reo_behaviour.specs.declared.joint.Joint.{Joint}
 use Rattle.reo_behaviour.specs.Net.{net_of}
 use Rattle.reo_behaviour.specs.Colouring.{ItemFits}

@@ -1,4 +1,4 @@
-use Rattle.std.proofs.Common.{◌≡◌, sym}
+use Rattle.std.proofs.Common.{sym}
 use Rattle.reo_behaviour.specs.Net.{Net, net_of, mark_at}
 use Rattle.reo_rows.proofs.ItemLemmas.{given_none, given_some}
 use Rattle.reo_rows.proofs.fits.is_given.Goals as goal

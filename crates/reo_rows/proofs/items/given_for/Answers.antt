@@ -1,8 +1,6 @@
-use Rattle.std.proofs.Common.{◌≡◌, ◌∙◌, ◌<◌, sym, ap, ℕ, List, Option, None, length, get_or, arith, refl}
+use Rattle.std.proofs.Common.{◌∙◌, sym}
 use Rattle.reo_behaviour.specs.Behaviour.{Behaviour}
-use Rattle.reo_behaviour.specs.Lawful.{GivesAt}
 use Rattle.reo_behaviour.specs.Net.{Net, net_of, behaviour_at, row_at, mark_at}
-use Rattle.reo_behaviour.specs.Colouring.{given_at}
 use Rattle.reo_laws.proofs.Sides.{gives_at}
 use Rattle.reo_rows.proofs.ItemLemmas.{given_none, given_some}
 use Rattle.reo_rows.proofs.items.given_for.Goals as goal

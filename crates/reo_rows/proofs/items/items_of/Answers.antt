@@ -1,8 +1,6 @@
-use Rattle.std.proofs.Common.{◌≡◌, ◌∙◌, ◌<◌, sym, ap, ℕ, List, Option, length, get_or, set, refl, arith}
+use Rattle.std.proofs.Common.{◌≡◌, ◌∙◌, ◌<◌, sym, ℕ, List, length, get_or, refl, arith}
 use Rattle.std.proofs.lemmas.List.{length-set}
 use Rattle.reo_behaviour.specs.Net.{Net, net_of}
-use Rattle.reo_behaviour.specs.Colouring.{IsFilled}
-use Rattle.reo_rows.specs.Filled.{AreFilledBefore}
 use Rattle.reo_rows.proofs.ItemLemmas.{filled_more, filled_all, filled_one}
 use Rattle.reo_rows.proofs.items.items_of.Goals as goal
 

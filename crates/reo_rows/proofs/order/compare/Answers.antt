@@ -1,6 +1,4 @@
-use Rattle.std.proofs.Common.{◌≡◌, ◌∙◌, sym, List, ℕ, ◌<◌, length, arith, ap, drop}
-use Rattle.std.specs.Cmp.Lexicographic.{slice_cmp}
-use Rattle.std.specs.Ordering.{nat_cmp}
+use Rattle.std.proofs.Common.{◌≡◌, ◌∙◌, sym, List, ℕ, ◌<◌, length, arith}
 use Rattle.reo_behaviour.specs.Net.{Net, net_of, all_sides, no_side}
 use Rattle.reo_behaviour.specs.First.{key_at, positions, order_of}
 use Rattle.reo_laws.proofs.Sides.{rows_length}

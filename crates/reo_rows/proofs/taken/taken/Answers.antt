@@ -1,4 +1,4 @@
-use Rattle.std.proofs.Common.{◌≡◌, ◌∙◌, sym}
+use Rattle.std.proofs.Common.{◌∙◌, sym}
 use Rattle.reo_behaviour.specs.declared.joint.Joint.{Joint}
 use Rattle.reo_rows.proofs.ItemLemmas.{taken_from}
 use Rattle.reo_rows.proofs.taken.taken.Goals as goal

@@ -68,10 +68,10 @@ returns-in-Some-clause-came g c =
     let round : RoundOf IsFirst r cs c.loop-made.turn now made.line next = rw c.as_slice-now.ensures at c.in-Ok.ensures.round in
     let written = rw c.as_slice.ensures at c.after-tally.ensures.written in
     let delivered = rw c.as_slice.ensures at c.after-tally.ensures.delivered in
-    let tallies = tally_more ports c.loop-made.invariant.so_far.lines made.line c.loop-made.tally c.after-tally.result c.loop-made.invariant.so_far.tallies c.after-tally.ensures.rounds written delivered in
+    let counts = tally_more ports c.loop-made.invariant.so_far.lines made.line c.loop-made.tally c.after-tally.result c.loop-made.invariant.so_far.counts c.after-tally.ensures.rounds written delivered in
     let ending = rw c.as_slice-in-loop-made.ensures at c.ending_after-ends.ensures in
     ended IsFirst r ports cs c.args.limit (start_of c.args.circuit cs) _ _ _ _ c.loop-made.turn now made.line next c.in-Some.ending c.close.result c.loop-made.tally c.after-tally.result c.loop-made.invariant.begun
-    c.loop-made.invariant.so_far round c.in-Ok.ensures.text tallies (sym ending ∙ c.in-Some.is) c.close.ensures.text
+    c.loop-made.invariant.so_far round c.in-Ok.ensures.text counts (sym ending ∙ c.in-Some.is) c.close.ensures.text
 
 pub loop-made-preserved : goal.loop-made-preserved
 loop-made-preserved g c =
@@ -86,13 +86,13 @@ loop-made-preserved g c =
     let few : length made.line.moves ≤ c.args.circuit.ports = omega (arith, c.in-Ok.ensures.few, c.loop-made.invariant.ports) in
     let written = rw c.as_slice.ensures at c.after-tally.ensures.written in
     let delivered = rw c.as_slice.ensures at c.after-tally.ensures.delivered in
-    let tallies = tally_more ports c.loop-made.invariant.so_far.lines made.line c.loop-made.tally c.after-tally.result c.loop-made.invariant.so_far.tallies c.after-tally.ensures.rounds written delivered in
+    let counts = tally_more ports c.loop-made.invariant.so_far.lines made.line c.loop-made.tally c.after-tally.result c.loop-made.invariant.so_far.counts c.after-tally.ensures.rounds written delivered in
     let ending = rw c.as_slice-in-loop-made.ensures at c.ending_after-ends.ensures in
     let none = is_none c.ending_after-ends.result c.in_default.not-Some in
     let most_in : count_by (goes is_in ports) made.line.moves ≤ length made.line.moves = count_by-le-length (goes is_in ports) made.line.moves in
     let most_out : count_by (goes is_out ports) made.line.moves ≤ length made.line.moves = count_by-le-length (goes is_out ports) made.line.moves in
     record {
-      so_far = so_far_more IsFirst r ports cs c.args.limit (start_of c.args.circuit cs) _ _ _ turn now made.line next c.loop-made.tally c.after-tally.result c.loop-made.invariant.so_far round c.in-Ok.ensures.text (sym ending ∙ none) tallies;
+      so_far = so_far_more IsFirst r ports cs c.args.limit (start_of c.args.circuit cs) _ _ _ turn now made.line next c.loop-made.tally c.after-tally.result c.loop-made.invariant.so_far round c.in-Ok.ensures.text (sym ending ∙ none) counts;
       script = c.in-Ok.ensures.script;
       ports = c.in-Ok.ensures.ports ∙ c.loop-made.invariant.ports;
       same = c.in-Ok.ensures.one_each;
