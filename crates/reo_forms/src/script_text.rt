@@ -3,22 +3,13 @@ ghost use Rattle.std.specs.Prelude.{◌≡◌, ◌++◌, ◌↔◌, IsTrue, IfOk
 ghost use Rattle.std.specs.List.{flat_map};
 ghost use Rattle.reo_values.specs.ItemText.{text_of};
 ghost use Rattle.reo_values.specs.declared.kindred.Kindred.TheVariants.{Int as IntOf};
-ghost use Rattle.std.specs.Fmt.{signed_decimal};
 ghost use Rattle.reo_forms.specs.Listed.{IsText};
 ghost use Rattle.reo_forms.specs.ScriptForm.{name_text, item_at_text, action_text, component_text, script_text, IsScriptText};
 
 use crate::Parameter;
 use reo_script::{Action, Component};
-use reo_values::{Bytes, NoMemory, Value, number_text};
+use reo_values::{Bytes, NoMemory, Value, append_number};
 use std::alloc::Global;
-
-// The decimal text of a number.
-fn append_number(alloc: Global, out: &mut Bytes, number: i64) -> Result<(), NoMemory>
-    ensures { OnOk result (out.new ≡ out.old ++ signed_decimal number) }
-{
-    let text = number_text(alloc, number)?;
-    out.append(text.as_slice())
-}
 
 fn name_at(parameters: &[Parameter], port: usize) -> &[u8]
     ensures { result.now ≡ name_text (slice_get parameters.now port) }

@@ -25,7 +25,7 @@ impl SureFiles {
 }
 
 impl Files for SureFiles {
-    ghost use Rattle.reo_io.specs.Fetches.{Fetches, Holds};
+    ghost use Rattle.reo_io.specs.Fetches.{Fetches, Holds, failed_after};
     ghost use Rattle.reo_io.specs.Sure.{sure_files};
     ghost use Rattle.std.specs.Prelude.{[], Some};
 
@@ -39,7 +39,15 @@ impl Files for SureFiles {
         name: &[u8],
         limit: usize,
         room: &mut Bytes,
-    ) -> Result<(), FetchFault> {
+    ) -> Result<(), FetchFault>
+        requires empty { room.old ≡ [] }
+        requires small { limit < 2 ^ 32 }
+        ensures size { Holds limit room.new result }
+        ensures bytes { Fetches (Some (sure_files self.old)) name.now limit room.new result }
+        ensures cause { [] ≡ failed_after [] name.now result }
+        ensures told_same { Some (sure_files self.new) ≡ Some (sure_files self.old) }
+        ensures sure { IsErrOf result FetchFault.Failed → ⊥ }
+    {
         match find_file(self.files.as_slice(), name) {
             Some(bytes) => give(bytes.as_slice(), limit, room),
             None => Ok(()),

@@ -2,8 +2,8 @@
 ghost use Rattle.std.specs.Prelude.{◌≢◌};
 
 use crate::reo;
-use crate::top::Status;
 use crate::tests::{GIVE, ONE, answer, calls, named, words};
+use crate::top::Status;
 use reo_io::{MemoryFiles, MemorySink, MemorySource, SureFiles, SureSink, SureSource};
 use reo_values::{Bytes, List, NoMemory};
 use std::alloc::Global;

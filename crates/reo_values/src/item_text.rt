@@ -1,38 +1,10 @@
 //! The text of an item.
 ghost use Rattle.std.specs.Prelude.{◌≡◌, ◌++◌, IfOk, OnOk};
-ghost use Rattle.std.specs.List.{flat_map};
-ghost use Rattle.std.specs.Fmt.{signed_decimal};
-ghost use Rattle.reo_values.specs.ItemText.{escape, quoted, text_of};
+ghost use Rattle.reo_values.specs.ItemText.{text_of};
 
-use crate::{Bytes, Kindred, NoMemory, Value, number_text};
+use crate::append::{append_number, append_quoted};
+use crate::{Bytes, Kindred, NoMemory, Value};
 use std::alloc::Global;
-
-fn append_escaped(out: &mut Bytes, bytes: &[u8]) -> Result<(), NoMemory>
-    ensures { OnOk result (out.new ≡ out.old ++ flat_map escape bytes.now) }
-{
-    for byte in bytes {
-        if *byte == b'"' || *byte == b'\\' {
-            out.push(b'\\')?;
-        }
-        out.push(*byte)?;
-    }
-    Ok(())
-}
-
-fn append_quoted(out: &mut Bytes, bytes: &[u8]) -> Result<(), NoMemory>
-    ensures { OnOk result (out.new ≡ out.old ++ quoted bytes.now) }
-{
-    out.push(b'"')?;
-    append_escaped(out, bytes)?;
-    out.push(b'"')
-}
-
-fn append_number(alloc: Global, out: &mut Bytes, number: i64) -> Result<(), NoMemory>
-    ensures { OnOk result (out.new ≡ out.old ++ signed_decimal number) }
-{
-    let text = number_text(alloc, number)?;
-    out.append(text.as_slice())
-}
 
 fn append_text(
     alloc: Global,

@@ -3,7 +3,7 @@ ghost use Rattle.std.specs.Prelude.{◌≡◌, ◌↔◌, IfOk, IsTrue};
 ghost use Rattle.std.specs.List.{All};
 ghost use Rattle.reo_values.specs.Kind.{IsIn, IsPlain};
 
-use crate::{Boxed, Bytes, List, NoMemory, Value};
+use crate::{Boxed, Bytes, Copies, List, NoMemory, Value};
 use std::alloc::Global;
 
 /// A type of items.
@@ -32,6 +32,7 @@ pub struct Twins {
     pub right: Kindred,
 }
 
+/// Whether all bytes are from the space to the tilde.
 pub fn all_plain(bytes: &[u8]) -> bool
     ensures { IsTrue result ↔ All IsPlain bytes.now }
 {
@@ -58,16 +59,6 @@ pub fn is_in(item: &Value, kindred: &Kindred) -> bool
     }
 }
 
-fn copy_names(alloc: Global, names: &List<Bytes>) -> Result<List<Bytes>, NoMemory>
-    ensures { IfOk result (λ made. made ≡ names.now) }
-{
-    let mut made = List::new(alloc);
-    for name in names.as_slice() {
-        made.push(name.copy(alloc)?)?;
-    }
-    Ok(made)
-}
-
 /// An equal type. `NoMemory` is want of memory.
 pub fn copy_kindred(alloc: Global, kindred: &Kindred) -> Result<Kindred, NoMemory>
     ensures { IfOk result (λ made. made ≡ kindred.now) }
@@ -76,7 +67,7 @@ pub fn copy_kindred(alloc: Global, kindred: &Kindred) -> Result<Kindred, NoMemor
         Kindred::Unit => Ok(Kindred::Unit),
         Kindred::Bool => Ok(Kindred::Bool),
         Kindred::Int(low, high) => Ok(Kindred::Int(*low, *high)),
-        Kindred::Sym(names) => Ok(Kindred::Sym(copy_names(alloc, names)?)),
+        Kindred::Sym(names) => Ok(Kindred::Sym(names.copied(alloc)?)),
         Kindred::Text(most) => Ok(Kindred::Text(*most)),
         Kindred::Pair(twins) => {
             let twins = twins.get();

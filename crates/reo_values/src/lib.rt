@@ -5,6 +5,7 @@
 //! program can tell apart, and never of addresses.
 #![tactic(auto)]
 
+mod append;
 mod boxed;
 mod bytes;
 mod copies;
@@ -21,6 +22,7 @@ mod reading;
 mod valid;
 mod value;
 
+pub use append::{append_number, append_quoted};
 pub use boxed::Boxed;
 pub use bytes::Bytes;
 pub use copies::Copies;
