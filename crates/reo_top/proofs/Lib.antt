@@ -5,3 +5,4 @@ pub mod StageLemmas
 pub mod StatusLemmas
 pub mod ReadLemmas
 pub mod BlameLemmas
+pub mod GrowthLemmas

@@ -69,6 +69,10 @@ IsLine line status bytes code = (bytes ≡ line) × (code ≡ status)
 abbrev pub Refuses : List ℕ → ℕ → Option (List ℕ) → Option (List ℕ) → ℕ → ℕ → ℕ → Type 0
 Refuses line status before now was is code = ((code ≡ status) × Appended before now line) ⊎ ((code ≡ 9) × TookPart before now line × Rose was is)
 
+-- What the sink told before still stands first in what it tells.
+abbrev pub Grew : Option (List ℕ) → Option (List ℕ) → Type 0
+Grew before now = (bytes : List ℕ) × Appended before now bytes
+
 -- What a call that reports want of memory has come to.
 abbrev pub Wants : Option (List ℕ) → Option (List ℕ) → ℕ → ℕ → ℕ → Type 0
 Wants before now was is code = (code ≡ 10) × SaysWant before now was is

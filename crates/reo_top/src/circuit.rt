@@ -2,6 +2,7 @@
 ghost use Rattle.std.specs.Prelude.{◌≡◌, ◌≤◌, IfSome, IsTrue};
 ghost use Rattle.reo_io.specs.Causes.{Rose};
 ghost use Rattle.reo_io.specs.Fetches.{file_of};
+ghost use Rattle.reo_top.specs.Cases.{Grew};
 ghost use Rattle.reo_top.specs.Statuses.{is_print_status};
 ghost use Rattle.reo_top.specs.Texts.{content_of};
 ghost use Rattle.reo_top.specs.Circuits.{IsReadAs, IsReadOnlyAs, IsRefusedWith, missed_after};
@@ -58,6 +59,7 @@ pub(crate) fn read_program<F: Files>(
 pub(crate) fn refuse_circuit<S: Sink>(alloc: Global, fault: CircuitFault, out: &mut S) -> Status
     ensures refused { IsRefusedWith fault (S.told out.old) (S.told out.new) (S.faults out.old) (S.faults out.new) result.code }
     ensures status { IsTrue (is_print_status result.code) }
+    ensures grew { Grew (S.told out.old) (S.told out.new) }
     ensures later { S.faults out.old ≤ S.faults out.new }
     ensures rose { result.code ≡ 9 → Rose (S.faults out.old) (S.faults out.new) }
     ensures missed { result.code ≡ 3 → fault ≡ CircuitFault.Failed }

@@ -3,7 +3,7 @@ ghost use Rattle.std.specs.Prelude.{◌≡◌, ◌≤◌, IfSome, IsTrue};
 ghost use Rattle.reo_io.specs.Causes.{Rose};
 ghost use Rattle.reo_io.specs.Fetches.{file_of};
 ghost use Rattle.reo_top.specs.Blame.{BlamesOfPrint};
-ghost use Rattle.reo_top.specs.Cases.{Cases, IsExact};
+ghost use Rattle.reo_top.specs.Cases.{Cases, IsExact, Grew};
 ghost use Rattle.reo_top.specs.Statuses.{is_print_status};
 ghost use Rattle.reo_top.specs.Texts.{content_of};
 ghost use Rattle.reo_top.specs.Whole.{print_owed};
@@ -27,6 +27,7 @@ pub(crate) fn print_circuit<F: Files, S: Sink>(
     ensures exact { IfSome (F.told files.old) (λ folder. IsExact (print_owed (Missed (F.failed files.old) (F.failed files.new) name.now) (content_of (file_of folder name.now))) (S.told out.old) (S.told out.new) result.code) }
     ensures told { F.told files.new ≡ F.told files.old }
     ensures status { IsTrue (is_print_status result.code) }
+    ensures grew { Grew (S.told out.old) (S.told out.new) }
     ensures later { S.faults out.old ≤ S.faults out.new }
     ensures rose { result.code ≡ 9 → Rose (S.faults out.old) (S.faults out.new) }
     ensures missed { BlamesOfPrint (F.failed files.old) (F.failed files.new) (S.told out.old) (S.told out.new) (S.faults out.old) (S.faults out.new) result.code name.now }

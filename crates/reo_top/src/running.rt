@@ -5,7 +5,7 @@ ghost use Rattle.reo_forms.specs.CircuitForm.{IsPlainest};
 ghost use Rattle.reo_forms.specs.ScriptForm.{IsPlainScript};
 ghost use Rattle.reo_io.specs.Causes.{Rose};
 ghost use Rattle.reo_top.specs.Blame.{MissedNone, BlamesScript, BlamesOfRun};
-ghost use Rattle.reo_top.specs.Cases.{Cases, IsExact};
+ghost use Rattle.reo_top.specs.Cases.{Cases, IsExact, Grew};
 ghost use Rattle.reo_top.specs.Statuses.{is_run_status};
 ghost use Rattle.reo_top.specs.Texts.{content_of};
 ghost use Rattle.reo_top.specs.Whole.{run_owed, script_owed, shape_owed, both_owed};
@@ -34,6 +34,7 @@ fn run_both<S: Sink>(alloc: Global, plainest: &Plainest, script: &Script, out: &
     ensures cases { Cases (run_owed plainest.now script.now.components) (S.told out.old) (S.told out.new) (S.faults out.old) (S.faults out.new) result.code }
     ensures exact { IsExact (run_owed plainest.now script.now.components) (S.told out.old) (S.told out.new) result.code }
     ensures status { IsTrue (is_run_status result.code) }
+    ensures grew { Grew (S.told out.old) (S.told out.new) }
     ensures later { S.faults out.old ≤ S.faults out.new }
     ensures rose { result.code ≡ 9 → Rose (S.faults out.old) (S.faults out.new) }
     ensures fetched { result.code ≢ 3 }
@@ -68,6 +69,7 @@ fn run_script<F: Files, S: Sink>(
     ensures exact { IfSome (F.told files.old) (λ folder. IsExact (script_owed (Missed (F.failed files.old) (F.failed files.new) name.now) plainest.now (content_of (file_of folder name.now))) (S.told out.old) (S.told out.new) result.code) }
     ensures told { F.told files.new ≡ F.told files.old }
     ensures status { IsTrue (is_run_status result.code) }
+    ensures grew { Grew (S.told out.old) (S.told out.new) }
     ensures later { S.faults out.old ≤ S.faults out.new }
     ensures rose { result.code ≡ 9 → Rose (S.faults out.old) (S.faults out.new) }
     ensures missed { MissedNone (F.failed files.old) (F.failed files.new) result.code ⊎ BlamesScript (F.failed files.old) (F.failed files.new) (S.told out.old) (S.told out.new) (S.faults out.old) (S.faults out.new) result.code name.now }
@@ -97,6 +99,7 @@ fn run_program<F: Files, S: Sink>(
     ensures exact { IfSome (F.told files.old) (λ folder. IsExact (shape_owed (Missed (F.failed files.old) (F.failed files.new) script.now) program.now (content_of (file_of folder script.now))) (S.told out.old) (S.told out.new) result.code) }
     ensures told { F.told files.new ≡ F.told files.old }
     ensures status { IsTrue (is_run_status result.code) }
+    ensures grew { Grew (S.told out.old) (S.told out.new) }
     ensures later { S.faults out.old ≤ S.faults out.new }
     ensures rose { result.code ≡ 9 → Rose (S.faults out.old) (S.faults out.new) }
     ensures missed { MissedNone (F.failed files.old) (F.failed files.new) result.code ⊎ BlamesScript (F.failed files.old) (F.failed files.new) (S.told out.old) (S.told out.new) (S.faults out.old) (S.faults out.new) result.code script.now }
@@ -120,6 +123,7 @@ pub(crate) fn run_circuit<F: Files, S: Sink>(
     ensures exact { IfSome (F.told files.old) (λ folder. IsExact (both_owed (Missed (F.failed files.old) (F.failed files.new) circuit.now) (Missed (F.failed files.old) (F.failed files.new) script.now) (content_of (file_of folder circuit.now)) (content_of (file_of folder script.now))) (S.told out.old) (S.told out.new) result.code) }
     ensures told { F.told files.new ≡ F.told files.old }
     ensures status { IsTrue (is_run_status result.code) }
+    ensures grew { Grew (S.told out.old) (S.told out.new) }
     ensures later { S.faults out.old ≤ S.faults out.new }
     ensures rose { result.code ≡ 9 → Rose (S.faults out.old) (S.faults out.new) }
     ensures missed { BlamesOfRun (F.failed files.old) (F.failed files.new) (S.told out.old) (S.told out.new) (S.faults out.old) (S.faults out.new) result.code circuit.now script.now }

@@ -2,7 +2,7 @@
 ghost use Rattle.std.specs.Prelude.{◌≡◌, ◌≤◌, ℕ, List as Items, [], length, slice_index_or, true, false, IfSome, codes};
 ghost use Rattle.reo_io.specs.Causes.{Rose};
 ghost use Rattle.reo_top.specs.Blame.{BlamesFor};
-ghost use Rattle.reo_top.specs.Cases.{Cases, IsExact, Refuses};
+ghost use Rattle.reo_top.specs.Cases.{Cases, IsExact, Refuses, Grew};
 ghost use Rattle.reo_top.specs.Headline.{Headline};
 ghost use Rattle.reo_top.specs.Statuses.{IsStatusFor};
 ghost use Rattle.reo_top.specs.Whole.{command_owed};
@@ -76,6 +76,7 @@ pub fn reo<F: Files, R: Source, S: Sink>(
     ensures told { F.told files.new ≡ F.told files.old }
     ensures source { source.new ≡ source.old }
     ensures status { IsStatusFor words.now result.code }
+    ensures grew { Grew (S.told out.old) (S.told out.new) }
     ensures later { S.faults out.old ≤ S.faults out.new }
     ensures rose { result.code ≡ 9 → Rose (S.faults out.old) (S.faults out.new) }
     ensures refused { HasNoForm words.now → Refuses (codes "words refused\n") 2 (S.told out.old) (S.told out.new) (S.faults out.old) (S.faults out.new) result.code }
