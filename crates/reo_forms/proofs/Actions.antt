@@ -16,6 +16,7 @@ use Rattle.reo_forms.specs.declared.plainest.Parameter.{Parameter}
 use Rattle.reo_forms.specs.ScriptForm.{name_text, item_at_text, action_text, component_text, script_text, IsPortAction, IsPlainScript, IsScriptText}
 use Rattle.reo_forms.specs.Components.{IsPlainComponent}
 use Rattle.reo_forms.specs.Reading.{goes_on}
+use Rattle.reo_forms.proofs.RowTells.{joined_then}
 use Rattle.reo_forms.specs.Listed.{Each}
 
 pub write_parts : (ps : List Parameter) (port : ℕ) (p : Parameter) (item : Value) (rest : List ℕ) → slice_get ps port ≡ Some p → action_text ps (Write port item) ++ rest
@@ -68,7 +69,7 @@ no_text (value.Pair' m (value.more_of-Couple left right _)) low high other = ref
 -- The components that have no text are none.
 pub no_components : (ps : List Parameter) (cs : List Component) (rest left : List ℕ) → goes_on 10 left ≡ false → left ≡ script_text ps cs ++ rest → [] ≡ cs
 no_components ps [] rest left stopped e = refl
-no_components ps (c ∷ cs) rest left stopped e = absurd (let same : goes_on 10 left ≡ goes_on 10 (script_text ps (c ∷ cs) ++ rest) = ap (goes_on 10) e in cc)
+no_components ps (c ∷ cs) rest left stopped e = absurd (let e = e ∙ joined_then 32 (component_text ps) c cs rest in let same = ap (goes_on 10) e in cc)
 
 -- Components that have a text: the first, and the others.
 pub record IsFirst (ps : List Parameter) (left : List ℕ) (cs : List Component) (rest : List ℕ) : Type 0 where
@@ -89,7 +90,7 @@ some_component ps (c ∷ cs) rest left goes stops good e =
       whole = refl;
       good = good 0 c refl;
       good_others = λ i x h. good (suc i) x h;
-      text_is = e ∙ append_assoc (component_text ps c) (flat_map (λ d. codes " " ++ component_text ps d) cs) rest;
+      text_is = e ∙ joined_then 32 (component_text ps) c cs rest;
     }
 
 -- A text of a script is the script's text and a rest at which the components end.

@@ -21,7 +21,7 @@ use Rattle.reo_forms.specs.Parameters.{AreDifferent}
 use Rattle.reo_forms.proofs.Numerals.{space_ends, semicolon_ends}
 use Rattle.reo_forms.proofs.Eachs.{one_at}
 use Rattle.reo_forms.proofs.Actions.{write_parts, take_parts, component_parts, action_goes, script_front, plain_components}
-use Rattle.reo_forms.proofs.RowTells.{Tells, row_tells, listed_tells}
+use Rattle.reo_forms.proofs.RowTells.{Tells, row_tells, joined_tells}
 use Rattle.reo_forms.proofs.WordTells.{name_tells, number_tells, low_fits, high_fits}
 
 -- The text of an item tells the item.
@@ -85,6 +85,6 @@ module _ (ps : List Parameter) (different : AreDifferent ps) (each : Each IsPara
   script_tells text cs ds says_c says_d =
       let f = script_front text ps cs says_c.text_is in
       let g = script_front text ps ds says_d.text_is in
-      let same = listed_tells (IsPlainComponent ps) 10 (component_text ps) (codes " ") (λ c rest h. refl) (λ c rest h. refl)
+      let same = joined_tells (IsPlainComponent ps) 10 (component_text ps) 32 (λ c rest h. refl) (λ c rest h. refl)
       component_tells next_component_tells cs ds f.0 g.0 (plain_components ps cs says_c.plain) (plain_components ps ds says_d.plain) f.2 g.2 (sym f.1 ∙ g.1) in
       same.0

@@ -1,11 +1,5 @@
--- Texts in a row, with a text between each two.
+-- What is said of lists and of bytes.
 use Rattle.std.specs.Prelude.{ℕ, ◌<◌, ◌≤◌, ◌≡◌, ◌⊎◌, length, slice_get, Some, List, [], ◌∷◌, ◌++◌}
-use Rattle.std.specs.List.{flat_map}
-
--- The text of the first thing, and then before each further one the text that stands between.
-abbrev pub listed : {X : Type 0} → List ℕ → (X → List ℕ) → List X → List ℕ
-listed between text [] = []
-listed between text (x ∷ xs) = text x ++ flat_map (λ y. between ++ text y) xs
 
 -- A byte that is a lower-case letter.
 abbrev pub IsLetter : ℕ → Type 0

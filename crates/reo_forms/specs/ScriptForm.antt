@@ -1,6 +1,6 @@
 -- The plainest scripts, and their texts.
-use Rattle.std.specs.Prelude.{ℕ, ◌≡◌, List, [], ◌∷◌, ◌++◌, codes, slice_get, Some, Option, None}
-use Rattle.std.specs.List.{flat_map}
+use Rattle.std.specs.Prelude.{ℕ, ◌≡◌, List, [], ◌∷◌, ◌++◌, codes, slice_get, map, Some, Option, None}
+use Rattle.std.specs.List.{flat_map, join_with_byte}
 use Rattle.reo_values.specs.declared.value.Value.{Value}
 use Rattle.reo_values.specs.declared.kindred.Kindred.TheVariants as kinds
 use Rattle.reo_values.specs.Kind.{IsIn}
@@ -11,7 +11,7 @@ use Rattle.reo_script.specs.declared.script.Action.TheVariants.{Write, Take}
 use Rattle.reo_script.specs.declared.script.Component.{Component}
 use Rattle.reo_script.specs.Actions.{AreApart}
 use Rattle.reo_forms.specs.declared.plainest.Parameter.{Parameter}
-use Rattle.reo_forms.specs.Listed.{listed, IsLetter, IsText}
+use Rattle.reo_forms.specs.Listed.{IsLetter, IsText}
 
 -- The name of a port.
 abbrev pub name_text : Option Parameter → List ℕ
@@ -32,7 +32,7 @@ component_text parameters c = codes "component " ++ (c.name ++ (codes " { " ++ (
 
 -- The text of a script: its components with a space between.
 abbrev pub script_text : List Parameter → List Component → List ℕ
-script_text parameters components = listed (codes " ") (component_text parameters) components
+script_text parameters components = join_with_byte 32 (map (component_text parameters) components)
 
 -- An action at a port of its way: an item of the port's type is written at an `in` port, and an `out` port is taken from.
 abbrev pub IsPortAction : List Parameter → Action → Type 0

@@ -98,9 +98,25 @@ pub fn alone(alloc: Global, connector: Connector) -> Result<Program, NoMemory> {
     Ok(Program { declarations })
 }
 
+/// What the shape of a circuit of these ports and channels is read as.
+fn shown_of(
+    alloc: Global,
+    ports: &[(bool, &[u8], i64, i64)],
+    channels: &[(&[u8], &[u8])],
+) -> Result<String, Fail> {
+    let program = alone(alloc, connector(alloc, MAIN, ports, channels)?)?;
+    shown(alloc, &program)
+}
+
 #[test]
 fn shapes_are_found(rt: HostRuntime) -> Result<(), Fail> {
     let alloc = rt.alloc();
+    let four = [
+        (IN, A, 7, 7),
+        (IN, AB, 7, 7),
+        (OUT, B, 7, 7),
+        (OUT, C, 7, 7),
+    ];
     for (ports, channels, want) in [
         (
             [(IN, A, 0, 9), (OUT, B, 0, 9)].as_slice(),
@@ -113,29 +129,24 @@ fn shapes_are_found(rt: HostRuntime) -> Result<(), Fail> {
             ">_Left_0123456789 -1000000000:0 <ab -1000000000:0 ab-_Left_0123456789 ",
         ),
         (
-            [
-                (IN, A, 7, 7),
-                (IN, AB, 7, 7),
-                (OUT, B, 7, 7),
-                (OUT, C, 7, 7),
-            ]
-            .as_slice(),
+            four.as_slice(),
             [(AB, B), (A, C)].as_slice(),
             "<a 7:7 <ab 7:7 >b 7:7 >c 7:7 ab-b a-c ",
         ),
-        (
-            [(IN, A, 9, 0), (OUT, B, 9, 0)].as_slice(),
-            [(A, B)].as_slice(),
-            "no",
-        ),
-        (
-            [(IN, A, 0, 9), (OUT, B, 0, 8)].as_slice(),
-            [(A, B)].as_slice(),
-            "no",
-        ),
     ] {
-        let program = alone(alloc, connector(alloc, MAIN, ports, channels)?)?;
-        assert_eq!(rt; shown(alloc, &program)?.as_str(), want);
+        assert_eq!(rt; shown_of(alloc, ports, channels)?.as_str(), want);
+    }
+    Ok(())
+}
+
+#[test]
+fn other_bounds_have_no_shape(rt: HostRuntime) -> Result<(), Fail> {
+    let alloc = rt.alloc();
+    for ports in [
+        [(IN, A, 9, 0), (OUT, B, 9, 0)],
+        [(IN, A, 0, 9), (OUT, B, 0, 8)],
+    ] {
+        assert_eq!(rt; shown_of(alloc, &ports, &[(A, B)])?.as_str(), "no");
     }
     Ok(())
 }
@@ -144,18 +155,18 @@ fn shapes_are_found(rt: HostRuntime) -> Result<(), Fail> {
 /// from these sources to these sinks.
 fn small(
     alloc: Global,
-    ways: &[u8],
-    names: &[u8],
-    sources: &[u8],
-    sinks: &[u8],
+    ways: &str,
+    names: &str,
+    sources: &str,
+    sinks: &str,
 ) -> Result<Program, NoMemory> {
     let mut made = connector(alloc, MAIN, &[], &[])?;
-    for (way, name) in ways.iter().zip(names) {
+    for (way, name) in ways.as_bytes().iter().zip(names.as_bytes()) {
         let kind = Kind::Int(0, 9);
         made.parameters
             .push(written(alloc, *way == b'<', &[*name], kind)?)?;
     }
-    for (source, sink) in sources.iter().zip(sinks) {
+    for (source, sink) in sources.as_bytes().iter().zip(sinks.as_bytes()) {
         made.items
             .push(item(alloc, Channel::Sync, &[*source], &[*sink])?)?;
     }
@@ -166,97 +177,19 @@ fn small(
 fn other_circuits_have_no_shape(rt: HostRuntime) -> Result<(), Fail> {
     let alloc = rt.alloc();
     for (ways, names, sources, sinks, want) in [
-        (
-            b"<>".as_slice(),
-            b"ab".as_slice(),
-            b"a".as_slice(),
-            b"b".as_slice(),
-            "<a 0:9 >b 0:9 a-b ",
-        ),
-        (
-            b"".as_slice(),
-            b"".as_slice(),
-            b"".as_slice(),
-            b"".as_slice(),
-            "no",
-        ),
-        (
-            b"<>".as_slice(),
-            b"ab".as_slice(),
-            b"".as_slice(),
-            b"".as_slice(),
-            "no",
-        ),
-        (
-            b"".as_slice(),
-            b"".as_slice(),
-            b"a".as_slice(),
-            b"b".as_slice(),
-            "no",
-        ),
-        (
-            b"<>".as_slice(),
-            b"aa".as_slice(),
-            b"a".as_slice(),
-            b"a".as_slice(),
-            "no",
-        ),
-        (
-            b"<>".as_slice(),
-            b"a1".as_slice(),
-            b"a".as_slice(),
-            b"1".as_slice(),
-            "no",
-        ),
-        (
-            b"<<".as_slice(),
-            b"ab".as_slice(),
-            b"a".as_slice(),
-            b"b".as_slice(),
-            "no",
-        ),
-        (
-            b"><".as_slice(),
-            b"ab".as_slice(),
-            b"a".as_slice(),
-            b"b".as_slice(),
-            "no",
-        ),
-        (
-            b"<>".as_slice(),
-            b"ab".as_slice(),
-            b"a".as_slice(),
-            b"c".as_slice(),
-            "no",
-        ),
-        (
-            b"<>".as_slice(),
-            b"ab".as_slice(),
-            b"aa".as_slice(),
-            b"bb".as_slice(),
-            "no",
-        ),
-        (
-            b"<><>".as_slice(),
-            b"abcd".as_slice(),
-            b"a".as_slice(),
-            b"b".as_slice(),
-            "no",
-        ),
-        (
-            b"<<>".as_slice(),
-            b"acb".as_slice(),
-            b"ac".as_slice(),
-            b"cb".as_slice(),
-            "no",
-        ),
-        (
-            b"<><><><><>".as_slice(),
-            b"abcdefghij".as_slice(),
-            b"acegi".as_slice(),
-            b"bdfhj".as_slice(),
-            "no",
-        ),
+        ("<>", "ab", "a", "b", "<a 0:9 >b 0:9 a-b "),
+        ("", "", "", "", "no"),
+        ("<>", "ab", "", "", "no"),
+        ("", "", "a", "b", "no"),
+        ("<>", "aa", "a", "a", "no"),
+        ("<>", "a1", "a", "1", "no"),
+        ("<<", "ab", "a", "b", "no"),
+        ("><", "ab", "a", "b", "no"),
+        ("<>", "ab", "a", "c", "no"),
+        ("<>", "ab", "aa", "bb", "no"),
+        ("<><>", "abcd", "a", "b", "no"),
+        ("<<>", "acb", "ac", "cb", "no"),
+        ("<><><><><>", "abcdefghij", "acegi", "bdfhj", "no"),
     ] {
         let program = small(alloc, ways, names, sources, sinks)?;
         assert_eq!(rt; shown(alloc, &program)?.as_str(), want);
