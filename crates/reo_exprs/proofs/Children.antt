@@ -18,12 +18,14 @@ use Rattle.reo_exprs.proofs.Options.{from_and_then}
 use Rattle.reo_exprs.proofs.Trees.{type-One, type-Two, type-If}
 
 module _ (e : Expr) (of : Kindred) (typed : IsTyped e of) where
+  -- the operand of an operator is typed
   pub typed_operand : (op : Unary) (x : Expr) → e ≡ exprs.One op x → IsTyped x of
   typed_operand op x p =
       let told : type_of_expr (exprs.One op x) of ≡ Some typed.0 = sym (ap (λ f. type_of_expr f of) p) ∙ typed.1 in
       let h = from_and_then (λ a. unary_within op a) (type_of_expr x of) typed.0 (sym (type-One op x of) ∙ told) in
       (h.0, h.1)
 
+  -- and so are two
   pub typed_operands : (op : Binary) (p : ExprPair) → e ≡ exprs.Two op p → IsTyped p.left of × IsTyped p.right of
   typed_operands op p q =
       let told : type_of_expr (exprs.Two op p) of ≡ Some typed.0 = sym (ap (λ f. type_of_expr f of) q) ∙ typed.1 in
@@ -31,6 +33,7 @@ module _ (e : Expr) (of : Kindred) (typed : IsTyped e of) where
       let g = from_and_then (λ b. binary_within op h.0 b) (type_of_expr p.right of) typed.0 h.2 in
       ((h.0, h.1), (g.0, g.1))
 
+  -- and the parts of an `if`
   pub typed_parts : (p : ExprTriple) → e ≡ exprs.If p → IsTyped p.condition of × IsTyped p.yes of × IsTyped p.no of
   typed_parts p q =
       let told : type_of_expr (exprs.If p) of ≡ Some typed.0 = sym (ap (λ f. type_of_expr f of) q) ∙ typed.1 in

@@ -34,7 +34,7 @@ use Rattle.reo_exprs.proofs.Lies.{Lies, lies_in, in_lies, Lies-Pair, pair_lies, 
 use Rattle.reo_exprs.proofs.NearType.{type_near, number_near}
 
 module _ (S : Type 0) where
-  -- what an item of a type of numbers, or of texts, has
+  -- an item of a type of numbers has its number in the interval
   pub number_in : (v : Value) (x : Interval) → Lies S v (int_type x) → (x.low ≤ℤ number v) × (number v ≤ℤ x.high)
   number_in value.Unit x h = absurd h
   number_in (value.Bool b) x h = absurd h
@@ -43,6 +43,7 @@ module _ (S : Type 0) where
   number_in (value.Text bytes) x h = absurd h
   number_in (value.Pair' m (value.more_of-Couple l r _)) x h = absurd h
 
+  -- an item of a type of texts is no longer than they are
   bytes_in : (v : Value) (n : ℕ) → Lies S v (kinds.Text n) → length (bytes_of v) ≤ n
   bytes_in value.Unit n h = absurd h
   bytes_in (value.Bool b) n h = absurd h
@@ -51,10 +52,12 @@ module _ (S : Type 0) where
   bytes_in (value.Text bytes) n h = h.0
   bytes_in (value.Pair' m (value.more_of-Couple l r _)) n h = absurd h
 
+  -- a truth value is of the type of truth values
   bool_in : (b : Bool) (t : Kindred) → kinds.Bool ≡ t → Lies S (values.Bool b) t
   bool_in b t e = subst (λ k. Lies S (values.Bool b) k) e tt
 
   module _ (v w : Value) (a b : Kindred) (p : Lies S v a) (q : Lies S w b) where
+    -- a number that lies in the interval of an operator is of its type
     two_in : (f : Interval → Interval → Interval) (z : ℤ) (t : Kindred) → on_numbers (λ x y. int_type (f x y)) a b ≡ Some t
         → ((x y : Interval) → b ≡ int_type y → (x.low ≤ℤ number v) → (number v ≤ℤ x.high) → (y.low ≤ℤ number w) → (number w ≤ℤ y.high) → ((f x y).low ≤ℤ z) × (z ≤ℤ (f x y).high))
         → Lies S (values.Int z) t
@@ -64,13 +67,15 @@ module _ (S : Type 0) where
         let right = number_in w h.1 (subst (λ k. Lies S w k) h.3 q) in
         subst (λ k. Lies S (values.Int z) k) h.4 (has h.0 h.1 h.3 left.0 left.1 right.0 right.1)
 
+    -- a comparison of numbers is a truth value
     truths_in : (c : Bool) (t : Kindred) → on_numbers (λ x y. kinds.Bool) a b ≡ Some t → Lies S (values.Bool c) t
     truths_in c t e = let h = from_numbers (λ x y. kinds.Bool) a b t e in bool_in c t h.4
 
+    -- a type of divisors has none below 1
     positive : (y : Interval) → b ≡ int_type y → is_positive b ≡ true → pos 1 ≤ℤ y.low
     positive y e h = let g = from_both (int_le (pos 1) y.low) (int_le (pos 1) y.high) (sym (ap is_positive e) ∙ h) in grind (arith, ints)
 
-    -- the value of an operator is of its type
+    -- the value of an operator with two operands is of its type
     binary_in : (op : Binary) (t : Kindred) → may_stand_right op b ≡ true → binary_type op a b ≡ Some t → Lies S (binary_value op v w) t
     binary_in binary.Or t f e = bool_in (truth v || truth w) t (from_provided (is_bool a && is_bool b) kinds.Bool t e).1
     binary_in binary.And t f e = bool_in (truth v && truth w) t (from_provided (is_bool a && is_bool b) kinds.Bool t e).1
@@ -90,6 +95,7 @@ module _ (S : Type 0) where
         let twins : Twins = record { left = a; right = b } in
         subst (λ k. Lies S (values.Pair pair) k) (some_same (kinds.Pair twins) t e) (rw (Lies-Pair S pair twins) (p, q))
 
+  -- and so is that of an operator with one
   unary_in : (op : Unary) (v : Value) (a t : Kindred) → Lies S v a → unary_type op a ≡ Some t → Lies S (unary_value op v) t
   unary_in unary.Not v a t p e = bool_in (not (truth v)) t (from_provided (is_bool a) kinds.Bool t e).1
   unary_in unary.Minus v a t p e =
@@ -109,16 +115,19 @@ module _ (S : Type 0) where
       let n = bytes_in v h.0 (subst (λ k. Lies S v k) (is_text a h.0 h.1) p) in
       subst (λ k. Lies S (values.Int (pos (length (bytes_of v)))) k) h.2 (omega (arith, ints), omega (arith, ints))
 
+  -- a choice between two items of a type is of the type
   chosen : (c : Bool) (v w : Value) (t : Kindred) → Lies S v t → Lies S w t → Lies S (if c then v else w) t
   chosen true v w t p q = p
   chosen false v w t p q = q
 
+  -- a choice is of the join of the two types
   if_in : (c : Bool) (v w : Value) (k a b t : Kindred) → Lies S v a → Lies S w b → if_type k a b ≡ Some t → Lies S (if c then v else w) t
   if_in c v w k a b t p q e =
       let h = from_provided (is_bool k && joins a b) (join_of a b) t e in
       let j = (from_both (is_bool k) (joins a b) h.0).1 in
       subst (λ u. Lies S (if c then v else w) u) h.1 (chosen c v w (join_of a b) (lies_inside S a (join_of a b) v (left_inside a b j) p) (lies_inside S b (join_of a b) w (right_inside a b j) q))
 
+  -- a number is of the type of itself alone
   int_in : (z : ℤ) → Lies S (values.Int z) (kinds.Int z z)
   int_in z = (omega (arith, ints), omega (arith, ints))
 

@@ -28,7 +28,7 @@ Lies S (value.Pair' m (value.more_of-Couple x y _)) (kindred.Pair' n (kindred.mo
 Lies S _ _ = ⊥
 
 module _ (S : Type 0) where
-  -- as it is of the type, and the other way round where S holds
+  -- what is of a type lies in it
   pub lies_in : (v : Value) (t : Kindred) → IsIn v t → Lies S v t
   lies_in value.Unit kindred.Unit h = h
   lies_in value.Unit kindred.Bool h = absurd h
@@ -67,6 +67,7 @@ module _ (S : Type 0) where
   lies_in (value.Pair' m (value.more_of-Couple x y value.end_of-Couple)) (kindred.Text most) h = absurd h
   lies_in (value.Pair' m (value.more_of-Couple x y value.end_of-Couple)) (kindred.Pair' n (kindred.more_of-Twins a b kindred.end_of-Twins)) h = (lies_in x a h.0, lies_in y b h.1)
 
+  -- and the other way round where S holds
   pub in_lies : S → (v : Value) (t : Kindred) → Lies S v t → IsIn v t
   in_lies p value.Unit kindred.Unit h = h
   in_lies p value.Unit kindred.Bool h = absurd h
@@ -105,10 +106,12 @@ module _ (S : Type 0) where
   in_lies p (value.Pair' m (value.more_of-Couple x y value.end_of-Couple)) (kindred.Text most) h = absurd h
   in_lies p (value.Pair' m (value.more_of-Couple x y value.end_of-Couple)) (kindred.Pair' n (kindred.more_of-Twins a b kindred.end_of-Twins)) h = (in_lies p x a h.0, in_lies p y b h.1)
 
+  -- a pair lies in a type of pairs where its parts lie in the parts
   pub Lies-Pair : (x : Couple) (y : Twins) → Lies S (values.Pair x) (kinds.Pair y) ≡ (Lies S x.left y.left × Lies S x.right y.right)
   unfolding hidden-the_row-Couple-0 hidden hidden-the_row-Twins-0
   Lies-Pair x y = refl
 
+  -- and what lies in a type of pairs is a pair of such parts
   pub pair_lies : (y : Twins) (v : Value) → Lies S v (kinds.Pair y) → (x : Couple) × (v ≡ values.Pair x) × Lies S x.left y.left × Lies S x.right y.right
   unfolding hidden-the_row-Couple-0 hidden hidden-the_row-Twins-0
   pair_lies y value.Unit h = absurd h
@@ -118,7 +121,7 @@ module _ (S : Type 0) where
   pair_lies y (value.Text bytes) h = absurd h
   pair_lies y (value.Pair' m (value.more_of-Couple l r value.end_of-Couple)) h = (record { left = l; right = r }, refl, h.0, h.1)
 
-  -- an item of a type is of each type that this lies inside
+  -- what lies in a type lies in each that this lies inside
   pub lies_inside : (s t : Kindred) (v : Value) → LiesInside s t → Lies S v s → Lies S v t
   lies_inside kindred.Unit kindred.Unit value.Unit l h = h
   lies_inside kindred.Unit kindred.Unit (value.Bool q) l h = absurd h

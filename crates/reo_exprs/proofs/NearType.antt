@@ -45,10 +45,12 @@ type_near (expr.If' m' (expr.more_of-ExprTriple c x y _)) of t e =
     let j = from_and_then within (if_type f.0 h.0 g.0) t g.2 in
     (from_within j.0 t j.2).0
 
+-- a number between near ones is near
 near_between : (a z b : ℤ) → a ≤ℤ z → z ≤ℤ b → is_near a ≡ true → is_near b ≡ true → is_near z ≡ true
 near_between a z b h g e f = grind (arith, ints)
 
 module _ (S : Type 0) where
+  -- and so is one of a type whose intervals are near
   near_in : (z : ℤ) (k : Kindred) → Lies S (values.Int z) k → is_within k ≡ true → is_near z ≡ true
   near_in z kindred.Unit h e = absurd h
   near_in z kindred.Bool h e = absurd h

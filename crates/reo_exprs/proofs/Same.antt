@@ -13,24 +13,31 @@ use Rattle.reo_values.proofs.Pairs.{Pair_of-equal}
 use Rattle.reo_exprs.specs.Valued.{same_value}
 use Rattle.reo_exprs.proofs.Options.{from_both}
 
+-- bytes that the test finds equal are the same
 bytes_told : (xs ys : List ℕ) → bytes_eq xs ys ≡ true → xs ≡ ys
 bytes_told xs ys e = let d = bytes_eq-Decides xs ys in grind arith
 
+-- and it finds the same ones equal
 bytes_same : (xs : List ℕ) → bytes_eq xs xs ≡ true
 bytes_same xs = let d = bytes_eq-Decides xs xs in grind arith
 
+-- integers that the test finds equal are the same
 int_told : (a c : ℤ) → int_eq a c ≡ true → a ≡ c
 int_told a c e = let d = Decides-int_eq a c in grind arith
 
+-- and it finds the same ones equal
 int_same : (a : ℤ) → int_eq a a ≡ true
 int_same a = let d = Decides-int_eq a a in grind arith
 
+-- numbers from 0 that the test finds equal are the same
 nat_told : (a c : ℕ) → (a == c) ≡ true → a ≡ c
 nat_told a c e = grind arith
 
+-- and it finds the same ones equal
 nat_same : (a : ℕ) → (a == a) ≡ true
 nat_same a = grind arith
 
+-- items that the test finds equal are the same
 pub same_true : (v w : Value) → same_value v w ≡ true → v ≡ w
 unfolding hidden-the_row-Couple-0 hidden
 same_true value.Unit value.Unit e = refl
@@ -83,6 +90,7 @@ same_true (value.Pair' m (value.more_of-Couple a b value.end_of-Couple)) (value.
 same_true (value.Pair' m (value.more_of-Couple a b value.end_of-Couple)) (value.Text c) e = absurd (cc)
 same_true (value.Pair' m (value.more_of-Couple a b value.end_of-Couple)) (value.Pair' n (value.more_of-Couple c d value.end_of-Couple)) e = let h = from_both (same_value a c) (same_value b d) e in Pair_of-equal (record { left = a; right = b }) (record { left = c; right = d }) (same_true a c h.0) (same_true b d h.1)
 
+-- and it finds an item equal to itself
 pub same_self : (v : Value) → same_value v v ≡ true
 unfolding hidden-the_row-Couple-0 hidden
 same_self value.Unit = refl
@@ -93,17 +101,20 @@ same_self (value.Sym a) = nat_same a
 same_self (value.Text a) = bytes_same a
 same_self (value.Pair' m (value.more_of-Couple a b value.end_of-Couple)) = (λ i. same_self a i && same_self b i)
 
+-- a test that cannot be true is false
 other : (b : Bool) → (b ≡ true → ⊥) → false ≡ b
 other true h = absurd (h refl)
 other false h = refl
 
--- an answer that is the test's
+-- an answer that is the test's tells whether two items are the same
 pub tells_same : (r : Bool) (v w : Value) → r ≡ same_value v w → IsTrue r ↔ (v ≡ w)
 tells_same r v w e = (λ h. same_true v w (sym e ∙ h), λ p. e ∙ ap (λ u. same_value u w) p ∙ same_self w)
 
+-- an answer that tells this is the test's
 pub test_told : (r : Bool) (v w : Value) → IsTrue r ↔ (v ≡ w) → r ≡ same_value v w
 test_told true v w h = sym (ap (λ u. same_value u w) (h.0 refl) ∙ same_self w)
 test_told false v w h = other (same_value v w) (λ e. let n : false ≡ true = h.1 (same_true v w e) in absurd (cc))
 
+-- the test gives the same either way round
 pub same_flip : (v w : Value) → same_value v w ≡ same_value w v
 same_flip v w = test_told (same_value v w) w v (λ h. sym (same_true v w h), λ p. ap (λ u. same_value v u) p ∙ same_self v)

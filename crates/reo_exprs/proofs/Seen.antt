@@ -35,13 +35,15 @@ use Rattle.reo_exprs.proofs.Shapes.{from_numbers}
 use Rattle.reo_exprs.proofs.Trees.{type-Two, value-Two, work-One, work-Two, work-If}
 use Rattle.reo_exprs.proofs.Twinned.{same-Pair, same_Pair-other}
 
--- the work in the parts of an expression is less
+-- the work in an expression with one operand is that in the operand, and 2
 pub one_work : (e : Expr) (op : Unary) (x : Expr) → e ≡ exprs.One op x → work e ≡ work x + 2
 one_work e op x p = ap work p ∙ work-One op x
 
+-- in one with two it is that in both, and 3
 pub two_work : (e : Expr) (op : Binary) (p : ExprPair) → e ≡ exprs.Two op p → work e ≡ work p.left + work p.right + 3
 two_work e op p is = ap work is ∙ work-Two op p
 
+-- and in an `if` that in its three parts, and 3
 pub if_work : (e : Expr) (p : ExprTriple) → e ≡ exprs.If p → work e ≡ work p.condition + work p.yes + work p.no + 3
 if_work e p is = ap work is ∙ work-If p
 
@@ -63,17 +65,19 @@ by_numbers binary.Div x y a b c d e = refl
 by_numbers binary.Rem x y a b c d e = refl
 by_numbers binary.Pair x y a b c d e = absurd (e refl)
 
--- two items are equal where the test says so
+-- the test finds a truth value equal to itself
 same_is : (b : Bool) → same_value (values.Bool b) (values.Bool b) ≡ true
 same_is true = refl
 same_is false = refl
 
+-- a number of an interval of divisors may be a divisor
 positive_number : (low high n : ℤ) → is_positive (kinds.Int low high) ≡ true → low ≤ℤ n → is_positive (kinds.Int n n) ≡ true
 positive_number low high n h g =
     let b = from_both (int_le (pos 1) low) (int_le (pos 1) high) h in
     let c : int_le (pos 1) n ≡ true = grind (arith, ints) in
     (λ i. c i && c i)
 
+-- and so a number of a type that may stand on the right may stand there itself
 right_fits : (op : Binary) (a b t : Kindred) (n : ℤ) → may_stand_right op b ≡ true → binary_type op a b ≡ Some t → ((y : Interval) → b ≡ int_type y → y.low ≤ℤ n)
     → may_stand_right op (kinds.Int n n) ≡ true
 right_fits binary.Or a b t n f e h = refl
@@ -108,27 +112,33 @@ module _ (op : Binary) (p : ExprPair) (of : Kindred) (item : Value) (typed : IsT
   pub result_near : is_near (number (binary_value op (value_of_expr p.left item) (value_of_expr p.right item))) ≡ true
   result_near = sym (ap (λ v. is_near (number v)) (value-Two op p item)) ∙ near_value (exprs.Two op p) of typed item member
 
--- the parts of a pair of expressions that wait
+-- the parts of a pair of expressions that wait are typed
 pub waiting : (x : View) (p : (Bor ExprPair)) (of : Kindred) → x ≡ view.Pair p → AreTyped x of → IsTyped p.now.left of × IsTyped p.now.right of
 waiting x p of e h = subst (λ v. AreTyped v of) e h
 
+-- their work is that in both parts, and 3
 pub waiting_work : (x : View) (p : (Bor ExprPair)) → x ≡ view.Pair p → work_of_view x ≡ work p.now.left + work p.now.right + 3
 waiting_work x p e = ap work_of_view e
 
+-- the left part of their value is the value of the left one
 pub waiting_left : (x : View) (p : (Bor ExprPair)) (item : Value) → x ≡ view.Pair p → left_of (value_of_view x item) ≡ value_of_expr p.now.left item
 waiting_left x p item e = ap (λ v. left_of (value_of_view v item)) e ∙ left_of-Pair (record { left = value_of_expr p.now.left item; right = value_of_expr p.now.right item })
 
+-- and the right part that of the right one
 pub waiting_right : (x : View) (p : (Bor ExprPair)) (item : Value) → x ≡ view.Pair p → right_of (value_of_view x item) ≡ value_of_expr p.now.right item
 waiting_right x p item e = ap (λ v. right_of (value_of_view v item)) e ∙ right_of-Pair (record { left = value_of_expr p.now.left item; right = value_of_expr p.now.right item })
 
+-- they equal a pair where both parts do
 pub waiting_same : (x : View) (p : (Bor ExprPair)) (v : Value) (c : Couple) (item : Value) → x ≡ view.Pair p → v ≡ values.Pair c
     → same_value (value_of_view x item) v ≡ (same_value (value_of_expr p.now.left item) c.left && same_value (value_of_expr p.now.right item) c.right)
 waiting_same x p v c item e f =
     (λ i. same_value (value_of_view (e i) item) (f i)) ∙ same-Pair (record { left = value_of_expr p.now.left item; right = value_of_expr p.now.right item }) c
 
+-- they equal no item that is no pair
 pub waiting_other : (x : View) (p : (Bor ExprPair)) (v : Value) (item : Value) → x ≡ view.Pair p → ((c : Couple) → v ≡ values.Pair c → ⊥) → same_value (value_of_view x item) v ≡ false
 waiting_other x p v item e h = ap (λ w. same_value (value_of_view w item) v) e ∙ same_Pair-other (record { left = value_of_expr p.now.left item; right = value_of_expr p.now.right item }) v h
 
+-- and another pair that waits, where both parts do
 pub both_waiting : (x y : View) (p q : Bor ExprPair) (item : Value) → x ≡ view.Pair p → y ≡ view.Pair q
     → same_value (value_of_view x item) (value_of_view y item)
     ≡ (same_value (value_of_expr p.now.left item) (value_of_expr q.now.left item) && same_value (value_of_expr p.now.right item) (value_of_expr q.now.right item))
@@ -146,13 +156,15 @@ seen_pair (view.Text bytes) item m h c e = absurd (cc)
 seen_pair (view.Pair p) item m h c e = h p refl
 seen_pair (view.Item part) item m h c e = m
 
--- the parts of an item that is a pair
+-- the left part of an item that is a pair
 pub pair_left : (x : View) (part : Bor Value) (c : Couple) (item : Value) → x ≡ view.Item part → part.now ≡ values.Pair c → left_of (value_of_view x item) ≡ c.left
 pair_left x part c item e f = ap (λ v. left_of (value_of_view v item)) e ∙ ap left_of f ∙ left_of-Pair c
 
+-- and its right part
 pub pair_right : (x : View) (part : Bor Value) (c : Couple) (item : Value) → x ≡ view.Item part → part.now ≡ values.Pair c → right_of (value_of_view x item) ≡ c.right
 pair_right x part c item e f = ap (λ v. right_of (value_of_view v item)) e ∙ ap right_of f ∙ right_of-Pair c
 
+-- an item of the type of truth values is one
 bool_value : (v : Value) → Lies ⊥ v kinds.Bool → v ≡ values.Bool (truth v)
 bool_value value.Unit h = absurd h
 bool_value (value.Bool b) h = refl
@@ -165,6 +177,7 @@ bool_value (value.Pair' m (value.more_of-Couple l r _)) h = absurd h
 pub truth_told : (e : Expr) (of : Kindred) (item : Value) → type_of_expr e of ≡ Some kinds.Bool → IsIn item of → value_of_expr e item ≡ values.Bool (truth (value_of_expr e item))
 truth_told e of item h m = bool_value (value_of_expr e item) (value_in ⊥ e of kinds.Bool item (λ q. absurd q) h (lies_in ⊥ item of m))
 
+-- an item that is no pair is its own left part
 pub left_of-other : (v : Value) → ((c : Couple) → v ≡ values.Pair c → ⊥) → v ≡ left_of v
 unfolding hidden-the_row-Couple-0 hidden
 left_of-other value.Unit other = refl
@@ -174,6 +187,7 @@ left_of-other (value.Sym k) other = refl
 left_of-other (value.Text bytes) other = refl
 left_of-other (value.Pair' m (value.more_of-Couple l r value.end_of-Couple)) other = absurd (other (record { left = l; right = r }) refl)
 
+-- and its own right part
 pub right_of-other : (v : Value) → ((c : Couple) → v ≡ values.Pair c → ⊥) → v ≡ right_of v
 unfolding hidden-the_row-Couple-0 hidden
 right_of-other value.Unit other = refl
