@@ -15,7 +15,8 @@ use Rattle.reo_forms.proofs.Shapes.{shape_tells}
 use Rattle.reo_forms.proofs.ScriptTells.{script_tells}
 use Rattle.reo_build.specs.Flat.{ports_of}
 use Rattle.reo_runner.specs.declared.outcome.Outcome.{Outcome}
-use Rattle.reo_runner.specs.Outcome.{Ran}
+use Rattle.reo_runner.specs.declared.outcome.End2.{End2}
+use Rattle.reo_runner.specs.Outcome.{Ran, ByEnd}
 use Rattle.reo_runner.specs.Whole.{HasOneRun}
 use Rattle.reo_top.specs.Cases.{Owed, IsExact, Refuses}
 use Rattle.reo_trees.specs.declared.programs.Program.{Program}
@@ -39,6 +40,15 @@ ran_as c components one ending before now o ran = λ bytes status trace.
     let written : bytes ≡ trace_text (ports_of c) ran.lines ending =
     trace.bytes_are ∙ ap (λ (ls : List RoundLine). trace_text (ports_of c) ls trace.ending) same.0 ∙ ap (λ (e : Ending). trace_text (ports_of c) ran.lines e) same.1 in
     inl (sym (trace.status ∙ ap status_of same.1), subst (λ (z : List ℕ). Appended before now z) (sym written) ran.text)
+
+-- A run came to this ending, by its outcome.
+pub came_as : (c : Plainest) (components : List Component) → HasOneRun IsFirst kind_rules components most_rounds (start_for c components)
+    → (ending : Ending) (end : End2) (before now : Option (List ℕ)) (o : Outcome)
+    → (ByEnd IsFirst kind_rules (ports_of c) components most_rounds (start_for c components) before now o end → Ran IsFirst kind_rules (ports_of c) components most_rounds (start_for c components) ending before now o)
+    → o.end ≡ end → ByEnd IsFirst kind_rules (ports_of c) components most_rounds (start_for c components) before now o o.end
+    → IsExact (run_owed c components) before now (status_of ending)
+came_as c components one ending end before now o whole is came =
+    ran_as c components one ending before now o (whole (subst (λ (e : End2). ByEnd IsFirst kind_rules (ports_of c) components most_rounds (start_for c components) before now o e) is came))
 
 -- A script that was read.
 module _ (c : Plainest) (script : Content) where
