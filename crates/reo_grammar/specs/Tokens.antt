@@ -25,7 +25,7 @@ abbrev pub number_from : ℕ → List ℕ → ℕ
 number_from n [] = n
 number_from n (b ∷ bs) = number_from (n * 10 + (b - 48)) bs
 
--- A class of tokens: a word or sign, one of several, any token but a word or sign, names, the name of these bytes,
+-- A class of tokens: a word or sign, one of several, any token but one word or sign, names, the name of these bytes,
 -- numbers from the first to the second, texts.
 pub data Class : Type 0 where
   fixed : List ℕ → Class
