@@ -10,7 +10,7 @@ use Rattle.reo_grammar.specs.Tokens.{Lexeme, Class, matches, is_fixed, is_name, 
 use Rattle.reo_grammar.specs.Bytes.{and, or, is_not, one_of}
 use Rattle.reo_grammar.specs.Tokens.Class.{fixed, among, other, name, named, number, text}
 use Rattle.reo_grammar.specs.Grammar.{starts}
-use Rattle.reo_grammar.specs.Sight.{as_word, none_of, each_of, differ, apart, inside, matches_any, apart_from, all_apart, all_inside}
+use Rattle.reo_grammar.specs.Sight.{as_word, none_of, each_of, differ, apart, inside, apart_from, all_apart, all_inside}
 use Rattle.reo_grammar.proofs.Sound.{and-left, and-right, not-true, and-both}
 
 pub not-false : (b : Bool) → is_not b ≡ true → b ≡ false
@@ -192,6 +192,11 @@ inside-yes name (other b) t h p = of_kind t b (rw (of_name t p) refl)
 inside-yes text (other b) t h p = of_kind t b (rw (of_text t p) refl)
 inside-yes (number l m) (other b) t h p = of_kind t b (rw (of_number t l m p) refl)
 inside-yes _ _ t h p = absurd (cc)
+
+-- The token is of one of the classes.
+abbrev pub matches_any : List Class → Lexeme → Bool
+matches_any [] t = false
+matches_any (c ∷ cs) t = or (matches c t) (matches_any cs t)
 
 pub starts_of : (cs : List Class) (d : Class) (t : Lexeme) → all_inside cs d ≡ true → matches_any cs t ≡ true → matches d t ≡ true
 starts_of [] d t h p = absurd (cc)

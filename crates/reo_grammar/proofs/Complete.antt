@@ -3,12 +3,12 @@ use Rattle.std.proofs.Common.{◌≡◌, ℕ, zero, suc, ◌≤◌, ◌<◌, Boo
 use Rattle.reo_grammar.specs.Bytes.{and, is_not}
 use Rattle.reo_grammar.specs.Tokens.{Lexeme, Class, matches}
 use Rattle.reo_grammar.specs.Conditions.{is_nullable, is_productive}
-use Rattle.reo_grammar.specs.Sight.{matches_any, apart_from, all_apart, all_inside, firsts, mores, is_sighted}
+use Rattle.reo_grammar.specs.Sight.{apart_from, all_apart, all_inside, firsts, mores, is_sighted}
 use Rattle.reo_grammar.specs.Grammar.{Grammar, Outcome, Derives, Links, read, loop, then, starts, line_of}
 use Rattle.reo_grammar.specs.Grammar.Grammar.{nothing, token, both, made, either, chain, lined, rule}
 use Rattle.reo_grammar.specs.Grammar.Outcome.{got, bad, out}
 use Rattle.reo_grammar.proofs.Sound.{Good, Base, good, and-left, and-right, or-left, or-right, not-true, null, line_of-append}
-use Rattle.reo_grammar.proofs.Classes.{false-not, starts_of, apart_from-no, all_apart-no, matches_any-append}
+use Rattle.reo_grammar.proofs.Classes.{matches_any, false-not, starts_of, apart_from-no, all_apart-no, matches_any-append}
 
 -- Nothing of these classes stands next.
 abbrev pub Stops : List Class → List Lexeme → Type 0

@@ -2,7 +2,7 @@
 use Rattle.std.specs.Prelude.{ℕ, Bool, true, false, cond, List, [], ◌∷◌, ◌++◌, nat_le}
 use Rattle.std.specs.Str.{bytes_eq}
 use Rattle.reo_grammar.specs.declared.kind.TokenKind.TheVariants as kinds
-use Rattle.reo_grammar.specs.Bytes.{and, or, is_not}
+use Rattle.reo_grammar.specs.Bytes.{and, is_not}
 use Rattle.reo_grammar.specs.Tokens.{Lexeme, Class, matches}
 use Rattle.reo_grammar.specs.Tokens.Class.{fixed, among, other, name, named, number, text}
 use Rattle.reo_grammar.specs.Conditions.{is_nullable}
@@ -60,11 +60,6 @@ inside (named d) (other b) = true
 inside text (other b) = true
 inside (number l h) (other b) = true
 inside _ _ = false
-
--- The token is of one of the classes.
-abbrev pub matches_any : List Class → Lexeme → Bool
-matches_any [] t = false
-matches_any (c ∷ cs) t = or (matches c t) (matches_any cs t)
 
 abbrev pub apart_from : Class → List Class → Bool
 apart_from c [] = true

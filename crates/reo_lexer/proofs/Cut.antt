@@ -10,10 +10,18 @@ use Rattle.reo_grammar.proofs.Classes.{or-cases}
 use Rattle.reo_lexer.specs.Gaps.{is_no_lf}
 use Rattle.reo_lexer.specs.Faults.{ends}
 use Rattle.reo_lexer.specs.Lexing.{IsToken}
-use Rattle.reo_lexer.specs.Written.{is_cut}
 use Rattle.reo_lexer.proofs.Spelled.{one_of-passes, name-longest, number-longest, text-longest, reserved-spelled, not-yes, yes-not, never, letter-parts, digit-parts, quote-part, Longest}
 use Rattle.reo_lexer.proofs.Signs.{two-longest, one-longest, last-longest, too-long}
 use Rattle.reo_lexer.proofs.Fronts.{fronts}
+
+-- The next byte does not go on with a token of these bytes.
+abbrev pub is_cut : TokenKind → List ℕ → List ℕ → Bool
+is_cut k bytes [] = true
+is_cut kinds.Name bytes (b ∷ r) = is_not (is_name_byte b)
+is_cut kinds.Word bytes (b ∷ r) = is_not (is_name_byte b)
+is_cut kinds.Number bytes (b ∷ r) = is_not (is_digit b)
+is_cut kinds.Text bytes (b ∷ r) = true
+is_cut kinds.Sign bytes (b ∷ r) = is_not (one_of (bytes ++ b ∷ []) signs)
 
 name-cut : (k : TokenKind) (bytes rest : List ℕ) → is_spelled bytes ≡ true → ends is_name_byte rest ≡ true → Longest bytes rest
 name-cut k [] rest h e = absurd (cc)

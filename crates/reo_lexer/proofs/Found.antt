@@ -11,11 +11,11 @@ use Rattle.reo_grammar.proofs.Sound.{and-both, or-left}
 use Rattle.reo_lexer.specs.Gaps.{is_space}
 use Rattle.reo_lexer.specs.Lexing.{IsToken}
 use Rattle.reo_lexer.specs.Faults.{stops, is_break, is_wrong, BeginsNone, HasWrong, IsOpen, IsLong}
-use Rattle.reo_lexer.specs.Skipping.{past, inside, sign_size, IsFront}
+use Rattle.reo_lexer.specs.Skipping.{inside, sign_size, IsFront}
 use Rattle.reo_lexer.proofs.Quotes.{inside-goes, goes-closed, is_more}
 use Rattle.reo_lexer.proofs.Spelled.{name-longest, number-longest, text-longest, yes-not}
 use Rattle.reo_lexer.proofs.Signs.{sign-token, none-spelled}
-use Rattle.reo_lexer.proofs.Fronts.{take-cut, drop-cut, run-past}
+use Rattle.reo_lexer.proofs.Fronts.{past, take-cut, drop-cut, run-past}
 
 -- A front by its bytes and what is behind them.
 front-of : (k : TokenKind) (left bytes after : List ℕ) (n : ℕ) → left ≡ bytes ++ after → n ≡ length bytes → IsToken k bytes after → IsFront k n left

@@ -6,7 +6,6 @@ use Rattle.std.proofs.lemmas.List.Sums.{take_while-cons}
 use Rattle.reo_grammar.specs.Bytes.{each}
 use Rattle.reo_grammar.proofs.Sound.{and-both}
 use Rattle.reo_lexer.specs.Faults.{ends}
-use Rattle.reo_lexer.specs.Skipping.{past}
 
 drop-seam : (a b : List ℕ) → drop (length a) (a ++ b) ≡ b
 drop-seam [] b = refl
@@ -36,6 +35,11 @@ fronts (x ∷ a) b (y ∷ c) d e =
       | inl (m, q, r) ↦ inl (m, rw (p, q) refl, r)
       | inr (m, q, r) ↦ inr (m, rw (← p) (rw q refl), r)
     ]
+
+-- What is left behind the longest front of a class.
+abbrev pub past : (ℕ → Bool) → List ℕ → List ℕ
+past p [] = []
+past p (b ∷ bs) = cond (p b) (past p bs) (b ∷ bs)
 
 -- The longest front of a class, and what is behind it.
 pub run-past : (p : ℕ → Bool) (bs : List ℕ) → (bs ≡ take_while p bs ++ past p bs) × (each p (take_while p bs) ≡ true) × (ends p (past p bs) ≡ true)

@@ -17,11 +17,6 @@ behind true (b ∷ bs) = behind (is_no_lf b) bs
 behind false [] = []
 behind false (b ∷ bs) = cond (is_space b) (behind false bs) (cond (b == 35) (behind true bs) (b ∷ bs))
 
--- What is left behind the longest front of a class.
-abbrev pub past : (ℕ → Bool) → List ℕ → List ℕ
-past p [] = []
-past p (b ∷ bs) = cond (p b) (past p bs) (b ∷ bs)
-
 -- Where the inside of a text in quotes ends: what is left there, and whether a `\` stands before it. The flag says that one
 -- stands before the bytes.
 pub record Inside : Type 0 where

@@ -4,7 +4,7 @@ use Rattle.reo_values.specs.declared.operator.Binary.{Binary}
 use Rattle.reo_grammar.specs.Bytes.{is_not}
 use Rattle.reo_grammar.specs.Tokens.{Lexeme, Class}
 use Rattle.reo_grammar.specs.Tokens.Class.{fixed}
-use Rattle.reo_grammar.specs.Grammar.{read, reads, starts}
+use Rattle.reo_grammar.specs.Grammar.{Outcome, read, reads, loop, starts}
 use Rattle.reo_grammar.specs.Grammar.Grammar.{both, made}
 use Rattle.reo_grammar.specs.Grammar.Outcome.{got}
 use Rattle.reo_grammar.specs.Conditions.{is_productive, is_nullable}
@@ -16,7 +16,10 @@ use Rattle.reo_trees.specs.Forms.{FormOf, word, ◌▸◌, listed, further}
 use Rattle.reo_trees.specs.Operators.{Further, joined}
 use Rattle.reo_trees.specs.Rules.{circuit_rules}
 use Rattle.reo_trees.specs.Table.{circuit_sound}
-use Rattle.reo_parser.specs.Reading.{goes_on}
+
+-- Going on with further parts behind a first one.
+abbrev pub goes_on : {A B : Type 0} → (A → B → A) → Class → FormOf B → ℕ → A → List Lexeme → Outcome A
+goes_on f c h room x ts = loop f c (read (reads circuit_rules room) h) (length ts) x ts
 
 -- One turn more, from these tokens to those.
 abbrev pub Turns : {A B : Type 0} → (A → B → A) → Class → FormOf B → ℕ → A → B → List Lexeme → List Lexeme → Type 0

@@ -14,7 +14,7 @@ use Rattle.reo_grammar.proofs.Sound.{and-left, and-right}
 use Rattle.reo_grammar.proofs.Classes.{same_bytes}
 use Rattle.reo_lexer.specs.Gaps.{IsGap, is_space}
 use Rattle.reo_lexer.specs.Gaps.IsGap.{no_gap, space}
-use Rattle.reo_lexer.specs.Written.{is_cut}
+use Rattle.reo_lexer.proofs.Cut.{is_cut}
 use Rattle.reo_trees.specs.Forms.{Rule, tree_of, FormOf, word, name_form}
 use Rattle.reo_trees.specs.Rules.{circuit_rules}
 use Rattle.reo_syntax.proofs.Row.{Row, row-append, gap-row, token-row}

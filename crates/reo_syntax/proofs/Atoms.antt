@@ -11,7 +11,7 @@ use Rattle.reo_grammar.specs.Tokens.Class.{fixed, name, number}
 use Rattle.reo_grammar.specs.Grammar.Grammar.{rule}
 use Rattle.reo_grammar.proofs.Sound.{and-left}
 use Rattle.reo_grammar.proofs.Numbers.{real-number-below}
-use Rattle.reo_lexer.specs.Written.{is_cut}
+use Rattle.reo_lexer.proofs.Cut.{is_cut}
 use Rattle.reo_lexer.proofs.Spelled.{letter-parts, digit-parts, never, yes-not}
 use Rattle.reo_values.specs.declared.operator.Unary.{Unary}
 use Rattle.reo_values.specs.declared.operator.Unary.TheVariants as unaries

@@ -3,7 +3,7 @@ use Rattle.std.proofs.Common.{◌≡◌, ℕ, Bool, true, List, [], ◌∷◌, r
 use Rattle.reo_grammar.specs.declared.kind.TokenKind.TheVariants as kinds
 use Rattle.reo_grammar.specs.Bytes.{is_not, is_name_byte}
 use Rattle.reo_grammar.proofs.Sound.{and-left}
-use Rattle.reo_lexer.specs.Written.{is_cut}
+use Rattle.reo_lexer.proofs.Cut.{is_cut}
 use Rattle.reo_syntax.proofs.Row.{is_apart, apart-cut}
 
 pub minus-cut : (r : List ℕ) → is_cut kinds.Sign (codes "-") r ≡ true

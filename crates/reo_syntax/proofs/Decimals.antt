@@ -12,7 +12,7 @@ use Rattle.reo_grammar.specs.Tokens.Class.{number}
 use Rattle.reo_grammar.proofs.Sound.{and-left, and-right, and-both}
 use Rattle.reo_grammar.proofs.Numbers.{real-number-below}
 use Rattle.reo_lexer.specs.Gaps.{is_space}
-use Rattle.reo_lexer.specs.Written.{is_cut}
+use Rattle.reo_lexer.proofs.Cut.{is_cut}
 use Rattle.reo_trees.specs.Forms.{number_form}
 use Rattle.reo_syntax.proofs.Thin.{Even}
 use Rattle.reo_syntax.proofs.Again.{Out, out-made, out-token, even-other}

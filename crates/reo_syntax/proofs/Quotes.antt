@@ -11,7 +11,7 @@ use Rattle.reo_grammar.specs.Tokens.Class.{text}
 use Rattle.reo_grammar.proofs.Classes.{text-kind}
 use Rattle.reo_grammar.proofs.Sound.{and-left, and-right}
 use Rattle.reo_lexer.proofs.Spelled.{quote-part}
-use Rattle.reo_lexer.specs.Written.{is_cut}
+use Rattle.reo_lexer.proofs.Cut.{is_cut}
 use Rattle.reo_values.specs.ItemText.{escape, quoted}
 use Rattle.reo_trees.specs.Texts.{resolved, text_bytes}
 use Rattle.reo_trees.specs.Forms.{text_form}

@@ -10,7 +10,7 @@ use Rattle.reo_lexer.specs.declared.token.Token.{Token}
 use Rattle.reo_lexer.specs.Gaps.{IsGap, lines_in}
 use Rattle.reo_lexer.specs.Gaps.IsGap.{no_gap, space, comment}
 use Rattle.reo_lexer.specs.Lexing.{Leads, Runs, AtEnd, IsTokens, lexemes_of}
-use Rattle.reo_lexer.specs.Written.{is_cut}
+use Rattle.reo_lexer.proofs.Cut.{is_cut}
 use Rattle.reo_lexer.proofs.Spans.{lead-lies}
 use Rattle.reo_lexer.proofs.Spelled.{one_of-passes, not-yes, yes-not, never}
 use Rattle.reo_lexer.proofs.Cut.{cut-token}
