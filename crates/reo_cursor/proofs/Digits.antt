@@ -1,7 +1,8 @@
 -- Numbers read digit by digit.
 use Rattle.std.proofs.Common.{◌≡◌, ℕ, zero, suc, ◌+◌, ◌-◌, ◌*◌, ◌≤◌, ◌<◌, Bool, true, List, [], ◌∷◌, length, drop, get_or, refl, sym, ◌∙◌, arith, add-one, nat_le}
+use Rattle.std.specs.List.{list_all}
 use Rattle.std.proofs.lemmas.Bool.Decides.{nat_tests}
-use Rattle.reo_grammar.specs.Bytes.{is_digit, each}
+use Rattle.reo_grammar.specs.Bytes.{is_digit}
 use Rattle.reo_grammar.specs.Tokens.{number_from}
 use Rattle.reo_grammar.proofs.Sound.{and-left, and-right}
 
@@ -15,15 +16,15 @@ number-step n [] k d h = absurd (omega arith)
 number-step n (b ∷ bs) zero d h = refl
 number-step n (b ∷ bs) (suc k) d h = let i : k < length bs = omega arith in rw add-one (rw add-one at (number-step n bs k d i))
 
-pub each-at : (p : ℕ → Bool) (bs : List ℕ) (k : ℕ) (d : ℕ) → each p bs ≡ true → k < length bs → p (get_or bs k d) ≡ true
+pub each-at : (p : ℕ → Bool) (bs : List ℕ) (k : ℕ) (d : ℕ) → list_all p bs ≡ true → k < length bs → p (get_or bs k d) ≡ true
 each-at p [] k d e h = absurd (omega arith)
-each-at p (b ∷ bs) zero d e h = and-left (p b) (each p bs) e
-each-at p (b ∷ bs) (suc k) d e h = each-at p bs k d (and-right (p b) (each p bs) e) (omega arith)
+each-at p (b ∷ bs) zero d e h = and-left (p b) (list_all p bs) e
+each-at p (b ∷ bs) (suc k) d e h = each-at p bs k d (and-right (p b) (list_all p bs) e) (omega arith)
 
 pub digit-least : (b : ℕ) → is_digit b ≡ true → 48 ≤ b
 digit-least b h = let k : nat_le 48 b ≡ true = and-left (nat_le 48 b) (nat_le b 57) h in grind (arith, nat_tests)
 
-pub digit-at : (bs : List ℕ) (k : ℕ) (d : ℕ) → each is_digit bs ≡ true → k < length bs → 48 ≤ get_or bs k d
+pub digit-at : (bs : List ℕ) (k : ℕ) (d : ℕ) → list_all is_digit bs ≡ true → k < length bs → 48 ≤ get_or bs k d
 digit-at bs k d e h = digit-least (get_or bs k d) (each-at is_digit bs k d e h)
 
 -- A further digit keeps the number below 10 ^ 18, where the whole number is.

@@ -1,6 +1,7 @@
 //! What the bytes of numbers and texts stand for.
 ghost use Rattle.std.specs.Prelude.{◌≡◌, ◌<◌, ◌^◌, ◌≤◌, IfOk, length, true, false};
-ghost use Rattle.reo_grammar.specs.Bytes.{is_digit, each};
+ghost use Rattle.std.specs.List.{list_all};
+ghost use Rattle.reo_grammar.specs.Bytes.{is_digit};
 ghost use Rattle.reo_grammar.specs.Tokens.{number_from};
 ghost use Rattle.reo_trees.specs.Texts.{resolved, text_bytes};
 
@@ -9,7 +10,7 @@ use std::alloc::Global;
 
 /// The number of decimal digits.
 pub fn number_of(digits: &[u8]) -> u64
-    requires digits { each is_digit digits.now ≡ true }
+    requires digits { list_all is_digit digits.now ≡ true }
     requires short { number_from 0 digits.now < 10 ^ 18 }
     ensures { result ≡ number_from 0 digits.now }
 {

@@ -1,5 +1,5 @@
 -- Laws of the classes of tokens.
-use Rattle.std.proofs.Common.{◌≡◌, ℕ, Bool, true, false, List, [], ◌∷◌, ◌++◌, refl, sym, ◌∙◌, ap, arith, rules, nat_le}
+use Rattle.std.proofs.Common.{◌≡◌, ℕ, Bool, true, false, ◌&&◌, ◌||◌, not, List, [], ◌∷◌, ◌++◌, refl, sym, ◌∙◌, ap, arith, rules, nat_le}
 use Rattle.std.proofs.lemmas.Slice.Eq.{bytes_eq-Decides}
 use Rattle.std.specs.Str.{bytes_eq}
 use Rattle.std.specs.Bool.{Decides}
@@ -7,13 +7,13 @@ use Rattle.reo_grammar.specs.declared.kind.TokenKind.{TokenKind}
 use Rattle.reo_grammar.specs.declared.kind.TokenKind.TheVariants as kinds
 use Rattle.std.proofs.lemmas.Bool.Decides.{nat_tests}
 use Rattle.reo_grammar.specs.Tokens.{Lexeme, Class, matches, is_fixed, is_name, is_number, is_text}
-use Rattle.reo_grammar.specs.Bytes.{and, or, is_not, one_of}
+use Rattle.reo_grammar.specs.Bytes.{one_of}
 use Rattle.reo_grammar.specs.Tokens.Class.{fixed, among, other, name, named, number, text}
 use Rattle.reo_grammar.specs.Grammar.{starts}
-use Rattle.reo_grammar.specs.Sight.{as_word, none_of, each_of, differ, apart, inside, matches_any, apart_from, all_apart, all_inside}
+use Rattle.reo_grammar.specs.Sight.{as_word, none_of, each_of, differ, apart, inside, apart_from, all_apart, all_inside}
 use Rattle.reo_grammar.proofs.Sound.{and-left, and-right, not-true, and-both}
 
-pub not-false : (b : Bool) → is_not b ≡ true → b ≡ false
+pub not-false : (b : Bool) → not b ≡ true → b ≡ false
 not-false true h = absurd (cc)
 not-false false h = refl
 
@@ -25,7 +25,7 @@ pub no-both : (b : Bool) → b ≡ true → b ≡ false → ⊥
 no-both true h k = cc
 no-both false h k = cc
 
-pub or-cases : {P : Type 0} (a b : Bool) → or a b ≡ true → (a ≡ true → P) → (b ≡ true → P) → P
+pub or-cases : {P : Type 0} (a b : Bool) → (a || b) ≡ true → (a ≡ true → P) → (b ≡ true → P) → P
 or-cases true b h f g = f refl
 or-cases false b h f g = g h
 
@@ -122,7 +122,7 @@ differ-no text name t h p q = let a = of_name t q in let b = of_text t p in cc
 differ-no text (number l m) t h p q = let a = of_text t p in let b = of_number t l m q in cc
 differ-no _ _ t h p q = cc
 
-word-apart : (b : List ℕ) (d : Class) (t : Lexeme) → is_not (matches d (as_word b)) ≡ true → matches (fixed b) t ≡ true → matches d t ≡ true → ⊥
+word-apart : (b : List ℕ) (d : Class) (t : Lexeme) → not (matches d (as_word b)) ≡ true → matches (fixed b) t ≡ true → matches d t ≡ true → ⊥
 word-apart b d t h p q = not-true (matches d (as_word b)) h (sym (of_word t b d p) ∙ q)
 
 words-apart : (bs : List (List ℕ)) (d : Class) (t : Lexeme) → none_of d bs ≡ true → matches (among bs) t ≡ true → matches d t ≡ true → ⊥
@@ -174,7 +174,7 @@ of_kind t b h = rw h refl
 le_le : (a b c : ℕ) → nat_le a b ≡ true → nat_le b c ≡ true → nat_le a c ≡ true
 le_le a b c h k = grind (arith, nat_tests)
 
-between : (a b c d x : ℕ) → and (nat_le c a) (nat_le b d) ≡ true → and (nat_le a x) (nat_le x b) ≡ true → and (nat_le c x) (nat_le x d) ≡ true
+between : (a b c d x : ℕ) → (nat_le c a && nat_le b d) ≡ true → (nat_le a x && nat_le x b) ≡ true → (nat_le c x && nat_le x d) ≡ true
 between a b c d x h k = and-both _ _ (le_le c a x (and-left _ _ h) (and-left _ _ k)) (le_le x b d (and-right _ _ k) (and-right _ _ h))
 
 pub inside-yes : (c d : Class) (t : Lexeme) → inside c d ≡ true → matches c t ≡ true → matches d t ≡ true
@@ -193,6 +193,11 @@ inside-yes text (other b) t h p = of_kind t b (rw (of_text t p) refl)
 inside-yes (number l m) (other b) t h p = of_kind t b (rw (of_number t l m p) refl)
 inside-yes _ _ t h p = absurd (cc)
 
+-- The token is of one of the classes.
+abbrev pub matches_any : List Class → Lexeme → Bool
+matches_any [] t = false
+matches_any (c ∷ cs) t = matches c t || matches_any cs t
+
 pub starts_of : (cs : List Class) (d : Class) (t : Lexeme) → all_inside cs d ≡ true → matches_any cs t ≡ true → matches d t ≡ true
 starts_of [] d t h p = absurd (cc)
 starts_of (c ∷ cs) d t h p = or-cases (matches c t) (matches_any cs t) p (λ e. inside-yes c d t (and-left _ _ h) e) (λ e. starts_of cs d t (and-right _ _ h) e)
@@ -205,20 +210,20 @@ pub all_apart-no : (cs ds : List Class) (t : Lexeme) → all_apart cs ds ≡ tru
 all_apart-no [] ds t h p q = cc
 all_apart-no (c ∷ cs) ds t h p q = or-cases (matches c t) (matches_any cs t) p (λ e. apart_from-no c ds t (and-left _ _ h) e q) (λ e. all_apart-no cs ds t (and-right _ _ h) e q)
 
-or_assoc : (a b c : Bool) → or a (or b c) ≡ or (or a b) c
+or_assoc : (a b c : Bool) → (a || (b || c)) ≡ ((a || b) || c)
 or_assoc true b c = refl
 or_assoc false b c = refl
 
-pub matches_any-append : (cs ds : List Class) (t : Lexeme) → matches_any (cs ++ ds) t ≡ or (matches_any cs t) (matches_any ds t)
+pub matches_any-append : (cs ds : List Class) (t : Lexeme) → matches_any (cs ++ ds) t ≡ (matches_any cs t || matches_any ds t)
 matches_any-append [] ds t = refl
-matches_any-append (c ∷ cs) ds t = ap (λ b. or (matches c t) b) (matches_any-append cs ds t) ∙ or_assoc (matches c t) (matches_any cs t) (matches_any ds t)
+matches_any-append (c ∷ cs) ds t = ap (λ b. matches c t || b) (matches_any-append cs ds t) ∙ or_assoc (matches c t) (matches_any cs t) (matches_any ds t)
 
 -- The next token is one of several words where it is the first of them or one of the others.
-pub starts_among-cons : (b : List ℕ) (bs : List (List ℕ)) (ts : List Lexeme) → starts (among (b ∷ bs)) ts ≡ or (starts (fixed b) ts) (starts (among bs) ts)
+pub starts_among-cons : (b : List ℕ) (bs : List (List ℕ)) (ts : List Lexeme) → starts (among (b ∷ bs)) ts ≡ (starts (fixed b) ts || starts (among bs) ts)
 starts_among-cons b bs [] = refl
 starts_among-cons b bs (t ∷ ts) = and-or (is_fixed t.kind) (bytes_eq t.bytes b) (one_of t.bytes bs)
   where
-    and-or : (a b c : Bool) → and a (or b c) ≡ or (and a b) (and a c)
+    and-or : (a b c : Bool) → (a && (b || c)) ≡ ((a && b) || (a && c))
     and-or true b c = refl
     and-or false b c = refl
 
@@ -226,6 +231,6 @@ pub starts_among-nil : (ts : List Lexeme) → starts (among []) ts ≡ false
 starts_among-nil [] = refl
 starts_among-nil (t ∷ ts) = and-false (is_fixed t.kind)
   where
-    and-false : (a : Bool) → and a false ≡ false
+    and-false : (a : Bool) → (a && false) ≡ false
     and-false true = refl
     and-false false = refl

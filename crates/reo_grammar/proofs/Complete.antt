@@ -1,14 +1,13 @@
 -- What is derived is read again, whatever follows that does not go on with it.
-use Rattle.std.proofs.Common.{◌≡◌, ℕ, zero, suc, ◌≤◌, ◌<◌, Bool, true, false, cond, List, [], ◌∷◌, ◌++◌, length, ◌⊎◌, inl, inr, refl, sym, ◌∙◌, ap, append_assoc, arith, length-append}
-use Rattle.reo_grammar.specs.Bytes.{and, is_not}
+use Rattle.std.proofs.Common.{◌≡◌, ℕ, zero, suc, ◌≤◌, ◌<◌, Bool, true, false, ◌&&◌, not, cond, List, [], ◌∷◌, ◌++◌, length, ◌⊎◌, inl, inr, refl, sym, ◌∙◌, ap, append_assoc, arith, length-append}
 use Rattle.reo_grammar.specs.Tokens.{Lexeme, Class, matches}
 use Rattle.reo_grammar.specs.Conditions.{is_nullable, is_productive}
-use Rattle.reo_grammar.specs.Sight.{matches_any, apart_from, all_apart, all_inside, firsts, mores, is_sighted}
+use Rattle.reo_grammar.specs.Sight.{apart_from, all_apart, all_inside, firsts, mores, is_sighted}
 use Rattle.reo_grammar.specs.Grammar.{Grammar, Outcome, Derives, Links, read, loop, then, starts, line_of}
 use Rattle.reo_grammar.specs.Grammar.Grammar.{nothing, token, both, made, either, chain, lined, rule}
 use Rattle.reo_grammar.specs.Grammar.Outcome.{got, bad, out}
 use Rattle.reo_grammar.proofs.Sound.{Good, Base, good, and-left, and-right, or-left, or-right, not-true, null, line_of-append}
-use Rattle.reo_grammar.proofs.Classes.{false-not, starts_of, apart_from-no, all_apart-no, matches_any-append}
+use Rattle.reo_grammar.proofs.Classes.{matches_any, false-not, starts_of, apart_from-no, all_apart-no, matches_any-append}
 
 -- Nothing of these classes stands next.
 abbrev pub Stops : List Class → List Lexeme → Type 0
@@ -115,7 +114,7 @@ longer [] r ts e h = absurd (h refl)
 longer (t ∷ a) r ts e h = omega (arith, ap length e, length-append a r)
 
 -- A form that derives no empty list takes a token.
-pub shrinks : {Ref : Type 0} {tree : Ref → Type 0} {A : Type 0} (k : Base Ref tree) (g : Grammar Ref tree A) → is_productive g ≡ true → is_not (is_nullable g) ≡ true
+pub shrinks : {Ref : Type 0} {tree : Ref → Type 0} {A : Type 0} (k : Base Ref tree) (g : Grammar Ref tree A) → is_productive g ≡ true → not (is_nullable g) ≡ true
     → (ts : List Lexeme) (y : A) (r : List Lexeme) → read k.reader g ts ≡ got y r → length r < length ts
 shrinks k g p n ts y r e =
     let (a, w, d) = got-good (Derives k.derives g) ts (read k.reader g ts) y r (good k g p ts) e in
@@ -131,14 +130,14 @@ pub record Ready (Ref : Type 0) (tree : Ref → Type 0) : Type 1 where
   pub begins : (r : Ref) (ts : List Lexeme) (t : Lexeme) (us : List Lexeme) (x : tree r) → t ∷ us ≡ ts → given r ts x → matches_any (first r) t ≡ true
   pub complete : (r : Ref) (ts s : List Lexeme) (x : tree r) → given r ts x → Stops (more r) s → base.reader r (ts ++ s) ≡ got x s
 
-five : (a b c d e : Bool) → and a (and b (and c (and d e))) ≡ true → (a ≡ true) × (b ≡ true) × (c ≡ true) × (d ≡ true) × (e ≡ true)
+five : (a b c d e : Bool) → (a && (b && (c && (d && e)))) ≡ true → (a ≡ true) × (b ≡ true) × (c ≡ true) × (d ≡ true) × (e ≡ true)
 five true true true d e h = (refl, refl, refl, and-left _ _ h, and-right _ _ h)
 five false b c d e h = absurd (cc)
 five true false c d e h = absurd (cc)
 five true true false d e h = absurd (cc)
 
 module _ {Ref : Type 0} {tree : Ref → Type 0} (k : Ready Ref tree) where
-  starts-yes : {A : Type 0} (g : Grammar Ref tree A) (c : Class) (ts s : List Lexeme) (x : A) → all_inside (firsts k.first g) c ≡ true → is_not (is_nullable g) ≡ true
+  starts-yes : {A : Type 0} (g : Grammar Ref tree A) (c : Class) (ts s : List Lexeme) (x : A) → all_inside (firsts k.first g) c ≡ true → not (is_nullable g) ≡ true
       → Derives k.given g ts x → starts c (ts ++ s) ≡ true
   starts-yes g c [] s x h n d = absurd (not-true (is_nullable g) n (null k.given k.never g [] x refl d))
   starts-yes g c (t ∷ ts) s x h n d = starts_of (firsts k.first g) c t h (begin k.first k.given k.never k.begins g (t ∷ ts) t ts x refl d)
@@ -156,7 +155,7 @@ module _ {Ref : Type 0} {tree : Ref → Type 0} (k : Ready Ref tree) where
       → ((a s : List Lexeme) (x : A) → Derives k.given g a x → Stops (mores k.more g) s → read k.base.reader g (a ++ s) ≡ got x s)
       → ((a s : List Lexeme) (x : B) → Derives k.given h a x → Stops (mores k.more h) s → read k.base.reader h (a ++ s) ≡ got x s)
       → ((ts : List Lexeme) (y : B) (r : List Lexeme) → read k.base.reader h ts ≡ got y r → length r < length ts)
-      → is_not (is_nullable h) ≡ true → all_inside (firsts k.first h) c ≡ true → apart_from c (mores k.more g ++ mores k.more h) ≡ true
+      → not (is_nullable h) ≡ true → all_inside (firsts k.first h) c ≡ true → apart_from c (mores k.more g ++ mores k.more h) ≡ true
       → (n : ℕ) (a s : List Lexeme) (x : A) → Links f (Derives k.given g) (Derives k.given h) n a x → Stops (mores k.more g ++ mores k.more h) s
       → read k.base.reader (chain f c g h) (a ++ s) ≡ loop f c (read k.base.reader h) (length s) x s
   links f c g h cg ch less nn ins ap zero a s x d st =
@@ -184,19 +183,19 @@ module _ {Ref : Type 0} {tree : Ref → Type 0} (k : Ready Ref tree) where
       rw (w, append_assoc a b s, e1, e2, v) refl
   complete (made f g) p i ts s x (y, d, v) st = rw (complete g p i ts s y d st, v) refl
   complete (either c g h) p i ts s x (inl d) st =
-      let q = five (is_not (is_nullable g)) (all_inside (firsts k.first g) c) (apart_from c (firsts k.first h)) (is_sighted k.first k.more g) (is_sighted k.first k.more h) i in
+      let q = five (not (is_nullable g)) (all_inside (firsts k.first g) c) (apart_from c (firsts k.first h)) (is_sighted k.first k.more g) (is_sighted k.first k.more h) i in
       let e : starts c (ts ++ s) ≡ true = starts-yes g c ts s x q.1 q.0 d in
       let e2 : read k.base.reader g (ts ++ s) ≡ got x s = complete g (and-left _ _ p) q.3 ts s x d
       (Stops-left (mores k.more g) (mores k.more h) s (Stops-right (cond (is_nullable h) (c ∷ []) []) (mores k.more g ++ mores k.more h) s st)) in
       rw (e, e2) refl
   complete (either c g h) p i ts s x (inr d) st =
-      let q = five (is_not (is_nullable g)) (all_inside (firsts k.first g) c) (apart_from c (firsts k.first h)) (is_sighted k.first k.more g) (is_sighted k.first k.more h) i in
+      let q = five (not (is_nullable g)) (all_inside (firsts k.first g) c) (apart_from c (firsts k.first h)) (is_sighted k.first k.more g) (is_sighted k.first k.more h) i in
       let e : starts c (ts ++ s) ≡ false = starts-no h c (mores k.more g ++ mores k.more h) ts s x q.2 d st in
       let e2 : read k.base.reader h (ts ++ s) ≡ got x s = complete h (and-right _ _ p) q.4 ts s x d
       (Stops-right (mores k.more g) (mores k.more h) s (Stops-right (cond (is_nullable h) (c ∷ []) []) (mores k.more g ++ mores k.more h) s st)) in
       rw (e, e2) refl
   complete (chain f c g h) p i ts s x (n, l) st =
-      let q = five (is_not (is_nullable h)) (all_inside (firsts k.first h) c) (apart_from c (mores k.more g ++ mores k.more h)) (is_sighted k.first k.more g) (is_sighted k.first k.more h) i in
+      let q = five (not (is_nullable h)) (all_inside (firsts k.first h) c) (apart_from c (mores k.more g ++ mores k.more h)) (is_sighted k.first k.more g) (is_sighted k.first k.more h) i in
       links f c g h
       (λ a r y d t. complete g (and-left _ _ (and-right _ _ p)) q.3 a r y d t)
       (λ a r y d t. complete h (and-right _ _ (and-right _ _ p)) q.4 a r y d t)

@@ -1,6 +1,5 @@
 -- A depth above the number of tokens is enough.
-use Rattle.std.proofs.Common.{◌≡◌, ℕ, zero, suc, ◌≤◌, ◌<◌, Bool, true, false, cond, List, [], ◌∷◌, length, inl, inr, refl, ap, arith, length-append}
-use Rattle.reo_grammar.specs.Bytes.{is_not}
+use Rattle.std.proofs.Common.{◌≡◌, ℕ, zero, suc, ◌≤◌, ◌<◌, Bool, true, false, not, cond, List, [], ◌∷◌, length, inl, inr, refl, ap, arith, length-append}
 use Rattle.reo_grammar.specs.Tokens.{Lexeme, Class, matches}
 use Rattle.reo_grammar.specs.Conditions.{is_nullable, is_productive, is_guarded}
 use Rattle.reo_grammar.specs.Grammar.{Grammar, Outcome, Derives, Links, read, reads, Within, loop, then, token_at, starts, line_of}
@@ -70,7 +69,7 @@ module _ {Ref : Type 0} {tree : Ref → Type 0} (k : Base Ref tree) (also : (r :
   fine (both f g i) p w ts h =
       Fine-then (read k.reader g ts) (read also g ts) _ _ (fine g (and-left _ _ p) (and-left _ _ w) ts h)
       (λ x s e. Fine-then (read k.reader i s) (read also i s) (λ y q. got (f x y) q) (λ y q. got (f x y) q)
-      (or-cases (is_not (is_nullable g)) (is_guarded i) (and-right _ _ w)
+      (or-cases (not (is_nullable g)) (is_guarded i) (and-right _ _ w)
       (λ nn. below i (and-right _ _ p) s (let l : length s < length ts = shrinks k g (and-left _ _ p) nn ts x s e in omega arith))
       (λ gi. fine i (and-right _ _ p) gi s (let l : length s ≤ length ts = keeps k g (and-left _ _ p) ts x s e in omega arith)))
       (λ y q e2. Fine-got (f x y) q))

@@ -2,11 +2,12 @@
 use Rattle.std.proofs.Common.{◌≡◌, ℕ, zero, suc, ◌+◌, ◌<◌, true, List, [], ◌∷◌, ◌++◌, length, sym, ◌∙◌, append_assoc, append-nil, arith}
 use Rattle.reo_grammar.specs.Tokens.{Lexeme}
 use Rattle.reo_grammar.specs.Conditions.{is_productive}
-use Rattle.reo_grammar.specs.Sight.{matches_any, is_sighted}
+use Rattle.reo_grammar.specs.Sight.{is_sighted}
 use Rattle.reo_grammar.specs.Grammar.{Grammar, Outcome, Derives, read, reads, Within, Says, Refused}
 use Rattle.reo_grammar.specs.Grammar.Outcome.{got, bad, out}
 use Rattle.reo_grammar.proofs.Sound.{Good, Opens, good, base, never}
 use Rattle.reo_grammar.specs.Language.{Sighted}
+use Rattle.reo_grammar.proofs.Classes.{matches_any}
 use Rattle.reo_grammar.proofs.Complete.{Stops, Ready, complete, begin, got-good}
 use Rattle.reo_grammar.proofs.Deep.{Fine, below, depths, wider, deeper}
 use Rattle.reo_grammar.proofs.Local.{Kept, local, refused, passed}

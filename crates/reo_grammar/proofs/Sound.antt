@@ -1,6 +1,5 @@
 -- What is got is derived, and what stands before a bad token begins something derived.
-use Rattle.std.proofs.Common.{◌≡◌, ℕ, zero, suc, Bool, true, false, cond, List, [], ◌∷◌, ◌++◌, length, inl, inr, refl, sym, ◌∙◌, ap, append_assoc, append-nil}
-use Rattle.reo_grammar.specs.Bytes.{and, or, is_not}
+use Rattle.std.proofs.Common.{◌≡◌, ℕ, zero, suc, Bool, true, false, ◌&&◌, ◌||◌, not, cond, List, [], ◌∷◌, ◌++◌, length, inl, inr, refl, sym, ◌∙◌, ap, append_assoc, append-nil}
 use Rattle.reo_grammar.specs.Tokens.{Lexeme, Class, matches, AreReal}
 use Rattle.reo_grammar.specs.Conditions.{sample, is_nullable, is_productive}
 use Rattle.reo_grammar.specs.Language.{Sound}
@@ -8,11 +7,11 @@ use Rattle.reo_grammar.specs.Grammar.{Grammar, Outcome, Derives, Links, read, re
 use Rattle.reo_grammar.specs.Grammar.Grammar.{nothing, token, both, made, either, chain, lined, rule}
 use Rattle.reo_grammar.specs.Grammar.Outcome.{got, bad, out}
 
-pub and-left : (a b : Bool) → and a b ≡ true → a ≡ true
+pub and-left : (a b : Bool) → (a && b) ≡ true → a ≡ true
 and-left true b h = refl
 and-left false b h = h
 
-pub and-right : (a b : Bool) → and a b ≡ true → b ≡ true
+pub and-right : (a b : Bool) → (a && b) ≡ true → b ≡ true
 and-right true b h = h
 and-right false b h = absurd (cc)
 
@@ -59,19 +58,19 @@ Good-then D E ts (got x s) k (a, e, d) next more = next a s x e d
 Good-then D E ts (bad s) k (a, e, (c, x, r, d)) next more = let (c', y, q, f) = more (a ++ c) x d in (a, e, (c ++ c', y, real-append c c' r q, rw (← append_assoc a c c') f))
 Good-then D E ts out k h next more = tt
 
-pub not-true : (b : Bool) → is_not b ≡ true → b ≡ true → ⊥
+pub not-true : (b : Bool) → not b ≡ true → b ≡ true → ⊥
 not-true true h e = cc
 not-true false h e = cc
 
-pub or-left : (a b : Bool) → a ≡ true → or a b ≡ true
+pub or-left : (a b : Bool) → a ≡ true → (a || b) ≡ true
 or-left true b e = refl
 or-left false b e = cc
 
-pub or-right : (a b : Bool) → b ≡ true → or a b ≡ true
+pub or-right : (a b : Bool) → b ≡ true → (a || b) ≡ true
 or-right true b e = refl
 or-right false b e = e
 
-pub and-both : (a b : Bool) → a ≡ true → b ≡ true → and a b ≡ true
+pub and-both : (a b : Bool) → a ≡ true → b ≡ true → (a && b) ≡ true
 and-both true b h k = k
 and-both false b h k = h
 

@@ -1,48 +1,31 @@
 -- Classes of bytes, and tests on lists of bytes.
-use Rattle.std.specs.Prelude.{ℕ, ◌==◌, Bool, true, false, List, [], ◌∷◌, nat_le}
+use Rattle.std.specs.Prelude.{ℕ, ◌==◌, Bool, true, false, ◌&&◌, ◌||◌, not, List, [], ◌∷◌, nat_le}
 use Rattle.std.specs.Str.{bytes_eq}
-
-abbrev pub and : Bool → Bool → Bool
-and true b = b
-and false b = false
-
-abbrev pub or : Bool → Bool → Bool
-or true b = true
-or false b = b
-
-abbrev pub is_not : Bool → Bool
-is_not true = false
-is_not false = true
 
 -- `0` to `9`
 abbrev pub is_digit : ℕ → Bool
-is_digit b = and (nat_le 48 b) (nat_le b 57)
+is_digit b = nat_le 48 b && nat_le b 57
 
 -- `A` to `Z`, `a` to `z`, `_`
 abbrev pub is_letter : ℕ → Bool
-is_letter b = or (and (nat_le 65 b) (nat_le b 90)) (or (and (nat_le 97 b) (nat_le b 122)) (b == 95))
+is_letter b = (nat_le 65 b && nat_le b 90) || ((nat_le 97 b && nat_le b 122) || b == 95)
 
 abbrev pub is_name_byte : ℕ → Bool
-is_name_byte b = or (is_letter b) (is_digit b)
+is_name_byte b = is_letter b || is_digit b
 
 -- A byte that a text holds as it is: 0x20 to 0x7E, but no `"` and no `\`.
-abbrev pub is_plain : ℕ → Bool
-is_plain b = and (and (nat_le 32 b) (nat_le b 126)) (and (is_not (b == 34)) (is_not (b == 92)))
+abbrev pub is_unescaped : ℕ → Bool
+is_unescaped b = (nat_le 32 b && nat_le b 126) && (not (b == 34) && not (b == 92))
 
 -- A byte that a `\` stands before in a text: `"` or `\`.
 abbrev pub is_escaped : ℕ → Bool
-is_escaped b = or (b == 34) (b == 92)
+is_escaped b = b == 34 || b == 92
 
 abbrev pub is_empty : List ℕ → Bool
 is_empty [] = true
 is_empty (b ∷ bs) = false
 
--- Each byte is of a class.
-abbrev pub each : (ℕ → Bool) → List ℕ → Bool
-each p [] = true
-each p (b ∷ bs) = and (p b) (each p bs)
-
 -- The bytes are one of a list.
 abbrev pub one_of : List ℕ → List (List ℕ) → Bool
 one_of b [] = false
-one_of b (x ∷ xs) = or (bytes_eq b x) (one_of b xs)
+one_of b (x ∷ xs) = bytes_eq b x || one_of b xs

@@ -1,9 +1,9 @@
 -- What a grammar must meet to be read, beside being decided by one token of sight: every part of it derives
 -- something, and no rule stands before a token of its own.
-use Rattle.std.specs.Prelude.{ℕ, ◌+◌, Bool, true, false, cond, List, [], ◌∷◌}
+use Rattle.std.specs.Prelude.{ℕ, ◌+◌, Bool, true, false, ◌&&◌, ◌||◌, not, cond, List, [], ◌∷◌}
 use Rattle.reo_grammar.specs.declared.kind.TokenKind.{TokenKind}
 use Rattle.reo_grammar.specs.declared.kind.TokenKind.TheVariants as kinds
-use Rattle.reo_grammar.specs.Bytes.{and, or, is_not, is_letter}
+use Rattle.reo_grammar.specs.Bytes.{is_letter}
 use Rattle.reo_grammar.specs.Tokens.{Lexeme, Class, matches, is_real}
 use Rattle.reo_grammar.specs.Tokens.Class.{fixed, among, other, name, named, number, text}
 use Rattle.reo_grammar.specs.Grammar.{Grammar}
@@ -30,15 +30,15 @@ sample text = record { kind = kinds.Text; bytes = 34 ∷ 34 ∷ []; line = 0 }
 
 -- The class has a token that texts have.
 abbrev pub is_inhabited : Class → Bool
-is_inhabited c = and (matches c (sample c)) (is_real (sample c))
+is_inhabited c = matches c (sample c) && is_real (sample c)
 
 -- It derives the empty list of tokens. No rule does.
 abbrev pub is_nullable : {Ref : Type 0} {tree : Ref → Type 0} {A : Type 0} → Grammar Ref tree A → Bool
 is_nullable (nothing x) = true
 is_nullable (token c) = false
-is_nullable (both f g h) = and (is_nullable g) (is_nullable h)
+is_nullable (both f g h) = is_nullable g && is_nullable h
 is_nullable (made f g) = is_nullable g
-is_nullable (either c g h) = or (is_nullable g) (is_nullable h)
+is_nullable (either c g h) = is_nullable g || is_nullable h
 is_nullable (chain f c g h) = is_nullable g
 is_nullable (lined f g) = is_nullable g
 is_nullable (rule r) = false
@@ -47,10 +47,10 @@ is_nullable (rule r) = false
 abbrev pub is_guarded : {Ref : Type 0} {tree : Ref → Type 0} {A : Type 0} → Grammar Ref tree A → Bool
 is_guarded (nothing x) = true
 is_guarded (token c) = true
-is_guarded (both f g h) = and (is_guarded g) (or (is_not (is_nullable g)) (is_guarded h))
+is_guarded (both f g h) = is_guarded g && (not (is_nullable g) || is_guarded h)
 is_guarded (made f g) = is_guarded g
-is_guarded (either c g h) = and (is_guarded g) (is_guarded h)
-is_guarded (chain f c g h) = and (is_guarded g) (is_guarded h)
+is_guarded (either c g h) = is_guarded g && is_guarded h
+is_guarded (chain f c g h) = is_guarded g && is_guarded h
 is_guarded (lined f g) = is_guarded g
 is_guarded (rule r) = false
 
@@ -58,9 +58,9 @@ is_guarded (rule r) = false
 abbrev pub is_productive : {Ref : Type 0} {tree : Ref → Type 0} {A : Type 0} → Grammar Ref tree A → Bool
 is_productive (nothing x) = true
 is_productive (token c) = is_inhabited c
-is_productive (both f g h) = and (is_productive g) (is_productive h)
+is_productive (both f g h) = is_productive g && is_productive h
 is_productive (made f g) = is_productive g
-is_productive (either c g h) = and (is_productive g) (is_productive h)
-is_productive (chain f c g h) = and (is_not (is_nullable h)) (and (is_productive g) (is_productive h))
-is_productive (lined f g) = and (is_not (is_nullable g)) (is_productive g)
+is_productive (either c g h) = is_productive g && is_productive h
+is_productive (chain f c g h) = not (is_nullable h) && (is_productive g && is_productive h)
+is_productive (lined f g) = not (is_nullable g) && is_productive g
 is_productive (rule r) = true

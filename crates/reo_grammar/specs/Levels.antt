@@ -1,4 +1,4 @@
--- How deep parentheses, operators and braces stand at a token, counted on the tokens alone, from the first one up to
+-- How deep parentheses and operators stand at a token, counted on the tokens alone, from the first one up to
 -- and including it.
 use Rattle.std.specs.Prelude.{◌≡◌, ℕ, ◌+◌, ◌<◌, Bool, true, false, cond, List, [], ◌∷◌, ◌++◌, reverse, count_by, codes}
 use Rattle.reo_grammar.specs.Tokens.{Lexeme, Class, matches}
@@ -25,17 +25,17 @@ abbrev pub runs_back : List Lexeme → Bool
 runs_back [] = false
 runs_back (t ∷ ts) = cond (matches term_starts t) true (cond (matches term_ends t) false (runs_back ts))
 
--- From the last token back: the operators before such a word, and none where there is none.
-abbrev pub operators_back : List Lexeme → ℕ
-operators_back [] = 0
-operators_back (t ∷ ts) = cond (matches term_starts t) 0 (cond (matches term_ends t) 0 (cond (runs_back ts) (cond (matches operators t) 1 0 + operators_back ts) 0))
-
 abbrev pub in_term : List Lexeme → Bool
 in_term ts = runs_back (reverse ts)
 
+-- From the last token back: those behind the latest word that starts a term.
+abbrev pub since_start : List Lexeme → List Lexeme
+since_start [] = []
+since_start (t ∷ ts) = cond (matches term_starts t) [] (t ∷ since_start ts)
+
 -- The operators behind the latest `when` or `to`, where no `;`, `{` or `}` stands behind it.
 abbrev pub operators_at : List Lexeme → ℕ
-operators_at ts = operators_back (reverse ts)
+operators_at ts = cond (in_term ts) (count_of operators (since_start (reverse ts))) 0
 
 -- The level at the last of these tokens, the number of `(` less that of `)` and the operators, is above a limit.
 abbrev pub IsAbove : ℕ → List Lexeme → Type 0

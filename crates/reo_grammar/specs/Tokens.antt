@@ -1,9 +1,9 @@
 -- Tokens as the grammar sees them, and the classes of tokens that its rules name.
-use Rattle.std.specs.Prelude.{ℕ, ◌+◌, ◌-◌, ◌*◌, ◌≡◌, Bool, true, false, List, [], ◌∷◌, nat_le}
+use Rattle.std.specs.Prelude.{ℕ, ◌+◌, ◌-◌, ◌*◌, ◌≡◌, Bool, true, false, ◌&&◌, not, List, [], ◌∷◌, nat_le}
 use Rattle.std.specs.Str.{bytes_eq}
 use Rattle.reo_grammar.specs.declared.kind.TokenKind.{TokenKind}
 use Rattle.reo_grammar.specs.declared.kind.TokenKind.TheVariants as kinds
-use Rattle.reo_grammar.specs.Bytes.{and, is_not, one_of}
+use Rattle.reo_grammar.specs.Bytes.{one_of}
 use Rattle.reo_grammar.specs.Spelling.{spells, is_short}
 
 -- A lexeme is a token as the grammar sees it: its kind, its bytes as they stand in the text, and its line.
@@ -14,7 +14,7 @@ pub record Lexeme : Type 0 where
 
 -- A token that some text has.
 abbrev pub is_real : Lexeme → Bool
-is_real t = and (spells t.kind t.bytes) (is_short t.kind t.bytes)
+is_real t = spells t.kind t.bytes && is_short t.kind t.bytes
 
 abbrev pub AreReal : List Lexeme → Type 0
 AreReal [] = Unit {0}
@@ -25,7 +25,7 @@ abbrev pub number_from : ℕ → List ℕ → ℕ
 number_from n [] = n
 number_from n (b ∷ bs) = number_from (n * 10 + (b - 48)) bs
 
--- A class of tokens: a word or sign, one of several, any token but a word or sign, names, the name of these bytes,
+-- A class of tokens: a word or sign, one of several, any token but one word or sign, names, the name of these bytes,
 -- numbers from the first to the second, texts.
 pub data Class : Type 0 where
   fixed : List ℕ → Class
@@ -56,12 +56,12 @@ is_text _ = false
 
 -- The token is of the class.
 abbrev pub matches : Class → Lexeme → Bool
-matches (fixed b) t = and (is_fixed t.kind) (bytes_eq t.bytes b)
-matches (among bs) t = and (is_fixed t.kind) (one_of t.bytes bs)
-matches (other b) t = is_not (and (is_fixed t.kind) (bytes_eq t.bytes b))
+matches (fixed b) t = is_fixed t.kind && bytes_eq t.bytes b
+matches (among bs) t = is_fixed t.kind && one_of t.bytes bs
+matches (other b) t = not (is_fixed t.kind && bytes_eq t.bytes b)
 matches name t = is_name t.kind
-matches (named b) t = and (is_name t.kind) (bytes_eq t.bytes b)
-matches (number low high) t = and (is_number t.kind) (and (nat_le low (number_from 0 t.bytes)) (nat_le (number_from 0 t.bytes) high))
+matches (named b) t = is_name t.kind && bytes_eq t.bytes b
+matches (number low high) t = is_number t.kind && (nat_le low (number_from 0 t.bytes) && nat_le (number_from 0 t.bytes) high)
 matches text t = is_text t.kind
 
 -- The same tokens, lines aside.

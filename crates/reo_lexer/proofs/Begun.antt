@@ -7,7 +7,7 @@ use Rattle.reo_grammar.proofs.Lines.{says-alike}
 use Rattle.reo_grammar.proofs.Refusals.{real-back}
 use Rattle.reo_lexer.specs.declared.token.Token.{Token}
 use Rattle.reo_lexer.specs.Lexing.{IsTokens, AtEnd, lexeme_of, lexemes_of, Lies}
-use Rattle.reo_lexer.specs.Written.{IsBegun}
+use Rattle.reo_lexer.specs.Onward.{IsBegun}
 use Rattle.reo_lexer.proofs.Spans.{AllLie, runs-lie, tokens-real}
 use Rattle.reo_lexer.proofs.Onward.{front-tokens, real-goes-on}
 

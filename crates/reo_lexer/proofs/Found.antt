@@ -1,21 +1,21 @@
 -- The token or the fault in front.
-use Rattle.std.proofs.Common.{◌≡◌, ℕ, zero, suc, ◌+◌, ◌-◌, ◌≤◌, ◌<◌, Bool, true, false, cond, List, [], ◌∷◌, ◌++◌, length, take, drop, get_or, refl, sym, ◌∙◌, ap, subst, arith, append_assoc, length-append, length-drop, drop-cons, ◌==◌, nat_le}
+use Rattle.std.proofs.Common.{◌≡◌, ℕ, zero, suc, ◌+◌, ◌-◌, ◌≤◌, ◌<◌, Bool, true, false, ◌&&◌, ◌||◌, not, cond, List, [], ◌∷◌, ◌++◌, length, take, drop, get_or, refl, sym, ◌∙◌, ap, subst, arith, append_assoc, length-append, length-drop, drop-cons, ◌==◌, nat_le}
 use Rattle.std.proofs.lemmas.Bool.Decides.{nat_tests}
-use Rattle.std.specs.List.{take_while}
+use Rattle.std.specs.List.{list_all, take_while}
 use Rattle.std.proofs.lemmas.List.Sums.{take_while-cons}
 use Rattle.reo_grammar.specs.declared.kind.TokenKind.{TokenKind}
 use Rattle.reo_grammar.specs.declared.kind.TokenKind.TheVariants as kinds
-use Rattle.reo_grammar.specs.Bytes.{and, or, is_not, is_digit, is_letter, is_name_byte, is_plain, is_escaped, each, one_of}
+use Rattle.reo_grammar.specs.Bytes.{is_digit, is_letter, is_name_byte, is_unescaped, is_escaped, one_of}
 use Rattle.reo_grammar.specs.Spelling.{spells, is_short, is_spelled, is_closed, reserved, signs}
 use Rattle.reo_grammar.proofs.Sound.{and-both, or-left}
 use Rattle.reo_lexer.specs.Gaps.{is_space}
 use Rattle.reo_lexer.specs.Lexing.{IsToken}
 use Rattle.reo_lexer.specs.Faults.{stops, is_break, is_wrong, BeginsNone, HasWrong, IsOpen, IsLong}
-use Rattle.reo_lexer.specs.Skipping.{past, inside, sign_size, IsFront}
+use Rattle.reo_lexer.specs.Skipping.{inside, sign_size, IsFront}
 use Rattle.reo_lexer.proofs.Quotes.{inside-goes, goes-closed, is_more}
 use Rattle.reo_lexer.proofs.Spelled.{name-longest, number-longest, text-longest, yes-not}
 use Rattle.reo_lexer.proofs.Signs.{sign-token, none-spelled}
-use Rattle.reo_lexer.proofs.Fronts.{take-cut, drop-cut, run-past}
+use Rattle.reo_lexer.proofs.Fronts.{past, take-cut, drop-cut, run-past}
 
 -- A front by its bytes and what is behind them.
 front-of : (k : TokenKind) (left bytes after : List ℕ) (n : ℕ) → left ≡ bytes ++ after → n ≡ length bytes → IsToken k bytes after → IsFront k n left
@@ -40,7 +40,7 @@ name-kind k (b ∷ r) n l e f =
     let v : b ∷ r ≡ (b ∷ take_while is_name_byte r) ++ past is_name_byte r = ap (λ l. b ∷ l) w in
     let m : n ≡ length (b ∷ take_while is_name_byte r) = e ∙ ap length c in
     let t : take n (b ∷ r) ≡ b ∷ take_while is_name_byte r = take-cut (b ∷ r) (b ∷ take_while is_name_byte r) (past is_name_byte r) n v m in
-    let s = f b (take_while is_name_byte r) (and-both (is_letter b) (each is_name_byte (take_while is_name_byte r)) l a) t in
+    let s = f b (take_while is_name_byte r) (and-both (is_letter b) (list_all is_name_byte (take_while is_name_byte r)) l a) t in
     front-of k (b ∷ r) (b ∷ take_while is_name_byte r) (past is_name_byte r) n v m
     (record { spelled = s.0; short = s.1; longest = name-longest b (take_while is_name_byte r) (past is_name_byte r) l h })
 
@@ -50,7 +50,7 @@ word_front left n l e h = name-kind kinds.Word left n l e (λ b bs s t. (rw t at
 
 pub name_front : (left : List ℕ) (n : ℕ) → is_letter (get_or left 0 0) ≡ true → n ≡ length (take_while is_name_byte left) → one_of (take n left) reserved ≡ false → IsFront kinds.Name n left
 name_front left n l e h = name-kind kinds.Name left n l e
-    (λ b bs s t. (and-both (is_spelled (b ∷ bs)) (is_not (one_of (b ∷ bs) reserved)) s (yes-not (one_of (b ∷ bs) reserved) (rw t at h)), refl))
+    (λ b bs s t. (and-both (is_spelled (b ∷ bs)) (not (one_of (b ∷ bs) reserved)) s (yes-not (one_of (b ∷ bs) reserved) (rw t at h)), refl))
 
 -- Digits in front are a number where they are at most 18, and a fault otherwise.
 pub number-front : (left : List ℕ) (n : ℕ) → is_digit (get_or left 0 0) ≡ true → n ≡ length (take_while is_digit left) → n ≤ 18 → IsFront kinds.Number n left
@@ -61,7 +61,7 @@ number-front (b ∷ r) n l e f =
     let v : b ∷ r ≡ (b ∷ take_while is_digit r) ++ past is_digit r = ap (λ l. b ∷ l) w in
     let m : n ≡ length (b ∷ take_while is_digit r) = e ∙ ap length c in
     front-of kinds.Number (b ∷ r) (b ∷ take_while is_digit r) (past is_digit r) n v m
-    (record { spelled = and-both (is_digit b) (each is_digit (take_while is_digit r)) l a; short = few (length (b ∷ take_while is_digit r)) (omega arith); longest = number-longest b (take_while is_digit r) (past is_digit r) l h })
+    (record { spelled = and-both (is_digit b) (list_all is_digit (take_while is_digit r)) l a; short = few (length (b ∷ take_while is_digit r)) (omega arith); longest = number-longest b (take_while is_digit r) (past is_digit r) l h })
   where
     few : (n : ℕ) → n ≤ 18 → nat_le n 18 ≡ true
     few n h = grind (arith, nat_tests)
@@ -72,7 +72,7 @@ number-long (b ∷ r) n l e f =
     let c : take_while is_digit (b ∷ r) ≡ b ∷ take_while is_digit r = run-cons is_digit b r l in
     let (w, a, h) = run-past is_digit r in
     let m : n ≡ length (b ∷ take_while is_digit r) = e ∙ ap length c in
-    (b ∷ take_while is_digit r, past is_digit r, ap (λ l. b ∷ l) w, and-both (is_digit b) (each is_digit (take_while is_digit r)) l a, h, omega arith)
+    (b ∷ take_while is_digit r, past is_digit r, ap (λ l. b ∷ l) w, and-both (is_digit b) (list_all is_digit (take_while is_digit r)) l a, h, omega arith)
 
 -- A sign in front, or a byte that begins nothing.
 pub sign-front : (left : List ℕ) (n : ℕ) → n ≡ sign_size left → 0 < n → IsFront kinds.Sign n left
@@ -118,11 +118,11 @@ text-wrong r e m i h b q =
     let c : drop m r ≡ get_or r m 0 ∷ drop (suc m) r = drop-cons r m 0 h in
     (e, body, get_or r m 0, drop (suc m) r, ap (λ l. 34 ∷ l) (w ∙ ap (λ l. body ++ l) c), g, wrong e (get_or r m 0) (rw c at x) b q)
   where
-    wrong : (e : Bool) (x : ℕ) → is_not (is_more e x) ≡ true → is_break x ≡ false → (e ≡ false → (x == 34) ≡ false) → is_wrong e x ≡ true
-    wrong true x h b q = and-both (is_not (is_escaped x)) (is_not (is_break x)) h (yes-not (is_break x) b)
-    wrong false x h b q = by (is_plain x) (x == 92) (x == 34) (is_break x) h b (q refl)
+    wrong : (e : Bool) (x : ℕ) → not (is_more e x) ≡ true → is_break x ≡ false → (e ≡ false → (x == 34) ≡ false) → is_wrong e x ≡ true
+    wrong true x h b q = and-both (not (is_escaped x)) (not (is_break x)) h (yes-not (is_break x) b)
+    wrong false x h b q = by (is_unescaped x) (x == 92) (x == 34) (is_break x) h b (q refl)
       where
-        by : (p y z k : Bool) → is_not (or y p) ≡ true → k ≡ false → z ≡ false → and (and (is_not p) (is_not (or z y))) (is_not k) ≡ true
+        by : (p y z k : Bool) → not (y || p) ≡ true → k ≡ false → z ≡ false → ((not p && not (z || y)) && not k) ≡ true
         by p true z k h b q = absurd (cc)
         by true false z k h b q = absurd (cc)
         by false false z true h b q = absurd (cc)

@@ -1,12 +1,10 @@
 -- Fronts of what is left.
 use Rattle.std.proofs.Common.{◌≡◌, ℕ, Bool, true, false, cond, List, [], ◌∷◌, ◌++◌, length, take, drop, ◌⊎◌, inl, inr, refl, sym, ap, arith, length-append}
 use Rattle.std.proofs.Math.Seq.{take-append_seam}
-use Rattle.std.specs.List.{take_while}
+use Rattle.std.specs.List.{list_all, take_while}
 use Rattle.std.proofs.lemmas.List.Sums.{take_while-cons}
-use Rattle.reo_grammar.specs.Bytes.{each}
 use Rattle.reo_grammar.proofs.Sound.{and-both}
 use Rattle.reo_lexer.specs.Faults.{ends}
-use Rattle.reo_lexer.specs.Skipping.{past}
 
 drop-seam : (a b : List ℕ) → drop (length a) (a ++ b) ≡ b
 drop-seam [] b = refl
@@ -37,12 +35,17 @@ fronts (x ∷ a) b (y ∷ c) d e =
       | inr (m, q, r) ↦ inr (m, rw (← p) (rw q refl), r)
     ]
 
+-- What is left behind the longest front of a class.
+abbrev pub past : (ℕ → Bool) → List ℕ → List ℕ
+past p [] = []
+past p (b ∷ bs) = cond (p b) (past p bs) (b ∷ bs)
+
 -- The longest front of a class, and what is behind it.
-pub run-past : (p : ℕ → Bool) (bs : List ℕ) → (bs ≡ take_while p bs ++ past p bs) × (each p (take_while p bs) ≡ true) × (ends p (past p bs) ≡ true)
+pub run-past : (p : ℕ → Bool) (bs : List ℕ) → (bs ≡ take_while p bs ++ past p bs) × (list_all p (take_while p bs) ≡ true) × (ends p (past p bs) ≡ true)
 run-past p [] = (refl, refl, refl)
 run-past p (b ∷ bs) = rw take_while-cons (by (p b) refl (run-past p bs))
   where
-    by : (x : Bool) → p b ≡ x → (bs ≡ take_while p bs ++ past p bs) × (each p (take_while p bs) ≡ true) × (ends p (past p bs) ≡ true)
-        → (b ∷ bs ≡ cond x (b ∷ take_while p bs) [] ++ cond x (past p bs) (b ∷ bs)) × (each p (cond x (b ∷ take_while p bs) []) ≡ true) × (ends p (cond x (past p bs) (b ∷ bs)) ≡ true)
-    by true e (w, i, j) = (ap (λ l. b ∷ l) w, and-both (p b) (each p (take_while p bs)) e i, j)
+    by : (x : Bool) → p b ≡ x → (bs ≡ take_while p bs ++ past p bs) × (list_all p (take_while p bs) ≡ true) × (ends p (past p bs) ≡ true)
+        → (b ∷ bs ≡ cond x (b ∷ take_while p bs) [] ++ cond x (past p bs) (b ∷ bs)) × (list_all p (cond x (b ∷ take_while p bs) []) ≡ true) × (ends p (cond x (past p bs) (b ∷ bs)) ≡ true)
+    by true e (w, i, j) = (ap (λ l. b ∷ l) w, and-both (p b) (list_all p (take_while p bs)) e i, j)
     by false e h = (refl, refl, rw e refl)

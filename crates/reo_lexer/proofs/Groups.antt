@@ -1,24 +1,24 @@
 -- Lists of words in groups.
-use Rattle.std.proofs.Common.{◌≡◌, ℕ, Bool, true, false, List, [], ◌∷◌, ◌++◌, refl, ◌∙◌, ap}
+use Rattle.std.proofs.Common.{◌≡◌, ℕ, Bool, true, false, ◌||◌, List, [], ◌∷◌, ◌++◌, refl, ◌∙◌, ap}
 use Rattle.std.specs.Str.{bytes_eq}
-use Rattle.reo_grammar.specs.Bytes.{or, one_of}
+use Rattle.reo_grammar.specs.Bytes.{one_of}
 use Rattle.reo_grammar.specs.Spelling.{frame_words, channel_words, item_words, term_words, script_words, reserved}
 
-or_assoc : (a b c : Bool) → or a (or b c) ≡ or (or a b) c
+or_assoc : (a b c : Bool) → (a || (b || c)) ≡ ((a || b) || c)
 or_assoc true b c = refl
 or_assoc false b c = refl
 
-pub one_of-append : (b : List ℕ) (xs ys : List (List ℕ)) → one_of b (xs ++ ys) ≡ or (one_of b xs) (one_of b ys)
+pub one_of-append : (b : List ℕ) (xs ys : List (List ℕ)) → one_of b (xs ++ ys) ≡ (one_of b xs || one_of b ys)
 one_of-append b [] ys = refl
-one_of-append b (x ∷ xs) ys = ap (λ c. or (bytes_eq b x) c) (one_of-append b xs ys) ∙ or_assoc (bytes_eq b x) (one_of b xs) (one_of b ys)
+one_of-append b (x ∷ xs) ys = ap (λ c. bytes_eq b x || c) (one_of-append b xs ys) ∙ or_assoc (bytes_eq b x) (one_of b xs) (one_of b ys)
 
 -- The groups of the reserved words.
 pub reserved_groups : (b : List ℕ)
-    → one_of b reserved ≡ or (one_of b frame_words) (or (one_of b channel_words) (or (one_of b item_words) (or (one_of b term_words) (one_of b script_words))))
+    → one_of b reserved ≡ (one_of b frame_words || (one_of b channel_words || (one_of b item_words || (one_of b term_words || one_of b script_words))))
 reserved_groups b =
     one_of-append b frame_words (channel_words ++ (item_words ++ (term_words ++ script_words)))
-    ∙ ap (λ c. or (one_of b frame_words) c)
+    ∙ ap (λ c. one_of b frame_words || c)
     (one_of-append b channel_words (item_words ++ (term_words ++ script_words))
-    ∙ ap (λ c. or (one_of b channel_words) c)
+    ∙ ap (λ c. one_of b channel_words || c)
     (one_of-append b item_words (term_words ++ script_words)
-    ∙ ap (λ c. or (one_of b item_words) c) (one_of-append b term_words script_words)))
+    ∙ ap (λ c. one_of b item_words || c) (one_of-append b term_words script_words)))

@@ -1,9 +1,10 @@
 -- A text has one list of tokens or one fault.
-use Rattle.std.proofs.Common.{◌≡◌, ℕ, ◌+◌, ◌≤◌, ◌<◌, Bool, true, false, List, [], ◌∷◌, ◌++◌, length, ◌⊎◌, inl, inr, refl, sym, ◌∙◌, ap, subst, arith, append_assoc, append-nil, ◌==◌, nat_le}
+use Rattle.std.proofs.Common.{◌≡◌, ℕ, ◌+◌, ◌≤◌, ◌<◌, Bool, true, false, ◌&&◌, ◌||◌, not, List, [], ◌∷◌, ◌++◌, length, ◌⊎◌, inl, inr, refl, sym, ◌∙◌, ap, subst, arith, append_assoc, append-nil, ◌==◌, nat_le}
+use Rattle.std.specs.List.{list_all}
 use Rattle.std.proofs.lemmas.Bool.Decides.{nat_tests}
 use Rattle.reo_grammar.specs.declared.kind.TokenKind.{TokenKind}
 use Rattle.reo_grammar.specs.declared.kind.TokenKind.TheVariants as kinds
-use Rattle.reo_grammar.specs.Bytes.{and, or, is_not, is_digit, each}
+use Rattle.reo_grammar.specs.Bytes.{is_digit}
 use Rattle.reo_grammar.specs.Spelling.{spells, is_short, is_digits, is_closed}
 use Rattle.reo_grammar.proofs.Sound.{and-left, and-right}
 use Rattle.reo_grammar.proofs.Classes.{no-both}
@@ -23,7 +24,7 @@ use Rattle.reo_lexer.proofs.Fronts.{cancel, fronts}
 behind-head : (left : List ℕ) → no_gap_head left ≡ true → behind false left ≡ left
 behind-head [] h = absurd (cc)
 behind-head (b ∷ r) h =
-    behind-here b r (not-yes (is_space b) (and-left (is_not (is_space b)) (is_not (b == 35)) h)) (not-yes (b == 35) (and-right (is_not (is_space b)) (is_not (b == 35)) h))
+    behind-here b r (not-yes (is_space b) (and-left (not (is_space b)) (not (b == 35)) h)) (not-yes (b == 35) (and-right (not (is_space b)) (not (b == 35)) h))
 
 head-append : (a b : List ℕ) → no_gap_head a ≡ true → no_gap_head (a ++ b) ≡ true
 head-append [] b h = absurd (cc)
@@ -81,14 +82,14 @@ EndsBy (faulty f) = AtFault f
 none-head : (left : List ℕ) → BeginsNone left → no_gap_head left ≡ true
 none-head left (b, r, w, h, n) = rw w (by (is_space b) (b == 35) (b == 34) h)
   where
-    by : (x y z : Bool) → or x (or y z) ≡ false → and (is_not x) (is_not y) ≡ true
+    by : (x y z : Bool) → (x || (y || z)) ≡ false → (not x && not y) ≡ true
     by true y z h = absurd (cc)
     by false true z h = absurd (cc)
     by false false z h = refl
 
 long-head : (left : List ℕ) → IsLong left → (b : ℕ) × (r : List ℕ) × (left ≡ b ∷ r) × (is_digit b ≡ true)
 long-head left ([], r, w, d, e, n) = absurd (cc)
-long-head left (b ∷ ds, r, w, d, e, n) = (b, ds ++ r, w, and-left (is_digit b) (each is_digit ds) d)
+long-head left (b ∷ ds, r, w, d, e, n) = (b, ds ++ r, w, and-left (is_digit b) (list_all is_digit ds) d)
 
 pub fault-head : (f : LexFault) (line : ℕ) (left : List ℕ) → BeginsFault f line left → no_gap_head left ≡ true
 fault-head (faults.BadByte l) line left (e, inl n) = none-head left n
@@ -142,7 +143,7 @@ token-long k [] after t h = no-empty k t.spelled
 token-long k (b ∷ bs) after t ([], r, w, d, e, n) = absurd (cc)
 token-long k (b ∷ bs) after t (x ∷ ds, r, w, d, e, n) =
     let q : b ≡ x = cc in
-    let i : is_digit b ≡ true = rw q (and-left (is_digit x) (each is_digit ds) d) in
+    let i : is_digit b ≡ true = rw q (and-left (is_digit x) (list_all is_digit ds) d) in
     let j : is_digits (b ∷ bs) ≡ true = by-digit k b bs i t.spelled in
     elim (fronts (b ∷ bs) after (x ∷ ds) r w) [
       | inl (m, u, v) ↦
@@ -156,7 +157,7 @@ token-long k (b ∷ bs) after t (x ∷ ds, r, w, d, e, n) =
     over [] u v j = let y : x ∷ ds ≡ b ∷ bs = sym (u ∙ append-nil (x ∷ ds)) in few-digits k (b ∷ bs) t.spelled t.short j (let L : List ℕ → Type 0 = λ l. 18 < length l in subst L y n)
     over (c ∷ m) u v j =
         let bs_is : bs ≡ ds ++ (c ∷ m) = cc in
-        let all : each is_digit bs ≡ true = and-right (is_digit b) (each is_digit bs) j in
+        let all : list_all is_digit bs ≡ true = and-right (is_digit b) (list_all is_digit bs) j in
         no-both (is_digit c) (each-next is_digit ds m c (rw bs_is at all)) (ends-no is_digit r m after c e v)
 
 pub token-fault : (k : TokenKind) (bytes after : List ℕ) (f : LexFault) (line : ℕ) → IsToken k bytes after → BeginsFault f line (bytes ++ after) → ⊥
@@ -194,7 +195,7 @@ none-long left (b, r, w, h, n) l =
     let (c, s, v, d) = long-head left l in
     n kinds.Number (c ∷ []) s v (and-one (is_digit c) d)
   where
-    and-one : (x : Bool) → x ≡ true → and x true ≡ true
+    and-one : (x : Bool) → x ≡ true → (x && true) ≡ true
     and-one x d = rw d refl
 
 bad-long : (left : List ℕ) → (BeginsNone left ⊎ HasWrong left) → IsLong left → ⊥

@@ -7,9 +7,9 @@ use Rattle.reo_lexer.specs.declared.token.Token.{Token}
 use Rattle.reo_lexer.specs.Gaps.{IsGap, lines_in}
 use Rattle.reo_lexer.specs.Gaps.IsGap.{no_gap, space, comment}
 use Rattle.reo_lexer.specs.Lexing.{IsToken, Leads, Runs, AtEnd, IsTokens, lexemes_of}
-use Rattle.reo_lexer.specs.Written.{is_cut, written, GoesOn}
+use Rattle.reo_lexer.specs.Onward.{GoesOn}
 use Rattle.reo_lexer.proofs.Spans.{lead-lies}
-use Rattle.reo_lexer.proofs.Cut.{cut-token, lf-cut, token-shorter, token-longer}
+use Rattle.reo_lexer.proofs.Cut.{is_cut, cut-token, lf-cut, token-shorter, token-longer}
 
 -- Two gaps make one.
 gap-append : (g h : List ℕ) → IsGap g → IsGap h → IsGap (g ++ h)
@@ -47,6 +47,11 @@ front-tokens text ts t us h =
     let k : length l ≡ t.start = sym (zero-add (length l)) ∙ n in
     let e : take t.start text ≡ l = ap (take t.start) w ∙ take-front l r t.start k in
     rw e i
+
+-- The bytes of tokens, an LF before each.
+abbrev written : List Lexeme → List ℕ
+written [] = []
+written (t ∷ ts) = 10 ∷ (t.bytes ++ written ts)
 
 -- Tokens that texts have follow a text that ends.
 pub written-runs : (text : List ℕ) (at line : ℕ) (left : List ℕ) (c : List Lexeme) → at ≤ length text → left ++ written c ≡ drop at text → AtEnd line left → AreReal c

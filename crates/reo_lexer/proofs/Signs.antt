@@ -1,9 +1,9 @@
 -- The longest sign in front.
-use Rattle.std.proofs.Common.{◌≡◌, ℕ, ◌≤◌, ◌<◌, Bool, true, false, cond, List, [], ◌∷◌, ◌++◌, length, take, drop, refl, arith, ◌==◌, nat_le}
+use Rattle.std.proofs.Common.{◌≡◌, ℕ, ◌≤◌, ◌<◌, Bool, true, false, ◌&&◌, not, cond, List, [], ◌∷◌, ◌++◌, length, take, drop, refl, arith, ◌==◌, nat_le}
 use Rattle.std.proofs.lemmas.Bool.Decides.{nat_tests}
 use Rattle.reo_grammar.specs.declared.kind.TokenKind.{TokenKind}
 use Rattle.reo_grammar.specs.declared.kind.TokenKind.TheVariants as kinds
-use Rattle.reo_grammar.specs.Bytes.{and, is_not, is_digit, is_letter, one_of}
+use Rattle.reo_grammar.specs.Bytes.{is_digit, is_letter, one_of}
 use Rattle.reo_grammar.specs.Spelling.{spells, signs}
 use Rattle.reo_grammar.proofs.Sound.{and-left, and-right}
 use Rattle.reo_grammar.proofs.Classes.{no-both}
@@ -21,13 +21,13 @@ pub record Starts (a : ℕ) (x : List ℕ) : Type 0 where
 pub sign-starts : (a : ℕ) (x : List ℕ) → one_of (a ∷ x) signs ≡ true → Starts a x
 sign-starts a x h =
     let l = sign-like (a ∷ x) h in
-    let s = and-left (and (is_not (is_letter a)) (and (is_not (is_digit a)) (is_not (a == 34)))) (nat_le (length x) 1) l in
-    let t = and-right (is_not (is_letter a)) (and (is_not (is_digit a)) (is_not (a == 34))) s in
-    let n : nat_le (length x) 1 ≡ true = and-right (and (is_not (is_letter a)) (and (is_not (is_digit a)) (is_not (a == 34)))) (nat_le (length x) 1) l in
+    let s = and-left (not (is_letter a) && (not (is_digit a) && not (a == 34))) (nat_le (length x) 1) l in
+    let t = and-right (not (is_letter a)) (not (is_digit a) && not (a == 34)) s in
+    let n : nat_le (length x) 1 ≡ true = and-right (not (is_letter a) && (not (is_digit a) && not (a == 34))) (nat_le (length x) 1) l in
     record {
-      no_letter = not-yes (is_letter a) (and-left (is_not (is_letter a)) (and (is_not (is_digit a)) (is_not (a == 34))) s);
-      no_digit = not-yes (is_digit a) (and-left (is_not (is_digit a)) (is_not (a == 34)) t);
-      no_quote = not-yes (a == 34) (and-right (is_not (is_digit a)) (is_not (a == 34)) t);
+      no_letter = not-yes (is_letter a) (and-left (not (is_letter a)) (not (is_digit a) && not (a == 34)) s);
+      no_digit = not-yes (is_digit a) (and-left (not (is_digit a)) (not (a == 34)) t);
+      no_quote = not-yes (a == 34) (and-right (not (is_digit a)) (not (a == 34)) t);
       few = few-of (length x) n;
     }
   where

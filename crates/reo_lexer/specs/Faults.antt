@@ -1,7 +1,7 @@
 -- The first fault of a text that has no tokens.
-use Rattle.std.specs.Prelude.{◌≡◌, ℕ, ◌+◌, ◌<◌, ◌==◌, Bool, true, false, cond, List, [], ◌∷◌, ◌++◌, ◌⊎◌, length, Result, Ok, Err}
+use Rattle.std.specs.Prelude.{◌≡◌, ℕ, ◌+◌, ◌<◌, ◌==◌, Bool, true, false, ◌&&◌, ◌||◌, not, cond, List, [], ◌∷◌, ◌++◌, ◌⊎◌, length, Result, Ok, Err}
 use Rattle.reo_grammar.specs.declared.kind.TokenKind.{TokenKind}
-use Rattle.reo_grammar.specs.Bytes.{and, or, is_not, is_digit, is_plain, is_escaped}
+use Rattle.reo_grammar.specs.Bytes.{is_digit, is_unescaped, is_escaped}
 use Rattle.reo_grammar.specs.Spelling.{spells, is_digits}
 use Rattle.reo_lexer.specs.declared.token.Token.{Token}
 use Rattle.reo_lexer.specs.declared.token.LexFault.{LexFault}
@@ -11,7 +11,7 @@ use Rattle.reo_lexer.specs.Lexing.{Runs, IsTokens}
 
 -- LF or CR.
 abbrev pub is_break : ℕ → Bool
-is_break b = or (b == 10) (b == 13)
+is_break b = b == 10 || b == 13
 
 -- The end, or an LF or CR next.
 abbrev pub stops : List ℕ → Bool
@@ -21,33 +21,33 @@ stops (b ∷ bs) = is_break b
 -- The next byte, if there is one, is not of the class.
 abbrev pub ends : (ℕ → Bool) → List ℕ → Bool
 ends p [] = true
-ends p (b ∷ bs) = is_not (p b)
+ends p (b ∷ bs) = not (p b)
 
 -- Bytes within a text in quotes, from the opening quote on. The first flag says that a `\` stands before them, the second
 -- that they end with one that escapes what comes next.
-abbrev pub goes : Bool → List ℕ → Bool → Bool
-goes true [] escape = escape
-goes false [] escape = is_not escape
-goes true (b ∷ bs) escape = and (is_escaped b) (goes false bs escape)
-goes false (b ∷ bs) escape = cond (b == 92) (goes true bs escape) (and (is_plain b) (goes false bs escape))
+abbrev pub is_body : Bool → List ℕ → Bool → Bool
+is_body true [] escape = escape
+is_body false [] escape = not escape
+is_body true (b ∷ bs) escape = is_escaped b && is_body false bs escape
+is_body false (b ∷ bs) escape = cond (b == 92) (is_body true bs escape) (is_unescaped b && is_body false bs escape)
 
 -- A byte that may not stand there, and is no LF or CR: behind a `\`, or elsewhere.
 abbrev pub is_wrong : Bool → ℕ → Bool
-is_wrong true b = and (is_not (is_escaped b)) (is_not (is_break b))
-is_wrong false b = and (and (is_not (is_plain b)) (is_not (is_escaped b))) (is_not (is_break b))
+is_wrong true b = not (is_escaped b) && not (is_break b)
+is_wrong false b = (not (is_unescaped b) && not (is_escaped b)) && not (is_break b)
 
 -- What is left begins with a byte that begins no token, no text in quotes and no gap.
 abbrev pub BeginsNone : List ℕ → Type 0
-BeginsNone left = (b : ℕ) × (r : List ℕ) × (left ≡ b ∷ r) × (or (is_space b) (or (b == 35) (b == 34)) ≡ false)
+BeginsNone left = (b : ℕ) × (r : List ℕ) × (left ≡ b ∷ r) × ((is_space b || (b == 35 || b == 34)) ≡ false)
     × ((kind : TokenKind) (front more : List ℕ) → left ≡ front ++ more → spells kind front ≡ true → ⊥)
 
 -- It begins with a text in quotes in which a wrong byte stands before any end of it.
 abbrev pub HasWrong : List ℕ → Type 0
-HasWrong left = (escape : Bool) × (body : List ℕ) × (b : ℕ) × (r : List ℕ) × (left ≡ 34 ∷ (body ++ (b ∷ r))) × (goes false body escape ≡ true) × (is_wrong escape b ≡ true)
+HasWrong left = (escape : Bool) × (body : List ℕ) × (b : ℕ) × (r : List ℕ) × (left ≡ 34 ∷ (body ++ (b ∷ r))) × (is_body false body escape ≡ true) × (is_wrong escape b ≡ true)
 
 -- It begins with a text in quotes that meets an LF, a CR or the end before its closing quote.
 abbrev pub IsOpen : List ℕ → Type 0
-IsOpen left = (escape : Bool) × (body : List ℕ) × (r : List ℕ) × (left ≡ 34 ∷ (body ++ r)) × (goes false body escape ≡ true) × (stops r ≡ true)
+IsOpen left = (escape : Bool) × (body : List ℕ) × (r : List ℕ) × (left ≡ 34 ∷ (body ++ r)) × (is_body false body escape ≡ true) × (stops r ≡ true)
 
 -- It begins with a run of more than 18 digits.
 abbrev pub IsLong : List ℕ → Type 0

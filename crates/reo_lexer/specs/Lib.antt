@@ -2,4 +2,4 @@ pub mod Gaps
 pub mod Lexing
 pub mod Faults
 pub mod Skipping
-pub mod Written
+pub mod Onward

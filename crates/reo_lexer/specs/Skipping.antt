@@ -6,7 +6,7 @@ use Rattle.reo_lexer.specs.declared.token.LexFault.{LexFault}
 use Rattle.reo_lexer.specs.declared.token.LexFault.TheVariants as faults
 use Rattle.reo_lexer.specs.Lexing.{IsToken, Leads, AtEnd}
 use Rattle.reo_lexer.specs.Faults.{AtFault}
-use Rattle.reo_grammar.specs.Bytes.{is_plain, is_escaped, one_of}
+use Rattle.reo_grammar.specs.Bytes.{is_unescaped, is_escaped, one_of}
 use Rattle.reo_grammar.specs.Spelling.{signs}
 use Rattle.reo_lexer.specs.Gaps.{is_space, is_no_lf}
 
@@ -17,11 +17,6 @@ behind true (b ∷ bs) = behind (is_no_lf b) bs
 behind false [] = []
 behind false (b ∷ bs) = cond (is_space b) (behind false bs) (cond (b == 35) (behind true bs) (b ∷ bs))
 
--- What is left behind the longest front of a class.
-abbrev pub past : (ℕ → Bool) → List ℕ → List ℕ
-past p [] = []
-past p (b ∷ bs) = cond (p b) (past p bs) (b ∷ bs)
-
 -- Where the inside of a text in quotes ends: what is left there, and whether a `\` stands before it. The flag says that one
 -- stands before the bytes.
 pub record Inside : Type 0 where
@@ -31,7 +26,7 @@ pub record Inside : Type 0 where
 abbrev pub inside : Bool → List ℕ → Inside
 inside e [] = record { escape = e; left = [] }
 inside true (b ∷ bs) = cond (is_escaped b) (inside false bs) (record { escape = true; left = b ∷ bs })
-inside false (b ∷ bs) = cond (b == 92) (inside true bs) (cond (is_plain b) (inside false bs) (record { escape = false; left = b ∷ bs }))
+inside false (b ∷ bs) = cond (b == 92) (inside true bs) (cond (is_unescaped b) (inside false bs) (record { escape = false; left = b ∷ bs }))
 
 -- The length of the longest sign in front, 0 where there is none.
 abbrev pub sign_size : List ℕ → ℕ

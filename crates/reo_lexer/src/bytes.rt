@@ -1,6 +1,6 @@
 //! Classes of bytes.
 ghost use Rattle.std.specs.Prelude.{◌≡◌};
-ghost use Rattle.reo_grammar.specs.Bytes.{is_digit as digit_test, is_letter as letter_test, is_name_byte as name_test, is_plain as plain_test, is_escaped as escaped_test};
+ghost use Rattle.reo_grammar.specs.Bytes.{is_digit as digit_test, is_letter as letter_test, is_name_byte as name_test, is_unescaped as unescaped_test, is_escaped as escaped_test};
 ghost use Rattle.reo_lexer.specs.Gaps.{is_space as space_test};
 ghost use Rattle.reo_lexer.specs.Faults.{is_break as break_test};
 
@@ -33,8 +33,8 @@ pub fn is_space(byte: u8) -> bool
 }
 
 /// Whether it may stand in a text in quotes as it is.
-pub fn is_plain(byte: u8) -> bool
-    ensures { result ≡ plain_test byte }
+pub fn is_unescaped(byte: u8) -> bool
+    ensures { result ≡ unescaped_test byte }
 {
     b' ' <= byte && byte <= b'~' && byte != b'"' && byte != b'\\'
 }

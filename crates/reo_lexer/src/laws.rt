@@ -6,7 +6,7 @@ ghost use Rattle.reo_lexer.specs.declared.token.LexFault.{LexFault as FaultSpec}
 ghost use Rattle.reo_grammar.specs.Grammar.{Says, Refused};
 ghost use Rattle.reo_lexer.specs.Lexing.{IsTokens, lexemes_of};
 ghost use Rattle.reo_lexer.specs.Faults.{IsFault};
-ghost use Rattle.reo_lexer.specs.Written.{GoesOn, IsBegun};
+ghost use Rattle.reo_lexer.specs.Onward.{GoesOn, IsBegun};
 
 use reo_grammar::Language;
 

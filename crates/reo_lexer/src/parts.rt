@@ -5,7 +5,7 @@ ghost use Rattle.reo_grammar.specs.Bytes.{is_digit as digit_test, is_name_byte a
 ghost use Rattle.reo_lexer.specs.Gaps.{lines_in as lines_of};
 ghost use Rattle.reo_lexer.specs.Skipping.{behind, inside, sign_size};
 
-use crate::bytes::{is_digit, is_escaped, is_name_byte, is_plain, is_space};
+use crate::bytes::{is_digit, is_escaped, is_name_byte, is_space, is_unescaped};
 use crate::words::is_sign;
 
 /// How many bytes the gap in front has.
@@ -93,7 +93,7 @@ pub fn inside_of(left: &[u8]) -> Inside
             escape = false;
         } else if *byte == b'\\' {
             escape = true;
-        } else if !is_plain(*byte) {
+        } else if !is_unescaped(*byte) {
             return Inside {
                 length: index,
                 escape: false,

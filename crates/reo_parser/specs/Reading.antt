@@ -1,8 +1,8 @@
 -- What the readers of forms give.
-use Rattle.std.specs.Prelude.{ℕ, ◌≤◌, List, length, drop}
+use Rattle.std.specs.Prelude.{◌≤◌, List, length, drop}
 use Rattle.reo_values.specs.declared.operator.Binary.{Binary}
-use Rattle.reo_grammar.specs.Tokens.{Lexeme, Class}
-use Rattle.reo_grammar.specs.Grammar.{Outcome, Says, Refused, read, reads, loop}
+use Rattle.reo_grammar.specs.Tokens.{Lexeme}
+use Rattle.reo_grammar.specs.Grammar.{Outcome, Says, Refused, read, reads}
 use Rattle.reo_trees.specs.declared.terms.Term.{Term}
 use Rattle.reo_trees.specs.Forms.{FormOf}
 use Rattle.reo_trees.specs.Operators.{Further}
@@ -14,10 +14,6 @@ use Rattle.reo_parser.specs.declared.texts.Outcome.TheVariants as outcomes
 -- Reading a form without rules.
 abbrev pub read_plain : {A : Type 0} → FormOf A → List Lexeme → Outcome A
 read_plain g ts = read (reads circuit_rules 0) g ts
-
--- Going on with further parts behind a first one.
-abbrev pub goes_on : {A B : Type 0} → (A → B → A) → Class → FormOf B → ℕ → A → List Lexeme → Outcome A
-goes_on f c h room x ts = loop f c (read (reads circuit_rules room) h) (length ts) x ts
 
 -- An operator and its right operand, wherever that begins.
 abbrev pub operand : Binary → Term → Further

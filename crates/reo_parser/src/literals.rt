@@ -12,8 +12,8 @@ use reo_trees::{Constant, Literal, LiteralPair};
 use reo_values::Boxed;
 use std::alloc::Global;
 
-/// No number has more than 18 digits.
-pub const GREATEST: u64 = 1_000_000_000_000_000_000;
+/// The greatest number of 18 digits: no number has more.
+pub const GREATEST: u64 = 999_999_999_999_999_999;
 
 fn minus(cursor: &mut Cursor) -> Result<Constant, Halt>
     ensures { Gives result cursor.new (read_plain minus_form cursor.old) }

@@ -1,17 +1,18 @@
 -- Terms that need no parentheses, and groupings.
-use Rattle.std.proofs.Common.{◌≡◌, ℕ, pos, ◌≤◌, ◌<◌, ◌^◌, ◌==◌, true, false, List, [], ◌∷◌, ◌++◌, refl, sym, ◌∙◌, ap, subst, arith, append-nil, codes}
+use Rattle.std.proofs.Common.{◌≡◌, ℕ, pos, ◌≤◌, ◌<◌, ◌^◌, ◌==◌, true, false, not, List, [], ◌∷◌, ◌++◌, refl, sym, ◌∙◌, ap, subst, arith, append-nil, codes}
+use Rattle.std.specs.List.{list_all}
 use Rattle.std.proofs.lemmas.Bool.Decides.{nat_tests}
 use Rattle.std.specs.Fmt.{decimal}
 use denote.Hole.Carrier.{hidden}
 use Rattle.reo_grammar.specs.declared.kind.TokenKind.TheVariants as kinds
-use Rattle.reo_grammar.specs.Bytes.{is_not, is_letter, is_digit, is_name_byte, each, one_of}
+use Rattle.reo_grammar.specs.Bytes.{is_letter, is_digit, is_name_byte, one_of}
 use Rattle.reo_grammar.specs.Spelling.{spells, is_short, is_spelled, is_digits, reserved}
 use Rattle.reo_grammar.specs.Tokens.{Lexeme, matches, is_real, number_from}
 use Rattle.reo_grammar.specs.Tokens.Class.{fixed, name, number}
 use Rattle.reo_grammar.specs.Grammar.Grammar.{rule}
 use Rattle.reo_grammar.proofs.Sound.{and-left}
 use Rattle.reo_grammar.proofs.Numbers.{real-number-below}
-use Rattle.reo_lexer.specs.Written.{is_cut}
+use Rattle.reo_lexer.proofs.Cut.{is_cut}
 use Rattle.reo_lexer.proofs.Spelled.{letter-parts, digit-parts, never, yes-not}
 use Rattle.reo_values.specs.declared.operator.Unary.{Unary}
 use Rattle.reo_values.specs.declared.operator.Unary.TheVariants as unaries
@@ -55,21 +56,21 @@ digit-begins b bs h = let k = digit-parts b h in yes-not (b == 61) (never (b == 
 name-spelled : (t : Lexeme) → matches name t ≡ true → is_real t ≡ true → is_spelled t.bytes ≡ true
 name-spelled t m q =
     let s : spells kinds.Name t.bytes ≡ true = subst (λ k. spells k t.bytes ≡ true) (name-kind t.kind m) (and-left (spells t.kind t.bytes) (is_short t.kind t.bytes) q) in
-    and-left (is_spelled t.bytes) (is_not (one_of t.bytes reserved)) s
+    and-left (is_spelled t.bytes) (not (one_of t.bytes reserved)) s
 
 spelled-begins : (b : List ℕ) → is_spelled b ≡ true → begins b ≡ true
 spelled-begins [] h = absurd (cc)
-spelled-begins (b ∷ bs) h = letter-begins b bs (and-left (is_letter b) (each is_name_byte bs) h)
+spelled-begins (b ∷ bs) h = letter-begins b bs (and-left (is_letter b) (list_all is_name_byte bs) h)
 
 digits-begin : (b : List ℕ) → is_digits b ≡ true → begins b ≡ true
 digits-begin [] h = absurd (cc)
-digits-begin (b ∷ bs) h = digit-begins b bs (and-left (is_digit b) (each is_digit bs) h)
+digits-begin (b ∷ bs) h = digit-begins b bs (and-left (is_digit b) (list_all is_digit bs) h)
 
 -- A `.` before a name is a sign of its own.
 dot-cut : (b r : List ℕ) → is_spelled b ≡ true → is_cut kinds.Sign (codes ".") (b ++ r) ≡ true
 dot-cut [] r h = absurd (cc)
 dot-cut (b ∷ bs) r h =
-    let k : 65 ≤ b = letter-parts b (and-left (is_letter b) (each is_name_byte bs) h) in
+    let k : 65 ≤ b = letter-parts b (and-left (is_letter b) (list_all is_name_byte bs) h) in
     let e : (b == 46) ≡ false = never (b == 46) (λ e. let n : b ≡ 46 = grind (arith, nat_tests) in absurd (omega arith)) in
     rw e refl
 

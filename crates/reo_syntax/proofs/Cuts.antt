@@ -1,9 +1,9 @@
 -- Signs that no byte goes on with, and what is apart from any token.
-use Rattle.std.proofs.Common.{◌≡◌, ℕ, Bool, true, List, [], ◌∷◌, refl, codes}
+use Rattle.std.proofs.Common.{◌≡◌, ℕ, Bool, true, not, List, [], ◌∷◌, refl, codes}
 use Rattle.reo_grammar.specs.declared.kind.TokenKind.TheVariants as kinds
-use Rattle.reo_grammar.specs.Bytes.{is_not, is_name_byte}
+use Rattle.reo_grammar.specs.Bytes.{is_name_byte}
 use Rattle.reo_grammar.proofs.Sound.{and-left}
-use Rattle.reo_lexer.specs.Written.{is_cut}
+use Rattle.reo_lexer.proofs.Cut.{is_cut}
 use Rattle.reo_syntax.proofs.Row.{is_apart, apart-cut}
 
 pub minus-cut : (r : List ℕ) → is_cut kinds.Sign (codes "-") r ≡ true
@@ -52,8 +52,8 @@ apart-loose r h = by r h (apart-cut kinds.Number (48 ∷ []) r refl h)
 -- A word before such a rest is cut there.
 pub name-cut : (b r : List ℕ) → is_apart r ≡ true → is_cut kinds.Name b r ≡ true
 name-cut b [] h = refl
-name-cut b (c ∷ r) h = and-left (is_not (is_name_byte c)) _ h
+name-cut b (c ∷ r) h = and-left (not (is_name_byte c)) _ h
 
 pub word-cut : (b r : List ℕ) → is_apart r ≡ true → is_cut kinds.Word b r ≡ true
 word-cut b [] h = refl
-word-cut b (c ∷ r) h = and-left (is_not (is_name_byte c)) _ h
+word-cut b (c ∷ r) h = and-left (not (is_name_byte c)) _ h

@@ -1,8 +1,8 @@
 -- Bytes that are tokens in a row, with blanks before, between and behind them.
-use Rattle.std.proofs.Common.{◌≡◌, ℕ, ◌+◌, ◌≤◌, ◌==◌, Bool, true, false, List, [], ◌∷◌, ◌++◌, length, drop, refl, sym, ◌∙◌, ap, subst, arith, append_assoc, append-nil}
+use Rattle.std.proofs.Common.{◌≡◌, ℕ, ◌+◌, ◌≤◌, ◌==◌, Bool, true, false, ◌&&◌, ◌||◌, not, List, [], ◌∷◌, ◌++◌, length, drop, refl, sym, ◌∙◌, ap, subst, arith, append_assoc, append-nil}
 use Rattle.reo_grammar.specs.declared.kind.TokenKind.{TokenKind}
 use Rattle.reo_grammar.specs.declared.kind.TokenKind.TheVariants as kinds
-use Rattle.reo_grammar.specs.Bytes.{and, or, is_not, is_digit, is_name_byte, one_of}
+use Rattle.reo_grammar.specs.Bytes.{is_digit, is_name_byte, one_of}
 use Rattle.reo_grammar.specs.Spelling.{spells, is_short, signs}
 use Rattle.reo_grammar.specs.Tokens.{Lexeme, is_real, Alike}
 use Rattle.reo_grammar.proofs.Sound.{and-left, and-right}
@@ -10,7 +10,7 @@ use Rattle.reo_lexer.specs.declared.token.Token.{Token}
 use Rattle.reo_lexer.specs.Gaps.{IsGap, lines_in}
 use Rattle.reo_lexer.specs.Gaps.IsGap.{no_gap, space, comment}
 use Rattle.reo_lexer.specs.Lexing.{Leads, Runs, AtEnd, IsTokens, lexemes_of}
-use Rattle.reo_lexer.specs.Written.{is_cut}
+use Rattle.reo_lexer.proofs.Cut.{is_cut}
 use Rattle.reo_lexer.proofs.Spans.{lead-lies}
 use Rattle.reo_lexer.proofs.Spelled.{one_of-passes, not-yes, yes-not, never}
 use Rattle.reo_lexer.proofs.Cut.{cut-token}
@@ -70,13 +70,13 @@ row-tokens text ts h = row-runs text 0 1 text ts (omega arith) refl h
 -- The next byte, if there is one, goes on with no name, no number and no sign.
 abbrev pub is_apart : List ℕ → Bool
 is_apart [] = true
-is_apart (b ∷ r) = and (is_not (is_name_byte b)) (and (is_not (b == 46)) (is_not (b == 61)))
+is_apart (b ∷ r) = not (is_name_byte b) && (not (b == 46) && not (b == 61))
 
 -- A sign's first byte is no half of a sign, and its second, if there is one, is `.`, `=`, `&` or `|`.
 abbrev ends_well : List ℕ → Bool
 ends_well [] = false
-ends_well (a ∷ []) = and (is_not (a == 38)) (is_not (a == 124))
-ends_well (a ∷ b ∷ []) = or (or (a == 38) (a == 124)) (or (b == 46) (b == 61))
+ends_well (a ∷ []) = not (a == 38) && not (a == 124)
+ends_well (a ∷ b ∷ []) = (a == 38 || a == 124) || (b == 46 || b == 61)
 ends_well (a ∷ b ∷ c ∷ l) = false
 
 signs-well : (b : List ℕ) → one_of b signs ≡ true → ends_well b ≡ true
@@ -89,30 +89,30 @@ sign-apart (a ∷ c ∷ l) b r h k = never _ (long l)
     long : (l : List ℕ) → one_of ((a ∷ c ∷ l) ++ b ∷ []) signs ≡ true → ⊥
     long [] q = let w : false ≡ true = signs-well (a ∷ c ∷ b ∷ []) q in cc
     long (d ∷ l) q = let w : false ≡ true = signs-well (a ∷ c ∷ d ∷ (l ++ b ∷ [])) q in cc
-sign-apart (a ∷ []) b r h k = never _ (λ q. by (a == 38) (a == 124) (b == 46) (b == 61) (signs-well (a ∷ []) h) (signs-well (a ∷ b ∷ []) q) (and-right (is_not (is_name_byte b)) (and (is_not (b == 46)) (is_not (b == 61))) k))
+sign-apart (a ∷ []) b r h k = never _ (λ q. by (a == 38) (a == 124) (b == 46) (b == 61) (signs-well (a ∷ []) h) (signs-well (a ∷ b ∷ []) q) (and-right (not (is_name_byte b)) (not (b == 46) && not (b == 61)) k))
   where
-    by : (x y z w : Bool) → and (is_not x) (is_not y) ≡ true → or (or x y) (or z w) ≡ true → and (is_not z) (is_not w) ≡ true → ⊥
+    by : (x y z w : Bool) → (not x && not y) ≡ true → ((x || y) || (z || w)) ≡ true → (not z && not w) ≡ true → ⊥
     by true y z w h q k = cc
     by false true z w h q k = cc
     by false false true w h q k = cc
     by false false false true h q k = cc
     by false false false false h q k = cc
 
-number-apart : (b : ℕ) → is_not (is_name_byte b) ≡ true → is_not (is_digit b) ≡ true
+number-apart : (b : ℕ) → not (is_name_byte b) ≡ true → not (is_digit b) ≡ true
 number-apart b h = yes-not (is_digit b) (never (is_digit b) (λ e. by b e h))
   where
-    by : (b : ℕ) → is_digit b ≡ true → is_not (is_name_byte b) ≡ true → ⊥
+    by : (b : ℕ) → is_digit b ≡ true → not (is_name_byte b) ≡ true → ⊥
     by b e h = let n : is_name_byte b ≡ false = not-yes (is_name_byte b) h in absurd (either (Rattle.reo_grammar.specs.Bytes.is_letter b) (is_digit b) e n)
       where
-        either : (x y : Bool) → y ≡ true → or x y ≡ false → ⊥
+        either : (x y : Bool) → y ≡ true → (x || y) ≡ false → ⊥
         either true y e n = cc
         either false y e n = cc
 
 -- No token goes on with such a byte.
 pub apart-cut : (k : TokenKind) (bytes r : List ℕ) → spells k bytes ≡ true → is_apart r ≡ true → is_cut k bytes r ≡ true
 apart-cut k bytes [] s h = refl
-apart-cut kinds.Name bytes (b ∷ r) s h = and-left (is_not (is_name_byte b)) (and (is_not (b == 46)) (is_not (b == 61))) h
-apart-cut kinds.Word bytes (b ∷ r) s h = and-left (is_not (is_name_byte b)) (and (is_not (b == 46)) (is_not (b == 61))) h
-apart-cut kinds.Number bytes (b ∷ r) s h = number-apart b (and-left (is_not (is_name_byte b)) (and (is_not (b == 46)) (is_not (b == 61))) h)
+apart-cut kinds.Name bytes (b ∷ r) s h = and-left (not (is_name_byte b)) (not (b == 46) && not (b == 61)) h
+apart-cut kinds.Word bytes (b ∷ r) s h = and-left (not (is_name_byte b)) (not (b == 46) && not (b == 61)) h
+apart-cut kinds.Number bytes (b ∷ r) s h = number-apart b (and-left (not (is_name_byte b)) (not (b == 46) && not (b == 61)) h)
 apart-cut kinds.Text bytes (b ∷ r) s h = refl
 apart-cut kinds.Sign bytes (b ∷ r) s h = yes-not (one_of (bytes ++ b ∷ []) signs) (sign-apart bytes b r s h)

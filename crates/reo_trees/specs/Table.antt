@@ -17,7 +17,8 @@ use Rattle.reo_trees.specs.Rules.{circuit_rules}
 abbrev pub none_of_rules : Rule → List Class
 none_of_rules r = []
 
--- The classes that begin each rule, and those that go on after it. No rule begins or ends with another.
+-- The classes that begin each rule, and those that go on after it. No rule begins with a rule, and nothing goes on after
+-- the one rule that some end with, what a `!` or `-` stands before.
 abbrev pub circuit_first : Rule → List Class
 circuit_first r = firsts none_of_rules (circuit_rules r)
 

@@ -59,6 +59,15 @@ fn operators_above_the_limit(rt: HostRuntime) -> Result<(), Fail> {
     Ok(())
 }
 
+/// A text that is not complete is refused behind all its tokens, so after the level at the last one.
+#[test]
+fn incomplete_above_the_limit(rt: HostRuntime) -> Result<(), Fail> {
+    let deep = nested(rt.alloc(), 65, b"")?;
+    let fault = ParseFault::TooDeep { line: 66 };
+    refused(&rt, rt.alloc(), deep.as_slice(), fault);
+    Ok(())
+}
+
 /// On one token the refusal by the grammar comes first.
 #[test]
 fn refusal_on_the_same_token(rt: HostRuntime) -> Result<(), Fail> {

@@ -3,7 +3,7 @@ use Rattle.reo_grammar.specs.Tokens.Class.{fixed}
 use Rattle.reo_grammar.specs.Grammar.Grammar.{rule}
 use Rattle.reo_trees.specs.Forms.{listed, further}
 use Rattle.reo_trees.specs.Forms.Rule.{literal_rule}
-use Rattle.reo_parser.specs.Reading.{goes_on}
+use Rattle.reo_parser.proofs.Turns.{goes_on}
 use Rattle.reo_parser.proofs.channels.literals.Given as goal
 
 abbrev pub invariant-literals : goal.invariant-literals

@@ -1,7 +1,7 @@
 use Rattle.std.proofs.Common.{◌≡◌, [], length}
 use Rattle.reo_trees.specs.Forms.{listed}
 use Rattle.reo_trees.specs.Programs.{declaration_words, declaration_form}
-use Rattle.reo_parser.specs.Reading.{goes_on}
+use Rattle.reo_parser.proofs.Turns.{goes_on}
 use Rattle.reo_parser.proofs.programs.declarations.Given as goal
 
 abbrev pub invariant-declarations : goal.invariant-declarations

@@ -2,7 +2,7 @@ use Rattle.std.proofs.Common.{◌≡◌, length, codes}
 use Rattle.reo_grammar.specs.Tokens.Class.{fixed}
 use Rattle.reo_trees.specs.Forms.{listed, further}
 use Rattle.reo_trees.specs.Programs.{parameter_form}
-use Rattle.reo_parser.specs.Reading.{goes_on}
+use Rattle.reo_parser.proofs.Turns.{goes_on}
 use Rattle.reo_parser.proofs.programs.parameters.Given as goal
 
 abbrev pub invariant-parameters : goal.invariant-parameters

@@ -1,7 +1,7 @@
 use Rattle.std.proofs.Common.{◌≡◌, length, codes}
 use Rattle.reo_grammar.specs.Tokens.Class.{fixed}
 use Rattle.reo_trees.specs.Forms.{listed, further, name_form}
-use Rattle.reo_parser.specs.Reading.{goes_on}
+use Rattle.reo_parser.proofs.Turns.{goes_on}
 use Rattle.reo_parser.proofs.types.names.Given as goal
 
 abbrev pub invariant-names : goal.invariant-names
