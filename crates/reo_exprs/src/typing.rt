@@ -1,5 +1,5 @@
 //! The type of an expression.
-ghost use Rattle.std.specs.Prelude.{◌≡◌, IfOk, IsTrue, IsSome, Some, None, nat_le};
+ghost use Rattle.std.specs.Prelude.{◌≡◌, ◌≢◌, IfErr, IfNone, IfOk, IfSome, IsTrue, IsSome, Err, Ok, Some, None, nat_le};
 ghost use Rattle.std.specs.Result.{IsErrOf};
 ghost use Rattle.reo_exprs.specs.Interval.{is_near_interval, near, arithmetic};
 ghost use Rattle.reo_exprs.specs.Kinds.{is_within};
@@ -174,6 +174,23 @@ fn type_within(alloc: Global, expr: &Expr, of: &Kindred) -> Result<Option<Kindre
     }
 }
 
+// The type that was found, the fault where there is none, and want of memory only where it was met.
+fn or_fault(
+    found: Result<Option<Kindred>, NoMemory>,
+    fault: TypeFault,
+) -> Result<Kindred, TypeFault>
+    requires { fault ≢ TypeFault.NoMemory }
+    ensures typed { IfOk found (λ made. IfSome made (λ kindred. result ≡ Ok kindred)) }
+    ensures fault { IfOk found (λ made. IfNone made (result ≡ Err fault)) }
+    ensures memory { IfErr found (λ error. result ≡ Err TypeFault.NoMemory) }
+{
+    match found {
+        Ok(Some(kindred)) => Ok(kindred),
+        Ok(None) => Err(fault),
+        Err(NoMemory) => Err(TypeFault::NoMemory),
+    }
+}
+
 /// The type of an expression where `it` has a type. `Mistyped` where a part of it is of a kind
 /// that does not fit where it stands; `Range` where it is not mistyped and an interval leaves
 /// -10^18 to 10^18, a divisor's interval has a number below 1, or a text has more than 1,024
@@ -184,13 +201,6 @@ pub fn type_of(alloc: Global, expr: &Expr, of: &Kindred) -> Result<Kindred, Type
     ensures mistyped { IsErrOf result TypeFault.Mistyped → kind_of_expr expr.now of.now ≡ None }
     ensures range { IsErrOf result TypeFault.Range → IsSome (kind_of_expr expr.now of.now) × (type_of_expr expr.now of.now ≡ None) }
 {
-    match kind_of_expr(alloc, expr, of) {
-        Ok(Some(_)) => match type_within(alloc, expr, of) {
-            Ok(Some(kindred)) => Ok(kindred),
-            Ok(None) => Err(TypeFault::Range),
-            Err(NoMemory) => Err(TypeFault::NoMemory),
-        },
-        Ok(None) => Err(TypeFault::Mistyped),
-        Err(NoMemory) => Err(TypeFault::NoMemory),
-    }
+    or_fault(kind_of_expr(alloc, expr, of), TypeFault::Mistyped)?;
+    or_fault(type_within(alloc, expr, of), TypeFault::Range)
 }
