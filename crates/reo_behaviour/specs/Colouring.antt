@@ -1,5 +1,5 @@
 -- Colourings of a circuit in its present state.
-use Rattle.std.specs.Prelude.{ℕ, ◌+◌, ◌<◌, ◌≡◌, ◌≢◌, Bool, true, Option, Some, None, List, [], ◌∷◌, length, slice_index_or, cond}
+use Rattle.std.specs.Prelude.{ℕ, ◌<◌, ◌≡◌, ◌≢◌, Bool, true, Option, Some, None, List, [], ◌∷◌, length, slice_index_or, cond}
 use Rattle.std.specs.Option.{option_and_then}
 use Rattle.reo_values.specs.declared.value.Value.{Value}
 use Rattle.reo_behaviour.specs.declared.mark.Mark.TheVariants.{F}

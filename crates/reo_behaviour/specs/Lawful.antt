@@ -1,5 +1,5 @@
 -- The laws of a primitive.
-use Rattle.std.specs.Prelude.{ℕ, ◌+◌, ◌<◌, ◌≤◌, ◌≡◌, ◌≢◌, ◌^◌, true, false, Option, Some, None, IsSome}
+use Rattle.std.specs.Prelude.{ℕ, ◌+◌, ◌<◌, ◌≤◌, ◌≡◌, ◌≢◌, ◌^◌, true, false, Some, None, IsSome}
 use Rattle.reo_values.specs.declared.value.Value.{Value}
 use Rattle.reo_behaviour.specs.declared.mark.Mark.TheVariants.{F, J}
 use Rattle.reo_behaviour.specs.declared.colouring.Chosen.{Chosen}

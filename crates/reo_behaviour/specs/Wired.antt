@@ -1,10 +1,10 @@
 -- What holds of every circuit.
-use Rattle.std.specs.Prelude.{ℕ, ◌+◌, ◌<◌, ◌≤◌, ◌≡◌, ◌≢◌, true, false, List, length, map, slice_index_or}
+use Rattle.std.specs.Prelude.{ℕ, ◌<◌, ◌≤◌, ◌≡◌, ◌≢◌, true, false, List, length, slice_index_or}
 use Rattle.reo_behaviour.specs.declared.joint.End.{End}
 use Rattle.reo_behaviour.specs.declared.joint.Joint.{Joint}
 use Rattle.reo_behaviour.specs.Behaviour.{Behaviour}
 use Rattle.reo_behaviour.specs.Lawful.{IsLawful}
-use Rattle.reo_behaviour.specs.Net.{Net, behaviour_at, end_of, is_at, first_side, side_at}
+use Rattle.reo_behaviour.specs.Net.{Net, behaviour_at, end_of, is_at, side_at}
 
 -- An end that there is.
 abbrev pub IsEnd : List Behaviour → End → Type 0

@@ -4,7 +4,6 @@ ghost use Rattle.reo_values.specs.declared.value.Value.{Value as Item};
 ghost use Rattle.reo_behaviour.specs.declared.colouring.Chosen.{Chosen as Rows};
 ghost use Rattle.reo_behaviour.specs.declared.port.Offer.{Offer as Offered};
 ghost use Rattle.reo_behaviour.specs.Marks.{is_flow};
-ghost use Rattle.reo_behaviour.specs.Behaviour.{Behaviour};
 ghost use Rattle.reo_behaviour.specs.Lawful.{SameShape};
 ghost use Rattle.reo_behaviour.specs.Gate.{Gate, CanPlace, IsGateWith};
 
@@ -71,6 +70,9 @@ pub trait Ported: Primitive {
     fn withdraw(&mut self)
         requires { IsSome (gate self.old).pending }
         ensures { self.new ≡ withdrawn self.old };
+
+    /// What is no port has no pending offer.
+    ghost no_port: { (p : Self) → (gate p).way ≡ None → (gate p).pending ≡ None };
 
     /// An offer that is placed is pending, and the rest stays.
     ghost placed_gate: { (p : Self) (offer : Offered) → CanPlace (gate p) offer → IsGateWith (gate p) (gate (placed p offer)) (Some offer) };

@@ -136,7 +136,7 @@ sound_parts c plain = record {
 pub only_memory : (net : Net) → IsSound net → (f : NetFault) → IsNetFault net f → f ≡ fault.NoMemory
 only_memory net sound (fault.Ends i) is = absurd (is.loose.not_joined (sound.joined i is.in_range is.loose.end is.loose.is_end))
 only_memory net sound (fault.Way j) is =
-    let right : GoesRight net (get_or net.joints j no_joint) = sound.right j no_joint is.fault.in_range in
-    elim (is.fault.wrong no_joint) [ inl h ↦ absurd (cc (h, right.gives)) | inr h ↦ absurd (cc (h, right.takes)) ]
-only_memory net sound (fault.Cycle j) is = absurd (sound.no_cycle j is.fault.on_cycle)
+    let right : GoesRight net (get_or net.joints j no_joint) = sound.right j no_joint is.1.in_range in
+    elim (is.1.wrong no_joint) [ inl h ↦ absurd (cc (h, right.gives)) | inr h ↦ absurd (cc (h, right.takes)) ]
+only_memory net sound (fault.Cycle j) is = absurd (sound.no_cycle j is.2.on_cycle)
 only_memory net sound fault.NoMemory is = refl

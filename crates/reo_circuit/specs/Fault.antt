@@ -54,17 +54,6 @@ from_sides net = map (λ j. side_at net j.giver) net.joints
 abbrev pub to_sides : Net → List ℕ
 to_sides net = map (λ j. side_at net j.taker) net.joints
 
--- The first fault is one of ways.
-pub record IsWay (net : Net) (j : ℕ) : Type 0 where
-  pub joined : AllJoined net
-  pub fault : IsWayFault net j
-
--- The only faults are directed cycles of sides, and this is the least joint on one.
-pub record IsCycle (net : Net) (j : ℕ) : Type 0 where
-  pub joined : AllJoined net
-  pub right : AllRight net
-  pub fault : IsLeastOnCycle (from_sides net) (to_sides net) j
-
 -- No fault: each end in exactly one joint, each joint the right way, no directed cycle of sides.
 pub record IsSound (net : Net) : Type 0 where
   pub joined : AllJoined net
@@ -74,6 +63,6 @@ pub record IsSound (net : Net) : Type 0 where
 -- The first fault, in the order of the causes. Want of memory may come at any time.
 abbrev pub IsNetFault : Net → NetFault → Type 0
 IsNetFault net (Ends i) = IsEndsFault net i
-IsNetFault net (Way j) = IsWay net j
-IsNetFault net (Cycle j) = IsCycle net j
+IsNetFault net (Way j) = AllJoined net × IsWayFault net j
+IsNetFault net (Cycle j) = AllJoined net × AllRight net × IsLeastOnCycle (from_sides net) (to_sides net) j
 IsNetFault net NoMemory = Unit {0}

@@ -15,6 +15,19 @@ use Rattle.reo_kinds.specs.Items.{is_item}
 use Rattle.reo_kinds.specs.Kinds.{behaviour_of, settled_kind, gate_of, placed_kind, withdrawn_kind, offering_if, unoffered, with_take}
 use Rattle.reo_kinds.specs.KindLaws.{same_shape}
 
+-- What is no port has no pending offer.
+pub no_port_kind : (kind : Kind) → (gate_of kind).way ≡ None → (gate_of kind).pending ≡ None
+no_port_kind (Writer port) way = cc
+no_port_kind (Taker port) way = cc
+no_port_kind Sync way = refl
+no_port_kind Lossy way = refl
+no_port_kind SyncDrain way = refl
+no_port_kind AsyncDrain way = refl
+no_port_kind (Filter rule) way = refl
+no_port_kind (Map rule) way = refl
+no_port_kind (Merger branches) way = refl
+no_port_kind (Replicator branches) way = refl
+
 -- What is no port stays so.
 no_gate_stays : (pending : Option Offer) → pending ≡ None → IsGateWith no_gate no_gate pending
 no_gate_stays pending is = record { way = refl; accepts = λ _. refl; pending_is = rw (is) refl }

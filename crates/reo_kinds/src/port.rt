@@ -1,6 +1,6 @@
 //! The kinds as ports.
 ghost use Rattle.reo_kinds.specs.Kinds.{gate_of, placed_kind, withdrawn_kind};
-ghost use Rattle.reo_kinds.specs.GateLaws.{placed_kind_gate, placed_kind_shape, withdrawn_kind_gate, withdrawn_kind_shape, settled_kind_gate};
+ghost use Rattle.reo_kinds.specs.GateLaws.{no_port_kind, placed_kind_gate, placed_kind_shape, withdrawn_kind_gate, withdrawn_kind_shape, settled_kind_gate};
 
 use crate::kind::Kind;
 use crate::offer;
@@ -52,6 +52,8 @@ impl Ported for Kind {
             _ => {}
         }
     }
+
+    ghost no_port = { no_port_kind };
 
     ghost placed_gate = { placed_kind_gate };
 

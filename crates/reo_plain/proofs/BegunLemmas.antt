@@ -14,23 +14,23 @@ use Rattle.reo_behaviour.specs.Net.{Net, Side, all_sides, row_count}
 use Rattle.reo_behaviour.specs.Colouring.{AreRows, IsColouring}
 use Rattle.reo_behaviour.specs.First.{key_at, positions, order_of}
 use Rattle.reo_laws.proofs.Sides.{are_rows, rows_length}
-use Rattle.reo_plain.specs.Begun.{AreFirstRows, Begins, Improves}
+use Rattle.reo_plain.specs.Begun.{AreFirstRows, IsPrefix, Improves}
 
 lt_cases : (x y : ℕ) → (x < y) ⊎ (y ≤ x)
 lt_cases x y = elim (nat_lt x y) as (λ t. nat_lt x y ≡ t → (x < y) ⊎ (y ≤ x)) [ true ↦ λ e. inl (grind (arith, nat_tests)) | false ↦ λ e. inr (grind (arith, nat_tests)) ] refl
 
 -- A row that was chosen is the same in all that begin so.
-pub row_begun : (rows others : List ℕ) (k : ℕ) → k < length rows → Begins rows others → get_or others k 0 ≡ get_or rows k 0
+pub row_begun : (rows others : List ℕ) (k : ℕ) → k < length rows → IsPrefix rows others → get_or others k 0 ≡ get_or rows k 0
 row_begun rows others k lt h = sym (get_or-take (length rows) others k 0 lt) ∙ ap (λ (xs : List ℕ). get_or xs k 0) h
 
 -- One row more.
-pub begins_more : (rows others : List ℕ) → length rows < length others → Begins rows others → Begins (rows ++ get_or others (length rows) 0 ∷ []) others
-begins_more rows others lt h =
+pub prefix_more : (rows others : List ℕ) → length rows < length others → IsPrefix rows others → IsPrefix (rows ++ get_or others (length rows) 0 ∷ []) others
+prefix_more rows others lt h =
     let x : ℕ = get_or others (length rows) 0 in
     rw (length-append rows (x ∷ []), take_more others (length rows) 0 lt, h) refl
 
-pub begins_whole : (rows others : List ℕ) → length rows ≡ length others → Begins rows others → others ≡ rows
-begins_whole rows others n h = rw (take_all (length rows) others (omega arith)) at h
+pub prefix_whole : (rows others : List ℕ) → length rows ≡ length others → IsPrefix rows others → others ≡ rows
+prefix_whole rows others n h = rw (take_all (length rows) others (omega arith)) at h
 
 module _ (sides : List Side) (rows : List ℕ) (are : AreFirstRows sides rows) where
   pub first_rows_more : (r : ℕ) → length rows < length sides → ((d : Side) → r < row_count (get_or sides (length rows) d)) → AreFirstRows sides (rows ++ r ∷ [])
@@ -82,20 +82,20 @@ improves_whole net turn tried old new items n col kept here = record {
   colouring = col;
   not_after_old = kept;
   not_after_tried = λ others other_items other begins.
-      let same : others ≡ tried = begins_whole tried others (n ∙ sym (colouring_length net others other_items other)) begins in
+      let same : others ≡ tried = prefix_whole tried others (n ∙ sym (colouring_length net others other_items other)) begins in
       rw same (here other_items (rw same at other));
 }
 
 -- All that go on with one of the first rows were tried, and now all that go on with the next.
 pub tried_more : (net : Net) (turn : ℕ) (rows pushed old new : List ℕ) (items : List (Option Value)) (row : ℕ) → length rows < length (all_sides net.primitives) → pushed ≡ rows ++ row ∷ []
-    → ((others : List ℕ) (other_items : List (Option Value)) → IsColouring net others other_items → Begins rows others → get_or others (length rows) 0 < row → order_of net turn others old ≢ Less)
+    → ((others : List ℕ) (other_items : List (Option Value)) → IsColouring net others other_items → IsPrefix rows others → get_or others (length rows) 0 < row → order_of net turn others old ≢ Less)
     → Improves net turn pushed old new items
-    → (others : List ℕ) (other_items : List (Option Value)) → IsColouring net others other_items → Begins rows others → get_or others (length rows) 0 < row + 1 → order_of net turn others new ≢ Less
+    → (others : List ℕ) (other_items : List (Option Value)) → IsColouring net others other_items → IsPrefix rows others → get_or others (length rows) 0 < row + 1 → order_of net turn others new ≢ Less
 tried_more net turn rows pushed old new items row lt is before better others other_items col begins below =
     elim (lt_cases (get_or others (length rows) 0) row) [
       | inl earlier ↦ better.not_after_old others (before others other_items col begins earlier)
       | inr later ↦
           let same : get_or others (length rows) 0 ≡ row = omega (arith, later, below) in
           let long : length rows < length others = omega (arith, lt, colouring_length net others other_items col) in
-          better.not_after_tried others other_items col (rw is (rw same at (begins_more rows others long begins)))
+          better.not_after_tried others other_items col (rw is (rw same at (prefix_more rows others long begins)))
     ]

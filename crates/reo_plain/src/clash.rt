@@ -3,7 +3,7 @@ ghost use Rattle.std.specs.Prelude.{◌≡◌, ◌<◌, ◌≤◌, ℕ, List as 
 ghost use Rattle.reo_behaviour.specs.Net.{net_of, all_sides, mark_at, side_at};
 ghost use Rattle.reo_behaviour.specs.Colouring.{JointMatches, RowsFit};
 ghost use Rattle.reo_behaviour.specs.Wired.{IsEnd};
-ghost use Rattle.reo_plain.specs.Begun.{AreFirstRows, Begins, IsChosen, NoneBegins};
+ghost use Rattle.reo_plain.specs.Begun.{AreFirstRows, IsPrefix, IsChosen, NoneBegins};
 
 use reo_behaviour::{End, Joint, Mark, Primitive, marks_match};
 use reo_circuit::Circuit;
@@ -14,7 +14,7 @@ fn mark_of<P: Primitive>(circuit: &Circuit<P>, rows: &[u32], end: End) -> Mark
     requires end { IsEnd (net_of P.behaviour circuit.now).primitives end }
     requires rows { AreFirstRows (all_sides (net_of P.behaviour circuit.now).primitives) rows.now }
     requires chosen { side_at (net_of P.behaviour circuit.now) end < length rows.now }
-    ensures { (others : Items ℕ) → Begins rows.now others → mark_at (net_of P.behaviour circuit.now) others end ≡ result }
+    ensures { (others : Items ℕ) → IsPrefix rows.now others → mark_at (net_of P.behaviour circuit.now) others end ≡ result }
 {
     circuit.known();
     let row = rows[circuit.side_of(end)] as usize;
@@ -27,8 +27,8 @@ fn clashes_at<P: Primitive>(circuit: &Circuit<P>, rows: &[u32], joint: Joint) ->
     requires giver { IsEnd (net_of P.behaviour circuit.now).primitives joint.giver }
     requires taker { IsEnd (net_of P.behaviour circuit.now).primitives joint.taker }
     requires rows { AreFirstRows (all_sides (net_of P.behaviour circuit.now).primitives) rows.now }
-    ensures clash { result ≡ true → (others : Items ℕ) → Begins rows.now others → JointMatches (net_of P.behaviour circuit.now) others joint → ⊥ }
-    ensures match_ { result ≡ false → IsChosen (net_of P.behaviour circuit.now) rows.now joint → (others : Items ℕ) → Begins rows.now others → JointMatches (net_of P.behaviour circuit.now) others joint }
+    ensures clash { result ≡ true → (others : Items ℕ) → IsPrefix rows.now others → JointMatches (net_of P.behaviour circuit.now) others joint → ⊥ }
+    ensures match_ { result ≡ false → IsChosen (net_of P.behaviour circuit.now) rows.now joint → (others : Items ℕ) → IsPrefix rows.now others → JointMatches (net_of P.behaviour circuit.now) others joint }
 {
     let chosen = rows.len();
     if circuit.side_of(joint.giver) >= chosen || circuit.side_of(joint.taker) >= chosen {

@@ -17,7 +17,7 @@ use Rattle.reo_behaviour.specs.Colouring.{AreRows, taken_at, given_at, item_give
 use Rattle.reo_behaviour.specs.Wired.{IsWired, IsOrder, Feeds}
 use Rattle.reo_laws.proofs.Items.{given_same}
 use Rattle.reo_laws.proofs.Sides.{gives_at, row_in_table, row_below, side_in_range}
-use Rattle.reo_rows.specs.Filled.{AreFilledBefore}
+use Rattle.reo_rows.proofs.FilledBefore.{AreFilledBefore}
 
 -- The item at the joint that goes to an end, from a joint on.
 pub taken_from : (joints : List Joint) (items : List (Option Value)) (e : End) (i : ℕ) (d : Joint) → i < length joints → length items ≡ length joints

@@ -1,2 +1,3 @@
+pub mod FilledBefore
 pub mod ItemLemmas
 pub mod KeyLemmas

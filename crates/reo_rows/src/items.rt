@@ -5,7 +5,6 @@ ghost use Rattle.reo_behaviour.specs.declared.mark.Mark.TheVariants.{F};
 ghost use Rattle.reo_behaviour.specs.Net.{net_of, all_sides, behaviour_at, mark_at};
 ghost use Rattle.reo_behaviour.specs.Colouring.{AreRows, RowsFit, given_at, item_given, IsFilled};
 ghost use Rattle.reo_behaviour.specs.Wired.{IsEnd};
-ghost use Rattle.reo_rows.specs.Filled.{AreFilledBefore};
 
 use crate::taken::taken;
 use reo_behaviour::{Colouring, End, Joint, Mark, Primitive};

@@ -12,7 +12,7 @@ use Rattle.reo_trace.specs.declared.line.RoundLine.{RoundLine}
 use Rattle.reo_trace.specs.declared.line.Ending.{Ending}
 use Rattle.reo_trace.specs.Idle.{IdleMeansNoFlow}
 use Rattle.reo_runner.specs.Round.{Rules, State, RoundOf, ready}
-use Rattle.reo_runner.specs.Run.{Runs, IsRun, Begins, Follows, end_after}
+use Rattle.reo_runner.specs.Run.{Runs, IsRun, StartsAs, Follows, end_after}
 use Rattle.reo_runner.specs.Justified.{IsJustified}
 use Rattle.reo_runner.proofs.OrderLemmas.{KeepsShape, ready_wired, round_wired}
 
@@ -50,7 +50,7 @@ module _ {P : Type 0} (r : Rules P) (k : KeepsShape r) (components : List Compon
 
   pub run_justified : (start : State P) → IsWired (net_of r.behaviour start.circuit) → (lines : List RoundLine) (ending : Ending) → IsRun IsFirst r components limit start lines ending → IsRun IsJustified r components limit start lines ending
   run_justified start wired lines ending h =
-      elim (all_done components start.places) as (λ b. Begins b lines ending (Runs IsFirst r components limit 1 start lines ending) → Begins b lines ending (Runs IsJustified r components limit 1 start lines ending)) [
+      elim (all_done components start.places) as (λ b. StartsAs b lines ending (Runs IsFirst r components limit 1 start lines ending) → StartsAs b lines ending (Runs IsJustified r components limit 1 start lines ending)) [
         | true ↦ λ h. h
         | false ↦ λ h. runs_on 1 start lines ending wired h
       ] h

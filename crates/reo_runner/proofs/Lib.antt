@@ -6,5 +6,6 @@ pub mod OfferLemmas
 pub mod OrderLemmas
 pub mod PlaceLemmas
 pub mod RunLemmas
+pub mod SoFar
 pub mod TextLemmas
 pub mod WholeLemmas

@@ -31,9 +31,10 @@ use Rattle.reo_runner.specs.declared.outcome.End2.TheVariants as ends
 use Rattle.reo_runner.specs.Plan.{IsPlan}
 use Rattle.reo_runner.specs.Round.{Rules, State, Choosing, RoundOf, ready, advanced}
 use Rattle.reo_runner.specs.Run.{Runs, Rounds, IsRun, end_after}
-use Rattle.reo_runner.specs.Outcome.{moved, goes, is_in, is_out, Counts, tally_of, Closes, ClosesAs, Ran, Kept, Cut, SoFar, ByEnd, CameTo}
+use Rattle.reo_runner.specs.Outcome.{moved, goes, is_in, is_out, Counts, tally_of, Closes, ClosesAs, Ran, Kept, Cut, ByEnd, CameTo}
 use Rattle.reo_runner.specs.Whole.{GoesOn, HasRun}
 use Rattle.reo_runner.proofs.EndLemmas.{rounds_in, ending_rounds}
+use Rattle.reo_runner.proofs.SoFar.{SoFar}
 use Rattle.reo_runner.proofs.TextLemmas.{text_on, front_of}
 
 module _ {P : Type 0} (Suits : Choosing) (r : Rules P) (components : List Component) (limit : ℕ) where

@@ -13,7 +13,7 @@ use Rattle.reo_trace.specs.declared.line.Ending.{Ending}
 use Rattle.reo_trace.specs.declared.line.Ending.TheVariants.{Done}
 use Rattle.reo_trace.specs.Entries.{line_for}
 use Rattle.reo_runner.specs.Round.{Rules, State, Choosing, RoundOf, ready, advanced}
-use Rattle.reo_runner.specs.Run.{Runs, Rounds, IsRun, Begins, Follows, end_after}
+use Rattle.reo_runner.specs.Run.{Runs, Rounds, IsRun, StartsAs, Follows, end_after}
 use Rattle.reo_runner.specs.Whole.{HasOrder, GoesOn, HasBegun, HasRun, HasOneRun}
 use Rattle.reo_runner.proofs.OrderLemmas.{KeepsShape, ready_order, round_order}
 use Rattle.reo_runner.proofs.EndLemmas.{not_at_limit}
@@ -143,7 +143,7 @@ module _ {P : Type 0} (r : Rules P) (k : KeepsShape r) (components : List Compon
 
   pub one_run : (start : State P) → HasOrder (net_of r.behaviour start.circuit) → HasOneRun IsFirst r components limit start
   one_run start old xs ys e f p q =
-      elim (all_done components start.places) as (λ b. Begins b xs e (Runs IsFirst r components limit 1 start xs e) → Begins b ys f (Runs IsFirst r components limit 1 start ys f) → (xs ≡ ys) × (e ≡ f)) [
+      elim (all_done components start.places) as (λ b. StartsAs b xs e (Runs IsFirst r components limit 1 start xs e) → StartsAs b ys f (Runs IsFirst r components limit 1 start ys f) → (xs ≡ ys) × (e ≡ f)) [
         | true ↦ λ p q. (p.0 ∙ sym q.0, p.1 ∙ sym q.1)
         | false ↦ λ p q. one_runs 1 start xs ys e f old p q
       ] p q

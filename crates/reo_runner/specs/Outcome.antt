@@ -1,5 +1,5 @@
 -- How a run comes out, and what it has written.
-use Rattle.std.specs.Prelude.{ℕ, ◌+◌, ◌≡◌, Bool, true, false, Option, Some, None, List, [], ◌∷◌, ◌++◌, length, slice_get}
+use Rattle.std.specs.Prelude.{ℕ, ◌≡◌, Bool, true, false, Option, Some, None, List, [], ◌∷◌, ◌++◌, length, slice_get}
 use Rattle.std.specs.List.{count_by, flat_map}
 use Rattle.reo_io.specs.Sinks.{Appended, TookPart}
 use Rattle.reo_behaviour.specs.declared.colouring.Move.{Move}
@@ -14,7 +14,7 @@ use Rattle.reo_trace.specs.RoundText.{round_text}
 use Rattle.reo_trace.specs.EndingText.{ending_text}
 use Rattle.reo_trace.specs.TraceText.{rounds_text, trace_text}
 use Rattle.reo_runner.specs.Round.{Rules, State, Choosing, RoundOf}
-use Rattle.reo_runner.specs.Run.{IsRun, Rounds}
+use Rattle.reo_runner.specs.Run.{IsRun}
 use Rattle.reo_runner.specs.Whole.{GoesOn}
 use Rattle.reo_runner.specs.declared.outcome.Outcome.{Outcome}
 use Rattle.reo_runner.specs.declared.outcome.Tally.{Tally}
@@ -58,16 +58,16 @@ abbrev pub tally_of : Outcome → Tally
 tally_of o = record { rounds = o.rounds; written = o.written; delivered = o.delivered }
 
 -- The end that an outcome names for an ending of the trace.
-abbrev pub end_of : Ending → End2
-end_of (Done rounds) = ends.Done
-end_of (Stuck rounds) = ends.Stuck
-end_of (Limit rounds) = ends.Limit
+abbrev pub outcome_end : Ending → End2
+outcome_end (Done rounds) = ends.Done
+outcome_end (Stuck rounds) = ends.Stuck
+outcome_end (Limit rounds) = ends.Limit
 
 -- What a call that writes an ending has come to.
 abbrev pub ClosesAs : Ending → Option (List ℕ) → Option (List ℕ) → End2 → Type 0
 ClosesAs ending before now ends.WriteFault = TookPart before now (ending_text ending)
 ClosesAs ending before now ends.NoMemory = now ≡ before
-ClosesAs ending before now end = (end ≡ end_of ending) × Appended before now (ending_text ending)
+ClosesAs ending before now end = (end ≡ outcome_end ending) × Appended before now (ending_text ending)
 
 pub record Closes (ending : Ending) (t : Tally) (before now : Option (List ℕ)) (o : Outcome) : Type 0 where
   pub tally : tally_of o ≡ t
@@ -109,14 +109,6 @@ module _ {P : Type 0} (Suits : Choosing) (r : Rules P) (ports : List Port) (comp
     pub whole : GoesOn Suits r components limit start lines
     pub text : Appended before now (rounds_text ports lines)
     pub counts : Counts ports lines (tally_of o)
-
-  -- So far: these round lines were made and written.
-  pub record SoFar (before now : Option (List ℕ)) (turn : ℕ) (state : State P) (t : Tally) : Type 0 where
-    pub lines : List RoundLine
-    pub rounds : Rounds Suits r components limit 1 start lines state
-    pub count : turn ≡ length lines + 1
-    pub text : Appended before now (rounds_text ports lines)
-    pub counts : Counts ports lines t
 
   -- What a run has come to, by its end.
   abbrev pub ByEnd : Option (List ℕ) → Option (List ℕ) → Outcome → End2 → Type 0

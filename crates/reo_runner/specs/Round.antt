@@ -53,7 +53,7 @@ abbrev pub ports_ready : {P : Type 0} → Rules P → List Component → List �
 ports_ready r components places limit k [] = []
 ports_ready r components places limit k (p ∷ ps) = cond (nat_lt k limit) (with_pending r (action_for components places k) p) p ∷ ports_ready r components places limit (suc k) ps
 
--- The circuit with the offer of each present action pending, and no other offer.
+-- The circuit with the offer of each present action pending, and no other offer at a port.
 abbrev pub ready : {P : Type 0} → Rules P → List Component → State P → Wiring P
 ready r components a = record a.circuit { primitives = ports_ready r components a.places a.circuit.ports 0 a.circuit.primitives }
 

@@ -28,13 +28,13 @@ Runs Suits r components limit turn a (line ∷ lines) ending = (b : State _) × 
     × Follows (end_after components limit turn line.idle b.places) lines ending (Runs Suits r components limit (turn + 1) b lines ending)
 
 -- A run is done before the first round where each component is done.
-abbrev pub Begins : Bool → List RoundLine → Ending → Type 0 → Type 0
-Begins true lines ending more = (lines ≡ []) × (ending ≡ Done 0)
-Begins false lines ending more = more
+abbrev pub StartsAs : Bool → List RoundLine → Ending → Type 0 → Type 0
+StartsAs true lines ending more = (lines ≡ []) × (ending ≡ Done 0)
+StartsAs false lines ending more = more
 
 -- The whole run from a state on.
 abbrev pub IsRun : {P : Type 0} → Choosing → Rules P → List Component → ℕ → State P → List RoundLine → Ending → Type 0
-IsRun Suits r components limit a lines ending = Begins (all_done components a.places) lines ending (Runs Suits r components limit 1 a lines ending)
+IsRun Suits r components limit a lines ending = StartsAs (all_done components a.places) lines ending (Runs Suits r components limit 1 a lines ending)
 
 -- The first rounds of a run, after each of which it goes on.
 abbrev pub Rounds : {P : Type 0} → Choosing → Rules P → List Component → ℕ → ℕ → State P → List RoundLine → State P → Type 0

@@ -2,7 +2,7 @@
 ghost use Rattle.std.specs.Prelude.{◌≡◌, ◌≤◌, length};
 ghost use Rattle.reo_io.specs.Causes.{Rose};
 ghost use Rattle.reo_runner.specs.Run.{end_after};
-ghost use Rattle.reo_runner.specs.Outcome.{Closes, end_of};
+ghost use Rattle.reo_runner.specs.Outcome.{Closes, outcome_end};
 
 use crate::advance::are_done;
 use crate::outcome::{End2, Outcome, Tally};
@@ -34,8 +34,8 @@ pub(crate) fn ending_after(
 }
 
 /// The end that an outcome names for an ending.
-fn end_of(ending: Ending) -> End2
-    ensures { result ≡ end_of ending }
+fn outcome_end(ending: Ending) -> End2
+    ensures { result ≡ outcome_end ending }
 {
     match ending {
         Ending::Done { .. } => End2::Done,
@@ -51,7 +51,7 @@ pub(crate) fn close<S: Sink>(alloc: Global, ending: Ending, tally: Tally, out: &
     ensures later { S.faults out.old ≤ S.faults out.new }
 {
     match write_ending(alloc, &ending, out) {
-        Ok(()) => tally.outcome(end_of(ending)),
+        Ok(()) => tally.outcome(outcome_end(ending)),
         Err(WriteFault::Failed) => tally.outcome(End2::WriteFault),
         Err(WriteFault::NoMemory) => tally.outcome(End2::NoMemory),
     }

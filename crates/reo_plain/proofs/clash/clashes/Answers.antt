@@ -4,7 +4,7 @@ use Rattle.reo_behaviour.specs.declared.joint.Joint.{Joint}
 use Rattle.reo_behaviour.specs.Net.{Net, net_of}
 use Rattle.reo_behaviour.specs.Colouring.{JointMatches}
 use Rattle.reo_laws.proofs.Sides.{side_in_range}
-use Rattle.reo_plain.specs.Begun.{Begins, IsChosen}
+use Rattle.reo_plain.specs.Begun.{IsPrefix, IsChosen}
 use Rattle.reo_plain.proofs.BegunLemmas.{first_rows_all}
 use Rattle.reo_plain.proofs.clash.clashes.Goals as goal
 
@@ -17,7 +17,7 @@ returns-then-clashes_at-clause-clash g c = λ h others items col begins.
 pub loop-index-preserved : goal.loop-index-preserved
 loop-index-preserved g c = λ j d lt.
     let net : Net = net_of g.P.Primitive.behaviour c.args.circuit.now in
-    let match : ℕ → Type 0 = λ k. (e : Joint) → IsChosen net c.args.rows.now (get_or net.joints k e) → (others : List ℕ) → Begins c.args.rows.now others → JointMatches net others (get_or net.joints k e) in
+    let match : ℕ → Type 0 = λ k. (e : Joint) → IsChosen net c.args.rows.now (get_or net.joints k e) → (others : List ℕ) → IsPrefix c.args.rows.now others → JointMatches net others (get_or net.joints k e) in
     let here : match c.loop-index.index = λ e. rw (c.joint.ensures e) (c.clashes_at.ensures.match_ c.if-clashes_at.false) in
     below_more match c.loop-index.index (λ k h e. c.loop-index.invariant k e h) here j lt d
 

@@ -4,7 +4,7 @@ use Rattle.reo_values.specs.declared.value.Value.{Value}
 use Rattle.reo_behaviour.specs.Net.{net_of, all_sides}
 use Rattle.reo_behaviour.specs.Colouring.{IsColouring}
 use Rattle.reo_behaviour.specs.First.{order_of}
-use Rattle.reo_plain.specs.Begun.{Begins}
+use Rattle.reo_plain.specs.Begun.{IsPrefix}
 use Rattle.reo_plain.proofs.search.+best_from.Given as goal
 
 abbrev pub decreases-best_from : goal.decreases-best_from
@@ -16,6 +16,6 @@ invariant-loop-row g l = record {
   same : l.rows ≡ l.fn.rows;
   colouring : IsColouring (net_of g.P.Primitive.behaviour l.circuit) l.best.rows l.best.items;
   not_after_old : (others : List ℕ) → order_of (net_of g.P.Primitive.behaviour l.circuit) l.turn others l.fn.best.rows ≢ Less → order_of (net_of g.P.Primitive.behaviour l.circuit) l.turn others l.best.rows ≢ Less;
-  not_after_tried : (others : List ℕ) (items : List (Option Value)) → IsColouring (net_of g.P.Primitive.behaviour l.circuit) others items → Begins l.fn.rows others → get_or others (length l.fn.rows) 0 < l.row
+  not_after_tried : (others : List ℕ) (items : List (Option Value)) → IsColouring (net_of g.P.Primitive.behaviour l.circuit) others items → IsPrefix l.fn.rows others → get_or others (length l.fn.rows) 0 < l.row
       → order_of (net_of g.P.Primitive.behaviour l.circuit) l.turn others l.best.rows ≢ Less;
 }

@@ -1,6 +1,6 @@
 use Rattle.std.proofs.Common.{◌≡◌, length}
 use Rattle.reo_behaviour.specs.Net.{net_of}
-use Rattle.reo_rows.specs.Filled.{AreFilledBefore}
+use Rattle.reo_rows.proofs.FilledBefore.{AreFilledBefore}
 use Rattle.reo_rows.proofs.items.items_of.Given as goal
 
 -- The joints so far in the order have their items.

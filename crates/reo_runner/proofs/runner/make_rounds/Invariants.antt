@@ -3,7 +3,7 @@ use Rattle.reo_behaviour.specs.First.{IsFirst}
 use Rattle.reo_script.specs.Actions.{all_done, IsScriptFor}
 use Rattle.reo_runner.specs.Round.{rules_of, state_of}
 use Rattle.reo_runner.specs.Run.{start_of}
-use Rattle.reo_runner.specs.Outcome.{SoFar}
+use Rattle.reo_runner.proofs.SoFar.{SoFar}
 use Rattle.reo_runner.proofs.runner.make_rounds.Given as goal
 
 -- The lines so far are those of the first rounds, and the numbers are small.

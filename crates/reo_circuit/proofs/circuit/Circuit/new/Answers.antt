@@ -8,17 +8,17 @@ use Rattle.reo_circuit.proofs.WireLemmas.{order_is, wired_is}
 use Rattle.reo_circuit.proofs.circuit.Circuit.new.Goals as goal
 
 pub returns-in-Some-way_fault-clause-exact : goal.returns-in-Some-way_fault-clause-exact
-returns-in-Some-way_fault-clause-exact g c = record {
-  joined = rw (c.in_default.is, c.as_slice.ensures, c.as_slice-2.ensures) at c.in_ok-primitive.ensures;
-  fault = rw (c.as_slice-3.ensures, c.as_slice-4.ensures) at c.in-Some-way_fault.ensures;
-}
+returns-in-Some-way_fault-clause-exact g c = (
+  rw (c.in_default.is, c.as_slice.ensures, c.as_slice-2.ensures) at c.in_ok-primitive.ensures,
+  rw (c.as_slice-3.ensures, c.as_slice-4.ensures) at c.in-Some-way_fault.ensures,
+)
 
 pub returns-in-Cycle-clause-exact : goal.returns-in-Cycle-clause-exact
-returns-in-Cycle-clause-exact g c = record {
-  joined = rw (c.in_default.is, c.as_slice.ensures, c.as_slice-2.ensures) at c.in_ok-primitive.ensures;
-  right = rw (c.as_slice-3.ensures, c.as_slice-4.ensures) at c.in_default-way_fault.ensures;
-  fault = rw (c.in-Cycle.is, c.as_slice-6.ensures, c.as_slice-8.ensures) at c.in_ok-sorted.ensures;
-}
+returns-in-Cycle-clause-exact g c = (
+  rw (c.in_default.is, c.as_slice.ensures, c.as_slice-2.ensures) at c.in_ok-primitive.ensures,
+  rw (c.as_slice-3.ensures, c.as_slice-4.ensures) at c.in_default-way_fault.ensures,
+  rw (c.in-Cycle.is, c.as_slice-6.ensures, c.as_slice-8.ensures) at c.in_ok-sorted.ensures,
+)
 
 pub returns-in-Order-clause-exact : goal.returns-in-Order-clause-exact
 returns-in-Order-clause-exact g c =
