@@ -2,7 +2,8 @@
 //! the canonical text of the circuit.
 #![tactic(auto)]
 
-ghost use Rattle.std.specs.Prelude.{◌≡◌, map, drop, IfOk, MatchResult};
+ghost use Rattle.std.specs.Prelude.{◌≡◌, ◌≢◌, [], map, drop, IfErr, IfOk, IsErr, MatchResult};
+ghost use Rattle.std.specs.IoError.{error_kind};
 ghost use Rattle.std.specs.Process.{exit_status};
 ghost use Rattle.std.specs.String.{string_bytes};
 ghost use Rattle.std.specs.Vec.Iter.{into_iter_items};
@@ -13,8 +14,8 @@ use reo_top::{Status, reo};
 use reo_values::{Bytes, List, NoMemory};
 use std::alloc::Global;
 use std::env::Args;
+use std::io::ErrorKind;
 use std::process::ExitCode;
-use std::rt::Env;
 use std::{env, io};
 
 /// Memory was wanting before the command could begin.
@@ -31,12 +32,17 @@ fn words_behind(alloc: Global, arguments: Args) -> Result<List<Bytes>, NoMemory>
     Ok(words)
 }
 
-/// The words of the command. Where the system cannot give them, there are none.
-fn words_given(rt: &(impl Env + AllocGlobal)) -> Result<List<Bytes>, NoMemory> {
-    match env::args(rt) {
-        Ok(arguments) => words_behind(rt.alloc(), arguments),
-        Err(fault) if fault.kind() == io::ErrorKind::OutOfMemory => Err(NoMemory),
-        Err(_) => Ok(List::new(rt.alloc())),
+/// The words of the command, from what the system gave. Where it gave none for another cause than
+/// want of memory, there are none.
+fn words_of(alloc: Global, given: io::Result<Args>) -> Result<List<Bytes>, NoMemory>
+    ensures words { IfOk given (λ arguments. IfOk result (λ words. words ≡ map string_bytes (drop 1 (into_iter_items arguments)))) }
+    ensures none { IfErr given (λ fault. error_kind fault ≢ ErrorKind.OutOfMemory → result ≡ Ok []) }
+    ensures memory { IfErr given (λ fault. error_kind fault ≡ ErrorKind.OutOfMemory → IsErr result) }
+{
+    match given {
+        Ok(arguments) => words_behind(alloc, arguments),
+        Err(fault) if fault.kind() == ErrorKind::OutOfMemory => Err(NoMemory),
+        Err(_) => Ok(List::new(alloc)),
     }
 }
 
@@ -46,18 +52,19 @@ fn ended(rt: &HostRuntime, words: Result<List<Bytes>, NoMemory>) -> ExitCode
     ensures { MatchResult words (λ words. IsStatusFor words (exit_status result)) (λ _. exit_status result ≡ 10) }
 {
     let alloc: Global = rt.alloc();
-    let status = match words {
+    match words {
         Ok(words) => {
             let mut files = DiskFiles::new(alloc, rt);
             let mut source = StdSource::new(rt.reader());
             let mut sink = StdSink::new(io::writer(rt));
-            reo(alloc, &words, &mut files, &mut source, &mut sink)
+            let status = reo(alloc, &words, &mut files, &mut source, &mut sink);
+            ExitCode::from(status.code)
         }
-        Err(NoMemory) => NO_MEMORY,
-    };
-    ExitCode::from(status.code)
+        Err(NoMemory) => ExitCode::from(NO_MEMORY.code),
+    }
 }
 
 fn main(rt: HostRuntime) -> ExitCode {
-    ended(&rt, words_given(&rt))
+    let words = words_of(rt.alloc(), env::args(&rt));
+    ended(&rt, words)
 }
