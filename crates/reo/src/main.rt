@@ -46,6 +46,13 @@ fn words_of(alloc: Global, given: io::Result<Args>) -> Result<List<Bytes>, NoMem
     }
 }
 
+/// The exit code of a status.
+fn exit_code(status: Status) -> ExitCode
+    ensures { exit_status result ≡ status.code }
+{
+    ExitCode::from(status.code)
+}
+
 /// What the process ends with: the status of the command with these words on the system's files
 /// and streams, or 10 where memory for the words was wanting.
 fn ended(rt: &HostRuntime, words: Result<List<Bytes>, NoMemory>) -> ExitCode
@@ -58,9 +65,9 @@ fn ended(rt: &HostRuntime, words: Result<List<Bytes>, NoMemory>) -> ExitCode
             let mut source = StdSource::new(rt.reader());
             let mut sink = StdSink::new(io::writer(rt));
             let status = reo(alloc, &words, &mut files, &mut source, &mut sink);
-            ExitCode::from(status.code)
+            exit_code(status)
         }
-        Err(NoMemory) => ExitCode::from(NO_MEMORY.code),
+        Err(NoMemory) => exit_code(NO_MEMORY),
     }
 }
 
