@@ -75,3 +75,6 @@ fn main(rt: HostRuntime) -> ExitCode {
     let words = words_of(rt.alloc(), env::args(&rt));
     ended(&rt, words)
 }
+
+#[cfg(test)]
+mod tests;
