@@ -1,6 +1,6 @@
 -- Arrows of which each starts at its own side or ends there, and no other arrow comes there.
 use Rattle.std.proofs.Common.{◌≡◌, ℕ, ◌<◌, ◌≤◌, ◌⊎◌, inl, inr, List, [], ◌∷◌, length, get_or, sym, ◌∙◌, arith}
-use Rattle.reo_order.specs.Arrows.{Walk, NoCycle}
+use Rattle.reo_net_order.specs.Arrows.{Walk, NoCycle}
 
 -- The last arrow of a walk.
 last_step : (from to : List ℕ) (side j : ℕ) (js : List ℕ) (last : ℕ) → Walk from to side (j ∷ js) last → (k : ℕ) × (k < length from) × (get_or to k 0 ≡ last)

@@ -3,14 +3,14 @@ use Rattle.std.proofs.Common.{◌≡◌, ℕ, zero, suc, ◌+◌, ◌-◌, ◌<�
 use Rattle.std.proofs.lemmas.Bool.Decides.{nat_tests}
 use Rattle.std.proofs.lemmas.Option.{slice_get-get_or, slice_get_within}
 use Rattle.reo_values.specs.declared.kindred.Kindred.{Kindred}
-use Rattle.reo_behaviour.specs.declared.port.Way.{Way}
-use Rattle.reo_behaviour.specs.declared.port.Way.TheVariants.{In, Out}
-use Rattle.reo_behaviour.specs.Net.{Net, end_of, end_eq, is_at}
-use Rattle.reo_behaviour.specs.Wired.{IsJoined}
-use Rattle.reo_circuit.specs.declared.fault.NetFault.{NetFault}
-use Rattle.reo_circuit.specs.declared.fault.NetFault.TheVariants as fault
-use Rattle.reo_circuit.specs.Fault.{AllJoined, GoesRight, IsSound, IsNetFault}
-use Rattle.reo_circuit.proofs.Cases.{lt_cases}
+use Rattle.reo_net_base.specs.declared.port.Way.{Way}
+use Rattle.reo_net_base.specs.declared.port.Way.TheVariants.{In, Out}
+use Rattle.reo_net_base.specs.Net.{Net, end_of, end_eq, is_at}
+use Rattle.reo_net_base.specs.Wired.{IsJoined}
+use Rattle.reo_net_circuit.specs.declared.fault.NetFault.{NetFault}
+use Rattle.reo_net_circuit.specs.declared.fault.NetFault.TheVariants as fault
+use Rattle.reo_net_circuit.specs.Fault.{AllJoined, GoesRight, HasNoFault, IsNetFault}
+use Rattle.reo_net_circuit.proofs.Cases.{lt_cases}
 use Rattle.reo_kinds.specs.Kinds.{behaviour_of}
 use Rattle.reo_forms.specs.declared.plainest.Parameter.{Parameter}
 use Rattle.reo_forms.specs.declared.plainest.Joined.{Joined}
@@ -133,7 +133,7 @@ sound_parts c plain = record {
 }
 
 -- Where there is no fault, only want of memory is left to answer.
-pub only_memory : (net : Net) → IsSound net → (f : NetFault) → IsNetFault net f → f ≡ fault.NoMemory
+pub only_memory : (net : Net) → HasNoFault net → (f : NetFault) → IsNetFault net f → f ≡ fault.NoMemory
 only_memory net sound (fault.Ends i) is = absurd (is.loose.not_joined (sound.joined i is.in_range is.loose.end is.loose.is_end))
 only_memory net sound (fault.Way j) is =
     let right : GoesRight net (get_or net.joints j no_joint) = sound.right j no_joint is.1.in_range in

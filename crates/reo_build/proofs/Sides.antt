@@ -3,17 +3,17 @@ use Rattle.std.proofs.Common.{◌≡◌, ℕ, zero, suc, ◌+◌, ◌<◌, ◌�
 use Rattle.std.specs.List.{flat_map}
 use Rattle.std.proofs.lemmas.List.{length-map, length-append, get_or-map}
 use Rattle.std.proofs.lemmas.List.FromFn.{length-map-range_with_len}
-use Rattle.reo_order.specs.Arrows.{NoCycle}
-use Rattle.reo_behaviour.specs.declared.joint.End.{End}
-use Rattle.reo_behaviour.specs.declared.joint.Joint.{Joint}
-use Rattle.reo_behaviour.specs.declared.port.Way.{Way}
-use Rattle.reo_behaviour.specs.declared.port.Way.TheVariants.{In, Out}
-use Rattle.reo_behaviour.specs.Behaviour.{Behaviour, nothing}
-use Rattle.reo_behaviour.specs.Net.{Side, sides_of, first_side, behaviour_at, side_at, end_of}
-use Rattle.reo_behaviour.specs.Wired.{IsEnd, IsPort, ArePorts}
-use Rattle.reo_circuit.specs.Parts.{AreJoints}
-use Rattle.reo_circuit.specs.Fault.{AllRight, GoesRight, from_sides, to_sides}
-use Rattle.reo_circuit.proofs.Cases.{lt_cases}
+use Rattle.reo_net_order.specs.Arrows.{NoCycle}
+use Rattle.reo_net_base.specs.declared.joint.End.{End}
+use Rattle.reo_net_base.specs.declared.joint.Joint.{Joint}
+use Rattle.reo_net_base.specs.declared.port.Way.{Way}
+use Rattle.reo_net_base.specs.declared.port.Way.TheVariants.{In, Out}
+use Rattle.reo_net_base.specs.Behaviour.{Behaviour, nothing}
+use Rattle.reo_net_base.specs.Net.{Side, sides_of, first_side, behaviour_at, side_at, end_of}
+use Rattle.reo_net_base.specs.Wired.{IsEnd, IsPort, ArePorts}
+use Rattle.reo_net_circuit.specs.Parts.{AreJoints}
+use Rattle.reo_net_circuit.specs.Fault.{AllRight, GoesRight, from_sides, to_sides}
+use Rattle.reo_net_circuit.proofs.Cases.{lt_cases}
 use Rattle.reo_kinds.specs.Kinds.{behaviour_of}
 use Rattle.reo_kinds.specs.Tables.{sync}
 use Rattle.reo_values.specs.declared.kindred.Kindred.{Kindred}

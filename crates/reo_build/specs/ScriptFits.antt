@@ -2,7 +2,7 @@
 use Rattle.std.specs.Prelude.{List, length, map}
 use Rattle.reo_script.specs.declared.script.Component.{Component}
 use Rattle.reo_script.specs.Actions.{IsScriptFor}
-use Rattle.reo_kinds.specs.Kinds.{gate_of}
+use Rattle.reo_kinds.specs.Kinds.{port_state_of}
 use Rattle.reo_forms.specs.declared.plainest.Plainest.{Plainest}
 use Rattle.reo_forms.specs.CircuitForm.{IsPlainest}
 use Rattle.reo_forms.specs.ScriptForm.{IsPlainScript}
@@ -10,4 +10,4 @@ use Rattle.reo_build.specs.Flat.{primitives_of}
 
 abbrev pub ScriptFits : Type 0
 ScriptFits = (c : Plainest) (components : List Component) → IsPlainest c → IsPlainScript c.parameters components
-    → IsScriptFor (map gate_of (primitives_of c)) (length c.parameters) components
+    → IsScriptFor (map port_state_of (primitives_of c)) (length c.parameters) components

@@ -1,9 +1,9 @@
 -- A circuit of the form is small, and has no fault.
 use Rattle.std.specs.Prelude.{ℕ, ◌≡◌, ◌+◌, ◌≤◌, length, slice_get, Some}
-use Rattle.reo_behaviour.specs.Net.{Net}
-use Rattle.reo_behaviour.specs.Wired.{ArePorts}
-use Rattle.reo_circuit.specs.Parts.{net_with, AreJoints}
-use Rattle.reo_circuit.specs.Fault.{IsSound}
+use Rattle.reo_net_base.specs.Net.{Net}
+use Rattle.reo_net_base.specs.Wired.{ArePorts}
+use Rattle.reo_net_circuit.specs.Parts.{net_with, AreJoints}
+use Rattle.reo_net_circuit.specs.Fault.{HasNoFault}
 use Rattle.reo_kinds.specs.Kinds.{behaviour_of}
 use Rattle.reo_forms.specs.declared.plainest.Parameter.{Parameter}
 use Rattle.reo_forms.specs.declared.plainest.Joined.{Joined}
@@ -28,7 +28,7 @@ HasFewParts = (c : Plainest) → IsPlainest c → FewParts c
 pub record SoundParts (c : Plainest) : Type 0 where
   pub ports : ArePorts (net_for c).primitives (length c.parameters)
   pub ends : AreJoints (net_for c)
-  pub sound : IsSound (net_for c)
+  pub sound : HasNoFault (net_for c)
 
 abbrev pub IsSoundForm : Type 0
 IsSoundForm = (c : Plainest) → IsPlainest c → SoundParts c

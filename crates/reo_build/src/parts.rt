@@ -2,12 +2,12 @@
 ghost use Rattle.std.specs.Prelude.{◌≡◌, ◌+◌, ◌<◌, ◌≤◌, ◌^◌, IfOk, length};
 ghost use Rattle.std.specs.List.{position_or_len};
 ghost use Rattle.std.specs.Str.{bytes_eq};
-ghost use Rattle.reo_behaviour.specs.Net.{end_of};
+ghost use Rattle.reo_net_base.specs.Net.{end_of};
 ghost use Rattle.reo_forms.specs.declared.plainest.Joined.{Joined as Channel};
 ghost use Rattle.reo_forms.specs.CircuitForm.{name_for};
 ghost use Rattle.reo_build.specs.Flat.{kindred_of, port_kind, primitives_of, channel_at, joint_between, joints_from};
 
-use reo_behaviour::{End, Joint, Way};
+use reo_net_base::{End, Joint, Way};
 use reo_forms::{Joined, Parameter, Plainest};
 use reo_kinds::{Kind, TakerPort, WriterPort};
 use reo_values::{Kindred, List, NoMemory};

@@ -3,7 +3,7 @@ ghost use Rattle.std.specs.Prelude.{◌≡◌, IfOk};
 ghost use Rattle.reo_build.specs.Flat.{ports_of};
 
 use crate::parts::kindred;
-use reo_behaviour::{Port, Ports};
+use reo_net_base::{Port, Ports};
 use reo_forms::Plainest;
 use reo_values::{List, NoMemory};
 use std::alloc::Global;

@@ -23,7 +23,7 @@ use Rattle.reo_exprs.specs.declared.expr.Expr.TheBlock.{hidden-the_row-Expr-0, h
 use Rattle.reo_exprs.specs.declared.interval.Interval.{Interval}
 use Rattle.reo_exprs.specs.Interval.{is_near, negated, sum, difference, product, quotient, remainder}
 use Rattle.reo_exprs.specs.Kinds.{joins, join_of, is_bool, interval_of, most_of, twins_of}
-use Rattle.reo_exprs.specs.Sound.{IsSound}
+use Rattle.reo_exprs.specs.WellFormed.{IsWellFormed}
 use Rattle.reo_exprs.specs.Typing.{within, int_type, on_numbers, is_positive, may_stand_right, unary_type, binary_type, if_type, unary_within, binary_within, if_within, type_of_expr}
 use Rattle.reo_exprs.specs.Valued.{truth, same_value, number, bytes_of, unary_value, binary_value, value_of_expr}
 use Rattle.reo_exprs.proofs.Corners.{product_has, quotient_has, remainder_has}
@@ -132,7 +132,7 @@ module _ (S : Type 0) where
   int_in z = (omega (arith, ints), omega (arith, ints))
 
   -- the value of an expression that has a type is of that type
-  pub value_in : (e : Expr) (of t : Kindred) (item : Value) → (S → IsSound e) → type_of_expr e of ≡ Some t → Lies S item of → Lies S (value_of_expr e item) t
+  pub value_in : (e : Expr) (of t : Kindred) (item : Value) → (S → IsWellFormed e) → type_of_expr e of ≡ Some t → Lies S item of → Lies S (value_of_expr e item) t
   unfolding hidden-the_row-Expr-0 hidden-the_row-ExprPair-1 hidden-the_row-ExprTriple-2 hidden
   value_in expr.It of t item s e m = subst (λ k. Lies S item k) (from_within of t e).1 m
   value_in expr.Unit of t item s e m = subst (λ k. Lies S values.Unit k) (some_same kinds.Unit t e) tt
@@ -160,7 +160,7 @@ module _ (S : Type 0) where
       (if_in (truth (value_of_expr c item)) (value_of_expr x item) (value_of_expr y item) f.0 h.0 g.0 j.0 (value_in x of h.0 item (λ p. (s p).1) h.1 m) (value_in y of g.0 item (λ p. (s p).2) g.1 m) j.1)
 
 -- the value of a sound expression that has a type is of that type
-pub value_in_type : (e : Expr) (of t : Kindred) (item : Value) → IsSound e → type_of_expr e of ≡ Some t → IsIn item of → IsIn (value_of_expr e item) t
+pub value_in_type : (e : Expr) (of t : Kindred) (item : Value) → IsWellFormed e → type_of_expr e of ≡ Some t → IsIn item of → IsIn (value_of_expr e item) t
 value_in_type e of t item s h m = in_lies (Unit {0}) tt (value_of_expr e item) t (value_in (Unit {0}) e of t item (λ p. s) h (lies_in (Unit {0}) item of m))
 
 -- the number of the value of an expression that has a type is near

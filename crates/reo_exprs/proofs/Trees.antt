@@ -11,7 +11,7 @@ use Rattle.reo_exprs.specs.declared.expr.Expr.TheVariants as exprs
 use Rattle.reo_exprs.specs.declared.expr.Expr.TheBlock.{hidden-the_row-Expr-0, hidden-the_row-ExprPair-1, hidden-the_row-ExprTriple-2}
 use Rattle.reo_exprs.specs.declared.expr.ExprPair.{ExprPair}
 use Rattle.reo_exprs.specs.declared.expr.ExprTriple.{ExprTriple}
-use Rattle.reo_exprs.specs.Sound.{IsSound}
+use Rattle.reo_exprs.specs.WellFormed.{IsWellFormed}
 use Rattle.reo_exprs.specs.Typing.{kind_of_expr, type_of_expr, unary_kind, unary_within, binary_kind, binary_within, if_kind, if_within}
 use Rattle.reo_exprs.specs.Valued.{truth, value_of_expr, unary_value, binary_value}
 use Rattle.reo_exprs.specs.Views.{work}
@@ -62,17 +62,17 @@ unfolding hidden-the_row-ExprTriple-2 hidden
 value-If p item = refl
 
 -- an operator with one operand is sound where the operand is
-pub sound-One : (op : Unary) (x : Expr) → IsSound (exprs.One op x) ≡ IsSound x
+pub sound-One : (op : Unary) (x : Expr) → IsWellFormed (exprs.One op x) ≡ IsWellFormed x
 unfolding hidden-the_row-Expr-0 hidden
 sound-One op x = refl
 
 -- one with two where both are
-pub sound-Two : (op : Binary) (p : ExprPair) → IsSound (exprs.Two op p) ≡ (IsSound p.left × IsSound p.right)
+pub sound-Two : (op : Binary) (p : ExprPair) → IsWellFormed (exprs.Two op p) ≡ (IsWellFormed p.left × IsWellFormed p.right)
 unfolding hidden-the_row-ExprPair-1 hidden
 sound-Two op p = refl
 
 -- and an `if` where all its parts are
-pub sound-If : (p : ExprTriple) → IsSound (exprs.If p) ≡ (IsSound p.condition × IsSound p.yes × IsSound p.no)
+pub sound-If : (p : ExprTriple) → IsWellFormed (exprs.If p) ≡ (IsWellFormed p.condition × IsWellFormed p.yes × IsWellFormed p.no)
 unfolding hidden-the_row-ExprTriple-2 hidden
 sound-If p = refl
 

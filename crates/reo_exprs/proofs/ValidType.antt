@@ -20,7 +20,7 @@ use Rattle.reo_exprs.specs.declared.expr.Expr.TheBlock.{hidden-the_row-Expr-0, h
 use Rattle.reo_exprs.specs.declared.interval.Interval.{Interval}
 use Rattle.reo_exprs.specs.Interval.{is_near, least, greatest, negated, sum, difference, product, quotient, remainder}
 use Rattle.reo_exprs.specs.Kinds.{joins, join_of, is_within, is_bool, interval_of, most_of, twins_of}
-use Rattle.reo_exprs.specs.Sound.{IsSound}
+use Rattle.reo_exprs.specs.WellFormed.{IsWellFormed}
 use Rattle.reo_exprs.specs.Typing.{provided, within, int_type, on_numbers, is_positive, may_stand_right, unary_type, binary_type, if_type, unary_within, binary_within, if_within, type_of_expr}
 use Rattle.reo_exprs.proofs.JoinCases.{where_joined}
 use Rattle.reo_exprs.proofs.Near.{near_bounds, near_fits}
@@ -132,7 +132,7 @@ within_valid : (k t : Kindred) → within k ≡ Some t → IsValid k → IsValid
 within_valid k t e v = subst (λ u. IsValid u) (from_within k t e).1 v
 
 -- the type of a sound expression is valid, where the item's is
-pub type_valid : (e : Expr) (of t : Kindred) → IsSound e → type_of_expr e of ≡ Some t → IsValid of → IsValid t
+pub type_valid : (e : Expr) (of t : Kindred) → IsWellFormed e → type_of_expr e of ≡ Some t → IsValid of → IsValid t
 unfolding hidden-the_row-Expr-0 hidden-the_row-ExprPair-1 hidden-the_row-ExprTriple-2 hidden
 type_valid expr.It of t s e v = within_valid of t e v
 type_valid expr.Unit of t s e v = subst (λ k. IsValid k) (some_same kinds.Unit t e) tt

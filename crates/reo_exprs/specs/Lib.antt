@@ -1,7 +1,7 @@
 pub mod Interval
 pub mod Kinds
 pub mod Least
-pub mod Sound
+pub mod WellFormed
 pub mod Typing
 pub mod Valued
 pub mod Views

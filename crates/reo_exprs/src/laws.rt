@@ -4,7 +4,7 @@ ghost use Rattle.reo_values.specs.Kind.{IsIn};
 ghost use Rattle.reo_values.specs.Valid.{IsValid};
 ghost use Rattle.reo_exprs.specs.Kinds.{kind_of, joins, LiesInside};
 ghost use Rattle.reo_exprs.specs.Least.{IntervalsAreLeast};
-ghost use Rattle.reo_exprs.specs.Sound.{IsSound};
+ghost use Rattle.reo_exprs.specs.WellFormed.{IsWellFormed};
 ghost use Rattle.reo_exprs.specs.Typing.{type_of_expr};
 ghost use Rattle.reo_exprs.specs.Valued.{value_of_expr};
 
@@ -13,7 +13,7 @@ use reo_values::{Kindred, Value};
 
 /// The value of an expression is of the expression's type, for every item.
 pub fn value_in_type(expr: &Expr, of: &Kindred, kindred: &Kindred, item: &Value)
-    requires sound { IsSound expr.now }
+    requires sound { IsWellFormed expr.now }
     requires typed { type_of_expr expr.now of.now ≡ Some kindred.now }
     requires member { IsIn item.now of.now }
     ensures { IsIn (value_of_expr expr.now item.now) kindred.now }
@@ -28,7 +28,7 @@ pub fn item_in_wider_type(item: &Value, a: &Kindred, b: &Kindred)
 
 /// The type of an expression is valid, where that of the item is.
 pub fn type_is_valid(expr: &Expr, of: &Kindred, kindred: &Kindred)
-    requires sound { IsSound expr.now }
+    requires sound { IsWellFormed expr.now }
     requires typed { type_of_expr expr.now of.now ≡ Some kindred.now }
     requires valid { IsValid of.now }
     ensures { IsValid kindred.now }

@@ -1,7 +1,7 @@
 -- The plainest circuits.
 use Rattle.std.specs.Prelude.{ℕ, pos, neg_ℤ, ◌≤◌, ◌≤ℤ◌, ◌≡◌, ◌^◌, List, length, slice_get, Some}
-use Rattle.reo_behaviour.specs.declared.port.Way.{Way}
-use Rattle.reo_behaviour.specs.declared.port.Way.TheVariants.{In, Out}
+use Rattle.reo_net_base.specs.declared.port.Way.{Way}
+use Rattle.reo_net_base.specs.declared.port.Way.TheVariants.{In, Out}
 use Rattle.reo_forms.specs.declared.plainest.Parameter.{Parameter}
 use Rattle.reo_forms.specs.declared.plainest.Joined.{Joined}
 use Rattle.reo_forms.specs.declared.plainest.Plainest.{Plainest}

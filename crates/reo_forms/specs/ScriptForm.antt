@@ -5,7 +5,7 @@ use Rattle.reo_values.specs.declared.value.Value.{Value}
 use Rattle.reo_values.specs.declared.kindred.Kindred.TheVariants as kinds
 use Rattle.reo_values.specs.Kind.{IsIn}
 use Rattle.reo_values.specs.ItemText.{text_of}
-use Rattle.reo_behaviour.specs.declared.port.Way.TheVariants.{In, Out}
+use Rattle.reo_net_base.specs.declared.port.Way.TheVariants.{In, Out}
 use Rattle.reo_script.specs.declared.script.Action.{Action}
 use Rattle.reo_script.specs.declared.script.Action.TheVariants.{Write, Take}
 use Rattle.reo_script.specs.declared.script.Component.{Component}

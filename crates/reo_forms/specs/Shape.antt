@@ -1,7 +1,7 @@
 -- The programs that have the shape of a circuit of the form.
 use Rattle.std.specs.Prelude.{◌≡◌, Bool, true, false, [], ◌∷◌, Option, Some, None, map, codes}
-use Rattle.reo_behaviour.specs.declared.port.Way.{Way}
-use Rattle.reo_behaviour.specs.declared.port.Way.TheVariants.{In, Out}
+use Rattle.reo_net_base.specs.declared.port.Way.{Way}
+use Rattle.reo_net_base.specs.declared.port.Way.TheVariants.{In, Out}
 use Rattle.reo_trees.specs.declared.programs.Program.{Program}
 use Rattle.reo_trees.specs.declared.programs.Declaration.TheVariants.{Made}
 use Rattle.reo_trees.specs.declared.programs.Connector.{Connector}

@@ -6,7 +6,7 @@ ghost use Rattle.reo_forms.specs.declared.plainest.Plainest.{Plainest as Circuit
 ghost use Rattle.reo_forms.specs.Shape.{way_of, as_port, as_channel, IsMadeOf};
 
 use crate::{FormFault, Joined, Parameter, Plainest};
-use reo_behaviour::Way;
+use reo_net_base::Way;
 use reo_trees::{Channel, Connector, Form, Item, Parameter as Written, Shape};
 use reo_values::List;
 use std::alloc::Global;

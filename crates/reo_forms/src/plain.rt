@@ -1,7 +1,7 @@
 //! Whether parameters and channels are a circuit of the form.
 ghost use Rattle.std.specs.Prelude.{◌≡◌, ◌≤◌, ◌<◌, ◌↔◌, ℕ, IsTrue, length, slice_get, Some, count_by};
 ghost use Rattle.std.specs.Str.{bytes_eq};
-ghost use Rattle.reo_behaviour.specs.declared.port.Way.TheVariants.{In, Out};
+ghost use Rattle.reo_net_base.specs.declared.port.Way.TheVariants.{In, Out};
 ghost use Rattle.reo_forms.specs.declared.plainest.Parameter.{Parameter as Port};
 ghost use Rattle.reo_forms.specs.declared.plainest.Joined.{Joined as Channel};
 ghost use Rattle.reo_forms.specs.CircuitForm.{name_for, IsParameter, IsPlainest};
@@ -9,7 +9,7 @@ ghost use Rattle.reo_forms.specs.Listed.{IsOnce, Each};
 ghost use Rattle.reo_forms.specs.Parameters.{AreDifferent, HaveOneType, IsNamed};
 
 use crate::{Joined, Parameter, Plainest};
-use reo_behaviour::Way;
+use reo_net_base::Way;
 use reo_values::is_name;
 
 /// The greatest bound of a type.

@@ -2,7 +2,7 @@
 ghost use Rattle.std.specs.Prelude.{◌≡◌};
 ghost use Rattle.reo_forms.specs.CircuitForm.{name_for};
 
-use reo_behaviour::Way;
+use reo_net_base::Way;
 use reo_values::{Bytes, List};
 
 /// A parameter of the one connector: a port whose items are the numbers from `low` to `high`.

@@ -1,7 +1,7 @@
 //! Scripts that are of the form, and scripts that are not.
 use crate::shape_tests::{alone, one_channel};
 use crate::{FormFault, Plainest, read_script, shape};
-use reo_behaviour::Way;
+use reo_net_base::Way;
 use reo_script::{Action, Script};
 use reo_values::{Bytes, Value};
 use std::alloc::Global;

@@ -1,8 +1,8 @@
 -- The tables of mergers and replicators keep the laws.
 use Rattle.std.proofs.Common.{ℕ, ◌+◌, ◌-◌, ◌<◌, ◌≤◌, ◌≡◌, cond, refl, arith, nat_lt}
 use Rattle.std.proofs.lemmas.Bool.Decides.{nat_tests}
-use Rattle.reo_behaviour.specs.declared.mark.Mark.TheVariants.{F}
-use Rattle.reo_behaviour.specs.Lawful.{IsLawful}
+use Rattle.reo_net_base.specs.declared.mark.Mark.TheVariants.{F}
+use Rattle.reo_net_base.specs.Lawful.{IsLawful}
 use Rattle.reo_kinds.specs.Tables.{merger, merger_mark, replicator}
 
 -- A row of a merger that flows at some end is one of the first.

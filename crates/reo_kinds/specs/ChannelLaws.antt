@@ -2,7 +2,7 @@
 use Rattle.std.proofs.Common.{◌≡◌, Bool, refl, arith}
 use Rattle.std.proofs.lemmas.Bool.Decides.{nat_tests}
 use Rattle.reo_values.specs.declared.value.Value.{Value}
-use Rattle.reo_behaviour.specs.Lawful.{IsLawful}
+use Rattle.reo_net_base.specs.Lawful.{IsLawful}
 use Rattle.reo_kinds.specs.Tables.{sync, lossy, sync_drain, async_drain, filter, map_table}
 
 pub sync_lawful : IsLawful sync

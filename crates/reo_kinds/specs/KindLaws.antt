@@ -1,12 +1,12 @@
 -- Each kind keeps the laws of a primitive.
 use Rattle.std.proofs.Common.{◌≡◌, ◌≢◌, false, Option, None, refl, arith}
 use Rattle.reo_values.specs.declared.value.Value.{Value}
-use Rattle.reo_behaviour.specs.declared.mark.Mark.{Mark}
-use Rattle.reo_behaviour.specs.declared.mark.Mark.TheVariants.{F, G, R, J}
-use Rattle.reo_behaviour.specs.declared.colouring.Chosen.{Chosen}
-use Rattle.reo_behaviour.specs.Marks.{is_flow}
-use Rattle.reo_behaviour.specs.Behaviour.{Behaviour}
-use Rattle.reo_behaviour.specs.Lawful.{IsLawful, SameShape, IsQuiet}
+use Rattle.reo_net_base.specs.declared.mark.Mark.{Mark}
+use Rattle.reo_net_base.specs.declared.mark.Mark.TheVariants.{F, G, R, J}
+use Rattle.reo_net_base.specs.declared.colouring.Chosen.{Chosen}
+use Rattle.reo_net_base.specs.Marks.{is_flow}
+use Rattle.reo_net_base.specs.Behaviour.{Behaviour}
+use Rattle.reo_net_base.specs.Lawful.{IsLawful, SameShape, IsQuiet}
 use Rattle.reo_kinds.specs.declared.kind.Kind.{Kind}
 use Rattle.reo_kinds.specs.declared.kind.Kind.TheVariants.{Writer, Taker, Sync, Lossy, SyncDrain, AsyncDrain, Filter, Map, Merger, Replicator}
 use Rattle.reo_kinds.specs.Kinds.{behaviour_of, settled_kind}

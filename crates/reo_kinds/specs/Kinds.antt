@@ -3,13 +3,13 @@ use Rattle.std.specs.Prelude.{◌≡◌, Bool, true, false, cond, Option, Some, 
 use Rattle.std.specs.Option.{option_map}
 use Rattle.std.proofs.Common.{refl}
 use Rattle.reo_values.specs.declared.value.Value.{Value}
-use Rattle.reo_behaviour.specs.declared.colouring.Chosen.{Chosen}
-use Rattle.reo_behaviour.specs.declared.port.Way.TheVariants.{In, Out}
-use Rattle.reo_behaviour.specs.declared.port.Offer.{Offer}
-use Rattle.reo_behaviour.specs.declared.port.Offer.TheVariants.{Write, Take}
-use Rattle.reo_behaviour.specs.Marks.{is_flow}
-use Rattle.reo_behaviour.specs.Behaviour.{Behaviour}
-use Rattle.reo_behaviour.specs.Gate.{Gate, no_gate}
+use Rattle.reo_net_base.specs.declared.colouring.Chosen.{Chosen}
+use Rattle.reo_net_base.specs.declared.port.Way.TheVariants.{In, Out}
+use Rattle.reo_net_base.specs.declared.port.Offer.{Offer}
+use Rattle.reo_net_base.specs.declared.port.Offer.TheVariants.{Write, Take}
+use Rattle.reo_net_base.specs.Marks.{is_flow}
+use Rattle.reo_net_base.specs.Behaviour.{Behaviour}
+use Rattle.reo_net_base.specs.PortState.{PortState, no_port_state}
 use Rattle.reo_kinds.specs.declared.kind.WriterPort.{WriterPort}
 use Rattle.reo_kinds.specs.declared.kind.TakerPort.{TakerPort}
 use Rattle.reo_kinds.specs.declared.kind.Kind.{Kind}
@@ -52,17 +52,17 @@ settled_kind (Merger branches) rows taken = Merger branches
 settled_kind (Replicator branches) rows taken = Replicator branches
 
 -- A kind as a port: a writer accepts the items of its type.
-abbrev pub gate_of : Kind → Gate
-gate_of (Writer port) = record { way = Some In; accepts = λ item. is_item item port.kindred; pending = option_map Write port.offer }
-gate_of (Taker port) = record { way = Some Out; accepts = λ _. false; pending = cond port.pending (Some Take) None }
-gate_of Sync = no_gate
-gate_of Lossy = no_gate
-gate_of SyncDrain = no_gate
-gate_of AsyncDrain = no_gate
-gate_of (Filter rule) = no_gate
-gate_of (Map rule) = no_gate
-gate_of (Merger branches) = no_gate
-gate_of (Replicator branches) = no_gate
+abbrev pub port_state_of : Kind → PortState
+port_state_of (Writer port) = record { way = Some In; accepts = λ item. is_item item port.kindred; pending = option_map Write port.offer }
+port_state_of (Taker port) = record { way = Some Out; accepts = λ _. false; pending = cond port.pending (Some Take) None }
+port_state_of Sync = no_port_state
+port_state_of Lossy = no_port_state
+port_state_of SyncDrain = no_port_state
+port_state_of AsyncDrain = no_port_state
+port_state_of (Filter rule) = no_port_state
+port_state_of (Map rule) = no_port_state
+port_state_of (Merger branches) = no_port_state
+port_state_of (Replicator branches) = no_port_state
 
 -- A writer with this item offered, where the item is of its type.
 abbrev pub offering_if : (port : WriterPort) (item : Value) (fits : Bool) → is_item item port.kindred ≡ fits → WriterPort

@@ -8,4 +8,4 @@ pub mod PortLaws
 pub mod ChannelLaws
 pub mod BranchLaws
 pub mod KindLaws
-pub mod GateLaws
+pub mod PortStateLaws

@@ -2,8 +2,8 @@
 use Rattle.std.proofs.Common.{ℕ, ◌+◌, ◌<◌, ◌≤◌, ◌≡◌, ◌≢◌, Bool, true, false, Option, is_some, refl, arith}
 use Rattle.std.proofs.lemmas.Bool.Decides.{nat_tests}
 use Rattle.reo_values.specs.declared.value.Value.{Value}
-use Rattle.reo_behaviour.specs.declared.mark.Mark.TheVariants.{F, J}
-use Rattle.reo_behaviour.specs.Lawful.{IsLawful}
+use Rattle.reo_net_base.specs.declared.mark.Mark.TheVariants.{F, J}
+use Rattle.reo_net_base.specs.Lawful.{IsLawful}
 use Rattle.reo_kinds.specs.Tables.{writer, taker, ready_mark, ready_rows, ready_class}
 
 -- The rows of a side with one end.

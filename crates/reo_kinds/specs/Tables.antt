@@ -2,9 +2,9 @@
 use Rattle.std.specs.Prelude.{ℕ, ◌+◌, Bool, true, false, not, Option, Some, None, is_some, cond, ◌==◌, nat_lt}
 use Rattle.std.specs.Option.{option_map}
 use Rattle.reo_values.specs.declared.value.Value.{Value}
-use Rattle.reo_behaviour.specs.declared.mark.Mark.{Mark}
-use Rattle.reo_behaviour.specs.declared.mark.Mark.TheVariants.{F, G, R, J}
-use Rattle.reo_behaviour.specs.Behaviour.{Behaviour}
+use Rattle.reo_net_base.specs.declared.mark.Mark.{Mark}
+use Rattle.reo_net_base.specs.declared.mark.Mark.TheVariants.{F, G, R, J}
+use Rattle.reo_net_base.specs.Behaviour.{Behaviour}
 
 -- What stands in row 0, in row 1, and in each later row.
 abbrev pub two_rows : {X : Type 0} → X → X → ℕ → X

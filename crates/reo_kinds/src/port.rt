@@ -1,14 +1,14 @@
 //! The kinds as ports.
-ghost use Rattle.reo_kinds.specs.Kinds.{gate_of, placed_kind, withdrawn_kind};
-ghost use Rattle.reo_kinds.specs.GateLaws.{no_port_kind, placed_kind_gate, placed_kind_shape, withdrawn_kind_gate, withdrawn_kind_shape, settled_kind_gate};
+ghost use Rattle.reo_kinds.specs.Kinds.{port_state_of, placed_kind, withdrawn_kind};
+ghost use Rattle.reo_kinds.specs.PortStateLaws.{no_port_kind, placed_kind_port, placed_kind_shape, withdrawn_kind_port, withdrawn_kind_shape, settled_kind_port};
 
 use crate::kind::Kind;
 use crate::offer;
-use reo_behaviour::{Offer, Ported, Way};
+use reo_net_base::{Offer, Ported, Way};
 use reo_values::{Value, is_in};
 
 impl Ported for Kind {
-    ghost gate = { gate_of };
+    ghost port_state = { port_state_of };
 
     ghost placed = { placed_kind };
 
@@ -55,13 +55,13 @@ impl Ported for Kind {
 
     ghost no_port = { no_port_kind };
 
-    ghost placed_gate = { placed_kind_gate };
+    ghost placed_port = { placed_kind_port };
 
     ghost placed_shape = { placed_kind_shape };
 
-    ghost withdrawn_gate = { withdrawn_kind_gate };
+    ghost withdrawn_port = { withdrawn_kind_port };
 
     ghost withdrawn_shape = { withdrawn_kind_shape };
 
-    ghost settled_gate = { settled_kind_gate };
+    ghost settled_port = { settled_kind_port };
 }

@@ -5,7 +5,7 @@ ghost use Rattle.reo_kinds.specs.KindLaws.{kind_lawful, kind_shape, kind_quiet};
 use crate::given::{Given, given_by};
 use crate::kind::Kind;
 use crate::{offer, rule, table};
-use reo_behaviour::{Chosen, Mark, Primitive};
+use reo_net_base::{Chosen, Mark, Primitive};
 use reo_values::{NoMemory, Value, copy, same_item};
 use std::alloc::Global;
 

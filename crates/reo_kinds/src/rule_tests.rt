@@ -1,7 +1,7 @@
 //! Filters and maps: their tables, and what they do with items of their type and with others.
 use crate::tests::has_table;
 use crate::{FilterRule, Kind, MapRule};
-use reo_behaviour::{Ported, Primitive};
+use reo_net_base::{Ported, Primitive};
 use reo_exprs::{Expr, ExprPair, type_of};
 use reo_values::{Binary, Boxed, Kindred, NoMemory, Value, same_item};
 use std::alloc::Global;

@@ -1,9 +1,9 @@
 //! The literal tables: what stands in each row.
 ghost use Rattle.std.specs.Prelude.{◌≡◌, ◌≤◌};
-ghost use Rattle.reo_behaviour.specs.Marks.{is_flow};
+ghost use Rattle.reo_net_base.specs.Marks.{is_flow};
 ghost use Rattle.reo_kinds.specs.Tables.{ready_mark, ready_rows, ready_class, ends, filter_mark, filter_class, merger_mark, merger_class, replicator_mark, replicator_class};
 
-use reo_behaviour::Mark;
+use reo_net_base::Mark;
 
 /// A side with one end: F, R where it can flow, and else G.
 pub fn ready_mark(ready: bool, row: usize) -> Mark

@@ -1,6 +1,6 @@
 //! The tables of the kinds, row by row, and what ports do.
 use crate::{Branches, Kind, TakerPort, WriterPort};
-use reo_behaviour::{Chosen, Mark, Offer, Ported, Primitive, Way};
+use reo_net_base::{Chosen, Mark, Offer, Ported, Primitive, Way};
 use reo_values::{Kindred, NoMemory, Value, same_item};
 use std::alloc::Global;
 use std::process::Abort;

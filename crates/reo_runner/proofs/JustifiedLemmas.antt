@@ -2,10 +2,10 @@
 use Rattle.std.proofs.Common.{ℕ, ◌+◌, true, false, List, [], ◌∷◌}
 use Rattle.std.specs.Prelude.{Option, Some, None}
 use Rattle.reo_values.specs.declared.value.Value.{Value}
-use Rattle.reo_behaviour.specs.First.{IsFirst}
-use Rattle.reo_behaviour.specs.Net.{Net, net_of}
-use Rattle.reo_behaviour.specs.Wired.{IsWired}
-use Rattle.reo_laws.specs.FirstLaws.{FirstFlows, FirstJamsForCause}
+use Rattle.reo_net_base.specs.First.{IsFirst}
+use Rattle.reo_net_base.specs.Net.{Net, net_of}
+use Rattle.reo_net_base.specs.Wired.{IsWired}
+use Rattle.reo_net_laws.specs.FirstLaws.{FirstFlows, FirstJamsForCause}
 use Rattle.reo_script.specs.declared.script.Component.{Component}
 use Rattle.reo_script.specs.Actions.{all_done}
 use Rattle.reo_trace.specs.declared.line.RoundLine.{RoundLine}

@@ -1,6 +1,6 @@
 pub mod CountLemmas
 pub mod EndLemmas
-pub mod GateLemmas
+pub mod PortStateLemmas
 pub mod JustifiedLemmas
 pub mod OfferLemmas
 pub mod OrderLemmas

@@ -3,10 +3,10 @@ use Rattle.std.proofs.Common.{◌≡◌, ◌∙◌, ℕ, zero, suc, ◌+◌, ◌
 use Rattle.std.specs.Prelude.{Option, Some, None, is_some, nat_lt, slice_get, ◌==◌}
 use Rattle.std.specs.Option.{option_or}
 use Rattle.std.proofs.lemmas.Bool.Decides.{nat_tests}
-use Rattle.reo_behaviour.specs.declared.port.Offer.{Offer}
-use Rattle.reo_behaviour.specs.declared.port.Offer.TheVariants.{Write, Take}
-use Rattle.reo_behaviour.specs.Gate.{Gate, gate_at, CanPlace, IsGateWith, IsAccepted}
-use Rattle.reo_behaviour.specs.Step.{change_at}
+use Rattle.reo_net_base.specs.declared.port.Offer.{Offer}
+use Rattle.reo_net_base.specs.declared.port.Offer.TheVariants.{Write, Take}
+use Rattle.reo_net_base.specs.PortState.{PortState, port_state_at, CanPlace, IsPortWith, IsAccepted}
+use Rattle.reo_net_base.specs.Step.{change_at}
 use Rattle.reo_script.specs.declared.script.Action.{Action}
 use Rattle.reo_script.specs.declared.script.Component.{Component}
 use Rattle.reo_script.specs.Actions.{port_of, offer_of, action_at, only_at, action_for, AreActionsFor}
@@ -35,33 +35,33 @@ none_is None h = refl
 none_is (Some x) h = absurd (h refl)
 
 module _ {P : Type 0} (r : Rules P) where
-  pub cleared_some : (p : P) → is_some (r.gate p).pending ≡ true → r.withdrawn p ≡ cleared r p
+  pub cleared_some : (p : P) → is_some (r.port_state p).pending ≡ true → r.withdrawn p ≡ cleared r p
   cleared_some p h = rw h refl
 
-  pub cleared_none : (p : P) → (is_some (r.gate p).pending ≡ true → ⊥) → cleared r p ≡ p
-  cleared_none p h = rw (none_is (r.gate p).pending h) refl
+  pub cleared_none : (p : P) → (is_some (r.port_state p).pending ≡ true → ⊥) → cleared r p ≡ p
+  cleared_none p h = rw (none_is (r.port_state p).pending h) refl
 
   -- A port that is cleared has its way, takes what it took, and has nothing pending.
-  pub cleared_gate : (p : P) → ((q : P) → IsGateWith (r.gate q) (r.gate (r.withdrawn q)) None) → IsGateWith (r.gate p) (r.gate (cleared r p)) None
-  cleared_gate p withdrawn =
-      elim (r.gate p).pending as (λ o. (r.gate p).pending ≡ o → IsGateWith (r.gate p) (r.gate (cond (is_some o) (r.withdrawn p) p)) None) [
+  pub cleared_port : (p : P) → ((q : P) → IsPortWith (r.port_state q) (r.port_state (r.withdrawn q)) None) → IsPortWith (r.port_state p) (r.port_state (cleared r p)) None
+  cleared_port p withdrawn =
+      elim (r.port_state p).pending as (λ o. (r.port_state p).pending ≡ o → IsPortWith (r.port_state p) (r.port_state (cond (is_some o) (r.withdrawn p) p)) None) [
         | None ↦ λ none. record { way = refl; accepts = λ _. refl; pending_is = none }
         | Some offer ↦ λ _. withdrawn p
       ] refl
 
--- The gate of a port that was cleared.
-pub cleared_gate_at : {P : Type 0} (r : Rules P) → ((q : P) → IsGateWith (r.gate q) (r.gate (r.withdrawn q)) None) → (ps : List P) (i : ℕ) → i < length ps
-    → IsGateWith (gate_at (map r.gate ps) i) (gate_at (map r.gate (change_at (cleared r) ps i)) i) None
-cleared_gate_at r withdrawn [] i lt = absurd (omega arith)
-cleared_gate_at r withdrawn (p ∷ ps) zero lt = cleared_gate r p withdrawn
-cleared_gate_at r withdrawn (p ∷ ps) (suc i) lt = cleared_gate_at r withdrawn ps i (omega arith)
+-- The port_state of a port that was cleared.
+pub cleared_port_at : {P : Type 0} (r : Rules P) → ((q : P) → IsPortWith (r.port_state q) (r.port_state (r.withdrawn q)) None) → (ps : List P) (i : ℕ) → i < length ps
+    → IsPortWith (port_state_at (map r.port_state ps) i) (port_state_at (map r.port_state (change_at (cleared r) ps i)) i) None
+cleared_port_at r withdrawn [] i lt = absurd (omega arith)
+cleared_port_at r withdrawn (p ∷ ps) zero lt = cleared_port r p withdrawn
+cleared_port_at r withdrawn (p ∷ ps) (suc i) lt = cleared_port_at r withdrawn ps i (omega arith)
 
-accepted_moved : (g h : Gate) (offer : Offer) → IsGateWith g h None → IsAccepted g offer → IsAccepted h offer
+accepted_moved : (g h : PortState) (offer : Offer) → IsPortWith g h None → IsAccepted g offer → IsAccepted h offer
 accepted_moved g h (Write item) same is = same.accepts item ∙ is
 accepted_moved g h Take same is = tt
 
 -- What a port takes may be placed once nothing is pending there.
-pub can_place : (g h : Gate) (action : Action) → IsGateWith g h None → IsTakenAt g (Some action) → CanPlace h (offer_of action)
+pub can_place : (g h : PortState) (action : Action) → IsPortWith g h None → IsTakenAt g (Some action) → CanPlace h (offer_of action)
 can_place g h action same is = record {
   way = same.way ∙ is.0;
   free = same.pending_is;
@@ -92,11 +92,11 @@ module _ {P : Type 0} (r : Rules P) (components : List Component) (places : List
       let there : nat_lt k m ≡ true = grind (arith, nat_tests) in
       rw (here, there) (ap (λ qs. with_pending r (action_for components places k) p ∷ qs) (ready_more ps (suc k) n m (omega (arith, e))))
 
-  -- The gate of a port that is not ready yet is as it was.
-  pub ready_gate : (ps : List P) (k n m : ℕ) → m ≡ k + n → gate_at (map r.gate (ports_ready r components places m k ps)) n ≡ gate_at (map r.gate ps) n
-  ready_gate [] k n m e = refl
-  ready_gate (p ∷ ps) k zero m e = let there : nat_lt k m ≡ false = grind (arith, nat_tests) in rw there refl
-  ready_gate (p ∷ ps) k (suc n) m e = ready_gate ps (suc k) n m (omega (arith, e))
+  -- The port_state of a port that is not ready yet is as it was.
+  pub ready_port : (ps : List P) (k n m : ℕ) → m ≡ k + n → port_state_at (map r.port_state (ports_ready r components places m k ps)) n ≡ port_state_at (map r.port_state ps) n
+  ready_port [] k n m e = refl
+  ready_port (p ∷ ps) k zero m e = let there : nat_lt k m ≡ false = grind (arith, nat_tests) in rw there refl
+  ready_port (p ∷ ps) k (suc n) m e = ready_port ps (suc k) n m (omega (arith, e))
 
   pub ready_none : (ps : List P) (k : ℕ) → ports_ready r components places k k ps ≡ ps
   ready_none ps k = none ps k k (omega arith)
@@ -115,16 +115,16 @@ slice_in (y ∷ ys) zero x h = omega arith
 slice_in (y ∷ ys) (suc i) x h = let rest = slice_in ys i x h in omega (arith, rest)
 
 -- What some component does at a port is an action that the port takes.
-pub taken_at_port : (gates : List Gate) (ports : ℕ) (cs : List Component) (ns : List ℕ) (port : ℕ) → AreActionsFor gates ports cs → IsTakenAt (gate_at gates port) (action_for cs ns port)
-taken_at_port gates ports [] ns port are = tt
-taken_at_port gates ports (c ∷ cs) [] port are = tt
-taken_at_port gates ports (c ∷ cs) (n ∷ ns) port are =
-    let rest = taken_at_port gates ports cs ns port (λ i k d a i_in is. are (suc i) k d a (omega arith) is) in
-    elim (action_at c n) as (λ o. action_at c n ≡ o → IsTakenAt (gate_at gates port) (option_or (only_at port o) (action_for cs ns port))) [
+pub taken_at_port : (states : List PortState) (ports : ℕ) (cs : List Component) (ns : List ℕ) (port : ℕ) → AreActionsFor states ports cs → IsTakenAt (port_state_at states port) (action_for cs ns port)
+taken_at_port states ports [] ns port are = tt
+taken_at_port states ports (c ∷ cs) [] port are = tt
+taken_at_port states ports (c ∷ cs) (n ∷ ns) port are =
+    let rest = taken_at_port states ports cs ns port (λ i k d a i_in is. are (suc i) k d a (omega arith) is) in
+    elim (action_at c n) as (λ o. action_at c n ≡ o → IsTakenAt (port_state_at states port) (option_or (only_at port o) (action_for cs ns port))) [
       | None ↦ λ _. rest
       | Some action ↦ λ some.
           let fits = are zero n c action (omega arith) some in
-          elim (port_of action == port) as (λ b. (port_of action == port) ≡ b → IsTakenAt (gate_at gates port) (option_or (cond b (Some action) None) (action_for cs ns port))) [
+          elim (port_of action == port) as (λ b. (port_of action == port) ≡ b → IsTakenAt (port_state_at states port) (option_or (cond b (Some action) None) (action_for cs ns port))) [
             | true ↦ λ e. let same : port_of action ≡ port = grind (arith, nat_tests) in (rw same at fits.way, rw same at fits.accepted)
             | false ↦ λ e. rest
           ] refl

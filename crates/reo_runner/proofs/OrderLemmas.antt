@@ -3,15 +3,15 @@ use Rattle.std.proofs.Common.{◌≡◌, ◌∙◌, ℕ, zero, suc, cond, true, 
 use Rattle.std.specs.Prelude.{Option, Some, None, nat_lt, is_some}
 use Rattle.std.proofs.lemmas.List.{length-map}
 use Rattle.reo_values.specs.declared.value.Value.{Value}
-use Rattle.reo_behaviour.specs.declared.colouring.Chosen.{Chosen}
-use Rattle.reo_behaviour.specs.declared.joint.Joint.{Joint}
-use Rattle.reo_behaviour.specs.declared.port.Offer.{Offer}
-use Rattle.reo_behaviour.specs.Behaviour.{Behaviour}
-use Rattle.reo_behaviour.specs.Lawful.{IsLawful, SameShape}
-use Rattle.reo_behaviour.specs.Net.{Wiring, net_of, behaviour_at}
-use Rattle.reo_behaviour.specs.Step.{stepped, all_chosen, all_taken}
-use Rattle.reo_behaviour.specs.Wired.{IsWired}
-use Rattle.reo_circuit.proofs.ReshapeLemmas.{Reshaped, reshaped, lawful_at, wired_same, order_same}
+use Rattle.reo_net_base.specs.declared.colouring.Chosen.{Chosen}
+use Rattle.reo_net_base.specs.declared.joint.Joint.{Joint}
+use Rattle.reo_net_base.specs.declared.port.Offer.{Offer}
+use Rattle.reo_net_base.specs.Behaviour.{Behaviour}
+use Rattle.reo_net_base.specs.Lawful.{IsLawful, SameShape}
+use Rattle.reo_net_base.specs.Net.{Wiring, net_of, behaviour_at}
+use Rattle.reo_net_base.specs.Step.{stepped, all_chosen, all_taken}
+use Rattle.reo_net_base.specs.Wired.{IsWired}
+use Rattle.reo_net_circuit.proofs.ReshapeLemmas.{Reshaped, reshaped, lawful_at, wired_same, order_same}
 use Rattle.reo_script.specs.declared.script.Action.{Action}
 use Rattle.reo_script.specs.declared.script.Component.{Component}
 use Rattle.reo_script.specs.Actions.{offer_of, action_for}
@@ -36,7 +36,7 @@ shape_then a b d p q = record { ends = q.ends ∙ p.ends; sides = q.sides ∙ p.
 module _ {P : Type 0} (r : Rules P) (k : KeepsShape r) where
   cleared_shape : (p : P) → SameShape (r.behaviour p) (r.behaviour (cleared r p))
   cleared_shape p =
-      elim (is_some (r.gate p).pending) as (λ b. SameShape (r.behaviour p) (r.behaviour (cond b (r.withdrawn p) p)))
+      elim (is_some (r.port_state p).pending) as (λ b. SameShape (r.behaviour p) (r.behaviour (cond b (r.withdrawn p) p)))
       [ true ↦ k.withdrawn p | false ↦ same_shape (r.behaviour p) ]
 
   pending_shape : (o : Option Action) (p : P) → SameShape (r.behaviour p) (r.behaviour (with_pending r o p))

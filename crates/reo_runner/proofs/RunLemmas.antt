@@ -5,13 +5,13 @@ use Rattle.std.proofs.lemmas.Grind.{flat_map-append}
 use Rattle.std.proofs.lemmas.List.Sums.{sum_by-append}
 use Rattle.std.specs.List.{count_by, flat_map}
 use Rattle.std.specs.Prelude.{Option, Some, None}
-use Rattle.reo_behaviour.specs.declared.colouring.Move.{Move}
-use Rattle.reo_behaviour.specs.declared.port.Port.{Port}
-use Rattle.reo_behaviour.specs.declared.port.Way.{Way}
-use Rattle.reo_behaviour.specs.First.{IsFirst}
-use Rattle.reo_behaviour.specs.Moves.{moves_of}
-use Rattle.reo_behaviour.specs.Net.{Wiring, net_of}
-use Rattle.reo_behaviour.specs.Step.{stepped}
+use Rattle.reo_net_base.specs.declared.colouring.Move.{Move}
+use Rattle.reo_net_base.specs.declared.port.Port.{Port}
+use Rattle.reo_net_base.specs.declared.port.Way.{Way}
+use Rattle.reo_net_base.specs.First.{IsFirst}
+use Rattle.reo_net_base.specs.Moves.{moves_of}
+use Rattle.reo_net_base.specs.Net.{Wiring, net_of}
+use Rattle.reo_net_base.specs.Step.{stepped}
 use Rattle.reo_io.specs.Sinks.{Appended, TookPart}
 use Rattle.reo_io.proofs.Taken.{Appended-none, Appended-append}
 use Rattle.reo_script.specs.declared.script.Component.{Component}

@@ -3,7 +3,7 @@ use Rattle.std.proofs.Common.{◌≡◌, ◌∙◌, ℕ, List, [], ◌∷◌, �
 use Rattle.std.proofs.lemmas.List.{append-nil}
 use Rattle.std.proofs.lemmas.Grind.{flat_map-append}
 use Rattle.std.specs.Prelude.{Option}
-use Rattle.reo_behaviour.specs.declared.port.Port.{Port}
+use Rattle.reo_net_base.specs.declared.port.Port.{Port}
 use Rattle.reo_io.specs.Sinks.{Appended, TookPart}
 use Rattle.reo_io.proofs.Taken.{Appended-append, TookPart-after, TookPart-more}
 use Rattle.reo_trace.specs.declared.line.RoundLine.{RoundLine}

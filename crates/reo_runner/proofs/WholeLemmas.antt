@@ -1,11 +1,11 @@
 -- There is a whole run, and no other.
 use Rattle.std.proofs.Common.{◌≡◌, ◌∙◌, ℕ, zero, suc, ◌+◌, ◌-◌, ◌≤◌, true, false, List, [], ◌∷◌, ◌++◌, ap, sym, refl, subst, length, arith, append_assoc}
 use Rattle.std.specs.Prelude.{Some, None}
-use Rattle.reo_behaviour.specs.First.{IsFirst}
-use Rattle.reo_behaviour.specs.Moves.{moves_of}
-use Rattle.reo_behaviour.specs.Net.{Net, Wiring, net_of}
-use Rattle.reo_behaviour.specs.Step.{stepped}
-use Rattle.reo_laws.specs.FirstLaws.{FirstExists, FirstIsOne}
+use Rattle.reo_net_base.specs.First.{IsFirst}
+use Rattle.reo_net_base.specs.Moves.{moves_of}
+use Rattle.reo_net_base.specs.Net.{Net, Wiring, net_of}
+use Rattle.reo_net_base.specs.Step.{stepped}
+use Rattle.reo_net_laws.specs.FirstLaws.{FirstExists, FirstIsOne}
 use Rattle.reo_script.specs.declared.script.Component.{Component}
 use Rattle.reo_script.specs.Actions.{all_done}
 use Rattle.reo_trace.specs.declared.line.RoundLine.{RoundLine}

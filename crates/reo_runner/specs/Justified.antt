@@ -1,13 +1,13 @@
 -- Rounds that lose no flow, and jam only for cause.
 use Rattle.std.specs.Prelude.{ℕ, ◌<◌, ◌≡◌, Bool, true, false, IsTrue, List, Option, length}
 use Rattle.reo_values.specs.declared.value.Value.{Value}
-use Rattle.reo_behaviour.specs.Colouring.{IsColouring}
-use Rattle.reo_behaviour.specs.First.{IsFirst}
-use Rattle.reo_behaviour.specs.Net.{Net, all_sides, net_of}
-use Rattle.reo_behaviour.specs.Wired.{IsWired}
-use Rattle.reo_laws.specs.FirstLaws.{Flows}
-use Rattle.reo_laws.specs.Jams.{jams, IsThreeColouring}
-use Rattle.reo_laws.specs.Parts.{IsClosed}
+use Rattle.reo_net_base.specs.Colouring.{IsColouring}
+use Rattle.reo_net_base.specs.First.{IsFirst}
+use Rattle.reo_net_base.specs.Net.{Net, all_sides, net_of}
+use Rattle.reo_net_base.specs.Wired.{IsWired}
+use Rattle.reo_net_laws.specs.FirstLaws.{Flows}
+use Rattle.reo_net_laws.specs.Jams.{jams, IsThreeColouring}
+use Rattle.reo_net_laws.specs.Parts.{IsClosed}
 use Rattle.reo_script.specs.declared.script.Component.{Component}
 use Rattle.reo_trace.specs.declared.line.RoundLine.{RoundLine}
 use Rattle.reo_trace.specs.declared.line.Ending.{Ending}

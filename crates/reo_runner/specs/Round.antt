@@ -1,14 +1,14 @@
 -- One round of a run.
 use Rattle.std.specs.Prelude.{ℕ, suc, ◌+◌, ◌≡◌, cond, nat_lt, is_some, Option, Some, None, List, [], ◌∷◌}
 use Rattle.reo_values.specs.declared.value.Value.{Value}
-use Rattle.reo_behaviour.specs.declared.colouring.Chosen.{Chosen}
-use Rattle.reo_behaviour.specs.declared.port.Offer.{Offer}
-use Rattle.reo_behaviour.specs.Marks.{is_flow}
-use Rattle.reo_behaviour.specs.Behaviour.{Behaviour}
-use Rattle.reo_behaviour.specs.Gate.{Gate, way_of, IsAccepted}
-use Rattle.reo_behaviour.specs.Net.{Net, Wiring, net_of, mark_at, end_of}
-use Rattle.reo_behaviour.specs.Moves.{moves_of}
-use Rattle.reo_behaviour.specs.Step.{stepped}
+use Rattle.reo_net_base.specs.declared.colouring.Chosen.{Chosen}
+use Rattle.reo_net_base.specs.declared.port.Offer.{Offer}
+use Rattle.reo_net_base.specs.Marks.{is_flow}
+use Rattle.reo_net_base.specs.Behaviour.{Behaviour}
+use Rattle.reo_net_base.specs.PortState.{PortState, way_of, IsAccepted}
+use Rattle.reo_net_base.specs.Net.{Net, Wiring, net_of, mark_at, end_of}
+use Rattle.reo_net_base.specs.Moves.{moves_of}
+use Rattle.reo_net_base.specs.Step.{stepped}
 use Rattle.reo_script.specs.declared.script.Action.{Action}
 use Rattle.reo_script.specs.declared.script.Component.{Component}
 use Rattle.reo_script.specs.Actions.{port_of, offer_of, action_at, action_for}
@@ -19,12 +19,12 @@ use Rattle.reo_trace.specs.Entries.{line_for}
 pub record Rules (P : Type 0) : Type 0 where
   pub behaviour : P → Behaviour
   pub settled : P → Chosen → Option Value → P
-  pub gate : P → Gate
+  pub port_state : P → PortState
   pub placed : P → Offer → P
   pub withdrawn : P → P
 
-abbrev pub rules_of : {P : Type 0} → (P → Behaviour) → (P → Chosen → Option Value → P) → (P → Gate) → (P → Offer → P) → (P → P) → Rules P
-rules_of behaviour settled gate placed withdrawn = record { behaviour = behaviour; settled = settled; gate = gate; placed = placed; withdrawn = withdrawn }
+abbrev pub rules_of : {P : Type 0} → (P → Behaviour) → (P → Chosen → Option Value → P) → (P → PortState) → (P → Offer → P) → (P → P) → Rules P
+rules_of behaviour settled port_state placed withdrawn = record { behaviour = behaviour; settled = settled; port_state = port_state; placed = placed; withdrawn = withdrawn }
 
 -- A circuit between two rounds, and the place of each component in its list.
 pub record State (P : Type 0) : Type 0 where
@@ -36,7 +36,7 @@ state_of w places = record { circuit = w; places = places }
 
 -- A port with nothing pending.
 abbrev pub cleared : {P : Type 0} → Rules P → P → P
-cleared r p = cond (is_some (r.gate p).pending) (r.withdrawn p) p
+cleared r p = cond (is_some (r.port_state p).pending) (r.withdrawn p) p
 
 -- A port at which exactly what this action offers is pending, and nothing where there is none.
 abbrev pub with_pending : {P : Type 0} → Rules P → Option Action → P → P
@@ -44,9 +44,9 @@ with_pending r None p = cleared r p
 with_pending r (Some action) p = r.placed (cleared r p) (offer_of action)
 
 -- A port takes what this action offers, once nothing is pending there.
-abbrev pub IsTakenAt : Gate → Option Action → Type 0
-IsTakenAt gate None = Unit {0}
-IsTakenAt gate (Some action) = (gate.way ≡ Some (way_of (offer_of action))) × IsAccepted gate (offer_of action)
+abbrev pub IsTakenAt : PortState → Option Action → Type 0
+IsTakenAt port_state None = Unit {0}
+IsTakenAt port_state (Some action) = (port_state.way ≡ Some (way_of (offer_of action))) × IsAccepted port_state (offer_of action)
 
 -- The primitives from the k-th on: at those below a limit exactly the offers of the present actions are pending.
 abbrev pub ports_ready : {P : Type 0} → Rules P → List Component → List ℕ → ℕ → ℕ → List P → List P

@@ -1,8 +1,8 @@
 -- Whole runs: there is exactly one from each start.
 use Rattle.std.specs.Prelude.{ℕ, ◌+◌, ◌≤◌, ◌≡◌, false, List, [], ◌∷◌, ◌++◌, length}
-use Rattle.reo_behaviour.specs.First.{IsFirst}
-use Rattle.reo_behaviour.specs.Net.{Net, net_of}
-use Rattle.reo_behaviour.specs.Wired.{IsWired, IsOrder}
+use Rattle.reo_net_base.specs.First.{IsFirst}
+use Rattle.reo_net_base.specs.Net.{Net, net_of}
+use Rattle.reo_net_base.specs.Wired.{IsWired, IsOrder}
 use Rattle.reo_script.specs.declared.script.Component.{Component}
 use Rattle.reo_script.specs.Actions.{all_done}
 use Rattle.reo_trace.specs.declared.line.RoundLine.{RoundLine}

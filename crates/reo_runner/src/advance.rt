@@ -1,13 +1,13 @@
 //! How far the components come in a round.
 ghost use Rattle.std.specs.Prelude.{◌≡◌, ◌<◌, ◌≤◌, ℕ, cond, length, map, IfOk, true, Some};
-ghost use Rattle.reo_behaviour.specs.Colouring.{AreRows};
-ghost use Rattle.reo_behaviour.specs.Net.{net_of, all_sides};
+ghost use Rattle.reo_net_base.specs.Colouring.{AreRows};
+ghost use Rattle.reo_net_base.specs.Net.{net_of, all_sides};
 ghost use Rattle.reo_script.specs.declared.script.Action.{Action as Done};
 ghost use Rattle.reo_script.specs.Actions.{action_at, all_done, beginnings, port_of, IsScriptFor};
 ghost use Rattle.reo_runner.specs.Round.{progress, advanced};
 
-use reo_behaviour::{End, Ported};
-use reo_circuit::Circuit;
+use reo_net_base::{End, Ported};
+use reo_net_circuit::Circuit;
 use reo_script::Component;
 use reo_values::{List, NoMemory};
 use std::alloc::Global;
@@ -66,7 +66,7 @@ pub(crate) fn advance<P: Ported>(
     places: &[usize],
 ) -> Result<List<usize>, NoMemory>
     requires rows { AreRows (all_sides (net_of P.behaviour circuit.now).primitives) rows.now }
-    requires script { IsScriptFor (map P.gate circuit.now.primitives) circuit.now.ports components.now }
+    requires script { IsScriptFor (map P.port_state circuit.now.primitives) circuit.now.ports components.now }
     requires one_each { length places.now ≡ length components.now }
     ensures places { IfOk result (λ next. next ≡ advanced (net_of P.behaviour circuit.now) rows.now components.now places.now) }
     ensures one_each { IfOk result (λ next. length next ≡ length components.now) }

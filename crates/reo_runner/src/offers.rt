@@ -1,14 +1,14 @@
 //! The offers that are pending in a round.
 ghost use Rattle.std.specs.Prelude.{◌≡◌, ◌<◌, length, map, option_copied, OnOk, IfOk};
-ghost use Rattle.reo_behaviour.specs.Gate.{gate_at};
-ghost use Rattle.reo_behaviour.specs.Net.{net_of};
-ghost use Rattle.reo_behaviour.specs.Colouring.{IsColouring};
-ghost use Rattle.reo_behaviour.specs.Step.{change_at, stepped};
+ghost use Rattle.reo_net_base.specs.PortState.{port_state_at};
+ghost use Rattle.reo_net_base.specs.Net.{net_of};
+ghost use Rattle.reo_net_base.specs.Colouring.{IsColouring};
+ghost use Rattle.reo_net_base.specs.Step.{change_at, stepped};
 ghost use Rattle.reo_script.specs.Actions.{offer_of, action_at, only_at, action_for, IsScriptFor};
 ghost use Rattle.reo_runner.specs.Round.{rules_of, cleared, with_pending, ports_ready, IsTakenAt};
 
-use reo_behaviour::{Colouring, Offer, Ported};
-use reo_circuit::Circuit;
+use reo_net_base::{Colouring, Offer, Ported};
+use reo_net_circuit::Circuit;
 use reo_script::{Action, Component};
 use reo_values::{NoMemory, copy};
 use std::alloc::Global;
@@ -42,7 +42,7 @@ fn find_action<'a>(components: &'a [Component], places: &[usize], port: usize) -
 /// Leaves nothing pending at a port.
 fn clear<P: Ported>(circuit: &mut Circuit<P>, port: usize)
     requires { port < circuit.old.ports }
-    ensures { circuit.new ≡ record circuit.old { primitives = change_at (cleared (rules_of P.behaviour P.settled P.gate P.placed P.withdrawn)) circuit.old.primitives port } }
+    ensures { circuit.new ≡ record circuit.old { primitives = change_at (cleared (rules_of P.behaviour P.settled P.port_state P.placed P.withdrawn)) circuit.old.primitives port } }
 {
     circuit.known_ports();
     if circuit.primitive(port).pending() {
@@ -68,8 +68,8 @@ fn set_pending<P: Ported>(
     action: Option<&Action>,
 ) -> Result<(), NoMemory>
     requires port { port < circuit.old.ports }
-    requires action { IsTakenAt (gate_at (map P.gate circuit.old.primitives) port) (option_copied action) }
-    ensures { OnOk result (circuit.new ≡ record circuit.old { primitives = change_at (with_pending (rules_of P.behaviour P.settled P.gate P.placed P.withdrawn) (option_copied action.entry)) circuit.old.primitives port }) }
+    requires action { IsTakenAt (port_state_at (map P.port_state circuit.old.primitives) port) (option_copied action) }
+    ensures { OnOk result (circuit.new ≡ record circuit.old { primitives = change_at (with_pending (rules_of P.behaviour P.settled P.port_state P.placed P.withdrawn) (option_copied action.entry)) circuit.old.primitives port }) }
 {
     circuit.known_ports();
     clear(circuit, port);
@@ -90,10 +90,10 @@ pub(crate) fn make_ready<P: Ported>(
     components: &[Component],
     places: &[usize],
 ) -> Result<(), NoMemory>
-    requires script { IsScriptFor (map P.gate circuit.old.primitives) circuit.old.ports components.now }
+    requires script { IsScriptFor (map P.port_state circuit.old.primitives) circuit.old.ports components.now }
     requires one_each { length places.now ≡ length components.now }
-    ensures script { OnOk result (IsScriptFor (map P.gate circuit.new.primitives) circuit.new.ports components.now) }
-    ensures ready { OnOk result (circuit.new ≡ record circuit.old { primitives = ports_ready (rules_of P.behaviour P.settled P.gate P.placed P.withdrawn) components.now places.now circuit.old.ports 0 circuit.old.primitives }) }
+    ensures script { OnOk result (IsScriptFor (map P.port_state circuit.new.primitives) circuit.new.ports components.now) }
+    ensures ready { OnOk result (circuit.new ≡ record circuit.old { primitives = ports_ready (rules_of P.behaviour P.settled P.port_state P.placed P.withdrawn) components.now places.now circuit.old.ports 0 circuit.old.primitives }) }
 {
     for port in 0..circuit.ports() {
         let action = find_action(components, places, port);
@@ -109,8 +109,8 @@ pub(crate) fn go_on<P: Ported>(
     components: &[Component],
 )
     requires colouring { IsColouring (net_of P.behaviour circuit.old) colouring.rows colouring.items }
-    requires script { IsScriptFor (map P.gate circuit.old.primitives) circuit.old.ports components.now }
-    ensures script { IsScriptFor (map P.gate circuit.new.primitives) circuit.new.ports components.now }
+    requires script { IsScriptFor (map P.port_state circuit.old.primitives) circuit.old.ports components.now }
+    ensures script { IsScriptFor (map P.port_state circuit.new.primitives) circuit.new.ports components.now }
     ensures step { circuit.new ≡ record circuit.old { primitives = stepped P.behaviour P.settled circuit.old colouring.rows colouring.items } }
 {
     let _ = components;

@@ -3,7 +3,7 @@ ghost use Rattle.std.specs.Prelude.{◌≡◌, ◌<◌, ◌≤◌, ◌+◌, ◌^
 ghost use Rattle.std.specs.List.{count_by};
 ghost use Rattle.reo_runner.specs.Outcome.{tally_of, goes, way_at, is_in, is_out};
 
-use reo_behaviour::{Move, Ports, Way};
+use reo_net_base::{Move, Ports, Way};
 
 /// Why a run ended.
 #[derive(Clone, Copy, Debug, PartialEq, Eq)]

@@ -4,9 +4,9 @@ ghost use Rattle.reo_script.specs.Actions.{IsScriptFor};
 ghost use Rattle.reo_runner.specs.Plan.{IsPlan};
 
 use crate::advance::advance;
-use reo_behaviour::{Colouring, Ported};
-use reo_circuit::{Circuit, moves};
-use reo_plain::plain_first;
+use reo_net_base::{Colouring, Ported};
+use reo_net_circuit::{Circuit, moves};
+use reo_net_plain::plain_first;
 use reo_script::Component;
 use reo_trace::{RoundLine, line_of};
 use reo_values::{List, NoMemory};
@@ -28,7 +28,7 @@ pub(crate) fn make_plan<P: Ported>(
     places: &[usize],
     turn: u64,
 ) -> Result<Plan, NoMemory>
-    requires script { IsScriptFor (map P.gate circuit.now.primitives) circuit.now.ports components.now }
+    requires script { IsScriptFor (map P.port_state circuit.now.primitives) circuit.now.ports components.now }
     requires one_each { length places.now ≡ length components.now }
     ensures { IfOk result (λ plan. IsPlan P.behaviour components.now turn circuit.now places.now plan) }
 {

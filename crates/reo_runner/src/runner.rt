@@ -1,6 +1,6 @@
 //! The run.
 ghost use Rattle.std.specs.Prelude.{◌≡◌, ◌≤◌, ◌<◌, ◌^◌, ℕ, false, length, map};
-ghost use Rattle.reo_behaviour.specs.First.{IsFirst};
+ghost use Rattle.reo_net_base.specs.First.{IsFirst};
 ghost use Rattle.reo_io.specs.Causes.{Rose};
 ghost use Rattle.reo_script.specs.Actions.{IsScriptFor, all_done, beginnings};
 ghost use Rattle.reo_runner.specs.Round.{rules_of};
@@ -12,8 +12,8 @@ use crate::ending::{close, ending_after};
 use crate::laws::has_run;
 use crate::outcome::{End2, Outcome, Tally};
 use crate::round::make_round;
-use reo_behaviour::{Ported, Ports};
-use reo_circuit::Circuit;
+use reo_net_base::{Ported, Ports};
+use reo_net_circuit::Circuit;
 use reo_io::Sink;
 use reo_script::{Component, Script};
 use reo_trace::{Ending, WriteFault};
@@ -33,10 +33,10 @@ fn make_rounds<P: Ported, S: Sink>(
     requires some_round { 1 ≤ limit }
     requires few_rounds { limit ≤ 10 ^ 9 }
     requires few_ports { circuit.ports < 2 ^ 31 }
-    requires script { IsScriptFor (map P.gate circuit.primitives) circuit.ports components.now }
+    requires script { IsScriptFor (map P.port_state circuit.primitives) circuit.ports components.now }
     requires places { places ≡ beginnings components.now }
     requires begun { all_done components.now places ≡ false }
-    ensures came { CameTo IsFirst (rules_of P.behaviour P.settled P.gate P.placed P.withdrawn) ports.now.list components.now limit (start_of circuit components.now) (S.told out.old) (S.told out.new) result }
+    ensures came { CameTo IsFirst (rules_of P.behaviour P.settled P.port_state P.placed P.withdrawn) ports.now.list components.now limit (start_of circuit components.now) (S.told out.old) (S.told out.new) result }
     ensures cause { result.end ≡ End2.WriteFault → Rose (S.faults out.old) (S.faults out.new) }
     ensures later { S.faults out.old ≤ S.faults out.new }
 {
@@ -79,8 +79,8 @@ pub fn run<P: Ported, S: Sink>(
     requires some_round { 1 ≤ limit }
     requires few_rounds { limit ≤ 10 ^ 9 }
     requires few_ports { circuit.ports < 2 ^ 31 }
-    requires script { IsScriptFor (map P.gate circuit.primitives) circuit.ports script.now.components }
-    ensures came { CameTo IsFirst (rules_of P.behaviour P.settled P.gate P.placed P.withdrawn) ports.now.list script.now.components limit (start_of circuit script.now.components) (S.told out.old) (S.told out.new) result }
+    requires script { IsScriptFor (map P.port_state circuit.primitives) circuit.ports script.now.components }
+    ensures came { CameTo IsFirst (rules_of P.behaviour P.settled P.port_state P.placed P.withdrawn) ports.now.list script.now.components limit (start_of circuit script.now.components) (S.told out.old) (S.told out.new) result }
     ensures cause { result.end ≡ End2.WriteFault → Rose (S.faults out.old) (S.faults out.new) }
     ensures later { S.faults out.old ≤ S.faults out.new }
 {

@@ -1,9 +1,9 @@
 -- What components offer, and how far they come.
 use Rattle.std.specs.Prelude.{ℕ, ◌≡◌, ◌<◌, ◌==◌, Bool, true, false, cond, nat_lt, Option, Some, None, List, [], ◌∷◌, length, map, slice_get, slice_index_or}
 use Rattle.std.specs.Option.{option_or}
-use Rattle.reo_behaviour.specs.declared.port.Offer.{Offer}
-use Rattle.reo_behaviour.specs.declared.port.Offer.TheVariants.{Write as WriteOffer, Take as TakeOffer}
-use Rattle.reo_behaviour.specs.Gate.{Gate, gate_at, way_of, IsAccepted}
+use Rattle.reo_net_base.specs.declared.port.Offer.{Offer}
+use Rattle.reo_net_base.specs.declared.port.Offer.TheVariants.{Write as WriteOffer, Take as TakeOffer}
+use Rattle.reo_net_base.specs.PortState.{PortState, port_state_at, way_of, IsAccepted}
 use Rattle.reo_script.specs.declared.script.Action.{Action}
 use Rattle.reo_script.specs.declared.script.Action.TheVariants.{Write, Take}
 use Rattle.reo_script.specs.declared.script.Component.{Component}
@@ -44,14 +44,14 @@ abbrev pub beginnings : List Component → List ℕ
 beginnings components = map (λ (c : Component). 0) components
 
 -- An action that its port takes: the port has its way, and a written item fits.
-pub record IsActionFor (gates : List Gate) (ports : ℕ) (action : Action) : Type 0 where
+pub record IsActionFor (states : List PortState) (ports : ℕ) (action : Action) : Type 0 where
   pub port : port_of action < ports
-  pub way : (gate_at gates (port_of action)).way ≡ Some (way_of (offer_of action))
-  pub accepted : IsAccepted (gate_at gates (port_of action)) (offer_of action)
+  pub way : (port_state_at states (port_of action)).way ≡ Some (way_of (offer_of action))
+  pub accepted : IsAccepted (port_state_at states (port_of action)) (offer_of action)
 
 -- Each action of each component is one that its port takes.
-abbrev pub AreActionsFor : List Gate → ℕ → List Component → Type 0
-AreActionsFor gates ports components = (c k : ℕ) (d : Component) (a : Action) → c < length components → slice_get (slice_index_or components c d).actions k ≡ Some a → IsActionFor gates ports a
+abbrev pub AreActionsFor : List PortState → ℕ → List Component → Type 0
+AreActionsFor states ports components = (c k : ℕ) (d : Component) (a : Action) → c < length components → slice_get (slice_index_or components c d).actions k ≡ Some a → IsActionFor states ports a
 
 -- No port is named by two components.
 abbrev pub AreApart : List Component → Type 0
@@ -59,6 +59,6 @@ AreApart components = (b c k l : ℕ) (d : Component) (x y : Action) → b < len
     → slice_get (slice_index_or components b d).actions k ≡ Some x → slice_get (slice_index_or components c d).actions l ≡ Some y → port_of x ≡ port_of y → b ≡ c
 
 -- A script for the ports of a circuit.
-pub record IsScriptFor (gates : List Gate) (ports : ℕ) (components : List Component) : Type 0 where
-  pub actions : AreActionsFor gates ports components
+pub record IsScriptFor (states : List PortState) (ports : ℕ) (components : List Component) : Type 0 where
+  pub actions : AreActionsFor states ports components
   pub apart : AreApart components

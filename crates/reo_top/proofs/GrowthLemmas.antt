@@ -3,7 +3,7 @@ use Rattle.std.proofs.Common.{ℕ, List, [], ◌++◌, take, inl, inr}
 use Rattle.std.specs.Prelude.{Option}
 use Rattle.reo_io.specs.Sinks.{Appended, TookPart}
 use Rattle.reo_io.proofs.Taken.{Appended-append}
-use Rattle.reo_behaviour.specs.First.{IsFirst}
+use Rattle.reo_net_base.specs.First.{IsFirst}
 use Rattle.reo_script.specs.declared.script.Component.{Component}
 use Rattle.reo_trace.specs.TraceText.{rounds_text, trace_text}
 use Rattle.reo_forms.specs.declared.plainest.Plainest.{Plainest}

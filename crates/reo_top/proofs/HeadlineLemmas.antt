@@ -1,10 +1,10 @@
 -- For an accepted circuit and script the trace of the run was written.
 use Rattle.std.proofs.Common.{inl, inr, ℕ, List, subst}
 use Rattle.std.specs.Prelude.{Option, Result, Ok}
-use Rattle.reo_behaviour.specs.Net.{net_of}
-use Rattle.reo_behaviour.specs.Wired.{IsWired}
-use Rattle.reo_circuit.proofs.ReshapeLemmas.{lawful_at}
-use Rattle.reo_circuit.proofs.WireLemmas.{wired_is}
+use Rattle.reo_net_base.specs.Net.{net_of}
+use Rattle.reo_net_base.specs.Wired.{IsWired}
+use Rattle.reo_net_circuit.proofs.ReshapeLemmas.{lawful_at}
+use Rattle.reo_net_circuit.proofs.WireLemmas.{wired_is}
 use Rattle.reo_io.specs.Fetches.{Folder, file_of}
 use Rattle.reo_io.specs.Sinks.{Appended}
 use Rattle.reo_trees.specs.declared.programs.Program.{Program}

@@ -2,7 +2,7 @@
 use Rattle.std.proofs.Common.{◌≡◌, ◌∙◌, inl, inr, ℕ, List, ◌++◌, sym, refl, subst, ap, append_assoc}
 use Rattle.std.specs.Prelude.{◌≤◌, Option, Err, codes}
 use Rattle.std.proofs.lemmas.Grind.{flat_map-append}
-use Rattle.reo_behaviour.specs.First.{IsFirst}
+use Rattle.reo_net_base.specs.First.{IsFirst}
 use Rattle.reo_io.specs.Causes.{Rose}
 use Rattle.reo_io.specs.Fetches.{Folder}
 use Rattle.reo_script.specs.declared.script.Component.{Component}

@@ -4,7 +4,7 @@ use Rattle.std.specs.Prelude.{Option, codes}
 use Rattle.reo_io.specs.Sinks.{Appended}
 use Rattle.reo_trace.specs.TraceText.{trace_text}
 use Rattle.reo_trace.specs.declared.line.RoundLine.{RoundLine}
-use Rattle.reo_behaviour.specs.First.{IsFirst}
+use Rattle.reo_net_base.specs.First.{IsFirst}
 use Rattle.reo_io.specs.Fetches.{Folder, file_of}
 use Rattle.reo_script.specs.declared.script.Component.{Component}
 use Rattle.reo_trace.specs.declared.line.Ending.{Ending}

@@ -3,13 +3,13 @@ use Rattle.std.proofs.Common.{◌≡◌, ◌≢◌, ◌∙◌, ◌⊎◌, ◌&&�
 use Rattle.std.specs.List.{list_all}
 use Rattle.std.proofs.lemmas.Bool.Decides.{nat_tests}
 use Rattle.std.proofs.lemmas.List.Folds.{list_all_at, list_all_more}
-use Rattle.reo_behaviour.specs.declared.mark.Mark.{Mark}
-use Rattle.reo_behaviour.specs.declared.mark.Mark.TheVariants.{F, G, R, J}
-use Rattle.reo_behaviour.specs.declared.joint.End.{End}
-use Rattle.reo_behaviour.specs.declared.joint.Joint.{Joint}
-use Rattle.reo_behaviour.specs.Marks.{is_flow}
-use Rattle.reo_behaviour.specs.Net.{Net, end_eq, end_of, is_at, mark_at}
-use Rattle.reo_behaviour.specs.Wired.{IsWired}
+use Rattle.reo_net_base.specs.declared.mark.Mark.{Mark}
+use Rattle.reo_net_base.specs.declared.mark.Mark.TheVariants.{F, G, R, J}
+use Rattle.reo_net_base.specs.declared.joint.End.{End}
+use Rattle.reo_net_base.specs.declared.joint.Joint.{Joint}
+use Rattle.reo_net_base.specs.Marks.{is_flow}
+use Rattle.reo_net_base.specs.Net.{Net, end_eq, end_of, is_at, mark_at}
+use Rattle.reo_net_base.specs.Wired.{IsWired}
 use Rattle.reo_trace.specs.Entries.{is_idle, is_still}
 use Rattle.reo_trace.specs.Idle.{NoEndFlows}
 

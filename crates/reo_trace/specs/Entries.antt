@@ -1,13 +1,13 @@
 -- What a round line says of a circuit's rows.
 use Rattle.std.specs.Prelude.{ℕ, ◌+◌, ◌==◌, ◌||◌, Bool, not, if◌then◌else◌, List, length, map}
 use Rattle.std.specs.List.{list_all, range_with_len}
-use Rattle.reo_behaviour.specs.declared.colouring.Chosen.{Chosen}
-use Rattle.reo_behaviour.specs.declared.colouring.Move.{Move}
-use Rattle.reo_behaviour.specs.declared.joint.Joint.{Joint}
-use Rattle.reo_behaviour.specs.Marks.{is_flow}
-use Rattle.reo_behaviour.specs.Behaviour.{Behaviour}
-use Rattle.reo_behaviour.specs.Net.{Net, behaviour_at, mark_at}
-use Rattle.reo_behaviour.specs.Step.{chosen_for}
+use Rattle.reo_net_base.specs.declared.colouring.Chosen.{Chosen}
+use Rattle.reo_net_base.specs.declared.colouring.Move.{Move}
+use Rattle.reo_net_base.specs.declared.joint.Joint.{Joint}
+use Rattle.reo_net_base.specs.Marks.{is_flow}
+use Rattle.reo_net_base.specs.Behaviour.{Behaviour}
+use Rattle.reo_net_base.specs.Net.{Net, behaviour_at, mark_at}
+use Rattle.reo_net_base.specs.Step.{chosen_for}
 use Rattle.reo_trace.specs.declared.line.Cell.{Cell}
 use Rattle.reo_trace.specs.declared.line.Cell.TheVariants.{Row, Jam}
 use Rattle.reo_trace.specs.declared.line.Entry.{Entry}

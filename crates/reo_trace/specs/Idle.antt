@@ -1,9 +1,9 @@
 -- What idle means.
 use Rattle.std.specs.Prelude.{ℕ, ◌≢◌, ◌↔◌, IsTrue, List}
-use Rattle.reo_behaviour.specs.declared.mark.Mark.TheVariants.{F}
-use Rattle.reo_behaviour.specs.declared.joint.End.{End}
-use Rattle.reo_behaviour.specs.Net.{Net, mark_at}
-use Rattle.reo_behaviour.specs.Wired.{IsEnd, IsWired}
+use Rattle.reo_net_base.specs.declared.mark.Mark.TheVariants.{F}
+use Rattle.reo_net_base.specs.declared.joint.End.{End}
+use Rattle.reo_net_base.specs.Net.{Net, mark_at}
+use Rattle.reo_net_base.specs.Wired.{IsEnd, IsWired}
 use Rattle.reo_trace.specs.Entries.{is_idle}
 
 -- No end of any primitive flows.

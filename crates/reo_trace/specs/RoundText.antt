@@ -3,10 +3,10 @@ use Rattle.std.specs.Prelude.{ℕ, Bool, true, false, List, [], ◌∷◌, ◌++
 use Rattle.std.specs.Fmt.{decimal}
 use Rattle.reo_values.specs.ItemText.{text_of}
 use Rattle.reo_values.specs.declared.value.Value.{Value}
-use Rattle.reo_behaviour.specs.declared.colouring.Move.{Move}
-use Rattle.reo_behaviour.specs.declared.port.Port.{Port}
-use Rattle.reo_behaviour.specs.declared.port.Way.{Way}
-use Rattle.reo_behaviour.specs.declared.port.Way.TheVariants.{In, Out}
+use Rattle.reo_net_base.specs.declared.colouring.Move.{Move}
+use Rattle.reo_net_base.specs.declared.port.Port.{Port}
+use Rattle.reo_net_base.specs.declared.port.Way.{Way}
+use Rattle.reo_net_base.specs.declared.port.Way.TheVariants.{In, Out}
 use Rattle.reo_trace.specs.declared.line.Cell.{Cell}
 use Rattle.reo_trace.specs.declared.line.Cell.TheVariants.{Row, Jam}
 use Rattle.reo_trace.specs.declared.line.Entry.{Entry}

@@ -1,13 +1,13 @@
 //! The line of a round.
 ghost use Rattle.std.specs.Prelude.{◌≡◌, ◌<◌, ◌+◌, IfOk, length, slice_index, slice_index_or};
-ghost use Rattle.reo_behaviour.specs.Colouring.{AreRows};
-ghost use Rattle.reo_behaviour.specs.Net.{all_sides, behaviour_at, first_side, net_of};
-ghost use Rattle.reo_behaviour.specs.declared.joint.Joint.{Joint as JointEnds};
+ghost use Rattle.reo_net_base.specs.Colouring.{AreRows};
+ghost use Rattle.reo_net_base.specs.Net.{all_sides, behaviour_at, first_side, net_of};
+ghost use Rattle.reo_net_base.specs.declared.joint.Joint.{Joint as JointEnds};
 ghost use Rattle.reo_trace.specs.Entries.{cell_of, entries_of, entry_at, is_idle, is_still, line_for};
 
 use crate::{Cell, Entry, RoundLine};
-use reo_behaviour::{Joint, Move, Primitive};
-use reo_circuit::Circuit;
+use reo_net_base::{Joint, Move, Primitive};
+use reo_net_circuit::Circuit;
 use reo_values::{List, NoMemory, copy};
 use std::alloc::Global;
 

@@ -1,5 +1,5 @@
 //! What the lines of a trace say.
-use reo_behaviour::Move;
+use reo_net_base::Move;
 use reo_values::List;
 
 /// The row of one side.

@@ -3,7 +3,7 @@ use crate::{
     Cell, Ending, Entry, RoundLine, WriteFault, ending_line_text, round_line_text, write_ending,
     write_round,
 };
-use reo_behaviour::{Move, Port, Ports, Way};
+use reo_net_base::{Move, Port, Ports, Way};
 use reo_io::MemorySink;
 use reo_values::{Bytes, Kindred, List, NoMemory, Value};
 use std::alloc::Global;

@@ -6,7 +6,7 @@ ghost use Rattle.reo_trace.specs.RoundText.{cell_text, entry_text, move_text, mo
 ghost use Rattle.reo_trace.specs.Spaced.{gap, spaced};
 
 use crate::{Cell, Ending, Entry, RoundLine};
-use reo_behaviour::{Move, Ports, Way};
+use reo_net_base::{Move, Ports, Way};
 use reo_values::{Bytes, NoMemory, value_text};
 use std::alloc::Global;
 

@@ -1,6 +1,6 @@
 -- What has the form has no fault.
 use Rattle.std.proofs.Common.{◌≡◌}
-use Rattle.reo_circuit.specs.declared.fault.NetFault.TheVariants as fault
+use Rattle.reo_net_circuit.specs.declared.fault.NetFault.TheVariants as fault
 use Rattle.reo_build.specs.Sound.{net_for}
 use Rattle.reo_build.proofs.Joining.{only_memory}
 use Rattle.reo_build.proofs.flat.build.Goals as goal

@@ -1,4 +1,4 @@
-use Rattle.reo_behaviour.specs.declared.port.Way.TheVariants.{In, Out}
+use Rattle.reo_net_base.specs.declared.port.Way.TheVariants.{In, Out}
 use Rattle.reo_forms.specs.declared.plainest.Joined.{Joined}
 use Rattle.reo_forms.specs.Parameters.{IsNamed}
 use Rattle.reo_forms.proofs.Eachs.{Before}

@@ -1,5 +1,5 @@
 use Rattle.std.proofs.Common.{◌≡◌, ◌≤◌, ◌==◌, ℕ, List, false, length, sym, subst, arith}
-use Rattle.reo_behaviour.specs.declared.port.Way.TheVariants.{In, Out}
+use Rattle.reo_net_base.specs.declared.port.Way.TheVariants.{In, Out}
 use Rattle.reo_forms.specs.declared.plainest.Parameter.{Parameter}
 use Rattle.reo_forms.specs.declared.plainest.Joined.{Joined}
 use Rattle.reo_forms.specs.declared.plainest.Plainest.{Plainest}

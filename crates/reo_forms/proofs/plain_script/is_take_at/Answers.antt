@@ -1,5 +1,5 @@
 use Rattle.std.proofs.Common.{◌≡◌, subst}
-use Rattle.reo_behaviour.specs.declared.port.Way.TheVariants.{Out}
+use Rattle.reo_net_base.specs.declared.port.Way.TheVariants.{Out}
 use Rattle.reo_forms.specs.declared.plainest.Parameter.{Parameter}
 use Rattle.reo_forms.proofs.Eachs.{found_at, none_at, one_at}
 use Rattle.reo_forms.proofs.plain_script.is_take_at.Goals as goal

@@ -1,7 +1,7 @@
 use Rattle.std.proofs.Common.{◌≡◌, subst}
 use Rattle.reo_values.specs.Kind.{IsIn}
 use Rattle.reo_values.specs.declared.kindred.Kindred.TheVariants as kinds
-use Rattle.reo_behaviour.specs.declared.port.Way.TheVariants.{In}
+use Rattle.reo_net_base.specs.declared.port.Way.TheVariants.{In}
 use Rattle.reo_forms.specs.declared.plainest.Parameter.{Parameter}
 use Rattle.reo_forms.proofs.Eachs.{found_at, none_at, one_at}
 use Rattle.reo_forms.proofs.plain_script.is_write_at.Goals as goal

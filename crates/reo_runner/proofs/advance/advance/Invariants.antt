@@ -1,5 +1,5 @@
 use Rattle.std.proofs.Common.{◌≡◌, ◌++◌, drop, length}
-use Rattle.reo_behaviour.specs.Net.{net_of}
+use Rattle.reo_net_base.specs.Net.{net_of}
 use Rattle.reo_runner.specs.Round.{advanced}
 use Rattle.reo_runner.proofs.advance.advance.Given as goal
 

@@ -3,8 +3,8 @@ use Rattle.std.specs.Prelude.{Option, Err}
 use Rattle.std.specs.List.{count_by}
 use Rattle.std.proofs.lemmas.List.{length-map}
 use Rattle.std.proofs.lemmas.List.Sums.{count_by-le-length}
-use Rattle.reo_behaviour.specs.declared.port.Port.{Port}
-use Rattle.reo_behaviour.specs.First.{IsFirst}
+use Rattle.reo_net_base.specs.declared.port.Port.{Port}
+use Rattle.reo_net_base.specs.First.{IsFirst}
 use Rattle.reo_script.specs.declared.script.Component.{Component}
 use Rattle.reo_script.specs.Actions.{all_done}
 use Rattle.reo_runner.specs.declared.round.Made.{Made}
@@ -17,7 +17,7 @@ use Rattle.reo_runner.proofs.runner.make_rounds.Goals as goal
 
 pub loop-made-init : goal.loop-made-init
 loop-made-init g c =
-    let r = rules_of g.P.Primitive.behaviour g.P.Primitive.settled g.P.Ported.gate g.P.Ported.placed g.P.Ported.withdrawn in
+    let r = rules_of g.P.Primitive.behaviour g.P.Primitive.settled g.P.Ported.port_state g.P.Ported.placed g.P.Ported.withdrawn in
     let cs : List Component = c.args.components.now in
     let start : State g.row.P.Denot = start_of c.args.circuit cs in
     let first : State g.row.P.Denot = state_of c.args.circuit c.args.places in
@@ -37,7 +37,7 @@ loop-made-init g c =
 
 pub returns-in-Err-Failed-clause-came : goal.returns-in-Err-Failed-clause-came
 returns-in-Err-Failed-clause-came g c =
-    let r = rules_of g.P.Primitive.behaviour g.P.Primitive.settled g.P.Ported.gate g.P.Ported.placed g.P.Ported.withdrawn in
+    let r = rules_of g.P.Primitive.behaviour g.P.Primitive.settled g.P.Ported.port_state g.P.Ported.placed g.P.Ported.withdrawn in
     let cs : List Component = c.args.components.now in
     let now : State g.row.P.Denot = state_of c.loop-made.circuit c.loop-made.places in
     let cut = rw c.as_slice-now.ensures at (c.in-Err-Failed.ensures.cut (ap (λ x. Err x) c.in-Err-Failed.field-0-is)) in
@@ -46,7 +46,7 @@ returns-in-Err-Failed-clause-came g c =
 
 pub returns-in-Err-NoMemory-clause-came : goal.returns-in-Err-NoMemory-clause-came
 returns-in-Err-NoMemory-clause-came g c =
-    let r = rules_of g.P.Primitive.behaviour g.P.Primitive.settled g.P.Ported.gate g.P.Ported.placed g.P.Ported.withdrawn in
+    let r = rules_of g.P.Primitive.behaviour g.P.Primitive.settled g.P.Ported.port_state g.P.Ported.placed g.P.Ported.withdrawn in
     let cs : List Component = c.args.components.now in
     let now : State g.row.P.Denot = state_of c.loop-made.circuit c.loop-made.places in
     let same : c.make_round.new.out ≡ c.loop-made.out = c.in-Err-NoMemory.ensures.memory (ap (λ x. Err x) c.in-Err-NoMemory.field-0-is) in
@@ -59,7 +59,7 @@ after-tally-requires-clause-few g c = rw c.as_slice.ensures (omega (arith, c.in-
 
 pub returns-in-Some-clause-came : goal.returns-in-Some-clause-came
 returns-in-Some-clause-came g c =
-    let r = rules_of g.P.Primitive.behaviour g.P.Primitive.settled g.P.Ported.gate g.P.Ported.placed g.P.Ported.withdrawn in
+    let r = rules_of g.P.Primitive.behaviour g.P.Primitive.settled g.P.Ported.port_state g.P.Ported.placed g.P.Ported.withdrawn in
     let cs : List Component = c.args.components.now in
     let ports : List Port = c.args.ports.now.list in
     let made : Made = c.in-Ok.made in
@@ -75,7 +75,7 @@ returns-in-Some-clause-came g c =
 
 pub loop-made-preserved : goal.loop-made-preserved
 loop-made-preserved g c =
-    let r = rules_of g.P.Primitive.behaviour g.P.Primitive.settled g.P.Ported.gate g.P.Ported.placed g.P.Ported.withdrawn in
+    let r = rules_of g.P.Primitive.behaviour g.P.Primitive.settled g.P.Ported.port_state g.P.Ported.placed g.P.Ported.withdrawn in
     let cs : List Component = c.args.components.now in
     let ports : List Port = c.args.ports.now.list in
     let made : Made = c.in-Ok.made in

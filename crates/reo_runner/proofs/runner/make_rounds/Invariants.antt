@@ -1,5 +1,5 @@
 use Rattle.std.proofs.Common.{length, ◌-◌, ◌+◌, ◌≤◌, ◌≡◌, ◌^◌, ◌*◌, false, map}
-use Rattle.reo_behaviour.specs.First.{IsFirst}
+use Rattle.reo_net_base.specs.First.{IsFirst}
 use Rattle.reo_script.specs.Actions.{all_done, IsScriptFor}
 use Rattle.reo_runner.specs.Round.{rules_of, state_of}
 use Rattle.reo_runner.specs.Run.{start_of}
@@ -9,9 +9,9 @@ use Rattle.reo_runner.proofs.runner.make_rounds.Given as goal
 -- The lines so far are those of the first rounds, and the numbers are small.
 abbrev pub invariant-loop-made : goal.invariant-loop-made
 invariant-loop-made g l = record {
-  so_far : SoFar IsFirst (rules_of g.P.Primitive.behaviour g.P.Primitive.settled g.P.Ported.gate g.P.Ported.placed g.P.Ported.withdrawn) l.ports.list l.components l.fn.limit (start_of l.fn.circuit l.components)
+  so_far : SoFar IsFirst (rules_of g.P.Primitive.behaviour g.P.Primitive.settled g.P.Ported.port_state g.P.Ported.placed g.P.Ported.withdrawn) l.ports.list l.components l.fn.limit (start_of l.fn.circuit l.components)
       (g.S.Sink.told l.fn.out) (g.S.Sink.told l.out) l.turn (state_of l.circuit l.places) l.tally;
-  script : IsScriptFor (map g.P.Ported.gate l.circuit.primitives) l.circuit.ports l.components;
+  script : IsScriptFor (map g.P.Ported.port_state l.circuit.primitives) l.circuit.ports l.components;
   ports : l.circuit.ports ≡ l.fn.circuit.ports;
   same : length l.places ≡ length l.components;
   begun : all_done l.components (start_of l.fn.circuit l.components).places ≡ false;

@@ -1,6 +1,6 @@
 use Rattle.std.proofs.Common.{◌≡◌, ◌∙◌, sym, subst, refl, List, [], true}
-use Rattle.reo_behaviour.specs.declared.port.Port.{Port}
-use Rattle.reo_behaviour.specs.First.{IsFirst}
+use Rattle.reo_net_base.specs.declared.port.Port.{Port}
+use Rattle.reo_net_base.specs.First.{IsFirst}
 use Rattle.reo_io.proofs.Taken.{Appended-none}
 use Rattle.reo_script.specs.declared.script.Component.{Component}
 use Rattle.reo_script.specs.Actions.{all_done, beginnings}
@@ -13,7 +13,7 @@ use Rattle.reo_runner.proofs.runner.run.Goals as goal
 
 pub returns-then-are_done-clause-came : goal.returns-then-are_done-clause-came
 returns-then-are_done-clause-came g c =
-    let r = rules_of g.P.Primitive.behaviour g.P.Primitive.settled g.P.Ported.gate g.P.Ported.placed g.P.Ported.withdrawn in
+    let r = rules_of g.P.Primitive.behaviour g.P.Primitive.settled g.P.Ported.port_state g.P.Ported.placed g.P.Ported.withdrawn in
     let cs : List Component = c.as_slice-components.result.now in
     let ports : List Port = c.args.ports.now.list in
     let done : all_done cs (beginnings cs) ≡ true = sym (rw (c.as_slice.ensures, c.in-Ok.ensures) at c.are_done.ensures) ∙ c.if-are_done.true in
@@ -29,5 +29,5 @@ make_rounds-requires-clause-begun g c = sym (rw c.as_slice.ensures at c.are_done
 
 pub returns-clause-came : goal.returns-clause-came
 returns-clause-came g c =
-    let r = rules_of g.P.Primitive.behaviour g.P.Primitive.settled g.P.Ported.gate g.P.Ported.placed g.P.Ported.withdrawn in
+    let r = rules_of g.P.Primitive.behaviour g.P.Primitive.settled g.P.Ported.port_state g.P.Ported.placed g.P.Ported.withdrawn in
     subst (λ (x : List Component). CameTo IsFirst r c.args.ports.now.list x c.args.limit (start_of c.args.circuit x) (g.S.Sink.told c.args.out.now) (g.S.Sink.told c.make_rounds.new.out) c.make_rounds.result) c.as_slice-components.ensures c.make_rounds.ensures.came

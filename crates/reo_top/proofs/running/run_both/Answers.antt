@@ -1,5 +1,5 @@
 use Rattle.std.proofs.Common.{subst, List}
-use Rattle.reo_behaviour.specs.First.{IsFirst}
+use Rattle.reo_net_base.specs.First.{IsFirst}
 use Rattle.reo_script.specs.declared.script.Component.{Component}
 use Rattle.reo_forms.specs.declared.plainest.Plainest.{Plainest}
 use Rattle.reo_build.specs.Flat.{ports_of}

@@ -1,4 +1,4 @@
-use Rattle.reo_behaviour.specs.Net.{Net, net_of}
+use Rattle.reo_net_base.specs.Net.{Net, net_of}
 use Rattle.reo_trace.specs.Entries.{entry_at}
 use Rattle.reo_trace.proofs.Places.{made-more}
 use Rattle.reo_trace.proofs.entries.entries_of.Goals as goal

@@ -1,6 +1,6 @@
 use Rattle.std.proofs.Common.{◌≡◌, map}
 use Rattle.std.specs.List.{range_with_len}
-use Rattle.reo_behaviour.specs.Net.{net_of}
+use Rattle.reo_net_base.specs.Net.{net_of}
 use Rattle.reo_trace.specs.Entries.{entry_at}
 use Rattle.reo_trace.proofs.entries.entries_of.Given as goal
 

@@ -1,6 +1,6 @@
 use Rattle.std.proofs.Common.{rules}
-use Rattle.reo_behaviour.specs.declared.joint.Joint.{Joint}
-use Rattle.reo_behaviour.specs.Net.{end_of, net_of}
+use Rattle.reo_net_base.specs.declared.joint.Joint.{Joint}
+use Rattle.reo_net_base.specs.Net.{end_of, net_of}
 use Rattle.reo_trace.proofs.Still.{not_idle, still_more}
 use Rattle.reo_trace.proofs.entries.is_idle.Goals as goal
 

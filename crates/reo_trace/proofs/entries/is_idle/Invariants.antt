@@ -1,6 +1,6 @@
 use Rattle.std.proofs.Common.{◌≡◌, true, take}
 use Rattle.std.specs.List.{list_all}
-use Rattle.reo_behaviour.specs.Net.{net_of}
+use Rattle.reo_net_base.specs.Net.{net_of}
 use Rattle.reo_trace.specs.Entries.{is_still}
 use Rattle.reo_trace.proofs.entries.is_idle.Given as goal
 

@@ -1,6 +1,6 @@
 use Rattle.std.proofs.Common.{◌<◌, ◌+◌, rules, length}
 use Rattle.std.proofs.lemmas.List.{length-map}
-use Rattle.reo_behaviour.specs.Net.{Net, net_of}
+use Rattle.reo_net_base.specs.Net.{Net, net_of}
 use Rattle.reo_trace.proofs.Places.{row_in}
 use Rattle.reo_trace.proofs.entries.row_of.Given.{Over}
 use Rattle.reo_trace.proofs.entries.row_of.Goals as goal

@@ -1,5 +1,5 @@
 use Rattle.std.proofs.Common.{ap, ◌≡◌, true}
-use Rattle.reo_behaviour.specs.Marks.{is_flow}
+use Rattle.reo_net_base.specs.Marks.{is_flow}
 use Rattle.std.specs.Option.{is_some}
 use Rattle.reo_kinds.specs.Tables.{ready_mark}
 use Rattle.reo_kinds.specs.declared.kind.Kind.TheVariants.{Writer}

@@ -1,7 +1,0 @@
-use Rattle.std.proofs.Common.{ℕ, ◌<◌}
-use Rattle.reo_circuit.specs.Parts.{net_with}
-use Rattle.reo_circuit.specs.Fault.{IsBound}
-use Rattle.reo_circuit.proofs.ends.ends_fault.Given as goal
-
-abbrev pub invariant-loop-index : goal.invariant-loop-index
-invariant-loop-index g l = (k : ℕ) → k < l.index → IsBound (net_with g.P.Primitive.behaviour l.primitives l.joints) k

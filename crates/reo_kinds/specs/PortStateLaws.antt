@@ -1,0 +1,122 @@
+-- The kinds keep the laws of a port.
+use Rattle.std.proofs.Common.{◌≡◌, Bool, true, false, cond, Option, Some, None, refl}
+use Rattle.reo_values.specs.declared.value.Value.{Value}
+use Rattle.reo_net_base.specs.declared.colouring.Chosen.{Chosen}
+use Rattle.reo_net_base.specs.declared.port.Offer.{Offer}
+use Rattle.reo_net_base.specs.declared.port.Offer.TheVariants.{Write, Take}
+use Rattle.reo_net_base.specs.Marks.{is_flow}
+use Rattle.reo_net_base.specs.Lawful.{SameShape}
+use Rattle.reo_net_base.specs.PortState.{no_port_state, CanPlace, IsPortWith}
+use Rattle.reo_kinds.specs.declared.kind.WriterPort.{WriterPort}
+use Rattle.reo_kinds.specs.declared.kind.TakerPort.{TakerPort}
+use Rattle.reo_kinds.specs.declared.kind.Kind.{Kind}
+use Rattle.reo_kinds.specs.declared.kind.Kind.TheVariants.{Writer, Taker, Sync, Lossy, SyncDrain, AsyncDrain, Filter, Map, Merger, Replicator}
+use Rattle.reo_kinds.specs.Items.{is_item}
+use Rattle.reo_kinds.specs.Kinds.{behaviour_of, settled_kind, port_state_of, placed_kind, withdrawn_kind, offering_if, unoffered, with_take}
+use Rattle.reo_kinds.specs.KindLaws.{same_shape}
+
+-- What is no port has no pending offer.
+pub no_port_kind : (kind : Kind) → (port_state_of kind).way ≡ None → (port_state_of kind).pending ≡ None
+no_port_kind (Writer port) way = cc
+no_port_kind (Taker port) way = cc
+no_port_kind Sync way = refl
+no_port_kind Lossy way = refl
+no_port_kind SyncDrain way = refl
+no_port_kind AsyncDrain way = refl
+no_port_kind (Filter rule) way = refl
+no_port_kind (Map rule) way = refl
+no_port_kind (Merger branches) way = refl
+no_port_kind (Replicator branches) way = refl
+
+-- What is no port stays so.
+no_port_stays : (pending : Option Offer) → pending ≡ None → IsPortWith no_port_state no_port_state pending
+no_port_stays pending is = record { way = refl; accepts = λ _. refl; pending_is = rw (is) refl }
+
+offered_port : (port : WriterPort) (item : Value) (fits : Bool) (is : is_item item port.kindred ≡ fits) → fits ≡ true
+    → IsPortWith (port_state_of (Writer port)) (port_state_of (Writer (offering_if port item fits is))) (Some (Write item))
+offered_port port item true is fits = record { way = refl; accepts = λ _. refl; pending_is = refl }
+offered_port port item false is fits = absurd cc
+
+-- An offer that is placed is pending, and the rest stays.
+pub placed_kind_port : (kind : Kind) (offer : Offer) → CanPlace (port_state_of kind) offer → IsPortWith (port_state_of kind) (port_state_of (placed_kind kind offer)) (Some offer)
+placed_kind_port (Writer port) (Write item) can = offered_port port item _ refl can.accepted
+placed_kind_port (Writer port) Take can = let way = can.way in cc
+placed_kind_port (Taker port) (Write item) can = let way = can.way in cc
+placed_kind_port (Taker port) Take can = record { way = refl; accepts = λ _. refl; pending_is = refl }
+placed_kind_port Sync offer can = let way = can.way in cc
+placed_kind_port Lossy offer can = let way = can.way in cc
+placed_kind_port SyncDrain offer can = let way = can.way in cc
+placed_kind_port AsyncDrain offer can = let way = can.way in cc
+placed_kind_port (Filter rule) offer can = let way = can.way in cc
+placed_kind_port (Map rule) offer can = let way = can.way in cc
+placed_kind_port (Merger branches) offer can = let way = can.way in cc
+placed_kind_port (Replicator branches) offer can = let way = can.way in cc
+
+pub placed_kind_shape : (kind : Kind) (offer : Offer) → SameShape (behaviour_of kind) (behaviour_of (placed_kind kind offer))
+placed_kind_shape (Writer port) (Write item) = record { ends = refl; sides = refl; side_of = λ _. refl; takes_in = λ _. refl }
+placed_kind_shape (Writer port) Take = same_shape _
+placed_kind_shape (Taker port) (Write item) = same_shape _
+placed_kind_shape (Taker port) Take = record { ends = refl; sides = refl; side_of = λ _. refl; takes_in = λ _. refl }
+placed_kind_shape Sync offer = same_shape _
+placed_kind_shape Lossy offer = same_shape _
+placed_kind_shape SyncDrain offer = same_shape _
+placed_kind_shape AsyncDrain offer = same_shape _
+placed_kind_shape (Filter rule) offer = same_shape _
+placed_kind_shape (Map rule) offer = same_shape _
+placed_kind_shape (Merger branches) offer = same_shape _
+placed_kind_shape (Replicator branches) offer = same_shape _
+
+-- After a withdrawal nothing is pending, and the rest stays.
+pub withdrawn_kind_port : (kind : Kind) → IsPortWith (port_state_of kind) (port_state_of (withdrawn_kind kind)) None
+withdrawn_kind_port (Writer port) = record { way = refl; accepts = λ _. refl; pending_is = refl }
+withdrawn_kind_port (Taker port) = record { way = refl; accepts = λ _. refl; pending_is = refl }
+withdrawn_kind_port Sync = no_port_stays None refl
+withdrawn_kind_port Lossy = no_port_stays None refl
+withdrawn_kind_port SyncDrain = no_port_stays None refl
+withdrawn_kind_port AsyncDrain = no_port_stays None refl
+withdrawn_kind_port (Filter rule) = no_port_stays None refl
+withdrawn_kind_port (Map rule) = no_port_stays None refl
+withdrawn_kind_port (Merger branches) = no_port_stays None refl
+withdrawn_kind_port (Replicator branches) = no_port_stays None refl
+
+pub withdrawn_kind_shape : (kind : Kind) → SameShape (behaviour_of kind) (behaviour_of (withdrawn_kind kind))
+withdrawn_kind_shape (Writer port) = record { ends = refl; sides = refl; side_of = λ _. refl; takes_in = λ _. refl }
+withdrawn_kind_shape (Taker port) = record { ends = refl; sides = refl; side_of = λ _. refl; takes_in = λ _. refl }
+withdrawn_kind_shape Sync = same_shape _
+withdrawn_kind_shape Lossy = same_shape _
+withdrawn_kind_shape SyncDrain = same_shape _
+withdrawn_kind_shape AsyncDrain = same_shape _
+withdrawn_kind_shape (Filter rule) = same_shape _
+withdrawn_kind_shape (Map rule) = same_shape _
+withdrawn_kind_shape (Merger branches) = same_shape _
+withdrawn_kind_shape (Replicator branches) = same_shape _
+
+-- Nothing is pending at what is no port, whether it flows or not.
+none_either_way : (flows : Bool) → cond {A = Option Offer} flows None None ≡ None
+none_either_way true = refl
+none_either_way false = refl
+
+-- A port that flows has its offer no more.
+writer_after : (port : WriterPort) (flows : Bool)
+    → IsPortWith (port_state_of (Writer port)) (port_state_of (Writer (cond flows (unoffered port) port))) (cond flows None (port_state_of (Writer port)).pending)
+writer_after port true = record { way = refl; accepts = λ _. refl; pending_is = refl }
+writer_after port false = record { way = refl; accepts = λ _. refl; pending_is = refl }
+
+taker_after : (port : TakerPort) (flows : Bool)
+    → IsPortWith (port_state_of (Taker port)) (port_state_of (Taker (cond flows (with_take false) port))) (cond flows None (port_state_of (Taker port)).pending)
+taker_after port true = record { way = refl; accepts = λ _. refl; pending_is = refl }
+taker_after port false = record { way = refl; accepts = λ _. refl; pending_is = refl }
+
+-- After a round the offer is gone where the port flowed, and else as it was. The rest stays.
+pub settled_kind_port : (kind : Kind) (rows : Chosen) (taken : Option Value)
+    → IsPortWith (port_state_of kind) (port_state_of (settled_kind kind rows taken)) (cond (is_flow ((behaviour_of kind).mark 0 rows.first 0)) None (port_state_of kind).pending)
+settled_kind_port (Writer port) rows taken = writer_after port _
+settled_kind_port (Taker port) rows taken = taker_after port _
+settled_kind_port Sync rows taken = no_port_stays _ (none_either_way _)
+settled_kind_port Lossy rows taken = no_port_stays _ (none_either_way _)
+settled_kind_port SyncDrain rows taken = no_port_stays _ (none_either_way _)
+settled_kind_port AsyncDrain rows taken = no_port_stays _ (none_either_way _)
+settled_kind_port (Filter rule) rows taken = no_port_stays _ (none_either_way _)
+settled_kind_port (Map rule) rows taken = no_port_stays _ (none_either_way _)
+settled_kind_port (Merger branches) rows taken = no_port_stays _ (none_either_way _)
+settled_kind_port (Replicator branches) rows taken = no_port_stays _ (none_either_way _)

@@ -1,5 +1,0 @@
-use Rattle.reo_laws.proofs.Mixing.{mix}
-use Rattle.reo_laws.proofs.colourings.mix_is_colouring.Goals as goal
-
-pub returns : goal.returns
-returns c = mix

@@ -1,5 +1,0 @@
-use Rattle.reo_laws.proofs.Sets.{parts_colouring}
-use Rattle.reo_laws.proofs.colourings.parts_are_colouring.Goals as goal
-
-pub returns : goal.returns
-returns c = parts_colouring

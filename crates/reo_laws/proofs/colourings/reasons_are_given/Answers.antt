@@ -1,5 +1,0 @@
-use Rattle.reo_laws.proofs.Reasons.{reasons_given}
-use Rattle.reo_laws.proofs.colourings.reasons_are_given.Goals as goal
-
-pub returns : goal.returns
-returns c = reasons_given

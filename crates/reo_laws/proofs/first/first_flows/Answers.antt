@@ -1,5 +1,0 @@
-use Rattle.reo_laws.proofs.Flows.{first_flows}
-use Rattle.reo_laws.proofs.first.first_flows.Goals as goal
-
-pub returns : goal.returns
-returns c = first_flows

@@ -1,5 +1,0 @@
-use Rattle.reo_laws.proofs.FirstInside.{first_inside}
-use Rattle.reo_laws.proofs.first.first_inside.Goals as goal
-
-pub returns : goal.returns
-returns c = first_inside

@@ -1,5 +1,0 @@
-use Rattle.reo_laws.proofs.OneFirst.{one_inside}
-use Rattle.reo_laws.proofs.first.first_is_one_inside.Goals as goal
-
-pub returns : goal.returns
-returns c = one_inside

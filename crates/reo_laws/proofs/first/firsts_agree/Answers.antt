@@ -1,5 +1,0 @@
-use Rattle.reo_laws.proofs.Isolation.{firsts_agree}
-use Rattle.reo_laws.proofs.first.firsts_agree.Goals as goal
-
-pub returns : goal.returns
-returns c = firsts_agree

@@ -1,5 +1,0 @@
-use Rattle.reo_laws.proofs.Isolation.{isolated}
-use Rattle.reo_laws.proofs.first.is_isolated.Goals as goal
-
-pub returns : goal.returns
-returns c = isolated

@@ -1,5 +1,0 @@
-use Rattle.reo_laws.proofs.Flows.{none_more}
-use Rattle.reo_laws.proofs.first.none_flows_more.Goals as goal
-
-pub returns : goal.returns
-returns c = none_more

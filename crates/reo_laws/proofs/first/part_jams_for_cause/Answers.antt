@@ -1,5 +1,0 @@
-use Rattle.reo_laws.proofs.Flows.{part_jams}
-use Rattle.reo_laws.proofs.first.part_jams_for_cause.Goals as goal
-
-pub returns : goal.returns
-returns c = part_jams

@@ -1,5 +1,0 @@
-use Rattle.reo_laws.proofs.Sublists.{part_keys}
-use Rattle.reo_laws.proofs.keys.part_keys.Goals as goal
-
-pub returns : goal.returns
-returns c = part_keys

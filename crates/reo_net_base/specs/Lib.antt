@@ -1,0 +1,10 @@
+pub mod Behaviour
+pub mod Colouring
+pub mod First
+pub mod PortState
+pub mod Lawful
+pub mod Marks
+pub mod Moves
+pub mod Net
+pub mod Step
+pub mod Wired

@@ -1,0 +1,51 @@
+-- One primitive changes.
+use Rattle.std.proofs.Common.{◌≡◌, ◌≢◌, ℕ, zero, suc, ◌<◌, List, [], ◌∷◌, length, map, get_or, set, refl, ap, arith}
+use Rattle.reo_net_base.specs.Behaviour.{Behaviour}
+use Rattle.reo_net_base.specs.Lawful.{SameShape}
+use Rattle.reo_net_base.specs.Net.{behaviour_at}
+use Rattle.reo_net_base.specs.Step.{change_at}
+use Rattle.reo_net_base.specs.PortState.{PortState, port_state_at}
+use Rattle.reo_net_circuit.proofs.ReshapeLemmas.{Reshaped}
+
+pub change_is : {X : Type 0} (f : X → X) (xs : List X) (i : ℕ) (d : X) → i < length xs → set xs i (f (get_or xs i d)) ≡ change_at f xs i
+change_is f [] i d lt = refl
+change_is f (x ∷ xs) zero d lt = refl
+change_is f (x ∷ xs) (suc i) d lt = ap (λ ys. x ∷ ys) (change_is f xs i d (omega arith))
+
+pub change_length : {X : Type 0} (f : X → X) (xs : List X) (i : ℕ) → length (change_at f xs i) ≡ length xs
+change_length f [] i = refl
+change_length f (x ∷ xs) zero = refl
+change_length f (x ∷ xs) (suc i) = ap suc (change_length f xs i)
+
+same_shape : (b : Behaviour) → SameShape b b
+same_shape b = record { ends = refl; sides = refl; side_of = λ _. refl; takes_in = λ _. refl }
+
+module _ {P : Type 0} (behaviour : P → Behaviour) (f : P → P) (law : (p : P) → SameShape (behaviour p) (behaviour (f p))) where
+  count : (ps : List P) (i : ℕ) → length (map behaviour (change_at f ps i)) ≡ length (map behaviour ps)
+  count [] i = refl
+  count (p ∷ ps) zero = refl
+  count (p ∷ ps) (suc i) = ap suc (count ps i)
+
+  same : (ps : List P) (i k : ℕ) → SameShape (behaviour_at (map behaviour ps) k) (behaviour_at (map behaviour (change_at f ps i)) k)
+  same [] i k = same_shape (behaviour_at [] k)
+  same (p ∷ ps) zero zero = law p
+  same (p ∷ ps) zero (suc k) = same_shape (behaviour_at (map behaviour ps) k)
+  same (p ∷ ps) (suc i) zero = same_shape (behaviour p)
+  same (p ∷ ps) (suc i) (suc k) = same ps i k
+
+  pub changed : (ps : List P) (i : ℕ) → Reshaped (map behaviour ps) (map behaviour (change_at f ps i))
+  changed ps i = record { count = count ps i; same = λ k lt. same ps i k }
+
+-- The states after one primitive changed.
+module _ {P : Type 0} (port_state : P → PortState) (f : P → P) where
+  pub port_state_here : (Q : PortState → PortState → Type 0) → ((p : P) → Q (port_state p) (port_state (f p))) → (ps : List P) (i : ℕ) → i < length ps → Q (port_state_at (map port_state ps) i) (port_state_at (map port_state (change_at f ps i)) i)
+  port_state_here Q law [] i lt = absurd (omega arith)
+  port_state_here Q law (p ∷ ps) zero lt = law p
+  port_state_here Q law (p ∷ ps) (suc i) lt = port_state_here Q law ps i (omega arith)
+
+  pub port_state_other : (ps : List P) (i k : ℕ) → k ≢ i → port_state_at (map port_state (change_at f ps i)) k ≡ port_state_at (map port_state ps) k
+  port_state_other [] i k ne = refl
+  port_state_other (p ∷ ps) zero zero ne = absurd (ne refl)
+  port_state_other (p ∷ ps) zero (suc k) ne = refl
+  port_state_other (p ∷ ps) (suc i) zero ne = refl
+  port_state_other (p ∷ ps) (suc i) (suc k) ne = port_state_other ps i k (λ e. ne (ap suc e))

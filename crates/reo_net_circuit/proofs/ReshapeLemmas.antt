@@ -1,0 +1,125 @@
+-- What holds of a circuit's shape stays when its primitives go on.
+use Rattle.std.proofs.Common.{◌≡◌, ℕ, zero, suc, ◌+◌, ◌<◌, List, [], ◌∷◌, ◌++◌, Option, length, map, get_or, take, drop, refl, ap, sym, ◌∙◌, arith, append-nil}
+use Rattle.std.specs.List.{flat_map}
+use Rattle.std.proofs.lemmas.List.{length-append, take_all, drop_all}
+use Rattle.std.proofs.lemmas.List.FromFn.{length-map-range_with_len}
+use Rattle.reo_values.specs.declared.value.Value.{Value}
+use Rattle.reo_net_base.specs.declared.colouring.Chosen.{Chosen}
+use Rattle.reo_net_base.specs.declared.joint.Joint.{Joint}
+use Rattle.reo_net_base.specs.declared.joint.End.{End}
+use Rattle.reo_net_circuit.specs.declared.layout.SideOwner.{SideOwner}
+use Rattle.reo_net_base.specs.Behaviour.{Behaviour}
+use Rattle.reo_net_base.specs.Lawful.{SameShape, IsLawful}
+use Rattle.reo_net_base.specs.Net.{Side, sides_of, all_sides, first_side, behaviour_at, side_at}
+use Rattle.reo_net_base.specs.Wired.{IsWired, IsEnd, IsOrder}
+use Rattle.reo_net_circuit.specs.Layout.{IsLaidOut}
+use Rattle.reo_net_base.specs.Step.{settled_list}
+
+pub record Reshaped (bs ds : List Behaviour) : Type 0 where
+  pub count : length ds ≡ length bs
+  pub same : (i : ℕ) → i < length bs → SameShape (behaviour_at bs i) (behaviour_at ds i)
+
+same_shape : (b : Behaviour) → SameShape b b
+same_shape b = record { ends = refl; sides = refl; side_of = λ _. refl; takes_in = λ _. refl }
+
+module _ {P : Type 0} (behaviour : P → Behaviour) (settled : P → Chosen → Option Value → P) (law : (p : P) (rows : Chosen) (taken : Option Value) → SameShape (behaviour p) (behaviour (settled p rows taken))) where
+  settled_count : (ps : List P) (rows : List Chosen) (taken : List (Option Value)) → length (map behaviour (settled_list settled ps rows taken)) ≡ length (map behaviour ps)
+  settled_count [] rows taken = refl
+  settled_count (p ∷ ps) [] taken = refl
+  settled_count (p ∷ ps) (r ∷ rows) [] = refl
+  settled_count (p ∷ ps) (r ∷ rows) (t ∷ taken) = ap suc (settled_count ps rows taken)
+
+  settled_same : (ps : List P) (rows : List Chosen) (taken : List (Option Value)) (i : ℕ) → SameShape (behaviour_at (map behaviour ps) i) (behaviour_at (map behaviour (settled_list settled ps rows taken)) i)
+  settled_same [] rows taken i = same_shape (behaviour_at [] i)
+  settled_same (p ∷ ps) [] taken i = same_shape (behaviour_at (map behaviour (p ∷ ps)) i)
+  settled_same (p ∷ ps) (r ∷ rows) [] i = same_shape (behaviour_at (map behaviour (p ∷ ps)) i)
+  settled_same (p ∷ ps) (r ∷ rows) (t ∷ taken) zero = law p r t
+  settled_same (p ∷ ps) (r ∷ rows) (t ∷ taken) (suc i) = settled_same ps rows taken i
+
+  pub reshaped : (ps : List P) (rows : List Chosen) (taken : List (Option Value)) → Reshaped (map behaviour ps) (map behaviour (settled_list settled ps rows taken))
+  reshaped ps rows taken = record { count = settled_count ps rows taken; same = λ i lt. settled_same ps rows taken i }
+
+pub lawful_at : {P : Type 0} (behaviour : P → Behaviour) → ((p : P) → IsLawful (behaviour p)) → (ps : List P) (i : ℕ) → i < length (map behaviour ps) → IsLawful (behaviour_at (map behaviour ps) i)
+lawful_at behaviour law [] i lt = absurd (omega arith)
+lawful_at behaviour law (p ∷ ps) zero lt = law p
+lawful_at behaviour law (p ∷ ps) (suc i) lt = lawful_at behaviour law ps i (omega arith)
+
+side_count : (b : Behaviour) → length (sides_of b) ≡ b.sides
+side_count b = length-map-range_with_len {X = Side} (λ k. record { of = b; number = k }) 0 b.sides
+
+tail : (b d : Behaviour) (bs ds : List Behaviour) → Reshaped (b ∷ bs) (d ∷ ds) → Reshaped bs ds
+tail b d bs ds r = let n = r.count in record { count = omega (arith, n); same = λ i lt. r.same (suc i) (omega arith) }
+
+pub first_same : (bs ds : List Behaviour) → Reshaped bs ds → (i : ℕ) → first_side ds i ≡ first_side bs i
+first_same bs ds r zero = refl
+first_same [] [] r (suc i) = refl
+first_same [] (d ∷ ds) r (suc i) = let n = r.count in absurd (omega (arith, n))
+first_same (b ∷ bs) [] r (suc i) = let n = r.count in absurd (omega (arith, n))
+first_same (b ∷ bs) (d ∷ ds) r (suc i) =
+    omega (
+      arith,
+      length-append (sides_of d) (flat_map sides_of (take i ds)),
+      length-append (sides_of b) (flat_map sides_of (take i bs)),
+      side_count b,
+      side_count d,
+      (r.same zero (omega arith)).sides,
+      first_same bs ds (tail b d bs ds r) i,
+    )
+
+all_is : (bs : List Behaviour) → length (all_sides bs) ≡ first_side bs (length bs)
+all_is bs = ap (λ (xs : List Behaviour). length (flat_map sides_of xs)) (sym (take_all (length bs) bs (omega arith)))
+
+module _ (bs ds : List Behaviour) (r : Reshaped bs ds) where
+  end_same : (e : End) → IsEnd bs e → IsEnd ds e
+  end_same e is = (omega (arith, r.count, is.0), rw ((r.same e.primitive is.0).ends) is.1)
+
+  pub laid_same : (firsts : List ℕ) (owners : List SideOwner) → IsLaidOut bs firsts owners → IsLaidOut ds firsts owners
+  laid_same firsts owners laid = record {
+    first_sides = record {
+      length_is = laid.first_sides.length_is ∙ sym r.count;
+      first = λ i d lt. laid.first_sides.first i d (rw r.count at lt) ∙ sym (first_same bs ds r i);
+    };
+    owners_length = laid.owners_length ∙ all_is bs ∙ sym (first_same bs ds r (length bs)) ∙ ap (first_side ds) (sym r.count) ∙ sym (all_is ds);
+    whose = record {
+      owner_in = λ k d lt. rw r.count (laid.whose.owner_in k d lt);
+      owner_side = λ k d lt. rw ((r.same (get_or owners k d).primitive (laid.whose.owner_in k d lt)).sides) (laid.whose.owner_side k d lt);
+      owner = λ k d lt. rw (first_same bs ds r (get_or owners k d).primitive) (laid.whose.owner k d lt);
+    };
+  }
+
+  module _ (joints : List Joint) where
+    pub side_same : (e : End) → IsEnd bs e → side_at (record { primitives = ds; joints = joints }) e ≡ side_at (record { primitives = bs; joints = joints }) e
+    unfolding side_at
+    side_same e is = ap (λ (n : ℕ). n + (behaviour_at ds e.primitive).side_of e.end) (first_same bs ds r e.primitive) ∙ ap (λ (s : ℕ). first_side bs e.primitive + s) ((r.same e.primitive is.0).side_of e.end)
+
+  module _ (joints : List Joint) (wired : IsWired (record { primitives = bs; joints = joints })) where
+    pub wired_same : ((i : ℕ) → i < length ds → IsLawful (behaviour_at ds i)) → IsWired (record { primitives = ds; joints = joints })
+    wired_same lawful = record {
+      givers = λ j d lt. end_same (get_or joints j d).giver (wired.givers j d lt);
+      takers = λ j d lt. end_same (get_or joints j d).taker (wired.takers j d lt);
+      gives = λ j d lt. (r.same (get_or joints j d).giver.primitive (wired.givers j d lt).0).takes_in (get_or joints j d).giver.end ∙ wired.gives j d lt;
+      takes = λ j d lt. (r.same (get_or joints j d).taker.primitive (wired.takers j d lt).0).takes_in (get_or joints j d).taker.end ∙ wired.takes j d lt;
+      each_end = λ i end i_lt end_lt.
+          let i_in : i < length bs = omega (arith, r.count) in
+          wired.each_end i end i_in (rw ((r.same i i_in).ends) at end_lt);
+      apart = λ j d lt e. wired.apart j d lt (sym (side_same joints (get_or joints j d).giver (wired.givers j d lt)) ∙ e ∙ side_same joints (get_or joints j d).taker (wired.takers j d lt));
+      lawful = lawful;
+    }
+
+    pub order_same : (order : List ℕ) → IsOrder (record { primitives = bs; joints = joints }) order → IsOrder (record { primitives = ds; joints = joints }) order
+    order_same order is = record {
+      in_range = is.in_range;
+      each = is.each;
+      once = is.once;
+      fed = λ m d lt k k_in feeds.
+          let j_in = is.in_range m 0 lt in
+          let same = r.same (get_or joints (get_or order m 0) d).giver.primitive (wired.givers (get_or order m 0) d j_in).0 in
+          is.fed m d lt k k_in (record {
+            same_primitive = feeds.same_primitive;
+            same_side = sym (same.side_of (get_or joints k d).taker.end) ∙ feeds.same_side ∙ same.side_of (get_or joints (get_or order m 0) d).giver.end;
+          });
+    }
+
+-- What the vector has after a write through all of it.
+pub whole_slice : {X : Type 0} → (n : ℕ) (new old : List X) → n ≡ length old → length new ≡ length old → take n (new ++ drop (length new) old) ≡ new
+whole_slice n new old n_is same = rw (drop_all (length new) old (omega arith), append-nil new) (take_all n new (omega arith))

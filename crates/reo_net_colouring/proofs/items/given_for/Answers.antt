@@ -1,0 +1,69 @@
+use Rattle.std.proofs.Common.{◌∙◌, sym}
+use Rattle.reo_net_base.specs.Behaviour.{Behaviour}
+use Rattle.reo_net_base.specs.Net.{Net, net_of, behaviour_at, row_at, mark_at}
+use Rattle.reo_net_laws.proofs.Sides.{gives_at}
+use Rattle.reo_net_colouring.proofs.ItemLemmas.{given_none, given_some}
+use Rattle.reo_net_colouring.proofs.items.given_for.Goals as goal
+
+pub from-requires-clause-flows : goal.from-requires-clause-flows
+unfolding mark_at
+from-requires-clause-flows g c = rw (c.side_of-side.ensures, c.primitive-primitive.ensures.behaviour, c.row_at-row.ensures.row) c.requires.flows
+
+pub gives-requires-clause-flows : goal.gives-requires-clause-flows
+unfolding mark_at
+gives-requires-clause-flows g c = rw (c.side_of-side.ensures, c.primitive-primitive.ensures.behaviour, c.row_at-row.ensures.row) c.requires.flows
+
+pub gives-requires-in-Some-taken-clause-flows : goal.gives-requires-in-Some-taken-clause-flows
+unfolding mark_at
+gives-requires-in-Some-taken-clause-flows g c = rw (c.side_of-side.ensures, c.primitive-primitive.ensures.behaviour, c.row_at-row.ensures.row) c.requires.flows
+
+pub gives-requires-clause-given : goal.gives-requires-clause-given
+gives-requires-clause-given g c =
+    let net : Net = net_of g.P.Primitive.behaviour c.args.circuit.now in
+    let b : Behaviour = behaviour_at net.primitives c.args.giver.primitive in
+    let lawful = c.known.ensures.lawful c.args.giver.primitive c.requires.giver.0 in
+    let in_table = rw c.row_at-row.ensures.row at c.row_at-row.ensures.in_table in
+    let gives = gives_at net c.known.ensures c.args.giver c.requires.giver c.args.rows.now c.requires.gives in_table c.requires.flows in
+    let none = rw (c.side_of-side.ensures, c.primitive-primitive.ensures.behaviour, c.row_at-row.ensures.row) at c.in-None.ensures in
+    rw (c.side_of-side.ensures, c.primitive-primitive.ensures.behaviour, c.row_at-row.ensures.row)
+    (lawful.given_alone (b.side_of c.args.giver.end) (row_at net c.args.rows.now c.args.giver) c.args.giver.end gives (sym none))
+
+pub gives-requires-in-Some-taken-clause-given : goal.gives-requires-in-Some-taken-clause-given
+gives-requires-in-Some-taken-clause-given g c =
+    let net : Net = net_of g.P.Primitive.behaviour c.args.circuit.now in
+    let b : Behaviour = behaviour_at net.primitives c.args.giver.primitive in
+    let lawful = c.known.ensures.lawful c.args.giver.primitive c.requires.giver.0 in
+    let in_table = rw c.row_at-row.ensures.row at c.row_at-row.ensures.in_table in
+    let gives = gives_at net c.known.ensures c.args.giver c.requires.giver c.args.rows.now c.requires.gives in_table c.requires.flows in
+    let some = rw (c.side_of-side.ensures, c.primitive-primitive.ensures.behaviour, c.row_at-row.ensures.row) at c.in-Some.ensures in
+    rw (c.side_of-side.ensures, c.primitive-primitive.ensures.behaviour, c.row_at-row.ensures.row)
+    (lawful.given_for (b.side_of c.args.giver.end) (row_at net c.args.rows.now c.args.giver) c.args.giver.end c.in-Some.from c.in-Some-taken.item.now gives (sym some))
+
+pub returns-in_ok-item-in-None : goal.returns-in_ok-item-in-None
+returns-in_ok-item-in-None g c =
+    let net : Net = net_of g.P.Primitive.behaviour c.args.circuit.now in
+    let none = rw (c.side_of-side.ensures, c.primitive-primitive.ensures.behaviour, c.row_at-row.ensures.row) at c.in-None.ensures in
+    let given = rw (c.side_of-side.ensures, c.primitive-primitive.ensures.behaviour, c.row_at-row.ensures.row) at c.in_ok-item-in-None.ensures in
+    sym given ∙ sym (given_none net c.args.rows.now c.args.items.now c.args.giver (sym none))
+
+pub returns-in-None-taken : goal.returns-in-None-taken
+returns-in-None-taken g c =
+    let net : Net = net_of g.P.Primitive.behaviour c.args.circuit.now in
+    let b : Behaviour = behaviour_at net.primitives c.args.giver.primitive in
+    let lawful = c.known.ensures.lawful c.args.giver.primitive c.requires.giver.0 in
+    let in_table = rw c.row_at-row.ensures.row at c.row_at-row.ensures.in_table in
+    let gives = gives_at net c.known.ensures c.args.giver c.requires.giver c.args.rows.now c.requires.gives in_table c.requires.flows in
+    let some = rw (c.side_of-side.ensures, c.primitive-primitive.ensures.behaviour, c.row_at-row.ensures.row) at c.in-Some.ensures in
+    let nothing = lawful.given_for_none (b.side_of c.args.giver.end) (row_at net c.args.rows.now c.args.giver) c.args.giver.end c.in-Some.from gives (sym some) in
+    let found = rw c.joints.ensures at c.in-None-taken.ensures in
+    let given = rw (← found) at (given_some net c.args.rows.now c.args.items.now c.args.giver c.in-Some.from (sym some)) in
+    sym (given ∙ nothing)
+
+pub returns-in_ok-item-in-Some-taken : goal.returns-in_ok-item-in-Some-taken
+returns-in_ok-item-in-Some-taken g c =
+    let net : Net = net_of g.P.Primitive.behaviour c.args.circuit.now in
+    let some = rw (c.side_of-side.ensures, c.primitive-primitive.ensures.behaviour, c.row_at-row.ensures.row) at c.in-Some.ensures in
+    let given = rw (c.side_of-side.ensures, c.primitive-primitive.ensures.behaviour, c.row_at-row.ensures.row) at c.in_ok-item-in-Some-taken.ensures in
+    let found = rw c.joints.ensures at c.in-Some-taken.ensures in
+    let whole = rw (← found) at (given_some net c.args.rows.now c.args.items.now c.args.giver c.in-Some.from (sym some)) in
+    sym given ∙ sym whole

@@ -1,0 +1,30 @@
+//! Whether rows are those of a colouring.
+ghost use Rattle.std.specs.Prelude.{◌≡◌, IfOk, MatchOption, List as Items, Option};
+ghost use Rattle.reo_values.specs.declared.value.Value.{Value as Item};
+ghost use Rattle.reo_net_base.specs.Net.{net_of};
+ghost use Rattle.reo_net_base.specs.Colouring.{RowsFit, IsColouring};
+
+use crate::fits::all_fit;
+use crate::items::items_of;
+use reo_net_base::Primitive;
+use reo_net_circuit::Circuit;
+use reo_values::{List, NoMemory, Value};
+use std::alloc::Global;
+
+/// The items with which rows that fit together are a colouring: `None` exactly where there are none, since some row does
+/// not let in what another gives. `NoMemory` is want of memory.
+pub fn colour<P: Primitive>(
+    alloc: Global,
+    circuit: &Circuit<P>,
+    rows: &[u32],
+) -> Result<Option<List<Option<Value>>>, NoMemory>
+    requires { RowsFit (net_of P.behaviour circuit.now) rows.now }
+    ensures { IfOk result (λ found. MatchOption found ((items : Items (Option Item)) → IsColouring (net_of P.behaviour circuit.now) rows.now items → ⊥) (λ items. IsColouring (net_of P.behaviour circuit.now) rows.now items)) }
+{
+    let items = items_of(alloc, circuit, rows)?;
+    if all_fit(circuit, rows, items.as_slice()) {
+        Ok(Some(items))
+    } else {
+        Ok(None)
+    }
+}

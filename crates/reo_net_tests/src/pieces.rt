@@ -1,0 +1,120 @@
+//! What stands in the circuits of the tests.
+use reo_net_base::{Offer, Ported};
+use reo_exprs::{Expr, ExprPair, type_of};
+use reo_kinds::{Branches, FilterRule, Kind, MapRule, TakerPort, WriterPort};
+use reo_values::{Binary, Boxed, Kindred, List, NoMemory, Value};
+use std::alloc::Global;
+use std::process::Abort;
+use std::test::Fail;
+
+/// One of the primitives of a circuit. All items are 0 to 9.
+#[derive(Clone, Copy)]
+pub enum Piece {
+    /// A port where items are written, with 3 offered or nothing.
+    Writer(bool),
+    /// A port where items are written, with this one offered, or nothing.
+    Offering(Option<i64>),
+    /// A port where items are taken.
+    Taker(bool),
+    Sync,
+    Lossy,
+    SyncDrain,
+    AsyncDrain,
+    /// With two inputs, or with three.
+    Merger(usize),
+    /// With two outputs, or with three.
+    Replicator(usize),
+    /// The filter by `it > 5`.
+    Above,
+    /// The filter by `it <= 5`.
+    Rest,
+    /// The map by `it * 2 + 1`.
+    TwiceAndOne,
+}
+
+/// A port where items are written, with 3 offered or nothing.
+fn writer(offered: bool) -> Kind {
+    let kindred = Kindred::Int(0, 9);
+    Kind::Writer(if offered {
+        WriterPort::offering(kindred, Value::Int(3))
+    } else {
+        WriterPort::new(kindred)
+    })
+}
+
+/// A port where items are written, with this one offered, or nothing.
+fn offering(item: Option<i64>) -> Kind {
+    let mut writer = Kind::Writer(WriterPort::new(Kindred::Int(0, 9)));
+    if let Some(number) = item {
+        if writer.fits(&Value::Int(number)) {
+            writer.place(Offer::Write(Value::Int(number)));
+        }
+    }
+    writer
+}
+
+/// A port where items are taken.
+fn taker(pending: bool) -> Kind {
+    Kind::Taker(TakerPort { pending })
+}
+
+/// Two branches, or three.
+fn branches(count: usize) -> Branches {
+    if count == 3 {
+        Branches::new(3)
+    } else {
+        Branches::new(2)
+    }
+}
+
+/// The two operands with their operator.
+fn two(alloc: Global, op: Binary, left: Expr, right: Expr) -> Result<Expr, NoMemory> {
+    Ok(Expr::Two(op, Boxed::new(alloc, ExprPair { left, right })?))
+}
+
+/// A filter by `it > 5`, or by `it <= 5`.
+fn filter(rt: &impl Abort, alloc: Global, op: Binary) -> Result<Kind, Fail> {
+    let expr = two(alloc, op, Expr::It, Expr::Int(5))?;
+    let of = Kindred::Int(0, 9);
+    match type_of(alloc, &expr, &of)? {
+        Kindred::Bool => Ok(Kind::Filter(FilterRule::new(of, expr))),
+        _ => panic!(rt; "a comparison has truth values"),
+    }
+}
+
+/// The map by `it * 2 + 1`.
+fn twice_and_one(alloc: Global) -> Result<Kind, Fail> {
+    let twice = two(alloc, Binary::Mul, Expr::It, Expr::Int(2))?;
+    let expr = two(alloc, Binary::Add, twice, Expr::Int(1))?;
+    let of = Kindred::Int(0, 9);
+    let _ = type_of(alloc, &expr, &of)?;
+    Ok(Kind::Map(MapRule::new(of, expr)))
+}
+
+/// The primitive that a piece stands for.
+fn kind(rt: &impl Abort, alloc: Global, piece: Piece) -> Result<Kind, Fail> {
+    match piece {
+        Piece::Writer(offered) => Ok(writer(offered)),
+        Piece::Offering(item) => Ok(offering(item)),
+        Piece::Taker(pending) => Ok(taker(pending)),
+        Piece::Sync => Ok(Kind::Sync),
+        Piece::Lossy => Ok(Kind::Lossy),
+        Piece::SyncDrain => Ok(Kind::SyncDrain),
+        Piece::AsyncDrain => Ok(Kind::AsyncDrain),
+        Piece::Merger(inputs) => Ok(Kind::Merger(branches(inputs))),
+        Piece::Replicator(outputs) => Ok(Kind::Replicator(branches(outputs))),
+        Piece::Above => filter(rt, alloc, Binary::Gt),
+        Piece::Rest => filter(rt, alloc, Binary::Le),
+        Piece::TwiceAndOne => twice_and_one(alloc),
+    }
+}
+
+/// The primitives that pieces stand for.
+pub fn kinds(rt: &impl Abort, alloc: Global, pieces: &[Piece]) -> Result<List<Kind>, Fail> {
+    let mut list = List::new(alloc);
+    for piece in pieces {
+        let made = kind(rt, alloc, *piece)?;
+        list.push(made)?;
+    }
+    Ok(list)
+}
