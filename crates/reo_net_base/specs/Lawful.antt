@@ -1,5 +1,5 @@
 -- The laws of a primitive.
-use Rattle.std.specs.Prelude.{ℕ, ◌+◌, ◌<◌, ◌≤◌, ◌≡◌, ◌≢◌, ◌^◌, true, false, Some, None, IsSome}
+use Rattle.std.specs.Prelude.{ℕ, ◌+◌, ◌<◌, ◌≤◌, ◌≡◌, ◌≢◌, ◌^◌, true, false, Option, Some, None, IsSome}
 use Rattle.reo_values.specs.declared.value.Value.{Value}
 use Rattle.reo_net_base.specs.declared.mark.Mark.TheVariants.{F, J}
 use Rattle.reo_net_base.specs.declared.colouring.Chosen.{Chosen}
@@ -19,6 +19,34 @@ pub record GivesAt (b : Behaviour) (side row end : ℕ) : Type 0 where
   pub is_end : IsEndOf b side end
   pub gives : b.takes_in end ≡ false
   pub flows : b.mark side row end ≡ F
+
+-- Two rows of one group, and an end at which both are as their group.
+pub record AreAsTheirGroup (b : Behaviour) (side row other end : ℕ) : Type 0 where
+  pub of_side : side < b.sides
+  pub row_in : row < b.rows side
+  pub other_in : other < b.rows side
+  pub one_group : b.group side row ≡ b.group side other
+  pub is_end : IsEndOf b side end
+  pub row_with : b.apart side row ≢ Some end
+  pub other_with : b.apart side other ≢ Some end
+
+-- The laws of groups: rows of one group say the same of an end at which both are as their group.
+pub record IsGrouped (b : Behaviour) : Type 0 where
+  pub group_in : (side row : ℕ) → side < b.sides → row < b.rows side → b.group side row < b.groups side
+  pub few_groups : (side : ℕ) → side < b.sides → b.groups side ≤ b.rows side
+  pub apart_end : (side row end : ℕ) → side < b.sides → row < b.rows side → b.apart side row ≡ Some end → IsEndOf b side end
+  pub common_mark : (side row end : ℕ) → side < b.sides → row < b.rows side → IsEndOf b side end → b.apart side row ≢ Some end
+      → b.mark side row end ≡ b.common side (b.group side row) end
+  -- an end that gives by the state alone gives the same by both rows
+  pub given_alike : (side row other end : ℕ) → AreAsTheirGroup b side row other end → GivesAt b side row end → b.from side row end ≡ None
+      → (b.from side other end ≡ None) × (b.given side row end None ≡ b.given side other end None)
+  -- an end that takes in lets the same in
+  pub let_in_alike : (side row other end : ℕ) (item : Value) → AreAsTheirGroup b side row other end → b.takes_in end ≡ true
+      → b.passes side row end item ≡ b.passes side other end item
+  -- what is taken in at the end decides what is given at another end by both rows or by none, and in the same way
+  pub decides_alike : (side row other end giver : ℕ) → AreAsTheirGroup b side row other end → b.takes_in end ≡ true
+      → GivesAt b side row giver → b.from side row giver ≡ Some end
+      → GivesAt b side other giver × (b.from side other giver ≡ Some end) × ((taken : Option Value) → b.given side row giver taken ≡ b.given side other giver taken)
 
 -- The laws of one state.
 pub record IsLawful (b : Behaviour) : Type 0 where
@@ -43,6 +71,8 @@ pub record IsLawful (b : Behaviour) : Type 0 where
   pub same_flow : (side row other turn : ℕ) → side < b.sides → IsPlainRow b side row → IsPlainRow b side other
       → b.class side row turn ≡ b.class side other turn → FlowsWithin b side row other
   pub jam_last : (side row other turn : ℕ) → side < b.sides → IsPlainRow b side row → other + 1 ≡ b.rows side → b.class side row turn < b.class side other turn
+  -- groups of rows
+  pub grouped : IsGrouped b
   -- items: what is given comes from the state or from one end of the same side that takes in with flow
   pub from_end : (side row end from : ℕ) → GivesAt b side row end → b.from side row end ≡ Some from → IsEndOf b side from
   pub from_takes : (side row end from : ℕ) → GivesAt b side row end → b.from side row end ≡ Some from → b.takes_in from ≡ true
@@ -57,6 +87,7 @@ pub record SameShape (b d : Behaviour) : Type 0 where
   pub sides : d.sides ≡ b.sides
   pub side_of : (end : ℕ) → d.side_of end ≡ b.side_of end
   pub takes_in : (end : ℕ) → d.takes_in end ≡ b.takes_in end
+  pub leads : (side : ℕ) → d.leads side ≡ b.leads side
 
 -- Rows by which no end flows.
 pub record IsQuiet (b : Behaviour) (rows : Chosen) : Type 0 where

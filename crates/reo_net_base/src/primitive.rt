@@ -40,6 +40,12 @@ pub trait Primitive: Drop {
         requires { end < (behaviour self.now).ends }
         ensures { result ≡ (behaviour self.now).takes_in end };
 
+    /// Whether a side leads: its class is compared before those of all sides. Nothing that happens to the primitive
+    /// changes it.
+    fn leads(&self, side: usize) -> bool
+        requires { side < (behaviour self.now).sides }
+        ensures { result ≡ (behaviour self.now).leads side };
+
     /// How many rows the table of a side has, its jam row counted.
     fn rows(&self, side: usize) -> usize
         requires { side < (behaviour self.now).sides }
@@ -57,6 +63,31 @@ pub trait Primitive: Drop {
         requires side { side < (behaviour self.now).sides }
         requires row { row < (behaviour self.now).rows side }
         ensures { result ≡ (behaviour self.now).class side row turn };
+
+    /// How many groups the rows of a side stand in. The rows of a group say the same of each end, but that each may be
+    /// apart at one end.
+    fn groups(&self, side: usize) -> usize
+        requires { side < (behaviour self.now).sides }
+        ensures { result ≡ (behaviour self.now).groups side };
+
+    /// The group of a row.
+    fn group(&self, side: usize, row: usize) -> usize
+        requires side { side < (behaviour self.now).sides }
+        requires row { row < (behaviour self.now).rows side }
+        ensures { result ≡ (behaviour self.now).group side row };
+
+    /// What the rows of a group say of an end, but for those that are apart there.
+    fn common(&self, side: usize, group: usize, end: usize) -> Mark
+        requires side { side < (behaviour self.now).sides }
+        requires group { group < (behaviour self.now).groups side }
+        requires end { IsEndOf (behaviour self.now) side end }
+        ensures { result ≡ (behaviour self.now).common side group end };
+
+    /// The one end at which a row is not as its group, if there is one.
+    fn apart(&self, side: usize, row: usize) -> Option<usize>
+        requires side { side < (behaviour self.now).sides }
+        requires row { row < (behaviour self.now).rows side }
+        ensures { result ≡ (behaviour self.now).apart side row };
 
     /// Where an end gives with flow: the end whose taken item decides what is given, or `None` where the state alone decides.
     fn from(&self, side: usize, row: usize, end: usize) -> Option<usize>
