@@ -12,7 +12,8 @@ use Rattle.reo_net_base.specs.Behaviour.{Behaviour, nothing}
 use Rattle.reo_net_base.specs.Net.{Side, sides_of, first_side, behaviour_at, side_at, end_of}
 use Rattle.reo_net_base.specs.Wired.{IsEnd, IsPort, ArePorts}
 use Rattle.reo_net_circuit.specs.Parts.{AreJoints}
-use Rattle.reo_net_circuit.specs.Fault.{AllRight, GoesRight, from_sides, to_sides}
+use Rattle.reo_net_base.specs.Net.{from_sides, to_sides}
+use Rattle.reo_net_circuit.specs.Fault.{AllRight, GoesRight}
 use Rattle.reo_net_circuit.proofs.Cases.{lt_cases}
 use Rattle.reo_kinds.specs.Kinds.{behaviour_of}
 use Rattle.reo_kinds.specs.Tables.{sync}

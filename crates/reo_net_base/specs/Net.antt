@@ -72,3 +72,11 @@ row_at net rows e = slice_index rows (side_at net e)
 -- The mark of an end.
 unfoldable pub mark_at : Net → List ℕ → End → Mark
 mark_at net rows e = (behaviour_at net.primitives e.primitive).mark ((behaviour_at net.primitives e.primitive).side_of e.end) (row_at net rows e) e.end
+
+-- The sides that the joints come from.
+abbrev pub from_sides : Net → List ℕ
+from_sides net = map (λ j. side_at net j.giver) net.joints
+
+-- The sides that the joints go to.
+abbrev pub to_sides : Net → List ℕ
+to_sides net = map (λ j. side_at net j.taker) net.joints

@@ -1,10 +1,11 @@
 -- What holds of every circuit.
 use Rattle.std.specs.Prelude.{ℕ, ◌<◌, ◌≤◌, ◌≡◌, ◌≢◌, true, false, List, length, slice_index_or}
+use Rattle.reo_net_order.specs.Arrows.{IsTopological}
 use Rattle.reo_net_base.specs.declared.joint.End.{End}
 use Rattle.reo_net_base.specs.declared.joint.Joint.{Joint}
 use Rattle.reo_net_base.specs.Behaviour.{Behaviour}
 use Rattle.reo_net_base.specs.Lawful.{IsLawful}
-use Rattle.reo_net_base.specs.Net.{Net, behaviour_at, end_of, is_at, side_at}
+use Rattle.reo_net_base.specs.Net.{Net, behaviour_at, end_of, is_at, side_at, from_sides, to_sides}
 
 -- An end that there is.
 abbrev pub IsEnd : List Behaviour → End → Type 0
@@ -28,18 +29,10 @@ pub record IsWired (net : Net) : Type 0 where
   pub each_end : (i end : ℕ) → i < length net.primitives → end < (behaviour_at net.primitives i).ends → IsJoined net.joints (end_of i end)
   pub apart : (j : ℕ) (d : Joint) → j < length net.joints → side_at net (slice_index_or net.joints j d).giver ≢ side_at net (slice_index_or net.joints j d).taker
 
--- The item at the one joint may decide that at the other: it comes in at the side that the other starts from.
-pub record Feeds (net : Net) (earlier later : Joint) : Type 0 where
-  pub same_primitive : earlier.taker.primitive ≡ later.giver.primitive
-  pub same_side : (behaviour_at net.primitives later.giver.primitive).side_of earlier.taker.end ≡ (behaviour_at net.primitives later.giver.primitive).side_of later.giver.end
-
--- Each joint once, none before those that feed it. Where there is such an order, no directed cycle of sides exists.
-pub record IsOrder (net : Net) (order : List ℕ) : Type 0 where
-  pub in_range : (m d : ℕ) → m < length order → slice_index_or order m d < length net.joints
-  pub each : (j : ℕ) → j < length net.joints → (m : ℕ) × (m < length order) × (slice_index_or order m 0 ≡ j)
-  pub once : (m n : ℕ) → m < n → n < length order → slice_index_or order m 0 ≢ slice_index_or order n 0
-  pub fed : (m : ℕ) (d : Joint) → m < length order → (k : ℕ) → k < length net.joints → Feeds net (slice_index_or net.joints k d) (slice_index_or net.joints (slice_index_or order m 0) d)
-      → (n : ℕ) × (n < m) × (slice_index_or order n 0 ≡ k)
+-- Each joint once, none before those that feed it: a joint feeds another where it goes to the side that the other comes
+-- from. Where there is such an order, no directed cycle of sides exists.
+abbrev pub IsOrder : Net → List ℕ → Type 0
+IsOrder net order = IsTopological (from_sides net) (to_sides net) order
 
 -- A primitive that can be a port: one side with one end.
 pub record IsPort (b : Behaviour) : Type 0 where

@@ -9,7 +9,8 @@ use Rattle.reo_net_base.specs.Lawful.{IsLawful}
 use Rattle.reo_net_base.specs.Net.{Net, behaviour_at, first_side, side_at}
 use Rattle.reo_net_base.specs.Wired.{IsWired, IsOrder}
 use Rattle.reo_net_circuit.specs.Parts.{AreJoints}
-use Rattle.reo_net_circuit.specs.Fault.{AllJoined, AllRight, from_sides, to_sides}
+use Rattle.reo_net_base.specs.Net.{from_sides, to_sides}
+use Rattle.reo_net_circuit.specs.Fault.{AllJoined, AllRight}
 
 pub below_push : (xs : List ℕ) (x n : ℕ) → ((k : ℕ) → k < length xs → get_or xs k 0 < n) → x < n → (k : ℕ) → k < length (xs ++ x ∷ []) → get_or (xs ++ x ∷ []) k 0 < n
 below_push xs x n below lt k k_lt = below_more (λ i. get_or (xs ++ x ∷ []) i 0 < n) (length xs)

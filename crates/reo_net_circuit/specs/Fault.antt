@@ -2,7 +2,7 @@
 use Rattle.std.specs.Prelude.{ℕ, ◌<◌, ◌≡◌, ◌⊎◌, true, false, List, length, map, slice_index_or}
 use Rattle.reo_net_order.specs.Arrows.{IsLeastOnCycle, NoCycle}
 use Rattle.reo_net_base.specs.declared.joint.Joint.{Joint}
-use Rattle.reo_net_base.specs.Net.{Net, behaviour_at, end_of, side_at}
+use Rattle.reo_net_base.specs.Net.{Net, behaviour_at, end_of, from_sides, to_sides}
 use Rattle.reo_net_base.specs.Wired.{IsJoined}
 use Rattle.reo_net_circuit.specs.declared.fault.NetFault.{NetFault}
 use Rattle.reo_net_circuit.specs.declared.fault.NetFault.TheVariants.{Ends, Way, Cycle, NoMemory}
@@ -46,21 +46,13 @@ pub record IsWayFault (net : Net) (j : ℕ) : Type 0 where
   pub wrong : (d : Joint) → GoesWrong net (slice_index_or net.joints j d)
   pub before : (k : ℕ) (d : Joint) → k < j → GoesRight net (slice_index_or net.joints k d)
 
--- The sides that the joints come from.
-abbrev pub from_sides : Net → List ℕ
-from_sides net = map (λ j. side_at net j.giver) net.joints
-
--- The sides that the joints go to.
-abbrev pub to_sides : Net → List ℕ
-to_sides net = map (λ j. side_at net j.taker) net.joints
-
 -- No fault: each end in exactly one joint, each joint the right way, no directed cycle of sides.
 pub record HasNoFault (net : Net) : Type 0 where
   pub joined : AllJoined net
   pub right : AllRight net
   pub no_cycle : NoCycle (from_sides net) (to_sides net)
 
--- The first fault, in the order of the causes. Want of memory may come at any time.
+-- The first fault, in the order of the causes. Running out of memory may come at any time.
 abbrev pub IsNetFault : Net → NetFault → Type 0
 IsNetFault net (Ends i) = IsEndsFault net i
 IsNetFault net (Way j) = AllJoined net × IsWayFault net j

@@ -5,7 +5,7 @@ ghost use Rattle.reo_net_base.specs.Wired.{IsEnd};
 ghost use Rattle.reo_net_order.specs.Sorted.{IsSorted};
 ghost use Rattle.reo_net_circuit.specs.Parts.{net_with, AreJoints};
 ghost use Rattle.reo_net_circuit.specs.Layout.{AreFirsts};
-ghost use Rattle.reo_net_circuit.specs.Fault.{from_sides, to_sides};
+ghost use Rattle.reo_net_base.specs.Net.{from_sides, to_sides};
 
 use crate::parts::{joint_at, primitive_at};
 use reo_net_base::{End, Joint, Primitive};

@@ -2,7 +2,8 @@
 use Rattle.reo_net_order.specs.Arrows.{NoCycle}
 use Rattle.reo_net_base.specs.Net.{Net}
 use Rattle.reo_net_circuit.specs.Parts.{net_with}
-use Rattle.reo_net_circuit.specs.Fault.{AllJoined, AllRight, from_sides, to_sides}
+use Rattle.reo_net_base.specs.Net.{from_sides, to_sides}
+use Rattle.reo_net_circuit.specs.Fault.{AllJoined, AllRight}
 use Rattle.reo_net_circuit.proofs.ReshapeLemmas.{lawful_at}
 use Rattle.reo_net_circuit.proofs.WireLemmas.{order_is, wired_is}
 use Rattle.reo_net_circuit.proofs.circuit.Circuit.new.Goals as goal
