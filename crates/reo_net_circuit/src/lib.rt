@@ -5,6 +5,7 @@
 //! colouring, and offers are placed at its ports and withdrawn from them.
 #![tactic(auto)]
 
+mod checked;
 mod circuit;
 mod ends;
 mod fault;
