@@ -10,6 +10,7 @@ mod circuit;
 mod ends;
 mod fault;
 mod flows;
+mod groups;
 mod layout;
 mod parts;
 mod ports;

@@ -31,16 +31,6 @@ impl<P: Primitive> Circuit<P> {
         self.primitive(place.primitive).leads(place.side)
     }
 
-    /// How many groups the rows of a side stand in.
-    pub fn groups(&self, side: usize) -> usize
-        requires { side < length (all_sides (net_of P.behaviour self.now).primitives) }
-        ensures { let sides = all_sides (net_of P.behaviour self.now).primitives in
-            (e : Side) → let s = slice_index_or sides side e in result ≡ s.of.groups s.number }
-    {
-        let place = self.owner(side);
-        self.primitive(place.primitive).groups(place.side)
-    }
-
     /// Whether there is one row for each side, each in the table of its side.
     pub fn are_rows(&self, rows: &[u32]) -> bool
         ensures { IsTrue result ↔ AreRows (all_sides (net_of P.behaviour self.now).primitives) rows.now }
