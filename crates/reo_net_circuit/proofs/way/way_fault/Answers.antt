@@ -1,7 +1,5 @@
 -- What the loop has found of the joint that it is at.
-use Rattle.std.proofs.Common.{◌∙◌, inl, inr, ℕ, ◌<◌, List, map, length, get_or, sym, arith, below_more}
-use Rattle.reo_net_base.specs.declared.joint.Joint.{Joint}
-use Rattle.reo_net_base.specs.Behaviour.{Behaviour}
+use Rattle.std.proofs.Common.{◌∙◌, inl, inr, ℕ, map, get_or, sym, arith, below_more}
 use Rattle.reo_net_base.specs.Net.{Net}
 use Rattle.reo_net_circuit.specs.Fault.{GoesRight}
 use Rattle.reo_net_circuit.proofs.way.way_fault.Goals as goal
@@ -28,5 +26,5 @@ loop-index-preserved g c =
     let giver = rw c.primitive_at.ensures at c.takes_in-giver.ensures in
     let taker = rw c.primitive_at-in-loop-index.ensures at c.takes_in-taker.ensures in
     λ k d lt. below_more (λ (i : ℕ). GoesRight net (get_or c.args.joints.now i d)) c.loop-index.index
-        (λ i i_lt. c.loop-index.invariant i d i_lt)
-        (rw (at d) record { gives = sym giver ∙ c.if-giver.false; takes = sym taker ∙ c.if-not-taker.false }) k lt
+    (λ i i_lt. c.loop-index.invariant i d i_lt)
+    (rw (at d) record { gives = sym giver ∙ c.if-giver.false; takes = sym taker ∙ c.if-not-taker.false }) k lt
