@@ -67,7 +67,7 @@ fn best_from<P: Primitive>(
     Ok(best)
 }
 
-/// The first colouring of a circuit in the round of this number, which counts from 1. `NoMemory` is want of memory.
+/// The first colouring of a circuit in the round of this number, which counts from 1. `NoMemory` is out of memory.
 pub fn plain_first<P: Primitive>(
     alloc: Global,
     circuit: &Circuit<P>,

@@ -2,6 +2,7 @@ use Rattle.std.proofs.Common.{◌≡◌, ◌∙◌, ◌<◌, sym, ℕ, List, len
 use Rattle.std.proofs.lemmas.List.{length-set}
 use Rattle.reo_net_base.specs.Net.{Net, net_of}
 use Rattle.reo_net_colouring.proofs.ItemLemmas.{filled_more, filled_all, filled_one}
+use Rattle.reo_net_laws.proofs.Orders.{place_in}
 use Rattle.reo_net_colouring.proofs.items.items_of.Goals as goal
 
 pub item_for-requires-clause-giver : goal.item_for-requires-clause-giver
@@ -9,7 +10,7 @@ item_for-requires-clause-giver g c =
     let net : Net = net_of g.P.Primitive.behaviour c.args.circuit.now in
     let order : List ℕ = c.order-order.result.now in
     let j : ℕ = get_or order c.loop-at.at 0 in
-    let j_in : j < length net.joints = c.order-order.ensures.in_range c.loop-at.at 0 (omega arith) in
+    let j_in : j < length net.joints = place_in net order c.order-order.ensures c.loop-at.at (omega arith) in
     rw (c.joint-joint.ensures c.joint-joint.result) at (c.known.ensures.givers j c.joint-joint.result j_in)
 
 pub loop-at-preserved : goal.loop-at-preserved
@@ -44,5 +45,5 @@ item_for-requires-clause-gives g c =
     let net : Net = net_of g.P.Primitive.behaviour c.args.circuit.now in
     let order : List ℕ = c.order-order.result.now in
     let j : ℕ = get_or order c.loop-at.at 0 in
-    let j_in : j < length net.joints = c.order-order.ensures.in_range c.loop-at.at 0 (omega arith) in
+    let j_in : j < length net.joints = place_in net order c.order-order.ensures c.loop-at.at (omega arith) in
     rw (c.joint-joint.ensures c.joint-joint.result) at (c.known.ensures.gives j c.joint-joint.result j_in)
