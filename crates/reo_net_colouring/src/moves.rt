@@ -25,10 +25,8 @@ fn flowing<'a, P: Primitive>(
 ) -> Option<&'a Value>
     requires port { port < circuit.now.ports }
     requires rows { AreRows (all_sides (net_of P.behaviour circuit.now).primitives) rows.now }
-    ensures {
-        let net = net_of P.behaviour circuit.now in
-        move_with port (option_copied result) ≡ moves_at net rows.now items.entry.now port
-    }
+    ensures { let net = net_of P.behaviour circuit.now in
+        move_with port (option_copied result) ≡ moves_at net rows.now items.entry.now port }
 {
     circuit.known_ports();
     let end = End {
@@ -52,14 +50,10 @@ fn is_move(found: &Move, port: usize, item: &Value) -> bool
 /// Whether a move of this port and this item stands at a place.
 fn stands_at(moves: &[Move], place: usize, port: usize, item: &Value) -> bool
     ensures in_range { IsTrue result → place < length moves.now }
-    ensures move_ {
-        IsTrue result → (d : Flow) → slice_index_or moves.now place d ≡ record { port = port; item = item.now }
-    }
-    ensures back {
-        place < length moves.now
-            → ((d : Flow) → slice_index_or moves.now place d ≡ record { port = port; item = item.now })
-            → IsTrue result
-    }
+    ensures move_ { IsTrue result → (d : Flow) → slice_index_or moves.now place d ≡ record { port = port; item = item.now } }
+    ensures back { place < length moves.now
+        → ((d : Flow) → slice_index_or moves.now place d ≡ record { port = port; item = item.now })
+        → IsTrue result }
 {
     place < moves.len() && is_move(&moves[place], port, item)
 }
@@ -73,10 +67,8 @@ pub fn are_moves<P: Primitive>(
     moves: &[Move],
 ) -> bool
     requires { AreRows (all_sides (net_of P.behaviour circuit.now).primitives) rows.now }
-    ensures {
-        let net = net_of P.behaviour circuit.now in
-        IsTrue result ↔ (moves.now ≡ moves_of net circuit.now.ports rows.now items.now)
-    }
+    ensures { let net = net_of P.behaviour circuit.now in
+        IsTrue result ↔ (moves.now ≡ moves_of net circuit.now.ports rows.now items.now) }
 {
     let mut next = 0;
     for port in 0..circuit.ports() {

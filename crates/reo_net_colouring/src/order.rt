@@ -3,23 +3,11 @@ ghost use Rattle.std.specs.Prelude.{◌≡◌, ◌<◌, length, slice_index, sli
 ghost use Rattle.std.specs.Ordering.{nat_cmp};
 ghost use Rattle.reo_net_base.specs.Net.{net_of, all_sides, Side};
 ghost use Rattle.reo_net_base.specs.Colouring.{AreRows};
-ghost use Rattle.reo_net_base.specs.First.{is_leading, leading_positions, class_positions, order_by, order_of};
+ghost use Rattle.reo_net_base.specs.First.{leading_positions, class_positions, order_by, order_of};
 
 use reo_net_base::Primitive;
 use reo_net_circuit::Circuit;
 use std::cmp::Ordering;
-
-/// Whether a side leads.
-fn leads<P: Primitive>(circuit: &Circuit<P>, side: usize) -> bool
-    requires { side < length (all_sides (net_of P.behaviour circuit.now).primitives) }
-    ensures {
-        let sides = all_sides (net_of P.behaviour circuit.now).primitives in
-        (d : Side) → result ≡ is_leading (slice_index_or sides side d)
-    }
-{
-    let place = circuit.owner(side);
-    circuit.primitive(place.primitive).leads(place.side)
-}
 
 /// How the classes of a side's rows compare.
 fn class_order<P: Primitive>(
@@ -32,12 +20,10 @@ fn class_order<P: Primitive>(
     requires first { AreRows (all_sides (net_of P.behaviour circuit.now).primitives) a.now }
     requires second { AreRows (all_sides (net_of P.behaviour circuit.now).primitives) b.now }
     requires side { side < length (all_sides (net_of P.behaviour circuit.now).primitives) }
-    ensures {
-        let sides = all_sides (net_of P.behaviour circuit.now).primitives in
+    ensures { let sides = all_sides (net_of P.behaviour circuit.now).primitives in
         (d : Side) → result ≡ nat_cmp
-            ((slice_index_or sides side d).of.class (slice_index_or sides side d).number (slice_index a.now side) turn)
-            ((slice_index_or sides side d).of.class (slice_index_or sides side d).number (slice_index b.now side) turn)
-    }
+        ((slice_index_or sides side d).of.class (slice_index_or sides side d).number (slice_index a.now side) turn)
+        ((slice_index_or sides side d).of.class (slice_index_or sides side d).number (slice_index b.now side) turn) }
 {
     let first = circuit.class(turn, a, side);
     let second = circuit.class(turn, b, side);
@@ -45,21 +31,14 @@ fn class_order<P: Primitive>(
 }
 
 /// Which of two lists of rows comes first by the classes of the sides that lead.
-fn order_of_leading<P: Primitive>(
-    circuit: &Circuit<P>,
-    turn: u64,
-    a: &[u32],
-    b: &[u32],
-) -> Ordering
+fn order_of_leading<P: Primitive>(circuit: &Circuit<P>, turn: u64, a: &[u32], b: &[u32]) -> Ordering
     requires first { AreRows (all_sides (net_of P.behaviour circuit.now).primitives) a.now }
     requires second { AreRows (all_sides (net_of P.behaviour circuit.now).primitives) b.now }
-    ensures {
-        let sides = all_sides (net_of P.behaviour circuit.now).primitives in
-        result ≡ order_by (leading_positions turn sides 0) a.now b.now
-    }
+    ensures { let sides = all_sides (net_of P.behaviour circuit.now).primitives in
+        result ≡ order_by (leading_positions turn sides 0) a.now b.now }
 {
     for side in 0..circuit.sides() {
-        if leads(circuit, side) {
+        if circuit.leads(side) {
             let order = class_order(circuit, turn, a, b, side);
             if order.is_ne() {
                 return order;
@@ -70,18 +49,11 @@ fn order_of_leading<P: Primitive>(
 }
 
 /// Which of two lists of rows comes first by the classes of all sides.
-fn order_of_classes<P: Primitive>(
-    circuit: &Circuit<P>,
-    turn: u64,
-    a: &[u32],
-    b: &[u32],
-) -> Ordering
+fn order_of_classes<P: Primitive>(circuit: &Circuit<P>, turn: u64, a: &[u32], b: &[u32]) -> Ordering
     requires first { AreRows (all_sides (net_of P.behaviour circuit.now).primitives) a.now }
     requires second { AreRows (all_sides (net_of P.behaviour circuit.now).primitives) b.now }
-    ensures {
-        let sides = all_sides (net_of P.behaviour circuit.now).primitives in
-        result ≡ order_by (class_positions turn sides 0) a.now b.now
-    }
+    ensures { let sides = all_sides (net_of P.behaviour circuit.now).primitives in
+        result ≡ order_by (class_positions turn sides 0) a.now b.now }
 {
     for side in 0..circuit.sides() {
         let order = class_order(circuit, turn, a, b, side);

@@ -1,4 +1,4 @@
-use Rattle.std.proofs.Common.{◌≡◌, ℕ, List, sym, ◌∙◌, arith}
+use Rattle.std.proofs.Common.{arith}
 use Rattle.reo_net_base.specs.declared.colouring.Move.{Move}
 use Rattle.reo_net_base.specs.Net.{Net, net_of}
 use Rattle.reo_net_colouring.proofs.MoveLemmas.{stands, with_move, without_move}

@@ -1,4 +1,4 @@
-use Rattle.std.proofs.Common.{◌≡◌, ◌∙◌, ℕ, ◌<◌, length, List, arith}
+use Rattle.std.proofs.Common.{◌∙◌, List, arith}
 use Rattle.std.specs.declared.cmp.Ordering.{Ordering}
 use Rattle.reo_net_base.specs.Net.{Net, Side, net_of, all_sides, no_side}
 use Rattle.reo_net_colouring.proofs.KeyLemmas.{classes_from, classes_differ, classes_agree}

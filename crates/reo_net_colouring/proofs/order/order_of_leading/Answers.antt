@@ -1,4 +1,4 @@
-use Rattle.std.proofs.Common.{◌≡◌, ◌∙◌, ℕ, ◌<◌, length, List, sym, arith}
+use Rattle.std.proofs.Common.{◌∙◌, List, sym, arith}
 use Rattle.std.specs.declared.cmp.Ordering.{Ordering}
 use Rattle.reo_net_base.specs.Net.{Net, Side, net_of, all_sides, no_side}
 use Rattle.reo_net_colouring.proofs.KeyLemmas.{leading_from, leading_differs, leading_agrees, leading_skips}

@@ -1,4 +1,4 @@
-use Rattle.std.proofs.Common.{◌≡◌, arith}
+use Rattle.std.proofs.Common.{arith}
 use Rattle.reo_net_colouring.proofs.whole.is_colouring.Goals as goal
 
 pub returns-then-all_match : goal.returns-then-all_match
