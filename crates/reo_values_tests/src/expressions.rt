@@ -1,4 +1,8 @@
 //! Types, faults and values of expressions.
+ghost use Rattle.std.specs.Prelude.{◌≡◌, Some};
+ghost use Rattle.reo_values.specs.Kind.{IsIn};
+ghost use Rattle.reo_exprs.specs.Typing.{type_of_expr};
+
 use crate::checks::is;
 use crate::looks::{Line, Table, holds};
 use crate::notation::Unread;
@@ -161,7 +165,10 @@ struct On<'a> {
 }
 
 /// Whether a truth value is told as such.
-fn is_told(on: On<'_>, found: &Kindred) -> bool {
+fn is_told(on: On<'_>, found: &Kindred) -> bool
+    requires typed { type_of_expr on.expr.now on.of.now ≡ Some found.now }
+    requires member { IsIn on.item.now on.of.now }
+{
     match (found, on.wanted) {
         (Kindred::Bool, Value::Bool(truth)) => truth_of(on.expr, on.of, on.item) == *truth,
         (Kindred::Bool, _) => false,
@@ -169,7 +176,10 @@ fn is_told(on: On<'_>, found: &Kindred) -> bool {
     }
 }
 
-fn is_worth(alloc: Global, on: On<'_>, found: &Kindred) -> bool {
+fn is_worth(alloc: Global, on: On<'_>, found: &Kindred) -> bool
+    requires typed { type_of_expr on.expr.now on.of.now ≡ Some found.now }
+    requires member { IsIn on.item.now on.of.now }
+{
     match value_of(alloc, on.expr, on.of, on.item) {
         Ok(value) => same_item(&value, on.wanted) && is_in(&value, found),
         Err(_) => false,
