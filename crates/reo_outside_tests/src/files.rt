@@ -37,10 +37,10 @@ pub fn fetched<F: Files>(
     alloc: Global,
     files: &mut F,
     name: &[u8],
-    limit: usize,
+    limit: u32,
 ) -> Result<Bytes, NoMemory> {
     let mut room = Bytes::new(alloc);
-    let mark = mark_of_fetch(files.fetch(alloc, name, limit, &mut room))?;
+    let mark = mark_of_fetch(files.fetch(alloc, name, limit as usize, &mut room))?;
     let mut said = Bytes::new(alloc);
     said.push(mark)?;
     said.append(room.as_slice())?;
@@ -48,7 +48,7 @@ pub fn fetched<F: Files>(
 }
 
 /// A name, a limit, the call that fails, and what `fetched` says of it in memory and surely.
-const FILES: &[(&str, usize, u64, &str, &str)] = &[
+const FILES: &[(&str, u32, u64, &str, &str)] = &[
     ("a", 1, 0, ".q", ".q"),
     ("a", 0, 0, ">q", ">q"),
     ("ab", 3, 2, ".xyz", ".xyz"),
@@ -62,7 +62,7 @@ const FILES: &[(&str, usize, u64, &str, &str)] = &[
 fn memory_says(
     alloc: Global,
     name: &str,
-    limit: usize,
+    limit: u32,
     failing: u64,
     said: &str,
 ) -> Result<bool, NoMemory> {
@@ -70,7 +70,7 @@ fn memory_says(
     Ok(fetched(alloc, &mut files, name.as_bytes(), limit)?.as_slice() == said.as_bytes())
 }
 
-fn surely_says(alloc: Global, name: &str, limit: usize, said: &str) -> Result<bool, NoMemory> {
+fn surely_says(alloc: Global, name: &str, limit: u32, said: &str) -> Result<bool, NoMemory> {
     let mut files = SureFiles::new(alloc, two_files(alloc)?)?;
     Ok(fetched(alloc, &mut files, name.as_bytes(), limit)?.as_slice() == said.as_bytes())
 }

@@ -28,10 +28,10 @@ fn read_from_written(rt: &HostRuntime, path: &str) -> Result<Bytes, Fail> {
 }
 
 /// Limits, and what `fetched` says of a file that holds `abc`.
-const LIMITS: &[(usize, &str)] = &[(3, ".abc"), (2, ">abc"), (1, ">ab"), (0, ">a")];
+const LIMITS: &[(u32, &str)] = &[(3, ".abc"), (2, ">abc"), (1, ">ab"), (0, ">a")];
 
 /// Whether this is fetched of a file.
-fn disk_says(rt: &HostRuntime, path: &[u8], limit: usize, said: &str) -> Result<bool, NoMemory> {
+fn disk_says(rt: &HostRuntime, path: &[u8], limit: u32, said: &str) -> Result<bool, NoMemory> {
     let said_of_it = fetched(rt.alloc(), &mut DiskFiles::new(rt.alloc(), rt), path, limit)?;
     Ok(said_of_it.as_slice() == said.as_bytes())
 }
