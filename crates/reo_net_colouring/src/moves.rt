@@ -1,8 +1,8 @@
 //! Whether a list is the moves of rows and items.
 ghost use Rattle.std.specs.Prelude.{◌≡◌, ◌<◌, ◌↔◌, IsTrue, None, length, option_copied, slice_index_or};
 ghost use Rattle.reo_net_base.specs.declared.colouring.Move.{Move as Flow};
+ghost use Rattle.reo_net_base.specs.Sides.{AreRowsOf};
 ghost use Rattle.reo_net_base.specs.Net.{net_of, all_sides};
-ghost use Rattle.reo_net_base.specs.Colouring.{AreRows};
 ghost use Rattle.reo_net_base.specs.Moves.{move_with, moves_at, moves_of};
 
 use reo_net_base::{End, Move, Primitive};
@@ -24,7 +24,7 @@ fn flowing<'a, P: Primitive>(
     port: usize,
 ) -> Option<&'a Value>
     requires port { port < circuit.now.ports }
-    requires rows { AreRows (all_sides (net_of P.behaviour circuit.now).primitives) rows.now }
+    requires rows { AreRowsOf (net_of P.behaviour circuit.now) rows.now }
     ensures { let net = net_of P.behaviour circuit.now in
         move_with port (option_copied result) ≡ moves_at net rows.now items.entry.now port }
 {
@@ -66,7 +66,7 @@ pub fn are_moves<P: Primitive>(
     items: &[Option<Value>],
     moves: &[Move],
 ) -> bool
-    requires { AreRows (all_sides (net_of P.behaviour circuit.now).primitives) rows.now }
+    requires { AreRowsOf (net_of P.behaviour circuit.now) rows.now }
     ensures { let net = net_of P.behaviour circuit.now in
         IsTrue result ↔ (moves.now ≡ moves_of net circuit.now.ports rows.now items.now) }
 {
