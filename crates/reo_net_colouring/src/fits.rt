@@ -24,7 +24,8 @@ fn is_given<P: Primitive>(
     requires items { length items.now ≡ length circuit.now.joints }
     requires giver { IsGiver (net_of P.behaviour circuit.now) giver }
     requires flows { mark_at (net_of P.behaviour circuit.now) rows.now giver ≡ F }
-    ensures { IsTrue result ↔ (given_at (net_of P.behaviour circuit.now) rows.now items.now giver ≡ Some item.now) }
+    ensures { let net = net_of P.behaviour circuit.now in
+        IsTrue result ↔ (given_at net rows.now items.now giver ≡ Some item.now) }
 {
     circuit.known();
     let row = circuit.row_at(rows, giver);
@@ -68,7 +69,8 @@ fn fits<P: Primitive>(
     requires items { length items.now ≡ length circuit.now.joints }
     requires giver { IsGiver (net_of P.behaviour circuit.now) joint.giver }
     requires taker { IsTaker (net_of P.behaviour circuit.now) joint.taker }
-    ensures { IsTrue result ↔ ItemFits (net_of P.behaviour circuit.now) rows.now items.now joint item.now }
+    ensures { let net = net_of P.behaviour circuit.now in
+        IsTrue result ↔ ItemFits net rows.now items.now joint item.now }
 {
     let flows = circuit.mark_at(rows, joint.giver).is_flow();
     match item {

@@ -25,7 +25,8 @@ fn given_for<P: Primitive>(
     requires items { length items.now ≡ length circuit.now.joints }
     requires giver { IsGiver (net_of P.behaviour circuit.now) giver }
     requires flows { mark_at (net_of P.behaviour circuit.now) rows.now giver ≡ F }
-    ensures { IfOk result (λ found. found ≡ given_at (net_of P.behaviour circuit.now) rows.now items.now giver) }
+    ensures { let net = net_of P.behaviour circuit.now in
+        IfOk result (λ found. found ≡ given_at net rows.now items.now giver) }
 {
     circuit.known();
     let row = circuit.row_at(rows, giver);
@@ -64,7 +65,8 @@ fn item_for<P: Primitive>(
     requires rows { AreRowsOf (net_of P.behaviour circuit.now) rows.now }
     requires items { length items.now ≡ length circuit.now.joints }
     requires giver { IsGiver (net_of P.behaviour circuit.now) joint.giver }
-    ensures { IfOk result (λ found. found ≡ item_given (net_of P.behaviour circuit.now) rows.now items.now joint) }
+    ensures { let net = net_of P.behaviour circuit.now in
+        IfOk result (λ found. found ≡ item_given net rows.now items.now joint) }
 {
     match circuit.mark_at(rows, joint.giver) {
         Mark::F => given_for(alloc, circuit, rows, items, joint.giver),
@@ -100,7 +102,8 @@ pub(crate) fn items_of<P: Primitive>(
 ) -> Result<List<Option<Value>>, NoMemory>
     requires { AreRowsOf (net_of P.behaviour circuit.now) rows.now }
     ensures filled { IfOk result (IsFilled (net_of P.behaviour circuit.now) rows.now) }
-    ensures one { IfOk result (λ items. (others : Items (Option Item)) → IsFilled (net_of P.behaviour circuit.now) rows.now others → others ≡ items) }
+    ensures one { let net = net_of P.behaviour circuit.now in IfOk result (λ items.
+        (others : Items (Option Item)) → IsFilled net rows.now others → others ≡ items) }
 {
     circuit.known();
     let order = circuit.order();
@@ -114,7 +117,8 @@ pub(crate) fn items_of<P: Primitive>(
     Ok(List::from_vec(items))
 }
 
-/// The rows with the items that they determine, whether or not they are let in. `NoMemory` is out of memory.
+/// The rows with the items that they determine, whether or not they are let in. `NoMemory` is
+/// out of memory.
 pub fn fill<P: Primitive>(
     alloc: Global,
     circuit: &Circuit<P>,
@@ -122,8 +126,10 @@ pub fn fill<P: Primitive>(
 ) -> Result<Colouring, NoMemory>
     requires { RowsFit (net_of P.behaviour circuit.now) rows }
     ensures rows { IfOk result (λ filled. filled.rows ≡ rows) }
-    ensures items { IfOk result (λ filled. IsFilled (net_of P.behaviour circuit.now) rows filled.items) }
-    ensures one { IfOk result (λ filled. (others : Items (Option Item)) → IsFilled (net_of P.behaviour circuit.now) rows others → others ≡ filled.items) }
+    ensures items { let net = net_of P.behaviour circuit.now in
+        IfOk result (λ filled. IsFilled net rows filled.items) }
+    ensures one { let net = net_of P.behaviour circuit.now in IfOk result (λ filled.
+        (others : Items (Option Item)) → IsFilled net rows others → others ≡ filled.items) }
 {
     let items = items_of(alloc, circuit, rows.as_slice())?;
     Ok(Colouring { rows, items })

@@ -50,16 +50,17 @@ fn is_move(found: &Move, port: usize, item: &Value) -> bool
 /// Whether a move of this port and this item stands at a place.
 fn stands_at(moves: &[Move], place: usize, port: usize, item: &Value) -> bool
     ensures in_range { IsTrue result → place < length moves.now }
-    ensures move_ { IsTrue result → (d : Flow) → slice_index_or moves.now place d ≡ record { port = port; item = item.now } }
-    ensures back { place < length moves.now
-        → ((d : Flow) → slice_index_or moves.now place d ≡ record { port = port; item = item.now })
+    ensures move_ { let move : Flow = record { port = port; item = item.now } in
+        IsTrue result → (d : Flow) → slice_index_or moves.now place d ≡ move }
+    ensures back { let move : Flow = record { port = port; item = item.now } in
+        place < length moves.now → ((d : Flow) → slice_index_or moves.now place d ≡ move)
         → IsTrue result }
 {
     place < moves.len() && is_move(&moves[place], port, item)
 }
 
-/// Whether a list is the moves of rows and items: the ports that flow, in order, with their items. The list may be any.
-/// This takes no memory.
+/// Whether a list is the moves of rows and items: the ports that flow, in order, with their items.
+/// The list may be any. This takes no memory.
 pub fn are_moves<P: Primitive>(
     circuit: &Circuit<P>,
     rows: &[u32],

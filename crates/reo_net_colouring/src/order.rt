@@ -21,9 +21,9 @@ fn class_order<P: Primitive>(
     requires second { AreRowsOf (net_of P.behaviour circuit.now) b.now }
     requires side { side < side_count (net_of P.behaviour circuit.now) }
     ensures { let sides = all_sides (net_of P.behaviour circuit.now).primitives in
-        (d : Side) → result ≡ nat_cmp
-        ((slice_index_or sides side d).of.class (slice_index_or sides side d).number (slice_index a.now side) turn)
-        ((slice_index_or sides side d).of.class (slice_index_or sides side d).number (slice_index b.now side) turn) }
+        (d : Side) → let s = slice_index_or sides side d in
+        result ≡ nat_cmp (s.of.class s.number (slice_index a.now side) turn)
+        (s.of.class s.number (slice_index b.now side) turn) }
 {
     let first = circuit.class(turn, a, side);
     let second = circuit.class(turn, b, side);
@@ -64,9 +64,9 @@ fn order_of_classes<P: Primitive>(circuit: &Circuit<P>, turn: u64, a: &[u32], b:
     Ordering::Equal
 }
 
-/// Which of two lists of rows comes first in the round of this number: by the classes of the sides that lead, where
-/// these are equal by the classes of all sides, and where these are equal too by the rows of all sides. This takes no
-/// memory.
+/// Which of two lists of rows comes first in the round of this number: by the classes of the sides
+/// that lead, where these are equal by the classes of all sides, and where these are equal too by
+/// the rows of all sides. This takes no memory.
 pub fn compare<P: Primitive>(circuit: &Circuit<P>, turn: u64, a: &[u32], b: &[u32]) -> Ordering
     requires first { AreRowsOf (net_of P.behaviour circuit.now) a.now }
     requires second { AreRowsOf (net_of P.behaviour circuit.now) b.now }

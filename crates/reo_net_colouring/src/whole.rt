@@ -37,8 +37,9 @@ fn all_match<P: Primitive>(circuit: &Circuit<P>, rows: &[u32]) -> bool
     true
 }
 
-/// Whether rows and items are a colouring of a circuit in its present state. The rows and items may be any: `false` also
-/// where there are too few or too many, or where a row is past the table of its side. This takes no memory.
+/// Whether rows and items are a colouring of a circuit in its present state. The rows and items may
+/// be any: `false` also where there are too few or too many, or where a row is past the table of
+/// its side. This takes no memory.
 pub fn is_colouring<P: Primitive>(
     circuit: &Circuit<P>,
     rows: &[u32],
