@@ -1,2 +1,3 @@
 pub mod ItemTests
 pub mod RuleLemmas
+pub mod RuleLaws
