@@ -8,7 +8,7 @@ use Rattle.std.proofs.lemmas.List.Elements.{All-nil, All-cons, All-head, All-tai
 use Rattle.std.proofs.lemmas.Int.{ints}
 use Rattle.reo_values.proofs.Numbers.{mag_small}
 use Rattle.reo_values.proofs.Words.{first_or}
-use Rattle.reo_values.specs.Valid.{IsName, IsNameByte}
+use Rattle.reo_values.specs.Names.{IsName, IsNameByte}
 use Rattle.reo_forms.specs.Reading.{IsWordByte, IsWord, Ends}
 
 -- The end of a word tells it and what comes after it.

@@ -5,7 +5,7 @@ use Rattle.std.specs.Int.{w64}
 use Rattle.std.specs.Fmt.{signed_decimal}
 use Rattle.std.proofs.lemmas.Int.{ints}
 use Rattle.std.proofs.lemmas.Fmt.{signed_decimal_injective}
-use Rattle.reo_values.specs.Valid.{IsName}
+use Rattle.reo_values.specs.Names.{IsName}
 use Rattle.reo_values.proofs.Numbers.{mag_small}
 use Rattle.reo_forms.specs.declared.plainest.Parameter.{Parameter}
 use Rattle.reo_forms.specs.CircuitForm.{IsParameter}

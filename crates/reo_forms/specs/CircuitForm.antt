@@ -5,7 +5,7 @@ use Rattle.reo_net_base.specs.declared.port.Way.TheVariants.{In, Out}
 use Rattle.reo_forms.specs.declared.plainest.Parameter.{Parameter}
 use Rattle.reo_forms.specs.declared.plainest.Joined.{Joined}
 use Rattle.reo_forms.specs.declared.plainest.Plainest.{Plainest}
-use Rattle.reo_values.specs.Valid.{IsName}
+use Rattle.reo_values.specs.Names.{IsName}
 use Rattle.reo_forms.specs.Listed.{Each, IsOnce}
 use Rattle.reo_forms.specs.Parameters.{AreDifferent, HaveOneType, IsNamed}
 

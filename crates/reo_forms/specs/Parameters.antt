@@ -1,6 +1,6 @@
 -- What is said of several parameters.
 use Rattle.std.specs.Prelude.{ℕ, ◌≡◌, List, Some, slice_get}
-use Rattle.reo_values.specs.Valid.{IsName}
+use Rattle.reo_values.specs.Names.{IsName}
 use Rattle.reo_net_base.specs.declared.port.Way.{Way}
 use Rattle.reo_forms.specs.declared.plainest.Parameter.{Parameter}
 use Rattle.reo_forms.specs.Listed.{Each}

@@ -1,7 +1,7 @@
 -- What readers owe: where they stop, and what they read again.
 use Rattle.std.specs.Prelude.{ℕ, ◌≡◌, ◌⊎◌, ◌==◌, Bool, false, not, List, [], ◌∷◌}
 use Rattle.std.specs.List.{All}
-use Rattle.reo_values.specs.Valid.{IsNameByte}
+use Rattle.reo_values.specs.Names.{IsNameByte}
 
 -- Whether something is left that does not begin with this byte.
 abbrev pub goes_on : ℕ → List ℕ → Bool

@@ -2,7 +2,7 @@
 //! and compared with the text afterwards.
 ghost use Rattle.std.specs.Prelude.{◌≡◌, ◌++◌, ◌≤◌, ◌<◌, ◌↔◌, ℕ, ℤ, ◌≤ℤ◌, List, IfOk, IsTrue, length, take, drop, slice_index};
 ghost use Rattle.std.specs.Fmt.{signed_decimal};
-ghost use Rattle.reo_values.specs.Valid.{IsNameByte};
+ghost use Rattle.reo_values.specs.Names.{IsNameByte};
 ghost use Rattle.reo_forms.specs.Reading.{goes_on, IsWord, Ends};
 
 use reo_values::{NoMemory, ReadFault, read_number};

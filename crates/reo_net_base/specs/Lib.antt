@@ -6,5 +6,6 @@ pub mod Lawful
 pub mod Marks
 pub mod Moves
 pub mod Net
+pub mod Shapes
 pub mod Step
 pub mod Wired

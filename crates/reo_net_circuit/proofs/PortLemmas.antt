@@ -1,11 +1,15 @@
 -- One primitive changes.
-use Rattle.std.proofs.Common.{◌≡◌, ◌≢◌, ℕ, zero, suc, ◌<◌, List, [], ◌∷◌, length, map, get_or, set, refl, ap, arith}
+use Rattle.std.proofs.Common.{◌≡◌, ◌≢◌, inl, inr, Option, ℕ, zero, suc, ◌<◌, List, [], ◌∷◌, length, map, get_or, set, refl, ap, arith}
 use Rattle.reo_net_base.specs.Behaviour.{Behaviour}
 use Rattle.reo_net_base.specs.Lawful.{SameShape}
 use Rattle.reo_net_base.specs.Net.{behaviour_at}
 use Rattle.reo_net_base.specs.Step.{change_at}
 use Rattle.reo_net_base.specs.PortState.{PortState, port_state_at}
-use Rattle.reo_net_circuit.proofs.ReshapeLemmas.{Reshaped}
+use Rattle.reo_net_base.specs.Shapes.{SameShapes, SameWays}
+use Rattle.reo_net_base.specs.declared.port.Offer.{Offer}
+use Rattle.reo_net_circuit.specs.Offers.{OnlyPort}
+use Rattle.reo_net_circuit.proofs.Cases.{eq_cases}
+use Rattle.reo_net_circuit.proofs.ReshapeLemmas.{same_shape}
 
 pub change_is : {X : Type 0} (f : X → X) (xs : List X) (i : ℕ) (d : X) → i < length xs → set xs i (f (get_or xs i d)) ≡ change_at f xs i
 change_is f [] i d lt = refl
@@ -16,9 +20,6 @@ pub change_length : {X : Type 0} (f : X → X) (xs : List X) (i : ℕ) → lengt
 change_length f [] i = refl
 change_length f (x ∷ xs) zero = refl
 change_length f (x ∷ xs) (suc i) = ap suc (change_length f xs i)
-
-same_shape : (b : Behaviour) → SameShape b b
-same_shape b = record { ends = refl; sides = refl; side_of = λ _. refl; takes_in = λ _. refl }
 
 module _ {P : Type 0} (behaviour : P → Behaviour) (f : P → P) (law : (p : P) → SameShape (behaviour p) (behaviour (f p))) where
   count : (ps : List P) (i : ℕ) → length (map behaviour (change_at f ps i)) ≡ length (map behaviour ps)
@@ -33,7 +34,7 @@ module _ {P : Type 0} (behaviour : P → Behaviour) (f : P → P) (law : (p : P)
   same (p ∷ ps) (suc i) zero = same_shape (behaviour p)
   same (p ∷ ps) (suc i) (suc k) = same ps i k
 
-  pub changed : (ps : List P) (i : ℕ) → Reshaped (map behaviour ps) (map behaviour (change_at f ps i))
+  pub changed : (ps : List P) (i : ℕ) → SameShapes (map behaviour ps) (map behaviour (change_at f ps i))
   changed ps i = record { count = count ps i; same = λ k lt. same ps i k }
 
 -- The states after one primitive changed.
@@ -49,3 +50,16 @@ module _ {P : Type 0} (port_state : P → PortState) (f : P → P) where
   port_state_other (p ∷ ps) zero (suc k) ne = refl
   port_state_other (p ∷ ps) (suc i) zero ne = refl
   port_state_other (p ∷ ps) (suc i) (suc k) ne = port_state_other ps i k (λ e. ne (ap suc e))
+
+-- Where only one port changes, and only its offer, the ways stay.
+pub only_ways : (old new : List PortState) (port : ℕ) (pending : Option Offer) → OnlyPort old new port pending → SameWays old new
+only_ways old new port pending only = record {
+  way = λ i. elim (eq_cases i port) [
+    | inl e ↦ rw e only.here.way
+    | inr ne ↦ ap (λ (s : PortState). s.way) (only.others i ne)
+  ];
+  accepts = λ i item. elim (eq_cases i port) [
+    | inl e ↦ rw e (only.here.accepts item)
+    | inr ne ↦ ap (λ (s : PortState). s.accepts item) (only.others i ne)
+  ];
+}

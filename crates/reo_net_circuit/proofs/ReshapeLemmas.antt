@@ -1,5 +1,5 @@
 -- What holds of a circuit's shape stays when its primitives go on.
-use Rattle.std.proofs.Common.{◌≡◌, ℕ, zero, suc, ◌+◌, ◌<◌, List, [], ◌∷◌, ◌++◌, Option, length, map, get_or, take, drop, refl, ap, sym, ◌∙◌, arith, append-nil}
+use Rattle.std.proofs.Common.{◌≡◌, ℕ, zero, suc, ◌+◌, ◌<◌, List, [], ◌∷◌, ◌++◌, Option, length, map, get_or, take, drop, refl, ap, sym, subst, ◌∙◌, arith, append-nil}
 use Rattle.std.specs.List.{flat_map}
 use Rattle.std.proofs.lemmas.List.{length-append, take_all, drop_all}
 use Rattle.std.proofs.lemmas.List.FromFn.{length-map-range_with_len}
@@ -10,17 +10,15 @@ use Rattle.reo_net_base.specs.declared.joint.End.{End}
 use Rattle.reo_net_circuit.specs.declared.layout.SideOwner.{SideOwner}
 use Rattle.reo_net_base.specs.Behaviour.{Behaviour}
 use Rattle.reo_net_base.specs.Lawful.{SameShape, IsLawful}
-use Rattle.reo_net_base.specs.Net.{Side, sides_of, all_sides, first_side, behaviour_at, side_at}
+use Rattle.reo_net_base.specs.Shapes.{SameShapes}
+use Rattle.reo_net_order.specs.Arrows.{IsTopological}
+use Rattle.reo_net_base.specs.Net.{Net, Side, sides_of, all_sides, first_side, behaviour_at, side_at, from_sides, to_sides}
 use Rattle.reo_net_base.specs.Wired.{IsWired, IsEnd, IsOrder}
 use Rattle.reo_net_circuit.specs.Layout.{IsLaidOut}
 use Rattle.reo_net_base.specs.Step.{settled_list}
 
-pub record Reshaped (bs ds : List Behaviour) : Type 0 where
-  pub count : length ds ≡ length bs
-  pub same : (i : ℕ) → i < length bs → SameShape (behaviour_at bs i) (behaviour_at ds i)
-
-same_shape : (b : Behaviour) → SameShape b b
-same_shape b = record { ends = refl; sides = refl; side_of = λ _. refl; takes_in = λ _. refl }
+pub same_shape : (b : Behaviour) → SameShape b b
+same_shape b = record { ends = refl; sides = refl; side_of = λ _. refl; takes_in = λ _. refl; leads = λ _. refl }
 
 module _ {P : Type 0} (behaviour : P → Behaviour) (settled : P → Chosen → Option Value → P) (law : (p : P) (rows : Chosen) (taken : Option Value) → SameShape (behaviour p) (behaviour (settled p rows taken))) where
   settled_count : (ps : List P) (rows : List Chosen) (taken : List (Option Value)) → length (map behaviour (settled_list settled ps rows taken)) ≡ length (map behaviour ps)
@@ -36,7 +34,7 @@ module _ {P : Type 0} (behaviour : P → Behaviour) (settled : P → Chosen → 
   settled_same (p ∷ ps) (r ∷ rows) (t ∷ taken) zero = law p r t
   settled_same (p ∷ ps) (r ∷ rows) (t ∷ taken) (suc i) = settled_same ps rows taken i
 
-  pub reshaped : (ps : List P) (rows : List Chosen) (taken : List (Option Value)) → Reshaped (map behaviour ps) (map behaviour (settled_list settled ps rows taken))
+  pub reshaped : (ps : List P) (rows : List Chosen) (taken : List (Option Value)) → SameShapes (map behaviour ps) (map behaviour (settled_list settled ps rows taken))
   reshaped ps rows taken = record { count = settled_count ps rows taken; same = λ i lt. settled_same ps rows taken i }
 
 pub lawful_at : {P : Type 0} (behaviour : P → Behaviour) → ((p : P) → IsLawful (behaviour p)) → (ps : List P) (i : ℕ) → i < length (map behaviour ps) → IsLawful (behaviour_at (map behaviour ps) i)
@@ -44,13 +42,18 @@ lawful_at behaviour law [] i lt = absurd (omega arith)
 lawful_at behaviour law (p ∷ ps) zero lt = law p
 lawful_at behaviour law (p ∷ ps) (suc i) lt = lawful_at behaviour law ps i (omega arith)
 
+-- Numbers that are the same for each element of a list.
+map_same : (f g : Joint → ℕ) (js : List Joint) → ((k : ℕ) (d : Joint) → k < length js → f (get_or js k d) ≡ g (get_or js k d)) → map f js ≡ map g js
+map_same f g [] h = refl
+map_same f g (j ∷ js) h = ap (λ (n : ℕ). n ∷ map f js) (h zero j (omega arith)) ∙ ap (λ (ns : List ℕ). g j ∷ ns) (map_same f g js (λ k d lt. h (suc k) d (omega arith)))
+
 side_count : (b : Behaviour) → length (sides_of b) ≡ b.sides
 side_count b = length-map-range_with_len {X = Side} (λ k. record { of = b; number = k }) 0 b.sides
 
-tail : (b d : Behaviour) (bs ds : List Behaviour) → Reshaped (b ∷ bs) (d ∷ ds) → Reshaped bs ds
+tail : (b d : Behaviour) (bs ds : List Behaviour) → SameShapes (b ∷ bs) (d ∷ ds) → SameShapes bs ds
 tail b d bs ds r = let n = r.count in record { count = omega (arith, n); same = λ i lt. r.same (suc i) (omega arith) }
 
-pub first_same : (bs ds : List Behaviour) → Reshaped bs ds → (i : ℕ) → first_side ds i ≡ first_side bs i
+pub first_same : (bs ds : List Behaviour) → SameShapes bs ds → (i : ℕ) → first_side ds i ≡ first_side bs i
 first_same bs ds r zero = refl
 first_same [] [] r (suc i) = refl
 first_same [] (d ∷ ds) r (suc i) = let n = r.count in absurd (omega (arith, n))
@@ -69,7 +72,7 @@ first_same (b ∷ bs) (d ∷ ds) r (suc i) =
 all_is : (bs : List Behaviour) → length (all_sides bs) ≡ first_side bs (length bs)
 all_is bs = ap (λ (xs : List Behaviour). length (flat_map sides_of xs)) (sym (take_all (length bs) bs (omega arith)))
 
-module _ (bs ds : List Behaviour) (r : Reshaped bs ds) where
+module _ (bs ds : List Behaviour) (r : SameShapes bs ds) where
   end_same : (e : End) → IsEnd bs e → IsEnd ds e
   end_same e is = (omega (arith, r.count, is.0), rw ((r.same e.primitive is.0).ends) is.1)
 
@@ -106,19 +109,22 @@ module _ (bs ds : List Behaviour) (r : Reshaped bs ds) where
       lawful = lawful;
     }
 
+    pub from_same : from_sides (record { primitives = ds; joints = joints }) ≡ from_sides (record { primitives = bs; joints = joints })
+    from_same = map_same
+        (λ (j : Joint). side_at (record { primitives = ds; joints = joints }) j.giver)
+        (λ (j : Joint). side_at (record { primitives = bs; joints = joints }) j.giver)
+        joints (λ j d lt. side_same joints (get_or joints j d).giver (wired.givers j d lt))
+
+    pub to_same : to_sides (record { primitives = ds; joints = joints }) ≡ to_sides (record { primitives = bs; joints = joints })
+    to_same = map_same
+        (λ (j : Joint). side_at (record { primitives = ds; joints = joints }) j.taker)
+        (λ (j : Joint). side_at (record { primitives = bs; joints = joints }) j.taker)
+        joints (λ j d lt. side_same joints (get_or joints j d).taker (wired.takers j d lt))
+
     pub order_same : (order : List ℕ) → IsOrder (record { primitives = bs; joints = joints }) order → IsOrder (record { primitives = ds; joints = joints }) order
-    order_same order is = record {
-      in_range = is.in_range;
-      each = is.each;
-      once = is.once;
-      fed = λ m d lt k k_in feeds.
-          let j_in = is.in_range m 0 lt in
-          let same = r.same (get_or joints (get_or order m 0) d).giver.primitive (wired.givers (get_or order m 0) d j_in).0 in
-          is.fed m d lt k k_in (record {
-            same_primitive = feeds.same_primitive;
-            same_side = sym (same.side_of (get_or joints k d).taker.end) ∙ feeds.same_side ∙ same.side_of (get_or joints (get_or order m 0) d).giver.end;
-          });
-    }
+    order_same order is =
+        subst (λ (xs : List ℕ). IsTopological xs (to_sides (record { primitives = ds; joints = joints })) order) (sym from_same)
+        (subst (λ (xs : List ℕ). IsTopological (from_sides (record { primitives = bs; joints = joints })) xs order) (sym to_same) is)
 
 -- What the vector has after a write through all of it.
 pub whole_slice : {X : Type 0} → (n : ℕ) (new old : List X) → n ≡ length old → length new ≡ length old → take n (new ++ drop (length new) old) ≡ new

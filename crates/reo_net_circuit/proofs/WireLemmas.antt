@@ -2,15 +2,14 @@
 use Rattle.std.proofs.Common.{◌≡◌, ◌≢◌, ℕ, ◌+◌, ◌<◌, List, [], ◌∷◌, ◌++◌, length, map, get_or, take, ap, sym, ◌∙◌, arith, below_more}
 use Rattle.std.proofs.Math.Seq.{get_or-append_seam}
 use Rattle.std.proofs.lemmas.List.{length-map, get_or-map, get_or_default, length-append, get_or_append_left, take_more, map-append}
-use Rattle.reo_net_order.specs.Arrows.{IsTopological, NoCycle}
+use Rattle.reo_net_order.specs.Arrows.{NoCycle}
 use Rattle.reo_net_base.specs.declared.joint.Joint.{Joint}
 use Rattle.reo_net_base.specs.declared.joint.End.{End}
 use Rattle.reo_net_base.specs.Lawful.{IsLawful}
-use Rattle.reo_net_base.specs.Net.{Net, behaviour_at, first_side, side_at}
-use Rattle.reo_net_base.specs.Wired.{IsWired, IsOrder}
+use Rattle.reo_net_base.specs.Net.{Net, behaviour_at, side_at, from_sides, to_sides}
+use Rattle.reo_net_base.specs.Wired.{IsWired}
 use Rattle.reo_net_circuit.specs.Parts.{AreJoints}
-use Rattle.reo_net_base.specs.Net.{from_sides, to_sides}
-use Rattle.reo_net_circuit.specs.Fault.{AllJoined, AllRight}
+use Rattle.reo_net_circuit.specs.Fault.{AllJoined, AllRight, HasNoFault}
 
 pub below_push : (xs : List ℕ) (x n : ℕ) → ((k : ℕ) → k < length xs → get_or xs k 0 < n) → x < n → (k : ℕ) → k < length (xs ++ x ∷ []) → get_or (xs ++ x ∷ []) k 0 < n
 below_push xs x n below lt k k_lt = below_more (λ i. get_or (xs ++ x ∷ []) i 0 < n) (length xs)
@@ -19,11 +18,6 @@ below_push xs x n below lt k k_lt = below_more (λ i. get_or (xs ++ x ∷ []) i 
 
 pub map_more : {X : Type 0} (f : X → ℕ) (xs : List X) (k : ℕ) (x : X) → k < length xs → get_or xs k x ≡ x → map f (take (k + 1) xs) ≡ map f (take k xs) ++ f x ∷ []
 map_more f xs k x lt is = ap (map f) (take_more xs k x lt) ∙ map-append f (take k xs) (get_or xs k x ∷ []) ∙ ap (λ y. map f (take k xs) ++ f y ∷ []) is
-
--- The sides of a feeding joint and of the one that it feeds are one.
-feeds_side : (net : Net) (a b : End) → a.primitive ≡ b.primitive → (behaviour_at net.primitives b.primitive).side_of a.end ≡ (behaviour_at net.primitives b.primitive).side_of b.end → side_at net a ≡ side_at net b
-unfolding side_at
-feeds_side net a b same side = ap (λ (p : ℕ). first_side net.primitives p + (behaviour_at net.primitives p).side_of a.end) same ∙ ap (λ (s : ℕ). first_side net.primitives b.primitive + s) side
 
 module _ (net : Net) where
   from_at : (j : ℕ) (d : Joint) → j < length net.joints → get_or (from_sides net) j 0 ≡ side_at net (get_or net.joints j d).giver
@@ -34,19 +28,6 @@ module _ (net : Net) where
 
   from_count : length (from_sides net) ≡ length net.joints
   from_count = length-map net.joints (λ (k : Joint). side_at net k.giver)
-
-  pub order_is : (order : List ℕ) → IsTopological (from_sides net) (to_sides net) order → IsOrder net order
-  order_is order is = record {
-    in_range = λ m d lt. rw (get_or_default order m d 0 lt) (omega (arith, is.in_range m lt, from_count));
-    each = λ j lt. is.each j (omega (arith, from_count));
-    once = is.once;
-    fed = λ m d lt k k_lt feeds.
-        let at : get_or order m 0 < length net.joints = omega (arith, is.in_range m lt, from_count) in
-        is.fed m lt k (omega (arith, from_count))
-        (to_at k d k_lt
-        ∙ feeds_side net (get_or net.joints k d).taker (get_or net.joints (get_or order m 0) d).giver feeds.same_primitive feeds.same_side
-        ∙ sym (from_at (get_or order m 0) d at));
-  }
 
   -- A joint with both ends at one side would be a cycle by itself.
   pub sides_apart : NoCycle (from_sides net) (to_sides net) → (j : ℕ) (d : Joint) → j < length net.joints → side_at net (get_or net.joints j d).giver ≢ side_at net (get_or net.joints j d).taker
@@ -62,3 +43,11 @@ module _ (net : Net) where
     each_end = λ i end lt end_lt. joined i lt end end_lt;
     apart = sides_apart none;
   }
+
+-- What holds of a circuit denies each cause of a fault.
+pub no_fault : (net : Net) → IsWired net → NoCycle (from_sides net) (to_sides net) → HasNoFault net
+no_fault net wired none = record {
+  joined = λ i lt end end_lt. wired.each_end i end lt end_lt;
+  right = λ j d lt. record { gives = wired.gives j d lt; takes = wired.takes j d lt };
+  no_cycle = none;
+}

@@ -1,3 +1,4 @@
+pub mod Circuit
 pub mod Counts
 pub mod Fault
 pub mod Layout

@@ -1,60 +1,53 @@
 //! Circuits.
 ghost use Rattle.std.specs.Prelude.{◌≡◌, ℕ, ◌+◌, ◌<◌, ◌≤◌, ◌^◌, ◌*◌, IfOk, IsSome, Some, None, MatchResult, map, length, slice_index_or};
 ghost use Rattle.std.specs.List.{position_or_len};
+ghost use Rattle.reo_net_order.specs.Arrows.{NoCycle};
 ghost use Rattle.reo_net_base.specs.declared.joint.Joint.{Joint as JointEnds};
-ghost use Rattle.reo_net_base.specs.Net.{net_of, all_sides, behaviour_at, first_side, side_at, side_of_end, Side, end_of, is_at};
+ghost use Rattle.reo_net_base.specs.Net.{net_of, all_sides, behaviour_at, first_side, side_at, side_of_end, Side, end_of, is_at, from_sides, to_sides};
 ghost use Rattle.reo_net_base.specs.Colouring.{IsColouring};
 ghost use Rattle.reo_net_base.specs.Wired.{IsWired, IsEnd, IsOrder, ArePorts};
 ghost use Rattle.reo_net_base.specs.Step.{stepped, change_at};
+ghost use Rattle.reo_net_base.specs.Shapes.{SameNetShape, SamePortedShape};
 ghost use Rattle.reo_net_base.specs.PortState.{CanPlace, port_state_at};
-ghost use Rattle.reo_net_circuit.specs.Parts.{net_with, AreJoints};
+ghost use Rattle.reo_net_circuit.specs.Parts.{wiring_of, AreJoints};
 ghost use Rattle.reo_net_circuit.specs.Layout.{IsLaidOut};
 ghost use Rattle.reo_net_circuit.specs.Offers.{OnlyPort};
 ghost use Rattle.reo_net_circuit.specs.Fault.{HasNoFault, IsNetFault};
 
-use crate::ends::ends_fault;
+use crate::checked::{Tables, tables_of};
 use crate::fault::NetFault;
-use crate::layout::{Layout, SideOwner, lay_out};
+use crate::layout::SideOwner;
 use crate::ports::{place_at, withdraw_at};
 use crate::step::step_all;
-use crate::tables::{mouth_table, port_table};
-use crate::turn::joint_order;
-use crate::way::way_fault;
 use reo_net_base::{Colouring, End, Joint, Offer, Ported, Primitive};
-use reo_net_order::{Sorted, order_has_no_cycle};
+use reo_net_order::order_has_no_cycle;
 use reo_values::List;
 use std::alloc::Global;
 use std::marker::Model;
 
 /// Primitives, of which the first so many are ports, and joints between their ends.
 ///
-/// Sides are numbered from 0 in the order of their primitives. Contracts see a circuit as its
-/// primitives in their present states, the number of its ports and its joints.
+/// There are fewer than 2^31 primitives and fewer than 2^31 joints, and no directed cycle of
+/// sides. Sides are numbered from 0 in the order of their primitives. Contracts see a circuit as
+/// its primitives in their present states, the number of its ports and its joints.
 #[derive(Drop)]
 pub struct Circuit<P: Primitive> {
     primitives: Vec<P>,
     ports: usize,
     joints: List<Joint>,
-    firsts: List<usize>,
-    owners: List<SideOwner>,
-    order: List<usize>,
-    mouths: List<usize>,
-    port_joints: List<usize>,
+    tables: Tables,
 }
 
 impl<P: Primitive> Model for Circuit<P> {
-    ghost use Rattle.std.specs.Prelude.{map};
     ghost use Rattle.reo_net_base.specs.Net.{Wiring};
-    ghost use Rattle.reo_net_base.specs.Wired.{IsWired, IsOrder, ArePorts};
-    ghost use Rattle.reo_net_circuit.specs.Parts.{net_with};
-    ghost use Rattle.reo_net_circuit.specs.Layout.{IsLaidOut};
-    ghost use Rattle.reo_net_circuit.specs.Tables.{AreMouths, ArePortJoints};
+    ghost use Rattle.reo_net_circuit.specs.Parts.{wiring_of};
+    ghost use Rattle.reo_net_circuit.specs.Circuit.{IsCircuit};
 
     ghost Value = { Wiring P };
 
-    ghost view = { λ a. record { primitives = a.primitives.items; ports = a.ports; joints = a.joints } };
+    ghost view = { λ a. wiring_of a.primitives.items a.ports a.joints };
 
-    ghost invariant = { λ a. IsWired (net_with P.behaviour a.primitives.items a.joints) × IsLaidOut (map P.behaviour a.primitives.items) a.firsts a.owners × IsOrder (net_with P.behaviour a.primitives.items a.joints) a.order × AreMouths (net_with P.behaviour a.primitives.items a.joints) a.mouths × ArePortJoints (net_with P.behaviour a.primitives.items a.joints) a.port_joints × ArePorts (map P.behaviour a.primitives.items) a.ports };
+    ghost invariant = { λ a. IsCircuit P.behaviour (wiring_of a.primitives.items a.ports a.joints) a.tables };
 }
 
 impl<P: Primitive> Circuit<P> {
@@ -64,7 +57,7 @@ impl<P: Primitive> Circuit<P> {
     ///
     /// The first fault, in this order: `Ends` with the least primitive that has an end that is
     /// not in exactly one joint, `Way` with the least joint whose giver takes in or whose taker
-    /// does not, `Cycle` with the least joint on a directed cycle of sides. `NoMemory` is want of
+    /// does not, `Cycle` with the least joint on a directed cycle of sides. `NoMemory` is out of
     /// memory.
     pub fn new(
         alloc: Global,
@@ -75,47 +68,33 @@ impl<P: Primitive> Circuit<P> {
         requires few_primitives { length primitives < 2 ^ 31 }
         requires few_joints { length joints < 2 ^ 31 }
         requires ports { ArePorts (map P.behaviour primitives) ports }
-        requires joints { AreJoints (net_with P.behaviour primitives joints) }
-        ensures circuit { IfOk result (λ circuit. circuit ≡ record { primitives = primitives; ports = ports; joints = joints }) }
-        ensures exact { MatchResult result (λ circuit. HasNoFault (net_with P.behaviour primitives joints)) (IsNetFault (net_with P.behaviour primitives joints)) }
+        requires joints { AreJoints (net_of P.behaviour (wiring_of primitives ports joints)) }
+        ensures circuit { IfOk result (λ circuit. circuit ≡ wiring_of primitives ports joints) }
+        ensures exact { let net = net_of P.behaviour (wiring_of primitives ports joints) in
+            MatchResult result (λ circuit. HasNoFault net) (IsNetFault net) }
     {
-        if let Some(primitive) = ends_fault(alloc, primitives.as_slice(), joints.as_slice())? {
-            return Err(NetFault::Ends { primitive });
-        }
-        if let Some(joint) = way_fault(primitives.as_slice(), joints.as_slice()) {
-            return Err(NetFault::Way { joint });
-        }
-        let Layout { firsts, owners } = lay_out(alloc, primitives.as_slice())?;
-        let sorted = joint_order(
-            alloc,
-            primitives.as_slice(),
-            firsts.as_slice(),
-            owners.len(),
-            joints.as_slice(),
-        )?;
-        let mouths = mouth_table(alloc, primitives.as_slice(), joints.as_slice())?;
-        let port_joints = port_table(alloc, primitives.as_slice(), joints.as_slice())?;
         order_has_no_cycle();
-        match sorted {
-            Sorted::Cycle(joint) => Err(NetFault::Cycle { joint }),
-            Sorted::Order(order) => Ok(Circuit {
+        match tables_of(alloc, primitives.as_slice(), ports, joints.as_slice()) {
+            Err(fault) => Err(fault),
+            Ok(tables) => Ok(Circuit {
                 primitives: primitives.into_vec(),
                 ports,
                 joints,
-                firsts,
-                owners,
-                order: List::from_vec(order),
-                mouths,
-                port_joints,
+                tables,
             }),
         }
     }
 
     /// What holds of each circuit: its joints go from ends that give to ends that take in, each
-    /// end is in exactly one joint, and no joint has both ends at one side.
+    /// end is in exactly one joint, no directed cycle of sides exists, and there are fewer than
+    /// 2^31 primitives and fewer than 2^31 joints.
     pub fn known(&self)
-        ensures { IsWired (net_of P.behaviour self.now) }
+        ensures wired { IsWired (net_of P.behaviour self.now) }
+        ensures no_cycle { let net = net_of P.behaviour self.now in NoCycle (from_sides net) (to_sides net) }
+        ensures few_primitives { length self.now.primitives < 2 ^ 31 }
+        ensures few_joints { length self.now.joints < 2 ^ 31 }
     {
+        order_has_no_cycle();
         let _ = &self.ports;
     }
 
@@ -175,14 +154,14 @@ impl<P: Primitive> Circuit<P> {
     pub fn order(&self) -> &[usize]
         ensures { IsOrder (net_of P.behaviour self.now) result.now }
     {
-        self.order.as_slice()
+        self.tables.order.as_slice()
     }
 
     /// How many sides there are.
     pub fn sides(&self) -> usize
         ensures { result ≡ length (all_sides (net_of P.behaviour self.now).primitives) }
     {
-        self.owners.len()
+        self.tables.owners.len()
     }
 
     /// Which side of which primitive a side is.
@@ -203,7 +182,7 @@ impl<P: Primitive> Circuit<P> {
         ensures side { result.side < (behaviour_at (net_of P.behaviour self.now).primitives result.primitive).sides }
         ensures place { side ≡ first_side (net_of P.behaviour self.now).primitives result.primitive + result.side }
     {
-        *self.owners.at(side)
+        *self.tables.owners.at(side)
     }
 
     /// The first side of a primitive.
@@ -211,7 +190,7 @@ impl<P: Primitive> Circuit<P> {
         requires { primitive < length self.now.primitives }
         ensures { result ≡ first_side (net_of P.behaviour self.now).primitives primitive }
     {
-        *self.firsts.at(primitive)
+        *self.tables.firsts.at(primitive)
     }
 
     /// Which of all sides an end is of.
@@ -237,21 +216,23 @@ impl<P: Primitive> Circuit<P> {
     {
         self.known();
         self.known_ports();
-        *self.port_joints.at(port)
+        *self.tables.port_joints.at(port)
     }
 
-    /// Each primitive goes on by the rows of its sides and the item at its mouth. This takes no
-    /// memory.
+    /// Each primitive goes on by the rows of its sides and the item at its mouth. The shape of the
+    /// circuit stays. This takes no memory.
     pub fn step(&mut self, colouring: Colouring)
         requires { IsColouring (net_of P.behaviour self.old) colouring.rows colouring.items }
-        ensures { self.new ≡ record self.old { primitives = stepped P.behaviour P.settled self.old colouring.rows colouring.items } }
+        ensures circuit { let primitives = stepped P.behaviour P.settled self.old colouring.rows colouring.items in
+            self.new ≡ record self.old { primitives = primitives } }
+        ensures shape { SameNetShape P.behaviour self.old self.new }
     {
         let Colouring { rows, items } = colouring;
         step_all(
             self.primitives.as_mut_slice(),
             self.joints.as_slice(),
-            self.firsts.as_slice(),
-            self.mouths.as_slice(),
+            self.tables.firsts.as_slice(),
+            self.tables.mouths.as_slice(),
             rows.as_slice(),
             items.into_vec(),
         );
@@ -264,6 +245,7 @@ impl<P: Ported> Circuit<P> {
         requires port { port < self.old.ports }
         requires offer { CanPlace (port_state_at (map P.port_state self.old.primitives) port) offer }
         ensures circuit { self.new ≡ record self.old { primitives = change_at (λ p. P.placed p offer) self.old.primitives port } }
+        ensures shape { SamePortedShape P.behaviour P.port_state self.old self.new }
         ensures offers { OnlyPort (map P.port_state self.old.primitives) (map P.port_state self.new.primitives) port (Some offer) }
     {
         place_at(self.primitives.as_mut_slice(), port, offer);
@@ -274,6 +256,7 @@ impl<P: Ported> Circuit<P> {
         requires port { port < self.old.ports }
         requires pending { IsSome (port_state_at (map P.port_state self.old.primitives) port).pending }
         ensures circuit { self.new ≡ record self.old { primitives = change_at P.withdrawn self.old.primitives port } }
+        ensures shape { SamePortedShape P.behaviour P.port_state self.old self.new }
         ensures offers { OnlyPort (map P.port_state self.old.primitives) (map P.port_state self.new.primitives) port None }
     {
         withdraw_at(self.primitives.as_mut_slice(), port);

@@ -1,7 +1,7 @@
 //! Each end of a primitive is to be in exactly one joint.
 ghost use Rattle.std.specs.Prelude.{◌≡◌, ◌≢◌, ℕ, ◌+◌, ◌<◌, ◌^◌, IfOk, MatchOption, map, length, slice_index, slice_index_or, cond, [], true, false};
-ghost use Rattle.reo_net_base.specs.Net.{behaviour_at, end_eq, end_of, is_at};
-ghost use Rattle.reo_net_circuit.specs.Parts.{net_with, AreJoints};
+ghost use Rattle.reo_net_base.specs.Net.{net_of, behaviour_at, end_eq, end_of, is_at};
+ghost use Rattle.reo_net_circuit.specs.Parts.{wiring_of, AreJoints};
 ghost use Rattle.reo_net_circuit.specs.Fault.{AllJoined, IsEndsFault};
 ghost use Rattle.reo_net_circuit.specs.Counts.{count_at, AreCounts, SameRows};
 
@@ -61,7 +61,7 @@ fn joint_counts<P: Primitive>(
     joints: &[Joint],
 ) -> Result<Vec<List<usize>>, NoMemory>
     requires few { length joints.now < 2 ^ 31 }
-    requires joints { AreJoints (net_with P.behaviour primitives.now joints.now) }
+    requires joints { AreJoints (net_of P.behaviour (wiring_of primitives.now 0 joints.now)) }
     ensures { IfOk result (λ counts. AreCounts (map P.behaviour primitives.now) joints.now counts.items) }
 {
     let mut counts = no_counts(alloc, primitives)?;
@@ -91,8 +91,8 @@ pub fn ends_fault<P: Primitive>(
     joints: &[Joint],
 ) -> Result<Option<usize>, NoMemory>
     requires few { length joints.now < 2 ^ 31 }
-    requires joints { AreJoints (net_with P.behaviour primitives.now joints.now) }
-    ensures { IfOk result (λ fault. MatchOption fault (AllJoined (net_with P.behaviour primitives.now joints.now)) (IsEndsFault (net_with P.behaviour primitives.now joints.now))) }
+    requires joints { AreJoints (net_of P.behaviour (wiring_of primitives.now 0 joints.now)) }
+    ensures { IfOk result (λ fault. MatchOption fault (AllJoined (net_of P.behaviour (wiring_of primitives.now 0 joints.now))) (IsEndsFault (net_of P.behaviour (wiring_of primitives.now 0 joints.now)))) }
 {
     let counts = joint_counts(alloc, primitives, joints)?;
     for index in 0..counts.len() {

@@ -10,7 +10,7 @@ pub enum NetFault {
     Way { joint: usize },
     /// The least joint on a directed cycle of sides.
     Cycle { joint: usize },
-    /// Want of memory.
+    /// Out of memory.
     NoMemory,
 }
 

@@ -44,7 +44,7 @@ fn add_move<P: Primitive>(
     Ok(())
 }
 
-/// The ports that flow, in order, with their items. `NoMemory` is want of memory.
+/// The ports that flow, in order, with their items. `NoMemory` is out of memory.
 pub fn moves<P: Primitive>(
     alloc: Global,
     circuit: &Circuit<P>,

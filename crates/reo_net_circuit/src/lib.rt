@@ -5,10 +5,12 @@
 //! colouring, and offers are placed at its ports and withdrawn from them.
 #![tactic(auto)]
 
+mod checked;
 mod circuit;
 mod ends;
 mod fault;
 mod flows;
+mod groups;
 mod layout;
 mod parts;
 mod ports;

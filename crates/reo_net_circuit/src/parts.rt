@@ -1,9 +1,9 @@
 //! What a circuit is made from: primitives, a number of ports and joints.
 ghost use Rattle.std.specs.Prelude.{◌≡◌, ◌<◌, ◌≤◌, ◌↔◌, IsTrue, IfOk, map, length, replicate, slice_index_or};
 ghost use Rattle.reo_net_base.specs.declared.joint.Joint.{Joint as JointEnds};
-ghost use Rattle.reo_net_base.specs.Net.{behaviour_at};
+ghost use Rattle.reo_net_base.specs.Net.{net_of, behaviour_at};
 ghost use Rattle.reo_net_base.specs.Wired.{IsEnd, IsPort, ArePorts};
-ghost use Rattle.reo_net_circuit.specs.Parts.{net_with, AreJoints};
+ghost use Rattle.reo_net_circuit.specs.Parts.{wiring_of, AreJoints};
 
 use reo_net_base::{End, Joint, Primitive};
 use reo_values::{List, NoMemory};
@@ -25,7 +25,7 @@ pub fn joint_at(joints: &[Joint], index: usize) -> Joint
     joints[index]
 }
 
-/// The same number so many times. `NoMemory` is want of memory.
+/// The same number so many times. `NoMemory` is out of memory.
 pub fn repeated(alloc: Global, number: usize, count: usize) -> Result<Vec<usize>, NoMemory>
     ensures { IfOk result (λ list. list.items ≡ replicate count number) }
 {
@@ -44,7 +44,7 @@ fn is_end<P: Primitive>(primitives: &[P], end: End) -> bool
 
 /// Whether each joint is between ends that there are.
 fn are_joints<P: Primitive>(primitives: &[P], joints: &[Joint]) -> bool
-    ensures { IsTrue result ↔ AreJoints (net_with P.behaviour primitives.now joints.now) }
+    ensures { IsTrue result ↔ AreJoints (net_of P.behaviour (wiring_of primitives.now 0 joints.now)) }
 {
     for index in 0..joints.len() {
         let joint = joint_at(joints, index);
@@ -80,7 +80,7 @@ fn are_ports<P: Primitive>(primitives: &[P], ports: usize) -> bool
 /// Whether a circuit can be made from these, if it has no fault: each of the first `ports`
 /// primitives has one side and one end, and joints name ends that there are.
 pub fn are_parts<P: Primitive>(primitives: &[P], ports: usize, joints: &[Joint]) -> bool
-    ensures { IsTrue result ↔ (ArePorts (map P.behaviour primitives.now) ports × AreJoints (net_with P.behaviour primitives.now joints.now)) }
+    ensures { IsTrue result ↔ (ArePorts (map P.behaviour primitives.now) ports × AreJoints (net_of P.behaviour (wiring_of primitives.now 0 joints.now))) }
 {
     are_ports(primitives, ports) && are_joints(primitives, joints)
 }

@@ -2,7 +2,7 @@
 ghost use Rattle.std.specs.Prelude.{◌≡◌, ◌<◌, ◌↔◌, IsTrue, IsSome, map, length};
 ghost use Rattle.reo_net_base.specs.PortState.{CanPlace, port_state_at};
 ghost use Rattle.reo_net_base.specs.Step.{change_at};
-ghost use Rattle.reo_net_circuit.specs.Offers.{OffersAfterRound};
+ghost use Rattle.reo_net_circuit.specs.Offers.{OffersAfterRound, ShapeAfterRound};
 
 use crate::circuit::Circuit;
 use reo_net_base::{Offer, Ported, Way};
@@ -40,9 +40,11 @@ pub fn withdraw_at<P: Ported>(primitives: &mut [P], index: usize)
 
 impl<P: Ported> Circuit<P> {
     /// What holds of offers in a round: where a port flows its offer is gone, and else it is as it
-    /// was.
+    /// was. What is no port has none. The shape of the circuit stays, and so do the ways of its
+    /// ports and what they accept.
     pub fn known_offers(&self)
-        ensures { OffersAfterRound P.behaviour P.settled P.port_state self.now }
+        ensures offers { OffersAfterRound P.behaviour P.settled P.port_state self.now }
+        ensures shape { ShapeAfterRound P.behaviour P.settled P.port_state self.now }
     {
         self.known();
         self.known_ports();

@@ -1,5 +1,5 @@
 //! What rows say in a circuit.
-ghost use Rattle.std.specs.Prelude.{◌≡◌, ◌↔◌, IsTrue, ◌<◌, length, slice_index, slice_index_or};
+ghost use Rattle.std.specs.Prelude.{◌≡◌, ◌↔◌, IsTrue, ◌<◌, ◌^◌, length, slice_index, slice_index_or};
 ghost use Rattle.reo_net_base.specs.Net.{net_of, all_sides, row_at, mark_at, side_of_end, Side, row_count};
 ghost use Rattle.reo_net_base.specs.Colouring.{AreRows};
 ghost use Rattle.reo_net_base.specs.Wired.{IsEnd};
@@ -9,12 +9,26 @@ use reo_net_base::{End, Mark, Primitive};
 
 impl<P: Primitive> Circuit<P> {
     /// How many rows the table of a side has, its jam row counted.
-    pub fn row_count(&self, side: usize) -> usize
+    pub fn rows(&self, side: usize) -> usize
         requires { side < length (all_sides (net_of P.behaviour self.now).primitives) }
-        ensures { (e : Side) → result ≡ row_count (slice_index_or (all_sides (net_of P.behaviour self.now).primitives) side e) }
+        ensures count { let sides = all_sides (net_of P.behaviour self.now).primitives in
+            (e : Side) → result ≡ row_count (slice_index_or sides side e) }
+        ensures some { 0 < result }
+        ensures few { result < 2 ^ 32 }
     {
+        self.known();
         let place = self.owner(side);
         self.primitive(place.primitive).rows(place.side)
+    }
+
+    /// Whether a side leads: its class is compared before those of all sides.
+    pub fn leads(&self, side: usize) -> bool
+        requires { side < length (all_sides (net_of P.behaviour self.now).primitives) }
+        ensures { let sides = all_sides (net_of P.behaviour self.now).primitives in
+            (e : Side) → let s = slice_index_or sides side e in result ≡ s.of.leads s.number }
+    {
+        let place = self.owner(side);
+        self.primitive(place.primitive).leads(place.side)
     }
 
     /// Whether there is one row for each side, each in the table of its side.
@@ -25,7 +39,7 @@ impl<P: Primitive> Circuit<P> {
             return false;
         }
         for side in 0..self.sides() {
-            if rows[side] as usize >= self.row_count(side) {
+            if rows[side] as usize >= self.rows(side) {
                 return false;
             }
         }

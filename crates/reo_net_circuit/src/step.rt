@@ -1,9 +1,9 @@
 //! All primitives go on.
 ghost use Rattle.std.specs.Prelude.{◌≡◌, ◌+◌, ◌<◌, ◌==◌, cond, None, map, length, slice_index, slice_index_or, slice_set};
-ghost use Rattle.reo_net_base.specs.Net.{all_sides, behaviour_at};
+ghost use Rattle.reo_net_base.specs.Net.{net_of, all_sides, behaviour_at};
 ghost use Rattle.reo_net_base.specs.Colouring.{AreRows};
 ghost use Rattle.reo_net_base.specs.Step.{settled_list, all_chosen, all_taken};
-ghost use Rattle.reo_net_circuit.specs.Parts.{net_with};
+ghost use Rattle.reo_net_circuit.specs.Parts.{wiring_of};
 ghost use Rattle.reo_net_circuit.specs.Layout.{AreFirsts};
 ghost use Rattle.reo_net_circuit.specs.Tables.{AreMouths};
 
@@ -49,10 +49,10 @@ pub fn step_all<P: Primitive>(
     mut items: Vec<Option<Value>>,
 )
     requires firsts { AreFirsts (map P.behaviour primitives.old) firsts.now (length (map P.behaviour primitives.old)) }
-    requires mouths { AreMouths (net_with P.behaviour primitives.old joints.now) mouths.now }
+    requires mouths { AreMouths (net_of P.behaviour (wiring_of primitives.old 0 joints.now)) mouths.now }
     requires rows { AreRows (all_sides (map P.behaviour primitives.old)) rows.now }
     requires items { length items.items ≡ length joints.now }
-    ensures { primitives.new ≡ settled_list P.settled primitives.old (all_chosen (net_with P.behaviour primitives.old joints.now) rows.now) (all_taken (net_with P.behaviour primitives.old joints.now) items.items) }
+    ensures { primitives.new ≡ settled_list P.settled primitives.old (all_chosen (net_of P.behaviour (wiring_of primitives.old 0 joints.now)) rows.now) (all_taken (net_of P.behaviour (wiring_of primitives.old 0 joints.now)) items.items) }
 {
     let _ = joints;
     for index in 0..primitives.len() {

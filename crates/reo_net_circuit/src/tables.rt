@@ -1,9 +1,9 @@
 //! Tables that find the joint of a mouth and the joint of a port.
 ghost use Rattle.std.specs.Prelude.{◌≡◌, ℕ, ◌<◌, ◌==◌, ◌&&◌, cond, IfOk, map, length, slice_index};
-ghost use Rattle.reo_net_base.specs.Net.{behaviour_at, end_eq, end_of, is_at};
+ghost use Rattle.reo_net_base.specs.Net.{net_of, behaviour_at, end_eq, end_of, is_at};
 ghost use Rattle.reo_net_base.specs.Wired.{IsEnd};
 ghost use Rattle.reo_net_base.specs.Step.{is_mouth};
-ghost use Rattle.reo_net_circuit.specs.Parts.{net_with, AreJoints};
+ghost use Rattle.reo_net_circuit.specs.Parts.{wiring_of, AreJoints};
 ghost use Rattle.reo_net_circuit.specs.Tables.{AreMouths, ArePortJoints};
 
 use crate::parts::{joint_at, primitive_at, repeated};
@@ -27,14 +27,14 @@ fn first_so_far(is: bool, old: usize, none: usize, place: usize) -> usize
     if is && old == none { place } else { old }
 }
 
-/// The joints at the mouths of all primitives. `NoMemory` is want of memory.
+/// The joints at the mouths of all primitives. `NoMemory` is out of memory.
 pub fn mouth_table<P: Primitive>(
     alloc: Global,
     primitives: &[P],
     joints: &[Joint],
 ) -> Result<List<usize>, NoMemory>
-    requires { AreJoints (net_with P.behaviour primitives.now joints.now) }
-    ensures { IfOk result (λ mouths. AreMouths (net_with P.behaviour primitives.now joints.now) mouths) }
+    requires { AreJoints (net_of P.behaviour (wiring_of primitives.now 0 joints.now)) }
+    ensures { IfOk result (λ mouths. AreMouths (net_of P.behaviour (wiring_of primitives.now 0 joints.now)) mouths) }
 {
     let none = joints.len();
     let mut mouths = repeated(alloc, none, primitives.len())?;
@@ -67,14 +67,14 @@ fn note_joint(table: &mut [usize], joint: Joint, none: usize, index: usize)
     note_end(table, joint.taker, none, index);
 }
 
-/// The joints at the end 0 of all primitives. `NoMemory` is want of memory.
+/// The joints at the end 0 of all primitives. `NoMemory` is out of memory.
 pub fn port_table<P: Primitive>(
     alloc: Global,
     primitives: &[P],
     joints: &[Joint],
 ) -> Result<List<usize>, NoMemory>
-    requires { AreJoints (net_with P.behaviour primitives.now joints.now) }
-    ensures { IfOk result (λ table. ArePortJoints (net_with P.behaviour primitives.now joints.now) table) }
+    requires { AreJoints (net_of P.behaviour (wiring_of primitives.now 0 joints.now)) }
+    ensures { IfOk result (λ table. ArePortJoints (net_of P.behaviour (wiring_of primitives.now 0 joints.now)) table) }
 {
     let none = joints.len();
     let mut table = repeated(alloc, none, primitives.len())?;

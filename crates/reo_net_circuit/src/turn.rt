@@ -1,9 +1,9 @@
 //! No joints are to make a directed cycle of sides.
 ghost use Rattle.std.specs.Prelude.{◌≡◌, ℕ, ◌+◌, ◌<◌, IfOk, EachIndex, map, length, slice_index, slice_index_or};
-ghost use Rattle.reo_net_base.specs.Net.{behaviour_at, first_side, all_sides, side_at};
+ghost use Rattle.reo_net_base.specs.Net.{net_of, behaviour_at, first_side, all_sides, side_at};
 ghost use Rattle.reo_net_base.specs.Wired.{IsEnd};
 ghost use Rattle.reo_net_order.specs.Sorted.{IsSorted};
-ghost use Rattle.reo_net_circuit.specs.Parts.{net_with, AreJoints};
+ghost use Rattle.reo_net_circuit.specs.Parts.{wiring_of, AreJoints};
 ghost use Rattle.reo_net_circuit.specs.Layout.{AreFirsts};
 ghost use Rattle.reo_net_base.specs.Net.{from_sides, to_sides};
 
@@ -25,7 +25,7 @@ fn side_number<P: Primitive>(
     requires end { IsEnd (map P.behaviour primitives.now) end }
     requires firsts { AreFirsts (map P.behaviour primitives.now) firsts.now (length (map P.behaviour primitives.now)) }
     requires sides { sides ≡ length (all_sides (map P.behaviour primitives.now)) }
-    ensures number { result ≡ side_at (net_with P.behaviour primitives.now joints.now) end }
+    ensures number { result ≡ side_at (net_of P.behaviour (wiring_of primitives.now 0 joints.now)) end }
     ensures in_range { result < sides }
 {
     let _ = joints;
@@ -48,11 +48,11 @@ fn joint_sides<P: Primitive>(
     sides: usize,
     joints: &[Joint],
 ) -> Result<JointSides, NoMemory>
-    requires joints { AreJoints (net_with P.behaviour primitives.now joints.now) }
+    requires joints { AreJoints (net_of P.behaviour (wiring_of primitives.now 0 joints.now)) }
     requires firsts { AreFirsts (map P.behaviour primitives.now) firsts.now (length (map P.behaviour primitives.now)) }
     requires sides { sides ≡ length (all_sides (map P.behaviour primitives.now)) }
-    ensures from { IfOk result (λ made. made.from ≡ from_sides (net_with P.behaviour primitives.now joints.now)) }
-    ensures to { IfOk result (λ made. made.to ≡ to_sides (net_with P.behaviour primitives.now joints.now)) }
+    ensures from { IfOk result (λ made. made.from ≡ from_sides (net_of P.behaviour (wiring_of primitives.now 0 joints.now))) }
+    ensures to { IfOk result (λ made. made.to ≡ to_sides (net_of P.behaviour (wiring_of primitives.now 0 joints.now))) }
     ensures from_range { IfOk result (λ made. EachIndex made.from (λ k. slice_index made.from k < sides)) }
     ensures to_range { IfOk result (λ made. EachIndex made.to (λ k. slice_index made.to k < sides)) }
 {
@@ -74,10 +74,10 @@ pub fn joint_order<P: Primitive>(
     sides: usize,
     joints: &[Joint],
 ) -> Result<Sorted, NoMemory>
-    requires joints { AreJoints (net_with P.behaviour primitives.now joints.now) }
+    requires joints { AreJoints (net_of P.behaviour (wiring_of primitives.now 0 joints.now)) }
     requires firsts { AreFirsts (map P.behaviour primitives.now) firsts.now (length (map P.behaviour primitives.now)) }
     requires sides { sides ≡ length (all_sides (map P.behaviour primitives.now)) }
-    ensures { IfOk result (IsSorted (from_sides (net_with P.behaviour primitives.now joints.now)) (to_sides (net_with P.behaviour primitives.now joints.now))) }
+    ensures { IfOk result (IsSorted (from_sides (net_of P.behaviour (wiring_of primitives.now 0 joints.now))) (to_sides (net_of P.behaviour (wiring_of primitives.now 0 joints.now)))) }
 {
     let JointSides { from, to } = joint_sides(alloc, primitives, firsts, sides, joints)?;
     match order_or_cycle(alloc, from.as_slice(), to.as_slice(), sides) {

@@ -13,7 +13,7 @@ use Rattle.reo_net_base.specs.Net.{Net, Side, all_sides, sides_of, first_side, b
 use Rattle.reo_net_base.specs.Colouring.{taken_at, given_at, lets_in, ItemFits}
 use Rattle.reo_net_base.specs.Wired.{IsWired, IsEnd}
 use Rattle.reo_net_laws.specs.Parts.{is_joint_inside, IsClosed, IsAssignment}
-use Rattle.reo_net_laws.specs.Alike.{SameSide, AreAlike, net_of_parts}
+use Rattle.reo_net_laws.specs.Alike.{SameSide, AreAlike}
 use Rattle.reo_net_laws.proofs.Sides.{side_count, side_is, Owner, owner_of, owner_side, side_at_place, row_is, same_side_at, side_in_range, row_in_table, gives_at}
 use Rattle.reo_net_laws.proofs.Items.{given_same}
 
@@ -46,12 +46,13 @@ pub fits_same : (net other : Net) (a b : List ℕ) (xs ys : List (Option Value))
 fits_same net other a b xs ys j None m g l h = λ e. h (sym m ∙ e)
 fits_same net other a b xs ys j (Some item) m g l h = record { flows = m ∙ h.flows; given = g h.flows ∙ h.given; let_in = l item ∙ h.let_in }
 
-module _ (bs ds : List Behaviour) (js : List Joint) (wired : IsWired (net_of_parts bs js)) (inside : ℕ → Bool) (alike : AreAlike bs ds inside) where
+module _ (bs ds : List Behaviour) (js : List Joint) (wired : IsWired (record { primitives = bs; joints = js })) (inside : ℕ → Bool)
+    (alike : AreAlike (record { primitives = bs; joints = js }) (record { primitives = ds; joints = js }) inside) where
   abbrev net : Net
-  net = net_of_parts bs js
+  net = record { primitives = bs; joints = js }
 
   abbrev other : Net
-  other = net_of_parts ds js
+  other = record { primitives = ds; joints = js }
 
   pub first_same_at : (i : ℕ) → first_side ds i ≡ first_side bs i
   first_same_at = first_same bs ds alike.count alike.shape
@@ -133,10 +134,11 @@ module _ (bs ds : List Behaviour) (js : List Joint) (wired : IsWired (net_of_par
     }
 
 -- A circuit is alike to itself.
-alike_self : (bs : List Behaviour) (inside : ℕ → Bool) → AreAlike bs bs inside
-alike_self bs inside = record {
+alike_self : (net : Net) (inside : ℕ → Bool) → AreAlike net net inside
+alike_self net inside = record {
+  joints = refl;
   count = refl;
-  shape = λ i lt. record { ends = refl; sides = refl; side_of = λ end. refl; takes_in = λ end. refl };
+  shape = λ i lt. record { ends = refl; sides = refl; side_of = λ end. refl; takes_in = λ end. refl; leads = λ side. refl };
   sides = λ i side lt side_in h. record {
     rows = refl;
     mark = λ row end r is. refl;
@@ -153,4 +155,4 @@ pub agreeing : (net : Net) → IsWired net → (inside : ℕ → Bool) → IsClo
     → ((k : ℕ) → k < length (all_sides net.primitives) → inside k ≡ true → get_or rows k 0 ≡ get_or r k 0)
     → ((j : ℕ) (d : Joint) → j < length net.joints → is_joint_inside net inside (get_or net.joints j d) ≡ true → get_or items j None ≡ get_or others j None)
     → IsAssignment net inside rows items
-agreeing net wired inside closed = carried net.primitives net.primitives net.joints wired inside (alike_self net.primitives inside) closed
+agreeing net wired inside closed = carried net.primitives net.primitives net.joints wired inside (alike_self net inside) closed

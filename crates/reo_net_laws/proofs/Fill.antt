@@ -6,17 +6,15 @@ use Rattle.reo_net_base.specs.declared.mark.Mark.TheVariants.{F}
 use Rattle.reo_net_base.specs.declared.joint.End.{End}
 use Rattle.reo_net_base.specs.declared.joint.Joint.{Joint}
 use Rattle.reo_net_base.specs.Marks.{marks_match}
-use Rattle.reo_net_base.specs.Net.{Net, Side, all_sides, no_side, row_count, behaviour_at, end_of, side_at, row_at, mark_at}
+use Rattle.reo_net_base.specs.Net.{Net, Side, all_sides, no_side, row_count, behaviour_at, side_at, row_at, mark_at}
 use Rattle.reo_net_base.specs.Colouring.{AreRows, JointMatches, given_at, lets_in, ItemFits, IsColouring}
 use Rattle.reo_net_base.specs.Wired.{IsWired, IsOrder}
 use Rattle.reo_net_laws.specs.JamRows.{no_items}
 use Rattle.reo_net_laws.proofs.Sides.{row_below, below_or, side_in_range, row_in_table}
 use Rattle.reo_net_laws.proofs.Items.{fits_one, given_fed, along_order}
+use Rattle.reo_net_laws.proofs.Orders.{no_joint, place_in, place_of, fed_before}
 use Rattle.reo_net_laws.proofs.Assignments.{fits_same}
 use Rattle.reo_net_laws.proofs.Search.{Decided, all_below, bool_or, flow_or, eq_or}
-
-abbrev no_joint : Joint
-no_joint = record { giver = end_of 0 0; taker = end_of 0 0 }
 
 abbrev no_item : Option Value
 no_item = None
@@ -65,10 +63,10 @@ module _ (net : Net) (wired : IsWired net) (order : List ℕ) (is_order : IsOrde
       along_order net order is_order (λ j. (m : ℕ) → m < n → get_or order m 0 ≡ j → get_or xs j None ≡ get_or ys j None) (λ j j_in fed m m_lt is.
       fits_one net rows rows xs ys (get_or net.joints j no_joint) (get_or xs j None) (get_or ys j None) refl
       (given_fed net wired rows xs ys j no_joint j_in is_x.one_each is_y.one_each (below j no_joint j_in) (λ k e k_in feeds.
-      let earlier = is_order.fed m no_joint (omega (arith, m_lt, n_in)) k k_in (rw (is, get_or_default net.joints k no_joint e k_in) feeds) in
+      let earlier = fed_before net order is_order m no_joint (omega (arith, m_lt, n_in)) k e k_in (rw is feeds) in
       fed k no_joint e k_in feeds earlier.0 (omega (arith, earlier.1, m_lt)) earlier.2))
       (rw is at (is_x.fits m no_joint m_lt)) (rw is at (is_y.fits m no_joint m_lt)))
-      (get_or order m 0) (is_order.in_range m 0 (omega (arith, lt, n_in))) m lt refl
+      (get_or order m 0) (place_in net order is_order m (omega (arith, lt, n_in))) m lt refl
 
   -- One place more.
   module _ (n : ℕ) (n_in : n < length order) (items : List (Option Value)) (filled : IsFilledTo net rows order n items) where
@@ -76,16 +74,16 @@ module _ (net : Net) (wired : IsWired net) (order : List ℕ) (is_order : IsOrde
     here = get_or order n 0
 
     here_in : here < length net.joints
-    here_in = is_order.in_range n 0 n_in
+    here_in = place_in net order is_order n n_in
 
     -- An item there changes nothing of what is given at the places up to it.
     stays : (o : Option Value) (m : ℕ) (d : Joint) → m ≤ n → mark_at net rows (get_or net.joints (get_or order m 0) d).giver ≡ F
         → given_at net rows (set items here o) (get_or net.joints (get_or order m 0) d).giver ≡ given_at net rows items (get_or net.joints (get_or order m 0) d).giver
     stays o m d le =
         let m_in : m < length order = omega (arith, le, n_in) in
-        let range = is_order.in_range m 0 m_in in
+        let range = place_in net order is_order m m_in in
         given_fed net wired rows (set items here o) items (get_or order m 0) d range (length-set items here o ∙ filled.one_each) filled.one_each (below (get_or order m 0) d range) (λ k e k_in feeds.
-        let earlier = is_order.fed m d m_in k k_in (rw (get_or_default net.joints k d e k_in) feeds) in
+        let earlier = fed_before net order is_order m d m_in k e k_in feeds in
         get_or-set_other items here k o None (λ same. is_order.once earlier.0 n (omega (arith, earlier.1, le)) n_in (earlier.2 ∙ same)))
 
     with_item : (o : Option Value) → ItemFits net rows items (get_or net.joints here no_joint) o → IsFilledTo net rows order (suc n) (set items here o)
@@ -115,7 +113,7 @@ module _ (net : Net) (wired : IsWired net) (order : List ℕ) (is_order : IsOrde
                 get_or new.0 here None,
                 fits_same net net rows rows new.0 items joint (get_or new.0 here None) refl
                     (given_fed net wired rows items new.0 here no_joint here_in filled.one_each new.1.one_each (below here no_joint here_in) (λ k e k_in feeds.
-                    let earlier = is_order.fed n no_joint n_in k k_in (rw (get_or_default net.joints k no_joint e k_in) feeds) in
+                    let earlier = fed_before net order is_order n no_joint n_in k e k_in feeds in
                     rw earlier.2 at (one_to n items new.0 (omega (arith, n_in)) filled fewer earlier.0 earlier.1)))
                     (λ item. refl) (new.1.fits n no_joint (omega arith)),
               ))
@@ -137,13 +135,13 @@ module _ (net : Net) (wired : IsWired net) (order : List ℕ) (is_order : IsOrde
       elim matched_or [
         | inr none ↦ inr (λ found. none (λ j lt. found.1.rows_fit.matched j no_joint lt))
         | inl matched ↦ elim (filled_or (length order) (omega arith)) [
-          | inr none ↦ inr (λ found. none (found.0, record { one_each = found.1.one_each; fits = λ m d lt. found.1.items_fit (get_or order m 0) d (is_order.in_range m 0 lt) }))
+          | inr none ↦ inr (λ found. none (found.0, record { one_each = found.1.one_each; fits = λ m d lt. found.1.items_fit (get_or order m 0) d (place_in net order is_order m lt) }))
           | inl filled ↦ inl (
             filled.0,
             record {
               rows_fit = record { in_tables = are; matched = λ j d lt. rw (get_or_default net.joints j d no_joint lt) (matched j lt) };
               one_each = filled.1.one_each;
-              items_fit = λ j d lt. let place = is_order.each j lt in rw place.2 at (filled.1.fits place.0 d place.1);
+              items_fit = λ j d lt. let place = place_of net order is_order j lt in rw place.2 at (filled.1.fits place.0 d place.1);
             },
           )
         ]

@@ -13,11 +13,11 @@ use Rattle.reo_net_base.specs.Wired.{IsWired}
 use Rattle.reo_net_laws.specs.Parts.{IsClosed, IsAssignment, outside, mixed, mixed_items}
 use Rattle.reo_net_laws.specs.Keys.{IsLeastBy, ClassesLead, class_in}
 use Rattle.reo_net_laws.specs.Jams.{IsThreeColouring, jams}
-use Rattle.reo_net_laws.specs.FirstLaws.{FirstJamsForCause, PartJamsForCause, PartJamsExactly, NoneFlowsMore, FirstFlows, FlowsToo, Flows}
+use Rattle.reo_net_laws.specs.FirstLaws.{FirstJamsForCause, PartJamsForCause, KnotJamsExactly, NoneFlowsMore, FirstFlows, FlowsToo, Flows}
 use Rattle.reo_net_laws.proofs.Sides.{Owner, owner_of, owner_side, owner_at, side_at_place, side_in_range, row_is}
 use Rattle.reo_net_laws.proofs.Sets.{everywhere, everywhere_closed, restricted, smaller, and_left, and_right, not_true, outside_closed}
 use Rattle.reo_net_laws.proofs.Mixing.{mix, mix_in, mixed_true, mixed_false}
-use Rattle.reo_net_laws.proofs.Places.{cmp_within, positions_led}
+use Rattle.reo_net_laws.proofs.Places.{cmp_within, classes_lead}
 use Rattle.reo_net_laws.proofs.Jams.{is_jam, end_jams, jams_closed, row_of, plain_of, last_of}
 use Rattle.reo_net_laws.proofs.Classes.{class_at_most, class_below}
 use Rattle.reo_net_laws.proofs.Search.{Decided, any_below, flow_or}
@@ -115,10 +115,10 @@ module _ (net : Net) (wired : IsWired net) (turn : ℕ) (ps : List Position) (le
       ]
 
 pub part_jams : PartJamsForCause
-part_jams net wired inside closed turn rows items first = calm net wired turn (positions net turn) (positions_led net turn) inside closed rows items first.assignment first.least
+part_jams net wired inside closed turn rows items first = calm net wired turn (positions net turn) (classes_lead net turn) inside closed rows items first.assignment first.least
 
-pub part_jams_exactly : PartJamsExactly
-part_jams_exactly net wired inside part turn rows items first k lt h = (
+pub knot_jams_exactly : KnotJamsExactly
+knot_jams_exactly net wired inside part turn rows items first k lt h = (
   λ jam others other_items three.
       let calm : jams net rows k ≡ false = part_jams net wired inside part.closed turn rows items first others other_items three k lt h in
       let wrong : true ≡ false = sym jam ∙ calm in
@@ -139,7 +139,7 @@ pub first_jams : FirstJamsForCause
 first_jams net wired turn rows items first inside closed = part_jams net wired inside closed turn rows items (first_inside net wired turn rows items first inside closed)
 
 pub none_more : NoneFlowsMore
-none_more net wired turn rows items first = no_more net wired turn (positions net turn) (positions_led net turn) rows items first.colouring first.least
+none_more net wired turn rows items first = no_more net wired turn (positions net turn) (classes_lead net turn) rows items first.colouring first.least
 
 -- Some end flows, or none.
 flows_or : (net : Net) (rows : List ℕ) → Decided (Flows net rows)

@@ -1,18 +1,18 @@
 -- What an item hangs on.
-use Rattle.std.proofs.Common.{◌≡◌, ℕ, zero, suc, ◌+◌, ◌<◌, List, [], ◌∷◌, Option, None, Some, true, false, cond, length, get_or, refl, ap, sym, ◌∙◌, arith}
+use Rattle.std.proofs.Common.{◌≡◌, ℕ, zero, suc, ◌<◌, List, [], ◌∷◌, Option, None, Some, true, false, cond, length, get_or, refl, ap, sym, ◌∙◌, arith}
 use Rattle.std.specs.Option.{option_and_then}
 use Rattle.std.proofs.lemmas.Bool.Decides.{nat_tests}
-use Rattle.std.proofs.lemmas.List.{get_or_default}
 use Rattle.reo_values.specs.declared.value.Value.{Value}
 use Rattle.reo_net_base.specs.declared.mark.Mark.TheVariants.{F}
 use Rattle.reo_net_base.specs.declared.joint.End.{End}
 use Rattle.reo_net_base.specs.declared.joint.Joint.{Joint}
 use Rattle.reo_net_base.specs.Behaviour.{Behaviour, IsEndOf}
 use Rattle.reo_net_base.specs.Lawful.{GivesAt}
-use Rattle.reo_net_base.specs.Net.{Net, behaviour_at, first_side, end_of, end_eq, side_at, row_at, mark_at}
+use Rattle.reo_net_base.specs.Net.{Net, behaviour_at, end_of, end_eq, side_at, row_at, mark_at}
 use Rattle.reo_net_base.specs.Colouring.{taken_at, given_at, ItemFits}
-use Rattle.reo_net_base.specs.Wired.{IsWired, IsEnd, IsOrder, Feeds}
-use Rattle.reo_net_laws.proofs.Sides.{gives_at}
+use Rattle.reo_net_base.specs.Wired.{IsWired, IsEnd, IsOrder}
+use Rattle.reo_net_laws.proofs.Sides.{gives_at, same_side_at}
+use Rattle.reo_net_laws.proofs.Orders.{Feeds, place_in, place_of, fed_before}
 
 -- Ends that the test takes for one are one.
 pub end_is : (a b : End) → end_eq a b ≡ true → a ≡ b
@@ -75,17 +75,9 @@ pub given_fed : (net : Net) → IsWired net → (rows : List ℕ) (xs ys : List 
     → mark_at net rows (get_or net.joints j d).giver ≡ F → given_at net rows xs (get_or net.joints j d).giver ≡ given_at net rows ys (get_or net.joints j d).giver
 given_fed net wired rows xs ys j d lt m n below fed flows =
     let giver : End = (get_or net.joints j d).giver in
-    let at : Behaviour = behaviour_at net.primitives giver.primitive in
     let e_in = wired.givers j d lt in
     given_same net wired rows xs ys giver e_in m n (gives_at net wired giver e_in rows (wired.gives j d lt) below flows) (λ from k e from_in k_in taker.
-    fed k e k_in (record { same_primitive = ap (λ (x : End). x.primitive) taker; same_side = ap (λ (x : End). at.side_of x.end) taker ∙ from_in.1 }))
-
--- What feeds a joint comes in at the side that gives there.
-pub feeds_side : (net : Net) (earlier later : Joint) → Feeds net earlier later → side_at net earlier.taker ≡ side_at net later.giver
-unfolding side_at
-feeds_side net earlier later feeds =
-    (λ i. first_side net.primitives (feeds.same_primitive i) + (behaviour_at net.primitives (feeds.same_primitive i)).side_of earlier.taker.end)
-    ∙ ap (λ (s : ℕ). first_side net.primitives later.giver.primitive + s) feeds.same_side
+    fed k e k_in (ap (side_at net) taker ∙ same_side_at net giver from from_in))
 
 -- What holds of a joint as soon as it holds of those that feed it, holds of each joint.
 module _ (net : Net) (order : List ℕ) (is : IsOrder net order) (P : ℕ → Type 0)
@@ -93,9 +85,9 @@ module _ (net : Net) (order : List ℕ) (is : IsOrder net order) (P : ℕ → Ty
   up_to : (n m : ℕ) → m < n → m < length order → P (get_or order m 0)
   up_to zero m lt m_in = absurd (omega arith)
   up_to (suc n) m lt m_in =
-      step (get_or order m 0) (is.in_range m 0 m_in) (λ k d e k_in feeds.
-      let earlier = is.fed m d m_in k k_in (rw (get_or_default net.joints k d e k_in) feeds) in
+      step (get_or order m 0) (place_in net order is m m_in) (λ k d e k_in feeds.
+      let earlier = fed_before net order is m d m_in k e k_in feeds in
       rw earlier.2 at (up_to n earlier.0 (omega (arith, earlier.1)) (omega (arith, earlier.1))))
 
   pub along_order : (j : ℕ) → j < length net.joints → P j
-  along_order j lt = let place = is.each j lt in rw place.2 at (up_to (length order) place.0 place.1 place.1)
+  along_order j lt = let place = place_of net order is j lt in rw place.2 at (up_to (length order) place.0 place.1 place.1)

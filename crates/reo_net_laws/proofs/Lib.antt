@@ -8,11 +8,13 @@ pub mod Isolation
 pub mod Items
 pub mod JamRows
 pub mod Jams
+pub mod Leading
 pub mod Joined
 pub mod Least
 pub mod Mixing
 pub mod OneFirst
 pub mod OneItems
+pub mod Orders
 pub mod Places
 pub mod Reasons
 pub mod Search

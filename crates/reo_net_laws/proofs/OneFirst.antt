@@ -7,7 +7,7 @@ use Rattle.std.specs.Ordering.{ordering_reverse}
 use Rattle.std.specs.Cmp.Lexicographic.{nat_list_cmp_total}
 use Rattle.std.specs.FinMap.{slice_cmp-IsAntisymmetric, nat_cmp-IsAntisymmetric}
 use Rattle.reo_net_base.specs.Net.{Side, all_sides}
-use Rattle.reo_net_base.specs.First.{Position, key_at, class_positions, row_positions, positions, order_by}
+use Rattle.reo_net_base.specs.First.{Position, key_at, leading_positions, class_positions, row_positions, positions, order_by}
 use Rattle.reo_net_laws.specs.Keys.{within}
 use Rattle.reo_net_laws.specs.FirstLaws.{FirstIsOneInside, FirstIsOne}
 use Rattle.reo_net_laws.proofs.OneItems.{one_items, one_colouring}
@@ -59,7 +59,8 @@ one_inside net wired order is_order inside closed turn a b xs ys first_a first_b
     let ss : List Side = all_sides net.primitives in
     let keys = same_keys (within inside (positions net turn)) a b (first_b.least a xs first_a.assignment) (first_a.least b ys first_b.assignment) in
     let rows : (k : ℕ) → k < length ss → inside k ≡ true → get_or a k 0 ≡ get_or b k 0 = λ k lt h.
-    rw zero-add at (rows_agree inside a b ss 0 (agree_later inside a b (class_positions turn ss 0) (row_positions ss 0) (agree inside a b (positions net turn) keys)) k lt (rw zero-add h)) in
+    rw zero-add at (rows_agree inside a b ss 0 (agree_later inside a b (class_positions turn ss 0) (row_positions ss 0)
+    (agree_later inside a b (leading_positions turn ss 0) (class_positions turn ss 0 ++ row_positions ss 0) (agree inside a b (positions net turn) keys))) k lt (rw zero-add h)) in
     record { rows = rows; items = λ j d lt h. one_items net wired order is_order inside closed a b xs ys first_a.assignment first_b.assignment rows j lt d h }
 
 pub one_first : FirstIsOne

@@ -4,12 +4,13 @@ use Rattle.std.proofs.lemmas.List.{get_or_default, same_lists}
 use Rattle.reo_values.specs.declared.value.Value.{Value}
 use Rattle.reo_net_base.specs.declared.joint.End.{End}
 use Rattle.reo_net_base.specs.declared.joint.Joint.{Joint}
-use Rattle.reo_net_base.specs.Net.{Net, all_sides, side_at, side_of_end, row_at, end_of}
+use Rattle.reo_net_base.specs.Net.{Net, all_sides, side_at, side_of_end, row_at}
 use Rattle.reo_net_base.specs.Wired.{IsWired, IsOrder}
 use Rattle.reo_net_laws.specs.Parts.{is_joint_inside, IsClosed, IsAssignment}
 use Rattle.reo_net_laws.specs.PartLaws.{OneColouringForRows}
 use Rattle.reo_net_laws.proofs.Sides.{row_is, side_in_range, row_in_table}
-use Rattle.reo_net_laws.proofs.Items.{fits_one, mark_moved, given_moved, given_fed, feeds_side, along_order}
+use Rattle.reo_net_laws.proofs.Items.{fits_one, mark_moved, given_moved, given_fed, along_order}
+use Rattle.reo_net_laws.proofs.Orders.{no_joint}
 use Rattle.reo_net_laws.proofs.Sets.{everywhere, everywhere_closed, restricted}
 
 -- Assignments of a closed set that have the same rows there have the same items there.
@@ -28,13 +29,10 @@ one_items net wired order is_order inside closed a b xs ys is_a is_b same_rows =
     fits_one net a b xs ys joint (get_or xs j None) (get_or ys j None) mark
     (λ flows.
     given_fed net wired a xs ys j d lt is_a.one_item is_b.one_item below (λ k e k_in feeds.
-    fed k d e k_in feeds e (closed.along k e k_in ∙ ap inside (feeds_side net (get_or net.joints k e) joint feeds) ∙ h))
+    fed k d e k_in feeds e (closed.along k e k_in ∙ ap inside feeds ∙ h))
     (mark ∙ flows)
     ∙ given_moved net a b ys giver row)
     (is_a.items_fit j d lt h) (is_b.items_fit j d lt h))
-
-abbrev no_joint : Joint
-no_joint = record { giver = end_of 0 0; taker = end_of 0 0 }
 
 pub one_colouring : OneColouringForRows
 one_colouring net wired order is_order rows xs ys col_x col_y =

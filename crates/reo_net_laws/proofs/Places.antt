@@ -1,5 +1,5 @@
 -- Comparing by a list of places.
-use Rattle.std.proofs.Common.{◌≡◌, ◌⊎◌, inl, inr, ℕ, zero, suc, ◌+◌, ◌<◌, ◌≤◌, List, [], ◌∷◌, ◌++◌, Bool, true, false, cond, length, get_or, refl, ap, sym, ◌∙◌, arith, add-zero, zero-add, append_assoc, map}
+use Rattle.std.proofs.Common.{◌≡◌, ◌⊎◌, inl, inr, ℕ, zero, suc, ◌+◌, ◌<◌, ◌≤◌, List, [], ◌∷◌, ◌++◌, Bool, true, false, cond, length, get_or, refl, ap, sym, ◌∙◌, arith, add-zero, zero-add, append_assoc}
 use Rattle.std.specs.Bool.{◌==◌}
 use Rattle.std.proofs.lemmas.List.{get_or_default}
 use Rattle.std.proofs.lemmas.Bool.Decides.{nat_tests}
@@ -9,8 +9,8 @@ use Rattle.std.specs.declared.cmp.Ordering.TheVariants.{Less, Equal, Greater}
 use Rattle.std.specs.Ordering.{nat_cmp, ordering_then}
 use Rattle.std.specs.Cmp.{nat_cmp_is}
 use Rattle.reo_net_base.specs.Net.{Net, Side, all_sides, no_side}
-use Rattle.reo_net_base.specs.First.{Position, key_at, class_positions, row_positions, positions, order_by}
-use Rattle.reo_net_laws.specs.Keys.{within, class_in, class_position, AreInRange, ClassesLead, AreSides, ClassesAlwaysLead}
+use Rattle.reo_net_base.specs.First.{Position, key_at, is_leading, class_position, leading_positions, class_positions, row_positions, positions, order_by}
+use Rattle.reo_net_laws.specs.Keys.{within, AreInRange, ClassesAlwaysLead}
 use Rattle.reo_net_laws.proofs.Sets.{same_test}
 
 pub equal_numbers : (x y : ℕ) → x ≡ y → nat_cmp x y ≡ Equal
@@ -44,7 +44,7 @@ module _ (inside : ℕ → Bool) where
         | false ↦ λ e. ap (λ (o : Ordering). ordering_then o (order_by ps x y)) (equal_numbers a b (ap p.number (h p.side e))) ∙ rest
       ] refl
 
-key-append : (ps qs : List Position) (rows : List ℕ) → key_at (ps ++ qs) rows ≡ key_at ps rows ++ key_at qs rows
+pub key-append : (ps qs : List Position) (rows : List ℕ) → key_at (ps ++ qs) rows ≡ key_at ps rows ++ key_at qs rows
 key-append [] qs rows = refl
 key-append (p ∷ ps) qs rows = ap (λ (xs : List ℕ). p.number (get_or rows p.side 0) ∷ xs) (key-append ps qs rows)
 
@@ -142,12 +142,6 @@ rows_in_range : (n : ℕ) (ss : List Side) (k : ℕ) → k + length ss ≤ n →
 rows_in_range n [] k h = tt
 rows_in_range n (s ∷ ss) k h = (omega arith, rows_in_range n ss (suc k) (omega arith))
 
-pub positions_in_range : (net : Net) (turn : ℕ) → AreInRange (length (all_sides net.primitives)) (positions net turn)
-positions_in_range net turn =
-    let n : ℕ = length (all_sides net.primitives) in
-    in_range-append n (class_positions turn (all_sides net.primitives) 0) (row_positions (all_sides net.primitives) 0)
-    (classes_in_range turn n (all_sides net.primitives) 0 (omega arith)) (rows_in_range n (all_sides net.primitives) 0 (omega arith))
-
 not_above-append : (ps qs : List Position) (x y : List ℕ) → NotAbove ps x y → NotAbove qs x y → NotAbove (ps ++ qs) x y
 not_above-append [] qs x y h g = g
 not_above-append (p ∷ ps) qs x y h g = (h.0, not_above-append ps qs x y h.1 g)
@@ -156,29 +150,43 @@ some_below-append : (ps qs : List Position) (x y : List ℕ) → SomeBelow qs x 
 some_below-append [] qs x y g = g
 some_below-append (p ∷ ps) qs x y g = inr (some_below-append ps qs x y g)
 
-front_in_range : (net : Net) (turn : ℕ) (leading : List ℕ) → AreSides net leading → AreInRange (length (all_sides net.primitives)) (map (class_position net turn) leading)
-front_in_range net turn [] h = tt
-front_in_range net turn (k ∷ ks) h = (h.0, front_in_range net turn ks h.1)
+-- The classes of those sides that lead, from a side on.
+leading_in_range : (turn n : ℕ) (ss : List Side) (k : ℕ) → k + length ss ≤ n → AreInRange n (leading_positions turn ss k)
+leading_in_range turn n [] k h = tt
+leading_in_range turn n (s ∷ ss) k h =
+    let later : List Position = leading_positions turn ss (suc k) in
+    let rest : AreInRange n later = leading_in_range turn n ss (suc k) (omega arith) in
+    elim (is_leading s) as (λ t. AreInRange n (cond t (class_position turn s k ∷ later) later)) [ true ↦ (omega arith, rest) | false ↦ rest ]
 
-front_not_above : (net : Net) (turn : ℕ) (leading : List ℕ) (x y : List ℕ) → AreSides net leading
-    → ((k : ℕ) → k < length (all_sides net.primitives) → class_in net turn x k ≤ class_in net turn y k) → NotAbove (map (class_position net turn) leading) x y
-front_not_above net turn [] x y h each = tt
-front_not_above net turn (k ∷ ks) x y h each = (each k h.0, front_not_above net turn ks x y h.1 each)
+leading_not_above : (turn : ℕ) (ss : List Side) (k : ℕ) (x y : List ℕ) → ((j : ℕ) (e : Side) → j < length ss → (get_or ss j e).of.class (get_or ss j e).number (get_or x (k + j) 0) turn ≤ (get_or ss j e).of.class (get_or ss j e).number (get_or y (k + j) 0) turn)
+    → NotAbove (leading_positions turn ss k) x y
+leading_not_above turn [] k x y h = tt
+leading_not_above turn (s ∷ ss) k x y h =
+    let later : List Position = leading_positions turn ss (suc k) in
+    let rest : NotAbove later x y = leading_not_above turn ss (suc k) x y (λ j e lt.
+    let shift : k + suc j ≡ suc k + j = omega arith in
+    rw shift at (h (suc j) e (omega arith))) in
+    elim (is_leading s) as (λ t. NotAbove (cond t (class_position turn s k ∷ later) later) x y) [ true ↦ (rw add-zero at (h zero s (omega arith)), rest) | false ↦ rest ]
 
--- Leading sides may come first, as many as one likes.
-pub leading_led : ClassesAlwaysLead
-leading_led net turn leading leads =
+pub positions_in_range : (net : Net) (turn : ℕ) → AreInRange (length (all_sides net.primitives)) (positions net turn)
+positions_in_range net turn =
     let ss : List Side = all_sides net.primitives in
-    let front : List Position = map (class_position net turn) leading in
+    let n : ℕ = length ss in
+    in_range-append n (leading_positions turn ss 0) (class_positions turn ss 0 ++ row_positions ss 0) (leading_in_range turn n ss 0 (omega arith))
+    (in_range-append n (class_positions turn ss 0) (row_positions ss 0) (classes_in_range turn n ss 0 (omega arith)) (rows_in_range n ss 0 (omega arith)))
+
+-- Whichever sides lead, the classes decide.
+pub classes_lead : ClassesAlwaysLead
+classes_lead net turn =
+    let ss : List Side = all_sides net.primitives in
+    let front : List Position = leading_positions turn ss 0 in
     record {
-      in_range = in_range-append (length ss) front (positions net turn) (front_in_range net turn leading leads) (positions_in_range net turn);
+      in_range = positions_in_range net turn;
       decided = λ x y each k lt less.
+          let each_side : (j : ℕ) (e : Side) → j < length ss → (get_or ss j e).of.class (get_or ss j e).number (get_or x (0 + j) 0) turn ≤ (get_or ss j e).of.class (get_or ss j e).number (get_or y (0 + j) 0) turn =
+          λ j e j_lt. rw (get_or_default ss j e no_side j_lt, zero-add) (each j j_lt) in
           rw (sym (append_assoc front (class_positions turn ss 0) (row_positions ss 0)))
           (less_by (front ++ class_positions turn ss 0) (row_positions ss 0) x y
-          (not_above-append front (class_positions turn ss 0) x y (front_not_above net turn leading x y leads each)
-          (classes_not_above turn ss 0 x y (λ j e j_lt. rw (get_or_default ss j e no_side j_lt, zero-add) (each j j_lt))))
+          (not_above-append front (class_positions turn ss 0) x y (leading_not_above turn ss 0 x y each_side) (classes_not_above turn ss 0 x y each_side))
           (some_below-append front (class_positions turn ss 0) x y (classes_some_below turn ss 0 x y k no_side lt (rw zero-add less))));
     }
-
-pub positions_led : (net : Net) (turn : ℕ) → ClassesLead net turn (positions net turn)
-positions_led net turn = leading_led net turn [] tt

@@ -1,7 +1,6 @@
 -- Circuits of one shape that are alike on a set of sides.
 use Rattle.std.specs.Prelude.{ℕ, ◌+◌, ◌<◌, ◌≡◌, Bool, true, List, Option, length}
 use Rattle.reo_values.specs.declared.value.Value.{Value}
-use Rattle.reo_net_base.specs.declared.joint.Joint.{Joint}
 use Rattle.reo_net_base.specs.Behaviour.{Behaviour, IsEndOf}
 use Rattle.reo_net_base.specs.Lawful.{SameShape, GivesAt}
 use Rattle.reo_net_base.specs.Net.{Net, first_side, behaviour_at}
@@ -20,24 +19,22 @@ pub record SameSide (b d : Behaviour) (side : ℕ) : Type 0 where
   pub given : (row end : ℕ) (taken : Option Value) → GivesAt b side row end → d.given side row end taken ≡ b.given side row end taken
   pub passes : (row end : ℕ) (item : Value) → row < b.rows side → IsEndOf b side end → b.takes_in end ≡ true → d.passes side row end item ≡ b.passes side row end item
 
--- Primitives of the same shape, alike at the sides of a set.
-pub record AreAlike (bs ds : List Behaviour) (inside : ℕ → Bool) : Type 0 where
-  pub count : length ds ≡ length bs
-  pub shape : (i : ℕ) → i < length bs → SameShape (behaviour_at bs i) (behaviour_at ds i)
-  pub sides : (i side : ℕ) → i < length bs → side < (behaviour_at bs i).sides → inside (first_side bs i + side) ≡ true → SameSide (behaviour_at bs i) (behaviour_at ds i) side
-
--- These primitives with these joints.
-abbrev pub net_of_parts : List Behaviour → List Joint → Net
-net_of_parts bs js = record { primitives = bs; joints = js }
+-- Circuits of the same shape with the same joints, alike at the sides of a set.
+pub record AreAlike (net other : Net) (inside : ℕ → Bool) : Type 0 where
+  pub joints : other.joints ≡ net.joints
+  pub count : length other.primitives ≡ length net.primitives
+  pub shape : (i : ℕ) → i < length net.primitives → SameShape (behaviour_at net.primitives i) (behaviour_at other.primitives i)
+  pub sides : (i side : ℕ) → i < length net.primitives → side < (behaviour_at net.primitives i).sides
+      → inside (first_side net.primitives i + side) ≡ true → SameSide (behaviour_at net.primitives i) (behaviour_at other.primitives i) side
 
 -- What is first on a closed set is also first there in a circuit that is alike on the set.
 abbrev pub IsIsolated : Type 0
-IsIsolated = (bs ds : List Behaviour) (js : List Joint) → IsWired (net_of_parts bs js) → IsWired (net_of_parts ds js) → (inside : ℕ → Bool) → IsClosed (net_of_parts bs js) inside → AreAlike bs ds inside
-    → (turn : ℕ) (rows : List ℕ) (items : List (Option Value)) → IsFirstIn (net_of_parts bs js) inside turn rows items → IsFirstIn (net_of_parts ds js) inside turn rows items
+IsIsolated = (net other : Net) → IsWired net → IsWired other → (inside : ℕ → Bool) → IsClosed net inside → AreAlike net other inside
+    → (turn : ℕ) (rows : List ℕ) (items : List (Option Value)) → IsFirstIn net inside turn rows items → IsFirstIn other inside turn rows items
 
 -- The first colourings of two circuits that are alike on a closed set have the same rows and items there.
 abbrev pub FirstsAgree : Type 0
-FirstsAgree = (bs ds : List Behaviour) (js : List Joint) → IsWired (net_of_parts bs js) → IsWired (net_of_parts ds js) → (order : List ℕ) → IsOrder (net_of_parts ds js) order
-    → (inside : ℕ → Bool) → IsClosed (net_of_parts bs js) inside → AreAlike bs ds inside
-    → (turn : ℕ) (rows others : List ℕ) (items other_items : List (Option Value)) → IsFirst (net_of_parts bs js) turn rows items → IsFirst (net_of_parts ds js) turn others other_items
-    → AreSameIn (net_of_parts ds js) inside rows others items other_items
+FirstsAgree = (net other : Net) → IsWired net → IsWired other → (order : List ℕ) → IsOrder other order
+    → (inside : ℕ → Bool) → IsClosed net inside → AreAlike net other inside
+    → (turn : ℕ) (rows others : List ℕ) (items other_items : List (Option Value)) → IsFirst net turn rows items → IsFirst other turn others other_items
+    → AreSameIn other inside rows others items other_items

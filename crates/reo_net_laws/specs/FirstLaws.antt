@@ -73,8 +73,8 @@ PartJamsForCause = (net : Net) → IsWired net → (inside : ℕ → Bool) → I
     → (others : List ℕ) (other_items : List (Option Value)) → IsThreeColouring net inside others other_items
     → (k : ℕ) → k < length (all_sides net.primitives) → inside k ≡ true → jams net rows k ≡ false
 
--- The first assignment of a part jams each of its sides exactly where the part has no three-colouring.
-abbrev pub PartJamsExactly : Type 0
-PartJamsExactly = (net : Net) → IsWired net → (inside : ℕ → Bool) → IsKnot net inside → (turn : ℕ) (rows : List ℕ) (items : List (Option Value)) → IsFirstIn net inside turn rows items
+-- The first assignment of a knot jams each of its sides exactly where the knot has no three-colouring.
+abbrev pub KnotJamsExactly : Type 0
+KnotJamsExactly = (net : Net) → IsWired net → (inside : ℕ → Bool) → IsKnot net inside → (turn : ℕ) (rows : List ℕ) (items : List (Option Value)) → IsFirstIn net inside turn rows items
     → (k : ℕ) → k < length (all_sides net.primitives) → inside k ≡ true
     → (jams net rows k ≡ true) ↔ ((others : List ℕ) (other_items : List (Option Value)) → IsThreeColouring net inside others other_items → ⊥)

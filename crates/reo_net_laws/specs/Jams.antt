@@ -15,7 +15,7 @@ pub record IsThreeColouring (net : Net) (inside : ℕ → Bool) (rows : List ℕ
   pub assignment : IsAssignment net inside rows items
   pub no_jam : (k : ℕ) → k < length (all_sides net.primitives) → inside k ≡ true → jams net rows k ≡ false
 
--- A colouring jams a part as a whole.
+-- A colouring jams a knot as a whole.
 abbrev pub JamsWhole : Type 0
 JamsWhole = (net : Net) → IsWired net → (rows : List ℕ) (items : List (Option Value)) → IsColouring net rows items
     → (s t : ℕ) → SameKnot net s t → jams net rows s ≡ jams net rows t

@@ -1,9 +1,9 @@
 -- The order of colourings, restricted to a set of sides.
-use Rattle.std.specs.Prelude.{ℕ, ◌<◌, ◌≤◌, ◌≢◌, ◌≡◌, Bool, List, [], ◌∷◌, ◌++◌, Option, length, map, filter, slice_index, slice_index_or}
+use Rattle.std.specs.Prelude.{ℕ, ◌<◌, ◌≤◌, ◌≢◌, ◌≡◌, Bool, List, [], ◌∷◌, Option, length, filter, slice_index, slice_index_or}
 use Rattle.std.specs.declared.cmp.Ordering.TheVariants.{Less}
 use Rattle.reo_values.specs.declared.value.Value.{Value}
 use Rattle.reo_net_base.specs.Net.{Net, all_sides, no_side}
-use Rattle.reo_net_base.specs.First.{Position, positions, order_by}
+use Rattle.reo_net_base.specs.First.{Position, is_leading, positions, order_by}
 use Rattle.reo_net_laws.specs.Parts.{IsAssignment}
 
 -- The places of the sides of a set.
@@ -31,6 +31,10 @@ class_of net turn k row = (slice_index_or (all_sides net.primitives) k no_side).
 abbrev pub class_in : Net → ℕ → List ℕ → ℕ → ℕ
 class_in net turn rows k = class_of net turn k (slice_index rows k)
 
+-- Whether a side leads.
+abbrev pub leads_at : Net → ℕ → Bool
+leads_at net k = is_leading (slice_index_or (all_sides net.primitives) k no_side)
+
 -- The places are of the first n sides.
 abbrev pub AreInRange : ℕ → List Position → Type 0
 AreInRange n [] = Unit {0}
@@ -42,19 +46,6 @@ pub record ClassesLead (net : Net) (turn : ℕ) (ps : List Position) : Type 0 wh
   pub decided : (x y : List ℕ) → ((k : ℕ) → k < length (all_sides net.primitives) → class_in net turn x k ≤ class_in net turn y k)
       → (k : ℕ) → k < length (all_sides net.primitives) → class_in net turn x k < class_in net turn y k → order_by ps x y ≡ Less
 
--- The place of the class of a side.
-abbrev pub class_position : Net → ℕ → ℕ → Position
-class_position net turn k = record { side = k; number = class_of net turn k }
-
--- The classes of some leading sides, and then the places of all sides.
-abbrev pub leading_positions : Net → ℕ → List ℕ → List Position
-leading_positions net turn leading = map (class_position net turn) leading ++ positions net turn
-
--- All sides of a list are sides of the circuit.
-abbrev pub AreSides : Net → List ℕ → Type 0
-AreSides net [] = Unit {0}
-AreSides net (k ∷ ks) = (k < length (all_sides net.primitives)) × AreSides net ks
-
 -- Whichever sides lead, the classes decide.
 abbrev pub ClassesAlwaysLead : Type 0
-ClassesAlwaysLead = (net : Net) (turn : ℕ) (leading : List ℕ) → AreSides net leading → ClassesLead net turn (leading_positions net turn leading)
+ClassesAlwaysLead = (net : Net) (turn : ℕ) → ClassesLead net turn (positions net turn)

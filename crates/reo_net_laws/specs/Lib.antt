@@ -1,10 +1,12 @@
 pub mod Alike
+pub mod Cycles
 pub mod Differences
 pub mod Ends
 pub mod FirstLaws
 pub mod JamRows
 pub mod Jams
 pub mod Keys
+pub mod Leading
 pub mod PartLaws
 pub mod Parts
 pub mod Reasons

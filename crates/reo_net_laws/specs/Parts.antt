@@ -17,7 +17,7 @@ IsClosed net inside = IsClosedBelow net (length net.joints) inside
 abbrev pub IsLinked : Net → ℕ → ℕ → ℕ → Type 0
 IsLinked net n s t = (inside : ℕ → Bool) → IsClosedBelow net n inside → inside s ≡ inside t
 
--- Two sides of one part.
+-- Two sides of one knot: joints link them.
 abbrev pub SameKnot : Net → ℕ → ℕ → Type 0
 SameKnot net s t = IsLinked net (length net.joints) s t
 

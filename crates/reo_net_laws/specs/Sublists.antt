@@ -1,9 +1,9 @@
 -- The rows of the sides of a set, as a list.
-use Rattle.std.specs.Prelude.{ℕ, ◌≡◌, Bool, List, [], ◌∷◌, ◌++◌, length, map, filter, slice_index}
+use Rattle.std.specs.Prelude.{ℕ, ◌≡◌, Bool, cond, List, [], ◌∷◌, ◌++◌, length, map, filter, slice_index}
 use Rattle.std.specs.List.{range_with_len}
 use Rattle.reo_net_base.specs.Net.{Net, all_sides}
 use Rattle.reo_net_base.specs.First.{key_at, positions}
-use Rattle.reo_net_laws.specs.Keys.{within, class_of}
+use Rattle.reo_net_laws.specs.Keys.{within, class_of, leads_at}
 
 -- The sides of a set, in order.
 abbrev pub sides_in : Net → (ℕ → Bool) → List ℕ
@@ -19,9 +19,15 @@ part_classes net turn [] rows = []
 part_classes net turn (k ∷ ks) [] = []
 part_classes net turn (k ∷ ks) (r ∷ rs) = class_of net turn k r ∷ part_classes net turn ks rs
 
--- The classes of the rows of some sides, and then the rows.
+-- The classes of the rows of those of some sides that lead.
+abbrev pub part_leading : Net → ℕ → List ℕ → List ℕ → List ℕ
+part_leading net turn [] rows = []
+part_leading net turn (k ∷ ks) [] = []
+part_leading net turn (k ∷ ks) (r ∷ rs) = cond (leads_at net k) (class_of net turn k r ∷ part_leading net turn ks rs) (part_leading net turn ks rs)
+
+-- What the rows of some sides are compared by: the classes of those of them that lead, then the classes of all of them, and then the rows.
 abbrev pub part_key : Net → ℕ → List ℕ → List ℕ → List ℕ
-part_key net turn sides rows = part_classes net turn sides rows ++ rows
+part_key net turn sides rows = part_leading net turn sides rows ++ (part_classes net turn sides rows ++ rows)
 
 -- The key of the rows of a set is the key of the whole at the places of its sides.
 abbrev pub PartKeys : Type 0

@@ -29,7 +29,7 @@ pub fn each_part()
     ensures { EachPart }
 {}
 
-/// A colouring jams a part as a whole.
+/// A colouring jams a knot as a whole.
 pub fn jams_whole()
     ensures { JamsWhole }
 {}

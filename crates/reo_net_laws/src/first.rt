@@ -1,5 +1,5 @@
 //! The first colouring and the first assignment of a closed set.
-ghost use Rattle.reo_net_laws.specs.FirstLaws.{FirstExists, FirstIsOne, FirstIsOneInside, FirstInside, FirstByParts, FirstFlows, NoneFlowsMore, FirstJamsForCause, PartJamsForCause, PartJamsExactly};
+ghost use Rattle.reo_net_laws.specs.FirstLaws.{FirstExists, FirstIsOne, FirstIsOneInside, FirstInside, FirstByParts, FirstFlows, NoneFlowsMore, FirstJamsForCause, PartJamsForCause, KnotJamsExactly};
 ghost use Rattle.reo_net_laws.specs.Alike.{IsIsolated, FirstsAgree};
 
 /// Where the joints have an order, there is a first colouring.
@@ -47,9 +47,9 @@ pub fn part_jams_for_cause()
     ensures { PartJamsForCause }
 {}
 
-/// The first assignment of a part jams its sides exactly where the part has no three-colouring.
-pub fn part_jams_exactly()
-    ensures { PartJamsExactly }
+/// The first assignment of a knot jams its sides exactly where the knot has no three-colouring.
+pub fn knot_jams_exactly()
+    ensures { KnotJamsExactly }
 {}
 
 /// What is first on a closed set is also first there in a circuit that is alike on the set.

@@ -95,7 +95,7 @@ pair_parts k y old p item rest h e =
     let x = in_pair y item (subst (λ t. IsIn item t) p h) in
     (x.0, x.1, x.2, x.3, e ∙ (λ i. text_of (x.1 i) (p i) ++ rest) ∙ pair_text x.0 y rest)
 
--- a fault that says something was there says no want of memory
+-- a fault that says something was there does not say out of memory
 pub reads_none : {X : Type 0} (d : ReadFault) (left : List ℕ) (x : X) (rest : List ℕ) → Reads (Err d) left x rest → d ≡ fault.NotALiteral → ⊥
 reads_none fault.NotALiteral left x rest reads failed = reads
 reads_none fault.NoMemory left x rest reads failed = absurd (cc)

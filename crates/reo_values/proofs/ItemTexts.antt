@@ -19,7 +19,8 @@ use Rattle.reo_values.specs.declared.kindred.Kindred.TheVariants as kinds
 use Rattle.reo_values.specs.ItemText.{text_of}
 use Rattle.reo_values.specs.Kind.{IsIn}
 use Rattle.reo_values.specs.Reading.{IsWord, Ends, HasWords}
-use Rattle.reo_values.specs.Valid.{IsName, AreNames, IsValid}
+use Rattle.reo_values.specs.Names.{IsName}
+use Rattle.reo_values.specs.Valid.{AreNames, IsValid}
 use Rattle.reo_values.proofs.Members.{in_unit, in_bool, in_int, in_sym, in_text, in_pair}
 use Rattle.reo_values.proofs.Numbers.{fits_between, mag_small}
 use Rattle.reo_values.proofs.Pairs.{Pair_of-equal, text_of-Pair}

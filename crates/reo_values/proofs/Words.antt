@@ -6,7 +6,7 @@ use Rattle.std.specs.Fmt.{decimal, signed_decimal}
 use Rattle.std.proofs.lemmas.Fmt.{decimal_by_steps}
 use Rattle.std.proofs.lemmas.List.Elements.{All-nil, All-cons, All-head, All-tail, All-push, All-weaker}
 use Rattle.reo_values.specs.Reading.{IsEnd, IsWord, Ends}
-use Rattle.reo_values.specs.Valid.{IsName, IsNameByte}
+use Rattle.reo_values.specs.Names.{IsName, IsNameByte}
 use Rattle.reo_values.proofs.Numbers.{mag_small}
 
 -- the first byte, where there is one

@@ -2,6 +2,7 @@
 use Rattle.std.specs.Prelude.{ℕ, Bool, List, [], ◌∷◌, ◌++◌, codes, slice_index_or, if◌then◌else◌, ◌==◌, ◌||◌}
 use Rattle.std.specs.List.{flat_map}
 use Rattle.std.specs.Fmt.{signed_decimal}
+use Rattle.reo_values.specs.Bytes.{quote, backslash, opening, comma, closing}
 use Rattle.reo_values.specs.declared.value.Value as value
 use Rattle.reo_values.specs.declared.kindred.Kindred as kindred
 use Rattle.reo_values.specs.declared.value.Value.{Value}
@@ -9,11 +10,11 @@ use Rattle.reo_values.specs.declared.kindred.Kindred.{Kindred}
 
 -- a quote and a backslash have a backslash before them
 abbrev pub escape : ℕ → List ℕ
-escape byte = if (byte == 34) || (byte == 92) then 92 ∷ byte ∷ [] else byte ∷ []
+escape byte = if (byte == quote) || (byte == backslash) then backslash ∷ byte ∷ [] else byte ∷ []
 
 -- bytes between quotes
 abbrev pub quoted : List ℕ → List ℕ
-quoted bytes = 34 ∷ flat_map escape bytes ++ 34 ∷ []
+quoted bytes = quote ∷ flat_map escape bytes ++ quote ∷ []
 
 -- a truth value's word
 abbrev pub truth_text : Bool → List ℕ
@@ -26,5 +27,6 @@ text_of (value.Bool b) kindred.Bool = truth_text b
 text_of (value.Int z) (kindred.Int low high) = signed_decimal z
 text_of (value.Sym k) (kindred.Sym names) = slice_index_or names k []
 text_of (value.Text bytes) (kindred.Text most) = quoted bytes
-text_of (value.Pair' m (value.more_of-Couple x y _)) (kindred.Pair' n (kindred.more_of-Twins a b _)) = 40 ∷ text_of x a ++ 44 ∷ text_of y b ++ 41 ∷ []
+text_of (value.Pair' m (value.more_of-Couple x y _)) (kindred.Pair' n (kindred.more_of-Twins a b _)) =
+    opening ∷ text_of x a ++ comma ∷ text_of y b ++ closing ∷ []
 text_of _ _ = []

@@ -1,7 +1,9 @@
+pub mod Bytes
 pub mod Filling
 pub mod ItemText
 pub mod Kind
 pub mod Lends
+pub mod Names
 pub mod Pair
 pub mod Reading
 pub mod Valid

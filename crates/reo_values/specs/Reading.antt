@@ -6,12 +6,13 @@ use Rattle.reo_values.specs.declared.fault.ReadFault.TheVariants as fault
 use Rattle.reo_values.specs.declared.value.Value.{Value}
 use Rattle.reo_values.specs.declared.kindred.Kindred as kindred
 use Rattle.reo_values.specs.declared.kindred.Kindred.{Kindred}
+use Rattle.reo_values.specs.Bytes.{comma, closing}
 use Rattle.reo_values.specs.Kind.{IsIn}
 use Rattle.reo_values.specs.ItemText.{text_of}
 
 -- a byte that ends a word: a comma or a closing parenthesis
 abbrev pub IsEnd : ℕ → Type 0
-IsEnd byte = (byte ≡ 44) ⊎ (byte ≡ 41)
+IsEnd byte = (byte ≡ comma) ⊎ (byte ≡ closing)
 
 -- what may come after a word: nothing, or a byte that ends it
 abbrev pub Ends : List ℕ → Type 0

@@ -1,22 +1,10 @@
 -- Which types a program may have.
-use Rattle.std.specs.Prelude.{ℕ, ◌≡◌, ◌<◌, ◌≤◌, ◌≤ℤ◌, ◌⊎◌, List, [], ◌∷◌, length, slice_index_or, FitsSigned}
+use Rattle.std.specs.Prelude.{ℕ, ◌≡◌, ◌<◌, ◌≤◌, ◌≤ℤ◌, List, [], length, slice_index_or, FitsSigned}
 use Rattle.std.specs.Int.{w64}
 use Rattle.std.specs.List.{All}
 use Rattle.reo_values.specs.declared.kindred.Kindred as kindred
 use Rattle.reo_values.specs.declared.kindred.Kindred.{Kindred}
-
--- a byte that may begin a name: a letter or `_`
-abbrev pub IsNameStart : ℕ → Type 0
-IsNameStart byte = ((65 ≤ byte) × (byte ≤ 90)) ⊎ (byte ≡ 95) ⊎ ((97 ≤ byte) × (byte ≤ 122))
-
--- a byte that may stand in a name: one that may begin it, or a digit
-abbrev pub IsNameByte : ℕ → Type 0
-IsNameByte byte = ((48 ≤ byte) × (byte ≤ 57)) ⊎ IsNameStart byte
-
--- a name: it begins as one, and has nothing else in it
-abbrev pub IsName : List ℕ → Type 0
-IsName [] = ⊥
-IsName (byte ∷ bytes) = IsNameStart byte × All IsNameByte bytes
+use Rattle.reo_values.specs.Names.{IsName}
 
 -- no item of the list stands at two places
 abbrev pub AreDistinct : List (List ℕ) → Type 0

@@ -1,5 +1,5 @@
 //! Numbers and texts in quotes at the end of other bytes.
-ghost use Rattle.std.specs.Prelude.{◌≡◌, ◌++◌, OnOk};
+ghost use Rattle.std.specs.Prelude.{◌≡◌, ◌++◌, length, take, OnErr, OnOk};
 ghost use Rattle.std.specs.List.{flat_map};
 ghost use Rattle.std.specs.Fmt.{signed_decimal};
 ghost use Rattle.reo_values.specs.ItemText.{escape, quoted};
@@ -7,8 +7,10 @@ ghost use Rattle.reo_values.specs.ItemText.{escape, quoted};
 use crate::{Bytes, NoMemory, number_text};
 use std::alloc::Global;
 
+// What was there before stays in front, also where memory ends in the middle.
 fn append_escaped(out: &mut Bytes, bytes: &[u8]) -> Result<(), NoMemory>
-    ensures { OnOk result (out.new ≡ out.old ++ flat_map escape bytes.now) }
+    ensures ok { OnOk result (out.new ≡ out.old ++ flat_map escape bytes.now) }
+    ensures err { OnErr result (take (length out.old) out.new ≡ out.old) }
 {
     for byte in bytes {
         if *byte == b'"' || *byte == b'\\' {
@@ -19,18 +21,34 @@ fn append_escaped(out: &mut Bytes, bytes: &[u8]) -> Result<(), NoMemory>
     Ok(())
 }
 
-/// Adds bytes in quotes, with `\` before a quote and a `\`. `NoMemory` is want of memory, after which a front may have been added.
-pub fn append_quoted(out: &mut Bytes, bytes: &[u8]) -> Result<(), NoMemory>
-    ensures { OnOk result (out.new ≡ out.old ++ quoted bytes.now) }
+fn append_with_quotes(out: &mut Bytes, bytes: &[u8]) -> Result<(), NoMemory>
+    ensures ok { OnOk result (out.new ≡ out.old ++ quoted bytes.now) }
+    ensures err { OnErr result (take (length out.old) out.new ≡ out.old) }
 {
     out.push(b'"')?;
     append_escaped(out, bytes)?;
     out.push(b'"')
 }
 
-/// Adds a number in decimal, with `-` before a negative one. `NoMemory` is want of memory, after which nothing has been added.
+/// Adds bytes in quotes, with `\` before a quote and a `\`. After `NoMemory`, out of memory,
+/// nothing has been added.
+pub fn append_quoted(out: &mut Bytes, bytes: &[u8]) -> Result<(), NoMemory>
+    ensures ok { OnOk result (out.new ≡ out.old ++ quoted bytes.now) }
+    ensures err { OnErr result (out.new ≡ out.old) }
+{
+    let before = out.len();
+    let added = append_with_quotes(out, bytes);
+    if added.is_err() {
+        out.truncate(before);
+    }
+    added
+}
+
+/// Adds a number in decimal, with `-` before a negative one. After `NoMemory`, out of memory,
+/// nothing has been added.
 pub fn append_number(alloc: Global, out: &mut Bytes, number: i64) -> Result<(), NoMemory>
-    ensures { OnOk result (out.new ≡ out.old ++ signed_decimal number) }
+    ensures ok { OnOk result (out.new ≡ out.old ++ signed_decimal number) }
+    ensures err { OnErr result (out.new ≡ out.old) }
 {
     let text = number_text(alloc, number)?;
     out.append(text.as_slice())

@@ -38,7 +38,7 @@ impl<T> Boxed<T> {
 }
 
 impl<T: Drop> Boxed<T> {
-    /// A box with this value. `NoMemory` is want of memory.
+    /// A box with this value. `NoMemory` means out of memory.
     pub fn new(alloc: Global, value: T) -> Result<Boxed<T>, NoMemory>
         ensures { IfOk result (λ b. b ≡ value) }
     {

@@ -1,5 +1,5 @@
 //! Bytes that contracts see as a plain list of numbers.
-ghost use Rattle.std.specs.Prelude.{◌≡◌, ◌==◌, [], ◌∷◌, ◌++◌, length, OnOk, OnErr, IfOk, List, ℕ};
+ghost use Rattle.std.specs.Prelude.{◌≡◌, ◌==◌, [], ◌∷◌, ◌++◌, length, take, OnOk, OnErr, IfOk, List, ℕ};
 
 use crate::NoMemory;
 use std::alloc::Global;
@@ -42,7 +42,7 @@ impl Bytes {
         self.vec
     }
 
-    /// A copy of the bytes of a slice. `NoMemory` is want of memory.
+    /// A copy of the bytes of a slice. `NoMemory` means out of memory.
     pub fn from_slice(alloc: Global, bytes: &[u8]) -> Result<Self, NoMemory>
         ensures { IfOk result (λ b. b ≡ bytes.now) }
     {
@@ -95,6 +95,13 @@ impl Bytes {
         }
     }
 
+    /// Takes out all bytes past the first `count`.
+    pub fn truncate(&mut self, count: usize)
+        ensures { self.new ≡ take count self.old }
+    {
+        self.vec.truncate(count);
+    }
+
     /// Takes all bytes out.
     pub fn clear(&mut self)
         ensures { self.new ≡ [] }
@@ -102,7 +109,7 @@ impl Bytes {
         self.vec.clear();
     }
 
-    /// Equal bytes. `NoMemory` is want of memory.
+    /// Equal bytes. `NoMemory` means out of memory.
     pub fn copy(&self, alloc: Global) -> Result<Bytes, NoMemory>
         ensures { IfOk result (λ b. b ≡ self.now) }
     {

@@ -6,7 +6,7 @@ use std::alloc::Global;
 
 /// What can be copied whole: contracts see the copy as the same value.
 pub trait Copies: Drop {
-    /// An equal value. `NoMemory` is want of memory.
+    /// An equal value. `NoMemory` means out of memory.
     fn copied(&self, alloc: Global) -> Result<Self, NoMemory>
         ensures { IfOk result (λ made. made ≡ self.now) };
 }

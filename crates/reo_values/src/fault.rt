@@ -9,7 +9,7 @@ use crate::NoMemory;
 pub enum ReadFault {
     /// Nothing of that type has this text.
     NotALiteral,
-    /// Want of memory.
+    /// Out of memory.
     NoMemory,
 }
 

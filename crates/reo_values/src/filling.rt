@@ -24,7 +24,7 @@ impl<T> Model for Filling<T> {
 }
 
 impl<T> Filling<T> {
-    /// An empty list with room for exactly so many items. `NoMemory` is want of memory.
+    /// An empty list with room for exactly so many items. `NoMemory` means out of memory.
     pub fn with_room(alloc: Global, room: usize) -> Result<Self, NoMemory>
         ensures empty { IfOk result (λ made. made.items ≡ []) }
         ensures room { IfOk result (λ made. made.room ≡ room) }

@@ -59,7 +59,7 @@ pub fn is_in(item: &Value, kindred: &Kindred) -> bool
     }
 }
 
-/// An equal type. `NoMemory` is want of memory.
+/// An equal type. `NoMemory` means out of memory.
 pub fn copy_kindred(alloc: Global, kindred: &Kindred) -> Result<Kindred, NoMemory>
     ensures { IfOk result (λ made. made ≡ kindred.now) }
 {

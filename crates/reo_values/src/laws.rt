@@ -1,7 +1,8 @@
-//! Laws of items and their texts.
+//! Laws of items, of their texts and of names.
 ghost use Rattle.std.specs.Prelude.{◌≡◌};
 ghost use Rattle.reo_values.specs.ItemText.{text_of};
-ghost use Rattle.reo_values.specs.Kind.{IsIn};
+ghost use Rattle.reo_values.specs.Kind.{IsIn, ItemTestIsExact};
+ghost use Rattle.reo_values.specs.Names.{NameTestIsExact};
 ghost use Rattle.reo_values.specs.Valid.{IsValid};
 
 use crate::{Kindred, Value};
@@ -13,4 +14,14 @@ pub fn one_item_for_each_text(a: &Value, b: &Value, kindred: &Kindred)
     requires b_in { IsIn b.now kindred.now }
     requires same { text_of a.now kindred.now ≡ text_of b.now kindred.now }
     ensures { a.now ≡ b.now }
+{}
+
+/// The test of items is true exactly of an item of the type.
+pub fn item_test_is_exact()
+    ensures { ItemTestIsExact }
+{}
+
+/// The test of names is true exactly of a name.
+pub fn name_test_is_exact()
+    ensures { NameTestIsExact }
 {}

@@ -30,7 +30,7 @@ pub use fault::ReadFault;
 pub use filling::Filling;
 pub use item_text::value_text;
 pub use kindred::{Kindred, Twins, copy_kindred, is_in};
-pub use laws::one_item_for_each_text;
+pub use laws::{item_test_is_exact, name_test_is_exact, one_item_for_each_text};
 pub use list::List;
 pub use number::{number_text, read_number};
 pub use operator::{Binary, Unary};
@@ -38,9 +38,6 @@ pub use reading::read_value;
 pub use valid::{is_name, is_valid};
 pub use value::{Couple, Value, copy, same_item};
 
-/// Want of memory.
+/// Out of memory.
 #[derive(Clone, Copy, Debug, PartialEq, Eq)]
 pub struct NoMemory;
-
-#[cfg(test)]
-mod tests;

@@ -6,7 +6,7 @@ use crate::{Bytes, NoMemory, ReadFault};
 use std::alloc::Global;
 
 /// The decimal text of a number: `-` for a negative one, no leading zero, `0` alone for zero.
-/// `NoMemory` is want of memory.
+/// `NoMemory` means out of memory.
 pub fn number_text(alloc: Global, number: i64) -> Result<Bytes, NoMemory>
     ensures { IfOk result (λ text. text ≡ signed_decimal number) }
 {
@@ -17,8 +17,8 @@ pub fn number_text(alloc: Global, number: i64) -> Result<Bytes, NoMemory>
 }
 
 /// The number from `low` to `high` whose decimal text is exactly this: a leading zero, `+` and
-/// `-0` are no part of any. `NotALiteral` comes exactly where there is none, and `NoMemory` is
-/// want of memory.
+/// `-0` are no part of any. `NotALiteral` comes exactly where there is none, and `NoMemory` means
+/// out of memory.
 pub fn read_number(alloc: Global, text: &[u8], low: i64, high: i64) -> Result<i64, ReadFault>
     ensures found { IfOk result (λ z. (low ≤ℤ z) × (z ≤ℤ high) × (text.now ≡ signed_decimal z)) }
     ensures none { IsErrOf result ReadFault.NotALiteral → (z : ℤ) → low ≤ℤ z → z ≤ℤ high → text.now ≢ signed_decimal z }

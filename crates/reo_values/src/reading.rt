@@ -1,5 +1,6 @@
 //! Reading an item again from its text.
 ghost use Rattle.std.specs.Prelude.{◌≡◌, ◌≢◌, ◌++◌, ◌∷◌, [], ◌<◌, ℕ, Bool, List, codes, length, IfOk, IfErr, OnOk, IsErrOf, MatchOption, slice_index_or};
+ghost use Rattle.reo_values.specs.Bytes.{quote};
 ghost use Rattle.reo_values.specs.ItemText.{escape, quoted, truth_text, text_of};
 ghost use Rattle.reo_values.specs.Kind.{IsIn};
 ghost use Rattle.reo_values.specs.Reading.{HasWords, Ends, Reads, ReadsAgain};
@@ -12,8 +13,8 @@ use std::alloc::Global;
 
 // One byte of a text between quotes, without what escapes it, or None at the closing quote.
 fn quoted_byte(reader: &mut Reader) -> Result<Option<u8>, ReadFault>
-    ensures found { IfOk result (λ found. MatchOption found (reader.old ≡ 34 ∷ reader.new) (λ byte. reader.old ≡ escape byte ++ reader.new)) }
-    ensures end { IsErrOf result ReadFault.NotALiteral → (rest : List ℕ) → reader.old ≢ 34 ∷ rest }
+    ensures found { IfOk result (λ found. MatchOption found (reader.old ≡ quote ∷ reader.new) (λ byte. reader.old ≡ escape byte ++ reader.new)) }
+    ensures end { IsErrOf result ReadFault.NotALiteral → (rest : List ℕ) → reader.old ≢ quote ∷ rest }
     ensures none { IsErrOf result ReadFault.NotALiteral → (byte : ℕ) (rest : List ℕ) → reader.old ≢ escape byte ++ rest }
     ensures fault { IfErr result (λ fault. fault ≡ ReadFault.NotALiteral) }
 {
@@ -139,7 +140,7 @@ fn item(alloc: Global, reader: &mut Reader, kindred: &Kindred) -> Result<Value, 
 
 /// The item of a type whose text is exactly this one, as [`value_text`](crate::value_text)
 /// writes it. `NotALiteral` comes exactly where no item of the type has this text, and
-/// `NoMemory` is want of memory.
+/// `NoMemory` means out of memory.
 pub fn read_value(alloc: Global, text: &[u8], kindred: &Kindred) -> Result<Value, ReadFault>
     requires { IsValid kindred.now }
     ensures found { IfOk result (λ item. IsIn item kindred.now × (text.now ≡ text_of item kindred.now)) }

@@ -1,7 +1,8 @@
 //! Which types a program may have.
 ghost use Rattle.std.specs.Prelude.{◌↔◌, IsTrue};
 ghost use Rattle.std.specs.List.{Contains};
-ghost use Rattle.reo_values.specs.Valid.{IsNameStart, IsNameByte, IsName, AreDistinct, IsValid};
+ghost use Rattle.reo_values.specs.Names.{IsNameStart, IsNameByte, IsName};
+ghost use Rattle.reo_values.specs.Valid.{AreDistinct, IsValid};
 
 use crate::{Bytes, Kindred};
 

@@ -48,7 +48,7 @@ pub fn same_item(a: &Value, b: &Value) -> bool
     }
 }
 
-/// An equal item. `NoMemory` is want of memory.
+/// An equal item. `NoMemory` means out of memory.
 pub fn copy(alloc: Global, item: &Value) -> Result<Value, NoMemory>
     ensures { IfOk result (λ made. made ≡ item.now) }
 {

@@ -1,8 +1,8 @@
 use Rattle.std.proofs.Common.{ℕ, ◌<◌, List, [], length, map, arith, ◌∙◌, sym, below_more}
 use Rattle.std.proofs.lemmas.List.{get_or_default}
 use Rattle.reo_net_base.specs.Behaviour.{Behaviour}
-use Rattle.reo_net_base.specs.Net.{behaviour_at, end_of}
-use Rattle.reo_net_circuit.specs.Parts.{net_with}
+use Rattle.reo_net_base.specs.Net.{net_of, behaviour_at, end_of}
+use Rattle.reo_net_circuit.specs.Parts.{wiring_of}
 use Rattle.reo_net_circuit.specs.Fault.{IsBound}
 use Rattle.reo_net_circuit.proofs.CountLemmas.{joined_of_count, count_of_joined}
 use Rattle.reo_net_circuit.proofs.ends.ends_fault.Goals as goal
@@ -16,7 +16,7 @@ loop-index-preserved g c =
     let row = c.as_slice.ensures ∙ c.index.ensures ∙ get_or_default c.in_ok-counts.counts.items i c.index.result.now [] in_counts in
     let i_in : i < length bs = omega (arith, are.rows) in
     let ones = rw row at c.in_default.ensures in
-    below_more (λ (k : ℕ). IsBound (net_with g.P.Primitive.behaviour c.args.primitives.now c.args.joints.now) k) i c.loop-index.invariant
+    below_more (λ (k : ℕ). IsBound (net_of g.P.Primitive.behaviour (wiring_of c.args.primitives.now 0 c.args.joints.now)) k) i c.loop-index.invariant
     (λ end lt. joined_of_count c.args.joints.now (end_of i end) (sym (are.counted i end i_in lt) ∙ ones end (omega (arith, lt, are.row_length i i_in))))
 
 pub returns : goal.returns

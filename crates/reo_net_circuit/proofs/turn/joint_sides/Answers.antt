@@ -1,7 +1,7 @@
 use Rattle.std.proofs.Common.{◌≡◌, ◌∙◌, ◌<◌, ◌++◌, ◌∷◌, [], ℕ, List, length, arith, ap, sym}
 use Rattle.reo_net_base.specs.declared.joint.Joint.{Joint}
-use Rattle.reo_net_base.specs.Net.{Net, side_at}
-use Rattle.reo_net_circuit.specs.Parts.{net_with}
+use Rattle.reo_net_base.specs.Net.{net_of, Net, side_at}
+use Rattle.reo_net_circuit.specs.Parts.{wiring_of}
 use Rattle.reo_net_circuit.proofs.WireLemmas.{below_push, map_more}
 use Rattle.reo_net_circuit.proofs.turn.joint_sides.Goals as goal
 
@@ -17,7 +17,7 @@ side_number-requires-in-loop-index-clause-end g c =
 
 pub loop-index-preserved : goal.loop-index-preserved
 loop-index-preserved g c =
-    let net : Net = net_with g.P.Primitive.behaviour c.args.primitives.now c.args.joints.now in
+    let net : Net = net_of g.P.Primitive.behaviour (wiring_of c.args.primitives.now 0 c.args.joints.now) in
     let d : Joint = c.joint_at.result in
     let lt : c.loop-index.index < length net.joints = omega arith in
     let giver : side_at net d.giver ≡ c.side_number.result = sym c.side_number.ensures.number in

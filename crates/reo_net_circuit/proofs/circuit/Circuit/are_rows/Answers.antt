@@ -15,7 +15,7 @@ returns-then-rows-side g c =
       λ h. absurd cc,
       λ are.
           let below = row_below sides c.args.rows.now are c.loop-side.side no_side lt in
-          let count = c.row_count.ensures no_side in
+          let count = c.rows.ensures.count no_side in
           absurd (omega (arith, below, count)),
     )
 

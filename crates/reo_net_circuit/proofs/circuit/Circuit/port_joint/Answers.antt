@@ -11,10 +11,10 @@ returns-clause-in_range g c =
     let net : Net = net_of g.P.Primitive.behaviour c.args.self.now in
     let port : ℕ = c.args.port in
     let one_end = (c.known_ports.ensures.port port c.requires).one_end in
-    let joined = c.known.ensures.each_end port 0 (omega arith) (omega (arith, one_end)) in
+    let joined = c.known.ensures.wired.each_end port 0 (omega arith) (omega (arith, one_end)) in
     let ports = ap (λ (w : Wiring _). w.ports) c.self.view_is in
     let joints = ap (λ (w : Wiring _). w.joints) c.self.view_is in
-    let within : port < length c.self.inside.port_joints = omega (arith, c.self.invariant.4.one_each, c.self.invariant.5.within, ports) in
+    let within : port < length c.self.inside.tables.port_joints = omega (arith, c.self.invariant.port_joints.one_each, c.self.invariant.are_ports.within, ports) in
     let joint : c.at.result.now ≡ position_or_len (is_at (end_of port 0)) c.self.inside.joints =
-    c.at.ensures ∙ get_or_default c.self.inside.port_joints port c.at.result.now 0 within ∙ c.self.invariant.4.joint port (omega (arith, c.self.invariant.4.one_each)) in
+    c.at.ensures ∙ get_or_default c.self.inside.tables.port_joints port c.at.result.now 0 within ∙ c.self.invariant.port_joints.joint port (omega (arith, c.self.invariant.port_joints.one_each)) in
     rw (joint, joints) (joined_in net.joints (end_of port 0) joined)
