@@ -1,3 +1,2 @@
-pub mod ItemTests
 pub mod RuleLemmas
 pub mod RuleLaws

@@ -17,7 +17,7 @@ use Rattle.reo_kinds.specs.declared.kind.WriterPort.{WriterPort}
 use Rattle.reo_kinds.specs.declared.kind.TakerPort.{TakerPort}
 use Rattle.reo_kinds.specs.declared.kind.Kind.{Kind}
 use Rattle.reo_kinds.specs.declared.kind.Kind.TheVariants.{Writer, Taker, Sync, Lossy, SyncDrain, AsyncDrain, Store, Shift, Variable, Quota, Filter, Map, Merger, Replicator}
-use Rattle.reo_kinds.specs.Items.{is_item}
+use Rattle.reo_values.specs.Kind.{is_item}
 use Rattle.reo_kinds.specs.Rules.{accepts, image}
 use Rattle.reo_kinds.specs.declared.table.Table.{Table}
 use Rattle.reo_kinds.specs.declared.table.Table.TheVariants.{Ready, Resting, Together, LossyRows, OneOfTwo, FilterRows, Spent}

@@ -15,4 +15,4 @@ mod shape;
 mod table;
 
 pub use kind::{Branches, FilterRule, Kind, MapRule, TakerPort, WriterPort};
-pub use laws::{classes_by_rule, item_test_is_exact};
+pub use laws::classes_by_rule;

@@ -1,5 +1,5 @@
 //! What a round leaves of what a kind keeps.
-ghost use Rattle.std.specs.Prelude.{◌≡◌, cond, None};
+ghost use Rattle.std.specs.Prelude.{◌≡◌, ◌-◌, cond, None};
 ghost use Rattle.reo_kinds.specs.Kinds.{first_flows, second_flows, after, given_away, put_in, shift_in, replaced};
 
 use crate::kind::Kind;
@@ -50,6 +50,15 @@ fn replace(held: &mut Option<Value>, item: Option<Value>)
     }
 }
 
+/// Takes one off a quota, where its ends flow and any is left.
+fn lower(left: &mut u32, flows: bool)
+    ensures { left.new ≡ cond flows (left.old - 1) left.old }
+{
+    if flows {
+        *left = left.saturating_sub(1);
+    }
+}
+
 /// Whether end 0 flows by its row.
 pub fn first_flows(kind: &Kind, rows: Chosen) -> bool
     ensures { result ≡ first_flows kind.now rows }
@@ -96,11 +105,7 @@ pub fn go_on(kind: &mut Kind, first: bool, second: bool, item: Option<Value>)
             shift_in(buffer, item);
         }
         Kind::Variable(held) => replace(held, item),
-        Kind::Quota(left) => {
-            if first {
-                *left = left.saturating_sub(1);
-            }
-        }
+        Kind::Quota(left) => lower(left, first),
         _ => {}
     }
 }
