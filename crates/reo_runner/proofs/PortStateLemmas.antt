@@ -41,15 +41,6 @@ script_kept olds news ports cs same is = record {
   apart = is.apart;
 }
 
--- A round leaves the ports the same.
-pub settled_same : {P : Type 0} (port_state : P → PortState) (settled : P → Chosen → Option Value → P) → ((p : P) (rows : Chosen) (taken : Option Value) → IsSame (port_state p) (port_state (settled p rows taken)))
-    → (ps : List P) (rows : List Chosen) (taken : List (Option Value)) (i : ℕ) → IsSame (port_state_at (map port_state ps) i) (port_state_at (map port_state (settled_list settled ps rows taken)) i)
-settled_same port_state settled law [] rows taken i = record { way = refl; accepts = λ _. refl }
-settled_same port_state settled law (p ∷ ps) [] taken i = record { way = refl; accepts = λ _. refl }
-settled_same port_state settled law (p ∷ ps) (r ∷ rows) [] i = record { way = refl; accepts = λ _. refl }
-settled_same port_state settled law (p ∷ ps) (r ∷ rows) (t ∷ taken) zero = law p r t
-settled_same port_state settled law (p ∷ ps) (r ∷ rows) (t ∷ taken) (suc i) = settled_same port_state settled law ps rows taken i
-
 -- Offers that are made pending leave the ports the same.
 module _ {P : Type 0} (r : Rules P) (withdrawn : (q : P) → IsPortWith (r.port_state q) (r.port_state (r.withdrawn q)) None)
     (placed : (q : P) (offer : Offer) → CanPlace (r.port_state q) offer → IsPortWith (r.port_state q) (r.port_state (r.placed q offer)) (Some offer)) where
