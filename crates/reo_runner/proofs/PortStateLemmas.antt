@@ -2,11 +2,9 @@
 use Rattle.std.proofs.Common.{◌≡◌, ◌∙◌, ℕ, zero, suc, ◌+◌, cond, true, false, List, [], ◌∷◌, refl, map, arith, zero-add}
 use Rattle.std.specs.Prelude.{Option, Some, None, nat_lt}
 use Rattle.reo_values.specs.declared.value.Value.{Value}
-use Rattle.reo_net_base.specs.declared.colouring.Chosen.{Chosen}
 use Rattle.reo_net_base.specs.declared.port.Offer.{Offer}
 use Rattle.reo_net_base.specs.declared.port.Offer.TheVariants.{Write, Take}
 use Rattle.reo_net_base.specs.PortState.{PortState, port_state_at, CanPlace, IsPortWith, IsAccepted}
-use Rattle.reo_net_base.specs.Step.{settled_list}
 use Rattle.reo_script.specs.declared.script.Action.{Action}
 use Rattle.reo_script.specs.declared.script.Component.{Component}
 use Rattle.reo_script.specs.Actions.{port_of, offer_of, action_for, IsScriptFor}
