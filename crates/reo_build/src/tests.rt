@@ -1,8 +1,8 @@
 //! The two circuits that are worked out by hand: their primitives, joints and ports.
 use crate::{Flat, build};
-use reo_net_base::{Joint, Port, Way};
 use reo_forms::{Joined, Parameter, Plainest, is_plainest};
 use reo_kinds::Kind;
+use reo_net_base::{Joint, Port, Way};
 use reo_values::{Bytes, Kindred, List, NoMemory};
 use std::alloc::Global;
 use std::test::Fail;
