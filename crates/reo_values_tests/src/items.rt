@@ -114,6 +114,29 @@ fn other_texts_are_refused(rt: HostRuntime) {
     }
 }
 
+/// Words of a type, and of an item that is not of it.
+const FOREIGN: &[&str] = &[
+    "names1024|#1024",
+    "-9..9|10",
+    "text2|'abc",
+    "unit|true",
+    "bool|0",
+];
+
+pub fn is_foreign(line: &Line) -> bool {
+    match (line.types.get(0), line.items.get(0)) {
+        (Some(kindred), Some(item)) => !is_in(item, kindred),
+        _ => false,
+    }
+}
+
+#[test]
+fn other_items_are_not_of_the_type(rt: HostRuntime) {
+    for text in FOREIGN {
+        is(&rt, holds(rt.alloc(), Table::Foreign, text), text);
+    }
+}
+
 /// Types that are not valid.
 const INVALID: &[&str] = &["1..0", "unit a/a ,", "names1025"];
 

@@ -1,6 +1,6 @@
 //! What a line of a table says, and whether it is so.
 use crate::expressions::{has_fault, has_type, has_value, is_joined};
-use crate::items::{are_refused, has_text, is_invalid};
+use crate::items::{are_refused, has_text, is_foreign, is_invalid};
 use crate::notation::{Unread, read_item, read_type};
 use crate::terms::read_expr;
 use reo_exprs::Expr;
@@ -42,6 +42,8 @@ pub enum Table {
     Texts,
     /// A type, and texts that no item of it has.
     NoTexts,
+    /// A type, and an item that is not of it.
+    Foreign,
     /// A type that is not valid.
     Invalid,
     /// An expression, the item's type, and the expression's type.
@@ -57,7 +59,7 @@ pub enum Table {
 /// What the columns of a table's lines are: expressions, types and items.
 fn columns(table: Table) -> &'static [u8] {
     match table {
-        Table::Texts => b"ti",
+        Table::Texts | Table::Foreign => b"ti",
         Table::NoTexts | Table::Invalid => b"t",
         Table::Types => b"ett",
         Table::Faults => b"et",
@@ -86,6 +88,7 @@ fn look(alloc: Global, line: &mut Line, table: Table, text: &str) -> Result<bool
     match table {
         Table::Texts => has_text(alloc, line, column(text, 2)),
         Table::NoTexts => Ok(are_refused(alloc, line, text)),
+        Table::Foreign => Ok(is_foreign(line)),
         Table::Invalid => Ok(is_invalid(line)),
         Table::Types => has_type(alloc, line),
         Table::Faults => Ok(has_fault(alloc, line, column(text, 2))),
