@@ -1,5 +1,5 @@
 -- The kind of an expression is the kind of its type, where it has one.
-use Rattle.std.proofs.Common.{Bool, true, false, ◌&&◌, ◌≡◌, ◌∙◌, length, Option, Some, None, ap, sym, refl}
+use Rattle.std.proofs.Common.{Bool, true, false, ◌&&◌, ◌≡◌, ◌∙◌, length, Option, Some, ap, sym, refl}
 use Rattle.std.specs.Prelude.{option_and_then, option_map}
 use denote.Hole.Carrier.{hidden}
 use Rattle.reo_values.specs.declared.kindred.Kindred as kindred

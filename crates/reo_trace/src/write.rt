@@ -7,8 +7,8 @@ ghost use Rattle.reo_trace.specs.RoundText.{round_text};
 ghost use Rattle.reo_trace.specs.declared.write.WriteFault.TheVariants.{Failed as SinkFailed, NoMemory as OutOfMemory};
 
 use crate::{Ending, RoundLine, ending_line_text, round_line_text};
-use reo_net_base::Ports;
 use reo_io::{Sink, SinkFault, put_all};
+use reo_net_base::Ports;
 use reo_values::NoMemory;
 use std::alloc::Global;
 
