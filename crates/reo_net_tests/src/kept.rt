@@ -101,27 +101,29 @@ fn item(number: Option<i64>) -> Option<Value> {
     }
 }
 
-/// Whether the tail gives this number and no other.
+/// Whether there is a tail that flows and gives this number.
 fn gives_number(kind: &Kind, number: i64) -> bool {
-    kind.agrees(1, 0, 1, None, &Value::Int(number))
-        && !kind.agrees(1, 0, 1, None, &Value::Int(number.wrapping_add(1)))
-}
-
-/// Whether the tail gives this number, or there is no tail that flows.
-fn gives(kind: &Kind, number: Option<i64>) -> bool {
-    if kind.sides() == 2
+    kind.sides() == 2
         && kind.ends() == 2
         && kind.side_of(1) == 1
         && !kind.takes_in(1)
         && 0 < kind.rows(1)
         && kind.mark(1, 0, 1) == Mark::F
-    {
-        match number {
-            Some(number) => gives_number(kind, number),
-            None => false,
+        && kind.agrees(1, 0, 1, None, &Value::Int(number))
+}
+
+/// Whether the tail gives this number and not the next, or none of the small numbers.
+fn gives(kind: &Kind, number: Option<i64>) -> bool {
+    match number {
+        Some(number) => gives_number(kind, number) && !gives_number(kind, number.wrapping_add(1)),
+        None => {
+            for number in 0..10 {
+                if gives_number(kind, number) {
+                    return false;
+                }
+            }
+            true
         }
-    } else {
-        number.is_none()
     }
 }
 

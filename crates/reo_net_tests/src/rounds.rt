@@ -64,6 +64,9 @@ fn is_as(
     rows: &[u32],
     want: &[(usize, i64)],
 ) -> Result<bool, NoMemory> {
+    if !circuit.are_rows(colouring.rows.as_slice()) {
+        return Ok(false);
+    }
     let found = moves(alloc, circuit, colouring)?;
     Ok(colouring.rows.as_slice() == rows && are_moves(found.as_slice(), want))
 }
