@@ -1,10 +1,11 @@
 //! What buffers, shift buffers, variables and quotas keep from round to round.
 use crate::pieces::Piece::{self, Quota, Shift, Store, Variable};
 use crate::pieces::kind;
-use crate::tables::has_table;
+use crate::tables::{has_table, is};
 use reo_kinds::Kind;
 use reo_net_base::{Chosen, Mark, Primitive};
 use reo_values::Value;
+use std::alloc::Global;
 use std::process::Abort;
 use std::test::Fail;
 
@@ -134,18 +135,27 @@ fn goes_on(kind: &mut Kind, round: &Round) -> bool {
     has_table(kind, 1, table) && gives(kind, front)
 }
 
-fn is(rt: &impl Abort, answer: bool, what: usize) {
-    assert!(rt; answer, "case {what}");
+/// Goes through rounds, and says whether all is as they tell.
+fn all_go_on(kind: &mut Kind, rounds: &[Round]) -> bool {
+    for round in rounds {
+        if !goes_on(kind, round) {
+            return false;
+        }
+    }
+    true
+}
+
+/// Whether a piece goes through rounds as they tell.
+fn keeps(rt: &impl Abort, alloc: Global, piece: Piece, rounds: &[Round]) -> Result<bool, Fail> {
+    let mut kind = kind(rt, alloc, piece)?;
+    Ok(all_go_on(&mut kind, rounds))
 }
 
 #[test]
 fn what_is_kept_goes_from_round_to_round(rt: HostRuntime) -> Result<(), Fail> {
     let mut case: usize = 0;
     for (piece, rounds) in &CASES {
-        let mut kind = kind(&rt, rt.alloc(), *piece)?;
-        for round in *rounds {
-            is(&rt, goes_on(&mut kind, round), case);
-        }
+        is(&rt, keeps(&rt, rt.alloc(), *piece, *rounds)?, case);
         case = case.wrapping_add(1);
     }
     Ok(())

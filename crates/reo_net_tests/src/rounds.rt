@@ -88,6 +88,22 @@ fn goes_on(
     Ok(right)
 }
 
+/// The number of the first round that is not as it tells, and 0 where there is none.
+fn first_wrong(
+    alloc: Global,
+    circuit: &mut Circuit<Kind>,
+    rounds: &[Round],
+) -> Result<u64, NoMemory> {
+    let mut turn: u64 = 1;
+    for round in rounds {
+        if !goes_on(alloc, circuit, turn, round)? {
+            return Ok(turn);
+        }
+        turn = turn.wrapping_add(1);
+    }
+    Ok(0)
+}
+
 /// Asserts that the rounds of a circuit are these, from round 1 on.
 fn rounds_are(
     rt: &impl Abort,
@@ -98,12 +114,8 @@ fn rounds_are(
     rounds: &[Round],
 ) -> Result<(), Fail> {
     let mut circuit = made(rt, alloc, pieces, ports, joints)??;
-    let mut turn: u64 = 1;
-    for round in rounds {
-        let right = goes_on(alloc, &mut circuit, turn, round)?;
-        assert!(rt; right, "round {turn}");
-        turn = turn.wrapping_add(1);
-    }
+    let wrong = first_wrong(alloc, &mut circuit, rounds)?;
+    assert!(rt; wrong == 0, "round {wrong}");
     Ok(())
 }
 

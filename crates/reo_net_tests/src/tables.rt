@@ -6,6 +6,7 @@ use crate::pieces::Piece::{
 use crate::pieces::kind;
 use reo_kinds::Kind;
 use reo_net_base::{Mark, Primitive};
+use std::alloc::Global;
 use std::process::Abort;
 use std::test::Fail;
 
@@ -212,7 +213,26 @@ fn has_groups(kind: &Kind, groups: &str) -> bool {
     wanted.right && wanted.left.is_empty()
 }
 
-fn is(rt: &impl Abort, answer: bool, what: usize) {
+/// Whether a piece has this table.
+fn is_table(
+    rt: &impl Abort,
+    alloc: Global,
+    piece: Piece,
+    turn: u64,
+    table: &str,
+) -> Result<bool, Fail> {
+    let kind = kind(rt, alloc, piece)?;
+    Ok(has_table(&kind, turn, table))
+}
+
+/// Whether a piece has these groups.
+fn are_groups(rt: &impl Abort, alloc: Global, piece: Piece, groups: &str) -> Result<bool, Fail> {
+    let kind = kind(rt, alloc, piece)?;
+    Ok(has_groups(&kind, groups))
+}
+
+/// Asserts that a case is right.
+pub fn is(rt: &impl Abort, answer: bool, what: usize) {
     assert!(rt; answer, "case {what}");
 }
 
@@ -220,8 +240,7 @@ fn is(rt: &impl Abort, answer: bool, what: usize) {
 fn each_kind_has_its_table_in_each_state(rt: HostRuntime) -> Result<(), Fail> {
     let mut case: usize = 0;
     for (piece, turn, table) in &TABLES {
-        let kind = kind(&rt, rt.alloc(), *piece)?;
-        is(&rt, has_table(&kind, *turn, *table), case);
+        is(&rt, is_table(&rt, rt.alloc(), *piece, *turn, *table)?, case);
         case = case.wrapping_add(1);
     }
     Ok(())
@@ -231,8 +250,7 @@ fn each_kind_has_its_table_in_each_state(rt: HostRuntime) -> Result<(), Fail> {
 fn rows_stand_in_groups_and_mergers_lead(rt: HostRuntime) -> Result<(), Fail> {
     let mut case: usize = 0;
     for (piece, groups) in &GROUPS {
-        let kind = kind(&rt, rt.alloc(), *piece)?;
-        is(&rt, has_groups(&kind, *groups), case);
+        is(&rt, are_groups(&rt, rt.alloc(), *piece, *groups)?, case);
         case = case.wrapping_add(1);
     }
     Ok(())
