@@ -1,5 +1,6 @@
 pub use Rattle.reo_net_base.specs.Behaviour
 pub use Rattle.reo_net_base.specs.Colouring
+pub use Rattle.reo_net_base.specs.Ends
 pub use Rattle.reo_net_base.specs.First
 pub use Rattle.reo_net_base.specs.Lawful
 pub use Rattle.reo_net_base.specs.Marks
@@ -7,6 +8,7 @@ pub use Rattle.reo_net_base.specs.Moves
 pub use Rattle.reo_net_base.specs.Net
 pub use Rattle.reo_net_base.specs.PortState
 pub use Rattle.reo_net_base.specs.Shapes
+pub use Rattle.reo_net_base.specs.Sides
 pub use Rattle.reo_net_base.specs.Step
 pub use Rattle.reo_net_base.specs.Wired
 pub use Rattle.reo_net_base.specs.declared.colouring.Chosen

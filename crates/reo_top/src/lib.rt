@@ -10,10 +10,3 @@ mod running;
 mod top;
 
 pub use top::{Status, reo};
-
-#[cfg(test)]
-mod run_tests;
-#[cfg(test)]
-mod tests;
-#[cfg(test)]
-mod text_tests;
