@@ -10,7 +10,7 @@ use Rattle.reo_kinds.specs.declared.kind.Branches.{Branches}
 use Rattle.reo_kinds.specs.declared.kind.Kind.{Kind}
 use Rattle.reo_kinds.specs.declared.kind.Kind.TheVariants.{Writer, Taker, Sync, Lossy, SyncDrain, AsyncDrain, Store, Shift, Variable, Quota, Filter, Map, Merger, Replicator}
 use Rattle.reo_kinds.specs.declared.table.Table.{Table}
-use Rattle.reo_kinds.specs.declared.table.Table.TheVariants.{Together, LossyRows, OneOfTwo, FilterRows}
+use Rattle.reo_kinds.specs.declared.table.Table.TheVariants as tables
 use Rattle.reo_kinds.specs.declared.shape.Shape.{Shape}
 use Rattle.reo_kinds.specs.declared.shape.Shape.TheVariants.{Single, Double, Replicating}
 use Rattle.reo_kinds.specs.Tables.{rows_of}
@@ -130,15 +130,15 @@ kept_rule free front lets_in given side turn h = by_rule MouthTail (mouth_and_ta
 pub classed : (kind : Kind) (side turn : ℕ) → side < (behaviour_of kind).sides → IsClassed kind side turn
 classed (Writer port) side turn h = out_rule (lets_in (Writer port)) (given_of (Writer port)) side turn (is_some port.offer) h
 classed (Taker port) side turn h = in_rule (lets_in (Taker port)) (given_of (Taker port)) side turn port.pending h
-classed Sync side turn h = channel_rule (lets_in Sync) (given_of Sync) side turn Together h refl
-classed Lossy side turn h = channel_rule (lets_in Lossy) (given_of Lossy) side turn LossyRows h refl
-classed SyncDrain side turn h = drain_rule (lets_in SyncDrain) (given_of SyncDrain) side turn Together h refl
-classed AsyncDrain side turn h = drain_rule (lets_in AsyncDrain) (given_of AsyncDrain) side turn OneOfTwo h refl
+classed Sync side turn h = channel_rule (lets_in Sync) (given_of Sync) side turn tables.Together h refl
+classed Lossy side turn h = channel_rule (lets_in Lossy) (given_of Lossy) side turn tables.Lossy h refl
+classed SyncDrain side turn h = drain_rule (lets_in SyncDrain) (given_of SyncDrain) side turn tables.Together h refl
+classed AsyncDrain side turn h = drain_rule (lets_in AsyncDrain) (given_of AsyncDrain) side turn tables.OneOfTwo h refl
 classed (Store buffer) side turn h = kept_rule (not (is_full buffer)) (front_of buffer) (lets_in (Store buffer)) (given_of (Store buffer)) side turn h
 classed (Shift buffer) side turn h = kept_rule true (front_of buffer) (lets_in (Shift buffer)) (given_of (Shift buffer)) side turn h
 classed (Variable held) side turn h = kept_rule true held (lets_in (Variable held)) (given_of (Variable held)) side turn h
 classed (Quota left) side turn h = channel_rule (lets_in (Quota left)) (given_of (Quota left)) side turn (quota_table (nat_lt 0 left)) h (quota_is (nat_lt 0 left))
-classed (Filter rule) side turn h = channel_rule (lets_in (Filter rule)) (given_of (Filter rule)) side turn FilterRows h refl
-classed (Map rule) side turn h = channel_rule (lets_in (Map rule)) (given_of (Map rule)) side turn Together h refl
+classed (Filter rule) side turn h = channel_rule (lets_in (Filter rule)) (given_of (Filter rule)) side turn tables.Filter h refl
+classed (Map rule) side turn h = channel_rule (lets_in (Map rule)) (given_of (Map rule)) side turn tables.Together h refl
 classed (Merger branches) side turn h = merger_in_turn branches side turn
 classed (Replicator branches) side turn h = replicator_rule (lets_in (Replicator branches)) (given_of (Replicator branches)) side turn branches h

@@ -11,7 +11,7 @@ use Rattle.reo_net_base.specs.Lawful.{IsLawful, SameShape, IsQuiet}
 use Rattle.reo_buffers.specs.Stored.{is_full}
 use Rattle.reo_kinds.specs.declared.kind.Kind.{Kind}
 use Rattle.reo_kinds.specs.declared.kind.Kind.TheVariants.{Writer, Taker, Sync, Lossy, SyncDrain, AsyncDrain, Store, Shift, Variable, Quota, Filter, Map, Merger, Replicator}
-use Rattle.reo_kinds.specs.declared.table.Table.TheVariants.{Together, LossyRows, OneOfTwo, FilterRows}
+use Rattle.reo_kinds.specs.declared.table.Table.TheVariants as tables
 use Rattle.reo_kinds.specs.Tables.{rows_of}
 use Rattle.reo_kinds.specs.TableTests.{is_table}
 use Rattle.reo_kinds.specs.ItemLaws.{Passes, out_lawful, in_lawful, drain_lawful, channel_lawful, kept_lawful, merger_lawful, replicator_lawful}
@@ -20,19 +20,19 @@ use Rattle.reo_kinds.specs.declared.ends.Ends.TheVariants as ends
 use Rattle.reo_kinds.specs.Forms.{end_count, side_count, side_in, takes_at, leads_by}
 use Rattle.reo_kinds.specs.Kinds.{behaviour_of, settled_kind, mouth_and_tail, put_in, shift_in, given_away, replaced, ready, ends_of, shape_of, after, first_flows, second_flows, quota_table, front_of, lets_in, given_of}
 
-sync_passes : Passes (rows_of Together)
+sync_passes : Passes (rows_of tables.Together)
 sync_passes zero flows = refl
 sync_passes (suc zero) flows = absurd cc
 sync_passes (suc (suc zero)) flows = absurd cc
 sync_passes (suc (suc (suc row))) flows = absurd cc
 
-lossy_passes : Passes (rows_of LossyRows)
+lossy_passes : Passes (rows_of tables.Lossy)
 lossy_passes zero flows = refl
 lossy_passes (suc zero) flows = absurd cc
 lossy_passes (suc (suc zero)) flows = absurd cc
 lossy_passes (suc (suc (suc row))) flows = absurd cc
 
-filter_passes : Passes (rows_of FilterRows)
+filter_passes : Passes (rows_of tables.Filter)
 filter_passes zero flows = refl
 filter_passes (suc zero) flows = absurd cc
 filter_passes (suc (suc zero)) flows = absurd cc
@@ -51,16 +51,16 @@ quota_is false = refl
 pub kind_lawful : (kind : Kind) → IsLawful (behaviour_of kind)
 kind_lawful (Writer port) = out_lawful port.offer
 kind_lawful (Taker port) = in_lawful port.pending
-kind_lawful Sync = channel_lawful Together refl sync_passes _ _ refl (λ item. refl)
-kind_lawful Lossy = channel_lawful LossyRows refl lossy_passes _ _ refl (λ item. refl)
-kind_lawful SyncDrain = drain_lawful Together refl
-kind_lawful AsyncDrain = drain_lawful OneOfTwo refl
+kind_lawful Sync = channel_lawful tables.Together refl sync_passes _ _ refl (λ item. refl)
+kind_lawful Lossy = channel_lawful tables.Lossy refl lossy_passes _ _ refl (λ item. refl)
+kind_lawful SyncDrain = drain_lawful tables.Together refl
+kind_lawful AsyncDrain = drain_lawful tables.OneOfTwo refl
 kind_lawful (Store buffer) = kept_lawful (not (is_full buffer)) (front_of buffer)
 kind_lawful (Shift buffer) = kept_lawful true (front_of buffer)
 kind_lawful (Variable held) = kept_lawful true held
 kind_lawful (Quota left) = channel_lawful (quota_table (nat_lt 0 left)) (quota_is (nat_lt 0 left)) (quota_passes (nat_lt 0 left)) _ _ refl (λ item. refl)
-kind_lawful (Filter rule) = channel_lawful FilterRows refl filter_passes (lets_in (Filter rule)) _ refl (λ item. refl)
-kind_lawful (Map rule) = channel_lawful Together refl sync_passes _ (given_of (Map rule)) refl (λ item. refl)
+kind_lawful (Filter rule) = channel_lawful tables.Filter refl filter_passes (lets_in (Filter rule)) _ refl (λ item. refl)
+kind_lawful (Map rule) = channel_lawful tables.Together refl sync_passes _ (given_of (Map rule)) refl (λ item. refl)
 kind_lawful (Merger branches) = merger_lawful branches
 kind_lawful (Replicator branches) = replicator_lawful branches
 

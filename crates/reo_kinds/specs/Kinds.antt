@@ -20,40 +20,36 @@ use Rattle.reo_kinds.specs.declared.kind.Kind.TheVariants.{Writer, Taker, Sync, 
 use Rattle.reo_values.specs.Kind.{is_item}
 use Rattle.reo_kinds.specs.Rules.{accepts, image}
 use Rattle.reo_kinds.specs.declared.table.Table.{Table}
-use Rattle.reo_kinds.specs.declared.table.Table.TheVariants.{Ready, Resting, Together, LossyRows, OneOfTwo, FilterRows, Spent}
+use Rattle.reo_kinds.specs.declared.table.Table.TheVariants as tables
 use Rattle.reo_kinds.specs.declared.shape.Shape.{Shape}
 use Rattle.reo_kinds.specs.declared.shape.Shape.TheVariants.{Single, Double, Merging, Replicating}
-use Rattle.reo_kinds.specs.Forms.{mark_by, behaviour_by}
+use Rattle.reo_kinds.specs.Forms.{behaviour_by}
 
 -- How the ends of a kind lie.
 abbrev pub ends_of : Kind → Ends
 ends_of (Writer port) = ends.Out
 ends_of (Taker port) = ends.In
-ends_of Sync = ends.InOut
-ends_of Lossy = ends.InOut
 ends_of SyncDrain = ends.InIn
 ends_of AsyncDrain = ends.InIn
 ends_of (Store buffer) = ends.MouthTail
 ends_of (Shift buffer) = ends.MouthTail
 ends_of (Variable held) = ends.MouthTail
-ends_of (Quota left) = ends.InOut
-ends_of (Filter rule) = ends.InOut
-ends_of (Map rule) = ends.InOut
 ends_of (Merger branches) = ends.Inputs branches
 ends_of (Replicator branches) = ends.Outputs branches
+ends_of _ = ends.InOut
 
 -- The table of a side with one end, by whether it can flow.
 abbrev pub ready_table : Bool → Table
-ready_table true = Ready
-ready_table false = Resting
+ready_table true = tables.Ready
+ready_table false = tables.Resting
 
 abbrev pub ready : Bool → Shape
 ready can_flow = Single (ready_table can_flow)
 
 -- The table of a quota, by whether any is left.
 abbrev pub quota_table : Bool → Table
-quota_table true = Together
-quota_table false = Spent
+quota_table true = tables.Together
+quota_table false = tables.Spent
 
 -- A mouth and a tail, by whether the mouth can flow and by the item that the tail gives, if there is one.
 abbrev pub mouth_and_tail : Bool → Option Value → ℕ → Shape
@@ -67,16 +63,16 @@ front_of buffer = slice_get buffer.items 0
 abbrev pub shape_of : Kind → ℕ → Shape
 shape_of (Writer port) side = ready (is_some port.offer)
 shape_of (Taker port) side = ready port.pending
-shape_of Sync side = Double Together
-shape_of Lossy side = Double LossyRows
-shape_of SyncDrain side = Double Together
-shape_of AsyncDrain side = Double OneOfTwo
+shape_of Sync side = Double tables.Together
+shape_of Lossy side = Double tables.Lossy
+shape_of SyncDrain side = Double tables.Together
+shape_of AsyncDrain side = Double tables.OneOfTwo
 shape_of (Store buffer) side = mouth_and_tail (not (is_full buffer)) (front_of buffer) side
 shape_of (Shift buffer) side = mouth_and_tail true (front_of buffer) side
 shape_of (Variable held) side = mouth_and_tail true held side
 shape_of (Quota left) side = Double (quota_table (nat_lt 0 left))
-shape_of (Filter rule) side = Double FilterRows
-shape_of (Map rule) side = Double Together
+shape_of (Filter rule) side = Double tables.Filter
+shape_of (Map rule) side = Double tables.Together
 shape_of (Merger branches) side = Merging branches
 shape_of (Replicator branches) side = Replicating branches
 
@@ -86,37 +82,20 @@ filter_lets_in accepted row = cond (row == 0) accepted (cond (row == 1) (not acc
 
 -- Which items a row lets in.
 abbrev pub lets_in : Kind → ℕ → Value → Bool
-lets_in (Writer port) row item = true
-lets_in (Taker port) row item = true
-lets_in Sync row item = true
-lets_in Lossy row item = true
-lets_in SyncDrain row item = true
-lets_in AsyncDrain row item = true
-lets_in (Store buffer) row item = true
-lets_in (Shift buffer) row item = true
-lets_in (Variable held) row item = true
-lets_in (Quota left) row item = true
 lets_in (Filter rule) row item = filter_lets_in (accepts rule item) row
-lets_in (Map rule) row item = true
-lets_in (Merger branches) row item = true
-lets_in (Replicator branches) row item = true
+lets_in _ row item = true
 
 -- What is given, by the item that decides, if one does.
 abbrev pub given_of : Kind → Option Value → Option Value
 given_of (Writer port) taken = port.offer
 given_of (Taker port) taken = None
-given_of Sync taken = taken
-given_of Lossy taken = taken
 given_of SyncDrain taken = None
 given_of AsyncDrain taken = None
 given_of (Store buffer) taken = front_of buffer
 given_of (Shift buffer) taken = front_of buffer
 given_of (Variable held) taken = held
-given_of (Quota left) taken = taken
-given_of (Filter rule) taken = taken
 given_of (Map rule) taken = option_map (image rule) taken
-given_of (Merger branches) taken = taken
-given_of (Replicator branches) taken = taken
+given_of _ taken = taken
 
 -- The table of a kind in its present state.
 abbrev pub behaviour_of : Kind → Behaviour
@@ -152,25 +131,18 @@ replaced (Some item) held = Some item
 abbrev pub after : Bool → Bool → Option Value → Kind → Kind
 after first second item (Writer port) = Writer (cond first (unoffered port) port)
 after first second item (Taker port) = Taker (cond first (with_take false) port)
-after first second item Sync = Sync
-after first second item Lossy = Lossy
-after first second item SyncDrain = SyncDrain
-after first second item AsyncDrain = AsyncDrain
 after first second item (Store buffer) = Store (put_in item (given_away second buffer))
 after first second item (Shift buffer) = Shift (shift_in item (given_away second buffer))
 after first second item (Variable held) = Variable (replaced item held)
 after first second item (Quota left) = Quota (cond first (left - 1) left)
-after first second item (Filter rule) = Filter rule
-after first second item (Map rule) = Map rule
-after first second item (Merger branches) = Merger branches
-after first second item (Replicator branches) = Replicator branches
+after first second item kind = kind
 
 -- Whether end 0 flows by its row, and end 1 by the row of a tail.
 abbrev pub first_flows : Kind → Chosen → Bool
-first_flows kind rows = is_flow (mark_by (shape_of kind 0) rows.first 0)
+first_flows kind rows = is_flow ((behaviour_of kind).mark 0 rows.first 0)
 
 abbrev pub second_flows : Kind → Chosen → Bool
-second_flows kind rows = is_flow (mark_by (shape_of kind 1) rows.second 1)
+second_flows kind rows = is_flow ((behaviour_of kind).mark 1 rows.second 1)
 
 -- What a round leaves, from a primitive that keeps something between rounds: an offer or a take whose port flows is
 -- gone; the tail of a buffer or shift buffer that flows gives the front away; the item of a mouth that flows then goes

@@ -35,8 +35,7 @@ pub fn ends_of(kind: &Kind) -> Ends
         Kind::Store(_) | Kind::Shift(_) | Kind::Variable(_) => Ends::MouthTail,
         Kind::Merger(branches) => Ends::Inputs(*branches),
         Kind::Replicator(branches) => Ends::Outputs(*branches),
-        Kind::Sync | Kind::Lossy | Kind::Quota(_) => Ends::InOut,
-        Kind::Filter(_) | Kind::Map(_) => Ends::InOut,
+        _ => Ends::InOut,
     }
 }
 

@@ -41,7 +41,6 @@ pub fn given_by<'a>(kind: &'a Kind, taken: Option<&'a Value>) -> Given<'a>
             Some(item) => Given::Image(rule, item),
             None => Given::Nothing,
         },
-        Kind::Sync | Kind::Lossy | Kind::Quota(_) | Kind::Filter(_) => same(taken),
-        Kind::Merger(_) | Kind::Replicator(_) => same(taken),
+        _ => same(taken),
     }
 }

@@ -18,11 +18,11 @@ pub enum Table {
     /// Two ends that flow together.
     Together,
     /// Flow through, or a loss where the second end cannot flow.
-    LossyRows,
+    Lossy,
     /// Flow at one of two ends.
     OneOfTwo,
     /// Flow through, or a loss of what is not accepted.
-    FilterRows,
+    Filter,
     /// Two ends that cannot flow.
     Spent,
 }
@@ -35,9 +35,9 @@ fn rows_of(table: Table) -> &'static [&'static [Mark]]
         Table::Ready => &[&[F], &[R]],
         Table::Resting => &[&[G]],
         Table::Together => &[&[F, F], &[R, G], &[G, R]],
-        Table::LossyRows => &[&[F, F], &[F, R], &[R, G]],
+        Table::Lossy => &[&[F, F], &[F, R], &[R, G]],
         Table::OneOfTwo => &[&[F, G], &[G, F], &[R, R]],
-        Table::FilterRows => &[&[F, F], &[F, G], &[R, G], &[G, R]],
+        Table::Filter => &[&[F, F], &[F, G], &[R, G], &[G, R]],
         Table::Spent => &[&[G, G]],
     }
 }
@@ -50,8 +50,8 @@ fn classes_of(table: Table) -> &'static [usize]
         Table::Ready => &[0, 1, 2],
         Table::Resting | Table::Spent => &[0, 1],
         Table::Together => &[0, 1, 1, 2],
-        Table::LossyRows | Table::OneOfTwo => &[0, 1, 2, 3],
-        Table::FilterRows => &[0, 1, 2, 2, 3],
+        Table::Lossy | Table::OneOfTwo => &[0, 1, 2, 3],
+        Table::Filter => &[0, 1, 2, 2, 3],
     }
 }
 

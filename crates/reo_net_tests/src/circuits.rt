@@ -1,10 +1,10 @@
 //! How the tests put circuits together, and what they assert of them.
 use crate::pieces::{Piece, kinds};
+use reo_kinds::Kind;
 use reo_net_base::{Colouring, End, Joint};
 use reo_net_circuit::{Circuit, NetFault, are_parts};
-use reo_kinds::Kind;
-use reo_net_plain::plain_first;
 use reo_net_colouring::fill;
+use reo_net_plain::plain_first;
 use reo_values::{List, NoMemory, Value};
 use std::alloc::Global;
 use std::process::Abort;
@@ -32,7 +32,7 @@ fn joined(alloc: Global, joints: &[[usize; 4]]) -> Result<List<Joint>, NoMemory>
 }
 
 /// The circuit of these pieces, the first of which are ports, or its fault.
-fn made(
+pub fn made(
     rt: &impl Abort,
     alloc: Global,
     pieces: &[Piece],
@@ -61,16 +61,32 @@ pub fn fault_is(
     Ok(())
 }
 
-/// The rows of the first colouring of a circuit in round 1.
+/// The rows of the first colouring of a circuit in the round of this number.
 fn first_rows(
     rt: &impl Abort,
     alloc: Global,
     pieces: &[Piece],
     ports: usize,
     joints: &[[usize; 4]],
+    turn: u64,
 ) -> Result<List<u32>, Fail> {
     let circuit = made(rt, alloc, pieces, ports, joints)??;
-    Ok(plain_first(alloc, &circuit, 1)?.rows)
+    Ok(plain_first(alloc, &circuit, turn)?.rows)
+}
+
+/// Asserts that these are the rows of the first colouring of a circuit in the round of this number.
+pub fn rows_in_round(
+    rt: &impl Abort,
+    alloc: Global,
+    pieces: &[Piece],
+    ports: usize,
+    joints: &[[usize; 4]],
+    turn: u64,
+    want: &[u32],
+) -> Result<(), Fail> {
+    let rows = first_rows(rt, alloc, pieces, ports, joints, turn)?;
+    assert_eq!(rt; rows.as_slice(), want);
+    Ok(())
 }
 
 /// Asserts that these are the rows of the first colouring of a circuit in round 1.
@@ -82,9 +98,7 @@ pub fn rows_are(
     joints: &[[usize; 4]],
     want: &[u32],
 ) -> Result<(), Fail> {
-    let rows = first_rows(rt, alloc, pieces, ports, joints)?;
-    assert_eq!(rt; rows.as_slice(), want);
-    Ok(())
+    rows_in_round(rt, alloc, pieces, ports, joints, 1, want)
 }
 
 /// Whether a joint's item is this number, or both are missing.

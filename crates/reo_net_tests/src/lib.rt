@@ -4,14 +4,20 @@
 #[cfg(test)]
 mod circuits;
 #[cfg(test)]
+mod kept;
+#[cfg(test)]
 mod pieces;
 #[cfg(test)]
 mod refused;
+#[cfg(test)]
+mod rounds;
 #[cfg(test)]
 mod row_lists;
 #[cfg(test)]
 mod rules;
 #[cfg(test)]
 mod states;
+#[cfg(test)]
+mod tables;
 #[cfg(test)]
 mod tests;

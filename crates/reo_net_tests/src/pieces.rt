@@ -1,7 +1,8 @@
 //! What stands in the circuits of the tests.
-use reo_net_base::{Offer, Ported};
+use reo_buffers::Buffer;
 use reo_exprs::{Expr, ExprPair, type_of};
 use reo_kinds::{Branches, FilterRule, Kind, MapRule, TakerPort, WriterPort};
+use reo_net_base::{Offer, Ported};
 use reo_values::{Binary, Boxed, Kindred, List, NoMemory, Value};
 use std::alloc::Global;
 use std::process::Abort;
@@ -30,6 +31,14 @@ pub enum Piece {
     Rest,
     /// The map by `it * 2 + 1`.
     TwiceAndOne,
+    /// A buffer of this size with these items.
+    Store(usize, &'static [i64]),
+    /// A shift buffer of this size with these items.
+    Shift(usize, &'static [i64]),
+    /// A variable that holds this item, or none.
+    Variable(Option<i64>),
+    /// With so many left.
+    Quota(u32),
 }
 
 /// A port where items are written, with 3 offered or nothing.
@@ -91,8 +100,41 @@ fn twice_and_one(alloc: Global) -> Result<Kind, Fail> {
     Ok(Kind::Map(MapRule::new(of, expr)))
 }
 
+/// A buffer into which these items were put, as many as fit.
+fn filled(alloc: Global, size: usize, numbers: &[i64]) -> Result<Buffer, NoMemory> {
+    let mut buffer = Buffer::new(alloc, size.clamp(1, 1024))?;
+    for number in numbers {
+        if !buffer.is_full() {
+            buffer.put(Value::Int(*number));
+        }
+    }
+    Ok(buffer)
+}
+
+/// A buffer made with these items, or without, where they do not fit.
+fn holding(alloc: Global, size: usize, numbers: &[i64]) -> Result<Buffer, NoMemory> {
+    let size = size.clamp(1, 1024);
+    let mut items = List::new(alloc);
+    for number in numbers {
+        items.push(Value::Int(*number))?;
+    }
+    if items.len() <= size {
+        Buffer::with(alloc, size, items)
+    } else {
+        Buffer::new(alloc, size)
+    }
+}
+
+/// The number as an item.
+fn item(number: Option<i64>) -> Option<Value> {
+    match number {
+        Some(number) => Some(Value::Int(number)),
+        None => None,
+    }
+}
+
 /// The primitive that a piece stands for.
-fn kind(rt: &impl Abort, alloc: Global, piece: Piece) -> Result<Kind, Fail> {
+pub fn kind(rt: &impl Abort, alloc: Global, piece: Piece) -> Result<Kind, Fail> {
     match piece {
         Piece::Writer(offered) => Ok(writer(offered)),
         Piece::Offering(item) => Ok(offering(item)),
@@ -106,6 +148,10 @@ fn kind(rt: &impl Abort, alloc: Global, piece: Piece) -> Result<Kind, Fail> {
         Piece::Above => filter(rt, alloc, Binary::Gt),
         Piece::Rest => filter(rt, alloc, Binary::Le),
         Piece::TwiceAndOne => twice_and_one(alloc),
+        Piece::Store(size, numbers) => Ok(Kind::Store(filled(alloc, size, numbers)?)),
+        Piece::Shift(size, numbers) => Ok(Kind::Shift(holding(alloc, size, numbers)?)),
+        Piece::Variable(number) => Ok(Kind::Variable(item(number))),
+        Piece::Quota(left) => Ok(Kind::Quota(left)),
     }
 }
 

@@ -2,8 +2,8 @@
 use crate::circuits::BETWEEN;
 use crate::pieces::Piece::{self, Taker, Writer};
 use crate::pieces::kinds;
-use reo_net_base::{Mark, Primitive, marks_match};
 use reo_kinds::Kind;
+use reo_net_base::{Mark, Primitive, marks_match};
 use std::test::Fail;
 
 /// For a writer's and a taker's state: the number of row lists, and those that suit the joints, each as the rows of the
