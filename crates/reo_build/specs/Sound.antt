@@ -1,8 +1,8 @@
 -- A circuit of the form is small, and has no fault.
 use Rattle.std.specs.Prelude.{ℕ, ◌≡◌, ◌+◌, ◌≤◌, length, slice_get, Some}
-use Rattle.reo_net_base.specs.Net.{Net}
+use Rattle.reo_net_base.specs.Net.{Net, net_of}
 use Rattle.reo_net_base.specs.Wired.{ArePorts}
-use Rattle.reo_net_circuit.specs.Parts.{net_with, AreJoints}
+use Rattle.reo_net_circuit.specs.Parts.{wiring_of, AreJoints}
 use Rattle.reo_net_circuit.specs.Fault.{HasNoFault}
 use Rattle.reo_kinds.specs.Kinds.{behaviour_of}
 use Rattle.reo_forms.specs.declared.plainest.Parameter.{Parameter}
@@ -13,7 +13,8 @@ use Rattle.reo_build.specs.Flat.{primitives_of, joint_between, joints_from}
 
 -- The circuit as mathematics.
 abbrev pub net_for : Plainest → Net
-net_for c = net_with behaviour_of (primitives_of c) (joints_from c 0 c.parameters)
+net_for c = net_of behaviour_of
+    (wiring_of (primitives_of c) (length c.parameters) (joints_from c 0 c.parameters))
 
 -- At most eight ports, twelve primitives and eight joints.
 pub record FewParts (c : Plainest) : Type 0 where

@@ -20,11 +20,11 @@ Gives (Err halts.Syntax) left o = o ≡ bad left
 Gives (Err halts.Room) left o = o ≡ out
 Gives (Err halts.NoMemory) left o = Unit {0}
 
--- The answer is not want of memory.
+-- The answer is not out of memory.
 abbrev pub NeedsNoMemory : {A : Type 0} → Result A Halt → Type 0
 NeedsNoMemory r = IsErrOf r halts.NoMemory → ⊥
 
--- Where the answer is want of memory, the tokens left are those of before.
+-- Where the answer is out of memory, the tokens left are those of before.
 abbrev pub StaysWithoutMemory : {A : Type 0} → Result A Halt → List Lexeme → List Lexeme → Type 0
 StaysWithoutMemory r old new = IsErrOf r halts.NoMemory → new ≡ old
 

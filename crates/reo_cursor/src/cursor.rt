@@ -167,7 +167,7 @@ impl<'a> Cursor<'a> {
     ///
     /// # Errors
     ///
-    /// `Syntax`: the next token is no name, or none is left. `NoMemory`: want of memory for the
+    /// `Syntax`: the next token is no name, or none is left. `NoMemory`: out of memory for the
     /// name's bytes. The cursor stays where it was.
     pub fn name(&mut self, alloc: Global) -> Result<Bytes, Halt>
         ensures read { Gives result self.new (name_at self.old) }
@@ -187,7 +187,7 @@ impl<'a> Cursor<'a> {
     ///
     /// # Errors
     ///
-    /// `Syntax`: the next token is no text, or none is left. `NoMemory`: want of memory for the
+    /// `Syntax`: the next token is no text, or none is left. `NoMemory`: out of memory for the
     /// text's bytes. The cursor stays where it was.
     pub fn text(&mut self, alloc: Global) -> Result<Bytes, Halt>
         ensures read { Gives result self.new (text_at self.old) }

@@ -64,7 +64,7 @@ near_greatest : (a b : ℤ) → is_near a ≡ true → is_near b ≡ true → is
 near_greatest a b f g = let p = near_bounds a f in let q = near_bounds b g in near_from (int_max a b) (omega (arith, ints, clamps)) (omega (arith, ints, clamps))
 
 -- a join is of the kind of its left type
-join_kind : (s t : Kindred) → joins s t ≡ true → kind_of (join_of s t) ≡ kind_of s
+pub join_kind : (s t : Kindred) → joins s t ≡ true → kind_of (join_of s t) ≡ kind_of s
 unfolding hidden-the_row-Twins-0 hidden
 join_kind s t e =
     where_joined (λ a b. kind_of (join_of a b) ≡ kind_of a) (record {

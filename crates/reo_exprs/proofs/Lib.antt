@@ -4,6 +4,7 @@ pub mod Corners
 pub mod InType
 pub mod JoinCases
 pub mod Joined
+pub mod KindOfType
 pub mod Kinded
 pub mod Least
 pub mod Lies

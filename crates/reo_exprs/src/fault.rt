@@ -9,6 +9,6 @@ pub enum TypeFault {
     /// A number in it may leave -10^18 to 10^18, a divisor may be below 1, or a text in it has
     /// more than 1,024 bytes.
     Range,
-    /// Want of memory.
+    /// Out of memory.
     NoMemory,
 }

@@ -1,5 +1,5 @@
 //! The kind of an expression.
-ghost use Rattle.std.specs.Prelude.{◌≡◌, IfOk};
+ghost use Rattle.std.specs.Prelude.{◌≡◌, ◌≢◌, IfOk};
 ghost use Rattle.reo_exprs.specs.Kinds.{kind_of as bare};
 ghost use Rattle.reo_exprs.specs.Typing.{unary_kind, binary_kind, if_kind, kind_of_expr as kind_by_table};
 
@@ -25,23 +25,31 @@ fn one_kind(op: Unary, x: Kindred) -> Option<Kindred>
     }
 }
 
+// The kind of the value of an operator that makes no pair.
+fn flat_kind(op: Binary, x: &Kindred, y: &Kindred) -> Option<Kindred>
+    requires flat { op ≢ Binary.Pair }
+    ensures { result ≡ binary_kind op x.now y.now }
+{
+    let numbers = interval_of(x).is_some() && interval_of(y).is_some();
+    match op {
+        Binary::Or | Binary::And => provided(is_bool(x) && is_bool(y), Kindred::Bool),
+        Binary::Eq | Binary::Ne => provided(joins(x, y), Kindred::Bool),
+        Binary::Lt | Binary::Le | Binary::Gt | Binary::Ge => provided(numbers, Kindred::Bool),
+        _ => provided(numbers, Kindred::Int(0, 0)),
+    }
+}
+
 fn two_kind(alloc: Global, op: Binary, x: Kindred, y: Kindred) -> Result<Option<Kindred>, NoMemory>
     requires left { bare x ≡ x }
     requires right { bare y ≡ y }
     ensures { IfOk result (λ made. made ≡ binary_kind op x y) }
 {
-    let numbers = interval_of(&x).is_some() && interval_of(&y).is_some();
     match op {
-        Binary::Or | Binary::And => Ok(provided(is_bool(&x) && is_bool(&y), Kindred::Bool)),
-        Binary::Eq | Binary::Ne => Ok(provided(joins(&x, &y), Kindred::Bool)),
-        Binary::Lt | Binary::Le | Binary::Gt | Binary::Ge => Ok(provided(numbers, Kindred::Bool)),
-        Binary::Add | Binary::Sub | Binary::Mul | Binary::Div | Binary::Rem => {
-            Ok(provided(numbers, Kindred::Int(0, 0)))
-        }
         Binary::Pair => {
             let twins = Twins { left: x, right: y };
             Ok(Some(Kindred::Pair(Boxed::new(alloc, twins)?)))
         }
+        _ => Ok(flat_kind(op, &x, &y)),
     }
 }
 
@@ -54,7 +62,7 @@ fn choice_kind(condition: &Kindred, yes: Kindred, no: &Kindred) -> Option<Kindre
 }
 
 /// The kind of an expression where `it` has a type, or None exactly where a part of it is of a
-/// kind that does not fit where it stands. `NoMemory` is want of memory.
+/// kind that does not fit where it stands. `NoMemory` means out of memory.
 pub fn kind_of_expr(alloc: Global, expr: &Expr, of: &Kindred) -> Result<Option<Kindred>, NoMemory>
     ensures { IfOk result (λ made. made ≡ kind_by_table expr.now of.now) }
 {

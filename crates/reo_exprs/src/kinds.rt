@@ -7,7 +7,7 @@ use crate::interval::{Interval, is_near};
 use reo_values::{Boxed, Bytes, Copies, Kindred, NoMemory, Twins, copy_kindred};
 use std::alloc::Global;
 
-/// The kind of a type: the type with each bound and each length 0. `NoMemory` is want of memory.
+/// The kind of a type: the type with each bound and each length 0. `NoMemory` means out of memory.
 pub fn kind_of(alloc: Global, kindred: &Kindred) -> Result<Kindred, NoMemory>
     ensures { IfOk result (λ made. made ≡ kind_of kindred.now) }
 {
@@ -55,7 +55,7 @@ pub fn joins(a: &Kindred, b: &Kindred) -> bool
 }
 
 /// The join of two types that join: the least interval that contains both, and the greater
-/// length. `NoMemory` is want of memory.
+/// length. `NoMemory` means out of memory.
 pub fn join(alloc: Global, a: &Kindred, b: &Kindred) -> Result<Kindred, NoMemory>
     ensures { IfOk result (λ made. made ≡ join_of a.now b.now) }
 {

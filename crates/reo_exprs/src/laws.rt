@@ -5,7 +5,7 @@ ghost use Rattle.reo_values.specs.Valid.{IsValid};
 ghost use Rattle.reo_exprs.specs.Kinds.{kind_of, joins, LiesInside};
 ghost use Rattle.reo_exprs.specs.Least.{IntervalsAreLeast};
 ghost use Rattle.reo_exprs.specs.WellFormed.{IsWellFormed};
-ghost use Rattle.reo_exprs.specs.Typing.{type_of_expr};
+ghost use Rattle.reo_exprs.specs.Typing.{kind_of_expr, type_of_expr};
 ghost use Rattle.reo_exprs.specs.Valued.{value_of_expr};
 
 use crate::Expr;
@@ -32,6 +32,12 @@ pub fn type_is_valid(expr: &Expr, of: &Kindred, kindred: &Kindred)
     requires typed { type_of_expr expr.now of.now ≡ Some kindred.now }
     requires valid { IsValid of.now }
     ensures { IsValid kindred.now }
+{}
+
+/// The kind of an expression is the kind of its type, where it has a type.
+pub fn kind_is_that_of_the_type(expr: &Expr, of: &Kindred, kindred: &Kindred)
+    requires typed { type_of_expr expr.now of.now ≡ Some kindred.now }
+    ensures { kind_of_expr expr.now of.now ≡ Some (kind_of kindred.now) }
 {}
 
 /// Two types join exactly where their kinds are equal.

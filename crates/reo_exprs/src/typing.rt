@@ -84,25 +84,35 @@ fn number_type(op: Binary, x: &Kindred, y: &Kindred) -> Option<Kindred>
     Some(Kindred::Int(made.low, made.high))
 }
 
+// The type of the value of an operator that makes no pair.
+fn flat_type(op: Binary, x: &Kindred, y: &Kindred) -> Option<Kindred>
+    requires flat { op ≢ Binary.Pair }
+    requires left { IsTrue (is_within x.now) }
+    requires right { IsTrue (is_within y.now) }
+    ensures { result ≡ binary_within op x.now y.now }
+{
+    match op {
+        Binary::Or | Binary::And => provided(is_bool(x) && is_bool(y), Kindred::Bool),
+        Binary::Eq | Binary::Ne => provided(joins(x, y), Kindred::Bool),
+        Binary::Lt | Binary::Le | Binary::Gt | Binary::Ge => {
+            let numbers = interval_of(x).is_some() && interval_of(y).is_some();
+            provided(numbers, Kindred::Bool)
+        }
+        _ => number_type(op, x, y),
+    }
+}
+
 fn two_type(alloc: Global, op: Binary, x: Kindred, y: Kindred) -> Result<Option<Kindred>, NoMemory>
     requires left { IsTrue (is_within x) }
     requires right { IsTrue (is_within y) }
     ensures { IfOk result (λ made. made ≡ binary_within op x y) }
 {
     match op {
-        Binary::Or | Binary::And => Ok(provided(is_bool(&x) && is_bool(&y), Kindred::Bool)),
-        Binary::Eq | Binary::Ne => Ok(provided(joins(&x, &y), Kindred::Bool)),
-        Binary::Lt | Binary::Le | Binary::Gt | Binary::Ge => {
-            let numbers = interval_of(&x).is_some() && interval_of(&y).is_some();
-            Ok(provided(numbers, Kindred::Bool))
-        }
-        Binary::Add | Binary::Sub | Binary::Mul | Binary::Div | Binary::Rem => {
-            Ok(number_type(op, &x, &y))
-        }
         Binary::Pair => {
             let twins = Twins { left: x, right: y };
             Ok(Some(Kindred::Pair(Boxed::new(alloc, twins)?)))
         }
+        _ => Ok(flat_type(op, &x, &y)),
     }
 }
 
@@ -174,7 +184,7 @@ fn type_within(alloc: Global, expr: &Expr, of: &Kindred) -> Result<Option<Kindre
     }
 }
 
-// The type that was found, the fault where there is none, and want of memory only where it was met.
+// The type that was found, the fault where there is none, and out of memory only where that was met.
 fn or_fault(
     found: Result<Option<Kindred>, NoMemory>,
     fault: TypeFault,
@@ -194,7 +204,7 @@ fn or_fault(
 /// The type of an expression where `it` has a type. `Mistyped` where a part of it is of a kind
 /// that does not fit where it stands; `Range` where it is not mistyped and an interval leaves
 /// -10^18 to 10^18, a divisor's interval has a number below 1, or a text has more than 1,024
-/// bytes; `NoMemory` is want of memory.
+/// bytes; `NoMemory` means out of memory.
 pub fn type_of(alloc: Global, expr: &Expr, of: &Kindred) -> Result<Kindred, TypeFault>
     ensures typed { IfOk result (λ t. type_of_expr expr.now of.now ≡ Some t) }
     ensures kind { IfOk result (λ t. IsSome (kind_of_expr expr.now of.now)) }

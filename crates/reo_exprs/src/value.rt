@@ -9,7 +9,7 @@ use crate::view::{View, is_item, truth, view_of};
 use reo_values::{Boxed, Bytes, Couple, Kindred, NoMemory, Value, copy};
 use std::alloc::Global;
 
-/// The value of an expression on an item. `NoMemory` is want of memory.
+/// The value of an expression on an item. `NoMemory` means out of memory.
 pub fn value_of(alloc: Global, expr: &Expr, of: &Kindred, item: &Value) -> Result<Value, NoMemory>
     requires typed { IsTyped expr.now of.now }
     requires member { IsIn item.now of.now }

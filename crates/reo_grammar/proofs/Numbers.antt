@@ -5,7 +5,7 @@ use Rattle.std.proofs.Math.Nat.{pow-succ', pow-le-pow_right}
 use Rattle.std.proofs.lemmas.Bool.Decides.{nat_tests}
 use Rattle.reo_grammar.specs.declared.kind.TokenKind.{TokenKind}
 use Rattle.reo_grammar.specs.declared.kind.TokenKind.TheVariants as kinds
-use Rattle.reo_grammar.specs.Bytes.{is_digit}
+use Rattle.reo_values.specs.Names.{is_digit}
 use Rattle.reo_grammar.specs.Spelling.{spells, is_short, is_digits}
 use Rattle.reo_grammar.specs.Tokens.{Lexeme, is_real, number_from}
 use Rattle.reo_grammar.proofs.Sound.{and-left, and-right}

@@ -3,7 +3,8 @@
 use Rattle.std.specs.Prelude.{ℕ, ◌+◌, Bool, true, false, ◌&&◌, ◌||◌, not, cond, List, [], ◌∷◌}
 use Rattle.reo_grammar.specs.declared.kind.TokenKind.{TokenKind}
 use Rattle.reo_grammar.specs.declared.kind.TokenKind.TheVariants as kinds
-use Rattle.reo_grammar.specs.Bytes.{is_letter}
+use Rattle.reo_values.specs.Bytes.{quote}
+use Rattle.reo_values.specs.Names.{is_letter}
 use Rattle.reo_grammar.specs.Tokens.{Lexeme, Class, matches, is_real}
 use Rattle.reo_grammar.specs.Tokens.Class.{fixed, among, other, name, named, number, text}
 use Rattle.reo_grammar.specs.Grammar.{Grammar}
@@ -26,7 +27,7 @@ sample (other b) = record { kind = kinds.Name; bytes = 97 ∷ []; line = 0 }
 sample name = record { kind = kinds.Name; bytes = 97 ∷ []; line = 0 }
 sample (named b) = record { kind = kinds.Name; bytes = b; line = 0 }
 sample (number low high) = record { kind = kinds.Number; bytes = (48 + low) ∷ []; line = 0 }
-sample text = record { kind = kinds.Text; bytes = 34 ∷ 34 ∷ []; line = 0 }
+sample text = record { kind = kinds.Text; bytes = quote ∷ quote ∷ []; line = 0 }
 
 -- The class has a token that texts have.
 abbrev pub is_inhabited : Class → Bool

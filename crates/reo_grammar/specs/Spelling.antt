@@ -1,9 +1,11 @@
 -- How tokens are spelled: the bytes of each kind of token.
 use Rattle.std.specs.Prelude.{ℕ, ◌==◌, Bool, true, false, ◌&&◌, not, cond, List, [], ◌∷◌, ◌++◌, nat_le, length, codes}
 use Rattle.std.specs.List.{list_all}
+use Rattle.reo_values.specs.Bytes.{quote, backslash}
+use Rattle.reo_values.specs.Names.{is_digit, is_name}
 use Rattle.reo_grammar.specs.declared.kind.TokenKind.{TokenKind}
 use Rattle.reo_grammar.specs.declared.kind.TokenKind.TheVariants as kinds
-use Rattle.reo_grammar.specs.Bytes.{is_digit, is_letter, is_name_byte, is_unescaped, is_escaped, is_empty, one_of}
+use Rattle.reo_grammar.specs.Bytes.{is_unescaped, is_escaped, is_empty, one_of}
 
 -- The words that no name is, in five groups.
 abbrev pub frame_words : List (List ℕ)
@@ -33,11 +35,6 @@ signs =
     ∷ codes "!=" ∷ codes "<" ∷ codes "<=" ∷ codes ">" ∷ codes ">=" ∷ codes "+" ∷ codes "-" ∷ codes "*" ∷ codes "/" ∷ codes "%"
     ∷ codes "&&" ∷ codes "||" ∷ codes "!" ∷ []
 
--- A letter or `_`, and then letters, digits or `_`.
-abbrev pub is_spelled : List ℕ → Bool
-is_spelled [] = false
-is_spelled (b ∷ bs) = is_letter b && list_all is_name_byte bs
-
 -- One or more digits.
 abbrev pub is_digits : List ℕ → Bool
 is_digits [] = false
@@ -48,15 +45,15 @@ is_digits (b ∷ bs) = is_digit b && list_all is_digit bs
 abbrev pub is_closed : Bool → List ℕ → Bool
 is_closed escape [] = false
 is_closed true (b ∷ bs) = is_escaped b && is_closed false bs
-is_closed false (b ∷ bs) = cond (b == 34) (is_empty bs) (cond (b == 92) (is_closed true bs) (is_unescaped b && is_closed false bs))
+is_closed false (b ∷ bs) = cond (b == quote) (is_empty bs) (cond (b == backslash) (is_closed true bs) (is_unescaped b && is_closed false bs))
 
 -- The bytes have the form of a kind of token, a number's digits not counted.
 abbrev pub spells : TokenKind → List ℕ → Bool
-spells kinds.Name b = is_spelled b && not (one_of b reserved)
+spells kinds.Name b = is_name b && not (one_of b reserved)
 spells kinds.Word b = one_of b reserved
 spells kinds.Number b = is_digits b
 spells kinds.Text [] = false
-spells kinds.Text (q ∷ b) = q == 34 && is_closed false b
+spells kinds.Text (q ∷ b) = q == quote && is_closed false b
 spells kinds.Sign b = one_of b signs
 
 -- A number has at most 18 digits.

@@ -10,6 +10,3 @@ pub use language::{
     Language, one_answer, one_tree, reading_is_exact, refusal_is_exact, refusal_of_front,
     same_with_other_lines,
 };
-
-#[cfg(test)]
-mod tests;

@@ -34,6 +34,3 @@ pub use std_source::StdSource;
 pub use sure_files::SureFiles;
 pub use sure_sink::SureSink;
 pub use sure_source::SureSource;
-
-#[cfg(test)]
-mod tests;

@@ -2,10 +2,11 @@
 use Rattle.std.proofs.Common.{◌≡◌, ℕ, ◌≤◌, Bool, true, false, ◌&&◌, not, cond, List, [], ◌∷◌, ◌++◌, inl, inr, refl, sym, ◌∙◌, ap, subst, arith, append_assoc, append-nil, ◌==◌, nat_le}
 use Rattle.std.specs.List.{list_all}
 use Rattle.std.proofs.lemmas.Bool.Decides.{nat_tests}
+use Rattle.reo_values.specs.Names.{is_digit, is_letter, is_name_byte, is_name}
 use Rattle.reo_grammar.specs.declared.kind.TokenKind.{TokenKind}
 use Rattle.reo_grammar.specs.declared.kind.TokenKind.TheVariants as kinds
-use Rattle.reo_grammar.specs.Bytes.{is_digit, is_letter, is_name_byte, is_unescaped, is_escaped, is_empty, one_of}
-use Rattle.reo_grammar.specs.Spelling.{spells, is_short, is_spelled, is_closed, reserved, signs}
+use Rattle.reo_grammar.specs.Bytes.{is_unescaped, is_escaped, is_empty, one_of}
+use Rattle.reo_grammar.specs.Spelling.{spells, is_short, is_closed, reserved, signs}
 use Rattle.reo_grammar.proofs.Sound.{and-left, and-right, and-both}
 use Rattle.reo_grammar.proofs.Classes.{or-cases}
 use Rattle.reo_lexer.specs.Gaps.{is_no_lf}
@@ -24,7 +25,7 @@ is_cut kinds.Number bytes (b ∷ r) = not (is_digit b)
 is_cut kinds.Text bytes (b ∷ r) = true
 is_cut kinds.Sign bytes (b ∷ r) = not (one_of (bytes ++ b ∷ []) signs)
 
-name-cut : (k : TokenKind) (bytes rest : List ℕ) → is_spelled bytes ≡ true → ends is_name_byte rest ≡ true → Longest bytes rest
+name-cut : (k : TokenKind) (bytes rest : List ℕ) → is_name bytes ≡ true → ends is_name_byte rest ≡ true → Longest bytes rest
 name-cut k [] rest h e = absurd (cc)
 name-cut k (b ∷ bs) rest h e = name-longest b bs rest (and-left (is_letter b) (list_all is_name_byte bs) h) e
 
@@ -41,7 +42,7 @@ ends-of p rest h = refl
 -- Bytes that are spelled as a token, before a byte that does not go on with it, are that token.
 pub cut-token : (k : TokenKind) (bytes rest : List ℕ) → spells k bytes ≡ true → is_short k bytes ≡ true → is_cut k bytes rest ≡ true → IsToken k bytes rest
 cut-token kinds.Name bytes rest h s e =
-    record { spelled = h; short = s; longest = name-cut kinds.Name bytes rest (and-left (is_spelled bytes) (not (one_of bytes reserved)) h) (by rest e) }
+    record { spelled = h; short = s; longest = name-cut kinds.Name bytes rest (and-left (is_name bytes) (not (one_of bytes reserved)) h) (by rest e) }
   where
     by : (rest : List ℕ) → is_cut kinds.Name bytes rest ≡ true → ends is_name_byte rest ≡ true
     by [] e = refl
@@ -109,13 +110,13 @@ closed-no-lf false (b ∷ bs) h = by (b == 34) (b == 92) refl refl h (λ k. clos
     by false false p q k i j =
         and-both (is_no_lf b) (list_all is_no_lf bs) (unescaped-no-lf b (and-left (is_unescaped b) (is_closed false bs) k)) (j (and-right (is_unescaped b) (is_closed false bs) k))
 
-spelled-no-lf : (bs : List ℕ) → is_spelled bs ≡ true → list_all is_no_lf bs ≡ true
+spelled-no-lf : (bs : List ℕ) → is_name bs ≡ true → list_all is_no_lf bs ≡ true
 spelled-no-lf [] h = refl
 spelled-no-lf (b ∷ bs) h =
     and-both (is_no_lf b) (list_all is_no_lf bs) (letter-no-lf b (and-left (is_letter b) (list_all is_name_byte bs) h)) (each-other is_name_byte is_no_lf name-no-lf bs (and-right (is_letter b) (list_all is_name_byte bs) h))
 
 pub token-no-lf : (k : TokenKind) (bs : List ℕ) → spells k bs ≡ true → list_all is_no_lf bs ≡ true
-token-no-lf kinds.Name bs h = spelled-no-lf bs (and-left (is_spelled bs) (not (one_of bs reserved)) h)
+token-no-lf kinds.Name bs h = spelled-no-lf bs (and-left (is_name bs) (not (one_of bs reserved)) h)
 token-no-lf kinds.Word bs h = spelled-no-lf bs (reserved-spelled bs h)
 token-no-lf kinds.Number [] h = refl
 token-no-lf kinds.Number (b ∷ bs) h =

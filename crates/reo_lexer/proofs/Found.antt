@@ -3,10 +3,11 @@ use Rattle.std.proofs.Common.{◌≡◌, ℕ, zero, suc, ◌+◌, ◌-◌, ◌�
 use Rattle.std.proofs.lemmas.Bool.Decides.{nat_tests}
 use Rattle.std.specs.List.{list_all, take_while}
 use Rattle.std.proofs.lemmas.List.Sums.{take_while-cons}
+use Rattle.reo_values.specs.Names.{is_digit, is_letter, is_name_byte, is_name}
 use Rattle.reo_grammar.specs.declared.kind.TokenKind.{TokenKind}
 use Rattle.reo_grammar.specs.declared.kind.TokenKind.TheVariants as kinds
-use Rattle.reo_grammar.specs.Bytes.{is_digit, is_letter, is_name_byte, is_unescaped, is_escaped, one_of}
-use Rattle.reo_grammar.specs.Spelling.{spells, is_short, is_spelled, is_closed, reserved, signs}
+use Rattle.reo_grammar.specs.Bytes.{is_unescaped, is_escaped, one_of}
+use Rattle.reo_grammar.specs.Spelling.{spells, is_short, is_closed, reserved, signs}
 use Rattle.reo_grammar.proofs.Sound.{and-both, or-left}
 use Rattle.reo_lexer.specs.Gaps.{is_space}
 use Rattle.reo_lexer.specs.Lexing.{IsToken}
@@ -31,7 +32,7 @@ past-cons : (p : ℕ → Bool) (b : ℕ) (r : List ℕ) → p b ≡ true → pas
 past-cons p b r h = rw h refl
 
 name-kind : (k : TokenKind) (left : List ℕ) (n : ℕ) → is_letter (get_or left 0 0) ≡ true → n ≡ length (take_while is_name_byte left)
-    → ((b : ℕ) (bs : List ℕ) → is_spelled (b ∷ bs) ≡ true → take n left ≡ b ∷ bs → (spells k (b ∷ bs) ≡ true) × (is_short k (b ∷ bs) ≡ true)) → IsFront k n left
+    → ((b : ℕ) (bs : List ℕ) → is_name (b ∷ bs) ≡ true → take n left ≡ b ∷ bs → (spells k (b ∷ bs) ≡ true) × (is_short k (b ∷ bs) ≡ true)) → IsFront k n left
 name-kind k [] n l e f = absurd (cc)
 name-kind k (b ∷ r) n l e f =
     let i : is_name_byte b ≡ true = or-left (is_letter b) (is_digit b) l in
@@ -50,7 +51,7 @@ word_front left n l e h = name-kind kinds.Word left n l e (λ b bs s t. (rw t at
 
 pub name_front : (left : List ℕ) (n : ℕ) → is_letter (get_or left 0 0) ≡ true → n ≡ length (take_while is_name_byte left) → one_of (take n left) reserved ≡ false → IsFront kinds.Name n left
 name_front left n l e h = name-kind kinds.Name left n l e
-    (λ b bs s t. (and-both (is_spelled (b ∷ bs)) (not (one_of (b ∷ bs) reserved)) s (yes-not (one_of (b ∷ bs) reserved) (rw t at h)), refl))
+    (λ b bs s t. (and-both (is_name (b ∷ bs)) (not (one_of (b ∷ bs) reserved)) s (yes-not (one_of (b ∷ bs) reserved) (rw t at h)), refl))
 
 -- Digits in front are a number where they are at most 18, and a fault otherwise.
 pub number-front : (left : List ℕ) (n : ℕ) → is_digit (get_or left 0 0) ≡ true → n ≡ length (take_while is_digit left) → n ≤ 18 → IsFront kinds.Number n left

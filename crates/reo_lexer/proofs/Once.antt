@@ -4,7 +4,7 @@ use Rattle.std.specs.List.{list_all}
 use Rattle.std.proofs.lemmas.Bool.Decides.{nat_tests}
 use Rattle.reo_grammar.specs.declared.kind.TokenKind.{TokenKind}
 use Rattle.reo_grammar.specs.declared.kind.TokenKind.TheVariants as kinds
-use Rattle.reo_grammar.specs.Bytes.{is_digit}
+use Rattle.reo_values.specs.Names.{is_digit}
 use Rattle.reo_grammar.specs.Spelling.{spells, is_short, is_digits, is_closed}
 use Rattle.reo_grammar.proofs.Sound.{and-left, and-right}
 use Rattle.reo_grammar.proofs.Classes.{no-both}

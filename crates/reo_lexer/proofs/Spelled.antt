@@ -3,10 +3,11 @@ use Rattle.std.proofs.Common.{◌≡◌, ℕ, ◌≤◌, Bool, true, false, ◌&
 use Rattle.std.specs.List.{list_all}
 use Rattle.std.proofs.lemmas.Bool.Decides.{nat_tests}
 use Rattle.std.specs.Str.{bytes_eq}
+use Rattle.reo_values.specs.Names.{is_digit, is_letter, is_name_byte, is_name}
 use Rattle.reo_grammar.specs.declared.kind.TokenKind.{TokenKind}
 use Rattle.reo_grammar.specs.declared.kind.TokenKind.TheVariants as kinds
-use Rattle.reo_grammar.specs.Bytes.{is_digit, is_letter, is_name_byte, one_of}
-use Rattle.reo_grammar.specs.Spelling.{spells, is_spelled, is_digits, is_closed, reserved, signs}
+use Rattle.reo_grammar.specs.Bytes.{one_of}
+use Rattle.reo_grammar.specs.Spelling.{spells, is_digits, is_closed, reserved, signs}
 use Rattle.reo_grammar.proofs.Sound.{and-left, and-right, and-both}
 use Rattle.reo_grammar.proofs.Classes.{same_bytes, or-cases, no-both}
 use Rattle.reo_lexer.specs.Faults.{ends}
@@ -29,8 +30,8 @@ abbrev pub sign_like : List ℕ → Bool
 sign_like [] = false
 sign_like (b ∷ bs) = (not (is_letter b) && (not (is_digit b) && not (b == 34))) && nat_le (length bs) 1
 
-pub reserved-spelled : (b : List ℕ) → one_of b reserved ≡ true → is_spelled b ≡ true
-reserved-spelled b h = one_of-passes is_spelled b reserved refl h
+pub reserved-spelled : (b : List ℕ) → one_of b reserved ≡ true → is_name b ≡ true
+reserved-spelled b h = one_of-passes is_name b reserved refl h
 
 pub sign-like : (b : List ℕ) → one_of b signs ≡ true → sign_like b ≡ true
 sign-like b h = one_of-passes sign_like b signs refl h
@@ -75,9 +76,9 @@ digit-no-letter b h = never (is_letter b) (λ e. let k = letter-parts b e in let
 pub spells-kind : (k : TokenKind) (b : List ℕ) → spells k b ≡ true → kind_of b ≡ k
 spells-kind kinds.Name [] h = absurd (cc)
 spells-kind kinds.Name (b ∷ bs) h =
-    let s : is_spelled (b ∷ bs) ≡ true = and-left (is_spelled (b ∷ bs)) (not (one_of (b ∷ bs) reserved)) h in
+    let s : is_name (b ∷ bs) ≡ true = and-left (is_name (b ∷ bs)) (not (one_of (b ∷ bs) reserved)) h in
     let l : is_letter b ≡ true = and-left (is_letter b) (list_all is_name_byte bs) s in
-    let n : one_of (b ∷ bs) reserved ≡ false = not-yes _ (and-right (is_spelled (b ∷ bs)) (not (one_of (b ∷ bs) reserved)) h) in
+    let n : one_of (b ∷ bs) reserved ≡ false = not-yes _ (and-right (is_name (b ∷ bs)) (not (one_of (b ∷ bs) reserved)) h) in
     by (is_letter b) (one_of (b ∷ bs) reserved) (cond (is_digit b) kinds.Number (cond (b == 34) kinds.Text kinds.Sign)) l n
   where
     by : (x y : Bool) (o : TokenKind) → x ≡ true → y ≡ false → cond x (cond y kinds.Word kinds.Name) o ≡ kinds.Name
@@ -130,8 +131,8 @@ no-empty kinds.Text h = cc
 no-empty kinds.Sign h = cc
 
 -- What begins with a letter is spelled as names are; with a digit, as numbers are; with a quote, as texts are; else it is a sign.
-pub by-letter : (k : TokenKind) (b : ℕ) (bs : List ℕ) → is_letter b ≡ true → spells k (b ∷ bs) ≡ true → is_spelled (b ∷ bs) ≡ true
-by-letter kinds.Name b bs l h = and-left (is_spelled (b ∷ bs)) (not (one_of (b ∷ bs) reserved)) h
+pub by-letter : (k : TokenKind) (b : ℕ) (bs : List ℕ) → is_letter b ≡ true → spells k (b ∷ bs) ≡ true → is_name (b ∷ bs) ≡ true
+by-letter kinds.Name b bs l h = and-left (is_name (b ∷ bs)) (not (one_of (b ∷ bs) reserved)) h
 by-letter kinds.Word b bs l h = reserved-spelled (b ∷ bs) h
 by-letter kinds.Number b bs l h = absurd (let k = letter-parts b l in let d = digit-parts b (and-left (is_digit b) (list_all is_digit bs) h) in omega arith)
 by-letter kinds.Text b bs l h = absurd (let k = letter-parts b l in let q = quote-part b (and-left (b == 34) (is_closed false bs) h) in omega arith)
@@ -140,7 +141,7 @@ by-letter kinds.Sign b bs l h =
     (and-left (not (is_letter b) && (not (is_digit b) && not (b == 34))) (nat_le (length bs) 1) (sign-like (b ∷ bs) h)))))
 
 pub by-digit : (k : TokenKind) (b : ℕ) (bs : List ℕ) → is_digit b ≡ true → spells k (b ∷ bs) ≡ true → is_digits (b ∷ bs) ≡ true
-by-digit kinds.Name b bs l h = absurd (no-both (is_letter b) (and-left (is_letter b) (list_all is_name_byte bs) (and-left (is_spelled (b ∷ bs)) (not (one_of (b ∷ bs) reserved)) h)) (digit-no-letter b l))
+by-digit kinds.Name b bs l h = absurd (no-both (is_letter b) (and-left (is_letter b) (list_all is_name_byte bs) (and-left (is_name (b ∷ bs)) (not (one_of (b ∷ bs) reserved)) h)) (digit-no-letter b l))
 by-digit kinds.Word b bs l h = absurd (no-both (is_letter b) (and-left (is_letter b) (list_all is_name_byte bs) (reserved-spelled (b ∷ bs) h)) (digit-no-letter b l))
 by-digit kinds.Number b bs l h = h
 by-digit kinds.Text b bs l h = absurd (let k = digit-parts b l in let q = quote-part b (and-left (b == 34) (is_closed false bs) h) in omega arith)
@@ -157,7 +158,7 @@ by-quote kinds.Text bs h = h
 by-quote kinds.Sign bs h = absurd (let k : false ≡ true = sign-like (34 ∷ bs) h in cc)
 
 pub by-other : (k : TokenKind) (b : ℕ) (bs : List ℕ) → is_letter b ≡ false → is_digit b ≡ false → (b == 34) ≡ false → spells k (b ∷ bs) ≡ true → one_of (b ∷ bs) signs ≡ true
-by-other kinds.Name b bs l d q h = absurd (no-both (is_letter b) (and-left (is_letter b) (list_all is_name_byte bs) (and-left (is_spelled (b ∷ bs)) (not (one_of (b ∷ bs) reserved)) h)) l)
+by-other kinds.Name b bs l d q h = absurd (no-both (is_letter b) (and-left (is_letter b) (list_all is_name_byte bs) (and-left (is_name (b ∷ bs)) (not (one_of (b ∷ bs) reserved)) h)) l)
 by-other kinds.Word b bs l d q h = absurd (no-both (is_letter b) (and-left (is_letter b) (list_all is_name_byte bs) (reserved-spelled (b ∷ bs) h)) l)
 by-other kinds.Number b bs l d q h = absurd (no-both (is_digit b) (and-left (is_digit b) (list_all is_digit bs) h) d)
 by-other kinds.Text b bs l d q h = absurd (no-both (b == 34) (and-left (b == 34) (is_closed false bs) h) q)
@@ -177,7 +178,7 @@ Longest bytes rest = (k : TokenKind) (more after : List ℕ) → rest ≡ more +
 pub name-longest : (b : ℕ) (bs rest : List ℕ) → is_letter b ≡ true → ends is_name_byte rest ≡ true → Longest (b ∷ bs) rest
 name-longest b bs rest l e k [] after w h = refl
 name-longest b bs rest l e k (c ∷ m) after w h =
-    let s : is_spelled (b ∷ (bs ++ (c ∷ m))) ≡ true = by-letter k b (bs ++ (c ∷ m)) l h in
+    let s : is_name (b ∷ (bs ++ (c ∷ m))) ≡ true = by-letter k b (bs ++ (c ∷ m)) l h in
     let i : is_name_byte c ≡ true = each-next is_name_byte bs m c (and-right (is_letter b) (list_all is_name_byte (bs ++ (c ∷ m))) s) in
     absurd (no-both (is_name_byte c) i (ends-no is_name_byte rest m after c e w))
 
@@ -214,7 +215,7 @@ digit-head b bs h = let d = digit-parts b h in head-by-bounds b bs (omega arith)
 pub token-head : (k : TokenKind) (bytes : List ℕ) → spells k bytes ≡ true → no_gap_head bytes ≡ true
 token-head kinds.Name [] h = absurd (cc)
 token-head kinds.Name (b ∷ bs) h =
-    let l = letter-parts b (and-left (is_letter b) (list_all is_name_byte bs) (and-left (is_spelled (b ∷ bs)) (not (one_of (b ∷ bs) reserved)) h)) in head-by-bounds b bs (omega arith)
+    let l = letter-parts b (and-left (is_letter b) (list_all is_name_byte bs) (and-left (is_name (b ∷ bs)) (not (one_of (b ∷ bs) reserved)) h)) in head-by-bounds b bs (omega arith)
 token-head kinds.Word b h = one_of-passes no_gap_head b reserved refl h
 token-head kinds.Number [] h = absurd (cc)
 token-head kinds.Number (b ∷ bs) h = digit-head b bs (and-left (is_digit b) (list_all is_digit bs) h)

@@ -1,5 +1,6 @@
 -- The tokens of a text: gaps and tokens in turn, each token the longest that fits, with its span and its line.
 use Rattle.std.specs.Prelude.{◌≡◌, ℕ, ◌+◌, ◌-◌, ◌≤◌, true, List, [], ◌∷◌, ◌++◌, length, take, drop, map}
+use Rattle.reo_values.specs.Bytes.{line_feed}
 use Rattle.reo_grammar.specs.declared.kind.TokenKind.{TokenKind}
 use Rattle.reo_grammar.specs.Spelling.{spells, is_short}
 use Rattle.reo_grammar.specs.Tokens.{Lexeme}
@@ -28,9 +29,9 @@ abbrev pub Runs : (ℕ → List ℕ → Type 0) → ℕ → ℕ → List ℕ →
 Runs End at line left [] = End line left
 Runs End at line left (t ∷ ts) = (after : List ℕ) × Leads at line left t after × Runs End t.end t.line after ts
 
--- A gap alone is left; at the end of a text an LF may be wanting.
+-- A gap alone is left; at the end of a text an LF may be missing.
 abbrev pub AtEnd : ℕ → List ℕ → Type 0
-AtEnd line left = IsGap (left ++ 10 ∷ [])
+AtEnd line left = IsGap (left ++ line_feed ∷ [])
 
 -- The text is these tokens with gaps before, between and behind them.
 abbrev pub IsTokens : List ℕ → List Token → Type 0

@@ -1,5 +1,6 @@
 -- Parts of a text by where they end, as the reader of tokens finds them.
 use Rattle.std.specs.Prelude.{ℕ, ◌+◌, ◌==◌, ◌≤◌, ◌<◌, Option, Some, None, Result, Ok, Err, Bool, true, false, cond, List, [], ◌∷◌, length, take, drop}
+use Rattle.reo_values.specs.Bytes.{hash, backslash}
 use Rattle.reo_grammar.specs.declared.kind.TokenKind.{TokenKind}
 use Rattle.reo_lexer.specs.declared.token.Token.{Token}
 use Rattle.reo_lexer.specs.declared.token.LexFault.{LexFault}
@@ -15,7 +16,7 @@ abbrev pub behind : Bool → List ℕ → List ℕ
 behind true [] = []
 behind true (b ∷ bs) = behind (is_no_lf b) bs
 behind false [] = []
-behind false (b ∷ bs) = cond (is_space b) (behind false bs) (cond (b == 35) (behind true bs) (b ∷ bs))
+behind false (b ∷ bs) = cond (is_space b) (behind false bs) (cond (b == hash) (behind true bs) (b ∷ bs))
 
 -- Where the inside of a text in quotes ends: what is left there, and whether a `\` stands before it. The flag says that one
 -- stands before the bytes.
@@ -26,7 +27,7 @@ pub record Inside : Type 0 where
 abbrev pub inside : Bool → List ℕ → Inside
 inside e [] = record { escape = e; left = [] }
 inside true (b ∷ bs) = cond (is_escaped b) (inside false bs) (record { escape = true; left = b ∷ bs })
-inside false (b ∷ bs) = cond (b == 92) (inside true bs) (cond (is_unescaped b) (inside false bs) (record { escape = false; left = b ∷ bs }))
+inside false (b ∷ bs) = cond (b == backslash) (inside true bs) (cond (is_unescaped b) (inside false bs) (record { escape = false; left = b ∷ bs }))
 
 -- The length of the longest sign in front, 0 where there is none.
 abbrev pub sign_size : List ℕ → ℕ

@@ -1,6 +1,7 @@
 //! Classes of bytes.
 ghost use Rattle.std.specs.Prelude.{◌≡◌};
-ghost use Rattle.reo_grammar.specs.Bytes.{is_digit as digit_test, is_letter as letter_test, is_name_byte as name_test, is_unescaped as unescaped_test, is_escaped as escaped_test};
+ghost use Rattle.reo_values.specs.Names.{is_digit as digit_test, is_letter as letter_test, is_name_byte as name_test};
+ghost use Rattle.reo_grammar.specs.Bytes.{is_unescaped as unescaped_test, is_escaped as escaped_test};
 ghost use Rattle.reo_lexer.specs.Gaps.{is_space as space_test};
 ghost use Rattle.reo_lexer.specs.Faults.{is_break as break_test};
 

@@ -1,6 +1,7 @@
 //! The token in front of what is left of a text.
 ghost use Rattle.std.specs.Prelude.{◌≡◌, ◌==◌, ◌<◌, length, slice_index, true, false, IfOk, IfErr};
-ghost use Rattle.reo_grammar.specs.Bytes.{is_digit as digit_test, is_letter as letter_test};
+ghost use Rattle.reo_values.specs.Bytes.{quote, hash};
+ghost use Rattle.reo_values.specs.Names.{is_digit as digit_test, is_letter as letter_test};
 ghost use Rattle.reo_lexer.specs.Gaps.{is_space as space_test};
 ghost use Rattle.reo_lexer.specs.Faults.{BeginsFault};
 ghost use Rattle.reo_lexer.specs.Skipping.{IsFront};
@@ -52,7 +53,7 @@ fn number(left: &[u8], line: u32) -> Result<Front, LexFault>
 
 fn text(left: &[u8], line: u32) -> Result<Front, LexFault>
     requires some { 0 < length left.now }
-    requires quote { slice_index left.now 0 ≡ 34 }
+    requires quote { slice_index left.now 0 ≡ quote }
     ensures ok { IfOk result (λ front. IsFront front.kind front.length left.now) }
     ensures err { IfErr result (λ fault. BeginsFault fault line left.now) }
 {
@@ -74,9 +75,9 @@ fn sign(left: &[u8], line: u32) -> Result<Front, LexFault>
     requires some { 0 < length left.now }
     requires no_letter { letter_test (slice_index left.now 0) ≡ false }
     requires no_digit { digit_test (slice_index left.now 0) ≡ false }
-    requires no_quote { (slice_index left.now 0 == 34) ≡ false }
+    requires no_quote { (slice_index left.now 0 == quote) ≡ false }
     requires no_space { space_test (slice_index left.now 0) ≡ false }
-    requires no_comment { (slice_index left.now 0 == 35) ≡ false }
+    requires no_comment { (slice_index left.now 0 == hash) ≡ false }
     ensures ok { IfOk result (λ front. IsFront front.kind front.length left.now) }
     ensures err { IfErr result (λ fault. BeginsFault fault line left.now) }
 {
@@ -94,7 +95,7 @@ fn sign(left: &[u8], line: u32) -> Result<Front, LexFault>
 pub fn front_of(left: &[u8], line: u32) -> Result<Front, LexFault>
     requires some { 0 < length left.now }
     requires no_space { space_test (slice_index left.now 0) ≡ false }
-    requires no_comment { (slice_index left.now 0 == 35) ≡ false }
+    requires no_comment { (slice_index left.now 0 == hash) ≡ false }
     ensures ok { IfOk result (λ front. IsFront front.kind front.length left.now) }
     ensures err { IfErr result (λ fault. BeginsFault fault line left.now) }
 {

@@ -52,7 +52,7 @@ fn tokens_of(alloc: Global, text: &[u8]) -> Result<List<Token>, LexFault>
 }
 
 /// The tokens of a text, in order. Otherwise the first fault: `BadByte`, `OpenText` and
-/// `NumberTooLong` exactly where the text has that fault, and `NoMemory` for want of memory.
+/// `NumberTooLong` exactly where the text has that fault, and `NoMemory` where it is out of memory.
 pub fn lex(alloc: Global, text: &[u8]) -> Result<List<Token>, LexFault>
     requires { length text.now < 2 ^ 32 }
     ensures lexed { IsLexed text.now result }

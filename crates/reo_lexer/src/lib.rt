@@ -13,6 +13,3 @@ pub use laws::{one_reading, real_tokens_follow, refusals_of_texts, tokens_of_fro
 pub use lexer::lex;
 pub use reo_grammar::TokenKind;
 pub use token::{LexFault, Token};
-
-#[cfg(test)]
-mod tests;

@@ -1,7 +1,7 @@
 //! The parts of a text, by their lengths.
 ghost use Rattle.std.specs.Prelude.{◌≡◌, ◌≤◌, ◌<◌, ◌==◌, length, drop, take, count_by, true, false};
 ghost use Rattle.std.specs.List.{take_while};
-ghost use Rattle.reo_grammar.specs.Bytes.{is_digit as digit_test, is_name_byte as name_test};
+ghost use Rattle.reo_values.specs.Names.{is_digit as digit_test, is_name_byte as name_test};
 ghost use Rattle.reo_lexer.specs.Gaps.{lines_in as lines_of};
 ghost use Rattle.reo_lexer.specs.Skipping.{behind, inside, sign_size};
 

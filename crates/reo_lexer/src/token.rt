@@ -29,7 +29,7 @@ pub enum LexFault {
     /// More than 18 digits in a row; their line.
     #[error("line {line}: number too long")]
     NumberTooLong { line: u32 },
-    /// Want of memory.
+    /// Out of memory.
     #[error("no memory")]
     NoMemory,
 }

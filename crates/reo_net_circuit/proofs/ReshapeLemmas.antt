@@ -12,7 +12,7 @@ use Rattle.reo_net_base.specs.Behaviour.{Behaviour}
 use Rattle.reo_net_base.specs.Lawful.{SameShape, IsLawful}
 use Rattle.reo_net_base.specs.Shapes.{SameShapes}
 use Rattle.reo_net_order.specs.Arrows.{IsTopological}
-use Rattle.reo_net_base.specs.Net.{Net, Side, sides_of, all_sides, first_side, behaviour_at, side_at, from_sides, to_sides}
+use Rattle.reo_net_base.specs.Net.{Side, sides_of, all_sides, first_side, behaviour_at, side_at, from_sides, to_sides}
 use Rattle.reo_net_base.specs.Wired.{IsWired, IsEnd, IsOrder}
 use Rattle.reo_net_circuit.specs.Layout.{IsLaidOut}
 use Rattle.reo_net_base.specs.Step.{settled_list}

@@ -1,10 +1,9 @@
 -- The numbers of sides, and what no fault tells of a circuit.
 use Rattle.std.proofs.Common.{◌≡◌, ◌≢◌, ℕ, ◌+◌, ◌<◌, List, [], ◌∷◌, ◌++◌, length, map, get_or, take, ap, sym, ◌∙◌, arith, below_more}
 use Rattle.std.proofs.Math.Seq.{get_or-append_seam}
-use Rattle.std.proofs.lemmas.List.{length-map, get_or-map, get_or_default, length-append, get_or_append_left, take_more, map-append}
+use Rattle.std.proofs.lemmas.List.{length-map, get_or-map, length-append, get_or_append_left, take_more, map-append}
 use Rattle.reo_net_order.specs.Arrows.{NoCycle}
 use Rattle.reo_net_base.specs.declared.joint.Joint.{Joint}
-use Rattle.reo_net_base.specs.declared.joint.End.{End}
 use Rattle.reo_net_base.specs.Lawful.{IsLawful}
 use Rattle.reo_net_base.specs.Net.{Net, behaviour_at, side_at, from_sides, to_sides}
 use Rattle.reo_net_base.specs.Wired.{IsWired}

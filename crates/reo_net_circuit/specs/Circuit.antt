@@ -1,5 +1,5 @@
 -- What holds of every circuit and its tables.
-use Rattle.std.specs.Prelude.{ℕ, ◌<◌, ◌^◌, length, map}
+use Rattle.std.specs.Prelude.{◌<◌, ◌^◌, length, map}
 use Rattle.reo_net_base.specs.Behaviour.{Behaviour}
 use Rattle.reo_net_base.specs.Net.{Wiring, net_of}
 use Rattle.reo_net_base.specs.Wired.{IsWired, IsOrder, ArePorts}

@@ -87,11 +87,12 @@ impl<P: Primitive> Circuit<P> {
 
     /// What holds of each circuit: its joints go from ends that give to ends that take in, each
     /// end is in exactly one joint, no directed cycle of sides exists, and there are fewer than
-    /// 2^31 primitives and fewer than 2^31 joints.
+    /// 2^31 primitives, so also ports, and fewer than 2^31 joints.
     pub fn known(&self)
         ensures wired { IsWired (net_of P.behaviour self.now) }
         ensures no_cycle { let net = net_of P.behaviour self.now in NoCycle (from_sides net) (to_sides net) }
         ensures few_primitives { length self.now.primitives < 2 ^ 31 }
+        ensures few_ports { self.now.ports < 2 ^ 31 }
         ensures few_joints { length self.now.joints < 2 ^ 31 }
     {
         order_has_no_cycle();

@@ -14,9 +14,10 @@ use Rattle.reo_net_base.specs.Marks.{is_flow}
 use Rattle.reo_net_base.specs.Behaviour.{Behaviour}
 use Rattle.reo_net_base.specs.Net.{Net, all_sides, behaviour_at, end_eq, end_of, row_at, mark_at, side_at}
 use Rattle.reo_net_base.specs.Colouring.{AreRows, taken_at, given_at, item_given, ItemFits, IsColouring, IsFilled}
-use Rattle.reo_net_base.specs.Wired.{IsWired, IsOrder, Feeds}
+use Rattle.reo_net_base.specs.Wired.{IsWired, IsOrder}
 use Rattle.reo_net_laws.proofs.Items.{given_same}
-use Rattle.reo_net_laws.proofs.Sides.{gives_at, row_in_table, row_below, side_in_range}
+use Rattle.reo_net_laws.proofs.Sides.{gives_at, row_in_table, row_below, side_in_range, same_side_at}
+use Rattle.reo_net_laws.proofs.Orders.{no_joint, Feeds, place_in, place_of, fed_before}
 use Rattle.reo_net_colouring.proofs.FilledBefore.{AreFilledBefore}
 
 -- The item at the joint that goes to an end, from a joint on.
@@ -90,7 +91,7 @@ module _ (net : Net) (wired : IsWired net) (rows : List ℕ) (are : AreRows (all
       let below = row_in_table net wired giver e_in rows (record { of = at; number = 0 }) (row_below (all_sides net.primitives) rows are (side_at net giver) (record { of = at; number = 0 }) (side_in_range net wired giver e_in)) in
       flow_cases (mark_at net rows giver) (given_at net rows xs giver) (given_at net rows ys giver) (λ flows.
       given_same net wired rows xs ys giver e_in m n (gives_at net wired giver e_in rows (wired.gives j d lt) below flows) (λ from k e from_in k_in taker.
-      fed k e k_in (record { same_primitive = ap (λ (x : End). x.primitive) taker; same_side = ap (λ (x : End). at.side_of x.end) taker ∙ from_in.1 })))
+      fed k e k_in (ap (side_at net) taker ∙ same_side_at net giver from from_in)))
 
   module _ (order : List ℕ) (is_order : IsOrder net order) where
     -- One joint more has its item.
@@ -98,13 +99,13 @@ module _ (net : Net) (wired : IsWired net) (rows : List ℕ) (are : AreRows (all
         → at < length order → get_or order at 0 ≡ j → item ≡ item_given net rows items (get_or net.joints j dj)
         → AreFilledBefore net rows order at items → AreFilledBefore net rows order (at + 1) (set items j item)
     filled_more items n at j dj item lt there is done m d m_lt =
-        let j_in : j < length net.joints = rw there at (is_order.in_range at 0 lt) in
+        let j_in : j < length net.joints = rw there at (place_in net order is_order at lt) in
         let new : List (Option Value) = set items j item in
         let new_length : length new ≡ length net.joints = search (rules, n) in
         let m_in : m < length order = omega (arith, m_lt) in
         let kept : item_given net rows items (get_or net.joints (get_or order m 0) d) ≡ item_given net rows new (get_or net.joints (get_or order m 0) d) =
-        item_same (get_or order m 0) d (is_order.in_range m 0 m_in) items new n new_length (λ k e k_in feeds.
-        let earlier = is_order.fed m d m_in k k_in (rw (get_or_default net.joints k d e k_in) feeds) in
+        item_same (get_or order m 0) d (place_in net order is_order m m_in) items new n new_length (λ k e k_in feeds.
+        let earlier = fed_before net order is_order m d m_in k e k_in feeds in
         let before : get_or order earlier.0 0 ≢ get_or order at 0 = is_order.once earlier.0 at (omega (arith, earlier.1, m_lt)) lt in
         let other : k ≢ j = λ same. before (earlier.2 ∙ same ∙ sym there) in
         sym (get_or-set_other items j k item None other)) in
@@ -123,7 +124,7 @@ module _ (net : Net) (wired : IsWired net) (rows : List ℕ) (are : AreRows (all
     filled_all items n done = record {
       one_each = n;
       determined = λ j d lt.
-          let place = is_order.each j lt in
+          let place = place_of net order is_order j lt in
           rw place.2 at (done place.0 d place.1);
     }
 
@@ -131,11 +132,11 @@ module _ (net : Net) (wired : IsWired net) (rows : List ℕ) (are : AreRows (all
     same_up_to xs ys fx fy zero m lt m_in = absurd (omega arith)
     same_up_to xs ys fx fy (suc n) m lt m_in =
         let j : ℕ = get_or order m 0 in
-        let d : Joint = record { giver = end_of 0 0; taker = end_of 0 0 } in
-        let j_in = is_order.in_range m 0 m_in in
+        let d : Joint = no_joint in
+        let j_in = place_in net order is_order m m_in in
         fx.determined j d j_in
         ∙ item_same j d j_in xs ys fx.one_each fy.one_each (λ k e k_in feeds.
-        let earlier = is_order.fed m d m_in k k_in (rw (get_or_default net.joints k d e k_in) feeds) in
+        let earlier = fed_before net order is_order m d m_in k e k_in feeds in
         rw earlier.2 at (same_up_to xs ys fx fy n earlier.0 (omega (arith, earlier.1)) (omega (arith, earlier.1, m_in))))
         ∙ sym (fy.determined j d j_in)
 
@@ -143,6 +144,6 @@ module _ (net : Net) (wired : IsWired net) (rows : List ℕ) (are : AreRows (all
     pub filled_one : (xs ys : List (Option Value)) → IsFilled net rows xs → IsFilled net rows ys → xs ≡ ys
     filled_one xs ys fx fy =
         same_lists xs ys (fx.one_each ∙ sym fy.one_each) (λ j d lt.
-        let place = is_order.each j (omega (arith, fx.one_each, lt)) in
+        let place = place_of net order is_order j (omega (arith, fx.one_each, lt)) in
         let here = rw place.2 at (same_up_to xs ys fx fy (length order) place.0 place.1 place.1) in
         rw (get_or_default xs j None d lt, get_or_default ys j None d (omega (arith, fx.one_each, fy.one_each, lt))) at here)

@@ -1,3 +1,4 @@
 pub mod FilledBefore
 pub mod ItemLemmas
 pub mod KeyLemmas
+pub mod MoveLemmas

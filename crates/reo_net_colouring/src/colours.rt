@@ -12,7 +12,7 @@ use reo_values::{List, NoMemory, Value};
 use std::alloc::Global;
 
 /// The items with which rows that fit together are a colouring: `None` exactly where there are none, since some row does
-/// not let in what another gives. `NoMemory` is want of memory.
+/// not let in what another gives. `NoMemory` is out of memory.
 pub fn colour<P: Primitive>(
     alloc: Global,
     circuit: &Circuit<P>,

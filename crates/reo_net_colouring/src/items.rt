@@ -115,7 +115,7 @@ pub(crate) fn items_of<P: Primitive>(
     Ok(List::from_vec(items))
 }
 
-/// The rows with the items that they determine, whether or not they are let in. `NoMemory` is want of memory.
+/// The rows with the items that they determine, whether or not they are let in. `NoMemory` is out of memory.
 pub fn fill<P: Primitive>(
     alloc: Global,
     circuit: &Circuit<P>,

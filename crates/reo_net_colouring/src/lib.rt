@@ -1,12 +1,17 @@
-//! What rows determine: their order, the items that they put at joints, and whether they are those of a colouring.
+//! What rows determine: their order, the items that they put at joints, whether they are those of a colouring, and the
+//! moves.
 #![tactic(auto)]
 
 mod colours;
 mod fits;
 mod items;
+mod moves;
 mod order;
 mod taken;
+mod whole;
 
 pub use colours::colour;
 pub use items::fill;
+pub use moves::are_moves;
 pub use order::compare;
+pub use whole::is_colouring;

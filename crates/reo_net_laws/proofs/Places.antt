@@ -190,3 +190,15 @@ classes_lead net turn =
           (not_above-append front (class_positions turn ss 0) x y (leading_not_above turn ss 0 x y each_side) (classes_not_above turn ss 0 x y each_side))
           (some_below-append front (class_positions turn ss 0) x y (classes_some_below turn ss 0 x y k no_side lt (rw zero-add less))));
     }
+
+-- One list of places and then another.
+then_assoc : (o p q : Ordering) → ordering_then o (ordering_then p q) ≡ ordering_then (ordering_then o p) q
+then_assoc Less p q = refl
+then_assoc Equal p q = refl
+then_assoc Greater p q = refl
+
+pub order-append : (ps qs : List Position) (x y : List ℕ) → order_by (ps ++ qs) x y ≡ ordering_then (order_by ps x y) (order_by qs x y)
+order-append [] qs x y = refl
+order-append (p ∷ ps) qs x y =
+    let first : Ordering = nat_cmp (p.number (get_or x p.side 0)) (p.number (get_or y p.side 0)) in
+    ap (ordering_then first) (order-append ps qs x y) ∙ then_assoc first (order_by ps x y) (order_by qs x y)

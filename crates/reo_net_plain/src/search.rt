@@ -6,7 +6,7 @@ ghost use Rattle.reo_net_base.specs.First.{IsFirst};
 ghost use Rattle.reo_net_plain.specs.Begun.{AreFirstRows, Improves};
 
 use crate::clash::clashes;
-use crate::jam::{count_rows, jammed};
+use crate::jam::jammed;
 use reo_net_base::{Colouring, Primitive};
 use reo_net_circuit::Circuit;
 use reo_net_colouring::{colour, compare};
@@ -59,7 +59,7 @@ fn best_from<P: Primitive>(
     if side == circuit.sides() {
         return improved(alloc, circuit, turn, rows, best);
     }
-    for row in 0..count_rows(circuit, side) {
+    for row in 0..circuit.rows(side) {
         rows.push(row as u32)?;
         best = best_from(alloc, circuit, turn, rows, best)?;
         rows.truncate(side);
@@ -67,7 +67,7 @@ fn best_from<P: Primitive>(
     Ok(best)
 }
 
-/// The first colouring of a circuit in the round of this number, which counts from 1. `NoMemory` is want of memory.
+/// The first colouring of a circuit in the round of this number, which counts from 1. `NoMemory` is out of memory.
 pub fn plain_first<P: Primitive>(
     alloc: Global,
     circuit: &Circuit<P>,

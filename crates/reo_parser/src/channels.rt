@@ -7,7 +7,8 @@ ghost use Rattle.reo_trees.specs.Rules.{circuit_rules};
 ghost use Rattle.reo_parser.specs.Reading.{read_plain};
 
 use crate::literals::literal;
-use crate::terms::term;
+use crate::names::names_before;
+use crate::terms::term_before;
 use reo_cursor::{Cursor, Halt};
 use reo_trees::{Channel, Form, Literal};
 use reo_values::List;
@@ -47,13 +48,11 @@ pub fn plain(cursor: &mut Cursor, alloc: Global) -> Result<Form, Halt>
     ensures { Gives result cursor.new (read_plain plain_form cursor.old) }
 {
     let channel = plain_channel(cursor)?;
-    let left = cursor.name(alloc)?;
-    let right = cursor.name(alloc)?;
-    cursor.expect(b";")?;
+    let (first, second) = names_before(cursor, alloc, b";")?;
     Ok(Form::Joined {
         channel,
-        first: left,
-        second: right,
+        first,
+        second,
     })
 }
 
@@ -134,11 +133,8 @@ pub fn filter(cursor: &mut Cursor, alloc: Global, room: usize) -> Result<Form, H
     ensures { Gives result cursor.new (read (reads circuit_rules room) filter_form cursor.old) }
 {
     cursor.expect(b"filter")?;
-    let first = cursor.name(alloc)?;
-    let second = cursor.name(alloc)?;
-    cursor.expect(b"when")?;
-    let test = term(cursor, alloc, room)?;
-    cursor.expect(b";")?;
+    let (first, second) = names_before(cursor, alloc, b"when")?;
+    let test = term_before(cursor, alloc, room, b";")?;
     Ok(Form::Joined {
         channel: Channel::Filter(test),
         first,
@@ -151,11 +147,8 @@ pub fn map(cursor: &mut Cursor, alloc: Global, room: usize) -> Result<Form, Halt
     ensures { Gives result cursor.new (read (reads circuit_rules room) map_form cursor.old) }
 {
     cursor.expect(b"map")?;
-    let first = cursor.name(alloc)?;
-    let second = cursor.name(alloc)?;
-    cursor.expect(b"to")?;
-    let value = term(cursor, alloc, room)?;
-    cursor.expect(b";")?;
+    let (first, second) = names_before(cursor, alloc, b"to")?;
+    let value = term_before(cursor, alloc, room, b";")?;
     Ok(Form::Joined {
         channel: Channel::Map(value),
         first,

@@ -7,7 +7,8 @@ ghost use Rattle.reo_trees.specs.Rules.{circuit_rules};
 ghost use Rattle.reo_parser.specs.Reading.{read_plain};
 
 use crate::channels::{fifo, fifo1, filter, is_plain, map, plain};
-use crate::types::{names, type_term};
+use crate::names::name_before;
+use crate::types::{names, type_before};
 use reo_cursor::{Cursor, Halt};
 use reo_trees::{Form, Item};
 use reo_values::{Bytes, List};
@@ -17,10 +18,8 @@ fn node(cursor: &mut Cursor, alloc: Global, room: usize) -> Result<Form, Halt>
     ensures { Gives result cursor.new (read (reads circuit_rules room) node_form cursor.old) }
 {
     cursor.expect(b"node")?;
-    let name = cursor.name(alloc)?;
-    cursor.expect(b":")?;
-    let term = type_term(cursor, alloc, room)?;
-    cursor.expect(b";")?;
+    let name = name_before(cursor, alloc, b":")?;
+    let term = type_before(cursor, alloc, room, b";")?;
     Ok(Form::Node { name, term })
 }
 
@@ -38,8 +37,7 @@ fn used(cursor: &mut Cursor, alloc: Global) -> Result<Form, Halt>
     ensures { Gives result cursor.new (read_plain use_form cursor.old) }
 {
     cursor.expect(b"use")?;
-    let name = cursor.name(alloc)?;
-    cursor.expect(b"(")?;
+    let name = name_before(cursor, alloc, b"(")?;
     let arguments = arguments(cursor, alloc)?;
     cursor.expect(b")")?;
     cursor.expect(b";")?;

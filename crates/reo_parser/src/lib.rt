@@ -6,6 +6,7 @@ mod fault;
 mod items;
 mod levels;
 mod literals;
+mod names;
 mod operators;
 mod programs;
 mod terms;
@@ -14,6 +15,3 @@ mod types;
 
 pub use fault::ParseFault;
 pub use texts::parse;
-
-#[cfg(test)]
-mod tests;

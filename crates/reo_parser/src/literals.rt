@@ -1,7 +1,9 @@
 //! Reading literals.
 ghost use Rattle.std.specs.Prelude.{◌≡◌, ℕ, ◌<◌, ◌≤◌, ◌-◌};
 ghost use Rattle.reo_grammar.specs.Grammar.{read, reads};
+ghost use Rattle.reo_grammar.specs.Grammar.Grammar.{rule};
 ghost use Rattle.reo_cursor.specs.Reading.{Gives};
+ghost use Rattle.reo_trees.specs.Forms.{word, ◌◂◌};
 ghost use Rattle.reo_trees.specs.Forms.Rule.{literal_rule};
 ghost use Rattle.reo_trees.specs.Literals.{minus_form, literal_pair_form, constant_form};
 ghost use Rattle.reo_trees.specs.Rules.{circuit_rules};
@@ -23,15 +25,28 @@ fn minus(cursor: &mut Cursor) -> Result<Constant, Halt>
     Ok(Constant::Int(-(number as i64)))
 }
 
+/// A literal, and the sign behind it.
+#[cycle(literal)]
+fn literal_before(
+    cursor: &mut Cursor,
+    alloc: Global,
+    room: usize,
+    mark: &[u8],
+) -> Result<Literal, Halt>
+    ensures { Gives result cursor.new (read (reads circuit_rules room) (rule literal_rule ◂ word mark.now) cursor.old) }
+{
+    let read = literal(cursor, alloc, room)?;
+    cursor.expect(mark)?;
+    Ok(read)
+}
+
 #[cycle(literal)]
 fn pair(cursor: &mut Cursor, alloc: Global, room: usize) -> Result<Constant, Halt>
     ensures { Gives result cursor.new (read (reads circuit_rules room) literal_pair_form cursor.old) }
 {
     cursor.expect(b"(")?;
-    let left = literal(cursor, alloc, room)?;
-    cursor.expect(b",")?;
-    let right = literal(cursor, alloc, room)?;
-    cursor.expect(b")")?;
+    let left = literal_before(cursor, alloc, room, b",")?;
+    let right = literal_before(cursor, alloc, room, b")")?;
     let pair = Boxed::new(alloc, LiteralPair { left, right })?;
     Ok(Constant::Pair(pair))
 }

@@ -1,15 +1,18 @@
 //! Reading declarations and whole programs.
-ghost use Rattle.std.specs.Prelude.{◌≡◌, ℕ, List, Bool};
+ghost use Rattle.std.specs.Prelude.{◌≡◌, ℕ, List, Bool, codes};
 ghost use Rattle.reo_grammar.specs.Grammar.{read, reads, starts};
 ghost use Rattle.reo_cursor.specs.Reading.{Gives};
+ghost use Rattle.reo_trees.specs.Forms.{word, ◌▸◌, ◌◂◌};
+ghost use Rattle.reo_trees.specs.Items.{items_form};
 ghost use Rattle.reo_trees.specs.Programs.{ways, way_form, parameter_form, parameters_form, connector_form, named_form, declaration_form, declaration_words, declarations_form, program_form};
 ghost use Rattle.reo_trees.specs.Rules.{circuit_rules};
 ghost use Rattle.reo_parser.specs.Reading.{read_plain};
 
 use crate::items::items;
-use crate::types::type_term;
+use crate::names::name_before;
+use crate::types::{type_before, type_term};
 use reo_cursor::{Cursor, Halt};
-use reo_trees::{Connector, Declaration, Parameter, Program};
+use reo_trees::{Connector, Declaration, Item, Parameter, Program};
 use reo_values::List;
 use std::alloc::Global;
 
@@ -39,8 +42,7 @@ fn parameter(cursor: &mut Cursor, alloc: Global, room: usize) -> Result<Paramete
 {
     let line = cursor.line();
     let inward = inward(cursor)?;
-    let name = cursor.name(alloc)?;
-    cursor.expect(b":")?;
+    let name = name_before(cursor, alloc, b":")?;
     let term = type_term(cursor, alloc, room)?;
     Ok(Parameter {
         line,
@@ -66,18 +68,25 @@ fn parameters(cursor: &mut Cursor, alloc: Global, room: usize) -> Result<List<Pa
     Ok(parameters)
 }
 
+/// The items of a connector, with the braces round them.
+fn body(cursor: &mut Cursor, alloc: Global, room: usize) -> Result<List<Item>, Halt>
+    ensures { Gives result cursor.new (read (reads circuit_rules room) (word (codes "{") ▸ items_form ◂ word (codes "}")) cursor.old) }
+{
+    cursor.expect(b"{")?;
+    let items = items(cursor, alloc, room)?;
+    cursor.expect(b"}")?;
+    Ok(items)
+}
+
 fn connector(cursor: &mut Cursor, alloc: Global, room: usize) -> Result<Connector, Halt>
     ensures { Gives result cursor.new (read (reads circuit_rules room) connector_form cursor.old) }
 {
     let line = cursor.line();
     cursor.expect(b"connector")?;
-    let name = cursor.name(alloc)?;
-    cursor.expect(b"(")?;
+    let name = name_before(cursor, alloc, b"(")?;
     let parameters = parameters(cursor, alloc, room)?;
     cursor.expect(b")")?;
-    cursor.expect(b"{")?;
-    let items = items(cursor, alloc, room)?;
-    cursor.expect(b"}")?;
+    let items = body(cursor, alloc, room)?;
     Ok(Connector {
         line,
         name,
@@ -91,10 +100,8 @@ fn named(cursor: &mut Cursor, alloc: Global, room: usize) -> Result<Declaration,
 {
     let line = cursor.line();
     cursor.expect(b"type")?;
-    let name = cursor.name(alloc)?;
-    cursor.expect(b"=")?;
-    let term = type_term(cursor, alloc, room)?;
-    cursor.expect(b";")?;
+    let name = name_before(cursor, alloc, b"=")?;
+    let term = type_before(cursor, alloc, room, b";")?;
     Ok(Declaration::Named { line, name, term })
 }
 

@@ -1,8 +1,10 @@
 //! Reading terms.
 ghost use Rattle.std.specs.Prelude.{◌≡◌, ℕ, ◌<◌, ◌≤◌, ◌-◌, IfOk, OnErr, Err};
 ghost use Rattle.reo_grammar.specs.Grammar.{read, reads};
+ghost use Rattle.reo_grammar.specs.Grammar.Grammar.{rule};
 ghost use Rattle.reo_cursor.specs.declared.halt.Halt.TheVariants as halts;
 ghost use Rattle.reo_cursor.specs.Reading.{Gives};
+ghost use Rattle.reo_trees.specs.Forms.{word, ◌◂◌};
 ghost use Rattle.reo_trees.specs.Forms.Rule.{term_rule, unary_rule};
 ghost use Rattle.reo_trees.specs.Operators.{opened, joined, applied};
 ghost use Rattle.reo_trees.specs.Terms.{symbol_form, call_form, if_form, simple_form, group_form, atom_form, unary_form, product_form, sum_form, comparison_form, and_form, or_form, term_form};
@@ -10,6 +12,7 @@ ghost use Rattle.reo_trees.specs.Rules.{circuit_rules};
 ghost use Rattle.reo_parser.specs.Reading.{read_plain, operand};
 
 use crate::literals::GREATEST;
+use crate::names::name_before;
 use crate::operators::{
     call_operator, comparison_operator, is_call, is_comparison, is_prefix, is_product, is_sum,
     prefix, product_operator, sum_operator,
@@ -54,10 +57,24 @@ fn one(alloc: Global, start: u32, operator: Unary, inner: Term) -> Result<Opened
 fn symbol(cursor: &mut Cursor, alloc: Global) -> Result<TermForm, Halt>
     ensures { Gives result cursor.new (read_plain symbol_form cursor.old) }
 {
-    let name = cursor.name(alloc)?;
-    cursor.expect(b".")?;
+    let name = name_before(cursor, alloc, b".")?;
     let symbol = cursor.name(alloc)?;
     Ok(TermForm::Sym(name, symbol))
+}
+
+/// A term, and the sign behind it.
+#[cycle(term)]
+pub fn term_before(
+    cursor: &mut Cursor,
+    alloc: Global,
+    room: usize,
+    mark: &[u8],
+) -> Result<Term, Halt>
+    ensures { Gives result cursor.new (read (reads circuit_rules room) (rule term_rule ◂ word mark.now) cursor.old) }
+{
+    let read = term(cursor, alloc, room)?;
+    cursor.expect(mark)?;
+    Ok(read)
 }
 
 #[cycle(term)]
@@ -66,8 +83,7 @@ fn call(cursor: &mut Cursor, alloc: Global, room: usize) -> Result<TermForm, Hal
 {
     let operator = call_operator(cursor)?;
     cursor.expect(b"(")?;
-    let inner = term(cursor, alloc, room)?;
-    cursor.expect(b")")?;
+    let inner = term_before(cursor, alloc, room, b")")?;
     let inner = Boxed::new(alloc, inner)?;
     Ok(TermForm::One(operator, inner))
 }
@@ -78,12 +94,9 @@ fn if_term(cursor: &mut Cursor, alloc: Global, room: usize) -> Result<TermForm, 
 {
     cursor.expect(b"if")?;
     cursor.expect(b"(")?;
-    let condition = term(cursor, alloc, room)?;
-    cursor.expect(b",")?;
-    let yes = term(cursor, alloc, room)?;
-    cursor.expect(b",")?;
-    let no = term(cursor, alloc, room)?;
-    cursor.expect(b")")?;
+    let condition = term_before(cursor, alloc, room, b",")?;
+    let yes = term_before(cursor, alloc, room, b",")?;
+    let no = term_before(cursor, alloc, room, b")")?;
     let parts = Boxed::new(alloc, TermTriple { condition, yes, no })?;
     Ok(TermForm::If(parts))
 }
@@ -129,8 +142,7 @@ fn group(cursor: &mut Cursor, alloc: Global, room: usize) -> Result<Opened, Halt
     let first = term(cursor, alloc, room)?;
     if cursor.is(b",") {
         cursor.expect(b",")?;
-        let second = term(cursor, alloc, room)?;
-        cursor.expect(b")")?;
+        let second = term_before(cursor, alloc, room, b")")?;
         let pair = Boxed::new(
             alloc,
             TermPair {

@@ -1,7 +1,9 @@
 //! Reading types.
 ghost use Rattle.std.specs.Prelude.{◌≡◌, ℕ, ◌<◌, ◌≤◌, ◌-◌, List};
 ghost use Rattle.reo_grammar.specs.Grammar.{read, reads};
+ghost use Rattle.reo_grammar.specs.Grammar.Grammar.{rule};
 ghost use Rattle.reo_cursor.specs.Reading.{Gives};
+ghost use Rattle.reo_trees.specs.Forms.{word, ◌◂◌};
 ghost use Rattle.reo_trees.specs.Forms.Rule.{type_rule};
 ghost use Rattle.reo_trees.specs.Types.{bound_form, int_form, names_form, sym_form, text_type_form, pair_form, shape_form};
 ghost use Rattle.reo_trees.specs.Rules.{circuit_rules};
@@ -74,16 +76,29 @@ fn text_shape(cursor: &mut Cursor) -> Result<Shape, Halt>
     Ok(Shape::Text(length as u16))
 }
 
+/// A type, and the sign behind it.
+#[cycle(type_term)]
+pub fn type_before(
+    cursor: &mut Cursor,
+    alloc: Global,
+    room: usize,
+    mark: &[u8],
+) -> Result<TypeTerm, Halt>
+    ensures { Gives result cursor.new (read (reads circuit_rules room) (rule type_rule ◂ word mark.now) cursor.old) }
+{
+    let read = type_term(cursor, alloc, room)?;
+    cursor.expect(mark)?;
+    Ok(read)
+}
+
 #[cycle(type_term)]
 fn pair_shape(cursor: &mut Cursor, alloc: Global, room: usize) -> Result<Shape, Halt>
     ensures { Gives result cursor.new (read (reads circuit_rules room) pair_form cursor.old) }
 {
     cursor.expect(b"pair")?;
     cursor.expect(b"(")?;
-    let left = type_term(cursor, alloc, room)?;
-    cursor.expect(b",")?;
-    let right = type_term(cursor, alloc, room)?;
-    cursor.expect(b")")?;
+    let left = type_before(cursor, alloc, room, b",")?;
+    let right = type_before(cursor, alloc, room, b")")?;
     let pair = Boxed::new(alloc, TypePair { left, right })?;
     Ok(Shape::Pair(pair))
 }

@@ -11,7 +11,8 @@ use Rattle.reo_net_base.specs.Lawful.{IsLawful, SameShape}
 use Rattle.reo_net_base.specs.Net.{Wiring, net_of, behaviour_at}
 use Rattle.reo_net_base.specs.Step.{stepped, all_chosen, all_taken}
 use Rattle.reo_net_base.specs.Wired.{IsWired}
-use Rattle.reo_net_circuit.proofs.ReshapeLemmas.{Reshaped, reshaped, lawful_at, wired_same, order_same}
+use Rattle.reo_net_base.specs.Shapes.{SameShapes}
+use Rattle.reo_net_circuit.proofs.ReshapeLemmas.{same_shape, reshaped, lawful_at, wired_same, order_same}
 use Rattle.reo_script.specs.declared.script.Action.{Action}
 use Rattle.reo_script.specs.declared.script.Component.{Component}
 use Rattle.reo_script.specs.Actions.{offer_of, action_for}
@@ -27,11 +28,14 @@ pub record KeepsShape {P : Type 0} (r : Rules P) : Type 0 where
   pub placed : (p : P) (offer : Offer) → SameShape (r.behaviour p) (r.behaviour (r.placed p offer))
   pub withdrawn : (p : P) → SameShape (r.behaviour p) (r.behaviour (r.withdrawn p))
 
-same_shape : (b : Behaviour) → SameShape b b
-same_shape b = record { ends = refl; sides = refl; side_of = λ _. refl; takes_in = λ _. refl }
-
 shape_then : (a b d : Behaviour) → SameShape a b → SameShape b d → SameShape a d
-shape_then a b d p q = record { ends = q.ends ∙ p.ends; sides = q.sides ∙ p.sides; side_of = λ e. q.side_of e ∙ p.side_of e; takes_in = λ e. q.takes_in e ∙ p.takes_in e }
+shape_then a b d p q = record {
+  ends = q.ends ∙ p.ends;
+  sides = q.sides ∙ p.sides;
+  side_of = λ e. q.side_of e ∙ p.side_of e;
+  takes_in = λ e. q.takes_in e ∙ p.takes_in e;
+  leads = λ s. q.leads s ∙ p.leads s;
+}
 
 module _ {P : Type 0} (r : Rules P) (k : KeepsShape r) where
   cleared_shape : (p : P) → SameShape (r.behaviour p) (r.behaviour (cleared r p))
@@ -53,25 +57,25 @@ module _ {P : Type 0} (r : Rules P) (k : KeepsShape r) where
   ready_shape components places (p ∷ ps) limit n (suc i) = ready_shape components places ps limit (suc n) i
 
   -- What holds of a circuit stays where its primitives keep their shapes.
-  kept_wired : (ps qs : List P) (joints : List Joint) → Reshaped (map r.behaviour ps) (map r.behaviour qs) → IsWired (record { primitives = map r.behaviour ps; joints = joints })
+  kept_wired : (ps qs : List P) (joints : List Joint) → SameShapes (map r.behaviour ps) (map r.behaviour qs) → IsWired (record { primitives = map r.behaviour ps; joints = joints })
       → IsWired (record { primitives = map r.behaviour qs; joints = joints })
   kept_wired ps qs joints same wired = wired_same (map r.behaviour ps) (map r.behaviour qs) same joints wired (lawful_at r.behaviour k.lawful qs)
 
-  kept : (ps qs : List P) (joints : List Joint) → Reshaped (map r.behaviour ps) (map r.behaviour qs) → HasOrder (record { primitives = map r.behaviour ps; joints = joints }) → HasOrder (record { primitives = map r.behaviour qs; joints = joints })
+  kept : (ps qs : List P) (joints : List Joint) → SameShapes (map r.behaviour ps) (map r.behaviour qs) → HasOrder (record { primitives = map r.behaviour ps; joints = joints }) → HasOrder (record { primitives = map r.behaviour qs; joints = joints })
   kept ps qs joints same old = record {
     wired = kept_wired ps qs joints same old.wired;
     order = old.order;
     is_order = order_same (map r.behaviour ps) (map r.behaviour qs) same joints old.wired old.order old.is_order;
   }
 
-  ready_same : (components : List Component) (a : State P) → Reshaped (map r.behaviour a.circuit.primitives) (map r.behaviour (ready r components a).primitives)
+  ready_same : (components : List Component) (a : State P) → SameShapes (map r.behaviour a.circuit.primitives) (map r.behaviour (ready r components a).primitives)
   ready_same components a =
       let ps : List P = a.circuit.primitives in
       let qs : List P = ports_ready r components a.places a.circuit.ports 0 ps in
       let count : length (map r.behaviour qs) ≡ length (map r.behaviour ps) = omega (arith, ready_length r components a.places ps a.circuit.ports 0, length-map ps r.behaviour, length-map qs r.behaviour) in
       record { count = count; same = λ i lt. ready_shape components a.places ps a.circuit.ports 0 i }
 
-  stepped_same : (w : Wiring P) (rows : List ℕ) (items : List (Option Value)) → Reshaped (map r.behaviour w.primitives) (map r.behaviour (stepped r.behaviour r.settled w rows items))
+  stepped_same : (w : Wiring P) (rows : List ℕ) (items : List (Option Value)) → SameShapes (map r.behaviour w.primitives) (map r.behaviour (stepped r.behaviour r.settled w rows items))
   stepped_same w rows items = reshaped r.behaviour r.settled k.settled w.primitives (all_chosen (net_of r.behaviour w) rows) (all_taken (net_of r.behaviour w) items)
 
   pub ready_wired : (components : List Component) (a : State P) → IsWired (net_of r.behaviour a.circuit) → IsWired (net_of r.behaviour (ready r components a))

@@ -16,7 +16,7 @@ pub enum End2 {
     Limit,
     /// The sink failed, and its count of faults rose.
     WriteFault,
-    /// Want of memory.
+    /// Out of memory.
     NoMemory,
 }
 

@@ -30,7 +30,7 @@ pub(crate) struct Made {
 /// # Errors
 ///
 /// `Failed` comes only where the sink's count of faults rose: a front of the line was taken, and
-/// not the whole. `NoMemory` is want of memory: the sink stays as it was.
+/// not the whole. `NoMemory` is out of memory: the sink stays as it was.
 pub(crate) fn make_round<P: Ported, S: Sink>(
     alloc: Global,
     circuit: &mut Circuit<P>,

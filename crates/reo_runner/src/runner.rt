@@ -32,7 +32,6 @@ fn make_rounds<P: Ported, S: Sink>(
 ) -> Outcome
     requires some_round { 1 ≤ limit }
     requires few_rounds { limit ≤ 10 ^ 9 }
-    requires few_ports { circuit.ports < 2 ^ 31 }
     requires script { IsScriptFor (map P.port_state circuit.primitives) circuit.ports components.now }
     requires places { places ≡ beginnings components.now }
     requires begun { all_done components.now places ≡ false }
@@ -41,6 +40,7 @@ fn make_rounds<P: Ported, S: Sink>(
     ensures later { S.faults out.old ≤ S.faults out.new }
 {
     has_run(&circuit, components, limit);
+    circuit.known();
     let mut tally = Tally::new();
     let mut turn = 1;
     loop {
@@ -67,7 +67,7 @@ fn make_rounds<P: Ported, S: Sink>(
 /// is done, else where the round was idle, else where `limit` rounds were made.
 ///
 /// After a fault the sink has got a front of the trace, and the outcome counts the round lines that it has got whole.
-/// After want of memory it has got whole round lines of the trace, in order and none skipped, and the outcome counts these.
+/// Where it ran out of memory it has got whole round lines of the trace, in order and none skipped, and the outcome counts these.
 pub fn run<P: Ported, S: Sink>(
     alloc: Global,
     circuit: Circuit<P>,
@@ -78,7 +78,6 @@ pub fn run<P: Ported, S: Sink>(
 ) -> Outcome
     requires some_round { 1 ≤ limit }
     requires few_rounds { limit ≤ 10 ^ 9 }
-    requires few_ports { circuit.ports < 2 ^ 31 }
     requires script { IsScriptFor (map P.port_state circuit.primitives) circuit.ports script.now.components }
     ensures came { CameTo IsFirst (rules_of P.behaviour P.settled P.port_state P.placed P.withdrawn) ports.now.list script.now.components limit (start_of circuit script.now.components) (S.told out.old) (S.told out.new) result }
     ensures cause { result.end ≡ End2.WriteFault → Rose (S.faults out.old) (S.faults out.new) }

@@ -17,8 +17,3 @@ pub use reo_trees::{
     Opened, Parameter, Program, Shape, Term, TermForm, TermPair, TermTriple, TypePair, TypeTerm,
     Unary, one_program,
 };
-
-#[cfg(test)]
-mod term_tests;
-#[cfg(test)]
-mod tests;

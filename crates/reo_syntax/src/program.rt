@@ -95,7 +95,7 @@ fn append_declaration(
 
 /// The canonical text of a program: a line for each type declaration, and for each connector a
 /// line with its parameters, a line for each item, and a line with its `}`. Groupings stand
-/// exactly where the grammar needs them. `NoMemory` is want of memory.
+/// exactly where the grammar needs them. `NoMemory` means out of memory.
 pub fn print(alloc: Global, program: &Program) -> Result<Bytes, NoMemory>
     ensures { IfOk result (λ text. text ≡ canonical_text program.now) }
 {

@@ -115,7 +115,7 @@ fn copy_moves(alloc: Global, moves: &[Move]) -> Result<List<Move>, NoMemory>
 /// its ports: whether any end flows, the moves, and for each primitive the numbers of its rows, of
 /// which the last of a side is its jam row.
 ///
-/// `NoMemory` is want of memory.
+/// `NoMemory` is out of memory.
 pub fn line_of<P: Primitive>(
     alloc: Global,
     circuit: &Circuit<P>,

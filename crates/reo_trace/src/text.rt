@@ -121,7 +121,7 @@ fn append_entries(alloc: Global, text: &mut Bytes, entries: &[Entry]) -> Result<
     Ok(())
 }
 
-/// The text of a round line, its line feed included. `NoMemory` is want of memory.
+/// The text of a round line, its line feed included. `NoMemory` is out of memory.
 #[tactic(auto, unfolding(crate::specs::RoundText::round_text))]
 pub fn round_line_text(alloc: Global, ports: &Ports, line: &RoundLine) -> Result<Bytes, NoMemory>
     ensures { IfOk result (λ text. text ≡ round_text ports.now.list line.now) }
@@ -146,7 +146,7 @@ fn after_rounds(alloc: Global, words: &[u8], rounds: u64) -> Result<Bytes, NoMem
     Ok(text)
 }
 
-/// The text of the last line, its line feed included. `NoMemory` is want of memory.
+/// The text of the last line, its line feed included. `NoMemory` is out of memory.
 #[tactic(auto, unfolding(crate::specs::EndingText::ending_text))]
 pub fn ending_line_text(alloc: Global, ending: &Ending) -> Result<Bytes, NoMemory>
     ensures { IfOk result (λ text. text ≡ ending_text ending.now) }

@@ -17,7 +17,7 @@ use std::alloc::Global;
 pub enum WriteFault {
     /// The sink failed: it took a front of the line, and not the whole.
     Failed,
-    /// Want of memory: the sink was not called.
+    /// Out of memory: the sink was not called.
     NoMemory,
 }
 
@@ -42,7 +42,7 @@ impl From<SinkFault> for WriteFault {
 /// # Errors
 ///
 /// `Failed` comes only where the sink's count of faults rose: a front of the line was taken, and
-/// not the whole. `NoMemory` is want of memory: the sink stays as it was.
+/// not the whole. `NoMemory` is out of memory: the sink stays as it was.
 pub fn write_round<S: Sink>(
     alloc: Global,
     ports: &Ports,

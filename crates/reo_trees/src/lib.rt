@@ -17,6 +17,3 @@ pub use programs::{Connector, Declaration, Parameter, Program};
 pub use reo_values::{Binary, Unary};
 pub use terms::{Opened, Term, TermForm, TermPair, TermTriple};
 pub use types::{Shape, TypePair, TypeTerm};
-
-#[cfg(test)]
-mod tests;

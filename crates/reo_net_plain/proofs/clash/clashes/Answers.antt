@@ -28,6 +28,6 @@ returns-clause-fit g c = λ h n.
       in_tables = first_rows_all net c.args.rows.now c.requires n;
       matched = λ j d lt.
           c.loop-index.invariant j d (omega (arith, lt))
-          (record { giver = rw n (side_in_range net c.known.ensures (get_or net.joints j d).giver (c.known.ensures.givers j d lt)); taker = rw n (side_in_range net c.known.ensures (get_or net.joints j d).taker (c.known.ensures.takers j d lt)) })
+          (record { giver = rw n (side_in_range net c.known.ensures.wired (get_or net.joints j d).giver (c.known.ensures.wired.givers j d lt)); taker = rw n (side_in_range net c.known.ensures.wired (get_or net.joints j d).taker (c.known.ensures.wired.takers j d lt)) })
           c.args.rows.now (take-length c.args.rows.now);
     }

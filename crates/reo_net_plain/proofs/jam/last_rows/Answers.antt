@@ -10,5 +10,5 @@ loop-side-preserved g c =
     let last : Side → ℕ = λ s. row_count s - 1 in
     let in_sides : c.loop-side.side < length (all_sides net.primitives) = omega arith in
     let at = get_or-map last (all_sides net.primitives) c.loop-side.side no_side 0 in_sides in
-    let here = rw (← c.count_rows.ensures.count no_side) at at in
+    let here = rw (← c.rows.ensures.count no_side) at at in
     c.in_ok-push.ensures.ok ∙ rw (take_more (jam_rows net) c.loop-side.side 0 (omega (arith, length-map (all_sides net.primitives) last, in_sides)), c.loop-side.invariant, here)

@@ -27,6 +27,6 @@ returns-clause-best g t c =
       not_after_tried = λ others items col begins.
           let side_in : length c.args.rows.now < length (all_sides net.primitives) = omega (arith, c.requires.rows.few, c.len-side.ensures, c.sides.ensures, c.if-side-sides.false) in
           let row_in = row_below (all_sides net.primitives) others col.rows_fit.in_tables (length c.args.rows.now) no_side side_in in
-          let count = rw c.len-side.ensures at (c.count_rows-row-end.ensures.count no_side) in
+          let count = rw c.len-side.ensures at (c.rows-row-end.ensures.count no_side) in
           c.loop-row.invariant.not_after_tried others items col begins (omega (arith, row_in, count, c.loop-row-test.false));
     }

@@ -6,46 +6,49 @@ use Rattle.reo_parser.proofs.Turns.{goes_on}
 use Rattle.reo_parser.proofs.terms.+term.Given as goal
 
 abbrev pub decreases-term : goal.decreases-term
-decreases-term l = 13 * l.room
+decreases-term l = 14 * l.room
 
 abbrev pub decreases-nested_unary : goal.decreases-nested_unary
-decreases-nested_unary l = 13 * l.room
+decreases-nested_unary l = 14 * l.room
+
+abbrev pub decreases-term_before : goal.decreases-term_before
+decreases-term_before l = 14 * l.room + 1
 
 abbrev pub decreases-call : goal.decreases-call
-decreases-call l = 13 * l.room + 1
+decreases-call l = 14 * l.room + 2
 
 abbrev pub decreases-if_term : goal.decreases-if_term
-decreases-if_term l = 13 * l.room + 2
+decreases-if_term l = 14 * l.room + 3
 
 abbrev pub decreases-simple : goal.decreases-simple
-decreases-simple l = 13 * l.room + 3
+decreases-simple l = 14 * l.room + 4
 
 abbrev pub decreases-group : goal.decreases-group
-decreases-group l = 13 * l.room + 4
+decreases-group l = 14 * l.room + 5
 
 abbrev pub decreases-atom : goal.decreases-atom
-decreases-atom l = 13 * l.room + 5
+decreases-atom l = 14 * l.room + 6
 
 abbrev pub decreases-unary : goal.decreases-unary
-decreases-unary l = 13 * l.room + 6
+decreases-unary l = 14 * l.room + 7
 
 abbrev pub decreases-product : goal.decreases-product
-decreases-product l = 13 * l.room + 7
+decreases-product l = 14 * l.room + 8
 
 abbrev pub decreases-sum : goal.decreases-sum
-decreases-sum l = 13 * l.room + 8
+decreases-sum l = 14 * l.room + 9
 
 abbrev pub decreases-comparison : goal.decreases-comparison
-decreases-comparison l = 13 * l.room + 9
+decreases-comparison l = 14 * l.room + 10
 
 abbrev pub decreases-and_term : goal.decreases-and_term
-decreases-and_term l = 13 * l.room + 10
+decreases-and_term l = 14 * l.room + 11
 
 abbrev pub decreases-or_term : goal.decreases-or_term
-decreases-or_term l = 13 * l.room + 11
+decreases-or_term l = 14 * l.room + 12
 
 abbrev pub decreases-whole : goal.decreases-whole
-decreases-whole l = 13 * l.room + 12
+decreases-whole l = 14 * l.room + 13
 
 abbrev pub invariant-product-product : goal.invariant-product-product
 invariant-product-product l = goes_on joined products further_product l.room l.left l.cursor ≡ goes_on joined products further_product l.room l.initial.left l.initial.cursor

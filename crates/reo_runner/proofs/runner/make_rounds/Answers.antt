@@ -55,7 +55,7 @@ returns-in-Err-NoMemory-clause-came g c =
     c.outcome-in-Err-NoMemory.ensures.tally c.outcome-in-Err-NoMemory.ensures.end)
 
 pub after-tally-requires-clause-few : goal.after-tally-requires-clause-few
-after-tally-requires-clause-few g c = rw c.as_slice.ensures (omega (arith, c.in-Ok.ensures.few, c.loop-made.invariant.ports, c.requires.few_ports))
+after-tally-requires-clause-few g c = rw c.as_slice.ensures (omega (arith, c.in-Ok.ensures.few, c.loop-made.invariant.ports, c.known.ensures.few_ports))
 
 pub returns-in-Some-clause-came : goal.returns-in-Some-clause-came
 returns-in-Some-clause-came g c =
@@ -99,7 +99,7 @@ loop-made-preserved g c =
       begun = c.loop-made.invariant.begun;
       within = not_at_limit (all_done cs made.places) made.line.idle turn c.args.limit (sym ending ∙ none) c.loop-made.invariant.within;
       rounds = omega (arith, c.after-tally.ensures.rounds, c.loop-made.invariant.rounds);
-      written = omega (arith, written, most_in, few, c.requires.few_ports, c.after-tally.ensures.rounds, c.loop-made.invariant.written);
-      delivered = omega (arith, delivered, most_out, few, c.requires.few_ports, c.after-tally.ensures.rounds, c.loop-made.invariant.delivered);
+      written = omega (arith, written, most_in, few, c.known.ensures.few_ports, c.after-tally.ensures.rounds, c.loop-made.invariant.written);
+      delivered = omega (arith, delivered, most_out, few, c.known.ensures.few_ports, c.after-tally.ensures.rounds, c.loop-made.invariant.delivered);
       count = omega (arith, c.loop-made.invariant.count, c.in-Ok.ensures.count);
     }

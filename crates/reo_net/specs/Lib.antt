@@ -1,0 +1,27 @@
+pub use Rattle.reo_net_base.specs.Behaviour
+pub use Rattle.reo_net_base.specs.Colouring
+pub use Rattle.reo_net_base.specs.First
+pub use Rattle.reo_net_base.specs.Lawful
+pub use Rattle.reo_net_base.specs.Marks
+pub use Rattle.reo_net_base.specs.Moves
+pub use Rattle.reo_net_base.specs.Net
+pub use Rattle.reo_net_base.specs.PortState
+pub use Rattle.reo_net_base.specs.Shapes
+pub use Rattle.reo_net_base.specs.Step
+pub use Rattle.reo_net_base.specs.Wired
+pub use Rattle.reo_net_base.specs.declared.colouring.Chosen
+pub use Rattle.reo_net_base.specs.declared.colouring.Colouring as ColouringStruct
+pub use Rattle.reo_net_base.specs.declared.colouring.Move
+pub use Rattle.reo_net_base.specs.declared.joint.End
+pub use Rattle.reo_net_base.specs.declared.joint.Joint
+pub use Rattle.reo_net_base.specs.declared.mark.Mark
+pub use Rattle.reo_net_base.specs.declared.port.Offer
+pub use Rattle.reo_net_base.specs.declared.port.Port
+pub use Rattle.reo_net_base.specs.declared.port.Ports
+pub use Rattle.reo_net_base.specs.declared.port.Way
+pub use Rattle.reo_net_circuit.specs.Fault
+pub use Rattle.reo_net_circuit.specs.Offers
+pub use Rattle.reo_net_circuit.specs.Parts
+pub use Rattle.reo_net_circuit.specs.declared.fault.NetFault
+pub use Rattle.reo_net_circuit.specs.declared.layout.SideOwner
+pub use Rattle.reo_net_order.specs.Arrows

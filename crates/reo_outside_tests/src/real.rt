@@ -1,0 +1,74 @@
+//! The files, sources and sinks of the system.
+use crate::checks::is;
+use crate::files::fetched;
+use crate::puts::mark_of_put;
+use crate::takes::five_takes;
+use reo_io::{DiskFiles, StdSink, StdSource};
+use reo_values::{Bytes, NoMemory};
+use std::fs::{self, File};
+use std::process;
+use std::test::Fail;
+
+fn mark_of_written(rt: &HostRuntime, path: &str) -> Result<u8, Fail> {
+    Ok(mark_of_put(b"abc", &mut StdSink::new(File::create(rt, path)?)))
+}
+
+fn read_in_pieces(rt: &HostRuntime, path: &str) -> Result<Bytes, Fail> {
+    Ok(five_takes(rt.alloc(), &mut StdSource::new(File::open(rt, path)?))?)
+}
+
+/// The mark of a put into a file that is open for reading.
+fn mark_of_unwritten(rt: &HostRuntime, path: &str) -> Result<u8, Fail> {
+    Ok(mark_of_put(b"abc", &mut StdSink::new(File::open(rt, path)?)))
+}
+
+/// The takes from a file that is open for writing.
+fn read_from_written(rt: &HostRuntime, path: &str) -> Result<Bytes, Fail> {
+    Ok(five_takes(rt.alloc(), &mut StdSource::new(File::create(rt, path)?))?)
+}
+
+/// Limits, and what `fetched` says of a file that holds `abc`.
+const LIMITS: &[(usize, &str)] = &[(3, ".abc"), (2, ">abc"), (1, ">ab"), (0, ">a")];
+
+/// Whether this is fetched of a file.
+fn disk_says(rt: &HostRuntime, path: &[u8], limit: usize, said: &str) -> Result<bool, NoMemory> {
+    let said_of_it = fetched(rt.alloc(), &mut DiskFiles::new(rt.alloc(), rt), path, limit)?;
+    Ok(said_of_it.as_slice() == said.as_bytes())
+}
+
+/// The path of a file of this process.
+fn path_of(rt: &HostRuntime) -> Result<String, Fail> {
+    Ok(format!(in rt.alloc(); "/tmp/reo_outside_{}", process::id(rt.process()))?)
+}
+
+fn written_and_read(rt: &HostRuntime, path: &str) -> Result<bool, Fail> {
+    Ok(
+        mark_of_written(rt, path)? == b'.'
+            && read_in_pieces(rt, path)?.as_slice() == b"ab|c||||".as_slice(),
+    )
+}
+
+fn the_wrong_way_round(rt: &HostRuntime, path: &str) -> Result<bool, Fail> {
+    Ok(
+        mark_of_unwritten(rt, path)? == b'!'
+            && read_from_written(rt, path)?.as_slice() == b"!!!!!".as_slice(),
+    )
+}
+
+#[test]
+fn the_real_ones_write_and_read_a_file(rt: HostRuntime) -> Result<(), Fail> {
+    let path = path_of(&rt)?;
+    is(&rt, written_and_read(&rt, path.as_str())?, "written");
+    for (limit, said) in LIMITS {
+        is(&rt, disk_says(&rt, path.as_bytes(), *limit, said)?, said);
+    }
+    is(
+        &rt,
+        the_wrong_way_round(&rt, path.as_str())?,
+        "the wrong way round",
+    );
+    fs::remove_file(&rt, path.as_str())?;
+    is(&rt, disk_says(&rt, path.as_bytes(), 9, "!")?, "no file");
+    is(&rt, disk_says(&rt, b"\xff", 9, "!")?, "no text");
+    Ok(())
+}
