@@ -39,6 +39,6 @@ pub record IsHonest (words : List (List ℕ)) (sink : Change SinkState) (code : 
   pub fair : IsFair sink code
 
 -- The files tell what they told, and the source is as it was.
-pub record KeepsInputs {R : Type 0} (files : Change FilesState) (old_source new_source : R) : Type 0 where
-  pub files : files.new.told ≡ files.old.told
-  pub source : new_source ≡ old_source
+pub record KeepsInputs {R : Type 0} (files : Change FilesState) (before after : R) : Type 0 where
+  pub told : files.new.told ≡ files.old.told
+  pub source : after ≡ before

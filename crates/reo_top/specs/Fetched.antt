@@ -53,6 +53,7 @@ has_gone (unknown ∷ cs) = has_gone cs
 -- The first files of these roles and names were fetched, in order, with these answers: as many fetches were made as there
 -- are answers, the names of those that failed were noted, and the files tell what they told.
 pub record AreFetched (roles : List Role) (names : List (List ℕ)) (answers : List Content) (files : Change FilesState) : Type 0 where
+  pub few : length answers ≤ length names
   pub count : files.new.fetches ≡ fetches_after (length answers) files.old.fetches
   pub failed : files.new.failed ≡ files.old.failed ++ missed names answers
   pub same : files.new.told ≡ files.old.told

@@ -1,6 +1,7 @@
 //! Fetching files.
-ghost use Rattle.std.specs.Prelude.{[], ◌∷◌};
+ghost use Rattle.std.specs.Prelude.{[], ◌∷◌, ◌≤◌, IfOk, length};
 ghost use Rattle.reo_top.specs.Fetched.{AreFetched, answer_of, IsFetchStop};
+ghost use Rattle.reo_top.specs.Roles.{most_bytes};
 ghost use Rattle.reo_top.specs.States.{files_change};
 
 use crate::role::Role;
@@ -18,6 +19,7 @@ pub(crate) fn fetch<F: Files>(
 ) -> Result<Bytes, Stop>
     ensures fetched { AreFetched (role ∷ []) (name.now ∷ []) (answer_of result ∷ []) (files_change F.told F.failed F.fetches files.old files.new) }
     ensures stop { IsFetchStop role result }
+    ensures size { IfOk result (λ bytes. length bytes ≤ most_bytes role) }
 {
     let mut room = Bytes::new(alloc);
     match files.fetch(alloc, name, role.most_bytes(), &mut room) {

@@ -94,7 +94,12 @@ pub(crate) fn read_run<F: Files>(
     ensures form { IfOk result (λ plain. IsPlainest plain.form) }
     ensures script { IfOk result (λ plain. IsPlainScript plain.form.parameters plain.script.components) }
 {
-    let form = read_circuit(alloc, circuit, files)?;
-    let script = read_components(alloc, &form, script, files)?;
-    Ok(Plain { form, script })
+    let form = match read_circuit(alloc, circuit, files) {
+        Ok(form) => form,
+        Err(stop) => return Err(stop),
+    };
+    match read_components(alloc, &form, script, files) {
+        Ok(script) => Ok(Plain { form, script }),
+        Err(stop) => Err(stop),
+    }
 }
