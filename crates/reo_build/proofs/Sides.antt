@@ -16,7 +16,7 @@ use Rattle.reo_net_base.specs.Net.{from_sides, to_sides}
 use Rattle.reo_net_circuit.specs.Fault.{AllRight, GoesRight}
 use Rattle.reo_net_circuit.proofs.Cases.{lt_cases}
 use Rattle.reo_kinds.specs.Kinds.{behaviour_of}
-use Rattle.reo_kinds.specs.Tables.{sync}
+use Rattle.reo_kinds.specs.declared.kind.Kind.TheVariants.{Sync}
 use Rattle.reo_values.specs.declared.kindred.Kindred.{Kindred}
 use Rattle.reo_forms.specs.declared.plainest.Parameter.{Parameter}
 use Rattle.reo_forms.specs.declared.plainest.Plainest.{Plainest}
@@ -35,7 +35,7 @@ port_one_side : (w : Way) (k : Kindred) → HasOneSide (behaviour_of (port_kind 
 port_one_side In k = record { one_side = refl; first = λ e. refl }
 port_one_side Out k = record { one_side = refl; first = λ e. refl }
 
-sync_one_side : HasOneSide sync
+sync_one_side : HasOneSide (behaviour_of Sync)
 sync_one_side = record { one_side = refl; first = λ e. refl }
 
 pub bs_length : (c : Plainest) → length (net_for c).primitives ≡ length c.parameters + length c.channels
@@ -45,7 +45,7 @@ bs_length c = length-map (primitives_of c) behaviour_of ∙ kinds_length c
 pub port_behaviour : (c : Plainest) (i : ℕ) (p : Parameter) → IsParameterAt c i p → behaviour_at (net_for c).primitives i ≡ behaviour_of (kind_of p)
 port_behaviour c i p is = port_at behaviour_of c i p nothing is
 
-pub channel_behaviour : (c : Plainest) (n : ℕ) → length c.parameters ≤ n → n < length c.parameters + length c.channels → behaviour_at (net_for c).primitives n ≡ sync
+pub channel_behaviour : (c : Plainest) (n : ℕ) → length c.parameters ≤ n → n < length c.parameters + length c.channels → behaviour_at (net_for c).primitives n ≡ behaviour_of Sync
 channel_behaviour c n low high = sync_at behaviour_of c n nothing low high
 
 pub one_side_each : (c : Plainest) (n : ℕ) → n < length (net_for c).primitives → HasOneSide (behaviour_at (net_for c).primitives n)
@@ -99,7 +99,7 @@ pub record IsRight (c : Plainest) (j : Joint) : Type 0 where
   pub right : GoesRight (net_for c) j
 
 between_right : (c : Plainest) → (i : ℕ) (w : Way) (k : Kindred) (n : ℕ) → i < length c.parameters → behaviour_at (net_for c).primitives i ≡ behaviour_of (port_kind w k)
-    → n < length c.parameters + length c.channels → behaviour_at (net_for c).primitives n ≡ sync → IsRight c (joint_between w i n)
+    → n < length c.parameters + length c.channels → behaviour_at (net_for c).primitives n ≡ behaviour_of Sync → IsRight c (joint_between w i n)
 between_right c i In k n lt port n_lt channel = record {
   giver = (omega (arith, lt, bs_length c), rw port (omega arith));
   taker = (omega (arith, n_lt, bs_length c), rw channel (omega arith));

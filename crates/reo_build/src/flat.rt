@@ -6,10 +6,10 @@ ghost use Rattle.reo_build.specs.Flat.{circuit_of, ports_of};
 use crate::laws::{has_few_parts, is_sound};
 use crate::parts::{joints, primitives};
 use crate::seen::ports;
-use reo_net_base::Ports;
-use reo_net_circuit::{Circuit, NetFault};
 use reo_forms::Plainest;
 use reo_kinds::Kind;
+use reo_net_base::Ports;
+use reo_net_circuit::{Circuit, NetFault};
 use reo_values::NoMemory;
 use std::alloc::Global;
 
@@ -26,7 +26,7 @@ pub struct Flat {
 ///
 /// # Errors
 ///
-/// `NoMemory` is want of memory. There is no other error: what has the form has no fault.
+/// `NoMemory` is out of memory. There is no other error: what has the form has no fault.
 pub fn build(alloc: Global, plainest: &Plainest) -> Result<Flat, NoMemory>
     requires { IsPlainest plainest.now }
     ensures circuit { IfOk result (λ flat. flat.circuit ≡ circuit_of plainest.now) }

@@ -2,7 +2,7 @@
 ghost use Rattle.reo_build.specs.Sound.{HasFewParts, IsSoundForm, JoinsByName};
 ghost use Rattle.reo_build.specs.ScriptFits.{ScriptFits};
 
-use reo_kinds::item_test_is_exact;
+use reo_values::item_test_is_exact;
 
 /// A circuit of the form has at most eight ports, and so at most twelve primitives and eight
 /// joints.

@@ -8,6 +8,3 @@ mod seen;
 
 pub use flat::{Flat, build};
 pub use laws::{has_few_parts, is_sound, joins_by_name, script_fits};
-
-#[cfg(test)]
-mod tests;

@@ -7,9 +7,9 @@ ghost use Rattle.reo_forms.specs.declared.plainest.Joined.{Joined as Channel};
 ghost use Rattle.reo_forms.specs.CircuitForm.{name_for};
 ghost use Rattle.reo_build.specs.Flat.{kindred_of, port_kind, primitives_of, channel_at, joint_between, joints_from};
 
-use reo_net_base::{End, Joint, Way};
 use reo_forms::{Joined, Parameter, Plainest};
 use reo_kinds::{Kind, TakerPort, WriterPort};
+use reo_net_base::{End, Joint, Way};
 use reo_values::{Kindred, List, NoMemory};
 use std::alloc::Global;
 
@@ -84,7 +84,7 @@ fn joint_between(way: Way, port: usize, channel: usize) -> Joint
     }
 }
 
-/// The joints: one for each port, in the order of the ports. `NoMemory` is want of memory.
+/// The joints: one for each port, in the order of the ports. `NoMemory` is out of memory.
 pub fn joints(alloc: Global, plainest: &Plainest) -> Result<List<Joint>, NoMemory>
     requires parameters { length plainest.now.parameters < 2 ^ 31 }
     requires channels { length plainest.now.channels < 2 ^ 31 }

@@ -3,12 +3,12 @@ ghost use Rattle.std.specs.Prelude.{◌≡◌, IfOk};
 ghost use Rattle.reo_build.specs.Flat.{ports_of};
 
 use crate::parts::kindred;
-use reo_net_base::{Port, Ports};
 use reo_forms::Plainest;
+use reo_net_base::{Port, Ports};
 use reo_values::{List, NoMemory};
 use std::alloc::Global;
 
-/// The ports, in the order of the parameters. `NoMemory` is want of memory.
+/// The ports, in the order of the parameters. `NoMemory` is out of memory.
 pub fn ports(alloc: Global, plainest: &Plainest) -> Result<Ports, NoMemory>
     ensures { IfOk result (λ ports. ports.list ≡ ports_of plainest.now) }
 {

@@ -13,8 +13,6 @@
 mod connectors;
 mod fault;
 mod laws;
-#[cfg(test)]
-mod other_tests;
 mod plain;
 mod plain_script;
 mod plainest;
@@ -22,10 +20,6 @@ mod programs;
 mod reader;
 mod script;
 mod script_text;
-#[cfg(test)]
-mod shape_tests;
-#[cfg(test)]
-mod tests;
 
 pub use fault::FormFault;
 pub use laws::{one_script, one_shape};

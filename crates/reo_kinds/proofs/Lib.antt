@@ -1,2 +1,2 @@
-pub mod ItemTests
 pub mod RuleLemmas
+pub mod RuleLaws

@@ -8,9 +8,9 @@ use Rattle.reo_values.specs.Kind.{IsIn}
 use Rattle.reo_exprs.specs.Valued.{value_of_expr}
 use Rattle.reo_kinds.specs.declared.kind.FilterRule.{FilterRule}
 use Rattle.reo_kinds.specs.declared.kind.MapRule.{MapRule}
-use Rattle.reo_kinds.specs.Items.{is_item}
+use Rattle.reo_values.specs.Kind.{is_item}
 use Rattle.reo_kinds.specs.Rules.{accepts, image}
-use Rattle.reo_kinds.proofs.ItemTests.{is_item-is}
+use Rattle.reo_values.proofs.Tests.{is_item-is}
 
 -- The program's test of an item is the definition's.
 test_is : (item : Value) (of : Kindred) (is : Bool) → (IsTrue is ↔ IsIn item of) → is ≡ is_item item of

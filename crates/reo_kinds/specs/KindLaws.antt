@@ -1,5 +1,6 @@
 -- Each kind keeps the laws of a primitive.
-use Rattle.std.proofs.Common.{◌≡◌, ◌≢◌, false, Option, None, refl, arith}
+use Rattle.reo_kinds.specs.declared.shape.Shape.{Shape}
+use Rattle.std.proofs.Common.{is_some, ◌==◌, ℕ, zero, suc, ◌≡◌, ◌≢◌, true, false, Bool, cond, not, nat_lt, ◌<◌, Option, None, refl, sym, ap, ◌∙◌, arith}
 use Rattle.reo_values.specs.declared.value.Value.{Value}
 use Rattle.reo_net_base.specs.declared.mark.Mark.{Mark}
 use Rattle.reo_net_base.specs.declared.mark.Mark.TheVariants.{F, G, R, J}
@@ -7,41 +8,123 @@ use Rattle.reo_net_base.specs.declared.colouring.Chosen.{Chosen}
 use Rattle.reo_net_base.specs.Marks.{is_flow}
 use Rattle.reo_net_base.specs.Behaviour.{Behaviour}
 use Rattle.reo_net_base.specs.Lawful.{IsLawful, SameShape, IsQuiet}
+use Rattle.reo_buffers.specs.Stored.{is_full}
 use Rattle.reo_kinds.specs.declared.kind.Kind.{Kind}
-use Rattle.reo_kinds.specs.declared.kind.Kind.TheVariants.{Writer, Taker, Sync, Lossy, SyncDrain, AsyncDrain, Filter, Map, Merger, Replicator}
-use Rattle.reo_kinds.specs.Kinds.{behaviour_of, settled_kind}
-use Rattle.reo_kinds.specs.PortLaws.{writer_lawful, taker_lawful}
-use Rattle.reo_kinds.specs.Rules.{accepts, image}
-use Rattle.reo_kinds.specs.ChannelLaws.{sync_lawful, lossy_lawful, sync_drain_lawful, async_drain_lawful, filter_lawful, map_lawful}
-use Rattle.reo_kinds.specs.BranchLaws.{merger_lawful, replicator_lawful}
+use Rattle.reo_kinds.specs.declared.kind.Kind.TheVariants.{Writer, Taker, Sync, Lossy, SyncDrain, AsyncDrain, Store, Shift, Variable, Quota, Filter, Map, Merger, Replicator}
+use Rattle.reo_kinds.specs.declared.table.Table.TheVariants.{Together, LossyRows, OneOfTwo, FilterRows}
+use Rattle.reo_kinds.specs.Tables.{rows_of}
+use Rattle.reo_kinds.specs.TableTests.{is_table}
+use Rattle.reo_kinds.specs.ItemLaws.{Passes, out_lawful, in_lawful, drain_lawful, channel_lawful, kept_lawful, merger_lawful, replicator_lawful}
+use Rattle.reo_kinds.specs.declared.ends.Ends.{Ends}
+use Rattle.reo_kinds.specs.declared.ends.Ends.TheVariants as ends
+use Rattle.reo_kinds.specs.Forms.{end_count, side_count, side_in, takes_at, leads_by}
+use Rattle.reo_kinds.specs.Kinds.{behaviour_of, settled_kind, mouth_and_tail, put_in, shift_in, given_away, replaced, ready, ends_of, shape_of, after, first_flows, second_flows, quota_table, front_of, lets_in, given_of}
+
+sync_passes : Passes (rows_of Together)
+sync_passes zero flows = refl
+sync_passes (suc zero) flows = absurd cc
+sync_passes (suc (suc zero)) flows = absurd cc
+sync_passes (suc (suc (suc row))) flows = absurd cc
+
+lossy_passes : Passes (rows_of LossyRows)
+lossy_passes zero flows = refl
+lossy_passes (suc zero) flows = absurd cc
+lossy_passes (suc (suc zero)) flows = absurd cc
+lossy_passes (suc (suc (suc row))) flows = absurd cc
+
+filter_passes : Passes (rows_of FilterRows)
+filter_passes zero flows = refl
+filter_passes (suc zero) flows = absurd cc
+filter_passes (suc (suc zero)) flows = absurd cc
+filter_passes (suc (suc (suc zero))) flows = absurd cc
+filter_passes (suc (suc (suc (suc row)))) flows = absurd cc
+
+quota_passes : (some_left : Bool) → Passes (rows_of (quota_table some_left))
+quota_passes true row flows = sync_passes row flows
+quota_passes false zero flows = absurd cc
+quota_passes false (suc row) flows = absurd cc
+
+pub quota_is : (some_left : Bool) → is_table 2 (rows_of (quota_table some_left)) ≡ true
+quota_is true = refl
+quota_is false = refl
 
 pub kind_lawful : (kind : Kind) → IsLawful (behaviour_of kind)
-kind_lawful (Writer port) = writer_lawful port.offer
-kind_lawful (Taker port) = taker_lawful port.pending
-kind_lawful Sync = sync_lawful
-kind_lawful Lossy = lossy_lawful
-kind_lawful SyncDrain = sync_drain_lawful
-kind_lawful AsyncDrain = async_drain_lawful
-kind_lawful (Filter rule) = filter_lawful (accepts rule)
-kind_lawful (Map rule) = map_lawful (image rule)
-kind_lawful (Merger branches) = merger_lawful branches.count branches.few
-kind_lawful (Replicator branches) = replicator_lawful branches.count branches.few
+kind_lawful (Writer port) = out_lawful port.offer
+kind_lawful (Taker port) = in_lawful port.pending
+kind_lawful Sync = channel_lawful Together refl sync_passes _ _ refl (λ item. refl)
+kind_lawful Lossy = channel_lawful LossyRows refl lossy_passes _ _ refl (λ item. refl)
+kind_lawful SyncDrain = drain_lawful Together refl
+kind_lawful AsyncDrain = drain_lawful OneOfTwo refl
+kind_lawful (Store buffer) = kept_lawful (not (is_full buffer)) (front_of buffer)
+kind_lawful (Shift buffer) = kept_lawful true (front_of buffer)
+kind_lawful (Variable held) = kept_lawful true held
+kind_lawful (Quota left) = channel_lawful (quota_table (nat_lt 0 left)) (quota_is (nat_lt 0 left)) (quota_passes (nat_lt 0 left)) _ _ refl (λ item. refl)
+kind_lawful (Filter rule) = channel_lawful FilterRows refl filter_passes (lets_in (Filter rule)) _ refl (λ item. refl)
+kind_lawful (Map rule) = channel_lawful Together refl sync_passes _ (given_of (Map rule)) refl (λ item. refl)
+kind_lawful (Merger branches) = merger_lawful branches
+kind_lawful (Replicator branches) = replicator_lawful branches
 
 pub same_shape : (b : Behaviour) → SameShape b b
-same_shape b = record { ends = refl; sides = refl; side_of = λ _. refl; takes_in = λ _. refl }
+same_shape b = record { ends = refl; sides = refl; side_of = λ _. refl; takes_in = λ _. refl; leads = λ _. refl }
+
+-- The ends lie as before.
+ends_stay : (first second : Bool) (item : Option Value) (kind : Kind) → ends_of (after first second item kind) ≡ ends_of kind
+ends_stay first second item (Writer port) = refl
+ends_stay first second item (Taker port) = refl
+ends_stay first second item Sync = refl
+ends_stay first second item Lossy = refl
+ends_stay first second item SyncDrain = refl
+ends_stay first second item AsyncDrain = refl
+ends_stay first second item (Store buffer) = refl
+ends_stay first second item (Shift buffer) = refl
+ends_stay first second item (Variable held) = refl
+ends_stay first second item (Quota left) = refl
+ends_stay first second item (Filter rule) = refl
+ends_stay first second item (Map rule) = refl
+ends_stay first second item (Merger branches) = refl
+ends_stay first second item (Replicator branches) = refl
+
+-- Neither a mouth nor a tail leads.
+none_leads : (mouth : Bool) (first second : Shape) → leads_by first ≡ false → leads_by second ≡ false → leads_by (cond mouth first second) ≡ false
+none_leads true first second h k = h
+none_leads false first second h k = k
+
+keeps_none : (free : Bool) (front : Option Value) (side : ℕ) → leads_by (mouth_and_tail free front side) ≡ false
+keeps_none free front side = none_leads (side == 0) (ready free) (ready (is_some front)) refl refl
+
+kept_leads : (free : Bool) (front : Option Value) (free_now : Bool) (front_now : Option Value) (side : ℕ)
+    → leads_by (mouth_and_tail free front side) ≡ leads_by (mouth_and_tail free_now front_now side)
+kept_leads free front free_now front_now side = keeps_none free front side ∙ sym (keeps_none free_now front_now side)
+
+leads_stay : (first second : Bool) (item : Option Value) (kind : Kind) (side : ℕ) → leads_by (shape_of (after first second item kind) side) ≡ leads_by (shape_of kind side)
+leads_stay first second item (Writer port) side = refl
+leads_stay first second item (Taker port) side = refl
+leads_stay first second item Sync side = refl
+leads_stay first second item Lossy side = refl
+leads_stay first second item SyncDrain side = refl
+leads_stay first second item AsyncDrain side = refl
+leads_stay first second item (Store buffer) side =
+    kept_leads (not (is_full (put_in item (given_away second buffer)))) (front_of (put_in item (given_away second buffer))) (not (is_full buffer)) (front_of buffer) side
+leads_stay first second item (Shift buffer) side = kept_leads true (front_of (shift_in item (given_away second buffer))) true (front_of buffer) side
+leads_stay first second item (Variable held) side = kept_leads true (replaced item held) true held side
+leads_stay first second item (Quota left) side = refl
+leads_stay first second item (Filter rule) side = refl
+leads_stay first second item (Map rule) side = refl
+leads_stay first second item (Merger branches) side = refl
+leads_stay first second item (Replicator branches) side = refl
+
+after_shape : (first second : Bool) (item : Option Value) (kind : Kind) → SameShape (behaviour_of kind) (behaviour_of (after first second item kind))
+after_shape first second item kind = let same = ends_stay first second item kind in record {
+  ends = ap end_count same;
+  sides = ap side_count same;
+  side_of = λ end. ap (λ e. side_in e end) same;
+  takes_in = λ end. ap (λ e. takes_at e end) same;
+  leads = leads_stay first second item kind;
+}
 
 -- A round leaves the shape.
 pub kind_shape : (kind : Kind) (rows : Chosen) (taken : Option Value) → SameShape (behaviour_of kind) (behaviour_of (settled_kind kind rows taken))
-kind_shape (Writer port) rows taken = record { ends = refl; sides = refl; side_of = λ _. refl; takes_in = λ _. refl }
-kind_shape (Taker port) rows taken = record { ends = refl; sides = refl; side_of = λ _. refl; takes_in = λ _. refl }
-kind_shape Sync rows taken = same_shape _
-kind_shape Lossy rows taken = same_shape _
-kind_shape SyncDrain rows taken = same_shape _
-kind_shape AsyncDrain rows taken = same_shape _
-kind_shape (Filter rule) rows taken = same_shape _
-kind_shape (Map rule) rows taken = same_shape _
-kind_shape (Merger branches) rows taken = same_shape _
-kind_shape (Replicator branches) rows taken = same_shape _
+kind_shape kind rows taken = after_shape (first_flows kind rows) (second_flows kind rows) (cond (first_flows kind rows) taken None) kind
 
 no_flow : (mark : Mark) → mark ≢ F → is_flow mark ≡ false
 no_flow F rests = absurd (rests refl)
@@ -49,15 +132,38 @@ no_flow G rests = refl
 no_flow R rests = refl
 no_flow J rests = refl
 
+-- Where nothing flows and nothing comes in, all stays.
+after_nothing : (second : Bool) (kind : Kind) → (ends_of kind ≡ ends.MouthTail → second ≡ false) → after false second None kind ≡ kind
+after_nothing second (Writer port) rests = refl
+after_nothing second (Taker port) rests = refl
+after_nothing second Sync rests = refl
+after_nothing second Lossy rests = refl
+after_nothing second SyncDrain rests = refl
+after_nothing second AsyncDrain rests = refl
+after_nothing second (Store buffer) rests = rw (rests refl) refl
+after_nothing second (Shift buffer) rests = rw (rests refl) refl
+after_nothing second (Variable held) rests = refl
+after_nothing second (Quota left) rests = refl
+after_nothing second (Filter rule) rests = refl
+after_nothing second (Map rule) rests = refl
+after_nothing second (Merger branches) rests = refl
+after_nothing second (Replicator branches) rests = refl
+
+-- The first end, at side 0, and the tail.
+first_end : (e : Ends) → (0 < end_count e) × (side_in e 0 ≡ 0)
+first_end ends.Out = (omega arith, refl)
+first_end ends.In = (omega arith, refl)
+first_end ends.InOut = (omega arith, refl)
+first_end ends.InIn = (omega arith, refl)
+first_end ends.MouthTail = (omega arith, refl)
+first_end (ends.Inputs branches) = (omega arith, refl)
+first_end (ends.Outputs branches) = (omega arith, refl)
+
+tail_end : (e : Ends) → e ≡ ends.MouthTail → (1 < end_count e) × (side_in e 1 ≡ 1)
+tail_end e is = rw (is) (omega arith, refl)
+
 -- Rows without flow leave the state.
 pub kind_quiet : (kind : Kind) (rows : Chosen) → IsQuiet (behaviour_of kind) rows → settled_kind kind rows None ≡ kind
-kind_quiet (Writer port) rows quiet = rw (no_flow _ (quiet.first 0 (omega arith, refl))) refl
-kind_quiet (Taker port) rows quiet = rw (no_flow _ (quiet.first 0 (omega arith, refl))) refl
-kind_quiet Sync rows quiet = refl
-kind_quiet Lossy rows quiet = refl
-kind_quiet SyncDrain rows quiet = refl
-kind_quiet AsyncDrain rows quiet = refl
-kind_quiet (Filter rule) rows quiet = refl
-kind_quiet (Map rule) rows quiet = refl
-kind_quiet (Merger branches) rows quiet = refl
-kind_quiet (Replicator branches) rows quiet = refl
+kind_quiet kind rows quiet =
+    let first : first_flows kind rows ≡ false = no_flow _ (quiet.first 0 (first_end (ends_of kind))) in
+    rw (first) (after_nothing (second_flows kind rows) kind (λ is. no_flow _ (quiet.second 1 (tail_end (ends_of kind) is))))

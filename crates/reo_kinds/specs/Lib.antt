@@ -2,10 +2,14 @@ pub mod Items
 pub mod Predicates
 pub mod Rules
 pub mod Given
+pub mod Rows
 pub mod Tables
+pub mod Branching
+pub mod Forms
 pub mod Kinds
-pub mod PortLaws
-pub mod ChannelLaws
-pub mod BranchLaws
+pub mod TableTests
+pub mod SideLaws
+pub mod ItemLaws
 pub mod KindLaws
 pub mod PortStateLaws
+pub mod RuleOfClasses

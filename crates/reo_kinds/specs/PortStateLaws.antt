@@ -10,8 +10,8 @@ use Rattle.reo_net_base.specs.PortState.{no_port_state, CanPlace, IsPortWith}
 use Rattle.reo_kinds.specs.declared.kind.WriterPort.{WriterPort}
 use Rattle.reo_kinds.specs.declared.kind.TakerPort.{TakerPort}
 use Rattle.reo_kinds.specs.declared.kind.Kind.{Kind}
-use Rattle.reo_kinds.specs.declared.kind.Kind.TheVariants.{Writer, Taker, Sync, Lossy, SyncDrain, AsyncDrain, Filter, Map, Merger, Replicator}
-use Rattle.reo_kinds.specs.Items.{is_item}
+use Rattle.reo_kinds.specs.declared.kind.Kind.TheVariants.{Writer, Taker, Sync, Lossy, SyncDrain, AsyncDrain, Store, Shift, Variable, Quota, Filter, Map, Merger, Replicator}
+use Rattle.reo_values.specs.Kind.{is_item}
 use Rattle.reo_kinds.specs.Kinds.{behaviour_of, settled_kind, port_state_of, placed_kind, withdrawn_kind, offering_if, unoffered, with_take}
 use Rattle.reo_kinds.specs.KindLaws.{same_shape}
 
@@ -23,6 +23,10 @@ no_port_kind Sync way = refl
 no_port_kind Lossy way = refl
 no_port_kind SyncDrain way = refl
 no_port_kind AsyncDrain way = refl
+no_port_kind (Store buffer) way = refl
+no_port_kind (Shift buffer) way = refl
+no_port_kind (Variable held) way = refl
+no_port_kind (Quota left) way = refl
 no_port_kind (Filter rule) way = refl
 no_port_kind (Map rule) way = refl
 no_port_kind (Merger branches) way = refl
@@ -47,20 +51,28 @@ placed_kind_port Sync offer can = let way = can.way in cc
 placed_kind_port Lossy offer can = let way = can.way in cc
 placed_kind_port SyncDrain offer can = let way = can.way in cc
 placed_kind_port AsyncDrain offer can = let way = can.way in cc
+placed_kind_port (Store buffer) offer can = let way = can.way in cc
+placed_kind_port (Shift buffer) offer can = let way = can.way in cc
+placed_kind_port (Variable held) offer can = let way = can.way in cc
+placed_kind_port (Quota left) offer can = let way = can.way in cc
 placed_kind_port (Filter rule) offer can = let way = can.way in cc
 placed_kind_port (Map rule) offer can = let way = can.way in cc
 placed_kind_port (Merger branches) offer can = let way = can.way in cc
 placed_kind_port (Replicator branches) offer can = let way = can.way in cc
 
 pub placed_kind_shape : (kind : Kind) (offer : Offer) → SameShape (behaviour_of kind) (behaviour_of (placed_kind kind offer))
-placed_kind_shape (Writer port) (Write item) = record { ends = refl; sides = refl; side_of = λ _. refl; takes_in = λ _. refl }
+placed_kind_shape (Writer port) (Write item) = record { ends = refl; sides = refl; side_of = λ _. refl; takes_in = λ _. refl; leads = λ _. refl }
 placed_kind_shape (Writer port) Take = same_shape _
 placed_kind_shape (Taker port) (Write item) = same_shape _
-placed_kind_shape (Taker port) Take = record { ends = refl; sides = refl; side_of = λ _. refl; takes_in = λ _. refl }
+placed_kind_shape (Taker port) Take = record { ends = refl; sides = refl; side_of = λ _. refl; takes_in = λ _. refl; leads = λ _. refl }
 placed_kind_shape Sync offer = same_shape _
 placed_kind_shape Lossy offer = same_shape _
 placed_kind_shape SyncDrain offer = same_shape _
 placed_kind_shape AsyncDrain offer = same_shape _
+placed_kind_shape (Store buffer) offer = same_shape _
+placed_kind_shape (Shift buffer) offer = same_shape _
+placed_kind_shape (Variable held) offer = same_shape _
+placed_kind_shape (Quota left) offer = same_shape _
 placed_kind_shape (Filter rule) offer = same_shape _
 placed_kind_shape (Map rule) offer = same_shape _
 placed_kind_shape (Merger branches) offer = same_shape _
@@ -74,18 +86,26 @@ withdrawn_kind_port Sync = no_port_stays None refl
 withdrawn_kind_port Lossy = no_port_stays None refl
 withdrawn_kind_port SyncDrain = no_port_stays None refl
 withdrawn_kind_port AsyncDrain = no_port_stays None refl
+withdrawn_kind_port (Store buffer) = no_port_stays None refl
+withdrawn_kind_port (Shift buffer) = no_port_stays None refl
+withdrawn_kind_port (Variable held) = no_port_stays None refl
+withdrawn_kind_port (Quota left) = no_port_stays None refl
 withdrawn_kind_port (Filter rule) = no_port_stays None refl
 withdrawn_kind_port (Map rule) = no_port_stays None refl
 withdrawn_kind_port (Merger branches) = no_port_stays None refl
 withdrawn_kind_port (Replicator branches) = no_port_stays None refl
 
 pub withdrawn_kind_shape : (kind : Kind) → SameShape (behaviour_of kind) (behaviour_of (withdrawn_kind kind))
-withdrawn_kind_shape (Writer port) = record { ends = refl; sides = refl; side_of = λ _. refl; takes_in = λ _. refl }
-withdrawn_kind_shape (Taker port) = record { ends = refl; sides = refl; side_of = λ _. refl; takes_in = λ _. refl }
+withdrawn_kind_shape (Writer port) = record { ends = refl; sides = refl; side_of = λ _. refl; takes_in = λ _. refl; leads = λ _. refl }
+withdrawn_kind_shape (Taker port) = record { ends = refl; sides = refl; side_of = λ _. refl; takes_in = λ _. refl; leads = λ _. refl }
 withdrawn_kind_shape Sync = same_shape _
 withdrawn_kind_shape Lossy = same_shape _
 withdrawn_kind_shape SyncDrain = same_shape _
 withdrawn_kind_shape AsyncDrain = same_shape _
+withdrawn_kind_shape (Store buffer) = same_shape _
+withdrawn_kind_shape (Shift buffer) = same_shape _
+withdrawn_kind_shape (Variable held) = same_shape _
+withdrawn_kind_shape (Quota left) = same_shape _
 withdrawn_kind_shape (Filter rule) = same_shape _
 withdrawn_kind_shape (Map rule) = same_shape _
 withdrawn_kind_shape (Merger branches) = same_shape _
@@ -116,6 +136,10 @@ settled_kind_port Sync rows taken = no_port_stays _ (none_either_way _)
 settled_kind_port Lossy rows taken = no_port_stays _ (none_either_way _)
 settled_kind_port SyncDrain rows taken = no_port_stays _ (none_either_way _)
 settled_kind_port AsyncDrain rows taken = no_port_stays _ (none_either_way _)
+settled_kind_port (Store buffer) rows taken = no_port_stays _ (none_either_way _)
+settled_kind_port (Shift buffer) rows taken = no_port_stays _ (none_either_way _)
+settled_kind_port (Variable held) rows taken = no_port_stays _ (none_either_way _)
+settled_kind_port (Quota left) rows taken = no_port_stays _ (none_either_way _)
 settled_kind_port (Filter rule) rows taken = no_port_stays _ (none_either_way _)
 settled_kind_port (Map rule) rows taken = no_port_stays _ (none_either_way _)
 settled_kind_port (Merger branches) rows taken = no_port_stays _ (none_either_way _)

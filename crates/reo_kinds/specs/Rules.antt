@@ -5,7 +5,7 @@ use Rattle.reo_values.specs.declared.value.Value.TheVariants as values
 use Rattle.reo_exprs.specs.Valued.{truth, value_of_expr}
 use Rattle.reo_kinds.specs.declared.kind.FilterRule.{FilterRule}
 use Rattle.reo_kinds.specs.declared.kind.MapRule.{MapRule}
-use Rattle.reo_kinds.specs.Items.{is_item}
+use Rattle.reo_values.specs.Kind.{is_item}
 
 -- whether the item is of the filter's type, and the filter's expression is true of it
 abbrev pub accepts : FilterRule → Value → Bool

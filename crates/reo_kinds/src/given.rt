@@ -2,7 +2,7 @@
 ghost use Rattle.std.specs.Prelude.{◌≡◌, None};
 ghost use Rattle.std.specs.Option.{option_copied};
 ghost use Rattle.reo_kinds.specs.Given.{item_of};
-ghost use Rattle.reo_kinds.specs.Kinds.{behaviour_of};
+ghost use Rattle.reo_kinds.specs.Kinds.{given_of};
 
 use crate::kind::{Kind, MapRule};
 use reo_values::Value;
@@ -30,16 +30,18 @@ fn same<'a>(item: Option<&'a Value>) -> Given<'a>
 
 /// What a kind gives, where this item was taken at the end that decides.
 pub fn given_by<'a>(kind: &'a Kind, taken: Option<&'a Value>) -> Given<'a>
-    ensures { item_of result ≡ (behaviour_of kind.entry.now).given 0 0 0 (option_copied taken.entry) }
+    ensures { item_of result ≡ given_of kind.entry.now (option_copied taken.entry) }
 {
     match kind {
         Kind::Writer(port) => same(port.offer.as_ref()),
         Kind::Taker(_) | Kind::SyncDrain | Kind::AsyncDrain => Given::Nothing,
-        Kind::Sync | Kind::Lossy | Kind::Filter(_) => same(taken),
+        Kind::Store(buffer) | Kind::Shift(buffer) => same(buffer.front()),
+        Kind::Variable(held) => same(held.as_ref()),
         Kind::Map(rule) => match taken {
             Some(item) => Given::Image(rule, item),
             None => Given::Nothing,
         },
+        Kind::Sync | Kind::Lossy | Kind::Quota(_) | Kind::Filter(_) => same(taken),
         Kind::Merger(_) | Kind::Replicator(_) => same(taken),
     }
 }

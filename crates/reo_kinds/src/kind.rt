@@ -5,6 +5,7 @@ ghost use Rattle.reo_exprs.specs.Typing.{IsTyped};
 ghost use Rattle.reo_kinds.specs.Items.{offer_fits};
 ghost use Rattle.reo_kinds.specs.Predicates.{IsPredicate, IsTyped-prop};
 
+use reo_buffers::Buffer;
 use reo_exprs::Expr;
 use reo_values::{Kindred, Value};
 
@@ -23,6 +24,15 @@ pub enum Kind {
     SyncDrain,
     /// A channel with two source ends of which one flows at a time.
     AsyncDrain,
+    /// A channel that keeps items, and gives the one that came first. It takes none in while full.
+    Store(Buffer),
+    /// A channel that keeps items, and gives the one that came first. While full it loses that one
+    /// for an item that comes in.
+    Shift(Buffer),
+    /// A channel that holds an item, gives it again and again, and takes another in in its place.
+    Variable(Option<Value>),
+    /// A channel whose two ends flow together so many times more.
+    Quota(u32),
     /// A channel that passes the items on for which its expression is true, and loses all others.
     Filter(FilterRule),
     /// A channel that gives its expression's value on the item that it takes.

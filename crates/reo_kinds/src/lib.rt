@@ -1,6 +1,8 @@
 //! The primitives of Reo circuits, by their literal tables.
 #![tactic(auto)]
 
+mod branching;
+mod ends;
 mod given;
 mod kind;
 mod laws;
@@ -8,12 +10,9 @@ mod offer;
 mod port;
 mod primitive;
 mod rule;
+mod settle;
+mod shape;
 mod table;
 
 pub use kind::{Branches, FilterRule, Kind, MapRule, TakerPort, WriterPort};
-pub use laws::item_test_is_exact;
-
-#[cfg(test)]
-mod rule_tests;
-#[cfg(test)]
-mod tests;
+pub use laws::classes_by_rule;

@@ -1,6 +1,6 @@
 //! A writer's offer.
 ghost use Rattle.std.specs.Prelude.{◌≡◌, true};
-ghost use Rattle.reo_kinds.specs.Items.{is_item};
+ghost use Rattle.reo_values.specs.Kind.{is_item};
 ghost use Rattle.reo_kinds.specs.Kinds.{unoffered, offering};
 
 use crate::kind::WriterPort;

@@ -1,8 +1,9 @@
 //! What filters and maps do with an item.
 ghost use Rattle.std.specs.Prelude.{◌≡◌, ◌↔◌, IfOk, IsTrue};
 ghost use Rattle.reo_kinds.specs.Rules.{accepts, image};
+ghost use Rattle.reo_kinds.specs.Kinds.{lets_in};
 
-use crate::kind::{FilterRule, MapRule};
+use crate::kind::{FilterRule, Kind, MapRule};
 use reo_exprs::{truth_of, value_is, value_of};
 use reo_values::{NoMemory, Value, is_in};
 use std::alloc::Global;
@@ -14,7 +15,23 @@ pub fn accepts(rule: &FilterRule, item: &Value) -> bool
     is_in(item, &rule.of) && truth_of(&rule.expr, &rule.of, item)
 }
 
-/// What a map makes of an item: `unit`, where the item is not of the map's type. `NoMemory` is want of memory.
+/// Whether a row of a kind lets an item in: a filter's row 0 what is accepted, its row 1 what is
+/// not, and each other row all.
+pub fn lets_in(kind: &Kind, row: usize, item: &Value) -> bool
+    ensures { result ≡ lets_in kind.now row item.now }
+{
+    match kind {
+        Kind::Filter(filter) => match row {
+            0 => accepts(filter, item),
+            1 => !accepts(filter, item),
+            _ => true,
+        },
+        _ => true,
+    }
+}
+
+/// What a map makes of an item: `unit`, where the item is not of the map's type. `NoMemory`: out of
+/// memory.
 pub fn image(alloc: Global, rule: &MapRule, item: &Value) -> Result<Value, NoMemory>
     ensures { IfOk result (λ made. made ≡ image rule.now item.now) }
 {

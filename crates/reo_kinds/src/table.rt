@@ -1,142 +1,120 @@
-//! The literal tables: what stands in each row.
-ghost use Rattle.std.specs.Prelude.{◌≡◌, ◌≤◌};
-ghost use Rattle.reo_net_base.specs.Marks.{is_flow};
-ghost use Rattle.reo_kinds.specs.Tables.{ready_mark, ready_rows, ready_class, ends, filter_mark, filter_class, merger_mark, merger_class, replicator_mark, replicator_class};
+//! The tables of ports, channels and buffers, row by row, the jam row left out.
+ghost use Rattle.std.specs.Prelude.{◌≡◌, [], slice_index_or};
+ghost use Rattle.reo_net_base.specs.declared.mark.Mark.TheVariants.{J as Jam};
+ghost use Rattle.reo_kinds.specs.Rows.{now_of, row_count, mark_in, class_in, classes_of};
+ghost use Rattle.reo_kinds.specs.Tables.{rows_of};
+ghost use Rattle.reo_kinds.specs.Kinds.{ready_table, quota_table};
 
 use reo_net_base::Mark;
+use reo_net_base::Mark::{F, G, R};
 
-/// A side with one end: F, R where it can flow, and else G.
-pub fn ready_mark(ready: bool, row: usize) -> Mark
-    ensures { result ≡ ready_mark ready row }
+/// A table.
+#[derive(Clone, Copy)]
+pub enum Table {
+    /// One end that can flow.
+    Ready,
+    /// One end that cannot flow.
+    Resting,
+    /// Two ends that flow together.
+    Together,
+    /// Flow through, or a loss where the second end cannot flow.
+    LossyRows,
+    /// Flow at one of two ends.
+    OneOfTwo,
+    /// Flow through, or a loss of what is not accepted.
+    FilterRows,
+    /// Two ends that cannot flow.
+    Spent,
+}
+
+/// The rows of a table.
+fn rows_of(table: Table) -> &'static [&'static [Mark]]
+    ensures { now_of result.now ≡ rows_of table }
 {
-    match (ready, row) {
-        (true, 0) => Mark::F,
-        (true, 1) => Mark::R,
-        (false, 0) => Mark::G,
-        _ => Mark::J,
+    match table {
+        Table::Ready => &[&[F], &[R]],
+        Table::Resting => &[&[G]],
+        Table::Together => &[&[F, F], &[R, G], &[G, R]],
+        Table::LossyRows => &[&[F, F], &[F, R], &[R, G]],
+        Table::OneOfTwo => &[&[F, G], &[G, F], &[R, R]],
+        Table::FilterRows => &[&[F, F], &[F, G], &[R, G], &[G, R]],
+        Table::Spent => &[&[G, G]],
     }
 }
 
-/// Whether a row of a side with one end flows.
-pub fn flows(ready: bool, row: usize) -> bool
-    ensures { result ≡ is_flow (ready_mark ready row) }
+/// The class of each row of a table, and of its jam row.
+fn classes_of(table: Table) -> &'static [usize]
+    ensures { result.now ≡ classes_of (rows_of table) }
 {
-    matches!(ready_mark(ready, row), Mark::F)
-}
-
-/// How many rows a side with one end has.
-pub fn ready_rows(ready: bool) -> usize
-    ensures { result ≡ ready_rows ready }
-{
-    if ready { 3 } else { 2 }
-}
-
-/// The classes of a side with one end.
-pub fn ready_class(ready: bool, row: usize) -> usize
-    ensures { result ≡ ready_class ready row }
-{
-    match (ready, row) {
-        (_, 0) => 0,
-        (true, 1) => 1,
-        (true, _) => 2,
-        (false, _) => 1,
+    match table {
+        Table::Ready => &[0, 1, 2],
+        Table::Resting | Table::Spent => &[0, 1],
+        Table::Together => &[0, 1, 1, 2],
+        Table::LossyRows | Table::OneOfTwo => &[0, 1, 2, 3],
+        Table::FilterRows => &[0, 1, 2, 2, 3],
     }
 }
 
-/// The marks of a channel's two ends.
-pub fn ends(first: Mark, second: Mark, end: usize) -> Mark
-    ensures { result ≡ ends first second end }
+/// The table of a side with one end, by whether it can flow.
+pub fn ready_table(can_flow: bool) -> Table
+    ensures { result ≡ ready_table can_flow }
 {
-    if end == 0 { first } else { second }
-}
-
-/// A filter: flow through, flow that is lost, and the two reasons.
-pub fn filter_mark(row: usize, end: usize) -> Mark
-    ensures { result ≡ filter_mark row end }
-{
-    match row {
-        0 => Mark::F,
-        1 => ends(Mark::F, Mark::G, end),
-        2 => ends(Mark::R, Mark::G, end),
-        3 => ends(Mark::G, Mark::R, end),
-        _ => Mark::J,
+    if can_flow {
+        Table::Ready
+    } else {
+        Table::Resting
     }
 }
 
-/// The classes of a filter.
-pub fn filter_class(row: usize) -> usize
-    ensures { result ≡ filter_class row }
+/// The table of a quota, by whether any is left.
+pub fn quota_table(some_left: bool) -> Table
+    ensures { result ≡ quota_table some_left }
 {
-    match row {
-        0 => 0,
-        1 => 1,
-        2 | 3 => 2,
-        _ => 3,
+    if some_left {
+        Table::Together
+    } else {
+        Table::Spent
     }
 }
 
-/// A merger with so many inputs, whose output is the end after them.
-pub fn merger_mark(inputs: usize, row: usize, end: usize) -> Mark
-    requires { inputs ≤ 8192 }
-    ensures { result ≡ merger_mark inputs row end }
+/// The marks of a row, and none past the rows.
+fn row_at(rows: &'static [&'static [Mark]], row: usize) -> &'static [Mark]
+    ensures { result.now ≡ slice_index_or (now_of rows.now) row [] }
 {
-    let is_input = end < inputs;
-    if row < inputs {
-        if is_input && end != row {
-            Mark::G
-        } else {
-            Mark::F
-        }
-    } else if row == inputs {
-        if is_input { Mark::G } else { Mark::R }
-    } else if row == inputs + 1 {
-        if is_input { Mark::R } else { Mark::G }
+    if row < rows.len() { rows[row] } else { &[] }
+}
+
+/// The mark at a place of a row, and jam past its end.
+fn mark_at(marks: &[Mark], end: usize) -> Mark
+    ensures { result ≡ slice_index_or marks.now end Jam }
+{
+    if end < marks.len() {
+        marks[end]
     } else {
         Mark::J
     }
 }
 
-/// The classes of a merger with so many inputs.
-pub fn merger_class(inputs: usize, row: usize) -> usize
-    requires { inputs ≤ 8192 }
-    ensures { result ≡ merger_class inputs row }
-{
-    if row < inputs {
-        row
-    } else if row <= inputs + 1 {
-        inputs
-    } else {
-        inputs + 1
+impl Table {
+    /// How many rows there are, the jam row counted.
+    pub fn count(self) -> usize
+        ensures { result ≡ row_count (rows_of self) }
+    {
+        classes_of(self).len()
     }
-}
 
-/// A replicator with so many outputs, which are the ends after its input.
-pub fn replicator_mark(outputs: usize, row: usize, end: usize) -> Mark
-    requires outputs { outputs ≤ 8192 }
-    requires end { end ≤ 8192 }
-    ensures { result ≡ replicator_mark outputs row end }
-{
-    if row == 0 {
-        Mark::F
-    } else if row == 1 {
-        ends(Mark::R, Mark::G, end)
-    } else if row < outputs + 2 {
-        if end + 1 == row { Mark::R } else { Mark::G }
-    } else {
-        Mark::J
+    /// What a row says of an end.
+    pub fn mark(self, row: usize, end: usize) -> Mark
+        ensures { result ≡ mark_in (rows_of self) row end }
+    {
+        mark_at(row_at(rows_of(self), row), end)
     }
-}
 
-/// The classes of a replicator with so many outputs.
-pub fn replicator_class(outputs: usize, row: usize) -> usize
-    requires { outputs ≤ 8192 }
-    ensures { result ≡ replicator_class outputs row }
-{
-    if row == 0 {
-        0
-    } else if row < outputs + 2 {
-        1
-    } else {
-        2
+    /// The class of a row.
+    pub fn class(self, row: usize) -> usize
+        ensures { result ≡ class_in (rows_of self) row }
+    {
+        let classes = classes_of(self);
+        if row < classes.len() { classes[row] } else { 0 }
     }
 }

@@ -9,5 +9,5 @@ pub use reo_net_base::{
     marks_match,
 };
 pub use reo_net_circuit::{Circuit, NetFault, SideOwner, are_parts, moves};
-pub use reo_net_colouring::{compare, fill};
+pub use reo_net_colouring::{are_moves, colour, compare, fill, is_colouring};
 pub use reo_net_plain::plain_first;

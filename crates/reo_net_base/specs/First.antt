@@ -26,10 +26,13 @@ is_leading s = s.of.leads s.number
 abbrev pub class_position : ℕ → Side → ℕ → Position
 class_position turn s k = record { side = k; number = λ row. s.of.class s.number row turn }
 
--- The places of the classes of those of these sides that lead. The first of these sides has this number.
+-- The places of the classes of those of these sides that lead. The first of these sides has this
+-- number.
 abbrev pub leading_positions : ℕ → List Side → ℕ → List Position
 leading_positions turn [] k = []
-leading_positions turn (s ∷ ss) k = cond (is_leading s) (class_position turn s k ∷ leading_positions turn ss (suc k)) (leading_positions turn ss (suc k))
+leading_positions turn (s ∷ ss) k =
+    cond (is_leading s) (class_position turn s k ∷ leading_positions turn ss (suc k))
+    (leading_positions turn ss (suc k))
 
 -- The places of the classes of these sides, the first of which has this number.
 abbrev pub class_positions : ℕ → List Side → ℕ → List Position
@@ -41,8 +44,8 @@ abbrev pub row_positions : List Side → ℕ → List Position
 row_positions [] k = []
 row_positions (s ∷ ss) k = record { side = k; number = λ row. row } ∷ row_positions ss (suc k)
 
--- What colourings are compared by, each in the order of the sides: the classes of the sides that lead,
--- then the classes of all sides, and then the rows of all sides.
+-- What colourings are compared by, each in the order of the sides: the classes of the sides that
+-- lead, then the classes of all sides, and then the rows of all sides.
 abbrev pub positions : Net → ℕ → List Position
 positions net turn =
     leading_positions turn (all_sides net.primitives) 0
@@ -59,4 +62,5 @@ order_of net turn a b = order_by (positions net turn) a b
 -- The first colouring: no other stands before it.
 pub record IsFirst (net : Net) (turn : ℕ) (rows : List ℕ) (items : List (Option Value)) : Type 0 where
   pub colouring : IsColouring net rows items
-  pub least : (others : List ℕ) (other_items : List (Option Value)) → IsColouring net others other_items → order_of net turn others rows ≢ Less
+  pub least : (others : List ℕ) (other_items : List (Option Value))
+      → IsColouring net others other_items → order_of net turn others rows ≢ Less

@@ -1,11 +1,13 @@
 pub mod Behaviour
 pub mod Colouring
+pub mod Ends
 pub mod First
-pub mod PortState
 pub mod Lawful
 pub mod Marks
 pub mod Moves
 pub mod Net
+pub mod PortState
 pub mod Shapes
+pub mod Sides
 pub mod Step
 pub mod Wired

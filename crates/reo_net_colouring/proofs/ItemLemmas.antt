@@ -14,11 +14,20 @@ use Rattle.reo_net_base.specs.Marks.{is_flow}
 use Rattle.reo_net_base.specs.Behaviour.{Behaviour}
 use Rattle.reo_net_base.specs.Net.{Net, all_sides, behaviour_at, end_eq, end_of, row_at, mark_at, side_at}
 use Rattle.reo_net_base.specs.Colouring.{AreRows, taken_at, given_at, item_given, ItemFits, IsColouring, IsFilled}
+use Rattle.reo_net_base.specs.Ends.{IsGiver, IsTaker}
 use Rattle.reo_net_base.specs.Wired.{IsWired, IsOrder}
 use Rattle.reo_net_laws.proofs.Items.{given_same}
 use Rattle.reo_net_laws.proofs.Sides.{gives_at, row_in_table, row_below, side_in_range, same_side_at}
 use Rattle.reo_net_laws.proofs.Orders.{no_joint, Feeds, place_in, place_of, fed_before}
 use Rattle.reo_net_colouring.proofs.FilledBefore.{AreFilledBefore}
+
+-- The ends of a joint.
+module _ (net : Net) (wired : IsWired net) (j : ℕ) (d : Joint) (lt : j < length net.joints) where
+  pub joint_giver : IsGiver net (get_or net.joints j d).giver
+  joint_giver = record { is_end = wired.givers j d lt; gives = wired.gives j d lt }
+
+  pub joint_taker : IsTaker net (get_or net.joints j d).taker
+  joint_taker = record { is_end = wired.takers j d lt; takes = wired.takes j d lt }
 
 -- The item at the joint that goes to an end, from a joint on.
 pub taken_from : (joints : List Joint) (items : List (Option Value)) (e : End) (i : ℕ) (d : Joint) → i < length joints → length items ≡ length joints

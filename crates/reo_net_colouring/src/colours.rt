@@ -11,15 +11,17 @@ use reo_net_circuit::Circuit;
 use reo_values::{List, NoMemory, Value};
 use std::alloc::Global;
 
-/// The items with which rows that fit together are a colouring: `None` exactly where there are none, since some row does
-/// not let in what another gives. `NoMemory` is out of memory.
+/// The items with which rows that fit together are a colouring: `None` exactly where there are
+/// none, since some row does not let in what another gives. `NoMemory` is out of memory.
 pub fn colour<P: Primitive>(
     alloc: Global,
     circuit: &Circuit<P>,
     rows: &[u32],
 ) -> Result<Option<List<Option<Value>>>, NoMemory>
     requires { RowsFit (net_of P.behaviour circuit.now) rows.now }
-    ensures { IfOk result (λ found. MatchOption found ((items : Items (Option Item)) → IsColouring (net_of P.behaviour circuit.now) rows.now items → ⊥) (λ items. IsColouring (net_of P.behaviour circuit.now) rows.now items)) }
+    ensures { let net = net_of P.behaviour circuit.now in IfOk result (λ found. MatchOption found
+        ((items : Items (Option Item)) → IsColouring net rows.now items → ⊥)
+        (λ items. IsColouring net rows.now items)) }
 {
     let items = items_of(alloc, circuit, rows)?;
     if all_fit(circuit, rows, items.as_slice()) {

@@ -1,9 +1,10 @@
 //! Whether what stands at a joint fits there.
 ghost use Rattle.std.specs.Prelude.{◌≡◌, ◌<◌, ◌↔◌, IsTrue, Some, length, false, true};
 ghost use Rattle.reo_net_base.specs.declared.mark.Mark.TheVariants.{F};
+ghost use Rattle.reo_net_base.specs.Sides.{AreRowsOf};
+ghost use Rattle.reo_net_base.specs.Ends.{IsGiver, IsTaker};
 ghost use Rattle.reo_net_base.specs.Net.{net_of, all_sides, behaviour_at, mark_at};
-ghost use Rattle.reo_net_base.specs.Colouring.{AreRows, given_at, lets_in, ItemFits};
-ghost use Rattle.reo_net_base.specs.Wired.{IsEnd};
+ghost use Rattle.reo_net_base.specs.Colouring.{given_at, lets_in, ItemFits};
 ghost use Rattle.reo_net_colouring.specs.Filled.{AllFit};
 
 use crate::taken::taken;
@@ -19,12 +20,12 @@ fn is_given<P: Primitive>(
     giver: End,
     item: &Value,
 ) -> bool
-    requires rows { AreRows (all_sides (net_of P.behaviour circuit.now).primitives) rows.now }
+    requires rows { AreRowsOf (net_of P.behaviour circuit.now) rows.now }
     requires items { length items.now ≡ length circuit.now.joints }
-    requires giver { IsEnd (net_of P.behaviour circuit.now).primitives giver }
-    requires gives { (behaviour_at (net_of P.behaviour circuit.now).primitives giver.primitive).takes_in giver.end ≡ false }
+    requires giver { IsGiver (net_of P.behaviour circuit.now) giver }
     requires flows { mark_at (net_of P.behaviour circuit.now) rows.now giver ≡ F }
-    ensures { IsTrue result ↔ (given_at (net_of P.behaviour circuit.now) rows.now items.now giver ≡ Some item.now) }
+    ensures { let net = net_of P.behaviour circuit.now in
+        IsTrue result ↔ (given_at net rows.now items.now giver ≡ Some item.now) }
 {
     circuit.known();
     let row = circuit.row_at(rows, giver);
@@ -46,9 +47,8 @@ fn is_given<P: Primitive>(
 /// Whether the row of an end lets an item in there.
 #[tactic(auto, unfolding(reo_net_base::specs::Colouring::lets_in))]
 fn is_let_in<P: Primitive>(circuit: &Circuit<P>, rows: &[u32], taker: End, item: &Value) -> bool
-    requires rows { AreRows (all_sides (net_of P.behaviour circuit.now).primitives) rows.now }
-    requires taker { IsEnd (net_of P.behaviour circuit.now).primitives taker }
-    requires takes { (behaviour_at (net_of P.behaviour circuit.now).primitives taker.primitive).takes_in taker.end ≡ true }
+    requires rows { AreRowsOf (net_of P.behaviour circuit.now) rows.now }
+    requires taker { IsTaker (net_of P.behaviour circuit.now) taker }
     ensures { result ≡ lets_in (net_of P.behaviour circuit.now) rows.now taker item.now }
 {
     circuit.known();
@@ -65,13 +65,12 @@ fn fits<P: Primitive>(
     joint: Joint,
     item: &Option<Value>,
 ) -> bool
-    requires rows { AreRows (all_sides (net_of P.behaviour circuit.now).primitives) rows.now }
+    requires rows { AreRowsOf (net_of P.behaviour circuit.now) rows.now }
     requires items { length items.now ≡ length circuit.now.joints }
-    requires giver { IsEnd (net_of P.behaviour circuit.now).primitives joint.giver }
-    requires taker { IsEnd (net_of P.behaviour circuit.now).primitives joint.taker }
-    requires gives { (behaviour_at (net_of P.behaviour circuit.now).primitives joint.giver.primitive).takes_in joint.giver.end ≡ false }
-    requires takes { (behaviour_at (net_of P.behaviour circuit.now).primitives joint.taker.primitive).takes_in joint.taker.end ≡ true }
-    ensures { IsTrue result ↔ ItemFits (net_of P.behaviour circuit.now) rows.now items.now joint item.now }
+    requires giver { IsGiver (net_of P.behaviour circuit.now) joint.giver }
+    requires taker { IsTaker (net_of P.behaviour circuit.now) joint.taker }
+    ensures { let net = net_of P.behaviour circuit.now in
+        IsTrue result ↔ ItemFits net rows.now items.now joint item.now }
 {
     let flows = circuit.mark_at(rows, joint.giver).is_flow();
     match item {
@@ -90,7 +89,7 @@ pub(crate) fn all_fit<P: Primitive>(
     rows: &[u32],
     items: &[Option<Value>],
 ) -> bool
-    requires rows { AreRows (all_sides (net_of P.behaviour circuit.now).primitives) rows.now }
+    requires rows { AreRowsOf (net_of P.behaviour circuit.now) rows.now }
     requires items { length items.now ≡ length circuit.now.joints }
     ensures { IsTrue result ↔ AllFit (net_of P.behaviour circuit.now) rows.now items.now }
 {

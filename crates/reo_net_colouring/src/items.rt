@@ -2,9 +2,10 @@
 ghost use Rattle.std.specs.Prelude.{◌≡◌, ◌<◌, ℕ, IfOk, List as Items, Option, length, slice_set, false};
 ghost use Rattle.reo_values.specs.declared.value.Value.{Value as Item};
 ghost use Rattle.reo_net_base.specs.declared.mark.Mark.TheVariants.{F};
+ghost use Rattle.reo_net_base.specs.Sides.{AreRowsOf};
+ghost use Rattle.reo_net_base.specs.Ends.{IsGiver};
 ghost use Rattle.reo_net_base.specs.Net.{net_of, all_sides, behaviour_at, mark_at};
-ghost use Rattle.reo_net_base.specs.Colouring.{AreRows, RowsFit, given_at, item_given, IsFilled};
-ghost use Rattle.reo_net_base.specs.Wired.{IsEnd};
+ghost use Rattle.reo_net_base.specs.Colouring.{RowsFit, given_at, item_given, IsFilled};
 
 use crate::taken::taken;
 use reo_net_base::{Colouring, End, Joint, Mark, Primitive};
@@ -20,12 +21,12 @@ fn given_for<P: Primitive>(
     items: &[Option<Value>],
     giver: End,
 ) -> Result<Option<Value>, NoMemory>
-    requires rows { AreRows (all_sides (net_of P.behaviour circuit.now).primitives) rows.now }
+    requires rows { AreRowsOf (net_of P.behaviour circuit.now) rows.now }
     requires items { length items.now ≡ length circuit.now.joints }
-    requires giver { IsEnd (net_of P.behaviour circuit.now).primitives giver }
-    requires gives { (behaviour_at (net_of P.behaviour circuit.now).primitives giver.primitive).takes_in giver.end ≡ false }
+    requires giver { IsGiver (net_of P.behaviour circuit.now) giver }
     requires flows { mark_at (net_of P.behaviour circuit.now) rows.now giver ≡ F }
-    ensures { IfOk result (λ found. found ≡ given_at (net_of P.behaviour circuit.now) rows.now items.now giver) }
+    ensures { let net = net_of P.behaviour circuit.now in
+        IfOk result (λ found. found ≡ given_at net rows.now items.now giver) }
 {
     circuit.known();
     let row = circuit.row_at(rows, giver);
@@ -61,11 +62,11 @@ fn item_for<P: Primitive>(
     items: &[Option<Value>],
     joint: Joint,
 ) -> Result<Option<Value>, NoMemory>
-    requires rows { AreRows (all_sides (net_of P.behaviour circuit.now).primitives) rows.now }
+    requires rows { AreRowsOf (net_of P.behaviour circuit.now) rows.now }
     requires items { length items.now ≡ length circuit.now.joints }
-    requires giver { IsEnd (net_of P.behaviour circuit.now).primitives joint.giver }
-    requires gives { (behaviour_at (net_of P.behaviour circuit.now).primitives joint.giver.primitive).takes_in joint.giver.end ≡ false }
-    ensures { IfOk result (λ found. found ≡ item_given (net_of P.behaviour circuit.now) rows.now items.now joint) }
+    requires giver { IsGiver (net_of P.behaviour circuit.now) joint.giver }
+    ensures { let net = net_of P.behaviour circuit.now in
+        IfOk result (λ found. found ≡ item_given net rows.now items.now joint) }
 {
     match circuit.mark_at(rows, joint.giver) {
         Mark::F => given_for(alloc, circuit, rows, items, joint.giver),
@@ -99,9 +100,10 @@ pub(crate) fn items_of<P: Primitive>(
     circuit: &Circuit<P>,
     rows: &[u32],
 ) -> Result<List<Option<Value>>, NoMemory>
-    requires { AreRows (all_sides (net_of P.behaviour circuit.now).primitives) rows.now }
+    requires { AreRowsOf (net_of P.behaviour circuit.now) rows.now }
     ensures filled { IfOk result (IsFilled (net_of P.behaviour circuit.now) rows.now) }
-    ensures one { IfOk result (λ items. (others : Items (Option Item)) → IsFilled (net_of P.behaviour circuit.now) rows.now others → others ≡ items) }
+    ensures one { let net = net_of P.behaviour circuit.now in IfOk result (λ items.
+        (others : Items (Option Item)) → IsFilled net rows.now others → others ≡ items) }
 {
     circuit.known();
     let order = circuit.order();
@@ -115,7 +117,8 @@ pub(crate) fn items_of<P: Primitive>(
     Ok(List::from_vec(items))
 }
 
-/// The rows with the items that they determine, whether or not they are let in. `NoMemory` is out of memory.
+/// The rows with the items that they determine, whether or not they are let in. `NoMemory` is
+/// out of memory.
 pub fn fill<P: Primitive>(
     alloc: Global,
     circuit: &Circuit<P>,
@@ -123,8 +126,10 @@ pub fn fill<P: Primitive>(
 ) -> Result<Colouring, NoMemory>
     requires { RowsFit (net_of P.behaviour circuit.now) rows }
     ensures rows { IfOk result (λ filled. filled.rows ≡ rows) }
-    ensures items { IfOk result (λ filled. IsFilled (net_of P.behaviour circuit.now) rows filled.items) }
-    ensures one { IfOk result (λ filled. (others : Items (Option Item)) → IsFilled (net_of P.behaviour circuit.now) rows others → others ≡ filled.items) }
+    ensures items { let net = net_of P.behaviour circuit.now in
+        IfOk result (λ filled. IsFilled net rows filled.items) }
+    ensures one { let net = net_of P.behaviour circuit.now in IfOk result (λ filled.
+        (others : Items (Option Item)) → IsFilled net rows others → others ≡ filled.items) }
 {
     let items = items_of(alloc, circuit, rows.as_slice())?;
     Ok(Colouring { rows, items })

@@ -1,5 +1,5 @@
-//! What rows determine: their order, the items that they put at joints, whether they are those of a colouring, and the
-//! moves.
+//! What rows determine: their order, the items that they put at joints, whether they are those of
+//! a colouring, and the moves.
 #![tactic(auto)]
 
 mod colours;

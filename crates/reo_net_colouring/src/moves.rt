@@ -1,8 +1,8 @@
 //! Whether a list is the moves of rows and items.
 ghost use Rattle.std.specs.Prelude.{◌≡◌, ◌<◌, ◌↔◌, IsTrue, None, length, option_copied, slice_index_or};
 ghost use Rattle.reo_net_base.specs.declared.colouring.Move.{Move as Flow};
+ghost use Rattle.reo_net_base.specs.Sides.{AreRowsOf};
 ghost use Rattle.reo_net_base.specs.Net.{net_of, all_sides};
-ghost use Rattle.reo_net_base.specs.Colouring.{AreRows};
 ghost use Rattle.reo_net_base.specs.Moves.{move_with, moves_at, moves_of};
 
 use reo_net_base::{End, Move, Primitive};
@@ -24,7 +24,7 @@ fn flowing<'a, P: Primitive>(
     port: usize,
 ) -> Option<&'a Value>
     requires port { port < circuit.now.ports }
-    requires rows { AreRows (all_sides (net_of P.behaviour circuit.now).primitives) rows.now }
+    requires rows { AreRowsOf (net_of P.behaviour circuit.now) rows.now }
     ensures { let net = net_of P.behaviour circuit.now in
         move_with port (option_copied result) ≡ moves_at net rows.now items.entry.now port }
 {
@@ -50,23 +50,24 @@ fn is_move(found: &Move, port: usize, item: &Value) -> bool
 /// Whether a move of this port and this item stands at a place.
 fn stands_at(moves: &[Move], place: usize, port: usize, item: &Value) -> bool
     ensures in_range { IsTrue result → place < length moves.now }
-    ensures move_ { IsTrue result → (d : Flow) → slice_index_or moves.now place d ≡ record { port = port; item = item.now } }
-    ensures back { place < length moves.now
-        → ((d : Flow) → slice_index_or moves.now place d ≡ record { port = port; item = item.now })
+    ensures move_ { let move : Flow = record { port = port; item = item.now } in
+        IsTrue result → (d : Flow) → slice_index_or moves.now place d ≡ move }
+    ensures back { let move : Flow = record { port = port; item = item.now } in
+        place < length moves.now → ((d : Flow) → slice_index_or moves.now place d ≡ move)
         → IsTrue result }
 {
     place < moves.len() && is_move(&moves[place], port, item)
 }
 
-/// Whether a list is the moves of rows and items: the ports that flow, in order, with their items. The list may be any.
-/// This takes no memory.
+/// Whether a list is the moves of rows and items: the ports that flow, in order, with their items.
+/// The list may be any. This takes no memory.
 pub fn are_moves<P: Primitive>(
     circuit: &Circuit<P>,
     rows: &[u32],
     items: &[Option<Value>],
     moves: &[Move],
 ) -> bool
-    requires { AreRows (all_sides (net_of P.behaviour circuit.now).primitives) rows.now }
+    requires { AreRowsOf (net_of P.behaviour circuit.now) rows.now }
     ensures { let net = net_of P.behaviour circuit.now in
         IsTrue result ↔ (moves.now ≡ moves_of net circuit.now.ports rows.now items.now) }
 {

@@ -1,8 +1,9 @@
 //! Whether rows and items are a colouring.
 ghost use Rattle.std.specs.Prelude.{◌≡◌, ◌<◌, ◌↔◌, IsTrue, length, false, true};
-ghost use Rattle.reo_net_base.specs.Net.{net_of, all_sides};
-ghost use Rattle.reo_net_base.specs.Colouring.{AreRows, JointMatches, IsColouring};
+ghost use Rattle.reo_net_base.specs.Sides.{AreRowsOf};
 ghost use Rattle.reo_net_base.specs.Wired.{IsEnd};
+ghost use Rattle.reo_net_base.specs.Net.{net_of, all_sides};
+ghost use Rattle.reo_net_base.specs.Colouring.{JointMatches, IsColouring};
 ghost use Rattle.reo_net_colouring.specs.Filled.{AllMatch};
 
 use crate::fits::all_fit;
@@ -12,7 +13,7 @@ use reo_values::Value;
 
 /// Whether a joint matches.
 fn matches_at<P: Primitive>(circuit: &Circuit<P>, rows: &[u32], joint: Joint) -> bool
-    requires rows { AreRows (all_sides (net_of P.behaviour circuit.now).primitives) rows.now }
+    requires rows { AreRowsOf (net_of P.behaviour circuit.now) rows.now }
     requires giver { IsEnd (net_of P.behaviour circuit.now).primitives joint.giver }
     requires taker { IsEnd (net_of P.behaviour circuit.now).primitives joint.taker }
     ensures { IsTrue result ↔ JointMatches (net_of P.behaviour circuit.now) rows.now joint }
@@ -24,7 +25,7 @@ fn matches_at<P: Primitive>(circuit: &Circuit<P>, rows: &[u32], joint: Joint) ->
 
 /// Whether each joint matches.
 fn all_match<P: Primitive>(circuit: &Circuit<P>, rows: &[u32]) -> bool
-    requires { AreRows (all_sides (net_of P.behaviour circuit.now).primitives) rows.now }
+    requires { AreRowsOf (net_of P.behaviour circuit.now) rows.now }
     ensures { IsTrue result ↔ AllMatch (net_of P.behaviour circuit.now) rows.now }
 {
     circuit.known();
@@ -36,8 +37,9 @@ fn all_match<P: Primitive>(circuit: &Circuit<P>, rows: &[u32]) -> bool
     true
 }
 
-/// Whether rows and items are a colouring of a circuit in its present state. The rows and items may be any: `false` also
-/// where there are too few or too many, or where a row is past the table of its side. This takes no memory.
+/// Whether rows and items are a colouring of a circuit in its present state. The rows and items may
+/// be any: `false` also where there are too few or too many, or where a row is past the table of
+/// its side. This takes no memory.
 pub fn is_colouring<P: Primitive>(
     circuit: &Circuit<P>,
     rows: &[u32],

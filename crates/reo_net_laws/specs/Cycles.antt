@@ -6,4 +6,5 @@ use Rattle.reo_net_base.specs.Wired.{IsOrder}
 
 -- No directed cycle of sides exists exactly where the joints have an order.
 abbrev pub OrderWithoutCycle : Type 0
-OrderWithoutCycle = (net : Net) → NoCycle (from_sides net) (to_sides net) ↔ ((order : List ℕ) × IsOrder net order)
+OrderWithoutCycle = (net : Net)
+    → NoCycle (from_sides net) (to_sides net) ↔ ((order : List ℕ) × IsOrder net order)

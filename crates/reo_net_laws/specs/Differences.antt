@@ -10,9 +10,13 @@ number_at p rows = p.number (slice_index rows p.side)
 -- The place of this number is the first where two keys differ, and the first key is smaller there.
 pub record DiffersFirst (ps : List Position) (x y : List ℕ) (place : ℕ) : Type 0 where
   pub in_range : place < length ps
-  pub before : (q : ℕ) (d : Position) → q < place → number_at (slice_index_or ps q d) x ≡ number_at (slice_index_or ps q d) y
-  pub smaller : (d : Position) → number_at (slice_index_or ps place d) x < number_at (slice_index_or ps place d) y
+  pub before : (q : ℕ) (d : Position) → q < place
+      → number_at (slice_index_or ps q d) x ≡ number_at (slice_index_or ps q d) y
+  pub smaller : (d : Position)
+      → number_at (slice_index_or ps place d) x < number_at (slice_index_or ps place d) y
 
--- One list of rows stands before another exactly where their keys differ and the first is smaller at the first difference.
+-- One list of rows stands before another exactly where their keys differ and the first is smaller
+-- at the first difference.
 abbrev pub FirstDifferenceDecides : Type 0
-FirstDifferenceDecides = (ps : List Position) (x y : List ℕ) → (order_by ps x y ≡ Less) ↔ ((place : ℕ) × DiffersFirst ps x y place)
+FirstDifferenceDecides = (ps : List Position) (x y : List ℕ)
+    → (order_by ps x y ≡ Less) ↔ ((place : ℕ) × DiffersFirst ps x y place)

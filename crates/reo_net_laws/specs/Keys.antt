@@ -1,7 +1,8 @@
 -- The order of colourings, restricted to a set of sides.
-use Rattle.std.specs.Prelude.{ℕ, ◌<◌, ◌≤◌, ◌≢◌, ◌≡◌, Bool, List, [], ◌∷◌, Option, length, filter, slice_index, slice_index_or}
+use Rattle.std.specs.Prelude.{ℕ, ◌<◌, ◌≤◌, ◌≢◌, ◌≡◌, Bool, List, [], ◌∷◌, Option, filter, slice_index, slice_index_or}
 use Rattle.std.specs.declared.cmp.Ordering.TheVariants.{Less}
 use Rattle.reo_values.specs.declared.value.Value.{Value}
+use Rattle.reo_net_base.specs.Sides.{side_count}
 use Rattle.reo_net_base.specs.Net.{Net, all_sides, no_side}
 use Rattle.reo_net_base.specs.First.{Position, is_leading, positions, order_by}
 use Rattle.reo_net_laws.specs.Parts.{IsAssignment}
@@ -12,7 +13,8 @@ within inside ps = filter (λ (p : Position). inside p.side) ps
 
 -- No assignment of the set stands before these rows, by the places of the set's sides.
 abbrev pub IsLeastBy : Net → (ℕ → Bool) → List Position → List ℕ → Type 0
-IsLeastBy net inside ps rows = (others : List ℕ) (other_items : List (Option Value)) → IsAssignment net inside others other_items → order_by (within inside ps) others rows ≢ Less
+IsLeastBy net inside ps rows = (others : List ℕ) (other_items : List (Option Value))
+    → IsAssignment net inside others other_items → order_by (within inside ps) others rows ≢ Less
 
 -- No assignment of the set stands before these rows.
 abbrev pub IsLeastIn : Net → (ℕ → Bool) → ℕ → List ℕ → Type 0
@@ -40,11 +42,14 @@ abbrev pub AreInRange : ℕ → List Position → Type 0
 AreInRange n [] = Unit {0}
 AreInRange n (p ∷ ps) = (p.side < n) × AreInRange n ps
 
--- Places by which the classes decide: rows of which no class is greater and some class is smaller stand before.
+-- Places by which the classes decide: rows of which no class is greater and some class is smaller
+-- stand before.
 pub record ClassesLead (net : Net) (turn : ℕ) (ps : List Position) : Type 0 where
-  pub in_range : AreInRange (length (all_sides net.primitives)) ps
-  pub decided : (x y : List ℕ) → ((k : ℕ) → k < length (all_sides net.primitives) → class_in net turn x k ≤ class_in net turn y k)
-      → (k : ℕ) → k < length (all_sides net.primitives) → class_in net turn x k < class_in net turn y k → order_by ps x y ≡ Less
+  pub in_range : AreInRange (side_count net) ps
+  pub decided : (x y : List ℕ)
+      → ((k : ℕ) → k < side_count net → class_in net turn x k ≤ class_in net turn y k)
+      → (k : ℕ) → k < side_count net → class_in net turn x k < class_in net turn y k
+      → order_by ps x y ≡ Less
 
 -- Whichever sides lead, the classes decide.
 abbrev pub ClassesAlwaysLead : Type 0

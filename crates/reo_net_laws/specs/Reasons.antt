@@ -13,5 +13,6 @@ pub record AreReasonsGiven (net : Net) (rows : List ℕ) (j : Joint) : Type 0 wh
 
 -- A colouring gives each reason that it requires.
 abbrev pub ReasonsAreGiven : Type 0
-ReasonsAreGiven = (net : Net) (rows : List ℕ) (items : List (Option Value)) → IsColouring net rows items → (j : ℕ) (d : Joint) → j < length net.joints
+ReasonsAreGiven = (net : Net) (rows : List ℕ) (items : List (Option Value))
+    → IsColouring net rows items → (j : ℕ) (d : Joint) → j < length net.joints
     → AreReasonsGiven net rows (slice_index_or net.joints j d)

@@ -12,7 +12,8 @@ pub fn first_is_one()
     ensures { FirstIsOne }
 {}
 
-/// Where the joints have an order, two first assignments of a closed set have the same rows and items there.
+/// Where the joints have an order, two first assignments of a closed set have the same rows and
+/// items there.
 pub fn first_is_one_inside()
     ensures { FirstIsOneInside }
 {}
@@ -57,7 +58,8 @@ pub fn is_isolated()
     ensures { IsIsolated }
 {}
 
-/// The first colourings of two circuits that are alike on a closed set have the same rows and items there.
+/// The first colourings of two circuits that are alike on a closed set have the same rows and
+/// items there.
 pub fn firsts_agree()
     ensures { FirstsAgree }
 {}

@@ -14,12 +14,14 @@ pub fn part_keys()
     ensures { PartKeys }
 {}
 
-/// One list of rows stands before another exactly where the first difference of their keys is smaller.
+/// One list of rows stands before another exactly where the first difference of their keys is
+/// smaller.
 pub fn first_difference_decides()
     ensures { FirstDifferenceDecides }
 {}
 
-/// The first leading side at which the classes of two lists of rows differ decides, whatever other sides say.
+/// The first leading side at which the classes of two lists of rows differ decides, whatever other
+/// sides say.
 pub fn leading_come_first()
     ensures { LeadingComeFirst }
 {}

@@ -1,6 +1,7 @@
 //! Rows of the first sides that no colouring has.
 ghost use Rattle.std.specs.Prelude.{◌≡◌, ◌<◌, ◌≤◌, ℕ, List as Items, length, true, false};
 ghost use Rattle.reo_net_base.specs.Net.{net_of, all_sides, mark_at, side_at};
+ghost use Rattle.reo_net_base.specs.Sides.{side_count};
 ghost use Rattle.reo_net_base.specs.Colouring.{JointMatches, RowsFit};
 ghost use Rattle.reo_net_base.specs.Wired.{IsEnd};
 ghost use Rattle.reo_net_plain.specs.Begun.{AreFirstRows, IsPrefix, IsChosen, NoneBegins};
@@ -14,7 +15,8 @@ fn mark_of<P: Primitive>(circuit: &Circuit<P>, rows: &[u32], end: End) -> Mark
     requires end { IsEnd (net_of P.behaviour circuit.now).primitives end }
     requires rows { AreFirstRows (all_sides (net_of P.behaviour circuit.now).primitives) rows.now }
     requires chosen { side_at (net_of P.behaviour circuit.now) end < length rows.now }
-    ensures { (others : Items ℕ) → IsPrefix rows.now others → mark_at (net_of P.behaviour circuit.now) others end ≡ result }
+    ensures { let net = net_of P.behaviour circuit.now in
+        (others : Items ℕ) → IsPrefix rows.now others → mark_at net others end ≡ result }
 {
     circuit.known();
     let row = rows[circuit.side_of(end)] as usize;
@@ -27,8 +29,11 @@ fn clashes_at<P: Primitive>(circuit: &Circuit<P>, rows: &[u32], joint: Joint) ->
     requires giver { IsEnd (net_of P.behaviour circuit.now).primitives joint.giver }
     requires taker { IsEnd (net_of P.behaviour circuit.now).primitives joint.taker }
     requires rows { AreFirstRows (all_sides (net_of P.behaviour circuit.now).primitives) rows.now }
-    ensures clash { result ≡ true → (others : Items ℕ) → IsPrefix rows.now others → JointMatches (net_of P.behaviour circuit.now) others joint → ⊥ }
-    ensures match_ { result ≡ false → IsChosen (net_of P.behaviour circuit.now) rows.now joint → (others : Items ℕ) → IsPrefix rows.now others → JointMatches (net_of P.behaviour circuit.now) others joint }
+    ensures clash { let net = net_of P.behaviour circuit.now in result ≡ true
+        → (others : Items ℕ) → IsPrefix rows.now others → JointMatches net others joint → ⊥ }
+    ensures match_ { let net = net_of P.behaviour circuit.now in
+        result ≡ false → IsChosen net rows.now joint
+        → (others : Items ℕ) → IsPrefix rows.now others → JointMatches net others joint }
 {
     let chosen = rows.len();
     if circuit.side_of(joint.giver) >= chosen || circuit.side_of(joint.taker) >= chosen {
@@ -43,7 +48,8 @@ fn clashes_at<P: Primitive>(circuit: &Circuit<P>, rows: &[u32], joint: Joint) ->
 pub(crate) fn clashes<P: Primitive>(circuit: &Circuit<P>, rows: &[u32]) -> bool
     requires { AreFirstRows (all_sides (net_of P.behaviour circuit.now).primitives) rows.now }
     ensures clash { result ≡ true → NoneBegins (net_of P.behaviour circuit.now) rows.now }
-    ensures fit { result ≡ false → length rows.now ≡ length (all_sides (net_of P.behaviour circuit.now).primitives) → RowsFit (net_of P.behaviour circuit.now) rows.now }
+    ensures fit { let net = net_of P.behaviour circuit.now in
+        result ≡ false → length rows.now ≡ side_count net → RowsFit net rows.now }
 {
     circuit.known();
     for index in 0..circuit.joint_count() {

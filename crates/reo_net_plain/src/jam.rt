@@ -41,7 +41,8 @@ pub(crate) fn jammed<P: Primitive>(
     alloc: Global,
     circuit: &Circuit<P>,
 ) -> Result<Colouring, NoMemory>
-    ensures { IfOk result (λ jam. IsColouring (net_of P.behaviour circuit.now) jam.rows jam.items) }
+    ensures { let net = net_of P.behaviour circuit.now in
+        IfOk result (λ jam. IsColouring net jam.rows jam.items) }
 {
     circuit.known();
     jam_is_colouring();

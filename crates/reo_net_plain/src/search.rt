@@ -23,7 +23,8 @@ fn improved<P: Primitive>(
 ) -> Result<Colouring, NoMemory>
     requires rows { RowsFit (net_of P.behaviour circuit.now) rows.now }
     requires best { IsColouring (net_of P.behaviour circuit.now) best.rows best.items }
-    ensures { IfOk result (λ found. Improves (net_of P.behaviour circuit.now) turn rows.now best.rows found.rows found.items) }
+    ensures { let net = net_of P.behaviour circuit.now in
+        IfOk result (λ found. Improves net turn rows.now best.rows found.rows found.items) }
 {
     let tried = rows.as_slice();
     match colour(alloc, circuit, tried)? {
@@ -39,7 +40,8 @@ fn improved<P: Primitive>(
     }
 }
 
-/// The best of a colouring and all that begin with these rows. A choice is left where two chosen sides do not match.
+/// The best of a colouring and all that begin with these rows. A choice is left where two chosen
+/// sides do not match.
 fn best_from<P: Primitive>(
     alloc: Global,
     circuit: &Circuit<P>,
@@ -49,7 +51,8 @@ fn best_from<P: Primitive>(
 ) -> Result<Colouring, NoMemory>
     requires rows { AreFirstRows (all_sides (net_of P.behaviour circuit.now).primitives) rows.old }
     requires best { IsColouring (net_of P.behaviour circuit.now) best.rows best.items }
-    ensures best { IfOk result (λ found. Improves (net_of P.behaviour circuit.now) turn rows.old best.rows found.rows found.items) }
+    ensures best { let net = net_of P.behaviour circuit.now in
+        IfOk result (λ found. Improves net turn rows.old best.rows found.rows found.items) }
     ensures same { OnOk result (rows.new ≡ rows.old) }
 {
     if clashes(circuit, rows.as_slice()) {
@@ -67,13 +70,15 @@ fn best_from<P: Primitive>(
     Ok(best)
 }
 
-/// The first colouring of a circuit in the round of this number, which counts from 1. `NoMemory` is out of memory.
+/// The first colouring of a circuit in the round of this number, which counts from 1. `NoMemory` is
+/// out of memory.
 pub fn plain_first<P: Primitive>(
     alloc: Global,
     circuit: &Circuit<P>,
     turn: u64,
 ) -> Result<Colouring, NoMemory>
-    ensures { IfOk result (λ found. IsFirst (net_of P.behaviour circuit.now) turn found.rows found.items) }
+    ensures { let net = net_of P.behaviour circuit.now in
+        IfOk result (λ found. IsFirst net turn found.rows found.items) }
 {
     let jam = jammed(alloc, circuit)?;
     let mut rows = List::new(alloc);

@@ -1,5 +1,5 @@
 -- The joints of a circuit stay in order through a round.
-use Rattle.std.proofs.Common.{◌≡◌, ◌∙◌, ℕ, zero, suc, cond, true, false, List, [], ◌∷◌, sym, refl, subst, length, map, arith}
+use Rattle.std.proofs.Common.{◌≡◌, ◌∙◌, ℕ, zero, suc, cond, true, false, List, [], ◌∷◌, sym, subst, length, map, arith}
 use Rattle.std.specs.Prelude.{Option, Some, None, nat_lt, is_some}
 use Rattle.std.proofs.lemmas.List.{length-map}
 use Rattle.reo_values.specs.declared.value.Value.{Value}

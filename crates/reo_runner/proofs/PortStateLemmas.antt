@@ -2,11 +2,9 @@
 use Rattle.std.proofs.Common.{◌≡◌, ◌∙◌, ℕ, zero, suc, ◌+◌, cond, true, false, List, [], ◌∷◌, refl, map, arith, zero-add}
 use Rattle.std.specs.Prelude.{Option, Some, None, nat_lt}
 use Rattle.reo_values.specs.declared.value.Value.{Value}
-use Rattle.reo_net_base.specs.declared.colouring.Chosen.{Chosen}
 use Rattle.reo_net_base.specs.declared.port.Offer.{Offer}
 use Rattle.reo_net_base.specs.declared.port.Offer.TheVariants.{Write, Take}
 use Rattle.reo_net_base.specs.PortState.{PortState, port_state_at, CanPlace, IsPortWith, IsAccepted}
-use Rattle.reo_net_base.specs.Step.{settled_list}
 use Rattle.reo_script.specs.declared.script.Action.{Action}
 use Rattle.reo_script.specs.declared.script.Component.{Component}
 use Rattle.reo_script.specs.Actions.{port_of, offer_of, action_for, IsScriptFor}
@@ -40,15 +38,6 @@ script_kept olds news ports cs same is = record {
       };
   apart = is.apart;
 }
-
--- A round leaves the ports the same.
-pub settled_same : {P : Type 0} (port_state : P → PortState) (settled : P → Chosen → Option Value → P) → ((p : P) (rows : Chosen) (taken : Option Value) → IsSame (port_state p) (port_state (settled p rows taken)))
-    → (ps : List P) (rows : List Chosen) (taken : List (Option Value)) (i : ℕ) → IsSame (port_state_at (map port_state ps) i) (port_state_at (map port_state (settled_list settled ps rows taken)) i)
-settled_same port_state settled law [] rows taken i = record { way = refl; accepts = λ _. refl }
-settled_same port_state settled law (p ∷ ps) [] taken i = record { way = refl; accepts = λ _. refl }
-settled_same port_state settled law (p ∷ ps) (r ∷ rows) [] i = record { way = refl; accepts = λ _. refl }
-settled_same port_state settled law (p ∷ ps) (r ∷ rows) (t ∷ taken) zero = law p r t
-settled_same port_state settled law (p ∷ ps) (r ∷ rows) (t ∷ taken) (suc i) = settled_same port_state settled law ps rows taken i
 
 -- Offers that are made pending leave the ports the same.
 module _ {P : Type 0} (r : Rules P) (withdrawn : (q : P) → IsPortWith (r.port_state q) (r.port_state (r.withdrawn q)) None)

@@ -114,5 +114,6 @@ pub(crate) fn go_on<P: Ported>(
     ensures step { circuit.new ≡ record circuit.old { primitives = stepped P.behaviour P.settled circuit.old colouring.rows colouring.items } }
 {
     let _ = components;
+    circuit.known_offers();
     circuit.step(colouring);
 }

@@ -10,9 +10,9 @@ ghost use Rattle.reo_runner.specs.Round.{RoundOf, rules_of, state_of};
 
 use crate::offers::{go_on, make_ready};
 use crate::plan::{Plan, make_plan};
+use reo_io::Sink;
 use reo_net_base::{Ported, Ports};
 use reo_net_circuit::Circuit;
-use reo_io::Sink;
 use reo_script::Component;
 use reo_trace::{RoundLine, WriteFault, write_round};
 use reo_values::List;

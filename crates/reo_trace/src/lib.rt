@@ -8,8 +8,6 @@
 mod entries;
 mod idle;
 mod line;
-#[cfg(test)]
-mod tests;
 mod text;
 mod write;
 

@@ -1,12 +1,17 @@
 //! Types, faults and values of expressions.
+ghost use Rattle.std.specs.Prelude.{◌≡◌, Some};
+ghost use Rattle.reo_values.specs.Kind.{IsIn};
+ghost use Rattle.reo_exprs.specs.Typing.{type_of_expr};
+
 use crate::checks::is;
-use crate::notation::{Unread, column, item_of_words, type_of_words};
-use crate::terms::{expr_of_words, repeated};
+use crate::looks::{Line, Table, holds};
+use crate::notation::Unread;
+use crate::terms::read_expr;
 use reo_exprs::{
-    Expr, TypeFault, intervals_are_least, item_in_wider_type, joins, kind_of_expr, lies_inside,
-    truth_of, type_of, types_join_by_kind, value_is, value_of,
+    Expr, TypeFault, intervals_are_least, joins, kind_of_expr, lies_inside, truth_of, type_of,
+    types_join_by_kind, value_is, value_of,
 };
-use reo_values::{Kindred, NoMemory, Value, is_in, same_item};
+use reo_values::{Kindred, List, Value, is_in, same_item};
 use std::alloc::Global;
 
 /// Words of an expression, of the item's type, and of the expression's type.
@@ -49,33 +54,34 @@ fn are_alike(found: &Kindred, wanted: &Kindred) -> bool {
     lies_inside(found, wanted) && lies_inside(wanted, found)
 }
 
-/// Whether the kind of the expression is that of the type.
-fn has_kind(alloc: Global, expr: &Expr, of: &Kindred, wanted: &Kindred) -> Result<bool, NoMemory> {
-    match kind_of_expr(alloc, expr, of)? {
-        Some(kind) => Ok(joins(&kind, wanted)),
-        None => Ok(false),
-    }
-}
-
-fn is_typed(alloc: Global, expr: &Expr, of: &Kindred, wanted: &Kindred) -> Result<bool, NoMemory> {
+fn is_typed(alloc: Global, expr: &Expr, of: &Kindred, wanted: &Kindred) -> bool {
     match type_of(alloc, expr, of) {
-        Ok(found) => Ok(are_alike(&found, wanted) && has_kind(alloc, expr, of, wanted)?),
-        Err(_) => Ok(false),
+        Ok(found) => are_alike(&found, wanted),
+        Err(_) => false,
     }
 }
 
-fn has_type(alloc: Global, line: &str) -> Result<bool, Unread> {
-    let expr = expr_of_words(alloc, column(line, 0))?;
-    let of = type_of_words(alloc, column(line, 1))?;
-    let wanted = type_of_words(alloc, column(line, 2))?;
-    Ok(is_typed(alloc, &expr, &of, &wanted)?)
+/// Whether the kind of the expression is that of the type.
+fn has_kind(alloc: Global, expr: &Expr, of: &Kindred, wanted: &Kindred) -> bool {
+    match kind_of_expr(alloc, expr, of) {
+        Ok(Some(kind)) => joins(&kind, wanted),
+        _ => false,
+    }
+}
+
+pub fn has_type(alloc: Global, line: &Line) -> Result<bool, Unread> {
+    match (line.exprs.get(0), line.types.get(0), line.types.get(1)) {
+        (Some(expr), Some(of), Some(wanted)) => {
+            Ok(is_typed(alloc, expr, of, wanted) && has_kind(alloc, expr, of, wanted))
+        }
+        _ => Err(Unread),
+    }
 }
 
 #[test]
 fn expressions_have_their_types(rt: HostRuntime) {
-    let alloc = rt.alloc();
-    for line in TYPES {
-        is(&rt, matches!(has_type(alloc, line), Ok(true)), line);
+    for text in TYPES {
+        is(&rt, holds(rt.alloc(), Table::Types, text), text);
     }
 }
 
@@ -97,8 +103,8 @@ const FAULTS: &[&str] = &[
     "it 0 / true and|0..9|mistyped",
 ];
 
-/// The fault, where the expression has one.
-fn fault_of(alloc: Global, expr: &Expr, of: &Kindred) -> &'static str {
+/// What is answered of the expression's type.
+fn answer_of(alloc: Global, expr: &Expr, of: &Kindred) -> &'static str {
     match type_of(alloc, expr, of) {
         Ok(_) => "typed",
         Err(TypeFault::Range) => "range",
@@ -107,17 +113,17 @@ fn fault_of(alloc: Global, expr: &Expr, of: &Kindred) -> &'static str {
     }
 }
 
-fn has_fault(alloc: Global, line: &str) -> Result<bool, Unread> {
-    let expr = expr_of_words(alloc, column(line, 0))?;
-    let of = type_of_words(alloc, column(line, 1))?;
-    Ok(fault_of(alloc, &expr, &of) == column(line, 2))
+pub fn has_fault(alloc: Global, line: &Line, fault: &str) -> bool {
+    match (line.exprs.get(0), line.types.get(0)) {
+        (Some(expr), Some(of)) => answer_of(alloc, expr, of) == fault,
+        _ => false,
+    }
 }
 
 #[test]
 fn expressions_have_their_faults(rt: HostRuntime) {
-    let alloc = rt.alloc();
-    for line in FAULTS {
-        is(&rt, matches!(has_fault(alloc, line), Ok(true)), line);
+    for text in FAULTS {
+        is(&rt, holds(rt.alloc(), Table::Faults, text), text);
     }
 }
 
@@ -149,98 +155,145 @@ const VALUES: &[&str] = &[
     "it unit , unit , unit , unit , unit , unit , unit , unit , it unit , unit , unit , unit , unit , unit , unit , unit , ==|0..9|7|true",
 ];
 
+/// An expression on an item, and the value that it should have.
+#[derive(Clone, Copy)]
+struct On<'a> {
+    expr: &'a Expr,
+    of: &'a Kindred,
+    item: &'a Value,
+    wanted: &'a Value,
+}
+
 /// Whether a truth value is told as such.
-fn is_told(expr: &Expr, of: &Kindred, found: &Kindred, item: &Value, wanted: &Value) -> bool {
-    match (found, wanted) {
-        (Kindred::Bool, Value::Bool(truth)) => truth_of(expr, of, item) == *truth,
+fn is_told(on: On<'_>, found: &Kindred) -> bool
+    requires typed { type_of_expr on.expr.now on.of.now ≡ Some found.now }
+    requires member { IsIn on.item.now on.of.now }
+{
+    match (found, on.wanted) {
+        (Kindred::Bool, Value::Bool(truth)) => truth_of(on.expr, on.of, on.item) == *truth,
         (Kindred::Bool, _) => false,
         _ => true,
     }
 }
 
-fn is_valued(
-    alloc: Global,
-    expr: &Expr,
-    of: &Kindred,
-    item: &Value,
-    wanted: &Value,
-) -> Result<bool, Unread> {
-    let Ok(found) = type_of(alloc, expr, of) else {
-        return Ok(false);
-    };
-    if !is_in(item, of) {
-        return Ok(false);
+fn is_worth(alloc: Global, on: On<'_>, found: &Kindred) -> bool
+    requires typed { type_of_expr on.expr.now on.of.now ≡ Some found.now }
+    requires member { IsIn on.item.now on.of.now }
+{
+    match value_of(alloc, on.expr, on.of, on.item) {
+        Ok(value) => same_item(&value, on.wanted) && is_in(&value, found),
+        Err(_) => false,
     }
-    let value = value_of(alloc, expr, of, item)?;
-    Ok(
-        value_is(expr, of, item, wanted)
-            && same_item(&value, wanted)
-            && is_in(&value, &found)
-            && is_told(expr, of, &found, item, wanted),
-    )
 }
 
-fn has_value(alloc: Global, line: &str) -> Result<bool, Unread> {
-    let expr = expr_of_words(alloc, column(line, 0))?;
-    let of = type_of_words(alloc, column(line, 1))?;
-    let item = item_of_words(alloc, column(line, 2))?;
-    let wanted = item_of_words(alloc, column(line, 3))?;
-    is_valued(alloc, &expr, &of, &item, &wanted)
+fn is_valued(alloc: Global, on: On<'_>) -> bool {
+    match type_of(alloc, on.expr, on.of) {
+        Ok(found) => {
+            is_in(on.item, on.of)
+                && value_is(on.expr, on.of, on.item, on.wanted)
+                && is_worth(alloc, on, &found)
+                && is_told(on, &found)
+        }
+        Err(_) => false,
+    }
+}
+
+pub fn has_value(alloc: Global, line: &Line) -> Result<bool, Unread> {
+    let parts = (
+        line.exprs.get(0),
+        line.types.get(0),
+        line.items.get(0),
+        line.items.get(1),
+    );
+    match parts {
+        (Some(expr), Some(of), Some(item), Some(wanted)) => {
+            Ok(is_valued(
+                alloc,
+                On {
+                    expr,
+                    of,
+                    item,
+                    wanted,
+                },
+            ))
+        }
+        _ => Err(Unread),
+    }
 }
 
 #[test]
 fn expressions_have_their_values(rt: HostRuntime) {
-    let alloc = rt.alloc();
-    for line in VALUES {
-        is(&rt, matches!(has_value(alloc, line), Ok(true)), line);
+    for text in VALUES {
+        is(&rt, holds(rt.alloc(), Table::Values, text), text);
     }
 }
 
 /// The left part of a pair of the expression and the item, which is chosen by a comparison.
 const LEVEL: &str = "it , it it , it it == if first";
 
-fn many_levels(alloc: Global) -> Result<bool, Unread> {
-    let expr = repeated(alloc, LEVEL, 64)?;
+fn add_levels(alloc: Global, exprs: &mut List<Expr>) -> Result<(), Unread> {
+    exprs.push(Expr::It)?;
+    for _ in 0..64 {
+        read_expr(alloc, exprs, LEVEL)?;
+    }
+    Ok(())
+}
+
+fn is_seven(alloc: Global, expr: &Expr) -> bool {
+    let (of, seven) = (Kindred::Int(0, 9), Value::Int(7));
     is_valued(
         alloc,
-        &expr,
-        &Kindred::Int(0, 9),
-        &Value::Int(7),
-        &Value::Int(7),
+        On {
+            expr,
+            of: &of,
+            item: &seven,
+            wanted: &seven,
+        },
     )
+}
+
+fn many_levels(alloc: Global) -> bool {
+    let mut exprs = List::new(alloc);
+    add_levels(alloc, &mut exprs).is_ok()
+        && exprs.as_slice().iter().all(|expr| is_seven(alloc, expr))
 }
 
 /// Each level compares, chooses and takes a pair apart, so that an evaluation of parts at each
 /// use would take 2^64 steps.
 #[test]
 fn many_levels_take_few_steps(rt: HostRuntime) {
-    is(&rt, matches!(many_levels(rt.alloc()), Ok(true)), LEVEL);
+    is(&rt, many_levels(rt.alloc()), LEVEL);
 }
 
-/// Whether two types join, and whether the first lies inside the second.
-fn joined(alloc: Global, left: &str, right: &str) -> Result<(bool, bool), Unread> {
-    let left = type_of_words(alloc, left)?;
-    let right = type_of_words(alloc, right)?;
-    Ok((joins(&left, &right), lies_inside(&left, &right)))
+pub fn is_joined(line: &Line) -> bool {
+    match (line.types.get(0), line.types.get(1)) {
+        (Some(left), Some(right)) => joins(left, right) && lies_inside(left, right),
+        _ => false,
+    }
 }
 
 #[test]
 fn types_of_other_names_do_not_join(rt: HostRuntime) {
     let alloc = rt.alloc();
-    let same = joined(alloc, "names1024", "names1024");
-    is(&rt, matches!(same, Ok((true, true))), "the same names");
-    let other = joined(alloc, "names1023", "names1024");
-    is(&rt, matches!(other, Ok((false, false))), "a name less");
+    is(
+        &rt,
+        holds(alloc, Table::Joined, "names1024|names1024"),
+        "joined",
+    );
+    is(
+        &rt,
+        !holds(alloc, Table::Joined, "names1023|names1024"),
+        "not joined",
+    );
+    is(
+        &rt,
+        holds(alloc, Table::Joined, "1..2 text3 ,|0..2 text4 ,"),
+        "inside",
+    );
 }
 
 #[test]
 fn laws_of_expressions(_rt: HostRuntime) {
     intervals_are_least();
     types_join_by_kind(&Kindred::Unit, &Kindred::Bool);
-    let value = Value::Int(3);
-    if is_in(&value, &Kindred::Int(0, 9))
-        && lies_inside(&Kindred::Int(0, 9), &Kindred::Int(0, 10))
-    {
-        item_in_wider_type(&value, &Kindred::Int(0, 9), &Kindred::Int(0, 10));
-    }
 }

@@ -1,13 +1,13 @@
 //! Items and types: which texts items have, and what is valid.
 use crate::checks::is;
-use crate::notation::{Unread, column, item_of_words, type_of_words};
+use crate::looks::{Line, Table, holds};
+use crate::notation::Unread;
 use reo_values::{
-    Bytes, Copies, Kindred, NoMemory, ReadFault, Value, append_number, append_quoted, copy,
-    copy_kindred, is_in, is_name, is_valid, item_test_is_exact, name_test_is_exact, number_text,
-    one_item_for_each_text, read_number, read_value, same_item, value_text,
+    Bytes, Copies, Kindred, NoMemory, ReadFault, Value, append_number, append_quoted, copy, is_in,
+    is_name, is_valid, item_test_is_exact, name_test_is_exact, number_text, one_item_for_each_text,
+    read_number, read_value, same_item, value_text,
 };
 use std::alloc::Global;
-use std::test::Fail;
 
 /// Words of a type, words of an item of it, and the item's text.
 const TEXTS: &[&str] = &[
@@ -30,34 +30,47 @@ const TEXTS: &[&str] = &[
     "names1024|#1023|n1023",
 ];
 
-/// Whether the item is written as the text, and read from it.
-fn is_text_of(alloc: Global, text: &str, item: &Value, kindred: &Kindred) -> Result<bool, Unread> {
-    if !is_valid(kindred) || !is_in(item, kindred) {
-        return Ok(false);
+/// Whether the item is read from the text.
+fn is_read(alloc: Global, text: &str, item: &Value, kindred: &Kindred) -> bool {
+    if is_valid(kindred) {
+        match read_value(alloc, text.as_bytes(), kindred) {
+            Ok(read) => same_item(&read, item),
+            Err(_) => false,
+        }
+    } else {
+        false
     }
-    let read = read_value(alloc, text.as_bytes(), kindred)?;
-    let written = value_text(alloc, item, kindred)?;
-    Ok(same_item(&read, item) && written.as_slice() == text.as_bytes())
 }
 
-/// Whether copies of both are as they are.
+fn is_written(alloc: Global, text: &str, item: &Value, kindred: &Kindred) -> bool {
+    match value_text(alloc, item, kindred) {
+        Ok(written) => written.as_slice() == text.as_bytes(),
+        Err(_) => false,
+    }
+}
+
+/// Whether the item, and a copy of it, are of a copy of the type.
 fn is_copied(alloc: Global, item: &Value, kindred: &Kindred) -> Result<bool, NoMemory> {
+    let kindred = kindred.copied(alloc)?;
     let again = copy(alloc, item)?;
-    let same = copy_kindred(alloc, kindred)?;
-    Ok(same_item(&again, item) && is_in(&again, &same))
+    Ok(same_item(&again, item) && is_in(&again, &kindred) && is_in(item, &kindred))
 }
 
-fn has_text(alloc: Global, line: &str) -> Result<bool, Unread> {
-    let kindred = type_of_words(alloc, column(line, 0))?;
-    let item = item_of_words(alloc, column(line, 1))?;
-    Ok(is_text_of(alloc, column(line, 2), &item, &kindred)? && is_copied(alloc, &item, &kindred)?)
+pub fn has_text(alloc: Global, line: &Line, text: &str) -> Result<bool, Unread> {
+    let (Some(kindred), Some(item)) = (line.types.get(0), line.items.get(0)) else {
+        return Err(Unread);
+    };
+    Ok(
+        is_read(alloc, text, item, kindred)
+            && is_written(alloc, text, item, kindred)
+            && is_copied(alloc, item, kindred)?,
+    )
 }
 
 #[test]
 fn items_have_their_texts(rt: HostRuntime) {
-    let alloc = rt.alloc();
-    for line in TEXTS {
-        is(&rt, matches!(has_text(alloc, line), Ok(true)), line);
+    for text in TEXTS {
+        is(&rt, holds(rt.alloc(), Table::Texts, text), text);
     }
 }
 
@@ -83,67 +96,54 @@ fn is_refused(alloc: Global, text: &str, kindred: &Kindred) -> bool {
     }
 }
 
-fn are_refused(alloc: Global, line: &str) -> Result<bool, Unread> {
-    let kindred = type_of_words(alloc, column(line, 0))?;
+pub fn are_refused(alloc: Global, line: &Line, texts: &str) -> bool {
+    let Some(kindred) = line.types.get(0) else {
+        return false;
+    };
     let mut all = true;
-    for text in line.split('|').skip(1) {
-        all = all && is_refused(alloc, text, &kindred);
+    for text in texts.split('|').skip(1) {
+        all = all && is_refused(alloc, text, kindred);
     }
-    Ok(all)
+    all
 }
 
 #[test]
 fn other_texts_are_refused(rt: HostRuntime) {
-    let alloc = rt.alloc();
-    for line in NO_TEXTS {
-        is(&rt, matches!(are_refused(alloc, line), Ok(true)), line);
+    for text in NO_TEXTS {
+        is(&rt, holds(rt.alloc(), Table::NoTexts, text), text);
     }
 }
 
 /// Types that are not valid.
 const INVALID: &[&str] = &["1..0", "unit a/a ,", "names1025"];
 
-fn is_invalid(alloc: Global, words: &str) -> Result<bool, Unread> {
-    Ok(!is_valid(&type_of_words(alloc, words)?))
+pub fn is_invalid(line: &Line) -> bool {
+    match line.types.get(0) {
+        Some(kindred) => !is_valid(kindred),
+        None => false,
+    }
 }
 
 #[test]
 fn types_that_are_not_valid(rt: HostRuntime) {
-    let alloc = rt.alloc();
     for words in INVALID {
-        is(&rt, matches!(is_invalid(alloc, words), Ok(true)), words);
+        is(&rt, holds(rt.alloc(), Table::Invalid, words), words);
     }
 }
 
-/// Whether the item is of the type.
-fn belongs(alloc: Global, item: &str, kindred: &str) -> Result<bool, Unread> {
-    let kindred = type_of_words(alloc, kindred)?;
-    let item = item_of_words(alloc, item)?;
-    Ok(is_in(&item, &kindred.copied(alloc)?))
-}
-
-#[test]
-fn a_type_has_no_further_name(rt: HostRuntime) {
-    let alloc = rt.alloc();
-    is(
-        &rt,
-        matches!(belongs(alloc, "#1023", "names1024"), Ok(true)),
-        "#1023",
-    );
-    is(
-        &rt,
-        matches!(belongs(alloc, "#1024", "names1024"), Ok(false)),
-        "#1024",
-    );
-}
+const NAMES: &[(&str, bool)] = &[
+    ("_", true),
+    ("Az09_", true),
+    ("", false),
+    ("9a", false),
+    ("a-b", false),
+    ("\u{e4}", false),
+];
 
 #[test]
 fn names_are_spelled_as_names(rt: HostRuntime) {
-    for word in ["_", "Az09_"] {
-        is(&rt, is_name(word.as_bytes()), word);
-    }
-    for word in ["", "9a", "a-b", "\u{e4}"] {
-        is(&rt, !is_name(word.as_bytes()), word);
+    for (word, wanted) in NAMES {
+        is(&rt, is_name(word.as_bytes()) == *wanted, word);
     }
 }
 
@@ -153,10 +153,15 @@ const ENDS: &[(i64, &str)] = &[
     (i64::MAX, "9223372036854775807"),
 ];
 
-fn is_number(alloc: Global, number: i64, text: &str) -> Result<bool, Unread> {
-    let written = number_text(alloc, number)?;
-    let read = read_number(alloc, text.as_bytes(), i64::MIN, i64::MAX)?;
-    Ok(read == number && written.as_slice() == text.as_bytes())
+fn writes(alloc: Global, number: i64, text: &str) -> bool {
+    match number_text(alloc, number) {
+        Ok(written) => written.as_slice() == text.as_bytes(),
+        Err(_) => false,
+    }
+}
+
+fn reads(alloc: Global, number: i64, text: &str) -> bool {
+    read_number(alloc, text.as_bytes(), i64::MIN, i64::MAX) == Ok(number)
 }
 
 #[test]
@@ -165,39 +170,30 @@ fn numbers_at_the_ends(rt: HostRuntime) {
     for (number, text) in ENDS {
         is(
             &rt,
-            matches!(is_number(alloc, *number, text), Ok(true)),
+            writes(alloc, *number, text) && reads(alloc, *number, text),
             text,
         );
     }
 }
 
-fn appended(alloc: Global) -> Result<Bytes, NoMemory> {
-    let mut out = Bytes::from_slice(alloc, b"x=")?;
-    append_number(alloc, &mut out, -7)?;
-    append_quoted(&mut out, b"a\"")?;
-    Ok(out)
+fn add_both(alloc: Global, out: &mut Bytes) -> Result<(), NoMemory> {
+    append_number(alloc, out, -7)?;
+    append_quoted(out, b"a\"")
+}
+
+fn added(alloc: Global) -> bool {
+    let mut out = Bytes::new(alloc);
+    add_both(alloc, &mut out).is_ok() && out.as_slice() == b"-7\"a\\\"\"".as_slice()
 }
 
 #[test]
-fn texts_are_added_behind_others(rt: HostRuntime) -> Result<(), Fail> {
-    is(
-        &rt,
-        appended(rt.alloc())?.as_slice() == b"x=-7\"a\\\"\"".as_slice(),
-        "x",
-    );
-    Ok(())
-}
-
-/// The laws at one item.
-fn laws(unit: &Value, kindred: &Kindred) {
-    item_test_is_exact();
-    name_test_is_exact();
-    if let (Value::Unit, Kindred::Unit) = (unit, kindred) {
-        one_item_for_each_text(unit, unit, kindred);
-    }
+fn texts_are_added_behind_others(rt: HostRuntime) {
+    is(&rt, added(rt.alloc()), "-7");
 }
 
 #[test]
 fn laws_of_items(_rt: HostRuntime) {
-    laws(&Value::Unit, &Kindred::Unit);
+    item_test_is_exact();
+    name_test_is_exact();
+    one_item_for_each_text(&Value::Unit, &Value::Unit, &Kindred::Unit);
 }

@@ -11,6 +11,8 @@ mod items;
 #[cfg(test)]
 mod lists;
 #[cfg(test)]
+mod looks;
+#[cfg(test)]
 mod notation;
 #[cfg(test)]
 mod terms;

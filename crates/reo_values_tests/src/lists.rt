@@ -2,19 +2,16 @@
 use crate::checks::is;
 use reo_values::{Boxed, Bytes, Copies, Filling, List, NoMemory, Value, same_item};
 use std::alloc::Global;
-use std::test::Fail;
 
-fn three(alloc: Global) -> Result<List<u32>, NoMemory> {
-    let mut list = List::new(alloc);
-    list.push(3)?;
+fn add_three(alloc: Global, list: &mut List<u32>) -> Result<(), NoMemory> {
     let mut more = List::new(alloc);
+    list.push(3)?;
     more.push(5)?;
     more.push(7)?;
-    list.append(more)?;
-    Ok(list)
+    list.append(more)
 }
 
-fn second_set(list: &mut List<u32>) -> bool {
+fn has_second_set(list: &mut List<u32>) -> bool {
     if list.len() == 3 {
         let before = *list.at(1);
         *list.at_mut(1) = 6;
@@ -24,7 +21,14 @@ fn second_set(list: &mut List<u32>) -> bool {
     }
 }
 
-fn shortened(list: &mut List<u32>) -> bool {
+fn is_copied(alloc: Global, list: &List<u32>) -> bool {
+    match list.copied(alloc) {
+        Ok(again) => again.into_vec().as_slice() == [3, 6, 7].as_slice(),
+        Err(_) => false,
+    }
+}
+
+fn is_shortened(list: &mut List<u32>) -> bool {
     let last = list.pop();
     list.truncate(1);
     let one = list.as_slice() == [3].as_slice();
@@ -32,94 +36,90 @@ fn shortened(list: &mut List<u32>) -> bool {
     last == Some(7) && one && list.is_empty()
 }
 
+fn grows_and_shrinks(alloc: Global) -> bool {
+    let mut list = List::new(alloc);
+    add_three(alloc, &mut list).is_ok()
+        && has_second_set(&mut list)
+        && is_copied(alloc, &list)
+        && is_shortened(&mut list)
+}
+
+fn is_filled(alloc: Global) -> bool {
+    match Filling::with_room(alloc, 2) {
+        Ok(mut filling) => {
+            filling.push(true);
+            filling.push(false);
+            filling.into_list().as_slice() == [true, false].as_slice()
+        }
+        Err(_) => false,
+    }
+}
+
+fn is_boxed(alloc: Global) -> bool {
+    match Boxed::new(alloc, 9u8) {
+        Ok(boxed) => boxed.into_inner() == 9,
+        Err(_) => false,
+    }
+}
+
 #[test]
-fn lists_grow_and_shrink(rt: HostRuntime) -> Result<(), Fail> {
+fn lists_and_boxes(rt: HostRuntime) {
     let alloc = rt.alloc();
-    let mut list = three(alloc)?;
-    is(&rt, list.as_slice() == [3, 5, 7].as_slice(), "made");
-    is(&rt, second_set(&mut list), "set");
-    is(
-        &rt,
-        list.copied(alloc)?.into_vec().as_slice() == [3, 6, 7].as_slice(),
-        "copied",
-    );
-    is(&rt, shortened(&mut list), "shortened");
-    is(
-        &rt,
-        List::from_vec(vec![in alloc; 5u8]?).len() == 1,
-        "from a vector",
-    );
-    Ok(())
+    is(&rt, grows_and_shrinks(alloc), "a list");
+    is(&rt, is_filled(alloc), "reserved room");
+    is(&rt, is_boxed(alloc), "a box");
 }
 
-fn filled(alloc: Global) -> Result<List<bool>, NoMemory> {
-    let mut filling = Filling::with_room(alloc, 2)?;
-    filling.push(true);
-    filling.push(false);
-    Ok(filling.into_list())
-}
-
-#[test]
-fn reserved_room_is_filled(rt: HostRuntime) -> Result<(), Fail> {
-    is(
-        &rt,
-        filled(rt.alloc())?.as_slice() == [true, false].as_slice(),
-        "filled",
-    );
-    is(&rt, Boxed::new(rt.alloc(), 9u8)?.into_inner() == 9, "boxed");
-    Ok(())
-}
-
-fn cut(alloc: Global) -> Result<Bytes, NoMemory> {
-    let mut bytes = Bytes::from_slice(alloc, b"abc")?;
+fn is_cut(alloc: Global, bytes: &mut Bytes) -> Result<bool, NoMemory> {
+    bytes.append(b"abc")?;
     bytes.truncate(2);
-    bytes.copy(alloc)
+    Ok(bytes.copy(alloc)?.into_vec().as_slice() == b"ab".as_slice())
 }
 
-#[test]
-fn bytes_are_cut_and_copied(rt: HostRuntime) -> Result<(), Fail> {
-    is(&rt, cut(rt.alloc())?.into_vec().as_slice() == b"ab".as_slice(), "cut");
-    Ok(())
+fn cut_and_copied(alloc: Global) -> bool {
+    let mut bytes = Bytes::new(alloc);
+    matches!(is_cut(alloc, &mut bytes), Ok(true))
 }
 
 fn text(alloc: Global) -> Result<Value, NoMemory> {
     Ok(Value::Text(Bytes::from_slice(alloc, b"x")?))
 }
 
-fn some_and_none(alloc: Global) -> Result<List<Option<Value>>, NoMemory> {
-    let mut items = List::new(alloc);
+fn add_some_and_none(alloc: Global, items: &mut List<Option<Value>>) -> Result<(), NoMemory> {
     items.push(Some(text(alloc)?))?;
-    items.push(None)?;
-    items.copied(alloc)
+    items.push(None)
 }
 
-fn are_some_and_none(items: &List<Option<Value>>, text: &Value) -> bool {
-    match items.as_slice() {
-        [Some(item), None] => same_item(item, text),
+fn are_same(items: &[Option<Value>], others: &[Option<Value>]) -> bool {
+    match (items, others) {
+        ([Some(x), None], [Some(y), None]) => same_item(x, y),
         _ => false,
     }
 }
 
+fn are_copied(alloc: Global, items: &List<Option<Value>>) -> bool {
+    match items.copied(alloc) {
+        Ok(others) => are_same(items.as_slice(), others.as_slice()),
+        Err(_) => false,
+    }
+}
+
+fn options_copied(alloc: Global) -> bool {
+    let mut items = List::new(alloc);
+    add_some_and_none(alloc, &mut items).is_ok() && are_copied(alloc, &items)
+}
+
+fn plain_copied(alloc: Global) -> bool {
+    8u8.copied(alloc) == Ok(8)
+        && 64u64.copied(alloc) == Ok(64)
+        && 1usize.copied(alloc) == Ok(1)
+        && true.copied(alloc) == Ok(true)
+}
+
 #[test]
-fn options_are_copied(rt: HostRuntime) -> Result<(), Fail> {
+fn copies(rt: HostRuntime) {
     let alloc = rt.alloc();
-    let items = some_and_none(alloc)?;
-    let text = text(alloc)?;
-    is(&rt, are_some_and_none(&items, &text), "options");
-    Ok(())
-}
-
-fn plain_copies(alloc: Global) -> Result<bool, NoMemory> {
-    Ok(
-        8u8.copied(alloc)? == 8
-            && 64u64.copied(alloc)? == 64
-            && 1usize.copied(alloc)? == 1
-            && true.copied(alloc)?,
-    )
-}
-
-#[test]
-fn plain_values_are_copied(rt: HostRuntime) -> Result<(), Fail> {
-    is(&rt, plain_copies(rt.alloc())?, "plain");
-    Ok(())
+    is(&rt, cut_and_copied(alloc), "bytes");
+    is(&rt, options_copied(alloc), "options");
+    is(&rt, plain_copied(alloc), "plain values");
 }

@@ -1,8 +1,6 @@
-//! Types and items as words: the words of a pair are those of its left part, of its right part and
-//! a comma.
-use reo_values::{
-    Boxed, Bytes, Couple, Kindred, List, NoMemory, ReadFault, Twins, Value, append_number,
-};
+//! Types and items as words: behind the words of a pair's left part and of its right part stands a
+//! comma. What words say is added to a list.
+use reo_values::{Boxed, Bytes, Couple, Kindred, List, NoMemory, Twins, Value, append_number};
 use std::alloc::Global;
 
 /// The words say nothing, or memory ended.
@@ -15,30 +13,12 @@ impl From<NoMemory> for Unread {
     }
 }
 
-impl From<ReadFault> for Unread {
-    fn from(_: ReadFault) -> Unread {
-        Unread
-    }
-}
-
-/// The last one of a list.
-pub fn last<T>(stack: &mut List<T>) -> Result<T, Unread> {
-    match stack.pop() {
+/// The last one of a list, taken out.
+pub fn last<T>(list: &mut List<T>) -> Result<T, Unread> {
+    match list.pop() {
         Some(last) => Ok(last),
         None => Err(Unread),
     }
-}
-
-/// The column of a line at a place. Columns are parted by a bar.
-pub fn column(line: &str, place: u32) -> &str {
-    let mut at = 0;
-    for column in line.split('|') {
-        if at == place {
-            return column;
-        }
-        at = at.wrapping_add(1);
-    }
-    ""
 }
 
 /// The bytes of a text that stands in words, with `^` for a space.
@@ -50,26 +30,26 @@ pub fn spaced(alloc: Global, word: &str) -> Result<Bytes, NoMemory> {
     Ok(bytes)
 }
 
-/// The names of a type, parted by a slash.
-fn names(alloc: Global, word: &str) -> Result<List<Bytes>, NoMemory> {
-    let mut names = List::new(alloc);
-    for name in word.split('/') {
-        names.push(Bytes::from_slice(alloc, name.as_bytes())?)?;
-    }
-    Ok(names)
-}
-
-fn numbered_name(alloc: Global, number: i64) -> Result<Bytes, NoMemory> {
+fn add_name(alloc: Global, names: &mut List<Bytes>, number: u16) -> Result<(), NoMemory> {
     let mut name = Bytes::from_slice(alloc, b"n")?;
-    append_number(alloc, &mut name, number)?;
-    Ok(name)
+    append_number(alloc, &mut name, number as i64)?;
+    names.push(name)
 }
 
 /// The names n0, n1 and so on.
 pub fn numbered(alloc: Global, count: u16) -> Result<List<Bytes>, NoMemory> {
     let mut names = List::new(alloc);
     for number in 0..count {
-        names.push(numbered_name(alloc, number as i64)?)?;
+        add_name(alloc, &mut names, number)?;
+    }
+    Ok(names)
+}
+
+/// The names that stand in a word, with a slash between each two.
+fn names(alloc: Global, word: &str) -> Result<List<Bytes>, NoMemory> {
+    let mut names = List::new(alloc);
+    for name in word.split('/') {
+        names.push(Bytes::from_slice(alloc, name.as_bytes())?)?;
     }
     Ok(names)
 }
@@ -82,98 +62,87 @@ pub fn behind(word: &str, front: &str) -> Option<u16> {
     }
 }
 
-/// The interval of a word as `-3..4`.
-fn interval(word: &str) -> Option<Kindred> {
+/// The numbers of a word as `-3..4`.
+fn interval(word: &str) -> Option<(i64, i64)> {
     let (low, high) = word.split_once("..")?;
     match (low.parse::<i64>(), high.parse::<i64>()) {
-        (Ok(low), Ok(high)) => Some(Kindred::Int(low, high)),
+        (Ok(low), Ok(high)) => Some((low, high)),
         _ => None,
     }
 }
 
-/// The type that one word says: `unit`, `bool`, `0..9`, `red/green`, `text3`, or `names1024` for
-/// so many names.
-fn plain_type(alloc: Global, word: &str) -> Result<Kindred, Unread> {
-    if let Some(kindred) = interval(word) {
-        return Ok(kindred);
-    }
-    if let Some(most) = behind(word, "text") {
-        return Ok(Kindred::Text(most));
-    }
-    if let Some(count) = behind(word, "names") {
-        return Ok(Kindred::Sym(numbered(alloc, count)?));
-    }
-    match word {
-        "unit" => Ok(Kindred::Unit),
-        "bool" => Ok(Kindred::Bool),
-        _ => Ok(Kindred::Sym(names(alloc, word)?)),
+/// `0..9`, `text3`, `red/green`, or `names1024` for so many names.
+fn other_type(alloc: Global, word: &str) -> Result<Kindred, NoMemory> {
+    if let Some((low, high)) = interval(word) {
+        Ok(Kindred::Int(low, high))
+    } else if let Some(most) = behind(word, "text") {
+        Ok(Kindred::Text(most))
+    } else if let Some(count) = behind(word, "names") {
+        Ok(Kindred::Sym(numbered(alloc, count)?))
+    } else {
+        Ok(Kindred::Sym(names(alloc, word)?))
     }
 }
 
-fn pair_type(alloc: Global, stack: &mut List<Kindred>) -> Result<Kindred, Unread> {
-    let right = last(stack)?;
-    let left = last(stack)?;
+fn pair_type(alloc: Global, types: &mut List<Kindred>) -> Result<Kindred, Unread> {
+    let right = last(types)?;
+    let left = last(types)?;
     Ok(Kindred::Pair(Boxed::new(alloc, Twins { left, right })?))
 }
 
-fn next_type(alloc: Global, stack: &mut List<Kindred>, word: &str) -> Result<Kindred, Unread> {
-    if word == "," {
-        pair_type(alloc, stack)
-    } else {
-        plain_type(alloc, word)
+fn next_type(alloc: Global, types: &mut List<Kindred>, word: &str) -> Result<Kindred, Unread> {
+    match word {
+        "unit" => Ok(Kindred::Unit),
+        "bool" => Ok(Kindred::Bool),
+        "," => pair_type(alloc, types),
+        _ => Ok(other_type(alloc, word)?),
     }
 }
 
-/// The type that words say.
-pub fn type_of_words(alloc: Global, words: &str) -> Result<Kindred, Unread> {
-    let mut stack = List::new(alloc);
+/// Adds the type that words say.
+pub fn read_type(alloc: Global, types: &mut List<Kindred>, words: &str) -> Result<(), Unread> {
     for word in words.split(' ') {
-        let next = next_type(alloc, &mut stack, word)?;
-        stack.push(next)?;
+        let next = next_type(alloc, types, word)?;
+        types.push(next)?;
     }
-    last(&mut stack)
+    Ok(())
 }
 
-/// The item that one word says: `unit`, `true`, `-3`, `'a^b` for a text, or `#5` for the name at
-/// a place.
-fn plain_item(alloc: Global, word: &str) -> Result<Value, Unread> {
+/// `'a^b` for a text, `#5` for the name at a place, or a number.
+fn other_item(alloc: Global, word: &str) -> Result<Value, Unread> {
     if let Some(text) = word.strip_prefix('\'') {
-        return Ok(Value::Text(spaced(alloc, text)?));
+        Ok(Value::Text(spaced(alloc, text)?))
+    } else if let Some(place) = behind(word, "#") {
+        Ok(Value::Sym(place))
+    } else {
+        match word.parse::<i64>() {
+            Ok(number) => Ok(Value::Int(number)),
+            Err(_) => Err(Unread),
+        }
     }
-    if let Some(place) = behind(word, "#") {
-        return Ok(Value::Sym(place));
-    }
+}
+
+fn pair_item(alloc: Global, items: &mut List<Value>) -> Result<Value, Unread> {
+    let right = last(items)?;
+    let left = last(items)?;
+    Ok(Value::Pair(Boxed::new(alloc, Couple { left, right })?))
+}
+
+fn next_item(alloc: Global, items: &mut List<Value>, word: &str) -> Result<Value, Unread> {
     match word {
         "unit" => Ok(Value::Unit),
         "true" => Ok(Value::Bool(true)),
         "false" => Ok(Value::Bool(false)),
-        _ => match word.parse::<i64>() {
-            Ok(number) => Ok(Value::Int(number)),
-            Err(_) => Err(Unread),
-        },
+        "," => pair_item(alloc, items),
+        _ => other_item(alloc, word),
     }
 }
 
-fn pair_item(alloc: Global, stack: &mut List<Value>) -> Result<Value, Unread> {
-    let right = last(stack)?;
-    let left = last(stack)?;
-    Ok(Value::Pair(Boxed::new(alloc, Couple { left, right })?))
-}
-
-fn next_item(alloc: Global, stack: &mut List<Value>, word: &str) -> Result<Value, Unread> {
-    if word == "," {
-        pair_item(alloc, stack)
-    } else {
-        plain_item(alloc, word)
-    }
-}
-
-/// The item that words say.
-pub fn item_of_words(alloc: Global, words: &str) -> Result<Value, Unread> {
-    let mut stack = List::new(alloc);
+/// Adds the item that words say.
+pub fn read_item(alloc: Global, items: &mut List<Value>, words: &str) -> Result<(), Unread> {
     for word in words.split(' ') {
-        let next = next_item(alloc, &mut stack, word)?;
-        stack.push(next)?;
+        let next = next_item(alloc, items, word)?;
+        items.push(next)?;
     }
-    last(&mut stack)
+    Ok(())
 }

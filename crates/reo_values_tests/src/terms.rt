@@ -15,25 +15,18 @@ fn long(alloc: Global, count: u16) -> Result<Bytes, NoMemory> {
 }
 
 /// `'a^b` is a text, `text1024` one of so many letters, and `names1024` the last of so many names.
-fn plain(alloc: Global, word: &str) -> Result<Expr, Unread> {
+fn other(alloc: Global, word: &str) -> Result<Expr, Unread> {
     if let Some(text) = word.strip_prefix('\'') {
-        return Ok(Expr::Text(spaced(alloc, text)?));
-    }
-    if let Some(count) = behind(word, "text") {
-        return Ok(Expr::Text(long(alloc, count)?));
-    }
-    if let Some(count) = behind(word, "names") {
-        return Ok(Expr::Sym(numbered(alloc, count)?, count.wrapping_sub(1)));
-    }
-    match word {
-        "it" => Ok(Expr::It),
-        "unit" => Ok(Expr::Unit),
-        "true" => Ok(Expr::Bool(true)),
-        "false" => Ok(Expr::Bool(false)),
-        _ => match word.parse::<i64>() {
+        Ok(Expr::Text(spaced(alloc, text)?))
+    } else if let Some(count) = behind(word, "text") {
+        Ok(Expr::Text(long(alloc, count)?))
+    } else if let Some(count) = behind(word, "names") {
+        Ok(Expr::Sym(numbered(alloc, count)?, count.wrapping_sub(1)))
+    } else {
+        match word.parse::<i64>() {
             Ok(number) => Ok(Expr::Int(number)),
             Err(_) => Err(Unread),
-        },
+        }
     }
 }
 
@@ -74,64 +67,51 @@ fn binary(word: &str) -> Option<Binary> {
     }
 }
 
-fn one(alloc: Global, operator: Unary, stack: &mut List<Expr>) -> Result<Expr, Unread> {
-    Ok(Expr::One(operator, Boxed::new(alloc, last(stack)?)?))
+fn one(alloc: Global, operator: Unary, exprs: &mut List<Expr>) -> Result<Expr, Unread> {
+    Ok(Expr::One(operator, Boxed::new(alloc, last(exprs)?)?))
 }
 
-fn two(alloc: Global, operator: Binary, stack: &mut List<Expr>) -> Result<Expr, Unread> {
-    let right = last(stack)?;
-    let left = last(stack)?;
+fn two(alloc: Global, operator: Binary, exprs: &mut List<Expr>) -> Result<Expr, Unread> {
+    let right = last(exprs)?;
+    let left = last(exprs)?;
     Ok(Expr::Two(operator, Boxed::new(alloc, ExprPair { left, right })?))
 }
 
 /// The two that a choice is made from.
-fn choices(stack: &mut List<Expr>) -> Result<(Expr, Expr), Unread> {
-    let no = last(stack)?;
-    let yes = last(stack)?;
+fn choices(exprs: &mut List<Expr>) -> Result<(Expr, Expr), Unread> {
+    let no = last(exprs)?;
+    let yes = last(exprs)?;
     Ok((yes, no))
 }
 
-fn choice(alloc: Global, stack: &mut List<Expr>) -> Result<Expr, Unread> {
-    let condition = last(stack)?;
-    let (yes, no) = choices(stack)?;
+fn choice(alloc: Global, exprs: &mut List<Expr>) -> Result<Expr, Unread> {
+    let condition = last(exprs)?;
+    let (yes, no) = choices(exprs)?;
     Ok(Expr::If(Boxed::new(alloc, ExprTriple { condition, yes, no })?))
 }
 
-fn next(alloc: Global, stack: &mut List<Expr>, word: &str) -> Result<Expr, Unread> {
-    if word == "if" {
-        return choice(alloc, stack);
-    }
+fn next_expr(alloc: Global, exprs: &mut List<Expr>, word: &str) -> Result<Expr, Unread> {
     if let Some(operator) = unary(word) {
-        return one(alloc, operator, stack);
-    }
-    match binary(word) {
-        Some(operator) => two(alloc, operator, stack),
-        None => plain(alloc, word),
+        one(alloc, operator, exprs)
+    } else if let Some(operator) = binary(word) {
+        two(alloc, operator, exprs)
+    } else {
+        match word {
+            "if" => choice(alloc, exprs),
+            "it" => Ok(Expr::It),
+            "unit" => Ok(Expr::Unit),
+            "true" => Ok(Expr::Bool(true)),
+            "false" => Ok(Expr::Bool(false)),
+            _ => other(alloc, word),
+        }
     }
 }
 
-/// Adds what the words make of the expressions before them.
-fn read_on(alloc: Global, stack: &mut List<Expr>, words: &str) -> Result<(), Unread> {
+/// Adds the expression that words say. They may take expressions that were there before.
+pub fn read_expr(alloc: Global, exprs: &mut List<Expr>, words: &str) -> Result<(), Unread> {
     for word in words.split(' ') {
-        let made = next(alloc, stack, word)?;
-        stack.push(made)?;
+        let next = next_expr(alloc, exprs, word)?;
+        exprs.push(next)?;
     }
     Ok(())
-}
-
-/// The expression that words say.
-pub fn expr_of_words(alloc: Global, words: &str) -> Result<Expr, Unread> {
-    let mut stack = List::new(alloc);
-    read_on(alloc, &mut stack, words)?;
-    last(&mut stack)
-}
-
-/// The item, and then so many times what the words make of the expression before them.
-pub fn repeated(alloc: Global, words: &str, times: u16) -> Result<Expr, Unread> {
-    let mut stack = List::new(alloc);
-    stack.push(Expr::It)?;
-    for _ in 0..times {
-        read_on(alloc, &mut stack, words)?;
-    }
-    last(&mut stack)
 }

@@ -9,7 +9,7 @@ use Rattle.reo_net_base.specs.PortState.{PortState, no_port_state}
 use Rattle.reo_script.specs.declared.script.Action.{Action}
 use Rattle.reo_script.specs.declared.script.Action.TheVariants.{Write, Take}
 use Rattle.reo_script.specs.Actions.{IsActionFor}
-use Rattle.reo_kinds.specs.Items.{is_item, ItemTestIsExact}
+use Rattle.reo_values.specs.Kind.{is_item, ItemTestIsExact}
 use Rattle.reo_kinds.specs.Kinds.{port_state_of}
 use Rattle.reo_forms.specs.declared.plainest.Plainest.{Plainest}
 use Rattle.reo_forms.specs.ScriptForm.{IsPortAction}

@@ -3,6 +3,7 @@ use Rattle.std.proofs.lemmas.List.{get_or_default}
 use Rattle.reo_net_base.specs.declared.joint.Joint.{Joint}
 use Rattle.reo_net_base.specs.Net.{Net, net_of}
 use Rattle.reo_net_base.specs.Colouring.{ItemFits}
+use Rattle.reo_net_colouring.proofs.ItemLemmas.{joint_giver, joint_taker}
 use Rattle.reo_net_colouring.proofs.fits.all_fit.Goals as goal
 
 pub returns-then-not-fits : goal.returns-then-not-fits
@@ -22,3 +23,13 @@ loop-index-preserved g c = λ j d j_lt.
     let read : get_or c.args.items.now c.loop-index.index None ≡ c.index-items-index.result = get_or_default c.args.items.now c.loop-index.index None c.index-items-index.result (omega (arith, c.requires.items)) ∙ sym c.index-items-index.is in
     let here : fit c.loop-index.index = λ e. rw (c.joint-joint.ensures e, read) (c.fits.ensures.0 c.if-not-fits.false) in
     below_more fit c.loop-index.index (λ k h e. c.loop-index.invariant k e h) here j j_lt d
+
+pub fits-requires-clause-giver : goal.fits-requires-clause-giver
+fits-requires-clause-giver g c =
+    let net : Net = net_of g.P.Primitive.behaviour c.args.circuit.now in
+    rw (c.joint-joint.ensures c.joint-joint.result) at (joint_giver net c.known.ensures.wired c.loop-index.index c.joint-joint.result (omega arith))
+
+pub fits-requires-clause-taker : goal.fits-requires-clause-taker
+fits-requires-clause-taker g c =
+    let net : Net = net_of g.P.Primitive.behaviour c.args.circuit.now in
+    rw (c.joint-joint.ensures c.joint-joint.result) at (joint_taker net c.known.ensures.wired c.loop-index.index c.joint-joint.result (omega arith))

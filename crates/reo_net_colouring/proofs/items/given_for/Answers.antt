@@ -21,9 +21,9 @@ pub gives-requires-clause-given : goal.gives-requires-clause-given
 gives-requires-clause-given g c =
     let net : Net = net_of g.P.Primitive.behaviour c.args.circuit.now in
     let b : Behaviour = behaviour_at net.primitives c.args.giver.primitive in
-    let lawful = c.known.ensures.wired.lawful c.args.giver.primitive c.requires.giver.0 in
+    let lawful = c.known.ensures.wired.lawful c.args.giver.primitive c.requires.giver.is_end.0 in
     let in_table = rw c.row_at-row.ensures.row at c.row_at-row.ensures.in_table in
-    let gives = gives_at net c.known.ensures.wired c.args.giver c.requires.giver c.args.rows.now c.requires.gives in_table c.requires.flows in
+    let gives = gives_at net c.known.ensures.wired c.args.giver c.requires.giver.is_end c.args.rows.now c.requires.giver.gives in_table c.requires.flows in
     let none = rw (c.side_of-side.ensures, c.primitive-primitive.ensures.behaviour, c.row_at-row.ensures.row) at c.in-None.ensures in
     rw (c.side_of-side.ensures, c.primitive-primitive.ensures.behaviour, c.row_at-row.ensures.row)
     (lawful.given_alone (b.side_of c.args.giver.end) (row_at net c.args.rows.now c.args.giver) c.args.giver.end gives (sym none))
@@ -32,9 +32,9 @@ pub gives-requires-in-Some-taken-clause-given : goal.gives-requires-in-Some-take
 gives-requires-in-Some-taken-clause-given g c =
     let net : Net = net_of g.P.Primitive.behaviour c.args.circuit.now in
     let b : Behaviour = behaviour_at net.primitives c.args.giver.primitive in
-    let lawful = c.known.ensures.wired.lawful c.args.giver.primitive c.requires.giver.0 in
+    let lawful = c.known.ensures.wired.lawful c.args.giver.primitive c.requires.giver.is_end.0 in
     let in_table = rw c.row_at-row.ensures.row at c.row_at-row.ensures.in_table in
-    let gives = gives_at net c.known.ensures.wired c.args.giver c.requires.giver c.args.rows.now c.requires.gives in_table c.requires.flows in
+    let gives = gives_at net c.known.ensures.wired c.args.giver c.requires.giver.is_end c.args.rows.now c.requires.giver.gives in_table c.requires.flows in
     let some = rw (c.side_of-side.ensures, c.primitive-primitive.ensures.behaviour, c.row_at-row.ensures.row) at c.in-Some.ensures in
     rw (c.side_of-side.ensures, c.primitive-primitive.ensures.behaviour, c.row_at-row.ensures.row)
     (lawful.given_for (b.side_of c.args.giver.end) (row_at net c.args.rows.now c.args.giver) c.args.giver.end c.in-Some.from c.in-Some-taken.item.now gives (sym some))
@@ -50,9 +50,9 @@ pub returns-in-None-taken : goal.returns-in-None-taken
 returns-in-None-taken g c =
     let net : Net = net_of g.P.Primitive.behaviour c.args.circuit.now in
     let b : Behaviour = behaviour_at net.primitives c.args.giver.primitive in
-    let lawful = c.known.ensures.wired.lawful c.args.giver.primitive c.requires.giver.0 in
+    let lawful = c.known.ensures.wired.lawful c.args.giver.primitive c.requires.giver.is_end.0 in
     let in_table = rw c.row_at-row.ensures.row at c.row_at-row.ensures.in_table in
-    let gives = gives_at net c.known.ensures.wired c.args.giver c.requires.giver c.args.rows.now c.requires.gives in_table c.requires.flows in
+    let gives = gives_at net c.known.ensures.wired c.args.giver c.requires.giver.is_end c.args.rows.now c.requires.giver.gives in_table c.requires.flows in
     let some = rw (c.side_of-side.ensures, c.primitive-primitive.ensures.behaviour, c.row_at-row.ensures.row) at c.in-Some.ensures in
     let nothing = lawful.given_for_none (b.side_of c.args.giver.end) (row_at net c.args.rows.now c.args.giver) c.args.giver.end c.in-Some.from gives (sym some) in
     let found = rw c.joints.ensures at c.in-None-taken.ensures in

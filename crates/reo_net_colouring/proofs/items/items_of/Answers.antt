@@ -1,7 +1,7 @@
 use Rattle.std.proofs.Common.{◌≡◌, ◌∙◌, ◌<◌, sym, ℕ, List, length, get_or, refl, arith}
 use Rattle.std.proofs.lemmas.List.{length-set}
 use Rattle.reo_net_base.specs.Net.{Net, net_of}
-use Rattle.reo_net_colouring.proofs.ItemLemmas.{filled_more, filled_all, filled_one}
+use Rattle.reo_net_colouring.proofs.ItemLemmas.{joint_giver, filled_more, filled_all, filled_one}
 use Rattle.reo_net_laws.proofs.Orders.{place_in}
 use Rattle.reo_net_colouring.proofs.items.items_of.Goals as goal
 
@@ -11,7 +11,7 @@ item_for-requires-clause-giver g c =
     let order : List ℕ = c.order-order.result.now in
     let j : ℕ = get_or order c.loop-at.at 0 in
     let j_in : j < length net.joints = place_in net order c.order-order.ensures c.loop-at.at (omega arith) in
-    rw (c.joint-joint.ensures c.joint-joint.result) at (c.known.ensures.wired.givers j c.joint-joint.result j_in)
+    rw (c.joint-joint.ensures c.joint-joint.result) at (joint_giver net c.known.ensures.wired j c.joint-joint.result j_in)
 
 pub loop-at-preserved : goal.loop-at-preserved
 loop-at-preserved g c =
@@ -39,11 +39,3 @@ returns-clause-one g c = λ others filled.
     let end : c.loop-at.at ≡ length order = omega arith in
     let mine = filled_all net c.known.ensures.wired c.args.rows.now c.requires order c.order-order.ensures c.loop-at.items.items c.loop-at.invariant.one_each (rw end at c.loop-at.invariant.filled) in
     filled_one net c.known.ensures.wired c.args.rows.now c.requires order c.order-order.ensures others c.loop-at.items.items filled mine ∙ sym c.from_vec.ensures
-
-pub item_for-requires-clause-gives : goal.item_for-requires-clause-gives
-item_for-requires-clause-gives g c =
-    let net : Net = net_of g.P.Primitive.behaviour c.args.circuit.now in
-    let order : List ℕ = c.order-order.result.now in
-    let j : ℕ = get_or order c.loop-at.at 0 in
-    let j_in : j < length net.joints = place_in net order c.order-order.ensures c.loop-at.at (omega arith) in
-    rw (c.joint-joint.ensures c.joint-joint.result) at (c.known.ensures.wired.gives j c.joint-joint.result j_in)

@@ -1,4 +1,4 @@
-use Rattle.reo_kinds.proofs.ItemTests.{is_item-is}
+use Rattle.reo_values.proofs.Tests.{is_item-is}
 use Rattle.reo_kinds.proofs.kind.WriterPort.offering.Goals as goal
 
 pub invariant_of-result : goal.invariant_of-result

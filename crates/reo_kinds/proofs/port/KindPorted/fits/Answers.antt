@@ -1,5 +1,5 @@
 use Rattle.std.proofs.lemmas.Bool.Decides.{same_from_decides}
-use Rattle.reo_kinds.proofs.ItemTests.{is_item-is}
+use Rattle.reo_values.proofs.Tests.{is_item-is}
 use Rattle.reo_kinds.proofs.port.KindPorted.fits.Goals as goal
 
 pub returns-in-Writer : goal.returns-in-Writer

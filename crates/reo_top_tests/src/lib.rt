@@ -1,0 +1,13 @@
+//! The command over objects that fail, which no file brings about: fetches that fail although the
+//! file is there, and sinks that fail in the middle. Tests alone; what files show of the command is
+//! in the cases of `reo_cases`.
+#![tactic(auto)]
+
+#[cfg(test)]
+mod checks;
+#[cfg(test)]
+mod failing;
+#[cfg(test)]
+mod objects;
+#[cfg(test)]
+mod sure;
