@@ -1,6 +1,5 @@
 -- Files that are fetched one after another, and what is read in them.
-use Rattle.std.proofs.Common.{◌≡◌, ◌∙◌, ◌⊎◌, inl, inr, ℕ, suc, ◌+◌, ◌%◌, ◌^◌, ◌≤◌, true, false, List, [], ◌∷◌, ◌++◌, length, sym, subst, ap, refl, arith, append_assoc}
-use Rattle.std.proofs.Math.Nat.{mod-add-mod}
+use Rattle.std.proofs.Common.{◌≡◌, ◌∙◌, ◌⊎◌, inl, inr, ℕ, ◌≤◌, true, false, List, [], ◌∷◌, ◌++◌, length, sym, subst, ap, refl, arith, append_assoc}
 use Rattle.std.specs.Prelude.{Option, Some, None, IfSome, Result, Ok, Err, map}
 use Rattle.reo_io.specs.Fetches.{Folder, fetches_after}
 use Rattle.reo_script.specs.declared.script.Component.{Component}
@@ -146,11 +145,6 @@ if_both : {X : Type 0} (o : Option X) (A B C : X → Type 0) → ((x : X) → A 
 if_both None A B C f a b = a
 if_both (Some x) A B C f a b = f x a b
 
-two_counts : (n k : ℕ) → fetches_after k (fetches_after 1 n) ≡ fetches_after (suc k) n
-two_counts n k = mod-add-mod (n + 1) (2 ^ 64) k ∙ ap (λ (sum : ℕ). sum % 2 ^ 64) (sum_is n k) where
-  sum_is : (a b : ℕ) → a + 1 + b ≡ a + suc b
-  sum_is a b = omega arith
-
 no_more : {A : Type 0} (xs : List A) → xs ++ [] ≡ xs
 no_more [] = refl
 no_more (x ∷ xs) = ap (λ ys. x ∷ ys) (no_more xs)
@@ -160,7 +154,7 @@ module _ (r q : Role) (n m bytes : List ℕ) (answers : List Content) (before mi
       → AreFetched (r ∷ q ∷ []) (n ∷ m ∷ []) (text bytes ∷ answers) (record { old = before; new = after })
   two_fetched f g = record {
     few = omega (arith, g.few);
-    count = g.count ∙ ap (fetches_after (length answers)) f.count ∙ two_counts before.fetches (length answers);
+    count = g.count ∙ ap (fetches_after (length answers)) f.count;
     failed = g.failed ∙ ap (λ (xs : List (List ℕ)). xs ++ missed (m ∷ []) answers) (f.failed ∙ no_more before.failed);
     same = g.same ∙ f.same;
     told = if_both before.told (λ folder. AreTold folder (r ∷ []) (n ∷ []) (text bytes ∷ [])) (λ folder. AreTold folder (q ∷ []) (m ∷ []) answers) (λ folder. AreTold folder (r ∷ q ∷ []) (n ∷ m ∷ []) (text bytes ∷ answers))

@@ -17,7 +17,7 @@ use crate::answer::want;
 use crate::reading::{Plain, read_run};
 use crate::status::{DONE, LIMIT_REACHED, STUCK, Status, WRITE_FAULT};
 use crate::stop::refuse;
-use reo_build::{build, has_few_parts, script_fits};
+use reo_build::{build, script_fits};
 use reo_io::{Files, Sink};
 use reo_kinds::Kind;
 use reo_runner::{End2, known_order, one_trace, run};
@@ -34,7 +34,6 @@ fn write_trace<S: Sink>(alloc: Global, plain: &Plain, out: &mut S) -> Status
     ensures exact { IsExact (IsTraceOf IsFirst (runnable_of plain.now.form plain.now.script.components)) (sink_change S.told S.faults out.old out.new) result.code }
     ensures fair { IsFair (sink_change S.told S.faults out.old out.new) result.code }
 {
-    has_few_parts();
     script_fits();
     let Ok(flat) = build(alloc, &plain.form) else {
         return want(out);
