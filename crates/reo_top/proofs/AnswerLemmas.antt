@@ -80,9 +80,9 @@ module _ {X : Type 0} (Reads : List Content → X → Type 0) (Stops : List Cont
     pub refused_status_in : IsAmong statuses 9 → IsAmong statuses 10 → IsAmong statuses code
     refused_status_in nine ten = elim (code_status s h) [
       | inl is ↦ elim (read_stop Reads Stops answers s read) [
-          | inl stops ↦ subst (λ (k : ℕ). IsAmong statuses k) (sym is) (law.status answers s stops)
-          | inr none ↦ subst (λ (k : ℕ). IsAmong statuses k) (sym (is ∙ ap stop_status none.0)) ten
-        ]
+        | inl stops ↦ subst (λ (k : ℕ). IsAmong statuses k) (sym is) (law.status answers s stops)
+        | inr none ↦ subst (λ (k : ℕ). IsAmong statuses k) (sym (is ∙ ap stop_status none.0)) ten
+      ]
       | inr (inl is) ↦ subst (λ (k : ℕ). IsAmong statuses k) (sym is) nine
       | inr (inr is) ↦ subst (λ (k : ℕ). IsAmong statuses k) (sym is) ten
     ]

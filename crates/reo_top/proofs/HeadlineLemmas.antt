@@ -38,7 +38,7 @@ wired : IsSoundForm → (circuit : List ℕ) (flat : FlatCircuit) → IsCircuitT
 wired sound circuit flat is =
     let parts = sound is.form is.shape.plainest in
     let here : IsWired (net_of behaviour_of (circuit_of is.form)) =
-        wired_is (net_for is.form) parts.ends parts.sound.joined parts.sound.right parts.sound.no_cycle (lawful_at behaviour_of kind_lawful (primitives_of is.form)) in
+    wired_is (net_for is.form) parts.ends parts.sound.joined parts.sound.right parts.sound.no_cycle (lawful_at behaviour_of kind_lawful (primitives_of is.form)) in
     subst (λ (w : Wiring Kind). IsWired (net_of behaviour_of w)) (sym is.wiring) here
 
 -- The two files of a run are texts that are accepted.
@@ -67,10 +67,10 @@ module _ (A B : Content) (r : Runnable) (reads : ReadsRun (A ∷ B ∷ []) r) wh
 
 -- Nothing stops the run but a file that cannot be had.
 module _ (folder : Folder) (c s : List ℕ) (r : Runnable) (reads : ReadsRun (content_of Circuit (file_of folder c) ∷ content_of Script (file_of folder s) ∷ []) r) where
-  A : Content
+  abbrev A : Content
   A = content_of Circuit (file_of folder c)
 
-  B : Content
+  abbrev B : Content
   B = content_of Script (file_of folder s)
 
   missed_status : (stop : Stop) → (role : _) → stop ≡ Missed role → stop_status stop ≡ 3
@@ -145,7 +145,7 @@ module _ (justified : RunsAreJustified kind_rules) (sound : IsSoundForm) (words 
   told_as (Some folder) is = λ r a fine.
       let run : IsAnswered (owed_of Run) (roles_of Run) (a.circuit ∷ a.script ∷ []) files sink code = answered_with words files sink code Run (a.circuit ∷ a.script ∷ []) a.run a.names h in
       let told : AreTold folder (Circuit ∷ Script ∷ []) (a.circuit ∷ a.script ∷ []) run.answers =
-          subst (λ (o : Option Folder). IfSome o (λ f. AreTold f (Circuit ∷ Script ∷ []) (a.circuit ∷ a.script ∷ []) run.answers)) is run.fetched.told in
+      subst (λ (o : Option Folder). IfSome o (λ f. AreTold f (Circuit ∷ Script ∷ []) (a.circuit ∷ a.script ∷ []) run.answers)) is run.fetched.told in
       traced folder a.circuit a.script r a.reads justified sound sink code fine run.answers told run.cases
 
   pub headline : Headline words files sink code

@@ -1,2 +1,11 @@
+pub mod AnswerLemmas
 pub mod CaseLemmas
+pub mod CircuitLemmas
+pub mod FetchLemmas
+pub mod HeadlineLemmas
+pub mod LineLemmas
+pub mod PrintLemmas
+pub mod ReadLemmas
+pub mod RunLemmas
 pub mod StopLemmas
+pub mod TopLemmas

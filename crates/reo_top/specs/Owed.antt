@@ -30,5 +30,5 @@ owed_of Print = owed_by ReadsProgram StopsPrint PrintsProgram
 
 -- The same, or the refusal of words that have no form, for which nothing is fetched.
 abbrev pub owed_for : Option Command → List Content → Outputs
-owed_for None answers bytes code = (answers ≡ []) × IsLine (codes "words refused\n") words_refused bytes code
+owed_for None answers = λ bytes code. (answers ≡ []) × IsLine (codes "words refused\n") words_refused bytes code
 owed_for (Some command) answers = owed_of command answers

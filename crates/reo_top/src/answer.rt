@@ -23,7 +23,11 @@ pub(crate) fn want<S: Sink>(out: &mut S) -> Status
     ensures fair { IsFair (sink_change S.told S.faults out.old out.new) result.code }
 {
     match put_all(b"no memory\n", out) {
-        Ok(()) => Status { code: OUT_OF_MEMORY },
-        Err(_) => Status { code: OUT_OF_MEMORY },
+        Ok(()) => Status {
+            code: OUT_OF_MEMORY,
+        },
+        Err(_) => Status {
+            code: OUT_OF_MEMORY,
+        },
     }
 }

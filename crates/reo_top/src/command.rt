@@ -52,9 +52,7 @@ fn fits(words: &[Bytes], command: Command) -> bool
     match words {
         [] => false,
         [first, names @ ..] => {
-            first.as_slice() == command.word()
-                && names.len() == command.files()
-                && are_names(names)
+            first.as_slice() == command.word() && names.len() == command.files() && are_names(names)
         }
     }
 }

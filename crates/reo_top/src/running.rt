@@ -44,7 +44,9 @@ fn write_trace<S: Sink>(alloc: Global, plain: &Plain, out: &mut S) -> Status
     match outcome.end {
         End2::Done => Status { code: DONE },
         End2::Stuck => Status { code: STUCK },
-        End2::Limit => Status { code: LIMIT_REACHED },
+        End2::Limit => Status {
+            code: LIMIT_REACHED,
+        },
         End2::WriteFault => Status { code: WRITE_FAULT },
         End2::NoMemory => want(out),
     }

@@ -39,19 +39,13 @@ pub fn reo<F: Files, R: Source, S: Sink>(
     source: &mut R,
     out: &mut S,
 ) -> Status
-    ensures headline {
-        let files = files_change F.told F.failed F.fetches files.old files.new in
-        Headline words.now files (sink_change S.told S.faults out.old out.new) result.code
-    }
-    ensures answer {
-        let files = files_change F.told F.failed F.fetches files.old files.new in
-        Answered words.now files (sink_change S.told S.faults out.old out.new) result.code
-    }
+    ensures headline { let files = files_change F.told F.failed F.fetches files.old files.new in
+        Headline words.now files (sink_change S.told S.faults out.old out.new) result.code }
+    ensures answer { let files = files_change F.told F.failed F.fetches files.old files.new in
+        Answered words.now files (sink_change S.told S.faults out.old out.new) result.code }
     ensures honest { IsHonest words.now (sink_change S.told S.faults out.old out.new) result.code }
-    ensures inputs {
-        let files = files_change F.told F.failed F.fetches files.old files.new in
-        KeepsInputs files source.old source.new
-    }
+    ensures inputs { let files = files_change F.told F.failed F.fetches files.old files.new in
+        KeepsInputs files source.old source.new }
 {
     let _ = source;
     is_sound();
