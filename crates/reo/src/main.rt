@@ -7,7 +7,8 @@ ghost use Rattle.std.specs.IoError.{error_kind};
 ghost use Rattle.std.specs.Process.{exit_status};
 ghost use Rattle.std.specs.String.{string_bytes};
 ghost use Rattle.std.specs.Vec.Iter.{into_iter_items};
-ghost use Rattle.reo_top.specs.Statuses.{IsStatusFor};
+ghost use Rattle.reo_top.specs.Commands.{command_of};
+ghost use Rattle.reo_top.specs.Statuses.{IsAmong, statuses_for};
 
 use reo_io::{DiskFiles, StdSink, StdSource};
 use reo_top::{Status, reo};
@@ -33,7 +34,7 @@ fn words_behind(alloc: Global, arguments: Args) -> Result<List<Bytes>, NoMemory>
 }
 
 /// The words of the command, from what the system gave. Where it gave none for another cause than
-/// want of memory, there are none.
+/// out of memory, there are none.
 fn words_of(alloc: Global, given: io::Result<Args>) -> Result<List<Bytes>, NoMemory>
     ensures words { IfOk given (λ arguments. IfOk result (λ words. words ≡ map string_bytes (drop 1 (into_iter_items arguments)))) }
     ensures none { IfErr given (λ fault. error_kind fault ≢ ErrorKind.OutOfMemory → result ≡ Ok []) }
@@ -56,7 +57,7 @@ fn exit_code(status: Status) -> ExitCode
 /// What the process ends with: the status of the command with these words on the system's files
 /// and streams, or 10 where memory for the words was wanting.
 fn ended(rt: &HostRuntime, words: Result<List<Bytes>, NoMemory>) -> ExitCode
-    ensures { MatchResult words (λ words. IsStatusFor words (exit_status result)) (λ _. exit_status result ≡ 10) }
+    ensures { MatchResult words (λ words. IsAmong (statuses_for (command_of words)) (exit_status result)) (λ _. exit_status result ≡ 10) }
 {
     let alloc: Global = rt.alloc();
     match words {

@@ -1,5 +1,5 @@
 -- What a fetch gives, where the files are told.
-use Rattle.std.specs.Prelude.{ℕ, ◌≡◌, ◌+◌, ◌<◌, ◌≤◌, List, [], ◌∷◌, ◌++◌, length, take, Option, Result, None, Some, Ok, Err, if◌then◌else◌}
+use Rattle.std.specs.Prelude.{ℕ, zero, suc, ◌≡◌, ◌+◌, ◌%◌, ◌^◌, ◌<◌, ◌≤◌, List, [], ◌∷◌, ◌++◌, length, take, Option, Result, None, Some, Ok, Err, if◌then◌else◌}
 use Rattle.std.specs.Option.{option_or}
 use Rattle.std.specs.Str.{bytes_eq}
 use Rattle.reo_io.specs.declared.files.Named.{Named}
@@ -36,6 +36,11 @@ abbrev pub Holds : ℕ → List ℕ → {T : Type 0} → Result T FetchFault →
 Holds limit room (Ok _) = length room ≤ limit
 Holds limit room (Err TooLong) = length room ≡ limit + 1
 Holds limit room (Err _) = room ≡ []
+
+-- A count of fetches, modulo 2^64, after so many more.
+abbrev pub fetches_after : ℕ → ℕ → ℕ
+fetches_after zero count = count
+fetches_after (suc more) count = fetches_after more ((count + 1) % 2 ^ 64)
 
 -- The names whose fetch failed, after a fetch of this name.
 abbrev pub failed_after : List (List ℕ) → List ℕ → {T : Type 0} → Result T FetchFault → List (List ℕ)

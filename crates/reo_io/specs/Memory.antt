@@ -14,6 +14,10 @@ files_told files = record { files = files.files; others = None }
 abbrev pub files_failed : MemoryFiles → List (List ℕ)
 files_failed files = files.failed
 
+-- How many fetches there were.
+abbrev pub files_fetches : MemoryFiles → ℕ
+files_fetches files = files.fetches
+
 -- The calls of the store, and which of them fail.
 abbrev pub files_calls : MemoryFiles → FailingCalls
 files_calls files = files.calls

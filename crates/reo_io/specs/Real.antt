@@ -21,6 +21,10 @@ WasRead {File} left limit room result = (file : File) × IfSome (left file) (λ 
 abbrev pub disk_failed : {R File Dir : Type 0} → DiskFiles R File Dir → List (List ℕ)
 disk_failed files = files.failed
 
+-- How many fetches there were.
+abbrev pub disk_fetches : {R File Dir : Type 0} → DiskFiles R File Dir → ℕ
+disk_fetches files = files.fetches
+
 -- The reader of a source.
 abbrev pub reader_of : {R : Type 0} → StdSource R → R
 reader_of source = source.reader

@@ -9,6 +9,10 @@ use Rattle.reo_io.specs.declared.sure_source.SureSource.{SureSource}
 abbrev pub sure_files : SureFiles → Folder
 sure_files files = record { files = files.files; others = Some [] }
 
+-- How many fetches there were.
+abbrev pub sure_fetches : SureFiles → ℕ
+sure_fetches files = files.fetches
+
 -- The bytes left in a source.
 abbrev pub sure_left : SureSource → List ℕ
 sure_left source = source.bytes

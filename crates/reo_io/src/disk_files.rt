@@ -15,6 +15,7 @@ use std::{io, rt};
 pub struct DiskFiles<'a, R: rt::Files> {
     system: &'a R,
     failed: List<Bytes>,
+    fetches: u64,
 }
 
 impl<'a, R: rt::Files> DiskFiles<'a, R> {
@@ -27,17 +28,20 @@ impl<'a, R: rt::Files> DiskFiles<'a, R> {
         DiskFiles {
             system,
             failed: List::new(alloc),
+            fetches: 0,
         }
     }
 }
 
 impl<R: rt::Files> Files for DiskFiles<'_, R> {
-    ghost use Rattle.reo_io.specs.Fetches.{Fetches, Holds, failed_after};
-    ghost use Rattle.reo_io.specs.Real.{WasRead, disk_failed, disk_told};
+    ghost use Rattle.reo_io.specs.Fetches.{Fetches, Holds, failed_after, fetches_after};
+    ghost use Rattle.reo_io.specs.Real.{WasRead, disk_failed, disk_fetches, disk_told};
 
     ghost told = { disk_told };
 
     ghost failed = { disk_failed };
+
+    ghost fetches = { disk_fetches };
 
     fn fetch(
         &mut self,
@@ -51,9 +55,11 @@ impl<R: rt::Files> Files for DiskFiles<'_, R> {
         ensures size { Holds limit room.new result }
         ensures bytes { Fetches (disk_told self.old) name.now limit room.new result }
         ensures cause { disk_failed self.new ≡ failed_after (disk_failed self.old) name.now result }
+        ensures counted { disk_fetches self.new ≡ fetches_after 1 (disk_fetches self.old) }
         ensures told_same { disk_told self.new ≡ disk_told self.old }
         ensures read { WasRead R.File.remaining limit room.new result }
     {
+        self.fetches = self.fetches.wrapping_add(1);
         let Ok(path) = str::from_utf8(name) else {
             return Err(note(alloc, &mut self.failed, name));
         };

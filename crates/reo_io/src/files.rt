@@ -24,13 +24,16 @@ pub struct Named {
 
 /// Gives files by their names.
 pub trait Files {
-    ghost use Rattle.reo_io.specs.Fetches.{Folder, Fetches, Holds, failed_after};
+    ghost use Rattle.reo_io.specs.Fetches.{Folder, Fetches, Holds, failed_after, fetches_after};
 
     /// The files, where they are told.
     ghost told: { Self → Option Folder };
 
     /// The names whose fetch answered `Failed`, in that order.
     ghost failed: { Self → List (List ℕ) };
+
+    /// How many fetches there were, modulo 2^64.
+    ghost fetches: { Self → ℕ };
 
     /// Puts the bytes of a file, at most `limit`, into the empty `room`. `Failed` notes the name.
     /// `TooLong` leaves the first `limit + 1` bytes in `room`. After `Failed` and `NoMemory` it is
@@ -47,5 +50,6 @@ pub trait Files {
         ensures size { Holds limit room.new result }
         ensures bytes { Fetches (told self.old) name.now limit room.new result }
         ensures cause { failed self.new ≡ failed_after (failed self.old) name.now result }
+        ensures counted { fetches self.new ≡ fetches_after 1 (fetches self.old) }
         ensures told_same { told self.new ≡ told self.old };
 }

@@ -14,6 +14,7 @@ pub struct MemoryFiles {
     files: List<Named>,
     calls: FailingCalls,
     failed: List<Bytes>,
+    fetches: u64,
 }
 
 impl MemoryFiles {
@@ -32,19 +33,22 @@ impl MemoryFiles {
             files,
             calls: FailingCalls::new(failing),
             failed: List::new(alloc),
+            fetches: 0,
         })
     }
 }
 
 impl Files for MemoryFiles {
     ghost use Rattle.reo_io.specs.FailingCalls.{FailsNext, after_call};
-    ghost use Rattle.reo_io.specs.Fetches.{Fetches, Holds, failed_after, file_of};
-    ghost use Rattle.reo_io.specs.Memory.{files_calls, files_failed, files_told};
+    ghost use Rattle.reo_io.specs.Fetches.{Fetches, Holds, failed_after, fetches_after, file_of};
+    ghost use Rattle.reo_io.specs.Memory.{files_calls, files_failed, files_fetches, files_told};
     ghost use Rattle.std.specs.Prelude.{Some};
 
     ghost told = { λ files. Some (files_told files) };
 
     ghost failed = { files_failed };
+
+    ghost fetches = { files_fetches };
 
     fn fetch(
         &mut self,
@@ -58,11 +62,13 @@ impl Files for MemoryFiles {
         ensures size { Holds limit room.new result }
         ensures bytes { Fetches (Some (files_told self.old)) name.now limit room.new result }
         ensures cause { files_failed self.new ≡ failed_after (files_failed self.old) name.now result }
+        ensures counted { files_fetches self.new ≡ fetches_after 1 (files_fetches self.old) }
         ensures told_same { Some (files_told self.new) ≡ Some (files_told self.old) }
         ensures calls { files_calls self.new ≡ after_call (files_calls self.old) }
         ensures failed { IsErrOf result FetchFault.Failed → FailsNext (files_calls self.old) ⊎ (file_of (files_told self.old) name.now ≡ None) }
         ensures fails { FailsNext (files_calls self.old) → IsErrOf result FetchFault.Failed ⊎ IsErrOf result FetchFault.NoMemory }
     {
+        self.fetches = self.fetches.wrapping_add(1);
         if self.calls.next_fails() {
             return Err(note(alloc, &mut self.failed, name));
         }

@@ -10,6 +10,7 @@ use std::alloc::Global;
 #[derive(Drop)]
 pub struct SureFiles {
     files: List<Named>,
+    fetches: u64,
 }
 
 impl SureFiles {
@@ -20,18 +21,20 @@ impl SureFiles {
         ensures made { IsOk result }
         ensures told { IfOk result (λ made. sure_files made ≡ record { files = files; others = Some [] }) }
     {
-        Ok(SureFiles { files })
+        Ok(SureFiles { files, fetches: 0 })
     }
 }
 
 impl Files for SureFiles {
-    ghost use Rattle.reo_io.specs.Fetches.{Fetches, Holds, failed_after};
-    ghost use Rattle.reo_io.specs.Sure.{sure_files};
+    ghost use Rattle.reo_io.specs.Fetches.{Fetches, Holds, failed_after, fetches_after};
+    ghost use Rattle.reo_io.specs.Sure.{sure_fetches, sure_files};
     ghost use Rattle.std.specs.Prelude.{[], Some};
 
     ghost told = { λ files. Some (sure_files files) };
 
     ghost failed = { λ _. [] };
+
+    ghost fetches = { sure_fetches };
 
     fn fetch(
         &mut self,
@@ -45,9 +48,11 @@ impl Files for SureFiles {
         ensures size { Holds limit room.new result }
         ensures bytes { Fetches (Some (sure_files self.old)) name.now limit room.new result }
         ensures cause { [] ≡ failed_after [] name.now result }
+        ensures counted { sure_fetches self.new ≡ fetches_after 1 (sure_fetches self.old) }
         ensures told_same { Some (sure_files self.new) ≡ Some (sure_files self.old) }
         ensures sure { IsErrOf result FetchFault.Failed → ⊥ }
     {
+        self.fetches = self.fetches.wrapping_add(1);
         match find_file(self.files.as_slice(), name) {
             Some(bytes) => give(bytes.as_slice(), limit, room),
             None => Ok(()),

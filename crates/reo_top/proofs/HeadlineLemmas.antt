@@ -1,64 +1,152 @@
 -- For an accepted circuit and script the trace of the run was written.
-use Rattle.std.proofs.Common.{inl, inr, ℕ, List, subst}
-use Rattle.std.specs.Prelude.{Option, Result, Ok}
-use Rattle.reo_net_base.specs.Net.{net_of}
+use Rattle.std.proofs.Common.{◌≡◌, ◌∙◌, ◌⊎◌, inl, inr, ℕ, true, false, List, [], ◌∷◌, sym, subst, ap, refl}
+use Rattle.std.specs.Prelude.{Option, Some, None, IfSome}
+use Rattle.reo_net_base.specs.First.{IsFirst}
+use Rattle.reo_net_base.specs.Net.{Wiring, net_of}
 use Rattle.reo_net_base.specs.Wired.{IsWired}
 use Rattle.reo_net_circuit.proofs.ReshapeLemmas.{lawful_at}
 use Rattle.reo_net_circuit.proofs.WireLemmas.{wired_is}
 use Rattle.reo_io.specs.Fetches.{Folder, file_of}
-use Rattle.reo_io.specs.Sinks.{Appended}
-use Rattle.reo_trees.specs.declared.programs.Program.{Program}
-use Rattle.reo_parser.specs.declared.fault.ParseFault.{ParseFault}
-use Rattle.reo_parser.specs.Parsed.{Answers}
-use Rattle.reo_parser.proofs.Only.{only}
+use Rattle.reo_kinds.specs.declared.kind.Kind.{Kind}
 use Rattle.reo_kinds.specs.Kinds.{behaviour_of}
 use Rattle.reo_kinds.specs.KindLaws.{kind_lawful}
 use Rattle.reo_forms.specs.declared.plainest.Plainest.{Plainest}
-use Rattle.reo_forms.specs.CircuitForm.{IsPlainest}
 use Rattle.reo_build.specs.Flat.{primitives_of, circuit_of}
 use Rattle.reo_build.specs.Sound.{IsSoundForm, net_for}
-use Rattle.reo_runner.specs.Justified.{RunsAreJustified}
-use Rattle.reo_top.specs.Cases.{Cases}
-use Rattle.reo_top.specs.Headline.{Accepted, Headline}
-use Rattle.reo_top.specs.Texts.{Content, content_of}
-use Rattle.reo_top.specs.Traces.{kind_rules, most_rounds, start_for, IsTraceOf}
-use Rattle.reo_top.specs.Whole.{RunNames, shape_owed, command_owed}
-use Rattle.reo_top.specs.Words.{Missed}
-use Rattle.reo_top.proofs.ReadLemmas.{read_as, read_only}
-use Rattle.reo_top.proofs.StatusLemmas.{run_as, script_as, shape_as}
+use Rattle.reo_runner.specs.Justified.{IsJustified, RunsAreJustified}
+use Rattle.reo_runner.specs.Run.{start_of}
+use Rattle.reo_top.specs.declared.command.Command.TheVariants.{Run}
+use Rattle.reo_top.specs.declared.role.Role.TheVariants.{Circuit, Script}
+use Rattle.reo_top.specs.declared.stop.Stop.{Stop}
+use Rattle.reo_top.specs.declared.stop.Stop.TheVariants.{Missed}
+use Rattle.reo_top.specs.Answers.{IsAnswered, Answered}
+use Rattle.reo_top.specs.Cases.{Cases, IsFailure}
+use Rattle.reo_top.specs.Commands.{roles_of}
+use Rattle.reo_top.specs.Fetched.{Content, gone, long, text, unknown, content_of, AreTold}
+use Rattle.reo_top.specs.Headline.{Accepted, IsTraced, Headline}
+use Rattle.reo_top.specs.Owed.{owed_of}
+use Rattle.reo_top.specs.Readings.{FlatCircuit, Runnable, IsCircuitText, IsScriptText, CircuitStops, ReadsRun, StopsRun}
+use Rattle.reo_top.specs.States.{SinkState, FilesState, Change}
+use Rattle.reo_top.specs.Stops.{stop_status}
+use Rattle.reo_top.specs.Traces.{kind_rules, most_rounds, IsTraceOf}
+use Rattle.reo_top.proofs.CircuitLemmas.{not_refused, one_circuit}
+use Rattle.reo_top.proofs.ReadLemmas.{run_reading}
+use Rattle.reo_top.proofs.TopLemmas.{answered_with}
 
 -- A circuit of the form is put together well.
-wired : IsSoundForm → (c : Plainest) → IsPlainest c → IsWired (net_of behaviour_of (circuit_of c))
-wired sound c plain =
-    let parts = sound c plain in
-    wired_is (net_for c) parts.ends parts.sound.joined parts.sound.right parts.sound.no_cycle (lawful_at behaviour_of kind_lawful (primitives_of c))
+wired : IsSoundForm → (circuit : List ℕ) (flat : FlatCircuit) → IsCircuitText circuit flat → IsWired (net_of behaviour_of flat.wiring)
+wired sound circuit flat is =
+    let parts = sound is.form is.shape.plainest in
+    let here : IsWired (net_of behaviour_of (circuit_of is.form)) =
+    wired_is (net_for is.form) parts.ends parts.sound.joined parts.sound.right parts.sound.no_cycle (lawful_at behaviour_of kind_lawful (primitives_of is.form)) in
+    subst (λ (w : Wiring Kind). IsWired (net_of behaviour_of w)) (sym is.wiring) here
 
-module _ (words : List (List ℕ)) (folder : Folder) (failed after : List (List ℕ)) (a : Accepted words folder) where
-  -- What is owed for them is the trace of their run.
-  trace_owed : (bytes : List ℕ) (status : ℕ) → (command_owed words folder failed after).whole bytes status → IsTraceOf a.circuit a.components bytes status
-  trace_owed =
-      let circuit : Content = content_of (file_of folder a.circuit_name) in
-      let script : Content = content_of (file_of folder a.script_name) in
-      let names : RunNames words folder failed after = record { circuit = a.circuit_name; script = a.script_name; form = a.form } in
-      let alone = read_only circuit a.program_is.bytes a.program a.program_is.text_is (λ (answer : Result Program ParseFault) (h : Answers a.program_is.bytes answer). only a.program_is.bytes (Ok a.program) answer a.program_is.says h) in
-      let owed : List ℕ → ℕ → Type 0 = IsTraceOf a.circuit a.components in
-      run_as words folder failed after owed names
-      (read_as (Missed failed after a.circuit_name) circuit (λ p. shape_owed (Missed failed after a.script_name) p script) a.program owed a.program_is alone
-      (shape_as (Missed failed after a.script_name) a.program script a.circuit a.shape owed
-      (script_as a.circuit script a.shape.plainest (Missed failed after a.script_name) a.components a.script a.script_is a.says owed (λ bytes status h. h))))
+-- The two files of a run are texts that are accepted.
+circuit_read : (t : List ℕ) (B : Content) (r : Runnable) → ReadsRun (text t ∷ B ∷ []) r → IsCircuitText t r.flat
+circuit_read t (text u) r h = h.0
+circuit_read t gone r h = absurd h
+circuit_read t long r h = absurd h
+circuit_read t unknown r h = absurd h
 
--- The headline holds in each of the four cases.
-pub headline : RunsAreJustified kind_rules → IsSoundForm → (words : List (List ℕ)) (folder : Folder) (failed after : List (List ℕ)) (before now : Option (List ℕ)) (was is code : ℕ)
-    → Cases (command_owed words folder failed after) before now was is code → Headline words folder before now code
-headline justified sound words folder failed after before now was is code (inl wrote) = λ a fine.
-    let trace = trace_owed words folder failed after a wrote.bytes code wrote.is in
-    record {
-      lines = trace.lines;
-      ending = trace.ending;
-      run = justified a.components most_rounds (start_for a.circuit a.components) (wired sound a.circuit a.shape.plainest) trace.lines trace.ending trace.run;
-      text = subst (λ (bytes : List ℕ). Appended before now bytes) trace.bytes_are wrote.text;
-      status = trace.status;
-    }
-headline justified sound words folder failed after before now was is code (inr (inl miss)) = λ a fine. absurd (fine (inl miss.status))
-headline justified sound words folder failed after before now was is code (inr (inr (inl broke))) = λ a fine. absurd (fine (inr (inl broke.status)))
-headline justified sound words folder failed after before now was is code (inr (inr (inr want))) = λ a fine. absurd (fine (inr (inr want.status)))
+module _ (A B : Content) (r : Runnable) (reads : ReadsRun (A ∷ B ∷ []) r) where
+  first : (t : List ℕ) → A ≡ text t → IsCircuitText t r.flat
+  first t is = circuit_read t B r (subst (λ (c : Content). ReadsRun (c ∷ B ∷ []) r) is reads)
+
+  both : (t u : List ℕ) → A ≡ text t → B ≡ text u → ReadsRun (text t ∷ text u ∷ []) r
+  both t u is so = subst (λ (c : Content). ReadsRun (text t ∷ c ∷ []) r) so (subst (λ (c : Content). ReadsRun (c ∷ B ∷ []) r) is reads)
+
+  not_long : A ≡ long → ⊥
+  not_long is = subst (λ (c : Content). ReadsRun (c ∷ B ∷ []) r) is reads
+
+  not_long_second : (t : List ℕ) → A ≡ text t → B ≡ long → ⊥
+  not_long_second t is so = subst (λ (c : Content). ReadsRun (text t ∷ c ∷ []) r) so (subst (λ (c : Content). ReadsRun (c ∷ B ∷ []) r) is reads)
+
+  no_circuit_stop : (t : List ℕ) → A ≡ text t → (s : Stop) → CircuitStops t s → ⊥
+  no_circuit_stop t is s (inl (refusal, refuses, so)) = let circuit = first t is in not_refused t circuit.program refusal circuit.says refuses
+  no_circuit_stop t is s (inr (p, says, none, so)) = none r.flat (first t is)
+
+-- Nothing stops the run but a file that cannot be had.
+module _ (folder : Folder) (c s : List ℕ) (r : Runnable) (reads : ReadsRun (content_of Circuit (file_of folder c) ∷ content_of Script (file_of folder s) ∷ []) r) where
+  abbrev A : Content
+  A = content_of Circuit (file_of folder c)
+
+  abbrev B : Content
+  B = content_of Script (file_of folder s)
+
+  missed_status : (stop : Stop) → (role : _) → stop ≡ Missed role → stop_status stop ≡ 3
+  missed_status stop role is = ap stop_status is
+
+  only_missed : (answers : List Content) → AreTold folder (Circuit ∷ Script ∷ []) (c ∷ s ∷ []) answers → (stop : Stop) → StopsRun answers stop → stop_status stop ≡ 3
+  only_missed (gone ∷ []) told stop h = missed_status stop Circuit h
+  only_missed (long ∷ []) told stop h = absurd (not_long A B r reads told.0)
+  only_missed (text t ∷ []) told stop h = absurd (no_circuit_stop A B r reads t told.0 stop h)
+  only_missed (unknown ∷ []) told stop h = absurd h
+  only_missed (text t ∷ gone ∷ []) told stop (f, is, h) = missed_status stop Script h
+  only_missed (text t ∷ long ∷ []) told stop (f, is, h) = absurd (not_long_second A B r reads t told.0 told.1.0)
+  only_missed (text t ∷ text u ∷ []) told stop (f, is, h) = absurd (run_reading.apart (text t ∷ text u ∷ []) r stop (both A B r reads t u told.0 told.1.0) (f, is, h))
+  only_missed (text t ∷ unknown ∷ []) told stop (f, is, h) = absurd h
+  only_missed [] told stop h = absurd h
+  only_missed (gone ∷ d ∷ cs) told stop h = absurd h
+  only_missed (long ∷ d ∷ cs) told stop h = absurd h
+  only_missed (unknown ∷ d ∷ cs) told stop h = absurd h
+  only_missed (text t ∷ d ∷ e ∷ cs) told stop h = absurd h
+
+  same_reads : (answers : List Content) → AreTold folder (Circuit ∷ Script ∷ []) (c ∷ s ∷ []) answers → (x : Runnable) → ReadsRun answers x → ReadsRun answers r
+  same_reads (text t ∷ text u ∷ []) told x h = both A B r reads t u told.0 told.1.0
+  same_reads [] told x h = absurd h
+  same_reads (gone ∷ cs) told x h = absurd h
+  same_reads (long ∷ cs) told x h = absurd h
+  same_reads (unknown ∷ cs) told x h = absurd h
+  same_reads (text t ∷ []) told x h = absurd h
+  same_reads (text t ∷ gone ∷ cs) told x h = absurd h
+  same_reads (text t ∷ long ∷ cs) told x h = absurd h
+  same_reads (text t ∷ unknown ∷ cs) told x h = absurd h
+  same_reads (text t ∷ text u ∷ d ∷ cs) told x h = absurd h
+
+  circuit_of_reads : (answers : List Content) → ReadsRun answers r → (t : List ℕ) × IsCircuitText t r.flat
+  circuit_of_reads (text t ∷ text u ∷ []) h = (t, h.0)
+  circuit_of_reads [] h = absurd h
+  circuit_of_reads (gone ∷ cs) h = absurd h
+  circuit_of_reads (long ∷ cs) h = absurd h
+  circuit_of_reads (unknown ∷ cs) h = absurd h
+  circuit_of_reads (text t ∷ []) h = absurd h
+  circuit_of_reads (text t ∷ gone ∷ cs) h = absurd h
+  circuit_of_reads (text t ∷ long ∷ cs) h = absurd h
+  circuit_of_reads (text t ∷ unknown ∷ cs) h = absurd h
+  circuit_of_reads (text t ∷ text u ∷ d ∷ cs) h = absurd h
+
+  module _ (justified : RunsAreJustified kind_rules) (sound : IsSoundForm) (sink : Change SinkState) (code : ℕ) (fine : IsFailure code → ⊥) where
+    traced : (answers : List Content) → AreTold folder (Circuit ∷ Script ∷ []) (c ∷ s ∷ []) answers → Cases (owed_of Run answers) sink code → IsTraced r sink code
+    traced answers told (inl wrote) = elim wrote.owed [
+      | inl stopped ↦ absurd (fine (inl (stopped.2.1 ∙ only_missed answers told stopped.0 stopped.1)))
+      | inr made ↦
+          let here : ReadsRun answers r = same_reads answers told made.0 made.1 in
+          let trace : IsTraceOf IsFirst r wrote.bytes code = subst (λ (x : Runnable). IsTraceOf IsFirst x wrote.bytes code) (run_reading.one answers made.0 r made.1 here) made.2 in
+          let circuit = circuit_of_reads answers here in
+          record {
+            bytes = wrote.bytes;
+            trace = record {
+              lines = trace.lines;
+              ending = trace.ending;
+              run = justified r.components most_rounds (start_of r.flat.wiring r.components) (wired sound circuit.0 r.flat circuit.1) trace.lines trace.ending trace.run;
+              bytes_are = trace.bytes_are;
+              status = trace.status;
+            };
+            adds = wrote.adds;
+          }
+    ]
+    traced answers told (inr (inl broke)) = absurd (fine (inr (inl broke.code_is)))
+    traced answers told (inr (inr want)) = absurd (fine (inr (inr want.code_is)))
+
+-- The headline, from what the call has come to.
+module _ (justified : RunsAreJustified kind_rules) (sound : IsSoundForm) (words : List (List ℕ)) (files : Change FilesState) (sink : Change SinkState) (code : ℕ) (h : Answered words files sink code) where
+  told_as : (o : Option Folder) → files.old.told ≡ o → IfSome o (λ folder. (r : Runnable) → Accepted words folder r → (IsFailure code → ⊥) → IsTraced r sink code)
+  told_as None is = tt
+  told_as (Some folder) is = λ r a fine.
+      let run : IsAnswered (owed_of Run) (roles_of Run) (a.circuit ∷ a.script ∷ []) files sink code = answered_with words files sink code Run (a.circuit ∷ a.script ∷ []) a.run a.names h in
+      let told : AreTold folder (Circuit ∷ Script ∷ []) (a.circuit ∷ a.script ∷ []) run.answers =
+      subst (λ (o : Option Folder). IfSome o (λ f. AreTold f (Circuit ∷ Script ∷ []) (a.circuit ∷ a.script ∷ []) run.answers)) is run.fetched.told in
+      traced folder a.circuit a.script r a.reads justified sound sink code fine run.answers told run.cases
+
+  pub headline : Headline words files sink code
+  headline = told_as files.old.told refl

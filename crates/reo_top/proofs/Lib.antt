@@ -1,8 +1,11 @@
+pub mod AnswerLemmas
 pub mod CaseLemmas
+pub mod CircuitLemmas
+pub mod FetchLemmas
 pub mod HeadlineLemmas
 pub mod LineLemmas
-pub mod StageLemmas
-pub mod StatusLemmas
+pub mod PrintLemmas
 pub mod ReadLemmas
-pub mod BlameLemmas
-pub mod GrowthLemmas
+pub mod RunLemmas
+pub mod StopLemmas
+pub mod TopLemmas

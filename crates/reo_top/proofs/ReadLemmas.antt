@@ -1,167 +1,194 @@
--- Circuits that are read, and those that are refused.
-use Rattle.std.proofs.Common.{◌≡◌, ◌∙◌, ◌⊎◌, inl, inr, ℕ, List, sym, subst, ap, refl}
-use Rattle.std.specs.Prelude.{Option, Result, Ok, Err, codes}
+-- What a command reads, and what stops it, is one thing.
+use Rattle.std.proofs.Common.{◌≡◌, ◌∙◌, ◌⊎◌, inl, inr, ℕ, true, false, Bool, List, [], ◌∷◌, sym, subst, ap, refl}
+use Rattle.std.specs.Prelude.{Option, Some}
+use Rattle.reo_script.specs.declared.script.Component.{Component}
 use Rattle.reo_trees.specs.declared.programs.Program.{Program}
 use Rattle.reo_trees.specs.Says.{SaysProgram}
-use Rattle.reo_parser.specs.declared.fault.ParseFault.{ParseFault}
-use Rattle.reo_parser.specs.Parsed.{Answers, IsParsed, IsThis}
-use Rattle.reo_top.specs.declared.refusal.Cause.TheVariants.{BadByte, OpenText, NumberTooLong, Syntax, TooDeep}
-use Rattle.reo_top.specs.declared.refusal.Cause.{Cause}
+use Rattle.reo_top.specs.declared.command.Command.TheVariants.{Run, Print}
 use Rattle.reo_top.specs.declared.refusal.Refusal.{Refusal}
-use Rattle.reo_top.specs.declared.circuit.CircuitFault.{CircuitFault}
-use Rattle.reo_top.specs.declared.circuit.CircuitFault.TheVariants.{Failed, TooLong, Refused, NoMemory}
-use Rattle.reo_top.specs.Refusals.{fault_on, fault_of, refusal_text}
-use Rattle.reo_lexer.specs.declared.token.LexFault.TheVariants as lexing
-use Rattle.reo_parser.specs.declared.fault.ParseFault.TheVariants as faults
-use Rattle.reo_top.specs.Cases.{Owed, IsLine, Refuses, IsExact}
-use Rattle.reo_top.proofs.CaseLemmas.{line_as}
-use Rattle.reo_top.proofs.StatusLemmas.{AllWhole}
-use Rattle.reo_forms.specs.ScriptForm.{SaysScript}
-use Rattle.reo_top.specs.Texts.{Content, long, text}
-use Rattle.reo_top.specs.Circuits.{IsProgram, IsReadAs, IsReadOnlyAs, IsRefusedWith, unread_whole, missed_after}
-use Rattle.reo_syntax.specs.Canonical.{canonical_text}
-use Rattle.reo_forms.specs.declared.plainest.Plainest.{Plainest}
-use Rattle.reo_forms.specs.Shape.{HasShape}
-use Rattle.reo_top.specs.Words.{Missed}
-use Rattle.reo_script.specs.declared.script.Component.{Component}
-use Rattle.reo_top.specs.Whole.{circuit_owed, text_owed, shape_owed, script_owed, script_whole}
+use Rattle.reo_top.specs.declared.role.Role.{Role}
+use Rattle.reo_top.specs.declared.role.Role.TheVariants.{Circuit, Script}
+use Rattle.reo_top.specs.declared.stop.Stop.{Stop}
+use Rattle.reo_top.specs.declared.stop.Stop.TheVariants.{Missed, TooLong, Refused, NotBuilt, NoMemory}
+use Rattle.reo_top.specs.Fetched.{Content, gone, long, text, unknown, has_gone}
+use Rattle.reo_top.specs.Readings.{FlatCircuit, Runnable, IsCircuitText, IsScriptText, ProgramStops, CircuitStops, ScriptStops, ReadsProgram, StopsPrint, ReadsRun, StopsRun}
+use Rattle.reo_top.specs.Statuses.{IsAmong, statuses_of}
+use Rattle.reo_top.specs.Stops.{FileStops, stop_status}
+use Rattle.reo_top.proofs.CircuitLemmas.{one_program, not_refused, one_refusal, one_circuit, one_script}
+use Rattle.reo_top.proofs.StopLemmas.{is_missed}
 
--- The bytes of a file are one.
-same_bytes : (t u : List ℕ) → text t ≡ text u → u ≡ t
-same_bytes t u e = cc
+-- By the answers of the fetches one thing is read, or one thing stops the command; a file that cannot be had stops it so; and
+-- its stops have statuses of these.
+pub record IsOneReading {X : Type 0} (Reads : List Content → X → Type 0) (Stops : List Content → Stop → Type 0) (statuses : List ℕ) : Type 0 where
+  pub one : (answers : List Content) (x y : X) → Reads answers x → Reads answers y → x ≡ y
+  pub apart : (answers : List Content) (x : X) (s : Stop) → Reads answers x → Stops answers s → ⊥
+  pub one_stop : (answers : List Content) (s t : Stop) → Stops answers s → Stops answers t → s ≡ t
+  pub here : (answers : List Content) (x : X) → Reads answers x → has_gone answers ≡ false
+  pub missed : (answers : List Content) (s : Stop) → Stops answers s → has_gone answers ≡ is_missed s
+  pub status : (answers : List Content) (s : Stop) → Stops answers s → IsAmong statuses (stop_status s)
 
-answers_on : (bytes : List ℕ) (line : ℕ) (cause : Cause) → IsParsed bytes (Err (fault_on line cause)) → Answers bytes (Err (fault_on line cause))
-answers_on bytes line BadByte h = h
-answers_on bytes line OpenText h = h
-answers_on bytes line NumberTooLong h = h
-answers_on bytes line Syntax h = h
-answers_on bytes line TooDeep h = h
+same_stop : (s t u : Stop) → s ≡ u → t ≡ u → s ≡ t
+same_stop s t u a b = a ∙ sym b
 
--- A fault of a text is its refusal.
-pub answers_as : (bytes : List ℕ) (f : ParseFault) (r : Refusal) → f ≡ fault_of r → IsParsed bytes (Err f) → Answers bytes (Err (fault_of r))
-answers_as bytes f r same h = answers_on bytes r.line r.cause (subst (λ (x : ParseFault). IsParsed bytes (Err x)) same h)
+among : (statuses : List ℕ) (s u : Stop) → s ≡ u → IsAmong statuses (stop_status u) → IsAmong statuses (stop_status s)
+among statuses s u is h = subst (λ (t : Stop). IsAmong statuses (stop_status t)) (sym is) h
 
-this_on : (answer : Result Program ParseFault) (line : ℕ) (cause : Cause) → IsThis answer (Err (fault_on line cause)) → Err (fault_on line cause) ≡ answer
-this_on answer line BadByte h = h
-this_on answer line OpenText h = h
-this_on answer line NumberTooLong h = h
-this_on answer line Syntax h = h
-this_on answer line TooDeep h = h
+-- A program, or the refusal of the text.
+program_stop : (bytes : List ℕ) (s t : Stop) → ProgramStops bytes s → ProgramStops bytes t → s ≡ t
+program_stop bytes s t (r, a, is) (q, b, so) = is ∙ ap (Refused Circuit) (one_refusal bytes r q a b) ∙ sym so
 
-ok_is : (p q : Program) (a b : Result Program ParseFault) → a ≡ Ok p → b ≡ Ok q → a ≡ b → q ≡ p
-ok_is p q a b of_a of_b e = cc
+print_one : (answers : List Content) (p q : Program) → ReadsProgram answers p → ReadsProgram answers q → p ≡ q
+print_one (text bytes ∷ []) p q a b = one_program bytes p q a b
+print_one [] p q a b = absurd a
+print_one (gone ∷ cs) p q a b = absurd a
+print_one (long ∷ cs) p q a b = absurd a
+print_one (unknown ∷ cs) p q a b = absurd a
+print_one (text bytes ∷ c ∷ cs) p q a b = absurd a
 
-ok_is_no_fault : (p : Program) (f : ParseFault) (a b : Result Program ParseFault) → a ≡ Ok p → b ≡ Err f → a ≡ b → ⊥
-ok_is_no_fault p f a b of_a of_b e = cc
+print_apart : (answers : List Content) (p : Program) (s : Stop) → ReadsProgram answers p → StopsPrint answers s → ⊥
+print_apart (text bytes ∷ []) p s a (r, b, is) = not_refused bytes p r a b
+print_apart [] p s a b = a
+print_apart (gone ∷ cs) p s a b = a
+print_apart (long ∷ cs) p s a b = a
+print_apart (unknown ∷ cs) p s a b = a
+print_apart (text bytes ∷ c ∷ cs) p s a b = a
 
--- A text that is read says one program, and is not refused.
-pub read_only : (content : Content) (bytes : List ℕ) (p : Program) → content ≡ text bytes → ((answer : Result Program ParseFault) → Answers bytes answer → IsThis answer (Ok p)) → IsReadOnlyAs content (Ok p)
-read_only content bytes p same only = (
-  (λ q h. ok_is p q (Ok p) (Ok q) refl refl (only (Ok q) (subst (λ (b : List ℕ). SaysProgram b q) (same_bytes bytes h.bytes (sym same ∙ h.text_is)) h.says))),
-  (λ r h. ok_is_no_fault p (fault_of r) (Ok p) (Err (fault_of r)) refl refl (only (Err (fault_of r)) (subst (λ (b : List ℕ). Answers b (Err (fault_of r))) (same_bytes bytes h.bytes (sym same ∙ h.text_is)) h.answers))),
-)
+print_stop : (answers : List Content) (s t : Stop) → StopsPrint answers s → StopsPrint answers t → s ≡ t
+print_stop (text bytes ∷ []) s t a b = program_stop bytes s t a b
+print_stop (gone ∷ []) s t a b = same_stop s t (Missed Circuit) a b
+print_stop (long ∷ []) s t a b = same_stop s t (TooLong Circuit) a b
+print_stop (unknown ∷ []) s t a b = absurd a
+print_stop [] s t a b = absurd a
+print_stop (c ∷ d ∷ cs) s t a b = absurd a
 
--- A fault tells its refusal.
-abbrev refusal_on : ParseFault → Refusal → Refusal
-refusal_on (faults.Lex (lexing.BadByte line)) other = record { line = line; cause = BadByte }
-refusal_on (faults.Lex (lexing.OpenText line)) other = record { line = line; cause = OpenText }
-refusal_on (faults.Lex (lexing.NumberTooLong line)) other = record { line = line; cause = NumberTooLong }
-refusal_on (faults.Syntax line) other = record { line = line; cause = Syntax }
-refusal_on (faults.TooDeep line) other = record { line = line; cause = TooDeep }
-refusal_on _ other = other
+print_here : (answers : List Content) (p : Program) → ReadsProgram answers p → has_gone answers ≡ false
+print_here (text bytes ∷ []) p a = refl
+print_here [] p a = absurd a
+print_here (gone ∷ cs) p a = absurd a
+print_here (long ∷ cs) p a = absurd a
+print_here (unknown ∷ cs) p a = absurd a
+print_here (text bytes ∷ c ∷ cs) p a = absurd a
 
-told_by : (line : ℕ) (cause : Cause) (other : Refusal) → refusal_on (fault_on line cause) other ≡ record { line = line; cause = cause }
-told_by line BadByte other = refl
-told_by line OpenText other = refl
-told_by line NumberTooLong other = refl
-told_by line Syntax other = refl
-told_by line TooDeep other = refl
+print_missed : (answers : List Content) (s : Stop) → StopsPrint answers s → has_gone answers ≡ is_missed s
+print_missed (text bytes ∷ []) s (r, a, is) = ap is_missed (sym is)
+print_missed (gone ∷ []) s a = ap is_missed (sym a)
+print_missed (long ∷ []) s a = ap is_missed (sym a)
+print_missed (unknown ∷ []) s a = absurd a
+print_missed [] s a = absurd a
+print_missed (c ∷ d ∷ cs) s a = absurd a
 
-one_refusal : (s r : Refusal) → fault_of s ≡ fault_of r → s ≡ r
-one_refusal s r same = sym (told_by s.line s.cause r) ∙ ap (λ (f : ParseFault). refusal_on f r) same ∙ told_by r.line r.cause r
+print_status : (answers : List Content) (s : Stop) → StopsPrint answers s → IsAmong (statuses_of Print) (stop_status s)
+print_status (text bytes ∷ []) s (r, a, is) = among (statuses_of Print) s (Refused Circuit r) is refl
+print_status (gone ∷ []) s a = among (statuses_of Print) s (Missed Circuit) a refl
+print_status (long ∷ []) s a = among (statuses_of Print) s (TooLong Circuit) a refl
+print_status (unknown ∷ []) s a = absurd a
+print_status [] s a = absurd a
+print_status (c ∷ d ∷ cs) s a = absurd a
 
-same_fault : (f g : ParseFault) (a b : Result Program ParseFault) → a ≡ Err f → b ≡ Err g → a ≡ b → f ≡ g
-same_fault f g a b of_a of_b e = cc
+pub print_reading : IsOneReading ReadsProgram StopsPrint (statuses_of Print)
+print_reading = record { one = print_one; apart = print_apart; one_stop = print_stop; here = print_here; missed = print_missed; status = print_status }
 
--- A text that is refused says no program, and is refused for nothing else.
-pub refused_only : (content : Content) (bytes : List ℕ) (f : ParseFault) (r : Refusal) → content ≡ text bytes → f ≡ fault_of r → ((answer : Result Program ParseFault) → Answers bytes answer → IsThis answer (Err f))
-    → IsReadOnlyAs content (Err (Refused r))
-refused_only content bytes f r same is only = (
-  (λ q h.
-      let said : SaysProgram bytes q = subst (λ (b : List ℕ). SaysProgram b q) (same_bytes bytes h.bytes (sym same ∙ h.text_is)) h.says in
-      let this : IsThis (Ok q) (Err (fault_of r)) = subst (λ (x : ParseFault). IsThis (Ok q) (Err x)) is (only (Ok q) said) in
-      ok_is_no_fault q (fault_of r) (Ok q) (Err (fault_of r)) refl refl (sym (this_on (Ok q) r.line r.cause this))),
-  (λ s h.
-      let said : Answers bytes (Err (fault_of s)) = subst (λ (b : List ℕ). Answers b (Err (fault_of s))) (same_bytes bytes h.bytes (sym same ∙ h.text_is)) h.answers in
-      let this : IsThis (Err (fault_of s)) (Err (fault_of r)) = subst (λ (x : ParseFault). IsThis (Err (fault_of s)) (Err x)) is (only (Err (fault_of s)) said) in
-      one_refusal s r (sym (same_fault (fault_of r) (fault_of s) (Err (fault_of r)) (Err (fault_of s)) refl refl (this_on (Err (fault_of s)) r.line r.cause this)))),
-)
+-- A circuit and a script.
+run_one : (answers : List Content) (x y : Runnable) → ReadsRun answers x → ReadsRun answers y → x ≡ y
+run_one (text c ∷ text d ∷ []) x y a b =
+    let flats : x.flat ≡ y.flat = one_circuit c x.flat y.flat a.0 b.0 in
+    let there : IsScriptText x.flat.ports d y.components = subst (λ (f : FlatCircuit). IsScriptText f.ports d y.components) (sym flats) b.1 in
+    let components : x.components ≡ y.components = one_script c x.flat a.0 d x.components y.components a.1 there in
+    λ i. record { flat = flats i; components = components i }
+run_one [] x y a b = absurd a
+run_one (gone ∷ cs) x y a b = absurd a
+run_one (long ∷ cs) x y a b = absurd a
+run_one (unknown ∷ cs) x y a b = absurd a
+run_one (text c ∷ []) x y a b = absurd a
+run_one (text c ∷ gone ∷ cs) x y a b = absurd a
+run_one (text c ∷ long ∷ cs) x y a b = absurd a
+run_one (text c ∷ unknown ∷ cs) x y a b = absurd a
+run_one (text c ∷ text d ∷ e ∷ cs) x y a b = absurd a
 
--- What is owed for a circuit that is read is what comes then.
-pub read_as : (MissedCircuit : Type 0) (circuit : Content) (more : Program → Owed) (p : Program) (Told : List ℕ → ℕ → Type 0) → IsProgram circuit p → IsReadOnlyAs circuit (Ok p)
-    → AllWhole (more p) Told → AllWhole (circuit_owed MissedCircuit circuit more) Told
-read_as MissedCircuit circuit more p Told read only exact = λ bytes status h. elim h [
-  | inl none ↦
-      let here : unread_whole (text read.bytes) bytes status = subst (λ (z : Content). unread_whole z bytes status) read.text_is none in
-      absurd (only.1 here.0 (record { bytes = read.bytes; text_is = read.text_is; answers = here.1 }))
-  | inr found ↦ exact bytes status (subst (λ (x : Program). (more x).whole bytes status) (only.0 found.0 found.1) found.2)
-]
+run_apart : (answers : List Content) (x : Runnable) (s : Stop) → ReadsRun answers x → StopsRun answers s → ⊥
+run_apart (text c ∷ text d ∷ []) x s a (flat, is, stop) =
+    let flats : x.flat ≡ flat = one_circuit c x.flat flat a.0 is in
+    stop.0 x.components (subst (λ (f : FlatCircuit). IsScriptText f.ports d x.components) flats a.1)
+run_apart [] x s a b = a
+run_apart (gone ∷ cs) x s a b = a
+run_apart (long ∷ cs) x s a b = a
+run_apart (unknown ∷ cs) x s a b = a
+run_apart (text c ∷ []) x s a b = a
+run_apart (text c ∷ gone ∷ cs) x s a b = a
+run_apart (text c ∷ long ∷ cs) x s a b = a
+run_apart (text c ∷ unknown ∷ cs) x s a b = a
+run_apart (text c ∷ text d ∷ e ∷ cs) x s a b = a
 
-refuses_as : (line : List ℕ) (status : ℕ) (before now : Option (List ℕ)) (was is code : ℕ) → Refuses line status before now was is code → (code ≡ status) ⊎ (code ≡ 9)
-refuses_as line status before now was is code (inl h) = inl h.0
-refuses_as line status before now was is code (inr h) = inr h.0
+circuit_stop : (bytes : List ℕ) (s t : Stop) → CircuitStops bytes s → CircuitStops bytes t → s ≡ t
+circuit_stop bytes s t (inl a) (inl b) = program_stop bytes s t a b
+circuit_stop bytes s t (inl (r, a, is)) (inr (p, says, none, so)) = absurd (not_refused bytes p r says a)
+circuit_stop bytes s t (inr (p, says, none, is)) (inl (r, b, so)) = absurd (not_refused bytes p r says b)
+circuit_stop bytes s t (inr (p, a, none, is)) (inr (q, b, no_one, so)) = is ∙ sym so
 
-not_long : (t : List ℕ) → text t ≡ long → ⊥
-not_long t e = cc
+run_stop : (answers : List Content) (s t : Stop) → StopsRun answers s → StopsRun answers t → s ≡ t
+run_stop (text c ∷ []) s t a b = circuit_stop c s t a b
+run_stop (gone ∷ []) s t a b = same_stop s t (Missed Circuit) a b
+run_stop (long ∷ []) s t a b = same_stop s t (TooLong Circuit) a b
+run_stop (unknown ∷ []) s t a b = absurd a
+run_stop (text c ∷ gone ∷ []) s t (f, is, a) (g, so, b) = same_stop s t (Missed Script) a b
+run_stop (text c ∷ long ∷ []) s t (f, is, a) (g, so, b) = same_stop s t (TooLong Script) a b
+run_stop (text c ∷ text d ∷ []) s t (f, is, a) (g, so, b) = same_stop s t (NotBuilt Script) a.1 b.1
+run_stop (text c ∷ unknown ∷ []) s t (f, is, a) b = absurd a
+run_stop [] s t a b = absurd a
+run_stop (gone ∷ d ∷ cs) s t a b = absurd a
+run_stop (long ∷ d ∷ cs) s t a b = absurd a
+run_stop (unknown ∷ d ∷ cs) s t a b = absurd a
+run_stop (text c ∷ d ∷ e ∷ cs) s t a b = absurd a
 
--- A circuit that is not read has the status of its refusal.
-pub refused_as : (MissedCircuit : Type 0) (circuit : Content) (more : Program → Owed) (fault : CircuitFault) (before now : Option (List ℕ)) (was is code : ℕ) → IsReadAs circuit (Err fault) → IsReadOnlyAs circuit (Err fault)
-    → IsRefusedWith fault before now was is code → IsExact (circuit_owed MissedCircuit circuit more) before now code
-refused_as MissedCircuit circuit more Failed before now was is code read only h = λ bytes status whole. elim (refuses_as _ _ before now was is code h) [
-  | inl e ↦ inr (inl e)
-  | inr e ↦ inr (inr (inl e))
-]
-refused_as MissedCircuit circuit more TooLong before now was is code read only h = λ bytes status whole. elim whole [
-  | inl none ↦ line_as (codes "too long circuit\n") 4 before now was is code h bytes status (subst (λ (z : Content). unread_whole z bytes status) read none)
-  | inr found ↦ absurd (not_long found.1.bytes (sym found.1.text_is ∙ read))
-]
-refused_as MissedCircuit circuit more (Refused r) before now was is code read only (inl h) = λ bytes status whole. elim whole [
-  | inl none ↦
-      let here : unread_whole (text read.bytes) bytes status = subst (λ (z : Content). unread_whole z bytes status) read.text_is none in
-      let one : here.0 ≡ r = only.1 here.0 (record { bytes = read.bytes; text_is = read.text_is; answers = here.1 }) in
-      line_as (refusal_text r) 5 before now was is code h bytes status (subst (λ (s : Refusal). IsLine (refusal_text s) 5 bytes status) one here.2)
-  | inr found ↦ absurd (only.0 found.0 found.1)
-]
-refused_as MissedCircuit circuit more (Refused r) before now was is code read only (inr h) = λ bytes status whole. inr (inr (inr h.0))
-refused_as MissedCircuit circuit more NoMemory before now was is code read only h = λ bytes status whole. inr (inr (inr h.0))
+run_here : (answers : List Content) (x : Runnable) → ReadsRun answers x → has_gone answers ≡ false
+run_here (text c ∷ text d ∷ []) x a = refl
+run_here [] x a = absurd a
+run_here (gone ∷ cs) x a = absurd a
+run_here (long ∷ cs) x a = absurd a
+run_here (unknown ∷ cs) x a = absurd a
+run_here (text c ∷ []) x a = absurd a
+run_here (text c ∷ gone ∷ cs) x a = absurd a
+run_here (text c ∷ long ∷ cs) x a = absurd a
+run_here (text c ∷ unknown ∷ cs) x a = absurd a
+run_here (text c ∷ text d ∷ e ∷ cs) x a = absurd a
 
--- The name of a fetch that failed was noted.
-pub missed_from : (before now : List (List ℕ)) (name : List ℕ) (fault : CircuitFault) → now ≡ missed_after before name (Err fault) → fault ≡ Failed → Missed before now name
-missed_from before now name fault is same = subst (λ (x : CircuitFault). now ≡ missed_after before name (Err x)) same is
+circuit_missed : (bytes : List ℕ) (s : Stop) → CircuitStops bytes s → false ≡ is_missed s
+circuit_missed bytes s (inl (r, a, is)) = ap is_missed (sym is)
+circuit_missed bytes s (inr (p, a, none, is)) = ap is_missed (sym is)
 
--- The text was written, or the sink failed.
-pub text_as : (p : Program) (before now : Option (List ℕ)) (was is code : ℕ) → Refuses (canonical_text p) 0 before now was is code → IsExact (text_owed p) before now code
-text_as p before now was is code h = line_as (canonical_text p) 0 before now was is code h
+run_missed : (answers : List Content) (s : Stop) → StopsRun answers s → has_gone answers ≡ is_missed s
+run_missed (text c ∷ []) s a = circuit_missed c s a
+run_missed (gone ∷ []) s a = ap is_missed (sym a)
+run_missed (long ∷ []) s a = ap is_missed (sym a)
+run_missed (unknown ∷ []) s a = absurd a
+run_missed (text c ∷ gone ∷ []) s (f, is, a) = ap is_missed (sym a)
+run_missed (text c ∷ long ∷ []) s (f, is, a) = ap is_missed (sym a)
+run_missed (text c ∷ text d ∷ []) s (f, is, a) = ap is_missed (sym a.1)
+run_missed (text c ∷ unknown ∷ []) s (f, is, a) = absurd a
+run_missed [] s a = absurd a
+run_missed (gone ∷ d ∷ cs) s a = absurd a
+run_missed (long ∷ d ∷ cs) s a = absurd a
+run_missed (unknown ∷ d ∷ cs) s a = absurd a
+run_missed (text c ∷ d ∷ e ∷ cs) s a = absurd a
 
--- A program without the shape is not built.
-pub no_shape_as : (MissedScript : Type 0) (p : Program) (script : Content) → ((c : Plainest) → HasShape p c → ⊥)
-    → (before now : Option (List ℕ)) (was is code : ℕ) → Refuses (codes "not built circuit\n") 12 before now was is code → IsExact (shape_owed MissedScript p script) before now code
-no_shape_as MissedScript p script none before now was is code h = λ bytes status whole. elim whole [
-  | inl other ↦ line_as (codes "not built circuit\n") 12 before now was is code h bytes status other.1
-  | inr found ↦ absurd (none found.0 found.1)
-]
+circuit_status : (bytes : List ℕ) (s : Stop) → CircuitStops bytes s → IsAmong (statuses_of Run) (stop_status s)
+circuit_status bytes s (inl (r, a, is)) = among (statuses_of Run) s (Refused Circuit r) is refl
+circuit_status bytes s (inr (p, a, none, is)) = among (statuses_of Run) s (NotBuilt Circuit) is refl
 
--- A script that is too long, and one that is not of the form.
-pub long_script_as : (MissedScript : Type 0) (c : Plainest) (script : Content) → script ≡ long
-    → (before now : Option (List ℕ)) (was is code : ℕ) → Refuses (codes "too long script\n") 4 before now was is code → IsExact (script_owed MissedScript c script) before now code
-long_script_as MissedScript c script same before now was is code h = λ bytes status whole.
-    line_as (codes "too long script\n") 4 before now was is code h bytes status (subst (λ (z : Content). script_whole c z bytes status) same whole)
+run_status : (answers : List Content) (s : Stop) → StopsRun answers s → IsAmong (statuses_of Run) (stop_status s)
+run_status (text c ∷ []) s a = circuit_status c s a
+run_status (gone ∷ []) s a = among (statuses_of Run) s (Missed Circuit) a refl
+run_status (long ∷ []) s a = among (statuses_of Run) s (TooLong Circuit) a refl
+run_status (unknown ∷ []) s a = absurd a
+run_status (text c ∷ gone ∷ []) s (f, is, a) = among (statuses_of Run) s (Missed Script) a refl
+run_status (text c ∷ long ∷ []) s (f, is, a) = among (statuses_of Run) s (TooLong Script) a refl
+run_status (text c ∷ text d ∷ []) s (f, is, a) = among (statuses_of Run) s (NotBuilt Script) a.1 refl
+run_status (text c ∷ unknown ∷ []) s (f, is, a) = absurd a
+run_status [] s a = absurd a
+run_status (gone ∷ d ∷ cs) s a = absurd a
+run_status (long ∷ d ∷ cs) s a = absurd a
+run_status (unknown ∷ d ∷ cs) s a = absurd a
+run_status (text c ∷ d ∷ e ∷ cs) s a = absurd a
 
-pub no_script_as : (MissedScript : Type 0) (c : Plainest) (script : Content) (bytes : List ℕ) → script ≡ text bytes → ((components : List Component) → SaysScript c.parameters bytes components → ⊥)
-    → (before now : Option (List ℕ)) (was is code : ℕ) → Refuses (codes "not built script\n") 12 before now was is code → IsExact (script_owed MissedScript c script) before now code
-no_script_as MissedScript c script bytes same none before now was is code h = λ output status whole.
-    let here : script_whole c (text bytes) output status = subst (λ (z : Content). script_whole c z output status) same whole in
-    elim here [
-      | inl other ↦ line_as (codes "not built script\n") 12 before now was is code h output status other.1
-      | inr found ↦ absurd (none found.0 found.1)
-    ]
+pub run_reading : IsOneReading ReadsRun StopsRun (statuses_of Run)
+run_reading = record { one = run_one; apart = run_apart; one_stop = run_stop; here = run_here; missed = run_missed; status = run_status }

@@ -1,90 +1,81 @@
 -- What a command has written, and its status.
-use Rattle.std.specs.Prelude.{ℕ, ◌≡◌, ◌⊎◌, ◌++◌, List, [], Option, codes}
+use Rattle.std.specs.Prelude.{ℕ, ◌≡◌, ◌⊎◌, ◌++◌, ◌≤◌, List, [], Option, codes}
 use Rattle.reo_io.specs.Causes.{Rose}
 use Rattle.reo_io.specs.Sinks.{Appended, TookPart}
+use Rattle.reo_top.specs.Outputs.{Outputs}
+use Rattle.reo_top.specs.States.{SinkState, Change}
+use Rattle.reo_top.specs.Statuses.{read_fault, write_fault, out_of_memory}
 
--- What a command owes: whole outputs, each with its status, and the line of a fetch that failed.
-pub record Owed : Type 1 where
-  pub whole : List ℕ → ℕ → Type 0
-  pub fault : List ℕ → Type 0
+-- These bytes came at the end of what the sink tells.
+abbrev pub Adds : Change SinkState → List ℕ → Type 0
+Adds sink bytes = Appended sink.old.told sink.new.told bytes
 
--- A whole output, or the line of a fetch that failed.
-abbrev pub IsOutput : Owed → List ℕ → Type 0
-IsOutput owed bytes = ((code : ℕ) × owed.whole bytes code) ⊎ owed.fault bytes
+-- The sink failed, and has got a front of these bytes, and not the whole.
+abbrev pub Breaks : Change SinkState → List ℕ → Type 0
+Breaks sink bytes = TookPart sink.old.told sink.new.told bytes × Rose sink.old.faults sink.new.faults
+
+-- A whole output was written, with its status.
+pub record Wrote (Owed : Outputs) (sink : Change SinkState) (code : ℕ) : Type 0 where
+  pub bytes : List ℕ
+  pub owed : Owed bytes code
+  pub adds : Adds sink bytes
+
+-- The sink failed on a whole output.
+pub record Broke (Owed : Outputs) (sink : Change SinkState) (code : ℕ) : Type 0 where
+  pub bytes : List ℕ
+  pub status : ℕ
+  pub owed : Owed bytes status
+  pub breaks : Breaks sink bytes
+  pub code_is : code ≡ write_fault
 
 -- Whole lines at the front of a whole output, in order and none skipped.
-pub record AreFirstLines (owed : Owed) (lines : List ℕ) : Type 0 where
+pub record AreFirstLines (Owed : Outputs) (lines : List ℕ) : Type 0 where
   pub rest : List ℕ
-  pub code : ℕ
-  pub is : owed.whole (lines ++ rest) code
+  pub status : ℕ
+  pub owed : Owed (lines ++ rest) status
   pub front : List ℕ
   pub ends : lines ≡ front ++ codes "\n"
 
-abbrev pub no_memory : List ℕ
-no_memory = codes "no memory\n"
+-- The line that says that memory was wanting came, or a front of it where the sink failed on it.
+abbrev pub SaysWant : Change SinkState → Type 0
+SaysWant sink = Adds sink (codes "no memory\n") ⊎ Breaks sink (codes "no memory\n")
 
--- The whole output was written, with its status.
-pub record Wrote (owed : Owed) (before now : Option (List ℕ)) (code : ℕ) : Type 0 where
-  pub bytes : List ℕ
-  pub is : owed.whole bytes code
-  pub text : Appended before now bytes
-
--- The line of a fetch that failed was written.
-pub record ReadFault (owed : Owed) (before now : Option (List ℕ)) (code : ℕ) : Type 0 where
-  pub bytes : List ℕ
-  pub is : owed.fault bytes
-  pub text : Appended before now bytes
-  pub status : code ≡ 3
-
--- The sink failed, and has got a front of an output, and not the whole.
-pub record Broke (owed : Owed) (before now : Option (List ℕ)) (was is : ℕ) (code : ℕ) : Type 0 where
-  pub bytes : List ℕ
-  pub output : IsOutput owed bytes
-  pub part : TookPart before now bytes
-  pub rose : Rose was is
-  pub status : code ≡ 9
-
--- That memory was wanting was written, or a front of that where the sink failed on it.
-abbrev pub SaysWant : Option (List ℕ) → Option (List ℕ) → ℕ → ℕ → Type 0
-SaysWant before now was is = Appended before now no_memory ⊎ (TookPart before now no_memory × Rose was is)
-
--- Memory was wanting: no line or the first lines of a whole output were written, and then that.
-pub record Wanted (owed : Owed) (before now : Option (List ℕ)) (was is : ℕ) (code : ℕ) : Type 0 where
+-- Memory was wanting: no line or the first lines of a whole output came, and then that.
+pub record Wanted (Owed : Outputs) (sink : Change SinkState) (code : ℕ) : Type 0 where
   pub lines : List ℕ
-  pub first : (lines ≡ []) ⊎ AreFirstLines owed lines
+  pub first : (lines ≡ []) ⊎ AreFirstLines Owed lines
   pub between : Option (List ℕ)
-  pub text : Appended before between lines
-  pub last : SaysWant between now was is
-  pub status : code ≡ 10
+  pub adds : Appended sink.old.told between lines
+  pub says : SaysWant (record { old = record { told = between; faults = sink.old.faults }; new = sink.new })
+  pub code_is : code ≡ out_of_memory
 
--- One of the four cases holds.
-abbrev pub Cases : Owed → Option (List ℕ) → Option (List ℕ) → ℕ → ℕ → ℕ → Type 0
-Cases owed before now was is code = Wrote owed before now code ⊎ (ReadFault owed before now code ⊎ (Broke owed before now was is code ⊎ Wanted owed before now was is code))
-
--- A line with its status.
-abbrev pub IsLine : List ℕ → ℕ → List ℕ → ℕ → Type 0
-IsLine line status bytes code = (bytes ≡ line) × (code ≡ status)
-
--- What a call that writes a line has come to: it was written, or the sink failed on it.
-abbrev pub Refuses : List ℕ → ℕ → Option (List ℕ) → Option (List ℕ) → ℕ → ℕ → ℕ → Type 0
-Refuses line status before now was is code = ((code ≡ status) × Appended before now line) ⊎ ((code ≡ 9) × TookPart before now line × Rose was is)
-
--- What the sink told before still stands first in what it tells.
-abbrev pub Grew : Option (List ℕ) → Option (List ℕ) → Type 0
-Grew before now = (bytes : List ℕ) × Appended before now bytes
-
--- What a call that reports want of memory has come to.
-abbrev pub Wants : Option (List ℕ) → Option (List ℕ) → ℕ → ℕ → ℕ → Type 0
-Wants before now was is code = (code ≡ 10) × SaysWant before now was is
+-- A whole output was written, the sink failed on one, or memory was wanting.
+abbrev pub Cases : Outputs → Change SinkState → ℕ → Type 0
+Cases Owed sink code = Wrote Owed sink code ⊎ (Broke Owed sink code ⊎ Wanted Owed sink code)
 
 -- The statuses of what is no whole output: a fetch failed, the sink failed, memory was wanting.
 abbrev pub IsFailure : ℕ → Type 0
-IsFailure code = (code ≡ 3) ⊎ ((code ≡ 9) ⊎ (code ≡ 10))
+IsFailure code = (code ≡ read_fault) ⊎ ((code ≡ write_fault) ⊎ (code ≡ out_of_memory))
 
--- These bytes were written, with their status, unless something failed.
-abbrev pub IsWritten : Option (List ℕ) → Option (List ℕ) → ℕ → List ℕ → ℕ → Type 0
-IsWritten before now code bytes status = ((code ≡ status) × Appended before now bytes) ⊎ IsFailure code
+-- These bytes were written, with their status, or else the sink failed or memory was wanting.
+abbrev pub IsWritten : Change SinkState → ℕ → Outputs
+IsWritten sink code bytes status = ((code ≡ status) × Adds sink bytes) ⊎ ((code ≡ write_fault) ⊎ (code ≡ out_of_memory))
 
--- Each whole output was written, with its status, unless something failed: there is no other than that.
-abbrev pub IsExact : Owed → Option (List ℕ) → Option (List ℕ) → ℕ → Type 0
-IsExact owed before now code = (bytes : List ℕ) (status : ℕ) → owed.whole bytes status → IsWritten before now code bytes status
+-- There is no other whole output than the one that was written, unless the sink failed or memory was wanting.
+abbrev pub IsExact : Outputs → Change SinkState → ℕ → Type 0
+IsExact Owed sink code = (bytes : List ℕ) (status : ℕ) → Owed bytes status → IsWritten sink code bytes status
+
+-- A line was written, with its status, or the sink failed on it.
+abbrev pub Refuses : List ℕ → ℕ → Change SinkState → ℕ → Type 0
+Refuses line status sink code = ((code ≡ status) × Adds sink line) ⊎ ((code ≡ write_fault) × Breaks sink line)
+
+-- A call that says that memory was wanting.
+abbrev pub Wants : Change SinkState → ℕ → Type 0
+Wants sink code = (code ≡ out_of_memory) × SaysWant sink
+
+-- A fault of the sink is answered only where its count of faults has risen; that count has not fallen, and what the sink had
+-- got before stands first in what it has got.
+pub record IsFair (sink : Change SinkState) (code : ℕ) : Type 0 where
+  pub rose : code ≡ write_fault → Rose sink.old.faults sink.new.faults
+  pub later : sink.old.faults ≤ sink.new.faults
+  pub grew : (bytes : List ℕ) × Adds sink bytes

@@ -1,37 +1,40 @@
--- Why circuit texts are refused, and the lines that say so.
-use Rattle.std.specs.Prelude.{ℕ, List, ◌++◌, codes}
+-- Why texts are refused, for all layers alike.
+use Rattle.std.specs.Prelude.{ℕ, ◌≡◌, ◌++◌, List, [], Option, Some, None, Err, codes}
 use Rattle.std.specs.Fmt.{decimal}
+use Rattle.reo_lexer.specs.declared.token.LexFault.{LexFault}
 use Rattle.reo_lexer.specs.declared.token.LexFault.TheVariants as lexing
 use Rattle.reo_parser.specs.declared.fault.ParseFault.{ParseFault}
 use Rattle.reo_parser.specs.declared.fault.ParseFault.TheVariants as faults
-use Rattle.reo_top.specs.declared.refusal.Cause.{Cause}
-use Rattle.reo_top.specs.declared.refusal.Cause.TheVariants.{BadByte, OpenText, NumberTooLong, Syntax, TooDeep}
+use Rattle.reo_parser.specs.Parsed.{Answers}
 use Rattle.reo_top.specs.declared.refusal.Refusal.{Refusal}
 
-abbrev pub cause_text : Cause → List ℕ
-cause_text BadByte = codes "bad byte"
-cause_text OpenText = codes "open text"
-cause_text NumberTooLong = codes "number too long"
-cause_text Syntax = codes "syntax"
-cause_text TooDeep = codes "too deep"
+-- A cause on a line.
+abbrev pub on_line : ℕ → List ℕ → Option Refusal
+on_line line words = Some (record { line = Some line; words = words })
 
--- The line of a refusal.
+-- The refusal of a text without tokens. Out of memory is none.
+abbrev pub lex_refusal : LexFault → Option Refusal
+lex_refusal (lexing.BadByte line) = on_line line (codes "bad byte")
+lex_refusal (lexing.OpenText line) = on_line line (codes "open text")
+lex_refusal (lexing.NumberTooLong line) = on_line line (codes "number too long")
+lex_refusal lexing.NoMemory = None
+
+-- The refusal of a circuit text that says no program.
+abbrev pub parse_refusal : ParseFault → Option Refusal
+parse_refusal (faults.Lex fault) = lex_refusal fault
+parse_refusal (faults.Syntax line) = on_line line (codes "syntax")
+parse_refusal (faults.TooDeep line) = on_line line (codes "too deep")
+parse_refusal faults.NoMemory = None
+
+-- Where the cause is.
+abbrev pub line_text : Option ℕ → List ℕ
+line_text None = []
+line_text (Some line) = codes "line " ++ decimal line ++ codes ": "
+
+-- The line and the words of a refusal.
 abbrev pub refusal_text : Refusal → List ℕ
-refusal_text r = codes "circuit refused: line " ++ decimal r.line ++ codes ": " ++ cause_text r.cause ++ codes "\n"
+refusal_text r = line_text r.line ++ r.words
 
--- The fault of a cause on a line.
-abbrev pub fault_on : ℕ → Cause → ParseFault
-fault_on line BadByte = faults.Lex (lexing.BadByte line)
-fault_on line OpenText = faults.Lex (lexing.OpenText line)
-fault_on line NumberTooLong = faults.Lex (lexing.NumberTooLong line)
-fault_on line Syntax = faults.Syntax line
-fault_on line TooDeep = faults.TooDeep line
-
-abbrev pub fault_of : Refusal → ParseFault
-fault_of r = fault_on r.line r.cause
-
--- Memory was wanting.
-abbrev pub IsWant : ParseFault → Type 0
-IsWant (faults.Lex lexing.NoMemory) = Unit {0}
-IsWant faults.NoMemory = Unit {0}
-IsWant _ = ⊥
+-- The text says no program, and is refused so.
+abbrev pub RefusesProgram : List ℕ → Refusal → Type 0
+RefusesProgram text r = (fault : ParseFault) × Answers text (Err fault) × (parse_refusal fault ≡ Some r)

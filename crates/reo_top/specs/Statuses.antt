@@ -1,18 +1,67 @@
--- The statuses of commands.
-use Rattle.std.specs.Prelude.{ℕ, ◌≡◌, ◌⊎◌, ◌==◌, ◌||◌, Bool, List, IsTrue}
-use Rattle.reo_top.specs.Words.{IsRunWords, IsPrintWords, HasNoForm}
+-- The statuses by their names, and those that each command may have.
+use Rattle.std.specs.Prelude.{ℕ, ◌≡◌, ◌==◌, Bool, List, [], ◌∷◌, Option, Some, None, IsTrue}
+use Rattle.std.specs.List.{list_any}
+use Rattle.reo_top.specs.declared.command.Command.{Command}
+use Rattle.reo_top.specs.declared.command.Command.TheVariants.{Run, Print}
 
--- The statuses of a print: written, a fetch failed, too long, refused, the sink failed, memory was wanting.
-abbrev pub is_print_status : ℕ → Bool
-is_print_status code = (code == 0) || ((code == 3) || ((code == 4) || ((code == 5) || ((code == 9) || (code == 10)))))
+-- Each component is at its end, or the text was printed.
+abbrev pub done : ℕ
+done = 0
 
--- Those of a run: besides these stuck, the limit, and not built.
-abbrev pub is_run_status : ℕ → Bool
-is_run_status code = (code == 1) || ((code == 8) || ((code == 12) || is_print_status code))
+-- Some component is not at its end, and nothing flowed in the last round.
+abbrev pub stuck : ℕ
+stuck = 1
 
--- The status is one of those of the command of these words, or of their refusal.
-abbrev pub IsStatusFor : List (List ℕ) → ℕ → Type 0
-IsStatusFor words code =
-    ((circuit script : List ℕ) × IsRunWords words circuit script × IsTrue (is_run_status code))
-    ⊎ (((circuit : List ℕ) × IsPrintWords words circuit × IsTrue (is_print_status code))
-    ⊎ (HasNoForm words × ((code ≡ 2) ⊎ (code ≡ 9))))
+-- The words have no form.
+abbrev pub words_refused : ℕ
+words_refused = 2
+
+-- A file cannot be had.
+abbrev pub read_fault : ℕ
+read_fault = 3
+
+-- A file has more bytes than its limit.
+abbrev pub too_long : ℕ
+too_long = 4
+
+-- The text of a circuit is refused.
+abbrev pub circuit_refused : ℕ
+circuit_refused = 5
+
+-- The text of a script is refused.
+abbrev pub script_refused : ℕ
+script_refused = 6
+
+-- The limit of rounds is reached.
+abbrev pub limit_reached : ℕ
+limit_reached = 8
+
+-- The sink failed.
+abbrev pub write_fault : ℕ
+write_fault = 9
+
+-- Memory was wanting.
+abbrev pub out_of_memory : ℕ
+out_of_memory = 10
+
+-- A circuit or a script does not have the form that runs.
+abbrev pub not_built : ℕ
+not_built = 12
+
+-- The statuses of a command that reads a circuit.
+abbrev pub circuit_statuses : List ℕ
+circuit_statuses = read_fault ∷ too_long ∷ circuit_refused ∷ write_fault ∷ out_of_memory ∷ []
+
+-- The statuses of a command.
+abbrev pub statuses_of : Command → List ℕ
+statuses_of Run = done ∷ stuck ∷ limit_reached ∷ not_built ∷ circuit_statuses
+statuses_of Print = done ∷ circuit_statuses
+
+-- The statuses of the command, or of the refusal of words that have none.
+abbrev pub statuses_for : Option Command → List ℕ
+statuses_for None = words_refused ∷ write_fault ∷ []
+statuses_for (Some command) = statuses_of command
+
+-- One of these statuses.
+abbrev pub IsAmong : List ℕ → ℕ → Type 0
+IsAmong statuses code = IsTrue (list_any (λ status. code == status) statuses)

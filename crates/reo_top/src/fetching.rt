@@ -1,29 +1,31 @@
-//! Fetching circuits and scripts.
-ghost use Rattle.std.specs.Prelude.{◌≡◌, ◌≤◌, length, IfOk, IfSome};
-ghost use Rattle.reo_io.specs.Fetches.{file_of, failed_after};
-ghost use Rattle.reo_top.specs.Fetched.{IsFetched};
+//! Fetching files.
+ghost use Rattle.std.specs.Prelude.{[], ◌∷◌, ◌≤◌, IfOk, length};
+ghost use Rattle.reo_top.specs.Fetched.{AreFetched, answer_of, IsFetchStop};
+ghost use Rattle.reo_top.specs.Roles.{most_bytes};
+ghost use Rattle.reo_top.specs.States.{files_change};
 
+use crate::role::Role;
+use crate::stop::Stop;
 use reo_io::{FetchFault, Files};
 use reo_values::Bytes;
 use std::alloc::Global;
 
-/// The most bytes of a circuit or a script.
-const LIMIT: usize = 1_048_576;
-
 /// The bytes of a file, or why it is none that is read.
 pub(crate) fn fetch<F: Files>(
     alloc: Global,
+    role: Role,
     name: &[u8],
     files: &mut F,
-) -> Result<Bytes, FetchFault>
-    ensures told { F.told files.new ≡ F.told files.old }
-    ensures failed { F.failed files.new ≡ failed_after (F.failed files.old) name.now result }
-    ensures size { IfOk result (λ bytes. length bytes ≤ 1048576) }
-    ensures content { IfSome (F.told files.old) (λ folder. IsFetched (file_of folder name.now) result) }
+) -> Result<Bytes, Stop>
+    ensures fetched { AreFetched (role ∷ []) (name.now ∷ []) (answer_of result ∷ []) (files_change F.told F.failed F.fetches files.old files.new) }
+    ensures stop { IsFetchStop role result }
+    ensures size { IfOk result (λ bytes. length bytes ≤ most_bytes role) }
 {
     let mut room = Bytes::new(alloc);
-    match files.fetch(alloc, name, LIMIT, &mut room) {
+    match files.fetch(alloc, name, role.most_bytes(), &mut room) {
         Ok(()) => Ok(room),
-        Err(fault) => Err(fault),
+        Err(FetchFault::Failed) => Err(Stop::Missed(role)),
+        Err(FetchFault::TooLong) => Err(Stop::TooLong(role)),
+        Err(FetchFault::NoMemory) => Err(Stop::NoMemory),
     }
 }

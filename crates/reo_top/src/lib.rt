@@ -2,11 +2,17 @@
 #![tactic(auto)]
 
 mod answer;
-mod circuit;
+mod command;
 mod fetching;
 mod printing;
+mod reading;
 mod refusal;
+mod role;
 mod running;
+mod status;
+mod stop;
 mod top;
 
-pub use top::{Status, reo};
+pub use command::{Command, command_of};
+pub use status::Status;
+pub use top::reo;

@@ -1,68 +1,71 @@
-//! Why a circuit text is refused, and the line that says so.
-ghost use Rattle.std.specs.Prelude.{◌≡◌, ◌++◌, MatchOption, IfOk, OnOk, codes};
-ghost use Rattle.reo_top.specs.Refusals.{cause_text, refusal_text, fault_of, IsWant};
+//! Why texts are refused, for all layers alike.
+ghost use Rattle.std.specs.Prelude.{◌≡◌, ◌++◌, IfOk, OnOk, Some};
+ghost use Rattle.reo_top.specs.Refusals.{on_line, parse_refusal, line_text, refusal_text};
 
 use reo_lexer::LexFault;
 use reo_parser::ParseFault;
 use reo_values::{Bytes, NoMemory};
 use std::alloc::Global;
 
-/// What is wrong with a circuit text.
-#[derive(Clone, Copy, Debug, PartialEq, Eq)]
-pub(crate) enum Cause {
-    BadByte,
-    OpenText,
-    NumberTooLong,
-    Syntax,
-    TooDeep,
-}
-
-/// What is wrong with a circuit text first, and on which line, from 1.
-#[derive(Clone, Copy, Debug, PartialEq, Eq)]
+/// Why a text is refused.
+#[derive(Drop)]
 pub(crate) struct Refusal {
-    pub line: u32,
-    pub cause: Cause,
+    /// The line of the cause, from 1, where it has one.
+    pub line: Option<u32>,
+    /// The words of the cause, with the name that it speaks of.
+    pub words: Bytes,
 }
 
-/// What is wrong by a fault; nothing where memory was wanting.
-pub(crate) fn refusal_of(fault: ParseFault) -> Option<Refusal>
-    ensures { MatchOption result (IsWant fault) (λ refusal. fault ≡ fault_of refusal) }
+/// A cause on a line. `NoMemory` is out of memory.
+fn on_line(alloc: Global, line: u32, words: &[u8]) -> Result<Refusal, NoMemory>
+    ensures { IfOk result (λ refusal. on_line line words.now ≡ Some refusal) }
 {
-    let (line, cause) = match fault {
-        ParseFault::Lex(LexFault::BadByte { line }) => (line, Cause::BadByte),
-        ParseFault::Lex(LexFault::OpenText { line }) => (line, Cause::OpenText),
-        ParseFault::Lex(LexFault::NumberTooLong { line }) => (line, Cause::NumberTooLong),
-        ParseFault::Syntax { line } => (line, Cause::Syntax),
-        ParseFault::TooDeep { line } => (line, Cause::TooDeep),
-        ParseFault::Lex(LexFault::NoMemory) | ParseFault::NoMemory => return None,
-    };
-    Some(Refusal { line, cause })
+    let words = Bytes::from_slice(alloc, words)?;
+    Ok(Refusal {
+        line: Some(line),
+        words,
+    })
 }
 
-/// What a cause is called.
-fn cause_text(cause: Cause) -> &'static [u8]
-    ensures { result.now ≡ cause_text cause }
+/// Why a circuit text is refused, by the fault that it has. `NoMemory` is out of memory.
+pub(crate) fn parse_refusal(alloc: Global, fault: ParseFault) -> Result<Refusal, NoMemory>
+    ensures { IfOk result (λ refusal. parse_refusal fault ≡ Some refusal) }
 {
-    match cause {
-        Cause::BadByte => b"bad byte",
-        Cause::OpenText => b"open text",
-        Cause::NumberTooLong => b"number too long",
-        Cause::Syntax => b"syntax",
-        Cause::TooDeep => b"too deep",
+    match fault {
+        ParseFault::Lex(LexFault::BadByte { line }) => on_line(alloc, line, b"bad byte"),
+        ParseFault::Lex(LexFault::OpenText { line }) => on_line(alloc, line, b"open text"),
+        ParseFault::Lex(LexFault::NumberTooLong { line }) => {
+            on_line(alloc, line, b"number too long")
+        }
+        ParseFault::Syntax { line } => on_line(alloc, line, b"syntax"),
+        ParseFault::TooDeep { line } => on_line(alloc, line, b"too deep"),
+        ParseFault::Lex(LexFault::NoMemory) | ParseFault::NoMemory => Err(NoMemory),
     }
 }
 
-/// The line that says what is wrong. `NoMemory` is want of memory.
-pub(crate) fn refusal_line(alloc: Global, refusal: Refusal) -> Result<Bytes, NoMemory>
-    ensures { IfOk result (λ line. line ≡ refusal_text refusal) }
+/// Adds where the cause is. `NoMemory` is out of memory.
+fn append_line(alloc: Global, out: &mut Bytes, line: Option<u32>) -> Result<(), NoMemory>
+    ensures { OnOk result (out.new ≡ out.old ++ line_text line) }
 {
-    let Ok(number) = refusal.line.to_string(alloc) else {
+    let Some(line) = line else {
+        return Ok(());
+    };
+    let Ok(number) = line.to_string(alloc) else {
         return Err(NoMemory);
     };
-    let mut line = Bytes::from_slice(alloc, b"circuit refused: line ")?;
-    line.append(number.as_bytes())?;
-    line.append(b": ")?;
-    line.append(cause_text(refusal.cause))?;
-    line.append(b"\n")?;
-    Ok(line)
+    out.append(b"line ")?;
+    out.append(number.as_bytes())?;
+    out.append(b": ")
+}
+
+/// Adds the line and the words of a refusal. `NoMemory` is out of memory.
+pub(crate) fn append_refusal(
+    alloc: Global,
+    out: &mut Bytes,
+    refusal: &Refusal,
+) -> Result<(), NoMemory>
+    ensures { OnOk result (out.new ≡ out.old ++ refusal_text refusal.now) }
+{
+    append_line(alloc, out, refusal.line)?;
+    out.append(refusal.words.as_slice())
 }

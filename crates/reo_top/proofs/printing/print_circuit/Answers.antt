@@ -1,55 +1,28 @@
-use Rattle.std.proofs.Common.{inl, inr, refl, arith}
-use Rattle.reo_io.specs.Fetches.{file_of}
-use Rattle.reo_syntax.specs.Canonical.{canonical_text}
-use Rattle.reo_top.specs.Cases.{IsWritten}
-use Rattle.reo_top.specs.Texts.{content_of}
-use Rattle.reo_top.specs.Words.{Missed}
-use Rattle.reo_top.specs.Whole.{text_owed, print_owed}
-use Rattle.reo_top.proofs.CaseLemmas.{refused, wanted_first, if_told, if_both, told_always}
-use Rattle.reo_top.proofs.StageLemmas.{circuit_refused}
-use Rattle.reo_top.proofs.ReadLemmas.{missed_from, read_as, refused_as, text_as}
-use Rattle.reo_top.proofs.BlameLemmas.{circuit_blamed, no_miss}
+use Rattle.std.proofs.Common.{ℕ, [], ◌∷◌, refl, arith}
+use Rattle.std.specs.Prelude.{◌≢◌}
+use Rattle.reo_top.specs.declared.command.Command.TheVariants.{Print}
+use Rattle.reo_top.specs.declared.role.Role.TheVariants.{Circuit}
+use Rattle.reo_top.specs.Owed.{PrintsProgram}
+use Rattle.reo_top.specs.Readings.{ReadsProgram, StopsPrint}
+use Rattle.reo_top.specs.Statuses.{statuses_of}
+use Rattle.reo_top.proofs.AnswerLemmas.{refused_answered, refused_status_in, made_answered, made_status_in}
+use Rattle.reo_top.proofs.PrintLemmas.{text_status, text_not_three}
+use Rattle.reo_top.proofs.ReadLemmas.{print_reading}
 use Rattle.reo_top.proofs.printing.print_circuit.Goals as goal
 
-pub returns-in-Err-clause-cases : goal.returns-in-Err-clause-cases
-returns-in-Err-clause-cases g c =
-    if_told (g.F.Files.told c.args.files.now)
-    (λ folder read. circuit_refused (Missed (g.F.Files.failed c.args.files.now) (g.F.Files.failed c.read_program.new.files) c.args.name.now) (content_of (file_of folder c.args.name.now)) text_owed c.in-Err.fault read
-    (missed_from (g.F.Files.failed c.args.files.now) (g.F.Files.failed c.read_program.new.files) c.args.name.now c.in-Err.fault c.in-Err.ensures.failed) _ _ _ _ _ c.refuse_circuit.ensures.refused)
-    c.in-Err.ensures.content
+pub returns-in-Ok-clause-answered : goal.returns-in-Ok-clause-answered
+returns-in-Ok-clause-answered g c =
+    made_answered ReadsProgram StopsPrint PrintsProgram (statuses_of Print) print_reading _ _ c.in-Ok.ensures.answers c.in-Ok.program c.in-Ok.ensures.read c.write_text.ensures.cases c.write_text.ensures.exact
+    (text_not_three c.in-Ok.program) (Circuit ∷ []) (c.args.name.now ∷ []) _ c.in-Ok.ensures.fetched
 
-pub returns-in-Err-clause-exact : goal.returns-in-Err-clause-exact
-returns-in-Err-clause-exact g c =
-    if_told (g.F.Files.told c.args.files.now)
-    (λ folder both. refused_as (Missed (g.F.Files.failed c.args.files.now) (g.F.Files.failed c.read_program.new.files) c.args.name.now) (content_of (file_of folder c.args.name.now)) text_owed c.in-Err.fault _ _ _ _ _ both.0 both.1 c.refuse_circuit.ensures.refused)
-    (if_both (g.F.Files.told c.args.files.now) _ _ c.in-Err.ensures.content c.in-Err.ensures.only)
+pub returns-in-Ok-clause-status : goal.returns-in-Ok-clause-status
+returns-in-Ok-clause-status g c =
+    made_status_in ReadsProgram StopsPrint PrintsProgram (statuses_of Print) print_reading _ _ c.in-Ok.ensures.answers c.in-Ok.program c.in-Ok.ensures.read c.write_text.ensures.cases (text_status c.in-Ok.program) refl refl
 
-pub returns-in-Ok-print-clause-cases : goal.returns-in-Ok-print-clause-cases
-returns-in-Ok-print-clause-cases g c =
-    let written = rw (c.as_slice.ensures, c.in-Ok-print.ensures) at c.answer.ensures.answers in
-    if_told (g.F.Files.told c.args.files.now)
-    (λ folder read. refused (print_owed (Missed (g.F.Files.failed c.args.files.now) (g.F.Files.failed c.read_program.new.files) c.args.name.now) (content_of (file_of folder c.args.name.now))) (canonical_text c.in-Ok.program) 0 _ _ _ _ _
-    (inr (c.in-Ok.program, read, (refl, refl))) written)
-    c.in-Ok.ensures.content
+pub returns-in-Err-clause-answered : goal.returns-in-Err-clause-answered
+returns-in-Err-clause-answered g c =
+    refused_answered ReadsProgram StopsPrint PrintsProgram (statuses_of Print) print_reading _ _ c.in-Err.ensures.answers c.in-Err.stop c.in-Err.ensures.read c.refuse.ensures.refused (Circuit ∷ []) (c.args.name.now ∷ []) _ c.in-Err.ensures.fetched
 
-pub returns-in-Ok-print-clause-exact : goal.returns-in-Ok-print-clause-exact
-returns-in-Ok-print-clause-exact g c =
-    let written = rw (c.as_slice.ensures, c.in-Ok-print.ensures) at c.answer.ensures.answers in
-    if_told (g.F.Files.told c.args.files.now)
-    (λ folder both. read_as (Missed (g.F.Files.failed c.args.files.now) (g.F.Files.failed c.read_program.new.files) c.args.name.now) (content_of (file_of folder c.args.name.now)) text_owed c.in-Ok.program (IsWritten (g.S.Sink.told c.args.out.now) (g.S.Sink.told c.answer.new.out) c.answer.result.code) both.0 both.1 (text_as c.in-Ok.program _ _ _ _ _ written))
-    (if_both (g.F.Files.told c.args.files.now) _ _ c.in-Ok.ensures.content c.in-Ok.ensures.only)
-
-pub returns-clause-cases : goal.returns-clause-cases
-returns-clause-cases g c =
-    told_always (g.F.Files.told c.args.files.now)
-    (λ folder. wanted_first (print_owed (Missed (g.F.Files.failed c.args.files.now) (g.F.Files.failed c.read_program.new.files) c.args.name.now) (content_of (file_of folder c.args.name.now))) _ _ _ _ _ c.want.ensures.wants)
-
-pub returns-in-Err-clause-missed : goal.returns-in-Err-clause-missed
-returns-in-Err-clause-missed g c =
-    circuit_blamed (g.F.Files.failed c.args.files.now) (g.F.Files.failed c.read_program.new.files) c.args.name.now c.in-Err.fault c.in-Err.ensures.failed _ _ _ _ _ c.refuse_circuit.ensures.missed c.refuse_circuit.ensures.refused
-
-pub returns-in-Ok-print-clause-missed : goal.returns-in-Ok-print-clause-missed
-returns-in-Ok-print-clause-missed g c = inl (c.in-Ok.ensures.failed, no_miss 0 c.answer.result.code refl c.answer.ensures.one)
-
-pub returns-clause-missed : goal.returns-clause-missed
-returns-clause-missed g c = inl (c.in-Ok.ensures.failed, λ e. omega (arith, e, c.want.ensures.status))
+pub returns-in-Err-clause-status : goal.returns-in-Err-clause-status
+returns-in-Err-clause-status g c =
+    refused_status_in ReadsProgram StopsPrint PrintsProgram (statuses_of Print) print_reading _ _ c.in-Err.ensures.answers c.in-Err.stop c.in-Err.ensures.read c.refuse.ensures.refused refl refl

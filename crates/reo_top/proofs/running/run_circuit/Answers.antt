@@ -1,49 +1,32 @@
-use Rattle.reo_io.specs.Fetches.{file_of}
-use Rattle.reo_top.specs.Cases.{IsWritten}
-use Rattle.reo_top.specs.Texts.{content_of}
-use Rattle.reo_top.specs.Words.{Missed}
-use Rattle.reo_top.specs.Whole.{shape_owed}
-use Rattle.reo_top.proofs.CaseLemmas.{if_told, if_both}
-use Rattle.reo_top.proofs.StageLemmas.{circuit_lifted, circuit_refused}
-use Rattle.reo_top.proofs.ReadLemmas.{missed_from, read_as, refused_as}
-use Rattle.reo_top.proofs.BlameLemmas.{circuit_blamed, of_run, of_script}
+use Rattle.std.proofs.Common.{ℕ, List, [], ◌∷◌, refl}
+use Rattle.std.specs.Prelude.{Result, Ok, Err}
+use Rattle.reo_net_base.specs.First.{IsFirst}
+use Rattle.reo_top.specs.declared.command.Command.TheVariants.{Run}
+use Rattle.reo_top.specs.declared.role.Role.TheVariants.{Circuit, Script}
+use Rattle.reo_top.specs.Readings.{ReadsRun, StopsRun, runnable_of}
+use Rattle.reo_top.specs.Statuses.{statuses_of}
+use Rattle.reo_top.specs.Traces.{IsTraceOf}
+use Rattle.reo_top.proofs.AnswerLemmas.{refused_answered, refused_status_in, made_answered, made_status_in}
+use Rattle.reo_top.proofs.ReadLemmas.{run_reading}
+use Rattle.reo_top.proofs.RunLemmas.{trace_status, trace_not_three, stop_read}
 use Rattle.reo_top.proofs.running.run_circuit.Goals as goal
 
-pub returns-in-Ok-clause-cases : goal.returns-in-Ok-clause-cases
-returns-in-Ok-clause-cases g c =
-    let cases = rw (c.in-Ok.ensures.told, c.in-Ok.ensures.failed) at c.run_program.ensures.cases in
-    if_told (g.F.Files.told c.args.files.now)
-    (λ folder both. circuit_lifted (Missed (g.F.Files.failed c.args.files.now) (g.F.Files.failed c.run_program.new.files) c.args.circuit.now) (content_of (file_of folder c.args.circuit.now))
-    (λ p. shape_owed (Missed (g.F.Files.failed c.args.files.now) (g.F.Files.failed c.run_program.new.files) c.args.script.now) p (content_of (file_of folder c.args.script.now))) c.in-Ok.program both.0 _ _ _ _ _ both.1)
-    (if_both (g.F.Files.told c.args.files.now) _ _ c.in-Ok.ensures.content cases)
+pub returns-in-Ok-clause-answered : goal.returns-in-Ok-clause-answered
+returns-in-Ok-clause-answered g c =
+    made_answered ReadsRun StopsRun (IsTraceOf IsFirst) (statuses_of Run) run_reading _ _ c.in-Ok.ensures.read.answers (runnable_of c.in-Ok.plain.form c.in-Ok.plain.script.components) c.in-Ok.ensures.read.read
+    c.write_trace.ensures.cases c.write_trace.ensures.exact (trace_not_three (runnable_of c.in-Ok.plain.form c.in-Ok.plain.script.components))
+    (Circuit ∷ Script ∷ []) (c.args.circuit.now ∷ c.args.script.now ∷ []) _ c.in-Ok.ensures.read.fetched
 
-pub returns-in-Ok-clause-exact : goal.returns-in-Ok-clause-exact
-returns-in-Ok-clause-exact g c =
-    let exact = rw c.in-Ok.ensures.told at c.run_program.ensures.exact in
-    if_told (g.F.Files.told c.args.files.now)
-    (λ folder all. read_as (Missed (g.F.Files.failed c.args.files.now) (g.F.Files.failed c.run_program.new.files) c.args.circuit.now) (content_of (file_of folder c.args.circuit.now))
-    (λ p. shape_owed (Missed (g.F.Files.failed c.args.files.now) (g.F.Files.failed c.run_program.new.files) c.args.script.now) p (content_of (file_of folder c.args.script.now))) c.in-Ok.program (IsWritten (g.S.Sink.told c.args.out.now) (g.S.Sink.told c.run_program.new.out) c.run_program.result.code) all.0 all.1.0 all.1.1)
-    (if_both (g.F.Files.told c.args.files.now) _ _ c.in-Ok.ensures.content (if_both (g.F.Files.told c.args.files.now) _ _ c.in-Ok.ensures.only exact))
+pub returns-in-Ok-clause-status : goal.returns-in-Ok-clause-status
+returns-in-Ok-clause-status g c =
+    made_status_in ReadsRun StopsRun (IsTraceOf IsFirst) (statuses_of Run) run_reading _ _ c.in-Ok.ensures.read.answers (runnable_of c.in-Ok.plain.form c.in-Ok.plain.script.components) c.in-Ok.ensures.read.read
+    c.write_trace.ensures.cases (trace_status (runnable_of c.in-Ok.plain.form c.in-Ok.plain.script.components)) refl refl
 
-pub returns-in-Err-clause-cases : goal.returns-in-Err-clause-cases
-returns-in-Err-clause-cases g c =
-    if_told (g.F.Files.told c.args.files.now)
-    (λ folder read. circuit_refused (Missed (g.F.Files.failed c.args.files.now) (g.F.Files.failed c.read_program.new.files) c.args.circuit.now) (content_of (file_of folder c.args.circuit.now))
-    (λ p. shape_owed (Missed (g.F.Files.failed c.args.files.now) (g.F.Files.failed c.read_program.new.files) c.args.script.now) p (content_of (file_of folder c.args.script.now))) c.in-Err.fault read
-    (missed_from (g.F.Files.failed c.args.files.now) (g.F.Files.failed c.read_program.new.files) c.args.circuit.now c.in-Err.fault c.in-Err.ensures.failed) _ _ _ _ _ c.refuse_circuit.ensures.refused)
-    c.in-Err.ensures.content
+pub returns-in-Err-clause-answered : goal.returns-in-Err-clause-answered
+returns-in-Err-clause-answered g c =
+    refused_answered ReadsRun StopsRun (IsTraceOf IsFirst) (statuses_of Run) run_reading _ _ c.in-Err.ensures.read.answers c.in-Err.stop (stop_read c.in-Err.ensures.read.answers c.in-Err.stop c.in-Err.ensures.read.read) c.refuse.ensures.refused
+    (Circuit ∷ Script ∷ []) (c.args.circuit.now ∷ c.args.script.now ∷ []) _ c.in-Err.ensures.read.fetched
 
-pub returns-in-Err-clause-exact : goal.returns-in-Err-clause-exact
-returns-in-Err-clause-exact g c =
-    if_told (g.F.Files.told c.args.files.now)
-    (λ folder both. refused_as (Missed (g.F.Files.failed c.args.files.now) (g.F.Files.failed c.read_program.new.files) c.args.circuit.now) (content_of (file_of folder c.args.circuit.now))
-    (λ p. shape_owed (Missed (g.F.Files.failed c.args.files.now) (g.F.Files.failed c.read_program.new.files) c.args.script.now) p (content_of (file_of folder c.args.script.now))) c.in-Err.fault _ _ _ _ _ both.0 both.1 c.refuse_circuit.ensures.refused)
-    (if_both (g.F.Files.told c.args.files.now) _ _ c.in-Err.ensures.content c.in-Err.ensures.only)
-
-pub returns-in-Err-clause-missed : goal.returns-in-Err-clause-missed
-returns-in-Err-clause-missed g c =
-    of_run (g.F.Files.failed c.args.files.now) (g.F.Files.failed c.read_program.new.files) _ _ _ _ _ c.args.circuit.now c.args.script.now
-    (circuit_blamed (g.F.Files.failed c.args.files.now) (g.F.Files.failed c.read_program.new.files) c.args.circuit.now c.in-Err.fault c.in-Err.ensures.failed _ _ _ _ _ c.refuse_circuit.ensures.missed c.refuse_circuit.ensures.refused)
-
-pub returns-in-Ok-clause-missed : goal.returns-in-Ok-clause-missed
-returns-in-Ok-clause-missed g c = of_script _ _ _ _ _ _ _ c.args.circuit.now c.args.script.now (rw c.in-Ok.ensures.failed at c.run_program.ensures.missed)
+pub returns-in-Err-clause-status : goal.returns-in-Err-clause-status
+returns-in-Err-clause-status g c =
+    refused_status_in ReadsRun StopsRun (IsTraceOf IsFirst) (statuses_of Run) run_reading _ _ c.in-Err.ensures.read.answers c.in-Err.stop (stop_read c.in-Err.ensures.read.answers c.in-Err.stop c.in-Err.ensures.read.read) c.refuse.ensures.refused refl refl

@@ -1,152 +1,34 @@
-use Rattle.std.proofs.Common.{◌≡◌, ◌∙◌, inl, inr, refl, ℕ, List, [], length, get_or, arith}
-use Rattle.std.proofs.lemmas.List.{get_or_default}
-use Rattle.std.specs.Prelude.{codes}
-use Rattle.reo_io.specs.Fetches.{Folder}
-use Rattle.reo_top.specs.Cases.{IsWritten}
-use Rattle.reo_top.specs.Words.{IsRunWords, IsPrintWords, HasNoForm}
-use Rattle.reo_top.specs.Whole.{command_owed, RunNames, PrintName}
-use Rattle.reo_top.proofs.CaseLemmas.{refused, if_told, told_always}
+use Rattle.std.proofs.Common.{◌≡◌, ◌∙◌, ℕ, List, [], ◌∷◌, get_or, sym, refl, ap}
+use Rattle.std.specs.Prelude.{Some}
+use Rattle.reo_top.specs.declared.command.Command.{Command}
+use Rattle.reo_top.specs.declared.command.Command.TheVariants.{Run, Print}
+use Rattle.reo_top.specs.Commands.{command_of, names_of}
+use Rattle.reo_top.proofs.TopLemmas.{run_names, print_name, answered_as, answered_none}
 use Rattle.reo_top.proofs.HeadlineLemmas.{headline}
-use Rattle.reo_top.proofs.StageLemmas.{run_lifted, print_lifted}
-use Rattle.reo_top.proofs.StatusLemmas.{run_as, print_as, no_form_as}
-use Rattle.reo_top.proofs.BlameLemmas.{run_blamed, print_blamed}
 use Rattle.reo_top.proofs.top.reo.Goals as goal
 
-pub returns-then-are_run_words-clause-cases : goal.returns-then-are_run_words-clause-cases
-returns-then-are_run_words-clause-cases g c =
+pub returns-in-Some-Run-clause-answer : goal.returns-in-Some-Run-clause-answer
+returns-in-Some-Run-clause-answer g c =
     let words : List (List ℕ) = c.args.words.now in
-    let long : length words ≡ 3 = rw c.as_slice-words.ensures at (c.are_run_words.ensures.long c.if-are_run_words.true) in
-    let form : IsRunWords words (get_or words 1 []) (get_or words 2 []) = rw c.as_slice-words.ensures at (c.are_run_words.ensures.yes c.if-are_run_words.true) in
-    let circuit_is : c.as_slice.result.now ≡ get_or words 1 [] = c.as_slice.ensures ∙ (rw c.as_slice-words.ensures at c.index-words-1.is) ∙ get_or_default words 1 _ [] (omega (arith, long)) in
-    let script_is : c.as_slice-then-are_run_words.result.now ≡ get_or words 2 [] = c.as_slice-then-are_run_words.ensures ∙ (rw c.as_slice-words.ensures at c.index-words-2.is) ∙ get_or_default words 2 _ [] (omega (arith, long)) in
-    let names : (folder : Folder) → RunNames words folder (g.F.Files.failed c.args.files.now) (g.F.Files.failed c.run_circuit.new.files) = λ folder. record { circuit = get_or words 1 []; script = get_or words 2 []; form = form } in
-    let cases = rw (circuit_is, script_is) at c.run_circuit.ensures.cases in
-    if_told (g.F.Files.told c.args.files.now)
-    (λ folder h. run_lifted words folder (g.F.Files.failed c.args.files.now) (g.F.Files.failed c.run_circuit.new.files) (names folder) _ _ _ _ _ h)
-    cases
+    let is : command_of words ≡ Some Run = ap command_of (sym c.as_slice-words.ensures) ∙ sym c.command_of.ensures ∙ c.in-Some-Run.is ∙ ap (λ (k : Command). Some k) c.in-Some-Run.field-0-is in
+    let first : get_or words 1 [] ≡ c.word_at.result.now = sym (c.word_at.ensures ∙ ap (λ (ws : List (List ℕ)). get_or ws 1 []) c.as_slice-words.ensures) in
+    let second : get_or words 2 [] ≡ c.word_at-in-Some-Run.result.now = sym (c.word_at-in-Some-Run.ensures ∙ ap (λ (ws : List (List ℕ)). get_or ws 2 []) c.as_slice-words.ensures) in
+    let names : names_of words ≡ c.word_at.result.now ∷ c.word_at-in-Some-Run.result.now ∷ [] = run_names words is ∙ (λ i. first i ∷ second i ∷ []) in
+    answered_as words _ _ _ Run (c.word_at.result.now ∷ c.word_at-in-Some-Run.result.now ∷ []) is names c.run_circuit.ensures.answered
 
-pub returns-then-are_run_words-clause-exact : goal.returns-then-are_run_words-clause-exact
-returns-then-are_run_words-clause-exact g c =
+pub returns-in-Some-Run-clause-headline : goal.returns-in-Some-Run-clause-headline
+returns-in-Some-Run-clause-headline g c = headline c.runs_are_justified.ensures c.is_sound.ensures c.args.words.now _ _ _ (returns-in-Some-Run-clause-answer g c)
+
+pub returns-in-Some-Print-clause-answer : goal.returns-in-Some-Print-clause-answer
+returns-in-Some-Print-clause-answer g c =
     let words : List (List ℕ) = c.args.words.now in
-    let long : length words ≡ 3 = rw c.as_slice-words.ensures at (c.are_run_words.ensures.long c.if-are_run_words.true) in
-    let form : IsRunWords words (get_or words 1 []) (get_or words 2 []) = rw c.as_slice-words.ensures at (c.are_run_words.ensures.yes c.if-are_run_words.true) in
-    let circuit_is : c.as_slice.result.now ≡ get_or words 1 [] = c.as_slice.ensures ∙ (rw c.as_slice-words.ensures at c.index-words-1.is) ∙ get_or_default words 1 _ [] (omega (arith, long)) in
-    let script_is : c.as_slice-then-are_run_words.result.now ≡ get_or words 2 [] = c.as_slice-then-are_run_words.ensures ∙ (rw c.as_slice-words.ensures at c.index-words-2.is) ∙ get_or_default words 2 _ [] (omega (arith, long)) in
-    let names : (folder : Folder) → RunNames words folder (g.F.Files.failed c.args.files.now) (g.F.Files.failed c.run_circuit.new.files) = λ folder. record { circuit = get_or words 1 []; script = get_or words 2 []; form = form } in
-    let exact = rw (circuit_is, script_is) at c.run_circuit.ensures.exact in
-    if_told (g.F.Files.told c.args.files.now)
-    (λ folder h. run_as words folder (g.F.Files.failed c.args.files.now) (g.F.Files.failed c.run_circuit.new.files) (IsWritten (g.S.Sink.told c.args.out.now) (g.S.Sink.told c.run_circuit.new.out) c.run_circuit.result.code) (names folder) h)
-    exact
+    let is : command_of words ≡ Some Print = ap command_of (sym c.as_slice-words.ensures) ∙ sym c.command_of.ensures ∙ c.in-Some-Print.is ∙ ap (λ (k : Command). Some k) c.in-Some-Print.field-0-is in
+    let first : get_or words 1 [] ≡ c.word_at-in-Some-Print.result.now = sym (c.word_at-in-Some-Print.ensures ∙ ap (λ (ws : List (List ℕ)). get_or ws 1 []) c.as_slice-words.ensures) in
+    let names : names_of words ≡ c.word_at-in-Some-Print.result.now ∷ [] = print_name words is ∙ (λ i. first i ∷ []) in
+    answered_as words _ _ _ Print (c.word_at-in-Some-Print.result.now ∷ []) is names c.print_circuit.ensures.answered
 
-pub returns-then-are_print_words-clause-cases : goal.returns-then-are_print_words-clause-cases
-returns-then-are_print_words-clause-cases g c =
+pub returns-in-None-clause-answer : goal.returns-in-None-clause-answer
+returns-in-None-clause-answer g c =
     let words : List (List ℕ) = c.args.words.now in
-    let long : length words ≡ 2 = rw c.as_slice-words.ensures at (c.are_print_words.ensures.long c.if-are_print_words.true) in
-    let form : IsPrintWords words (get_or words 1 []) = rw c.as_slice-words.ensures at (c.are_print_words.ensures.yes c.if-are_print_words.true) in
-    let circuit_is : c.as_slice-then-are_print_words.result.now ≡ get_or words 1 [] = c.as_slice-then-are_print_words.ensures ∙ (rw c.as_slice-words.ensures at c.index-words-1-then-are_print_words.is) ∙ get_or_default words 1 _ [] (omega (arith, long)) in
-    let name : (folder : Folder) → PrintName words folder (g.F.Files.failed c.args.files.now) (g.F.Files.failed c.print_circuit.new.files) = λ folder. record { circuit = get_or words 1 []; form = form } in
-    let cases = rw circuit_is at c.print_circuit.ensures.cases in
-    if_told (g.F.Files.told c.args.files.now)
-    (λ folder h. print_lifted words folder (g.F.Files.failed c.args.files.now) (g.F.Files.failed c.print_circuit.new.files) (name folder) _ _ _ _ _ h)
-    cases
-
-pub returns-then-are_print_words-clause-exact : goal.returns-then-are_print_words-clause-exact
-returns-then-are_print_words-clause-exact g c =
-    let words : List (List ℕ) = c.args.words.now in
-    let long : length words ≡ 2 = rw c.as_slice-words.ensures at (c.are_print_words.ensures.long c.if-are_print_words.true) in
-    let form : IsPrintWords words (get_or words 1 []) = rw c.as_slice-words.ensures at (c.are_print_words.ensures.yes c.if-are_print_words.true) in
-    let circuit_is : c.as_slice-then-are_print_words.result.now ≡ get_or words 1 [] = c.as_slice-then-are_print_words.ensures ∙ (rw c.as_slice-words.ensures at c.index-words-1-then-are_print_words.is) ∙ get_or_default words 1 _ [] (omega (arith, long)) in
-    let name : (folder : Folder) → PrintName words folder (g.F.Files.failed c.args.files.now) (g.F.Files.failed c.print_circuit.new.files) = λ folder. record { circuit = get_or words 1 []; form = form } in
-    let exact = rw circuit_is at c.print_circuit.ensures.exact in
-    if_told (g.F.Files.told c.args.files.now)
-    (λ folder h. print_as words folder (g.F.Files.failed c.args.files.now) (g.F.Files.failed c.print_circuit.new.files) (IsWritten (g.S.Sink.told c.args.out.now) (g.S.Sink.told c.print_circuit.new.out) c.print_circuit.result.code) (name folder) h)
-    exact
-
-pub returns-else-are_print_words-clause-cases : goal.returns-else-are_print_words-clause-cases
-returns-else-are_print_words-clause-cases g c =
-    let words : List (List ℕ) = c.args.words.now in
-    let failed : List (List ℕ) = g.F.Files.failed c.args.files.now in
-    let no_run : (circuit script : List ℕ) → IsRunWords words circuit script → ⊥ = rw c.as_slice-words.ensures at (c.are_run_words.ensures.other c.if-are_run_words.false) in
-    let no_print : (circuit : List ℕ) → IsPrintWords words circuit → ⊥ = rw c.as_slice-words.ensures at (c.are_print_words.ensures.other c.if-are_print_words.false) in
-    let none : HasNoForm words = record { no_run = no_run; no_print = no_print } in
-    told_always (g.F.Files.told c.args.files.now)
-    (λ folder. refused (command_owed words folder failed failed) (codes "words refused\n") 2 _ _ _ _ _
-    (inl (none, (refl, refl))) c.answer.ensures.answers)
-
-pub returns-else-are_print_words-clause-exact : goal.returns-else-are_print_words-clause-exact
-returns-else-are_print_words-clause-exact g c =
-    let words : List (List ℕ) = c.args.words.now in
-    let failed : List (List ℕ) = g.F.Files.failed c.args.files.now in
-    let no_run : (circuit script : List ℕ) → IsRunWords words circuit script → ⊥ = rw c.as_slice-words.ensures at (c.are_run_words.ensures.other c.if-are_run_words.false) in
-    let no_print : (circuit : List ℕ) → IsPrintWords words circuit → ⊥ = rw c.as_slice-words.ensures at (c.are_print_words.ensures.other c.if-are_print_words.false) in
-    let none : HasNoForm words = record { no_run = no_run; no_print = no_print } in
-    told_always (g.F.Files.told c.args.files.now)
-    (λ folder. no_form_as words folder failed failed _ _ _ none _ _ c.answer.ensures.answers)
-
-pub returns-else-are_print_words-clause-status : goal.returns-else-are_print_words-clause-status
-returns-else-are_print_words-clause-status g c =
-    let words : List (List ℕ) = c.args.words.now in
-    let no_run : (circuit script : List ℕ) → IsRunWords words circuit script → ⊥ = rw c.as_slice-words.ensures at (c.are_run_words.ensures.other c.if-are_run_words.false) in
-    let no_print : (circuit : List ℕ) → IsPrintWords words circuit → ⊥ = rw c.as_slice-words.ensures at (c.are_print_words.ensures.other c.if-are_print_words.false) in
-    inr (inr (record { no_run = no_run; no_print = no_print }, c.answer.ensures.one))
-
-pub returns-then-are_run_words-clause-status : goal.returns-then-are_run_words-clause-status
-returns-then-are_run_words-clause-status g c =
-    let words : List (List ℕ) = c.args.words.now in
-    let form : IsRunWords words (get_or words 1 []) (get_or words 2 []) = rw c.as_slice-words.ensures at (c.are_run_words.ensures.yes c.if-are_run_words.true) in
-    inl (get_or words 1 [], get_or words 2 [], form, c.run_circuit.ensures.status)
-
-pub returns-then-are_print_words-clause-status : goal.returns-then-are_print_words-clause-status
-returns-then-are_print_words-clause-status g c =
-    let words : List (List ℕ) = c.args.words.now in
-    let form : IsPrintWords words (get_or words 1 []) = rw c.as_slice-words.ensures at (c.are_print_words.ensures.yes c.if-are_print_words.true) in
-    inr (inl (get_or words 1 [], form, c.print_circuit.ensures.status))
-
-pub returns-then-are_run_words-clause-refused : goal.returns-then-are_run_words-clause-refused
-returns-then-are_run_words-clause-refused g c none =
-    let words : List (List ℕ) = c.args.words.now in
-    let form : IsRunWords words (get_or words 1 []) (get_or words 2 []) = rw c.as_slice-words.ensures at (c.are_run_words.ensures.yes c.if-are_run_words.true) in
-    absurd (none.no_run (get_or words 1 []) (get_or words 2 []) form)
-
-pub returns-then-are_print_words-clause-refused : goal.returns-then-are_print_words-clause-refused
-returns-then-are_print_words-clause-refused g c none =
-    let words : List (List ℕ) = c.args.words.now in
-    let form : IsPrintWords words (get_or words 1 []) = rw c.as_slice-words.ensures at (c.are_print_words.ensures.yes c.if-are_print_words.true) in
-    absurd (none.no_print (get_or words 1 []) form)
-
-pub returns-then-are_run_words-clause-missed : goal.returns-then-are_run_words-clause-missed
-returns-then-are_run_words-clause-missed g c =
-    let words : List (List ℕ) = c.args.words.now in
-    let long : length words ≡ 3 = rw c.as_slice-words.ensures at (c.are_run_words.ensures.long c.if-are_run_words.true) in
-    let form : IsRunWords words (get_or words 1 []) (get_or words 2 []) = rw c.as_slice-words.ensures at (c.are_run_words.ensures.yes c.if-are_run_words.true) in
-    let circuit_is : c.as_slice.result.now ≡ get_or words 1 [] = c.as_slice.ensures ∙ (rw c.as_slice-words.ensures at c.index-words-1.is) ∙ get_or_default words 1 _ [] (omega (arith, long)) in
-    let script_is : c.as_slice-then-are_run_words.result.now ≡ get_or words 2 [] = c.as_slice-then-are_run_words.ensures ∙ (rw c.as_slice-words.ensures at c.index-words-2.is) ∙ get_or_default words 2 _ [] (omega (arith, long)) in
-    let blames = rw (circuit_is, script_is) at c.run_circuit.ensures.missed in
-    run_blamed words _ _ _ _ _ _ _ _ _ form blames
-
-pub returns-then-are_print_words-clause-missed : goal.returns-then-are_print_words-clause-missed
-returns-then-are_print_words-clause-missed g c =
-    let words : List (List ℕ) = c.args.words.now in
-    let long : length words ≡ 2 = rw c.as_slice-words.ensures at (c.are_print_words.ensures.long c.if-are_print_words.true) in
-    let form : IsPrintWords words (get_or words 1 []) = rw c.as_slice-words.ensures at (c.are_print_words.ensures.yes c.if-are_print_words.true) in
-    let circuit_is : c.as_slice-then-are_print_words.result.now ≡ get_or words 1 [] = c.as_slice-then-are_print_words.ensures ∙ (rw c.as_slice-words.ensures at c.index-words-1-then-are_print_words.is) ∙ get_or_default words 1 _ [] (omega (arith, long)) in
-    let blames = rw circuit_is at c.print_circuit.ensures.missed in
-    print_blamed words _ _ _ _ _ _ _ _ form blames
-
-pub returns-then-are_run_words-clause-headline : goal.returns-then-are_run_words-clause-headline
-returns-then-are_run_words-clause-headline g c =
-    if_told (g.F.Files.told c.args.files.now)
-    (λ folder h. headline c.runs_are_justified.ensures c.is_sound.ensures c.args.words.now folder (g.F.Files.failed c.args.files.now) (g.F.Files.failed c.run_circuit.new.files) _ _ _ _ _ h)
-    (returns-then-are_run_words-clause-cases g c)
-
-pub returns-then-are_print_words-clause-headline : goal.returns-then-are_print_words-clause-headline
-returns-then-are_print_words-clause-headline g c =
-    if_told (g.F.Files.told c.args.files.now)
-    (λ folder h. headline c.runs_are_justified.ensures c.is_sound.ensures c.args.words.now folder (g.F.Files.failed c.args.files.now) (g.F.Files.failed c.print_circuit.new.files) _ _ _ _ _ h)
-    (returns-then-are_print_words-clause-cases g c)
-
-pub returns-else-are_print_words-clause-headline : goal.returns-else-are_print_words-clause-headline
-returns-else-are_print_words-clause-headline g c =
-    if_told (g.F.Files.told c.args.files.now)
-    (λ folder h. headline c.runs_are_justified.ensures c.is_sound.ensures c.args.words.now folder (g.F.Files.failed c.args.files.now) (g.F.Files.failed c.args.files.now) _ _ _ _ _ h)
-    (returns-else-are_print_words-clause-cases g c)
+    let is = ap command_of (sym c.as_slice-words.ensures) ∙ sym c.command_of.ensures ∙ c.in-None.is in
+    answered_none words _ _ _ is refl c.answer.ensures.answers

@@ -1,0 +1,72 @@
+-- What was written for what stopped a command, and for what it made.
+use Rattle.std.proofs.Common.{◌≡◌, ◌∙◌, ◌⊎◌, inl, inr, refl, ℕ, Bool, true, false, List, sym, arith}
+use Rattle.std.specs.Prelude.{◌≢◌}
+use Rattle.reo_top.specs.declared.role.Role.{Role}
+use Rattle.reo_top.specs.declared.role.Role.TheVariants.{Circuit, Script}
+use Rattle.reo_top.specs.declared.stop.Stop.{Stop}
+use Rattle.reo_top.specs.declared.stop.Stop.TheVariants.{Missed, TooLong, Refused, NotBuilt, NoMemory}
+use Rattle.reo_top.specs.Cases.{Cases, IsExact, Refuses}
+use Rattle.reo_top.specs.Outputs.{Outputs, IsLine}
+use Rattle.reo_top.specs.Roles.{refused_status}
+use Rattle.reo_top.specs.States.{SinkState, Change}
+use Rattle.reo_top.specs.Stopped.{IsRefusedAs}
+use Rattle.reo_top.specs.Stops.{stop_text, stop_status}
+use Rattle.reo_top.proofs.CaseLemmas.{line_cases, want_cases, want_exact, line_written}
+
+-- The line of the stop is owed.
+module _ (Owed : Outputs) (sink : Change SinkState) (code : ℕ) where
+  pub stop_cases : (stop : Stop) → Owed (stop_text stop) (stop_status stop) → IsRefusedAs stop sink code → Cases Owed sink code
+  stop_cases (Missed role) owed h = line_cases sink code Owed (stop_text (Missed role)) (stop_status (Missed role)) owed h
+  stop_cases (TooLong role) owed h = line_cases sink code Owed (stop_text (TooLong role)) (stop_status (TooLong role)) owed h
+  stop_cases (Refused role r) owed (inl h) = line_cases sink code Owed (stop_text (Refused role r)) (stop_status (Refused role r)) owed h
+  stop_cases (Refused role r) owed (inr h) = want_cases sink code Owed h
+  stop_cases (NotBuilt role) owed h = line_cases sink code Owed (stop_text (NotBuilt role)) (stop_status (NotBuilt role)) owed h
+  stop_cases NoMemory owed h = want_cases sink code Owed h
+
+  -- Nothing else is owed.
+  pub stop_exact : (stop : Stop) → ((bytes : List ℕ) (status : ℕ) → Owed bytes status → IsLine (stop_text stop) (stop_status stop) bytes status) → IsRefusedAs stop sink code → IsExact Owed sink code
+  stop_exact (Missed role) only h = λ bytes status owed. line_written sink code (stop_text (Missed role)) (stop_status (Missed role)) h bytes status (only bytes status owed)
+  stop_exact (TooLong role) only h = λ bytes status owed. line_written sink code (stop_text (TooLong role)) (stop_status (TooLong role)) h bytes status (only bytes status owed)
+  stop_exact (Refused role r) only (inl h) = λ bytes status owed. line_written sink code (stop_text (Refused role r)) (stop_status (Refused role r)) h bytes status (only bytes status owed)
+  stop_exact (Refused role r) only (inr h) = want_exact sink code Owed h
+  stop_exact (NotBuilt role) only h = λ bytes status owed. line_written sink code (stop_text (NotBuilt role)) (stop_status (NotBuilt role)) h bytes status (only bytes status owed)
+  stop_exact NoMemory only h = want_exact sink code Owed h
+
+-- A file cannot be had.
+abbrev pub is_missed : Stop → Bool
+is_missed (Missed role) = true
+is_missed (TooLong role) = false
+is_missed (Refused role r) = false
+is_missed (NotBuilt role) = false
+is_missed NoMemory = false
+
+line_code : (line : List ℕ) (status : ℕ) (sink : Change SinkState) (code : ℕ) → Refuses line status sink code → (code ≡ status) ⊎ (code ≡ 9)
+line_code line status sink code (inl h) = inl h.0
+line_code line status sink code (inr h) = inr h.0
+
+other : (status code : ℕ) → status ≢ 3 → (code ≡ status) ⊎ (code ≡ 9) → code ≢ 3
+other status code not (inl e) three = not (sym e ∙ three)
+other status code not (inr e) three = omega (arith, e, three)
+
+not_three : (role : Role) → refused_status role ≢ 3
+not_three Circuit e = omega (arith, e)
+not_three Script e = omega (arith, e)
+
+true_is_false : false ≡ true → ⊥
+true_is_false e = cc
+
+-- The status says that a file cannot be had, or the sink failed on the line that does, exactly where it stopped the command.
+pub stop_only : (stop : Stop) (sink : Change SinkState) (code : ℕ) → IsRefusedAs stop sink code → code ≡ 3 → is_missed stop ≡ true
+stop_only (Missed role) sink code h three = refl
+stop_only (TooLong role) sink code h three = absurd (other 4 code (λ e. omega (arith, e)) (line_code _ _ sink code h) three)
+stop_only (Refused role r) sink code (inl h) three = absurd (other (refused_status role) code (not_three role) (line_code _ _ sink code h) three)
+stop_only (Refused role r) sink code (inr h) three = absurd (omega (arith, h.0, three))
+stop_only (NotBuilt role) sink code h three = absurd (other 12 code (λ e. omega (arith, e)) (line_code _ _ sink code h) three)
+stop_only NoMemory sink code h three = absurd (omega (arith, h.0, three))
+
+pub stop_told : (stop : Stop) (sink : Change SinkState) (code : ℕ) → IsRefusedAs stop sink code → is_missed stop ≡ true → (code ≡ 3) ⊎ (code ≡ 9)
+stop_told (Missed role) sink code h is = line_code _ _ sink code h
+stop_told (TooLong role) sink code h is = absurd (true_is_false is)
+stop_told (Refused role r) sink code h is = absurd (true_is_false is)
+stop_told (NotBuilt role) sink code h is = absurd (true_is_false is)
+stop_told NoMemory sink code h is = absurd (true_is_false is)

@@ -1,0 +1,138 @@
+-- From the words to the command that they are, and to what it has come to.
+use Rattle.std.proofs.Common.{◌≡◌, ◌∙◌, ◌⊎◌, inl, inr, ℕ, Bool, true, false, cond, List, [], ◌∷◌, ◌++◌, length, get_or, sym, ap, subst, refl, arith}
+use Rattle.std.proofs.lemmas.Bool.Decides.{nat_tests}
+use Rattle.std.specs.Prelude.{Option, Some, None, IfSome, codes, ◌&&◌, ◌==◌}
+use Rattle.reo_io.specs.Fetches.{Folder}
+use Rattle.reo_top.specs.declared.command.Command.{Command}
+use Rattle.reo_top.specs.declared.command.Command.TheVariants.{Run, Print}
+use Rattle.reo_top.specs.Answers.{IsAnswered, Answered, roles_for}
+use Rattle.reo_top.specs.Cases.{Refuses}
+use Rattle.reo_top.specs.Commands.{command_of, names_of, is_form, fits, roles_of, are_names}
+use Rattle.reo_top.specs.Fetched.{missed, AreTold}
+use Rattle.reo_top.specs.Owed.{owed_of, owed_for}
+use Rattle.reo_top.specs.States.{SinkState, FilesState, Change}
+use Rattle.reo_top.specs.Statuses.{IsAmong, statuses_of, statuses_for}
+use Rattle.reo_top.proofs.CaseLemmas.{line_cases, line_written}
+
+middle : (a b c : Bool) → (a && (b && c)) ≡ true → b ≡ true
+middle true true c h = refl
+middle true false c h = h
+middle false b c h = absurd (no h) where
+  no : false ≡ true → ⊥
+  no e = cc
+
+form_length : (word : List ℕ) (count : ℕ) (words : List (List ℕ)) → is_form word count words ≡ true → length (names_of words) ≡ count
+form_length word count [] is = absurd (no is) where
+  no : false ≡ true → ⊥
+  no e = cc
+form_length word count (first ∷ names) is = let same : (length names == count) ≡ true = middle _ (length names == count) (are_names names) is in grind (arith, nat_tests)
+
+two_names : (words : List (List ℕ)) → length (names_of words) ≡ 2 → names_of words ≡ get_or words 1 [] ∷ get_or words 2 [] ∷ []
+two_names [] e = absurd (omega (arith, e))
+two_names (w ∷ []) e = absurd (omega (arith, e))
+two_names (w ∷ a ∷ []) e = absurd (omega (arith, e))
+two_names (w ∷ a ∷ b ∷ []) e = refl
+two_names (w ∷ a ∷ b ∷ c ∷ ws) e = absurd (omega (arith, e))
+
+one_name : (words : List (List ℕ)) → length (names_of words) ≡ 1 → names_of words ≡ get_or words 1 [] ∷ []
+one_name [] e = absurd (omega (arith, e))
+one_name (w ∷ []) e = absurd (omega (arith, e))
+one_name (w ∷ a ∷ []) e = refl
+one_name (w ∷ a ∷ b ∷ ws) e = absurd (omega (arith, e))
+
+-- The command of some words fits them.
+command_is : (a b : Command) (x y : Option Command) → x ≡ Some a → y ≡ Some b → x ≡ y → a ≡ b
+command_is a b x y of_x of_y e = cc
+
+none_is_some : (b : Command) (x y : Option Command) → x ≡ None → y ≡ Some b → x ≡ y → ⊥
+none_is_some b x y of_x of_y e = cc
+
+chosen : (run print : Bool) (command : Command) → cond run (Some Run) (cond print (Some Print) None) ≡ Some command → ((run ≡ true) × (Run ≡ command)) ⊎ ((print ≡ true) × (Print ≡ command))
+chosen true print command is = inl (refl, command_is Run command (Some Run) (Some command) refl refl is)
+chosen false true command is = inr (refl, command_is Print command (Some Print) (Some command) refl refl is)
+chosen false false command is = absurd (none_is_some command None (Some command) refl refl is)
+
+fit_is : (words : List (List ℕ)) (command : Command) → command_of words ≡ Some command → fits words command ≡ true
+fit_is words command is = elim (chosen (fits words Run) (fits words Print) command is) [
+  | inl run ↦ subst (λ (c : Command). fits words c ≡ true) run.1 run.0
+  | inr print ↦ subst (λ (c : Command). fits words c ≡ true) print.1 print.0
+]
+
+pub run_names : (words : List (List ℕ)) → command_of words ≡ Some Run → names_of words ≡ get_or words 1 [] ∷ get_or words 2 [] ∷ []
+run_names words is = two_names words (form_length (codes "run") 2 words (fit_is words Run is))
+
+pub print_name : (words : List (List ℕ)) → command_of words ≡ Some Print → names_of words ≡ get_or words 1 [] ∷ []
+print_name words is = one_name words (form_length (codes "print") 1 words (fit_is words Print is))
+
+no_more : {A : Type 0} (xs : List A) → xs ++ [] ≡ xs
+no_more [] = refl
+no_more (x ∷ xs) = ap (λ ys. x ∷ ys) (no_more xs)
+
+missed_none : (names : List (List ℕ)) → missed names [] ≡ []
+missed_none [] = refl
+missed_none (n ∷ ns) = refl
+
+told_none : (folder : Folder) (names : List (List ℕ)) → AreTold folder [] names []
+told_none folder [] = tt
+told_none folder (n ∷ ns) = tt
+
+told_always : {X : Type 0} (o : Option X) (B : X → Type 0) → ((x : X) → B x) → IfSome o B
+told_always None B f = tt
+told_always (Some x) B f = f x
+
+module _ (words : List (List ℕ)) (files : Change FilesState) (sink : Change SinkState) (code : ℕ) where
+  -- What the command has come to.
+  pub answered_as : (command : Command) (names : List (List ℕ)) → command_of words ≡ Some command → names_of words ≡ names
+      → IsAnswered (owed_of command) (roles_of command) names files sink code → Answered words files sink code
+  answered_as command names is named h =
+      let P : Option Command → Type 0 = λ o. IsAnswered (owed_for o) (roles_for o) (names_of words) files sink code in
+      let here : IsAnswered (owed_of command) (roles_of command) (names_of words) files sink code =
+      subst (λ (ns : List (List ℕ)). IsAnswered (owed_of command) (roles_of command) ns files sink code) (sym named) h in
+      subst P (sym is) here
+
+  pub answered_with : (command : Command) (names : List (List ℕ)) → command_of words ≡ Some command → names_of words ≡ names
+      → Answered words files sink code → IsAnswered (owed_of command) (roles_of command) names files sink code
+  answered_with command names is named h =
+      let P : Option Command → Type 0 = λ o. IsAnswered (owed_for o) (roles_for o) (names_of words) files sink code in
+      subst (λ (ns : List (List ℕ)). IsAnswered (owed_of command) (roles_of command) ns files sink code) named (subst P is h)
+
+  pub status_as : (command : Command) → command_of words ≡ Some command → IsAmong (statuses_of command) code → IsAmong (statuses_for (command_of words)) code
+  status_as command is h = subst (λ (o : Option Command). IsAmong (statuses_for o) code) (sym is) h
+
+  -- Words without form.
+  line_status : Refuses (codes "words refused\n") 2 sink code → (code ≡ 2) ⊎ (code ≡ 9)
+  line_status (inl k) = inl k.0
+  line_status (inr k) = inr k.0
+
+  not_three : (code ≡ 2) ⊎ (code ≡ 9) → code ≡ 3 → ⊥
+  not_three (inl two) three = omega (arith, two, three)
+  not_three (inr nine) three = omega (arith, nine, three)
+
+  none_gone : false ≡ true → ⊥
+  none_gone e = cc
+
+  none_answered : files.new ≡ files.old → Refuses (codes "words refused\n") 2 sink code → IsAnswered (owed_for None) [] (names_of words) files sink code
+  none_answered same h = record {
+    answers = [];
+    fetched = record {
+      few = omega arith;
+      count = ap (λ (f : FilesState). f.fetches) same;
+      failed = ap (λ (f : FilesState). f.failed) same ∙ sym (no_more files.old.failed) ∙ ap (λ (ns : List (List ℕ)). files.old.failed ++ ns) (sym (missed_none (names_of words)));
+      same = ap (λ (f : FilesState). f.told) same;
+      told = told_always files.old.told (λ folder. AreTold folder [] (names_of words) []) (λ folder. told_none folder (names_of words));
+    };
+    cases = line_cases sink code (owed_for None []) (codes "words refused\n") 2 (refl, (refl, refl)) h;
+    exact = λ bytes status owed. line_written sink code (codes "words refused\n") 2 h bytes status owed.1;
+    blames = record { only = λ three. absurd (not_three (line_status h) three); told = λ gone. absurd (none_gone gone) };
+  }
+
+  pub answered_none : command_of words ≡ None → files.new ≡ files.old → Refuses (codes "words refused\n") 2 sink code → Answered words files sink code
+  answered_none is same h =
+      let P : Option Command → Type 0 = λ o. IsAnswered (owed_for o) (roles_for o) (names_of words) files sink code in
+      subst P (sym is) (none_answered same h)
+
+  pub status_none : command_of words ≡ None → Refuses (codes "words refused\n") 2 sink code → IsAmong (statuses_for (command_of words)) code
+  status_none is h = subst (λ (o : Option Command). IsAmong (statuses_for o) code) (sym is) (among h) where
+    among : Refuses (codes "words refused\n") 2 sink code → IsAmong (statuses_for None) code
+    among (inl k) = subst (λ (n : ℕ). IsAmong (statuses_for None) n) (sym k.0) refl
+    among (inr k) = subst (λ (n : ℕ). IsAmong (statuses_for None) n) (sym k.0) refl

@@ -1,0 +1,44 @@
+-- What the top call has come to.
+use Rattle.std.specs.Prelude.{ℕ, ◌≡◌, ◌⊎◌, true, List, [], Option, Some, None}
+use Rattle.reo_top.specs.declared.command.Command.{Command}
+use Rattle.reo_top.specs.declared.role.Role.{Role}
+use Rattle.reo_top.specs.Cases.{Cases, IsExact, IsFair}
+use Rattle.reo_top.specs.Commands.{command_of, roles_of, names_of}
+use Rattle.reo_top.specs.Fetched.{Content, has_gone, AreFetched}
+use Rattle.reo_top.specs.Outputs.{Outputs}
+use Rattle.reo_top.specs.Owed.{owed_for}
+use Rattle.reo_top.specs.States.{SinkState, FilesState, Change}
+use Rattle.reo_top.specs.Statuses.{IsAmong, statuses_for, read_fault, write_fault}
+
+-- A file cannot be had exactly where the status says so, or the sink failed on the line that does.
+pub record Blames (answers : List Content) (code : ℕ) : Type 0 where
+  pub only : code ≡ read_fault → has_gone answers ≡ true
+  pub told : has_gone answers ≡ true → (code ≡ read_fault) ⊎ (code ≡ write_fault)
+
+-- What a command that fetches such files has come to, for some answers of its fetches: those of the files, where they are
+-- told. What was written is what is owed for these answers, and nothing else is.
+pub record IsAnswered (Owed : List Content → Outputs) (roles : List Role) (names : List (List ℕ)) (files : Change FilesState) (sink : Change SinkState) (code : ℕ) : Type 0 where
+  pub answers : List Content
+  pub fetched : AreFetched roles names answers files
+  pub cases : Cases (Owed answers) sink code
+  pub exact : IsExact (Owed answers) sink code
+  pub blames : Blames answers code
+
+-- The files of a command.
+abbrev pub roles_for : Option Command → List Role
+roles_for None = []
+roles_for (Some command) = roles_of command
+
+-- What the top call has come to, by its words.
+abbrev pub Answered : List (List ℕ) → Change FilesState → Change SinkState → ℕ → Type 0
+Answered words files sink code = IsAnswered (owed_for (command_of words)) (roles_for (command_of words)) (names_of words) files sink code
+
+-- The status is one of the command's, and says what the sink did.
+pub record IsHonest (words : List (List ℕ)) (sink : Change SinkState) (code : ℕ) : Type 0 where
+  pub status : IsAmong (statuses_for (command_of words)) code
+  pub fair : IsFair sink code
+
+-- The files tell what they told, and the source is as it was.
+pub record KeepsInputs {R : Type 0} (files : Change FilesState) (before after : R) : Type 0 where
+  pub told : files.new.told ≡ files.old.told
+  pub source : after ≡ before

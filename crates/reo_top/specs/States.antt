@@ -1,0 +1,33 @@
+-- Files and sinks in one state, and what a call did to them.
+use Rattle.std.specs.Prelude.{ℕ, List, Option}
+use Rattle.reo_io.specs.Fetches.{Folder}
+
+-- A sink: the bytes that it has got, where it tells them, and how often it has failed.
+pub record SinkState : Type 0 where
+  pub told : Option (List ℕ)
+  pub faults : ℕ
+
+-- Files: what they are, where they are told, the names whose fetch failed, and the count of fetches.
+pub record FilesState : Type 0 where
+  pub told : Option Folder
+  pub failed : List (List ℕ)
+  pub fetches : ℕ
+
+-- The state before a call, and the one after it.
+pub record Change (X : Type 0) : Type 0 where
+  pub old : X
+  pub new : X
+
+-- A sink before and after a call.
+abbrev pub sink_change : {S : Type 0} → (S → Option (List ℕ)) → (S → ℕ) → S → S → Change SinkState
+sink_change told faults a b = record {
+  old = record { told = told a; faults = faults a };
+  new = record { told = told b; faults = faults b };
+}
+
+-- Files before and after a call.
+abbrev pub files_change : {F : Type 0} → (F → Option Folder) → (F → List (List ℕ)) → (F → ℕ) → F → F → Change FilesState
+files_change told failed fetches a b = record {
+  old = record { told = told a; failed = failed a; fetches = fetches a };
+  new = record { told = told b; failed = failed b; fetches = fetches b };
+}

@@ -1,0 +1,43 @@
+//! What a file is to a command.
+ghost use Rattle.std.specs.Prelude.{◌≡◌};
+ghost use Rattle.reo_top.specs.Roles.{role_text, most_bytes, refused_status};
+
+use crate::status::{CIRCUIT_REFUSED, SCRIPT_REFUSED};
+
+/// What a file is to a command.
+#[derive(Clone, Copy, Debug, PartialEq, Eq)]
+pub(crate) enum Role {
+    Circuit,
+    Script,
+}
+
+impl Role {
+    /// The word for such a file in the lines about it.
+    pub(crate) fn text(self) -> &'static [u8]
+        ensures { result.now ≡ role_text self }
+    {
+        match self {
+            Role::Circuit => b"circuit",
+            Role::Script => b"script",
+        }
+    }
+
+    /// The most bytes of such a file.
+    pub(crate) fn most_bytes(self) -> usize
+        ensures { result ≡ most_bytes self }
+    {
+        match self {
+            Role::Circuit | Role::Script => 1_048_576,
+        }
+    }
+
+    /// The status of such a text that is refused.
+    pub(crate) fn refused_status(self) -> u8
+        ensures { result ≡ refused_status self }
+    {
+        match self {
+            Role::Circuit => CIRCUIT_REFUSED,
+            Role::Script => SCRIPT_REFUSED,
+        }
+    }
+}

@@ -1,0 +1,40 @@
+//! Exit statuses.
+
+/// The exit status of a command.
+#[derive(Clone, Copy, Debug, PartialEq, Eq)]
+pub struct Status {
+    pub code: u8,
+}
+
+/// Each component is at its end, or the text was printed.
+pub(crate) const DONE: u8 = 0;
+
+/// Some component is not at its end, and nothing flowed in the last round.
+pub(crate) const STUCK: u8 = 1;
+
+/// The words have no form.
+pub(crate) const WORDS_REFUSED: u8 = 2;
+
+/// A file cannot be had.
+pub(crate) const READ_FAULT: u8 = 3;
+
+/// A file has more bytes than its limit.
+pub(crate) const TOO_LONG: u8 = 4;
+
+/// The text of a circuit is refused.
+pub(crate) const CIRCUIT_REFUSED: u8 = 5;
+
+/// The text of a script is refused.
+pub(crate) const SCRIPT_REFUSED: u8 = 6;
+
+/// The limit of rounds is reached.
+pub(crate) const LIMIT_REACHED: u8 = 8;
+
+/// The sink failed.
+pub(crate) const WRITE_FAULT: u8 = 9;
+
+/// Out of memory.
+pub(crate) const OUT_OF_MEMORY: u8 = 10;
+
+/// A circuit or a script does not have the form that runs.
+pub(crate) const NOT_BUILT: u8 = 12;

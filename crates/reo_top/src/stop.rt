@@ -1,0 +1,89 @@
+//! What stops a command before its own work, and the line that it then writes.
+ghost use Rattle.std.specs.Prelude.{◌≡◌, IfOk};
+ghost use Rattle.reo_top.specs.Cases.{IsFair};
+ghost use Rattle.reo_top.specs.States.{sink_change};
+ghost use Rattle.reo_top.specs.Statuses.{read_fault, too_long, not_built};
+ghost use Rattle.reo_top.specs.Stopped.{IsRefusedAs};
+ghost use Rattle.reo_top.specs.Stops.{stop_text};
+ghost use Rattle.reo_top.specs.declared.stop.Stop.TheVariants as stops;
+
+use crate::answer::{answer, want};
+use crate::refusal::{Refusal, append_refusal};
+use crate::role::Role;
+use crate::status::{NOT_BUILT, READ_FAULT, Status, TOO_LONG};
+use reo_io::Sink;
+use reo_values::{Bytes, NoMemory};
+use std::alloc::Global;
+
+/// What stops a command before its own work.
+#[derive(Drop)]
+pub(crate) enum Stop {
+    /// A file cannot be had. Its name was noted.
+    Missed(Role),
+    /// A file has more bytes than its limit.
+    TooLong(Role),
+    /// The text of a file is refused.
+    Refused(Role, Refusal),
+    /// A circuit or a script does not have the form that runs.
+    NotBuilt(Role),
+    /// Out of memory.
+    NoMemory,
+}
+
+/// The line of a file that cannot be had.
+fn missed_line(role: Role) -> &'static [u8]
+    ensures { result.now ≡ stop_text (stops.Missed role) }
+{
+    match role {
+        Role::Circuit => b"read fault circuit\n",
+        Role::Script => b"read fault script\n",
+    }
+}
+
+/// The line of a file that is too long.
+fn long_line(role: Role) -> &'static [u8]
+    ensures { result.now ≡ stop_text (stops.TooLong role) }
+{
+    match role {
+        Role::Circuit => b"too long circuit\n",
+        Role::Script => b"too long script\n",
+    }
+}
+
+/// The line of a file whose text does not have the form that runs.
+fn unbuilt_line(role: Role) -> &'static [u8]
+    ensures { result.now ≡ stop_text (stops.NotBuilt role) }
+{
+    match role {
+        Role::Circuit => b"not built circuit\n",
+        Role::Script => b"not built script\n",
+    }
+}
+
+/// The line of a file whose text is refused. `NoMemory` is out of memory.
+fn refused_line(alloc: Global, role: Role, refusal: &Refusal) -> Result<Bytes, NoMemory>
+    ensures { IfOk result (λ line. line ≡ stop_text (stops.Refused role refusal.now)) }
+{
+    let mut line = Bytes::from_slice(alloc, role.text())?;
+    line.append(b" refused: ")?;
+    append_refusal(alloc, &mut line, refusal)?;
+    line.append(b"\n")?;
+    Ok(line)
+}
+
+/// Writes the line of a stop, and answers its status: 9 where the sink does not take it whole.
+pub(crate) fn refuse<S: Sink>(alloc: Global, stop: Stop, out: &mut S) -> Status
+    ensures refused { IsRefusedAs stop (sink_change S.told S.faults out.old out.new) result.code }
+    ensures fair { IsFair (sink_change S.told S.faults out.old out.new) result.code }
+{
+    match stop {
+        Stop::Missed(role) => answer(missed_line(role), READ_FAULT, out),
+        Stop::TooLong(role) => answer(long_line(role), TOO_LONG, out),
+        Stop::NotBuilt(role) => answer(unbuilt_line(role), NOT_BUILT, out),
+        Stop::Refused(role, refusal) => match refused_line(alloc, role, &refusal) {
+            Ok(line) => answer(line.as_slice(), role.refused_status(), out),
+            Err(_) => want(out),
+        },
+        Stop::NoMemory => want(out),
+    }
+}
