@@ -19,7 +19,7 @@ use std::io::ErrorKind;
 use std::process::ExitCode;
 use std::{env, io};
 
-/// Memory was wanting before the command could begin.
+/// Memory ran out before the command could begin.
 const NO_MEMORY: Status = Status { code: 10 };
 
 /// The words behind the first argument, which is the program's name, in their order.
@@ -55,7 +55,7 @@ fn exit_code(status: Status) -> ExitCode
 }
 
 /// What the process ends with: the status of the command with these words on the system's files
-/// and streams, or 10 where memory for the words was wanting.
+/// and streams, or 10 where memory for the words ran out.
 fn ended(rt: &HostRuntime, words: Result<List<Bytes>, NoMemory>) -> ExitCode
     ensures { MatchResult words (λ words. IsAmong (statuses_for (command_of words)) (exit_status result)) (λ _. exit_status result ≡ 10) }
 {

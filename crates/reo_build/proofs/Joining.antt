@@ -132,7 +132,7 @@ sound_parts c plain = record {
   sound = record { joined = all_joined c plain; right = all_right c plain; no_cycle = none_on_cycle c plain };
 }
 
--- Where there is no fault, only want of memory is left to answer.
+-- Where there is no fault, only out of memory is left to answer.
 pub only_memory : (net : Net) → HasNoFault net → (f : NetFault) → IsNetFault net f → f ≡ fault.NoMemory
 only_memory net sound (fault.Ends i) is = absurd (is.loose.not_joined (sound.joined i is.in_range is.loose.end is.loose.is_end))
 only_memory net sound (fault.Way j) is =

@@ -74,7 +74,7 @@ fn channels(alloc: Global, items: &[Item]) -> Result<List<Joined>, FormFault>
 }
 
 /// The parameters and channels of a connector. `NotOfForm` comes exactly where a parameter is
-/// of another type than an `int`, or an item is no `sync`; `NoMemory` is want of memory.
+/// of another type than an `int`, or an item is no `sync`; `NoMemory` is out of memory.
 pub fn parts(alloc: Global, connector: &Connector) -> Result<Plainest, FormFault>
     ensures said { IfOk result (λ c. IsMadeOf connector.now c) }
     ensures refused { IsErrOf result FormFault.NotOfForm → (c : Circuit) → IsMadeOf connector.now c → ⊥ }

@@ -8,7 +8,7 @@ use reo_values::NoMemory;
 pub enum FormFault {
     /// It is not of the form.
     NotOfForm,
-    /// Want of memory.
+    /// Out of memory.
     NoMemory,
 }
 

@@ -30,7 +30,7 @@ fn only_connector(program: &Program) -> Option<&Connector>
 /// # Errors
 ///
 /// `NotOfForm` comes exactly where the program has the shape of no circuit of the form, and
-/// `NoMemory` is want of memory.
+/// `NoMemory` is out of memory.
 pub fn shape(alloc: Global, program: &Program) -> Result<Plainest, FormFault>
     ensures said { IfOk result (λ c. HasShape program.now c) }
     ensures refused { IsErrOf result FormFault.NotOfForm → (c : Circuit) → HasShape program.now c → ⊥ }

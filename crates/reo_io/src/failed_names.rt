@@ -6,7 +6,7 @@ use crate::FetchFault;
 use reo_values::{Bytes, List};
 use std::alloc::Global;
 
-/// Notes that the fetch of a name failed, or answers that memory for the name is wanting.
+/// Notes that the fetch of a name failed, or answers that memory ran out.
 pub(crate) fn note(alloc: Global, failed: &mut List<Bytes>, name: &[u8]) -> FetchFault
     ensures { Notes failed.old failed.new name.now result }
 {

@@ -11,7 +11,7 @@ pub enum FetchFault {
     Failed,
     /// The file is longer than the limit.
     TooLong,
-    /// Memory is wanting.
+    /// Out of memory.
     NoMemory,
 }
 

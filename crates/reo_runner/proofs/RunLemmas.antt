@@ -177,7 +177,7 @@ module _ {P : Type 0} (Suits : Choosing) (r : Rules P) (ports : List Port) (comp
       } in
       subst (λ (e : End2). ByEnd Suits r ports components limit start before now o e) (sym is) cut
 
-  -- Memory was wanting between two lines.
+  -- Memory ran out between two lines.
   pub kept : HasRun Suits r components limit start → all_done components start.places ≡ false
       → (before now : Option (List ℕ)) (turn : ℕ) (a : State P) (t : Tally) (o : Outcome) → SoFar Suits r ports components limit start before now turn a t → tally_of o ≡ t → o.end ≡ ends.NoMemory
       → CameTo Suits r ports components limit start before now o

@@ -118,6 +118,6 @@ module _ {P : Type 0} (Suits : Choosing) (r : Rules P) (ports : List Port) (comp
   ByEnd before now o ends.WriteFault = Cut before now o
   ByEnd before now o ends.NoMemory = Kept before now o
 
-  -- What a run has come to: the whole trace was written, or a front of it before a fault, or whole lines of it before memory was wanting.
+  -- What a run has come to: the whole trace was written, or a front of it before a fault, or whole lines of it before memory ran out.
   abbrev pub CameTo : Option (List ℕ) → Option (List ℕ) → Outcome → Type 0
   CameTo before now o = ByEnd before now o o.end

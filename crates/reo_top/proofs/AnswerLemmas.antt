@@ -5,7 +5,7 @@ use Rattle.reo_top.specs.declared.role.Role.{Role}
 use Rattle.reo_top.specs.declared.stop.Stop.{Stop}
 use Rattle.reo_top.specs.declared.stop.Stop.TheVariants.{Missed, TooLong, Refused, NotBuilt, NoMemory}
 use Rattle.reo_top.specs.Answers.{Blames, IsAnswered}
-use Rattle.reo_top.specs.Cases.{Wrote, Broke, Wanted, Cases, IsExact, IsWritten, Refuses, Wants}
+use Rattle.reo_top.specs.Cases.{Wrote, Broke, RanOut, Cases, IsExact, IsWritten, Refuses, EndsWithNoMemory}
 use Rattle.reo_top.specs.Fetched.{Content, has_gone, AreFetched}
 use Rattle.reo_top.specs.Outputs.{Outputs, IsLine}
 use Rattle.reo_top.specs.Owed.{owed_by}
@@ -14,11 +14,11 @@ use Rattle.reo_top.specs.States.{SinkState, FilesState, Change}
 use Rattle.reo_top.specs.Statuses.{IsAmong}
 use Rattle.reo_top.specs.Stopped.{IsRefusedAs}
 use Rattle.reo_top.specs.Stops.{stop_text, stop_status}
-use Rattle.reo_top.proofs.CaseLemmas.{lifted, want_cases, want_exact}
+use Rattle.reo_top.proofs.CaseLemmas.{lifted, no_memory_cases, no_memory_exact}
 use Rattle.reo_top.proofs.ReadLemmas.{IsOneReading}
 use Rattle.reo_top.proofs.StopLemmas.{is_missed, stop_cases, stop_exact, stop_only, stop_told}
 
--- A stop is a fact of the answers, or memory was wanting.
+-- A stop is a fact of the answers, or memory ran out.
 read_stop : {X : Type 0} (Reads : List Content → X → Type 0) (Stops : List Content → Stop → Type 0) (answers : List Content) (s : Stop) → IsReadAs Reads Stops answers (Err s)
     → Stops answers s ⊎ ((s ≡ NoMemory) × (has_gone answers ≡ false))
 read_stop Reads Stops answers (Missed role) h = inl h
@@ -40,7 +40,7 @@ module _ {X : Type 0} (Reads : List Content → X → Type 0) (Stops : List Cont
     refused_cases : Cases (owed_by Reads Stops Makes answers) sink code
     refused_cases = elim (read_stop Reads Stops answers s read) [
       | inl stops ↦ stop_cases (owed_by Reads Stops Makes answers) sink code s (inl (s, stops, (refl, refl))) h
-      | inr none ↦ want_cases sink code (owed_by Reads Stops Makes answers) (subst (λ (t : Stop). IsRefusedAs t sink code) none.0 h)
+      | inr none ↦ no_memory_cases sink code (owed_by Reads Stops Makes answers) (subst (λ (t : Stop). IsRefusedAs t sink code) none.0 h)
     ]
 
     only : Stops answers s → (bytes : List ℕ) (status : ℕ) → owed_by Reads Stops Makes answers bytes status → IsLine (stop_text s) (stop_status s) bytes status
@@ -50,7 +50,7 @@ module _ {X : Type 0} (Reads : List Content → X → Type 0) (Stops : List Cont
     refused_exact : IsExact (owed_by Reads Stops Makes answers) sink code
     refused_exact = elim (read_stop Reads Stops answers s read) [
       | inl stops ↦ stop_exact (owed_by Reads Stops Makes answers) sink code s (only stops) h
-      | inr none ↦ want_exact sink code (owed_by Reads Stops Makes answers) (subst (λ (t : Stop). IsRefusedAs t sink code) none.0 h)
+      | inr none ↦ no_memory_exact sink code (owed_by Reads Stops Makes answers) (subst (λ (t : Stop). IsRefusedAs t sink code) none.0 h)
     ]
 
     gone_is : has_gone answers ≡ is_missed s
@@ -88,7 +88,7 @@ module _ {X : Type 0} (Reads : List Content → X → Type 0) (Stops : List Cont
     ]
 
     pub refused_answered : (roles : List Role) (names : List (List ℕ)) (files : Change FilesState) → AreFetched roles names answers files
-        → IsAnswered (owed_by Reads Stops Makes) roles names files sink code
+        → IsAnswered false (owed_by Reads Stops Makes) roles names files sink code
     refused_answered roles names files fetched = record { answers = answers; fetched = fetched; cases = refused_cases; exact = refused_exact; blames = refused_blames }
 
   -- What it made of what it read.
@@ -97,14 +97,14 @@ module _ {X : Type 0} (Reads : List Content → X → Type 0) (Stops : List Cont
     code_in P makes nine ten = elim cases [
       | inl wrote ↦ makes wrote.bytes code wrote.owed
       | inr (inl broke) ↦ subst P (sym broke.code_is) nine
-      | inr (inr want) ↦ subst P (sym want.code_is) ten
+      | inr (inr ran_out) ↦ subst P (sym ran_out.code_is) ten
     ]
 
     pub made_status_in : ((bytes : List ℕ) (status : ℕ) → Makes x bytes status → IsAmong statuses status) → IsAmong statuses 9 → IsAmong statuses 10 → IsAmong statuses code
     made_status_in makes nine ten = code_in (IsAmong statuses) makes nine ten
 
     pub made_answered : IsExact (Makes x) sink code → ((bytes : List ℕ) (status : ℕ) → Makes x bytes status → status ≢ 3)
-        → (roles : List Role) (names : List (List ℕ)) (files : Change FilesState) → AreFetched roles names answers files → IsAnswered (owed_by Reads Stops Makes) roles names files sink code
+        → (roles : List Role) (names : List (List ℕ)) (files : Change FilesState) → AreFetched roles names answers files → IsAnswered false (owed_by Reads Stops Makes) roles names files sink code
     made_answered exact not_three roles names files fetched = record {
       answers = answers;
       fetched = fetched;

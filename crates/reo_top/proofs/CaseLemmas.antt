@@ -1,11 +1,11 @@
--- The three cases and exactness, from a line, from memory that was wanting, and from what is owed in part.
+-- The three cases and exactness, from a line, from memory that ran out, and from what is owed in part.
 use Rattle.std.proofs.Common.{◌≡◌, ◌∙◌, ◌⊎◌, inl, inr, refl, ◌++◌, ℕ, List, [], sym, subst}
 use Rattle.std.specs.Prelude.{◌≤◌, Option, codes}
 use Rattle.reo_io.specs.Causes.{Rose}
 use Rattle.reo_io.specs.Sinks.{Appended, TookPart}
 use Rattle.reo_io.proofs.Taken.{Appended-none}
 use Rattle.reo_io.proofs.Counts.{Rose-since}
-use Rattle.reo_top.specs.Cases.{Adds, Breaks, Wrote, Broke, Wanted, AreFirstLines, Cases, IsExact, IsWritten, Refuses, SaysWant, Wants}
+use Rattle.reo_top.specs.Cases.{Adds, Breaks, Wrote, Broke, RanOut, AreFirstLines, Cases, IsExact, IsWritten, Refuses, SaysNoMemory, EndsWithNoMemory}
 use Rattle.reo_top.specs.Outputs.{Outputs, IsLine}
 use Rattle.reo_top.specs.States.{SinkState, Change}
 
@@ -15,12 +15,12 @@ module _ (sink : Change SinkState) (code : ℕ) where
   line_cases Owed line status owed (inl (is, adds)) = inl (record { bytes = line; owed = subst (λ (k : ℕ). Owed line k) (sym is) owed; adds = adds })
   line_cases Owed line status owed (inr (is, breaks)) = inr (inl (record { bytes = line; status = status; owed = owed; breaks = breaks; code_is = is }))
 
-  -- Memory was wanting before the first line.
-  pub want_cases : (Owed : Outputs) → Wants sink code → Cases Owed sink code
-  want_cases Owed wants = inr (inr (record { lines = []; first = inl refl; between = sink.old.told; adds = Appended-none sink.old.told; says = wants.1; code_is = wants.0 }))
+  -- Memory ran out before the first line.
+  pub no_memory_cases : (Owed : Outputs) → EndsWithNoMemory sink code → Cases Owed sink code
+  no_memory_cases Owed says = inr (inr (record { lines = []; first = inl refl; between = sink.old.told; adds = Appended-none sink.old.told; says = says.1; code_is = says.0 }))
 
-  pub want_exact : (Owed : Outputs) → Wants sink code → IsExact Owed sink code
-  want_exact Owed wants = λ bytes status owed. inr (inr wants.0)
+  pub no_memory_exact : (Owed : Outputs) → EndsWithNoMemory sink code → IsExact Owed sink code
+  no_memory_exact Owed says = λ bytes status owed. inr (inr says.0)
 
   -- What is owed is one line.
   pub line_written : (line : List ℕ) (status : ℕ) → Refuses line status sink code → (bytes : List ℕ) (other : ℕ) → IsLine line status bytes other → IsWritten sink code bytes other
@@ -35,15 +35,15 @@ module _ (sink : Change SinkState) (code : ℕ) where
   pub lifted : (A B : Outputs) → ((bytes : List ℕ) (status : ℕ) → A bytes status → B bytes status) → Cases A sink code → Cases B sink code
   lifted A B lift (inl wrote) = inl (record { bytes = wrote.bytes; owed = lift wrote.bytes code wrote.owed; adds = wrote.adds })
   lifted A B lift (inr (inl broke)) = inr (inl (record { bytes = broke.bytes; status = broke.status; owed = lift broke.bytes broke.status broke.owed; breaks = broke.breaks; code_is = broke.code_is }))
-  lifted A B lift (inr (inr want)) = inr (inr (record { lines = want.lines; first = first_lifted A B lift want.lines want.first; between = want.between; adds = want.adds; says = want.says; code_is = want.code_is }))
+  lifted A B lift (inr (inr ran_out)) = inr (inr (record { lines = ran_out.lines; first = first_lifted A B lift ran_out.lines ran_out.first; between = ran_out.between; adds = ran_out.adds; says = ran_out.says; code_is = ran_out.code_is }))
 
--- Memory was wanting after whole lines: what failed since then has failed since the beginning.
-since : (between : Option (List ℕ)) (new : SinkState) (was amid : ℕ) → was ≤ amid → SaysWant (record { old = record { told = between; faults = amid }; new = new })
-    → SaysWant (record { old = record { told = between; faults = was }; new = new })
+-- Memory ran out after whole lines: what failed since then has failed since the beginning.
+since : (between : Option (List ℕ)) (new : SinkState) (was amid : ℕ) → was ≤ amid → SaysNoMemory (record { old = record { told = between; faults = amid }; new = new })
+    → SaysNoMemory (record { old = record { told = between; faults = was }; new = new })
 since between new was amid later (inl all) = inl all
 since between new was amid later (inr (part, rose)) = inr (part, Rose-since was amid new.faults later rose)
 
 pub lines_cases : (Owed : Outputs) (sink : Change SinkState) (mid : SinkState) (code : ℕ) (lines : List ℕ) → sink.old.faults ≤ mid.faults → (lines ≡ []) ⊎ AreFirstLines Owed lines → Appended sink.old.told mid.told lines
-    → Wants (record { old = mid; new = sink.new }) code → Cases Owed sink code
-lines_cases Owed sink mid code lines later first adds wants =
-    inr (inr (record { lines = lines; first = first; between = mid.told; adds = adds; says = since mid.told sink.new sink.old.faults mid.faults later wants.1; code_is = wants.0 }))
+    → EndsWithNoMemory (record { old = mid; new = sink.new }) code → Cases Owed sink code
+lines_cases Owed sink mid code lines later first adds says =
+    inr (inr (record { lines = lines; first = first; between = mid.told; adds = adds; says = since mid.told sink.new sink.old.faults mid.faults later says.1; code_is = says.0 }))

@@ -73,7 +73,7 @@ module _ (names : List (List ℕ)) (files : Change FilesState) where
   pub circuit_formed : (p : Program) (form : Plainest) → IsReadFrom ReadsProgram StopsPrint (Circuit ∷ []) names files (Ok p) → HasShape p form → IsReadFrom ReadsForm StopsForm (Circuit ∷ []) names files (Ok form)
   circuit_formed p form read shape = record { answers = read.answers; fetched = read.fetched; read = formed read.answers p form read.read shape }
 
-  -- Memory was wanting for a program that was read.
+  -- Memory ran out for a program that was read.
   present : (answers : List Content) (p : Program) → ReadsProgram answers p → has_gone answers ≡ false
   present (text bytes ∷ []) p says = refl
   present [] p says = absurd says
@@ -82,8 +82,8 @@ module _ (names : List (List ℕ)) (files : Change FilesState) where
   present (unknown ∷ cs) p says = absurd says
   present (text bytes ∷ c ∷ cs) p says = absurd says
 
-  pub circuit_wanted : (p : Program) → IsReadFrom ReadsProgram StopsPrint (Circuit ∷ []) names files (Ok p) → IsReadFrom ReadsForm StopsForm (Circuit ∷ []) names files (Err NoMemory)
-  circuit_wanted p read = record { answers = read.answers; fetched = read.fetched; read = present read.answers p read.read }
+  pub circuit_ran_out : (p : Program) → IsReadFrom ReadsProgram StopsPrint (Circuit ∷ []) names files (Ok p) → IsReadFrom ReadsForm StopsForm (Circuit ∷ []) names files (Err NoMemory)
+  circuit_ran_out p read = record { answers = read.answers; fetched = read.fetched; read = present read.answers p read.read }
 
   stopped_form : (answers : List Content) (s : Stop) → StopsPrint answers s → StopsForm answers s
   stopped_form (text bytes ∷ []) s h = inl h

@@ -20,7 +20,7 @@ use Rattle.reo_runner.specs.Outcome.{Ran, Cut, Kept, ByEnd}
 use Rattle.reo_runner.specs.Run.{IsRun, start_of}
 use Rattle.reo_runner.specs.Whole.{HasOneRun}
 use Rattle.reo_top.specs.declared.command.Command.TheVariants.{Run}
-use Rattle.reo_top.specs.Cases.{AreFirstLines, Cases, IsExact, IsFair, Wants}
+use Rattle.reo_top.specs.Cases.{AreFirstLines, Cases, IsExact, IsFair, EndsWithNoMemory}
 use Rattle.reo_top.specs.declared.reading.Plain.{Plain}
 use Rattle.reo_top.specs.declared.stop.Stop.{Stop}
 use Rattle.reo_top.specs.declared.stop.Stop.TheVariants.{Missed, TooLong, Refused, NotBuilt, NoMemory}
@@ -79,13 +79,13 @@ module _ (r : Runnable) where
         ends = ends;
       }
 
-  -- Memory was wanting.
+  -- Memory ran out.
   pub kept_cases : (sink : Change SinkState) (mid : SinkState) (code : ℕ) (o : Outcome) → sink.old.faults ≤ mid.faults
       → Kept IsFirst kind_rules r.flat.ports r.components most_rounds (start_of r.flat.wiring r.components) sink.old.told mid.told o
-      → Wants (record { old = mid; new = sink.new }) code → Cases (IsTraceOf IsFirst r) sink code
-  kept_cases sink mid code o later kept wants = elim (rounds_end r.flat.ports kept.lines) [
-    | inl none ↦ lines_cases (IsTraceOf IsFirst r) sink mid code (rounds_text r.flat.ports kept.lines) later (inl none) kept.text wants
-    | inr ends ↦ lines_cases (IsTraceOf IsFirst r) sink mid code (rounds_text r.flat.ports kept.lines) later (inr (first_lines sink.old.told mid.told o kept ends)) kept.text wants
+      → EndsWithNoMemory (record { old = mid; new = sink.new }) code → Cases (IsTraceOf IsFirst r) sink code
+  kept_cases sink mid code o later kept says = elim (rounds_end r.flat.ports kept.lines) [
+    | inl none ↦ lines_cases (IsTraceOf IsFirst r) sink mid code (rounds_text r.flat.ports kept.lines) later (inl none) kept.text says
+    | inr ends ↦ lines_cases (IsTraceOf IsFirst r) sink mid code (rounds_text r.flat.ports kept.lines) later (inr (first_lines sink.old.told mid.told o kept ends)) kept.text says
   ]
 
   -- A run came to its end, whichever.

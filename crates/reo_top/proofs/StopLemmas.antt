@@ -11,7 +11,7 @@ use Rattle.reo_top.specs.Roles.{refused_status}
 use Rattle.reo_top.specs.States.{SinkState, Change}
 use Rattle.reo_top.specs.Stopped.{IsRefusedAs}
 use Rattle.reo_top.specs.Stops.{stop_text, stop_status}
-use Rattle.reo_top.proofs.CaseLemmas.{line_cases, want_cases, want_exact, line_written}
+use Rattle.reo_top.proofs.CaseLemmas.{line_cases, no_memory_cases, no_memory_exact, line_written}
 
 -- The line of the stop is owed.
 module _ (Owed : Outputs) (sink : Change SinkState) (code : ℕ) where
@@ -19,18 +19,18 @@ module _ (Owed : Outputs) (sink : Change SinkState) (code : ℕ) where
   stop_cases (Missed role) owed h = line_cases sink code Owed (stop_text (Missed role)) (stop_status (Missed role)) owed h
   stop_cases (TooLong role) owed h = line_cases sink code Owed (stop_text (TooLong role)) (stop_status (TooLong role)) owed h
   stop_cases (Refused role r) owed (inl h) = line_cases sink code Owed (stop_text (Refused role r)) (stop_status (Refused role r)) owed h
-  stop_cases (Refused role r) owed (inr h) = want_cases sink code Owed h
+  stop_cases (Refused role r) owed (inr h) = no_memory_cases sink code Owed h
   stop_cases (NotBuilt role) owed h = line_cases sink code Owed (stop_text (NotBuilt role)) (stop_status (NotBuilt role)) owed h
-  stop_cases NoMemory owed h = want_cases sink code Owed h
+  stop_cases NoMemory owed h = no_memory_cases sink code Owed h
 
   -- Nothing else is owed.
   pub stop_exact : (stop : Stop) → ((bytes : List ℕ) (status : ℕ) → Owed bytes status → IsLine (stop_text stop) (stop_status stop) bytes status) → IsRefusedAs stop sink code → IsExact Owed sink code
   stop_exact (Missed role) only h = λ bytes status owed. line_written sink code (stop_text (Missed role)) (stop_status (Missed role)) h bytes status (only bytes status owed)
   stop_exact (TooLong role) only h = λ bytes status owed. line_written sink code (stop_text (TooLong role)) (stop_status (TooLong role)) h bytes status (only bytes status owed)
   stop_exact (Refused role r) only (inl h) = λ bytes status owed. line_written sink code (stop_text (Refused role r)) (stop_status (Refused role r)) h bytes status (only bytes status owed)
-  stop_exact (Refused role r) only (inr h) = want_exact sink code Owed h
+  stop_exact (Refused role r) only (inr h) = no_memory_exact sink code Owed h
   stop_exact (NotBuilt role) only h = λ bytes status owed. line_written sink code (stop_text (NotBuilt role)) (stop_status (NotBuilt role)) h bytes status (only bytes status owed)
-  stop_exact NoMemory only h = want_exact sink code Owed h
+  stop_exact NoMemory only h = no_memory_exact sink code Owed h
 
 -- A file cannot be had.
 abbrev pub is_missed : Stop → Bool

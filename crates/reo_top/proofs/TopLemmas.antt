@@ -1,13 +1,13 @@
 -- From the words to the command that they are, and to what it has come to.
 use Rattle.std.proofs.Common.{◌≡◌, ◌∙◌, ◌⊎◌, inl, inr, ℕ, Bool, true, false, cond, List, [], ◌∷◌, ◌++◌, length, get_or, sym, ap, subst, refl, arith}
 use Rattle.std.proofs.lemmas.Bool.Decides.{nat_tests}
-use Rattle.std.specs.Prelude.{Option, Some, None, IfSome, codes, ◌&&◌, ◌==◌}
+use Rattle.std.specs.Prelude.{Option, Some, None, IfSome, find, codes, ◌&&◌, ◌==◌}
 use Rattle.reo_io.specs.Fetches.{Folder}
 use Rattle.reo_top.specs.declared.command.Command.{Command}
 use Rattle.reo_top.specs.declared.command.Command.TheVariants.{Run, Print}
-use Rattle.reo_top.specs.Answers.{IsAnswered, Answered, roles_for}
+use Rattle.reo_top.specs.Answers.{IsAnswered, Answered, roles_for, free_for}
 use Rattle.reo_top.specs.Cases.{Refuses}
-use Rattle.reo_top.specs.Commands.{command_of, names_of, is_form, fits, roles_of, are_names}
+use Rattle.reo_top.specs.Commands.{command_of, commands, names_of, is_form, fits, is_free, roles_of, are_names}
 use Rattle.reo_top.specs.Fetched.{missed, AreTold}
 use Rattle.reo_top.specs.Owed.{owed_of, owed_for}
 use Rattle.reo_top.specs.States.{SinkState, FilesState, Change}
@@ -47,16 +47,18 @@ command_is a b x y of_x of_y e = cc
 none_is_some : (b : Command) (x y : Option Command) → x ≡ None → y ≡ Some b → x ≡ y → ⊥
 none_is_some b x y of_x of_y e = cc
 
-chosen : (run print : Bool) (command : Command) → cond run (Some Run) (cond print (Some Print) None) ≡ Some command → ((run ≡ true) × (Run ≡ command)) ⊎ ((print ≡ true) × (Print ≡ command))
-chosen true print command is = inl (refl, command_is Run command (Some Run) (Some command) refl refl is)
-chosen false true command is = inr (refl, command_is Print command (Some Print) (Some command) refl refl is)
-chosen false false command is = absurd (none_is_some command None (Some command) refl refl is)
+-- The first that passes is this one, or some later one.
+split : (test : Command → Bool) (c command : Command) (later : Option Command) (b : Bool) → test c ≡ b → (later ≡ Some command → test command ≡ true)
+    → cond b (Some c) later ≡ Some command → test command ≡ true
+split test c command later true is rest here = ap test (sym (command_is c command (Some c) (Some command) refl refl here)) ∙ is
+split test c command later false is rest here = rest here
+
+found : (test : Command → Bool) (cs : List Command) (command : Command) → find test cs ≡ Some command → test command ≡ true
+found test [] command is = absurd (none_is_some command None (Some command) refl refl is)
+found test (c ∷ cs) command is = split test c command (find test cs) (test c) refl (λ here. found test cs command here) is
 
 fit_is : (words : List (List ℕ)) (command : Command) → command_of words ≡ Some command → fits words command ≡ true
-fit_is words command is = elim (chosen (fits words Run) (fits words Print) command is) [
-  | inl run ↦ subst (λ (c : Command). fits words c ≡ true) run.1 run.0
-  | inr print ↦ subst (λ (c : Command). fits words c ≡ true) print.1 print.0
-]
+fit_is words command is = found (fits words) commands command is
 
 pub run_names : (words : List (List ℕ)) → command_of words ≡ Some Run → names_of words ≡ get_or words 1 [] ∷ get_or words 2 [] ∷ []
 run_names words is = two_names words (form_length (codes "run") 2 words (fit_is words Run is))
@@ -83,18 +85,18 @@ told_always (Some x) B f = f x
 module _ (words : List (List ℕ)) (files : Change FilesState) (sink : Change SinkState) (code : ℕ) where
   -- What the command has come to.
   pub answered_as : (command : Command) (names : List (List ℕ)) → command_of words ≡ Some command → names_of words ≡ names
-      → IsAnswered (owed_of command) (roles_of command) names files sink code → Answered words files sink code
+      → IsAnswered (is_free command) (owed_of command) (roles_of command) names files sink code → Answered words files sink code
   answered_as command names is named h =
-      let P : Option Command → Type 0 = λ o. IsAnswered (owed_for o) (roles_for o) (names_of words) files sink code in
-      let here : IsAnswered (owed_of command) (roles_of command) (names_of words) files sink code =
-      subst (λ (ns : List (List ℕ)). IsAnswered (owed_of command) (roles_of command) ns files sink code) (sym named) h in
+      let P : Option Command → Type 0 = λ o. IsAnswered (free_for o) (owed_for o) (roles_for o) (names_of words) files sink code in
+      let here : IsAnswered (is_free command) (owed_of command) (roles_of command) (names_of words) files sink code =
+      subst (λ (ns : List (List ℕ)). IsAnswered (is_free command) (owed_of command) (roles_of command) ns files sink code) (sym named) h in
       subst P (sym is) here
 
   pub answered_with : (command : Command) (names : List (List ℕ)) → command_of words ≡ Some command → names_of words ≡ names
-      → Answered words files sink code → IsAnswered (owed_of command) (roles_of command) names files sink code
+      → Answered words files sink code → IsAnswered (is_free command) (owed_of command) (roles_of command) names files sink code
   answered_with command names is named h =
-      let P : Option Command → Type 0 = λ o. IsAnswered (owed_for o) (roles_for o) (names_of words) files sink code in
-      subst (λ (ns : List (List ℕ)). IsAnswered (owed_of command) (roles_of command) ns files sink code) named (subst P is h)
+      let P : Option Command → Type 0 = λ o. IsAnswered (free_for o) (owed_for o) (roles_for o) (names_of words) files sink code in
+      subst (λ (ns : List (List ℕ)). IsAnswered (is_free command) (owed_of command) (roles_of command) ns files sink code) named (subst P is h)
 
   pub status_as : (command : Command) → command_of words ≡ Some command → IsAmong (statuses_of command) code → IsAmong (statuses_for (command_of words)) code
   status_as command is h = subst (λ (o : Option Command). IsAmong (statuses_for o) code) (sym is) h
@@ -111,7 +113,7 @@ module _ (words : List (List ℕ)) (files : Change FilesState) (sink : Change Si
   none_gone : false ≡ true → ⊥
   none_gone e = cc
 
-  none_answered : files.new ≡ files.old → Refuses (codes "words refused\n") 2 sink code → IsAnswered (owed_for None) [] (names_of words) files sink code
+  none_answered : files.new ≡ files.old → Refuses (codes "words refused\n") 2 sink code → IsAnswered false (owed_for None) [] (names_of words) files sink code
   none_answered same h = record {
     answers = [];
     fetched = record {
@@ -128,7 +130,7 @@ module _ (words : List (List ℕ)) (files : Change FilesState) (sink : Change Si
 
   pub answered_none : command_of words ≡ None → files.new ≡ files.old → Refuses (codes "words refused\n") 2 sink code → Answered words files sink code
   answered_none is same h =
-      let P : Option Command → Type 0 = λ o. IsAnswered (owed_for o) (roles_for o) (names_of words) files sink code in
+      let P : Option Command → Type 0 = λ o. IsAnswered (free_for o) (owed_for o) (roles_for o) (names_of words) files sink code in
       subst P (sym is) (none_answered same h)
 
   pub status_none : command_of words ≡ None → Refuses (codes "words refused\n") 2 sink code → IsAmong (statuses_for (command_of words)) code

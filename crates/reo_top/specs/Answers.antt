@@ -1,9 +1,9 @@
 -- What the top call has come to.
-use Rattle.std.specs.Prelude.{ℕ, ◌≡◌, ◌⊎◌, true, List, [], Option, Some, None}
+use Rattle.std.specs.Prelude.{ℕ, ◌≡◌, ◌⊎◌, Bool, true, false, List, [], Option, Some, None}
 use Rattle.reo_top.specs.declared.command.Command.{Command}
 use Rattle.reo_top.specs.declared.role.Role.{Role}
-use Rattle.reo_top.specs.Cases.{Cases, IsExact, IsFair}
-use Rattle.reo_top.specs.Commands.{command_of, roles_of, names_of}
+use Rattle.reo_top.specs.Cases.{Cases, IsExactFor, IsFair}
+use Rattle.reo_top.specs.Commands.{command_of, roles_of, is_free, names_of}
 use Rattle.reo_top.specs.Fetched.{Content, has_gone, AreFetched}
 use Rattle.reo_top.specs.Outputs.{Outputs}
 use Rattle.reo_top.specs.Owed.{owed_for}
@@ -17,11 +17,11 @@ pub record Blames (answers : List Content) (code : ℕ) : Type 0 where
 
 -- What a command that fetches such files has come to, for some answers of its fetches: those of the files, where they are
 -- told. What was written is what is owed for these answers, and nothing else is.
-pub record IsAnswered (Owed : List Content → Outputs) (roles : List Role) (names : List (List ℕ)) (files : Change FilesState) (sink : Change SinkState) (code : ℕ) : Type 0 where
+pub record IsAnswered (free : Bool) (Owed : List Content → Outputs) (roles : List Role) (names : List (List ℕ)) (files : Change FilesState) (sink : Change SinkState) (code : ℕ) : Type 0 where
   pub answers : List Content
   pub fetched : AreFetched roles names answers files
   pub cases : Cases (Owed answers) sink code
-  pub exact : IsExact (Owed answers) sink code
+  pub exact : IsExactFor free (Owed answers) sink code
   pub blames : Blames answers code
 
 -- The files of a command.
@@ -29,9 +29,14 @@ abbrev pub roles_for : Option Command → List Role
 roles_for None = []
 roles_for (Some command) = roles_of command
 
+-- The output of words without form is not free.
+abbrev pub free_for : Option Command → Bool
+free_for None = false
+free_for (Some command) = is_free command
+
 -- What the top call has come to, by its words.
 abbrev pub Answered : List (List ℕ) → Change FilesState → Change SinkState → ℕ → Type 0
-Answered words files sink code = IsAnswered (owed_for (command_of words)) (roles_for (command_of words)) (names_of words) files sink code
+Answered words files sink code = IsAnswered (free_for (command_of words)) (owed_for (command_of words)) (roles_for (command_of words)) (names_of words) files sink code
 
 -- The status is one of the command's, and says what the sink did.
 pub record IsHonest (words : List (List ℕ)) (sink : Change SinkState) (code : ℕ) : Type 0 where

@@ -1,5 +1,5 @@
 -- What a command has written, and its status.
-use Rattle.std.specs.Prelude.{ℕ, ◌≡◌, ◌⊎◌, ◌++◌, ◌≤◌, List, [], Option, codes}
+use Rattle.std.specs.Prelude.{ℕ, ◌≡◌, ◌⊎◌, ◌++◌, ◌≤◌, Bool, true, false, List, [], Option, codes}
 use Rattle.reo_io.specs.Causes.{Rose}
 use Rattle.reo_io.specs.Sinks.{Appended, TookPart}
 use Rattle.reo_top.specs.Outputs.{Outputs}
@@ -36,42 +36,48 @@ pub record AreFirstLines (Owed : Outputs) (lines : List ℕ) : Type 0 where
   pub front : List ℕ
   pub ends : lines ≡ front ++ codes "\n"
 
--- The line that says that memory was wanting came, or a front of it where the sink failed on it.
-abbrev pub SaysWant : Change SinkState → Type 0
-SaysWant sink = Adds sink (codes "no memory\n") ⊎ Breaks sink (codes "no memory\n")
+-- The line that says that memory ran out came, or a front of it where the sink failed on it.
+abbrev pub SaysNoMemory : Change SinkState → Type 0
+SaysNoMemory sink = Adds sink (codes "no memory\n") ⊎ Breaks sink (codes "no memory\n")
 
--- Memory was wanting: no line or the first lines of a whole output came, and then that.
-pub record Wanted (Owed : Outputs) (sink : Change SinkState) (code : ℕ) : Type 0 where
+-- Memory ran out: no line or the first lines of a whole output came, and then that.
+pub record RanOut (Owed : Outputs) (sink : Change SinkState) (code : ℕ) : Type 0 where
   pub lines : List ℕ
   pub first : (lines ≡ []) ⊎ AreFirstLines Owed lines
   pub between : Option (List ℕ)
   pub adds : Appended sink.old.told between lines
-  pub says : SaysWant (record { old = record { told = between; faults = sink.old.faults }; new = sink.new })
+  pub says : SaysNoMemory (record { old = record { told = between; faults = sink.old.faults }; new = sink.new })
   pub code_is : code ≡ out_of_memory
 
--- A whole output was written, the sink failed on one, or memory was wanting.
+-- A whole output was written, the sink failed on one, or memory ran out.
 abbrev pub Cases : Outputs → Change SinkState → ℕ → Type 0
-Cases Owed sink code = Wrote Owed sink code ⊎ (Broke Owed sink code ⊎ Wanted Owed sink code)
+Cases Owed sink code = Wrote Owed sink code ⊎ (Broke Owed sink code ⊎ RanOut Owed sink code)
 
--- The statuses of what is no whole output: a fetch failed, the sink failed, memory was wanting.
+-- The statuses of what is no whole output: a fetch failed, the sink failed, memory ran out.
 abbrev pub IsFailure : ℕ → Type 0
 IsFailure code = (code ≡ read_fault) ⊎ ((code ≡ write_fault) ⊎ (code ≡ out_of_memory))
 
--- These bytes were written, with their status, or else the sink failed or memory was wanting.
+-- These bytes were written, with their status, or else the sink failed or memory ran out.
 abbrev pub IsWritten : Change SinkState → ℕ → Outputs
 IsWritten sink code bytes status = ((code ≡ status) × Adds sink bytes) ⊎ ((code ≡ write_fault) ⊎ (code ≡ out_of_memory))
 
--- There is no other whole output than the one that was written, unless the sink failed or memory was wanting.
+-- There is no other whole output than the one that was written, unless the sink failed or memory ran out.
 abbrev pub IsExact : Outputs → Change SinkState → ℕ → Type 0
 IsExact Owed sink code = (bytes : List ℕ) (status : ℕ) → Owed bytes status → IsWritten sink code bytes status
+
+-- The same, where the output is not free; where it is, the status alone is that of a whole output.
+abbrev pub IsExactFor : Bool → Outputs → Change SinkState → ℕ → Type 0
+IsExactFor true Owed sink code =
+    (bytes : List ℕ) (status : ℕ) → Owed bytes status → (code ≡ status) ⊎ ((code ≡ write_fault) ⊎ (code ≡ out_of_memory))
+IsExactFor false Owed sink code = IsExact Owed sink code
 
 -- A line was written, with its status, or the sink failed on it.
 abbrev pub Refuses : List ℕ → ℕ → Change SinkState → ℕ → Type 0
 Refuses line status sink code = ((code ≡ status) × Adds sink line) ⊎ ((code ≡ write_fault) × Breaks sink line)
 
--- A call that says that memory was wanting.
-abbrev pub Wants : Change SinkState → ℕ → Type 0
-Wants sink code = (code ≡ out_of_memory) × SaysWant sink
+-- A call that says that memory ran out.
+abbrev pub EndsWithNoMemory : Change SinkState → ℕ → Type 0
+EndsWithNoMemory sink code = (code ≡ out_of_memory) × SaysNoMemory sink
 
 -- A fault of the sink is answered only where its count of faults has risen; that count has not fallen, and what the sink had
 -- got before stands first in what it has got.

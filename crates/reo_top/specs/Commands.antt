@@ -21,6 +21,11 @@ abbrev pub roles_of : Command → List Role
 roles_of Run = Circuit ∷ Script ∷ []
 roles_of Print = Circuit ∷ []
 
+-- Whether what a command writes is free by its definition: then only its status is exact.
+abbrev pub is_free : Command → Bool
+is_free Run = false
+is_free Print = false
+
 -- Names, none of them empty.
 abbrev pub are_names : List (List ℕ) → Bool
 are_names names = list_all (λ (name : List ℕ). not (length name == 0)) names

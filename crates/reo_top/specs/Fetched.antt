@@ -7,7 +7,7 @@ use Rattle.reo_top.specs.declared.stop.Stop.TheVariants.{Missed, TooLong, Refuse
 use Rattle.reo_top.specs.Roles.{most_bytes}
 use Rattle.reo_top.specs.States.{FilesState, Change}
 
--- What a fetch answered: that the file cannot be had, that it is too long, its bytes, or that memory was wanting.
+-- What a fetch answered: that the file cannot be had, that it is too long, its bytes, or that memory ran out.
 pub data Content : Type 0 where
   gone : Content
   long : Content
@@ -68,7 +68,7 @@ answer_of (Err (Refused role refusal)) = unknown
 answer_of (Err (NotBuilt role)) = unknown
 answer_of (Err NoMemory) = unknown
 
--- A fetch of the file of a role stops for nothing else than that it cannot be had, is too long, or memory was wanting.
+-- A fetch of the file of a role stops for nothing else than that it cannot be had, is too long, or memory ran out.
 abbrev pub IsFetchStop : Role → Result (List ℕ) Stop → Type 0
 IsFetchStop role (Ok bytes) = Unit {0}
 IsFetchStop role (Err (Missed other)) = other ≡ role

@@ -27,7 +27,7 @@ pub record IsTraced (r : Runnable) (sink : Change SinkState) (code : ℕ) : Type
   pub trace : IsTraceOf IsJustified r bytes code
   pub adds : Adds sink bytes
 
--- For every accepted circuit and script the trace of the run was written, unless a fetch or the sink failed or memory was wanting.
+-- For every accepted circuit and script the trace of the run was written, unless a fetch or the sink failed or memory ran out.
 abbrev pub Headline : List (List ℕ) → Change FilesState → Change SinkState → ℕ → Type 0
 Headline words files sink code =
     IfSome files.old.told (λ folder. (r : Runnable) → Accepted words folder r → (IsFailure code → ⊥) → IsTraced r sink code)

@@ -14,7 +14,7 @@ use Rattle.reo_top.specs.Refusals.{parse_refusal}
 use Rattle.reo_top.specs.States.{FilesState, Change}
 use Rattle.reo_top.specs.Stops.{FileStops}
 
--- The stop is the refusal of the fault, or memory was wanting.
+-- The stop is the refusal of the fault, or memory ran out.
 abbrev pub IsCircuitStop : ParseFault → Stop → Type 0
 IsCircuitStop fault (Missed role) = ⊥
 IsCircuitStop fault (TooLong role) = ⊥

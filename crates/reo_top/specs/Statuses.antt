@@ -40,7 +40,7 @@ limit_reached = 8
 abbrev pub write_fault : ℕ
 write_fault = 9
 
--- Memory was wanting.
+-- Memory ran out.
 abbrev pub out_of_memory : ℕ
 out_of_memory = 10
 

@@ -1,6 +1,6 @@
 //! Answers: a text and a status.
 ghost use Rattle.std.specs.Prelude.{◌≡◌, ◌⊎◌};
-ghost use Rattle.reo_top.specs.Cases.{Refuses, Wants, IsFair};
+ghost use Rattle.reo_top.specs.Cases.{Refuses, EndsWithNoMemory, IsFair};
 ghost use Rattle.reo_top.specs.States.{sink_change};
 
 use crate::status::{OUT_OF_MEMORY, Status, WRITE_FAULT};
@@ -17,9 +17,9 @@ pub(crate) fn answer<S: Sink>(text: &[u8], status: u8, out: &mut S) -> Status
     }
 }
 
-/// Writes that memory was wanting, if the sink takes it.
-pub(crate) fn want<S: Sink>(out: &mut S) -> Status
-    ensures wants { Wants (sink_change S.told S.faults out.old out.new) result.code }
+/// Writes that memory ran out, if the sink takes it.
+pub(crate) fn no_memory<S: Sink>(out: &mut S) -> Status
+    ensures says { EndsWithNoMemory (sink_change S.told S.faults out.old out.new) result.code }
     ensures fair { IsFair (sink_change S.told S.faults out.old out.new) result.code }
 {
     match put_all(b"no memory\n", out) {

@@ -4,11 +4,12 @@ ghost use Rattle.reo_top.specs.declared.command.Command.TheVariants as commands;
 ghost use Rattle.reo_top.specs.declared.role.Role.TheVariants as roles;
 ghost use Rattle.reo_top.specs.Answers.{IsAnswered};
 ghost use Rattle.reo_top.specs.Cases.{Cases, IsExact, IsFair};
+ghost use Rattle.reo_top.specs.Commands.{is_free};
 ghost use Rattle.reo_top.specs.Owed.{PrintsProgram, owed_of};
 ghost use Rattle.reo_top.specs.States.{files_change, sink_change};
 ghost use Rattle.reo_top.specs.Statuses.{IsAmong, statuses_of};
 
-use crate::answer::{answer, want};
+use crate::answer::{answer, no_memory};
 use crate::reading::read_program;
 use crate::status::{DONE, Status};
 use crate::stop::refuse;
@@ -25,7 +26,7 @@ fn write_text<S: Sink>(alloc: Global, program: &Program, out: &mut S) -> Status
 {
     match print(alloc, program) {
         Ok(text) => answer(text.as_slice(), DONE, out),
-        Err(_) => want(out),
+        Err(_) => no_memory(out),
     }
 }
 
@@ -36,7 +37,7 @@ pub(crate) fn print_circuit<F: Files, S: Sink>(
     files: &mut F,
     out: &mut S,
 ) -> Status
-    ensures answered { IsAnswered (owed_of commands.Print) (roles.Circuit ∷ []) (name.now ∷ []) (files_change F.told F.failed F.fetches files.old files.new) (sink_change S.told S.faults out.old out.new) result.code }
+    ensures answered { IsAnswered (is_free commands.Print) (owed_of commands.Print) (roles.Circuit ∷ []) (name.now ∷ []) (files_change F.told F.failed F.fetches files.old files.new) (sink_change S.told S.faults out.old out.new) result.code }
     ensures status { IsAmong (statuses_of commands.Print) result.code }
     ensures fair { IsFair (sink_change S.told S.faults out.old out.new) result.code }
 {

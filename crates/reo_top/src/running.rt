@@ -7,13 +7,14 @@ ghost use Rattle.reo_top.specs.declared.command.Command.TheVariants as commands;
 ghost use Rattle.reo_top.specs.declared.role.Role.TheVariants as roles;
 ghost use Rattle.reo_top.specs.Answers.{IsAnswered};
 ghost use Rattle.reo_top.specs.Cases.{Cases, IsExact, IsFair};
+ghost use Rattle.reo_top.specs.Commands.{is_free};
 ghost use Rattle.reo_top.specs.Owed.{owed_of};
 ghost use Rattle.reo_top.specs.Readings.{runnable_of};
 ghost use Rattle.reo_top.specs.States.{files_change, sink_change};
 ghost use Rattle.reo_top.specs.Statuses.{IsAmong, statuses_of};
 ghost use Rattle.reo_top.specs.Traces.{IsTraceOf};
 
-use crate::answer::want;
+use crate::answer::no_memory;
 use crate::reading::{Plain, read_run};
 use crate::status::{DONE, LIMIT_REACHED, STUCK, Status, WRITE_FAULT};
 use crate::stop::refuse;
@@ -36,7 +37,7 @@ fn write_trace<S: Sink>(alloc: Global, plain: &Plain, out: &mut S) -> Status
 {
     script_fits();
     let Ok(flat) = build(alloc, &plain.form) else {
-        return want(out);
+        return no_memory(out);
     };
     known_order(&flat.circuit);
     one_trace::<Kind>();
@@ -48,7 +49,7 @@ fn write_trace<S: Sink>(alloc: Global, plain: &Plain, out: &mut S) -> Status
             code: LIMIT_REACHED,
         },
         End2::WriteFault => Status { code: WRITE_FAULT },
-        End2::NoMemory => want(out),
+        End2::NoMemory => no_memory(out),
     }
 }
 
@@ -60,7 +61,7 @@ pub(crate) fn run_circuit<F: Files, S: Sink>(
     files: &mut F,
     out: &mut S,
 ) -> Status
-    ensures answered { IsAnswered (owed_of commands.Run) (roles.Circuit ∷ roles.Script ∷ []) (circuit.now ∷ script.now ∷ []) (files_change F.told F.failed F.fetches files.old files.new) (sink_change S.told S.faults out.old out.new) result.code }
+    ensures answered { IsAnswered (is_free commands.Run) (owed_of commands.Run) (roles.Circuit ∷ roles.Script ∷ []) (circuit.now ∷ script.now ∷ []) (files_change F.told F.failed F.fetches files.old files.new) (sink_change S.told S.faults out.old out.new) result.code }
     ensures status { IsAmong (statuses_of commands.Run) result.code }
     ensures fair { IsFair (sink_change S.told S.faults out.old out.new) result.code }
 {

@@ -7,7 +7,7 @@ ghost use Rattle.reo_top.specs.Stopped.{IsRefusedAs};
 ghost use Rattle.reo_top.specs.Stops.{stop_text};
 ghost use Rattle.reo_top.specs.declared.stop.Stop.TheVariants as stops;
 
-use crate::answer::{answer, want};
+use crate::answer::{answer, no_memory};
 use crate::refusal::{Refusal, append_refusal};
 use crate::role::Role;
 use crate::status::{NOT_BUILT, READ_FAULT, Status, TOO_LONG};
@@ -82,8 +82,8 @@ pub(crate) fn refuse<S: Sink>(alloc: Global, stop: Stop, out: &mut S) -> Status
         Stop::NotBuilt(role) => answer(unbuilt_line(role), NOT_BUILT, out),
         Stop::Refused(role, refusal) => match refused_line(alloc, role, &refusal) {
             Ok(line) => answer(line.as_slice(), role.refused_status(), out),
-            Err(_) => want(out),
+            Err(_) => no_memory(out),
         },
-        Stop::NoMemory => want(out),
+        Stop::NoMemory => no_memory(out),
     }
 }

@@ -30,7 +30,7 @@ fn word_at(words: &[Bytes], place: usize) -> &[u8]
 ///
 /// The headline: for every circuit and script that are accepted the bytes written are a trace
 /// whose every round is the first colouring, is idle only where no colouring flows, and jams only
-/// what has no three-colouring. Else a fetch failed, the sink failed or memory was wanting, and
+/// what has no three-colouring. Else a fetch failed, the sink failed or memory ran out, and
 /// the status says so.
 pub fn reo<F: Files, R: Source, S: Sink>(
     alloc: Global,

@@ -8,12 +8,12 @@ use Rattle.reo_trace.specs.declared.line.Ending.TheVariants.{Done, Stuck, Limit}
 use Rattle.reo_top.specs.Readings.{Runnable, runnable_of}
 use Rattle.reo_top.specs.States.{SinkState, sink_change}
 use Rattle.reo_top.specs.Traces.{kind_rules, most_rounds, IsTraceOf}
-use Rattle.reo_top.proofs.CaseLemmas.{want_cases}
+use Rattle.reo_top.proofs.CaseLemmas.{no_memory_cases}
 use Rattle.reo_top.proofs.RunLemmas.{ran_exact, cut_cases, kept_cases, fair_after}
 use Rattle.reo_top.proofs.running.write_trace.Goals as goal
 
 pub returns-in_default-clause-cases : goal.returns-in_default-clause-cases
-returns-in_default-clause-cases g c = want_cases _ _ (IsTraceOf IsFirst (runnable_of c.args.plain.now.form c.args.plain.now.script.components)) c.want.ensures.wants
+returns-in_default-clause-cases g c = no_memory_cases _ _ (IsTraceOf IsFirst (runnable_of c.args.plain.now.form c.args.plain.now.script.components)) c.no_memory.ensures.says
 
 pub run-outcome-requires-clause-script : goal.run-outcome-requires-clause-script
 run-outcome-requires-clause-script g c = rw c.in-Ok.ensures.circuit (c.script_fits.ensures c.args.plain.now.form c.args.plain.now.script.components c.requires.form c.requires.script)
@@ -55,11 +55,11 @@ returns-clause-cases g c =
     let came = rw (c.in-Ok.ensures.circuit, c.in-Ok.ensures.ports) at c.run-outcome.ensures.came in
     let kept = subst (λ (e : End2). ByEnd IsFirst kind_rules r.flat.ports r.components most_rounds (start_of r.flat.wiring r.components) (g.S.Sink.told c.args.out.now) (g.S.Sink.told c.run-outcome.new.out) c.run-outcome.result e) c.in-NoMemory.is came in
     let mid : SinkState = record { told = g.S.Sink.told c.run-outcome.new.out; faults = g.S.Sink.faults c.run-outcome.new.out } in
-    kept_cases r _ mid _ c.run-outcome.result c.run-outcome.ensures.later kept c.want-in-NoMemory.ensures.wants
+    kept_cases r _ mid _ c.run-outcome.result c.run-outcome.ensures.later kept c.no_memory-in-NoMemory.ensures.says
 
 pub returns-clause-fair : goal.returns-clause-fair
 returns-clause-fair g c =
     let r : Runnable = runnable_of c.args.plain.now.form c.args.plain.now.script.components in
     let came = rw (c.in-Ok.ensures.circuit, c.in-Ok.ensures.ports) at c.run-outcome.ensures.came in
     let kept = subst (λ (e : End2). ByEnd IsFirst kind_rules r.flat.ports r.components most_rounds (start_of r.flat.wiring r.components) (g.S.Sink.told c.args.out.now) (g.S.Sink.told c.run-outcome.new.out) c.run-outcome.result e) c.in-NoMemory.is came in
-    fair_after r _ _ _ _ c.run-outcome.result kept c.run-outcome.ensures.later c.want-in-NoMemory.ensures.fair
+    fair_after r _ _ _ _ c.run-outcome.result kept c.run-outcome.ensures.later c.no_memory-in-NoMemory.ensures.fair
