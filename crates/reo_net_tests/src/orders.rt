@@ -1,6 +1,7 @@
+//! Orders of arrows between numbered sides, and the least arrow on a cycle.
 ghost use Rattle.std.specs.Prelude.{◌<◌, ◌↔◌, EachIndex, IsTrue, slice_index};
 
-use crate::{Sorted, order_or_cycle};
+use reo_net_order::{Sorted, order_or_cycle};
 use std::alloc::{AllocError, Global};
 use std::process::Abort;
 use std::test::Fail;
