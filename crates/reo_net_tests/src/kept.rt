@@ -1,7 +1,7 @@
 //! What buffers, shift buffers, variables and quotas keep from round to round.
 use crate::pieces::Piece::{self, Quota, Shift, Store, Variable};
 use crate::pieces::kind;
-use crate::tables::{has_table, is};
+use crate::tables::{has_groups, has_table, is};
 use reo_kinds::Kind;
 use reo_net_base::{Chosen, Mark, Primitive};
 use reo_values::Value;
@@ -11,7 +11,7 @@ use std::test::Fail;
 
 /// A round: the rows of the sides, the item that comes in at the mouth, the table after it, and
 /// what the tail gives from then on.
-type Round = (usize, usize, Option<i64>, &'static str, Option<i64>);
+pub type Round = (usize, usize, Option<i64>, &'static str, Option<i64>);
 
 const EMPTY: &str = "F0/0- R1/1- J2/2- |G0/0- J1/1- |";
 
@@ -145,17 +145,40 @@ fn all_go_on(kind: &mut Kind, rounds: &[Round]) -> bool {
     true
 }
 
-/// Whether a piece goes through rounds as they tell.
-fn keeps(rt: &impl Abort, alloc: Global, piece: Piece, rounds: &[Round]) -> Result<bool, Fail> {
+/// What a case tells of a piece.
+#[derive(Clone, Copy)]
+pub enum Look {
+    /// Its table in the round of this number.
+    Table(u64, &'static str),
+    /// Its groups, and whether it leads.
+    Groups(&'static str),
+    /// Rounds one after the other.
+    Rounds(&'static [Round]),
+}
+
+fn looks_right(kind: &mut Kind, look: Look) -> bool {
+    match look {
+        Look::Table(turn, table) => has_table(kind, turn, table),
+        Look::Groups(groups) => has_groups(kind, groups),
+        Look::Rounds(rounds) => all_go_on(kind, rounds),
+    }
+}
+
+/// Whether all is as a case tells.
+pub fn is_right(rt: &impl Abort, alloc: Global, piece: Piece, look: Look) -> Result<bool, Fail> {
     let mut kind = kind(rt, alloc, piece)?;
-    Ok(all_go_on(&mut kind, rounds))
+    Ok(looks_right(&mut kind, look))
 }
 
 #[test]
 fn what_is_kept_goes_from_round_to_round(rt: HostRuntime) -> Result<(), Fail> {
     let mut case: usize = 0;
     for (piece, rounds) in &CASES {
-        is(&rt, keeps(&rt, rt.alloc(), *piece, *rounds)?, case);
+        is(
+            &rt,
+            is_right(&rt, rt.alloc(), *piece, Look::Rounds(*rounds))?,
+            case,
+        );
         case = case.wrapping_add(1);
     }
     Ok(())

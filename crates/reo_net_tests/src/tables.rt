@@ -1,12 +1,11 @@
 //! The tables of the kinds, row by row and state by state.
+use crate::kept::{Look, is_right};
 use crate::pieces::Piece::{
     self, Above, AsyncDrain, Lossy, Merger, Offering, Quota, Replicator, Shift, Store, Sync,
     SyncDrain, Taker, TwiceAndOne, Variable, Writer,
 };
-use crate::pieces::kind;
 use reo_kinds::Kind;
 use reo_net_base::{Mark, Primitive};
-use std::alloc::Global;
 use std::process::Abort;
 use std::test::Fail;
 
@@ -199,7 +198,7 @@ fn write_group(wanted: &mut Wanted, kind: &Kind, group: usize) {
 }
 
 /// Whether these are the groups of side 0 of a kind, and whether it leads.
-fn has_groups(kind: &Kind, groups: &str) -> bool {
+pub fn has_groups(kind: &Kind, groups: &str) -> bool {
     let mut wanted = Wanted {
         left: groups.as_bytes(),
         right: true,
@@ -213,24 +212,6 @@ fn has_groups(kind: &Kind, groups: &str) -> bool {
     wanted.right && wanted.left.is_empty()
 }
 
-/// Whether a piece has this table.
-fn is_table(
-    rt: &impl Abort,
-    alloc: Global,
-    piece: Piece,
-    turn: u64,
-    table: &str,
-) -> Result<bool, Fail> {
-    let kind = kind(rt, alloc, piece)?;
-    Ok(has_table(&kind, turn, table))
-}
-
-/// Whether a piece has these groups.
-fn are_groups(rt: &impl Abort, alloc: Global, piece: Piece, groups: &str) -> Result<bool, Fail> {
-    let kind = kind(rt, alloc, piece)?;
-    Ok(has_groups(&kind, groups))
-}
-
 /// Asserts that a case is right.
 pub fn is(rt: &impl Abort, answer: bool, what: usize) {
     assert!(rt; answer, "case {what}");
@@ -240,7 +221,11 @@ pub fn is(rt: &impl Abort, answer: bool, what: usize) {
 fn each_kind_has_its_table_in_each_state(rt: HostRuntime) -> Result<(), Fail> {
     let mut case: usize = 0;
     for (piece, turn, table) in &TABLES {
-        is(&rt, is_table(&rt, rt.alloc(), *piece, *turn, *table)?, case);
+        is(
+            &rt,
+            is_right(&rt, rt.alloc(), *piece, Look::Table(*turn, *table))?,
+            case,
+        );
         case = case.wrapping_add(1);
     }
     Ok(())
@@ -250,7 +235,11 @@ fn each_kind_has_its_table_in_each_state(rt: HostRuntime) -> Result<(), Fail> {
 fn rows_stand_in_groups_and_mergers_lead(rt: HostRuntime) -> Result<(), Fail> {
     let mut case: usize = 0;
     for (piece, groups) in &GROUPS {
-        is(&rt, are_groups(&rt, rt.alloc(), *piece, *groups)?, case);
+        is(
+            &rt,
+            is_right(&rt, rt.alloc(), *piece, Look::Groups(*groups))?,
+            case,
+        );
         case = case.wrapping_add(1);
     }
     Ok(())
