@@ -1,15 +1,15 @@
 -- From what was read and written to what the command has come to.
 use Rattle.std.proofs.Common.{◌≡◌, ◌∙◌, ◌⊎◌, inl, inr, ℕ, Bool, true, false, List, sym, subst, ap, refl, arith}
-use Rattle.std.specs.Prelude.{◌≢◌, Result, Ok, Err}
+use Rattle.std.specs.Prelude.{◌≢◌, Err}
 use Rattle.reo_top.specs.declared.role.Role.{Role}
 use Rattle.reo_top.specs.declared.stop.Stop.{Stop}
 use Rattle.reo_top.specs.declared.stop.Stop.TheVariants.{Missed, TooLong, Refused, NotBuilt, NoMemory}
 use Rattle.reo_top.specs.Answers.{Blames, IsAnswered}
-use Rattle.reo_top.specs.Cases.{Wrote, Broke, RanOut, Cases, IsExact, IsWritten, Refuses, EndsWithNoMemory}
+use Rattle.reo_top.specs.Cases.{Cases, IsExact}
 use Rattle.reo_top.specs.Fetched.{Content, has_gone, AreFetched}
 use Rattle.reo_top.specs.Outputs.{Outputs, IsLine}
 use Rattle.reo_top.specs.Owed.{owed_by}
-use Rattle.reo_top.specs.Readings.{IsReadAs, IsReadFrom}
+use Rattle.reo_top.specs.Readings.{IsReadAs}
 use Rattle.reo_top.specs.States.{SinkState, FilesState, Change}
 use Rattle.reo_top.specs.Statuses.{IsAmong}
 use Rattle.reo_top.specs.Stopped.{IsRefusedAs}

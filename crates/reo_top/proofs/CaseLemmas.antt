@@ -1,11 +1,10 @@
 -- The three cases and exactness, from a line, from memory that ran out, and from what is owed in part.
 use Rattle.std.proofs.Common.{◌≡◌, ◌∙◌, ◌⊎◌, inl, inr, refl, ◌++◌, ℕ, List, [], sym, subst}
-use Rattle.std.specs.Prelude.{◌≤◌, Option, codes}
-use Rattle.reo_io.specs.Causes.{Rose}
-use Rattle.reo_io.specs.Sinks.{Appended, TookPart}
+use Rattle.std.specs.Prelude.{◌≤◌, Option}
+use Rattle.reo_io.specs.Sinks.{Appended}
 use Rattle.reo_io.proofs.Taken.{Appended-none}
 use Rattle.reo_io.proofs.Counts.{Rose-since}
-use Rattle.reo_top.specs.Cases.{Adds, Breaks, Wrote, Broke, RanOut, AreFirstLines, Cases, IsExact, IsWritten, Refuses, SaysNoMemory, EndsWithNoMemory}
+use Rattle.reo_top.specs.Cases.{Adds, AreFirstLines, Cases, IsExact, IsWritten, Refuses, SaysNoMemory, EndsWithNoMemory}
 use Rattle.reo_top.specs.Outputs.{Outputs, IsLine}
 use Rattle.reo_top.specs.States.{SinkState, Change}
 

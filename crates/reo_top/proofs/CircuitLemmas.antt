@@ -6,12 +6,10 @@ use Rattle.reo_net_base.specs.declared.port.Port.{Port}
 use Rattle.reo_script.specs.declared.script.Component.{Component}
 use Rattle.reo_trees.specs.declared.programs.Program.{Program}
 use Rattle.reo_trees.specs.Says.{SaysProgram}
-use Rattle.reo_lexer.specs.declared.token.LexFault.TheVariants as lexing
 use Rattle.reo_parser.specs.declared.fault.ParseFault.{ParseFault}
 use Rattle.reo_parser.specs.declared.fault.ParseFault.TheVariants as faults
-use Rattle.reo_parser.specs.Parsed.{Answers, IsParsed, IsThis}
+use Rattle.reo_parser.specs.Parsed.{Answers}
 use Rattle.reo_parser.proofs.Only.{only}
-use Rattle.reo_forms.specs.declared.plainest.Plainest.{Plainest}
 use Rattle.reo_forms.specs.declared.plainest.Parameter.{Parameter}
 use Rattle.reo_forms.specs.Shape.{HasShape}
 use Rattle.reo_forms.specs.ScriptForm.{SaysScript}

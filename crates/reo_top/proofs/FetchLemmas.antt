@@ -1,6 +1,6 @@
 -- Files that are fetched one after another, and what is read in them.
-use Rattle.std.proofs.Common.{◌≡◌, ◌∙◌, ◌⊎◌, inl, inr, ℕ, ◌≤◌, true, false, List, [], ◌∷◌, ◌++◌, length, sym, subst, ap, refl, arith, append_assoc}
-use Rattle.std.specs.Prelude.{Option, Some, None, IfSome, Result, Ok, Err, map}
+use Rattle.std.proofs.Common.{◌≡◌, ◌∙◌, inl, inr, ℕ, ◌≤◌, false, List, [], ◌∷◌, ◌++◌, length, sym, subst, ap, refl, arith}
+use Rattle.std.specs.Prelude.{Option, Some, None, IfSome, Ok, Err}
 use Rattle.reo_io.specs.Fetches.{Folder, fetches_after}
 use Rattle.reo_script.specs.declared.script.Component.{Component}
 use Rattle.reo_script.specs.declared.script.Script.{Script as Said}
@@ -12,14 +12,13 @@ use Rattle.reo_forms.specs.declared.plainest.Plainest.{Plainest}
 use Rattle.reo_forms.specs.declared.plainest.Parameter.{Parameter}
 use Rattle.reo_forms.specs.Shape.{HasShape}
 use Rattle.reo_forms.specs.ScriptForm.{SaysScript}
-use Rattle.reo_build.specs.Flat.{ports_of}
 use Rattle.reo_top.specs.declared.refusal.Refusal.{Refusal}
 use Rattle.reo_top.specs.declared.role.Role.{Role}
 use Rattle.reo_top.specs.declared.role.Role.TheVariants.{Circuit, Script}
 use Rattle.reo_top.specs.declared.stop.Stop.{Stop}
 use Rattle.reo_top.specs.declared.stop.Stop.TheVariants.{Missed, TooLong, Refused, NotBuilt, NoMemory}
 use Rattle.reo_top.specs.Fetched.{Content, gone, long, text, unknown, has_gone, missed, AreTold, AreFetched}
-use Rattle.reo_top.specs.Readings.{FlatCircuit, Runnable, IsCircuitText, IsScriptText, ReadsProgram, StopsPrint, ReadsForm, StopsForm, ReadsRun, StopsRun, IsReadAs, IsReadFrom, flat_of, runnable_of}
+use Rattle.reo_top.specs.Readings.{IsCircuitText, ReadsProgram, StopsPrint, ReadsForm, StopsForm, ReadsRun, StopsRun, IsReadAs, IsReadFrom, flat_of, runnable_of}
 use Rattle.reo_top.specs.ReadSteps.{IsCircuitStop, ReadsScript, StopsScript}
 use Rattle.reo_top.specs.Refusals.{parse_refusal}
 use Rattle.reo_top.specs.States.{FilesState, Change}

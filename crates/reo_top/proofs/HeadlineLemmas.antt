@@ -1,5 +1,5 @@
 -- For an accepted circuit and script the trace of the run was written.
-use Rattle.std.proofs.Common.{◌≡◌, ◌∙◌, ◌⊎◌, inl, inr, ℕ, true, false, List, [], ◌∷◌, sym, subst, ap, refl}
+use Rattle.std.proofs.Common.{◌≡◌, ◌∙◌, inl, inr, ℕ, List, [], ◌∷◌, sym, subst, ap, refl}
 use Rattle.std.specs.Prelude.{Option, Some, None, IfSome}
 use Rattle.reo_net_base.specs.First.{IsFirst}
 use Rattle.reo_net_base.specs.Net.{Wiring, net_of}
@@ -10,10 +10,9 @@ use Rattle.reo_io.specs.Fetches.{Folder, file_of}
 use Rattle.reo_kinds.specs.declared.kind.Kind.{Kind}
 use Rattle.reo_kinds.specs.Kinds.{behaviour_of}
 use Rattle.reo_kinds.specs.KindLaws.{kind_lawful}
-use Rattle.reo_forms.specs.declared.plainest.Plainest.{Plainest}
 use Rattle.reo_build.specs.Flat.{primitives_of, circuit_of}
 use Rattle.reo_build.specs.Sound.{IsSoundForm, net_for}
-use Rattle.reo_runner.specs.Justified.{IsJustified, RunsAreJustified}
+use Rattle.reo_runner.specs.Justified.{RunsAreJustified}
 use Rattle.reo_runner.specs.Run.{start_of}
 use Rattle.reo_top.specs.declared.command.Command.TheVariants.{Run}
 use Rattle.reo_top.specs.declared.role.Role.TheVariants.{Circuit, Script}
@@ -25,11 +24,11 @@ use Rattle.reo_top.specs.Commands.{is_free, roles_of}
 use Rattle.reo_top.specs.Fetched.{Content, gone, long, text, unknown, content_of, AreTold}
 use Rattle.reo_top.specs.Headline.{Accepted, IsTraced, Headline}
 use Rattle.reo_top.specs.Owed.{owed_of}
-use Rattle.reo_top.specs.Readings.{FlatCircuit, Runnable, IsCircuitText, IsScriptText, CircuitStops, ReadsRun, StopsRun}
+use Rattle.reo_top.specs.Readings.{FlatCircuit, Runnable, IsCircuitText, CircuitStops, ReadsRun, StopsRun}
 use Rattle.reo_top.specs.States.{SinkState, FilesState, Change}
 use Rattle.reo_top.specs.Stops.{stop_status}
 use Rattle.reo_top.specs.Traces.{kind_rules, most_rounds, IsTraceOf}
-use Rattle.reo_top.proofs.CircuitLemmas.{not_refused, one_circuit}
+use Rattle.reo_top.proofs.CircuitLemmas.{not_refused}
 use Rattle.reo_top.proofs.ReadLemmas.{run_reading}
 use Rattle.reo_top.proofs.TopLemmas.{answered_with}
 

@@ -1,5 +1,5 @@
 -- The statuses of a text that is printed.
-use Rattle.std.proofs.Common.{◌≡◌, ◌∙◌, ℕ, List, refl, subst, sym, arith}
+use Rattle.std.proofs.Common.{ℕ, List, refl, subst, sym, arith}
 use Rattle.std.specs.Prelude.{◌≢◌}
 use Rattle.reo_trees.specs.declared.programs.Program.{Program}
 use Rattle.reo_top.specs.declared.command.Command.TheVariants.{Print}

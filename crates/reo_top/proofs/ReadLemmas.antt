@@ -1,19 +1,14 @@
 -- What a command reads, and what stops it, is one thing.
-use Rattle.std.proofs.Common.{◌≡◌, ◌∙◌, ◌⊎◌, inl, inr, ℕ, true, false, Bool, List, [], ◌∷◌, sym, subst, ap, refl}
-use Rattle.std.specs.Prelude.{Option, Some}
-use Rattle.reo_script.specs.declared.script.Component.{Component}
+use Rattle.std.proofs.Common.{◌≡◌, ◌∙◌, inl, inr, ℕ, false, List, [], ◌∷◌, sym, subst, ap, refl}
 use Rattle.reo_trees.specs.declared.programs.Program.{Program}
-use Rattle.reo_trees.specs.Says.{SaysProgram}
 use Rattle.reo_top.specs.declared.command.Command.TheVariants.{Run, Print}
-use Rattle.reo_top.specs.declared.refusal.Refusal.{Refusal}
-use Rattle.reo_top.specs.declared.role.Role.{Role}
 use Rattle.reo_top.specs.declared.role.Role.TheVariants.{Circuit, Script}
 use Rattle.reo_top.specs.declared.stop.Stop.{Stop}
-use Rattle.reo_top.specs.declared.stop.Stop.TheVariants.{Missed, TooLong, Refused, NotBuilt, NoMemory}
+use Rattle.reo_top.specs.declared.stop.Stop.TheVariants.{Missed, TooLong, Refused, NotBuilt}
 use Rattle.reo_top.specs.Fetched.{Content, gone, long, text, unknown, has_gone}
-use Rattle.reo_top.specs.Readings.{FlatCircuit, Runnable, IsCircuitText, IsScriptText, ProgramStops, CircuitStops, ScriptStops, ReadsProgram, StopsPrint, ReadsRun, StopsRun}
+use Rattle.reo_top.specs.Readings.{FlatCircuit, Runnable, IsScriptText, ProgramStops, CircuitStops, ReadsProgram, StopsPrint, ReadsRun, StopsRun}
 use Rattle.reo_top.specs.Statuses.{IsAmong, statuses_of}
-use Rattle.reo_top.specs.Stops.{FileStops, stop_status}
+use Rattle.reo_top.specs.Stops.{stop_status}
 use Rattle.reo_top.proofs.CircuitLemmas.{one_program, not_refused, one_refusal, one_circuit, one_script}
 use Rattle.reo_top.proofs.StopLemmas.{is_missed}
 

@@ -1,10 +1,10 @@
 -- What a run has written, as what is owed.
-use Rattle.std.proofs.Common.{◌≡◌, ◌∙◌, ◌⊎◌, inl, inr, refl, ℕ, List, [], ◌++◌, sym, subst, ap, append_assoc, arith, take}
+use Rattle.std.proofs.Common.{◌≡◌, ◌∙◌, inl, inr, refl, ℕ, List, ◌++◌, sym, subst, ap, append_assoc, arith, take}
 use Rattle.std.proofs.lemmas.Grind.{flat_map-append}
-use Rattle.std.specs.Prelude.{◌≢◌, ◌≤◌, Option, Err, codes}
+use Rattle.std.specs.Prelude.{◌≢◌, ◌≤◌, Option, Err}
 use Rattle.reo_net_base.specs.First.{IsFirst}
 use Rattle.reo_io.specs.Causes.{Rose}
-use Rattle.reo_io.specs.Sinks.{Appended, TookPart}
+use Rattle.reo_io.specs.Sinks.{Appended}
 use Rattle.reo_io.proofs.Counts.{Rose-since}
 use Rattle.reo_io.proofs.Taken.{Appended-append}
 use Rattle.reo_trace.specs.declared.line.RoundLine.{RoundLine}

@@ -1,12 +1,12 @@
 -- The headline: what was written for a circuit and a script that are accepted.
-use Rattle.std.specs.Prelude.{ℕ, ◌≡◌, List, [], ◌∷◌, Option, Some, IfSome}
+use Rattle.std.specs.Prelude.{ℕ, ◌≡◌, List, [], ◌∷◌, Some, IfSome}
 use Rattle.reo_io.specs.Fetches.{Folder, file_of}
 use Rattle.reo_runner.specs.Justified.{IsJustified}
 use Rattle.reo_top.specs.declared.command.Command.TheVariants.{Run}
 use Rattle.reo_top.specs.declared.role.Role.TheVariants.{Circuit, Script}
 use Rattle.reo_top.specs.Cases.{Adds, IsFailure}
 use Rattle.reo_top.specs.Commands.{command_of, names_of}
-use Rattle.reo_top.specs.Fetched.{text, content_of}
+use Rattle.reo_top.specs.Fetched.{content_of}
 use Rattle.reo_top.specs.Readings.{Runnable, ReadsRun}
 use Rattle.reo_top.specs.States.{SinkState, FilesState, Change}
 use Rattle.reo_top.specs.Traces.{IsTraceOf}

@@ -1,5 +1,5 @@
 -- Steps of reading a circuit and a script.
-use Rattle.std.specs.Prelude.{ℕ, ◌≡◌, false, List, [], ◌∷◌, Result, Ok, Err, Some}
+use Rattle.std.specs.Prelude.{ℕ, ◌≡◌, List, [], ◌∷◌, Result, Some}
 use Rattle.reo_parser.specs.declared.fault.ParseFault.{ParseFault}
 use Rattle.reo_forms.specs.declared.plainest.Plainest.{Plainest}
 use Rattle.reo_forms.specs.ScriptForm.{SaysScript}
@@ -8,7 +8,7 @@ use Rattle.reo_script.specs.declared.script.Script.{Script}
 use Rattle.reo_top.specs.declared.role.Role.TheVariants as roles
 use Rattle.reo_top.specs.declared.stop.Stop.{Stop}
 use Rattle.reo_top.specs.declared.stop.Stop.TheVariants.{Missed, TooLong, Refused, NotBuilt, NoMemory}
-use Rattle.reo_top.specs.Fetched.{Content, text, AreFetched}
+use Rattle.reo_top.specs.Fetched.{Content, text}
 use Rattle.reo_top.specs.Readings.{IsReadFrom, ScriptStops}
 use Rattle.reo_top.specs.Refusals.{parse_refusal}
 use Rattle.reo_top.specs.States.{FilesState, Change}

@@ -1,5 +1,5 @@
 -- The statuses by their names, and those that each command may have.
-use Rattle.std.specs.Prelude.{ℕ, ◌≡◌, ◌==◌, Bool, List, [], ◌∷◌, Option, Some, None, IsTrue}
+use Rattle.std.specs.Prelude.{ℕ, ◌==◌, List, [], ◌∷◌, Option, Some, None, IsTrue}
 use Rattle.std.specs.List.{list_any}
 use Rattle.reo_top.specs.declared.command.Command.{Command}
 use Rattle.reo_top.specs.declared.command.Command.TheVariants.{Run, Print}

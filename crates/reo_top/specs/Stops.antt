@@ -1,5 +1,5 @@
 -- What stops a command before its own work, and the line that it then writes.
-use Rattle.std.specs.Prelude.{ℕ, ◌≡◌, ◌++◌, List, [], codes}
+use Rattle.std.specs.Prelude.{ℕ, ◌≡◌, ◌++◌, List, codes}
 use Rattle.reo_top.specs.declared.role.Role.{Role}
 use Rattle.reo_top.specs.declared.stop.Stop.{Stop}
 use Rattle.reo_top.specs.declared.stop.Stop.TheVariants.{Missed, TooLong, Refused, NotBuilt, NoMemory}

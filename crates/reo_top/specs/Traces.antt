@@ -1,6 +1,5 @@
 -- The trace of the run of a script on a circuit.
 use Rattle.std.specs.Prelude.{ℕ, ◌≡◌, List}
-use Rattle.reo_script.specs.declared.script.Component.{Component}
 use Rattle.reo_trace.specs.declared.line.RoundLine.{RoundLine}
 use Rattle.reo_trace.specs.declared.line.Ending.{Ending}
 use Rattle.reo_trace.specs.declared.line.Ending.TheVariants.{Done, Stuck, Limit}

@@ -1,5 +1,4 @@
-use Rattle.std.proofs.Common.{ℕ, [], ◌∷◌, refl, arith}
-use Rattle.std.specs.Prelude.{◌≢◌}
+use Rattle.std.proofs.Common.{[], ◌∷◌, refl}
 use Rattle.reo_top.specs.declared.command.Command.TheVariants.{Print}
 use Rattle.reo_top.specs.declared.role.Role.TheVariants.{Circuit}
 use Rattle.reo_top.specs.Owed.{PrintsProgram}

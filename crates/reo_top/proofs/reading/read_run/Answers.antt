@@ -1,4 +1,4 @@
-use Rattle.std.proofs.Common.{List, ℕ, [], ◌∷◌}
+use Rattle.std.proofs.Common.{List}
 use Rattle.reo_top.specs.declared.reading.Plain.{Plain}
 use Rattle.reo_top.specs.Fetched.{Content}
 use Rattle.reo_top.specs.Readings.{ReadsRun, runnable_of}

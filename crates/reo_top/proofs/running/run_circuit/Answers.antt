@@ -1,5 +1,4 @@
-use Rattle.std.proofs.Common.{ℕ, List, [], ◌∷◌, refl}
-use Rattle.std.specs.Prelude.{Result, Ok, Err}
+use Rattle.std.proofs.Common.{[], ◌∷◌, refl}
 use Rattle.reo_net_base.specs.First.{IsFirst}
 use Rattle.reo_top.specs.declared.command.Command.TheVariants.{Run}
 use Rattle.reo_top.specs.declared.role.Role.TheVariants.{Circuit, Script}

@@ -1,6 +1,5 @@
-use Rattle.std.proofs.Common.{subst, List}
+use Rattle.std.proofs.Common.{subst}
 use Rattle.reo_net_base.specs.First.{IsFirst}
-use Rattle.reo_build.specs.Flat.{circuit_of, ports_of}
 use Rattle.reo_runner.specs.declared.outcome.End2.{End2}
 use Rattle.reo_runner.specs.Outcome.{ByEnd}
 use Rattle.reo_runner.specs.Run.{start_of}
