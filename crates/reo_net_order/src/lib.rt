@@ -14,4 +14,3 @@ mod sort;
 
 pub use laws::{cycle_by_sides, order_exists, order_has_no_cycle};
 pub use ordering::{Sorted, order_or_cycle};
-
