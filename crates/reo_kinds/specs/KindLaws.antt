@@ -70,19 +70,7 @@ same_shape b = record { ends = refl; sides = refl; side_of = λ _. refl; takes_i
 -- The ends lie as before.
 ends_stay : (first second : Bool) (item : Option Value) (kind : Kind) → ends_of (after first second item kind) ≡ ends_of kind
 ends_stay first second item (Writer port) = refl
-ends_stay first second item (Taker port) = refl
-ends_stay first second item Sync = refl
-ends_stay first second item Lossy = refl
-ends_stay first second item SyncDrain = refl
-ends_stay first second item AsyncDrain = refl
-ends_stay first second item (Store buffer) = refl
-ends_stay first second item (Shift buffer) = refl
-ends_stay first second item (Variable held) = refl
-ends_stay first second item (Quota left) = refl
-ends_stay first second item (Filter rule) = refl
-ends_stay first second item (Map rule) = refl
-ends_stay first second item (Merger branches) = refl
-ends_stay first second item (Replicator branches) = refl
+ends_stay first second item _ = refl
 
 -- Neither a mouth nor a tail leads.
 none_leads : (mouth : Bool) (first second : Shape) → leads_by first ≡ false → leads_by second ≡ false → leads_by (cond mouth first second) ≡ false
@@ -97,21 +85,11 @@ kept_leads : (free : Bool) (front : Option Value) (free_now : Bool) (front_now :
 kept_leads free front free_now front_now side = keeps_none free front side ∙ sym (keeps_none free_now front_now side)
 
 leads_stay : (first second : Bool) (item : Option Value) (kind : Kind) (side : ℕ) → leads_by (shape_of (after first second item kind) side) ≡ leads_by (shape_of kind side)
-leads_stay first second item (Writer port) side = refl
-leads_stay first second item (Taker port) side = refl
-leads_stay first second item Sync side = refl
-leads_stay first second item Lossy side = refl
-leads_stay first second item SyncDrain side = refl
-leads_stay first second item AsyncDrain side = refl
 leads_stay first second item (Store buffer) side =
     kept_leads (not (is_full (put_in item (given_away second buffer)))) (front_of (put_in item (given_away second buffer))) (not (is_full buffer)) (front_of buffer) side
 leads_stay first second item (Shift buffer) side = kept_leads true (front_of (shift_in item (given_away second buffer))) true (front_of buffer) side
 leads_stay first second item (Variable held) side = kept_leads true (replaced item held) true held side
-leads_stay first second item (Quota left) side = refl
-leads_stay first second item (Filter rule) side = refl
-leads_stay first second item (Map rule) side = refl
-leads_stay first second item (Merger branches) side = refl
-leads_stay first second item (Replicator branches) side = refl
+leads_stay first second item _ side = refl
 
 after_shape : (first second : Bool) (item : Option Value) (kind : Kind) → SameShape (behaviour_of kind) (behaviour_of (after first second item kind))
 after_shape first second item kind = let same = ends_stay first second item kind in record {
@@ -134,20 +112,9 @@ no_flow J rests = refl
 
 -- Where nothing flows and nothing comes in, all stays.
 after_nothing : (second : Bool) (kind : Kind) → (ends_of kind ≡ ends.MouthTail → second ≡ false) → after false second None kind ≡ kind
-after_nothing second (Writer port) rests = refl
-after_nothing second (Taker port) rests = refl
-after_nothing second Sync rests = refl
-after_nothing second Lossy rests = refl
-after_nothing second SyncDrain rests = refl
-after_nothing second AsyncDrain rests = refl
 after_nothing second (Store buffer) rests = rw (rests refl) refl
 after_nothing second (Shift buffer) rests = rw (rests refl) refl
-after_nothing second (Variable held) rests = refl
-after_nothing second (Quota left) rests = refl
-after_nothing second (Filter rule) rests = refl
-after_nothing second (Map rule) rests = refl
-after_nothing second (Merger branches) rests = refl
-after_nothing second (Replicator branches) rests = refl
+after_nothing second _ rests = refl
 
 -- The first end, at side 0, and the tail.
 first_end : (e : Ends) → (0 < end_count e) × (side_in e 0 ≡ 0)

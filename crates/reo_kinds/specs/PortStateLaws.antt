@@ -19,18 +19,7 @@ use Rattle.reo_kinds.specs.KindLaws.{same_shape}
 pub no_port_kind : (kind : Kind) → (port_state_of kind).way ≡ None → (port_state_of kind).pending ≡ None
 no_port_kind (Writer port) way = cc
 no_port_kind (Taker port) way = cc
-no_port_kind Sync way = refl
-no_port_kind Lossy way = refl
-no_port_kind SyncDrain way = refl
-no_port_kind AsyncDrain way = refl
-no_port_kind (Store buffer) way = refl
-no_port_kind (Shift buffer) way = refl
-no_port_kind (Variable held) way = refl
-no_port_kind (Quota left) way = refl
-no_port_kind (Filter rule) way = refl
-no_port_kind (Map rule) way = refl
-no_port_kind (Merger branches) way = refl
-no_port_kind (Replicator branches) way = refl
+no_port_kind _ way = refl
 
 -- What is no port stays so.
 no_port_stays : (pending : Option Offer) → pending ≡ None → IsPortWith no_port_state no_port_state pending
@@ -47,69 +36,25 @@ placed_kind_port (Writer port) (Write item) can = offered_port port item _ refl 
 placed_kind_port (Writer port) Take can = let way = can.way in cc
 placed_kind_port (Taker port) (Write item) can = let way = can.way in cc
 placed_kind_port (Taker port) Take can = record { way = refl; accepts = λ _. refl; pending_is = refl }
-placed_kind_port Sync offer can = let way = can.way in cc
-placed_kind_port Lossy offer can = let way = can.way in cc
-placed_kind_port SyncDrain offer can = let way = can.way in cc
-placed_kind_port AsyncDrain offer can = let way = can.way in cc
-placed_kind_port (Store buffer) offer can = let way = can.way in cc
-placed_kind_port (Shift buffer) offer can = let way = can.way in cc
-placed_kind_port (Variable held) offer can = let way = can.way in cc
-placed_kind_port (Quota left) offer can = let way = can.way in cc
-placed_kind_port (Filter rule) offer can = let way = can.way in cc
-placed_kind_port (Map rule) offer can = let way = can.way in cc
-placed_kind_port (Merger branches) offer can = let way = can.way in cc
-placed_kind_port (Replicator branches) offer can = let way = can.way in cc
+placed_kind_port _ offer can = let way = can.way in cc
 
 pub placed_kind_shape : (kind : Kind) (offer : Offer) → SameShape (behaviour_of kind) (behaviour_of (placed_kind kind offer))
 placed_kind_shape (Writer port) (Write item) = record { ends = refl; sides = refl; side_of = λ _. refl; takes_in = λ _. refl; leads = λ _. refl }
 placed_kind_shape (Writer port) Take = same_shape _
 placed_kind_shape (Taker port) (Write item) = same_shape _
 placed_kind_shape (Taker port) Take = record { ends = refl; sides = refl; side_of = λ _. refl; takes_in = λ _. refl; leads = λ _. refl }
-placed_kind_shape Sync offer = same_shape _
-placed_kind_shape Lossy offer = same_shape _
-placed_kind_shape SyncDrain offer = same_shape _
-placed_kind_shape AsyncDrain offer = same_shape _
-placed_kind_shape (Store buffer) offer = same_shape _
-placed_kind_shape (Shift buffer) offer = same_shape _
-placed_kind_shape (Variable held) offer = same_shape _
-placed_kind_shape (Quota left) offer = same_shape _
-placed_kind_shape (Filter rule) offer = same_shape _
-placed_kind_shape (Map rule) offer = same_shape _
-placed_kind_shape (Merger branches) offer = same_shape _
-placed_kind_shape (Replicator branches) offer = same_shape _
+placed_kind_shape _ offer = same_shape _
 
 -- After a withdrawal nothing is pending, and the rest stays.
 pub withdrawn_kind_port : (kind : Kind) → IsPortWith (port_state_of kind) (port_state_of (withdrawn_kind kind)) None
 withdrawn_kind_port (Writer port) = record { way = refl; accepts = λ _. refl; pending_is = refl }
 withdrawn_kind_port (Taker port) = record { way = refl; accepts = λ _. refl; pending_is = refl }
-withdrawn_kind_port Sync = no_port_stays None refl
-withdrawn_kind_port Lossy = no_port_stays None refl
-withdrawn_kind_port SyncDrain = no_port_stays None refl
-withdrawn_kind_port AsyncDrain = no_port_stays None refl
-withdrawn_kind_port (Store buffer) = no_port_stays None refl
-withdrawn_kind_port (Shift buffer) = no_port_stays None refl
-withdrawn_kind_port (Variable held) = no_port_stays None refl
-withdrawn_kind_port (Quota left) = no_port_stays None refl
-withdrawn_kind_port (Filter rule) = no_port_stays None refl
-withdrawn_kind_port (Map rule) = no_port_stays None refl
-withdrawn_kind_port (Merger branches) = no_port_stays None refl
-withdrawn_kind_port (Replicator branches) = no_port_stays None refl
+withdrawn_kind_port _ = no_port_stays None refl
 
 pub withdrawn_kind_shape : (kind : Kind) → SameShape (behaviour_of kind) (behaviour_of (withdrawn_kind kind))
 withdrawn_kind_shape (Writer port) = record { ends = refl; sides = refl; side_of = λ _. refl; takes_in = λ _. refl; leads = λ _. refl }
 withdrawn_kind_shape (Taker port) = record { ends = refl; sides = refl; side_of = λ _. refl; takes_in = λ _. refl; leads = λ _. refl }
-withdrawn_kind_shape Sync = same_shape _
-withdrawn_kind_shape Lossy = same_shape _
-withdrawn_kind_shape SyncDrain = same_shape _
-withdrawn_kind_shape AsyncDrain = same_shape _
-withdrawn_kind_shape (Store buffer) = same_shape _
-withdrawn_kind_shape (Shift buffer) = same_shape _
-withdrawn_kind_shape (Variable held) = same_shape _
-withdrawn_kind_shape (Quota left) = same_shape _
-withdrawn_kind_shape (Filter rule) = same_shape _
-withdrawn_kind_shape (Map rule) = same_shape _
-withdrawn_kind_shape (Merger branches) = same_shape _
-withdrawn_kind_shape (Replicator branches) = same_shape _
+withdrawn_kind_shape _ = same_shape _
 
 -- Nothing is pending at what is no port, whether it flows or not.
 none_either_way : (flows : Bool) → cond {A = Option Offer} flows None None ≡ None
@@ -132,15 +77,4 @@ pub settled_kind_port : (kind : Kind) (rows : Chosen) (taken : Option Value)
     → IsPortWith (port_state_of kind) (port_state_of (settled_kind kind rows taken)) (cond (is_flow ((behaviour_of kind).mark 0 rows.first 0)) None (port_state_of kind).pending)
 settled_kind_port (Writer port) rows taken = writer_after port _
 settled_kind_port (Taker port) rows taken = taker_after port _
-settled_kind_port Sync rows taken = no_port_stays _ (none_either_way _)
-settled_kind_port Lossy rows taken = no_port_stays _ (none_either_way _)
-settled_kind_port SyncDrain rows taken = no_port_stays _ (none_either_way _)
-settled_kind_port AsyncDrain rows taken = no_port_stays _ (none_either_way _)
-settled_kind_port (Store buffer) rows taken = no_port_stays _ (none_either_way _)
-settled_kind_port (Shift buffer) rows taken = no_port_stays _ (none_either_way _)
-settled_kind_port (Variable held) rows taken = no_port_stays _ (none_either_way _)
-settled_kind_port (Quota left) rows taken = no_port_stays _ (none_either_way _)
-settled_kind_port (Filter rule) rows taken = no_port_stays _ (none_either_way _)
-settled_kind_port (Map rule) rows taken = no_port_stays _ (none_either_way _)
-settled_kind_port (Merger branches) rows taken = no_port_stays _ (none_either_way _)
-settled_kind_port (Replicator branches) rows taken = no_port_stays _ (none_either_way _)
+settled_kind_port _ rows taken = no_port_stays _ (none_either_way _)

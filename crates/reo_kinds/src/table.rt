@@ -27,32 +27,28 @@ pub enum Table {
     Spent,
 }
 
-/// The rows of a table.
-fn rows_of(table: Table) -> &'static [&'static [Mark]]
-    ensures { now_of result.now ≡ rows_of table }
-{
-    match table {
-        Table::Ready => &[&[F], &[R]],
-        Table::Resting => &[&[G]],
-        Table::Together => &[&[F, F], &[R, G], &[G, R]],
-        Table::Lossy => &[&[F, F], &[F, R], &[R, G]],
-        Table::OneOfTwo => &[&[F, G], &[G, F], &[R, R]],
-        Table::Filter => &[&[F, F], &[F, G], &[R, G], &[G, R]],
-        Table::Spent => &[&[G, G]],
-    }
+/// A table as it is listed: the marks of each row, and the class of each row and of the jam row.
+#[derive(Clone, Copy)]
+struct Listed {
+    rows: &'static [&'static [Mark]],
+    classes: &'static [usize],
 }
 
-/// The class of each row of a table, and of its jam row.
-fn classes_of(table: Table) -> &'static [usize]
-    ensures { result.now ≡ classes_of (rows_of table) }
+/// The rows of a table with their classes.
+fn list_of(table: Table) -> Listed
+    ensures rows { now_of result.rows.now ≡ rows_of table }
+    ensures classes { result.classes.now ≡ classes_of (rows_of table) }
 {
-    match table {
-        Table::Ready => &[0, 1, 2],
-        Table::Resting | Table::Spent => &[0, 1],
-        Table::Together => &[0, 1, 1, 2],
-        Table::Lossy | Table::OneOfTwo => &[0, 1, 2, 3],
-        Table::Filter => &[0, 1, 2, 2, 3],
-    }
+    let (rows, classes): (&'static [&'static [Mark]], &'static [usize]) = match table {
+        Table::Ready => (&[&[F], &[R]], &[0, 1, 2]),
+        Table::Resting => (&[&[G]], &[0, 1]),
+        Table::Together => (&[&[F, F], &[R, G], &[G, R]], &[0, 1, 1, 2]),
+        Table::Lossy => (&[&[F, F], &[F, R], &[R, G]], &[0, 1, 2, 3]),
+        Table::OneOfTwo => (&[&[F, G], &[G, F], &[R, R]], &[0, 1, 2, 3]),
+        Table::Filter => (&[&[F, F], &[F, G], &[R, G], &[G, R]], &[0, 1, 2, 2, 3]),
+        Table::Spent => (&[&[G, G]], &[0, 1]),
+    };
+    Listed { rows, classes }
 }
 
 /// The table of a side with one end, by whether it can flow.
@@ -100,21 +96,21 @@ impl Table {
     pub fn count(self) -> usize
         ensures { result ≡ row_count (rows_of self) }
     {
-        classes_of(self).len()
+        list_of(self).classes.len()
     }
 
     /// What a row says of an end.
     pub fn mark(self, row: usize, end: usize) -> Mark
         ensures { result ≡ mark_in (rows_of self) row end }
     {
-        mark_at(row_at(rows_of(self), row), end)
+        mark_at(row_at(list_of(self).rows, row), end)
     }
 
     /// The class of a row.
     pub fn class(self, row: usize) -> usize
         ensures { result ≡ class_in (rows_of self) row }
     {
-        let classes = classes_of(self);
+        let classes = list_of(self).classes;
         if row < classes.len() { classes[row] } else { 0 }
     }
 }
