@@ -1,14 +1,15 @@
 -- From the words to the command that they are, and to what it has come to.
 use Rattle.std.proofs.Common.{◌≡◌, ◌∙◌, ◌⊎◌, inl, inr, ℕ, Bool, true, false, cond, List, [], ◌∷◌, ◌++◌, length, get_or, sym, ap, subst, refl, arith}
 use Rattle.std.proofs.lemmas.Bool.Decides.{nat_tests}
-use Rattle.std.specs.Prelude.{Option, Some, None, IfSome, find, codes, ◌&&◌, ◌==◌}
+use Rattle.std.specs.Prelude.{◌≢◌, Option, Some, None, IfSome, find, codes, ◌&&◌, ◌==◌}
 use Rattle.reo_io.specs.Fetches.{Folder}
 use Rattle.reo_top.specs.declared.command.Command.{Command}
 use Rattle.reo_top.specs.declared.command.Command.TheVariants.{Run, Print}
 use Rattle.reo_top.specs.Answers.{IsAnswered, Answered, roles_for, free_for}
 use Rattle.reo_top.specs.Cases.{Refuses}
 use Rattle.reo_top.specs.Commands.{command_of, commands, names_of, is_form, fits, is_free, roles_of, are_names}
-use Rattle.reo_top.specs.Fetched.{missed, AreTold}
+use Rattle.reo_top.specs.Fetched.{Content, missed, AreTold}
+use Rattle.reo_top.specs.Outputs.{Outputs, IsLine}
 use Rattle.reo_top.specs.Owed.{owed_of, owed_for}
 use Rattle.reo_top.specs.States.{SinkState, FilesState, Change}
 use Rattle.reo_top.specs.Statuses.{IsAmong, statuses_of, statuses_for}
@@ -101,32 +102,44 @@ module _ (words : List (List ℕ)) (files : Change FilesState) (sink : Change Si
   pub status_as : (command : Command) → command_of words ≡ Some command → IsAmong (statuses_of command) code → IsAmong (statuses_for (command_of words)) code
   status_as command is h = subst (λ (o : Option Command). IsAmong (statuses_for o) code) (sym is) h
 
-  -- Words without form.
-  line_status : Refuses (codes "words refused\n") 2 sink code → (code ≡ 2) ⊎ (code ≡ 9)
-  line_status (inl k) = inl k.0
-  line_status (inr k) = inr k.0
+  -- One line is owed, and no file is fetched for it.
+  line_code : (line : List ℕ) (status : ℕ) → Refuses line status sink code → (code ≡ status) ⊎ (code ≡ 9)
+  line_code line status (inl k) = inl k.0
+  line_code line status (inr k) = inr k.0
 
-  not_three : (code ≡ 2) ⊎ (code ≡ 9) → code ≡ 3 → ⊥
-  not_three (inl two) three = omega (arith, two, three)
-  not_three (inr nine) three = omega (arith, nine, three)
+  not_three : (status : ℕ) → status ≢ 3 → (code ≡ status) ⊎ (code ≡ 9) → code ≡ 3 → ⊥
+  not_three status other (inl is) three = other (sym is ∙ three)
+  not_three status other (inr nine) three = omega (arith, nine, three)
 
   none_gone : false ≡ true → ⊥
   none_gone e = cc
 
-  none_answered : files.new ≡ files.old → Refuses (codes "words refused\n") 2 sink code → IsAnswered false (owed_for None) [] (names_of words) files sink code
-  none_answered same h = record {
+  pub line_answered : (Owed : List Content → Outputs) (names : List (List ℕ)) (line : List ℕ) (status : ℕ) → Owed [] line status
+      → ((bytes : List ℕ) (other : ℕ) → Owed [] bytes other → IsLine line status bytes other) → status ≢ 3
+      → files.new ≡ files.old → Refuses line status sink code → IsAnswered false Owed [] names files sink code
+  line_answered Owed names line status owed only other same h = record {
     answers = [];
     fetched = record {
       few = omega arith;
       count = ap (λ (f : FilesState). f.fetches) same;
-      failed = ap (λ (f : FilesState). f.failed) same ∙ sym (no_more files.old.failed) ∙ ap (λ (ns : List (List ℕ)). files.old.failed ++ ns) (sym (missed_none (names_of words)));
+      failed = ap (λ (f : FilesState). f.failed) same ∙ sym (no_more files.old.failed) ∙ ap (λ (ns : List (List ℕ)). files.old.failed ++ ns) (sym (missed_none names));
       same = ap (λ (f : FilesState). f.told) same;
-      told = told_always files.old.told (λ folder. AreTold folder [] (names_of words) []) (λ folder. told_none folder (names_of words));
+      told = told_always files.old.told (λ folder. AreTold folder [] names []) (λ folder. told_none folder names);
     };
-    cases = line_cases sink code (owed_for None []) (codes "words refused\n") 2 (refl, (refl, refl)) h;
-    exact = λ bytes status owed. line_written sink code (codes "words refused\n") 2 h bytes status owed.1;
-    blames = record { only = λ three. absurd (not_three (line_status h) three); told = λ gone. absurd (none_gone gone) };
+    cases = line_cases sink code (Owed []) line status owed h;
+    exact = λ bytes more is. line_written sink code line status h bytes more (only bytes more is);
+    blames = record { only = λ three. absurd (not_three status other (line_code line status h) three); told = λ gone. absurd (none_gone gone) };
   }
+
+  pub line_among : (statuses : List ℕ) (line : List ℕ) (status : ℕ) → IsAmong statuses status → IsAmong statuses 9 → Refuses line status sink code → IsAmong statuses code
+  line_among statuses line status here nine h = elim (line_code line status h) [
+    | inl is ↦ subst (λ (k : ℕ). IsAmong statuses k) (sym is) here
+    | inr is ↦ subst (λ (k : ℕ). IsAmong statuses k) (sym is) nine
+  ]
+
+  -- Words without form.
+  none_answered : files.new ≡ files.old → Refuses (codes "words refused\n") 2 sink code → IsAnswered false (owed_for None) [] (names_of words) files sink code
+  none_answered same h = line_answered (owed_for None) (names_of words) (codes "words refused\n") 2 (refl, (refl, refl)) (λ bytes status owed. owed.1) (λ e. omega (arith, e)) same h
 
   pub answered_none : command_of words ≡ None → files.new ≡ files.old → Refuses (codes "words refused\n") 2 sink code → Answered words files sink code
   answered_none is same h =
@@ -134,7 +147,4 @@ module _ (words : List (List ℕ)) (files : Change FilesState) (sink : Change Si
       subst P (sym is) (none_answered same h)
 
   pub status_none : command_of words ≡ None → Refuses (codes "words refused\n") 2 sink code → IsAmong (statuses_for (command_of words)) code
-  status_none is h = subst (λ (o : Option Command). IsAmong (statuses_for o) code) (sym is) (among h) where
-    among : Refuses (codes "words refused\n") 2 sink code → IsAmong (statuses_for None) code
-    among (inl k) = subst (λ (n : ℕ). IsAmong (statuses_for None) n) (sym k.0) refl
-    among (inr k) = subst (λ (n : ℕ). IsAmong (statuses_for None) n) (sym k.0) refl
+  status_none is h = subst (λ (o : Option Command). IsAmong (statuses_for o) code) (sym is) (line_among (statuses_for None) (codes "words refused\n") 2 refl refl h)

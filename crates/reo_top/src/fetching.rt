@@ -17,7 +17,8 @@ pub(crate) fn fetch<F: Files>(
     name: &[u8],
     files: &mut F,
 ) -> Result<Bytes, Stop>
-    ensures fetched { AreFetched (role ∷ []) (name.now ∷ []) (answer_of result ∷ []) (files_change F.told F.failed F.fetches files.old files.new) }
+    ensures fetched { AreFetched (role ∷ []) (name.now ∷ []) (answer_of result ∷ [])
+        (files_change F.told F.failed F.fetches files.old files.new) }
     ensures stop { IsFetchStop role result }
     ensures size { IfOk result (λ bytes. length bytes ≤ most_bytes role) }
 {

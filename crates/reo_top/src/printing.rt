@@ -37,7 +37,9 @@ pub(crate) fn print_circuit<F: Files, S: Sink>(
     files: &mut F,
     out: &mut S,
 ) -> Status
-    ensures answered { IsAnswered (is_free commands.Print) (owed_of commands.Print) (roles.Circuit ∷ []) (name.now ∷ []) (files_change F.told F.failed F.fetches files.old files.new) (sink_change S.told S.faults out.old out.new) result.code }
+    ensures answered { IsAnswered (is_free commands.Print) (owed_of commands.Print) (roles.Circuit ∷ []) (name.now ∷ [])
+        (files_change F.told F.failed F.fetches files.old files.new)
+        (sink_change S.told S.faults out.old out.new) result.code }
     ensures status { IsAmong (statuses_of commands.Print) result.code }
     ensures fair { IsFair (sink_change S.told S.faults out.old out.new) result.code }
 {

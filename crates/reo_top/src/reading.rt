@@ -34,7 +34,8 @@ pub(crate) fn read_program<F: Files>(
     name: &[u8],
     files: &mut F,
 ) -> Result<Program, Stop>
-    ensures { IsReadFrom ReadsProgram StopsPrint (roles.Circuit ∷ []) (name.now ∷ []) (files_change F.told F.failed F.fetches files.old files.new) result }
+    ensures { IsReadFrom ReadsProgram StopsPrint (roles.Circuit ∷ []) (name.now ∷ [])
+        (files_change F.told F.failed F.fetches files.old files.new) result }
 {
     let text = fetch(alloc, Role::Circuit, name, files)?;
     match parse(alloc, text.as_slice()) {
@@ -45,7 +46,8 @@ pub(crate) fn read_program<F: Files>(
 
 /// The circuit of the form that a file says, or what stops the command.
 fn read_circuit<F: Files>(alloc: Global, name: &[u8], files: &mut F) -> Result<Plainest, Stop>
-    ensures read { IsReadFrom ReadsForm StopsForm (roles.Circuit ∷ []) (name.now ∷ []) (files_change F.told F.failed F.fetches files.old files.new) result }
+    ensures read { IsReadFrom ReadsForm StopsForm (roles.Circuit ∷ []) (name.now ∷ [])
+        (files_change F.told F.failed F.fetches files.old files.new) result }
     ensures plain { IfOk result (λ form. IsPlainest form) }
 {
     let program = read_program(alloc, name, files)?;
@@ -64,7 +66,8 @@ fn read_components<F: Files>(
     files: &mut F,
 ) -> Result<Script, Stop>
     requires { IsPlainest form.now }
-    ensures read { IsScriptRead form.now (name.now ∷ []) (files_change F.told F.failed F.fetches files.old files.new) result }
+    ensures read { IsScriptRead form.now (name.now ∷ [])
+        (files_change F.told F.failed F.fetches files.old files.new) result }
     ensures plain { IfOk result (λ script. IsPlainScript form.now.parameters script.components) }
 {
     let text = fetch(alloc, Role::Script, name, files)?;
@@ -90,7 +93,10 @@ pub(crate) fn read_run<F: Files>(
     script: &[u8],
     files: &mut F,
 ) -> Result<Plain, Stop>
-    ensures read { IsReadFrom (λ answers plain. ReadsRun answers (runnable_of plain.form plain.script.components)) StopsRun (roles.Circuit ∷ roles.Script ∷ []) (circuit.now ∷ script.now ∷ []) (files_change F.told F.failed F.fetches files.old files.new) result }
+    ensures read { IsReadFrom
+        (λ answers plain. ReadsRun answers (runnable_of plain.form plain.script.components))
+        StopsRun (roles.Circuit ∷ roles.Script ∷ []) (circuit.now ∷ script.now ∷ [])
+        (files_change F.told F.failed F.fetches files.old files.new) result }
     ensures form { IfOk result (λ plain. IsPlainest plain.form) }
     ensures script { IfOk result (λ plain. IsPlainScript plain.form.parameters plain.script.components) }
 {

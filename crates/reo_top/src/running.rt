@@ -31,8 +31,10 @@ const ROUNDS: u64 = 100_000;
 fn write_trace<S: Sink>(alloc: Global, plain: &Plain, out: &mut S) -> Status
     requires form { IsPlainest plain.now.form }
     requires script { IsPlainScript plain.now.form.parameters plain.now.script.components }
-    ensures cases { Cases (IsTraceOf IsFirst (runnable_of plain.now.form plain.now.script.components)) (sink_change S.told S.faults out.old out.new) result.code }
-    ensures exact { IsExact (IsTraceOf IsFirst (runnable_of plain.now.form plain.now.script.components)) (sink_change S.told S.faults out.old out.new) result.code }
+    ensures cases { Cases (IsTraceOf IsFirst (runnable_of plain.now.form plain.now.script.components))
+        (sink_change S.told S.faults out.old out.new) result.code }
+    ensures exact { IsExact (IsTraceOf IsFirst (runnable_of plain.now.form plain.now.script.components))
+        (sink_change S.told S.faults out.old out.new) result.code }
     ensures fair { IsFair (sink_change S.told S.faults out.old out.new) result.code }
 {
     script_fits();
@@ -61,7 +63,10 @@ pub(crate) fn run_circuit<F: Files, S: Sink>(
     files: &mut F,
     out: &mut S,
 ) -> Status
-    ensures answered { IsAnswered (is_free commands.Run) (owed_of commands.Run) (roles.Circuit ∷ roles.Script ∷ []) (circuit.now ∷ script.now ∷ []) (files_change F.told F.failed F.fetches files.old files.new) (sink_change S.told S.faults out.old out.new) result.code }
+    ensures answered { IsAnswered (is_free commands.Run) (owed_of commands.Run)
+        (roles.Circuit ∷ roles.Script ∷ []) (circuit.now ∷ script.now ∷ [])
+        (files_change F.told F.failed F.fetches files.old files.new)
+        (sink_change S.told S.faults out.old out.new) result.code }
     ensures status { IsAmong (statuses_of commands.Run) result.code }
     ensures fair { IsFair (sink_change S.told S.faults out.old out.new) result.code }
 {
