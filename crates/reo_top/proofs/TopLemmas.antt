@@ -7,7 +7,7 @@ use Rattle.reo_top.specs.declared.command.Command.{Command}
 use Rattle.reo_top.specs.declared.command.Command.TheVariants.{Run, Print}
 use Rattle.reo_top.specs.Answers.{IsAnswered, Answered, roles_for, free_for}
 use Rattle.reo_top.specs.Cases.{Refuses}
-use Rattle.reo_top.specs.Commands.{command_of, commands, names_of, is_form, fits, is_free, roles_of, are_names}
+use Rattle.reo_top.specs.Commands.{command_of, command_word, commands, names_of, is_form, fits, is_free, roles_of, are_names}
 use Rattle.reo_top.specs.Fetched.{Content, missed, AreTold}
 use Rattle.reo_top.specs.Outputs.{Outputs, IsLine}
 use Rattle.reo_top.specs.Owed.{owed_of, owed_for}
@@ -28,18 +28,23 @@ form_length word count [] is = absurd (no is) where
   no e = cc
 form_length word count (first ∷ names) is = let same : (length names == count) ≡ true = middle _ (length names == count) (are_names names) is in grind (arith, nat_tests)
 
-two_names : (words : List (List ℕ)) → length (names_of words) ≡ 2 → names_of words ≡ get_or words 1 [] ∷ get_or words 2 [] ∷ []
+pub two_names : (words : List (List ℕ)) → length (names_of words) ≡ 2 → names_of words ≡ get_or words 1 [] ∷ get_or words 2 [] ∷ []
 two_names [] e = absurd (omega (arith, e))
 two_names (w ∷ []) e = absurd (omega (arith, e))
 two_names (w ∷ a ∷ []) e = absurd (omega (arith, e))
 two_names (w ∷ a ∷ b ∷ []) e = refl
 two_names (w ∷ a ∷ b ∷ c ∷ ws) e = absurd (omega (arith, e))
 
-one_name : (words : List (List ℕ)) → length (names_of words) ≡ 1 → names_of words ≡ get_or words 1 [] ∷ []
+pub one_name : (words : List (List ℕ)) → length (names_of words) ≡ 1 → names_of words ≡ get_or words 1 [] ∷ []
 one_name [] e = absurd (omega (arith, e))
 one_name (w ∷ []) e = absurd (omega (arith, e))
 one_name (w ∷ a ∷ []) e = refl
 one_name (w ∷ a ∷ b ∷ ws) e = absurd (omega (arith, e))
+
+pub no_name : (words : List (List ℕ)) → length (names_of words) ≡ 0 → names_of words ≡ []
+no_name [] e = refl
+no_name (w ∷ []) e = refl
+no_name (w ∷ a ∷ ws) e = absurd (omega (arith, e))
 
 -- The command of some words fits them.
 command_is : (a b : Command) (x y : Option Command) → x ≡ Some a → y ≡ Some b → x ≡ y → a ≡ b
@@ -61,11 +66,9 @@ found test (c ∷ cs) command is = split test c command (find test cs) (test c) 
 fit_is : (words : List (List ℕ)) (command : Command) → command_of words ≡ Some command → fits words command ≡ true
 fit_is words command is = found (fits words) commands command is
 
-pub run_names : (words : List (List ℕ)) → command_of words ≡ Some Run → names_of words ≡ get_or words 1 [] ∷ get_or words 2 [] ∷ []
-run_names words is = two_names words (form_length (codes "run") 2 words (fit_is words Run is))
-
-pub print_name : (words : List (List ℕ)) → command_of words ≡ Some Print → names_of words ≡ get_or words 1 [] ∷ []
-print_name words is = one_name words (form_length (codes "print") 1 words (fit_is words Print is))
+-- A command has a name for each of its files.
+pub names_fit : (words : List (List ℕ)) (command : Command) → command_of words ≡ Some command → length (names_of words) ≡ length (roles_of command)
+names_fit words command is = form_length (command_word command) (length (roles_of command)) words (fit_is words command is)
 
 no_more : {A : Type 0} (xs : List A) → xs ++ [] ≡ xs
 no_more [] = refl
@@ -82,6 +85,17 @@ told_none folder (n ∷ ns) = tt
 told_always : {X : Type 0} (o : Option X) (B : X → Type 0) → ((x : X) → B x) → IfSome o B
 told_always None B f = tt
 told_always (Some x) B f = f x
+
+-- The status of one line, or of a sink that failed on it.
+line_code : (sink : Change SinkState) (code : ℕ) (line : List ℕ) (status : ℕ) → Refuses line status sink code → (code ≡ status) ⊎ (code ≡ 9)
+line_code sink code line status (inl k) = inl k.0
+line_code sink code line status (inr k) = inr k.0
+
+pub line_among : (sink : Change SinkState) (code : ℕ) (statuses : List ℕ) (line : List ℕ) (status : ℕ) → IsAmong statuses status → IsAmong statuses 9 → Refuses line status sink code → IsAmong statuses code
+line_among sink code statuses line status here nine h = elim (line_code sink code line status h) [
+  | inl is ↦ subst (λ (k : ℕ). IsAmong statuses k) (sym is) here
+  | inr is ↦ subst (λ (k : ℕ). IsAmong statuses k) (sym is) nine
+]
 
 module _ (words : List (List ℕ)) (files : Change FilesState) (sink : Change SinkState) (code : ℕ) where
   -- What the command has come to.
@@ -103,10 +117,6 @@ module _ (words : List (List ℕ)) (files : Change FilesState) (sink : Change Si
   status_as command is h = subst (λ (o : Option Command). IsAmong (statuses_for o) code) (sym is) h
 
   -- One line is owed, and no file is fetched for it.
-  line_code : (line : List ℕ) (status : ℕ) → Refuses line status sink code → (code ≡ status) ⊎ (code ≡ 9)
-  line_code line status (inl k) = inl k.0
-  line_code line status (inr k) = inr k.0
-
   not_three : (status : ℕ) → status ≢ 3 → (code ≡ status) ⊎ (code ≡ 9) → code ≡ 3 → ⊥
   not_three status other (inl is) three = other (sym is ∙ three)
   not_three status other (inr nine) three = omega (arith, nine, three)
@@ -128,14 +138,8 @@ module _ (words : List (List ℕ)) (files : Change FilesState) (sink : Change Si
     };
     cases = line_cases sink code (Owed []) line status owed h;
     exact = λ bytes more is. line_written sink code line status h bytes more (only bytes more is);
-    blames = record { only = λ three. absurd (not_three status other (line_code line status h) three); told = λ gone. absurd (none_gone gone) };
+    blames = record { only = λ three. absurd (not_three status other (line_code sink code line status h) three); told = λ gone. absurd (none_gone gone) };
   }
-
-  pub line_among : (statuses : List ℕ) (line : List ℕ) (status : ℕ) → IsAmong statuses status → IsAmong statuses 9 → Refuses line status sink code → IsAmong statuses code
-  line_among statuses line status here nine h = elim (line_code line status h) [
-    | inl is ↦ subst (λ (k : ℕ). IsAmong statuses k) (sym is) here
-    | inr is ↦ subst (λ (k : ℕ). IsAmong statuses k) (sym is) nine
-  ]
 
   -- Words without form.
   none_answered : files.new ≡ files.old → Refuses (codes "words refused\n") 2 sink code → IsAnswered false (owed_for None) [] (names_of words) files sink code
@@ -147,4 +151,4 @@ module _ (words : List (List ℕ)) (files : Change FilesState) (sink : Change Si
       subst P (sym is) (none_answered same h)
 
   pub status_none : command_of words ≡ None → Refuses (codes "words refused\n") 2 sink code → IsAmong (statuses_for (command_of words)) code
-  status_none is h = subst (λ (o : Option Command). IsAmong (statuses_for o) code) (sym is) (line_among (statuses_for None) (codes "words refused\n") 2 refl refl h)
+  status_none is h = subst (λ (o : Option Command). IsAmong (statuses_for o) code) (sym is) (line_among sink code (statuses_for None) (codes "words refused\n") 2 refl refl h)

@@ -3,7 +3,7 @@ use Rattle.std.specs.Prelude.{Some}
 use Rattle.reo_top.specs.declared.command.Command.{Command}
 use Rattle.reo_top.specs.declared.command.Command.TheVariants.{Run, Print}
 use Rattle.reo_top.specs.Commands.{command_of, names_of}
-use Rattle.reo_top.proofs.TopLemmas.{run_names, print_name, answered_as, answered_none}
+use Rattle.reo_top.proofs.TopLemmas.{names_fit, one_name, two_names, answered_as, answered_none}
 use Rattle.reo_top.proofs.HeadlineLemmas.{headline}
 use Rattle.reo_top.proofs.top.reo.Goals as goal
 
@@ -13,7 +13,7 @@ returns-in-Some-Run-clause-answer g c =
     let is : command_of words ≡ Some Run = ap command_of (sym c.as_slice-words.ensures) ∙ sym c.command_of.ensures ∙ c.in-Some-Run.is ∙ ap (λ (k : Command). Some k) c.in-Some-Run.field-0-is in
     let first : get_or words 1 [] ≡ c.word_at.result.now = sym (c.word_at.ensures ∙ ap (λ (ws : List (List ℕ)). get_or ws 1 []) c.as_slice-words.ensures) in
     let second : get_or words 2 [] ≡ c.word_at-in-Some-Run.result.now = sym (c.word_at-in-Some-Run.ensures ∙ ap (λ (ws : List (List ℕ)). get_or ws 2 []) c.as_slice-words.ensures) in
-    let names : names_of words ≡ c.word_at.result.now ∷ c.word_at-in-Some-Run.result.now ∷ [] = run_names words is ∙ (λ i. first i ∷ second i ∷ []) in
+    let names : names_of words ≡ c.word_at.result.now ∷ c.word_at-in-Some-Run.result.now ∷ [] = two_names words (names_fit words Run is) ∙ (λ i. first i ∷ second i ∷ []) in
     answered_as words _ _ _ Run (c.word_at.result.now ∷ c.word_at-in-Some-Run.result.now ∷ []) is names c.run_circuit.ensures.answered
 
 pub returns-in-Some-Run-clause-headline : goal.returns-in-Some-Run-clause-headline
@@ -24,7 +24,7 @@ returns-in-Some-Print-clause-answer g c =
     let words : List (List ℕ) = c.args.words.now in
     let is : command_of words ≡ Some Print = ap command_of (sym c.as_slice-words.ensures) ∙ sym c.command_of.ensures ∙ c.in-Some-Print.is ∙ ap (λ (k : Command). Some k) c.in-Some-Print.field-0-is in
     let first : get_or words 1 [] ≡ c.word_at-in-Some-Print.result.now = sym (c.word_at-in-Some-Print.ensures ∙ ap (λ (ws : List (List ℕ)). get_or ws 1 []) c.as_slice-words.ensures) in
-    let names : names_of words ≡ c.word_at-in-Some-Print.result.now ∷ [] = print_name words is ∙ (λ i. first i ∷ []) in
+    let names : names_of words ≡ c.word_at-in-Some-Print.result.now ∷ [] = one_name words (names_fit words Print is) ∙ (λ i. first i ∷ []) in
     answered_as words _ _ _ Print (c.word_at-in-Some-Print.result.now ∷ []) is names c.print_circuit.ensures.answered
 
 pub returns-in-None-clause-answer : goal.returns-in-None-clause-answer
