@@ -4,12 +4,10 @@ ghost use Rattle.reo_grammar.specs.Grammar.{read, reads, starts};
 ghost use Rattle.reo_cursor.specs.Reading.{Gives};
 ghost use Rattle.reo_trees.specs.Channels.{plain_channels, plain_channel as channel_form, plain_form, held_form, fifo1_form, literals_form, held_list as held_list_form, fifo_form, filter_form, map_form};
 ghost use Rattle.reo_trees.specs.Rules.{circuit_rules};
-ghost use Rattle.reo_parser.specs.Reading.{read_plain};
+ghost use Rattle.reo_parser_terms.specs.Reading.{read_plain};
 
-use crate::literals::literal;
-use crate::names::names_before;
-use crate::terms::term_before;
 use reo_cursor::{Cursor, Halt};
+use reo_parser_terms::{literal, names_before, term_before};
 use reo_trees::{Channel, Form, Literal};
 use reo_values::List;
 use std::alloc::Global;
@@ -18,7 +16,7 @@ use std::alloc::Global;
 const MOST_PLACES: u64 = 1024;
 
 /// Whether a channel that is a word and two nodes is next.
-#[tactic(auto, using(crate::proofs::Among::among_more))]
+#[tactic(auto, using(reo_parser_terms::proofs::Among::among_more))]
 pub fn is_plain(cursor: &Cursor) -> bool
     ensures { result ≡ starts plain_channels cursor.now }
 {

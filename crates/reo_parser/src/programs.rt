@@ -6,18 +6,17 @@ ghost use Rattle.reo_trees.specs.Forms.{word, ◌▸◌, ◌◂◌};
 ghost use Rattle.reo_trees.specs.Items.{items_form};
 ghost use Rattle.reo_trees.specs.Programs.{ways, way_form, parameter_form, parameters_form, connector_form, named_form, declaration_form, declaration_words, declarations_form, program_form};
 ghost use Rattle.reo_trees.specs.Rules.{circuit_rules};
-ghost use Rattle.reo_parser.specs.Reading.{read_plain};
+ghost use Rattle.reo_parser_terms.specs.Reading.{read_plain};
 
 use crate::items::items;
-use crate::names::name_before;
-use crate::types::{type_before, type_term};
 use reo_cursor::{Cursor, Halt};
+use reo_parser_terms::{name_before, type_before, type_term};
 use reo_trees::{Connector, Declaration, Item, Parameter, Program};
 use reo_values::List;
 use std::alloc::Global;
 
 /// Whether `in` or `out` is next.
-#[tactic(auto, using(crate::proofs::Among::among_more))]
+#[tactic(auto, using(reo_parser_terms::proofs::Among::among_more))]
 fn is_way(cursor: &Cursor) -> bool
     ensures { result ≡ starts ways cursor.now }
 {
@@ -117,7 +116,7 @@ fn declaration(cursor: &mut Cursor, alloc: Global, room: usize) -> Result<Declar
 }
 
 /// Whether a declaration begins with the next token.
-#[tactic(auto, using(crate::proofs::Among::among_more))]
+#[tactic(auto, using(reo_parser_terms::proofs::Among::among_more))]
 fn is_declaration(cursor: &Cursor) -> bool
     ensures { result ≡ starts declaration_words cursor.now }
 {

@@ -1,7 +1,7 @@
 use Rattle.std.proofs.Common.{refl, sym, ◌∙◌}
 use Rattle.reo_trees.specs.Forms.{name_form}
-use Rattle.reo_parser.proofs.Turns.{comma_turn}
-use Rattle.reo_parser.proofs.types.names.Goals as goal
+use Rattle.reo_parser_terms.proofs.Turns.{comma_turn}
+use Rattle.reo_parser_terms.proofs.types.names.Goals as goal
 
 pub names-smaller : goal.names-smaller
 names-smaller c =

@@ -2,8 +2,8 @@ use Rattle.std.proofs.Common.{◌≡◌, ◌+◌, ◌*◌, length, codes}
 use Rattle.reo_grammar.specs.Tokens.Class.{fixed}
 use Rattle.reo_trees.specs.Operators.{joined, products, sums}
 use Rattle.reo_trees.specs.Terms.{further_product, further_sum, further_and, further_or}
-use Rattle.reo_parser.proofs.Turns.{goes_on}
-use Rattle.reo_parser.proofs.terms.+term.Given as goal
+use Rattle.reo_parser_terms.proofs.Turns.{goes_on}
+use Rattle.reo_parser_terms.proofs.terms.+term.Given as goal
 
 abbrev pub decreases-term : goal.decreases-term
 decreases-term l = 14 * l.room

@@ -2,7 +2,7 @@
 ghost use Rattle.std.specs.Prelude.{◌≡◌, List};
 ghost use Rattle.reo_cursor.specs.Reading.{Gives};
 ghost use Rattle.reo_trees.specs.Forms.{word, name_form, ◌◂◌};
-ghost use Rattle.reo_parser.specs.Reading.{read_plain, two_names};
+ghost use Rattle.reo_parser_terms.specs.Reading.{read_plain, two_names};
 
 use reo_cursor::{Cursor, Halt};
 use reo_values::Bytes;

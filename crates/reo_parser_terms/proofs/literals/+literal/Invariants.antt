@@ -1,5 +1,5 @@
 use Rattle.std.proofs.Common.{◌+◌, ◌*◌}
-use Rattle.reo_parser.proofs.literals.+literal.Given as goal
+use Rattle.reo_parser_terms.proofs.literals.+literal.Given as goal
 
 abbrev pub decreases-literal : goal.decreases-literal
 decreases-literal l = 4 * l.room

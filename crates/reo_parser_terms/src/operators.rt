@@ -3,7 +3,7 @@ ghost use Rattle.std.specs.Prelude.{◌≡◌};
 ghost use Rattle.reo_grammar.specs.Grammar.{starts};
 ghost use Rattle.reo_cursor.specs.Reading.{Gives};
 ghost use Rattle.reo_trees.specs.Operators.{prefixes, prefix_form, products, product_operator as product_form, sums, sum_operator as sum_form, comparisons, comparison_operator as comparison_form, calls, call_operator as call_form};
-ghost use Rattle.reo_parser.specs.Reading.{read_plain};
+ghost use Rattle.reo_parser_terms.specs.Reading.{read_plain};
 
 use reo_cursor::{Cursor, Halt};
 use reo_trees::{Binary, Unary};

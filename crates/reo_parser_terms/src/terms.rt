@@ -9,10 +9,10 @@ ghost use Rattle.reo_trees.specs.Forms.Rule.{term_rule, unary_rule};
 ghost use Rattle.reo_trees.specs.Operators.{opened, joined, applied};
 ghost use Rattle.reo_trees.specs.Terms.{symbol_form, call_form, if_form, simple_form, group_form, atom_form, unary_form, product_form, sum_form, comparison_form, and_form, or_form, term_form};
 ghost use Rattle.reo_trees.specs.Rules.{circuit_rules};
-ghost use Rattle.reo_parser.specs.Reading.{read_plain, operand};
+ghost use Rattle.reo_parser_terms.specs.Reading.{read_plain, operand};
 
 use crate::literals::GREATEST;
-use crate::names::name_before;
+use crate::name::name_before;
 use crate::operators::{
     call_operator, comparison_operator, is_call, is_comparison, is_prefix, is_product, is_sum,
     prefix, product_operator, sum_operator,

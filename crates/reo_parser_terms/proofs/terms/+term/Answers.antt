@@ -2,8 +2,8 @@ use Rattle.std.proofs.Common.{refl, sym, ◌∙◌, codes}
 use Rattle.reo_values.specs.declared.operator.Binary.TheVariants as binaries
 use Rattle.reo_trees.specs.Operators.{products, product_operator, sums, sum_operator}
 use Rattle.reo_trees.specs.Terms.{unary_form, product_form, comparison_form, and_form}
-use Rattle.reo_parser.proofs.Turns.{operator_turn, word_turn}
-use Rattle.reo_parser.proofs.terms.+term.Goals as goal
+use Rattle.reo_parser_terms.proofs.Turns.{operator_turn, word_turn}
+use Rattle.reo_parser_terms.proofs.terms.+term.Goals as goal
 
 pub product-product-smaller : goal.product-product-smaller
 product-product-smaller t c =

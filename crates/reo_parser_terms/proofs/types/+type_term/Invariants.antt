@@ -1,5 +1,5 @@
 use Rattle.std.proofs.Common.{◌+◌, ◌*◌}
-use Rattle.reo_parser.proofs.types.+type_term.Given as goal
+use Rattle.reo_parser_terms.proofs.types.+type_term.Given as goal
 
 abbrev pub decreases-type_term : goal.decreases-type_term
 decreases-type_term l = 4 * l.room

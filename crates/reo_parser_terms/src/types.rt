@@ -7,7 +7,7 @@ ghost use Rattle.reo_trees.specs.Forms.{word, ◌◂◌};
 ghost use Rattle.reo_trees.specs.Forms.Rule.{type_rule};
 ghost use Rattle.reo_trees.specs.Types.{bound_form, int_form, names_form, sym_form, text_type_form, pair_form, shape_form};
 ghost use Rattle.reo_trees.specs.Rules.{circuit_rules};
-ghost use Rattle.reo_parser.specs.Reading.{read_plain};
+ghost use Rattle.reo_parser_terms.specs.Reading.{read_plain};
 
 use reo_cursor::{Cursor, Halt};
 use reo_trees::{Shape, TypePair, TypeTerm};

@@ -1,8 +1,8 @@
 use Rattle.std.proofs.Common.{◌≡◌, length, codes}
 use Rattle.reo_grammar.specs.Tokens.Class.{fixed}
 use Rattle.reo_trees.specs.Forms.{listed, further, name_form}
-use Rattle.reo_parser.proofs.Turns.{goes_on}
-use Rattle.reo_parser.proofs.types.names.Given as goal
+use Rattle.reo_parser_terms.proofs.Turns.{goes_on}
+use Rattle.reo_parser_terms.proofs.types.names.Given as goal
 
 abbrev pub invariant-names : goal.invariant-names
 invariant-names l =

@@ -7,7 +7,7 @@ ghost use Rattle.reo_trees.specs.Forms.{word, ◌◂◌};
 ghost use Rattle.reo_trees.specs.Forms.Rule.{literal_rule};
 ghost use Rattle.reo_trees.specs.Literals.{minus_form, literal_pair_form, constant_form};
 ghost use Rattle.reo_trees.specs.Rules.{circuit_rules};
-ghost use Rattle.reo_parser.specs.Reading.{read_plain};
+ghost use Rattle.reo_parser_terms.specs.Reading.{read_plain};
 
 use reo_cursor::{Cursor, Halt};
 use reo_trees::{Constant, Literal, LiteralPair};
