@@ -1,0 +1,2 @@
+//! Literals, and the items that they stand for.
+#![tactic(auto)]

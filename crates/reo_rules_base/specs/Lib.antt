@@ -1,0 +1,16 @@
+pub mod Lists
+pub mod Names
+pub mod Judged
+pub mod Types
+pub mod Terms
+pub mod Channels
+pub mod Scopes
+pub mod Twice
+pub mod Unknown
+pub mod Mistyped
+pub mod Ranges
+pub mod Arity
+pub mod Touches
+pub mod Direction
+pub mod Dangling
+pub mod Rules
