@@ -47,10 +47,11 @@ impl Names {
     }
 
     /// Whether the name is there already. Where it is not, it is added at the end. `NoMemory` is
-    /// out of memory.
+    /// out of memory, and then the names stay as they were.
     pub fn note(&mut self, alloc: Global, name: &[u8]) -> Result<bool, NoMemory>
         ensures there { IfOk result (λ b. b ≡ has_name self.old name.now) }
         ensures names { OnOk result (self.new ≡ with_name self.old name.now) }
+        ensures unchanged { OnErr result (self.new ≡ self.old) }
     {
         let Ok(name) = Vec::from_slice(alloc, name) else {
             return Err(NoMemory);
