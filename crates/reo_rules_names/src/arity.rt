@@ -1,5 +1,5 @@
 //! Uses with another number of arguments than their connector has parameters.
-ghost use Rattle.std.specs.Prelude.{◌≡◌, List};
+ghost use Rattle.std.specs.Prelude.{◌≡◌, [], List};
 ghost use Rattle.std.specs.List.{flat_map};
 ghost use Rattle.reo_trees.specs.declared.items.Item.{Item as AnItem};
 ghost use Rattle.reo_trees.specs.declared.programs.Connector.{Connector as AConnector};

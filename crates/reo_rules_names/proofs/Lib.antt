@@ -1,0 +1,5 @@
+pub mod SameLemmas
+pub mod ValueLemmas
+pub mod TableLemmas
+pub mod EndLemmas
+pub mod PartLemmas
