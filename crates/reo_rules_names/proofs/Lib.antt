@@ -3,3 +3,4 @@ pub mod ValueLemmas
 pub mod TableLemmas
 pub mod EndLemmas
 pub mod PartLemmas
+pub mod LoopLemmas

@@ -3,12 +3,12 @@ ghost use Rattle.std.specs.Prelude.{◌≡◌, [], ◌++◌, List, Bool, ℕ, If
 ghost use Rattle.std.specs.List.{flat_map, zip};
 ghost use Rattle.reo_trees.specs.declared.items.Item.{Item as AnItem};
 ghost use Rattle.reo_trees.specs.declared.programs.Connector.{Connector as AConnector};
-ghost use Rattle.reo_rules_base.specs.Touches.{Touch, touch, touches_in};
+ghost use Rattle.reo_rules_base.specs.Touches.{Touch, touch, touches_in, touches_of};
 ghost use Rattle.reo_rules_base.specs.Dangling.{dangling_parameter, dangling_in_item, dangling};
 ghost use Rattle.reo_rules_base.specs.Judged.{IsJudged};
 ghost use Rattle.reo_rules_names.specs.Connectors.{AreConnectors};
 ghost use Rattle.reo_rules_names.specs.Ends.{AreEnds};
-ghost use Rattle.reo_rules_names.specs.Loose.{dangling_in_connector};
+ghost use Rattle.reo_rules_names.specs.Loose.{lacking_ends};
 
 use crate::connectors::Connectors;
 use crate::ends::{Ends, is_drain};
@@ -157,7 +157,18 @@ fn items_dangling(alloc: Global, ends: &Ends, items: &[Item]) -> Result<(), Flat
     Ok(())
 }
 
-/// A connector: its parameters, and then its nodes.
+/// A connector that has these ends: its parameters, and then its nodes.
+fn ends_dangling(alloc: Global, ends: &Ends, connector: &Connector) -> Result<(), FlatFault>
+    ensures {
+        (touches : List Touch) → AreEnds touches ends.now
+            → IsJudged (lacking_ends touches connector.now) result
+    }
+{
+    parameters_dangling(alloc, ends, connector.parameters.as_slice())?;
+    items_dangling(alloc, ends, connector.items.as_slice())
+}
+
+/// A connector.
 fn connector_dangling(
     alloc: Global,
     connectors: &Connectors,
@@ -165,12 +176,11 @@ fn connector_dangling(
 ) -> Result<(), FlatFault>
     ensures {
         (known : List AConnector) → AreConnectors known connectors.now
-            → IsJudged (dangling_in_connector known connector.now) result
+            → IsJudged (lacking_ends (touches_of known connector.now) connector.now) result
     }
 {
     let ends = ends_of(alloc, connectors, connector.items.as_slice())?;
-    parameters_dangling(alloc, &ends, connector.parameters.as_slice())?;
-    items_dangling(alloc, &ends, connector.items.as_slice())
+    ends_dangling(alloc, &ends, connector)
 }
 
 /// Declarations one after another; the connectors are noted.
