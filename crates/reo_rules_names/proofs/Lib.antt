@@ -4,3 +4,5 @@ pub mod TableLemmas
 pub mod EndLemmas
 pub mod PartLemmas
 pub mod LoopLemmas
+pub mod SymbolLemmas
+pub mod TermLemmas

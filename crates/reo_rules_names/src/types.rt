@@ -82,9 +82,8 @@ impl Types {
                 Ok(Some(number))
             }
             Shape::Named(name) => Ok(self.number_of(name.as_slice())),
-            Shape::Unit | Shape::Bool | Shape::Int(_, _) | Shape::Text(_) | Shape::Pair(_) => {
-                Ok(None)
-            }
+            Shape::Pair(_) => Ok(None),
+            Shape::Unit | Shape::Bool | Shape::Int(_, _) | Shape::Text(_) => Ok(None),
         }
     }
 
