@@ -6,3 +6,4 @@ pub mod PartLemmas
 pub mod LoopLemmas
 pub mod SymbolLemmas
 pub mod TermLemmas
+pub mod UnknownLemmas
