@@ -1,5 +1,5 @@
 -- Ends that are put into a table one after another.
-use Rattle.std.proofs.Common.{◌≡◌, ◌∙◌, ℕ, List, [], ◌∷◌, ◌++◌, map, Bool, true, false, not, cond, ◌||◌, ◌&&◌, ◌⊎◌, inl, inr, refl, sym, ap, bytes_eq}
+use Rattle.std.proofs.Common.{◌≡◌, ◌∙◌, ℕ, List, [], ◌∷◌, ◌++◌, map, Bool, true, false, not, ◌||◌, ◌&&◌, ◌⊎◌, inl, inr, refl, sym, ap, bytes_eq}
 use Rattle.std.specs.List.{list_any, zip}
 use Rattle.std.proofs.lemmas.List.Folds.{list_any-append}
 use Rattle.reo_trees.specs.declared.programs.Parameter.{Parameter}

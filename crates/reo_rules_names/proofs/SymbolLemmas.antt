@@ -1,7 +1,7 @@
 -- Types in a table by name, with their symbols.
 use denote.Hole.Carrier.{hidden}
-use Rattle.std.proofs.Common.{arith, ◌≡◌, ◌∙◌, ℕ, ◌+◌, ◌<◌, List, [], ◌∷◌, ◌++◌, length, get_or, map, Bool, true, false, not, cond, Option, Some, None, Bor, refl, sym, ap, subst}
-use Rattle.std.specs.Option.{MatchOption, option_copied, option_map}
+use Rattle.std.proofs.Common.{arith, ◌≡◌, ◌∙◌, ℕ, ◌+◌, List, [], ◌∷◌, ◌++◌, length, get_or, map, true, false, not, cond, Option, Some, None, Bor, refl, sym, ap, subst}
+use Rattle.std.specs.Option.{MatchOption, option_copied}
 use Rattle.std.specs.Prelude.{unwrap_or}
 use Rattle.std.proofs.lemmas.List.{length-append, get_or_append_left, get_or_push}
 use Rattle.reo_values.specs.declared.kindred.Kindred.{Kindred}
@@ -13,7 +13,7 @@ use Rattle.reo_trees.specs.declared.types.TypePair.{TypePair}
 use Rattle.reo_rules_base.specs.declared.fault.FlatFault.TheVariants as faults
 use Rattle.reo_rules_base.specs.Lists.{has_name, where_true}
 use Rattle.reo_rules_base.specs.Names.{with_name}
-use Rattle.reo_rules_base.specs.Types.{Typed, type_named, names_of, resolved}
+use Rattle.reo_rules_base.specs.Types.{Typed, type_named, resolved}
 use Rattle.reo_rules_base.specs.Unknown.{missing, lacking}
 use Rattle.reo_rules_names.specs.declared.types.Types.{Types}
 use Rattle.reo_rules_names.specs.SameNames.{SameNames}

@@ -1,5 +1,5 @@
 -- Ends that may not stand at parameters.
-use Rattle.std.specs.Prelude.{◌≡◌, ℕ, Bool, not, List, map}
+use Rattle.std.specs.Prelude.{ℕ, not, List, map}
 use Rattle.std.specs.List.{list_any}
 use Rattle.reo_trees.specs.declared.programs.Parameter.{Parameter}
 use Rattle.reo_rules_base.specs.declared.fault.FlatFault.{FlatFault}

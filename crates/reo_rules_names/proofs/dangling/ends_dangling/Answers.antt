@@ -1,5 +1,5 @@
 -- The parameters, and then the nodes.
-use Rattle.std.proofs.Common.{◌∙◌, ◌++◌, ap, sym}
+use Rattle.std.proofs.Common.{◌∙◌, ap, sym}
 use Rattle.std.specs.List.{flat_map}
 use Rattle.reo_trees.specs.declared.items.Item.{Item}
 use Rattle.reo_rules_base.specs.Dangling.{dangling_parameter, dangling_in_item}

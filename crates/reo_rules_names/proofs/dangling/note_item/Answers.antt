@@ -1,9 +1,8 @@
 -- The two ends of a channel, or those of a use.
-use Rattle.std.proofs.Common.{◌≡◌, ◌∙◌, [], ◌∷◌, ◌++◌, ℕ, Bool, true, List, map, sym, ap, subst}
+use Rattle.std.proofs.Common.{◌∙◌, [], ◌∷◌, ◌++◌, ℕ, Bool, true, List, map, sym, ap, subst}
 use Rattle.std.specs.List.{zip}
 use Rattle.std.proofs.lemmas.List.{append_assoc}
 use Rattle.std.proofs.lemmas.Result.{on_ok_weaker}
-use Rattle.reo_trees.specs.declared.items.Form.TheVariants as forms
 use Rattle.reo_trees.specs.declared.programs.Parameter.{Parameter}
 use Rattle.reo_rules_base.specs.Scopes.{parameters_named}
 use Rattle.reo_rules_base.specs.Touches.{touch, touches_in}

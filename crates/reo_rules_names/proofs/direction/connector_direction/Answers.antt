@@ -1,5 +1,5 @@
 -- The ends that the connector's own parameters close.
-use Rattle.std.proofs.Common.{ap, sym, ◌∙◌}
+use Rattle.std.proofs.Common.{ap, ◌∙◌}
 use Rattle.std.specs.List.{flat_map}
 use Rattle.reo_trees.specs.declared.items.Item.{Item}
 use Rattle.reo_rules_base.specs.Direction.{direction_in_item}

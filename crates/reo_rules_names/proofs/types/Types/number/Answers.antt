@@ -1,5 +1,5 @@
 -- A sym type has a new set; a pair has none.
-use Rattle.std.proofs.Common.{◌≡◌, ◌∙◌, Some, sym, ap, subst}
+use Rattle.std.proofs.Common.{◌∙◌, Some, sym, ap, subst}
 use Rattle.reo_rules_base.specs.Types.{resolved}
 use Rattle.reo_rules_base.specs.Unknown.{lacking}
 use Rattle.reo_rules_names.specs.SameNames.{SameNames}

@@ -1,5 +1,5 @@
 -- What stands beside the name.
-use Rattle.std.proofs.Common.{◌≡◌, ◌∙◌, None, Option, ℕ, sym, ap}
+use Rattle.std.proofs.Common.{◌∙◌, None, sym, ap}
 use Rattle.std.specs.Option.{option_copied}
 use Rattle.reo_rules_names.proofs.ValueLemmas.{value_found, value_lost, value_at-None}
 use Rattle.reo_rules_names.proofs.types.Types.number_of.Goals as goal
