@@ -63,7 +63,6 @@ set_found (Some b) x P Q is here =
     let same : x ≡ b.now = ap (λ o. unwrap_or o x) (sym is) in
     subst Q same here
 
-
 module _ (known : List Typed) (e : Typed) (t : Types) (are : AreTypes known t) where
   before : (n : List ℕ) → IsSetOf t.sets (value_at None t.names t.numbers n) (value_at kinds.Unit (map (λ (x : Typed). x.name) known) (map (λ (x : Typed). x.kindred) known) n)
   before n = subst (λ k. IsSetOf t.sets (value_at None t.names t.numbers n) k) (type_named-is known n) (are.symbols n)

@@ -7,10 +7,18 @@ use Rattle.reo_rules_names.specs.declared.types.Types.{Types}
 use Rattle.reo_rules_names.specs.SameNames.{SameNames}
 use Rattle.reo_rules_names.specs.Values.{value_at}
 
--- A type lacks a symbol exactly where the set of this number does; without a number it lacks none.
+-- A type that lacks no symbol, since it is no sym type.
+abbrev pub LacksNone : Kindred → Type 0
+LacksNone kindred = (line : ℕ) (symbol : List ℕ) → lacking kindred line symbol ≡ []
+
+-- A type that lacks exactly the symbols that are none of these.
+abbrev pub LacksOthers : Kindred → List (List ℕ) → Type 0
+LacksOthers kindred symbols = (line : ℕ) (symbol : List ℕ) → lacking kindred line symbol ≡ missing symbols line symbol
+
+-- The symbols of a type are those in the set of this number; without a number it has none.
 abbrev pub IsSetOf : List (List (List ℕ)) → Option ℕ → Kindred → Type 0
-IsSetOf sets None kindred = (line : ℕ) (symbol : List ℕ) → lacking kindred line symbol ≡ []
-IsSetOf sets (Some number) kindred = (number < length sets) × ((line : ℕ) (symbol : List ℕ) → lacking kindred line symbol ≡ missing (slice_index_or sets number []) line symbol)
+IsSetOf sets None kindred = LacksNone kindred
+IsSetOf sets (Some number) kindred = (number < length sets) × LacksOthers kindred (slice_index_or sets number [])
 
 -- The table has the names of these types, and beside each the number of the symbols of the first that is called so.
 pub record AreTypes (known : List Typed) (table : Types) : Type 0 where

@@ -14,10 +14,8 @@ use std::alloc::Global;
 
 /// An item.
 fn item_arity(connectors: &Connectors, line: u32, form: &Form) -> Result<(), FlatFault>
-    ensures {
-        (known : List AConnector) → AreConnectors known connectors.now
-            → IsJudged (arity_in_item known line form.now) result
-    }
+    ensures { (known : List AConnector) → AreConnectors known connectors.now
+        → IsJudged (arity_in_item known line form.now) result }
 {
     match form {
         Form::Used { name, arguments } => {
@@ -33,10 +31,8 @@ fn item_arity(connectors: &Connectors, line: u32, form: &Form) -> Result<(), Fla
 
 /// Items one after another.
 fn items_arity(connectors: &Connectors, items: &[Item]) -> Result<(), FlatFault>
-    ensures {
-        (known : List AConnector) → AreConnectors known connectors.now
-            → IsJudged (flat_map (λ (i : AnItem). arity_in_item known i.line i.form) items.now) result
-    }
+    ensures { (known : List AConnector) → AreConnectors known connectors.now
+        → IsJudged (flat_map (λ (i : AnItem). arity_in_item known i.line i.form) items.now) result }
 {
     for item in items {
         item_arity(connectors, item.line, &item.form)?;

@@ -1,7 +1,6 @@
 //! Types by name, with the symbols of those that are sym types.
 ghost use Rattle.std.specs.Prelude.{◌≡◌, [], ◌∷◌, ◌++◌, IfOk, OnOk, List, None, length, MatchOption};
 ghost use Rattle.reo_rules_base.specs.Types.{Typed, type_named, resolved};
-ghost use Rattle.reo_rules_base.specs.Unknown.{missing, lacking};
 ghost use Rattle.reo_rules_names.specs.SameNames.{SameNames};
 ghost use Rattle.reo_rules_names.specs.Values.{value_at};
 
@@ -20,8 +19,7 @@ pub(crate) struct Types {
 }
 
 impl Types {
-    ghost use Rattle.std.specs.Prelude.{ℕ};
-    ghost use Rattle.reo_rules_names.specs.Symbols.{AreTypes, IsSetOf};
+    ghost use Rattle.reo_rules_names.specs.Symbols.{AreTypes, IsSetOf, LacksNone, LacksOthers};
 
     /// No types.
     pub(crate) fn new(alloc: Global) -> Self
@@ -36,10 +34,8 @@ impl Types {
 
     /// The number of the symbols of the type of this name, or None where it has none.
     fn number_of(&self, name: &[u8]) -> Option<usize>
-        ensures {
-            length self.now.names ≡ length self.now.numbers
-                → result ≡ value_at None self.now.names self.now.numbers name.now
-        }
+        ensures { length self.now.names ≡ length self.now.numbers
+            → result ≡ value_at None self.now.names self.now.numbers name.now }
     {
         match self.names.find(name) {
             Some(place) => match self.numbers.get(place) {
@@ -52,13 +48,9 @@ impl Types {
 
     /// The symbols of the first type of this name, or None where it is no sym type.
     pub(crate) fn symbols(&self, name: &[u8]) -> Option<&Names>
-        ensures {
-            (known : List Typed) → AreTypes known self.now
-                → MatchOption result
-                    ((line : ℕ) (symbol : List ℕ) → lacking (type_named known name.now) line symbol ≡ [])
-                    (λ set. (line : ℕ) (symbol : List ℕ)
-                        → lacking (type_named known name.now) line symbol ≡ missing set.now line symbol)
-        }
+        ensures { (known : List Typed) → AreTypes known self.now
+            → MatchOption result (LacksNone (type_named known name.now))
+            (λ set. LacksOthers (type_named known name.now) set.now) }
     {
         match self.number_of(name) {
             Some(number) => self.sets.get(number),
@@ -69,10 +61,8 @@ impl Types {
     /// The number of the symbols of a written type, by the types so far. A new set is kept.
     /// `NoMemory` is out of memory.
     fn number(&mut self, alloc: Global, shape: &Shape) -> Result<Option<usize>, NoMemory>
-        ensures {
-            IfOk result (λ number. (known : List Typed) → AreTypes known self.old
-                → AreTypes known self.new × IsSetOf self.new.sets number (resolved known shape.now))
-        }
+        ensures { IfOk result (λ number. (known : List Typed) → AreTypes known self.old
+            → AreTypes known self.new × IsSetOf self.new.sets number (resolved known shape.now)) }
     {
         match shape {
             Shape::Sym(symbols) => {
@@ -88,17 +78,10 @@ impl Types {
     }
 
     /// One more type. `NoMemory` is out of memory.
-    pub(crate) fn add(
-        &mut self,
-        alloc: Global,
-        name: &Bytes,
-        shape: &Shape,
-    ) -> Result<(), NoMemory>
-        ensures {
-            OnOk result ((known : List Typed) → AreTypes known self.old
-                → AreTypes (known ++ record { name = name.now; kindred = resolved known shape.now } ∷ [])
-                    self.new)
-        }
+    pub(crate) fn add(&mut self, alloc: Global, name: &Bytes, shape: &Shape) -> Result<(), NoMemory>
+        ensures { OnOk result ((known : List Typed) → AreTypes known self.old
+            → AreTypes (known ++ record { name = name.now; kindred = resolved known shape.now }
+            ∷ []) self.new) }
     {
         let number = self.number(alloc, shape)?;
         if self.names.note(alloc, name.as_slice())? {
@@ -109,7 +92,7 @@ impl Types {
 }
 
 /// The set of these names. `NoMemory` is out of memory.
-pub(crate) fn set_of(alloc: Global, names: &[Bytes]) -> Result<Names, NoMemory>
+fn set_of(alloc: Global, names: &[Bytes]) -> Result<Names, NoMemory>
     ensures { IfOk result (λ set. SameNames set names.now) }
 {
     let mut set = Names::new(alloc);

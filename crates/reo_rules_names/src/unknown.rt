@@ -15,9 +15,7 @@ ghost use Rattle.reo_rules_names.specs.Symbols.{AreTypes};
 
 use crate::types::Types;
 use reo_rules_base::{FlatFault, Names};
-use reo_trees::{
-    Channel, Connector, Declaration, Form, Item, Parameter, Program, Shape, TermForm,
-};
+use reo_trees::{Channel, Connector, Declaration, Form, Item, Parameter, Program, Shape, TermForm};
 use reo_values::{Bytes, NoMemory};
 use std::alloc::Global;
 
@@ -46,10 +44,8 @@ fn all_of(alloc: Global, names: &Names, line: u32, sought: &[Bytes]) -> Result<(
 
 /// A written type: the types that it names.
 fn type_unknown(alloc: Global, types: &Names, line: u32, shape: &Shape) -> Result<(), FlatFault>
-    ensures {
-        IsJudged (flat_map (λ (part : APart). unknown_in_part types.now part.line part.shape)
-            (parts_of line shape.now)) result
-    }
+    ensures { IsJudged (flat_map (λ (part : APart). unknown_in_part types.now part.line part.shape)
+        (parts_of line shape.now)) result }
 {
     match shape {
         Shape::Named(name) => one_of(alloc, types, line, name),
@@ -70,11 +66,9 @@ fn symbol_unknown(
     of: &Bytes,
     symbol: &Bytes,
 ) -> Result<(), FlatFault>
-    ensures {
-        (known : List Typed) → AreTypes known types.now
-            → IsJudged (unknown_symbol known (record { line = line; type = of.now; symbol = symbol.now }))
-                result
-    }
+    ensures { (known : List Typed) → AreTypes known types.now
+        → IsJudged (unknown_symbol known
+        (record { line = line; type = of.now; symbol = symbol.now })) result }
 {
     one_of(alloc, &types.names, line, of)?;
     match types.symbols(of.as_slice()) {
@@ -84,16 +78,9 @@ fn symbol_unknown(
 }
 
 /// An expression: the symbols that it names, from left to right.
-fn term_unknown(
-    alloc: Global,
-    types: &Types,
-    line: u32,
-    form: &TermForm,
-) -> Result<(), FlatFault>
-    ensures {
-        (known : List Typed) → AreTypes known types.now
-            → IsJudged (flat_map (unknown_symbol known) (symbols_in line form.now)) result
-    }
+fn term_unknown(alloc: Global, types: &Types, line: u32, form: &TermForm) -> Result<(), FlatFault>
+    ensures { (known : List Typed) → AreTypes known types.now
+        → IsJudged (flat_map (unknown_symbol known) (symbols_in line form.now)) result }
 {
     match form {
         TermForm::Sym(of, symbol) => symbol_unknown(alloc, types, line, of, symbol),
@@ -112,20 +99,15 @@ fn term_unknown(
             term_unknown(alloc, types, parts.yes.line, &parts.yes.form)?;
             term_unknown(alloc, types, parts.no.line, &parts.no.form)
         }
-        TermForm::It
-        | TermForm::Unit
-        | TermForm::Bool(_)
-        | TermForm::Int(_)
-        | TermForm::Text(_) => Ok(()),
+        TermForm::It | TermForm::Unit | TermForm::Bool(_) | TermForm::Int(_) | TermForm::Text(_) =>
+            Ok(()),
     }
 }
 
 /// A channel: its expression.
 fn channel_unknown(alloc: Global, types: &Types, channel: &Channel) -> Result<(), FlatFault>
-    ensures {
-        (known : List Typed) → AreTypes known types.now
-            → IsJudged (unknown_in_channel known channel.now) result
-    }
+    ensures { (known : List Typed) → AreTypes known types.now
+        → IsJudged (unknown_in_channel known channel.now) result }
 {
     match channel {
         Channel::Filter(test) => term_unknown(alloc, types, test.line, &test.form),
@@ -148,10 +130,8 @@ fn item_unknown(
     line: u32,
     form: &Form,
 ) -> Result<(), FlatFault>
-    ensures {
-        (known : List Typed) → AreTypes known types.now
-            → IsJudged (unknown_in_item known connectors.now nodes.now line form.now) result
-    }
+    ensures { (known : List Typed) → AreTypes known types.now
+        → IsJudged (unknown_in_item known connectors.now nodes.now line form.now) result }
 {
     match form {
         Form::Node { term, .. } => type_unknown(alloc, &types.names, term.line, &term.shape),
@@ -173,10 +153,8 @@ fn item_unknown(
 
 /// Notes the node that an item declares, if it is one. `NoMemory` is out of memory.
 fn note_node(alloc: Global, nodes: &mut Names, form: &Form) -> Result<(), NoMemory>
-    ensures {
-        OnOk result ((names : List (List ℕ)) → SameNames nodes.old names
-            → SameNames nodes.new (names ++ node_names_in form.now))
-    }
+    ensures { OnOk result ((names : List (List ℕ)) → SameNames nodes.old names
+        → SameNames nodes.new (names ++ node_names_in form.now)) }
 {
     if let Form::Node { name, .. } = form {
         nodes.note(alloc, name.as_slice())?;
@@ -192,13 +170,11 @@ fn items_unknown(
     nodes: &mut Names,
     items: &[Item],
 ) -> Result<(), FlatFault>
-    ensures {
-        (known : List Typed) (cs : List (List ℕ)) (ps : List AParameter)
-            → AreTypes known types.now → SameNames connectors.now cs
-            → SameNames nodes.old (parameter_names ps)
-            → IsJudged (each_after (λ before (i : AnItem). unknown_in_item known cs
-                (parameter_names ps ++ node_names before) i.line i.form) [] items.now) result
-    }
+    ensures { (known : List Typed) (cs : List (List ℕ)) (ps : List AParameter)
+        → AreTypes known types.now → SameNames connectors.now cs
+        → SameNames nodes.old (parameter_names ps)
+        → IsJudged (each_after (λ before (i : AnItem). unknown_in_item known cs
+        (parameter_names ps ++ node_names before) i.line i.form) [] items.now) result }
 {
     for item in items {
         item_unknown(alloc, types, connectors, nodes, item.line, &item.form)?;
@@ -213,9 +189,8 @@ fn parameters_unknown(
     types: &Names,
     parameters: &[Parameter],
 ) -> Result<(), FlatFault>
-    ensures {
-        IsJudged (flat_map (λ (p : AParameter). unknown_in_type types.now p.term) parameters.now) result
-    }
+    ensures { IsJudged (flat_map (λ (p : AParameter). unknown_in_type types.now p.term)
+        parameters.now) result }
 {
     for parameter in parameters {
         type_unknown(alloc, types, parameter.term.line, &parameter.term.shape)?;
@@ -224,7 +199,7 @@ fn parameters_unknown(
 }
 
 /// The names of parameters. `NoMemory` is out of memory.
-fn names_of(alloc: Global, parameters: &[Parameter]) -> Result<Names, NoMemory>
+fn parameter_names(alloc: Global, parameters: &[Parameter]) -> Result<Names, NoMemory>
     ensures { IfOk result (λ names. SameNames names (parameter_names parameters.now)) }
 {
     let mut names = Names::new(alloc);
@@ -241,16 +216,15 @@ fn connector_unknown(
     connectors: &Names,
     connector: &Connector,
 ) -> Result<(), FlatFault>
-    ensures {
-        (known : List Typed) (cs : List (List ℕ))
-            → AreTypes known types.now → SameNames connectors.now cs
-            → IsJudged (unknown_in_connector known cs connector.now) result
-    }
+    ensures { (known : List Typed) (cs : List (List ℕ))
+        → AreTypes known types.now → SameNames connectors.now cs
+        → IsJudged (unknown_in_connector known cs connector.now) result }
 {
     let parameters = connector.parameters.as_slice();
     parameters_unknown(alloc, &types.names, parameters)?;
-    let mut nodes = names_of(alloc, parameters)?;
-    items_unknown(alloc, types, connectors, &mut nodes, connector.items.as_slice())
+    let mut nodes = parameter_names(alloc, parameters)?;
+    let items = connector.items.as_slice();
+    items_unknown(alloc, types, connectors, &mut nodes, items)
 }
 
 /// Declarations one after another; each counts once it is complete.

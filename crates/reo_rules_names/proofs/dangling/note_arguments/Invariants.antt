@@ -11,5 +11,5 @@ abbrev pub invariant-loop-argument : goal.invariant-loop-argument
 invariant-loop-argument l =
     (touches : List Touch) → AreEnds touches l.fn.ends
     → (done : List Touch) × AreEnds (touches ++ done) l.ends
-      × (map (λ (q : List ℕ × Bool). touch q.0 q.1) (zip l.arguments l.ways)
-         ≡ done ++ map (λ (q : List ℕ × Bool). touch q.0 q.1) (zip (iter_rest (zip_first l.argument-iterator)) (iter_rest (zip_second l.argument-iterator))))
+    × (map (λ (q : List ℕ × Bool). touch q.0 q.1) (zip l.arguments l.ways)
+    ≡ done ++ map (λ (q : List ℕ × Bool). touch q.0 q.1) (zip (iter_rest (zip_first l.argument-iterator)) (iter_rest (zip_second l.argument-iterator))))

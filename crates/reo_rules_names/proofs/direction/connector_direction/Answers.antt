@@ -10,6 +10,6 @@ pub returns : goal.returns
 returns c known are =
     let ps = c.as_slice.result.now in
     let all =
-        ap (flat_map (λ (i : Item). direction_in_item known ps i.line i.form)) c.as_slice-2.ensures
-        ∙ ap (λ qs. flat_map (λ (i : Item). direction_in_item known qs i.line i.form) c.args.connector.now.items) c.as_slice.ensures in
+    ap (flat_map (λ (i : Item). direction_in_item known ps i.line i.form)) c.as_slice-2.ensures
+    ∙ ap (λ qs. flat_map (λ (i : Item). direction_in_item known qs i.line i.form) c.args.connector.now.items) c.as_slice.ensures in
     judged_same _ _ c.items_direction.result all (c.items_direction.ensures known ps are c.in_ok-closed.ensures)

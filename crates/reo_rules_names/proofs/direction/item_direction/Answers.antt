@@ -17,8 +17,8 @@ returns-in-Used c known ps are closed =
     let ways = c.ways-ways.result.now in
     let ways-is = c.ways-ways.ensures known are ∙ ap (λ n. map (λ (p : Parameter). p.inward) (parameters_named known n)) c.as_slice.ensures in
     let all =
-        ap (λ names. flat_map (λ (q : List ℕ × Bool). against ps line (touch q.0 q.1)) (zip names ways)) c.as_slice-in-Used.ensures
-        ∙ sym (flat_map-map (against ps line) (λ (q : List ℕ × Bool). touch q.0 q.1) (zip c.in-Used.arguments ways))
-        ∙ ap (flat_map (against ps line)) (used_touches known c.in-Used.name c.in-Used.arguments ways ways-is)
-        ∙ ap (direction_in_item known ps line) (sym c.in-Used.is) in
+    ap (λ names. flat_map (λ (q : List ℕ × Bool). against ps line (touch q.0 q.1)) (zip names ways)) c.as_slice-in-Used.ensures
+    ∙ sym (flat_map-map (against ps line) (λ (q : List ℕ × Bool). touch q.0 q.1) (zip c.in-Used.arguments ways))
+    ∙ ap (flat_map (against ps line)) (used_touches known c.in-Used.name c.in-Used.arguments ways ways-is)
+    ∙ ap (direction_in_item known ps line) (sym c.in-Used.is) in
     judged_same _ _ c.use_direction.result all (c.use_direction.ensures ps closed)

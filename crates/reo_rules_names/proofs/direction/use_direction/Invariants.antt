@@ -12,4 +12,4 @@ abbrev pub invariant-loop-argument : goal.invariant-loop-argument
 invariant-loop-argument l =
     (ps : List Parameter) → AreClosed ps l.closed
     → flat_map (λ (q : List ℕ × Bool). against ps l.line (touch q.0 q.1)) (zip l.arguments l.ways)
-      ≡ flat_map (λ (q : List ℕ × Bool). against ps l.line (touch q.0 q.1)) (zip (iter_rest (zip_first l.argument-iterator)) (iter_rest (zip_second l.argument-iterator)))
+    ≡ flat_map (λ (q : List ℕ × Bool). against ps l.line (touch q.0 q.1)) (zip (iter_rest (zip_first l.argument-iterator)) (iter_rest (zip_second l.argument-iterator)))

@@ -29,7 +29,7 @@ returns c known cs are connectors =
     let items = each_after (λ before (i : Item). unknown_in_item known cs (parameter_names k.parameters ++ node_names before) i.line i.form) [] k.items in
     let all = types_same c.args.types.now.names (names_of known) are.names ps ∙ ap (flat_map (λ (p : Parameter). unknown_in_type (names_of known) p.term)) c.as_slice-parameters.ensures in
     let second =
-        ap (each_after (λ before (i : Item). unknown_in_item known cs (parameter_names ps ++ node_names before) i.line i.form) []) c.as_slice.ensures
-        ∙ ap (λ qs. each_after (λ before (i : Item). unknown_in_item known cs (parameter_names qs ++ node_names before) i.line i.form) [] k.items) c.as_slice-parameters.ensures in
+    ap (each_after (λ before (i : Item). unknown_in_item known cs (parameter_names ps ++ node_names before) i.line i.form) []) c.as_slice-items.ensures
+    ∙ ap (λ qs. each_after (λ before (i : Item). unknown_in_item known cs (parameter_names qs ++ node_names before) i.line i.form) [] k.items) c.as_slice-parameters.ensures in
     judged_right first items c.items_unknown.result (sym all ∙ c.in_ok-parameters_unknown.ensures)
     (judged_same _ _ c.items_unknown.result second (c.items_unknown.ensures known cs ps are connectors c.in_ok-nodes.ensures))

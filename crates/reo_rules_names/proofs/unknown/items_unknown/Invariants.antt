@@ -14,4 +14,4 @@ abbrev pub invariant-loop-item : goal.invariant-loop-item
 invariant-loop-item l =
     (known : List Typed) (cs : List (List ℕ)) (ps : List Parameter) → AreTypes known l.types → SameNames l.connectors cs → SameNames l.fn.nodes (parameter_names ps)
     → SameNames l.nodes (parameter_names ps ++ node_names (take l.item-index l.items))
-      × (each_after (λ before (i : Item). unknown_in_item known cs (parameter_names ps ++ node_names before) i.line i.form) [] (take l.item-index l.items) ≡ [])
+    × (each_after (λ before (i : Item). unknown_in_item known cs (parameter_names ps ++ node_names before) i.line i.form) [] (take l.item-index l.items) ≡ [])

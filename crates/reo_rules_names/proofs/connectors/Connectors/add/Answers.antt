@@ -20,8 +20,8 @@ returns c =
     let k = c.args.connector.now in
     on_ok_weaker c.push.result
     (λ (pushed : c.push.new.self ≡ t.ways ++ c.in_ok-ways.ways ∷ []) known are.
-        connector_pushed known k t are c.note.new.self c.push.new.self
-        (c.in_ok-note.ensures.names ∙ ap (with_name t.names) c.as_slice.ensures)
-        (ap (has_name t.names) (sym c.as_slice.ensures) ∙ sym c.in_ok-note.ensures.there ∙ c.if-branch.false)
-        (pushed ∙ ap (λ w. t.ways ++ w ∷ []) (c.in_ok-ways.ensures ∙ ap ways c.as_slice-2.ensures)))
+    connector_pushed known k t are c.note.new.self c.push.new.self
+    (c.in_ok-note.ensures.names ∙ ap (with_name t.names) c.as_slice.ensures)
+    (ap (has_name t.names) (sym c.as_slice.ensures) ∙ sym c.in_ok-note.ensures.there ∙ c.if-branch.false)
+    (pushed ∙ ap (λ w. t.ways ++ w ∷ []) (c.in_ok-ways.ensures ∙ ap ways c.as_slice-2.ensures)))
     c.push.ensures.ok

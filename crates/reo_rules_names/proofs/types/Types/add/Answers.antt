@@ -21,10 +21,10 @@ returns c =
     let t = c.number.new.self in
     on_ok_weaker c.push.result
     (λ (pushed : c.push.new.self ≡ t.numbers ++ c.in_ok-number.number ∷ []) known are.
-        let e : Typed = record { name = c.args.name.now; kindred = resolved known c.args.shape.now } in
-        let both = c.in_ok-number.ensures known are in
-        type_pushed known e t both.0 c.note.new.self c.push.new.self c.in_ok-number.number
-        (c.in_ok-note.ensures.names ∙ ap (with_name t.names) c.as_slice.ensures)
-        (ap (has_name t.names) (sym c.as_slice.ensures) ∙ sym c.in_ok-note.ensures.there ∙ c.if-branch.false)
-        pushed both.1)
+    let e : Typed = record { name = c.args.name.now; kindred = resolved known c.args.shape.now } in
+    let both = c.in_ok-number.ensures known are in
+    type_pushed known e t both.0 c.note.new.self c.push.new.self c.in_ok-number.number
+    (c.in_ok-note.ensures.names ∙ ap (with_name t.names) c.as_slice.ensures)
+    (ap (has_name t.names) (sym c.as_slice.ensures) ∙ sym c.in_ok-note.ensures.there ∙ c.if-branch.false)
+    pushed both.1)
     c.push.ensures.ok

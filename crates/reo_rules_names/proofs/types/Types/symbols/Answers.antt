@@ -1,9 +1,8 @@
 -- The set of the number that stands beside the name.
-use Rattle.std.proofs.Common.{◌≡◌, ◌∙◌, [], ℕ, List, get_or, sym, subst}
+use Rattle.std.proofs.Common.{◌∙◌, [], get_or, sym, subst}
 use Rattle.std.proofs.lemmas.Option.{slice_get-get_or}
 use Rattle.reo_rules_base.specs.Types.{type_named}
-use Rattle.reo_rules_base.specs.Unknown.{missing, lacking}
-use Rattle.reo_rules_names.specs.Symbols.{IsSetOf}
+use Rattle.reo_rules_names.specs.Symbols.{IsSetOf, LacksNone, LacksOthers}
 use Rattle.reo_rules_names.proofs.SymbolLemmas.{set_found}
 use Rattle.reo_rules_names.proofs.types.Types.symbols.Goals as goal
 
@@ -13,7 +12,7 @@ returns-in-Some c known are =
     let n = c.in-Some.number in
     let type = type_named known c.args.name.now in
     let is = subst (λ o. IsSetOf sets o type) (sym (c.number_of.ensures are.paired) ∙ c.in-Some.is) (are.symbols c.args.name.now) in
-    set_found c.get.result (get_or sets n []) ((line : ℕ) (s : List ℕ) → lacking type line s ≡ []) (λ set. (line : ℕ) (s : List ℕ) → lacking type line s ≡ missing set line s)
+    set_found c.get.result (get_or sets n []) (LacksNone type) (LacksOthers type)
     (c.get.ensures ∙ slice_get-get_or sets n [] is.0) is.1
 
 pub returns-in-None : goal.returns-in-None

@@ -7,7 +7,7 @@ use Rattle.reo_rules_base.specs.Scopes.{parameter_names}
 use Rattle.reo_rules_base.proofs.AfterLemmas.{more_mapped}
 use Rattle.reo_rules_names.specs.SameNames.{SameNames}
 use Rattle.reo_rules_names.proofs.SameLemmas.{same_noted}
-use Rattle.reo_rules_names.proofs.unknown.names_of.Goals as goal
+use Rattle.reo_rules_names.proofs.unknown.parameter_names.Goals as goal
 
 pub loop-parameter-preserved : goal.loop-parameter-preserved
 loop-parameter-preserved c n =
