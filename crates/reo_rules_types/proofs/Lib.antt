@@ -1,3 +1,13 @@
 pub mod Lists
 pub mod Told
 pub mod Tabled
+pub mod Kept
+pub mod Same
+pub mod Places
+pub mod Cells
+pub mod OfKinds
+pub mod OfLiterals
+pub mod Scoped
+pub mod Formed
+pub mod Shaped
+pub mod Sizes

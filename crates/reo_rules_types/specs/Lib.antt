@@ -1,2 +1,5 @@
 pub mod Cells
 pub mod Table
+pub mod Scoped
+pub mod Kinded
+pub mod Literals

@@ -2,7 +2,15 @@
 #![tactic(auto)]
 
 mod cell;
+mod kinds;
+mod literals;
+mod scope;
+mod shapes;
 mod types;
 
 pub use cell::Cell;
+pub use kinds::kind_of_term;
+pub use literals::is_literal;
+pub use scope::Scope;
+pub use shapes::number_of;
 pub use types::Types;
