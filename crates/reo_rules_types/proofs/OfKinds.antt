@@ -23,7 +23,7 @@ use Rattle.reo_rules_types.specs.Cells.{type_at, Keeps}
 use Rattle.reo_rules_types.specs.Kinded.{fits_test, kind_of_form, IsMade}
 use Rattle.reo_rules_types.specs.Scoped.{typed, AreKnown}
 use Rattle.reo_rules_types.proofs.Scoped.{typed_kept}
-use Rattle.reo_rules_types.proofs.Kept.{at_told, at_within, kept_at, kept_below}
+use Rattle.reo_rules_types.proofs.Kept.{at_told, at_within, kept_at, kept_below, keeps_both}
 use Rattle.reo_rules_types.proofs.Same.{same_told, same_self, same_tests}
 
 -- Kinds join where they are the same.
@@ -90,3 +90,25 @@ truth_kinded op x y f g (inr (inr (inl e))) =
     subst (λ o. (if fits_test o x y then Some kinds.Bool else None) ≡ binary_kind o x y) (sym e) (ap (λ b. if b then Some kinds.Bool else None) (sym (join_kinds x y f g)) ∙ by_test (joins x y))
 truth_kinded op x y f g (inr (inr (inr e))) =
     subst (λ o. (if fits_test o x y then Some kinds.Bool else None) ≡ binary_kind o x y) (sym e) (ap (λ b. if b then Some kinds.Bool else None) (sym (join_kinds x y f g)) ∙ by_test (joins x y))
+
+-- Two and three kinds that were made one after another.
+module _ (t0 t1 t2 : List Kindred) (k1 : Keeps t0 t1) (k2 : Keeps t1 t2) (es : List (List ℕ × ℕ)) (known : AreKnown t0 es) (of : ℕ) (below : of < length t0) where
+  abbrev kf : TermForm → Option Kindred
+  kf f = kind_of_form (typed t0 es) f (type_at t0 of)
+
+  pub two_made : (f g : TermForm) (o p : Option ℕ) (x y : ℕ) → o ≡ Some x → p ≡ Some y → IsMade t1 o (kf f) → IsMade t2 p (kind_of_form (typed t1 es) g (type_at t1 of)) → IsMade t2 (Some x) (kf f) × IsMade t2 (Some y) (kf g)
+  two_made f g o p x y at here first second = (
+    made_kept t1 t2 k2 (Some x) (kf f) (made_some t1 o (kf f) x at first),
+    subst (IsMade t2 (Some y)) (same_form t0 t1 k1 es known of below g) (made_some t2 p (kind_of_form (typed t1 es) g (type_at t1 of)) y here second),
+  )
+
+  module _ (t3 : List Kindred) (k3 : Keeps t2 t3) where
+    pub three_made : (f g h : TermForm) (o p q : Option ℕ) (x y z : ℕ) → o ≡ Some x → p ≡ Some y → q ≡ Some z → IsMade t1 o (kf f) → IsMade t2 p (kind_of_form (typed t1 es) g (type_at t1 of))
+        → IsMade t3 q (kind_of_form (typed t2 es) h (type_at t2 of)) → IsMade t3 (Some x) (kf f) × IsMade t3 (Some y) (kf g) × IsMade t3 (Some z) (kf h)
+    three_made f g h o p q x y z a b d first second third =
+        let made = two_made f g o p x y a b first second in
+        let keeps = keeps_both t0 t1 t2 k1 k2 in (
+          made_kept t2 t3 k3 (Some x) (kf f) made.0,
+          made_kept t2 t3 k3 (Some y) (kf g) made.1,
+          subst (IsMade t3 (Some z)) (same_form t0 t2 keeps es known of below h) (made_some t3 q (kind_of_form (typed t2 es) h (type_at t2 of)) z d third),
+        )
