@@ -11,3 +11,4 @@ pub mod Scoped
 pub mod Formed
 pub mod Shaped
 pub mod Sizes
+pub mod Signed

@@ -19,6 +19,7 @@ use Rattle.reo_exprs.proofs.Steps.{is_kind}
 use Rattle.reo_trees.specs.declared.terms.TermForm.{TermForm}
 use Rattle.reo_rules_base.specs.Types.{Typed, is_same}
 use Rattle.reo_rules_base.specs.Terms.{expr_of}
+use Rattle.reo_rules_base.specs.Mistyped.{is_kind as is_that_kind, has_kind}
 use Rattle.reo_rules_types.specs.Cells.{type_at, Keeps}
 use Rattle.reo_rules_types.specs.Kinded.{fits_test, kind_of_form, IsMade}
 use Rattle.reo_rules_types.specs.Scoped.{typed, AreKnown}
@@ -112,3 +113,11 @@ module _ (t0 t1 t2 : List Kindred) (k1 : Keeps t0 t1) (k2 : Keeps t1 t2) (es : L
           made_kept t2 t3 k3 (Some y) (kf g) made.1,
           subst (IsMade t3 (Some z)) (same_form t0 t2 keeps es known of below h) (made_some t3 q (kind_of_form (typed t2 es) h (type_at t2 of)) z d third),
         )
+
+-- The kind that a channel wants.
+pub has_kind-form : (known : List Typed) (f : TermForm) (of want : Kindred) → has_kind of want (expr_of known f) ≡ is_that_kind want (kind_of_form known f of)
+has_kind-form known f of want = by (expr_of known f)
+  where
+    by : (o : Option Expr) → has_kind of want o ≡ is_that_kind want (option_and_then (λ (e : Expr). kind_of_expr e of) o)
+    by None = refl
+    by (Some e) = refl

@@ -3,3 +3,4 @@ pub mod Table
 pub mod Scoped
 pub mod Kinded
 pub mod Literals
+pub mod Signed

@@ -2,15 +2,19 @@
 #![tactic(auto)]
 
 mod cell;
+mod channels;
 mod kinds;
 mod literals;
 mod scope;
+mod scopes;
 mod shapes;
 mod types;
 
 pub use cell::Cell;
+pub use channels::{channel_mistyped, use_mistyped};
 pub use kinds::kind_of_term;
 pub use literals::is_literal;
 pub use scope::Scope;
+pub use scopes::read_scope;
 pub use shapes::number_of;
 pub use types::Types;

@@ -180,13 +180,20 @@ impl Types {
         }
     }
 
+    /// Whether two numbers are those of one type, where both are numbers of types.
+    pub fn alike(&self, a: usize, b: usize) -> bool
+        ensures { (k l : AType) → slice_get self.now a ≡ Some k → slice_get self.now b ≡ Some l → result ≡ is_same k l }
+    {
+        let _map = &self.map;
+        a == b
+    }
+
     /// Whether two types are the same.
     pub fn same(&self, a: usize, b: usize) -> bool
         requires a { a < length self.now }
         requires b { b < length self.now }
         ensures { result ≡ is_same (type_at self.now a) (type_at self.now b) }
     {
-        let _map = &self.map;
-        a == b
+        self.alike(a, b)
     }
 }
