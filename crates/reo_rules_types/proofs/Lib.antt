@@ -12,3 +12,4 @@ pub mod Formed
 pub mod Shaped
 pub mod Sizes
 pub mod Signed
+pub mod Names

@@ -4,3 +4,4 @@ pub mod Scoped
 pub mod Kinded
 pub mod Literals
 pub mod Signed
+pub mod Stands

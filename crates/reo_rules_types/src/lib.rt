@@ -4,17 +4,18 @@
 mod cell;
 mod channels;
 mod kinds;
+mod known;
 mod literals;
+mod mistyped;
 mod scope;
 mod scopes;
 mod shapes;
 mod types;
 
 pub use cell::Cell;
-pub use channels::{channel_mistyped, use_mistyped};
 pub use kinds::kind_of_term;
 pub use literals::is_literal;
+pub use mistyped::judge_mistyped;
 pub use scope::Scope;
-pub use scopes::read_scope;
 pub use shapes::number_of;
 pub use types::Types;

@@ -12,12 +12,41 @@ ghost use Rattle.reo_rules_types.specs.Cells.{Keeps};
 ghost use Rattle.reo_rules_types.specs.Scoped.{typed, AreKnown};
 ghost use Rattle.reo_rules_types.specs.Signed.{AreOf, parameter_types};
 
+use crate::cell::Cell;
 use crate::scope::Scope;
 use crate::shapes::number_of;
 use crate::types::Types;
 use reo_trees::{Connector, Form, Item, Parameter, Shape};
 use reo_values::{Bytes, List, NoMemory};
 use std::alloc::Global;
+
+/// The type `unit` with the number 0, and no other. `NoMemory` means out of memory.
+pub(crate) fn first_types(alloc: Global) -> Result<Types, NoMemory>
+    ensures { IfOk result (λ types. AreKnown types []) }
+{
+    let mut types = Types::new(alloc);
+    types.put(alloc, Cell::Unit)?;
+    Ok(types)
+}
+
+/// Adds a type's name with its written type. All types keep their numbers. `NoMemory` means out
+/// of memory.
+pub(crate) fn declare_type(
+    alloc: Global,
+    types: &mut Types,
+    declared: &mut Scope,
+    name: &Bytes,
+    shape: &Shape,
+) -> Result<(), NoMemory>
+    requires known { AreKnown types.old declared.old }
+    requires new { has_name (keys_of declared.old) name.now ≡ false }
+    ensures keeps { OnOk result (Keeps types.old types.new) }
+    ensures known { OnOk result (AreKnown types.new declared.new) }
+    ensures scope { OnOk result (typed types.new declared.new ≡ typed types.old declared.old ++ record { name = name.now; kindred = resolved (typed types.old declared.old) shape.now } ∷ []) }
+{
+    let number = number_of(alloc, types, declared, shape)?;
+    declared.add(alloc, name.as_slice(), number)
+}
 
 // Adds a name with a written type, and answers the number of the type.
 fn declare(
@@ -93,7 +122,7 @@ fn read_nodes(
 
 /// Adds the parameters and nodes of a connector to an empty scope, and answers the numbers of the
 /// parameters' types. All types keep their numbers. `NoMemory` means out of memory.
-pub fn read_scope(
+pub(crate) fn read_scope(
     alloc: Global,
     types: &mut Types,
     declared: &Scope,
