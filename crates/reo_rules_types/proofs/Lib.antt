@@ -13,3 +13,6 @@ pub mod Shaped
 pub mod Sizes
 pub mod Signed
 pub mod Names
+pub mod Settled
+pub mod Signatures
+pub mod Standing

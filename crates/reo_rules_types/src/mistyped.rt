@@ -20,7 +20,7 @@ ghost use Rattle.reo_rules_types.specs.Stands.{Stands};
 use crate::channels::{channel_mistyped, use_mistyped};
 use crate::known::Known;
 use crate::scope::Scope;
-use crate::scopes::{declare_type, first_types, read_scope};
+use crate::scopes::{declare_type, read_scope};
 use crate::types::Types;
 use reo_rules_base::{FlatFault, Names};
 use reo_trees::{Connector, Declaration, Form, Item, Program};
@@ -126,7 +126,7 @@ pub fn judge_mistyped(alloc: Global, program: &Program) -> Result<(), FlatFault>
     ensures { IsJudged (mistyped program.now.declarations) result }
 {
     let declarations = program.declarations.as_slice();
-    let mut types = first_types(alloc)?;
+    let mut types = Types::new(alloc)?;
     let mut known = Known {
         declared: Scope::new(alloc),
         connectors: Names::new(alloc),

@@ -12,22 +12,12 @@ ghost use Rattle.reo_rules_types.specs.Cells.{Keeps};
 ghost use Rattle.reo_rules_types.specs.Scoped.{typed, AreKnown};
 ghost use Rattle.reo_rules_types.specs.Signed.{AreOf, parameter_types};
 
-use crate::cell::Cell;
 use crate::scope::Scope;
 use crate::shapes::number_of;
 use crate::types::Types;
 use reo_trees::{Connector, Form, Item, Parameter, Shape};
 use reo_values::{Bytes, List, NoMemory};
 use std::alloc::Global;
-
-/// The type `unit` with the number 0, and no other. `NoMemory` means out of memory.
-pub(crate) fn first_types(alloc: Global) -> Result<Types, NoMemory>
-    ensures { IfOk result (λ types. AreKnown types []) }
-{
-    let mut types = Types::new(alloc);
-    types.put(alloc, Cell::Unit)?;
-    Ok(types)
-}
 
 /// Adds a type's name with its written type. All types keep their numbers. `NoMemory` means out
 /// of memory.

@@ -76,13 +76,15 @@ fn symbols_of(alloc: Global, cell: &Cell) -> Result<Names, NoMemory>
 }
 
 impl Types {
-    /// No types.
-    pub fn new(alloc: Global) -> Self
-        ensures { result ≡ [] }
+    /// The type `unit`, with the number 0. `NoMemory` means out of memory.
+    pub fn new(alloc: Global) -> Result<Self, NoMemory>
+        ensures { IfOk result (λ types. slice_get types 0 ≡ Some AType.Unit) }
     {
-        Types {
+        let mut types = Types {
             map: IndexMap::new(alloc),
-        }
+        };
+        types.keep(alloc, Cell::Unit, None)?;
+        Ok(types)
     }
 
     /// The number of the type of a cell, which is added where it is not there. Its kind is there
@@ -92,6 +94,7 @@ impl Types {
         requires kind { let of = kindred_of self.old cell in MatchOption kind (kind_of of ≡ of) (λ n. slice_get self.old n ≡ Some (kind_of of)) }
         ensures keeps { OnOk result (Keeps self.old self.new) }
         ensures number { IfOk result (λ n. slice_get self.new n ≡ Some (kindred_of self.old cell)) }
+        ensures first { self.old ≡ [] → IfOk result (λ n. n ≡ 0) }
     {
         if let Some(number) = self.map.get_index_of(&cell) {
             return Ok(number);

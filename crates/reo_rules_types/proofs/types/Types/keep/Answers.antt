@@ -67,3 +67,16 @@ pub returns-in-Ok-clause-number : goal.returns-in-Ok-clause-number
 returns-in-Ok-clause-number c =
     ap (λ ts. slice_get ts c.len-number.result) (grown (es c) c.insert.new.self.entries c.args.cell (facts c) (more c))
     ∙ ap (slice_get (types c ++ k c ∷ [])) (number_is c) ∙ last_is (types c) (k c) ∙ ap (λ ts. Some (kindred_of ts c.args.cell)) c.self.view_is
+
+-- The first type has the number 0.
+none_in : (types : List Kindred) (n : ℕ) (t : Kindred) → types ≡ [] → slice_get types n ≡ Some t → ⊥
+none_in types n t none is = let h : slice_get [] n ≡ Some t = ap (λ ts. slice_get ts n) (sym none) ∙ is in absurd (cc)
+
+pub returns-in-Some-clause-first : goal.returns-in-Some-clause-first
+returns-in-Some-clause-first c none =
+    let es = c.self.inside.map.entries in
+    let at = found (kindreds_of (keys_of es)) es c.self.invariant c.args.cell c.in-Some.number (sym c.in-Some.ensures.index) in
+    absurd (none_in (kindreds_of (keys_of es)) c.in-Some.number _ (c.self.view_is ∙ none) at)
+
+pub returns-in-Ok-clause-first : goal.returns-in-Ok-clause-first
+returns-in-Ok-clause-first c none = number_is c ∙ ap length (c.self.view_is ∙ none)
