@@ -3,6 +3,7 @@
 
 mod cell;
 mod channels;
+mod exprs;
 mod kinds;
 mod known;
 mod literals;
@@ -10,12 +11,15 @@ mod mistyped;
 mod scope;
 mod scopes;
 mod shapes;
+mod trees;
 mod types;
 
 pub use cell::Cell;
+pub use exprs::expr_of_term;
 pub use kinds::kind_of_term;
 pub use literals::is_literal;
 pub use mistyped::judge_mistyped;
 pub use scope::Scope;
 pub use shapes::number_of;
+pub use trees::{is_deeper, tree_of};
 pub use types::Types;
