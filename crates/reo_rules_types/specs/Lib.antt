@@ -5,3 +5,4 @@ pub mod Kinded
 pub mod Literals
 pub mod Signed
 pub mod Stands
+pub mod Resolved

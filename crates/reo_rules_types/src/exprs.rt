@@ -1,8 +1,8 @@
 //! Expressions, their names resolved.
-ghost use Rattle.std.specs.Prelude.{◌≡◌, ◌<◌, length, map, Some, IfOk, bytes_eq};
-ghost use Rattle.std.specs.List.{position_from};
+ghost use Rattle.std.specs.Prelude.{◌≡◌, ◌<◌, length, map, Some, IfOk, bytes_eq, position};
 ghost use Rattle.reo_rules_base.specs.Terms.{symbol_in, expr_of};
 ghost use Rattle.reo_rules_types.specs.Cells.{type_at};
+ghost use Rattle.reo_rules_types.specs.Resolved.{pair_of};
 ghost use Rattle.reo_rules_types.specs.Scoped.{typed, AreKnown};
 
 use crate::cell::Cell;
@@ -10,12 +10,12 @@ use crate::scope::Scope;
 use crate::trees::names_of;
 use crate::types::Types;
 use reo_exprs::{Expr, ExprPair, ExprTriple};
-use reo_trees::{Binary, TermForm, Unary};
+use reo_trees::{Binary, Term, TermForm, Unary};
 use reo_values::{Boxed, NoMemory};
 use std::alloc::Global;
 
 fn place_of(names: &[Vec<u8>], name: &[u8]) -> Option<usize>
-    ensures { result ≡ position_from (bytes_eq name.now) 0 (map (λ v. v.items) names.now) }
+    ensures { result ≡ position (λ v. bytes_eq name.now v.items) names.now }
 {
     names.iter().position(|other| name == other.as_slice())
 }
@@ -54,15 +54,42 @@ fn two_expr(alloc: Global, op: Binary, pair: ExprPair) -> Result<Option<Expr>, N
     Ok(Some(Expr::Two(op, Boxed::new(alloc, pair)?)))
 }
 
-fn if_expr(alloc: Global, parts: ExprTriple) -> Result<Option<Expr>, NoMemory>
-    ensures { IfOk result (λ made. made ≡ Some (Expr.If parts)) }
+fn if_expr(alloc: Global, condition: Expr, pair: ExprPair) -> Result<Option<Expr>, NoMemory>
+    ensures { IfOk result (λ made. made ≡ Some (Expr.If (record { condition = condition; yes = pair.left; no = pair.right }))) }
 {
+    let parts = ExprTriple {
+        condition,
+        yes: pair.left,
+        no: pair.right,
+    };
     Ok(Some(Expr::If(Boxed::new(alloc, parts)?)))
+}
+
+// What two written expressions stand for, where each stands for something.
+#[cycle(resolving)]
+fn two_of(
+    alloc: Global,
+    types: &Types,
+    declared: &Scope,
+    left: &Term,
+    right: &Term,
+) -> Result<Option<ExprPair>, NoMemory>
+    requires { AreKnown types.now declared.now }
+    ensures { IfOk result (λ made. made ≡ pair_of (expr_of (typed types.now declared.now) left.now.form) (expr_of (typed types.now declared.now) right.now.form)) }
+{
+    let Some(left) = expr_of_term(alloc, types, declared, &left.form)? else {
+        return Ok(None);
+    };
+    match expr_of_term(alloc, types, declared, &right.form)? {
+        Some(right) => Ok(Some(ExprPair { left, right })),
+        None => Ok(None),
+    }
 }
 
 /// What a written expression stands for, or None exactly where some `T.s` is no symbol of a sym
 /// type. `NoMemory` means out of memory, or a symbol whose place is above 65,535, which no program
 /// has that keeps the bounds of types.
+#[cycle(resolving)]
 pub fn expr_of_term(
     alloc: Global,
     types: &Types,
@@ -90,13 +117,10 @@ pub fn expr_of_term(
         }
         TermForm::Two(op, pair) => {
             let pair = pair.get();
-            let Some(left) = expr_of_term(alloc, types, declared, &pair.left.form)? else {
-                return Ok(None);
-            };
-            let Some(right) = expr_of_term(alloc, types, declared, &pair.right.form)? else {
-                return Ok(None);
-            };
-            two_expr(alloc, *op, ExprPair { left, right })
+            match two_of(alloc, types, declared, &pair.left, &pair.right)? {
+                Some(pair) => two_expr(alloc, *op, pair),
+                None => Ok(None),
+            }
         }
         TermForm::If(parts) => {
             let parts = parts.get();
@@ -104,13 +128,10 @@ pub fn expr_of_term(
             else {
                 return Ok(None);
             };
-            let Some(yes) = expr_of_term(alloc, types, declared, &parts.yes.form)? else {
-                return Ok(None);
-            };
-            let Some(no) = expr_of_term(alloc, types, declared, &parts.no.form)? else {
-                return Ok(None);
-            };
-            if_expr(alloc, ExprTriple { condition, yes, no })
+            match two_of(alloc, types, declared, &parts.yes, &parts.no)? {
+                Some(pair) => if_expr(alloc, condition, pair),
+                None => Ok(None),
+            }
         }
     }
 }

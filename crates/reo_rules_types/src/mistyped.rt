@@ -118,6 +118,31 @@ fn connector_mistyped(
     Ok(())
 }
 
+// The first item of a program that does not fit, once nothing is known.
+fn declarations_mistyped(
+    alloc: Global,
+    types: &mut Types,
+    known: &mut Known,
+    declarations: &[Declaration],
+) -> Result<(), FlatFault>
+    requires known { AreKnown types.old known.old.declared }
+    requires stands { Stands [] types.old known.old }
+    requires names { KeepsNames declarations.now }
+    ensures { IsJudged (mistyped declarations.now) result }
+{
+    for declaration in declarations {
+        match declaration {
+            Declaration::Named { name, term, .. } => {
+                declare_type(alloc, types, &mut known.declared, name, &term.shape)?;
+            }
+            Declaration::Made(connector) => {
+                connector_mistyped(alloc, types, known, connector)?;
+            }
+        }
+    }
+    Ok(())
+}
+
 /// The first item whose types do not fit: a channel that joins nodes of two types, a literal that
 /// is no item of its node's type, an expression of another kind than is wanted or of none, or an
 /// argument of another type than its parameter. `NoMemory` means out of memory.
@@ -125,22 +150,16 @@ pub fn judge_mistyped(alloc: Global, program: &Program) -> Result<(), FlatFault>
     requires { KeepsNames program.now.declarations }
     ensures { IsJudged (mistyped program.now.declarations) result }
 {
-    let declarations = program.declarations.as_slice();
     let mut types = Types::new(alloc)?;
     let mut known = Known {
         declared: Scope::new(alloc),
         connectors: Names::new(alloc),
         signatures: List::new(alloc),
     };
-    for declaration in declarations {
-        match declaration {
-            Declaration::Named { name, term, .. } => {
-                declare_type(alloc, &mut types, &mut known.declared, name, &term.shape)?;
-            }
-            Declaration::Made(connector) => {
-                connector_mistyped(alloc, &mut types, &mut known, connector)?;
-            }
-        }
-    }
-    Ok(())
+    declarations_mistyped(
+        alloc,
+        &mut types,
+        &mut known,
+        program.declarations.as_slice(),
+    )
 }

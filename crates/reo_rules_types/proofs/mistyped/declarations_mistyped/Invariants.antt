@@ -4,7 +4,7 @@ use Rattle.reo_rules_base.specs.Lists.{each_after}
 use Rattle.reo_rules_base.specs.Mistyped.{mistyped_in}
 use Rattle.reo_rules_types.specs.Scoped.{AreKnown}
 use Rattle.reo_rules_types.specs.Stands.{Stands}
-use Rattle.reo_rules_types.proofs.mistyped.judge_mistyped.Given as goal
+use Rattle.reo_rules_types.proofs.mistyped.declarations_mistyped.Given as goal
 
 abbrev pub invariant-loop-declaration : goal.invariant-loop-declaration
 invariant-loop-declaration l =

@@ -14,39 +14,38 @@ use Rattle.reo_values.specs.declared.kindred.Kindred.{Kindred}
 use Rattle.reo_rules_types.specs.declared.known.Known.{Known}
 use Rattle.reo_rules_types.specs.Scoped.{AreKnown}
 use Rattle.reo_rules_types.specs.Stands.{Stands}
-use Rattle.reo_rules_types.proofs.mistyped.judge_mistyped.Goals as goal
-use Rattle.reo_rules_types.proofs.mistyped.judge_mistyped.Goals.{in-Named+in_ok-declare_type-in-Named, in-Made+in_ok-connector_mistyped-in-Made}
+use Rattle.reo_rules_types.proofs.mistyped.declarations_mistyped.Goals as goal
+use Rattle.reo_rules_types.proofs.mistyped.declarations_mistyped.Goals.{in-Named+in_ok-declare_type-in-Named, in-Made+in_ok-connector_mistyped-in-Made}
 
 pub declare_type-requires-clause-new : goal.declare_type-requires-clause-new
 declare_type-requires-clause-new c =
-    let ds = c.as_slice-declarations.result.now in
+    let ds = c.args.declarations.now in
     let i = c.loop-declaration.declaration-index in
-    let none = after_at twice_in [] ds i c.declaration-item.result c.loop-declaration-test.true c.declaration-item.is (ap twice c.as_slice-declarations.ensures ∙ c.requires.no_twice) in
+    let none = after_at twice_in [] ds i c.declaration-item.result c.loop-declaration-test.true c.declaration-item.is c.requires.names.no_twice in
     let here = ap (twice_in (take i ds)) (sym c.in-Named.is) ∙ none in
     ap (λ ns. has_name ns c.in-Named.name) (keys_are c.loop-declaration.types c.loop-declaration.known.declared _ c.loop-declaration.invariant.1.types_are ∙ names_types (take i ds))
     ∙ where_false _ _ (left_none _ (twice_in_type c.in-Named.term) here)
 
 pub connector_mistyped-requires-clause-distinct : goal.connector_mistyped-requires-clause-distinct
 connector_mistyped-requires-clause-distinct c =
-    let ds = c.as_slice-declarations.result.now in
+    let ds = c.args.declarations.now in
     let i = c.loop-declaration.declaration-index in
-    let none = after_at twice_in [] ds i c.declaration-item.result c.loop-declaration-test.true c.declaration-item.is (ap twice c.as_slice-declarations.ensures ∙ c.requires.no_twice) in
+    let none = after_at twice_in [] ds i c.declaration-item.result c.loop-declaration-test.true c.declaration-item.is c.requires.names.no_twice in
     right_none _ (twice_in_connector c.in-Made.connector) (ap (twice_in (take i ds)) (sym c.in-Made.is) ∙ none)
 
 pub returns-in_err-connector_mistyped-in-Made : goal.returns-in_err-connector_mistyped-in-Made
 returns-in_err-connector_mistyped-in-Made c =
-    let ds = c.as_slice-declarations.result.now in
+    let ds = c.args.declarations.now in
     let i = c.loop-declaration.declaration-index in
     let fault = c.in_err-connector_mistyped-in-Made.field-0.0 in
     let here = c.in_err-connector_mistyped-in-Made.ensures.judged (take i ds) c.loop-declaration.invariant.1 in
     judged_err c.from_residual-in_err-connector_mistyped-in-Made.result fault _ c.from_residual-in_err-connector_mistyped-in-Made.ensures
-    (subst (λ xs. IsFirst (mistyped xs) fault) c.as_slice-declarations.ensures
     (after_first mistyped_in [] ds i c.declaration-item.result fault c.loop-declaration-test.true c.declaration-item.is c.loop-declaration.invariant.2
-    (subst (λ d. IsFirst (mistyped_in (take i ds) d) fault) (sym c.in-Made.is) here)))
+    (subst (λ d. IsFirst (mistyped_in (take i ds) d) fault) (sym c.in-Made.is) here))
 
 pub loop-declaration-preserved : goal.loop-declaration-preserved
 loop-declaration-preserved c =
-    let ds = c.as_slice-declarations.result.now in
+    let ds = c.args.declarations.now in
     let i = c.loop-declaration.declaration-index in
     let d = c.declaration-item.result in
     let below = c.loop-declaration-test.true in
@@ -66,8 +65,8 @@ loop-declaration-preserved c =
       | in-Made+in_ok-connector_mistyped-in-Made w ↦
           let connector = w.in-Made.connector in
           let made = w.in_ok-connector_mistyped-in-Made.ensures in
-          let twice_none = ap (twice_in (take i ds)) (sym w.in-Made.is) ∙ after_at twice_in [] ds i d below is (ap twice c.as_slice-declarations.ensures ∙ c.requires.no_twice) in
-          let unknown_none = ap (unknown_in (take i ds)) (sym w.in-Made.is) ∙ after_at unknown_in [] ds i d below is (ap unknown c.as_slice-declarations.ensures ∙ c.requires.no_unknown) in
+          let twice_none = ap (twice_in (take i ds)) (sym w.in-Made.is) ∙ after_at twice_in [] ds i d below is c.requires.names.no_twice in
+          let unknown_none = ap (unknown_in (take i ds)) (sym w.in-Made.is) ∙ after_at unknown_in [] ds i d below is c.requires.names.no_unknown in
           let fresh = where_false _ _ (left_none _ (twice_in_connector connector) twice_none) in
           let stands = made.stands (take i ds) inv.1 fresh unknown_none in
           let here = subst (λ (ks : List Declaration). Stands ks w.connector_mistyped.new.types w.connector_mistyped.new.known) (ap (λ x. take i ds ++ x ∷ []) (sym w.in-Made.is) ∙ more) stands in (
