@@ -23,6 +23,8 @@ use Rattle.reo_rules_base.specs.Types.{Typed, type_named}
 use Rattle.reo_rules_base.specs.Terms.{symbol_in, expr_of}
 use Rattle.reo_rules_types.specs.Cells.{is_symbol}
 use Rattle.reo_rules_types.specs.Kinded.{kind_of_form, kind_of_symbol}
+use Rattle.reo_exprs.specs.declared.expr.ExprPair.{ExprPair}
+use Rattle.reo_rules_types.specs.Resolved.{pair_of}
 use Rattle.reo_rules_types.proofs.Places.{from_some}
 
 -- What definitions by cases say of the parts of a written expression.
@@ -140,3 +142,50 @@ symbol_kinded known type name of is = in_type name of (type_named known type) is
 
 pub symbol_unkinded : (known : List Typed) (type name : List ℕ) (of : Kindred) → is_symbol (type_named known type) name ≡ false → kind_of_symbol known type name of ≡ None
 symbol_unkinded known type name of is = not_in name of (type_named known type) is
+
+-- Two expressions together.
+two_paired : (op : Binary) (o p : Option Expr) → option_and_then (λ a. option_map (λ b. exprs.Two op (record { left = a; right = b })) p) o ≡ option_map (λ (q : ExprPair). exprs.Two op q) (pair_of o p)
+two_paired op None p = refl
+two_paired op (Some a) None = refl
+two_paired op (Some a) (Some b) = refl
+
+no_more : {X : Type 0} (o : Option Expr) → option_and_then {T = Expr} {U = X} (λ a. None) o ≡ None
+no_more None = refl
+no_more (Some a) = refl
+
+if_paired : (c o p : Option Expr) → option_and_then (λ a. option_and_then (λ b. option_map (λ d. exprs.If (record { condition = a; yes = b; no = d })) p) o) c
+    ≡ option_and_then (λ a. option_map (λ (q : ExprPair). exprs.If (record { condition = a; yes = q.left; no = q.right })) (pair_of o p)) c
+if_paired None o p = refl
+if_paired (Some a) None p = refl
+if_paired (Some a) (Some b) None = refl
+if_paired (Some a) (Some b) (Some d) = refl
+
+module _ (known : List Typed) where
+  pub one_expr_some : (f : TermForm) (op : Unary) (x : Term) (a : Expr) → f ≡ forms.One op x → Some a ≡ expr_of known x.form → Some (exprs.One op a) ≡ expr_of known f
+  one_expr_some f op x a is p = ap (option_map (λ e. exprs.One op e)) p ∙ sym (expr-One known op x) ∙ sym (ap (expr_of known) is)
+
+  pub one_expr_none : (f : TermForm) (op : Unary) (x : Term) → f ≡ forms.One op x → None ≡ expr_of known x.form → None ≡ expr_of known f
+  one_expr_none f op x is p = ap (option_map (λ e. exprs.One op e)) p ∙ sym (expr-One known op x) ∙ sym (ap (expr_of known) is)
+
+  pub two_expr_some : (f : TermForm) (op : Binary) (p : TermPair) (q : ExprPair) → f ≡ forms.Two op p → Some q ≡ pair_of (expr_of known p.left.form) (expr_of known p.right.form) → Some (exprs.Two op q) ≡ expr_of known f
+  two_expr_some f op p q is e = ap (option_map (λ (r : ExprPair). exprs.Two op r)) e ∙ sym (two_paired op (expr_of known p.left.form) (expr_of known p.right.form)) ∙ sym (expr-Two known op p) ∙ sym (ap (expr_of known) is)
+
+  pub two_expr_none : (f : TermForm) (op : Binary) (p : TermPair) → f ≡ forms.Two op p → None ≡ pair_of (expr_of known p.left.form) (expr_of known p.right.form) → None ≡ expr_of known f
+  two_expr_none f op p is e = ap (option_map (λ (r : ExprPair). exprs.Two op r)) e ∙ sym (two_paired op (expr_of known p.left.form) (expr_of known p.right.form)) ∙ sym (expr-Two known op p) ∙ sym (ap (expr_of known) is)
+
+  if_whole : (f : TermForm) (p : TermTriple) → f ≡ forms.If p
+      → option_and_then (λ a. option_map (λ (q : ExprPair). exprs.If (record { condition = a; yes = q.left; no = q.right })) (pair_of (expr_of known p.yes.form) (expr_of known p.no.form))) (expr_of known p.condition.form) ≡ expr_of known f
+  if_whole f p is = sym (if_paired (expr_of known p.condition.form) (expr_of known p.yes.form) (expr_of known p.no.form)) ∙ sym (expr-If known p) ∙ sym (ap (expr_of known) is)
+
+  pub if_expr_some : (f : TermForm) (p : TermTriple) (c : Expr) (q : ExprPair) → f ≡ forms.If p → Some c ≡ expr_of known p.condition.form → Some q ≡ pair_of (expr_of known p.yes.form) (expr_of known p.no.form)
+      → Some (exprs.If (record { condition = c; yes = q.left; no = q.right })) ≡ expr_of known f
+  if_expr_some f p c q is o e = (λ i. option_and_then (λ a. option_map (λ (r : ExprPair). exprs.If (record { condition = a; yes = r.left; no = r.right })) (e i)) (o i)) ∙ if_whole f p is
+
+  pub if_expr_none : (f : TermForm) (p : TermTriple) → f ≡ forms.If p → None ≡ expr_of known p.condition.form → None ≡ expr_of known f
+  if_expr_none f p is o =
+      ap (option_and_then (λ a. option_map (λ (r : ExprPair). exprs.If (record { condition = a; yes = r.left; no = r.right })) (pair_of (expr_of known p.yes.form) (expr_of known p.no.form)))) o ∙ if_whole f p is
+
+  pub if_expr_part : (f : TermForm) (p : TermTriple) → f ≡ forms.If p → None ≡ pair_of (expr_of known p.yes.form) (expr_of known p.no.form) → None ≡ expr_of known f
+  if_expr_part f p is e =
+      sym (no_more (expr_of known p.condition.form))
+      ∙ ap (λ q. option_and_then (λ a. option_map (λ (r : ExprPair). exprs.If (record { condition = a; yes = r.left; no = r.right })) q) (expr_of known p.condition.form)) e ∙ if_whole f p is

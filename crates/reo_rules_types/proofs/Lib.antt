@@ -16,3 +16,4 @@ pub mod Names
 pub mod Settled
 pub mod Signatures
 pub mod Standing
+pub mod Ranged

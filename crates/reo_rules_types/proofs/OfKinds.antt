@@ -121,3 +121,8 @@ has_kind-form known f of want = by (expr_of known f)
     by : (o : Option Expr) → has_kind of want o ≡ is_that_kind want (option_and_then (λ (e : Expr). kind_of_expr e of) o)
     by None = refl
     by (Some e) = refl
+
+-- What has no value is none.
+pub no_value : {X : Type 0} (o : Option X) → ((x : X) → o ≡ Some x → ⊥) → o ≡ None
+no_value None not = refl
+no_value (Some x) not = absurd (not x refl)

@@ -1,5 +1,5 @@
 -- How large written types and expressions are.
-use Rattle.std.proofs.Common.{arith, ◌≡◌, ◌∙◌, ℕ, ◌+◌, ◌<◌, refl, sym, ap, subst}
+use Rattle.std.proofs.Common.{arith, ◌≡◌, ◌∙◌, ℕ, ◌+◌, ◌*◌, ◌<◌, refl, sym, ap, subst}
 use denote.Hole.Carrier.{hidden}
 use Rattle.reo_values.specs.declared.operator.Unary.{Unary}
 use Rattle.reo_values.specs.declared.operator.Binary.{Binary}
@@ -54,3 +54,13 @@ two_smaller f op p n is e = let h = sym e ∙ ap form_size is ∙ size-Two op p 
 
 pub if_smaller : (f : TermForm) (p : TermTriple) (n : ℕ) → f ≡ forms.If p → form_size f ≡ n → (form_size p.condition.form < n) × (form_size p.yes.form < n) × (form_size p.no.form < n)
 if_smaller f p n is e = let h = sym e ∙ ap form_size is ∙ size-If p in (omega (arith, h), omega (arith, h), omega (arith, h))
+
+-- The same where an expression counts twice, and two count together.
+pub one_less : (f : TermForm) (op : Unary) (x : Term) (n : ℕ) → f ≡ forms.One op x → 2 * form_size f ≡ n → 2 * form_size x.form < n
+one_less f op x n is e = let h = ap form_size is ∙ size-One op x in omega (arith, h)
+
+pub two_less : (f : TermForm) (op : Binary) (p : TermPair) (n : ℕ) → f ≡ forms.Two op p → 2 * form_size f ≡ n → 2 * (form_size p.left.form + form_size p.right.form) + 1 < n
+two_less f op p n is e = let h = ap form_size is ∙ size-Two op p in omega (arith, h)
+
+pub if_less : (f : TermForm) (p : TermTriple) (n : ℕ) → f ≡ forms.If p → 2 * form_size f ≡ n → (2 * form_size p.condition.form < n) × (2 * (form_size p.yes.form + form_size p.no.form) + 1 < n)
+if_less f p n is e = let h = ap form_size is ∙ size-If p in (omega (arith, h), omega (arith, h))

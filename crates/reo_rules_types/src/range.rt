@@ -82,7 +82,7 @@ fn is_untyped(alloc: Global, expr: &Expr, of: &Kindred) -> Result<bool, NoMemory
     ensures { IfOk result (λ r. r ≡ is_none (type_of_expr expr.now of.now)) }
 {
     match type_of(alloc, expr, of) {
-        Ok(_) => Ok(false),
+        Ok(_kindred) => Ok(false),
         Err(TypeFault::Mistyped) => Ok(true),
         Err(TypeFault::Range) => Ok(true),
         Err(TypeFault::NoMemory) => Err(NoMemory),

@@ -15,9 +15,10 @@ pub fn is_deeper(types: &Types, number: usize, levels: usize) -> bool
 {
     match types.cell(number) {
         Cell::Pair(left, right) => {
-            levels == 0
-                || is_deeper(types, *left, levels - 1)
-                || is_deeper(types, *right, levels - 1)
+            if levels == 0 {
+                return true;
+            }
+            is_deeper(types, *left, levels - 1) || is_deeper(types, *right, levels - 1)
         }
         _ => false,
     }
