@@ -1,9 +1,6 @@
 -- What cells say of their types.
-use Rattle.std.proofs.Common.{arith, ◌≡◌, ◌∙◌, ℕ, ◌<◌, List, length, None, Some, slice_get, refl, sym, ap, subst}
-use denote.Hole.Carrier.{hidden}
+use Rattle.std.proofs.Common.{arith, ◌≡◌, ◌∙◌, ℕ, ◌<◌, List, length, None, Some, slice_get, refl, ap, subst}
 use Rattle.reo_values.specs.declared.kindred.Kindred.{Kindred}
-use Rattle.reo_values.specs.declared.kindred.Kindred.TheVariants as kinds
-use Rattle.reo_values.specs.declared.kindred.Kindred.TheBlock.{hidden-the_row-Twins-0}
 use Rattle.reo_values.specs.declared.kindred.Twins.{Twins}
 use Rattle.reo_exprs.specs.Kinds.{twins_of}
 use Rattle.reo_exprs.proofs.Twinned.{twins_of-Pair}

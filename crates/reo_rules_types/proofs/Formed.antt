@@ -1,5 +1,5 @@
 -- The kind of a written expression, by those of its parts.
-use Rattle.std.proofs.Common.{◌≡◌, ◌∙◌, ℕ, ◌<◌, List, length, Bool, true, false, Option, None, Some, cond, refl, sym, ap, bytes_eq}
+use Rattle.std.proofs.Common.{◌≡◌, ◌∙◌, ℕ, List, true, false, Option, None, Some, refl, sym, ap, bytes_eq}
 use Rattle.std.specs.Prelude.{option_map, option_and_then, is_some}
 use Rattle.std.specs.List.{position_from}
 use denote.Hole.Carrier.{hidden}
@@ -18,7 +18,6 @@ use Rattle.reo_trees.specs.declared.terms.TermForm.TheBlock.{hidden-the_row-Term
 use Rattle.reo_trees.specs.declared.terms.Term.{Term}
 use Rattle.reo_trees.specs.declared.terms.TermPair.{TermPair}
 use Rattle.reo_trees.specs.declared.terms.TermTriple.{TermTriple}
-use Rattle.reo_rules_base.specs.Lists.{has_name}
 use Rattle.reo_rules_base.specs.Types.{Typed, type_named}
 use Rattle.reo_rules_base.specs.Terms.{symbol_in, expr_of}
 use Rattle.reo_rules_types.specs.Cells.{is_symbol}

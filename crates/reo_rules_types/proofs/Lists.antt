@@ -1,7 +1,6 @@
 -- Lists that grow at the end.
-use Rattle.std.proofs.Common.{arith, ◌≡◌, ◌∙◌, ◌⊎◌, ℕ, ◌+◌, ◌<◌, ◌≤◌, zero, suc, inl, inr, List, [], ◌∷◌, ◌++◌, length, get_or, map, fold, take, Some, None, slice_get, refl, sym, ap, subst, Bool, true, false, bytes_eq, cond}
+use Rattle.std.proofs.Common.{◌≡◌, ◌∙◌, ◌⊎◌, ℕ, zero, suc, inl, inr, List, [], ◌∷◌, ◌++◌, length, fold, Some, slice_get, refl, sym, ap, Bool, true, false, bytes_eq, cond}
 use Rattle.std.specs.Prelude.{◌||◌}
-use Rattle.std.specs.List.{list_any}
 use Rattle.std.proofs.lemmas.Slice.Eq.{bytes_eq-Decides}
 use Rattle.std.proofs.lemmas.List.Folds.{list_any-append}
 use Rattle.std.proofs.lemmas.Option.{same_Some}
@@ -42,9 +41,11 @@ noted_by true names x name is = by (bytes_eq name x) refl
     kept : (b : Bool) → b ≡ (b || (false || false))
     kept true = refl
     kept false = refl
+
     there : (b : Bool) → b ≡ true → b ≡ (b || (true || false))
     there true e = refl
     there false e = absurd (cc)
+
     by : (b : Bool) → bytes_eq name x ≡ b → has_name names name ≡ (has_name names name || (b || false))
     by false e = kept (has_name names name)
     by true e =

@@ -1,5 +1,5 @@
 -- Names that are new where they stand.
-use Rattle.std.proofs.Common.{arith, ◌≡◌, ◌∙◌, ℕ, ◌+◌, ◌<◌, zero, suc, Bool, true, false, List, [], ◌∷◌, ◌++◌, length, take, map, get_or, refl, sym, ap, subst}
+use Rattle.std.proofs.Common.{arith, ◌≡◌, ◌∙◌, ℕ, ◌<◌, zero, suc, Bool, true, false, List, [], ◌∷◌, ◌++◌, length, take, map, get_or, refl, sym, ap}
 use Rattle.std.specs.List.{flat_map}
 use Rattle.std.specs.Map.{keys_of}
 use Rattle.std.proofs.lemmas.List.{append-nil, append_assoc, map-append}
@@ -9,12 +9,11 @@ use Rattle.reo_trees.specs.declared.items.Item.{Item}
 use Rattle.reo_trees.specs.declared.items.Form.{Form}
 use Rattle.reo_trees.specs.declared.items.Form.TheVariants as forms
 use Rattle.reo_trees.specs.declared.programs.Parameter.{Parameter}
-use Rattle.reo_rules_base.specs.declared.fault.FlatFault.{FlatFault}
 use Rattle.reo_rules_base.specs.Lists.{each_after, where_true, has_name}
-use Rattle.reo_rules_base.specs.Types.{Typed, names_of, resolved}
+use Rattle.reo_rules_base.specs.Types.{Typed, names_of}
 use Rattle.reo_rules_base.specs.Scopes.{parameter_names, parameter_type, node_names, node_names_in, node_types_in}
 use Rattle.reo_rules_base.specs.Twice.{twice_in_parameter, twice_in_item, twice_in_type}
-use Rattle.reo_rules_base.proofs.AfterLemmas.{left_none, right_none, flat_map-append}
+use Rattle.reo_rules_base.proofs.AfterLemmas.{left_none, right_none}
 use Rattle.reo_rules_types.specs.Scoped.{typed}
 use Rattle.reo_rules_types.proofs.Scoped.{names_typed}
 

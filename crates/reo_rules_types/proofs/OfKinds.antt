@@ -1,20 +1,16 @@
 -- Kinds of operators, by number.
-use Rattle.std.proofs.Common.{◌≡◌, ◌∙◌, ◌⊎◌, inl, inr, subst, ℕ, ◌<◌, List, length, Bool, true, false, ◌&&◌, Option, None, Some, refl, sym, ap, pos, slice_get}
-use Rattle.std.specs.Prelude.{option_map, option_and_then, is_some, if◌then◌else◌}
-use denote.Hole.Carrier.{hidden}
-use Rattle.reo_values.specs.declared.kindred.Kindred as kindred
+use Rattle.std.proofs.Common.{◌≡◌, ◌∙◌, ◌⊎◌, inl, inr, subst, ℕ, ◌<◌, List, length, Bool, true, false, ◌&&◌, Option, None, Some, refl, sym, ap, slice_get}
+use Rattle.std.specs.Prelude.{option_map, option_and_then, if◌then◌else◌}
 use Rattle.reo_values.specs.declared.kindred.Kindred.{Kindred}
 use Rattle.reo_values.specs.declared.kindred.Kindred.TheVariants as kinds
-use Rattle.reo_values.specs.declared.kindred.Kindred.TheBlock.{hidden-the_row-Twins-0}
-use Rattle.reo_exprs.specs.declared.interval.Interval.{Interval}
 use Rattle.reo_exprs.specs.declared.expr.Expr.{Expr}
-use Rattle.reo_exprs.specs.Kinds.{kind_of, joins, join_of, is_bool}
+use Rattle.reo_exprs.specs.Kinds.{kind_of, joins, is_bool}
 use Rattle.reo_values.specs.declared.operator.Binary.TheVariants as binary
 use Rattle.reo_values.specs.declared.operator.Binary.{Binary}
 use Rattle.reo_exprs.specs.Typing.{binary_kind, if_kind, kind_of_expr}
 use Rattle.reo_exprs.proofs.Choices.{choice_kinded}
 use Rattle.reo_exprs.proofs.Kinded.{join_by_kind}
-use Rattle.reo_exprs.proofs.Options.{from_and_then, from_both}
+use Rattle.reo_exprs.proofs.Options.{from_and_then}
 use Rattle.reo_exprs.proofs.Steps.{is_kind}
 use Rattle.reo_trees.specs.declared.terms.TermForm.{TermForm}
 use Rattle.reo_rules_base.specs.Types.{Typed, is_same}

@@ -1,10 +1,9 @@
 -- Literals that are items of types.
 use Rattle.std.proofs.Common.{◌≡◌, ◌∙◌, ℕ, ℤ, List, length, Bool, true, false, ◌&&◌, Option, None, Some, cond, nat_lt, refl, sym, ap, bytes_eq}
-use Rattle.std.specs.Prelude.{option_map, option_and_then, is_some, is_none, not}
-use Rattle.std.specs.List.{position_from, position_or_len}
+use Rattle.std.specs.Prelude.{option_map, option_and_then, is_some, not}
+use Rattle.std.specs.List.{position_or_len}
 use Rattle.std.proofs.lemmas.Iterator.Adapters.{position_from-zero}
 use denote.Hole.Carrier.{hidden}
-use Rattle.reo_values.specs.declared.value.Value as value
 use Rattle.reo_values.specs.declared.value.Value.{Value}
 use Rattle.reo_values.specs.declared.value.Value.TheVariants as values
 use Rattle.reo_values.specs.declared.value.Value.TheBlock.{hidden-the_row-Couple-0}
@@ -13,7 +12,6 @@ use Rattle.reo_values.specs.declared.kindred.Kindred.TheVariants as kinds
 use Rattle.reo_values.specs.declared.kindred.Kindred.TheBlock.{hidden-the_row-Twins-0}
 use Rattle.reo_values.specs.declared.kindred.Twins.{Twins}
 use Rattle.reo_values.specs.Kind.{is_item}
-use Rattle.reo_trees.specs.declared.literals.Constant.{Constant}
 use Rattle.reo_trees.specs.declared.literals.Constant.TheVariants as constants
 use Rattle.reo_trees.specs.declared.literals.Constant.TheBlock.{hidden-the_row-LiteralPair-0}
 use Rattle.reo_trees.specs.declared.literals.LiteralPair.{LiteralPair}

@@ -1,6 +1,6 @@
 -- Types and expressions out of bounds.
-use Rattle.std.proofs.Common.{arith, ◌≡◌, ◌∙◌, ℕ, ℤ, ◌+◌, ◌-◌, ◌<◌, ◌≤ℤ◌, max, Bool, true, false, not, ◌&&◌, ◌||◌, Option, None, Some, List, [], ◌∷◌, ◌++◌, nat_lt, nat_le, refl, sym, ap, subst, inr, bytes_eq, map, position}
-use Rattle.std.specs.Prelude.{is_none, IsTrue, ◌↔◌, option_map}
+use Rattle.std.proofs.Common.{arith, ◌≡◌, ◌∙◌, ℕ, ◌+◌, ◌-◌, ◌≤ℤ◌, max, Bool, true, false, not, ◌&&◌, ◌||◌, Option, None, Some, List, [], ◌++◌, nat_lt, refl, sym, ap, inr, bytes_eq, map, position}
+use Rattle.std.specs.Prelude.{IsTrue, ◌↔◌}
 use Rattle.std.specs.Bool.{Decides}
 use Rattle.std.specs.List.{flat_map, position_from}
 use Rattle.std.specs.Cmp.Lexicographic.{pointwise}
@@ -14,7 +14,7 @@ use Rattle.reo_values.specs.declared.kindred.Kindred.TheVariants as kinds
 use Rattle.reo_values.specs.declared.kindred.Kindred.TheBlock.{hidden-the_row-Twins-0}
 use Rattle.reo_values.specs.declared.kindred.Twins.{Twins}
 use Rattle.reo_exprs.specs.declared.expr.Expr.{Expr}
-use Rattle.reo_exprs.specs.Kinds.{kind_of, LiesInside}
+use Rattle.reo_exprs.specs.Kinds.{LiesInside}
 use Rattle.reo_exprs.specs.Typing.{kind_of_expr, type_of_expr}
 use Rattle.reo_exprs.proofs.JoinCases.{names_same}
 use Rattle.reo_exprs.proofs.Joined.{names_match}
@@ -96,7 +96,7 @@ range-Pair known line s p is low =
     let deep = ap (λ z. nat_lt 8 (depth_of (resolved known z))) (sym is) ∙ low in
     ap (λ z. range_in_type known (record { line = line; shape = z })) is ∙ over_parts-Pair (part_breaks known) line p
     ∙ ap (λ b. where_true b (faults.Range line) ++ (flat_map (part_breaks known) (parts_of p.left.line p.left.shape) ++ flat_map (part_breaks known) (parts_of p.right.line p.right.shape)))
-      (λ i. out-Pair p i || deep i)
+    (λ i. out-Pair p i || deep i)
 
 pub parts_low : (known : List Typed) (s : Shape) (p : TypePair) → s ≡ shapes.Pair p → nat_lt 8 (depth_of (resolved known s)) ≡ false
     → (nat_lt 8 (depth_of (resolved known p.left.shape)) ≡ false) × (nat_lt 8 (depth_of (resolved known p.right.shape)) ≡ false)

@@ -1,8 +1,7 @@
 -- When two types are the same.
-use Rattle.std.proofs.Common.{arith, ◌≡◌, ◌∙◌, ℕ, ℤ, Bool, true, false, ◌&&◌, ◌==◌, List, refl, sym, ap, bytes_eq, ◌≤ℤ◌, T}
+use Rattle.std.proofs.Common.{arith, ◌≡◌, ℕ, ℤ, Bool, true, false, ◌==◌, refl, sym, ap, ◌≤ℤ◌, T}
 use Rattle.std.specs.Bool.{Decides}
 use Rattle.std.specs.Int.Signed.{le_z, le_z_yes}
-use Rattle.std.specs.Cmp.Lexicographic.{pointwise}
 use Rattle.std.proofs.lemmas.Int.{ints}
 use denote.Hole.Carrier.{hidden}
 use Rattle.reo_values.specs.declared.kindred.Kindred as kindred

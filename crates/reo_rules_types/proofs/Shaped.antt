@@ -3,13 +3,12 @@ use Rattle.std.proofs.Common.{◌≡◌, ◌∙◌, ℕ, List, Some, slice_get, 
 use denote.Hole.Carrier.{hidden}
 use Rattle.reo_values.specs.declared.kindred.Kindred.{Kindred}
 use Rattle.reo_values.specs.declared.kindred.Kindred.TheVariants as kinds
-use Rattle.reo_trees.specs.declared.types.Shape.{Shape}
 use Rattle.reo_trees.specs.declared.types.Shape.TheVariants as shapes
 use Rattle.reo_trees.specs.declared.types.Shape.TheBlock.{hidden-the_row-TypePair-0}
 use Rattle.reo_trees.specs.declared.types.TypePair.{TypePair}
 use Rattle.reo_rules_base.specs.Types.{Typed, resolved}
 use Rattle.reo_rules_types.specs.declared.cell.Cell.TheVariants as cells
-use Rattle.reo_rules_types.specs.Cells.{type_at, kindred_of, Keeps}
+use Rattle.reo_rules_types.specs.Cells.{kindred_of, Keeps}
 use Rattle.reo_rules_types.specs.Scoped.{typed, AreKnown}
 use Rattle.reo_rules_types.proofs.Kept.{at_told, at_within, kept_at}
 use Rattle.reo_rules_types.proofs.Scoped.{typed_kept}

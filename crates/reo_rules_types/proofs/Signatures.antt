@@ -1,20 +1,19 @@
 -- The connectors before a place, by number.
-use Rattle.std.proofs.Common.{arith, ◌≡◌, ◌∙◌, ◌⊎◌, ℕ, ◌+◌, ◌<◌, ◌≤◌, zero, suc, inl, inr, List, [], ◌∷◌, ◌++◌, length, Bool, true, false, not, cond, map, Option, None, Some, find, position, nat_lt, slice_get, refl, sym, ap, subst, bytes_eq}
+use Rattle.std.proofs.Common.{arith, ◌≡◌, ◌∙◌, ℕ, ◌≤◌, zero, suc, inl, inr, List, [], ◌∷◌, ◌++◌, length, Bool, true, false, cond, map, None, Some, find, position, nat_lt, slice_get, refl, sym, ap, subst, bytes_eq}
 use Rattle.std.specs.Prelude.{◌||◌}
-use Rattle.std.specs.List.{list_any, zip, position_or_len, flat_map}
+use Rattle.std.specs.List.{list_any, zip, position_or_len}
 use Rattle.std.specs.Option.{option_map_or}
 use Rattle.std.proofs.lemmas.Bool.Decides.{nat_tests}
-use Rattle.std.proofs.lemmas.List.{append-nil, map-append}
+use Rattle.std.proofs.lemmas.List.{append-nil}
 use Rattle.std.proofs.lemmas.List.Folds.{find_at}
 use Rattle.std.proofs.lemmas.Option.{same_Some, cond_some, slice_get_past, slice_get_cases}
 use Rattle.reo_values.specs.declared.kindred.Kindred.{Kindred}
 use Rattle.reo_trees.specs.declared.types.TypeTerm.{TypeTerm}
-use Rattle.reo_trees.specs.declared.programs.Parameter.{Parameter}
 use Rattle.reo_trees.specs.declared.programs.Connector.{Connector}
 use Rattle.reo_trees.specs.declared.programs.Declaration.{Declaration}
 use Rattle.reo_trees.specs.declared.programs.Declaration.TheVariants as declarations
 use Rattle.reo_rules_base.specs.Types.{Typed, resolved, types_after, types_of}
-use Rattle.reo_rules_base.specs.Scopes.{connectors_of, connectors_in, connector_names, parameters_named}
+use Rattle.reo_rules_base.specs.Scopes.{connectors_of, connectors_in, parameters_named}
 use Rattle.reo_rules_base.proofs.AfterLemmas.{flat_map-append}
 use Rattle.reo_rules_base.proofs.Mapped.{position-map}
 use Rattle.reo_rules_types.specs.Cells.{Keeps}

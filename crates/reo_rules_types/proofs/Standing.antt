@@ -1,11 +1,8 @@
 -- What is known of the declarations before a place, and of one more.
-use Rattle.std.proofs.Common.{◌≡◌, ◌∙◌, ℕ, List, [], ◌∷◌, ◌++◌, Bool, true, false, cond, map, refl, sym, ap, subst}
-use Rattle.std.specs.List.{flat_map}
-use Rattle.std.specs.Map.{keys_of}
+use Rattle.std.proofs.Common.{◌≡◌, ◌∙◌, ℕ, List, [], ◌∷◌, ◌++◌, false, cond, map, sym, ap, subst}
 use Rattle.std.proofs.lemmas.List.{map-append, append-nil, append_assoc}
 use Rattle.reo_values.specs.declared.kindred.Kindred.{Kindred}
 use Rattle.reo_trees.specs.declared.types.TypeTerm.{TypeTerm}
-use Rattle.reo_trees.specs.declared.programs.Parameter.{Parameter}
 use Rattle.reo_trees.specs.declared.programs.Connector.{Connector}
 use Rattle.reo_trees.specs.declared.programs.Declaration.{Declaration}
 use Rattle.reo_trees.specs.declared.programs.Declaration.TheVariants as declarations
@@ -14,7 +11,7 @@ use Rattle.reo_rules_base.specs.Lists.{each_after, has_name}
 use Rattle.reo_rules_base.specs.Names.{with_name}
 use Rattle.reo_rules_base.specs.Types.{Typed, names_of, resolved, types_after, types_of}
 use Rattle.reo_rules_base.specs.Scopes.{type_names, connectors_of, connector_names, parameter_names, node_names}
-use Rattle.reo_rules_base.specs.Unknown.{unknown_in_type, unknown_in_item, unknown_in_connector}
+use Rattle.reo_rules_base.specs.Unknown.{unknown_in_item, unknown_in_connector}
 use Rattle.reo_rules_base.proofs.AfterLemmas.{left_none}
 use Rattle.reo_rules_types.specs.declared.known.Known.{Known}
 use Rattle.reo_rules_types.specs.Cells.{Keeps}

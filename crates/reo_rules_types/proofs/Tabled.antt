@@ -1,5 +1,5 @@
 -- A table of types, and one more type in it.
-use Rattle.std.proofs.Common.{arith, ◌≡◌, ◌∙◌, ◌⊎◌, ℕ, ◌+◌, ◌<◌, ◌≤◌, zero, suc, inl, inr, Bool, true, false, cond, Option, Some, None, List, [], ◌∷◌, ◌++◌, length, get_or, map, fold, slice_get, position, refl, sym, ap, subst, MatchOption}
+use Rattle.std.proofs.Common.{arith, ◌≡◌, ◌∙◌, ℕ, ◌+◌, ◌<◌, ◌≤◌, zero, suc, inl, inr, Bool, true, false, cond, Option, Some, None, List, [], ◌∷◌, ◌++◌, length, get_or, slice_get, position, refl, sym, ap, subst, MatchOption}
 use Rattle.std.specs.Prelude.{is_some, unwrap_or}
 use Rattle.std.specs.Map.{keys_of, lookup}
 use Rattle.std.proofs.lemmas.List.{map-append, length_push, get_or_append_left, get_or-map, length-map}
@@ -12,7 +12,7 @@ use Rattle.reo_rules_base.specs.Lists.{has_name}
 use Rattle.reo_rules_types.specs.declared.cell.Cell.{Cell}
 use Rattle.reo_rules_types.specs.declared.cell.Cell.TheVariants as cells
 use Rattle.reo_rules_types.specs.declared.types.Facts.{Facts}
-use Rattle.reo_rules_types.specs.Cells.{type_at, kindred_of, kindreds_of, is_symbol, Fits}
+use Rattle.reo_rules_types.specs.Cells.{kindred_of, kindreds_of, is_symbol, Fits}
 use Rattle.reo_rules_types.specs.Table.{IsCell, AreCells}
 use Rattle.reo_rules_types.proofs.Lists.{more_keeps, last_is, old_or_last, fold_push}
 use Rattle.reo_rules_types.proofs.Told.{cell_eq, alike, told}
@@ -93,6 +93,7 @@ module _ (types : List Kindred) (es : List (Cell × Facts)) (are : AreCells type
       where
         same : kindred_of (types ++ k ∷ []) c ≡ k
         same = kindred_kept types (k ∷ []) c fits
+
         last : IsCell (types ++ k ∷ []) (length es) c f
         last = record {
           fits = subst (λ n. Fits n c) are.as_many fits;
@@ -100,6 +101,7 @@ module _ (types : List Kindred) (es : List (Cell × Facts)) (are : AreCells type
           kind = kind ∙ ap (λ t. Some (kind_of t)) (sym same);
           symbols = λ name. symbols name ∙ ap (λ t. is_symbol t name) (sym same);
         }
+
         earlier : (n : ℕ) (d : Cell) (g : Facts) → n < length es → IsCell types n d g → IsCell (types ++ k ∷ []) n d g
         earlier n d g below is =
             let kept = kindred_kept types (k ∷ []) d (fits_more n (length types) d (omega (arith, are.as_many)) is.fits) in
@@ -109,11 +111,13 @@ module _ (types : List Kindred) (es : List (Cell × Facts)) (are : AreCells type
               kind = more_keeps types (k ∷ []) g.kind _ is.kind ∙ ap (λ t. Some (kind_of t)) (sym kept);
               symbols = λ name. is.symbols name ∙ ap (λ t. is_symbol t name) (sym kept);
             }
+
         each : (n : ℕ) (d : Cell) (g : Facts) → slice_get (es ++ (c, f) ∷ []) n ≡ Some (d, g) → IsCell (types ++ k ∷ []) n d g
         each n d g at = elim (old_or_last es (c, f) n (d, g) at) [
           | inl w ↦ earlier n d g (slice_get_within es n (d, g) w) (are.each n d g w)
           | inr w ↦ subst (λ (p : ℕ × (Cell × Facts)). IsCell (types ++ k ∷ []) p.0 p.1.0 p.1.1) (λ i. (sym w.0 i, sym w.1 i)) last
         ]
+
         once : (m n : ℕ) (t : Kindred) → slice_get (types ++ k ∷ []) m ≡ Some t → slice_get (types ++ k ∷ []) n ≡ Some t → m ≡ n
         once m n t p q = elim (old_or_last types k m t p) [
           | inl v ↦ elim (old_or_last types k n t q) [ inl w ↦ are.once m n t v w | inr w ↦ absurd (new m (v ∙ ap Some w.1)) ]

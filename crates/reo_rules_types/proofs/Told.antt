@@ -1,5 +1,5 @@
 -- Equal cells are those of equal types.
-use Rattle.std.proofs.Common.{◌≡◌, ◌∙◌, ℕ, ◌<◌, ℤ, Bool, true, false, ◌&&◌, ◌==◌, ap, sym, refl, List, [], ◌∷◌, map, Some, length, get_or, slice_get, arith, bytes_eq}
+use Rattle.std.proofs.Common.{◌≡◌, ◌∙◌, ℕ, ◌<◌, ℤ, Bool, true, ◌&&◌, ◌==◌, ap, sym, refl, List, [], ◌∷◌, map, Some, length, slice_get, arith, bytes_eq}
 use Rattle.std.specs.Ordering.{int_eq}
 use Rattle.std.specs.Cmp.Lexicographic.{pointwise}
 use Rattle.std.proofs.lemmas.Bool.Decides.{Decides-int_eq}
@@ -11,7 +11,6 @@ use Rattle.reo_exprs.proofs.JoinCases.{names_same}
 use Rattle.reo_exprs.proofs.Joined.{names_match}
 use Rattle.reo_exprs.proofs.Options.{from_both, to_both}
 use Rattle.reo_exprs.proofs.Steps.{kind_parts}
-use Rattle.reo_exprs.proofs.Twinned.{Twins_of-equal}
 use Rattle.reo_rules_types.specs.declared.cell.Cell.{Cell}
 use Rattle.reo_rules_types.specs.declared.cell.Cell.TheVariants as cells
 use Rattle.reo_rules_types.specs.contracts.cell.CellPartialEq.TheImpl.{eq-value}

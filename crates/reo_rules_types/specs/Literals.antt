@@ -1,5 +1,5 @@
 -- Literals that are items of types.
-use Rattle.std.specs.Prelude.{Bool, Option, Some, None, cond, option_and_then, is_some}
+use Rattle.std.specs.Prelude.{Bool, Some, None, cond, option_and_then, is_some}
 use Rattle.reo_values.specs.declared.kindred.Kindred.{Kindred}
 use Rattle.reo_values.specs.Kind.{is_item}
 use Rattle.reo_trees.specs.declared.literals.Constant.{Constant}

@@ -8,7 +8,7 @@ use Rattle.reo_trees.specs.declared.programs.Declaration.{Declaration}
 use Rattle.reo_rules_base.specs.Types.{Typed, types_of, resolved}
 use Rattle.reo_rules_base.specs.Scopes.{connectors_of, connector_names}
 use Rattle.reo_rules_types.specs.declared.known.Known.{Known}
-use Rattle.reo_rules_types.specs.Scoped.{typed, AreKnown}
+use Rattle.reo_rules_types.specs.Scoped.{typed}
 use Rattle.reo_rules_types.specs.Signed.{AreOf, parameter_types}
 
 -- What a written type stands for stays the same, whatever is declared behind.

@@ -1,5 +1,5 @@
 -- What is known of the types in a table.
-use Rattle.std.specs.Prelude.{◌≡◌, ℕ, Bool, List, Some, length, slice_get}
+use Rattle.std.specs.Prelude.{◌≡◌, ℕ, List, Some, length, slice_get}
 use Rattle.reo_values.specs.declared.kindred.Kindred.{Kindred}
 use Rattle.reo_exprs.specs.Kinds.{kind_of}
 use Rattle.reo_rules_base.specs.Lists.{has_name}

@@ -30,6 +30,7 @@ use reo_values::{Kindred, NoMemory};
 use std::alloc::Global;
 
 const MOST_SYMBOLS: usize = 1_024;
+
 const MOST_LEVELS: usize = 8;
 
 // A break, where a test holds.

@@ -29,7 +29,6 @@ pub struct Types {
 impl Model for Types {
     ghost use Rattle.std.specs.Prelude.{List};
     ghost use Rattle.reo_values.specs.declared.kindred.Kindred.{Kindred as OfItems};
-
     ghost use Rattle.reo_values.specs.contracts.kindred.Kindred as kindred;
     ghost use Rattle.std.specs.Coded.{codes};
 

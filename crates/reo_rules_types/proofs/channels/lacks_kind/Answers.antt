@@ -1,5 +1,5 @@
 -- The kind against the one that is wanted.
-use Rattle.std.proofs.Common.{◌≡◌, ◌∙◌, ℕ, ◌<◌, length, Some, Option, refl, sym, ap, subst}
+use Rattle.std.proofs.Common.{◌∙◌, sym, ap}
 use Rattle.std.specs.Prelude.{not}
 use Rattle.reo_rules_base.specs.Types.{is_same}
 use Rattle.reo_rules_base.specs.Mistyped.{is_kind}

@@ -1,7 +1,6 @@
 -- What a filter wants is there; what a map wants is the kind of its second node.
-use Rattle.std.proofs.Common.{◌≡◌, ◌∙◌, ℕ, ◌<◌, length, Some, refl, sym, ap, subst}
+use Rattle.std.proofs.Common.{◌≡◌, ◌∙◌, sym, ap, subst}
 use Rattle.std.specs.Prelude.{not, IfOk}
-use Rattle.reo_values.specs.declared.kindred.Kindred.TheVariants as kinds
 use Rattle.reo_rules_base.specs.Terms.{expr_of}
 use Rattle.reo_rules_base.specs.Mistyped.{has_kind, misfits}
 use Rattle.reo_rules_types.specs.Cells.{type_at}

@@ -1,12 +1,10 @@
 -- The argument of a place against the parameter of that place.
-use Rattle.std.proofs.Common.{arith, ◌≡◌, ◌∙◌, ℕ, ◌<◌, length, get_or, List, Bool, true, false, Some, slice_get, refl, sym, ap, subst}
+use Rattle.std.proofs.Common.{arith, ◌≡◌, ◌∙◌, ℕ, get_or, List, slice_get, refl, sym, ap}
 use Rattle.std.specs.Prelude.{not}
-use Rattle.std.specs.List.{list_any, zip}
 use Rattle.std.proofs.lemmas.Option.{slice_get_within}
 use Rattle.reo_values.specs.declared.kindred.Kindred.{Kindred}
 use Rattle.reo_rules_base.specs.Types.{type_named, is_same}
 use Rattle.reo_rules_types.specs.Scoped.{typed, number_named}
-use Rattle.reo_rules_types.specs.Signed.{AreOf}
 use Rattle.reo_rules_types.proofs.Scoped.{named_there}
 use Rattle.reo_rules_types.proofs.Signed.{zip_more, zip_hit, of_place, as_many}
 use Rattle.reo_rules_types.proofs.channels.use_mistyped.Goals as goal

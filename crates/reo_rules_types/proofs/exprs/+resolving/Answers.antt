@@ -1,8 +1,6 @@
 -- What the parts stand for, and then the whole.
-use Rattle.std.proofs.Common.{◌≡◌, ◌∙◌, ℕ, ◌<◌, length, Option, Some, None, refl, sym, ap, subst}
+use Rattle.std.proofs.Common.{◌≡◌, ◌∙◌, ◌<◌, length, sym, ap, subst}
 use Rattle.std.specs.Prelude.{IfOk}
-use Rattle.reo_exprs.specs.declared.expr.Expr.{Expr}
-use Rattle.reo_exprs.specs.declared.expr.Expr.TheVariants as exprs
 use Rattle.reo_trees.specs.declared.terms.TermForm.TheVariants as forms
 use Rattle.reo_rules_base.specs.Terms.{symbol_in, expr_of}
 use Rattle.reo_rules_types.specs.Cells.{type_at}

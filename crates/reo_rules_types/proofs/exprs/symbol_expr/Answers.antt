@@ -1,11 +1,10 @@
 -- The place of the symbol among the names of the type.
-use Rattle.std.proofs.Common.{◌≡◌, ◌∙◌, ℕ, List, Some, None, Option, map, position, refl, sym, ap, bytes_eq}
+use Rattle.std.proofs.Common.{◌∙◌, Some, map, sym, ap, bytes_eq}
 use Rattle.std.specs.Prelude.{option_map}
 use Rattle.std.specs.List.{position_from}
-use Rattle.reo_values.specs.declared.kindred.Kindred.TheVariants as kinds
 use Rattle.reo_exprs.specs.declared.expr.Expr.TheVariants as exprs
 use Rattle.reo_rules_base.specs.Terms.{symbol_in}
-use Rattle.reo_rules_types.specs.Cells.{type_at, kindred_of}
+use Rattle.reo_rules_types.specs.Cells.{kindred_of}
 use Rattle.reo_rules_types.proofs.Cells.{of_cell}
 use Rattle.reo_rules_types.proofs.OfKinds.{no_value}
 use Rattle.reo_rules_types.proofs.Ranged.{place_is}

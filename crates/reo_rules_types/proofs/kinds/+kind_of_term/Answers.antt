@@ -1,22 +1,15 @@
 -- The kinds of the parts, and then of the whole.
-use Rattle.std.proofs.Common.{◌≡◌, ◌∙◌, ℕ, ◌<◌, length, List, Option, Some, None, slice_get, refl, sym, ap, subst, pos}
+use Rattle.std.proofs.Common.{◌∙◌, ℕ, Some, refl, sym, ap, subst, pos}
 use Rattle.std.specs.Prelude.{IfOk}
-use Rattle.reo_values.specs.declared.kindred.Kindred.{Kindred}
 use Rattle.reo_values.specs.declared.kindred.Kindred.TheVariants as kinds
 use Rattle.reo_exprs.specs.Kinds.{kind_of}
-use Rattle.reo_exprs.specs.Typing.{unary_kind, binary_kind, if_kind}
-use Rattle.reo_trees.specs.declared.terms.TermForm.{TermForm}
 use Rattle.reo_trees.specs.declared.terms.TermForm.TheVariants as forms
-use Rattle.reo_trees.specs.declared.terms.Term.{Term}
-use Rattle.reo_trees.specs.declared.terms.TermPair.{TermPair}
-use Rattle.reo_trees.specs.declared.terms.TermTriple.{TermTriple}
-use Rattle.reo_rules_base.specs.Types.{Typed}
-use Rattle.reo_rules_types.specs.Cells.{type_at, Keeps}
-use Rattle.reo_rules_types.specs.Scoped.{typed, AreKnown}
+use Rattle.reo_rules_types.specs.Cells.{type_at}
+use Rattle.reo_rules_types.specs.Scoped.{typed}
 use Rattle.reo_rules_types.specs.Kinded.{kind_of_form, IsMade}
-use Rattle.reo_rules_types.proofs.Kept.{at_told, at_within, kept_at, kept_below, keeps_both}
+use Rattle.reo_rules_types.proofs.Kept.{kept_below, keeps_both}
 use Rattle.reo_rules_types.proofs.Scoped.{known_kept}
-use Rattle.reo_rules_types.proofs.OfKinds.{form_kind, made_kept, made_none, made_some, leaf, same_form, two_made, three_made}
+use Rattle.reo_rules_types.proofs.OfKinds.{form_kind, made_none, made_some, leaf, same_form, two_made, three_made}
 use Rattle.reo_rules_types.proofs.Formed.{one_some, one_none, two_some, two_left, two_right, if_some, if_condition, if_yes, if_no}
 use Rattle.reo_rules_types.proofs.Sizes.{one_smaller, two_smaller, if_smaller}
 use Rattle.reo_rules_types.proofs.kinds.+kind_of_term.Goals as goal
@@ -102,7 +95,7 @@ pub returns-in-Some-3-clause-kind : goal.returns-in-Some-3-clause-kind
 returns-in-Some-3-clause-kind t c =
     let types = c.args.types.now in
     let made = two_made c.args.types.now c.kind_of_term-in-Two.new.types c.kind_of_term-in-Two-2.new.types c.in_ok-x-in-Two.ensures.keeps c.in_ok-y-in-Two.ensures.keeps c.args.declared.now c.requires.known c.args.of c.requires.of
-        c.get-pair.result.now.left.form c.get-pair.result.now.right.form c.in_ok-x-in-Two.field-0 c.in_ok-y-in-Two.field-0 c.in-Some-2.x c.in-Some-3.y c.in-Some-2.is c.in-Some-3.is c.in_ok-x-in-Two.ensures.kind c.in_ok-y-in-Two.ensures.kind in
+    c.get-pair.result.now.left.form c.get-pair.result.now.right.form c.in_ok-x-in-Two.field-0 c.in_ok-y-in-Two.field-0 c.in-Some-2.x c.in-Some-3.y c.in-Some-2.is c.in-Some-3.is c.in_ok-x-in-Two.ensures.kind c.in_ok-y-in-Two.ensures.kind in
     subst (λ k. IfOk c.two_kind.result (λ m. IsMade c.two_kind.new.types m k))
     (two_some (type_at types c.args.of) (typed types c.args.declared.now) c.args.form.now c.in-Two.op c.get-pair.result.now _ _ (c.in-Two.is ∙ ap (forms.Two c.in-Two.op) (sym c.get-pair.ensures)) made.0.1 made.1.1)
     c.two_kind.ensures.kind
@@ -176,8 +169,8 @@ pub returns-in-Some-6-clause-kind : goal.returns-in-Some-6-clause-kind
 returns-in-Some-6-clause-kind t c =
     let types = c.args.types.now in
     let made = three_made c.args.types.now c.kind_of_term-in-If.new.types c.kind_of_term-in-If-2.new.types c.in_ok-c-in-If.ensures.keeps c.in_ok-yes-in-If.ensures.keeps c.args.declared.now c.requires.known c.args.of c.requires.of
-        c.kind_of_term-in-If-3.new.types c.in_ok-no-in-If.ensures.keeps c.get-parts.result.now.condition.form c.get-parts.result.now.yes.form c.get-parts.result.now.no.form c.in_ok-c-in-If.field-0 c.in_ok-yes-in-If.field-0 c.in_ok-no-in-If.field-0
-        c.in-Some-4.c c.in-Some-5.yes c.in-Some-6.no c.in-Some-4.is c.in-Some-5.is c.in-Some-6.is c.in_ok-c-in-If.ensures.kind c.in_ok-yes-in-If.ensures.kind c.in_ok-no-in-If.ensures.kind in
+    c.kind_of_term-in-If-3.new.types c.in_ok-no-in-If.ensures.keeps c.get-parts.result.now.condition.form c.get-parts.result.now.yes.form c.get-parts.result.now.no.form c.in_ok-c-in-If.field-0 c.in_ok-yes-in-If.field-0 c.in_ok-no-in-If.field-0
+    c.in-Some-4.c c.in-Some-5.yes c.in-Some-6.no c.in-Some-4.is c.in-Some-5.is c.in-Some-6.is c.in_ok-c-in-If.ensures.kind c.in_ok-yes-in-If.ensures.kind c.in_ok-no-in-If.ensures.kind in
     subst (IsMade c.kind_of_term-in-If-3.new.types c.choice_kind.result)
     (if_some (type_at types c.args.of) (typed types c.args.declared.now) c.args.form.now c.get-parts.result.now _ _ _ (c.in-If.is ∙ ap forms.If (sym c.get-parts.ensures)) made.0.1 made.1.1 made.2.1)
     c.choice_kind.ensures

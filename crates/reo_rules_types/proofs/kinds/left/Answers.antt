@@ -1,8 +1,7 @@
 -- The left part of a pair's cell.
-use Rattle.std.proofs.Common.{◌≡◌, ◌∙◌, ap, ◌<◌, length, subst}
+use Rattle.std.proofs.Common.{ap}
 use Rattle.std.specs.Prelude.{option_map}
 use Rattle.reo_values.specs.declared.kindred.Twins.{Twins}
-use Rattle.reo_rules_types.specs.Cells.{Fits}
 use Rattle.reo_rules_types.proofs.Cells.{of_pair, of_no_pair, pair_below}
 use Rattle.reo_rules_types.proofs.kinds.left.Goals as goal
 

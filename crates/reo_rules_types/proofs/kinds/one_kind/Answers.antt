@@ -1,5 +1,5 @@
 -- A part of a kind is a kind.
-use Rattle.std.proofs.Common.{◌≡◌, ◌∙◌, ap, sym, subst}
+use Rattle.std.proofs.Common.{◌∙◌, ap, sym, subst}
 use Rattle.reo_exprs.specs.Typing.{unary_kind}
 use Rattle.reo_exprs.proofs.Steps.{left_kind, right_kind}
 use Rattle.reo_rules_types.specs.Cells.{type_at}

@@ -1,5 +1,5 @@
 -- The kind of a symbol is its type.
-use Rattle.std.proofs.Common.{◌≡◌, ◌∙◌, ◌<◌, length, sym, ap, subst, Some, true, false}
+use Rattle.std.proofs.Common.{◌∙◌, ◌<◌, length, sym, ap, subst, Some}
 use Rattle.reo_rules_types.specs.Cells.{type_at, is_symbol}
 use Rattle.reo_rules_types.specs.Scoped.{number_named}
 use Rattle.reo_rules_types.proofs.Scoped.{named_is, named_below}

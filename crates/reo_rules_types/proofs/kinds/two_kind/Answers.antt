@@ -1,10 +1,9 @@
 -- A pair of kinds is a kind.
-use Rattle.std.proofs.Common.{◌≡◌, ◌∙◌, ap, sym, subst, Some, None, refl}
+use Rattle.std.proofs.Common.{◌∙◌, ap, sym, subst, Some, None, refl}
 use Rattle.std.specs.Prelude.{IfOk, if◌then◌else◌}
 use Rattle.reo_values.specs.declared.kindred.Kindred.TheVariants as kinds
 use Rattle.reo_rules_types.specs.Kinded.{IsMade}
 use Rattle.reo_rules_types.proofs.OfKinds.{truth_kinded}
-use Rattle.reo_exprs.specs.Typing.{binary_kind}
 use Rattle.reo_values.specs.declared.kindred.Twins.{Twins}
 use Rattle.reo_exprs.proofs.Choices.{pair_kinded}
 use Rattle.reo_rules_types.specs.Cells.{type_at}

@@ -1,12 +1,11 @@
 -- A literal against the cell of a type.
-use Rattle.std.proofs.Common.{◌≡◌, ◌∙◌, ap, sym, subst, false, ◌&&◌, map}
+use Rattle.std.proofs.Common.{◌∙◌, ap, sym, ◌&&◌, map}
 use Rattle.reo_trees.specs.declared.literals.Constant.TheVariants as constants
-use Rattle.reo_values.specs.declared.kindred.Kindred.TheVariants as kinds
 use Rattle.reo_values.specs.declared.kindred.Twins.{Twins}
 use Rattle.reo_rules_types.specs.Cells.{type_at, kindred_of, is_symbol}
 use Rattle.reo_rules_types.specs.Literals.{is_literal}
 use Rattle.reo_rules_types.proofs.Cells.{of_cell}
-use Rattle.reo_rules_types.proofs.OfLiterals.{name_literal, pair_literal, text_literal, no_unit, no_bool, no_int, no_name, no_text, no_pair}
+use Rattle.reo_rules_types.proofs.OfLiterals.{name_literal, pair_literal, no_unit, no_bool, no_int, no_name, no_text, no_pair}
 use Rattle.reo_rules_types.proofs.literals.+is_literal.Goals as goal
 
 pub returns-in-Name-Sym : goal.returns-in-Name-Sym

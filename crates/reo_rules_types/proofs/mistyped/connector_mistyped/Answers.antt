@@ -1,5 +1,5 @@
 -- A connector's items, by its scope.
-use Rattle.std.proofs.Common.{◌≡◌, ◌∙◌, ℕ, List, [], ◌∷◌, ◌++◌, refl, sym, ap, subst}
+use Rattle.std.proofs.Common.{◌∙◌, List, sym, ap, subst}
 use Rattle.std.specs.List.{flat_map}
 use Rattle.reo_trees.specs.declared.items.Item.{Item}
 use Rattle.reo_trees.specs.declared.programs.Declaration.{Declaration}
@@ -9,12 +9,10 @@ use Rattle.reo_rules_base.specs.Lists.{where_true}
 use Rattle.reo_rules_base.specs.Types.{Typed, types_of}
 use Rattle.reo_rules_base.specs.Scopes.{connectors_of, scope_of}
 use Rattle.reo_rules_base.specs.Mistyped.{is_mistyped}
-use Rattle.reo_rules_base.specs.Judged.{IsFirst, IsJudged}
+use Rattle.reo_rules_base.specs.Judged.{IsFirst}
 use Rattle.reo_rules_base.proofs.AfterLemmas.{judged_err}
-use Rattle.reo_rules_types.specs.Scoped.{typed}
-use Rattle.reo_rules_types.specs.Stands.{Stands}
 use Rattle.reo_rules_types.proofs.Kept.{keeps_both}
-use Rattle.reo_rules_types.proofs.Scoped.{known_kept, typed_kept}
+use Rattle.reo_rules_types.proofs.Scoped.{known_kept}
 use Rattle.reo_rules_types.proofs.Standing.{stands_kept, stands_made}
 use Rattle.reo_rules_types.proofs.mistyped.connector_mistyped.Goals as goal
 

@@ -1,12 +1,11 @@
 -- A declared type is known; a connector is judged, and then it is known.
-use Rattle.std.proofs.Common.{◌≡◌, ◌∙◌, ℕ, ◌+◌, List, [], ◌∷◌, ◌++◌, take, false, refl, sym, ap, subst}
-use Rattle.std.specs.Map.{keys_of}
+use Rattle.std.proofs.Common.{◌≡◌, ◌∙◌, ◌+◌, List, [], ◌∷◌, ◌++◌, take, refl, sym, ap, subst}
 use Rattle.reo_trees.specs.declared.programs.Declaration.{Declaration}
-use Rattle.reo_rules_base.specs.Lists.{each_after, has_name}
-use Rattle.reo_rules_base.specs.Twice.{twice_in, twice, twice_in_type, twice_in_connector}
-use Rattle.reo_rules_base.specs.Unknown.{unknown_in, unknown}
-use Rattle.reo_rules_base.specs.Mistyped.{mistyped_in, mistyped}
-use Rattle.reo_rules_base.specs.Judged.{IsFirst, IsJudged}
+use Rattle.reo_rules_base.specs.Lists.{has_name}
+use Rattle.reo_rules_base.specs.Twice.{twice_in, twice_in_type, twice_in_connector}
+use Rattle.reo_rules_base.specs.Unknown.{unknown_in}
+use Rattle.reo_rules_base.specs.Mistyped.{mistyped_in}
+use Rattle.reo_rules_base.specs.Judged.{IsFirst}
 use Rattle.reo_rules_base.proofs.AfterLemmas.{judged_err, after_first, after_more, more_seen, left_none, right_none}
 use Rattle.reo_rules_types.proofs.Names.{after_at, where_false, keys_are}
 use Rattle.reo_rules_types.proofs.Standing.{stands_named, names_types}

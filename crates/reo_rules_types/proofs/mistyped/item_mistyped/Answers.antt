@@ -1,12 +1,11 @@
 -- The two nodes have the numbers of their types.
-use Rattle.std.proofs.Common.{◌≡◌, ◌∙◌, ℕ, ◌<◌, length, List, refl, sym, ap, subst}
+use Rattle.std.proofs.Common.{◌≡◌, ◌∙◌, ◌<◌, length, sym, ap, subst}
 use Rattle.std.specs.Prelude.{IfOk}
 use Rattle.reo_rules_base.specs.Types.{types_of}
 use Rattle.reo_rules_base.specs.Scopes.{connectors_of}
 use Rattle.reo_rules_base.specs.Mistyped.{is_channel_mistyped, is_mistyped}
 use Rattle.reo_rules_types.specs.Cells.{type_at}
 use Rattle.reo_rules_types.specs.Scoped.{typed, number_named}
-use Rattle.reo_rules_types.specs.Stands.{Stands}
 use Rattle.reo_rules_types.proofs.Scoped.{named_is, named_below}
 use Rattle.reo_rules_types.proofs.mistyped.item_mistyped.Goals as goal
 

@@ -1,7 +1,6 @@
 -- One more item.
-use Rattle.std.proofs.Common.{◌≡◌, ◌∙◌, ℕ, List, [], ◌∷◌, Some, true, false, inr, refl, sym, ap, subst}
+use Rattle.std.proofs.Common.{◌∙◌, inr, sym, ap}
 use Rattle.reo_trees.specs.declared.items.Item.{Item}
-use Rattle.reo_trees.specs.declared.programs.Declaration.{Declaration}
 use Rattle.reo_rules_base.specs.declared.fault.FlatFault.TheVariants as faults
 use Rattle.reo_rules_base.specs.Lists.{where_true, first_of}
 use Rattle.reo_rules_base.specs.Types.{types_of}
@@ -9,7 +8,6 @@ use Rattle.reo_rules_base.specs.Scopes.{connectors_of}
 use Rattle.reo_rules_base.specs.Mistyped.{is_mistyped}
 use Rattle.reo_rules_base.proofs.AfterLemmas.{flat_more, flat_first}
 use Rattle.reo_rules_types.specs.Scoped.{typed}
-use Rattle.reo_rules_types.specs.Stands.{Stands}
 use Rattle.reo_rules_types.proofs.Kept.{keeps_both}
 use Rattle.reo_rules_types.proofs.Scoped.{known_kept, typed_kept}
 use Rattle.reo_rules_types.proofs.Standing.{stands_kept}
@@ -28,7 +26,7 @@ returns-then-branch-clause-judged c before stands =
     let x = c.item-item.result in
     let known = stands_kept before old c.loop-item.types c.args.known.now keeps c.requires.known stands in
     let test = ap (λ scope. is_mistyped (types_of before) (connectors_of before) scope x.form) (sym (typed_kept old c.loop-item.types keeps c.args.scope.now c.requires.scope))
-        ∙ sym (c.in_ok-item_mistyped.ensures.test before known) ∙ c.if-branch.true in
+    ∙ sym (c.in_ok-item_mistyped.ensures.test before known) ∙ c.if-branch.true in
     flat_first (λ (i : Item). where_true (is_mistyped (types_of before) (connectors_of before) (typed old c.args.scope.now) i.form) (faults.Mistyped i.line))
     c.args.items.now c.loop-item.item-index x (faults.Mistyped x.line) c.loop-item-test.true c.item-item.is (c.loop-item.invariant.1 before stands)
     (inr (ap (λ b. first_of (where_true b (faults.Mistyped x.line))) test))
@@ -42,7 +40,7 @@ loop-item-preserved c =
       λ before stands.
           let known = stands_kept before old c.loop-item.types c.args.known.now keeps c.requires.known stands in
           let test = ap (λ scope. is_mistyped (types_of before) (connectors_of before) scope x.form) (sym (typed_kept old c.loop-item.types keeps c.args.scope.now c.requires.scope))
-              ∙ sym (c.in_ok-item_mistyped.ensures.test before known) ∙ c.if-branch.false in
+          ∙ sym (c.in_ok-item_mistyped.ensures.test before known) ∙ c.if-branch.false in
           flat_more (λ (i : Item). where_true (is_mistyped (types_of before) (connectors_of before) (typed old c.args.scope.now) i.form) (faults.Mistyped i.line))
           c.args.items.now c.loop-item.item-index x c.loop-item-test.true c.item-item.is (c.loop-item.invariant.1 before stands)
           (ap (λ b. where_true b (faults.Mistyped x.line)) test),

@@ -17,4 +17,4 @@ abbrev pub invariant-loop-item : goal.invariant-loop-item
 invariant-loop-item l =
     Keeps l.initial.types l.types
     × ((before : List Declaration) → Stands before l.initial.types l.known
-      → flat_map (λ (i : Item). where_true (is_mistyped (types_of before) (connectors_of before) (typed l.initial.types l.scope) i.form) (faults.Mistyped i.line)) (take l.item-index l.items) ≡ [])
+    → flat_map (λ (i : Item). where_true (is_mistyped (types_of before) (connectors_of before) (typed l.initial.types l.scope) i.form) (faults.Mistyped i.line)) (take l.item-index l.items) ≡ [])

@@ -1,17 +1,14 @@
 -- The connector of the name has its parameters' numbers at the same place.
-use Rattle.std.proofs.Common.{◌≡◌, ◌∙◌, ℕ, List, [], Bool, false, map, None, Some, position, slice_get, refl, sym, ap, subst, bytes_eq}
+use Rattle.std.proofs.Common.{◌∙◌, ℕ, List, Bool, position, sym, ap, subst, bytes_eq}
 use Rattle.std.specs.Prelude.{not}
-use Rattle.std.specs.List.{list_any, zip}
 use Rattle.std.proofs.lemmas.Option.{same_Some}
 use Rattle.reo_values.specs.declared.kindred.Kindred.{Kindred}
 use Rattle.reo_trees.specs.declared.programs.Parameter.{Parameter}
-use Rattle.reo_trees.specs.declared.programs.Declaration.{Declaration}
-use Rattle.reo_rules_base.specs.Types.{Typed, type_named, types_of, resolved, is_same}
-use Rattle.reo_rules_base.specs.Scopes.{connectors_of, parameters_named}
+use Rattle.reo_rules_base.specs.Types.{type_named, types_of, resolved, is_same}
+use Rattle.reo_rules_base.specs.Scopes.{connectors_of}
 use Rattle.reo_rules_base.specs.Mistyped.{is_use_mistyped}
 use Rattle.reo_rules_types.specs.Scoped.{typed}
 use Rattle.reo_rules_types.specs.Signed.{AreOf, parameter_types}
-use Rattle.reo_rules_types.specs.Stands.{Stands}
 use Rattle.reo_rules_types.proofs.Signatures.{connector_at, connector_none, signed_at, zip-map, zip_nil}
 use Rattle.reo_rules_types.proofs.mistyped.used_mistyped.Goals as goal
 

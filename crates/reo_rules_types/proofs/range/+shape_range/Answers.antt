@@ -1,5 +1,5 @@
 -- The parts of a pair one after another.
-use Rattle.std.proofs.Common.{◌≡◌, ◌∙◌, ℕ, ◌++◌, sym, ap, subst}
+use Rattle.std.proofs.Common.{◌∙◌, sym, ap, subst}
 use Rattle.reo_trees.specs.declared.types.Shape.TheVariants as shapes
 use Rattle.reo_rules_base.specs.Judged.{IsFirst, IsJudged}
 use Rattle.reo_rules_base.specs.Ranges.{range_in_type}

@@ -1,13 +1,11 @@
 -- A type is judged, and then it is declared; a connector is judged.
-use Rattle.std.proofs.Common.{◌≡◌, ◌∙◌, ℕ, ◌+◌, List, [], ◌∷◌, ◌++◌, take, false, refl, sym, ap, subst}
-use Rattle.std.specs.Map.{keys_of}
+use Rattle.std.proofs.Common.{◌≡◌, ◌∙◌, ℕ, ◌+◌, List, [], ◌∷◌, ◌++◌, take, refl, sym, ap, subst}
 use Rattle.reo_values.specs.declared.kindred.Kindred.{Kindred}
-use Rattle.reo_trees.specs.declared.programs.Declaration.{Declaration}
-use Rattle.reo_rules_base.specs.Lists.{each_after, has_name}
+use Rattle.reo_rules_base.specs.Lists.{has_name}
 use Rattle.reo_rules_base.specs.Types.{types_of, resolved}
 use Rattle.reo_rules_base.specs.Twice.{twice_in, twice_in_type, twice_in_connector}
-use Rattle.reo_rules_base.specs.Ranges.{range_in_type, range_in_connector, range_in, out_of_range}
-use Rattle.reo_rules_base.specs.Judged.{IsFirst, IsJudged}
+use Rattle.reo_rules_base.specs.Ranges.{range_in_type, range_in_connector, range_in}
+use Rattle.reo_rules_base.specs.Judged.{IsFirst}
 use Rattle.reo_rules_base.proofs.AfterLemmas.{judged_err, after_first, after_more, more_seen, left_none, right_none}
 use Rattle.reo_rules_types.specs.Scoped.{typed, AreKnown}
 use Rattle.reo_rules_types.proofs.Scoped.{known_kept, typed_kept}
@@ -75,7 +73,7 @@ loop-declaration-preserved c =
           let declared = w.in_ok-declare_type-in-Named.ensures in
           let same = typed_kept old w.type_range.new.types judged.keeps es inv.0 ∙ inv.1 in
           let scope = declared.scope ∙ (λ k. same k ++ record { name = name; kindred = resolved (same k) term.shape } ∷ [])
-              ∙ sym (types_named (take i ds) w.in-Named.line name term) ∙ ap types_of (ap (λ x. take i ds ++ x ∷ []) (sym w.in-Named.is) ∙ more) in (
+          ∙ sym (types_named (take i ds) w.in-Named.line name term) ∙ ap types_of (ap (λ x. take i ds ++ x ∷ []) (sym w.in-Named.is) ∙ more) in (
             subst (λ (p : List Kindred × List (List ℕ × ℕ)). AreKnown p.0 p.1) (λ k. (sym w.types-is k, sym w.declared-is k)) declared.known,
             subst (λ (p : List Kindred × List (List ℕ × ℕ)). typed p.0 p.1 ≡ types_of (take (i + 1) ds)) (λ k. (sym w.types-is k, sym w.declared-is k)) scope,
             after_more range_in [] ds i d below is inv.2 (ap (range_in (take i ds)) w.in-Named.is ∙ ap (λ known. range_in_type known term) (sym inv.1) ∙ judged.judged),

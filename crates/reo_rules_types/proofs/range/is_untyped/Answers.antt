@@ -1,5 +1,5 @@
 -- An expression without a kind has no type.
-use Rattle.std.proofs.Common.{◌≡◌, ◌∙◌, true, Err, refl, sym, ap}
+use Rattle.std.proofs.Common.{Err, sym, ap}
 use Rattle.std.specs.Prelude.{is_none}
 use Rattle.reo_rules_types.proofs.Ranged.{untyped}
 use Rattle.reo_rules_types.proofs.range.is_untyped.Goals as goal

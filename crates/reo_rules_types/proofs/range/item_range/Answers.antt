@@ -1,5 +1,5 @@
 -- The two nodes have the numbers of their types.
-use Rattle.std.proofs.Common.{◌≡◌, ◌∙◌, ℕ, ◌<◌, length, sym, ap, subst}
+use Rattle.std.proofs.Common.{◌∙◌, ◌<◌, length, sym, ap, subst}
 use Rattle.reo_rules_base.specs.declared.fault.FlatFault.TheVariants as faults
 use Rattle.reo_rules_base.specs.Lists.{where_true}
 use Rattle.reo_rules_base.specs.Ranges.{leaves, range_in_item}

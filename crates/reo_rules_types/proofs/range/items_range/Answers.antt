@@ -1,5 +1,5 @@
 -- One more item.
-use Rattle.std.proofs.Common.{◌≡◌, ◌∙◌, sym, ap, subst}
+use Rattle.std.proofs.Common.{◌∙◌, sym, subst}
 use Rattle.reo_trees.specs.declared.items.Item.{Item}
 use Rattle.reo_rules_base.specs.Ranges.{range_in_item}
 use Rattle.reo_rules_base.specs.Judged.{IsFirst}

@@ -1,5 +1,5 @@
 -- One more parameter.
-use Rattle.std.proofs.Common.{◌≡◌, ◌∙◌, sym, ap, subst}
+use Rattle.std.proofs.Common.{◌∙◌, sym, ap, subst}
 use Rattle.reo_trees.specs.declared.programs.Parameter.{Parameter}
 use Rattle.reo_rules_base.specs.Ranges.{range_in_type}
 use Rattle.reo_rules_base.specs.Judged.{IsFirst}

@@ -1,5 +1,5 @@
 -- Too deep as a whole, or no part is too deep.
-use Rattle.std.proofs.Common.{◌≡◌, ◌∙◌, nat_lt, sym, ap}
+use Rattle.std.proofs.Common.{◌∙◌, nat_lt, sym, ap}
 use Rattle.reo_rules_base.specs.Types.{depth_of}
 use Rattle.reo_rules_types.specs.Scoped.{typed}
 use Rattle.reo_rules_types.proofs.Kept.{at_told}

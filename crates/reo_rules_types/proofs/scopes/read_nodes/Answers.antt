@@ -1,13 +1,12 @@
 -- One more node.
-use Rattle.std.proofs.Common.{◌≡◌, ◌∙◌, ℕ, List, [], ◌∷◌, ◌++◌, ◌+◌, ◌<◌, get_or, map, take, length, refl, sym, ap, subst, false}
+use Rattle.std.proofs.Common.{◌≡◌, ◌∙◌, ℕ, List, [], ◌++◌, ◌+◌, ◌<◌, get_or, take, length, refl, sym, ap, subst}
 use Rattle.std.specs.List.{flat_map}
-use Rattle.std.specs.Map.{keys_of}
 use Rattle.std.proofs.lemmas.List.{append-nil, append_assoc}
 use Rattle.reo_trees.specs.declared.items.Item.{Item}
 use Rattle.reo_trees.specs.declared.items.Form.{Form}
 use Rattle.reo_trees.specs.declared.items.Form.TheVariants as forms
 use Rattle.reo_rules_base.specs.Lists.{has_name}
-use Rattle.reo_rules_base.specs.Types.{Typed, resolved}
+use Rattle.reo_rules_base.specs.Types.{Typed}
 use Rattle.reo_rules_base.specs.Scopes.{node_types_in}
 use Rattle.reo_rules_base.proofs.AfterLemmas.{more_flat}
 use Rattle.reo_rules_types.specs.Scoped.{typed, AreKnown}

@@ -1,10 +1,9 @@
 -- One more parameter.
-use Rattle.std.proofs.Common.{◌≡◌, ◌∙◌, ℕ, List, [], ◌∷◌, ◌++◌, map, take, length, Some, refl, sym, ap, subst, false}
+use Rattle.std.proofs.Common.{◌∙◌, [], ◌∷◌, ◌++◌, map, take, Some, refl, sym, ap, subst}
 use Rattle.reo_values.specs.declared.kindred.Kindred.{Kindred}
-use Rattle.std.specs.Map.{keys_of}
 use Rattle.reo_trees.specs.declared.programs.Parameter.{Parameter}
 use Rattle.reo_rules_base.specs.Lists.{has_name}
-use Rattle.reo_rules_base.specs.Types.{Typed, resolved}
+use Rattle.reo_rules_base.specs.Types.{resolved}
 use Rattle.reo_rules_base.specs.Scopes.{parameter_type}
 use Rattle.reo_rules_base.proofs.AfterLemmas.{more_mapped}
 use Rattle.reo_rules_types.specs.Scoped.{typed, AreKnown}
@@ -54,7 +53,7 @@ loop-parameter-preserved c =
     let kind : Parameter → Kindred = λ q. resolved known q.term.shape in
     let here = c.in_ok-number.ensures.number ∙ ap (λ k. Some (resolved k p.term.shape)) same in
     let numbers = of_push new c.loop-parameter.numbers (map kind (take i ps)) c.in_ok-number.number (kind p)
-        (of_kept mid new c.in_ok-number.ensures.keeps c.loop-parameter.numbers (map kind (take i ps)) inv.3) here in (
+    (of_kept mid new c.in_ok-number.ensures.keeps c.loop-parameter.numbers (map kind (take i ps)) inv.3) here in (
       keeps_both old mid new inv.0 c.in_ok-number.ensures.keeps,
       c.in_ok-number.ensures.known,
       more_mapped (parameter_type known) ps i p c.loop-parameter-test.true c.parameter-item.is inv.2 (c.in_ok-number.ensures.scope ∙ (λ k. typed mid c.loop-parameter.scope ++ record { name = p.name; kindred = resolved (same k) p.term.shape } ∷ [])),

@@ -1,7 +1,6 @@
 -- The parameters, and then the nodes.
-use Rattle.std.proofs.Common.{◌≡◌, ◌∙◌, List, [], ◌∷◌, ◌++◌, map, refl, sym, ap, subst}
+use Rattle.std.proofs.Common.{◌∙◌, [], ◌++◌, map, ap, subst}
 use Rattle.std.specs.List.{flat_map}
-use Rattle.std.specs.Map.{keys_of}
 use Rattle.reo_trees.specs.declared.items.Item.{Item}
 use Rattle.reo_trees.specs.declared.programs.Parameter.{Parameter}
 use Rattle.reo_rules_base.specs.Lists.{each_after}

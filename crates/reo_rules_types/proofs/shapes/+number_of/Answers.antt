@@ -1,11 +1,10 @@
 -- A pair behind its parts; a name has its number.
-use Rattle.std.proofs.Common.{◌≡◌, ◌∙◌, ℕ, ◌<◌, length, Some, slice_get, refl, sym, ap, subst}
+use Rattle.std.proofs.Common.{◌≡◌, ◌∙◌, Some, slice_get, sym, ap, subst}
 use Rattle.std.specs.Prelude.{IfOk}
 use Rattle.reo_trees.specs.declared.types.Shape.TheVariants as shapes
 use Rattle.reo_rules_base.specs.Types.{resolved}
-use Rattle.reo_rules_types.specs.Cells.{type_at}
 use Rattle.reo_rules_types.specs.Scoped.{typed, number_named}
-use Rattle.reo_rules_types.proofs.Kept.{at_told, at_within, kept_at, kept_below}
+use Rattle.reo_rules_types.proofs.Kept.{at_within, kept_below}
 use Rattle.reo_rules_types.proofs.Scoped.{known_kept, named_there}
 use Rattle.reo_rules_types.proofs.Shaped.{pair_resolved}
 use Rattle.reo_rules_types.proofs.Sizes.{pair_smaller}

@@ -1,10 +1,9 @@
 -- One level less in each part of a pair.
-use Rattle.std.proofs.Common.{◌≡◌, ◌∙◌, ℕ, List, Some, slice_get, nat_lt, max, ◌+◌, refl, sym, ap, subst}
+use Rattle.std.proofs.Common.{◌≡◌, ◌∙◌, ℕ, List, Some, slice_get, nat_lt, max, ◌+◌, sym, ap}
 use Rattle.reo_values.specs.declared.kindred.Kindred.{Kindred}
 use Rattle.reo_rules_types.specs.declared.cell.Cell.{Cell}
 use Rattle.reo_rules_types.specs.declared.cell.Cell.TheVariants as cells
 use Rattle.reo_values.specs.declared.kindred.Twins.{Twins}
-use Rattle.reo_values.specs.declared.kindred.Kindred.TheVariants as kinds
 use Rattle.reo_rules_base.specs.Types.{depth_of}
 use Rattle.reo_rules_types.specs.Cells.{type_at, kindred_of}
 use Rattle.reo_rules_types.proofs.Cells.{of_cell}

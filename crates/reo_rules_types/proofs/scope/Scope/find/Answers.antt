@@ -1,7 +1,6 @@
 -- The number of the map.
-use Rattle.std.proofs.Common.{◌≡◌, ◌∙◌, ℕ, List, Some, None, sym, ap, bytes_eq}
+use Rattle.std.proofs.Common.{◌∙◌, sym, ap, bytes_eq}
 use Rattle.std.specs.Prelude.{unwrap_or}
-use Rattle.std.specs.Map.{lookup}
 use Rattle.reo_rules_types.specs.Scoped.{number_named}
 use Rattle.reo_rules_types.proofs.Scoped.{lookup-map}
 use Rattle.reo_rules_types.proofs.scope.Scope.find.Goals as goal

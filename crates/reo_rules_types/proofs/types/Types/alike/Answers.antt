@@ -1,5 +1,5 @@
 -- No type has two numbers.
-use Rattle.std.proofs.Common.{arith, ◌≡◌, ◌∙◌, ℕ, ◌<◌, List, Bool, true, length, ◌==◌, sym, ap, subst, slice_get, Some}
+use Rattle.std.proofs.Common.{arith, ◌≡◌, ◌∙◌, ℕ, List, true, ◌==◌, sym, ap, subst, slice_get, Some}
 use Rattle.reo_values.specs.declared.kindred.Kindred.{Kindred}
 use Rattle.reo_rules_base.specs.Types.{is_same}
 use Rattle.std.proofs.lemmas.Option.{same_Some}

@@ -1,5 +1,5 @@
 -- The cell of the table.
-use Rattle.std.proofs.Common.{◌≡◌, ◌∙◌, Some, List, slice_get, sym, ap, subst}
+use Rattle.std.proofs.Common.{◌≡◌, Some, slice_get, sym, subst}
 use Rattle.reo_rules_types.specs.Cells.{kindred_of}
 use Rattle.reo_rules_types.proofs.types.Types.cell.Goals as goal
 

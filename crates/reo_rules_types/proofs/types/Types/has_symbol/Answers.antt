@@ -1,5 +1,5 @@
 -- The symbols of the table.
-use Rattle.std.proofs.Common.{◌≡◌, ◌∙◌, sym, ap}
+use Rattle.std.proofs.Common.{◌∙◌, sym, ap}
 use Rattle.std.specs.Prelude.{bytes_eq, is_some}
 use Rattle.reo_rules_types.specs.Cells.{is_symbol, type_at}
 use Rattle.reo_rules_types.proofs.Kept.{at_told}

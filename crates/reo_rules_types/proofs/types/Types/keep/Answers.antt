@@ -2,7 +2,6 @@
 use Rattle.std.proofs.Common.{◌≡◌, ◌∙◌, ℕ, List, [], ◌∷◌, ◌++◌, length, Option, Some, None, MatchOption, slice_get, refl, sym, ap, subst, false}
 use Rattle.std.specs.Prelude.{unwrap_or, is_some}
 use Rattle.std.specs.Map.{keys_of}
-use Rattle.std.proofs.lemmas.List.{length-map}
 use Rattle.reo_values.specs.declared.kindred.Kindred.{Kindred}
 use Rattle.reo_exprs.specs.Kinds.{kind_of}
 use Rattle.reo_rules_types.specs.declared.cell.Cell.{Cell}

@@ -1,5 +1,5 @@
 -- The kind first, and then the type.
-use Rattle.std.proofs.Common.{◌≡◌, ◌∙◌, length, Some, ap, sym, subst, slice_get}
+use Rattle.std.proofs.Common.{◌≡◌, ◌∙◌, Some, ap, sym, subst, slice_get}
 use Rattle.std.specs.Prelude.{IfOk}
 use Rattle.reo_exprs.specs.Kinds.{kind_of}
 use Rattle.reo_exprs.proofs.Steps.{kind_twice}
