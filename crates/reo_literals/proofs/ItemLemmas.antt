@@ -1,9 +1,10 @@
 -- What the item of a literal is, case by case.
 use denote.Hole.Carrier.{hidden}
-use Rattle.std.proofs.Common.{arith, ◌≡◌, ◌∙◌, ℕ, ◌+◌, ◌<◌, ◌&&◌, Bool, true, false, cond, List, [], ◌∷◌, length, Option, Some, None, refl, sym, ap, bytes_eq}
+use Rattle.std.proofs.Common.{arith, ◌≡◌, ◌∙◌, ℕ, ◌+◌, ◌<◌, ◌&&◌, Bool, true, false, cond, List, [], ◌∷◌, ◌++◌, length, take, get_or, Option, Some, None, IsSome, is_some, refl, sym, ap, bytes_eq}
 use Rattle.std.proofs.lemmas.Bool.{lt-ltb}
+use Rattle.std.proofs.lemmas.List.{take_more}
 use Rattle.std.specs.Prelude.{option_map, option_and_then}
-use Rattle.std.specs.List.{position_from}
+use Rattle.std.specs.List.{position_from, filter_map, cons_option}
 use Rattle.reo_values.specs.declared.value.Value.{Value}
 use Rattle.reo_values.specs.declared.value.Value.TheVariants as values
 use Rattle.reo_values.specs.declared.value.Value.TheBlock.{hidden-the_row-Couple-0}
@@ -13,6 +14,7 @@ use Rattle.reo_values.specs.declared.kindred.Kindred.TheVariants as kinds
 use Rattle.reo_values.specs.declared.kindred.Kindred.TheBlock.{hidden-the_row-Twins-0}
 use Rattle.reo_values.specs.declared.kindred.Twins.{Twins}
 use Rattle.reo_values.specs.Kind.{is_item}
+use Rattle.reo_trees.specs.declared.literals.Constant.{Constant}
 use Rattle.reo_trees.specs.declared.literals.Constant.TheVariants as constants
 use Rattle.reo_trees.specs.declared.literals.Constant.TheBlock.{hidden-the_row-LiteralPair-0}
 use Rattle.reo_trees.specs.declared.literals.LiteralPair.{LiteralPair}
@@ -86,11 +88,44 @@ item_in_Pair-other x (kindred.Sym a) other = refl
 item_in_Pair-other x (kindred.Text a) other = refl
 item_in_Pair-other x (kindred.Pair' m (kindred.more_of-Twins a b kindred.end_of-Twins)) other = absurd (other (record { left = a; right = b }) refl)
 
--- An item that a test keeps is the one that was tested.
-pub kept_whole : (k : Kindred) (v : Value) → cond (is_item v k) (Some v) None ≡ None → ((w : Value) → cond (is_item v k) (Some v) None ≡ Some w → ⊥)
-kept_whole k v is w other = cc
+-- The parts of a pair that is an item are items.
+pub both-parts : (a b : Option Value) → IsSome (both a b) → IsSome a × IsSome b
+both-parts None b there = absurd (cc)
+both-parts (Some v) None there = absurd (cc)
+both-parts (Some v) (Some w) there = (refl, refl)
+
+pub is_some-both : (a b : Option Value) → is_some (both a b) ≡ is_some a && is_some b
+is_some-both None b = refl
+is_some-both (Some v) None = refl
+is_some-both (Some v) (Some w) = refl
+
+pub is_some-map : {X Y : Type 0} (f : X → Y) (o : Option X) → is_some (option_map f o) ≡ is_some o
+is_some-map f None = refl
+is_some-map f (Some x) = refl
+
+pub both-made : (a b : Option Value) (v w : Value) → a ≡ Some v → b ≡ Some w → both a b ≡ Some (values.Pair (record { left = v; right = w }))
+both-made a b v w left right = λ i. both (left i) (right i)
 
 -- Few names in a pair are few in its parts.
 pub HasFewNames-Pair : (y : Twins) → HasFewNames (kinds.Pair y) ≡ (HasFewNames y.left × HasFewNames y.right)
 unfolding hidden hidden-the_row-Twins-0
 HasFewNames-Pair y = refl
+
+pub few_parts : (k : Kindred) (y : Twins) → k ≡ kinds.Pair y → HasFewNames k → HasFewNames y.left × HasFewNames y.right
+few_parts k y is few = rw (is, HasFewNames-Pair y) at few
+
+pub parts_in : (k : Kindred) (c : Constant) (x : LiteralPair) (y : Twins) → c ≡ constants.Pair x → k ≡ kinds.Pair y → IsSome (item_in k c) → IsSome (item_in y.left x.left.constant) × IsSome (item_in y.right x.right.constant)
+parts_in k c x y at is there = both-parts _ _ (rw (is, at, item_in-Pair x y) at there)
+
+-- Items one after another, as far as a place.
+joined : {Y : Type 0} (o : Option Y) (xs ys : List Y) → cons_option o (xs ++ ys) ≡ cons_option o xs ++ ys
+joined None xs ys = refl
+joined (Some y) xs ys = refl
+
+filter_map-append : {X Y : Type 0} (f : X → Option Y) (xs ys : List X) → filter_map f (xs ++ ys) ≡ filter_map f xs ++ filter_map f ys
+filter_map-append f [] ys = refl
+filter_map-append f (x ∷ xs) ys = ap (cons_option (f x)) (filter_map-append f xs ys) ∙ joined (f x) (filter_map f xs) (filter_map f ys)
+
+pub filter_map-more : {X Y : Type 0} (f : X → Option Y) (xs : List X) (i : ℕ) (x : X) → i < length xs → x ≡ get_or xs i x → filter_map f (take (i + 1) xs) ≡ filter_map f (take i xs) ++ cons_option (f x) []
+filter_map-more f xs i x within is =
+    ap (filter_map f) (take_more xs i x within ∙ ap (λ y. take i xs ++ y ∷ []) (sym is)) ∙ filter_map-append f (take i xs) (x ∷ [])

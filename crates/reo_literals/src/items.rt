@@ -1,6 +1,6 @@
 //! The items that literals are.
-ghost use Rattle.std.specs.Prelude.{◌≡◌, IfOk, IsSome, Some, is_some, bytes_eq};
-ghost use Rattle.std.specs.List.{list_all, position_from};
+ghost use Rattle.std.specs.Prelude.{◌≡◌, ◌++◌, [], IfOk, OnOk, IsSome, Some, is_some, bytes_eq};
+ghost use Rattle.std.specs.List.{list_all, position_from, cons_option};
 ghost use Rattle.reo_values.specs.Kind.{is_plain};
 ghost use Rattle.reo_literals.specs.Items.{item_in, item_of, items_of, HasFewNames};
 
@@ -107,6 +107,16 @@ pub fn item_of(
     }
 }
 
+/// One item more at the end, where there is one.
+fn keep(made: &mut List<Value>, found: Option<Value>) -> Result<(), NoMemory>
+    ensures { OnOk result (made.new ≡ made.old ++ cons_option found []) }
+{
+    match found {
+        Some(item) => made.push(item),
+        None => Ok(()),
+    }
+}
+
 /// The items of a type that literals are; a literal that is none is passed over. `NoMemory`: out
 /// of memory.
 pub fn items_of(
@@ -119,9 +129,7 @@ pub fn items_of(
 {
     let mut made = List::new(alloc);
     for literal in literals {
-        if let Some(item) = item_of(alloc, kindred, literal)? {
-            made.push(item)?;
-        }
+        keep(&mut made, item_of(alloc, kindred, literal)?)?;
     }
     Ok(made)
 }
