@@ -15,8 +15,8 @@ fn are_plain(bytes: &[u8]) -> bool
     bytes.iter().all(|byte| 32 <= *byte && *byte <= 126)
 }
 
-/// The place of a name among names.
-fn place_of(names: &[Bytes], name: &[u8]) -> Option<usize>
+/// The place of a name among names, from 0, or `None` exactly where it is none of them.
+pub fn place_of(names: &[Bytes], name: &[u8]) -> Option<usize>
     ensures { result ≡ position_from (bytes_eq name.now) 0 names.now }
 {
     names.iter().position(|other| name == other.as_slice())

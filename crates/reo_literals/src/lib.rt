@@ -3,4 +3,4 @@
 
 mod items;
 
-pub use items::{is_item_of, item_of, items_of};
+pub use items::{is_item_of, item_of, items_of, place_of};

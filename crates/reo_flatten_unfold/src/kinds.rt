@@ -1,0 +1,120 @@
+//! The primitives that channels are.
+ghost use Rattle.std.specs.Prelude.{◌≡◌, ◌≤◌, List, IfOk, take, length};
+ghost use Rattle.std.specs.List.{All};
+ghost use Rattle.std.specs.Option.{option_copied};
+ghost use Rattle.reo_buffers.specs.Stored.{stored};
+ghost use Rattle.reo_literals.specs.Items.{items_of, HasFewNames};
+ghost use Rattle.reo_rules_base.specs.Types.{Typed};
+ghost use Rattle.reo_flatten_base.specs.ChannelKinds.{filter_kind, map_kind, channel_kind};
+ghost use Rattle.reo_flatten_unfold.specs.Known.{AreTypes, shape_type};
+ghost use Rattle.reo_flatten_unfold.specs.Fits.{ChannelFits};
+
+use crate::exprs::expr_of;
+use crate::types::{Types, kindred_of};
+use reo_buffers::Buffer;
+use reo_exprs::{Expr, TypeFault, type_of};
+use reo_kinds::{FilterRule, Kind, MapRule};
+use reo_literals::items_of;
+use reo_trees::{Channel, Literal, Shape};
+use reo_values::{Kindred, NoMemory};
+use std::alloc::Global;
+use std::slice;
+
+/// The type of a node that is declared with this type, or `unit` where it is not declared.
+fn node_type(
+    alloc: Global,
+    types: &Types,
+    known: usize,
+    of: Option<&Shape>,
+) -> Result<Kindred, NoMemory>
+    ensures { (ts : List Typed) → AreTypes ts types.now → IfOk result (λ made. made ≡ shape_type (take known ts) (option_copied of.entry)) }
+{
+    match of {
+        Some(shape) => kindred_of(alloc, types, known, shape),
+        None => Ok(Kindred::Unit),
+    }
+}
+
+/// A buffer of this size with the items that literals are.
+fn store(
+    alloc: Global,
+    size: usize,
+    of: &Kindred,
+    held: &[Literal],
+) -> Result<Kind, NoMemory>
+    requires some { 1 ≤ size }
+    requires few { size ≤ 1024 }
+    requires fits { length held.now ≤ size }
+    requires names { HasFewNames of.now }
+    ensures { IfOk result (λ kind. kind ≡ Kind.Store (stored size (items_of of.now held.now))) }
+{
+    let items = items_of(alloc, of, held)?;
+    Ok(Kind::Store(Buffer::with(alloc, size, items)?))
+}
+
+/// A filter by an expression whose type is that of truth values.
+fn filter(alloc: Global, of: Kindred, expr: Option<Expr>) -> Result<Kind, NoMemory>
+    ensures { IfOk result (λ kind. kind ≡ filter_kind of expr) }
+{
+    let Some(expr) = expr else {
+        return Ok(Kind::Sync);
+    };
+    match type_of(alloc, &expr, &of) {
+        Ok(Kindred::Bool) => Ok(Kind::Filter(FilterRule::new(of, expr))),
+        Err(TypeFault::NoMemory) => Err(NoMemory),
+        _ => Ok(Kind::Sync),
+    }
+}
+
+/// A map by an expression that has a type.
+fn map(alloc: Global, of: Kindred, expr: Option<Expr>) -> Result<Kind, NoMemory>
+    ensures { IfOk result (λ kind. kind ≡ map_kind of expr) }
+{
+    let Some(expr) = expr else {
+        return Ok(Kind::Sync);
+    };
+    match type_of(alloc, &expr, &of) {
+        Ok(_) => Ok(Kind::Map(MapRule::new(of, expr))),
+        Err(TypeFault::NoMemory) => Err(NoMemory),
+        Err(_) => Ok(Kind::Sync),
+    }
+}
+
+/// The primitive of a channel whose first node is declared with this type, by the first so many
+/// types. `NoMemory`: out of memory.
+pub(crate) fn channel_kind(
+    alloc: Global,
+    types: &Types,
+    known: usize,
+    of: Option<&Shape>,
+    channel: &Channel,
+) -> Result<Kind, NoMemory>
+    requires fits { ChannelFits channel.now }
+    requires few { All HasFewNames types.now.kindreds }
+    requires names { (ts : List Typed) → AreTypes ts types.now → HasFewNames (shape_type (take known ts) (option_copied of)) }
+    ensures { (ts : List Typed) → AreTypes ts types.now → IfOk result (λ made. made ≡ channel_kind (take known ts) (shape_type (take known ts) (option_copied of.entry)) channel.now) }
+{
+    match channel {
+        Channel::Sync => Ok(Kind::Sync),
+        Channel::Lossy => Ok(Kind::Lossy),
+        Channel::SyncDrain => Ok(Kind::SyncDrain),
+        Channel::AsyncDrain => Ok(Kind::AsyncDrain),
+        Channel::Fifo1(None) => Ok(Kind::Store(Buffer::new(alloc, 1)?)),
+        Channel::Fifo1(Some(literal)) => {
+            let of = node_type(alloc, types, known, of)?;
+            store(alloc, 1, &of, slice::from_ref(literal))
+        }
+        Channel::Fifo(size, held) => {
+            let of = node_type(alloc, types, known, of)?;
+            store(alloc, *size as usize, &of, held.as_slice())
+        }
+        Channel::Filter(term) => {
+            let expr = expr_of(alloc, types, known, &term.form)?;
+            filter(alloc, node_type(alloc, types, known, of)?, expr)
+        }
+        Channel::Map(term) => {
+            let expr = expr_of(alloc, types, known, &term.form)?;
+            map(alloc, node_type(alloc, types, known, of)?, expr)
+        }
+    }
+}
