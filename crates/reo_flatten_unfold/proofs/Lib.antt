@@ -1,1 +1,6 @@
 pub mod Found
+pub mod Positions
+pub mod TypeLemmas
+pub mod ExprLemmas
+pub mod NameLemmas
+pub mod KindLemmas

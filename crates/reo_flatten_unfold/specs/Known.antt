@@ -1,5 +1,5 @@
 -- Types by name, as a list.
-use Rattle.std.specs.Prelude.{◌≡◌, List, map, Option, Some, None}
+use Rattle.std.specs.Prelude.{◌≡◌, List, map, Option, Some, None, Bool, true, false}
 use Rattle.reo_values.specs.declared.kindred.Kindred.{Kindred}
 use Rattle.reo_values.specs.declared.kindred.Kindred.TheVariants as kinds
 use Rattle.reo_trees.specs.declared.types.Shape.{Shape}
@@ -15,3 +15,8 @@ pub record AreTypes (ts : List Typed) (types : Types) : Type 0 where
 abbrev pub shape_type : List Typed → Option Shape → Kindred
 shape_type ts None = kinds.Unit
 shape_type ts (Some shape) = resolved ts shape
+
+-- The type is that of truth values.
+abbrev pub is_truth : Option Kindred → Bool
+is_truth (Some kinds.Bool) = true
+is_truth t = false

@@ -1,30 +1,33 @@
 //! What written expressions stand for.
-ghost use Rattle.std.specs.Prelude.{◌≡◌, ◌≤◌, List, IfOk, take, length, bytes_eq, option_map};
-ghost use Rattle.std.specs.List.{All, position_from};
+ghost use Rattle.std.specs.Prelude.{◌≡◌, List, IfOk, take};
+ghost use Rattle.std.specs.List.{All};
 ghost use Rattle.reo_literals.specs.Items.{HasFewNames};
 ghost use Rattle.reo_rules_base.specs.Types.{Typed};
-ghost use Rattle.reo_rules_base.specs.Terms.{expr_of};
+ghost use Rattle.reo_rules_base.specs.Terms.{symbol_in, expr_of};
 ghost use Rattle.reo_flatten_unfold.specs.Known.{AreTypes};
 
 use crate::types::Types;
 use reo_exprs::{Expr, ExprPair, ExprTriple};
 use reo_literals::place_of;
 use reo_trees::TermForm;
-use reo_values::{Boxed, Bytes, Copies, Kindred, List, NoMemory};
+use reo_values::{Boxed, Bytes, Copies, Kindred, NoMemory};
 use std::alloc::Global;
 
-/// The expression of a symbol among the names of its type, if it is one of them.
+/// The expression of a symbol of a type, if it is one.
 fn symbol_of(
     alloc: Global,
-    names: &List<Bytes>,
+    kindred: &Kindred,
     symbol: &Bytes,
 ) -> Result<Option<Expr>, NoMemory>
-    requires { length names.now ≤ 1024 }
-    ensures { IfOk result (λ made. made ≡ option_map (λ place. Expr.Sym names.now place) (position_from (bytes_eq symbol.now) 0 names.now)) }
+    requires { HasFewNames kindred.now }
+    ensures { IfOk result (λ made. made ≡ symbol_in kindred.now symbol.now) }
 {
-    match place_of(names.as_slice(), symbol.as_slice()) {
-        Some(place) => Ok(Some(Expr::Sym(names.copied(alloc)?, place as u16))),
-        None => Ok(None),
+    match kindred {
+        Kindred::Sym(names) => match place_of(names.as_slice(), symbol.as_slice()) {
+            Some(place) => Ok(Some(Expr::Sym(names.copied(alloc)?, place as u16))),
+            None => Ok(None),
+        },
+        _ => Ok(None),
     }
 }
 
@@ -46,8 +49,8 @@ pub(crate) fn expr_of(
         TermForm::Int(number) => Ok(Some(Expr::Int(*number))),
         TermForm::Text(bytes) => Ok(Some(Expr::Text(bytes.copy(alloc)?))),
         TermForm::Sym(name, symbol) => match types.named(known, name.as_slice()) {
-            Some(Kindred::Sym(names)) => symbol_of(alloc, names, symbol),
-            _ => Ok(None),
+            Some(kindred) => symbol_of(alloc, kindred, symbol),
+            None => Ok(None),
         },
         TermForm::One(op, operand) => match expr_of(alloc, types, known, &operand.get().form)? {
             Some(made) => Ok(Some(Expr::One(*op, Boxed::new(alloc, made)?))),

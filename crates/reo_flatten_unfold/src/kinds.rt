@@ -1,12 +1,13 @@
 //! The primitives that channels are.
-ghost use Rattle.std.specs.Prelude.{◌≡◌, ◌≤◌, List, IfOk, take, length};
+ghost use Rattle.std.specs.Prelude.{◌≡◌, ◌≤◌, List, IfOk, Some, is_some, take, length};
 ghost use Rattle.std.specs.List.{All};
 ghost use Rattle.std.specs.Option.{option_copied};
 ghost use Rattle.reo_buffers.specs.Stored.{stored};
 ghost use Rattle.reo_literals.specs.Items.{items_of, HasFewNames};
 ghost use Rattle.reo_rules_base.specs.Types.{Typed};
 ghost use Rattle.reo_flatten_base.specs.ChannelKinds.{filter_kind, map_kind, channel_kind};
-ghost use Rattle.reo_flatten_unfold.specs.Known.{AreTypes, shape_type};
+ghost use Rattle.reo_flatten_unfold.specs.Known.{AreTypes, shape_type, is_truth};
+ghost use Rattle.reo_exprs.specs.Typing.{type_of_expr};
 ghost use Rattle.reo_flatten_unfold.specs.Fits.{ChannelFits};
 
 use crate::exprs::expr_of;
@@ -52,31 +53,49 @@ fn store(
     Ok(Kind::Store(Buffer::with(alloc, size, items)?))
 }
 
-/// A filter by an expression whose type is that of truth values.
-fn filter(alloc: Global, of: Kindred, expr: Option<Expr>) -> Result<Kind, NoMemory>
-    ensures { IfOk result (λ kind. kind ≡ filter_kind of expr) }
+/// Whether the type of an expression is that of truth values.
+fn is_predicate(alloc: Global, expr: &Expr, of: &Kindred) -> Result<bool, NoMemory>
+    ensures { IfOk result (λ test. test ≡ is_truth (type_of_expr expr.now of.now)) }
 {
-    let Some(expr) = expr else {
-        return Ok(Kind::Sync);
-    };
-    match type_of(alloc, &expr, &of) {
-        Ok(Kindred::Bool) => Ok(Kind::Filter(FilterRule::new(of, expr))),
+    match type_of(alloc, expr, of) {
+        Ok(kindred) => Ok(matches!(kindred, Kindred::Bool)),
         Err(TypeFault::NoMemory) => Err(NoMemory),
-        _ => Ok(Kind::Sync),
+        Err(TypeFault::Mistyped) => Ok(false),
+        Err(TypeFault::Range) => Ok(false),
+    }
+}
+
+/// Whether an expression has a type.
+fn is_typed(alloc: Global, expr: &Expr, of: &Kindred) -> Result<bool, NoMemory>
+    ensures { IfOk result (λ test. test ≡ is_some (type_of_expr expr.now of.now)) }
+{
+    match type_of(alloc, expr, of) {
+        Ok(_) => Ok(true),
+        Err(TypeFault::NoMemory) => Err(NoMemory),
+        Err(TypeFault::Mistyped) => Ok(false),
+        Err(TypeFault::Range) => Ok(false),
+    }
+}
+
+/// A filter by an expression whose type is that of truth values.
+fn filter(alloc: Global, of: Kindred, expr: Expr) -> Result<Kind, NoMemory>
+    ensures { IfOk result (λ kind. kind ≡ filter_kind of (Some expr)) }
+{
+    if is_predicate(alloc, &expr, &of)? {
+        Ok(Kind::Filter(FilterRule::new(of, expr)))
+    } else {
+        Ok(Kind::Sync)
     }
 }
 
 /// A map by an expression that has a type.
-fn map(alloc: Global, of: Kindred, expr: Option<Expr>) -> Result<Kind, NoMemory>
-    ensures { IfOk result (λ kind. kind ≡ map_kind of expr) }
+fn map(alloc: Global, of: Kindred, expr: Expr) -> Result<Kind, NoMemory>
+    ensures { IfOk result (λ kind. kind ≡ map_kind of (Some expr)) }
 {
-    let Some(expr) = expr else {
-        return Ok(Kind::Sync);
-    };
-    match type_of(alloc, &expr, &of) {
-        Ok(_) => Ok(Kind::Map(MapRule::new(of, expr))),
-        Err(TypeFault::NoMemory) => Err(NoMemory),
-        Err(_) => Ok(Kind::Sync),
+    if is_typed(alloc, &expr, &of)? {
+        Ok(Kind::Map(MapRule::new(of, expr)))
+    } else {
+        Ok(Kind::Sync)
     }
 }
 
@@ -109,11 +128,15 @@ pub(crate) fn channel_kind(
             store(alloc, *size as usize, &of, held.as_slice())
         }
         Channel::Filter(term) => {
-            let expr = expr_of(alloc, types, known, &term.form)?;
+            let Some(expr) = expr_of(alloc, types, known, &term.form)? else {
+                return Ok(Kind::Sync);
+            };
             filter(alloc, node_type(alloc, types, known, of)?, expr)
         }
         Channel::Map(term) => {
-            let expr = expr_of(alloc, types, known, &term.form)?;
+            let Some(expr) = expr_of(alloc, types, known, &term.form)? else {
+                return Ok(Kind::Sync);
+            };
             map(alloc, node_type(alloc, types, known, of)?, expr)
         }
     }

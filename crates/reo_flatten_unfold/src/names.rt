@@ -46,10 +46,14 @@ pub(crate) fn flat_name(
     ensures { (ps : List AParameter) (rest : List (List ℕ)) → names.now ≡ parameter_names ps ++ rest → length ps ≡ parameters → IfOk result (λ made. made ≡ flat_name path.now ps arguments.now name.now) }
 {
     match names.find(name.as_slice()) {
-        Some(number) if number < parameters && number < arguments.len() => {
-            arguments[number].copy(alloc)
+        Some(number) => {
+            if number < parameters && number < arguments.len() {
+                arguments[number].copy(alloc)
+            } else {
+                node_name(alloc, path, name)
+            }
         }
-        _ => node_name(alloc, path, name),
+        None => node_name(alloc, path, name),
     }
 }
 

@@ -1,8 +1,10 @@
 //! Types by name, and what written types stand for.
-ghost use Rattle.std.specs.Prelude.{◌≡◌, ◌<◌, List, IfOk, OnOk, [], ◌∷◌, ◌++◌, take, unwrap_or, false};
+ghost use Rattle.std.specs.Prelude.{◌≡◌, List, IfOk, IfSome, OnOk, [], ◌∷◌, ◌++◌, take, unwrap_or, false};
+ghost use Rattle.std.specs.List.{All};
 ghost use Rattle.std.specs.Option.{option_copied};
+ghost use Rattle.reo_literals.specs.Items.{HasFewNames};
 ghost use Rattle.reo_rules_base.specs.Lists.{has_name};
-ghost use Rattle.reo_rules_base.specs.Types.{Typed, type_named, resolved, names_of};
+ghost use Rattle.reo_rules_base.specs.Types.{Typed, type_named, resolved};
 ghost use Rattle.reo_flatten_unfold.specs.Known.{AreTypes};
 
 use reo_rules_base::Names;
@@ -30,11 +32,18 @@ impl Types {
 
     /// The type of a name among the first so many, if there is one.
     pub fn named(&self, known: usize, name: &[u8]) -> Option<&Kindred>
-        ensures { (ts : List Typed) → AreTypes ts self.now → type_named (take known ts) name.now ≡ unwrap_or (option_copied result) Kindred.Unit }
+        ensures is { (ts : List Typed) → AreTypes ts self.now → type_named (take known ts) name.now ≡ unwrap_or (option_copied result) Kindred.Unit }
+        ensures few { All HasFewNames self.now.kindreds → IfSome result (λ kindred. HasFewNames kindred.now) }
     {
         match self.names.find(name) {
-            Some(number) if number < known => self.kindreds.get(number),
-            _ => None,
+            Some(number) => {
+                if number < known {
+                    self.kindreds.get(number)
+                } else {
+                    None
+                }
+            }
+            None => None,
         }
     }
 

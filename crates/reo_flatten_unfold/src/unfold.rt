@@ -101,7 +101,10 @@ fn used(
     ensures path { OnOk result (path.new ≡ path.old) }
 {
     match frame.ground.connectors.find(name.as_slice()) {
-        Some(number) if number < frame.number => {
+        Some(number) => {
+            if frame.number <= number {
+                return Ok(());
+            }
             let names = &frame.local.names;
             let parameters = frame.connector.parameters.len();
             let outer = frame.arguments;
@@ -120,7 +123,7 @@ fn used(
             path.truncate(length);
             Ok(())
         }
-        _ => Ok(()),
+        None => Ok(()),
     }
 }
 
