@@ -1,6 +1,9 @@
 pub mod Found
+pub mod ListLemmas
 pub mod Positions
 pub mod TypeLemmas
 pub mod ExprLemmas
 pub mod NameLemmas
 pub mod KindLemmas
+pub mod LocalLemmas
+pub mod GroundLemmas

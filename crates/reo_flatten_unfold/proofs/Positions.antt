@@ -2,6 +2,7 @@
 use Rattle.std.proofs.Common.{arith, ◌≡◌, ◌∙◌, ℕ, zero, suc, ◌+◌, ◌<◌, ◌≤◌, inl, inr, List, [], ◌∷◌, length, take, map, Bool, true, false, not, cond, Option, Some, None, find, position, nat_lt, refl, sym, ap}
 use Rattle.std.specs.Prelude.{slice_get}
 use Rattle.std.specs.List.{prefix_len}
+use Rattle.std.proofs.lemmas.Bool.{ltb-true}
 use Rattle.std.proofs.lemmas.Bool.Decides.{leb_tells}
 
 at_place : (t : Bool) (a n : ℕ) → cond t (Some a) None ≡ Some n → a ≡ n
@@ -78,3 +79,29 @@ module _ {X : Type 0} (p : X → Bool) where
 
   pub found_none : (xs : List X) (k : ℕ) → position p xs ≡ None → find p (take k xs) ≡ None
   found_none xs k is = front_or_not xs k (before_first xs) refl (past xs (before_first xs) (place_none xs is))
+
+  all-step : (b : Bool) (x : X) (xs : List X) (r : ℕ) → find p xs ≡ slice_get xs r → cond b (Some x) (find p xs) ≡ slice_get (x ∷ xs) (cond (not b) (1 + r) 0)
+  all-step true x xs r more = refl
+  all-step false x xs r more = more ∙ later x xs r
+
+  -- The same in a whole list.
+  find_first : (xs : List X) → find p xs ≡ slice_get xs (before_first xs)
+  find_first [] = refl
+  find_first (x ∷ xs) = all-step (p x) x xs (before_first xs) (find_first xs)
+
+  pub found_at : (xs : List X) (n : ℕ) → position p xs ≡ Some n → find p xs ≡ slice_get xs n
+  found_at xs n is = find_first xs ∙ ap (slice_get xs) (place_is xs n is)
+
+  pub found_nowhere : (xs : List X) → position p xs ≡ None → find p xs ≡ None
+  found_nowhere xs is = find_first xs ∙ past xs (before_first xs) (place_none xs is)
+
+  -- A place that was found is one of the list.
+  within-step : (t : Bool) (a m n : ℕ) → (t ≡ true → a < m) → cond t (Some a) None ≡ Some n → n < m
+  within-step true a m n small is =
+      let same : a ≡ n = cc in
+      let below = small refl in
+      omega arith
+  within-step false a m n small is = absurd (cc)
+
+  pub found_within : (xs : List X) (n : ℕ) → position p xs ≡ Some n → n < length xs
+  found_within xs n is = within-step _ _ (length xs) n (ltb-true _ _) is

@@ -1,12 +1,15 @@
 -- What the unfolding reads of a program.
-use Rattle.std.specs.Prelude.{ℕ, ◌≡◌, ◌<◌, List, Some, length, take, slice_get, slice_index_or}
+use Rattle.std.specs.Prelude.{ℕ, ◌≡◌, ◌<◌, List, [], ◌∷◌, ◌++◌, Some, max, length, take, slice_get, slice_index_or}
+use Rattle.std.specs.List.{sum_by, fold}
+use Rattle.reo_trees.specs.declared.items.Item.{Item}
 use Rattle.reo_trees.specs.declared.programs.Connector.{Connector}
 use Rattle.reo_trees.specs.declared.programs.Declaration.{Declaration}
 use Rattle.reo_trees.specs.declared.programs.Declaration.TheVariants as declarations
 use Rattle.reo_rules_base.specs.Types.{types_of}
 use Rattle.reo_rules_base.specs.Scopes.{connectors_of, connector_names}
-use Rattle.reo_flatten_base.specs.Unfolding.{meanings_of}
-use Rattle.reo_flatten_base.specs.Counts.{AreSizes}
+use Rattle.reo_flatten_base.specs.Unfolding.{Meaning, meanings_of, uses_in, depth_in, placed_in}
+use Rattle.reo_flatten_base.specs.Counts.{IsSizeOf, AreSizes}
+use Rattle.reo_flatten_base.specs.declared.sizes.Sizes.{Sizes}
 use Rattle.reo_flatten_unfold.specs.declared.ground.Stand.{Stand}
 use Rattle.reo_flatten_unfold.specs.declared.ground.Ground.{Ground}
 use Rattle.reo_flatten_unfold.specs.Known.{AreTypes}
@@ -29,3 +32,9 @@ pub record IsGround (ds : List Declaration) (g : Ground) : Type 0 where
   pub one_each : length g.stands ≡ length (connectors_of ds)
   pub stands : (number : ℕ) (s : Stand) → number < length g.stands → Stands ds number (slice_index_or g.stands number s)
   pub sizes : AreSizes (meanings_of ds) g.connectors g.sizes
+
+-- One connector's sizes come at the end, by the connectors before.
+pub record AddsSizes (known : List Meaning) (is : List Item) (old new : List Sizes) : Type 0 where
+  pub size : Sizes
+  pub added : new ≡ old ++ size ∷ []
+  pub is_size : IsSizeOf (sum_by (λ (i : Item). uses_in known i.form) is) (fold (λ most (i : Item). max most (depth_in known i.form)) 0 is) (sum_by (λ (i : Item). placed_in known i.form) is) size

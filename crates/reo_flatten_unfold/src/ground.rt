@@ -1,8 +1,10 @@
 //! What the unfolding reads of a program: its types and connectors by name.
-ghost use Rattle.std.specs.Prelude.{◌≡◌, List, [], ◌∷◌, ◌++◌, IfOk, OnOk, length};
-ghost use Rattle.reo_trees.specs.declared.programs.Declaration.{Declaration as ADeclaration};
-ghost use Rattle.reo_rules_base.specs.Twice.{twice, twice_in};
-ghost use Rattle.reo_flatten_unfold.specs.Ground.{IsGround};
+ghost use Rattle.std.specs.Prelude.{◌≡◌, ◌<◌, ◌+◌, List, [], ◌∷◌, ◌++◌, IfOk, OnOk, false, length, take};
+ghost use Rattle.reo_rules_base.specs.Lists.{has_name};
+ghost use Rattle.reo_rules_base.specs.Twice.{twice};
+ghost use Rattle.reo_flatten_base.specs.Unfolding.{Meaning};
+ghost use Rattle.reo_flatten_base.specs.Counts.{AreSizes};
+ghost use Rattle.reo_flatten_unfold.specs.Ground.{IsGround, AddsSizes};
 
 use crate::counts::connector_sizes;
 use crate::types::Types;
@@ -29,35 +31,48 @@ pub struct Ground {
 }
 
 impl Ground {
-    /// One connector more.
+    /// One connector more, whose name is not there yet.
     fn make(&mut self, alloc: Global, place: usize, connector: &Connector) -> Result<(), NoMemory>
-        ensures { (ds : List ADeclaration) → IsGround ds self.old → length ds ≡ place → twice_in ds (Declaration.Made connector.now) ≡ [] → OnOk result (IsGround (ds ++ Declaration.Made connector.now ∷ []) self.new) }
+        requires new { has_name self.old.connectors connector.now.name ≡ false }
+        requires even { length self.old.sizes ≡ length self.old.connectors }
+        ensures types { OnOk result (self.new.types ≡ self.old.types) }
+        ensures names { OnOk result (self.new.connectors ≡ self.old.connectors ++ connector.now.name ∷ []) }
+        ensures stands { OnOk result (self.new.stands ≡ self.old.stands ++ record { place = place; types = length self.old.types.kindreds } ∷ []) }
+        ensures sizes { (known : List Meaning) → AreSizes known self.old.connectors self.old.sizes → OnOk result (AddsSizes known connector.now.items self.old.sizes self.new.sizes) }
     {
         let sizes = connector_sizes(
             &self.connectors,
             self.sizes.as_slice(),
             connector.items.as_slice(),
         );
+        let types = self.types.kindreds.len();
         self.connectors.note(alloc, connector.name.as_slice())?;
         self.sizes.push(sizes)?;
-        self.stands.push(Stand {
-            place,
-            types: self.types.kindreds.len(),
-        })
+        self.stands.push(Stand { place, types })?;
+        Ok(())
     }
 
     /// One declaration more.
     fn declare(
         &mut self,
         alloc: Global,
+        declarations: &[Declaration],
         place: usize,
-        declaration: &Declaration,
     ) -> Result<(), NoMemory>
-        ensures { (ds : List ADeclaration) → IsGround ds self.old → length ds ≡ place → twice_in ds declaration.now ≡ [] → OnOk result (IsGround (ds ++ declaration.now ∷ []) self.new) }
+        requires place { place < length declarations.now }
+        requires ground { IsGround (take place declarations.now) self.old }
+        requires once { twice declarations.now ≡ [] }
+        ensures { OnOk result (IsGround (take (place + 1) declarations.now) self.new) }
     {
-        match declaration {
-            Declaration::Named { name, term, .. } => self.types.declare(alloc, name, &term.shape),
-            Declaration::Made(connector) => self.make(alloc, place, connector),
+        match &declarations[place] {
+            Declaration::Named { name, term, .. } => {
+                self.types.declare(alloc, name, &term.shape)?;
+                Ok(())
+            }
+            Declaration::Made(connector) => {
+                self.make(alloc, place, connector)?;
+                Ok(())
+            }
         }
     }
 }
@@ -73,8 +88,8 @@ pub fn ground_of(alloc: Global, declarations: &[Declaration]) -> Result<Ground, 
         stands: List::new(alloc),
         sizes: List::new(alloc),
     };
-    for (place, declaration) in declarations.iter().enumerate() {
-        ground.declare(alloc, place, declaration)?;
+    for place in 0..declarations.len() {
+        ground.declare(alloc, declarations, place)?;
     }
     Ok(ground)
 }

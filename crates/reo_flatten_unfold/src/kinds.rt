@@ -1,5 +1,5 @@
 //! The primitives that channels are.
-ghost use Rattle.std.specs.Prelude.{◌≡◌, ◌≤◌, List, IfOk, Some, is_some, take, length};
+ghost use Rattle.std.specs.Prelude.{◌≡◌, ◌≤◌, List, IfOk, IfSome, Some, is_some, take, length};
 ghost use Rattle.std.specs.List.{All};
 ghost use Rattle.std.specs.Option.{option_copied};
 ghost use Rattle.reo_buffers.specs.Stored.{stored};
@@ -8,7 +8,7 @@ ghost use Rattle.reo_rules_base.specs.Types.{Typed};
 ghost use Rattle.reo_flatten_base.specs.ChannelKinds.{filter_kind, map_kind, channel_kind};
 ghost use Rattle.reo_flatten_unfold.specs.Known.{AreTypes, shape_type, is_truth};
 ghost use Rattle.reo_exprs.specs.Typing.{type_of_expr};
-ghost use Rattle.reo_flatten_unfold.specs.Fits.{ChannelFits};
+ghost use Rattle.reo_flatten_unfold.specs.Fits.{IsFew, ChannelFits};
 
 use crate::exprs::expr_of;
 use crate::types::{Types, kindred_of};
@@ -28,7 +28,10 @@ fn node_type(
     known: usize,
     of: Option<&Shape>,
 ) -> Result<Kindred, NoMemory>
-    ensures { (ts : List Typed) → AreTypes ts types.now → IfOk result (λ made. made ≡ shape_type (take known ts) (option_copied of.entry)) }
+    requires few { All HasFewNames types.now.kindreds }
+    requires shape { IfSome of (λ shape. IsFew shape.now) }
+    ensures is { (ts : List Typed) → AreTypes ts types.now → IfOk result (λ made. made ≡ shape_type (take known ts) (option_copied of.entry)) }
+    ensures few { IfOk result HasFewNames }
 {
     match of {
         Some(shape) => kindred_of(alloc, types, known, shape),
@@ -110,7 +113,7 @@ pub(crate) fn channel_kind(
 ) -> Result<Kind, NoMemory>
     requires fits { ChannelFits channel.now }
     requires few { All HasFewNames types.now.kindreds }
-    requires names { (ts : List Typed) → AreTypes ts types.now → HasFewNames (shape_type (take known ts) (option_copied of)) }
+    requires shape { IfSome of (λ shape. IsFew shape.now) }
     ensures { (ts : List Typed) → AreTypes ts types.now → IfOk result (λ made. made ≡ channel_kind (take known ts) (shape_type (take known ts) (option_copied of.entry)) channel.now) }
 {
     match channel {

@@ -6,6 +6,7 @@ ghost use Rattle.reo_literals.specs.Items.{HasFewNames};
 ghost use Rattle.reo_rules_base.specs.Lists.{has_name};
 ghost use Rattle.reo_rules_base.specs.Types.{Typed, type_named, resolved};
 ghost use Rattle.reo_flatten_unfold.specs.Known.{AreTypes};
+ghost use Rattle.reo_flatten_unfold.specs.Fits.{IsFew};
 
 use reo_rules_base::Names;
 use reo_trees::Shape;
@@ -66,7 +67,8 @@ pub fn kindred_of(
     known: usize,
     shape: &Shape,
 ) -> Result<Kindred, NoMemory>
-    ensures { (ts : List Typed) → AreTypes ts types.now → IfOk result (λ made. made ≡ resolved (take known ts) shape.now) }
+    ensures is { (ts : List Typed) → AreTypes ts types.now → IfOk result (λ made. made ≡ resolved (take known ts) shape.now) }
+    ensures few { All HasFewNames types.now.kindreds → IsFew shape.now → IfOk result HasFewNames }
 {
     match shape {
         Shape::Unit => Ok(Kindred::Unit),
