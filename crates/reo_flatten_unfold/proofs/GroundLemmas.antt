@@ -1,5 +1,5 @@
 -- The ground of a program, declaration by declaration.
-use Rattle.std.proofs.Common.{arith, ◌≡◌, ◌∙◌, ℕ, zero, suc, ◌+◌, ◌-◌, ◌<◌, ◌≤◌, List, [], ◌∷◌, ◌++◌, length, map, take, drop, get_or, Some, refl, sym, ap, subst}
+use Rattle.std.proofs.Common.{arith, ◌≡◌, ◌∙◌, ℕ, zero, suc, ◌+◌, ◌-◌, ◌<◌, ◌≤◌, List, [], ◌∷◌, ◌++◌, length, map, take, drop, get_or, false, Some, refl, sym, ap, subst}
 use Rattle.std.specs.Prelude.{slice_get}
 use Rattle.std.proofs.lemmas.List.{append-nil, append_assoc, length-append, length-map, map-append, take_all, take-append-le, get_or-append_right}
 use Rattle.std.proofs.lemmas.Bool.Decides.{leb_tells}
@@ -12,7 +12,8 @@ use Rattle.reo_trees.specs.declared.programs.Declaration.TheVariants as declarat
 use Rattle.reo_rules_base.specs.Lists.{has_name}
 use Rattle.reo_rules_base.specs.Types.{Typed, types_after, types_of, resolved, names_of}
 use Rattle.reo_rules_base.specs.Scopes.{type_names, connectors_of, connector_names}
-use Rattle.reo_rules_base.proofs.AfterLemmas.{flat_map-append}
+use Rattle.reo_rules_base.proofs.AfterLemmas.{flat_map-append, left_none}
+use Rattle.reo_rules_base.specs.Twice.{twice_among, twice_in}
 use Rattle.reo_rules_base.specs.Scopes.{connectors_in, type_names_in}
 use Rattle.reo_flatten_base.specs.declared.sizes.Sizes.{Sizes}
 use Rattle.reo_flatten_base.specs.Unfolding.{Meaning, no_meaning, meaning_of, meanings_after, meanings_of}
@@ -21,18 +22,18 @@ use Rattle.reo_flatten_unfold.specs.declared.ground.Stand.{Stand}
 use Rattle.reo_flatten_unfold.specs.declared.ground.Ground.{Ground}
 use Rattle.reo_flatten_unfold.specs.Known.{AreTypes}
 use Rattle.reo_flatten_unfold.specs.Ground.{IsStand, Stands, IsGround, AddsSizes}
-use Rattle.reo_flatten_unfold.proofs.ListLemmas.{slice_get-left, slice_get-right}
+use Rattle.reo_flatten_unfold.proofs.ListLemmas.{slice_get-left, slice_get-right, fails}
 
 -- Types and meanings, in two parts.
 pub types_after-append : (known : List Typed) (xs ys : List Declaration) → types_after known (xs ++ ys) ≡ types_after (types_after known xs) ys
 types_after-append known [] ys = refl
-types_after-append known (declarations.Named line name term ∷ xs) ys = types_after-append _ xs ys
+types_after-append known (declarations.Named line name term ∷ xs) ys = types_after-append (known ++ record { name = name; kindred = resolved known term.shape } ∷ []) xs ys
 types_after-append known (declarations.Made c ∷ xs) ys = types_after-append known xs ys
 
 pub meanings_after-append : (known : List Meaning) (types : List Typed) (xs ys : List Declaration) → meanings_after known types (xs ++ ys) ≡ meanings_after (meanings_after known types xs) (types_after types xs) ys
 meanings_after-append known types [] ys = refl
-meanings_after-append known types (declarations.Named line name term ∷ xs) ys = meanings_after-append known _ xs ys
-meanings_after-append known types (declarations.Made c ∷ xs) ys = meanings_after-append _ types xs ys
+meanings_after-append known types (declarations.Named line name term ∷ xs) ys = meanings_after-append known (types ++ record { name = name; kindred = resolved types term.shape } ∷ []) xs ys
+meanings_after-append known types (declarations.Made c ∷ xs) ys = meanings_after-append (known ++ meaning_of known types c ∷ []) types xs ys
 
 -- What was known stays in front.
 pub types_front : (known : List Typed) (ys : List Declaration) → (rest : List Typed) × (types_after known ys ≡ known ++ rest)
@@ -44,7 +45,7 @@ types_front known (declarations.Made c ∷ ys) = types_front known ys
 
 pub meanings_front : (known : List Meaning) (types : List Typed) (ys : List Declaration) → (rest : List Meaning) × (meanings_after known types ys ≡ known ++ rest)
 meanings_front known types [] = ([], sym (append-nil known))
-meanings_front known types (declarations.Named line name term ∷ ys) = meanings_front known _ ys
+meanings_front known types (declarations.Named line name term ∷ ys) = meanings_front known (types ++ record { name = name; kindred = resolved types term.shape } ∷ []) ys
 meanings_front known types (declarations.Made c ∷ ys) =
     let more = meanings_front (known ++ meaning_of known types c ∷ []) types ys in
     (_, more.1 ∙ append_assoc known _ more.0)
@@ -53,7 +54,7 @@ meanings_front known types (declarations.Made c ∷ ys) =
 named_after : (known : List Typed) (ds : List Declaration) → names_of (types_after known ds) ≡ names_of known ++ type_names ds
 named_after known [] = sym (append-nil (names_of known))
 named_after known (declarations.Named line name term ∷ ds) =
-    named_after _ ds ∙ ap (λ ns. ns ++ type_names ds) (map-append (λ (e : Typed). e.name) known _) ∙ append_assoc (names_of known) (name ∷ []) (type_names ds)
+    named_after (known ++ record { name = name; kindred = resolved known term.shape } ∷ []) ds ∙ ap (λ ns. ns ++ type_names ds) (map-append (λ (e : Typed). e.name) known _) ∙ append_assoc (names_of known) (name ∷ []) (type_names ds)
 named_after known (declarations.Made c ∷ ds) = named_after known ds
 
 pub names_of-types : (ds : List Declaration) → names_of (types_of ds) ≡ type_names ds
@@ -61,9 +62,9 @@ names_of-types ds = named_after [] ds
 
 meant_after : (known : List Meaning) (types : List Typed) (ds : List Declaration) → map (λ (m : Meaning). m.name) (meanings_after known types ds) ≡ map (λ (m : Meaning). m.name) known ++ connector_names ds
 meant_after known types [] = sym (append-nil _)
-meant_after known types (declarations.Named line name term ∷ ds) = meant_after known _ ds
+meant_after known types (declarations.Named line name term ∷ ds) = meant_after known (types ++ record { name = name; kindred = resolved types term.shape } ∷ []) ds
 meant_after known types (declarations.Made c ∷ ds) =
-    meant_after _ types ds ∙ ap (λ ns. ns ++ connector_names ds) (map-append (λ (m : Meaning). m.name) known _) ∙ append_assoc (map (λ (m : Meaning). m.name) known) (c.name ∷ []) (connector_names ds)
+    meant_after (known ++ meaning_of known types c ∷ []) types ds ∙ ap (λ ns. ns ++ connector_names ds) (map-append (λ (m : Meaning). m.name) known _) ∙ append_assoc (map (λ (m : Meaning). m.name) known) (c.name ∷ []) (connector_names ds)
 
 pub names_of-meanings : (ds : List Declaration) → map (λ (m : Meaning). m.name) (meanings_of ds) ≡ connector_names ds
 names_of-meanings ds = meant_after [] [] ds
@@ -207,3 +208,10 @@ ground_made xs c g h is types connectors stands sizes =
           (subst (λ t. AreSizes (meanings_of xs ++ meaning_of (meanings_of xs) (types_of xs) c ∷ []) (g.connectors ++ c.name ∷ []) t) (sym sizes.added)
           (sizes_grow (meanings_of xs) g.connectors g.sizes (meaning_of (meanings_of xs) (types_of xs) c) sizes.size is.sizes sizes.is_size)));
     }
+
+-- A name that stands once is new.
+pub new_type : (before : List Declaration) (line : ℕ) (name : List ℕ) (term : TypeTerm) → twice_in before (declarations.Named line name term) ≡ [] → has_name (type_names before) name ≡ false
+new_type before line name term none = fails _ _ (left_none (twice_among (type_names before) line name) _ none)
+
+pub new_connector : (before : List Declaration) (c : Connector) → twice_in before (declarations.Made c) ≡ [] → has_name (connector_names before) c.name ≡ false
+new_connector before c none = fails _ _ (left_none (twice_among (connector_names before) c.line c.name) _ none)

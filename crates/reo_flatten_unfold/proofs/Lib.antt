@@ -7,3 +7,4 @@ pub mod NameLemmas
 pub mod KindLemmas
 pub mod LocalLemmas
 pub mod GroundLemmas
+pub mod UnfoldLemmas

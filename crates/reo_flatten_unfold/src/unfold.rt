@@ -81,7 +81,8 @@ fn place(
     made.ends.push(two(alloc, first_at, second_at)?)?;
     let of = frame.local.shape_of(frame.connector, first);
     let types = &frame.ground.types;
-    made.kinds.push(channel_kind(alloc, types, frame.stand.types, of, channel)?)
+    made.kinds.push(channel_kind(alloc, types, frame.stand.types, of, channel)?)?;
+    Ok(())
 }
 
 /// Unfolds the use of a connector, which is the next behind so many.
@@ -144,7 +145,10 @@ fn item(
     ensures path { OnOk result (path.new ≡ path.old) }
 {
     match form {
-        Form::Node { name, .. } => made.nodes.push(node_name(alloc, path, name)?),
+        Form::Node { name, .. } => {
+            made.nodes.push(node_name(alloc, path, name)?)?;
+            Ok(())
+        }
         Form::Joined {
             channel,
             first,
