@@ -1,0 +1,16 @@
+pub mod Each
+pub mod Breaks
+pub mod Within
+pub mod KnownItems
+pub mod Cuts
+pub mod Once
+pub mod UseNames
+pub mod Times
+pub mod NodeSums
+pub mod AllEnds
+pub mod RightWays
+pub mod FewJoints
+pub mod Served
+pub mod ServedItems
+pub mod TwoEnds
+pub mod OnceTwice
