@@ -92,13 +92,13 @@ has-comma S s = has-chain (All S) S (has-made (All S) (see-then s (λ a x p. all
 
 module _ (k : ℕ) (each : Each k) where
   pub has-type : Has (world k each) (rule type_rule) (λ x. IsSpelledShape x.shape)
-  has-type = see-rule (λ a x h. h)
+  has-type = see-rule {r = type_rule} (λ a x h. h)
 
   pub has-literal : Has (world k each) (rule literal_rule) IsSpelledLiteral
-  has-literal = see-rule (λ a x h. h)
+  has-literal = see-rule {r = literal_rule} (λ a x h. h)
 
   pub has-term : Has (world k each) (rule term_rule) (λ x. IsSpelledTerm x.form)
-  has-term = see-rule (λ a x h. h)
+  has-term = see-rule {r = term_rule} (λ a x h. h)
 
   pub has-unary : Has (world k each) (rule unary_rule) (λ x. IsSpelledTerm x.term.form)
-  has-unary = see-rule (λ a x h. h)
+  has-unary = see-rule {r = unary_rule} (λ a x h. h)

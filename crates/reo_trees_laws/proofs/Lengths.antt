@@ -119,7 +119,7 @@ some_byte kind [] h = absurd (no_empty kind h)
 some_byte kind (b ∷ bs) h = omega arith
 
 tokens_few : (End : ℕ → List ℕ → Type 0) (at line : ℕ) (left : List ℕ) (ts : List Token) → Runs End at line left ts → length ts ≤ length left
-tokens_few End at line left [] runs = lit≤ tt
+tokens_few End at line left [] runs = omega arith
 tokens_few End at line left (t ∷ ts) (after, l, runs) =
     let rest = tokens_few End t.end t.line after ts runs in
     let some = some_byte t.kind l.bytes l.token.spelled in
