@@ -5,6 +5,7 @@ use Rattle.std.specs.List.{All}
 use Rattle.std.proofs.lemmas.Int.{ints}
 use Rattle.reo_values.specs.declared.operator.Unary.{Unary}
 use Rattle.reo_values.specs.declared.operator.Binary.{Binary}
+use Rattle.reo_values.specs.declared.operator.Binary.TheVariants as binaries
 use Rattle.reo_trees.specs.declared.terms.Term.{Term}
 use Rattle.reo_trees.specs.declared.terms.TermForm.TheVariants as terms
 use Rattle.reo_trees.specs.declared.terms.TermForm.TheBlock.{hidden-the_row-Term-0, hidden-the_row-TermPair-1, hidden-the_row-TermTriple-2}
@@ -76,7 +77,7 @@ module _ (k : ℕ) (each : Each k) where
 
   has-group-end : Has w group_end G
   has-group-end = has-either G
-      (has-made G (see-then (has-right T (has-left T (has-term k each))) (λ ts y q x l p. two-spelled _ (record { left = x; right = y }) p q)))
+      (has-made G (see-then (has-right T (has-left T (has-term k each))) (λ ts y q x l p. two-spelled binaries.Pair (record { left = x; right = y }) p q)))
       (has-made G (see-then any (λ ts u q x l p. p)))
 
   abbrev L : (ℕ → Opened) → Type 0
