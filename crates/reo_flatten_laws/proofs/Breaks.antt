@@ -5,7 +5,7 @@ use Rattle.std.proofs.lemmas.List.{append-nil, append_assoc}
 use Rattle.reo_trees.specs.declared.programs.Connector.{Connector}
 use Rattle.reo_trees.specs.declared.programs.Declaration.{Declaration}
 use Rattle.reo_rules_base.specs.declared.fault.FlatFault.{FlatFault}
-use Rattle.reo_rules_base.specs.Lists.{where_true}
+use Rattle.reo_rules_base.specs.Lists.{each_after, where_true}
 use Rattle.reo_rules_base.specs.Scopes.{connectors_in, connectors_of}
 use Rattle.reo_rules_base.specs.Twice.{twice}
 use Rattle.reo_rules_base.specs.Unknown.{unknown}
@@ -73,3 +73,8 @@ unbroken ds none =
       a_main = left_none (no_main ds) _ sizes;
       few = right_none (no_main ds) _ sizes;
     }
+
+-- Where a list has no break, none is at an item of it.
+pub after_at : {X Y : Type 0} (f : List X → X → List Y) (b xs : List X) (x : X) (ys : List X) → each_after f b (xs ++ x ∷ ys) ≡ [] → f (b ++ xs) x ≡ []
+after_at f b [] x ys none = ap (λ c. f c x) (append-nil b) ∙ left_none (f b x) _ none
+after_at f b (z ∷ zs) x ys none = ap (λ c. f c x) (sym (append_assoc b (z ∷ []) zs)) ∙ after_at f (b ++ z ∷ []) zs x ys (right_none (f b z) _ none)

@@ -14,3 +14,10 @@ pub mod Served
 pub mod ServedItems
 pub mod TwoEnds
 pub mod OnceTwice
+pub mod Alike
+pub mod HeldItems
+pub mod RightKinds
+pub mod TypesGrow
+pub mod Validity
+pub mod TypedNodes
+pub mod TypedPrograms

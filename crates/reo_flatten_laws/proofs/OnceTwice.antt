@@ -20,7 +20,7 @@ lacks true f none is = cc
 lacks false f none is = cc
 
 -- A name that is not among those before may be put behind them.
-new_name : (names : List (List ℕ)) (line : ℕ) (name : List ℕ) → Once names → twice_among names line name ≡ [] → Once (names ++ name ∷ [])
+pub new_name : (names : List (List ℕ)) (line : ℕ) (name : List ℕ) → Once names → twice_among names line name ≡ [] → Once (names ++ name ∷ [])
 new_name names line name once none =
     once_append names (name ∷ []) once ((λ no'. no'), tt) (λ n there same. lacks (has_name names name) (faults.Twice line name) none (in-has names name (moved n there same))) where
       moved : (n : List ℕ) → In names n → In (name ∷ []) n → In names name

@@ -4,3 +4,8 @@ pub mod Joints
 pub mod Homes
 pub mod Counts
 pub mod Circuits
+pub mod Channels
+pub mod NodeTypes
+pub mod Fitting
+pub mod Ports
+pub mod FromTexts
