@@ -1,6 +1,6 @@
 -- Types that are the same, and types that lie inside others.
 use denote.Hole.Carrier.{hidden}
-use Rattle.std.proofs.Common.{arith, ◌≡◌, ◌∙◌, ℕ, ℤ, ◌≤◌, ◌≤ℤ◌, Bool, true, false, not, ◌&&◌, nat_le, List, refl, sym, ap, T}
+use Rattle.std.proofs.Common.{arith, ◌≡◌, ℤ, ◌≤ℤ◌, Bool, true, false, not, refl, ap, T}
 use Rattle.std.specs.Int.Signed.{le_z, le_z_yes}
 use Rattle.std.proofs.lemmas.Bool.{eqb-true, leb-true}
 use Rattle.std.proofs.lemmas.Int.{ints}

@@ -2,7 +2,6 @@
 use Rattle.std.proofs.Common.{◌≡◌, ◌∙◌, List, [], ◌∷◌, ◌++◌, Bool, true, false, not, refl, sym, ap}
 use Rattle.std.specs.List.{flat_map}
 use Rattle.std.proofs.lemmas.List.{append-nil, append_assoc}
-use Rattle.reo_trees.specs.declared.programs.Connector.{Connector}
 use Rattle.reo_trees.specs.declared.programs.Declaration.{Declaration}
 use Rattle.reo_rules_base.specs.declared.fault.FlatFault.{FlatFault}
 use Rattle.reo_rules_base.specs.Lists.{each_after, where_true}
@@ -13,7 +12,6 @@ use Rattle.reo_rules_base.specs.Mistyped.{mistyped}
 use Rattle.reo_rules_base.specs.Ranges.{out_of_range}
 use Rattle.reo_rules_base.specs.Arity.{arity}
 use Rattle.reo_rules_base.specs.Direction.{direction}
-use Rattle.reo_rules_base.specs.Dangling.{dangling}
 use Rattle.reo_rules_base.specs.Rules.{rule_breaks, KeepsRules}
 use Rattle.reo_flatten_base.specs.Sizes.{no_main, too_many}
 use Rattle.reo_flatten_base.specs.Refusals.{breaks}

@@ -21,3 +21,4 @@ pub mod TypesGrow
 pub mod Validity
 pub mod TypedNodes
 pub mod TypedPrograms
+pub mod AtNodes

@@ -1,9 +1,8 @@
 -- Channels become the primitives that they are, and fit the types of their nodes.
-use Rattle.std.proofs.Common.{arith, lit≤, ◌≡◌, ◌∙◌, ℕ, ◌≤◌, ◌<◌, suc, Bool, true, false, not, ◌&&◌, ◌||◌, nat_lt, Option, Some, None, List, [], ◌∷◌, length, refl, sym, ap, subst}
+use Rattle.std.proofs.Common.{arith, lit≤, ◌≡◌, ◌∙◌, ℕ, ◌≤◌, suc, Bool, true, false, not, ◌&&◌, ◌||◌, Option, Some, None, List, [], ◌∷◌, length, refl, sym, ap, subst}
 use Rattle.std.specs.Prelude.{is_none}
-use Rattle.std.specs.List.{All, list_any}
+use Rattle.std.specs.List.{list_any}
 use Rattle.std.proofs.lemmas.Bool.{leb-false}
-use Rattle.reo_values.specs.declared.value.Value.{Value}
 use Rattle.reo_values.specs.declared.kindred.Kindred as kindred
 use Rattle.reo_values.specs.declared.kindred.Kindred.{Kindred}
 use Rattle.reo_values.specs.declared.kindred.Kindred.TheVariants as kinds
@@ -16,7 +15,7 @@ use Rattle.reo_exprs.specs.WellFormed.{IsWellFormed}
 use Rattle.reo_exprs.proofs.InType.{value_in_type}
 use Rattle.reo_exprs.proofs.KindOfType.{kind_of_typed}
 use Rattle.reo_exprs.proofs.Lies.{item_inside}
-use Rattle.reo_buffers.specs.Stored.{Stored, stored, IsBuffer}
+use Rattle.reo_buffers.specs.Stored.{stored, IsBuffer}
 use Rattle.reo_kinds.specs.declared.kind.Kind.{Kind}
 use Rattle.reo_kinds.specs.declared.kind.Kind.TheVariants as primitives
 use Rattle.reo_kinds.specs.declared.kind.FilterRule.{FilterRule}
@@ -29,7 +28,7 @@ use Rattle.reo_rules_base.specs.Types.{Typed, is_same}
 use Rattle.reo_rules_base.specs.Terms.{expr_of}
 use Rattle.reo_rules_base.specs.Channels.{keeps_type, literals_of}
 use Rattle.reo_rules_base.specs.Mistyped.{is_kind, has_kind, misfits, is_channel_mistyped}
-use Rattle.reo_rules_base.specs.Ranges.{is_inside, lies_in, leaves, leaves_by_filter, leaves_by_map}
+use Rattle.reo_rules_base.specs.Ranges.{lies_in, leaves, leaves_by_filter, leaves_by_map}
 use Rattle.reo_flatten_base.specs.ChannelKinds.{filter_with, filter_kind, map_with, map_kind, channel_kind}
 use Rattle.reo_flatten_laws.specs.Channels.{IsFor}
 use Rattle.reo_flatten_laws.specs.Fitting.{Fits}

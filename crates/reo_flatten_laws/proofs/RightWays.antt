@@ -1,7 +1,7 @@
 -- Joints go from ends that give to ends that take in.
-use Rattle.std.proofs.Common.{arith, ◌≡◌, ◌∙◌, ℕ, ◌+◌, ◌<◌, ◌≤◌, zero, suc, List, [], ◌∷◌, ◌++◌, length, map, Bool, true, false, cond, ◌&&◌, nat_le, refl, sym, ap, subst, bytes_eq}
+use Rattle.std.proofs.Common.{arith, ◌≡◌, ◌∙◌, ℕ, ◌+◌, ◌<◌, ◌≤◌, zero, suc, List, [], ◌∷◌, ◌++◌, length, map, Bool, true, false, cond, ◌&&◌, refl, sym, ap, subst, bytes_eq}
 use Rattle.std.specs.List.{AllByRecursion, flat_map}
-use Rattle.std.proofs.lemmas.Bool.{ne_eqb, le-leb, leb-true, lt-ltb, le-ltb}
+use Rattle.std.proofs.lemmas.Bool.{leb-true}
 use Rattle.std.proofs.lemmas.List.{append_assoc, length-append, length-map, map-append}
 use Rattle.reo_net_base.specs.declared.joint.End.{End}
 use Rattle.reo_net_base.specs.declared.joint.Joint.{Joint}
@@ -15,7 +15,7 @@ use Rattle.reo_flatten_base.specs.Unfolding.{Placed}
 use Rattle.reo_rules_base.specs.Touches.{bool_eq}
 use Rattle.reo_flatten_base.specs.Ends.{ends_in, ends_from, incoming, outgoing}
 use Rattle.reo_flatten_base.specs.Joints.{is_many, ends_of, pairs, joints_between, joints_of, many}
-use Rattle.reo_flatten_base.specs.Flat.{branched, branched_with, own_kinds, joints_at}
+use Rattle.reo_flatten_base.specs.Flat.{branched, own_kinds, joints_at}
 use Rattle.reo_flatten_laws.proofs.AllEnds.{Fits, IsFew, length_own, HasInputs, HasOutputs, merger_inputs, replicator_outputs}
 use Rattle.reo_flatten_laws.proofs.Each.{both}
 

@@ -1,5 +1,5 @@
 -- What a connector places fits the types of its nodes.
-use Rattle.std.proofs.Common.{arith, ◌≡◌, ◌∙◌, ℕ, List, [], ◌∷◌, ◌++◌, length, map, Bool, true, false, not, cond, ◌||◌, ◌⊎◌, inl, inr, Some, None, find, zip, refl, sym, ap, subst, bytes_eq}
+use Rattle.std.proofs.Common.{arith, ◌≡◌, ◌∙◌, ℕ, List, [], ◌∷◌, ◌++◌, length, map, Bool, true, false, not, cond, ◌||◌, inl, inr, Some, None, find, zip, refl, sym, ap, subst, bytes_eq}
 use Rattle.std.specs.Prelude.{unwrap_or, option_map}
 use Rattle.std.specs.Option.{option_map_or}
 use Rattle.std.specs.List.{AllByRecursion, list_any, flat_map}
@@ -17,14 +17,13 @@ use Rattle.reo_trees.specs.declared.items.Channel.TheVariants as channels
 use Rattle.reo_trees.specs.declared.programs.Parameter.{Parameter}
 use Rattle.reo_trees.specs.declared.programs.Connector.{Connector}
 use Rattle.reo_trees_laws.specs.Spelled.{IsSpelledChannel, IsSpelledForm, IsSpelledItem}
-use Rattle.reo_rules_base.specs.declared.fault.FlatFault.{FlatFault}
 use Rattle.reo_rules_base.specs.declared.fault.FlatFault.TheVariants as faults
 use Rattle.reo_rules_base.specs.Lists.{each_after, where_true}
 use Rattle.reo_rules_base.specs.Types.{Typed, names_of, type_named, resolved, is_same}
-use Rattle.reo_rules_base.specs.Scopes.{connector_named, parameters_named, parameter_names, node_names, node_names_in, parameter_type, node_types_in}
+use Rattle.reo_rules_base.specs.Scopes.{connector_named, parameters_named, parameter_names, node_names, node_names_in, parameter_type}
 use Rattle.reo_rules_base.specs.Twice.{twice_in_type, twice_among, twice_in_item}
 use Rattle.reo_rules_base.specs.Unknown.{missing, unknown_in_item}
-use Rattle.reo_rules_base.specs.Mistyped.{is_mistyped, is_use_mistyped}
+use Rattle.reo_rules_base.specs.Mistyped.{is_mistyped}
 use Rattle.reo_rules_base.specs.Ranges.{range_in_item}
 use Rattle.reo_rules_base.specs.Arity.{arity_in_item}
 use Rattle.reo_flatten_base.specs.ChannelKinds.{channel_kind}
@@ -32,7 +31,7 @@ use Rattle.reo_flatten_base.specs.Unfolding.{Placed, Meaning, no_meaning, meanin
 use Rattle.reo_flatten_laws.specs.NodeTypes.{Typing, no_typing, typing_named, typed_in}
 use Rattle.reo_flatten_laws.specs.Fitting.{Fits}
 use Rattle.reo_flatten_laws.proofs.Breaks.{holds, fails, left_none, right_none, flat_map-append}
-use Rattle.reo_flatten_laws.proofs.Each.{both, all_to}
+use Rattle.reo_flatten_laws.proofs.Each.{both}
 use Rattle.reo_flatten_laws.proofs.Within.{In, in_left, in_right, in_either, known_name}
 use Rattle.reo_flatten_laws.proofs.Alike.{un_not, same_types}
 use Rattle.reo_flatten_laws.proofs.RightKinds.{IsSound, channel_fits}

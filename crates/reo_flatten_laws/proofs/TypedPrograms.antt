@@ -1,5 +1,5 @@
 -- What a program places fits the types of its nodes, declaration by declaration.
-use Rattle.std.proofs.Common.{◌≡◌, ◌∙◌, ℕ, List, [], ◌∷◌, ◌++◌, length, map, Bool, true, false, cond, ◌⊎◌, inl, inr, refl, sym, ap, subst, bytes_eq}
+use Rattle.std.proofs.Common.{◌≡◌, ◌∙◌, ℕ, List, [], ◌∷◌, ◌++◌, inl, inr, refl, sym, ap, subst}
 use Rattle.std.specs.List.{AllByRecursion, flat_map}
 use Rattle.std.proofs.lemmas.List.{append-nil, append_assoc}
 use Rattle.reo_values.specs.declared.kindred.Kindred.{Kindred}
@@ -120,7 +120,7 @@ all_typed before (declarations.Made c ∷ ds) ms ts types is valid all kept spel
     let t = typing_of ts types c in
     let first = subst (λ z. AreWellTyped z (connectors_of before) ms ts) (sym is) all in
     let one = connector_typed before ms ts first (subst AreValid (sym is) valid) c spelled.0 (right_none (twice_among (connector_names before) c.line c.name) (twice_in_connector c) (left_none (twice_in before d) _ kept.once))
-        (left_none (unknown_in before d) _ kept.known) (left_none (mistyped_in before d) _ kept.typed) (left_none (range_in before d) _ kept.bound) (left_none (arity_in before d) _ kept.fit) in
+    (left_none (unknown_in before d) _ kept.known) (left_none (mistyped_in before d) _ kept.typed) (left_none (range_in before d) _ kept.bound) (left_none (arity_in before d) _ kept.fit) in
     let here = subst (λ z. IsWellTyped z c.parameters (meaning_of ms z c) (typing_of ts z c)) is one in
     let all' = subst (λ cs. AreWellTyped types cs (ms ++ m ∷ []) (ts ++ t ∷ [])) (sym (one_more before d)) (grown_by types (connectors_of before) ms ts c m t all refl refl here) in
     subst (λ (b : List Declaration). AreWellTyped (types_of b) (connectors_of b) (meanings_after ms types (d ∷ ds)) (typings_after ts types (d ∷ ds))) (append_assoc before (d ∷ []) ds)

@@ -1,10 +1,10 @@
 -- Types of texts that break no rule are valid, and expressions well formed.
 use denote.Hole.Carrier.{hidden}
-use Rattle.std.proofs.Common.{arith, ◌≡◌, ◌∙◌, ℕ, ℤ, pos, neg_ℤ, ◌≤◌, ◌<◌, ◌≤ℤ◌, zero, suc, ◌+◌, List, [], ◌∷◌, ◌++◌, length, Bool, true, false, not, cond, ◌||◌, nat_lt, Option, Some, None, find, refl, sym, ap, subst, bytes_eq}
+use Rattle.std.proofs.Common.{arith, ◌≡◌, ◌∙◌, ℕ, ℤ, ◌<◌, suc, ◌+◌, List, [], ◌∷◌, ◌++◌, length, Bool, true, false, not, cond, ◌||◌, nat_lt, Some, find, refl, sym, subst, bytes_eq}
 use Rattle.std.specs.Prelude.{unwrap_or, option_map, option_and_then, FitsSigned}
 use Rattle.std.specs.Int.{w64}
 use Rattle.std.specs.Int.Signed.{le_z}
-use Rattle.std.specs.List.{All, AllByRecursion, flat_map, position_from}
+use Rattle.std.specs.List.{AllByRecursion, flat_map, position_from}
 use Rattle.std.proofs.lemmas.Bool.{leb-false}
 use Rattle.std.proofs.lemmas.Int.{ints}
 use Rattle.std.proofs.lemmas.List.{append-nil, append_assoc}
@@ -12,8 +12,7 @@ use Rattle.reo_values.specs.declared.kindred.Kindred as kindred
 use Rattle.reo_values.specs.declared.kindred.Kindred.{Kindred}
 use Rattle.reo_values.specs.declared.kindred.Kindred.TheVariants as kinds
 use Rattle.reo_values.specs.declared.kindred.Kindred.TheBlock.{hidden-the_row-Twins-0}
-use Rattle.reo_values.specs.Names.{IsName}
-use Rattle.reo_values.specs.Valid.{AreNames, IsValid}
+use Rattle.reo_values.specs.Valid.{IsValid}
 use Rattle.reo_exprs.specs.declared.expr.Expr.{Expr}
 use Rattle.reo_exprs.specs.declared.expr.Expr.TheVariants as exprs
 use Rattle.reo_exprs.specs.declared.expr.Expr.TheBlock.{hidden-the_row-Expr-0, hidden-the_row-ExprPair-1, hidden-the_row-ExprTriple-2}
@@ -25,7 +24,7 @@ use Rattle.reo_trees.specs.declared.types.Shape.{Shape}
 use Rattle.reo_trees.specs.declared.types.TypeTerm.{TypeTerm}
 use Rattle.reo_trees.specs.declared.terms.TermForm as form
 use Rattle.reo_trees.specs.declared.terms.TermForm.{TermForm}
-use Rattle.reo_trees_laws.specs.Spelled.{IsFreeName, LiesNear, IsSpelledShape, IsSpelledTerm}
+use Rattle.reo_trees_laws.specs.Spelled.{LiesNear, IsSpelledShape, IsSpelledTerm}
 use Rattle.reo_rules_base.specs.declared.fault.FlatFault.{FlatFault}
 use Rattle.reo_rules_base.specs.declared.fault.FlatFault.TheVariants as faults
 use Rattle.reo_rules_base.specs.Lists.{each_after, where_true}

@@ -1,14 +1,13 @@
 -- The nodes of what is placed are among the nodes.
-use Rattle.std.proofs.Common.{arith, zero, ◌≡◌, ℕ, suc, List, [], ◌∷◌, ◌++◌, length, map, Bool, true, false, not, cond, ◌||◌, ◌⊎◌, inl, inr, Some, find, refl, sym, ap, subst, bytes_eq}
+use Rattle.std.proofs.Common.{arith, zero, ◌≡◌, ℕ, suc, List, [], ◌∷◌, ◌++◌, length, map, Bool, true, false, cond, ◌||◌, ◌⊎◌, inl, inr, Some, find, refl, sym, ap, subst, bytes_eq}
 use Rattle.std.specs.Prelude.{unwrap_or}
 use Rattle.std.specs.Option.{option_map_or}
 use Rattle.std.specs.List.{All}
 use Rattle.std.proofs.lemmas.Slice.Eq.{bytes_eq-Decides}
 use Rattle.reo_trees.specs.declared.programs.Parameter.{Parameter}
 use Rattle.reo_trees.specs.declared.programs.Connector.{Connector}
-use Rattle.reo_rules_base.specs.declared.fault.FlatFault.{FlatFault}
 use Rattle.reo_rules_base.specs.declared.fault.FlatFault.TheVariants as faults
-use Rattle.reo_rules_base.specs.Lists.{has_name, where_true}
+use Rattle.reo_rules_base.specs.Lists.{has_name}
 use Rattle.reo_rules_base.specs.Scopes.{parameter_names, connector_named, parameters_named}
 use Rattle.reo_flatten_base.specs.Unfolding.{Placed, Meaning, no_meaning, meaning_named, flat_name}
 use Rattle.reo_rules_base.specs.Unknown.{missing}

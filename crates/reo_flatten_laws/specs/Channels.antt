@@ -1,5 +1,5 @@
 -- The primitives that channels are.
-use Rattle.std.specs.Prelude.{ℕ, ◌≡◌, ◌≤◌, Option, Some, None, List, [], ◌∷◌, ◌++◌, length, map}
+use Rattle.std.specs.Prelude.{◌≡◌, Some, List, [], ◌∷◌, ◌++◌, map}
 use Rattle.std.specs.List.{All}
 use Rattle.reo_values.specs.declared.value.Value.{Value}
 use Rattle.reo_values.specs.declared.kindred.Kindred.{Kindred}

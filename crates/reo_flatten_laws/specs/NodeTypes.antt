@@ -1,7 +1,6 @@
 -- The nodes that a program unfolds to, with their types.
 use Rattle.std.specs.Prelude.{ℕ, ◌≡◌, List, [], ◌∷◌, ◌++◌, map, unwrap_or, bytes_eq, codes}
-use Rattle.std.specs.List.{All, find}
-use Rattle.reo_values.specs.Valid.{IsValid}
+use Rattle.std.specs.List.{find}
 use Rattle.reo_trees.specs.declared.items.Item.{Item}
 use Rattle.reo_trees.specs.declared.items.Form.{Form}
 use Rattle.reo_trees.specs.declared.items.Form.TheVariants as forms

@@ -1,5 +1,5 @@
 -- Flat names are distinct, so each node has one type.
-use Rattle.std.proofs.Common.{◌≡◌, ◌∙◌, ℕ, List, [], ◌∷◌, ◌++◌, length, map, Bool, true, false, cond, inl, inr, Some, find, refl, sym, ap, subst, bytes_eq, codes}
+use Rattle.std.proofs.Common.{◌≡◌, ℕ, List, [], ◌∷◌, map, Bool, true, false, cond, inl, inr, Some, find, refl, sym, subst, bytes_eq, codes}
 use Rattle.std.specs.Prelude.{unwrap_or, option_map}
 use Rattle.std.specs.List.{AllByRecursion}
 use Rattle.std.proofs.lemmas.List.{length-map}
@@ -10,9 +10,9 @@ use Rattle.reo_trees.specs.declared.programs.Parameter.{Parameter}
 use Rattle.reo_trees_laws.specs.Spelled.{IsSpelledDeclaration}
 use Rattle.reo_rules_base.specs.Types.{Typed, names_of, type_named, types_of, resolved}
 use Rattle.reo_rules_base.specs.Scopes.{connectors_of, parameter_names, parameter_type}
-use Rattle.reo_flatten_base.specs.Unfolding.{Placed, meaning_named, meanings_of}
+use Rattle.reo_flatten_base.specs.Unfolding.{meaning_named, meanings_of}
 use Rattle.reo_flatten_base.specs.Flat.{main_parameters, way_of, port_of, port_kind, port_placed, nodes_of, placed_of}
-use Rattle.reo_flatten_laws.specs.NodeTypes.{typing_named, typings_of, node_types_of}
+use Rattle.reo_flatten_laws.specs.NodeTypes.{typings_of, node_types_of}
 use Rattle.reo_flatten_laws.specs.Fitting.{Fits}
 use Rattle.reo_flatten_laws.proofs.Breaks.{unbroken}
 use Rattle.reo_flatten_laws.proofs.Each.{by_recursion, each_of, both}

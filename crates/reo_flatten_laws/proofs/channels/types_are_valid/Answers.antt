@@ -1,5 +1,5 @@
 -- The types of parameters and of nodes.
-use Rattle.std.proofs.Common.{◌≡◌, List, [], ◌∷◌, ◌++◌, map, refl, codes}
+use Rattle.std.proofs.Common.{List, [], ◌∷◌, map, refl, codes}
 use Rattle.std.specs.List.{AllByRecursion}
 use Rattle.reo_values.specs.Valid.{IsValid}
 use Rattle.reo_trees.specs.declared.programs.Parameter.{Parameter}

@@ -1,21 +1,11 @@
 -- Each end of what is placed is at one node, and a node has at most twice as many joints as ends.
-use Rattle.std.proofs.Common.{arith, ◌≡◌, ◌<◌, suc, [], length, map, Bool, true, false, ◌||◌, nat_lt, refl, codes}
+use Rattle.std.proofs.Common.{arith, ◌≡◌, ◌<◌, suc, length, map, Bool, true, false, ◌||◌, nat_lt, refl, codes}
 use Rattle.std.specs.List.{AllByRecursion, flat_map}
 use Rattle.std.proofs.lemmas.Bool.{leb-false}
 use Rattle.std.proofs.lemmas.List.{length-append, length-map}
-use Rattle.reo_rules_base.specs.declared.fault.FlatFault.{FlatFault}
-use Rattle.reo_rules_base.specs.Lists.{where_true}
 use Rattle.reo_flatten_base.specs.Unfolding.{Placed, meaning_named, meanings_of}
 use Rattle.reo_flatten_base.specs.Ends.{incoming, outgoing}
 use Rattle.reo_flatten_base.specs.Flat.{nodes_of, placed_of, own_kinds, primitives_of}
-use Rattle.reo_rules_base.specs.Twice.{twice}
-use Rattle.reo_rules_base.specs.Unknown.{unknown}
-use Rattle.reo_rules_base.specs.Mistyped.{mistyped}
-use Rattle.reo_rules_base.specs.Ranges.{out_of_range}
-use Rattle.reo_rules_base.specs.Arity.{arity}
-use Rattle.reo_rules_base.specs.Direction.{direction}
-use Rattle.reo_rules_base.specs.Dangling.{dangling}
-use Rattle.reo_flatten_base.specs.Sizes.{no_main}
 use Rattle.reo_flatten_laws.proofs.Breaks.{fails, unbroken}
 use Rattle.reo_flatten_laws.proofs.Within.{In, has-in}
 use Rattle.reo_flatten_laws.proofs.NodeSums.{all_ends_at_nodes}

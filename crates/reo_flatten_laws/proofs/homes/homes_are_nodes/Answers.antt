@@ -1,6 +1,6 @@
 -- Node by node.
-use Rattle.std.proofs.Common.{arith, ◌≡◌, ℕ, ◌+◌, ◌<◌, zero, suc, List, [], ◌∷◌, ◌++◌, length, replicate}
-use Rattle.std.specs.List.{All, AllByRecursion}
+use Rattle.std.proofs.Common.{arith, ◌≡◌, ℕ, ◌+◌, ◌<◌, zero, suc, List, [], ◌∷◌, length, replicate}
+use Rattle.std.specs.List.{AllByRecursion}
 use Rattle.reo_flatten_base.specs.Unfolding.{Placed}
 use Rattle.reo_flatten_base.specs.Ends.{incoming, outgoing}
 use Rattle.reo_flatten_base.specs.Joints.{joints_of, many}

@@ -1,6 +1,6 @@
 -- Ends at nodes go the way that they are asked for, and those of mergers and replicators by their tables.
-use Rattle.std.proofs.Common.{arith, zero-add, ◌≡◌, ◌∙◌, ◌+◌, ◌≤◌, zero, suc, List, [], ◌∷◌, length, map, true, false, subst}
-use Rattle.std.specs.List.{All, AllByRecursion, flat_map}
+use Rattle.std.proofs.Common.{zero-add, ◌≡◌, ◌∙◌, ◌+◌, ◌≤◌, [], length, map, true, false, subst}
+use Rattle.std.specs.List.{flat_map}
 use Rattle.std.proofs.lemmas.List.{length-map, map-append}
 use Rattle.reo_kinds.specs.Kinds.{behaviour_of}
 use Rattle.reo_flatten_base.specs.Unfolding.{Placed}

@@ -1,5 +1,5 @@
 -- Declaration by declaration, and then the ports.
-use Rattle.std.proofs.Common.{arith, ◌≡◌, ◌∙◌, ℕ, ◌<◌, zero, suc, List, [], ◌∷◌, ◌++◌, length, get_or, map, Bool, true, false, ◌||◌, inl, inr, zip, nat_lt, refl, sym, ap, subst, codes}
+use Rattle.std.proofs.Common.{arith, ◌≡◌, ◌∙◌, ℕ, ◌<◌, zero, suc, List, [], ◌∷◌, ◌++◌, length, get_or, map, Bool, true, false, ◌||◌, inl, inr, zip, nat_lt, refl, sym, subst, codes}
 use Rattle.std.specs.List.{AllByRecursion, flat_map}
 use Rattle.std.proofs.lemmas.Bool.{leb-false}
 use Rattle.std.proofs.lemmas.List.{append-nil, append_assoc, length-append, length-map}
@@ -8,20 +8,14 @@ use Rattle.reo_trees.specs.declared.programs.Parameter.{Parameter}
 use Rattle.reo_trees.specs.declared.programs.Connector.{Connector}
 use Rattle.reo_trees.specs.declared.programs.Declaration.{Declaration}
 use Rattle.reo_trees.specs.declared.programs.Declaration.TheVariants as declarations
-use Rattle.reo_rules_base.specs.declared.fault.FlatFault.{FlatFault}
-use Rattle.reo_rules_base.specs.Lists.{each_after, where_true}
+use Rattle.reo_rules_base.specs.Lists.{each_after}
 use Rattle.reo_rules_base.specs.Types.{Typed, types_of}
-use Rattle.reo_rules_base.specs.Scopes.{connectors_in, connectors_of, parameter_names}
+use Rattle.reo_rules_base.specs.Scopes.{connectors_of, parameter_names}
 use Rattle.reo_flatten_base.specs.Unfolding.{Placed, Meaning, meaning_of, meaning_named, meanings_of, meanings_after}
 use Rattle.reo_flatten_base.specs.Flat.{main_parameters, nodes_of, placed_of, primitives_of, own_kinds, port_of, port_placed, port_kind, way_of}
-use Rattle.reo_rules_base.specs.Twice.{twice, twice_in, twice_in_connector}
-use Rattle.reo_rules_base.specs.Unknown.{unknown}
-use Rattle.reo_rules_base.specs.Mistyped.{mistyped}
-use Rattle.reo_rules_base.specs.Ranges.{out_of_range}
-use Rattle.reo_rules_base.specs.Arity.{arity, arity_in}
-use Rattle.reo_rules_base.specs.Direction.{direction}
-use Rattle.reo_rules_base.specs.Dangling.{dangling, dangling_in}
-use Rattle.reo_flatten_base.specs.Sizes.{no_main}
+use Rattle.reo_rules_base.specs.Twice.{twice_in, twice_in_connector}
+use Rattle.reo_rules_base.specs.Arity.{arity_in}
+use Rattle.reo_rules_base.specs.Dangling.{dangling_in}
 use Rattle.reo_flatten_laws.proofs.Breaks.{fails, left_none, right_none, one_more, unbroken}
 use Rattle.reo_flatten_laws.proofs.Within.{In, in_either}
 use Rattle.reo_flatten_laws.proofs.OnceTwice.{names_once}

@@ -3,7 +3,6 @@ use Rattle.std.proofs.Common.{◌≡◌, ◌∙◌, ℕ, List, [], ◌∷◌, �
 use Rattle.std.specs.List.{flat_map}
 use Rattle.std.proofs.lemmas.List.{append_assoc, length-map, map-append}
 use Rattle.reo_net_base.specs.declared.port.Port.{Port}
-use Rattle.reo_kinds.specs.declared.kind.Kind.{Kind}
 use Rattle.reo_trees.specs.declared.programs.Parameter.{Parameter}
 use Rattle.reo_rules_base.specs.Types.{Typed, types_of}
 use Rattle.reo_rules_base.specs.Scopes.{parameter_names}

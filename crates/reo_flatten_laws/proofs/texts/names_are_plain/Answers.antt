@@ -1,15 +1,13 @@
 -- A name has no byte but letters, digits and `_`.
-use Rattle.std.proofs.Common.{arith, ◌≡◌, ℕ, ◌<◌, ◌≤◌, ◌^◌, zero, suc, List, [], ◌∷◌, ◌++◌, length, inl, inr, sym, subst}
-use Rattle.std.specs.List.{All, AllByRecursion}
+use Rattle.std.proofs.Common.{arith, ◌≡◌, ℕ, ◌<◌, ◌≤◌, ◌^◌, List, [], ◌∷◌, length, inl, inr}
+use Rattle.std.specs.List.{AllByRecursion}
 use Rattle.reo_values.specs.Names.{IsName, IsNameStart, IsNameByte}
-use Rattle.reo_trees.specs.declared.items.Item.{Item}
 use Rattle.reo_trees.specs.declared.items.Form.{Form}
 use Rattle.reo_trees.specs.declared.items.Form.TheVariants as forms
-use Rattle.reo_trees.specs.declared.programs.Parameter.{Parameter}
 use Rattle.reo_trees.specs.declared.programs.Connector.{Connector}
 use Rattle.reo_trees.specs.declared.programs.Declaration.{Declaration}
 use Rattle.reo_trees.specs.declared.programs.Declaration.TheVariants as declarations
-use Rattle.reo_trees_laws.specs.Spelled.{IsSpelledForm, IsSpelledItem, IsSpelledParameter, IsSpelledConnector, IsSpelledDeclaration}
+use Rattle.reo_trees_laws.specs.Spelled.{IsSpelledForm, IsSpelledConnector, IsSpelledDeclaration}
 use Rattle.reo_trees_laws.specs.Few.{HasAtMost}
 use Rattle.reo_rules_base.specs.Scopes.{connectors_of}
 use Rattle.reo_flatten_laws.specs.Plain.{IsPlainName, HasPlainName, HasPlainNames}

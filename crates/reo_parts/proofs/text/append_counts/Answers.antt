@@ -1,4 +1,4 @@
-use Rattle.std.proofs.Common.{◌≡◌, ◌∙◌, ℕ, List, ◌++◌, Result, Ok, Err, OnOk, sym, ap, append_assoc, codes}
+use Rattle.std.proofs.Common.{◌≡◌, ◌∙◌, ℕ, List, ◌++◌, Result, Ok, Err, OnOk, ap, append_assoc, codes}
 use Rattle.std.specs.Fmt.{decimal}
 use Rattle.reo_parts.specs.Parts.{count_line}
 use Rattle.reo_parts.proofs.text.append_counts.Goals as goal
@@ -21,4 +21,4 @@ returns c =
     let d = decimal c.args.joints in
     let e = codes " joints\n" in
     then c.append-3.result _ _ (λ last. last ∙ ap (λ t. t ++ e) c.in_ok-append_number-2.ensures ∙ ap (λ t. (t ++ d) ++ e) c.in_ok-append-2.ensures.ok
-        ∙ ap (λ t. ((t ++ k) ++ d) ++ e) c.in_ok-append_number.ensures ∙ ap (λ t. (((t ++ b) ++ k) ++ d) ++ e) c.in_ok-append.ensures.ok ∙ five c.args.text.now a b k d e) c.append-3.ensures.ok
+    ∙ ap (λ t. ((t ++ k) ++ d) ++ e) c.in_ok-append_number.ensures ∙ ap (λ t. (((t ++ b) ++ k) ++ d) ++ e) c.in_ok-append.ensures.ok ∙ five c.args.text.now a b k d e) c.append-3.ensures.ok
