@@ -1,0 +1,14 @@
+//! The flat circuit of a program: the rules on its text, its unfolding, and the joints of its nodes.
+#![tactic(auto)]
+
+mod branches;
+mod ends;
+mod joints;
+
+
+
+
+
+
+pub use reo_rules_base::FlatFault;
+
