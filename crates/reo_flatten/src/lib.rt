@@ -4,11 +4,7 @@
 mod branches;
 mod ends;
 mod joints;
-
-
-
-
-
+mod main_ports;
+mod nodes;
 
 pub use reo_rules_base::FlatFault;
-

@@ -12,4 +12,4 @@ mod unfold;
 
 pub use ground::{Ground, Stand, ground_of};
 pub use types::{Types, kindred_of};
-pub use unfold::{Unfolded, connector};
+pub use unfold::{Unfolded, connector, connector_at};

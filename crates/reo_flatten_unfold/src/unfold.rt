@@ -40,7 +40,7 @@ struct Frame<'a> {
 }
 
 /// The connector whose declaration stands at a place.
-fn connector_at(declarations: &[Declaration], place: usize) -> &Connector
+pub fn connector_at(declarations: &[Declaration], place: usize) -> &Connector
     requires { (c : AConnector) × (slice_get declarations.now place ≡ Some (Declaration.Made c)) }
     ensures { slice_get declarations.now place ≡ Some (Declaration.Made result.now) }
 {
