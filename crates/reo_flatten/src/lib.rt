@@ -4,7 +4,10 @@
 mod branches;
 mod ends;
 mod joints;
+mod last;
 mod main_ports;
 mod nodes;
+mod unfolded;
 
+pub use last::{Flat, Parts, close};
 pub use reo_rules_base::FlatFault;
