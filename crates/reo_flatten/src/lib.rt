@@ -8,6 +8,8 @@ mod last;
 mod main_ports;
 mod nodes;
 mod unfolded;
+mod whole;
 
-pub use last::{Flat, Parts, close};
+pub use last::Flat;
 pub use reo_rules_base::FlatFault;
+pub use whole::flatten;

@@ -1,5 +1,5 @@
 -- What the unfolding relies on.
-use Rattle.std.specs.Prelude.{ℕ, ◌≡◌, ◌≤◌, ◌<◌, ◌^◌, List, [], Some, length, slice_get}
+use Rattle.std.specs.Prelude.{ℕ, ◌≡◌, ◌≤◌, List, [], Some, length, slice_get}
 use Rattle.std.specs.List.{All}
 use Rattle.reo_trees.specs.declared.types.Shape as shape
 use Rattle.reo_trees.specs.declared.types.Shape.{Shape}
@@ -32,13 +32,11 @@ FormFits (forms.Node name term) = IsFew term.shape
 FormFits (forms.Joined channel first second) = ChannelFits channel
 FormFits (forms.Used name arguments) = Unit {0}
 
--- No name of a connector stands twice, its types have few names, its channels fit, and its items
--- can be counted.
+-- No name of a connector stands twice, its types have few names, and its channels fit.
 pub record IsFit (c : Connector) : Type 0 where
   pub once : twice_in_connector c ≡ []
   pub parameters : All (λ (p : Parameter). IsFew p.term.shape) c.parameters
   pub items : All (λ (i : Item). FormFits i.form) c.items
-  pub few : length c.items < 2 ^ 63
 
 -- So it is with each connector, and the types that are declared have few names.
 pub record AreFit (ds : List Declaration) : Type 0 where

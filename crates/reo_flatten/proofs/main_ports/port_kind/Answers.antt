@@ -21,5 +21,5 @@ writer_is w k e f = is_free w.kindred w.offer w.fitting f ∙ ap (λ j. free_wit
 
 pub returns-in_ok-kindred-in-In : goal.returns-in_ok-kindred-in-In
 returns-in_ok-kindred-in-In c =
-    ap Writer (writer_is c.new.result c.args.port.now.kindred (c.new.ensures.kindred ∙ c.in_ok-kindred.ensures) c.new.ensures.offer)
+    ap Writer (writer_is c.new.result c.args.port.now.kindred (c.new.ensures.kindred ∙ c.in_ok-kindred-in-In.ensures) c.new.ensures.offer)
     ∙ ap (λ w. port_kind w c.args.port.now.kindred) (sym c.in-In.is)

@@ -77,19 +77,24 @@ few_uses is i uses within few counted =
 pub items-counted-uses-requires : goal.items-counted-uses-requires
 items-counted-uses-requires t c =
     let f = c.args.frame.now in
-    let fit = c.requires.fit.connectors f.stand.place f.connector.now c.requires.stand.there in
-    few_uses f.connector.now.items c.loop-one.one-index c.loop-one.uses (subst (λ (xs : List Item). c.loop-one.one-index < length xs) c.loop-one.invariant.items c.loop-one-test.true) fit.few c.loop-one.invariant.uses
+    let small = c.as_slice-one-items.type_inv.1 in
+    let long = ap length c.as_slice-one-items.ensures in
+    let few : length f.connector.now.items < 2 ^ 63 = omega arith in
+    few_uses f.connector.now.items c.loop-one.one-index c.loop-one.uses (subst (λ (xs : List Item). c.loop-one.one-index < length xs) c.loop-one.invariant.items c.loop-one-test.true) few c.loop-one.invariant.uses
 
 pub items-item-requires : goal.items-item-requires
 items-item-requires t c =
     let f = c.args.frame.now in
     let fit = c.requires.fit.connectors f.stand.place f.connector.now c.requires.stand.there in
+    let small = c.as_slice-one-items.type_inv.1 in
+    let long = ap length c.as_slice-one-items.ensures in
+    let few : length f.connector.now.items < 2 ^ 63 = omega arith in
     let i = c.loop-one.one-index in
     let x = c.one-item.result in
     let within : i < length f.connector.now.items = subst (λ (xs : List Item). i < length xs) c.loop-one.invariant.items c.loop-one-test.true in
     let at : x ≡ get_or f.connector.now.items i x = c.one-item.is ∙ ap (λ xs. get_or xs i x) c.loop-one.invariant.items in (
       search rules,
-      (c.requires, (few_uses f.connector.now.items i c.loop-one.uses within fit.few c.loop-one.invariant.uses, subst (λ (y : Item). FormFits y.form) (sym at) (fit.items i x within))),
+      (c.requires, (few_uses f.connector.now.items i c.loop-one.uses within few c.loop-one.invariant.uses, subst (λ (y : Item). FormFits y.form) (sym at) (fit.items i x within))),
     )
 
 pub items-returns-clause-made : goal.items-returns-clause-made
