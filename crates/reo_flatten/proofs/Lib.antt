@@ -4,3 +4,5 @@ pub mod EndLemmas
 pub mod WiringLemmas
 pub mod MainLemmas
 pub mod NoCycles
+pub mod CountLemmas
+pub mod FitLemmas

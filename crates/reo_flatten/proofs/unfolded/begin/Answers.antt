@@ -34,10 +34,11 @@ returns c =
     let names = ap parameter_names given in
     let m = meaning_named (meanings_of ds) (codes "main") in
     let meaning = main_meaning ds number at in
-    let added : Adds _ c.connector.new.made (m.nodes []) (m.channels [] (parameter_names (main_parameters ds))) =
-        subst (λ (k : Meaning). Adds _ c.connector.new.made (k.nodes []) (k.channels [] (parameter_names (main_parameters ds)))) (sym meaning)
-        (subst (λ gs. Adds _ c.connector.new.made ((get_or (meanings_of ds) number no_meaning).nodes []) ((get_or (meanings_of ds) number no_meaning).channels [] gs)) (c.as_slice-3.ensures ∙ c.in_ok-arguments.ensures ∙ names)
-        (subst (λ p. Adds _ c.connector.new.made ((get_or (meanings_of ds) number no_meaning).nodes p) ((get_or (meanings_of ds) number no_meaning).channels p c.as_slice-3.result.now)) c.new-path.ensures c.in_ok-connector.ensures.made)) in
+    let old : Unfolded = record { nodes = c.in_ok-names_of.field-0; kinds = c.in_ok-port_kinds.field-0; ends = c.in_ok-port_ends.field-0 } in
+    let added : Adds old c.connector.new.made (m.nodes []) (m.channels [] (parameter_names (main_parameters ds))) =
+        subst (λ (k : Meaning). Adds old c.connector.new.made (k.nodes []) (k.channels [] (parameter_names (main_parameters ds)))) (sym meaning)
+        (subst (λ gs. Adds old c.connector.new.made ((get_or (meanings_of ds) number no_meaning).nodes []) ((get_or (meanings_of ds) number no_meaning).channels [] gs)) (c.as_slice-3.ensures ∙ c.in_ok-arguments.ensures ∙ names)
+        (subst (λ p. Adds old c.connector.new.made ((get_or (meanings_of ds) number no_meaning).nodes p) ((get_or (meanings_of ds) number no_meaning).channels p c.as_slice-3.result.now)) c.new-path.ensures c.in_ok-connector.ensures.made)) in
     let channels = m.channels [] (parameter_names (main_parameters ds)) in
     record {
       ports = ports;
