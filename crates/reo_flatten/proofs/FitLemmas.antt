@@ -124,8 +124,8 @@ are_fit p spelled once range = record {
       let said : IsSpelledConnector c = subst IsSpelledDeclaration (sym at) (spelled place (declarations.Made c) within) in
       record {
         once = right_none (twice_among (connector_names before) c.line c.name) _ no_twice;
-        parameters = λ k d inside. few_shape (types_of before) _ _ (flat_none (λ (q : Parameter). range_in_type (types_of before) q.term) c.parameters k d (left_none _ _ no_range) inside);
-        items = λ k d inside. fits (types_of before) (scope_of (types_of before) c) _ _
+        parameters = λ k d inside. few_shape (types_of before) (get_or c.parameters k d).term.line (get_or c.parameters k d).term.shape (flat_none (λ (q : Parameter). range_in_type (types_of before) q.term) c.parameters k d (left_none (flat_map (λ (q : Parameter). range_in_type (types_of before) q.term) c.parameters) _ no_range) inside);
+        items = λ k d inside. fits (types_of before) (scope_of (types_of before) c) (get_or c.items k d).line (get_or c.items k d).form
             (flat_none (λ (i : Item). range_in_item (types_of before) (scope_of (types_of before) c) i.line i.form) c.items k d (right_none (flat_map (λ (q : Parameter). range_in_type (types_of before) q.term) c.parameters) _ no_range) inside)
             (said.items k d inside);
       };

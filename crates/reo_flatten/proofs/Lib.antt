@@ -6,3 +6,4 @@ pub mod MainLemmas
 pub mod NoCycles
 pub mod CountLemmas
 pub mod FitLemmas
+pub mod PartLemmas

@@ -1,5 +1,5 @@
 -- The connector that is unfolded.
-use Rattle.std.proofs.Common.{arith, ◌≡◌, ◌∙◌, ℕ, ◌-◌, ◌≤◌, ◌<◌, List, [], ◌∷◌, ◌++◌, Bool, length, map, take, drop, suc, get_or, Option, Some, None, find, position, bytes_eq, codes, refl, sym, ap}
+use Rattle.std.proofs.Common.{arith, ◌≡◌, ◌∙◌, ℕ, ◌-◌, ◌≤◌, ◌<◌, List, [], ◌∷◌, ◌++◌, Bool, length, map, take, drop, suc, get_or, Option, Some, None, is_none, find, position, bytes_eq, codes, refl, sym, ap}
 use Rattle.std.specs.Prelude.{slice_get, unwrap_or}
 use Rattle.std.specs.Option.{option_map_or}
 use Rattle.std.proofs.lemmas.Option.{unwrap_or-slice_get}
@@ -11,7 +11,10 @@ use Rattle.reo_rules_base.specs.Scopes.{connectors_in, connectors_of, connector_
 use Rattle.reo_rules_base.proofs.AfterLemmas.{flat_map-append}
 use Rattle.reo_rules_base.proofs.Mapped.{position-map}
 use Rattle.reo_flatten_base.specs.Unfolding.{Meaning, no_meaning, meaning_named, meanings_of}
+use Rattle.reo_rules_base.specs.declared.fault.FlatFault.TheVariants as faults
+use Rattle.reo_rules_base.specs.Lists.{where_true}
 use Rattle.reo_flatten_base.specs.Flat.{main_of, main_parameters}
+use Rattle.reo_flatten_base.specs.Sizes.{no_main}
 use Rattle.reo_flatten_unfold.specs.declared.ground.Stand.{Stand}
 use Rattle.reo_flatten_unfold.specs.Ground.{IsStand, IsGround}
 use Rattle.reo_flatten_unfold.specs.declared.ground.Ground.{Ground}
@@ -65,3 +68,13 @@ pub main_nowhere : (ds : List Declaration) → position (bytes_eq (codes "main")
 main_nowhere ds none =
     let p : Connector → Bool = λ c. bytes_eq (codes "main") c.name in
     found_nowhere p (connectors_of ds) (sym (position-map (λ (c : Connector). c.name) (bytes_eq (codes "main")) (connectors_of ds)) ∙ none)
+
+pub main_there : (ds : List Declaration) (g : Ground) (number : ℕ) → IsGround ds g → position (bytes_eq (codes "main")) g.connectors ≡ Some number → no_main ds ≡ []
+main_there ds g number is at =
+    let none : Stand = record { place = 0; types = 0 } in
+    let stand = is.stands number none (main_within ds g number is at) in
+    ap (λ found. where_true (is_none found) faults.NoMain) (main_is ds number (ap (position (bytes_eq (codes "main"))) (sym is.names) ∙ at) stand.connector _ stand.is)
+
+pub main_missing : (ds : List Declaration) (g : Ground) → IsGround ds g → position (bytes_eq (codes "main")) g.connectors ≡ None → no_main ds ≡ faults.NoMain ∷ []
+main_missing ds g is none =
+    ap (λ found. where_true (is_none found) faults.NoMain) (main_nowhere ds (ap (position (bytes_eq (codes "main"))) (sym is.names) ∙ none))

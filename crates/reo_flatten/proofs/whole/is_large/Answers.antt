@@ -9,21 +9,21 @@ use Rattle.reo_flatten.proofs.CountLemmas.{many_uses, many_deep, many_primitives
 use Rattle.reo_flatten.proofs.whole.is_large.Goals as goal
 
 pub returns-then-sizes-gt65536-clause-large : goal.returns-then-sizes-gt65536-clause-large
-returns-then-sizes-gt65536-clause-large c yes =
+returns-then-sizes-gt65536-clause-large c is_so =
     let sizes = main_sizes c.args.declarations.now c.args.number c.args.ground.now.sizes c.args.ground.now.connectors c.at-sizes.result.now c.requires.ground.sizes c.requires.ground.names c.requires.main c.at-sizes.ensures in
     let uses = sizes.uses_is in
     let large = c.if-sizes-gt65536.true in
     many_uses c.args.declarations.now (meaning_named (meanings_of c.args.declarations.now) (codes "main")) (omega arith)
 
 pub returns-then-sizes-gt64-clause-large : goal.returns-then-sizes-gt64-clause-large
-returns-then-sizes-gt64-clause-large c yes =
+returns-then-sizes-gt64-clause-large c is_so =
     let sizes = main_sizes c.args.declarations.now c.args.number c.args.ground.now.sizes c.args.ground.now.connectors c.at-sizes.result.now c.requires.ground.sizes c.requires.ground.names c.requires.main c.at-sizes.ensures in
     let depth = sizes.depth_is in
     let large = c.if-sizes-gt64.true in
     many_deep c.args.declarations.now (meaning_named (meanings_of c.args.declarations.now) (codes "main")) (omega arith)
 
 pub returns-then-ports-gt4096-clause-large : goal.returns-then-ports-gt4096-clause-large
-returns-then-ports-gt4096-clause-large c yes =
+returns-then-ports-gt4096-clause-large c is_so =
     let ds = c.args.declarations.now in
     let number = c.args.number in
     let at = ap (position (bytes_eq (codes "main"))) (sym c.requires.ground.names) ∙ c.requires.main in
@@ -39,7 +39,7 @@ returns-then-ports-gt4096-clause-large c yes =
     many_primitives ds (meaning_named (meanings_of ds) (codes "main")) (omega arith)
 
 pub returns-clause-large : goal.returns-clause-large
-returns-clause-large c yes =
+returns-clause-large c is_so =
     let ds = c.args.declarations.now in
     let number = c.args.number in
     let at = ap (position (bytes_eq (codes "main"))) (sym c.requires.ground.names) ∙ c.requires.main in
@@ -53,7 +53,7 @@ returns-clause-large c yes =
     let given = c.len-ports.ensures in
     let sizes = main_sizes c.args.declarations.now c.args.number c.args.ground.now.sizes c.args.ground.now.connectors c.at-sizes.result.now c.requires.ground.sizes c.requires.ground.names c.requires.main c.at-sizes.ensures in
     let placed = sizes.placed_is in
-    let large = ltb-true 4096 (c.len-ports.result + c.at-sizes.result.now.placed) yes in
+    let large = ltb-true 4096 (c.len-ports.result + c.at-sizes.result.now.placed) is_so in
     many_primitives ds (meaning_named (meanings_of ds) (codes "main")) (omega arith)
 
 pub returns-clause-small : goal.returns-clause-small
