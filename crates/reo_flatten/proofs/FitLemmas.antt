@@ -87,9 +87,9 @@ few_after before (declarations.Named line name term ∷ ds) known is none all =
     let here = left_none (range_in_type (types_of before) term) _ none in
     let few = few_shape (types_of before) term.line term.shape here in
     few_after (before ++ declarations.Named line name term ∷ []) ds (known ++ record { name = name; kindred = resolved known term.shape } ∷ [])
-      (ap (λ ts. ts ++ record { name = name; kindred = resolved ts term.shape } ∷ []) is ∙ sym (types_after-append [] before (declarations.Named line name term ∷ [])))
-      (right_none (range_in_type (types_of before) term) _ none)
-      (all_one (λ (e : Typed). HasFewNames e.kindred) known (record { name = name; kindred = resolved known term.shape }) all (few_resolved known term.shape all few))
+    (ap (λ ts. ts ++ record { name = name; kindred = resolved ts term.shape } ∷ []) is ∙ sym (types_after-append [] before (declarations.Named line name term ∷ [])))
+    (right_none (range_in_type (types_of before) term) _ none)
+    (all_one (λ (e : Typed). HasFewNames e.kindred) known (record { name = name; kindred = resolved known term.shape }) all (few_resolved known term.shape all few))
 few_after before (declarations.Made c ∷ ds) known is none all =
     few_after (before ++ declarations.Made c ∷ []) ds known (is ∙ sym (types_after-append [] before (declarations.Made c ∷ []))) (right_none (range_in_connector (types_of before) c) _ none) all
 

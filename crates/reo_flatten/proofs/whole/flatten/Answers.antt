@@ -62,7 +62,7 @@ returns-in_err-parts-in-Some-clause-exact c =
     let main = main_there seen _ c.in-Some.number ground (sym c.find.ensures ∙ c.in-Some.is) in
     refused_err p c.from_residual-in_err-parts-in-Some.result d c.from_residual-in_err-parts-in-Some.ensures
     (refused_by p d (subst (λ ds. IsFirst (breaks ds) d) e
-      (first_right (rule_breaks seen) (no_main seen ++ too_many seen) d rules (first_right (no_main seen) (too_many seen) d main c.in_err-parts-in-Some.ensures.judged))))
+    (first_right (rule_breaks seen) (no_main seen ++ too_many seen) d rules (first_right (no_main seen) (too_many seen) d main c.in_err-parts-in-Some.ensures.judged))))
 
 pub close-requires-clause-no_break : goal.close-requires-clause-no_break
 close-requires-clause-no_break c =
