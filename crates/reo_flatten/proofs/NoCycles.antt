@@ -81,8 +81,8 @@ twice_each before (declarations.Named line name term) = both (twice_among (type_
 twice_each before (declarations.Made c) =
     both (twice_among (connector_names before) c.line c.name) _ (all_where _ _ tt)
     (both (each_after twice_in_parameter [] c.parameters) _
-      (all_each twice_in_parameter (λ b p. both (twice_among (parameter_names b) p.line p.name) _ (all_where _ _ tt) (twice_type p.term)) [] c.parameters)
-      (all_each (λ b (i : Item). twice_in_item c.parameters b i.line i.form) (λ b i. twice_item c.parameters b i.line i.form) [] c.items))
+    (all_each twice_in_parameter (λ b p. both (twice_among (parameter_names b) p.line p.name) _ (all_where _ _ tt) (twice_type p.term)) [] c.parameters)
+    (all_each (λ b (i : Item). twice_in_item c.parameters b i.line i.form) (λ b i. twice_item c.parameters b i.line i.form) [] c.items))
 
 unknown_part : (types : List (List ℕ)) (line : ℕ) (s : Shape) → AllNo (unknown_in_part types line s)
 unknown_part types line shape.Unit = tt
@@ -131,8 +131,8 @@ unknown_each : (before : List Declaration) (d : Declaration) → AllNo (unknown_
 unknown_each before (declarations.Named line name term) = unknown_type (names_of (types_of before)) term
 unknown_each before (declarations.Made c) =
     both (flat_map (λ (p : Parameter). unknown_in_type (names_of (types_of before)) p.term) c.parameters) _
-      (all_flat (λ (p : Parameter). unknown_in_type (names_of (types_of before)) p.term) (λ p. unknown_type (names_of (types_of before)) p.term) c.parameters)
-      (all_each (λ b (i : Item). unknown_in_item (types_of before) (connector_names before) (parameter_names c.parameters ++ node_names b) i.line i.form) (λ b i. unknown_item (types_of before) (connector_names before) (parameter_names c.parameters ++ node_names b) i.line i.form) [] c.items)
+    (all_flat (λ (p : Parameter). unknown_in_type (names_of (types_of before)) p.term) (λ p. unknown_type (names_of (types_of before)) p.term) c.parameters)
+    (all_each (λ b (i : Item). unknown_in_item (types_of before) (connector_names before) (parameter_names c.parameters ++ node_names b) i.line i.form) (λ b i. unknown_item (types_of before) (connector_names before) (parameter_names c.parameters ++ node_names b) i.line i.form) [] c.items)
 
 mistyped_each : (before : List Declaration) (d : Declaration) → AllNo (mistyped_in before d)
 mistyped_each before (declarations.Named line name term) = tt
@@ -150,8 +150,8 @@ range_each : (before : List Declaration) (d : Declaration) → AllNo (range_in b
 range_each before (declarations.Named line name term) = range_type (types_of before) term
 range_each before (declarations.Made c) =
     both (flat_map (λ (p : Parameter). range_in_type (types_of before) p.term) c.parameters) _
-      (all_flat (λ (p : Parameter). range_in_type (types_of before) p.term) (λ p. range_type (types_of before) p.term) c.parameters)
-      (all_flat (λ (i : Item). range_in_item (types_of before) (scope_of (types_of before) c) i.line i.form) (λ i. range_item (types_of before) (scope_of (types_of before) c) i.line i.form) c.items)
+    (all_flat (λ (p : Parameter). range_in_type (types_of before) p.term) (λ p. range_type (types_of before) p.term) c.parameters)
+    (all_flat (λ (i : Item). range_in_item (types_of before) (scope_of (types_of before) c) i.line i.form) (λ i. range_item (types_of before) (scope_of (types_of before) c) i.line i.form) c.items)
 
 arity_item : (known : List Connector) (line : ℕ) (f : Form) → AllNo (arity_in_item known line f)
 arity_item known line (forms.Node name term) = tt
@@ -176,8 +176,8 @@ dangling_each : (before : List Declaration) (d : Declaration) → AllNo (danglin
 dangling_each before (declarations.Named line name term) = tt
 dangling_each before (declarations.Made c) =
     both (flat_map (dangling_parameter (touches_of (connectors_of before) c)) c.parameters) _
-      (all_flat (dangling_parameter (touches_of (connectors_of before) c)) (λ p. all_where _ _ tt) c.parameters)
-      (all_flat (λ (i : Item). dangling_in_item (touches_of (connectors_of before) c) i.line i.form) (λ i. dangling_item (touches_of (connectors_of before) c) i.line i.form) c.items)
+    (all_flat (dangling_parameter (touches_of (connectors_of before) c)) (λ p. all_where _ _ tt) c.parameters)
+    (all_flat (λ (i : Item). dangling_in_item (touches_of (connectors_of before) c) i.line i.form) (λ i. dangling_item (touches_of (connectors_of before) c) i.line i.form) c.items)
 
 no_cycles : (ds : List Declaration) → AllNo (breaks ds)
 no_cycles ds =

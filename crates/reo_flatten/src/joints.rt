@@ -79,11 +79,7 @@ fn taker(outs: &[End], replicator: usize) -> Option<End>
 }
 
 /// The joint between these ends, if there are both.
-fn between(
-    giver: Option<End>,
-    taker: Option<End>,
-    joints: &mut List<Joint>,
-) -> Result<(), NoMemory>
+fn between(giver: Option<End>, taker: Option<End>, joints: &mut List<Joint>) -> Result<(), NoMemory>
     ensures { OnOk result (joints.new ≡ joints.old ++ pairs (option_to_list giver) (option_to_list taker)) }
 {
     match (giver, taker) {

@@ -36,12 +36,18 @@ fn is_large(declarations: &[Declaration], ground: &Ground, number: usize) -> boo
 {
     counts_are_channels();
     let sizes = *ground.sizes.at(number);
+    if 65_536 < sizes.uses {
+        return true;
+    }
+    if 64 < sizes.depth {
+        return true;
+    }
     let main = connector_at(declarations, ground.stands.at(number).place);
     let ports = main.parameters.len();
-    65_536 < sizes.uses
-        || 64 < sizes.depth
-        || 4_096 < ports
-        || 4_096 < ports + sizes.placed as usize
+    if 4_096 < ports {
+        return true;
+    }
+    4_096 < ports + sizes.placed as usize
 }
 
 /// What the flat circuit of a program is made from that breaks no rule on its text, and whose

@@ -195,7 +195,7 @@ ground_made xs c g h is types connectors stands sizes =
     let count : length g.types.kindreds ≡ length (types_of xs) = ap length is.types.kindreds ∙ length-map (types_of xs) (λ (e : Typed). e.kindred) in
     let last : Stand = record { place = length xs; types = length g.types.kindreds } in
     let stand : Stands (xs ++ d ∷ []) (length g.stands) last =
-        subst (λ n. Stands (xs ++ d ∷ []) n last) (sym is.one_each) (subst (λ n. Stands (xs ++ d ∷ []) (length (connectors_of xs)) (record { place = length xs; types = n })) (sym count) (stands_last xs c)) in
+    subst (λ n. Stands (xs ++ d ∷ []) n last) (sym is.one_each) (subst (λ n. Stands (xs ++ d ∷ []) (length (connectors_of xs)) (record { place = length xs; types = n })) (sym count) (stands_last xs c)) in
     record {
       types = subst (λ ts. AreTypes ts h.types) (sym (types_after-append [] xs (d ∷ []))) (subst (AreTypes (types_of xs)) (sym types) is.types);
       names = connectors ∙ ap (λ ns. ns ++ c.name ∷ []) is.names ∙ sym (ap (map (λ (k : Connector). k.name)) more ∙ map-append (λ (k : Connector). k.name) (connectors_of xs) (c ∷ []));

@@ -105,7 +105,7 @@ module _ (ts : List Typed) (c : Connector) (names : List (List ℕ)) (are : name
       let many = length-map c.parameters (parameter_type ts) in
       type_at n is
       ∙ ap (λ (found : Option Typed). unwrap_or (option_map (λ (e : Typed). e.kindred) found) kinds.Unit)
-        (slice_get-left (map (parameter_type ts) c.parameters) _ n (omega arith) ∙ slice_get-map (parameter_type ts) c.parameters n ∙ ap (option_map (parameter_type ts)) (slice_get-get_or c.parameters n d within))
+      (slice_get-left (map (parameter_type ts) c.parameters) _ n (omega arith) ∙ slice_get-map (parameter_type ts) c.parameters n ∙ ap (option_map (parameter_type ts)) (slice_get-get_or c.parameters n d within))
 
   -- The number of a node among the nodes.
   pub node_within : (n : ℕ) → position (bytes_eq name) names ≡ Some n → length c.parameters ≤ n → n - length c.parameters < length (flat_map (λ (i : Item). node_types_in ts i.form) c.items)
@@ -121,7 +121,7 @@ module _ (ts : List Typed) (c : Connector) (names : List (List ℕ)) (are : name
       let many = length-map c.parameters (parameter_type ts) in
       type_at n is
       ∙ ap (λ (found : Option Typed). unwrap_or (option_map (λ (e : Typed). e.kindred) found) kinds.Unit)
-        (slice_get-right (map (parameter_type ts) c.parameters) (flat_map (λ (i : Item). node_types_in ts i.form) c.items) n (omega arith) ∙ (λ k. slice_get (flat_map (λ (i : Item). node_types_in ts i.form) c.items) (n - many k)))
+      (slice_get-right (map (parameter_type ts) c.parameters) (flat_map (λ (i : Item). node_types_in ts i.form) c.items) n (omega arith) ∙ (λ k. slice_get (flat_map (λ (i : Item). node_types_in ts i.form) c.items) (n - many k)))
       ∙ ap (λ found. unwrap_or found kinds.Unit) (node.type d)
 
   pub nowhere_is : position (bytes_eq name) names ≡ None → type_named (scope_of ts c) name ≡ kinds.Unit

@@ -63,8 +63,8 @@ module _ {X : Type 0} (p : X → Bool) where
   front_or_not : (xs : List X) (k n : ℕ) → before_first xs ≡ n → (slice_get xs n ≡ None) → find p (take k xs) ≡ None
   front_or_not xs k n is none =
       elim (leb_tells (suc (before_first xs)) k) [
-        inl w ↦ find_in-front xs k w.1 ∙ ap (slice_get xs) is ∙ none
-      | inr w ↦ find_behind xs k (omega arith)
+        | inl w ↦ find_in-front xs k w.1 ∙ ap (slice_get xs) is ∙ none
+        | inr w ↦ find_behind xs k (omega arith)
       ]
 
   pub found_before : (xs : List X) (k n : ℕ) → position p xs ≡ Some n → n < k → find p (take k xs) ≡ slice_get xs n

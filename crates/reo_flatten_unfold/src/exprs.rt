@@ -14,11 +14,7 @@ use reo_values::{Boxed, Bytes, Copies, Kindred, NoMemory};
 use std::alloc::Global;
 
 /// The expression of a symbol of a type, if it is one.
-fn symbol_of(
-    alloc: Global,
-    kindred: &Kindred,
-    symbol: &Bytes,
-) -> Result<Option<Expr>, NoMemory>
+fn symbol_of(alloc: Global, kindred: &Kindred, symbol: &Bytes) -> Result<Option<Expr>, NoMemory>
     requires { HasFewNames kindred.now }
     ensures { IfOk result (λ made. made ≡ symbol_in kindred.now symbol.now) }
 {

@@ -40,12 +40,7 @@ fn node_type(
 }
 
 /// A buffer of this size with the items that literals are.
-fn store(
-    alloc: Global,
-    size: usize,
-    of: &Kindred,
-    held: &[Literal],
-) -> Result<Kind, NoMemory>
+fn store(alloc: Global, size: usize, of: &Kindred, held: &[Literal]) -> Result<Kind, NoMemory>
     requires some { 1 ≤ size }
     requires few { size ≤ 1024 }
     requires fits { length held.now ≤ size }

@@ -17,7 +17,7 @@ pub returns-else-number-parameters : goal.returns-else-number-parameters
 returns-else-number-parameters c ps rest names count =
     let is = place_is (bytes_eq c.args.name.now) (parameter_names ps ++ rest) c.in-Some.number ((λ i. position (bytes_eq (sym c.as_slice.ensures i)) (sym names i)) ∙ sym c.find.ensures ∙ c.in-Some.is) in
     let declared = flat_at_node c.args.path.now rest c.args.name.now ps c.args.arguments.now
-        (λ within. elim c.else-number-parameters.either [ inl far ↦ let late = far.1 in omega arith | inr late ↦ absurd (omega arith) ]) in
+    (λ within. elim c.else-number-parameters.either [ inl far ↦ let late = far.1 in omega arith | inr late ↦ absurd (omega arith) ]) in
     subst (λ v. IfOk c.node_name.result (λ b. b ≡ v)) (sym declared) c.node_name.ensures
 
 pub returns-in-None : goal.returns-in-None

@@ -44,5 +44,5 @@ returns-in_ok-make-in-Made c =
     let long : length before ≡ c.args.place = length-take-le c.args.place c.args.declarations.now (omega arith) in
     subst (λ ds. IsGround ds c.make.new.self) (sym more)
     (ground_made before c.in-Made.connector c.args.self.now c.make.new.self c.requires.ground c.in_ok-make-in-Made.ensures.types c.in_ok-make-in-Made.ensures.names
-      (c.in_ok-make-in-Made.ensures.stands ∙ ap (λ n. c.args.self.now.stands ++ record { place = n; types = length c.args.self.now.types.kindreds } ∷ []) (sym long))
-      (c.in_ok-make-in-Made.ensures.sizes (meanings_of before) c.requires.ground.sizes))
+    (c.in_ok-make-in-Made.ensures.stands ∙ ap (λ n. c.args.self.now.stands ++ record { place = n; types = length c.args.self.now.types.kindreds } ∷ []) (sym long))
+    (c.in_ok-make-in-Made.ensures.sizes (meanings_of before) c.requires.ground.sizes))
