@@ -1,5 +1,5 @@
 -- What a check reads in its file, and what stops it.
-use Rattle.std.proofs.Common.{◌≡◌, ◌∙◌, ◌⊎◌, inl, inr, ℕ, false, List, [], ◌∷◌, sym, subst, ap, refl, arith}
+use Rattle.std.proofs.Common.{◌≡◌, inl, inr, ℕ, false, List, [], ◌∷◌, sym, subst, ap, refl, arith}
 use Rattle.std.specs.Prelude.{◌≢◌, Some, Ok, Err}
 use Rattle.reo_trees.specs.declared.programs.Program.{Program}
 use Rattle.reo_rules_base.specs.declared.fault.FlatFault.{FlatFault}
@@ -82,12 +82,15 @@ pub parts_not_three : (x : NamedCircuit) (bytes : List ℕ) (status : ℕ) → L
 parts_not_three x bytes status h e = omega (arith, e, h.1)
 
 -- What stops the reading, whatever is read else.
-pub stop_named : {X : Type 0} (Reads : List Content → X → Type 0) (answers : List Content) (s : Stop) → IsReadAs Reads StopsCheck answers (Err s) → IsReadAs ReadsNamed StopsCheck answers (Err s)
+stop_named : {X : Type 0} (Reads : List Content → X → Type 0) (answers : List Content) (s : Stop) → IsReadAs Reads StopsCheck answers (Err s) → IsReadAs ReadsNamed StopsCheck answers (Err s)
 stop_named Reads answers (Missed role) h = h
 stop_named Reads answers (TooLong role) h = h
 stop_named Reads answers (Refused role r) h = h
 stop_named Reads answers (NotBuilt role) h = h
 stop_named Reads answers NoMemory h = h
+
+pub named_stopped : {X : Type 0} {Reads : List Content → X → Type 0} {names : List (List ℕ)} {files : Change FilesState} (s : Stop) → IsReadFrom Reads StopsCheck (Circuit ∷ []) names files (Err s) → IsReadFrom ReadsNamed StopsCheck (Circuit ∷ []) names files (Err s)
+named_stopped {Reads = Reads} s read = record { answers = read.answers; fetched = read.fetched; read = stop_named Reads read.answers s read.read }
 
 module _ {X : Type 0} (Reads : List Content → X → Type 0) (names : List (List ℕ)) (files : Change FilesState) where
   stopped_check : (answers : List Content) (s : Stop) → StopsPrint answers s → StopsCheck answers s

@@ -1,11 +1,10 @@
 -- A circuit text is accepted as one circuit, or refused for one cause.
-use Rattle.std.proofs.Common.{◌≡◌, ◌∙◌, ◌⊎◌, inl, inr, ℕ, ◌<◌, false, List, [], ◌∷◌, sym, subst, ap, refl}
+use Rattle.std.proofs.Common.{◌≡◌, ◌∙◌, ◌⊎◌, inl, inr, ℕ, List, [], sym, subst, ap, refl}
 use Rattle.std.specs.Prelude.{Option, Some, None, slice_index, slice_index_or}
 use Rattle.std.proofs.lemmas.Bool.{cases_order}
 use Rattle.reo_net_order.specs.Arrows.{IsLeastOnCycle}
 use Rattle.reo_trees.specs.declared.programs.Program.{Program}
 use Rattle.reo_trees.specs.declared.programs.Declaration.{Declaration}
-use Rattle.reo_trees.specs.Says.{SaysProgram}
 use Rattle.reo_rules_base.specs.declared.fault.FlatFault.{FlatFault}
 use Rattle.reo_rules_base.specs.declared.fault.FlatFault.TheVariants as rules
 use Rattle.reo_rules_base.specs.Lists.{first_of}

@@ -63,11 +63,7 @@ pub(crate) fn read_program<F: Files>(
 }
 
 /// The flat circuit of the program that a file says, or what stops the command.
-pub(crate) fn read_flat<F: Files>(
-    alloc: Global,
-    name: &[u8],
-    files: &mut F,
-) -> Result<Flat, Stop>
+pub(crate) fn read_flat<F: Files>(alloc: Global, name: &[u8], files: &mut F) -> Result<Flat, Stop>
     ensures read { IsReadFrom
         (λ answers flat. ReadsNamed answers (named_by flat.circuit flat.nodes flat.homes))
         StopsCheck (roles.Circuit ∷ []) (name.now ∷ [])

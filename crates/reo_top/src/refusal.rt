@@ -62,12 +62,7 @@ fn joined(alloc: Global, first: &[u8], second: &[u8]) -> Result<Bytes, NoMemory>
 }
 
 /// Two words of a cause on a line. `NoMemory` is out of memory.
-fn two_on_line(
-    alloc: Global,
-    line: u32,
-    first: &[u8],
-    second: &[u8],
-) -> Result<Refusal, NoMemory>
+fn two_on_line(alloc: Global, line: u32, first: &[u8], second: &[u8]) -> Result<Refusal, NoMemory>
     ensures { IfOk result (λ refusal. on_line line (first.now ++ second.now) ≡ Some refusal) }
 {
     let words = joined(alloc, first, second)?;
