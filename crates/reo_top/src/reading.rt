@@ -1,6 +1,7 @@
 //! Circuits and scripts that are fetched and read.
 ghost use Rattle.std.specs.Prelude.{◌≡◌, [], ◌∷◌, IfOk, length};
 ghost use Rattle.std.specs.List.{All};
+ghost use Rattle.reo_trees_laws.specs.Spelled.{IsSpelled};
 ghost use Rattle.reo_rules_base.specs.Scopes.{connectors_of};
 ghost use Rattle.reo_flatten_laws.specs.Plain.{HasPlainNames};
 ghost use Rattle.reo_forms.specs.CircuitForm.{IsPlainest};
@@ -22,6 +23,7 @@ use reo_io::Files;
 use reo_parser::{ParseFault, parse};
 use reo_script::Script;
 use reo_trees::Program;
+use reo_trees_laws::programs_are_spelled;
 use std::alloc::Global;
 
 /// What stops a command whose circuit text says no program.
@@ -52,9 +54,11 @@ pub(crate) fn read_program<F: Files>(
 ) -> Result<Program, Stop>
     ensures read { IsReadFrom ReadsProgram StopsPrint (roles.Circuit ∷ []) (name.now ∷ [])
         (files_change F.told F.failed F.fetches files.old files.new) result }
+    ensures spelled { IfOk result (λ program. IsSpelled program) }
     ensures plain { IfOk result (λ program. All HasPlainNames (connectors_of program.declarations)) }
 {
     names_are_plain();
+    programs_are_spelled();
     let text = fetch(alloc, Role::Circuit, name, files)?;
     match parse(alloc, text.as_slice()) {
         Ok(program) => Ok(program),

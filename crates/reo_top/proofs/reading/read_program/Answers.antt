@@ -15,3 +15,6 @@ returns-in-Ok-clause-plain g c =
     let same = ap length c.as_slice.ensures in
     let short : length c.as_slice.result.now < 2 ^ 64 = omega arith in
     c.names_are_plain.ensures c.as_slice.result.now c.in-Ok.program short c.in-Ok.ensures.parsed
+
+pub returns-in-Ok-clause-spelled : goal.returns-in-Ok-clause-spelled
+returns-in-Ok-clause-spelled g c = c.programs_are_spelled.ensures c.as_slice.result.now c.in-Ok.program c.in-Ok.ensures.parsed
