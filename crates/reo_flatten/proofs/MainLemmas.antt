@@ -1,0 +1,50 @@
+-- The connector that is unfolded.
+use Rattle.std.proofs.Common.{arith, ◌≡◌, ◌∙◌, ℕ, ◌-◌, ◌≤◌, List, [], ◌∷◌, ◌++◌, Bool, length, map, take, drop, suc, get_or, Option, Some, find, position, bytes_eq, codes, refl, sym, ap}
+use Rattle.std.specs.Prelude.{slice_get, unwrap_or}
+use Rattle.std.specs.Option.{option_map_or}
+use Rattle.std.proofs.lemmas.Option.{unwrap_or-slice_get}
+use Rattle.reo_trees.specs.declared.programs.Parameter.{Parameter}
+use Rattle.reo_trees.specs.declared.programs.Connector.{Connector}
+use Rattle.reo_trees.specs.declared.programs.Declaration.{Declaration}
+use Rattle.reo_trees.specs.declared.programs.Declaration.TheVariants as declarations
+use Rattle.reo_rules_base.specs.Scopes.{connectors_in, connectors_of, connector_names}
+use Rattle.reo_rules_base.proofs.AfterLemmas.{flat_map-append}
+use Rattle.reo_rules_base.proofs.Mapped.{position-map}
+use Rattle.reo_flatten_base.specs.Unfolding.{Meaning, no_meaning, meaning_named, meanings_of}
+use Rattle.reo_flatten_base.specs.Flat.{main_of, main_parameters}
+use Rattle.reo_flatten_unfold.specs.declared.ground.Stand.{Stand}
+use Rattle.reo_flatten_unfold.specs.Ground.{IsStand}
+use Rattle.reo_flatten_unfold.proofs.ListLemmas.{slice_get-right}
+use Rattle.reo_flatten_unfold.proofs.Positions.{found_at}
+use Rattle.reo_flatten_unfold.proofs.GroundLemmas.{cut_at, names_of-meanings}
+
+pub map_map : {X Y Z : Type 0} (g : Y → Z) (f : X → Y) (xs : List X) → map g (map f xs) ≡ map (λ x. g (f x)) xs
+map_map g f [] = refl
+map_map g f (x ∷ xs) = ap (λ zs. g (f x) ∷ zs) (map_map g f xs)
+
+module _ (ds : List Declaration) (number : ℕ) (at : position (bytes_eq (codes "main")) (connector_names ds) ≡ Some number) where
+  -- What it means.
+  pub main_meaning : meaning_named (meanings_of ds) (codes "main") ≡ get_or (meanings_of ds) number no_meaning
+  main_meaning =
+      let p : Meaning → Bool = λ m. bytes_eq (codes "main") m.name in
+      let place : position p (meanings_of ds) ≡ Some number = sym (position-map (λ (m : Meaning). m.name) (bytes_eq (codes "main")) (meanings_of ds)) ∙ ap (position (bytes_eq (codes "main"))) (names_of-meanings ds) ∙ at in
+      ap (λ found. unwrap_or found no_meaning) (found_at p (meanings_of ds) number place) ∙ unwrap_or-slice_get (meanings_of ds) number no_meaning
+
+  main_found : main_of ds ≡ slice_get (connectors_of ds) number
+  main_found =
+      let p : Connector → Bool = λ c. bytes_eq (codes "main") c.name in
+      let place : position p (connectors_of ds) ≡ Some number = sym (position-map (λ (c : Connector). c.name) (bytes_eq (codes "main")) (connectors_of ds)) ∙ at in
+      found_at p (connectors_of ds) number place
+
+  -- The connector that stands there.
+  pub main_is : (c : Connector) (s : Stand) → IsStand ds number c s → main_of ds ≡ Some c
+  main_is c s stand =
+      let front = take s.place ds in
+      let rest = drop (suc s.place) ds in
+      let all : connectors_of ds ≡ connectors_of front ++ (c ∷ connectors_of rest) = ap connectors_of (cut_at ds s.place (declarations.Made c) stand.there) ∙ flat_map-append connectors_in front (declarations.Made c ∷ rest) in
+      let count = stand.before in
+      let none : number - length (connectors_of front) ≡ 0 = omega arith in
+      main_found ∙ ap (λ cs. slice_get cs number) all ∙ slice_get-right (connectors_of front) (c ∷ connectors_of rest) number (omega arith) ∙ ap (slice_get (c ∷ connectors_of rest)) none
+
+  pub main_parameters_are : (c : Connector) (s : Stand) → IsStand ds number c s → main_parameters ds ≡ c.parameters
+  main_parameters_are c s stand = ap (λ (found : Option Connector). option_map_or (λ (c : Connector). c.parameters) found []) (main_is c s stand)

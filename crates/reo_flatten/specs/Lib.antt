@@ -1,0 +1,3 @@
+pub mod NodeEnds
+pub mod NodeParts
+pub mod Parts

@@ -1,0 +1,15 @@
+//! The flat circuit of a program: the rules on its text, its unfolding, and the joints of its nodes.
+#![tactic(auto)]
+
+mod branches;
+mod ends;
+mod joints;
+mod last;
+mod main_ports;
+mod nodes;
+mod unfolded;
+mod whole;
+
+pub use last::Flat;
+pub use reo_rules_base::FlatFault;
+pub use whole::flatten;
