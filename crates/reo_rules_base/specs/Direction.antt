@@ -3,7 +3,6 @@ use Rattle.std.specs.Prelude.{ℕ, Bool, not, ◌&&◌, List, [], bytes_eq}
 use Rattle.std.specs.List.{list_any, flat_map}
 use Rattle.reo_trees.specs.declared.items.Item.{Item}
 use Rattle.reo_trees.specs.declared.items.Form.{Form}
-use Rattle.reo_trees.specs.declared.items.Form.TheVariants as forms
 use Rattle.reo_trees.specs.declared.programs.Parameter.{Parameter}
 use Rattle.reo_trees.specs.declared.programs.Connector.{Connector}
 use Rattle.reo_trees.specs.declared.programs.Declaration.{Declaration}
