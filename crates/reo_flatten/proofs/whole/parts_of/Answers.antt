@@ -1,5 +1,5 @@
 -- By what `main` unfolds to.
-use Rattle.std.proofs.Common.{arith, ◌≡◌, ◌∙◌, ◌<◌, ◌≤◌, List, length, codes, sym, ap, subst}
+use Rattle.std.proofs.Common.{arith, ◌∙◌, ◌≤◌, length, codes, sym, ap, subst}
 use Rattle.reo_values.specs.Valid.{AreDistinct}
 use Rattle.reo_rules_base.specs.Twice.{twice}
 use Rattle.reo_rules_base.proofs.AfterLemmas.{left_none}
@@ -8,7 +8,7 @@ use Rattle.reo_flatten_base.specs.Flat.{placed_of, nodes_of, primitives_of, join
 use Rattle.reo_flatten_base.specs.Sizes.{too_many}
 use Rattle.reo_flatten.proofs.MainLemmas.{main_there}
 use Rattle.reo_flatten.proofs.CountLemmas.{many_primitives, few_enough, too_many_is, too_many_none, first_too_many}
-use Rattle.reo_flatten.proofs.PartLemmas.{as_many, ends_are, kinds_are, first_is, first_low, no_breaks, few_nodes}
+use Rattle.reo_flatten.proofs.PartLemmas.{ends_are, kinds_are, first_is, first_low, no_breaks, few_nodes}
 use Rattle.reo_flatten.proofs.whole.parts_of.Goals as goal
 
 pub ends_at-requires-clause-distinct : goal.ends_at-requires-clause-distinct
