@@ -26,6 +26,15 @@ use reo_rules_base::FlatFault;
 use reo_trees::{Declaration, Program};
 use std::alloc::Global;
 
+/// The most uses to which a program may unfold.
+const MOST_USES: u32 = 65_536;
+
+/// How deep uses may be nested.
+const DEEPEST: u32 = 64;
+
+/// The most primitives of a circuit.
+const MOST_PRIMITIVES: usize = 4_096;
+
 /// Whether the connector of this number, which is `main`, has more than 65,536 uses, uses nested
 /// more than 64 deep, or more than 4,096 ports and channels. It is not unfolded for that.
 fn is_large(declarations: &[Declaration], ground: &Ground, number: usize) -> bool
@@ -38,18 +47,18 @@ fn is_large(declarations: &[Declaration], ground: &Ground, number: usize) -> boo
 {
     counts_are_channels();
     let sizes = *ground.sizes.at(number);
-    if 65_536 < sizes.uses {
+    if MOST_USES < sizes.uses {
         return true;
     }
-    if 64 < sizes.depth {
+    if DEEPEST < sizes.depth {
         return true;
     }
     let main = connector_at(declarations, ground.stands.at(number).place);
     let ports = main.parameters.len();
-    if 4_096 < ports {
+    if MOST_PRIMITIVES < ports {
         return true;
     }
-    4_096 < ports + sizes.placed as usize
+    MOST_PRIMITIVES < ports + sizes.placed as usize
 }
 
 /// What the flat circuit of a program is made from that breaks no rule on its text, and whose
@@ -82,7 +91,7 @@ fn parts_of(
     } = made;
     let first = kinds.len();
     all_own(&ends, &mut kinds)?;
-    if 4_096 < kinds.len() {
+    if MOST_PRIMITIVES < kinds.len() {
         return Err(FlatFault::TooMany);
     }
     let Wired { joints, homes } = all_joints(alloc, &ends, first)?;
