@@ -1,6 +1,6 @@
 -- Breaks found one after another.
-use Rattle.std.proofs.Common.{arith, map, ◌≡◌, ◌∙◌, ℕ, ◌+◌, ◌<◌, length, get_or, zero, suc, List, [], ◌∷◌, ◌++◌, take, Some, Result, Ok, Err, IsErr, IsErrAnd, refl, sym, ap, subst, inl, inr}
-use Rattle.std.proofs.lemmas.List.{append-nil, append_assoc, take_more, map-append}
+use Rattle.std.proofs.Common.{arith, map, ◌≡◌, ◌∙◌, ℕ, ◌+◌, ◌<◌, ◌≤◌, length, get_or, zero, suc, List, [], ◌∷◌, ◌++◌, take, Some, Result, Ok, Err, IsErr, IsErrAnd, refl, sym, ap, subst, inl, inr}
+use Rattle.std.proofs.lemmas.List.{append-nil, append_assoc, take_more, take_all, map-append}
 use Rattle.std.specs.List.{flat_map}
 use Rattle.reo_rules_base.specs.declared.fault.FlatFault.{FlatFault}
 use Rattle.reo_rules_base.specs.Lists.{each_after, first_of}
@@ -64,6 +64,10 @@ module _ {X : Type 0} (f : List X → X → List FlatFault) where
       first_right (f b y) _ e (left_none (f b y) _ none)
       (after_first (b ++ y ∷ []) ys i x e (omega arith) at (right_none (f b y) _ none) (subst (λ c. IsFirst (f c x) e) (sym (append_assoc b (y ∷ []) (take i ys))) here))
 
+  -- No break up to the end: none at all.
+  pub after_all : (b xs : List X) (i : ℕ) → length xs ≤ i → each_after f b (take i xs) ≡ [] → each_after f b xs ≡ []
+  after_all b xs i past none = ap (each_after f b) (sym (take_all i xs past)) ∙ none
+
 -- The breaks of two lists of parts.
 pub flat_map-append : {X A : Type 0} (f : X → List A) (xs ys : List X) → flat_map f (xs ++ ys) ≡ flat_map f xs ++ flat_map f ys
 flat_map-append f [] ys = refl
@@ -94,6 +98,9 @@ module _ {X : Type 0} (f : X → List FlatFault) where
   flat_first (y ∷ ys) zero x e within at none here = first_left (f y) _ e (subst (λ v. IsFirst (f v) e) at here)
   flat_first (y ∷ ys) (suc i) x e within at none here =
       first_right (f y) _ e (left_none (f y) _ none) (flat_first ys i x e (omega arith) at (right_none (f y) _ none) here)
+
+  pub flat_all : (xs : List X) (i : ℕ) → length xs ≤ i → flat_map f (take i xs) ≡ [] → flat_map f xs ≡ []
+  flat_all xs i past none = ap (flat_map f) (sym (take_all i xs past)) ∙ none
 
 -- The answer of a pass, where its breaks are said in another way.
 pub judged_same : {A : Type 0} (xs ys : List FlatFault) (r : Result A FlatFault) → xs ≡ ys → IsJudged xs r → IsJudged ys r

@@ -1,4 +1,4 @@
-//! The static rules of a program: what its names, types, terms and literals mean, and what breaks each rule.
+//! The static rules of a program: what its names, types and terms mean, and what breaks each.
 #![tactic(auto)]
 
 mod fault;

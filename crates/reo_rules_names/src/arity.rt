@@ -1,5 +1,5 @@
 //! Uses with another number of arguments than their connector has parameters.
-ghost use Rattle.std.specs.Prelude.{◌≡◌, List};
+ghost use Rattle.std.specs.Prelude.{◌≡◌, [], List};
 ghost use Rattle.std.specs.List.{flat_map};
 ghost use Rattle.reo_trees.specs.declared.items.Item.{Item as AnItem};
 ghost use Rattle.reo_trees.specs.declared.programs.Connector.{Connector as AConnector};
@@ -14,10 +14,8 @@ use std::alloc::Global;
 
 /// An item.
 fn item_arity(connectors: &Connectors, line: u32, form: &Form) -> Result<(), FlatFault>
-    ensures {
-        (known : List AConnector) → AreConnectors known connectors.now
-            → IsJudged (arity_in_item known line form.now) result
-    }
+    ensures { (known : List AConnector) → AreConnectors known connectors.now
+        → IsJudged (arity_in_item known line form.now) result }
 {
     match form {
         Form::Used { name, arguments } => {
@@ -33,10 +31,8 @@ fn item_arity(connectors: &Connectors, line: u32, form: &Form) -> Result<(), Fla
 
 /// Items one after another.
 fn items_arity(connectors: &Connectors, items: &[Item]) -> Result<(), FlatFault>
-    ensures {
-        (known : List AConnector) → AreConnectors known connectors.now
-            → IsJudged (flat_map (λ (i : AnItem). arity_in_item known i.line i.form) items.now) result
-    }
+    ensures { (known : List AConnector) → AreConnectors known connectors.now
+        → IsJudged (flat_map (λ (i : AnItem). arity_in_item known i.line i.form) items.now) result }
 {
     for item in items {
         item_arity(connectors, item.line, &item.form)?;

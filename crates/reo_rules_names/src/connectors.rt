@@ -33,10 +33,8 @@ impl Connectors {
     /// For each parameter of the first connector of this name whether it is an `in`; no ways
     /// where there is no such connector.
     pub(crate) fn ways(&self, name: &[u8]) -> &[bool]
-        ensures {
-            (known : List AConnector) → AreConnectors known self.now
-                → result.now ≡ map (λ (p : AParameter). p.inward) (parameters_named known name.now)
-        }
+        ensures { (known : List AConnector) → AreConnectors known self.now
+            → result.now ≡ map (λ (p : AParameter). p.inward) (parameters_named known name.now) }
     {
         match self.names.find(name) {
             Some(number) => match self.ways.get(number) {
@@ -49,10 +47,8 @@ impl Connectors {
 
     /// One more connector. `NoMemory` is out of memory.
     pub(crate) fn add(&mut self, alloc: Global, connector: &Connector) -> Result<(), NoMemory>
-        ensures {
-            OnOk result ((known : List AConnector) → AreConnectors known self.old
-                → AreConnectors (known ++ connector.now ∷ []) self.new)
-        }
+        ensures { OnOk result ((known : List AConnector) → AreConnectors known self.old
+            → AreConnectors (known ++ connector.now ∷ []) self.new) }
     {
         if self.names.note(alloc, connector.name.as_slice())? {
             return Ok(());

@@ -3,12 +3,12 @@ ghost use Rattle.std.specs.Prelude.{◌≡◌, [], ◌++◌, List, Bool, ℕ, If
 ghost use Rattle.std.specs.List.{flat_map, zip};
 ghost use Rattle.reo_trees.specs.declared.items.Item.{Item as AnItem};
 ghost use Rattle.reo_trees.specs.declared.programs.Connector.{Connector as AConnector};
-ghost use Rattle.reo_rules_base.specs.Touches.{Touch, touch, touches_in};
+ghost use Rattle.reo_rules_base.specs.Touches.{Touch, touch, touches_in, touches_of};
 ghost use Rattle.reo_rules_base.specs.Dangling.{dangling_parameter, dangling_in_item, dangling};
 ghost use Rattle.reo_rules_base.specs.Judged.{IsJudged};
 ghost use Rattle.reo_rules_names.specs.Connectors.{AreConnectors};
 ghost use Rattle.reo_rules_names.specs.Ends.{AreEnds};
-ghost use Rattle.reo_rules_names.specs.Loose.{dangling_in_connector};
+ghost use Rattle.reo_rules_names.specs.Loose.{lacking_ends};
 
 use crate::connectors::Connectors;
 use crate::ends::{Ends, is_drain};
@@ -24,11 +24,9 @@ fn note_arguments(
     arguments: &[Bytes],
     ways: &[bool],
 ) -> Result<(), NoMemory>
-    ensures {
-        OnOk result ((touches : List Touch) → AreEnds touches ends.old
-            → AreEnds (touches ++ map (λ (q : List ℕ × Bool). touch q.0 q.1)
-                (zip arguments.now ways.now)) ends.new)
-    }
+    ensures { OnOk result ((touches : List Touch) → AreEnds touches ends.old
+        → AreEnds (touches ++ map (λ (q : List ℕ × Bool). touch q.0 q.1)
+        (zip arguments.now ways.now)) ends.new) }
 {
     for (argument, way) in arguments.iter().zip(ways) {
         ends.note(alloc, argument.as_slice(), *way)?;
@@ -43,11 +41,9 @@ fn note_item(
     ends: &mut Ends,
     form: &Form,
 ) -> Result<(), NoMemory>
-    ensures {
-        OnOk result ((known : List AConnector) (touches : List Touch)
-            → AreConnectors known connectors.now → AreEnds touches ends.old
-            → AreEnds (touches ++ touches_in known form.now) ends.new)
-    }
+    ensures { OnOk result ((known : List AConnector) (touches : List Touch)
+        → AreConnectors known connectors.now → AreEnds touches ends.old
+        → AreEnds (touches ++ touches_in known form.now) ends.new) }
 {
     match form {
         Form::Node { .. } => Ok(()),
@@ -68,10 +64,8 @@ fn note_item(
 
 /// The ends of all items.
 fn ends_of(alloc: Global, connectors: &Connectors, items: &[Item]) -> Result<Ends, NoMemory>
-    ensures {
-        IfOk result (λ ends. (known : List AConnector) → AreConnectors known connectors.now
-            → AreEnds (flat_map (λ (i : AnItem). touches_in known i.form) items.now) ends)
-    }
+    ensures { IfOk result (λ ends. (known : List AConnector) → AreConnectors known connectors.now
+        → AreEnds (flat_map (λ (i : AnItem). touches_in known i.form) items.now) ends) }
 {
     let mut ends = Ends::new(alloc);
     for item in items {
@@ -81,15 +75,9 @@ fn ends_of(alloc: Global, connectors: &Connectors, items: &[Item]) -> Result<End
 }
 
 /// A parameter.
-fn parameter_dangling(
-    alloc: Global,
-    ends: &Ends,
-    parameter: &Parameter,
-) -> Result<(), FlatFault>
-    ensures {
-        (touches : List Touch) → AreEnds touches ends.now
-            → IsJudged (dangling_parameter touches parameter.now) result
-    }
+fn parameter_dangling(alloc: Global, ends: &Ends, parameter: &Parameter) -> Result<(), FlatFault>
+    ensures { (touches : List Touch) → AreEnds touches ends.now
+        → IsJudged (dangling_parameter touches parameter.now) result }
 {
     if ends.has(parameter.name.as_slice(), parameter.inward) {
         return Ok(());
@@ -106,10 +94,8 @@ fn parameters_dangling(
     ends: &Ends,
     parameters: &[Parameter],
 ) -> Result<(), FlatFault>
-    ensures {
-        (touches : List Touch) → AreEnds touches ends.now
-            → IsJudged (flat_map (dangling_parameter touches) parameters.now) result
-    }
+    ensures { (touches : List Touch) → AreEnds touches ends.now
+        → IsJudged (flat_map (dangling_parameter touches) parameters.now) result }
 {
     for parameter in parameters {
         parameter_dangling(alloc, ends, parameter)?;
@@ -118,16 +104,9 @@ fn parameters_dangling(
 }
 
 /// An item: only nodes have to have ends.
-fn item_dangling(
-    alloc: Global,
-    ends: &Ends,
-    line: u32,
-    form: &Form,
-) -> Result<(), FlatFault>
-    ensures {
-        (touches : List Touch) → AreEnds touches ends.now
-            → IsJudged (dangling_in_item touches line form.now) result
-    }
+fn item_dangling(alloc: Global, ends: &Ends, line: u32, form: &Form) -> Result<(), FlatFault>
+    ensures { (touches : List Touch) → AreEnds touches ends.now
+        → IsJudged (dangling_in_item touches line form.now) result }
 {
     match form {
         Form::Node { name, .. } => {
@@ -145,11 +124,9 @@ fn item_dangling(
 
 /// Items one after another.
 fn items_dangling(alloc: Global, ends: &Ends, items: &[Item]) -> Result<(), FlatFault>
-    ensures {
-        (touches : List Touch) → AreEnds touches ends.now
-            → IsJudged (flat_map (λ (i : AnItem). dangling_in_item touches i.line i.form) items.now)
-                result
-    }
+    ensures { (touches : List Touch) → AreEnds touches ends.now
+        → IsJudged (flat_map (λ (i : AnItem). dangling_in_item touches i.line i.form) items.now)
+        result }
 {
     for item in items {
         item_dangling(alloc, ends, item.line, &item.form)?;
@@ -157,20 +134,26 @@ fn items_dangling(alloc: Global, ends: &Ends, items: &[Item]) -> Result<(), Flat
     Ok(())
 }
 
-/// A connector: its parameters, and then its nodes.
+/// A connector that has these ends: its parameters, and then its nodes.
+fn ends_dangling(alloc: Global, ends: &Ends, connector: &Connector) -> Result<(), FlatFault>
+    ensures { (touches : List Touch) → AreEnds touches ends.now
+        → IsJudged (lacking_ends touches connector.now) result }
+{
+    parameters_dangling(alloc, ends, connector.parameters.as_slice())?;
+    items_dangling(alloc, ends, connector.items.as_slice())
+}
+
+/// A connector.
 fn connector_dangling(
     alloc: Global,
     connectors: &Connectors,
     connector: &Connector,
 ) -> Result<(), FlatFault>
-    ensures {
-        (known : List AConnector) → AreConnectors known connectors.now
-            → IsJudged (dangling_in_connector known connector.now) result
-    }
+    ensures { (known : List AConnector) → AreConnectors known connectors.now
+        → IsJudged (lacking_ends (touches_of known connector.now) connector.now) result }
 {
     let ends = ends_of(alloc, connectors, connector.items.as_slice())?;
-    parameters_dangling(alloc, &ends, connector.parameters.as_slice())?;
-    items_dangling(alloc, &ends, connector.items.as_slice())
+    ends_dangling(alloc, &ends, connector)
 }
 
 /// Declarations one after another; the connectors are noted.
@@ -193,9 +176,9 @@ fn declarations_dangling(
 
 /// Each node has an incoming and an outgoing end in its connector, each `in` parameter an outgoing
 /// and each `out` parameter an incoming one; an argument for an `in` parameter is an outgoing end,
-/// one for an `out` parameter an incoming end. Where one lacks such an end, `Dangling` is the first,
-/// in a connector its parameters before its nodes, with the line of its declaration. `NoMemory` is
-/// out of memory.
+/// one for an `out` parameter an incoming end. Where one lacks such an end, `Dangling` is the
+/// first, in a connector its parameters before its nodes, with the line of its declaration.
+/// `NoMemory` is out of memory.
 pub fn judge_dangling(alloc: Global, program: &Program) -> Result<(), FlatFault>
     ensures { IsJudged (dangling program.now.declarations) result }
 {

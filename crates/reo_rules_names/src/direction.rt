@@ -36,10 +36,8 @@ fn end_direction(
     name: &Bytes,
     is_source: bool,
 ) -> Result<(), FlatFault>
-    ensures {
-        (ps : List AParameter) → AreClosed ps closed.now
-            → IsJudged (against ps line (touch name.now is_source)) result
-    }
+    ensures { (ps : List AParameter) → AreClosed ps closed.now
+        → IsJudged (against ps line (touch name.now is_source)) result }
 {
     if closed.has(name.as_slice(), is_source) {
         return Err(FlatFault::Direction {
@@ -58,11 +56,9 @@ fn use_direction(
     arguments: &[Bytes],
     ways: &[bool],
 ) -> Result<(), FlatFault>
-    ensures {
-        (ps : List AParameter) → AreClosed ps closed.now
-            → IsJudged (flat_map (λ (q : List ℕ × Bool). against ps line (touch q.0 q.1))
-                (zip arguments.now ways.now)) result
-    }
+    ensures { (ps : List AParameter) → AreClosed ps closed.now
+        → IsJudged (flat_map (λ (q : List ℕ × Bool). against ps line (touch q.0 q.1))
+        (zip arguments.now ways.now)) result }
 {
     for (argument, way) in arguments.iter().zip(ways) {
         end_direction(alloc, closed, line, argument, *way)?;
@@ -78,11 +74,9 @@ fn item_direction(
     line: u32,
     form: &Form,
 ) -> Result<(), FlatFault>
-    ensures {
-        (known : List AConnector) (ps : List AParameter)
-            → AreConnectors known connectors.now → AreClosed ps closed.now
-            → IsJudged (direction_in_item known ps line form.now) result
-    }
+    ensures { (known : List AConnector) (ps : List AParameter)
+        → AreConnectors known connectors.now → AreClosed ps closed.now
+        → IsJudged (direction_in_item known ps line form.now) result }
 {
     match form {
         Form::Node { .. } => Ok(()),
@@ -108,12 +102,10 @@ fn items_direction(
     closed: &Ends,
     items: &[Item],
 ) -> Result<(), FlatFault>
-    ensures {
-        (known : List AConnector) (ps : List AParameter)
-            → AreConnectors known connectors.now → AreClosed ps closed.now
-            → IsJudged (flat_map (λ (i : AnItem). direction_in_item known ps i.line i.form)
-                items.now) result
-    }
+    ensures { (known : List AConnector) (ps : List AParameter)
+        → AreConnectors known connectors.now → AreClosed ps closed.now
+        → IsJudged (flat_map (λ (i : AnItem). direction_in_item known ps i.line i.form)
+        items.now) result }
 {
     for item in items {
         item_direction(alloc, connectors, closed, item.line, &item.form)?;
@@ -127,12 +119,10 @@ fn connector_direction(
     connectors: &Connectors,
     connector: &Connector,
 ) -> Result<(), FlatFault>
-    ensures {
-        (known : List AConnector) → AreConnectors known connectors.now
-            → IsJudged (flat_map
-                (λ (i : AnItem). direction_in_item known connector.now.parameters i.line i.form)
-                connector.now.items) result
-    }
+    ensures { (known : List AConnector) → AreConnectors known connectors.now
+        → IsJudged (flat_map
+        (λ (i : AnItem). direction_in_item known connector.now.parameters i.line i.form)
+        connector.now.items) result }
 {
     let closed = closed_by(alloc, connector.parameters.as_slice())?;
     items_direction(alloc, connectors, &closed, connector.items.as_slice())

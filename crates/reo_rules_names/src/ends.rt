@@ -30,10 +30,8 @@ impl Ends {
 
     /// Whether there is an end of this way at a name.
     pub(crate) fn has(&self, name: &[u8], is_source: bool) -> bool
-        ensures {
-            (touches : List Touch) → AreEnds touches self.now
-                → result ≡ is_touched touches name.now is_source
-        }
+        ensures { (touches : List Touch) → AreEnds touches self.now
+            → result ≡ is_touched touches name.now is_source }
     {
         if is_source {
             self.sources.has(name)
@@ -49,10 +47,8 @@ impl Ends {
         name: &[u8],
         is_source: bool,
     ) -> Result<(), NoMemory>
-        ensures {
-            OnOk result ((touches : List Touch) → AreEnds touches self.old
-                → AreEnds (touches ++ touch name.now is_source ∷ []) self.new)
-        }
+        ensures { OnOk result ((touches : List Touch) → AreEnds touches self.old
+            → AreEnds (touches ++ touch name.now is_source ∷ []) self.new) }
     {
         if is_source {
             self.sources.note(alloc, name)?;

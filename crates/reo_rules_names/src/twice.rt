@@ -1,4 +1,4 @@
-//! Names that stand twice: types, connectors, symbols of one type, parameters and nodes of one connector.
+//! Names that stand twice.
 ghost use Rattle.std.specs.Prelude.{◌≡◌, [], ◌∷◌, ◌++◌, OnOk, ℕ, List};
 ghost use Rattle.std.specs.List.{flat_map};
 ghost use Rattle.reo_trees.specs.declared.items.Item.{Item as AnItem};
@@ -30,7 +30,8 @@ fn once(alloc: Global, seen: &mut Names, line: u32, name: &Bytes) -> Result<(), 
 
 /// The symbols of one type.
 fn symbols_twice(alloc: Global, line: u32, names: &[Bytes]) -> Result<(), FlatFault>
-    ensures { IsJudged (each_after (λ before name. twice_among before line name) [] names.now) result }
+    ensures { IsJudged (each_after (λ before name. twice_among before line name) [] names.now)
+        result }
 {
     let mut seen = Names::new(alloc);
     for name in names {
@@ -41,10 +42,8 @@ fn symbols_twice(alloc: Global, line: u32, names: &[Bytes]) -> Result<(), FlatFa
 
 /// The symbols of the types in a written type.
 fn type_twice(alloc: Global, line: u32, shape: &Shape) -> Result<(), FlatFault>
-    ensures {
-        IsJudged (flat_map (λ (part : APart). twice_in_part part.line part.shape)
-            (parts_of line shape.now)) result
-    }
+    ensures { IsJudged (flat_map (λ (part : APart). twice_in_part part.line part.shape)
+        (parts_of line shape.now)) result }
 {
     match shape {
         Shape::Sym(names) => symbols_twice(alloc, line, names.as_slice()),
@@ -82,10 +81,9 @@ fn items_twice(
     items: &[Item],
 ) -> Result<(), FlatFault>
     requires { seen.old ≡ parameter_names parameters.now }
-    ensures {
-        IsJudged (each_after (λ before (i : AnItem). twice_in_item parameters.now before i.line i.form)
-            [] items.now) result
-    }
+    ensures { IsJudged (each_after
+        (λ before (i : AnItem). twice_in_item parameters.now before i.line i.form)
+        [] items.now) result }
 {
     for item in items {
         if let Form::Node { name, term } = &item.form {

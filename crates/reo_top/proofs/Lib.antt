@@ -6,6 +6,8 @@ pub mod HeadlineLemmas
 pub mod LineLemmas
 pub mod PrintLemmas
 pub mod ReadLemmas
+pub mod FlatLemmas
+pub mod CheckLemmas
 pub mod RunLemmas
 pub mod StopLemmas
 pub mod TopLemmas

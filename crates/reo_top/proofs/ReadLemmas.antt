@@ -22,10 +22,10 @@ pub record IsOneReading {X : Type 0} (Reads : List Content → X → Type 0) (St
   pub missed : (answers : List Content) (s : Stop) → Stops answers s → has_gone answers ≡ is_missed s
   pub status : (answers : List Content) (s : Stop) → Stops answers s → IsAmong statuses (stop_status s)
 
-same_stop : (s t u : Stop) → s ≡ u → t ≡ u → s ≡ t
+pub same_stop : (s t u : Stop) → s ≡ u → t ≡ u → s ≡ t
 same_stop s t u a b = a ∙ sym b
 
-among : (statuses : List ℕ) (s u : Stop) → s ≡ u → IsAmong statuses (stop_status u) → IsAmong statuses (stop_status s)
+pub among : (statuses : List ℕ) (s u : Stop) → s ≡ u → IsAmong statuses (stop_status u) → IsAmong statuses (stop_status s)
 among statuses s u is h = subst (λ (t : Stop). IsAmong statuses (stop_status t)) (sym is) h
 
 -- A program, or the refusal of the text.

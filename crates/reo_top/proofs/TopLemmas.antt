@@ -4,7 +4,6 @@ use Rattle.std.proofs.lemmas.Bool.Decides.{nat_tests}
 use Rattle.std.specs.Prelude.{◌≢◌, Option, Some, None, IfSome, find, codes, ◌&&◌, ◌==◌}
 use Rattle.reo_io.specs.Fetches.{Folder}
 use Rattle.reo_top.specs.declared.command.Command.{Command}
-use Rattle.reo_top.specs.declared.command.Command.TheVariants.{Run, Print}
 use Rattle.reo_top.specs.Answers.{IsAnswered, Answered, roles_for, free_for}
 use Rattle.reo_top.specs.Cases.{Refuses}
 use Rattle.reo_top.specs.Commands.{command_of, command_word, commands, names_of, is_form, fits, is_free, roles_of, are_names}

@@ -3,27 +3,30 @@ use Rattle.std.specs.Prelude.{ℕ, ◌==◌, ◌&&◌, Bool, false, not, List, [
 use Rattle.std.specs.List.{list_all}
 use Rattle.std.specs.Str.{bytes_eq}
 use Rattle.reo_top.specs.declared.command.Command.{Command}
-use Rattle.reo_top.specs.declared.command.Command.TheVariants.{Run, Print}
+use Rattle.reo_top.specs.declared.command.Command.TheVariants.{Run, Check, Print}
 use Rattle.reo_top.specs.declared.role.Role.{Role}
 use Rattle.reo_top.specs.declared.role.Role.TheVariants.{Circuit, Script}
 
 -- All commands.
 abbrev pub commands : List Command
-commands = Run ∷ Print ∷ []
+commands = Run ∷ Check ∷ Print ∷ []
 
 -- The first word of a command.
 abbrev pub command_word : Command → List ℕ
 command_word Run = codes "run"
+command_word Check = codes "check"
 command_word Print = codes "print"
 
 -- The files that a command fetches, in order.
 abbrev pub roles_of : Command → List Role
 roles_of Run = Circuit ∷ Script ∷ []
+roles_of Check = Circuit ∷ []
 roles_of Print = Circuit ∷ []
 
 -- Whether what a command writes is free by its definition: then only its status is exact.
 abbrev pub is_free : Command → Bool
 is_free Run = false
+is_free Check = false
 is_free Print = false
 
 -- Names, none of them empty.

@@ -1,5 +1,6 @@
 pub mod Answers
 pub mod Cases
+pub mod Checked
 pub mod Commands
 pub mod Fetched
 pub mod Headline

@@ -10,7 +10,8 @@ use Rattle.reo_top.specs.declared.stop.Stop.{Stop}
 use Rattle.reo_top.specs.declared.stop.Stop.TheVariants.{Missed, TooLong, Refused, NotBuilt, NoMemory}
 use Rattle.reo_top.specs.Fetched.{Content, text}
 use Rattle.reo_top.specs.Readings.{IsReadFrom, ScriptStops}
-use Rattle.reo_top.specs.Refusals.{parse_refusal}
+use Rattle.reo_rules_base.specs.declared.fault.FlatFault.{FlatFault}
+use Rattle.reo_top.specs.Refusals.{parse_refusal, flat_refusal}
 use Rattle.reo_top.specs.States.{FilesState, Change}
 use Rattle.reo_top.specs.Stops.{FileStops}
 
@@ -21,6 +22,14 @@ IsCircuitStop fault (TooLong role) = ⊥
 IsCircuitStop fault (Refused role refusal) = (role ≡ roles.Circuit) × (parse_refusal fault ≡ Some refusal)
 IsCircuitStop fault (NotBuilt role) = ⊥
 IsCircuitStop fault NoMemory = Unit {0}
+
+-- The same for a program that breaks a rule.
+abbrev pub IsFlatStop : FlatFault → Stop → Type 0
+IsFlatStop fault (Missed role) = ⊥
+IsFlatStop fault (TooLong role) = ⊥
+IsFlatStop fault (Refused role refusal) = (role ≡ roles.Circuit) × (flat_refusal fault ≡ Some refusal)
+IsFlatStop fault (NotBuilt role) = ⊥
+IsFlatStop fault NoMemory = Unit {0}
 
 -- A script for the ports of a circuit of the form, in its one file.
 abbrev pub ReadsScript : Plainest → List Content → Script → Type 0

@@ -6,6 +6,11 @@ use Rattle.reo_lexer.specs.declared.token.LexFault.TheVariants as lexing
 use Rattle.reo_parser.specs.declared.fault.ParseFault.{ParseFault}
 use Rattle.reo_parser.specs.declared.fault.ParseFault.TheVariants as faults
 use Rattle.reo_parser.specs.Parsed.{Answers}
+use Rattle.reo_trees.specs.declared.programs.Program.{Program}
+use Rattle.reo_trees.specs.Says.{SaysProgram}
+use Rattle.reo_rules_base.specs.declared.fault.FlatFault.{FlatFault}
+use Rattle.reo_rules_base.specs.declared.fault.FlatFault.TheVariants as rules
+use Rattle.reo_flatten_base.specs.Refusals.{IsRefused}
 use Rattle.reo_top.specs.declared.refusal.Refusal.{Refusal}
 
 -- A cause on a line.
@@ -26,6 +31,24 @@ parse_refusal (faults.Syntax line) = on_line line (codes "syntax")
 parse_refusal (faults.TooDeep line) = on_line line (codes "too deep")
 parse_refusal faults.NoMemory = None
 
+-- A cause on no line.
+abbrev pub on_no_line : List ℕ → Option Refusal
+on_no_line words = Some (record { line = None; words = words })
+
+-- The refusal of a program that breaks a rule. Out of memory is none.
+abbrev pub flat_refusal : FlatFault → Option Refusal
+flat_refusal (rules.Twice line name) = on_line line (name ++ codes " twice")
+flat_refusal (rules.Unknown line name) = on_line line (name ++ codes " unknown")
+flat_refusal (rules.Mistyped line) = on_line line (codes "mistyped")
+flat_refusal (rules.Range line) = on_line line (codes "range")
+flat_refusal (rules.Arity line) = on_line line (codes "arity")
+flat_refusal (rules.Direction line node) = on_line line (codes "direction " ++ node)
+flat_refusal (rules.Dangling line node) = on_line line (codes "dangling " ++ node)
+flat_refusal rules.NoMain = on_no_line (codes "no main")
+flat_refusal rules.TooMany = on_no_line (codes "too many")
+flat_refusal (rules.Cycle node) = on_no_line (codes "cycle " ++ node)
+flat_refusal rules.NoMemory = None
+
 -- Where the cause is.
 abbrev pub line_text : Option ℕ → List ℕ
 line_text None = []
@@ -38,3 +61,7 @@ refusal_text r = line_text r.line ++ r.words
 -- The text says no program, and is refused so.
 abbrev pub RefusesProgram : List ℕ → Refusal → Type 0
 RefusesProgram text r = (fault : ParseFault) × Answers text (Err fault) × (parse_refusal fault ≡ Some r)
+
+-- The text says a program that breaks a rule, and is refused so.
+abbrev pub RefusesCircuit : List ℕ → Refusal → Type 0
+RefusesCircuit text r = (program : Program) × (fault : FlatFault) × SaysProgram text program × IsRefused program fault × (flat_refusal fault ≡ Some r)

@@ -2,9 +2,9 @@
 use Rattle.std.specs.Prelude.{ℕ, ◌==◌, List, [], ◌∷◌, Option, Some, None, IsTrue}
 use Rattle.std.specs.List.{list_any}
 use Rattle.reo_top.specs.declared.command.Command.{Command}
-use Rattle.reo_top.specs.declared.command.Command.TheVariants.{Run, Print}
+use Rattle.reo_top.specs.declared.command.Command.TheVariants.{Run, Check, Print}
 
--- Each component is at its end, or the text was printed.
+-- Each component is at its end, or the other command did its work.
 abbrev pub done : ℕ
 done = 0
 
@@ -55,6 +55,7 @@ circuit_statuses = read_fault ∷ too_long ∷ circuit_refused ∷ write_fault �
 -- The statuses of a command.
 abbrev pub statuses_of : Command → List ℕ
 statuses_of Run = done ∷ stuck ∷ limit_reached ∷ not_built ∷ circuit_statuses
+statuses_of Check = done ∷ circuit_statuses
 statuses_of Print = done ∷ circuit_statuses
 
 -- The statuses of the command, or of the refusal of words that have none.

@@ -9,12 +9,14 @@ use reo_values::Bytes;
 pub enum Command {
     /// `run CIRCUIT SCRIPT` writes the trace of the script on the circuit.
     Run,
+    /// `check CIRCUIT` writes the parts of the circuit.
+    Check,
     /// `print CIRCUIT` writes the canonical text of the circuit.
     Print,
 }
 
 /// All commands.
-const COMMANDS: [Command; 2] = [Command::Run, Command::Print];
+const COMMANDS: [Command; 3] = [Command::Run, Command::Check, Command::Print];
 
 impl Command {
     /// The first word of the command.
@@ -23,6 +25,7 @@ impl Command {
     {
         match self {
             Command::Run => b"run",
+            Command::Check => b"check",
             Command::Print => b"print",
         }
     }
@@ -33,7 +36,7 @@ impl Command {
     {
         match self {
             Command::Run => 2,
-            Command::Print => 1,
+            Command::Check | Command::Print => 1,
         }
     }
 }

@@ -1,21 +1,29 @@
 //! Circuits and scripts that are fetched and read.
-ghost use Rattle.std.specs.Prelude.{◌≡◌, [], ◌∷◌, IfOk};
+ghost use Rattle.std.specs.Prelude.{◌≡◌, [], ◌∷◌, IfOk, length};
+ghost use Rattle.std.specs.List.{All};
+ghost use Rattle.reo_trees_laws.specs.Spelled.{IsSpelled};
+ghost use Rattle.reo_rules_base.specs.Scopes.{connectors_of};
+ghost use Rattle.reo_flatten_laws.specs.Plain.{HasPlainNames};
 ghost use Rattle.reo_forms.specs.CircuitForm.{IsPlainest};
 ghost use Rattle.reo_forms.specs.ScriptForm.{IsPlainScript};
 ghost use Rattle.reo_top.specs.declared.role.Role.TheVariants as roles;
+ghost use Rattle.reo_top.specs.Checked.{ReadsNamed, StopsCheck, named_by};
 ghost use Rattle.reo_top.specs.Readings.{IsReadFrom, ReadsProgram, StopsPrint, ReadsForm, StopsForm, ReadsRun, StopsRun, runnable_of};
-ghost use Rattle.reo_top.specs.ReadSteps.{IsCircuitStop, IsScriptRead};
+ghost use Rattle.reo_top.specs.ReadSteps.{IsCircuitStop, IsFlatStop, IsScriptRead};
 ghost use Rattle.reo_top.specs.States.{files_change};
 
 use crate::fetching::fetch;
-use crate::refusal::parse_refusal;
+use crate::refusal::{flat_refusal, parse_refusal};
 use crate::role::Role;
 use crate::stop::Stop;
+use reo_flatten::{Flat, FlatFault, flatten};
+use reo_flatten_laws::{homes_fit, names_are_plain};
 use reo_forms::{FormFault, Plainest, read_script, shape};
 use reo_io::Files;
 use reo_parser::{ParseFault, parse};
 use reo_script::Script;
 use reo_trees::Program;
+use reo_trees_laws::programs_are_spelled;
 use std::alloc::Global;
 
 /// What stops a command whose circuit text says no program.
@@ -28,19 +36,52 @@ fn circuit_stop(alloc: Global, fault: ParseFault) -> Stop
     }
 }
 
+/// What stops a command whose circuit breaks a rule.
+fn flat_stop(alloc: Global, fault: &FlatFault) -> Stop
+    ensures { IsFlatStop fault.now result }
+{
+    match flat_refusal(alloc, fault) {
+        Ok(refusal) => Stop::Refused(Role::Circuit, refusal),
+        Err(_) => Stop::NoMemory,
+    }
+}
+
 /// The program that a file says, or what stops the command.
 pub(crate) fn read_program<F: Files>(
     alloc: Global,
     name: &[u8],
     files: &mut F,
 ) -> Result<Program, Stop>
-    ensures { IsReadFrom ReadsProgram StopsPrint (roles.Circuit ∷ []) (name.now ∷ [])
+    ensures read { IsReadFrom ReadsProgram StopsPrint (roles.Circuit ∷ []) (name.now ∷ [])
         (files_change F.told F.failed F.fetches files.old files.new) result }
+    ensures spelled { IfOk result (λ program. IsSpelled program) }
+    ensures plain { IfOk result (λ program. All HasPlainNames (connectors_of program.declarations)) }
 {
+    names_are_plain();
+    programs_are_spelled();
     let text = fetch(alloc, Role::Circuit, name, files)?;
     match parse(alloc, text.as_slice()) {
         Ok(program) => Ok(program),
         Err(fault) => Err(circuit_stop(alloc, fault)),
+    }
+}
+
+/// The flat circuit of the program that a file says, or what stops the command.
+pub(crate) fn read_flat<F: Files>(alloc: Global, name: &[u8], files: &mut F) -> Result<Flat, Stop>
+    ensures read { IsReadFrom
+        (λ answers flat. ReadsNamed answers (named_by flat.circuit flat.nodes flat.homes))
+        StopsCheck (roles.Circuit ∷ []) (name.now ∷ [])
+        (files_change F.told F.failed F.fetches files.old files.new) result }
+    ensures fits { IfOk result (λ flat. length flat.homes ≡ length flat.circuit.joints) }
+{
+    homes_fit();
+    let program = match read_program(alloc, name, files) {
+        Ok(program) => program,
+        Err(stop) => return Err(stop),
+    };
+    match flatten(alloc, &program) {
+        Ok(flat) => Ok(flat),
+        Err(fault) => Err(flat_stop(alloc, &fault)),
     }
 }
 

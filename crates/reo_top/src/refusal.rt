@@ -1,9 +1,10 @@
 //! Why texts are refused, for all layers alike.
 ghost use Rattle.std.specs.Prelude.{◌≡◌, ◌++◌, IfOk, OnOk, Some};
-ghost use Rattle.reo_top.specs.Refusals.{on_line, parse_refusal, line_text, refusal_text};
+ghost use Rattle.reo_top.specs.Refusals.{on_line, on_no_line, parse_refusal, flat_refusal, line_text, refusal_text};
 
 use reo_lexer::LexFault;
 use reo_parser::ParseFault;
+use reo_rules_base::FlatFault;
 use reo_values::{Bytes, NoMemory};
 use std::alloc::Global;
 
@@ -40,6 +41,68 @@ pub(crate) fn parse_refusal(alloc: Global, fault: ParseFault) -> Result<Refusal,
         ParseFault::Syntax { line } => on_line(alloc, line, b"syntax"),
         ParseFault::TooDeep { line } => on_line(alloc, line, b"too deep"),
         ParseFault::Lex(LexFault::NoMemory) | ParseFault::NoMemory => Err(NoMemory),
+    }
+}
+
+/// A cause on no line. `NoMemory` is out of memory.
+fn on_no_line(alloc: Global, words: &[u8]) -> Result<Refusal, NoMemory>
+    ensures { IfOk result (λ refusal. on_no_line words.now ≡ Some refusal) }
+{
+    let words = Bytes::from_slice(alloc, words)?;
+    Ok(Refusal { line: None, words })
+}
+
+/// A name, or a word before it, with what stands behind. `NoMemory` is out of memory.
+fn joined(alloc: Global, first: &[u8], second: &[u8]) -> Result<Bytes, NoMemory>
+    ensures { IfOk result (λ words. words ≡ first.now ++ second.now) }
+{
+    let mut words = Bytes::from_slice(alloc, first)?;
+    words.append(second)?;
+    Ok(words)
+}
+
+/// Two words of a cause on a line. `NoMemory` is out of memory.
+fn two_on_line(alloc: Global, line: u32, first: &[u8], second: &[u8]) -> Result<Refusal, NoMemory>
+    ensures { IfOk result (λ refusal. on_line line (first.now ++ second.now) ≡ Some refusal) }
+{
+    let words = joined(alloc, first, second)?;
+    Ok(Refusal {
+        line: Some(line),
+        words,
+    })
+}
+
+/// Two words of a cause on no line. `NoMemory` is out of memory.
+fn two_on_no_line(alloc: Global, first: &[u8], second: &[u8]) -> Result<Refusal, NoMemory>
+    ensures { IfOk result (λ refusal. on_no_line (first.now ++ second.now) ≡ Some refusal) }
+{
+    let words = joined(alloc, first, second)?;
+    Ok(Refusal { line: None, words })
+}
+
+/// Why a program is refused, by the first break of the first broken rule. `NoMemory` is out of
+/// memory.
+pub(crate) fn flat_refusal(alloc: Global, fault: &FlatFault) -> Result<Refusal, NoMemory>
+    ensures { IfOk result (λ refusal. flat_refusal fault.now ≡ Some refusal) }
+{
+    match fault {
+        FlatFault::Twice { line, name } => two_on_line(alloc, *line, name.as_slice(), b" twice"),
+        FlatFault::Unknown { line, name } => {
+            two_on_line(alloc, *line, name.as_slice(), b" unknown")
+        }
+        FlatFault::Mistyped { line } => on_line(alloc, *line, b"mistyped"),
+        FlatFault::Range { line } => on_line(alloc, *line, b"range"),
+        FlatFault::Arity { line } => on_line(alloc, *line, b"arity"),
+        FlatFault::Direction { line, node } => {
+            two_on_line(alloc, *line, b"direction ", node.as_slice())
+        }
+        FlatFault::Dangling { line, node } => {
+            two_on_line(alloc, *line, b"dangling ", node.as_slice())
+        }
+        FlatFault::NoMain => on_no_line(alloc, b"no main"),
+        FlatFault::TooMany => on_no_line(alloc, b"too many"),
+        FlatFault::Cycle { node } => two_on_no_line(alloc, b"cycle ", node.as_slice()),
+        FlatFault::NoMemory => Err(NoMemory),
     }
 }
 

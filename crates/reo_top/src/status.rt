@@ -6,7 +6,7 @@ pub struct Status {
     pub code: u8,
 }
 
-/// Each component is at its end, or the text was printed.
+/// Each component is at its end, or the other command did its work.
 pub(crate) const DONE: u8 = 0;
 
 /// Some component is not at its end, and nothing flowed in the last round.

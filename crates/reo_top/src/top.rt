@@ -5,6 +5,7 @@ ghost use Rattle.reo_top.specs.Headline.{Headline};
 ghost use Rattle.reo_top.specs.States.{files_change, sink_change};
 
 use crate::answer::answer;
+use crate::checking::check_circuit;
 use crate::command::{Command, command_of};
 use crate::printing::print_circuit;
 use crate::running::run_circuit;
@@ -55,6 +56,7 @@ pub fn reo<F: Files, R: Source, S: Sink>(
         Some(Command::Run) => {
             run_circuit(alloc, word_at(words, 1), word_at(words, 2), files, out)
         }
+        Some(Command::Check) => check_circuit(alloc, word_at(words, 1), files, out),
         Some(Command::Print) => print_circuit(alloc, word_at(words, 1), files, out),
         None => answer(b"words refused\n", WORDS_REFUSED, out),
     }

@@ -73,7 +73,31 @@ const CASES: &[Case] = &[
         status: 3,
         text: "read fault circuit\n",
     },
+    Case {
+        words: "check C",
+        circuit: ONE,
+        fetch: 0,
+        room: 99,
+        status: 0,
+        text: "0 writer a\n1 taker b\n2 sync a b\naccepted: 3 primitives, 2 joints\n",
+    },
+    Case {
+        words: "check C",
+        circuit: ONE,
+        fetch: 1,
+        room: 99,
+        status: 3,
+        text: "read fault circuit\n",
+    },
     // a sink that fails has got a front, and its failure is the status
+    Case {
+        words: "check C",
+        circuit: ONE,
+        fetch: 0,
+        room: 9,
+        status: 9,
+        text: "0 writer ",
+    },
     Case {
         words: "run C S",
         circuit: ONE,

@@ -1,0 +1,13 @@
+//! What is known of the declarations before a place.
+use crate::scope::Scope;
+use reo_rules_base::Names;
+use reo_values::List;
+
+/// The numbers of the declared types, the names of the connectors, and the numbers of the types
+/// of each connector's parameters.
+#[derive(Drop)]
+pub struct Known {
+    pub declared: Scope,
+    pub connectors: Names,
+    pub signatures: List<List<usize>>,
+}

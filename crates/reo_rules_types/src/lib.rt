@@ -1,0 +1,27 @@
+//! The static rules on types: items whose types do not fit, and types and items out of bounds.
+#![tactic(auto)]
+
+mod cell;
+mod channels;
+mod exprs;
+mod kinds;
+mod known;
+mod literals;
+mod mistyped;
+mod range;
+mod scope;
+mod scopes;
+mod shapes;
+mod trees;
+mod types;
+
+pub use cell::Cell;
+pub use exprs::expr_of_term;
+pub use kinds::kind_of_term;
+pub use literals::is_literal;
+pub use mistyped::judge_mistyped;
+pub use range::judge_range;
+pub use scope::Scope;
+pub use shapes::number_of;
+pub use trees::{is_deeper, tree_of};
+pub use types::Types;

@@ -1,0 +1,55 @@
+//! Types as trees, for programs that keep the bounds of types.
+ghost use Rattle.std.specs.Prelude.{◌≡◌, ◌<◌, length, slice_get, map, nat_lt, Some, IfOk};
+ghost use Rattle.reo_rules_base.specs.Types.{depth_of};
+ghost use Rattle.reo_rules_types.specs.Cells.{type_at};
+
+use crate::cell::Cell;
+use crate::types::Types;
+use reo_values::{Boxed, Bytes, Kindred, List, NoMemory, Twins};
+use std::alloc::Global;
+
+/// Whether pairs are nested more than so many deep in a type.
+pub fn is_deeper(types: &Types, number: usize, levels: usize) -> bool
+    requires { number < length types.now }
+    ensures { result ≡ nat_lt levels (depth_of (type_at types.now number)) }
+{
+    match types.cell(number) {
+        Cell::Pair(left, right) => {
+            if levels == 0 {
+                return true;
+            }
+            is_deeper(types, *left, levels - 1) || is_deeper(types, *right, levels - 1)
+        }
+        _ => false,
+    }
+}
+
+/// A copy of names. `NoMemory` means out of memory.
+pub(crate) fn names_of(alloc: Global, names: &[Vec<u8>]) -> Result<List<Bytes>, NoMemory>
+    ensures { IfOk result (λ made. made ≡ map (λ v. v.items) names.now) }
+{
+    let mut made = List::new(alloc);
+    for name in names {
+        made.push(Bytes::from_slice(alloc, name.as_slice())?)?;
+    }
+    Ok(made)
+}
+
+/// A type as a tree. `NoMemory` means out of memory.
+pub fn tree_of(alloc: Global, types: &Types, number: usize) -> Result<Kindred, NoMemory>
+    requires { number < length types.now }
+    ensures { IfOk result (λ made. made ≡ type_at types.now number) }
+{
+    match types.cell(number) {
+        Cell::Unit => Ok(Kindred::Unit),
+        Cell::Bool => Ok(Kindred::Bool),
+        Cell::Int(low, high) => Ok(Kindred::Int(*low, *high)),
+        Cell::Sym(names) => Ok(Kindred::Sym(names_of(alloc, names)?)),
+        Cell::Text(most) => Ok(Kindred::Text(*most)),
+        Cell::Pair(left, right) => {
+            let left = tree_of(alloc, types, *left)?;
+            let right = tree_of(alloc, types, *right)?;
+            Ok(Kindred::Pair(Boxed::new(alloc, Twins { left, right })?))
+        }
+    }
+}

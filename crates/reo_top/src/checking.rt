@@ -1,0 +1,56 @@
+//! The parts of a circuit that is fetched and read.
+ghost use Rattle.std.specs.Prelude.{◌≡◌, [], ◌∷◌, length};
+ghost use Rattle.reo_top.specs.declared.command.Command.TheVariants as commands;
+ghost use Rattle.reo_top.specs.declared.role.Role.TheVariants as roles;
+ghost use Rattle.reo_top.specs.Answers.{IsAnswered};
+ghost use Rattle.reo_top.specs.Cases.{Cases, IsExact, IsFair};
+ghost use Rattle.reo_top.specs.Checked.{named_by};
+ghost use Rattle.reo_top.specs.Commands.{is_free};
+ghost use Rattle.reo_top.specs.Owed.{ListsParts, owed_of};
+ghost use Rattle.reo_top.specs.States.{files_change, sink_change};
+ghost use Rattle.reo_top.specs.Statuses.{IsAmong, statuses_of};
+
+use crate::answer::{answer, no_memory};
+use crate::reading::read_flat;
+use crate::status::{DONE, Status};
+use crate::stop::refuse;
+use reo_flatten::Flat;
+use reo_io::{Files, Sink};
+use reo_parts::parts_text;
+use std::alloc::Global;
+
+/// Writes the parts of a circuit.
+fn write_parts<S: Sink>(alloc: Global, flat: &Flat, out: &mut S) -> Status
+    requires { length flat.now.homes ≡ length flat.now.circuit.joints }
+    ensures cases { Cases (ListsParts (named_by flat.now.circuit flat.now.nodes flat.now.homes))
+        (sink_change S.told S.faults out.old out.new) result.code }
+    ensures exact { IsExact (ListsParts (named_by flat.now.circuit flat.now.nodes flat.now.homes))
+        (sink_change S.told S.faults out.old out.new) result.code }
+    ensures fair { IsFair (sink_change S.told S.faults out.old out.new) result.code }
+{
+    let homes = flat.homes.as_slice();
+    match parts_text(alloc, &flat.circuit, homes, flat.nodes.as_slice()) {
+        Ok(text) => answer(text.as_slice(), DONE, out),
+        Err(_) => no_memory(out),
+    }
+}
+
+/// Fetches the circuit, reads it, and writes its parts.
+pub(crate) fn check_circuit<F: Files, S: Sink>(
+    alloc: Global,
+    name: &[u8],
+    files: &mut F,
+    out: &mut S,
+) -> Status
+    ensures answered { IsAnswered (is_free commands.Check) (owed_of commands.Check)
+        (roles.Circuit ∷ []) (name.now ∷ [])
+        (files_change F.told F.failed F.fetches files.old files.new)
+        (sink_change S.told S.faults out.old out.new) result.code }
+    ensures status { IsAmong (statuses_of commands.Check) result.code }
+    ensures fair { IsFair (sink_change S.told S.faults out.old out.new) result.code }
+{
+    match read_flat(alloc, name, files) {
+        Ok(flat) => write_parts(alloc, &flat, out),
+        Err(stop) => refuse(alloc, stop, out),
+    }
+}
