@@ -1,10 +1,9 @@
 -- A program as a text says it that keeps the rules fits.
-use Rattle.std.proofs.Common.{arith, ◌≡◌, ◌∙◌, ℕ, zero, suc, ◌+◌, ◌<◌, ◌≤◌, ◌||◌, List, [], ◌∷◌, ◌++◌, Bool, true, false, not, cond, length, map, take, get_or, find, Option, Some, None, nat_lt, bytes_eq, refl, sym, ap, subst}
-use Rattle.std.specs.Prelude.{slice_get, option_map, unwrap_or}
+use Rattle.std.proofs.Common.{arith, ◌≡◌, ◌∙◌, ℕ, zero, suc, ◌<◌, ◌||◌, List, [], ◌∷◌, ◌++◌, Bool, true, false, cond, length, take, get_or, find, Some, nat_lt, bytes_eq, refl, sym, ap, subst}
+use Rattle.std.specs.Prelude.{option_map, unwrap_or}
 use Rattle.std.specs.List.{All, flat_map}
 use Rattle.std.proofs.lemmas.Bool.{ltb-false}
 use Rattle.std.proofs.lemmas.Option.{slice_get_within, get_or_from_slice_get}
-use Rattle.reo_values.specs.declared.kindred.Kindred.{Kindred}
 use Rattle.reo_trees_laws.specs.Spelled.{IsSpelled, IsSpelledForm, IsSpelledConnector, IsSpelledDeclaration}
 use Rattle.reo_trees.specs.declared.types.Shape as shape
 use Rattle.reo_trees.specs.declared.types.Shape.{Shape}
@@ -12,10 +11,8 @@ use Rattle.reo_trees.specs.declared.types.TypeTerm.{TypeTerm}
 use Rattle.reo_trees.specs.declared.items.Item.{Item}
 use Rattle.reo_trees.specs.declared.items.Form.{Form}
 use Rattle.reo_trees.specs.declared.items.Form.TheVariants as forms
-use Rattle.reo_trees.specs.declared.items.Channel.{Channel}
 use Rattle.reo_trees.specs.declared.items.Channel.TheVariants as channels
 use Rattle.reo_trees.specs.declared.programs.Parameter.{Parameter}
-use Rattle.reo_trees.specs.declared.programs.Connector.{Connector}
 use Rattle.reo_trees.specs.declared.programs.Declaration.{Declaration}
 use Rattle.reo_trees.specs.declared.programs.Declaration.TheVariants as declarations
 use Rattle.reo_trees.specs.declared.programs.Program.{Program}
@@ -25,14 +22,11 @@ use Rattle.reo_rules_base.specs.declared.fault.FlatFault.TheVariants as faults
 use Rattle.reo_rules_base.specs.Lists.{each_after, where_true}
 use Rattle.reo_rules_base.specs.Types.{Typed, types_after, types_of, type_named, resolved, parts_of, depth_of}
 use Rattle.reo_rules_base.specs.Scopes.{scope_of}
-use Rattle.reo_rules_base.specs.Twice.{twice_among, twice_in_connector, twice_in, twice}
-use Rattle.reo_rules_base.specs.Unknown.{unknown}
-use Rattle.reo_rules_base.specs.Mistyped.{mistyped}
-use Rattle.reo_rules_base.specs.Ranges.{is_out, range_in_type, leaves, range_in_item, range_in_connector, range_in, out_of_range}
-use Rattle.reo_rules_base.specs.Rules.{rule_breaks}
+use Rattle.reo_rules_base.specs.Twice.{twice_among, twice_in, twice}
+use Rattle.reo_rules_base.specs.Ranges.{is_out, range_in_type, range_in_item, range_in_connector, range_in, out_of_range}
 use Rattle.reo_rules_base.specs.Scopes.{connector_names}
 use Rattle.reo_rules_base.proofs.AfterLemmas.{left_none, right_none, flat_map-append}
-use Rattle.reo_flatten_unfold.specs.Fits.{IsFew, ChannelFits, FormFits, IsFit, AreFit}
+use Rattle.reo_flatten_unfold.specs.Fits.{IsFew, FormFits, AreFit}
 use Rattle.reo_flatten_unfold.proofs.ListLemmas.{each_none, fails}
 use Rattle.reo_flatten_unfold.proofs.TypeLemmas.{few_pair}
 use Rattle.reo_flatten_unfold.proofs.GroundLemmas.{types_after-append}

@@ -1,6 +1,6 @@
 -- No break of the rules but that on cycles is a cycle.
-use Rattle.std.proofs.Common.{◌≡◌, ◌∙◌, ℕ, List, [], ◌∷◌, ◌++◌, Bool, true, false, cond, not, ◌==◌, ◌&&◌, ◌||◌, length, nat_lt, Some, None, inl, inr, refl, sym, ap, subst, bytes_eq}
-use Rattle.std.specs.List.{AllByRecursion, flat_map, list_any}
+use Rattle.std.proofs.Common.{◌≡◌, ℕ, List, [], ◌∷◌, ◌++◌, Bool, true, false, cond, Some, inl, inr, sym, subst}
+use Rattle.std.specs.List.{AllByRecursion, flat_map}
 use Rattle.reo_values.specs.declared.kindred.Kindred as kindred
 use Rattle.reo_values.specs.declared.kindred.Kindred.{Kindred}
 use Rattle.reo_trees.specs.declared.types.Shape as shape
@@ -22,13 +22,13 @@ use Rattle.reo_rules_base.specs.declared.fault.FlatFault.TheVariants as faults
 use Rattle.reo_rules_base.specs.Lists.{each_after, where_true, first_of, has_name}
 use Rattle.reo_rules_base.specs.Judged.{IsFirst}
 use Rattle.reo_rules_base.specs.Types.{Typed, parts_of, types_of, type_named, names_of}
-use Rattle.reo_rules_base.specs.Terms.{Symbol, symbols_in}
+use Rattle.reo_rules_base.specs.Terms.{symbols_in}
 use Rattle.reo_rules_base.specs.Scopes.{connectors_of, connector_names, parameter_names, node_names, type_names, scope_of}
 use Rattle.reo_rules_base.specs.Touches.{Touch, touches_in, touches_of}
-use Rattle.reo_rules_base.specs.Twice.{twice_among, twice_in_part, twice_in_type, twice_in_parameter, twice_in_item, twice_in_connector, twice_in, twice}
-use Rattle.reo_rules_base.specs.Unknown.{missing, unknown_in_part, unknown_in_type, lacking, unknown_symbol, unknown_in_term, unknown_in_channel, unknown_in_item, unknown_in_connector, unknown_in, unknown}
+use Rattle.reo_rules_base.specs.Twice.{twice_among, twice_in_part, twice_in_type, twice_in_parameter, twice_in_item, twice_in, twice}
+use Rattle.reo_rules_base.specs.Unknown.{missing, unknown_in_part, unknown_in_type, lacking, unknown_symbol, unknown_in_term, unknown_in_channel, unknown_in_item, unknown_in, unknown}
 use Rattle.reo_rules_base.specs.Mistyped.{mistyped_in, mistyped}
-use Rattle.reo_rules_base.specs.Ranges.{range_in_type, range_in_item, range_in_connector, range_in, out_of_range}
+use Rattle.reo_rules_base.specs.Ranges.{range_in_type, range_in_item, range_in, out_of_range}
 use Rattle.reo_rules_base.specs.Arity.{arity_in_item, arity_in, arity}
 use Rattle.reo_rules_base.specs.Direction.{direction_in_item, direction_in, direction}
 use Rattle.reo_rules_base.specs.Dangling.{dangling_parameter, dangling_in_item, dangling_in, dangling}

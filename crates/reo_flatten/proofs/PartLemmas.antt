@@ -1,5 +1,5 @@
 -- The parts of a flat circuit, by what a program unfolds to.
-use Rattle.std.proofs.Common.{arith, ◌≡◌, ◌∙◌, ℕ, ◌<◌, ◌≤◌, ◌^◌, List, [], ◌∷◌, ◌++◌, length, map, get_or, Result, Ok, Err, IsErr, IsErrAnd, MatchResult, refl, sym, ap, subst}
+use Rattle.std.proofs.Common.{arith, ◌≡◌, ◌∙◌, ℕ, ◌<◌, ◌≤◌, ◌^◌, List, [], ◌∷◌, ◌++◌, length, map, Result, Ok, Err, IsErr, IsErrAnd, MatchResult, refl, sym, ap, subst}
 use Rattle.std.specs.List.{All, flat_map}
 use Rattle.std.proofs.lemmas.List.{length-map}
 use Rattle.reo_kinds.specs.declared.kind.Kind.{Kind}
@@ -9,7 +9,6 @@ use Rattle.reo_rules_base.specs.declared.fault.FlatFault.{FlatFault}
 use Rattle.reo_rules_base.specs.Rules.{rule_breaks}
 use Rattle.reo_rules_base.proofs.AfterLemmas.{both_none}
 use Rattle.reo_flatten_base.specs.Unfolding.{Placed}
-use Rattle.reo_flatten_base.specs.Ends.{incoming, outgoing}
 use Rattle.reo_flatten_base.specs.Flat.{own_kinds, placed_of, nodes_of, primitives_of, joints_in}
 use Rattle.reo_flatten_base.specs.Sizes.{no_main, too_many}
 use Rattle.reo_flatten_base.specs.Refusals.{breaks, IsAccepted, IsRefused}

@@ -26,28 +26,39 @@ use reo_rules_base::FlatFault;
 use reo_trees::{Declaration, Program};
 use std::alloc::Global;
 
+/// The most uses to which a program may unfold.
+const MOST_USES: u32 = 65_536;
+
+/// How deep uses may be nested.
+const DEEPEST: u32 = 64;
+
+/// The most primitives of a circuit.
+const MOST_PRIMITIVES: usize = 4_096;
+
 /// Whether the connector of this number, which is `main`, has more than 65,536 uses, uses nested
 /// more than 64 deep, or more than 4,096 ports and channels. It is not unfolded for that.
 fn is_large(declarations: &[Declaration], ground: &Ground, number: usize) -> bool
     requires ground { IsGround declarations.now ground.now }
     requires main { position (bytes_eq (codes "main")) ground.now.connectors ≡ Some number }
-    ensures large { result ≡ true → is_too_many declarations.now (meaning_named (meanings_of declarations.now) (codes "main")) ≡ true }
-    ensures small { result ≡ false → let m = meaning_named (meanings_of declarations.now) (codes "main") in (m.uses ≤ 65536) × (m.depth ≤ 64) }
+    ensures large { result ≡ true → is_too_many declarations.now (meaning_named
+        (meanings_of declarations.now) (codes "main")) ≡ true }
+    ensures small { result ≡ false → let m = meaning_named (meanings_of declarations.now)
+        (codes "main") in (m.uses ≤ 65536) × (m.depth ≤ 64) }
 {
     counts_are_channels();
     let sizes = *ground.sizes.at(number);
-    if 65_536 < sizes.uses {
+    if MOST_USES < sizes.uses {
         return true;
     }
-    if 64 < sizes.depth {
+    if DEEPEST < sizes.depth {
         return true;
     }
     let main = connector_at(declarations, ground.stands.at(number).place);
     let ports = main.parameters.len();
-    if 4_096 < ports {
+    if MOST_PRIMITIVES < ports {
         return true;
     }
-    4_096 < ports + sizes.placed as usize
+    MOST_PRIMITIVES < ports + sizes.placed as usize
 }
 
 /// What the flat circuit of a program is made from that breaks no rule on its text, and whose
@@ -63,7 +74,8 @@ fn parts_of(
     requires ground { IsGround declarations.now ground.now }
     requires fit { AreFit declarations.now }
     requires main { position (bytes_eq (codes "main")) ground.now.connectors ≡ Some number }
-    requires small { let m = meaning_named (meanings_of declarations.now) (codes "main") in (m.uses ≤ 65536) × (m.depth ≤ 64) }
+    requires small { let m = meaning_named (meanings_of declarations.now) (codes "main") in
+        (m.uses ≤ 65536) × (m.depth ≤ 64) }
     ensures judged { IsJudged (too_many declarations.now) result }
     ensures parts { IfOk result (IsParts declarations.now) }
 {
@@ -79,7 +91,7 @@ fn parts_of(
     } = made;
     let first = kinds.len();
     all_own(&ends, &mut kinds)?;
-    if 4_096 < kinds.len() {
+    if MOST_PRIMITIVES < kinds.len() {
         return Err(FlatFault::TooMany);
     }
     let Wired { joints, homes } = all_joints(alloc, &ends, first)?;
@@ -102,7 +114,8 @@ pub fn flatten(alloc: Global, program: &Program) -> Result<Flat, FlatFault>
     requires spelled { IsSpelled program.now }
     requires names { All HasPlainNames (connectors_of program.now.declarations) }
     ensures exact { MatchResult result (λ flat. IsAccepted program.now) (IsRefused program.now) }
-    ensures circuit { IfOk result (λ flat. flat.circuit ≡ wiring_of_program program.now.declarations) }
+    ensures circuit { IfOk result (λ flat. flat.circuit
+        ≡ wiring_of_program program.now.declarations) }
     ensures ports { IfOk result (λ flat. flat.ports.list ≡ ports_of program.now.declarations) }
     ensures nodes { IfOk result (λ flat. flat.nodes ≡ nodes_of program.now.declarations) }
     ensures homes { IfOk result (λ flat. flat.homes ≡ homes_in program.now.declarations) }

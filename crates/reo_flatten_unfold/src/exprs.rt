@@ -36,7 +36,8 @@ pub(crate) fn expr_of(
     form: &TermForm,
 ) -> Result<Option<Expr>, NoMemory>
     requires { All HasFewNames types.now.kindreds }
-    ensures { (ts : List Typed) → AreTypes ts types.now → IfOk result (λ made. made ≡ expr_of (take known ts) form.now) }
+    ensures { (ts : List Typed) → AreTypes ts types.now → IfOk result (λ made. made ≡ expr_of
+        (take known ts) form.now) }
 {
     match form {
         TermForm::It => Ok(Some(Expr::It)),

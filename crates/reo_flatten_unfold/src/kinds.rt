@@ -30,7 +30,8 @@ fn node_type(
 ) -> Result<Kindred, NoMemory>
     requires few { All HasFewNames types.now.kindreds }
     requires shape { IfSome of (λ shape. IsFew shape.now) }
-    ensures is { (ts : List Typed) → AreTypes ts types.now → IfOk result (λ made. made ≡ shape_type (take known ts) (option_copied of.entry)) }
+    ensures is { (ts : List Typed) → AreTypes ts types.now → IfOk result (λ made. made
+        ≡ shape_type (take known ts) (option_copied of.entry)) }
     ensures few { IfOk result HasFewNames }
 {
     match of {
@@ -109,7 +110,8 @@ pub(crate) fn channel_kind(
     requires fits { ChannelFits channel.now }
     requires few { All HasFewNames types.now.kindreds }
     requires shape { IfSome of (λ shape. IsFew shape.now) }
-    ensures { (ts : List Typed) → AreTypes ts types.now → IfOk result (λ made. made ≡ channel_kind (take known ts) (shape_type (take known ts) (option_copied of.entry)) channel.now) }
+    ensures { (ts : List Typed) → AreTypes ts types.now → IfOk result (λ made. made ≡ channel_kind
+        (take known ts) (shape_type (take known ts) (option_copied of.entry)) channel.now) }
 {
     match channel {
         Channel::Sync => Ok(Kind::Sync),

@@ -1,8 +1,7 @@
 -- The ports, and then what the connector adds.
-use Rattle.std.proofs.Common.{arith, ◌≡◌, ◌∙◌, ◌<◌, ◌++◌, [], List, ℕ, length, map, get_or, position, bytes_eq, codes, sym, ap, subst}
+use Rattle.std.proofs.Common.{arith, ◌≡◌, ◌∙◌, ◌<◌, ◌++◌, [], length, map, get_or, position, bytes_eq, codes, sym, ap, subst}
 use Rattle.std.proofs.lemmas.List.{map-append, length-map}
 use Rattle.reo_net_base.specs.declared.port.Port.{Port}
-use Rattle.reo_trees.specs.declared.programs.Parameter.{Parameter}
 use Rattle.reo_rules_base.specs.Types.{types_of}
 use Rattle.reo_trees.specs.declared.programs.Connector.{Connector}
 use Rattle.reo_rules_base.specs.Scopes.{parameter_names, connector_names, connectors_of}

@@ -1,5 +1,5 @@
 -- Rule by rule.
-use Rattle.std.proofs.Common.{◌≡◌, ◌∙◌, ◌++◌, ◌∷◌, List, [], Some, sym, ap, subst}
+use Rattle.std.proofs.Common.{◌∙◌, ◌++◌, sym, ap, subst}
 use Rattle.reo_rules_base.specs.Lists.{first_of}
 use Rattle.reo_rules_base.specs.Rules.{rule_breaks}
 use Rattle.reo_rules_base.specs.Twice.{twice}

@@ -1,29 +1,28 @@
 -- By the sizes of `main`.
-use Rattle.std.proofs.Common.{arith, ◌≡◌, ◌∙◌, ◌<◌, ◌≤◌, ◌+◌, ℕ, List, true, false, length, get_or, position, bytes_eq, codes, sym, ap, subst}
-use Rattle.std.proofs.lemmas.Bool.{ltb-true, ltb-false}
+use Rattle.std.proofs.Common.{arith, ◌∙◌, ◌+◌, length, position, bytes_eq, codes, sym, ap, subst}
+use Rattle.std.proofs.lemmas.Bool.{ltb-true}
 use Rattle.reo_flatten_base.specs.Unfolding.{meaning_named, meanings_of}
-use Rattle.reo_flatten_base.specs.Flat.{placed_of, primitives_of}
 use Rattle.reo_flatten_unfold.specs.Ground.{IsStand, Stands}
 use Rattle.reo_flatten.proofs.MainLemmas.{main_parameters_are, main_within}
 use Rattle.reo_flatten.proofs.CountLemmas.{many_uses, many_deep, many_primitives, placed_within, placed_count, main_sizes}
 use Rattle.reo_flatten.proofs.whole.is_large.Goals as goal
 
-pub returns-then-sizes-gt65536-clause-large : goal.returns-then-sizes-gt65536-clause-large
-returns-then-sizes-gt65536-clause-large c is_so =
+pub returns-then-sizes-gt-MOST_USES-clause-large : goal.returns-then-sizes-gt-MOST_USES-clause-large
+returns-then-sizes-gt-MOST_USES-clause-large c is_so =
     let sizes = main_sizes c.args.declarations.now c.args.number c.args.ground.now.sizes c.args.ground.now.connectors c.at-sizes.result.now c.requires.ground.sizes c.requires.ground.names c.requires.main c.at-sizes.ensures in
     let uses = sizes.uses_is in
-    let large = c.if-sizes-gt65536.true in
+    let large = c.if-sizes-gt-MOST_USES.true in
     many_uses c.args.declarations.now (meaning_named (meanings_of c.args.declarations.now) (codes "main")) (omega arith)
 
-pub returns-then-sizes-gt64-clause-large : goal.returns-then-sizes-gt64-clause-large
-returns-then-sizes-gt64-clause-large c is_so =
+pub returns-then-sizes-gt-DEEPEST-clause-large : goal.returns-then-sizes-gt-DEEPEST-clause-large
+returns-then-sizes-gt-DEEPEST-clause-large c is_so =
     let sizes = main_sizes c.args.declarations.now c.args.number c.args.ground.now.sizes c.args.ground.now.connectors c.at-sizes.result.now c.requires.ground.sizes c.requires.ground.names c.requires.main c.at-sizes.ensures in
     let depth = sizes.depth_is in
-    let large = c.if-sizes-gt64.true in
+    let large = c.if-sizes-gt-DEEPEST.true in
     many_deep c.args.declarations.now (meaning_named (meanings_of c.args.declarations.now) (codes "main")) (omega arith)
 
-pub returns-then-ports-gt4096-clause-large : goal.returns-then-ports-gt4096-clause-large
-returns-then-ports-gt4096-clause-large c is_so =
+pub returns-then-ports-gt-MOST_PRIMITIVES-clause-large : goal.returns-then-ports-gt-MOST_PRIMITIVES-clause-large
+returns-then-ports-gt-MOST_PRIMITIVES-clause-large c is_so =
     let ds = c.args.declarations.now in
     let number = c.args.number in
     let at = ap (position (bytes_eq (codes "main"))) (sym c.requires.ground.names) ∙ c.requires.main in
@@ -35,7 +34,7 @@ returns-then-ports-gt4096-clause-large c is_so =
     let count = placed_count ds (c.counts_are_channels.ensures ds (codes "main")) in
     let all = placed_within ds in
     let given = c.len-ports.ensures in
-    let large = c.if-ports-gt4096.true in
+    let large = c.if-ports-gt-MOST_PRIMITIVES.true in
     many_primitives ds (meaning_named (meanings_of ds) (codes "main")) (omega arith)
 
 pub returns-clause-large : goal.returns-clause-large
@@ -61,6 +60,6 @@ returns-clause-small c small =
     let sizes = main_sizes c.args.declarations.now c.args.number c.args.ground.now.sizes c.args.ground.now.connectors c.at-sizes.result.now c.requires.ground.sizes c.requires.ground.names c.requires.main c.at-sizes.ensures in
     let uses = sizes.uses_is in
     let depth = sizes.depth_is in
-    let few = c.if-sizes-gt65536.false in
-    let low = c.if-sizes-gt64.false in
+    let few = c.if-sizes-gt-MOST_USES.false in
+    let low = c.if-sizes-gt-DEEPEST.false in
     (omega arith, omega arith)

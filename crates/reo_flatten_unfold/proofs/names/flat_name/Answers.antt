@@ -1,9 +1,7 @@
 -- By the number of the name.
-use Rattle.std.proofs.Common.{arith, ◌≡◌, ◌<◌, ◌≤◌, ◌∙◌, ◌++◌, sym, ap, subst, position, bytes_eq, length, get_or, IfOk, List, ℕ, Some, None, Option, inl, inr}
-use Rattle.reo_trees.specs.declared.programs.Parameter.{Parameter}
+use Rattle.std.proofs.Common.{arith, ◌≡◌, ◌∙◌, ◌++◌, sym, ap, subst, position, bytes_eq, get_or, IfOk, inl, inr}
 use Rattle.reo_rules_base.specs.Scopes.{parameter_names}
-use Rattle.reo_flatten_base.specs.Unfolding.{flat_name}
-use Rattle.reo_flatten_unfold.proofs.Positions.{before_first, place_is, place_none}
+use Rattle.reo_flatten_unfold.proofs.Positions.{place_is}
 use Rattle.reo_flatten_unfold.proofs.NameLemmas.{flat_at_parameter, flat_at_node, flat_nowhere}
 use Rattle.reo_flatten_unfold.proofs.names.flat_name.Goals as goal
 

@@ -1,5 +1,5 @@
 -- One channel more.
-use Rattle.std.proofs.Common.{◌≡◌, ◌∙◌, ◌++◌, ◌∷◌, [], sym, ap, subst, take}
+use Rattle.std.proofs.Common.{◌∙◌, ◌++◌, ◌∷◌, [], sym, ap, subst, take}
 use Rattle.std.specs.List.{All}
 use Rattle.reo_literals.specs.Items.{HasFewNames}
 use Rattle.std.specs.Option.{option_copied}

@@ -1,12 +1,12 @@
 -- Part by part.
-use Rattle.std.proofs.Common.{rules, ◌≡◌, ◌∙◌, ◌<◌, ◌&&◌, refl, sym, ap, subst, Some, IsSome}
+use Rattle.std.proofs.Common.{◌∙◌, ◌<◌, sym, ap, subst, Some}
 use Rattle.reo_values.specs.declared.value.Value.TheVariants as values
 use Rattle.reo_values.specs.declared.kindred.Kindred.TheVariants as kinds
 use Rattle.reo_trees.specs.declared.literals.Constant.TheVariants as constants
 use Rattle.reo_values.proofs.Pairs.{levels}
 use Rattle.reo_values.proofs.Again.{pair_deeper}
-use Rattle.reo_literals.specs.Items.{item_in, HasFewNames}
-use Rattle.reo_literals.proofs.ItemLemmas.{both, item_in-Pair, item_in_Pair-other, both-parts, both-made, few_parts, parts_in}
+use Rattle.reo_literals.specs.Items.{item_in}
+use Rattle.reo_literals.proofs.ItemLemmas.{item_in-Pair, item_in_Pair-other, both-made, few_parts, parts_in}
 use Rattle.reo_literals.proofs.items.+made_in.Goals as goal
 
 pub made_in-requires : goal.made_in-requires

@@ -1,5 +1,5 @@
 -- By the number of the name.
-use Rattle.std.proofs.Common.{arith, ◌≡◌, ◌∙◌, ◌<◌, ◌++◌, ◌∷◌, [], sym, ap, position, bytes_eq, length, true, false}
+use Rattle.std.proofs.Common.{arith, ◌∙◌, ◌<◌, ◌++◌, ◌∷◌, [], sym, ap, position, bytes_eq, length, true, false}
 use Rattle.std.proofs.lemmas.List.{get_or_default}
 use Rattle.reo_rules_base.specs.Touches.{bool_eq}
 use Rattle.reo_flatten.proofs.EndLemmas.{is_named, grows_at, grows_other, grows_nowhere}

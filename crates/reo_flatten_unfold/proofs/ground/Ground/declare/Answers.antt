@@ -1,8 +1,6 @@
 -- By the declaration.
-use Rattle.std.proofs.Common.{arith, ◌≡◌, ◌∙◌, ◌++◌, ◌∷◌, [], ◌+◌, List, length, take, get_or, false, refl, sym, ap, subst}
+use Rattle.std.proofs.Common.{arith, ◌≡◌, ◌∙◌, ◌++◌, ◌∷◌, [], length, take, refl, sym, ap, subst}
 use Rattle.std.proofs.lemmas.List.{length-take-le, length-map}
-use Rattle.reo_trees.specs.declared.programs.Declaration.{Declaration}
-use Rattle.reo_trees.specs.declared.programs.Declaration.TheVariants as declarations
 use Rattle.reo_rules_base.specs.Lists.{has_name}
 use Rattle.reo_rules_base.specs.Types.{types_of}
 use Rattle.reo_rules_base.specs.Twice.{twice_in}
