@@ -96,7 +96,7 @@ fn misfits(
 
 /// Whether a channel between nodes of two types does not fit them. All types keep their numbers.
 /// `NoMemory` means out of memory.
-pub fn channel_mistyped(
+pub(crate) fn channel_mistyped(
     alloc: Global,
     types: &mut Types,
     declared: &Scope,
@@ -121,7 +121,12 @@ pub fn channel_mistyped(
 
 /// Whether some argument has another type than the parameter of its place, by the numbers of the
 /// parameters' types.
-pub fn use_mistyped(types: &Types, scope: &Scope, arguments: &[Bytes], numbers: &[usize]) -> bool
+pub(crate) fn use_mistyped(
+    types: &Types,
+    scope: &Scope,
+    arguments: &[Bytes],
+    numbers: &[usize],
+) -> bool
     requires { AreKnown types.now scope.now }
     ensures { (kinds : List AType) → AreOf types.now numbers.now kinds → result ≡ list_any (λ (q : List ℕ × AType). not (is_same (type_named (typed types.now scope.now) q.0) q.1)) (zip arguments.now kinds) }
 {

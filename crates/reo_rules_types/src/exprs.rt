@@ -90,7 +90,7 @@ fn two_of(
 /// type. `NoMemory` means out of memory, or a symbol whose place is above 65,535, which no program
 /// has that keeps the bounds of types.
 #[cycle(resolving)]
-pub fn expr_of_term(
+pub(crate) fn expr_of_term(
     alloc: Global,
     types: &Types,
     declared: &Scope,

@@ -180,7 +180,7 @@ fn symbol_kind(types: &Types, declared: &Scope, name: &Bytes, symbol: &Bytes) ->
 /// The kind of a written expression where `it` has a type, or None exactly where it has none: a
 /// part is of a kind that does not fit where it stands, or some `T.s` is no symbol of a sym type.
 /// All types keep their numbers. `NoMemory` means out of memory.
-pub fn kind_of_term(
+pub(crate) fn kind_of_term(
     alloc: Global,
     types: &mut Types,
     declared: &Scope,

@@ -6,8 +6,8 @@ use reo_values::List;
 /// The numbers of the declared types, the names of the connectors, and the numbers of the types
 /// of each connector's parameters.
 #[derive(Drop)]
-pub struct Known {
-    pub declared: Scope,
-    pub connectors: Names,
-    pub signatures: List<List<usize>>,
+pub(crate) struct Known {
+    pub(crate) declared: Scope,
+    pub(crate) connectors: Names,
+    pub(crate) signatures: List<List<usize>>,
 }

@@ -15,13 +15,5 @@ mod shapes;
 mod trees;
 mod types;
 
-pub use cell::Cell;
-pub use exprs::expr_of_term;
-pub use kinds::kind_of_term;
-pub use literals::is_literal;
 pub use mistyped::judge_mistyped;
 pub use range::judge_range;
-pub use scope::Scope;
-pub use shapes::number_of;
-pub use trees::{is_deeper, tree_of};
-pub use types::Types;

@@ -26,7 +26,7 @@ fn is_text_of(bytes: &[u8], most: u16) -> bool
 }
 
 /// Whether a literal is an item of a type.
-pub fn is_literal(types: &Types, number: usize, constant: &Constant) -> bool
+pub(crate) fn is_literal(types: &Types, number: usize, constant: &Constant) -> bool
     requires { number < length types.now }
     ensures { result ≡ is_literal (type_at types.now number) constant.now }
 {
@@ -46,7 +46,7 @@ pub fn is_literal(types: &Types, number: usize, constant: &Constant) -> bool
 }
 
 /// Whether some literal is no item of a type.
-pub fn some_misfits(types: &Types, number: usize, literals: &[Literal]) -> bool
+pub(crate) fn some_misfits(types: &Types, number: usize, literals: &[Literal]) -> bool
     requires { number < length types.now }
     ensures { result ≡ list_any (λ (l : ALiteral). is_none (item_of (type_at types.now number) l)) literals.now }
 {

@@ -107,6 +107,15 @@ fn lies_outside(
     }
 }
 
+// Whether an expression has no type, over items of a type.
+fn filter_untyped(alloc: Global, types: &Types, expr: &Expr, of: usize) -> Result<bool, NoMemory>
+    requires { of < length types.now }
+    ensures { IfOk result (λ r. r ≡ is_none (type_of_expr expr.now (type_at types.now of))) }
+{
+    let of = tree_of(alloc, types, of)?;
+    is_untyped(alloc, expr, &of)
+}
+
 fn filter_leaves(
     alloc: Global,
     types: &Types,
@@ -118,11 +127,41 @@ fn filter_leaves(
     requires of { of < length types.now }
     ensures { IfOk result (λ r. r ≡ leaves_by_filter (type_at types.now of) (expr_of (typed types.now declared.now) form.now)) }
 {
-    let of = tree_of(alloc, types, of)?;
     match expr_of_term(alloc, types, declared, form)? {
-        Some(expr) => is_untyped(alloc, &expr, &of),
+        Some(expr) => filter_untyped(alloc, types, &expr, of),
         None => Ok(false),
     }
+}
+
+// Whether an expression over items of a type has no type, or one that does not lie inside another.
+fn map_outside(
+    alloc: Global,
+    types: &Types,
+    expr: &Expr,
+    of: usize,
+    target: &Kindred,
+) -> Result<bool, NoMemory>
+    requires { of < length types.now }
+    ensures { IfOk result (λ r. r ≡ not (lies_in target.now (type_of_expr expr.now (type_at types.now of)))) }
+{
+    let of = tree_of(alloc, types, of)?;
+    lies_outside(alloc, expr, &of, target)
+}
+
+// The same, by the number of the other type.
+fn map_misses(
+    alloc: Global,
+    types: &Types,
+    expr: &Expr,
+    of: usize,
+    target: usize,
+) -> Result<bool, NoMemory>
+    requires of { of < length types.now }
+    requires target { target < length types.now }
+    ensures { IfOk result (λ r. r ≡ not (lies_in (type_at types.now target) (type_of_expr expr.now (type_at types.now of)))) }
+{
+    let target = tree_of(alloc, types, target)?;
+    map_outside(alloc, types, expr, of, &target)
 }
 
 fn map_leaves(
@@ -138,10 +177,8 @@ fn map_leaves(
     requires target { target < length types.now }
     ensures { IfOk result (λ r. r ≡ leaves_by_map (type_at types.now of) (type_at types.now target) (expr_of (typed types.now declared.now) form.now)) }
 {
-    let of = tree_of(alloc, types, of)?;
-    let target = tree_of(alloc, types, target)?;
     match expr_of_term(alloc, types, declared, form)? {
-        Some(expr) => lies_outside(alloc, &expr, &of, &target),
+        Some(expr) => map_misses(alloc, types, &expr, of, target),
         None => Ok(false),
     }
 }

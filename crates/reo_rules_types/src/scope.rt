@@ -11,7 +11,7 @@ use std::marker::Model;
 
 /// Names, each with a number. A name that is not there has the number 0.
 #[derive(Drop)]
-pub struct Scope {
+pub(crate) struct Scope {
     numbers: IndexMap<Vec<u8>, usize>,
 }
 
@@ -25,7 +25,7 @@ impl Model for Scope {
 
 impl Scope {
     /// No names.
-    pub fn new(alloc: Global) -> Self
+    pub(crate) fn new(alloc: Global) -> Self
         ensures { result ≡ [] }
     {
         Scope {
@@ -34,7 +34,7 @@ impl Scope {
     }
 
     /// The number of a name.
-    pub fn find(&self, name: &[u8]) -> usize
+    pub(crate) fn find(&self, name: &[u8]) -> usize
         ensures { result ≡ number_named self.now name.now }
     {
         match self.numbers.get(name) {
@@ -44,7 +44,7 @@ impl Scope {
     }
 
     /// Adds a name that is not there. `NoMemory` means out of memory.
-    pub fn add(&mut self, alloc: Global, name: &[u8], number: usize) -> Result<(), NoMemory>
+    pub(crate) fn add(&mut self, alloc: Global, name: &[u8], number: usize) -> Result<(), NoMemory>
         requires { has_name (keys_of self.old) name.now ≡ false }
         ensures { OnOk result (self.new ≡ self.old ++ (name.now, number) ∷ []) }
     {

@@ -13,7 +13,7 @@ use std::alloc::Global;
 
 /// The number of a written type by the declared types, which is added where it is not there. All
 /// other types keep their numbers. `NoMemory` means out of memory.
-pub fn number_of(
+pub(crate) fn number_of(
     alloc: Global,
     types: &mut Types,
     declared: &Scope,

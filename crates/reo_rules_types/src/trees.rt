@@ -9,7 +9,7 @@ use reo_values::{Boxed, Bytes, Kindred, List, NoMemory, Twins};
 use std::alloc::Global;
 
 /// Whether pairs are nested more than so many deep in a type.
-pub fn is_deeper(types: &Types, number: usize, levels: usize) -> bool
+pub(crate) fn is_deeper(types: &Types, number: usize, levels: usize) -> bool
     requires { number < length types.now }
     ensures { result ≡ nat_lt levels (depth_of (type_at types.now number)) }
 {
@@ -36,7 +36,7 @@ pub(crate) fn names_of(alloc: Global, names: &[Vec<u8>]) -> Result<List<Bytes>, 
 }
 
 /// A type as a tree. `NoMemory` means out of memory.
-pub fn tree_of(alloc: Global, types: &Types, number: usize) -> Result<Kindred, NoMemory>
+pub(crate) fn tree_of(alloc: Global, types: &Types, number: usize) -> Result<Kindred, NoMemory>
     requires { number < length types.now }
     ensures { IfOk result (λ made. made ≡ type_at types.now number) }
 {

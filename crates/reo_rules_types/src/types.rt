@@ -22,7 +22,7 @@ pub(crate) struct Facts {
 
 /// Types, each once: two are the same exactly where their numbers are equal.
 #[derive(Drop)]
-pub struct Types {
+pub(crate) struct Types {
     map: IndexMap<Cell, Facts>,
 }
 
@@ -76,7 +76,7 @@ fn symbols_of(alloc: Global, cell: &Cell) -> Result<Names, NoMemory>
 
 impl Types {
     /// The type `unit`, with the number 0. `NoMemory` means out of memory.
-    pub fn new(alloc: Global) -> Result<Self, NoMemory>
+    pub(crate) fn new(alloc: Global) -> Result<Self, NoMemory>
         ensures { IfOk result (λ types. slice_get types 0 ≡ Some AType.Unit) }
     {
         let mut types = Types {
@@ -125,7 +125,7 @@ impl Types {
 
     /// The number of the type of a cell, which is added where it is not there. All others keep
     /// theirs. `NoMemory` means out of memory.
-    pub fn put(&mut self, alloc: Global, cell: Cell) -> Result<usize, NoMemory>
+    pub(crate) fn put(&mut self, alloc: Global, cell: Cell) -> Result<usize, NoMemory>
         requires { Fits (length self.old) cell }
         ensures keeps { OnOk result (Keeps self.old self.new) }
         ensures number { IfOk result (λ n. slice_get self.new n ≡ Some (kindred_of self.old cell)) }
@@ -140,7 +140,7 @@ impl Types {
     }
 
     /// The number of the type of these names. `NoMemory` means out of memory.
-    pub fn put_names(&mut self, alloc: Global, names: &[Bytes]) -> Result<usize, NoMemory>
+    pub(crate) fn put_names(&mut self, alloc: Global, names: &[Bytes]) -> Result<usize, NoMemory>
         ensures keeps { OnOk result (Keeps self.old self.new) }
         ensures number { IfOk result (λ n. slice_get self.new n ≡ Some (AType.Sym names.now)) }
     {
@@ -149,7 +149,7 @@ impl Types {
     }
 
     /// The cell of a type.
-    pub fn cell(&self, number: usize) -> &Cell
+    pub(crate) fn cell(&self, number: usize) -> &Cell
         requires { number < length self.now }
         ensures fits { Fits number result.now }
         ensures is { slice_get self.now number ≡ Some (kindred_of self.now result.now) }
@@ -161,7 +161,7 @@ impl Types {
     }
 
     /// The number of a type's kind.
-    pub fn kind(&self, number: usize) -> usize
+    pub(crate) fn kind(&self, number: usize) -> usize
         requires { number < length self.now }
         ensures { slice_get self.now result ≡ Some (kind_of (type_at self.now number)) }
     {
@@ -172,7 +172,7 @@ impl Types {
     }
 
     /// Whether the type has this symbol.
-    pub fn has_symbol(&self, number: usize, name: &[u8]) -> bool
+    pub(crate) fn has_symbol(&self, number: usize, name: &[u8]) -> bool
         requires { number < length self.now }
         ensures { result ≡ is_symbol (type_at self.now number) name.now }
     {
@@ -183,7 +183,7 @@ impl Types {
     }
 
     /// Whether two numbers are those of one type, where both are numbers of types.
-    pub fn alike(&self, a: usize, b: usize) -> bool
+    pub(crate) fn alike(&self, a: usize, b: usize) -> bool
         ensures { (k l : AType) → slice_get self.now a ≡ Some k → slice_get self.now b ≡ Some l → result ≡ is_same k l }
     {
         let _map = &self.map;
@@ -191,7 +191,7 @@ impl Types {
     }
 
     /// Whether two types are the same.
-    pub fn same(&self, a: usize, b: usize) -> bool
+    pub(crate) fn same(&self, a: usize, b: usize) -> bool
         requires a { a < length self.now }
         requires b { b < length self.now }
         ensures { result ≡ is_same (type_at self.now a) (type_at self.now b) }
