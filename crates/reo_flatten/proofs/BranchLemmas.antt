@@ -1,5 +1,5 @@
 -- Branches by their count.
-use Rattle.std.proofs.Common.{arith, ◌≡◌, ◌∙◌, ℕ, ◌≤◌, Bool, true, false, nat_le, refl, sym, ap}
+use Rattle.std.proofs.Common.{arith, ◌≡◌, ◌∙◌, ℕ, ◌≤◌, Bool, true, false, nat_le, refl, ap}
 use Rattle.std.proofs.Math.Bridge.{le_prop}
 use Rattle.std.proofs.lemmas.Bool.{leb-true, leb-false}
 use Rattle.reo_kinds.specs.declared.kind.Kind.{Kind}

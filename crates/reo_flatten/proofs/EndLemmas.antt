@@ -1,5 +1,5 @@
 -- Ends at nodes, one after another.
-use Rattle.std.proofs.Common.{arith, ◌≡◌, ◌≢◌, ◌∙◌, ℕ, zero, suc, ◌+◌, ◌<◌, ◌≤◌, ◌&&◌, ◌||◌, not, inl, inr, List, [], ◌∷◌, ◌++◌, length, take, get_or, set, Bool, true, false, Some, None, position, bytes_eq, cond, refl, sym, ap, subst}
+use Rattle.std.proofs.Common.{arith, ◌≡◌, ◌≢◌, ◌∙◌, ℕ, zero, suc, ◌+◌, ◌<◌, ◌≤◌, ◌&&◌, ◌||◌, not, inl, inr, List, [], ◌∷◌, ◌++◌, length, take, get_or, set, Bool, true, false, Some, None, position, bytes_eq, cond, refl, sym, ap}
 use Rattle.std.proofs.lemmas.List.{append-nil, append_assoc, length-take-le, length-set, get_or-set_other, get_or_default}
 use Rattle.std.proofs.lemmas.Grind.{get_or-set_at}
 use Rattle.std.proofs.lemmas.Bool.Decides.{eqb_tells}
@@ -77,14 +77,16 @@ module _ (names : List (List ℕ)) (name : List ℕ) (distinct : AreDistinct nam
   pub grows_at : (number : ℕ) (takes way : Bool) (e : End) (old : List (List End)) (es : List End) → position (bytes_eq name) names ≡ Some number → length old ≡ length names → bool_eq takes way ≡ true → es ≡ get_or old number es ++ e ∷ [] → Grows names (one_at name takes e way) old (set old number es)
   grows_at number takes way e old es at even is made =
       let found = is_named number at in
-      let within_old : number < length old = omega arith in
-      (length-set old number es, λ n d within. elim (eqb_tells n number) [
-          inl same ↦
-            get_or-set_at old number n es d same.1 within_old ∙ made
-            ∙ (λ k. (get_or_default old number es d within_old ∙ ap (λ j. get_or old j d) (sym same.1)) k ++ sym (here n same.1) k)
-        | inr differs ↦
-            get_or-set_other old number n es d differs.1 ∙ sym (ap (λ xs. get_or old n d ++ xs) (there n within differs.1) ∙ append-nil (get_or old n d))
-        ]) where
+      let within_old : number < length old = omega arith in (
+        length-set old number es,
+        λ n d within. elim (eqb_tells n number) [
+          | inl same ↦
+              get_or-set_at old number n es d same.1 within_old ∙ made
+              ∙ (λ k. (get_or_default old number es d within_old ∙ ap (λ j. get_or old j d) (sym same.1)) k ++ sym (here n same.1) k)
+          | inr differs ↦
+              get_or-set_other old number n es d differs.1 ∙ sym (ap (λ xs. get_or old n d ++ xs) (there n within differs.1) ∙ append-nil (get_or old n d))
+        ],
+      ) where
         here : (n : ℕ) → n ≡ number → one_at name takes e way (name_at names n) ≡ e ∷ []
         here n same =
             let found = is_named number at in
@@ -168,6 +170,6 @@ pub new_name : (nodes : List (List ℕ)) (i : ℕ) (node : List ℕ) → AreDist
 new_name nodes i node distinct within is =
     let long : length (take i nodes) ≡ i = length-take-le i nodes (omega arith) in
     no_such (take i nodes) node (λ k below same.
-      let before : k < i = omega arith in
-      let twice = distinct k i (omega arith) within (sym (in_front nodes i k [] before) ∙ sym same ∙ is ∙ get_or_default nodes i node [] within) in
-      absurd (omega arith))
+    let before : k < i = omega arith in
+    let twice = distinct k i (omega arith) within (sym (in_front nodes i k [] before) ∙ sym same ∙ is ∙ get_or_default nodes i node [] within) in
+    absurd (omega arith))

@@ -1,9 +1,8 @@
 -- Joints made one after another.
-use Rattle.std.proofs.Common.{arith, ◌≡◌, ◌∙◌, ℕ, ◌+◌, ◌<◌, ◌≤◌, List, [], ◌∷◌, ◌++◌, length, take, get_or, refl, sym, ap}
-use Rattle.std.proofs.lemmas.List.{take_more, append_assoc, length-take-le}
+use Rattle.std.proofs.Common.{arith, ◌≡◌, ◌∙◌, ℕ, ◌+◌, ◌<◌, List, [], ◌∷◌, ◌++◌, length, take, get_or, refl, sym, ap}
+use Rattle.std.proofs.lemmas.List.{take_more, length-take-le}
 use Rattle.std.proofs.lemmas.List.FromFn.{length-map-range_with_len, map-range_with_len_more}
 use Rattle.reo_net_base.specs.declared.joint.End.{End}
-use Rattle.reo_net_base.specs.declared.joint.Joint.{Joint}
 use Rattle.reo_net_base.specs.Net.{end_of}
 use Rattle.reo_flatten_base.specs.Joints.{ends_of, pairs}
 

@@ -4,3 +4,6 @@ pub mod EndLemmas
 pub mod WiringLemmas
 pub mod MainLemmas
 pub mod NoCycles
+pub mod CountLemmas
+pub mod FitLemmas
+pub mod PartLemmas

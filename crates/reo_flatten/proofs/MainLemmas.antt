@@ -1,9 +1,8 @@
 -- The connector that is unfolded.
-use Rattle.std.proofs.Common.{arith, ◌≡◌, ◌∙◌, ℕ, ◌-◌, ◌≤◌, List, [], ◌∷◌, ◌++◌, Bool, length, map, take, drop, suc, get_or, Option, Some, find, position, bytes_eq, codes, refl, sym, ap}
+use Rattle.std.proofs.Common.{arith, ◌≡◌, ◌∙◌, ℕ, ◌-◌, ◌<◌, List, [], ◌∷◌, ◌++◌, Bool, length, map, take, drop, suc, get_or, Option, Some, None, is_none, position, bytes_eq, codes, refl, sym, ap}
 use Rattle.std.specs.Prelude.{slice_get, unwrap_or}
 use Rattle.std.specs.Option.{option_map_or}
 use Rattle.std.proofs.lemmas.Option.{unwrap_or-slice_get}
-use Rattle.reo_trees.specs.declared.programs.Parameter.{Parameter}
 use Rattle.reo_trees.specs.declared.programs.Connector.{Connector}
 use Rattle.reo_trees.specs.declared.programs.Declaration.{Declaration}
 use Rattle.reo_trees.specs.declared.programs.Declaration.TheVariants as declarations
@@ -11,16 +10,30 @@ use Rattle.reo_rules_base.specs.Scopes.{connectors_in, connectors_of, connector_
 use Rattle.reo_rules_base.proofs.AfterLemmas.{flat_map-append}
 use Rattle.reo_rules_base.proofs.Mapped.{position-map}
 use Rattle.reo_flatten_base.specs.Unfolding.{Meaning, no_meaning, meaning_named, meanings_of}
+use Rattle.reo_rules_base.specs.declared.fault.FlatFault.TheVariants as faults
+use Rattle.reo_rules_base.specs.Lists.{where_true}
 use Rattle.reo_flatten_base.specs.Flat.{main_of, main_parameters}
+use Rattle.reo_flatten_base.specs.Sizes.{no_main}
 use Rattle.reo_flatten_unfold.specs.declared.ground.Stand.{Stand}
-use Rattle.reo_flatten_unfold.specs.Ground.{IsStand}
+use Rattle.reo_flatten_unfold.specs.Ground.{IsStand, IsGround}
+use Rattle.reo_flatten_unfold.specs.declared.ground.Ground.{Ground}
+use Rattle.std.proofs.lemmas.List.{length-map}
 use Rattle.reo_flatten_unfold.proofs.ListLemmas.{slice_get-right}
-use Rattle.reo_flatten_unfold.proofs.Positions.{found_at}
+use Rattle.reo_flatten_unfold.proofs.Positions.{found_at, found_within, found_nowhere}
 use Rattle.reo_flatten_unfold.proofs.GroundLemmas.{cut_at, names_of-meanings}
 
 pub map_map : {X Y Z : Type 0} (g : Y → Z) (f : X → Y) (xs : List X) → map g (map f xs) ≡ map (λ x. g (f x)) xs
 map_map g f [] = refl
 map_map g f (x ∷ xs) = ap (λ zs. g (f x) ∷ zs) (map_map g f xs)
+
+-- It has a stand.
+pub main_within : (ds : List Declaration) (g : Ground) (number : ℕ) → IsGround ds g → position (bytes_eq (codes "main")) g.connectors ≡ Some number → number < length g.stands
+main_within ds g number is at =
+    let found = found_within (bytes_eq (codes "main")) g.connectors number at in
+    let names = ap length is.names in
+    let many = length-map (connectors_of ds) (λ (k : Connector). k.name) in
+    let even = is.one_each in
+    omega arith
 
 module _ (ds : List Declaration) (number : ℕ) (at : position (bytes_eq (codes "main")) (connector_names ds) ≡ Some number) where
   -- What it means.
@@ -48,3 +61,19 @@ module _ (ds : List Declaration) (number : ℕ) (at : position (bytes_eq (codes 
 
   pub main_parameters_are : (c : Connector) (s : Stand) → IsStand ds number c s → main_parameters ds ≡ c.parameters
   main_parameters_are c s stand = ap (λ (found : Option Connector). option_map_or (λ (c : Connector). c.parameters) found []) (main_is c s stand)
+
+-- There is none, where no connector has the name.
+pub main_nowhere : (ds : List Declaration) → position (bytes_eq (codes "main")) (connector_names ds) ≡ None → main_of ds ≡ None
+main_nowhere ds none =
+    let p : Connector → Bool = λ c. bytes_eq (codes "main") c.name in
+    found_nowhere p (connectors_of ds) (sym (position-map (λ (c : Connector). c.name) (bytes_eq (codes "main")) (connectors_of ds)) ∙ none)
+
+pub main_there : (ds : List Declaration) (g : Ground) (number : ℕ) → IsGround ds g → position (bytes_eq (codes "main")) g.connectors ≡ Some number → no_main ds ≡ []
+main_there ds g number is at =
+    let none : Stand = record { place = 0; types = 0 } in
+    let stand = is.stands number none (main_within ds g number is at) in
+    ap (λ found. where_true (is_none found) faults.NoMain) (main_is ds number (ap (position (bytes_eq (codes "main"))) (sym is.names) ∙ at) stand.connector _ stand.is)
+
+pub main_missing : (ds : List Declaration) (g : Ground) → IsGround ds g → position (bytes_eq (codes "main")) g.connectors ≡ None → no_main ds ≡ faults.NoMain ∷ []
+main_missing ds g is none =
+    ap (λ found. where_true (is_none found) faults.NoMain) (main_nowhere ds (ap (position (bytes_eq (codes "main"))) (sym is.names) ∙ none))

@@ -1,6 +1,6 @@
 -- No break of the rules but that on cycles is a cycle.
-use Rattle.std.proofs.Common.{◌≡◌, ◌∙◌, ℕ, List, [], ◌∷◌, ◌++◌, Bool, true, false, cond, not, ◌==◌, ◌&&◌, ◌||◌, length, nat_lt, Some, None, inl, inr, refl, sym, ap, subst, bytes_eq}
-use Rattle.std.specs.List.{AllByRecursion, flat_map, list_any}
+use Rattle.std.proofs.Common.{◌≡◌, ℕ, List, [], ◌∷◌, ◌++◌, Bool, true, false, cond, Some, inl, inr, sym, subst}
+use Rattle.std.specs.List.{AllByRecursion, flat_map}
 use Rattle.reo_values.specs.declared.kindred.Kindred as kindred
 use Rattle.reo_values.specs.declared.kindred.Kindred.{Kindred}
 use Rattle.reo_trees.specs.declared.types.Shape as shape
@@ -22,13 +22,13 @@ use Rattle.reo_rules_base.specs.declared.fault.FlatFault.TheVariants as faults
 use Rattle.reo_rules_base.specs.Lists.{each_after, where_true, first_of, has_name}
 use Rattle.reo_rules_base.specs.Judged.{IsFirst}
 use Rattle.reo_rules_base.specs.Types.{Typed, parts_of, types_of, type_named, names_of}
-use Rattle.reo_rules_base.specs.Terms.{Symbol, symbols_in}
+use Rattle.reo_rules_base.specs.Terms.{symbols_in}
 use Rattle.reo_rules_base.specs.Scopes.{connectors_of, connector_names, parameter_names, node_names, type_names, scope_of}
 use Rattle.reo_rules_base.specs.Touches.{Touch, touches_in, touches_of}
-use Rattle.reo_rules_base.specs.Twice.{twice_among, twice_in_part, twice_in_type, twice_in_parameter, twice_in_item, twice_in_connector, twice_in, twice}
-use Rattle.reo_rules_base.specs.Unknown.{missing, unknown_in_part, unknown_in_type, lacking, unknown_symbol, unknown_in_term, unknown_in_channel, unknown_in_item, unknown_in_connector, unknown_in, unknown}
+use Rattle.reo_rules_base.specs.Twice.{twice_among, twice_in_part, twice_in_type, twice_in_parameter, twice_in_item, twice_in, twice}
+use Rattle.reo_rules_base.specs.Unknown.{missing, unknown_in_part, unknown_in_type, lacking, unknown_symbol, unknown_in_term, unknown_in_channel, unknown_in_item, unknown_in, unknown}
 use Rattle.reo_rules_base.specs.Mistyped.{mistyped_in, mistyped}
-use Rattle.reo_rules_base.specs.Ranges.{range_in_type, range_in_item, range_in_connector, range_in, out_of_range}
+use Rattle.reo_rules_base.specs.Ranges.{range_in_type, range_in_item, range_in, out_of_range}
 use Rattle.reo_rules_base.specs.Arity.{arity_in_item, arity_in, arity}
 use Rattle.reo_rules_base.specs.Direction.{direction_in_item, direction_in, direction}
 use Rattle.reo_rules_base.specs.Dangling.{dangling_parameter, dangling_in_item, dangling_in, dangling}
@@ -81,8 +81,8 @@ twice_each before (declarations.Named line name term) = both (twice_among (type_
 twice_each before (declarations.Made c) =
     both (twice_among (connector_names before) c.line c.name) _ (all_where _ _ tt)
     (both (each_after twice_in_parameter [] c.parameters) _
-      (all_each twice_in_parameter (λ b p. both (twice_among (parameter_names b) p.line p.name) _ (all_where _ _ tt) (twice_type p.term)) [] c.parameters)
-      (all_each (λ b (i : Item). twice_in_item c.parameters b i.line i.form) (λ b i. twice_item c.parameters b i.line i.form) [] c.items))
+    (all_each twice_in_parameter (λ b p. both (twice_among (parameter_names b) p.line p.name) _ (all_where _ _ tt) (twice_type p.term)) [] c.parameters)
+    (all_each (λ b (i : Item). twice_in_item c.parameters b i.line i.form) (λ b i. twice_item c.parameters b i.line i.form) [] c.items))
 
 unknown_part : (types : List (List ℕ)) (line : ℕ) (s : Shape) → AllNo (unknown_in_part types line s)
 unknown_part types line shape.Unit = tt
@@ -131,8 +131,8 @@ unknown_each : (before : List Declaration) (d : Declaration) → AllNo (unknown_
 unknown_each before (declarations.Named line name term) = unknown_type (names_of (types_of before)) term
 unknown_each before (declarations.Made c) =
     both (flat_map (λ (p : Parameter). unknown_in_type (names_of (types_of before)) p.term) c.parameters) _
-      (all_flat (λ (p : Parameter). unknown_in_type (names_of (types_of before)) p.term) (λ p. unknown_type (names_of (types_of before)) p.term) c.parameters)
-      (all_each (λ b (i : Item). unknown_in_item (types_of before) (connector_names before) (parameter_names c.parameters ++ node_names b) i.line i.form) (λ b i. unknown_item (types_of before) (connector_names before) (parameter_names c.parameters ++ node_names b) i.line i.form) [] c.items)
+    (all_flat (λ (p : Parameter). unknown_in_type (names_of (types_of before)) p.term) (λ p. unknown_type (names_of (types_of before)) p.term) c.parameters)
+    (all_each (λ b (i : Item). unknown_in_item (types_of before) (connector_names before) (parameter_names c.parameters ++ node_names b) i.line i.form) (λ b i. unknown_item (types_of before) (connector_names before) (parameter_names c.parameters ++ node_names b) i.line i.form) [] c.items)
 
 mistyped_each : (before : List Declaration) (d : Declaration) → AllNo (mistyped_in before d)
 mistyped_each before (declarations.Named line name term) = tt
@@ -150,8 +150,8 @@ range_each : (before : List Declaration) (d : Declaration) → AllNo (range_in b
 range_each before (declarations.Named line name term) = range_type (types_of before) term
 range_each before (declarations.Made c) =
     both (flat_map (λ (p : Parameter). range_in_type (types_of before) p.term) c.parameters) _
-      (all_flat (λ (p : Parameter). range_in_type (types_of before) p.term) (λ p. range_type (types_of before) p.term) c.parameters)
-      (all_flat (λ (i : Item). range_in_item (types_of before) (scope_of (types_of before) c) i.line i.form) (λ i. range_item (types_of before) (scope_of (types_of before) c) i.line i.form) c.items)
+    (all_flat (λ (p : Parameter). range_in_type (types_of before) p.term) (λ p. range_type (types_of before) p.term) c.parameters)
+    (all_flat (λ (i : Item). range_in_item (types_of before) (scope_of (types_of before) c) i.line i.form) (λ i. range_item (types_of before) (scope_of (types_of before) c) i.line i.form) c.items)
 
 arity_item : (known : List Connector) (line : ℕ) (f : Form) → AllNo (arity_in_item known line f)
 arity_item known line (forms.Node name term) = tt
@@ -176,8 +176,8 @@ dangling_each : (before : List Declaration) (d : Declaration) → AllNo (danglin
 dangling_each before (declarations.Named line name term) = tt
 dangling_each before (declarations.Made c) =
     both (flat_map (dangling_parameter (touches_of (connectors_of before) c)) c.parameters) _
-      (all_flat (dangling_parameter (touches_of (connectors_of before) c)) (λ p. all_where _ _ tt) c.parameters)
-      (all_flat (λ (i : Item). dangling_in_item (touches_of (connectors_of before) c) i.line i.form) (λ i. dangling_item (touches_of (connectors_of before) c) i.line i.form) c.items)
+    (all_flat (dangling_parameter (touches_of (connectors_of before) c)) (λ p. all_where _ _ tt) c.parameters)
+    (all_flat (λ (i : Item). dangling_in_item (touches_of (connectors_of before) c) i.line i.form) (λ i. dangling_item (touches_of (connectors_of before) c) i.line i.form) c.items)
 
 no_cycles : (ds : List Declaration) → AllNo (breaks ds)
 no_cycles ds =

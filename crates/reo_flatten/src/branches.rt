@@ -42,7 +42,8 @@ pub fn many(ends: &[End]) -> usize
 
 /// A node's merger, at the end, where it has one.
 fn own_merger(ins: &[End], kinds: &mut List<Kind>) -> Result<(), NoMemory>
-    ensures { OnOk result (kinds.new ≡ kinds.old ++ where_true (is_many ins.now) (branched primitives.Merger (length ins.now))) }
+    ensures { OnOk result (kinds.new ≡ kinds.old ++ where_true (is_many ins.now)
+        (branched primitives.Merger (length ins.now))) }
 {
     if 2 <= ins.len() {
         kinds.push(merger(ins.len()))?;
@@ -54,7 +55,8 @@ fn own_merger(ins: &[End], kinds: &mut List<Kind>) -> Result<(), NoMemory>
 
 /// A node's replicator, at the end, where it has one.
 fn own_replicator(outs: &[End], kinds: &mut List<Kind>) -> Result<(), NoMemory>
-    ensures { OnOk result (kinds.new ≡ kinds.old ++ where_true (is_many outs.now) (branched primitives.Replicator (length outs.now))) }
+    ensures { OnOk result (kinds.new ≡ kinds.old ++ where_true (is_many outs.now)
+        (branched primitives.Replicator (length outs.now))) }
 {
     if 2 <= outs.len() {
         kinds.push(replicator(outs.len()))?;

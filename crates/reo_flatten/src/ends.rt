@@ -104,7 +104,12 @@ pub fn ends_of(
         outs: no_ends(alloc, count)?,
     };
     for primitive in 0..kinds.len() {
-        made.add_all(names, primitive, &kinds[primitive], ends[primitive].as_slice())?;
+        made.add_all(
+            names,
+            primitive,
+            &kinds[primitive],
+            ends[primitive].as_slice(),
+        )?;
     }
     Ok(made)
 }

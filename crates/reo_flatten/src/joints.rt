@@ -8,7 +8,8 @@ use reo_values::{List, NoMemory};
 
 /// The joints into a merger, where there is one.
 fn into_merger(ins: &[End], merger: usize, joints: &mut List<Joint>) -> Result<(), NoMemory>
-    ensures { OnOk result (joints.new ≡ joints.old ++ cond (is_many ins.now) (pairs ins.now (ends_of merger 0 (length ins.now))) []) }
+    ensures { OnOk result (joints.new ≡ joints.old ++ cond (is_many ins.now) (pairs ins.now
+        (ends_of merger 0 (length ins.now))) []) }
 {
     if ins.len() < 2 {
         return Ok(());
@@ -32,7 +33,8 @@ fn out_of_replicator(
     replicator: usize,
     joints: &mut List<Joint>,
 ) -> Result<(), NoMemory>
-    ensures { OnOk result (joints.new ≡ joints.old ++ cond (is_many outs.now) (pairs (ends_of replicator 1 (length outs.now)) outs.now) []) }
+    ensures { OnOk result (joints.new ≡ joints.old ++ cond (is_many outs.now) (pairs
+        (ends_of replicator 1 (length outs.now)) outs.now) []) }
 {
     if outs.len() < 2 {
         return Ok(());
@@ -79,12 +81,9 @@ fn taker(outs: &[End], replicator: usize) -> Option<End>
 }
 
 /// The joint between these ends, if there are both.
-fn between(
-    giver: Option<End>,
-    taker: Option<End>,
-    joints: &mut List<Joint>,
-) -> Result<(), NoMemory>
-    ensures { OnOk result (joints.new ≡ joints.old ++ pairs (option_to_list giver) (option_to_list taker)) }
+fn between(giver: Option<End>, taker: Option<End>, joints: &mut List<Joint>) -> Result<(), NoMemory>
+    ensures { OnOk result (joints.new ≡ joints.old ++ pairs (option_to_list giver)
+        (option_to_list taker)) }
 {
     match (giver, taker) {
         (Some(giver), Some(taker)) => {

@@ -43,7 +43,8 @@ pub fn close(alloc: Global, program: &Program, parts: Parts) -> Result<Flat, Fla
     requires names { All HasPlainNames (connectors_of program.now.declarations) }
     requires parts { IsParts program.now.declarations parts }
     ensures exact { MatchResult result (λ flat. IsAccepted program.now) (IsRefused program.now) }
-    ensures circuit { IfOk result (λ flat. flat.circuit ≡ wiring_of_program program.now.declarations) }
+    ensures circuit { IfOk result (λ flat. flat.circuit
+        ≡ wiring_of_program program.now.declarations) }
     ensures ports { IfOk result (λ flat. flat.ports.list ≡ ports_of program.now.declarations) }
     ensures nodes { IfOk result (λ flat. flat.nodes ≡ nodes_of program.now.declarations) }
     ensures homes { IfOk result (λ flat. flat.homes ≡ homes_in program.now.declarations) }

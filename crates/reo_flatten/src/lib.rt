@@ -1,4 +1,4 @@
-//! The flat circuit of a program: the rules on its text, its unfolding, and the joints of its nodes.
+//! The flat circuit of a program: the rules on its text, its unfolding, its joints.
 #![tactic(auto)]
 
 mod branches;

@@ -22,7 +22,8 @@ fn way_of(inward: bool) -> Way
 
 /// The port of a parameter.
 fn port_of(alloc: Global, types: &Types, parameter: &Parameter) -> Result<Port, NoMemory>
-    ensures { (ts : List Typed) → AreTypes ts types.now → IfOk result (λ port. port ≡ port_of ts parameter.now) }
+    ensures { (ts : List Typed) → AreTypes ts types.now → IfOk result (λ port. port
+        ≡ port_of ts parameter.now) }
 {
     let known = types.kindreds.len();
     let name = parameter.name.copy(alloc)?;
@@ -40,7 +41,8 @@ pub fn ports_of(
     types: &Types,
     parameters: &[Parameter],
 ) -> Result<List<Port>, NoMemory>
-    ensures { (ts : List Typed) → AreTypes ts types.now → IfOk result (λ ports. ports ≡ map (port_of ts) parameters.now) }
+    ensures { (ts : List Typed) → AreTypes ts types.now → IfOk result (λ ports. ports ≡ map
+        (port_of ts) parameters.now) }
 {
     let mut made = List::new(alloc);
     for parameter in parameters {

@@ -24,7 +24,8 @@ pub struct Wired {
 /// The own primitives of all nodes, at the end.
 pub fn all_own(ends: &NodeEnds, kinds: &mut List<Kind>) -> Result<(), NoMemory>
     requires { length ends.now.outs ≡ length ends.now.ins }
-    ensures { (names : List (List ℕ)) (placed : List Placed) → AreEnds names placed ends.now → OnOk result (kinds.new ≡ kinds.old ++ flat_map (own_kinds placed) names) }
+    ensures { (names : List (List ℕ)) (placed : List Placed) → AreEnds names placed ends.now
+        → OnOk result (kinds.new ≡ kinds.old ++ flat_map (own_kinds placed) names) }
 {
     for node in 0..ends.ins.len() {
         let (ins, outs) = (ends.ins.at(node), ends.outs.at(node));
@@ -47,8 +48,10 @@ impl Wired {
     /// The joints of one node, whose own primitives begin at a number.
     fn add(&mut self, ins: &[End], outs: &[End], at: usize, home: u32) -> Result<(), NoMemory>
         requires { at + 1 < 2 ^ 64 }
-        ensures joints { OnOk result (self.new.joints ≡ self.old.joints ++ joints_of ins.now outs.now at) }
-        ensures homes { OnOk result (self.new.homes ≡ self.old.homes ++ replicate (length (joints_of ins.now outs.now at)) home) }
+        ensures joints { OnOk result (self.new.joints
+            ≡ self.old.joints ++ joints_of ins.now outs.now at) }
+        ensures homes { OnOk result (self.new.homes ≡ self.old.homes ++ replicate (length
+            (joints_of ins.now outs.now at)) home) }
     {
         let before = self.joints.len();
         joints_of(ins, outs, at, &mut self.joints)?;
@@ -63,8 +66,11 @@ pub fn all_joints(alloc: Global, ends: &NodeEnds, first: usize) -> Result<Wired,
     requires even { length ends.now.outs ≡ length ends.now.ins }
     requires few { length ends.now.ins < 2 ^ 32 }
     requires low { first < 2 ^ 32 }
-    ensures joints { (names : List (List ℕ)) (placed : List Placed) → AreEnds names placed ends.now → IfOk result (λ made. made.joints ≡ joints_at placed first names) }
-    ensures homes { (names : List (List ℕ)) (placed : List Placed) → AreEnds names placed ends.now → IfOk result (λ made. made.homes ≡ homes_at placed 0 first names) }
+    ensures joints { (names : List (List ℕ)) (placed : List Placed)
+        → AreEnds names placed ends.now → IfOk result (λ made. made.joints
+        ≡ joints_at placed first names) }
+    ensures homes { (names : List (List ℕ)) (placed : List Placed) → AreEnds names placed ends.now
+        → IfOk result (λ made. made.homes ≡ homes_at placed 0 first names) }
 {
     let mut made = Wired {
         joints: List::new(alloc),

@@ -31,17 +31,25 @@ use std::alloc::Global;
 fn is_large(declarations: &[Declaration], ground: &Ground, number: usize) -> bool
     requires ground { IsGround declarations.now ground.now }
     requires main { position (bytes_eq (codes "main")) ground.now.connectors ≡ Some number }
-    ensures large { result ≡ true → is_too_many declarations.now (meaning_named (meanings_of declarations.now) (codes "main")) ≡ true }
-    ensures small { result ≡ false → let m = meaning_named (meanings_of declarations.now) (codes "main") in (m.uses ≤ 65536) × (m.depth ≤ 64) }
+    ensures large { result ≡ true → is_too_many declarations.now (meaning_named
+        (meanings_of declarations.now) (codes "main")) ≡ true }
+    ensures small { result ≡ false → let m = meaning_named (meanings_of declarations.now)
+        (codes "main") in (m.uses ≤ 65536) × (m.depth ≤ 64) }
 {
     counts_are_channels();
     let sizes = *ground.sizes.at(number);
+    if 65_536 < sizes.uses {
+        return true;
+    }
+    if 64 < sizes.depth {
+        return true;
+    }
     let main = connector_at(declarations, ground.stands.at(number).place);
     let ports = main.parameters.len();
-    65_536 < sizes.uses
-        || 64 < sizes.depth
-        || 4_096 < ports
-        || 4_096 < ports + sizes.placed as usize
+    if 4_096 < ports {
+        return true;
+    }
+    4_096 < ports + sizes.placed as usize
 }
 
 /// What the flat circuit of a program is made from that breaks no rule on its text, and whose
@@ -57,7 +65,8 @@ fn parts_of(
     requires ground { IsGround declarations.now ground.now }
     requires fit { AreFit declarations.now }
     requires main { position (bytes_eq (codes "main")) ground.now.connectors ≡ Some number }
-    requires small { let m = meaning_named (meanings_of declarations.now) (codes "main") in (m.uses ≤ 65536) × (m.depth ≤ 64) }
+    requires small { let m = meaning_named (meanings_of declarations.now) (codes "main") in
+        (m.uses ≤ 65536) × (m.depth ≤ 64) }
     ensures judged { IsJudged (too_many declarations.now) result }
     ensures parts { IfOk result (IsParts declarations.now) }
 {
@@ -96,7 +105,8 @@ pub fn flatten(alloc: Global, program: &Program) -> Result<Flat, FlatFault>
     requires spelled { IsSpelled program.now }
     requires names { All HasPlainNames (connectors_of program.now.declarations) }
     ensures exact { MatchResult result (λ flat. IsAccepted program.now) (IsRefused program.now) }
-    ensures circuit { IfOk result (λ flat. flat.circuit ≡ wiring_of_program program.now.declarations) }
+    ensures circuit { IfOk result (λ flat. flat.circuit
+        ≡ wiring_of_program program.now.declarations) }
     ensures ports { IfOk result (λ flat. flat.ports.list ≡ ports_of program.now.declarations) }
     ensures nodes { IfOk result (λ flat. flat.nodes ≡ nodes_of program.now.declarations) }
     ensures homes { IfOk result (λ flat. flat.homes ≡ homes_in program.now.declarations) }

@@ -1,11 +1,9 @@
 -- The ground of a program, declaration by declaration.
-use Rattle.std.proofs.Common.{arith, ◌≡◌, ◌∙◌, ℕ, zero, suc, ◌+◌, ◌-◌, ◌<◌, ◌≤◌, List, [], ◌∷◌, ◌++◌, length, map, take, drop, get_or, false, Some, refl, sym, ap, subst}
+use Rattle.std.proofs.Common.{arith, ◌≡◌, ◌∙◌, ℕ, zero, suc, ◌+◌, ◌-◌, ◌<◌, List, [], ◌∷◌, ◌++◌, length, map, take, drop, get_or, false, Some, refl, sym, ap, subst}
 use Rattle.std.specs.Prelude.{slice_get}
 use Rattle.std.proofs.lemmas.List.{append-nil, append_assoc, length-append, length-map, map-append, take_all, take-append-le, get_or-append_right}
-use Rattle.std.proofs.lemmas.Bool.Decides.{leb_tells}
 use Rattle.std.proofs.lemmas.Option.{slice_get_within}
 use Rattle.reo_trees.specs.declared.types.TypeTerm.{TypeTerm}
-use Rattle.reo_trees.specs.declared.items.Item.{Item}
 use Rattle.reo_trees.specs.declared.programs.Connector.{Connector}
 use Rattle.reo_trees.specs.declared.programs.Declaration.{Declaration}
 use Rattle.reo_trees.specs.declared.programs.Declaration.TheVariants as declarations
@@ -14,9 +12,9 @@ use Rattle.reo_rules_base.specs.Types.{Typed, types_after, types_of, resolved, n
 use Rattle.reo_rules_base.specs.Scopes.{type_names, connectors_of, connector_names}
 use Rattle.reo_rules_base.proofs.AfterLemmas.{flat_map-append, left_none}
 use Rattle.reo_rules_base.specs.Twice.{twice_among, twice_in}
-use Rattle.reo_rules_base.specs.Scopes.{connectors_in, type_names_in}
+use Rattle.reo_rules_base.specs.Scopes.{connectors_in}
 use Rattle.reo_flatten_base.specs.declared.sizes.Sizes.{Sizes}
-use Rattle.reo_flatten_base.specs.Unfolding.{Meaning, no_meaning, meaning_of, meanings_after, meanings_of}
+use Rattle.reo_flatten_base.specs.Unfolding.{Meaning, meaning_of, meanings_after, meanings_of}
 use Rattle.reo_flatten_base.specs.Counts.{IsSizesOf, AreSizes}
 use Rattle.reo_flatten_unfold.specs.declared.ground.Stand.{Stand}
 use Rattle.reo_flatten_unfold.specs.declared.ground.Ground.{Ground}
@@ -195,7 +193,7 @@ ground_made xs c g h is types connectors stands sizes =
     let count : length g.types.kindreds ≡ length (types_of xs) = ap length is.types.kindreds ∙ length-map (types_of xs) (λ (e : Typed). e.kindred) in
     let last : Stand = record { place = length xs; types = length g.types.kindreds } in
     let stand : Stands (xs ++ d ∷ []) (length g.stands) last =
-        subst (λ n. Stands (xs ++ d ∷ []) n last) (sym is.one_each) (subst (λ n. Stands (xs ++ d ∷ []) (length (connectors_of xs)) (record { place = length xs; types = n })) (sym count) (stands_last xs c)) in
+    subst (λ n. Stands (xs ++ d ∷ []) n last) (sym is.one_each) (subst (λ n. Stands (xs ++ d ∷ []) (length (connectors_of xs)) (record { place = length xs; types = n })) (sym count) (stands_last xs c)) in
     record {
       types = subst (λ ts. AreTypes ts h.types) (sym (types_after-append [] xs (d ∷ []))) (subst (AreTypes (types_of xs)) (sym types) is.types);
       names = connectors ∙ ap (λ ns. ns ++ c.name ∷ []) is.names ∙ sym (ap (map (λ (k : Connector). k.name)) more ∙ map-append (λ (k : Connector). k.name) (connectors_of xs) (c ∷ []));

@@ -1,18 +1,16 @@
 -- The names of a connector, and the types with which they are declared.
-use Rattle.std.proofs.Common.{arith, ◌≡◌, ◌∙◌, ℕ, zero, suc, ◌+◌, ◌-◌, ◌<◌, ◌≤◌, List, [], ◌∷◌, ◌++◌, length, map, get_or, Bool, true, false, cond, Option, Some, None, find, position, refl, sym, ap, bytes_eq}
+use Rattle.std.proofs.Common.{arith, ◌≡◌, ◌∙◌, ℕ, zero, suc, ◌+◌, ◌-◌, ◌<◌, ◌≤◌, List, [], ◌∷◌, ◌++◌, length, map, get_or, Bool, false, cond, Option, Some, None, position, refl, sym, ap, bytes_eq}
 use Rattle.std.specs.Prelude.{slice_get, option_map, unwrap_or}
 use Rattle.std.specs.List.{flat_map}
 use Rattle.std.proofs.lemmas.List.{length-append, length-map, map-append}
 use Rattle.std.proofs.lemmas.Option.{slice_get-map, slice_get-get_or}
-use Rattle.reo_values.specs.declared.kindred.Kindred.{Kindred}
 use Rattle.reo_values.specs.declared.kindred.Kindred.TheVariants as kinds
 use Rattle.reo_trees.specs.declared.items.Item.{Item}
 use Rattle.reo_trees.specs.declared.items.Form.{Form}
 use Rattle.reo_trees.specs.declared.items.Form.TheVariants as forms
 use Rattle.reo_trees.specs.declared.programs.Parameter.{Parameter}
 use Rattle.reo_trees.specs.declared.programs.Connector.{Connector}
-use Rattle.reo_rules_base.specs.declared.fault.FlatFault.{FlatFault}
-use Rattle.reo_rules_base.specs.Lists.{each_after, where_true, has_name}
+use Rattle.reo_rules_base.specs.Lists.{each_after, has_name}
 use Rattle.reo_rules_base.specs.Names.{with_name}
 use Rattle.reo_rules_base.specs.Types.{Typed, names_of, type_named, resolved}
 use Rattle.reo_rules_base.specs.Scopes.{parameter_names, node_names, node_names_in, parameter_type, node_types_in, scope_of}
@@ -105,7 +103,7 @@ module _ (ts : List Typed) (c : Connector) (names : List (List ℕ)) (are : name
       let many = length-map c.parameters (parameter_type ts) in
       type_at n is
       ∙ ap (λ (found : Option Typed). unwrap_or (option_map (λ (e : Typed). e.kindred) found) kinds.Unit)
-        (slice_get-left (map (parameter_type ts) c.parameters) _ n (omega arith) ∙ slice_get-map (parameter_type ts) c.parameters n ∙ ap (option_map (parameter_type ts)) (slice_get-get_or c.parameters n d within))
+      (slice_get-left (map (parameter_type ts) c.parameters) _ n (omega arith) ∙ slice_get-map (parameter_type ts) c.parameters n ∙ ap (option_map (parameter_type ts)) (slice_get-get_or c.parameters n d within))
 
   -- The number of a node among the nodes.
   pub node_within : (n : ℕ) → position (bytes_eq name) names ≡ Some n → length c.parameters ≤ n → n - length c.parameters < length (flat_map (λ (i : Item). node_types_in ts i.form) c.items)
@@ -121,7 +119,7 @@ module _ (ts : List Typed) (c : Connector) (names : List (List ℕ)) (are : name
       let many = length-map c.parameters (parameter_type ts) in
       type_at n is
       ∙ ap (λ (found : Option Typed). unwrap_or (option_map (λ (e : Typed). e.kindred) found) kinds.Unit)
-        (slice_get-right (map (parameter_type ts) c.parameters) (flat_map (λ (i : Item). node_types_in ts i.form) c.items) n (omega arith) ∙ (λ k. slice_get (flat_map (λ (i : Item). node_types_in ts i.form) c.items) (n - many k)))
+      (slice_get-right (map (parameter_type ts) c.parameters) (flat_map (λ (i : Item). node_types_in ts i.form) c.items) n (omega arith) ∙ (λ k. slice_get (flat_map (λ (i : Item). node_types_in ts i.form) c.items) (n - many k)))
       ∙ ap (λ found. unwrap_or found kinds.Unit) (node.type d)
 
   pub nowhere_is : position (bytes_eq name) names ≡ None → type_named (scope_of ts c) name ≡ kinds.Unit

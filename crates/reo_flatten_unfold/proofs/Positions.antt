@@ -1,5 +1,5 @@
 -- What a search by name finds in a front of a list.
-use Rattle.std.proofs.Common.{arith, ◌≡◌, ◌∙◌, ℕ, zero, suc, ◌+◌, ◌<◌, ◌≤◌, inl, inr, List, [], ◌∷◌, length, take, map, Bool, true, false, not, cond, Option, Some, None, find, position, nat_lt, refl, sym, ap}
+use Rattle.std.proofs.Common.{arith, ◌≡◌, ◌∙◌, ℕ, zero, suc, ◌+◌, ◌<◌, ◌≤◌, inl, inr, List, [], ◌∷◌, length, take, Bool, true, false, not, cond, Some, None, find, position, nat_lt, refl, ap}
 use Rattle.std.specs.Prelude.{slice_get}
 use Rattle.std.specs.List.{prefix_len}
 use Rattle.std.proofs.lemmas.Bool.{ltb-true}
@@ -63,8 +63,8 @@ module _ {X : Type 0} (p : X → Bool) where
   front_or_not : (xs : List X) (k n : ℕ) → before_first xs ≡ n → (slice_get xs n ≡ None) → find p (take k xs) ≡ None
   front_or_not xs k n is none =
       elim (leb_tells (suc (before_first xs)) k) [
-        inl w ↦ find_in-front xs k w.1 ∙ ap (slice_get xs) is ∙ none
-      | inr w ↦ find_behind xs k (omega arith)
+        | inl w ↦ find_in-front xs k w.1 ∙ ap (slice_get xs) is ∙ none
+        | inr w ↦ find_behind xs k (omega arith)
       ]
 
   pub found_before : (xs : List X) (k n : ℕ) → position p xs ≡ Some n → n < k → find p (take k xs) ≡ slice_get xs n

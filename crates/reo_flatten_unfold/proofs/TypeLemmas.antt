@@ -1,6 +1,6 @@
 -- Types by name, and what a written type of pairs stands for.
 use denote.Hole.Carrier.{hidden}
-use Rattle.std.proofs.Common.{Bor, subst, IfSome, option_copied, ◌≡◌, ◌∙◌, ℕ, ◌<◌, ◌≤◌, List, [], ◌∷◌, ◌++◌, length, take, map, Option, Some, None, position, refl, sym, ap, bytes_eq}
+use Rattle.std.proofs.Common.{Bor, subst, IfSome, option_copied, ◌≡◌, ◌∙◌, ℕ, ◌<◌, ◌≤◌, List, take, Option, Some, None, position, refl, sym, ap, bytes_eq}
 use Rattle.std.specs.Prelude.{slice_get, option_map, unwrap_or}
 use Rattle.std.proofs.lemmas.Option.{slice_get-map, get_or_from_slice_get, slice_get_within}
 use Rattle.std.specs.List.{All}

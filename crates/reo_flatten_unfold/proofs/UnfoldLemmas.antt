@@ -1,9 +1,8 @@
 -- What an unfolding adds.
-use Rattle.std.proofs.Common.{arith, ◌≡◌, ◌∙◌, ℕ, zero, suc, ◌+◌, ◌<◌, ◌≤◌, List, [], ◌∷◌, ◌++◌, length, map, take, get_or, Bool, cond, Some, None, position, count_by, sum_by, bytes_eq, refl, sym, ap, subst}
+use Rattle.std.proofs.Common.{arith, ◌≡◌, ◌∙◌, ℕ, zero, suc, ◌+◌, ◌<◌, ◌≤◌, List, [], ◌∷◌, ◌++◌, length, map, take, get_or, Bool, cond, Some, None, position, count_by, sum_by, bytes_eq, sym, ap, subst}
 use Rattle.std.specs.Prelude.{unwrap_or}
 use Rattle.std.specs.List.{All}
 use Rattle.std.proofs.lemmas.List.{append-nil, append_assoc, map-append}
-use Rattle.reo_values.specs.declared.kindred.Kindred.{Kindred}
 use Rattle.reo_literals.specs.Items.{HasFewNames}
 use Rattle.reo_rules_base.specs.Types.{Typed}
 use Rattle.std.proofs.lemmas.List.Sums.{sum_by-append, sum_by-cons}

@@ -1,5 +1,5 @@
 -- A connector where it is used.
-use Rattle.std.specs.Prelude.{ℕ, List, [], ◌∷◌, take, map}
+use Rattle.std.specs.Prelude.{ℕ, List, [], ◌∷◌, take}
 use Rattle.reo_trees.specs.declared.items.Item.{Item}
 use Rattle.reo_trees.specs.declared.items.Form.{Form}
 use Rattle.reo_trees.specs.declared.items.Channel.{Channel}

@@ -12,7 +12,8 @@ use reo_trees::{Form, Item};
 /// What an item unfolds to, by the sizes of the connectors before.
 fn item_sizes(names: &Names, table: &[Sizes], form: &Form) -> Sizes
     requires { length table.now ≡ length names.now }
-    ensures { (known : List Meaning) → AreSizes known names.now table.now → IsSizeOf (uses_in known form.now) (depth_in known form.now) (placed_in known form.now) result }
+    ensures { (known : List Meaning) → AreSizes known names.now table.now → IsSizeOf
+        (uses_in known form.now) (depth_in known form.now) (placed_in known form.now) result }
 {
     match form {
         Form::Node { .. } => Sizes {
@@ -46,7 +47,10 @@ fn item_sizes(names: &Names, table: &[Sizes], form: &Form) -> Sizes
 /// What the items of a connector unfold to, by the sizes of the connectors before.
 pub(crate) fn connector_sizes(names: &Names, table: &[Sizes], items: &[Item]) -> Sizes
     requires { length table.now ≡ length names.now }
-    ensures { (known : List Meaning) → AreSizes known names.now table.now → IsSizeOf (sum_by (λ (i : AnItem). uses_in known i.form) items.now) (fold (λ most (i : AnItem). max most (depth_in known i.form)) 0 items.now) (sum_by (λ (i : AnItem). placed_in known i.form) items.now) result }
+    ensures { (known : List Meaning) → AreSizes known names.now table.now → IsSizeOf (sum_by (λ
+        (i : AnItem). uses_in known i.form) items.now) (fold (λ most (i : AnItem). max most
+        (depth_in known i.form)) 0 items.now) (sum_by (λ
+        (i : AnItem). placed_in known i.form) items.now) result }
 {
     let mut total = Sizes {
         uses: 0,

@@ -14,11 +14,7 @@ use reo_values::{Boxed, Bytes, Copies, Kindred, NoMemory};
 use std::alloc::Global;
 
 /// The expression of a symbol of a type, if it is one.
-fn symbol_of(
-    alloc: Global,
-    kindred: &Kindred,
-    symbol: &Bytes,
-) -> Result<Option<Expr>, NoMemory>
+fn symbol_of(alloc: Global, kindred: &Kindred, symbol: &Bytes) -> Result<Option<Expr>, NoMemory>
     requires { HasFewNames kindred.now }
     ensures { IfOk result (λ made. made ≡ symbol_in kindred.now symbol.now) }
 {
@@ -40,7 +36,8 @@ pub(crate) fn expr_of(
     form: &TermForm,
 ) -> Result<Option<Expr>, NoMemory>
     requires { All HasFewNames types.now.kindreds }
-    ensures { (ts : List Typed) → AreTypes ts types.now → IfOk result (λ made. made ≡ expr_of (take known ts) form.now) }
+    ensures { (ts : List Typed) → AreTypes ts types.now → IfOk result (λ made. made ≡ expr_of
+        (take known ts) form.now) }
 {
     match form {
         TermForm::It => Ok(Some(Expr::It)),

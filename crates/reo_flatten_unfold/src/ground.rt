@@ -36,9 +36,12 @@ impl Ground {
         requires new { has_name self.old.connectors connector.now.name ≡ false }
         requires even { length self.old.sizes ≡ length self.old.connectors }
         ensures types { OnOk result (self.new.types ≡ self.old.types) }
-        ensures names { OnOk result (self.new.connectors ≡ self.old.connectors ++ connector.now.name ∷ []) }
-        ensures stands { OnOk result (self.new.stands ≡ self.old.stands ++ record { place = place; types = length self.old.types.kindreds } ∷ []) }
-        ensures sizes { (known : List Meaning) → AreSizes known self.old.connectors self.old.sizes → OnOk result (AddsSizes known connector.now.items self.old.sizes self.new.sizes) }
+        ensures names { OnOk result (self.new.connectors
+            ≡ self.old.connectors ++ connector.now.name ∷ []) }
+        ensures stands { OnOk result (self.new.stands
+            ≡ self.old.stands ++ record { place = place; types = length self.old.types.kindreds } ∷ []) }
+        ensures sizes { (known : List Meaning) → AreSizes known self.old.connectors self.old.sizes
+            → OnOk result (AddsSizes known connector.now.items self.old.sizes self.new.sizes) }
     {
         let sizes = connector_sizes(
             &self.connectors,

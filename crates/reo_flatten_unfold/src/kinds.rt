@@ -30,7 +30,8 @@ fn node_type(
 ) -> Result<Kindred, NoMemory>
     requires few { All HasFewNames types.now.kindreds }
     requires shape { IfSome of (λ shape. IsFew shape.now) }
-    ensures is { (ts : List Typed) → AreTypes ts types.now → IfOk result (λ made. made ≡ shape_type (take known ts) (option_copied of.entry)) }
+    ensures is { (ts : List Typed) → AreTypes ts types.now → IfOk result (λ made. made
+        ≡ shape_type (take known ts) (option_copied of.entry)) }
     ensures few { IfOk result HasFewNames }
 {
     match of {
@@ -40,12 +41,7 @@ fn node_type(
 }
 
 /// A buffer of this size with the items that literals are.
-fn store(
-    alloc: Global,
-    size: usize,
-    of: &Kindred,
-    held: &[Literal],
-) -> Result<Kind, NoMemory>
+fn store(alloc: Global, size: usize, of: &Kindred, held: &[Literal]) -> Result<Kind, NoMemory>
     requires some { 1 ≤ size }
     requires few { size ≤ 1024 }
     requires fits { length held.now ≤ size }
@@ -114,7 +110,8 @@ pub(crate) fn channel_kind(
     requires fits { ChannelFits channel.now }
     requires few { All HasFewNames types.now.kindreds }
     requires shape { IfSome of (λ shape. IsFew shape.now) }
-    ensures { (ts : List Typed) → AreTypes ts types.now → IfOk result (λ made. made ≡ channel_kind (take known ts) (shape_type (take known ts) (option_copied of.entry)) channel.now) }
+    ensures { (ts : List Typed) → AreTypes ts types.now → IfOk result (λ made. made ≡ channel_kind
+        (take known ts) (shape_type (take known ts) (option_copied of.entry)) channel.now) }
 {
     match channel {
         Channel::Sync => Ok(Kind::Sync),

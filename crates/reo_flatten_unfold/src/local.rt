@@ -81,7 +81,8 @@ impl Local {
     /// name.
     pub fn shape_of<'a>(&self, connector: &'a Connector, name: &Bytes) -> Option<&'a Shape>
         requires { IsLocal connector.now self.now }
-        ensures is { (ts : List Typed) → shape_type ts (option_copied result) ≡ type_named (scope_of ts connector.now) name.now }
+        ensures is { (ts : List Typed) → shape_type ts (option_copied result) ≡ type_named
+            (scope_of ts connector.now) name.now }
         ensures few { IsFit connector.now → IfSome result (λ shape. IsFew shape.now) }
     {
         let parameters = connector.parameters.len();

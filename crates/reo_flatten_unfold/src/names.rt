@@ -17,7 +17,8 @@ pub(crate) fn append_use(
     number: usize,
 ) -> Result<(), NoMemory>
     requires { number < 2 ^ 63 }
-    ensures { OnOk result (path.new ≡ path.old ++ name.now ++ codes "@" ++ decimal number ++ codes ".") }
+    ensures { OnOk result (path.new
+        ≡ path.old ++ name.now ++ codes "@" ++ decimal number ++ codes ".") }
 {
     path.append(name.as_slice())?;
     path.push(b'@')?;
@@ -43,7 +44,9 @@ pub(crate) fn flat_name(
     path: &Bytes,
     name: &Bytes,
 ) -> Result<Bytes, NoMemory>
-    ensures { (ps : List AParameter) (rest : List (List ℕ)) → names.now ≡ parameter_names ps ++ rest → length ps ≡ parameters → IfOk result (λ made. made ≡ flat_name path.now ps arguments.now name.now) }
+    ensures { (ps : List AParameter) (rest : List (List ℕ)) → names.now
+        ≡ parameter_names ps ++ rest → length ps ≡ parameters → IfOk result (λ made. made
+        ≡ flat_name path.now ps arguments.now name.now) }
 {
     match names.find(name.as_slice()) {
         Some(number) => {
@@ -66,7 +69,9 @@ pub(crate) fn flat_names(
     path: &Bytes,
     given: &[Bytes],
 ) -> Result<List<Bytes>, NoMemory>
-    ensures { (ps : List AParameter) (rest : List (List ℕ)) → names.now ≡ parameter_names ps ++ rest → length ps ≡ parameters → IfOk result (λ made. made ≡ map (flat_name path.now ps arguments.now) given.now) }
+    ensures { (ps : List AParameter) (rest : List (List ℕ)) → names.now
+        ≡ parameter_names ps ++ rest → length ps ≡ parameters → IfOk result (λ made. made ≡ map
+        (flat_name path.now ps arguments.now) given.now) }
 {
     let mut made = List::new(alloc);
     for name in given {

@@ -33,8 +33,10 @@ impl Types {
 
     /// The type of a name among the first so many, if there is one.
     pub fn named(&self, known: usize, name: &[u8]) -> Option<&Kindred>
-        ensures is { (ts : List Typed) → AreTypes ts self.now → type_named (take known ts) name.now ≡ unwrap_or (option_copied result) Kindred.Unit }
-        ensures few { All HasFewNames self.now.kindreds → IfSome result (λ kindred. HasFewNames kindred.now) }
+        ensures is { (ts : List Typed) → AreTypes ts self.now → type_named
+            (take known ts) name.now ≡ unwrap_or (option_copied result) Kindred.Unit }
+        ensures few { All HasFewNames self.now.kindreds → IfSome result
+            (λ kindred. HasFewNames kindred.now) }
     {
         match self.names.find(name) {
             Some(number) => {
@@ -51,7 +53,8 @@ impl Types {
     /// One type more, whose name is not there yet. `NoMemory`: out of memory.
     pub fn declare(&mut self, alloc: Global, name: &Bytes, shape: &Shape) -> Result<(), NoMemory>
         requires { has_name self.old.names name.now ≡ false }
-        ensures { (ts : List Typed) → AreTypes ts self.old → OnOk result (AreTypes (ts ++ record { name = name.now; kindred = resolved ts shape.now } ∷ []) self.new) }
+        ensures { (ts : List Typed) → AreTypes ts self.old → OnOk result (AreTypes
+            (ts ++ record { name = name.now; kindred = resolved ts shape.now } ∷ []) self.new) }
     {
         let known = self.kindreds.len();
         let kindred = kindred_of(alloc, self, known, shape)?;
@@ -67,7 +70,8 @@ pub fn kindred_of(
     known: usize,
     shape: &Shape,
 ) -> Result<Kindred, NoMemory>
-    ensures is { (ts : List Typed) → AreTypes ts types.now → IfOk result (λ made. made ≡ resolved (take known ts) shape.now) }
+    ensures is { (ts : List Typed) → AreTypes ts types.now → IfOk result (λ made. made ≡ resolved
+        (take known ts) shape.now) }
     ensures few { All HasFewNames types.now.kindreds → IsFew shape.now → IfOk result HasFewNames }
 {
     match shape {

@@ -72,7 +72,8 @@ fn place(
 ) -> Result<(), NoMemory>
     requires frame { IsFrame frame.now }
     requires channel { ChannelFits channel.now }
-    ensures { OnOk result (Adds made.old made.new [] (placed_at frame.now path.now channel.now first.now second.now)) }
+    ensures { OnOk result (Adds made.old made.new []
+        (placed_at frame.now path.now channel.now first.now second.now)) }
 {
     let names = &frame.local.names;
     let parameters = frame.connector.parameters.len();
@@ -98,7 +99,9 @@ fn used(
 ) -> Result<(), NoMemory>
     requires frame { IsFrame frame.now }
     requires few { uses + 1 < 2 ^ 63 }
-    ensures made { (before : List AnItem) → count_by (λ (i : AnItem). is_use i.form) before ≡ uses → OnOk result (AddsForm frame.now path.old before (Form.Used name.now arguments.now) made.old made.new) }
+    ensures made { (before : List AnItem) → count_by (λ (i : AnItem). is_use i.form) before ≡ uses
+        → OnOk result (AddsForm frame.now path.old before
+        (Form.Used name.now arguments.now) made.old made.new) }
     ensures path { OnOk result (path.new ≡ path.old) }
 {
     match frame.ground.connectors.find(name.as_slice()) {
@@ -141,7 +144,8 @@ fn item(
     requires frame { IsFrame frame.now }
     requires few { uses + 1 < 2 ^ 63 }
     requires form { FormFits form.now }
-    ensures made { (before : List AnItem) → count_by (λ (i : AnItem). is_use i.form) before ≡ uses → OnOk result (AddsForm frame.now path.old before form.now made.old made.new) }
+    ensures made { (before : List AnItem) → count_by (λ (i : AnItem). is_use i.form) before ≡ uses
+        → OnOk result (AddsForm frame.now path.old before form.now made.old made.new) }
     ensures path { OnOk result (path.new ≡ path.old) }
 {
     match form {
@@ -178,7 +182,8 @@ fn items(
     made: &mut Unfolded,
 ) -> Result<(), NoMemory>
     requires { IsFrame frame.now }
-    ensures made { OnOk result (AddsItems frame.now path.old frame.now.connector.now.items made.old made.new) }
+    ensures made { OnOk result
+        (AddsItems frame.now path.old frame.now.connector.now.items made.old made.new) }
     ensures path { OnOk result (path.new ≡ path.old) }
 {
     let mut uses = 0;

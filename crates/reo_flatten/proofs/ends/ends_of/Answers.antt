@@ -1,7 +1,6 @@
 -- One primitive more.
-use Rattle.std.proofs.Common.{arith, ◌≡◌, ◌≤◌, ◌∙◌, ◌++◌, ◌+◌, ◌<◌, Bool, true, false, List, ℕ, length, get_or, sym, ap, subst, take}
+use Rattle.std.proofs.Common.{arith, ◌≡◌, ◌≤◌, ◌∙◌, ◌++◌, ◌<◌, true, false, length, get_or, sym, subst}
 use Rattle.std.proofs.lemmas.List.{take_all}
-use Rattle.reo_net_base.specs.declared.joint.End.{End}
 use Rattle.reo_kinds.specs.Kinds.{behaviour_of}
 use Rattle.reo_flatten_base.specs.Unfolding.{Placed}
 use Rattle.reo_flatten_base.specs.Ends.{ends_in}

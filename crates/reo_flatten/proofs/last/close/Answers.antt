@@ -1,5 +1,5 @@
 -- What the program unfolds to has no fault but a cycle.
-use Rattle.std.proofs.Common.{arith, zero, suc, ◌<◌, Bool, ◌≡◌, ◌∙◌, ℕ, List, [], ◌∷◌, length, map, true, false, inl, inr, refl, sym, ap, subst, slice_index, slice_index_or}
+use Rattle.std.proofs.Common.{arith, zero, suc, ◌<◌, Bool, ◌≡◌, ◌∙◌, ℕ, List, [], ◌∷◌, length, true, false, inl, inr, refl, sym, ap, subst, slice_index, slice_index_or}
 use Rattle.std.proofs.lemmas.List.{length-map}
 use Rattle.reo_net_base.specs.declared.joint.Joint.{Joint}
 use Rattle.reo_net_base.specs.Net.{Net, net_of, end_of, side_at, from_sides, to_sides}

@@ -1,5 +1,5 @@
 -- Those of the nodes so far.
-use Rattle.std.proofs.Common.{◌≡◌, ◌≤◌, ◌+◌, ◌*◌, ◌++◌, List, ℕ, take}
+use Rattle.std.proofs.Common.{◌≡◌, ◌≤◌, ◌+◌, ◌*◌, List, ℕ, take}
 use Rattle.reo_flatten_base.specs.Unfolding.{Placed}
 use Rattle.reo_flatten_base.specs.Flat.{joints_at, homes_at}
 use Rattle.reo_flatten.specs.NodeEnds.{AreEnds}

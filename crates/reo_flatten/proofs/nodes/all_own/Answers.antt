@@ -1,5 +1,5 @@
 -- One node more.
-use Rattle.std.proofs.Common.{arith, ◌≡◌, ◌≤◌, ◌<◌, ◌∙◌, ◌++◌, [], length, sym, ap, take}
+use Rattle.std.proofs.Common.{arith, ◌≤◌, ◌<◌, ◌∙◌, ◌++◌, [], length, ap, take}
 use Rattle.std.specs.List.{flat_map}
 use Rattle.std.proofs.lemmas.List.{append_assoc, take_all, get_or_default}
 use Rattle.reo_rules_base.proofs.AfterLemmas.{more_flat}

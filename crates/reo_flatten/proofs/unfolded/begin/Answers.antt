@@ -1,8 +1,7 @@
 -- The ports, and then what the connector adds.
-use Rattle.std.proofs.Common.{arith, ◌≡◌, ◌∙◌, ◌<◌, ◌++◌, [], List, ℕ, length, map, get_or, position, bytes_eq, codes, sym, ap, subst}
+use Rattle.std.proofs.Common.{arith, ◌≡◌, ◌∙◌, ◌<◌, ◌++◌, [], length, map, get_or, position, bytes_eq, codes, sym, ap, subst}
 use Rattle.std.proofs.lemmas.List.{map-append, length-map}
 use Rattle.reo_net_base.specs.declared.port.Port.{Port}
-use Rattle.reo_trees.specs.declared.programs.Parameter.{Parameter}
 use Rattle.reo_rules_base.specs.Types.{types_of}
 use Rattle.reo_trees.specs.declared.programs.Connector.{Connector}
 use Rattle.reo_rules_base.specs.Scopes.{parameter_names, connector_names, connectors_of}
@@ -22,10 +21,10 @@ returns c =
     let at : position (bytes_eq (codes "main")) (connector_names ds) ≡ _ = ap (position (bytes_eq (codes "main"))) (sym c.requires.ground.names) ∙ c.requires.main in
     let main = c.connector_at-main.result.now in
     let within : number < length c.args.ground.now.stands = let found = found_within (bytes_eq (codes "main")) c.args.ground.now.connectors number c.requires.main in
-        let names = ap length c.requires.ground.names in
-        let many = length-map (connectors_of ds) (λ (k : Connector). k.name) in
-        let even = c.requires.ground.one_each in
-        omega arith in
+    let names = ap length c.requires.ground.names in
+    let many = length-map (connectors_of ds) (λ (k : Connector). k.name) in
+    let even = c.requires.ground.one_each in
+    omega arith in
     let stand = subst (Stands ds number) (sym c.at.ensures) (c.requires.ground.stands number c.at.result.now within) in
     let is : IsStand ds number main c.at.result.now = record { there = c.connector_at-main.ensures; before = stand.is.before; types = stand.is.types } in
     let ps = main_parameters_are ds number at main c.at.result.now is in
@@ -34,10 +33,11 @@ returns c =
     let names = ap parameter_names given in
     let m = meaning_named (meanings_of ds) (codes "main") in
     let meaning = main_meaning ds number at in
-    let added : Adds _ c.connector.new.made (m.nodes []) (m.channels [] (parameter_names (main_parameters ds))) =
-        subst (λ (k : Meaning). Adds _ c.connector.new.made (k.nodes []) (k.channels [] (parameter_names (main_parameters ds)))) (sym meaning)
-        (subst (λ gs. Adds _ c.connector.new.made ((get_or (meanings_of ds) number no_meaning).nodes []) ((get_or (meanings_of ds) number no_meaning).channels [] gs)) (c.as_slice-3.ensures ∙ c.in_ok-arguments.ensures ∙ names)
-        (subst (λ p. Adds _ c.connector.new.made ((get_or (meanings_of ds) number no_meaning).nodes p) ((get_or (meanings_of ds) number no_meaning).channels p c.as_slice-3.result.now)) c.new-path.ensures c.in_ok-connector.ensures.made)) in
+    let old : Unfolded = record { nodes = c.in_ok-names_of.field-0; kinds = c.in_ok-port_kinds.field-0; ends = c.in_ok-port_ends.field-0 } in
+    let added : Adds old c.connector.new.made (m.nodes []) (m.channels [] (parameter_names (main_parameters ds))) =
+    subst (λ (k : Meaning). Adds old c.connector.new.made (k.nodes []) (k.channels [] (parameter_names (main_parameters ds)))) (sym meaning)
+    (subst (λ gs. Adds old c.connector.new.made ((get_or (meanings_of ds) number no_meaning).nodes []) ((get_or (meanings_of ds) number no_meaning).channels [] gs)) (c.as_slice-3.ensures ∙ c.in_ok-arguments.ensures ∙ names)
+    (subst (λ p. Adds old c.connector.new.made ((get_or (meanings_of ds) number no_meaning).nodes p) ((get_or (meanings_of ds) number no_meaning).channels p c.as_slice-3.result.now)) c.new-path.ensures c.in_ok-connector.ensures.made)) in
     let channels = m.channels [] (parameter_names (main_parameters ds)) in
     record {
       ports = ports;

@@ -1,5 +1,5 @@
 -- One name more.
-use Rattle.std.proofs.Common.{◌≡◌, ◌∙◌, ◌++◌, ◌∷◌, [], sym, ap, take, false}
+use Rattle.std.proofs.Common.{◌≡◌, ◌∙◌, ap, false}
 use Rattle.reo_rules_base.specs.Lists.{has_name}
 use Rattle.reo_rules_base.specs.Names.{with_name}
 use Rattle.reo_rules_base.proofs.AfterLemmas.{more_seen}

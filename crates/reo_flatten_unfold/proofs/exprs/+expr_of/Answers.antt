@@ -1,5 +1,5 @@
 -- Part by part.
-use Rattle.std.proofs.Common.{◌≡◌, ◌∙◌, sym, ap, take, Some}
+use Rattle.std.proofs.Common.{◌∙◌, ap, take, Some}
 use Rattle.reo_exprs.specs.declared.expr.Expr.TheVariants as exprs
 use Rattle.reo_trees.specs.declared.terms.Term.{Term}
 use Rattle.reo_trees.specs.declared.terms.TermPair.{TermPair}

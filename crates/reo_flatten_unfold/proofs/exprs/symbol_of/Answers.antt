@@ -1,4 +1,4 @@
-use Rattle.std.proofs.Common.{arith, ◌≡◌, ◌∙◌, ◌≤◌, sym, ap, subst, length, bytes_eq}
+use Rattle.std.proofs.Common.{arith, ◌∙◌, ◌≤◌, sym, subst, length, bytes_eq}
 use Rattle.std.specs.List.{position_from}
 use Rattle.reo_literals.specs.Items.{HasFewNames}
 use Rattle.reo_literals.proofs.ItemLemmas.{found_below}

@@ -1,5 +1,5 @@
 -- No more items than literals.
-use Rattle.std.proofs.Common.{arith, ℕ, ◌+◌, ◌≤◌, suc, List, [], ◌∷◌, length, Option, Some, None, ap}
+use Rattle.std.proofs.Common.{arith, ℕ, ◌≤◌, suc, List, [], ◌∷◌, length, Option, Some, None, ap}
 use Rattle.std.specs.List.{filter_map, cons_option}
 use Rattle.reo_literals.specs.Items.{item_of}
 use Rattle.reo_flatten_unfold.proofs.kinds.store.Goals as goal

@@ -1,5 +1,5 @@
 -- One name more.
-use Rattle.std.proofs.Common.{◌≡◌, ◌∙◌, ◌++◌, ◌∷◌, [], sym, ap, subst, take, false}
+use Rattle.std.proofs.Common.{◌≡◌, ◌∙◌, [], ap, take, false}
 use Rattle.reo_trees.specs.declared.programs.Parameter.{Parameter}
 use Rattle.reo_rules_base.specs.Lists.{has_name}
 use Rattle.reo_rules_base.specs.Names.{with_name}

@@ -3,7 +3,6 @@ use Rattle.std.proofs.Common.{◌∙◌, sym, ap, subst, take}
 use Rattle.reo_values.specs.declared.kindred.Kindred.TheVariants as kinds
 use Rattle.reo_trees.specs.declared.types.Shape.TheVariants as shapes
 use Rattle.reo_literals.specs.Items.{HasFewNames}
-use Rattle.reo_rules_base.specs.Types.{resolved}
 use Rattle.reo_flatten_unfold.proofs.TypeLemmas.{resolved-Pair, few_shapes, few_pair}
 use Rattle.reo_flatten_unfold.proofs.types.+kindred_of.Goals as goal
 

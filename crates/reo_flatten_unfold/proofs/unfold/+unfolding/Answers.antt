@@ -1,5 +1,5 @@
 -- Item by item.
-use Rattle.std.proofs.Common.{rules, arith, ◌≡◌, ◌∙◌, ◌<◌, ◌≤◌, ◌+◌, ◌^◌, ◌++◌, ℕ, List, length, take, map, cond, count_by, get_or, OnOk, position, bytes_eq, codes, sym, ap, subst, refl}
+use Rattle.std.proofs.Common.{rules, arith, ◌≡◌, ◌∙◌, ◌<◌, ◌≤◌, ◌+◌, ◌^◌, ◌++◌, ℕ, List, length, take, map, cond, count_by, get_or, OnOk, position, bytes_eq, codes, sym, ap, subst}
 use Rattle.std.specs.Fmt.{decimal}
 use Rattle.std.proofs.lemmas.List.{take_all, length-take-le}
 use Rattle.reo_trees.specs.declared.items.Item.{Item}

@@ -1,5 +1,5 @@
 -- One channel more.
-use Rattle.std.proofs.Common.{◌≡◌, ◌∙◌, ◌++◌, ◌∷◌, [], sym, ap, subst, take}
+use Rattle.std.proofs.Common.{◌∙◌, ◌++◌, ◌∷◌, [], sym, ap, subst, take}
 use Rattle.std.specs.List.{All}
 use Rattle.reo_literals.specs.Items.{HasFewNames}
 use Rattle.std.specs.Option.{option_copied}
@@ -27,8 +27,8 @@ returns c =
     let second = c.in_ok-second_at.ensures ps rest c.requires.frame.local.names (sym c.len-parameters.ensures) in
     let of = c.shape_of-of.ensures.is front in
     let kind = c.in_ok-channel_kind.ensures (types_of f.declarations.now) c.requires.frame.ground.types
-        ∙ (λ i. channel_kind (sym before i) (shape_type (sym before i) (option_copied c.shape_of-of.result)) c.args.channel.now)
-        ∙ ap (λ k. channel_kind front k c.args.channel.now) of in
+    ∙ (λ i. channel_kind (sym before i) (shape_type (sym before i) (option_copied c.shape_of-of.result)) c.args.channel.now)
+    ∙ ap (λ k. channel_kind front k c.args.channel.now) of in
     record {
       nodes_are = sym (append-nil c.args.made.now.nodes);
       kinds_are = c.in_ok-push-2.ensures.ok ∙ ap (λ k. c.args.made.now.kinds ++ k ∷ []) kind;

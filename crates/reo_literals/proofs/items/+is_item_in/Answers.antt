@@ -1,5 +1,5 @@
 -- Part by part.
-use Rattle.std.proofs.Common.{rules, ◌≡◌, ◌∙◌, ◌&&◌, sym, ap, is_some, bytes_eq}
+use Rattle.std.proofs.Common.{rules, ◌∙◌, sym, ap, is_some, bytes_eq}
 use Rattle.std.specs.List.{position_from}
 use Rattle.reo_values.specs.declared.value.Value.TheVariants as values
 use Rattle.reo_literals.specs.Items.{item_in}

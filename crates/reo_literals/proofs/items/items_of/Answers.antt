@@ -1,5 +1,5 @@
 -- One literal more.
-use Rattle.std.proofs.Common.{◌∙◌, ◌++◌, [], sym, ap}
+use Rattle.std.proofs.Common.{◌∙◌, ◌++◌, [], sym}
 use Rattle.std.specs.List.{cons_option}
 use Rattle.reo_literals.specs.Items.{item_of}
 use Rattle.reo_literals.proofs.ItemLemmas.{filter_map-more}

@@ -17,8 +17,8 @@ loop-end-preserved c =
     let more : Bool → List ℕ → List End = λ way node. one_at name c.takes_in-takes.result (end_of c.args.primitive e) way node in
     let both : Bool → List ℕ → List End = λ way node. ends_in b way node c.args.primitive 0 (take (e + 1) c.args.at.now) in
     let is : (way : Bool) (node : List ℕ) → both way node ≡ first way node ++ more way node =
-        λ way node. ends_in-more b way node c.args.primitive c.args.at.now e name c.loop-end-test.true c.index-at-end.is
-        ∙ ap (λ t. first way node ++ one_at name t (end_of c.args.primitive e) way node) (sym c.takes_in-takes.ensures) in
+    λ way node. ends_in-more b way node c.args.primitive c.args.at.now e name c.loop-end-test.true c.index-at-end.is
+    ∙ ap (λ t. first way node ++ one_at name t (end_of c.args.primitive e) way node) (sym c.takes_in-takes.ensures) in
     record {
       ins = grows_on c.args.names.now (first false) (more false) (both false) _ _ _ c.loop-end.invariant.ins c.in_ok-add.ensures.ins (is false);
       outs = grows_on c.args.names.now (first true) (more true) (both true) _ _ _ c.loop-end.invariant.outs c.in_ok-add.ensures.outs (is true);

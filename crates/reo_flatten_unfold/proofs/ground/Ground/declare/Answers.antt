@@ -1,8 +1,6 @@
 -- By the declaration.
-use Rattle.std.proofs.Common.{arith, ◌≡◌, ◌∙◌, ◌++◌, ◌∷◌, [], ◌+◌, List, length, take, get_or, false, refl, sym, ap, subst}
+use Rattle.std.proofs.Common.{arith, ◌≡◌, ◌∙◌, ◌++◌, ◌∷◌, [], length, take, refl, sym, ap, subst}
 use Rattle.std.proofs.lemmas.List.{length-take-le, length-map}
-use Rattle.reo_trees.specs.declared.programs.Declaration.{Declaration}
-use Rattle.reo_trees.specs.declared.programs.Declaration.TheVariants as declarations
 use Rattle.reo_rules_base.specs.Lists.{has_name}
 use Rattle.reo_rules_base.specs.Types.{types_of}
 use Rattle.reo_rules_base.specs.Twice.{twice_in}
@@ -44,5 +42,5 @@ returns-in_ok-make-in-Made c =
     let long : length before ≡ c.args.place = length-take-le c.args.place c.args.declarations.now (omega arith) in
     subst (λ ds. IsGround ds c.make.new.self) (sym more)
     (ground_made before c.in-Made.connector c.args.self.now c.make.new.self c.requires.ground c.in_ok-make-in-Made.ensures.types c.in_ok-make-in-Made.ensures.names
-      (c.in_ok-make-in-Made.ensures.stands ∙ ap (λ n. c.args.self.now.stands ++ record { place = n; types = length c.args.self.now.types.kindreds } ∷ []) (sym long))
-      (c.in_ok-make-in-Made.ensures.sizes (meanings_of before) c.requires.ground.sizes))
+    (c.in_ok-make-in-Made.ensures.stands ∙ ap (λ n. c.args.self.now.stands ++ record { place = n; types = length c.args.self.now.types.kindreds } ∷ []) (sym long))
+    (c.in_ok-make-in-Made.ensures.sizes (meanings_of before) c.requires.ground.sizes))

@@ -1,5 +1,5 @@
 -- By the number of the name.
-use Rattle.std.proofs.Common.{arith, ◌≡◌, ◌∙◌, ◌+◌, ◌-◌, ◌<◌, ◌≤◌, ℕ, List, [], sym, ap, subst, length, get_or, position, bytes_eq, Some, None}
+use Rattle.std.proofs.Common.{arith, ◌≡◌, ◌∙◌, ◌-◌, [], sym, ap, subst, length, get_or, position, bytes_eq}
 use Rattle.std.specs.Prelude.{slice_get}
 use Rattle.std.proofs.lemmas.Option.{slice_get_within, get_or_from_slice_get}
 use Rattle.reo_trees.specs.declared.items.Item.{Item}
@@ -8,7 +8,7 @@ use Rattle.reo_rules_base.specs.Types.{resolved}
 use Rattle.reo_flatten_unfold.specs.Known.{shape_type}
 use Rattle.reo_flatten_unfold.specs.Fits.{FormFits}
 use Rattle.reo_flatten_unfold.specs.Local.{shape_in}
-use Rattle.reo_flatten_unfold.proofs.LocalLemmas.{NodeAt, node_at, node_within, node_is, parameter_is, nowhere_is}
+use Rattle.reo_flatten_unfold.proofs.LocalLemmas.{node_at, node_within, node_is, parameter_is, nowhere_is}
 use Rattle.reo_flatten_unfold.proofs.local.Local.shape_of.Goals as goal
 
 pub at-requires-else-number-parameters : goal.at-requires-else-number-parameters

@@ -1,5 +1,5 @@
 -- By the number of the name.
-use Rattle.std.proofs.Common.{◌∙◌, sym, ap, position, bytes_eq}
+use Rattle.std.proofs.Common.{◌∙◌, sym, ap}
 use Rattle.std.specs.Prelude.{unwrap_or}
 use Rattle.reo_values.specs.declared.kindred.Kindred.TheVariants as kinds
 use Rattle.reo_flatten_unfold.proofs.TypeLemmas.{few_at, named_before, named_late, named_none}
