@@ -14,7 +14,7 @@ use crate::stop::Stop;
 use reo_forms::{FormFault, Plainest, read_script, shape};
 use reo_io::Files;
 use reo_parser::{ParseFault, parse};
-use reo_script::Script;
+use reo_plain_script::Script;
 use reo_trees::Program;
 use std::alloc::Global;
 

@@ -1,6 +1,6 @@
 //! Scripts, components and actions.
 ghost use Rattle.std.specs.Prelude.{◌≡◌};
-ghost use Rattle.reo_script.specs.Actions.{port_of};
+ghost use Rattle.reo_plain_script.specs.Actions.{port_of};
 
 use reo_values::{Bytes, List, Value};
 

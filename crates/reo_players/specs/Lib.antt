@@ -1,0 +1,5 @@
+pub mod Counters
+pub mod Offers
+pub mod Players
+pub mod Standing
+pub mod Written

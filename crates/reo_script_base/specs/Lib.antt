@@ -1,0 +1,5 @@
+pub mod ScriptForms
+pub mod Alike
+pub mod Table
+pub mod ScriptRules
+pub mod ScriptAnswers

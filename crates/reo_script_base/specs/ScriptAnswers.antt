@@ -1,0 +1,79 @@
+-- What a script text is answered.
+use Rattle.std.specs.Prelude.{◌≡◌, ◌⊎◌, ℕ, ◌+◌, ◌<◌, true, Some, List, [], ◌∷◌, ◌++◌, map, codes, Result, Ok, Err}
+use Rattle.reo_grammar.specs.Tokens.{Lexeme, matches}
+use Rattle.reo_grammar.specs.Tokens.Class.{fixed}
+use Rattle.reo_grammar.specs.Grammar.{Says, Refused, Begins}
+use Rattle.reo_grammar.specs.Levels.{IsAbove, Nowhere, count_of}
+use Rattle.reo_lexer.specs.declared.token.Token.{Token}
+use Rattle.reo_lexer.specs.Lexing.{IsTokens, lexemes_of}
+use Rattle.reo_lexer.specs.Faults.{IsFault}
+use Rattle.reo_trees.specs.Says.{most_levels}
+use Rattle.reo_net_base.specs.declared.port.Port.{Port}
+use Rattle.reo_script_base.specs.declared.fault.ScriptFault.{ScriptFault}
+use Rattle.reo_script_base.specs.declared.fault.ScriptFault.TheVariants as faults
+use Rattle.reo_script_base.specs.declared.forms.ComponentForm.{ComponentForm}
+use Rattle.reo_script_base.specs.declared.action.Script.{Script}
+use Rattle.reo_rules_base.specs.Lists.{first_of}
+use Rattle.reo_script_base.specs.ScriptForms.{script_rules, script_form}
+use Rattle.reo_script_base.specs.ScriptRules.{breaks, component_for}
+
+-- The last of these tokens is a `repeat` that stands in so many others; a `{` more is open there, that of its component.
+abbrev pub IsNested : ℕ → List Lexeme → Type 0
+IsNested limit ts =
+    (a : List Lexeme) × (t : Lexeme) × (ts ≡ a ++ (t ∷ [])) × (matches (fixed (codes "repeat")) t ≡ true)
+    × (limit + count_of (fixed (codes "}")) ts < count_of (fixed (codes "{")) ts)
+
+-- A level above 64, or a repeat within sixteen others.
+abbrev pub IsDeep : List Lexeme → Type 0
+IsDeep ts = IsAbove most_levels ts ⊎ IsNested 16 ts
+
+-- The text's tokens say these components, and none of them is too deep.
+abbrev pub SaysScript : List ℕ → List ComponentForm → Type 0
+SaysScript text cs = (ts : List Token) × IsTokens text ts × Says script_rules script_form (lexemes_of text ts) cs × Nowhere IsDeep (lexemes_of text ts)
+
+-- The line of the last token, and that of a refusal.
+abbrev pub last_line : List Lexeme → ℕ
+last_line [] = 0
+last_line (t ∷ []) = t.line
+last_line (t ∷ u ∷ ts) = last_line (u ∷ ts)
+
+abbrev pub refused_line : List Lexeme → List Lexeme → ℕ
+refused_line ts [] = last_line ts
+refused_line ts (t ∷ u) = t.line
+
+-- The tokens are refused on this line, and none before that is too deep.
+abbrev pub IsSyntax : List Lexeme → ℕ → Type 0
+IsSyntax ts line = (a : List Lexeme) × (u : List Lexeme) × (ts ≡ a ++ u) × Refused script_rules script_form ts u × Nowhere IsDeep a × (line ≡ refused_line ts u)
+
+-- The first token that is too deep is on this line, and those up to and including it begin a script.
+abbrev pub IsTooDeep : List Lexeme → ℕ → Type 0
+IsTooDeep ts line =
+    (a : List Lexeme) × (t : Lexeme) × (u : List Lexeme) × (ts ≡ a ++ (t ∷ u)) × IsDeep (a ++ (t ∷ [])) × Nowhere IsDeep a
+    × Begins script_rules script_form (a ++ (t ∷ [])) × (line ≡ t.line)
+
+-- The text says this script for these ports.
+abbrev pub IsScriptOf : List ℕ → List Port → Script → Type 0
+IsScriptOf text ports s = (cs : List ComponentForm) × SaysScript text cs × (breaks ports cs ≡ []) × (s.components ≡ map (component_for ports) cs)
+
+-- The first break of the script that the text says.
+abbrev pub HasBreak : List ℕ → List Port → ScriptFault → Type 0
+HasBreak text ports fault = (cs : List ComponentForm) × SaysScript text cs × (first_of (breaks ports cs) ≡ Some fault)
+
+-- This is the answer to the text.
+abbrev pub Answers : List ℕ → List Port → Result Script ScriptFault → Type 0
+Answers text ports (Ok s) = IsScriptOf text ports s
+Answers text ports (Err (faults.Lex f)) = IsFault text f
+Answers text ports (Err (faults.Syntax line)) = (ts : List Token) × IsTokens text ts × IsSyntax (lexemes_of text ts) line
+Answers text ports (Err (faults.TooDeep line)) = (ts : List Token) × IsTokens text ts × IsTooDeep (lexemes_of text ts) line
+Answers text ports (Err faults.NoMemory) = ⊥
+Answers text ports (Err fault) = HasBreak text ports fault
+
+-- It is answered so, or memory was wanting.
+abbrev pub IsRead : List ℕ → List Port → Result Script ScriptFault → Type 0
+IsRead text ports (Err faults.NoMemory) = Unit {0}
+IsRead text ports r = Answers text ports r
+
+-- What was answered is this answer, or want of memory.
+abbrev pub IsThis : Result Script ScriptFault → Result Script ScriptFault → Type 0
+IsThis answer (Err faults.NoMemory) = Unit {0}
+IsThis answer r = r ≡ answer
