@@ -2,6 +2,7 @@
 ghost use Rattle.std.specs.Prelude.{◌≡◌};
 
 use reo_values::{Bytes, NoMemory};
+use std::fmt::{self, Debug, Display, Formatter};
 use thiserror::Error;
 
 /// Why a program has no circuit. Each line is counted from 1.
@@ -49,5 +50,11 @@ impl From<NoMemory> for FlatFault {
 
     fn from(_: NoMemory) -> Self {
         FlatFault::NoMemory
+    }
+}
+
+impl Debug for FlatFault {
+    fn fmt<W: fmt::Write>(&self, f: &mut Formatter<W>) -> fmt::Result {
+        Display::fmt(self, f)
     }
 }

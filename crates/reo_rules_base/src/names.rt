@@ -32,17 +32,26 @@ impl Names {
         }
     }
 
-    /// The number of a name.
+    /// The number of a name, or None where it is not there.
     pub fn find(&self, name: &[u8]) -> Option<usize>
         ensures { result ≡ position (bytes_eq name.now) self.now }
     {
         self.set.get_index_of(name)
     }
 
-    /// Whether the name is there. Where it is not, it is added at the end. `NoMemory` is out of memory, and the names stay as they were.
+    /// Whether the name is there.
+    pub fn has(&self, name: &[u8]) -> bool
+        ensures { result ≡ has_name self.now name.now }
+    {
+        self.set.contains(name)
+    }
+
+    /// Whether the name is there already. Where it is not, it is added at the end. `NoMemory` is
+    /// out of memory, and then the names stay as they were.
     pub fn note(&mut self, alloc: Global, name: &[u8]) -> Result<bool, NoMemory>
         ensures there { IfOk result (λ b. b ≡ has_name self.old name.now) }
         ensures names { OnOk result (self.new ≡ with_name self.old name.now) }
+        ensures unchanged { OnErr result (self.new ≡ self.old) }
     {
         let Ok(name) = Vec::from_slice(alloc, name) else {
             return Err(NoMemory);
