@@ -34,13 +34,13 @@ each_of_circuit r k =
 
 pub script_sound : Sound ScriptRule script_tree script_rules
 script_sound = record {
-  productive = elim [ action_rule ↦ refl | of_circuit ↦ elim [ type_rule ↦ refl | literal_rule ↦ refl | term_rule ↦ refl | unary_rule ↦ refl ] ];
-  something = elim [ action_rule ↦ refl | of_circuit ↦ elim [ type_rule ↦ refl | literal_rule ↦ refl | term_rule ↦ refl | unary_rule ↦ refl ] ];
+  productive = elim [ action_rule ↦ refl | of_circuit type_rule ↦ refl | of_circuit literal_rule ↦ refl | of_circuit term_rule ↦ refl | of_circuit unary_rule ↦ refl ];
+  something = elim [ action_rule ↦ refl | of_circuit type_rule ↦ refl | of_circuit literal_rule ↦ refl | of_circuit term_rule ↦ refl | of_circuit unary_rule ↦ refl ];
   each = elim [
     | action_rule ↦ λ k. (
       sample (fixed (codes "pause")) ∷ sample (number 1 most_rounds) ∷ sample (fixed (codes ";")) ∷ [],
       forms.Pause 1,
-      (refl, refl, refl, tt),
+      (refl, (refl, (refl, tt))),
       inr (inr (inl (
         sample (fixed (codes "pause")) ∷ [],
         sample (number 1 most_rounds) ∷ sample (fixed (codes ";")) ∷ [],
@@ -61,7 +61,7 @@ script_sound = record {
         refl,
       ))),
     )
-    | of_circuit ↦ each_of_circuit
+    | of_circuit r ↦ each_of_circuit r
   ];
 }
 
@@ -70,8 +70,8 @@ script_table = record {
   sound = script_sound;
   first = script_first;
   more = script_more;
-  first-is = elim [ action_rule ↦ refl | of_circuit ↦ elim [ type_rule ↦ refl | literal_rule ↦ refl | term_rule ↦ refl | unary_rule ↦ refl ] ];
-  more-is = elim [ action_rule ↦ refl | of_circuit ↦ elim [ type_rule ↦ refl | literal_rule ↦ refl | term_rule ↦ refl | unary_rule ↦ refl ] ];
-  guarded = elim [ action_rule ↦ refl | of_circuit ↦ elim [ type_rule ↦ refl | literal_rule ↦ refl | term_rule ↦ refl | unary_rule ↦ refl ] ];
-  sighted = elim [ action_rule ↦ refl | of_circuit ↦ elim [ type_rule ↦ refl | literal_rule ↦ refl | term_rule ↦ refl | unary_rule ↦ refl ] ];
+  first-is = elim [ action_rule ↦ refl | of_circuit type_rule ↦ refl | of_circuit literal_rule ↦ refl | of_circuit term_rule ↦ refl | of_circuit unary_rule ↦ refl ];
+  more-is = elim [ action_rule ↦ refl | of_circuit type_rule ↦ refl | of_circuit literal_rule ↦ refl | of_circuit term_rule ↦ refl | of_circuit unary_rule ↦ refl ];
+  guarded = elim [ action_rule ↦ refl | of_circuit type_rule ↦ refl | of_circuit literal_rule ↦ refl | of_circuit term_rule ↦ refl | of_circuit unary_rule ↦ refl ];
+  sighted = elim [ action_rule ↦ refl | of_circuit type_rule ↦ refl | of_circuit literal_rule ↦ refl | of_circuit term_rule ↦ refl | of_circuit unary_rule ↦ refl ];
 }

@@ -3,6 +3,7 @@ ghost use Rattle.std.specs.Prelude.{◌≡◌};
 
 use reo_lexer::LexFault;
 use reo_values::{Bytes, NoMemory};
+use std::fmt::{self, Debug, Display, Formatter};
 use thiserror::Error;
 
 /// Why a script text is refused. Each line is counted from 1; those of the rules on ports are
@@ -43,5 +44,11 @@ impl From<NoMemory> for ScriptFault {
 
     fn from(_: NoMemory) -> Self {
         ScriptFault::NoMemory
+    }
+}
+
+impl Debug for ScriptFault {
+    fn fmt<W: fmt::Write>(&self, f: &mut Formatter<W>) -> fmt::Result {
+        Display::fmt(self, f)
     }
 }
