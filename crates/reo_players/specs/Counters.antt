@@ -1,88 +1,88 @@
--- Loop counters, and the list that they stand for.
-use Rattle.std.specs.Prelude.{ℕ, zero, suc, ◌≡◌, cond, is_none, Option, Some, None, List, [], ◌∷◌, ◌++◌}
+-- Loop counters, and the list of tasks that they stand for.
+use Rattle.std.specs.Prelude.{ℕ, suc, ◌≡◌, ◌<◌, max, Bool, true, false, Option, Some, None, List, [], ◌∷◌, ◌++◌, drop, slice_get}
 use Rattle.std.specs.List.{flat_map}
 use Rattle.reo_script_base.specs.declared.action.Action as action
 use Rattle.reo_script_base.specs.declared.action.Action.{Action}
-use Rattle.reo_script_base.specs.declared.action.Action.TheVariants as actions
-use Rattle.reo_rules_base.specs.Lists.{first_of}
-use Rattle.reo_players.specs.Written.{Task, times_over, written, written_row}
-use Rattle.reo_players.specs.Written.Task.{writes, takes, rests}
-
--- A loop that is under way: what is left of the body this time, the body, and how many times it is still to come.
-pub record Loop : Type 0 where
-  pub left : List Action
-  pub body : List Action
-  pub times : ℕ
-
--- The list that a loop still comes to.
-abbrev pub loop_rest : Loop → List Task
-loop_rest l = flat_map written l.left ++ times_over l.times (flat_map written l.body)
-
--- The list that a stack of loops, the innermost first, still comes to.
-abbrev pub rest_of : List Loop → List Task
-rest_of ls = flat_map loop_rest ls
+use Rattle.reo_players.specs.declared.counter.Counter.{Counter}
+use Rattle.reo_players.specs.Written.{Task, times_over, written}
 
 -- The actions of a body.
 abbrev pub actions_in : {m : _} → action.Row_of-Action m → List Action
 actions_in action.end_of-Action = []
 actions_in (action.more_of-Action a rest) = a ∷ actions_in rest
 
--- A component's loops at the beginning.
-abbrev pub loops_of : List Action → List Loop
-loops_of xs = record { left = xs; body = []; times = 0 } ∷ []
+abbrev mutual
+  -- How many counters the lists of actions within an action take.
+  pub levels_within : Action → ℕ
+  levels_within (action.Write port item within) = 0
+  levels_within (action.Take port within) = 0
+  levels_within (action.Pause rounds) = 0
+  levels_within (action.Repeat' times shape body) = levels_row body
 
--- At an action: a repeat whose written-out list is empty is skipped, another is entered, and an action that is none is stood at.
-abbrev pub turned_at : Action → List Action → List Action → ℕ → List Loop → List Loop
-turned_at (action.Write port item within) left body times ls = record { left = actions.Write port item within ∷ left; body = body; times = times } ∷ ls
-turned_at (action.Take port within) left body times ls = record { left = actions.Take port within ∷ left; body = body; times = times } ∷ ls
-turned_at (action.Pause rounds) left body times ls = record { left = actions.Pause rounds ∷ left; body = body; times = times } ∷ ls
-turned_at (action.Repeat' n shape inner) left body times ls =
-    cond (is_none (first_of (times_over n (written_row inner))))
-    (record { left = left; body = body; times = times } ∷ ls)
-    (record { left = []; body = actions_in inner; times = n } ∷ record { left = left; body = body; times = times } ∷ ls)
+  pub levels_row : {m : _} → action.Row_of-Action m → ℕ
+  levels_row action.end_of-Action = 0
+  levels_row (action.more_of-Action a rest) = max (suc (levels_within a)) (levels_row rest)
 
-abbrev pub turned_in : List Action → List Action → ℕ → List Loop → List Loop
-turned_in [] body zero ls = ls
-turned_in [] body (suc n) ls = record { left = body; body = body; times = n } ∷ ls
-turned_in (a ∷ left) body times ls = turned_at a left body times ls
+-- How many counters a list of actions takes.
+abbrev pub levels_of : List Action → ℕ
+levels_of [] = 0
+levels_of (a ∷ actions) = max (suc (levels_within a)) (levels_of actions)
 
--- One turn of the counters: out of a loop that is over, once more through its body, past an empty repeat or into another.
-abbrev pub turned : List Loop → List Loop
-turned [] = []
-turned (l ∷ ls) = turned_in l.left l.body l.times ls
+abbrev mutual
+  -- The action has a list: it is no repeat, or one that is done at least once, and whose actions have one, and there are some.
+  pub IsLive : Action → Type 0
+  IsLive (action.Write port item within) = Unit {0}
+  IsLive (action.Take port within) = Unit {0}
+  IsLive (action.Pause rounds) = Unit {0}
+  IsLive (action.Repeat' times shape body) = (0 < times) × IsLiveBody body
 
--- The action that the innermost loop stands at, where it is no repeat.
-abbrev pub task_of : Action → Option Task
-task_of (action.Write port item within) = Some (writes port item within)
-task_of (action.Take port within) = Some (takes port within)
-task_of (action.Pause rounds) = Some (rests rounds)
-task_of (action.Repeat' n shape inner) = None
+  pub IsLiveBody : {m : _} → action.Row_of-Action m → Type 0
+  IsLiveBody action.end_of-Action = ⊥
+  IsLiveBody (action.more_of-Action a rest) = IsLive a × AreLiveRow rest
 
-abbrev pub standing_in : List Action → Option Task
-standing_in [] = None
-standing_in (a ∷ left) = task_of a
+  pub AreLiveRow : {m : _} → action.Row_of-Action m → Type 0
+  AreLiveRow action.end_of-Action = Unit {0}
+  AreLiveRow (action.more_of-Action a rest) = IsLive a × AreLiveRow rest
 
-abbrev pub standing : List Loop → Option Task
-standing [] = None
-standing (l ∷ ls) = standing_in l.left
+abbrev pub AreLive : List Action → Type 0
+AreLive [] = Unit {0}
+AreLive (a ∷ actions) = IsLive a × AreLive actions
 
--- The counters behind the action that they stand at.
-abbrev pub passed_in : List Action → List Action
-passed_in [] = []
-passed_in (a ∷ left) = left
+-- What the action at a counter still comes to: a repeat, to what is left of its body this time, and the body so many times.
+abbrev pub rest_here : Option Action → ℕ → (List Action → List Task) → List Task
+rest_here None left inner = []
+rest_here (Some (action.Write port item within)) left inner = written (action.Write port item within)
+rest_here (Some (action.Take port within)) left inner = written (action.Take port within)
+rest_here (Some (action.Pause rounds)) left inner = written (action.Pause rounds)
+rest_here (Some (action.Repeat' times shape body)) left inner = inner (actions_in body) ++ times_over left (flat_map written (actions_in body))
 
-abbrev pub passed : List Loop → List Loop
-passed [] = []
-passed (l ∷ ls) = record { left = passed_in l.left; body = l.body; times = l.times } ∷ ls
+-- What a list of actions still comes to, where counters stand so in it, the outermost first.
+abbrev pub rest_of : List Action → List Counter → List Task
+rest_of actions [] = []
+rest_of actions (c ∷ cs) = rest_here (slice_get actions c.place) c.left (λ body. rest_of body cs) ++ flat_map written (drop (suc c.place) actions)
 
--- A turn of the counters keeps the list.
-abbrev pub TurnKeepsTheRest : Type 0
-TurnKeepsTheRest = (ls : List Loop) → rest_of (turned ls) ≡ rest_of ls
+-- The counters stand at an action that is no repeat.
+abbrev pub StandsHere : Option Action → (List Action → Type 0) → Type 0
+StandsHere None Inner = ⊥
+StandsHere (Some (action.Write port item within)) Inner = Unit {0}
+StandsHere (Some (action.Take port within)) Inner = Unit {0}
+StandsHere (Some (action.Pause rounds)) Inner = Unit {0}
+StandsHere (Some (action.Repeat' times shape body)) Inner = Inner (actions_in body)
 
--- Where the counters stand at an action, it is the first of the list, and behind it is what is left.
-abbrev pub StandsAtTheFirst : Type 0
-StandsAtTheFirst = (ls : List Loop) (t : Task) → standing ls ≡ Some t → rest_of ls ≡ t ∷ rest_of (passed ls)
+abbrev pub Stands : List Action → List Counter → Type 0
+Stands actions [] = ⊥
+Stands actions (c ∷ cs) = StandsHere (slice_get actions c.place) (λ body. Stands body cs)
 
--- At the beginning the counters stand for the whole list.
-abbrev pub BeginsWhole : Type 0
-BeginsWhole = (xs : List Action) → rest_of (loops_of xs) ≡ flat_map written xs
+-- The counters have gone past the first task of their list; false: it was the only one.
+abbrev pub PassedOn : Bool → List Action → List Counter → List Counter → Type 0
+PassedOn true actions old new = Stands actions new × (rest_of actions new ≡ drop 1 (rest_of actions old))
+PassedOn false actions old new = drop 1 (rest_of actions old) ≡ []
+
+-- The same for the counters at and within one action.
+abbrev pub rest_within : Action → Counter → List Counter → List Task
+rest_within a here inner = rest_here (Some a) here.left (λ body. rest_of body inner)
+
+abbrev pub PassedWithin : Bool → Action → Counter → Counter → List Counter → List Counter → Type 0
+PassedWithin true a here now old new =
+    (now.place ≡ here.place) × StandsHere (Some a) (λ body. Stands body new) × (rest_within a now new ≡ drop 1 (rest_within a here old))
+PassedWithin false a here now old new = (now.place ≡ here.place) × (drop 1 (rest_within a here old) ≡ [])

@@ -1,5 +1,4 @@
+pub mod Written
+pub mod Players
 pub mod Counters
 pub mod Offers
-pub mod Players
-pub mod Standing
-pub mod Written

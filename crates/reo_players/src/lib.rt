@@ -5,5 +5,6 @@ mod counter;
 mod laws;
 mod step;
 
-pub use laws::{begins_whole, offers_agree, stands_at_the_first, stuck_is_not_done, turn_keeps_the_rest};
+pub use counter::{Counter, levels, pass, stand_at};
+pub use laws::{offers_agree, stuck_is_not_done};
 pub use step::Step;
