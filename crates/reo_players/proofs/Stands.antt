@@ -1,5 +1,5 @@
 -- Counters at a place of a list of actions.
-use Rattle.std.proofs.Common.{◌≡◌, ◌∙◌, ℕ, zero, suc, max, ◌+◌, ◌≤◌, ◌<◌, List, [], ◌∷◌, ◌++◌, length, drop, flat_map, slice_get, Some, Option, refl, sym, ap, subst, arith}
+use Rattle.std.proofs.Common.{◌≡◌, ◌∙◌, ℕ, zero, suc, max, ◌+◌, ◌≤◌, ◌<◌, List, [], ◌∷◌, ◌++◌, length, drop, take, flat_map, slice_get, Some, Option, refl, sym, ap, subst, arith}
 use Rattle.std.proofs.Math.ListN.{get_or}
 use Rattle.std.proofs.Math.Seq.{drop-cons}
 use Rattle.std.proofs.lemmas.Option.{slice_get_read, get_or_from_slice_get}
@@ -49,3 +49,6 @@ pub rest_from : (xs : List Action) (c : Counter) (cs : List Counter) (a : Action
 rest_from xs c cs a place same e rest =
     rest_by xs c cs a (ap (slice_get xs) same ∙ e) ∙ (ap (λ ts. ts ++ flat_map written (drop (suc c.place) xs)) rest
     ∙ (ap (λ p. written a ++ flat_map written (drop (suc p) xs)) same ∙ sym (written_from xs place a e)))
+
+pub one_up : (n : ℕ) → n + 1 ≡ suc n
+one_up n = omega arith

@@ -1,4 +1,5 @@
 pub mod Written
 pub mod Players
+pub mod Codes
 pub mod Counters
 pub mod Offers

@@ -1,5 +1,5 @@
 -- One component in a run: what is left of its written-out list, and how many rounds its present action has seen.
-use Rattle.std.specs.Prelude.{ℕ, ◌≡◌, ◌+◌, ◌==◌, ◌||◌, Bool, false, cond, map, Option, Some, None, is_some, is_none, List, [], ◌∷◌, option_and_then}
+use Rattle.std.specs.Prelude.{ℕ, ◌≡◌, ◌+◌, ◌-◌, ◌^◌, min, ◌==◌, ◌||◌, Bool, false, cond, map, Option, Some, None, is_some, is_none, List, [], ◌∷◌, option_and_then}
 use Rattle.std.specs.Option.{option_map_or}
 use Rattle.std.specs.List.{list_any, list_all}
 use Rattle.reo_net_base.specs.declared.port.Offer.{Offer}
@@ -57,10 +57,14 @@ someone_counts ps = list_any counts ps
 abbrev pub runs_out : Task → ℕ → Bool
 runs_out t seen = option_map_or (λ n. (seen + 1) == n) (bound_of t) false
 
+-- One more round seen. They are counted up to the greatest number of 32 bits, which no bound can pass.
+abbrev pub one_more_seen : ℕ → ℕ
+one_more_seen seen = min (seen + 1) (2 ^ 32 - 1)
+
 -- The player after a round in which its offer flowed, or not.
 abbrev pub after_task : Bool → ℕ → List Task → Player
 after_task flowed seen [] = record { rest = []; seen = seen }
-after_task flowed seen (t ∷ ts) = cond (flowed || runs_out t seen) (record { rest = ts; seen = 0 }) (record { rest = t ∷ ts; seen = seen + 1 })
+after_task flowed seen (t ∷ ts) = cond (flowed || runs_out t seen) (record { rest = ts; seen = 0 }) (record { rest = t ∷ ts; seen = one_more_seen seen })
 
 abbrev pub after : Bool → Player → Player
 after flowed p = after_task flowed p.seen p.rest

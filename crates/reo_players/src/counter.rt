@@ -1,5 +1,5 @@
 //! Loop counters.
-ghost use Rattle.std.specs.Prelude.{◌≡◌, ◌≤◌, ◌<◌, [], length, drop, IfOk, Some};
+ghost use Rattle.std.specs.Prelude.{◌≡◌, ◌+◌, ◌≤◌, ◌<◌, [], length, drop, IfOk, Some};
 ghost use Rattle.std.specs.List.{flat_map};
 ghost use Rattle.reo_players.specs.Written.{written};
 ghost use Rattle.reo_players.specs.Counters.{levels_of, levels_within, rest_of, rest_within, Stands, StandsHere, IsLive, AreLive, PassedOn, PassedWithin};
@@ -15,20 +15,31 @@ pub struct Counter {
     pub left: u32,
 }
 
+/// How many counters a list with an action takes at least. `NoMemory`: more than any list has.
+#[cycle(levels)]
+fn levels_with(action: &Action) -> Result<usize, NoMemory>
+    ensures { IfOk result (λ n. n ≡ levels_within action.now + 1) }
+{
+    match action {
+        Action::Repeat { body, .. } => {
+            let within = levels(body.as_slice())?;
+            if within == usize::MAX {
+                return Err(NoMemory);
+            }
+            Ok(within + 1)
+        }
+        Action::Write { .. } | Action::Take { .. } | Action::Pause { .. } => Ok(1),
+    }
+}
+
 /// How many counters a list of actions takes. `NoMemory`: more than any list has.
+#[cycle(levels)]
 pub fn levels(actions: &[Action]) -> Result<usize, NoMemory>
     ensures { IfOk result (λ n. n ≡ levels_of actions.now) }
 {
     let mut most: usize = 0;
     for action in actions {
-        let within = match action {
-            Action::Repeat { body, .. } => levels(body.as_slice())?,
-            Action::Write { .. } | Action::Take { .. } | Action::Pause { .. } => 0,
-        };
-        if within == usize::MAX {
-            return Err(NoMemory);
-        }
-        most = most.max(within + 1);
+        most = most.max(levels_with(action)?);
     }
     Ok(most)
 }

@@ -3,8 +3,11 @@
 
 mod counter;
 mod laws;
+mod live;
+mod player;
 mod step;
 
-pub use counter::{Counter, levels, pass, stand_at};
+
+pub use player::Player;
 pub use laws::{offers_agree, stuck_is_not_done};
 pub use step::Step;
