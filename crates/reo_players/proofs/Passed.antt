@@ -1,13 +1,15 @@
 -- Standing at the first task of a repeat, and going past a task in it.
-use Rattle.std.proofs.Common.{◌≡◌, ◌∙◌, ℕ, zero, suc, true, false, ◌+◌, ◌-◌, ◌≤◌, ◌<◌, List, [], ◌∷◌, ◌++◌, length, drop, flat_map, slice_get, Some, None, Option, refl, sym, ap, subst, arith, ⊎_elim}
+use Rattle.std.proofs.Common.{◌≡◌, ◌∙◌, ℕ, zero, suc, true, false, ◌+◌, ◌-◌, ◌≤◌, ◌<◌, List, [], ◌∷◌, ◌++◌, length, drop, flat_map, slice_get, Some, None, Option, refl, sym, ap, subst, arith, ⊎_elim, IsSome, true≢false}
 use Rattle.std.proofs.lemmas.List.{append_assoc, append-nil}
 use Rattle.std.proofs.lemmas.Option.{slice_get_cases}
 use Rattle.reo_players.proofs.Stands.{rest_by, stands_by, stands_of}
 use Rattle.reo_script_base.specs.declared.action.Action as action
 use Rattle.reo_script_base.specs.declared.action.Action.{Action, Repeat}
 use Rattle.reo_players.specs.declared.counter.Counter.{Counter}
+use Rattle.reo_rules_base.specs.Lists.{first_of}
 use Rattle.reo_players.specs.Written.{Task, times_over, written}
-use Rattle.reo_players.specs.Counters.{actions_in, levels_within, levels_of, IsLive, AreLive, rest_here, rest_of, rest_within, Stands, StandsHere, PassedOn, PassedWithin}
+use Rattle.reo_players.specs.Written.Task.{writes, takes, rests}
+use Rattle.reo_players.specs.Counters.{actions_in, levels_within, levels_of, IsLive, AreLive, rest_here, rest_of, rest_within, Stands, StandsHere, PassedOn, PassedWithin, task_of}
 use Rattle.reo_players.proofs.Bodies.{written_repeat, levels_repeat, times_live, body_live, body_some, stands_in, stands_out, rest_repeat, once_more}
 
 -- What stands at a task has a first one, so that what follows is not touched where it goes.
@@ -111,3 +113,49 @@ module _ (xs : List Action) (counters : List Counter) (here now : Counter) (old 
   -- Behind the action.
   pub passed_last : PassedWithin false a here now old new → drop 1 (rest_of xs counters) ≡ after
   passed_last h = rest_was ∙ ap (λ ts. ts ++ after) h.1
+
+-- The first task of a list that counters stand in.
+abbrev HasTask : List Task → Type 0
+HasTask ts = (t : Task) × (us : List Task) × (ts ≡ t ∷ us)
+
+some_append : (xs ys : List Task) → HasTask xs → HasTask (xs ++ ys)
+some_append xs ys h = (h.0, h.1 ++ ys, ap (λ ts. ts ++ ys) h.2)
+
+some_here : (o : Option Action) (left : ℕ) (Inner : List Action → Type 0) (inner : List Action → List Task) → ((body : List Action) → Inner body → HasTask (inner body))
+    → StandsHere o Inner → HasTask (rest_here o left inner)
+some_here None left Inner inner all h = elim h [ ]
+some_here (Some (action.Write port item within)) left Inner inner all h = (writes port item within, [], refl)
+some_here (Some (action.Take port within)) left Inner inner all h = (takes port within, [], refl)
+some_here (Some (action.Pause rounds)) left Inner inner all h = (rests rounds, [], refl)
+some_here (Some (action.Repeat' times shape body)) left Inner inner all h =
+    some_append (inner (actions_in body)) (times_over left (flat_map written (actions_in body))) (all (actions_in body) h)
+
+some_task : (cs : List Counter) (xs : List Action) → Stands xs cs → HasTask (rest_of xs cs)
+some_task [] xs h = elim h [ ]
+some_task (c ∷ cs) xs h =
+    some_append (rest_here (slice_get xs c.place) c.left (λ body. rest_of body cs)) (flat_map written (drop (suc c.place) xs))
+    (some_here (slice_get xs c.place) c.left (λ body. Stands body cs) (λ body. rest_of body cs) (some_task cs) h)
+
+first_append : (xs ys : List Task) → HasTask xs → first_of (xs ++ ys) ≡ first_of xs
+first_append xs ys h = ap (λ ts. first_of (ts ++ ys)) h.2 ∙ sym (ap first_of h.2)
+
+-- It is that of the action at their place.
+pub first_of_place : (xs : List Action) (counters : List Counter) (here : Counter) (cs : List Counter) (a : Action) → counters ≡ here ∷ cs → slice_get xs here.place ≡ Some a → Stands xs counters
+    → first_of (rest_of xs counters) ≡ first_of (rest_within a here cs)
+first_of_place xs counters here cs a are at h =
+    let stood : StandsHere (Some a) (λ body. Stands body cs) = stands_of xs here cs a at (subst (Stands xs) are h) in
+    ap (λ l. first_of (rest_of xs l)) are ∙ (ap first_of (rest_by xs here cs a at)
+    ∙ first_append (rest_within a here cs) (flat_map written (drop (suc here.place) xs)) (some_here (Some a) here.left (λ body. Stands body cs) (λ body. rest_of body cs) (some_task cs) stood))
+
+-- And of a repeat, that of its body.
+pub first_of_body : (a : Action) (times : ℕ) (body xs : List Action) (is : a ≡ Repeat times body) (slice : xs ≡ body) (here : Counter) (cs : List Counter) → Stands xs cs
+    → first_of (rest_within a here cs) ≡ first_of (rest_of xs cs)
+first_of_body a times body xs is slice here cs h =
+    ap first_of (rest_is a times body xs is slice here cs) ∙ first_append (rest_of xs cs) (times_over here.left (flat_map written xs)) (some_task cs xs h)
+
+-- Of another action, itself.
+pub first_of_task : (a : Action) (here : Counter) (cs : List Counter) → IsSome (task_of a) → first_of (rest_within a here cs) ≡ task_of a
+first_of_task (action.Write port item within) here cs some = refl
+first_of_task (action.Take port within) here cs some = refl
+first_of_task (action.Pause rounds) here cs some = refl
+first_of_task (action.Repeat' times shape body) here cs some = absurd (true≢false (sym some))

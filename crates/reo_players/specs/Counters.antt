@@ -5,6 +5,7 @@ use Rattle.reo_script_base.specs.declared.action.Action as action
 use Rattle.reo_script_base.specs.declared.action.Action.{Action}
 use Rattle.reo_players.specs.declared.counter.Counter.{Counter}
 use Rattle.reo_players.specs.Written.{Task, times_over, written}
+use Rattle.reo_players.specs.Written.Task.{writes, takes, rests}
 
 -- The actions of a body.
 abbrev pub actions_in : {m : _} → action.Row_of-Action m → List Action
@@ -86,3 +87,20 @@ abbrev pub PassedWithin : Bool → Action → Counter → Counter → List Count
 PassedWithin true a here now old new =
     (now.place ≡ here.place) × StandsHere (Some a) (λ body. Stands body new) × (rest_within a now new ≡ drop 1 (rest_within a here old))
 PassedWithin false a here now old new = (now.place ≡ here.place) × (drop 1 (rest_within a here old) ≡ [])
+
+-- The task that an action is; none for a repeat.
+abbrev pub task_of : Action → Option Task
+task_of (action.Write port item within) = Some (writes port item within)
+task_of (action.Take port within) = Some (takes port within)
+task_of (action.Pause rounds) = Some (rests rounds)
+task_of (action.Repeat' times shape body) = None
+
+-- What is left of a component's list: nothing once it is done.
+abbrev pub rest_left : Bool → List Action → List Counter → List Task
+rest_left true actions counters = []
+rest_left false actions counters = rest_of actions counters
+
+-- Until then its counters stand at a task.
+abbrev pub StandsUntil : Bool → List Action → List Counter → Type 0
+StandsUntil true actions counters = Unit {0}
+StandsUntil false actions counters = Stands actions counters

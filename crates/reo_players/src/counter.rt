@@ -1,8 +1,9 @@
 //! Loop counters.
-ghost use Rattle.std.specs.Prelude.{◌≡◌, ◌+◌, ◌≤◌, ◌<◌, [], length, drop, IfOk, Some};
+ghost use Rattle.std.specs.Prelude.{◌≡◌, ◌+◌, ◌≤◌, ◌<◌, [], length, drop, IfOk, Some, IsSome};
 ghost use Rattle.std.specs.List.{flat_map};
 ghost use Rattle.reo_players.specs.Written.{written};
-ghost use Rattle.reo_players.specs.Counters.{levels_of, levels_within, rest_of, rest_within, Stands, StandsHere, IsLive, AreLive, PassedOn, PassedWithin};
+ghost use Rattle.reo_players.specs.Counters.{levels_of, levels_within, rest_of, rest_within, Stands, StandsHere, IsLive, AreLive, PassedOn, PassedWithin, task_of};
+ghost use Rattle.reo_rules_base.specs.Lists.{first_of};
 
 use reo_script_base::Action;
 use reo_values::NoMemory;
@@ -128,4 +129,20 @@ pub fn pass(actions: &[Action], counters: &mut [Counter]) -> bool
     }
     stand_at(actions, counters, place + 1);
     true
+}
+
+/// The action at which the counters stand.
+pub fn standing<'a>(actions: &'a [Action], counters: &[Counter]) -> &'a Action
+    requires stands { Stands actions.now counters.now }
+    ensures first { first_of (rest_of actions.now counters.now) ≡ task_of result.now }
+    ensures task { IsSome (task_of result.now) }
+{
+    let Some((here, inner)) = counters.split_first() else {
+        unreachable!()
+    };
+    let action = &actions[here.place];
+    match action {
+        Action::Repeat { body, .. } => standing(body.as_slice(), inner),
+        Action::Write { .. } | Action::Take { .. } | Action::Pause { .. } => action,
+    }
 }
