@@ -1,6 +1,6 @@
 -- Standing at the first task of a repeat, and going past a task in it.
-use Rattle.std.proofs.Common.{◌≡◌, ◌∙◌, ℕ, zero, suc, true, false, ◌+◌, ◌-◌, ◌≤◌, ◌<◌, List, [], ◌∷◌, ◌++◌, length, drop, flat_map, slice_get, Some, None, Option, refl, sym, ap, subst, arith, ⊎_elim, IsSome, true≢false}
-use Rattle.std.proofs.lemmas.List.{append_assoc, append-nil}
+use Rattle.std.proofs.Common.{◌≡◌, ◌∙◌, ℕ, suc, true, false, ◌-◌, ◌<◌, List, [], ◌∷◌, ◌++◌, length, drop, flat_map, slice_get, Some, None, Option, refl, sym, ap, subst, ⊎_elim, IsSome, true≢false}
+use Rattle.std.proofs.lemmas.List.{append_assoc}
 use Rattle.std.proofs.lemmas.Option.{slice_get_cases}
 use Rattle.reo_players.proofs.Stands.{rest_by, stands_by, stands_of}
 use Rattle.reo_script_base.specs.declared.action.Action as action
@@ -72,24 +72,32 @@ module _ (a : Action) (times : ℕ) (body : List Action) (xs : List Action) (is 
   -- Past a task, to one in the same pass.
   pub went_on : (here : Counter) (old new : List Counter) → Stands xs old → PassedOn true xs old new → PassedWithin true a here here old new
   went_on here old new stood h =
-      let more = times_over here.left (flat_map written xs) in
-      (refl, within_stands new h.0, rest_is here new ∙ (ap (λ ts. ts ++ more) h.1
-      ∙ (sym (first_of_list old xs stood more) ∙ ap (drop 1) (sym (rest_is here old)))))
+      let more = times_over here.left (flat_map written xs) in (
+        refl,
+        within_stands new h.0,
+        rest_is here new ∙ (ap (λ ts. ts ++ more) h.1
+            ∙ (sym (first_of_list old xs stood more) ∙ ap (drop 1) (sym (rest_is here old)))),
+      )
 
   -- The last task of the last pass.
   pub ended : (here : Counter) (old new : List Counter) → Stands xs old → PassedOn false xs old new → here.left ≡ 0 → PassedWithin false a here here old new
-  ended here old new stood h none =
-      (refl, ap (drop 1) (rest_is here old) ∙ (first_of_list old xs stood (times_over here.left (flat_map written xs))
-      ∙ (ap (λ ts. ts ++ times_over here.left (flat_map written xs)) h ∙ ap (λ n. times_over n (flat_map written xs)) none)))
+  ended here old new stood h none = (
+    refl,
+    ap (drop 1) (rest_is here old) ∙ (first_of_list old xs stood (times_over here.left (flat_map written xs))
+        ∙ (ap (λ ts. ts ++ times_over here.left (flat_map written xs)) h ∙ ap (λ n. times_over n (flat_map written xs)) none)),
+  )
 
   -- From the last task of a pass to the first of the next.
   pub began_again : (here now : Counter) (old mid new : List Counter) → Stands xs old → PassedOn false xs old mid → 0 < here.left → now.place ≡ here.place → now.left ≡ here.left - 1
       → Stands xs new → rest_of xs new ≡ flat_map written xs → PassedWithin true a here now old new
   began_again here now old mid new stood h some place left stands rest =
-      let all = flat_map written xs in
-      (place, within_stands new stands, rest_is now new ∙ (ap (λ ts. ts ++ times_over now.left all) rest
-      ∙ (ap (λ n. all ++ times_over n all) left ∙ (once_more here.left all some
-      ∙ sym (ap (drop 1) (rest_is here old) ∙ (first_of_list old xs stood (times_over here.left all) ∙ ap (λ ts. ts ++ times_over here.left all) h))))))
+      let all = flat_map written xs in (
+        place,
+        within_stands new stands,
+        rest_is now new ∙ (ap (λ ts. ts ++ times_over now.left all) rest
+            ∙ (ap (λ n. all ++ times_over n all) left ∙ (once_more here.left all some
+            ∙ sym (ap (drop 1) (rest_is here old) ∙ (first_of_list old xs stood (times_over here.left all) ∙ ap (λ ts. ts ++ times_over here.left all) h))))),
+      )
 
 -- Where counters stand at a task, their place is in the list.
 pub stands_place : (xs : List Action) (c : Counter) (cs : List Counter) → Stands xs (c ∷ cs) → c.place < length xs

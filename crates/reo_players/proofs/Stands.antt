@@ -1,11 +1,10 @@
 -- Counters at a place of a list of actions.
-use Rattle.std.proofs.Common.{◌≡◌, ◌∙◌, ℕ, zero, suc, max, ◌+◌, ◌≤◌, ◌<◌, List, [], ◌∷◌, ◌++◌, length, drop, take, flat_map, slice_get, Some, Option, refl, sym, ap, subst, arith}
+use Rattle.std.proofs.Common.{◌≡◌, ◌∙◌, ℕ, zero, suc, max, ◌+◌, ◌≤◌, ◌<◌, List, [], ◌∷◌, ◌++◌, length, drop, flat_map, slice_get, Some, refl, sym, ap, subst, arith}
 use Rattle.std.proofs.Math.ListN.{get_or}
-use Rattle.std.proofs.Math.Seq.{drop-cons}
-use Rattle.std.proofs.lemmas.Option.{slice_get_read, get_or_from_slice_get}
+use Rattle.std.proofs.lemmas.Option.{slice_get_read}
 use Rattle.reo_script_base.specs.declared.action.Action.{Action}
 use Rattle.reo_players.specs.declared.counter.Counter.{Counter}
-use Rattle.reo_players.specs.Written.{Task, written}
+use Rattle.reo_players.specs.Written.{written}
 use Rattle.reo_players.specs.Counters.{levels_within, levels_of, IsLive, AreLive, rest_here, rest_of, rest_within, Stands, StandsHere}
 
 -- An action of a list takes fewer counters than the list.

@@ -3,3 +3,4 @@ pub mod Players
 pub mod Codes
 pub mod Counters
 pub mod Offers
+pub mod Wants

@@ -1,5 +1,5 @@
 -- One component in a run: what is left of its written-out list, and how many rounds its present action has seen.
-use Rattle.std.specs.Prelude.{ℕ, ◌≡◌, ◌+◌, ◌-◌, ◌^◌, min, ◌==◌, ◌||◌, Bool, false, cond, map, Option, Some, None, is_some, is_none, List, [], ◌∷◌, option_and_then}
+use Rattle.std.specs.Prelude.{ℕ, ◌≡◌, ◌≢◌, ◌+◌, ◌-◌, ◌^◌, min, length, slice_index_or, ◌==◌, ◌||◌, Bool, false, cond, map, Option, Some, None, is_some, is_none, List, [], ◌∷◌, option_and_then}
 use Rattle.std.specs.Option.{option_map_or}
 use Rattle.std.specs.List.{list_any, list_all}
 use Rattle.reo_net_base.specs.declared.port.Offer.{Offer}
@@ -86,3 +86,17 @@ step_of flowed p = step_task flowed p.seen p.rest
 -- Where a round was idle and no component counted in it, components that were not all done are not all done.
 abbrev pub StuckIsNotDone : Type 0
 StuckIsNotDone = (ps : List Player) → someone_counts ps ≡ false → all_done ps ≡ false → all_done (map (after false) ps) ≡ false
+
+-- The player of this number; one that is done where there is none.
+abbrev pub no_player : Player
+no_player = record { rest = []; seen = 0 }
+
+abbrev pub player_of : List Player → ℕ → Player
+player_of ps component = slice_index_or ps component no_player
+
+-- One player has had a round, and the others stand as they stood.
+pub record IsAdvanced (component : ℕ) (flowed : Bool) (old new : List Player) (step : Step) : Type 0 where
+  pub count : length new ≡ length old
+  pub here : player_of new component ≡ after flowed (player_of old component)
+  pub step_is : step ≡ step_of flowed (player_of old component)
+  pub others : (i : ℕ) → i ≢ component → player_of new i ≡ player_of old i

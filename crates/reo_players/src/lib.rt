@@ -5,9 +5,9 @@ mod counter;
 mod laws;
 mod live;
 mod player;
+mod players;
 mod step;
 
-
-pub use player::Player;
 pub use laws::{offers_agree, stuck_is_not_done};
+pub use players::{Players, Want};
 pub use step::Step;

@@ -1,4 +1,4 @@
-use Rattle.std.proofs.Common.{arith, ◌∙◌, sym, ap, ◌≡◌, ◌<◌, ℕ, suc, ◌+◌, max, List, ◌∷◌, ◌++◌, [], take}
+use Rattle.std.proofs.Common.{arith, ◌∙◌, sym, ap, ◌+◌, max, ◌∷◌, ◌++◌, [], take}
 use Rattle.reo_players.specs.Counters.{levels_of, levels_within}
 use Rattle.std.proofs.lemmas.List.{take_more}
 use Rattle.reo_players.proofs.Bodies.{levels_more}

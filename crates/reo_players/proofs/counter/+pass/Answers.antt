@@ -1,8 +1,8 @@
-use Rattle.std.proofs.Common.{rules, arith, ◌∙◌, sym, ap, subst, refl, ◌≡◌, ◌≤◌, ◌<◌, [], length, drop, Some, ℕ, suc, ◌+◌, ◌-◌, Bool, true, false, nat_lt, List, ◌∷◌, ◌++◌, Fits, w64}
-use Rattle.std.specs.List.{flat_map, slice_get}
+use Rattle.std.proofs.Common.{arith, ◌∙◌, sym, ap, subst, refl, ◌≡◌, ◌≤◌, length, drop, suc, ◌+◌, ◌-◌, ◌∷◌}
+use Rattle.std.specs.List.{flat_map}
 use Rattle.std.proofs.lemmas.List.{drop_all}
 use Rattle.reo_players.specs.Written.{written}
-use Rattle.reo_players.specs.Counters.{levels_of, Stands, PassedOn, PassedWithin}
+use Rattle.reo_players.specs.Counters.{Stands, PassedOn, PassedWithin}
 use Rattle.reo_players.proofs.Stands.{levels_at, live_at, read_at, stands_of}
 use Rattle.reo_players.proofs.Passed.{within_some, within_live, within_levels, stands_within, went_on, ended, began_again, stands_place, passed_on, passed_last}
 use Rattle.reo_players.proofs.counter.+pass.Goals as goal
@@ -37,9 +37,13 @@ pass_within-pass-requires t c =
     let xs = c.as_slice-body.result.now in
     let levels = within_levels a c.in-Repeat.times c.in-Repeat.body xs c.in-Repeat.is c.as_slice-body.ensures in (
       omega (arith, levels),
-      (stands_within a c.in-Repeat.times c.in-Repeat.body xs c.in-Repeat.is c.as_slice-body.ensures c.args.inner.now c.requires.stands,
-      (within_live a c.in-Repeat.times c.in-Repeat.body xs c.in-Repeat.is c.as_slice-body.ensures c.requires.live,
-      subst (λ n. n ≤ length c.args.inner.now) levels c.requires.room)),
+      (
+        stands_within a c.in-Repeat.times c.in-Repeat.body xs c.in-Repeat.is c.as_slice-body.ensures c.args.inner.now c.requires.stands,
+        (
+          within_live a c.in-Repeat.times c.in-Repeat.body xs c.in-Repeat.is c.as_slice-body.ensures c.requires.live,
+          subst (λ n. n ≤ length c.args.inner.now) levels c.requires.room,
+        ),
+      ),
     )
 
 -- src/counter.rt:85:17
@@ -98,7 +102,7 @@ pass-returns-then-place-count-clause-passed t c =
     let stood : Stands xs (here ∷ c.in-Some.inner.now) = subst (Stands xs) c.in-Some.ensures.cases.0 c.requires.stands in
     let at = read_at xs here.place a (stands_place xs here c.in-Some.inner.now stood) c.index-actions-place.is in
     let was = passed_last xs c.args.counters.now here c.pass_within.new.here c.in-Some.inner.now c.pass_within.new.inner a c.in-Some.ensures.cases.0 at stood
-        (subst (λ b. PassedWithin b a here c.pass_within.new.here c.in-Some.inner.now c.pass_within.new.inner) c.if-pass_within.false c.pass_within.ensures.passed) in
+    (subst (λ b. PassedWithin b a here c.pass_within.new.here c.in-Some.inner.now c.pass_within.new.inner) c.if-pass_within.false c.pass_within.ensures.passed) in
     was ∙ ap (flat_map written) (drop_all (suc here.place) xs (omega (arith, c.if-place-count.true)))
 
 -- src/counter.rt:118:33
@@ -123,6 +127,6 @@ pass-returns-clause-passed t c =
     let stood : Stands xs (here ∷ c.in-Some.inner.now) = subst (Stands xs) c.in-Some.ensures.cases.0 c.requires.stands in
     let at = read_at xs here.place a (stands_place xs here c.in-Some.inner.now stood) c.index-actions-place.is in
     let was = passed_last xs c.args.counters.now here c.pass_within.new.here c.in-Some.inner.now c.pass_within.new.inner a c.in-Some.ensures.cases.0 at stood
-        (subst (λ b. PassedWithin b a here c.pass_within.new.here c.in-Some.inner.now c.pass_within.new.inner) c.if-pass_within.false c.pass_within.ensures.passed) in
+    (subst (λ b. PassedWithin b a here c.pass_within.new.here c.in-Some.inner.now c.pass_within.new.inner) c.if-pass_within.false c.pass_within.ensures.passed) in
     let one : here.place + 1 ≡ suc here.place = omega arith in
     (c.stand_at.ensures.stands, c.stand_at.ensures.rest ∙ (ap (λ p. flat_map written (drop p xs)) one ∙ sym was))

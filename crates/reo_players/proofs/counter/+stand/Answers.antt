@@ -1,11 +1,6 @@
-use Rattle.std.proofs.Common.{rules, ◌≡◌, ◌≤◌, ◌<◌, [], length, drop, IfOk, Some, ℕ, ◌+◌, ◌-◌, ◌*◌, ◌/◌, ◌%◌, Bool, true, false, nat_eq, nat_lt, List, ◌∷◌, ◌++◌, slice_index_or, slice_set, bit_and, bit_or, Fits, w8, w32, w64, Bor, MutBor}
-use Rattle.std.specs.List.{flat_map, slice_get}
-use Rattle.reo_players.specs.Written.{written}
-use Rattle.reo_players.specs.Counters.{levels_of, levels_within, rest_of, rest_within, Stands, StandsHere, IsLive, AreLive, PassedOn, PassedWithin}
-use Rattle.std.proofs.Common.{arith, ◌∙◌, sym, ap, subst, refl}
-use Rattle.reo_script_base.specs.declared.action.Action.{Repeat}
-use Rattle.reo_players.specs.Counters.{rest_here}
-use Rattle.reo_players.specs.Written.{times_over}
+use Rattle.std.proofs.Common.{◌≤◌, length, ◌-◌}
+use Rattle.std.specs.List.{slice_get}
+use Rattle.std.proofs.Common.{arith, ◌∙◌, ap, subst, refl}
 use Rattle.reo_players.proofs.Passed.{within_some, within_live, within_levels, within_stands, within_rest}
 use Rattle.reo_players.proofs.Stands.{levels_at, levels_some, live_at, read_at, stands_by, rest_from}
 use Rattle.reo_players.proofs.counter.+stand.Goals as goal
@@ -44,9 +39,13 @@ stand_within-stand_at-requires t c =
     let a = c.args.action.now in
     let xs = c.as_slice.result.now in (
       omega (arith, within_levels a c.in-Repeat.times c.in-Repeat.body xs c.in-Repeat.is c.as_slice.ensures),
-      (within_some a c.in-Repeat.times c.in-Repeat.body xs c.in-Repeat.is c.as_slice.ensures c.requires.live,
-      (within_live a c.in-Repeat.times c.in-Repeat.body xs c.in-Repeat.is c.as_slice.ensures c.requires.live,
-      subst (λ n. n ≤ length c.args.inner.now) (within_levels a c.in-Repeat.times c.in-Repeat.body xs c.in-Repeat.is c.as_slice.ensures) c.requires.room)),
+      (
+        within_some a c.in-Repeat.times c.in-Repeat.body xs c.in-Repeat.is c.as_slice.ensures c.requires.live,
+        (
+          within_live a c.in-Repeat.times c.in-Repeat.body xs c.in-Repeat.is c.as_slice.ensures c.requires.live,
+          subst (λ n. n ≤ length c.args.inner.now) (within_levels a c.in-Repeat.times c.in-Repeat.body xs c.in-Repeat.is c.as_slice.ensures) c.requires.room,
+        ),
+      ),
     )
 
 -- src/counter.rt:37:1

@@ -1,5 +1,4 @@
-use Rattle.std.proofs.Common.{rules, arith, ◌∙◌, ap, subst, ◌≡◌, Some, IsSome, length, List, ◌∷◌}
-use Rattle.std.specs.List.{slice_get}
+use Rattle.std.proofs.Common.{rules, arith, ◌∙◌, subst, IsSome, ◌∷◌}
 use Rattle.reo_players.specs.Counters.{Stands, task_of}
 use Rattle.reo_players.proofs.Stands.{read_at, stands_of}
 use Rattle.reo_players.proofs.Passed.{stands_place, stands_within, first_of_place, first_of_body, first_of_task}

@@ -1,4 +1,4 @@
-use Rattle.std.proofs.Common.{◌≡◌, ◌+◌, length}
+use Rattle.std.proofs.Common.{◌≡◌, length}
 use Rattle.reo_players.proofs.player.blank.Given as goal
 
 abbrev pub invariant-loop : goal.invariant-loop
