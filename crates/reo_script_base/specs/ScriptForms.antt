@@ -64,23 +64,35 @@ pause_form = word (codes "pause") ▸ made (λ n. forms.Pause n) (number_form 1 
 abbrev pub times_form : FormOf ℕ
 times_form = word (codes "repeat") ▸ number_form 0 most_rounds ◂ word (codes "{")
 
+-- { action }
+abbrev pub action_list : ScriptFormOf (List ActionForm)
+action_list = chain listed (other (codes "}")) (nothing []) (rule action_rule)
+
 -- { action } "}"
 abbrev pub actions_form : ScriptFormOf (List ActionForm)
-actions_form = both (λ xs u. xs) (chain listed (other (codes "}")) (nothing []) (rule action_rule)) (lifted (word (codes "}")))
+actions_form = both (λ xs u. xs) action_list (lifted (word (codes "}")))
+
+-- "repeat" NUMBER "{" { action } "}"
+abbrev pub repeat_form : ScriptFormOf ActionForm
+repeat_form = both (λ n xs. forms.Repeat n xs) (lifted times_form) actions_form
 
 abbrev pub action_form : ScriptFormOf ActionForm
 action_form =
     either (fixed (codes "write")) (lifted write_form)
     (either (fixed (codes "take")) (lifted take_form)
-    (either (fixed (codes "pause")) (lifted pause_form) (both (λ n xs. forms.Repeat n xs) (lifted times_form) actions_form)))
+    (either (fixed (codes "pause")) (lifted pause_form) repeat_form))
 
 abbrev pub script_rules : (r : ScriptRule) → ScriptFormOf (script_tree r)
 script_rules action_rule = action_form
 script_rules (of_circuit r) = lifted (circuit_rules r)
 
+-- "component" NAME "{"
+abbrev pub label_form : FormOf (List ℕ)
+label_form = word (codes "component") ▸ name_form ◂ word (codes "{")
+
 -- "component" NAME "{" { action } "}"
 abbrev pub component_form : ScriptFormOf ComponentForm
-component_form = both (λ n xs. record { name = n; actions = xs }) (lifted (word (codes "component") ▸ name_form ◂ word (codes "{"))) actions_form
+component_form = both (λ n xs. record { name = n; actions = xs }) (lifted label_form) actions_form
 
 -- { component }
 abbrev pub script_form : ScriptFormOf (List ComponentForm)

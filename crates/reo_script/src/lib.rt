@@ -1,0 +1,7 @@
+//! Reading script texts.
+#![tactic(auto)]
+
+mod actions;
+mod reading;
+
+pub use reading::components;
