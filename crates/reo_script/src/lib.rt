@@ -2,6 +2,8 @@
 #![tactic(auto)]
 
 mod actions;
+mod depth;
 mod reading;
 
+pub use depth::first_deep;
 pub use reading::components;
