@@ -4,6 +4,6 @@
 mod actions;
 mod depth;
 mod reading;
+mod texts;
 
-pub use depth::first_deep;
-pub use reading::components;
+pub use texts::said;

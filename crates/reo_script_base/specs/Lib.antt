@@ -1,5 +1,6 @@
 pub mod ScriptForms
 pub mod Alike
 pub mod Table
+pub mod Faults
 pub mod ScriptRules
 pub mod ScriptAnswers

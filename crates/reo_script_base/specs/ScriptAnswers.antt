@@ -2,7 +2,8 @@
 use Rattle.std.specs.Prelude.{◌≡◌, ◌⊎◌, ℕ, ◌+◌, ◌<◌, true, Some, List, [], ◌∷◌, ◌++◌, map, codes, Result, Ok, Err}
 use Rattle.reo_grammar.specs.Tokens.{Lexeme, matches}
 use Rattle.reo_grammar.specs.Tokens.Class.{fixed}
-use Rattle.reo_grammar.specs.Grammar.{Says, Refused, Begins}
+use Rattle.reo_grammar.specs.Grammar.{Says as TokensSay}
+use Rattle.reo_texts.specs.Refused.{IsRefusedAt, IsDeepAt}
 use Rattle.reo_grammar.specs.Levels.{IsAbove, Nowhere, count_of}
 use Rattle.reo_lexer.specs.declared.token.Token.{Token}
 use Rattle.reo_lexer.specs.Lexing.{IsTokens, lexemes_of}
@@ -29,27 +30,28 @@ IsDeep ts = IsAbove most_levels ts ⊎ IsNested 16 ts
 
 -- The text's tokens say these components, and none of them is too deep.
 abbrev pub SaysScript : List ℕ → List ComponentForm → Type 0
-SaysScript text cs = (ts : List Token) × IsTokens text ts × Says script_rules script_form (lexemes_of text ts) cs × Nowhere IsDeep (lexemes_of text ts)
-
--- The line of the last token, and that of a refusal.
-abbrev pub last_line : List Lexeme → ℕ
-last_line [] = 0
-last_line (t ∷ []) = t.line
-last_line (t ∷ u ∷ ts) = last_line (u ∷ ts)
-
-abbrev pub refused_line : List Lexeme → List Lexeme → ℕ
-refused_line ts [] = last_line ts
-refused_line ts (t ∷ u) = t.line
+SaysScript text cs = (ts : List Token) × IsTokens text ts × TokensSay script_rules script_form (lexemes_of text ts) cs × Nowhere IsDeep (lexemes_of text ts)
 
 -- The tokens are refused on this line, and none before that is too deep.
 abbrev pub IsSyntax : List Lexeme → ℕ → Type 0
-IsSyntax ts line = (a : List Lexeme) × (u : List Lexeme) × (ts ≡ a ++ u) × Refused script_rules script_form ts u × Nowhere IsDeep a × (line ≡ refused_line ts u)
+IsSyntax ts line = IsRefusedAt script_rules script_form IsDeep ts line
 
 -- The first token that is too deep is on this line, and those up to and including it begin a script.
 abbrev pub IsTooDeep : List Lexeme → ℕ → Type 0
-IsTooDeep ts line =
-    (a : List Lexeme) × (t : Lexeme) × (u : List Lexeme) × (ts ≡ a ++ (t ∷ u)) × IsDeep (a ++ (t ∷ [])) × Nowhere IsDeep a
-    × Begins script_rules script_form (a ++ (t ∷ [])) × (line ≡ t.line)
+IsTooDeep ts line = IsDeepAt script_rules script_form IsDeep ts line
+
+-- What a text is answered whatever the ports: the components that it says, or why it says none.
+abbrev pub Says : List ℕ → Result (List ComponentForm) ScriptFault → Type 0
+Says text (Ok cs) = SaysScript text cs
+Says text (Err (faults.Lex f)) = IsFault text f
+Says text (Err (faults.Syntax line)) = (ts : List Token) × IsTokens text ts × IsSyntax (lexemes_of text ts) line
+Says text (Err (faults.TooDeep line)) = (ts : List Token) × IsTokens text ts × IsTooDeep (lexemes_of text ts) line
+Says text (Err fault) = ⊥
+
+-- It is answered so, or out of memory.
+abbrev pub IsSaid : List ℕ → Result (List ComponentForm) ScriptFault → Type 0
+IsSaid text (Err faults.NoMemory) = Unit {0}
+IsSaid text r = Says text r
 
 -- The text says this script for these ports.
 abbrev pub IsScriptOf : List ℕ → List Port → Script → Type 0
@@ -68,12 +70,12 @@ Answers text ports (Err (faults.TooDeep line)) = (ts : List Token) × IsTokens t
 Answers text ports (Err faults.NoMemory) = ⊥
 Answers text ports (Err fault) = HasBreak text ports fault
 
--- It is answered so, or memory was wanting.
+-- It is answered so, or out of memory.
 abbrev pub IsRead : List ℕ → List Port → Result Script ScriptFault → Type 0
 IsRead text ports (Err faults.NoMemory) = Unit {0}
 IsRead text ports r = Answers text ports r
 
--- What was answered is this answer, or want of memory.
+-- What was answered is this answer, or out of memory.
 abbrev pub IsThis : Result Script ScriptFault → Result Script ScriptFault → Type 0
 IsThis answer (Err faults.NoMemory) = Unit {0}
 IsThis answer r = r ≡ answer

@@ -47,6 +47,19 @@ impl From<NoMemory> for ScriptFault {
     }
 }
 
+impl From<LexFault> for ScriptFault {
+    ghost use Rattle.reo_script_base.specs.Faults.{fault_of_lex};
+
+    ghost from_gives = { λ f e. e ≡ fault_of_lex f };
+
+    fn from(fault: LexFault) -> Self {
+        match fault {
+            LexFault::NoMemory => ScriptFault::NoMemory,
+            other => ScriptFault::Lex(other),
+        }
+    }
+}
+
 impl Debug for ScriptFault {
     fn fmt<W: fmt::Write>(&self, f: &mut Formatter<W>) -> fmt::Result {
         Display::fmt(self, f)
