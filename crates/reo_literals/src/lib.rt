@@ -1,2 +1,6 @@
 //! Literals, and the items that they stand for.
 #![tactic(auto)]
+
+mod items;
+
+pub use items::{is_item_of, item_of, items_of, place_of};

@@ -1,0 +1,4 @@
+pub mod BranchLemmas
+pub mod JointLemmas
+pub mod EndLemmas
+pub mod WiringLemmas

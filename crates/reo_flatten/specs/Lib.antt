@@ -1,0 +1,2 @@
+pub mod NodeEnds
+pub mod NodeParts

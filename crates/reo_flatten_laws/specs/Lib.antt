@@ -1,0 +1,11 @@
+pub mod Plain
+pub mod Nodes
+pub mod Joints
+pub mod Homes
+pub mod Counts
+pub mod Circuits
+pub mod Channels
+pub mod NodeTypes
+pub mod Fitting
+pub mod Ports
+pub mod FromTexts

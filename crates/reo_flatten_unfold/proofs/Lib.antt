@@ -1,0 +1,10 @@
+pub mod Found
+pub mod ListLemmas
+pub mod Positions
+pub mod TypeLemmas
+pub mod ExprLemmas
+pub mod NameLemmas
+pub mod KindLemmas
+pub mod LocalLemmas
+pub mod GroundLemmas
+pub mod UnfoldLemmas
