@@ -1,3 +1,5 @@
 pub mod Turns
 pub mod Deepening
 pub mod Empty
+pub mod Bodies
+pub mod Breaks

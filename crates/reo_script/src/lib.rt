@@ -3,7 +3,11 @@
 
 mod actions;
 mod depth;
+mod judging;
+mod making;
+mod places;
 mod reading;
+mod sharing;
 mod texts;
 
 pub use texts::said;

@@ -1,7 +1,7 @@
 -- The rules of scripts on the ports of a circuit. Each has the list of its breaks in text order.
-use Rattle.std.specs.Prelude.{ℕ, Bool, true, false, not, Option, Some, None, is_some, is_none, List, [], ◌∷◌, ◌++◌, map, bytes_eq, slice_get, option_and_then}
+use Rattle.std.specs.Prelude.{ℕ, Bool, true, false, not, Option, Some, None, is_some, is_none, List, [], ◌∷◌, ◌++◌, length, map, position, bytes_eq, slice_get, option_and_then}
 use Rattle.std.specs.Option.{option_map_or}
-use Rattle.std.specs.List.{flat_map, position_or_len}
+use Rattle.std.specs.List.{flat_map}
 use Rattle.reo_values.specs.declared.value.Value.{Value}
 use Rattle.reo_values.specs.declared.value.Value.TheVariants as values
 use Rattle.reo_net_base.specs.declared.port.Port.{Port}
@@ -45,12 +45,12 @@ abbrev mutual
 abbrev pub namings_in : ComponentForm → List Naming
 namings_in c = flat_map namings c.actions
 
--- The number of the port of a name: the count of ports where there is none.
-abbrev pub number_of : List Port → List ℕ → ℕ
-number_of ports name = position_or_len (λ (p : Port). bytes_eq name p.name) ports
+-- The number of the port of a name, and the port, if there is one.
+abbrev pub port_number : List Port → List ℕ → Option ℕ
+port_number ports name = position (bytes_eq name) (map (λ (p : Port). p.name) ports)
 
 abbrev pub port_named : List Port → List ℕ → Option Port
-port_named ports name = slice_get ports (number_of ports name)
+port_named ports name = option_and_then (slice_get ports) (port_number ports name)
 
 abbrev pub goes_in : Way → Bool
 goes_in In = true
@@ -64,20 +64,30 @@ item_at ports name literal = option_and_then (λ (p : Port). item_of p.kindred l
 abbrev pub no_port : List Port → Naming → List ScriptFault
 no_port ports n = where_true (is_none (port_named ports n.port)) (faults.NoPort n.line n.port)
 
--- A write is at an `in` port, and a take at an `out` port.
+-- A write is at an `out` port, or a take at an `in` port.
+abbrev pub goes_wrong : List Port → Naming → Bool
+goes_wrong ports n = option_map_or (λ (p : Port). not (same (goes_in p.way) (is_some n.literal))) (port_named ports n.port) false
+
 abbrev pub wrong_way : List Port → Naming → List ScriptFault
-wrong_way ports n = where_true (option_map_or (λ (p : Port). not (same (goes_in p.way) (is_some n.literal))) (port_named ports n.port) false) (faults.WrongWay n.line n.port)
+wrong_way ports n = where_true (goes_wrong ports n) (faults.WrongWay n.line n.port)
 
--- A literal is an item of its port's type.
+-- A literal is no item of its port's type.
+abbrev pub goes_outside : List Port → Naming → Bool
+goes_outside ports n = option_map_or (λ (l : Literal). is_none (item_at ports n.port l)) n.literal false
+
 abbrev pub outside : List Port → Naming → List ScriptFault
-outside ports n = where_true (option_map_or (λ (l : Literal). is_none (item_at ports n.port l)) n.literal false) (faults.ItemOutside n.line)
+outside ports n = where_true (goes_outside ports n) (faults.ItemOutside n.line)
 
--- No earlier component names the port.
-abbrev pub shared_at : List ComponentForm → Naming → List ScriptFault
-shared_at before n = where_true (has_name (map (λ (m : Naming). m.port) (flat_map namings_in before)) n.port) (faults.Shared n.line n.port)
+-- An earlier component names the port.
+abbrev pub shared_in : List (List ℕ) → Naming → List ScriptFault
+shared_in seen n = where_true (has_name seen n.port) (faults.Shared n.line n.port)
+
+-- The names of ports that components name.
+abbrev pub ports_in : List ComponentForm → List (List ℕ)
+ports_in cs = map (λ (n : Naming). n.port) (flat_map namings_in cs)
 
 abbrev pub shared : List ComponentForm → List ScriptFault
-shared cs = each_after (λ before c. flat_map (shared_at before) (namings_in c)) [] cs
+shared cs = each_after (λ before c. flat_map (shared_in (ports_in before)) (namings_in c)) [] cs
 
 -- All breaks, rule by rule.
 abbrev pub breaks : List Port → List ComponentForm → List ScriptFault
@@ -85,7 +95,11 @@ breaks ports cs =
     flat_map (no_port ports) (flat_map namings_in cs) ++ (flat_map (wrong_way ports) (flat_map namings_in cs)
     ++ (flat_map (outside ports) (flat_map namings_in cs) ++ shared cs))
 
--- The item of a write; a script without breaks has one.
+-- The port of an action, and the item of a write; a script without breaks has both.
+abbrev pub the_number : List Port → Option ℕ → ℕ
+the_number ports None = length ports
+the_number ports (Some number) = number
+
 abbrev pub the_item : Option Value → Value
 the_item None = values.Unit
 the_item (Some item) = item
@@ -93,8 +107,8 @@ the_item (Some item) = item
 abbrev mutual
   -- The action for these ports.
   pub scripted : List Port → ActionForm → Action
-  scripted ports (form.Write line port literal within) = actions.Write (number_of ports port) (the_item (item_at ports port literal)) within
-  scripted ports (form.Take line port within) = actions.Take (number_of ports port) within
+  scripted ports (form.Write line port literal within) = actions.Write (the_number ports (port_number ports port)) (the_item (item_at ports port literal)) within
+  scripted ports (form.Take line port within) = actions.Take (the_number ports (port_number ports port)) within
   scripted ports (form.Pause rounds) = actions.Pause rounds
   scripted ports (form.Repeat' times shape body) = actions.Repeat times (scripted_row ports body)
 
