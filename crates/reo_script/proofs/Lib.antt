@@ -3,3 +3,4 @@ pub mod Deepening
 pub mod Empty
 pub mod Bodies
 pub mod Breaks
+pub mod Only

@@ -7,7 +7,8 @@ mod judging;
 mod making;
 mod places;
 mod reading;
+mod script;
 mod sharing;
 mod texts;
 
-pub use texts::said;
+pub use script::read_script;

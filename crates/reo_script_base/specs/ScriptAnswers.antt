@@ -1,5 +1,5 @@
 -- What a script text is answered.
-use Rattle.std.specs.Prelude.{◌≡◌, ◌⊎◌, ℕ, ◌+◌, ◌<◌, true, Some, List, [], ◌∷◌, ◌++◌, map, codes, Result, Ok, Err}
+use Rattle.std.specs.Prelude.{◌≡◌, ◌⊎◌, ℕ, ◌+◌, ◌<◌, true, Option, Some, None, List, [], ◌∷◌, ◌++◌, map, codes, Result, Ok, Err}
 use Rattle.reo_grammar.specs.Tokens.{Lexeme, matches}
 use Rattle.reo_grammar.specs.Tokens.Class.{fixed}
 use Rattle.reo_grammar.specs.Grammar.{Says as TokensSay}
@@ -53,22 +53,18 @@ abbrev pub IsSaid : List ℕ → Result (List ComponentForm) ScriptFault → Typ
 IsSaid text (Err faults.NoMemory) = Unit {0}
 IsSaid text r = Says text r
 
--- The text says this script for these ports.
-abbrev pub IsScriptOf : List ℕ → List Port → Script → Type 0
-IsScriptOf text ports s = (cs : List ComponentForm) × SaysScript text cs × (breaks ports cs ≡ []) × (s.components ≡ map (component_for ports) cs)
+-- The answer to components: the script for these ports, or the first break of the first rule that is broken.
+abbrev pub answer_by : List Port → List ComponentForm → Option ScriptFault → Result Script ScriptFault
+answer_by ports cs None = Ok (record { components = map (component_for ports) cs })
+answer_by ports cs (Some fault) = Err fault
 
--- The first break of the script that the text says.
-abbrev pub HasBreak : List ℕ → List Port → ScriptFault → Type 0
-HasBreak text ports fault = (cs : List ComponentForm) × SaysScript text cs × (first_of (breaks ports cs) ≡ Some fault)
+abbrev pub answer_for : List Port → Result (List ComponentForm) ScriptFault → Result Script ScriptFault
+answer_for ports (Ok cs) = answer_by ports cs (first_of (breaks ports cs))
+answer_for ports (Err fault) = Err fault
 
--- This is the answer to the text.
+-- This is the answer to the text, for these ports.
 abbrev pub Answers : List ℕ → List Port → Result Script ScriptFault → Type 0
-Answers text ports (Ok s) = IsScriptOf text ports s
-Answers text ports (Err (faults.Lex f)) = IsFault text f
-Answers text ports (Err (faults.Syntax line)) = (ts : List Token) × IsTokens text ts × IsSyntax (lexemes_of text ts) line
-Answers text ports (Err (faults.TooDeep line)) = (ts : List Token) × IsTokens text ts × IsTooDeep (lexemes_of text ts) line
-Answers text ports (Err faults.NoMemory) = ⊥
-Answers text ports (Err fault) = HasBreak text ports fault
+Answers text ports answer = (r : Result (List ComponentForm) ScriptFault) × Says text r × (answer_for ports r ≡ answer)
 
 -- It is answered so, or out of memory.
 abbrev pub IsRead : List ℕ → List Port → Result Script ScriptFault → Type 0
