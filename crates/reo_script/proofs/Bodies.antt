@@ -1,5 +1,5 @@
 -- The places in the body of a repeat.
-use Rattle.std.proofs.Common.{◌≡◌, ◌∙◌, ℕ, List, [], ◌∷◌, ◌++◌, flat_map, map, refl, ap}
+use Rattle.std.proofs.Common.{◌≡◌, ◌∙◌, ℕ, List, ◌∷◌, ◌++◌, flat_map, map, refl, ap}
 use mathlib.Core.Former.{Count}
 use Rattle.reo_script_base.specs.declared.forms.ActionForm.{ActionForm, Repeat, Repeat', Row_of-ActionForm, end_of-ActionForm, more_of-ActionForm, items-the_row-ActionForm, items_hidden-the_row-ActionForm-0}
 use Rattle.reo_net_base.specs.declared.port.Port.{Port}

@@ -5,7 +5,7 @@ use Rattle.reo_rules_base.specs.Lists.{first_of, each_after, where_true, has_nam
 use Rattle.reo_script_base.specs.declared.fault.ScriptFault.TheVariants as faults
 use Rattle.reo_script_base.specs.ScriptRules.{Naming, shared_in}
 use Rattle.reo_script.specs.Places.{IsFirstBreak, IsJudgedBy}
-use Rattle.reo_rules_base.proofs.AfterLemmas.{both_none, left_none, right_none, flat_map-append}
+use Rattle.reo_rules_base.proofs.AfterLemmas.{both_none, left_none, right_none}
 use Rattle.reo_script_base.specs.declared.fault.ScriptFault.{ScriptFault}
 
 module _ {X Y : Type 0} (g : X → Y) (f : Y → List ScriptFault) where

@@ -1,12 +1,10 @@
 -- A text has one answer.
-use Rattle.std.proofs.Common.{inl, inr, ◌≡◌, ◌∙◌, ℕ, List, Option, None, Some, Result, Ok, Err, refl, sym, ap, [], ◌⊎◌}
+use Rattle.std.proofs.Common.{inl, inr, ◌≡◌, ◌∙◌, ℕ, List, None, Result, Ok, Err, refl, sym, ap, []}
 use Rattle.reo_grammar.specs.Tokens.{Lexeme}
 use Rattle.reo_grammar.specs.Grammar.{Says as TokensSay}
 use Rattle.reo_grammar.specs.Levels.{Nowhere}
 use Rattle.reo_grammar.proofs.Exact.{one-tree}
 use Rattle.reo_lexer.specs.declared.token.Token.{Token}
-use Rattle.reo_lexer.specs.declared.token.LexFault.{LexFault}
-use Rattle.reo_lexer.specs.declared.token.LexFault.TheVariants as lexing
 use Rattle.reo_lexer.specs.Lexing.{IsTokens, lexemes_of}
 use Rattle.reo_lexer.proofs.Reading.{one-list, one-fault, not-both}
 use Rattle.reo_lexer.proofs.Spans.{tokens-real}

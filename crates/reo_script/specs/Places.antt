@@ -1,5 +1,5 @@
 -- Places of a script that name a port, as code borrows them.
-use Rattle.std.specs.Prelude.{ℕ, ◌≡◌, ◌⊎◌, Some, List, [], map, Result, MatchResult, option_map}
+use Rattle.std.specs.Prelude.{◌≡◌, ◌⊎◌, Some, List, [], map, Result, MatchResult, option_map}
 use Rattle.std.specs.List.{All}
 use Rattle.reo_values.specs.Valid.{AreDistinct}
 use Rattle.reo_net_base.specs.declared.port.Port.{Port}

@@ -37,10 +37,7 @@ fn note(alloc: Global, seen: &mut Names, places: &[Place]) -> Result<(), NoMemor
 }
 
 /// No component names a port that an earlier one names.
-pub(crate) fn judge_sharing(
-    alloc: Global,
-    components: &[ComponentForm],
-) -> Result<(), ScriptFault>
+pub(crate) fn judge_sharing(alloc: Global, components: &[ComponentForm]) -> Result<(), ScriptFault>
     ensures { IsJudgedBy (shared components.now) result }
 {
     let mut seen = Names::new(alloc);

@@ -51,7 +51,11 @@ fn read_all(alloc: Global, text: &[u8], tokens: &[Token]) -> Result<Outcome, NoM
 }
 
 /// The answer where no token is too deep.
-fn said_within(alloc: Global, text: &[u8], tokens: &[Token]) -> Result<List<ComponentForm>, ScriptFault>
+fn said_within(
+    alloc: Global,
+    text: &[u8],
+    tokens: &[Token],
+) -> Result<List<ComponentForm>, ScriptFault>
     requires tokens { IsTokens text.now tokens.now }
     requires spans { All (Lies text.now) tokens.now }
     requires real { AreReal (lexemes_of text.now tokens.now) }

@@ -25,9 +25,17 @@ pub enum Action {
         within: Option<u32>,
     },
     /// Offers to take an item, until one flows or a bound of 1 to 10^9 rounds runs out.
-    Take { port: usize, within: Option<u32> },
+    Take {
+        port: usize,
+        within: Option<u32>,
+    },
     /// Offers nothing for so many rounds, 1 to 10^9.
-    Pause { rounds: u32 },
+    Pause {
+        rounds: u32,
+    },
     /// Does the actions of the body so many times, 0 to 10^9.
-    Repeat { times: u32, body: List<Action> },
+    Repeat {
+        times: u32,
+        body: List<Action>,
+    },
 }

@@ -27,7 +27,12 @@ pub enum ActionForm {
         within: Option<u32>,
     },
     /// `pause rounds;`
-    Pause { rounds: u32 },
+    Pause {
+        rounds: u32,
+    },
     /// `repeat times { .. }`
-    Repeat { times: u32, body: List<ActionForm> },
+    Repeat {
+        times: u32,
+        body: List<ActionForm>,
+    },
 }

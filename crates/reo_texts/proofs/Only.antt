@@ -1,5 +1,5 @@
 -- A text is refused at one place.
-use Rattle.std.proofs.Common.{◌≡◌, ℕ, ◌≤◌, ◌+◌, true, List, [], ◌∷◌, ◌++◌, length, inl, inr, ◌⊎◌, Result, Ok, Err, refl, sym, ◌∙◌, ap, arith, append_assoc, append-nil, length-append}
+use Rattle.std.proofs.Common.{◌≡◌, ℕ, ◌≤◌, ◌+◌, true, List, [], ◌∷◌, ◌++◌, length, inl, inr, ◌⊎◌, refl, sym, ◌∙◌, ap, arith, append_assoc, append-nil, length-append}
 use Rattle.reo_grammar.specs.declared.kind.TokenKind.{TokenKind}
 use Rattle.reo_grammar.specs.declared.kind.TokenKind.TheVariants as kinds
 use Rattle.reo_grammar.specs.Spelling.{spells}
@@ -8,7 +8,7 @@ use Rattle.reo_grammar.specs.Grammar.{Grammar, Says, Begins, Refused}
 use Rattle.reo_grammar.specs.Levels.{Nowhere}
 use Rattle.reo_grammar.proofs.Refusals.{real-front, real-back, refused-silent, one-refusal, begins-front}
 use Rattle.reo_lexer.specs.declared.token.Token.{Token}
-use Rattle.reo_lexer.specs.Lexing.{IsTokens, Runs, AtEnd, lexemes_of}
+use Rattle.reo_lexer.specs.Lexing.{IsTokens, Runs, AtEnd}
 use Rattle.reo_texts.specs.Refused.{refused_line, IsRefusedAt, IsDeepAt}
 
 spelled-some : (k : TokenKind) → spells k [] ≡ true → ⊥

@@ -1,5 +1,5 @@
 -- What reading all tokens of a text comes to.
-use Rattle.std.proofs.Common.{◌≡◌, true, ℕ, ◌-◌, ◌≤◌, ◌<◌, List, [], ◌∷◌, ◌++◌, length, drop, refl, sym, arith, append-nil}
+use Rattle.std.proofs.Common.{◌≡◌, true, ℕ, ◌-◌, ◌≤◌, ◌<◌, List, [], ◌∷◌, ◌++◌, length, drop, sym, arith, append-nil}
 use Rattle.reo_grammar.specs.Tokens.{Lexeme}
 use Rattle.reo_grammar.specs.Grammar.{Grammar, read, reads, Says, Refused}
 use Rattle.reo_grammar.specs.Language.{Sighted}

@@ -1,6 +1,5 @@
 use Rattle.std.proofs.Common.{◌∙◌, sym, ap, inr, Some, cond, [], ◌∷◌}
 use Rattle.reo_rules_base.specs.Lists.{first_of}
-use Rattle.reo_script_base.specs.declared.fault.ScriptFault.{ScriptFault}
 use Rattle.reo_script_base.specs.declared.fault.ScriptFault.TheVariants as faults
 use Rattle.reo_script_base.specs.ScriptRules.{wrong_way}
 use Rattle.reo_script.specs.Places.{naming_of}

@@ -1,4 +1,4 @@
-use Rattle.std.proofs.Common.{◌≡◌, ◌∙◌, ℕ, List, [], ◌∷◌, ◌++◌, sym, ap, subst, ⊎_elim, inl, inr, map, take, flat_map, ◌⊎◌, Some}
+use Rattle.std.proofs.Common.{◌≡◌, ◌∙◌, ℕ, List, [], ◌++◌, sym, ap, subst, ⊎_elim, inl, inr, map, take, flat_map, ◌⊎◌, Some}
 use Rattle.std.proofs.lemmas.List.{map-append}
 use Rattle.reo_rules_base.specs.Lists.{first_of, has_name}
 use Rattle.reo_rules_base.proofs.AfterLemmas.{more_flat}
@@ -26,7 +26,7 @@ returns-in_err-judge_others c =
     let same = ap (map naming_of) c.as_slice.ensures ∙ c.in_ok-places.ensures in
     let here : IsFirstBreak (flat_map (shared_in seen) (namings_in x)) e = subst (λ ns. IsFirstBreak (flat_map (shared_in seen) ns) e) same c.in_err-judge_others.ensures in
     let found : (e ≡ faults.NoMemory) ⊎ (first_of (flat_map (shared_in (ports_in (take i cs))) (namings_in x)) ≡ Some e) =
-        first_alike seen (ports_in (take i cs)) c.loop-component.invariant.0 (namings_in x) e here in
+    first_alike seen (ports_in (take i cs)) c.loop-component.invariant.0 (namings_in x) e here in
     passed_on c.from_residual-in_err-judge_others.result e (shared cs) c.from_residual-in_err-judge_others.ensures
     (⊎_elim (λ memory. inl memory) (λ is. inr (each_first by_component [] cs i x e c.loop-component-test.true c.component-item.is c.loop-component.invariant.1 is)) found)
 

@@ -12,6 +12,9 @@ line_of_refusal-requires c =
 
 pub returns-in-Refused : goal.returns-in-Refused
 returns-in-Refused c =
-    let q = rw c.in-Refused.is at c.in_ok-components.ensures in
-    (c.args.tokens.now, c.requires.tokens, syntax-within script_rules script_form IsDeep c.args.text.now c.args.tokens.now c.in-Refused.place c.line_of_refusal.result c.requires.levels q.1
-    (c.line_of_refusal.ensures c.args.text.now (omega (arith, q.0, lexemes-length c.args.text.now c.args.tokens.now))))
+    let q = rw c.in-Refused.is at c.in_ok-components.ensures in (
+      c.args.tokens.now,
+      c.requires.tokens,
+      syntax-within script_rules script_form IsDeep c.args.text.now c.args.tokens.now c.in-Refused.place c.line_of_refusal.result c.requires.levels q.1
+          (c.line_of_refusal.ensures c.args.text.now (omega (arith, q.0, lexemes-length c.args.text.now c.args.tokens.now))),
+    )
