@@ -3,6 +3,7 @@
 
 mod actions;
 mod depth;
+mod events;
 mod judging;
 mod making;
 mod places;

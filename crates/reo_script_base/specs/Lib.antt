@@ -4,3 +4,4 @@ pub mod Table
 pub mod Faults
 pub mod ScriptRules
 pub mod ScriptAnswers
+pub mod Events
