@@ -1,7 +1,7 @@
 -- A script of the form is one for the ports of the circuit.
 use Rattle.std.specs.Prelude.{List, length, map}
-use Rattle.reo_script.specs.declared.script.Component.{Component}
-use Rattle.reo_script.specs.Actions.{IsScriptFor}
+use Rattle.reo_plain_script.specs.declared.script.Component.{Component}
+use Rattle.reo_plain_script.specs.Actions.{IsScriptFor}
 use Rattle.reo_kinds.specs.Kinds.{port_state_of}
 use Rattle.reo_forms.specs.declared.plainest.Plainest.{Plainest}
 use Rattle.reo_forms.specs.CircuitForm.{IsPlainest}

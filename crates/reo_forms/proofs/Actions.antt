@@ -9,9 +9,9 @@ use Rattle.reo_values.specs.declared.value.Value.TheVariants as values
 use Rattle.reo_values.specs.declared.value.Value.TheBlock.{hidden-the_row-Couple-0}
 use Rattle.reo_values.specs.declared.kindred.Kindred.TheVariants as kinds
 use Rattle.reo_values.specs.ItemText.{text_of}
-use Rattle.reo_script.specs.declared.script.Action.{Action}
-use Rattle.reo_script.specs.declared.script.Action.TheVariants.{Write, Take}
-use Rattle.reo_script.specs.declared.script.Component.{Component}
+use Rattle.reo_plain_script.specs.declared.script.Action.{Action}
+use Rattle.reo_plain_script.specs.declared.script.Action.TheVariants.{Write, Take}
+use Rattle.reo_plain_script.specs.declared.script.Component.{Component}
 use Rattle.reo_forms.specs.declared.plainest.Parameter.{Parameter}
 use Rattle.reo_forms.specs.ScriptForm.{name_text, item_at_text, action_text, component_text, script_text, IsPortAction, IsPlainScript, IsScriptText}
 use Rattle.reo_forms.specs.Components.{IsPlainComponent}

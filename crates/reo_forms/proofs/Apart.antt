@@ -1,10 +1,10 @@
 -- No port is named by two components where that is so at each port.
 use Rattle.std.proofs.Common.{◌∙◌, ◌<◌, ℕ, List, length, get_or, refl, sym, ap}
 use Rattle.std.specs.Prelude.{slice_get}
-use Rattle.reo_script.specs.declared.script.Action.{Action}
-use Rattle.reo_script.specs.declared.script.Action.TheVariants.{Write, Take}
-use Rattle.reo_script.specs.declared.script.Component.{Component}
-use Rattle.reo_script.specs.Actions.{AreApart, port_of}
+use Rattle.reo_plain_script.specs.declared.script.Action.{Action}
+use Rattle.reo_plain_script.specs.declared.script.Action.TheVariants.{Write, Take}
+use Rattle.reo_plain_script.specs.declared.script.Component.{Component}
+use Rattle.reo_plain_script.specs.Actions.{AreApart, port_of}
 use Rattle.reo_forms.specs.declared.plainest.Parameter.{Parameter}
 use Rattle.reo_forms.specs.Components.{IsPlainComponent, IsApartAt}
 use Rattle.reo_forms.specs.Listed.{Each}

@@ -9,8 +9,8 @@ use Rattle.reo_values.specs.ItemText.{text_of}
 use Rattle.reo_values.specs.Kind.{IsIn}
 use Rattle.reo_values.proofs.Members.{in_int}
 use Rattle.reo_values.proofs.Numbers.{fits_between}
-use Rattle.reo_script.specs.declared.script.Action.TheVariants.{Write, Take}
-use Rattle.reo_script.specs.declared.script.Component.{Component}
+use Rattle.reo_plain_script.specs.declared.script.Action.TheVariants.{Write, Take}
+use Rattle.reo_plain_script.specs.declared.script.Component.{Component}
 use Rattle.reo_forms.specs.declared.plainest.Parameter.{Parameter}
 use Rattle.reo_forms.specs.CircuitForm.{IsParameter}
 use Rattle.reo_forms.specs.ScriptForm.{action_text, component_text, IsPortAction, SaysScript}

@@ -7,7 +7,7 @@ ghost use Rattle.reo_forms.specs.Parameters.{AreDifferent};
 ghost use Rattle.reo_forms.specs.Shape.{HasShape};
 
 use crate::{Parameter, Plainest};
-use reo_script::Script;
+use reo_plain_script::Script;
 use reo_trees::Program;
 use reo_values::List;
 

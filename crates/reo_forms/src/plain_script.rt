@@ -3,14 +3,14 @@ ghost use Rattle.std.specs.Prelude.{◌≡◌, ◌≤◌, ◌<◌, ◌↔◌, �
 ghost use Rattle.reo_values.specs.Kind.{IsIn};
 ghost use Rattle.reo_values.specs.declared.kindred.Kindred.TheVariants.{Int as IntOf};
 ghost use Rattle.reo_net_base.specs.declared.port.Way.TheVariants.{In, Out};
-ghost use Rattle.reo_script.specs.declared.script.Component.{Component as Part};
+ghost use Rattle.reo_plain_script.specs.declared.script.Component.{Component as Part};
 ghost use Rattle.reo_forms.specs.Listed.{IsLetter, Each};
 ghost use Rattle.reo_forms.specs.ScriptForm.{IsLabel, IsPortAction, IsPlainScript};
 ghost use Rattle.reo_forms.specs.Components.{IsPlainComponent, Names, IsApartAt};
 
 use crate::Parameter;
 use reo_net_base::Way;
-use reo_script::{Action, Component};
+use reo_plain_script::{Action, Component};
 use reo_values::{Bytes, Kindred, Value, is_in};
 
 // Whether a byte is a lower-case letter.

@@ -7,7 +7,7 @@ ghost use Rattle.reo_forms.specs.Listed.{IsText};
 ghost use Rattle.reo_forms.specs.ScriptForm.{name_text, item_at_text, action_text, component_text, script_text, IsScriptText};
 
 use crate::Parameter;
-use reo_script::{Action, Component};
+use reo_plain_script::{Action, Component};
 use reo_values::{Bytes, NoMemory, Value, append_number};
 use std::alloc::Global;
 

@@ -1,3 +1,4 @@
 pub mod Mapped
 pub mod AfterLemmas
 pub mod Parts
+pub mod Distinct

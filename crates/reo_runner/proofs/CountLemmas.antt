@@ -12,7 +12,7 @@ use Rattle.reo_net_base.specs.Marks.{is_flow}
 use Rattle.reo_net_base.specs.Behaviour.{Behaviour}
 use Rattle.reo_net_base.specs.Net.{Net, Wiring, net_of, mark_at, end_of}
 use Rattle.reo_net_base.specs.Moves.{item_at, move_with, moves_at, moves_of}
-use Rattle.reo_script.specs.declared.script.Component.{Component}
+use Rattle.reo_plain_script.specs.declared.script.Component.{Component}
 use Rattle.reo_trace.specs.declared.line.RoundLine.{RoundLine}
 use Rattle.reo_runner.specs.declared.plan.Plan.{Plan}
 use Rattle.reo_runner.specs.Plan.{IsPlan}

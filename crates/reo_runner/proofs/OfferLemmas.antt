@@ -7,9 +7,9 @@ use Rattle.reo_net_base.specs.declared.port.Offer.{Offer}
 use Rattle.reo_net_base.specs.declared.port.Offer.TheVariants.{Write, Take}
 use Rattle.reo_net_base.specs.PortState.{PortState, port_state_at, CanPlace, IsPortWith, IsAccepted}
 use Rattle.reo_net_base.specs.Step.{change_at}
-use Rattle.reo_script.specs.declared.script.Action.{Action}
-use Rattle.reo_script.specs.declared.script.Component.{Component}
-use Rattle.reo_script.specs.Actions.{port_of, offer_of, action_at, only_at, action_for, AreActionsFor}
+use Rattle.reo_plain_script.specs.declared.script.Action.{Action}
+use Rattle.reo_plain_script.specs.declared.script.Component.{Component}
+use Rattle.reo_plain_script.specs.Actions.{port_of, offer_of, action_at, only_at, action_for, AreActionsFor}
 use Rattle.reo_runner.specs.Round.{Rules, cleared, with_pending, ports_ready, IsTakenAt}
 
 -- One element of a list, by two functions that agree there.

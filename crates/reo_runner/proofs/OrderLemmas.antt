@@ -13,9 +13,9 @@ use Rattle.reo_net_base.specs.Step.{stepped, all_chosen, all_taken}
 use Rattle.reo_net_base.specs.Wired.{IsWired}
 use Rattle.reo_net_base.specs.Shapes.{SameShapes}
 use Rattle.reo_net_circuit.proofs.ReshapeLemmas.{same_shape, reshaped, lawful_at, wired_same, order_same}
-use Rattle.reo_script.specs.declared.script.Action.{Action}
-use Rattle.reo_script.specs.declared.script.Component.{Component}
-use Rattle.reo_script.specs.Actions.{offer_of, action_for}
+use Rattle.reo_plain_script.specs.declared.script.Action.{Action}
+use Rattle.reo_plain_script.specs.declared.script.Component.{Component}
+use Rattle.reo_plain_script.specs.Actions.{offer_of, action_for}
 use Rattle.reo_trace.specs.declared.line.RoundLine.{RoundLine}
 use Rattle.reo_runner.specs.Round.{Rules, State, Choosing, RoundOf, cleared, with_pending, ports_ready, ready}
 use Rattle.reo_runner.specs.Whole.{HasOrder}

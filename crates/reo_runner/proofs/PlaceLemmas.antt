@@ -4,9 +4,9 @@ use Rattle.std.specs.Prelude.{Some, nat_lt, slice_get}
 use Rattle.std.specs.Option.{option_or}
 use Rattle.std.proofs.Math.Seq.{drop-cons}
 use Rattle.reo_net_base.specs.Net.{Net}
-use Rattle.reo_script.specs.declared.script.Action.{Action}
-use Rattle.reo_script.specs.declared.script.Component.{Component}
-use Rattle.reo_script.specs.Actions.{port_of, action_at, only_at, action_for, all_done}
+use Rattle.reo_plain_script.specs.declared.script.Action.{Action}
+use Rattle.reo_plain_script.specs.declared.script.Component.{Component}
+use Rattle.reo_plain_script.specs.Actions.{port_of, action_at, only_at, action_for, all_done}
 use Rattle.reo_runner.specs.Round.{progress, advanced}
 
 -- The action at a port, from a component on.

@@ -5,9 +5,9 @@ use Rattle.reo_values.specs.declared.value.Value.{Value}
 use Rattle.reo_net_base.specs.declared.port.Offer.{Offer}
 use Rattle.reo_net_base.specs.declared.port.Offer.TheVariants.{Write, Take}
 use Rattle.reo_net_base.specs.PortState.{PortState, port_state_at, CanPlace, IsPortWith, IsAccepted}
-use Rattle.reo_script.specs.declared.script.Action.{Action}
-use Rattle.reo_script.specs.declared.script.Component.{Component}
-use Rattle.reo_script.specs.Actions.{port_of, offer_of, action_for, IsScriptFor}
+use Rattle.reo_plain_script.specs.declared.script.Action.{Action}
+use Rattle.reo_plain_script.specs.declared.script.Component.{Component}
+use Rattle.reo_plain_script.specs.Actions.{port_of, offer_of, action_for, IsScriptFor}
 use Rattle.reo_runner.specs.Round.{Rules, cleared, with_pending, ports_ready, IsTakenAt}
 use Rattle.reo_runner.proofs.OfferLemmas.{cleared_port, can_place, taken_at_port}
 

@@ -14,8 +14,8 @@ use Rattle.reo_net_base.specs.Net.{Wiring, net_of}
 use Rattle.reo_net_base.specs.Step.{stepped}
 use Rattle.reo_io.specs.Sinks.{Appended, TookPart}
 use Rattle.reo_io.proofs.Taken.{Appended-none, Appended-append}
-use Rattle.reo_script.specs.declared.script.Component.{Component}
-use Rattle.reo_script.specs.Actions.{all_done}
+use Rattle.reo_plain_script.specs.declared.script.Component.{Component}
+use Rattle.reo_plain_script.specs.Actions.{all_done}
 use Rattle.reo_trace.specs.declared.line.RoundLine.{RoundLine}
 use Rattle.reo_trace.specs.declared.line.Ending.{Ending}
 use Rattle.reo_trace.specs.declared.line.Ending.TheVariants.{Done, Stuck, Limit}

@@ -2,7 +2,7 @@
 use Rattle.std.specs.Prelude.{ℕ, ◌+◌, ◌≡◌, Option, List, length}
 use Rattle.reo_io.specs.Sinks.{Appended}
 use Rattle.reo_net_base.specs.declared.port.Port.{Port}
-use Rattle.reo_script.specs.declared.script.Component.{Component}
+use Rattle.reo_plain_script.specs.declared.script.Component.{Component}
 use Rattle.reo_trace.specs.declared.line.RoundLine.{RoundLine}
 use Rattle.reo_trace.specs.TraceText.{rounds_text}
 use Rattle.reo_runner.specs.Round.{Rules, State, Choosing}

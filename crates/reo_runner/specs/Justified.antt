@@ -8,7 +8,7 @@ use Rattle.reo_net_base.specs.Wired.{IsWired}
 use Rattle.reo_net_laws.specs.FirstLaws.{Flows}
 use Rattle.reo_net_laws.specs.Jams.{jams, IsThreeColouring}
 use Rattle.reo_net_laws.specs.Parts.{IsClosed}
-use Rattle.reo_script.specs.declared.script.Component.{Component}
+use Rattle.reo_plain_script.specs.declared.script.Component.{Component}
 use Rattle.reo_trace.specs.declared.line.RoundLine.{RoundLine}
 use Rattle.reo_trace.specs.declared.line.Ending.{Ending}
 use Rattle.reo_trace.specs.Entries.{is_idle}

@@ -4,7 +4,7 @@ use Rattle.reo_net_base.specs.Behaviour.{Behaviour}
 use Rattle.reo_net_base.specs.First.{IsFirst}
 use Rattle.reo_net_base.specs.Moves.{moves_of}
 use Rattle.reo_net_base.specs.Net.{Wiring, net_of}
-use Rattle.reo_script.specs.declared.script.Component.{Component}
+use Rattle.reo_plain_script.specs.declared.script.Component.{Component}
 use Rattle.reo_trace.specs.Entries.{line_for}
 use Rattle.reo_runner.specs.declared.plan.Plan.{Plan}
 use Rattle.reo_runner.specs.Round.{advanced}

@@ -9,9 +9,9 @@ use Rattle.reo_net_base.specs.PortState.{PortState, way_of, IsAccepted}
 use Rattle.reo_net_base.specs.Net.{Net, Wiring, net_of, mark_at, end_of}
 use Rattle.reo_net_base.specs.Moves.{moves_of}
 use Rattle.reo_net_base.specs.Step.{stepped}
-use Rattle.reo_script.specs.declared.script.Action.{Action}
-use Rattle.reo_script.specs.declared.script.Component.{Component}
-use Rattle.reo_script.specs.Actions.{port_of, offer_of, action_at, action_for}
+use Rattle.reo_plain_script.specs.declared.script.Action.{Action}
+use Rattle.reo_plain_script.specs.declared.script.Component.{Component}
+use Rattle.reo_plain_script.specs.Actions.{port_of, offer_of, action_at, action_for}
 use Rattle.reo_trace.specs.declared.line.RoundLine.{RoundLine}
 use Rattle.reo_trace.specs.Entries.{line_for}
 

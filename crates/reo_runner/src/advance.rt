@@ -2,13 +2,13 @@
 ghost use Rattle.std.specs.Prelude.{◌≡◌, ◌<◌, ◌≤◌, ℕ, cond, length, map, IfOk, true, Some};
 ghost use Rattle.reo_net_base.specs.Colouring.{AreRows};
 ghost use Rattle.reo_net_base.specs.Net.{net_of, all_sides};
-ghost use Rattle.reo_script.specs.declared.script.Action.{Action as Done};
-ghost use Rattle.reo_script.specs.Actions.{action_at, all_done, beginnings, port_of, IsScriptFor};
+ghost use Rattle.reo_plain_script.specs.declared.script.Action.{Action as Done};
+ghost use Rattle.reo_plain_script.specs.Actions.{action_at, all_done, beginnings, port_of, IsScriptFor};
 ghost use Rattle.reo_runner.specs.Round.{progress, advanced};
 
 use reo_net_base::{End, Ported};
 use reo_net_circuit::Circuit;
-use reo_script::Component;
+use reo_plain_script::Component;
 use reo_values::{List, NoMemory};
 use std::alloc::Global;
 

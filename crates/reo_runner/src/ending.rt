@@ -7,7 +7,7 @@ ghost use Rattle.reo_runner.specs.Outcome.{Closes, outcome_end};
 use crate::advance::are_done;
 use crate::outcome::{End2, Outcome, Tally};
 use reo_io::Sink;
-use reo_script::Component;
+use reo_plain_script::Component;
 use reo_trace::{Ending, WriteFault, write_ending};
 use std::alloc::Global;
 

@@ -10,7 +10,7 @@ ghost use Rattle.reo_runner.specs.Whole.{HasOrder, HasRun, RunExists, RunIsOne};
 use reo_net_base::Ported;
 use reo_net_circuit::Circuit;
 use reo_net_laws::{first_exists, first_flows, first_is_one, first_jams_for_cause};
-use reo_script::Component;
+use reo_plain_script::Component;
 use reo_trace::idle_means_no_flow;
 
 /// Where the joints have an order, there is a run from each start, and each beginning of a run

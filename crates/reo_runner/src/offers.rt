@@ -4,12 +4,12 @@ ghost use Rattle.reo_net_base.specs.PortState.{port_state_at};
 ghost use Rattle.reo_net_base.specs.Net.{net_of};
 ghost use Rattle.reo_net_base.specs.Colouring.{IsColouring};
 ghost use Rattle.reo_net_base.specs.Step.{change_at, stepped};
-ghost use Rattle.reo_script.specs.Actions.{offer_of, action_at, only_at, action_for, IsScriptFor};
+ghost use Rattle.reo_plain_script.specs.Actions.{offer_of, action_at, only_at, action_for, IsScriptFor};
 ghost use Rattle.reo_runner.specs.Round.{rules_of, cleared, with_pending, ports_ready, IsTakenAt};
 
 use reo_net_base::{Colouring, Offer, Ported};
 use reo_net_circuit::Circuit;
-use reo_script::{Action, Component};
+use reo_plain_script::{Action, Component};
 use reo_values::{NoMemory, copy};
 use std::alloc::Global;
 

@@ -1,13 +1,13 @@
 //! What a round will be.
 ghost use Rattle.std.specs.Prelude.{◌≡◌, ◌≤◌, length, map, IfOk};
-ghost use Rattle.reo_script.specs.Actions.{IsScriptFor};
+ghost use Rattle.reo_plain_script.specs.Actions.{IsScriptFor};
 ghost use Rattle.reo_runner.specs.Plan.{IsPlan};
 
 use crate::advance::advance;
 use reo_net_base::{Colouring, Ported};
 use reo_net_circuit::{Circuit, moves};
 use reo_net_plain::plain_first;
-use reo_script::Component;
+use reo_plain_script::Component;
 use reo_trace::{RoundLine, line_of};
 use reo_values::{List, NoMemory};
 use std::alloc::Global;

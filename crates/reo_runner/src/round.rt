@@ -3,7 +3,7 @@ ghost use Rattle.std.specs.Prelude.{◌≡◌, ◌≤◌, length, map, IfOk, OnO
 ghost use Rattle.reo_net_base.specs.First.{IsFirst};
 ghost use Rattle.reo_io.specs.Causes.{Rose};
 ghost use Rattle.reo_io.specs.Sinks.{Appended};
-ghost use Rattle.reo_script.specs.Actions.{IsScriptFor};
+ghost use Rattle.reo_plain_script.specs.Actions.{IsScriptFor};
 ghost use Rattle.reo_trace.specs.RoundText.{round_text};
 ghost use Rattle.reo_runner.specs.Outcome.{CutRound};
 ghost use Rattle.reo_runner.specs.Round.{RoundOf, rules_of, state_of};
@@ -13,7 +13,7 @@ use crate::plan::{Plan, make_plan};
 use reo_io::Sink;
 use reo_net_base::{Ported, Ports};
 use reo_net_circuit::Circuit;
-use reo_script::Component;
+use reo_plain_script::Component;
 use reo_trace::{RoundLine, WriteFault, write_round};
 use reo_values::List;
 use std::alloc::Global;

@@ -2,7 +2,7 @@
 ghost use Rattle.std.specs.Prelude.{◌≡◌, ◌≤◌, ◌<◌, ◌^◌, ℕ, false, length, map};
 ghost use Rattle.reo_net_base.specs.First.{IsFirst};
 ghost use Rattle.reo_io.specs.Causes.{Rose};
-ghost use Rattle.reo_script.specs.Actions.{IsScriptFor, all_done, beginnings};
+ghost use Rattle.reo_plain_script.specs.Actions.{IsScriptFor, all_done, beginnings};
 ghost use Rattle.reo_runner.specs.Round.{rules_of};
 ghost use Rattle.reo_runner.specs.Run.{start_of};
 ghost use Rattle.reo_runner.specs.Outcome.{CameTo};
@@ -15,7 +15,7 @@ use crate::round::make_round;
 use reo_io::Sink;
 use reo_net_base::{Ported, Ports};
 use reo_net_circuit::Circuit;
-use reo_script::{Component, Script};
+use reo_plain_script::{Component, Script};
 use reo_trace::{Ending, WriteFault};
 use reo_values::List;
 use std::alloc::Global;

@@ -1,1 +1,3 @@
-pub mod Actions
+pub mod Depth
+pub mod Reading
+pub mod Places

@@ -1,6 +1,15 @@
-//! What components do: their lists of actions at the ports of a circuit.
+//! Reading script texts.
 #![tactic(auto)]
 
+mod actions;
+mod depth;
+mod events;
+mod judging;
+mod making;
+mod places;
+mod reading;
 mod script;
+mod sharing;
+mod texts;
 
-pub use script::{Action, Component, Script};
+pub use script::read_script;

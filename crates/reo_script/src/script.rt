@@ -1,39 +1,75 @@
-//! Scripts, components and actions.
-ghost use Rattle.std.specs.Prelude.{◌≡◌};
-ghost use Rattle.reo_script.specs.Actions.{port_of};
+//! Reading scripts.
+ghost use Rattle.std.specs.Prelude.{◌≡◌, ◌<◌, ◌^◌, length, map, IfOk, Result};
+ghost use Rattle.reo_net_base.specs.declared.port.Port.{Port as APort};
+ghost use Rattle.reo_script_base.specs.declared.action.Script.{Script as AScript};
+ghost use Rattle.reo_script_base.specs.declared.fault.ScriptFault.{ScriptFault as AFault};
+ghost use Rattle.reo_script_base.specs.ScriptAnswers.{Answers, IsRead, IsThis};
+ghost use Rattle.reo_script_base.specs.ScriptRules.{breaks};
+ghost use Rattle.reo_script.specs.Places.{ArePortsOf, IsJudgedBy};
 
-use reo_values::{Bytes, List, Value};
+use crate::judging::{judge_items, judge_names, judge_ways};
+use crate::making::components_for;
+use crate::places::places_of;
+use crate::sharing::judge_sharing;
+use crate::texts::said;
+use reo_net_base::{Port, Ports};
+use reo_rules_base::Names;
+use reo_script_base::{ComponentForm, Script, ScriptFault};
+use reo_values::NoMemory;
+use std::alloc::Global;
 
-/// The components of a system, in the order of their text.
-#[derive(Drop)]
-pub struct Script {
-    pub components: List<Component>,
-}
-
-/// A component: its name is a label, and it does its actions in order.
-#[derive(Drop)]
-pub struct Component {
-    pub name: Bytes,
-    pub actions: List<Action>,
-}
-
-/// What a component does at a port. Ports are numbered from 0.
-#[derive(Drop)]
-pub enum Action {
-    /// Offers to write an item, until it flows.
-    Write { port: usize, item: Value },
-    /// Offers to take an item, until one flows.
-    Take { port: usize },
-}
-
-impl Action {
-    /// The port that it is at.
-    pub fn port(&self) -> usize
-        ensures { result ≡ port_of self.now }
-    {
-        match self {
-            Action::Write { port, .. } => *port,
-            Action::Take { port } => *port,
-        }
+/// The names of ports.
+fn names_of(alloc: Global, ports: &[Port]) -> Result<Names, NoMemory>
+    requires { ArePortsOf ports.now }
+    ensures { IfOk result (λ names. names ≡ map (λ (p : APort). p.name) ports.now) }
+{
+    let mut names = Names::new(alloc);
+    for port in ports {
+        names.note(alloc, port.name.as_slice())?;
     }
+    Ok(names)
+}
+
+/// Whether components keep the rules on ports, or the first break of the first rule that is
+/// broken.
+fn judge(
+    alloc: Global,
+    names: &Names,
+    ports: &[Port],
+    forms: &[ComponentForm],
+) -> Result<(), ScriptFault>
+    requires { names.now ≡ map (λ (p : APort). p.name) ports.now }
+    ensures { IsJudgedBy (breaks ports.now forms.now) result }
+{
+    let places = places_of(alloc, forms)?;
+    judge_names(alloc, names, ports, places.as_slice())?;
+    judge_ways(alloc, names, ports, places.as_slice())?;
+    judge_items(names, ports, places.as_slice())?;
+    judge_sharing(alloc, forms)
+}
+
+/// The answer to a text, for these ports.
+fn answer_of(alloc: Global, text: &[u8], ports: &[Port]) -> Result<Script, ScriptFault>
+    requires few { length text.now < 2 ^ 32 }
+    requires ports { ArePortsOf ports.now }
+    ensures { IsRead text.now ports.now result }
+{
+    let forms = said(alloc, text)?;
+    let names = names_of(alloc, ports)?;
+    judge(alloc, &names, ports, forms.as_slice())?;
+    let components = components_for(alloc, &names, ports, forms.as_slice())?;
+    Ok(Script { components })
+}
+
+/// The script that a text says for these ports. Otherwise the first of these, each exactly where it
+/// holds: the fault of its tokens; `Syntax` or `TooDeep`, whichever stands first; then over the
+/// whole script, in text order, `NoPort`, `WrongWay`, `ItemOutside` and `Shared`. `NoMemory` means
+/// out of memory.
+pub fn read_script(alloc: Global, text: &[u8], ports: &Ports) -> Result<Script, ScriptFault>
+    requires few { length text.now < 2 ^ 32 }
+    requires ports { ArePortsOf ports.now.list }
+    ensures read { IsRead text.now ports.now.list result }
+    ensures only { (answer : Result AScript AFault) → Answers text.now ports.now.list answer → IsThis answer result }
+{
+    answer_of(alloc, text, ports.list.as_slice())
 }

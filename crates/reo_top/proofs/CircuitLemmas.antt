@@ -3,7 +3,7 @@ use Rattle.std.proofs.Common.{◌≡◌, ◌∙◌, ℕ, List, [], ◌∷◌, sy
 use Rattle.std.specs.Prelude.{Option, Some, Result, Ok, Err, map}
 use Rattle.reo_values.specs.declared.kindred.Kindred.{Kindred}
 use Rattle.reo_net_base.specs.declared.port.Port.{Port}
-use Rattle.reo_script.specs.declared.script.Component.{Component}
+use Rattle.reo_plain_script.specs.declared.script.Component.{Component}
 use Rattle.reo_trees.specs.declared.programs.Program.{Program}
 use Rattle.reo_trees.specs.Says.{SaysProgram}
 use Rattle.reo_parser.specs.declared.fault.ParseFault.{ParseFault}

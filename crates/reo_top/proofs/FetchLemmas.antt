@@ -2,8 +2,8 @@
 use Rattle.std.proofs.Common.{◌≡◌, ◌∙◌, inl, inr, ℕ, ◌≤◌, false, List, [], ◌∷◌, ◌++◌, length, sym, subst, ap, refl, arith}
 use Rattle.std.specs.Prelude.{Option, Some, None, IfSome, Ok, Err}
 use Rattle.reo_io.specs.Fetches.{Folder, fetches_after}
-use Rattle.reo_script.specs.declared.script.Component.{Component}
-use Rattle.reo_script.specs.declared.script.Script.{Script as Said}
+use Rattle.reo_plain_script.specs.declared.script.Component.{Component}
+use Rattle.reo_plain_script.specs.declared.script.Script.{Script as Said}
 use Rattle.reo_trees.specs.declared.programs.Program.{Program}
 use Rattle.reo_parser.specs.declared.fault.ParseFault.{ParseFault}
 use Rattle.reo_parser.specs.declared.fault.ParseFault.TheVariants as faults

@@ -4,7 +4,7 @@ use Rattle.reo_parser.specs.declared.fault.ParseFault.{ParseFault}
 use Rattle.reo_forms.specs.declared.plainest.Plainest.{Plainest}
 use Rattle.reo_forms.specs.ScriptForm.{SaysScript}
 use Rattle.reo_build.specs.Flat.{ports_of}
-use Rattle.reo_script.specs.declared.script.Script.{Script}
+use Rattle.reo_plain_script.specs.declared.script.Script.{Script}
 use Rattle.reo_top.specs.declared.role.Role.TheVariants as roles
 use Rattle.reo_top.specs.declared.stop.Stop.{Stop}
 use Rattle.reo_top.specs.declared.stop.Stop.TheVariants.{Missed, TooLong, Refused, NotBuilt, NoMemory}

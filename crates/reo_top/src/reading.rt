@@ -21,7 +21,7 @@ use reo_flatten_laws::{homes_fit, names_are_plain};
 use reo_forms::{FormFault, Plainest, read_script, shape};
 use reo_io::Files;
 use reo_parser::{ParseFault, parse};
-use reo_script::Script;
+use reo_plain_script::Script;
 use reo_trees::Program;
 use reo_trees_laws::programs_are_spelled;
 use std::alloc::Global;

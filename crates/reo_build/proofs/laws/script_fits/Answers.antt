@@ -6,9 +6,9 @@ use Rattle.reo_values.specs.declared.kindred.Kindred.{Kindred}
 use Rattle.reo_net_base.specs.declared.port.Way.{Way}
 use Rattle.reo_net_base.specs.declared.port.Way.TheVariants.{In, Out}
 use Rattle.reo_net_base.specs.PortState.{PortState, no_port_state}
-use Rattle.reo_script.specs.declared.script.Action.{Action}
-use Rattle.reo_script.specs.declared.script.Action.TheVariants.{Write, Take}
-use Rattle.reo_script.specs.Actions.{IsActionFor}
+use Rattle.reo_plain_script.specs.declared.script.Action.{Action}
+use Rattle.reo_plain_script.specs.declared.script.Action.TheVariants.{Write, Take}
+use Rattle.reo_plain_script.specs.Actions.{IsActionFor}
 use Rattle.reo_values.specs.Kind.{is_item, ItemTestIsExact}
 use Rattle.reo_kinds.specs.Kinds.{port_state_of}
 use Rattle.reo_forms.specs.declared.plainest.Plainest.{Plainest}

@@ -1,4 +1,4 @@
-use Rattle.reo_script.specs.declared.script.Component.{Component}
+use Rattle.reo_plain_script.specs.declared.script.Component.{Component}
 use Rattle.reo_forms.specs.Components.{Names}
 use Rattle.reo_forms.proofs.Eachs.{Before}
 use Rattle.reo_forms.proofs.plain_script.first_naming.Given as goal

@@ -1,6 +1,6 @@
 use Rattle.std.proofs.Common.{◌≡◌, ◌∙◌, ◌<◌, inl, inr, ℕ, List, Some, get_or, sym, arith}
 use Rattle.std.specs.Prelude.{slice_get}
-use Rattle.reo_script.specs.declared.script.Component.{Component}
+use Rattle.reo_plain_script.specs.declared.script.Component.{Component}
 use Rattle.reo_forms.specs.Components.{Names}
 use Rattle.reo_forms.proofs.Ports.{order}
 use Rattle.reo_forms.proofs.Eachs.{get_at, get_within}

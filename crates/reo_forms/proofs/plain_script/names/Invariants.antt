@@ -1,6 +1,6 @@
 use Rattle.std.proofs.Common.{◌≡◌}
-use Rattle.reo_script.specs.declared.script.Action.{Action}
-use Rattle.reo_script.specs.Actions.{port_of}
+use Rattle.reo_plain_script.specs.declared.script.Action.{Action}
+use Rattle.reo_plain_script.specs.Actions.{port_of}
 use Rattle.reo_forms.proofs.Eachs.{Before}
 use Rattle.reo_forms.proofs.plain_script.names.Given as goal
 

@@ -1,5 +1,5 @@
 use Rattle.std.proofs.Common.{◌≡◌, ◌∙◌, ℕ, List, IfOk, sym}
-use Rattle.reo_script.specs.declared.script.Action.{Action}
+use Rattle.reo_plain_script.specs.declared.script.Action.{Action}
 use Rattle.reo_forms.proofs.Actions.{as_write, as_take}
 use Rattle.reo_forms.proofs.script.action.Goals as goal
 

@@ -1,5 +1,5 @@
 use Rattle.std.proofs.Common.{◌∙◌, ◌++◌, codes, refl, sym, subst}
-use Rattle.reo_script.specs.declared.script.Component.{Component}
+use Rattle.reo_plain_script.specs.declared.script.Component.{Component}
 use Rattle.reo_forms.specs.ScriptForm.{component_text}
 use Rattle.reo_forms.specs.Components.{IsPlainComponent}
 use Rattle.reo_forms.proofs.Rows.{IsLeft, left_more, left_none}

@@ -1,5 +1,5 @@
 use Rattle.std.proofs.Common.{◌∙◌, List, sym, subst}
-use Rattle.reo_script.specs.declared.script.Component.{Component}
+use Rattle.reo_plain_script.specs.declared.script.Component.{Component}
 use Rattle.reo_forms.specs.declared.plainest.Parameter.{Parameter}
 use Rattle.reo_forms.specs.ScriptForm.{IsPlainScript, IsScriptText, SaysScript}
 use Rattle.reo_forms.proofs.Actions.{script_front, plain_components}

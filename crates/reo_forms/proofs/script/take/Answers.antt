@@ -1,5 +1,5 @@
 use Rattle.std.proofs.Common.{◌∙◌, ◌∷◌, ◌++◌, codes, drop, ap, sym}
-use Rattle.reo_script.specs.declared.script.Action.TheVariants.{Take}
+use Rattle.reo_plain_script.specs.declared.script.Action.TheVariants.{Take}
 use Rattle.reo_forms.proofs.Numerals.{name_word, semicolon_ends}
 use Rattle.reo_forms.proofs.Actions.{take_parts}
 use Rattle.reo_forms.proofs.script.take.Goals as goal

@@ -2,7 +2,7 @@ use Rattle.std.proofs.Common.{◌∙◌, ◌++◌, ◌∷◌, codes, drop, ap, s
 use Rattle.std.specs.Prelude.{slice_get}
 use Rattle.reo_values.specs.ItemText.{text_of}
 use Rattle.reo_values.specs.declared.kindred.Kindred.TheVariants as kinds
-use Rattle.reo_script.specs.declared.script.Action.TheVariants.{Write}
+use Rattle.reo_plain_script.specs.declared.script.Action.TheVariants.{Write}
 use Rattle.reo_forms.proofs.Numerals.{name_word, space_ends, semicolon_ends}
 use Rattle.reo_forms.proofs.Actions.{write_parts}
 use Rattle.reo_forms.proofs.script.write.Goals as goal

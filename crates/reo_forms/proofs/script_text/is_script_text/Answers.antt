@@ -1,6 +1,6 @@
 use Rattle.std.proofs.Common.{◌∙◌, ◌++◌, ◌↔◌, IsTrue, IfOk, List, ℕ, codes, sym, ap, subst}
 use Rattle.std.specs.List.{flat_map}
-use Rattle.reo_script.specs.declared.script.Component.{Component}
+use Rattle.reo_plain_script.specs.declared.script.Component.{Component}
 use Rattle.reo_forms.specs.Listed.{IsText}
 use Rattle.reo_forms.specs.ScriptForm.{component_text, IsScriptText}
 use Rattle.reo_forms.proofs.RowTells.{joined_is}

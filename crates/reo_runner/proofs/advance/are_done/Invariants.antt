@@ -1,5 +1,5 @@
 use Rattle.std.proofs.Common.{◌≡◌, drop}
-use Rattle.reo_script.specs.Actions.{all_done}
+use Rattle.reo_plain_script.specs.Actions.{all_done}
 use Rattle.reo_runner.proofs.advance.are_done.Given as goal
 
 abbrev pub invariant-loop-index : goal.invariant-loop-index

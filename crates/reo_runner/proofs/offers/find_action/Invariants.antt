@@ -1,5 +1,5 @@
 use Rattle.std.proofs.Common.{◌≡◌, drop}
-use Rattle.reo_script.specs.Actions.{action_for}
+use Rattle.reo_plain_script.specs.Actions.{action_for}
 use Rattle.reo_runner.proofs.offers.find_action.Given as goal
 
 abbrev pub invariant-loop-index : goal.invariant-loop-index

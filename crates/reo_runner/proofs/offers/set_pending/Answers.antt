@@ -2,7 +2,7 @@ use Rattle.std.proofs.Common.{◌∙◌, ◌<◌, ap, length, arith}
 use Rattle.std.specs.Prelude.{map}
 use Rattle.std.proofs.lemmas.List.{length-map}
 use Rattle.reo_net_base.specs.PortState.{port_state_at}
-use Rattle.reo_script.specs.Actions.{offer_of}
+use Rattle.reo_plain_script.specs.Actions.{offer_of}
 use Rattle.reo_runner.specs.Round.{rules_of, cleared}
 use Rattle.reo_runner.proofs.OfferLemmas.{cleared_port_at, can_place, change_twice}
 use Rattle.reo_runner.proofs.offers.set_pending.Goals as goal

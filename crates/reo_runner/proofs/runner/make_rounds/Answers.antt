@@ -5,8 +5,8 @@ use Rattle.std.proofs.lemmas.List.{length-map}
 use Rattle.std.proofs.lemmas.List.Sums.{count_by-le-length}
 use Rattle.reo_net_base.specs.declared.port.Port.{Port}
 use Rattle.reo_net_base.specs.First.{IsFirst}
-use Rattle.reo_script.specs.declared.script.Component.{Component}
-use Rattle.reo_script.specs.Actions.{all_done}
+use Rattle.reo_plain_script.specs.declared.script.Component.{Component}
+use Rattle.reo_plain_script.specs.Actions.{all_done}
 use Rattle.reo_runner.specs.declared.round.Made.{Made}
 use Rattle.reo_runner.specs.Round.{State, RoundOf, rules_of, state_of}
 use Rattle.reo_runner.specs.Run.{start_of}

@@ -1,6 +1,6 @@
 use Rattle.std.proofs.Common.{length, ◌-◌, ◌+◌, ◌≤◌, ◌≡◌, ◌^◌, ◌*◌, false, map}
 use Rattle.reo_net_base.specs.First.{IsFirst}
-use Rattle.reo_script.specs.Actions.{all_done, IsScriptFor}
+use Rattle.reo_plain_script.specs.Actions.{all_done, IsScriptFor}
 use Rattle.reo_runner.specs.Round.{rules_of, state_of}
 use Rattle.reo_runner.specs.Run.{start_of}
 use Rattle.reo_runner.proofs.SoFar.{SoFar}

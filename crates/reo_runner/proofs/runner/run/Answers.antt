@@ -2,8 +2,8 @@ use Rattle.std.proofs.Common.{◌≡◌, ◌∙◌, sym, subst, refl, List, [], 
 use Rattle.reo_net_base.specs.declared.port.Port.{Port}
 use Rattle.reo_net_base.specs.First.{IsFirst}
 use Rattle.reo_io.proofs.Taken.{Appended-none}
-use Rattle.reo_script.specs.declared.script.Component.{Component}
-use Rattle.reo_script.specs.Actions.{all_done, beginnings}
+use Rattle.reo_plain_script.specs.declared.script.Component.{Component}
+use Rattle.reo_plain_script.specs.Actions.{all_done, beginnings}
 use Rattle.reo_trace.specs.declared.line.Ending.TheVariants.{Done}
 use Rattle.reo_runner.specs.Round.{rules_of}
 use Rattle.reo_runner.specs.Run.{start_of}

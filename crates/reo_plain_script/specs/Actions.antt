@@ -4,9 +4,9 @@ use Rattle.std.specs.Option.{option_or}
 use Rattle.reo_net_base.specs.declared.port.Offer.{Offer}
 use Rattle.reo_net_base.specs.declared.port.Offer.TheVariants.{Write as WriteOffer, Take as TakeOffer}
 use Rattle.reo_net_base.specs.PortState.{PortState, port_state_at, way_of, IsAccepted}
-use Rattle.reo_script.specs.declared.script.Action.{Action}
-use Rattle.reo_script.specs.declared.script.Action.TheVariants.{Write, Take}
-use Rattle.reo_script.specs.declared.script.Component.{Component}
+use Rattle.reo_plain_script.specs.declared.script.Action.{Action}
+use Rattle.reo_plain_script.specs.declared.script.Action.TheVariants.{Write, Take}
+use Rattle.reo_plain_script.specs.declared.script.Component.{Component}
 
 -- The port of an action.
 abbrev pub port_of : Action → ℕ

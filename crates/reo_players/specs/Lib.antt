@@ -1,0 +1,6 @@
+pub mod Written
+pub mod Players
+pub mod Codes
+pub mod Counters
+pub mod Offers
+pub mod Wants

@@ -1,0 +1,12 @@
+use Rattle.std.proofs.Common.{◌∙◌, sym, ap, inr, Some, cond, [], ◌∷◌}
+use Rattle.reo_rules_base.specs.Lists.{first_of}
+use Rattle.reo_script_base.specs.declared.fault.ScriptFault.TheVariants as faults
+use Rattle.reo_script_base.specs.ScriptRules.{wrong_way}
+use Rattle.reo_script.specs.Places.{naming_of}
+use Rattle.reo_script.proofs.Breaks.{pass_first}
+use Rattle.reo_script.proofs.judging.judge_ways.Goals as goal
+
+pub returns-then-is_wrong : goal.returns-then-is_wrong
+returns-then-is_wrong c =
+    inr (pass_first naming_of (wrong_way c.args.ports.now) c.args.places.now c.loop-place.place-index c.place-item.result _ c.loop-place-test.true c.place-item.is c.loop-place.invariant
+    (ap (λ b. first_of (cond b (faults.WrongWay c.place-item.result.line c.place-item.result.port.now ∷ []) [])) (sym c.if-is_wrong.ensures) ∙ ap (λ n. Some (faults.WrongWay c.place-item.result.line n)) (sym c.in_ok-copy.ensures)))

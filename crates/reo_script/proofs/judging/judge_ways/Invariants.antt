@@ -1,0 +1,8 @@
+use Rattle.std.proofs.Common.{◌≡◌, [], map, take}
+use Rattle.std.specs.List.{flat_map}
+use Rattle.reo_script_base.specs.ScriptRules.{wrong_way}
+use Rattle.reo_script.specs.Places.{naming_of}
+use Rattle.reo_script.proofs.judging.judge_ways.Given as goal
+
+abbrev pub invariant-loop-place : goal.invariant-loop-place
+invariant-loop-place l = flat_map (wrong_way l.ports) (map naming_of (take l.place-index l.places)) ≡ []

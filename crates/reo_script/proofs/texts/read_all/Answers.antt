@@ -1,0 +1,47 @@
+use Rattle.std.proofs.Common.{ℕ, ◌+◌, ◌<◌, List, length, refl, sym, ◌∙◌, arith}
+use Rattle.reo_lexer.specs.declared.token.Token.{Token}
+use Rattle.reo_lexer.specs.Lexing.{lexemes_of}
+use Rattle.reo_texts.proofs.Fronts.{lexemes-length}
+use Rattle.reo_script_base.specs.ScriptForms.{script_rules, script_form}
+use Rattle.reo_script_base.specs.Table.{script_table}
+use Rattle.reo_texts.proofs.Whole.{all-said, rest-refused, stop-refused, never-out}
+use Rattle.reo_script.proofs.texts.read_all.Goals as goal
+
+enough : (text : List ℕ) (ts : List Token) → length (lexemes_of text ts) < length ts + 1
+enough text ts = omega (arith, lexemes-length text ts)
+
+pub returns-then-left-eq0 : goal.returns-then-left-eq0
+returns-then-left-eq0 c =
+    all-said script_rules script_form script_table refl refl (lexemes_of c.args.text.now c.args.tokens.now) (length c.args.tokens.now + 1) (enough c.args.text.now c.args.tokens.now) c.in-Ok.components c.components.new.cursor
+    (rw c.new-cursor.ensures at c.in-Ok.ensures) (sym c.left.ensures ∙ c.if-left-eq0.true)
+
+pub overflow_sub-result : goal.overflow_sub-result
+overflow_sub-result c =
+    (rest-refused script_rules script_form script_table refl refl (lexemes_of c.args.text.now c.args.tokens.now) (length c.args.tokens.now + 1) (enough c.args.text.now c.args.tokens.now) c.in-Ok.components c.components.new.cursor
+    (length c.args.tokens.now) c.left-else-left-eq0.result (sym (lexemes-length c.args.text.now c.args.tokens.now)) c.left-else-left-eq0.ensures
+    (rw c.new-cursor.ensures at c.in-Ok.ensures) (λ e. c.if-left-eq0.false (c.left.ensures ∙ sym c.left-else-left-eq0.ensures ∙ e))).0
+
+pub returns-else-left-eq0 : goal.returns-else-left-eq0
+returns-else-left-eq0 c =
+    let (_, h, r) = rest-refused script_rules script_form script_table refl refl (lexemes_of c.args.text.now c.args.tokens.now) (length c.args.tokens.now + 1) (enough c.args.text.now c.args.tokens.now) c.in-Ok.components c.components.new.cursor
+    (length c.args.tokens.now) c.left-else-left-eq0.result (sym (lexemes-length c.args.text.now c.args.tokens.now)) c.left-else-left-eq0.ensures
+    (rw c.new-cursor.ensures at c.in-Ok.ensures) (λ e. c.if-left-eq0.false (c.left.ensures ∙ sym c.left-else-left-eq0.ensures ∙ e)) in
+    (h, r)
+
+pub overflow_sub-result-in-Err-Syntax : goal.overflow_sub-result-in-Err-Syntax
+overflow_sub-result-in-Err-Syntax c =
+    (stop-refused script_rules script_form script_table refl refl (lexemes_of c.args.text.now c.args.tokens.now) (length c.args.tokens.now + 1) (enough c.args.text.now c.args.tokens.now) c.components.new.cursor
+    (length c.args.tokens.now) c.left-in-Err-Syntax.result (sym (lexemes-length c.args.text.now c.args.tokens.now)) c.left-in-Err-Syntax.ensures
+    (rw c.new-cursor.ensures at (rw c.in-Err-Syntax.field-0-is at c.in-Err-Syntax.ensures))).0
+
+pub returns-in-Err-Syntax : goal.returns-in-Err-Syntax
+returns-in-Err-Syntax c =
+    let (_, h, r) = stop-refused script_rules script_form script_table refl refl (lexemes_of c.args.text.now c.args.tokens.now) (length c.args.tokens.now + 1) (enough c.args.text.now c.args.tokens.now) c.components.new.cursor
+    (length c.args.tokens.now) c.left-in-Err-Syntax.result (sym (lexemes-length c.args.text.now c.args.tokens.now)) c.left-in-Err-Syntax.ensures
+    (rw c.new-cursor.ensures at (rw c.in-Err-Syntax.field-0-is at c.in-Err-Syntax.ensures)) in
+    (h, r)
+
+pub unreachable-requires : goal.unreachable-requires
+unreachable-requires c =
+    never-out script_rules script_form script_table refl refl (lexemes_of c.args.text.now c.args.tokens.now) (length c.args.tokens.now + 1) (enough c.args.text.now c.args.tokens.now)
+    (rw c.new-cursor.ensures at (rw c.in-Err-Room.field-0-is at c.in-Err-Room.ensures))
