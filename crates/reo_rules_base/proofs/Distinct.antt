@@ -1,5 +1,5 @@
 -- Names that stand once.
-use Rattle.std.proofs.Common.{arith, ◌≡◌, ◌∙◌, ℕ, zero, suc, ◌<◌, ◌||◌, List, [], ◌∷◌, length, take, get_or, Bool, true, false, bytes_eq, refl, sym, ap}
+use Rattle.std.proofs.Common.{arith, ◌≡◌, ◌∙◌, ℕ, zero, suc, ◌<◌, ◌||◌, List, [], ◌∷◌, length, take, get_or, Bool, true, false, bytes_eq, refl, sym}
 use Rattle.std.proofs.lemmas.List.{length-take-le, get_or_default}
 use Rattle.std.proofs.lemmas.Slice.Eq.{bytes_eq-Decides}
 use Rattle.reo_values.specs.Valid.{AreDistinct}
@@ -27,6 +27,6 @@ pub new_name : (names : List (List ℕ)) (i : ℕ) (name : List ℕ) → AreDist
 new_name names i name distinct within is =
     let long : length (take i names) ≡ i = length-take-le i names (omega arith) in
     no_such (take i names) name (λ k below same.
-      let before : k < i = omega arith in
-      let twice = distinct k i (omega arith) within (sym (in_front names i k [] before) ∙ sym same ∙ is ∙ get_or_default names i name [] within) in
-      absurd (omega arith))
+    let before : k < i = omega arith in
+    let twice = distinct k i (omega arith) within (sym (in_front names i k [] before) ∙ sym same ∙ is ∙ get_or_default names i name [] within) in
+    absurd (omega arith))
