@@ -1,6 +1,8 @@
 -- Lists that grow at the end.
-use Rattle.std.proofs.Common.{◌≡◌, ◌∙◌, ◌⊎◌, ℕ, zero, suc, inl, inr, List, [], ◌∷◌, ◌++◌, length, fold, Some, slice_get, refl, sym, ap, Bool, true, false, bytes_eq, cond}
+use Rattle.std.proofs.Common.{◌≡◌, ◌∙◌, ◌⊎◌, ℕ, zero, suc, inl, inr, List, [], ◌∷◌, ◌++◌, length, fold, Some, slice_get, refl, sym, ap, Bool, true, false, bytes_eq, cond, arith, ◌+◌, ◌<◌, get_or, take}
 use Rattle.std.specs.Prelude.{◌||◌}
+use Rattle.std.specs.List.{list_any}
+use Rattle.std.proofs.lemmas.List.{take_more}
 use Rattle.std.proofs.lemmas.Slice.Eq.{bytes_eq-Decides}
 use Rattle.std.proofs.lemmas.List.Folds.{list_any-append}
 use Rattle.std.proofs.lemmas.Option.{same_Some}
@@ -57,3 +59,28 @@ noted names x name = noted_by (has_name names x) names x name refl
 
 pub noted_push : (names : List (List ℕ)) (x name : List ℕ) → has_name (names ++ x ∷ []) name ≡ (has_name names name || (bytes_eq name x || false))
 noted_push = has_both
+
+-- A test of a list that grows, and one that holds somewhere.
+either : (a b : Bool) → a ≡ false → b ≡ false → (a || (b || false)) ≡ false
+either false false p q = refl
+either false true p q = absurd (cc)
+either true b p q = absurd (cc)
+
+pub any_more : {X : Type 0} (f : X → Bool) (xs : List X) (i : ℕ) (x : X) → i < length xs → x ≡ get_or xs i x → list_any f (take i xs) ≡ false → f x ≡ false → list_any f (take (i + 1) xs) ≡ false
+any_more f xs i x below is none here =
+    ap (list_any f) (take_more xs i x below ∙ ap (λ v. take i xs ++ v ∷ []) (sym is)) ∙ list_any-append f (take i xs) (x ∷ []) ∙ either (list_any f (take i xs)) (f x) none here
+
+left_true : (a b : Bool) → a ≡ true → (a || b) ≡ true
+left_true true true p = refl
+left_true true false p = refl
+left_true false b p = absurd (cc)
+
+right_true : (a b : Bool) → b ≡ true → (a || b) ≡ true
+right_true true true p = refl
+right_true true false p = absurd (cc)
+right_true false b p = p
+
+pub any_hit : {X : Type 0} (f : X → Bool) (xs : List X) (i : ℕ) (x : X) → i < length xs → x ≡ get_or xs i x → f x ≡ true → list_any f xs ≡ true
+any_hit f [] i x below is here = absurd (omega arith)
+any_hit f (y ∷ ys) zero x below is here = left_true (f y) (list_any f ys) (ap f (sym is) ∙ here)
+any_hit f (y ∷ ys) (suc i) x below is here = right_true (f y) (list_any f ys) (any_hit f ys i x (omega arith) is here)

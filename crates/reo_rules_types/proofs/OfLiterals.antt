@@ -1,6 +1,6 @@
 -- Literals that are items of types.
 use Rattle.std.proofs.Common.{◌≡◌, ◌∙◌, ℕ, ℤ, List, length, Bool, true, false, ◌&&◌, Option, None, Some, cond, nat_lt, refl, sym, ap, bytes_eq}
-use Rattle.std.specs.Prelude.{option_map, option_and_then, is_some, not}
+use Rattle.std.specs.Prelude.{is_none, option_map, option_and_then, is_some, not}
 use Rattle.std.specs.List.{position_or_len}
 use Rattle.std.proofs.lemmas.Iterator.Adapters.{position_from-zero}
 use denote.Hole.Carrier.{hidden}
@@ -15,7 +15,8 @@ use Rattle.reo_values.specs.Kind.{is_item}
 use Rattle.reo_trees.specs.declared.literals.Constant.TheVariants as constants
 use Rattle.reo_trees.specs.declared.literals.Constant.TheBlock.{hidden-the_row-LiteralPair-0}
 use Rattle.reo_trees.specs.declared.literals.LiteralPair.{LiteralPair}
-use Rattle.reo_literals.specs.Items.{value_of}
+use Rattle.reo_trees.specs.declared.literals.Literal.{Literal}
+use Rattle.reo_literals.specs.Items.{value_of, item_of}
 use Rattle.reo_rules_base.specs.Lists.{has_name}
 use Rattle.reo_rules_types.specs.declared.cell.Cell.{Cell}
 use Rattle.reo_rules_types.specs.declared.cell.Cell.TheVariants as cells
@@ -134,3 +135,18 @@ module _ (types : List Kindred) where
   no_pair (cells.Sym names) n not = refl
   no_pair (cells.Text m) n not = refl
   no_pair (cells.Pair x y) n not = absurd (not x y refl)
+
+-- Literals one after another.
+none_from : {X : Type 0} (o : Option X) → is_some o ≡ false → is_none o ≡ true
+none_from None is = refl
+none_from (Some x) is = absurd (cc)
+
+some_from : {X : Type 0} (o : Option X) → is_some o ≡ true → is_none o ≡ false
+some_from None is = absurd (cc)
+some_from (Some x) is = refl
+
+pub misfit : (k : Kindred) (l : Literal) → is_literal k l.constant ≡ false → is_none (item_of k l) ≡ true
+misfit k l is = none_from (item_of k l) is
+
+pub fit : (k : Kindred) (l : Literal) → is_literal k l.constant ≡ true → is_none (item_of k l) ≡ false
+fit k l is = some_from (item_of k l) is

@@ -2,6 +2,7 @@
 use Rattle.std.proofs.Common.{◌≡◌, ◌∙◌, ℕ, ◌<◌, ℤ, Bool, true, ◌&&◌, ◌==◌, ap, sym, refl, List, [], ◌∷◌, map, Some, length, slice_get, arith, bytes_eq}
 use Rattle.std.specs.Ordering.{int_eq}
 use Rattle.std.specs.Cmp.Lexicographic.{pointwise}
+use Rattle.std.proofs.lemmas.Bool.{false≢true}
 use Rattle.std.proofs.lemmas.Bool.Decides.{Decides-int_eq}
 use Rattle.std.proofs.lemmas.Option.{slice_get-get_or}
 use Rattle.reo_values.specs.declared.kindred.Kindred.{Kindred}
@@ -51,7 +52,7 @@ alike types (cells.Text m) (cells.Text n) e = ap kinds.Text (nat_told m n e)
 alike types (cells.Pair a b) (cells.Pair c d) e =
     let h = from_both (a == c) (b == d) e in
     λ i. kinds.Pair (record { left = type_at types (nat_told a c h.0 i); right = type_at types (nat_told b d h.1 i) })
-alike types _ _ e = absurd (cc)
+alike types _ _ e = absurd (false≢true e)
 
 -- The parts of a type.
 abbrev low_of : Kindred → ℤ → ℤ
