@@ -1,0 +1,57 @@
+//! How the tests read scripts.
+ghost use Rattle.std.specs.Prelude.{◌≡◌, IfOk};
+ghost use Rattle.reo_script_tests.specs.Known.{known, all_known};
+
+use reo_net_base::{Port, Ports, Way};
+use reo_script::read_script;
+use reo_script_base::{Script, ScriptFault};
+use reo_values::{Bytes, Kindred, List, NoMemory};
+use std::alloc::Global;
+
+/// A port with a name of one byte, whose items are 0 to 99.
+fn port(alloc: Global, name: u8, way: Way) -> Result<Port, NoMemory>
+    ensures { IfOk result (λ p. p ≡ known name way) }
+{
+    let mut bytes = Bytes::new(alloc);
+    bytes.push(name)?;
+    Ok(Port {
+        name: bytes,
+        way,
+        kindred: Kindred::Int(0, 99),
+    })
+}
+
+/// The ports a and c for writes, and b and d for takes.
+fn ports(alloc: Global) -> Result<Ports, NoMemory>
+    ensures { IfOk result (λ p. p.list ≡ all_known) }
+{
+    let mut list = List::new(alloc);
+    list.push(port(alloc, b'a', Way::In)?)?;
+    list.push(port(alloc, b'b', Way::Out)?)?;
+    list.push(port(alloc, b'c', Way::In)?)?;
+    list.push(port(alloc, b'd', Way::Out)?)?;
+    Ok(Ports { list })
+}
+
+/// The script of a short text for the ports.
+pub fn script_of(alloc: Global, text: &[u8]) -> Result<Script, ScriptFault> {
+    if text.len() < 65536 {
+        read_script(alloc, text, &ports(alloc)?)
+    } else {
+        Err(ScriptFault::NoMemory)
+    }
+}
+
+/// A component with these words so many times, the actions, and the ends of all.
+pub fn nested(alloc: Global, times: usize, opened: &str, actions: &str) -> Result<Bytes, NoMemory> {
+    let mut text = Bytes::from_slice(alloc, b"component x { ")?;
+    for _ in 0..times {
+        text.append(opened.as_bytes())?;
+    }
+    text.append(actions.as_bytes())?;
+    for _ in 0..times {
+        text.append(b" }")?;
+    }
+    text.append(b" }")?;
+    Ok(text)
+}
