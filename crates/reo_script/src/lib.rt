@@ -3,7 +3,6 @@
 
 mod actions;
 mod depth;
-mod events;
 mod judging;
 mod making;
 mod places;
