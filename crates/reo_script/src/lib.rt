@@ -3,7 +3,9 @@
 
 mod actions;
 mod depth;
+mod events;
 mod judging;
+mod lines;
 mod making;
 mod places;
 mod reading;
@@ -11,4 +13,5 @@ mod script;
 mod sharing;
 mod texts;
 
+pub use lines::read_event;
 pub use script::read_script;
