@@ -4,3 +4,4 @@ pub mod Empty
 pub mod Bodies
 pub mod Breaks
 pub mod Only
+pub mod OneEvent

@@ -1,3 +1,4 @@
 pub mod Depth
 pub mod Reading
 pub mod Places
+pub mod Lines

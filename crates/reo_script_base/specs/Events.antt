@@ -65,12 +65,23 @@ abbrev pub withdrawn_at : Option ℕ → Result Event EventFault
 withdrawn_at None = Err faults.NoPort
 withdrawn_at (Some port) = Ok (events.Withdraw port)
 
--- The event for these ports, or the first of these causes that holds: no port, another way, outside the type.
+-- A write, a take and a withdrawal for these ports, or the first of these causes that holds: no port, another way, outside
+-- the type.
+abbrev pub written_event : List Port → List ℕ → Literal → Result Event EventFault
+written_event ports name literal = event_at ports name (Some literal) (λ port. written_at port (item_at ports name literal)) (port_number ports name)
+
+abbrev pub taken_event : List Port → List ℕ → Result Event EventFault
+taken_event ports name = event_at ports name None (λ port. Ok (events.Take port)) (port_number ports name)
+
+abbrev pub withdrawn_event : List Port → List ℕ → Result Event EventFault
+withdrawn_event ports name = withdrawn_at (port_number ports name)
+
+-- The event for these ports, or its cause.
 abbrev pub event_for : List Port → EventForm → Result Event EventFault
 event_for ports forms.Nothing = Ok events.Nothing
-event_for ports (forms.Write name literal) = event_at ports name (Some literal) (λ port. written_at port (item_at ports name literal)) (port_number ports name)
-event_for ports (forms.Take name) = event_at ports name None (λ port. Ok (events.Take port)) (port_number ports name)
-event_for ports (forms.Withdraw name) = withdrawn_at (port_number ports name)
+event_for ports (forms.Write name literal) = written_event ports name literal
+event_for ports (forms.Take name) = taken_event ports name
+event_for ports (forms.Withdraw name) = withdrawn_event ports name
 event_for ports forms.Round = Ok events.Round
 event_for ports forms.End = Ok events.End
 
