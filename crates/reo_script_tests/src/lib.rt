@@ -6,6 +6,8 @@ mod checks;
 #[cfg(test)]
 mod cuts;
 #[cfg(test)]
+mod lines;
+#[cfg(test)]
 mod reading;
 #[cfg(test)]
 mod refused;

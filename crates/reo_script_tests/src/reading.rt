@@ -3,8 +3,8 @@ ghost use Rattle.std.specs.Prelude.{◌≡◌, IfOk};
 ghost use Rattle.reo_script_tests.specs.Known.{known, all_known};
 
 use reo_net_base::{Port, Ports, Way};
-use reo_script::read_script;
-use reo_script_base::{Script, ScriptFault};
+use reo_script::{read_event, read_script};
+use reo_script_base::{Event, EventFault, Script, ScriptFault};
 use reo_values::{Bytes, Kindred, List, NoMemory};
 use std::alloc::Global;
 
@@ -54,4 +54,26 @@ pub fn nested(alloc: Global, times: usize, opened: &str, actions: &str) -> Resul
     }
     text.append(b" }")?;
     Ok(text)
+}
+
+/// The event of a short line for the ports.
+pub fn event_of(alloc: Global, line: &[u8]) -> Result<Event, EventFault> {
+    if line.len() < 65536 {
+        read_event(alloc, line, &ports(alloc)?)
+    } else {
+        Err(EventFault::NoMemory)
+    }
+}
+
+/// A write of pairs in one another, so many.
+pub fn deep_line(alloc: Global, times: usize) -> Result<Bytes, NoMemory> {
+    let mut line = Bytes::from_slice(alloc, b"write a ")?;
+    for _ in 0..times {
+        line.push(b'(')?;
+    }
+    line.push(b'1')?;
+    for _ in 0..times {
+        line.append(b", 1)")?;
+    }
+    Ok(line)
 }
