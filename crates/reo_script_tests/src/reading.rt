@@ -56,6 +56,30 @@ pub fn nested(alloc: Global, times: usize, opened: &str, actions: &str) -> Resul
     Ok(text)
 }
 
+/// A component that is not ended, with this word so many times and the rest.
+pub fn opened(alloc: Global, times: usize, word: &str, rest: &str) -> Result<Bytes, NoMemory> {
+    let mut text = Bytes::from_slice(alloc, b"component x {")?;
+    for _ in 0..times {
+        text.append(word.as_bytes())?;
+    }
+    text.append(rest.as_bytes())?;
+    Ok(text)
+}
+
+/// A component that writes pairs in one another, a line each, so many.
+pub fn deep_script(alloc: Global, times: usize) -> Result<Bytes, NoMemory> {
+    let mut text = Bytes::from_slice(alloc, b"component x { write a ")?;
+    for _ in 0..times {
+        text.append(b"(\n")?;
+    }
+    text.push(b'1')?;
+    for _ in 0..times {
+        text.append(b", 1)")?;
+    }
+    text.append(b"; }")?;
+    Ok(text)
+}
+
 /// The event of a short line for the ports.
 pub fn event_of(alloc: Global, line: &[u8]) -> Result<Event, EventFault> {
     if line.len() < 65536 {

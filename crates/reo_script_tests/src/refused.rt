@@ -1,6 +1,6 @@
 //! Which scripts are refused, and the first fault of each.
 use crate::checks::is;
-use crate::reading::{nested, script_of};
+use crate::reading::{deep_script, nested, opened, script_of};
 use reo_lexer::LexFault;
 use reo_script_base::ScriptFault;
 use reo_values::Bytes;
@@ -11,6 +11,7 @@ use std::alloc::Global;
 enum Answer {
     Accepted,
     BadByte(u32),
+    OpenText(u32),
     TooLong(u32),
     Syntax(u32),
     TooDeep(u32),
@@ -20,7 +21,9 @@ enum Answer {
     Shared(u32, &'static str),
 }
 
-use Answer::{Accepted, BadByte, NoPort, Outside, Shared, Syntax, TooDeep, TooLong, WrongWay};
+use Answer::{
+    Accepted, BadByte, NoPort, OpenText, Outside, Shared, Syntax, TooDeep, TooLong, WrongWay,
+};
 
 const ANSWERS: &[(&str, Answer)] = &[
     ("", Accepted),
@@ -84,6 +87,7 @@ const ANSWERS: &[(&str, Answer)] = &[
     ),
     ("component x { take e; }\n}", Syntax(2)),
     ("component x { }\n}\n$", BadByte(3)),
+    ("component x {\nwrite a \"x\n; }", OpenText(2)),
     // bodies that are done no time
     ("component x { repeat 0 {\ntake e; } }", NoPort(2, "e")),
     (
@@ -108,6 +112,7 @@ fn is_of(line: u32, name: &Bytes, at: u32, of: &str) -> bool {
 fn is_lexed(fault: &LexFault, answer: Answer) -> bool {
     match (fault, answer) {
         (LexFault::BadByte { line }, BadByte(at)) => *line == at,
+        (LexFault::OpenText { line }, OpenText(at)) => *line == at,
         (LexFault::NumberTooLong { line }, TooLong(at)) => *line == at,
         _ => false,
     }
@@ -141,6 +146,31 @@ fn is_nested(alloc: Global, times: usize, answer: Answer) -> bool {
     }
 }
 
+/// What stands behind sixteen repeats, a line each, that are not ended: of a token that is refused
+/// and one that is too deep the first counts, on one token the refusal, and that of a text that only
+/// begins one stands behind all tokens.
+const OPENED: &[(&str, Answer)] = &[
+    ("\nwrite\nrepeat 1 { }", Syntax(19)),
+    ("\nrepeat", TooDeep(18)),
+    ("\nrepeat\n;", TooDeep(18)),
+];
+
+/// Whether a text with an end left open is answered so.
+fn is_opened(alloc: Global, times: usize, word: &str, rest: &str, answer: Answer) -> bool {
+    match opened(alloc, times, word, rest) {
+        Ok(text) => is_answered(alloc, text.as_slice(), answer),
+        Err(_) => false,
+    }
+}
+
+/// Whether a literal of pairs in one another, a line each, is answered so.
+fn is_literal(alloc: Global, times: usize, answer: Answer) -> bool {
+    match deep_script(alloc, times) {
+        Ok(text) => is_answered(alloc, text.as_slice(), answer),
+        Err(_) => false,
+    }
+}
+
 #[test]
 fn scripts_have_their_answers(rt: HostRuntime) {
     let alloc = rt.alloc();
@@ -149,4 +179,13 @@ fn scripts_have_their_answers(rt: HostRuntime) {
     }
     is(&rt, is_nested(alloc, 16, Accepted), "sixteen");
     is(&rt, is_nested(alloc, 17, TooDeep(1)), "seventeen");
+    for (rest, answer) in OPENED {
+        is(
+            &rt,
+            is_opened(alloc, 16, "\nrepeat 1 {", rest, *answer),
+            rest,
+        );
+    }
+    is(&rt, is_literal(alloc, 64, Outside(1)), "sixty-four levels");
+    is(&rt, is_literal(alloc, 65, TooDeep(65)), "sixty-five levels");
 }
