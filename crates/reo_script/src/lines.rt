@@ -11,7 +11,6 @@ ghost use Rattle.reo_script_base.specs.declared.event.Event.{Event as AnEvent};
 ghost use Rattle.reo_script_base.specs.declared.event.EventFault.{EventFault as AFault};
 ghost use Rattle.reo_script_base.specs.ScriptRules.{port_number};
 ghost use Rattle.reo_script_base.specs.Events.{written_event, taken_event, withdrawn_event, event_for, AnswersEvent, IsReadEvent, IsThisEvent};
-ghost use Rattle.reo_script.specs.Places.{ArePortsOf};
 ghost use Rattle.reo_script.specs.Lines.{IsEventOf, IsSaidEvent};
 
 use crate::depth::first_deep;
@@ -164,14 +163,14 @@ fn answer_of(alloc: Global, line: &[u8], ports: &[Port]) -> Result<Event, EventF
     event_at(alloc, ports, &form)
 }
 
-/// The event that a line says for these ports; `Nothing` for a line without tokens. Otherwise the
-/// first of these, each exactly where it holds: `Form` where the line says no event, or a literal
-/// of more than 64 levels; `NoPort`, no port has the name; `WrongWay`, a write at a port that gives
-/// items or a take at one that takes them; `ItemOutside`, the literal is no item of the port's
-/// type. `NoMemory` is out of memory.
+/// The event that a line says for these ports; `Nothing` for a line without tokens. A line feed
+/// within it is a blank, as in every text. Otherwise the first of these, each exactly where it
+/// holds: `Form` where the line says no event, or a literal of more than 64 levels; `NoPort`, no
+/// port has the name; `WrongWay`, a write at a port that gives items or a take at one that takes
+/// them; `ItemOutside`, the literal is no item of the port's type. `NoMemory` is out of memory.
 pub fn read_event(alloc: Global, line: &[u8], ports: &Ports) -> Result<Event, EventFault>
     requires few { length line.now < 2 ^ 32 }
-    requires ports { ArePortsOf ports.now.list }
+    requires ports { All (λ (p : APort). HasFewNames p.kindred) ports.now.list }
     ensures read { IsReadEvent line.now ports.now.list result }
     ensures only { (answer : Result AnEvent AFault) → AnswersEvent line.now ports.now.list answer
         → IsThisEvent answer result }
