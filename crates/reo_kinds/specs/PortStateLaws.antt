@@ -1,5 +1,6 @@
 -- The kinds keep the laws of a port.
-use Rattle.std.proofs.Common.{◌≡◌, Bool, true, false, cond, Option, Some, None, refl}
+use Rattle.std.proofs.Common.{◌≡◌, Bool, true, false, cond, Option, Some, None, refl, sym, ap, subst, option_map}
+use Rattle.std.proofs.Math.Bool.{Bool-set}
 use Rattle.reo_values.specs.declared.value.Value.{Value}
 use Rattle.reo_net_base.specs.declared.colouring.Chosen.{Chosen}
 use Rattle.reo_net_base.specs.declared.port.Offer.{Offer}
@@ -10,8 +11,10 @@ use Rattle.reo_net_base.specs.PortState.{no_port_state, CanPlace, IsPortWith}
 use Rattle.reo_kinds.specs.declared.kind.WriterPort.{WriterPort}
 use Rattle.reo_kinds.specs.declared.kind.TakerPort.{TakerPort}
 use Rattle.reo_kinds.specs.declared.kind.Kind.{Kind}
-use Rattle.reo_kinds.specs.declared.kind.Kind.TheVariants.{Writer, Taker, Sync, Lossy, SyncDrain, AsyncDrain, Store, Shift, Variable, Quota, Filter, Map, Merger, Replicator}
+use Rattle.reo_kinds.specs.declared.kind.Kind.TheVariants.{Writer, Taker}
 use Rattle.reo_values.specs.Kind.{is_item}
+use Rattle.reo_values.specs.declared.kindred.Kindred.{Kindred}
+use Rattle.reo_kinds.specs.Items.{offer_fits}
 use Rattle.reo_kinds.specs.Kinds.{behaviour_of, settled_kind, port_state_of, placed_kind, withdrawn_kind, offering_if, unoffered, with_take}
 use Rattle.reo_kinds.specs.KindLaws.{same_shape}
 
@@ -55,6 +58,45 @@ pub withdrawn_kind_shape : (kind : Kind) → SameShape (behaviour_of kind) (beha
 withdrawn_kind_shape (Writer port) = record { ends = refl; sides = refl; side_of = λ _. refl; takes_in = λ _. refl; leads = λ _. refl }
 withdrawn_kind_shape (Taker port) = record { ends = refl; sides = refl; side_of = λ _. refl; takes_in = λ _. refl; leads = λ _. refl }
 withdrawn_kind_shape _ = same_shape _
+
+abbrev writer_with : (kindred : Kindred) (offer : Option Value) → offer_fits offer kindred ≡ true → WriterPort
+writer_with kindred offer fits = record { kindred = kindred; offer = offer; fitting = fits }
+
+-- Two writers of one type with equal offers are one.
+one_writer : (kindred : Kindred) (a b : Option Value) (f : offer_fits a kindred ≡ true) (g : offer_fits b kindred ≡ true) → a ≡ b
+    → writer_with kindred a f ≡ writer_with kindred b g
+one_writer kindred a b f g same =
+    subst (λ (c : Option Value). (h : offer_fits c kindred ≡ true) → writer_with kindred a f ≡ writer_with kindred c h) same
+    (λ h. ap (writer_with kindred a) (Bool-set (offer_fits a kindred) true f h)) g
+
+-- The item of a writer's pending offer.
+item_offered : (offer : Option Value) (item : Value) → option_map Write offer ≡ Some (Write item) → offer ≡ Some item
+item_offered None item is = cc
+item_offered (Some other) item is = cc
+
+-- A writer has no take pending.
+no_take_offered : (offer : Option Value) → option_map Write offer ≡ Some Take → ⊥
+no_take_offered None is = cc
+no_take_offered (Some other) is = cc
+
+-- A writer's item that is taken back and placed again is as if it had stayed.
+writer_again : (port : WriterPort) (item : Value) (fits : Bool) (is : is_item item port.kindred ≡ fits) → port.offer ≡ Some item
+    → offering_if (unoffered port) item fits is ≡ port
+writer_again port item true is same = one_writer port.kindred (Some item) port.offer is port.fitting (sym same)
+writer_again port item false is same = let fitting = port.fitting in cc
+
+-- A taker's take that is taken back and placed again is as if it had stayed.
+taker_again : (pending : Bool) (offer : Offer) → cond pending (Some Take) None ≡ Some offer → placed_kind (Taker (with_take false)) offer ≡ Taker (with_take pending)
+taker_again true (Write item) is = cc
+taker_again true Take is = refl
+taker_again false offer is = cc
+
+-- An offer that is taken back and placed again is as if it had stayed.
+pub placed_kind_again : (kind : Kind) (offer : Offer) → (port_state_of kind).pending ≡ Some offer → placed_kind (withdrawn_kind kind) offer ≡ kind
+placed_kind_again (Writer port) (Write item) is = ap Writer (writer_again port item _ refl (item_offered port.offer item is))
+placed_kind_again (Writer port) Take is = absurd (no_take_offered port.offer is)
+placed_kind_again (Taker port) offer is = taker_again port.pending offer is
+placed_kind_again _ offer is = let is = is in cc
 
 -- Nothing is pending at what is no port, whether it flows or not.
 none_either_way : (flows : Bool) → cond {A = Option Offer} flows None None ≡ None

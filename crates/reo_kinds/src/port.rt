@@ -1,6 +1,6 @@
 //! The kinds as ports.
 ghost use Rattle.reo_kinds.specs.Kinds.{port_state_of, placed_kind, withdrawn_kind};
-ghost use Rattle.reo_kinds.specs.PortStateLaws.{no_port_kind, placed_kind_port, placed_kind_shape, withdrawn_kind_port, withdrawn_kind_shape, settled_kind_port};
+ghost use Rattle.reo_kinds.specs.PortStateLaws.{no_port_kind, placed_kind_port, placed_kind_shape, withdrawn_kind_port, withdrawn_kind_shape, placed_kind_again, settled_kind_port};
 
 use crate::kind::Kind;
 use crate::offer;
@@ -62,6 +62,8 @@ impl Ported for Kind {
     ghost withdrawn_port = { withdrawn_kind_port };
 
     ghost withdrawn_shape = { withdrawn_kind_shape };
+
+    ghost placed_again = { placed_kind_again };
 
     ghost settled_port = { settled_kind_port };
 }

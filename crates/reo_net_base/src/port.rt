@@ -84,6 +84,9 @@ pub trait Ported: Primitive {
 
     ghost withdrawn_shape: { (p : Self) → SameShape (Self.behaviour p) (Self.behaviour (withdrawn p)) };
 
+    /// An offer that is taken back and placed again is as if it had stayed.
+    ghost placed_again: { (p : Self) (offer : Offered) → (port_state p).pending ≡ Some offer → placed (withdrawn p) offer ≡ p };
+
     /// After a round the offer is gone where the port flowed, and else as it was. The rest stays.
     ghost settled_port: { (p : Self) (rows : Rows) (taken : Option Item) → IsPortWith (port_state p) (port_state (Self.settled p rows taken)) (cond (is_flow ((Self.behaviour p).mark 0 rows.first 0)) None (port_state p).pending) };
 }
