@@ -1,0 +1,2 @@
+pub mod PortsOf
+pub mod FlatPorts
