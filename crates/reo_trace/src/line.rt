@@ -37,9 +37,28 @@ pub struct RoundLine {
 #[derive(Clone, Copy, Debug, PartialEq, Eq)]
 pub enum Ending {
     /// Every component is done, after so many rounds.
-    Done { rounds: u64 },
+    Done {
+        rounds: u64,
+    },
     /// The last of so many rounds was idle, and nothing more will come.
-    Stuck { rounds: u64 },
+    Stuck {
+        rounds: u64,
+    },
     /// So many rounds were made, and no more are allowed.
-    Limit { rounds: u64 },
+    Limit {
+        rounds: u64,
+    },
+    /// A part of the round of this number weighs more than the budget, and the round was not made.
+    Spent {
+        round: u64,
+        knot: u64,
+        weight: u64,
+        budget: u64,
+    },
+    /// At a joint of a part of the round of this number too many items can stand, and the round was
+    /// not made.
+    Wide {
+        round: u64,
+        knot: u64,
+    },
 }

@@ -2,6 +2,7 @@
 ghost use Rattle.std.specs.Prelude.{◌≡◌, ◌++◌, IfOk, OnOk, codes};
 ghost use Rattle.std.specs.Fmt.{decimal};
 ghost use Rattle.reo_trace.specs.EndingText.{ending_text};
+ghost use Rattle.reo_trace.specs.declared.line.Ending.TheVariants.{Spent, Wide};
 ghost use Rattle.reo_trace.specs.RoundText.{cell_text, entry_text, move_text, moves_text, round_text, sign_of};
 ghost use Rattle.reo_trace.specs.Spaced.{gap, spaced};
 
@@ -146,6 +147,54 @@ fn after_rounds(alloc: Global, words: &[u8], rounds: u64) -> Result<Bytes, NoMem
     Ok(text)
 }
 
+/// Words, the number of a round, words and the number of a part.
+fn before_round(alloc: Global, words: &[u8], round: u64, knot: u64) -> Result<Bytes, NoMemory>
+    ensures { IfOk result (λ text. text ≡ words.now ++ (decimal round ++ (codes ": knot " ++ decimal knot))) }
+{
+    let mut text = Bytes::from_slice(alloc, words)?;
+    append_number(alloc, &mut text, round)?;
+    text.append(b": knot ")?;
+    append_number(alloc, &mut text, knot)?;
+    Ok(text)
+}
+
+/// Adds a weight and a budget, and the end of the line.
+fn append_weight(alloc: Global, text: &mut Bytes, weight: u64, budget: u64) -> Result<(), NoMemory>
+    ensures { OnOk result (text.new ≡ text.old ++ (codes " weight " ++ (decimal weight ++ (codes " budget " ++ (decimal budget ++ codes "\n"))))) }
+{
+    text.append(b" weight ")?;
+    append_number(alloc, text, weight)?;
+    text.append(b" budget ")?;
+    append_number(alloc, text, budget)?;
+    text.append(b"\n")
+}
+
+/// The line of a round that a part is too heavy for.
+#[tactic(auto, unfolding(crate::specs::EndingText::ending_text))]
+fn spent_text(
+    alloc: Global,
+    round: u64,
+    knot: u64,
+    weight: u64,
+    budget: u64,
+) -> Result<Bytes, NoMemory>
+    ensures { IfOk result (λ text. text ≡ ending_text (Spent round knot weight budget)) }
+{
+    let mut text = before_round(alloc, b"spent in round ", round, knot)?;
+    append_weight(alloc, &mut text, weight, budget)?;
+    Ok(text)
+}
+
+/// The line of a round that a part is too wide for.
+#[tactic(auto, unfolding(crate::specs::EndingText::ending_text))]
+fn wide_text(alloc: Global, round: u64, knot: u64) -> Result<Bytes, NoMemory>
+    ensures { IfOk result (λ text. text ≡ ending_text (Wide round knot)) }
+{
+    let mut text = before_round(alloc, b"wide in round ", round, knot)?;
+    text.append(b"\n")?;
+    Ok(text)
+}
+
 /// The text of the last line, its line feed included. `NoMemory` is out of memory.
 #[tactic(auto, unfolding(crate::specs::EndingText::ending_text))]
 pub fn ending_line_text(alloc: Global, ending: &Ending) -> Result<Bytes, NoMemory>
@@ -155,5 +204,12 @@ pub fn ending_line_text(alloc: Global, ending: &Ending) -> Result<Bytes, NoMemor
         Ending::Done { rounds } => after_rounds(alloc, b"done after ", *rounds),
         Ending::Stuck { rounds } => after_rounds(alloc, b"stuck after ", *rounds),
         Ending::Limit { rounds } => after_rounds(alloc, b"limit after ", *rounds),
+        Ending::Spent {
+            round,
+            knot,
+            weight,
+            budget,
+        } => spent_text(alloc, *round, *knot, *weight, *budget),
+        Ending::Wide { round, knot } => wide_text(alloc, *round, *knot),
     }
 }
