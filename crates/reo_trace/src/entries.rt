@@ -83,8 +83,8 @@ fn is_still<P: Primitive>(circuit: &Circuit<P>, rows: &[u32], index: usize) -> b
     !(circuit.mark_at(rows, giver).is_flow() || circuit.mark_at(rows, taker).is_flow())
 }
 
-/// Whether nothing flows.
-fn is_idle<P: Primitive>(circuit: &Circuit<P>, rows: &[u32]) -> bool
+/// Whether nothing flows: no end of any joint. This takes no memory.
+pub fn is_idle<P: Primitive>(circuit: &Circuit<P>, rows: &[u32]) -> bool
     requires { AreRows (all_sides (net_of P.behaviour circuit.now).primitives) rows.now }
     ensures { result ≡ is_idle (net_of P.behaviour circuit.now) rows.now }
 {

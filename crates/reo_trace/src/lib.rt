@@ -11,7 +11,7 @@ mod line;
 mod text;
 mod write;
 
-pub use entries::line_of;
+pub use entries::{is_idle, line_of};
 pub use idle::idle_means_no_flow;
 pub use line::{Cell, Ending, Entry, RoundLine};
 pub use text::{ending_line_text, round_line_text};
