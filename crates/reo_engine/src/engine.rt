@@ -1,0 +1,209 @@
+//! Engines.
+ghost use Rattle.std.specs.Prelude.{◌≡◌, ℕ, ◌+◌, ◌<◌, ◌≤◌, ◌^◌, ◌↔◌, IsTrue, true, false, IfOk, OnOk, IfErr, OnErr, MatchResult, map, length, replicate, Some, None};
+ghost use Rattle.std.specs.List.{set};
+ghost use Rattle.reo_net_base.specs.Net.{net_of};
+ghost use Rattle.reo_net_base.specs.Step.{change_at, stepped};
+ghost use Rattle.reo_engine_base.specs.Offering.{AreJustPorts, IsOfferFault, IsPendingAt, IsTakenAt};
+ghost use Rattle.reo_engine_base.specs.Plans.{IsPlan, IsPlanFault, Suits};
+ghost use Rattle.reo_engine.specs.Engine.{net_now};
+ghost use Rattle.reo_engine.specs.Changes.{AreThoseThatFlowed, OthersStay};
+
+use crate::changes::{all_marked, mark_flowing};
+use crate::offering::offer_fault;
+use crate::planning::{plan_with, suits};
+use reo_engine_base::{Declined, Done, Plan, PlanFault};
+use reo_net_base::{Offer, Ported};
+use reo_net_circuit::Circuit;
+use reo_net_plain::plain_first;
+use reo_steps::Steps;
+use reo_values::{List, NoMemory};
+use std::alloc::Global;
+use std::marker::Model;
+use std::sync::ledger::Ledger;
+
+/// A circuit with what is offered at its ports, and the number of rounds that were made.
+///
+/// It keeps as well which primitives may have changed since the last round began: those at which
+/// something flowed in it, and the ports at which an offer came or went since. All others stand as
+/// they stood.
+#[derive(Drop)]
+pub struct Engine<P: Ported> {
+    circuit: Circuit<P>,
+    rounds: u64,
+    changed: List<bool>,
+}
+
+impl<P: Ported> Model for Engine<P> {
+    ghost use Rattle.std.specs.Prelude.{◌≡◌, ◌≤◌, ◌^◌, length, map};
+    ghost use Rattle.reo_engine_base.specs.Offering.{AreJustPorts};
+    ghost use Rattle.reo_engine.specs.Engine.{Running};
+
+    ghost Value = { Running P };
+
+    ghost view = { λ e. record { circuit = e.circuit; rounds = e.rounds; changed = e.changed } };
+
+    ghost invariant = { λ e. (e.rounds ≤ 2 ^ 63) × (length e.changed ≡ length e.circuit.primitives) × AreJustPorts (map P.port_state e.circuit.primitives) e.circuit.ports };
+}
+
+impl<P: Ported> Engine<P> {
+    /// An engine that has made no round. Of the circuit's primitives exactly its ports have a way.
+    /// `NoMemory` is out of memory.
+    pub fn new(alloc: Global, circuit: Circuit<P>) -> Result<Engine<P>, NoMemory>
+        requires { AreJustPorts (map P.port_state circuit.primitives) circuit.ports }
+        ensures circuit { IfOk result (λ made. made.circuit ≡ circuit) }
+        ensures rounds { IfOk result (λ made. made.rounds ≡ 0) }
+        ensures changed { IfOk result (λ made. made.changed ≡ replicate (length circuit.primitives) true) }
+    {
+        let changed = all_marked(alloc, circuit.primitives().len())?;
+        Ok(Engine {
+            circuit,
+            rounds: 0,
+            changed,
+        })
+    }
+
+    /// The circuit, with the offers that are pending.
+    pub fn circuit(&self) -> &Circuit<P>
+        ensures { result.now ≡ self.now.circuit }
+    {
+        &self.circuit
+    }
+
+    /// How many rounds were made.
+    pub fn rounds(&self) -> u64
+        ensures { result ≡ self.now.rounds }
+    {
+        self.rounds
+    }
+
+    /// What holds of each engine: exactly its ports have a way.
+    pub fn known(&self)
+        ensures ports { AreJustPorts (map P.port_state self.now.circuit.primitives) self.now.circuit.ports }
+        ensures few { self.now.rounds ≤ 2 ^ 63 }
+        ensures one_each { length self.now.changed ≡ length self.now.circuit.primitives }
+    {
+        let _ = &self.rounds;
+    }
+
+    /// Makes an offer pending at a port. This takes no memory.
+    ///
+    /// # Errors
+    ///
+    /// The first of these that holds: `NoPort`, the number names no port; `WrongWay`, a write at an
+    /// `out` port or a take at an `in` port; `Pending`, an offer is pending there; `ItemOutside`,
+    /// the item is not in the port's type. The engine stays as it was, and the offer is handed back.
+    pub fn offer(&mut self, port: usize, offer: Offer) -> Result<(), Declined>
+        ensures exact { let states = map P.port_state self.old.circuit.primitives in
+            let ports = self.old.circuit.ports in
+            MatchResult result (λ _. IsTakenAt states ports port offer)
+            (λ declined. IsOfferFault states ports port offer declined.cause) }
+        ensures circuit { let old = self.old.circuit in
+            let primitives = change_at (λ p. P.placed p offer) old.primitives port in
+            OnOk result (self.new.circuit ≡ record old { primitives = primitives }) }
+        ensures rounds { self.new.rounds ≡ self.old.rounds }
+        ensures changed { OnOk result (self.new.changed ≡ change_at (λ _. true) self.old.changed port) }
+        ensures refused { OnErr result (self.new ≡ self.old) }
+        ensures handed_back { IfErr result (λ declined. declined.offer ≡ offer) }
+    {
+        match offer_fault(&self.circuit, port, &offer) {
+            Some(cause) => Err(Declined { cause, offer }),
+            None => {
+                self.circuit.place(port, offer);
+                *self.changed.at_mut(port) = true;
+                Ok(())
+            }
+        }
+    }
+
+    /// Takes the offer that is pending at a port back. The answer is `false` exactly where the
+    /// number names no port or nothing is pending there, and then nothing changes. This takes no
+    /// memory.
+    pub fn withdraw(&mut self, port: usize) -> bool
+        ensures exact { let states = map P.port_state self.old.circuit.primitives in
+            IsTrue result ↔ IsPendingAt states self.old.circuit.ports port }
+        ensures circuit { let old = self.old.circuit in
+            let primitives = change_at P.withdrawn old.primitives port in
+            result ≡ true → self.new.circuit ≡ record old { primitives = primitives } }
+        ensures rounds { self.new.rounds ≡ self.old.rounds }
+        ensures changed { result ≡ true → self.new.changed ≡ change_at (λ _. true) self.old.changed port }
+        ensures same { result ≡ false → self.new ≡ self.old }
+    {
+        if self.circuit.ports() <= port {
+            return false;
+        }
+        if !self.circuit.is_pending(port) {
+            return false;
+        }
+        self.circuit.withdraw(port);
+        *self.changed.at_mut(port) = true;
+        true
+    }
+
+    /// Plans the round that comes next: the first colouring of the circuit in the round of the
+    /// number `rounds() + 1`. The engine stays as it is, and the plan suits it until it changes.
+    ///
+    /// # Errors
+    ///
+    /// `Wide` and `Spent` come exactly where a part is over, for the least such part. None is: the
+    /// budget is not looked at. `NoMemory` is out of memory.
+    pub fn plan<L: Ledger>(
+        &self,
+        alloc: Global,
+        budget: u64,
+        steps: &mut Steps<L>,
+    ) -> Result<Plan, PlanFault>
+        requires { budget < 10 ^ 18 }
+        ensures exact { let net = net_now P.behaviour self.now in
+            MatchResult result (IsPlan budget net self.now.circuit.ports (self.now.rounds + 1))
+            (IsPlanFault budget net) }
+        ensures steps { steps.new ≡ steps.old }
+    {
+        let _ = budget;
+        let _ = steps;
+        let colouring = plain_first(alloc, &self.circuit, self.rounds + 1)?;
+        Ok(plan_with(alloc, &self.circuit, colouring)?)
+    }
+
+    /// Whether a plan suits the circuit as it is: its rows and items are a colouring, and its
+    /// moves, and what it says of flow and of jams, are theirs. The plan may be any. This takes no
+    /// memory.
+    pub fn suits(&self, plan: &Plan) -> bool
+        ensures { IsTrue result ↔ Suits (net_now P.behaviour self.now) self.now.circuit.ports plan.now }
+    {
+        suits(&self.circuit, plan)
+    }
+
+    /// Makes a round that suits: the circuit steps, and one round more was made. This takes no
+    /// memory.
+    pub fn commit(&mut self, plan: Plan) -> Done
+        requires suits { Suits (net_now P.behaviour self.old) self.old.circuit.ports plan }
+        requires few { self.old.rounds < 2 ^ 63 }
+        ensures circuit { let old = self.old.circuit in
+            let primitives = stepped P.behaviour P.settled old plan.colouring.rows plan.colouring.items in
+            self.new.circuit ≡ record old { primitives = primitives } }
+        ensures rounds { self.new.rounds ≡ self.old.rounds + 1 }
+        ensures changed { AreThoseThatFlowed (net_now P.behaviour self.old) plan.colouring.rows self.new.changed }
+        ensures others { OthersStay self.new.changed self.old.circuit.primitives self.new.circuit.primitives }
+        ensures moves { result.moves ≡ plan.moves }
+        ensures idle { result.idle ≡ plan.idle }
+        ensures jammed { result.jammed ≡ plan.jammed }
+    {
+        let Plan {
+            colouring,
+            moves,
+            idle,
+            jammed,
+        } = plan;
+        self.circuit.known_offers();
+        let rows = colouring.rows.as_slice();
+        let items = colouring.items.as_slice();
+        mark_flowing(&self.circuit, rows, items, &mut self.changed);
+        self.circuit.step(colouring);
+        self.rounds += 1;
+        Done {
+            moves,
+            idle,
+            jammed,
+        }
+    }
+}

@@ -1,0 +1,72 @@
+//! Plans of rounds.
+ghost use Rattle.std.specs.Prelude.{◌≡◌, ◌≤◌, ◌↔◌, IsTrue, IfOk};
+ghost use Rattle.reo_net_base.specs.Net.{net_of};
+ghost use Rattle.reo_net_base.specs.Sides.{AreRowsOf};
+ghost use Rattle.reo_net_base.specs.First.{IsFirst};
+ghost use Rattle.reo_net_base.specs.Colouring.{IsColouring};
+ghost use Rattle.reo_engine_base.specs.Plans.{jammed_sides, ShowsItsOwn, Suits};
+
+use reo_engine_base::Plan;
+use reo_net_base::{Colouring, Primitive};
+use reo_net_circuit::{Circuit, moves};
+use reo_net_colouring::{are_moves, is_colouring};
+use reo_trace::is_idle;
+use reo_values::NoMemory;
+use std::alloc::Global;
+
+/// How many sides have their jam row.
+fn jammed_sides<P: Primitive>(circuit: &Circuit<P>, rows: &[u32]) -> usize
+    requires { AreRowsOf (net_of P.behaviour circuit.now) rows.now }
+    ensures { result ≡ jammed_sides (net_of P.behaviour circuit.now) rows.now }
+{
+    let mut count = 0;
+    for side in 0..circuit.sides() {
+        if circuit.row(rows, side) + 1 == circuit.rows(side) {
+            count += 1;
+        }
+    }
+    count
+}
+
+/// The plan with a colouring.
+pub(crate) fn plan_with<P: Primitive>(
+    alloc: Global,
+    circuit: &Circuit<P>,
+    colouring: Colouring,
+) -> Result<Plan, NoMemory>
+    requires { IsColouring (net_of P.behaviour circuit.now) colouring.rows colouring.items }
+    ensures shows { IfOk result (ShowsItsOwn (net_of P.behaviour circuit.now) circuit.now.ports) }
+    ensures same { IfOk result (λ plan. plan.colouring ≡ colouring) }
+{
+    let moves = moves(alloc, circuit, &colouring)?;
+    let rows = colouring.rows.as_slice();
+    let idle = is_idle(circuit, rows);
+    let jammed = jammed_sides(circuit, rows);
+    Ok(Plan {
+        colouring,
+        moves,
+        idle,
+        jammed,
+    })
+}
+
+/// Whether a plan's moves, and what it says of flow and jams, are those of its rows and items.
+fn shows_its_own<P: Primitive>(circuit: &Circuit<P>, plan: &Plan) -> bool
+    requires { AreRowsOf (net_of P.behaviour circuit.now) plan.now.colouring.rows }
+    ensures { IsTrue result ↔ ShowsItsOwn (net_of P.behaviour circuit.now) circuit.now.ports plan.now }
+{
+    let rows = plan.colouring.rows.as_slice();
+    let items = plan.colouring.items.as_slice();
+    plan.idle == is_idle(circuit, rows)
+        && plan.jammed == jammed_sides(circuit, rows)
+        && are_moves(circuit, rows, items, plan.moves.as_slice())
+}
+
+/// Whether a plan suits a circuit.
+pub(crate) fn suits<P: Primitive>(circuit: &Circuit<P>, plan: &Plan) -> bool
+    ensures { IsTrue result ↔ Suits (net_of P.behaviour circuit.now) circuit.now.ports plan.now }
+{
+    let rows = plan.colouring.rows.as_slice();
+    let items = plan.colouring.items.as_slice();
+    is_colouring(circuit, rows, items) && shows_its_own(circuit, plan)
+}
