@@ -3,6 +3,7 @@ ghost use Rattle.std.specs.Prelude.{◌≡◌, ℕ, ◌+◌, ◌<◌, ◌≤◌,
 ghost use Rattle.std.specs.List.{set};
 ghost use Rattle.reo_net_base.specs.Net.{net_of};
 ghost use Rattle.reo_net_base.specs.Step.{change_at, stepped};
+ghost use Rattle.reo_net_circuit.specs.Offers.{AreAfterRound, OnlyPort};
 ghost use Rattle.reo_engine_base.specs.Offering.{AreJustPorts, IsOfferFault, IsPendingAt, IsTakenAt};
 ghost use Rattle.reo_engine_base.specs.Plans.{IsPlan, IsPlanFault, Suits};
 ghost use Rattle.reo_engine.specs.Engine.{net_now};
@@ -100,6 +101,8 @@ impl<P: Ported> Engine<P> {
         ensures circuit { let old = self.old.circuit in
             let primitives = change_at (λ p. P.placed p offer) old.primitives port in
             OnOk result (self.new.circuit ≡ record old { primitives = primitives }) }
+        ensures offers { let old = self.old.circuit.primitives in
+            OnOk result (OnlyPort (map P.port_state old) (map P.port_state self.new.circuit.primitives) port (Some offer)) }
         ensures rounds { self.new.rounds ≡ self.old.rounds }
         ensures changed { OnOk result (self.new.changed ≡ change_at (λ _. true) self.old.changed port) }
         ensures refused { OnErr result (self.new ≡ self.old) }
@@ -124,6 +127,8 @@ impl<P: Ported> Engine<P> {
         ensures circuit { let old = self.old.circuit in
             let primitives = change_at P.withdrawn old.primitives port in
             result ≡ true → self.new.circuit ≡ record old { primitives = primitives } }
+        ensures offers { let old = self.old.circuit.primitives in
+            result ≡ true → OnlyPort (map P.port_state old) (map P.port_state self.new.circuit.primitives) port None }
         ensures rounds { self.new.rounds ≡ self.old.rounds }
         ensures changed { result ≡ true → self.new.changed ≡ change_at (λ _. true) self.old.changed port }
         ensures same { result ≡ false → self.new ≡ self.old }
@@ -181,6 +186,8 @@ impl<P: Ported> Engine<P> {
         ensures circuit { let old = self.old.circuit in
             let primitives = stepped P.behaviour P.settled old plan.colouring.rows plan.colouring.items in
             self.new.circuit ≡ record old { primitives = primitives } }
+        ensures offers { let old = self.old.circuit in
+            AreAfterRound (net_now P.behaviour self.old) plan.colouring.rows old.ports (map P.port_state old.primitives) (map P.port_state self.new.circuit.primitives) }
         ensures rounds { self.new.rounds ≡ self.old.rounds + 1 }
         ensures changed { AreThoseThatFlowed (net_now P.behaviour self.old) plan.colouring.rows self.new.changed }
         ensures others { OthersStay self.new.changed self.old.circuit.primitives self.new.circuit.primitives }

@@ -1,6 +1,4 @@
-pub mod Justified
+pub mod Kinds
+pub mod Runnable
+pub mod Pending
 pub mod Outcome
-pub mod Plan
-pub mod Round
-pub mod Run
-pub mod Whole

@@ -1,33 +1,30 @@
 //! How a run ends.
-ghost use Rattle.std.specs.Prelude.{◌≡◌, ◌≤◌, length};
+ghost use Rattle.std.specs.Prelude.{◌≡◌, ◌≤◌, ◌&&◌, not, cond, Some, None};
 ghost use Rattle.reo_io.specs.Causes.{Rose};
-ghost use Rattle.reo_runner.specs.Run.{end_after};
+ghost use Rattle.reo_players.specs.Players.{all_done};
+ghost use Rattle.reo_trace.specs.declared.line.Ending.TheVariants.{Done as IsDone, Stuck as IsStuck};
 ghost use Rattle.reo_runner.specs.Outcome.{Closes, outcome_end};
 
-use crate::advance::are_done;
 use crate::outcome::{End2, Outcome, Tally};
 use reo_io::Sink;
-use reo_plain_script::Component;
+use reo_players::Players;
 use reo_trace::{Ending, WriteFault, write_ending};
 use std::alloc::Global;
 
-/// How the run ends after a round, if it does.
-pub(crate) fn ending_after(
-    components: &[Component],
-    places: &[usize],
+/// How the run is over after a round, if it is: done where every component is done, else stuck
+/// where the round was idle and no component counted in it.
+pub(crate) fn over_after(
     turn: u64,
-    limit: u64,
     idle: bool,
+    counted: bool,
+    players: &Players,
 ) -> Option<Ending>
-    requires { length places.now ≡ length components.now }
-    ensures { result ≡ end_after components.now limit turn idle places.now }
+    ensures { result ≡ cond (all_done players.now) (Some (IsDone turn)) (cond (idle && not counted) (Some (IsStuck turn)) None) }
 {
-    if are_done(components, places) {
+    if players.all_done() {
         Some(Ending::Done { rounds: turn })
-    } else if idle {
+    } else if idle && !counted {
         Some(Ending::Stuck { rounds: turn })
-    } else if turn == limit {
-        Some(Ending::Limit { rounds: turn })
     } else {
         None
     }
@@ -41,6 +38,8 @@ fn outcome_end(ending: Ending) -> End2
         Ending::Done { .. } => End2::Done,
         Ending::Stuck { .. } => End2::Stuck,
         Ending::Limit { .. } => End2::Limit,
+        Ending::Spent { knot, weight, .. } => End2::Spent { knot, weight },
+        Ending::Wide { knot, .. } => End2::Wide { knot },
     }
 }
 

@@ -1,15 +1,12 @@
 //! A run of a script on a circuit, and its trace.
 #![tactic(auto)]
 
-mod advance;
+mod advancing;
 mod ending;
-mod laws;
-mod offers;
+mod offering;
 mod outcome;
-mod plan;
 mod round;
 mod runner;
 
-pub use laws::{has_run, known_order, one_trace, runs_are_justified, trace_exists};
-pub use outcome::{End2, Outcome};
+pub use outcome::{End2, Limits, Outcome};
 pub use runner::run;

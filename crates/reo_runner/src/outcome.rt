@@ -1,19 +1,33 @@
 //! How runs come out.
 ghost use Rattle.std.specs.Prelude.{◌≡◌, ◌<◌, ◌≤◌, ◌+◌, ◌^◌, length};
 ghost use Rattle.std.specs.List.{count_by};
-ghost use Rattle.reo_runner.specs.Outcome.{tally_of, goes, way_at, is_in, is_out};
+ghost use Rattle.reo_runs.specs.Written.{goes, way_at, is_in, is_out};
+ghost use Rattle.reo_runner.specs.Outcome.{tally_of};
 
 use reo_net_base::{Move, Ports, Way};
+
+/// How far a run may go.
+#[derive(Clone, Copy, Debug, PartialEq, Eq)]
+pub struct Limits {
+    /// The greatest weight of a part that a round may be planned for: 1 to 10^9.
+    pub budget: u64,
+    /// How many rounds may be made: 1 to 10^9.
+    pub rounds: u64,
+}
 
 /// Why a run ended.
 #[derive(Clone, Copy, Debug, PartialEq, Eq)]
 pub enum End2 {
     /// Every component is done.
     Done,
-    /// The last round was idle.
+    /// The last round was idle, and no component counted in it.
     Stuck,
     /// As many rounds were made as are allowed.
     Limit,
+    /// The weight of this part is above the budget in the round that stood next.
+    Spent { knot: u64, weight: u64 },
+    /// At a joint of this part too many items can stand in the round that stood next.
+    Wide { knot: u64 },
     /// The sink failed, and its count of faults rose.
     WriteFault,
     /// Out of memory.
