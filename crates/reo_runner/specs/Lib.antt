@@ -1,4 +1,3 @@
 pub mod Kinds
 pub mod Runnable
-pub mod Pending
 pub mod Outcome

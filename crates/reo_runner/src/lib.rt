@@ -1,9 +1,7 @@
 //! A run of a script on a circuit, and its trace.
 #![tactic(auto)]
 
-mod advancing;
 mod ending;
-mod offering;
 mod outcome;
 mod round;
 mod runner;
