@@ -25,7 +25,7 @@ port_kinds [] = refl
 port_kinds (p ∷ ps) = ap (λ ks. port_kind p.way p.kindred ∷ ks) (port_kinds ps)
 
 pub returns : goal.returns
-returns c p spelled plain none =
+returns c p spelled none =
     let ds = p.declarations in
     let ports = ports_of ds in
     let kinds = map (λ (q : Port). port_kind q.way q.kindred) ports in
