@@ -1,0 +1,4 @@
+pub mod NoPorts
+pub mod Channels
+pub mod States
+pub mod FewNames

@@ -1,5 +1,5 @@
 -- The ports of flat circuits.
-use Rattle.std.specs.Prelude.{◌≡◌, List, [], map}
+use Rattle.std.specs.Prelude.{◌≡◌, [], map}
 use Rattle.std.specs.List.{All}
 use Rattle.reo_values.specs.Valid.{AreDistinct}
 use Rattle.reo_net_base.specs.declared.port.Port.{Port}
@@ -7,10 +7,8 @@ use Rattle.reo_literals.specs.Items.{HasFewNames}
 use Rattle.reo_kinds.specs.Kinds.{port_state_of}
 use Rattle.reo_trees.specs.declared.programs.Program.{Program}
 use Rattle.reo_trees_laws.specs.Spelled.{IsSpelled}
-use Rattle.reo_rules_base.specs.Scopes.{connectors_of}
 use Rattle.reo_flatten_base.specs.Flat.{ports_of, primitives_of}
 use Rattle.reo_flatten_base.specs.Refusals.{breaks}
-use Rattle.reo_flatten_laws.specs.Plain.{HasPlainNames}
 use Rattle.reo_flatten_ports.specs.PortsOf.{HasPorts, AreFree}
 
 -- What a run asks of a circuit and its ports: the first primitives are the ports, no offer is pending, no two ports have
@@ -23,4 +21,4 @@ pub record ArePorts (p : Program) : Type 0 where
 
 -- So it is in a program as a text says it that breaks no rule.
 abbrev pub FlatPortsFit : Type 0
-FlatPortsFit = (p : Program) → IsSpelled p → All HasPlainNames (connectors_of p.declarations) → breaks p.declarations ≡ [] → ArePorts p
+FlatPortsFit = (p : Program) → IsSpelled p → breaks p.declarations ≡ [] → ArePorts p

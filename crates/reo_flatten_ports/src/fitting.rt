@@ -1,7 +1,7 @@
 //! The ports of flat circuits are what runs ask for.
 ghost use Rattle.reo_flatten_ports.specs.FlatPorts.{FlatPortsFit};
 
-use reo_flatten_laws::{ports_are_first, ports_differ};
+use reo_flatten_laws::{ports_differ, types_are_valid};
 
 /// In a program as a text says it that breaks no rule, the first primitives are the ports, each of
 /// its way and its type, with no offer pending; no other primitive is a port; no two ports have one
@@ -9,6 +9,6 @@ use reo_flatten_laws::{ports_are_first, ports_differ};
 pub fn flat_ports_fit()
     ensures { FlatPortsFit }
 {
-    ports_are_first();
     ports_differ();
+    types_are_valid();
 }

@@ -1,12 +1,12 @@
 -- Actions that fit the ports of a circuit.
-use Rattle.std.specs.Prelude.{ℕ, ◌≡◌, ◌==◌, Bool, true, false, Some, List, [], slice_get, slice_index_or, map}
+use Rattle.std.specs.Prelude.{ℕ, ◌≡◌, ◌==◌, Bool, true, false, Some, Ok, List, [], slice_get, slice_index_or, map}
 use Rattle.std.specs.List.{All, list_any}
 use Rattle.std.specs.Option.{option_map_or}
 use Rattle.reo_values.specs.Kind.{is_item}
 use Rattle.reo_net_base.specs.declared.port.Port.{Port}
 use Rattle.reo_net_base.specs.declared.port.Way.TheVariants.{In, Out}
 use Rattle.reo_script_base.specs.declared.action.Script.{Script}
-use Rattle.reo_script_base.specs.ScriptAnswers.{IsScriptOf}
+use Rattle.reo_script_base.specs.ScriptAnswers.{Answers}
 use Rattle.reo_players.specs.Written.{Task, written_out}
 use Rattle.reo_players.specs.Written.Task.{writes, takes, rests}
 use Rattle.reo_players.specs.Players.{port_of}
@@ -32,4 +32,4 @@ pub record FitPorts (ports : List Port) (lists : List (List Task)) : Type 0 wher
 
 -- The actions of a script that is read for ports, written out, fit these ports.
 abbrev pub ScriptsFit : Type 0
-ScriptsFit = (text : List ℕ) (ports : List Port) (script : Script) → IsScriptOf text ports script → FitPorts ports (map written_out script.components)
+ScriptsFit = (text : List ℕ) (ports : List Port) (script : Script) → Answers text ports (Ok script) → FitPorts ports (map written_out script.components)
