@@ -1,5 +1,5 @@
-//! The command: `run CIRCUIT SCRIPT` writes the trace of the script on the circuit, `check CIRCUIT`
-//! the parts of the circuit, `print CIRCUIT` the canonical text of the circuit.
+//! The command: `run CIRCUIT SCRIPT [--rounds N]` writes the trace of the script on the circuit,
+//! `check CIRCUIT` the parts of the circuit, `print CIRCUIT` the canonical text of the circuit.
 #![tactic(auto)]
 
 ghost use Rattle.std.specs.Prelude.{◌≡◌, ◌≢◌, [], map, drop, IfErr, IfOk, IsErr, MatchResult};

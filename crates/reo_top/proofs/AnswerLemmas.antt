@@ -3,7 +3,7 @@ use Rattle.std.proofs.Common.{◌≡◌, ◌∙◌, ◌⊎◌, inl, inr, ℕ, Bo
 use Rattle.std.specs.Prelude.{◌≢◌, Err}
 use Rattle.reo_top.specs.declared.role.Role.{Role}
 use Rattle.reo_top.specs.declared.stop.Stop.{Stop}
-use Rattle.reo_top.specs.declared.stop.Stop.TheVariants.{Missed, TooLong, Refused, NotBuilt, NoMemory}
+use Rattle.reo_top.specs.declared.stop.Stop.TheVariants.{Missed, TooLong, Refused, NoMemory}
 use Rattle.reo_top.specs.Answers.{Blames, IsAnswered}
 use Rattle.reo_top.specs.Cases.{Cases, IsExact}
 use Rattle.reo_top.specs.Fetched.{Content, has_gone, AreFetched}
@@ -24,7 +24,6 @@ read_stop : {X : Type 0} (Reads : List Content → X → Type 0) (Stops : List C
 read_stop Reads Stops answers (Missed role) h = inl h
 read_stop Reads Stops answers (TooLong role) h = inl h
 read_stop Reads Stops answers (Refused role r) h = inl h
-read_stop Reads Stops answers (NotBuilt role) h = inl h
 read_stop Reads Stops answers NoMemory h = inr (refl, h)
 
 true_is_false : (b : Bool) → b ≡ true → b ≡ false → ⊥
@@ -73,8 +72,6 @@ module _ {X : Type 0} (Reads : List Content → X → Type 0) (Stops : List Cont
     code_status (Refused role r) (inl (inl k)) = inl k.0
     code_status (Refused role r) (inl (inr k)) = inr (inl k.0)
     code_status (Refused role r) (inr k) = inr (inr k.0)
-    code_status (NotBuilt role) (inl k) = inl k.0
-    code_status (NotBuilt role) (inr k) = inr (inl k.0)
     code_status NoMemory k = inr (inr k.0)
 
     pub refused_status_in : IsAmong statuses 9 → IsAmong statuses 10 → IsAmong statuses code

@@ -14,7 +14,7 @@ use Rattle.reo_top.specs.declared.refusal.Refusal.{Refusal}
 use Rattle.reo_top.specs.declared.role.Role.TheVariants.{Circuit}
 use Rattle.reo_top.specs.declared.stop.Stop.{Stop}
 use Rattle.reo_top.specs.declared.stop.Stop.TheVariants.{Refused}
-use Rattle.reo_top.specs.Checked.{NamedCircuit, IsNamedText, NamedStops, named_of}
+use Rattle.reo_top.specs.Readings.{FlatCircuit, IsCircuitText, CircuitStops, flat_of}
 use Rattle.reo_top.specs.Refusals.{flat_refusal, RefusesCircuit}
 use Rattle.reo_top.proofs.CircuitLemmas.{one_program, not_refused, one_refusal}
 
@@ -74,8 +74,8 @@ accepted_apart p f r told accepted (inr (inl a)) = none_broken p f accepted.no_b
 accepted_apart p f r told accepted (inr (inr a)) = accepted.no_cycle a.3.joint a.3.least.on_cycle
 
 module _ (bytes : List ℕ) where
-  pub one_named : (x y : NamedCircuit) → IsNamedText bytes x → IsNamedText bytes y → x ≡ y
-  one_named x y a b = a.is ∙ ap named_of (one_program bytes a.program b.program a.says b.says) ∙ sym b.is
+  pub one_circuit : (x y : FlatCircuit) → IsCircuitText bytes x → IsCircuitText bytes y → x ≡ y
+  one_circuit x y a b = a.is ∙ ap flat_of (one_program bytes a.program b.program a.says b.says) ∙ sym b.is
 
   one_circuit_refusal : (r s : Refusal) → RefusesCircuit bytes r → RefusesCircuit bytes s → r ≡ s
   one_circuit_refusal r s (p, f, says, refused, told) (q, g, says2, refused2, told2) =
@@ -83,22 +83,22 @@ module _ (bytes : List ℕ) where
       let again : IsRefused p g = subst (λ (x : Program). IsRefused x g) same refused2 in
       some_is r s (sym told ∙ ap flat_refusal (one_cause p f g r s told told2 (cause_of p f refused) (cause_of p g again)) ∙ told2)
 
-  circuit_not_refused : (x : NamedCircuit) (r : Refusal) → IsNamedText bytes x → RefusesCircuit bytes r → ⊥
+  circuit_not_refused : (x : FlatCircuit) (r : Refusal) → IsCircuitText bytes x → RefusesCircuit bytes r → ⊥
   circuit_not_refused x r a (p, f, says, refused, told) =
       let same = one_program bytes p a.program says a.says in
       accepted_apart a.program f r told a.accepted (cause_of a.program f (subst (λ (y : Program). IsRefused y f) same refused))
 
-  pub named_apart : (x : NamedCircuit) (s : Stop) → IsNamedText bytes x → NamedStops bytes s → ⊥
-  named_apart x s a (inl (r, b, is)) = not_refused bytes a.program r a.says b
-  named_apart x s a (inr (r, b, is)) = circuit_not_refused x r a b
+  pub circuit_apart : (x : FlatCircuit) (s : Stop) → IsCircuitText bytes x → CircuitStops bytes s → ⊥
+  circuit_apart x s a (inl (r, b, is)) = not_refused bytes a.program r a.says b
+  circuit_apart x s a (inr (r, b, is)) = circuit_not_refused x r a b
 
-  pub one_named_stop : (s t : Stop) → NamedStops bytes s → NamedStops bytes t → s ≡ t
-  one_named_stop s t (inl (r, a, is)) (inl (q, b, so)) = is ∙ ap (Refused Circuit) (one_refusal bytes r q a b) ∙ sym so
-  one_named_stop s t (inl (r, a, is)) (inr (q, (p, f, says, refused, told), so)) = absurd (not_refused bytes p r says a)
-  one_named_stop s t (inr (r, (p, f, says, refused, told), is)) (inl (q, b, so)) = absurd (not_refused bytes p q says b)
-  one_named_stop s t (inr (r, a, is)) (inr (q, b, so)) = is ∙ ap (Refused Circuit) (one_circuit_refusal r q a b) ∙ sym so
+  pub one_circuit_stop : (s t : Stop) → CircuitStops bytes s → CircuitStops bytes t → s ≡ t
+  one_circuit_stop s t (inl (r, a, is)) (inl (q, b, so)) = is ∙ ap (Refused Circuit) (one_refusal bytes r q a b) ∙ sym so
+  one_circuit_stop s t (inl (r, a, is)) (inr (q, (p, f, says, refused, told), so)) = absurd (not_refused bytes p r says a)
+  one_circuit_stop s t (inr (r, (p, f, says, refused, told), is)) (inl (q, b, so)) = absurd (not_refused bytes p q says b)
+  one_circuit_stop s t (inr (r, a, is)) (inr (q, b, so)) = is ∙ ap (Refused Circuit) (one_circuit_refusal r q a b) ∙ sym so
 
   -- Its stops are refusals.
-  pub named_refusal : (s : Stop) → NamedStops bytes s → (r : Refusal) × (s ≡ Refused Circuit r)
-  named_refusal s (inl (r, a, is)) = (r, is)
-  named_refusal s (inr (r, a, is)) = (r, is)
+  pub circuit_refusal : (s : Stop) → CircuitStops bytes s → (r : Refusal) × (s ≡ Refused Circuit r)
+  circuit_refusal s (inl (r, a, is)) = (r, is)
+  circuit_refusal s (inr (r, a, is)) = (r, is)

@@ -1,7 +1,7 @@
 -- For an accepted circuit and script the trace of the run was written.
-use Rattle.std.proofs.Common.{◌≡◌, ◌∙◌, inl, inr, ℕ, List, [], ◌∷◌, sym, subst, ap, refl}
-use Rattle.std.specs.Prelude.{Option, Some, None, IfSome}
-use Rattle.reo_net_base.specs.First.{IsFirst}
+use Rattle.std.proofs.Common.{◌≡◌, ◌∙◌, inl, inr, ℕ, ◌≤◌, Bool, true, false, cond, List, [], ◌∷◌, length, sym, subst, ap, refl, arith}
+use Rattle.std.proofs.lemmas.Bool.{leb-true}
+use Rattle.std.specs.Prelude.{Option, Some, None, IfSome, nat_le}
 use Rattle.reo_net_base.specs.Net.{Wiring, net_of}
 use Rattle.reo_net_base.specs.Wired.{IsWired}
 use Rattle.reo_net_circuit.proofs.ReshapeLemmas.{lawful_at}
@@ -10,11 +10,14 @@ use Rattle.reo_io.specs.Fetches.{Folder, file_of}
 use Rattle.reo_kinds.specs.declared.kind.Kind.{Kind}
 use Rattle.reo_kinds.specs.Kinds.{behaviour_of}
 use Rattle.reo_kinds.specs.KindLaws.{kind_lawful}
-use Rattle.reo_build.specs.Flat.{primitives_of, circuit_of}
-use Rattle.reo_build.specs.Sound.{IsSoundForm, net_for}
-use Rattle.reo_runner.specs.Justified.{RunsAreJustified}
-use Rattle.reo_runner.specs.Run.{start_of}
+use Rattle.reo_flatten_base.specs.Flat.{primitives_of, net_of_program}
+use Rattle.reo_flatten_laws.specs.Circuits.{CircuitsAreMade}
+use Rattle.reo_flatten_laws.specs.FromTexts.{NamesArePlain}
+use Rattle.reo_runner.specs.declared.outcome.Limits.{Limits}
+use Rattle.reo_runner.specs.Kinds.{kind_rules}
+use Rattle.reo_runs.specs.Justified.{RunsAreJustified}
 use Rattle.reo_top.specs.declared.command.Command.TheVariants.{Run}
+use Rattle.reo_top.specs.declared.role.Role.{Role}
 use Rattle.reo_top.specs.declared.role.Role.TheVariants.{Circuit, Script}
 use Rattle.reo_top.specs.declared.stop.Stop.{Stop}
 use Rattle.reo_top.specs.declared.stop.Stop.TheVariants.{Missed}
@@ -23,22 +26,58 @@ use Rattle.reo_top.specs.Cases.{Cases, IsFailure}
 use Rattle.reo_top.specs.Commands.{is_free, roles_of}
 use Rattle.reo_top.specs.Fetched.{Content, gone, long, text, unknown, content_of, AreTold}
 use Rattle.reo_top.specs.Headline.{Accepted, IsTraced, Headline}
-use Rattle.reo_top.specs.Owed.{owed_of}
+use Rattle.reo_top.specs.Limits.{limits_of}
+use Rattle.reo_top.specs.Owed.{owed_by, owed_of, TracesRun}
 use Rattle.reo_top.specs.Readings.{FlatCircuit, Runnable, IsCircuitText, CircuitStops, ReadsRun, StopsRun}
+use Rattle.reo_top.specs.Roles.{most_bytes}
 use Rattle.reo_top.specs.States.{SinkState, FilesState, Change}
 use Rattle.reo_top.specs.Stops.{stop_status}
-use Rattle.reo_top.specs.Traces.{kind_rules, most_rounds, IsTraceOf}
-use Rattle.reo_top.proofs.CircuitLemmas.{not_refused}
-use Rattle.reo_top.proofs.ReadLemmas.{run_reading}
+use Rattle.reo_top.specs.Traces.{IsTraceOf}
+use Rattle.reo_top.proofs.FlatLemmas.{circuit_apart}
+use Rattle.reo_top.proofs.RunLemmas.{start_for}
 use Rattle.reo_top.proofs.TopLemmas.{answered_with}
+use Rattle.reo_top.proofs.WorkLemmas.{run_reading}
 
--- A circuit of the form is put together well.
-wired : IsSoundForm → (circuit : List ℕ) (flat : FlatCircuit) → IsCircuitText circuit flat → IsWired (net_of behaviour_of flat.wiring)
-wired sound circuit flat is =
-    let parts = sound is.form is.shape.plainest in
-    let here : IsWired (net_of behaviour_of (circuit_of is.form)) =
-    wired_is (net_for is.form) parts.ends parts.sound.joined parts.sound.right parts.sound.no_cycle (lawful_at behaviour_of kind_lawful (primitives_of is.form)) in
-    subst (λ (w : Wiring Kind). IsWired (net_of behaviour_of w)) (sym is.wiring) here
+-- A circuit that is accepted is put together well.
+wired : CircuitsAreMade → NamesArePlain → (circuit : List ℕ) (flat : FlatCircuit) → length circuit ≤ 1048576 → IsCircuitText circuit flat → IsWired (net_of behaviour_of flat.wiring)
+wired made plain circuit flat few is =
+    let parts = made is.program.declarations (plain circuit is.program (omega (arith, few)) is.says) is.accepted.no_break in
+    let here : IsWired (net_of_program is.program.declarations) =
+    wired_is (net_of_program is.program.declarations) parts.ends parts.joined parts.right is.accepted.no_cycle (lawful_at behaviour_of kind_lawful (primitives_of is.program.declarations)) in
+    subst (λ (f : FlatCircuit). IsWired (net_of behaviour_of f.wiring)) (sym is.is) here
+
+-- A file that is not too long is short.
+long_is_text : (t : List ℕ) → long ≡ text t → ⊥
+long_is_text t e = cc
+
+gone_is_text : (t : List ℕ) → gone ≡ text t → ⊥
+gone_is_text t e = cc
+
+one_text : (s t : List ℕ) → text s ≡ text t → s ≡ t
+one_text s t e = cc
+
+within : (bytes t : List ℕ) (limit : ℕ) (b : Bool) → nat_le (length bytes) limit ≡ b → cond b (text bytes) long ≡ text t → length t ≤ limit
+within bytes t limit true few is = let same = ap length (one_text bytes t is) in omega (arith, leb-true (length bytes) limit few)
+within bytes t limit false few is = absurd (long_is_text t is)
+
+size_of : (role : Role) (o : Option (List ℕ)) (t : List ℕ) → content_of role o ≡ text t → length t ≤ most_bytes role
+size_of role None t is = absurd (gone_is_text t is)
+size_of role (Some bytes) t is = within bytes t (most_bytes role) (nat_le (length bytes) (most_bytes role)) refl is
+
+-- The circuit in what a run reads.
+record HasCircuit (A : Content) (r : Runnable) : Type 0 where
+  bytes : List ℕ
+  is : A ≡ text bytes
+  reads : IsCircuitText bytes r.flat
+
+circuit_there : (A B : Content) (r : Runnable) → ReadsRun (A ∷ B ∷ []) r → HasCircuit A r
+circuit_there (text t) (text u) r h = record { bytes = t; is = refl; reads = h.0 }
+circuit_there (text t) gone r h = absurd h
+circuit_there (text t) long r h = absurd h
+circuit_there (text t) unknown r h = absurd h
+circuit_there gone B r h = absurd h
+circuit_there long B r h = absurd h
+circuit_there unknown B r h = absurd h
 
 -- The two files of a run are texts that are accepted.
 circuit_read : (t : List ℕ) (B : Content) (r : Runnable) → ReadsRun (text t ∷ B ∷ []) r → IsCircuitText t r.flat
@@ -61,8 +100,7 @@ module _ (A B : Content) (r : Runnable) (reads : ReadsRun (A ∷ B ∷ []) r) wh
   not_long_second t is so = subst (λ (c : Content). ReadsRun (text t ∷ c ∷ []) r) so (subst (λ (c : Content). ReadsRun (c ∷ B ∷ []) r) is reads)
 
   no_circuit_stop : (t : List ℕ) → A ≡ text t → (s : Stop) → CircuitStops t s → ⊥
-  no_circuit_stop t is s (inl (refusal, refuses, so)) = let circuit = first t is in not_refused t circuit.program refusal circuit.says refuses
-  no_circuit_stop t is s (inr (p, says, none, so)) = none r.flat (first t is)
+  no_circuit_stop t is s stop = circuit_apart t r.flat s (first t is) stop
 
 -- Nothing stops the run but a file that cannot be had.
 module _ (folder : Folder) (c s : List ℕ) (r : Runnable) (reads : ReadsRun (content_of Circuit (file_of folder c) ∷ content_of Script (file_of folder s) ∷ []) r) where
@@ -102,32 +140,22 @@ module _ (folder : Folder) (c s : List ℕ) (r : Runnable) (reads : ReadsRun (co
   same_reads (text t ∷ unknown ∷ cs) told x h = absurd h
   same_reads (text t ∷ text u ∷ d ∷ cs) told x h = absurd h
 
-  circuit_of_reads : (answers : List Content) → ReadsRun answers r → (t : List ℕ) × IsCircuitText t r.flat
-  circuit_of_reads (text t ∷ text u ∷ []) h = (t, h.0)
-  circuit_of_reads [] h = absurd h
-  circuit_of_reads (gone ∷ cs) h = absurd h
-  circuit_of_reads (long ∷ cs) h = absurd h
-  circuit_of_reads (unknown ∷ cs) h = absurd h
-  circuit_of_reads (text t ∷ []) h = absurd h
-  circuit_of_reads (text t ∷ gone ∷ cs) h = absurd h
-  circuit_of_reads (text t ∷ long ∷ cs) h = absurd h
-  circuit_of_reads (text t ∷ unknown ∷ cs) h = absurd h
-  circuit_of_reads (text t ∷ text u ∷ d ∷ cs) h = absurd h
+  well : CircuitsAreMade → NamesArePlain → IsWired (net_of behaviour_of r.flat.wiring)
+  well made plain = let circuit = circuit_there A B r reads in wired made plain circuit.bytes r.flat (size_of Circuit (file_of folder c) circuit.bytes circuit.is) circuit.reads
 
-  module _ (justified : RunsAreJustified kind_rules) (sound : IsSoundForm) (sink : Change SinkState) (code : ℕ) (fine : IsFailure code → ⊥) where
-    traced : (answers : List Content) → AreTold folder (Circuit ∷ Script ∷ []) (c ∷ s ∷ []) answers → Cases (owed_of Run answers) sink code → IsTraced r sink code
+  module _ (limits : Limits) (justified : RunsAreJustified kind_rules) (made : CircuitsAreMade) (plain : NamesArePlain) (sink : Change SinkState) (code : ℕ) (fine : IsFailure code → ⊥) where
+    traced : (answers : List Content) → AreTold folder (Circuit ∷ Script ∷ []) (c ∷ s ∷ []) answers → Cases (owed_by ReadsRun StopsRun (TracesRun limits) answers) sink code → IsTraced limits r sink code
     traced answers told (inl wrote) = elim wrote.owed [
       | inl stopped ↦ absurd (fine (inl (stopped.2.1 ∙ only_missed answers told stopped.0 stopped.1)))
-      | inr made ↦
-          let here : ReadsRun answers r = same_reads answers told made.0 made.1 in
-          let trace : IsTraceOf IsFirst r wrote.bytes code = subst (λ (x : Runnable). IsTraceOf IsFirst x wrote.bytes code) (run_reading.one answers made.0 r made.1 here) made.2 in
-          let circuit = circuit_of_reads answers here in
+      | inr made_of ↦
+          let here : ReadsRun answers r = same_reads answers told made_of.0 made_of.1 in
+          let trace : TracesRun limits r wrote.bytes code = subst (λ (x : Runnable). TracesRun limits x wrote.bytes code) (run_reading.one answers made_of.0 r made_of.1 here) made_of.2 in
           record {
             bytes = wrote.bytes;
             trace = record {
               lines = trace.lines;
               ending = trace.ending;
-              run = justified r.components most_rounds (start_of r.flat.wiring r.components) (wired sound circuit.0 r.flat circuit.1) trace.lines trace.ending trace.run;
+              run = justified limits.budget limits.rounds (start_for r) (well made plain) trace.lines trace.ending trace.run;
               bytes_are = trace.bytes_are;
               status = trace.status;
             };
@@ -138,14 +166,14 @@ module _ (folder : Folder) (c s : List ℕ) (r : Runnable) (reads : ReadsRun (co
     traced answers told (inr (inr ran_out)) = absurd (fine (inr (inr ran_out.code_is)))
 
 -- The headline, from what the call has come to.
-module _ (justified : RunsAreJustified kind_rules) (sound : IsSoundForm) (words : List (List ℕ)) (files : Change FilesState) (sink : Change SinkState) (code : ℕ) (h : Answered words files sink code) where
-  told_as : (o : Option Folder) → files.old.told ≡ o → IfSome o (λ folder. (r : Runnable) → Accepted words folder r → (IsFailure code → ⊥) → IsTraced r sink code)
+module _ (justified : RunsAreJustified kind_rules) (made : CircuitsAreMade) (plain : NamesArePlain) (words : List (List ℕ)) (files : Change FilesState) (sink : Change SinkState) (code : ℕ) (h : Answered words files sink code) where
+  told_as : (o : Option Folder) → files.old.told ≡ o → IfSome o (λ folder. (r : Runnable) → Accepted words folder r → (IsFailure code → ⊥) → IsTraced (limits_of words) r sink code)
   told_as None is = tt
   told_as (Some folder) is = λ r a fine.
-      let run : IsAnswered (is_free Run) (owed_of Run) (roles_of Run) (a.circuit ∷ a.script ∷ []) files sink code = answered_with words files sink code Run (a.circuit ∷ a.script ∷ []) a.run a.names h in
+      let run : IsAnswered (is_free Run) (owed_of Run words) (roles_of Run) (a.circuit ∷ a.script ∷ []) files sink code = answered_with words files sink code Run (a.circuit ∷ a.script ∷ []) a.run a.names h in
       let told : AreTold folder (Circuit ∷ Script ∷ []) (a.circuit ∷ a.script ∷ []) run.answers =
       subst (λ (o : Option Folder). IfSome o (λ f. AreTold f (Circuit ∷ Script ∷ []) (a.circuit ∷ a.script ∷ []) run.answers)) is run.fetched.told in
-      traced folder a.circuit a.script r a.reads justified sound sink code fine run.answers told run.cases
+      traced folder a.circuit a.script r a.reads (limits_of words) justified made plain sink code fine run.answers told run.cases
 
   pub headline : Headline words files sink code
   headline = told_as files.old.told refl

@@ -4,7 +4,7 @@ use Rattle.std.specs.Prelude.{◌≢◌}
 use Rattle.reo_top.specs.declared.role.Role.{Role}
 use Rattle.reo_top.specs.declared.role.Role.TheVariants.{Circuit, Script}
 use Rattle.reo_top.specs.declared.stop.Stop.{Stop}
-use Rattle.reo_top.specs.declared.stop.Stop.TheVariants.{Missed, TooLong, Refused, NotBuilt, NoMemory}
+use Rattle.reo_top.specs.declared.stop.Stop.TheVariants.{Missed, TooLong, Refused, NoMemory}
 use Rattle.reo_top.specs.Cases.{Cases, IsExact, Refuses}
 use Rattle.reo_top.specs.Outputs.{Outputs, IsLine}
 use Rattle.reo_top.specs.Roles.{refused_status}
@@ -20,7 +20,6 @@ module _ (Owed : Outputs) (sink : Change SinkState) (code : ℕ) where
   stop_cases (TooLong role) owed h = line_cases sink code Owed (stop_text (TooLong role)) (stop_status (TooLong role)) owed h
   stop_cases (Refused role r) owed (inl h) = line_cases sink code Owed (stop_text (Refused role r)) (stop_status (Refused role r)) owed h
   stop_cases (Refused role r) owed (inr h) = no_memory_cases sink code Owed h
-  stop_cases (NotBuilt role) owed h = line_cases sink code Owed (stop_text (NotBuilt role)) (stop_status (NotBuilt role)) owed h
   stop_cases NoMemory owed h = no_memory_cases sink code Owed h
 
   -- Nothing else is owed.
@@ -29,7 +28,6 @@ module _ (Owed : Outputs) (sink : Change SinkState) (code : ℕ) where
   stop_exact (TooLong role) only h = λ bytes status owed. line_written sink code (stop_text (TooLong role)) (stop_status (TooLong role)) h bytes status (only bytes status owed)
   stop_exact (Refused role r) only (inl h) = λ bytes status owed. line_written sink code (stop_text (Refused role r)) (stop_status (Refused role r)) h bytes status (only bytes status owed)
   stop_exact (Refused role r) only (inr h) = no_memory_exact sink code Owed h
-  stop_exact (NotBuilt role) only h = λ bytes status owed. line_written sink code (stop_text (NotBuilt role)) (stop_status (NotBuilt role)) h bytes status (only bytes status owed)
   stop_exact NoMemory only h = no_memory_exact sink code Owed h
 
 -- A file cannot be had.
@@ -37,7 +35,6 @@ abbrev pub is_missed : Stop → Bool
 is_missed (Missed role) = true
 is_missed (TooLong role) = false
 is_missed (Refused role r) = false
-is_missed (NotBuilt role) = false
 is_missed NoMemory = false
 
 line_code : (line : List ℕ) (status : ℕ) (sink : Change SinkState) (code : ℕ) → Refuses line status sink code → (code ≡ status) ⊎ (code ≡ 9)
@@ -61,12 +58,10 @@ stop_only (Missed role) sink code h three = refl
 stop_only (TooLong role) sink code h three = absurd (other 4 code (λ e. omega (arith, e)) (line_code _ _ sink code h) three)
 stop_only (Refused role r) sink code (inl h) three = absurd (other (refused_status role) code (not_three role) (line_code _ _ sink code h) three)
 stop_only (Refused role r) sink code (inr h) three = absurd (omega (arith, h.0, three))
-stop_only (NotBuilt role) sink code h three = absurd (other 12 code (λ e. omega (arith, e)) (line_code _ _ sink code h) three)
 stop_only NoMemory sink code h three = absurd (omega (arith, h.0, three))
 
 pub stop_told : (stop : Stop) (sink : Change SinkState) (code : ℕ) → IsRefusedAs stop sink code → is_missed stop ≡ true → (code ≡ 3) ⊎ (code ≡ 9)
 stop_told (Missed role) sink code h is = line_code _ _ sink code h
 stop_told (TooLong role) sink code h is = absurd (true_is_false is)
 stop_told (Refused role r) sink code h is = absurd (true_is_false is)
-stop_told (NotBuilt role) sink code h is = absurd (true_is_false is)
 stop_told NoMemory sink code h is = absurd (true_is_false is)

@@ -1,73 +1,21 @@
 -- From the words to the command that they are, and to what it has come to.
-use Rattle.std.proofs.Common.{◌≡◌, ◌∙◌, ◌⊎◌, inl, inr, ℕ, Bool, true, false, cond, List, [], ◌∷◌, ◌++◌, length, get_or, sym, ap, subst, refl, arith}
-use Rattle.std.proofs.lemmas.Bool.Decides.{nat_tests}
-use Rattle.std.specs.Prelude.{◌≢◌, Option, Some, None, IfSome, find, codes, ◌&&◌, ◌==◌}
+use Rattle.std.proofs.Common.{◌≡◌, ◌∙◌, ◌⊎◌, inl, inr, ℕ, true, false, List, [], ◌∷◌, ◌++◌, sym, ap, subst, refl, arith}
+use Rattle.std.specs.Prelude.{◌≢◌, Option, Some, None, IfSome, codes}
 use Rattle.reo_io.specs.Fetches.{Folder}
+use Rattle.reo_runner.specs.declared.outcome.Limits.{Limits}
 use Rattle.reo_top.specs.declared.command.Command.{Command}
-use Rattle.reo_top.specs.Answers.{IsAnswered, Answered, roles_for, free_for}
+use Rattle.reo_top.specs.declared.command.Command.TheVariants.{Run}
+use Rattle.reo_top.specs.Answers.{IsAnswered, Answered, roles_for, names_for, free_for}
 use Rattle.reo_top.specs.Cases.{Refuses}
-use Rattle.reo_top.specs.Commands.{command_of, command_word, commands, names_of, is_form, fits, is_free, roles_of, are_names}
+use Rattle.reo_top.specs.Commands.{command_of, names_of, is_free, roles_of}
 use Rattle.reo_top.specs.Fetched.{Content, missed, AreTold}
 use Rattle.reo_top.specs.Outputs.{Outputs, IsLine}
-use Rattle.reo_top.specs.Owed.{owed_of, owed_for}
+use Rattle.reo_top.specs.Limits.{limits_of}
+use Rattle.reo_top.specs.Owed.{owed_of, owed_for, owed_by, TracesRun}
+use Rattle.reo_top.specs.Readings.{ReadsRun, StopsRun}
 use Rattle.reo_top.specs.States.{SinkState, FilesState, Change}
 use Rattle.reo_top.specs.Statuses.{IsAmong, statuses_of, statuses_for}
 use Rattle.reo_top.proofs.CaseLemmas.{line_cases, line_written}
-
-middle : (a b c : Bool) → (a && (b && c)) ≡ true → b ≡ true
-middle true true c h = refl
-middle true false c h = h
-middle false b c h = absurd (no h) where
-  no : false ≡ true → ⊥
-  no e = cc
-
-form_length : (word : List ℕ) (count : ℕ) (words : List (List ℕ)) → is_form word count words ≡ true → length (names_of words) ≡ count
-form_length word count [] is = absurd (no is) where
-  no : false ≡ true → ⊥
-  no e = cc
-form_length word count (first ∷ names) is = let same : (length names == count) ≡ true = middle _ (length names == count) (are_names names) is in grind (arith, nat_tests)
-
-pub two_names : (words : List (List ℕ)) → length (names_of words) ≡ 2 → names_of words ≡ get_or words 1 [] ∷ get_or words 2 [] ∷ []
-two_names [] e = absurd (omega (arith, e))
-two_names (w ∷ []) e = absurd (omega (arith, e))
-two_names (w ∷ a ∷ []) e = absurd (omega (arith, e))
-two_names (w ∷ a ∷ b ∷ []) e = refl
-two_names (w ∷ a ∷ b ∷ c ∷ ws) e = absurd (omega (arith, e))
-
-pub one_name : (words : List (List ℕ)) → length (names_of words) ≡ 1 → names_of words ≡ get_or words 1 [] ∷ []
-one_name [] e = absurd (omega (arith, e))
-one_name (w ∷ []) e = absurd (omega (arith, e))
-one_name (w ∷ a ∷ []) e = refl
-one_name (w ∷ a ∷ b ∷ ws) e = absurd (omega (arith, e))
-
-pub no_name : (words : List (List ℕ)) → length (names_of words) ≡ 0 → names_of words ≡ []
-no_name [] e = refl
-no_name (w ∷ []) e = refl
-no_name (w ∷ a ∷ ws) e = absurd (omega (arith, e))
-
--- The command of some words fits them.
-command_is : (a b : Command) (x y : Option Command) → x ≡ Some a → y ≡ Some b → x ≡ y → a ≡ b
-command_is a b x y of_x of_y e = cc
-
-none_is_some : (b : Command) (x y : Option Command) → x ≡ None → y ≡ Some b → x ≡ y → ⊥
-none_is_some b x y of_x of_y e = cc
-
--- The first that passes is this one, or some later one.
-split : (test : Command → Bool) (c command : Command) (later : Option Command) (b : Bool) → test c ≡ b → (later ≡ Some command → test command ≡ true)
-    → cond b (Some c) later ≡ Some command → test command ≡ true
-split test c command later true is rest here = ap test (sym (command_is c command (Some c) (Some command) refl refl here)) ∙ is
-split test c command later false is rest here = rest here
-
-found : (test : Command → Bool) (cs : List Command) (command : Command) → find test cs ≡ Some command → test command ≡ true
-found test [] command is = absurd (none_is_some command None (Some command) refl refl is)
-found test (c ∷ cs) command is = split test c command (find test cs) (test c) refl (λ here. found test cs command here) is
-
-fit_is : (words : List (List ℕ)) (command : Command) → command_of words ≡ Some command → fits words command ≡ true
-fit_is words command is = found (fits words) commands command is
-
--- A command has a name for each of its files.
-pub names_fit : (words : List (List ℕ)) (command : Command) → command_of words ≡ Some command → length (names_of words) ≡ length (roles_of command)
-names_fit words command is = form_length (command_word command) (length (roles_of command)) words (fit_is words command is)
 
 no_more : {A : Type 0} (xs : List A) → xs ++ [] ≡ xs
 no_more [] = refl
@@ -98,19 +46,25 @@ line_among sink code statuses line status here nine h = elim (line_code sink cod
 
 module _ (words : List (List ℕ)) (files : Change FilesState) (sink : Change SinkState) (code : ℕ) where
   -- What the command has come to.
-  pub answered_as : (command : Command) (names : List (List ℕ)) → command_of words ≡ Some command → names_of words ≡ names
-      → IsAnswered (is_free command) (owed_of command) (roles_of command) names files sink code → Answered words files sink code
+  pub answered_as : (command : Command) (names : List (List ℕ)) → command_of words ≡ Some command → names_of command words ≡ names
+      → IsAnswered (is_free command) (owed_of command words) (roles_of command) names files sink code → Answered words files sink code
   answered_as command names is named h =
-      let P : Option Command → Type 0 = λ o. IsAnswered (free_for o) (owed_for o) (roles_for o) (names_of words) files sink code in
-      let here : IsAnswered (is_free command) (owed_of command) (roles_of command) (names_of words) files sink code =
-      subst (λ (ns : List (List ℕ)). IsAnswered (is_free command) (owed_of command) (roles_of command) ns files sink code) (sym named) h in
+      let P : Option Command → Type 0 = λ o. IsAnswered (free_for o) (owed_for o words) (roles_for o) (names_for o words) files sink code in
+      let here : IsAnswered (is_free command) (owed_of command words) (roles_of command) (names_of command words) files sink code =
+      subst (λ (ns : List (List ℕ)). IsAnswered (is_free command) (owed_of command words) (roles_of command) ns files sink code) (sym named) h in
       subst P (sym is) here
 
-  pub answered_with : (command : Command) (names : List (List ℕ)) → command_of words ≡ Some command → names_of words ≡ names
-      → Answered words files sink code → IsAnswered (is_free command) (owed_of command) (roles_of command) names files sink code
+  pub run_answered : (limits : Limits) (circuit script : List ℕ) → command_of words ≡ Some Run → names_of Run words ≡ circuit ∷ script ∷ [] → limits ≡ limits_of words
+      → IsAnswered (is_free Run) (owed_by ReadsRun StopsRun (TracesRun limits)) (roles_of Run) (circuit ∷ script ∷ []) files sink code → Answered words files sink code
+  run_answered limits circuit script is named same h =
+      answered_as Run (circuit ∷ script ∷ []) is named
+      (subst (λ (l : Limits). IsAnswered (is_free Run) (owed_by ReadsRun StopsRun (TracesRun l)) (roles_of Run) (circuit ∷ script ∷ []) files sink code) same h)
+
+  pub answered_with : (command : Command) (names : List (List ℕ)) → command_of words ≡ Some command → names_of command words ≡ names
+      → Answered words files sink code → IsAnswered (is_free command) (owed_of command words) (roles_of command) names files sink code
   answered_with command names is named h =
-      let P : Option Command → Type 0 = λ o. IsAnswered (free_for o) (owed_for o) (roles_for o) (names_of words) files sink code in
-      subst (λ (ns : List (List ℕ)). IsAnswered (is_free command) (owed_of command) (roles_of command) ns files sink code) named (subst P is h)
+      let P : Option Command → Type 0 = λ o. IsAnswered (free_for o) (owed_for o words) (roles_for o) (names_for o words) files sink code in
+      subst (λ (ns : List (List ℕ)). IsAnswered (is_free command) (owed_of command words) (roles_of command) ns files sink code) named (subst P is h)
 
   pub status_as : (command : Command) → command_of words ≡ Some command → IsAmong (statuses_of command) code → IsAmong (statuses_for (command_of words)) code
   status_as command is h = subst (λ (o : Option Command). IsAmong (statuses_for o) code) (sym is) h
@@ -141,12 +95,12 @@ module _ (words : List (List ℕ)) (files : Change FilesState) (sink : Change Si
   }
 
   -- Words without form.
-  none_answered : files.new ≡ files.old → Refuses (codes "words refused\n") 2 sink code → IsAnswered false (owed_for None) [] (names_of words) files sink code
-  none_answered same h = line_answered (owed_for None) (names_of words) (codes "words refused\n") 2 (refl, (refl, refl)) (λ bytes status owed. owed.1) (λ e. omega (arith, e)) same h
+  none_answered : files.new ≡ files.old → Refuses (codes "words refused\n") 2 sink code → IsAnswered false (owed_for None words) [] [] files sink code
+  none_answered same h = line_answered (owed_for None words) [] (codes "words refused\n") 2 (refl, (refl, refl)) (λ bytes status owed. owed.1) (λ e. omega (arith, e)) same h
 
   pub answered_none : command_of words ≡ None → files.new ≡ files.old → Refuses (codes "words refused\n") 2 sink code → Answered words files sink code
   answered_none is same h =
-      let P : Option Command → Type 0 = λ o. IsAnswered (free_for o) (owed_for o) (roles_for o) (names_of words) files sink code in
+      let P : Option Command → Type 0 = λ o. IsAnswered (free_for o) (owed_for o words) (roles_for o) (names_for o words) files sink code in
       subst P (sym is) (none_answered same h)
 
   pub status_none : command_of words ≡ None → Refuses (codes "words refused\n") 2 sink code → IsAmong (statuses_for (command_of words)) code

@@ -24,10 +24,14 @@ pub record IsAnswered (free : Bool) (Owed : List Content → Outputs) (roles : L
   pub exact : IsExactFor free (Owed answers) sink code
   pub blames : Blames answers code
 
--- The files of a command.
+-- The files of a command, and their names.
 abbrev pub roles_for : Option Command → List Role
 roles_for None = []
 roles_for (Some command) = roles_of command
+
+abbrev pub names_for : Option Command → List (List ℕ) → List (List ℕ)
+names_for None words = []
+names_for (Some command) words = names_of command words
 
 -- The output of words without form is not free.
 abbrev pub free_for : Option Command → Bool
@@ -36,7 +40,7 @@ free_for (Some command) = is_free command
 
 -- What the top call has come to, by its words.
 abbrev pub Answered : List (List ℕ) → Change FilesState → Change SinkState → ℕ → Type 0
-Answered words files sink code = IsAnswered (free_for (command_of words)) (owed_for (command_of words)) (roles_for (command_of words)) (names_of words) files sink code
+Answered words files sink code = IsAnswered (free_for (command_of words)) (owed_for (command_of words) words) (roles_for (command_of words)) (names_for (command_of words) words) files sink code
 
 -- The status is one of the command's, and says what the sink did.
 pub record IsHonest (words : List (List ℕ)) (sink : Change SinkState) (code : ℕ) : Type 0 where

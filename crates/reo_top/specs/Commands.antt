@@ -1,11 +1,15 @@
 -- The commands, and their words.
-use Rattle.std.specs.Prelude.{ℕ, ◌==◌, ◌&&◌, Bool, false, not, List, [], ◌∷◌, Option, find, length, codes}
+use Rattle.std.specs.Prelude.{ℕ, ◌==◌, ◌&&◌, Bool, false, not, List, [], ◌∷◌, Option, Some, None, find, take, drop, length, codes}
+use Rattle.std.specs.Option.{is_some}
 use Rattle.std.specs.List.{list_all}
 use Rattle.std.specs.Str.{bytes_eq}
 use Rattle.reo_top.specs.declared.command.Command.{Command}
 use Rattle.reo_top.specs.declared.command.Command.TheVariants.{Run, Check, Print}
 use Rattle.reo_top.specs.declared.role.Role.{Role}
 use Rattle.reo_top.specs.declared.role.Role.TheVariants.{Circuit, Script}
+use Rattle.reo_top.specs.declared.setting.Setting.{Setting}
+use Rattle.reo_top.specs.declared.setting.Setting.TheVariants.{Rounds}
+use Rattle.reo_top.specs.Settings.{numbers_of}
 
 -- All commands.
 abbrev pub commands : List Command
@@ -23,30 +27,51 @@ roles_of Run = Circuit ∷ Script ∷ []
 roles_of Check = Circuit ∷ []
 roles_of Print = Circuit ∷ []
 
+-- The options of a command, in order.
+abbrev pub settings_of : Command → List Setting
+settings_of Run = Rounds ∷ []
+settings_of Check = []
+settings_of Print = []
+
 -- Whether what a command writes is free by its definition: then only its status is exact.
 abbrev pub is_free : Command → Bool
 is_free Run = false
 is_free Check = false
 is_free Print = false
 
--- Names, none of them empty.
-abbrev pub are_names : List (List ℕ) → Bool
-are_names names = list_all (λ (name : List ℕ). not (length name == 0)) names
+-- None of these words is empty.
+abbrev pub none_empty : List (List ℕ) → Bool
+none_empty words = list_all (λ (word : List ℕ). not (length word == 0)) words
 
--- The words are this one, and so many names.
-abbrev pub is_form : List ℕ → ℕ → List (List ℕ) → Bool
-is_form word count [] = false
-is_form word count (first ∷ names) = bytes_eq first word && ((length names == count) && are_names names)
+-- So many names, none of them empty.
+abbrev pub are_names : ℕ → List (List ℕ) → Bool
+are_names count names = (length names == count) && none_empty names
 
--- The words of a command: its own, and a name for each of its files.
+-- So many names, and these options.
+abbrev pub follows : ℕ → List Setting → List (List ℕ) → Bool
+follows count settings others = are_names count (take count others) && is_some (numbers_of settings (drop count others))
+
+-- The words are this one, so many names, and these options.
+abbrev pub is_form : List ℕ → ℕ → List Setting → List (List ℕ) → Bool
+is_form word count settings [] = false
+is_form word count settings (first ∷ others) = bytes_eq first word && follows count settings others
+
+-- The words of a command: its own, a name for each of its files, and its options.
 abbrev pub fits : List (List ℕ) → Command → Bool
-fits words command = is_form (command_word command) (length (roles_of command)) words
+fits words command = is_form (command_word command) (length (roles_of command)) (settings_of command) words
 
 -- The command of some words, or none where they have no form.
 abbrev pub command_of : List (List ℕ) → Option Command
 command_of words = find (fits words) commands
 
+-- The words behind the first.
+abbrev pub others_of : List (List ℕ) → List (List ℕ)
+others_of words = drop 1 words
+
 -- The names of the files.
-abbrev pub names_of : List (List ℕ) → List (List ℕ)
-names_of [] = []
-names_of (first ∷ names) = names
+abbrev pub names_of : Command → List (List ℕ) → List (List ℕ)
+names_of command words = take (length (roles_of command)) (others_of words)
+
+-- The numbers of the options, in order, or none where the words behind the names are not these.
+abbrev pub numbers_in : Command → List (List ℕ) → Option (List ℕ)
+numbers_in command words = numbers_of (settings_of command) (drop (length (roles_of command)) (others_of words))

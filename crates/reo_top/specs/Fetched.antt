@@ -3,7 +3,7 @@ use Rattle.std.specs.Prelude.{ℕ, ◌≡◌, ◌++◌, ◌≤◌, nat_le, cond,
 use Rattle.reo_io.specs.Fetches.{Folder, file_of, fetches_after}
 use Rattle.reo_top.specs.declared.role.Role.{Role}
 use Rattle.reo_top.specs.declared.stop.Stop.{Stop}
-use Rattle.reo_top.specs.declared.stop.Stop.TheVariants.{Missed, TooLong, Refused, NotBuilt, NoMemory}
+use Rattle.reo_top.specs.declared.stop.Stop.TheVariants.{Missed, TooLong, Refused, NoMemory}
 use Rattle.reo_top.specs.Roles.{most_bytes}
 use Rattle.reo_top.specs.States.{FilesState, Change}
 
@@ -65,7 +65,6 @@ answer_of (Ok bytes) = text bytes
 answer_of (Err (Missed role)) = gone
 answer_of (Err (TooLong role)) = long
 answer_of (Err (Refused role refusal)) = unknown
-answer_of (Err (NotBuilt role)) = unknown
 answer_of (Err NoMemory) = unknown
 
 -- A fetch of the file of a role stops for nothing else than that it cannot be had, is too long, or memory ran out.
@@ -74,5 +73,4 @@ IsFetchStop role (Ok bytes) = Unit {0}
 IsFetchStop role (Err (Missed other)) = other ≡ role
 IsFetchStop role (Err (TooLong other)) = other ≡ role
 IsFetchStop role (Err (Refused other refusal)) = ⊥
-IsFetchStop role (Err (NotBuilt other)) = ⊥
 IsFetchStop role (Err NoMemory) = Unit {0}

@@ -1,33 +1,36 @@
 -- The headline: what was written for a circuit and a script that are accepted.
 use Rattle.std.specs.Prelude.{ℕ, ◌≡◌, List, [], ◌∷◌, Some, IfSome}
 use Rattle.reo_io.specs.Fetches.{Folder, file_of}
-use Rattle.reo_runner.specs.Justified.{IsJustified}
+use Rattle.reo_runner.specs.declared.outcome.Limits.{Limits}
+use Rattle.reo_runs.specs.Justified.{justified}
 use Rattle.reo_top.specs.declared.command.Command.TheVariants.{Run}
 use Rattle.reo_top.specs.declared.role.Role.TheVariants.{Circuit, Script}
 use Rattle.reo_top.specs.Cases.{Adds, IsFailure}
 use Rattle.reo_top.specs.Commands.{command_of, names_of}
 use Rattle.reo_top.specs.Fetched.{content_of}
+use Rattle.reo_top.specs.Limits.{limits_of, firsts_for}
 use Rattle.reo_top.specs.Readings.{Runnable, ReadsRun}
 use Rattle.reo_top.specs.States.{SinkState, FilesState, Change}
 use Rattle.reo_top.specs.Traces.{IsTraceOf}
 
--- The words are those of a run, and the files that they name are a circuit text and a script text that are accepted: as a
--- wiring of kinds with its ports, and as components for these ports.
+-- The words are those of a run, and the files that they name are a circuit text and a script text that are accepted: as what
+-- a program unfolds to that breaks no rule, and as a script for its ports.
 pub record Accepted (words : List (List ℕ)) (folder : Folder) (r : Runnable) : Type 0 where
   pub run : command_of words ≡ Some Run
   pub circuit : List ℕ
   pub script : List ℕ
-  pub names : names_of words ≡ circuit ∷ script ∷ []
+  pub names : names_of Run words ≡ circuit ∷ script ∷ []
   pub reads : ReadsRun (content_of Circuit (file_of folder circuit) ∷ content_of Script (file_of folder script) ∷ []) r
 
 -- The trace of the run was written, with the status of its ending. Each round is the first colouring in the written order,
--- idle only where no colouring flows, and jams only what has no three-colouring.
-pub record IsTraced (r : Runnable) (sink : Change SinkState) (code : ℕ) : Type 0 where
+-- idle only where no colouring flows, and jams only what has no three-colouring; and the run stops only where each component is
+-- done, it is stuck, it is at its limit, or a part is over.
+pub record IsTraced (limits : Limits) (r : Runnable) (sink : Change SinkState) (code : ℕ) : Type 0 where
   pub bytes : List ℕ
-  pub trace : IsTraceOf IsJustified r bytes code
+  pub trace : IsTraceOf (justified (firsts_for limits)) r bytes code
   pub adds : Adds sink bytes
 
 -- For every accepted circuit and script the trace of the run was written, unless a fetch or the sink failed or memory ran out.
 abbrev pub Headline : List (List ℕ) → Change FilesState → Change SinkState → ℕ → Type 0
 Headline words files sink code =
-    IfSome files.old.told (λ folder. (r : Runnable) → Accepted words folder r → (IsFailure code → ⊥) → IsTraced r sink code)
+    IfSome files.old.told (λ folder. (r : Runnable) → Accepted words folder r → (IsFailure code → ⊥) → IsTraced (limits_of words) r sink code)

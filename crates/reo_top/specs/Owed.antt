@@ -1,16 +1,16 @@
 -- What a command owes, by what its fetches answered.
-use Rattle.std.specs.Prelude.{◌≡◌, ◌⊎◌, List, [], Option, Some, None, codes}
-use Rattle.reo_net_base.specs.First.{IsFirst}
+use Rattle.std.specs.Prelude.{ℕ, ◌≡◌, ◌⊎◌, List, [], Option, Some, None, codes}
+use Rattle.reo_runner.specs.declared.outcome.Limits.{Limits}
 use Rattle.reo_trees.specs.declared.programs.Program.{Program}
 use Rattle.reo_syntax.specs.Canonical.{canonical_text}
 use Rattle.reo_parts.specs.Parts.{parts_text}
 use Rattle.reo_top.specs.declared.command.Command.{Command}
 use Rattle.reo_top.specs.declared.command.Command.TheVariants.{Run, Check, Print}
 use Rattle.reo_top.specs.declared.stop.Stop.{Stop}
-use Rattle.reo_top.specs.Checked.{NamedCircuit, ReadsNamed, StopsCheck}
 use Rattle.reo_top.specs.Fetched.{Content}
+use Rattle.reo_top.specs.Limits.{limits_of, firsts_for}
 use Rattle.reo_top.specs.Outputs.{Outputs, IsLine}
-use Rattle.reo_top.specs.Readings.{ReadsProgram, StopsPrint, ReadsRun, StopsRun}
+use Rattle.reo_top.specs.Readings.{FlatCircuit, Runnable, ReadsProgram, StopsPrint, ReadsCircuit, StopsCheck, ReadsRun, StopsRun}
 use Rattle.reo_top.specs.Statuses.{done, words_refused}
 use Rattle.reo_top.specs.Stops.{stop_text, stop_status}
 use Rattle.reo_top.specs.Traces.{IsTraceOf}
@@ -26,17 +26,21 @@ abbrev pub PrintsProgram : Program → Outputs
 PrintsProgram program = IsLine (canonical_text program) done
 
 -- The parts of a circuit, line by line.
-abbrev pub ListsParts : NamedCircuit → Outputs
-ListsParts named = IsLine (parts_text named.wiring.primitives named.wiring.joints named.homes named.nodes) done
+abbrev pub ListsParts : FlatCircuit → Outputs
+ListsParts flat = IsLine (parts_text flat.wiring.primitives flat.wiring.joints flat.homes flat.nodes) done
 
--- What a command owes: a run the trace of the run by first colourings, a check the parts of the circuit, a print the
--- canonical text of the program.
-abbrev pub owed_of : Command → List Content → Outputs
-owed_of Run = owed_by ReadsRun StopsRun (IsTraceOf IsFirst)
-owed_of Check = owed_by ReadsNamed StopsCheck ListsParts
-owed_of Print = owed_by ReadsProgram StopsPrint PrintsProgram
+-- The trace of the run of a script on a circuit by first colourings, which goes no further than this.
+abbrev pub TracesRun : Limits → Runnable → Outputs
+TracesRun limits = IsTraceOf (firsts_for limits)
+
+-- What a command owes for its words: a run the trace of the run within the limits of its options, a check the parts of the
+-- circuit, a print the canonical text of the program.
+abbrev pub owed_of : Command → List (List ℕ) → List Content → Outputs
+owed_of Run words = owed_by ReadsRun StopsRun (TracesRun (limits_of words))
+owed_of Check words = owed_by ReadsCircuit StopsCheck ListsParts
+owed_of Print words = owed_by ReadsProgram StopsPrint PrintsProgram
 
 -- The same, or the refusal of words that have no form, for which nothing is fetched.
-abbrev pub owed_for : Option Command → List Content → Outputs
-owed_for None answers = λ bytes code. (answers ≡ []) × IsLine (codes "words refused\n") words_refused bytes code
-owed_for (Some command) answers = owed_of command answers
+abbrev pub owed_for : Option Command → List (List ℕ) → List Content → Outputs
+owed_for None words answers = λ bytes code. (answers ≡ []) × IsLine (codes "words refused\n") words_refused bytes code
+owed_for (Some command) words answers = owed_of command words answers

@@ -1,45 +1,55 @@
 -- Steps of reading a circuit and a script.
-use Rattle.std.specs.Prelude.{ℕ, ◌≡◌, List, [], ◌∷◌, Result, Some}
-use Rattle.reo_parser.specs.declared.fault.ParseFault.{ParseFault}
-use Rattle.reo_forms.specs.declared.plainest.Plainest.{Plainest}
-use Rattle.reo_forms.specs.ScriptForm.{SaysScript}
-use Rattle.reo_build.specs.Flat.{ports_of}
-use Rattle.reo_plain_script.specs.declared.script.Script.{Script}
+use Rattle.std.specs.Prelude.{ℕ, ◌≡◌, List, [], ◌∷◌, Result, Ok, Option, Some, length, map}
+use Rattle.reo_net_base.specs.Net.{Wiring}
+use Rattle.reo_net_base.specs.declared.port.Port.{Port}
+use Rattle.reo_kinds.specs.declared.kind.Kind.{Kind}
+use Rattle.reo_kinds.specs.Kinds.{port_state_of}
+use Rattle.reo_flatten.specs.declared.last.Flat.{Flat}
+use Rattle.reo_flatten_ports.specs.PortsOf.{HasPorts, AreFree}
+use Rattle.reo_script.specs.Places.{ArePortsOf}
+use Rattle.reo_script_base.specs.declared.action.Script.{Script}
+use Rattle.reo_script_base.specs.ScriptAnswers.{Answers}
+use Rattle.reo_top.specs.declared.refusal.Refusal.{Refusal}
+use Rattle.reo_top.specs.declared.role.Role.{Role}
 use Rattle.reo_top.specs.declared.role.Role.TheVariants as roles
 use Rattle.reo_top.specs.declared.stop.Stop.{Stop}
-use Rattle.reo_top.specs.declared.stop.Stop.TheVariants.{Missed, TooLong, Refused, NotBuilt, NoMemory}
+use Rattle.reo_top.specs.declared.stop.Stop.TheVariants.{Missed, TooLong, Refused, NoMemory}
 use Rattle.reo_top.specs.Fetched.{Content, text}
-use Rattle.reo_top.specs.Readings.{IsReadFrom, ScriptStops}
-use Rattle.reo_rules_base.specs.declared.fault.FlatFault.{FlatFault}
-use Rattle.reo_top.specs.Refusals.{parse_refusal, flat_refusal}
+use Rattle.reo_top.specs.Readings.{FlatCircuit, Runnable, ScriptStops, IsReadFrom}
 use Rattle.reo_top.specs.States.{FilesState, Change}
 use Rattle.reo_top.specs.Stops.{FileStops}
 
--- The stop is the refusal of the fault, or memory ran out.
-abbrev pub IsCircuitStop : ParseFault → Stop → Type 0
-IsCircuitStop fault (Missed role) = ⊥
-IsCircuitStop fault (TooLong role) = ⊥
-IsCircuitStop fault (Refused role refusal) = (role ≡ roles.Circuit) × (parse_refusal fault ≡ Some refusal)
-IsCircuitStop fault (NotBuilt role) = ⊥
-IsCircuitStop fault NoMemory = Unit {0}
+-- The stop is this refusal of the text of a file, or memory ran out.
+abbrev pub IsRefusalOf : Role → Option Refusal → Stop → Type 0
+IsRefusalOf role wanted (Missed other) = ⊥
+IsRefusalOf role wanted (TooLong other) = ⊥
+IsRefusalOf role wanted (Refused other refusal) = (other ≡ role) × (wanted ≡ Some refusal)
+IsRefusalOf role wanted NoMemory = Unit {0}
 
--- The same for a program that breaks a rule.
-abbrev pub IsFlatStop : FlatFault → Stop → Type 0
-IsFlatStop fault (Missed role) = ⊥
-IsFlatStop fault (TooLong role) = ⊥
-IsFlatStop fault (Refused role refusal) = (role ≡ roles.Circuit) × (flat_refusal fault ≡ Some refusal)
-IsFlatStop fault (NotBuilt role) = ⊥
-IsFlatStop fault NoMemory = Unit {0}
+-- A flat circuit, as what its text is accepted as.
+abbrev pub circuit_in : Flat → FlatCircuit
+circuit_in flat = record { wiring = flat.circuit; ports = flat.ports.list; nodes = flat.nodes; homes = flat.homes }
 
--- A script for the ports of a circuit of the form, in its one file.
-abbrev pub ReadsScript : Plainest → List Content → Script → Type 0
-ReadsScript form (text bytes ∷ []) script = SaysScript form.parameters bytes script.components
-ReadsScript form _ script = ⊥
+-- And with a script.
+abbrev pub runnable_in : Flat → Script → Runnable
+runnable_in flat script = record { flat = circuit_in flat; script = script }
 
-abbrev pub StopsScript : Plainest → List Content → Stop → Type 0
-StopsScript form (file ∷ []) stop = FileStops roles.Script (ScriptStops (ports_of form)) file stop
-StopsScript form _ stop = ⊥
+-- What scripts and runs ask of the ports of a circuit.
+pub record HasItsPorts (w : Wiring Kind) (ports : List Port) : Type 0 where
+  pub count : w.ports ≡ length ports
+  pub has : HasPorts (map port_state_of w.primitives) ports
+  pub free : AreFree (map port_state_of w.primitives)
+  pub names : ArePortsOf ports
+
+-- A script for these ports, in its one file.
+abbrev pub ReadsScript : List Port → List Content → Script → Type 0
+ReadsScript ports (text bytes ∷ []) script = Answers bytes ports (Ok script)
+ReadsScript ports _ script = ⊥
+
+abbrev pub StopsScript : List Port → List Content → Stop → Type 0
+StopsScript ports (file ∷ []) stop = FileStops roles.Script (ScriptStops ports) file stop
+StopsScript ports _ stop = ⊥
 
 -- The file of a script was fetched, and is read so.
-abbrev pub IsScriptRead : Plainest → List (List ℕ) → Change FilesState → Result Script Stop → Type 0
-IsScriptRead form names files result = IsReadFrom (ReadsScript form) (StopsScript form) (roles.Script ∷ []) names files result
+abbrev pub IsScriptRead : List Port → List (List ℕ) → Change FilesState → Result Script Stop → Type 0
+IsScriptRead ports names files result = IsReadFrom (ReadsScript ports) (StopsScript ports) (roles.Script ∷ []) names files result

@@ -11,6 +11,10 @@ use Rattle.reo_trees.specs.Says.{SaysProgram}
 use Rattle.reo_rules_base.specs.declared.fault.FlatFault.{FlatFault}
 use Rattle.reo_rules_base.specs.declared.fault.FlatFault.TheVariants as rules
 use Rattle.reo_flatten_base.specs.Refusals.{IsRefused}
+use Rattle.reo_net_base.specs.declared.port.Port.{Port}
+use Rattle.reo_script_base.specs.declared.fault.ScriptFault.{ScriptFault}
+use Rattle.reo_script_base.specs.declared.fault.ScriptFault.TheVariants as scripts
+use Rattle.reo_script_base.specs.ScriptAnswers.{Answers as ScriptAnswers}
 use Rattle.reo_top.specs.declared.refusal.Refusal.{Refusal}
 
 -- A cause on a line.
@@ -49,6 +53,17 @@ flat_refusal rules.TooMany = on_no_line (codes "too many")
 flat_refusal (rules.Cycle node) = on_no_line (codes "cycle " ++ node)
 flat_refusal rules.NoMemory = None
 
+-- The refusal of a script text, for the ports of its circuit. Out of memory is none.
+abbrev pub script_refusal : ScriptFault → Option Refusal
+script_refusal (scripts.Lex fault) = lex_refusal fault
+script_refusal (scripts.Syntax line) = on_line line (codes "syntax")
+script_refusal (scripts.TooDeep line) = on_line line (codes "too deep")
+script_refusal (scripts.NoPort line name) = on_line line (codes "no port " ++ name)
+script_refusal (scripts.WrongWay line name) = on_line line (codes "wrong way " ++ name)
+script_refusal (scripts.ItemOutside line) = on_line line (codes "outside")
+script_refusal (scripts.Shared line name) = on_line line (codes "shared " ++ name)
+script_refusal scripts.NoMemory = None
+
 -- Where the cause is.
 abbrev pub line_text : Option ℕ → List ℕ
 line_text None = []
@@ -65,3 +80,7 @@ RefusesProgram text r = (fault : ParseFault) × Answers text (Err fault) × (par
 -- The text says a program that breaks a rule, and is refused so.
 abbrev pub RefusesCircuit : List ℕ → Refusal → Type 0
 RefusesCircuit text r = (program : Program) × (fault : FlatFault) × SaysProgram text program × IsRefused program fault × (flat_refusal fault ≡ Some r)
+
+-- The text says no script for these ports, and is refused so.
+abbrev pub RefusesScript : List Port → List ℕ → Refusal → Type 0
+RefusesScript ports text r = (fault : ScriptFault) × ScriptAnswers text ports (Err fault) × (script_refusal fault ≡ Some r)

@@ -32,6 +32,10 @@ circuit_refused = 5
 abbrev pub script_refused : ℕ
 script_refused = 6
 
+-- A part of the round that stood next is over: its weight is above the budget, or it is too wide.
+abbrev pub part_over : ℕ
+part_over = 7
+
 -- The limit of rounds is reached.
 abbrev pub limit_reached : ℕ
 limit_reached = 8
@@ -44,17 +48,13 @@ write_fault = 9
 abbrev pub out_of_memory : ℕ
 out_of_memory = 10
 
--- A circuit or a script does not have the form that runs.
-abbrev pub not_built : ℕ
-not_built = 12
-
 -- The statuses of a command that reads a circuit.
 abbrev pub circuit_statuses : List ℕ
 circuit_statuses = read_fault ∷ too_long ∷ circuit_refused ∷ write_fault ∷ out_of_memory ∷ []
 
 -- The statuses of a command.
 abbrev pub statuses_of : Command → List ℕ
-statuses_of Run = done ∷ stuck ∷ limit_reached ∷ not_built ∷ circuit_statuses
+statuses_of Run = done ∷ stuck ∷ script_refused ∷ part_over ∷ limit_reached ∷ circuit_statuses
 statuses_of Check = done ∷ circuit_statuses
 statuses_of Print = done ∷ circuit_statuses
 

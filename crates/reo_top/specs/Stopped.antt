@@ -1,7 +1,7 @@
 -- What was written for what stopped a command.
 use Rattle.std.specs.Prelude.{ℕ, ◌⊎◌}
 use Rattle.reo_top.specs.declared.stop.Stop.{Stop}
-use Rattle.reo_top.specs.declared.stop.Stop.TheVariants.{Missed, TooLong, Refused, NotBuilt, NoMemory}
+use Rattle.reo_top.specs.declared.stop.Stop.TheVariants.{Missed, TooLong, Refused, NoMemory}
 use Rattle.reo_top.specs.Cases.{Refuses, EndsWithNoMemory}
 use Rattle.reo_top.specs.States.{SinkState, Change}
 use Rattle.reo_top.specs.Stops.{stop_text, stop_status}
@@ -11,5 +11,4 @@ abbrev pub IsRefusedAs : Stop → Change SinkState → ℕ → Type 0
 IsRefusedAs (Missed role) sink code = Refuses (stop_text (Missed role)) (stop_status (Missed role)) sink code
 IsRefusedAs (TooLong role) sink code = Refuses (stop_text (TooLong role)) (stop_status (TooLong role)) sink code
 IsRefusedAs (Refused role r) sink code = Refuses (stop_text (Refused role r)) (stop_status (Refused role r)) sink code ⊎ EndsWithNoMemory sink code
-IsRefusedAs (NotBuilt role) sink code = Refuses (stop_text (NotBuilt role)) (stop_status (NotBuilt role)) sink code
 IsRefusedAs NoMemory sink code = EndsWithNoMemory sink code

@@ -2,18 +2,17 @@
 use Rattle.std.specs.Prelude.{ℕ, ◌≡◌, ◌++◌, List, codes}
 use Rattle.reo_top.specs.declared.role.Role.{Role}
 use Rattle.reo_top.specs.declared.stop.Stop.{Stop}
-use Rattle.reo_top.specs.declared.stop.Stop.TheVariants.{Missed, TooLong, Refused, NotBuilt, NoMemory}
+use Rattle.reo_top.specs.declared.stop.Stop.TheVariants.{Missed, TooLong, Refused, NoMemory}
 use Rattle.reo_top.specs.Fetched.{Content, gone, long, text, unknown}
 use Rattle.reo_top.specs.Refusals.{refusal_text}
 use Rattle.reo_top.specs.Roles.{role_text, refused_status}
-use Rattle.reo_top.specs.Statuses.{read_fault, too_long, not_built, out_of_memory}
+use Rattle.reo_top.specs.Statuses.{read_fault, too_long, out_of_memory}
 
 -- The line of a stop.
 abbrev pub stop_text : Stop → List ℕ
 stop_text (Missed role) = codes "read fault " ++ role_text role ++ codes "\n"
 stop_text (TooLong role) = codes "too long " ++ role_text role ++ codes "\n"
 stop_text (Refused role refusal) = role_text role ++ codes " refused: " ++ refusal_text refusal ++ codes "\n"
-stop_text (NotBuilt role) = codes "not built " ++ role_text role ++ codes "\n"
 stop_text NoMemory = codes "no memory\n"
 
 -- The status of a stop.
@@ -21,7 +20,6 @@ abbrev pub stop_status : Stop → ℕ
 stop_status (Missed role) = read_fault
 stop_status (TooLong role) = too_long
 stop_status (Refused role refusal) = refused_status role
-stop_status (NotBuilt role) = not_built
 stop_status NoMemory = out_of_memory
 
 -- The file of a role stops the command: it cannot be had, is too long, or its text does.

@@ -8,7 +8,8 @@ use reo_io::{Sink, put_all};
 
 /// Writes a text whole, and answers this status: 9 where the sink does not take it whole.
 pub(crate) fn answer<S: Sink>(text: &[u8], status: u8, out: &mut S) -> Status
-    ensures answers { Refuses text.now status (sink_change S.told S.faults out.old out.new) result.code }
+    ensures answers { Refuses text.now status
+        (sink_change S.told S.faults out.old out.new) result.code }
     ensures fair { (status ≡ 9) ⊎ IsFair (sink_change S.told S.faults out.old out.new) result.code }
 {
     match put_all(text, out) {

@@ -4,9 +4,10 @@ ghost use Rattle.reo_top.specs.declared.command.Command.TheVariants as commands;
 ghost use Rattle.reo_top.specs.declared.role.Role.TheVariants as roles;
 ghost use Rattle.reo_top.specs.Answers.{IsAnswered};
 ghost use Rattle.reo_top.specs.Cases.{Cases, IsExact, IsFair};
-ghost use Rattle.reo_top.specs.Checked.{named_by};
 ghost use Rattle.reo_top.specs.Commands.{is_free};
-ghost use Rattle.reo_top.specs.Owed.{ListsParts, owed_of};
+ghost use Rattle.reo_top.specs.Owed.{ListsParts, owed_by};
+ghost use Rattle.reo_top.specs.Readings.{ReadsCircuit, StopsCheck};
+ghost use Rattle.reo_top.specs.ReadSteps.{circuit_in};
 ghost use Rattle.reo_top.specs.States.{files_change, sink_change};
 ghost use Rattle.reo_top.specs.Statuses.{IsAmong, statuses_of};
 
@@ -22,9 +23,9 @@ use std::alloc::Global;
 /// Writes the parts of a circuit.
 fn write_parts<S: Sink>(alloc: Global, flat: &Flat, out: &mut S) -> Status
     requires { length flat.now.homes ≡ length flat.now.circuit.joints }
-    ensures cases { Cases (ListsParts (named_by flat.now.circuit flat.now.nodes flat.now.homes))
+    ensures cases { Cases (ListsParts (circuit_in flat.now))
         (sink_change S.told S.faults out.old out.new) result.code }
-    ensures exact { IsExact (ListsParts (named_by flat.now.circuit flat.now.nodes flat.now.homes))
+    ensures exact { IsExact (ListsParts (circuit_in flat.now))
         (sink_change S.told S.faults out.old out.new) result.code }
     ensures fair { IsFair (sink_change S.told S.faults out.old out.new) result.code }
 {
@@ -42,7 +43,8 @@ pub(crate) fn check_circuit<F: Files, S: Sink>(
     files: &mut F,
     out: &mut S,
 ) -> Status
-    ensures answered { IsAnswered (is_free commands.Check) (owed_of commands.Check)
+    ensures answered { IsAnswered (is_free commands.Check)
+        (owed_by ReadsCircuit StopsCheck ListsParts)
         (roles.Circuit ∷ []) (name.now ∷ [])
         (files_change F.told F.failed F.fetches files.old files.new)
         (sink_change S.told S.faults out.old out.new) result.code }

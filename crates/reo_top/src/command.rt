@@ -1,13 +1,14 @@
 //! The commands, and their words.
-ghost use Rattle.std.specs.Prelude.{◌≡◌, ℕ, List as Items, length};
-ghost use Rattle.reo_top.specs.Commands.{command_of, command_word, are_names, is_form, fits, roles_of};
+ghost use Rattle.std.specs.Prelude.{◌≡◌, ℕ, List as Items, drop, length};
+ghost use Rattle.reo_top.specs.Commands.{command_of, command_word, none_empty, are_names, follows, is_form, fits, roles_of, settings_of, others_of};
 
+use crate::setting::{Setting, are_options};
 use reo_values::Bytes;
 
 /// A command.
 #[derive(Clone, Copy, Debug, PartialEq, Eq)]
 pub enum Command {
-    /// `run CIRCUIT SCRIPT` writes the trace of the script on the circuit.
+    /// `run CIRCUIT SCRIPT [--rounds N]` writes the trace of the script on the circuit.
     Run,
     /// `check CIRCUIT` writes the parts of the circuit.
     Check,
@@ -39,24 +40,52 @@ impl Command {
             Command::Check | Command::Print => 1,
         }
     }
+
+    /// The options of the command, in order.
+    pub(crate) fn settings(self) -> &'static [Setting]
+        ensures { result.now ≡ settings_of self }
+    {
+        match self {
+            Command::Run => &[Setting::Rounds],
+            Command::Check | Command::Print => &[],
+        }
+    }
 }
 
 /// Whether none of these words is empty.
-fn are_names(words: &[Bytes]) -> bool
-    ensures { result ≡ are_names words.now }
+fn none_empty(words: &[Bytes]) -> bool
+    ensures { result ≡ none_empty words.now }
 {
     words.iter().all(|word| !word.is_empty())
 }
 
-/// Whether these are the words of a command: its own, and a name for each of its files.
+/// Whether these words are so many, and none of them is empty.
+fn are_names(count: usize, words: &[Bytes]) -> bool
+    ensures { result ≡ are_names count words.now }
+{
+    words.len() == count && none_empty(words)
+}
+
+/// Whether the words behind the first are names for a command's files and its options.
+fn follow(command: Command, others: &[Bytes]) -> bool
+    ensures { result ≡ follows (length (roles_of command)) (settings_of command) others.now }
+{
+    let count = command.files();
+    match (others.get(..count), others.get(count..)) {
+        (Some(names), Some(options)) => are_names(count, names)
+            && are_options(command.settings(), options),
+        _ => false,
+    }
+}
+
+/// Whether these are the words of a command: its own, a name for each of its files, and its
+/// options.
 fn fits(words: &[Bytes], command: Command) -> bool
     ensures { result ≡ fits words.now command }
 {
     match words {
         [] => false,
-        [first, names @ ..] => {
-            first.as_slice() == command.word() && names.len() == command.files() && are_names(names)
-        }
+        [first, others @ ..] => first.as_slice() == command.word() && follow(command, others),
     }
 }
 
@@ -68,4 +97,11 @@ pub fn command_of(words: &[Bytes]) -> Option<Command>
         .iter()
         .find(|command| fits(words, **command))
         .copied()
+}
+
+/// The words of the options of a command, in words that have its form.
+pub(crate) fn options_of(command: Command, words: &[Bytes]) -> &[Bytes]
+    ensures { result.now ≡ drop (length (roles_of command)) (others_of words.now) }
+{
+    words.get(1 + command.files()..).unwrap_or(&[])
 }

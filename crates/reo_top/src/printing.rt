@@ -5,7 +5,8 @@ ghost use Rattle.reo_top.specs.declared.role.Role.TheVariants as roles;
 ghost use Rattle.reo_top.specs.Answers.{IsAnswered};
 ghost use Rattle.reo_top.specs.Cases.{Cases, IsExact, IsFair};
 ghost use Rattle.reo_top.specs.Commands.{is_free};
-ghost use Rattle.reo_top.specs.Owed.{PrintsProgram, owed_of};
+ghost use Rattle.reo_top.specs.Owed.{PrintsProgram, owed_by};
+ghost use Rattle.reo_top.specs.Readings.{ReadsProgram, StopsPrint};
 ghost use Rattle.reo_top.specs.States.{files_change, sink_change};
 ghost use Rattle.reo_top.specs.Statuses.{IsAmong, statuses_of};
 
@@ -20,8 +21,10 @@ use std::alloc::Global;
 
 /// Writes the canonical text of a program.
 fn write_text<S: Sink>(alloc: Global, program: &Program, out: &mut S) -> Status
-    ensures cases { Cases (PrintsProgram program.now) (sink_change S.told S.faults out.old out.new) result.code }
-    ensures exact { IsExact (PrintsProgram program.now) (sink_change S.told S.faults out.old out.new) result.code }
+    ensures cases { Cases (PrintsProgram program.now)
+        (sink_change S.told S.faults out.old out.new) result.code }
+    ensures exact { IsExact (PrintsProgram program.now)
+        (sink_change S.told S.faults out.old out.new) result.code }
     ensures fair { IsFair (sink_change S.told S.faults out.old out.new) result.code }
 {
     match print(alloc, program) {
@@ -37,7 +40,9 @@ pub(crate) fn print_circuit<F: Files, S: Sink>(
     files: &mut F,
     out: &mut S,
 ) -> Status
-    ensures answered { IsAnswered (is_free commands.Print) (owed_of commands.Print) (roles.Circuit ∷ []) (name.now ∷ [])
+    ensures answered { IsAnswered (is_free commands.Print)
+        (owed_by ReadsProgram StopsPrint PrintsProgram)
+        (roles.Circuit ∷ []) (name.now ∷ [])
         (files_change F.told F.failed F.fetches files.old files.new)
         (sink_change S.told S.faults out.old out.new) result.code }
     ensures status { IsAmong (statuses_of commands.Print) result.code }

@@ -1,10 +1,11 @@
 //! Why texts are refused, for all layers alike.
 ghost use Rattle.std.specs.Prelude.{◌≡◌, ◌++◌, IfOk, OnOk, Some};
-ghost use Rattle.reo_top.specs.Refusals.{on_line, on_no_line, parse_refusal, flat_refusal, line_text, refusal_text};
+ghost use Rattle.reo_top.specs.Refusals.{on_line, on_no_line, lex_refusal, parse_refusal, flat_refusal, script_refusal, line_text, refusal_text};
 
 use reo_lexer::LexFault;
 use reo_parser::ParseFault;
 use reo_rules_base::FlatFault;
+use reo_script_base::ScriptFault;
 use reo_values::{Bytes, NoMemory};
 use std::alloc::Global;
 
@@ -28,19 +29,27 @@ fn on_line(alloc: Global, line: u32, words: &[u8]) -> Result<Refusal, NoMemory>
     })
 }
 
-/// Why a circuit text is refused, by the fault that it has. `NoMemory` is out of memory.
-pub(crate) fn parse_refusal(alloc: Global, fault: ParseFault) -> Result<Refusal, NoMemory>
-    ensures { IfOk result (λ refusal. parse_refusal fault ≡ Some refusal) }
+/// Why a text without tokens is refused. `NoMemory` is out of memory.
+fn lex_refusal(alloc: Global, fault: &LexFault) -> Result<Refusal, NoMemory>
+    ensures { IfOk result (λ refusal. lex_refusal fault.now ≡ Some refusal) }
 {
     match fault {
-        ParseFault::Lex(LexFault::BadByte { line }) => on_line(alloc, line, b"bad byte"),
-        ParseFault::Lex(LexFault::OpenText { line }) => on_line(alloc, line, b"open text"),
-        ParseFault::Lex(LexFault::NumberTooLong { line }) => {
-            on_line(alloc, line, b"number too long")
-        }
-        ParseFault::Syntax { line } => on_line(alloc, line, b"syntax"),
-        ParseFault::TooDeep { line } => on_line(alloc, line, b"too deep"),
-        ParseFault::Lex(LexFault::NoMemory) | ParseFault::NoMemory => Err(NoMemory),
+        LexFault::BadByte { line } => on_line(alloc, *line, b"bad byte"),
+        LexFault::OpenText { line } => on_line(alloc, *line, b"open text"),
+        LexFault::NumberTooLong { line } => on_line(alloc, *line, b"number too long"),
+        LexFault::NoMemory => Err(NoMemory),
+    }
+}
+
+/// Why a circuit text is refused, by the fault that it has. `NoMemory` is out of memory.
+pub(crate) fn parse_refusal(alloc: Global, fault: &ParseFault) -> Result<Refusal, NoMemory>
+    ensures { IfOk result (λ refusal. parse_refusal fault.now ≡ Some refusal) }
+{
+    match fault {
+        ParseFault::Lex(fault) => lex_refusal(alloc, fault),
+        ParseFault::Syntax { line } => on_line(alloc, *line, b"syntax"),
+        ParseFault::TooDeep { line } => on_line(alloc, *line, b"too deep"),
+        ParseFault::NoMemory => Err(NoMemory),
     }
 }
 
@@ -103,6 +112,28 @@ pub(crate) fn flat_refusal(alloc: Global, fault: &FlatFault) -> Result<Refusal, 
         FlatFault::TooMany => on_no_line(alloc, b"too many"),
         FlatFault::Cycle { node } => two_on_no_line(alloc, b"cycle ", node.as_slice()),
         FlatFault::NoMemory => Err(NoMemory),
+    }
+}
+
+/// Why a script text is refused, by the fault that it has. `NoMemory` is out of memory.
+pub(crate) fn script_refusal(alloc: Global, fault: &ScriptFault) -> Result<Refusal, NoMemory>
+    ensures { IfOk result (λ refusal. script_refusal fault.now ≡ Some refusal) }
+{
+    match fault {
+        ScriptFault::Lex(fault) => lex_refusal(alloc, fault),
+        ScriptFault::Syntax { line } => on_line(alloc, *line, b"syntax"),
+        ScriptFault::TooDeep { line } => on_line(alloc, *line, b"too deep"),
+        ScriptFault::NoPort { line, name } => {
+            two_on_line(alloc, *line, b"no port ", name.as_slice())
+        }
+        ScriptFault::WrongWay { line, name } => {
+            two_on_line(alloc, *line, b"wrong way ", name.as_slice())
+        }
+        ScriptFault::ItemOutside { line } => on_line(alloc, *line, b"outside"),
+        ScriptFault::Shared { line, name } => {
+            two_on_line(alloc, *line, b"shared ", name.as_slice())
+        }
+        ScriptFault::NoMemory => Err(NoMemory),
     }
 }
 

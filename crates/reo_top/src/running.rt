@@ -1,55 +1,65 @@
 //! A circuit and a script that are fetched and read, and their run.
-ghost use Rattle.std.specs.Prelude.{[], ◌∷◌};
-ghost use Rattle.reo_net_base.specs.First.{IsFirst};
-ghost use Rattle.reo_forms.specs.CircuitForm.{IsPlainest};
-ghost use Rattle.reo_forms.specs.ScriptForm.{IsPlainScript};
+ghost use Rattle.std.specs.Prelude.{[], ◌∷◌, ◌≤◌, ◌^◌, map};
+ghost use Rattle.reo_net_base.specs.Net.{net_of};
+ghost use Rattle.reo_kinds.specs.Kinds.{behaviour_of, port_state_of};
+ghost use Rattle.reo_runs.specs.Whole.{HasOrder};
+ghost use Rattle.reo_runner.specs.Runnable.{CanRun};
 ghost use Rattle.reo_top.specs.declared.command.Command.TheVariants as commands;
 ghost use Rattle.reo_top.specs.declared.role.Role.TheVariants as roles;
 ghost use Rattle.reo_top.specs.Answers.{IsAnswered};
 ghost use Rattle.reo_top.specs.Cases.{Cases, IsExact, IsFair};
 ghost use Rattle.reo_top.specs.Commands.{is_free};
-ghost use Rattle.reo_top.specs.Owed.{owed_of};
-ghost use Rattle.reo_top.specs.Readings.{runnable_of};
+ghost use Rattle.reo_top.specs.Owed.{TracesRun, owed_by};
+ghost use Rattle.reo_top.specs.Readings.{ReadsRun, StopsRun};
+ghost use Rattle.reo_top.specs.ReadSteps.{runnable_in};
 ghost use Rattle.reo_top.specs.States.{files_change, sink_change};
 ghost use Rattle.reo_top.specs.Statuses.{IsAmong, statuses_of};
-ghost use Rattle.reo_top.specs.Traces.{IsTraceOf};
 
 use crate::answer::no_memory;
-use crate::reading::{Plain, read_run};
-use crate::status::{DONE, LIMIT_REACHED, STUCK, Status, WRITE_FAULT};
+use crate::reading::{Work, read_run};
+use crate::status::{DONE, LIMIT_REACHED, PART_OVER, STUCK, Status, WRITE_FAULT};
 use crate::stop::refuse;
-use reo_build::{build, script_fits};
 use reo_io::{Files, Sink};
 use reo_kinds::Kind;
-use reo_runner::{End2, known_order, one_trace, run};
+use reo_net_circuit::Circuit;
+use reo_runner::{End2, Limits, run};
+use reo_runs::one_trace;
 use std::alloc::Global;
 
-/// The most rounds of a run.
-const ROUNDS: u64 = 100_000;
+/// What holds of each circuit: its joints have an order.
+fn known_order(circuit: &Circuit<Kind>)
+    ensures { HasOrder (net_of behaviour_of circuit.now) }
+{
+    circuit.known();
+    let _order = circuit.order();
+}
 
 /// Runs a script on a circuit, and writes the trace.
-fn write_trace<S: Sink>(alloc: Global, plain: &Plain, out: &mut S) -> Status
-    requires form { IsPlainest plain.now.form }
-    requires script { IsPlainScript plain.now.form.parameters plain.now.script.components }
-    ensures cases { Cases (IsTraceOf IsFirst (runnable_of plain.now.form plain.now.script.components))
+fn write_trace<S: Sink>(alloc: Global, work: Work, limits: Limits, out: &mut S) -> Status
+    requires some_budget { 1 ≤ limits.budget }
+    requires small_budget { limits.budget ≤ 10 ^ 9 }
+    requires some_round { 1 ≤ limits.rounds }
+    requires few_rounds { limits.rounds ≤ 10 ^ 9 }
+    requires fit { CanRun (map port_state_of work.flat.circuit.primitives)
+        work.flat.circuit.ports work.flat.ports.list work.script.components }
+    ensures cases { Cases (TracesRun limits (runnable_in work.flat work.script))
         (sink_change S.told S.faults out.old out.new) result.code }
-    ensures exact { IsExact (IsTraceOf IsFirst (runnable_of plain.now.form plain.now.script.components))
+    ensures exact { IsExact (TracesRun limits (runnable_in work.flat work.script))
         (sink_change S.told S.faults out.old out.new) result.code }
     ensures fair { IsFair (sink_change S.told S.faults out.old out.new) result.code }
 {
-    script_fits();
-    let Ok(flat) = build(alloc, &plain.form) else {
-        return no_memory(out);
-    };
+    let Work { flat, script } = work;
     known_order(&flat.circuit);
     one_trace::<Kind>();
-    let outcome = run(alloc, flat.circuit, &flat.ports, &plain.script, ROUNDS, out);
+    let outcome = run(alloc, flat, script, limits, out);
     match outcome.end {
         End2::Done => Status { code: DONE },
         End2::Stuck => Status { code: STUCK },
         End2::Limit => Status {
             code: LIMIT_REACHED,
         },
+        End2::Spent { .. } => Status { code: PART_OVER },
+        End2::Wide { .. } => Status { code: PART_OVER },
         End2::WriteFault => Status { code: WRITE_FAULT },
         End2::NoMemory => no_memory(out),
     }
@@ -60,10 +70,16 @@ pub(crate) fn run_circuit<F: Files, S: Sink>(
     alloc: Global,
     circuit: &[u8],
     script: &[u8],
+    limits: Limits,
     files: &mut F,
     out: &mut S,
 ) -> Status
-    ensures answered { IsAnswered (is_free commands.Run) (owed_of commands.Run)
+    requires some_budget { 1 ≤ limits.budget }
+    requires small_budget { limits.budget ≤ 10 ^ 9 }
+    requires some_round { 1 ≤ limits.rounds }
+    requires few_rounds { limits.rounds ≤ 10 ^ 9 }
+    ensures answered { IsAnswered (is_free commands.Run)
+        (owed_by ReadsRun StopsRun (TracesRun limits))
         (roles.Circuit ∷ roles.Script ∷ []) (circuit.now ∷ script.now ∷ [])
         (files_change F.told F.failed F.fetches files.old files.new)
         (sink_change S.told S.faults out.old out.new) result.code }
@@ -71,7 +87,7 @@ pub(crate) fn run_circuit<F: Files, S: Sink>(
     ensures fair { IsFair (sink_change S.told S.faults out.old out.new) result.code }
 {
     match read_run(alloc, circuit, script, files) {
-        Ok(plain) => write_trace(alloc, &plain, out),
+        Ok(work) => write_trace(alloc, work, limits, out),
         Err(stop) => refuse(alloc, stop, out),
     }
 }

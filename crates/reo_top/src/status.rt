@@ -27,6 +27,9 @@ pub(crate) const CIRCUIT_REFUSED: u8 = 5;
 /// The text of a script is refused.
 pub(crate) const SCRIPT_REFUSED: u8 = 6;
 
+/// A part of the round that stood next is over.
+pub(crate) const PART_OVER: u8 = 7;
+
 /// The limit of rounds is reached.
 pub(crate) const LIMIT_REACHED: u8 = 8;
 
@@ -35,6 +38,3 @@ pub(crate) const WRITE_FAULT: u8 = 9;
 
 /// Out of memory.
 pub(crate) const OUT_OF_MEMORY: u8 = 10;
-
-/// A circuit or a script does not have the form that runs.
-pub(crate) const NOT_BUILT: u8 = 12;

@@ -2,7 +2,7 @@
 ghost use Rattle.std.specs.Prelude.{◌≡◌, IfOk};
 ghost use Rattle.reo_top.specs.Cases.{IsFair};
 ghost use Rattle.reo_top.specs.States.{sink_change};
-ghost use Rattle.reo_top.specs.Statuses.{read_fault, too_long, not_built};
+ghost use Rattle.reo_top.specs.Statuses.{read_fault, too_long};
 ghost use Rattle.reo_top.specs.Stopped.{IsRefusedAs};
 ghost use Rattle.reo_top.specs.Stops.{stop_text};
 ghost use Rattle.reo_top.specs.declared.stop.Stop.TheVariants as stops;
@@ -10,7 +10,7 @@ ghost use Rattle.reo_top.specs.declared.stop.Stop.TheVariants as stops;
 use crate::answer::{answer, no_memory};
 use crate::refusal::{Refusal, append_refusal};
 use crate::role::Role;
-use crate::status::{NOT_BUILT, READ_FAULT, Status, TOO_LONG};
+use crate::status::{READ_FAULT, Status, TOO_LONG};
 use reo_io::Sink;
 use reo_values::{Bytes, NoMemory};
 use std::alloc::Global;
@@ -24,8 +24,6 @@ pub(crate) enum Stop {
     TooLong(Role),
     /// The text of a file is refused.
     Refused(Role, Refusal),
-    /// A circuit or a script does not have the form that runs.
-    NotBuilt(Role),
     /// Out of memory.
     NoMemory,
 }
@@ -50,16 +48,6 @@ fn long_line(role: Role) -> &'static [u8]
     }
 }
 
-/// The line of a file whose text does not have the form that runs.
-fn unbuilt_line(role: Role) -> &'static [u8]
-    ensures { result.now ≡ stop_text (stops.NotBuilt role) }
-{
-    match role {
-        Role::Circuit => b"not built circuit\n",
-        Role::Script => b"not built script\n",
-    }
-}
-
 /// The line of a file whose text is refused. `NoMemory` is out of memory.
 fn refused_line(alloc: Global, role: Role, refusal: &Refusal) -> Result<Bytes, NoMemory>
     ensures { IfOk result (λ line. line ≡ stop_text (stops.Refused role refusal.now)) }
@@ -79,7 +67,6 @@ pub(crate) fn refuse<S: Sink>(alloc: Global, stop: Stop, out: &mut S) -> Status
     match stop {
         Stop::Missed(role) => answer(missed_line(role), READ_FAULT, out),
         Stop::TooLong(role) => answer(long_line(role), TOO_LONG, out),
-        Stop::NotBuilt(role) => answer(unbuilt_line(role), NOT_BUILT, out),
         Stop::Refused(role, refusal) => match refused_line(alloc, role, &refusal) {
             Ok(line) => answer(line.as_slice(), role.refused_status(), out),
             Err(_) => no_memory(out),

@@ -1,19 +1,21 @@
 //! The top call.
 ghost use Rattle.std.specs.Prelude.{◌≡◌, [], slice_index_or};
 ghost use Rattle.reo_top.specs.Answers.{Answered, IsHonest, KeepsInputs};
+ghost use Rattle.reo_top.specs.Complete.{Complete};
 ghost use Rattle.reo_top.specs.Headline.{Headline};
 ghost use Rattle.reo_top.specs.States.{files_change, sink_change};
 
 use crate::answer::answer;
 use crate::checking::check_circuit;
 use crate::command::{Command, command_of};
+use crate::limit::limits_of;
 use crate::printing::print_circuit;
 use crate::running::run_circuit;
 use crate::status::{Status, WORDS_REFUSED};
-use reo_build::is_sound;
+use reo_flatten_laws::{circuits_are_made, names_are_plain};
 use reo_io::{Files, Sink, Source};
 use reo_kinds::Kind;
-use reo_runner::runs_are_justified;
+use reo_runs::runs_are_justified;
 use reo_values::{Bytes, List};
 use std::alloc::Global;
 
@@ -31,8 +33,9 @@ fn word_at(words: &[Bytes], place: usize) -> &[u8]
 ///
 /// The headline: for every circuit and script that are accepted the bytes written are a trace
 /// whose every round is the first colouring, is idle only where no colouring flows, and jams only
-/// what has no three-colouring. Else a fetch failed, the sink failed or memory ran out, and
-/// the status says so.
+/// what has no three-colouring, up to the ending of the run. Else a fetch failed, the sink failed
+/// or memory ran out, and the status says so. Where nothing failed, the whole trace was written,
+/// with the status of its ending, or memory ran out.
 pub fn reo<F: Files, R: Source, S: Sink>(
     alloc: Global,
     words: &List<Bytes>,
@@ -42,6 +45,8 @@ pub fn reo<F: Files, R: Source, S: Sink>(
 ) -> Status
     ensures headline { let files = files_change F.told F.failed F.fetches files.old files.new in
         Headline words.now files (sink_change S.told S.faults out.old out.new) result.code }
+    ensures complete { let files = files_change F.told F.failed F.fetches files.old files.new in
+        Complete words.now files (sink_change S.told S.faults out.old out.new) result.code }
     ensures answer { let files = files_change F.told F.failed F.fetches files.old files.new in
         Answered words.now files (sink_change S.told S.faults out.old out.new) result.code }
     ensures honest { IsHonest words.now (sink_change S.told S.faults out.old out.new) result.code }
@@ -49,12 +54,21 @@ pub fn reo<F: Files, R: Source, S: Sink>(
         KeepsInputs files source.old source.new }
 {
     let _ = source;
-    is_sound();
+    circuits_are_made();
+    names_are_plain();
     runs_are_justified::<Kind>();
     let words = words.as_slice();
     match command_of(words) {
         Some(Command::Run) => {
-            run_circuit(alloc, word_at(words, 1), word_at(words, 2), files, out)
+            let limits = limits_of(words);
+            run_circuit(
+                alloc,
+                word_at(words, 1),
+                word_at(words, 2),
+                limits,
+                files,
+                out,
+            )
         }
         Some(Command::Check) => check_circuit(alloc, word_at(words, 1), files, out),
         Some(Command::Print) => print_circuit(alloc, word_at(words, 1), files, out),

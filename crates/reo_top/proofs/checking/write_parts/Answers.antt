@@ -1,7 +1,7 @@
-use Rattle.reo_top.specs.Checked.{named_by}
 use Rattle.reo_top.specs.Owed.{ListsParts}
+use Rattle.reo_top.specs.ReadSteps.{circuit_in}
 use Rattle.reo_top.proofs.CaseLemmas.{no_memory_cases}
 use Rattle.reo_top.proofs.checking.write_parts.Goals as goal
 
 pub returns-in-Err-clause-cases : goal.returns-in-Err-clause-cases
-returns-in-Err-clause-cases g c = no_memory_cases _ _ (ListsParts (named_by c.args.flat.now.circuit c.args.flat.now.nodes c.args.flat.now.homes)) c.no_memory.ensures.says
+returns-in-Err-clause-cases g c = no_memory_cases _ _ (ListsParts (circuit_in c.args.flat.now)) c.no_memory.ensures.says

@@ -1,64 +1,63 @@
-use Rattle.std.proofs.Common.{subst}
-use Rattle.reo_net_base.specs.First.{IsFirst}
-use Rattle.reo_runner.specs.declared.outcome.End2.{End2}
-use Rattle.reo_runner.specs.Outcome.{ByEnd}
-use Rattle.reo_runner.specs.Run.{start_of}
-use Rattle.reo_trace.specs.declared.line.Ending.TheVariants.{Done, Stuck, Limit}
-use Rattle.reo_top.specs.Readings.{Runnable, runnable_of}
+use Rattle.std.proofs.Common.{◌+◌, length}
+use Rattle.reo_runner.specs.declared.outcome.End2.TheVariants as ends
+use Rattle.reo_trace.specs.declared.line.Ending.TheVariants.{Done, Stuck, Limit, Spent, Wide}
+use Rattle.reo_top.specs.Readings.{Runnable}
+use Rattle.reo_top.specs.ReadSteps.{runnable_in}
 use Rattle.reo_top.specs.States.{SinkState, sink_change}
-use Rattle.reo_top.specs.Traces.{kind_rules, most_rounds, IsTraceOf}
-use Rattle.reo_top.proofs.CaseLemmas.{no_memory_cases}
-use Rattle.reo_top.proofs.RunLemmas.{ran_exact, cut_cases, kept_cases, fair_after}
+use Rattle.reo_top.proofs.RunLemmas.{start_for, came_as, ran_exact, cut_cases, kept_cases, kept_fair}
 use Rattle.reo_top.proofs.running.write_trace.Goals as goal
-
-pub returns-in_default-clause-cases : goal.returns-in_default-clause-cases
-returns-in_default-clause-cases g c = no_memory_cases _ _ (IsTraceOf IsFirst (runnable_of c.args.plain.now.form c.args.plain.now.script.components)) c.no_memory.ensures.says
-
-pub run-outcome-requires-clause-script : goal.run-outcome-requires-clause-script
-run-outcome-requires-clause-script g c = rw c.in-Ok.ensures.circuit (c.script_fits.ensures c.args.plain.now.form c.args.plain.now.script.components c.requires.form c.requires.script)
 
 pub returns-in-Done-clause-exact : goal.returns-in-Done-clause-exact
 returns-in-Done-clause-exact g c =
-    let r : Runnable = runnable_of c.args.plain.now.form c.args.plain.now.script.components in
-    let order = rw c.in-Ok.ensures.circuit at c.known_order.ensures in
-    let came = rw (c.in-Ok.ensures.circuit, c.in-Ok.ensures.ports) at c.run-outcome.ensures.came in
-    let ran = subst (λ (e : End2). ByEnd IsFirst kind_rules r.flat.ports r.components most_rounds (start_of r.flat.wiring r.components) (g.S.Sink.told c.args.out.now) (g.S.Sink.told c.run-outcome.new.out) c.run-outcome.result e) c.in-Done.is came in
-    ran_exact r (sink_change g.S.Sink.told g.S.Sink.faults c.args.out.now c.run-outcome.new.out) c.run-outcome.result (c.one_trace.ensures r.components most_rounds (start_of r.flat.wiring r.components) order) (Done c.run-outcome.result.rounds) ran
+    let r : Runnable = runnable_in c.args.work.flat c.args.work.script in
+    let came = c.run-outcome.ensures.came in
+    let one = c.one_trace.ensures c.args.limits.budget c.args.limits.rounds (start_for r) c.known_order.ensures in
+    ran_exact c.args.limits r (sink_change g.S.Sink.told g.S.Sink.faults c.args.out.now c.run-outcome.new.out) came.lines (Done (length came.lines)) (came_as c.args.limits r _ _ c.run-outcome.result came ends.Done c.in-Done.is) one
 
 pub returns-in-Stuck-clause-exact : goal.returns-in-Stuck-clause-exact
 returns-in-Stuck-clause-exact g c =
-    let r : Runnable = runnable_of c.args.plain.now.form c.args.plain.now.script.components in
-    let order = rw c.in-Ok.ensures.circuit at c.known_order.ensures in
-    let came = rw (c.in-Ok.ensures.circuit, c.in-Ok.ensures.ports) at c.run-outcome.ensures.came in
-    let ran = subst (λ (e : End2). ByEnd IsFirst kind_rules r.flat.ports r.components most_rounds (start_of r.flat.wiring r.components) (g.S.Sink.told c.args.out.now) (g.S.Sink.told c.run-outcome.new.out) c.run-outcome.result e) c.in-Stuck.is came in
-    ran_exact r (sink_change g.S.Sink.told g.S.Sink.faults c.args.out.now c.run-outcome.new.out) c.run-outcome.result (c.one_trace.ensures r.components most_rounds (start_of r.flat.wiring r.components) order) (Stuck c.run-outcome.result.rounds) ran
+    let r : Runnable = runnable_in c.args.work.flat c.args.work.script in
+    let came = c.run-outcome.ensures.came in
+    let one = c.one_trace.ensures c.args.limits.budget c.args.limits.rounds (start_for r) c.known_order.ensures in
+    ran_exact c.args.limits r (sink_change g.S.Sink.told g.S.Sink.faults c.args.out.now c.run-outcome.new.out) came.lines (Stuck (length came.lines)) (came_as c.args.limits r _ _ c.run-outcome.result came ends.Stuck c.in-Stuck.is) one
 
 pub returns-in-Limit-clause-exact : goal.returns-in-Limit-clause-exact
 returns-in-Limit-clause-exact g c =
-    let r : Runnable = runnable_of c.args.plain.now.form c.args.plain.now.script.components in
-    let order = rw c.in-Ok.ensures.circuit at c.known_order.ensures in
-    let came = rw (c.in-Ok.ensures.circuit, c.in-Ok.ensures.ports) at c.run-outcome.ensures.came in
-    let ran = subst (λ (e : End2). ByEnd IsFirst kind_rules r.flat.ports r.components most_rounds (start_of r.flat.wiring r.components) (g.S.Sink.told c.args.out.now) (g.S.Sink.told c.run-outcome.new.out) c.run-outcome.result e) c.in-Limit.is came in
-    ran_exact r (sink_change g.S.Sink.told g.S.Sink.faults c.args.out.now c.run-outcome.new.out) c.run-outcome.result (c.one_trace.ensures r.components most_rounds (start_of r.flat.wiring r.components) order) (Limit c.run-outcome.result.rounds) ran
+    let r : Runnable = runnable_in c.args.work.flat c.args.work.script in
+    let came = c.run-outcome.ensures.came in
+    let one = c.one_trace.ensures c.args.limits.budget c.args.limits.rounds (start_for r) c.known_order.ensures in
+    ran_exact c.args.limits r (sink_change g.S.Sink.told g.S.Sink.faults c.args.out.now c.run-outcome.new.out) came.lines (Limit (length came.lines)) (came_as c.args.limits r _ _ c.run-outcome.result came ends.Limit c.in-Limit.is) one
+
+pub returns-in-Spent-clause-exact : goal.returns-in-Spent-clause-exact
+returns-in-Spent-clause-exact g c =
+    let r : Runnable = runnable_in c.args.work.flat c.args.work.script in
+    let came = c.run-outcome.ensures.came in
+    let one = c.one_trace.ensures c.args.limits.budget c.args.limits.rounds (start_for r) c.known_order.ensures in
+    ran_exact c.args.limits r (sink_change g.S.Sink.told g.S.Sink.faults c.args.out.now c.run-outcome.new.out) came.lines (Spent (length came.lines + 1) c.in-Spent.knot c.in-Spent.weight c.args.limits.budget) (came_as c.args.limits r _ _ c.run-outcome.result came (ends.Spent c.in-Spent.knot c.in-Spent.weight) c.in-Spent.is) one
+
+pub returns-in-Wide-clause-exact : goal.returns-in-Wide-clause-exact
+returns-in-Wide-clause-exact g c =
+    let r : Runnable = runnable_in c.args.work.flat c.args.work.script in
+    let came = c.run-outcome.ensures.came in
+    let one = c.one_trace.ensures c.args.limits.budget c.args.limits.rounds (start_for r) c.known_order.ensures in
+    ran_exact c.args.limits r (sink_change g.S.Sink.told g.S.Sink.faults c.args.out.now c.run-outcome.new.out) came.lines (Wide (length came.lines + 1) c.in-Wide.knot) (came_as c.args.limits r _ _ c.run-outcome.result came (ends.Wide c.in-Wide.knot) c.in-Wide.is) one
 
 pub returns-in-WriteFault-clause-cases : goal.returns-in-WriteFault-clause-cases
 returns-in-WriteFault-clause-cases g c =
-    let r : Runnable = runnable_of c.args.plain.now.form c.args.plain.now.script.components in
-    let came = rw (c.in-Ok.ensures.circuit, c.in-Ok.ensures.ports) at c.run-outcome.ensures.came in
-    let cut = subst (λ (e : End2). ByEnd IsFirst kind_rules r.flat.ports r.components most_rounds (start_of r.flat.wiring r.components) (g.S.Sink.told c.args.out.now) (g.S.Sink.told c.run-outcome.new.out) c.run-outcome.result e) c.in-WriteFault.is came in
-    cut_cases r _ c.run-outcome.result cut (c.run-outcome.ensures.cause c.in-WriteFault.is)
+    let r : Runnable = runnable_in c.args.work.flat c.args.work.script in
+    let came = c.run-outcome.ensures.came in
+    cut_cases c.args.limits r _ came.lines (came_as c.args.limits r _ _ c.run-outcome.result came ends.WriteFault c.in-WriteFault.is) (c.run-outcome.ensures.cause c.in-WriteFault.is)
 
-pub returns-clause-cases : goal.returns-clause-cases
-returns-clause-cases g c =
-    let r : Runnable = runnable_of c.args.plain.now.form c.args.plain.now.script.components in
-    let came = rw (c.in-Ok.ensures.circuit, c.in-Ok.ensures.ports) at c.run-outcome.ensures.came in
-    let kept = subst (λ (e : End2). ByEnd IsFirst kind_rules r.flat.ports r.components most_rounds (start_of r.flat.wiring r.components) (g.S.Sink.told c.args.out.now) (g.S.Sink.told c.run-outcome.new.out) c.run-outcome.result e) c.in-NoMemory.is came in
+pub returns-in-NoMemory-clause-cases : goal.returns-in-NoMemory-clause-cases
+returns-in-NoMemory-clause-cases g c =
+    let r : Runnable = runnable_in c.args.work.flat c.args.work.script in
+    let came = c.run-outcome.ensures.came in
     let mid : SinkState = record { told = g.S.Sink.told c.run-outcome.new.out; faults = g.S.Sink.faults c.run-outcome.new.out } in
-    kept_cases r _ mid _ c.run-outcome.result c.run-outcome.ensures.later kept c.no_memory-in-NoMemory.ensures.says
+    kept_cases c.args.limits r _ mid _ came.lines c.run-outcome.ensures.later (came_as c.args.limits r _ _ c.run-outcome.result came ends.NoMemory c.in-NoMemory.is) c.no_memory.ensures.says
 
-pub returns-clause-fair : goal.returns-clause-fair
-returns-clause-fair g c =
-    let r : Runnable = runnable_of c.args.plain.now.form c.args.plain.now.script.components in
-    let came = rw (c.in-Ok.ensures.circuit, c.in-Ok.ensures.ports) at c.run-outcome.ensures.came in
-    let kept = subst (λ (e : End2). ByEnd IsFirst kind_rules r.flat.ports r.components most_rounds (start_of r.flat.wiring r.components) (g.S.Sink.told c.args.out.now) (g.S.Sink.told c.run-outcome.new.out) c.run-outcome.result e) c.in-NoMemory.is came in
-    fair_after r _ _ _ _ c.run-outcome.result kept c.run-outcome.ensures.later c.no_memory-in-NoMemory.ensures.fair
+pub returns-in-NoMemory-clause-fair : goal.returns-in-NoMemory-clause-fair
+returns-in-NoMemory-clause-fair g c =
+    let r : Runnable = runnable_in c.args.work.flat c.args.work.script in
+    let came = c.run-outcome.ensures.came in
+    let mid : SinkState = record { told = g.S.Sink.told c.run-outcome.new.out; faults = g.S.Sink.faults c.run-outcome.new.out } in
+    kept_fair c.args.limits r _ mid _ came.lines c.run-outcome.ensures.later (came_as c.args.limits r _ _ c.run-outcome.result came ends.NoMemory c.in-NoMemory.is) c.no_memory.ensures.fair
