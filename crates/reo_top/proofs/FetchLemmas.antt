@@ -16,7 +16,7 @@ use Rattle.reo_top.specs.declared.role.Role.TheVariants.{Circuit, Script}
 use Rattle.reo_top.specs.declared.stop.Stop.{Stop}
 use Rattle.reo_top.specs.declared.stop.Stop.TheVariants.{Missed, TooLong, Refused, NoMemory}
 use Rattle.reo_top.specs.Fetched.{Content, gone, long, text, unknown, missed, AreTold, AreFetched}
-use Rattle.reo_top.specs.Readings.{FlatCircuit, Runnable, IsCircuitText, ReadsProgram, StopsPrint, ReadsCircuit, StopsCheck, ReadsRun, StopsRun, IsReadAs, IsReadFrom}
+use Rattle.reo_top.specs.Readings.{FlatCircuit, IsCircuitText, ReadsProgram, StopsPrint, ReadsCircuit, StopsCheck, ReadsRun, StopsRun, IsReadAs, IsReadFrom}
 use Rattle.reo_top.specs.ReadSteps.{IsRefusalOf, ReadsScript, StopsScript}
 use Rattle.reo_top.specs.Refusals.{parse_refusal, script_refusal}
 use Rattle.reo_top.specs.States.{FilesState, Change}

@@ -2,12 +2,11 @@
 use Rattle.std.proofs.Common.{◌≡◌, ◌∙◌, inl, inr, ℕ, ◌≤◌, Bool, true, false, cond, List, [], ◌∷◌, length, sym, subst, ap, refl, arith}
 use Rattle.std.proofs.lemmas.Bool.{leb-true}
 use Rattle.std.specs.Prelude.{Option, Some, None, IfSome, nat_le}
-use Rattle.reo_net_base.specs.Net.{Wiring, net_of}
+use Rattle.reo_net_base.specs.Net.{net_of}
 use Rattle.reo_net_base.specs.Wired.{IsWired}
 use Rattle.reo_net_circuit.proofs.ReshapeLemmas.{lawful_at}
 use Rattle.reo_net_circuit.proofs.WireLemmas.{wired_is}
 use Rattle.reo_io.specs.Fetches.{Folder, file_of}
-use Rattle.reo_kinds.specs.declared.kind.Kind.{Kind}
 use Rattle.reo_kinds.specs.Kinds.{behaviour_of}
 use Rattle.reo_kinds.specs.KindLaws.{kind_lawful}
 use Rattle.reo_flatten_base.specs.Flat.{primitives_of, net_of_program}
@@ -32,7 +31,6 @@ use Rattle.reo_top.specs.Readings.{FlatCircuit, Runnable, IsCircuitText, Circuit
 use Rattle.reo_top.specs.Roles.{most_bytes}
 use Rattle.reo_top.specs.States.{SinkState, FilesState, Change}
 use Rattle.reo_top.specs.Stops.{stop_status}
-use Rattle.reo_top.specs.Traces.{IsTraceOf}
 use Rattle.reo_top.proofs.FlatLemmas.{circuit_apart}
 use Rattle.reo_top.proofs.RunLemmas.{start_for}
 use Rattle.reo_top.proofs.TopLemmas.{answered_with}

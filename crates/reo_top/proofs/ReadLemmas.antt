@@ -1,5 +1,5 @@
 -- What a command reads, and what stops it, is one thing.
-use Rattle.std.proofs.Common.{◌≡◌, ◌∙◌, inl, inr, ℕ, false, List, [], ◌∷◌, sym, subst, ap, refl}
+use Rattle.std.proofs.Common.{◌≡◌, ◌∙◌, ℕ, false, List, [], ◌∷◌, sym, subst, ap, refl}
 use Rattle.reo_trees.specs.declared.programs.Program.{Program}
 use Rattle.reo_top.specs.declared.command.Command.TheVariants.{Print}
 use Rattle.reo_top.specs.declared.role.Role.TheVariants.{Circuit}

@@ -33,7 +33,7 @@ use Rattle.reo_top.specs.Readings.{Runnable, ReadsRun, StopsRun, IsReadAs}
 use Rattle.reo_top.specs.ReadSteps.{runnable_in}
 use Rattle.reo_top.specs.States.{SinkState, Change}
 use Rattle.reo_top.specs.Statuses.{IsAmong, statuses_of}
-use Rattle.reo_top.specs.Traces.{ending_status, IsTraceOf}
+use Rattle.reo_top.specs.Traces.{ending_status}
 use Rattle.reo_top.proofs.CaseLemmas.{lines_cases}
 use Rattle.reo_top.proofs.LineLemmas.{rounds_end, Ends}
 

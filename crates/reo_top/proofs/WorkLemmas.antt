@@ -1,8 +1,6 @@
 -- What a run reads in its files, and what stops it.
-use Rattle.std.proofs.Common.{◌≡◌, ◌∙◌, inl, inr, ℕ, false, List, [], ◌∷◌, sym, subst, ap, refl}
+use Rattle.std.proofs.Common.{◌≡◌, false, List, [], ◌∷◌, sym, subst, ap, refl}
 use Rattle.std.specs.Prelude.{Ok}
-use Rattle.reo_net_base.specs.declared.port.Port.{Port}
-use Rattle.reo_script_base.specs.declared.action.Script.{Script as Said}
 use Rattle.reo_script_base.specs.ScriptAnswers.{Answers}
 use Rattle.reo_top.specs.declared.command.Command.TheVariants.{Run}
 use Rattle.reo_top.specs.declared.role.Role.TheVariants.{Circuit, Script}

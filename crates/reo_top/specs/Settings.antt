@@ -1,5 +1,5 @@
 -- The options of commands: numbers, each behind a word of its own.
-use Rattle.std.specs.Prelude.{ℕ, ◌==◌, ◌&&◌, nat_le, cond, Bool, true, false, not, List, [], ◌∷◌, Option, Some, None, drop, length, codes, option_and_then, option_map, slice_index_or}
+use Rattle.std.specs.Prelude.{ℕ, ◌==◌, ◌&&◌, nat_le, cond, Bool, false, not, List, [], ◌∷◌, Option, Some, None, drop, length, codes, option_and_then, option_map, slice_index_or}
 use Rattle.std.specs.List.{list_all}
 use Rattle.std.specs.Str.{bytes_eq}
 use Rattle.reo_values.specs.Names.{is_digit}
