@@ -1,0 +1,4 @@
+pub mod CountLemmas
+pub mod FlowLemmas
+pub mod KeptLemmas
+pub mod QuietLemmas

@@ -1,8 +1,7 @@
 -- Which primitives may have changed.
-use Rattle.std.specs.Prelude.{ℕ, ◌<◌, ◌≡◌, ◌↔◌, Bool, true, false, IsTrue, List, length, slice_get, slice_index_or}
+use Rattle.std.specs.Prelude.{ℕ, ◌<◌, ◌≡◌, ◌↔◌, Bool, false, IsTrue, List, length, slice_get, slice_index_or}
 use Rattle.reo_net_base.specs.declared.mark.Mark.TheVariants.{F}
-use Rattle.reo_net_base.specs.Behaviour.{Behaviour}
-use Rattle.reo_net_base.specs.Net.{Net, Wiring, net_of, behaviour_at, mark_at, end_of}
+use Rattle.reo_net_base.specs.Net.{Net, behaviour_at, mark_at, end_of}
 
 -- Some end of a primitive flows.
 pub record HasFlow (net : Net) (rows : List ℕ) (primitive : ℕ) : Type 0 where

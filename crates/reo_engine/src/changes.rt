@@ -1,6 +1,7 @@
 //! Marks of the primitives that may have changed.
-ghost use Rattle.std.specs.Prelude.{◌≡◌, ◌<◌, true, length, replicate, IfOk};
+ghost use Rattle.std.specs.Prelude.{◌≡◌, ◌<◌, true, false, length, replicate, set, IfOk};
 ghost use Rattle.reo_net_base.specs.Net.{net_of};
+ghost use Rattle.reo_net_base.specs.Step.{change_at};
 ghost use Rattle.reo_net_base.specs.Colouring.{IsColouring};
 ghost use Rattle.reo_engine.specs.Changes.{AreThoseThatFlowed};
 
@@ -20,6 +21,34 @@ pub(crate) fn all_marked(alloc: Global, count: usize) -> Result<List<bool>, NoMe
     Ok(made)
 }
 
+/// Sets the mark of one primitive.
+pub(crate) fn mark(marks: &mut List<bool>, index: usize)
+    requires { index < length marks.old }
+    ensures { marks.new ≡ change_at (λ _. true) marks.old index }
+{
+    *marks.at_mut(index) = true;
+}
+
+/// Clears all marks.
+fn clear_all(marks: &mut List<bool>)
+    ensures { marks.new ≡ replicate (length marks.old) false }
+{
+    for index in 0..marks.len() {
+        *marks.at_mut(index) = false;
+    }
+}
+
+/// Sets the marks of the primitives at both ends of a joint.
+fn mark_joint(marks: &mut List<bool>, joint: Joint)
+    requires giver { joint.giver.primitive < length marks.old }
+    requires taker { joint.taker.primitive < length marks.old }
+    ensures { let giver = set marks.old joint.giver.primitive true in
+        marks.new ≡ set giver joint.taker.primitive true }
+{
+    *marks.at_mut(joint.giver.primitive) = true;
+    *marks.at_mut(joint.taker.primitive) = true;
+}
+
 /// Marks exactly the primitives of which some end flows.
 pub(crate) fn mark_flowing<P: Primitive>(
     circuit: &Circuit<P>,
@@ -31,15 +60,12 @@ pub(crate) fn mark_flowing<P: Primitive>(
     requires one_each { length marks.old ≡ length circuit.now.primitives }
     ensures { AreThoseThatFlowed (net_of P.behaviour circuit.now) rows.now marks.new }
 {
+    let _ = rows;
     circuit.known();
-    for index in 0..marks.len() {
-        *marks.at_mut(index) = false;
-    }
+    clear_all(marks);
     for index in 0..circuit.joint_count() {
         if items[index].is_some() {
-            let Joint { giver, taker } = circuit.joint(index);
-            *marks.at_mut(giver.primitive) = true;
-            *marks.at_mut(taker.primitive) = true;
+            mark_joint(marks, circuit.joint(index));
         }
     }
 }

@@ -1,15 +1,13 @@
 //! Engines.
-ghost use Rattle.std.specs.Prelude.{◌≡◌, ℕ, ◌+◌, ◌<◌, ◌≤◌, ◌^◌, ◌↔◌, IsTrue, true, false, IfOk, OnOk, IfErr, OnErr, MatchResult, map, length, replicate, Some, None};
-ghost use Rattle.std.specs.List.{set};
-ghost use Rattle.reo_net_base.specs.Net.{net_of};
-ghost use Rattle.reo_net_base.specs.Step.{change_at, stepped};
+ghost use Rattle.std.specs.Prelude.{◌≡◌, ◌+◌, ◌<◌, ◌≤◌, ◌^◌, ◌↔◌, IsTrue, true, false, IfOk, OnOk, IfErr, OnErr, MatchResult, map, length, replicate};
 ghost use Rattle.reo_net_circuit.specs.Offers.{AreAfterRound, OnlyPort};
+ghost use Rattle.reo_net_base.specs.Step.{change_at, stepped};
 ghost use Rattle.reo_engine_base.specs.Offering.{AreJustPorts, IsOfferFault, IsPendingAt, IsTakenAt};
 ghost use Rattle.reo_engine_base.specs.Plans.{IsPlan, IsPlanFault, Suits};
 ghost use Rattle.reo_engine.specs.Engine.{net_now};
 ghost use Rattle.reo_engine.specs.Changes.{AreThoseThatFlowed, OthersStay};
 
-use crate::changes::{all_marked, mark_flowing};
+use crate::changes::{all_marked, mark, mark_flowing};
 use crate::offering::offer_fault;
 use crate::planning::{plan_with, suits};
 use reo_engine_base::{Declined, Done, Plan, PlanFault};
@@ -43,7 +41,9 @@ impl<P: Ported> Model for Engine<P> {
 
     ghost view = { λ e. record { circuit = e.circuit; rounds = e.rounds; changed = e.changed } };
 
-    ghost invariant = { λ e. (e.rounds ≤ 2 ^ 63) × (length e.changed ≡ length e.circuit.primitives) × AreJustPorts (map P.port_state e.circuit.primitives) e.circuit.ports };
+    ghost invariant = { λ e. (e.rounds ≤ 2 ^ 63)
+        × (length e.changed ≡ length e.circuit.primitives)
+        × AreJustPorts (map P.port_state e.circuit.primitives) e.circuit.ports };
 }
 
 impl<P: Ported> Engine<P> {
@@ -53,7 +53,8 @@ impl<P: Ported> Engine<P> {
         requires { AreJustPorts (map P.port_state circuit.primitives) circuit.ports }
         ensures circuit { IfOk result (λ made. made.circuit ≡ circuit) }
         ensures rounds { IfOk result (λ made. made.rounds ≡ 0) }
-        ensures changed { IfOk result (λ made. made.changed ≡ replicate (length circuit.primitives) true) }
+        ensures changed { let all = replicate (length circuit.primitives) true in
+            IfOk result (λ made. made.changed ≡ all) }
     {
         let changed = all_marked(alloc, circuit.primitives().len())?;
         Ok(Engine {
@@ -79,7 +80,8 @@ impl<P: Ported> Engine<P> {
 
     /// What holds of each engine: exactly its ports have a way.
     pub fn known(&self)
-        ensures ports { AreJustPorts (map P.port_state self.now.circuit.primitives) self.now.circuit.ports }
+        ensures ports { let states = map P.port_state self.now.circuit.primitives in
+            AreJustPorts states self.now.circuit.ports }
         ensures few { self.now.rounds ≤ 2 ^ 63 }
         ensures one_each { length self.now.changed ≡ length self.now.circuit.primitives }
     {
@@ -92,7 +94,8 @@ impl<P: Ported> Engine<P> {
     ///
     /// The first of these that holds: `NoPort`, the number names no port; `WrongWay`, a write at an
     /// `out` port or a take at an `in` port; `Pending`, an offer is pending there; `ItemOutside`,
-    /// the item is not in the port's type. The engine stays as it was, and the offer is handed back.
+    /// the item is not in the port's type. The engine stays as it was, and the offer is handed
+    /// back.
     pub fn offer(&mut self, port: usize, offer: Offer) -> Result<(), Declined>
         ensures exact { let states = map P.port_state self.old.circuit.primitives in
             let ports = self.old.circuit.ports in
@@ -101,10 +104,12 @@ impl<P: Ported> Engine<P> {
         ensures circuit { let old = self.old.circuit in
             let primitives = change_at (λ p. P.placed p offer) old.primitives port in
             OnOk result (self.new.circuit ≡ record old { primitives = primitives }) }
-        ensures offers { let old = self.old.circuit.primitives in
-            OnOk result (OnlyPort (map P.port_state old) (map P.port_state self.new.circuit.primitives) port (Some offer)) }
+        ensures offers { let old = map P.port_state self.old.circuit.primitives in
+            let new = map P.port_state self.new.circuit.primitives in
+            OnOk result (OnlyPort old new port (Some offer)) }
         ensures rounds { self.new.rounds ≡ self.old.rounds }
-        ensures changed { OnOk result (self.new.changed ≡ change_at (λ _. true) self.old.changed port) }
+        ensures changed { let marks = change_at (λ _. true) self.old.changed port in
+            OnOk result (self.new.changed ≡ marks) }
         ensures refused { OnErr result (self.new ≡ self.old) }
         ensures handed_back { IfErr result (λ declined. declined.offer ≡ offer) }
     {
@@ -112,7 +117,7 @@ impl<P: Ported> Engine<P> {
             Some(cause) => Err(Declined { cause, offer }),
             None => {
                 self.circuit.place(port, offer);
-                *self.changed.at_mut(port) = true;
+                mark(&mut self.changed, port);
                 Ok(())
             }
         }
@@ -127,10 +132,12 @@ impl<P: Ported> Engine<P> {
         ensures circuit { let old = self.old.circuit in
             let primitives = change_at P.withdrawn old.primitives port in
             result ≡ true → self.new.circuit ≡ record old { primitives = primitives } }
-        ensures offers { let old = self.old.circuit.primitives in
-            result ≡ true → OnlyPort (map P.port_state old) (map P.port_state self.new.circuit.primitives) port None }
+        ensures offers { let old = map P.port_state self.old.circuit.primitives in
+            let new = map P.port_state self.new.circuit.primitives in
+            result ≡ true → OnlyPort old new port None }
         ensures rounds { self.new.rounds ≡ self.old.rounds }
-        ensures changed { result ≡ true → self.new.changed ≡ change_at (λ _. true) self.old.changed port }
+        ensures changed { let marks = change_at (λ _. true) self.old.changed port in
+            result ≡ true → self.new.changed ≡ marks }
         ensures same { result ≡ false → self.new ≡ self.old }
     {
         if self.circuit.ports() <= port {
@@ -140,7 +147,7 @@ impl<P: Ported> Engine<P> {
             return false;
         }
         self.circuit.withdraw(port);
-        *self.changed.at_mut(port) = true;
+        mark(&mut self.changed, port);
         true
     }
 
@@ -173,7 +180,8 @@ impl<P: Ported> Engine<P> {
     /// moves, and what it says of flow and of jams, are theirs. The plan may be any. This takes no
     /// memory.
     pub fn suits(&self, plan: &Plan) -> bool
-        ensures { IsTrue result ↔ Suits (net_now P.behaviour self.now) self.now.circuit.ports plan.now }
+        ensures { let net = net_now P.behaviour self.now in
+            IsTrue result ↔ Suits net self.now.circuit.ports plan.now }
     {
         suits(&self.circuit, plan)
     }
@@ -184,13 +192,18 @@ impl<P: Ported> Engine<P> {
         requires suits { Suits (net_now P.behaviour self.old) self.old.circuit.ports plan }
         requires few { self.old.rounds < 2 ^ 63 }
         ensures circuit { let old = self.old.circuit in
-            let primitives = stepped P.behaviour P.settled old plan.colouring.rows plan.colouring.items in
+            let rows = plan.colouring.rows in
+            let primitives = stepped P.behaviour P.settled old rows plan.colouring.items in
             self.new.circuit ≡ record old { primitives = primitives } }
         ensures offers { let old = self.old.circuit in
-            AreAfterRound (net_now P.behaviour self.old) plan.colouring.rows old.ports (map P.port_state old.primitives) (map P.port_state self.new.circuit.primitives) }
+            let states = map P.port_state old.primitives in
+            let after = map P.port_state self.new.circuit.primitives in
+            AreAfterRound (net_now P.behaviour self.old) plan.colouring.rows old.ports states after }
         ensures rounds { self.new.rounds ≡ self.old.rounds + 1 }
-        ensures changed { AreThoseThatFlowed (net_now P.behaviour self.old) plan.colouring.rows self.new.changed }
-        ensures others { OthersStay self.new.changed self.old.circuit.primitives self.new.circuit.primitives }
+        ensures changed { let net = net_now P.behaviour self.old in
+            AreThoseThatFlowed net plan.colouring.rows self.new.changed }
+        ensures others { let old = self.old.circuit.primitives in
+            OthersStay self.new.changed old self.new.circuit.primitives }
         ensures moves { result.moves ≡ plan.moves }
         ensures idle { result.idle ≡ plan.idle }
         ensures jammed { result.jammed ≡ plan.jammed }
@@ -201,6 +214,7 @@ impl<P: Ported> Engine<P> {
             idle,
             jammed,
         } = plan;
+        self.circuit.known();
         self.circuit.known_offers();
         let rows = colouring.rows.as_slice();
         let items = colouring.items.as_slice();

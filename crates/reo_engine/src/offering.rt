@@ -1,7 +1,7 @@
 //! Offers at ports.
-ghost use Rattle.std.specs.Prelude.{◌≡◌, ◌≤◌, MatchOption, map};
-ghost use Rattle.reo_engine_base.specs.Offering.{AreJustPorts, IsOfferFault, IsTakenAt};
-ghost use Rattle.reo_net_base.specs.PortState.{way_of, CanPlace};
+ghost use Rattle.std.specs.Prelude.{◌≡◌, ◌↔◌, IsTrue, MatchOption, map};
+ghost use Rattle.reo_engine_base.specs.Offering.{IsOfferFault, IsTakenAt};
+ghost use Rattle.reo_net_base.specs.PortState.{way_of, CanPlace, IsAccepted};
 ghost use Rattle.reo_engine_base.specs.Offering.{IsPortFault};
 
 use reo_engine_base::OfferFault;

@@ -1,8 +1,8 @@
 //! Plans of rounds.
-ghost use Rattle.std.specs.Prelude.{◌≡◌, ◌≤◌, ◌↔◌, IsTrue, IfOk};
+ghost use Rattle.std.specs.Prelude.{◌≡◌, ◌<◌, ◌↔◌, IsTrue, IfOk};
 ghost use Rattle.reo_net_base.specs.Net.{net_of};
-ghost use Rattle.reo_net_base.specs.Sides.{AreRowsOf};
-ghost use Rattle.reo_net_base.specs.First.{IsFirst};
+ghost use Rattle.reo_net_base.specs.Sides.{AreRowsOf, side_count};
+ghost use Rattle.reo_net_laws.specs.Jams.{jams};
 ghost use Rattle.reo_net_base.specs.Colouring.{IsColouring};
 ghost use Rattle.reo_engine_base.specs.Plans.{jammed_sides, ShowsItsOwn, Suits};
 
@@ -14,14 +14,24 @@ use reo_trace::is_idle;
 use reo_values::NoMemory;
 use std::alloc::Global;
 
+/// Whether a side has its jam row.
+fn is_jammed<P: Primitive>(circuit: &Circuit<P>, rows: &[u32], side: usize) -> bool
+    requires rows { AreRowsOf (net_of P.behaviour circuit.now) rows.now }
+    requires side { side < side_count (net_of P.behaviour circuit.now) }
+    ensures { result ≡ jams (net_of P.behaviour circuit.now) rows.now side }
+{
+    circuit.row(rows, side) + 1 == circuit.rows(side)
+}
+
 /// How many sides have their jam row.
+#[tactic(auto, using(crate::proofs::CountLemmas::count_more))]
 fn jammed_sides<P: Primitive>(circuit: &Circuit<P>, rows: &[u32]) -> usize
     requires { AreRowsOf (net_of P.behaviour circuit.now) rows.now }
     ensures { result ≡ jammed_sides (net_of P.behaviour circuit.now) rows.now }
 {
     let mut count = 0;
     for side in 0..circuit.sides() {
-        if circuit.row(rows, side) + 1 == circuit.rows(side) {
+        if is_jammed(circuit, rows, side) {
             count += 1;
         }
     }
@@ -53,13 +63,18 @@ pub(crate) fn plan_with<P: Primitive>(
 /// Whether a plan's moves, and what it says of flow and jams, are those of its rows and items.
 fn shows_its_own<P: Primitive>(circuit: &Circuit<P>, plan: &Plan) -> bool
     requires { AreRowsOf (net_of P.behaviour circuit.now) plan.now.colouring.rows }
-    ensures { IsTrue result ↔ ShowsItsOwn (net_of P.behaviour circuit.now) circuit.now.ports plan.now }
+    ensures { let net = net_of P.behaviour circuit.now in
+        IsTrue result ↔ ShowsItsOwn net circuit.now.ports plan.now }
 {
     let rows = plan.colouring.rows.as_slice();
     let items = plan.colouring.items.as_slice();
-    plan.idle == is_idle(circuit, rows)
-        && plan.jammed == jammed_sides(circuit, rows)
-        && are_moves(circuit, rows, items, plan.moves.as_slice())
+    if plan.idle != is_idle(circuit, rows) {
+        return false;
+    }
+    if plan.jammed != jammed_sides(circuit, rows) {
+        return false;
+    }
+    are_moves(circuit, rows, items, plan.moves.as_slice())
 }
 
 /// Whether a plan suits a circuit.

@@ -1,3 +1,4 @@
 pub mod Kinds
 pub mod Runnable
 pub mod Outcome
+pub mod Rounds

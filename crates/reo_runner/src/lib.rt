@@ -3,6 +3,7 @@
 
 mod ending;
 mod outcome;
+mod planning;
 mod round;
 mod runner;
 

@@ -1,1 +1,114 @@
 //! One round of a run.
+ghost use Rattle.std.specs.Prelude.{◌≡◌, ◌≤◌, ◌<◌, ◌+◌, ◌^◌, ◌&&◌, not, cond, length, map, IfOk, OnOk, IfErr, IsErrOf, Some, None};
+ghost use Rattle.reo_io.specs.Causes.{Rose};
+ghost use Rattle.reo_net_base.specs.Net.{Wiring, net_of};
+ghost use Rattle.reo_net_base.specs.Step.{stepped};
+ghost use Rattle.reo_players.specs.Players.{someone_counts};
+ghost use Rattle.reo_engine_base.specs.Plans.{Suits};
+ghost use Rattle.reo_engine_base.specs.Rules.{rules_of};
+ghost use Rattle.reo_runs.specs.Round.{State, advanced};
+ghost use Rattle.reo_runs.specs.Run.{over_after};
+ghost use Rattle.reo_runner_ports.specs.Pending.{IsButForOffers};
+ghost use Rattle.reo_runner_ports.specs.Between.{AreBetween, AreStarted};
+ghost use Rattle.reo_runner.specs.Rounds.{MadeRound, IsRoundFault, IsTallied, IsSmall};
+ghost use Rattle.reo_runner.specs.declared.planning.RoundFault.TheVariants.{Failed as SinkFailed};
+
+use crate::ending::over_after;
+use crate::outcome::{Limits, Tally};
+use crate::planning::{Planned, RoundFault, plan_round};
+use reo_engine::{Done, Engine, Plan};
+use reo_io::Sink;
+use reo_net_base::{Ported, Ports};
+use reo_players::Players;
+use reo_runner_ports::{advance_all, offer_all};
+use reo_steps::Steps;
+use reo_trace::{Ending, WriteFault, write_round};
+use std::alloc::Global;
+use std::sync::ledger::Ledger;
+
+/// A round that was made: what has moved so far, and how the run is over, if it is.
+#[derive(Clone, Copy)]
+pub(crate) struct Made {
+    pub tally: Tally,
+    pub over: Option<Ending>,
+}
+
+/// Makes a planned round: the circuit steps, and each component goes on.
+fn carry_out<P: Ported>(
+    engine: &mut Engine<P>,
+    players: &mut Players,
+    ports: &Ports,
+    plan: Plan,
+    tally: Tally,
+) -> Made
+    requires started { AreStarted ports.now.list engine.old.circuit.ports players.old (map P.port_state engine.old.circuit.primitives) }
+    requires suits { Suits (net_of P.behaviour engine.old.circuit) engine.old.circuit.ports plan }
+    requires few { engine.old.rounds < 10 ^ 9 }
+    requires small { IsSmall tally }
+    requires fewer { tally.rounds < 10 ^ 9 }
+    ensures players { players.new ≡ advanced (net_of P.behaviour engine.old.circuit) plan.colouring.rows players.old }
+    ensures circuit { let r = rules_of P.behaviour P.settled P.port_state P.placed P.withdrawn in
+        let old = engine.old.circuit in
+        IsButForOffers r (record old { primitives = stepped P.behaviour P.settled old plan.colouring.rows plan.colouring.items }) engine.new.circuit }
+    ensures between { AreBetween ports.now.list engine.new.circuit.ports players.new (map P.port_state engine.new.circuit.primitives) }
+    ensures rounds { engine.new.rounds ≡ engine.old.rounds + 1 }
+    ensures over { result.over ≡ over_after (engine.old.rounds + 1) plan.idle players.old players.new }
+    ensures tallied { IsTallied ports.now.list plan.moves tally result.tally }
+    ensures small { IsSmall result.tally }
+{
+    engine.circuit().known();
+    let counted = players.someone_counts();
+    let Done { moves, idle, jammed } = engine.commit(plan);
+    let _ = jammed;
+    advance_all(engine, ports, players);
+    let over = over_after(engine.rounds(), idle, counted, players);
+    let tally = tally.after(ports, moves.as_slice());
+    Made { tally, over }
+}
+
+/// Makes the round that stands next: the components make their offers, the round is planned and its
+/// line written, and then the circuit steps and each component goes on.
+///
+/// # Errors
+///
+/// `Spent` and `Wide` name a part that is over. `Failed` comes only where the sink's count of faults
+/// rose: a front of the line was taken, and not the whole. `NoMemory` is out of memory. But for
+/// `Failed` the sink stays as it was.
+pub(crate) fn make_round<P: Ported, L: Ledger, S: Sink>(
+    alloc: Global,
+    engine: &mut Engine<P>,
+    players: &mut Players,
+    ports: &Ports,
+    limits: Limits,
+    tally: Tally,
+    steps: &mut Steps<L>,
+    out: &mut S,
+) -> Result<Made, RoundFault>
+    requires between { AreBetween ports.now.list engine.old.circuit.ports players.old (map P.port_state engine.old.circuit.primitives) }
+    requires budget { limits.budget < 10 ^ 18 }
+    requires goes_on { engine.old.rounds < limits.rounds }
+    requires few { limits.rounds ≤ 10 ^ 9 }
+    requires small { IsSmall tally }
+    requires count { tally.rounds ≡ engine.old.rounds }
+    ensures made { let r = rules_of P.behaviour P.settled P.port_state P.placed P.withdrawn in
+        (w : Wiring _) → IsButForOffers r w engine.old.circuit
+        → IfOk result (MadeRound r ports.now.list limits.budget limits.rounds (engine.old.rounds + 1) (record { circuit = w; players = players.old })
+            (S.told out.old) (S.told out.new) tally engine.new.circuit players.new) }
+    ensures fault { let r = rules_of P.behaviour P.settled P.port_state P.placed P.withdrawn in
+        (w : Wiring _) → IsButForOffers r w engine.old.circuit
+        → IfErr result (IsRoundFault r ports.now.list limits.budget limits.rounds (engine.old.rounds + 1) (record { circuit = w; players = players.old })
+            (S.told out.old) (S.told out.new)) }
+    ensures between { OnOk result (AreBetween ports.now.list engine.new.circuit.ports players.new (map P.port_state engine.new.circuit.primitives)) }
+    ensures rounds { OnOk result (engine.new.rounds ≡ engine.old.rounds + 1) }
+    ensures small { IfOk result (λ made. IsSmall made.tally) }
+    ensures cause { IsErrOf result SinkFailed → Rose (S.faults out.old) (S.faults out.new) }
+    ensures later { S.faults out.old ≤ S.faults out.new }
+{
+    offer_all(alloc, engine, ports, players)?;
+    let Planned { plan, line } = plan_round(alloc, engine, limits.budget, steps)?;
+    match write_round(alloc, ports, &line, out) {
+        Ok(()) => Ok(carry_out(engine, players, ports, plan, tally)),
+        Err(WriteFault::Failed) => Err(RoundFault::Failed),
+        Err(WriteFault::NoMemory) => Err(RoundFault::NoMemory),
+    }
+}

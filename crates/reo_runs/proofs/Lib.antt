@@ -1,0 +1,6 @@
+pub mod OverLemmas
+pub mod OrderLemmas
+pub mod WholeLemmas
+pub mod OneLemmas
+pub mod JustifiedLemmas
+pub mod StartLemmas

@@ -1,7 +1,7 @@
 -- Whole runs.
 use Rattle.std.specs.Prelude.{ℕ, ◌+◌, ◌≤◌, ◌≡◌, ◌&&◌, ◌⊎◌, Bool, not, cond, Option, Some, None, List, [], ◌∷◌, length, map}
 use Rattle.reo_net_base.specs.First.{IsFirst}
-use Rattle.reo_net_base.specs.Net.{Net, Wiring}
+use Rattle.reo_net_base.specs.Net.{Wiring}
 use Rattle.reo_script_base.specs.declared.action.Component.{Component}
 use Rattle.reo_players.specs.Players.{Player, beginning_of, all_done, someone_counts}
 use Rattle.reo_trace.specs.declared.line.RoundLine.{RoundLine}

@@ -1,7 +1,7 @@
 -- The start of a round in the subject's own words.
-use Rattle.std.specs.Prelude.{ℕ, ◌<◌, ◌≤◌, ◌≡◌, Some, List, length, slice_get, map}
+use Rattle.std.specs.Prelude.{ℕ, ◌<◌, ◌≤◌, ◌≡◌, Some, length, slice_get, map}
 use Rattle.reo_net_base.specs.declared.port.Offer.{Offer}
-use Rattle.reo_net_base.specs.PortState.{PortState, port_state_at, way_of, IsAccepted, IsPortWith}
+use Rattle.reo_net_base.specs.PortState.{port_state_at, way_of, IsAccepted, IsPortWith}
 use Rattle.reo_net_base.specs.Net.{Wiring}
 use Rattle.reo_players.specs.Offers.{IsOffered, AreApart, offer_for}
 use Rattle.reo_engine_base.specs.Rules.{Rules}

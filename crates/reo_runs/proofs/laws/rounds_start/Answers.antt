@@ -1,0 +1,18 @@
+use Rattle.std.proofs.Common.{refl, arith}
+use Rattle.reo_players.specs.Offers.{offer_for}
+use Rattle.reo_engine_base.specs.Rules.{rules_of}
+use Rattle.reo_runs.proofs.StartLemmas.{started, ready_others}
+use Rattle.reo_runs.proofs.laws.rounds_start.Goals as goal
+
+pub returns : goal.returns
+returns g c =
+    let r = rules_of g.P.Primitive.behaviour g.P.Primitive.settled g.P.Ported.port_state g.P.Ported.placed g.P.Ported.withdrawn in
+    λ a few apart taken.
+    let at_port = started r g.met.P.Ported.withdrawn_port g.met.P.Ported.placed_port a few taken in
+    record {
+      offered = λ port lt. (c.offers_agree.ensures a.players port _ apart).1 (at_port port lt).pending_is;
+      same = λ port lt. record { way = (at_port port lt).way; accepts = (at_port port lt).accepts; pending_is = refl };
+      joints = refl;
+      ports = refl;
+      others = λ k le. ready_others r (offer_for a.players) a.circuit.primitives a.circuit.ports 0 k (omega (arith, le));
+    }
