@@ -41,6 +41,7 @@ module _ (players : List Player) where
   offers : (n i port : ℕ) → n ≤ i → has_at players n i port ≡ offer_at port (player_of players i)
   offers n i port le = by_test n i port false (grind (arith, nat_tests))
 
+-- Before the first.
 pub first : (ports : List Port) (count : ℕ) (players : List Player) (states : List PortState) → AreStepped ports count players states → Advancing ports count 0 players players states states
 first ports count players states are = record {
   at_ports = are.at_ports;
@@ -126,6 +127,7 @@ module _ (ports : List Port) (count done : ℕ) (old new : List Player) (before 
           | inr some ↦ left.here port some.0 some.1 ∙ sym (holds newer (done + 1) done port (omega arith)) ∙ all done (omega (arith, on.count))
         ]
 
+    -- one more has gone on
     pub next : Advancing ports counted (done + 1) old newer before later
     next = record {
       at_ports = at;

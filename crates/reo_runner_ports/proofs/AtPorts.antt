@@ -24,12 +24,14 @@ use Rattle.reo_runner_ports.specs.Parts.{HasGoneOn}
 use Rattle.reo_runner_ports.proofs.Cases.{lt_cases, option_cases}
 use Rattle.reo_runner_ports.proofs.Offered.{offers_of, named}
 
+-- What the components have left to do, each at its place.
 abbrev pub rests_of : List Player → List (List Task)
 rests_of players = map (λ (p : Player). p.rest) players
 
 rest_at : (players : List Player) (i : ℕ) → i < length players → slice_index_or (rests_of players) i [] ≡ (player_of players i).rest
 rest_at players i lt = get_or-map (λ (p : Player). p.rest) players i no_player [] lt
 
+-- Each action of each component fits the ports.
 pub fits_at : (ports : List Port) (players : List Player) (i : ℕ) → FitPorts ports (rests_of players) → i < length players → All (FitsPorts ports) (player_of players i).rest
 fits_at ports players i fit lt =
     subst (All (FitsPorts ports)) (rest_at players i lt)
@@ -58,6 +60,7 @@ record Takes (ports : ℕ) (state : PortState) (port : ℕ) (o : Offer) : Type 0
   way : state.way ≡ Some (way_of o)
   accepted : IsAccepted state o
 
+-- So it is by the action that offers, and by the component that does.
 takes_task : (ports : List Port) (states : List PortState) (t : Task) (port : ℕ) (o : Offer) → HasPorts states ports → FitsPorts ports t → port_of t ≡ Some port → offer_of t ≡ Some o
     → Takes (length ports) (port_state_at states port) port o
 takes_task ports states (writes n item within) port o has fits at what =
@@ -89,6 +92,7 @@ takes_offer ports count players states i port o at i_lt offers =
     let all = subst (All (FitsPorts ports)) is.rest_is (fits_at ports players i at.fit i_lt) in
     takes_task ports states is.task port o at.ports_are (all 0 is.task (omega arith)) is.at is.what
 
+-- The port is one of the circuit's, and where nothing is pending the offer is taken.
 pub in_range : (ports : List Port) (count : ℕ) (players : List Player) (states : List PortState) (i port : ℕ) (o : Offer) → AreAtPorts ports count players states → i < length players
     → offer_at port (player_of players i) ≡ Some o → port < length ports
 in_range ports count players states i port o at i_lt offers = (takes_offer ports count players states i port o at i_lt offers).in_range

@@ -14,6 +14,7 @@ use Rattle.reo_runner_ports.specs.Pending.{pending_in, IsButForOffers}
 use Rattle.reo_runner_ports.proofs.Ready.{changed_list, ready_self, taken_at}
 
 module _ {P : Type 0} (r : Rules P) where
+  -- what is pending at a primitive's place is its own
   own : (ps : List P) (i : ℕ) (p : P) → slice_get ps i ≡ Some p → pending_in r ps i ≡ (r.port_state p).pending
   own ps i p got =
       ap (λ (state : PortState). state.pending) (get_or-map r.port_state ps i p no_port_state (slice_get_within ps i p got))
@@ -36,6 +37,7 @@ module _ {P : Type 0} (r : Rules P) where
       ∙ ap (λ (ps : List P). record w { primitives = ps })
       (changed_list r h (pending_in r old.primitives) (pending_in r new.primitives) w.ports 0 q w.primitives (omega arith) (rw zeroth here) (rw zeroth others))
 
+  -- an offer that is made
   pub placed_but : (w old new : Wiring P) (q : ℕ) (o : Offer) → q < old.ports → IsButForOffers r w old
       → new ≡ record old { primitives = change_at (λ p. r.placed p o) old.primitives q }
       → pending_in r old.primitives q ≡ None
@@ -47,6 +49,7 @@ module _ {P : Type 0} (r : Rules P) where
       (λ p got. ap (λ u. r.placed (with_pending r u p) o) free ∙ sym (ap (λ u. with_pending r u p) now))
       (λ i ne. ap (λ (state : PortState). state.pending) (only.others i ne))
 
+  -- an offer that is taken back
   pub withdrawn_but : ((p : P) (o : Offer) → (r.port_state p).pending ≡ Some o → r.placed (r.withdrawn p) o ≡ p)
       → (w old new : Wiring P) (q : ℕ) (o : Offer) → q < old.ports → IsButForOffers r w old
       → new ≡ record old { primitives = change_at r.withdrawn old.primitives q }

@@ -17,6 +17,7 @@ use Rattle.reo_runner_ports.proofs.Cases.{lt_cases, none_either}
 use Rattle.reo_runner_ports.proofs.Offered.{elsewhere}
 use Rattle.reo_runner_ports.proofs.AtPorts.{apart, alone, in_range, ports_stay}
 
+-- Where each has the same at each port, the same is pending.
 pub pending_like : (has had : ℕ → ℕ → Option Offer) (count ports : ℕ) (states : List PortState) → ((port i : ℕ) → i < count → has i port ≡ had i port) → ArePending had count ports states → ArePending has count ports states
 pending_like has had count ports states same are = record {
   named = λ port i o lt i_lt is. are.named port i o lt i_lt (sym (same port i i_lt) ∙ is);
