@@ -155,7 +155,7 @@ goes_on states p port o may none offers =
           ] refl
     ] refl
 
--- So what it has left is known in both cases.
+-- So all that it has left is pending, and nothing else of it is.
 pub left_on : (states : List PortState) (p : Player) → IsPendingOrGone p states → ((q : ℕ) → step_of (is_gone states p) p ≡ steps.GaveUp q → ⊥) → IsLeft p (after (is_gone states p) p) states states
 left_on states p may none = record {
   here = λ port o offers. goes_on states p port o may none offers;
