@@ -1,5 +1,5 @@
 -- Moves at ports, counted by their ways.
-use Rattle.std.proofs.Common.{◌≡◌, ap, ℕ, zero, suc, ◌+◌, ◌≤◌, true, false, List, [], ◌∷◌, refl, length, length-append, arith, cond}
+use Rattle.std.proofs.Common.{◌≡◌, ℕ, zero, suc, ◌+◌, ◌≤◌, true, false, List, [], ◌∷◌, refl, length, length-append, arith, cond}
 use Rattle.std.specs.Prelude.{Option, Some, None}
 use Rattle.std.proofs.lemmas.List.Sums.{sum_by-cons}
 use Rattle.std.specs.List.{count_by, flat_map, range_with_len}
@@ -9,14 +9,9 @@ use Rattle.reo_net_base.specs.declared.port.Port.{Port}
 use Rattle.reo_net_base.specs.declared.port.Way.{Way}
 use Rattle.reo_net_base.specs.declared.port.Way.TheVariants.{In, Out}
 use Rattle.reo_net_base.specs.Marks.{is_flow}
-use Rattle.reo_net_base.specs.Behaviour.{Behaviour}
-use Rattle.reo_net_base.specs.Net.{Net, Wiring, net_of, mark_at, end_of}
+use Rattle.reo_net_base.specs.Net.{Net, mark_at, end_of}
 use Rattle.reo_net_base.specs.Moves.{item_at, move_with, moves_at, moves_of}
-use Rattle.reo_plain_script.specs.declared.script.Component.{Component}
-use Rattle.reo_trace.specs.declared.line.RoundLine.{RoundLine}
-use Rattle.reo_runner.specs.declared.plan.Plan.{Plan}
-use Rattle.reo_runner.specs.Plan.{IsPlan}
-use Rattle.reo_runner.specs.Outcome.{goes, is_in, is_out, way_at}
+use Rattle.reo_runs.specs.Written.{goes, is_in, is_out, way_at}
 
 -- A move is at a port of one of the two ways.
 one_way : (w : Way) → cond (is_in w) 1 0 + cond (is_out w) 1 0 ≡ 1
@@ -44,10 +39,3 @@ all_most net rows items from (suc n) =
 
 pub moves_few : (net : Net) (ports : ℕ) (rows : List ℕ) (items : List (Option Value)) → length (moves_of net ports rows items) ≤ ports
 moves_few net ports rows items = all_most net rows items 0 ports
-
--- A planned round has at most one move for each port.
-pub plan_few : {P : Type 0} (behaviour : P → Behaviour) (components : List Component) (turn : ℕ) (w : Wiring P) (ports : ℕ) (places : List ℕ) (p : Plan) → w.ports ≡ ports → IsPlan behaviour components turn w places p
-    → length p.line.moves ≤ ports
-plan_few behaviour components turn w ports places p same plan =
-    let moves : p.line.moves ≡ moves_of (net_of behaviour w) w.ports p.colouring.rows p.colouring.items = ap (λ (l : RoundLine). l.moves) plan.line_is in
-    rw (moves, same) (moves_few (net_of behaviour w) ports p.colouring.rows p.colouring.items)

@@ -13,6 +13,8 @@ use Rattle.reo_runner.specs.declared.outcome.Outcome.{Outcome}
 use Rattle.reo_runner.specs.declared.outcome.Tally.{Tally}
 use Rattle.reo_runner.specs.declared.outcome.End2.{End2}
 use Rattle.reo_runner.specs.declared.outcome.End2.TheVariants as ends
+use Rattle.reo_runner.specs.declared.planning.RoundFault.{RoundFault}
+use Rattle.reo_runner.specs.declared.planning.RoundFault.TheVariants as faults
 
 -- The numbers of a tally are those of some rounds: how many they are, and what moved at `in` and at `out` ports in them.
 pub record Counts (ports : List Port) (lines : List RoundLine) (t : Tally) : Type 0 where
@@ -58,3 +60,10 @@ ClosesAs ending before now end = (end ≡ outcome_end ending) × Appended before
 pub record Closes (ending : Ending) (t : Tally) (before now : Option (List ℕ)) (o : Outcome) : Type 0 where
   pub tally : tally_of o ≡ t
   pub text : ClosesAs ending before now o.end
+
+-- What a run has come to that stops in place of the round of a number: its ending was to be written, or else nothing more.
+abbrev pub StopsAs : ℕ → ℕ → Tally → RoundFault → Option (List ℕ) → Option (List ℕ) → Outcome → Type 0
+StopsAs turn budget t (faults.Spent knot weight) before now o = Closes (endings.Spent turn knot weight budget) t before now o
+StopsAs turn budget t (faults.Wide knot) before now o = Closes (endings.Wide turn knot) t before now o
+StopsAs turn budget t faults.Failed before now o = (now ≡ before) × (tally_of o ≡ t) × (o.end ≡ ends.WriteFault)
+StopsAs turn budget t faults.NoMemory before now o = (now ≡ before) × (tally_of o ≡ t) × (o.end ≡ ends.NoMemory)

@@ -15,7 +15,7 @@ ghost use Rattle.reo_runner.specs.declared.planning.RoundFault.TheVariants.{Fail
 
 use crate::ending::over_after;
 use crate::outcome::{Limits, Tally};
-use crate::planning::{Planned, RoundFault, plan_round};
+use crate::planning::{RoundFault, plan_round};
 use reo_engine::{Done, Engine, Plan};
 use reo_io::Sink;
 use reo_net_base::{Ported, Ports};
@@ -58,7 +58,11 @@ fn carry_out<P: Ported>(
 {
     engine.circuit().known();
     let counted = players.someone_counts();
-    let Done { moves, idle, jammed } = engine.commit(plan);
+    let Done {
+        moves,
+        idle,
+        jammed,
+    } = engine.commit(plan);
     let _ = jammed;
     advance_all(engine, ports, players);
     let over = over_after(engine.rounds(), idle, counted, players);
@@ -93,11 +97,11 @@ pub(crate) fn make_round<P: Ported, L: Ledger, S: Sink>(
     ensures made { let r = rules_of P.behaviour P.settled P.port_state P.placed P.withdrawn in
         (w : Wiring _) → IsButForOffers r w engine.old.circuit
         → IfOk result (MadeRound r ports.now.list limits.budget limits.rounds (engine.old.rounds + 1) (record { circuit = w; players = players.old })
-            (S.told out.old) (S.told out.new) tally engine.new.circuit players.new) }
+        (S.told out.old) (S.told out.new) tally engine.new.circuit players.new) }
     ensures fault { let r = rules_of P.behaviour P.settled P.port_state P.placed P.withdrawn in
         (w : Wiring _) → IsButForOffers r w engine.old.circuit
         → IfErr result (IsRoundFault r ports.now.list limits.budget limits.rounds (engine.old.rounds + 1) (record { circuit = w; players = players.old })
-            (S.told out.old) (S.told out.new)) }
+        (S.told out.old) (S.told out.new)) }
     ensures between { OnOk result (AreBetween ports.now.list engine.new.circuit.ports players.new (map P.port_state engine.new.circuit.primitives)) }
     ensures rounds { OnOk result (engine.new.rounds ≡ engine.old.rounds + 1) }
     ensures small { IfOk result (λ made. IsSmall made.tally) }
@@ -105,9 +109,9 @@ pub(crate) fn make_round<P: Ported, L: Ledger, S: Sink>(
     ensures later { S.faults out.old ≤ S.faults out.new }
 {
     offer_all(alloc, engine, ports, players)?;
-    let Planned { plan, line } = plan_round(alloc, engine, limits.budget, steps)?;
-    match write_round(alloc, ports, &line, out) {
-        Ok(()) => Ok(carry_out(engine, players, ports, plan, tally)),
+    let planned = plan_round(alloc, engine, limits.budget, steps)?;
+    match write_round(alloc, ports, &planned.line, out) {
+        Ok(()) => Ok(carry_out(engine, players, ports, planned.plan, tally)),
         Err(WriteFault::Failed) => Err(RoundFault::Failed),
         Err(WriteFault::NoMemory) => Err(RoundFault::NoMemory),
     }

@@ -1,17 +1,163 @@
 //! The run.
-ghost use Rattle.std.specs.Prelude.{◌≡◌, ◌≤◌, ◌<◌, ◌^◌, map};
+ghost use Rattle.std.specs.Prelude.{◌≡◌, ◌≢◌, ◌≤◌, ◌<◌, ◌+◌, ◌^◌, map, None};
 ghost use Rattle.reo_io.specs.Causes.{Rose};
 ghost use Rattle.reo_kinds.specs.Kinds.{port_state_of};
-ghost use Rattle.reo_runs.specs.Run.{start_of};
+ghost use Rattle.reo_net_base.specs.PortState.{PortState};
+ghost use Rattle.reo_players.specs.Players.{all_done};
+ghost use Rattle.reo_script_base.specs.declared.action.Component.{Component};
+ghost use Rattle.reo_engine_base.specs.Rules.{rules_of};
+ghost use Rattle.reo_runs.specs.Run.{Place, start_of, firsts};
+ghost use Rattle.reo_runs.specs.Whole.{HasRun};
+ghost use Rattle.reo_runner_ports.specs.Between.{AreBetween};
 ghost use Rattle.reo_runner.specs.Kinds.{kind_rules};
-ghost use Rattle.reo_runner.specs.Outcome.{CameTo};
+ghost use Rattle.reo_runner.specs.Outcome.{CameTo, StopsAs};
 ghost use Rattle.reo_runner.specs.Runnable.{CanRun};
+ghost use Rattle.reo_runner.specs.Runs.{HasRuns};
+ghost use Rattle.reo_runner.specs.declared.planning.RoundFault.TheVariants.{Failed as SinkFailed};
 
+use crate::ending::close;
 use crate::outcome::{End2, Limits, Outcome, Tally};
+use crate::planning::RoundFault;
+use crate::round::make_round;
+use reo_engine::Engine;
 use reo_flatten::Flat;
 use reo_io::Sink;
+use reo_net_base::{Ported, Ports};
+use reo_net_circuit::Circuit;
+use reo_players::Players;
+use reo_runs::{known_order, trace_exists};
 use reo_script_base::Script;
+use reo_steps::Steps;
+use reo_trace::Ending;
 use std::alloc::Global;
+use std::marker::Brand;
+use std::sync::ledger::{Blank, Ledger};
+
+/// There is a run from each start on a circuit, and each beginning of one goes on to a whole run.
+fn has_runs<P: Ported>(circuit: &Circuit<P>)
+    ensures { let r = rules_of P.behaviour P.settled P.port_state P.placed P.withdrawn in
+        HasRuns r circuit.now }
+{
+    known_order(circuit);
+    trace_exists::<P>();
+}
+
+/// Writes why the run stops in place of the round of this number, and answers its outcome.
+fn stop<S: Sink>(
+    alloc: Global,
+    fault: RoundFault,
+    turn: u64,
+    budget: u64,
+    tally: Tally,
+    out: &mut S,
+) -> Outcome
+    ensures stops { StopsAs turn budget tally fault (S.told out.old) (S.told out.new) result }
+    ensures cause { fault ≢ SinkFailed → result.end ≡ End2.WriteFault → Rose (S.faults out.old) (S.faults out.new) }
+    ensures later { S.faults out.old ≤ S.faults out.new }
+{
+    match fault {
+        RoundFault::Spent { knot, weight } => {
+            let round = turn;
+            let ending = Ending::Spent {
+                round,
+                knot,
+                weight,
+                budget,
+            };
+            close(alloc, ending, tally, out)
+        }
+        RoundFault::Wide { knot } => close(alloc, Ending::Wide { round: turn, knot }, tally, out),
+        RoundFault::Failed => tally.outcome(End2::WriteFault),
+        RoundFault::NoMemory => tally.outcome(End2::NoMemory),
+    }
+}
+
+/// The rounds of a run of which some component is not done, and its ending.
+fn make_rounds<P: Ported, L: Ledger, S: Sink>(
+    alloc: Global,
+    engine: &mut Engine<P>,
+    players: &mut Players,
+    ports: &Ports,
+    limits: Limits,
+    steps: &mut Steps<L>,
+    out: &mut S,
+) -> Outcome
+    requires between { AreBetween ports.now.list engine.old.circuit.ports players.old (map P.port_state engine.old.circuit.primitives) }
+    requires none_made { engine.old.rounds ≡ 0 }
+    requires small_budget { limits.budget ≤ 10 ^ 9 }
+    requires few_rounds { limits.rounds ≤ 10 ^ 9 }
+    ensures came { let r = rules_of P.behaviour P.settled P.port_state P.placed P.withdrawn in
+        CameTo r ports.now.list limits.budget limits.rounds
+        (record { state = record { circuit = engine.old.circuit; players = players.old }; over = None })
+        (S.told out.old) (S.told out.new) result }
+    ensures cause { result.end ≡ End2.WriteFault → Rose (S.faults out.old) (S.faults out.new) }
+    ensures later { S.faults out.old ≤ S.faults out.new }
+{
+    has_runs(engine.circuit());
+    let mut tally = Tally::new();
+    loop {
+        let made = engine.rounds();
+        if made == limits.rounds {
+            let ending = Ending::Limit { rounds: made };
+            return close(alloc, ending, tally, out);
+        }
+        let round = make_round(alloc, engine, players, ports, limits, tally, steps, out);
+        match round {
+            Ok(made) => {
+                tally = made.tally;
+                if let Some(ending) = made.over {
+                    return close(alloc, ending, tally, out);
+                }
+            }
+            Err(fault) => return stop(alloc, fault, made + 1, limits.budget, tally, out),
+        }
+    }
+}
+
+/// The run of components on a circuit, whose steps are counted in a book.
+fn run_counted<P: Ported, L: Ledger, S: Sink>(
+    alloc: Global,
+    circuit: Circuit<P>,
+    ports: &Ports,
+    script: Script,
+    limits: Limits,
+    blank: Blank,
+    out: &mut S,
+) -> Outcome
+    requires name { blank.name ≡ L.name }
+    requires parts { blank.parts ≡ L.parts }
+    requires some_part { 0 < L.parts }
+    requires small_budget { limits.budget ≤ 10 ^ 9 }
+    requires few_rounds { limits.rounds ≤ 10 ^ 9 }
+    requires fit { CanRun (map P.port_state circuit.primitives) circuit.ports ports.now.list script.components }
+    ensures came { let r = rules_of P.behaviour P.settled P.port_state P.placed P.withdrawn in
+        CameTo r ports.now.list limits.budget limits.rounds (start_of circuit script.components)
+        (S.told out.old) (S.told out.new) result }
+    ensures cause { result.end ≡ End2.WriteFault → Rose (S.faults out.old) (S.faults out.new) }
+    ensures later { S.faults out.old ≤ S.faults out.new }
+{
+    has_runs(&circuit);
+    let tally = Tally::new();
+    let Ok(mut players) = Players::new(alloc, script) else {
+        return tally.outcome(End2::NoMemory);
+    };
+    if players.all_done() {
+        return close(alloc, Ending::Done { rounds: 0 }, tally, out);
+    }
+    let Ok(mut engine) = Engine::new(alloc, circuit) else {
+        return tally.outcome(End2::NoMemory);
+    };
+    let mut steps = Steps::<L>::new(blank);
+    make_rounds(
+        alloc,
+        &mut engine,
+        &mut players,
+        ports,
+        limits,
+        &mut steps,
+        out,
+    )
+}
 
 /// Runs a script on a circuit, and writes its trace: a line for each round, after it was planned
 /// and before the circuit steps, and then the ending.
@@ -39,10 +185,12 @@ pub fn run<S: Sink>(
     ensures cause { result.end ≡ End2.WriteFault → Rose (S.faults out.old) (S.faults out.new) }
     ensures later { S.faults out.old ≤ S.faults out.new }
 {
-    let _ = alloc;
-    let _ = flat;
-    let _ = script;
-    let _ = limits;
-    let _ = out;
-    Tally::new().outcome(End2::NoMemory)
+    let Flat {
+        circuit,
+        ports,
+        nodes: _,
+        homes: _,
+    } = flat;
+    let blank = Blank::new(1);
+    run_counted::<_, Brand, S>(alloc, circuit, &ports, script, limits, blank, out)
 }

@@ -1,29 +1,33 @@
 //! What the components offer at the start of a round.
-ghost use Rattle.std.specs.Prelude.{◌≡◌, ◌<◌, OnOk, Some, length, map};
+ghost use Rattle.std.specs.Prelude.{◌≡◌, ◌<◌, ◌+◌, IfOk, OnOk, MatchOption, Some, length, map};
 ghost use Rattle.reo_net_base.specs.Net.{Wiring};
 ghost use Rattle.reo_net_base.specs.Step.{change_at};
 ghost use Rattle.reo_net_circuit.specs.Offers.{OnlyPort};
+ghost use Rattle.reo_players.specs.Players.{player_of};
 ghost use Rattle.reo_players.specs.Offers.{offer_for};
 ghost use Rattle.reo_engine_base.specs.Offering.{IsTakenAt};
 ghost use Rattle.reo_engine_base.specs.Ready.{ready};
 ghost use Rattle.reo_engine_base.specs.Rules.{rules_of};
 ghost use Rattle.reo_runner_ports.specs.Pending.{IsButForOffers};
 ghost use Rattle.reo_runner_ports.specs.Between.{AreBetween, AreStarted};
+ghost use Rattle.reo_runner_ports.specs.Parts.{AreOffering, HasOffered, IsFresh};
 
 use reo_engine::Engine;
 use reo_net_base::{Offer, Ported, Ports};
-use reo_players::{Players, Want};
+use reo_players::{Players, Want, offers_agree};
 use reo_values::{NoMemory, copy};
 use std::alloc::Global;
 
 /// Makes an offer pending that its port takes.
 fn place<P: Ported>(engine: &mut Engine<P>, port: usize, offer: Offer)
-    requires { IsTakenAt (map P.port_state engine.old.circuit.primitives) engine.old.circuit.ports port offer }
+    requires { let old = engine.old.circuit in
+        IsTakenAt (map P.port_state old.primitives) old.ports port offer }
     ensures circuit { let old = engine.old.circuit in
         let primitives = change_at (λ p. P.placed p offer) old.primitives port in
         engine.new.circuit ≡ record old { primitives = primitives } }
     ensures offers { let old = engine.old.circuit.primitives in
-        OnlyPort (map P.port_state old) (map P.port_state engine.new.circuit.primitives) port (Some offer) }
+        let new = engine.new.circuit.primitives in
+        OnlyPort (map P.port_state old) (map P.port_state new) port (Some offer) }
     ensures rounds { engine.new.rounds ≡ engine.old.rounds }
 {
     let Ok(()) = engine.offer(port, offer) else {
@@ -31,23 +35,52 @@ fn place<P: Ported>(engine: &mut Engine<P>, port: usize, offer: Offer)
     };
 }
 
-/// Offers what a component wants, where no round has seen it yet.
+/// What a component offers that no round has seen yet, and at which port. `NoMemory` is out of
+/// memory.
+fn fresh_offer(
+    alloc: Global,
+    players: &Players,
+    component: usize,
+) -> Result<Option<(usize, Offer)>, NoMemory>
+    requires { component < length players.now }
+    ensures { let player = player_of players.now component in
+        IfOk result (λ made. MatchOption made (HasOffered player)
+        (λ m. IsFresh player m.0 m.1)) }
+{
+    if !players.fresh(component) {
+        return Ok(None);
+    }
+    match players.wants(component) {
+        Want::Write { port, item } => Ok(Some((port, Offer::Write(copy(alloc, item)?)))),
+        Want::Take { port } => Ok(Some((port, Offer::Take))),
+        Want::Rest => Ok(None),
+        Want::Done => Ok(None),
+    }
+}
+
+/// Offers what a component wants, where no round has seen it yet. `NoMemory` is out of memory.
 fn offer_fresh<P: Ported>(
     alloc: Global,
     engine: &mut Engine<P>,
+    ports: &Ports,
     players: &Players,
     component: usize,
-) -> Result<(), NoMemory> {
-    if !players.fresh(component) {
-        return Ok(());
-    }
-    match players.wants(component) {
-        Want::Write { port, item } => {
-            let item = copy(alloc, item)?;
-            place(engine, port, Offer::Write(item));
-        }
-        Want::Take { port } => place(engine, port, Offer::Take),
-        Want::Rest | Want::Done => {}
+) -> Result<(), NoMemory>
+    requires there { component < length players.now }
+    requires before { let old = engine.old.circuit in
+        let states = map P.port_state old.primitives in
+        AreOffering ports.now.list old.ports component players.now states }
+    ensures offers { let new = engine.new.circuit in
+        let states = map P.port_state new.primitives in
+        OnOk result (AreOffering ports.now.list new.ports (component + 1) players.now states) }
+    ensures circuit { let r = rules_of P.behaviour P.settled P.port_state P.placed P.withdrawn in
+        OnOk result ((w : Wiring _) → IsButForOffers r w engine.old.circuit
+        → IsButForOffers r w engine.new.circuit) }
+    ensures rounds { engine.new.rounds ≡ engine.old.rounds }
+{
+    let _ = ports;
+    if let Some((port, offer)) = fresh_offer(alloc, players, component)? {
+        place(engine, port, offer);
     }
     Ok(())
 }
@@ -60,16 +93,19 @@ pub fn offer_all<P: Ported>(
     ports: &Ports,
     players: &Players,
 ) -> Result<(), NoMemory>
-    requires { AreBetween ports.now.list engine.old.circuit.ports players.now (map P.port_state engine.old.circuit.primitives) }
+    requires { let old = engine.old.circuit in
+        AreBetween ports.now.list old.ports players.now (map P.port_state old.primitives) }
     ensures ready { let r = rules_of P.behaviour P.settled P.port_state P.placed P.withdrawn in
         OnOk result ((w : Wiring _) → IsButForOffers r w engine.old.circuit
         → engine.new.circuit ≡ ready r (offer_for players.now) w) }
-    ensures started { OnOk result (AreStarted ports.now.list engine.new.circuit.ports players.now (map P.port_state engine.new.circuit.primitives)) }
+    ensures started { let new = engine.new.circuit in
+        let states = map P.port_state new.primitives in
+        OnOk result (AreStarted ports.now.list new.ports players.now states) }
     ensures rounds { engine.new.rounds ≡ engine.old.rounds }
 {
-    let _ = ports;
+    offers_agree();
     for component in 0..players.count() {
-        offer_fresh(alloc, engine, players, component)?;
+        offer_fresh(alloc, engine, ports, players, component)?;
     }
     Ok(())
 }

@@ -1,0 +1,6 @@
+mod TextLemmas
+mod CountLemmas
+mod SoFar
+mod RunLemmas
+mod RoundLemmas
+mod StartLemmas
