@@ -10,7 +10,7 @@ pub enum Change {
     Row(usize, u32),
     /// A joint has this number, or no item.
     Item(usize, Option<i64>),
-    /// A move of the others is left out: the last.
+    /// The last move is left out.
     Less,
     /// A move is at this port.
     Port(usize, usize),

@@ -21,7 +21,8 @@ use std::alloc::Global;
 /// The program of a short text.
 fn program_of(alloc: Global, text: &[u8]) -> Option<Program>
     ensures spelled { IfSome result (λ program. IsSpelled program) }
-    ensures plain { IfSome result (λ program. All HasPlainNames (connectors_of program.declarations)) }
+    ensures plain { IfSome result (λ program.
+        All HasPlainNames (connectors_of program.declarations)) }
 {
     names_are_plain();
     programs_are_spelled();

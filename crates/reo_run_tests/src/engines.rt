@@ -5,6 +5,7 @@ use crate::playing::Act::{self, Changed, Offer, Pending, Plan, Round, Suits, Wit
 use crate::playing::are_played;
 use reo_engine::OfferFault;
 
+/// A buffer of two places, which holds 7.
 const BUFFERED: &[u8] = b"connector main(in a: int 0..9, out b: int 0..9) { fifo 2 a b with 7; }";
 
 /// Between a and b there are two channels, so neither can flow; c and d stand apart.
