@@ -14,7 +14,8 @@ use std::alloc::Global;
 /// How the run is over after a round, if it is: done where every component is done, else stuck
 /// where the round was idle and no component counted in it.
 pub(crate) fn over_after(turn: u64, idle: bool, counted: bool, players: &Players) -> Option<Ending>
-    ensures { result ≡ cond (all_done players.now) (Some (IsDone turn)) (cond (idle && not counted) (Some (IsStuck turn)) None) }
+    ensures { let stuck = cond (idle && not counted) (Some (IsStuck turn)) None in
+        result ≡ cond (all_done players.now) (Some (IsDone turn)) stuck }
 {
     if players.all_done() {
         Some(Ending::Done { rounds: turn })

@@ -105,8 +105,10 @@ impl Tally {
         requires delivered { self.delivered < 2 ^ 63 }
         requires few { length moves.now < 2 ^ 32 }
         ensures rounds { result.rounds ≡ self.rounds + 1 }
-        ensures written { result.written ≡ self.written + count_by (goes is_in ports.now.list) moves.now }
-        ensures delivered { result.delivered ≡ self.delivered + count_by (goes is_out ports.now.list) moves.now }
+        ensures written { let more = count_by (goes is_in ports.now.list) moves.now in
+            result.written ≡ self.written + more }
+        ensures delivered { let more = count_by (goes is_out ports.now.list) moves.now in
+            result.delivered ≡ self.delivered + more }
     {
         let written = count_in(ports, moves);
         let delivered = moves.len() as u64 - written;

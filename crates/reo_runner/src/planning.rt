@@ -52,7 +52,8 @@ pub(crate) fn plan_round<P: Ported, L: Ledger>(
 ) -> Result<Planned, RoundFault>
     requires small { budget < 10 ^ 18 }
     ensures exact { let net = net_of P.behaviour engine.now.circuit in
-        MatchResult result (IsPlannedRound budget net engine.now.circuit.ports (engine.now.rounds + 1))
+        let turn = engine.now.rounds + 1 in
+        MatchResult result (IsPlannedRound budget net engine.now.circuit.ports turn)
         (IsUnplanned budget net) }
 {
     engine.known();

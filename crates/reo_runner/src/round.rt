@@ -1,5 +1,5 @@
 //! One round of a run.
-ghost use Rattle.std.specs.Prelude.{◌≡◌, ◌≤◌, ◌<◌, ◌+◌, ◌^◌, ◌&&◌, not, cond, length, map, IfOk, OnOk, IfErr, IsErrOf, Some, None};
+ghost use Rattle.std.specs.Prelude.{◌≡◌, ◌≤◌, ◌<◌, ◌+◌, ◌^◌, map, IfOk, OnOk, IfErr, OnErr, IsErrOf};
 ghost use Rattle.reo_io.specs.Causes.{Rose};
 ghost use Rattle.reo_net_base.specs.Net.{Wiring, net_of};
 ghost use Rattle.reo_net_base.specs.Step.{stepped};
@@ -41,18 +41,24 @@ fn carry_out<P: Ported>(
     plan: Plan,
     tally: Tally,
 ) -> Made
-    requires started { AreStarted ports.now.list engine.old.circuit.ports players.old (map P.port_state engine.old.circuit.primitives) }
+    requires started { let old = engine.old.circuit in
+        AreStarted ports.now.list old.ports players.old (map P.port_state old.primitives) }
     requires suits { Suits (net_of P.behaviour engine.old.circuit) engine.old.circuit.ports plan }
     requires few { engine.old.rounds < 10 ^ 9 }
     requires small { IsSmall tally }
     requires fewer { tally.rounds < 10 ^ 9 }
-    ensures players { players.new ≡ advanced (net_of P.behaviour engine.old.circuit) plan.colouring.rows players.old }
+    ensures players { let net = net_of P.behaviour engine.old.circuit in
+        players.new ≡ advanced net plan.colouring.rows players.old }
     ensures circuit { let r = rules_of P.behaviour P.settled P.port_state P.placed P.withdrawn in
         let old = engine.old.circuit in
-        IsButForOffers r (record old { primitives = stepped P.behaviour P.settled old plan.colouring.rows plan.colouring.items }) engine.new.circuit }
-    ensures between { AreBetween ports.now.list engine.new.circuit.ports players.new (map P.port_state engine.new.circuit.primitives) }
+        let rows = plan.colouring.rows in
+        let primitives = stepped P.behaviour P.settled old rows plan.colouring.items in
+        IsButForOffers r (record old { primitives = primitives }) engine.new.circuit }
+    ensures between { let new = engine.new.circuit in
+        AreBetween ports.now.list new.ports players.new (map P.port_state new.primitives) }
     ensures rounds { engine.new.rounds ≡ engine.old.rounds + 1 }
-    ensures over { result.over ≡ over_after (engine.old.rounds + 1) plan.idle players.old players.new }
+    ensures over { let turn = engine.old.rounds + 1 in
+        result.over ≡ over_after turn plan.idle players.old players.new }
     ensures tallied { IsTallied ports.now.list plan.moves tally result.tally }
     ensures small { IsSmall result.tally }
 {
@@ -77,7 +83,7 @@ fn carry_out<P: Ported>(
 ///
 /// `Spent` and `Wide` name a part that is over. `Failed` comes only where the sink's count of faults
 /// rose: a front of the line was taken, and not the whole. `NoMemory` is out of memory. But for
-/// `Failed` the sink stays as it was.
+/// `Failed` the sink stays as it was. No round was made.
 pub(crate) fn make_round<P: Ported, L: Ledger, S: Sink>(
     alloc: Global,
     engine: &mut Engine<P>,
@@ -88,22 +94,29 @@ pub(crate) fn make_round<P: Ported, L: Ledger, S: Sink>(
     steps: &mut Steps<L>,
     out: &mut S,
 ) -> Result<Made, RoundFault>
-    requires between { AreBetween ports.now.list engine.old.circuit.ports players.old (map P.port_state engine.old.circuit.primitives) }
+    requires between { let old = engine.old.circuit in
+        AreBetween ports.now.list old.ports players.old (map P.port_state old.primitives) }
     requires budget { limits.budget < 10 ^ 18 }
     requires goes_on { engine.old.rounds < limits.rounds }
     requires few { limits.rounds ≤ 10 ^ 9 }
     requires small { IsSmall tally }
     requires count { tally.rounds ≡ engine.old.rounds }
     ensures made { let r = rules_of P.behaviour P.settled P.port_state P.placed P.withdrawn in
+        let turn = engine.old.rounds + 1 in
         (w : Wiring _) → IsButForOffers r w engine.old.circuit
-        → IfOk result (MadeRound r ports.now.list limits.budget limits.rounds (engine.old.rounds + 1) (record { circuit = w; players = players.old })
+        → IfOk result (MadeRound r ports.now.list limits.budget limits.rounds turn
+        (record { circuit = w; players = players.old })
         (S.told out.old) (S.told out.new) tally engine.new.circuit players.new) }
     ensures fault { let r = rules_of P.behaviour P.settled P.port_state P.placed P.withdrawn in
+        let turn = engine.old.rounds + 1 in
         (w : Wiring _) → IsButForOffers r w engine.old.circuit
-        → IfErr result (IsRoundFault r ports.now.list limits.budget limits.rounds (engine.old.rounds + 1) (record { circuit = w; players = players.old })
-        (S.told out.old) (S.told out.new)) }
-    ensures between { OnOk result (AreBetween ports.now.list engine.new.circuit.ports players.new (map P.port_state engine.new.circuit.primitives)) }
+        → IfErr result (IsRoundFault r ports.now.list limits.budget limits.rounds turn
+        (record { circuit = w; players = players.old }) (S.told out.old) (S.told out.new)) }
+    ensures between { let new = engine.new.circuit in
+        let states = map P.port_state new.primitives in
+        OnOk result (AreBetween ports.now.list new.ports players.new states) }
     ensures rounds { OnOk result (engine.new.rounds ≡ engine.old.rounds + 1) }
+    ensures not_made { OnErr result (engine.new.rounds ≡ engine.old.rounds) }
     ensures small { IfOk result (λ made. IsSmall made.tally) }
     ensures cause { IsErrOf result SinkFailed → Rose (S.faults out.old) (S.faults out.new) }
     ensures later { S.faults out.old ≤ S.faults out.new }

@@ -52,7 +52,8 @@ fn stop<S: Sink>(
     out: &mut S,
 ) -> Outcome
     ensures stops { StopsAs turn budget tally fault (S.told out.old) (S.told out.new) result }
-    ensures cause { fault ≢ SinkFailed → result.end ≡ End2.WriteFault → Rose (S.faults out.old) (S.faults out.new) }
+    ensures cause { fault ≢ SinkFailed → result.end ≡ End2.WriteFault
+        → Rose (S.faults out.old) (S.faults out.new) }
     ensures later { S.faults out.old ≤ S.faults out.new }
 {
     match fault {
@@ -82,13 +83,15 @@ fn make_rounds<P: Ported, L: Ledger, S: Sink>(
     steps: &mut Steps<L>,
     out: &mut S,
 ) -> Outcome
-    requires between { AreBetween ports.now.list engine.old.circuit.ports players.old (map P.port_state engine.old.circuit.primitives) }
+    requires between { let old = engine.old.circuit in
+        AreBetween ports.now.list old.ports players.old (map P.port_state old.primitives) }
     requires none_made { engine.old.rounds ≡ 0 }
     requires small_budget { limits.budget ≤ 10 ^ 9 }
     requires few_rounds { limits.rounds ≤ 10 ^ 9 }
     ensures came { let r = rules_of P.behaviour P.settled P.port_state P.placed P.withdrawn in
+        let circuit = engine.old.circuit in
         CameTo r ports.now.list limits.budget limits.rounds
-        (record { state = record { circuit = engine.old.circuit; players = players.old }; over = None })
+        (record { state = record { circuit = circuit; players = players.old }; over = None })
         (S.told out.old) (S.told out.new) result }
     ensures cause { result.end ≡ End2.WriteFault → Rose (S.faults out.old) (S.faults out.new) }
     ensures later { S.faults out.old ≤ S.faults out.new }
@@ -129,7 +132,8 @@ fn run_counted<P: Ported, L: Ledger, S: Sink>(
     requires some_part { 0 < L.parts }
     requires small_budget { limits.budget ≤ 10 ^ 9 }
     requires few_rounds { limits.rounds ≤ 10 ^ 9 }
-    requires fit { CanRun (map P.port_state circuit.primitives) circuit.ports ports.now.list script.components }
+    requires fit { let states = map P.port_state circuit.primitives in
+        CanRun states circuit.ports ports.now.list script.components }
     ensures came { let r = rules_of P.behaviour P.settled P.port_state P.placed P.withdrawn in
         CameTo r ports.now.list limits.budget limits.rounds (start_of circuit script.components)
         (S.told out.old) (S.told out.new) result }
@@ -180,8 +184,11 @@ pub fn run<S: Sink>(
     requires small_budget { limits.budget ≤ 10 ^ 9 }
     requires some_round { 1 ≤ limits.rounds }
     requires few_rounds { limits.rounds ≤ 10 ^ 9 }
-    requires fit { CanRun (map port_state_of flat.circuit.primitives) flat.circuit.ports flat.ports.list script.components }
-    ensures came { CameTo kind_rules flat.ports.list limits.budget limits.rounds (start_of flat.circuit script.components) (S.told out.old) (S.told out.new) result }
+    requires fit { let states = map port_state_of flat.circuit.primitives in
+        CanRun states flat.circuit.ports flat.ports.list script.components }
+    ensures came { let start = start_of flat.circuit script.components in
+        CameTo kind_rules flat.ports.list limits.budget limits.rounds start
+        (S.told out.old) (S.told out.new) result }
     ensures cause { result.end ≡ End2.WriteFault → Rose (S.faults out.old) (S.faults out.new) }
     ensures later { S.faults out.old ≤ S.faults out.new }
 {
