@@ -1,1 +1,1 @@
-pub mod BegunLemmas
+pub mod ChosenLemmas

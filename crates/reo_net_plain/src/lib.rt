@@ -3,6 +3,7 @@
 
 mod clash;
 mod jam;
+mod next;
 mod search;
 
 pub use search::plain_first;

@@ -1,12 +1,14 @@
 //! The search, side by side.
-ghost use Rattle.std.specs.Prelude.{◌≡◌, ◌≤◌, ℕ, IfOk, OnOk, length};
-ghost use Rattle.reo_net_base.specs.Net.{net_of, all_sides};
+ghost use Rattle.std.specs.Prelude.{◌≡◌, IfOk, OnOk, length, replicate, false};
+ghost use Rattle.reo_net_base.specs.Net.{net_of};
+ghost use Rattle.reo_net_base.specs.Sides.{side_count, AreRowsOf};
 ghost use Rattle.reo_net_base.specs.Colouring.{RowsFit, IsColouring};
 ghost use Rattle.reo_net_base.specs.First.{IsFirst};
-ghost use Rattle.reo_net_plain.specs.Begun.{AreFirstRows, Improves};
+ghost use Rattle.reo_net_plain.specs.Chosen.{Agrees, Improves};
 
 use crate::clash::clashes;
 use crate::jam::jammed;
+use crate::next::next_side;
 use reo_net_base::{Colouring, Primitive};
 use reo_net_circuit::Circuit;
 use reo_net_colouring::{colour, compare};
@@ -23,8 +25,8 @@ fn improved<P: Primitive>(
 ) -> Result<Colouring, NoMemory>
     requires rows { RowsFit (net_of P.behaviour circuit.now) rows.now }
     requires best { IsColouring (net_of P.behaviour circuit.now) best.rows best.items }
-    ensures { let net = net_of P.behaviour circuit.now in
-        IfOk result (λ found. Improves net turn rows.now best.rows found.rows found.items) }
+    ensures { let net = net_of P.behaviour circuit.now in IfOk result
+        (λ found. Improves net turn (λ others. others ≡ rows.now) best.rows found.rows found.items) }
 {
     let tried = rows.as_slice();
     match colour(alloc, circuit, tried)? {
@@ -40,34 +42,49 @@ fn improved<P: Primitive>(
     }
 }
 
-/// The best of a colouring and all that begin with these rows. A choice is left where two chosen
-/// sides do not match.
+/// The best of a colouring and all that have these rows at the chosen sides. It goes no further where
+/// two chosen sides do not match.
 fn best_from<P: Primitive>(
     alloc: Global,
     circuit: &Circuit<P>,
     turn: u64,
     rows: &mut List<u32>,
+    chosen: &mut [bool],
     mut best: Colouring,
 ) -> Result<Colouring, NoMemory>
-    requires rows { AreFirstRows (all_sides (net_of P.behaviour circuit.now).primitives) rows.old }
+    requires rows { AreRowsOf (net_of P.behaviour circuit.now) rows.old }
+    requires chosen { length chosen.old ≡ side_count (net_of P.behaviour circuit.now) }
     requires best { IsColouring (net_of P.behaviour circuit.now) best.rows best.items }
-    ensures best { let net = net_of P.behaviour circuit.now in
-        IfOk result (λ found. Improves net turn rows.old best.rows found.rows found.items) }
-    ensures same { OnOk result (rows.new ≡ rows.old) }
+    ensures best { let net = net_of P.behaviour circuit.now in IfOk result
+        (λ found. Improves net turn (Agrees chosen.old rows.old) best.rows found.rows found.items) }
+    ensures rows { OnOk result (AreRowsOf (net_of P.behaviour circuit.now) rows.new) }
+    ensures agree { OnOk result (Agrees chosen.old rows.old rows.new) }
+    ensures chosen { OnOk result (chosen.new ≡ chosen.old) }
 {
-    if clashes(circuit, rows.as_slice()) {
+    if clashes(circuit, rows.as_slice(), chosen) {
         return Ok(best);
     }
-    let side = rows.len();
-    if side == circuit.sides() {
+    let Some(side) = next_side(circuit, chosen) else {
         return improved(alloc, circuit, turn, rows, best);
-    }
+    };
+    chosen[side] = true;
     for row in 0..circuit.rows(side) {
-        rows.push(row as u32)?;
-        best = best_from(alloc, circuit, turn, rows, best)?;
-        rows.truncate(side);
+        *rows.at_mut(side) = row as u32;
+        best = best_from(alloc, circuit, turn, rows, chosen, best)?;
     }
+    chosen[side] = false;
     Ok(best)
+}
+
+/// A mark for each side, none of which is chosen.
+fn none_chosen<P: Primitive>(alloc: Global, circuit: &Circuit<P>) -> Result<Vec<bool>, NoMemory>
+    ensures { let net = net_of P.behaviour circuit.now in
+        IfOk result (λ marks. marks.items ≡ replicate (side_count net) false) }
+{
+    match vec![in alloc; false; circuit.sides()] {
+        Ok(marks) => Ok(marks),
+        Err(_) => Err(NoMemory),
+    }
 }
 
 /// The first colouring of a circuit in the round of this number, which counts from 1. `NoMemory` is
@@ -81,6 +98,7 @@ pub fn plain_first<P: Primitive>(
         IfOk result (λ found. IsFirst net turn found.rows found.items) }
 {
     let jam = jammed(alloc, circuit)?;
-    let mut rows = List::new(alloc);
-    best_from(alloc, circuit, turn, &mut rows, jam)
+    let mut rows = jam.rows.copied(alloc)?;
+    let mut chosen = none_chosen(alloc, circuit)?;
+    best_from(alloc, circuit, turn, &mut rows, &mut chosen, jam)
 }

@@ -1,21 +1,18 @@
-use Rattle.std.proofs.Common.{◌≡◌, ◌≢◌, ◌<◌, ◌-◌, ℕ, List, Option, length, get_or}
-use Rattle.std.specs.declared.cmp.Ordering.TheVariants.{Less}
-use Rattle.reo_values.specs.declared.value.Value.{Value}
-use Rattle.reo_net_base.specs.Net.{net_of, all_sides}
-use Rattle.reo_net_base.specs.Colouring.{IsColouring}
-use Rattle.reo_net_base.specs.First.{order_of}
-use Rattle.reo_net_plain.specs.Begun.{IsPrefix}
+use Rattle.std.proofs.Common.{◌≡◌, ◌<◌, not, true, get_or, set}
+use Rattle.std.specs.List.{count_by}
+use Rattle.reo_net_base.specs.Net.{net_of}
+use Rattle.reo_net_base.specs.Sides.{AreRowsOf}
+use Rattle.reo_net_plain.specs.Chosen.{Agrees, Improves}
 use Rattle.reo_net_plain.proofs.search.+best_from.Given as goal
 
 abbrev pub decreases-best_from : goal.decreases-best_from
-decreases-best_from g a = length (all_sides (net_of g.P.Primitive.behaviour a.circuit.now).primitives) - length a.rows.now
+decreases-best_from g a = count_by not a.chosen.now
 
 -- The best so far is no worse than the old, nor than all that go on with a row that was tried.
 abbrev pub invariant-loop-row : goal.invariant-loop-row
 invariant-loop-row g l = record {
-  same : l.rows ≡ l.fn.rows;
-  colouring : IsColouring (net_of g.P.Primitive.behaviour l.circuit) l.best.rows l.best.items;
-  not_after_old : (others : List ℕ) → order_of (net_of g.P.Primitive.behaviour l.circuit) l.turn others l.fn.best.rows ≢ Less → order_of (net_of g.P.Primitive.behaviour l.circuit) l.turn others l.best.rows ≢ Less;
-  not_after_tried : (others : List ℕ) (items : List (Option Value)) → IsColouring (net_of g.P.Primitive.behaviour l.circuit) others items → IsPrefix l.fn.rows others → get_or others (length l.fn.rows) 0 < l.row
-      → order_of (net_of g.P.Primitive.behaviour l.circuit) l.turn others l.best.rows ≢ Less;
+  chosen : l.chosen ≡ set l.fn.chosen l.side true;
+  rows : AreRowsOf (net_of g.P.Primitive.behaviour l.circuit) l.rows;
+  agree : Agrees l.fn.chosen l.fn.rows l.rows;
+  best : Improves (net_of g.P.Primitive.behaviour l.circuit) l.turn (λ others. Agrees l.fn.chosen l.fn.rows others × (get_or others l.side 0 < l.row)) l.fn.best.rows l.best.rows l.best.items;
 }
