@@ -9,6 +9,8 @@ mod expressions;
 #[cfg(test)]
 mod items;
 #[cfg(test)]
+mod lanes;
+#[cfg(test)]
 mod lists;
 #[cfg(test)]
 mod looks;
