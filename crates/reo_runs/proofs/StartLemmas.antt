@@ -1,6 +1,6 @@
 -- Port by port: what is pending there after the offers are placed, and what stays.
 use Rattle.std.proofs.Common.{zero-add, ◌≡◌, ◌∙◌, ℕ, zero, suc, ◌+◌, ◌<◌, ◌≤◌, cond, true, false, List, [], ◌∷◌, refl, length, map, arith}
-use Rattle.std.specs.Prelude.{Option, Some, None, is_some, nat_lt, slice_get}
+use Rattle.std.specs.Prelude.{Option, Some, None, is_some, nat_lt, slice_get, option_map}
 use Rattle.std.proofs.lemmas.Bool.Decides.{nat_tests}
 use Rattle.reo_net_base.specs.declared.port.Offer.{Offer}
 use Rattle.reo_net_base.specs.declared.port.Offer.TheVariants.{Write, Take}
@@ -33,6 +33,17 @@ module _ {P : Type 0} (r : Rules P) (offers : ℕ → Option Offer) where
       let no : nat_lt k limit ≡ false = grind (arith, nat_tests) in
       rw no refl
   ready_others (p ∷ ps) limit k (suc i) le = ready_others ps limit (suc k) i (omega arith)
+
+  -- A port is the one that it was, with exactly what is offered there pending.
+  pub ready_at : (ps : List P) (limit k i : ℕ) → k + i < limit → slice_get (ports_ready r offers limit k ps) i ≡ option_map (with_pending r (offers (k + i))) (slice_get ps i)
+  ready_at [] limit k i lt = refl
+  ready_at (p ∷ ps) limit k zero lt =
+      let here : k + zero ≡ k = omega arith in
+      let yes : nat_lt k limit ≡ true = grind (arith, nat_tests) in
+      rw (yes, here) refl
+  ready_at (p ∷ ps) limit k (suc i) lt =
+      let next : k + suc i ≡ suc k + i = omega arith in
+      rw next (ready_at ps limit (suc k) i (omega arith))
 
 module _ {P : Type 0} (r : Rules P) (withdrawn : (q : P) → IsPortWith (r.port_state q) (r.port_state (r.withdrawn q)) None)
     (placed : (q : P) (offer : Offer) → CanPlace (r.port_state q) offer → IsPortWith (r.port_state q) (r.port_state (r.placed q offer)) (Some offer)) where

@@ -1,19 +1,22 @@
 -- The start of a round in the subject's own words.
-use Rattle.std.specs.Prelude.{ℕ, ◌<◌, ◌≤◌, ◌≡◌, Some, length, slice_get, map}
+use Rattle.std.specs.Prelude.{ℕ, ◌<◌, ◌≤◌, ◌≡◌, Some, length, slice_get, option_map, map}
 use Rattle.reo_net_base.specs.declared.port.Offer.{Offer}
 use Rattle.reo_net_base.specs.PortState.{port_state_at, way_of, IsAccepted, IsPortWith}
 use Rattle.reo_net_base.specs.Net.{Wiring}
 use Rattle.reo_players.specs.Offers.{IsOffered, AreApart, offer_for}
 use Rattle.reo_engine_base.specs.Rules.{Rules}
-use Rattle.reo_engine_base.specs.Ready.{ready}
+use Rattle.reo_engine_base.specs.Ready.{with_pending, ready}
 use Rattle.reo_runs.specs.Round.{State}
 
--- At each port the offer of the component whose present action names it is pending, and at every other port nothing. The port
--- is otherwise as it was, and nothing else of the circuit differs.
+-- At each port the offer of the component whose present action names it is pending, and at every other port nothing. A port is
+-- the one that it was, with exactly what is pending there now, of the same way and for the same items; nothing else of the
+-- circuit differs.
 pub record IsStarted {P : Type 0} (r : Rules P) (a : State P) (w : Wiring P) : Type 0 where
   pub offered : (port : ℕ) → port < a.circuit.ports → IsOffered a.players port (port_state_at (map r.port_state w.primitives) port).pending
   pub same : (port : ℕ) → port < a.circuit.ports
       → IsPortWith (port_state_at (map r.port_state a.circuit.primitives) port) (port_state_at (map r.port_state w.primitives) port) (port_state_at (map r.port_state w.primitives) port).pending
+  pub but_for_offers : (port : ℕ) → port < a.circuit.ports
+      → slice_get w.primitives port ≡ option_map (with_pending r (port_state_at (map r.port_state w.primitives) port).pending) (slice_get a.circuit.primitives port)
   pub joints : w.joints ≡ a.circuit.joints
   pub ports : w.ports ≡ a.circuit.ports
   pub others : (k : ℕ) → a.circuit.ports ≤ k → slice_get w.primitives k ≡ slice_get a.circuit.primitives k

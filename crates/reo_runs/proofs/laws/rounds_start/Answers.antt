@@ -1,7 +1,9 @@
-use Rattle.std.proofs.Common.{refl, arith}
+use Rattle.std.proofs.Common.{◌∙◌, ap, sym, zero-add, refl, arith}
+use Rattle.std.specs.Prelude.{option_map, slice_get}
 use Rattle.reo_players.specs.Offers.{offer_for}
+use Rattle.reo_engine_base.specs.Ready.{with_pending}
 use Rattle.reo_engine_base.specs.Rules.{rules_of}
-use Rattle.reo_runs.proofs.StartLemmas.{started, ready_others}
+use Rattle.reo_runs.proofs.StartLemmas.{started, ready_others, ready_at}
 use Rattle.reo_runs.proofs.laws.rounds_start.Goals as goal
 
 pub returns : goal.returns
@@ -12,6 +14,9 @@ returns g c =
     record {
       offered = λ port lt. (c.offers_agree.ensures a.players port _ apart).1 (at_port port lt).pending_is;
       same = λ port lt. record { way = (at_port port lt).way; accepts = (at_port port lt).accepts; pending_is = refl };
+      but_for_offers = λ port lt.
+          rw (zero-add port) at (ready_at r (offer_for a.players) a.circuit.primitives a.circuit.ports 0 port (omega (arith, lt)))
+          ∙ ap (λ o. option_map (with_pending r o) (slice_get a.circuit.primitives port)) (sym (at_port port lt).pending_is);
       joints = refl;
       ports = refl;
       others = λ k le. ready_others r (offer_for a.players) a.circuit.primitives a.circuit.ports 0 k (omega (arith, le));
