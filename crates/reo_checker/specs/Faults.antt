@@ -1,11 +1,12 @@
 -- What may be wrong with rows and items for a circuit.
-use Rattle.std.specs.Prelude.{ℕ, ◌+◌, ◌<◌, ◌≤◌, ◌≡◌, ◌≢◌, ◌⊎◌, false, List, Option, None, length, slice_index, slice_index_or}
+use Rattle.std.specs.Prelude.{ℕ, ◌+◌, ◌<◌, ◌≤◌, ◌≡◌, ◌≢◌, ◌⊎◌, false, List, Option, Some, None, length, slice_index, slice_index_or}
 use Rattle.reo_values.specs.declared.value.Value.{Value}
 use Rattle.reo_net_base.specs.declared.joint.Joint.{Joint as JointEnds}
+use Rattle.reo_net_base.specs.declared.mark.Mark.TheVariants.{F}
 use Rattle.reo_net_base.specs.Marks.{marks_match}
 use Rattle.reo_net_base.specs.Net.{Net, behaviour_at, first_side, mark_at}
 use Rattle.reo_net_base.specs.Sides.{side_count, AreRowsOf}
-use Rattle.reo_net_base.specs.Colouring.{JointMatches, ItemFits, RowsFit}
+use Rattle.reo_net_base.specs.Colouring.{JointMatches, given_at, lets_in, ItemFits, RowsFit}
 use Rattle.reo_checker.specs.declared.wrong.Wrong.{Wrong}
 use Rattle.reo_checker.specs.declared.wrong.Wrong.TheVariants.{Count, Row, Joint, Item}
 
@@ -15,7 +16,8 @@ side_row net rows i side = slice_index rows (first_side net.primitives i + side)
 
 -- Each row of a primitive is in the table of its side.
 abbrev pub HasRows : Net → List ℕ → ℕ → Type 0
-HasRows net rows i = (side : ℕ) → side < (behaviour_at net.primitives i).sides
+HasRows net rows i =
+    (side : ℕ) → side < (behaviour_at net.primitives i).sides
     → side_row net rows i side < (behaviour_at net.primitives i).rows side
 
 -- Some row of a primitive is out of the table of its side.
@@ -26,15 +28,17 @@ pub record HasRowOut (net : Net) (rows : List ℕ) (i : ℕ) : Type 0 where
 
 -- The marks of a joint's two ends break the joint rule.
 abbrev pub JointClashes : Net → List ℕ → JointEnds → Type 0
-JointClashes net rows j = marks_match (mark_at net rows j.giver) (mark_at net rows j.taker) ≡ false
+JointClashes net rows j =
+    marks_match (mark_at net rows j.giver) (mark_at net rows j.taker) ≡ false
 
--- Each joint matches.
-abbrev pub AllMatch : Net → List ℕ → Type 0
-AllMatch net rows = (j : ℕ) (d : JointEnds) → j < length net.joints → JointMatches net rows (slice_index_or net.joints j d)
-
--- What stands at each joint fits there.
-abbrev pub AllFit : Net → List ℕ → List (Option Value) → Type 0
-AllFit net rows items = (j : ℕ) (d : JointEnds) → j < length net.joints → ItemFits net rows items (slice_index_or net.joints j d) (slice_index_or items j None)
+-- What stands at a joint does not fit there: it lacks its item, has one without flow, or has one
+-- that the giver's row does not give or the taker's row does not let in.
+abbrev pub ItemFails : Net → List ℕ → List (Option Value) → JointEnds → Option Value → Type 0
+ItemFails net rows items j None = mark_at net rows j.giver ≡ F
+ItemFails net rows items j (Some item) =
+    (mark_at net rows j.giver ≢ F)
+    ⊎ (given_at net rows items j.giver ≢ Some item)
+    ⊎ (lets_in net rows j.taker item ≡ false)
 
 -- The least primitive with a row out of its table.
 pub record IsRowFault (net : Net) (rows : List ℕ) (i : ℕ) : Type 0 where
@@ -46,13 +50,17 @@ pub record IsRowFault (net : Net) (rows : List ℕ) (i : ℕ) : Type 0 where
 pub record IsJointFault (net : Net) (rows : List ℕ) (j : ℕ) : Type 0 where
   pub in_range : j < length net.joints
   pub clashes : (d : JointEnds) → JointClashes net rows (slice_index_or net.joints j d)
-  pub before : (k : ℕ) (d : JointEnds) → k < j → JointMatches net rows (slice_index_or net.joints k d)
+  pub before : (k : ℕ) (d : JointEnds) → k < j
+      → JointMatches net rows (slice_index_or net.joints k d)
 
 -- The least joint at which what stands does not fit.
-pub record IsItemFault (net : Net) (rows : List ℕ) (items : List (Option Value)) (j : ℕ) : Type 0 where
+pub record IsItemFault (net : Net) (rows : List ℕ) (items : List (Option Value)) (j : ℕ)
+    : Type 0 where
   pub in_range : j < length net.joints
-  pub no_fit : (d : JointEnds) → ItemFits net rows items (slice_index_or net.joints j d) (slice_index_or items j None) → ⊥
-  pub before : (k : ℕ) (d : JointEnds) → k < j → ItemFits net rows items (slice_index_or net.joints k d) (slice_index_or items k None)
+  pub fails : (d : JointEnds)
+      → ItemFails net rows items (slice_index_or net.joints j d) (slice_index_or items j None)
+  pub before : (k : ℕ) (d : JointEnds) → k < j
+      → ItemFits net rows items (slice_index_or net.joints k d) (slice_index_or items k None)
 
 -- What is wrong first with rows, in the order of the causes.
 abbrev pub AreWrongRows : Net → List ℕ → Wrong → Type 0
@@ -63,7 +71,11 @@ AreWrongRows net rows (Item j) = ⊥
 
 -- What is wrong first with rows and items, in the order of the causes.
 abbrev pub IsWrong : Net → List ℕ → List (Option Value) → Wrong → Type 0
-IsWrong net rows items Count = (length rows ≢ side_count net) ⊎ (length items ≢ length net.joints)
-IsWrong net rows items (Row i) = (length items ≡ length net.joints) × AreWrongRows net rows (Row i)
-IsWrong net rows items (Joint j) = (length items ≡ length net.joints) × AreWrongRows net rows (Joint j)
-IsWrong net rows items (Item j) = (length items ≡ length net.joints) × RowsFit net rows × IsItemFault net rows items j
+IsWrong net rows items Count =
+    (length rows ≢ side_count net) ⊎ (length items ≢ length net.joints)
+IsWrong net rows items (Row i) =
+    (length items ≡ length net.joints) × AreWrongRows net rows (Row i)
+IsWrong net rows items (Joint j) =
+    (length items ≡ length net.joints) × AreWrongRows net rows (Joint j)
+IsWrong net rows items (Item j) =
+    (length items ≡ length net.joints) × RowsFit net rows × IsItemFault net rows items j

@@ -5,6 +5,7 @@ ghost use Rattle.reo_net_base.specs.Sides.{AreRowsOf};
 ghost use Rattle.reo_net_base.specs.Ends.{IsGiver, IsTaker};
 ghost use Rattle.reo_net_base.specs.Net.{net_of, all_sides, behaviour_at, mark_at};
 ghost use Rattle.reo_net_base.specs.Colouring.{given_at, lets_in, ItemFits};
+ghost use Rattle.reo_checker.specs.Faults.{ItemFails};
 
 use crate::taken::taken;
 use reo_net_base::{End, Joint, Primitive};
@@ -68,8 +69,10 @@ pub(crate) fn fits<P: Primitive>(
     requires items { length items.now ≡ length circuit.now.joints }
     requires giver { IsGiver (net_of P.behaviour circuit.now) joint.giver }
     requires taker { IsTaker (net_of P.behaviour circuit.now) joint.taker }
-    ensures { let net = net_of P.behaviour circuit.now in
-        IsTrue result ↔ ItemFits net rows.now items.now joint item.now }
+    ensures fits { let net = net_of P.behaviour circuit.now in
+        IsTrue result → ItemFits net rows.now items.now joint item.now }
+    ensures fails { let net = net_of P.behaviour circuit.now in
+        result ≡ false → ItemFails net rows.now items.now joint item.now }
 {
     let flows = circuit.mark_at(rows, joint.giver).is_flow();
     match item {

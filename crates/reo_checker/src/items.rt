@@ -2,7 +2,8 @@
 ghost use Rattle.std.specs.Prelude.{◌≡◌, ◌<◌, MatchOption, length};
 ghost use Rattle.reo_net_base.specs.Sides.{AreRowsOf};
 ghost use Rattle.reo_net_base.specs.Net.{net_of};
-ghost use Rattle.reo_checker.specs.Faults.{AllFit, IsItemFault};
+ghost use Rattle.reo_net_colouring.specs.Filled.{AllFit};
+ghost use Rattle.reo_checker.specs.Faults.{IsItemFault};
 
 use crate::fits::fits;
 use reo_net_base::Primitive;

@@ -4,7 +4,8 @@ ghost use Rattle.reo_net_base.specs.Sides.{AreRowsOf};
 ghost use Rattle.reo_net_base.specs.Wired.{IsEnd};
 ghost use Rattle.reo_net_base.specs.Marks.{marks_match};
 ghost use Rattle.reo_net_base.specs.Net.{net_of, mark_at};
-ghost use Rattle.reo_checker.specs.Faults.{AllMatch, IsJointFault};
+ghost use Rattle.reo_net_colouring.specs.Filled.{AllMatch};
+ghost use Rattle.reo_checker.specs.Faults.{IsJointFault};
 
 use reo_net_base::{Joint, Primitive, marks_match};
 use reo_net_circuit::Circuit;
@@ -15,7 +16,9 @@ fn matches_at<P: Primitive>(circuit: &Circuit<P>, rows: &[u32], joint: Joint) ->
     requires giver { IsEnd (net_of P.behaviour circuit.now).primitives joint.giver }
     requires taker { IsEnd (net_of P.behaviour circuit.now).primitives joint.taker }
     ensures { let net = net_of P.behaviour circuit.now in
-        result ≡ marks_match (mark_at net rows.now joint.giver) (mark_at net rows.now joint.taker) }
+        let giver = mark_at net rows.now joint.giver in
+        let taker = mark_at net rows.now joint.taker in
+        result ≡ marks_match giver taker }
 {
     let giver = circuit.mark_at(rows, joint.giver);
     let taker = circuit.mark_at(rows, joint.taker);

@@ -1,5 +1,5 @@
-//! Judges any rows and any colouring of a circuit: whether they fit, and else what is wrong first. No call
-//! takes memory.
+//! Judges any rows and any colouring of a circuit: whether they fit, and else what is wrong first.
+//! No call takes memory.
 #![tactic(auto)]
 
 mod fits;

@@ -9,7 +9,7 @@ pub enum Wrong {
     Row { primitive: usize },
     /// The least joint whose marks do not match.
     Joint { joint: usize },
-    /// The least joint that lacks its item, has one without flow, or has an item that the giver's row does not
-    /// give or the taker's row does not let in.
+    /// The least joint that lacks its item, has one without flow, or has an item that the giver's
+    /// row does not give or the taker's row does not let in.
     Item { joint: usize },
 }

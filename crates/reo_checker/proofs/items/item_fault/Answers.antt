@@ -11,10 +11,7 @@ returns-then-not-fits g c =
     let read : get_or c.args.items.now c.loop-index.index None ≡ c.index-items-index.result = get_or_default c.args.items.now c.loop-index.index None c.index-items-index.result (omega (arith, c.requires.items)) ∙ sym c.index-items-index.is in
     record {
       in_range = omega arith;
-      no_fit = λ d fit.
-          let here = rw (c.joint-joint.ensures d, read) at fit in
-          let fits = rw c.if-not-fits.true at (c.fits.ensures.1 here) in
-          absurd cc;
+      fails = λ d. rw (c.joint-joint.ensures d, read) (c.fits.ensures.fails c.if-not-fits.true);
       before = c.loop-index.invariant;
     }
 
@@ -23,7 +20,7 @@ loop-index-preserved g c = λ j d j_lt.
     let net : Net = net_of g.P.Primitive.behaviour c.args.circuit.now in
     let fit : ℕ → Type 0 = λ k. (e : Joint) → ItemFits net c.args.rows.now c.args.items.now (get_or net.joints k e) (get_or c.args.items.now k None) in
     let read : get_or c.args.items.now c.loop-index.index None ≡ c.index-items-index.result = get_or_default c.args.items.now c.loop-index.index None c.index-items-index.result (omega (arith, c.requires.items)) ∙ sym c.index-items-index.is in
-    let here : fit c.loop-index.index = λ e. rw (c.joint-joint.ensures e, read) (c.fits.ensures.0 c.if-not-fits.false) in
+    let here : fit c.loop-index.index = λ e. rw (c.joint-joint.ensures e, read) (c.fits.ensures.fits c.if-not-fits.false) in
     below_more fit c.loop-index.index (λ k h e. c.loop-index.invariant k e h) here j j_lt d
 
 pub fits-requires-clause-giver : goal.fits-requires-clause-giver

@@ -1,4 +1,4 @@
-use Rattle.std.proofs.Common.{◌∙◌, ℕ, get_or, sym, below_more, arith}
+use Rattle.std.proofs.Common.{ℕ, get_or, below_more, arith}
 use Rattle.reo_net_base.specs.declared.joint.Joint.{Joint}
 use Rattle.reo_net_base.specs.Net.{Net, net_of}
 use Rattle.reo_net_base.specs.Colouring.{JointMatches}
@@ -7,7 +7,7 @@ use Rattle.reo_checker.proofs.joints.joint_fault.Goals as goal
 pub returns-then-not-matches_at : goal.returns-then-not-matches_at
 returns-then-not-matches_at g c = record {
   in_range = omega arith;
-  clashes = λ d. rw (c.joint.ensures d) (sym c.matches_at.ensures ∙ c.if-not-matches_at.true);
+  clashes = λ d. rw (c.joint.ensures d) (rw c.matches_at.ensures at c.if-not-matches_at.true);
   before = c.loop-index.invariant;
 }
 
@@ -15,5 +15,5 @@ pub loop-index-preserved : goal.loop-index-preserved
 loop-index-preserved g c = λ j d j_lt.
     let net : Net = net_of g.P.Primitive.behaviour c.args.circuit.now in
     let match : ℕ → Type 0 = λ k. (e : Joint) → JointMatches net c.args.rows.now (get_or net.joints k e) in
-    let here : match c.loop-index.index = λ e. rw (c.joint.ensures e) (sym c.matches_at.ensures ∙ c.if-not-matches_at.false) in
+    let here : match c.loop-index.index = λ e. rw (c.joint.ensures e) (rw c.matches_at.ensures at c.if-not-matches_at.false) in
     below_more match c.loop-index.index (λ k h e. c.loop-index.invariant k e h) here j j_lt d
