@@ -1,2 +1,3 @@
+mod ChunkLemmas
 mod ExactLemmas
 mod RowLemmas
