@@ -1,0 +1,3 @@
+mod ChunkLemmas
+mod ExactLemmas
+mod RowLemmas

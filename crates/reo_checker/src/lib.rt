@@ -1,0 +1,14 @@
+//! Judges any rows and any colouring of a circuit: whether they fit, and else what is wrong first.
+//! No call takes memory.
+#![tactic(auto)]
+
+mod fits;
+mod items;
+mod joints;
+mod judge;
+mod rows;
+mod taken;
+mod wrong;
+
+pub use judge::{check, check_marks};
+pub use wrong::Wrong;
