@@ -1,8 +1,9 @@
 //! What engines answer, plan and make.
 use crate::changes::Change::{self, Idle, Item, Jammed, Less, Moved, Port, Row};
 use crate::checks::is;
-use crate::playing::Act::{self, Changed, Offer, Pending, Plan, Round, Suits, Withdraw};
+use crate::playing::Act::{self, Changed, Judged, Offer, Pending, Plan, Round, Suits, Withdraw};
 use crate::playing::are_played;
+use reo_checker::Wrong;
 use reo_engine::OfferFault;
 
 /// A buffer of two places, which holds 7.
@@ -122,6 +123,28 @@ const CHANGED: &[Act] = &[
     Round(&[], (&[(0, 1), (1, 7)], false, 0), 2),
 ];
 
+/// Colourings of the buffer with something changed. The joints are from the writer to the mouth and
+/// from the tail to the taker; mouth and tail are sides of primitive 2.
+const JUDGED: &[Act] = &[
+    Offer(0, Some(1), None),
+    Offer(1, None, None),
+    Judged(&[], None),
+    Judged(JAM, None),
+    Judged(&[Row(0, 1)], Some(Wrong::Joint { joint: 0 })),
+    Judged(&[Row(1, 1)], Some(Wrong::Joint { joint: 1 })),
+    Judged(&[Row(0, 3)], Some(Wrong::Row { primitive: 0 })),
+    Judged(&[Row(3, 3)], Some(Wrong::Row { primitive: 2 })),
+    Judged(&[Item(0, Some(2))], Some(Wrong::Item { joint: 0 })),
+    Judged(&[Item(0, None)], Some(Wrong::Item { joint: 0 })),
+    Judged(&[Item(1, Some(1))], Some(Wrong::Item { joint: 1 })),
+    // what is judged first counts
+    Judged(
+        &[Row(0, 1), Row(3, 3), Item(0, None)],
+        Some(Wrong::Row { primitive: 2 }),
+    ),
+    Judged(&[Row(1, 1), Item(0, None)], Some(Wrong::Joint { joint: 1 })),
+];
+
 /// Rows of the ports, the channels, the replicator and the merger.
 const JAMS: &[Act] = &[
     Offer(0, Some(1), None),
@@ -147,5 +170,6 @@ fn engines_answer_as_told(rt: HostRuntime) {
     is(&rt, are_played(alloc, BUFFERED, ROUNDS), "rounds");
     is(&rt, are_played(alloc, BUFFERED, KEPT), "kept");
     is(&rt, are_played(alloc, BUFFERED, CHANGED), "changed");
+    is(&rt, are_played(alloc, BUFFERED, JUDGED), "judged");
     is(&rt, are_played(alloc, APART, JAMS), "jams");
 }

@@ -4,6 +4,7 @@ ghost use Rattle.std.specs.Prelude.{◌≡◌, ◌<◌};
 use crate::changes::{Change, change_all};
 use crate::circuits::engine_of;
 use crate::offers::{is_answered, is_item, is_pending};
+use reo_checker::{Wrong, check};
 use reo_engine::{Done, Engine, OfferFault, Plan};
 use reo_kinds::Kind;
 use reo_net_base::Move;
@@ -30,6 +31,8 @@ pub enum Act {
     Suits(bool),
     /// Whether a plan that is so changed suits.
     Changed(&'static [Change], bool),
+    /// What is wrong first with the colouring of a plan that is so changed.
+    Judged(&'static [Change], Option<Wrong>),
     /// A plan that is so changed suits and is made. It shows this, and so many rounds were made.
     Round(&'static [Change], Shown, u64),
 }
@@ -102,6 +105,14 @@ fn suits(engine: &Engine<Kind>, plan: &Option<Plan>, answer: bool) -> bool {
     }
 }
 
+/// Whether there is a plan, and this is wrong first with its colouring, or nothing is.
+fn is_judged(engine: &Engine<Kind>, plan: &Option<Plan>, wrong: Option<Wrong>) -> bool {
+    match plan {
+        Some(plan) => check(engine.circuit(), &plan.colouring).err() == wrong,
+        None => false,
+    }
+}
+
 /// What was done in a round, where the plan suits.
 fn made(engine: &mut Engine<Kind>, plan: Option<Plan>) -> Option<Done> {
     match plan {
@@ -138,6 +149,10 @@ fn is_right<L: Ledger>(alloc: Global, play: &mut Play, steps: &mut Steps<L>, act
         Act::Changed(changes, answer) => {
             let plan = planned(alloc, &play.engine, steps, changes);
             suits(&play.engine, &plan, answer)
+        }
+        Act::Judged(changes, wrong) => {
+            let plan = planned(alloc, &play.engine, steps, changes);
+            is_judged(&play.engine, &plan, wrong)
         }
         Act::Round(changes, shown, rounds) => {
             let plan = planned(alloc, &play.engine, steps, changes);
