@@ -164,6 +164,28 @@ const ENDINGS: &[(Ending, &str)] = &[
         Ending::Limit { rounds: 1_000_000 },
         "limit after 1000000 rounds\n",
     ),
+    (
+        Ending::Spent {
+            round: 1,
+            knot: 0,
+            weight: 5,
+            budget: 4,
+        },
+        "spent in round 1: knot 0 weight 5 budget 4\n",
+    ),
+    (
+        Ending::Spent {
+            round: 12,
+            knot: 3,
+            weight: 1_000_000_000_000_000_000,
+            budget: 100_000,
+        },
+        "spent in round 12: knot 3 weight 1000000000000000000 budget 100000\n",
+    ),
+    (
+        Ending::Wide { round: 1, knot: 0 },
+        "wide in round 1: knot 0\n",
+    ),
 ];
 
 fn ending_says(alloc: Global, ending: &Ending, text: &str) -> Result<bool, NoMemory> {
