@@ -12,4 +12,5 @@ mod planning;
 
 pub use engine::Engine;
 pub use laws::plans_suit;
+pub use planning::plan_with;
 pub use reo_engine_base::{Declined, Done, OfferFault, Plan, PlanFault};

@@ -38,8 +38,9 @@ fn jammed_sides<P: Primitive>(circuit: &Circuit<P>, rows: &[u32]) -> usize
     count
 }
 
-/// The plan with a colouring.
-pub(crate) fn plan_with<P: Primitive>(
+/// The plan of a round with this colouring: its moves, whether nothing flows by it, and how many
+/// sides jam. `NoMemory` is out of memory.
+pub fn plan_with<P: Primitive>(
     alloc: Global,
     circuit: &Circuit<P>,
     colouring: Colouring,

@@ -4,7 +4,7 @@ ghost use Rattle.reo_values.specs.declared.value.Value.{Value as Item};
 ghost use Rattle.reo_net_base.specs.Net.{net_of};
 ghost use Rattle.reo_net_base.specs.Colouring.{RowsFit, IsColouring};
 
-use crate::fits::all_fit;
+use crate::fitting::all_fit;
 use crate::items::items_of;
 use reo_net_base::Primitive;
 use reo_net_circuit::Circuit;

@@ -3,7 +3,7 @@
 #![tactic(auto)]
 
 mod colours;
-mod fits;
+mod fitting;
 mod items;
 mod moves;
 mod order;
@@ -11,6 +11,7 @@ mod taken;
 mod whole;
 
 pub use colours::colour;
+pub use fitting::fits;
 pub use items::fill;
 pub use moves::are_moves;
 pub use order::compare;

@@ -6,7 +6,7 @@ ghost use Rattle.reo_net_base.specs.Net.{net_of, all_sides};
 ghost use Rattle.reo_net_base.specs.Colouring.{JointMatches, IsColouring};
 ghost use Rattle.reo_net_colouring.specs.Filled.{AllMatch};
 
-use crate::fits::all_fit;
+use crate::fitting::all_fit;
 use reo_net_base::{Joint, Primitive, marks_match};
 use reo_net_circuit::Circuit;
 use reo_values::Value;

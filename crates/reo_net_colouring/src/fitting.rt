@@ -57,8 +57,9 @@ fn is_let_in<P: Primitive>(circuit: &Circuit<P>, rows: &[u32], taker: End, item:
     primitive.passes(primitive.side_of(taker.end), row, taker.end, item)
 }
 
-/// Whether what stands at a joint fits there.
-fn fits<P: Primitive>(
+/// Whether what stands at a joint between ends of the circuit fits there: an item exactly where the
+/// joint flows, one that the giver's row gives and the taker's row lets in. This takes no memory.
+pub fn fits<P: Primitive>(
     circuit: &Circuit<P>,
     rows: &[u32],
     items: &[Option<Value>],

@@ -4,7 +4,7 @@ use Rattle.reo_net_base.specs.declared.joint.Joint.{Joint}
 use Rattle.reo_net_base.specs.Net.{Net, net_of}
 use Rattle.reo_net_base.specs.Colouring.{ItemFits}
 use Rattle.reo_net_colouring.proofs.ItemLemmas.{joint_giver, joint_taker}
-use Rattle.reo_net_colouring.proofs.fits.all_fit.Goals as goal
+use Rattle.reo_net_colouring.proofs.fitting.all_fit.Goals as goal
 
 pub returns-then-not-fits : goal.returns-then-not-fits
 returns-then-not-fits g c = (

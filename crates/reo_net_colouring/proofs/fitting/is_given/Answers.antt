@@ -1,7 +1,7 @@
 use Rattle.std.proofs.Common.{sym}
 use Rattle.reo_net_base.specs.Net.{Net, net_of, mark_at}
 use Rattle.reo_net_colouring.proofs.ItemLemmas.{given_none, given_some}
-use Rattle.reo_net_colouring.proofs.fits.is_given.Goals as goal
+use Rattle.reo_net_colouring.proofs.fitting.is_given.Goals as goal
 
 pub from-requires-clause-flows : goal.from-requires-clause-flows
 unfolding mark_at
