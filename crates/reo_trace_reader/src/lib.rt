@@ -1,0 +1,7 @@
+//! Reading traces from their texts.
+#![tactic(auto)]
+
+mod reading;
+
+pub use reading::{read_line, read_trace};
+pub use reo_trace_texts::{LineFault, Trace, TraceFault, TraceLine};
