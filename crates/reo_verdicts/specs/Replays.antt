@@ -6,7 +6,7 @@ use Rattle.reo_trace.specs.declared.line.Ending.{Ending}
 use Rattle.reo_trace.specs.declared.line.Ending.TheVariants as endings
 use Rattle.reo_trace_texts.specs.declared.trace.Trace.{Trace}
 use Rattle.reo_trace_texts.specs.Texts.{IsTraceText}
-use Rattle.reo_runs.specs.Run.{Choosing}
+use Rattle.reo_runs.specs.Round.{Choosing}
 
 -- The endings that may stand in place of the round of a number: the limit after the rounds before it, or that it cannot be
 -- planned, whatever the part, its weight and the budget.
