@@ -1,14 +1,18 @@
 -- The entries of a round line.
-use Rattle.std.proofs.Common.{◌≡◌, ◌∙◌, ◌⊎◌, ◌<◌, ◌^◌, ℕ, List, [], ◌∷◌, ◌++◌, inl, inr, drop, ap, refl, sym, append_assoc, arith}
-use Rattle.std.specs.Fmt.{decimal}
+use Rattle.std.proofs.Common.{◌≡◌, ◌∙◌, ◌⊎◌, ℕ, List, [], ◌∷◌, ◌++◌, inl, inr, drop, ap, refl, sym, append_assoc, arith}
+use Rattle.std.specs.Prelude.{codes}
+use Rattle.std.specs.List.{All}
+use Rattle.std.proofs.lemmas.List.Elements.{All-head}
+use Rattle.reo_trace.specs.Spaced.{spaced}
+use Rattle.reo_trace_laws.proofs.Rows.{AreToldApart, row_head, row_unique}
 use Rattle.reo_trace.specs.declared.line.Cell.{Cell}
-use Rattle.reo_trace.specs.declared.line.Cell.TheVariants as cells
 use Rattle.reo_trace.specs.declared.line.Cell.TheVariants.{Row, Jam}
 use Rattle.reo_trace.specs.declared.line.Entry.{Entry}
 use Rattle.reo_trace.specs.declared.line.Entry.TheVariants.{One, Two}
 use Rattle.reo_trace.specs.RoundText.{cell_text, entry_text}
 use Rattle.reo_trace_texts.specs.Lines.{IsCell, IsEntry}
-use Rattle.reo_trace_laws.proofs.Fronts.{first_or, NotFirst, heads_apart}
+use Rattle.reo_values.proofs.Words.{first_or}
+use Rattle.reo_trace_laws.proofs.Fronts.{heads_apart}
 use Rattle.reo_trace_laws.proofs.Numbers.{IsDigit, NoDigit, decimal_unique, decimal_no-other}
 
 j_no-digit : IsDigit 106 → ⊥
@@ -74,3 +78,29 @@ cell_no-feed Jam r s h p e = heads_apart 106 10 r s refl e
 pub entry_no-feed : (a : Entry) (r s : List ℕ) → IsEntry a → EndsEntry r → entry_text a ++ r ≡ 10 ∷ s → ⊥
 entry_no-feed (One c) r s h p e = cell_no-feed c r s h (end_no-digit r p) (sym (one_text c r) ∙ e)
 entry_no-feed (Two m t) r s h p e = cell_no-feed m (46 ∷ (cell_text t ++ r)) s h.0 dot_no-digit (sym (two_text m t r) ∙ e)
+
+-- entries are told in a row before the line feed
+space_no-feed : (a : Entry) (r s : List ℕ) → 32 ∷ (entry_text a ++ r) ≡ codes "\n" ++ s → ⊥
+space_no-feed a r s e = heads_apart 32 10 _ _ refl e
+
+pub entries_apart : AreToldApart entry_text IsEntry EndsEntry (codes "\n")
+entries_apart = record {
+  unique = entry_unique;
+  after_space = λ r. inl refl;
+  after_last = λ r. inr refl;
+  more_no-last = λ a r s h stop e. space_no-feed a r s e;
+}
+
+row_no-feed : (x : Entry) (xs : List Entry) (r s : List ℕ) → IsEntry x → 10 ∷ r ≡ spaced entry_text (x ∷ xs) ++ (10 ∷ s) → ⊥
+row_no-feed x xs r s h e =
+    let head = row_head entry_text IsEntry EndsEntry (codes "\n") entries_apart x xs s in
+    entry_no-feed x head.0 r h head.2 (sym (e ∙ head.1))
+
+-- the entries of a line, and what comes after it
+pub entries_unique : (xs ys : List Entry) (r s : List ℕ) → All IsEntry xs → All IsEntry ys → spaced entry_text xs ++ (10 ∷ r) ≡ spaced entry_text ys ++ (10 ∷ s) → (xs ≡ ys) × (r ≡ s)
+entries_unique [] [] r s h g e = (refl, ap (λ l. drop 1 l) e)
+entries_unique [] (y ∷ ys) r s h g e = absurd (row_no-feed y ys r s (All-head IsEntry y ys g) e)
+entries_unique (x ∷ xs) [] r s h g e = absurd (row_no-feed x xs s r (All-head IsEntry x xs h) (sym e))
+entries_unique (x ∷ xs) (y ∷ ys) r s h g e =
+    let parts = row_unique entry_text IsEntry EndsEntry (codes "\n") entries_apart x y xs ys r s h g e in
+    (parts.0, ap (λ l. drop 1 l) parts.1)

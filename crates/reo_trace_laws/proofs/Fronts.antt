@@ -3,11 +3,7 @@ use Rattle.std.proofs.Common.{◌≡◌, ℕ, List, [], ◌∷◌, ◌++◌, ap,
 use Rattle.std.proofs.lemmas.Bool.{eqb-false}
 use Rattle.std.specs.List.{All}
 use Rattle.std.proofs.lemmas.List.Elements.{All-head, All-tail}
-
--- the first byte, where there is one
-abbrev pub first_or : List ℕ → ℕ
-first_or [] = 0
-first_or (byte ∷ bytes) = byte
+use Rattle.reo_values.proofs.Words.{first_or}
 
 -- lists with other first bytes are no equal lists
 pub heads_apart : (x y : ℕ) (xs ys : List ℕ) → nat_eq x y ≡ false → x ∷ xs ≡ y ∷ ys → ⊥

@@ -1,9 +1,9 @@
 -- Where the text of an item ends: at the first space that is in no quotes.
-use Rattle.std.proofs.Common.{◌≡◌, ◌∙◌, ◌==◌, ◌||◌, not, Bool, true, false, cond, ◌<◌, ◌+◌, ℕ, ℤ, suc, List, [], ◌∷◌, ◌++◌, ◌⊎◌, inl, inr, length, take, drop, ap, refl, sym, subst, append_assoc, length-append, arith}
+use Rattle.std.proofs.Common.{◌≡◌, ◌∙◌, ◌==◌, not, Bool, true, false, ◌+◌, ℕ, suc, List, [], ◌∷◌, ◌++◌, length, take, drop, ap, refl, sym, subst, append_assoc, length-append, arith}
 use Rattle.std.specs.Prelude.{codes, if◌then◌else◌}
-use Rattle.std.specs.List.{All, flat_map}
+use Rattle.std.specs.List.{flat_map}
 use Rattle.std.specs.Fmt.{signed_decimal}
-use Rattle.std.proofs.lemmas.Bool.{cases_eq, eq-eqb, ne_eqb}
+use Rattle.std.proofs.lemmas.Bool.{eq-eqb, ne_eqb}
 use Rattle.std.proofs.lemmas.Grind.{common_steps}
 use Rattle.std.proofs.lemmas.List.{take_at, drop_at}
 use Rattle.std.proofs.lemmas.List.Elements.{All-head, All-tail}
@@ -11,7 +11,6 @@ use denote.Hole.Carrier.{hidden}
 use Rattle.reo_values.specs.declared.value.Value.TheBlock.{hidden-the_row-Couple-0}
 use Rattle.reo_values.specs.declared.kindred.Kindred.TheBlock.{hidden-the_row-Twins-0}
 use Rattle.reo_values.specs.declared.kindred.Kindred as kindred
-use Rattle.reo_values.specs.declared.value.Couple.{Couple}
 use Rattle.reo_values.specs.declared.kindred.Twins.{Twins}
 use Rattle.reo_values.specs.declared.value.Value.{Value}
 use Rattle.reo_values.specs.declared.kindred.Kindred.{Kindred}
@@ -22,7 +21,7 @@ use Rattle.reo_values.specs.Kind.{IsIn}
 use Rattle.reo_values.specs.Valid.{IsValid}
 use Rattle.reo_values.proofs.Members.{in_unit, in_bool, in_int, in_sym, in_text, in_pair}
 use Rattle.reo_values.proofs.Numbers.{fits_between}
-use Rattle.reo_values.proofs.ItemTexts.{pair_text, text_tells}
+use Rattle.reo_values.proofs.ItemTexts.{text_tells}
 use Rattle.reo_values.proofs.Pairs.{text_of-Pair}
 use Rattle.reo_trace_laws.proofs.Tight.{IsTight, AreTight, are_tight, AreTight-tested, AreTight-signed, AreTight-name_at}
 

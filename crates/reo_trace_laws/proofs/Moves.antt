@@ -1,6 +1,7 @@
 -- The moves of a round line.
-use Rattle.std.proofs.Common.{◌≡◌, ◌∙◌, ◌⊎◌, ◌<◌, ◌≤◌, ℕ, Bool, true, false, Option, Some, None, List, [], ◌∷◌, ◌++◌, inl, inr, map, length, get_or, drop, ap, refl, sym, subst, append_assoc, arith}
-use Rattle.std.specs.Prelude.{codes, slice_get}
+use Rattle.std.proofs.Common.{◌≡◌, ◌∙◌, ◌<◌, ℕ, Bool, true, false, Some, List, [], ◌∷◌, ◌++◌, inr, map, length, get_or, drop, ap, refl, sym, subst, append_assoc, arith}
+use Rattle.std.specs.Prelude.{codes, slice_get, ◌&&◌, nat_le}
+use Rattle.std.proofs.lemmas.Bool.{and_parts, leb-true}
 use Rattle.std.specs.List.{All}
 use Rattle.std.proofs.lemmas.List.{append_cancel_left, length-map, get_or-map}
 use Rattle.std.proofs.lemmas.List.Elements.{All-nil, All-cons, All-head, All-get_or}
@@ -17,7 +18,7 @@ use Rattle.reo_net_base.specs.declared.port.Way.TheVariants.{In, Out}
 use Rattle.reo_trace.specs.RoundText.{sign_of, flow_text, move_text, moves_text}
 use Rattle.reo_trace.specs.Spaced.{spaced}
 use Rattle.reo_trace_texts.specs.Lines.{AreTold, IsMove}
-use Rattle.reo_trace_laws.proofs.Fronts.{first_or, heads_apart, NotFirst, front_unique}
+use Rattle.reo_trace_laws.proofs.Fronts.{heads_apart, NotFirst, front_unique}
 use Rattle.reo_trace_laws.proofs.ItemEnds.{Stops, item_unique}
 use Rattle.reo_trace_laws.proofs.Rows.{AreToldApart, row_head, row_unique}
 
@@ -53,7 +54,7 @@ module _ (ports : List Port) (told : AreTold ports) where
 
   -- the name at a number
   named : (i : ℕ) (p : Port) → slice_get ports i ≡ Some p → get_or (map (λ (q : Port). q.name) ports) i [] ≡ p.name
-  named i p at = ?
+  named i p at = get_or-map (λ (q : Port). q.name) ports i p [] (slice_get_within ports i p at) ∙ ap (λ (q : Port). q.name) (get_or_from_slice_get ports i p p at)
 
   -- a port's name tells its number
   pub number_of : (i j : ℕ) (p q : Port) → slice_get ports i ≡ Some p → slice_get ports j ≡ Some q → p.name ≡ q.name → i ≡ j
@@ -106,9 +107,13 @@ module _ (ports : List Port) (told : AreTold ports) where
     more_no-last = λ m r s h stop e. no_bar m r s h e;
   }
 
+  small : (byte : ℕ) → (nat_le 97 byte && nat_le byte 122) ≡ true → IsNameByte byte
+  small byte h = let both = and_parts _ _ h in inr (inr (inr (leb-true 97 byte both.0, leb-true byte 122 both.1)))
+
   -- the text of moves where the round was idle begins as no move does
   idle_names : All IsNameByte (codes "idle")
-  idle_names = ?
+  idle_names = All-cons IsNameByte 105 (codes "dle") (small 105 refl) (All-cons IsNameByte 100 (codes "le") (small 100 refl) (
+      All-cons IsNameByte 108 (codes "e") (small 108 refl) (All-cons IsNameByte 101 [] (small 101 refl) (All-nil IsNameByte))))
 
   space_no-name : (r : List ℕ) → NotFirst IsNameByte (32 ∷ r)
   space_no-name r h = grind arith
