@@ -1,5 +1,5 @@
 -- Rows determine their items.
-use Rattle.std.proofs.Common.{◌≡◌, ◌≢◌, ◌∙◌, inl, inr, sym, refl, ℕ, ◌<◌, true, false, cond, List, length, get_or, arith}
+use Rattle.std.proofs.Common.{◌≡◌, ◌≢◌, ◌∙◌, inl, inr, sym, refl, ℕ, ◌<◌, cond, List, length, get_or, arith}
 use Rattle.std.specs.Prelude.{Option, Some, None}
 use Rattle.std.proofs.lemmas.List.{get_or_default, same_lists}
 use Rattle.reo_values.specs.declared.value.Value.{Value}
@@ -11,7 +11,6 @@ use Rattle.reo_net_base.specs.Colouring.{ItemFits, IsColouring, IsFilled, item_g
 use Rattle.reo_net_base.specs.Marks.{is_flow}
 use Rattle.reo_net_base.specs.Net.{Net, no_side, all_sides, behaviour_at, row_at, side_at, mark_at}
 use Rattle.reo_net_base.specs.Sides.{AreRowsOf}
-use Rattle.reo_net_base.specs.Wired.{IsWired}
 use Rattle.reo_net_laws.proofs.Items.{given_fed, along_order}
 use Rattle.reo_net_laws.proofs.Orders.{no_joint}
 use Rattle.reo_net_laws.proofs.Sides.{row_below, side_in_range, row_in_table}

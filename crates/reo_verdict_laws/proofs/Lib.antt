@@ -1,4 +1,5 @@
 pub mod ItemLemmas
+pub mod ReplayLemmas
 pub mod SaidLemmas
 pub mod VerdictLemmas
 pub mod VerifiedLemmas

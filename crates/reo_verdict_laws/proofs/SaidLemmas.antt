@@ -1,6 +1,6 @@
 -- What entries say: no two lists of rows have the same entries, and entries of rows are counted and have rows.
-use Rattle.std.proofs.Common.{◌≡◌, ◌∙◌, ◌⊎◌, inl, inr, ap, sym, refl, ℕ, zero, suc, ◌+◌, ◌<◌, Bool, true, false, cond, List, [], ◌∷◌, length, get_or, arith}
-use Rattle.std.specs.Prelude.{◌==◌, if◌then◌else◌, Option, Some, slice_get}
+use Rattle.std.proofs.Common.{◌≡◌, ◌∙◌, ap, sym, refl, ℕ, zero, suc, ◌+◌, ◌<◌, Bool, true, false, cond, List, [], ◌∷◌, length, get_or, arith}
+use Rattle.std.specs.Prelude.{◌==◌, Some, slice_get}
 use Rattle.std.proofs.lemmas.Bool.Decides.{nat_tests}
 use Rattle.std.proofs.lemmas.List.{get_or_default, same_lists}
 use Rattle.std.proofs.lemmas.List.FromFn.{get_or-map-range_with_len, length-map-range_with_len}
@@ -12,7 +12,7 @@ use Rattle.reo_net_base.specs.Net.{Net, no_side, all_sides, behaviour_at, first_
 use Rattle.reo_net_base.specs.Sides.{AreRowsOf}
 use Rattle.reo_net_base.specs.Step.{chosen_for}
 use Rattle.reo_net_base.specs.Wired.{IsWired}
-use Rattle.reo_net_laws.proofs.Sides.{Owner, owner_of, rows_length, row_below, side_in, side_is}
+use Rattle.reo_net_laws.proofs.Sides.{owner_of, rows_length, row_below, side_in, side_is}
 use Rattle.reo_trace.specs.declared.line.Cell.{Cell}
 use Rattle.reo_trace.specs.declared.line.Cell.TheVariants.{Row, Jam}
 use Rattle.reo_trace.specs.declared.line.Entry.{Entry}

@@ -1,5 +1,5 @@
 -- Round by round: what suits a run suits a replay, and where it stops, that may stand.
-use Rattle.std.proofs.Common.{ℕ, ◌+◌, ◌≡◌, inl, inr, List, [], ◌∷◌, length, refl, sym, subst}
+use Rattle.std.proofs.Common.{ℕ, ◌+◌, inl, inr, List, [], ◌∷◌, length, refl, sym, subst}
 use Rattle.reo_net_base.specs.Net.{Net}
 use Rattle.reo_trace.specs.declared.line.RoundLine.{RoundLine}
 use Rattle.reo_trace.specs.declared.line.Ending.{Ending}
