@@ -1,0 +1,4 @@
+mod Told
+mod Lists
+mod Keeping
+mod RightKinds
