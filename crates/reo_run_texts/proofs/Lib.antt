@@ -2,3 +2,5 @@ mod Told
 mod Lists
 mod Keeping
 mod RightKinds
+mod TypedItems
+mod TypedRounds
