@@ -4,3 +4,5 @@ mod Keeping
 mod RightKinds
 mod TypedItems
 mod TypedRounds
+mod LineLemmas
+mod ProgramKinds
