@@ -6,3 +6,4 @@ mod TypedItems
 mod TypedRounds
 mod LineLemmas
 mod ProgramKinds
+mod ProgramJoints
