@@ -7,3 +7,5 @@ mod TypedRounds
 mod LineLemmas
 mod ProgramKinds
 mod ProgramJoints
+mod ProgramPorts
+mod ProgramOrder
