@@ -9,3 +9,5 @@ mod ProgramKinds
 mod ProgramJoints
 mod ProgramPorts
 mod ProgramOrder
+mod OverSmall
+mod RunLemmas
