@@ -1,7 +1,7 @@
 -- Both ends of each joint of a program have the type of its node.
-use Rattle.std.proofs.Common.{◌≡◌, ◌∙◌, ℕ, zero, suc, ◌+◌, ◌<◌, ◌≤◌, List, [], ◌∷◌, ◌++◌, Bool, true, false, ◌&&◌, cond, refl, sym, ap, subst, map, length, get_or, bytes_eq, arith}
+use Rattle.std.proofs.Common.{◌≡◌, ◌∙◌, ℕ, zero, suc, ◌+◌, ◌<◌, ◌≤◌, List, [], ◌∷◌, ◌++◌, Bool, true, false, ◌&&◌, cond, refl, sym, ap, map, length, get_or, bytes_eq, arith}
 use Rattle.std.specs.List.{AllByRecursion, flat_map}
-use Rattle.std.proofs.lemmas.List.{append_assoc, append-nil, length-append, length-map, get_or_append_left, get_or-append-add, get_or-map}
+use Rattle.std.proofs.lemmas.List.{append_assoc, length-append, length-map, get_or_append_left, get_or-append-add, get_or-map}
 use Rattle.reo_values.specs.declared.kindred.Kindred.{Kindred}
 use Rattle.reo_net_base.specs.declared.joint.End.{End}
 use Rattle.reo_net_base.specs.declared.joint.Joint.{Joint}
@@ -145,9 +145,9 @@ module _ (T : List ℕ → Kindred) (placed : List Placed) (types : List EndType
         let own = own_types T placed n in
         let more = flat_map (own_types T placed) ns in
         let merger : is_many ins ≡ true → (x : ℕ) → IsOfNode n (end_of at x) = λ is x.
-            ap (λ (u : EndTypes). u x) (behind_front front (own ++ more) types 0 at split (omega (arith, place)) ∙ own_merger t (is_many ins) (is_many outs) more is) in
+        ap (λ (u : EndTypes). u x) (behind_front front (own ++ more) types 0 at split (omega (arith, place)) ∙ own_merger t (is_many ins) (is_many outs) more is) in
         let replicator : is_many outs ≡ true → (x : ℕ) → IsOfNode n (end_of (at + many ins) x) = λ is x.
-            ap (λ (u : EndTypes). u x) (behind_front front (own ++ more) types (many ins) (at + many ins) split (omega (arith, place)) ∙ own_replicator t (is_many ins) (is_many outs) more is) in
+        ap (λ (u : EndTypes). u x) (behind_front front (own ++ more) types (many ins) (at + many ins) split (omega (arith, place)) ∙ own_replicator t (is_many ins) (is_many outs) more is) in
         let here = all_to (HasBoth (IsOfNode n)) Agrees (one_type n) (joints_of ins outs at) (all_between (IsOfNode n) ins outs at (at + many ins) (incoming_of n) (outgoing_of n) merger replicator) in
         let next : at + (many ins + many outs) ≡ length (front ++ own) = omega (arith, place, length-append front own, own_count t (is_many ins) (is_many outs)) in
         both Agrees (joints_of ins outs at) (joints_at placed (at + (many ins + many outs)) ns) here

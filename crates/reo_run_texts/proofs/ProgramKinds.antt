@@ -1,12 +1,12 @@
 -- What a program is made of is right for the types of its nodes.
-use Rattle.std.proofs.Common.{◌≡◌, ◌∙◌, ℕ, List, [], ◌∷◌, ◌++◌, Bool, true, false, refl, map, length, get_or, nat_le}
+use Rattle.std.proofs.Common.{◌≡◌, ℕ, List, [], ◌∷◌, ◌++◌, Bool, true, false, refl, map, length, get_or, nat_le}
 use Rattle.std.specs.List.{AllByRecursion, flat_map}
 use Rattle.reo_values.specs.declared.value.Value.{Value}
 use Rattle.reo_values.specs.declared.kindred.Kindred.{Kindred}
 use Rattle.reo_values.specs.Kind.{IsIn}
 use Rattle.reo_kinds.specs.declared.kind.Branches.{Branches}
 use Rattle.reo_kinds.specs.declared.kind.Kind.{Kind}
-use Rattle.reo_kinds.specs.declared.kind.Kind.TheVariants.{Writer, Taker, Sync, Lossy, SyncDrain, AsyncDrain, Store, Shift, Variable, Quota, Filter, Map, Merger, Replicator}
+use Rattle.reo_kinds.specs.declared.kind.Kind.TheVariants.{Writer, Taker, Sync, Lossy, SyncDrain, AsyncDrain, Store, Filter, Map, Merger, Replicator}
 use Rattle.reo_rules_base.specs.Lists.{where_true}
 use Rattle.reo_flatten_base.specs.Unfolding.{Placed}
 use Rattle.reo_flatten_base.specs.Ends.{incoming, outgoing}

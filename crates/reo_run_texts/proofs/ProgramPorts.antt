@@ -1,7 +1,6 @@
 -- The types of the ports of a program are those of their nodes.
-use Rattle.std.proofs.Common.{◌≡◌, ◌∙◌, ℕ, zero, suc, List, [], ◌∷◌, ◌++◌, Bool, true, false, cond, inl, inr, find, refl, sym, ap, subst, map, get_or, bytes_eq}
+use Rattle.std.proofs.Common.{◌≡◌, ℕ, zero, suc, List, [], ◌∷◌, ◌++◌, Bool, true, false, cond, inl, inr, find, refl, sym, ap, subst, map, bytes_eq}
 use Rattle.std.specs.Prelude.{Some, unwrap_or, option_map, slice_get}
-use Rattle.std.specs.List.{AllByRecursion}
 use Rattle.std.proofs.lemmas.Slice.Eq.{bytes_eq-Decides}
 use Rattle.reo_values.specs.declared.kindred.Kindred.{Kindred}
 use Rattle.reo_values.specs.declared.kindred.Kindred.TheVariants as kinds
@@ -17,7 +16,7 @@ use Rattle.reo_flatten_laws.proofs.Within.{In}
 use Rattle.reo_flatten_laws.proofs.Once.{Once}
 use Rattle.reo_flatten_laws.proofs.TypedNodes.{all_left, HasTypes}
 use Rattle.reo_run_texts.proofs.Keeping.{EndTypes}
-use Rattle.reo_run_texts.proofs.TypedItems.{no_types, type_at}
+use Rattle.reo_run_texts.proofs.TypedItems.{type_at}
 use Rattle.reo_run_texts.proofs.ProgramKinds.{placed_types}
 
 -- Each of a list of names that stand once has its own type.

@@ -1,7 +1,6 @@
 -- The kinds keep to the types of their ends.
-use Rattle.std.proofs.Common.{◌≡◌, ◌∙◌, ℕ, zero, suc, ◌+◌, ◌<◌, ◌==◌, List, [], ◌∷◌, ◌++◌, Bool, true, false, cond, refl, sym, ap, subst, get_or, map, drop, arith, nat_lt}
+use Rattle.std.proofs.Common.{◌≡◌, ◌∙◌, ℕ, ◌+◌, ◌<◌, ◌==◌, List, [], ◌∷◌, Bool, true, false, cond, refl, sym, subst, drop, arith}
 use Rattle.std.specs.Prelude.{Option, Some, None, slice_get}
-use Rattle.std.specs.Option.{option_and_then, option_map}
 use Rattle.std.specs.List.{AllByRecursion}
 use Rattle.std.proofs.lemmas.Bool.Decides.{nat_tests}
 use Rattle.reo_values.specs.declared.value.Value.{Value}
@@ -13,15 +12,14 @@ use Rattle.reo_exprs.proofs.Options.{some_same, from_map}
 use Rattle.reo_net_base.specs.declared.colouring.Chosen.{Chosen}
 use Rattle.reo_net_base.specs.declared.port.Offer.{Offer}
 use Rattle.reo_net_base.specs.declared.port.Offer.TheVariants.{Write, Take}
-use Rattle.reo_buffers.specs.Stored.{Stored, is_full, with_back, without_front}
+use Rattle.reo_buffers.specs.Stored.{Stored, is_full, with_back}
 use Rattle.reo_kinds.specs.declared.kind.WriterPort.{WriterPort}
 use Rattle.reo_kinds.specs.declared.kind.MapRule.{MapRule}
 use Rattle.reo_kinds.specs.declared.kind.Kind.{Kind}
 use Rattle.reo_kinds.specs.declared.kind.Kind.TheVariants.{Writer, Taker, Sync, Lossy, SyncDrain, AsyncDrain, Store, Shift, Variable, Quota, Filter, Map, Merger, Replicator}
 use Rattle.reo_kinds.specs.Items.{offer_fits}
 use Rattle.reo_kinds.specs.Rules.{image}
-use Rattle.reo_kinds.specs.Forms.{end_count, takes_at, decides_in}
-use Rattle.reo_kinds.specs.Kinds.{behaviour_of, ends_of, given_of, front_of, unoffered, given_away, put_in, after, first_flows, second_flows, settled_kind, offering, offering_if, placed_kind, withdrawn_kind}
+use Rattle.reo_kinds.specs.Kinds.{behaviour_of, unoffered, given_away, put_in, after, first_flows, second_flows, settled_kind, offering_if, placed_kind, withdrawn_kind}
 use Rattle.reo_run_texts.specs.Laws.{kind_rules}
 use Rattle.reo_flatten_laws.proofs.Each.{both}
 use Rattle.reo_run_texts.proofs.Keeping.{EndTypes, GivesRight, MouthIsFirst, KeepsTypes}

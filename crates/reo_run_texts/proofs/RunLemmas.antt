@@ -1,5 +1,5 @@
 -- What runs write, round by round.
-use Rattle.std.proofs.Common.{◌≡◌, ◌∙◌, ◌&&◌, inl, inr, ℕ, ◌+◌, ◌<◌, ◌≤◌, ◌^◌, Bool, true, false, not, cond, List, [], ◌∷◌, refl, sym, subst, length, map, arith}
+use Rattle.std.proofs.Common.{◌≡◌, ◌&&◌, inl, inr, ℕ, ◌+◌, ◌≤◌, ◌^◌, Bool, true, false, not, cond, List, [], ◌∷◌, refl, sym, subst, length, map, arith}
 use Rattle.std.specs.Prelude.{Option, Some, None, slice_get}
 use Rattle.reo_values.specs.declared.value.Value.{Value}
 use Rattle.reo_values.specs.Kind.{IsIn}
@@ -72,7 +72,7 @@ module _ {P : Type 0} (r : Rules P) (shape : KeepsShape r) (right : P → EndTyp
         let col = round.suits.2.colouring in
         let typed = items_typed r right keeps w types now.typed wired rows items col now.order.order now.order.is_order in
         let fits : (port : ℕ) (p : Port) (v : Value) → slice_get ports port ≡ Some p → item_at w.joints items (end_of port 0) ≡ Some v → IsIn v p.kindred = λ port p v there is.
-            subst (IsIn v) (at_ports port p there) (end_typed w.joints types items now.typed.joints typed col.one_each (end_of port 0) v is) in
+        subst (IsIn v) (at_ports port p there) (end_typed w.joints types items now.typed.joints typed col.one_each (end_of port 0) v is) in
         let written : IsLine ports turn (line_for net turn rows (moves_of net a.ports rows items)) = record {
           number_is = refl;
           small = omega (arith, round.suits.0, few);

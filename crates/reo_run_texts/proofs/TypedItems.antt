@@ -1,27 +1,26 @@
 -- The items of a colouring are of the types of their joints.
-use Rattle.std.proofs.Common.{◌≡◌, ◌∙◌, ◌≢◌, inl, inr, ℕ, zero, suc, ◌<◌, List, [], ◌∷◌, refl, sym, ap, subst, length, map, get_or, arith}
-use Rattle.std.specs.Prelude.{Option, Some, None, slice_get}
+use Rattle.std.proofs.Common.{◌≡◌, ◌∙◌, inl, inr, ℕ, zero, suc, ◌<◌, List, [], ◌∷◌, refl, sym, ap, subst, length, map, get_or, arith}
+use Rattle.std.specs.Prelude.{Option, Some, None}
 use Rattle.std.specs.Option.{option_and_then}
 use Rattle.std.specs.List.{position_or_len}
-use Rattle.std.proofs.lemmas.List.{length-map, get_or_default}
+use Rattle.std.proofs.lemmas.List.{length-map}
 use Rattle.reo_values.specs.declared.value.Value.{Value}
 use Rattle.reo_values.specs.declared.kindred.Kindred.{Kindred}
 use Rattle.reo_values.specs.declared.kindred.Kindred.TheVariants as kinds
 use Rattle.reo_values.specs.Kind.{IsIn}
-use Rattle.reo_net_base.specs.declared.mark.Mark.TheVariants.{F}
 use Rattle.reo_net_base.specs.declared.joint.End.{End}
 use Rattle.reo_net_base.specs.declared.joint.Joint.{Joint}
 use Rattle.reo_net_base.specs.Behaviour.{Behaviour}
-use Rattle.reo_net_base.specs.Net.{Net, Side, Wiring, is_at, net_of, all_sides, behaviour_at, end_of, row_at, mark_at, side_at}
+use Rattle.reo_net_base.specs.Net.{Net, Side, Wiring, is_at, net_of, all_sides, behaviour_at, end_of, row_at, side_at}
 use Rattle.reo_net_base.specs.Moves.{item_at}
-use Rattle.reo_net_base.specs.Colouring.{AreRows, IsColouring, HasItem, ItemFits, taken_at, given_at}
+use Rattle.reo_net_base.specs.Colouring.{IsColouring, HasItem, ItemFits, taken_at, given_at}
 use Rattle.reo_net_base.specs.Wired.{IsWired, IsOrder}
 use Rattle.reo_net_laws.proofs.Items.{along_order}
 use Rattle.reo_net_laws.proofs.Orders.{no_joint, Feeds}
 use Rattle.reo_net_laws.proofs.Sides.{gives_at, row_in_table, row_below, side_in_range, same_side_at}
 use Rattle.reo_engine_base.specs.Rules.{Rules}
 use Rattle.reo_run_texts.proofs.Keeping.{EndTypes, GivesRight, KeepsTypes}
-use Rattle.reo_run_texts.proofs.Lists.{IsTakenFrom, taken_from, first_passes, at_joint}
+use Rattle.reo_run_texts.proofs.Lists.{taken_from, first_passes, at_joint}
 
 -- The ends of what is none.
 abbrev pub no_types : EndTypes

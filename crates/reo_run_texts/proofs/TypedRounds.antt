@@ -1,14 +1,12 @@
 -- A round keeps the types of a circuit.
-use Rattle.std.proofs.Common.{◌≡◌, ◌∙◌, ◌&&◌, ◌==◌, zero-add, ℕ, zero, suc, ◌+◌, ◌<◌, Bool, true, false, cond, List, [], ◌∷◌, refl, sym, ap, subst, length, map, get_or, nat_lt, arith}
-use Rattle.std.specs.Prelude.{Option, Some, None, is_some, slice_get}
-use Rattle.std.specs.List.{position_or_len, range_with_len}
+use Rattle.std.proofs.Common.{◌≡◌, ◌∙◌, ℕ, zero, suc, ◌<◌, true, false, cond, List, [], ◌∷◌, sym, subst, length, map, get_or, nat_lt, arith}
+use Rattle.std.specs.Prelude.{Option, Some, None, is_some}
 use Rattle.std.proofs.lemmas.Bool.Decides.{nat_tests}
 use Rattle.std.proofs.lemmas.List.{length-map}
 use Rattle.std.proofs.lemmas.List.FromFn.{get_or-map-range_with_len}
 use Rattle.reo_values.specs.declared.value.Value.{Value}
 use Rattle.reo_values.specs.Kind.{IsIn}
 use Rattle.reo_net_base.specs.declared.colouring.Chosen.{Chosen}
-use Rattle.reo_net_base.specs.declared.joint.End.{End}
 use Rattle.reo_net_base.specs.declared.joint.Joint.{Joint}
 use Rattle.reo_net_base.specs.declared.port.Offer.{Offer}
 use Rattle.reo_net_base.specs.Behaviour.{Behaviour}
@@ -18,8 +16,8 @@ use Rattle.reo_net_laws.proofs.Orders.{no_joint}
 use Rattle.reo_engine_base.specs.Rules.{Rules}
 use Rattle.reo_engine_base.specs.Ready.{cleared, with_pending, ports_ready, ready}
 use Rattle.reo_run_texts.proofs.Keeping.{EndTypes, MouthIsFirst, KeepsTypes}
-use Rattle.reo_run_texts.proofs.Lists.{some_in, first_passes}
-use Rattle.reo_run_texts.proofs.TypedItems.{no_types, type_at, AreRight, JointsAgree, IsTyped, ItemsTyped}
+use Rattle.reo_run_texts.proofs.Lists.{first_passes}
+use Rattle.reo_run_texts.proofs.TypedItems.{no_types, AreRight, IsTyped, ItemsTyped}
 
 -- What the test of a mouth says.
 mouth_is : (b : Behaviour) (i : ℕ) (j : Joint) → is_mouth b i j ≡ true → (j.taker.primitive ≡ i) × (b.side_of j.taker.end ≡ 0)
