@@ -3,8 +3,10 @@ use Rattle.std.specs.Prelude.{ℕ, ◌≡◌, ◌≤◌, ◌^◌, List, [], map}
 use Rattle.std.specs.List.{All}
 use Rattle.reo_trees.specs.declared.programs.Program.{Program}
 use Rattle.reo_trees_laws.specs.Spelled.{IsSpelled}
+use Rattle.reo_net_order.specs.Arrows.{NoCycle}
+use Rattle.reo_net_base.specs.Net.{from_sides, to_sides}
 use Rattle.reo_rules_base.specs.Scopes.{connectors_of}
-use Rattle.reo_flatten_base.specs.Flat.{ports_of, wiring_of_program}
+use Rattle.reo_flatten_base.specs.Flat.{ports_of, net_of_program, wiring_of_program}
 use Rattle.reo_flatten_base.specs.Refusals.{breaks}
 use Rattle.reo_flatten_laws.specs.Plain.{HasPlainNames}
 use Rattle.reo_kinds.specs.declared.kind.Kind.{Kind}
@@ -34,10 +36,12 @@ pub record IsAcceptable (p : Program) : Type 0 where
 abbrev pub PortsAreTold : Type 0
 PortsAreTold = (p : Program) → IsAcceptable p → AreTold (ports_of p.declarations)
 
--- What a run of components that fit these ports writes is the text of a trace, of its lines and its ending.
+-- Where no joint lies on a directed cycle, what a run of components that fit these ports writes is the text of a trace, of its
+-- lines and its ending.
 abbrev pub RunsAreTraceTexts : Type 0
 RunsAreTraceTexts =
     (p : Program) (components : List Component) (budget limit : ℕ) (lines : List RoundLine) (ending : Ending)
-    → IsAcceptable p → FitPorts (ports_of p.declarations) (map written_out components) → budget ≤ 10 ^ 9 → limit ≤ 10 ^ 9
+    → IsAcceptable p → NoCycle (from_sides (net_of_program p.declarations)) (to_sides (net_of_program p.declarations))
+    → FitPorts (ports_of p.declarations) (map written_out components) → budget ≤ 10 ^ 9 → limit ≤ 10 ^ 9
     → IsRun (firsts budget limit) kind_rules (start_of (wiring_of_program p.declarations) components) lines ending
     → IsTraceText (ports_of p.declarations) (trace_text (ports_of p.declarations) lines ending) (record { rounds = lines; ending = ending })
