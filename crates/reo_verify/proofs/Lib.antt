@@ -1,0 +1,3 @@
+mod RowLemmas
+mod SaidLemmas
+mod JudgeLemmas
