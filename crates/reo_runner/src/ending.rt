@@ -1,30 +1,12 @@
 //! How a run ends.
-ghost use Rattle.std.specs.Prelude.{◌≡◌, ◌≤◌, ◌&&◌, not, cond, Some, None};
+ghost use Rattle.std.specs.Prelude.{◌≡◌, ◌≤◌};
 ghost use Rattle.reo_io.specs.Causes.{Rose};
-ghost use Rattle.reo_players.specs.Players.{all_done};
-ghost use Rattle.reo_trace.specs.declared.line.Ending.TheVariants.{Done as IsDone, Stuck as IsStuck};
 ghost use Rattle.reo_runner.specs.Outcome.{Closes, outcome_end};
 
 use crate::outcome::{End2, Outcome, Tally};
 use reo_io::Sink;
-use reo_players::Players;
 use reo_trace::{Ending, WriteFault, write_ending};
 use std::alloc::Global;
-
-/// How the run is over after a round, if it is: done where every component is done, else stuck
-/// where the round was idle and no component counted in it.
-pub(crate) fn over_after(turn: u64, idle: bool, counted: bool, players: &Players) -> Option<Ending>
-    ensures { let stuck = cond (idle && not counted) (Some (IsStuck turn)) None in
-        result ≡ cond (all_done players.now) (Some (IsDone turn)) stuck }
-{
-    if players.all_done() {
-        Some(Ending::Done { rounds: turn })
-    } else if idle && !counted {
-        Some(Ending::Stuck { rounds: turn })
-    } else {
-        None
-    }
-}
 
 /// The end that an outcome names for an ending.
 fn outcome_end(ending: Ending) -> End2

@@ -13,14 +13,13 @@ ghost use Rattle.reo_runner_ports.specs.Between.{AreBetween, AreStarted};
 ghost use Rattle.reo_runner.specs.Rounds.{MadeRound, IsRoundFault, IsTallied, IsSmall};
 ghost use Rattle.reo_runner.specs.declared.planning.RoundFault.TheVariants.{Failed as SinkFailed};
 
-use crate::ending::over_after;
 use crate::outcome::{Limits, Tally};
 use crate::planning::{RoundFault, plan_round};
-use reo_engine::{Done, Engine, Plan};
+use reo_engine::{Engine, Plan};
 use reo_io::Sink;
 use reo_net_base::{Ported, Ports};
 use reo_players::Players;
-use reo_runner_ports::{advance_all, offer_all};
+use reo_runner_ports::{Carried, carry_out, offer_all};
 use reo_steps::Steps;
 use reo_trace::{Ending, WriteFault, write_round};
 use std::alloc::Global;
@@ -33,8 +32,8 @@ pub(crate) struct Made {
     pub over: Option<Ending>,
 }
 
-/// Makes a planned round: the circuit steps, and each component goes on.
-fn carry_out<P: Ported>(
+/// Makes a planned round, and counts what moved.
+fn count_out<P: Ported>(
     engine: &mut Engine<P>,
     players: &mut Players,
     ports: &Ports,
@@ -63,15 +62,7 @@ fn carry_out<P: Ported>(
     ensures small { IsSmall result.tally }
 {
     engine.circuit().known();
-    let counted = players.someone_counts();
-    let Done {
-        moves,
-        idle,
-        jammed,
-    } = engine.commit(plan);
-    let _ = jammed;
-    advance_all(engine, ports, players);
-    let over = over_after(engine.rounds(), idle, counted, players);
+    let Carried { moves, over } = carry_out(engine, players, ports, plan);
     let tally = tally.after(ports, moves.as_slice());
     Made { tally, over }
 }
@@ -124,7 +115,7 @@ pub(crate) fn make_round<P: Ported, L: Ledger, S: Sink>(
     offer_all(alloc, engine, ports, players)?;
     let planned = plan_round(alloc, engine, limits.budget, steps)?;
     match write_round(alloc, ports, &planned.line, out) {
-        Ok(()) => Ok(carry_out(engine, players, ports, planned.plan, tally)),
+        Ok(()) => Ok(count_out(engine, players, ports, planned.plan, tally)),
         Err(WriteFault::Failed) => Err(RoundFault::Failed),
         Err(WriteFault::NoMemory) => Err(RoundFault::NoMemory),
     }

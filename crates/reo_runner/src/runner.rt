@@ -9,9 +9,9 @@ ghost use Rattle.reo_engine_base.specs.Rules.{rules_of};
 ghost use Rattle.reo_runs.specs.Run.{Place, start_of, firsts};
 ghost use Rattle.reo_runs.specs.Whole.{HasRun};
 ghost use Rattle.reo_runner_ports.specs.Between.{AreBetween};
-ghost use Rattle.reo_runner.specs.Kinds.{kind_rules};
+ghost use Rattle.reo_runner_ports.specs.Kinds.{kind_rules};
 ghost use Rattle.reo_runner.specs.Outcome.{CameTo, StopsAs};
-ghost use Rattle.reo_runner.specs.Runnable.{CanRun};
+ghost use Rattle.reo_runner_ports.specs.Runnable.{CanRun};
 ghost use Rattle.reo_runner.specs.Runs.{HasRuns};
 ghost use Rattle.reo_runner.specs.declared.planning.RoundFault.TheVariants.{Failed as SinkFailed};
 

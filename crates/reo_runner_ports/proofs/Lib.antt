@@ -6,3 +6,5 @@ pub mod Kept
 pub mod GoneOn
 pub mod OffersMade
 pub mod AllGoOn
+pub mod AfterRound
+pub mod Begun

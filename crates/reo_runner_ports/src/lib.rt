@@ -3,7 +3,9 @@
 #![tactic(auto)]
 
 mod advancing;
+mod carrying;
 mod offering;
 
 pub use advancing::advance_all;
+pub use carrying::{Carried, carry_out};
 pub use offering::offer_all;

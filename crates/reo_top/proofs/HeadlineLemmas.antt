@@ -13,7 +13,7 @@ use Rattle.reo_flatten_base.specs.Flat.{primitives_of, net_of_program}
 use Rattle.reo_flatten_laws.specs.Circuits.{CircuitsAreMade}
 use Rattle.reo_flatten_laws.specs.FromTexts.{NamesArePlain}
 use Rattle.reo_runner.specs.declared.outcome.Limits.{Limits}
-use Rattle.reo_runner.specs.Kinds.{kind_rules}
+use Rattle.reo_runner_ports.specs.Kinds.{kind_rules}
 use Rattle.reo_runs.specs.Justified.{RunsAreJustified}
 use Rattle.reo_top.specs.declared.command.Command.TheVariants.{Run}
 use Rattle.reo_top.specs.declared.role.Role.{Role}

@@ -16,7 +16,7 @@ use Rattle.reo_kinds.specs.declared.kind.Kind.{Kind}
 use Rattle.reo_runner.specs.declared.outcome.Limits.{Limits}
 use Rattle.reo_runner.specs.declared.outcome.End2.{End2}
 use Rattle.reo_runner.specs.declared.outcome.Outcome.{Outcome}
-use Rattle.reo_runner.specs.Kinds.{kind_rules}
+use Rattle.reo_runner_ports.specs.Kinds.{kind_rules}
 use Rattle.reo_runner.specs.Outcome.{CameTo, Wrote}
 use Rattle.reo_runs.specs.Run.{Place, IsRun, start_of}
 use Rattle.reo_runs.specs.Whole.{HasOneRun}

@@ -6,7 +6,7 @@ use Rattle.reo_trace.specs.declared.line.Ending.TheVariants.{Done, Stuck, Limit,
 use Rattle.reo_trace.specs.TraceText.{trace_text}
 use Rattle.reo_runs.specs.Round.{Choosing}
 use Rattle.reo_runs.specs.Run.{IsRun, start_of}
-use Rattle.reo_runner.specs.Kinds.{kind_rules}
+use Rattle.reo_runner_ports.specs.Kinds.{kind_rules}
 use Rattle.reo_top.specs.Readings.{Runnable}
 use Rattle.reo_top.specs.Statuses.{done, stuck, part_over, limit_reached}
 

@@ -6,7 +6,7 @@ ghost use Rattle.reo_trees_laws.specs.Spelled.{IsSpelled};
 ghost use Rattle.reo_rules_base.specs.Scopes.{connectors_of};
 ghost use Rattle.reo_flatten_laws.specs.Plain.{HasPlainNames};
 ghost use Rattle.reo_players.specs.Written.{written_out};
-ghost use Rattle.reo_runner.specs.Runnable.{CanRun};
+ghost use Rattle.reo_runner_ports.specs.Runnable.{CanRun};
 ghost use Rattle.reo_script.specs.Places.{ArePortsOf};
 ghost use Rattle.reo_script_laws.specs.Fitting.{FitPorts};
 ghost use Rattle.reo_top.specs.declared.role.Role.TheVariants as roles;

@@ -4,7 +4,8 @@ use Rattle.reo_net_base.specs.Step.{stepped}
 use Rattle.reo_engine_base.specs.Rules.{rules_of}
 use Rattle.reo_engine_base.specs.declared.plan.Plan.{Plan}
 use Rattle.reo_runs.specs.Round.{State, advanced}
-use Rattle.reo_runner.proofs.RoundLemmas.{round_planned, tallied_by, over_by}
+use Rattle.reo_runner_ports.proofs.AfterRound.{over_by}
+use Rattle.reo_runner.proofs.RoundLemmas.{round_planned, tallied_by}
 use Rattle.reo_runner.proofs.round.make_round.Goals as goal
 
 pub returns-in-Ok-clause-made : goal.returns-in-Ok-clause-made
@@ -18,12 +19,12 @@ returns-in-Ok-clause-made g c = λ w left.
     let planned = rw same at c.in_ok-planned.ensures.exact in
     record {
       line = c.in_ok-planned.planned.line;
-      next = record { circuit = record v { primitives = stepped g.P.Primitive.behaviour g.P.Primitive.settled v plan.colouring.rows plan.colouring.items }; players = c.carry_out.new.players };
-      round = round_planned r c.args.limits.budget c.args.limits.rounds turn a v plan c.in_ok-planned.planned.line c.carry_out.new.players (c.in_ok-offer_all.ensures.ready w left) (omega (arith, c.requires.goes_on)) planned.plan planned.line_is c.carry_out.ensures.players;
+      next = record { circuit = record v { primitives = stepped g.P.Primitive.behaviour g.P.Primitive.settled v plan.colouring.rows plan.colouring.items }; players = c.count_out.new.players };
+      round = round_planned r c.args.limits.budget c.args.limits.rounds turn a v plan c.in_ok-planned.planned.line c.count_out.new.players (c.in_ok-offer_all.ensures.ready w left) (omega (arith, c.requires.goes_on)) planned.plan planned.line_is c.count_out.ensures.players;
       text = c.in-Ok.ensures.ok;
-      tallied = tallied_by _ turn plan _ c.in_ok-planned.planned.line _ _ planned.line_is c.carry_out.ensures.tallied;
-      over = rw same at c.carry_out.ensures.over ∙ over_by _ turn _ plan c.in_ok-planned.planned.line c.args.players.now c.carry_out.new.players planned.plan.shows planned.line_is;
-      circuit = c.carry_out.ensures.circuit;
+      tallied = tallied_by _ turn plan _ c.in_ok-planned.planned.line _ _ planned.line_is c.count_out.ensures.tallied;
+      over = rw same at c.count_out.ensures.over ∙ over_by _ turn _ plan c.in_ok-planned.planned.line c.args.players.now c.count_out.new.players planned.plan.shows planned.line_is;
+      circuit = c.count_out.ensures.circuit;
       players_are = refl;
     }
 

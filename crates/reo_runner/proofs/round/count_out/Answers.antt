@@ -1,41 +1,27 @@
-use Rattle.std.proofs.Common.{◌≡◌, ◌∙◌, ◌≤◌, ◌<◌, ◌^◌, ℕ, List, length, map, ap, sym, subst, arith}
+use Rattle.std.proofs.Common.{◌≡◌, ◌∙◌, ◌≤◌, ◌<◌, ◌^◌, List, length, ap, subst, arith}
 use Rattle.std.specs.List.{count_by}
 use Rattle.std.proofs.lemmas.List.Sums.{count_by-le-length}
 use Rattle.reo_net_base.specs.declared.colouring.Move.{Move}
 use Rattle.reo_net_base.specs.declared.port.Port.{Port}
 use Rattle.reo_net_base.specs.Net.{Wiring, net_of}
 use Rattle.reo_runs.specs.Written.{goes, is_in, is_out}
-use Rattle.reo_runner_ports.specs.Between.{AreStepped}
 use Rattle.reo_runner.proofs.CountLemmas.{moves_few}
-use Rattle.reo_runner.proofs.RoundLemmas.{stepped_at, gone_as_said}
-use Rattle.reo_runner.proofs.round.carry_out.Goals as goal
-
-pub advance_all-requires : goal.advance_all-requires
-advance_all-requires g c =
-    let w : Wiring g.row.P.Denot = c.args.engine.now.circuit in
-    subst (λ (n : ℕ). AreStepped c.args.ports.now.list n c.args.players.now (map g.P.Ported.port_state c.commit-moves.new.self.circuit.primitives)) (sym (ap (λ (v : Wiring g.row.P.Denot). v.ports) c.commit-moves.ensures.circuit))
-    (stepped_at (net_of g.P.Primitive.behaviour w) c.args.plan.colouring.rows c.args.ports.now.list w.ports c.args.players.now _ _ c.requires.started c.commit-moves.ensures.offers)
+use Rattle.reo_runner.proofs.round.count_out.Goals as goal
 
 pub after-tally-requires-clause-few : goal.after-tally-requires-clause-few
 after-tally-requires-clause-few g c =
     let w : Wiring g.row.P.Denot = c.args.engine.now.circuit in
-    let moves : c.as_slice.result.now ≡ c.args.plan.moves = c.as_slice.ensures ∙ c.commit-moves.ensures.moves in
+    let moves : c.as_slice.result.now ≡ c.args.plan.moves = c.as_slice.ensures ∙ c.carry_out-moves.ensures.moves in
     let same : length c.as_slice.result.now ≡ length _ = ap (λ (ms : List Move). length ms) (moves ∙ c.requires.suits.shows.moves) in
     let few = moves_few (net_of g.P.Primitive.behaviour w) w.ports c.args.plan.colouring.rows c.args.plan.colouring.items in
     let few_ports = subst (λ (v : Wiring g.row.P.Denot). v.ports < 2 ^ 31) c.circuit.ensures c.known.ensures.few_ports in omega (arith, same, few, few_ports)
-
-pub returns-clause-players : goal.returns-clause-players
-returns-clause-players g c =
-    let w : Wiring g.row.P.Denot = c.args.engine.now.circuit in
-    c.advance_all.ensures.players
-    ∙ gone_as_said (net_of g.P.Primitive.behaviour w) c.args.plan.colouring.rows c.args.ports.now.list w.ports c.args.players.now _ _ c.requires.started c.commit-moves.ensures.offers
 
 pub returns-clause-small : goal.returns-clause-small
 returns-clause-small g c =
     let w : Wiring g.row.P.Denot = c.args.engine.now.circuit in
     let ports : List Port = c.args.ports.now.list in
     let ms : List Move = c.as_slice.result.now in
-    let moves : ms ≡ c.args.plan.moves = c.as_slice.ensures ∙ c.commit-moves.ensures.moves in
+    let moves : ms ≡ c.args.plan.moves = c.as_slice.ensures ∙ c.carry_out-moves.ensures.moves in
     let same : length ms ≡ length _ = ap (λ (ms : List Move). length ms) (moves ∙ c.requires.suits.shows.moves) in
     let few = moves_few (net_of g.P.Primitive.behaviour w) w.ports c.args.plan.colouring.rows c.args.plan.colouring.items in
     let few_ports = subst (λ (v : Wiring g.row.P.Denot). v.ports < 2 ^ 31) c.circuit.ensures c.known.ensures.few_ports in
