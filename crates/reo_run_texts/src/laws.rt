@@ -8,7 +8,7 @@ use reo_flatten_laws::{
 use reo_net_order::order_exists;
 use reo_values::item_test_is_exact;
 
-/// In a program as a text says it that breaks no rule, the names of ports are names, no two of them
+/// In a program as a text says it that is accepted, the names of ports are names, no two of them
 /// alike, and their types are such as a program may have.
 pub fn ports_are_told()
     ensures { PortsAreTold }
@@ -17,8 +17,8 @@ pub fn ports_are_told()
     types_are_valid();
 }
 
-/// On the circuit of such a program without a directed cycle, with components that fit its ports,
-/// what a run writes is the text of a trace, the one with its lines and its ending.
+/// On the circuit of such a program, what a run of any components writes is the text of a trace, the
+/// one with its lines and its ending.
 pub fn runs_are_trace_texts()
     ensures { RunsAreTraceTexts }
 {

@@ -17,9 +17,9 @@ returns c p good =
     let types = types_of ds in
     let ps = main_parameters ds in
     let spelled = main_spelled ds (by_recursion IsSpelledDeclaration ds good.spelled) in
-    let valid = by_recursion (λ (e : Typed). IsValid e.kindred) (node_types_of ds) (c.types_are_valid.ensures p good.spelled good.sound) in
+    let valid = by_recursion (λ (e : Typed). IsValid e.kindred) (node_types_of ds) (c.types_are_valid.ensures p good.spelled good.accepted.no_break) in
     record {
       names = each_of (λ (port : Port). IsName port.name) (ports_of ds) (port_names types ps spelled);
-      distinct = c.ports_differ.ensures ds (unbroken ds good.sound).rules.types.names.no_twice;
+      distinct = c.ports_differ.ensures ds (unbroken ds good.accepted.no_break).rules.types.names.no_twice;
       types = each_of (λ (port : Port). IsValid port.kindred) (ports_of ds) (port_types types ps ((typing_named (typings_of ds) (codes "main")).nodes []) valid);
     }
