@@ -1,0 +1,25 @@
+-- Traces that a run has written.
+use Rattle.std.specs.Prelude.{ℕ, List, [], ◌∷◌, length}
+use Rattle.reo_trace.specs.declared.line.RoundLine.{RoundLine}
+use Rattle.reo_verdicts.specs.declared.verdict.Verdict.TheVariants.{Verified}
+use Rattle.reo_verdicts.specs.Said.{jammed}
+use Rattle.reo_top.specs.Claims.{Claimed, ReadsClaim, JudgesTrace}
+use Rattle.reo_top.specs.Fetched.{text}
+use Rattle.reo_top.specs.Limits.{limits_of, firsts_for}
+use Rattle.reo_top.specs.Readings.{Runnable, ReadsRun}
+use Rattle.reo_top.specs.Statuses.{done}
+use Rattle.reo_top.specs.Traces.{IsTraceOf}
+use Rattle.reo_top.specs.VerdictTexts.{verdict_line}
+
+-- The files of a circuit, a script and a trace are read together, and the verdict is that the trace is verified.
+pub record IsVerified (circuit script trace : List ℕ) (lines : List RoundLine) : Type 0 where
+  pub claimed : Claimed
+  pub reads : ReadsClaim (text circuit ∷ text script ∷ text trace ∷ []) claimed
+  pub judged : JudgesTrace claimed (verdict_line (Verified (length lines) (jammed lines))) done
+
+-- So it is with the trace of a run that was written whole, whatever its ending.
+abbrev pub WrittenTracesAreVerified : Type 0
+WrittenTracesAreVerified =
+    (words : List (List ℕ)) (circuit script trace : List ℕ) (r : Runnable) (code : ℕ)
+    → ReadsRun (text circuit ∷ text script ∷ []) r → (t : IsTraceOf (firsts_for (limits_of words)) r trace code)
+    → IsVerified circuit script trace t.lines

@@ -1,0 +1,6 @@
+//! Laws of the whole command. Each function is empty: its contract is a law.
+#![tactic(auto)]
+
+mod laws;
+
+pub use laws::{rounds_are_said, written_traces_are_verified};
