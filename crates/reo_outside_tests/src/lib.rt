@@ -9,6 +9,8 @@ mod files;
 #[cfg(test)]
 mod puts;
 #[cfg(test)]
+mod reading;
+#[cfg(test)]
 mod real;
 #[cfg(test)]
 mod takes;
