@@ -1,0 +1,32 @@
+-- What may come after the parts of a line.
+use Rattle.std.specs.Prelude.{ℕ, ◌≡◌, ◌⊎◌, false, List, [], ◌∷◌}
+use Rattle.reo_values.specs.Names.{is_digit}
+
+-- After a number: nothing, or a byte that is no digit.
+abbrev pub NoDigit : List ℕ → Type 0
+NoDigit [] = Unit {0}
+NoDigit (byte ∷ bytes) = is_digit byte ≡ false
+
+-- And what begins with such a byte.
+abbrev pub BeginsNoDigit : List ℕ → Type 0
+BeginsNoDigit [] = ⊥
+BeginsNoDigit (byte ∷ bytes) = is_digit byte ≡ false
+
+-- After the last part of a line: nothing, or a line feed.
+abbrev pub EndsLine : List ℕ → Type 0
+EndsLine [] = Unit {0}
+EndsLine (byte ∷ bytes) = byte ≡ 10
+
+-- After an entry: nothing, a space or a line feed.
+abbrev pub EndsEntry : List ℕ → Type 0
+EndsEntry [] = Unit {0}
+EndsEntry (byte ∷ bytes) = (byte ≡ 32) ⊎ (byte ≡ 10)
+
+-- After a move: a space.
+abbrev pub EndsMove : List ℕ → Type 0
+EndsMove [] = ⊥
+EndsMove (byte ∷ bytes) = byte ≡ 32
+
+-- After what has an end of its own: anything.
+abbrev pub Anything : List ℕ → Type 0
+Anything bytes = Unit {0}
