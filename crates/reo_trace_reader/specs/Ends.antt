@@ -1,16 +1,23 @@
 -- What may come after the parts of a line.
-use Rattle.std.specs.Prelude.{ℕ, ◌≡◌, ◌⊎◌, false, List, [], ◌∷◌}
-use Rattle.reo_values.specs.Names.{is_digit}
+use Rattle.std.specs.Prelude.{ℕ, ◌≡◌, ◌<◌, ◌≤◌, ◌⊎◌, List, [], ◌∷◌, length, slice_index_or}
+
+-- `0` to `9`.
+abbrev pub IsDigit : ℕ → Type 0
+IsDigit byte = (48 ≤ byte) × (byte ≤ 57)
+
+-- Some digits, at most 19, and more than one only where the first is no `0`.
+abbrev pub HasFewDigits : List ℕ → Type 0
+HasFewDigits digits = (0 < length digits) × (length digits ≤ 19) × (slice_index_or digits 0 0 ≡ 48 → length digits ≡ 1)
 
 -- After a number: nothing, or a byte that is no digit.
 abbrev pub NoDigit : List ℕ → Type 0
 NoDigit [] = Unit {0}
-NoDigit (byte ∷ bytes) = is_digit byte ≡ false
+NoDigit (byte ∷ bytes) = (byte < 48) ⊎ (57 < byte)
 
 -- And what begins with such a byte.
 abbrev pub BeginsNoDigit : List ℕ → Type 0
 BeginsNoDigit [] = ⊥
-BeginsNoDigit (byte ∷ bytes) = is_digit byte ≡ false
+BeginsNoDigit (byte ∷ bytes) = (byte < 48) ⊎ (57 < byte)
 
 -- After the last part of a line: nothing, or a line feed.
 abbrev pub EndsLine : List ℕ → Type 0

@@ -1,9 +1,10 @@
 //! Numbers of a trace.
-ghost use Rattle.std.specs.Prelude.{◌≡◌, ◌≤◌, take, drop, length};
+ghost use Rattle.std.specs.Prelude.{◌≡◌, ◌≢◌, ◌≤◌, ◌<◌, ℕ, take, drop, length, true, false, MatchOption};
 ghost use Rattle.std.specs.Fmt.{decimal};
-ghost use Rattle.std.specs.Str.Parse.{AllDigits, digits_value};
+ghost use Rattle.std.specs.List.{All};
+ghost use Rattle.std.specs.Str.Parse.{digits_value};
 ghost use Rattle.reo_trace_texts.specs.Lines.{IsSmall};
-ghost use Rattle.reo_trace_reader.specs.Ends.{NoDigit};
+ghost use Rattle.reo_trace_reader.specs.Ends.{IsDigit, HasFewDigits, NoDigit};
 ghost use Rattle.reo_trace_reader.specs.Reads.{Stood, ReadsAgain};
 
 use crate::reader::Reader;
@@ -14,7 +15,7 @@ const MOST_DIGITS: usize = 19;
 
 fn digits_length(text: &[u8]) -> usize
     ensures within { result ≤ length text.now }
-    ensures digits { AllDigits 10 (take result text.now) }
+    ensures digits { All IsDigit (take result text.now) }
     ensures ends { NoDigit (drop result text.now) }
 {
     for (at, byte) in text.iter().enumerate() {
@@ -25,9 +26,20 @@ fn digits_length(text: &[u8]) -> usize
     text.len()
 }
 
+fn has_few_digits(digits: &[u8]) -> bool
+    ensures yes { result ≡ true → HasFewDigits digits.now }
+    ensures no { result ≡ false → HasFewDigits digits.now → ⊥ }
+{
+    match digits {
+        [] => false,
+        [_] => true,
+        [first, ..] => *first != b'0' && digits.len() <= MOST_DIGITS,
+    }
+}
+
 fn value_of(digits: &[u8]) -> u64
     requires few { length digits.now ≤ 19 }
-    requires digits { AllDigits 10 digits.now }
+    requires digits { All IsDigit digits.now }
     ensures { result ≡ digits_value 10 digits.now }
 {
     let mut value: u64 = 0;
@@ -37,19 +49,26 @@ fn value_of(digits: &[u8]) -> u64
     value
 }
 
-/// A number below 2^63. A leading zero is part of none.
+/// The number below 2^63 that these digits are: a leading zero is part of none.
+fn number_of(digits: &[u8]) -> Option<u64>
+    requires { All IsDigit digits.now }
+    ensures { MatchOption result ((n : ℕ) → IsSmall n → digits.now ≢ decimal n) (λ n. IsSmall n × (digits.now ≡ decimal n)) }
+{
+    if !has_few_digits(digits) {
+        return None;
+    }
+    let value = value_of(digits);
+    if value < 1 << 63 { Some(value) } else { None }
+}
+
+/// A number below 2^63.
 pub(crate) fn number(reader: &mut Reader) -> Result<u64, LineFault>
     ensures stood { Stood IsSmall decimal result reader.old reader.new }
     ensures again { ReadsAgain IsSmall decimal NoDigit result reader.old reader.new }
 {
     let count = digits_length(reader.left());
-    if count == 0 || count > MOST_DIGITS {
-        return Err(LineFault::Form);
+    match number_of(reader.take(count)) {
+        Some(number) => Ok(number),
+        None => Err(LineFault::Form),
     }
-    let digits = reader.take(count);
-    let value = value_of(digits);
-    if value >= 1 << 63 || (digits[0] == b'0' && count > 1) {
-        return Err(LineFault::Form);
-    }
-    Ok(value)
 }

@@ -1,0 +1,20 @@
+use Rattle.std.proofs.Common.{rules, ◌≡◌, ◌≢◌, ◌≤◌, ◌<◌, ℕ, take, drop, length, true, false, MatchOption, ◌+◌, ◌-◌, ◌*◌, ◌/◌, ◌%◌, Bool, nat_eq, nat_lt, List, [], ◌∷◌, ◌++◌, slice_index_or, slice_set, bit_and, bit_or, Fits, w8, w32, w64, Bor, MutBor}
+use Rattle.std.specs.Fmt.{decimal}
+use Rattle.std.specs.List.{All}
+use Rattle.std.specs.Str.Parse.{digits_value}
+use Rattle.reo_trace_texts.specs.Lines.{IsSmall}
+use Rattle.reo_trace_reader.specs.Ends.{IsDigit, HasFewDigits, NoDigit}
+use Rattle.reo_trace_reader.specs.Reads.{Stood, ReadsAgain}
+use Rattle.reo_trace_reader.proofs.number.number_of.Goals as goal
+
+-- src/number.rt:58:9
+pub returns-then-not-has_few_digits : goal.returns-then-not-has_few_digits
+returns-then-not-has_few_digits c = ?
+
+-- src/number.rt:53:1
+pub returns-then-value : goal.returns-then-value
+returns-then-value c = ?
+
+-- src/number.rt:53:1
+pub returns-else-value : goal.returns-else-value
+returns-else-value c = ?
