@@ -1,0 +1,4 @@
+pub mod Said
+pub mod Wrongs
+pub mod Replays
+pub mod Verdicts

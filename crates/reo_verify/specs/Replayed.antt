@@ -1,0 +1,63 @@
+-- What a replay comes to.
+use Rattle.std.specs.Prelude.{ℕ, ◌+◌, ◌≡◌, ◌⊎◌, None, Some, Option, List, [], ◌∷◌, ◌++◌, length}
+use Rattle.reo_net_base.specs.Net.{Wiring}
+use Rattle.reo_players.specs.Players.{Player}
+use Rattle.reo_trace.specs.declared.line.RoundLine.{RoundLine}
+use Rattle.reo_trace.specs.declared.line.Ending.{Ending}
+use Rattle.reo_engine_base.specs.Rules.{Rules}
+use Rattle.reo_runs.specs.Round.{State, RoundOf, net_ready}
+use Rattle.reo_runs.specs.Run.{Place, Leads, over_after}
+use Rattle.reo_runner_ports.specs.Pending.{IsButForOffers}
+use Rattle.reo_verdicts.specs.declared.verdict.Refusal.{Refusal}
+use Rattle.reo_verdicts.specs.declared.verdict.Refusal.TheVariants as refusals
+use Rattle.reo_verdicts.specs.Replays.{MayStop, colourings}
+use Rattle.reo_verdicts.specs.Verdicts.{IsWrongAt}
+use Rattle.reo_verdicts.specs.Wrongs.{node_of}
+use Rattle.reo_verify.specs.declared.judging.Stop.{Stop}
+use Rattle.reo_verify.specs.declared.judging.Stop.TheVariants as stops
+use Rattle.reo_verify.specs.declared.replay.Halt.{Halt}
+use Rattle.reo_verify.specs.declared.replay.Halt.TheVariants as halts
+use Rattle.reo_verify.specs.Judged.{IsLineStop}
+
+-- The refusal of the round of a number whose line is not right.
+abbrev pub IsRefusalBy : List (List ℕ) → List ℕ → ℕ → Stop → Refusal → Type 0
+IsRefusalBy nodes homes round (stops.Wrong wrong) refusal = refusal ≡ refusals.Round round wrong (node_of nodes homes wrong)
+IsRefusalBy nodes homes round stops.Moves refusal = refusal ≡ refusals.Moves round
+IsRefusalBy nodes homes round stops.NoMemory refusal = ⊥
+
+-- The ending of a run that is over so, or, where it is not, in place of the round of a number.
+abbrev pub IsEndOf : Option Ending → ℕ → Ending → Type 0
+IsEndOf over turn ending = (over ≡ Some ending) ⊎ ((over ≡ None) × MayStop turn ending)
+
+-- The round that a line shows was made of a state: the circuit is as it left it, but for offers, and the components too.
+pub record IsReplayed {P : Type 0} (r : Rules P) (turn : ℕ) (a : State P) (line : RoundLine) (w : Wiring P) (players : List Player) (over : Option Ending) : Type 0 where
+  pub next : State P
+  pub round : RoundOf colourings r turn a line next
+  pub over_is : over ≡ over_after turn line.idle a.players next.players
+  pub circuit : IsButForOffers r next.circuit w
+  pub players_are : players ≡ next.players
+
+-- Why the line shows no round of the state.
+abbrev pub IsNoRound : {P : Type 0} → Rules P → State P → RoundLine → Stop → Type 0
+IsNoRound r a line stop = IsLineStop (net_ready r a) a.circuit.ports line stop
+
+module _ {P : Type 0} (r : Rules P) (nodes : List (List ℕ)) (homes : List ℕ) (start : Place P) where
+  -- All lines are rounds of a run from the start that comes so far: it is over so, or it is not over.
+  pub record AreReplayed (lines : List RoundLine) (over : Option Ending) : Type 0 where
+    pub last : Place P
+    pub rounds : Leads colourings r 1 start lines last
+    pub over_is : last.over ≡ over
+
+  -- Some line is no round of such a run, and this is the first that is wrong with it; or memory ran out.
+  pub record IsCutOff (lines : List RoundLine) (refusal : Refusal) : Type 0 where
+    pub right : List RoundLine
+    pub line : RoundLine
+    pub left : List RoundLine
+    pub last : Place P
+    pub cut : lines ≡ right ++ line ∷ left
+    pub rounds : Leads colourings r 1 start right last
+    pub wrong : (ending : Ending) → IsWrongAt r nodes homes (length right + 1) last (line ∷ left) ending refusal
+
+  abbrev pub IsHalted : List RoundLine → Halt → Type 0
+  IsHalted lines (halts.Refused refusal) = IsCutOff lines refusal
+  IsHalted lines halts.NoMemory = Unit {0}

@@ -1,0 +1,66 @@
+//! The ending of a trace.
+ghost use Rattle.std.specs.Prelude.{◌≡◌, ◌↔◌, ◌<◌, ◌^◌, [], ◌∷◌, IsTrue};
+ghost use Rattle.std.specs.List.{count_by};
+ghost use Rattle.reo_verdicts.specs.Said.{cells_of, is_jam, jammed};
+ghost use Rattle.reo_verdicts.specs.Replays.{MayStop};
+ghost use Rattle.reo_verify.specs.Replayed.{IsEndOf};
+
+use reo_trace::{Cell, Ending, Entry, RoundLine};
+
+/// Whether an ending may stand in place of the round of a number.
+fn may_stop(turn: u64, ending: Ending) -> bool
+    ensures { IsTrue result ↔ MayStop turn ending }
+{
+    match ending {
+        Ending::Done { .. } => false,
+        Ending::Stuck { .. } => false,
+        Ending::Limit { rounds } => rounds < turn && rounds + 1 == turn,
+        Ending::Spent { round, .. } => round == turn,
+        Ending::Wide { round, .. } => round == turn,
+    }
+}
+
+/// Whether an ending is that of a run that is over so, or, where it is not, may stand in place of
+/// the round of a number.
+pub(crate) fn ends_as(over: Option<Ending>, turn: u64, ending: Ending) -> bool
+    ensures { IsTrue result ↔ IsEndOf over turn ending }
+{
+    match over {
+        Some(over) => over == ending,
+        None => may_stop(turn, ending),
+    }
+}
+
+/// One where a cell is the jam row.
+fn jams(cell: Cell) -> u64
+    ensures { result ≡ count_by is_jam (cell ∷ []) }
+{
+    match cell {
+        Cell::Row(_) => 0,
+        Cell::Jam => 1,
+    }
+}
+
+/// How many cells of an entry are the jam row.
+fn entry_jams(entry: Entry) -> u64
+    ensures { result ≡ count_by is_jam (cells_of entry) }
+{
+    match entry {
+        Entry::One(cell) => jams(cell),
+        Entry::Two(mouth, tail) => jams(mouth) + jams(tail),
+    }
+}
+
+/// How many cells of some lines are the jam row.
+pub(crate) fn jammed(rounds: &[RoundLine]) -> u64
+    requires { jammed rounds.now < 2 ^ 63 }
+    ensures { result ≡ jammed rounds.now }
+{
+    let mut count = 0;
+    for line in rounds {
+        for entry in line.entries.as_slice() {
+            count += entry_jams(*entry);
+        }
+    }
+    count
+}

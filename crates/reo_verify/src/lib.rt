@@ -1,0 +1,13 @@
+//! The verification of traces: a trace is replayed, with its own rows in place of the first
+//! colourings.
+#![tactic(auto)]
+
+mod ending;
+mod judging;
+mod refusal;
+mod replay;
+mod rows;
+mod verifying;
+
+pub use reo_verdicts::{Refusal, Verdict};
+pub use verifying::verify_trace;

@@ -1,0 +1,112 @@
+//! The verdict on a trace.
+ghost use Rattle.std.specs.Prelude.{◌≡◌, IfOk, length, map};
+ghost use Rattle.reo_kinds.specs.Kinds.{port_state_of};
+ghost use Rattle.reo_engine_base.specs.Rules.{rules_of};
+ghost use Rattle.reo_runs.specs.Run.{start_of};
+ghost use Rattle.reo_runner_ports.specs.Kinds.{kind_rules};
+ghost use Rattle.reo_runner_ports.specs.Runnable.{CanRun};
+ghost use Rattle.reo_verdicts.specs.declared.verdict.Verdict.{Verdict as AVerdict};
+ghost use Rattle.reo_verdicts.specs.Replays.{HasText};
+ghost use Rattle.reo_verdicts.specs.Verdicts.{IsVerdict};
+
+use crate::ending::{ends_as, jammed};
+use crate::replay::{Halt, replay_rounds};
+use reo_engine::Engine;
+use reo_flatten::Flat;
+use reo_kinds::Kind;
+use reo_net_base::{Ported, Ports};
+use reo_net_circuit::Circuit;
+use reo_players::Players;
+use reo_runs::known_order;
+use reo_script_base::Script;
+use reo_trace::Ending;
+use reo_trace_texts::Trace;
+use reo_values::{Bytes, NoMemory};
+use reo_verdict_laws::one_verdict;
+use reo_verdicts::{Refusal, Verdict};
+use std::alloc::Global;
+
+/// The verdict on a trace of components on a circuit.
+fn verdict_of<P: Ported>(
+    alloc: Global,
+    circuit: Circuit<P>,
+    ports: &Ports,
+    nodes: &[Bytes],
+    homes: &[u32],
+    script: Script,
+    trace: &Trace,
+) -> Result<Verdict, NoMemory>
+    requires fit { let states = map P.port_state circuit.primitives in
+        CanRun states circuit.ports ports.now.list script.components }
+    requires text { HasText ports.now.list trace.now }
+    ensures { let r = rules_of P.behaviour P.settled P.port_state P.placed P.withdrawn in
+        let start = start_of circuit script.components in
+        IfOk result (IsVerdict r nodes.now homes.now start trace.now) }
+{
+    let mut players = Players::new(alloc, script)?;
+    let mut engine = Engine::new(alloc, circuit)?;
+    let begins = if players.all_done() {
+        Some(Ending::Done { rounds: 0 })
+    } else {
+        None
+    };
+    let rounds = trace.rounds.as_slice();
+    let replayed = replay_rounds(
+        alloc,
+        &mut engine,
+        &mut players,
+        ports,
+        nodes,
+        homes,
+        begins,
+        rounds,
+    );
+    let over = match replayed {
+        Ok(over) => over,
+        Err(Halt::Refused(refusal)) => return Ok(Verdict::Refused(refusal)),
+        Err(Halt::NoMemory) => return Err(NoMemory),
+    };
+    let count = rounds.len() as u64;
+    if ends_as(over, count + 1, trace.ending) {
+        let jammed = jammed(rounds);
+        let rounds = count;
+        Ok(Verdict::Verified { rounds, jammed })
+    } else {
+        Ok(Verdict::Refused(Refusal::End))
+    }
+}
+
+/// The verdict on a trace of a script on a circuit. The trace is replayed: in each round the
+/// components make their offers, the line is judged, the circuit steps by its rows and each
+/// component goes on. It is verified where it is the trace of a run in which each round is some
+/// colouring; otherwise the refusal is the first that is wrong with it.
+///
+/// Not judged are whether a colouring is the first, and why a round could not be planned. `NoMemory`
+/// is out of memory.
+pub fn verify_trace(
+    alloc: Global,
+    flat: Flat,
+    script: Script,
+    trace: &Trace,
+) -> Result<Verdict, NoMemory>
+    requires fit { let states = map port_state_of flat.circuit.primitives in
+        CanRun states flat.circuit.ports flat.ports.list script.components }
+    requires text { HasText flat.ports.list trace.now }
+    ensures exact { let start = start_of flat.circuit script.components in
+        IfOk result (IsVerdict kind_rules flat.nodes flat.homes start trace.now) }
+    ensures only { let start = start_of flat.circuit script.components in
+        (verdict : AVerdict) → IsVerdict kind_rules flat.nodes flat.homes start trace.now verdict
+        → IfOk result (λ answer. answer ≡ verdict) }
+{
+    let Flat {
+        circuit,
+        ports,
+        nodes,
+        homes,
+    } = flat;
+    known_order(&circuit);
+    one_verdict::<Kind>();
+    let nodes = nodes.as_slice();
+    let homes = homes.as_slice();
+    verdict_of(alloc, circuit, &ports, nodes, homes, script, trace)
+}
