@@ -1,12 +1,14 @@
 -- Digits at the front of a text.
-use Rattle.std.proofs.Common.{◌≡◌, ◌∙◌, ◌<◌, ◌≤◌, ◌+◌, ◌^◌, ℕ, zero, suc, List, [], ◌∷◌, ◌++◌, inl, inr, ap, refl, sym, subst, drop, take, length, get_or, arith, rules}
+use Rattle.std.proofs.Common.{◌≡◌, ◌∙◌, ◌<◌, ◌≤◌, ◌+◌, ◌-◌, ◌*◌, ◌^◌, ℕ, zero, suc, List, [], ◌∷◌, ◌++◌, inl, inr, ap, refl, sym, subst, drop, take, length, get_or, arith, rules}
 use Rattle.std.specs.Fmt.{decimal}
 use Rattle.std.specs.List.{All}
 use Rattle.std.specs.Str.Parse.{digits_value}
-use Rattle.std.proofs.lemmas.Fmt.{digits_decimal, digits_value-decimal, decimal-digits_value, length-decimal-le, decimal_nonempty, first_decimal, decimal_digit}
+use Rattle.std.proofs.lemmas.Fmt.{digits_decimal, digits_value-decimal, decimal-digits_value, length-decimal-le, decimal_nonempty, first_decimal, decimal_digit, decimal_injective}
 use Rattle.std.proofs.lemmas.Grind.{common_steps}
-use Rattle.std.proofs.lemmas.List.Elements.{All-nil, All-cons, All-head, All-tail}
-use Rattle.std.proofs.lemmas.Str.Parse.{IsNumeralModel, IsDigitsTest, numerals_by_value}
+use Rattle.std.proofs.lemmas.Int.Digits.{digits_value_more}
+use Rattle.std.proofs.lemmas.Str.{digit_value_digit}
+use Rattle.std.proofs.lemmas.List.Elements.{All-nil, All-cons, All-head, All-tail, All-take, All-get_or}
+use Rattle.std.proofs.lemmas.Str.Parse.{IsNumeralModel, IsDigitsTest, numerals_by_value, digits_value_short}
 use Rattle.reo_trace_texts.specs.Lines.{IsSmall}
 use Rattle.reo_trace_reader.specs.Ends.{IsDigit, NoDigit, HasFewDigits}
 
@@ -64,3 +66,16 @@ decimal_first n byte rest bytes h e = by (decimal n) (decimal_digits n h) (decim
     by : (ds : List ℕ) → All IsDigit ds → 0 < length ds → ds ++ rest ≡ byte ∷ bytes → IsDigit byte
     by [] digits some e = absurd (omega arith)
     by (d ∷ ds) digits some e = subst IsDigit (ap first_or e) (All-head IsDigit d ds digits)
+
+-- one more digit
+pub value_more : (ds : List ℕ) (i value : ℕ) → All IsDigit ds → i < length ds → length ds ≤ 19 → value ≡ digits_value 10 (take i ds)
+    → (value * 10 + (get_or ds i 0 - 48) ≡ digits_value 10 (take (i + 1) ds)) × (digits_value 10 (take (i + 1) ds) < 10 ^ 19)
+value_more ds i value digits within few e =
+    let d : IsDigit (get_or ds i 0) = All-get_or IsDigit ds i 0 within digits in
+    let one = digit_value_digit (get_or ds i 0) d in
+    let more = digits_value_more 10 ds i within in
+    (omega arith, digits_value_short own (take (i + 1) ds) 19 (All-take IsDigit (i + 1) ds digits) (grind (arith, common_steps)))
+
+-- a text is that of one number
+pub decimal_same : (m n : ℕ) → IsSmall m → IsSmall n → decimal m ≡ decimal n → m ≡ n
+decimal_same m n h g e = decimal_injective m n (omega arith) (omega arith) e

@@ -1,2 +1,4 @@
+pub mod CellTexts
 pub mod Digits
+pub mod RowTexts
 pub mod Steps

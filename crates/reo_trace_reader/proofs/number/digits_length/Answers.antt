@@ -1,12 +1,7 @@
-use Rattle.std.proofs.Common.{rules, ◌≡◌, ◌≢◌, ◌≤◌, ◌<◌, ℕ, take, drop, length, true, false, MatchOption, ◌+◌, ◌-◌, ◌*◌, ◌/◌, ◌%◌, Bool, nat_eq, nat_lt, List, [], ◌∷◌, ◌++◌, slice_index_or, slice_set, bit_and, bit_or, Fits, w8, w32, w64, Bor, MutBor}
-use Rattle.std.specs.Fmt.{decimal}
-use Rattle.std.specs.List.{All}
-use Rattle.std.specs.Str.Parse.{digits_value}
-use Rattle.reo_trace_texts.specs.Lines.{IsSmall}
-use Rattle.reo_trace_reader.specs.Ends.{IsDigit, HasFewDigits, NoDigit}
-use Rattle.reo_trace_reader.specs.Reads.{Stood, ReadsAgain}
+use Rattle.std.proofs.Common.{arith}
+use Rattle.std.proofs.lemmas.List.Elements.{All-more}
+use Rattle.reo_trace_reader.specs.Ends.{IsDigit}
 use Rattle.reo_trace_reader.proofs.number.digits_length.Goals as goal
 
--- src/number.rt:21:5
 pub loop-at-preserved : goal.loop-at-preserved
-loop-at-preserved c = ?
+loop-at-preserved c = All-more IsDigit c.args.text.now c.loop-at.at 0 c.loop-at-test.true c.loop-at.invariant (c.if-byte-lt48.false, c.if-byte-gt57.false)

@@ -1,20 +1,17 @@
-use Rattle.std.proofs.Common.{rules, ◌≡◌, ◌≢◌, ◌≤◌, ◌<◌, ℕ, take, drop, length, true, false, MatchOption, ◌+◌, ◌-◌, ◌*◌, ◌/◌, ◌%◌, Bool, nat_eq, nat_lt, List, [], ◌∷◌, ◌++◌, slice_index_or, slice_set, bit_and, bit_or, Fits, w8, w32, w64, Bor, MutBor}
-use Rattle.std.specs.Fmt.{decimal}
-use Rattle.std.specs.List.{All}
+use Rattle.std.proofs.Common.{arith, subst, sym, ap, ◌∙◌}
 use Rattle.std.specs.Str.Parse.{digits_value}
-use Rattle.reo_trace_texts.specs.Lines.{IsSmall}
-use Rattle.reo_trace_reader.specs.Ends.{IsDigit, HasFewDigits, NoDigit}
-use Rattle.reo_trace_reader.specs.Reads.{Stood, ReadsAgain}
+use Rattle.reo_trace_reader.specs.Ends.{HasFewDigits}
+use Rattle.reo_trace_reader.proofs.Digits.{decimal_few, few_decimal, decimal_value}
 use Rattle.reo_trace_reader.proofs.number.number_of.Goals as goal
 
--- src/number.rt:58:9
 pub returns-then-not-has_few_digits : goal.returns-then-not-has_few_digits
-returns-then-not-has_few_digits c = ?
+returns-then-not-has_few_digits c n h e = c.has_few_digits.ensures.no c.if-not-has_few_digits.true (subst HasFewDigits (sym e) (decimal_few n h))
 
--- src/number.rt:53:1
 pub returns-then-value : goal.returns-then-value
-returns-then-value c = ?
+returns-then-value c =
+    (c.if-value.true, few_decimal c.args.digits.now c.value_of-value.result c.requires (c.has_few_digits.ensures.yes c.if-not-has_few_digits.false) c.value_of-value.ensures c.if-value.true)
 
--- src/number.rt:53:1
 pub returns-else-value : goal.returns-else-value
-returns-else-value c = ?
+returns-else-value c n h e =
+    let same = c.value_of-value.ensures ∙ ap (λ l. digits_value 10 l) e ∙ decimal_value n h in
+    omega arith

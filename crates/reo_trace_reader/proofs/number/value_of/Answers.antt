@@ -1,20 +1,18 @@
-use Rattle.std.proofs.Common.{rules, ◌≡◌, ◌≢◌, ◌≤◌, ◌<◌, ℕ, take, drop, length, true, false, MatchOption, ◌+◌, ◌-◌, ◌*◌, ◌/◌, ◌%◌, Bool, nat_eq, nat_lt, List, [], ◌∷◌, ◌++◌, slice_index_or, slice_set, bit_and, bit_or, Fits, w8, w32, w64, Bor, MutBor}
-use Rattle.std.specs.Fmt.{decimal}
-use Rattle.std.specs.List.{All}
-use Rattle.std.specs.Str.Parse.{digits_value}
-use Rattle.reo_trace_texts.specs.Lines.{IsSmall}
-use Rattle.reo_trace_reader.specs.Ends.{IsDigit, HasFewDigits, NoDigit}
-use Rattle.reo_trace_reader.specs.Reads.{Stood, ReadsAgain}
+use Rattle.std.proofs.Common.{arith, ◌∙◌, ap, ◌+◌, ◌*◌, ℕ}
+use Rattle.reo_trace_reader.proofs.Digits.{value_more}
 use Rattle.reo_trace_reader.proofs.number.value_of.Goals as goal
 
--- src/number.rt:47:17
 pub overflow_mul-value : goal.overflow_mul-value
-overflow_mul-value c = ?
+overflow_mul-value c =
+    let more = value_more c.args.digits.now c.loop-digit.digit-index c.loop-digit.value c.requires.digits c.loop-digit-test.true c.requires.few c.loop-digit.invariant in
+    omega arith
 
--- src/number.rt:47:17
 pub overflow_add-value : goal.overflow_add-value
-overflow_add-value c = ?
+overflow_add-value c =
+    let more = value_more c.args.digits.now c.loop-digit.digit-index c.loop-digit.value c.requires.digits c.loop-digit-test.true c.requires.few c.loop-digit.invariant in
+    omega arith
 
--- src/number.rt:46:5
 pub loop-digit-preserved : goal.loop-digit-preserved
-loop-digit-preserved c = ?
+loop-digit-preserved c =
+    let more = value_more c.args.digits.now c.loop-digit.digit-index c.loop-digit.value c.requires.digits c.loop-digit-test.true c.requires.few c.loop-digit.invariant in
+    ap (λ (d : ℕ). c.loop-digit.value * 10 + d) c.from.ensures ∙ more.0

@@ -1,7 +1,12 @@
-use Rattle.std.proofs.Common.{rules, ◌≡◌, ◌≢◌, ◌==◌, ◌++◌, ◌≤◌, ℕ, List, length, take, drop, true, false, ◌+◌, ◌-◌, ◌*◌, ◌<◌, ◌/◌, ◌%◌, Bool, nat_eq, nat_lt, [], ◌∷◌, slice_index_or, slice_set, bit_and, bit_or, Fits, w8, w32, w64, Bor, MutBor}
-use Rattle.reo_trace_reader.specs.Ends.{EndsLine}
+use Rattle.std.proofs.Common.{◌≡◌, ◌∙◌, sym, ◌++◌}
+use Rattle.std.proofs.lemmas.List.{append_cancel_left}
 use Rattle.reo_trace_reader.proofs.reader.Reader.words.Goals as goal
+use Rattle.reo_trace_reader.proofs.reader.Reader.words.Goals.{else-word-via-then-word+else-word-2, else-word-via-else-word}
 
--- src/reader.rt:81:5
 pub returns-else-word-clause-none : goal.returns-else-word-clause-none
-returns-else-word-clause-none c = ?
+returns-else-word-clause-none c t rest e =
+    let old = c.new-ahead.ensures ∙ c.self.view_is ∙ e in
+    elim c.else-word.branch [
+      | else-word-via-then-word+else-word-2 w ↦ w.word-then-word.ensures.none w.if-word-2.false rest (append_cancel_left c.args.first.now _ _ (sym (c.word.ensures.taken w.if-word.true) ∙ old))
+      | else-word-via-else-word w ↦ c.word.ensures.none w.if-word.false _ old
+    ]
