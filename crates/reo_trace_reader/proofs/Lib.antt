@@ -1,4 +1,5 @@
 pub mod CellTexts
 pub mod Digits
+pub mod EntryRows
 pub mod RowTexts
 pub mod Steps

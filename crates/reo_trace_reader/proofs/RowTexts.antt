@@ -40,3 +40,33 @@ module _ {X : Type 0} (text : X → List ℕ) where
       → (old ≡ text x ++ (tails xs ++ rest)) × Is x × All Is xs
   left_first Is x xs old new rest h e =
       (e ∙ ap (λ l. l ++ rest) (spaced_tails x xs) ∙ append_assoc (text x) (tails xs) rest, All-head Is x xs h, All-tail Is x xs h)
+
+  -- one more text of it, behind a space
+  pub left_more : (Is : X → Type 0) (xs made : List X) (left last mid : List ℕ) → IsLeft Is xs made left last → left ≡ 32 ∷ mid → (left ≡ last → ⊥)
+      → (y : X) × (ys : List X) × (xs ≡ made ++ (y ∷ ys)) × Is y × All Is ys × (mid ≡ text y ++ (tails ys ++ last))
+  left_more Is xs made left last mid h e other = by h.more h.whole h.fit h.stands
+    where
+      by : (more : List X) → xs ≡ made ++ more → All Is more → left ≡ tails more ++ last
+          → (y : X) × (ys : List X) × (xs ≡ made ++ (y ∷ ys)) × Is y × All Is ys × (mid ≡ text y ++ (tails ys ++ last))
+      by [] whole fit stands = absurd (other stands)
+      by (y ∷ ys) whole fit stands =
+          (y, ys, whole, All-head Is y ys fit, All-tail Is y ys fit, ap (λ l. drop 1 l) (sym e ∙ stands) ∙ append_assoc (text y) (tails ys) last)
+
+  -- after it, less is left
+  pub left_less : (Is : X → Type 0) (xs made : List X) (y next : X) (ys : List X) (new last : List ℕ) → xs ≡ made ++ (y ∷ ys) → All Is ys → next ≡ y → new ≡ tails ys ++ last
+      → IsLeft Is xs (made ++ next ∷ []) new last
+  left_less Is xs made y next ys new last whole fit same stands = record {
+    more = ys;
+    whole = whole ∙ sym (ap (λ z. made ++ (z ∷ ys)) same) ∙ sym (append_assoc made (next ∷ []) ys);
+    fit = fit;
+    stands = stands;
+  }
+
+  -- and where no more is next, all was read
+  pub left_none : (Is : X → Type 0) (xs made : List X) (left last : List ℕ) → IsLeft Is xs made left last
+      → ((y : X) (ys : List X) → Is y → left ≡ 32 ∷ (text y ++ (tails ys ++ last)) → ⊥) → (made ≡ xs) × (left ≡ last)
+  left_none Is xs made left last h none = by h.more h.whole h.fit h.stands
+    where
+      by : (more : List X) → xs ≡ made ++ more → All Is more → left ≡ tails more ++ last → (made ≡ xs) × (left ≡ last)
+      by [] whole fit stands = (sym (whole ∙ append-nil made), stands)
+      by (y ∷ ys) whole fit stands = absurd (none y ys (All-head Is y ys fit) (stands ∙ ap (λ l. 32 ∷ l) (append_assoc (text y) (tails ys) last)))

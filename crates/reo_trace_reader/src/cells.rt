@@ -53,9 +53,11 @@ pub(crate) fn entries(alloc: Global, reader: &mut Reader) -> Result<List<Entry>,
     if reader.ends_line() {
         return Ok(made);
     }
-    made.push(entry(reader)?)?;
+    let first = entry(reader)?;
+    made.push(first)?;
     while reader.word(b" ") {
-        made.push(entry(reader)?)?;
+        let next = entry(reader)?;
+        made.push(next)?;
     }
     Ok(made)
 }
