@@ -1,5 +1,7 @@
 pub mod CellTexts
 pub mod Digits
 pub mod EntryRows
+pub mod ItemFront
+pub mod PortTexts
 pub mod RowTexts
 pub mod Steps
