@@ -77,3 +77,10 @@ module _ (ports : List Port) (told : AreTold ports) where
         e ∙ move_at ports told m p rest h.1.1 ∙ sym (append_assoc p.name (sign_of p.way) (text_of m.item p.kindred ++ rest))
             ∙ sym (ap (λ o. port_text o ++ (text_of m.item p.kindred ++ rest)) h.1.1),
       )
+
+  -- the item of a move, at the port that was found
+  pub move_item : (from : ℕ) (rest mid : List ℕ) (m : Move) (h : IsMoveFrom ports from m) (number : ℕ) (q : Port) → slice_get ports number ≡ Some q → number ≡ m.port
+      → mid ≡ text_of m.item h.1.0.kindred ++ rest → IsIn m.item q.kindred × (mid ≡ text_of m.item q.kindred ++ rest)
+  move_item from rest mid m h number q at same e =
+      let port = some_same h.1.0 q (sym h.1.1 ∙ sym (ap (λ (n : ℕ). slice_get ports n) same) ∙ at) in
+      (subst (λ (x : Port). IsIn m.item x.kindred) port h.1.2, e ∙ ap (λ (x : Port). text_of m.item x.kindred ++ rest) port)

@@ -1,8 +1,8 @@
 //! Moves of round lines.
-ghost use Rattle.std.specs.Prelude.{◌≡◌, ◌≢◌, ◌++◌, ℕ, List, Some, true, false, slice_get};
+ghost use Rattle.std.specs.Prelude.{◌≡◌, ◌≢◌, ◌++◌, ◌+◌, ℕ, List, Some, true, false, slice_get};
 ghost use Rattle.reo_net_base.specs.declared.colouring.Move.{Move as AMove};
 ghost use Rattle.reo_trace.specs.RoundText.{move_text};
-ghost use Rattle.reo_trace_texts.specs.Lines.{AreTold};
+ghost use Rattle.reo_trace_texts.specs.Lines.{AreTold, IsMove};
 ghost use Rattle.reo_trace_reader.specs.Ends.{Anything, EndsMove};
 ghost use Rattle.reo_trace_reader.specs.Fronts.{AreFlows, AreMoves, IsMoveFrom, IsPortFrom, flows_text, moves_front, port_text};
 ghost use Rattle.reo_trace_reader.specs.Reads.{Stood, ReadsAgain};
@@ -64,6 +64,16 @@ fn one_move(
     Ok(Move { port, item })
 }
 
+/// The number after that of a move's port.
+fn number_behind(ports: &Ports, one: &Move) -> usize
+    requires { IsMove ports.now.list one.now }
+    ensures { result ≡ one.now.port + 1 }
+{
+    let count = ports.list.len();
+    prove!(one.port < count);
+    one.port + 1
+}
+
 /// The moves of a round, at least one, up to the entries.
 fn moves(alloc: Global, reader: &mut Reader, ports: &Ports) -> Result<List<Move>, LineFault>
     requires { AreTold ports.now.list }
@@ -72,14 +82,14 @@ fn moves(alloc: Global, reader: &mut Reader, ports: &Ports) -> Result<List<Move>
 {
     let mut made = List::new(alloc);
     let first = one_move(alloc, reader, ports, 0)?;
-    let mut from = first.port + 1;
+    let mut from = number_behind(ports, &first);
     made.push(first)?;
     while !reader.word(b" | ") {
         if !reader.word(b" ") {
             return Err(LineFault::Form);
         }
         let next = one_move(alloc, reader, ports, from)?;
-        from = next.port + 1;
+        from = number_behind(ports, &next);
         made.push(next)?;
     }
     Ok(made)

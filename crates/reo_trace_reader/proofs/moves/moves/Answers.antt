@@ -1,48 +1,47 @@
-use Rattle.std.proofs.Common.{rules, ◌≡◌, ◌≢◌, ◌++◌, ℕ, List, Some, true, false, slice_get, ◌+◌, ◌-◌, ◌*◌, ◌<◌, ◌≤◌, length, ◌/◌, ◌%◌, Bool, nat_eq, nat_lt, [], ◌∷◌, slice_index_or, slice_set, bit_and, bit_or, Fits, w8, w32, w64, Bor, MutBor}
-use Rattle.reo_net_base.specs.declared.colouring.Move.{Move as AMove}
-use Rattle.reo_trace.specs.RoundText.{move_text}
-use Rattle.reo_trace_texts.specs.Lines.{AreTold}
-use Rattle.reo_trace_reader.specs.Ends.{Anything, EndsMove}
-use Rattle.reo_trace_reader.specs.Fronts.{AreFlows, AreMoves, IsMoveFrom, IsPortFrom, flows_text, moves_front, port_text}
-use Rattle.reo_trace_reader.specs.Reads.{Stood, ReadsAgain}
+use Rattle.std.proofs.Common.{◌∙◌, ◌++◌, ◌∷◌, [], ap, sym}
+use Rattle.reo_trace_reader.proofs.MoveRows.{ends_move, first_parts, first_read, next_parts, next_read, neither_read, all_read, all_stood}
+use Rattle.reo_trace_reader.proofs.Steps.{passes}
 use Rattle.reo_trace_reader.proofs.moves.moves.Goals as goal
 
--- src/moves.rt:74:17
 pub returns-in_err-first-clause-again : goal.returns-in_err-first-clause-again
-returns-in_err-first-clause-again c = ?
+returns-in_err-first-clause-again c xs rest h ends e =
+    let parts = first_parts c.args.ports.now.list c.requires c.args.reader.now xs rest h e in
+    passes c.from_residual.result c.in_err-first.field-0.0 _ parts.0 _ _ xs rest
+    (c.in_err-first.ensures.again parts.0 _ parts.3 (ends_move c.args.ports.now.list parts.1 rest) parts.5) c.from_residual.ensures
 
--- src/moves.rt:75:20
-pub overflow_add-from : goal.overflow_add-from
-overflow_add-from c = ?
-
--- src/moves.rt:77:5
 pub loop-alloc-init : goal.loop-alloc-init
-loop-alloc-init c = ?
+loop-alloc-init c =
+    first_read c.args.ports.now.list c.requires c.args.reader.now c.one_move.new.reader c.in_ok-first.first c.push.new.self c.number_behind-from.result
+    (c.in_ok-push.ensures.ok ∙ ap (λ l. l ++ c.in_ok-first.first ∷ []) c.new-made.ensures) c.number_behind-from.ensures
+    c.in_ok-first.ensures.stood.0.1 c.in_ok-first.ensures.stood.1 c.in_ok-first.ensures.again
 
--- src/moves.rt:79:13
 pub returns-then-not-word-clause-again : goal.returns-then-not-word-clause-again
-returns-then-not-word-clause-again c = ?
+returns-then-not-word-clause-again c xs rest h ends e =
+    neither_read c.args.ports.now.list c.requires c.args.reader.now c.loop-alloc.reader c.loop-alloc.made c.loop-alloc.from c.loop-alloc.invariant
+    (c.word.ensures.none c.loop-alloc-test.true)
+    (λ more f. c.word-in-loop-alloc.ensures.none c.if-not-word.true more (c.word.ensures.stays c.loop-alloc-test.true ∙ f)) xs rest h e
 
--- src/moves.rt:81:20
 pub returns-in_err-next-clause-again : goal.returns-in_err-next-clause-again
-returns-in_err-next-clause-again c = ?
+returns-in_err-next-clause-again c xs rest h ends e =
+    let space = sym (c.word.ensures.stays c.loop-alloc-test.true) ∙ c.word-in-loop-alloc.ensures.taken c.if-not-word.false in
+    let parts = next_parts c.args.ports.now.list c.requires c.args.reader.now c.loop-alloc.reader c.word-in-loop-alloc.new.self c.loop-alloc.made c.loop-alloc.from c.loop-alloc.invariant
+    space (c.word.ensures.none c.loop-alloc-test.true) xs rest h e in
+    passes c.from_residual-in_err-next.result c.in_err-next.field-0.0 _ parts.0 _ _ xs rest
+    (c.in_err-next.ensures.again parts.0 _ parts.3 (ends_move c.args.ports.now.list parts.1 rest) parts.5) c.from_residual-in_err-next.ensures
 
--- src/moves.rt:82:16
-pub overflow_add-from-in-loop-alloc : goal.overflow_add-from-in-loop-alloc
-overflow_add-from-in-loop-alloc c = ?
-
--- src/moves.rt:77:5
-pub loop-alloc-smaller : goal.loop-alloc-smaller
-loop-alloc-smaller c = ?
-
--- src/moves.rt:77:5
 pub loop-alloc-preserved : goal.loop-alloc-preserved
-loop-alloc-preserved c = ?
+loop-alloc-preserved c =
+    let space = sym (c.word.ensures.stays c.loop-alloc-test.true) ∙ c.word-in-loop-alloc.ensures.taken c.if-not-word.false in
+    next_read c.args.ports.now.list c.requires c.args.reader.now c.loop-alloc.reader c.word-in-loop-alloc.new.self c.one_move-in-loop-alloc.new.reader c.loop-alloc.made c.loop-alloc.from
+    c.in_ok-next.next c.push-in-loop-alloc.new.self c.number_behind-from-in-loop-alloc.result c.loop-alloc.invariant
+    space (c.word.ensures.none c.loop-alloc-test.true) c.in_ok-push-2.ensures.ok c.number_behind-from-in-loop-alloc.ensures
+    c.in_ok-next.ensures.stood.0 c.in_ok-next.ensures.stood.1 c.in_ok-next.ensures.again
 
--- src/moves.rt:68:1
 pub returns-clause-stood : goal.returns-clause-stood
-returns-clause-stood c = ?
+returns-clause-stood c =
+    all_stood c.args.ports.now.list c.requires c.args.reader.now c.loop-alloc.reader c.word.new.self c.loop-alloc.made c.loop-alloc.from c.loop-alloc.invariant (c.word.ensures.taken c.loop-alloc-test.false)
 
--- src/moves.rt:68:1
 pub returns-clause-again : goal.returns-clause-again
-returns-clause-again c = ?
+returns-clause-again c xs rest h ends e =
+    all_read c.args.ports.now.list c.requires c.args.reader.now c.loop-alloc.reader c.word.new.self c.loop-alloc.made c.loop-alloc.from c.loop-alloc.invariant
+    (c.word.ensures.taken c.loop-alloc-test.false) xs rest h e
