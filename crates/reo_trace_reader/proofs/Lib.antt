@@ -1,6 +1,9 @@
+pub mod Begins
 pub mod CellTexts
 pub mod Digits
+pub mod EndingTexts
 pub mod EntryRows
+pub mod FlowTexts
 pub mod ItemFront
 pub mod MoveRows
 pub mod PortTexts

@@ -1,24 +1,29 @@
-use Rattle.std.proofs.Common.{rules, ◌≡◌, ◌≢◌, ◌++◌, ◌+◌, ℕ, List, Some, true, false, slice_get, ◌-◌, ◌*◌, ◌<◌, ◌≤◌, length, ◌/◌, ◌%◌, Bool, nat_eq, nat_lt, [], ◌∷◌, slice_index_or, slice_set, bit_and, bit_or, Fits, w8, w32, w64, Bor, MutBor}
-use Rattle.reo_net_base.specs.declared.colouring.Move.{Move as AMove}
-use Rattle.reo_trace.specs.RoundText.{move_text}
-use Rattle.reo_trace_texts.specs.Lines.{AreTold, IsMove}
-use Rattle.reo_trace_reader.specs.Ends.{Anything, EndsMove}
-use Rattle.reo_trace_reader.specs.Fronts.{AreFlows, AreMoves, IsMoveFrom, IsPortFrom, flows_text, moves_front, port_text}
-use Rattle.reo_trace_reader.specs.Reads.{Stood, ReadsAgain}
+use Rattle.std.proofs.Common.{◌∙◌, sym}
+use Rattle.reo_trace_reader.proofs.FlowTexts.{idle_reads, dash_reads, moves_read}
+use Rattle.reo_trace_reader.proofs.Steps.{passes}
 use Rattle.reo_trace_reader.proofs.moves.read_flows.Goals as goal
 
--- src/moves.rt:109:9
 pub returns-then-word-clause-again : goal.returns-then-word-clause-again
-returns-then-word-clause-again c = ?
+returns-then-word-clause-again c x rest h ends e =
+    idle_reads c.args.ports.now.list c.requires c.args.reader.now c.word.new.self c.new.result c.new.ensures (c.word.ensures.taken c.if-word.true) x rest h e
 
--- src/moves.rt:115:9
 pub returns-then-word-2-clause-again : goal.returns-then-word-2-clause-again
-returns-then-word-2-clause-again c = ?
+returns-then-word-2-clause-again c x rest h ends e =
+    dash_reads c.args.ports.now.list c.requires c.args.reader.now c.word-2.new.self c.new-then-word-2.result c.new-then-word-2.ensures
+    (sym (c.word.ensures.stays c.if-word.false) ∙ c.word-2.ensures.taken c.if-word-2.true) x rest h e
 
--- src/moves.rt:120:17
 pub returns-in_err-moves-clause-again : goal.returns-in_err-moves-clause-again
-returns-in_err-moves-clause-again c = ?
+returns-in_err-moves-clause-again c x rest h ends e =
+    let same = sym (c.word.ensures.stays c.if-word.false) in
+    let read = moves_read c.args.ports.now.list c.requires c.args.reader.now rest x h e (c.word.ensures.none c.if-word.false)
+    (λ more f. c.word-2.ensures.none c.if-word-2.false more (sym same ∙ f)) in
+    passes c.from_residual.result c.in_err-moves.field-0.0 _ x.moves rest _ x rest
+    (c.in_err-moves.ensures.again x.moves rest read.1 tt (c.word-2.ensures.stays c.if-word-2.false ∙ sym same ∙ read.2)) c.from_residual.ensures
 
--- src/moves.rt:99:1
 pub returns-clause-again : goal.returns-clause-again
-returns-clause-again c = ?
+returns-clause-again c x rest h ends e =
+    let same = sym (c.word.ensures.stays c.if-word.false) in
+    let read = moves_read c.args.ports.now.list c.requires c.args.reader.now rest x h e (c.word.ensures.none c.if-word.false)
+    (λ more f. c.word-2.ensures.none c.if-word-2.false more (sym same ∙ f)) in
+    let found = c.in_ok-moves.ensures.again x.moves rest read.1 tt (c.word-2.ensures.stays c.if-word-2.false ∙ sym same ∙ read.2) in
+    ((λ i. record { idle = read.0 i; moves = found.0 i }), found.1)
