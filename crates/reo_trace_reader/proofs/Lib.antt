@@ -7,5 +7,6 @@ pub mod FlowTexts
 pub mod ItemFront
 pub mod MoveRows
 pub mod PortTexts
+pub mod RoundTexts
 pub mod RowTexts
 pub mod Steps

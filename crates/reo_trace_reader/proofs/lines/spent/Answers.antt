@@ -1,19 +1,25 @@
-use Rattle.std.proofs.Common.{rules, ◌≡◌, ◌++◌, ℕ, ◌+◌, ◌-◌, ◌*◌, ◌<◌, ◌≤◌, length, ◌/◌, ◌%◌, Bool, true, false, nat_eq, nat_lt, List, [], ◌∷◌, slice_index_or, slice_set, bit_and, bit_or, Fits, w8, w32, w64, Bor, MutBor}
-use Rattle.std.specs.Fmt.{decimal}
-use Rattle.reo_trace_texts.specs.Lines.{AreTold, IsEnding, IsSmall}
-use Rattle.reo_trace_reader.specs.Ends.{Anything, BeginsNoDigit, EndsLine, NoDigit}
-use Rattle.reo_trace_reader.specs.Fronts.{IsAnyLine, IsPart, IsLoad, IsSpent, heading_text, round_front, part_text, load_text, spent_text, ending_front}
-use Rattle.reo_trace_reader.specs.Reads.{Stood, ReadsAgain}
+use Rattle.std.proofs.Common.{◌∙◌, sym}
+use Rattle.reo_trace.specs.declared.line.Ending.TheVariants.{Spent}
+use Rattle.reo_trace_reader.proofs.EndingTexts.{spent_parts, load_no_digit}
+use Rattle.reo_trace_reader.proofs.Steps.{passes}
 use Rattle.reo_trace_reader.proofs.lines.spent.Goals as goal
 
--- src/lines.rt:114:16
 pub returns-in_err-part-clause-again : goal.returns-in_err-part-clause-again
-returns-in_err-part-clause-again c = ?
+returns-in_err-part-clause-again c x rest h ends e =
+    let parts = spent_parts c.args.reader.now x rest h e in
+    passes c.from_residual.result c.in_err-part.field-0.0 _ parts.0 _ _ x rest
+    (c.in_err-part.ensures.again parts.0 _ parts.3 (load_no_digit parts.1 rest) parts.5) c.from_residual.ensures
 
--- src/lines.rt:115:16
 pub returns-in_err-load-clause-again : goal.returns-in_err-load-clause-again
-returns-in_err-load-clause-again c = ?
+returns-in_err-load-clause-again c x rest h ends e =
+    let parts = spent_parts c.args.reader.now x rest h e in
+    let first = c.in_ok-part.ensures.again parts.0 _ parts.3 (load_no_digit parts.1 rest) parts.5 in
+    passes c.from_residual-in_err-load.result c.in_err-load.field-0.0 _ parts.1 rest _ x rest
+    (c.in_err-load.ensures.again parts.1 rest parts.4 ends first.1) c.from_residual-in_err-load.ensures
 
--- src/lines.rt:110:1
 pub returns-clause-again : goal.returns-clause-again
-returns-clause-again c = ?
+returns-clause-again c x rest h ends e =
+    let parts = spent_parts c.args.reader.now x rest h e in
+    let first = c.in_ok-part.ensures.again parts.0 _ parts.3 (load_no_digit parts.1 rest) parts.5 in
+    let last = c.in_ok-load.ensures.again parts.1 rest parts.4 ends first.1 in
+    ((λ i. Spent (first.0 i).round (first.0 i).knot (last.0 i).weight (last.0 i).budget) ∙ sym parts.2, last.1)
