@@ -1,5 +1,5 @@
 //! Lines of traces, without their line feeds.
-ghost use Rattle.std.specs.Prelude.{◌≡◌, ◌++◌};
+ghost use Rattle.std.specs.Prelude.{◌≡◌, ◌++◌, IfErr};
 ghost use Rattle.std.specs.Fmt.{decimal};
 ghost use Rattle.reo_trace_texts.specs.Lines.{AreTold, IsEnding, IsSmall};
 ghost use Rattle.reo_trace_reader.specs.Ends.{Anything, BeginsNoDigit, EndsLine, NoDigit};
@@ -19,6 +19,7 @@ use std::alloc::Global;
 fn number_after(reader: &mut Reader, word: &[u8]) -> Result<u64, LineFault>
     ensures stood { Stood IsSmall (λ n. word.now ++ decimal n) result reader.old reader.new }
     ensures again { ReadsAgain IsSmall (λ n. word.now ++ decimal n) NoDigit result reader.old reader.new }
+    ensures fault { IfErr result (λ fault. fault ≡ LineFault.Form) }
 {
     if reader.word(word) {
         number(reader)
@@ -32,6 +33,7 @@ fn number_before(reader: &mut Reader, word: &[u8]) -> Result<u64, LineFault>
     requires { BeginsNoDigit word.now }
     ensures stood { Stood IsSmall (λ n. decimal n ++ word.now) result reader.old reader.new }
     ensures again { ReadsAgain IsSmall (λ n. decimal n ++ word.now) Anything result reader.old reader.new }
+    ensures fault { IfErr result (λ fault. fault ≡ LineFault.Form) }
 {
     let number = number(reader)?;
     if reader.word(word) {
@@ -84,6 +86,7 @@ pub(crate) struct Part {
 fn read_part(reader: &mut Reader) -> Result<Part, LineFault>
     ensures stood { Stood IsPart part_text result reader.old reader.new }
     ensures again { ReadsAgain IsPart part_text NoDigit result reader.old reader.new }
+    ensures fault { IfErr result (λ fault. fault ≡ LineFault.Form) }
 {
     let round = number_before(reader, b": knot ")?;
     let knot = number(reader)?;
@@ -100,6 +103,7 @@ pub(crate) struct Load {
 fn read_load(reader: &mut Reader) -> Result<Load, LineFault>
     ensures stood { Stood IsLoad load_text result reader.old reader.new }
     ensures again { ReadsAgain IsLoad load_text NoDigit result reader.old reader.new }
+    ensures fault { IfErr result (λ fault. fault ≡ LineFault.Form) }
 {
     let weight = number_after(reader, b" weight ")?;
     let budget = number_after(reader, b" budget ")?;
@@ -110,6 +114,7 @@ fn read_load(reader: &mut Reader) -> Result<Load, LineFault>
 fn spent(reader: &mut Reader) -> Result<Ending, LineFault>
     ensures stood { Stood IsSpent spent_text result reader.old reader.new }
     ensures again { ReadsAgain IsSpent spent_text NoDigit result reader.old reader.new }
+    ensures fault { IfErr result (λ fault. fault ≡ LineFault.Form) }
 {
     let part = read_part(reader)?;
     let load = read_load(reader)?;
@@ -125,6 +130,7 @@ fn spent(reader: &mut Reader) -> Result<Ending, LineFault>
 pub(crate) fn ending(reader: &mut Reader) -> Result<Ending, LineFault>
     ensures stood { Stood IsEnding ending_front result reader.old reader.new }
     ensures again { ReadsAgain IsEnding ending_front EndsLine result reader.old reader.new }
+    ensures fault { IfErr result (λ fault. fault ≡ LineFault.Form) }
 {
     if reader.word(b"done after ") {
         let rounds = number_before(reader, b" rounds")?;

@@ -1,5 +1,5 @@
 //! Numbers of a trace.
-ghost use Rattle.std.specs.Prelude.{◌≡◌, ◌≢◌, ◌≤◌, ◌<◌, ℕ, take, drop, length, true, false, MatchOption};
+ghost use Rattle.std.specs.Prelude.{◌≡◌, ◌≢◌, ◌≤◌, ◌<◌, ℕ, take, drop, length, true, false, MatchOption, IfErr};
 ghost use Rattle.std.specs.Fmt.{decimal};
 ghost use Rattle.std.specs.List.{All};
 ghost use Rattle.std.specs.Str.Parse.{digits_value};
@@ -65,6 +65,7 @@ fn number_of(digits: &[u8]) -> Option<u64>
 pub(crate) fn number(reader: &mut Reader) -> Result<u64, LineFault>
     ensures stood { Stood IsSmall decimal result reader.old reader.new }
     ensures again { ReadsAgain IsSmall decimal NoDigit result reader.old reader.new }
+    ensures fault { IfErr result (λ fault. fault ≡ LineFault.Form) }
 {
     let count = digits_length(reader.left());
     match number_of(reader.take(count)) {

@@ -1,5 +1,5 @@
 //! Reading whole traces, and single lines.
-ghost use Rattle.std.specs.Prelude.{◌≡◌, ◌++◌, Result, IfOk, IsErrOf, MatchOption};
+ghost use Rattle.std.specs.Prelude.{◌≡◌, ◌++◌, Result, IfOk, IfErr, IsErrOf, MatchOption};
 ghost use Rattle.reo_trace_texts.specs.declared.trace.Trace.{Trace as ATrace};
 ghost use Rattle.reo_trace_texts.specs.declared.trace.TraceLine.{TraceLine as ALine};
 ghost use Rattle.reo_trace_texts.specs.declared.fault.TraceFault.{TraceFault as AFault};
@@ -10,7 +10,9 @@ ghost use Rattle.reo_trace.specs.declared.line.Ending.{Ending as AnEnding};
 ghost use Rattle.reo_trace.specs.declared.line.RoundLine.{RoundLine as ARound};
 ghost use Rattle.reo_trace.specs.EndingText.{ending_text};
 ghost use Rattle.reo_trace.specs.RoundText.{round_text};
+ghost use Rattle.reo_trace_reader.specs.Ends.{Anything};
 ghost use Rattle.reo_trace_reader.specs.Fronts.{NoRound, NoEnding};
+ghost use Rattle.reo_trace_reader.specs.Reads.{Stood, ReadsAgain};
 ghost use Rattle.reo_trace_texts.specs.Answers.{Answers, IsRead, IsThis, LineAnswers, IsLineRead, IsThisLine};
 
 use crate::lines::{ending, round};
@@ -22,11 +24,33 @@ use reo_trace_texts::{LineFault, Trace, TraceFault, TraceLine};
 use reo_values::{List, NoMemory};
 use std::alloc::Global;
 
-/// The line of the round of this number, with its line feed, or None where it is not next: then
-/// nothing is taken.
-fn next_round(
+/// The line of the round of this number, with its line feed.
+fn numbered_round(
     alloc: Global,
     reader: &mut Reader,
+    ports: &Ports,
+    number: u64,
+) -> Result<RoundLine, LineFault>
+    requires { AreTold ports.now.list }
+    ensures stood { Stood (IsLine ports.now.list number) (round_text ports.now.list) result reader.old reader.new }
+    ensures again { ReadsAgain (IsLine ports.now.list number) (round_text ports.now.list) Anything result reader.old reader.new }
+{
+    let line = round(alloc, reader, ports)?;
+    if line.round != number {
+        return Err(LineFault::Form);
+    }
+    if reader.word(b"\n") {
+        Ok(line)
+    } else {
+        Err(LineFault::Form)
+    }
+}
+
+/// The line of the round of this number, with its line feed, or None where it is not next: then
+/// nothing is taken.
+fn next_round<'a>(
+    alloc: Global,
+    reader: &mut Reader<'a>,
     ports: &Ports,
     number: u64,
 ) -> Result<Option<RoundLine>, NoMemory>
@@ -34,17 +58,28 @@ fn next_round(
     ensures { IfOk result (λ line. MatchOption line (NoRound ports.now.list number reader.old × (reader.new ≡ reader.old)) (λ line. IsLine ports.now.list number line × (reader.old ≡ round_text ports.now.list line ++ reader.new))) }
 {
     let before = reader.left();
-    match round(alloc, reader, ports) {
-        Ok(line) => {
-            if line.round == number && reader.word(b"\n") {
-                return Ok(Some(line));
-            }
+    match numbered_round(alloc, reader, ports, number) {
+        Ok(line) => Ok(Some(line)),
+        Err(LineFault::Form) => {
+            *reader = Reader::new(before);
+            Ok(None)
         }
-        Err(LineFault::Form) => {}
-        Err(LineFault::NoMemory) => return Err(NoMemory),
+        Err(LineFault::NoMemory) => Err(NoMemory),
     }
-    *reader = Reader::new(before);
-    Ok(None)
+}
+
+/// An ending, with its line feed.
+fn ended(reader: &mut Reader) -> Result<Ending, LineFault>
+    ensures stood { Stood IsEnding ending_text result reader.old reader.new }
+    ensures again { ReadsAgain IsEnding ending_text Anything result reader.old reader.new }
+    ensures fault { IfErr result (λ fault. fault ≡ LineFault.Form) }
+{
+    let ending = ending(reader)?;
+    if reader.word(b"\n") {
+        Ok(ending)
+    } else {
+        Err(LineFault::Form)
+    }
 }
 
 /// The ending that a text is, with its line feed.
@@ -52,10 +87,10 @@ fn last_line(text: &[u8]) -> Option<Ending>
     ensures { MatchOption result (NoEnding text.now) (λ ending. IsEnding ending × (text.now ≡ ending_text ending)) }
 {
     let mut reader = Reader::new(text);
-    match ending(&mut reader) {
-        Ok(ending) if reader.word(b"\n") && reader.is_done() => Some(ending),
-        _ => None,
-    }
+    let Ok(ending) = ended(&mut reader) else {
+        return None;
+    };
+    if reader.is_done() { Some(ending) } else { None }
 }
 
 /// The ending that a line is, without its line feed.
@@ -63,10 +98,10 @@ fn whole_ending(line: &[u8]) -> Option<Ending>
     ensures { MatchOption result ((ending : AnEnding) → IsEndingText line.now ending → ⊥) (λ ending. IsEndingText line.now ending) }
 {
     let mut reader = Reader::new(line);
-    match ending(&mut reader) {
-        Ok(ending) if reader.is_done() => Some(ending),
-        _ => None,
-    }
+    let Ok(ending) = ending(&mut reader) else {
+        return None;
+    };
+    if reader.is_done() { Some(ending) } else { None }
 }
 
 /// The line of a round that a line is, without its line feed.
