@@ -1,16 +1,123 @@
 //! Reading whole traces, and single lines.
-ghost use Rattle.std.specs.Prelude.{Result};
+ghost use Rattle.std.specs.Prelude.{◌≡◌, ◌++◌, Result, IfOk, IfErr, IsErrOf, MatchOption};
 ghost use Rattle.reo_trace_texts.specs.declared.trace.Trace.{Trace as ATrace};
 ghost use Rattle.reo_trace_texts.specs.declared.trace.TraceLine.{TraceLine as ALine};
 ghost use Rattle.reo_trace_texts.specs.declared.fault.TraceFault.{TraceFault as AFault};
 ghost use Rattle.reo_trace_texts.specs.declared.fault.LineFault.{LineFault as ALineFault};
-ghost use Rattle.reo_trace_texts.specs.Lines.{AreTold};
+ghost use Rattle.reo_trace_texts.specs.Lines.{AreTold, IsEnding, IsLine};
+ghost use Rattle.reo_trace_texts.specs.Texts.{IsEndingText, IsRoundText};
+ghost use Rattle.reo_trace.specs.declared.line.Ending.{Ending as AnEnding};
+ghost use Rattle.reo_trace.specs.declared.line.RoundLine.{RoundLine as ARound};
+ghost use Rattle.reo_trace.specs.EndingText.{ending_text};
+ghost use Rattle.reo_trace.specs.RoundText.{round_text};
+ghost use Rattle.reo_trace_reader.specs.Ends.{Anything};
+ghost use Rattle.reo_trace_reader.specs.Fronts.{NoRound, NoEnding};
+ghost use Rattle.reo_trace_reader.specs.Reads.{Stood, ReadsAgain};
 ghost use Rattle.reo_trace_texts.specs.Answers.{Answers, IsRead, IsThis, LineAnswers, IsLineRead, IsThisLine};
 
+use crate::lines::{ending, round};
+use crate::reader::Reader;
 use reo_net_base::Ports;
+use reo_trace::{Ending, RoundLine};
 use reo_trace_laws::{one_answer, one_line_answer};
 use reo_trace_texts::{LineFault, Trace, TraceFault, TraceLine};
+use reo_values::{List, NoMemory};
 use std::alloc::Global;
+
+/// The line of the round of this number, with its line feed.
+fn numbered_round(
+    alloc: Global,
+    reader: &mut Reader,
+    ports: &Ports,
+    number: u64,
+) -> Result<RoundLine, LineFault>
+    requires { AreTold ports.now.list }
+    ensures stood { Stood (IsLine ports.now.list number) (round_text ports.now.list) result reader.old reader.new }
+    ensures again { ReadsAgain (IsLine ports.now.list number) (round_text ports.now.list) Anything result reader.old reader.new }
+{
+    let line = round(alloc, reader, ports)?;
+    if line.round != number {
+        return Err(LineFault::Form);
+    }
+    if reader.word(b"\n") {
+        Ok(line)
+    } else {
+        Err(LineFault::Form)
+    }
+}
+
+/// The line of the round of this number, with its line feed, or None where it is not next: then
+/// nothing is taken.
+fn next_round<'a>(
+    alloc: Global,
+    reader: &mut Reader<'a>,
+    ports: &Ports,
+    number: u64,
+) -> Result<Option<RoundLine>, NoMemory>
+    requires { AreTold ports.now.list }
+    ensures { IfOk result (λ line. MatchOption line (NoRound ports.now.list number reader.old × (reader.new ≡ reader.old)) (λ line. IsLine ports.now.list number line × (reader.old ≡ round_text ports.now.list line ++ reader.new))) }
+{
+    let before = reader.left();
+    match numbered_round(alloc, reader, ports, number) {
+        Ok(line) => Ok(Some(line)),
+        Err(LineFault::Form) => {
+            *reader = Reader::new(before);
+            Ok(None)
+        }
+        Err(LineFault::NoMemory) => Err(NoMemory),
+    }
+}
+
+/// An ending, with its line feed.
+fn ended(reader: &mut Reader) -> Result<Ending, LineFault>
+    ensures stood { Stood IsEnding ending_text result reader.old reader.new }
+    ensures again { ReadsAgain IsEnding ending_text Anything result reader.old reader.new }
+    ensures fault { IfErr result (λ fault. fault ≡ LineFault.Form) }
+{
+    let ending = ending(reader)?;
+    if reader.word(b"\n") {
+        Ok(ending)
+    } else {
+        Err(LineFault::Form)
+    }
+}
+
+/// The ending that a text is, with its line feed.
+fn last_line(text: &[u8]) -> Option<Ending>
+    ensures { MatchOption result (NoEnding text.now) (λ ending. IsEnding ending × (text.now ≡ ending_text ending)) }
+{
+    let mut reader = Reader::new(text);
+    let Ok(ending) = ended(&mut reader) else {
+        return None;
+    };
+    if reader.is_done() { Some(ending) } else { None }
+}
+
+/// The ending that a line is, without its line feed.
+fn whole_ending(line: &[u8]) -> Option<Ending>
+    ensures { MatchOption result ((ending : AnEnding) → IsEndingText line.now ending → ⊥) (λ ending. IsEndingText line.now ending) }
+{
+    let mut reader = Reader::new(line);
+    let Ok(ending) = ending(&mut reader) else {
+        return None;
+    };
+    if reader.is_done() { Some(ending) } else { None }
+}
+
+/// The line of a round that a line is, without its line feed.
+fn whole_round(alloc: Global, line: &[u8], ports: &Ports) -> Result<RoundLine, LineFault>
+    requires { AreTold ports.now.list }
+    ensures found { IfOk result (λ round. IsRoundText ports.now.list line.now round) }
+    ensures none { IsErrOf result LineFault.Form → (round : ARound) → IsRoundText ports.now.list line.now round → ⊥ }
+{
+    let mut reader = Reader::new(line);
+    let found = round(alloc, &mut reader, ports)?;
+    if reader.is_done() {
+        Ok(found)
+    } else {
+        Err(LineFault::Form)
+    }
+}
 
 /// The trace that a text is, for the ports of its circuit: the lines of the rounds 1, 2, 3 and so
 /// on, and one ending, each with its line feed.
@@ -27,7 +134,18 @@ pub fn read_trace(alloc: Global, text: &[u8], ports: &Ports) -> Result<Trace, Tr
     ensures only { (answer : Result ATrace AFault) → Answers ports.now.list text.now answer
         → IsThis answer result }
 {
-    unreachable!()
+    one_answer();
+    let mut rounds = List::new(alloc);
+    let mut reader = Reader::new(text);
+    let mut number = 1;
+    while let Some(line) = next_round(alloc, &mut reader, ports, number)? {
+        rounds.push(line)?;
+        number += 1;
+    }
+    match last_line(reader.left()) {
+        Some(ending) => Ok(Trace { rounds, ending }),
+        None => Err(TraceFault::Line { line: number }),
+    }
 }
 
 /// The line of a round, of any number, or the ending that a line is, for the ports of its circuit.
@@ -42,5 +160,10 @@ pub fn read_line(alloc: Global, line: &[u8], ports: &Ports) -> Result<TraceLine,
     ensures only { (answer : Result ALine ALineFault) → LineAnswers ports.now.list line.now answer
         → IsThisLine answer result }
 {
-    unreachable!()
+    one_line_answer();
+    if let Some(ending) = whole_ending(line) {
+        return Ok(TraceLine::Ending(ending));
+    }
+    let round = whole_round(alloc, line, ports)?;
+    Ok(TraceLine::Round(round))
 }

@@ -1,0 +1,14 @@
+pub mod Begins
+pub mod CellTexts
+pub mod Digits
+pub mod EndingTexts
+pub mod EntryRows
+pub mod FlowTexts
+pub mod ItemFront
+pub mod LineTexts
+pub mod MoveRows
+pub mod PortTexts
+pub mod RoundTexts
+pub mod RowTexts
+pub mod Steps
+pub mod TraceTexts

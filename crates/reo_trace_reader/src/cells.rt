@@ -1,0 +1,63 @@
+//! Entries of round lines.
+ghost use Rattle.std.specs.Prelude.{◌≡◌};
+ghost use Rattle.std.specs.List.{All};
+ghost use Rattle.reo_trace.specs.RoundText.{cell_text, entry_text};
+ghost use Rattle.reo_trace.specs.Spaced.{spaced};
+ghost use Rattle.reo_trace_texts.specs.Lines.{IsCell, IsEntry};
+ghost use Rattle.reo_trace_reader.specs.Ends.{NoDigit, EndsEntry, EndsLine};
+ghost use Rattle.reo_trace_reader.specs.Reads.{Stood, ReadsAgain};
+
+use crate::number::number;
+use crate::reader::Reader;
+use reo_trace::{Cell, Entry};
+use reo_trace_texts::LineFault;
+use reo_values::List;
+use std::alloc::Global;
+
+/// The row of one side.
+fn cell(reader: &mut Reader) -> Result<Cell, LineFault>
+    ensures stood { Stood IsCell cell_text result reader.old reader.new }
+    ensures again { ReadsAgain IsCell cell_text NoDigit result reader.old reader.new }
+{
+    if reader.word(b"j") {
+        return Ok(Cell::Jam);
+    }
+    let row = number(reader)?;
+    if row < 1 << 32 {
+        Ok(Cell::Row(row as u32))
+    } else {
+        Err(LineFault::Form)
+    }
+}
+
+/// The rows of one primitive.
+fn entry(reader: &mut Reader) -> Result<Entry, LineFault>
+    ensures stood { Stood IsEntry entry_text result reader.old reader.new }
+    ensures again { ReadsAgain IsEntry entry_text EndsEntry result reader.old reader.new }
+{
+    let mouth = cell(reader)?;
+    if reader.word(b".") {
+        let tail = cell(reader)?;
+        Ok(Entry::Two(mouth, tail))
+    } else {
+        Ok(Entry::One(mouth))
+    }
+}
+
+/// The rows of all primitives, to the end of the line.
+pub(crate) fn entries(alloc: Global, reader: &mut Reader) -> Result<List<Entry>, LineFault>
+    ensures stood { Stood (All IsEntry) (spaced entry_text) result reader.old reader.new }
+    ensures again { ReadsAgain (All IsEntry) (spaced entry_text) EndsLine result reader.old reader.new }
+{
+    let mut made = List::new(alloc);
+    if reader.ends_line() {
+        return Ok(made);
+    }
+    let first = entry(reader)?;
+    made.push(first)?;
+    while reader.word(b" ") {
+        let next = entry(reader)?;
+        made.push(next)?;
+    }
+    Ok(made)
+}
