@@ -1,0 +1,5 @@
+mod Cuts
+mod JamLemmas
+mod SoFar
+mod ReplayLemmas
+mod VerdictLemmas
