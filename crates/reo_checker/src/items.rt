@@ -5,13 +5,14 @@ ghost use Rattle.reo_net_base.specs.Net.{net_of};
 ghost use Rattle.reo_net_colouring.specs.Filled.{AllFit};
 ghost use Rattle.reo_checker.specs.Faults.{IsItemFault};
 
-use crate::fits::fits;
 use reo_net_base::Primitive;
 use reo_net_circuit::Circuit;
+use reo_net_colouring::fits;
 use reo_values::Value;
 
-/// The least joint at which what stands does not fit.
-pub(crate) fn item_fault<P: Primitive>(
+/// The least joint that lacks its item, has one without flow, or has an item that the giver's row
+/// does not give or the taker's row does not let in. This takes no memory.
+pub fn item_fault<P: Primitive>(
     circuit: &Circuit<P>,
     rows: &[u32],
     items: &[Option<Value>],

@@ -2,13 +2,12 @@
 //! No call takes memory.
 #![tactic(auto)]
 
-mod fits;
 mod items;
 mod joints;
 mod judge;
 mod rows;
-mod taken;
 mod wrong;
 
+pub use items::item_fault;
 pub use judge::{check, check_marks};
 pub use wrong::Wrong;

@@ -1,17 +1,15 @@
 -- What runs write.
-use Rattle.std.specs.Prelude.{ℕ, ◌≡◌, ◌≤◌, ◌^◌, List, [], map}
+use Rattle.std.specs.Prelude.{ℕ, ◌≤◌, ◌^◌, List}
 use Rattle.std.specs.List.{All}
 use Rattle.reo_trees.specs.declared.programs.Program.{Program}
 use Rattle.reo_trees_laws.specs.Spelled.{IsSpelled}
 use Rattle.reo_rules_base.specs.Scopes.{connectors_of}
 use Rattle.reo_flatten_base.specs.Flat.{ports_of, wiring_of_program}
-use Rattle.reo_flatten_base.specs.Refusals.{breaks}
+use Rattle.reo_flatten_base.specs.Refusals.{IsAccepted}
 use Rattle.reo_flatten_laws.specs.Plain.{HasPlainNames}
 use Rattle.reo_kinds.specs.declared.kind.Kind.{Kind}
 use Rattle.reo_kinds.specs.Kinds.{behaviour_of, settled_kind, port_state_of, placed_kind, withdrawn_kind}
 use Rattle.reo_script_base.specs.declared.action.Component.{Component}
-use Rattle.reo_players.specs.Written.{written_out}
-use Rattle.reo_script_laws.specs.Fitting.{FitPorts}
 use Rattle.reo_trace.specs.declared.line.RoundLine.{RoundLine}
 use Rattle.reo_trace.specs.declared.line.Ending.{Ending}
 use Rattle.reo_trace.specs.TraceText.{trace_text}
@@ -24,20 +22,20 @@ use Rattle.reo_runs.specs.Run.{start_of, firsts, IsRun}
 abbrev pub kind_rules : Rules Kind
 kind_rules = rules_of behaviour_of settled_kind port_state_of placed_kind withdrawn_kind
 
--- A program as a text says it, that breaks no rule.
-pub record IsAcceptable (p : Program) : Type 0 where
+-- A program as a text says it, that is accepted: it breaks no rule, and no joint lies on a directed cycle.
+pub record IsTold (p : Program) : Type 0 where
   pub spelled : IsSpelled p
   pub plain : All HasPlainNames (connectors_of p.declarations)
-  pub sound : breaks p.declarations ≡ []
+  pub accepted : IsAccepted p
 
 -- The ports of such a program are names, each once, of types that a program may have.
 abbrev pub PortsAreTold : Type 0
-PortsAreTold = (p : Program) → IsAcceptable p → AreTold (ports_of p.declarations)
+PortsAreTold = (p : Program) → IsTold p → AreTold (ports_of p.declarations)
 
--- What a run of components that fit these ports writes is the text of a trace, of its lines and its ending.
+-- What a run of any components on its circuit writes is the text of a trace, the one of its lines and its ending.
 abbrev pub RunsAreTraceTexts : Type 0
 RunsAreTraceTexts =
     (p : Program) (components : List Component) (budget limit : ℕ) (lines : List RoundLine) (ending : Ending)
-    → IsAcceptable p → FitPorts (ports_of p.declarations) (map written_out components) → budget ≤ 10 ^ 9 → limit ≤ 10 ^ 9
+    → IsTold p → budget ≤ 10 ^ 9 → limit ≤ 10 ^ 9
     → IsRun (firsts budget limit) kind_rules (start_of (wiring_of_program p.declarations) components) lines ending
     → IsTraceText (ports_of p.declarations) (trace_text (ports_of p.declarations) lines ending) (record { rounds = lines; ending = ending })

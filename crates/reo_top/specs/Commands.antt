@@ -4,40 +4,44 @@ use Rattle.std.specs.Option.{is_some}
 use Rattle.std.specs.List.{list_all}
 use Rattle.std.specs.Str.{bytes_eq}
 use Rattle.reo_top.specs.declared.command.Command.{Command}
-use Rattle.reo_top.specs.declared.command.Command.TheVariants.{Run, Check, Print}
+use Rattle.reo_top.specs.declared.command.Command.TheVariants.{Run, Check, Print, Verify}
 use Rattle.reo_top.specs.declared.role.Role.{Role}
-use Rattle.reo_top.specs.declared.role.Role.TheVariants.{Circuit, Script}
+use Rattle.reo_top.specs.declared.role.Role.TheVariants.{Circuit, Script, Trace}
 use Rattle.reo_top.specs.declared.setting.Setting.{Setting}
 use Rattle.reo_top.specs.declared.setting.Setting.TheVariants.{Rounds}
 use Rattle.reo_top.specs.Settings.{numbers_of}
 
 -- All commands.
 abbrev pub commands : List Command
-commands = Run ∷ Check ∷ Print ∷ []
+commands = Run ∷ Check ∷ Print ∷ Verify ∷ []
 
 -- The first word of a command.
 abbrev pub command_word : Command → List ℕ
 command_word Run = codes "run"
 command_word Check = codes "check"
 command_word Print = codes "print"
+command_word Verify = codes "verify"
 
 -- The files that a command fetches, in order.
 abbrev pub roles_of : Command → List Role
 roles_of Run = Circuit ∷ Script ∷ []
 roles_of Check = Circuit ∷ []
 roles_of Print = Circuit ∷ []
+roles_of Verify = Circuit ∷ Script ∷ Trace ∷ []
 
 -- The options of a command, in order.
 abbrev pub settings_of : Command → List Setting
 settings_of Run = Rounds ∷ []
 settings_of Check = []
 settings_of Print = []
+settings_of Verify = []
 
 -- Whether what a command writes is free by its definition: then only its status is exact.
 abbrev pub is_free : Command → Bool
 is_free Run = false
 is_free Check = false
 is_free Print = false
+is_free Verify = false
 
 -- None of these words is empty.
 abbrev pub none_empty : List (List ℕ) → Bool

@@ -17,3 +17,5 @@ pub mod Statuses
 pub mod Stopped
 pub mod Stops
 pub mod Traces
+pub mod VerdictTexts
+pub mod Claims

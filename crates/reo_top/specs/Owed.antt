@@ -5,8 +5,9 @@ use Rattle.reo_trees.specs.declared.programs.Program.{Program}
 use Rattle.reo_syntax.specs.Canonical.{canonical_text}
 use Rattle.reo_parts.specs.Parts.{parts_text}
 use Rattle.reo_top.specs.declared.command.Command.{Command}
-use Rattle.reo_top.specs.declared.command.Command.TheVariants.{Run, Check, Print}
+use Rattle.reo_top.specs.declared.command.Command.TheVariants.{Run, Check, Print, Verify}
 use Rattle.reo_top.specs.declared.stop.Stop.{Stop}
+use Rattle.reo_top.specs.Claims.{ReadsClaim, StopsVerify, JudgesTrace}
 use Rattle.reo_top.specs.Fetched.{Content}
 use Rattle.reo_top.specs.Limits.{limits_of, firsts_for}
 use Rattle.reo_top.specs.Outputs.{Outputs, IsLine}
@@ -34,11 +35,12 @@ abbrev pub TracesRun : Limits → Runnable → Outputs
 TracesRun limits = IsTraceOf (firsts_for limits)
 
 -- What a command owes for its words: a run the trace of the run within the limits of its options, a check the parts of the
--- circuit, a print the canonical text of the program.
+-- circuit, a print the canonical text of the program, a verification the verdict on the trace.
 abbrev pub owed_of : Command → List (List ℕ) → List Content → Outputs
 owed_of Run words = owed_by ReadsRun StopsRun (TracesRun (limits_of words))
 owed_of Check words = owed_by ReadsCircuit StopsCheck ListsParts
 owed_of Print words = owed_by ReadsProgram StopsPrint PrintsProgram
+owed_of Verify words = owed_by ReadsClaim StopsVerify JudgesTrace
 
 -- The same, or the refusal of words that have no form, for which nothing is fetched.
 abbrev pub owed_for : Option Command → List (List ℕ) → List Content → Outputs

@@ -7,6 +7,9 @@ use Rattle.reo_kinds.specs.Kinds.{port_state_of}
 use Rattle.reo_flatten.specs.declared.last.Flat.{Flat}
 use Rattle.reo_flatten_ports.specs.PortsOf.{HasPorts, AreFree}
 use Rattle.reo_script.specs.Places.{ArePortsOf}
+use Rattle.reo_trace_texts.specs.declared.trace.Trace.{Trace}
+use Rattle.reo_trace_texts.specs.Lines.{AreTold}
+use Rattle.reo_top.specs.Claims.{Claimed, ReadsTrace, StopsTrace}
 use Rattle.reo_script_base.specs.declared.action.Script.{Script}
 use Rattle.reo_script_base.specs.ScriptAnswers.{Answers}
 use Rattle.reo_top.specs.declared.refusal.Refusal.{Refusal}
@@ -40,6 +43,7 @@ pub record HasItsPorts (w : Wiring Kind) (ports : List Port) : Type 0 where
   pub has : HasPorts (map port_state_of w.primitives) ports
   pub free : AreFree (map port_state_of w.primitives)
   pub names : ArePortsOf ports
+  pub told : AreTold ports
 
 -- A script for these ports, in its one file.
 abbrev pub ReadsScript : List Port → List Content → Script → Type 0
@@ -53,3 +57,11 @@ StopsScript ports _ stop = ⊥
 -- The file of a script was fetched, and is read so.
 abbrev pub IsScriptRead : List Port → List (List ℕ) → Change FilesState → Result Script Stop → Type 0
 IsScriptRead ports names files result = IsReadFrom (ReadsScript ports) (StopsScript ports) (roles.Script ∷ []) names files result
+
+-- With a trace besides.
+abbrev pub claimed_in : Flat → Script → Trace → Claimed
+claimed_in flat script trace = record { work = runnable_in flat script; trace = trace }
+
+-- The file of a trace was fetched, and is read so.
+abbrev pub IsTraceRead : List Port → List (List ℕ) → Change FilesState → Result Trace Stop → Type 0
+IsTraceRead ports names files result = IsReadFrom (ReadsTrace ports) (StopsTrace ports) (roles.Trace ∷ []) names files result

@@ -15,6 +15,9 @@ use Rattle.reo_net_base.specs.declared.port.Port.{Port}
 use Rattle.reo_script_base.specs.declared.fault.ScriptFault.{ScriptFault}
 use Rattle.reo_script_base.specs.declared.fault.ScriptFault.TheVariants as scripts
 use Rattle.reo_script_base.specs.ScriptAnswers.{Answers as ScriptAnswers}
+use Rattle.reo_trace_texts.specs.declared.fault.TraceFault.{TraceFault}
+use Rattle.reo_trace_texts.specs.declared.fault.TraceFault.TheVariants as traces
+use Rattle.reo_trace_texts.specs.Answers.{Answers as TraceAnswers}
 use Rattle.reo_top.specs.declared.refusal.Refusal.{Refusal}
 
 -- A cause on a line.
@@ -64,6 +67,11 @@ script_refusal (scripts.ItemOutside line) = on_line line (codes "outside")
 script_refusal (scripts.Shared line name) = on_line line (codes "shared " ++ name)
 script_refusal scripts.NoMemory = None
 
+-- The refusal of a text that is no trace, for the ports of its circuit. Out of memory is none.
+abbrev pub trace_refusal : TraceFault → Option Refusal
+trace_refusal (traces.Line line) = on_no_line (codes "line " ++ decimal line)
+trace_refusal traces.NoMemory = None
+
 -- Where the cause is.
 abbrev pub line_text : Option ℕ → List ℕ
 line_text None = []
@@ -84,3 +92,7 @@ RefusesCircuit text r = (program : Program) × (fault : FlatFault) × SaysProgra
 -- The text says no script for these ports, and is refused so.
 abbrev pub RefusesScript : List Port → List ℕ → Refusal → Type 0
 RefusesScript ports text r = (fault : ScriptFault) × ScriptAnswers text ports (Err fault) × (script_refusal fault ≡ Some r)
+
+-- The text is no trace for these ports, and is refused so.
+abbrev pub RefusesTrace : List Port → List ℕ → Refusal → Type 0
+RefusesTrace ports text r = (fault : TraceFault) × TraceAnswers ports text (Err fault) × (trace_refusal fault ≡ Some r)

@@ -2,7 +2,7 @@
 use Rattle.std.specs.Prelude.{ℕ, ◌==◌, List, [], ◌∷◌, Option, Some, None, IsTrue}
 use Rattle.std.specs.List.{list_any}
 use Rattle.reo_top.specs.declared.command.Command.{Command}
-use Rattle.reo_top.specs.declared.command.Command.TheVariants.{Run, Check, Print}
+use Rattle.reo_top.specs.declared.command.Command.TheVariants.{Run, Check, Print, Verify}
 
 -- Each component is at its end, or the other command did its work.
 abbrev pub done : ℕ
@@ -48,6 +48,10 @@ write_fault = 9
 abbrev pub out_of_memory : ℕ
 out_of_memory = 10
 
+-- The text of a trace is none, or the trace is refused.
+abbrev pub trace_refused : ℕ
+trace_refused = 11
+
 -- The statuses of a command that reads a circuit.
 abbrev pub circuit_statuses : List ℕ
 circuit_statuses = read_fault ∷ too_long ∷ circuit_refused ∷ write_fault ∷ out_of_memory ∷ []
@@ -57,6 +61,7 @@ abbrev pub statuses_of : Command → List ℕ
 statuses_of Run = done ∷ stuck ∷ script_refused ∷ part_over ∷ limit_reached ∷ circuit_statuses
 statuses_of Check = done ∷ circuit_statuses
 statuses_of Print = done ∷ circuit_statuses
+statuses_of Verify = done ∷ script_refused ∷ trace_refused ∷ circuit_statuses
 
 -- The statuses of the command, or of the refusal of words that have none.
 abbrev pub statuses_for : Option Command → List ℕ

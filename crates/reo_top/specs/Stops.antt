@@ -5,14 +5,14 @@ use Rattle.reo_top.specs.declared.stop.Stop.{Stop}
 use Rattle.reo_top.specs.declared.stop.Stop.TheVariants.{Missed, TooLong, Refused, NoMemory}
 use Rattle.reo_top.specs.Fetched.{Content, gone, long, text, unknown}
 use Rattle.reo_top.specs.Refusals.{refusal_text}
-use Rattle.reo_top.specs.Roles.{role_text, refused_status}
+use Rattle.reo_top.specs.Roles.{role_text, refused_text, refused_status}
 use Rattle.reo_top.specs.Statuses.{read_fault, too_long, out_of_memory}
 
 -- The line of a stop.
 abbrev pub stop_text : Stop → List ℕ
 stop_text (Missed role) = codes "read fault " ++ role_text role ++ codes "\n"
 stop_text (TooLong role) = codes "too long " ++ role_text role ++ codes "\n"
-stop_text (Refused role refusal) = role_text role ++ codes " refused: " ++ refusal_text refusal ++ codes "\n"
+stop_text (Refused role refusal) = refused_text role ++ codes " refused: " ++ refusal_text refusal ++ codes "\n"
 stop_text NoMemory = codes "no memory\n"
 
 -- The status of a stop.

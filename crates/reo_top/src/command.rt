@@ -14,10 +14,17 @@ pub enum Command {
     Check,
     /// `print CIRCUIT` writes the canonical text of the circuit.
     Print,
+    /// `verify CIRCUIT SCRIPT TRACE` writes the verdict on the trace.
+    Verify,
 }
 
 /// All commands.
-const COMMANDS: [Command; 3] = [Command::Run, Command::Check, Command::Print];
+const COMMANDS: [Command; 4] = [
+    Command::Run,
+    Command::Check,
+    Command::Print,
+    Command::Verify,
+];
 
 impl Command {
     /// The first word of the command.
@@ -28,6 +35,7 @@ impl Command {
             Command::Run => b"run",
             Command::Check => b"check",
             Command::Print => b"print",
+            Command::Verify => b"verify",
         }
     }
 
@@ -38,6 +46,7 @@ impl Command {
         match self {
             Command::Run => 2,
             Command::Check | Command::Print => 1,
+            Command::Verify => 3,
         }
     }
 
@@ -47,7 +56,7 @@ impl Command {
     {
         match self {
             Command::Run => &[Setting::Rounds],
-            Command::Check | Command::Print => &[],
+            Command::Check | Command::Print | Command::Verify => &[],
         }
     }
 }

@@ -3,6 +3,7 @@
 
 mod answer;
 mod checking;
+mod claim;
 mod command;
 mod fetching;
 mod limit;
@@ -15,7 +16,10 @@ mod setting;
 mod status;
 mod stop;
 mod top;
+mod verdict;
+mod verifying;
 
 pub use command::{Command, command_of};
+pub use reo_verify::{Refusal, Verdict, verify_trace};
 pub use status::Status;
 pub use top::reo;

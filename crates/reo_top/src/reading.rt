@@ -25,6 +25,7 @@ use reo_flatten_ports::flat_ports_fit;
 use reo_io::Files;
 use reo_net_base::Ports;
 use reo_parser::{ParseFault, parse};
+use reo_run_texts::ports_are_told;
 use reo_script::read_script;
 use reo_script_base::{Script, ScriptFault};
 use reo_script_laws::scripts_fit;
@@ -93,6 +94,7 @@ pub(crate) fn read_flat<F: Files>(alloc: Global, name: &[u8], files: &mut F) -> 
 {
     homes_fit();
     flat_ports_fit();
+    ports_are_told();
     let program = match read_program(alloc, name, files) {
         Ok(program) => program,
         Err(stop) => return Err(stop),

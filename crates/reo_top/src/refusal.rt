@@ -1,11 +1,12 @@
 //! Why texts are refused, for all layers alike.
 ghost use Rattle.std.specs.Prelude.{◌≡◌, ◌++◌, IfOk, OnOk, Some};
-ghost use Rattle.reo_top.specs.Refusals.{on_line, on_no_line, lex_refusal, parse_refusal, flat_refusal, script_refusal, line_text, refusal_text};
+ghost use Rattle.reo_top.specs.Refusals.{on_line, on_no_line, lex_refusal, parse_refusal, flat_refusal, script_refusal, trace_refusal, line_text, refusal_text};
 
 use reo_lexer::LexFault;
 use reo_parser::ParseFault;
 use reo_rules_base::FlatFault;
 use reo_script_base::ScriptFault;
+use reo_trace_texts::TraceFault;
 use reo_values::{Bytes, NoMemory};
 use std::alloc::Global;
 
@@ -134,6 +135,21 @@ pub(crate) fn script_refusal(alloc: Global, fault: &ScriptFault) -> Result<Refus
             two_on_line(alloc, *line, b"shared ", name.as_slice())
         }
         ScriptFault::NoMemory => Err(NoMemory),
+    }
+}
+
+/// Why a text that is no trace is refused. `NoMemory` is out of memory.
+pub(crate) fn trace_refusal(alloc: Global, fault: TraceFault) -> Result<Refusal, NoMemory>
+    ensures { IfOk result (λ refusal. trace_refusal fault ≡ Some refusal) }
+{
+    match fault {
+        TraceFault::Line { line } => {
+            let Ok(number) = line.to_string(alloc) else {
+                return Err(NoMemory);
+            };
+            two_on_no_line(alloc, b"line ", number.as_bytes())
+        }
+        TraceFault::NoMemory => Err(NoMemory),
     }
 }
 

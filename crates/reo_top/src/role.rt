@@ -1,14 +1,15 @@
 //! What a file is to a command.
 ghost use Rattle.std.specs.Prelude.{◌≡◌};
-ghost use Rattle.reo_top.specs.Roles.{role_text, most_bytes, refused_status};
+ghost use Rattle.reo_top.specs.Roles.{role_text, refused_text, most_bytes, refused_status};
 
-use crate::status::{CIRCUIT_REFUSED, SCRIPT_REFUSED};
+use crate::status::{CIRCUIT_REFUSED, SCRIPT_REFUSED, TRACE_REFUSED};
 
 /// What a file is to a command.
 #[derive(Clone, Copy, Debug, PartialEq, Eq)]
 pub(crate) enum Role {
     Circuit,
     Script,
+    Trace,
 }
 
 impl Role {
@@ -19,6 +20,18 @@ impl Role {
         match self {
             Role::Circuit => b"circuit",
             Role::Script => b"script",
+            Role::Trace => b"trace",
+        }
+    }
+
+    /// The word before the refusal of such a text.
+    pub(crate) fn refused_text(self) -> &'static [u8]
+        ensures { result.now ≡ refused_text self }
+    {
+        match self {
+            Role::Circuit => b"circuit",
+            Role::Script => b"script",
+            Role::Trace => b"verify",
         }
     }
 
@@ -28,6 +41,7 @@ impl Role {
     {
         match self {
             Role::Circuit | Role::Script => 1_048_576,
+            Role::Trace => 67_108_864,
         }
     }
 
@@ -38,6 +52,7 @@ impl Role {
         match self {
             Role::Circuit => CIRCUIT_REFUSED,
             Role::Script => SCRIPT_REFUSED,
+            Role::Trace => TRACE_REFUSED,
         }
     }
 }

@@ -21,18 +21,9 @@ use crate::status::{DONE, LIMIT_REACHED, PART_OVER, STUCK, Status, WRITE_FAULT};
 use crate::stop::refuse;
 use reo_io::{Files, Sink};
 use reo_kinds::Kind;
-use reo_net_circuit::Circuit;
 use reo_runner::{End2, Limits, run};
-use reo_runs::one_trace;
+use reo_runs::{known_order, one_trace};
 use std::alloc::Global;
-
-/// What holds of each circuit: its joints have an order.
-fn known_order(circuit: &Circuit<Kind>)
-    ensures { HasOrder (net_of behaviour_of circuit.now) }
-{
-    circuit.known();
-    let _order = circuit.order();
-}
 
 /// Runs a script on a circuit, and writes the trace.
 fn write_trace<S: Sink>(alloc: Global, work: Work, limits: Limits, out: &mut S) -> Status

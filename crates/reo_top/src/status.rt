@@ -38,3 +38,6 @@ pub(crate) const WRITE_FAULT: u8 = 9;
 
 /// Out of memory.
 pub(crate) const OUT_OF_MEMORY: u8 = 10;
+
+/// The text of a trace is none, or the trace is refused.
+pub(crate) const TRACE_REFUSED: u8 = 11;

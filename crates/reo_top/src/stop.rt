@@ -35,6 +35,7 @@ fn missed_line(role: Role) -> &'static [u8]
     match role {
         Role::Circuit => b"read fault circuit\n",
         Role::Script => b"read fault script\n",
+        Role::Trace => b"read fault trace\n",
     }
 }
 
@@ -45,6 +46,7 @@ fn long_line(role: Role) -> &'static [u8]
     match role {
         Role::Circuit => b"too long circuit\n",
         Role::Script => b"too long script\n",
+        Role::Trace => b"too long trace\n",
     }
 }
 
@@ -52,7 +54,7 @@ fn long_line(role: Role) -> &'static [u8]
 fn refused_line(alloc: Global, role: Role, refusal: &Refusal) -> Result<Bytes, NoMemory>
     ensures { IfOk result (λ line. line ≡ stop_text (stops.Refused role refusal.now)) }
 {
-    let mut line = Bytes::from_slice(alloc, role.text())?;
+    let mut line = Bytes::from_slice(alloc, role.refused_text())?;
     line.append(b" refused: ")?;
     append_refusal(alloc, &mut line, refusal)?;
     line.append(b"\n")?;

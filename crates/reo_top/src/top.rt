@@ -12,6 +12,7 @@ use crate::limit::limits_of;
 use crate::printing::print_circuit;
 use crate::running::run_circuit;
 use crate::status::{Status, WORDS_REFUSED};
+use crate::verifying::verify_claim;
 use reo_flatten_laws::{circuits_are_made, names_are_plain};
 use reo_io::{Files, Sink, Source};
 use reo_kinds::Kind;
@@ -72,6 +73,11 @@ pub fn reo<F: Files, R: Source, S: Sink>(
         }
         Some(Command::Check) => check_circuit(alloc, word_at(words, 1), files, out),
         Some(Command::Print) => print_circuit(alloc, word_at(words, 1), files, out),
+        Some(Command::Verify) => {
+            let circuit = word_at(words, 1);
+            let script = word_at(words, 2);
+            verify_claim(alloc, circuit, script, word_at(words, 3), files, out)
+        }
         None => answer(b"words refused\n", WORDS_REFUSED, out),
     }
 }

@@ -19,11 +19,7 @@ pub fn one_wrong_line()
 /// A text is answered in one way: it is one trace, or has one first wrong line.
 pub fn one_answer()
     ensures { OneAnswer }
-{
-    one_trace_of_text();
-    trace_has_no_wrong_line();
-    one_wrong_line();
-}
+{}
 
 /// A line is answered in one way: it is that of one round, one ending, or neither.
 pub fn one_line_answer()

@@ -1,5 +1,5 @@
 -- Replays round by round, in the subject's own words.
-use Rattle.std.specs.Prelude.{ℕ, suc, ◌+◌, ◌<◌, ◌≡◌, ◌≢◌, true, false, Some, List, length, slice_get}
+use Rattle.std.specs.Prelude.{ℕ, suc, ◌+◌, ◌<◌, ◌≡◌, true, false, Some, List, length, slice_get}
 use Rattle.reo_players.specs.Players.{Player, all_done, someone_counts}
 use Rattle.reo_trace.specs.declared.line.RoundLine.{RoundLine}
 use Rattle.reo_trace.specs.declared.line.Ending.{Ending}

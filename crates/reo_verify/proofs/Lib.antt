@@ -1,4 +1,7 @@
 mod Cuts
+mod RowLemmas
+mod SaidLemmas
+mod JudgeLemmas
 mod JamLemmas
 mod SoFar
 mod ReplayLemmas

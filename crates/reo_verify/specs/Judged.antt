@@ -1,10 +1,8 @@
 -- What the judgement of a line answers.
-use Rattle.std.specs.Prelude.{ℕ, ◌+◌, ◌≡◌, ◌==◌, if◌then◌else◌, List}
+use Rattle.std.specs.Prelude.{ℕ, ◌≡◌, List}
 use Rattle.reo_net_base.specs.declared.colouring.Colouring.{Colouring}
 use Rattle.reo_net_base.specs.Net.{Net}
 use Rattle.reo_net_base.specs.Colouring.{IsColouring}
-use Rattle.reo_trace.specs.declared.line.Cell.{Cell}
-use Rattle.reo_trace.specs.declared.line.Cell.TheVariants.{Row, Jam}
 use Rattle.reo_trace.specs.declared.line.Entry.{Entry}
 use Rattle.reo_trace.specs.declared.line.RoundLine.{RoundLine}
 use Rattle.reo_trace.specs.Entries.{line_for}
@@ -14,10 +12,6 @@ use Rattle.reo_verdicts.specs.Said.{AreSaid}
 use Rattle.reo_verdicts.specs.Wrongs.{IsWrongWith, HasWrongMoves}
 use Rattle.reo_verify.specs.declared.judging.Stop.{Stop}
 use Rattle.reo_verify.specs.declared.judging.Stop.TheVariants as stops
-
--- The cell of a row of a side with so many rows.
-abbrev pub cell_by : ℕ → ℕ → Cell
-cell_by rows row = if (row + 1) == rows then Jam else Row row
 
 -- Why entries say no colouring.
 abbrev pub IsStopBy : Net → List Entry → Stop → Type 0

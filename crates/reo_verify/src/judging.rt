@@ -7,7 +7,7 @@ ghost use Rattle.reo_verdicts.specs.Said.{AreSaid};
 ghost use Rattle.reo_verify.specs.Judged.{IsStopBy, IsColouringSaid, IsPlanShown, IsLineStop};
 
 use crate::rows::{are_counted, row_break, rows_said};
-use reo_checker::{Wrong, check_items, check_marks};
+use reo_checker::{Wrong, check_marks, item_fault};
 use reo_engine::{Plan, plan_with};
 use reo_net_base::{Colouring, Primitive};
 use reo_net_circuit::Circuit;
@@ -70,8 +70,10 @@ fn colouring_of<P: Primitive>(
         return Err(Stop::Wrong(wrong));
     }
     let colouring = fill(alloc, circuit, rows)?;
-    if let Err(wrong) = check_items(circuit, &colouring) {
-        return Err(Stop::Wrong(wrong));
+    let rows = colouring.rows.as_slice();
+    let items = colouring.items.as_slice();
+    if let Some(joint) = item_fault(circuit, rows, items) {
+        return Err(Stop::Wrong(Wrong::Item { joint }));
     }
     Ok(colouring)
 }

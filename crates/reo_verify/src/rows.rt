@@ -1,9 +1,9 @@
 //! The rows that the entries of a line say.
-ghost use Rattle.std.specs.Prelude.{◌≡◌, ◌↔◌, ◌<◌, ◌^◌, ℕ, IsTrue, IfOk, MatchOption, false, length, slice_get};
+ghost use Rattle.std.specs.Prelude.{◌≡◌, ◌↔◌, ◌<◌, ◌^◌, ◌++◌, ℕ, IsTrue, IfOk, OnOk, MatchOption, false, length};
 ghost use Rattle.reo_net_base.specs.Net.{net_of};
-ghost use Rattle.reo_verdicts.specs.Said.{cells_of, AreCounted, IsRowOf, HasRows, HasNoRow, AreSaid};
+ghost use Rattle.reo_verdicts.specs.Said.{cells_of, AreCounted, IsRowOf, HasRows, AreSaid};
 ghost use Rattle.reo_verdicts.specs.Wrongs.{IsRowBreak};
-ghost use Rattle.reo_verify.specs.Judged.{cell_by};
+ghost use Rattle.reo_verify.specs.Entries.{AreRowCells, HasNoRowCell, row_by, rows_by};
 
 use reo_net_base::Primitive;
 use reo_net_circuit::Circuit;
@@ -18,18 +18,6 @@ fn cell_count(entry: Entry) -> usize
     match entry {
         Entry::One(_) => 1,
         Entry::Two(_, _) => 2,
-    }
-}
-
-/// The cell of a side.
-fn cell_at(entry: Entry, side: usize) -> Option<Cell>
-    ensures { result ≡ slice_get (cells_of entry) side }
-{
-    match (entry, side) {
-        (Entry::One(cell), 0) => Some(cell),
-        (Entry::Two(mouth, _), 0) => Some(mouth),
-        (Entry::Two(_, tail), 1) => Some(tail),
-        _ => None,
     }
 }
 
@@ -58,24 +46,19 @@ fn is_row(rows: usize, cell: Cell) -> bool
     }
 }
 
-/// Whether each cell of a primitive's entry is a row of its side.
-fn has_rows<P: Primitive>(circuit: &Circuit<P>, entries: &[Entry], index: usize) -> bool
-    requires counted { AreCounted (net_of P.behaviour circuit.now) entries.now }
-    requires index { index < length circuit.now.primitives }
-    ensures has { let net = net_of P.behaviour circuit.now in
-        IsTrue result → HasRows net entries.now index }
-    ensures has_none { let net = net_of P.behaviour circuit.now in
-        result ≡ false → HasNoRow net entries.now index }
+/// Whether each cell of an entry of a primitive, which has a cell for each side, is a row of its
+/// side.
+fn are_row_cells<P: Primitive>(primitive: &P, entry: Entry) -> bool
+    requires { length (cells_of entry) ≡ (P.behaviour primitive.now).sides }
+    ensures are { IsTrue result → AreRowCells (P.behaviour primitive.now) entry }
+    ensures are_not { result ≡ false → HasNoRowCell (P.behaviour primitive.now) entry }
 {
-    let primitive = circuit.primitive(index);
-    for side in 0..primitive.sides() {
-        if let Some(cell) = cell_at(entries[index], side) {
-            if !is_row(primitive.rows(side), cell) {
-                return false;
-            }
+    match entry {
+        Entry::One(cell) => is_row(primitive.rows(0), cell),
+        Entry::Two(mouth, tail) => {
+            is_row(primitive.rows(0), mouth) && is_row(primitive.rows(1), tail)
         }
     }
-    true
 }
 
 /// The least primitive with a cell that is no row of its side.
@@ -87,7 +70,7 @@ pub(crate) fn row_break<P: Primitive>(circuit: &Circuit<P>, entries: &[Entry]) -
         (IsRowBreak net entries.now) }
 {
     for index in 0..entries.len() {
-        if !has_rows(circuit, entries, index) {
+        if !are_row_cells(circuit.primitive(index), entries[index]) {
             return Some(index);
         }
     }
@@ -99,12 +82,30 @@ fn row_of(rows: usize, cell: Cell) -> u32
     requires row { IsRowOf rows cell }
     requires some { 0 < rows }
     requires few { rows < 2 ^ 32 }
-    ensures in_table { result < rows }
-    ensures shown { cell ≡ cell_by rows result }
+    ensures { result ≡ row_by rows cell }
 {
     match cell {
         Cell::Row(row) => row,
         Cell::Jam => (rows - 1) as u32,
+    }
+}
+
+/// Adds the rows of the cells of a primitive's entry. `NoMemory` is out of memory.
+fn push_rows<P: Primitive>(
+    primitive: &P,
+    entry: Entry,
+    rows: &mut List<u32>,
+) -> Result<(), NoMemory>
+    requires count { length (cells_of entry) ≡ (P.behaviour primitive.now).sides }
+    requires are { AreRowCells (P.behaviour primitive.now) entry }
+    ensures { OnOk result (rows.new ≡ rows.old ++ rows_by (P.behaviour primitive.now) entry) }
+{
+    match entry {
+        Entry::One(cell) => rows.push(row_of(primitive.rows(0), cell)),
+        Entry::Two(mouth, tail) => {
+            rows.push(row_of(primitive.rows(0), mouth))?;
+            rows.push(row_of(primitive.rows(1), tail))
+        }
     }
 }
 
@@ -122,12 +123,7 @@ pub(crate) fn rows_said<P: Primitive>(
     circuit.known();
     let mut rows = List::new(alloc);
     for index in 0..entries.len() {
-        let primitive = circuit.primitive(index);
-        for side in 0..primitive.sides() {
-            if let Some(cell) = cell_at(entries[index], side) {
-                rows.push(row_of(primitive.rows(side), cell))?;
-            }
-        }
+        push_rows(circuit.primitive(index), entries[index], &mut rows)?;
     }
     Ok(rows)
 }

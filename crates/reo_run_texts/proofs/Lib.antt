@@ -1,0 +1,13 @@
+mod Told
+mod Lists
+mod Keeping
+mod RightKinds
+mod TypedItems
+mod TypedRounds
+mod LineLemmas
+mod ProgramKinds
+mod ProgramJoints
+mod ProgramPorts
+mod ProgramOrder
+mod OverSmall
+mod RunLemmas

@@ -1,0 +1,6 @@
+pub mod ItemLemmas
+pub mod ReplayLemmas
+pub mod SaidLemmas
+pub mod VerdictLemmas
+pub mod VerifiedLemmas
+pub mod WrongLemmas
