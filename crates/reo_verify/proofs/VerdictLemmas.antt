@@ -1,7 +1,7 @@
 -- The verdict by what a replay comes to.
-use Rattle.std.proofs.Common.{◌≡◌, ◌+◌, ℕ, List, [], ◌∷◌, ◌++◌, length, sym, subst}
+use Rattle.std.proofs.Common.{◌≡◌, ◌+◌, ℕ, List, [], ◌∷◌, length, sym, subst}
 use Rattle.std.proofs.lemmas.List.{append-nil}
-use Rattle.std.specs.Prelude.{Option}
+use Rattle.std.specs.Prelude.{Option, Result, Ok, Err, IfOk}
 use Rattle.reo_trace.specs.declared.line.Ending.{Ending}
 use Rattle.reo_trace_texts.specs.declared.trace.Trace.{Trace}
 use Rattle.reo_engine_base.specs.Rules.{Rules}
@@ -43,3 +43,8 @@ module _ {P : Type 0} (r : Rules P) (nodes : List (List ℕ)) (homes : List ℕ)
     rounds = halted.rounds;
     wrong = halted.wrong t.ending;
   }
+
+-- What holds of an answer, and one thing alone.
+pub only_by : {X E : Type 0} (answer : Result X E) (Q : X → Type 0) (x : X) → ((y : X) → Q y → y ≡ x) → IfOk answer Q → IfOk answer (λ y. y ≡ x)
+only_by (Ok y) Q x one is = one y is
+only_by (Err e) Q x one is = is

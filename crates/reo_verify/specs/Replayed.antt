@@ -1,5 +1,5 @@
 -- What a replay comes to.
-use Rattle.std.specs.Prelude.{ℕ, ◌+◌, ◌≡◌, ◌⊎◌, None, Some, Option, List, [], ◌∷◌, ◌++◌, length}
+use Rattle.std.specs.Prelude.{ℕ, ◌+◌, ◌≡◌, ◌⊎◌, None, Some, Option, List, ◌∷◌, ◌++◌, length}
 use Rattle.reo_net_base.specs.Net.{Wiring}
 use Rattle.reo_players.specs.Players.{Player}
 use Rattle.reo_trace.specs.declared.line.RoundLine.{RoundLine}

@@ -1,4 +1,4 @@
-use Rattle.std.proofs.Common.{◌≡◌, arith}
+use Rattle.std.proofs.Common.{arith}
 use Rattle.reo_trace.specs.declared.line.Cell.TheVariants.{Row}
 use Rattle.reo_trace.specs.declared.line.Entry.TheVariants.{One}
 use Rattle.reo_verify.proofs.Cuts.{got_or}

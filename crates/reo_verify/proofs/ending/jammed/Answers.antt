@@ -1,6 +1,4 @@
-use Rattle.std.proofs.Common.{◌≡◌, ◌+◌, ◌≤◌, ℕ, suc, drop, ap, sym, subst, arith}
-use Rattle.reo_trace.specs.declared.line.Entry.{Entry}
-use Rattle.reo_verdicts.specs.Said.{jammed}
+use Rattle.std.proofs.Common.{◌≡◌, ap, arith}
 use Rattle.reo_verify.proofs.Cuts.{got_by}
 use Rattle.reo_verify.proofs.JamLemmas.{jammed_cut, jams_of}
 use Rattle.reo_verify.proofs.ending.jammed.Goals as goal

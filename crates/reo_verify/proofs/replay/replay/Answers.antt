@@ -1,4 +1,4 @@
-use Rattle.std.proofs.Common.{◌≡◌, map, ap, sym, subst}
+use Rattle.std.proofs.Common.{map, sym, subst}
 use Rattle.reo_net_base.specs.Net.{Wiring}
 use Rattle.reo_runner_ports.specs.Between.{AreBetween}
 use Rattle.reo_runner_ports.proofs.Begun.{just_ports, between_first}

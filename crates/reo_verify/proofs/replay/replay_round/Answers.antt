@@ -1,4 +1,4 @@
-use Rattle.std.proofs.Common.{◌∙◌, ◌+◌, ℕ}
+use Rattle.std.proofs.Common.{◌+◌, ℕ}
 use Rattle.reo_net_base.specs.Net.{Wiring}
 use Rattle.reo_engine_base.specs.Rules.{rules_of}
 use Rattle.reo_engine_base.specs.declared.plan.Plan.{Plan}

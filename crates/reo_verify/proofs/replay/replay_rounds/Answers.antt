@@ -1,4 +1,4 @@
-use Rattle.std.proofs.Common.{◌≡◌, ◌∙◌, ◌+◌, ◌<◌, ◌^◌, ℕ, suc, take, ap, sym, subst, arith}
+use Rattle.std.proofs.Common.{◌≡◌, ◌∙◌, ◌+◌, ℕ, suc, take, ap, sym, subst, arith}
 use Rattle.reo_engine_base.specs.Rules.{rules_of}
 use Rattle.reo_runs.specs.Run.{Place}
 use Rattle.reo_runner_ports.proofs.Kept.{self_but}

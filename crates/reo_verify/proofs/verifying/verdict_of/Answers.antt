@@ -1,4 +1,4 @@
-use Rattle.std.proofs.Common.{◌≡◌, ap, sym, subst, arith}
+use Rattle.std.proofs.Common.{subst}
 use Rattle.reo_engine_base.specs.Rules.{rules_of}
 use Rattle.reo_runs.specs.Run.{start_of}
 use Rattle.reo_verify.specs.declared.replay.Halt.{Halt}
