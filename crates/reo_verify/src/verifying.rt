@@ -72,8 +72,8 @@ fn verdict_of<P: Ported>(
 /// component goes on. It is verified where it is the trace of a run in which each round is some
 /// colouring; otherwise the refusal is the first that is wrong with it.
 ///
-/// Not judged are whether a colouring is the first, and why a round could not be planned. `NoMemory`
-/// is out of memory.
+/// Not judged are whether a colouring is the first, and why a round could not be planned.
+/// `NoMemory` is out of memory.
 pub fn verify_trace(
     alloc: Global,
     flat: Flat,
