@@ -3,7 +3,7 @@ use Rattle.std.proofs.Common.{◌≡◌, ℕ, ◌+◌, ◌<◌, List, sym, subst
 use Rattle.reo_net_base.specs.declared.colouring.Colouring.{Colouring}
 use Rattle.reo_net_base.specs.Net.{Net, all_sides, first_side, behaviour_at, no_side}
 use Rattle.reo_net_base.specs.Sides.{AreRowsOf}
-use Rattle.reo_net_base.specs.Colouring.{RowsFit, IsColouring, IsFilled}
+use Rattle.reo_net_base.specs.Colouring.{RowsFit, IsFilled}
 use Rattle.reo_net_laws.proofs.Sides.{rows_length, row_below, side_in, side_is}
 use Rattle.reo_net_colouring.specs.Filled.{AllFit}
 use Rattle.reo_checker.specs.declared.wrong.Wrong.{Wrong}

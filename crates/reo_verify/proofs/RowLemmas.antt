@@ -1,7 +1,6 @@
 -- Cells that are rows of their sides, and cells that are none.
-use Rattle.std.proofs.Common.{◌≡◌, inl, inr, ℕ, ◌+◌, ◌<◌, ◌≤◌, Some, arith}
+use Rattle.std.proofs.Common.{◌≡◌, inl, inr, ℕ, ◌+◌, ◌<◌, ◌≤◌, Some}
 use Rattle.std.specs.Prelude.{slice_get, List}
-use Rattle.std.proofs.lemmas.Option.{get_or_from_slice_get}
 use Rattle.reo_net_laws.proofs.Sides.{below_or}
 use Rattle.reo_net_base.specs.Behaviour.{Behaviour}
 use Rattle.reo_net_base.specs.Net.{Net, behaviour_at}

@@ -1,6 +1,6 @@
 -- The rows that the cells of entries are.
-use Rattle.std.proofs.Common.{◌≡◌, ◌∙◌, ℕ, zero, suc, ◌+◌, ◌-◌, ◌<◌, ◌≤◌, ◌==◌, Bool, true, false, if◌then◌else◌, List, [], ◌∷◌, ◌++◌, Some, length, map, get_or, take, refl, sym, ap, arith, rules}
-use Rattle.std.specs.Prelude.{slice_get, nat_eq}
+use Rattle.std.proofs.Common.{◌≡◌, ◌∙◌, ℕ, zero, suc, ◌+◌, ◌-◌, ◌<◌, ◌==◌, Bool, true, false, if◌then◌else◌, List, [], ◌∷◌, ◌++◌, Some, length, map, get_or, take, refl, sym, ap, arith, rules}
+use Rattle.std.specs.Prelude.{slice_get}
 use Rattle.std.specs.List.{flat_map, range_with_len}
 use Rattle.std.proofs.lemmas.List.{get_or_append_left, get_or-append-add}
 use Rattle.std.proofs.lemmas.Option.{slice_get-get_or, slice_get_within}
@@ -8,15 +8,14 @@ use mathlib.Core.List.{append_assoc, append-nil}
 use lib.ListN.{length-append}
 use Rattle.reo_net_base.specs.Behaviour.{Behaviour}
 use Rattle.reo_net_base.specs.Lawful.{IsLawful}
-use Rattle.reo_net_base.specs.Net.{Net, Side, sides_of, all_sides, first_side, behaviour_at, row_count}
+use Rattle.reo_net_base.specs.Net.{Net, sides_of, all_sides, first_side, behaviour_at, row_count}
 use Rattle.reo_net_base.specs.Sides.{AreRowsOf}
-use Rattle.reo_net_base.specs.Step.{chosen_for}
 use Rattle.reo_net_laws.proofs.Sides.{are_rows, side_count, owner_of, owner_side, Owner}
 use Rattle.reo_trace.specs.declared.line.Cell.{Cell}
 use Rattle.reo_trace.specs.declared.line.Cell.TheVariants.{Row, Jam}
 use Rattle.reo_trace.specs.declared.line.Entry.{Entry}
 use Rattle.reo_trace.specs.declared.line.Entry.TheVariants.{One, Two}
-use Rattle.reo_trace.specs.Entries.{cell_of, entry_of, entry_at, entries_of}
+use Rattle.reo_trace.specs.Entries.{cell_of, entry_at}
 use Rattle.reo_verdicts.specs.Said.{cells_of, AreCounted, IsRowOf, HasRows, AreSaid}
 use Rattle.reo_verify.specs.Entries.{row_by, rows_by, rows_of}
 

@@ -1,16 +1,20 @@
 -- What a replay comes to.
-use Rattle.std.specs.Prelude.{ℕ, ◌+◌, ◌≡◌, ◌⊎◌, None, Some, Option, List, [], ◌∷◌, ◌++◌, length}
+use Rattle.std.specs.Prelude.{ℕ, ◌+◌, ◌≡◌, ◌⊎◌, None, Some, Option, List, ◌∷◌, ◌++◌, length}
 use Rattle.reo_net_base.specs.Net.{Wiring}
 use Rattle.reo_players.specs.Players.{Player}
 use Rattle.reo_trace.specs.declared.line.RoundLine.{RoundLine}
 use Rattle.reo_trace.specs.declared.line.Ending.{Ending}
+use Rattle.reo_trace_texts.specs.declared.trace.Trace.{Trace}
 use Rattle.reo_engine_base.specs.Rules.{Rules}
 use Rattle.reo_runs.specs.Round.{State, RoundOf, net_ready}
 use Rattle.reo_runs.specs.Run.{Place, Leads, over_after}
 use Rattle.reo_runner_ports.specs.Pending.{IsButForOffers}
 use Rattle.reo_verdicts.specs.declared.verdict.Refusal.{Refusal}
 use Rattle.reo_verdicts.specs.declared.verdict.Refusal.TheVariants as refusals
+use Rattle.reo_verdicts.specs.declared.verdict.Verdict.{Verdict}
+use Rattle.reo_verdicts.specs.declared.verdict.Verdict.TheVariants as verdicts
 use Rattle.reo_verdicts.specs.Replays.{MayStop, colourings}
+use Rattle.reo_verdicts.specs.Said.{jammed}
 use Rattle.reo_verdicts.specs.Verdicts.{IsWrongAt}
 use Rattle.reo_verdicts.specs.Wrongs.{node_of}
 use Rattle.reo_verify.specs.declared.judging.Stop.{Stop}
@@ -41,13 +45,18 @@ pub record IsReplayed {P : Type 0} (r : Rules P) (turn : ℕ) (a : State P) (lin
 abbrev pub IsNoRound : {P : Type 0} → Rules P → State P → RoundLine → Stop → Type 0
 IsNoRound r a line stop = IsLineStop (net_ready r a) a.circuit.ports line stop
 
-module _ {P : Type 0} (r : Rules P) (nodes : List (List ℕ)) (homes : List ℕ) (start : Place P) where
-  -- All lines are rounds of a run from the start that comes so far: it is over so, or it is not over.
-  pub record AreReplayed (lines : List RoundLine) (over : Option Ending) : Type 0 where
-    pub last : Place P
-    pub rounds : Leads colourings r 1 start lines last
-    pub over_is : last.over ≡ over
+-- All lines are rounds of a run from the start that comes so far: it is over so, or it is not over.
+pub record AreReplayed {P : Type 0} (r : Rules P) (start : Place P) (lines : List RoundLine) (over : Option Ending) : Type 0 where
+  pub last : Place P
+  pub rounds : Leads colourings r 1 start lines last
+  pub over_is : last.over ≡ over
 
+-- The verdict on a trace all of whose lines are rounds of a run that is over so, or not over.
+abbrev pub IsVerdictAt : Option Ending → Trace → Verdict → Type 0
+IsVerdictAt over t (verdicts.Verified rounds jams) = IsEndOf over (length t.rounds + 1) t.ending × (rounds ≡ length t.rounds) × (jams ≡ jammed t.rounds)
+IsVerdictAt over t (verdicts.Refused refusal) = (IsEndOf over (length t.rounds + 1) t.ending → ⊥) × (refusal ≡ refusals.End)
+
+module _ {P : Type 0} (r : Rules P) (nodes : List (List ℕ)) (homes : List ℕ) (start : Place P) where
   -- Some line is no round of such a run, and this is the first that is wrong with it; or memory ran out.
   pub record IsCutOff (lines : List RoundLine) (refusal : Refusal) : Type 0 where
     pub right : List RoundLine

@@ -1,6 +1,6 @@
 //! The ending of a trace.
 ghost use Rattle.std.specs.Prelude.{◌≡◌, ◌↔◌, ◌<◌, ◌^◌, [], ◌∷◌, IsTrue};
-ghost use Rattle.std.specs.List.{count_by};
+ghost use Rattle.std.specs.List.{count_by, flat_map};
 ghost use Rattle.reo_verdicts.specs.Said.{cells_of, is_jam, jammed};
 ghost use Rattle.reo_verdicts.specs.Replays.{MayStop};
 ghost use Rattle.reo_verify.specs.Replayed.{IsEndOf};
@@ -51,6 +51,18 @@ fn entry_jams(entry: Entry) -> u64
     }
 }
 
+/// How many cells of some entries are the jam row.
+fn entries_jams(entries: &[Entry]) -> u64
+    requires { count_by is_jam (flat_map cells_of entries.now) < 2 ^ 63 }
+    ensures { result ≡ count_by is_jam (flat_map cells_of entries.now) }
+{
+    let mut count = 0;
+    for entry in entries {
+        count += entry_jams(*entry);
+    }
+    count
+}
+
 /// How many cells of some lines are the jam row.
 pub(crate) fn jammed(rounds: &[RoundLine]) -> u64
     requires { jammed rounds.now < 2 ^ 63 }
@@ -58,9 +70,7 @@ pub(crate) fn jammed(rounds: &[RoundLine]) -> u64
 {
     let mut count = 0;
     for line in rounds {
-        for entry in line.entries.as_slice() {
-            count += entry_jams(*entry);
-        }
+        count += entries_jams(line.entries.as_slice());
     }
     count
 }

@@ -1,18 +1,24 @@
 //! The replay of a trace.
-ghost use Rattle.std.specs.Prelude.{◌≡◌, ◌<◌, ◌+◌, ◌^◌, IfOk, OnOk, IfErr, MatchResult, length, map};
+ghost use Rattle.std.specs.Prelude.{◌≡◌, ◌<◌, ◌+◌, ◌^◌, cond, Some, None, IfOk, OnOk, IfErr, MatchResult, map};
 ghost use Rattle.reo_net_base.specs.Net.{Wiring};
+ghost use Rattle.reo_players.specs.Players.{all_done};
+ghost use Rattle.reo_trace.specs.declared.line.Ending.TheVariants.{Done as IsDone};
 ghost use Rattle.reo_trace_texts.specs.Lines.{AreLines};
 ghost use Rattle.reo_engine_base.specs.Rules.{rules_of};
+ghost use Rattle.reo_runs.specs.Run.{Place, start_of};
 ghost use Rattle.reo_runner_ports.specs.Pending.{IsButForOffers};
 ghost use Rattle.reo_runner_ports.specs.Between.{AreBetween};
+ghost use Rattle.reo_runner_ports.specs.Runnable.{CanRun};
 ghost use Rattle.reo_verify.specs.Replayed.{IsReplayed, IsNoRound, AreReplayed, IsHalted};
 
 use crate::judging::{Stop, plan_of};
 use crate::refusal::refusal_of;
 use reo_engine::Engine;
 use reo_net_base::{Ported, Ports};
+use reo_net_circuit::Circuit;
 use reo_players::Players;
 use reo_runner_ports::{carry_out, offer_all};
+use reo_script_base::Script;
 use reo_trace::{Ending, RoundLine};
 use reo_values::{Bytes, NoMemory};
 use reo_verdicts::Refusal;
@@ -82,7 +88,7 @@ fn replay_round<P: Ported>(
 ///
 /// `Refused` with what is wrong with the first line that shows no round. `NoMemory` is out of
 /// memory.
-pub(crate) fn replay_rounds<P: Ported>(
+fn replay_rounds<P: Ported>(
     alloc: Global,
     engine: &mut Engine<P>,
     players: &mut Players,
@@ -98,9 +104,9 @@ pub(crate) fn replay_rounds<P: Ported>(
     requires lines { AreLines ports.now.list 1 rounds.now }
     ensures { let r = rules_of P.behaviour P.settled P.port_state P.placed P.withdrawn in
         let circuit = engine.old.circuit in
-        let state = record { circuit = circuit; players = players.old } in
-        let start = record { state = state; over = begins } in
-        MatchResult result (AreReplayed r nodes.now homes.now start rounds.now)
+        let start : Place _ =
+        record { state = record { circuit = circuit; players = players.old }; over = begins } in
+        MatchResult result (AreReplayed r start rounds.now)
         (IsHalted r nodes.now homes.now start rounds.now) }
 {
     let mut over = begins;
@@ -118,4 +124,54 @@ pub(crate) fn replay_rounds<P: Ported>(
         }
     }
     Ok(over)
+}
+
+/// How a run is over before its first round, if it is.
+fn begins(players: &Players) -> Option<Ending>
+    ensures { result ≡ cond (all_done players.now) (Some (IsDone 0)) None }
+{
+    if players.all_done() {
+        Some(Ending::Done { rounds: 0 })
+    } else {
+        None
+    }
+}
+
+/// Makes the rounds that lines show, of components on a circuit. The answer is how the run is over
+/// after them, if it is.
+///
+/// # Errors
+///
+/// `Refused` with what is wrong with the first line that shows no round. `NoMemory` is out of
+/// memory.
+pub(crate) fn replay<P: Ported>(
+    alloc: Global,
+    circuit: Circuit<P>,
+    ports: &Ports,
+    nodes: &[Bytes],
+    homes: &[u32],
+    script: Script,
+    rounds: &[RoundLine],
+) -> Result<Option<Ending>, Halt>
+    requires fit { let states = map P.port_state circuit.primitives in
+        CanRun states circuit.ports ports.now.list script.components }
+    requires lines { AreLines ports.now.list 1 rounds.now }
+    ensures { let r = rules_of P.behaviour P.settled P.port_state P.placed P.withdrawn in
+        let start = start_of circuit script.components in
+        MatchResult result (AreReplayed r start rounds.now)
+        (IsHalted r nodes.now homes.now start rounds.now) }
+{
+    let mut players = Players::new(alloc, script)?;
+    let mut engine = Engine::new(alloc, circuit)?;
+    let begins = begins(&players);
+    replay_rounds(
+        alloc,
+        &mut engine,
+        &mut players,
+        ports,
+        nodes,
+        homes,
+        begins,
+        rounds,
+    )
 }

@@ -1,22 +1,22 @@
 //! The verdict on a trace.
-ghost use Rattle.std.specs.Prelude.{◌≡◌, IfOk, length, map};
+ghost use Rattle.std.specs.Prelude.{◌≡◌, ◌<◌, ◌^◌, IfOk, map};
 ghost use Rattle.reo_kinds.specs.Kinds.{port_state_of};
 ghost use Rattle.reo_engine_base.specs.Rules.{rules_of};
 ghost use Rattle.reo_runs.specs.Run.{start_of};
 ghost use Rattle.reo_runner_ports.specs.Kinds.{kind_rules};
 ghost use Rattle.reo_runner_ports.specs.Runnable.{CanRun};
 ghost use Rattle.reo_verdicts.specs.declared.verdict.Verdict.{Verdict as AVerdict};
+ghost use Rattle.reo_verdicts.specs.Said.{jammed};
 ghost use Rattle.reo_verdicts.specs.Replays.{HasText};
 ghost use Rattle.reo_verdicts.specs.Verdicts.{IsVerdict};
+ghost use Rattle.reo_verify.specs.Replayed.{IsVerdictAt};
 
 use crate::ending::{ends_as, jammed};
-use crate::replay::{Halt, replay_rounds};
-use reo_engine::Engine;
+use crate::replay::{Halt, replay};
 use reo_flatten::Flat;
 use reo_kinds::Kind;
 use reo_net_base::{Ported, Ports};
 use reo_net_circuit::Circuit;
-use reo_players::Players;
 use reo_runs::known_order;
 use reo_script_base::Script;
 use reo_trace::Ending;
@@ -26,7 +26,23 @@ use reo_verdict_laws::one_verdict;
 use reo_verdicts::{Refusal, Verdict};
 use std::alloc::Global;
 
-/// The verdict on a trace of components on a circuit.
+/// The verdict on a trace whose lines are all rounds of a run that is over so, or not over.
+fn verdict_at(over: Option<Ending>, trace: &Trace) -> Verdict
+    requires { jammed trace.now.rounds < 2 ^ 63 }
+    ensures { IsVerdictAt over trace.now result }
+{
+    let rounds = trace.rounds.as_slice();
+    let count = rounds.len() as u64;
+    if ends_as(over, count + 1, trace.ending) {
+        let jammed = jammed(rounds);
+        let rounds = count;
+        Verdict::Verified { rounds, jammed }
+    } else {
+        Verdict::Refused(Refusal::End)
+    }
+}
+
+/// The verdict on a trace of components on a circuit. `NoMemory` is out of memory.
 fn verdict_of<P: Ported>(
     alloc: Global,
     circuit: Circuit<P>,
@@ -43,36 +59,11 @@ fn verdict_of<P: Ported>(
         let start = start_of circuit script.components in
         IfOk result (IsVerdict r nodes.now homes.now start trace.now) }
 {
-    let mut players = Players::new(alloc, script)?;
-    let mut engine = Engine::new(alloc, circuit)?;
-    let begins = if players.all_done() {
-        Some(Ending::Done { rounds: 0 })
-    } else {
-        None
-    };
     let rounds = trace.rounds.as_slice();
-    let replayed = replay_rounds(
-        alloc,
-        &mut engine,
-        &mut players,
-        ports,
-        nodes,
-        homes,
-        begins,
-        rounds,
-    );
-    let over = match replayed {
-        Ok(over) => over,
-        Err(Halt::Refused(refusal)) => return Ok(Verdict::Refused(refusal)),
-        Err(Halt::NoMemory) => return Err(NoMemory),
-    };
-    let count = rounds.len() as u64;
-    if ends_as(over, count + 1, trace.ending) {
-        let jammed = jammed(rounds);
-        let rounds = count;
-        Ok(Verdict::Verified { rounds, jammed })
-    } else {
-        Ok(Verdict::Refused(Refusal::End))
+    match replay(alloc, circuit, ports, nodes, homes, script, rounds) {
+        Ok(over) => Ok(verdict_at(over, trace)),
+        Err(Halt::Refused(refusal)) => Ok(Verdict::Refused(refusal)),
+        Err(Halt::NoMemory) => Err(NoMemory),
     }
 }
 
@@ -81,8 +72,8 @@ fn verdict_of<P: Ported>(
 /// component goes on. It is verified where it is the trace of a run in which each round is some
 /// colouring; otherwise the refusal is the first that is wrong with it.
 ///
-/// Not judged are whether a colouring is the first, and why a round could not be planned. `NoMemory`
-/// is out of memory.
+/// Not judged are whether a colouring is the first, and why a round could not be planned.
+/// `NoMemory` is out of memory.
 pub fn verify_trace(
     alloc: Global,
     flat: Flat,

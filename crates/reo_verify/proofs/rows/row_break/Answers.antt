@@ -1,5 +1,4 @@
-use Rattle.std.proofs.Common.{◌≡◌, ◌∙◌, ℕ, get_or, length, map, sym, arith, rules, below_more}
-use Rattle.std.proofs.lemmas.List.{length-map}
+use Rattle.std.proofs.Common.{get_or, arith, rules, below_more}
 use Rattle.std.proofs.lemmas.Option.{slice_get-get_or}
 use Rattle.reo_net_base.specs.Net.{Net, net_of}
 use Rattle.reo_trace.specs.declared.line.Cell.TheVariants.{Row}

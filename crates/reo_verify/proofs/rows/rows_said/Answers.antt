@@ -1,8 +1,7 @@
-use Rattle.std.proofs.Common.{◌≡◌, ◌∙◌, ◌<◌, ◌≤◌, ℕ, List, ◌∷◌, [], ◌++◌, get_or, length, map, take, sym, ap, subst, arith, rules}
+use Rattle.std.proofs.Common.{◌≡◌, ◌<◌, ℕ, List, get_or, length, map, take, sym, subst, arith}
 use Rattle.std.proofs.lemmas.List.{length-map, take_more, take_all, length-take-le}
-use Rattle.std.proofs.lemmas.Option.{slice_get-get_or}
 use Rattle.reo_net_base.specs.Behaviour.{Behaviour}
-use Rattle.reo_net_base.specs.Net.{Net, net_of, behaviour_at}
+use Rattle.reo_net_base.specs.Net.{Net, net_of}
 use Rattle.reo_net_base.specs.Behaviour.{nothing}
 use Rattle.reo_trace.specs.declared.line.Cell.TheVariants.{Row}
 use Rattle.reo_trace.specs.declared.line.Entry.{Entry}

@@ -1,0 +1,155 @@
+-- Rounds of a replay, one after another.
+use Rattle.std.proofs.Common.{◌≡◌, ◌≢◌, ◌∙◌, inl, inr, ℕ, zero, suc, ◌+◌, ◌≤◌, true, false, List, [], ◌∷◌, ◌++◌, length, take, drop, refl, sym, ap, subst, arith}
+use Rattle.std.specs.Prelude.{Option, Some, None, is_some, slice_get}
+use Rattle.reo_net_base.specs.declared.port.Port.{Port}
+use Rattle.reo_net_base.specs.Colouring.{IsColouring}
+use Rattle.reo_net_base.specs.Moves.{moves_of}
+use Rattle.reo_net_base.specs.Net.{Wiring, net_of}
+use Rattle.reo_net_base.specs.Step.{stepped}
+use Rattle.reo_players.specs.Players.{Player}
+use Rattle.reo_players.specs.Offers.{offer_for}
+use Rattle.reo_trace.specs.declared.line.RoundLine.{RoundLine}
+use Rattle.reo_trace.specs.declared.line.Ending.{Ending}
+use Rattle.reo_trace.specs.Entries.{line_for}
+use Rattle.reo_trace_texts.specs.Lines.{IsLine, AreLines}
+use Rattle.reo_engine_base.specs.declared.plan.Plan.{Plan}
+use Rattle.reo_engine_base.specs.Ready.{ready}
+use Rattle.reo_engine_base.specs.Rules.{Rules}
+use Rattle.reo_runs.specs.Round.{State, advanced, net_ready}
+use Rattle.reo_runs.specs.Run.{Place, Leads, place_after, over_after}
+use Rattle.reo_runs.proofs.WholeLemmas.{leads_on}
+use Rattle.reo_runner_ports.specs.Pending.{IsButForOffers}
+use Rattle.reo_runner_ports.proofs.AfterRound.{over_by}
+use Rattle.reo_verdicts.specs.declared.verdict.Refusal.{Refusal}
+use Rattle.reo_verdicts.specs.declared.verdict.Refusal.TheVariants as refusals
+use Rattle.reo_verdicts.specs.Replays.{colourings}
+use Rattle.reo_verdicts.specs.Wrongs.{IsWrongRound}
+use Rattle.reo_verify.specs.declared.judging.Stop.{Stop}
+use Rattle.reo_verify.specs.declared.judging.Stop.TheVariants as stops
+use Rattle.reo_verify.specs.Judged.{IsPlanShown}
+use Rattle.reo_verify.specs.Replayed.{IsReplayed, IsNoRound, IsRefusalBy, AreReplayed, IsCutOff}
+use Rattle.reo_verify.proofs.Cuts.{cut_at, take_one_more, taken, take_all}
+use Rattle.reo_verify.proofs.SoFar.{SoFar}
+
+-- What a line shows, and was done, is a round.
+pub round_replayed : {P : Type 0} (r : Rules P) (turn : ℕ) (a : State P) (w v : Wiring P) (p : Plan) (line : RoundLine) (players : List Player) (over : Option Ending) → w ≡ ready r (offer_for a.players) a.circuit
+    → line.round ≡ turn → IsPlanShown (net_of r.behaviour w) w.ports line p → players ≡ advanced (net_of r.behaviour w) p.colouring.rows a.players
+    → IsButForOffers r (record w { primitives = stepped r.behaviour r.settled w p.colouring.rows p.colouring.items }) v → over ≡ over_after turn p.idle a.players players
+    → IsReplayed r turn a line v players over
+round_replayed r turn a w v p line players over same number plan players_are but over_is =
+    let line_is : line ≡ line_for (net_of r.behaviour w) turn p.colouring.rows p.moves = plan.shown ∙ ap (λ n. line_for (net_of r.behaviour w) n p.colouring.rows p.moves) number in
+    record {
+      next = record { circuit = record w { primitives = stepped r.behaviour r.settled w p.colouring.rows p.colouring.items }; players = players };
+      round = record {
+        made = record {
+          rows = p.colouring.rows;
+          items = p.colouring.items;
+          suits = subst (λ (x : Wiring _). IsColouring (net_of r.behaviour x) p.colouring.rows p.colouring.items) same plan.suits.colouring;
+          shown = line_is ∙ ap (λ ms. line_for (net_of r.behaviour w) turn p.colouring.rows ms) plan.suits.shows.moves
+              ∙ ap (λ (x : Wiring _). line_for (net_of r.behaviour x) turn p.colouring.rows (moves_of (net_of r.behaviour x) x.ports p.colouring.rows p.colouring.items)) same;
+          circuit = ap (λ (x : Wiring _). record x { primitives = stepped r.behaviour r.settled x p.colouring.rows p.colouring.items }) same;
+        };
+        players = players_are ∙ ap (λ (x : Wiring _). advanced (net_of r.behaviour x) p.colouring.rows a.players) same;
+      };
+      over_is = over_is ∙ over_by (net_of r.behaviour w) turn w.ports p line a.players players plan.suits.shows line_is;
+      circuit = but;
+      players_are = refl;
+    }
+
+-- The line at a place has the number of its round.
+pub line_at : (ports : List Port) (number i : ℕ) (lines : List RoundLine) (line : RoundLine) → AreLines ports number lines → slice_get lines i ≡ Some line → IsLine ports (number + i) line
+line_at ports number i [] line are is = absurd (cc)
+line_at ports number zero (x ∷ xs) line are is =
+    let here : x ≡ line = cc in
+    let none : number ≡ number + zero = omega arith in
+    subst (λ n. IsLine ports n line) none (subst (IsLine ports number) here are.0)
+line_at ports number (suc i) (x ∷ xs) line are is =
+    let next : number + 1 + i ≡ number + suc i = omega arith in
+    subst (λ n. IsLine ports n line) next (line_at ports (number + 1) i xs line are.1 is)
+
+pub ended_by : (over : Option Ending) → is_some over ≡ true → over ≢ None
+ended_by None is = λ none. absurd (cc)
+ended_by (Some ending) is = λ none. absurd (cc)
+
+pub on_by : (over : Option Ending) → is_some over ≡ false → over ≡ None
+on_by None is = refl
+on_by (Some ending) is = absurd (cc)
+
+-- No line was replayed yet.
+pub so_far_none : {P : Type 0} (r : Rules P) (w : Wiring P) (players : List Player) (over : Option Ending) → IsButForOffers r w w
+    → SoFar r (record { state = record { circuit = w; players = players }; over = over }) [] w players over
+so_far_none r w players over left = record { circuit = w; rounds = refl; left = left }
+
+-- All lines were replayed.
+pub all_replayed : {P : Type 0} (r : Rules P) (start : Place P) (lines : List RoundLine) (i : ℕ) (w : Wiring P) (players : List Player) (over : Option Ending)
+    → length lines ≤ i → SoFar r start (take i lines) w players over → AreReplayed r start lines over
+all_replayed r start lines i w players over le so_far =
+    let last : Place _ = record { state = record { circuit = so_far.circuit; players = players }; over = over } in
+    record {
+      last = last;
+      rounds = subst (λ (ls : List RoundLine). Leads colourings r 1 start ls last) (take_all lines i le) so_far.rounds;
+      over_is = refl;
+    }
+
+module _ {P : Type 0} (r : Rules P) (nodes : List (List ℕ)) (homes : List ℕ) where
+  -- What is wrong first with a line, and its refusal.
+  wrong_by : (a : State P) (turn : ℕ) (line : RoundLine) (stop : Stop) (refusal : Refusal) → line.round ≡ turn → IsNoRound r a line stop → IsRefusalBy nodes homes turn stop refusal
+      → IsWrongRound nodes homes (net_ready r a) a.circuit.ports turn line refusal
+  wrong_by a turn line (stops.Wrong wrong) refusal number why is = subst (IsWrongRound nodes homes (net_ready r a) a.circuit.ports turn line) (sym is) (refl, refl, why)
+  wrong_by a turn line stops.Moves refusal number why is =
+      subst (IsWrongRound nodes homes (net_ready r a) a.circuit.ports turn line) (sym is) (
+        refl,
+        (why.0, why.1, why.2, why.3, subst (λ n. line ≢ line_for (net_ready r a) n why.0 (moves_of (net_ready r a) a.circuit.ports why.0 why.1)) number why.4),
+      )
+  wrong_by a turn line stops.NoMemory refusal number why is = absurd is
+
+  module _ (start : Place P) (lines : List RoundLine) (i : ℕ) (line : RoundLine) (got : slice_get lines i ≡ Some line) (w : Wiring P) (players : List Player) (over : Option Ending) (so_far : SoFar r start (take i lines) w players over) where
+    abbrev pub now_at : State P
+    now_at = record { circuit = so_far.circuit; players = players }
+
+    abbrev pub place_now : Place P
+    place_now = record { state = now_at; over = over }
+
+    -- The lines with one more.
+    pub so_far_more : (turn : ℕ) (v : Wiring P) (others : List Player) (now : Option Ending) → turn ≡ i + 1 → over ≡ None → IsReplayed r turn now_at line v others now → SoFar r start (take (suc i) lines) v others now
+    so_far_more turn v others now turn_is on more = record {
+      circuit = more.next.circuit;
+      rounds =
+          let here : place_after turn line now_at more.next ≡ record { state = record { circuit = more.next.circuit; players = others }; over = now }
+          = λ k. record { state = record { circuit = more.next.circuit; players = sym more.players_are k }; over = sym more.over_is k } in
+          let leads : Leads colourings r 1 start (take i lines ++ line ∷ []) (place_after turn line now_at more.next) =
+          leads_on colourings r 1 turn start (take i lines) place_now (omega (arith, turn_is, taken lines i line got)) so_far.rounds
+          (line ∷ []) (place_after turn line now_at more.next) (on, more.next, more.round, refl) in
+          let whole = subst (Leads colourings r 1 start (take i lines ++ line ∷ [])) here leads in
+          subst (λ (ls : List RoundLine). Leads colourings r 1 start ls (record { state = record { circuit = more.next.circuit; players = others }; over = now })) (sym (take_one_more lines i line got)) whole;
+      left = more.circuit;
+    }
+
+    -- The run is over before a line.
+    pub ended_before : (turn : ℕ) → turn ≡ i + 1 → over ≢ None → IsCutOff r nodes homes start lines (refusals.Ended turn)
+    ended_before turn turn_is ended = record {
+      right = take i lines;
+      line = line;
+      left = drop (suc i) lines;
+      last = place_now;
+      cut = cut_at lines i line got;
+      rounds = so_far.rounds;
+      wrong = λ ending. inl (ended, ap refusals.Ended (let at : turn ≡ length (take i lines) + 1 = omega (arith, turn_is, taken lines i line got) in at));
+    }
+
+    -- A line shows no round.
+    pub stopped_at : (turn : ℕ) (stop : Stop) (refusal : Refusal) → turn ≡ i + 1 → over ≡ None → line.round ≡ turn → IsNoRound r now_at line stop → IsRefusalBy nodes homes turn stop refusal
+        → IsCutOff r nodes homes start lines refusal
+    stopped_at turn stop refusal turn_is on number why is = record {
+      right = take i lines;
+      line = line;
+      left = drop (suc i) lines;
+      last = place_now;
+      cut = cut_at lines i line got;
+      rounds = so_far.rounds;
+      wrong = λ ending. inr (
+        on,
+        let at : turn ≡ length (take i lines) + 1 = omega (arith, turn_is, taken lines i line got) in
+            subst (λ n. IsWrongRound nodes homes (net_ready r now_at) so_far.circuit.ports n line refusal) at (wrong_by now_at turn line stop refusal number why is),
+      );
+    }
