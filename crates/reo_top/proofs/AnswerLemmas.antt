@@ -15,7 +15,7 @@ use Rattle.reo_top.specs.Statuses.{IsAmong}
 use Rattle.reo_top.specs.Stopped.{IsRefusedAs}
 use Rattle.reo_top.specs.Stops.{stop_text, stop_status}
 use Rattle.reo_top.proofs.CaseLemmas.{lifted, no_memory_cases, no_memory_exact}
-use Rattle.reo_top.proofs.ReadLemmas.{IsOneReading}
+use Rattle.reo_top.proofs.ReadLemmas.{IsReadingAt}
 use Rattle.reo_top.proofs.StopLemmas.{is_missed, stop_cases, stop_exact, stop_only, stop_told}
 
 -- A stop is a fact of the answers, or memory ran out.
@@ -29,8 +29,8 @@ read_stop Reads Stops answers NoMemory h = inr (refl, h)
 true_is_false : (b : Bool) → b ≡ true → b ≡ false → ⊥
 true_is_false b is_true is_false = cc
 
-module _ {X : Type 0} (Reads : List Content → X → Type 0) (Stops : List Content → Stop → Type 0) (Makes : X → Outputs) (statuses : List ℕ) (law : IsOneReading Reads Stops statuses)
-    (sink : Change SinkState) (code : ℕ) (answers : List Content) where
+module _ {X : Type 0} (Reads : List Content → X → Type 0) (Stops : List Content → Stop → Type 0) (Makes : X → Outputs) (statuses : List ℕ)
+    (sink : Change SinkState) (code : ℕ) (answers : List Content) (law : IsReadingAt Reads Stops statuses answers) where
   Owed : Outputs
   Owed = owed_by Reads Stops Makes answers
 
@@ -43,8 +43,8 @@ module _ {X : Type 0} (Reads : List Content → X → Type 0) (Stops : List Cont
     ]
 
     only : Stops answers s → (bytes : List ℕ) (status : ℕ) → owed_by Reads Stops Makes answers bytes status → IsLine (stop_text s) (stop_status s) bytes status
-    only stops bytes status (inl (t, other, line)) = subst (λ (u : Stop). IsLine (stop_text u) (stop_status u) bytes status) (law.one_stop answers t s other stops) line
-    only stops bytes status (inr (x, reads, makes)) = absurd (law.apart answers x s reads stops)
+    only stops bytes status (inl (t, other, line)) = subst (λ (u : Stop). IsLine (stop_text u) (stop_status u) bytes status) (law.one_stop t s other stops) line
+    only stops bytes status (inr (x, reads, makes)) = absurd (law.apart x s reads stops)
 
     refused_exact : IsExact (owed_by Reads Stops Makes answers) sink code
     refused_exact = elim (read_stop Reads Stops answers s read) [
@@ -54,7 +54,7 @@ module _ {X : Type 0} (Reads : List Content → X → Type 0) (Stops : List Cont
 
     gone_is : has_gone answers ≡ is_missed s
     gone_is = elim (read_stop Reads Stops answers s read) [
-      | inl stops ↦ law.missed answers s stops
+      | inl stops ↦ law.missed s stops
       | inr none ↦ none.1 ∙ ap is_missed (sym none.0)
     ]
 
@@ -77,7 +77,7 @@ module _ {X : Type 0} (Reads : List Content → X → Type 0) (Stops : List Cont
     pub refused_status_in : IsAmong statuses 9 → IsAmong statuses 10 → IsAmong statuses code
     refused_status_in nine ten = elim (code_status s h) [
       | inl is ↦ elim (read_stop Reads Stops answers s read) [
-        | inl stops ↦ subst (λ (k : ℕ). IsAmong statuses k) (sym is) (law.status answers s stops)
+        | inl stops ↦ subst (λ (k : ℕ). IsAmong statuses k) (sym is) (law.status s stops)
         | inr none ↦ subst (λ (k : ℕ). IsAmong statuses k) (sym (is ∙ ap stop_status none.0)) ten
       ]
       | inr (inl is) ↦ subst (λ (k : ℕ). IsAmong statuses k) (sym is) nine
@@ -107,11 +107,11 @@ module _ {X : Type 0} (Reads : List Content → X → Type 0) (Stops : List Cont
       fetched = fetched;
       cases = lifted sink code (Makes x) (owed_by Reads Stops Makes answers) (λ bytes status h. inr (x, reads, h)) cases;
       exact = λ bytes status owed. elim owed [
-        | inl stopped ↦ absurd (law.apart answers x stopped.0 reads stopped.1)
-        | inr made ↦ exact bytes status (subst (λ (y : X). Makes y bytes status) (law.one answers made.0 x made.1 reads) made.2)
+        | inl stopped ↦ absurd (law.apart x stopped.0 reads stopped.1)
+        | inr made ↦ exact bytes status (subst (λ (y : X). Makes y bytes status) (law.one made.0 x made.1 reads) made.2)
       ];
       blames = record {
         only = λ three. absurd (code_in (λ k. k ≢ 3) not_three (λ e. omega (arith, e)) (λ e. omega (arith, e)) three);
-        told = λ gone. absurd (true_is_false (has_gone answers) gone (law.here answers x reads));
+        told = λ gone. absurd (true_is_false (has_gone answers) gone (law.here x reads));
       };
     }

@@ -88,7 +88,7 @@ stop_circuit Reads answers (Refused role r) h = h
 stop_circuit Reads answers NoMemory h = h
 
 pub check_stop_read : {X : Type 0} {Reads : List Content → X → Type 0} {names : List (List ℕ)} {files : Change FilesState} (s : Stop) → IsReadFrom Reads StopsCheck (Circuit ∷ []) names files (Err s) → IsReadFrom ReadsCircuit StopsCheck (Circuit ∷ []) names files (Err s)
-check_stop_read {Reads = Reads} s read = record { answers = read.answers; fetched = read.fetched; read = stop_circuit Reads read.answers s read.read }
+check_stop_read {Reads = Reads} s read = record { answers = read.answers; fetched = read.fetched; short = read.short; read = stop_circuit Reads read.answers s read.read }
 
 module _ {X : Type 0} (Reads : List Content → X → Type 0) (names : List (List ℕ)) (files : Change FilesState) where
   stopped_check : (answers : List Content) (s : Stop) → StopsPrint answers s → StopsCheck answers s
@@ -107,7 +107,7 @@ module _ {X : Type 0} (Reads : List Content → X → Type 0) (names : List (Lis
 
   -- What stops the reading of a program stops that of its circuit.
   pub check_stopped : (s : Stop) → IsReadFrom ReadsProgram StopsPrint (Circuit ∷ []) names files (Err s) → IsReadFrom Reads StopsCheck (Circuit ∷ []) names files (Err s)
-  check_stopped s read = record { answers = read.answers; fetched = read.fetched; read = stop_check read.answers s read.read }
+  check_stopped s read = record { answers = read.answers; fetched = read.fetched; short = read.short; read = stop_check read.answers s read.read }
 
   accepted : (answers : List Content) (p : Program) (x : FlatCircuit) → ReadsProgram answers p → IsAccepted p → x ≡ flat_of p → ReadsCircuit answers x
   accepted (text bytes ∷ []) p x says is named = record { program = p; says = says; accepted = is; is = named }
@@ -120,7 +120,7 @@ module _ {X : Type 0} (Reads : List Content → X → Type 0) (names : List (Lis
   -- A program that breaks no rule.
   pub circuit_accepted : (p : Program) (x : FlatCircuit) (y : X) → IsReadFrom ReadsProgram StopsPrint (Circuit ∷ []) names files (Ok p) → IsAccepted p → x ≡ flat_of p
       → ((answers : List Content) → ReadsCircuit answers x → Reads answers y) → IsReadFrom Reads StopsCheck (Circuit ∷ []) names files (Ok y)
-  circuit_accepted p x y read is named gives = record { answers = read.answers; fetched = read.fetched; read = gives read.answers (accepted read.answers p x read.read is named) }
+  circuit_accepted p x y read is named gives = record { answers = read.answers; fetched = read.fetched; short = read.short; read = gives read.answers (accepted read.answers p x read.read is named) }
 
   broken : (answers : List Content) (p : Program) (fault : FlatFault) (r : Refusal) → ReadsProgram answers p → IsRefused p fault → flat_refusal fault ≡ Some r → StopsCheck answers (Refused Circuit r)
   broken (text bytes ∷ []) p fault r says is told = inr (r, (p, fault, says, is, told), refl)
@@ -146,6 +146,7 @@ module _ {X : Type 0} (Reads : List Content → X → Type 0) (names : List (Lis
   circuit_broken p fault (Refused role r) read is stop = record {
     answers = read.answers;
     fetched = read.fetched;
+    short = read.short;
     read = subst (λ (x : Role). StopsCheck read.answers (Refused x r)) (sym stop.0) (broken read.answers p fault r read.read is stop.1);
   }
-  circuit_broken p fault NoMemory read is stop = record { answers = read.answers; fetched = read.fetched; read = present read.answers p read.read }
+  circuit_broken p fault NoMemory read is stop = record { answers = read.answers; fetched = read.fetched; short = read.short; read = present read.answers p read.read }

@@ -8,7 +8,7 @@ use Rattle.reo_trace.specs.declared.line.Ending.TheVariants.{Done, Stuck, Limit,
 use Rattle.reo_top.specs.declared.command.Command.TheVariants.{Run}
 use Rattle.reo_top.specs.Answers.{IsAnswered, Answered}
 use Rattle.reo_top.specs.Cases.{IsFailure, IsFair}
-use Rattle.reo_top.specs.Commands.{is_free, roles_of}
+use Rattle.reo_top.specs.Commands.{command_of, is_free, roles_of}
 use Rattle.reo_top.specs.Complete.{NothingFailed, IsWhole, Complete, ending_statuses}
 use Rattle.reo_top.specs.Fetched.{Content, gone, long, text, unknown, has_gone, missed, AreFetched}
 use Rattle.reo_top.specs.Headline.{Accepted, IsTraced, Headline}
@@ -81,3 +81,12 @@ module _ (words : List (List ℕ)) (files : Change FilesState) (sink : Change Si
     -- From what the call has come to.
     pub complete : Complete words files sink code
     complete = told_as files.old.told refl
+
+-- Of other words it says nothing.
+always : {X : Type 0} (o : Option X) (B : X → Type 0) → ((x : X) → B x) → IfSome o B
+always None B f = tt
+always (Some x) B f = f x
+
+pub complete_else : (words : List (List ℕ)) (files : Change FilesState) (sink : Change SinkState) (code : ℕ) → (command_of words ≡ Some Run → ⊥) → Complete words files sink code
+complete_else words files sink code other =
+    always files.old.told (λ folder. (r : Runnable) → Accepted words folder r → NothingFailed files sink → (code ≡ 10) ⊎ IsWhole words r sink code) (λ folder r a nothing. absurd (other a.run))

@@ -1,5 +1,5 @@
 -- Files that are fetched one after another, and what is read in them.
-use Rattle.std.proofs.Common.{◌≡◌, ◌∙◌, ℕ, ◌≤◌, List, [], ◌∷◌, ◌++◌, length, sym, subst, ap, refl, arith}
+use Rattle.std.proofs.Common.{◌≡◌, ◌∙◌, ℕ, zero, suc, ◌≤◌, List, [], ◌∷◌, ◌++◌, length, sym, subst, ap, refl, arith}
 use Rattle.std.specs.Prelude.{Option, Some, None, IfSome, Ok, Err}
 use Rattle.reo_io.specs.Fetches.{Folder, fetches_after}
 use Rattle.reo_net_base.specs.declared.port.Port.{Port}
@@ -16,7 +16,7 @@ use Rattle.reo_top.specs.declared.role.Role.TheVariants.{Circuit, Script}
 use Rattle.reo_top.specs.declared.stop.Stop.{Stop}
 use Rattle.reo_top.specs.declared.stop.Stop.TheVariants.{Missed, TooLong, Refused, NoMemory}
 use Rattle.reo_top.specs.Fetched.{Content, gone, long, text, unknown, missed, AreTold, AreFetched}
-use Rattle.reo_top.specs.Readings.{FlatCircuit, IsCircuitText, ReadsProgram, StopsPrint, ReadsCircuit, StopsCheck, ReadsRun, StopsRun, IsReadAs, IsReadFrom}
+use Rattle.reo_top.specs.Readings.{FlatCircuit, IsCircuitText, ReadsProgram, StopsPrint, ReadsCircuit, StopsCheck, ReadsRun, StopsRun, AreShort, IsReadAs, IsReadFrom}
 use Rattle.reo_top.specs.ReadSteps.{IsRefusalOf, ReadsScript, StopsScript}
 use Rattle.reo_top.specs.Refusals.{parse_refusal, script_refusal}
 use Rattle.reo_top.specs.States.{FilesState, Change}
@@ -43,62 +43,76 @@ script_answers_of bytes ports scripts.NoMemory r is h = absurd (none_is_some r i
 
 module _ (names : List (List ℕ)) (files : Change FilesState) where
   -- A circuit text that says no program.
-  pub program_stopped : (bytes : List ℕ) (fault : ParseFault) (stop : Stop) → AreFetched (Circuit ∷ []) names (text bytes ∷ []) files → IsParsed bytes (Err fault) → IsRefusalOf Circuit (parse_refusal fault) stop
+  pub program_stopped : (bytes : List ℕ) (fault : ParseFault) (stop : Stop) → AreFetched (Circuit ∷ []) names (text bytes ∷ []) files → AreShort (text bytes ∷ []) → IsParsed bytes (Err fault) → IsRefusalOf Circuit (parse_refusal fault) stop
       → IsReadFrom ReadsProgram StopsPrint (Circuit ∷ []) names files (Err stop)
-  program_stopped bytes fault (Missed role) fetched parsed is = absurd is
-  program_stopped bytes fault (TooLong role) fetched parsed is = absurd is
-  program_stopped bytes fault (Refused role r) fetched parsed is = record {
+  program_stopped bytes fault (Missed role) fetched short parsed is = absurd is
+  program_stopped bytes fault (TooLong role) fetched short parsed is = absurd is
+  program_stopped bytes fault (Refused role r) fetched short parsed is = record {
     answers = text bytes ∷ [];
     fetched = fetched;
+    short = short;
     read = (r, (fault, answers_of bytes fault r is.1 parsed, is.1), ap (λ (x : Role). Refused x r) is.0);
   }
-  program_stopped bytes fault NoMemory fetched parsed is = record { answers = text bytes ∷ []; fetched = fetched; read = refl }
+  program_stopped bytes fault NoMemory fetched short parsed is = record { answers = text bytes ∷ []; fetched = fetched; short = short; read = refl }
 
   -- A script text that is not accepted.
-  pub script_stopped : (ports : List Port) (bytes : List ℕ) (fault : ScriptFault) (stop : Stop) → AreFetched (Script ∷ []) names (text bytes ∷ []) files → IsRead bytes ports (Err fault) → IsRefusalOf Script (script_refusal fault) stop
+  pub script_stopped : (ports : List Port) (bytes : List ℕ) (fault : ScriptFault) (stop : Stop) → AreFetched (Script ∷ []) names (text bytes ∷ []) files → AreShort (text bytes ∷ []) → IsRead bytes ports (Err fault) → IsRefusalOf Script (script_refusal fault) stop
       → IsReadFrom (ReadsScript ports) (StopsScript ports) (Script ∷ []) names files (Err stop)
-  script_stopped ports bytes fault (Missed role) fetched read is = absurd is
-  script_stopped ports bytes fault (TooLong role) fetched read is = absurd is
-  script_stopped ports bytes fault (Refused role r) fetched read is = record {
+  script_stopped ports bytes fault (Missed role) fetched short read is = absurd is
+  script_stopped ports bytes fault (TooLong role) fetched short read is = absurd is
+  script_stopped ports bytes fault (Refused role r) fetched short read is = record {
     answers = text bytes ∷ [];
     fetched = fetched;
+    short = short;
     read = (r, (fault, script_answers_of bytes ports fault r is.1 read, is.1), ap (λ (x : Role). Refused x r) is.0);
   }
-  script_stopped ports bytes fault NoMemory fetched read is = record { answers = text bytes ∷ []; fetched = fetched; read = refl }
+  script_stopped ports bytes fault NoMemory fetched short read is = record { answers = text bytes ∷ []; fetched = fetched; short = short; read = refl }
 
--- One file of two was fetched.
-told_one : (folder : Folder) (r q : Role) (n m : List ℕ) (answers : List Content) → length answers ≤ 1 → AreTold folder (r ∷ []) (n ∷ []) answers → AreTold folder (r ∷ q ∷ []) (n ∷ m ∷ []) answers
-told_one folder r q n m [] few h = h
-told_one folder r q n m (c ∷ []) few h = h
-told_one folder r q n m (c ∷ d ∷ cs) few h = absurd (omega (arith, few))
+-- Some files were fetched, and one more stands behind them.
+told_more : (folder : Folder) (roles : List Role) (names : List (List ℕ)) (q : Role) (m : List ℕ) (answers : List Content) → AreTold folder roles names answers → AreTold folder (roles ++ q ∷ []) (names ++ m ∷ []) answers
+told_more folder [] [] q m [] h = tt
+told_more folder [] (n ∷ ns) q m [] h = tt
+told_more folder (r ∷ rs) [] q m [] h = tt
+told_more folder (r ∷ rs) (n ∷ ns) q m [] h = tt
+told_more folder [] [] q m (c ∷ cs) h = absurd h
+told_more folder [] (n ∷ ns) q m (c ∷ cs) h = absurd h
+told_more folder (r ∷ rs) [] q m (c ∷ cs) h = absurd h
+told_more folder (r ∷ rs) (n ∷ ns) q m (c ∷ cs) h = (h.0, told_more folder rs ns q m cs h.1)
 
-missed_one : (n m : List ℕ) (answers : List Content) → length answers ≤ 1 → missed (n ∷ m ∷ []) answers ≡ missed (n ∷ []) answers
-missed_one n m [] few = refl
-missed_one n m (gone ∷ []) few = refl
-missed_one n m (long ∷ []) few = refl
-missed_one n m (text bytes ∷ []) few = refl
-missed_one n m (unknown ∷ []) few = refl
-missed_one n m (c ∷ d ∷ cs) few = absurd (omega (arith, few))
+missed_more : (names : List (List ℕ)) (m : List ℕ) (answers : List Content) → length answers ≤ length names → missed (names ++ m ∷ []) answers ≡ missed names answers
+missed_more [] m [] few = refl
+missed_more (n ∷ ns) m [] few = refl
+missed_more [] m (c ∷ cs) few = absurd (omega (arith, few))
+missed_more (n ∷ ns) m (gone ∷ cs) few = ap (λ (ms : List (List ℕ)). n ∷ ms) (missed_more ns m cs (omega (arith, few)))
+missed_more (n ∷ ns) m (long ∷ cs) few = missed_more ns m cs (omega (arith, few))
+missed_more (n ∷ ns) m (text bytes ∷ cs) few = missed_more ns m cs (omega (arith, few))
+missed_more (n ∷ ns) m (unknown ∷ cs) few = missed_more ns m cs (omega (arith, few))
+
+few_more : (names : List (List ℕ)) (m : List ℕ) (count : ℕ) → count ≤ length names → count ≤ length (names ++ m ∷ [])
+few_more [] m count few = omega (arith, few)
+few_more (n ∷ ns) m zero few = omega arith
+few_more (n ∷ ns) m (suc count) few = let rest = few_more ns m count (omega (arith, few)) in omega (arith, rest)
 
 if_told : {X : Type 0} (o : Option X) (A B : X → Type 0) → ((x : X) → A x → B x) → IfSome o A → IfSome o B
 if_told None A B f h = h
 if_told (Some x) A B f h = f x h
 
-pub one_of_two : (r q : Role) (n m : List ℕ) (answers : List Content) (files : Change FilesState) → AreFetched (r ∷ []) (n ∷ []) answers files → AreFetched (r ∷ q ∷ []) (n ∷ m ∷ []) answers files
-one_of_two r q n m answers files f = record {
-  few = omega (arith, f.few);
+pub more_fetched : (roles : List Role) (names : List (List ℕ)) (q : Role) (m : List ℕ) (answers : List Content) (files : Change FilesState) → AreFetched roles names answers files
+    → AreFetched (roles ++ q ∷ []) (names ++ m ∷ []) answers files
+more_fetched roles names q m answers files f = record {
+  few = few_more names m (length answers) f.few;
   count = f.count;
-  failed = f.failed ∙ ap (λ (xs : List (List ℕ)). files.old.failed ++ xs) (sym (missed_one n m answers f.few));
+  failed = f.failed ∙ ap (λ (xs : List (List ℕ)). files.old.failed ++ xs) (sym (missed_more names m answers f.few));
   same = f.same;
-  told = if_told files.old.told (λ folder. AreTold folder (r ∷ []) (n ∷ []) answers) (λ folder. AreTold folder (r ∷ q ∷ []) (n ∷ m ∷ []) answers) (λ folder h. told_one folder r q n m answers f.few h) f.told;
+  told = if_told files.old.told (λ folder. AreTold folder roles names answers) (λ folder. AreTold folder (roles ++ q ∷ []) (names ++ m ∷ []) answers) (λ folder h. told_more folder roles names q m answers h) f.told;
 }
 
 -- Two files were fetched, the first of which gave bytes.
-if_both : {X : Type 0} (o : Option X) (A B C : X → Type 0) → ((x : X) → A x → B x → C x) → IfSome o A → IfSome o B → IfSome o C
+pub if_both : {X : Type 0} (o : Option X) (A B C : X → Type 0) → ((x : X) → A x → B x → C x) → IfSome o A → IfSome o B → IfSome o C
 if_both None A B C f a b = a
 if_both (Some x) A B C f a b = f x a b
 
-no_more : {A : Type 0} (xs : List A) → xs ++ [] ≡ xs
+pub no_more : {A : Type 0} (xs : List A) → xs ++ [] ≡ xs
 no_more [] = refl
 no_more (x ∷ xs) = ap (λ ys. x ∷ ys) (no_more xs)
 
@@ -141,7 +155,7 @@ module _ {X Y : Type 0} (ReadsFirst : List Content → Y → Type 0) (Reads : Li
 
   -- The circuit stops a run.
   pub run_stopped_first : (s : Stop) (files : Change FilesState) → IsReadFrom ReadsFirst StopsCheck (Circuit ∷ []) (n ∷ []) files (Err s) → IsReadFrom Reads StopsRun (Circuit ∷ Script ∷ []) (n ∷ m ∷ []) files (Err s)
-  run_stopped_first s files read = record { answers = read.answers; fetched = one_of_two Circuit Script n m read.answers files read.fetched; read = first_stop read.answers s read.read }
+  run_stopped_first s files read = record { answers = read.answers; fetched = more_fetched (Circuit ∷ []) (n ∷ []) Script m read.answers files read.fetched; short = read.short; read = first_stop read.answers s read.read }
 
 module _ {X : Type 0} (Reads : List Content → X → Type 0) (n m : List ℕ) where
   module _ (flat : FlatCircuit) (bytes : List ℕ) (is : IsCircuitText bytes flat) where
@@ -164,9 +178,12 @@ module _ {X : Type 0} (Reads : List Content → X → Type 0) (n m : List ℕ) w
     second_reads (unknown ∷ cs) s h = absurd h
     second_reads (text script ∷ c ∷ cs) s h = absurd h
 
-  module _ (flat : FlatCircuit) (before mid after : FilesState) (answers : List Content) (fetched : AreFetched (Circuit ∷ []) (n ∷ []) answers (record { old = before; new = mid })) (reads : ReadsCircuit answers flat) where
+  module _ (flat : FlatCircuit) (before mid after : FilesState) (answers : List Content) (fetched : AreFetched (Circuit ∷ []) (n ∷ []) answers (record { old = before; new = mid })) (short : AreShort answers) (reads : ReadsCircuit answers flat) where
     fetched_first : (has : HasBytes flat answers) → AreFetched (Circuit ∷ []) (n ∷ []) (text has.bytes ∷ []) (record { old = before; new = mid })
     fetched_first has = subst (λ (cs : List Content). AreFetched (Circuit ∷ []) (n ∷ []) cs (record { old = before; new = mid })) has.is fetched
+
+    short_first : (has : HasBytes flat answers) → AreShort (text has.bytes ∷ [])
+    short_first has = subst AreShort has.is short
 
     -- The script stops it.
     pub run_stopped_second : (s : Stop) → IsReadFrom (ReadsScript flat.ports) (StopsScript flat.ports) (Script ∷ []) (m ∷ []) (record { old = mid; new = after }) (Err s)
@@ -174,6 +191,7 @@ module _ {X : Type 0} (Reads : List Content → X → Type 0) (n m : List ℕ) w
     run_stopped_second s second = let has = has_bytes flat answers reads in record {
       answers = text has.bytes ∷ second.answers;
       fetched = two_fetched Circuit Script n m has.bytes second.answers before mid after (fetched_first has) second.fetched;
+      short = ((short_first has).0, second.short);
       read = second_stop flat has.bytes has.reads second.answers s second.read;
     }
 
@@ -184,5 +202,6 @@ module _ {X : Type 0} (Reads : List Content → X → Type 0) (n m : List ℕ) w
     run_read script x second gives = let has = has_bytes flat answers reads in record {
       answers = text has.bytes ∷ second.answers;
       fetched = two_fetched Circuit Script n m has.bytes second.answers before mid after (fetched_first has) second.fetched;
+      short = ((short_first has).0, second.short);
       read = gives (text has.bytes ∷ second.answers) (second_reads flat has.bytes has.reads second.answers script second.read);
     }

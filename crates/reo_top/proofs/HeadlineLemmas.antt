@@ -22,7 +22,7 @@ use Rattle.reo_top.specs.declared.stop.Stop.{Stop}
 use Rattle.reo_top.specs.declared.stop.Stop.TheVariants.{Missed}
 use Rattle.reo_top.specs.Answers.{IsAnswered, Answered}
 use Rattle.reo_top.specs.Cases.{Cases, IsFailure}
-use Rattle.reo_top.specs.Commands.{is_free, roles_of}
+use Rattle.reo_top.specs.Commands.{command_of, is_free, roles_of}
 use Rattle.reo_top.specs.Fetched.{Content, gone, long, text, unknown, content_of, AreTold}
 use Rattle.reo_top.specs.Headline.{Accepted, IsTraced, Headline}
 use Rattle.reo_top.specs.Limits.{limits_of}
@@ -175,3 +175,12 @@ module _ (justified : RunsAreJustified kind_rules) (made : CircuitsAreMade) (pla
 
   pub headline : Headline words files sink code
   headline = told_as files.old.told refl
+
+-- Of other words it says nothing.
+always : {X : Type 0} (o : Option X) (B : X → Type 0) → ((x : X) → B x) → IfSome o B
+always None B f = tt
+always (Some x) B f = f x
+
+pub headline_else : (words : List (List ℕ)) (files : Change FilesState) (sink : Change SinkState) (code : ℕ) → (command_of words ≡ Some Run → ⊥) → Headline words files sink code
+headline_else words files sink code other =
+    always files.old.told (λ folder. (r : Runnable) → Accepted words folder r → (IsFailure code → ⊥) → IsTraced (limits_of words) r sink code) (λ folder r a fine. absurd (other a.run))

@@ -2,6 +2,7 @@ pub mod AnswerLemmas
 pub mod CaseLemmas
 pub mod CheckLemmas
 pub mod CircuitLemmas
+pub mod ClaimLemmas
 pub mod CompleteLemmas
 pub mod FetchLemmas
 pub mod FlatLemmas
@@ -14,6 +15,9 @@ pub mod ReadLemmas
 pub mod RunLemmas
 pub mod ScriptLemmas
 pub mod StopLemmas
+pub mod ThirdLemmas
 pub mod TopLemmas
+pub mod TraceLemmas
+pub mod VerdictLemmas
 pub mod WordLemmas
 pub mod WorkLemmas

@@ -22,6 +22,18 @@ pub record IsOneReading {X : Type 0} (Reads : List Content → X → Type 0) (St
   pub missed : (answers : List Content) (s : Stop) → Stops answers s → has_gone answers ≡ is_missed s
   pub status : (answers : List Content) (s : Stop) → Stops answers s → IsAmong statuses (stop_status s)
 
+-- The same, by these answers.
+pub record IsReadingAt {X : Type 0} (Reads : List Content → X → Type 0) (Stops : List Content → Stop → Type 0) (statuses : List ℕ) (answers : List Content) : Type 0 where
+  pub one : (x y : X) → Reads answers x → Reads answers y → x ≡ y
+  pub apart : (x : X) (s : Stop) → Reads answers x → Stops answers s → ⊥
+  pub one_stop : (s t : Stop) → Stops answers s → Stops answers t → s ≡ t
+  pub here : (x : X) → Reads answers x → has_gone answers ≡ false
+  pub missed : (s : Stop) → Stops answers s → has_gone answers ≡ is_missed s
+  pub status : (s : Stop) → Stops answers s → IsAmong statuses (stop_status s)
+
+pub reading_at : {X : Type 0} {Reads : List Content → X → Type 0} {Stops : List Content → Stop → Type 0} {statuses : List ℕ} → IsOneReading Reads Stops statuses → (answers : List Content) → IsReadingAt Reads Stops statuses answers
+reading_at law answers = record { one = law.one answers; apart = law.apart answers; one_stop = law.one_stop answers; here = law.here answers; missed = law.missed answers; status = law.status answers }
+
 pub same_stop : (s t u : Stop) → s ≡ u → t ≡ u → s ≡ t
 same_stop s t u a b = a ∙ sym b
 

@@ -2,7 +2,7 @@
 use Rattle.std.proofs.Common.{◌≡◌, ◌∙◌, ◌⊎◌, inl, inr, refl, ℕ, Bool, true, false, List, sym, arith}
 use Rattle.std.specs.Prelude.{◌≢◌}
 use Rattle.reo_top.specs.declared.role.Role.{Role}
-use Rattle.reo_top.specs.declared.role.Role.TheVariants.{Circuit, Script}
+use Rattle.reo_top.specs.declared.role.Role.TheVariants.{Circuit, Script, Trace}
 use Rattle.reo_top.specs.declared.stop.Stop.{Stop}
 use Rattle.reo_top.specs.declared.stop.Stop.TheVariants.{Missed, TooLong, Refused, NoMemory}
 use Rattle.reo_top.specs.Cases.{Cases, IsExact, Refuses}
@@ -48,6 +48,7 @@ other status code not (inr e) three = omega (arith, e, three)
 not_three : (role : Role) → refused_status role ≢ 3
 not_three Circuit e = omega (arith, e)
 not_three Script e = omega (arith, e)
+not_three Trace e = omega (arith, e)
 
 true_is_false : false ≡ true → ⊥
 true_is_false e = cc

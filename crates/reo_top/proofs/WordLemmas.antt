@@ -3,7 +3,7 @@ use Rattle.std.proofs.Common.{◌≡◌, ◌∙◌, ℕ, Bool, true, false, cond
 use Rattle.std.proofs.lemmas.Bool.Decides.{nat_tests}
 use Rattle.std.specs.Prelude.{Option, Some, None, find, ◌&&◌, ◌==◌}
 use Rattle.reo_top.specs.declared.command.Command.{Command}
-use Rattle.reo_top.specs.declared.command.Command.TheVariants.{Run, Check, Print}
+use Rattle.reo_top.specs.declared.command.Command.TheVariants.{Run, Check, Print, Verify}
 use Rattle.reo_top.specs.declared.setting.Setting.{Setting}
 use Rattle.reo_top.specs.Commands.{command_of, command_word, commands, names_of, is_form, fits, roles_of, settings_of}
 
@@ -24,6 +24,13 @@ two_names [] e = absurd (omega (arith, e))
 two_names (w ∷ []) e = absurd (omega (arith, e))
 two_names (w ∷ a ∷ []) e = absurd (omega (arith, e))
 two_names (w ∷ a ∷ b ∷ ws) e = refl
+
+pub three_names : (words : List (List ℕ)) → length (names_of Verify words) ≡ 3 → names_of Verify words ≡ get_or words 1 [] ∷ get_or words 2 [] ∷ get_or words 3 [] ∷ []
+three_names [] e = absurd (omega (arith, e))
+three_names (w ∷ []) e = absurd (omega (arith, e))
+three_names (w ∷ a ∷ []) e = absurd (omega (arith, e))
+three_names (w ∷ a ∷ b ∷ []) e = absurd (omega (arith, e))
+three_names (w ∷ a ∷ b ∷ c ∷ ws) e = refl
 
 take_one : (words : List (List ℕ)) → length (take 1 (drop 1 words)) ≡ 1 → take 1 (drop 1 words) ≡ get_or words 1 [] ∷ []
 take_one [] e = absurd (omega (arith, e))
@@ -59,6 +66,13 @@ fit_is words command is = found (fits words) commands command is
 -- A command has a name for each of its files.
 pub names_fit : (words : List (List ℕ)) (command : Command) → command_of words ≡ Some command → length (names_of command words) ≡ length (roles_of command)
 names_fit words command is = form_length (command_word command) (length (roles_of command)) (settings_of command) words (fit_is words command is)
+
+-- Words are those of one command at most.
+pub no_run : (o : Option Command) → o ≡ None → o ≡ Some Run → ⊥
+no_run o none some = cc
+
+pub verify_is_no_run : (o : Option Command) → o ≡ Some Verify → o ≡ Some Run → ⊥
+verify_is_no_run o verify run = cc
 
 -- What the code sees of the words.
 module _ (words seen : List (List ℕ)) (same : seen ≡ words) where

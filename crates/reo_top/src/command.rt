@@ -1,5 +1,5 @@
 //! The commands, and their words.
-ghost use Rattle.std.specs.Prelude.{◌≡◌, ℕ, List as Items, drop, length};
+ghost use Rattle.std.specs.Prelude.{◌≡◌, ℕ, List as Items, drop, find, length};
 ghost use Rattle.reo_top.specs.Commands.{command_of, command_word, none_empty, are_names, follows, is_form, fits, roles_of, settings_of, others_of};
 
 use crate::setting::{Setting, are_options};
@@ -98,14 +98,26 @@ fn fits(words: &[Bytes], command: Command) -> bool
     }
 }
 
+/// The first of these commands whose words these are.
+fn first_that_fits(words: &[Bytes], commands: &[Command]) -> Option<Command>
+    ensures { result ≡ find (fits words.now) commands.now }
+{
+    match commands {
+        [] => None,
+        [command, others @ ..] => {
+            if fits(words, *command) {
+                return Some(*command);
+            }
+            first_that_fits(words, others)
+        }
+    }
+}
+
 /// The command of some words: `None` exactly where they have no form.
 pub fn command_of(words: &[Bytes]) -> Option<Command>
     ensures { result ≡ command_of words.now }
 {
-    COMMANDS
-        .iter()
-        .find(|command| fits(words, **command))
-        .copied()
+    first_that_fits(words, &COMMANDS)
 }
 
 /// The words of the options of a command, in words that have its form.

@@ -1,6 +1,7 @@
 //! Fetching files.
 ghost use Rattle.std.specs.Prelude.{[], ◌∷◌, ◌≤◌, IfOk, length};
 ghost use Rattle.reo_top.specs.Fetched.{AreFetched, answer_of, IsFetchStop};
+ghost use Rattle.reo_top.specs.Readings.{AreShort};
 ghost use Rattle.reo_top.specs.Roles.{most_bytes};
 ghost use Rattle.reo_top.specs.States.{files_change};
 
@@ -20,6 +21,7 @@ pub(crate) fn fetch<F: Files>(
     ensures fetched { AreFetched (role ∷ []) (name.now ∷ []) (answer_of result ∷ [])
         (files_change F.told F.failed F.fetches files.old files.new) }
     ensures stop { IsFetchStop role result }
+    ensures short { AreShort (answer_of result ∷ []) }
     ensures size { IfOk result (λ bytes. length bytes ≤ most_bytes role) }
 {
     let mut room = Bytes::new(alloc);

@@ -9,6 +9,7 @@ ghost use Rattle.reo_players.specs.Written.{written_out};
 ghost use Rattle.reo_runner_ports.specs.Runnable.{CanRun};
 ghost use Rattle.reo_script.specs.Places.{ArePortsOf};
 ghost use Rattle.reo_script_laws.specs.Fitting.{FitPorts};
+ghost use Rattle.reo_trace_texts.specs.Lines.{AreTold};
 ghost use Rattle.reo_top.specs.declared.role.Role.TheVariants as roles;
 ghost use Rattle.reo_top.specs.Readings.{IsReadFrom, ReadsProgram, StopsPrint, ReadsCircuit, StopsCheck, ReadsRun, StopsRun};
 ghost use Rattle.reo_top.specs.ReadSteps.{IsRefusalOf, IsScriptRead, HasItsPorts, circuit_in, runnable_in};
@@ -146,6 +147,7 @@ pub(crate) fn read_run<F: Files>(
         (files_change F.told F.failed F.fetches files.old files.new) result }
     ensures fit { IfOk result (λ work. CanRun (map port_state_of work.flat.circuit.primitives)
         work.flat.circuit.ports work.flat.ports.list work.script.components) }
+    ensures told { IfOk result (λ work. AreTold work.flat.ports.list) }
 {
     let flat = match read_flat(alloc, circuit, files) {
         Ok(flat) => flat,

@@ -1,5 +1,5 @@
 //! What a file is to a command.
-ghost use Rattle.std.specs.Prelude.{◌≡◌};
+ghost use Rattle.std.specs.Prelude.{◌≡◌, ◌<◌, ◌^◌};
 ghost use Rattle.reo_top.specs.Roles.{role_text, refused_text, most_bytes, refused_status};
 
 use crate::status::{CIRCUIT_REFUSED, SCRIPT_REFUSED, TRACE_REFUSED};
@@ -37,7 +37,8 @@ impl Role {
 
     /// The most bytes of such a file.
     pub(crate) fn most_bytes(self) -> usize
-        ensures { result ≡ most_bytes self }
+        ensures exact { result ≡ most_bytes self }
+        ensures small { result < 2 ^ 63 }
     {
         match self {
             Role::Circuit | Role::Script => 1_048_576,

@@ -1,8 +1,6 @@
 //! A circuit and a script that are fetched and read, and their run.
 ghost use Rattle.std.specs.Prelude.{[], ◌∷◌, ◌≤◌, ◌^◌, map};
-ghost use Rattle.reo_net_base.specs.Net.{net_of};
-ghost use Rattle.reo_kinds.specs.Kinds.{behaviour_of, port_state_of};
-ghost use Rattle.reo_runs.specs.Whole.{HasOrder};
+ghost use Rattle.reo_kinds.specs.Kinds.{port_state_of};
 ghost use Rattle.reo_runner_ports.specs.Runnable.{CanRun};
 ghost use Rattle.reo_top.specs.declared.command.Command.TheVariants as commands;
 ghost use Rattle.reo_top.specs.declared.role.Role.TheVariants as roles;

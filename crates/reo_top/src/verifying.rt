@@ -20,7 +20,11 @@ use crate::reading::Work;
 use crate::status::Status;
 use crate::stop::refuse;
 use crate::verdict::{verdict_line, verdict_status};
+use reo_flatten_laws::names_are_plain;
 use reo_io::{Files, Sink};
+use reo_run_texts::ports_are_told;
+use reo_trace_laws::one_answer;
+use reo_trees_laws::programs_are_spelled;
 use reo_verify::verify_trace;
 use std::alloc::Global;
 
@@ -66,6 +70,10 @@ pub(crate) fn verify_claim<F: Files, S: Sink>(
     ensures status { IsAmong (statuses_of commands.Verify) result.code }
     ensures fair { IsFair (sink_change S.told S.faults out.old out.new) result.code }
 {
+    names_are_plain();
+    programs_are_spelled();
+    ports_are_told();
+    one_answer();
     match read_claim(alloc, circuit, script, trace, files) {
         Ok(claim) => write_verdict(alloc, claim, out),
         Err(stop) => refuse(alloc, stop, out),

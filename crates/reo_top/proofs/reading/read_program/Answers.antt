@@ -7,7 +7,7 @@ use Rattle.reo_top.proofs.reading.read_program.Goals as goal
 pub returns-clause-read : goal.returns-clause-read
 returns-clause-read g c =
     let parsed = subst (λ (b : List ℕ). IsParsed b (Err c.in-Err.fault)) c.as_slice.ensures c.in-Err.ensures.parsed in
-    program_stopped (c.args.name.now ∷ []) _ c.in_ok-text.text c.in-Err.fault c.circuit_stop.result c.in_ok-text.ensures.fetched parsed c.circuit_stop.ensures
+    program_stopped (c.args.name.now ∷ []) _ c.in_ok-text.text c.in-Err.fault c.circuit_stop.result c.in_ok-text.ensures.fetched c.in_ok-text.ensures.short parsed c.circuit_stop.ensures
 
 pub returns-in-Ok-clause-plain : goal.returns-in-Ok-clause-plain
 returns-in-Ok-clause-plain g c =

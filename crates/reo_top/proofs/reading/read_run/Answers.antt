@@ -19,9 +19,9 @@ returns-in-Err-clause-read g c = run_stopped_first First Reads c.args.circuit.no
 
 pub returns-in-Err-read_components-clause-read : goal.returns-in-Err-read_components-clause-read
 returns-in-Err-read_components-clause-read g c =
-    run_stopped_second Reads c.args.circuit.now c.args.script.now (circuit_in c.in-Ok.flat) _ _ _ c.in-Ok.ensures.read.answers c.in-Ok.ensures.read.fetched c.in-Ok.ensures.read.read c.in-Err-read_components.stop c.in-Err-read_components.ensures.read
+    run_stopped_second Reads c.args.circuit.now c.args.script.now (circuit_in c.in-Ok.flat) _ _ _ c.in-Ok.ensures.read.answers c.in-Ok.ensures.read.fetched c.in-Ok.ensures.read.short c.in-Ok.ensures.read.read c.in-Err-read_components.stop c.in-Err-read_components.ensures.read
 
 pub returns-in-Ok-read_components-clause-read : goal.returns-in-Ok-read_components-clause-read
 returns-in-Ok-read_components-clause-read g c =
-    run_read Reads c.args.circuit.now c.args.script.now (circuit_in c.in-Ok.flat) _ _ _ c.in-Ok.ensures.read.answers c.in-Ok.ensures.read.fetched c.in-Ok.ensures.read.read c.in-Ok-read_components.script
+    run_read Reads c.args.circuit.now c.args.script.now (circuit_in c.in-Ok.flat) _ _ _ c.in-Ok.ensures.read.answers c.in-Ok.ensures.read.fetched c.in-Ok.ensures.read.short c.in-Ok.ensures.read.read c.in-Ok-read_components.script
     (record { flat = c.in-Ok.flat; script = c.in-Ok-read_components.script }) c.in-Ok-read_components.ensures.read (λ answers h. h)

@@ -1,12 +1,12 @@
 use Rattle.std.proofs.Common.{◌≡◌, ◌∙◌, ℕ, List, [], ◌∷◌, get_or, refl, ap}
 use Rattle.std.specs.Prelude.{Some}
-use Rattle.reo_top.specs.declared.command.Command.TheVariants.{Run, Check, Print}
+use Rattle.reo_top.specs.declared.command.Command.TheVariants.{Run, Check, Print, Verify}
 use Rattle.reo_top.specs.Commands.{command_of, names_of}
 use Rattle.reo_top.specs.Limits.{limits_of}
-use Rattle.reo_top.proofs.CompleteLemmas.{complete}
-use Rattle.reo_top.proofs.HeadlineLemmas.{headline}
+use Rattle.reo_top.proofs.CompleteLemmas.{complete, complete_else}
+use Rattle.reo_top.proofs.HeadlineLemmas.{headline, headline_else}
 use Rattle.reo_top.proofs.TopLemmas.{answered_as, answered_none, run_answered}
-use Rattle.reo_top.proofs.WordLemmas.{names_fit, check_name, print_name, two_names, command_seen, none_seen, word_seen}
+use Rattle.reo_top.proofs.WordLemmas.{names_fit, check_name, print_name, two_names, three_names, command_seen, none_seen, no_run, verify_is_no_run, word_seen}
 use Rattle.reo_top.proofs.top.reo.Goals as goal
 
 pub returns-in-Some-Run-clause-answer : goal.returns-in-Some-Run-clause-answer
@@ -43,6 +43,38 @@ returns-in-Some-Print-clause-answer g c =
     let first : get_or words 1 [] ≡ c.word_at-in-Some-Print.result.now = word_seen words seen c.as_slice-words.ensures 1 _ c.word_at-in-Some-Print.ensures in
     let names : names_of Print words ≡ c.word_at-in-Some-Print.result.now ∷ [] = print_name words (names_fit words Print is) ∙ (λ i. first i ∷ []) in
     answered_as words _ _ _ Print (c.word_at-in-Some-Print.result.now ∷ []) is names c.print_circuit.ensures.answered
+
+pub returns-in-Some-Verify-clause-headline : goal.returns-in-Some-Verify-clause-headline
+returns-in-Some-Verify-clause-headline g c =
+    let is = command_seen c.args.words.now c.as_slice-words.result.now c.as_slice-words.ensures _ _ Verify c.command_of.ensures c.in-Some-Verify.is c.in-Some-Verify.field-0-is in
+    headline_else c.args.words.now _ _ _ (verify_is_no_run (command_of c.args.words.now) is)
+
+pub returns-in-Some-Verify-clause-complete : goal.returns-in-Some-Verify-clause-complete
+returns-in-Some-Verify-clause-complete g c =
+    let is = command_seen c.args.words.now c.as_slice-words.result.now c.as_slice-words.ensures _ _ Verify c.command_of.ensures c.in-Some-Verify.is c.in-Some-Verify.field-0-is in
+    complete_else c.args.words.now _ _ _ (verify_is_no_run (command_of c.args.words.now) is)
+
+pub returns-in-Some-Verify-clause-answer : goal.returns-in-Some-Verify-clause-answer
+returns-in-Some-Verify-clause-answer g c =
+    let words : List (List ℕ) = c.args.words.now in
+    let seen : List (List ℕ) = c.as_slice-words.result.now in
+    let is : command_of words ≡ Some Verify = command_seen words seen c.as_slice-words.ensures _ _ Verify c.command_of.ensures c.in-Some-Verify.is c.in-Some-Verify.field-0-is in
+    let first : get_or words 1 [] ≡ c.word_at-circuit.result.now = word_seen words seen c.as_slice-words.ensures 1 _ c.word_at-circuit.ensures in
+    let second : get_or words 2 [] ≡ c.word_at-script.result.now = word_seen words seen c.as_slice-words.ensures 2 _ c.word_at-script.ensures in
+    let third : get_or words 3 [] ≡ c.word_at-in-Some-Verify.result.now = word_seen words seen c.as_slice-words.ensures 3 _ c.word_at-in-Some-Verify.ensures in
+    let named : names_of Verify words ≡ c.word_at-circuit.result.now ∷ c.word_at-script.result.now ∷ c.word_at-in-Some-Verify.result.now ∷ [] =
+    three_names words (names_fit words Verify is) ∙ (λ i. first i ∷ second i ∷ third i ∷ []) in
+    answered_as words _ _ _ Verify (c.word_at-circuit.result.now ∷ c.word_at-script.result.now ∷ c.word_at-in-Some-Verify.result.now ∷ []) is named c.verify_claim.ensures.answered
+
+pub returns-in-None-clause-headline : goal.returns-in-None-clause-headline
+returns-in-None-clause-headline g c =
+    let is = none_seen c.args.words.now c.as_slice-words.result.now c.as_slice-words.ensures _ c.command_of.ensures c.in-None.is in
+    headline_else c.args.words.now _ _ _ (no_run (command_of c.args.words.now) is)
+
+pub returns-in-None-clause-complete : goal.returns-in-None-clause-complete
+returns-in-None-clause-complete g c =
+    let is = none_seen c.args.words.now c.as_slice-words.result.now c.as_slice-words.ensures _ c.command_of.ensures c.in-None.is in
+    complete_else c.args.words.now _ _ _ (no_run (command_of c.args.words.now) is)
 
 pub returns-in-None-clause-answer : goal.returns-in-None-clause-answer
 returns-in-None-clause-answer g c =

@@ -1,0 +1,44 @@
+-- A text is one trace for some ports, or has one first wrong line.
+use Rattle.std.proofs.Common.{◌≡◌, ◌∙◌, ℕ, List, sym, ap, refl}
+use Rattle.std.specs.Prelude.{Option, Some, None, Result, Ok, Err}
+use Rattle.reo_net_base.specs.declared.port.Port.{Port}
+use Rattle.reo_trace_texts.specs.declared.trace.Trace.{Trace as Told}
+use Rattle.reo_trace_texts.specs.declared.fault.TraceFault.{TraceFault}
+use Rattle.reo_trace_texts.specs.declared.fault.TraceFault.TheVariants as faults
+use Rattle.reo_trace_texts.specs.Answers.{Answers}
+use Rattle.reo_trace_texts.specs.Laws.{OneAnswer}
+use Rattle.reo_trace_texts.specs.Lines.{AreTold}
+use Rattle.reo_trace_texts.specs.Texts.{IsTraceText}
+use Rattle.reo_top.specs.declared.refusal.Refusal.{Refusal}
+use Rattle.reo_top.specs.declared.role.Role.TheVariants.{Trace}
+use Rattle.reo_top.specs.declared.stop.Stop.{Stop}
+use Rattle.reo_top.specs.declared.stop.Stop.TheVariants.{Refused}
+use Rattle.reo_top.specs.Claims.{TraceStops}
+use Rattle.reo_top.specs.Refusals.{trace_refusal, RefusesTrace}
+
+ok_is : {A E : Type 0} (a b : A) (x y : Result A E) → x ≡ Ok a → y ≡ Ok b → x ≡ y → a ≡ b
+ok_is a b x y of_x of_y e = cc
+
+ok_is_no_fault : {A E : Type 0} (a : A) (f : E) (x y : Result A E) → x ≡ Ok a → y ≡ Err f → x ≡ y → ⊥
+ok_is_no_fault a f x y of_x of_y e = cc
+
+fault_is : {A E : Type 0} (f g : E) (x y : Result A E) → x ≡ Err f → y ≡ Err g → x ≡ y → f ≡ g
+fault_is f g x y of_x of_y e = cc
+
+some_is : {A : Type 0} (a b : A) (x y : Option A) → x ≡ Some a → y ≡ Some b → x ≡ y → a ≡ b
+some_is a b x y of_x of_y e = cc
+
+module _ (one : OneAnswer) (ports : List Port) (told : AreTold ports) (text : List ℕ) where
+  pub one_trace : (t u : Told) → IsTraceText ports text t → IsTraceText ports text u → t ≡ u
+  one_trace t u a b = ok_is t u (Ok t) (Ok u) refl refl (one ports text (Ok t) (Ok u) told a b)
+
+  pub trace_apart : (t : Told) (stop : Stop) → IsTraceText ports text t → TraceStops ports text stop → ⊥
+  trace_apart t stop a (r, (fault, b, so), is) = ok_is_no_fault t fault (Ok t) (Err fault) refl refl (one ports text (Ok t) (Err fault) told a b)
+
+  one_refusal : (r s : Refusal) → RefusesTrace ports text r → RefusesTrace ports text s → r ≡ s
+  one_refusal r s (f, a, is) (g, b, so) =
+      let same : f ≡ g = fault_is f g (Err f) (Err g) refl refl (one ports text (Err f) (Err g) told a b) in
+      some_is r s (Some r) (Some s) refl refl (sym is ∙ ap trace_refusal same ∙ so)
+
+  pub one_trace_stop : (s t : Stop) → TraceStops ports text s → TraceStops ports text t → s ≡ t
+  one_trace_stop s t (r, a, is) (q, b, so) = is ∙ ap (Refused Trace) (one_refusal r q a b) ∙ sym so
