@@ -10,7 +10,7 @@ use Rattle.reo_run_texts.specs.Laws.{PortsAreTold}
 use Rattle.reo_trace_texts.specs.declared.trace.Trace.{Trace as Told}
 use Rattle.reo_trace_texts.specs.Laws.{OneAnswer}
 use Rattle.reo_trace_texts.specs.Lines.{AreTold}
-use Rattle.reo_top.specs.declared.command.Command.TheVariants.{Run, Verify}
+use Rattle.reo_top.specs.declared.command.Command.TheVariants.{Verify}
 use Rattle.reo_top.specs.declared.role.Role.TheVariants.{Circuit, Script, Trace}
 use Rattle.reo_top.specs.declared.stop.Stop.{Stop}
 use Rattle.reo_top.specs.declared.stop.Stop.TheVariants.{Missed, TooLong, Refused, NoMemory}

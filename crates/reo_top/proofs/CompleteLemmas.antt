@@ -18,7 +18,7 @@ use Rattle.reo_top.specs.Readings.{Runnable}
 use Rattle.reo_top.specs.States.{SinkState, FilesState, Change}
 use Rattle.reo_top.specs.Statuses.{IsAmong}
 use Rattle.reo_top.specs.Traces.{ending_status}
-use Rattle.reo_top.proofs.TopLemmas.{answered_with}
+use Rattle.reo_top.proofs.TopLemmas.{answered_with, told_always}
 
 some_more : {A : Type 0} (x : A) (xs : List A) → x ∷ xs ≡ [] → ⊥
 some_more x xs e = cc
@@ -83,10 +83,6 @@ module _ (words : List (List ℕ)) (files : Change FilesState) (sink : Change Si
     complete = told_as files.old.told refl
 
 -- Of other words it says nothing.
-always : {X : Type 0} (o : Option X) (B : X → Type 0) → ((x : X) → B x) → IfSome o B
-always None B f = tt
-always (Some x) B f = f x
-
 pub complete_else : (words : List (List ℕ)) (files : Change FilesState) (sink : Change SinkState) (code : ℕ) → (command_of words ≡ Some Run → ⊥) → Complete words files sink code
 complete_else words files sink code other =
-    always files.old.told (λ folder. (r : Runnable) → Accepted words folder r → NothingFailed files sink → (code ≡ 10) ⊎ IsWhole words r sink code) (λ folder r a nothing. absurd (other a.run))
+    told_always files.old.told (λ folder. (r : Runnable) → Accepted words folder r → NothingFailed files sink → (code ≡ 10) ⊎ IsWhole words r sink code) (λ folder r a nothing. absurd (other a.run))

@@ -33,7 +33,7 @@ use Rattle.reo_top.specs.States.{SinkState, FilesState, Change}
 use Rattle.reo_top.specs.Stops.{stop_status}
 use Rattle.reo_top.proofs.FlatLemmas.{circuit_apart}
 use Rattle.reo_top.proofs.RunLemmas.{start_for}
-use Rattle.reo_top.proofs.TopLemmas.{answered_with}
+use Rattle.reo_top.proofs.TopLemmas.{answered_with, told_always}
 use Rattle.reo_top.proofs.WorkLemmas.{run_reading}
 
 -- A circuit that is accepted is put together well.
@@ -177,10 +177,6 @@ module _ (justified : RunsAreJustified kind_rules) (made : CircuitsAreMade) (pla
   headline = told_as files.old.told refl
 
 -- Of other words it says nothing.
-always : {X : Type 0} (o : Option X) (B : X → Type 0) → ((x : X) → B x) → IfSome o B
-always None B f = tt
-always (Some x) B f = f x
-
 pub headline_else : (words : List (List ℕ)) (files : Change FilesState) (sink : Change SinkState) (code : ℕ) → (command_of words ≡ Some Run → ⊥) → Headline words files sink code
 headline_else words files sink code other =
-    always files.old.told (λ folder. (r : Runnable) → Accepted words folder r → (IsFailure code → ⊥) → IsTraced (limits_of words) r sink code) (λ folder r a fine. absurd (other a.run))
+    told_always files.old.told (λ folder. (r : Runnable) → Accepted words folder r → (IsFailure code → ⊥) → IsTraced (limits_of words) r sink code) (λ folder r a fine. absurd (other a.run))

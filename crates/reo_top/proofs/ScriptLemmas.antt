@@ -14,16 +14,16 @@ use Rattle.reo_top.specs.declared.stop.Stop.TheVariants.{Refused}
 use Rattle.reo_top.specs.Readings.{ScriptStops}
 use Rattle.reo_top.specs.Refusals.{script_refusal, RefusesScript}
 
-ok_is : {A E : Type 0} (a b : A) (x y : Result A E) → x ≡ Ok a → y ≡ Ok b → x ≡ y → a ≡ b
+pub ok_is : {A E : Type 0} (a b : A) (x y : Result A E) → x ≡ Ok a → y ≡ Ok b → x ≡ y → a ≡ b
 ok_is a b x y of_x of_y e = cc
 
-ok_is_no_fault : {A E : Type 0} (a : A) (f : E) (x y : Result A E) → x ≡ Ok a → y ≡ Err f → x ≡ y → ⊥
+pub ok_is_no_fault : {A E : Type 0} (a : A) (f : E) (x y : Result A E) → x ≡ Ok a → y ≡ Err f → x ≡ y → ⊥
 ok_is_no_fault a f x y of_x of_y e = cc
 
-fault_is : {A E : Type 0} (f g : E) (x y : Result A E) → x ≡ Err f → y ≡ Err g → x ≡ y → f ≡ g
+pub fault_is : {A E : Type 0} (f g : E) (x y : Result A E) → x ≡ Err f → y ≡ Err g → x ≡ y → f ≡ g
 fault_is f g x y of_x of_y e = cc
 
-some_is : {A : Type 0} (a b : A) (x y : Option A) → x ≡ Some a → y ≡ Some b → x ≡ y → a ≡ b
+pub some_is : {A : Type 0} (a b : A) (x y : Option A) → x ≡ Some a → y ≡ Some b → x ≡ y → a ≡ b
 some_is a b x y of_x of_y e = cc
 
 none_is_some : {A : Type 0} (a : A) → None ≡ Some a → ⊥

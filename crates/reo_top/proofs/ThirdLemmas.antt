@@ -13,7 +13,7 @@ use Rattle.reo_top.specs.declared.role.Role.TheVariants.{Circuit, Script, Trace}
 use Rattle.reo_top.specs.declared.stop.Stop.{Stop}
 use Rattle.reo_top.specs.declared.stop.Stop.TheVariants.{Missed, TooLong, Refused, NoMemory}
 use Rattle.reo_top.specs.Claims.{ReadsTrace, StopsTrace, ReadsClaim, StopsVerify}
-use Rattle.reo_top.specs.Fetched.{Content, gone, long, text, unknown, missed, has_gone, AreTold, AreFetched}
+use Rattle.reo_top.specs.Fetched.{Content, gone, long, text, unknown, missed, AreTold, AreFetched}
 use Rattle.reo_top.specs.Readings.{Runnable, ReadsRun, StopsRun, AreShort, IsReadAs, IsReadFrom}
 use Rattle.reo_top.specs.ReadSteps.{IsRefusalOf}
 use Rattle.reo_top.specs.Refusals.{trace_refusal}

@@ -29,7 +29,7 @@ told_none : (folder : Folder) (names : List (List ℕ)) → AreTold folder [] na
 told_none folder [] = tt
 told_none folder (n ∷ ns) = tt
 
-told_always : {X : Type 0} (o : Option X) (B : X → Type 0) → ((x : X) → B x) → IfSome o B
+pub told_always : {X : Type 0} (o : Option X) (B : X → Type 0) → ((x : X) → B x) → IfSome o B
 told_always None B f = tt
 told_always (Some x) B f = f x
 

@@ -1,11 +1,8 @@
 -- A text is one trace for some ports, or has one first wrong line.
 use Rattle.std.proofs.Common.{◌≡◌, ◌∙◌, ℕ, List, sym, ap, refl}
-use Rattle.std.specs.Prelude.{Option, Some, None, Result, Ok, Err}
+use Rattle.std.specs.Prelude.{Some, Ok, Err}
 use Rattle.reo_net_base.specs.declared.port.Port.{Port}
 use Rattle.reo_trace_texts.specs.declared.trace.Trace.{Trace as Told}
-use Rattle.reo_trace_texts.specs.declared.fault.TraceFault.{TraceFault}
-use Rattle.reo_trace_texts.specs.declared.fault.TraceFault.TheVariants as faults
-use Rattle.reo_trace_texts.specs.Answers.{Answers}
 use Rattle.reo_trace_texts.specs.Laws.{OneAnswer}
 use Rattle.reo_trace_texts.specs.Lines.{AreTold}
 use Rattle.reo_trace_texts.specs.Texts.{IsTraceText}
@@ -15,18 +12,7 @@ use Rattle.reo_top.specs.declared.stop.Stop.{Stop}
 use Rattle.reo_top.specs.declared.stop.Stop.TheVariants.{Refused}
 use Rattle.reo_top.specs.Claims.{TraceStops}
 use Rattle.reo_top.specs.Refusals.{trace_refusal, RefusesTrace}
-
-ok_is : {A E : Type 0} (a b : A) (x y : Result A E) → x ≡ Ok a → y ≡ Ok b → x ≡ y → a ≡ b
-ok_is a b x y of_x of_y e = cc
-
-ok_is_no_fault : {A E : Type 0} (a : A) (f : E) (x y : Result A E) → x ≡ Ok a → y ≡ Err f → x ≡ y → ⊥
-ok_is_no_fault a f x y of_x of_y e = cc
-
-fault_is : {A E : Type 0} (f g : E) (x y : Result A E) → x ≡ Err f → y ≡ Err g → x ≡ y → f ≡ g
-fault_is f g x y of_x of_y e = cc
-
-some_is : {A : Type 0} (a b : A) (x y : Option A) → x ≡ Some a → y ≡ Some b → x ≡ y → a ≡ b
-some_is a b x y of_x of_y e = cc
+use Rattle.reo_top.proofs.ScriptLemmas.{ok_is, ok_is_no_fault, fault_is, some_is}
 
 module _ (one : OneAnswer) (ports : List Port) (told : AreTold ports) (text : List ℕ) where
   pub one_trace : (t u : Told) → IsTraceText ports text t → IsTraceText ports text u → t ≡ u

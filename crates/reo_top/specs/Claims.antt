@@ -1,5 +1,5 @@
 -- Traces that are said to be those of a run.
-use Rattle.std.specs.Prelude.{ℕ, ◌≡◌, List, [], ◌∷◌, Ok}
+use Rattle.std.specs.Prelude.{ℕ, ◌≡◌, List, [], ◌∷◌}
 use Rattle.reo_net_base.specs.declared.port.Port.{Port}
 use Rattle.reo_trace_texts.specs.declared.trace.Trace.{Trace}
 use Rattle.reo_trace_texts.specs.Texts.{IsTraceText}

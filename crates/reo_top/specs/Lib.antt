@@ -1,5 +1,6 @@
 pub mod Answers
 pub mod Cases
+pub mod Claims
 pub mod Commands
 pub mod Complete
 pub mod Fetched
@@ -18,4 +19,3 @@ pub mod Stopped
 pub mod Stops
 pub mod Traces
 pub mod VerdictTexts
-pub mod Claims

@@ -1,4 +1,4 @@
--- Steps of reading a circuit and a script.
+-- Steps of reading circuits, scripts and traces.
 use Rattle.std.specs.Prelude.{ℕ, ◌≡◌, List, [], ◌∷◌, Result, Ok, Option, Some, length, map}
 use Rattle.reo_net_base.specs.Net.{Wiring}
 use Rattle.reo_net_base.specs.declared.port.Port.{Port}
@@ -7,16 +7,16 @@ use Rattle.reo_kinds.specs.Kinds.{port_state_of}
 use Rattle.reo_flatten.specs.declared.last.Flat.{Flat}
 use Rattle.reo_flatten_ports.specs.PortsOf.{HasPorts, AreFree}
 use Rattle.reo_script.specs.Places.{ArePortsOf}
-use Rattle.reo_trace_texts.specs.declared.trace.Trace.{Trace}
-use Rattle.reo_trace_texts.specs.Lines.{AreTold}
-use Rattle.reo_top.specs.Claims.{Claimed, ReadsTrace, StopsTrace}
 use Rattle.reo_script_base.specs.declared.action.Script.{Script}
 use Rattle.reo_script_base.specs.ScriptAnswers.{Answers}
+use Rattle.reo_trace_texts.specs.declared.trace.Trace.{Trace}
+use Rattle.reo_trace_texts.specs.Lines.{AreTold}
 use Rattle.reo_top.specs.declared.refusal.Refusal.{Refusal}
 use Rattle.reo_top.specs.declared.role.Role.{Role}
 use Rattle.reo_top.specs.declared.role.Role.TheVariants as roles
 use Rattle.reo_top.specs.declared.stop.Stop.{Stop}
 use Rattle.reo_top.specs.declared.stop.Stop.TheVariants.{Missed, TooLong, Refused, NoMemory}
+use Rattle.reo_top.specs.Claims.{Claimed, ReadsTrace, StopsTrace}
 use Rattle.reo_top.specs.Fetched.{Content, text}
 use Rattle.reo_top.specs.Readings.{FlatCircuit, Runnable, ScriptStops, IsReadFrom}
 use Rattle.reo_top.specs.States.{FilesState, Change}

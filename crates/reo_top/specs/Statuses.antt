@@ -4,7 +4,7 @@ use Rattle.std.specs.List.{list_any}
 use Rattle.reo_top.specs.declared.command.Command.{Command}
 use Rattle.reo_top.specs.declared.command.Command.TheVariants.{Run, Check, Print, Verify}
 
--- Each component is at its end, or the other command did its work.
+-- Each component is at its end, or another command did its work.
 abbrev pub done : ℕ
 done = 0
 

@@ -1,5 +1,5 @@
 //! Traces that are fetched and read, with the circuit and the script that they are said to be of.
-ghost use Rattle.std.specs.Prelude.{◌≡◌, [], ◌∷◌, IfOk, map};
+ghost use Rattle.std.specs.Prelude.{[], ◌∷◌, IfOk, map};
 ghost use Rattle.reo_kinds.specs.Kinds.{port_state_of};
 ghost use Rattle.reo_runner_ports.specs.Runnable.{CanRun};
 ghost use Rattle.reo_trace_texts.specs.Lines.{AreTold};

@@ -1,6 +1,6 @@
 //! The commands, and their words.
-ghost use Rattle.std.specs.Prelude.{◌≡◌, ℕ, List as Items, drop, find, length};
-ghost use Rattle.reo_top.specs.Commands.{command_of, command_word, none_empty, are_names, follows, is_form, fits, roles_of, settings_of, others_of};
+ghost use Rattle.std.specs.Prelude.{◌≡◌, drop, find, length};
+ghost use Rattle.reo_top.specs.Commands.{command_of, command_word, none_empty, are_names, follows, fits, roles_of, settings_of, others_of};
 
 use crate::setting::{Setting, are_options};
 use reo_values::Bytes;

@@ -1,8 +1,8 @@
 //! The line of a verdict.
-ghost use Rattle.std.specs.Prelude.{◌≡◌, ◌++◌, IfOk, OnOk, codes};
+ghost use Rattle.std.specs.Prelude.{◌≡◌, ◌++◌, [], IfOk, OnOk};
 ghost use Rattle.std.specs.Fmt.{decimal};
 ghost use Rattle.reo_verdicts.specs.declared.verdict.Verdict.TheVariants as verdicts;
-ghost use Rattle.reo_top.specs.VerdictTexts.{wrong_words, refusal_words, verdict_line, verdict_status};
+ghost use Rattle.reo_top.specs.VerdictTexts.{wrong_words, in_round, refusal_words, verdict_line, verdict_status};
 
 use crate::status::{DONE, TRACE_REFUSED};
 use reo_checker::Wrong;
@@ -55,8 +55,7 @@ fn append_wrong(alloc: Global, line: &mut Bytes, wrong: Wrong, node: &[u8]) -> R
 
 /// Adds the round that a cause is in. `NoMemory` is out of memory.
 fn append_round(alloc: Global, line: &mut Bytes, round: u64) -> Result<(), NoMemory>
-    ensures { OnOk result (line.new
-        ≡ line.old ++ (codes "round " ++ (decimal round ++ codes ": "))) }
+    ensures { OnOk result (line.new ≡ line.old ++ in_round round []) }
 {
     append_numbered(alloc, line, b"round ", round)?;
     line.append(b": ")

@@ -1,7 +1,6 @@
 use Rattle.std.proofs.Common.{List, ℕ, [], ◌∷◌, subst}
-use Rattle.std.specs.Prelude.{Ok, Err}
+use Rattle.std.specs.Prelude.{Err}
 use Rattle.reo_trace_texts.specs.Answers.{IsRead}
-use Rattle.reo_trace_texts.specs.Texts.{IsTraceText}
 use Rattle.reo_top.proofs.ThirdLemmas.{trace_stopped}
 use Rattle.reo_top.proofs.claim.read_lines.Goals as goal
 
