@@ -9,7 +9,7 @@ use Rattle.reo_trace.specs.RoundText.{cell_text, entry_text}
 use Rattle.reo_trace_texts.specs.Lines.{IsCell, IsEntry, IsSmall}
 use Rattle.reo_trace_texts.specs.declared.fault.LineFault.{LineFault}
 use Rattle.std.specs.Fmt.{decimal}
-use Rattle.reo_trace_reader.specs.Ends.{IsDigit, NoDigit, EndsEntry, EndsLine}
+use Rattle.reo_trace_reader.specs.Ends.{NoDigit, EndsEntry}
 use Rattle.reo_trace_reader.specs.Reads.{Reads, ReadsAgain}
 use Rattle.reo_values.proofs.Words.{first_or}
 use Rattle.reo_trace_reader.proofs.Digits.{decimal_first}

@@ -1,5 +1,5 @@
 -- Digits at the front of a text.
-use Rattle.std.proofs.Common.{◌≡◌, ◌∙◌, ◌<◌, ◌≤◌, ◌+◌, ◌-◌, ◌*◌, ◌^◌, ℕ, zero, suc, List, [], ◌∷◌, ◌++◌, inl, inr, ap, refl, sym, subst, drop, take, length, get_or, arith, rules}
+use Rattle.std.proofs.Common.{◌≡◌, ◌∙◌, ◌<◌, ◌≤◌, ◌+◌, ◌-◌, ◌*◌, ◌^◌, ℕ, zero, suc, List, [], ◌∷◌, ◌++◌, ap, refl, sym, subst, drop, take, length, get_or, arith}
 use Rattle.std.specs.Fmt.{decimal}
 use Rattle.std.specs.List.{All}
 use Rattle.std.specs.Str.Parse.{digits_value}

@@ -1,5 +1,5 @@
 -- Where the item at the front of a text ends.
-use Rattle.std.proofs.Common.{◌≡◌, ◌∙◌, ◌<◌, ◌+◌, ◌&&◌, ◌==◌, ℕ, zero, suc, Bool, true, false, not, List, [], ◌∷◌, ◌++◌, ap, refl, sym, subst, take, drop, length, get_or, drop-cons, add-one, arith}
+use Rattle.std.proofs.Common.{◌≡◌, ◌∙◌, ◌==◌, ℕ, zero, suc, Bool, true, false, not, List, [], ◌∷◌, ◌++◌, ap, refl, sym, take, drop, length}
 use Rattle.std.specs.Prelude.{if◌then◌else◌}
 use Rattle.std.proofs.lemmas.List.{take_at, drop_at}
 use Rattle.reo_values.specs.declared.value.Value.{Value}
@@ -9,35 +9,8 @@ use Rattle.reo_values.specs.Kind.{IsIn}
 use Rattle.reo_values.specs.Valid.{IsValid}
 use Rattle.reo_trace_laws.proofs.ItemEnds.{Stops, item_length, length_of-item}
 use Rattle.reo_trace_reader.specs.Ends.{EndsMove}
-use Rattle.reo_trace_reader.specs.ItemEnd.{after, is_outside, bytes_of_item}
-use Rattle.reo_trace_reader.specs.declared.item.Spot.{Spot}
-use Rattle.reo_trace_reader.specs.declared.item.Spot as spots
+use Rattle.reo_trace_reader.specs.ItemEnd.{bytes_of_item}
 use Rattle.reo_trace_reader.specs.declared.item.Spot.TheVariants.{Outside, Inside, Escaped}
-
--- the scan goes on
-pub scan_more : (spot : Spot) (text : List ℕ) (at byte : ℕ) → at < length text → byte ≡ get_or text at 0 → (is_outside spot && (byte == 32)) ≡ false
-    → bytes_of_item spot (drop at text) ≡ suc (bytes_of_item (after spot byte) (drop (at + 1) text))
-scan_more spot text at byte within e h =
-    ap (λ l. bytes_of_item spot l) (drop-cons text at 0 within ∙ sym (ap (λ (b : ℕ). b ∷ drop (suc at) text) e))
-    ∙ ap (λ (t : Bool). if t then zero else suc (bytes_of_item (after spot byte) (drop (suc at) text))) h
-    ∙ ap (λ (n : ℕ). suc (bytes_of_item (after spot byte) (drop n text))) (sym (add-one at))
-
--- and ends
-pub scan_ends : (spot : Spot) (text : List ℕ) (at byte : ℕ) → at < length text → byte ≡ get_or text at 0 → (is_outside spot && (byte == 32)) ≡ true
-    → bytes_of_item spot (drop at text) ≡ 0
-scan_ends spot text at byte within e h =
-    ap (λ l. bytes_of_item spot l) (drop-cons text at 0 within ∙ sym (ap (λ (b : ℕ). b ∷ drop (suc at) text) e))
-    ∙ ap (λ (t : Bool). if t then zero else suc (bytes_of_item (after spot byte) (drop (suc at) text))) h
-
-is_quoted : Spot → Bool
-is_quoted Outside = false
-is_quoted Inside = true
-is_quoted Escaped = true
-
-is_escaped : Spot → Bool
-is_escaped Outside = false
-is_escaped Inside = false
-is_escaped Escaped = true
 
 outside_any : (t : Bool) (bytes : List ℕ) → item_length false t bytes ≡ item_length false false bytes
 outside_any t [] = refl

@@ -1,14 +1,12 @@
 -- Whole lines, with their line feeds.
 use Rattle.std.proofs.Common.{◌≡◌, ◌==◌, ◌∙◌, ℕ, Bool, true, false, length, append-nil, arith, List, [], ◌∷◌, ◌++◌, ap, refl, sym, subst, append_assoc}
 use Rattle.std.specs.Prelude.{codes}
-use Rattle.std.specs.Fmt.{decimal}
 use Rattle.reo_net_base.specs.declared.port.Port.{Port}
 use Rattle.reo_trace.specs.declared.line.RoundLine.{RoundLine}
 use Rattle.reo_trace.specs.declared.line.Ending.{Ending}
 use Rattle.reo_trace.specs.declared.line.Ending.TheVariants.{Done, Stuck, Limit, Spent, Wide}
 use Rattle.reo_trace.specs.EndingText.{ending_text}
-use Rattle.reo_trace.specs.RoundText.{round_text, moves_text, entry_text}
-use Rattle.reo_trace.specs.Spaced.{spaced}
+use Rattle.reo_trace.specs.RoundText.{round_text}
 use Rattle.reo_trace_texts.specs.Lines.{IsLine, IsEnding, IsSmall}
 use Rattle.reo_trace_texts.specs.Texts.{IsEndingText, IsRoundText}
 use Rattle.std.proofs.lemmas.List.{append_cancel_right}

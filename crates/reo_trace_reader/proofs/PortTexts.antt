@@ -1,23 +1,18 @@
 -- Ports and moves at the front of a text.
-use Rattle.std.proofs.Common.{◌≡◌, ◌∙◌, ◌<◌, ◌≤◌, ◌+◌, ℕ, suc, Some, List, [], ◌∷◌, ◌++◌, ap, refl, sym, subst, length, get_or, append_assoc, arith}
+use Rattle.std.proofs.Common.{◌≡◌, ◌∙◌, ◌<◌, ◌≤◌, ◌+◌, ℕ, Some, List, ◌++◌, ap, refl, sym, subst, length, get_or, append_assoc, arith}
 use borrow.Author.Count.{below_more}
 use Rattle.std.specs.Prelude.{slice_get}
-use Rattle.std.specs.List.{All}
 use Rattle.std.proofs.lemmas.List.{append_cancel_left}
 use Rattle.std.proofs.lemmas.Option.{slice_get_within, slice_get_read}
-use Rattle.reo_values.specs.declared.value.Value.{Value}
 use Rattle.reo_values.specs.ItemText.{text_of}
 use Rattle.reo_values.specs.Kind.{IsIn}
-use Rattle.reo_values.specs.Valid.{IsValid}
 use Rattle.reo_values.specs.Names.{IsNameByte}
 use Rattle.reo_net_base.specs.declared.colouring.Move.{Move}
 use Rattle.reo_net_base.specs.declared.port.Port.{Port}
-use Rattle.reo_net_base.specs.declared.port.Way.{Way}
-use Rattle.reo_net_base.specs.declared.port.Way.TheVariants.{In, Out}
-use Rattle.reo_trace.specs.RoundText.{sign_of, flow_text, move_text}
-use Rattle.reo_trace_texts.specs.Lines.{AreTold, IsMove}
+use Rattle.reo_trace.specs.RoundText.{sign_of, move_text}
+use Rattle.reo_trace_texts.specs.Lines.{AreTold}
 use Rattle.reo_trace_laws.proofs.Fronts.{front_unique}
-use Rattle.reo_trace_laws.proofs.Moves.{bytes_of-name, sign_no-name, move_at, name_at, kindred_at, number_of}
+use Rattle.reo_trace_laws.proofs.Moves.{bytes_of-name, sign_no-name, move_at, name_at, number_of}
 use Rattle.reo_trace_reader.specs.Fronts.{port_text, IsPortFrom, IsMoveFrom}
 
 -- no port from one number to below another is next

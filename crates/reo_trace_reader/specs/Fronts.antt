@@ -1,7 +1,11 @@
 -- The texts of the parts of lines.
-use Rattle.std.specs.Prelude.{ℕ, ◌≡◌, ◌<◌, ◌≤◌, true, List, [], ◌∷◌, ◌++◌, codes, length, Option, Some, None, slice_get}
+use Rattle.std.specs.Prelude.{ℕ, ◌≡◌, ◌<◌, ◌≤◌, true, List, [], ◌++◌, codes, length, Option, Some, None, slice_get}
 use Rattle.std.specs.List.{All}
 use Rattle.std.specs.Fmt.{decimal}
+use Rattle.reo_values.specs.declared.kindred.Kindred.{Kindred}
+use Rattle.reo_values.specs.declared.value.Value.{Value}
+use Rattle.reo_values.specs.ItemText.{text_of}
+use Rattle.reo_values.specs.Kind.{IsIn}
 use Rattle.reo_net_base.specs.declared.colouring.Move.{Move}
 use Rattle.reo_net_base.specs.declared.port.Port.{Port}
 use Rattle.reo_trace.specs.declared.line.RoundLine.{RoundLine}
@@ -20,9 +24,20 @@ abbrev pub port_text : Option Port → List ℕ
 port_text None = []
 port_text (Some port) = port.name ++ sign_of port.way
 
+-- Those of the port of a number.
+abbrev pub text_at : List Port → ℕ → List ℕ
+text_at ports number = port_text (slice_get ports number)
+
 -- A port that is there, with this number or a greater one.
 abbrev pub IsPortFrom : List Port → ℕ → ℕ → Type 0
 IsPortFrom ports from number = (from ≤ number) × ((port : Port) × (slice_get ports number ≡ Some port))
+
+-- An item of a type, and its text.
+abbrev pub IsItem : Kindred → Value → Type 0
+IsItem kindred item = IsIn item kindred
+
+abbrev pub item_text : Kindred → Value → List ℕ
+item_text kindred item = text_of item kindred
 
 -- A move at a port with this number or a greater one.
 abbrev pub IsMoveFrom : List Port → ℕ → Move → Type 0
@@ -99,6 +114,11 @@ IsAnyLine ports line = IsLine ports line.round line
 -- The text begins with the line of no round of this number.
 abbrev pub NoRound : List Port → ℕ → List ℕ → Type 0
 NoRound ports number text = (line : RoundLine) (more : List ℕ) → IsLine ports number line → text ≡ round_text ports line ++ more → ⊥
+
+-- The line of the round of this number stood in front, and the rest is left; or it did not, and nothing was taken.
+abbrev pub IsNext : List Port → ℕ → List ℕ → List ℕ → Option RoundLine → Type 0
+IsNext ports number old left (Some line) = IsLine ports number line × (old ≡ round_text ports line ++ left)
+IsNext ports number old left None = NoRound ports number old × (left ≡ old)
 
 -- The text is no ending.
 abbrev pub NoEnding : List ℕ → Type 0

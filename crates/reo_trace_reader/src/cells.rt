@@ -47,7 +47,8 @@ fn entry(reader: &mut Reader) -> Result<Entry, LineFault>
 /// The rows of all primitives, to the end of the line.
 pub(crate) fn entries(alloc: Global, reader: &mut Reader) -> Result<List<Entry>, LineFault>
     ensures stood { Stood (All IsEntry) (spaced entry_text) result reader.old reader.new }
-    ensures again { ReadsAgain (All IsEntry) (spaced entry_text) EndsLine result reader.old reader.new }
+    ensures again { ReadsAgain (All IsEntry) (spaced entry_text) EndsLine
+        result reader.old reader.new }
 {
     let mut made = List::new(alloc);
     if reader.ends_line() {

@@ -1,11 +1,9 @@
 //! Items of moves.
 ghost use Rattle.std.specs.Prelude.{◌≡◌, ◌==◌, ◌&&◌, ◌≤◌, length};
-ghost use Rattle.reo_values.specs.Kind.{IsIn};
-ghost use Rattle.reo_values.specs.ItemText.{text_of};
 ghost use Rattle.reo_values.specs.Valid.{IsValid};
-ghost use Rattle.reo_values.specs.declared.value.Value.{Value as Item};
 ghost use Rattle.reo_trace_reader.specs.Ends.{EndsMove};
 ghost use Rattle.reo_trace_reader.specs.declared.item.Spot.TheVariants.{Outside};
+ghost use Rattle.reo_trace_reader.specs.Fronts.{IsItem, item_text};
 ghost use Rattle.reo_trace_reader.specs.ItemEnd.{after as spot_after, is_outside, bytes_of_item};
 ghost use Rattle.reo_trace_reader.specs.Reads.{Stood, ReadsAgain};
 
@@ -68,8 +66,10 @@ pub(crate) fn item(
     kindred: &Kindred,
 ) -> Result<Value, LineFault>
     requires { IsValid kindred.now }
-    ensures stood { let Is : Item → Type 0 = λ x. IsIn x kindred.now in Stood Is (λ x. text_of x kindred.now) result reader.old reader.new }
-    ensures again { let Is : Item → Type 0 = λ x. IsIn x kindred.now in ReadsAgain Is (λ x. text_of x kindred.now) EndsMove result reader.old reader.new }
+    ensures stood { Stood (IsItem kindred.now) (item_text kindred.now)
+        result reader.old reader.new }
+    ensures again { ReadsAgain (IsItem kindred.now) (item_text kindred.now) EndsMove
+        result reader.old reader.new }
 {
     let count = item_length(reader.left());
     match read_value(alloc, reader.take(count), kindred) {

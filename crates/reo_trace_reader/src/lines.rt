@@ -18,7 +18,8 @@ use std::alloc::Global;
 /// A number behind this word.
 fn number_after(reader: &mut Reader, word: &[u8]) -> Result<u64, LineFault>
     ensures stood { Stood IsSmall (λ n. word.now ++ decimal n) result reader.old reader.new }
-    ensures again { ReadsAgain IsSmall (λ n. word.now ++ decimal n) NoDigit result reader.old reader.new }
+    ensures again { ReadsAgain IsSmall (λ n. word.now ++ decimal n) NoDigit
+        result reader.old reader.new }
     ensures fault { IfErr result (λ fault. fault ≡ LineFault.Form) }
 {
     if reader.word(word) {
@@ -32,7 +33,8 @@ fn number_after(reader: &mut Reader, word: &[u8]) -> Result<u64, LineFault>
 fn number_before(reader: &mut Reader, word: &[u8]) -> Result<u64, LineFault>
     requires { BeginsNoDigit word.now }
     ensures stood { Stood IsSmall (λ n. decimal n ++ word.now) result reader.old reader.new }
-    ensures again { ReadsAgain IsSmall (λ n. decimal n ++ word.now) Anything result reader.old reader.new }
+    ensures again { ReadsAgain IsSmall (λ n. decimal n ++ word.now) Anything
+        result reader.old reader.new }
     ensures fault { IfErr result (λ fault. fault ≡ LineFault.Form) }
 {
     let number = number(reader)?;
@@ -62,8 +64,10 @@ pub(crate) fn round(
     ports: &Ports,
 ) -> Result<RoundLine, LineFault>
     requires { AreTold ports.now.list }
-    ensures stood { Stood (IsAnyLine ports.now.list) (round_front ports.now.list) result reader.old reader.new }
-    ensures again { ReadsAgain (IsAnyLine ports.now.list) (round_front ports.now.list) EndsLine result reader.old reader.new }
+    ensures stood { Stood (IsAnyLine ports.now.list) (round_front ports.now.list)
+        result reader.old reader.new }
+    ensures again { ReadsAgain (IsAnyLine ports.now.list) (round_front ports.now.list) EndsLine
+        result reader.old reader.new }
 {
     let round = heading(reader)?;
     let flows = read_flows(alloc, reader, ports)?;

@@ -1,10 +1,10 @@
 //! Moves of round lines.
-ghost use Rattle.std.specs.Prelude.{◌≡◌, ◌≢◌, ◌++◌, ◌+◌, ℕ, List, Some, true, false, slice_get};
+ghost use Rattle.std.specs.Prelude.{◌≡◌, ◌≢◌, ◌++◌, ◌+◌, ℕ, List, Some, true, false};
 ghost use Rattle.reo_net_base.specs.declared.colouring.Move.{Move as AMove};
 ghost use Rattle.reo_trace.specs.RoundText.{move_text};
 ghost use Rattle.reo_trace_texts.specs.Lines.{AreTold, IsMove};
 ghost use Rattle.reo_trace_reader.specs.Ends.{Anything, EndsMove};
-ghost use Rattle.reo_trace_reader.specs.Fronts.{AreFlows, AreMoves, IsMoveFrom, IsPortFrom, flows_text, moves_front, port_text};
+ghost use Rattle.reo_trace_reader.specs.Fronts.{AreFlows, AreMoves, IsMoveFrom, IsPortFrom, flows_text, moves_front, port_text, text_at};
 ghost use Rattle.reo_trace_reader.specs.Reads.{Stood, ReadsAgain};
 
 use crate::item::item;
@@ -35,8 +35,10 @@ fn is_next(reader: &mut Reader, port: &Port) -> bool
 /// The number of a port, from this number on.
 fn port(reader: &mut Reader, ports: &Ports, from: usize) -> Result<usize, LineFault>
     requires { AreTold ports.now.list }
-    ensures stood { Stood (IsPortFrom ports.now.list from) (λ number. port_text (slice_get ports.now.list number)) result reader.old reader.new }
-    ensures again { ReadsAgain (IsPortFrom ports.now.list from) (λ number. port_text (slice_get ports.now.list number)) Anything result reader.old reader.new }
+    ensures stood { Stood (IsPortFrom ports.now.list from) (text_at ports.now.list)
+        result reader.old reader.new }
+    ensures again { ReadsAgain (IsPortFrom ports.now.list from) (text_at ports.now.list) Anything
+        result reader.old reader.new }
 {
     let mut number = from;
     while number < ports.list.len() {
@@ -56,8 +58,10 @@ fn one_move(
     from: usize,
 ) -> Result<Move, LineFault>
     requires { AreTold ports.now.list }
-    ensures stood { Stood (IsMoveFrom ports.now.list from) (move_text ports.now.list) result reader.old reader.new }
-    ensures again { ReadsAgain (IsMoveFrom ports.now.list from) (move_text ports.now.list) EndsMove result reader.old reader.new }
+    ensures stood { Stood (IsMoveFrom ports.now.list from) (move_text ports.now.list)
+        result reader.old reader.new }
+    ensures again { ReadsAgain (IsMoveFrom ports.now.list from) (move_text ports.now.list) EndsMove
+        result reader.old reader.new }
 {
     let port = port(reader, ports, from)?;
     let item = item(alloc, reader, &ports.list.at(port).kindred)?;
@@ -77,8 +81,10 @@ fn number_behind(ports: &Ports, one: &Move) -> usize
 /// The moves of a round, at least one, up to the entries.
 fn moves(alloc: Global, reader: &mut Reader, ports: &Ports) -> Result<List<Move>, LineFault>
     requires { AreTold ports.now.list }
-    ensures stood { Stood (AreMoves ports.now.list) (moves_front ports.now.list) result reader.old reader.new }
-    ensures again { ReadsAgain (AreMoves ports.now.list) (moves_front ports.now.list) Anything result reader.old reader.new }
+    ensures stood { Stood (AreMoves ports.now.list) (moves_front ports.now.list)
+        result reader.old reader.new }
+    ensures again { ReadsAgain (AreMoves ports.now.list) (moves_front ports.now.list) Anything
+        result reader.old reader.new }
 {
     let mut made = List::new(alloc);
     let first = one_move(alloc, reader, ports, 0)?;
@@ -102,8 +108,10 @@ pub(crate) fn read_flows(
     ports: &Ports,
 ) -> Result<Flows, LineFault>
     requires { AreTold ports.now.list }
-    ensures stood { Stood (AreFlows ports.now.list) (flows_text ports.now.list) result reader.old reader.new }
-    ensures again { ReadsAgain (AreFlows ports.now.list) (flows_text ports.now.list) Anything result reader.old reader.new }
+    ensures stood { Stood (AreFlows ports.now.list) (flows_text ports.now.list)
+        result reader.old reader.new }
+    ensures again { ReadsAgain (AreFlows ports.now.list) (flows_text ports.now.list) Anything
+        result reader.old reader.new }
 {
     if reader.word(b"idle | ") {
         return Ok(Flows {

@@ -52,7 +52,8 @@ fn value_of(digits: &[u8]) -> u64
 /// The number below 2^63 that these digits are: a leading zero is part of none.
 fn number_of(digits: &[u8]) -> Option<u64>
     requires { All IsDigit digits.now }
-    ensures { MatchOption result ((n : ℕ) → IsSmall n → digits.now ≢ decimal n) (λ n. IsSmall n × (digits.now ≡ decimal n)) }
+    ensures { MatchOption result ((n : ℕ) → IsSmall n → digits.now ≢ decimal n)
+        (λ n. IsSmall n × (digits.now ≡ decimal n)) }
 {
     if !has_few_digits(digits) {
         return None;

@@ -81,7 +81,8 @@ impl<'a> Reader<'a> {
     pub(crate) fn words(&mut self, first: &[u8], second: &[u8]) -> bool
         ensures taken { result ≡ true → self.old ≡ first.now ++ (second.now ++ self.new) }
         ensures stays { result ≡ false → self.new ≡ self.old }
-        ensures none { result ≡ false → (rest : List ℕ) → self.old ≢ first.now ++ (second.now ++ rest) }
+        ensures none { result ≡ false → (rest : List ℕ)
+            → self.old ≢ first.now ++ (second.now ++ rest) }
     {
         let mut ahead = Reader::new(self.left);
         if ahead.word(first) && ahead.word(second) {

@@ -1,5 +1,5 @@
 //! Reading whole traces, and single lines.
-ghost use Rattle.std.specs.Prelude.{◌≡◌, ◌++◌, Result, IfOk, IfErr, IsErrOf, MatchOption};
+ghost use Rattle.std.specs.Prelude.{◌≡◌, Result, IfOk, IfErr, IsErrOf, MatchOption};
 ghost use Rattle.reo_trace_texts.specs.declared.trace.Trace.{Trace as ATrace};
 ghost use Rattle.reo_trace_texts.specs.declared.trace.TraceLine.{TraceLine as ALine};
 ghost use Rattle.reo_trace_texts.specs.declared.fault.TraceFault.{TraceFault as AFault};
@@ -11,7 +11,7 @@ ghost use Rattle.reo_trace.specs.declared.line.RoundLine.{RoundLine as ARound};
 ghost use Rattle.reo_trace.specs.EndingText.{ending_text};
 ghost use Rattle.reo_trace.specs.RoundText.{round_text};
 ghost use Rattle.reo_trace_reader.specs.Ends.{Anything};
-ghost use Rattle.reo_trace_reader.specs.Fronts.{NoRound, NoEnding};
+ghost use Rattle.reo_trace_reader.specs.Fronts.{IsNext, NoEnding};
 ghost use Rattle.reo_trace_reader.specs.Reads.{Stood, ReadsAgain};
 ghost use Rattle.reo_trace_texts.specs.Answers.{Answers, IsRead, IsThis, LineAnswers, IsLineRead, IsThisLine};
 
@@ -32,8 +32,10 @@ fn numbered_round(
     number: u64,
 ) -> Result<RoundLine, LineFault>
     requires { AreTold ports.now.list }
-    ensures stood { Stood (IsLine ports.now.list number) (round_text ports.now.list) result reader.old reader.new }
-    ensures again { ReadsAgain (IsLine ports.now.list number) (round_text ports.now.list) Anything result reader.old reader.new }
+    ensures stood { Stood (IsLine ports.now.list number) (round_text ports.now.list)
+        result reader.old reader.new }
+    ensures again { ReadsAgain (IsLine ports.now.list number) (round_text ports.now.list) Anything
+        result reader.old reader.new }
 {
     let line = round(alloc, reader, ports)?;
     if line.round != number {
@@ -55,7 +57,7 @@ fn next_round<'a>(
     number: u64,
 ) -> Result<Option<RoundLine>, NoMemory>
     requires { AreTold ports.now.list }
-    ensures { IfOk result (λ line. MatchOption line (NoRound ports.now.list number reader.old × (reader.new ≡ reader.old)) (λ line. IsLine ports.now.list number line × (reader.old ≡ round_text ports.now.list line ++ reader.new))) }
+    ensures { IfOk result (IsNext ports.now.list number reader.old reader.new) }
 {
     let before = reader.left();
     match numbered_round(alloc, reader, ports, number) {
@@ -84,7 +86,8 @@ fn ended(reader: &mut Reader) -> Result<Ending, LineFault>
 
 /// The ending that a text is, with its line feed.
 fn last_line(text: &[u8]) -> Option<Ending>
-    ensures { MatchOption result (NoEnding text.now) (λ ending. IsEnding ending × (text.now ≡ ending_text ending)) }
+    ensures { MatchOption result (NoEnding text.now)
+        (λ ending. IsEnding ending × (text.now ≡ ending_text ending)) }
 {
     let mut reader = Reader::new(text);
     let Ok(ending) = ended(&mut reader) else {
@@ -95,7 +98,8 @@ fn last_line(text: &[u8]) -> Option<Ending>
 
 /// The ending that a line is, without its line feed.
 fn whole_ending(line: &[u8]) -> Option<Ending>
-    ensures { MatchOption result ((ending : AnEnding) → IsEndingText line.now ending → ⊥) (λ ending. IsEndingText line.now ending) }
+    ensures { MatchOption result ((ending : AnEnding) → IsEndingText line.now ending → ⊥)
+        (λ ending. IsEndingText line.now ending) }
 {
     let mut reader = Reader::new(line);
     let Ok(ending) = ending(&mut reader) else {
@@ -108,7 +112,8 @@ fn whole_ending(line: &[u8]) -> Option<Ending>
 fn whole_round(alloc: Global, line: &[u8], ports: &Ports) -> Result<RoundLine, LineFault>
     requires { AreTold ports.now.list }
     ensures found { IfOk result (λ round. IsRoundText ports.now.list line.now round) }
-    ensures none { IsErrOf result LineFault.Form → (round : ARound) → IsRoundText ports.now.list line.now round → ⊥ }
+    ensures none { IsErrOf result LineFault.Form → (round : ARound)
+        → IsRoundText ports.now.list line.now round → ⊥ }
 {
     let mut reader = Reader::new(line);
     let found = round(alloc, &mut reader, ports)?;

@@ -1,4 +1,3 @@
-use Rattle.std.proofs.Common.{◌∙◌, refl}
 use Rattle.reo_trace_reader.proofs.CellTexts.{jam_reads}
 use Rattle.reo_trace_reader.proofs.cells.cell.Goals as goal
 

@@ -1,10 +1,8 @@
-use Rattle.std.proofs.Common.{◌≡◌, ◌∙◌, ◌++◌, ◌∷◌, [], List, ℕ, subst, ap, sym, refl, length, length-append, arith}
-use Rattle.std.specs.List.{All}
-use Rattle.std.proofs.lemmas.List.Elements.{All-nil, All-cons, All-push}
+use Rattle.std.proofs.Common.{◌∙◌, ◌++◌, ◌∷◌, [], ap, sym}
 use Rattle.reo_trace.specs.RoundText.{entry_text}
 use Rattle.reo_trace_texts.specs.Lines.{IsEntry}
-use Rattle.reo_trace_reader.proofs.EntryRows.{none_reads, some_reads, ends_entry, ends_no_space, AreRead, first_read, next_read}
-use Rattle.reo_trace_reader.proofs.RowTexts.{left_more, left_less, left_none, row_stood, tails, IsLeft}
+use Rattle.reo_trace_reader.proofs.EntryRows.{none_reads, some_reads, ends_entry, ends_no_space, first_read, next_read}
+use Rattle.reo_trace_reader.proofs.RowTexts.{left_more, left_none}
 use Rattle.reo_trace_reader.proofs.Steps.{passes}
 use Rattle.reo_trace_reader.proofs.cells.entries.Goals as goal
 

@@ -1,4 +1,4 @@
-use Rattle.std.proofs.Common.{◌∙◌, ◌++◌, Ok, Err, ap, sym, refl}
+use Rattle.std.proofs.Common.{◌∙◌, ◌++◌, ap, sym}
 use Rattle.reo_trace.specs.declared.line.Entry.TheVariants.{One, Two}
 use Rattle.reo_trace.specs.RoundText.{cell_text}
 use Rattle.reo_trace_reader.proofs.CellTexts.{entry_parts, no_digit, two_reads, one_reads, two_stood, one_stood}

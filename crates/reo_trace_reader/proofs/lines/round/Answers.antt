@@ -1,4 +1,3 @@
-use Rattle.std.proofs.Common.{◌∙◌, sym, refl}
 use Rattle.reo_trace_reader.proofs.RoundTexts.{flows_of, round_parts, round_stood}
 use Rattle.reo_trace_reader.proofs.Steps.{passes}
 use Rattle.reo_trace_reader.proofs.lines.round.Goals as goal

@@ -1,5 +1,3 @@
-use Rattle.std.proofs.Common.{◌≡◌, ◌∙◌, ◌++◌, Some, refl, ap, sym, subst}
-use Rattle.std.specs.Prelude.{slice_get}
 use Rattle.std.proofs.lemmas.Option.{slice_get_within}
 use Rattle.reo_trace_laws.proofs.Moves.{kindred_at}
 use Rattle.reo_trace_reader.proofs.PortTexts.{port_there, move_stood, move_parts, move_item}

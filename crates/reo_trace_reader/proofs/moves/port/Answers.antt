@@ -1,4 +1,4 @@
-use Rattle.std.proofs.Common.{◌≡◌, ◌≤◌, ◌<◌, ◌∙◌, ◌++◌, refl, ap, sym, length, arith}
+use Rattle.std.proofs.Common.{◌<◌, ◌∙◌, ◌++◌, refl, ap, sym, length, arith}
 use Rattle.reo_trace_reader.specs.Fronts.{port_text}
 use Rattle.reo_trace_reader.proofs.PortTexts.{port_there, none_more, none_there, port_found}
 use Rattle.reo_trace_reader.proofs.moves.port.Goals as goal

@@ -1,4 +1,3 @@
-use Rattle.std.proofs.Common.{arith}
 use Rattle.std.proofs.lemmas.List.Elements.{All-more}
 use Rattle.reo_trace_reader.specs.Ends.{IsDigit}
 use Rattle.reo_trace_reader.proofs.number.digits_length.Goals as goal

@@ -1,7 +1,4 @@
-use Rattle.std.proofs.Common.{◌≡◌, ◌∙◌, sym, subst, take, drop}
-use Rattle.std.specs.List.{All}
-use Rattle.std.specs.Fmt.{decimal}
-use Rattle.reo_trace_reader.specs.Ends.{IsDigit, NoDigit}
+use Rattle.std.proofs.Common.{◌∙◌, sym}
 use Rattle.reo_trace_reader.proofs.Digits.{number_front, decimal_same}
 use Rattle.reo_trace_reader.proofs.number.number.Goals as goal
 

@@ -1,4 +1,4 @@
-use Rattle.std.proofs.Common.{◌≡◌, ◌∙◌, ◌++◌, ◌∷◌, refl, sym}
+use Rattle.std.proofs.Common.{◌∙◌, ◌∷◌, refl, sym}
 use Rattle.std.specs.Prelude.{codes}
 use Rattle.std.proofs.lemmas.List.{append_cancel_left}
 use Rattle.reo_trace_reader.proofs.LineTexts.{ending_then, ending_of}

@@ -1,4 +1,4 @@
-use Rattle.std.proofs.Common.{◌≡◌, ◌∙◌, ◌++◌, [], sym, append-nil}
+use Rattle.std.proofs.Common.{◌∙◌, [], sym, append-nil}
 use Rattle.reo_trace.specs.EndingText.{ending_text}
 use Rattle.reo_trace_reader.proofs.LineTexts.{not_done}
 use Rattle.reo_trace_reader.proofs.Steps.{form_none}

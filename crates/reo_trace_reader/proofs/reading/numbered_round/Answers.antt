@@ -1,4 +1,4 @@
-use Rattle.std.proofs.Common.{◌≡◌, ◌∙◌, ◌++◌, ◌∷◌, ap, refl, sym, arith}
+use Rattle.std.proofs.Common.{◌∙◌, ◌∷◌, ap, refl, sym, arith}
 use Rattle.std.specs.Prelude.{codes}
 use Rattle.std.proofs.lemmas.List.{append_cancel_left}
 use Rattle.reo_trace.specs.declared.line.RoundLine.{RoundLine}

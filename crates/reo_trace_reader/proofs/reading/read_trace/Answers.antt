@@ -1,4 +1,4 @@
-use Rattle.std.proofs.Common.{◌≡◌, ◌∙◌, subst, sym, refl, List, ℕ, arith}
+use Rattle.std.proofs.Common.{◌∙◌, subst, sym, refl}
 use Rattle.reo_trace_reader.specs.Fronts.{NoEnding}
 use Rattle.reo_trace_reader.proofs.TraceTexts.{more_read, round_longer, trace_is, wrong_is}
 use Rattle.reo_trace_reader.proofs.reading.read_trace.Goals as goal

@@ -1,4 +1,4 @@
-use Rattle.std.proofs.Common.{◌≡◌, ◌∙◌, [], sym}
+use Rattle.std.proofs.Common.{◌∙◌, [], sym}
 use Rattle.reo_trace_reader.proofs.LineTexts.{ending_whole, ending_is, done_nil, not_done}
 use Rattle.reo_trace_reader.proofs.Steps.{form_none}
 use Rattle.reo_trace_reader.proofs.reading.whole_ending.Goals as goal

@@ -1,4 +1,4 @@
-use Rattle.std.proofs.Common.{◌≡◌, ◌∙◌, [], sym}
+use Rattle.std.proofs.Common.{◌∙◌, [], sym}
 use Rattle.reo_values.proofs.Faults.{same_fault}
 use Rattle.reo_trace_reader.proofs.LineTexts.{round_whole, round_is, done_nil, not_done}
 use Rattle.reo_trace_reader.proofs.Steps.{form_none}

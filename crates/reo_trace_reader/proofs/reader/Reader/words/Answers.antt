@@ -1,4 +1,4 @@
-use Rattle.std.proofs.Common.{◌≡◌, ◌∙◌, sym, ◌++◌}
+use Rattle.std.proofs.Common.{◌∙◌, sym}
 use Rattle.std.proofs.lemmas.List.{append_cancel_left}
 use Rattle.reo_trace_reader.proofs.reader.Reader.words.Goals as goal
 use Rattle.reo_trace_reader.proofs.reader.Reader.words.Goals.{else-word-via-then-word+else-word-2, else-word-via-else-word}
