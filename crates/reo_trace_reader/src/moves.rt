@@ -24,7 +24,8 @@ pub(crate) struct Flows {
 fn is_next(reader: &mut Reader, port: &Port) -> bool
     ensures taken { result ≡ true → reader.old ≡ port_text (Some port.now) ++ reader.new }
     ensures stays { result ≡ false → reader.new ≡ reader.old }
-    ensures none { result ≡ false → (rest : List ℕ) → reader.old ≢ port_text (Some port.now) ++ rest }
+    ensures none { result ≡ false → (rest : List ℕ)
+        → reader.old ≢ port_text (Some port.now) ++ rest }
 {
     match port.way {
         Way::In => reader.words(port.name.as_slice(), b"!"),
