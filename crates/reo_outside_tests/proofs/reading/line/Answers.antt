@@ -4,4 +4,4 @@ use Rattle.reo_outside_tests.proofs.Told.{are_told}
 use Rattle.reo_outside_tests.proofs.reading.line.Goals as goal
 
 pub read_line-requires : goal.read_line-requires
-read_line-requires c = subst AreTold (sym c.in_ok.ensures) are_told
+read_line-requires c = subst AreTold (sym c.in_ok-ports.ensures) are_told

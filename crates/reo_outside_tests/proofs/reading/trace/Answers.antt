@@ -4,4 +4,4 @@ use Rattle.reo_outside_tests.proofs.Told.{are_told}
 use Rattle.reo_outside_tests.proofs.reading.trace.Goals as goal
 
 pub read_trace-requires : goal.read_trace-requires
-read_trace-requires c = subst AreTold (sym c.in_ok.ensures) are_told
+read_trace-requires c = subst AreTold (sym c.in_ok-ports.ensures) are_told
