@@ -168,8 +168,8 @@ module _ (one : OneAnswer) (spelled : (bytes : List ℕ) (p : Program) → SaysP
   }
 
 -- What stops a verification is the same whatever is read.
-pub claim_stop_read : {X : Type 0} {Reads : List Content → X → Type 0} (answers : List Content) (s : Stop) → IsReadAs Reads StopsVerify answers (Err s) → IsReadAs ReadsClaim StopsVerify answers (Err s)
-claim_stop_read answers (Missed role) h = h
-claim_stop_read answers (TooLong role) h = h
-claim_stop_read answers (Refused role r) h = h
-claim_stop_read answers NoMemory h = h
+pub claim_stop_read : {X : Type 0} (Reads : List Content → X → Type 0) (answers : List Content) (s : Stop) → IsReadAs Reads StopsVerify answers (Err s) → IsReadAs ReadsClaim StopsVerify answers (Err s)
+claim_stop_read Reads answers (Missed role) h = h
+claim_stop_read Reads answers (TooLong role) h = h
+claim_stop_read Reads answers (Refused role r) h = h
+claim_stop_read Reads answers NoMemory h = h

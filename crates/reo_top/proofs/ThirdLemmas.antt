@@ -52,7 +52,7 @@ module _ (r q p : Role) (n m k c s : List ℕ) (answers : List Content) (before 
     failed = g.failed ∙ ap (λ (xs : List (List ℕ)). xs ++ missed (k ∷ []) answers) (f.failed ∙ no_more before.failed);
     same = g.same ∙ f.same;
     told = if_both before.told (λ folder. AreTold folder (r ∷ q ∷ []) (n ∷ m ∷ []) (text c ∷ text s ∷ [])) (λ folder. AreTold folder (p ∷ []) (k ∷ []) answers) (λ folder. AreTold folder (r ∷ q ∷ p ∷ []) (n ∷ m ∷ k ∷ []) (text c ∷ text s ∷ answers))
-        (λ folder a b. (a.0, a.1.0, b)) f.told (subst (λ (o : Option Folder). IfSome o (λ folder. AreTold folder (p ∷ []) (k ∷ []) answers)) f.same g.told);
+        (λ folder a b. (a.0, (a.1.0, b))) f.told (subst (λ (o : Option Folder). IfSome o (λ folder. AreTold folder (p ∷ []) (k ∷ []) answers)) f.same g.told);
   }
 
 record HasTexts (r : Runnable) (answers : List Content) : Type 0 where
@@ -125,7 +125,7 @@ module _ {X : Type 0} (Reads : List Content → X → Type 0) (n m k : List ℕ)
     short_first has = subst AreShort has.is short
 
     short_all : (has : HasTexts work answers) (more : List Content) → AreShort more → AreShort (text has.circuit ∷ text has.script ∷ more)
-    short_all has more h = let first = short_first has in (first.0, first.1.0, h)
+    short_all has more h = let first = short_first has in (first.0, (first.1.0, h))
 
     -- The trace stops it.
     pub claim_stopped_third : (s : Stop) → IsReadFrom (ReadsTrace work.flat.ports) (StopsTrace work.flat.ports) (Trace ∷ []) (k ∷ []) (record { old = mid; new = after }) (Err s)

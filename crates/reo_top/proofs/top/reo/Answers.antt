@@ -3,6 +3,7 @@ use Rattle.std.specs.Prelude.{Some}
 use Rattle.reo_top.specs.declared.command.Command.TheVariants.{Run, Check, Print, Verify}
 use Rattle.reo_top.specs.Commands.{command_of, names_of}
 use Rattle.reo_top.specs.Limits.{limits_of}
+use Rattle.reo_top.specs.States.{files_change}
 use Rattle.reo_top.proofs.CompleteLemmas.{complete, complete_else}
 use Rattle.reo_top.proofs.HeadlineLemmas.{headline, headline_else}
 use Rattle.reo_top.proofs.TopLemmas.{answered_as, answered_none, run_answered}
@@ -47,7 +48,7 @@ returns-in-Some-Print-clause-answer g c =
 pub returns-in-Some-Verify-clause-headline : goal.returns-in-Some-Verify-clause-headline
 returns-in-Some-Verify-clause-headline g c =
     let is = command_seen c.args.words.now c.as_slice-words.result.now c.as_slice-words.ensures _ _ Verify c.command_of.ensures c.in-Some-Verify.is c.in-Some-Verify.field-0-is in
-    headline_else c.args.words.now _ _ _ (verify_is_no_run (command_of c.args.words.now) is)
+    headline_else c.args.words.now (files_change g.F.Files.told g.F.Files.failed g.F.Files.fetches c.args.files.now c.verify_claim.new.files) _ _ (verify_is_no_run (command_of c.args.words.now) is)
 
 pub returns-in-Some-Verify-clause-complete : goal.returns-in-Some-Verify-clause-complete
 returns-in-Some-Verify-clause-complete g c =
@@ -69,7 +70,7 @@ returns-in-Some-Verify-clause-answer g c =
 pub returns-in-None-clause-headline : goal.returns-in-None-clause-headline
 returns-in-None-clause-headline g c =
     let is = none_seen c.args.words.now c.as_slice-words.result.now c.as_slice-words.ensures _ c.command_of.ensures c.in-None.is in
-    headline_else c.args.words.now _ _ _ (no_run (command_of c.args.words.now) is)
+    headline_else c.args.words.now (files_change g.F.Files.told g.F.Files.failed g.F.Files.fetches c.args.files.now c.args.files.now) _ _ (no_run (command_of c.args.words.now) is)
 
 pub returns-in-None-clause-complete : goal.returns-in-None-clause-complete
 returns-in-None-clause-complete g c =
