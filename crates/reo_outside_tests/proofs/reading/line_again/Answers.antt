@@ -1,7 +1,7 @@
 use Rattle.std.proofs.Common.{sym, subst}
 use Rattle.reo_trace_texts.specs.Lines.{AreTold}
 use Rattle.reo_outside_tests.proofs.Told.{are_told}
-use Rattle.reo_outside_tests.proofs.reading.line.Goals as goal
+use Rattle.reo_outside_tests.proofs.reading.line_again.Goals as goal
 
 pub read_line-requires : goal.read_line-requires
 read_line-requires c = subst AreTold (sym c.in_ok-ports.ensures) are_told
