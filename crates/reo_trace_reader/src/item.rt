@@ -23,6 +23,7 @@ pub(crate) enum Spot {
     Escaped,
 }
 
+/// Where the byte behind this one stands.
 fn after(spot: Spot, byte: u8) -> Spot
     ensures { result ≡ spot_after spot byte }
 {
@@ -35,6 +36,7 @@ fn after(spot: Spot, byte: u8) -> Spot
     }
 }
 
+/// Whether a byte is a space outside of quotes.
 fn is_space(spot: Spot, byte: u8) -> bool
     ensures { result ≡ (is_outside spot && (byte == 32)) }
 {

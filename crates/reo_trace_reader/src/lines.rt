@@ -87,6 +87,7 @@ pub(crate) struct Part {
     pub knot: u64,
 }
 
+/// The numbers of a round and of a part, with the words between.
 fn read_part(reader: &mut Reader) -> Result<Part, LineFault>
     ensures stood { Stood IsPart part_text result reader.old reader.new }
     ensures again { ReadsAgain IsPart part_text NoDigit result reader.old reader.new }
@@ -104,6 +105,7 @@ pub(crate) struct Load {
     pub budget: u64,
 }
 
+/// A weight and a budget, with the words before them.
 fn read_load(reader: &mut Reader) -> Result<Load, LineFault>
     ensures stood { Stood IsLoad load_text result reader.old reader.new }
     ensures again { ReadsAgain IsLoad load_text NoDigit result reader.old reader.new }

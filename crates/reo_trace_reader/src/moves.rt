@@ -21,6 +21,7 @@ pub(crate) struct Flows {
     pub moves: List<Move>,
 }
 
+/// Takes the name of a port with the sign of its way, or answers false where it is not next.
 fn is_next(reader: &mut Reader, port: &Port) -> bool
     ensures taken { result ≡ true → reader.old ≡ port_text (Some port.now) ++ reader.new }
     ensures stays { result ≡ false → reader.new ≡ reader.old }

@@ -13,6 +13,7 @@ use reo_trace_texts::LineFault;
 /// The most digits that a number below 2^63 has.
 const MOST_DIGITS: usize = 19;
 
+/// How many digits stand first.
 fn digits_length(text: &[u8]) -> usize
     ensures within { result ≤ length text.now }
     ensures digits { All IsDigit (take result text.now) }
@@ -26,6 +27,7 @@ fn digits_length(text: &[u8]) -> usize
     text.len()
 }
 
+/// Whether digits are as many as a number below 2^63 may have, without a leading zero.
 fn has_few_digits(digits: &[u8]) -> bool
     ensures yes { result ≡ true → HasFewDigits digits.now }
     ensures no { result ≡ false → HasFewDigits digits.now → ⊥ }
@@ -37,6 +39,7 @@ fn has_few_digits(digits: &[u8]) -> bool
     }
 }
 
+/// The number that digits say.
 fn value_of(digits: &[u8]) -> u64
     requires few { length digits.now ≤ 19 }
     requires digits { All IsDigit digits.now }
