@@ -1,6 +1,5 @@
 -- The trace of a run, as a text and as a claim.
 use Rattle.std.proofs.Common.{◌≡◌, ℕ, ◌^◌, ◌≤◌, ◌<◌, List, length, sym, subst}
-use Rattle.reo_kinds.specs.declared.kind.Kind.{Kind}
 use Rattle.reo_trees.specs.declared.programs.Program.{Program}
 use Rattle.reo_trees.specs.Says.{SaysProgram}
 use Rattle.reo_trees_laws.specs.Spelled.{IsSpelled}

@@ -1,11 +1,9 @@
 -- How far runs may go.
-use Rattle.std.proofs.Common.{◌≡◌, ℕ, ◌^◌, ◌≤◌, Bool, true, false, cond, List, [], ◌∷◌, refl, subst, arith, nat_le, ◌&&◌}
+use Rattle.std.proofs.Common.{◌≡◌, ℕ, ◌^◌, ◌≤◌, Bool, true, false, cond, List, [], ◌∷◌, drop, refl, arith}
 use Rattle.std.specs.Prelude.{Option, Some, None, option_and_then, option_map, slice_get, slice_index_or}
 use Rattle.std.specs.Option.{unwrap_or}
-use Rattle.std.proofs.lemmas.Bool.Decides.{nat_tests}
-use Rattle.reo_top.specs.declared.command.Command.TheVariants.{Run}
 use Rattle.reo_top.specs.declared.setting.Setting.TheVariants.{Rounds}
-use Rattle.reo_top.specs.Commands.{numbers_in, others_of}
+use Rattle.reo_top.specs.Commands.{others_of}
 use Rattle.reo_top.specs.Limits.{limits_of}
 use Rattle.reo_top.specs.Settings.{number_of, behind, numbers_of, number_behind, stands}
 use Rattle.reo_top_laws.proofs.WordLemmas.{digits_said}
@@ -39,4 +37,4 @@ few_options : (words : List (List ℕ))
 few_options words = few_first (number_of Rounds words) (numbers_of [] (behind Rounds words)) (few_said words)
 
 pub few_rounds : (words : List (List ℕ)) → (limits_of words).rounds ≤ 10 ^ 9
-few_rounds words = few_options _
+few_rounds words = few_options (drop 2 (others_of words))
