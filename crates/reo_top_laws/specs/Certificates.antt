@@ -1,5 +1,5 @@
 -- Traces that a run has written.
-use Rattle.std.specs.Prelude.{ℕ, List, [], ◌∷◌, length}
+use Rattle.std.specs.Prelude.{ℕ, ◌<◌, ◌^◌, List, [], ◌∷◌, length}
 use Rattle.reo_trace.specs.declared.line.RoundLine.{RoundLine}
 use Rattle.reo_verdicts.specs.declared.verdict.Verdict.TheVariants.{Verified}
 use Rattle.reo_verdicts.specs.Said.{jammed}
@@ -17,9 +17,10 @@ pub record IsVerified (circuit script trace : List ℕ) (lines : List RoundLine)
   pub reads : ReadsClaim (text circuit ∷ text script ∷ text trace ∷ []) claimed
   pub judged : JudgesTrace claimed (verdict_line (Verified (length lines) (jammed lines))) done
 
--- So it is with the trace of a run that was written whole, whatever its ending.
+-- So it is with the trace of a run that was written whole, whatever its ending. The circuit has fewer than 2^64 bytes, as
+-- each that a command reads: that has at most 1,048,576.
 abbrev pub WrittenTracesAreVerified : Type 0
 WrittenTracesAreVerified =
     (words : List (List ℕ)) (circuit script trace : List ℕ) (r : Runnable) (code : ℕ)
-    → ReadsRun (text circuit ∷ text script ∷ []) r → (t : IsTraceOf (firsts_for (limits_of words)) r trace code)
+    → length circuit < 2 ^ 64 → ReadsRun (text circuit ∷ text script ∷ []) r → (t : IsTraceOf (firsts_for (limits_of words)) r trace code)
     → IsVerified circuit script trace t.lines

@@ -1,0 +1,4 @@
+pub mod CertificateLemmas
+pub mod DigitLemmas
+pub mod LimitLemmas
+pub mod WordLemmas
