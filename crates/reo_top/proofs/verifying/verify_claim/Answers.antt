@@ -1,4 +1,4 @@
-use Rattle.std.proofs.Common.{[], ◌∷◌, refl}
+use Rattle.std.proofs.Common.{List, [], ◌∷◌, refl}
 use Rattle.reo_top.specs.declared.command.Command.TheVariants.{Verify}
 use Rattle.reo_top.specs.declared.role.Role.TheVariants.{Circuit, Script, Trace}
 use Rattle.reo_top.specs.Claims.{ReadsClaim, StopsVerify, JudgesTrace}
