@@ -21,5 +21,6 @@ mod verifying;
 
 pub use command::{Command, command_of};
 pub use reo_verify::{Refusal, Verdict, verify_trace};
+pub use setting::Setting;
 pub use status::Status;
 pub use top::reo;

@@ -10,7 +10,7 @@ use reo_values::Bytes;
 
 /// An option of a command.
 #[derive(Clone, Copy, Debug, PartialEq, Eq)]
-pub(crate) enum Setting {
+pub enum Setting {
     /// `--rounds N`: how many rounds may be made.
     Rounds,
 }
