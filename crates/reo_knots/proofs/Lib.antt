@@ -1,0 +1,4 @@
+pub mod GroupLemmas
+pub mod LabelLemmas
+pub mod LinkLemmas
+pub mod NumberLemmas
