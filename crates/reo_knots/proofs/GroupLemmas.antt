@@ -64,12 +64,12 @@ picked_below test zero = record { increasing = λ k lt. absurd (omega arith); ex
 picked_below test (suc n) =
     let before = picked_below test n in
     rw (filter_suc test n) (elim (cases_Bool (test n)) [
-      | inl yes ↦ rw yes (record {
+      | inl is ↦ rw is (record {
         increasing = increasing_more (filter test (range_with_len 0 n)) n before.increasing (λ x h. ((before.exact x).0 h).0);
         exact = λ x. (
           λ h. elim (Contains-push_cases (filter test (range_with_len 0 n)) n x h) [
             | inl there ↦ let it = (before.exact x).0 there in (omega (arith, it.0), it.1)
-            | inr same ↦ (omega arith, ap test (sym same) ∙ yes)
+            | inr same ↦ (omega arith, ap test (sym same) ∙ is)
           ],
           λ h. elim (cases_eq x n) [
             | inl same ↦ rw same (Contains-push (filter test (range_with_len 0 n)) n)

@@ -1,5 +1,5 @@
 -- Numbers of labels.
-use Rattle.std.proofs.Common.{◌≡◌, ◌≢◌, ◌⊎◌, inl, inr, ℕ, ◌+◌, ◌<◌, ◌≤◌, ◌↔◌, List, [], ◌∷◌, ◌++◌, Option, Some, None, length, get_or, set, replicate, refl, ap, sym, ◌∙◌, arith, below_more, length-append, length-set, get_or-set_same, get_or-set_other}
+use Rattle.std.proofs.Common.{◌≡◌, ◌≢◌, ◌⊎◌, inl, inr, ℕ, ◌+◌, ◌<◌, ◌≤◌, ◌↔◌, List, [], ◌∷◌, ◌++◌, Option, Some, None, length, get_or, set, replicate, refl, ap, sym, ◌∙◌, arith, rules, below_more, length-append, length-set, get_or-set_same, get_or-set_other}
 use Rattle.std.specs.Prelude.{unwrap_or, max}
 use Rattle.std.proofs.Math.Seq.{get_or-append_seam}
 use Rattle.std.proofs.lemmas.Bool.{cases_eq, cases_lt}
@@ -12,29 +12,6 @@ pub record AreKnown (labels numbers : List ℕ) (n : ℕ) (known : List (Option 
   pub one_each : length known ≡ length labels
   pub told : (s : ℕ) → s < n → get_or known (get_or labels s 0) None ≡ Some (get_or numbers s 0)
   pub given : (l m : ℕ) → l < length labels → get_or known l None ≡ Some m → (s : ℕ) × (s < n) × (get_or labels s 0 ≡ l) × (get_or numbers s 0 ≡ m)
-
--- No side is numbered.
-pub none_numbered : (labels : List ℕ) → AreNumbers (same_label labels) 0 [] 0
-none_numbered labels = record {
-  one_each = refl;
-  in_range = λ s lt. absurd (omega arith);
-  same = λ s t s_in t_in. absurd (omega arith);
-  each = λ k lt. absurd (omega arith);
-  by_least = λ s k s_in lt. absurd (omega arith);
-}
-
-get_or_none : (n l : ℕ) → get_or (replicate n (None {A = ℕ})) l None ≡ None
-get_or_none n l = search rules
-
-pub none_known : (labels numbers : List ℕ) → AreKnown labels numbers 0 (replicate (length labels) None)
-none_known labels numbers = record {
-  one_each = search rules;
-  told = λ s lt. absurd (omega arith);
-  given = λ l m lt e. absurd (none_some m (sym (get_or_none (length labels) l) ∙ e));
-}
-  where
-    none_some : (m : ℕ) → None ≡ Some m → ⊥
-    none_some m e = cc
 
 -- What a label's number is: one that a side before has, or the next one.
 pub record IsNumbered (labels numbers : List ℕ) (n count number : ℕ) : Type 0 where
@@ -93,7 +70,8 @@ module _ (labels numbers : List ℕ) (n count : ℕ) (are : AreNumbers (same_lab
             (it.0, it.1, old_at it.0 (omega (arith, it.1)) ∙ it.2)
         | inr s_new ↦
             let s_is : s ≡ n = omega arith in
-            let below : k < number = rw new_at (rw s_is at lt) in
+            let at_last = rw s_is at lt in
+            let below : k < number = rw new_at at at_last in
             let it = are.each k (omega (arith, is.at_most)) in
             (it.0, omega (arith, it.1), old_at it.0 it.1 ∙ it.2)
       ];

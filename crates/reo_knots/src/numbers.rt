@@ -26,10 +26,10 @@ fn none_known(alloc: Global, count: usize) -> Result<Vec<Option<usize>>, NoMemor
 }
 
 /// The number of a label, which is the next one where it has none yet.
-fn number_of(known: &mut [Option<usize>], label: usize, next: usize) -> usize
-    requires { label < length known.old }
-    ensures number { result ≡ unwrap_or (slice_index_or known.old label None) next }
-    ensures known { known.new ≡ slice_set known.old label (Some result) }
+fn number_of(known: &mut Vec<Option<usize>>, label: usize, next: usize) -> usize
+    requires { label < length known.old.items }
+    ensures number { result ≡ unwrap_or (slice_index_or known.old.items label None) next }
+    ensures known { known.new.items ≡ slice_set known.old.items label (Some result) }
 {
     let number = known[label].unwrap_or(next);
     known[label] = Some(number);
