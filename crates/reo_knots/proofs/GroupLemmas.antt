@@ -1,12 +1,11 @@
 -- Lists of numbers, one for each knot.
-use Rattle.std.proofs.Common.{◌≡◌, ◌≢◌, ◌⊎◌, inl, inr, ℕ, zero, suc, ◌+◌, ◌<◌, ◌↔◌, List, [], ◌∷◌, ◌++◌, Bool, true, false, cond, length, get_or, set, refl, ap, sym, ◌∙◌, arith, add-one, zero-add, append-nil, below_more, length-append, length-set, get_or-set_same, get_or-set_other}
+use Rattle.std.proofs.Common.{◌≡◌, inl, inr, ℕ, zero, suc, ◌+◌, ◌<◌, ◌↔◌, List, [], ◌∷◌, ◌++◌, Bool, true, false, cond, length, get_or, refl, ap, sym, ◌∙◌, arith, add-one, zero-add, append-nil, length-append}
 use Rattle.std.specs.Prelude.{◌&&◌, Contains}
 use Rattle.std.specs.Bool.{◌==◌}
 use Rattle.std.specs.List.{filter, range_with_len}
 use Rattle.std.specs.List.Sorted.{IsStrictlyIncreasing}
 use Rattle.std.proofs.Math.Seq.{get_or-append_seam}
 use Rattle.std.proofs.lemmas.Bool.{cases_eq, cases_Bool}
-use Rattle.std.proofs.lemmas.Bool.Decides.{nat_tests}
 use Rattle.std.proofs.lemmas.List.{get_or_default, get_or_append_left}
 use Rattle.std.proofs.lemmas.List.Elements.{filter-append, Contains-push, Contains-push_cases, Contains-append_left}
 use Rattle.reo_knots.specs.Groups.{AreEmpty, IsAdded, ArePicked}
@@ -81,7 +80,7 @@ picked_below test (suc n) =
         increasing = before.increasing;
         exact = λ x. (
           λ h. let it = (before.exact x).0 h in (omega (arith, it.0), it.1),
-          λ h. (before.exact x).1 (elim (cases_eq x n) [ | inl same ↦ absurd (false_true (sym not_it ∙ ap test (sym same) ∙ h.1)) | inr other ↦ (omega (arith, h.0), h.1) ]),
+          λ h. (before.exact x).1 (elim (cases_eq x n) [ inl same ↦ absurd (false_true (sym not_it ∙ ap test (sym same) ∙ h.1)) | inr other ↦ (omega (arith, h.0), h.1) ]),
         );
       }))
     ])

@@ -1,5 +1,5 @@
 -- Knots from labels, numbers and lists.
-use Rattle.std.proofs.Common.{◌≡◌, ℕ, ◌+◌, ◌<◌, ◌↔◌, List, Bool, true, false, IsTrue, length, get_or, refl, ap, sym, ◌∙◌, arith}
+use Rattle.std.proofs.Common.{◌≡◌, ℕ, ◌<◌, ◌↔◌, List, Bool, true, false, IsTrue, length, get_or, ap, sym, ◌∙◌, arith}
 use Rattle.std.specs.Prelude.{◌==◌, ◌&&◌, nat_lt, filter}
 use Rattle.std.specs.List.{range_with_len}
 use Rattle.std.proofs.lemmas.Bool.Decides.{nat_tests}
@@ -12,9 +12,9 @@ use Rattle.reo_net_laws.specs.Parts.{SameKnot, IsKnot}
 use Rattle.reo_net_laws.specs.Sublists.{sides_in}
 use Rattle.reo_net_laws.proofs.Sides.{side_in_range}
 use Rattle.reo_net_laws.proofs.Sets.{and_left, and_right}
-use Rattle.reo_knots.specs.Knots.{Knotted, knotted, AreNumbers, AreKnots, AreThose, IsLoop, IsLoopOf, in_knot}
+use Rattle.reo_knots.specs.Knots.{knotted, AreNumbers, AreKnots, AreThose, IsLoopOf, in_knot}
 use Rattle.reo_knots.specs.Labels.{AreLabels, AreLoops, same_label}
-use Rattle.reo_knots.specs.Groups.{AreBelow, AreSidesBelow, AreLoopsBelow}
+use Rattle.reo_knots.specs.Groups.{AreSidesBelow, AreLoopsBelow}
 use Rattle.reo_knots.proofs.GroupLemmas.{same_picked, picked_those}
 
 below_true : (a b : ℕ) → nat_lt a b ≡ true → a < b

@@ -1,12 +1,11 @@
 -- Labels and the sides that have them.
-use Rattle.std.proofs.Common.{◌≡◌, ◌≢◌, ◌⊎◌, inl, inr, ℕ, ◌+◌, ◌<◌, ◌↔◌, List, [], ◌∷◌, ◌++◌, Bool, true, false, cond, length, get_or, set, take, refl, ap, sym, ◌∙◌, arith, below_more, length-append, length-set, get_or-set_same, get_or-set_other}
+use Rattle.std.proofs.Common.{◌≡◌, ◌≢◌, ◌⊎◌, inl, inr, ℕ, ◌+◌, ◌<◌, ◌↔◌, List, [], ◌∷◌, ◌++◌, length, get_or, set, take, ap, sym, ◌∙◌, arith, below_more, length-append, length-set, get_or-set_same, get_or-set_other}
 use Rattle.std.specs.Prelude.{Contains}
-use Rattle.std.specs.Bool.{◌==◌}
 use Rattle.std.proofs.Math.Seq.{get_or-append_seam}
 use Rattle.std.proofs.lemmas.Bool.{cases_eq}
 use Rattle.std.proofs.lemmas.Bool.Decides.{nat_tests}
-use Rattle.std.proofs.lemmas.List.{get_or_append_left, get_or_default, take_more}
-use Rattle.std.proofs.lemmas.List.Elements.{Contains-get_or, Contains-push, Contains-push_cases, Contains-append_left, Contains-append_right, Contains-append_cases}
+use Rattle.std.proofs.lemmas.List.{get_or_append_left, take_more}
+use Rattle.std.proofs.lemmas.List.Elements.{Contains-push, Contains-push_cases, Contains-append_left, Contains-append_right, Contains-append_cases}
 use Rattle.reo_knots.specs.Labels.{AreOwn, AreOwnMembers, AreMembers, AreRelabelled, IsWritten, renamed}
 
 -- One more side alone.
@@ -116,10 +115,13 @@ module _ (old new : List ℕ) (members : List (List ℕ)) (from to : ℕ) (are :
     λ h.
         let s_in : s < length old = omega (arith, h.0, is.one_each) in
         let each = is.each s s_in in
-        (are.exact k s d k_in).1 (s_in, elim (cases_eq (get_or old s 0) from) [
-          | inl same ↦ absurd (not_to (sym h.1 ∙ each ∙ renamed_same from to (get_or old s 0) same))
-          | inr other ↦ sym (renamed_other from to (get_or old s 0) other) ∙ sym each ∙ h.1
-        ]),
+        (are.exact k s d k_in).1 (
+          s_in,
+          elim (cases_eq (get_or old s 0) from) [
+            | inl same ↦ absurd (not_to (sym h.1 ∙ each ∙ renamed_same from to (get_or old s 0) same))
+            | inr other ↦ sym (renamed_other from to (get_or old s 0) other) ∙ sym each ∙ h.1
+          ],
+        ),
   )
 
   pub still_members : AreMembers new (set (set members from []) to (get_or members to [] ++ get_or members from []))

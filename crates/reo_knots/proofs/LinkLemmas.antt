@@ -1,5 +1,5 @@
 -- Labels of linked sides.
-use Rattle.std.proofs.Common.{◌≡◌, ◌≢◌, ◌⊎◌, inl, inr, ℕ, ◌+◌, ◌<◌, ◌↔◌, List, [], ◌∷◌, ◌++◌, Bool, true, false, length, get_or, refl, ap, sym, ◌∙◌, arith, below_more, IsTrue, length-append}
+use Rattle.std.proofs.Common.{◌≡◌, ◌⊎◌, inl, inr, ℕ, ◌+◌, ◌<◌, ◌↔◌, List, [], ◌∷◌, ◌++◌, Bool, true, false, length, get_or, refl, ap, sym, ◌∙◌, arith, below_more, IsTrue, length-append}
 use Rattle.std.specs.Bool.{◌==◌}
 use Rattle.std.proofs.Math.Seq.{get_or-append_seam}
 use Rattle.std.proofs.lemmas.Bool.{cases_eq}

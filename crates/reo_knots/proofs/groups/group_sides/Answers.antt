@@ -1,4 +1,4 @@
-use Rattle.std.proofs.Common.{ℕ, Bool, refl, true, get_or}
+use Rattle.std.proofs.Common.{refl, true, get_or}
 use Rattle.std.specs.Prelude.{◌==◌}
 use Rattle.reo_knots.proofs.GroupLemmas.{more_picked}
 use Rattle.reo_knots.proofs.groups.group_sides.Goals as goal

@@ -1,4 +1,4 @@
-use Rattle.std.proofs.Common.{◌≡◌, ◌∙◌, sym, length}
+use Rattle.std.proofs.Common.{◌∙◌, sym}
 use Rattle.reo_net_base.specs.declared.joint.Joint.{Joint}
 use Rattle.reo_net_base.specs.Net.{Net, net_of}
 use Rattle.reo_net_base.specs.Sides.{side_count}
@@ -18,7 +18,7 @@ returns g c =
     let net : Net = net_of g.P.Primitive.behaviour c.args.circuit.now in
     let by_label = rw c.as_slice.ensures.value at c.in_ok-numbers.ensures in
     let are : AreNumbers (SameKnot net) (side_count net) c.in_ok-numbers.field-0.numbers.items c.in_ok-numbers.field-0.count =
-        numbered net c.in_ok-labels.field-0.labels.items c.in_ok-numbers.field-0.numbers.items c.in_ok-numbers.field-0.count c.in_ok-labels.ensures.labels by_label in
+    numbered net c.in_ok-labels.field-0.labels.items c.in_ok-numbers.field-0.numbers.items c.in_ok-numbers.field-0.count c.in_ok-labels.ensures.labels by_label in
     let sides_are = rw c.as_slice-2.ensures.value at c.in_ok-sides.ensures in
     let loops_are = rw (c.as_slice-3.ensures.value, c.as_slice-4.ensures.value) at c.in_ok-loop_joints.ensures in
     knots net c.known.ensures.wired c.in_ok-numbers.field-0.numbers.items c.in_ok-labels.field-0.loops.items c.in_ok-numbers.field-0.count c.in_ok-sides.sides.items c.in_ok-loop_joints.loop_joints.items

@@ -1,4 +1,4 @@
-use Rattle.std.proofs.Common.{ℕ, ◌<◌, get_or, length, arith, rules}
+use Rattle.std.proofs.Common.{◌<◌, get_or, length, arith, rules}
 use Rattle.std.proofs.lemmas.List.Elements.{Contains-get_or}
 use Rattle.reo_knots.proofs.LabelLemmas.{more_written}
 use Rattle.reo_knots.proofs.labels.relabel.Goals as goal

@@ -1,7 +1,6 @@
 use Rattle.std.proofs.Common.{◌≡◌, ◌<◌, ℕ, List, [], get_or, length, ◌∙◌, arith}
 use Rattle.std.proofs.lemmas.List.{get_or_default}
 use Rattle.std.proofs.lemmas.Result.{on_ok_weaker}
-use Rattle.reo_knots.specs.Labels.{AreMembers, AreRelabelled, IsWritten}
 use Rattle.reo_knots.proofs.LabelLemmas.{renames, still_members}
 use Rattle.reo_knots.proofs.labels.rename.Goals as goal
 

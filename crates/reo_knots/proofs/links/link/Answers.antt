@@ -19,7 +19,7 @@ returns-clause-labels g c =
     let taker_is : (d : Joint) → side_at net (get_or net.joints c.args.index d).taker ≡ c.side_of-taker.result = λ d. ap (λ (j : Joint). side_at net j.taker) (c.joint-joint.ensures d) ∙ sym c.side_of-taker.ensures.number in
     on_ok_weaker c.join.result
     (linked_labels net c.known.ensures.wired c.args.index c.requires.index c.args.all.now.labels.items c.join.new.all.labels.items c.requires.labels c.side_of-giver.result c.side_of-taker.result
-        c.side_of-giver.ensures.in_range c.side_of-taker.ensures.in_range giver_is taker_is c.joint-joint.result)
+    c.side_of-giver.ensures.in_range c.side_of-taker.ensures.in_range giver_is taker_is c.joint-joint.result)
     c.join.ensures.labels
 
 pub returns-clause-closes : goal.returns-clause-closes
@@ -29,5 +29,5 @@ returns-clause-closes g c =
     let taker_is : (d : Joint) → side_at net (get_or net.joints c.args.index d).taker ≡ c.side_of-taker.result = λ d. ap (λ (j : Joint). side_at net j.taker) (c.joint-joint.ensures d) ∙ sym c.side_of-taker.ensures.number in
     IfOk-weaker c.join.result _ (λ closes. IsTrue closes ↔ IsLoop net c.args.index)
     (closes_loop net c.known.ensures.wired c.args.index c.requires.index c.args.all.now.labels.items c.join.new.all.labels.items c.requires.labels c.side_of-giver.result c.side_of-taker.result
-        c.side_of-giver.ensures.in_range c.side_of-taker.ensures.in_range giver_is taker_is)
+    c.side_of-giver.ensures.in_range c.side_of-taker.ensures.in_range giver_is taker_is)
     c.join.ensures.before
