@@ -16,18 +16,13 @@ use Rattle.reo_knots.specs.Knots.{knotted, AreNumbers, AreKnots, AreThose, IsLoo
 use Rattle.reo_knots.specs.Labels.{AreLabels, AreLoops, same_label}
 use Rattle.reo_knots.specs.Groups.{AreSidesBelow, AreLoopsBelow}
 use Rattle.reo_knots.proofs.GroupLemmas.{same_picked, picked_those}
+use Rattle.reo_knots.proofs.LinkLemmas.{eq_true, eq_self}
 
 below_true : (a b : ℕ) → nat_lt a b ≡ true → a < b
 below_true a b h = grind (arith, nat_tests)
 
 true_below : (a b : ℕ) → a < b → nat_lt a b ≡ true
 true_below a b h = grind (arith, nat_tests)
-
-eq_true : (a b : ℕ) → (a == b) ≡ true → a ≡ b
-eq_true a b h = grind (arith, nat_tests)
-
-eq_self : (a b : ℕ) → a ≡ b → (a == b) ≡ true
-eq_self a b h = grind (arith, nat_tests)
 
 -- Numbers of labels are numbers of knots.
 pub numbered : (net : Net) (labels numbers : List ℕ) (count : ℕ) → AreLabels net (length net.joints) labels → AreNumbers (same_label labels) (length labels) numbers count → AreNumbers (SameKnot net) (side_count net) numbers count

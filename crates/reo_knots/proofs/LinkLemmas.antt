@@ -15,10 +15,10 @@ use Rattle.reo_knots.specs.Knots.{IsLoop}
 use Rattle.reo_knots.specs.Labels.{AreOwn, AreLabels, AreLoops, AreRelabelled, AreMerged, same_label, renamed}
 use Rattle.reo_knots.proofs.LabelLemmas.{renamed_same, renamed_other}
 
-eq_true : (a b : ℕ) → (a == b) ≡ true → a ≡ b
+pub eq_true : (a b : ℕ) → (a == b) ≡ true → a ≡ b
 eq_true a b h = grind (arith, nat_tests)
 
-eq_self : (a b : ℕ) → a ≡ b → (a == b) ≡ true
+pub eq_self : (a b : ℕ) → a ≡ b → (a == b) ≡ true
 eq_self a b h = grind (arith, nat_tests)
 
 -- Where labels are the same along the first n joints, they are the same wherever these link.
@@ -69,8 +69,8 @@ module _ (net : Net) (wired : IsWired net) (n : ℕ) (n_in : n < length net.join
     link : (inside : ℕ → Bool) → IsClosedBelow net (n + 1) inside → (d : Joint) → inside p ≡ inside q
     link inside closed d = rw (p_is d, q_is d) at (closed.along n d (omega arith))
 
-    module _ (from to : ℕ) (changed : AreRelabelled old new from to) (end end' : ℕ) (end_in : end < side_count net) (end'_in : end' < side_count net) (end_is : get_or old end 0 ≡ from) (end'_is : get_or old end' 0 ≡ to)
-        (linked : (inside : ℕ → Bool) → IsClosedBelow net (n + 1) inside → inside end ≡ inside end')
+    module _ (from to : ℕ) (changed : AreRelabelled old new from to) (first second : ℕ) (first_in : first < side_count net) (second_in : second < side_count net) (first_is : get_or old first 0 ≡ from) (second_is : get_or old second 0 ≡ to)
+        (linked : (inside : ℕ → Bool) → IsClosedBelow net (n + 1) inside → inside first ≡ inside second)
         (meet : (d : Joint) → same_label new (side_at net (get_or net.joints n d).giver) (side_at net (get_or net.joints n d).taker)) where
       new_is : (s : ℕ) → s < side_count net → get_or new s 0 ≡ renamed from to (get_or old s 0)
       new_is s lt = changed.each s (omega (arith, are.one_each))
@@ -82,9 +82,9 @@ module _ (net : Net) (wired : IsWired net) (n : ℕ) (n_in : n < length net.join
             | inl same ↦ (are.exact s t s_in t_in).0 same inside before
             | inr apart ↦ elim apart [
               | inl up ↦
-                  (are.exact s end s_in end_in).0 (up.0 ∙ sym end_is) inside before ∙ linked inside closed ∙ (are.exact end' t end'_in t_in).0 (end'_is ∙ sym up.1) inside before
+                  (are.exact s first s_in first_in).0 (up.0 ∙ sym first_is) inside before ∙ linked inside closed ∙ (are.exact second t second_in t_in).0 (second_is ∙ sym up.1) inside before
               | inr down ↦
-                  (are.exact s end' s_in end'_in).0 (down.0 ∙ sym end'_is) inside before ∙ sym (linked inside closed) ∙ (are.exact end t end_in t_in).0 (end_is ∙ sym down.1) inside before
+                  (are.exact s second s_in second_in).0 (down.0 ∙ sym second_is) inside before ∙ sym (linked inside closed) ∙ (are.exact first t first_in t_in).0 (first_is ∙ sym down.1) inside before
             ]
           ]
 

@@ -21,13 +21,16 @@ pub record AreOwn (labels : List ℕ) (n : ℕ) : Type 0 where
 -- Each of the first n sides alone.
 pub record AreOwnMembers (members : List (List ℕ)) (n : ℕ) : Type 0 where
   pub one_each : length members ≡ n
-  pub alone : (k s : ℕ) (d : List ℕ) → k < n → Contains (slice_index_or members k d) s ↔ (s ≡ k)
+  pub alone : (k s : ℕ) (d : List ℕ) → k < n
+      → Contains (slice_index_or members k d) s ↔ (s ≡ k)
 
 -- For each label the sides that have it.
 pub record AreMembers (labels : List ℕ) (members : List (List ℕ)) : Type 0 where
   pub one_each : length members ≡ length labels
   pub in_range : AreInRange labels
-  pub exact : (k s : ℕ) (d : List ℕ) → k < length labels → Contains (slice_index_or members k d) s ↔ ((s < length labels) × (slice_index labels s ≡ k))
+  pub exact : (k s : ℕ) (d : List ℕ) → k < length labels
+      → Contains (slice_index_or members k d) s
+      ↔ ((s < length labels) × (slice_index labels s ≡ k))
 
 -- Some sides have this label, and the others their old ones.
 pub record IsWritten (old new sides : List ℕ) (label : ℕ) : Type 0 where
@@ -42,7 +45,8 @@ renamed from to label = cond (label == from) to label
 -- Each label that was the one is the other.
 pub record AreRelabelled (old new : List ℕ) (from to : ℕ) : Type 0 where
   pub one_each : length new ≡ length old
-  pub each : (s : ℕ) → s < length old → slice_index new s ≡ renamed from to (slice_index old s)
+  pub each : (s : ℕ) → s < length old
+      → slice_index new s ≡ renamed from to (slice_index old s)
 
 -- One of two labels has become the other.
 abbrev pub AreMerged : List ℕ → List ℕ → ℕ → ℕ → Type 0
@@ -51,7 +55,8 @@ AreMerged old new one other = AreRelabelled old new one other ⊎ AreRelabelled 
 -- Two sides have one label exactly where the first n joints link them.
 pub record AreLabels (net : Net) (n : ℕ) (labels : List ℕ) : Type 0 where
   pub one_each : length labels ≡ side_count net
-  pub exact : (s t : ℕ) → s < side_count net → t < side_count net → same_label labels s t ↔ IsLinked net n s t
+  pub exact : (s t : ℕ) → s < side_count net → t < side_count net
+      → same_label labels s t ↔ IsLinked net n s t
 
 -- For each of the first n joints whether it is a loop joint.
 pub record AreLoops (net : Net) (n : ℕ) (loops : List Bool) : Type 0 where

@@ -1,5 +1,5 @@
 //! The sides and the loop joints of each knot.
-ghost use Rattle.std.specs.Prelude.{◌≡◌, ◌<◌, ℕ, IfOk, OnOk, List as Items, length, slice_index, slice_index_or};
+ghost use Rattle.std.specs.Prelude.{◌≡◌, ◌<◌, IfOk, OnOk, length};
 ghost use Rattle.reo_net_base.specs.Net.{net_of};
 ghost use Rattle.reo_net_base.specs.Sides.{side_count};
 ghost use Rattle.reo_knots.specs.Groups.{AreEmpty, IsAdded, AreSidesBelow, AreLoopsBelow, AreBelow};
@@ -45,7 +45,8 @@ pub(crate) fn group_sides(
     count: usize,
 ) -> Result<Vec<List<usize>>, NoMemory>
     requires { AreBelow numbers.now count }
-    ensures { IfOk result (λ groups. AreSidesBelow numbers.now (length numbers.now) groups.items count) }
+    ensures { IfOk result (λ groups.
+        AreSidesBelow numbers.now (length numbers.now) groups.items count) }
 {
     let mut groups = no_groups(alloc, count)?;
     for side in 0..numbers.len() {

@@ -71,8 +71,8 @@ impl Knots {
 
 /// The knots of a circuit. `NoMemory` is out of memory.
 ///
-/// Each joint changes the labels of fewer sides than keep theirs, so a side changes its label only
-/// as often as the number of sides can be halved.
+/// Where a joint links two sets of sides, the smaller set changes its label. So among n sides each
+/// changes its label at most log n times.
 pub fn find_knots<P: Primitive>(alloc: Global, circuit: &Circuit<P>) -> Result<Knots, NoMemory>
     ensures { IfOk result (AreKnots (net_of P.behaviour circuit.now)) }
 {

@@ -1,5 +1,5 @@
 //! Labels of sides, and the sides of each label.
-ghost use Rattle.std.specs.Prelude.{◌≡◌, ◌≢◌, ◌↔◌, ◌<◌, ◌++◌, [], ℕ, IsTrue, IfOk, OnOk, List as Items, Contains, length, slice_index, slice_index_or, slice_set};
+ghost use Rattle.std.specs.Prelude.{◌≡◌, ◌≢◌, ◌↔◌, ◌<◌, ◌++◌, [], ℕ, IsTrue, IfOk, OnOk, Contains, length, slice_index, slice_index_or, slice_set};
 ghost use Rattle.reo_knots.specs.Labels.{AreOwn, AreOwnMembers, AreMembers, AreRelabelled, AreMerged, IsWritten};
 
 use reo_values::{List, NoMemory};
@@ -67,9 +67,9 @@ fn move_members(
     requires from { from < length members.old.items }
     requires to { to < length members.old.items }
     requires apart { from ≢ to }
-    ensures { let old = slice_index_or members.old.items from [] in
-        let others = slice_index_or members.old.items to [] in
-        OnOk result (members.new.items ≡ slice_set (slice_set members.old.items from []) to (others ++ old)) }
+    ensures { let old = members.old.items in
+        let both = slice_index_or old to [] ++ slice_index_or old from [] in
+        OnOk result (members.new.items ≡ slice_set (slice_set old from []) to both) }
 {
     let moved = mem::replace(&mut members[from], List::new(alloc));
     let others = &mut members[to];
@@ -116,8 +116,8 @@ pub(crate) fn join(
     requires other { other < length all.old.labels.items }
     requires members { AreMembers all.old.labels.items all.old.members.items }
     ensures members { OnOk result (AreMembers all.new.labels.items all.new.members.items) }
-    ensures labels { let old = all.old.labels.items in
-        OnOk result (AreMerged old all.new.labels.items (slice_index old side) (slice_index old other)) }
+    ensures labels { let old = all.old.labels.items in let new = all.new.labels.items in
+        OnOk result (AreMerged old new (slice_index old side) (slice_index old other)) }
     ensures before { let old = all.old.labels.items in
         IfOk result (λ before. IsTrue before ↔ (slice_index old side ≡ slice_index old other)) }
 {

@@ -30,8 +30,10 @@ fn link<P: Primitive>(
     requires members { AreMembers all.old.labels.items all.old.members.items }
     requires labels { AreLabels (net_of P.behaviour circuit.now) index all.old.labels.items }
     ensures members { OnOk result (AreMembers all.new.labels.items all.new.members.items) }
-    ensures labels { OnOk result (AreLabels (net_of P.behaviour circuit.now) (index + 1) all.new.labels.items) }
-    ensures closes { IfOk result (λ closes. IsTrue closes ↔ IsLoop (net_of P.behaviour circuit.now) index) }
+    ensures labels { let net = net_of P.behaviour circuit.now in
+        OnOk result (AreLabels net (index + 1) all.new.labels.items) }
+    ensures closes { let net = net_of P.behaviour circuit.now in
+        IfOk result (λ closes. IsTrue closes ↔ IsLoop net index) }
 {
     circuit.known();
     let joint = circuit.joint(index);
