@@ -1,0 +1,5 @@
+use Rattle.reo_knots.specs.Groups.{AreSidesBelow}
+use Rattle.reo_knots.proofs.groups.group_sides.Given as goal
+
+abbrev pub invariant-loop-side : goal.invariant-loop-side
+invariant-loop-side l = AreSidesBelow l.numbers l.side l.groups.items l.count

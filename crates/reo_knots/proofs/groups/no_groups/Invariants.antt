@@ -1,0 +1,5 @@
+use Rattle.reo_knots.specs.Groups.{AreEmpty}
+use Rattle.reo_knots.proofs.groups.no_groups.Given as goal
+
+abbrev pub invariant-loop-index : goal.invariant-loop-index
+invariant-loop-index l = AreEmpty l.groups l.index
