@@ -6,6 +6,8 @@ mod circuits;
 #[cfg(test)]
 mod kept;
 #[cfg(test)]
+mod knots;
+#[cfg(test)]
 mod orders;
 #[cfg(test)]
 mod pieces;
