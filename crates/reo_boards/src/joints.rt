@@ -1,0 +1,80 @@
+//! The joints of a side, and the rows that are not as their groups.
+ghost use Rattle.std.specs.Prelude.{◌≡◌, ◌<◌, ℕ, [], ◌∷◌, ◌++◌, IfOk, OnOk, length, slice_index_or};
+ghost use Rattle.reo_net_base.specs.Net.{net_of, all_sides};
+ghost use Rattle.reo_net_ends.specs.Ends.{AreEnds};
+ghost use Rattle.reo_boards.specs.Listing.{Lists, AreEmpty, IsAdded};
+ghost use Rattle.reo_boards.specs.Marks.{side_in, IsJointOf, IsApartAt};
+
+use reo_net_base::{End, Primitive};
+use reo_net_circuit::Circuit;
+use reo_net_ends::Ends;
+use reo_values::{List, NoMemory};
+use std::alloc::Global;
+
+/// So many lists, all empty.
+fn empty_lists(alloc: Global, count: usize) -> Result<List<List<usize>>, NoMemory>
+    ensures { IfOk result (AreEmpty count) }
+{
+    let mut lists = List::new(alloc);
+    for _index in 0..count {
+        lists.push(List::new(alloc))?;
+    }
+    Ok(lists)
+}
+
+/// Adds a number to one of the lists.
+fn add(lists: &mut List<List<usize>>, place: usize, number: usize) -> Result<(), NoMemory>
+    requires { place < length lists.old }
+    ensures { OnOk result (IsAdded lists.old lists.new place number) }
+{
+    let list = lists.at_mut(place);
+    list.push(number)?;
+    Ok(())
+}
+
+/// The joints of a side, in the order of its ends.
+pub(crate) fn joints_of<P: Primitive>(
+    alloc: Global,
+    circuit: &Circuit<P>,
+    ends: &Ends,
+    side: usize,
+) -> Result<List<usize>, NoMemory>
+    requires ends { AreEnds (net_of P.behaviour circuit.now) ends.now }
+    requires side { side < length (all_sides (net_of P.behaviour circuit.now).primitives) }
+    ensures { IfOk result (Lists (IsJointOf (net_of P.behaviour circuit.now) side)) }
+{
+    circuit.known();
+    let owner = circuit.owner(side);
+    let primitive = circuit.primitive(owner.primitive);
+    let mut joints = List::new(alloc);
+    for end in 0..primitive.ends() {
+        if primitive.side_of(end) == owner.side {
+            joints.push(ends.joint_at(End {
+                primitive: owner.primitive,
+                end,
+            }))?;
+        }
+    }
+    Ok(joints)
+}
+
+/// The rows of a side that are not as their groups at each end of its primitive.
+pub(crate) fn apart_of<P: Primitive>(
+    alloc: Global,
+    circuit: &Circuit<P>,
+    side: usize,
+) -> Result<List<List<usize>>, NoMemory>
+    requires side { side < length (all_sides (net_of P.behaviour circuit.now).primitives) }
+    ensures ends { IfOk result (λ lists. length lists ≡ (side_in (net_of P.behaviour circuit.now) side).of.ends) }
+    ensures apart { IfOk result (λ lists. (end : ℕ) → Lists (IsApartAt (net_of P.behaviour circuit.now) side end) (slice_index_or lists end [])) }
+{
+    circuit.known();
+    let owner = circuit.owner(side);
+    let mut lists = empty_lists(alloc, circuit.primitive(owner.primitive).ends())?;
+    for row in 0..circuit.rows(side) {
+        if let Some(end) = circuit.apart(side, row) {
+            add(&mut lists, end, row)?;
+        }
+    }
+    Ok(lists)
+}

@@ -1,0 +1,4 @@
+pub mod Queues
+pub mod Narrow
+pub mod Beginning
+pub mod ListedSets

@@ -1,0 +1,18 @@
+//! Narrowing sets of joint values to the greatest supported ones.
+#![tactic(auto)]
+
+mod line;
+mod narrowing;
+mod queue;
+mod sets;
+mod state;
+mod thinning;
+mod waking;
+
+pub use line::Line;
+pub use narrowing::{other_side, propagate};
+pub use queue::Queue;
+pub use sets::{Sets, begin_with, narrow};
+pub use state::{State, begin};
+pub use thinning::Loss;
+pub use waking::wake;

@@ -1,0 +1,147 @@
+//! Narrowing: what is not used goes, until each side is at rest.
+ghost use Rattle.std.specs.Prelude.{◌≡◌, ◌⊎◌, ◌<◌, ◌≤◌, ◌+◌, ℕ, true, [], OnOk, length};
+ghost use Rattle.reo_net_base.specs.Net.{net_of, all_sides};
+ghost use Rattle.reo_net_laws.specs.Parts.{IsClosed};
+ghost use Rattle.reo_support.specs.declared.value.JointValue.{JointValue as Standing};
+ghost use Rattle.reo_support.specs.Values.{Family, AtSide};
+ghost use Rattle.reo_support.specs.Supported.{IsUsed, IsThinned};
+ghost use Rattle.reo_boards.specs.Marks.{IsJointOf};
+ghost use Rattle.reo_propagate_rows.specs.Flags.{flag, count_set, AreAlikeTables};
+ghost use Rattle.reo_propagate_rows.specs.Rows.{AreTables, IsSifted, IsSeen};
+ghost use Rattle.reo_propagate_rows.specs.Sets.{family_of, names_of, IsReady};
+ghost use Rattle.reo_propagate.specs.Queues.{among};
+ghost use Rattle.reo_propagate.specs.Narrow.{OtherRowsMayGo, IsTended, nobody, IsReduced, IsRevised, AreGreatest};
+ghost use Rattle.reo_propagate.specs.Beginning.{IsSearch};
+
+use crate::state::State;
+use crate::thinning::thin;
+use crate::waking::wake;
+use reo_boards::{Board, giver_side, taker_side};
+use reo_net_base::Primitive;
+use reo_net_circuit::Circuit;
+use reo_net_ends::Ends;
+use reo_propagate_rows::{see, sift};
+use reo_values::{List, NoMemory, Value};
+
+/// The other side of a joint of a side. This takes no memory.
+pub fn other_side<P: Primitive>(circuit: &Circuit<P>, side: usize, joint: usize) -> usize
+    requires { IsJointOf (net_of P.behaviour circuit.now) side joint }
+    ensures at { IsJointOf (net_of P.behaviour circuit.now) result joint }
+    ensures two { (t : ℕ) → AtSide (net_of P.behaviour circuit.now) joint t → (t ≡ side) ⊎ (t ≡ result) }
+    ensures in_range { result < length (all_sides (net_of P.behaviour circuit.now).primitives) }
+{
+    let giver = giver_side(circuit, joint);
+    if giver == side {
+        taker_side(circuit, joint)
+    } else {
+        giver
+    }
+}
+
+/// Takes what is not used at a side away from a joint there. Where it lost a value its other side waits, or can stay.
+fn tend_joint<P: Primitive>(
+    circuit: &Circuit<P>,
+    boards: &List<Board>,
+    ends: &Ends,
+    items: &List<List<Value>>,
+    sides: &[usize],
+    state: &mut State,
+    side: usize,
+    joint: usize,
+) -> Result<(), NoMemory>
+    requires ready { IsReady (net_of P.behaviour circuit.now) boards.now ends.now items.now state.old.alive }
+    requires tables { AreTables (net_of P.behaviour circuit.now) items.now state.old.rows }
+    requires closed { IsClosed (net_of P.behaviour circuit.now) (among sides.now) }
+    requires side { side < length (all_sides (net_of P.behaviour circuit.now).primitives) }
+    requires inside { among sides.now side ≡ true }
+    requires joint { IsJointOf (net_of P.behaviour circuit.now) side joint }
+    requires sifted { (start : Family) × IsSifted (net_of P.behaviour circuit.now) (names_of items.now) start side state.old.rows }
+    requires tended { IsTended (net_of P.behaviour circuit.now) (names_of items.now) (among sides.now) side state.old.alive state.old.rows state.old.queue }
+    ensures rows { OtherRowsMayGo side state.old.rows state.new.rows }
+    ensures tables { AreTables (net_of P.behaviour circuit.now) items.now state.new.rows }
+    ensures alike { AreAlikeTables state.old.alive state.new.alive }
+    ensures less { (i p : ℕ) → flag state.new.alive i p ≡ true → flag state.old.alive i p ≡ true }
+    ensures elsewhere { (i p : ℕ) → (i ≡ joint → ⊥) → flag state.new.alive i p ≡ flag state.old.alive i p }
+    ensures thinned { (start : Family) → IsSifted (net_of P.behaviour circuit.now) (names_of items.now) start side state.old.rows → IsSeen (net_of P.behaviour circuit.now) (names_of items.now) start side state.old.rows → IsThinned (net_of P.behaviour circuit.now) (names_of items.now) side start (family_of state.old.alive) → IsThinned (net_of P.behaviour circuit.now) (names_of items.now) side start (family_of state.new.alive) × ((v : Standing) → family_of state.new.alive joint v ≡ true → IsUsed (net_of P.behaviour circuit.now) (names_of items.now) start side joint v) }
+    ensures tended { OnOk result (IsTended (net_of P.behaviour circuit.now) (names_of items.now) (among sides.now) side state.new.alive state.new.rows state.new.queue) }
+    ensures fewer { OnOk result (count_set state.new.alive + length state.new.queue.line ≤ count_set state.old.alive + length state.old.queue.line) }
+{
+    let _ = sides;
+    let other = other_side(circuit, side, joint);
+    let loss = thin(circuit, boards, ends, items, &mut state.alive, &state.rows, side, joint);
+    if loss.some {
+        wake(
+            circuit,
+            boards,
+            ends,
+            items,
+            &state.alive,
+            &mut state.rows,
+            &mut state.queue,
+            other,
+            joint,
+            loss.flow,
+        )?;
+    }
+    Ok(())
+}
+
+/// Takes what is not used at a side away from all joints there.
+fn revise<P: Primitive>(
+    circuit: &Circuit<P>,
+    boards: &List<Board>,
+    ends: &Ends,
+    items: &List<List<Value>>,
+    sides: &[usize],
+    state: &mut State,
+    side: usize,
+) -> Result<(), NoMemory>
+    requires ready { IsReady (net_of P.behaviour circuit.now) boards.now ends.now items.now state.old.alive }
+    requires tables { AreTables (net_of P.behaviour circuit.now) items.now state.old.rows }
+    requires closed { IsClosed (net_of P.behaviour circuit.now) (among sides.now) }
+    requires side { side < length (all_sides (net_of P.behaviour circuit.now).primitives) }
+    requires inside { among sides.now side ≡ true }
+    requires tended { IsTended (net_of P.behaviour circuit.now) (names_of items.now) (among sides.now) side state.old.alive state.old.rows state.old.queue }
+    ensures revised { IsRevised (net_of P.behaviour circuit.now) (names_of items.now) side state.old.alive state.new.alive }
+    ensures tables { AreTables (net_of P.behaviour circuit.now) items.now state.new.rows }
+    ensures tended { OnOk result (IsTended (net_of P.behaviour circuit.now) (names_of items.now) (among sides.now) (nobody (net_of P.behaviour circuit.now)) state.new.alive state.new.rows state.new.queue) }
+    ensures fewer { OnOk result (count_set state.new.alive + length state.new.queue.line ≤ count_set state.old.alive + length state.old.queue.line) }
+{
+    circuit.known();
+    sift(circuit, boards, ends, items, &state.alive, &mut state.rows, side)?;
+    see(circuit, boards, ends, items, &state.alive, &mut state.rows, side);
+    let joints = &boards.at(side).joints;
+    for index in 0..joints.len() {
+        let joint = *joints.at(index);
+        tend_joint(circuit, boards, ends, items, sides, state, side, joint)?;
+    }
+    Ok(())
+}
+
+/// Takes what is not used at these sides away from their joints, until none of them waits. What is left are the greatest supported
+/// sets within the old ones; the values of other joints stay. Only what waits is looked at: after a few joints lost values and their
+/// sides were let wait it costs what changes.
+///
+/// After `NoMemory`, which is out of memory, some of what is not used may still be there, and nothing else has gone.
+pub fn propagate<P: Primitive>(
+    circuit: &Circuit<P>,
+    boards: &List<Board>,
+    ends: &Ends,
+    items: &List<List<Value>>,
+    sides: &[usize],
+    state: &mut State,
+) -> Result<(), NoMemory>
+    requires search { IsSearch (net_of P.behaviour circuit.now) boards.now ends.now items.now (among sides.now) state.old }
+    requires closed { IsClosed (net_of P.behaviour circuit.now) (among sides.now) }
+    requires sides { (s : ℕ) → among sides.now s ≡ true → s < length (all_sides (net_of P.behaviour circuit.now).primitives) }
+    ensures reduced { IsReduced (net_of P.behaviour circuit.now) (names_of items.now) (among sides.now) state.old.alive state.new.alive }
+    ensures search { OnOk result (IsSearch (net_of P.behaviour circuit.now) boards.now ends.now items.now (among sides.now) state.new) }
+    ensures empty { OnOk result (state.new.queue.line ≡ []) }
+    ensures greatest { OnOk result (AreGreatest (net_of P.behaviour circuit.now) (names_of items.now) (among sides.now) state.old.alive state.new.alive) }
+{
+    circuit.known();
+    while let Some(side) = state.queue.next() {
+        revise(circuit, boards, ends, items, sides, state, side)?;
+    }
+    Ok(())
+}

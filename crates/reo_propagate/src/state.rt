@@ -1,0 +1,70 @@
+//! What a search keeps: the values and the rows that are left, and the sides that wait.
+use crate::line::Line;
+use crate::queue::Queue;
+use reo_boards::Board;
+use reo_net_base::Primitive;
+use reo_net_circuit::Circuit;
+use reo_net_ends::Ends;
+use reo_propagate_rows::{FLOWS, Flags, Rows, all_rows};
+use reo_values::{List, NoMemory, Value};
+use std::alloc::Global;
+
+ghost use Rattle.std.specs.Prelude.{◌≡◌, ◌<◌, ◌^◌, ℕ, true, [], IfOk, length, slice_index, slice_index_or};
+ghost use Rattle.reo_net_base.specs.Net.{net_of, all_sides};
+ghost use Rattle.reo_net_ends.specs.Ends.{AreEnds};
+ghost use Rattle.reo_boards.specs.Boards.{AreBoards};
+ghost use Rattle.reo_propagate.specs.Queues.{among};
+ghost use Rattle.reo_propagate.specs.Beginning.{IsSearch, IsWhole};
+
+/// The values and the rows that are left, and the sides that wait.
+#[derive(Drop)]
+pub struct State {
+    pub alive: Flags,
+    pub rows: Rows,
+    pub queue: Queue,
+}
+
+/// A flag for each value of each joint, all set.
+fn all_values(alloc: Global, items: &List<List<Value>>) -> Result<Flags, NoMemory> {
+    let mut alive = Flags::new(alloc);
+    for joint in 0..items.len() {
+        alive.push_row(alloc, items.at(joint).len() + FLOWS, true)?;
+    }
+    Ok(alive)
+}
+
+/// All sides wait, and these stand in the line.
+pub(crate) fn all_waiting(alloc: Global, count: usize, sides: &[usize]) -> Result<Queue, NoMemory> {
+    let mut waits = List::new(alloc);
+    for _side in 0..count {
+        waits.push(true)?;
+    }
+    let mut line = Line::new(alloc);
+    for side in sides {
+        line.join(*side)?;
+    }
+    Ok(Queue { waits, line })
+}
+
+/// All values and all rows, where these sides wait. `NoMemory` is out of memory.
+pub fn begin<P: Primitive>(
+    alloc: Global,
+    circuit: &Circuit<P>,
+    boards: &List<Board>,
+    ends: &Ends,
+    items: &List<List<Value>>,
+    sides: &[usize],
+) -> Result<State, NoMemory>
+    requires boards { AreBoards (net_of P.behaviour circuit.now) boards.now }
+    requires ends { AreEnds (net_of P.behaviour circuit.now) ends.now }
+    requires items { length items.now ≡ length circuit.now.joints }
+    requires few { (j : ℕ) → length (slice_index_or items.now j []) < 2 ^ 32 }
+    ensures search { IfOk result (IsSearch (net_of P.behaviour circuit.now) boards.now ends.now items.now (among sides.now)) }
+    ensures whole { IfOk result (IsWhole (net_of P.behaviour circuit.now) items.now) }
+{
+    let _ = (boards, ends);
+    let alive = all_values(alloc, items)?;
+    let rows = all_rows(alloc, circuit, items)?;
+    let queue = all_waiting(alloc, circuit.sides(), sides)?;
+    Ok(State { alive, rows, queue })
+}

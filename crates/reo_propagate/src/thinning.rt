@@ -1,0 +1,63 @@
+//! Taking away what is not used at a side from a joint there.
+ghost use Rattle.std.specs.Prelude.{◌≡◌, ◌<◌, ℕ, length, slice_index_or, []};
+ghost use Rattle.reo_net_base.specs.Net.{net_of, all_sides};
+ghost use Rattle.reo_support.specs.Values.{Family};
+ghost use Rattle.reo_support.specs.Supported.{IsThinned};
+ghost use Rattle.reo_boards.specs.Boards.{AreBoards};
+ghost use Rattle.reo_boards.specs.Marks.{IsJointOf};
+ghost use Rattle.reo_propagate_rows.specs.Groups.{AreNoted};
+ghost use Rattle.reo_propagate_rows.specs.Rows.{AreTables, IsSifted, IsSeen};
+ghost use Rattle.reo_propagate_rows.specs.Sets.{family_of, names_of, IsReady};
+ghost use Rattle.reo_propagate.specs.Narrow.{IsThinnedTo};
+
+use reo_boards::Board;
+use reo_net_base::Primitive;
+use reo_net_circuit::Circuit;
+use reo_net_ends::Ends;
+use reo_propagate_rows::{FLOWS, Flags, Rows, is_used, used_marks};
+use reo_values::{List, Value};
+
+/// Whether a joint lost a value, and whether one with flow.
+#[derive(Clone, Copy, Debug, PartialEq, Eq)]
+pub struct Loss {
+    pub some: bool,
+    pub flow: bool,
+}
+
+/// Takes the values of a joint away that are not used at a side. This takes no memory.
+pub fn thin<P: Primitive>(
+    circuit: &Circuit<P>,
+    boards: &List<Board>,
+    ends: &Ends,
+    items: &List<List<Value>>,
+    alive: &mut Flags,
+    rows: &Rows,
+    side: usize,
+    joint: usize,
+) -> Loss
+    requires ready { IsReady (net_of P.behaviour circuit.now) boards.now ends.now items.now alive.old }
+    requires tables { AreTables (net_of P.behaviour circuit.now) items.now rows.now }
+    requires side { side < length (all_sides (net_of P.behaviour circuit.now).primitives) }
+    requires joint { IsJointOf (net_of P.behaviour circuit.now) side joint }
+    requires noted { AreNoted (net_of P.behaviour circuit.now) rows.now.live side rows.now.notes }
+    ensures { (start : Family) → IsSifted (net_of P.behaviour circuit.now) (names_of items.now) start side rows.now → IsSeen (net_of P.behaviour circuit.now) (names_of items.now) start side rows.now → IsThinned (net_of P.behaviour circuit.now) (names_of items.now) side start (family_of alive.old) → IsThinnedTo (net_of P.behaviour circuit.now) (names_of items.now) side joint (length (slice_index_or alive.old joint [])) start alive.old alive.new result }
+{
+    let _ = ends;
+    let marks = used_marks(circuit, boards, items, rows, side, joint);
+    let mut loss = Loss {
+        some: false,
+        flow: false,
+    };
+    for code in 0..alive.width(joint) {
+        if alive.is_set(joint, code)
+            && !is_used(circuit, items, rows, side, joint, code, marks)
+        {
+            alive.clear(joint, code);
+            loss = Loss {
+                some: true,
+                flow: loss.flow || code >= FLOWS,
+            };
+        }
+    }
+    loss
+}

@@ -1,0 +1,49 @@
+//! Letting a side wait where a joint of it lost values.
+ghost use Rattle.std.specs.Prelude.{◌≡◌, ◌<◌, true, false, OnOk, OnErr, length, slice_index_or};
+ghost use Rattle.reo_net_base.specs.Net.{net_of, all_sides};
+ghost use Rattle.reo_boards.specs.Marks.{IsJointOf};
+ghost use Rattle.reo_propagate_rows.specs.Groups.{AreNoted};
+ghost use Rattle.reo_propagate_rows.specs.Rows.{AreTables};
+ghost use Rattle.reo_propagate_rows.specs.Sets.{family_of, IsReady};
+ghost use Rattle.reo_propagate.specs.Narrow.{IsAwakeOrStays};
+
+use crate::queue::Queue;
+use reo_boards::Board;
+use reo_net_base::Primitive;
+use reo_net_circuit::Circuit;
+use reo_net_ends::Ends;
+use reo_propagate_rows::{Flags, Rows, can_stay};
+use reo_values::{List, NoMemory, Value};
+
+/// Lets a side wait where a joint of it lost values, unless it can stay at rest: no value with flow was lost there, and each of
+/// its rows has the mark of some value there, but for some that it can do without. `NoMemory` is out of memory.
+pub fn wake<P: Primitive>(
+    circuit: &Circuit<P>,
+    boards: &List<Board>,
+    ends: &Ends,
+    items: &List<List<Value>>,
+    alive: &Flags,
+    rows: &mut Rows,
+    queue: &mut Queue,
+    side: usize,
+    joint: usize,
+    lost_flow: bool,
+) -> Result<(), NoMemory>
+    requires ready { IsReady (net_of P.behaviour circuit.now) boards.now ends.now items.now alive.now }
+    requires tables { AreTables (net_of P.behaviour circuit.now) items.now rows.old }
+    requires side { side < length (all_sides (net_of P.behaviour circuit.now).primitives) }
+    requires joint { IsJointOf (net_of P.behaviour circuit.now) side joint }
+    requires waits { length queue.old.waits ≡ length (all_sides (net_of P.behaviour circuit.now).primitives) }
+    requires noted { slice_index_or queue.old.waits side true ≡ false → AreNoted (net_of P.behaviour circuit.now) rows.old.live side rows.old.notes }
+    ensures tables { AreTables (net_of P.behaviour circuit.now) items.now rows.new }
+    ensures awake { OnOk result (IsAwakeOrStays (net_of P.behaviour circuit.now) (family_of alive.now) rows.old rows.new queue.old queue.new side joint lost_flow) }
+    ensures err { OnErr result (rows.new ≡ rows.old) }
+{
+    if *queue.waits.at(side) {
+        return queue.wake(side);
+    }
+    if !lost_flow && can_stay(circuit, boards, ends, items, alive, rows, side, joint) {
+        return Ok(());
+    }
+    queue.wake(side)
+}

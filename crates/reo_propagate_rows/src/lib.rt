@@ -1,0 +1,22 @@
+//! Which rows of a side work, and which values they use.
+#![tactic(auto)]
+
+mod flags;
+mod flows;
+mod groups;
+mod items;
+mod marks;
+mod rows;
+mod seeing;
+mod sifting;
+mod standing;
+mod usage;
+
+pub use flags::Flags;
+pub use groups::{Group, Odd};
+pub use marks::{FLOWS, Marks, mark_seen, marks_left};
+pub use rows::{Rows, all_rows};
+pub use seeing::see;
+pub use sifting::sift;
+pub use standing::can_stay;
+pub use usage::{is_used, used_marks};

@@ -1,0 +1,5 @@
+pub mod Places
+pub mod Holding
+pub mod Settling
+pub mod Walking
+pub mod Arranged

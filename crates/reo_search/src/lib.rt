@@ -1,0 +1,14 @@
+//! The first assignment of a knot.
+#![tactic(auto)]
+
+mod arranging;
+mod hold;
+mod part;
+mod place;
+mod places;
+mod walk;
+
+pub use arranging::{arrange, first_by};
+pub use part::Part;
+pub use place::Place;
+pub use places::places_of;
