@@ -1,0 +1,5 @@
+pub mod Added
+pub mod InOrder
+pub mod Laws
+pub mod Standing
+pub mod Supplied

@@ -1,0 +1,34 @@
+//! Lists in which no item stands twice.
+ghost use Rattle.std.specs.Prelude.{◌≡◌, ◌<◌, ◌↔◌, IsTrue, OnOk, Contains, length, nat_lt};
+ghost use Rattle.reo_reach.specs.Added.{AreAdded};
+
+use reo_values::{List, NoMemory, Value, same_item};
+
+/// Whether there are more than 256 items.
+pub(crate) fn is_full(items: &[Value]) -> bool
+    ensures { result ≡ nat_lt 256 (length items.now) }
+{
+    items.len() > 256
+}
+
+/// Whether an item is in a list.
+fn is_among(items: &[Value], item: &Value) -> bool
+    ensures { IsTrue result ↔ Contains items.now item.now }
+{
+    for other in items {
+        if same_item(other, item) {
+            return true;
+        }
+    }
+    false
+}
+
+/// Adds an item, unless it is there.
+pub(crate) fn add(items: &mut List<Value>, item: Value) -> Result<(), NoMemory>
+    ensures { OnOk result (AreAdded items.old items.new (λ x. x ≡ item)) }
+{
+    if is_among(items.as_slice(), &item) {
+        return Ok(());
+    }
+    items.push(item)
+}
