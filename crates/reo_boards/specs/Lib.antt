@@ -1,3 +1,5 @@
 pub mod Listing
 pub mod Marks
+pub mod Grouping
+pub mod Flowing
 pub mod Boards

@@ -4,9 +4,14 @@ ghost use Rattle.reo_net_base.specs.Net.{net_of, all_sides, row_count};
 ghost use Rattle.reo_boards.specs.declared.board.Flow.{Flow as Flowing};
 ghost use Rattle.reo_boards.specs.Boards.{IsFlow};
 ghost use Rattle.reo_boards.specs.Listing.{Lists};
-ghost use Rattle.reo_boards.specs.Marks.{side_in, IsJointOf, IsApartAt};
+ghost use Rattle.reo_boards.specs.Flowing.{AreBlank, AreAdded, IsFlowAdded};
+ghost use Rattle.reo_boards.specs.Grouping.{ByGroup, IsOfGroup, IsAsGroup, IsAsSomeGroup};
+ghost use Rattle.reo_boards.specs.Marks.{side_in, groups_in, common_in, end_at, IsJointOf, IsApartAt};
+ghost use Rattle.reo_net_base.specs.declared.mark.Mark.TheVariants.{F};
+ghost use Rattle.reo_net_laws.specs.Ends.{IsRowOf};
 
 use crate::board::Flow;
+use crate::joints::{add, empty_lists};
 use crate::marks::{end_at, giver_side, mark_at_joint};
 use reo_net_base::{Mark, Primitive};
 use reo_net_circuit::Circuit;
@@ -14,7 +19,9 @@ use reo_values::{List, NoMemory};
 use std::alloc::Global;
 
 /// No joints yet, for so many rows.
-fn no_flows(alloc: Global, rows: usize) -> Result<List<Flow>, NoMemory> {
+fn no_flows(alloc: Global, rows: usize) -> Result<List<Flow>, NoMemory>
+    ensures { IfOk result (AreBlank rows) }
+{
     let mut flows = List::new(alloc);
     for _row in 0..rows {
         flows.push(Flow {
@@ -30,20 +37,22 @@ fn rows_by_group<P: Primitive>(
     alloc: Global,
     circuit: &Circuit<P>,
     side: usize,
-) -> Result<List<List<usize>>, NoMemory> {
-    let mut lists = List::new(alloc);
-    for _group in 0..circuit.groups(side) {
-        lists.push(List::new(alloc))?;
-    }
+) -> Result<List<List<usize>>, NoMemory>
+    requires side { side < length (all_sides (net_of P.behaviour circuit.now).primitives) }
+    ensures { IfOk result (ByGroup (net_of P.behaviour circuit.now) side) }
+{
+    let mut lists = empty_lists(alloc, circuit.groups(side))?;
     for row in 0..circuit.rows(side) {
-        let list: &mut List<usize> = lists.at_mut(circuit.group(side, row));
-        list.push(row)?;
+        add(&mut lists, circuit.group(side, row), row)?;
     }
     Ok(lists)
 }
 
 /// A row flows at a joint.
-fn add_flow(flows: &mut List<Flow>, row: usize, joint: usize, gives: bool) -> Result<(), NoMemory> {
+fn add_flow(flows: &mut List<Flow>, row: usize, joint: usize, gives: bool) -> Result<(), NoMemory>
+    requires { row < length flows.old }
+    ensures { OnOk result (IsFlowAdded flows.old flows.new row joint gives) }
+{
     let flow = flows.at_mut(row);
     if gives {
         flow.giving.push(joint)
@@ -57,9 +66,18 @@ fn add_group<P: Primitive>(
     circuit: &Circuit<P>,
     flows: &mut List<Flow>,
     side: usize,
+    group: usize,
     rows: &[usize],
     joint: usize,
-) -> Result<(), NoMemory> {
+) -> Result<(), NoMemory>
+    requires side { side < length (all_sides (net_of P.behaviour circuit.now).primitives) }
+    requires one_each { length flows.old ≡ row_count (side_in (net_of P.behaviour circuit.now) side) }
+    requires joint { IsJointOf (net_of P.behaviour circuit.now) side joint }
+    requires group { group < groups_in (net_of P.behaviour circuit.now) side }
+    requires rows { Lists (IsOfGroup (net_of P.behaviour circuit.now) side group) rows.now }
+    requires flows { common_in (net_of P.behaviour circuit.now) side group (end_at (net_of P.behaviour circuit.now) side joint).end ≡ F }
+    ensures { OnOk result (AreAdded (net_of P.behaviour circuit.now) side joint (IsAsGroup (net_of P.behaviour circuit.now) side group joint) flows.old flows.new) }
+{
     let gives = giver_side(circuit, joint) == side;
     let end = end_at(circuit, side, joint).end;
     for index in 0..rows.len() {
@@ -78,12 +96,41 @@ fn add_apart<P: Primitive>(
     side: usize,
     rows: &[usize],
     joint: usize,
-) -> Result<(), NoMemory> {
+) -> Result<(), NoMemory>
+    requires side { side < length (all_sides (net_of P.behaviour circuit.now).primitives) }
+    requires one_each { length flows.old ≡ row_count (side_in (net_of P.behaviour circuit.now) side) }
+    requires joint { IsJointOf (net_of P.behaviour circuit.now) side joint }
+    requires rows { Lists (IsApartAt (net_of P.behaviour circuit.now) side (end_at (net_of P.behaviour circuit.now) side joint).end) rows.now }
+    ensures { OnOk result (AreAdded (net_of P.behaviour circuit.now) side joint (IsApartAt (net_of P.behaviour circuit.now) side (end_at (net_of P.behaviour circuit.now) side joint).end) flows.old flows.new) }
+{
     let gives = giver_side(circuit, joint) == side;
     for index in 0..rows.len() {
         let row = rows[index];
         if mark_at_joint(circuit, side, row, joint) == Mark::F {
             add_flow(flows, row, joint, gives)?;
+        }
+    }
+    Ok(())
+}
+
+/// The rows of the groups that flow at a joint.
+fn add_groups<P: Primitive>(
+    circuit: &Circuit<P>,
+    flows: &mut List<Flow>,
+    side: usize,
+    by_group: &[List<usize>],
+    joint: usize,
+) -> Result<(), NoMemory>
+    requires side { side < length (all_sides (net_of P.behaviour circuit.now).primitives) }
+    requires one_each { length flows.old ≡ row_count (side_in (net_of P.behaviour circuit.now) side) }
+    requires joint { IsJointOf (net_of P.behaviour circuit.now) side joint }
+    requires groups { ByGroup (net_of P.behaviour circuit.now) side by_group.now }
+    ensures { OnOk result (AreAdded (net_of P.behaviour circuit.now) side joint (IsAsSomeGroup (net_of P.behaviour circuit.now) side joint) flows.old flows.new) }
+{
+    let end = end_at(circuit, side, joint).end;
+    for group in 0..by_group.len() {
+        if circuit.common(side, group, end) == Mark::F {
+            add_group(circuit, flows, side, group, by_group[group].as_slice(), joint)?;
         }
     }
     Ok(())
@@ -97,13 +144,17 @@ fn add_joint<P: Primitive>(
     by_group: &[List<usize>],
     apart: &[List<usize>],
     joint: usize,
-) -> Result<(), NoMemory> {
+) -> Result<(), NoMemory>
+    requires side { side < length (all_sides (net_of P.behaviour circuit.now).primitives) }
+    requires one_each { length flows.old ≡ row_count (side_in (net_of P.behaviour circuit.now) side) }
+    requires joint { IsJointOf (net_of P.behaviour circuit.now) side joint }
+    requires groups { ByGroup (net_of P.behaviour circuit.now) side by_group.now }
+    requires ends { length apart.now ≡ (side_in (net_of P.behaviour circuit.now) side).of.ends }
+    requires apart { (end : ℕ) → Lists (IsApartAt (net_of P.behaviour circuit.now) side end) (slice_index_or apart.now end []) }
+    ensures { OnOk result (AreAdded (net_of P.behaviour circuit.now) side joint (IsRowOf (net_of P.behaviour circuit.now) side) flows.old flows.new) }
+{
     let end = end_at(circuit, side, joint).end;
-    for group in 0..by_group.len() {
-        if circuit.common(side, group, end) == Mark::F {
-            add_group(circuit, flows, side, by_group[group].as_slice(), joint)?;
-        }
-    }
+    add_groups(circuit, flows, side, by_group, joint)?;
     add_apart(circuit, flows, side, apart[end].as_slice(), joint)
 }
 

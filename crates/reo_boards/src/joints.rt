@@ -12,7 +12,7 @@ use reo_values::{List, NoMemory};
 use std::alloc::Global;
 
 /// So many lists, all empty.
-fn empty_lists(alloc: Global, count: usize) -> Result<List<List<usize>>, NoMemory>
+pub(crate) fn empty_lists(alloc: Global, count: usize) -> Result<List<List<usize>>, NoMemory>
     ensures { IfOk result (AreEmpty count) }
 {
     let mut lists = List::new(alloc);
@@ -23,7 +23,7 @@ fn empty_lists(alloc: Global, count: usize) -> Result<List<List<usize>>, NoMemor
 }
 
 /// Adds a number to one of the lists.
-fn add(lists: &mut List<List<usize>>, place: usize, number: usize) -> Result<(), NoMemory>
+pub(crate) fn add(lists: &mut List<List<usize>>, place: usize, number: usize) -> Result<(), NoMemory>
     requires { place < length lists.old }
     ensures { OnOk result (IsAdded lists.old lists.new place number) }
 {
@@ -72,8 +72,9 @@ pub(crate) fn apart_of<P: Primitive>(
     let owner = circuit.owner(side);
     let mut lists = empty_lists(alloc, circuit.primitive(owner.primitive).ends())?;
     for row in 0..circuit.rows(side) {
-        if let Some(end) = circuit.apart(side, row) {
-            add(&mut lists, end, row)?;
+        match circuit.apart(side, row) {
+            None => {}
+            Some(end) => add(&mut lists, end, row)?,
         }
     }
     Ok(lists)
