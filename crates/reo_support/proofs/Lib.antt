@@ -1,0 +1,6 @@
+pub mod Fitting
+pub mod Forest
+pub mod Labels
+pub mod Narrowing
+pub mod Rows
+pub mod Works
