@@ -1,3 +1,5 @@
+pub mod Assigning
+pub mod Choosing
 pub mod Fitting
 pub mod Forest
 pub mod Labels
