@@ -1,19 +1,18 @@
 -- Each assignment by values is one by rows and items.
-use Rattle.std.proofs.Common.{◌≡◌, ◌≢◌, inl, inr, ℕ, ◌<◌, List, Bool, true, length, get_or, Option, None, Some, IsSome, refl, ap, sym, ◌∙◌, subst, arith}
-use Rattle.std.specs.Option.{option_and_then, is_some}
+use Rattle.std.proofs.Common.{◌≡◌, inl, inr, ℕ, ◌<◌, List, Bool, true, length, get_or, Option, None, Some, IsSome, refl, ap, sym, ◌∙◌, subst, arith}
+use Rattle.std.specs.Option.{option_and_then}
 use Rattle.std.proofs.lemmas.List.{get_or_default}
 use Rattle.std.proofs.lemmas.List.FromFn.{get_or-map-range_with_len, length-map-range_with_len}
 use Rattle.reo_values.specs.declared.value.Value.{Value}
-use Rattle.reo_net_base.specs.declared.mark.Mark.{Mark}
-use Rattle.reo_net_base.specs.declared.mark.Mark.TheVariants.{F, G, R, J}
+use Rattle.reo_net_base.specs.declared.mark.Mark.TheVariants.{F}
 use Rattle.reo_net_base.specs.declared.joint.End.{End}
 use Rattle.reo_net_base.specs.declared.joint.Joint.{Joint}
 use Rattle.reo_net_base.specs.Behaviour.{Behaviour}
 use Rattle.reo_net_base.specs.Lawful.{GivesAt}
 use Rattle.reo_net_base.specs.Marks.{marks_match}
-use Rattle.reo_net_base.specs.Net.{Net, Side, all_sides, row_count, behaviour_at, end_of, side_at, row_at, mark_at}
+use Rattle.reo_net_base.specs.Net.{Net, behaviour_at, end_of, side_at, row_at, mark_at}
 use Rattle.reo_net_base.specs.Sides.{side_count}
-use Rattle.reo_net_base.specs.Colouring.{taken_at, given_at, lets_in, JointMatches, HasItem, ItemFits}
+use Rattle.reo_net_base.specs.Colouring.{taken_at, given_at, lets_in, JointMatches, ItemFits}
 use Rattle.reo_net_base.specs.Wired.{IsWired, IsEnd, IsOrder}
 use Rattle.reo_net_laws.specs.Ends.{mark_in, from_in}
 use Rattle.reo_net_laws.specs.Parts.{IsClosed, IsAssignment}
@@ -21,10 +20,10 @@ use Rattle.reo_net_laws.proofs.Items.{along_order}
 use Rattle.reo_net_laws.proofs.Sides.{row_is, side_in_range}
 use Rattle.reo_support.specs.declared.value.JointValue.{JointValue}
 use Rattle.reo_support.specs.declared.value.JointValue.TheVariants.{Flow, RG, GR, GG, Jam}
-use Rattle.reo_support.specs.Values.{giver_mark, taker_mark, Names, Choice, Family, item_named, items_of, no_joint, joint_of, giver_side, taker_side}
+use Rattle.reo_support.specs.Values.{giver_mark, taker_mark, Names, Choice, item_named, items_of, no_joint, joint_of, giver_side, taker_side}
 use Rattle.reo_support.specs.Fitting.{given_for, given_in, passes_in, GivesValue, TakesValue, Fits}
-use Rattle.reo_support.specs.Chosen.{IsChosen, rows_of}
-use Rattle.reo_support.specs.Works.{IsRowAt, IsDependent}
+use Rattle.reo_support.specs.Chosen.{rows_of}
+use Rattle.reo_support.specs.Works.{IsRowAt}
 use Rattle.reo_support.specs.Ties.{IsNamed, ChoicesAreAssignments}
 use Rattle.reo_support.proofs.Fitting.{items_count, item_chosen, giver_row, decided, given_by_state, given_by_joint}
 use Rattle.reo_support.proofs.Fitting.Decided.{by_none, by_joint}

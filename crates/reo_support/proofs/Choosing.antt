@@ -12,17 +12,17 @@ use Rattle.reo_net_base.specs.Marks.{marks_match}
 use Rattle.reo_net_base.specs.Net.{Net, no_side, side_at, row_at, mark_at}
 use Rattle.reo_net_base.specs.Sides.{side_count}
 use Rattle.reo_net_base.specs.First.{positions, order_by}
-use Rattle.reo_net_base.specs.Colouring.{given_at, JointMatches, HasItem, ItemFits}
+use Rattle.reo_net_base.specs.Colouring.{given_at, HasItem, ItemFits}
 use Rattle.reo_net_base.specs.Wired.{IsWired, IsEnd}
-use Rattle.reo_net_laws.specs.Parts.{is_joint_inside, IsClosed, IsAssignment}
+use Rattle.reo_net_laws.specs.Parts.{IsClosed, IsAssignment}
 use Rattle.reo_net_laws.specs.Keys.{within}
 use Rattle.reo_net_laws.proofs.Items.{given_same}
 use Rattle.reo_net_laws.proofs.Sides.{below_or, row_is, same_side_at, row_in_table, gives_at}
 use Rattle.reo_support.specs.declared.value.JointValue.{JointValue}
 use Rattle.reo_support.specs.declared.value.JointValue.TheVariants.{Flow, RG, GR, GG, Jam}
 use Rattle.reo_support.specs.Values.{giver_mark, taker_mark, Names, Choice, Family, item_named, items_of, no_joint, joint_of, giver_side, taker_side, AtSide}
-use Rattle.reo_support.specs.Fitting.{given_in, GivesValue, TakesValue, Fits, IsFrom}
-use Rattle.reo_support.specs.Chosen.{IsChosen, rows_of}
+use Rattle.reo_support.specs.Fitting.{GivesValue, TakesValue, Fits, IsFrom}
+use Rattle.reo_support.specs.Chosen.{rows_of}
 use Rattle.reo_support.specs.Ties.{AreSides, AreNamed, HasNamed, HasChoice, AssignmentsAreChoices, FirstByValues}
 use Rattle.reo_support.proofs.Fitting.{items_count, item_chosen}
 use Rattle.reo_support.proofs.Rows.{at_inside}

@@ -1,5 +1,5 @@
 -- Rows that fit values, and what the items that they give hang on.
-use Rattle.std.proofs.Common.{◌≡◌, ◌⊎◌, inl, inr, ℕ, zero, suc, ◌+◌, ◌<◌, List, [], ◌∷◌, Bool, true, false, cond, length, get_or, Option, None, Some, IsSome, refl, ap, sym, ◌∙◌, subst, arith}
+use Rattle.std.proofs.Common.{◌≡◌, inl, inr, ℕ, zero, suc, ◌<◌, List, [], ◌∷◌, Bool, true, false, cond, length, get_or, Option, None, Some, IsSome, refl, ap, sym, ◌∙◌, subst, arith}
 use Rattle.std.specs.Option.{option_and_then, is_some}
 use Rattle.std.proofs.lemmas.List.{get_or_default}
 use Rattle.std.proofs.lemmas.List.FromFn.{get_or-map-range_with_len, length-map-range_with_len}
@@ -8,8 +8,7 @@ use Rattle.reo_net_base.specs.declared.mark.Mark.{Mark}
 use Rattle.reo_net_base.specs.declared.mark.Mark.TheVariants.{F, G, R, J}
 use Rattle.reo_net_base.specs.declared.joint.End.{End}
 use Rattle.reo_net_base.specs.declared.joint.Joint.{Joint}
-use Rattle.reo_net_base.specs.Behaviour.{Behaviour}
-use Rattle.reo_net_base.specs.Net.{Net, behaviour_at, end_of, end_eq, side_at, side_of_end}
+use Rattle.reo_net_base.specs.Net.{Net, end_of, end_eq, side_at, side_of_end}
 use Rattle.reo_net_base.specs.Colouring.{taken_at}
 use Rattle.reo_net_base.specs.Wired.{IsWired, IsEnd}
 use Rattle.reo_net_laws.specs.Ends.{mark_in, from_in, IsRowOf}
@@ -17,7 +16,7 @@ use Rattle.reo_net_laws.proofs.Items.{end_is}
 use Rattle.reo_net_laws.proofs.Joined.{ends_joined, source_taken}
 use Rattle.reo_net_laws.proofs.Sides.{side_at_is}
 use Rattle.reo_support.specs.declared.value.JointValue.{JointValue}
-use Rattle.reo_support.specs.Values.{giver_mark, taker_mark, Names, Choice, item_named, items_of, no_joint, joint_of, giver_side, taker_side, AtSide}
+use Rattle.reo_support.specs.Values.{Names, Choice, item_named, items_of, no_joint, joint_of, giver_side, taker_side, AtSide}
 use Rattle.reo_support.specs.Fitting.{given_for, given_in, GivesValue, TakesValue, Fits}
 use Rattle.reo_support.specs.Works.{IsRowAt, Follows, IsDependent, IsGivenAs}
 use Rattle.reo_support.proofs.Labels.{same_eq}

@@ -1,5 +1,6 @@
 pub mod Assigning
 pub mod Choosing
+pub mod Existence
 pub mod Fitting
 pub mod Forest
 pub mod Labels

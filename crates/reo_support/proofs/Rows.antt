@@ -1,6 +1,5 @@
 -- On a knot with one value at each loop joint: each row that works with values of a supported family stands in an assignment.
-use Rattle.std.proofs.Common.{◌≡◌, ◌⊎◌, inl, inr, ℕ, zero, suc, ◌<◌, Bool, true, length, refl, ap, sym, ◌∙◌, subst, arith}
-use Rattle.std.proofs.lemmas.Bool.{cases_eq}
+use Rattle.std.proofs.Common.{◌≡◌, inl, inr, ℕ, ◌<◌, Bool, true, length, ap, sym, ◌∙◌, subst, arith}
 use Rattle.std.proofs.lemmas.List.{get_or_default}
 use Rattle.reo_net_base.specs.declared.joint.Joint.{Joint}
 use Rattle.reo_net_base.specs.Net.{Net, side_at}
@@ -8,16 +7,15 @@ use Rattle.reo_net_base.specs.Wired.{IsWired}
 use Rattle.reo_net_laws.specs.Parts.{IsClosed, IsLinked, IsKnot}
 use Rattle.reo_knots.specs.Knots.{IsLoop}
 use Rattle.reo_support.specs.declared.value.JointValue.{JointValue}
-use Rattle.reo_support.specs.Values.{Names, Choice, Family, no_joint, joint_of, giver_side, taker_side, AtSide}
+use Rattle.reo_support.specs.Values.{Names, Choice, Family, no_joint, giver_side, taker_side, AtSide}
 use Rattle.reo_support.specs.Fitting.{Fits, IsFrom}
-use Rattle.reo_support.specs.Supported.{IsUsed, IsSupported}
+use Rattle.reo_support.specs.Supported.{IsSupported}
 use Rattle.reo_support.specs.Chosen.{IsChosen, OneAtLoops}
 use Rattle.reo_support.specs.Works.{RowWorks}
 use Rattle.reo_support.proofs.Labels.{label, label_linked, linked_label}
 use Rattle.reo_support.proofs.Forest.{Growth, grown}
 use Rattle.reo_support.proofs.Fitting.{fits_local}
 use Rattle.reo_support.proofs.Works.{works_possible}
-use Rattle.reo_support.proofs.Narrowing.{at_cases}
 
 -- Each side of a joint is inside where one is.
 pub at_inside : (net : Net) (inside : ℕ → Bool) → IsClosed net inside → (j a b : ℕ) → j < length net.joints → AtSide net j a → AtSide net j b → inside a ≡ true → inside b ≡ true

@@ -1,5 +1,5 @@
 -- A row works, joint by joint, exactly where it fits values of the family, and a value is used exactly where some row works and the value goes with it.
-use Rattle.std.proofs.Common.{◌≡◌, ◌≢◌, ◌⊎◌, inl, inr, ℕ, ◌<◌, true, false, cond, length, Option, None, refl, ap, sym, ◌∙◌, subst, arith}
+use Rattle.std.proofs.Common.{◌≡◌, ◌≢◌, inl, inr, ℕ, ◌<◌, true, cond, length, Option, None, refl, ap, sym, ◌∙◌, subst, arith}
 use Rattle.std.specs.Bool.{◌==◌}
 use Rattle.std.proofs.lemmas.Bool.{cases_eq, cond-true, cond-false}
 use Rattle.reo_values.specs.declared.value.Value.{Value}
@@ -9,10 +9,10 @@ use Rattle.reo_net_laws.specs.Ends.{IsRowOf}
 use Rattle.reo_net_laws.proofs.Sides.{below_or}
 use Rattle.reo_support.specs.declared.value.JointValue.{JointValue}
 use Rattle.reo_support.specs.declared.value.JointValue.TheVariants.{Jam}
-use Rattle.reo_support.specs.Values.{giver_mark, Names, Choice, Family, item_named, no_joint, joint_of, giver_side, taker_side, AtSide}
+use Rattle.reo_support.specs.Values.{Names, Choice, Family, item_named, no_joint, joint_of, giver_side, taker_side, AtSide}
 use Rattle.reo_support.specs.Fitting.{given_for, GivesValue, TakesValue, Fits, IsFrom}
 use Rattle.reo_support.specs.Supported.{IsUsed}
-use Rattle.reo_support.specs.Works.{Follows, IsDependent, IsGivenAs, IsGivenIn, TakerWorks, TakerHas, RowWorks, GiverUses, ValueWorks}
+use Rattle.reo_support.specs.Works.{Follows, IsDependent, IsGivenAs, IsGivenIn, TakerWorks, RowWorks, ValueWorks}
 use Rattle.reo_support.proofs.Labels.{same_eq, other_eq}
 use Rattle.reo_support.proofs.Fitting.{decided, follows_dependent, given_by_state, given_by_joint, as_given, is_given}
 use Rattle.reo_support.proofs.Fitting.Decided.{by_none, by_joint}

@@ -6,7 +6,7 @@ use Rattle.reo_net_laws.specs.Parts.{IsKnot}
 use Rattle.reo_support.specs.declared.value.JointValue.{JointValue}
 use Rattle.reo_support.specs.Values.{Names, Choice, Family, AtSide}
 use Rattle.reo_support.specs.Supported.{IsSupported}
-use Rattle.reo_support.specs.Chosen.{IsChosen, OneAtLoops}
+use Rattle.reo_support.specs.Chosen.{IsChosen, OneAtLoops, AreFull}
 use Rattle.reo_support.specs.Works.{RowWorks}
 
 -- An assignment with this row at this side.
@@ -39,3 +39,10 @@ ValuesStand = (net : Net) → IsWired net → (names : Names) (inside : ℕ → 
     → IsKnot net inside → IsSupported net names inside sets → OneAtLoops net inside sets
     → (j side : ℕ) (v : JointValue) → j < length net.joints → AtSide net j side
     → inside side ≡ true → sets j v ≡ true → HasValue net names inside sets j v
+
+-- And a supported family with some value at each joint has an assignment.
+abbrev pub FullSetsStand : Type 0
+FullSetsStand = (net : Net) → IsWired net → (names : Names) (inside : ℕ → Bool) (sets : Family)
+    → IsKnot net inside → IsSupported net names inside sets → OneAtLoops net inside sets
+    → AreFull net inside sets
+    → (rows : ℕ → ℕ) × (choice : Choice) × IsChosen net names inside sets rows choice

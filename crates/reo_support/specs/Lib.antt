@@ -3,5 +3,6 @@ pub mod Fitting
 pub mod Laws
 pub mod Supported
 pub mod Ties
+pub mod Uses
 pub mod Values
 pub mod Works
