@@ -1,6 +1,8 @@
 -- Assignments, by values at joints.
-use Rattle.std.specs.Prelude.{ℕ, ◌<◌, ◌≡◌, Bool, true, length}
+use Rattle.std.specs.Prelude.{ℕ, ◌<◌, ◌≡◌, Bool, true, List, length, map}
+use Rattle.std.specs.List.{range_with_len}
 use Rattle.reo_net_base.specs.Net.{Net}
+use Rattle.reo_net_base.specs.Sides.{side_count}
 use Rattle.reo_knots.specs.Knots.{IsLoop}
 use Rattle.reo_support.specs.declared.value.JointValue.{JointValue}
 use Rattle.reo_support.specs.Values.{Names, Choice, Family, giver_side}
@@ -12,6 +14,10 @@ pub record IsChosen (net : Net) (names : Names) (inside : ℕ → Bool) (sets : 
     (rows : ℕ → ℕ) (choice : Choice) : Type 0 where
   pub fits : (side : ℕ) → inside side ≡ true → Fits net names choice side (rows side)
   pub from : (side : ℕ) → inside side ≡ true → IsFrom net sets choice side
+
+-- The rows of all sides, as a list.
+abbrev pub rows_of : Net → (ℕ → ℕ) → List ℕ
+rows_of net rows = map rows (range_with_len 0 (side_count net))
 
 -- Each loop joint of a set of sides has at most one value.
 abbrev pub OneAtLoops : Net → (ℕ → Bool) → Family → Type 0

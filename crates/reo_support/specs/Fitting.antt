@@ -4,6 +4,7 @@ use Rattle.std.specs.Option.{option_and_then}
 use Rattle.reo_values.specs.declared.value.Value.{Value}
 use Rattle.reo_net_base.specs.declared.mark.Mark.TheVariants.{F}
 use Rattle.reo_net_base.specs.declared.joint.End.{End}
+use Rattle.reo_net_base.specs.Behaviour.{Behaviour}
 use Rattle.reo_net_base.specs.Net.{Net, behaviour_at, end_of}
 use Rattle.reo_net_base.specs.Colouring.{taken_at}
 use Rattle.reo_net_laws.specs.Ends.{mark_in, from_in, IsRowOf}
@@ -12,18 +13,22 @@ use Rattle.reo_support.specs.Values.{giver_mark, taker_mark, Names, Choice, Fami
 
 -- What a row gives at an end of its side for what it takes at the end that decides.
 unfoldable pub given_for : Net → ℕ → End → Option Value → Option Value
-given_for net row e taken = (behaviour_at net.primitives e.primitive).given ((behaviour_at net.primitives e.primitive).side_of e.end) row e.end taken
+given_for net row e taken =
+    let b : Behaviour = behaviour_at net.primitives e.primitive in
+    b.given (b.side_of e.end) row e.end taken
 
 -- What a row gives at an end of its side, by the items of a choice.
 unfoldable pub given_in : Net → Names → Choice → ℕ → End → Option Value
 given_in net names choice row e =
-    given_for net row e
-    (option_and_then (λ from. taken_at net.joints (items_of net names choice) (end_of e.primitive from))
-    (from_in net row e))
+    let taken : ℕ → Option Value =
+    λ from. taken_at net.joints (items_of net names choice) (end_of e.primitive from) in
+    given_for net row e (option_and_then taken (from_in net row e))
 
 -- Whether a row lets an item in at an end of its side.
 unfoldable pub passes_in : Net → ℕ → End → Value → Bool
-passes_in net row e item = (behaviour_at net.primitives e.primitive).passes ((behaviour_at net.primitives e.primitive).side_of e.end) row e.end item
+passes_in net row e item =
+    let b : Behaviour = behaviour_at net.primitives e.primitive in
+    b.passes (b.side_of e.end) row e.end item
 
 -- A value at a joint fits a row of the giver's side: it has the row's mark there and, where it
 -- flows, the item that the row gives.

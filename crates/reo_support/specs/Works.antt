@@ -3,6 +3,7 @@ use Rattle.std.specs.Prelude.{ℕ, ◌<◌, ◌≡◌, true, Option, Some, None,
 use Rattle.reo_values.specs.declared.value.Value.{Value}
 use Rattle.reo_net_base.specs.declared.mark.Mark.TheVariants.{F}
 use Rattle.reo_net_base.specs.declared.joint.End.{End}
+use Rattle.reo_net_base.specs.Behaviour.{Behaviour}
 use Rattle.reo_net_base.specs.Net.{Net, behaviour_at}
 use Rattle.reo_net_laws.specs.Ends.{mark_in, from_in, IsRowOf}
 use Rattle.reo_support.specs.declared.value.JointValue.{JointValue}
@@ -11,7 +12,9 @@ use Rattle.reo_support.specs.Fitting.{given_for, TakesValue}
 
 -- A row of the table of an end's side.
 abbrev pub IsRowAt : Net → ℕ → End → Type 0
-IsRowAt net row e = row < (behaviour_at net.primitives e.primitive).rows ((behaviour_at net.primitives e.primitive).side_of e.end)
+IsRowAt net row e =
+    let b : Behaviour = behaviour_at net.primitives e.primitive in
+    row < b.rows (b.side_of e.end)
 
 -- What a row gives at the joint k, with flow, is decided by what it takes in at the joint j.
 pub record Follows (net : Net) (row k j : ℕ) : Type 0 where
