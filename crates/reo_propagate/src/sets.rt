@@ -85,7 +85,8 @@ pub fn begin_with<P: Primitive>(
     ensures search { IfOk result (IsSearch (net_of P.behaviour circuit.now) boards.now ends.now items.now (among sides.now)) }
     ensures values { IfOk result (λ state. (j : ℕ) (v : Standing) → j < length circuit.now.joints → code_of v < length (slice_index_or items.now j []) + 4 → family_of state.alive j v ≡ listed sets.now.values j v) }
 {
-    let _ = (boards, ends);
+    let _ = boards;
+    let _ = ends;
     let alive = listed_values(alloc, items, sets)?;
     let rows = all_rows(alloc, circuit, items)?;
     let queue = all_waiting(alloc, circuit.sides(), sides)?;

@@ -62,7 +62,8 @@ pub fn begin<P: Primitive>(
     ensures search { IfOk result (IsSearch (net_of P.behaviour circuit.now) boards.now ends.now items.now (among sides.now)) }
     ensures whole { IfOk result (IsWhole (net_of P.behaviour circuit.now) items.now) }
 {
-    let _ = (boards, ends);
+    let _ = boards;
+    let _ = ends;
     let alive = all_values(alloc, items)?;
     let rows = all_rows(alloc, circuit, items)?;
     let queue = all_waiting(alloc, circuit.sides(), sides)?;

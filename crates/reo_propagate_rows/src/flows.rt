@@ -39,7 +39,8 @@ fn is_flow_given<P: Primitive>(
     requires gives { GivesFlow (net_of P.behaviour circuit.now) side row joint }
     ensures { IsTrue result ↔ IsGivenIn (net_of P.behaviour circuit.now) (names_of items.now) (family_of alive.now) row joint (option_copied taken.entry) }
 {
-    let _ = (boards, ends);
+    let _ = boards;
+    let _ = ends;
     let there = items.at(joint);
     for code in FLOWS..alive.width(joint) {
         if alive.is_set(joint, code)

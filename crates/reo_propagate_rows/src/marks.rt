@@ -164,7 +164,9 @@ pub fn marks_left<P: Primitive>(
     requires joint { joint < length circuit.now.joints }
     ensures { (m : Said) → (marks_has result m ≡ true) ↔ HasMark (net_of P.behaviour circuit.now) (family_of alive.now) side joint m }
 {
-    let _ = (boards, ends, items);
+    let _ = boards;
+    let _ = ends;
+    let _ = items;
     let gives = giver_side(circuit, joint) == side;
     let giver_requires = alive.is_set(joint, GIVER_REQUIRES);
     let taker_requires = alive.is_set(joint, TAKER_REQUIRES);
