@@ -28,7 +28,11 @@ pub record IsBoard (net : Net) (side : ℕ) (board : Board) : Type 0 where
   pub ends : length board.apart ≡ (side_in net side).of.ends
   pub apart : (end : ℕ) → Lists (IsApartAt net side end) (slice_index_or board.apart end [])
 
+-- A board for each of the first n sides.
+pub record AreBoardsBelow (net : Net) (n : ℕ) (boards : List Board) : Type 0 where
+  pub one_each : length boards ≡ n
+  pub each : (side : ℕ) (d : Board) → side < n → IsBoard net side (slice_index_or boards side d)
+
 -- A board for each side.
-pub record AreBoards (net : Net) (boards : List Board) : Type 0 where
-  pub one_each : length boards ≡ side_count net
-  pub each : (side : ℕ) (d : Board) → side < side_count net → IsBoard net side (slice_index_or boards side d)
+abbrev pub AreBoards : Net → List Board → Type 0
+AreBoards net boards = AreBoardsBelow net (side_count net) boards

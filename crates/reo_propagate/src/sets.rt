@@ -56,12 +56,12 @@ fn put_values(alive: &mut Flags, joint: usize, values: &[JointValue]) {
 /// The flags of the values of lists.
 fn listed_values(
     alloc: Global,
-    items: &List<List<Value>>,
+    items: &[List<Value>],
     sets: &Sets,
 ) -> Result<Flags, NoMemory> {
     let mut alive = Flags::new(alloc);
     for joint in 0..items.len() {
-        alive.push_row(alloc, items.at(joint).len() + FLOWS, false)?;
+        alive.push_row(alloc, items[joint].len() + FLOWS, false)?;
         put_values(&mut alive, joint, sets.values.at(joint).as_slice());
     }
     Ok(alive)
@@ -73,7 +73,7 @@ pub fn begin_with<P: Primitive>(
     circuit: &Circuit<P>,
     boards: &List<Board>,
     ends: &Ends,
-    items: &List<List<Value>>,
+    items: &[List<Value>],
     sides: &[usize],
     sets: &Sets,
 ) -> Result<State, NoMemory>

@@ -25,10 +25,10 @@ pub struct State {
 }
 
 /// A flag for each value of each joint, all set.
-fn all_values(alloc: Global, items: &List<List<Value>>) -> Result<Flags, NoMemory> {
+fn all_values(alloc: Global, items: &[List<Value>]) -> Result<Flags, NoMemory> {
     let mut alive = Flags::new(alloc);
     for joint in 0..items.len() {
-        alive.push_row(alloc, items.at(joint).len() + FLOWS, true)?;
+        alive.push_row(alloc, items[joint].len() + FLOWS, true)?;
     }
     Ok(alive)
 }
@@ -52,7 +52,7 @@ pub fn begin<P: Primitive>(
     circuit: &Circuit<P>,
     boards: &List<Board>,
     ends: &Ends,
-    items: &List<List<Value>>,
+    items: &[List<Value>],
     sides: &[usize],
 ) -> Result<State, NoMemory>
     requires boards { AreBoards (net_of P.behaviour circuit.now) boards.now }

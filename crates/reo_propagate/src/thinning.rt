@@ -29,7 +29,7 @@ pub fn thin<P: Primitive>(
     circuit: &Circuit<P>,
     boards: &List<Board>,
     ends: &Ends,
-    items: &List<List<Value>>,
+    items: &[List<Value>],
     alive: &mut Flags,
     rows: &Rows,
     side: usize,

@@ -21,7 +21,7 @@ pub fn wake<P: Primitive>(
     circuit: &Circuit<P>,
     boards: &List<Board>,
     ends: &Ends,
-    items: &List<List<Value>>,
+    items: &[List<Value>],
     alive: &Flags,
     rows: &mut Rows,
     queue: &mut Queue,

@@ -27,7 +27,7 @@ fn is_flow_given<P: Primitive>(
     circuit: &Circuit<P>,
     boards: &List<Board>,
     ends: &Ends,
-    items: &List<List<Value>>,
+    items: &[List<Value>],
     alive: &Flags,
     side: usize,
     row: usize,
@@ -41,7 +41,7 @@ fn is_flow_given<P: Primitive>(
 {
     let _ = boards;
     let _ = ends;
-    let there = items.at(joint);
+    let there = &items[joint];
     for code in FLOWS..alive.width(joint) {
         if alive.is_set(joint, code)
             && gives_item(circuit, side, row, joint, taken, there.at(code - FLOWS))
@@ -76,7 +76,7 @@ fn is_passed_on<P: Primitive>(
     circuit: &Circuit<P>,
     boards: &List<Board>,
     ends: &Ends,
-    items: &List<List<Value>>,
+    items: &[List<Value>],
     alive: &Flags,
     side: usize,
     row: usize,
@@ -106,7 +106,7 @@ pub(crate) fn flow_works<P: Primitive>(
     circuit: &Circuit<P>,
     boards: &List<Board>,
     ends: &Ends,
-    items: &List<List<Value>>,
+    items: &[List<Value>],
     alive: &Flags,
     side: usize,
     row: usize,
@@ -123,7 +123,7 @@ pub(crate) fn flow_works<P: Primitive>(
     requires has { flag alive.now joint code ≡ true }
     ensures { IsTrue result ↔ TakerWorks (net_of P.behaviour circuit.now) (names_of items.now) (family_of alive.now) side row joint (Flowing (code - 4)) }
 {
-    let item = items.at(joint).at(code - FLOWS);
+    let item = items[joint].at(code - FLOWS);
     lets_in(circuit, side, row, joint, item)
         && is_passed_on(
             circuit, boards, ends, items, alive, side, row, flow, joint, item,
@@ -135,7 +135,7 @@ fn takes_flow<P: Primitive>(
     circuit: &Circuit<P>,
     boards: &List<Board>,
     ends: &Ends,
-    items: &List<List<Value>>,
+    items: &[List<Value>],
     alive: &Flags,
     side: usize,
     row: usize,
@@ -165,7 +165,7 @@ pub(crate) fn flows_stand<P: Primitive>(
     circuit: &Circuit<P>,
     boards: &List<Board>,
     ends: &Ends,
-    items: &List<List<Value>>,
+    items: &[List<Value>],
     alive: &Flags,
     side: usize,
     row: usize,

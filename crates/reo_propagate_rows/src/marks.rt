@@ -155,7 +155,7 @@ pub fn marks_left<P: Primitive>(
     circuit: &Circuit<P>,
     boards: &List<Board>,
     ends: &Ends,
-    items: &List<List<Value>>,
+    items: &[List<Value>],
     alive: &Flags,
     side: usize,
     joint: usize,

@@ -46,9 +46,9 @@ fn side_tables<P: Primitive>(alloc: Global, circuit: &Circuit<P>, rows: &mut Row
 }
 
 /// The flags of the values of all joints: none is seen.
-fn value_tables(alloc: Global, items: &List<List<Value>>, rows: &mut Rows) -> Result<(), NoMemory> {
+fn value_tables(alloc: Global, items: &[List<Value>], rows: &mut Rows) -> Result<(), NoMemory> {
     for joint in 0..items.len() {
-        rows.seen.push_row(alloc, items.at(joint).len() + 4, false)?;
+        rows.seen.push_row(alloc, items[joint].len() + 4, false)?;
     }
     Ok(())
 }
@@ -57,7 +57,7 @@ fn value_tables(alloc: Global, items: &List<List<Value>>, rows: &mut Rows) -> Re
 pub fn all_rows<P: Primitive>(
     alloc: Global,
     circuit: &Circuit<P>,
-    items: &List<List<Value>>,
+    items: &[List<Value>],
 ) -> Result<Rows, NoMemory>
     requires items { length items.now ≡ length circuit.now.joints }
     requires few { (j : ℕ) → length (slice_index_or items.now j []) < 2 ^ 32 }

@@ -26,7 +26,7 @@ fn unsee(seen: &mut Flags, joint: usize) {
 /// Sees the values of a joint that a row gives there with flow for what it takes.
 fn see_given<P: Primitive>(
     circuit: &Circuit<P>,
-    items: &List<List<Value>>,
+    items: &[List<Value>],
     alive: &Flags,
     seen: &mut Flags,
     side: usize,
@@ -34,7 +34,7 @@ fn see_given<P: Primitive>(
     joint: usize,
     taken: Option<&Value>,
 ) {
-    let there = items.at(joint);
+    let there = &items[joint];
     for code in FLOWS..alive.width(joint) {
         if alive.is_set(joint, code)
             && !seen.is_set(joint, code)
@@ -48,7 +48,7 @@ fn see_given<P: Primitive>(
 /// Sees the values that a row gives for an item that it takes in at a joint.
 fn see_followers<P: Primitive>(
     circuit: &Circuit<P>,
-    items: &List<List<Value>>,
+    items: &[List<Value>],
     alive: &Flags,
     seen: &mut Flags,
     side: usize,
@@ -70,7 +70,7 @@ fn see_taken<P: Primitive>(
     circuit: &Circuit<P>,
     boards: &List<Board>,
     ends: &Ends,
-    items: &List<List<Value>>,
+    items: &[List<Value>],
     alive: &Flags,
     seen: &mut Flags,
     side: usize,
@@ -85,7 +85,7 @@ fn see_taken<P: Primitive>(
             )
         {
             seen.put(joint, code, true);
-            let item = items.at(joint).at(code - FLOWS);
+            let item = items[joint].at(code - FLOWS);
             see_followers(circuit, items, alive, seen, side, row, flow, joint, item);
         }
     }
@@ -96,7 +96,7 @@ fn see_row<P: Primitive>(
     circuit: &Circuit<P>,
     boards: &List<Board>,
     ends: &Ends,
-    items: &List<List<Value>>,
+    items: &[List<Value>],
     alive: &Flags,
     seen: &mut Flags,
     side: usize,
@@ -123,7 +123,7 @@ pub fn see<P: Primitive>(
     circuit: &Circuit<P>,
     boards: &List<Board>,
     ends: &Ends,
-    items: &List<List<Value>>,
+    items: &[List<Value>],
     alive: &Flags,
     rows: &mut Rows,
     side: usize,

@@ -37,7 +37,7 @@ fn has_common_row<P: Primitive>(
 pub fn used_marks<P: Primitive>(
     circuit: &Circuit<P>,
     boards: &List<Board>,
-    items: &List<List<Value>>,
+    items: &[List<Value>],
     rows: &Rows,
     side: usize,
     joint: usize,
@@ -71,7 +71,7 @@ pub fn used_marks<P: Primitive>(
 /// Whether a value of a joint, by its place, is used at a side, where these are the marks that the rows of the side have there.
 pub fn is_used<P: Primitive>(
     circuit: &Circuit<P>,
-    items: &List<List<Value>>,
+    items: &[List<Value>],
     rows: &Rows,
     side: usize,
     joint: usize,

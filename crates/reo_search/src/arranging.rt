@@ -36,7 +36,7 @@ pub fn first_by<P: Primitive>(
     circuit: &Circuit<P>,
     boards: &List<Board>,
     ends: &Ends,
-    items: &List<List<Value>>,
+    items: &[List<Value>],
     sides: &[usize],
     state: &mut State,
     places: &[Place],
