@@ -1,15 +1,13 @@
 -- The joints at the ends of a side.
-use Rattle.std.proofs.Common.{◌≡◌, ◌⊎◌, inl, inr, ℕ, ◌+◌, ◌<◌, Bool, true, false, cond, List, [], ◌∷◌, ◌++◌, length, get_or, refl, ap, sym, ◌∙◌, subst, arith}
+use Rattle.std.proofs.Common.{◌≡◌, inl, inr, ℕ, ◌+◌, ◌<◌, Bool, true, false, cond, List, [], ◌∷◌, ◌++◌, length, get_or, refl, ap, sym, ◌∙◌, subst, arith}
 use Rattle.std.specs.Bool.{◌==◌}
 use Rattle.std.proofs.lemmas.Bool.{cases_eq}
 use Rattle.reo_net_base.specs.declared.joint.End.{End}
-use Rattle.reo_net_base.specs.declared.joint.Joint.{Joint}
-use Rattle.reo_net_base.specs.Net.{Net, Side, all_sides, behaviour_at, first_side, end_of, side_at}
-use Rattle.reo_net_base.specs.Wired.{IsWired, IsEnd}
-use Rattle.reo_net_base.specs.Ends.{IsGiver, IsTaker}
+use Rattle.reo_net_base.specs.Net.{Net, behaviour_at, first_side, end_of, side_at}
+use Rattle.reo_net_base.specs.Wired.{IsWired}
 use Rattle.reo_net_ends.specs.Ends.{joint_at, AreEnds}
 use Rattle.reo_net_ends.proofs.EndLemmas.{giver_at, taker_at, of_giver, of_taker}
-use Rattle.reo_support.specs.Values.{no_joint, joint_of, giver_side, taker_side}
+use Rattle.reo_support.specs.Values.{no_joint, joint_of, giver_side}
 use Rattle.reo_boards.specs.Listing.{StandsIn, Lists}
 use Rattle.reo_boards.specs.Marks.{end_at, IsJointOf}
 use Rattle.reo_boards.proofs.Growing.{stands_old, stands_new, all_more}
@@ -69,7 +67,6 @@ module _ (net : Net) (wired : IsWired net) (ends : List (List ℕ)) (are : AreEn
     found_for true = of_giver net wired ends are j no_joint of.in_range
     found_for false = of_taker net wired ends are j no_joint of.in_range
 
-
     its_end : end_at net side j ≡ end_of i (end_at net side j).end
     its_end = let p = primitive_is net wired side j of i s i_in s_in place in λ k. record { primitive = p k; end = (end_at net side j).end }
 
@@ -78,7 +75,7 @@ module _ (net : Net) (wired : IsWired net) (ends : List (List ℕ)) (are : AreEn
 
     side_number : (behaviour_at net.primitives i).side_of (end_at net side j).end ≡ s
     unfolding side_at
-    side_number = 
+    side_number =
         let there : first_side net.primitives i + (behaviour_at net.primitives i).side_of (end_at net side j).end ≡ side = subst (λ (e : End). side_at net e ≡ side) its_end (at_is net wired side j of) in
         omega (arith, there, place)
 

@@ -1,20 +1,15 @@
 -- Lists that grow.
-use Rattle.std.proofs.Common.{◌≡◌, ◌≢◌, ◌⊎◌, inl, inr, ℕ, zero, suc, ◌+◌, ◌<◌, Bool, true, false, cond, not, List, [], ◌∷◌, ◌++◌, length, get_or, refl, ap, sym, ◌∙◌, subst, arith, length-append}
+use Rattle.std.proofs.Common.{◌≡◌, inl, inr, ℕ, ◌+◌, ◌<◌, List, [], ◌∷◌, ◌++◌, length, get_or, sym, ◌∙◌, subst, arith, length-append}
 use Rattle.std.proofs.lemmas.Bool.{cases_eq}
 use Rattle.std.proofs.Math.Seq.{get_or-append_seam}
 use Rattle.std.proofs.lemmas.List.{get_or_append_left}
-use Rattle.reo_net_base.specs.declared.mark.Mark.TheVariants.{F}
-use Rattle.reo_net_base.specs.Net.{Net}
-use Rattle.reo_boards.specs.declared.board.Flow.{Flow}
 use Rattle.reo_boards.specs.Listing.{StandsIn, Lists, AreEmpty, IsAdded}
-use Rattle.reo_boards.specs.Marks.{mark_at_joint, IsJointOf}
-use Rattle.reo_boards.specs.Flowing.{gives_at, FlowsAt, joints_of_flow, flow_at, AreSound, AreMore, IsFlowAdded, AreAdded, AreBlank}
 
 pub stands_old : (xs : List ℕ) (x k : ℕ) → StandsIn xs k → StandsIn (xs ++ x ∷ []) k
-stands_old xs x k (m , lt , is) = (m , omega (arith, length-append xs (x ∷ [])) , get_or_append_left xs (x ∷ []) 0 m lt ∙ is)
+stands_old xs x k (m, lt, is) = (m, omega (arith, length-append xs (x ∷ [])), get_or_append_left xs (x ∷ []) 0 m lt ∙ is)
 
 pub stands_new : (xs : List ℕ) (x : ℕ) → StandsIn (xs ++ x ∷ []) x
-stands_new xs x = (length xs , omega (arith, length-append xs (x ∷ [])) , get_or-append_seam xs x [] 0)
+stands_new xs x = (length xs, omega (arith, length-append xs (x ∷ [])), get_or-append_seam xs x [] 0)
 
 -- What holds of all elements and of one more holds of all.
 pub all_more : (holds : ℕ → Type 0) (xs : List ℕ) (x : ℕ) → ((m : ℕ) → m < length xs → holds (get_or xs m 0)) → holds x → (m : ℕ) → m < length (xs ++ x ∷ []) → holds (get_or (xs ++ x ∷ []) m 0)

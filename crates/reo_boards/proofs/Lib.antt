@@ -1,3 +1,5 @@
 pub mod Sides
 pub mod Growing
 pub mod Found
+pub mod Cells
+pub mod Adding

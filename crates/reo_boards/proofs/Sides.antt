@@ -1,17 +1,16 @@
 -- The end of a joint at a side.
-use Rattle.std.proofs.Common.{◌≡◌, ◌≢◌, ◌⊎◌, inl, inr, ℕ, ◌+◌, ◌<◌, Bool, true, false, cond, length, get_or, refl, ap, sym, ◌∙◌, subst, arith, Option, Some, None}
+use Rattle.std.proofs.Common.{◌≡◌, ◌≢◌, inl, inr, ℕ, ◌+◌, ◌<◌, Bool, true, false, cond, length, get_or, refl, ap, sym, ◌∙◌, subst, arith, Some}
 use Rattle.std.specs.Bool.{◌==◌}
 use Rattle.std.proofs.lemmas.Bool.{cases_lt}
 use Rattle.std.proofs.lemmas.Bool.Decides.{nat_tests}
-use Rattle.reo_net_base.specs.declared.mark.Mark.{Mark}
 use Rattle.reo_net_base.specs.declared.joint.End.{End}
 use Rattle.reo_net_base.specs.Behaviour.{Behaviour, IsEndOf}
-use Rattle.reo_net_base.specs.Net.{Net, Side, all_sides, no_side, behaviour_at, first_side, side_of_end, side_at}
+use Rattle.reo_net_base.specs.Net.{Net, Side, all_sides, no_side, behaviour_at, first_side, row_count, side_of_end, side_at}
 use Rattle.reo_net_base.specs.Wired.{IsWired, IsEnd}
 use Rattle.reo_net_laws.specs.Ends.{mark_in, IsRowOf}
 use Rattle.reo_net_circuit.proofs.NetLemmas.{end_side_is, first_before}
-use Rattle.reo_support.specs.Values.{no_joint, joint_of, giver_side, taker_side, AtSide}
-use Rattle.reo_boards.specs.Marks.{side_in, groups_in, group_in, apart_in, common_in, end_at, mark_at_joint, common_at_joint, IsJointOf}
+use Rattle.reo_support.specs.Values.{no_joint, joint_of, giver_side}
+use Rattle.reo_boards.specs.Marks.{side_in, groups_in, group_in, apart_in, common_in, end_at, mark_at_joint, IsJointOf}
 
 module _ (net : Net) (wired : IsWired net) (side j : ℕ) (of : IsJointOf net side j) where
   at_for : (t : Bool) → (giver_side net j == side) ≡ t → side_at net (cond t (joint_of net j).giver (joint_of net j).taker) ≡ side
@@ -54,9 +53,9 @@ pub one_place : (net : Net) (i s k t : ℕ) → i < length net.primitives → k 
 one_place net i s k t i_in k_in s_in t_in same = elim (cases_lt i k) [
   | inl less ↦ absurd (omega (arith, first_before net.primitives i k s less k_in s_in, same))
   | inr more ↦ elim (cases_lt k i) [
-      | inl less ↦ absurd (omega (arith, first_before net.primitives k i t less i_in t_in, same))
-      | inr same_place ↦ omega arith
-    ]
+    | inl less ↦ absurd (omega (arith, first_before net.primitives k i t less i_in t_in, same))
+    | inr same_place ↦ omega arith
+  ]
 ]
 
 module _ (net : Net) (wired : IsWired net) (side j : ℕ) (of : IsJointOf net side j) where
@@ -74,3 +73,41 @@ pub apart_end : (net : Net) → IsWired net → (side i s : ℕ) → i < length 
 apart_end net wired side i s i_in s_in is row end in_table apart =
     subst (λ (x : Side). row < x.of.rows x.number → x.of.apart x.number row ≡ Some end → IsEndOf x.of x.number end) (sym is)
     (λ lt at. (wired.lawful i i_in).grouped.apart_end s row end s_in lt at) (in_table no_side) apart
+
+-- The end of a joint is one of its side.
+pub end_of_side : (net : Net) → IsWired net → (side j : ℕ) → IsJointOf net side j → (d : Side) → IsEndOf (get_or (all_sides net.primitives) side d).of (get_or (all_sides net.primitives) side d).number (end_at net side j).end
+end_of_side net wired side j of d =
+    subst (λ (x : Side). IsEndOf x.of x.number (end_at net side j).end) (sym (side_here net wired side j of d)) ((at_in net wired side j of).1, refl)
+
+-- A row that is not apart at a joint has the mark of its group there.
+pub mark_as_group : (net : Net) → IsWired net → (side j row : ℕ) → IsJointOf net side j → IsRowOf net side row → apart_in net side row ≢ Some (end_at net side j).end
+    → mark_at_joint net side row j ≡ common_in net side (group_in net side row) (end_at net side j).end
+unfolding mark_in
+mark_as_group net wired side j row of in_table with =
+    let e : End = end_at net side j in
+    let b : Behaviour = behaviour_at net.primitives e.primitive in
+    let is = at_in net wired side j of in
+    let here : side_in net side ≡ side_of_end net e = side_here net wired side j of no_side in
+    let lawful = wired.lawful e.primitive is.0 in
+    let lt : row < b.rows (b.side_of e.end) = row_here net wired side j of row in_table e b (b.side_of e.end) refl refl refl in
+    let apart : b.apart (b.side_of e.end) row ≢ Some e.end = λ h. with (ap (λ (s : Side). s.of.apart s.number row) here ∙ h) in
+    lawful.grouped.common_mark (b.side_of e.end) row e.end (lawful.sides_in e.end is.1) lt (is.1, refl) apart
+    ∙ ap (λ (s : Side). s.of.common s.number (s.of.group s.number row) e.end) (sym here)
+
+-- The group of a row is one of its side.
+pub group_below : (net : Net) → IsWired net → (side j row : ℕ) → IsJointOf net side j → IsRowOf net side row → group_in net side row < groups_in net side
+group_below net wired side j row of in_table =
+    let e : End = end_at net side j in
+    let b : Behaviour = behaviour_at net.primitives e.primitive in
+    let is = at_in net wired side j of in
+    let here : side_in net side ≡ side_of_end net e = side_here net wired side j of no_side in
+    let lawful = wired.lawful e.primitive is.0 in
+    let lt : row < b.rows (b.side_of e.end) = row_here net wired side j of row in_table e b (b.side_of e.end) refl refl refl in
+    subst (λ (s : Side). s.of.group s.number row < s.of.groups s.number) (sym here) (lawful.grouped.group_in (b.side_of e.end) row (lawful.sides_in e.end is.1) lt)
+
+-- A row below the count of a side with a joint is one of its table.
+pub whole_row : (net : Net) → IsWired net → (side j row : ℕ) → IsJointOf net side j → row < row_count (side_in net side) → IsRowOf net side row
+whole_row net wired side j row of lt = λ d.
+    let one = side_here net wired side j of no_side in
+    let other = side_here net wired side j of d in
+    subst (λ (s : Side). row < row_count s) (one ∙ sym other) lt

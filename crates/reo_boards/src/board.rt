@@ -45,7 +45,7 @@ pub fn board_of<P: Primitive>(
     let joints = joints_of(alloc, circuit, ends, side)?;
     let columns = columns_of(alloc, circuit, side, joints.as_slice())?;
     let apart = apart_of(alloc, circuit, side)?;
-    let flows = flows_of(alloc, circuit, side, joints.as_slice(), apart.as_slice())?;
+    let flows = flows_of(alloc, circuit, side, joints.as_slice(), &apart)?;
     Ok(Board {
         joints,
         columns,

@@ -1,19 +1,19 @@
 //! Where the rows of a side flow.
-ghost use Rattle.std.specs.Prelude.{◌≡◌, ◌<◌, ℕ, [], IfOk, OnOk, length, slice_index, slice_index_or};
+ghost use Rattle.std.specs.Prelude.{◌≡◌, ◌↔◌, ◌<◌, ℕ, [], IsTrue, Some, IfOk, OnOk, length, slice_index, slice_index_or};
 ghost use Rattle.reo_net_base.specs.Net.{net_of, all_sides, row_count};
 ghost use Rattle.reo_boards.specs.declared.board.Flow.{Flow as Flowing};
 ghost use Rattle.reo_boards.specs.Boards.{IsFlow};
 ghost use Rattle.reo_boards.specs.Listing.{Lists};
 ghost use Rattle.reo_boards.specs.Flowing.{AreBlank, AreAdded, IsFlowAdded};
 ghost use Rattle.reo_boards.specs.Grouping.{ByGroup, IsOfGroup, IsAsGroup, IsAsSomeGroup};
-ghost use Rattle.reo_boards.specs.Marks.{side_in, groups_in, common_in, end_at, IsJointOf, IsApartAt};
+ghost use Rattle.reo_boards.specs.Marks.{side_in, groups_in, apart_in, common_in, end_at, IsJointOf, IsApartAt};
 ghost use Rattle.reo_net_base.specs.declared.mark.Mark.TheVariants.{F};
 ghost use Rattle.reo_net_laws.specs.Ends.{IsRowOf};
 
 use crate::board::Flow;
 use crate::joints::{add, empty_lists};
 use crate::marks::{end_at, giver_side, mark_at_joint};
-use reo_net_base::{Mark, Primitive};
+use reo_net_base::Primitive;
 use reo_net_circuit::Circuit;
 use reo_values::{List, NoMemory};
 use std::alloc::Global;
@@ -61,6 +61,18 @@ fn add_flow(flows: &mut List<Flow>, row: usize, joint: usize, gives: bool) -> Re
     }
 }
 
+/// Whether a row of a side is not as its group at an end.
+fn is_apart_at<P: Primitive>(circuit: &Circuit<P>, side: usize, row: usize, end: usize) -> bool
+    requires side { side < length (all_sides (net_of P.behaviour circuit.now).primitives) }
+    requires row { IsRowOf (net_of P.behaviour circuit.now) side row }
+    ensures { IsTrue result ↔ (apart_in (net_of P.behaviour circuit.now) side row ≡ Some end) }
+{
+    match circuit.apart(side, row) {
+        None => false,
+        Some(found) => found == end,
+    }
+}
+
 /// The rows of a group that flow at a joint, since their group does.
 fn add_group<P: Primitive>(
     circuit: &Circuit<P>,
@@ -78,11 +90,12 @@ fn add_group<P: Primitive>(
     requires flows { common_in (net_of P.behaviour circuit.now) side group (end_at (net_of P.behaviour circuit.now) side joint).end ≡ F }
     ensures { OnOk result (AreAdded (net_of P.behaviour circuit.now) side joint (IsAsGroup (net_of P.behaviour circuit.now) side group joint) flows.old flows.new) }
 {
+    circuit.known();
     let gives = giver_side(circuit, joint) == side;
     let end = end_at(circuit, side, joint).end;
     for index in 0..rows.len() {
         let row = rows[index];
-        if circuit.apart(side, row) != Some(end) {
+        if !is_apart_at(circuit, side, row, end) {
             add_flow(flows, row, joint, gives)?;
         }
     }
@@ -103,10 +116,11 @@ fn add_apart<P: Primitive>(
     requires rows { Lists (IsApartAt (net_of P.behaviour circuit.now) side (end_at (net_of P.behaviour circuit.now) side joint).end) rows.now }
     ensures { OnOk result (AreAdded (net_of P.behaviour circuit.now) side joint (IsApartAt (net_of P.behaviour circuit.now) side (end_at (net_of P.behaviour circuit.now) side joint).end) flows.old flows.new) }
 {
+    circuit.known();
     let gives = giver_side(circuit, joint) == side;
     for index in 0..rows.len() {
         let row = rows[index];
-        if mark_at_joint(circuit, side, row, joint) == Mark::F {
+        if mark_at_joint(circuit, side, row, joint).is_flow() {
             add_flow(flows, row, joint, gives)?;
         }
     }
@@ -118,7 +132,7 @@ fn add_groups<P: Primitive>(
     circuit: &Circuit<P>,
     flows: &mut List<Flow>,
     side: usize,
-    by_group: &[List<usize>],
+    by_group: &List<List<usize>>,
     joint: usize,
 ) -> Result<(), NoMemory>
     requires side { side < length (all_sides (net_of P.behaviour circuit.now).primitives) }
@@ -127,10 +141,18 @@ fn add_groups<P: Primitive>(
     requires groups { ByGroup (net_of P.behaviour circuit.now) side by_group.now }
     ensures { OnOk result (AreAdded (net_of P.behaviour circuit.now) side joint (IsAsSomeGroup (net_of P.behaviour circuit.now) side joint) flows.old flows.new) }
 {
+    circuit.known();
     let end = end_at(circuit, side, joint).end;
     for group in 0..by_group.len() {
-        if circuit.common(side, group, end) == Mark::F {
-            add_group(circuit, flows, side, group, by_group[group].as_slice(), joint)?;
+        if circuit.common(side, group, end).is_flow() {
+            add_group(
+                circuit,
+                flows,
+                side,
+                group,
+                by_group.at(group).as_slice(),
+                joint,
+            )?;
         }
     }
     Ok(())
@@ -141,8 +163,8 @@ fn add_joint<P: Primitive>(
     circuit: &Circuit<P>,
     flows: &mut List<Flow>,
     side: usize,
-    by_group: &[List<usize>],
-    apart: &[List<usize>],
+    by_group: &List<List<usize>>,
+    apart: &List<List<usize>>,
     joint: usize,
 ) -> Result<(), NoMemory>
     requires side { side < length (all_sides (net_of P.behaviour circuit.now).primitives) }
@@ -153,9 +175,11 @@ fn add_joint<P: Primitive>(
     requires apart { (end : ℕ) → Lists (IsApartAt (net_of P.behaviour circuit.now) side end) (slice_index_or apart.now end []) }
     ensures { OnOk result (AreAdded (net_of P.behaviour circuit.now) side joint (IsRowOf (net_of P.behaviour circuit.now) side) flows.old flows.new) }
 {
+    circuit.known();
     let end = end_at(circuit, side, joint).end;
     add_groups(circuit, flows, side, by_group, joint)?;
-    add_apart(circuit, flows, side, apart[end].as_slice(), joint)
+    add_apart(circuit, flows, side, apart.at(end).as_slice(), joint)?;
+    Ok(())
 }
 
 /// Where each row of a side flows.
@@ -164,7 +188,7 @@ pub(crate) fn flows_of<P: Primitive>(
     circuit: &Circuit<P>,
     side: usize,
     joints: &[usize],
-    apart: &[List<usize>],
+    apart: &List<List<usize>>,
 ) -> Result<List<Flow>, NoMemory>
     requires side { side < length (all_sides (net_of P.behaviour circuit.now).primitives) }
     requires joints { Lists (IsJointOf (net_of P.behaviour circuit.now) side) joints.now }
@@ -177,7 +201,7 @@ pub(crate) fn flows_of<P: Primitive>(
     let by_group = rows_by_group(alloc, circuit, side)?;
     let mut flows = no_flows(alloc, circuit.rows(side))?;
     for index in 0..joints.len() {
-        add_joint(circuit, &mut flows, side, by_group.as_slice(), apart, joints[index])?;
+        add_joint(circuit, &mut flows, side, &by_group, apart, joints[index])?;
     }
     Ok(flows)
 }

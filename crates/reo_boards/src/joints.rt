@@ -23,7 +23,11 @@ pub(crate) fn empty_lists(alloc: Global, count: usize) -> Result<List<List<usize
 }
 
 /// Adds a number to one of the lists.
-pub(crate) fn add(lists: &mut List<List<usize>>, place: usize, number: usize) -> Result<(), NoMemory>
+pub(crate) fn add(
+    lists: &mut List<List<usize>>,
+    place: usize,
+    number: usize,
+) -> Result<(), NoMemory>
     requires { place < length lists.old }
     ensures { OnOk result (IsAdded lists.old lists.new place number) }
 {

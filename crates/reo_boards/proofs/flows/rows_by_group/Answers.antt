@@ -1,9 +1,9 @@
-use Rattle.std.proofs.Common.{ℕ, ◌<◌, [], get_or, sym, ◌∙◌, arith}
+use Rattle.std.proofs.Common.{[], get_or, sym, ◌∙◌, arith}
 use Rattle.reo_net_base.specs.Net.{Net, net_of, no_side}
 use Rattle.reo_net_laws.specs.Ends.{IsRowOf}
 use Rattle.reo_boards.specs.Marks.{groups_in}
 use Rattle.reo_boards.specs.Grouping.{IsOfGroup}
-use Rattle.reo_boards.proofs.Growing.{below_none, below_more, below_whole}
+use Rattle.reo_boards.proofs.Growing.{below_more, below_whole}
 use Rattle.reo_boards.proofs.flows.rows_by_group.Goals as goal
 
 pub loop-row-preserved : goal.loop-row-preserved

@@ -1,9 +1,9 @@
-use Rattle.std.proofs.Common.{◌≡◌, ℕ, ◌<◌, [], get_or, Option, Some, None, sym, ◌∙◌, ap, ◌+◌, unwrap_or, arith, length, subst}
+use Rattle.std.proofs.Common.{◌≡◌, ℕ, [], get_or, Option, Some, None, sym, ◌∙◌, ap, ◌+◌, unwrap_or, arith, subst}
 use Rattle.std.proofs.lemmas.List.{length-map}
 use Rattle.reo_net_base.specs.Net.{Net, net_of, no_side}
 use Rattle.reo_net_laws.specs.Ends.{IsRowOf}
 use Rattle.reo_boards.specs.Marks.{side_in, apart_in, IsApartAt}
-use Rattle.reo_boards.proofs.Growing.{AreBelow, below_none, below_more, below_skip, below_whole}
+use Rattle.reo_boards.proofs.Growing.{AreBelow, below_more, below_skip, below_whole}
 use Rattle.reo_boards.proofs.Sides.{apart_end}
 use Rattle.reo_boards.proofs.joints.apart_of.Goals as goal
 use Rattle.reo_boards.proofs.joints.apart_of.Goals.{in-Some+in_ok-add-in-Some, in-None}
@@ -14,7 +14,7 @@ add-requires g c =
     let in_table : IsRowOf net c.args.side c.loop-row.row = λ d. omega (arith, c.rows-row-end.ensures.count d) in
     let here : apart_in net c.args.side c.loop-row.row ≡ Some c.in-Some.end = sym (c.apart.ensures no_side) ∙ c.in-Some.is in
     let end = apart_end net c.known.ensures.wired c.args.side c.owner-owner.result.primitive c.owner-owner.result.side (omega (arith, length-map c.args.circuit.now.primitives g.P.Primitive.behaviour, c.owner-owner.ensures.primitive)) c.owner-owner.ensures.side (c.owner-owner.ensures.owner no_side)
-        c.loop-row.row c.in-Some.end in_table here in
+    c.loop-row.row c.in-Some.end in_table here in
     omega (arith, end.0, c.loop-row.invariant.one_each)
 
 pub loop-row-preserved : goal.loop-row-preserved
@@ -34,6 +34,6 @@ loop-row-preserved g c =
     ]
 
 pub returns-clause-apart : goal.returns-clause-apart
-returns-clause-apart g c = 
+returns-clause-apart g c =
     let net : Net = net_of g.P.Primitive.behaviour c.args.circuit.now in
     λ end. below_whole (IsApartAt net c.args.side end) c.loop-row.row (get_or c.loop-row.lists end []) (λ k h. omega (arith, c.rows-row-end.ensures.count no_side, h.in_table no_side)) (c.loop-row.invariant.each end)

@@ -1,4 +1,4 @@
-use Rattle.std.proofs.Common.{sym, ◌∙◌}
+use Rattle.std.proofs.Common.{◌∙◌}
 use Rattle.reo_net_base.specs.Net.{net_of}
 use Rattle.reo_boards.proofs.Sides.{row_here, mark_here}
 use Rattle.reo_boards.proofs.marks.mark_at_joint.Goals as goal
