@@ -58,7 +58,10 @@ fn add_for<P: Primitive>(
     circuit.known();
     let primitive = circuit.primitive(giver.primitive);
     let side = primitive.side_of(giver.end);
-    if is_full(items.as_slice()) || !primitive.passes(side, row, from, taken) {
+    if is_full(items.as_slice()) {
+        return Ok(());
+    }
+    if !primitive.passes(side, row, from, taken) {
         return Ok(());
     }
     let item = primitive.gives(alloc, side, row, giver.end, Some(taken))?;
@@ -80,7 +83,7 @@ fn add_passed<P: Primitive>(
     requires decides { from_in (net_of P.behaviour circuit.now) row giver ≡ Some from }
     ensures { let net = net_of P.behaviour circuit.now in let source = end_of giver.primitive from in
         OnOk result (AreAdded items.old items.new
-            (λ x. (u : Item) × Contains taken.now u × IsGivenFor net giver row source u x)) }
+        (λ x. (u : Item) × Contains taken.now u × IsGivenFor net giver row source u x)) }
 {
     for index in 0..taken.len() {
         add_for(alloc, circuit, giver, row, from, &taken[index], items)?;
