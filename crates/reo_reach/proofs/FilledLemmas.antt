@@ -1,15 +1,14 @@
 -- Lists that are made joint by joint.
-use Rattle.std.proofs.Common.{◌≡◌, ◌≢◌, inl, inr, ℕ, ◌+◌, ◌<◌, ◌≤◌, List, [], Bool, true, false, length, get_or, set, nat_lt, refl, ap, sym, ◌∙◌, subst, arith, below_more, get_or-set_same, get_or-set_other}
+use Rattle.std.proofs.Common.{◌≡◌, ◌≢◌, ℕ, ◌+◌, ◌<◌, ◌≤◌, List, [], true, false, length, get_or, nat_lt, ap, sym, ◌∙◌, subst, arith, below_more, get_or-set_same, get_or-set_other}
 use Rattle.std.specs.Prelude.{Contains}
 use Rattle.std.proofs.lemmas.Bool.Decides.{nat_tests}
 use Rattle.std.proofs.lemmas.List.{get_or_default, length-set}
-use Rattle.std.proofs.lemmas.List.Elements.{Contains-get_or}
 use Rattle.reo_values.specs.declared.value.Value.{Value}
 use Rattle.reo_net_base.specs.declared.joint.End.{End}
 use Rattle.reo_net_base.specs.Net.{Net}
-use Rattle.reo_reach.specs.Standing.{giver_of, FlowsAt, Brings, CanStand}
+use Rattle.reo_reach.specs.Standing.{giver_of, Brings, CanStand}
 use Rattle.reo_reach.specs.Standing.CanStand.{alone, passed}
-use Rattle.reo_reach.specs.Supplied.{Supplied, items_at, is_wide, HasPlaces, AreDistinct, Leads, IsClear, IsReached, OthersStay}
+use Rattle.reo_reach.specs.Supplied.{Supplied, items_at, is_wide, HasPlaces, AreDistinct, IsClear, IsReached, OthersStay}
 use Rattle.reo_reach.specs.Supplied.Leads.{here, on}
 use Rattle.reo_reach.specs.InOrder.{AreInOrder}
 use Rattle.reo_reach.specs.Added.{IsProduced, IsMade, renewed}

@@ -1,14 +1,12 @@
 -- The joints of a closed set, in an order.
-use Rattle.std.proofs.Common.{◌≡◌, ◌≢◌, ◌⊎◌, inl, inr, ℕ, zero, suc, ◌+◌, ◌<◌, ◌≤◌, List, [], ◌∷◌, ◌++◌, Bool, true, false, cond, length, get_or, take, refl, ap, sym, ◌∙◌, subst, arith, below_more, append-nil, length-append}
+use Rattle.std.proofs.Common.{◌≡◌, ◌≢◌, inl, inr, ℕ, zero, suc, ◌+◌, ◌<◌, ◌≤◌, List, [], ◌∷◌, ◌++◌, Bool, true, false, cond, length, get_or, take, ap, sym, ◌∙◌, subst, arith, below_more, append-nil, length-append}
 use Rattle.std.specs.List.{filter}
 use Rattle.std.proofs.Math.Seq.{get_or-append_seam}
 use Rattle.std.proofs.lemmas.Bool.{cases_Bool}
 use Rattle.std.proofs.lemmas.List.{get_or_append_left, take_all}
 use Rattle.std.proofs.lemmas.List.Elements.{filter_more}
 use Rattle.reo_net_base.specs.Net.{Net, side_at}
-use Rattle.reo_net_base.specs.Wired.{IsWired, IsOrder}
-use Rattle.reo_net_laws.specs.Parts.{IsClosed}
-use Rattle.reo_reach.specs.Standing.{no_joint, giver_of, taker_of, Brings}
+use Rattle.reo_reach.specs.Standing.{no_joint, giver_of, Brings}
 use Rattle.reo_reach.specs.InOrder.{AreInOrder, PartsAreInOrder}
 use Rattle.reo_reach.proofs.OrderLemmas.{brings_feeds, order_in_order}
 

@@ -1,5 +1,5 @@
 -- What a row gives at an end.
-use Rattle.std.proofs.Common.{◌≡◌, ◌≢◌, inl, inr, ℕ, ◌+◌, ◌<◌, ◌≤◌, List, [], Bool, true, false, Option, None, Some, length, get_or, refl, ap, sym, ◌∙◌, subst, arith}
+use Rattle.std.proofs.Common.{◌≡◌, ◌≢◌, inl, inr, ℕ, ◌+◌, ◌<◌, List, [], true, false, None, Some, length, get_or, refl, ap, sym, ◌∙◌, subst, arith}
 use Rattle.std.specs.Prelude.{Contains, IsSome}
 use Rattle.std.proofs.lemmas.List.{get_or_default}
 use Rattle.std.proofs.lemmas.List.Elements.{Contains-get_or}
@@ -14,7 +14,7 @@ use Rattle.reo_net_base.specs.Wired.{IsWired}
 use Rattle.reo_net_laws.specs.Ends.{mark_in, from_in}
 use Rattle.reo_net_ends.specs.Ends.{joint_at, AreEnds}
 use Rattle.reo_net_ends.proofs.EndLemmas.{taker_at, of_taker}
-use Rattle.reo_reach.specs.Standing.{no_joint, giver_of, taker_of, given_in, passes_in, FlowsAt, Brings, IsGivenFor, GivesAlone, GivesFor}
+use Rattle.reo_reach.specs.Standing.{no_joint, giver_of, taker_of, given_in, passes_in, FlowsAt, IsGivenFor, GivesAlone}
 use Rattle.reo_reach.specs.Supplied.{Supplied, items_at}
 use Rattle.reo_reach.specs.Added.{AreAdded, IsProduced, IsMade}
 use Rattle.reo_reach.specs.Added.IsProduced.{by_state, by_item}

@@ -1,27 +1,27 @@
 -- Items of assignments can stand.
-use Rattle.std.proofs.Common.{◌≡◌, ◌≢◌, inl, inr, ℕ, zero, suc, ◌+◌, ◌<◌, ◌≤◌, List, [], ◌∷◌, Bool, true, false, cond, Option, None, Some, length, get_or, refl, ap, sym, ◌∙◌, subst, arith}
+use Rattle.std.proofs.Common.{◌≡◌, inl, inr, ℕ, zero, suc, ◌+◌, ◌<◌, List, [], ◌∷◌, Bool, true, false, cond, Option, None, Some, length, get_or, refl, ap, sym, ◌∙◌, subst, arith}
 use Rattle.std.specs.Option.{option_and_then}
 use Rattle.std.proofs.lemmas.Bool.{cases_eq}
 use Rattle.std.proofs.lemmas.Bool.Decides.{nat_tests}
 use Rattle.std.proofs.lemmas.List.{get_or_default}
 use Rattle.reo_values.specs.declared.value.Value.{Value}
-use Rattle.reo_net_order.specs.Arrows.{OrderExists, NoCycle}
+use Rattle.reo_net_order.specs.Arrows.{OrderExists}
 use Rattle.reo_net_base.specs.declared.mark.Mark.TheVariants.{F, J}
 use Rattle.reo_net_base.specs.declared.joint.End.{End}
 use Rattle.reo_net_base.specs.declared.joint.Joint.{Joint}
 use Rattle.reo_net_base.specs.Behaviour.{Behaviour, IsPlainRow}
 use Rattle.reo_net_base.specs.Lawful.{GivesAt}
-use Rattle.reo_net_base.specs.Net.{Net, behaviour_at, end_of, end_eq, side_at, side_of_end, row_at, mark_at, from_sides, to_sides}
+use Rattle.reo_net_base.specs.Net.{Net, behaviour_at, end_of, end_eq, side_at, side_of_end, row_at, from_sides, to_sides}
 use Rattle.reo_net_base.specs.Colouring.{taken_at, given_at, lets_in, HasItem, ItemFits}
 use Rattle.reo_net_base.specs.Wired.{IsWired, IsOrder}
 use Rattle.reo_net_laws.specs.Ends.{mark_in, from_in, IsSource}
 use Rattle.reo_net_laws.specs.Parts.{IsClosed, IsAssignment, is_joint_inside}
 use Rattle.reo_net_laws.proofs.Items.{end_is, along_order}
 use Rattle.reo_net_laws.proofs.Joined.{source_taken}
-use Rattle.reo_net_laws.proofs.Sides.{row_is, side_in_range, row_in_table, gives_at, same_side_at}
-use Rattle.reo_reach.specs.Standing.{no_joint, giver_of, taker_of, given_in, passes_in, FlowsAt, Brings, IsGivenFor, GivesAlone, GivesFor, CanStand}
+use Rattle.reo_net_laws.proofs.Sides.{row_is, side_in_range, row_in_table, gives_at}
+use Rattle.reo_reach.specs.Standing.{no_joint, giver_of, taker_of, given_in, passes_in, FlowsAt, CanStand}
 use Rattle.reo_reach.specs.Standing.CanStand.{alone, passed}
-use Rattle.reo_reach.specs.Laws.{AreClosed, PossibleItemsAreClosed, PossibleItemsAreLeast, ItemsCanStand}
+use Rattle.reo_reach.specs.Laws.{PossibleItemsAreClosed, PossibleItemsAreLeast, ItemsCanStand}
 
 pub possible_closed : PossibleItemsAreClosed
 possible_closed net = record {

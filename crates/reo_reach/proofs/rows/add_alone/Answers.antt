@@ -1,4 +1,3 @@
-use Rattle.std.proofs.Common.{◌≡◌, Option, None, Some}
 use Rattle.std.proofs.lemmas.Result.{on_ok_weaker}
 use Rattle.reo_net_base.specs.Net.{Net, net_of}
 use Rattle.reo_reach.proofs.RowLemmas.{flows_by, some_alone, added_alone}

@@ -1,7 +1,5 @@
-use Rattle.std.proofs.Common.{◌≡◌, ◌∙◌, ◌<◌, ℕ, List, Option, None, Some, length, sym, ap, arith}
+use Rattle.std.proofs.Common.{◌≡◌, ◌∙◌, sym, ap, arith}
 use Rattle.std.proofs.lemmas.Result.{on_ok_weaker}
-use Rattle.reo_values.specs.declared.value.Value.{Value}
-use Rattle.reo_net_base.specs.declared.joint.End.{End}
 use Rattle.reo_net_base.specs.Ends.{IsTaker}
 use Rattle.reo_net_base.specs.Net.{Net, net_of, end_of}
 use Rattle.reo_net_laws.specs.Ends.{from_in}

@@ -1,4 +1,4 @@
-use Rattle.std.proofs.Common.{◌≡◌, ◌<◌, ◌+◌, ℕ, List, length, get_or, subst, sym, arith}
+use Rattle.std.proofs.Common.{◌≡◌, ◌<◌, ◌+◌, ℕ, List, length, subst, sym, arith}
 use Rattle.reo_net_base.specs.Net.{Net, net_of}
 use Rattle.reo_reach.specs.Supplied.{Supplied, HasPlaces, OthersStay}
 use Rattle.reo_reach.proofs.FilledLemmas.{AreFilled, more_places, more_others, more_filled, reached}
