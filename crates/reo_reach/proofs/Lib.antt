@@ -4,3 +4,5 @@ pub mod OrderLemmas
 pub mod PartLemmas
 pub mod RowLemmas
 pub mod StandLemmas
+pub mod StayLemmas
+pub mod WidthLemmas

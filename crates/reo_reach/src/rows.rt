@@ -52,7 +52,8 @@ fn add_for<P: Primitive>(
     requires giver { IsGiver (net_of P.behaviour circuit.now) giver }
     requires flows { FlowsAt (net_of P.behaviour circuit.now) giver row }
     requires decides { from_in (net_of P.behaviour circuit.now) row giver ≡ Some from }
-    ensures { let net = net_of P.behaviour circuit.now in let source = end_of giver.primitive from in
+    ensures { let net = net_of P.behaviour circuit.now in
+        let source = end_of giver.primitive from in
         OnOk result (AreAdded items.old items.new (IsGivenFor net giver row source taken.now)) }
 {
     circuit.known();
@@ -81,7 +82,8 @@ fn add_passed<P: Primitive>(
     requires giver { IsGiver (net_of P.behaviour circuit.now) giver }
     requires flows { FlowsAt (net_of P.behaviour circuit.now) giver row }
     requires decides { from_in (net_of P.behaviour circuit.now) row giver ≡ Some from }
-    ensures { let net = net_of P.behaviour circuit.now in let source = end_of giver.primitive from in
+    ensures { let net = net_of P.behaviour circuit.now in
+        let source = end_of giver.primitive from in
         OnOk result (AreAdded items.old items.new
         (λ x. (u : Item) × Contains taken.now u × IsGivenFor net giver row source u x)) }
 {
@@ -137,7 +139,8 @@ pub(crate) fn add_row<P: Primitive>(
     requires ends { AreEnds (net_of P.behaviour circuit.now) ends.now }
     requires supply { HasPlaces (net_of P.behaviour circuit.now) supply.now }
     requires giver { IsGiver (net_of P.behaviour circuit.now) giver }
-    requires row { let b = behaviour_at (net_of P.behaviour circuit.now).primitives giver.primitive in
+    requires row { let net = net_of P.behaviour circuit.now in
+        let b = behaviour_at net.primitives giver.primitive in
         IsPlainRow b (b.side_of giver.end) row }
     ensures { let net = net_of P.behaviour circuit.now in
         OnOk result (AreAdded items.old items.new (IsProduced net supply.now giver row)) }
