@@ -1,0 +1,8 @@
+pub mod AddedLemmas
+pub mod FilledLemmas
+pub mod OrderLemmas
+pub mod PartLemmas
+pub mod RowLemmas
+pub mod StandLemmas
+pub mod StayLemmas
+pub mod WidthLemmas

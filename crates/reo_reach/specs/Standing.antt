@@ -22,11 +22,13 @@ taker_of net j = (slice_index_or net.joints j no_joint).taker
 
 -- The item that a row gives at an end of its side, for the one taken at the end that decides.
 unfoldable pub given_in : Net → ℕ → End → Option Value → Option Value
-given_in net row e taken = (behaviour_at net.primitives e.primitive).given ((behaviour_at net.primitives e.primitive).side_of e.end) row e.end taken
+given_in net row e taken = (behaviour_at net.primitives e.primitive).given
+    ((behaviour_at net.primitives e.primitive).side_of e.end) row e.end taken
 
 -- Whether a row lets an item in at an end of its side.
 unfoldable pub passes_in : Net → ℕ → End → Value → Bool
-passes_in net row e item = (behaviour_at net.primitives e.primitive).passes ((behaviour_at net.primitives e.primitive).side_of e.end) row e.end item
+passes_in net row e item = (behaviour_at net.primitives e.primitive).passes
+    ((behaviour_at net.primitives e.primitive).side_of e.end) row e.end item
 
 -- A row of an end's side that is no jam row, and by which the end flows.
 pub record FlowsAt (net : Net) (giver : End) (row : ℕ) : Type 0 where

@@ -14,7 +14,9 @@ pub record Supplied : Type 0 where
 -- A supply is stored as the pair of its fields.
 abbrev pub supplied_code : Coded Value → Coded Supplied
 supplied_code code =
-    code_by (List (List Value) × List Bool) (coded× (coded_list (coded_list code)) (coded_list coded_bool)) (λ s. (s.items, s.wide)) (λ p. record { items = p.0; wide = p.1 }) (λ _. refl)
+    code_by (List (List Value) × List Bool)
+    (coded× (coded_list (coded_list code)) (coded_list coded_bool)) (λ s. (s.items, s.wide))
+    (λ p. record { items = p.0; wide = p.1 }) (λ _. refl)
 
 -- A supply of these lists and marks.
 abbrev pub supplied_of : List (List Value) → List Bool → Supplied

@@ -20,7 +20,8 @@ mod supply;
 mod visits;
 
 pub use laws::{
-    items_can_stand, parts_are_in_order, possible_items_are_closed, possible_items_are_least,
+    items_can_stand, many_are_not_clear, parts_are_in_order, parts_are_told,
+    possible_items_are_closed, possible_items_are_least, reached_stay,
 };
 pub use supply::Supply;
 pub use visits::{reach, reach_at};

@@ -52,13 +52,17 @@ fn add_for<P: Primitive>(
     requires giver { IsGiver (net_of P.behaviour circuit.now) giver }
     requires flows { FlowsAt (net_of P.behaviour circuit.now) giver row }
     requires decides { from_in (net_of P.behaviour circuit.now) row giver ≡ Some from }
-    ensures { let net = net_of P.behaviour circuit.now in let source = end_of giver.primitive from in
+    ensures { let net = net_of P.behaviour circuit.now in
+        let source = end_of giver.primitive from in
         OnOk result (AreAdded items.old items.new (IsGivenFor net giver row source taken.now)) }
 {
     circuit.known();
     let primitive = circuit.primitive(giver.primitive);
     let side = primitive.side_of(giver.end);
-    if is_full(items.as_slice()) || !primitive.passes(side, row, from, taken) {
+    if is_full(items.as_slice()) {
+        return Ok(());
+    }
+    if !primitive.passes(side, row, from, taken) {
         return Ok(());
     }
     let item = primitive.gives(alloc, side, row, giver.end, Some(taken))?;
@@ -78,9 +82,10 @@ fn add_passed<P: Primitive>(
     requires giver { IsGiver (net_of P.behaviour circuit.now) giver }
     requires flows { FlowsAt (net_of P.behaviour circuit.now) giver row }
     requires decides { from_in (net_of P.behaviour circuit.now) row giver ≡ Some from }
-    ensures { let net = net_of P.behaviour circuit.now in let source = end_of giver.primitive from in
+    ensures { let net = net_of P.behaviour circuit.now in
+        let source = end_of giver.primitive from in
         OnOk result (AreAdded items.old items.new
-            (λ x. (u : Item) × Contains taken.now u × IsGivenFor net giver row source u x)) }
+        (λ x. (u : Item) × Contains taken.now u × IsGivenFor net giver row source u x)) }
 {
     for index in 0..taken.len() {
         add_for(alloc, circuit, giver, row, from, &taken[index], items)?;
@@ -134,7 +139,8 @@ pub(crate) fn add_row<P: Primitive>(
     requires ends { AreEnds (net_of P.behaviour circuit.now) ends.now }
     requires supply { HasPlaces (net_of P.behaviour circuit.now) supply.now }
     requires giver { IsGiver (net_of P.behaviour circuit.now) giver }
-    requires row { let b = behaviour_at (net_of P.behaviour circuit.now).primitives giver.primitive in
+    requires row { let net = net_of P.behaviour circuit.now in
+        let b = behaviour_at net.primitives giver.primitive in
         IsPlainRow b (b.side_of giver.end) row }
     ensures { let net = net_of P.behaviour circuit.now in
         OnOk result (AreAdded items.old items.new (IsProduced net supply.now giver row)) }

@@ -57,7 +57,8 @@ fn no_marks(alloc: Global, count: usize) -> Result<Vec<bool>, NoMemory>
 impl Supply {
     /// A supply for so many joints, of which nothing is known. `NoMemory` is out of memory.
     pub fn unknown(alloc: Global, joints: usize) -> Result<Supply, NoMemory>
-        ensures { IfOk result (λ supply. length supply.items ≡ joints) }
+        ensures lists { IfOk result (λ supply. length supply.items ≡ joints) }
+        ensures marks { IfOk result (λ supply. length supply.wide ≡ joints) }
     {
         let items = no_lists(alloc, joints)?;
         let wide = no_marks(alloc, joints)?;

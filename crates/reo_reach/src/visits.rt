@@ -74,8 +74,8 @@ fn renew<P: Primitive>(
 /// and marks of other joints stay, also after `NoMemory`, which is out of memory.
 ///
 /// Each of these joints stands behind all that bring what some row gives there, as do the joints
-/// of a knot in the circuit's order. The steps are as many as rows at these joints and items that
-/// are taken there, times the items that are given.
+/// of a knot in the circuit's order. Each row at these joints is looked at once, and each item
+/// that it takes; no joint is searched for.
 pub fn reach_at<P: Primitive>(
     alloc: Global,
     circuit: &Circuit<P>,

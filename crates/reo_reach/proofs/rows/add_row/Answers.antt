@@ -1,0 +1,19 @@
+use Rattle.std.proofs.Common.{◌∙◌, sym}
+use Rattle.reo_net_base.specs.Net.{Net, net_of}
+use Rattle.reo_net_laws.specs.Ends.{mark_in}
+use Rattle.reo_reach.proofs.RowLemmas.{produced_none}
+use Rattle.reo_reach.proofs.rows.add_row.Goals as goal
+
+pub add_given-requires-clause-flows : goal.add_given-requires-clause-flows
+unfolding mark_in
+add_given-requires-clause-flows g c = record {
+  plain = c.requires.row;
+  flows = sym (rw (c.side_of.ensures, c.primitive-primitive.ensures.behaviour) at c.in-F.ensures);
+}
+
+pub returns-in_default : goal.returns-in_default
+unfolding mark_in
+returns-in_default g c =
+    let net : Net = net_of g.P.Primitive.behaviour c.args.circuit.now in
+    let mark = rw (c.side_of.ensures, c.primitive-primitive.ensures.behaviour) at c.mark.ensures in
+    produced_none net c.args.supply.now c.args.giver c.args.row (λ flows. c.in_default.not-F (mark ∙ flows)) c.args.items.now
