@@ -82,6 +82,13 @@ impl Supply {
         self.wide[joint]
     }
 
+    /// The items at each joint. This takes no memory.
+    pub fn lists(&self) -> &[List<Value>]
+        ensures { result.now ≡ self.now.items }
+    {
+        &self.items
+    }
+
     /// Makes this the list of a joint, which is wide where there are more than 256 items.
     pub(crate) fn put(&mut self, joint: usize, items: List<Value>)
         requires { joint < length self.old.items }
