@@ -1,0 +1,8 @@
+//! Laws of made work.
+ghost use Rattle.reo_gen_laws.specs.Accepted.{WorkIsAccepted};
+
+/// Made work is accepted: its circuit text says a program that breaks no rule, with 14 primitives
+/// for each stage and two more, and its script text says a script for the ports of that program.
+pub fn work_is_accepted()
+    ensures { WorkIsAccepted }
+{}
