@@ -148,6 +148,12 @@ module _ {Ref : Type 0} {tree : Ref → Type 0} {rules : (r : Ref) → Grammar R
   reads-name b gap r h n s i low =
       reads-made (λ x. b ≡ x) (reads-token name (name_token b) gap r h refl (and-both (is_name b && not (one_of b reserved)) true (and-both (is_name b) (not (one_of b reserved)) n.spelled n.free) refl) s i low) (λ x e. e)
 
+  -- The digits of a number.
+  pub reads-number : (n low high : ℕ) (b gap r : List ℕ) (h : Height) → matches (number low high) (record { kind = kinds.Number; bytes = b; line = 0 }) ≡ true → is_real (record { kind = kinds.Number; bytes = b; line = 0 }) ≡ true
+      → number_from 0 b ≡ n → list_all is_space gap ≡ true → is_cut kinds.Number b (gap ++ r) ≡ true → (nat_le h.parentheses 64 && nat_le h.braces 16) ≡ true
+      → Reads rules (made (λ t. number_from 0 t.bytes) (token (number low high))) (b ++ gap) r (λ m. m ≡ n) h h
+  reads-number n low high b gap r h m q v s i fit = reads-made (λ m. m ≡ n) (reads-token (number low high) (record { kind = kinds.Number; bytes = b; line = 0 }) gap r h m q s i fit) (λ t e. sym (ap (number_from 0) e) ∙ v)
+
   -- Blanks before.
   pub reads-gap : {A : Type 0} {g : Grammar Ref tree A} {a r : List ℕ} {S : A → Type 0} {h k : Height} (gap : List ℕ) → list_all is_space gap ≡ true → Reads rules g a r S h k → Reads rules g (gap ++ a) r S h k
   reads-gap {a = a} {r = r} gap s x = record { us = x.us; row = gap-row gap a x.us r (blanks gap s) x.row; low = x.low; ends = x.ends; says = x.says }

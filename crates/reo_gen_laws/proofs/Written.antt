@@ -19,8 +19,9 @@ made_by (f ∷ fs) at = f (at zero) ∷ made_by fs (λ j. at (suc j))
 abbrev pub IsBy : {X : Type 0} → (Lines → X) → X → Type 0
 IsBy f x = (l : Lines) × (x ≡ f l)
 
-abbrev pub AreBy : {X : Type 0} → List (Lines → X) → List X → Type 0
-AreBy fs xs = (at : ℕ → Lines) × (xs ≡ made_by fs at)
+pub record AreBy {X : Type 0} (fs : List (Lines → X)) (xs : List X) : Type 0 where
+  pub at : ℕ → Lines
+  pub are : xs ≡ made_by fs at
 
 -- The lines of some, and these of one more behind them.
 abbrev with_last : {X : Type 0} → List (Lines → X) → Lines → (ℕ → Lines) → ℕ → Lines
@@ -33,10 +34,10 @@ made-last [] f l at = refl
 made-last (g ∷ fs) f l at = ap (λ xs. g (at zero) ∷ xs) (made-last fs f l (λ i. at (suc i)))
 
 pub by-none : {X : Type 0} → AreBy {X = X} [] []
-by-none = ((λ j. (0, 0)), refl)
+by-none = record { at = λ j. (0, 0); are = refl }
 
 pub by-more : {X : Type 0} (fs : List (Lines → X)) (f : Lines → X) (xs : List X) (x : X) → AreBy fs xs → IsBy f x → AreBy (fs ++ f ∷ []) (xs ++ x ∷ [])
-by-more fs f xs x (at, e) (l, i) = (with_last fs l at, (λ k. e k ++ i k ∷ []) ∙ made-last fs f l at)
+by-more fs f xs x so (l, i) = record { at = with_last fs l so.at; are = (λ k. so.are k ++ i k ∷ []) ∙ made-last fs f l so.at }
 
 -- Further parts of a chain, one for each number from a on.
 pub reads-range : {Ref : Type 0} {tree : Ref → Type 0} {rules : (r : Ref) → Grammar Ref tree (tree r)} {X : Type 0} {c : Class} {g : Grammar Ref tree (List X)} {e : Grammar Ref tree X} {h k : Height}
