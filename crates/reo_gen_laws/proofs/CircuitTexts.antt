@@ -26,9 +26,9 @@ use Rattle.reo_gen.specs.Names.{link, output}
 use Rattle.reo_gen.specs.Circuits.{stage_text, output_text, head_text, link_line, source_of, sink_of, use_line, circuit_text}
 use Rattle.reo_gen_laws.proofs.Heights.{Height, height, low-nowhere_above}
 use Rattle.reo_gen_laws.proofs.Pieces.{Reads, IsNamed, reads-both, reads-more, reads-first, reads-left, reads-right, reads-made, reads-lined, reads-rule, reads-nothing, reads-text, reads-word, reads-name, reads-gap, reads-number, reads-all}
-use Rattle.reo_gen_laws.proofs.Written.{Lines, IsBy, AreBy, made_by, by-none, by-more, reads-range}
+use Rattle.reo_gen_laws.proofs.Written.{Lines, IsBy, AreBy, made_by, by-none, by-more, past, made-append, reads-range}
 use Rattle.reo_gen_laws.proofs.Words.{named-output, named-link}
-use Rattle.reo_gen_laws.proofs.Trees.{parameter_by, node_by, channel_by, use_by, connector_by, stage_parameters, stage_items, output_by, link_by, stage_by, main_parameters, main_items, Places, program_of, declarations_of, type_declaration, stage_of, buffer}
+use Rattle.reo_gen_laws.proofs.Trees.{parameter_by, node_by, channel_by, use_by, connector_by, stage_parameters, stage_items, output_by, link_by, stage_by, main_parameters, main_links, main_stages, Places, program_of, declarations_of, type_declaration, stage_of, buffer}
 use Rattle.reo_gen_laws.proofs.Parts.{Circuit, bare-name, within_head, within_body, reads-in, reads-out, reads-node, reads-sync, reads-lossy, reads-drain, reads-buffer, reads-use, is_end}
 
 -- Items so far, and one more, indented or not.
@@ -161,7 +161,7 @@ reads-stage n j r h =
     (reads-gap (codes "  ") refl (reads-use (source_of j) (sink_of n j) (output j) (codes "\n") r (named-source j h) (named-sink n j h) (named-output j h) refl))
 
 reads-main_items : (n : ℕ) (r : List ℕ) → 1 ≤ n → n ≤ 256
-    → Circuit items_form (flat_map link_line (range_with_len 1 (n - 1)) ++ flat_map (use_line n) (range_with_len 1 n)) (codes "}\n" ++ r) (AreBy (main_items n)) within_body within_body
+    → Circuit items_form (flat_map link_line (range_with_len 1 (n - 1)) ++ flat_map (use_line n) (range_with_len 1 n)) (codes "}\n" ++ r) (AreBy (main_links n ++ main_stages n)) within_body within_body
 reads-main_items n r some few =
     reads-range (λ s. Unit {0}) (use_line n) (stage_by n) 1 n (map link_by (range_with_len 1 (n - 1))) (flat_map link_line (range_with_len 1 (n - 1))) (codes "}\n" ++ r) tt (λ j s. tt)
     (λ j s l u f. reads-stage n j s (omega arith))
@@ -255,7 +255,7 @@ abbrev main_connector : ℕ → List ℕ
 main_connector n = connector_text (codes "main") (main_head n) (main_body n)
 
 nowhere : Places
-nowhere = record { type_line = 0; term_line = 0; stage_line = 0; stage_parameters = λ j. (0, 0); stage_items = λ j. (0, 0); main_line = 0; main_parameters = λ j. (0, 0); main_items = λ j. (0, 0) }
+nowhere = record { type_line = 0; term_line = 0; stage_line = 0; stage_parameters = λ j. (0, 0); stage_items = λ j. (0, 0); main_line = 0; main_parameters = λ j. (0, 0); main_links = λ j. (0, 0); main_stages = λ j. (0, 0) }
 
 reads-declarations : (n : ℕ) → 1 ≤ n → n ≤ 256
     → Circuit declarations_form ((codes "type t = int 0..999;\n" ++ stage_connector) ++ main_connector n) [] (λ ds. (at : Places) × (ds ≡ declarations_of n at)) ground ground
@@ -268,9 +268,10 @@ reads-declarations n some few =
     (reads-made_connector (codes "stage") stage_parameters stage_items stage_connector (main_connector n ++ [])
     (reads-connector (codes "stage") stage_parameters stage_items (codes "in a: t, out b: t, out c: t") stage_body (main_connector n ++ []) (named (codes "stage") refl refl) reads-stage_parameters (reads-stage_items (codes "}\n" ++ (main_connector n ++ [])))))
     (λ ds d e k. (record e.0 { stage_line = k.1.line; stage_parameters = k.1.at; stage_items = k.1.below }, λ i. e.1 i ++ (k.2 ∙ ap declarations.Made k.1.same) i ∷ [])))
-    (reads-made_connector (codes "main") (main_parameters n) (main_items n) (main_connector n) []
-    (reads-connector (codes "main") (main_parameters n) (main_items n) (main_head n) (main_body n) [] (named (codes "main") refl refl) (λ s. reads-main_parameters n s few) (reads-main_items n [] some few)))
-    (λ ds d e k. (record e.0 { main_line = k.1.line; main_parameters = k.1.at; main_items = k.1.below }, λ i. e.1 i ++ (k.2 ∙ ap declarations.Made k.1.same) i ∷ []))
+    (reads-made_connector (codes "main") (main_parameters n) (main_links n ++ main_stages n) (main_connector n) []
+    (reads-connector (codes "main") (main_parameters n) (main_links n ++ main_stages n) (main_head n) (main_body n) [] (named (codes "main") refl refl) (λ s. reads-main_parameters n s few) (reads-main_items n [] some few)))
+    (λ ds d e k. (record e.0 { main_line = k.1.line; main_parameters = k.1.at; main_links = k.1.below; main_stages = past (main_links n) k.1.below },
+    λ i. e.1 i ++ (k.2 ∙ ap declarations.Made (k.1.same ∙ ap (λ (is : List Item). record { line = k.1.line; name = codes "main"; parameters = made_by (main_parameters n) k.1.at; items = is }) (made-append (main_links n) (main_stages n) k.1.below))) i ∷ []))
 
 joined-head : (p l u : List ℕ) → (p ++ codes ") ") ++ (codes "{\n" ++ ((l ++ u) ++ codes "}\n")) ≡ ((p ++ codes ") {\n") ++ l) ++ (u ++ codes "}\n")
 joined-head p l u =

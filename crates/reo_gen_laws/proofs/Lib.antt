@@ -5,3 +5,6 @@ pub mod Words
 pub mod Trees
 pub mod Parts
 pub mod CircuitTexts
+pub mod NameTests
+pub mod Passes
+pub mod Rules

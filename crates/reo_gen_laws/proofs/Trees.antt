@@ -62,8 +62,11 @@ stage_by stages number = use_by (source_of number) (sink_of stages number) (outp
 abbrev pub main_parameters : ℕ → List (Lines → Parameter)
 main_parameters stages = parameter_by true (codes "i") ∷ map output_by (range_with_len 0 (stages + 1))
 
-abbrev pub main_items : ℕ → List (Lines → Item)
-main_items stages = map link_by (range_with_len 1 (stages - 1)) ++ map (stage_by stages) (range_with_len 1 stages)
+abbrev pub main_links : ℕ → List (Lines → Item)
+main_links stages = map link_by (range_with_len 1 (stages - 1))
+
+abbrev pub main_stages : ℕ → List (Lines → Item)
+main_stages stages = map (stage_by stages) (range_with_len 1 stages)
 
 -- The lines of all parts.
 pub record Places : Type 0 where
@@ -74,7 +77,8 @@ pub record Places : Type 0 where
   pub stage_items : ℕ → Lines
   pub main_line : ℕ
   pub main_parameters : ℕ → Lines
-  pub main_items : ℕ → Lines
+  pub main_links : ℕ → Lines
+  pub main_stages : ℕ → Lines
 
 abbrev pub type_declaration : ℕ → ℕ → Declaration
 type_declaration line term = declarations.Named line (codes "t") (record { line = term; shape = shapes.Int (pos 0) (pos 999) })
@@ -83,7 +87,12 @@ abbrev pub stage_of : Places → Connector
 stage_of at = connector_by (codes "stage") stage_parameters stage_items at.stage_line at.stage_parameters at.stage_items
 
 abbrev pub main_of : ℕ → Places → Connector
-main_of stages at = connector_by (codes "main") (main_parameters stages) (main_items stages) at.main_line at.main_parameters at.main_items
+main_of stages at = record {
+  line = at.main_line;
+  name = codes "main";
+  parameters = made_by (main_parameters stages) at.main_parameters;
+  items = made_by (main_links stages) at.main_links ++ made_by (main_stages stages) at.main_stages;
+}
 
 abbrev pub declarations_of : ℕ → Places → List Declaration
 declarations_of stages at = type_declaration at.type_line at.term_line ∷ declarations.Made (stage_of at) ∷ declarations.Made (main_of stages at) ∷ []

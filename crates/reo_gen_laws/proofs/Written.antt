@@ -39,6 +39,15 @@ by-none = record { at = λ j. (0, 0); are = refl }
 pub by-more : {X : Type 0} (fs : List (Lines → X)) (f : Lines → X) (xs : List X) (x : X) → AreBy fs xs → IsBy f x → AreBy (fs ++ f ∷ []) (xs ++ x ∷ [])
 by-more fs f xs x so (l, i) = record { at = with_last fs l so.at; are = (λ k. so.are k ++ i k ∷ []) ∙ made-last fs f l so.at }
 
+-- The lines behind those of some.
+abbrev pub past : {X : Type 0} → List (Lines → X) → (ℕ → Lines) → ℕ → Lines
+past [] at = at
+past (f ∷ fs) at = past fs (λ j. at (suc j))
+
+pub made-append : {X : Type 0} (fs gs : List (Lines → X)) (at : ℕ → Lines) → made_by (fs ++ gs) at ≡ made_by fs at ++ made_by gs (past fs at)
+made-append [] gs at = refl
+made-append (f ∷ fs) gs at = ap (λ xs. f (at zero) ∷ xs) (made-append fs gs (λ j. at (suc j)))
+
 -- Further parts of a chain, one for each number from a on.
 pub reads-range : {Ref : Type 0} {tree : Ref → Type 0} {rules : (r : Ref) → Grammar Ref tree (tree r)} {X : Type 0} {c : Class} {g : Grammar Ref tree (List X)} {e : Grammar Ref tree X} {h k : Height}
     (Fits : List ℕ → Type 0) (t : ℕ → List ℕ) (make : ℕ → Lines → X) (a n : ℕ) (fs : List (Lines → X)) (before r : List ℕ)
