@@ -8,3 +8,4 @@ pub mod CircuitTexts
 pub mod NameTests
 pub mod Passes
 pub mod Rules
+pub mod ScriptTexts

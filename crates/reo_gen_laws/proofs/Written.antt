@@ -48,26 +48,35 @@ pub made-append : {X : Type 0} (fs gs : List (Lines → X)) (at : ℕ → Lines)
 made-append [] gs at = refl
 made-append (f ∷ fs) gs at = ap (λ xs. f (at zero) ∷ xs) (made-append fs gs (λ j. at (suc j)))
 
--- Further parts of a chain, one for each number from a on.
+-- Further parts of a chain, one for each number from a on, where a claim on those so far grows with each.
+module _ {Ref : Type 0} {tree : Ref → Type 0} {rules : (r : Ref) → Grammar Ref tree (tree r)} {X : Type 0} (P : List (Lines → X) → List X → Type 0)
+    (more : (fs : List (Lines → X)) (f : Lines → X) (xs : List X) (x : X) → P fs xs → IsBy f x → P (fs ++ f ∷ []) (xs ++ x ∷ [])) where
+  pub reads-claimed : {c : Class} {g : Grammar Ref tree (List X)} {e : Grammar Ref tree X} {h k : Height} (Fits : List ℕ → Type 0) (t : ℕ → List ℕ) (make : ℕ → Lines → X) (a n : ℕ) (fs : List (Lines → X)) (before r : List ℕ)
+      → Fits r → ((j : ℕ) (s : List ℕ) → Fits (t j ++ s))
+      → ((j : ℕ) (s : List ℕ) → a ≤ j → j < a + n → Fits s → Reads rules e (t j) s (IsBy (make j)) k k)
+      → Reads rules (chain (λ (xs : List X) (x : X). xs ++ x ∷ []) c g e) before (flat_map t (range_with_len a n) ++ r) (P fs) h k
+      → Reads rules (chain (λ (xs : List X) (x : X). xs ++ x ∷ []) c g e) (before ++ flat_map t (range_with_len a n)) r (P (fs ++ map make (range_with_len a n))) h k
+  reads-claimed {c = c} {g = g} {e = e} {h = h} {k = k} Fits t make a zero fs before r fit fits each x =
+      reads-text (sym (append-nil before)) (subst (λ z. Reads rules (chain (λ xs x. xs ++ x ∷ []) c g e) before r (P z) h k) (sym (append-nil fs)) x)
+  reads-claimed {c = c} {g = g} {e = e} {h = h} {k = k} Fits t make a (suc n) fs before r fit fits each x =
+      let rest = flat_map t (range_with_len (a + 1) n) in
+      let G = chain (λ (xs : List X) (x : X). xs ++ x ∷ []) c g e in
+      let one : Reads rules G (before ++ t a) (rest ++ r) (P (fs ++ make a ∷ [])) h k =
+          reads-more (P (fs ++ make a ∷ []))
+          (subst (λ s. Reads rules G before s (P fs) h k) (append_assoc (t a) rest r) x)
+          (each a (rest ++ r) (omega arith) (omega arith) (fit-rest n))
+          (λ ys y p q. more fs (make a) ys y p q) in
+      let all = reads-claimed Fits t make (a + 1) n (fs ++ make a ∷ []) (before ++ t a) r fit fits (λ j s i l f. each j s (omega arith) (omega arith) f) one in
+      reads-text (append_assoc before (t a) rest) (subst (λ z. Reads rules G ((before ++ t a) ++ rest) r (P z) h k) (append_assoc fs (make a ∷ []) (map make (range_with_len (a + 1) n))) all)
+    where
+      fit-rest : (m : ℕ) → Fits (flat_map t (range_with_len (a + 1) m) ++ r)
+      fit-rest zero = fit
+      fit-rest (suc m) = subst Fits (sym (append_assoc (t (a + 1)) (flat_map t (range_with_len (a + 1 + 1) m)) r)) (fits (a + 1) (flat_map t (range_with_len (a + 1 + 1) m) ++ r))
+
 pub reads-range : {Ref : Type 0} {tree : Ref → Type 0} {rules : (r : Ref) → Grammar Ref tree (tree r)} {X : Type 0} {c : Class} {g : Grammar Ref tree (List X)} {e : Grammar Ref tree X} {h k : Height}
     (Fits : List ℕ → Type 0) (t : ℕ → List ℕ) (make : ℕ → Lines → X) (a n : ℕ) (fs : List (Lines → X)) (before r : List ℕ)
     → Fits r → ((j : ℕ) (s : List ℕ) → Fits (t j ++ s))
     → ((j : ℕ) (s : List ℕ) → a ≤ j → j < a + n → Fits s → Reads rules e (t j) s (IsBy (make j)) k k)
     → Reads rules (chain (λ (xs : List X) (x : X). xs ++ x ∷ []) c g e) before (flat_map t (range_with_len a n) ++ r) (AreBy fs) h k
     → Reads rules (chain (λ (xs : List X) (x : X). xs ++ x ∷ []) c g e) (before ++ flat_map t (range_with_len a n)) r (AreBy (fs ++ map make (range_with_len a n))) h k
-reads-range {rules = rules} {c = c} {g = g} {e = e} {h = h} {k = k} Fits t make a zero fs before r fit fits each x =
-    reads-text (sym (append-nil before)) (subst (λ z. Reads rules (chain (λ xs x. xs ++ x ∷ []) c g e) before r (AreBy z) h k) (sym (append-nil fs)) x)
-reads-range {rules = rules} {X = X} {c = c} {g = g} {e = e} {h = h} {k = k} Fits t make a (suc n) fs before r fit fits each x =
-    let rest = flat_map t (range_with_len (a + 1) n) in
-    let G = chain (λ (xs : List X) (x : X). xs ++ x ∷ []) c g e in
-    let one : Reads rules G (before ++ t a) (rest ++ r) (AreBy (fs ++ make a ∷ [])) h k =
-        reads-more (AreBy (fs ++ make a ∷ []))
-        (subst (λ s. Reads rules G before s (AreBy fs) h k) (append_assoc (t a) rest r) x)
-        (each a (rest ++ r) (omega arith) (omega arith) (fit-rest n))
-        (λ ys y p q. by-more fs (make a) ys y p q) in
-    let all = reads-range Fits t make (a + 1) n (fs ++ make a ∷ []) (before ++ t a) r fit fits (λ j s i l f. each j s (omega arith) (omega arith) f) one in
-    reads-text (append_assoc before (t a) rest) (subst (λ z. Reads rules G ((before ++ t a) ++ rest) r (AreBy z) h k) (append_assoc fs (make a ∷ []) (map make (range_with_len (a + 1) n))) all)
-  where
-    fit-rest : (m : ℕ) → Fits (flat_map t (range_with_len (a + 1) m) ++ r)
-    fit-rest zero = fit
-    fit-rest (suc m) = subst Fits (sym (append_assoc (t (a + 1)) (flat_map t (range_with_len (a + 1 + 1) m)) r)) (fits (a + 1) (flat_map t (range_with_len (a + 1 + 1) m) ++ r))
+reads-range = reads-claimed AreBy by-more
