@@ -9,3 +9,4 @@ pub mod NameTests
 pub mod Passes
 pub mod Rules
 pub mod ScriptTexts
+pub mod ScriptChecks
