@@ -10,3 +10,4 @@ pub mod Passes
 pub mod Rules
 pub mod ScriptTexts
 pub mod ScriptChecks
+pub mod Placing

@@ -58,3 +58,12 @@ made-map f make g a (suc n) at h = λ i. h a (at zero) i ∷ made-map f make g (
 pub made-flat : {X Y : Type 0} (f : X → List Y) (make : ℕ → Lines → X) (g : ℕ → Y) (a n : ℕ) (at : ℕ → Lines) → ((j : ℕ) (l : Lines) → f (make j l) ≡ g j ∷ []) → flat_map f (made_by (map make (range_with_len a n)) at) ≡ map g (range_with_len a n)
 made-flat f make g a zero at h = refl
 made-flat f make g a (suc n) at h = λ i. h a (at zero) i ++ made-flat f make g (a + 1) n (λ j. at (suc j)) h i
+
+-- A pass that makes something of each, by those before it, where something holds of these.
+pub after-made : {X Y : Type 0} (f : List X → X → List Y) (make : ℕ → Lines → X) (g : ℕ → List Y) (Q : ℕ → List X → Type 0) (a n : ℕ) (at : ℕ → Lines) (before : List X) → Q a before
+    → ((j : ℕ) (b : List X) (l : Lines) → a ≤ j → j < a + n → Q j b → f b (make j l) ≡ g j) → ((j : ℕ) (b : List X) (l : Lines) → a ≤ j → j < a + n → Q j b → Q (j + 1) (b ++ make j l ∷ []))
+    → each_after f before (made_by (map make (range_with_len a n)) at) ≡ flat_map g (range_with_len a n)
+after-made f make g Q a zero at before q h k = refl
+after-made f make g Q a (suc n) at before q h k =
+    λ i. h a before (at zero) (omega arith) (omega arith) q i
+    ++ after-made f make g Q (a + 1) n (λ j. at (suc j)) (before ++ make a (at zero) ∷ []) (k a before (at zero) (omega arith) (omega arith) q) (λ j b l v u. h j b l (omega arith) (omega arith)) (λ j b l v u. k j b l (omega arith) (omega arith)) i

@@ -37,29 +37,29 @@ use Rattle.reo_gen_laws.proofs.Trees.{parameter_by, node_by, output_by, link_by,
 use Rattle.reo_gen_laws.proofs.NameTests.{Small, same-name, other-outputs, other-links, or-left, or-right, or-neither, has-left, has-right, has-neither, has-one, has-none}
 use Rattle.reo_gen_laws.proofs.Passes.{both-none, pass-none, after-none, after-append, some-any, none-any, made-map, made-flat}
 
-abbrev parameters_in : ℕ → Places → List Parameter
+abbrev pub parameters_in : ℕ → Places → List Parameter
 parameters_in n at = made_by (main_parameters n) at.main_parameters
 
-abbrev links_in : ℕ → Places → List Item
+abbrev pub links_in : ℕ → Places → List Item
 links_in n at = made_by (main_links n) at.main_links
 
-abbrev stages_in : ℕ → Places → List Item
+abbrev pub stages_in : ℕ → Places → List Item
 stages_in n at = made_by (main_stages n) at.main_stages
 
 -- The types that main knows.
-abbrev known_types : List Typed
+abbrev pub known_types : List Typed
 known_types = record { name = codes "t"; kindred = kinds.Int (pos 0) (pos 999) } ∷ []
 
-abbrev outputs_to : ℕ → List (List ℕ)
+abbrev pub outputs_to : ℕ → List (List ℕ)
 outputs_to k = map output (range_with_len 0 k)
 
-abbrev links_to : ℕ → List (List ℕ)
+abbrev pub links_to : ℕ → List (List ℕ)
 links_to k = map link (range_with_len 1 k)
 
-names-of-parameters : (n : ℕ) (at : Places) → parameter_names (parameters_in n at) ≡ codes "i" ∷ outputs_to (n + 1)
+pub names-of-parameters : (n : ℕ) (at : Places) → parameter_names (parameters_in n at) ≡ codes "i" ∷ outputs_to (n + 1)
 names-of-parameters n at = ap (λ l. codes "i" ∷ l) (made-map (λ (p : Parameter). p.name) output_by output 0 (n + 1) (λ j. at.main_parameters (suc j)) (λ j l. refl))
 
-names-of-links : (n : ℕ) (at : Places) → node_names (links_in n at) ≡ links_to (n - 1)
+pub names-of-links : (n : ℕ) (at : Places) → node_names (links_in n at) ≡ links_to (n - 1)
 names-of-links n at = made-flat (λ (i : Item). node_names_in i.form) link_by link 1 (n - 1) at.main_links (λ j l. refl)
 
 names-of-stages : (n : ℕ) (at : Places) → node_names (stages_in n at) ≡ []
