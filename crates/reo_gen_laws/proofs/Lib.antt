@@ -11,3 +11,4 @@ pub mod Rules
 pub mod ScriptTexts
 pub mod ScriptChecks
 pub mod Placing
+pub mod Ranks
