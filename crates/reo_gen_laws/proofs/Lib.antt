@@ -12,3 +12,4 @@ pub mod ScriptTexts
 pub mod ScriptChecks
 pub mod Placing
 pub mod Ranks
+pub mod Rising

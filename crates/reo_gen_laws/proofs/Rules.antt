@@ -125,10 +125,10 @@ one-of P true x y h k = h refl
 one-of P false x y h k = k refl
 
 -- The node from which a stage takes, and that to which it gives on.
-source-one : (P : List ℕ → Type 0) (j : ℕ) → P (codes "i") → ((j ≡ 1 → ⊥) → P (link (j - 1))) → P (source_of j)
+pub source-one : (P : List ℕ → Type 0) (j : ℕ) → P (codes "i") → ((j ≡ 1 → ⊥) → P (link (j - 1))) → P (source_of j)
 source-one P j h k = one-of P (j == 1) (codes "i") (link (j - 1)) (λ e. h) (λ e. k (not-same j 1 e))
 
-sink-one : (P : List ℕ → Type 0) (n j : ℕ) → P (output 0) → ((j ≡ n → ⊥) → P (link j)) → P (sink_of n j)
+pub sink-one : (P : List ℕ → Type 0) (n j : ℕ) → P (output 0) → ((j ≡ n → ⊥) → P (link j)) → P (sink_of n j)
 sink-one P n j h k = one-of P (j == n) (output 0) (link j) (λ e. h) (λ e. k (not-same j n e))
 
 known-output : (n j : ℕ) → j < n + 1 → has_name (names_in n) (output j) ≡ true

@@ -33,14 +33,14 @@ use Rattle.reo_gen_laws.proofs.NameTests.{Small, same-name, other-outputs, or-ne
 use Rattle.reo_gen_laws.proofs.Passes.{both-none, pass-none, after-none, made-map, made-flat}
 use Rattle.reo_gen_laws.proofs.ScriptTexts.{write_by, writer_by, taker_by, components_by}
 
-abbrev item_type : Kindred
+abbrev pub item_type : Kindred
 item_type = kinds.Int (pos 0) (pos 999)
 
 -- The ports of a made circuit.
-abbrev in_port : Port
+abbrev pub in_port : Port
 in_port = record { name = codes "i"; way = In; kindred = item_type }
 
-abbrev out_port : ℕ → Port
+abbrev pub out_port : ℕ → Port
 out_port j = record { name = output j; way = Out; kindred = item_type }
 
 abbrev pub made_ports : ℕ → List Port
