@@ -13,3 +13,4 @@ pub mod ScriptChecks
 pub mod Placing
 pub mod Ranks
 pub mod Rising
+pub mod Counting

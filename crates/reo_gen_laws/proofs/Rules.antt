@@ -285,13 +285,13 @@ if-false false x y h = refl
 other-number : (j k : ℕ) → (j ≡ k → ⊥) → (j == k) ≡ false
 other-number j k h = never (j == k) (λ e. h ((Decides-eqb j k).0 e))
 
-last-sink : (n : ℕ) → output 0 ≡ sink_of n n
+pub last-sink : (n : ℕ) → output 0 ≡ sink_of n n
 last-sink n = if-true (n == n) (output 0) (link n) ((Decides-eqb n n).1 refl)
 
-link-sink : (n j : ℕ) → (j ≡ n → ⊥) → link j ≡ sink_of n j
+pub link-sink : (n j : ℕ) → (j ≡ n → ⊥) → link j ≡ sink_of n j
 link-sink n j h = if-false (j == n) (output 0) (link j) (other-number j n h)
 
-link-source : (j : ℕ) → (j ≡ 1 → ⊥) → link (j - 1) ≡ source_of j
+pub link-source : (j : ℕ) → (j ≡ 1 → ⊥) → link (j - 1) ≡ source_of j
 link-source j h = if-false (j == 1) (codes "i") (link (j - 1)) (other-number j 1 h)
 
 output-there : (n : ℕ) (at : Places) (j : ℕ) → 1 ≤ n → j < n + 1 → is_touched (all_ends n at) (output j) false ≡ true
