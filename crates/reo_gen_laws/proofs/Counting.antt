@@ -6,7 +6,8 @@ use Rattle.std.specs.Fmt.{decimal}
 use Rattle.std.proofs.Math.Nat.{eq-or-lt_of_le}
 use Rattle.std.proofs.lemmas.Bool.{eqb-false}
 use Rattle.std.proofs.lemmas.Bool.Decides.{nat_tests, Decides-eqb}
-use Rattle.std.proofs.lemmas.List.{length-append}
+use Rattle.std.proofs.lemmas.List.{length-append, length-map}
+use Rattle.std.proofs.lemmas.List.FromFn.{length-map-range_with_len}
 use Rattle.std.proofs.lemmas.Grind.{flat_map-append}
 use Rattle.reo_values.specs.Names.{is_digit}
 use Rattle.reo_grammar.specs.Spelling.{is_digits}
@@ -272,3 +273,83 @@ own n v a b e f =
     ∙ (λ i. length-where (is_many (incoming (made_placed n) v)) (Rattle.reo_flatten_base.specs.Flat.branched Rattle.reo_kinds.specs.declared.kind.Kind.TheVariants.Merger (length (incoming (made_placed n) v))) i
     + length-where (is_many (outgoing (made_placed n) v)) (Rattle.reo_flatten_base.specs.Flat.branched Rattle.reo_kinds.specs.declared.kind.Kind.TheVariants.Replicator (length (outgoing (made_placed n) v))) i)
     ∙ (λ i. one_if (nat_le 2 (e i)) + one_if (nat_le 2 (f i)))
+
+own-input : (n : ℕ) → 1 ≤ n → length (own_kinds (made_placed n) (codes "i")) ≡ 1
+own-input n some =
+    own n (codes "i") 1 3 (total n false (codes "i") 1 0 0 refl (outs-given (codes "i") 0 (n + 1)) (input-given n))
+    (total n true (codes "i") 0 0 3 refl (outs-none (codes "i") 0 (n + 1) (λ j l u. refl)) (input-taken n some))
+
+own-output : (n m : ℕ) → 1 ≤ n → n ≤ 256 → m < n + 1 → length (own_kinds (made_placed n) (output m)) ≡ 0
+own-output n m some few u =
+    own n (output m) 1 1 (total n false (output m) 0 0 1 refl (outs-given (output m) 0 (n + 1)) (output-given n m some few u))
+    (total n true (output m) 0 1 0 refl (outs-one m 0 (n + 1) (omega arith) (omega arith) (omega arith)) (output-taken n m))
+
+own-link : (n m : ℕ) → n ≤ 256 → 1 ≤ m → m < n → length (own_kinds (made_placed n) (link m)) ≡ 1
+own-link n m few l u =
+    own n (link m) 1 3 (total n false (link m) 0 0 1 refl (outs-given (link m) 0 (n + 1)) (link-given n m few l u))
+    (total n true (link m) 0 0 3 refl (outs-none (link m) 0 (n + 1) (λ j k v. refl)) (link-taken n m few l u))
+
+own-inner : (n m l a b : ℕ) → n ≤ 256 → 1 ≤ m → m < 1 + n → gives_of (l == 120) (l == 121) (l == 107) (l == 112) (l == 113) false false ≡ a → takes_of false (l == 120) (l == 121) (l == 107) (l == 112) (l == 113) ≡ b
+    → length (own_kinds (made_placed n) (inner m l)) ≡ one_if (nat_le 2 a) + one_if (nat_le 2 b)
+own-inner n m l a b few h u e f =
+    own n (inner m l) a b (total n false (inner m l) 0 0 a refl (outs-given (inner m l) 0 (n + 1)) (inner-given n m l few h u ∙ e) ∙ omega arith)
+    (total n true (inner m l) 0 0 b refl (outs-none (inner m l) 0 (n + 1) (λ j k v. refl)) (inner-taken n m l few h u ∙ f) ∙ omega arith)
+
+own-stage : (n m : ℕ) → n ≤ 256 → 1 ≤ m → m < 1 + n → length (flat_map (own_kinds (made_placed n)) (stage_nodes (path_of m))) ≡ 3
+own-stage n m few h u =
+    let f = own_kinds (made_placed n) in
+    let one = λ (l : ℕ) (rest : List (List ℕ)). length-append (f (inner m l)) (flat_map f rest) in
+    let x = own-inner n m 120 1 2 few h u refl refl in
+    let y = own-inner n m 121 1 2 few h u refl refl in
+    let k = own-inner n m 107 2 1 few h u refl refl in
+    let p = own-inner n m 112 1 1 few h u refl refl in
+    let q = own-inner n m 113 1 1 few h u refl refl in
+    length-append (f (inner m 120)) _
+    ∙ (λ i. x i + (length-append (f (inner m 121)) (flat_map f (inner m 107 ∷ inner m 112 ∷ inner m 113 ∷ []))
+    ∙ (λ j. y j + (length-append (f (inner m 107)) (flat_map f (inner m 112 ∷ inner m 113 ∷ [])) ∙ (λ t. k t + (length-append (f (inner m 112)) (flat_map f (inner m 113 ∷ [])) ∙ (λ s. p s + (length-append (f (inner m 113)) [] ∙ (λ r. q r + 0)) s)) t)) j)) i)
+
+-- Lists of the same length for each number of a range.
+same-lengths : {X : Type 0} (g : ℕ → List X) (w a k : ℕ) → ((j : ℕ) → a ≤ j → j < a + k → length (g j) ≡ w) → length (flat_map g (range_with_len a k)) ≡ w * k
+same-lengths g w a zero h = omega arith
+same-lengths g w a (suc k) h =
+    let here = h a (omega arith) (omega arith) in
+    let rest = same-lengths g w (a + 1) k (λ j l u. h j (omega arith) (omega arith)) in
+    let both = length-append (g a) (flat_map g (range_with_len (a + 1) k)) in
+    omega (arith, here, rest, both)
+
+flat-of_map : {X Y : Type 0} (f : X → List Y) (g : ℕ → X) (xs : List ℕ) → flat_map f (map g xs) ≡ flat_map (λ j. f (g j)) xs
+flat-of_map f g [] = refl
+flat-of_map f g (x ∷ xs) = ap (λ l. f (g x) ++ l) (flat-of_map f g xs)
+
+flat-of_flat : {X Y : Type 0} (f : X → List Y) (g : ℕ → List X) (xs : List ℕ) → flat_map f (flat_map g xs) ≡ flat_map (λ j. flat_map f (g j)) xs
+flat-of_flat f g [] = refl
+flat-of_flat f g (x ∷ xs) = flat_map-append f (g x) (flat_map g xs) ∙ ap (λ l. flat_map f (g x) ++ l) (flat-of_flat f g xs)
+
+own-count : (n : ℕ) → 1 ≤ n → n ≤ 256 → length (flat_map (own_kinds (made_placed n)) (made_nodes n)) ≡ 4 * n
+own-count n some few =
+    let f = own_kinds (made_placed n) in
+    let stages = flat_map (λ j. stage_nodes (path_of j)) (range_with_len 1 n) in
+    let outs = ap length (flat-of_map f output (range_with_len 0 (n + 1))) ∙ same-lengths (λ j. f (output j)) 0 0 (n + 1) (λ j l u. own-output n j some few (omega arith)) in
+    let links = ap length (flat-of_map f link (range_with_len 1 (n - 1))) ∙ same-lengths (λ j. f (link j)) 1 1 (n - 1) (λ j l u. own-link n j few l (omega arith)) in
+    let inners = ap length (flat-of_flat f (λ j. stage_nodes (path_of j)) (range_with_len 1 n)) ∙ same-lengths (λ j. flat_map f (stage_nodes (path_of j))) 3 1 n (λ j l u. own-stage n j few l u) in
+    let input = own-input n some in
+    let whole = ap length (flat_map-append f (codes "i" ∷ outputs_to (n + 1)) (links_to (n - 1) ++ stages)) ∙ length-append (flat_map f (codes "i" ∷ outputs_to (n + 1))) (flat_map f (links_to (n - 1) ++ stages)) in
+    let front = length-append (f (codes "i")) (flat_map f (outputs_to (n + 1))) in
+    let back = ap length (flat_map-append f (links_to (n - 1)) stages) ∙ length-append (flat_map f (links_to (n - 1))) (flat_map f stages) in
+    omega (arith, whole, front, back, outs, links, inners, input)
+
+placed-count : (n : ℕ) → length (made_placed n) ≡ 10 * n + 2
+placed-count n =
+    let stages = same-lengths (stage_at n) 9 1 n (λ j l u. refl) in
+    let outs : length (map port_placed (map out_port (range_with_len 0 (n + 1)))) ≡ n + 1 = length-map (map out_port (range_with_len 0 (n + 1))) port_placed ∙ length-map-range_with_len out_port 0 (n + 1) in
+    let both = length-append (map port_placed (made_ports n)) (flat_map (stage_at n) (range_with_len 1 n)) in
+    omega (arith, both, outs, stages)
+
+-- Fourteen for each stage, and two more.
+pub primitives-count : (n : ℕ) (at : Places) → 1 ≤ n → n ≤ 256 → length (primitives_of (declarations_of n at)) ≡ 14 * n + 2
+primitives-count n at some few =
+    let all : length (primitives_of (declarations_of n at)) ≡ length (map (λ (p : Placed). p.kind) (made_placed n) ++ flat_map (own_kinds (made_placed n)) (made_nodes n)) =
+        (λ i. length (map (λ (p : Placed). p.kind) (placed-are n at i) ++ flat_map (own_kinds (placed-are n at i)) (nodes-are n at i))) in
+    let parts = length-append (map (λ (p : Placed). p.kind) (made_placed n)) (flat_map (own_kinds (made_placed n)) (made_nodes n)) in
+    let first = length-map (made_placed n) (λ (p : Placed). p.kind) in
+    omega (arith, all, parts, first, placed-count n, own-count n some few)
