@@ -14,3 +14,5 @@ pub mod Placing
 pub mod Ranks
 pub mod Rising
 pub mod Counting
+pub mod Sizes
+pub mod Accepting

@@ -55,7 +55,7 @@ flat-own (p ∷ ps) name = step (bytes_eq name p.name) (bytes_eq-Decides name p.
     step true e k = sym (e refl)
     step false e k = k
 
-abbrev stage_meaning : Places → Meaning
+abbrev pub stage_meaning : Places → Meaning
 stage_meaning at = meaning_of [] known_types (stage_of at)
 
 stage-channels : (at : Places) (path a b c : List ℕ) → (stage_meaning at).channels path (a ∷ b ∷ c ∷ []) ≡ stage_placed path a b c
