@@ -1,5 +1,5 @@
 -- The text of a made circuit says its program.
-use Rattle.std.proofs.Common.{◌≡◌, ℕ, zero, suc, ◌+◌, ◌-◌, ◌≤◌, ◌<◌, ◌^◌, ◌==◌, Bool, true, false, cond, pos, List, [], ◌∷◌, ◌++◌, map, refl, sym, ◌∙◌, ap, subst, append_assoc, append-nil, arith, codes}
+use Rattle.std.proofs.Common.{◌≡◌, ℕ, zero, suc, ◌+◌, ◌-◌, ◌≤◌, ◌<◌, ◌^◌, ◌==◌, Bool, true, false, cond, pos, List, [], ◌∷◌, ◌++◌, map, refl, sym, ◌∙◌, ap, subst, append_assoc, append-nil, arith, codes, not}
 use Rattle.std.specs.List.{flat_map, range_with_len}
 use Rattle.std.specs.Prelude.{if◌then◌else◌}
 use Rattle.reo_grammar.specs.declared.kind.TokenKind.TheVariants as kinds
@@ -19,7 +19,7 @@ use Rattle.reo_trees.specs.declared.programs.Program.{Program}
 use Rattle.reo_trees.specs.Forms.{name_form, word, ◌▸◌, ◌◂◌, comma_form, further}
 use Rattle.reo_trees.specs.Forms.Rule.{type_rule}
 use Rattle.reo_trees.specs.Types.{bound_form}
-use Rattle.reo_trees.specs.Items.{items_form}
+use Rattle.reo_trees.specs.Items.{items_form, item_form}
 use Rattle.reo_trees.specs.Programs.{parameters_form, parameter_form, connector_form, named_form, declaration_form, declarations_form, program_form}
 use Rattle.reo_trees.specs.Says.{SaysProgram}
 use Rattle.reo_gen.specs.Names.{link, output}
@@ -30,13 +30,20 @@ use Rattle.reo_gen_laws.proofs.Written.{Lines, IsBy, AreBy, made_by, by-none, by
 use Rattle.reo_gen_laws.proofs.Words.{named-output, named-link}
 use Rattle.reo_gen_laws.proofs.Trees.{parameter_by, node_by, channel_by, use_by, connector_by, stage_parameters, stage_items, output_by, link_by, stage_by, main_parameters, main_links, main_stages, Places, program_of, declarations_of, type_declaration, stage_of, buffer}
 use Rattle.reo_gen_laws.proofs.Parts.{Circuit, bare-name, within_head, within_body, reads-in, reads-out, reads-node, reads-sync, reads-lossy, reads-drain, reads-buffer, reads-use, is_end}
+use Rattle.reo_grammar.specs.Bytes.{one_of}
+use Rattle.reo_grammar.specs.Grammar.{Says}
+use Rattle.reo_grammar.specs.Grammar.Grammar.{rule}
+use Rattle.reo_grammar.specs.Spelling.{reserved}
+use Rattle.reo_lexer.specs.Lexing.{lexemes_of}
+use Rattle.reo_trees.specs.Rules.{circuit_rules}
+use Rattle.reo_values.specs.Names.{is_name}
 
 -- Items so far, and one more, indented or not.
-one-more : (fs : List (Lines → Item)) (f : Lines → Item) (before t r : List ℕ) → Circuit items_form before (t ++ r) (AreBy fs) within_body within_body → Circuit Rattle.reo_trees.specs.Items.item_form t r (IsBy f) within_body within_body
+one-more : (fs : List (Lines → Item)) (f : Lines → Item) (before t r : List ℕ) → Circuit items_form before (t ++ r) (AreBy fs) within_body within_body → Circuit item_form t r (IsBy f) within_body within_body
     → Circuit items_form (before ++ t) r (AreBy (fs ++ f ∷ [])) within_body within_body
 one-more fs f before t r x y = reads-more (AreBy (fs ++ f ∷ [])) x y (λ xs z p q. by-more fs f xs z p q)
 
-named : (b : List ℕ) → Rattle.reo_values.specs.Names.is_name b ≡ true → Rattle.std.proofs.Common.not (Rattle.reo_grammar.specs.Bytes.one_of b Rattle.reo_grammar.specs.Spelling.reserved) ≡ true → IsNamed b
+named : (b : List ℕ) → is_name b ≡ true → not (one_of b reserved) ≡ true → IsNamed b
 named b s f = record { spelled = s; free = f }
 
 a_named : IsNamed (codes "a")
@@ -146,7 +153,7 @@ named-source j h = named-one (j == 1) (codes "i") (link (j - 1)) i_named (named-
 named-sink : (n j : ℕ) → j < 2 ^ 64 → IsNamed (sink_of n j)
 named-sink n j h = named-one (j == n) (output 0) (link j) (named-output 0 (omega arith)) (named-link j h)
 
-reads-link : (j : ℕ) (r : List ℕ) → j < 2 ^ 64 → Circuit Rattle.reo_trees.specs.Items.item_form (link_line j) r (IsBy (link_by j)) within_body within_body
+reads-link : (j : ℕ) (r : List ℕ) → j < 2 ^ 64 → Circuit item_form (link_line j) r (IsBy (link_by j)) within_body within_body
 reads-link j r h =
     reads-text (ap (λ t. codes "  node " ++ t) (append_assoc (link j) (codes ": ") (codes "t;\n"))) (reads-gap (codes "  ") refl (reads-node (link j) (codes "\n") r (named-link j h) refl))
 
@@ -155,7 +162,7 @@ use-text x y z =
     append_assoc ((x ++ (codes ", " ++ y)) ++ (codes ", " ++ z)) (codes ")") (codes ";\n")
     ∙ ap (λ l. l ++ codes ");\n") (sym (append_assoc (x ++ (codes ", " ++ y)) (codes ", ") z) ∙ ap (λ l. (l ++ codes ", ") ++ z) (sym (append_assoc x (codes ", ") y)))
 
-reads-stage : (n j : ℕ) (r : List ℕ) → j < 2 ^ 64 → Circuit Rattle.reo_trees.specs.Items.item_form (use_line n j) r (IsBy (stage_by n j)) within_body within_body
+reads-stage : (n j : ℕ) (r : List ℕ) → j < 2 ^ 64 → Circuit item_form (use_line n j) r (IsBy (stage_by n j)) within_body within_body
 reads-stage n j r h =
     reads-text (ap (λ t. codes "  use stage(" ++ t) (use-text (source_of j) (sink_of n j) (output j)))
     (reads-gap (codes "  ") refl (reads-use (source_of j) (sink_of n j) (output j) (codes "\n") r (named-source j h) (named-sink n j h) (named-output j h) refl))
@@ -205,7 +212,7 @@ reads-bound n b r m q v i = reads-right (reads-made (λ z. z ≡ pos n) (reads-t
 abbrev range_shape : Shape
 range_shape = shapes.Int (pos 0) (pos 999)
 
-reads-range_type : (r : List ℕ) → Circuit (Rattle.reo_grammar.specs.Grammar.Grammar.rule type_rule) (codes "int 0..999") (codes ";" ++ r) (λ t. (m : ℕ) × (t ≡ record { line = m; shape = range_shape })) ground ground
+reads-range_type : (r : List ℕ) → Circuit (rule type_rule) (codes "int 0..999") (codes ";" ++ r) (λ t. (m : ℕ) × (t ≡ record { line = m; shape = range_shape })) ground ground
 reads-range_type r =
     reads-rule type_rule (reads-lined (λ (t : TypeTerm). (m : ℕ) × (t ≡ record { line = m; shape = range_shape }))
     (reads-right (reads-right (reads-left
@@ -295,4 +302,4 @@ circuit-says n some few =
     let whole : Circuit program_form (circuit_text n) [] (λ p. (at : Places) × (p ≡ program_of n at)) ground ground =
         reads-text (whole-text n) (reads-made (λ (p : Program). (at : Places) × (p ≡ program_of n at)) (reads-declarations n some few) (λ ds k. (k.0, ap (λ (l : List Declaration). record { declarations = l }) k.1))) in
     let (ts, is, low, said) = reads-all whole in
-    (said.2.0, (ts, is, subst (λ p. Rattle.reo_grammar.specs.Grammar.Says Rattle.reo_trees.specs.Rules.circuit_rules program_form (Rattle.reo_lexer.specs.Lexing.lexemes_of (circuit_text n) ts) p) said.2.1 said.1, low-nowhere_above (Rattle.reo_lexer.specs.Lexing.lexemes_of (circuit_text n) ts) low))
+    (said.2.0, (ts, is, subst (λ p. Says circuit_rules program_form (lexemes_of (circuit_text n) ts) p) said.2.1 said.1, low-nowhere_above (lexemes_of (circuit_text n) ts) low))

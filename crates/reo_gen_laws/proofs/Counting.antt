@@ -22,7 +22,7 @@ use Rattle.reo_rules_base.specs.Touches.{bool_eq}
 use Rattle.reo_flatten_base.specs.Unfolding.{Placed}
 use Rattle.reo_flatten_base.specs.Ends.{ends_in, ends_from, incoming, outgoing}
 use Rattle.reo_flatten_base.specs.Joints.{is_many, many}
-use Rattle.reo_flatten_base.specs.Flat.{own_kinds, port_placed, primitives_of, placed_of, nodes_of}
+use Rattle.reo_flatten_base.specs.Flat.{own_kinds, port_placed, primitives_of, placed_of, nodes_of, branched}
 use Rattle.reo_flatten_laws.proofs.Cuts.{number_once, behind}
 use Rattle.reo_gen.specs.Names.{link, output}
 use Rattle.reo_gen.specs.Circuits.{source_of, sink_of}
@@ -31,6 +31,7 @@ use Rattle.reo_gen_laws.proofs.NameTests.{Small, same-name, other-name, other-ou
 use Rattle.reo_gen_laws.proofs.Rules.{source-one, sink-one, outputs_to, links_to, last-sink, link-sink, link-source}
 use Rattle.reo_gen_laws.proofs.ScriptChecks.{made_ports, in_port, out_port}
 use Rattle.reo_gen_laws.proofs.Placing.{between, stage_placed, stage_nodes, stage_at, path_of, made_placed, made_nodes, placed-are, nodes-are}
+use Rattle.reo_kinds.specs.declared.kind.Kind.TheVariants.{Merger, Replicator}
 
 abbrev one_if : Bool → ℕ
 one_if b = cond b 1 0
@@ -270,8 +271,8 @@ total n takes v a b c e f g = length-ends takes v 0 (made_placed n) ∙ hits-app
 own : (n : ℕ) (v : List ℕ) (a b : ℕ) → length (incoming (made_placed n) v) ≡ a → length (outgoing (made_placed n) v) ≡ b → length (own_kinds (made_placed n) v) ≡ one_if (nat_le 2 a) + one_if (nat_le 2 b)
 own n v a b e f =
     length-append (where_true (is_many (incoming (made_placed n) v)) _) _
-    ∙ (λ i. length-where (is_many (incoming (made_placed n) v)) (Rattle.reo_flatten_base.specs.Flat.branched Rattle.reo_kinds.specs.declared.kind.Kind.TheVariants.Merger (length (incoming (made_placed n) v))) i
-    + length-where (is_many (outgoing (made_placed n) v)) (Rattle.reo_flatten_base.specs.Flat.branched Rattle.reo_kinds.specs.declared.kind.Kind.TheVariants.Replicator (length (outgoing (made_placed n) v))) i)
+    ∙ (λ i. length-where (is_many (incoming (made_placed n) v)) (branched Merger (length (incoming (made_placed n) v))) i
+    + length-where (is_many (outgoing (made_placed n) v)) (branched Replicator (length (outgoing (made_placed n) v))) i)
     ∙ (λ i. one_if (nat_le 2 (e i)) + one_if (nat_le 2 (f i)))
 
 own-input : (n : ℕ) → 1 ≤ n → length (own_kinds (made_placed n) (codes "i")) ≡ 1

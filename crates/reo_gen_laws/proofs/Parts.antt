@@ -28,6 +28,7 @@ use Rattle.reo_gen_laws.proofs.Heights.{Height, height}
 use Rattle.reo_gen_laws.proofs.Pieces.{Reads, is_fit, IsNamed, reads-both, reads-more, reads-first, reads-left, reads-right, reads-made, reads-lined, reads-rule, reads-nothing, reads-text, reads-word, reads-name}
 use Rattle.reo_gen_laws.proofs.Written.{Lines, IsBy}
 use Rattle.reo_gen_laws.proofs.Trees.{t_type, parameter_by, node_by, channel_by, use_by}
+use Rattle.reo_grammar.specs.Grammar.Grammar.{both, rule}
 
 -- What is read in a circuit text.
 abbrev pub Circuit : {A : Type 0} → FormOf A → List ℕ → List ℕ → (A → Type 0) → Height → Height → Type 0
@@ -45,7 +46,7 @@ named_t : IsNamed (codes "t")
 named_t = record { spelled = refl; free = refl }
 
 pub reads-t : (gap r : List ℕ) (h : Height) → list_all is_space gap ≡ true → is_cut kinds.Name (codes "t") (gap ++ r) ≡ true → is_open h ≡ true
-    → Circuit (Rattle.reo_grammar.specs.Grammar.Grammar.rule type_rule) (codes "t" ++ gap) r (λ t. (m : ℕ) × (t ≡ t_type m)) h h
+    → Circuit (rule type_rule) (codes "t" ++ gap) r (λ t. (m : ℕ) × (t ≡ t_type m)) h h
 reads-t gap r h s i low =
     reads-rule type_rule (reads-lined (λ (t : TypeTerm). (m : ℕ) × (t ≡ t_type m))
     (reads-right (reads-right (reads-right (reads-right (reads-right (reads-right
@@ -102,7 +103,7 @@ reads-node name gap r n f =
 
 -- The names of two nodes, and the end.
 reads-nodes : (c : Channel) (x y gap r : List ℕ) → IsNamed x → IsNamed y → is_end gap ≡ true
-    → Circuit {A = Channel → Form} (Rattle.reo_grammar.specs.Grammar.Grammar.both (λ x y (c : Channel). forms.Joined c x y) name_form (name_form ◂ word (codes ";"))) ((x ++ codes " ") ++ (y ++ (codes ";" ++ gap))) r
+    → Circuit {A = Channel → Form} (both (λ x y (c : Channel). forms.Joined c x y) name_form (name_form ◂ word (codes ";"))) ((x ++ codes " ") ++ (y ++ (codes ";" ++ gap))) r
     (λ f. (d : Channel) → f d ≡ forms.Joined d x y) within_body within_body
 reads-nodes c x y gap r n m f =
     reads-both (λ (f : Channel → Form). (d : Channel) → f d ≡ forms.Joined d x y) (reads-name x (codes " ") ((y ++ (codes ";" ++ gap)) ++ r) within_body n refl refl refl)

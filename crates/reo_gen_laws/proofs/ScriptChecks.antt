@@ -1,5 +1,5 @@
 -- A made script breaks no rule on the ports of its circuit.
-use Rattle.std.proofs.Common.{◌≡◌, ℕ, zero, suc, ◌+◌, ◌-◌, ◌≤◌, ◌<◌, ◌^◌, Bool, true, false, ◌&&◌, ◌||◌, not, cond, Option, Some, None, pos, List, [], ◌∷◌, ◌++◌, length, map, refl, sym, ◌∙◌, ap, subst, append_assoc, append-nil, arith, nat_le, nat_lt, codes}
+use Rattle.std.proofs.Common.{◌≡◌, ℕ, zero, suc, ◌+◌, ◌-◌, ◌≤◌, ◌<◌, ◌^◌, Bool, true, false, ◌&&◌, ◌||◌, not, cond, Option, Some, None, pos, List, [], ◌∷◌, ◌++◌, length, map, refl, sym, ◌∙◌, ap, subst, append_assoc, append-nil, arith, nat_le, nat_lt, codes, inl, inr}
 use Rattle.std.specs.Prelude.{bytes_eq, slice_get, option_and_then, is_none, is_some, Ok}
 use Rattle.std.specs.Option.{option_map_or}
 use Rattle.std.specs.List.{flat_map, range_with_len, position, prefix_len}
@@ -32,6 +32,7 @@ use Rattle.reo_gen_laws.proofs.Trees.{output_by, Places, declarations_of}
 use Rattle.reo_gen_laws.proofs.NameTests.{Small, same-name, other-outputs, or-neither, has-neither, has-none}
 use Rattle.reo_gen_laws.proofs.Passes.{both-none, pass-none, after-none, made-map, made-flat}
 use Rattle.reo_gen_laws.proofs.ScriptTexts.{write_by, writer_by, taker_by, components_by}
+use Rattle.std.proofs.Math.Nat.{eq-or-lt_of_le}
 
 abbrev pub item_type : Kindred
 item_type = kinds.Int (pos 0) (pos 999)
@@ -77,9 +78,9 @@ in-named n = port-first in_port (map out_port (range_with_len 0 (n + 1))) (codes
 out-among : (a n j : ℕ) → a + n ≤ 300 → a ≤ j → j < a + n → port_named (map out_port (range_with_len a n)) (output j) ≡ Some (out_port j)
 out-among a zero j few l u = absurd (omega arith)
 out-among a (suc n) j few l u =
-    elim (Rattle.std.proofs.Math.Nat.eq-or-lt_of_le l) [
-      Rattle.std.proofs.Common.inl e ↦ subst (λ k. port_named (map out_port (range_with_len a (suc n))) (output k) ≡ Some (out_port k)) e (port-first (out_port a) (map out_port (range_with_len (a + 1) n)) (output a) (same-name (output a)))
-      | Rattle.std.proofs.Common.inr k ↦ port-other (out_port a) (map out_port (range_with_len (a + 1) n)) (output j) (other-outputs j a (omega arith) (omega arith) (λ e. omega arith)) ∙ out-among (a + 1) n j (omega arith) (omega arith) (omega arith)
+    elim (eq-or-lt_of_le l) [
+      inl e ↦ subst (λ k. port_named (map out_port (range_with_len a (suc n))) (output k) ≡ Some (out_port k)) e (port-first (out_port a) (map out_port (range_with_len (a + 1) n)) (output a) (same-name (output a)))
+      | inr k ↦ port-other (out_port a) (map out_port (range_with_len (a + 1) n)) (output j) (other-outputs j a (omega arith) (omega arith) (λ e. omega arith)) ∙ out-among (a + 1) n j (omega arith) (omega arith) (omega arith)
     ]
 
 out-named : (n j : ℕ) → n ≤ 256 → j < n + 1 → port_named (made_ports n) (output j) ≡ Some (out_port j)

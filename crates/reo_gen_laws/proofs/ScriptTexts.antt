@@ -14,7 +14,7 @@ use Rattle.reo_syntax.proofs.Decimals.{decimal-value, number-real}
 use Rattle.reo_trees.specs.declared.literals.Constant.{Constant}
 use Rattle.reo_trees.specs.declared.literals.Constant.TheVariants as constants
 use Rattle.reo_trees.specs.declared.literals.Literal.{Literal}
-use Rattle.reo_trees.specs.Forms.{name_form, word}
+use Rattle.reo_trees.specs.Forms.{name_form, word, ◌◂◌}
 use Rattle.reo_trees.specs.Forms.Rule.{literal_rule}
 use Rattle.reo_trees.specs.Literals.{greatest}
 use Rattle.reo_script_base.specs.declared.forms.ActionForm.{ActionForm}
@@ -25,10 +25,11 @@ use Rattle.reo_script_base.specs.ScriptForms.ScriptRule.{action_rule, of_circuit
 use Rattle.reo_script_base.specs.ScriptAnswers.{SaysScript}
 use Rattle.reo_gen.specs.Names.{numbered, output}
 use Rattle.reo_gen.specs.Scripts.{write_text, writer_line, taker_line, script_text}
-use Rattle.reo_gen_laws.proofs.Heights.{Height, height, low-nowhere}
-use Rattle.reo_gen_laws.proofs.Pieces.{Reads, IsNamed, is_fit, reads-both, reads-more, reads-first, reads-left, reads-right, reads-made, reads-lined, reads-rule, reads-nothing, reads-text, reads-word, reads-name, reads-gap, reads-behind, reads-number, reads-all}
+use Rattle.reo_gen_laws.proofs.Heights.{Height, height, low-nowhere, over}
+use Rattle.reo_gen_laws.proofs.Pieces.{Reads, IsNamed, is_fit, reads-both, reads-more, reads-first, reads-left, reads-right, reads-made, reads-lined, reads-rule, reads-nothing, reads-text, reads-word, reads-name, reads-gap, reads-behind, reads-number, reads-all, reads-else}
 use Rattle.reo_gen_laws.proofs.Written.{Lines, IsBy, AreBy, made_by, by-none, by-more, reads-claimed, reads-range}
 use Rattle.reo_gen_laws.proofs.Words.{named-output, named-taker}
+use Rattle.reo_grammar.specs.Conditions.{fixed_token}
 
 -- What is read in a script text.
 abbrev Script : {A : Type 0} → ScriptFormOf A → List ℕ → List ℕ → (A → Type 0) → Height → Height → Type 0
@@ -81,7 +82,7 @@ reads-literal n r h i =
     (λ l c e. (l, ap (λ (z : Constant). record { line = l; constant = z }) e)))
 
 -- The end of an action that has no bound.
-reads-end : (r : List ℕ) (h : Height) → is_fit h (codes ";") (codes " ") ≡ true → Script (lifted (Rattle.reo_trees.specs.Forms.◌◂◌ within_form (word (codes ";")))) (codes "; ") r (λ o. o ≡ None) h (Rattle.reo_gen_laws.proofs.Heights.over h (Rattle.reo_grammar.specs.Conditions.fixed_token (codes ";")))
+reads-end : (r : List ℕ) (h : Height) → is_fit h (codes ";") (codes " ") ≡ true → Script (lifted (within_form ◂ word (codes ";"))) (codes "; ") r (λ o. o ≡ None) h (over h (fixed_token (codes ";")))
 reads-end r h f =
     reads-both (λ (o : Option ℕ). o ≡ None) (reads-right (reads-nothing None (codes "; " ++ r) (λ (o : Option ℕ). o ≡ None) h refl)) (reads-word (codes ";") (codes " ") r h f refl) (λ o u e k. e)
 
@@ -118,7 +119,7 @@ reads-writes r =
 reads-writer : (r : List ℕ) → Script component_form writer_line r (λ c. (at : ℕ → Lines) × (c ≡ writer_by at)) ground ground
 unfolding writer_line
 reads-writer r =
-    Rattle.reo_gen_laws.proofs.Pieces.reads-else (reads-component (codes "w") (flat_map write_text (range_with_len 0 20)) r (AreBy (map write_by (range_with_len 0 20))) named_w (reads-writes r))
+    reads-else (reads-component (codes "w") (flat_map write_text (range_with_len 0 20)) r (AreBy (map write_by (range_with_len 0 20))) named_w (reads-writes r))
     (λ vs d. (d.0, d.1, (d.2.1.at, d.2.2 ∙ ap (λ (xs : List ActionForm). record { name = codes "w"; actions = xs }) d.2.1.are)))
 
 reads-take : (name r : List ℕ) → IsNamed name → Script (rule action_rule) (codes "take " ++ (name ++ codes "; ")) r (λ a. (l : ℕ) × (a ≡ forms.Take l name None)) within_repeat within_repeat
@@ -156,7 +157,7 @@ taker-text t o =
 reads-taker : (j : ℕ) (r : List ℕ) → j < 2 ^ 64 → Script component_form (taker_line j) r (IsBy (taker_by j)) ground ground
 reads-taker j r h =
     reads-text (ap (λ l. codes "component " ++ l) (taker-text (numbered (codes "t") j) (output j)))
-    (Rattle.reo_gen_laws.proofs.Pieces.reads-else
+    (reads-else
     (reads-component (numbered (codes "t") j) (codes "repeat 1000 { " ++ ((codes "take " ++ (output j ++ codes "; ")) ++ codes "} ")) r (λ xs. (l : ℕ) × (xs ≡ forms.Repeat 1000 (forms.Take l (output j) None ∷ []) ∷ [])) (named-taker j h)
     (reads-more {a = []} (λ (xs : List ActionForm). (l : ℕ) × (xs ≡ forms.Repeat 1000 (forms.Take l (output j) None ∷ []) ∷ [])) (reads-first (reads-nothing [] _ (λ (xs : List ActionForm). xs ≡ []) within_component refl))
     (reads-repeat (output j) (codes "}\n" ++ r) (named-output j h)) (λ xs x e k. (k.0, λ i. e i ++ k.1 i ∷ []))))

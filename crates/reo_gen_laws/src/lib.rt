@@ -3,4 +3,4 @@
 
 mod laws;
 
-pub use laws::work_is_accepted;
+pub use laws::{accepted_is_not_refused, work_is_accepted};
