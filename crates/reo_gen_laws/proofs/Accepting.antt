@@ -1,16 +1,15 @@
 -- Made work is accepted.
-use Rattle.std.proofs.Common.{◌≡◌, ◌∙◌, ℕ, ◌≤◌, Some, List, [], ◌∷◌, refl, sym, ap, subst, map}
+use Rattle.std.proofs.Common.{◌≡◌, ℕ, ◌≤◌, Some, List, [], ◌∷◌, refl, sym, ap, subst, map}
 use Rattle.std.specs.Prelude.{Ok}
-use Rattle.reo_net_base.specs.declared.port.Port.{Port}
 use Rattle.reo_rules_base.specs.declared.fault.FlatFault.TheVariants as faults
 use Rattle.reo_rules_base.specs.Lists.{first_of}
-use Rattle.reo_flatten_base.specs.Flat.{ports_of}
 use Rattle.reo_script_base.specs.declared.action.Script.{Script}
 use Rattle.reo_script_base.specs.ScriptAnswers.{Answers, answer_by}
 use Rattle.reo_script_base.specs.ScriptRules.{component_for}
 use Rattle.reo_gen.specs.Scripts.{script_text}
-use Rattle.reo_gen_laws.specs.Accepted.{IsAcceptedWork, AcceptedIsNotRefused}
-use Rattle.reo_gen_laws.proofs.Trees.{Places, program_of, declarations_of}
+use Rattle.reo_gen_laws.specs.Accepted.{IsAcceptedWork}
+use Rattle.reo_gen_laws.specs.NotRefused.{AcceptedIsNotRefused}
+use Rattle.reo_gen_laws.proofs.Trees.{program_of}
 use Rattle.reo_gen_laws.proofs.CircuitTexts.{circuit-says}
 use Rattle.reo_gen_laws.proofs.ScriptTexts.{components_by, script-says}
 use Rattle.reo_gen_laws.proofs.ScriptChecks.{made_ports, ports-are, script-holds}

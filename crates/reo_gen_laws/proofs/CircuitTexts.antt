@@ -1,12 +1,12 @@
 -- The text of a made circuit says its program.
-use Rattle.std.proofs.Common.{◌≡◌, ℕ, zero, suc, ◌+◌, ◌-◌, ◌≤◌, ◌<◌, ◌^◌, ◌==◌, Bool, true, false, cond, pos, List, [], ◌∷◌, ◌++◌, map, refl, sym, ◌∙◌, ap, subst, append_assoc, append-nil, arith, codes, not}
+use Rattle.std.proofs.Common.{◌≡◌, ℕ, zero, suc, ◌+◌, ◌-◌, ◌≤◌, ◌<◌, ◌^◌, ◌==◌, Bool, true, false, pos, List, [], ◌∷◌, ◌++◌, map, refl, sym, ◌∙◌, ap, subst, append_assoc, append-nil, arith, codes, not}
 use Rattle.std.specs.List.{flat_map, range_with_len}
 use Rattle.std.specs.Prelude.{if◌then◌else◌}
 use Rattle.reo_grammar.specs.declared.kind.TokenKind.TheVariants as kinds
 use Rattle.reo_grammar.specs.Tokens.{matches, is_real, number_from}
 use Rattle.reo_grammar.specs.Tokens.Class.{number}
 use Rattle.reo_lexer.proofs.Cut.{is_cut}
-use Rattle.reo_syntax.proofs.Cuts.{open-cut, close-cut}
+use Rattle.reo_syntax.proofs.Cuts.{open-cut}
 use Rattle.reo_trees.specs.declared.types.Shape.{Shape}
 use Rattle.reo_trees.specs.declared.types.Shape.TheVariants as shapes
 use Rattle.reo_trees.specs.declared.types.TypeTerm.{TypeTerm}
@@ -16,20 +16,20 @@ use Rattle.reo_trees.specs.declared.programs.Connector.{Connector}
 use Rattle.reo_trees.specs.declared.programs.Declaration.{Declaration}
 use Rattle.reo_trees.specs.declared.programs.Declaration.TheVariants as declarations
 use Rattle.reo_trees.specs.declared.programs.Program.{Program}
-use Rattle.reo_trees.specs.Forms.{name_form, word, ◌▸◌, ◌◂◌, comma_form, further}
+use Rattle.reo_trees.specs.Forms.{comma_form, further}
 use Rattle.reo_trees.specs.Forms.Rule.{type_rule}
 use Rattle.reo_trees.specs.Types.{bound_form}
 use Rattle.reo_trees.specs.Items.{items_form, item_form}
-use Rattle.reo_trees.specs.Programs.{parameters_form, parameter_form, connector_form, named_form, declaration_form, declarations_form, program_form}
+use Rattle.reo_trees.specs.Programs.{parameters_form, parameter_form, connector_form, declaration_form, declarations_form, program_form}
 use Rattle.reo_trees.specs.Says.{SaysProgram}
 use Rattle.reo_gen.specs.Names.{link, output}
 use Rattle.reo_gen.specs.Circuits.{stage_text, output_text, head_text, link_line, source_of, sink_of, use_line, circuit_text}
 use Rattle.reo_gen_laws.proofs.Heights.{Height, height, low-nowhere_above}
-use Rattle.reo_gen_laws.proofs.Pieces.{Reads, IsNamed, reads-both, reads-more, reads-first, reads-left, reads-right, reads-made, reads-lined, reads-rule, reads-nothing, reads-text, reads-word, reads-name, reads-gap, reads-number, reads-all}
+use Rattle.reo_gen_laws.proofs.Pieces.{IsNamed, reads-both, reads-more, reads-first, reads-left, reads-right, reads-made, reads-lined, reads-rule, reads-nothing, reads-text, reads-word, reads-name, reads-gap, reads-number, reads-all}
 use Rattle.reo_gen_laws.proofs.Written.{Lines, IsBy, AreBy, made_by, by-none, by-more, past, made-append, reads-range}
 use Rattle.reo_gen_laws.proofs.Words.{named-output, named-link}
-use Rattle.reo_gen_laws.proofs.Trees.{parameter_by, node_by, channel_by, use_by, connector_by, stage_parameters, stage_items, output_by, link_by, stage_by, main_parameters, main_links, main_stages, Places, program_of, declarations_of, type_declaration, stage_of, buffer}
-use Rattle.reo_gen_laws.proofs.Parts.{Circuit, bare-name, within_head, within_body, reads-in, reads-out, reads-node, reads-sync, reads-lossy, reads-drain, reads-buffer, reads-use, is_end}
+use Rattle.reo_gen_laws.proofs.Trees.{parameter_by, channel_by, connector_by, stage_parameters, stage_items, output_by, link_by, stage_by, main_parameters, main_links, main_stages, Places, program_of, declarations_of, type_declaration, stage_of, buffer}
+use Rattle.reo_gen_laws.proofs.Parts.{Circuit, bare-name, within_head, within_body, reads-in, reads-out, reads-node, reads-sync, reads-lossy, reads-drain, reads-buffer, reads-use}
 use Rattle.reo_grammar.specs.Bytes.{one_of}
 use Rattle.reo_grammar.specs.Grammar.{Says}
 use Rattle.reo_grammar.specs.Grammar.Grammar.{rule}
@@ -135,7 +135,7 @@ reads-main_parameters : (n : ℕ) (s : List ℕ) → n ≤ 256 → Circuit param
 reads-main_parameters n s few =
     reads-left (reads-range (λ r. is_cut kinds.Name (codes "t") r ≡ true) output_text output_by 0 (n + 1) (parameter_by true (codes "i") ∷ []) (codes "in i: t") (codes ") " ++ s) refl (λ j r. refl)
     (λ j r l u f.
-        reads-text (ap (λ t. codes ", out " ++ t) (append_assoc (output j) (codes ": ") (codes "t"))) (further-out (output j) r (named-output j (below-large j (n + 1) (omega arith) u)) f))
+    reads-text (ap (λ t. codes ", out " ++ t) (append_assoc (output j) (codes ": ") (codes "t"))) (further-out (output j) r (named-output j (below-large j (n + 1) (omega arith) u)) f))
     (first-in (codes "i") _ i_named (fit (n + 1) 0)))
   where
     fit : (m a : ℕ) → is_cut kinds.Name (codes "t") (flat_map output_text (range_with_len a m) ++ (codes ") " ++ s)) ≡ true
@@ -183,20 +183,20 @@ record IsConnectorBy (name : List ℕ) (ps : List (Lines → Parameter)) (is : L
   pub below : ℕ → Lines
   pub same : c ≡ connector_by name ps is line at below
 
-abbrev ground : Height
-ground = height 0 0
+abbrev bottom : Height
+bottom = height 0 0
 
 reads-connector : (name : List ℕ) (ps : List (Lines → Parameter)) (is : List (Lines → Item)) (head body r : List ℕ) → IsNamed name
     → ((s : List ℕ) → Circuit parameters_form head (codes ") " ++ s) (AreBy ps) within_head within_head) → Circuit items_form body (codes "}\n" ++ r) (AreBy is) within_body within_body
-    → Circuit connector_form (codes "connector " ++ ((name ++ codes "(") ++ ((head ++ codes ") ") ++ (codes "{\n" ++ (body ++ codes "}\n"))))) r (IsConnectorBy name ps is) ground ground
+    → Circuit connector_form (codes "connector " ++ ((name ++ codes "(") ++ ((head ++ codes ") ") ++ (codes "{\n" ++ (body ++ codes "}\n"))))) r (IsConnectorBy name ps is) bottom bottom
 reads-connector name ps is head body r n p i =
     reads-lined (IsConnectorBy name ps is)
-    (reads-both (λ (f : ℕ → Connector). (at : ℕ → Lines) × (below : ℕ → Lines) × ((l : ℕ) → f l ≡ connector_by name ps is l at below)) (reads-word (codes "connector") (codes " ") _ ground refl refl)
+    (reads-both (λ (f : ℕ → Connector). (at : ℕ → Lines) × (below : ℕ → Lines) × ((l : ℕ) → f l ≡ connector_by name ps is l at below)) (reads-word (codes "connector") (codes " ") _ bottom refl refl)
     (reads-both (λ (f : ℕ → Connector). (at : ℕ → Lines) × (below : ℕ → Lines) × ((l : ℕ) → f l ≡ connector_by name ps is l at below))
-    (reads-both (λ y. name ≡ y) (bare-name name (codes "(" ++ (((head ++ codes ") ") ++ (codes "{\n" ++ (body ++ codes "}\n"))) ++ r)) ground n refl refl) (reads-word (codes "(") [] _ ground refl (open-cut (((head ++ codes ") ") ++ (codes "{\n" ++ (body ++ codes "}\n"))) ++ r))) (λ y u e k. e))
+    (reads-both (λ y. name ≡ y) (bare-name name (codes "(" ++ (((head ++ codes ") ") ++ (codes "{\n" ++ (body ++ codes "}\n"))) ++ r)) bottom n refl refl) (reads-word (codes "(") [] _ bottom refl (open-cut (((head ++ codes ") ") ++ (codes "{\n" ++ (body ++ codes "}\n"))) ++ r))) (λ y u e k. e))
     (reads-both (λ (f : List ℕ → ℕ → Connector). (at : ℕ → Lines) × (below : ℕ → Lines) × ((m : List ℕ) (l : ℕ) → f m l ≡ connector_by m ps is l at below))
     (reads-both (AreBy ps) (p ((codes "{\n" ++ (body ++ codes "}\n")) ++ r)) (reads-word (codes ")") (codes " ") _ within_head refl refl) (λ y u e k. e))
-    (reads-both (AreBy is) (reads-word (codes "{") (codes "\n") _ ground refl refl)
+    (reads-both (AreBy is) (reads-word (codes "{") (codes "\n") _ bottom refl refl)
     (reads-both (AreBy is) i (reads-word (codes "}") (codes "\n") r within_body refl refl) (λ y u e k. e))
     (λ u y k e. e))
     (λ y z e k. (e.at, k.at, λ m l j. record { line = l; name = m; parameters = e.are j; items = k.are j })))
@@ -206,19 +206,19 @@ reads-connector name ps is head body r n p i =
 
 -- A bound of a type, without a sign.
 reads-bound : (n : ℕ) (b r : List ℕ) → matches (number 0 1000000000) (record { kind = kinds.Number; bytes = b; line = 0 }) ≡ true → is_real (record { kind = kinds.Number; bytes = b; line = 0 }) ≡ true → number_from 0 b ≡ n
-    → is_cut kinds.Number b r ≡ true → Circuit bound_form b r (λ z. z ≡ pos n) ground ground
-reads-bound n b r m q v i = reads-right (reads-made (λ z. z ≡ pos n) (reads-text (append-nil b) (reads-number n 0 1000000000 b [] r ground m q v refl i refl)) (λ k e. ap pos e))
+    → is_cut kinds.Number b r ≡ true → Circuit bound_form b r (λ z. z ≡ pos n) bottom bottom
+reads-bound n b r m q v i = reads-right (reads-made (λ z. z ≡ pos n) (reads-text (append-nil b) (reads-number n 0 1000000000 b [] r bottom m q v refl i refl)) (λ k e. ap pos e))
 
 abbrev range_shape : Shape
 range_shape = shapes.Int (pos 0) (pos 999)
 
-reads-range_type : (r : List ℕ) → Circuit (rule type_rule) (codes "int 0..999") (codes ";" ++ r) (λ t. (m : ℕ) × (t ≡ record { line = m; shape = range_shape })) ground ground
+reads-range_type : (r : List ℕ) → Circuit (rule type_rule) (codes "int 0..999") (codes ";" ++ r) (λ t. (m : ℕ) × (t ≡ record { line = m; shape = range_shape })) bottom bottom
 reads-range_type r =
     reads-rule type_rule (reads-lined (λ (t : TypeTerm). (m : ℕ) × (t ≡ record { line = m; shape = range_shape }))
     (reads-right (reads-right (reads-left
-    (reads-both (λ s. s ≡ range_shape) (reads-word (codes "int") (codes " ") (codes "0..999;" ++ r) ground refl refl)
+    (reads-both (λ s. s ≡ range_shape) (reads-word (codes "int") (codes " ") (codes "0..999;" ++ r) bottom refl refl)
     (reads-both (λ s. s ≡ range_shape)
-    (reads-both (λ z. z ≡ pos 0) (reads-bound 0 (codes "0") (codes "..999;" ++ r) refl refl refl refl) (reads-word (codes "..") [] (codes "999;" ++ r) ground refl refl) (λ z u e k. e))
+    (reads-both (λ z. z ≡ pos 0) (reads-bound 0 (codes "0") (codes "..999;" ++ r) refl refl refl refl) (reads-word (codes "..") [] (codes "999;" ++ r) bottom refl refl) (λ z u e k. e))
     (reads-bound 999 (codes "999") (codes ";" ++ r) refl refl refl refl)
     (λ y z e k i. shapes.Int (e i) (k i)))
     (λ u s e k. k)))))
@@ -228,13 +228,13 @@ reads-range_type r =
 abbrev IsTyped : Declaration → Type 0
 IsTyped d = (l : ℕ) × (m : ℕ) × (d ≡ type_declaration l m)
 
-reads-type : (r : List ℕ) → Circuit declaration_form (codes "type t = int 0..999;\n") r IsTyped ground ground
+reads-type : (r : List ℕ) → Circuit declaration_form (codes "type t = int 0..999;\n") r IsTyped bottom bottom
 reads-type r =
     reads-left (reads-lined IsTyped
-    (reads-both (λ (f : ℕ → Declaration). (m : ℕ) × ((l : ℕ) → f l ≡ type_declaration l m)) (reads-word (codes "type") (codes " ") (codes "t = int 0..999;\n" ++ r) ground refl refl)
+    (reads-both (λ (f : ℕ → Declaration). (m : ℕ) × ((l : ℕ) → f l ≡ type_declaration l m)) (reads-word (codes "type") (codes " ") (codes "t = int 0..999;\n" ++ r) bottom refl refl)
     (reads-both (λ (f : ℕ → Declaration). (m : ℕ) × ((l : ℕ) → f l ≡ type_declaration l m))
-    (reads-both (λ y. codes "t" ≡ y) (reads-name (codes "t") (codes " ") (codes "= int 0..999;\n" ++ r) ground (named (codes "t") refl refl) refl refl refl) (reads-word (codes "=") (codes " ") (codes "int 0..999;\n" ++ r) ground refl refl) (λ y u e k. e))
-    (reads-both (λ (t : TypeTerm). (m : ℕ) × (t ≡ record { line = m; shape = range_shape })) (reads-range_type (codes "\n" ++ r)) (reads-word (codes ";") (codes "\n") r ground refl refl) (λ t u e k. e))
+    (reads-both (λ y. codes "t" ≡ y) (reads-name (codes "t") (codes " ") (codes "= int 0..999;\n" ++ r) bottom (named (codes "t") refl refl) refl refl refl) (reads-word (codes "=") (codes " ") (codes "int 0..999;\n" ++ r) bottom refl refl) (λ y u e k. e))
+    (reads-both (λ (t : TypeTerm). (m : ℕ) × (t ≡ record { line = m; shape = range_shape })) (reads-range_type (codes "\n" ++ r)) (reads-word (codes ";") (codes "\n") r bottom refl refl) (λ t u e k. e))
     (λ y t e k. (k.0, λ l i. declarations.Named l (sym e i) (k.1 i))))
     (λ u f e k. k))
     (λ l f k. (l, k.0, k.1 l)))
@@ -242,7 +242,7 @@ reads-type r =
 abbrev IsMadeBy : List ℕ → List (Lines → Parameter) → List (Lines → Item) → Declaration → Type 0
 IsMadeBy name ps is d = (c : Connector) × IsConnectorBy name ps is c × (d ≡ declarations.Made c)
 
-reads-made_connector : (name : List ℕ) (ps : List (Lines → Parameter)) (is : List (Lines → Item)) (a r : List ℕ) → Circuit connector_form a r (IsConnectorBy name ps is) ground ground → Circuit declaration_form a r (IsMadeBy name ps is) ground ground
+reads-made_connector : (name : List ℕ) (ps : List (Lines → Parameter)) (is : List (Lines → Item)) (a r : List ℕ) → Circuit connector_form a r (IsConnectorBy name ps is) bottom bottom → Circuit declaration_form a r (IsMadeBy name ps is) bottom bottom
 reads-made_connector name ps is a r x = reads-right (reads-made (IsMadeBy name ps is) x (λ c k. (c, k, refl)))
 
 -- The text of a connector.
@@ -265,20 +265,22 @@ nowhere : Places
 nowhere = record { type_line = 0; term_line = 0; stage_line = 0; stage_parameters = λ j. (0, 0); stage_items = λ j. (0, 0); main_line = 0; main_parameters = λ j. (0, 0); main_links = λ j. (0, 0); main_stages = λ j. (0, 0) }
 
 reads-declarations : (n : ℕ) → 1 ≤ n → n ≤ 256
-    → Circuit declarations_form ((codes "type t = int 0..999;\n" ++ stage_connector) ++ main_connector n) [] (λ ds. (at : Places) × (ds ≡ declarations_of n at)) ground ground
+    → Circuit declarations_form ((codes "type t = int 0..999;\n" ++ stage_connector) ++ main_connector n) [] (λ ds. (at : Places) × (ds ≡ declarations_of n at)) bottom bottom
 reads-declarations n some few =
     reads-more (λ ds. (at : Places) × (ds ≡ declarations_of n at))
     (reads-more (λ (ds : List Declaration). (at : Places) × (ds ≡ type_declaration at.type_line at.term_line ∷ declarations.Made (stage_of at) ∷ []))
     (reads-text refl (reads-more {a = []} (λ (ds : List Declaration). (at : Places) × (ds ≡ type_declaration at.type_line at.term_line ∷ []))
-    (reads-first (reads-nothing [] _ (λ (ds : List Declaration). ds ≡ []) ground refl)) (reads-type (stage_connector ++ (main_connector n ++ [])))
+    (reads-first (reads-nothing [] _ (λ (ds : List Declaration). ds ≡ []) bottom refl)) (reads-type (stage_connector ++ (main_connector n ++ [])))
     (λ ds d e k. (record nowhere { type_line = k.0; term_line = k.1 }, λ i. e i ++ k.2 i ∷ []))))
     (reads-made_connector (codes "stage") stage_parameters stage_items stage_connector (main_connector n ++ [])
     (reads-connector (codes "stage") stage_parameters stage_items (codes "in a: t, out b: t, out c: t") stage_body (main_connector n ++ []) (named (codes "stage") refl refl) reads-stage_parameters (reads-stage_items (codes "}\n" ++ (main_connector n ++ [])))))
     (λ ds d e k. (record e.0 { stage_line = k.1.line; stage_parameters = k.1.at; stage_items = k.1.below }, λ i. e.1 i ++ (k.2 ∙ ap declarations.Made k.1.same) i ∷ [])))
     (reads-made_connector (codes "main") (main_parameters n) (main_links n ++ main_stages n) (main_connector n) []
     (reads-connector (codes "main") (main_parameters n) (main_links n ++ main_stages n) (main_head n) (main_body n) [] (named (codes "main") refl refl) (λ s. reads-main_parameters n s few) (reads-main_items n [] some few)))
-    (λ ds d e k. (record e.0 { main_line = k.1.line; main_parameters = k.1.at; main_links = k.1.below; main_stages = past (main_links n) k.1.below },
-    λ i. e.1 i ++ (k.2 ∙ ap declarations.Made (k.1.same ∙ ap (λ (is : List Item). record { line = k.1.line; name = codes "main"; parameters = made_by (main_parameters n) k.1.at; items = is }) (made-append (main_links n) (main_stages n) k.1.below))) i ∷ []))
+    (λ ds d e k. (
+      record e.0 { main_line = k.1.line; main_parameters = k.1.at; main_links = k.1.below; main_stages = past (main_links n) k.1.below },
+      λ i. e.1 i ++ (k.2 ∙ ap declarations.Made (k.1.same ∙ ap (λ (is : List Item). record { line = k.1.line; name = codes "main"; parameters = made_by (main_parameters n) k.1.at; items = is }) (made-append (main_links n) (main_stages n) k.1.below))) i ∷ [],
+    ))
 
 joined-head : (p l u : List ℕ) → (p ++ codes ") ") ++ (codes "{\n" ++ ((l ++ u) ++ codes "}\n")) ≡ ((p ++ codes ") {\n") ++ l) ++ (u ++ codes "}\n")
 joined-head p l u =
@@ -299,7 +301,7 @@ whole-text n =
 -- The text says the program, on some lines.
 pub circuit-says : (n : ℕ) → 1 ≤ n → n ≤ 256 → (at : Places) × SaysProgram (circuit_text n) (program_of n at)
 circuit-says n some few =
-    let whole : Circuit program_form (circuit_text n) [] (λ p. (at : Places) × (p ≡ program_of n at)) ground ground =
-        reads-text (whole-text n) (reads-made (λ (p : Program). (at : Places) × (p ≡ program_of n at)) (reads-declarations n some few) (λ ds k. (k.0, ap (λ (l : List Declaration). record { declarations = l }) k.1))) in
+    let whole : Circuit program_form (circuit_text n) [] (λ p. (at : Places) × (p ≡ program_of n at)) bottom bottom =
+    reads-text (whole-text n) (reads-made (λ (p : Program). (at : Places) × (p ≡ program_of n at)) (reads-declarations n some few) (λ ds k. (k.0, ap (λ (l : List Declaration). record { declarations = l }) k.1))) in
     let (ts, is, low, said) = reads-all whole in
     (said.2.0, (ts, is, subst (λ p. Says circuit_rules program_form (lexemes_of (circuit_text n) ts) p) said.2.1 said.1, low-nowhere_above (lexemes_of (circuit_text n) ts) low))

@@ -1,5 +1,5 @@
 -- How many primitives a made circuit has.
-use Rattle.std.proofs.Common.{arith, ◌≡◌, ◌∙◌, ℕ, ◌+◌, ◌-◌, ◌*◌, ◌<◌, ◌≤◌, ◌^◌, ◌==◌, zero, suc, List, [], ◌∷◌, ◌++◌, length, map, drop, Bool, true, false, cond, ◌&&◌, refl, sym, ap, subst, inl, inr, append_assoc, nat_le, codes}
+use Rattle.std.proofs.Common.{arith, ◌≡◌, ◌∙◌, ℕ, ◌+◌, ◌-◌, ◌*◌, ◌<◌, ◌≤◌, ◌==◌, zero, suc, List, [], ◌∷◌, ◌++◌, length, map, drop, Bool, true, false, cond, ◌&&◌, refl, sym, ap, inl, inr, append_assoc, nat_le, codes}
 use Rattle.std.specs.Prelude.{bytes_eq}
 use Rattle.std.specs.List.{flat_map, range_with_len, list_all}
 use Rattle.std.specs.Fmt.{decimal}
@@ -21,8 +21,8 @@ use Rattle.reo_rules_base.specs.Lists.{where_true}
 use Rattle.reo_rules_base.specs.Touches.{bool_eq}
 use Rattle.reo_flatten_base.specs.Unfolding.{Placed}
 use Rattle.reo_flatten_base.specs.Ends.{ends_in, ends_from, incoming, outgoing}
-use Rattle.reo_flatten_base.specs.Joints.{is_many, many}
-use Rattle.reo_flatten_base.specs.Flat.{own_kinds, port_placed, primitives_of, placed_of, nodes_of, branched}
+use Rattle.reo_flatten_base.specs.Joints.{is_many}
+use Rattle.reo_flatten_base.specs.Flat.{own_kinds, port_placed, primitives_of, branched}
 use Rattle.reo_flatten_laws.proofs.Cuts.{number_once, behind}
 use Rattle.reo_gen.specs.Names.{link, output}
 use Rattle.reo_gen.specs.Circuits.{source_of, sink_of}
@@ -30,7 +30,7 @@ use Rattle.reo_gen_laws.proofs.Trees.{Places, declarations_of}
 use Rattle.reo_gen_laws.proofs.NameTests.{Small, same-name, other-name, other-outputs, other-links}
 use Rattle.reo_gen_laws.proofs.Rules.{source-one, sink-one, outputs_to, links_to, last-sink, link-sink, link-source}
 use Rattle.reo_gen_laws.proofs.ScriptChecks.{made_ports, in_port, out_port}
-use Rattle.reo_gen_laws.proofs.Placing.{between, stage_placed, stage_nodes, stage_at, path_of, made_placed, made_nodes, placed-are, nodes-are}
+use Rattle.reo_gen_laws.proofs.Placing.{stage_placed, stage_nodes, stage_at, path_of, made_placed, made_nodes, placed-are, nodes-are}
 use Rattle.reo_kinds.specs.declared.kind.Kind.TheVariants.{Merger, Replicator}
 
 abbrev one_if : Bool → ℕ
@@ -76,7 +76,7 @@ hits-one n takes v c m a zero l u e h = absurd (omega arith)
 hits-one n takes v c m a (suc k) l u e h =
     hits-append takes v (stage_at n a) (flat_map (stage_at n) (range_with_len (a + 1) k))
     ∙ elim (eq-or-lt_of_le l) [
-      inl same ↦ (λ i. (ap (λ j. hits takes v (stage_at n j)) same ∙ e) i + hits-none n takes v (a + 1) k (λ j l' u'. h j (omega arith) (omega arith) (λ z. omega arith)) i) ∙ omega arith
+      | inl same ↦ (λ i. (ap (λ j. hits takes v (stage_at n j)) same ∙ e) i + hits-none n takes v (a + 1) k (λ j l' u'. h j (omega arith) (omega arith) (λ z. omega arith)) i) ∙ omega arith
       | inr more ↦ (λ i. h a (omega arith) (omega arith) (λ z. omega arith) i + hits-one n takes v c m (a + 1) k (omega arith) (omega arith) e (λ j l' u' z. h j (omega arith) (omega arith) z) i) ∙ omega arith
     ]
 
@@ -105,7 +105,7 @@ stage-gives v path a b c =
     let q = bytes_eq v (path ++ codes "q") in
     let d = bytes_eq v a in
     (λ i. (miss d i + (hit x i + 0)) + ((miss d i + (hit y i + 0)) + ((miss x i + (hit p i + 0)) + ((miss x i + (hit k i + 0)) + ((miss y i + (hit q i + 0)) + ((miss y i + (hit k i + 0))
-        + ((miss d i + (miss k i + 0)) + ((miss p i + (hit (bytes_eq v b) i + 0)) + ((miss q i + (hit (bytes_eq v c) i + 0)) + 0)))))))))
+    + ((miss d i + (miss k i + 0)) + ((miss p i + (hit (bytes_eq v b) i + 0)) + ((miss q i + (hit (bytes_eq v c) i + 0)) + 0)))))))))
     ∙ omega arith
 
 stage-takes : (v path a b c : List ℕ)
@@ -118,7 +118,7 @@ stage-takes v path a b c =
     let q = bytes_eq v (path ++ codes "q") in
     let d = bytes_eq v a in
     (λ i. (hit d i + (miss x i + 0)) + ((hit d i + (miss y i + 0)) + ((hit x i + (miss p i + 0)) + ((hit x i + (miss k i + 0)) + ((hit y i + (miss q i + 0)) + ((hit y i + (miss k i + 0))
-        + ((hit d i + (hit k i + 0)) + ((hit p i + (miss (bytes_eq v b) i + 0)) + ((hit q i + (miss (bytes_eq v c) i + 0)) + 0)))))))))
+    + ((hit d i + (hit k i + 0)) + ((hit p i + (miss (bytes_eq v b) i + 0)) + ((hit q i + (miss (bytes_eq v c) i + 0)) + 0)))))))))
     ∙ omega arith
 
 -- Which names within stages are the same.
@@ -258,7 +258,7 @@ outs-one : (m a k : ℕ) → a + k ≤ 300 → a ≤ m → m < a + k → hits tr
 outs-one m a zero few l u = absurd (omega arith)
 outs-one m a (suc k) few l u =
     elim (eq-or-lt_of_le l) [
-      inl e ↦ (λ i. ((one_if ((ap (λ z. bytes_eq (output m) (output z)) e ∙ same-name (output m)) i && true)) + 0)
+      | inl e ↦ (λ i. ((one_if ((ap (λ z. bytes_eq (output m) (output z)) e ∙ same-name (output m)) i && true)) + 0)
           + outs-none (output m) (a + 1) k (λ j l' u'. other-outputs m j (omega arith) (omega arith) (λ w. omega arith)) i)
       | inr more ↦ (λ i. ((one_if (other-outputs m a (omega arith) (omega arith) (λ w. omega arith) i && true)) + 0) + outs-one m (a + 1) k (omega arith) (omega arith) (omega arith) i)
     ]
@@ -350,7 +350,7 @@ placed-count n =
 pub primitives-count : (n : ℕ) (at : Places) → 1 ≤ n → n ≤ 256 → length (primitives_of (declarations_of n at)) ≡ 14 * n + 2
 primitives-count n at some few =
     let all : length (primitives_of (declarations_of n at)) ≡ length (map (λ (p : Placed). p.kind) (made_placed n) ++ flat_map (own_kinds (made_placed n)) (made_nodes n)) =
-        (λ i. length (map (λ (p : Placed). p.kind) (placed-are n at i) ++ flat_map (own_kinds (placed-are n at i)) (nodes-are n at i))) in
+    (λ i. length (map (λ (p : Placed). p.kind) (placed-are n at i) ++ flat_map (own_kinds (placed-are n at i)) (nodes-are n at i))) in
     let parts = length-append (map (λ (p : Placed). p.kind) (made_placed n)) (flat_map (own_kinds (made_placed n)) (made_nodes n)) in
     let first = length-map (made_placed n) (λ (p : Placed). p.kind) in
     omega (arith, all, parts, first, placed-count n, own-count n some few)

@@ -1,10 +1,10 @@
 -- How many parentheses and braces are open at each token.
-use Rattle.std.proofs.Common.{◌≡◌, ℕ, ◌+◌, ◌-◌, ◌≤◌, ◌<◌, Bool, true, false, cond, ◌&&◌, not, ◌⊎◌, inl, inr, List, [], ◌∷◌, ◌++◌, refl, sym, ◌∙◌, ap, subst, arith, append_assoc, append-nil, nat_le, codes}
+use Rattle.std.proofs.Common.{◌≡◌, ℕ, ◌+◌, ◌-◌, ◌≤◌, Bool, true, false, cond, ◌&&◌, not, inl, inr, List, [], ◌∷◌, ◌++◌, refl, sym, ◌∙◌, ap, subst, arith, append_assoc, append-nil, nat_le, codes}
 use Rattle.std.proofs.lemmas.Bool.{leb-true}
-use Rattle.reo_grammar.specs.Tokens.{Lexeme, Class, matches, Alike}
+use Rattle.reo_grammar.specs.Tokens.{Lexeme, matches, Alike}
 use Rattle.reo_grammar.specs.Tokens.Class.{fixed}
-use Rattle.reo_grammar.specs.Levels.{term_starts, term_ends, operators, count_of, in_term, operators_at, IsAbove, Nowhere}
-use Rattle.reo_grammar.proofs.Levels.{in_term-more, operators_at-more, count_of-more}
+use Rattle.reo_grammar.specs.Levels.{term_starts, term_ends, count_of, in_term, operators_at, IsAbove, Nowhere}
+use Rattle.reo_grammar.proofs.Levels.{in_term-more, count_of-more}
 use Rattle.reo_grammar.proofs.Lines.{matches-alike}
 use Rattle.reo_grammar.proofs.Sound.{and-left, and-right}
 use Rattle.reo_script_base.specs.ScriptAnswers.{IsDeep}

@@ -1,7 +1,7 @@
 -- Which names are the same, and which are among others.
-use Rattle.std.proofs.Common.{◌≡◌, ℕ, ◌+◌, ◌≤◌, ◌<◌, ◌^◌, zero, suc, Bool, true, false, ◌||◌, List, [], ◌∷◌, ◌++◌, map, drop, inl, inr, refl, sym, ◌∙◌, ap, subst, arith, codes}
+use Rattle.std.proofs.Common.{◌≡◌, ℕ, ◌+◌, ◌≤◌, ◌<◌, ◌^◌, zero, suc, Bool, true, false, ◌||◌, List, ◌++◌, map, drop, inl, inr, refl, ◌∙◌, ap, subst, arith}
 use Rattle.std.specs.Prelude.{bytes_eq}
-use Rattle.std.specs.List.{range_with_len, list_any}
+use Rattle.std.specs.List.{range_with_len}
 use Rattle.std.proofs.Math.Nat.{eq-or-lt_of_le}
 use Rattle.std.proofs.lemmas.Fmt.{decimal_injective}
 use Rattle.std.proofs.lemmas.List.Folds.{list_any-append}
@@ -51,7 +51,7 @@ pub has-one : (f : ℕ → List ℕ) (a n j : ℕ) → a ≤ j → j < a + n →
 has-one f a zero j l u = absurd (omega arith)
 has-one f a (suc n) j l u =
     elim (eq-or-lt_of_le l) [
-      inl e ↦ or-left (bytes_eq (f j) (f a)) (has_name (map f (range_with_len (a + 1) n)) (f j)) (subst (λ k. bytes_eq (f k) (f a) ≡ true) e (same-name (f a)))
+      | inl e ↦ or-left (bytes_eq (f j) (f a)) (has_name (map f (range_with_len (a + 1) n)) (f j)) (subst (λ k. bytes_eq (f k) (f a) ≡ true) e (same-name (f a)))
       | inr k ↦ or-right (bytes_eq (f j) (f a)) (has_name (map f (range_with_len (a + 1) n)) (f j)) (has-one f (a + 1) n j (omega arith) (omega arith))
     ]
 

@@ -1,11 +1,10 @@
 -- How the parts of a circuit text are read.
-use Rattle.std.proofs.Common.{◌≡◌, ℕ, ◌<◌, ◌^◌, Bool, true, false, ◌&&◌, not, Option, None, List, [], ◌∷◌, ◌++◌, refl, sym, ◌∙◌, ap, append-nil, append_assoc, codes, nat_le}
+use Rattle.std.proofs.Common.{◌≡◌, ℕ, Bool, true, false, ◌&&◌, Option, None, List, [], ◌∷◌, ◌++◌, refl, sym, ◌∙◌, ap, append-nil, codes, nat_le}
 use Rattle.std.specs.List.{list_all}
 use Rattle.reo_grammar.specs.declared.kind.TokenKind.TheVariants as kinds
-use Rattle.reo_grammar.specs.Grammar.{Grammar}
 use Rattle.reo_lexer.specs.Gaps.{is_space}
 use Rattle.reo_lexer.proofs.Cut.{is_cut}
-use Rattle.reo_syntax.proofs.Cuts.{end-cut, open-cut, close-cut, comma-cut}
+use Rattle.reo_syntax.proofs.Cuts.{end-cut, open-cut, close-cut}
 use Rattle.reo_trees.specs.declared.literals.Literal.{Literal}
 use Rattle.reo_trees.specs.declared.types.Shape.{Shape}
 use Rattle.reo_trees.specs.declared.types.Shape.TheVariants as shapes
@@ -16,11 +15,11 @@ use Rattle.reo_trees.specs.declared.items.Form.TheVariants as forms
 use Rattle.reo_trees.specs.declared.items.Channel.{Channel}
 use Rattle.reo_trees.specs.declared.items.Channel.TheVariants as channels
 use Rattle.reo_trees.specs.declared.programs.Parameter.{Parameter}
-use Rattle.reo_trees.specs.Forms.{Rule, tree_of, word, name_form, ◌▸◌, ◌◂◌}
+use Rattle.reo_trees.specs.Forms.{word, name_form, ◌◂◌}
 use Rattle.reo_trees.specs.Forms.Rule.{type_rule}
 use Rattle.reo_trees.specs.Types.{names_form}
 use Rattle.reo_trees.specs.Channels.{plain_channel}
-use Rattle.reo_trees.specs.Items.{item_form, arguments_form}
+use Rattle.reo_trees.specs.Items.{item_form}
 use Rattle.reo_trees.specs.Programs.{way_form, parameter_form}
 use Rattle.reo_trees.specs.Rules.{circuit_rules}
 use Rattle.reo_trees.specs.Forms.{FormOf}

@@ -1,5 +1,5 @@
 -- Passes over parts that are made for each number of a range.
-use Rattle.std.proofs.Common.{◌≡◌, ℕ, ◌+◌, ◌≤◌, ◌<◌, zero, suc, Bool, true, false, ◌||◌, List, [], ◌∷◌, ◌++◌, map, inl, inr, refl, sym, ◌∙◌, ap, subst, arith, append_assoc, append-nil}
+use Rattle.std.proofs.Common.{◌≡◌, ℕ, ◌+◌, ◌≤◌, ◌<◌, zero, suc, Bool, true, false, List, [], ◌∷◌, ◌++◌, map, inl, inr, refl, sym, ◌∙◌, ap, subst, arith, append_assoc, append-nil}
 use Rattle.std.specs.List.{range_with_len, flat_map, list_any}
 use Rattle.std.proofs.Math.Nat.{eq-or-lt_of_le}
 use Rattle.reo_rules_base.specs.Lists.{each_after}
@@ -40,7 +40,7 @@ pub some-any : {X : Type 0} (p : X → Bool) (make : ℕ → Lines → X) (a n j
 some-any p make a zero j at l u h = absurd (omega arith)
 some-any p make a (suc n) j at l u h =
     elim (eq-or-lt_of_le l) [
-      inl e ↦ or-left (p (make a (at zero))) _ (subst (λ k. p (make k (at zero)) ≡ true) (sym e) (h (at zero)))
+      | inl e ↦ or-left (p (make a (at zero))) _ (subst (λ k. p (make k (at zero)) ≡ true) (sym e) (h (at zero)))
       | inr k ↦ or-right (p (make a (at zero))) _ (some-any p make (a + 1) n j (λ i. at (suc i)) (omega arith) (omega arith) h)
     ]
 

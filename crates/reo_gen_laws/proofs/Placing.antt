@@ -1,5 +1,5 @@
 -- What a made circuit unfolds to.
-use Rattle.std.proofs.Common.{◌≡◌, ℕ, zero, suc, ◌+◌, ◌-◌, ◌≤◌, ◌<◌, ◌^◌, Bool, true, false, ◌&&◌, ◌||◌, not, cond, Option, Some, None, pos, List, [], ◌∷◌, ◌++◌, length, map, refl, sym, ◌∙◌, ap, subst, append_assoc, append-nil, arith, codes}
+use Rattle.std.proofs.Common.{◌≡◌, ℕ, zero, suc, ◌+◌, ◌-◌, Bool, true, false, cond, List, [], ◌∷◌, ◌++◌, map, refl, sym, ◌∙◌, ap, append_assoc, append-nil, arith, codes}
 use Rattle.std.specs.Prelude.{bytes_eq}
 use Rattle.std.specs.List.{flat_map, range_with_len, count_by}
 use Rattle.std.specs.Fmt.{decimal}
@@ -10,15 +10,13 @@ use Rattle.reo_kinds.specs.declared.kind.Kind.{Kind}
 use Rattle.reo_kinds.specs.declared.kind.Kind.TheVariants as primitives
 use Rattle.reo_trees.specs.declared.items.Item.{Item}
 use Rattle.reo_trees.specs.declared.programs.Parameter.{Parameter}
-use Rattle.reo_rules_base.specs.Lists.{each_after}
 use Rattle.reo_rules_base.specs.Scopes.{parameter_names, scope_of}
-use Rattle.reo_rules_base.specs.Types.{types_of}
 use Rattle.reo_flatten_base.specs.Unfolding.{Placed, Meaning, meaning_named, meanings_of, meaning_of, flat_name, is_use, nodes_in, channels_in}
 use Rattle.reo_flatten_base.specs.Flat.{nodes_of, placed_of, port_placed}
 use Rattle.reo_gen.specs.Names.{link, output}
 use Rattle.reo_gen.specs.Circuits.{source_of, sink_of}
 use Rattle.reo_gen_laws.proofs.Written.{Lines, made_by}
-use Rattle.reo_gen_laws.proofs.Trees.{Places, declarations_of, stage_of, main_of, output_by, link_by, stage_by}
+use Rattle.reo_gen_laws.proofs.Trees.{Places, declarations_of, stage_of, main_of, link_by, stage_by}
 use Rattle.reo_gen_laws.proofs.Passes.{after-append, after-made}
 use Rattle.reo_gen_laws.proofs.Rules.{parameters_in, links_in, stages_in, outputs_to, links_to, names-of-parameters, known_types}
 use Rattle.reo_gen_laws.proofs.ScriptChecks.{made_ports, ports-are}

@@ -6,14 +6,13 @@ use Rattle.std.proofs.lemmas.List.{length-append, length-map, map-append, get_or
 use Rattle.std.proofs.lemmas.List.FromFn.{length-range_with_len}
 use Rattle.std.proofs.Math.ListN.{get_or-append}
 use Rattle.std.proofs.lemmas.Slice.Eq.{bytes_eq-Decides}
-use Rattle.reo_net_order.specs.Arrows.{Walk, OnCycle, NoCycle}
+use Rattle.reo_net_order.specs.Arrows.{Walk, NoCycle}
 use Rattle.reo_net_base.specs.declared.joint.End.{End}
 use Rattle.reo_net_base.specs.declared.joint.Joint.{Joint}
 use Rattle.reo_net_base.specs.Behaviour.{Behaviour}
 use Rattle.reo_net_base.specs.Net.{Net, end_of, behaviour_at, sides_of, first_side, side_at, from_sides, to_sides}
 use Rattle.reo_kinds.specs.declared.kind.Kind.{Kind}
 use Rattle.reo_kinds.specs.declared.kind.Kind.TheVariants as primitives
-use Rattle.reo_kinds.specs.declared.kind.Branches.{Branches}
 use Rattle.reo_kinds.specs.Kinds.{behaviour_of}
 use Rattle.reo_rules_base.specs.Lists.{where_true}
 use Rattle.reo_rules_base.specs.Touches.{bool_eq}
@@ -22,7 +21,6 @@ use Rattle.reo_flatten_base.specs.Ends.{ends_in, ends_from, incoming, outgoing}
 use Rattle.reo_flatten_base.specs.Joints.{is_many, ends_of, pairs, joints_between, joints_of, many}
 use Rattle.reo_flatten_base.specs.Flat.{branched, branched_with, own_kinds, joints_at}
 use Rattle.reo_flatten_laws.proofs.Each.{both}
-use Rattle.reo_flatten_laws.proofs.AllEnds.{length_own}
 
 -- Arrows that rise lead nowhere back.
 module _ (from to : List ℕ) (rank : ℕ → ℕ) (rises : (j : ℕ) → j < length from → rank (get_or from j 0) < rank (get_or to j 0)) where

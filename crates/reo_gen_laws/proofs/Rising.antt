@@ -1,5 +1,5 @@
 -- In a made circuit items only rise, but in its buffers.
-use Rattle.std.proofs.Common.{arith, ◌≡◌, ◌∙◌, ℕ, ◌+◌, ◌*◌, ◌<◌, ◌≤◌, ◌^◌, ◌==◌, zero, suc, List, [], ◌∷◌, ◌++◌, length, get_or, map, Bool, true, false, cond, ◌&&◌, ◌||◌, refl, sym, ap, subst, codes}
+use Rattle.std.proofs.Common.{arith, ◌≡◌, ℕ, ◌+◌, ◌*◌, ◌<◌, ◌≤◌, ◌^◌, ◌==◌, zero, suc, List, [], ◌∷◌, ◌++◌, map, true, false, cond, ◌||◌, refl, sym, ap, subst, codes}
 use Rattle.std.specs.List.{AllByRecursion, flat_map, range_with_len, list_all}
 use Rattle.std.specs.Fmt.{decimal}
 use Rattle.std.proofs.lemmas.Bool.Decides.{nat_tests}
@@ -10,7 +10,6 @@ use Rattle.reo_lexer.proofs.Spelled.{digit-parts}
 use Rattle.reo_syntax.proofs.Decimals.{decimal-value}
 use Rattle.reo_kinds.specs.declared.kind.Kind.{Kind}
 use Rattle.reo_kinds.specs.declared.kind.Kind.TheVariants.{Writer, Taker, Sync, Lossy, SyncDrain, Store}
-use Rattle.reo_kinds.specs.Kinds.{behaviour_of}
 use Rattle.reo_net_order.specs.Arrows.{NoCycle}
 use Rattle.reo_net_base.specs.Net.{from_sides, to_sides}
 use Rattle.reo_flatten_base.specs.Unfolding.{Placed}
@@ -22,7 +21,7 @@ use Rattle.reo_gen_laws.proofs.Trees.{Places, declarations_of}
 use Rattle.reo_gen_laws.proofs.Rules.{source-one}
 use Rattle.reo_gen_laws.proofs.ScriptChecks.{made_ports, in_port, out_port}
 use Rattle.reo_gen_laws.proofs.Placing.{between, empty_buffer, stage_placed, stage_at, path_of, made_placed, placed-are}
-use Rattle.reo_gen_laws.proofs.Ranks.{IsRight, AreRight, IsRanked, AreRanked, ranked-no-cycle}
+use Rattle.reo_gen_laws.proofs.Ranks.{IsRanked, ranked-no-cycle}
 
 -- The last byte of a name.
 abbrev last_byte : List ℕ → ℕ
@@ -121,13 +120,25 @@ above-inner path b c h k = let e = inner-rank path b in let f = inner-rank path 
 stage-ranked : (path a b c : List ℕ) → rank a ≡ 0 → AllByRecursion Ranked (stage_placed path a b c)
 stage-ranked path a b c low = (
   lossy-ranked a (path ++ codes "x") (above-main path a 120 low refl),
-  (lossy-ranked a (path ++ codes "y") (above-main path a 121 low refl),
-  (sync-ranked (path ++ codes "x") (path ++ codes "p") (above-inner path 120 112 refl refl),
-  (sync-ranked (path ++ codes "x") (path ++ codes "k") (above-inner path 120 107 refl refl),
-  (sync-ranked (path ++ codes "y") (path ++ codes "q") (above-inner path 121 113 refl refl),
-  (sync-ranked (path ++ codes "y") (path ++ codes "k") (above-inner path 121 107 refl refl),
-  (drain-ranked a (path ++ codes "k"),
-  (buffer-ranked (path ++ codes "p") b, (buffer-ranked (path ++ codes "q") c, tt)))))))),
+  (
+    lossy-ranked a (path ++ codes "y") (above-main path a 121 low refl),
+    (
+      sync-ranked (path ++ codes "x") (path ++ codes "p") (above-inner path 120 112 refl refl),
+      (
+        sync-ranked (path ++ codes "x") (path ++ codes "k") (above-inner path 120 107 refl refl),
+        (
+          sync-ranked (path ++ codes "y") (path ++ codes "q") (above-inner path 121 113 refl refl),
+          (
+            sync-ranked (path ++ codes "y") (path ++ codes "k") (above-inner path 121 107 refl refl),
+            (
+              drain-ranked a (path ++ codes "k"),
+              (buffer-ranked (path ++ codes "p") b, (buffer-ranked (path ++ codes "q") c, tt)),
+            ),
+          ),
+        ),
+      ),
+    ),
+  ),
 )
 
 outs-ranked : (a k : ℕ) → AllByRecursion Ranked (map port_placed (map out_port (range_with_len a k)))

@@ -1,5 +1,5 @@
 -- A made program breaks no rule on its text.
-use Rattle.std.proofs.Common.{◌≡◌, ℕ, ◌+◌, ◌-◌, ◌*◌, ◌≤◌, ◌<◌, ◌^◌, ◌==◌, zero, suc, Bool, true, false, ◌||◌, ◌&&◌, not, cond, List, [], ◌∷◌, ◌++◌, map, inl, inr, refl, sym, ◌∙◌, ap, subst, arith, append_assoc, append-nil, codes}
+use Rattle.std.proofs.Common.{◌≡◌, ℕ, ◌+◌, ◌-◌, ◌≤◌, ◌<◌, ◌==◌, zero, suc, Bool, true, false, ◌||◌, ◌&&◌, not, cond, List, [], ◌∷◌, ◌++◌, map, refl, sym, ◌∙◌, ap, arith, append-nil, codes}
 use Rattle.std.specs.Prelude.{bytes_eq, if◌then◌else◌, unwrap_or, Some, pos}
 use Rattle.std.specs.Option.{option_map}
 use Rattle.std.specs.List.{range_with_len, flat_map, list_any, find}
@@ -12,15 +12,12 @@ use Rattle.std.proofs.lemmas.Grind.{flat_map-append}
 use Rattle.std.proofs.lemmas.Bool.Decides.{Decides-eqb}
 use Rattle.reo_values.specs.declared.kindred.Kindred.TheVariants as kinds
 use Rattle.reo_trees.specs.declared.items.Item.{Item}
-use Rattle.reo_trees.specs.declared.items.Form.{Form}
 use Rattle.reo_trees.specs.declared.programs.Parameter.{Parameter}
-use Rattle.reo_trees.specs.declared.programs.Declaration.{Declaration}
-use Rattle.reo_trees.specs.declared.programs.Declaration.TheVariants as declarations
 use Rattle.reo_rules_base.specs.declared.fault.FlatFault.{FlatFault}
 use Rattle.reo_rules_base.specs.declared.fault.FlatFault.TheVariants as faults
 use Rattle.reo_rules_base.specs.Lists.{each_after, where_true, has_name}
 use Rattle.reo_rules_base.specs.Scopes.{parameter_names, node_names, node_names_in, parameter_type, node_types_in, scope_of}
-use Rattle.reo_rules_base.specs.Twice.{twice, twice_in, twice_in_parameter, twice_in_item, twice_among}
+use Rattle.reo_rules_base.specs.Twice.{twice, twice_in_parameter, twice_in_item}
 use Rattle.reo_rules_base.specs.Unknown.{unknown, unknown_in_item, unknown_in_type, missing}
 use Rattle.reo_rules_base.specs.Mistyped.{mistyped}
 use Rattle.reo_rules_base.specs.Ranges.{out_of_range, range_in_type}
@@ -33,8 +30,8 @@ use Rattle.reo_rules_base.specs.Rules.{rule_breaks}
 use Rattle.reo_gen.specs.Names.{link, output}
 use Rattle.reo_gen.specs.Circuits.{source_of, sink_of}
 use Rattle.reo_gen_laws.proofs.Written.{Lines, made_by}
-use Rattle.reo_gen_laws.proofs.Trees.{parameter_by, node_by, output_by, link_by, stage_by, main_parameters, main_links, main_stages, Places, declarations_of, stage_of, main_of, type_declaration}
-use Rattle.reo_gen_laws.proofs.NameTests.{Small, same-name, other-outputs, other-links, or-left, or-right, or-neither, has-left, has-right, has-neither, has-one, has-none}
+use Rattle.reo_gen_laws.proofs.Trees.{parameter_by, output_by, link_by, stage_by, main_parameters, main_links, main_stages, Places, declarations_of, stage_of, main_of}
+use Rattle.reo_gen_laws.proofs.NameTests.{other-outputs, other-links, or-left, or-right, or-neither, has-left, has-right, has-neither, has-one, has-none}
 use Rattle.reo_gen_laws.proofs.Passes.{both-none, pass-none, after-none, after-append, some-any, none-any, made-map, made-flat}
 
 abbrev pub parameters_in : ℕ → Places → List Parameter
@@ -97,9 +94,9 @@ twice-items n at few =
     ∙ both-none _ _
     (after-none f link_by LinksBefore 1 (n - 1) at.main_links [] (0, refl, refl)
     (λ j b l h u q.
-        ap (λ t. t ++ []) (none-twice (has_name (parameter_names (parameters_in n at) ++ node_names b) (link j)) _
-        (has-neither (parameter_names (parameters_in n at)) (node_names b) (link j) (no-parameter n at j)
-        (ap (λ ns. has_name ns (link j)) q.2 ∙ has-none link 1 q.0 (link j) (λ i g v. other-links j i (omega arith) (omega (arith, q.1)) (λ e. omega (arith, q.1)))))))
+    ap (λ t. t ++ []) (none-twice (has_name (parameter_names (parameters_in n at) ++ node_names b) (link j)) _
+    (has-neither (parameter_names (parameters_in n at)) (node_names b) (link j) (no-parameter n at j)
+    (ap (λ ns. has_name ns (link j)) q.2 ∙ has-none link 1 q.0 (link j) (λ i g v. other-links j i (omega arith) (omega (arith, q.1)) (λ e. omega (arith, q.1)))))))
     (λ j b l h u q. links-more j b l q))
     (after-none f (stage_by n) (λ j b. Unit {0}) 1 n at.main_stages (links_in n at) tt (λ j b l h u q. refl) (λ j b l h u q. tt))
 
@@ -155,8 +152,8 @@ unknown-items n at =
     ∙ both-none _ _ (after-none f link_by (λ j b. Unit {0}) 1 (n - 1) at.main_links [] tt (λ j b l h u q. refl) (λ j b l h u q. tt))
     (after-none f (stage_by n) (λ j b. node_names b ≡ links_to (n - 1)) 1 n at.main_stages (links_in n at) (names-of-links n at)
     (λ j b l h u q.
-        ap (λ ns. flat_map (missing ns l.0) (source_of j ∷ sink_of n j ∷ output j ∷ [])) (λ i. names-of-parameters n at i ++ q i)
-        ∙ none-missing (names_in n) l.0 (source_of j) (sink_of n j) (output j) (known-source n j h u) (known-sink n j h u) (known-output n j (omega arith)))
+    ap (λ ns. flat_map (missing ns l.0) (source_of j ∷ sink_of n j ∷ output j ∷ [])) (λ i. names-of-parameters n at i ++ q i)
+    ∙ none-missing (names_in n) l.0 (source_of j) (sink_of n j) (output j) (known-source n j h u) (known-sink n j h u) (known-output n j (omega arith)))
     (λ j b l h u q. flat_map-append (λ (i : Item). node_names_in i.form) b (stage_by n j l ∷ []) ∙ append-nil (node_names b) ∙ q))
 
 unknown-none : (n : ℕ) (at : Places) → unknown (declarations_of n at) ≡ []
@@ -183,9 +180,9 @@ entries f (x ∷ xs) = ap (λ l. entry (f x) ∷ l) (entries f xs)
 scope-is : (n : ℕ) (at : Places) → scope_of known_types (main_of n at) ≡ map entry (names_in n)
 scope-is n at =
     (λ i. (entry (codes "i") ∷ (made-map (parameter_type known_types) output_by (λ j. entry (output j)) 0 (n + 1) (λ j. at.main_parameters (suc j)) (λ j l. refl) ∙ entries output (range_with_len 0 (n + 1))) i)
-        ++ (flat_map-append (λ (i : Item). node_types_in known_types i.form) (links_in n at) (stages_in n at)
-        ∙ (λ j. (made-flat (λ (i : Item). node_types_in known_types i.form) link_by (λ k. entry (link k)) 1 (n - 1) at.main_links (λ k l. refl) ∙ entries link (range_with_len 1 (n - 1))) j
-        ++ pass-none (λ (i : Item). node_types_in known_types i.form) (stage_by n) 1 n at.main_stages (λ k l h u. refl) j) ∙ append-nil (map entry (links_to (n - 1)))) i)
+    ++ (flat_map-append (λ (i : Item). node_types_in known_types i.form) (links_in n at) (stages_in n at)
+    ∙ (λ j. (made-flat (λ (i : Item). node_types_in known_types i.form) link_by (λ k. entry (link k)) 1 (n - 1) at.main_links (λ k l. refl) ∙ entries link (range_with_len 1 (n - 1))) j
+    ++ pass-none (λ (i : Item). node_types_in known_types i.form) (stage_by n) 1 n at.main_stages (λ k l h u. refl) j) ∙ append-nil (map entry (links_to (n - 1)))) i)
     ∙ sym (map-append entry (codes "i" ∷ outputs_to (n + 1)) (links_to (n - 1)))
 
 typed-in : (n : ℕ) (at : Places) (name : List ℕ) → has_name (names_in n) name ≡ true → type_named (scope_of known_types (main_of n at)) name ≡ kinds.Int (pos 0) (pos 999)
@@ -195,10 +192,10 @@ mistyped-none : (n : ℕ) (at : Places) → mistyped (declarations_of n at) ≡ 
 mistyped-none n at =
     let K = kinds.Int (pos 0) (pos 999) in
     ap (λ l. l ++ []) (items-none n at _ (λ j l. refl) (λ j l h u.
-        let tx = typed-in n at (source_of j) (known-source n j h u) in
-        let ty = typed-in n at (sink_of n j) (known-sink n j h u) in
-        let tz = typed-in n at (output j) (known-output n j (omega arith)) in
-        λ i. where_true (not (is_same (tx i) K) || (not (is_same (ty i) K) || (not (is_same (tz i) K) || false))) (faults.Mistyped l.0)))
+    let tx = typed-in n at (source_of j) (known-source n j h u) in
+    let ty = typed-in n at (sink_of n j) (known-sink n j h u) in
+    let tz = typed-in n at (output j) (known-output n j (omega arith)) in
+    λ i. where_true (not (is_same (tx i) K) || (not (is_same (ty i) K) || (not (is_same (tz i) K) || false))) (faults.Mistyped l.0)))
 
 range-none : (n : ℕ) (at : Places) → out_of_range (declarations_of n at) ≡ []
 range-none n at = ap (λ l. l ++ []) (both-none _ _ (parameters-none n at (λ (p : Parameter). range_in_type known_types p.term) (λ l. refl) (λ j l u. refl)) (items-none n at _ (λ j l. refl) (λ j l h u. refl)))
@@ -235,10 +232,10 @@ output-way n at j = right-way n at (output j) false refl (λ k l. and-false (byt
 direction-none : (n : ℕ) (at : Places) → direction (declarations_of n at) ≡ []
 direction-none n at =
     ap (λ l. l ++ []) (items-none n at _ (λ j l. refl) (λ j l h u.
-        let tx = source-way n at j in
-        let ty = sink-way n at j in
-        let tz = output-way n at j in
-        λ i. where_true (tx i) (faults.Direction l.0 (source_of j)) ++ (where_true (ty i) (faults.Direction l.0 (sink_of n j)) ++ (where_true (tz i) (faults.Direction l.0 (output j)) ++ []))))
+    let tx = source-way n at j in
+    let ty = sink-way n at j in
+    let tz = output-way n at j in
+    λ i. where_true (tx i) (faults.Direction l.0 (source_of j)) ++ (where_true (ty i) (faults.Direction l.0 (sink_of n j)) ++ (where_true (tz i) (faults.Direction l.0 (output j)) ++ []))))
 
 -- The ends that items put at names.
 abbrev ends_by : Places → Item → List Touch

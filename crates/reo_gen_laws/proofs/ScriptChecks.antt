@@ -1,8 +1,8 @@
 -- A made script breaks no rule on the ports of its circuit.
-use Rattle.std.proofs.Common.{◌≡◌, ℕ, zero, suc, ◌+◌, ◌-◌, ◌≤◌, ◌<◌, ◌^◌, Bool, true, false, ◌&&◌, ◌||◌, not, cond, Option, Some, None, pos, List, [], ◌∷◌, ◌++◌, length, map, refl, sym, ◌∙◌, ap, subst, append_assoc, append-nil, arith, nat_le, nat_lt, codes, inl, inr}
-use Rattle.std.specs.Prelude.{bytes_eq, slice_get, option_and_then, is_none, is_some, Ok}
+use Rattle.std.proofs.Common.{◌≡◌, ℕ, zero, suc, ◌+◌, ◌≤◌, ◌<◌, Bool, true, false, ◌&&◌, not, cond, Some, None, pos, List, [], ◌∷◌, ◌++◌, length, map, refl, ◌∙◌, ap, subst, append-nil, arith, nat_le, nat_lt, codes, inl, inr}
+use Rattle.std.specs.Prelude.{bytes_eq, slice_get, option_and_then, is_none}
 use Rattle.std.specs.Option.{option_map_or}
-use Rattle.std.specs.List.{flat_map, range_with_len, position, prefix_len}
+use Rattle.std.specs.List.{flat_map, range_with_len, prefix_len}
 use Rattle.std.specs.Int.Signed.{le_z}
 use Rattle.std.proofs.lemmas.Bool.Decides.{nat_tests}
 use Rattle.std.proofs.lemmas.Grind.{flat_map-append}
@@ -14,22 +14,18 @@ use Rattle.reo_net_base.specs.declared.port.Port.{Port}
 use Rattle.reo_net_base.specs.declared.port.Way.TheVariants.{In, Out}
 use Rattle.reo_values.specs.declared.value.Value.TheVariants as values
 use Rattle.reo_literals.specs.Items.{item_of}
-use Rattle.reo_trees.specs.declared.literals.Literal.{Literal}
 use Rattle.reo_trees.specs.declared.literals.Constant.TheVariants as constants
-use Rattle.reo_trees.specs.declared.programs.Parameter.{Parameter}
-use Rattle.reo_rules_base.specs.Lists.{each_after, where_true, has_name}
-use Rattle.reo_flatten_base.specs.Flat.{ports_of, port_of}
+use Rattle.reo_rules_base.specs.Lists.{where_true, has_name}
+use Rattle.reo_flatten_base.specs.Flat.{ports_of}
 use Rattle.reo_script_base.specs.declared.fault.ScriptFault.{ScriptFault}
 use Rattle.reo_script_base.specs.declared.fault.ScriptFault.TheVariants as faults
-use Rattle.reo_script_base.specs.declared.forms.ActionForm.{ActionForm}
-use Rattle.reo_script_base.specs.declared.forms.ActionForm.TheVariants as forms
 use Rattle.reo_script_base.specs.declared.forms.ActionForm.TheBlock.{hidden-the_row-ActionForm-0}
 use Rattle.reo_script_base.specs.declared.forms.ComponentForm.{ComponentForm}
 use Rattle.reo_script_base.specs.ScriptRules.{Naming, namings, namings_in, port_named, no_port, wrong_way, outside, shared, shared_in, ports_in, same, goes_in, breaks}
 use Rattle.reo_gen.specs.Names.{output}
 use Rattle.reo_gen_laws.proofs.Written.{Lines, made_by}
 use Rattle.reo_gen_laws.proofs.Trees.{output_by, Places, declarations_of}
-use Rattle.reo_gen_laws.proofs.NameTests.{Small, same-name, other-outputs, or-neither, has-neither, has-none}
+use Rattle.reo_gen_laws.proofs.NameTests.{same-name, other-outputs, or-neither, has-neither, has-none}
 use Rattle.reo_gen_laws.proofs.Passes.{both-none, pass-none, after-none, made-map, made-flat}
 use Rattle.reo_gen_laws.proofs.ScriptTexts.{write_by, writer_by, taker_by, components_by}
 use Rattle.std.proofs.Math.Nat.{eq-or-lt_of_le}
@@ -79,7 +75,7 @@ out-among : (a n j : ℕ) → a + n ≤ 300 → a ≤ j → j < a + n → port_n
 out-among a zero j few l u = absurd (omega arith)
 out-among a (suc n) j few l u =
     elim (eq-or-lt_of_le l) [
-      inl e ↦ subst (λ k. port_named (map out_port (range_with_len a (suc n))) (output k) ≡ Some (out_port k)) e (port-first (out_port a) (map out_port (range_with_len (a + 1) n)) (output a) (same-name (output a)))
+      | inl e ↦ subst (λ k. port_named (map out_port (range_with_len a (suc n))) (output k) ≡ Some (out_port k)) e (port-first (out_port a) (map out_port (range_with_len (a + 1) n)) (output a) (same-name (output a)))
       | inr k ↦ port-other (out_port a) (map out_port (range_with_len (a + 1) n)) (output j) (other-outputs j a (omega arith) (omega arith) (λ e. omega arith)) ∙ out-among (a + 1) n j (omega arith) (omega arith) (omega arith)
     ]
 

@@ -1,11 +1,10 @@
 -- The text of a made script says its components.
-use Rattle.std.proofs.Common.{◌≡◌, ℕ, zero, suc, ◌+◌, ◌-◌, ◌≤◌, ◌<◌, ◌^◌, Bool, true, false, ◌&&◌, cond, Option, None, pos, List, [], ◌∷◌, ◌++◌, map, refl, sym, ◌∙◌, ap, subst, append_assoc, append-nil, arith, nat_le, codes}
+use Rattle.std.proofs.Common.{◌≡◌, ℕ, ◌+◌, ◌≤◌, ◌<◌, ◌^◌, true, ◌&&◌, Option, None, pos, List, [], ◌∷◌, ◌++◌, map, refl, sym, ◌∙◌, ap, subst, append_assoc, append-nil, arith, nat_le, codes}
 use Rattle.std.specs.List.{flat_map, range_with_len}
 use Rattle.std.specs.Fmt.{decimal}
 use Rattle.std.proofs.lemmas.Bool.Decides.{nat_tests}
 use Rattle.reo_grammar.specs.declared.kind.TokenKind.TheVariants as kinds
-use Rattle.reo_grammar.specs.Tokens.{matches, is_real, number_from}
-use Rattle.reo_grammar.specs.Tokens.Class.{number}
+use Rattle.reo_grammar.specs.Tokens.{number_from}
 use Rattle.reo_grammar.specs.Grammar.{Says}
 use Rattle.reo_grammar.specs.Grammar.Grammar.{rule}
 use Rattle.reo_lexer.specs.Lexing.{lexemes_of}
@@ -20,13 +19,13 @@ use Rattle.reo_trees.specs.Literals.{greatest}
 use Rattle.reo_script_base.specs.declared.forms.ActionForm.{ActionForm}
 use Rattle.reo_script_base.specs.declared.forms.ActionForm.TheVariants as forms
 use Rattle.reo_script_base.specs.declared.forms.ComponentForm.{ComponentForm}
-use Rattle.reo_script_base.specs.ScriptForms.{ScriptRule, ScriptFormOf, script_rules, script_form, lifted, within_form, write_form, take_form, times_form, label_form, action_list, actions_form, action_form, component_form}
+use Rattle.reo_script_base.specs.ScriptForms.{ScriptFormOf, script_rules, script_form, lifted, within_form, label_form, action_list, component_form}
 use Rattle.reo_script_base.specs.ScriptForms.ScriptRule.{action_rule, of_circuit}
 use Rattle.reo_script_base.specs.ScriptAnswers.{SaysScript}
 use Rattle.reo_gen.specs.Names.{numbered, output}
 use Rattle.reo_gen.specs.Scripts.{write_text, writer_line, taker_line, script_text}
 use Rattle.reo_gen_laws.proofs.Heights.{Height, height, low-nowhere, over}
-use Rattle.reo_gen_laws.proofs.Pieces.{Reads, IsNamed, is_fit, reads-both, reads-more, reads-first, reads-left, reads-right, reads-made, reads-lined, reads-rule, reads-nothing, reads-text, reads-word, reads-name, reads-gap, reads-behind, reads-number, reads-all, reads-else}
+use Rattle.reo_gen_laws.proofs.Pieces.{Reads, IsNamed, is_fit, reads-both, reads-more, reads-first, reads-left, reads-right, reads-made, reads-lined, reads-rule, reads-nothing, reads-text, reads-word, reads-name, reads-number, reads-all, reads-else}
 use Rattle.reo_gen_laws.proofs.Written.{Lines, IsBy, AreBy, made_by, by-none, by-more, reads-claimed, reads-range}
 use Rattle.reo_gen_laws.proofs.Words.{named-output, named-taker}
 use Rattle.reo_grammar.specs.Conditions.{fixed_token}
@@ -50,8 +49,8 @@ taker_by j l = record { name = numbered (codes "t") j; actions = forms.Repeat 10
 abbrev pub components_by : ℕ → (ℕ → Lines) → (ℕ → Lines) → List ComponentForm
 components_by stages at below = writer_by at ∷ made_by (map taker_by (range_with_len 0 (stages + 1))) below
 
-abbrev ground : Height
-ground = height 0 0
+abbrev bottom : Height
+bottom = height 0 0
 
 abbrev within_component : Height
 within_component = height 0 1
@@ -99,14 +98,14 @@ reads-write n r h =
     (λ l f k. ((l, k.0), k.1 l))))
 
 -- The name of a component, and what stands between its braces.
-reads-label : (name r : List ℕ) → IsNamed name → Script (lifted label_form) (codes "component " ++ ((name ++ codes " ") ++ codes "{ ")) r (λ n. name ≡ n) ground within_component
+reads-label : (name r : List ℕ) → IsNamed name → Script (lifted label_form) (codes "component " ++ ((name ++ codes " ") ++ codes "{ ")) r (λ n. name ≡ n) bottom within_component
 reads-label name r n =
-    reads-both (λ b. name ≡ b) (reads-word (codes "component") (codes " ") (((name ++ codes " ") ++ codes "{ ") ++ r) ground refl refl)
-    (reads-both (λ b. name ≡ b) (reads-name name (codes " ") (codes "{ " ++ r) ground n refl refl refl) (reads-word (codes "{") (codes " ") r ground refl refl) (λ b u e k. e))
+    reads-both (λ b. name ≡ b) (reads-word (codes "component") (codes " ") (((name ++ codes " ") ++ codes "{ ") ++ r) bottom refl refl)
+    (reads-both (λ b. name ≡ b) (reads-name name (codes " ") (codes "{ " ++ r) bottom n refl refl refl) (reads-word (codes "{") (codes " ") r bottom refl refl) (λ b u e k. e))
     (λ u b e k. k)
 
 reads-component : (name body r : List ℕ) (S : List ActionForm → Type 0) → IsNamed name → Script action_list body (codes "}\n" ++ r) S within_component within_component
-    → Script component_form ((codes "component " ++ ((name ++ codes " ") ++ codes "{ ")) ++ (body ++ codes "}\n")) r (λ c. (xs : List ActionForm) × S xs × (c ≡ record { name = name; actions = xs })) ground ground
+    → Script component_form ((codes "component " ++ ((name ++ codes " ") ++ codes "{ ")) ++ (body ++ codes "}\n")) r (λ c. (xs : List ActionForm) × S xs × (c ≡ record { name = name; actions = xs })) bottom bottom
 reads-component name body r S n b =
     reads-both (λ (c : ComponentForm). (xs : List ActionForm) × S xs × (c ≡ record { name = name; actions = xs })) (reads-label name ((body ++ codes "}\n") ++ r) n)
     (reads-both S b (reads-word (codes "}") (codes "\n") r within_component refl refl) (λ xs u e k. e))
@@ -116,7 +115,7 @@ reads-writes : (r : List ℕ) → Script action_list (flat_map write_text (range
 reads-writes r =
     reads-range (λ s. Unit {0}) write_text write_by 0 20 [] [] (codes "}\n" ++ r) tt (λ j s. tt) (λ j s l u f. reads-write j s (omega arith)) (reads-first (reads-nothing [] _ (AreBy []) within_component by-none))
 
-reads-writer : (r : List ℕ) → Script component_form writer_line r (λ c. (at : ℕ → Lines) × (c ≡ writer_by at)) ground ground
+reads-writer : (r : List ℕ) → Script component_form writer_line r (λ c. (at : ℕ → Lines) × (c ≡ writer_by at)) bottom bottom
 unfolding writer_line
 reads-writer r =
     reads-else (reads-component (codes "w") (flat_map write_text (range_with_len 0 20)) r (AreBy (map write_by (range_with_len 0 20))) named_w (reads-writes r))
@@ -154,7 +153,7 @@ taker-text t o =
     ∙ ap (λ l. t ++ (codes " { repeat 1000 { take " ++ l)) (append_assoc (o ++ codes "; ") (codes "} ") (codes "}\n") ∙ append_assoc o (codes "; ") (codes "} }\n"))
     ∙ sym (append_assoc t (codes " { repeat 1000 { take ") (o ++ codes "; } }\n")) ∙ sym (append_assoc (t ++ codes " { repeat 1000 { take ") o (codes "; } }\n"))
 
-reads-taker : (j : ℕ) (r : List ℕ) → j < 2 ^ 64 → Script component_form (taker_line j) r (IsBy (taker_by j)) ground ground
+reads-taker : (j : ℕ) (r : List ℕ) → j < 2 ^ 64 → Script component_form (taker_line j) r (IsBy (taker_by j)) bottom bottom
 reads-taker j r h =
     reads-text (ap (λ l. codes "component " ++ l) (taker-text (numbered (codes "t") j) (output j)))
     (reads-else
@@ -174,11 +173,11 @@ behind-more : (fs : List (Lines → ComponentForm)) (f : Lines → ComponentForm
 behind-more fs f cs c so by = record { at = so.at; takers = so.takers ++ c ∷ []; rest = by-more fs f so.takers c so.rest by; are = λ i. so.are i ++ c ∷ [] }
 
 -- The text says the components, on some lines.
-reads-script : (n : ℕ) → n ≤ 256 → Script script_form (script_text n) [] (IsBehind (map taker_by (range_with_len 0 (n + 1)))) ground ground
+reads-script : (n : ℕ) → n ≤ 256 → Script script_form (script_text n) [] (IsBehind (map taker_by (range_with_len 0 (n + 1)))) bottom bottom
 unfolding script_text
 reads-script n few =
     reads-claimed IsBehind behind-more (λ s. Unit {0}) taker_line taker_by 0 (n + 1) [] writer_line [] tt (λ j s. tt) (λ j s l u f. reads-taker j s (omega arith))
-    (reads-more {a = []} (IsBehind []) (reads-first (reads-nothing [] _ (λ (cs : List ComponentForm). cs ≡ []) ground refl)) (reads-writer (flat_map taker_line (range_with_len 0 (n + 1)) ++ []))
+    (reads-more {a = []} (IsBehind []) (reads-first (reads-nothing [] _ (λ (cs : List ComponentForm). cs ≡ []) bottom refl)) (reads-writer (flat_map taker_line (range_with_len 0 (n + 1)) ++ []))
     (λ cs c e k. record { at = k.0; takers = []; rest = by-none; are = λ i. e i ++ k.1 i ∷ [] }))
 
 pub script-says : (n : ℕ) → n ≤ 256 → (at : ℕ → Lines) × (below : ℕ → Lines) × SaysScript (script_text n) (components_by n at below)

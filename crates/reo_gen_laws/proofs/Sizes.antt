@@ -1,5 +1,5 @@
 -- Made work is of small size.
-use Rattle.std.proofs.Common.{arith, lit≤, ◌≡◌, ◌∙◌, ℕ, ◌+◌, ◌-◌, ◌*◌, ◌<◌, ◌≤◌, ◌^◌, ◌==◌, max, zero, suc, List, [], ◌∷◌, ◌++◌, length, map, Bool, true, false, cond, ◌||◌, refl, sym, ap, subst, nat_lt, codes}
+use Rattle.std.proofs.Common.{arith, lit≤, ◌≡◌, ◌∙◌, ℕ, ◌+◌, ◌-◌, ◌*◌, ◌<◌, ◌≤◌, ◌^◌, ◌==◌, max, zero, suc, List, [], ◌∷◌, ◌++◌, length, map, Bool, true, false, ◌||◌, refl, sym, subst, nat_lt, codes}
 use Rattle.std.specs.Prelude.{if◌then◌else◌}
 use Rattle.std.specs.List.{flat_map, range_with_len, sum_by, fold}
 use Rattle.std.specs.Fmt.{decimal}
@@ -8,18 +8,17 @@ use Rattle.std.proofs.lemmas.Fmt.{length-decimal-le}
 use Rattle.std.proofs.lemmas.List.{length-append}
 use Rattle.std.proofs.lemmas.List.Sums.{fold-append, sum_by-append, sum_by-cons}
 use Rattle.reo_trees.specs.declared.items.Item.{Item}
-use Rattle.reo_rules_base.specs.declared.fault.FlatFault.{FlatFault}
 use Rattle.reo_rules_base.specs.declared.fault.FlatFault.TheVariants as faults
 use Rattle.reo_rules_base.specs.Lists.{where_true}
 use Rattle.reo_flatten_base.specs.Unfolding.{uses_in, depth_in}
 use Rattle.reo_flatten_base.specs.Flat.{primitives_of}
 use Rattle.reo_flatten_base.specs.Sizes.{too_many}
-use Rattle.reo_flatten_base.specs.Refusals.{breaks, IsAccepted}
+use Rattle.reo_flatten_base.specs.Refusals.{IsAccepted}
 use Rattle.reo_gen.specs.Names.{numbered, link, output}
 use Rattle.reo_gen.specs.Circuits.{stage_text, output_text, link_line, source_of, sink_of, use_line, circuit_text}
 use Rattle.reo_gen.specs.Scripts.{write_text, writer_line, taker_line, script_text}
 use Rattle.reo_gen_laws.proofs.Written.{Lines, made_by}
-use Rattle.reo_gen_laws.proofs.Trees.{Places, declarations_of, program_of, stage_of, main_of, link_by, stage_by}
+use Rattle.reo_gen_laws.proofs.Trees.{Places, declarations_of, program_of, link_by, stage_by}
 use Rattle.reo_gen_laws.proofs.Passes.{both-none}
 use Rattle.reo_gen_laws.proofs.Rules.{links_in, stages_in, rules-hold}
 use Rattle.reo_gen_laws.proofs.Placing.{stage_meaning}

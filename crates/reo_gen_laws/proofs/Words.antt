@@ -1,12 +1,12 @@
 -- Names with a number are names.
-use Rattle.std.proofs.Common.{◌≡◌, ℕ, ◌<◌, ◌^◌, Bool, true, false, ◌&&◌, ◌||◌, not, List, [], ◌∷◌, ◌++◌, refl, codes}
+use Rattle.std.proofs.Common.{◌≡◌, ℕ, ◌<◌, ◌^◌, Bool, true, false, ◌||◌, not, List, [], ◌∷◌, refl, codes}
 use Rattle.std.specs.List.{list_all}
 use Rattle.std.specs.Fmt.{decimal}
-use Rattle.reo_values.specs.Names.{is_digit, is_letter, is_name_byte, is_name}
+use Rattle.reo_values.specs.Names.{is_digit, is_letter, is_name_byte}
 use Rattle.reo_grammar.specs.Bytes.{one_of}
 use Rattle.reo_grammar.specs.Spelling.{is_digits, reserved}
 use Rattle.reo_grammar.proofs.Sound.{and-left, and-right, and-both}
-use Rattle.reo_lexer.proofs.Spelled.{one_of-passes, not-yes, yes-not, never}
+use Rattle.reo_lexer.proofs.Spelled.{one_of-passes, yes-not, never}
 use Rattle.reo_syntax.proofs.Decimals.{decimal-value}
 use Rattle.reo_gen.specs.Names.{numbered, link, output}
 use Rattle.reo_gen_laws.proofs.Pieces.{IsNamed}

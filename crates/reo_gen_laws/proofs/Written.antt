@@ -62,10 +62,10 @@ module _ {Ref : Type 0} {tree : Ref → Type 0} {rules : (r : Ref) → Grammar R
       let rest = flat_map t (range_with_len (a + 1) n) in
       let G = chain (λ (xs : List X) (x : X). xs ++ x ∷ []) c g e in
       let one : Reads rules G (before ++ t a) (rest ++ r) (P (fs ++ make a ∷ [])) h k =
-          reads-more (P (fs ++ make a ∷ []))
-          (subst (λ s. Reads rules G before s (P fs) h k) (append_assoc (t a) rest r) x)
-          (each a (rest ++ r) (omega arith) (omega arith) (fit-rest n))
-          (λ ys y p q. more fs (make a) ys y p q) in
+      reads-more (P (fs ++ make a ∷ []))
+      (subst (λ s. Reads rules G before s (P fs) h k) (append_assoc (t a) rest r) x)
+      (each a (rest ++ r) (omega arith) (omega arith) (fit-rest n))
+      (λ ys y p q. more fs (make a) ys y p q) in
       let all = reads-claimed Fits t make (a + 1) n (fs ++ make a ∷ []) (before ++ t a) r fit fits (λ j s i l f. each j s (omega arith) (omega arith) f) one in
       reads-text (append_assoc before (t a) rest) (subst (λ z. Reads rules G ((before ++ t a) ++ rest) r (P z) h k) (append_assoc fs (make a ∷ []) (map make (range_with_len (a + 1) n))) all)
     where

@@ -3,9 +3,7 @@ use Rattle.std.specs.Prelude.{ℕ, ◌≡◌, ◌+◌, ◌*◌, ◌^◌, ◌<◌
 use Rattle.reo_trees.specs.declared.programs.Program.{Program}
 use Rattle.reo_trees.specs.Says.{SaysProgram}
 use Rattle.reo_flatten_base.specs.Flat.{ports_of, primitives_of}
-use Rattle.reo_rules_base.specs.declared.fault.FlatFault.{FlatFault}
-use Rattle.reo_rules_base.specs.declared.fault.FlatFault.TheVariants as faults
-use Rattle.reo_flatten_base.specs.Refusals.{IsAccepted, IsRefused}
+use Rattle.reo_flatten_base.specs.Refusals.{IsAccepted}
 use Rattle.reo_script_base.specs.declared.action.Script.{Script}
 use Rattle.reo_script_base.specs.ScriptAnswers.{Answers}
 use Rattle.reo_gen.specs.Circuits.{circuit_text}
@@ -26,7 +24,3 @@ pub record IsAcceptedWork (number : ℕ) : Type 0 where
 -- So is the work of each number that can be made.
 abbrev pub WorkIsAccepted : Type 0
 WorkIsAccepted = (number : ℕ) → 1 ≤ number → number ≤ 256 → IsAcceptedWork number
-
--- What is accepted is not refused, but that memory may run out.
-abbrev pub AcceptedIsNotRefused : Type 0
-AcceptedIsNotRefused = (p : Program) (fault : FlatFault) → IsAccepted p → IsRefused p fault → fault ≡ faults.NoMemory
