@@ -33,11 +33,11 @@ true_or_false true = inl refl
 true_or_false false = inr refl
 
 -- A value with these marks and this item.
-record Valued (names : Names) (j : ℕ) (giver taker : Mark) (item : Option Value) : Type 0 where
-  value : JointValue
-  giver_is : giver_mark value ≡ giver
-  taker_is : taker_mark value ≡ taker
-  item_is : item_named names j value ≡ item
+pub record Valued (names : Names) (j : ℕ) (giver taker : Mark) (item : Option Value) : Type 0 where
+  pub value : JointValue
+  pub giver_is : giver_mark value ≡ giver
+  pub taker_is : taker_mark value ≡ taker
+  pub item_is : item_named names j value ≡ item
 
 no_item : (o : Option Value) → ((item : Value) → o ≡ Some item → ⊥) → None ≡ o
 no_item None never = refl
@@ -69,8 +69,27 @@ module _ (net : Net) (rows : List ℕ) (items : List (Option Value)) (j : Joint)
   given_item None fits flows = absurd (fits flows)
   given_item (Some item) fits flows = fits.given
 
+-- A value with the marks and the item that rows and items have at a joint.
+abbrev pub ValuedBy : Net → Names → List ℕ → List (Option Value) → ℕ → Type 0
+ValuedBy net names rows items j = Valued names j (mark_at net rows (joint_of net j).giver) (mark_at net rows (joint_of net j).taker) (get_or items j None)
+
+module _ (net : Net) (names : Names) (inside : ℕ → Bool) (rows : List ℕ) (items : List (Option Value)) (a : IsAssignment net inside rows items) (named : AreNamed net names inside items) where
+  abbrev item_of : ℕ → Option Value
+  item_of j = get_or items j None
+
+  fits_of : (j : ℕ) → j < length net.joints → inside (giver_side net j) ≡ true → ItemFits net rows items (joint_of net j) (item_of j)
+  fits_of j lt is = a.items_fit j no_joint lt is
+
+  -- Where items have numbers there is such a value.
+  named_value : (j : ℕ) → j < length net.joints → inside (giver_side net j) ≡ true → ValuedBy net names rows items j
+  named_value j lt is =
+      valued names j (mark_at net rows (joint_of net j).giver) (mark_at net rows (joint_of net j).taker) (item_of j) (a.matched j no_joint lt is)
+      (λ flows. flows_some net rows items (joint_of net j) (item_of j) (fits_of j lt is) flows)
+      (λ item item_is. (has_item net rows items (joint_of net j) (item_of j) item (fits_of j lt is) item_is).flows)
+      (λ item item_is. named j item lt is item_is)
+
 module _ (net : Net) (wired : IsWired net) (names : Names) (inside : ℕ → Bool) (closed : IsClosed net inside) (real : AreSides net inside)
-    (rows : List ℕ) (items : List (Option Value)) (a : IsAssignment net inside rows items) (named : AreNamed net names inside items) where
+    (rows : List ℕ) (items : List (Option Value)) (a : IsAssignment net inside rows items) (sets : Family) (value_at : (j : ℕ) → j < length net.joints → inside (giver_side net j) ≡ true → (v : ValuedBy net names rows items j) × (sets j v.value ≡ true)) where
   abbrev item_at : ℕ → Option Value
   item_at j = get_or items j None
 
@@ -78,23 +97,16 @@ module _ (net : Net) (wired : IsWired net) (names : Names) (inside : ℕ → Boo
   fits_at j lt is = a.items_fit j no_joint lt is
 
   abbrev ValueAt : ℕ → Type 0
-  ValueAt j = Valued names j (mark_at net rows (joint_of net j).giver) (mark_at net rows (joint_of net j).taker) (item_at j)
-
-  value_at : (j : ℕ) → j < length net.joints → inside (giver_side net j) ≡ true → ValueAt j
-  value_at j lt is =
-      valued names j (mark_at net rows (joint_of net j).giver) (mark_at net rows (joint_of net j).taker) (item_at j) (a.matched j no_joint lt is)
-      (λ flows. flows_some net rows items (joint_of net j) (item_at j) (fits_at j lt is) flows)
-      (λ item item_is. (has_item net rows items (joint_of net j) (item_at j) item (fits_at j lt is) item_is).flows)
-      (λ item item_is. named j item lt is item_is)
+  ValueAt j = (v : ValuedBy net names rows items j) × (sets j v.value ≡ true)
 
   record Pick (j : ℕ) : Type 0 where
     value : JointValue
-    good : j < length net.joints → inside (giver_side net j) ≡ true → (v : ValueAt j) × (v.value ≡ value)
+    good : j < length net.joints → inside (giver_side net j) ≡ true → (v : ValueAt j) × (v.0.value ≡ value)
 
   pick : (j : ℕ) → Pick j
   pick j = elim (below_or j (length net.joints)) [
     | inl lt ↦ elim (true_or_false (inside (giver_side net j))) [
-      | inl is ↦ record { value = (value_at j lt is).value; good = λ x y. (value_at j lt is, refl) }
+      | inl is ↦ record { value = (value_at j lt is).0.value; good = λ x y. (value_at j lt is, refl) }
       | inr off ↦ record { value = Jam; good = λ x y. cc (off, y) }
     ]
     | inr out ↦ record { value = Jam; good = λ x y. absurd (omega arith) }
@@ -107,15 +119,15 @@ module _ (net : Net) (wired : IsWired net) (names : Names) (inside : ℕ → Boo
   module _ (j : ℕ) (lt : j < length net.joints) (is : inside (giver_side net j) ≡ true) where
     giver_is : giver_mark (choice j) ≡ mark_at net rows (joint_of net j).giver
     unfolding choice
-    giver_is = let g = (pick j).good lt is in sym (ap giver_mark g.1) ∙ g.0.giver_is
+    giver_is = let g = (pick j).good lt is in sym (ap giver_mark g.1) ∙ g.0.0.giver_is
 
     taker_is : taker_mark (choice j) ≡ mark_at net rows (joint_of net j).taker
     unfolding choice
-    taker_is = let g = (pick j).good lt is in sym (ap taker_mark g.1) ∙ g.0.taker_is
+    taker_is = let g = (pick j).good lt is in sym (ap taker_mark g.1) ∙ g.0.0.taker_is
 
     item_is : item_named names j (choice j) ≡ item_at j
     unfolding choice
-    item_is = let g = (pick j).good lt is in sym (ap (λ (v : JointValue). item_named names j v) g.1) ∙ g.0.item_is
+    item_is = let g = (pick j).good lt is in sym (ap (λ (v : JointValue). item_named names j v) g.1) ∙ g.0.0.item_is
 
   -- What is given by the rows is given by the choice.
   given_alike : (j : ℕ) → j < length net.joints → inside (giver_side net j) ≡ true → mark_at net rows (joint_of net j).giver ≡ F
@@ -171,22 +183,28 @@ module _ (net : Net) (wired : IsWired net) (names : Names) (inside : ℕ → Boo
     side_fits : Fits net names choice side row
     side_fits = record { in_table = λ d. a.in_tables side d (real side is) is; gives = gives; takes = takes }
 
-    side_from : (sets : Family) → HasNamed net names inside sets → IsFrom net sets choice side
-    side_from sets has j lt at =
-        let here = giver_inside j lt at in
-        has j (choice j) lt here (λ flows.
-        let some = flows_some net rows items (joint_of net j) (item_at j) (fits_at j lt here) (sym (giver_is j lt here) ∙ flows) in
-        subst (λ (o : Option Value). IsSome o) (sym (item_is j lt here)) some)
+    side_from : IsFrom net sets choice side
+    unfolding choice
+    side_from j lt at =
+        let g = (pick j).good lt (giver_inside j lt at) in
+        subst (λ (v : JointValue). sets j v ≡ true) g.1 g.0.1
 
-  pub has_choice : (sets : Family) → HasNamed net names inside sets → HasChoice net names inside sets rows items
-  has_choice sets has = record {
+  -- With values of given sets the assignment is one by values of the sets.
+  pub has_chosen : HasChoice net names inside sets rows items
+  has_chosen = record {
     choice = choice;
-    chosen = record { fits = side_fits; from = λ side is. side_from side is sets has };
+    chosen = record { fits = side_fits; from = side_from };
     items_are = item_is;
   }
 
 pub assignments_are_choices : AssignmentsAreChoices
-assignments_are_choices net wired names inside sets closed real has rows items a named = has_choice net wired names inside closed real rows items a named sets has
+assignments_are_choices net wired names inside sets closed real has rows items a named =
+    has_chosen net wired names inside closed real rows items a sets (λ j lt is.
+    let v = named_value net names inside rows items a named j lt is in
+    let has_it = has j v.value lt is (λ flows.
+    let some = flows_some net rows items (joint_of net j) (get_or items j None) (a.items_fit j no_joint lt is) (sym v.giver_is ∙ flows) in
+    subst (λ (o : Option Value). IsSome o) (sym v.item_is) some) in
+    (v, has_it))
 
 -- A list of rows is that of its elements.
 same_rows : (net : Net) (rows : List ℕ) → length rows ≡ side_count net → rows_of net (λ side. get_or rows side 0) ≡ rows
