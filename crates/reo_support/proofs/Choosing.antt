@@ -207,7 +207,7 @@ assignments_are_choices net wired names inside sets closed real has rows items a
     (v, has_it))
 
 -- A list of rows is that of its elements.
-same_rows : (net : Net) (rows : List ℕ) → length rows ≡ side_count net → rows_of net (λ side. get_or rows side 0) ≡ rows
+pub same_rows : (net : Net) (rows : List ℕ) → length rows ≡ side_count net → rows_of net (λ side. get_or rows side 0) ≡ rows
 same_rows net rows count =
     let length_is : length (rows_of net (λ side. get_or rows side 0)) ≡ side_count net = length-map-range_with_len {X = ℕ} (λ side. get_or rows side 0) 0 (side_count net) in
     ext_get_or 0 (rows_of net (λ side. get_or rows side 0)) rows (length_is ∙ sym count) (λ i lt.
