@@ -1,1 +1,10 @@
-
+pub mod Among
+pub mod Begun
+pub mod Cutting
+pub mod Kept
+pub mod Listed
+pub mod Narrowed
+pub mod Resting
+pub mod Revising
+pub mod Tending
+pub mod Thinned

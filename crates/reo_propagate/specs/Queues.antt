@@ -15,7 +15,8 @@ pub record IsWoken (old new : Queue) (side : ℕ) : Type 0 where
   pub other : (t : ℕ) → t ≢ side → slice_index_or new.waits t true ≡ slice_index_or old.waits t true
   pub stays : (t : ℕ) → StandsIn old.line t → StandsIn new.line t
   pub comes : slice_index_or old.waits side true ≡ false → StandsIn new.line side
-  pub from : (m : ℕ) → m < length new.line → StandsIn old.line (slice_index new.line m) ⊎ (slice_index new.line m ≡ side)
+  pub from : (m : ℕ) → m < length new.line
+      → StandsIn old.line (slice_index new.line m) ⊎ (slice_index new.line m ≡ side)
   pub longer : length new.line ≤ length old.line + 1
 
 -- A side that stood first in the line waits no longer.

@@ -30,7 +30,7 @@ impl Line {
         }
     }
 
-    /// One number more, at the end. After `NoMemory`, which is out of memory, the line is as it was.
+    /// One number more, at the end. After `NoMemory`, out of memory, the line is as it was.
     pub fn join(&mut self, number: usize) -> Result<(), NoMemory>
         ensures ok { OnOk result (self.new ≡ self.old ++ number ∷ []) }
         ensures err { OnErr result (self.new ≡ self.old) }

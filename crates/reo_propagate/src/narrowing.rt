@@ -2,15 +2,13 @@
 ghost use Rattle.std.specs.Prelude.{◌≡◌, ◌⊎◌, ◌<◌, ◌≤◌, ◌+◌, ℕ, true, [], OnOk, length};
 ghost use Rattle.reo_net_base.specs.Net.{net_of, all_sides};
 ghost use Rattle.reo_net_laws.specs.Parts.{IsClosed};
-ghost use Rattle.reo_support.specs.declared.value.JointValue.{JointValue as Standing};
 ghost use Rattle.reo_support.specs.Values.{Family, AtSide};
-ghost use Rattle.reo_support.specs.Supported.{IsUsed, IsThinned};
 ghost use Rattle.reo_boards.specs.Marks.{IsJointOf};
-ghost use Rattle.reo_propagate_rows.specs.Flags.{flag, count_set, AreAlikeTables};
-ghost use Rattle.reo_propagate_rows.specs.Rows.{AreTables, IsSifted, IsSeen};
-ghost use Rattle.reo_propagate_rows.specs.Sets.{family_of, names_of, IsReady};
+ghost use Rattle.reo_propagate_rows.specs.Flags.{count_set};
+ghost use Rattle.reo_propagate_rows.specs.Rows.{AreTables, IsSifted};
+ghost use Rattle.reo_propagate_rows.specs.Sets.{names_of, IsReady};
 ghost use Rattle.reo_propagate.specs.Queues.{among};
-ghost use Rattle.reo_propagate.specs.Narrow.{OtherRowsMayGo, IsTended, nobody, IsReduced, IsRevised, AreGreatest};
+ghost use Rattle.reo_propagate.specs.Narrow.{IsTended, IsTendedAt, nobody, IsReduced, IsRevised, AreGreatest};
 ghost use Rattle.reo_propagate.specs.Beginning.{IsSearch};
 
 use crate::state::State;
@@ -38,7 +36,8 @@ pub fn other_side<P: Primitive>(circuit: &Circuit<P>, side: usize, joint: usize)
     }
 }
 
-/// Takes what is not used at a side away from a joint there. Where it lost a value its other side waits, or can stay.
+/// Takes what is not used at a side away from a joint there. Where it lost a value its other side
+/// waits, or can stay. `NoMemory` is out of memory.
 fn tend_joint<P: Primitive>(
     circuit: &Circuit<P>,
     boards: &List<Board>,
@@ -57,18 +56,24 @@ fn tend_joint<P: Primitive>(
     requires joint { IsJointOf (net_of P.behaviour circuit.now) side joint }
     requires sifted { (start : Family) × IsSifted (net_of P.behaviour circuit.now) (names_of items.now) start side state.old.rows }
     requires tended { IsTended (net_of P.behaviour circuit.now) (names_of items.now) (among sides.now) side state.old.alive state.old.rows state.old.queue }
-    ensures rows { OtherRowsMayGo side state.old.rows state.new.rows }
+    ensures tended_at { IsTendedAt (net_of P.behaviour circuit.now) (names_of items.now) side joint state.old state.new }
     ensures tables { AreTables (net_of P.behaviour circuit.now) items.now state.new.rows }
-    ensures alike { AreAlikeTables state.old.alive state.new.alive }
-    ensures less { (i p : ℕ) → flag state.new.alive i p ≡ true → flag state.old.alive i p ≡ true }
-    ensures elsewhere { (i p : ℕ) → (i ≡ joint → ⊥) → flag state.new.alive i p ≡ flag state.old.alive i p }
-    ensures thinned { (start : Family) → IsSifted (net_of P.behaviour circuit.now) (names_of items.now) start side state.old.rows → IsSeen (net_of P.behaviour circuit.now) (names_of items.now) start side state.old.rows → IsThinned (net_of P.behaviour circuit.now) (names_of items.now) side start (family_of state.old.alive) → IsThinned (net_of P.behaviour circuit.now) (names_of items.now) side start (family_of state.new.alive) × ((v : Standing) → family_of state.new.alive joint v ≡ true → IsUsed (net_of P.behaviour circuit.now) (names_of items.now) start side joint v) }
     ensures tended { OnOk result (IsTended (net_of P.behaviour circuit.now) (names_of items.now) (among sides.now) side state.new.alive state.new.rows state.new.queue) }
     ensures fewer { OnOk result (count_set state.new.alive + length state.new.queue.line ≤ count_set state.old.alive + length state.old.queue.line) }
 {
     let _ = sides;
+    circuit.known();
     let other = other_side(circuit, side, joint);
-    let loss = thin(circuit, boards, ends, items, &mut state.alive, &state.rows, side, joint);
+    let loss = thin(
+        circuit,
+        boards,
+        ends,
+        items,
+        &mut state.alive,
+        &state.rows,
+        side,
+        joint,
+    );
     if loss.some {
         wake(
             circuit,
@@ -86,7 +91,7 @@ fn tend_joint<P: Primitive>(
     Ok(())
 }
 
-/// Takes what is not used at a side away from all joints there.
+/// Takes what is not used at a side away from all joints there. `NoMemory` is out of memory.
 fn revise<P: Primitive>(
     circuit: &Circuit<P>,
     boards: &List<Board>,
@@ -108,8 +113,24 @@ fn revise<P: Primitive>(
     ensures fewer { OnOk result (count_set state.new.alive + length state.new.queue.line ≤ count_set state.old.alive + length state.old.queue.line) }
 {
     circuit.known();
-    sift(circuit, boards, ends, items, &state.alive, &mut state.rows, side)?;
-    see(circuit, boards, ends, items, &state.alive, &mut state.rows, side);
+    sift(
+        circuit,
+        boards,
+        ends,
+        items,
+        &state.alive,
+        &mut state.rows,
+        side,
+    )?;
+    see(
+        circuit,
+        boards,
+        ends,
+        items,
+        &state.alive,
+        &mut state.rows,
+        side,
+    );
     let joints = &boards.at(side).joints;
     for index in 0..joints.len() {
         let joint = *joints.at(index);
@@ -118,11 +139,15 @@ fn revise<P: Primitive>(
     Ok(())
 }
 
-/// Takes what is not used at these sides away from their joints, until none of them waits. What is left are the greatest supported
-/// sets within the old ones; the values of other joints stay. Only what waits is looked at: after a few joints lost values and their
-/// sides were let wait it costs what changes.
+/// Takes what is not used at these sides away from their joints, until none of them waits. What is
+/// left are the greatest supported sets within the old ones; the values of other joints stay. Only
+/// what waits is looked at: after a few joints lost values and their sides were let wait it costs what
+/// changes.
 ///
-/// After `NoMemory`, which is out of memory, some of what is not used may still be there, and nothing else has gone.
+/// # Errors
+///
+/// `NoMemory` is out of memory; some of what is not used may then still be there, and nothing else has
+/// gone.
 pub fn propagate<P: Primitive>(
     circuit: &Circuit<P>,
     boards: &List<Board>,

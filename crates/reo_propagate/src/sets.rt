@@ -1,16 +1,18 @@
 //! Narrowing sets that are given as lists.
-ghost use Rattle.std.specs.Prelude.{◌≡◌, ◌↔◌, ◌<◌, ◌+◌, ◌^◌, ℕ, true, [], IsTrue, IfOk, OnOk, OnErr, length, slice_index_or};
+ghost use Rattle.std.specs.Prelude.{◌≡◌, ◌↔◌, ◌<◌, ◌+◌, ◌^◌, ◌==◌, ◌&&◌, ℕ, true, [], IsTrue, IfOk, OnOk, OnErr, length, slice_index_or};
 ghost use Rattle.reo_net_base.specs.Net.{net_of, all_sides};
 ghost use Rattle.reo_net_ends.specs.Ends.{AreEnds};
 ghost use Rattle.reo_net_laws.specs.Parts.{IsClosed};
 ghost use Rattle.reo_support.specs.declared.value.JointValue.{JointValue as Standing};
+ghost use Rattle.reo_support.specs.Values.{giver_side};
 ghost use Rattle.reo_support.specs.Supported.{IsInGreatest};
-ghost use Rattle.reo_boards.specs.Boards.{AreBoards};
+ghost use Rattle.reo_boards.specs.Boards.{IsBoard, AreBoards};
+ghost use Rattle.reo_boards.specs.Flowing.{gives_at};
 ghost use Rattle.reo_boards.specs.Marks.{IsJointOf};
 ghost use Rattle.reo_propagate_rows.specs.Sets.{code_of, family_of, names_of};
 ghost use Rattle.reo_propagate.specs.Queues.{among};
-ghost use Rattle.reo_propagate.specs.Beginning.{IsSearch};
-ghost use Rattle.reo_propagate.specs.ListedSets.{listed, AreInSupply, AreFullAt};
+ghost use Rattle.reo_propagate.specs.Beginning.{AreFlags, IsSearch};
+ghost use Rattle.reo_propagate.specs.ListedSets.{in_set, listed, ArePut, AreKept, HaveSome, HaveFlags, AreLeft, AreInSupply, AreFullAt};
 
 use crate::narrowing::propagate;
 use crate::state::{State, all_waiting};
@@ -43,8 +45,11 @@ pub fn code_of(value: JointValue) -> usize
     }
 }
 
-/// Sets the flags of the values of a list, but of those that have no flag.
-fn put_values(alive: &mut Flags, joint: usize, values: &[JointValue]) {
+/// Sets the flags of the values of a list, but of those that have no flag. This takes no memory.
+fn put_values(alive: &mut Flags, joint: usize, values: &[JointValue])
+    requires { joint < length alive.old }
+    ensures { ArePut joint values.now alive.old alive.new }
+{
     for value in values {
         let code = code_of(*value);
         if code < alive.width(joint) {
@@ -53,12 +58,12 @@ fn put_values(alive: &mut Flags, joint: usize, values: &[JointValue]) {
     }
 }
 
-/// The flags of the values of lists.
-fn listed_values(
-    alloc: Global,
-    items: &[List<Value>],
-    sets: &Sets,
-) -> Result<Flags, NoMemory> {
+/// The flags of the values of lists. `NoMemory` is out of memory.
+fn listed_values(alloc: Global, items: &[List<Value>], sets: &Sets) -> Result<Flags, NoMemory>
+    requires few { (j : ℕ) → length (slice_index_or items.now j []) < 2 ^ 32 }
+    requires sets { length sets.now.values ≡ length items.now }
+    ensures { IfOk result (AreFlags items.now (length items.now) (listed sets.now.values)) }
+{
     let mut alive = Flags::new(alloc);
     for joint in 0..items.len() {
         alive.push_row(alloc, items[joint].len() + FLOWS, false)?;
@@ -93,48 +98,90 @@ pub fn begin_with<P: Primitive>(
     Ok(State { alive, rows, queue })
 }
 
-/// Keeps the values of a list that have their flags, and says whether there are any. This takes no memory.
-fn keep_values(values: &mut List<JointValue>, alive: &Flags, joint: usize) -> bool {
-    let mut kept = 0;
+/// Keeps the values of a list that have their flags at a joint, and says whether there are any. This
+/// takes no memory.
+fn keep_values(values: &mut List<JointValue>, alive: &Flags, joint: usize) -> bool
+    requires joint { joint < length alive.now }
+    requires flags { (v : Standing) → in_set values.old v ≡ true → code_of v < length (slice_index_or alive.now joint []) }
+    ensures values { (v : Standing) → in_set values.new v ≡ (in_set values.old v && family_of alive.now joint v) }
+    ensures some { IsTrue result ↔ ((v : Standing) × (in_set values.new v ≡ true)) }
+{
+    let mut count = 0;
     for index in 0..values.len() {
         let value = *values.at(index);
         if alive.is_set(joint, code_of(value)) {
-            *values.at_mut(kept) = value;
-            kept += 1;
+            *values.at_mut(count) = value;
+            count += 1;
         }
     }
-    values.truncate(kept);
-    kept > 0
+    values.truncate(count);
+    count > 0
 }
 
-/// Keeps at each joint where a side gives the values that have their flags, and says whether there are any at each.
+/// Keeps the values of a joint that have their flags, if a side gives there, and says whether there
+/// are any then. This takes no memory.
+fn keep_joint<P: Primitive>(
+    circuit: &Circuit<P>,
+    alive: &Flags,
+    side: usize,
+    joint: usize,
+    sets: &mut Sets,
+) -> bool
+    requires joint { joint < length circuit.now.joints }
+    requires one_set { length alive.now ≡ length circuit.now.joints }
+    requires one_each { length sets.old.values ≡ length circuit.now.joints }
+    requires flags { HaveFlags (gives_at (net_of P.behaviour circuit.now) side) alive.now sets.old.values }
+    ensures kept { AreKept (λ j. (joint == j) && gives_at (net_of P.behaviour circuit.now) side j) alive.now sets.old.values sets.new.values }
+    ensures some { IsTrue result ↔ HaveSome (λ j. (joint == j) && gives_at (net_of P.behaviour circuit.now) side j) sets.new.values }
+{
+    if giver_side(circuit, joint) != side {
+        return true;
+    }
+    keep_values(sets.values.at_mut(joint), alive, joint)
+}
+
+/// Keeps at each joint where a side gives the values that have their flags, and says whether there are
+/// any at each. This takes no memory.
 fn keep_given<P: Primitive>(
     circuit: &Circuit<P>,
     board: &Board,
     alive: &Flags,
     side: usize,
     sets: &mut Sets,
-) -> bool {
+) -> bool
+    requires board { IsBoard (net_of P.behaviour circuit.now) side board.now }
+    requires one_set { length alive.now ≡ length circuit.now.joints }
+    requires one_each { length sets.old.values ≡ length circuit.now.joints }
+    requires flags { HaveFlags (gives_at (net_of P.behaviour circuit.now) side) alive.now sets.old.values }
+    ensures kept { AreKept (gives_at (net_of P.behaviour circuit.now) side) alive.now sets.old.values sets.new.values }
+    ensures some { IsTrue result ↔ HaveSome (gives_at (net_of P.behaviour circuit.now) side) sets.new.values }
+{
     let mut full = true;
     for index in 0..board.joints.len() {
-        let joint = *board.joints.at(index);
-        if giver_side(circuit, joint) == side
-            && !keep_values(sets.values.at_mut(joint), alive, joint)
-        {
+        if !keep_joint(circuit, alive, side, *board.joints.at(index), sets) {
             full = false;
         }
     }
     full
 }
 
-/// Keeps the values that have their flags at the joints of these sides, and says whether there are any at each.
+/// Keeps the values that have their flags at the joints where these sides give, and says whether there
+/// are any at each. This takes no memory.
 fn keep_sets<P: Primitive>(
     circuit: &Circuit<P>,
     boards: &List<Board>,
     alive: &Flags,
     sides: &[usize],
     sets: &mut Sets,
-) -> bool {
+) -> bool
+    requires boards { AreBoards (net_of P.behaviour circuit.now) boards.now }
+    requires sides { (s : ℕ) → among sides.now s ≡ true → s < length (all_sides (net_of P.behaviour circuit.now).primitives) }
+    requires one_set { length alive.now ≡ length circuit.now.joints }
+    requires one_each { length sets.old.values ≡ length circuit.now.joints }
+    requires flags { HaveFlags (λ j. among sides.now (giver_side (net_of P.behaviour circuit.now) j)) alive.now sets.old.values }
+    ensures kept { AreKept (λ j. among sides.now (giver_side (net_of P.behaviour circuit.now) j)) alive.now sets.old.values sets.new.values }
+    ensures some { IsTrue result ↔ HaveSome (λ j. among sides.now (giver_side (net_of P.behaviour circuit.now) j)) sets.new.values }
+{
     let mut full = true;
     for side in sides {
         if !keep_given(circuit, boards.at(*side), alive, *side, sets) {
@@ -144,8 +191,36 @@ fn keep_sets<P: Primitive>(
     full
 }
 
-/// Narrows the sets at the joints of these sides to the greatest supported ones within them, and says whether each of them still has a
-/// value. All other sets stay.
+/// The flags of the values of lists that narrowing leaves at the joints of these sides. `NoMemory` is
+/// out of memory.
+fn left_of<P: Primitive>(
+    alloc: Global,
+    circuit: &Circuit<P>,
+    boards: &List<Board>,
+    ends: &Ends,
+    items: &[List<Value>],
+    sides: &[usize],
+    sets: &Sets,
+) -> Result<Flags, NoMemory>
+    requires boards { AreBoards (net_of P.behaviour circuit.now) boards.now }
+    requires ends { AreEnds (net_of P.behaviour circuit.now) ends.now }
+    requires items { length items.now ≡ length circuit.now.joints }
+    requires few { (j : ℕ) → length (slice_index_or items.now j []) < 2 ^ 32 }
+    requires one_each { length sets.now.values ≡ length circuit.now.joints }
+    requires sides { (s : ℕ) → among sides.now s ≡ true → s < length (all_sides (net_of P.behaviour circuit.now).primitives) }
+    requires closed { IsClosed (net_of P.behaviour circuit.now) (among sides.now) }
+    requires numbers { AreInSupply (net_of P.behaviour circuit.now) (among sides.now) items.now (listed sets.now.values) }
+    ensures one_set { IfOk result (λ alive. length alive ≡ length circuit.now.joints) }
+    ensures flags { IfOk result (λ alive. HaveFlags (λ j. among sides.now (giver_side (net_of P.behaviour circuit.now) j)) alive sets.now.values) }
+    ensures left { IfOk result (AreLeft (net_of P.behaviour circuit.now) (names_of items.now) (among sides.now) (listed sets.now.values)) }
+{
+    let mut state = begin_with(alloc, circuit, boards, ends, items, sides, sets)?;
+    propagate(circuit, boards, ends, items, sides, &mut state)?;
+    Ok(state.alive)
+}
+
+/// Narrows the sets at the joints of these sides to the greatest supported ones within them, and says
+/// whether each of them still has a value. All other sets stay.
 ///
 /// # Errors
 ///
@@ -171,8 +246,6 @@ pub fn narrow<P: Primitive>(
 {
     let ends = ends_of(alloc, circuit)?;
     let boards = boards_of(alloc, circuit, &ends)?;
-    let items = supply.lists();
-    let mut state = begin_with(alloc, circuit, &boards, &ends, items, sides, sets)?;
-    propagate(circuit, &boards, &ends, items, sides, &mut state)?;
-    Ok(keep_sets(circuit, &boards, &state.alive, sides, sets))
+    let alive = left_of(alloc, circuit, &boards, &ends, supply.lists(), sides, sets)?;
+    Ok(keep_sets(circuit, &boards, &alive, sides, sets))
 }

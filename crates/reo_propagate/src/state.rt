@@ -1,4 +1,11 @@
 //! What a search keeps: the values and the rows that are left, and the sides that wait.
+ghost use Rattle.std.specs.Prelude.{◌≡◌, ◌<◌, ◌^◌, ℕ, true, [], IfOk, length, replicate, slice_index_or};
+ghost use Rattle.reo_net_base.specs.Net.{net_of, all_sides};
+ghost use Rattle.reo_net_ends.specs.Ends.{AreEnds};
+ghost use Rattle.reo_boards.specs.Boards.{AreBoards};
+ghost use Rattle.reo_propagate.specs.Queues.{among};
+ghost use Rattle.reo_propagate.specs.Beginning.{AreFlags, IsSearch, IsWhole};
+
 use crate::line::Line;
 use crate::queue::Queue;
 use reo_boards::Board;
@@ -9,13 +16,6 @@ use reo_propagate_rows::{FLOWS, Flags, Rows, all_rows};
 use reo_values::{List, NoMemory, Value};
 use std::alloc::Global;
 
-ghost use Rattle.std.specs.Prelude.{◌≡◌, ◌<◌, ◌^◌, ℕ, true, [], IfOk, length, slice_index, slice_index_or};
-ghost use Rattle.reo_net_base.specs.Net.{net_of, all_sides};
-ghost use Rattle.reo_net_ends.specs.Ends.{AreEnds};
-ghost use Rattle.reo_boards.specs.Boards.{AreBoards};
-ghost use Rattle.reo_propagate.specs.Queues.{among};
-ghost use Rattle.reo_propagate.specs.Beginning.{IsSearch, IsWhole};
-
 /// The values and the rows that are left, and the sides that wait.
 #[derive(Drop)]
 pub struct State {
@@ -24,8 +24,11 @@ pub struct State {
     pub queue: Queue,
 }
 
-/// A flag for each value of each joint, all set.
-fn all_values(alloc: Global, items: &[List<Value>]) -> Result<Flags, NoMemory> {
+/// A flag for each value of each joint, all set. `NoMemory` is out of memory.
+fn all_values(alloc: Global, items: &[List<Value>]) -> Result<Flags, NoMemory>
+    requires few { (j : ℕ) → length (slice_index_or items.now j []) < 2 ^ 32 }
+    ensures { IfOk result (AreFlags items.now (length items.now) (λ j v. true)) }
+{
     let mut alive = Flags::new(alloc);
     for joint in 0..items.len() {
         alive.push_row(alloc, items[joint].len() + FLOWS, true)?;
@@ -33,10 +36,13 @@ fn all_values(alloc: Global, items: &[List<Value>]) -> Result<Flags, NoMemory> {
     Ok(alive)
 }
 
-/// All sides wait, and these stand in the line.
-pub(crate) fn all_waiting(alloc: Global, count: usize, sides: &[usize]) -> Result<Queue, NoMemory> {
+/// So many sides wait, and these stand in the line. `NoMemory` is out of memory.
+pub(crate) fn all_waiting(alloc: Global, count: usize, sides: &[usize]) -> Result<Queue, NoMemory>
+    ensures waits { IfOk result (λ queue. queue.waits ≡ replicate count true) }
+    ensures line { IfOk result (λ queue. queue.line ≡ sides.now) }
+{
     let mut waits = List::new(alloc);
-    for _side in 0..count {
+    for _index in 0..count {
         waits.push(true)?;
     }
     let mut line = Line::new(alloc);

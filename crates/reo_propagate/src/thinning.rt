@@ -1,14 +1,15 @@
 //! Taking away what is not used at a side from a joint there.
-ghost use Rattle.std.specs.Prelude.{◌≡◌, ◌<◌, ℕ, length, slice_index_or, []};
+ghost use Rattle.std.specs.Prelude.{◌≡◌, ◌⊎◌, ◌↔◌, ◌<◌, ◌≤◌, ◌+◌, ℕ, true, false, cond, length, slice_index_or, []};
 ghost use Rattle.reo_net_base.specs.Net.{net_of, all_sides};
 ghost use Rattle.reo_support.specs.Values.{Family};
 ghost use Rattle.reo_support.specs.Supported.{IsThinned};
 ghost use Rattle.reo_boards.specs.Boards.{AreBoards};
 ghost use Rattle.reo_boards.specs.Marks.{IsJointOf};
+ghost use Rattle.reo_propagate_rows.specs.Flags.{count_set};
 ghost use Rattle.reo_propagate_rows.specs.Groups.{AreNoted};
 ghost use Rattle.reo_propagate_rows.specs.Rows.{AreTables, IsSifted, IsSeen};
 ghost use Rattle.reo_propagate_rows.specs.Sets.{family_of, names_of, IsReady};
-ghost use Rattle.reo_propagate.specs.Narrow.{IsThinnedTo};
+ghost use Rattle.reo_propagate.specs.Narrow.{IsCut, IsThinnedTo};
 
 use reo_boards::Board;
 use reo_net_base::Primitive;
@@ -22,6 +23,29 @@ use reo_values::{List, Value};
 pub struct Loss {
     pub some: bool,
     pub flow: bool,
+}
+
+impl Loss {
+    /// Nothing was lost.
+    pub fn none() -> Loss
+        ensures { result ≡ record { some = false; flow = false } }
+    {
+        Loss {
+            some: false,
+            flow: false,
+        }
+    }
+
+    /// One value more was lost, by its place.
+    pub fn with(self, code: usize) -> Loss
+        ensures some { result.some ≡ true }
+        ensures flow { (result.flow ≡ true) ↔ ((self.flow ≡ true) ⊎ (4 ≤ code)) }
+    {
+        Loss {
+            some: true,
+            flow: self.flow || code >= FLOWS,
+        }
+    }
 }
 
 /// Takes the values of a joint away that are not used at a side. This takes no memory.
@@ -40,23 +64,17 @@ pub fn thin<P: Primitive>(
     requires side { side < length (all_sides (net_of P.behaviour circuit.now).primitives) }
     requires joint { IsJointOf (net_of P.behaviour circuit.now) side joint }
     requires noted { AreNoted (net_of P.behaviour circuit.now) rows.now.live side rows.now.notes }
-    ensures { (start : Family) → IsSifted (net_of P.behaviour circuit.now) (names_of items.now) start side rows.now → IsSeen (net_of P.behaviour circuit.now) (names_of items.now) start side rows.now → IsThinned (net_of P.behaviour circuit.now) (names_of items.now) side start (family_of alive.old) → IsThinnedTo (net_of P.behaviour circuit.now) (names_of items.now) side joint (length (slice_index_or alive.old joint [])) start alive.old alive.new result }
+    ensures cut { IsCut joint alive.old alive.new result }
+    ensures fewer { count_set alive.new + cond result.some 1 0 ≤ count_set alive.old }
+    ensures thinned { (start : Family) → IsSifted (net_of P.behaviour circuit.now) (names_of items.now) start side rows.now → IsSeen (net_of P.behaviour circuit.now) (names_of items.now) start side rows.now → IsThinned (net_of P.behaviour circuit.now) (names_of items.now) side start (family_of alive.old) → IsThinnedTo (net_of P.behaviour circuit.now) (names_of items.now) side joint (length (slice_index_or alive.old joint [])) start alive.new }
 {
     let _ = ends;
     let marks = used_marks(circuit, boards, items, rows, side, joint);
-    let mut loss = Loss {
-        some: false,
-        flow: false,
-    };
+    let mut loss = Loss::none();
     for code in 0..alive.width(joint) {
-        if alive.is_set(joint, code)
-            && !is_used(circuit, items, rows, side, joint, code, marks)
-        {
+        if alive.is_set(joint, code) && !is_used(circuit, items, rows, side, joint, code, marks) {
             alive.clear(joint, code);
-            loss = Loss {
-                some: true,
-                flow: loss.flow || code >= FLOWS,
-            };
+            loss = loss.with(code);
         }
     }
     loss

@@ -15,8 +15,9 @@ use reo_net_ends::Ends;
 use reo_propagate_rows::{Flags, Rows, can_stay};
 use reo_values::{List, NoMemory, Value};
 
-/// Lets a side wait where a joint of it lost values, unless it can stay at rest: no value with flow was lost there, and each of
-/// its rows has the mark of some value there, but for some that it can do without. `NoMemory` is out of memory.
+/// Lets a side wait where a joint of it lost values, unless it can stay at rest: no value with flow was
+/// lost there, and each of its rows has the mark of some value there, but for some that it can do
+/// without. `NoMemory` is out of memory.
 pub fn wake<P: Primitive>(
     circuit: &Circuit<P>,
     boards: &List<Board>,

@@ -1,1 +1,23 @@
-
+pub mod Counting
+pub mod Codes
+pub mod Optional
+pub mod Pushing
+pub mod Giving
+pub mod Left
+pub mod Bytes
+pub mod Columns
+pub mod Plain
+pub mod Working
+pub mod Apart
+pub mod Reading
+pub mod Clearing
+pub mod Noting
+pub mod Sieve
+pub mod Idle
+pub mod Spared
+pub mod Ending
+pub mod Staying
+pub mod Thinned
+pub mod Using
+pub mod Used
+pub mod Union

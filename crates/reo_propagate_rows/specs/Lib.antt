@@ -3,4 +3,9 @@ pub mod Sets
 pub mod Stands
 pub mod Flows
 pub mod Groups
+pub mod Sparing
 pub mod Rows
+pub mod Beginning
+pub mod Sifting
+pub mod Usage
+pub mod Seeing

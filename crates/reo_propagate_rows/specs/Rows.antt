@@ -1,18 +1,17 @@
 -- The rows of a side that work, and the values that they use.
-use Rattle.std.specs.Prelude.{ℕ, ◌+◌, ◌<◌, ◌≤◌, ◌≡◌, ◌≢◌, ◌⊎◌, Bool, true, Some, List, [], length, slice_index_or}
+use Rattle.std.specs.Prelude.{ℕ, ◌+◌, ◌<◌, ◌≤◌, ◌≡◌, ◌⊎◌, true, Some, List, [], length, slice_index_or}
 use Rattle.reo_values.specs.declared.value.Value.{Value}
 use Rattle.reo_net_base.specs.Net.{Net, row_count}
 use Rattle.reo_net_base.specs.Sides.{side_count}
 use Rattle.reo_support.specs.Values.{Names, Family}
 use Rattle.reo_support.specs.Works.{RowWorks, ValueWorks}
-use Rattle.reo_boards.specs.Marks.{side_in, groups_in, group_in, apart_in, end_at, mark_at_joint, IsJointOf}
+use Rattle.reo_boards.specs.Marks.{side_in, groups_in, apart_in, end_at, mark_at_joint, IsJointOf}
 use Rattle.reo_propagate_rows.specs.declared.rows.Rows.{Rows}
 use Rattle.reo_propagate_rows.specs.Flags.{flag}
 use Rattle.reo_propagate_rows.specs.Sets.{value_of}
-use Rattle.reo_net_base.specs.declared.mark.Mark.TheVariants.{F}
-use Rattle.reo_propagate_rows.specs.declared.groups.Group.{Group}
 use Rattle.reo_propagate_rows.specs.Stands.{HasMark}
 use Rattle.reo_propagate_rows.specs.Groups.{AreNoted}
+use Rattle.reo_propagate_rows.specs.Sparing.{IsIdle}
 
 -- A flag for each row of each side and for each value of each joint, and a note for each group.
 pub record AreTables (net : Net) (items : List (List Value)) (rows : Rows) : Type 0 where
@@ -60,9 +59,7 @@ pub record OtherSidesStay (side : ℕ) (old new : Rows) : Type 0 where
 pub record IsSpare (net : Net) (family : Family) (side j row : ℕ) (rows : Rows) : Type 0 where
   pub apart : apart_in net side row ≡ Some (end_at net side j).end
   pub lacks : HasMark net family side j (mark_at_joint net side row j) → ⊥
-  pub still : (i : ℕ) → IsJointOf net side i → mark_at_joint net side row i ≢ F
-  pub first : (d : Group) → (slice_index_or (slice_index_or rows.notes side []) (group_in net side row) d).first ≢ Some row
-  pub other : (d : Group) → (slice_index_or (slice_index_or rows.notes side []) (group_in net side row) d).other ≢ Some row
+  pub idle : IsIdle net side row (slice_index_or rows.notes side [])
 
 -- Each row of a side that still has its flag has the mark of some value at a joint, and those that lost it could be spared.
 pub record IsSpared (net : Net) (family : Family) (side j : ℕ) (old new : Rows) : Type 0 where

@@ -1,5 +1,5 @@
 -- Which rows can stand, by their marks and by their flows.
-use Rattle.std.specs.Prelude.{ℕ, ◌<◌, ◌≡◌, ◌==◌, Bool, true, false, cond, ◌+◌, Option, None, length}
+use Rattle.std.specs.Prelude.{ℕ, ◌≡◌, ◌≢◌, ◌==◌, Bool, true, cond, ◌+◌, Option, Some, None}
 use Rattle.reo_net_base.specs.declared.mark.Mark.{Mark}
 use Rattle.reo_net_base.specs.declared.mark.Mark.TheVariants.{F, G, R, J}
 use Rattle.reo_net_base.specs.Net.{Net}
@@ -7,7 +7,7 @@ use Rattle.reo_net_laws.specs.Ends.{from_in}
 use Rattle.reo_support.specs.declared.value.JointValue.{JointValue}
 use Rattle.reo_support.specs.Values.{Names, Family, giver_mark, taker_mark, joint_of, giver_side}
 use Rattle.reo_support.specs.Works.{IsGivenIn, TakerHas}
-use Rattle.reo_boards.specs.Marks.{mark_at_joint, common_at_joint, IsJointOf, TakesFlow, GivesFlow}
+use Rattle.reo_boards.specs.Marks.{end_at, mark_at_joint, common_at_joint, IsJointOf, TakesFlow, GivesFlow}
 use Rattle.reo_propagate_rows.specs.declared.marks.Marks.{Marks}
 
 -- The mark of a value of a joint, as a side of the joint sees it.
@@ -24,9 +24,24 @@ pub record HasMark (net : Net) (family : Family) (side j : ℕ) (mark : Mark) : 
 abbrev pub MarksStand : Net → Family → ℕ → ℕ → Type 0
 MarksStand net family side row = (j : ℕ) → IsJointOf net side j → HasMark net family side j (mark_at_joint net side row j)
 
+-- A joint of a side at an end.
+pub record IsAtEnd (net : Net) (side end j : ℕ) : Type 0 where
+  pub of_side : IsJointOf net side j
+  pub here : (end_at net side j).end ≡ end
+
+-- At a joint at an end of its side the row has the mark of some value.
+abbrev pub StandsAtEnd : Net → Family → ℕ → ℕ → ℕ → Type 0
+StandsAtEnd net family side row end = (j : ℕ) → IsJointOf net side j → (end_at net side j).end ≡ end
+    → HasMark net family side j (mark_at_joint net side row j)
+
 -- At each joint of the side the group has the mark of some value.
 abbrev pub GroupStands : Net → Family → ℕ → ℕ → Type 0
 GroupStands net family side group = (j : ℕ) → IsJointOf net side j → HasMark net family side j (common_at_joint net side group j)
+
+-- At each joint of the side, but for those at one end, the group has the mark of some value.
+abbrev pub GroupStandsBesides : Net → Family → ℕ → ℕ → Option ℕ → Type 0
+GroupStandsBesides net family side group besides = (j : ℕ) → IsJointOf net side j → besides ≢ Some (end_at net side j).end
+    → HasMark net family side j (common_at_joint net side group j)
 
 -- Where the row takes in with flow some item may be taken in, and where it gives with flow by its state alone, what it gives
 -- may stand.

@@ -14,7 +14,7 @@ ghost use Rattle.reo_propagate_rows.specs.Stands.{FlowsStand};
 ghost use Rattle.reo_propagate_rows.specs.Flows.{IsPassedOn};
 
 use crate::flags::Flags;
-use crate::items::{gives_item, lets_in, source_of};
+use crate::items::{gives_value, lets_in, source_of};
 use crate::marks::FLOWS;
 use reo_boards::{Board, Flow};
 use reo_net_base::Primitive;
@@ -41,11 +41,8 @@ fn is_flow_given<P: Primitive>(
 {
     let _ = boards;
     let _ = ends;
-    let there = &items[joint];
     for code in FLOWS..alive.width(joint) {
-        if alive.is_set(joint, code)
-            && gives_item(circuit, side, row, joint, taken, there.at(code - FLOWS))
-        {
+        if alive.is_set(joint, code) && gives_value(circuit, items, side, row, joint, taken, code) {
             return true;
         }
     }
@@ -93,7 +90,17 @@ fn is_passed_on<P: Primitive>(
     for index in 0..flow.giving.len() {
         let other = *flow.giving.at(index);
         if follows(circuit, side, row, other, joint)
-            && !is_flow_given(circuit, boards, ends, items, alive, side, row, other, Some(item))
+            && !is_flow_given(
+                circuit,
+                boards,
+                ends,
+                items,
+                alive,
+                side,
+                row,
+                other,
+                Some(item),
+            )
         {
             return false;
         }
@@ -178,18 +185,14 @@ pub(crate) fn flows_stand<P: Primitive>(
 {
     for index in 0..flow.taking.len() {
         let joint = *flow.taking.at(index);
-        if !takes_flow(
-            circuit, boards, ends, items, alive, side, row, flow, joint,
-        ) {
+        if !takes_flow(circuit, boards, ends, items, alive, side, row, flow, joint) {
             return false;
         }
     }
     for index in 0..flow.giving.len() {
         let joint = *flow.giving.at(index);
         if source_of(circuit, side, row, joint).is_none()
-            && !is_flow_given(
-                circuit, boards, ends, items, alive, side, row, joint, None,
-            )
+            && !is_flow_given(circuit, boards, ends, items, alive, side, row, joint, None)
         {
             return false;
         }

@@ -5,6 +5,7 @@ mod flags;
 mod flows;
 mod groups;
 mod items;
+mod lists;
 mod marks;
 mod rows;
 mod seeing;

@@ -121,12 +121,7 @@ fn mark_taken(code: usize) -> Mark
 }
 
 /// The mark of a value of a joint, by its place, as a side of the joint sees it.
-pub fn mark_seen<P: Primitive>(
-    circuit: &Circuit<P>,
-    side: usize,
-    joint: usize,
-    code: usize,
-) -> Mark
+pub fn mark_seen<P: Primitive>(circuit: &Circuit<P>, side: usize, joint: usize, code: usize) -> Mark
     requires { joint < length circuit.now.joints }
     ensures { result ≡ value_mark (net_of P.behaviour circuit.now) side joint (value_of code) }
 {
@@ -148,6 +143,18 @@ fn has_flow(alive: &Flags, joint: usize) -> bool
         }
     }
     false
+}
+
+/// The marks at one end of a joint: there a reason is given where the other end requires one, or neither does.
+fn marks_of(flow: bool, other: bool, neither: bool, required: bool, jam: bool) -> Marks
+    ensures { result ≡ record { flow = flow; given = other || neither; required = required; jam = jam } }
+{
+    Marks {
+        flow,
+        given: other || neither,
+        required,
+        jam,
+    }
 }
 
 /// The marks that the values of a joint have, as a side of the joint sees them.
@@ -174,18 +181,8 @@ pub fn marks_left<P: Primitive>(
     let flow = has_flow(alive, joint);
     let jam = alive.is_set(joint, JAM);
     if gives {
-        Marks {
-            flow,
-            given: taker_requires || neither,
-            required: giver_requires,
-            jam,
-        }
+        marks_of(flow, taker_requires, neither, giver_requires, jam)
     } else {
-        Marks {
-            flow,
-            given: giver_requires || neither,
-            required: taker_requires,
-            jam,
-        }
+        marks_of(flow, giver_requires, neither, taker_requires, jam)
     }
 }

@@ -1,13 +1,18 @@
 //! Seeing which values with flow the rows of a side use.
-ghost use Rattle.std.specs.Prelude.{◌≡◌, ◌<◌, ℕ, true, length, slice_index_or, []};
-ghost use Rattle.reo_net_base.specs.Net.{net_of, all_sides};
+ghost use Rattle.std.specs.Prelude.{◌≡◌, ◌≢◌, ◌<◌, ◌≤◌, ◌+◌, ℕ, true, false, None, Some, length, option_copied, slice_index, slice_index_or, []};
+ghost use Rattle.reo_net_base.specs.Net.{net_of, all_sides, row_count};
 ghost use Rattle.reo_net_laws.specs.Ends.{IsRowOf};
-ghost use Rattle.reo_propagate_rows.specs.Rows.{AreTables, IsSifted, IsSeen};
+ghost use Rattle.reo_support.specs.Values.{taker_side};
+ghost use Rattle.reo_boards.specs.Boards.{IsFlow};
+ghost use Rattle.reo_boards.specs.Marks.{side_in, TakesFlow, GivesFlow};
+ghost use Rattle.reo_propagate_rows.specs.Flags.{flag, AreAlikeTables};
+ghost use Rattle.reo_propagate_rows.specs.Rows.{AreTables, IsSeen};
+ghost use Rattle.reo_propagate_rows.specs.Seeing.{HasValuePlaces, AreSeen, IsGivenValue, GivenUse, FollowedUse, FollowUse, TakenUse, TakesUse, AloneUse, RowUse, LiveRowUse};
 ghost use Rattle.reo_propagate_rows.specs.Sets.{family_of, names_of, IsReady};
 
 use crate::flags::Flags;
 use crate::flows::{flow_works, follows};
-use crate::items::{gives_item, source_of};
+use crate::items::{gives_value, source_of};
 use crate::marks::FLOWS;
 use crate::rows::Rows;
 use reo_boards::{Board, Flow};
@@ -17,9 +22,54 @@ use reo_net_ends::Ends;
 use reo_values::{List, Value};
 
 /// No value with flow of a joint is seen.
-fn unsee(seen: &mut Flags, joint: usize) {
+fn unsee(seen: &mut Flags, joint: usize)
+    requires { joint < length seen.old }
+    ensures alike { AreAlikeTables seen.old seen.new }
+    ensures here { (code : ℕ) → 4 ≤ code → flag seen.new joint code ≡ false }
+    ensures other { (j code : ℕ) → j ≢ joint → flag seen.new j code ≡ flag seen.old j code }
+{
     for code in FLOWS..seen.width(joint) {
         seen.put(joint, code, false);
+    }
+}
+
+/// No value with flow of these joints is seen.
+fn unsee_all(seen: &mut Flags, joints: &[usize])
+    requires { (m : ℕ) → m < length joints.now → slice_index joints.now m < length seen.old }
+    ensures alike { AreAlikeTables seen.old seen.new }
+    ensures here { (m code : ℕ) → m < length joints.now → 4 ≤ code → flag seen.new (slice_index joints.now m) code ≡ false }
+{
+    for index in 0..joints.len() {
+        unsee(seen, joints[index]);
+    }
+}
+
+/// Sees a value of a joint, by its place, if a row gives it there with flow for what it takes.
+fn see_value<P: Primitive>(
+    circuit: &Circuit<P>,
+    items: &[List<Value>],
+    alive: &Flags,
+    seen: &mut Flags,
+    side: usize,
+    row: usize,
+    joint: usize,
+    taken: Option<&Value>,
+    code: usize,
+)
+    requires items { length items.now ≡ length circuit.now.joints }
+    requires alive { HasValuePlaces (net_of P.behaviour circuit.now) items.now alive.now }
+    requires seen { HasValuePlaces (net_of P.behaviour circuit.now) items.now seen.old }
+    requires row { IsRowOf (net_of P.behaviour circuit.now) side row }
+    requires gives { GivesFlow (net_of P.behaviour circuit.now) side row joint }
+    requires flows { 4 ≤ code }
+    requires code { code < length (slice_index_or items.now joint []) + 4 }
+    ensures { AreSeen (IsGivenValue (net_of P.behaviour circuit.now) (names_of items.now) (family_of alive.now) row joint (option_copied taken.entry) code) seen.old seen.new }
+{
+    if alive.is_set(joint, code)
+        && !seen.is_set(joint, code)
+        && gives_value(circuit, items, side, row, joint, taken, code)
+    {
+        seen.put(joint, code, true);
     }
 }
 
@@ -33,15 +83,41 @@ fn see_given<P: Primitive>(
     row: usize,
     joint: usize,
     taken: Option<&Value>,
-) {
-    let there = &items[joint];
+)
+    requires items { length items.now ≡ length circuit.now.joints }
+    requires alive { HasValuePlaces (net_of P.behaviour circuit.now) items.now alive.now }
+    requires seen { HasValuePlaces (net_of P.behaviour circuit.now) items.now seen.old }
+    requires row { IsRowOf (net_of P.behaviour circuit.now) side row }
+    requires gives { GivesFlow (net_of P.behaviour circuit.now) side row joint }
+    ensures { AreSeen (GivenUse (net_of P.behaviour circuit.now) (names_of items.now) (family_of alive.now) row joint (option_copied taken.entry)) seen.old seen.new }
+{
     for code in FLOWS..alive.width(joint) {
-        if alive.is_set(joint, code)
-            && !seen.is_set(joint, code)
-            && gives_item(circuit, side, row, joint, taken, there.at(code - FLOWS))
-        {
-            seen.put(joint, code, true);
-        }
+        see_value(circuit, items, alive, seen, side, row, joint, taken, code);
+    }
+}
+
+/// Sees the values that a row gives at a joint for an item that it takes in at another, if they hang on it.
+fn see_followed<P: Primitive>(
+    circuit: &Circuit<P>,
+    items: &[List<Value>],
+    alive: &Flags,
+    seen: &mut Flags,
+    side: usize,
+    row: usize,
+    source: usize,
+    item: &Value,
+    joint: usize,
+)
+    requires items { length items.now ≡ length circuit.now.joints }
+    requires alive { HasValuePlaces (net_of P.behaviour circuit.now) items.now alive.now }
+    requires seen { HasValuePlaces (net_of P.behaviour circuit.now) items.now seen.old }
+    requires row { IsRowOf (net_of P.behaviour circuit.now) side row }
+    requires takes { TakesFlow (net_of P.behaviour circuit.now) side row source }
+    requires gives { GivesFlow (net_of P.behaviour circuit.now) side row joint }
+    ensures { AreSeen (FollowedUse (net_of P.behaviour circuit.now) (names_of items.now) (family_of alive.now) row source (Some item.now) joint) seen.old seen.new }
+{
+    if follows(circuit, side, row, joint, source) {
+        see_given(circuit, items, alive, seen, side, row, joint, Some(item));
     }
 }
 
@@ -54,18 +130,24 @@ fn see_followers<P: Primitive>(
     side: usize,
     row: usize,
     flow: &Flow,
-    joint: usize,
+    source: usize,
     item: &Value,
-) {
+)
+    requires items { length items.now ≡ length circuit.now.joints }
+    requires alive { HasValuePlaces (net_of P.behaviour circuit.now) items.now alive.now }
+    requires seen { HasValuePlaces (net_of P.behaviour circuit.now) items.now seen.old }
+    requires row { IsRowOf (net_of P.behaviour circuit.now) side row }
+    requires flow { IsFlow (net_of P.behaviour circuit.now) side row flow.now }
+    requires takes { TakesFlow (net_of P.behaviour circuit.now) side row source }
+    ensures { AreSeen (FollowUse (net_of P.behaviour circuit.now) (names_of items.now) (family_of alive.now) side row source (Some item.now)) seen.old seen.new }
+{
     for index in 0..flow.giving.len() {
-        let other = *flow.giving.at(index);
-        if follows(circuit, side, row, other, joint) {
-            see_given(circuit, items, alive, seen, side, row, other, Some(item));
-        }
+        let joint = *flow.giving.at(index);
+        see_followed(circuit, items, alive, seen, side, row, source, item, joint);
     }
 }
 
-/// Sees the values that a row takes in with flow at a joint, and what it gives for them.
+/// Sees a value of a joint, by its place, if a row takes it in there with flow, and what it gives for it.
 fn see_taken<P: Primitive>(
     circuit: &Circuit<P>,
     boards: &List<Board>,
@@ -76,18 +158,75 @@ fn see_taken<P: Primitive>(
     side: usize,
     row: usize,
     flow: &Flow,
+    source: usize,
+    code: usize,
+)
+    requires ready { IsReady (net_of P.behaviour circuit.now) boards.now ends.now items.now alive.now }
+    requires seen { HasValuePlaces (net_of P.behaviour circuit.now) items.now seen.old }
+    requires row { IsRowOf (net_of P.behaviour circuit.now) side row }
+    requires flow { IsFlow (net_of P.behaviour circuit.now) side row flow.now }
+    requires takes { TakesFlow (net_of P.behaviour circuit.now) side row source }
+    requires flows { 4 ≤ code }
+    requires code { code < length (slice_index_or alive.now source []) }
+    ensures { AreSeen (TakenUse (net_of P.behaviour circuit.now) (names_of items.now) (family_of alive.now) side row source code) seen.old seen.new }
+{
+    if alive.is_set(source, code)
+        && flow_works(
+            circuit, boards, ends, items, alive, side, row, flow, source, code,
+        )
+    {
+        seen.put(source, code, true);
+        let item = items[source].at(code - FLOWS);
+        see_followers(circuit, items, alive, seen, side, row, flow, source, item);
+    }
+}
+
+/// Sees the values that a row takes in with flow at a joint, and what it gives for them.
+fn see_takes<P: Primitive>(
+    circuit: &Circuit<P>,
+    boards: &List<Board>,
+    ends: &Ends,
+    items: &[List<Value>],
+    alive: &Flags,
+    seen: &mut Flags,
+    side: usize,
+    row: usize,
+    flow: &Flow,
+    source: usize,
+)
+    requires ready { IsReady (net_of P.behaviour circuit.now) boards.now ends.now items.now alive.now }
+    requires seen { HasValuePlaces (net_of P.behaviour circuit.now) items.now seen.old }
+    requires row { IsRowOf (net_of P.behaviour circuit.now) side row }
+    requires flow { IsFlow (net_of P.behaviour circuit.now) side row flow.now }
+    requires takes { TakesFlow (net_of P.behaviour circuit.now) side row source }
+    ensures { AreSeen (TakesUse (net_of P.behaviour circuit.now) (names_of items.now) (family_of alive.now) side row source) seen.old seen.new }
+{
+    for code in FLOWS..alive.width(source) {
+        see_taken(
+            circuit, boards, ends, items, alive, seen, side, row, flow, source, code,
+        );
+    }
+}
+
+/// Sees the values that a row gives with flow at a joint, if its state alone decides them.
+fn see_alone<P: Primitive>(
+    circuit: &Circuit<P>,
+    items: &[List<Value>],
+    alive: &Flags,
+    seen: &mut Flags,
+    side: usize,
+    row: usize,
     joint: usize,
-) {
-    for code in FLOWS..alive.width(joint) {
-        if alive.is_set(joint, code)
-            && flow_works(
-                circuit, boards, ends, items, alive, side, row, flow, joint, code,
-            )
-        {
-            seen.put(joint, code, true);
-            let item = items[joint].at(code - FLOWS);
-            see_followers(circuit, items, alive, seen, side, row, flow, joint, item);
-        }
+)
+    requires items { length items.now ≡ length circuit.now.joints }
+    requires alive { HasValuePlaces (net_of P.behaviour circuit.now) items.now alive.now }
+    requires seen { HasValuePlaces (net_of P.behaviour circuit.now) items.now seen.old }
+    requires row { IsRowOf (net_of P.behaviour circuit.now) side row }
+    requires gives { GivesFlow (net_of P.behaviour circuit.now) side row joint }
+    ensures { AreSeen (AloneUse (net_of P.behaviour circuit.now) (names_of items.now) (family_of alive.now) row joint) seen.old seen.new }
+{
+    if source_of(circuit, side, row, joint).is_none() {
+        see_given(circuit, items, alive, seen, side, row, joint, None);
     }
 }
 
@@ -102,18 +241,49 @@ fn see_row<P: Primitive>(
     side: usize,
     row: usize,
     flow: &Flow,
-) {
+)
+    requires ready { IsReady (net_of P.behaviour circuit.now) boards.now ends.now items.now alive.now }
+    requires seen { HasValuePlaces (net_of P.behaviour circuit.now) items.now seen.old }
+    requires row { IsRowOf (net_of P.behaviour circuit.now) side row }
+    requires flow { IsFlow (net_of P.behaviour circuit.now) side row flow.now }
+    ensures { AreSeen (RowUse (net_of P.behaviour circuit.now) (names_of items.now) (family_of alive.now) side row) seen.old seen.new }
+{
+    circuit.known();
     for index in 0..flow.taking.len() {
-        let joint = *flow.taking.at(index);
-        see_taken(
-            circuit, boards, ends, items, alive, seen, side, row, flow, joint,
+        let source = *flow.taking.at(index);
+        see_takes(
+            circuit, boards, ends, items, alive, seen, side, row, flow, source,
         );
     }
     for index in 0..flow.giving.len() {
         let joint = *flow.giving.at(index);
-        if source_of(circuit, side, row, joint).is_none() {
-            see_given(circuit, items, alive, seen, side, row, joint, None);
-        }
+        see_alone(circuit, items, alive, seen, side, row, joint);
+    }
+}
+
+/// Sees the values with flow that go with a row of a side, if it has its flag.
+fn see_live<P: Primitive>(
+    circuit: &Circuit<P>,
+    boards: &List<Board>,
+    ends: &Ends,
+    items: &[List<Value>],
+    alive: &Flags,
+    live: &Flags,
+    seen: &mut Flags,
+    side: usize,
+    row: usize,
+)
+    requires ready { IsReady (net_of P.behaviour circuit.now) boards.now ends.now items.now alive.now }
+    requires live { side < length live.now }
+    requires width { length (slice_index_or live.now side []) ≡ row_count (side_in (net_of P.behaviour circuit.now) side) }
+    requires seen { HasValuePlaces (net_of P.behaviour circuit.now) items.now seen.old }
+    requires side { side < length (all_sides (net_of P.behaviour circuit.now).primitives) }
+    requires row { IsRowOf (net_of P.behaviour circuit.now) side row }
+    ensures { AreSeen (LiveRowUse (net_of P.behaviour circuit.now) (names_of items.now) (family_of alive.now) live.now side row) seen.old seen.new }
+{
+    if live.is_set(side, row) {
+        let flow = boards.at(side).flows.at(row);
+        see_row(circuit, boards, ends, items, alive, seen, side, row, flow);
     }
 }
 
@@ -136,24 +306,18 @@ pub fn see<P: Primitive>(
     ensures live { rows.new.live ≡ rows.old.live }
     ensures notes { rows.new.notes ≡ rows.old.notes }
 {
-    let board = boards.at(side);
-    for index in 0..board.joints.len() {
-        unsee(&mut rows.seen, *board.joints.at(index));
-    }
-    for row in 0..board.flows.len() {
-        if rows.live.is_set(side, row) {
-            let flow = board.flows.at(row);
-            see_row(
-                circuit,
-                boards,
-                ends,
-                items,
-                alive,
-                &mut rows.seen,
-                side,
-                row,
-                flow,
-            );
-        }
+    unsee_all(&mut rows.seen, boards.at(side).joints.as_slice());
+    for row in 0..circuit.rows(side) {
+        see_live(
+            circuit,
+            boards,
+            ends,
+            items,
+            alive,
+            &rows.live,
+            &mut rows.seen,
+            side,
+            row,
+        );
     }
 }

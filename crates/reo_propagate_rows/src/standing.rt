@@ -1,18 +1,24 @@
 //! Whether rows have the marks of values at the joints of their side.
-ghost use Rattle.std.specs.Prelude.{◌≡◌, ◌≢◌, ◌↔◌, ◌<◌, ℕ, IsTrue, true, false, OnOk, length, replicate, slice_index, slice_index_or, []};
-ghost use Rattle.reo_net_base.specs.Net.{net_of, all_sides};
+ghost use Rattle.std.specs.Prelude.{◌≡◌, ◌≢◌, ◌⊎◌, ◌↔◌, ◌<◌, ℕ, IsTrue, true, false, OnOk, MatchOption, Some, length, replicate, slice_index, slice_index_or, []};
+ghost use Rattle.reo_net_base.specs.Behaviour.{IsEndOf};
+ghost use Rattle.reo_net_base.specs.Net.{net_of, all_sides, row_count};
 ghost use Rattle.reo_net_laws.specs.Ends.{IsRowOf};
-ghost use Rattle.reo_boards.specs.Marks.{groups_in, group_in, IsJointOf};
-ghost use Rattle.reo_propagate_rows.specs.Groups.{IsOdd, AreNoted};
+ghost use Rattle.reo_net_ends.specs.Ends.{AreEnds};
+ghost use Rattle.reo_boards.specs.Marks.{side_in, groups_in, group_in, common_at_joint, IsJointOf};
+ghost use Rattle.reo_propagate_rows.specs.Groups.{AreFit, FailsAt, IsOdd, Excuses, AreNoted};
+ghost use Rattle.reo_boards.specs.Boards.{IsBoard};
+ghost use Rattle.reo_propagate_rows.specs.Flags.{AreAlikeTables};
+ghost use Rattle.reo_propagate_rows.specs.Sparing.{IsIdle, IsLacking, CanSpare, AreCleared, GroupsHave};
 ghost use Rattle.reo_propagate_rows.specs.Rows.{AreTables, IsSpared};
 ghost use Rattle.reo_propagate_rows.specs.Sets.{family_of, IsReady};
-ghost use Rattle.reo_propagate_rows.specs.Stands.{MarksStand, GroupStands};
+ghost use Rattle.reo_propagate_rows.specs.Stands.{HasMark, IsAtEnd, MarksStand, GroupStands, GroupStandsBesides, StandsAtEnd};
 
 use crate::flags::Flags;
-use crate::groups::Odd;
+use crate::groups::{Group, Odd};
+use crate::lists::apart_there;
 use crate::marks::{Marks, marks_left};
 use crate::rows::Rows;
-use reo_boards::{Board, end_at, mark_at_joint};
+use reo_boards::{Board, Flow, end_at, mark_at_joint};
 use reo_lanes::keep_rows;
 use reo_net_base::{End, Primitive};
 use reo_net_circuit::Circuit;
@@ -30,7 +36,32 @@ fn all_ones(bytes: &mut Vec<u8>, count: usize) -> Result<(), NoMemory>
     }
 }
 
-/// Which groups of a side have the mark of some value at each joint: their bytes are not 0.
+/// Clears the bytes of the groups of a side that have the mark of no value at some joint.
+fn clear_unfit<P: Primitive>(
+    circuit: &Circuit<P>,
+    boards: &List<Board>,
+    ends: &Ends,
+    items: &[List<Value>],
+    alive: &Flags,
+    side: usize,
+    fits: &mut [u8],
+)
+    requires ready { IsReady (net_of P.behaviour circuit.now) boards.now ends.now items.now alive.now }
+    requires side { side < length (all_sides (net_of P.behaviour circuit.now).primitives) }
+    requires fits { fits.old ≡ replicate (groups_in (net_of P.behaviour circuit.now) side) 1 }
+    ensures { AreFit (net_of P.behaviour circuit.now) (family_of alive.now) side fits.new }
+{
+    let groups = circuit.groups(side);
+    let board = boards.at(side);
+    for index in 0..board.joints.len() {
+        let joint = *board.joints.at(index);
+        let marks = marks_left(circuit, boards, ends, items, alive, side, joint);
+        let column = &board.columns.as_slice()[index * groups..(index + 1) * groups];
+        keep_rows(column, marks.byte(), fits);
+    }
+}
+
+/// Which groups of a side have the mark of some value at each joint: their bytes are not 0. `NoMemory` is out of memory.
 pub(crate) fn fit_groups<P: Primitive>(
     circuit: &Circuit<P>,
     boards: &List<Board>,
@@ -42,19 +73,71 @@ pub(crate) fn fit_groups<P: Primitive>(
 ) -> Result<(), NoMemory>
     requires ready { IsReady (net_of P.behaviour circuit.now) boards.now ends.now items.now alive.now }
     requires side { side < length (all_sides (net_of P.behaviour circuit.now).primitives) }
-    ensures one_each { OnOk result (length fits.new.items ≡ groups_in (net_of P.behaviour circuit.now) side) }
-    ensures fits { OnOk result ((g : ℕ) → g < groups_in (net_of P.behaviour circuit.now) side → (slice_index fits.new.items g ≢ 0) ↔ GroupStands (net_of P.behaviour circuit.now) (family_of alive.now) side g) }
+    ensures { OnOk result (AreFit (net_of P.behaviour circuit.now) (family_of alive.now) side fits.new.items) }
 {
-    let groups = circuit.groups(side);
-    all_ones(fits, groups)?;
+    all_ones(fits, circuit.groups(side))?;
+    clear_unfit(
+        circuit,
+        boards,
+        ends,
+        items,
+        alive,
+        side,
+        fits.as_mut_slice(),
+    );
+    Ok(())
+}
+
+/// Whether a group has the mark of some value at a joint of its side.
+fn group_stands_at<P: Primitive>(
+    circuit: &Circuit<P>,
+    boards: &List<Board>,
+    ends: &Ends,
+    items: &[List<Value>],
+    alive: &Flags,
+    side: usize,
+    group: usize,
+    joint: usize,
+) -> bool
+    requires ready { IsReady (net_of P.behaviour circuit.now) boards.now ends.now items.now alive.now }
+    requires side { side < length (all_sides (net_of P.behaviour circuit.now).primitives) }
+    requires group { group < groups_in (net_of P.behaviour circuit.now) side }
+    requires joint { IsJointOf (net_of P.behaviour circuit.now) side joint }
+    ensures { IsTrue result ↔ HasMark (net_of P.behaviour circuit.now) (family_of alive.now) side joint (common_at_joint (net_of P.behaviour circuit.now) side group joint) }
+{
+    circuit.known();
+    let end = end_at(circuit, side, joint);
+    let marks = marks_left(circuit, boards, ends, items, alive, side, joint);
+    marks.has(circuit.common(side, group, end.end))
+}
+
+/// An end of a side at which a group has the mark of no value, if there is any but for one.
+fn fails_besides<P: Primitive>(
+    circuit: &Circuit<P>,
+    boards: &List<Board>,
+    ends: &Ends,
+    items: &[List<Value>],
+    alive: &Flags,
+    side: usize,
+    group: usize,
+    besides: Option<usize>,
+) -> Option<usize>
+    requires ready { IsReady (net_of P.behaviour circuit.now) boards.now ends.now items.now alive.now }
+    requires side { side < length (all_sides (net_of P.behaviour circuit.now).primitives) }
+    requires group { group < groups_in (net_of P.behaviour circuit.now) side }
+    ensures { MatchOption result (GroupStandsBesides (net_of P.behaviour circuit.now) (family_of alive.now) side group besides) (λ end. (besides ≢ Some end) × FailsAt (net_of P.behaviour circuit.now) (family_of alive.now) side group end) }
+{
     let board = boards.at(side);
     for index in 0..board.joints.len() {
         let joint = *board.joints.at(index);
-        let marks = marks_left(circuit, boards, ends, items, alive, side, joint);
-        let column = &board.columns.as_slice()[index * groups..(index + 1) * groups];
-        keep_rows(column, marks.byte(), fits.as_mut_slice());
+        let end = end_at(circuit, side, joint).end;
+        if besides != Some(end)
+            && !group_stands_at(circuit, boards, ends, items, alive, side, group, joint)
+        {
+            return Some(end);
+        }
     }
-    Ok(())
+    None
 }
 
 /// Where a group has the mark of no value.
@@ -72,20 +155,30 @@ pub(crate) fn odd_of<P: Primitive>(
     requires group { group < groups_in (net_of P.behaviour circuit.now) side }
     ensures { IsOdd (net_of P.behaviour circuit.now) (family_of alive.now) side group result }
 {
-    let board = boards.at(side);
-    let mut odd = Odd::Nowhere;
-    for index in 0..board.joints.len() {
-        let joint = *board.joints.at(index);
-        let end = end_at(circuit, side, joint).end;
-        let marks = marks_left(circuit, boards, ends, items, alive, side, joint);
-        if !marks.has(circuit.common(side, group, end)) {
-            match odd {
-                Odd::Nowhere => odd = Odd::At(end),
-                _ => return Odd::Several,
+    match fails_besides(circuit, boards, ends, items, alive, side, group, None) {
+        None => Odd::Nowhere,
+        Some(end) => {
+            match fails_besides(circuit, boards, ends, items, alive, side, group, Some(end)) {
+                None => Odd::At(end),
+                Some(_) => Odd::Several,
             }
         }
     }
-    odd
+}
+
+/// The joint at an end of a side.
+fn joint_there<P: Primitive>(circuit: &Circuit<P>, ends: &Ends, side: usize, end: usize) -> usize
+    requires ends { AreEnds (net_of P.behaviour circuit.now) ends.now }
+    requires side { side < length (all_sides (net_of P.behaviour circuit.now).primitives) }
+    requires end { IsEndOf (side_in (net_of P.behaviour circuit.now) side).of (side_in (net_of P.behaviour circuit.now) side).number end }
+    ensures { IsAtEnd (net_of P.behaviour circuit.now) side end result }
+{
+    circuit.known();
+    let owner = circuit.owner(side);
+    ends.joint_at(End {
+        primitive: owner.primitive,
+        end,
+    })
 }
 
 /// Whether a row has the mark of some value at an end of its side.
@@ -98,14 +191,28 @@ fn stands_at<P: Primitive>(
     side: usize,
     row: usize,
     end: usize,
-) -> bool {
-    let owner = circuit.owner(side);
-    let joint = ends.joint_at(End {
-        primitive: owner.primitive,
-        end,
-    });
+) -> bool
+    requires ready { IsReady (net_of P.behaviour circuit.now) boards.now ends.now items.now alive.now }
+    requires side { side < length (all_sides (net_of P.behaviour circuit.now).primitives) }
+    requires row { IsRowOf (net_of P.behaviour circuit.now) side row }
+    requires end { IsEndOf (side_in (net_of P.behaviour circuit.now) side).of (side_in (net_of P.behaviour circuit.now) side).number end }
+    ensures { IsTrue result ↔ StandsAtEnd (net_of P.behaviour circuit.now) (family_of alive.now) side row end }
+{
+    circuit.known();
+    let joint = joint_there(circuit, ends, side, end);
     let marks = marks_left(circuit, boards, ends, items, alive, side, joint);
     marks.has(mark_at_joint(circuit, side, row, joint))
+}
+
+/// Whether a row that is apart at such an end, or nowhere, can have the mark of some value where its group does not.
+fn excuses(odd: Odd, apart: Option<usize>) -> bool
+    ensures { IsTrue result ↔ Excuses odd apart }
+{
+    match odd {
+        Odd::Nowhere => true,
+        Odd::At(end) => apart == Some(end),
+        Odd::Several => false,
+    }
 }
 
 /// Whether a row has the mark of some value at each joint of its side, where its group is as said.
@@ -125,62 +232,93 @@ pub(crate) fn marks_stand<P: Primitive>(
     requires odd { IsOdd (net_of P.behaviour circuit.now) (family_of alive.now) side (group_in (net_of P.behaviour circuit.now) side row) odd }
     ensures { IsTrue result ↔ MarksStand (net_of P.behaviour circuit.now) (family_of alive.now) side row }
 {
-    match (odd, circuit.apart(side, row)) {
-        (Odd::Nowhere, None) => true,
-        (Odd::Nowhere, Some(end)) => {
-            stands_at(circuit, boards, ends, items, alive, side, row, end)
-        }
-        (Odd::At(odd_end), Some(end)) => {
-            odd_end == end && stands_at(circuit, boards, ends, items, alive, side, row, end)
-        }
-        _ => false,
+    circuit.known();
+    let apart = circuit.apart(side, row);
+    if !excuses(odd, apart) {
+        return false;
+    }
+    match apart {
+        None => true,
+        Some(end) => stands_at(circuit, boards, ends, items, alive, side, row, end),
     }
 }
 
-/// Whether a row is noted of its group.
-fn is_noted<P: Primitive>(circuit: &Circuit<P>, rows: &Rows, side: usize, row: usize) -> bool {
-    let group = *rows.notes.at(side).at(circuit.group(side, row));
-    group.first == Some(row) || group.other == Some(row)
+/// Whether a row is one of the two that are noted.
+fn notes_row(noted: Group, row: usize) -> bool
+    ensures { IsTrue result ↔ ((noted.first ≡ Some row) ⊎ (noted.other ≡ Some row)) }
+{
+    noted.first == Some(row) || noted.other == Some(row)
 }
 
-/// Whether a row with its flag lacks a mark at a joint at which it is apart: it does not have the mark of any value there.
+/// Whether a row with its flag lacks a mark at a joint: it does not have one of these there.
 fn lacks_mark<P: Primitive>(
     circuit: &Circuit<P>,
-    rows: &Rows,
+    live: &Flags,
     side: usize,
     row: usize,
     joint: usize,
     marks: Marks,
-) -> bool {
-    rows.live.is_set(side, row) && !marks.has(mark_at_joint(circuit, side, row, joint))
+) -> bool
+    requires side { side < length live.now }
+    requires width { length (slice_index_or live.now side []) ≡ row_count (side_in (net_of P.behaviour circuit.now) side) }
+    requires row { IsRowOf (net_of P.behaviour circuit.now) side row }
+    requires joint { IsJointOf (net_of P.behaviour circuit.now) side joint }
+    ensures { IsTrue result ↔ IsLacking (net_of P.behaviour circuit.now) live.now side joint marks row }
+{
+    live.is_set(side, row) && !marks.has(mark_at_joint(circuit, side, row, joint))
 }
 
-/// Whether a side can do without a row: it flows nowhere, and it is not noted of its group.
-fn is_spare<P: Primitive>(
+/// Whether a row takes in and gives nothing.
+fn flows_nowhere(flow: &Flow) -> bool
+    ensures { IsTrue result ↔ ((length flow.now.taking ≡ 0) × (length flow.now.giving ≡ 0)) }
+{
+    flow.taking.is_empty() && flow.giving.is_empty()
+}
+
+/// Whether a side can do without a row where it is apart: it flows nowhere, and it is not noted of its group.
+fn is_idle<P: Primitive>(
     circuit: &Circuit<P>,
     board: &Board,
-    rows: &Rows,
+    notes: &List<Group>,
     side: usize,
     row: usize,
-) -> bool {
+) -> bool
+    requires side { side < length (all_sides (net_of P.behaviour circuit.now).primitives) }
+    requires board { IsBoard (net_of P.behaviour circuit.now) side board.now }
+    requires notes { length notes.now ≡ groups_in (net_of P.behaviour circuit.now) side }
+    requires row { IsRowOf (net_of P.behaviour circuit.now) side row }
+    ensures { IsTrue result ↔ IsIdle (net_of P.behaviour circuit.now) side row notes.now }
+{
+    circuit.known();
     let flow = board.flows.at(row);
-    flow.taking.is_empty() && flow.giving.is_empty() && !is_noted(circuit, rows, side, row)
+    let noted = *notes.at(circuit.group(side, row));
+    flows_nowhere(flow) && !notes_row(noted, row)
 }
 
-/// Whether the rows of a side that are apart at a joint and lack a mark there can all be spared.
+/// Whether the rows of a list that lack a mark at a joint of their side are all idle.
 fn can_spare<P: Primitive>(
     circuit: &Circuit<P>,
     board: &Board,
-    rows: &Rows,
+    live: &Flags,
+    notes: &List<Group>,
     side: usize,
-    apart: &[usize],
+    list: &[usize],
     joint: usize,
     marks: Marks,
-) -> bool {
-    for index in 0..apart.len() {
-        let row = apart[index];
-        if lacks_mark(circuit, rows, side, row, joint, marks)
-            && !is_spare(circuit, board, rows, side, row)
+) -> bool
+    requires side { side < length (all_sides (net_of P.behaviour circuit.now).primitives) }
+    requires live { side < length live.now }
+    requires width { length (slice_index_or live.now side []) ≡ row_count (side_in (net_of P.behaviour circuit.now) side) }
+    requires board { IsBoard (net_of P.behaviour circuit.now) side board.now }
+    requires notes { length notes.now ≡ groups_in (net_of P.behaviour circuit.now) side }
+    requires joint { IsJointOf (net_of P.behaviour circuit.now) side joint }
+    requires list { (m : ℕ) → m < length list.now → IsRowOf (net_of P.behaviour circuit.now) side (slice_index list.now m) }
+    ensures { IsTrue result ↔ CanSpare (net_of P.behaviour circuit.now) live.now notes.now side joint marks list.now }
+{
+    for index in 0..list.len() {
+        let row = list[index];
+        if lacks_mark(circuit, live, side, row, joint, marks)
+            && !is_idle(circuit, board, notes, side, row)
         {
             return false;
         }
@@ -188,35 +326,47 @@ fn can_spare<P: Primitive>(
     true
 }
 
-/// Clears the flags of the rows of a side that are apart at a joint and lack a mark there.
+/// Clears the flags of the rows of a list that lack a mark at a joint of their side.
 fn clear_lacking<P: Primitive>(
     circuit: &Circuit<P>,
-    rows: &mut Rows,
+    live: &mut Flags,
     side: usize,
-    apart: &[usize],
+    list: &[usize],
     joint: usize,
     marks: Marks,
-) {
-    for index in 0..apart.len() {
-        let row = apart[index];
-        if lacks_mark(circuit, rows, side, row, joint, marks) {
-            rows.live.clear(side, row);
+)
+    requires live { side < length live.old }
+    requires width { length (slice_index_or live.old side []) ≡ row_count (side_in (net_of P.behaviour circuit.now) side) }
+    requires joint { IsJointOf (net_of P.behaviour circuit.now) side joint }
+    requires list { (m : ℕ) → m < length list.now → IsRowOf (net_of P.behaviour circuit.now) side (slice_index list.now m) }
+    ensures alike { AreAlikeTables live.old live.new }
+    ensures cleared { AreCleared (net_of P.behaviour circuit.now) side joint marks list.now (length list.now) live.old live.new }
+{
+    for index in 0..list.len() {
+        let row = list[index];
+        if lacks_mark(circuit, live, side, row, joint, marks) {
+            live.clear(side, row);
         }
     }
 }
 
-/// Whether each group of a side of which a row is noted has the mark of some value at a joint there.
-fn groups_stand<P: Primitive>(
+/// Whether each group of a side of which a row is noted has one of these marks at a joint there.
+fn groups_have<P: Primitive>(
     circuit: &Circuit<P>,
-    rows: &Rows,
+    notes: &List<Group>,
     side: usize,
     joint: usize,
     marks: Marks,
-) -> bool {
-    let end = end_at(circuit, side, joint).end;
-    let notes = rows.notes.at(side);
-    for group in 0..circuit.groups(side) {
-        if notes.at(group).first.is_some() && !marks.has(circuit.common(side, group, end)) {
+) -> bool
+    requires side { side < length (all_sides (net_of P.behaviour circuit.now).primitives) }
+    requires notes { length notes.now ≡ groups_in (net_of P.behaviour circuit.now) side }
+    requires joint { IsJointOf (net_of P.behaviour circuit.now) side joint }
+    ensures { IsTrue result ↔ GroupsHave (net_of P.behaviour circuit.now) notes.now side joint marks }
+{
+    circuit.known();
+    let end = end_at(circuit, side, joint);
+    for group in 0..notes.len() {
+        if notes.at(group).first.is_some() && !marks.has(circuit.common(side, group, end.end)) {
             return false;
         }
     }
@@ -245,17 +395,16 @@ pub fn can_stay<P: Primitive>(
     ensures no { result ≡ false → rows.new ≡ rows.old }
     ensures tables { AreTables (net_of P.behaviour circuit.now) items.now rows.new }
 {
+    circuit.known();
     let board = boards.at(side);
     let marks = marks_left(circuit, boards, ends, items, alive, side, joint);
-    let apart = board
-        .apart
-        .at(end_at(circuit, side, joint).end)
-        .as_slice();
-    if !groups_stand(circuit, rows, side, joint, marks)
-        || !can_spare(circuit, board, rows, side, apart, joint, marks)
+    let apart = apart_there(circuit, boards, side, joint);
+    let notes = rows.notes.at(side);
+    if groups_have(circuit, notes, side, joint, marks)
+        && can_spare(circuit, board, &rows.live, notes, side, apart, joint, marks)
     {
-        return false;
+        clear_lacking(circuit, &mut rows.live, side, apart, joint, marks);
+        return true;
     }
-    clear_lacking(circuit, rows, side, apart, joint, marks);
-    true
+    false
 }

@@ -1,5 +1,5 @@
 -- Places of a key, and what is left of a family when a place is held to the number of a row.
-use Rattle.std.specs.Prelude.{ℕ, ◌==◌, ◌&&◌, ◌||◌, Bool, not, List, [], ◌∷◌, ◌++◌, map, filter}
+use Rattle.std.specs.Prelude.{ℕ, ◌==◌, ◌&&◌, ◌||◌, Bool, not, List, ◌++◌, map, filter}
 use Rattle.reo_net_base.specs.declared.mark.Mark.{Mark}
 use Rattle.reo_net_base.specs.Net.{Net}
 use Rattle.reo_net_laws.specs.Ends.{same_mark, same_kind}

@@ -11,7 +11,7 @@ use Rattle.reo_support.specs.Works.{RowWorks}
 use Rattle.reo_propagate_rows.specs.Flags.{flag}
 use Rattle.reo_search.specs.declared.place.Place.{Place}
 use Rattle.reo_search.specs.declared.walk.Least.{Least}
-use Rattle.reo_search.specs.Places.{side_of_place, number_of, numbers, held_to}
+use Rattle.reo_search.specs.Places.{side_of_place, number_of, held_to}
 use Rattle.reo_search.specs.Settling.{HasChosen, HasNone, Settling}
 
 -- A walk that came to its end: these numbers are settled, and on a knot where each loop joint has one value left, an assignment has
@@ -45,7 +45,7 @@ pub record IsLeastBelow (net : Net) (turn : ℕ) (p : Place) (live : List (List 
   pub below : least.row < n
   pub set : flag live (side_of_place p) least.row ≡ true
   pub number : least.number ≡ number_of net turn p least.row
-  pub least : (r : ℕ) → r < n → flag live (side_of_place p) r ≡ true → number_of net turn p least.row ≤ number_of net turn p r
+  pub none_less : (r : ℕ) → r < n → flag live (side_of_place p) r ≡ true → number_of net turn p least.row ≤ number_of net turn p r
   pub alone : least.alone ≡ true → (r : ℕ) → r < n → flag live (side_of_place p) r ≡ true
       → number_of net turn p r ≡ number_of net turn p least.row
 

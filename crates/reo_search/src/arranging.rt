@@ -50,9 +50,12 @@ pub fn first_by<P: Primitive>(
     requires one { OneAtLoops (net_of P.behaviour circuit.now) (among sides.now) (family_of state.old.alive) }
     ensures { IfOk result (λ found. MatchOption found (HasNone (net_of P.behaviour circuit.now) (names_of items.now) (among sides.now) (family_of state.old.alive)) (IsFirstWith (net_of P.behaviour circuit.now) (names_of items.now) (among sides.now) turn (family_of state.old.alive) places.now)) }
 {
-    walk(
+    match walk(
         alloc, circuit, boards, ends, items, sides, state, places, turn,
-    )
+    )? {
+        None => Ok(None),
+        Some(chosen) => Ok(Some(chosen)),
+    }
 }
 
 /// The first assignment of a knot with values in these sets, or `None` exactly where there is none. It ticks once.
@@ -77,6 +80,8 @@ pub fn arrange<P: Primitive, L: Ledger>(
     ensures ticks { steps.new ≡ steps.old + 1 }
 {
     steps.tick();
+    circuit.known();
+    let _order = circuit.order();
     let ends = ends_of(alloc, circuit)?;
     let boards = boards_of(alloc, circuit, &ends)?;
     let items = supply.lists();

@@ -1,5 +1,5 @@
 //! Holding a place to the number of a row.
-ghost use Rattle.std.specs.Prelude.{◌≡◌, ◌<◌, ℕ, true, OnOk, length, slice_index_or, []};
+ghost use Rattle.std.specs.Prelude.{◌≡◌, ◌<◌, ℕ, true, false, OnOk, length, slice_index_or, []};
 ghost use Rattle.reo_net_base.specs.Net.{net_of, all_sides};
 ghost use Rattle.reo_net_laws.specs.Ends.{IsRowOf};
 ghost use Rattle.reo_net_laws.specs.Parts.{IsClosed};
@@ -19,6 +19,17 @@ use reo_net_ends::Ends;
 use reo_propagate::{Loss, State, wake};
 use reo_propagate_rows::{FLOWS, Flags, mark_seen};
 use reo_values::{List, NoMemory, Value};
+
+/// What a joint lost, with a value more, by its place.
+fn one_more(loss: Loss, code: usize) -> Loss
+    ensures some { result.some ≡ true }
+    ensures flow { result.flow ≡ false → (loss.flow ≡ false) × (code < 4) }
+{
+    Loss {
+        some: true,
+        flow: loss.flow || code >= FLOWS,
+    }
+}
 
 /// Takes the values of a joint away that do not suit a row at a place.
 fn hold_joint<P: Primitive>(
@@ -40,14 +51,9 @@ fn hold_joint<P: Primitive>(
         flow: false,
     };
     for code in 0..alive.width(joint) {
-        if alive.is_set(joint, code)
-            && !suits(place, mark_seen(circuit, side, joint, code), mark)
-        {
+        if alive.is_set(joint, code) && !suits(place, mark_seen(circuit, side, joint, code), mark) {
             alive.clear(joint, code);
-            loss = Loss {
-                some: true,
-                flow: loss.flow || code >= FLOWS,
-            };
+            loss = one_more(loss, code);
         }
     }
     loss
@@ -75,6 +81,7 @@ fn hold_and_wake<P: Primitive>(
     ensures search { OnOk result (IsSearch (net_of P.behaviour circuit.now) boards.now ends.now items.now (among sides.now) state.new) }
 {
     let _ = sides;
+    circuit.known();
     let giver = giver_side(circuit, joint);
     let taker = taker_side(circuit, joint);
     let loss = hold_joint(circuit, &mut state.alive, place, row, joint);

@@ -113,13 +113,12 @@ fn step<P: Primitive>(
     ensures search { OnOk result (IsSearch (net_of P.behaviour circuit.now) boards.now ends.now items.now (among sides.now) state.new) }
     ensures empty { OnOk result (state.new.queue.line ≡ []) }
 {
+    circuit.known();
     match least_row(circuit, &state.rows.live, place, turn) {
         None => Ok(None),
         Some(least) => {
             if !least.alone {
-                hold(
-                    circuit, boards, ends, items, sides, state, place, least.row,
-                )?;
+                hold(circuit, boards, ends, items, sides, state, place, least.row)?;
                 propagate(circuit, boards, ends, items, sides, state)?;
             }
             Ok(Some(least.number))
@@ -151,6 +150,7 @@ pub fn walk<P: Primitive>(
     ensures alike { OnOk result (AreAlikeTables state.old.alive state.new.alive) }
     ensures search { OnOk result (IsSearch (net_of P.behaviour circuit.now) boards.now ends.now items.now (among sides.now) state.new) }
 {
+    circuit.known();
     propagate(circuit, boards, ends, items, sides, state)?;
     let mut chosen = List::new(alloc);
     for index in 0..places.len() {
