@@ -7,8 +7,8 @@ ghost use Rattle.std.specs.IoError.{error_kind};
 ghost use Rattle.std.specs.Process.{exit_status};
 ghost use Rattle.std.specs.String.{string_bytes};
 ghost use Rattle.std.specs.Vec.Iter.{into_iter_items};
-ghost use Rattle.reo_top.specs.Commands.{command_of};
-ghost use Rattle.reo_top.specs.Statuses.{IsAmong, statuses_for};
+ghost use Rattle.reo_top_inputs.specs.Commands.{command_of};
+ghost use Rattle.reo_top_inputs.specs.Statuses.{IsAmong, statuses_for};
 
 use reo_io::{DiskFiles, StdSink, StdSource};
 use reo_top::{Status, reo};

@@ -1,25 +1,22 @@
 -- From the words to the command that they are, and to what it has come to.
 use Rattle.std.proofs.Common.{◌≡◌, ◌∙◌, ◌⊎◌, inl, inr, ℕ, true, false, List, [], ◌∷◌, ◌++◌, sym, ap, subst, refl, arith}
+use Rattle.std.proofs.lemmas.List.{append-nil}
 use Rattle.std.specs.Prelude.{◌≢◌, Option, Some, None, IfSome, codes}
 use Rattle.reo_io.specs.Fetches.{Folder}
 use Rattle.reo_runner.specs.declared.outcome.Limits.{Limits}
-use Rattle.reo_top.specs.declared.command.Command.{Command}
-use Rattle.reo_top.specs.declared.command.Command.TheVariants.{Run}
+use Rattle.reo_top_inputs.specs.declared.command.Command.{Command}
+use Rattle.reo_top_inputs.specs.declared.command.Command.TheVariants.{Run}
 use Rattle.reo_top.specs.Answers.{IsAnswered, Answered, roles_for, names_for, free_for}
 use Rattle.reo_top.specs.Cases.{Refuses}
-use Rattle.reo_top.specs.Commands.{command_of, names_of, is_free, roles_of}
-use Rattle.reo_top.specs.Fetched.{Content, missed, AreTold}
+use Rattle.reo_top_inputs.specs.Commands.{command_of, names_of, is_free, roles_of}
+use Rattle.reo_top_inputs.specs.Fetched.{Content, missed, AreTold}
 use Rattle.reo_top.specs.Outputs.{Outputs, IsLine}
-use Rattle.reo_top.specs.Limits.{limits_of}
+use Rattle.reo_top_inputs.specs.Limits.{limits_of}
 use Rattle.reo_top.specs.Owed.{owed_of, owed_for, owed_by, TracesRun}
-use Rattle.reo_top.specs.Readings.{ReadsRun, StopsRun}
-use Rattle.reo_top.specs.States.{SinkState, FilesState, Change}
-use Rattle.reo_top.specs.Statuses.{IsAmong, statuses_of, statuses_for}
-use Rattle.reo_top.proofs.CaseLemmas.{line_cases, line_written}
-
-no_more : {A : Type 0} (xs : List A) → xs ++ [] ≡ xs
-no_more [] = refl
-no_more (x ∷ xs) = ap (λ ys. x ∷ ys) (no_more xs)
+use Rattle.reo_top_inputs.specs.Readings.{ReadsRun, StopsRun}
+use Rattle.reo_top_inputs.specs.States.{SinkState, FilesState, Change}
+use Rattle.reo_top_inputs.specs.Statuses.{IsAmong, statuses_of, statuses_for}
+use Rattle.reo_top.proofs.CaseLemmas.{line_cases, line_written, line_code, line_not_three, true_is_false}
 
 missed_none : (names : List (List ℕ)) → missed names [] ≡ []
 missed_none [] = refl
@@ -34,10 +31,6 @@ told_always None B f = tt
 told_always (Some x) B f = f x
 
 -- The status of one line, or of a sink that failed on it.
-line_code : (sink : Change SinkState) (code : ℕ) (line : List ℕ) (status : ℕ) → Refuses line status sink code → (code ≡ status) ⊎ (code ≡ 9)
-line_code sink code line status (inl k) = inl k.0
-line_code sink code line status (inr k) = inr k.0
-
 pub line_among : (sink : Change SinkState) (code : ℕ) (statuses : List ℕ) (line : List ℕ) (status : ℕ) → IsAmong statuses status → IsAmong statuses 9 → Refuses line status sink code → IsAmong statuses code
 line_among sink code statuses line status here nine h = elim (line_code sink code line status h) [
   | inl is ↦ subst (λ (k : ℕ). IsAmong statuses k) (sym is) here
@@ -70,13 +63,6 @@ module _ (words : List (List ℕ)) (files : Change FilesState) (sink : Change Si
   status_as command is h = subst (λ (o : Option Command). IsAmong (statuses_for o) code) (sym is) h
 
   -- One line is owed, and no file is fetched for it.
-  not_three : (status : ℕ) → status ≢ 3 → (code ≡ status) ⊎ (code ≡ 9) → code ≡ 3 → ⊥
-  not_three status other (inl is) three = other (sym is ∙ three)
-  not_three status other (inr nine) three = omega (arith, nine, three)
-
-  none_gone : false ≡ true → ⊥
-  none_gone e = cc
-
   pub line_answered : (Owed : List Content → Outputs) (names : List (List ℕ)) (line : List ℕ) (status : ℕ) → Owed [] line status
       → ((bytes : List ℕ) (other : ℕ) → Owed [] bytes other → IsLine line status bytes other) → status ≢ 3
       → files.new ≡ files.old → Refuses line status sink code → IsAnswered false Owed [] names files sink code
@@ -85,13 +71,13 @@ module _ (words : List (List ℕ)) (files : Change FilesState) (sink : Change Si
     fetched = record {
       few = omega arith;
       count = ap (λ (f : FilesState). f.fetches) same;
-      failed = ap (λ (f : FilesState). f.failed) same ∙ sym (no_more files.old.failed) ∙ ap (λ (ns : List (List ℕ)). files.old.failed ++ ns) (sym (missed_none names));
+      failed = ap (λ (f : FilesState). f.failed) same ∙ sym (append-nil files.old.failed) ∙ ap (λ (ns : List (List ℕ)). files.old.failed ++ ns) (sym (missed_none names));
       same = ap (λ (f : FilesState). f.told) same;
       told = told_always files.old.told (λ folder. AreTold folder [] names []) (λ folder. told_none folder names);
     };
     cases = line_cases sink code (Owed []) line status owed h;
     exact = λ bytes more is. line_written sink code line status h bytes more (only bytes more is);
-    blames = record { only = λ three. absurd (not_three status other (line_code sink code line status h) three); told = λ gone. absurd (none_gone gone) };
+    blames = record { only = λ three. absurd (line_not_three sink code line status other h three); told = λ gone. absurd (true_is_false false gone refl) };
   }
 
   -- Words without form.

@@ -4,8 +4,8 @@ ghost use Rattle.std.specs.Fmt.{decimal};
 ghost use Rattle.reo_verdicts.specs.declared.verdict.Verdict.TheVariants as verdicts;
 ghost use Rattle.reo_top.specs.VerdictTexts.{wrong_words, in_round, refusal_words, verdict_line, verdict_status};
 
-use crate::status::{DONE, TRACE_REFUSED};
 use reo_checker::Wrong;
+use reo_top_inputs::{DONE, TRACE_REFUSED};
 use reo_values::{Bytes, NoMemory};
 use reo_verify::{Refusal, Verdict};
 use std::alloc::Global;

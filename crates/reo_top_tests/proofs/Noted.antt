@@ -1,6 +1,6 @@
 -- A fetch that fails has its name noted.
 use Rattle.std.proofs.Common.{◌≡◌, ℕ, ◌≤◌, true, List, [], ◌∷◌, length, arith}
-use Rattle.reo_top.specs.Fetched.{Content, gone, long, text, unknown, has_gone, missed}
+use Rattle.reo_top_inputs.specs.Fetched.{Content, gone, long, text, unknown, has_gone, missed}
 
 pub is_noted : (names : List (List ℕ)) (answers : List Content) → length answers ≤ length names → has_gone answers ≡ true → [] ≡ missed names answers → ⊥
 is_noted [] [] few gone_is none = absurd (cc)

@@ -1,0 +1,28 @@
+//! What commands are told: their words, their files, what is read in these, and what stops a command
+//! before its own work.
+#![tactic(auto)]
+
+mod claim;
+mod command;
+mod fetching;
+mod limit;
+mod reading;
+mod refusal;
+mod role;
+mod setting;
+mod status;
+mod stop;
+mod texts;
+
+pub use claim::{Claim, read_claim};
+pub use command::{Command, command_of};
+pub use limit::limits_of;
+pub use reading::{Work, read_flat, read_program, read_run};
+pub use refusal::{Refusal, append_refusal};
+pub use role::Role;
+pub use setting::Setting;
+pub use status::{
+    CIRCUIT_REFUSED, DONE, LIMIT_REACHED, OUT_OF_MEMORY, PART_OVER, READ_FAULT, SCRIPT_REFUSED,
+    STUCK, Status, TOO_LONG, TRACE_REFUSED, WORDS_REFUSED, WRITE_FAULT,
+};
+pub use stop::Stop;
