@@ -1,5 +1,5 @@
 -- From what was read and written to what the command has come to.
-use Rattle.std.proofs.Common.{◌≡◌, ◌∙◌, ◌⊎◌, inl, inr, ℕ, true, false, List, sym, subst, ap, refl, arith}
+use Rattle.std.proofs.Common.{◌≡◌, ◌∙◌, ◌⊎◌, inl, inr, ℕ, false, List, sym, subst, ap, refl, arith}
 use Rattle.std.specs.Prelude.{◌≢◌, Err}
 use Rattle.reo_top_inputs.specs.declared.role.Role.{Role}
 use Rattle.reo_top_inputs.specs.declared.stop.Stop.{Stop}

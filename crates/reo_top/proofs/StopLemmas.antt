@@ -5,7 +5,7 @@ use Rattle.reo_top_inputs.specs.declared.role.Role.{Role}
 use Rattle.reo_top_inputs.specs.declared.role.Role.TheVariants.{Circuit, Script, Trace}
 use Rattle.reo_top_inputs.specs.declared.stop.Stop.{Stop}
 use Rattle.reo_top_inputs.specs.declared.stop.Stop.TheVariants.{Missed, TooLong, Refused, NoMemory}
-use Rattle.reo_top.specs.Cases.{Cases, IsExact, Refuses}
+use Rattle.reo_top.specs.Cases.{Cases, IsExact}
 use Rattle.reo_top.specs.Outputs.{Outputs, IsLine}
 use Rattle.reo_top_inputs.specs.Roles.{refused_status}
 use Rattle.reo_top_inputs.specs.States.{SinkState, Change}

@@ -19,9 +19,7 @@ use reo_io::{Files, Sink};
 use reo_kinds::Kind;
 use reo_runner::{End2, Limits, run};
 use reo_runs::{known_order, one_trace};
-use reo_top_inputs::{
-    DONE, LIMIT_REACHED, PART_OVER, STUCK, Status, WRITE_FAULT, Work, read_run,
-};
+use reo_top_inputs::{DONE, LIMIT_REACHED, PART_OVER, STUCK, Status, WRITE_FAULT, Work, read_run};
 use std::alloc::Global;
 
 /// Runs a script on a circuit, and writes the trace.
