@@ -1,0 +1,3 @@
+pub mod Names
+pub mod Circuits
+pub mod Scripts
