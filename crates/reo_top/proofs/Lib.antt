@@ -4,6 +4,7 @@ pub mod CompleteLemmas
 pub mod DoneLemmas
 pub mod HeadlineLemmas
 pub mod LineLemmas
+pub mod MeasureLemmas
 pub mod RunLemmas
 pub mod StopLemmas
 pub mod TopLemmas

@@ -1,30 +1,24 @@
 -- From the words to the command that they are, and to what it has come to.
-use Rattle.std.proofs.Common.{◌≡◌, ◌∙◌, inl, inr, ℕ, false, List, [], ◌∷◌, ◌++◌, sym, ap, subst, refl, arith}
-use Rattle.std.proofs.lemmas.List.{append-nil}
+use Rattle.std.proofs.Common.{◌≡◌, inl, inr, ℕ, false, List, [], ◌∷◌, sym, subst, refl, arith}
 use Rattle.std.specs.Prelude.{◌≢◌, Option, Some, None, IfSome, codes}
-use Rattle.reo_io.specs.Fetches.{Folder}
 use Rattle.reo_runner.specs.declared.outcome.Limits.{Limits}
 use Rattle.reo_top_inputs.specs.declared.command.Command.{Command}
-use Rattle.reo_top_inputs.specs.declared.command.Command.TheVariants.{Run}
+use Rattle.reo_top_inputs.specs.declared.command.Command.TheVariants.{Run, Bench}
 use Rattle.reo_top.specs.Answers.{IsAnswered, Answered, roles_for, names_for, free_for}
 use Rattle.reo_top.specs.Cases.{Refuses}
+use Rattle.reo_top_inputs.specs.Amounts.{size_of}
+use Rattle.reo_top_inputs.specs.Made.{ReadsMade, StopsMade}
+use Rattle.reo_top.specs.Measures.{MeasuresRun}
 use Rattle.reo_top_inputs.specs.Commands.{command_of, names_of, is_free, roles_of}
-use Rattle.reo_top_inputs.specs.Fetched.{Content, missed, AreTold}
+use Rattle.reo_top_inputs.specs.Fetched.{Content}
 use Rattle.reo_top.specs.Outputs.{Outputs, IsLine}
-use Rattle.reo_top_inputs.specs.Limits.{limits_of}
+use Rattle.reo_top_inputs.specs.Limits.{limits_of, usual_limits}
 use Rattle.reo_top.specs.Owed.{owed_of, owed_for, owed_by, TracesRun}
 use Rattle.reo_top_inputs.specs.Readings.{ReadsRun, StopsRun}
 use Rattle.reo_top_inputs.specs.States.{SinkState, FilesState, Change}
 use Rattle.reo_top_inputs.specs.Statuses.{IsAmong, statuses_of, statuses_for}
+use Rattle.reo_top_inputs.proofs.FetchLemmas.{none_fetched}
 use Rattle.reo_top.proofs.CaseLemmas.{line_cases, line_written, line_code, line_not_three, true_is_false}
-
-missed_none : (names : List (List ℕ)) → missed names [] ≡ []
-missed_none [] = refl
-missed_none (n ∷ ns) = refl
-
-told_none : (folder : Folder) (names : List (List ℕ)) → AreTold folder [] names []
-told_none folder [] = tt
-told_none folder (n ∷ ns) = tt
 
 pub told_always : {X : Type 0} (o : Option X) (B : X → Type 0) → ((x : X) → B x) → IfSome o B
 told_always None B f = tt
@@ -53,6 +47,11 @@ module _ (words : List (List ℕ)) (files : Change FilesState) (sink : Change Si
       answered_as Run (circuit ∷ script ∷ []) is named
       (subst (λ (l : Limits). IsAnswered (is_free Run) (owed_by ReadsRun StopsRun (TracesRun l)) (roles_of Run) (circuit ∷ script ∷ []) files sink code) same h)
 
+  pub bench_answered : (size : ℕ) → command_of words ≡ Some Bench → size ≡ size_of words
+      → IsAnswered (is_free Bench) (owed_by (ReadsMade size) (StopsMade size) (MeasuresRun size usual_limits)) [] [] files sink code → Answered words files sink code
+  bench_answered size is same h =
+      answered_as Bench [] is refl (subst (λ (n : ℕ). IsAnswered (is_free Bench) (owed_by (ReadsMade n) (StopsMade n) (MeasuresRun n usual_limits)) [] [] files sink code) same h)
+
   pub answered_with : (command : Command) (names : List (List ℕ)) → command_of words ≡ Some command → names_of command words ≡ names
       → Answered words files sink code → IsAnswered (is_free command) (owed_of command words) (roles_of command) names files sink code
   answered_with command names is named h =
@@ -68,13 +67,7 @@ module _ (words : List (List ℕ)) (files : Change FilesState) (sink : Change Si
       → files.new ≡ files.old → Refuses line status sink code → IsAnswered false Owed [] names files sink code
   line_answered Owed names line status owed only other same h = record {
     answers = [];
-    fetched = record {
-      few = omega arith;
-      count = ap (λ (f : FilesState). f.fetches) same;
-      failed = ap (λ (f : FilesState). f.failed) same ∙ sym (append-nil files.old.failed) ∙ ap (λ (ns : List (List ℕ)). files.old.failed ++ ns) (sym (missed_none names));
-      same = ap (λ (f : FilesState). f.told) same;
-      told = told_always files.old.told (λ folder. AreTold folder [] names []) (λ folder. told_none folder names);
-    };
+    fetched = none_fetched names files same;
     cases = line_cases sink code (Owed []) line status owed h;
     exact = λ bytes more is. line_written sink code line status h bytes more (only bytes more is);
     blames = record { only = λ three. absurd (line_not_three sink code line status other h three); told = λ gone. absurd (true_is_false false gone refl) };

@@ -2,6 +2,7 @@ pub mod Answers
 pub mod Cases
 pub mod Complete
 pub mod Headline
+pub mod Measures
 pub mod Outputs
 pub mod Owed
 pub mod Stopped

@@ -9,11 +9,14 @@ use Rattle.reo_trees.specs.declared.programs.Program.{Program}
 use Rattle.reo_syntax.specs.Canonical.{canonical_text}
 use Rattle.reo_parts.specs.Parts.{parts_text}
 use Rattle.reo_top_inputs.specs.declared.command.Command.{Command}
-use Rattle.reo_top_inputs.specs.declared.command.Command.TheVariants.{Run, Check, Print, Verify}
+use Rattle.reo_top_inputs.specs.declared.command.Command.TheVariants.{Run, Check, Print, Verify, Bench}
 use Rattle.reo_top_inputs.specs.declared.stop.Stop.{Stop}
 use Rattle.reo_top_inputs.specs.Claims.{Claimed, ReadsClaim, StopsVerify}
 use Rattle.reo_top_inputs.specs.Fetched.{Content}
-use Rattle.reo_top_inputs.specs.Limits.{limits_of, firsts_for}
+use Rattle.reo_top_inputs.specs.Limits.{limits_of, usual_limits, firsts_for}
+use Rattle.reo_top_inputs.specs.Amounts.{size_of}
+use Rattle.reo_top_inputs.specs.Made.{ReadsMade, StopsMade}
+use Rattle.reo_top.specs.Measures.{MeasuresRun}
 use Rattle.reo_top.specs.Outputs.{Outputs, IsLine}
 use Rattle.reo_top_inputs.specs.Readings.{FlatCircuit, Runnable, ReadsProgram, StopsPrint, ReadsCircuit, StopsCheck, ReadsRun, StopsRun}
 use Rattle.reo_top_inputs.specs.Statuses.{done, words_refused}
@@ -46,12 +49,14 @@ JudgesTrace c bytes code =
     × IsLine (verdict_line verdict) (verdict_status verdict) bytes code
 
 -- What a command owes for its words: a run the trace of the run within the limits of its options, a check the parts of the
--- circuit, a print the canonical text of the program, a verification the verdict on the trace.
+-- circuit, a print the canonical text of the program, a verification the verdict on the trace, a bench the line of the run of made
+-- work within the usual limits, for which nothing is fetched.
 abbrev pub owed_of : Command → List (List ℕ) → List Content → Outputs
 owed_of Run words = owed_by ReadsRun StopsRun (TracesRun (limits_of words))
 owed_of Check words = owed_by ReadsCircuit StopsCheck ListsParts
 owed_of Print words = owed_by ReadsProgram StopsPrint PrintsProgram
 owed_of Verify words = owed_by ReadsClaim StopsVerify JudgesTrace
+owed_of Bench words = owed_by (ReadsMade (size_of words)) (StopsMade (size_of words)) (MeasuresRun (size_of words) usual_limits)
 
 -- The same, or the refusal of words that have no form, for which nothing is fetched.
 abbrev pub owed_for : Option Command → List (List ℕ) → List Content → Outputs

@@ -2,7 +2,9 @@
 #![tactic(auto)]
 
 mod answer;
+mod append;
 mod checking;
+mod measuring;
 mod printing;
 mod refusing;
 mod running;

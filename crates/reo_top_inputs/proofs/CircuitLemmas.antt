@@ -40,9 +40,9 @@ module _ (text : List ℕ) where
   program_apart : (p : Program) (s : Stop) → SaysProgram text p → ProgramStops text s → ⊥
   program_apart p s a (r, b, is) = not_refused p r a b
 
-pub program_text : IsOneText Circuit SaysProgram ProgramStops
-program_text = record { one = one_program; apart = program_apart; one_stop = program_stop; refused = λ bytes s (r, a, is). (r, is) }
+pub program_law : IsOneText Circuit SaysProgram ProgramStops
+program_law = record { one = one_program; apart = program_apart; one_stop = program_stop; refused = λ bytes s (r, a, is). (r, is) }
 
 -- What a print reads.
 pub print_reading : IsOneReading ReadsProgram StopsPrint (statuses_of Print)
-print_reading = file_reading Circuit SaysProgram ProgramStops program_text (statuses_of Print) refl refl refl
+print_reading = file_reading Circuit SaysProgram ProgramStops program_law (statuses_of Print) refl refl refl

@@ -18,7 +18,7 @@ use Rattle.reo_top_inputs.specs.Readings.{FlatCircuit, IsCircuitText, Runnable, 
 use Rattle.reo_top_inputs.specs.Statuses.{IsAmong, statuses_of}
 use Rattle.reo_top_inputs.specs.Stops.{stop_status}
 use Rattle.reo_top_inputs.proofs.ReadLemmas.{IsOneReading, IsReadingAt, is_missed, file_reading}
-use Rattle.reo_top_inputs.proofs.TraceLemmas.{trace_text}
+use Rattle.reo_top_inputs.proofs.TraceLemmas.{trace_law}
 use Rattle.reo_top_inputs.proofs.WorkLemmas.{has_texts, run_reading_in}
 
 -- What a run reads, and what stops it, with the statuses of a verification.
@@ -79,7 +79,7 @@ module _ (one : OneAnswer) (spelled : (bytes : List ℕ) (p : Program) → SaysP
   run_told answers r short h = let t = has_texts answers r h in let s = subst AreShort t.is short in circuit_told t.circuit r.flat s.0 t.flat
 
   traces : (answers : List Content) (r : Runnable) → AreShort answers → ReadsRun answers r → IsOneReading (ReadsTrace r.flat.ports) (StopsTrace r.flat.ports) (statuses_of Verify)
-  traces answers r short h = file_reading Trace (IsTraceText r.flat.ports) (TraceStops r.flat.ports) (trace_text one r.flat.ports (run_told answers r short h)) (statuses_of Verify) refl refl refl
+  traces answers r short h = file_reading Trace (IsTraceText r.flat.ports) (TraceStops r.flat.ports) (trace_law one r.flat.ports (run_told answers r short h)) (statuses_of Verify) refl refl refl
 
   first_short : (a b t : Content) → AreShort (a ∷ b ∷ t ∷ []) → AreShort (a ∷ b ∷ [])
   first_short a b t short = (short.0, (short.1.0, tt))

@@ -1,6 +1,6 @@
 -- Files that are fetched one after another, and what is read in them.
 use Rattle.std.proofs.Common.{◌≡◌, ◌∙◌, ℕ, ◌+◌, ◌≤◌, true, false, List, [], ◌∷◌, ◌++◌, length, sym, subst, ap, refl, append_assoc, arith}
-use Rattle.std.proofs.lemmas.List.{length-append}
+use Rattle.std.proofs.lemmas.List.{append-nil, length-append}
 use Rattle.std.specs.Prelude.{Option, Some, None, IfSome, Result, Ok, Err}
 use Rattle.reo_io.specs.Fetches.{Folder, fetches_after}
 use Rattle.reo_top_inputs.specs.declared.role.Role.{Role}
@@ -163,3 +163,25 @@ is_noted (n ∷ ns) (gone ∷ cs) few gone_is none = some_more n (missed ns cs) 
 is_noted (n ∷ ns) (long ∷ cs) few gone_is none = is_noted ns cs (omega (arith, few)) gone_is none
 is_noted (n ∷ ns) (text bytes ∷ cs) few gone_is none = is_noted ns cs (omega (arith, few)) gone_is none
 is_noted (n ∷ ns) (unknown ∷ cs) few gone_is none = is_noted ns cs (omega (arith, few)) gone_is none
+
+-- No file is fetched.
+told_none : (folder : Folder) (names : List (List ℕ)) → AreTold folder [] names []
+told_none folder [] = tt
+told_none folder (n ∷ ns) = tt
+
+missed_none : (names : List (List ℕ)) → missed names [] ≡ []
+missed_none [] = refl
+missed_none (n ∷ ns) = refl
+
+if_any : {X : Type 0} (o : Option X) (B : X → Type 0) → ((x : X) → B x) → IfSome o B
+if_any None B f = tt
+if_any (Some x) B f = f x
+
+pub none_fetched : (names : List (List ℕ)) (files : Change FilesState) → files.new ≡ files.old → AreFetched [] names [] files
+none_fetched names files same = record {
+  few = omega arith;
+  count = ap (λ (f : FilesState). f.fetches) same;
+  failed = ap (λ (f : FilesState). f.failed) same ∙ sym (append-nil files.old.failed) ∙ ap (λ (ns : List (List ℕ)). files.old.failed ++ ns) (sym (missed_none names));
+  same = ap (λ (f : FilesState). f.told) same;
+  told = if_any files.old.told (λ folder. AreTold folder [] names []) (λ folder. told_none folder names);
+}

@@ -101,9 +101,9 @@ module _ (bytes : List ℕ) where
   circuit_refusal s (inl (r, a, is)) = (r, is)
   circuit_refusal s (inr (r, a, is)) = (r, is)
 
-pub circuit_text : IsOneText Circuit IsCircuitText CircuitStops
-circuit_text = record { one = one_circuit; apart = circuit_apart; one_stop = one_circuit_stop; refused = circuit_refusal }
+pub circuit_law : IsOneText Circuit IsCircuitText CircuitStops
+circuit_law = record { one = one_circuit; apart = circuit_apart; one_stop = one_circuit_stop; refused = circuit_refusal }
 
 -- What a check reads.
 pub check_reading : IsOneReading ReadsCircuit StopsCheck (statuses_of Check)
-check_reading = file_reading Circuit IsCircuitText CircuitStops circuit_text (statuses_of Check) refl refl refl
+check_reading = file_reading Circuit IsCircuitText CircuitStops circuit_law (statuses_of Check) refl refl refl

@@ -2,6 +2,7 @@ pub mod CircuitLemmas
 pub mod ClaimLemmas
 pub mod FetchLemmas
 pub mod FlatLemmas
+pub mod MadeLemmas
 pub mod NumberLemmas
 pub mod PortLemmas
 pub mod ReadLemmas

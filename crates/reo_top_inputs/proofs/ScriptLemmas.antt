@@ -46,5 +46,5 @@ module _ (ports : List Port) (text : List ℕ) where
   script_refusal_of : (s : Stop) → ScriptStops ports text s → (r : Refusal) × (s ≡ Refused Script r)
   script_refusal_of s (r, a, is) = (r, is)
 
-pub script_text : (ports : List Port) → IsOneText Script (λ bytes (script : Said). Answers bytes ports (Ok script)) (ScriptStops ports)
-script_text ports = record { one = one_script ports; apart = script_apart ports; one_stop = one_script_stop ports; refused = script_refusal_of ports }
+pub script_law : (ports : List Port) → IsOneText Script (λ bytes (script : Said). Answers bytes ports (Ok script)) (ScriptStops ports)
+script_law ports = record { one = one_script ports; apart = script_apart ports; one_stop = one_script_stop ports; refused = script_refusal_of ports }

@@ -33,5 +33,5 @@ module _ (one : OneAnswer) (ports : List Port) (told : AreTold ports) (text : Li
   trace_refusal_of : (s : Stop) → TraceStops ports text s → (r : Refusal) × (s ≡ Refused Trace r)
   trace_refusal_of s (r, a, is) = (r, is)
 
-pub trace_text : OneAnswer → (ports : List Port) → AreTold ports → IsOneText Trace (IsTraceText ports) (TraceStops ports)
-trace_text one ports told = record { one = one_trace one ports told; apart = trace_apart one ports told; one_stop = one_trace_stop one ports told; refused = trace_refusal_of one ports told }
+pub trace_law : OneAnswer → (ports : List Port) → AreTold ports → IsOneText Trace (IsTraceText ports) (TraceStops ports)
+trace_law one ports told = record { one = one_trace one ports told; apart = trace_apart one ports told; one_stop = one_trace_stop one ports told; refused = trace_refusal_of one ports told }

@@ -2,10 +2,11 @@
 use Rattle.std.proofs.Common.{◌≡◌, ◌∙◌, ℕ, Bool, true, false, cond, List, [], ◌∷◌, length, get_or, take, drop, sym, ap, refl, arith}
 use Rattle.std.proofs.lemmas.Bool.Decides.{nat_tests}
 use Rattle.std.specs.Prelude.{Option, Some, None, find, ◌&&◌, ◌==◌}
+use Rattle.reo_top_inputs.specs.declared.amount.Amount.{Amount}
 use Rattle.reo_top_inputs.specs.declared.command.Command.{Command}
-use Rattle.reo_top_inputs.specs.declared.command.Command.TheVariants.{Run, Check, Print, Verify}
+use Rattle.reo_top_inputs.specs.declared.command.Command.TheVariants.{Run, Check, Print, Verify, Bench}
 use Rattle.reo_top_inputs.specs.declared.setting.Setting.{Setting}
-use Rattle.reo_top_inputs.specs.Commands.{command_of, command_word, commands, names_of, is_form, fits, roles_of, settings_of}
+use Rattle.reo_top_inputs.specs.Commands.{command_of, command_word, commands, names_of, is_form, fits, roles_of, amounts_of, settings_of}
 
 no : false ≡ true → ⊥
 no e = cc
@@ -15,9 +16,9 @@ second true true c d h = refl
 second true false c d h = h
 second false b c d h = absurd (no h)
 
-form_length : (word : List ℕ) (count : ℕ) (settings : List Setting) (words : List (List ℕ)) → is_form word count settings words ≡ true → length (take count (drop 1 words)) ≡ count
-form_length word count settings [] is = absurd (no is)
-form_length word count settings (first ∷ others) is = let same : (length (take count others) == count) ≡ true = second _ (length (take count others) == count) _ _ is in grind (arith, nat_tests)
+form_length : (word : List ℕ) (count : ℕ) (amounts : List Amount) (settings : List Setting) (words : List (List ℕ)) → is_form word count amounts settings words ≡ true → length (take count (drop 1 words)) ≡ count
+form_length word count amounts settings [] is = absurd (no is)
+form_length word count amounts settings (first ∷ others) is = let same : (length (take count others) == count) ≡ true = second _ (length (take count others) == count) _ _ is in grind (arith, nat_tests)
 
 pub two_names : (words : List (List ℕ)) → length (names_of Run words) ≡ 2 → names_of Run words ≡ get_or words 1 [] ∷ get_or words 2 [] ∷ []
 two_names [] e = absurd (omega (arith, e))
@@ -65,14 +66,14 @@ fit_is words command is = found (fits words) commands command is
 
 -- A command has a name for each of its files.
 pub names_fit : (words : List (List ℕ)) (command : Command) → command_of words ≡ Some command → length (names_of command words) ≡ length (roles_of command)
-names_fit words command is = form_length (command_word command) (length (roles_of command)) (settings_of command) words (fit_is words command is)
+names_fit words command is = form_length (command_word command) (length (roles_of command)) (amounts_of command) (settings_of command) words (fit_is words command is)
 
 -- Words are those of one command at most.
 pub no_run : (o : Option Command) → o ≡ None → o ≡ Some Run → ⊥
 no_run o none some = cc
 
-pub verify_is_no_run : (o : Option Command) → o ≡ Some Verify → o ≡ Some Run → ⊥
-verify_is_no_run o verify run = cc
+pub is_no_run : (o : Option Command) (c : Command) → (c ≡ Run → ⊥) → o ≡ Some c → o ≡ Some Run → ⊥
+is_no_run o c other is run = other (command_is c Run o o is run refl)
 
 -- What the code sees of the words.
 module _ (words seen : List (List ℕ)) (same : seen ≡ words) where

@@ -11,9 +11,9 @@ use Rattle.reo_top_inputs.specs.Readings.{FlatCircuit, IsCircuitText, CircuitSto
 use Rattle.reo_top_inputs.specs.ReadSteps.{ReadsScript, StopsScript}
 use Rattle.reo_top_inputs.specs.Statuses.{IsAmong, statuses_of, read_fault, too_long, circuit_refused, script_refused}
 use Rattle.reo_top_inputs.specs.Stops.{stop_status}
-use Rattle.reo_top_inputs.proofs.FlatLemmas.{circuit_text}
+use Rattle.reo_top_inputs.proofs.FlatLemmas.{circuit_law}
 use Rattle.reo_top_inputs.proofs.ReadLemmas.{IsOneReading, is_missed, file_reading}
-use Rattle.reo_top_inputs.proofs.ScriptLemmas.{script_text}
+use Rattle.reo_top_inputs.proofs.ScriptLemmas.{script_law}
 
 -- A run reads two texts.
 pub record HasTexts (r : Runnable) (answers : List Content) : Type 0 where
@@ -74,9 +74,9 @@ module _ (flat : FlatCircuit) where
 -- One circuit and one script are read, or one thing stops the run.
 same_work : (c d : List ℕ) (x y : Runnable) → IsCircuitText c x.flat → Answers d x.flat.ports (Ok x.script) → ReadsRun (text c ∷ text d ∷ []) y → x ≡ y
 same_work c d x y flat said other =
-    let flats : x.flat ≡ y.flat = circuit_text.one c x.flat y.flat flat other.0 in
+    let flats : x.flat ≡ y.flat = circuit_law.one c x.flat y.flat flat other.0 in
     let there : Answers d x.flat.ports (Ok y.script) = subst (λ (f : FlatCircuit). Answers d f.ports (Ok y.script)) (sym flats) other.1 in
-    let scripts : x.script ≡ y.script = (script_text x.flat.ports).one d x.script y.script said there in
+    let scripts : x.script ≡ y.script = (script_law x.flat.ports).one d x.script y.script said there in
     λ i. record { flat = flats i; script = scripts i }
 
 run_one : (answers : List Content) (x y : Runnable) → ReadsRun answers x → ReadsRun answers y → x ≡ y
@@ -84,22 +84,22 @@ run_one answers x y a b = let t = has_texts answers x a in same_work t.circuit t
 
 no_stop : (c d : List ℕ) (x : Runnable) (s : Stop) → IsCircuitText c x.flat → Answers d x.flat.ports (Ok x.script) → StopsRun (text c ∷ text d ∷ []) s → ⊥
 no_stop c d x s flat said (f, is, stop) =
-    (script_text f.ports).apart d x.script s (subst (λ (g : FlatCircuit). Answers d g.ports (Ok x.script)) (circuit_text.one c x.flat f flat is) said) stop
+    (script_law f.ports).apart d x.script s (subst (λ (g : FlatCircuit). Answers d g.ports (Ok x.script)) (circuit_law.one c x.flat f flat is) said) stop
 
 run_apart : (answers : List Content) (x : Runnable) (s : Stop) → ReadsRun answers x → StopsRun answers s → ⊥
 run_apart answers x s a b = let t = has_texts answers x a in no_stop t.circuit t.script x s t.flat t.said (subst (λ (cs : List Content). StopsRun cs s) t.is b)
 
 module _ (statuses : List ℕ) (missing : IsAmong statuses read_fault) (over : IsAmong statuses too_long) (fifth : IsAmong statuses circuit_refused) (sixth : IsAmong statuses script_refused) where
   scripts : (f : FlatCircuit) → IsOneReading (ReadsScript f.ports) (StopsScript f.ports) statuses
-  scripts f = file_reading Script (λ bytes (script : Said). Answers bytes f.ports (Ok script)) (ScriptStops f.ports) (script_text f.ports) statuses missing over sixth
+  scripts f = file_reading Script (λ bytes (script : Said). Answers bytes f.ports (Ok script)) (ScriptStops f.ports) (script_law f.ports) statuses missing over sixth
 
   circuits : IsOneReading ReadsCircuit StopsCheck statuses
-  circuits = file_reading Circuit IsCircuitText CircuitStops circuit_text statuses missing over fifth
+  circuits = file_reading Circuit IsCircuitText CircuitStops circuit_law statuses missing over fifth
 
   run_stop : (answers : List Content) (s t : Stop) → StopsRun answers s → StopsRun answers t → s ≡ t
   run_stop (c ∷ []) s t a b = circuits.one_stop (c ∷ []) s t a b
   run_stop (text c ∷ d ∷ []) s t (f, is, a) (g, so, b) =
-      (scripts f).one_stop (d ∷ []) s t a (subst (λ (h : FlatCircuit). StopsScript h.ports (d ∷ []) t) (circuit_text.one c g f so is) b)
+      (scripts f).one_stop (d ∷ []) s t a (subst (λ (h : FlatCircuit). StopsScript h.ports (d ∷ []) t) (circuit_law.one c g f so is) b)
   run_stop [] s t a b = absurd a
   run_stop (gone ∷ d ∷ cs) s t a b = absurd a
   run_stop (long ∷ d ∷ cs) s t a b = absurd a

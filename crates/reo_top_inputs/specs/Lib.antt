@@ -1,7 +1,10 @@
+pub mod Amounts
 pub mod Claims
 pub mod Commands
 pub mod Fetched
 pub mod Limits
+pub mod Made
+pub mod Numbers
 pub mod ReadSteps
 pub mod Readings
 pub mod Refusals

@@ -13,6 +13,10 @@ use Rattle.reo_top_inputs.specs.Settings.{absent}
 abbrev pub budget : ℕ
 budget = 100000
 
+-- How far a run may go where no option says it.
+abbrev pub usual_limits : Limits
+usual_limits = record { budget = budget; rounds = absent Rounds }
+
 -- How far the run of these words may go: as many rounds as their option says.
 abbrev pub limits_of : List (List ℕ) → Limits
 limits_of words = record {

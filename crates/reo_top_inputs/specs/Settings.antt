@@ -1,11 +1,9 @@
 -- The options of commands: numbers, each behind a word of its own.
-use Rattle.std.specs.Prelude.{ℕ, ◌==◌, ◌&&◌, nat_le, cond, Bool, false, not, List, [], ◌∷◌, Option, Some, None, drop, length, codes, option_and_then, option_map, slice_index_or}
-use Rattle.std.specs.List.{list_all}
+use Rattle.std.specs.Prelude.{ℕ, cond, Bool, false, List, [], ◌∷◌, Option, Some, None, drop, codes, option_and_then, option_map, slice_index_or}
 use Rattle.std.specs.Str.{bytes_eq}
-use Rattle.reo_values.specs.Names.{is_digit}
-use Rattle.reo_grammar.specs.Tokens.{number_from}
 use Rattle.reo_top_inputs.specs.declared.setting.Setting.{Setting}
 use Rattle.reo_top_inputs.specs.declared.setting.Setting.TheVariants.{Rounds}
+use Rattle.reo_top_inputs.specs.Numbers.{number_in}
 
 -- The word of an option.
 abbrev pub setting_word : Setting → List ℕ
@@ -23,14 +21,9 @@ most Rounds = 1000000000
 abbrev pub absent : Setting → ℕ
 absent Rounds = 100000
 
--- One to ten digits, of which the first may be zero.
-abbrev pub is_number : List ℕ → Bool
-is_number word = not (length word == 0) && (nat_le (length word) 10 && list_all is_digit word)
-
--- The number that such a word says, in the range of the option.
+-- The number that a word says, in the range of the option.
 abbrev pub number_behind : Setting → List ℕ → Option ℕ
-number_behind s word =
-    cond (is_number word && (nat_le (least s) (number_from 0 word) && nat_le (number_from 0 word) (most s))) (Some (number_from 0 word)) None
+number_behind s word = number_in (least s) (most s) word
 
 -- Whether the option stands at the front of these words.
 abbrev pub stands : Setting → List (List ℕ) → Bool

@@ -2,7 +2,7 @@
 use Rattle.std.specs.Prelude.{ℕ, ◌==◌, List, [], ◌∷◌, Option, Some, None, IsTrue}
 use Rattle.std.specs.List.{list_any}
 use Rattle.reo_top_inputs.specs.declared.command.Command.{Command}
-use Rattle.reo_top_inputs.specs.declared.command.Command.TheVariants.{Run, Check, Print, Verify}
+use Rattle.reo_top_inputs.specs.declared.command.Command.TheVariants.{Run, Check, Print, Verify, Bench}
 
 -- Each component is at its end, or another command did its work.
 abbrev pub done : ℕ
@@ -62,6 +62,7 @@ statuses_of Run = done ∷ stuck ∷ script_refused ∷ part_over ∷ limit_reac
 statuses_of Check = done ∷ circuit_statuses
 statuses_of Print = done ∷ circuit_statuses
 statuses_of Verify = done ∷ script_refused ∷ trace_refused ∷ circuit_statuses
+statuses_of Bench = done ∷ circuit_refused ∷ script_refused ∷ part_over ∷ write_fault ∷ out_of_memory ∷ []
 
 -- The statuses of the command, or of the refusal of words that have none.
 abbrev pub statuses_for : Option Command → List ℕ

@@ -1,7 +1,8 @@
 //! The commands, and their words.
 ghost use Rattle.std.specs.Prelude.{◌≡◌, drop, find, length};
-ghost use Rattle.reo_top_inputs.specs.Commands.{command_of, command_word, none_empty, are_names, follows, fits, roles_of, settings_of, others_of};
+ghost use Rattle.reo_top_inputs.specs.Commands.{command_of, command_word, none_empty, are_names, are_numbers, follows, fits, roles_of, amounts_of, settings_of, behind_names};
 
+use crate::amount::{Amount, are_amounts};
 use crate::setting::{Setting, are_options};
 use reo_values::Bytes;
 
@@ -16,14 +17,17 @@ pub enum Command {
     Print,
     /// `verify CIRCUIT SCRIPT TRACE` writes the verdict on the trace.
     Verify,
+    /// `bench N` runs made work of size N, and writes what came of it in one line.
+    Bench,
 }
 
 /// All commands.
-const COMMANDS: [Command; 4] = [
+const COMMANDS: [Command; 5] = [
     Command::Run,
     Command::Check,
     Command::Print,
     Command::Verify,
+    Command::Bench,
 ];
 
 impl Command {
@@ -36,6 +40,7 @@ impl Command {
             Command::Check => b"check",
             Command::Print => b"print",
             Command::Verify => b"verify",
+            Command::Bench => b"bench",
         }
     }
 
@@ -47,6 +52,17 @@ impl Command {
             Command::Run => 2,
             Command::Check | Command::Print => 1,
             Command::Verify => 3,
+            Command::Bench => 0,
+        }
+    }
+
+    /// The amounts that the command is told, in order.
+    fn amounts(self) -> &'static [Amount]
+        ensures { result.now ≡ amounts_of self }
+    {
+        match self {
+            Command::Bench => &[Amount::Size],
+            Command::Run | Command::Check | Command::Print | Command::Verify => &[],
         }
     }
 
@@ -56,7 +72,7 @@ impl Command {
     {
         match self {
             Command::Run => &[Setting::Rounds],
-            Command::Check | Command::Print | Command::Verify => &[],
+            Command::Check | Command::Print | Command::Verify | Command::Bench => &[],
         }
     }
 }
@@ -75,20 +91,29 @@ fn are_names(count: usize, words: &[Bytes]) -> bool
     words.len() == count && none_empty(words)
 }
 
-/// Whether the words behind the first are names for a command's files and its options.
+/// Whether the words behind the names are a command's amounts and its options.
+fn are_numbers(command: Command, others: &[Bytes]) -> bool
+    ensures { result ≡ are_numbers (amounts_of command) (settings_of command) others.now }
+{
+    let amounts = command.amounts();
+    let options = others.get(amounts.len()..).unwrap_or(&[]);
+    are_amounts(amounts, others) && are_options(command.settings(), options)
+}
+
+/// Whether the words behind the first are names for a command's files, its amounts and its options.
 fn follow(command: Command, others: &[Bytes]) -> bool
-    ensures { result ≡ follows (length (roles_of command)) (settings_of command) others.now }
+    ensures { let count = length (roles_of command) in
+        result ≡ follows count (amounts_of command) (settings_of command) others.now }
 {
     let count = command.files();
     match (others.get(..count), others.get(count..)) {
-        (Some(names), Some(options)) => are_names(count, names)
-            && are_options(command.settings(), options),
+        (Some(names), Some(rest)) => are_names(count, names) && are_numbers(command, rest),
         _ => false,
     }
 }
 
-/// Whether these are the words of a command: its own, a name for each of its files, and its
-/// options.
+/// Whether these are the words of a command: its own, a name for each of its files, its amounts,
+/// and its options.
 fn fits(words: &[Bytes], command: Command) -> bool
     ensures { result ≡ fits words.now command }
 {
@@ -120,9 +145,17 @@ pub fn command_of(words: &[Bytes]) -> Option<Command>
     first_that_fits(words, &COMMANDS)
 }
 
-/// The words of the options of a command, in words that have its form.
-pub(crate) fn options_of(command: Command, words: &[Bytes]) -> &[Bytes]
-    ensures { result.now ≡ drop (length (roles_of command)) (others_of words.now) }
+/// The words behind the names, in words that have the form of a command.
+fn behind_names(command: Command, words: &[Bytes]) -> &[Bytes]
+    ensures { result.now ≡ behind_names command words.now }
 {
     words.get(1 + command.files()..).unwrap_or(&[])
+}
+
+/// The words of the options of a command, in words that have its form.
+pub(crate) fn options_of(command: Command, words: &[Bytes]) -> &[Bytes]
+    ensures { result.now ≡ drop (length (amounts_of command)) (behind_names command words.now) }
+{
+    let told = behind_names(command, words);
+    told.get(command.amounts().len()..).unwrap_or(&[])
 }

@@ -2,10 +2,13 @@
 //! before its own work.
 #![tactic(auto)]
 
+mod amount;
 mod claim;
 mod command;
 mod fetching;
 mod limit;
+mod made;
+mod number;
 mod reading;
 mod refusal;
 mod role;
@@ -14,9 +17,11 @@ mod status;
 mod stop;
 mod texts;
 
+pub use amount::{Amount, size_of};
 pub use claim::{Claim, read_claim};
 pub use command::{Command, command_of};
-pub use limit::limits_of;
+pub use limit::{limits_of, usual_limits};
+pub use made::make_run;
 pub use reading::{Work, read_flat, read_program, read_run};
 pub use refusal::{Refusal, append_refusal};
 pub use role::Role;

@@ -1,11 +1,9 @@
 //! The options of commands: numbers, each behind a word of its own.
-ghost use Rattle.std.specs.Prelude.{◌≡◌, ◌≤◌, length, true, option_and_then, slice_get};
-ghost use Rattle.std.specs.List.{list_all};
+ghost use Rattle.std.specs.Prelude.{◌≡◌, option_and_then, slice_get};
 ghost use Rattle.std.specs.Option.{is_some};
-ghost use Rattle.reo_values.specs.Names.{is_digit};
-ghost use Rattle.reo_grammar.specs.Tokens.{number_from};
-ghost use Rattle.reo_top_inputs.specs.Settings.{setting_word, least, most, absent, is_number, number_behind, stands, number_of, behind, numbers_of};
+ghost use Rattle.reo_top_inputs.specs.Settings.{setting_word, least, most, absent, number_behind, stands, number_of, behind, numbers_of};
 
+use crate::number::number_in;
 use reo_values::Bytes;
 
 /// An option of a command.
@@ -53,53 +51,11 @@ impl Setting {
     }
 }
 
-/// Whether a byte is a decimal digit.
-fn is_digit(byte: u8) -> bool
-    ensures { result ≡ is_digit byte }
-{
-    b'0' <= byte && byte <= b'9'
-}
-
-/// Whether each byte is a decimal digit.
-fn are_digits(word: &[u8]) -> bool
-    ensures { result ≡ list_all is_digit word.now }
-{
-    word.iter().all(|byte| is_digit(*byte))
-}
-
-/// Whether a word is one to ten digits.
-fn is_number(word: &[u8]) -> bool
-    ensures { result ≡ is_number word.now }
-{
-    !word.is_empty() && word.len() <= 10 && are_digits(word)
-}
-
-/// The number of at most ten digits.
-fn value_of(digits: &[u8]) -> u64
-    requires digits { list_all is_digit digits.now ≡ true }
-    requires few { length digits.now ≤ 10 }
-    ensures { result ≡ number_from 0 digits.now }
-{
-    let mut value: u64 = 0;
-    for digit in digits {
-        value = value * 10 + (*digit - b'0') as u64;
-    }
-    value
-}
-
 /// The number that a word says, in the range of an option.
 fn number_behind(setting: Setting, word: &[u8]) -> Option<u64>
     ensures { result ≡ number_behind setting word.now }
 {
-    if !is_number(word) {
-        return None;
-    }
-    let number = value_of(word);
-    if setting.least() <= number && number <= setting.most() {
-        Some(number)
-    } else {
-        None
-    }
+    number_in(setting.least(), setting.most(), word)
 }
 
 /// Whether an option stands at the front of these words.

@@ -1,7 +1,7 @@
 use Rattle.std.proofs.Common.{arith}
 use Rattle.reo_cursor.proofs.Digits.{step-below, digit-at}
 use Rattle.reo_top_inputs.proofs.NumberLemmas.{ten-digits}
-use Rattle.reo_top_inputs.proofs.setting.value_of.Goals as goal
+use Rattle.reo_top_inputs.proofs.number.value_of.Goals as goal
 
 pub overflow_mul-value : goal.overflow_mul-value
 overflow_mul-value c =
