@@ -1,5 +1,7 @@
 //! The command: `run CIRCUIT SCRIPT [--rounds N]` writes the trace of the script on the circuit,
-//! `check CIRCUIT` the parts of the circuit, `print CIRCUIT` the canonical text of the circuit.
+//! `check CIRCUIT` the parts of the circuit, `print CIRCUIT` the canonical text of the circuit,
+//! `verify CIRCUIT SCRIPT TRACE` the verdict on the trace, `bench N` what came of the run of made
+//! work.
 #![tactic(auto)]
 
 ghost use Rattle.std.specs.Prelude.{◌≡◌, ◌≢◌, [], map, drop, IfErr, IfOk, IsErr, MatchResult};

@@ -16,15 +16,20 @@ use Rattle.reo_runs.specs.Run.{Place, Leads, IsRun, firsts, place_after}
 use Rattle.reo_runs.specs.Whole.{HasOneRun}
 use Rattle.reo_runs.specs.Written.{moved, is_in, is_out}
 use Rattle.reo_top_inputs.specs.declared.command.Command.TheVariants.{Bench}
-use Rattle.reo_top_inputs.specs.Limits.{firsts_for}
+use Rattle.reo_gen.specs.Circuits.{circuit_text}
+use Rattle.reo_gen.specs.Scripts.{script_text}
+use Rattle.reo_top_inputs.specs.Fetched.{text}
+use Rattle.reo_top_inputs.specs.Limits.{usual_limits, firsts_for}
+use Rattle.reo_top_inputs.specs.Made.{ReadsMade}
 use Rattle.reo_top_inputs.specs.Readings.{Runnable}
 use Rattle.reo_top_inputs.specs.States.{SinkState, Change}
 use Rattle.reo_top_inputs.specs.Statuses.{IsAmong, statuses_of}
+use Rattle.reo_top_inputs.proofs.WorkLemmas.{run_reading}
 use Rattle.reo_top_inputs.proofs.ResultLemmas.{some_is, none_is_some}
 use Rattle.reo_top.specs.Cases.{Cases, IsExact, IsFair, Refuses}
-use Rattle.reo_top.specs.Measures.{measure_line, measure_status, MeasuresRun, ending_for}
+use Rattle.reo_top.specs.Measures.{measure_line, measure_status, MeasuresRun, MeasuresMade, ending_for}
 use Rattle.reo_top.specs.Outputs.{IsLine}
-use Rattle.reo_top.proofs.CaseLemmas.{line_cases, line_written}
+use Rattle.reo_top.proofs.CaseLemmas.{lifted, line_cases, line_written}
 use Rattle.reo_top.proofs.RunLemmas.{start_for}
 
 -- The pieces of the line, one after another.
@@ -137,15 +142,19 @@ status_in (Limit rounds) = refl
 status_in (Spent round knot weight budget) = refl
 status_in (Wide round knot) = refl
 
-pub measured_status : (size : ℕ) (limits : Limits) (r : Runnable) (bytes : List ℕ) (status : ℕ) → MeasuresRun size limits r bytes status → IsAmong (statuses_of Bench) status
+measured_status : (size : ℕ) (limits : Limits) (r : Runnable) (bytes : List ℕ) (status : ℕ) → MeasuresRun size limits r bytes status → IsAmong (statuses_of Bench) status
 measured_status size limits r bytes status (lines, ending, _, line) = subst (λ (k : ℕ). IsAmong (statuses_of Bench) k) (sym line.1) (status_in ending)
 
-not_three : (ending : Ending) → measure_status ending ≢ 3
-not_three (Done rounds) e = omega (arith, e)
-not_three (Stuck rounds) e = omega (arith, e)
-not_three (Limit rounds) e = omega (arith, e)
-not_three (Spent round knot weight budget) e = omega (arith, e)
-not_three (Wide round knot) e = omega (arith, e)
+-- The same of made work, which is read as one thing.
+module _ (size : ℕ) (sink : Change SinkState) (code : ℕ) (r : Runnable) where
+  pub made_cases : ReadsMade size r → Cases (MeasuresRun size usual_limits r) sink code → Cases (MeasuresMade size) sink code
+  made_cases reads cases = lifted sink code (MeasuresRun size usual_limits r) (MeasuresMade size) (λ bytes status owed. (r, reads, owed)) cases
 
-pub measured_not_three : (size : ℕ) (limits : Limits) (r : Runnable) (bytes : List ℕ) (status : ℕ) → MeasuresRun size limits r bytes status → status ≢ 3
-measured_not_three size limits r bytes status (lines, ending, _, line) e = not_three ending (sym line.1 ∙ e)
+  pub made_exact : ReadsMade size r → IsExact (MeasuresRun size usual_limits r) sink code → IsExact (MeasuresMade size) sink code
+  made_exact reads exact = λ bytes status (x, other, owed).
+      exact bytes status (subst (λ (y : Runnable). MeasuresRun size usual_limits y bytes status) (run_reading.one (text (circuit_text size) ∷ text (script_text size) ∷ []) x r other reads) owed)
+
+  pub made_status : Cases (MeasuresRun size usual_limits r) sink code → IsAmong (statuses_of Bench) code
+  made_status (inl wrote) = measured_status size usual_limits r wrote.bytes code wrote.owed
+  made_status (inr (inl broke)) = subst (λ (k : ℕ). IsAmong (statuses_of Bench) k) (sym broke.code_is) refl
+  made_status (inr (inr ran_out)) = subst (λ (k : ℕ). IsAmong (statuses_of Bench) k) (sym ran_out.code_is) refl

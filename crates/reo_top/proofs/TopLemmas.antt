@@ -5,14 +5,13 @@ use Rattle.reo_runner.specs.declared.outcome.Limits.{Limits}
 use Rattle.reo_top_inputs.specs.declared.command.Command.{Command}
 use Rattle.reo_top_inputs.specs.declared.command.Command.TheVariants.{Run, Bench}
 use Rattle.reo_top.specs.Answers.{IsAnswered, Answered, roles_for, names_for, free_for}
-use Rattle.reo_top.specs.Cases.{Refuses}
+use Rattle.reo_top.specs.Cases.{Cases, IsExact, Refuses}
 use Rattle.reo_top_inputs.specs.Amounts.{size_of}
-use Rattle.reo_top_inputs.specs.Made.{ReadsMade, StopsMade}
-use Rattle.reo_top.specs.Measures.{MeasuresRun}
+use Rattle.reo_top.specs.Measures.{MeasuresMade}
 use Rattle.reo_top_inputs.specs.Commands.{command_of, names_of, is_free, roles_of}
 use Rattle.reo_top_inputs.specs.Fetched.{Content}
 use Rattle.reo_top.specs.Outputs.{Outputs, IsLine}
-use Rattle.reo_top_inputs.specs.Limits.{limits_of, usual_limits}
+use Rattle.reo_top_inputs.specs.Limits.{limits_of}
 use Rattle.reo_top.specs.Owed.{owed_of, owed_for, owed_by, TracesRun}
 use Rattle.reo_top_inputs.specs.Readings.{ReadsRun, StopsRun}
 use Rattle.reo_top_inputs.specs.States.{SinkState, FilesState, Change}
@@ -47,11 +46,6 @@ module _ (words : List (List ℕ)) (files : Change FilesState) (sink : Change Si
       answered_as Run (circuit ∷ script ∷ []) is named
       (subst (λ (l : Limits). IsAnswered (is_free Run) (owed_by ReadsRun StopsRun (TracesRun l)) (roles_of Run) (circuit ∷ script ∷ []) files sink code) same h)
 
-  pub bench_answered : (size : ℕ) → command_of words ≡ Some Bench → size ≡ size_of words
-      → IsAnswered (is_free Bench) (owed_by (ReadsMade size) (StopsMade size) (MeasuresRun size usual_limits)) [] [] files sink code → Answered words files sink code
-  bench_answered size is same h =
-      answered_as Bench [] is refl (subst (λ (n : ℕ). IsAnswered (is_free Bench) (owed_by (ReadsMade n) (StopsMade n) (MeasuresRun n usual_limits)) [] [] files sink code) same h)
-
   pub answered_with : (command : Command) (names : List (List ℕ)) → command_of words ≡ Some command → names_of command words ≡ names
       → Answered words files sink code → IsAnswered (is_free command) (owed_of command words) (roles_of command) names files sink code
   answered_with command names is named h =
@@ -61,17 +55,31 @@ module _ (words : List (List ℕ)) (files : Change FilesState) (sink : Change Si
   pub status_as : (command : Command) → command_of words ≡ Some command → IsAmong (statuses_of command) code → IsAmong (statuses_for (command_of words)) code
   status_as command is h = subst (λ (o : Option Command). IsAmong (statuses_for o) code) (sym is) h
 
-  -- One line is owed, and no file is fetched for it.
+  -- No file is fetched.
+  pub unfetched_answered : (Owed : List Content → Outputs) (names : List (List ℕ)) → Cases (Owed []) sink code → IsExact (Owed []) sink code → code ≢ 3 → files.new ≡ files.old → IsAnswered false Owed [] names files sink code
+  unfetched_answered Owed names cases exact other same = record {
+    answers = [];
+    fetched = none_fetched names files same;
+    cases = cases;
+    exact = exact;
+    blames = record { only = λ three. absurd (other three); told = λ gone. absurd (true_is_false false gone refl) };
+  }
+
+  -- And one line is owed.
   pub line_answered : (Owed : List Content → Outputs) (names : List (List ℕ)) (line : List ℕ) (status : ℕ) → Owed [] line status
       → ((bytes : List ℕ) (other : ℕ) → Owed [] bytes other → IsLine line status bytes other) → status ≢ 3
       → files.new ≡ files.old → Refuses line status sink code → IsAnswered false Owed [] names files sink code
-  line_answered Owed names line status owed only other same h = record {
-    answers = [];
-    fetched = none_fetched names files same;
-    cases = line_cases sink code (Owed []) line status owed h;
-    exact = λ bytes more is. line_written sink code line status h bytes more (only bytes more is);
-    blames = record { only = λ three. absurd (line_not_three sink code line status other h three); told = λ gone. absurd (true_is_false false gone refl) };
-  }
+  line_answered Owed names line status owed only other same h =
+      unfetched_answered Owed names (line_cases sink code (Owed []) line status owed h) (λ bytes more is. line_written sink code line status h bytes more (only bytes more is)) (line_not_three sink code line status other h) same
+
+  -- Made work is measured.
+  not_three : IsAmong (statuses_of Bench) code → code ≢ 3
+  not_three among three = true_is_false false (subst (λ (k : ℕ). IsAmong (statuses_of Bench) k) three among) refl
+
+  pub bench_answered : (size : ℕ) → command_of words ≡ Some Bench → size ≡ size_of words → Cases (MeasuresMade size) sink code → IsExact (MeasuresMade size) sink code → IsAmong (statuses_of Bench) code → files.new ≡ files.old
+      → Answered words files sink code
+  bench_answered size is of_words cases exact among same =
+      answered_as Bench [] is refl (subst (λ (n : ℕ). IsAnswered (is_free Bench) (λ answers. MeasuresMade n) [] [] files sink code) of_words (unfetched_answered (λ answers. MeasuresMade size) [] cases exact (not_three among) same))
 
   -- Words without form.
   none_answered : files.new ≡ files.old → Refuses (codes "words refused\n") 2 sink code → IsAnswered false (owed_for None words) [] [] files sink code

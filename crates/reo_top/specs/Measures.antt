@@ -11,7 +11,8 @@ use Rattle.reo_runner.specs.declared.outcome.End2.TheVariants as ends
 use Rattle.reo_runner_ports.specs.Kinds.{kind_rules}
 use Rattle.reo_runs.specs.Run.{IsRun, start_of}
 use Rattle.reo_runs.specs.Written.{moved, is_in, is_out}
-use Rattle.reo_top_inputs.specs.Limits.{firsts_for}
+use Rattle.reo_top_inputs.specs.Limits.{usual_limits, firsts_for}
+use Rattle.reo_top_inputs.specs.Made.{ReadsMade}
 use Rattle.reo_top_inputs.specs.Readings.{Runnable}
 use Rattle.reo_top_inputs.specs.Statuses.{done, part_over}
 use Rattle.reo_top.specs.Outputs.{Outputs, IsLine}
@@ -44,6 +45,10 @@ MeasuresRun size limits r bytes code =
     (lines : List RoundLine) × (ending : Ending) × IsRun (firsts_for limits) kind_rules (start_of r.flat.wiring r.script.components) lines ending
     × IsLine (measure_line size (length r.flat.wiring.primitives) (length lines) (moved is_in r.flat.ports lines) (moved is_out r.flat.ports lines) ending)
     (measure_status ending) bytes code
+
+-- The same of made work.
+abbrev pub MeasuresMade : ℕ → Outputs
+MeasuresMade size bytes code = (r : Runnable) × ReadsMade size r × MeasuresRun size usual_limits r bytes code
 
 -- The ending that the end of a run stands for, after so many rounds.
 abbrev pub ending_for : (budget rounds : ℕ) → End2 → Option Ending

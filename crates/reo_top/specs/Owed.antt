@@ -13,10 +13,9 @@ use Rattle.reo_top_inputs.specs.declared.command.Command.TheVariants.{Run, Check
 use Rattle.reo_top_inputs.specs.declared.stop.Stop.{Stop}
 use Rattle.reo_top_inputs.specs.Claims.{Claimed, ReadsClaim, StopsVerify}
 use Rattle.reo_top_inputs.specs.Fetched.{Content}
-use Rattle.reo_top_inputs.specs.Limits.{limits_of, usual_limits, firsts_for}
+use Rattle.reo_top_inputs.specs.Limits.{limits_of, firsts_for}
 use Rattle.reo_top_inputs.specs.Amounts.{size_of}
-use Rattle.reo_top_inputs.specs.Made.{ReadsMade, StopsMade}
-use Rattle.reo_top.specs.Measures.{MeasuresRun}
+use Rattle.reo_top.specs.Measures.{MeasuresMade}
 use Rattle.reo_top.specs.Outputs.{Outputs, IsLine}
 use Rattle.reo_top_inputs.specs.Readings.{FlatCircuit, Runnable, ReadsProgram, StopsPrint, ReadsCircuit, StopsCheck, ReadsRun, StopsRun}
 use Rattle.reo_top_inputs.specs.Statuses.{done, words_refused}
@@ -50,13 +49,13 @@ JudgesTrace c bytes code =
 
 -- What a command owes for its words: a run the trace of the run within the limits of its options, a check the parts of the
 -- circuit, a print the canonical text of the program, a verification the verdict on the trace, a bench the line of the run of made
--- work within the usual limits, for which nothing is fetched.
+-- work within the usual limits, whatever is fetched.
 abbrev pub owed_of : Command → List (List ℕ) → List Content → Outputs
 owed_of Run words = owed_by ReadsRun StopsRun (TracesRun (limits_of words))
 owed_of Check words = owed_by ReadsCircuit StopsCheck ListsParts
 owed_of Print words = owed_by ReadsProgram StopsPrint PrintsProgram
 owed_of Verify words = owed_by ReadsClaim StopsVerify JudgesTrace
-owed_of Bench words = owed_by (ReadsMade (size_of words)) (StopsMade (size_of words)) (MeasuresRun (size_of words) usual_limits)
+owed_of Bench words = λ answers. MeasuresMade (size_of words)
 
 -- The same, or the refusal of words that have no form, for which nothing is fetched.
 abbrev pub owed_for : Option Command → List (List ℕ) → List Content → Outputs

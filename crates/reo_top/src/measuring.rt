@@ -1,25 +1,20 @@
 //! Made work that is run, and the line of what came of it.
-ghost use Rattle.std.specs.Prelude.{◌≡◌, [], ◌++◌, ◌≤◌, ◌<◌, ◌^◌, IfOk, OnOk, None, map};
+ghost use Rattle.std.specs.Prelude.{◌≡◌, ◌++◌, ◌≤◌, ◌<◌, ◌^◌, IfOk, OnOk, None, map};
 ghost use Rattle.reo_kinds.specs.Kinds.{port_state_of};
 ghost use Rattle.reo_runner.specs.Outcome.{CameTo};
 ghost use Rattle.reo_runner_ports.specs.Kinds.{kind_rules};
 ghost use Rattle.reo_runner_ports.specs.Runnable.{CanRun};
 ghost use Rattle.reo_runs.specs.Run.{start_of};
 ghost use Rattle.reo_top_inputs.specs.declared.command.Command.TheVariants as commands;
-ghost use Rattle.reo_top_inputs.specs.Commands.{is_free};
 ghost use Rattle.reo_top_inputs.specs.Limits.{usual_limits};
-ghost use Rattle.reo_top_inputs.specs.Made.{ReadsMade, StopsMade};
 ghost use Rattle.reo_top_inputs.specs.ReadSteps.{runnable_in};
-ghost use Rattle.reo_top_inputs.specs.States.{FilesState, Change, sink_change};
+ghost use Rattle.reo_top_inputs.specs.States.{sink_change};
 ghost use Rattle.reo_top_inputs.specs.Statuses.{IsAmong, statuses_of};
-ghost use Rattle.reo_top.specs.Answers.{IsAnswered};
 ghost use Rattle.reo_top.specs.Cases.{Cases, IsExact, IsFair};
-ghost use Rattle.reo_top.specs.Measures.{measure_text, measure_line, measure_status, MeasuresRun, ending_for};
-ghost use Rattle.reo_top.specs.Owed.{owed_by};
+ghost use Rattle.reo_top.specs.Measures.{measure_text, measure_line, measure_status, MeasuresRun, MeasuresMade, ending_for};
 
 use crate::answer::{answer, no_memory};
 use crate::append::append_numbered;
-use crate::refusing::refuse;
 use reo_io::{NullSink, Sink};
 use reo_kinds::Kind;
 use reo_runner::{End2, Limits, Outcome, run};
@@ -167,15 +162,15 @@ fn write_measure<S: Sink>(alloc: Global, size: u32, work: Work, out: &mut S) -> 
 pub(crate) fn measure_work<S: Sink>(alloc: Global, size: u32, out: &mut S) -> Status
     requires some { 1 ≤ size }
     requires few { size ≤ 256 }
-    ensures answered { (files : Change FilesState) → files.new ≡ files.old
-        → IsAnswered (is_free commands.Bench)
-        (owed_by (ReadsMade size) (StopsMade size) (MeasuresRun size usual_limits)) [] [] files
+    ensures cases { Cases (MeasuresMade size)
+        (sink_change S.told S.faults out.old out.new) result.code }
+    ensures exact { IsExact (MeasuresMade size)
         (sink_change S.told S.faults out.old out.new) result.code }
     ensures status { IsAmong (statuses_of commands.Bench) result.code }
     ensures fair { IsFair (sink_change S.told S.faults out.old out.new) result.code }
 {
     match make_run(alloc, size) {
         Ok(work) => write_measure(alloc, size, work, out),
-        Err(stop) => refuse(alloc, stop, out),
+        Err(_) => no_memory(out),
     }
 }

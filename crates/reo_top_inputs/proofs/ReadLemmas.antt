@@ -56,7 +56,7 @@ same_stops Reads Others Stops answers s h = stop_read Reads Others Stops Stops a
 same_stop : (s t u : Stop) → s ≡ u → t ≡ u → s ≡ t
 same_stop s t u a b = a ∙ sym b
 
-pub among : (statuses : List ℕ) (s u : Stop) → s ≡ u → IsAmong statuses (stop_status u) → IsAmong statuses (stop_status s)
+among : (statuses : List ℕ) (s u : Stop) → s ≡ u → IsAmong statuses (stop_status u) → IsAmong statuses (stop_status s)
 among statuses s u is h = subst (λ (t : Stop). IsAmong statuses (stop_status t)) (sym is) h
 
 -- A text says one thing, or has one refusal.

@@ -4,7 +4,7 @@ use Rattle.std.proofs.lemmas.Bool.Decides.{nat_tests}
 use Rattle.std.specs.Prelude.{Option, Some, None, find, ◌&&◌, ◌==◌}
 use Rattle.reo_top_inputs.specs.declared.amount.Amount.{Amount}
 use Rattle.reo_top_inputs.specs.declared.command.Command.{Command}
-use Rattle.reo_top_inputs.specs.declared.command.Command.TheVariants.{Run, Check, Print, Verify, Bench}
+use Rattle.reo_top_inputs.specs.declared.command.Command.TheVariants.{Run, Check, Print, Verify}
 use Rattle.reo_top_inputs.specs.declared.setting.Setting.{Setting}
 use Rattle.reo_top_inputs.specs.Commands.{command_of, command_word, commands, names_of, is_form, fits, roles_of, amounts_of, settings_of}
 

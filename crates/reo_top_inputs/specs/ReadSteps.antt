@@ -28,11 +28,15 @@ IsRefusalOf role wanted (TooLong other) = ⊥
 IsRefusalOf role wanted (Refused other refusal) = (other ≡ role) × (wanted ≡ Some refusal)
 IsRefusalOf role wanted NoMemory = Unit {0}
 
--- What a text says, or what stops a command for it, or memory ran out.
+-- One of these stops a command, or memory ran out.
+abbrev pub IsStoppedBy : (Stop → Type 0) → Stop → Type 0
+IsStoppedBy Stops NoMemory = Unit {0}
+IsStoppedBy Stops stop = Stops stop
+
+-- What a text says, or what stops a command for it.
 abbrev pub IsTextRead : {X : Type 0} → (List ℕ → X → Type 0) → (List ℕ → Stop → Type 0) → List ℕ → Result X Stop → Type 0
 IsTextRead Says TextStops bytes (Ok x) = Says bytes x
-IsTextRead Says TextStops bytes (Err NoMemory) = Unit {0}
-IsTextRead Says TextStops bytes (Err stop) = TextStops bytes stop
+IsTextRead Says TextStops bytes (Err stop) = IsStoppedBy (TextStops bytes) stop
 
 -- A flat circuit, as what its text is accepted as.
 abbrev pub circuit_in : Flat → FlatCircuit

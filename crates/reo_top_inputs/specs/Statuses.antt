@@ -62,7 +62,7 @@ statuses_of Run = done ∷ stuck ∷ script_refused ∷ part_over ∷ limit_reac
 statuses_of Check = done ∷ circuit_statuses
 statuses_of Print = done ∷ circuit_statuses
 statuses_of Verify = done ∷ script_refused ∷ trace_refused ∷ circuit_statuses
-statuses_of Bench = done ∷ circuit_refused ∷ script_refused ∷ part_over ∷ write_fault ∷ out_of_memory ∷ []
+statuses_of Bench = done ∷ part_over ∷ write_fault ∷ out_of_memory ∷ []
 
 -- The statuses of the command, or of the refusal of words that have none.
 abbrev pub statuses_for : Option Command → List ℕ

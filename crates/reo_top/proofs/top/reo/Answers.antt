@@ -103,8 +103,7 @@ returns-in-Some-Bench-clause-answer g c =
     let words : List (List ℕ) = c.args.words.now in
     let is : command_of words ≡ Some Bench = command_seen words c.as_slice-words.result.now c.as_slice-words.ensures _ _ Bench c.command_of.ensures c.in-Some-Bench.is c.in-Some-Bench.field-0-is in
     let size : c.size_of.result ≡ size_of words = c.size_of.ensures.size ∙ ap size_of c.as_slice-words.ensures in
-    bench_answered words _ _ _ c.size_of.result is size
-    (c.measure_work.ensures.answered (files_change g.F.Files.told g.F.Files.failed g.F.Files.fetches c.args.files.now c.args.files.now) refl)
+    bench_answered words _ _ _ c.size_of.result is size c.measure_work.ensures.cases c.measure_work.ensures.exact c.measure_work.ensures.status refl
 
 pub returns-in-None-clause-headline : goal.returns-in-None-clause-headline
 returns-in-None-clause-headline g c =
