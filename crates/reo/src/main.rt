@@ -1,5 +1,7 @@
 //! The command: `run CIRCUIT SCRIPT [--rounds N]` writes the trace of the script on the circuit,
-//! `check CIRCUIT` the parts of the circuit, `print CIRCUIT` the canonical text of the circuit.
+//! `check CIRCUIT` the parts of the circuit, `print CIRCUIT` the canonical text of the circuit,
+//! `verify CIRCUIT SCRIPT TRACE` the verdict on the trace, `bench N` what came of the run of made
+//! work.
 #![tactic(auto)]
 
 ghost use Rattle.std.specs.Prelude.{◌≡◌, ◌≢◌, [], map, drop, IfErr, IfOk, IsErr, MatchResult};
@@ -7,8 +9,8 @@ ghost use Rattle.std.specs.IoError.{error_kind};
 ghost use Rattle.std.specs.Process.{exit_status};
 ghost use Rattle.std.specs.String.{string_bytes};
 ghost use Rattle.std.specs.Vec.Iter.{into_iter_items};
-ghost use Rattle.reo_top.specs.Commands.{command_of};
-ghost use Rattle.reo_top.specs.Statuses.{IsAmong, statuses_for};
+ghost use Rattle.reo_top_inputs.specs.Commands.{command_of};
+ghost use Rattle.reo_top_inputs.specs.Statuses.{IsAmong, statuses_for};
 
 use reo_io::{DiskFiles, StdSink, StdSource};
 use reo_top::{Status, reo};

@@ -1,22 +1,22 @@
 -- From what was read and written to what the command has come to.
-use Rattle.std.proofs.Common.{◌≡◌, ◌∙◌, ◌⊎◌, inl, inr, ℕ, Bool, true, false, List, sym, subst, ap, refl, arith}
+use Rattle.std.proofs.Common.{◌≡◌, ◌∙◌, ◌⊎◌, inl, inr, ℕ, false, List, sym, subst, ap, refl, arith}
 use Rattle.std.specs.Prelude.{◌≢◌, Err}
-use Rattle.reo_top.specs.declared.role.Role.{Role}
-use Rattle.reo_top.specs.declared.stop.Stop.{Stop}
-use Rattle.reo_top.specs.declared.stop.Stop.TheVariants.{Missed, TooLong, Refused, NoMemory}
+use Rattle.reo_top_inputs.specs.declared.role.Role.{Role}
+use Rattle.reo_top_inputs.specs.declared.stop.Stop.{Stop}
+use Rattle.reo_top_inputs.specs.declared.stop.Stop.TheVariants.{Missed, TooLong, Refused, NoMemory}
 use Rattle.reo_top.specs.Answers.{Blames, IsAnswered}
 use Rattle.reo_top.specs.Cases.{Cases, IsExact}
-use Rattle.reo_top.specs.Fetched.{Content, has_gone, AreFetched}
+use Rattle.reo_top_inputs.specs.Fetched.{Content, has_gone, AreFetched}
 use Rattle.reo_top.specs.Outputs.{Outputs, IsLine}
 use Rattle.reo_top.specs.Owed.{owed_by}
-use Rattle.reo_top.specs.Readings.{IsReadAs}
-use Rattle.reo_top.specs.States.{SinkState, FilesState, Change}
-use Rattle.reo_top.specs.Statuses.{IsAmong}
+use Rattle.reo_top_inputs.specs.Readings.{IsReadAs}
+use Rattle.reo_top_inputs.specs.States.{SinkState, FilesState, Change}
+use Rattle.reo_top_inputs.specs.Statuses.{IsAmong}
 use Rattle.reo_top.specs.Stopped.{IsRefusedAs}
-use Rattle.reo_top.specs.Stops.{stop_text, stop_status}
-use Rattle.reo_top.proofs.CaseLemmas.{lifted, no_memory_cases, no_memory_exact}
-use Rattle.reo_top.proofs.ReadLemmas.{IsReadingAt}
-use Rattle.reo_top.proofs.StopLemmas.{is_missed, stop_cases, stop_exact, stop_only, stop_told}
+use Rattle.reo_top_inputs.specs.Stops.{stop_text, stop_status}
+use Rattle.reo_top.proofs.CaseLemmas.{lifted, no_memory_cases, no_memory_exact, true_is_false}
+use Rattle.reo_top_inputs.proofs.ReadLemmas.{IsReadingAt, is_missed}
+use Rattle.reo_top.proofs.StopLemmas.{stop_cases, stop_exact, stop_only, stop_told}
 
 -- A stop is a fact of the answers, or memory ran out.
 read_stop : {X : Type 0} (Reads : List Content → X → Type 0) (Stops : List Content → Stop → Type 0) (answers : List Content) (s : Stop) → IsReadAs Reads Stops answers (Err s)
@@ -25,9 +25,6 @@ read_stop Reads Stops answers (Missed role) h = inl h
 read_stop Reads Stops answers (TooLong role) h = inl h
 read_stop Reads Stops answers (Refused role r) h = inl h
 read_stop Reads Stops answers NoMemory h = inr (refl, h)
-
-true_is_false : (b : Bool) → b ≡ true → b ≡ false → ⊥
-true_is_false b is_true is_false = cc
 
 module _ {X : Type 0} (Reads : List Content → X → Type 0) (Stops : List Content → Stop → Type 0) (Makes : X → Outputs) (statuses : List ℕ)
     (sink : Change SinkState) (code : ℕ) (answers : List Content) (law : IsReadingAt Reads Stops statuses answers) where

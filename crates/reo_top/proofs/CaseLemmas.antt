@@ -1,12 +1,15 @@
 -- The three cases and exactness, from a line, from memory that ran out, and from what is owed in part.
-use Rattle.std.proofs.Common.{◌≡◌, ◌∙◌, ◌⊎◌, inl, inr, refl, ◌++◌, ℕ, List, [], sym, subst}
-use Rattle.std.specs.Prelude.{◌≤◌, Option}
+use Rattle.std.proofs.Common.{◌≡◌, ◌∙◌, ◌⊎◌, inl, inr, refl, ◌++◌, ℕ, Bool, true, false, List, [], sym, subst, arith}
+use Rattle.std.specs.Prelude.{◌≤◌, ◌≢◌, Option}
 use Rattle.reo_io.specs.Sinks.{Appended}
 use Rattle.reo_io.proofs.Taken.{Appended-none}
 use Rattle.reo_io.proofs.Counts.{Rose-since}
 use Rattle.reo_top.specs.Cases.{Adds, AreFirstLines, Cases, IsExact, IsWritten, Refuses, SaysNoMemory, EndsWithNoMemory}
 use Rattle.reo_top.specs.Outputs.{Outputs, IsLine}
-use Rattle.reo_top.specs.States.{SinkState, Change}
+use Rattle.reo_top_inputs.specs.States.{SinkState, Change}
+
+pub true_is_false : (b : Bool) → b ≡ true → b ≡ false → ⊥
+true_is_false b is_true is_false = cc
 
 module _ (sink : Change SinkState) (code : ℕ) where
   -- A line that is owed was written, or the sink failed on it.
@@ -25,6 +28,15 @@ module _ (sink : Change SinkState) (code : ℕ) where
   pub line_written : (line : List ℕ) (status : ℕ) → Refuses line status sink code → (bytes : List ℕ) (other : ℕ) → IsLine line status bytes other → IsWritten sink code bytes other
   line_written line status (inl (is, adds)) bytes other same = inl (is ∙ sym same.1, subst (λ (b : List ℕ). Adds sink b) (sym same.0) adds)
   line_written line status (inr (is, breaks)) bytes other same = inr (inl is)
+
+  pub line_code : (line : List ℕ) (status : ℕ) → Refuses line status sink code → (code ≡ status) ⊎ (code ≡ 9)
+  line_code line status (inl h) = inl h.0
+  line_code line status (inr h) = inr h.0
+
+  -- It does not say that a file cannot be had.
+  pub line_not_three : (line : List ℕ) (status : ℕ) → status ≢ 3 → Refuses line status sink code → code ≢ 3
+  line_not_three line status other (inl (is, adds)) three = other (sym is ∙ three)
+  line_not_three line status other (inr (is, breaks)) three = omega (arith, is, three)
 
   first_lifted : (A B : Outputs) → ((bytes : List ℕ) (status : ℕ) → A bytes status → B bytes status) → (lines : List ℕ) → (lines ≡ []) ⊎ AreFirstLines A lines → (lines ≡ []) ⊎ AreFirstLines B lines
   first_lifted A B lift lines (inl none) = inl none

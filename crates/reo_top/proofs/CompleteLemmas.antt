@@ -1,27 +1,25 @@
 -- Where nothing fails, a run of what is accepted comes to its end.
-use Rattle.std.proofs.Common.{◌≡◌, ◌∙◌, ◌⊎◌, inl, inr, ℕ, ◌≤◌, true, false, List, [], ◌∷◌, ◌++◌, length, sym, subst, refl, arith}
+use Rattle.std.proofs.Common.{◌≡◌, ◌∙◌, ◌⊎◌, inl, inr, ℕ, true, List, [], ◌∷◌, ◌++◌, sym, subst, refl, arith}
 use Rattle.std.proofs.lemmas.Bool.{cases_order}
 use Rattle.std.specs.Prelude.{◌≢◌, Option, Some, None, IfSome}
 use Rattle.reo_io.specs.Fetches.{Folder}
 use Rattle.reo_trace.specs.declared.line.Ending.{Ending}
 use Rattle.reo_trace.specs.declared.line.Ending.TheVariants.{Done, Stuck, Limit, Spent, Wide}
-use Rattle.reo_top.specs.declared.command.Command.TheVariants.{Run}
+use Rattle.reo_top_inputs.specs.declared.command.Command.TheVariants.{Run}
 use Rattle.reo_top.specs.Answers.{IsAnswered, Answered}
 use Rattle.reo_top.specs.Cases.{IsFailure, IsFair}
-use Rattle.reo_top.specs.Commands.{command_of, is_free, roles_of}
+use Rattle.reo_top_inputs.specs.Commands.{command_of, is_free, roles_of}
 use Rattle.reo_top.specs.Complete.{NothingFailed, IsWhole, Complete, ending_statuses}
-use Rattle.reo_top.specs.Fetched.{Content, gone, long, text, unknown, has_gone, missed, AreFetched}
+use Rattle.reo_top_inputs.specs.Fetched.{Content, has_gone, missed, AreFetched}
 use Rattle.reo_top.specs.Headline.{Accepted, IsTraced, Headline}
-use Rattle.reo_top.specs.Limits.{limits_of}
+use Rattle.reo_top_inputs.specs.Limits.{limits_of}
 use Rattle.reo_top.specs.Owed.{owed_of}
-use Rattle.reo_top.specs.Readings.{Runnable}
-use Rattle.reo_top.specs.States.{SinkState, FilesState, Change}
-use Rattle.reo_top.specs.Statuses.{IsAmong}
+use Rattle.reo_top_inputs.specs.Readings.{Runnable}
+use Rattle.reo_top_inputs.specs.States.{SinkState, FilesState, Change}
+use Rattle.reo_top_inputs.specs.Statuses.{IsAmong}
 use Rattle.reo_top.specs.Traces.{ending_status}
+use Rattle.reo_top_inputs.proofs.FetchLemmas.{is_noted}
 use Rattle.reo_top.proofs.TopLemmas.{answered_with, told_always}
-
-some_more : {A : Type 0} (x : A) (xs : List A) → x ∷ xs ≡ [] → ⊥
-some_more x xs e = cc
 
 same_rest : {A : Type 0} (x : A) (xs ys : List A) → x ∷ xs ≡ x ∷ ys → xs ≡ ys
 same_rest x xs ys e = cc
@@ -30,18 +28,6 @@ same_rest x xs ys e = cc
 nothing_more : {A : Type 0} (xs ys : List A) → xs ++ ys ≡ xs → ys ≡ []
 nothing_more [] ys e = e
 nothing_more (x ∷ xs) ys e = nothing_more xs ys (same_rest x (xs ++ ys) xs e)
-
-true_is_false : false ≡ true → ⊥
-true_is_false e = cc
-
--- A file that cannot be had is noted.
-is_noted : (names : List (List ℕ)) (answers : List Content) → length answers ≤ length names → has_gone answers ≡ true → missed names answers ≡ [] → ⊥
-is_noted names [] few gone_is none = true_is_false gone_is
-is_noted [] (c ∷ cs) few gone_is none = omega (arith, few)
-is_noted (n ∷ ns) (gone ∷ cs) few gone_is none = some_more n (missed ns cs) none
-is_noted (n ∷ ns) (long ∷ cs) few gone_is none = is_noted ns cs (omega (arith, few)) gone_is none
-is_noted (n ∷ ns) (text bytes ∷ cs) few gone_is none = is_noted ns cs (omega (arith, few)) gone_is none
-is_noted (n ∷ ns) (unknown ∷ cs) few gone_is none = is_noted ns cs (omega (arith, few)) gone_is none
 
 ending_among : (ending : Ending) → IsAmong ending_statuses (ending_status ending)
 ending_among (Done rounds) = refl

@@ -1,7 +1,7 @@
 -- What a run has written, as what is owed.
 use Rattle.std.proofs.Common.{◌≡◌, ◌∙◌, inl, inr, refl, ℕ, List, ◌++◌, sym, subst, ap, append_assoc, arith}
 use Rattle.std.proofs.lemmas.Grind.{flat_map-append}
-use Rattle.std.specs.Prelude.{◌≢◌, ◌≤◌, Option, Err}
+use Rattle.std.specs.Prelude.{◌≢◌, ◌≤◌, Option}
 use Rattle.reo_io.specs.Causes.{Rose}
 use Rattle.reo_io.specs.Sinks.{Appended}
 use Rattle.reo_io.proofs.Counts.{Rose-since}
@@ -21,18 +21,13 @@ use Rattle.reo_runner.specs.Outcome.{CameTo, Wrote}
 use Rattle.reo_runs.specs.Run.{Place, IsRun, start_of}
 use Rattle.reo_runs.specs.Whole.{HasOneRun}
 use Rattle.reo_runs.specs.Written.{Ran, Cut, Kept}
-use Rattle.reo_top.specs.declared.command.Command.TheVariants.{Run}
+use Rattle.reo_top_inputs.specs.declared.command.Command.TheVariants.{Run}
 use Rattle.reo_top.specs.Cases.{AreFirstLines, Cases, IsExact, IsFair, EndsWithNoMemory}
-use Rattle.reo_top.specs.declared.reading.Work.{Work}
-use Rattle.reo_top.specs.declared.stop.Stop.{Stop}
-use Rattle.reo_top.specs.declared.stop.Stop.TheVariants.{Missed, TooLong, Refused, NoMemory}
-use Rattle.reo_top.specs.Fetched.{Content}
-use Rattle.reo_top.specs.Limits.{firsts_for}
+use Rattle.reo_top_inputs.specs.Limits.{firsts_for}
 use Rattle.reo_top.specs.Owed.{TracesRun}
-use Rattle.reo_top.specs.Readings.{Runnable, ReadsRun, StopsRun, IsReadAs}
-use Rattle.reo_top.specs.ReadSteps.{runnable_in}
-use Rattle.reo_top.specs.States.{SinkState, Change}
-use Rattle.reo_top.specs.Statuses.{IsAmong, statuses_of}
+use Rattle.reo_top_inputs.specs.Readings.{Runnable}
+use Rattle.reo_top_inputs.specs.States.{SinkState, Change}
+use Rattle.reo_top_inputs.specs.Statuses.{IsAmong, statuses_of}
 use Rattle.reo_top.specs.Traces.{ending_status}
 use Rattle.reo_top.proofs.CaseLemmas.{lines_cases}
 use Rattle.reo_top.proofs.LineLemmas.{rounds_end, Ends}
@@ -127,10 +122,3 @@ ending_not_three (Wide round knot) e = omega (arith, e)
 
 pub trace_not_three : (limits : Limits) (r : Runnable) (bytes : List ℕ) (status : ℕ) → TracesRun limits r bytes status → status ≢ 3
 trace_not_three limits r bytes status t e = ending_not_three t.ending (sym t.status ∙ e)
-
--- What stops a run is the same whatever is read.
-pub stop_read : (answers : List Content) (s : Stop) → IsReadAs (λ cs (work : Work). ReadsRun cs (runnable_in work.flat work.script)) StopsRun answers (Err s) → IsReadAs ReadsRun StopsRun answers (Err s)
-stop_read answers (Missed role) h = h
-stop_read answers (TooLong role) h = h
-stop_read answers (Refused role r) h = h
-stop_read answers NoMemory h = h

@@ -1,17 +1,18 @@
 -- What was written for what stopped a command, and for what it made.
-use Rattle.std.proofs.Common.{◌≡◌, ◌∙◌, ◌⊎◌, inl, inr, refl, ℕ, Bool, true, false, List, sym, arith}
+use Rattle.std.proofs.Common.{◌≡◌, ◌⊎◌, inl, inr, refl, ℕ, true, false, List, arith}
 use Rattle.std.specs.Prelude.{◌≢◌}
-use Rattle.reo_top.specs.declared.role.Role.{Role}
-use Rattle.reo_top.specs.declared.role.Role.TheVariants.{Circuit, Script, Trace}
-use Rattle.reo_top.specs.declared.stop.Stop.{Stop}
-use Rattle.reo_top.specs.declared.stop.Stop.TheVariants.{Missed, TooLong, Refused, NoMemory}
-use Rattle.reo_top.specs.Cases.{Cases, IsExact, Refuses}
+use Rattle.reo_top_inputs.specs.declared.role.Role.{Role}
+use Rattle.reo_top_inputs.specs.declared.role.Role.TheVariants.{Circuit, Script, Trace}
+use Rattle.reo_top_inputs.specs.declared.stop.Stop.{Stop}
+use Rattle.reo_top_inputs.specs.declared.stop.Stop.TheVariants.{Missed, TooLong, Refused, NoMemory}
+use Rattle.reo_top.specs.Cases.{Cases, IsExact}
 use Rattle.reo_top.specs.Outputs.{Outputs, IsLine}
-use Rattle.reo_top.specs.Roles.{refused_status}
-use Rattle.reo_top.specs.States.{SinkState, Change}
+use Rattle.reo_top_inputs.specs.Roles.{refused_status}
+use Rattle.reo_top_inputs.specs.States.{SinkState, Change}
 use Rattle.reo_top.specs.Stopped.{IsRefusedAs}
-use Rattle.reo_top.specs.Stops.{stop_text, stop_status}
-use Rattle.reo_top.proofs.CaseLemmas.{line_cases, no_memory_cases, no_memory_exact, line_written}
+use Rattle.reo_top_inputs.specs.Stops.{stop_text, stop_status}
+use Rattle.reo_top_inputs.proofs.ReadLemmas.{is_missed}
+use Rattle.reo_top.proofs.CaseLemmas.{line_cases, no_memory_cases, no_memory_exact, line_written, line_code, line_not_three, true_is_false}
 
 -- The line of the stop is owed.
 module _ (Owed : Outputs) (sink : Change SinkState) (code : ℕ) where
@@ -30,39 +31,21 @@ module _ (Owed : Outputs) (sink : Change SinkState) (code : ℕ) where
   stop_exact (Refused role r) only (inr h) = no_memory_exact sink code Owed h
   stop_exact NoMemory only h = no_memory_exact sink code Owed h
 
--- A file cannot be had.
-abbrev pub is_missed : Stop → Bool
-is_missed (Missed role) = true
-is_missed (TooLong role) = false
-is_missed (Refused role r) = false
-is_missed NoMemory = false
-
-line_code : (line : List ℕ) (status : ℕ) (sink : Change SinkState) (code : ℕ) → Refuses line status sink code → (code ≡ status) ⊎ (code ≡ 9)
-line_code line status sink code (inl h) = inl h.0
-line_code line status sink code (inr h) = inr h.0
-
-other : (status code : ℕ) → status ≢ 3 → (code ≡ status) ⊎ (code ≡ 9) → code ≢ 3
-other status code not (inl e) three = not (sym e ∙ three)
-other status code not (inr e) three = omega (arith, e, three)
-
 not_three : (role : Role) → refused_status role ≢ 3
 not_three Circuit e = omega (arith, e)
 not_three Script e = omega (arith, e)
 not_three Trace e = omega (arith, e)
 
-true_is_false : false ≡ true → ⊥
-true_is_false e = cc
-
 -- The status says that a file cannot be had, or the sink failed on the line that does, exactly where it stopped the command.
 pub stop_only : (stop : Stop) (sink : Change SinkState) (code : ℕ) → IsRefusedAs stop sink code → code ≡ 3 → is_missed stop ≡ true
 stop_only (Missed role) sink code h three = refl
-stop_only (TooLong role) sink code h three = absurd (other 4 code (λ e. omega (arith, e)) (line_code _ _ sink code h) three)
-stop_only (Refused role r) sink code (inl h) three = absurd (other (refused_status role) code (not_three role) (line_code _ _ sink code h) three)
+stop_only (TooLong role) sink code h three = absurd (line_not_three sink code _ 4 (λ e. omega (arith, e)) h three)
+stop_only (Refused role r) sink code (inl h) three = absurd (line_not_three sink code _ (refused_status role) (not_three role) h three)
 stop_only (Refused role r) sink code (inr h) three = absurd (omega (arith, h.0, three))
 stop_only NoMemory sink code h three = absurd (omega (arith, h.0, three))
 
 pub stop_told : (stop : Stop) (sink : Change SinkState) (code : ℕ) → IsRefusedAs stop sink code → is_missed stop ≡ true → (code ≡ 3) ⊎ (code ≡ 9)
-stop_told (Missed role) sink code h is = line_code _ _ sink code h
-stop_told (TooLong role) sink code h is = absurd (true_is_false is)
-stop_told (Refused role r) sink code h is = absurd (true_is_false is)
-stop_told NoMemory sink code h is = absurd (true_is_false is)
+stop_told (Missed role) sink code h is = line_code sink code _ _ h
+stop_told (TooLong role) sink code h is = absurd (true_is_false false is refl)
+stop_told (Refused role r) sink code h is = absurd (true_is_false false is refl)
+stop_told NoMemory sink code h is = absurd (true_is_false false is refl)

@@ -1,43 +1,29 @@
 -- From the words to the command that they are, and to what it has come to.
-use Rattle.std.proofs.Common.{◌≡◌, ◌∙◌, ◌⊎◌, inl, inr, ℕ, true, false, List, [], ◌∷◌, ◌++◌, sym, ap, subst, refl, arith}
+use Rattle.std.proofs.Common.{◌≡◌, inl, inr, ℕ, false, List, [], ◌∷◌, sym, subst, refl, arith}
 use Rattle.std.specs.Prelude.{◌≢◌, Option, Some, None, IfSome, codes}
-use Rattle.reo_io.specs.Fetches.{Folder}
 use Rattle.reo_runner.specs.declared.outcome.Limits.{Limits}
-use Rattle.reo_top.specs.declared.command.Command.{Command}
-use Rattle.reo_top.specs.declared.command.Command.TheVariants.{Run}
+use Rattle.reo_top_inputs.specs.declared.command.Command.{Command}
+use Rattle.reo_top_inputs.specs.declared.command.Command.TheVariants.{Run, Bench}
 use Rattle.reo_top.specs.Answers.{IsAnswered, Answered, roles_for, names_for, free_for}
-use Rattle.reo_top.specs.Cases.{Refuses}
-use Rattle.reo_top.specs.Commands.{command_of, names_of, is_free, roles_of}
-use Rattle.reo_top.specs.Fetched.{Content, missed, AreTold}
+use Rattle.reo_top.specs.Cases.{Cases, IsExact, Refuses}
+use Rattle.reo_top_inputs.specs.Amounts.{size_of}
+use Rattle.reo_top.specs.Measures.{MeasuresMade}
+use Rattle.reo_top_inputs.specs.Commands.{command_of, names_of, is_free, roles_of}
+use Rattle.reo_top_inputs.specs.Fetched.{Content}
 use Rattle.reo_top.specs.Outputs.{Outputs, IsLine}
-use Rattle.reo_top.specs.Limits.{limits_of}
+use Rattle.reo_top_inputs.specs.Limits.{limits_of}
 use Rattle.reo_top.specs.Owed.{owed_of, owed_for, owed_by, TracesRun}
-use Rattle.reo_top.specs.Readings.{ReadsRun, StopsRun}
-use Rattle.reo_top.specs.States.{SinkState, FilesState, Change}
-use Rattle.reo_top.specs.Statuses.{IsAmong, statuses_of, statuses_for}
-use Rattle.reo_top.proofs.CaseLemmas.{line_cases, line_written}
-
-no_more : {A : Type 0} (xs : List A) → xs ++ [] ≡ xs
-no_more [] = refl
-no_more (x ∷ xs) = ap (λ ys. x ∷ ys) (no_more xs)
-
-missed_none : (names : List (List ℕ)) → missed names [] ≡ []
-missed_none [] = refl
-missed_none (n ∷ ns) = refl
-
-told_none : (folder : Folder) (names : List (List ℕ)) → AreTold folder [] names []
-told_none folder [] = tt
-told_none folder (n ∷ ns) = tt
+use Rattle.reo_top_inputs.specs.Readings.{ReadsRun, StopsRun}
+use Rattle.reo_top_inputs.specs.States.{SinkState, FilesState, Change}
+use Rattle.reo_top_inputs.specs.Statuses.{IsAmong, statuses_of, statuses_for}
+use Rattle.reo_top_inputs.proofs.FetchLemmas.{none_fetched}
+use Rattle.reo_top.proofs.CaseLemmas.{line_cases, line_written, line_code, line_not_three, true_is_false}
 
 pub told_always : {X : Type 0} (o : Option X) (B : X → Type 0) → ((x : X) → B x) → IfSome o B
 told_always None B f = tt
 told_always (Some x) B f = f x
 
 -- The status of one line, or of a sink that failed on it.
-line_code : (sink : Change SinkState) (code : ℕ) (line : List ℕ) (status : ℕ) → Refuses line status sink code → (code ≡ status) ⊎ (code ≡ 9)
-line_code sink code line status (inl k) = inl k.0
-line_code sink code line status (inr k) = inr k.0
-
 pub line_among : (sink : Change SinkState) (code : ℕ) (statuses : List ℕ) (line : List ℕ) (status : ℕ) → IsAmong statuses status → IsAmong statuses 9 → Refuses line status sink code → IsAmong statuses code
 line_among sink code statuses line status here nine h = elim (line_code sink code line status h) [
   | inl is ↦ subst (λ (k : ℕ). IsAmong statuses k) (sym is) here
@@ -69,30 +55,31 @@ module _ (words : List (List ℕ)) (files : Change FilesState) (sink : Change Si
   pub status_as : (command : Command) → command_of words ≡ Some command → IsAmong (statuses_of command) code → IsAmong (statuses_for (command_of words)) code
   status_as command is h = subst (λ (o : Option Command). IsAmong (statuses_for o) code) (sym is) h
 
-  -- One line is owed, and no file is fetched for it.
-  not_three : (status : ℕ) → status ≢ 3 → (code ≡ status) ⊎ (code ≡ 9) → code ≡ 3 → ⊥
-  not_three status other (inl is) three = other (sym is ∙ three)
-  not_three status other (inr nine) three = omega (arith, nine, three)
+  -- No file is fetched.
+  pub unfetched_answered : (Owed : List Content → Outputs) (names : List (List ℕ)) → Cases (Owed []) sink code → IsExact (Owed []) sink code → code ≢ 3 → files.new ≡ files.old → IsAnswered false Owed [] names files sink code
+  unfetched_answered Owed names cases exact other same = record {
+    answers = [];
+    fetched = none_fetched names files same;
+    cases = cases;
+    exact = exact;
+    blames = record { only = λ three. absurd (other three); told = λ gone. absurd (true_is_false false gone refl) };
+  }
 
-  none_gone : false ≡ true → ⊥
-  none_gone e = cc
-
+  -- And one line is owed.
   pub line_answered : (Owed : List Content → Outputs) (names : List (List ℕ)) (line : List ℕ) (status : ℕ) → Owed [] line status
       → ((bytes : List ℕ) (other : ℕ) → Owed [] bytes other → IsLine line status bytes other) → status ≢ 3
       → files.new ≡ files.old → Refuses line status sink code → IsAnswered false Owed [] names files sink code
-  line_answered Owed names line status owed only other same h = record {
-    answers = [];
-    fetched = record {
-      few = omega arith;
-      count = ap (λ (f : FilesState). f.fetches) same;
-      failed = ap (λ (f : FilesState). f.failed) same ∙ sym (no_more files.old.failed) ∙ ap (λ (ns : List (List ℕ)). files.old.failed ++ ns) (sym (missed_none names));
-      same = ap (λ (f : FilesState). f.told) same;
-      told = told_always files.old.told (λ folder. AreTold folder [] names []) (λ folder. told_none folder names);
-    };
-    cases = line_cases sink code (Owed []) line status owed h;
-    exact = λ bytes more is. line_written sink code line status h bytes more (only bytes more is);
-    blames = record { only = λ three. absurd (not_three status other (line_code sink code line status h) three); told = λ gone. absurd (none_gone gone) };
-  }
+  line_answered Owed names line status owed only other same h =
+      unfetched_answered Owed names (line_cases sink code (Owed []) line status owed h) (λ bytes more is. line_written sink code line status h bytes more (only bytes more is)) (line_not_three sink code line status other h) same
+
+  -- Made work is measured.
+  not_three : IsAmong (statuses_of Bench) code → code ≢ 3
+  not_three among three = true_is_false false (subst (λ (k : ℕ). IsAmong (statuses_of Bench) k) three among) refl
+
+  pub bench_answered : (size : ℕ) → command_of words ≡ Some Bench → size ≡ size_of words → Cases (MeasuresMade size) sink code → IsExact (MeasuresMade size) sink code → IsAmong (statuses_of Bench) code → files.new ≡ files.old
+      → Answered words files sink code
+  bench_answered size is of_words cases exact among same =
+      answered_as Bench [] is refl (subst (λ (n : ℕ). IsAnswered (is_free Bench) (λ answers. MeasuresMade n) [] [] files sink code) of_words (unfetched_answered (λ answers. MeasuresMade size) [] cases exact (not_three among) same))
 
   -- Words without form.
   none_answered : files.new ≡ files.old → Refuses (codes "words refused\n") 2 sink code → IsAnswered false (owed_for None words) [] [] files sink code

@@ -3,8 +3,8 @@ use Rattle.std.specs.Prelude.{ℕ, ◌≡◌, ◌⊎◌, ◌++◌, ◌≤◌, Bo
 use Rattle.reo_io.specs.Causes.{Rose}
 use Rattle.reo_io.specs.Sinks.{Appended, TookPart}
 use Rattle.reo_top.specs.Outputs.{Outputs}
-use Rattle.reo_top.specs.States.{SinkState, Change}
-use Rattle.reo_top.specs.Statuses.{read_fault, write_fault, out_of_memory}
+use Rattle.reo_top_inputs.specs.States.{SinkState, Change}
+use Rattle.reo_top_inputs.specs.Statuses.{read_fault, write_fault, out_of_memory}
 
 -- These bytes came at the end of what the sink tells.
 abbrev pub Adds : Change SinkState → List ℕ → Type 0

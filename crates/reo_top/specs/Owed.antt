@@ -1,20 +1,27 @@
 -- What a command owes, by what its fetches answered.
 use Rattle.std.specs.Prelude.{ℕ, ◌≡◌, ◌⊎◌, List, [], Option, Some, None, codes}
 use Rattle.reo_runner.specs.declared.outcome.Limits.{Limits}
+use Rattle.reo_runner_ports.specs.Kinds.{kind_rules}
+use Rattle.reo_runs.specs.Run.{start_of}
+use Rattle.reo_verdicts.specs.declared.verdict.Verdict.{Verdict}
+use Rattle.reo_verdicts.specs.Verdicts.{IsVerdict}
 use Rattle.reo_trees.specs.declared.programs.Program.{Program}
 use Rattle.reo_syntax.specs.Canonical.{canonical_text}
 use Rattle.reo_parts.specs.Parts.{parts_text}
-use Rattle.reo_top.specs.declared.command.Command.{Command}
-use Rattle.reo_top.specs.declared.command.Command.TheVariants.{Run, Check, Print, Verify}
-use Rattle.reo_top.specs.declared.stop.Stop.{Stop}
-use Rattle.reo_top.specs.Claims.{ReadsClaim, StopsVerify, JudgesTrace}
-use Rattle.reo_top.specs.Fetched.{Content}
-use Rattle.reo_top.specs.Limits.{limits_of, firsts_for}
+use Rattle.reo_top_inputs.specs.declared.command.Command.{Command}
+use Rattle.reo_top_inputs.specs.declared.command.Command.TheVariants.{Run, Check, Print, Verify, Bench}
+use Rattle.reo_top_inputs.specs.declared.stop.Stop.{Stop}
+use Rattle.reo_top_inputs.specs.Claims.{Claimed, ReadsClaim, StopsVerify}
+use Rattle.reo_top_inputs.specs.Fetched.{Content}
+use Rattle.reo_top_inputs.specs.Limits.{limits_of, firsts_for}
+use Rattle.reo_top_inputs.specs.Amounts.{size_of}
+use Rattle.reo_top.specs.Measures.{MeasuresMade}
 use Rattle.reo_top.specs.Outputs.{Outputs, IsLine}
-use Rattle.reo_top.specs.Readings.{FlatCircuit, Runnable, ReadsProgram, StopsPrint, ReadsCircuit, StopsCheck, ReadsRun, StopsRun}
-use Rattle.reo_top.specs.Statuses.{done, words_refused}
-use Rattle.reo_top.specs.Stops.{stop_text, stop_status}
+use Rattle.reo_top_inputs.specs.Readings.{FlatCircuit, Runnable, ReadsProgram, StopsPrint, ReadsCircuit, StopsCheck, ReadsRun, StopsRun}
+use Rattle.reo_top_inputs.specs.Statuses.{done, words_refused}
+use Rattle.reo_top_inputs.specs.Stops.{stop_text, stop_status}
 use Rattle.reo_top.specs.Traces.{IsTraceOf}
+use Rattle.reo_top.specs.VerdictTexts.{verdict_line, verdict_status}
 
 -- The line of what stops the command, or what it makes of what it reads.
 abbrev pub owed_by : {X : Type 0} → (List Content → X → Type 0) → (List Content → Stop → Type 0) → (X → Outputs) → List Content → Outputs
@@ -34,13 +41,21 @@ ListsParts flat = IsLine (parts_text flat.wiring.primitives flat.wiring.joints f
 abbrev pub TracesRun : Limits → Runnable → Outputs
 TracesRun limits = IsTraceOf (firsts_for limits)
 
+-- The verdict on the trace, in a line, with its status.
+abbrev pub JudgesTrace : Claimed → Outputs
+JudgesTrace c bytes code =
+    (verdict : Verdict) × IsVerdict kind_rules c.work.flat.nodes c.work.flat.homes (start_of c.work.flat.wiring c.work.script.components) c.trace verdict
+    × IsLine (verdict_line verdict) (verdict_status verdict) bytes code
+
 -- What a command owes for its words: a run the trace of the run within the limits of its options, a check the parts of the
--- circuit, a print the canonical text of the program, a verification the verdict on the trace.
+-- circuit, a print the canonical text of the program, a verification the verdict on the trace, a bench the line of the run of made
+-- work within the usual limits, whatever is fetched.
 abbrev pub owed_of : Command → List (List ℕ) → List Content → Outputs
 owed_of Run words = owed_by ReadsRun StopsRun (TracesRun (limits_of words))
 owed_of Check words = owed_by ReadsCircuit StopsCheck ListsParts
 owed_of Print words = owed_by ReadsProgram StopsPrint PrintsProgram
 owed_of Verify words = owed_by ReadsClaim StopsVerify JudgesTrace
+owed_of Bench words = λ answers. MeasuresMade (size_of words)
 
 -- The same, or the refusal of words that have no form, for which nothing is fetched.
 abbrev pub owed_for : Option Command → List (List ℕ) → List Content → Outputs

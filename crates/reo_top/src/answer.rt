@@ -1,10 +1,10 @@
 //! Answers: a text and a status.
 ghost use Rattle.std.specs.Prelude.{◌≡◌, ◌⊎◌};
 ghost use Rattle.reo_top.specs.Cases.{Refuses, EndsWithNoMemory, IsFair};
-ghost use Rattle.reo_top.specs.States.{sink_change};
+ghost use Rattle.reo_top_inputs.specs.States.{sink_change};
 
-use crate::status::{OUT_OF_MEMORY, Status, WRITE_FAULT};
 use reo_io::{Sink, put_all};
+use reo_top_inputs::{OUT_OF_MEMORY, Status, WRITE_FAULT};
 
 /// Writes a text whole, and answers this status: 9 where the sink does not take it whole.
 pub(crate) fn answer<S: Sink>(text: &[u8], status: u8, out: &mut S) -> Status

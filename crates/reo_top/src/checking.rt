@@ -1,23 +1,22 @@
 //! The parts of a circuit that is fetched and read.
 ghost use Rattle.std.specs.Prelude.{◌≡◌, [], ◌∷◌, length};
-ghost use Rattle.reo_top.specs.declared.command.Command.TheVariants as commands;
-ghost use Rattle.reo_top.specs.declared.role.Role.TheVariants as roles;
+ghost use Rattle.reo_top_inputs.specs.declared.command.Command.TheVariants as commands;
+ghost use Rattle.reo_top_inputs.specs.declared.role.Role.TheVariants as roles;
 ghost use Rattle.reo_top.specs.Answers.{IsAnswered};
 ghost use Rattle.reo_top.specs.Cases.{Cases, IsExact, IsFair};
-ghost use Rattle.reo_top.specs.Commands.{is_free};
+ghost use Rattle.reo_top_inputs.specs.Commands.{is_free};
 ghost use Rattle.reo_top.specs.Owed.{ListsParts, owed_by};
-ghost use Rattle.reo_top.specs.Readings.{ReadsCircuit, StopsCheck};
-ghost use Rattle.reo_top.specs.ReadSteps.{circuit_in};
-ghost use Rattle.reo_top.specs.States.{files_change, sink_change};
-ghost use Rattle.reo_top.specs.Statuses.{IsAmong, statuses_of};
+ghost use Rattle.reo_top_inputs.specs.Readings.{ReadsCircuit, StopsCheck};
+ghost use Rattle.reo_top_inputs.specs.ReadSteps.{circuit_in};
+ghost use Rattle.reo_top_inputs.specs.States.{files_change, sink_change};
+ghost use Rattle.reo_top_inputs.specs.Statuses.{IsAmong, statuses_of};
 
 use crate::answer::{answer, no_memory};
-use crate::reading::read_flat;
-use crate::status::{DONE, Status};
-use crate::stop::refuse;
+use crate::refusing::refuse;
 use reo_flatten::Flat;
 use reo_io::{Files, Sink};
 use reo_parts::parts_text;
+use reo_top_inputs::{DONE, Status, read_flat};
 use std::alloc::Global;
 
 /// Writes the parts of a circuit.

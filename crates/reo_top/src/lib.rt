@@ -2,25 +2,16 @@
 #![tactic(auto)]
 
 mod answer;
+mod append;
 mod checking;
-mod claim;
-mod command;
-mod fetching;
-mod limit;
+mod measuring;
 mod printing;
-mod reading;
-mod refusal;
-mod role;
+mod refusing;
 mod running;
-mod setting;
-mod status;
-mod stop;
 mod top;
 mod verdict;
 mod verifying;
 
-pub use command::{Command, command_of};
+pub use reo_top_inputs::{Command, Setting, Status, command_of};
 pub use reo_verify::{Refusal, Verdict, verify_trace};
-pub use setting::Setting;
-pub use status::Status;
 pub use top::reo;

@@ -1,21 +1,20 @@
 //! The canonical text of a circuit that is fetched and read.
 ghost use Rattle.std.specs.Prelude.{[], ◌∷◌};
-ghost use Rattle.reo_top.specs.declared.command.Command.TheVariants as commands;
-ghost use Rattle.reo_top.specs.declared.role.Role.TheVariants as roles;
+ghost use Rattle.reo_top_inputs.specs.declared.command.Command.TheVariants as commands;
+ghost use Rattle.reo_top_inputs.specs.declared.role.Role.TheVariants as roles;
 ghost use Rattle.reo_top.specs.Answers.{IsAnswered};
 ghost use Rattle.reo_top.specs.Cases.{Cases, IsExact, IsFair};
-ghost use Rattle.reo_top.specs.Commands.{is_free};
+ghost use Rattle.reo_top_inputs.specs.Commands.{is_free};
 ghost use Rattle.reo_top.specs.Owed.{PrintsProgram, owed_by};
-ghost use Rattle.reo_top.specs.Readings.{ReadsProgram, StopsPrint};
-ghost use Rattle.reo_top.specs.States.{files_change, sink_change};
-ghost use Rattle.reo_top.specs.Statuses.{IsAmong, statuses_of};
+ghost use Rattle.reo_top_inputs.specs.Readings.{ReadsProgram, StopsPrint};
+ghost use Rattle.reo_top_inputs.specs.States.{files_change, sink_change};
+ghost use Rattle.reo_top_inputs.specs.Statuses.{IsAmong, statuses_of};
 
 use crate::answer::{answer, no_memory};
-use crate::reading::read_program;
-use crate::status::{DONE, Status};
-use crate::stop::refuse;
+use crate::refusing::refuse;
 use reo_io::{Files, Sink};
 use reo_syntax::print;
+use reo_top_inputs::{DONE, Status, read_program};
 use reo_trees::Program;
 use std::alloc::Global;
 

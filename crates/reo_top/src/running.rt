@@ -2,25 +2,24 @@
 ghost use Rattle.std.specs.Prelude.{[], ◌∷◌, ◌≤◌, ◌^◌, map};
 ghost use Rattle.reo_kinds.specs.Kinds.{port_state_of};
 ghost use Rattle.reo_runner_ports.specs.Runnable.{CanRun};
-ghost use Rattle.reo_top.specs.declared.command.Command.TheVariants as commands;
-ghost use Rattle.reo_top.specs.declared.role.Role.TheVariants as roles;
+ghost use Rattle.reo_top_inputs.specs.declared.command.Command.TheVariants as commands;
+ghost use Rattle.reo_top_inputs.specs.declared.role.Role.TheVariants as roles;
 ghost use Rattle.reo_top.specs.Answers.{IsAnswered};
 ghost use Rattle.reo_top.specs.Cases.{Cases, IsExact, IsFair};
-ghost use Rattle.reo_top.specs.Commands.{is_free};
+ghost use Rattle.reo_top_inputs.specs.Commands.{is_free};
 ghost use Rattle.reo_top.specs.Owed.{TracesRun, owed_by};
-ghost use Rattle.reo_top.specs.Readings.{ReadsRun, StopsRun};
-ghost use Rattle.reo_top.specs.ReadSteps.{runnable_in};
-ghost use Rattle.reo_top.specs.States.{files_change, sink_change};
-ghost use Rattle.reo_top.specs.Statuses.{IsAmong, statuses_of};
+ghost use Rattle.reo_top_inputs.specs.Readings.{ReadsRun, StopsRun};
+ghost use Rattle.reo_top_inputs.specs.ReadSteps.{runnable_in};
+ghost use Rattle.reo_top_inputs.specs.States.{files_change, sink_change};
+ghost use Rattle.reo_top_inputs.specs.Statuses.{IsAmong, statuses_of};
 
 use crate::answer::no_memory;
-use crate::reading::{Work, read_run};
-use crate::status::{DONE, LIMIT_REACHED, PART_OVER, STUCK, Status, WRITE_FAULT};
-use crate::stop::refuse;
+use crate::refusing::refuse;
 use reo_io::{Files, Sink};
 use reo_kinds::Kind;
 use reo_runner::{End2, Limits, run};
 use reo_runs::{known_order, one_trace};
+use reo_top_inputs::{DONE, LIMIT_REACHED, PART_OVER, STUCK, Status, WRITE_FAULT, Work, read_run};
 use std::alloc::Global;
 
 /// Runs a script on a circuit, and writes the trace.

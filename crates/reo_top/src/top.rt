@@ -3,20 +3,19 @@ ghost use Rattle.std.specs.Prelude.{◌≡◌, [], slice_index_or};
 ghost use Rattle.reo_top.specs.Answers.{Answered, IsHonest, KeepsInputs};
 ghost use Rattle.reo_top.specs.Complete.{Complete};
 ghost use Rattle.reo_top.specs.Headline.{Headline};
-ghost use Rattle.reo_top.specs.States.{files_change, sink_change};
+ghost use Rattle.reo_top_inputs.specs.States.{files_change, sink_change};
 
 use crate::answer::answer;
 use crate::checking::check_circuit;
-use crate::command::{Command, command_of};
-use crate::limit::limits_of;
+use crate::measuring::measure_work;
 use crate::printing::print_circuit;
 use crate::running::run_circuit;
-use crate::status::{Status, WORDS_REFUSED};
 use crate::verifying::verify_claim;
 use reo_flatten_laws::{circuits_are_made, names_are_plain};
 use reo_io::{Files, Sink, Source};
 use reo_kinds::Kind;
 use reo_runs::runs_are_justified;
+use reo_top_inputs::{Command, Status, WORDS_REFUSED, command_of, limits_of, size_of};
 use reo_values::{Bytes, List};
 use std::alloc::Global;
 
@@ -78,6 +77,7 @@ pub fn reo<F: Files, R: Source, S: Sink>(
             let script = word_at(words, 2);
             verify_claim(alloc, circuit, script, word_at(words, 3), files, out)
         }
+        Some(Command::Bench) => measure_work(alloc, size_of(words), out),
         None => answer(b"words refused\n", WORDS_REFUSED, out),
     }
 }

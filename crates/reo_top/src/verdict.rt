@@ -4,34 +4,12 @@ ghost use Rattle.std.specs.Fmt.{decimal};
 ghost use Rattle.reo_verdicts.specs.declared.verdict.Verdict.TheVariants as verdicts;
 ghost use Rattle.reo_top.specs.VerdictTexts.{wrong_words, in_round, refusal_words, verdict_line, verdict_status};
 
-use crate::status::{DONE, TRACE_REFUSED};
+use crate::append::append_numbered;
 use reo_checker::Wrong;
+use reo_top_inputs::{DONE, TRACE_REFUSED};
 use reo_values::{Bytes, NoMemory};
 use reo_verify::{Refusal, Verdict};
 use std::alloc::Global;
-
-/// Adds a number in decimal. `NoMemory` is out of memory.
-fn append_number(alloc: Global, line: &mut Bytes, number: u64) -> Result<(), NoMemory>
-    ensures { OnOk result (line.new ≡ line.old ++ decimal number) }
-{
-    match number.to_string(alloc) {
-        Ok(digits) => line.append(digits.as_bytes()),
-        Err(_) => Err(NoMemory),
-    }
-}
-
-/// Adds a word with a number. `NoMemory` is out of memory.
-fn append_numbered(
-    alloc: Global,
-    line: &mut Bytes,
-    word: &[u8],
-    number: u64,
-) -> Result<(), NoMemory>
-    ensures { OnOk result (line.new ≡ line.old ++ (word.now ++ decimal number)) }
-{
-    line.append(word)?;
-    append_number(alloc, line, number)
-}
 
 /// Adds what is wrong with the entries of a round. `NoMemory` is out of memory.
 fn append_wrong(alloc: Global, line: &mut Bytes, wrong: Wrong, node: &[u8]) -> Result<(), NoMemory>

@@ -13,7 +13,7 @@ use Rattle.reo_trace_texts.specs.Texts.{IsTraceText}
 use Rattle.reo_runs.specs.Run.{start_of, firsts, IsRun}
 use Rattle.reo_runner_ports.specs.Kinds.{kind_rules}
 use Rattle.reo_run_texts.specs.Laws.{IsTold, RunsAreTraceTexts}
-use Rattle.reo_top.specs.Readings.{FlatCircuit, IsCircuitText, flat_of}
+use Rattle.reo_top_inputs.specs.Readings.{FlatCircuit, IsCircuitText, flat_of}
 
 -- The trace with these rounds and this ending.
 abbrev pub trace_with : List RoundLine → Ending → Trace

@@ -122,6 +122,23 @@ const CASES: &[Case] = &[
         status: 9,
         text: "connector",
     },
+    // made work is not fetched
+    Case {
+        words: "bench 1",
+        circuit: ONE,
+        fetch: 1,
+        room: 99,
+        status: 0,
+        text: "bench 1: 16 primitives, 22 rounds, 20 written, 20 delivered, stuck\n",
+    },
+    Case {
+        words: "bench 1",
+        circuit: ONE,
+        fetch: 0,
+        room: 8,
+        status: 9,
+        text: "bench 1:",
+    },
     Case {
         words: "walk C S",
         circuit: ONE,

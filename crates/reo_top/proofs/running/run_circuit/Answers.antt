@@ -1,15 +1,21 @@
-use Rattle.std.proofs.Common.{[], ◌∷◌, refl}
-use Rattle.reo_top.specs.declared.command.Command.TheVariants.{Run}
-use Rattle.reo_top.specs.declared.role.Role.TheVariants.{Circuit, Script}
+use Rattle.std.proofs.Common.{List, [], ◌∷◌, refl}
+use Rattle.reo_top_inputs.specs.declared.command.Command.TheVariants.{Run}
+use Rattle.reo_top_inputs.specs.declared.role.Role.TheVariants.{Circuit, Script}
 use Rattle.reo_top.specs.Owed.{TracesRun}
-use Rattle.reo_top.specs.Readings.{ReadsRun, StopsRun}
-use Rattle.reo_top.specs.ReadSteps.{runnable_in}
-use Rattle.reo_top.specs.Statuses.{statuses_of}
+use Rattle.reo_top_inputs.specs.declared.reading.Work.{Work}
+use Rattle.reo_top_inputs.specs.Fetched.{Content}
+use Rattle.reo_top_inputs.specs.Readings.{ReadsRun, StopsRun}
+use Rattle.reo_top_inputs.specs.ReadSteps.{runnable_in}
+use Rattle.reo_top_inputs.specs.Statuses.{statuses_of}
 use Rattle.reo_top.proofs.AnswerLemmas.{refused_answered, refused_status_in, made_answered, made_status_in}
-use Rattle.reo_top.proofs.ReadLemmas.{reading_at}
-use Rattle.reo_top.proofs.RunLemmas.{trace_status, trace_not_three, stop_read}
-use Rattle.reo_top.proofs.WorkLemmas.{run_reading}
+use Rattle.reo_top_inputs.proofs.ReadLemmas.{reading_at, same_stops}
+use Rattle.reo_top.proofs.RunLemmas.{trace_status, trace_not_three}
+use Rattle.reo_top_inputs.proofs.WorkLemmas.{run_reading}
 use Rattle.reo_top.proofs.running.run_circuit.Goals as goal
+
+-- What is read, as the code has it.
+abbrev Reads : List Content → Work → Type 0
+Reads answers work = ReadsRun answers (runnable_in work.flat work.script)
 
 pub returns-in-Ok-clause-answered : goal.returns-in-Ok-clause-answered
 returns-in-Ok-clause-answered g c =
@@ -24,9 +30,9 @@ returns-in-Ok-clause-status g c =
 
 pub returns-in-Err-clause-answered : goal.returns-in-Err-clause-answered
 returns-in-Err-clause-answered g c =
-    refused_answered ReadsRun StopsRun (TracesRun c.args.limits) (statuses_of Run) _ _ c.in-Err.ensures.read.answers (reading_at run_reading _) c.in-Err.stop (stop_read c.in-Err.ensures.read.answers c.in-Err.stop c.in-Err.ensures.read.read) c.refuse.ensures.refused
+    refused_answered ReadsRun StopsRun (TracesRun c.args.limits) (statuses_of Run) _ _ c.in-Err.ensures.read.answers (reading_at run_reading _) c.in-Err.stop (same_stops Reads ReadsRun StopsRun c.in-Err.ensures.read.answers c.in-Err.stop c.in-Err.ensures.read.read) c.refuse.ensures.refused
     (Circuit ∷ Script ∷ []) (c.args.circuit.now ∷ c.args.script.now ∷ []) _ c.in-Err.ensures.read.fetched
 
 pub returns-in-Err-clause-status : goal.returns-in-Err-clause-status
 returns-in-Err-clause-status g c =
-    refused_status_in ReadsRun StopsRun (TracesRun c.args.limits) (statuses_of Run) _ _ c.in-Err.ensures.read.answers (reading_at run_reading _) c.in-Err.stop (stop_read c.in-Err.ensures.read.answers c.in-Err.stop c.in-Err.ensures.read.read) c.refuse.ensures.refused refl refl
+    refused_status_in ReadsRun StopsRun (TracesRun c.args.limits) (statuses_of Run) _ _ c.in-Err.ensures.read.answers (reading_at run_reading _) c.in-Err.stop (same_stops Reads ReadsRun StopsRun c.in-Err.ensures.read.answers c.in-Err.stop c.in-Err.ensures.read.read) c.refuse.ensures.refused refl refl

@@ -1,13 +1,14 @@
 use Rattle.std.proofs.Common.{◌≡◌, ◌∙◌, ℕ, List, [], ◌∷◌, get_or, refl, ap}
 use Rattle.std.specs.Prelude.{Some}
-use Rattle.reo_top.specs.declared.command.Command.TheVariants.{Run, Check, Print, Verify}
-use Rattle.reo_top.specs.Commands.{command_of, names_of}
-use Rattle.reo_top.specs.Limits.{limits_of}
-use Rattle.reo_top.specs.States.{files_change}
+use Rattle.reo_top_inputs.specs.declared.command.Command.TheVariants.{Run, Check, Print, Verify, Bench}
+use Rattle.reo_top_inputs.specs.Commands.{command_of, names_of}
+use Rattle.reo_top_inputs.specs.Amounts.{size_of}
+use Rattle.reo_top_inputs.specs.Limits.{limits_of}
+use Rattle.reo_top_inputs.specs.States.{files_change}
 use Rattle.reo_top.proofs.CompleteLemmas.{complete, complete_else}
 use Rattle.reo_top.proofs.HeadlineLemmas.{headline, headline_else}
-use Rattle.reo_top.proofs.TopLemmas.{answered_as, answered_none, run_answered}
-use Rattle.reo_top.proofs.WordLemmas.{names_fit, check_name, print_name, two_names, three_names, command_seen, none_seen, no_run, verify_is_no_run, word_seen}
+use Rattle.reo_top.proofs.TopLemmas.{answered_as, answered_none, bench_answered, run_answered}
+use Rattle.reo_top_inputs.proofs.WordLemmas.{names_fit, check_name, print_name, two_names, three_names, command_seen, none_seen, no_run, is_no_run, word_seen}
 use Rattle.reo_top.proofs.top.reo.Goals as goal
 
 pub returns-in-Some-Run-clause-answer : goal.returns-in-Some-Run-clause-answer
@@ -27,6 +28,16 @@ returns-in-Some-Run-clause-headline g c = headline c.runs_are_justified.ensures 
 pub returns-in-Some-Run-clause-complete : goal.returns-in-Some-Run-clause-complete
 returns-in-Some-Run-clause-complete g c = complete c.args.words.now _ _ _ (returns-in-Some-Run-clause-answer g c) (returns-in-Some-Run-clause-headline g c) c.run_circuit.ensures.fair
 
+pub returns-in-Some-Check-clause-headline : goal.returns-in-Some-Check-clause-headline
+returns-in-Some-Check-clause-headline g c =
+    let is = command_seen c.args.words.now c.as_slice-words.result.now c.as_slice-words.ensures _ _ Check c.command_of.ensures c.in-Some-Check.is c.in-Some-Check.field-0-is in
+    headline_else c.args.words.now (files_change g.F.Files.told g.F.Files.failed g.F.Files.fetches c.args.files.now c.check_circuit.new.files) _ _ (is_no_run (command_of c.args.words.now) Check (λ e. cc) is)
+
+pub returns-in-Some-Check-clause-complete : goal.returns-in-Some-Check-clause-complete
+returns-in-Some-Check-clause-complete g c =
+    let is = command_seen c.args.words.now c.as_slice-words.result.now c.as_slice-words.ensures _ _ Check c.command_of.ensures c.in-Some-Check.is c.in-Some-Check.field-0-is in
+    complete_else c.args.words.now _ _ _ (is_no_run (command_of c.args.words.now) Check (λ e. cc) is)
+
 pub returns-in-Some-Check-clause-answer : goal.returns-in-Some-Check-clause-answer
 returns-in-Some-Check-clause-answer g c =
     let words : List (List ℕ) = c.args.words.now in
@@ -35,6 +46,16 @@ returns-in-Some-Check-clause-answer g c =
     let first : get_or words 1 [] ≡ c.word_at-in-Some-Check.result.now = word_seen words seen c.as_slice-words.ensures 1 _ c.word_at-in-Some-Check.ensures in
     let names : names_of Check words ≡ c.word_at-in-Some-Check.result.now ∷ [] = check_name words (names_fit words Check is) ∙ (λ i. first i ∷ []) in
     answered_as words _ _ _ Check (c.word_at-in-Some-Check.result.now ∷ []) is names c.check_circuit.ensures.answered
+
+pub returns-in-Some-Print-clause-headline : goal.returns-in-Some-Print-clause-headline
+returns-in-Some-Print-clause-headline g c =
+    let is = command_seen c.args.words.now c.as_slice-words.result.now c.as_slice-words.ensures _ _ Print c.command_of.ensures c.in-Some-Print.is c.in-Some-Print.field-0-is in
+    headline_else c.args.words.now (files_change g.F.Files.told g.F.Files.failed g.F.Files.fetches c.args.files.now c.print_circuit.new.files) _ _ (is_no_run (command_of c.args.words.now) Print (λ e. cc) is)
+
+pub returns-in-Some-Print-clause-complete : goal.returns-in-Some-Print-clause-complete
+returns-in-Some-Print-clause-complete g c =
+    let is = command_seen c.args.words.now c.as_slice-words.result.now c.as_slice-words.ensures _ _ Print c.command_of.ensures c.in-Some-Print.is c.in-Some-Print.field-0-is in
+    complete_else c.args.words.now _ _ _ (is_no_run (command_of c.args.words.now) Print (λ e. cc) is)
 
 pub returns-in-Some-Print-clause-answer : goal.returns-in-Some-Print-clause-answer
 returns-in-Some-Print-clause-answer g c =
@@ -48,12 +69,12 @@ returns-in-Some-Print-clause-answer g c =
 pub returns-in-Some-Verify-clause-headline : goal.returns-in-Some-Verify-clause-headline
 returns-in-Some-Verify-clause-headline g c =
     let is = command_seen c.args.words.now c.as_slice-words.result.now c.as_slice-words.ensures _ _ Verify c.command_of.ensures c.in-Some-Verify.is c.in-Some-Verify.field-0-is in
-    headline_else c.args.words.now (files_change g.F.Files.told g.F.Files.failed g.F.Files.fetches c.args.files.now c.verify_claim.new.files) _ _ (verify_is_no_run (command_of c.args.words.now) is)
+    headline_else c.args.words.now (files_change g.F.Files.told g.F.Files.failed g.F.Files.fetches c.args.files.now c.verify_claim.new.files) _ _ (is_no_run (command_of c.args.words.now) Verify (λ e. cc) is)
 
 pub returns-in-Some-Verify-clause-complete : goal.returns-in-Some-Verify-clause-complete
 returns-in-Some-Verify-clause-complete g c =
     let is = command_seen c.args.words.now c.as_slice-words.result.now c.as_slice-words.ensures _ _ Verify c.command_of.ensures c.in-Some-Verify.is c.in-Some-Verify.field-0-is in
-    complete_else c.args.words.now _ _ _ (verify_is_no_run (command_of c.args.words.now) is)
+    complete_else c.args.words.now _ _ _ (is_no_run (command_of c.args.words.now) Verify (λ e. cc) is)
 
 pub returns-in-Some-Verify-clause-answer : goal.returns-in-Some-Verify-clause-answer
 returns-in-Some-Verify-clause-answer g c =
@@ -66,6 +87,23 @@ returns-in-Some-Verify-clause-answer g c =
     let named : names_of Verify words ≡ c.word_at-circuit.result.now ∷ c.word_at-script.result.now ∷ c.word_at-in-Some-Verify.result.now ∷ [] =
     three_names words (names_fit words Verify is) ∙ (λ i. first i ∷ second i ∷ third i ∷ []) in
     answered_as words _ _ _ Verify (c.word_at-circuit.result.now ∷ c.word_at-script.result.now ∷ c.word_at-in-Some-Verify.result.now ∷ []) is named c.verify_claim.ensures.answered
+
+pub returns-in-Some-Bench-clause-headline : goal.returns-in-Some-Bench-clause-headline
+returns-in-Some-Bench-clause-headline g c =
+    let is = command_seen c.args.words.now c.as_slice-words.result.now c.as_slice-words.ensures _ _ Bench c.command_of.ensures c.in-Some-Bench.is c.in-Some-Bench.field-0-is in
+    headline_else c.args.words.now (files_change g.F.Files.told g.F.Files.failed g.F.Files.fetches c.args.files.now c.args.files.now) _ _ (is_no_run (command_of c.args.words.now) Bench (λ e. cc) is)
+
+pub returns-in-Some-Bench-clause-complete : goal.returns-in-Some-Bench-clause-complete
+returns-in-Some-Bench-clause-complete g c =
+    let is = command_seen c.args.words.now c.as_slice-words.result.now c.as_slice-words.ensures _ _ Bench c.command_of.ensures c.in-Some-Bench.is c.in-Some-Bench.field-0-is in
+    complete_else c.args.words.now _ _ _ (is_no_run (command_of c.args.words.now) Bench (λ e. cc) is)
+
+pub returns-in-Some-Bench-clause-answer : goal.returns-in-Some-Bench-clause-answer
+returns-in-Some-Bench-clause-answer g c =
+    let words : List (List ℕ) = c.args.words.now in
+    let is : command_of words ≡ Some Bench = command_seen words c.as_slice-words.result.now c.as_slice-words.ensures _ _ Bench c.command_of.ensures c.in-Some-Bench.is c.in-Some-Bench.field-0-is in
+    let size : c.size_of.result ≡ size_of words = c.size_of.ensures.size ∙ ap size_of c.as_slice-words.ensures in
+    bench_answered words _ _ _ c.size_of.result is size c.measure_work.ensures.cases c.measure_work.ensures.exact c.measure_work.ensures.status refl
 
 pub returns-in-None-clause-headline : goal.returns-in-None-clause-headline
 returns-in-None-clause-headline g c =

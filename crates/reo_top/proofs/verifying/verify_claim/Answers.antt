@@ -1,13 +1,15 @@
 use Rattle.std.proofs.Common.{List, [], ◌∷◌, refl}
-use Rattle.reo_top.specs.declared.command.Command.TheVariants.{Verify}
-use Rattle.reo_top.specs.declared.role.Role.TheVariants.{Circuit, Script, Trace}
-use Rattle.reo_top.specs.Claims.{ReadsClaim, StopsVerify, JudgesTrace}
-use Rattle.reo_top.specs.ReadSteps.{claimed_in}
-use Rattle.reo_top.specs.Statuses.{statuses_of}
+use Rattle.reo_top_inputs.specs.declared.command.Command.TheVariants.{Verify}
+use Rattle.reo_top_inputs.specs.declared.role.Role.TheVariants.{Circuit, Script, Trace}
+use Rattle.reo_top_inputs.specs.Claims.{ReadsClaim, StopsVerify}
+use Rattle.reo_top.specs.Owed.{JudgesTrace}
+use Rattle.reo_top_inputs.specs.ReadSteps.{claimed_in}
+use Rattle.reo_top_inputs.specs.Statuses.{statuses_of}
 use Rattle.reo_top.proofs.AnswerLemmas.{refused_answered, refused_status_in, made_answered, made_status_in}
-use Rattle.reo_top.specs.declared.claim.Claim.{Claim}
-use Rattle.reo_top.specs.Fetched.{Content}
-use Rattle.reo_top.proofs.ClaimLemmas.{claim_reading, claim_stop_read}
+use Rattle.reo_top_inputs.specs.declared.claim.Claim.{Claim}
+use Rattle.reo_top_inputs.specs.Fetched.{Content}
+use Rattle.reo_top_inputs.proofs.ClaimLemmas.{claim_reading}
+use Rattle.reo_top_inputs.proofs.ReadLemmas.{same_stops}
 use Rattle.reo_top.proofs.VerdictLemmas.{judged_status, judged_not_three}
 use Rattle.reo_top.proofs.verifying.verify_claim.Goals as goal
 
@@ -33,12 +35,12 @@ returns-in-Ok-clause-status g c =
 pub returns-in-Err-clause-answered : goal.returns-in-Err-clause-answered
 returns-in-Err-clause-answered g c =
     let law = claim_reading c.one_answer.ensures c.programs_are_spelled.ensures c.names_are_plain.ensures c.ports_are_told.ensures c.in-Err.ensures.read.answers c.in-Err.ensures.read.short in
-    let stopped = claim_stop_read Reads c.in-Err.ensures.read.answers c.in-Err.stop c.in-Err.ensures.read.read in
+    let stopped = same_stops Reads ReadsClaim StopsVerify c.in-Err.ensures.read.answers c.in-Err.stop c.in-Err.ensures.read.read in
     refused_answered ReadsClaim StopsVerify JudgesTrace (statuses_of Verify) _ _ c.in-Err.ensures.read.answers law c.in-Err.stop stopped c.refuse.ensures.refused
     (Circuit ∷ Script ∷ Trace ∷ []) (c.args.circuit.now ∷ c.args.script.now ∷ c.args.trace.now ∷ []) _ c.in-Err.ensures.read.fetched
 
 pub returns-in-Err-clause-status : goal.returns-in-Err-clause-status
 returns-in-Err-clause-status g c =
     let law = claim_reading c.one_answer.ensures c.programs_are_spelled.ensures c.names_are_plain.ensures c.ports_are_told.ensures c.in-Err.ensures.read.answers c.in-Err.ensures.read.short in
-    let stopped = claim_stop_read Reads c.in-Err.ensures.read.answers c.in-Err.stop c.in-Err.ensures.read.read in
+    let stopped = same_stops Reads ReadsClaim StopsVerify c.in-Err.ensures.read.answers c.in-Err.stop c.in-Err.ensures.read.read in
     refused_status_in ReadsClaim StopsVerify JudgesTrace (statuses_of Verify) _ _ c.in-Err.ensures.read.answers law c.in-Err.stop stopped c.refuse.ensures.refused refl refl

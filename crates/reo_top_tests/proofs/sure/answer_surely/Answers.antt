@@ -1,7 +1,8 @@
-use Rattle.reo_top_tests.proofs.Noted.{is_noted}
+use Rattle.std.proofs.Common.{sym}
+use Rattle.reo_top_inputs.proofs.FetchLemmas.{is_noted}
 use Rattle.reo_top_tests.proofs.sure.answer_surely.Goals as goal
 
 pub returns-clause-fetched : goal.returns-clause-fetched
 returns-clause-fetched c = λ three.
     let said = c.reo.ensures.answer in
-    is_noted _ said.answers said.fetched.few (said.blames.only three) said.fetched.failed
+    is_noted _ said.answers said.fetched.few (said.blames.only three) (sym said.fetched.failed)

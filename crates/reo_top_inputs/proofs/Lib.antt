@@ -1,0 +1,13 @@
+pub mod CircuitLemmas
+pub mod ClaimLemmas
+pub mod FetchLemmas
+pub mod FlatLemmas
+pub mod MadeLemmas
+pub mod NumberLemmas
+pub mod PortLemmas
+pub mod ReadLemmas
+pub mod ResultLemmas
+pub mod ScriptLemmas
+pub mod TraceLemmas
+pub mod WordLemmas
+pub mod WorkLemmas

@@ -1,0 +1,15 @@
+pub mod Amounts
+pub mod Claims
+pub mod Commands
+pub mod Fetched
+pub mod Limits
+pub mod Made
+pub mod Numbers
+pub mod ReadSteps
+pub mod Readings
+pub mod Refusals
+pub mod Roles
+pub mod Settings
+pub mod States
+pub mod Statuses
+pub mod Stops
