@@ -49,7 +49,7 @@ JudgesTrace c bytes code =
 
 -- What a command owes for its words: a run the trace of the run within the limits of its options, a check the parts of the
 -- circuit, a print the canonical text of the program, a verification the verdict on the trace, a bench the line of the run of made
--- work within the usual limits, for which nothing is fetched.
+-- work within the usual limits, whatever is fetched.
 abbrev pub owed_of : Command → List (List ℕ) → List Content → Outputs
 owed_of Run words = owed_by ReadsRun StopsRun (TracesRun (limits_of words))
 owed_of Check words = owed_by ReadsCircuit StopsCheck ListsParts
