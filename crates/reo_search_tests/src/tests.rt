@@ -8,6 +8,7 @@ use crate::circuits::drained;
 use crate::sets::held_to;
 use reo_kinds::Kind;
 use reo_knots::{Knots, find_knots};
+use reo_net_base::Primitive;
 use reo_net_circuit::Circuit;
 use reo_reach::{Supply, reach};
 use reo_search::{Part, arrange};
@@ -78,17 +79,17 @@ fn is_part(part: &Option<Part>, want: &Option<([u32; 3], bool)>) -> bool {
 }
 
 /// The first assignment of the knot. It ticks once.
-fn arranged<L: Ledger>(
+fn arranged<P: Primitive, L: Ledger>(
     rt: &impl Abort,
     alloc: Global,
-    circuit: &Circuit<Kind>,
+    circuit: &Circuit<P>,
     knots: &Knots,
     supply: &Supply,
     sets: &Sets,
     turn: u64,
     steps: &mut Steps<L>,
 ) -> Result<Option<Part>, Fail>
-    requires { AreKnots (net_of Kind.Primitive.behaviour circuit.now) knots.now }
+    requires { AreKnots (net_of P.behaviour circuit.now) knots.now }
     ensures { OnOk result (steps.new ≡ steps.old + 1) }
 {
     assert!(rt; 0 < knots.count());
@@ -99,10 +100,10 @@ fn arranged<L: Ledger>(
 }
 
 /// Whether the first assignment with a value at the loop joint is as it was found by hand.
-fn is_right<L: Ledger>(
+fn is_right<P: Primitive, L: Ledger>(
     rt: &impl Abort,
     alloc: Global,
-    circuit: &Circuit<Kind>,
+    circuit: &Circuit<P>,
     knots: &Knots,
     supply: &Supply,
     value: JointValue,
@@ -110,7 +111,7 @@ fn is_right<L: Ledger>(
     steps: &mut Steps<L>,
     want: &Option<([u32; 3], bool)>,
 ) -> Result<bool, Fail>
-    requires { AreKnots (net_of Kind.Primitive.behaviour circuit.now) knots.now }
+    requires { AreKnots (net_of P.behaviour circuit.now) knots.now }
 {
     let sets = held_to(alloc, value)?;
     let part = arranged(rt, alloc, circuit, knots, supply, &sets, turn, steps)?;
