@@ -16,11 +16,7 @@ fn list_of(alloc: Global, values: &[JointValue]) -> Result<List<JointValue>, NoM
 }
 
 /// All values at the first two joints, and one alone at the third.
-fn values_at(
-    alloc: Global,
-    joint: usize,
-    value: JointValue,
-) -> Result<List<JointValue>, NoMemory> {
+fn values_at(alloc: Global, joint: usize, value: JointValue) -> Result<List<JointValue>, NoMemory> {
     if joint == 2 {
         list_of(alloc, &[value])
     } else {

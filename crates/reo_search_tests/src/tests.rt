@@ -10,11 +10,11 @@ use reo_kinds::Kind;
 use reo_knots::{Knots, find_knots};
 use reo_net_base::Primitive;
 use reo_net_circuit::Circuit;
+use reo_propagate::Sets;
 use reo_reach::{Supply, reach};
 use reo_search::{Part, arrange};
 use reo_steps::Steps;
 use reo_support::JointValue::{self, Flow, GG, GR, Jam, RG};
-use reo_propagate::Sets;
 use reo_values::Value;
 use std::alloc::Global;
 use std::marker::Brand;
@@ -24,13 +24,13 @@ use std::test::Fail;
 
 /// A value at the joint that closes the loop, and the rows of the writer, the drain and the
 /// replicator in the first assignment with it, and whether it jams: `None` where there is none.
-const CASES: [(JointValue, Option<([u32; 3], bool)>); 5] = [
-    (Flow(0), Some(([0, 0, 0], false))),
-    (RG, Some(([1, 1, 3], false))),
-    (GR, Some(([1, 2, 2], false))),
+const CASES: [(JointValue, Option<(&'static [u32], bool)>); 5] = [
+    (Flow(0), Some((&[0, 0, 0], false))),
+    (RG, Some((&[1, 1, 3], false))),
+    (GR, Some((&[1, 2, 2], false))),
     // both ends of the drain would give a reason, and it requires one at one of them
     (GG, None),
-    (Jam, Some(([2, 3, 4], true))),
+    (Jam, Some((&[2, 3, 4], true))),
 ];
 
 /// The one assertion of all tests.
@@ -62,15 +62,17 @@ fn has_ones(supply: &Supply) -> bool {
 
 /// Whether there is one knot, of the three sides, whose loop joint is the last.
 fn is_one_knot(knots: &Knots) -> bool {
-    knots.count() == 1 && knots.sides(0) == [0, 1, 2].as_slice() && knots.loop_joints(0) == [2].as_slice()
+    knots.count() == 1
+        && knots.sides(0) == [0, 1, 2].as_slice()
+        && knots.loop_joints(0) == [2].as_slice()
 }
 
 /// Whether a part has these rows and jams or not.
-fn is_part(part: &Option<Part>, want: &Option<([u32; 3], bool)>) -> bool {
+fn is_part(part: &Option<Part>, want: &Option<(&'static [u32], bool)>) -> bool {
     match (part, want) {
         (Some(part), Some((rows, jammed))) => {
             part.sides.as_slice() == [0, 1, 2].as_slice()
-                && part.rows.as_slice() == rows.as_slice()
+                && part.rows.as_slice() == *rows
                 && part.jammed == *jammed
         }
         (None, None) => true,
@@ -109,7 +111,7 @@ fn is_right<P: Primitive, L: Ledger>(
     value: JointValue,
     turn: u64,
     steps: &mut Steps<L>,
-    want: &Option<([u32; 3], bool)>,
+    want: &Option<(&'static [u32], bool)>,
 ) -> Result<bool, Fail>
     requires { AreKnots (net_of P.behaviour circuit.now) knots.now }
 {
