@@ -10,7 +10,7 @@ use reo_kinds::Kind;
 use reo_knots::{Knots, find_knots};
 use reo_net_base::Primitive;
 use reo_net_circuit::Circuit;
-use reo_propagate::Sets;
+use reo_propagate::{Sets, narrow};
 use reo_reach::{Supply, reach};
 use reo_search::{Part, arrange};
 use reo_steps::Steps;
@@ -31,6 +31,16 @@ const CASES: [(JointValue, Option<(&'static [u32], bool)>); 5] = [
     // both ends of the drain would give a reason, and it requires one at one of them
     (GG, None),
     (Jam, Some((&[2, 3, 4], true))),
+];
+
+/// A value at the joint that closes the loop, and what is left at each joint when the sets are
+/// narrowed: `None` where nothing is left at some joint.
+const LEFT: [(JointValue, Option<&'static [JointValue]>); 5] = [
+    (Flow(0), Some(&[Flow(0), Flow(0), Flow(0)])),
+    (RG, Some(&[RG, GR, RG])),
+    (GR, Some(&[RG, RG, GR])),
+    (GG, None),
+    (Jam, Some(&[Jam, Jam, Jam])),
 ];
 
 /// The one assertion of all tests.
@@ -120,6 +130,58 @@ fn is_right<P: Primitive, L: Ledger>(
     Ok(is_part(&part, want))
 }
 
+/// Whether each set has this value alone.
+fn have(sets: &Sets, want: &[JointValue]) -> bool {
+    if sets.values.len() != want.len() {
+        return false;
+    }
+    for joint in 0..want.len() {
+        let set = sets.values.at(joint);
+        if set.len() != 1 || *set.at(0) != want[joint] {
+            return false;
+        }
+    }
+    true
+}
+
+/// Narrows the sets of the knot: whether each of them has a value.
+fn narrowed<P: Primitive>(
+    rt: &impl Abort,
+    alloc: Global,
+    circuit: &Circuit<P>,
+    knots: &Knots,
+    supply: &Supply,
+    sets: &mut Sets,
+) -> Result<bool, Fail>
+    requires { AreKnots (net_of P.behaviour circuit.now) knots.now }
+{
+    assert!(rt; 0 < knots.count());
+    assert!(rt; supply.lists().len() == circuit.joint_count());
+    assert!(rt; are_within(supply.lists(), sets));
+    let sides = knots.sides(0);
+    Ok(narrow(alloc, circuit, supply, sides, sets)?)
+}
+
+/// Whether with this value at the loop joint is left what was found by hand.
+fn is_left<P: Primitive>(
+    rt: &impl Abort,
+    alloc: Global,
+    circuit: &Circuit<P>,
+    knots: &Knots,
+    supply: &Supply,
+    value: JointValue,
+    want: &Option<&'static [JointValue]>,
+) -> Result<bool, Fail>
+    requires { AreKnots (net_of P.behaviour circuit.now) knots.now }
+{
+    let mut sets = held_to(alloc, value)?;
+    let full = narrowed(rt, alloc, circuit, knots, supply, &mut sets)?;
+    match want {
+        None => Ok(!full),
+        Some(left) => Ok(full && have(&sets, left)),
+    }
+}
+
 /// Asserts the first assignments with each value at the loop joint, in rounds 0 and 1.
 fn are_right<L: Ledger>(
     rt: &impl Abort,
@@ -143,6 +205,10 @@ fn are_right<L: Ledger>(
             )?;
             is(rt, right, "part");
         }
+    }
+    for (value, want) in &LEFT {
+        let right = is_left(rt, alloc, circuit, &knots, &supply, *value, want)?;
+        is(rt, right, "sets");
     }
     Ok(())
 }
