@@ -4,6 +4,7 @@
 mod line;
 mod narrowing;
 mod queue;
+mod restarting;
 mod sets;
 mod state;
 mod thinning;
@@ -12,6 +13,7 @@ mod waking;
 pub use line::Line;
 pub use narrowing::{other_side, propagate};
 pub use queue::Queue;
+pub use restarting::restart;
 pub use sets::{Sets, begin_with, narrow};
 pub use state::{State, begin};
 pub use thinning::Loss;

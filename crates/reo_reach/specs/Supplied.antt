@@ -65,6 +65,10 @@ pub record IsSupply (net : Net) (supplied : Supplied) : Type 0 where
   pub places : HasPlaces net supplied
   pub reached : (j : ℕ) → j < length net.joints → IsReached net supplied j
 
+-- No list has more than 257 items: one more than a joint that is not wide can have.
+abbrev pub AreShort : Supplied → Type 0
+AreShort supplied = (j : ℕ) → length (items_at supplied j) ≤ 257
+
 -- Two supplies are the same but at some joints.
 pub record OthersStay (joints : List ℕ) (old new : Supplied) : Type 0 where
   pub items : (k : ℕ) → (Contains joints k → ⊥) → items_at new k ≡ items_at old k

@@ -3,3 +3,4 @@ pub mod Holding
 pub mod Settling
 pub mod Walking
 pub mod Arranged
+pub mod First

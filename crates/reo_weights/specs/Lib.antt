@@ -1,0 +1,4 @@
+pub mod Widths
+pub mod Weights
+pub mod Over
+pub mod Laws

@@ -1,0 +1,10 @@
+-- Parts where too many items can stand.
+use Rattle.std.specs.Prelude.{ℕ, Bool}
+use Rattle.reo_net_base.specs.Net.{Net}
+use Rattle.reo_reach.specs.Width.{HasMany, IsJointIn}
+
+-- More than 256 items can stand at some joint of a set of sides.
+pub record IsWide (net : Net) (inside : ℕ → Bool) : Type 0 where
+  pub joint : ℕ
+  pub is_joint : IsJointIn net inside joint
+  pub many : HasMany net joint
