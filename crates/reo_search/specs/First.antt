@@ -8,8 +8,8 @@ use Rattle.reo_net_laws.specs.Sublists.{sides_in, part_rows}
 use Rattle.reo_weights.specs.Over.{IsWithin, IsOverBy}
 use Rattle.reo_weights.specs.Over.Cause.{spent, wide}
 use Rattle.reo_search.specs.declared.part.Part.{Part}
-use Rattle.reo_search.specs.declared.first.SearchFault.{SearchFault}
-use Rattle.reo_search.specs.declared.first.SearchFault.TheVariants as faults
+use Rattle.reo_search.specs.declared.fault.SearchFault.{SearchFault}
+use Rattle.reo_search.specs.declared.fault.SearchFault.TheVariants as faults
 use Rattle.reo_search.specs.Arranged.{IsJamRow}
 
 -- The part tells the sides of a set and the rows there of its first assignment, and whether one of them is a jam row.

@@ -2,15 +2,17 @@
 #![tactic(auto)]
 
 mod arranging;
-mod first;
+mod fault;
 mod hold;
 mod part;
 mod place;
 mod places;
+mod searching;
 mod walk;
 
 pub use arranging::{arrange, first_by};
-pub use first::{SearchFault, first, first_with, weight};
+pub use fault::SearchFault;
 pub use part::Part;
 pub use place::Place;
 pub use places::places_of;
+pub use searching::{first, first_with, weight};

@@ -10,6 +10,7 @@ ghost use Rattle.reo_propagate_rows.specs.Rows.{AreTables};
 ghost use Rattle.reo_propagate_rows.specs.Sets.{IsReady};
 ghost use Rattle.reo_search.specs.First.{IsFirstWithin, IsSearchFault, HasNoThreeColouring};
 
+use crate::fault::SearchFault;
 use crate::part::Part;
 use reo_boards::Board;
 use reo_knots::Knots;
@@ -22,28 +23,6 @@ use reo_steps::Steps;
 use reo_values::{List, NoMemory};
 use std::alloc::Global;
 use std::sync::ledger::Ledger;
-
-/// Why a knot is not searched.
-#[derive(Clone, Copy, Debug, PartialEq, Eq)]
-pub enum SearchFault {
-    /// More than 256 items can stand at a joint of this knot.
-    Wide { knot: usize },
-    /// The weight of this knot is above the budget.
-    Spent { knot: usize, weight: u64 },
-    /// Out of memory.
-    NoMemory,
-}
-
-impl From<NoMemory> for SearchFault {
-    ghost use Rattle.std.specs.Prelude.{◌≡◌};
-    ghost use Rattle.reo_search.specs.declared.first.SearchFault.TheVariants.{NoMemory as OutOfMemory};
-
-    ghost from_gives = { λ _ fault. fault ≡ OutOfMemory };
-
-    fn from(_: NoMemory) -> Self {
-        SearchFault::NoMemory
-    }
-}
 
 /// The weight of a knot of which no joint is wide: the product over its loop joints of the numbers of values supported there, at most
 /// 10^18. `NoMemory` is out of memory.
