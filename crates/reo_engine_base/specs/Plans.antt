@@ -11,8 +11,8 @@ use Rattle.reo_trace.specs.Entries.{is_idle}
 use Rattle.reo_engine_base.specs.declared.plan.Plan.{Plan}
 use Rattle.reo_engine_base.specs.declared.plan.PlanFault.{PlanFault}
 use Rattle.reo_engine_base.specs.declared.plan.PlanFault.TheVariants as faults
-use Rattle.reo_engine_base.specs.Over.{Cause, IsOver}
-use Rattle.reo_engine_base.specs.Over.Cause.{spent, wide}
+use Rattle.reo_weights.specs.Over.{Cause, IsOver}
+use Rattle.reo_weights.specs.Over.Cause.{spent, wide}
 
 -- How many sides have their jam row.
 abbrev pub jammed_sides : Net → List ℕ → ℕ

@@ -1,7 +1,7 @@
 -- The numbers of rounds that cannot be planned.
 use Rattle.std.proofs.Common.{ℕ, ◌≤◌, ◌^◌}
 use Rattle.reo_net_base.specs.Net.{Net}
-use Rattle.reo_engine_base.specs.Over.{Cause, IsOver}
+use Rattle.reo_weights.specs.Over.{Cause, IsOver}
 use Rattle.reo_trace_texts.specs.Lines.{IsEnding}
 use Rattle.reo_runs.specs.Run.{ending_by}
 

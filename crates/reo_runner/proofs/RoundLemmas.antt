@@ -10,7 +10,7 @@ use Rattle.reo_players.specs.Offers.{offer_for}
 use Rattle.reo_trace.specs.declared.line.RoundLine.{RoundLine}
 use Rattle.reo_trace.specs.Entries.{line_for}
 use Rattle.reo_engine_base.specs.declared.plan.Plan.{Plan}
-use Rattle.reo_engine_base.specs.Over.{IsOver}
+use Rattle.reo_weights.specs.Over.{IsOver}
 use Rattle.reo_engine_base.specs.Plans.{IsPlan}
 use Rattle.reo_engine_base.specs.Ready.{ready}
 use Rattle.reo_engine_base.specs.Rules.{Rules}

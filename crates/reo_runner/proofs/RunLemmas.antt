@@ -18,7 +18,7 @@ use Rattle.reo_trace.specs.declared.line.Ending.TheVariants as endings
 use Rattle.reo_trace.specs.EndingText.{ending_text}
 use Rattle.reo_trace.specs.TraceText.{rounds_text}
 use Rattle.reo_engine_base.specs.Rules.{Rules}
-use Rattle.reo_engine_base.specs.Over.Cause.{spent, wide}
+use Rattle.reo_weights.specs.Over.Cause.{spent, wide}
 use Rattle.reo_runs.specs.Round.{State, RoundOf}
 use Rattle.reo_runs.specs.Run.{Place, Leads, IsRun, EndsAs, HasBegun, place_after, over_after, firsts}
 use Rattle.reo_runs.specs.Whole.{GoesOn, HasRun}

@@ -11,8 +11,8 @@ use Rattle.reo_trace.specs.RoundText.{round_text}
 use Rattle.reo_trace.specs.Entries.{line_for}
 use Rattle.reo_engine_base.specs.Plans.{IsPlan}
 use Rattle.reo_engine_base.specs.Rules.{Rules}
-use Rattle.reo_engine_base.specs.Over.{IsOver}
-use Rattle.reo_engine_base.specs.Over.Cause.{spent, wide}
+use Rattle.reo_weights.specs.Over.{IsOver}
+use Rattle.reo_weights.specs.Over.Cause.{spent, wide}
 use Rattle.reo_runs.specs.Round.{State, RoundOf, net_ready}
 use Rattle.reo_runs.specs.Run.{firsts, over_after}
 use Rattle.reo_runs.specs.Written.{goes, is_in, is_out}

@@ -2,7 +2,7 @@
 use Rattle.std.proofs.Common.{◌≡◌, ℕ, inr}
 use Rattle.std.specs.Prelude.{◌⊎◌}
 use Rattle.reo_net_base.specs.Net.{Net}
-use Rattle.reo_engine_base.specs.Over.{Cause, IsOver}
+use Rattle.reo_weights.specs.Over.{Cause, IsOver}
 
 -- Either there is a cause or there is none.
 pub over_or_not : (budget : ℕ) (net : Net) → ((cause : Cause) × IsOver budget net cause) ⊎ ((cause : Cause) → IsOver budget net cause → ⊥)

@@ -11,7 +11,7 @@ use Rattle.reo_trace.specs.declared.line.Ending.{Ending}
 use Rattle.reo_trace.specs.declared.line.Ending.TheVariants.{Limit}
 use Rattle.reo_trace.specs.Entries.{line_for}
 use Rattle.reo_engine_base.specs.Rules.{Rules}
-use Rattle.reo_engine_base.specs.Over.{Cause, IsOver}
+use Rattle.reo_weights.specs.Over.{Cause, IsOver}
 use Rattle.reo_engine_base.specs.Ready.{ready}
 use Rattle.reo_runs.specs.Round.{State, Choosing, RoundOf, net_ready, advanced}
 use Rattle.reo_runs.specs.Run.{Place, Leads, EndsAs, HasBegun, place_after, ending_by, firsts}

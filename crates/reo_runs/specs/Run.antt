@@ -8,8 +8,8 @@ use Rattle.reo_trace.specs.declared.line.RoundLine.{RoundLine}
 use Rattle.reo_trace.specs.declared.line.Ending.{Ending}
 use Rattle.reo_trace.specs.declared.line.Ending.TheVariants as endings
 use Rattle.reo_engine_base.specs.Rules.{Rules}
-use Rattle.reo_engine_base.specs.Over.{Cause, IsOver}
-use Rattle.reo_engine_base.specs.Over.Cause.{spent, wide}
+use Rattle.reo_weights.specs.Over.{Cause, IsOver}
+use Rattle.reo_weights.specs.Over.Cause.{spent, wide}
 use Rattle.reo_runs.specs.Round.{State, Choosing, RoundOf, net_ready}
 
 -- How far a run has come: its state, and how it ended where it is done or stuck.

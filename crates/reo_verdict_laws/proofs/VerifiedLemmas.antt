@@ -4,8 +4,8 @@ use Rattle.reo_net_base.specs.Net.{Net}
 use Rattle.reo_trace.specs.declared.line.RoundLine.{RoundLine}
 use Rattle.reo_trace.specs.declared.line.Ending.{Ending}
 use Rattle.reo_engine_base.specs.Rules.{Rules}
-use Rattle.reo_engine_base.specs.Over.{Cause}
-use Rattle.reo_engine_base.specs.Over.Cause.{spent, wide}
+use Rattle.reo_weights.specs.Over.{Cause}
+use Rattle.reo_weights.specs.Over.Cause.{spent, wide}
 use Rattle.reo_runs.specs.Round.{State, RoundOf, net_ready}
 use Rattle.reo_runs.specs.Run.{Place, Leads, EndsAs, IsRun, place_after, ending_by, firsts}
 use Rattle.reo_verdicts.specs.Replays.{MayStop, colourings}

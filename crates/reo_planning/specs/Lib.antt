@@ -1,0 +1,4 @@
+pub mod Written
+pub mod Planned
+pub mod Faults
+pub mod Tables
