@@ -1,4 +1,5 @@
 pub mod Among
+pub mod Anew
 pub mod Begun
 pub mod Cutting
 pub mod Kept

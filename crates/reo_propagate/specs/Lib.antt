@@ -2,3 +2,4 @@ pub mod Queues
 pub mod Narrow
 pub mod Beginning
 pub mod ListedSets
+pub mod Setting

@@ -1,5 +1,5 @@
 //! A line of numbers: what came first is taken first.
-ghost use Rattle.std.specs.Prelude.{◌≡◌, [], ◌∷◌, ◌++◌, OnOk, OnErr, MatchOption};
+ghost use Rattle.std.specs.Prelude.{◌≡◌, [], ◌∷◌, ◌++◌, IfOk, OnOk, OnErr, MatchOption};
 
 use reo_values::NoMemory;
 use std::alloc::Global;
@@ -47,4 +47,15 @@ impl Line {
     {
         self.numbers.pop_front()
     }
+}
+
+/// These numbers in a line. `NoMemory` is out of memory.
+pub(crate) fn line_of(alloc: Global, numbers: &[usize]) -> Result<Line, NoMemory>
+    ensures { IfOk result (λ line. line ≡ numbers.now) }
+{
+    let mut line = Line::new(alloc);
+    for number in numbers {
+        line.join(*number)?;
+    }
+    Ok(line)
 }

@@ -1,27 +1,86 @@
 //! Beginning anew at some sides of a search that was made before.
-ghost use Rattle.std.specs.Prelude.{◌≡◌, ◌<◌, ◌+◌, ℕ, true, [], OnOk, length, slice_index_or};
+ghost use Rattle.std.specs.Prelude.{◌≡◌, ◌<◌, ◌+◌, ℕ, true, [], OnOk, OnErr, length, slice_index, slice_index_or};
 ghost use Rattle.reo_net_base.specs.Net.{net_of, all_sides};
 ghost use Rattle.reo_support.specs.declared.value.JointValue.{JointValue as Standing};
+ghost use Rattle.reo_boards.specs.Boards.{AreBoards};
 ghost use Rattle.reo_boards.specs.Marks.{IsJointOf};
 ghost use Rattle.reo_propagate_rows.specs.Rows.{AreTables};
 ghost use Rattle.reo_propagate_rows.specs.Sets.{code_of, family_of, IsReady};
 ghost use Rattle.reo_propagate.specs.Queues.{among};
 ghost use Rattle.reo_propagate.specs.Beginning.{IsSearch};
+ghost use Rattle.reo_propagate.specs.Setting.{AreSet, IsOfFirst, IsFresh, AreFresh};
 
+use crate::line::line_of;
 use crate::state::State;
 use reo_boards::Board;
 use reo_net_base::Primitive;
 use reo_net_circuit::Circuit;
 use reo_net_ends::Ends;
+use reo_propagate_rows::Flags;
 use reo_values::{List, NoMemory, Value};
 use std::alloc::Global;
+
+/// Sets all flags of a row. This takes no memory.
+fn set_row(table: &mut Flags, row: usize)
+    requires { row < length table.old }
+    ensures { AreSet (λ r. r ≡ row) table.old table.new }
+{
+    for place in 0..table.width(row) {
+        table.put(row, place, true);
+    }
+}
+
+/// Sets all flags of some rows. This takes no memory.
+fn set_rows(table: &mut Flags, rows: &[usize])
+    requires { (m : ℕ) → m < length rows.now → slice_index rows.now m < length table.old }
+    ensures { AreSet (IsOfFirst rows.now (length rows.now)) table.old table.new }
+{
+    for row in rows {
+        set_row(table, *row);
+    }
+}
+
+/// Begins anew at a side: all its rows and all values at its joints are there, and it waits. This
+/// takes no memory.
+fn freshen<P: Primitive>(circuit: &Circuit<P>, boards: &List<Board>, side: usize, state: &mut State)
+    requires boards { AreBoards (net_of P.behaviour circuit.now) boards.now }
+    requires side { side < length (all_sides (net_of P.behaviour circuit.now).primitives) }
+    requires alive { length state.old.alive ≡ length circuit.now.joints }
+    requires live { length state.old.rows.live ≡ length (all_sides (net_of P.behaviour circuit.now).primitives) }
+    requires waits { length state.old.queue.waits ≡ length (all_sides (net_of P.behaviour circuit.now).primitives) }
+    ensures { IsFresh (net_of P.behaviour circuit.now) side state.old state.new }
+{
+    let _ = circuit;
+    set_rows(&mut state.alive, boards.at(side).joints.as_slice());
+    set_row(&mut state.rows.live, side);
+    *state.queue.waits.at_mut(side) = true;
+}
+
+/// Begins anew at some sides, but for the line. This takes no memory.
+fn freshen_all<P: Primitive>(
+    circuit: &Circuit<P>,
+    boards: &List<Board>,
+    sides: &[usize],
+    state: &mut State,
+)
+    requires boards { AreBoards (net_of P.behaviour circuit.now) boards.now }
+    requires sides { (m : ℕ) → m < length sides.now → slice_index sides.now m < length (all_sides (net_of P.behaviour circuit.now).primitives) }
+    requires alive { length state.old.alive ≡ length circuit.now.joints }
+    requires live { length state.old.rows.live ≡ length (all_sides (net_of P.behaviour circuit.now).primitives) }
+    requires waits { length state.old.queue.waits ≡ length (all_sides (net_of P.behaviour circuit.now).primitives) }
+    ensures { AreFresh (net_of P.behaviour circuit.now) sides.now (length sides.now) state.old state.new }
+{
+    for side in sides {
+        freshen(circuit, boards, *side, state);
+    }
+}
 
 /// Begins anew at some sides: all their rows and all values at their joints are there again, and
 /// these sides wait in the line, and no others. It costs what these sides and their joints have.
 ///
 /// # Errors
 ///
-/// `NoMemory` is out of memory.
+/// `NoMemory` is out of memory; the search is then as it was.
 pub fn restart<P: Primitive>(
     alloc: Global,
     circuit: &Circuit<P>,
@@ -37,13 +96,12 @@ pub fn restart<P: Primitive>(
     requires sides { (s : ℕ) → among sides.now s ≡ true → s < length (all_sides (net_of P.behaviour circuit.now).primitives) }
     ensures search { OnOk result (IsSearch (net_of P.behaviour circuit.now) boards.now ends.now items.now (among sides.now) state.new) }
     ensures whole { OnOk result ((j side : ℕ) (v : Standing) → IsJointOf (net_of P.behaviour circuit.now) side j → among sides.now side ≡ true → code_of v < length (slice_index_or items.now j []) + 4 → family_of state.new.alive j v ≡ true) }
+    ensures err { OnErr result (state.new ≡ state.old) }
 {
-    let _ = alloc;
-    let _ = circuit;
-    let _ = boards;
     let _ = ends;
     let _ = items;
-    let _ = sides;
-    let _ = &state.queue;
-    Err(NoMemory)
+    let line = line_of(alloc, sides)?;
+    freshen_all(circuit, boards, sides, state);
+    state.queue.line = line;
+    Ok(())
 }

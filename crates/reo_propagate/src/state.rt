@@ -6,7 +6,7 @@ ghost use Rattle.reo_boards.specs.Boards.{AreBoards};
 ghost use Rattle.reo_propagate.specs.Queues.{among};
 ghost use Rattle.reo_propagate.specs.Beginning.{AreFlags, IsSearch, IsWhole};
 
-use crate::line::Line;
+use crate::line::line_of;
 use crate::queue::Queue;
 use reo_boards::Board;
 use reo_net_base::Primitive;
@@ -45,10 +45,7 @@ pub(crate) fn all_waiting(alloc: Global, count: usize, sides: &[usize]) -> Resul
     for _index in 0..count {
         waits.push(true)?;
     }
-    let mut line = Line::new(alloc);
-    for side in sides {
-        line.join(*side)?;
-    }
+    let line = line_of(alloc, sides)?;
     Ok(Queue { waits, line })
 }
 

@@ -1,5 +1,5 @@
 -- Adding items to a list.
-use Rattle.std.proofs.Common.{◌≡◌, ◌≢◌, inl, inr, ℕ, ◌+◌, ◌<◌, List, [], ◌∷◌, ◌++◌, true, length, get_or, nat_lt, sym, ◌∙◌, subst, arith, below_more, length-append}
+use Rattle.std.proofs.Common.{◌≡◌, ◌≢◌, inl, inr, ℕ, ◌+◌, ◌<◌, ◌≤◌, List, [], ◌∷◌, ◌++◌, true, length, get_or, nat_lt, sym, ◌∙◌, subst, arith, below_more, length-append}
 use Rattle.std.specs.Prelude.{Contains}
 use Rattle.std.proofs.Math.Seq.{get_or-append_seam}
 use Rattle.std.proofs.lemmas.Bool.Decides.{nat_tests}
@@ -17,6 +17,7 @@ added_nothing items wanted none = record {
   all = λ few x w. absurd (none x w);
   distinct = λ h. h;
   longer = omega arith;
+  short = λ le. le;
 }
 
 -- Nothing is added to a list of more than 256 items.
@@ -29,6 +30,7 @@ added_full items wanted full =
       all = λ few x w. absurd (omega (arith, many, few));
       distinct = λ h. h;
       longer = omega arith;
+      short = λ le. le;
     }
 
 -- An item that is there is not added.
@@ -39,6 +41,7 @@ added_there items item there = record {
   all = λ few x e. subst (λ (y : Value). Contains items y) (sym e) there;
   distinct = λ h. h;
   longer = omega arith;
+  short = λ le. le;
 }
 
 distinct_push : (items : List Value) (item : Value) → (Contains items item → ⊥) → AreDistinct items → AreDistinct (items ++ item ∷ [])
@@ -50,14 +53,15 @@ distinct_push items item new apart m n d lt n_in =
     (λ m m_lt same. new (m, m_lt, get_or_default items m item d m_lt ∙ sym (left m m_lt) ∙ same ∙ get_or-append_seam items item [] d))
     n (omega (arith, n_in, count)) m lt
 
--- An item that is not there is added.
-pub added_push : (items : List Value) (item : Value) → (Contains items item → ⊥) → AreAdded items (items ++ item ∷ []) (λ x. x ≡ item)
-added_push items item new = record {
+-- An item that is not there is added to a list that is not full.
+pub added_push : (items : List Value) (item : Value) → (Contains items item → ⊥) → length items ≤ 256 → AreAdded items (items ++ item ∷ []) (λ x. x ≡ item)
+added_push items item new room = record {
   kept = λ x h. Contains-append_left items (item ∷ []) x h;
   from = λ x h. elim (Contains-push_cases items item x h) [ inl there ↦ inl there | inr same ↦ inr (sym same) ];
   all = λ few x e. subst (λ (y : Value). Contains (items ++ item ∷ []) y) (sym e) (Contains-push items item);
   distinct = λ h. distinct_push items item new h;
   longer = omega (arith, length-append items (item ∷ []));
+  short = λ le. omega (arith, room, length-append items (item ∷ []));
 }
 
 -- What is wanted may be said in other words.
@@ -68,6 +72,7 @@ added_same old new wanted other there back are = record {
   all = λ few x w. are.all few x (back x w);
   distinct = are.distinct;
   longer = are.longer;
+  short = are.short;
 }
 
 -- What one of the first n steps wants.
@@ -89,4 +94,5 @@ added_more a b c wanted n ab bc = record {
       below_more (λ (m : ℕ). wanted m x → Contains c x) n (λ m lt v. bc.kept x (ab.all (omega (arith, few, bc.longer)) x (m, lt, v))) (λ v. bc.all few x v) w.0 w.1 w.2;
   distinct = λ h. bc.distinct (ab.distinct h);
   longer = omega (arith, ab.longer, bc.longer);
+  short = λ le. bc.short (ab.short le);
 }

@@ -1,14 +1,14 @@
 -- Lists that are made joint by joint.
-use Rattle.std.proofs.Common.{◌≡◌, ◌≢◌, ℕ, ◌+◌, ◌<◌, ◌≤◌, List, [], true, false, length, get_or, nat_lt, ap, sym, ◌∙◌, subst, arith, below_more, get_or-set_same, get_or-set_other}
+use Rattle.std.proofs.Common.{◌≡◌, ◌≢◌, inl, inr, ℕ, ◌+◌, ◌<◌, ◌≤◌, List, [], true, false, length, get_or, nat_lt, ap, sym, ◌∙◌, subst, arith, below_more, get_or-set_same, get_or-set_other}
 use Rattle.std.specs.Prelude.{Contains}
-use Rattle.std.proofs.lemmas.Bool.Decides.{nat_tests}
+use Rattle.std.proofs.lemmas.Bool.Decides.{nat_tests, eqb_tells}
 use Rattle.std.proofs.lemmas.List.{get_or_default, length-set}
 use Rattle.reo_values.specs.declared.value.Value.{Value}
 use Rattle.reo_net_base.specs.declared.joint.End.{End}
 use Rattle.reo_net_base.specs.Net.{Net}
 use Rattle.reo_reach.specs.Standing.{giver_of, Brings, CanStand}
 use Rattle.reo_reach.specs.Standing.CanStand.{alone, passed}
-use Rattle.reo_reach.specs.Supplied.{Supplied, items_at, is_wide, HasPlaces, AreDistinct, IsClear, IsReached, OthersStay}
+use Rattle.reo_reach.specs.Supplied.{Supplied, items_at, is_wide, HasPlaces, AreDistinct, IsClear, IsReached, AreShort, OthersStay}
 use Rattle.reo_reach.specs.Supplied.Leads.{here, on}
 use Rattle.reo_reach.specs.InOrder.{AreInOrder}
 use Rattle.reo_reach.specs.Added.{IsProduced, IsMade, renewed}
@@ -102,6 +102,13 @@ module _ (net : Net) (joints : List ℕ) (ordered : AreInOrder net joints) where
       one_list = length-set s.items (get_or joints at 0) items ∙ places.one_list;
       one_mark = length-set s.wide (get_or joints at 0) (nat_lt 256 (length items)) ∙ places.one_mark;
     }
+
+    -- A list that is short is put among short ones.
+    pub more_short : AreShort s → length items ≤ 257 → AreShort (renewed s (get_or joints at 0) items)
+    more_short short le k = elim (eqb_tells k j) [
+      | inl same ↦ subst (λ (i : ℕ). length (items_at new i) ≤ 257) (sym same.1) (subst (λ (xs : List Value). length xs ≤ 257) (sym here_items) le)
+      | inr apart ↦ subst (λ (xs : List Value). length xs ≤ 257) (sym (other_items k apart.1)) (short k)
+    ]
 
     pub more_others : (old : Supplied) → OthersStay joints old s → OthersStay joints old (renewed s (get_or joints at 0) items)
     more_others old stay = record {

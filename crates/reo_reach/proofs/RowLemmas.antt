@@ -182,4 +182,5 @@ all_made net supplied j giver n items same count are = record {
   whole = λ few row x made.
       let here = subst (λ (e : End). IsProduced net supplied e row x) same made in
       are.all few x (row, omega (arith, count, (produced_flows net supplied giver row x here).plain), here);
+  short = are.short (omega arith);
 }

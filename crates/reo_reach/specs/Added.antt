@@ -14,6 +14,7 @@ pub record AreAdded (old new : List Value) (wanted : Value → Type 0) : Type 0 
   pub all : length new ≤ 256 → (item : Value) → wanted item → Contains new item
   pub distinct : AreDistinct old → AreDistinct new
   pub longer : length old ≤ length new
+  pub short : length old ≤ 257 → length new ≤ 257
 
 -- What a row gives at an end: by the state alone, or for an item in the list of the joint that
 -- decides.
@@ -30,6 +31,7 @@ pub record IsMade (net : Net) (supplied : Supplied) (j : ℕ) (items : List Valu
   pub distinct : AreDistinct items
   pub whole : length items ≤ 256 → (row : ℕ) (item : Value)
       → IsProduced net supplied (giver_of net j) row item → Contains items item
+  pub short : length items ≤ 257
 
 -- A supply with a new list at a joint, which is wide where there are more than 256 items.
 abbrev pub renewed : Supplied → ℕ → List Value → Supplied

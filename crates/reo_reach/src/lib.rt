@@ -10,7 +10,7 @@
 //! where it is not wide and no directed path leads to it from a wide joint. The list of a clear
 //! joint is exactly the items that can stand there, each once. A joint where more than 256 items
 //! can stand is not clear. Of the list of a joint that is not clear no more is said than that its
-//! items can stand there, and that none stands twice.
+//! items can stand there, and that none stands twice. No list has more than 257 items.
 #![tactic(auto)]
 
 mod laws;

@@ -1,5 +1,5 @@
 //! What rows give at an end.
-ghost use Rattle.std.specs.Prelude.{◌≡◌, ◌<◌, ◌+◌, OnOk, Some, None, Contains, length};
+ghost use Rattle.std.specs.Prelude.{◌≡◌, ◌<◌, ◌≤◌, ◌+◌, OnOk, Some, None, Contains, length};
 ghost use Rattle.reo_values.specs.declared.value.Value.{Value as Item};
 ghost use Rattle.reo_net_base.specs.Behaviour.{IsPlainRow};
 ghost use Rattle.reo_net_base.specs.Ends.{IsGiver};
@@ -29,6 +29,7 @@ fn add_alone<P: Primitive>(
     requires giver { IsGiver (net_of P.behaviour circuit.now) giver }
     requires flows { FlowsAt (net_of P.behaviour circuit.now) giver row }
     requires alone { from_in (net_of P.behaviour circuit.now) row giver ≡ None }
+    requires room { length items.old ≤ 256 }
     ensures { let net = net_of P.behaviour circuit.now in
         OnOk result (AreAdded items.old items.new (GivesAlone net giver row)) }
 {
@@ -107,6 +108,7 @@ fn add_given<P: Primitive>(
     requires supply { HasPlaces (net_of P.behaviour circuit.now) supply.now }
     requires giver { IsGiver (net_of P.behaviour circuit.now) giver }
     requires flows { FlowsAt (net_of P.behaviour circuit.now) giver row }
+    requires room { length items.old ≤ 256 }
     ensures { let net = net_of P.behaviour circuit.now in
         OnOk result (AreAdded items.old items.new (IsProduced net supply.now giver row)) }
 {

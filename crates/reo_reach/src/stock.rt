@@ -1,5 +1,5 @@
 //! Lists in which no item stands twice.
-ghost use Rattle.std.specs.Prelude.{◌≡◌, ◌<◌, ◌↔◌, IsTrue, OnOk, Contains, length, nat_lt};
+ghost use Rattle.std.specs.Prelude.{◌≡◌, ◌<◌, ◌≤◌, ◌↔◌, IsTrue, OnOk, Contains, length, nat_lt};
 ghost use Rattle.reo_reach.specs.Added.{AreAdded};
 
 use reo_values::{List, NoMemory, Value, same_item};
@@ -23,8 +23,9 @@ fn is_among(items: &[Value], item: &Value) -> bool
     false
 }
 
-/// Adds an item, unless it is there.
+/// Adds an item to a list that is not full, unless it is there.
 pub(crate) fn add(items: &mut List<Value>, item: Value) -> Result<(), NoMemory>
+    requires { length items.old ≤ 256 }
     ensures { OnOk result (AreAdded items.old items.new (λ x. x ≡ item)) }
 {
     if is_among(items.as_slice(), &item) {

@@ -1,7 +1,7 @@
 //! The items that can stand at each joint.
 ghost use Rattle.std.specs.Prelude.{◌≡◌, ◌<◌, [], IfOk, length, replicate, false};
 ghost use Rattle.reo_values.specs.declared.value.Value.{Value as Item};
-ghost use Rattle.reo_reach.specs.Supplied.{items_at, is_wide, supplied_of};
+ghost use Rattle.reo_reach.specs.Supplied.{items_at, is_wide, supplied_of, AreShort};
 ghost use Rattle.reo_reach.specs.Added.{renewed};
 
 use crate::stock::is_full;
@@ -34,7 +34,7 @@ impl Model for Supply {
 
 /// So many empty lists.
 fn no_lists(alloc: Global, count: usize) -> Result<Vec<List<Value>>, NoMemory>
-    ensures { IfOk result (λ lists. length lists.items ≡ count) }
+    ensures { IfOk result (λ lists. lists.items ≡ replicate count []) }
 {
     let mut lists = List::new(alloc);
     for index in 0..count {
@@ -59,6 +59,7 @@ impl Supply {
     pub fn unknown(alloc: Global, joints: usize) -> Result<Supply, NoMemory>
         ensures lists { IfOk result (λ supply. length supply.items ≡ joints) }
         ensures marks { IfOk result (λ supply. length supply.wide ≡ joints) }
+        ensures short { IfOk result AreShort }
     {
         let items = no_lists(alloc, joints)?;
         let wide = no_marks(alloc, joints)?;

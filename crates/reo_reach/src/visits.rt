@@ -6,7 +6,7 @@ ghost use Rattle.reo_net_base.specs.Net.{net_of, behaviour_at};
 ghost use Rattle.reo_net_ends.specs.Ends.{AreEnds};
 ghost use Rattle.reo_reach.specs.Added.{IsMade, IsRenewed};
 ghost use Rattle.reo_reach.specs.InOrder.{AreInOrder};
-ghost use Rattle.reo_reach.specs.Supplied.{HasPlaces, IsReached, IsSupply, OthersStay};
+ghost use Rattle.reo_reach.specs.Supplied.{AreShort, HasPlaces, IsReached, IsSupply, OthersStay};
 
 use crate::rows::add_row;
 use crate::supply::Supply;
@@ -90,6 +90,7 @@ pub fn reach_at<P: Primitive>(
         OnOk result ((j : ℕ) → Contains joints.now j → IsReached net supply.new j) }
     ensures others { OthersStay joints.now supply.old supply.new }
     ensures places { HasPlaces (net_of P.behaviour circuit.now) supply.new }
+    ensures short { AreShort supply.old → AreShort supply.new }
 {
     for at in 0..joints.len() {
         renew(alloc, circuit, ends, joints[at], supply)?;
@@ -100,7 +101,8 @@ pub fn reach_at<P: Primitive>(
 /// The items that can stand at each joint of a circuit in its present state. `NoMemory` is out of
 /// memory.
 pub fn reach<P: Primitive>(alloc: Global, circuit: &Circuit<P>) -> Result<Supply, NoMemory>
-    ensures { IfOk result (IsSupply (net_of P.behaviour circuit.now)) }
+    ensures supply { IfOk result (IsSupply (net_of P.behaviour circuit.now)) }
+    ensures short { IfOk result AreShort }
 {
     circuit.known();
     let ends = ends_of(alloc, circuit)?;

@@ -16,4 +16,4 @@ returns c =
     let there = c.is_among.ensures.1 (subst (λ (xs : List Value). Contains xs c.args.item) (sym c.as_slice.ensures) has) in
     let wrong = c.if-is_among.false in
     cc in
-    on_ok_weaker c.push.result (λ after. subst (λ (xs : List Value). AreAdded c.args.items.now xs (λ x. x ≡ c.args.item)) (sym after) (added_push c.args.items.now c.args.item new)) c.push.ensures.ok
+    on_ok_weaker c.push.result (λ after. subst (λ (xs : List Value). AreAdded c.args.items.now xs (λ x. x ≡ c.args.item)) (sym after) (added_push c.args.items.now c.args.item new c.requires)) c.push.ensures.ok

@@ -16,8 +16,8 @@ reach_at-requires-clause-supply g c = record {
   one_mark = c.in_ok-supply.ensures.marks ∙ c.joint_count.ensures;
 }
 
-pub returns : goal.returns
-returns g c =
+pub returns-clause-supply : goal.returns-clause-supply
+returns-clause-supply g c =
     let net : Net = net_of g.P.Primitive.behaviour c.args.circuit.now in
     let order : List ℕ = c.order.result.now in
     record {
