@@ -9,16 +9,13 @@ use Rattle.reo_weights.specs.Over.{Cause, IsOver}
 use Rattle.reo_weights.specs.Over.Cause.{spent, wide}
 use Rattle.reo_weights.specs.Laws.{WeightIsSmall, CausesAreSmall}
 use Rattle.reo_weights.proofs.NumberLemmas.{number_below}
-
--- No weight is above the greatest.
-pub small : WeightIsSmall
-small net inside weight is = omega (arith, is.is)
+use Rattle.reo_weights.proofs.WeightLemmas.{not_above}
 
 -- The numbers that a cause names are small.
 pub small_numbers : CausesAreSmall
 small_numbers budget net (spent knot weight limit) is =
     let below = number_below (SameKnot net) (side_count net) is.numbers is.count is.numbered is.knot is.in_range in
-    (omega (arith, below, is.over.0), small net _ weight is.over.2.weighs, is.over.1)
+    (omega (arith, below, is.over.0), not_above net _ weight is.over.2.weighs, is.over.1)
 small_numbers budget net (wide knot) is =
     let below = number_below (SameKnot net) (side_count net) is.numbers is.count is.numbered is.knot is.in_range in
     omega (arith, below, is.over.0)

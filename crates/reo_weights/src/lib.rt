@@ -8,4 +8,4 @@ mod weights;
 
 pub use numbers::numbers_are_one;
 pub use over::causes_are_small;
-pub use weights::weight_is_small;
+pub use weights::{weight_is_one, weight_is_small};
