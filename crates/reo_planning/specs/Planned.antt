@@ -4,24 +4,17 @@ use Rattle.reo_values.specs.declared.value.Value.{Value}
 use Rattle.reo_net_base.specs.Net.{Net}
 use Rattle.reo_net_base.specs.Sides.{side_count}
 use Rattle.reo_net_base.specs.First.{IsFirst}
-use Rattle.reo_net_laws.specs.Keys.{IsFirstIn}
+use Rattle.reo_still.specs.Joining.{HaveFirsts}
 use Rattle.reo_knots.specs.Knots.{Knotted, in_knot, knot_count}
 use Rattle.reo_weights.specs.Weights.{IsWeight}
 use Rattle.reo_weights.specs.Over.{Cause, IsWithin, IsOver}
 use Rattle.reo_net_base.specs.declared.colouring.Colouring.{Colouring}
 
--- A set of sides is within a budget, and rows are there those of its first assignment.
-pub record IsPlannedOn (budget : ℕ) (net : Net) (inside : ℕ → Bool) (turn : ℕ) (rows : List ℕ) : Type 0 where
-  pub within : IsWithin budget net inside
-  pub first_rows : List ℕ
-  pub items : List (Option Value)
-  pub first : IsFirstIn net inside turn first_rows items
-  pub same : (s : ℕ) → s < side_count net → inside s ≡ true → slice_index rows s ≡ slice_index first_rows s
-
--- A row for each side, and the first n parts are planned.
+-- A row for each side; the first n parts are within a budget, and the rows there are those of their first assignments.
 pub record ArePlanned (budget : ℕ) (net : Net) (knots : Knotted) (turn n : ℕ) (rows : List ℕ) : Type 0 where
   pub one_row : length rows ≡ side_count net
-  pub each : (k : ℕ) → k < n → IsPlannedOn budget net (in_knot knots.numbers k) turn rows
+  pub within : (k : ℕ) → k < n → IsWithin budget net (in_knot knots.numbers k)
+  pub firsts : HaveFirsts net knots.numbers n turn rows
 
 -- No part is over, and this is the first colouring.
 pub record IsFirstBy (budget : ℕ) (net : Net) (turn : ℕ) (colouring : Colouring) : Type 0 where

@@ -1,0 +1,11 @@
+use Rattle.std.proofs.Common.{◌≡◌, ℕ, List, length, take}
+use Rattle.reo_net_laws.specs.Sublists.{part_rows}
+use Rattle.reo_planning.specs.Written.{AreWritten}
+use Rattle.reo_planning.proofs.rows.put_rows.Given as goal
+
+-- The rows of the first sides of the part are written down.
+abbrev pub invariant-loop-index : goal.invariant-loop-index
+invariant-loop-index l = record {
+  one_each : length l.rows ≡ length l.initial.rows;
+  written : (from : List ℕ) → l.part.rows ≡ part_rows l.part.sides from → AreWritten (take l.index l.part.sides) from l.initial.rows l.rows;
+}
