@@ -15,6 +15,7 @@ no_item : (net : Net) (rows : List ℕ) (items : List (Option Value)) (joint : J
 no_item net rows items joint None calm fits = refl
 no_item net rows items joint (Some item) calm fits = absurd (calm fits.flows)
 
+-- Where no giver flows, no joint has an item.
 pub still_no_items : StillPartsHaveNoItems
 still_no_items net wired inside rows items is still j d lt h =
     let joint : Joint = get_or net.joints j d in
@@ -36,6 +37,7 @@ flows_both J G h e = cc
 flows_both J R h e = cc
 flows_both J J h e = cc
 
+-- Where no joint has an item, neither of its ends flows.
 pub no_items_still : PartsWithoutItemsAreStill
 no_items_still net wired inside closed rows items is without e e_in h flows =
     let found = joint_of net wired e e_in in

@@ -76,7 +76,7 @@ module _ (inside : ℕ → Bool) (x y : List ℕ) where
         ∙ ap (ordering_then (order_by (within inside (leading_positions later ss 0)) x y)) (order_split (class_positions later ss 0) rows))
 
 -- The mark of an end of a side.
-pub mark_of : (net : Net) (rows : List ℕ) (k : ℕ) (o : Owner net.primitives k) (end : ℕ) → (behaviour_at net.primitives o.primitive).side_of end ≡ o.number
+mark_of : (net : Net) (rows : List ℕ) (k : ℕ) (o : Owner net.primitives k) (end : ℕ) → (behaviour_at net.primitives o.primitive).side_of end ≡ o.number
     → mark_at net rows (end_of o.primitive end) ≡ (behaviour_at net.primitives o.primitive).mark o.number (get_or rows k 0) end
 unfolding mark_at
 mark_of net rows k o end is =
@@ -108,6 +108,7 @@ module _ (net : Net) (wired : IsWired net) (inside : ℕ → Bool) (rows : List 
       rw (zero-add, owner_side net.primitives j o d)
       (class_alike (behaviour_at net.primitives o.primitive) (wired.lawful o.primitive o.primitive_in) o.number (get_or others j 0) (get_or rows j 0) o.number_in other_in row_in (still_at j o h) turn later))
 
+-- So what is first in one round is first in each.
 pub still_stay_first : StillPartsStayFirst
 still_stay_first net wired inside turn later rows items first still = record {
   assignment = first.assignment;

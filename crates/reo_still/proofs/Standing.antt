@@ -51,5 +51,6 @@ module _ (b : Behaviour) (lawful : IsLawful b) (side other row : ℕ) (side_in :
         ]
       ]
 
+  -- So the two classes compare in two rounds alike.
   pub class_alike : (turn later : ℕ) → nat_cmp (b.class side other turn) (b.class side row turn) ≡ nat_cmp (b.class side other later) (b.class side row later)
   class_alike turn later = compared_alike (b.class side other) (b.class side row) class_stands turn later

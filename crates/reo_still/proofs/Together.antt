@@ -131,6 +131,7 @@ module _ (net : Net) (wired : IsWired net) (numbers : List ℕ) (count : ℕ) (a
         (sym (key_inside (in_knot numbers k) (positions net turn) rows part.others (λ t h. part.same t (in_range k t h) h)))
         ∙ ap (λ (ps : List Position). order_by ps others rows) places ∙ less)
 
+-- The rows with the items of the parts are a first colouring.
 pub parts_make_first : PartsMakeFirst
 parts_make_first net wired numbers count are turn rows one_row parts = record {
   items = items net wired numbers count are turn rows one_row parts;

@@ -1,0 +1,5 @@
+pub mod Turned
+pub mod EndLemmas
+pub mod StandLemmas
+pub mod SupportLemmas
+pub mod WithinLemmas
