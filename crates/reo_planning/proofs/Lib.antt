@@ -1,2 +1,4 @@
+pub mod KnotSets
+pub mod Shapes
+pub mod Elsewhere
 pub mod Writing
-pub mod Collecting
