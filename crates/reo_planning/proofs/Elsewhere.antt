@@ -43,9 +43,6 @@ mark_is net rows e = refl
 -- A part of which no primitive changes.
 module _ (net other : Net) (wired : IsWired net) (after : IsWired other) (knots : Knotted) (are : AreKnots net knots) (kept : Kept) (is : IsElsewhere net other knots kept)
     (k : ℕ) (lt : k < knot_count knots) (settled : is_settled kept k ≡ true) where
-  inside : ℕ → Bool
-  inside = in_knot knots.numbers k
-
   same_at : (i side : ℕ) → i < length net.primitives → side < (behaviour_at net.primitives i).sides → in_knot knots.numbers k (first_side net.primitives i + side) ≡ true
       → behaviour_at other.primitives i ≡ behaviour_at net.primitives i
   same_at i side i_in side_in h =
