@@ -7,9 +7,11 @@ ghost use Rattle.reo_engine_base.specs.Plans.{IsPlan, IsPlanFault, Suits};
 ghost use Rattle.reo_knots.specs.Knots.{AreKnots, knot_count};
 ghost use Rattle.reo_planning.specs.Keeping.{AllServe};
 ghost use Rattle.reo_planning.specs.Planned.{AreWeights, sum_below, weight_left};
+ghost use Rattle.reo_planning.specs.Unsettling.{IsUnsettled};
 ghost use Rattle.reo_engine.specs.Engine.{net_now};
 ghost use Rattle.reo_engine.specs.Changes.{AreThoseThatFlowed, OthersStay};
 ghost use Rattle.reo_engine.specs.Isolation.{AreFirstInParts};
+ghost use Rattle.reo_engine.specs.Settled.{StaySettled};
 
 use crate::changes::{all_marked, mark, mark_flowing};
 use crate::offering::offer_fault;
@@ -132,6 +134,9 @@ impl<P: Ported> Engine<P> {
         ensures rounds { self.new.rounds ≡ self.old.rounds }
         ensures changed { let marks = change_at (λ _. true) self.old.changed port in
             OnOk result (self.new.changed ≡ marks) }
+        ensures settled { let net = net_now P.behaviour self.old in let knots = self.old.knots in
+            OnOk result (IsUnsettled net knots port self.old.kept self.new.kept) }
+        ensures knots { self.new.knots ≡ self.old.knots }
         ensures refused { OnErr result (self.new ≡ self.old) }
         ensures handed_back { IfErr result (λ declined. declined.offer ≡ offer) }
     {
@@ -164,6 +169,9 @@ impl<P: Ported> Engine<P> {
         ensures rounds { self.new.rounds ≡ self.old.rounds }
         ensures changed { let marks = change_at (λ _. true) self.old.changed port in
             result ≡ true → self.new.changed ≡ marks }
+        ensures settled { let net = net_now P.behaviour self.old in let knots = self.old.knots in
+            result ≡ true → IsUnsettled net knots port self.old.kept self.new.kept }
+        ensures knots { self.new.knots ≡ self.old.knots }
         ensures same { result ≡ false → self.new ≡ self.old }
     {
         if self.circuit.ports() <= port {
@@ -251,6 +259,9 @@ impl<P: Ported> Engine<P> {
             AreThoseThatFlowed net plan.colouring.rows self.new.changed }
         ensures others { let old = self.old.circuit.primitives in
             OthersStay self.new.changed old self.new.circuit.primitives }
+        ensures settled { let net = net_now P.behaviour self.old in let knots = self.old.knots in
+            StaySettled net knots self.new.changed self.old.kept self.new.kept }
+        ensures knots { self.new.knots ≡ self.old.knots }
         ensures moves { result.moves ≡ plan.moves }
         ensures idle { result.idle ≡ plan.idle }
         ensures jammed { result.jammed ≡ plan.jammed }
