@@ -77,7 +77,7 @@ impl Kept {
         }
     }
 
-    /// The parts that may move by the rows that are kept are not settled any more. This takes no
+    /// The parts in which something flows by the rows that are kept are not settled any more. This takes no
     /// memory.
     pub fn unsettle_moving(&mut self)
         requires { length self.old.settled ≡ length self.old.moving }
