@@ -1,4 +1,4 @@
-use Rattle.std.proofs.Common.{◌≡◌, ◌∙◌, ◌<◌, false, ap, arith, length}
+use Rattle.std.proofs.Common.{◌∙◌, false, ap, arith, length}
 use Rattle.std.proofs.lemmas.List.{length-replicate}
 use Rattle.reo_net_base.specs.Net.{Net, net_of}
 use Rattle.reo_planning.proofs.Flowing.{flow_more, flow_none, marked_more, nothing_flows}
