@@ -2,6 +2,8 @@ pub mod CauseLemmas
 pub mod Decisions
 pub mod EqualItems
 pub mod ListLemmas
+pub mod Listings
 pub mod MoveLemmas
 pub mod NumberLemmas
+pub mod StandLists
 pub mod WeightLemmas
