@@ -4,6 +4,8 @@ pub mod EqualItems
 pub mod ListLemmas
 pub mod Listings
 pub mod MoveLemmas
+pub mod NameLemmas
 pub mod NumberLemmas
+pub mod PartLists
 pub mod StandLists
 pub mod WeightLemmas
