@@ -8,4 +8,5 @@ pub mod NameLemmas
 pub mod NumberLemmas
 pub mod PartLists
 pub mod StandLists
+pub mod UseLemmas
 pub mod WeightLemmas
