@@ -1,6 +1,7 @@
 pub mod CauseLemmas
 pub mod Decisions
 pub mod EqualItems
+pub mod ExistLemmas
 pub mod GreatestLemmas
 pub mod ListLemmas
 pub mod Listings
