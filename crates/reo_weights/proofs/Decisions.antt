@@ -1,10 +1,8 @@
 -- What is decided: it holds, or it is refuted.
-use Rattle.std.proofs.Common.{◌≡◌, ◌≢◌, ◌⊎◌, inl, inr, ℕ, zero, suc, ◌<◌, ◌↔◌, List, [], ◌∷◌, Bool, true, false, Option, Some, None, length, refl, ap, sym, ◌∙◌, subst, arith, below_more, add-one}
+use Rattle.std.proofs.Common.{◌≡◌, ◌⊎◌, inl, inr, ℕ, zero, suc, ◌<◌, List, [], ◌∷◌, Bool, true, false, Option, Some, None, refl, ap, sym, subst, arith, below_more}
 use Rattle.std.specs.Prelude.{Contains}
-use Rattle.std.proofs.lemmas.Bool.{cases_Bool, cases_eq}
 use Rattle.reo_net_base.specs.declared.mark.Mark.{Mark}
 use Rattle.reo_net_base.specs.declared.mark.Mark.TheVariants.{F, G, R, J}
-use Rattle.reo_net_laws.specs.Ends.{same_mark}
 
 -- Something holds, or it is refuted.
 abbrev pub IsDecided : Type 0 → Type 0
@@ -36,6 +34,7 @@ is_so (inl a) = true
 is_so (inr a) = false
 
 module _ {A : Type 0} where
+  -- The answer is true exactly where it holds.
   pub so_true : (d : IsDecided A) → A → is_so d ≡ true
   so_true (inl a) h = refl
   so_true (inr a) h = absurd (a h)

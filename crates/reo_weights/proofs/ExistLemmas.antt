@@ -1,5 +1,5 @@
 -- Each set of sides has a weight, and whether some part is over a budget is decided.
-use Rattle.std.proofs.Common.{◌≡◌, ◌⊎◌, inl, inr, ◌↔◌, ℕ, zero, suc, ◌<◌, ◌≤◌, List, [], Bool, true, length, get_or, refl, ap, sym, ◌∙◌, subst, arith, below_more}
+use Rattle.std.proofs.Common.{◌≡◌, ◌⊎◌, inl, inr, ℕ, zero, suc, ◌<◌, ◌≤◌, List, [], Bool, true, length, get_or, refl, sym, subst, arith, below_more}
 use Rattle.std.specs.Prelude.{map}
 use Rattle.std.specs.List.{filter, range_with_len}
 use Rattle.std.proofs.lemmas.Bool.{cases_lt}
@@ -13,7 +13,6 @@ use Rattle.reo_knots.specs.Knots.{AreNumbers, AreThose, IsLoop, in_knot}
 use Rattle.reo_knots.proofs.GroupLemmas.{picked_those}
 use Rattle.reo_reach.specs.Width.{IsJointIn}
 use Rattle.reo_support.specs.declared.value.JointValue.{JointValue}
-use Rattle.reo_support.specs.Values.{Names}
 use Rattle.reo_weights.specs.Weights.{all_values, AreSupported, IsWeight, product_of, capped}
 use Rattle.reo_weights.specs.Over.{Cause, IsWithin, IsOverBy, IsOver}
 use Rattle.reo_weights.specs.Over.Cause.{spent, wide}
@@ -59,16 +58,19 @@ module _ (net : Net) (wired : IsWired net) (order : List ℕ) (is : IsOrder net 
 
     -- A set of sides has a weight.
     some_weight : (weight : ℕ) × IsWeight net inside weight
-    some_weight = (capped (product_of (map length (map supported_there loop_list))), record {
-      names = item_names net wired order is;
-      named = names_are net wired order is inside;
-      loops = loop_list;
-      are_loops = loops_are;
-      values = map supported_there loop_list;
-      one_each = length-map loop_list supported_there;
-      supported = values_are;
-      is = refl;
-    })
+    some_weight = (
+      capped (product_of (map length (map supported_there loop_list))),
+      record {
+        names = item_names net wired order is;
+        named = names_are net wired order is inside;
+        loops = loop_list;
+        are_loops = loops_are;
+        values = map supported_there loop_list;
+        one_each = length-map loop_list supported_there;
+        supported = values_are;
+        is = refl;
+      },
+    )
 
     -- It is within a budget, or over it for some cause.
     judged : (budget k : ℕ) → IsWithin budget net inside ⊎ ((cause : Cause) × IsOverBy budget net inside k cause)

@@ -1,9 +1,9 @@
 -- The greatest supported family exists.
-use Rattle.std.proofs.Common.{◌≡◌, ◌≢◌, ◌⊎◌, inl, inr, ◌↔◌, ℕ, zero, suc, ◌<◌, ◌≤◌, List, Bool, true, false, not, length, get_or, refl, ap, sym, ◌∙◌, subst, arith}
+use Rattle.std.proofs.Common.{◌≡◌, ◌⊎◌, inl, inr, ◌↔◌, ℕ, zero, suc, ◌<◌, List, Bool, true, false, not, length, refl, ap, sym, subst, arith}
 use Rattle.std.specs.Prelude.{Contains}
 use Rattle.std.specs.List.{filter}
 use Rattle.std.specs.Option.{is_some}
-use Rattle.std.proofs.lemmas.Bool.{cases_eq, cases_lt, not_from_false, not_from_true, false_from_ne_true}
+use Rattle.std.proofs.lemmas.Bool.{cases_eq, cases_lt, not_from_false, not_from_true}
 use Rattle.reo_net_base.specs.Net.{Net}
 use Rattle.reo_net_base.specs.Sides.{side_count}
 use Rattle.reo_net_base.specs.Wired.{IsWired}
@@ -12,7 +12,7 @@ use Rattle.reo_reach.specs.Width.{IsJointIn}
 use Rattle.reo_support.specs.declared.value.JointValue.{JointValue}
 use Rattle.reo_support.specs.declared.value.JointValue.TheVariants.{Flow, RG, GR, GG, Jam}
 use Rattle.reo_support.specs.Values.{Names, Family, no_joint, joint_of, giver_side, taker_side, AtSide}
-use Rattle.reo_support.specs.Supported.{IsUsed, IsSupported, IsWithin, IsInGreatest, IsNarrowed}
+use Rattle.reo_support.specs.Supported.{IsUsed, IsSupported, IsInGreatest, IsNarrowed}
 use Rattle.reo_support.proofs.Narrowing.{narrowed_further, narrowed_whole}
 use Rattle.reo_weights.specs.Weights.{all_values, AreSupported}
 use Rattle.reo_weights.proofs.Decisions.{IsDecided, is_so, so_true, true_so, both_decided, same_decided, true_decided, some_in}
@@ -40,6 +40,7 @@ module _ (names : Names) (j bound : ℕ) (below : (n : ℕ) → is_some (names j
       (listed_either (λ (v : JointValue). GR ≡ v) (λ (v : JointValue). (GG ≡ v) ⊎ (Jam ≡ v)) (listed_one GR)
       (listed_either (λ (v : JointValue). GG ≡ v) (λ (v : JointValue). Jam ≡ v) (listed_one GG) (listed_one Jam))))
 
+  -- The values of a joint, listed.
   pub value_list : HasList (λ (v : JointValue). all_values names j v ≡ true)
   value_list =
       listed_same (λ (v : JointValue). IsSome v × (all_values names j v ≡ true)) (λ (v : JointValue). all_values names j v ≡ true) (λ v h. h.1) (λ v whole. (some_value v whole, whole))
@@ -142,9 +143,9 @@ module _ (net : Net) (names : Names) (wired : IsWired net) (values : (j : ℕ) �
             narrowed = narrowed_further net names inside (all_values names) (family_in xs) (family_in (rest_of p)) left.narrowed
                 (λ j side v lt at is h. in_family xs j v ((in_filter stays xs (j, v)).0 (from_family (rest_of p) j v h)).0)
                 (λ j side v lt at is h. elim (places_decided p (j, v)) [
-                | inl same ↦ inr (gone (j, v) same)
-                | inr other ↦ inl (in_family (rest_of p) j v ((in_filter stays xs (j, v)).1 (from_family xs j v h, not_from_false (is_so (places_decided p (j, v))) (so_false (places_decided p (j, v)) other))))
-              ]);
+                  | inl same ↦ inr (gone (j, v) same)
+                  | inr other ↦ inl (in_family (rest_of p) j v ((in_filter stays xs (j, v)).1 (from_family xs j v h, not_from_false (is_so (places_decided p (j, v))) (so_false (places_decided p (j, v)) other))))
+                ]);
           }
         where
           gone : (q : Place) → p ≡ q → (k : ℕ) × (AtSide net q.0 k) × (inside k ≡ true) × (IsUsed net names (family_in xs) k q.0 q.1 → ⊥)
@@ -180,12 +181,12 @@ module _ (net : Net) (names : Names) (wired : IsWired net) (values : (j : ℕ) �
       };
     })
 
-    -- The values of it at a joint, none twice.
     supported_list : (j : ℕ) → (l : HasList (λ (v : JointValue). (all_values names j v ≡ true) × (greatest.family j v ≡ true))) × AreOnce l.list
     supported_list j =
         listed_once values_decided (λ (v : JointValue). (all_values names j v ≡ true) × (greatest.family j v ≡ true))
         (listed_where (λ (v : JointValue). all_values names j v ≡ true) (λ (v : JointValue). greatest.family j v ≡ true) (λ v. true_decided (greatest.family j v)) (values j))
 
+    -- The values of it at a joint, none twice.
     pub supported_values : ℕ → List JointValue
     supported_values j = (supported_list j).0.list
 

@@ -1,14 +1,15 @@
 -- Lists of exactly those of which something holds.
-use Rattle.std.proofs.Common.{◌≡◌, ◌≢◌, ◌⊎◌, inl, inr, ◌↔◌, ℕ, zero, suc, ◌<◌, ◌≤◌, List, [], ◌∷◌, ◌++◌, Bool, true, false, cond, length, get_or, refl, ap, sym, ◌∙◌, subst, arith, below_more}
+use Rattle.std.proofs.Common.{◌≡◌, ◌⊎◌, inl, inr, ◌↔◌, ℕ, zero, suc, ◌<◌, ◌≤◌, List, [], ◌∷◌, ◌++◌, Bool, true, false, length, refl, ap, sym, ◌∙◌, subst, arith, below_more}
 use Rattle.std.specs.Prelude.{Contains}
 use Rattle.std.specs.List.{filter}
 use Rattle.std.proofs.lemmas.Bool.{cases_Bool}
 use Rattle.std.proofs.lemmas.List.{get_or_default}
 use Rattle.std.proofs.lemmas.List.Elements.{Contains-append_left, Contains-append_right, Contains-append_cases}
 use Rattle.reo_weights.proofs.ListLemmas.{AreOnce}
-use Rattle.reo_weights.proofs.Decisions.{IsDecided, is_so, so_true, true_so, same_decided, some_in}
+use Rattle.reo_weights.proofs.Decisions.{IsDecided, is_so, so_true, true_so}
 
 module _ {A : Type 0} where
+  -- The head of a list is in it, and so is what is behind it.
   pub at_head : (x : A) (xs : List A) → Contains (x ∷ xs) x
   at_head x xs = (zero, omega arith, refl)
 
@@ -83,9 +84,11 @@ module _ {A : Type 0} where
   pub listed_same : (p q : A → Type 0) → ((x : A) → p x → q x) → ((x : A) → q x → p x) → HasList p → HasList q
   listed_same p q there back l = record { list = l.list; exact = λ x. (λ h. there x ((l.exact x).0 h), λ h. (l.exact x).1 (back x h)) }
 
+  -- Where nothing is so the list is empty.
   pub listed_none : (p : A → Type 0) → ((x : A) → p x → ⊥) → HasList p
   listed_none p none = record { list = []; exact = λ x. (λ h. absurd (not_in_none x h), λ h. absurd (none x h)) }
 
+  -- One element alone.
   pub listed_one : (x : A) → HasList (λ (y : A). x ≡ y)
   listed_one x = record {
     list = x ∷ [];

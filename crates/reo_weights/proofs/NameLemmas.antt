@@ -1,9 +1,8 @@
 -- Numbers for the items that can stand at the joints of a circuit.
-use Rattle.std.proofs.Common.{◌≡◌, ◌≢◌, ◌⊎◌, inl, inr, ◌↔◌, ℕ, zero, suc, ◌<◌, ◌≤◌, List, [], ◌∷◌, Bool, true, false, Option, Some, None, length, get_or, refl, ap, sym, ◌∙◌, arith}
+use Rattle.std.proofs.Common.{◌≡◌, ◌⊎◌, inl, inr, ◌↔◌, ℕ, zero, suc, ◌<◌, ◌≤◌, List, [], ◌∷◌, Bool, true, false, Option, Some, None, length, get_or, ap, sym, ◌∙◌, arith}
 use Rattle.std.specs.Prelude.{Contains}
 use Rattle.std.specs.Option.{is_some}
-use Rattle.std.proofs.lemmas.Bool.{cases_lt, cases_eq}
-use Rattle.std.proofs.lemmas.List.{get_or_default}
+use Rattle.std.proofs.lemmas.Bool.{cases_lt}
 use Rattle.reo_values.specs.declared.value.Value.{Value}
 use Rattle.reo_net_base.specs.Net.{Net}
 use Rattle.reo_net_base.specs.Wired.{IsWired, IsOrder}
@@ -14,7 +13,6 @@ use Rattle.reo_weights.specs.Widths.{IsWide}
 use Rattle.reo_weights.specs.Weights.{AreNamed}
 use Rattle.reo_weights.proofs.Decisions.{IsDecided, both_decided, same_decided, some_decided}
 use Rattle.reo_weights.proofs.ListLemmas.{AreOnce, fewer}
-use Rattle.reo_weights.proofs.Listings.{HasList}
 use Rattle.reo_weights.proofs.MoveLemmas.{joint_cases}
 use Rattle.reo_weights.proofs.StandLists.{stand_list}
 
@@ -60,6 +58,7 @@ module _ (net : Net) (wired : IsWired net) (order : List ℕ) (is : IsOrder net 
   list_once j (inl lt) = (stand_list net wired order is j lt).1
   list_once j (inr past) = λ m n d lt n_in. absurd (omega arith)
 
+  -- They are exactly these, none twice.
   pub items_exact : (j : ℕ) → j < length net.joints → (x : Value) → Contains (items_there j) x ↔ CanStand net j x
   unfolding items_there
   items_exact j = list_exact j (cases_lt j (length net.joints))

@@ -1,5 +1,5 @@
 -- Numbers of parts, and their loop joints.
-use Rattle.std.proofs.Common.{◌≡◌, inl, inr, ℕ, zero, suc, ◌+◌, ◌<◌, ◌≤◌, List, [], ◌∷◌, ◌++◌, length, get_or, refl, ap, sym, ◌∙◌, subst, arith}
+use Rattle.std.proofs.Common.{◌≡◌, inl, inr, ℕ, zero, suc, ◌+◌, ◌<◌, ◌≤◌, List, [], ◌∷◌, ◌++◌, length, get_or, refl, ap, subst, arith}
 use Rattle.std.specs.Prelude.{map, max}
 use Rattle.std.specs.List.{range_with_len}
 use Rattle.std.proofs.lemmas.Bool.{cases_eq}
@@ -21,13 +21,17 @@ use Rattle.reo_weights.proofs.Decisions.{IsDecided, same_decided, some_decided}
 
 -- A list of numbers for the first n sides, in the order of the least sides of each label.
 number_list : (labels : List ℕ) (n : ℕ) → (numbers : List ℕ) × (count : ℕ) × AreNumbers (same_label labels) n numbers count
-number_list labels zero = ([], zero, record {
-  one_each = refl;
-  in_range = λ s lt. absurd (omega arith);
-  same = λ s t s_in t_in. absurd (omega arith);
-  each = λ k lt. absurd (omega arith);
-  by_least = λ s k s_in lt. absurd (omega arith);
-})
+number_list labels zero = (
+  [],
+  zero,
+  record {
+    one_each = refl;
+    in_range = λ s lt. absurd (omega arith);
+    same = λ s t s_in t_in. absurd (omega arith);
+    each = λ k lt. absurd (omega arith);
+    by_least = λ s k s_in lt. absurd (omega arith);
+  },
+)
 number_list labels (suc n) =
     let before = number_list labels n in
     let numbers : List ℕ = before.0 in
@@ -35,18 +39,24 @@ number_list labels (suc n) =
     let next : n + 1 ≡ suc n = omega arith in
     elim (some_decided (λ (s : ℕ). same_label labels s n) n (λ s lt. cases_eq (get_or labels s 0) (get_or labels n 0))) [
       | inl some ↦
-          let number : ℕ = get_or numbers some.0 0 in
-          (numbers ++ number ∷ [], max count (number + 1), subst (λ (m : ℕ). AreNumbers (same_label labels) m (numbers ++ number ∷ []) (max count (number + 1))) next (more_numbered labels numbers n count before.2 number (record {
-            at_most = omega (arith, before.2.in_range some.0 some.1);
-            before = λ lt. (some.0, some.1, some.2, refl);
-            next = λ last. absurd (omega (arith, last, before.2.in_range some.0 some.1));
-          })))
-      | inr none ↦
-          (numbers ++ count ∷ [], max count (count + 1), subst (λ (m : ℕ). AreNumbers (same_label labels) m (numbers ++ count ∷ []) (max count (count + 1))) next (more_numbered labels numbers n count before.2 count (record {
-            at_most = omega arith;
-            before = λ lt. absurd (omega arith);
-            next = λ last s lt same. none (s, lt, same);
-          })))
+          let number : ℕ = get_or numbers some.0 0 in (
+            numbers ++ number ∷ [],
+            max count (number + 1),
+            subst (λ (m : ℕ). AreNumbers (same_label labels) m (numbers ++ number ∷ []) (max count (number + 1))) next (more_numbered labels numbers n count before.2 number (record {
+              at_most = omega (arith, before.2.in_range some.0 some.1);
+              before = λ lt. (some.0, some.1, some.2, refl);
+              next = λ last. absurd (omega (arith, last, before.2.in_range some.0 some.1));
+            })),
+          )
+      | inr none ↦ (
+        numbers ++ count ∷ [],
+        max count (count + 1),
+        subst (λ (m : ℕ). AreNumbers (same_label labels) m (numbers ++ count ∷ []) (max count (count + 1))) next (more_numbered labels numbers n count before.2 count (record {
+          at_most = omega arith;
+          before = λ lt. absurd (omega arith);
+          next = λ last s lt same. none (s, lt, same);
+        })),
+      )
     ]
 
 module _ (net : Net) (wired : IsWired net) where

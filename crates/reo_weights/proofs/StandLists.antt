@@ -1,15 +1,14 @@
 -- Lists of the items that can stand at joints.
-use Rattle.std.proofs.Common.{◌≡◌, ◌⊎◌, inl, inr, ℕ, zero, suc, ◌+◌, ◌<◌, List, Bool, true, Option, Some, None, length, get_or, refl, ap, sym, ◌∙◌, subst, arith}
+use Rattle.std.proofs.Common.{◌≡◌, ◌⊎◌, inl, inr, ℕ, zero, suc, ◌+◌, ◌<◌, List, Option, Some, None, length, get_or, refl, ap, sym, ◌∙◌, subst, arith}
 use Rattle.std.proofs.lemmas.Bool.{cases_eq, cases_lt}
 use Rattle.reo_values.specs.declared.value.Value.{Value}
 use Rattle.reo_net_base.specs.declared.mark.Mark.TheVariants.{F}
 use Rattle.reo_net_base.specs.declared.joint.End.{End}
-use Rattle.reo_net_base.specs.Behaviour.{IsPlainRow}
 use Rattle.reo_net_base.specs.Net.{Net, behaviour_at, end_of}
 use Rattle.reo_net_base.specs.Wired.{IsWired, IsOrder}
 use Rattle.reo_net_laws.specs.Ends.{mark_in, from_in}
 use Rattle.reo_net_laws.proofs.Orders.{place_in, place_of}
-use Rattle.reo_reach.specs.Standing.{giver_of, taker_of, given_in, passes_in, FlowsAt, Brings, IsGivenFor, GivesAlone, GivesFor, CanStand}
+use Rattle.reo_reach.specs.Standing.{giver_of, taker_of, given_in, passes_in, FlowsAt, Brings, GivesAlone, GivesFor, CanStand}
 use Rattle.reo_reach.specs.Standing.CanStand.{alone, passed}
 use Rattle.reo_reach.proofs.OrderLemmas.{order_in_order}
 use Rattle.reo_weights.proofs.Decisions.{IsDecided, both_decided, same_decided, true_decided, marks_decided, options_decided}

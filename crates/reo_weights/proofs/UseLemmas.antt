@@ -1,5 +1,5 @@
 -- Whether a value is used at a side is decided.
-use Rattle.std.proofs.Common.{◌≡◌, ◌≢◌, ◌⊎◌, inl, inr, ℕ, zero, suc, ◌<◌, ◌≤◌, List, Bool, true, false, cond, Option, Some, None, length, get_or, refl, ap, sym, ◌∙◌, subst, arith}
+use Rattle.std.proofs.Common.{◌≡◌, ◌≢◌, ◌⊎◌, inl, inr, ℕ, zero, suc, ◌<◌, List, Bool, true, false, cond, Option, Some, None, length, get_or, refl, ap, sym, ◌∙◌, subst, arith}
 use Rattle.std.specs.Prelude.{◌==◌, Contains}
 use Rattle.std.proofs.lemmas.Bool.{cases_eq, cases_lt, cases_Bool}
 use Rattle.std.proofs.lemmas.Bool.Decides.{nat_tests}
@@ -12,7 +12,7 @@ use Rattle.reo_net_base.specs.Sides.{side_count}
 use Rattle.reo_net_base.specs.Wired.{IsWired}
 use Rattle.reo_net_laws.specs.Ends.{mark_in, IsRowOf}
 use Rattle.reo_support.specs.declared.value.JointValue.{JointValue}
-use Rattle.reo_support.specs.declared.value.JointValue.TheVariants.{Flow, RG, GR, GG, Jam}
+use Rattle.reo_support.specs.declared.value.JointValue.TheVariants.{RG}
 use Rattle.reo_support.specs.Values.{giver_mark, taker_mark, value_eq, Names, Choice, Family, item_named, joint_of, giver_side, taker_side, AtSide}
 use Rattle.reo_support.specs.Fitting.{given_in, passes_in, GivesValue, TakesValue, Fits, IsFrom}
 use Rattle.reo_support.specs.Supported.{IsUsed}
@@ -78,14 +78,18 @@ choice_decided values (suc n) holds d same =
             ],
             some.2.2,
           )
-      | inr none ↦ inr (λ h. none (h.0 n, h.1 n (omega arith), (
-        h.0,
-        λ i lt. h.1 i (omega (arith, lt)),
-        same h.0 (chosen_at h.0 n (h.0 n)) (λ i lt. elim (cases_eq i n) [
-          | inl here ↦ ap h.0 here ∙ sym (chosen_here h.0 n (h.0 n) i here)
-          | inr other ↦ sym (chosen_other h.0 n (h.0 n) i other)
-        ]) h.2,
-      )))
+      | inr none ↦ inr (λ h. none (
+        h.0 n,
+        h.1 n (omega arith),
+        (
+          h.0,
+          λ i lt. h.1 i (omega (arith, lt)),
+          same h.0 (chosen_at h.0 n (h.0 n)) (λ i lt. elim (cases_eq i n) [
+            | inl here ↦ ap h.0 here ∙ sym (chosen_here h.0 n (h.0 n) i here)
+            | inr other ↦ sym (chosen_other h.0 n (h.0 n) i other)
+          ]) h.2,
+        ),
+      ))
     ]
 
 module _ (net : Net) (names : Names) where
@@ -155,6 +159,7 @@ module _ (net : Net) (names : Names) where
           (fits_local net wired names u.choice local side u.row same u.fits, (sym (same j j_in at) ∙ u.chosen, λ i i_in i_at. ap (family i) (sym (same i i_in i_at)) ∙ u.from i i_in i_at)),
         )
 
+    -- Whether some row uses the value is decided.
     pub used_decided : IsDecided (IsUsed net names family side j v)
     used_decided =
         same_decided (λ h. record { row = h.0; choice = h.2.0; fits = h.2.2.0; chosen = h.2.2.1.0; from = h.2.2.1.1 }) (λ u. (u.row, u.fits.in_table no_side, listed_use u))

@@ -1,5 +1,6 @@
 //! Laws of rounds that cannot be planned within a budget.
-ghost use Rattle.reo_weights.specs.Laws.{CauseIsOne, CausesAreSmall, OverIsDecided, WithinIsNotOver};
+ghost use Rattle.reo_weights.specs.Laws.{CauseIsOne, CausesAreSmall};
+ghost use Rattle.reo_weights.specs.Laws.{OverIsDecided, WithinIsNotOver};
 
 /// There is one cause and no other.
 pub fn cause_is_one()
