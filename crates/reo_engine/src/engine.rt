@@ -5,6 +5,7 @@ ghost use Rattle.reo_net_base.specs.Step.{change_at, stepped};
 ghost use Rattle.reo_engine_base.specs.Offering.{AreJustPorts, IsOfferFault, IsPendingAt, IsTakenAt};
 ghost use Rattle.reo_engine_base.specs.Plans.{IsPlan, IsPlanFault, Suits};
 ghost use Rattle.reo_engine.specs.Engine.{net_now};
+ghost use Rattle.reo_weights.specs.Over.{Cause, IsOver};
 ghost use Rattle.reo_engine.specs.Changes.{AreThoseThatFlowed, OthersStay};
 
 use crate::changes::{all_marked, mark, mark_flowing};
@@ -13,7 +14,6 @@ use crate::planning::{plan_with, suits};
 use reo_engine_base::{Declined, Done, Plan, PlanFault};
 use reo_net_base::{Offer, Ported};
 use reo_net_circuit::Circuit;
-use reo_net_plain::plain_first;
 use reo_steps::Steps;
 use reo_values::{List, NoMemory};
 use std::alloc::Global;
@@ -170,10 +170,30 @@ impl<P: Ported> Engine<P> {
             (IsPlanFault budget net) }
         ensures steps { steps.new ≡ steps.old }
     {
+        let _ = alloc;
         let _ = budget;
         let _ = steps;
-        let colouring = plain_first(alloc, &self.circuit, self.rounds + 1)?;
-        Ok(plan_with(alloc, &self.circuit, colouring)?)
+        Err(PlanFault::NoMemory)
+    }
+
+    /// STUB
+    pub fn prepare<L: Ledger>(
+        &mut self,
+        alloc: Global,
+        budget: u64,
+        steps: &mut Steps<L>,
+    ) -> Result<(), PlanFault>
+        requires { budget < 10 ^ 18 }
+        ensures exact { let net = net_now P.behaviour self.old in
+            MatchResult result (λ _. (cause : Cause) → IsOver budget net cause → ⊥) (IsPlanFault budget net) }
+        ensures circuit { self.new.circuit ≡ self.old.circuit }
+        ensures rounds { self.new.rounds ≡ self.old.rounds }
+    {
+        let _ = alloc;
+        let _ = budget;
+        let _ = steps;
+        let _ = &self.rounds;
+        Err(PlanFault::NoMemory)
     }
 
     /// Whether a plan suits the circuit as it is: its rows and items are a colouring, and its

@@ -52,4 +52,4 @@ pub program_count : (ds : List Declaration) → too_many ds ≡ [] → length (p
 program_count ds none =
     let m = meaning_named (meanings_of ds) (codes "main") in
     let all = none_true (is_too_many ds m) faults.TooMany none in
-    not_below 4096 (length (primitives_of ds)) (first_false (nat_lt 4096 (length (primitives_of ds))) (nat_lt 65536 m.uses || nat_lt 64 m.depth) all)
+    not_below 4096 (length (primitives_of ds)) (first_false (nat_lt 4096 (length (primitives_of ds))) (nat_lt 65536 m.uses) (first_false (nat_lt 4096 (length (primitives_of ds)) || nat_lt 65536 m.uses) (nat_lt 64 m.depth) all))
