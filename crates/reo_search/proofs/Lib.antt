@@ -9,3 +9,7 @@ pub mod Jamming
 pub mod Firsts
 pub mod Knotted
 pub mod Listing
+pub mod Pinned
+pub mod Counted
+pub mod Tried
+pub mod Remains

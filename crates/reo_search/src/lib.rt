@@ -2,13 +2,17 @@
 #![tactic(auto)]
 
 mod arranging;
+mod choices;
 mod fault;
 mod hold;
 mod part;
+mod pinning;
 mod place;
 mod places;
 mod searching;
 mod walk;
+mod weighing;
+mod widths;
 
 pub use arranging::{arrange, first_by};
 pub use fault::SearchFault;
