@@ -13,3 +13,5 @@ pub mod Pinned
 pub mod Counted
 pub mod Tried
 pub mod Remains
+pub mod Named
+pub mod Matched

@@ -120,7 +120,8 @@ module _ (net : Net) (names : Names) (inside : ℕ → Bool) (alive : List (List
       let j : ℕ = get_or loops m 0 in
       ((codes.each m lt).exact (code_of (choice j))).1 (stays.from (giver_side net j) (are.here m lt) j (are.in_range m lt) (inl refl))
 
-same_code : (v w : JointValue) → code_of v ≡ code_of w → v ≡ w
+-- The place tells the value.
+pub same_code : (v w : JointValue) → code_of v ≡ code_of w → v ≡ w
 same_code v w e = sym (value_code v) ∙ ap value_of e ∙ value_code w
 
 one_element : (xs : List ℕ) (a b : ℕ) → length xs ≤ 1 → Contains xs a → Contains xs b → a ≡ b

@@ -73,9 +73,10 @@ fn try_choice<P: Primitive, L: Ledger>(
         circuit, boards, ends, items, sides, state, loops, codes,
     )?;
     steps.tick();
-    first_by(
+    let found = first_by(
         alloc, circuit, boards, ends, items, sides, state, places, turn,
-    )
+    )?;
+    Ok(found)
 }
 
 /// The numbers of the first assignment that has these values at the first loop joints, where each of what is left at the others is

@@ -106,5 +106,6 @@ pub(crate) fn narrow_all<P: Primitive>(
     ensures codes { IfOk result (AreCodes state.new.alive loops.now (length loops.now)) }
 {
     propagate(circuit, boards, ends, items, sides, state)?;
-    codes_of(alloc, &state.alive, loops)
+    let left = codes_of(alloc, &state.alive, loops)?;
+    Ok(left)
 }
