@@ -15,3 +15,4 @@ pub mod Tried
 pub mod Remains
 pub mod Named
 pub mod Matched
+pub mod Searched

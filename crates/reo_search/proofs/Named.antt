@@ -114,9 +114,12 @@ module _ (net : Net) (wired : IsWired net) (names : Names) (inside : ℕ → Boo
       first_with : IsFirstWith net names inside turn (all_values names) (places_in net (sides_in net inside)) chosen
       first_with = record { first = record { rows = least.rows; choice = least.choice; chosen = least.is_of }; numbers_are = least.numbers_are; least = least.least }
 
-      -- The last numbers are its rows.
+      -- The last numbers are its rows, as a list has them.
       pub last_are_rows : drop (length chosen - length (sides_in net inside)) chosen ≡ part_rows (sides_in net inside) (rows_of net least.rows)
+      unfolding first_with
       last_are_rows = last_rows_are net wired order is_order names inside closed real (all_values names) (all_values names) (λ j v lt is. (λ h. h, λ h. h)) turn chosen first_with below
 
+      -- And as an assignment has them.
       pub last_are_those : drop (length chosen - length (sides_in net inside)) chosen ≡ map least.rows (sides_in net inside)
+      unfolding first_with
       last_are_those = last_are net wired order is_order names inside closed real (all_values names) (all_values names) (λ j v lt is. (λ h. h, λ h. h)) turn chosen first_with below
