@@ -1,10 +1,8 @@
 -- How many choices there are.
-use Rattle.std.proofs.Common.{◌≡◌, inl, inr, ℕ, zero, suc, ◌+◌, ◌*◌, ◌<◌, ◌≤◌, List, [], ◌∷◌, ◌++◌, length, get_or, take, drop, add-one, refl, ap, sym, ◌∙◌, subst, arith}
+use Rattle.std.proofs.Common.{◌≡◌, inl, inr, ℕ, zero, suc, ◌+◌, ◌*◌, ◌<◌, ◌≤◌, List, [], ◌∷◌, ◌++◌, length, get_or, take, ap, sym, ◌∙◌, arith}
 use Rattle.std.specs.Prelude.{min, map}
 use Rattle.std.proofs.lemmas.Bool.{cases_lt}
 use Rattle.std.proofs.lemmas.List.{take_more, map-append}
-use Rattle.std.proofs.Math.Seq.{drop-cons}
-use Rattle.std.proofs.Math.Nat.{mul-le-mul_left, mul-le-mul_right}
 use Rattle.reo_weights.specs.Weights.{product_of, capped}
 use Rattle.reo_search.specs.Remaining.{choices_of}
 
@@ -18,10 +16,6 @@ choices_more left i lt =
     ap choices_of (take_more left i [] lt)
     ∙ ap product_of (map-append length (take i left) (get_or left i [] ∷ []))
     ∙ product_snoc (map length (take i left)) (length (get_or left i []))
-
--- The first of the lists that are left to be gone through.
-pub choices_rest : (left : List (List ℕ)) (i : ℕ) → i < length left → choices_of (drop i left) ≡ length (get_or left i []) * choices_of (drop (i + 1) left)
-choices_rest left i lt = ap choices_of (drop-cons left i [] lt) ∙ ap (λ (k : ℕ). length (get_or left i []) * choices_of (drop k left)) (sym (add-one i))
 
 min_small : (m n : ℕ) → m ≤ n → min m n ≡ m
 min_small m n h = omega arith
@@ -51,6 +45,3 @@ capped_small n budget le lt = omega arith
 -- Steps so far, and those of one more.
 pub steps_more : (start mid now i p : ℕ) → mid ≤ start + i * p → now ≤ mid + p → now ≤ start + (i + 1) * p
 steps_more start mid now i p before here = omega arith
-
-pub steps_all : (start now i n p : ℕ) → now ≤ start + i * p → i ≤ n → now ≤ start + n * p
-steps_all start now i n p before le = let more : i * p ≤ n * p = mul-le-mul_right p le in omega (arith, more)

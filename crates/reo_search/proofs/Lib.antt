@@ -16,3 +16,4 @@ pub mod Remains
 pub mod Named
 pub mod Matched
 pub mod Searched
+pub mod Isolating

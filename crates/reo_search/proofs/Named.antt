@@ -1,8 +1,7 @@
 -- Numbers for the items that can stand at the joints of a set, and assignments by them.
-use Rattle.std.proofs.Common.{◌≡◌, ◌≢◌, inl, inr, ℕ, zero, suc, ◌+◌, ◌-◌, ◌<◌, Bool, true, false, cond, List, [], ◌∷◌, length, get_or, drop, Option, Some, None, refl, ap, sym, ◌∙◌, subst, arith}
+use Rattle.std.proofs.Common.{◌≡◌, inl, inr, ℕ, zero, suc, ◌-◌, ◌<◌, Bool, true, false, cond, List, [], ◌∷◌, length, get_or, drop, Option, Some, None, refl, sym, ◌∙◌, subst, arith}
 use Rattle.std.specs.Prelude.{map}
 use Rattle.std.specs.Bool.{◌==◌}
-use Rattle.std.specs.declared.cmp.Ordering.TheVariants.{Less}
 use Rattle.std.specs.Ordering.{nat_cmp}
 use Rattle.std.specs.Cmp.Lexicographic.{slice_cmp}
 use Rattle.std.proofs.lemmas.Bool.{cases_eq, cases_lt}
@@ -11,11 +10,10 @@ use Rattle.reo_values.specs.declared.value.Value.{Value}
 use Rattle.reo_net_base.specs.declared.joint.Joint.{Joint}
 use Rattle.reo_net_order.specs.Arrows.{NoCycle}
 use Rattle.reo_net_base.specs.Net.{Net, from_sides, to_sides}
-use Rattle.reo_net_base.specs.First.{key_at, positions, order_by}
 use Rattle.reo_net_base.specs.Sides.{side_count}
 use Rattle.reo_net_base.specs.Wired.{IsWired, IsOrder}
 use Rattle.reo_net_laws.specs.Parts.{IsClosed, IsAssignment}
-use Rattle.reo_net_laws.specs.Keys.{within, IsFirstIn}
+use Rattle.reo_net_laws.specs.Keys.{IsFirstIn}
 use Rattle.reo_net_laws.specs.Sublists.{sides_in, part_rows}
 use Rattle.reo_net_laws.specs.JamRows.{jam_rows, no_items}
 use Rattle.reo_net_laws.proofs.JamRows.{jam_colouring}
@@ -27,13 +25,13 @@ use Rattle.reo_net_order.proofs.ExistLemmas.{order_or_cycle}
 use Rattle.reo_weights.specs.Weights.{AreNamed, all_values}
 use Rattle.reo_support.specs.declared.value.JointValue.{JointValue}
 use Rattle.reo_support.specs.declared.value.JointValue.TheVariants.{Flow, RG, GR, GG, Jam}
-use Rattle.reo_support.specs.Values.{Names, Choice, items_of, no_joint, giver_side}
+use Rattle.reo_support.specs.Values.{Names, items_of, no_joint}
 use Rattle.reo_support.specs.Chosen.{IsChosen, rows_of}
 use Rattle.reo_support.specs.Ties.{AreSides, IsNamed, HasNamed, HasChoice, IsFirstChosen}
 use Rattle.reo_support.specs.Ties as ties
 use Rattle.reo_support.proofs.Choosing.{assignments_are_choices, first_by_values}
 use Rattle.reo_propagate_rows.specs.Sets.{names_of}
-use Rattle.reo_search.specs.Places.{places_in, numbers}
+use Rattle.reo_search.specs.Places.{places_in}
 use Rattle.reo_search.specs.Settling.{HasChosen, IsFirstWith}
 use Rattle.reo_search.specs.Trying.{IsLeastOf}
 use Rattle.reo_search.proofs.Firsts.{key_is, last_are, last_rows_are}

@@ -1,37 +1,30 @@
 -- What is left at loop joints, out of all values.
-use Rattle.std.proofs.Common.{◌≡◌, ◌≢◌, inl, inr, ◌↔◌, ℕ, zero, suc, ◌+◌, ◌<◌, ◌≤◌, Bool, true, false, cond, List, [], ◌∷◌, ◌++◌, length, get_or, take, Option, Some, None, refl, ap, sym, ◌∙◌, subst, arith, add-one, append-nil, length-append}
+use Rattle.std.proofs.Common.{◌≡◌, ◌≢◌, inl, inr, ℕ, zero, suc, ◌+◌, ◌<◌, ◌≤◌, Bool, true, false, cond, List, [], ◌∷◌, ◌++◌, length, get_or, refl, ap, sym, ◌∙◌, subst, arith, add-one, append-nil, length-append}
 use Rattle.std.specs.Prelude.{map, Contains, is_some, slice_get}
 use Rattle.std.specs.List.{filter, range_with_len}
 use Rattle.std.specs.List.Sorted.{IsStrictlyIncreasing}
 use Rattle.std.proofs.Math.Seq.{get_or-append_seam}
-use Rattle.std.proofs.lemmas.Bool.{cases_eq, cases_lt}
-use Rattle.std.proofs.lemmas.Option.{slice_get_past}
+use Rattle.std.proofs.lemmas.Bool.{cases_eq}
 use Rattle.std.proofs.lemmas.List.{get_or_append_left, get_or_default, get_or-map, length-map}
 use Rattle.std.proofs.lemmas.List.Elements.{filter-append}
 use Rattle.std.proofs.lemmas.List.Kept.{AllPairs-from_increasing}
 use Rattle.reo_values.specs.declared.value.Value.{Value}
 use Rattle.reo_net_base.specs.Net.{Net}
-use Rattle.reo_net_base.specs.Wired.{IsWired}
-use Rattle.reo_net_laws.specs.Parts.{IsClosed}
 use Rattle.reo_knots.specs.Knots.{IsLoop, AreThose}
 use Rattle.reo_knots.proofs.GroupLemmas.{picked_those}
 use Rattle.reo_reach.specs.Width.{IsJointIn}
 use Rattle.reo_weights.specs.Weights.{AreNamed, all_values, AreSupported, product_of, capped, IsWeight}
 use Rattle.reo_support.specs.declared.value.JointValue.{JointValue}
 use Rattle.reo_support.specs.declared.value.JointValue.TheVariants.{Flow, RG, GR, GG, Jam}
-use Rattle.reo_support.specs.Values.{Names, Choice, Family, giver_side, AtSide}
-use Rattle.reo_support.specs.Supported.{IsSupported, IsNarrowed, IsInGreatest}
-use Rattle.reo_support.specs.Chosen.{IsChosen, OneAtLoops}
-use Rattle.reo_support.proofs.Narrowing.{narrowed_whole, chosen_stays, chosen_was}
+use Rattle.reo_support.specs.Values.{Names, Family, giver_side, AtSide}
+use Rattle.reo_support.specs.Supported.{IsNarrowed}
+use Rattle.reo_support.specs.Chosen.{OneAtLoops}
+use Rattle.reo_support.proofs.Narrowing.{narrowed_whole, chosen_stays}
 use Rattle.reo_boards.specs.declared.board.Board.{Board}
-use Rattle.reo_boards.specs.Marks.{IsJointOf}
 use Rattle.reo_propagate_rows.specs.Flags.{flag}
 use Rattle.reo_propagate_rows.specs.Sets.{code_of, value_of, family_of, names_of, IsReady}
-use Rattle.reo_propagate_rows.proofs.Codes.{code_value, value_code, flag_in, flag_value}
-use Rattle.reo_search.specs.declared.place.Place.{Place}
-use Rattle.reo_search.specs.Settling.{IsFirstWith}
+use Rattle.reo_propagate_rows.proofs.Codes.{code_value, value_code, flag_in}
 use Rattle.reo_search.specs.Remaining.{AreLoopsIn, AllAreThere, IsLeftOfAll, AreCodesAt, AreCodes, choices_of, CoverAll}
-use Rattle.reo_search.specs.Trying.{IsLeastOf}
 
 range_more : (a n : ℕ) → range_with_len a (suc n) ≡ range_with_len a n ++ (a + n) ∷ []
 range_more a zero = ap (λ (x : ℕ). x ∷ []) (omega arith)

@@ -1,11 +1,10 @@
 -- The search of a knot.
-use Rattle.std.proofs.Common.{◌≡◌, ◌≢◌, inl, inr, ◌↔◌, ℕ, zero, suc, ◌+◌, ◌-◌, ◌<◌, ◌≤◌, IsTrue, Bool, true, false, List, [], ◌∷◌, length, get_or, drop, Option, refl, ap, sym, ◌∙◌, subst, arith}
-use Rattle.std.specs.Prelude.{map, nat_lt, Contains}
+use Rattle.std.proofs.Common.{◌≡◌, inl, inr, ◌↔◌, ℕ, ◌+◌, ◌-◌, ◌<◌, ◌≤◌, IsTrue, Bool, true, false, List, [], ◌∷◌, length, get_or, drop, ap, sym, ◌∙◌, subst, arith}
+use Rattle.std.specs.Prelude.{nat_lt}
 use Rattle.std.specs.Bool.{◌==◌}
 use Rattle.std.proofs.lemmas.Bool.{and_parts, and_from, cases_Bool}
 use Rattle.std.proofs.lemmas.Bool.Decides.{nat_tests}
 use Rattle.std.proofs.lemmas.List.{get_or_default, get_or-drop, get_or-map}
-use Rattle.reo_values.specs.declared.value.Value.{Value}
 use Rattle.reo_net_base.specs.declared.joint.Joint.{Joint}
 use Rattle.reo_net_order.specs.Arrows.{NoCycle}
 use Rattle.reo_net_base.specs.Net.{Net, row_count, no_side, from_sides, to_sides, side_at}
@@ -13,11 +12,11 @@ use Rattle.reo_net_base.specs.Sides.{side_count}
 use Rattle.reo_net_base.specs.Wired.{IsWired, IsOrder}
 use Rattle.reo_net_laws.specs.Parts.{IsKnot}
 use Rattle.reo_net_laws.specs.Jams.{jams}
-use Rattle.reo_net_laws.specs.Sublists.{sides_in, part_rows}
+use Rattle.reo_net_laws.specs.Sublists.{sides_in}
 use Rattle.reo_net_laws.proofs.Sides.{side_in_range}
 use Rattle.reo_net_laws.proofs.Flows.{knot_jams_exactly}
 use Rattle.reo_knots.specs.Knots.{Knotted, AreKnots, AreThose, IsLoop, IsLoopOf, in_knot, knot_count}
-use Rattle.reo_reach.specs.Supplied.{Supplied, items_at, is_wide, IsReached}
+use Rattle.reo_reach.specs.Supplied.{Supplied, is_wide}
 use Rattle.reo_reach.specs.Width.{IsJointIn, TellsItems}
 use Rattle.reo_weights.specs.Widths.{IsWide}
 use Rattle.reo_weights.specs.Weights.{AreNamed, all_values, IsWeight, capped}
@@ -27,7 +26,6 @@ use Rattle.reo_support.specs.Chosen.{IsChosen, rows_of}
 use Rattle.reo_support.specs.Ties.{AreSides}
 use Rattle.reo_support.proofs.Labels.{same_eq, eq_same}
 use Rattle.reo_boards.specs.Marks.{side_in}
-use Rattle.reo_propagate_rows.specs.Sets.{names_of}
 use Rattle.reo_propagate.specs.Queues.{among}
 use Rattle.reo_search.specs.declared.part.Part.{Part}
 use Rattle.reo_search.specs.Places.{places_in}

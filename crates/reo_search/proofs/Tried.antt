@@ -15,7 +15,7 @@ use Rattle.reo_propagate_rows.specs.Sets.{code_of}
 use Rattle.reo_search.specs.declared.place.Place.{Place}
 use Rattle.reo_search.specs.Places.{numbers}
 use Rattle.reo_search.specs.Remaining.{CoverAll}
-use Rattle.reo_search.specs.Trying.{IsLeastOf, IsFirstOf, IsLesser, HasCodes, HasNextOf}
+use Rattle.reo_search.specs.Trying.{IsFirstOf, IsLesser, HasCodes, HasNextOf}
 
 not_before : (x found best : List ℕ) → slice_cmp nat_cmp found best ≡ Less → slice_cmp nat_cmp x best ≢ Less → slice_cmp nat_cmp x found ≢ Less
 not_before x found best lt h = λ e. h (nat_list_cmp_total.trans x found best e lt)

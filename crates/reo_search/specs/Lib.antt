@@ -7,3 +7,4 @@ pub mod Arranged
 pub mod Remaining
 pub mod Trying
 pub mod First
+pub mod Isolated

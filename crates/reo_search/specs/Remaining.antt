@@ -10,7 +10,7 @@ use Rattle.reo_support.specs.Supported.{IsSupported, IsNarrowed}
 use Rattle.reo_support.specs.Chosen.{IsChosen}
 use Rattle.reo_boards.specs.Marks.{IsJointOf}
 use Rattle.reo_propagate_rows.specs.Flags.{flag}
-use Rattle.reo_propagate_rows.specs.Sets.{code_of, family_of, names_of}
+use Rattle.reo_propagate_rows.specs.Sets.{code_of, family_of}
 
 -- The loop joints of a set of sides.
 pub record AreLoopsIn (net : Net) (inside : ℕ → Bool) (loops : List ℕ) : Type 0 where

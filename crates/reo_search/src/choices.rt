@@ -69,9 +69,7 @@ fn try_choice<P: Primitive, L: Ledger>(
     ensures ticks { steps.new ≤ steps.old + 1 }
 {
     restart(alloc, circuit, boards, ends, items, sides, state)?;
-    pin(
-        circuit, boards, ends, items, sides, state, loops, codes,
-    )?;
+    pin(circuit, boards, ends, items, sides, state, loops, codes)?;
     steps.tick();
     let found = first_by(
         alloc, circuit, boards, ends, items, sides, state, places, turn,

@@ -5,6 +5,7 @@ mod arranging;
 mod choices;
 mod fault;
 mod hold;
+mod laws;
 mod part;
 mod pinning;
 mod place;
@@ -16,6 +17,7 @@ mod widths;
 
 pub use arranging::{arrange, first_by};
 pub use fault::SearchFault;
+pub use laws::first_rows_agree;
 pub use part::Part;
 pub use place::Place;
 pub use places::places_of;

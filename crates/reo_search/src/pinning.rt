@@ -108,9 +108,7 @@ pub(crate) fn pin<P: Primitive>(
     for index in 0..joints.len() {
         let joint = joints[index];
         let chosen = codes[index];
-        pin_and_wake(
-            circuit, boards, ends, items, sides, state, joint, chosen,
-        )?;
+        pin_and_wake(circuit, boards, ends, items, sides, state, joint, chosen)?;
     }
     Ok(())
 }

@@ -196,9 +196,7 @@ pub fn first_with<P: Primitive, L: Ledger>(
     let items = supply.lists();
     let loops = knots.loop_joints(knot);
     restart(alloc, circuit, boards, ends, items, sides, state)?;
-    let left = narrow_all(
-        alloc, circuit, boards, ends, items, sides, state, loops,
-    )?;
+    let left = narrow_all(alloc, circuit, boards, ends, items, sides, state, loops)?;
     let weight = weight_of(&left);
     if weight > budget {
         return Err(SearchFault::Spent { knot, weight });

@@ -1,4 +1,4 @@
-use Rattle.std.proofs.Common.{◌≡◌, ◌≤◌, ◌+◌, ◌*◌, ◌-◌, [], length, take, drop, get_or}
+use Rattle.std.proofs.Common.{◌≡◌, ◌≤◌, ◌+◌, ◌*◌, ◌-◌, length, take, drop}
 use Rattle.reo_net_base.specs.Net.{net_of}
 use Rattle.reo_propagate_rows.specs.Sets.{names_of}
 use Rattle.reo_propagate.specs.Queues.{among}

@@ -1,4 +1,4 @@
-use Rattle.std.proofs.Common.{◌≡◌, ◌<◌, ℕ, Bool, List, [], length, ap, subst, arith}
+use Rattle.std.proofs.Common.{◌≡◌, ℕ, Bool, length, ap, arith}
 use Rattle.reo_net_base.specs.Net.{Net, net_of}
 use Rattle.reo_support.specs.Values.{Names}
 use Rattle.reo_propagate_rows.specs.Sets.{names_of}

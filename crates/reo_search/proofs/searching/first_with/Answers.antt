@@ -1,4 +1,4 @@
-use Rattle.std.proofs.Common.{◌≡◌, ◌<◌, ◌≤◌, ◌+◌, ℕ, Bool, true, false, List, [], length, get_or, refl, ap, sym, ◌∙◌, subst, arith}
+use Rattle.std.proofs.Common.{◌≡◌, ℕ, Bool, true, false, List, refl, sym, ◌∙◌, subst}
 use Rattle.reo_values.specs.declared.value.Value.{Value}
 use Rattle.reo_net_base.specs.Net.{Net, net_of}
 use Rattle.reo_net_laws.specs.Parts.{IsKnot}

@@ -1,25 +1,20 @@
-use Rattle.std.proofs.Common.{◌≡◌, ◌<◌, ◌≤◌, ◌+◌, ℕ, Bool, true, false, List, [], length, get_or, refl, ap, sym, ◌∙◌, subst, arith}
+use Rattle.std.proofs.Common.{◌≡◌, ℕ, Bool, List, sym, subst}
 use Rattle.reo_values.specs.declared.value.Value.{Value}
 use Rattle.reo_net_base.specs.Net.{Net, net_of}
 use Rattle.reo_net_laws.specs.Parts.{IsKnot}
 use Rattle.reo_knots.specs.Knots.{Knotted, in_knot}
-use Rattle.reo_reach.specs.Supplied.{Supplied, is_wide}
-use Rattle.reo_reach.specs.Width.{IsJointIn, TellsItems}
+use Rattle.reo_reach.specs.Supplied.{Supplied}
+use Rattle.reo_reach.specs.Width.{TellsItems}
 use Rattle.reo_reach.proofs.WidthLemmas.{parts_told}
-use Rattle.reo_weights.specs.Weights.{AreNamed, all_values, IsWeight, capped}
+use Rattle.reo_weights.specs.Weights.{AreNamed, IsWeight}
 use Rattle.reo_support.specs.Values.{Names}
-use Rattle.reo_support.specs.Chosen.{IsChosen}
 use Rattle.reo_propagate_rows.specs.Sets.{names_of}
 use Rattle.reo_propagate.specs.Queues.{among}
-use Rattle.reo_search.specs.declared.place.Place.{Place}
-use Rattle.reo_search.specs.Places.{places_in}
-use Rattle.reo_search.specs.Remaining.{AreLoopsIn, IsLeftOfAll, CoverAll, choices_of}
-use Rattle.reo_search.specs.Trying.{IsLeastOf}
-use Rattle.reo_search.proofs.Knotted.{AllOf, all_places}
-use Rattle.reo_search.proofs.Listing.{real, listed_sides, among_same, knot_among, among_real, each_real, some}
-use Rattle.reo_search.proofs.Remains.{covers, weight_left}
+use Rattle.reo_search.specs.Remaining.{AreLoopsIn, IsLeftOfAll}
+use Rattle.reo_search.proofs.Listing.{among_same, knot_among, among_real}
+use Rattle.reo_search.proofs.Remains.{weight_left}
 use Rattle.reo_search.proofs.Named.{are_named}
-use Rattle.reo_search.proofs.Searched.{loops_those, loops_are_in, wide_set, narrow_set, narrow_joints, ticks_below, rows_in_tables, part_first, jam_exact}
+use Rattle.reo_search.proofs.Searched.{loops_those, loops_are_in}
 use Rattle.reo_search.proofs.searching.weight.Goals as goal
 
 pub narrow_all-requires-clause-closed : goal.narrow_all-requires-clause-closed

@@ -1,5 +1,4 @@
-use Rattle.std.proofs.Common.{◌≡◌, ℕ, ◌+◌, Bool, List, sym, ◌∙◌, ap, subst, arith}
-use Rattle.std.specs.List.{filter, range_with_len}
+use Rattle.std.proofs.Common.{ℕ, Bool, sym, ◌∙◌, subst, arith}
 use Rattle.reo_propagate_rows.specs.Flags.{flag}
 use Rattle.reo_search.specs.Remaining.{AreCodesAt}
 use Rattle.reo_search.proofs.Remains.{picked_yes, picked_no, codes_end}

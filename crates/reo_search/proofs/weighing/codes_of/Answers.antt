@@ -1,4 +1,4 @@
-use Rattle.std.proofs.Common.{◌≡◌, ◌+◌, ◌++◌, ◌∷◌, ℕ, List, [], sym, subst}
+use Rattle.std.proofs.Common.{◌+◌, sym, subst}
 use Rattle.reo_search.specs.Remaining.{AreCodes}
 use Rattle.reo_search.proofs.Remains.{codes_more}
 use Rattle.reo_search.proofs.weighing.codes_of.Goals as goal

@@ -1,5 +1,4 @@
-use Rattle.std.proofs.Common.{◌≡◌, inl, ℕ, ◌+◌, ◌<◌, Bool, true, false, get_or, length, refl, sym, ◌∙◌, subst, arith, below_more}
-use Rattle.std.proofs.lemmas.List.{get_or_default}
+use Rattle.std.proofs.Common.{◌≡◌, inl, ℕ, ◌<◌, true, false, get_or, refl, sym, ◌∙◌, subst, arith, below_more}
 use Rattle.reo_net_base.specs.Net.{Net, net_of}
 use Rattle.reo_net_base.specs.Sides.{side_count}
 use Rattle.reo_support.specs.Values.{giver_side}
@@ -39,8 +38,7 @@ returns-then-some_wide g c =
     let lt : side < side_count net = c.requires.sides side is_in in
     let board : c.at.result.now ≡ get_or c.args.boards.now side c.at.result.now = c.at.ensures in
     let all : Lists (IsJointOf net side) c.as_slice.result.now =
-    subst (Lists (IsJointOf net side)) (sym c.as_slice.ensures) (subst (λ (b : Board). Lists (IsJointOf net side) b.joints) (sym board) (c.requires.boards.each side c.at.result.now lt).joints) in
-    (
+    subst (Lists (IsJointOf net side)) (sym c.as_slice.ensures) (subst (λ (b : Board). Lists (IsJointOf net side) b.joints) (sym board) (c.requires.boards.each side c.at.result.now lt).joints) in (
       λ t.
           let found = c.some_wide.ensures.0 c.if-some_wide.true in
           let j : ℕ = get_or c.as_slice.result.now found.0 0 in
@@ -59,20 +57,19 @@ loop-side-preserved g c =
     let all : Lists (IsJointOf net side) c.as_slice.result.now =
     subst (Lists (IsJointOf net side)) (sym c.as_slice.ensures) (subst (λ (b : Board). Lists (IsJointOf net side) b.joints) (sym board) (c.requires.boards.each side c.at.result.now lt).joints) in
     λ m j m_lt.
-        below_more (λ k. IsJointOf net (get_or c.args.sides.now k 0) j → is_wide c.args.supply.now j ≡ true → ⊥) c.loop-side.side-index
-        (λ k k_lt of wide. c.loop-side.invariant k j k_lt of wide)
-        (λ of wide.
-        let there = all.whole j of in
-        let again : is_wide c.args.supply.now (get_or c.as_slice.result.now there.0 0) ≡ true = subst (λ (k : ℕ). is_wide c.args.supply.now k ≡ true) (sym there.2) wide in
-        let no : c.some_wide.result ≡ true = c.some_wide.ensures.1 (there.0, there.1, again) in
-        let wrong : true ≡ false = sym no ∙ c.if-some_wide.false in
-        cc)
-        m m_lt
+    below_more (λ k. IsJointOf net (get_or c.args.sides.now k 0) j → is_wide c.args.supply.now j ≡ true → ⊥) c.loop-side.side-index
+    (λ k k_lt of wide. c.loop-side.invariant k j k_lt of wide)
+    (λ of wide.
+    let there = all.whole j of in
+    let again : is_wide c.args.supply.now (get_or c.as_slice.result.now there.0 0) ≡ true = subst (λ (k : ℕ). is_wide c.args.supply.now k ≡ true) (sym there.2) wide in
+    let no : c.some_wide.result ≡ true = c.some_wide.ensures.1 (there.0, there.1, again) in
+    let wrong : true ≡ false = sym no ∙ c.if-some_wide.false in
+    cc)
+    m m_lt
 
 pub returns : goal.returns
 returns g c =
-    let net : Net = net_of g.P.Primitive.behaviour c.args.circuit.now in
-    (
+    let net : Net = net_of g.P.Primitive.behaviour c.args.circuit.now in (
       λ t. cc t,
       λ e.
           let stands = among_stands c.args.sides.now (giver_side net e.0) e.1.1 in
