@@ -1,3 +1,4 @@
 pub mod Engine
 pub mod Changes
 pub mod Suited
+pub mod Isolation

@@ -1,19 +1,29 @@
 //! Engines.
-ghost use Rattle.std.specs.Prelude.{◌≡◌, ◌+◌, ◌<◌, ◌≤◌, ◌^◌, ◌↔◌, IsTrue, true, false, IfOk, OnOk, IfErr, OnErr, MatchResult, map, length, replicate};
+ghost use Rattle.std.specs.Prelude.{◌≡◌, ◌+◌, ◌<◌, ◌≤◌, ◌^◌, ◌↔◌, ℕ, IsTrue, true, false, IfOk, OnOk, IfErr, OnErr, MatchResult, map, length, replicate};
 ghost use Rattle.reo_net_circuit.specs.Offers.{AreAfterRound, OnlyPort};
 ghost use Rattle.reo_net_base.specs.Step.{change_at, stepped};
 ghost use Rattle.reo_engine_base.specs.Offering.{AreJustPorts, IsOfferFault, IsPendingAt, IsTakenAt};
 ghost use Rattle.reo_engine_base.specs.Plans.{IsPlan, IsPlanFault, Suits};
+ghost use Rattle.reo_knots.specs.Knots.{AreKnots, knot_count};
+ghost use Rattle.reo_planning.specs.Keeping.{AllServe};
+ghost use Rattle.reo_planning.specs.Planned.{AreWeights, sum_below, weight_left};
 ghost use Rattle.reo_engine.specs.Engine.{net_now};
 ghost use Rattle.reo_weights.specs.Over.{Cause, IsOver};
 ghost use Rattle.reo_engine.specs.Changes.{AreThoseThatFlowed, OthersStay};
+ghost use Rattle.reo_engine.specs.Isolation.{AreFirstInParts};
 
 use crate::changes::{all_marked, mark, mark_flowing};
 use crate::offering::offer_fault;
 use crate::planning::{plan_with, suits};
 use reo_engine_base::{Declined, Done, Plan, PlanFault};
+use reo_knots::{Knots, find_knots};
 use reo_net_base::{Offer, Ported};
 use reo_net_circuit::Circuit;
+<<<<<<< HEAD
+=======
+use reo_net_ends::{Ends, ends_of};
+use reo_planning::{Kept, first_by_parts};
+>>>>>>> d953fa8
 use reo_steps::Steps;
 use reo_values::{List, NoMemory};
 use std::alloc::Global;
@@ -25,25 +35,33 @@ use std::sync::ledger::Ledger;
 /// It keeps as well which primitives may have changed since the last round began: those at which
 /// something flowed in it, and the ports at which an offer came or went since. All others stand as
 /// they stood.
+///
+/// And it keeps the rows of parts that were looked at, as long as nothing in them changes: such a
+/// part is settled, and is not searched again. A knot of the circuit is a part.
 #[derive(Drop)]
 pub struct Engine<P: Ported> {
-    circuit: Circuit<P>,
-    rounds: u64,
-    changed: List<bool>,
+    pub(crate) circuit: Circuit<P>,
+    pub(crate) rounds: u64,
+    pub(crate) changed: List<bool>,
+    pub(crate) knots: Knots,
+    pub(crate) ends: Ends,
+    pub(crate) kept: Kept,
 }
 
 impl<P: Ported> Model for Engine<P> {
     ghost use Rattle.std.specs.Prelude.{◌≡◌, ◌≤◌, ◌^◌, length, map};
+    ghost use Rattle.reo_net_base.specs.Net.{net_of};
     ghost use Rattle.reo_engine_base.specs.Offering.{AreJustPorts};
-    ghost use Rattle.reo_engine.specs.Engine.{Running};
+    ghost use Rattle.reo_engine.specs.Engine.{Running, IsLookedUp};
 
     ghost Value = { Running P };
 
-    ghost view = { λ e. record { circuit = e.circuit; rounds = e.rounds; changed = e.changed } };
+    ghost view = { λ e. record { circuit = e.circuit; rounds = e.rounds; changed = e.changed; knots = e.knots; ends = e.ends; kept = e.kept } };
 
     ghost invariant = { λ e. (e.rounds ≤ 2 ^ 63)
         × (length e.changed ≡ length e.circuit.primitives)
-        × AreJustPorts (map P.port_state e.circuit.primitives) e.circuit.ports };
+        × AreJustPorts (map P.port_state e.circuit.primitives) e.circuit.ports
+        × IsLookedUp (net_of P.behaviour e.circuit) e.rounds e.knots e.ends e.kept };
 }
 
 impl<P: Ported> Engine<P> {
@@ -57,10 +75,16 @@ impl<P: Ported> Engine<P> {
             IfOk result (λ made. made.changed ≡ all) }
     {
         let changed = all_marked(alloc, circuit.primitives().len())?;
+        let knots = find_knots(alloc, &circuit)?;
+        let ends = ends_of(alloc, &circuit)?;
+        let kept = Kept::new(alloc, circuit.sides(), knots.count())?;
         Ok(Engine {
             circuit,
             rounds: 0,
             changed,
+            knots,
+            ends,
+            kept,
         })
     }
 
@@ -78,12 +102,14 @@ impl<P: Ported> Engine<P> {
         self.rounds
     }
 
-    /// What holds of each engine: exactly its ports have a way.
+    /// What holds of each engine: exactly its ports have a way, and its knots are those of its
+    /// circuit.
     pub fn known(&self)
         ensures ports { let states = map P.port_state self.now.circuit.primitives in
             AreJustPorts states self.now.circuit.ports }
         ensures few { self.now.rounds ≤ 2 ^ 63 }
         ensures one_each { length self.now.changed ≡ length self.now.circuit.primitives }
+        ensures knots { AreKnots (net_now P.behaviour self.now) self.now.knots }
     {
         let _ = &self.rounds;
     }
@@ -116,7 +142,11 @@ impl<P: Ported> Engine<P> {
         match offer_fault(&self.circuit, port, &offer) {
             Some(cause) => Err(Declined { cause, offer }),
             None => {
+                self.circuit.known_ports();
+                self.circuit.known();
+                self.kept.unsettle(&self.circuit, &self.knots, port);
                 self.circuit.place(port, offer);
+                self.circuit.known();
                 mark(&mut self.changed, port);
                 Ok(())
             }
@@ -146,18 +176,24 @@ impl<P: Ported> Engine<P> {
         if !self.circuit.is_pending(port) {
             return false;
         }
+        self.circuit.known_ports();
+        self.circuit.known();
+        self.kept.unsettle(&self.circuit, &self.knots, port);
         self.circuit.withdraw(port);
+        self.circuit.known();
         mark(&mut self.changed, port);
         true
     }
 
     /// Plans the round that comes next: the first colouring of the circuit in the round of the
     /// number `rounds() + 1`. The engine stays as it is, and the plan suits it until it changes.
+    /// Parts that are settled within the budget are not searched. It makes at most as many ticks as
+    /// the weights of the others say together, and none where there are no others.
     ///
     /// # Errors
     ///
-    /// `Wide` and `Spent` come exactly where a part is over, for the least such part. None is: the
-    /// budget is not looked at. `NoMemory` is out of memory.
+    /// `Wide` and `Spent` come exactly where a part is over, for the least such part. `NoMemory` is
+    /// out of memory.
     pub fn plan<L: Ledger>(
         &self,
         alloc: Global,
@@ -168,8 +204,16 @@ impl<P: Ported> Engine<P> {
         ensures exact { let net = net_now P.behaviour self.now in
             MatchResult result (IsPlan budget net self.now.circuit.ports (self.now.rounds + 1))
             (IsPlanFault budget net) }
-        ensures steps { steps.new ≡ steps.old }
+        ensures parts { let net = net_now P.behaviour self.now in
+            IfOk result (λ plan. AreFirstInParts net self.now.knots (self.now.rounds + 1)
+            plan.colouring.rows plan.colouring.items) }
+        ensures ticks { let count = knot_count self.now.knots in (weights : ℕ → ℕ)
+            → AreWeights (net_now P.behaviour self.now) self.now.knots weights
+            → steps.new ≤ steps.old + sum_below count (weight_left self.now.kept budget weights) }
+        ensures none { AllServe (knot_count self.now.knots) budget self.now.kept
+            → steps.new ≡ steps.old }
     {
+<<<<<<< HEAD
         let _ = alloc;
         let _ = budget;
         let _ = steps;
@@ -194,6 +238,20 @@ impl<P: Ported> Engine<P> {
         let _ = steps;
         let _ = &self.rounds;
         Err(PlanFault::NoMemory)
+=======
+        self.circuit.known();
+        let colouring = first_by_parts(
+            alloc,
+            &self.circuit,
+            &self.knots,
+            &self.ends,
+            &self.kept,
+            self.rounds + 1,
+            budget,
+            steps,
+        )?;
+        Ok(plan_with(alloc, &self.circuit, colouring)?)
+>>>>>>> d953fa8
     }
 
     /// Whether a plan suits the circuit as it is: its rows and items are a colouring, and its
@@ -239,7 +297,11 @@ impl<P: Ported> Engine<P> {
         let rows = colouring.rows.as_slice();
         let items = colouring.items.as_slice();
         mark_flowing(&self.circuit, rows, items, &mut self.changed);
+        let marks = self.changed.as_slice();
+        self.kept.unsettle_marked(&self.circuit, &self.knots, marks);
+        self.kept.unsettle_moving();
         self.circuit.step(colouring);
+        self.circuit.known();
         self.rounds += 1;
         Done {
             moves,

@@ -1,16 +1,12 @@
 -- What is kept of parts where a circuit changes elsewhere, and in later rounds.
-use Rattle.std.proofs.Common.{◌≡◌, ◌≢◌, ℕ, ◌+◌, ◌<◌, List, Option, Bool, true, false, length, get_or, refl, ap, sym, ◌∙◌, subst, arith}
-use Rattle.reo_values.specs.declared.value.Value.{Value}
-use Rattle.reo_net_base.specs.declared.mark.Mark.{Mark}
-use Rattle.reo_net_base.specs.declared.mark.Mark.TheVariants.{F}
+use Rattle.std.proofs.Common.{◌≡◌, ℕ, ◌+◌, ◌<◌, List, Bool, true, length, get_or, refl, ap, sym, ◌∙◌, subst, arith}
 use Rattle.reo_net_base.specs.declared.joint.End.{End}
 use Rattle.reo_net_base.specs.Behaviour.{Behaviour}
-use Rattle.reo_net_base.specs.Net.{Net, all_sides, first_side, behaviour_at, side_at, row_at, mark_at}
+use Rattle.reo_net_base.specs.Net.{Net, first_side, behaviour_at, side_at, row_at, mark_at}
 use Rattle.reo_net_base.specs.Sides.{side_count}
-use Rattle.reo_net_base.specs.Wired.{IsWired, IsEnd}
+use Rattle.reo_net_base.specs.Wired.{IsWired}
 use Rattle.reo_net_circuit.proofs.ReshapeLemmas.{first_same}
 use Rattle.reo_net_laws.specs.Alike.{SameSide, AreAlike}
-use Rattle.reo_net_laws.specs.Keys.{IsFirstIn}
 use Rattle.reo_net_laws.proofs.Isolation.{isolated}
 use Rattle.reo_net_laws.proofs.Sides.{side_at_place, side_in_range}
 use Rattle.reo_knots.specs.Knots.{Knotted, AreKnots, in_knot, knot_count}
@@ -18,10 +14,9 @@ use Rattle.reo_still.specs.Joining.{HasFirst}
 use Rattle.reo_still.specs.Still.{IsStill}
 use Rattle.reo_still.proofs.Rounds.{still_stay_first}
 use Rattle.reo_still_weights.proofs.WithinLemmas.{alike_weigh}
-use Rattle.reo_weights.specs.Over.{IsWithin}
 use Rattle.reo_planning.specs.declared.kept.Kept.{Kept}
 use Rattle.reo_planning.specs.Keeping.{is_settled, is_moving, HasSizes, IsKnown, IsKept}
-use Rattle.reo_planning.specs.Unsettling.{AreFewer, AreMovingUnsettled, IsElsewhere, KeptElsewhere, KeptLater, part_at}
+use Rattle.reo_planning.specs.Unsettling.{AreFewer, IsElsewhere, KeptElsewhere, KeptLater}
 use Rattle.reo_planning.proofs.KnotSets.{number_is}
 use Rattle.reo_planning.proofs.Shapes.{count_same}
 

@@ -7,11 +7,11 @@ use Rattle.reo_net_base.specs.declared.joint.Joint.{Joint}
 use Rattle.reo_net_base.specs.Marks.{marks_match}
 use Rattle.reo_net_base.specs.Net.{Net, mark_at, side_at}
 use Rattle.reo_net_base.specs.Colouring.{RowsFit}
-use Rattle.reo_net_base.specs.Wired.{IsWired, IsEnd}
+use Rattle.reo_net_base.specs.Wired.{IsWired}
 use Rattle.reo_net_circuit.proofs.Cases.{eq_cases}
 use Rattle.reo_net_laws.proofs.Joined.{joint_of}
 use Rattle.reo_net_laws.proofs.Sides.{side_in_range}
-use Rattle.reo_knots.specs.Knots.{Knotted, AreKnots, in_knot, knot_count}
+use Rattle.reo_knots.specs.Knots.{Knotted, AreKnots, in_knot}
 use Rattle.reo_still.specs.Still.{IsStill}
 use Rattle.reo_planning.specs.Marked.{AreMarkedBelow, IsJointMarked}
 use Rattle.reo_planning.proofs.KnotSets.{number_is}

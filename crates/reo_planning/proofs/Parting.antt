@@ -1,12 +1,12 @@
 -- One part more has the rows of its first assignment.
-use Rattle.std.proofs.Common.{◌≡◌, ◌∙◌, ◌⊎◌, inl, inr, ℕ, zero, suc, ◌+◌, ◌<◌, ◌≤◌, ◌≢◌, Bool, true, false, cond, ◌&&◌, List, length, get_or, replicate, refl, ap, sym, subst, arith}
+use Rattle.std.proofs.Common.{◌≡◌, ◌∙◌, inl, inr, ℕ, ◌+◌, ◌<◌, ◌≤◌, ◌≢◌, Bool, true, false, ◌&&◌, List, length, get_or, replicate, refl, ap, sym, subst, arith}
 use Rattle.std.specs.Prelude.{nat_le}
 use Rattle.std.proofs.lemmas.Bool.Decides.{nat_tests}
 use Rattle.std.proofs.lemmas.List.{get_or-replicate}
 use Rattle.reo_net_base.specs.Net.{Net}
 use Rattle.reo_net_base.specs.Sides.{side_count}
 use Rattle.reo_net_circuit.proofs.Cases.{eq_cases}
-use Rattle.reo_net_laws.specs.Sublists.{sides_in, part_rows}
+use Rattle.reo_net_laws.specs.Sublists.{part_rows}
 use Rattle.reo_net_laws.proofs.Sets.{and_left, and_right}
 use Rattle.reo_knots.specs.Knots.{Knotted, AreKnots, in_knot, knot_count}
 use Rattle.reo_still.specs.Joining.{HasFirst}
@@ -134,10 +134,22 @@ planned_more budget net knots turn n from rows new far more = record {
 pub least_over : (budget : ℕ) (net : Net) (knots : Knotted) → AreKnots net knots → (turn n : ℕ) → n < knot_count knots → (rows : List ℕ) → ArePlanned budget net knots turn n rows
     → (fault : PlanFault) → IsPartFault budget net (in_knot knots.numbers n) n fault → IsPlanFault budget net fault
 least_over budget net knots are turn n lt rows planned (plans.Wide k) is = record {
-  numbers = knots.numbers; count = knot_count knots; numbered = are.numbered; knot = n; in_range = lt; over = is; before = planned.within;
+  numbers = knots.numbers;
+  count = knot_count knots;
+  numbered = are.numbered;
+  knot = n;
+  in_range = lt;
+  over = is;
+  before = planned.within;
 }
 least_over budget net knots are turn n lt rows planned (plans.Spent k weight) is = record {
-  numbers = knots.numbers; count = knot_count knots; numbered = are.numbered; knot = n; in_range = lt; over = is; before = planned.within;
+  numbers = knots.numbers;
+  count = knot_count knots;
+  numbered = are.numbered;
+  knot = n;
+  in_range = lt;
+  over = is;
+  before = planned.within;
 }
 least_over budget net knots are turn n lt rows planned plans.NoMemory is = tt
 

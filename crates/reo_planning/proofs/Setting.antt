@@ -1,9 +1,7 @@
 -- Flags that are set or cleared.
-use Rattle.std.proofs.Common.{◌≡◌, ◌∙◌, ◌⊎◌, inl, inr, ℕ, zero, suc, ◌+◌, ◌<◌, Bool, true, false, List, [], ◌∷◌, ◌++◌, length, get_or, set, drop, replicate, refl, ap, sym, arith, add-one, get_or-set_same, get_or-set_other}
+use Rattle.std.proofs.Common.{◌≡◌, ◌∙◌, ◌⊎◌, inl, inr, ℕ, zero, suc, ◌+◌, ◌<◌, Bool, true, false, List, [], ◌∷◌, ◌++◌, length, get_or, set, drop, replicate, refl, ap, arith, add-one, get_or-set_same}
 use Rattle.std.proofs.lemmas.List.{length-set}
-use Rattle.reo_net_circuit.proofs.Cases.{eq_cases}
 use Rattle.reo_planning.specs.declared.kept.Kept.{Kept}
-use Rattle.reo_planning.specs.Keeping.{is_settled}
 use Rattle.reo_planning.specs.Unsettling.{AreFewer}
 
 -- One flag more has its value.

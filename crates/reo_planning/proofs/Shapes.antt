@@ -1,19 +1,17 @@
 -- The knots of circuits of one shape.
-use Rattle.std.proofs.Common.{◌≡◌, ◌↔◌, ℕ, ◌<◌, ◌≤◌, List, Bool, true, length, get_or, take, refl, ap, sym, ◌∙◌, subst, arith}
-use Rattle.std.specs.Prelude.{Contains, filter}
+use Rattle.std.proofs.Common.{◌≡◌, ℕ, ◌<◌, ◌≤◌, List, Bool, length, get_or, ap, sym, ◌∙◌, subst, arith}
+use Rattle.std.specs.Prelude.{filter}
 use Rattle.std.specs.List.{flat_map, range_with_len}
 use Rattle.std.proofs.lemmas.List.{take_all}
-use Rattle.reo_net_base.specs.declared.joint.End.{End}
 use Rattle.reo_net_base.specs.declared.joint.Joint.{Joint}
 use Rattle.reo_net_base.specs.Behaviour.{Behaviour}
-use Rattle.reo_net_base.specs.Net.{Net, all_sides, sides_of, first_side, behaviour_at, side_at}
+use Rattle.reo_net_base.specs.Net.{Net, all_sides, sides_of, first_side, side_at}
 use Rattle.reo_net_base.specs.Shapes.{SameShapes}
 use Rattle.reo_net_base.specs.Sides.{side_count}
-use Rattle.reo_net_base.specs.Wired.{IsWired, IsEnd}
+use Rattle.reo_net_base.specs.Wired.{IsWired}
 use Rattle.reo_net_circuit.proofs.ReshapeLemmas.{first_same, side_same}
 use Rattle.reo_net_laws.specs.Parts.{IsClosedBelow, IsLinked, SameKnot, IsKnot}
-use Rattle.reo_net_laws.specs.Sublists.{sides_in}
-use Rattle.reo_knots.specs.Knots.{Knotted, AreNumbers, AreKnots, AreThose, IsLoop, IsLoopOf, in_knot, knot_count}
+use Rattle.reo_knots.specs.Knots.{Knotted, AreNumbers, AreKnots, IsLoopOf, in_knot, knot_count}
 use Rattle.reo_planning.specs.Unsettling.{KnotsStay}
 
 all_is : (bs : List Behaviour) → length (all_sides bs) ≡ first_side bs (length bs)

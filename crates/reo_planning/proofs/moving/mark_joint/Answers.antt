@@ -1,5 +1,4 @@
-use Rattle.std.proofs.Common.{◌≡◌, ◌∙◌, ℕ, ◌<◌, ap, subst, arith}
-use Rattle.reo_net_base.specs.declared.joint.End.{End}
+use Rattle.std.proofs.Common.{subst}
 use Rattle.reo_net_base.specs.declared.joint.Joint.{Joint}
 use Rattle.reo_net_base.specs.Net.{Net, net_of}
 use Rattle.reo_net_base.specs.Wired.{IsEnd}
@@ -17,4 +16,3 @@ pub mark_at-requires-clause-end : goal.mark_at-requires-clause-end
 mark_at-requires-clause-end g c =
     let net : Net = net_of g.P.Primitive.behaviour c.args.circuit.now in
     subst (λ (j : Joint). IsEnd net.primitives j.giver) (c.joint.ensures no_joint) (c.known.ensures.wired.givers c.args.joint no_joint c.requires.joint)
-

@@ -1,4 +1,4 @@
-use Rattle.std.proofs.Common.{◌≡◌, ◌∙◌, ◌<◌, arith, length}
+use Rattle.std.proofs.Common.{◌∙◌, arith}
 use Rattle.reo_net_base.specs.Net.{Net, net_of}
 use Rattle.reo_planning.proofs.Flowing.{marked_more, nothing_flows}
 use Rattle.reo_planning.proofs.moving.mark_moving.Goals as goal

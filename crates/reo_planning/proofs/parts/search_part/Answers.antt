@@ -1,6 +1,6 @@
-use Rattle.std.proofs.Common.{◌≡◌, ◌<◌, ℕ, length, get_or, subst, sym}
+use Rattle.std.proofs.Common.{◌<◌, ℕ, get_or, subst, sym}
 use Rattle.reo_net_base.specs.Net.{Net, net_of}
-use Rattle.reo_planning.proofs.Parting.{searched, sides_in_range, part_fault}
+use Rattle.reo_planning.proofs.Parting.{searched, sides_in_range}
 use Rattle.reo_planning.proofs.parts.search_part.Goals as goal
 
 pub put_rows-requires-clause-sides : goal.put_rows-requires-clause-sides

@@ -1,5 +1,5 @@
-use Rattle.std.proofs.Common.{◌≡◌, ◌+◌, ◌≤◌, ℕ}
-use Rattle.reo_net_base.specs.Net.{Net, net_of}
+use Rattle.std.proofs.Common.{◌+◌, ◌≤◌, ℕ}
+use Rattle.reo_net_base.specs.Net.{net_of}
 use Rattle.reo_planning.specs.Planned.{AreWeights, sum_below, weight_left}
 use Rattle.reo_planning.specs.Tables.{AreReady}
 use Rattle.reo_planning.proofs.Parting.{ArePlannedSoFar}

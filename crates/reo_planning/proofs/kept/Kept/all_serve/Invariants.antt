@@ -1,4 +1,3 @@
-use Rattle.std.proofs.Common.{◌≡◌, ℕ, ◌<◌, true}
 use Rattle.reo_planning.specs.Keeping.{AllServe}
 use Rattle.reo_planning.proofs.kept.Kept.all_serve.Given as goal
 

@@ -1,4 +1,3 @@
-use Rattle.std.proofs.Common.{◌≡◌}
 use Rattle.reo_net_base.specs.Net.{net_of}
 use Rattle.reo_planning.specs.Unsettling.{AreFewer, AreUnsettled}
 use Rattle.reo_planning.proofs.kept.Kept.unsettle.Given as goal
