@@ -8,7 +8,6 @@ ghost use Rattle.reo_knots.specs.Knots.{AreKnots, knot_count};
 ghost use Rattle.reo_planning.specs.Keeping.{AllServe};
 ghost use Rattle.reo_planning.specs.Planned.{AreWeights, sum_below, weight_left};
 ghost use Rattle.reo_engine.specs.Engine.{net_now};
-ghost use Rattle.reo_weights.specs.Over.{Cause, IsOver};
 ghost use Rattle.reo_engine.specs.Changes.{AreThoseThatFlowed, OthersStay};
 ghost use Rattle.reo_engine.specs.Isolation.{AreFirstInParts};
 
@@ -19,11 +18,8 @@ use reo_engine_base::{Declined, Done, Plan, PlanFault};
 use reo_knots::{Knots, find_knots};
 use reo_net_base::{Offer, Ported};
 use reo_net_circuit::Circuit;
-<<<<<<< HEAD
-=======
 use reo_net_ends::{Ends, ends_of};
 use reo_planning::{Kept, first_by_parts};
->>>>>>> d953fa8
 use reo_steps::Steps;
 use reo_values::{List, NoMemory};
 use std::alloc::Global;
@@ -213,32 +209,6 @@ impl<P: Ported> Engine<P> {
         ensures none { AllServe (knot_count self.now.knots) budget self.now.kept
             → steps.new ≡ steps.old }
     {
-<<<<<<< HEAD
-        let _ = alloc;
-        let _ = budget;
-        let _ = steps;
-        Err(PlanFault::NoMemory)
-    }
-
-    /// STUB
-    pub fn prepare<L: Ledger>(
-        &mut self,
-        alloc: Global,
-        budget: u64,
-        steps: &mut Steps<L>,
-    ) -> Result<(), PlanFault>
-        requires { budget < 10 ^ 18 }
-        ensures exact { let net = net_now P.behaviour self.old in
-            MatchResult result (λ _. (cause : Cause) → IsOver budget net cause → ⊥) (IsPlanFault budget net) }
-        ensures circuit { self.new.circuit ≡ self.old.circuit }
-        ensures rounds { self.new.rounds ≡ self.old.rounds }
-    {
-        let _ = alloc;
-        let _ = budget;
-        let _ = steps;
-        let _ = &self.rounds;
-        Err(PlanFault::NoMemory)
-=======
         self.circuit.known();
         let colouring = first_by_parts(
             alloc,
@@ -251,7 +221,6 @@ impl<P: Ported> Engine<P> {
             steps,
         )?;
         Ok(plan_with(alloc, &self.circuit, colouring)?)
->>>>>>> d953fa8
     }
 
     /// Whether a plan suits the circuit as it is: its rows and items are a colouring, and its
