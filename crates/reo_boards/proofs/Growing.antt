@@ -1,9 +1,9 @@
 -- Lists that grow.
-use Rattle.std.proofs.Common.{◌≡◌, inl, inr, ℕ, ◌+◌, ◌<◌, List, [], ◌∷◌, ◌++◌, length, get_or, sym, ◌∙◌, subst, arith, length-append}
+use Rattle.std.proofs.Common.{◌≡◌, ◌≢◌, inl, inr, ℕ, ◌+◌, ◌<◌, List, [], ◌∷◌, ◌++◌, length, get_or, sym, ◌∙◌, subst, arith, length-append}
 use Rattle.std.proofs.lemmas.Bool.{cases_eq}
 use Rattle.std.proofs.Math.Seq.{get_or-append_seam}
 use Rattle.std.proofs.lemmas.List.{get_or_append_left}
-use Rattle.reo_boards.specs.Listing.{StandsIn, Lists, AreEmpty, IsAdded}
+use Rattle.reo_boards.specs.Listing.{StandsIn, Lists, AreOnce, AreEmpty, IsAdded}
 
 pub stands_old : (xs : List ℕ) (x k : ℕ) → StandsIn xs k → StandsIn (xs ++ x ∷ []) k
 stands_old xs x k (m, lt, is) = (m, omega (arith, length-append xs (x ∷ [])), get_or_append_left xs (x ∷ []) 0 m lt ∙ is)
@@ -18,6 +18,17 @@ all_more holds xs x all new m lt =
     elim (cases_eq m (length xs)) [
       | inl last ↦ subst holds (sym (rw last (get_or-append_seam xs x [] 0))) new
       | inr other ↦ let before : m < length xs = omega arith in subst holds (sym (get_or_append_left xs (x ∷ []) 0 m before)) (all m before)
+    ]
+
+-- A number that does not stand in a list comes at its end.
+pub once_more : (xs : List ℕ) (x : ℕ) → ((m : ℕ) → m < length xs → get_or xs m 0 ≢ x) → AreOnce xs → AreOnce (xs ++ x ∷ [])
+once_more xs x new once m n lt n_in =
+    let total = length-append xs (x ∷ []) in
+    let m_in : m < length xs = omega arith in
+    let here = get_or_append_left xs (x ∷ []) 0 m m_in in
+    elim (cases_eq n (length xs)) [
+      | inl last ↦ λ same. new m m_in (sym here ∙ same ∙ rw last (get_or-append_seam xs x [] 0))
+      | inr other ↦ let before : n < length xs = omega arith in λ same. once m n lt before (sym here ∙ same ∙ get_or_append_left xs (x ∷ []) 0 n before)
     ]
 
 -- A list of what holds below a bound, with one number more.

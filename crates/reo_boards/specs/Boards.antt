@@ -4,7 +4,7 @@ use Rattle.reo_net_base.specs.Net.{Net, row_count}
 use Rattle.reo_net_base.specs.Sides.{side_count}
 use Rattle.reo_boards.specs.declared.board.Flow.{Flow}
 use Rattle.reo_boards.specs.declared.board.Board.{Board}
-use Rattle.reo_boards.specs.Listing.{Lists}
+use Rattle.reo_boards.specs.Listing.{Lists, AreOnce}
 use Rattle.reo_boards.specs.Marks.{byte_of, side_in, groups_in, common_at_joint, IsJointOf, TakesFlow, GivesFlow, IsApartAt}
 
 -- The joints where a row takes items in, and those where it gives them.
@@ -22,6 +22,7 @@ pub record AreColumns (net : Net) (side : ℕ) (joints columns : List ℕ) : Typ
 -- their groups at each end of its primitive.
 pub record IsBoard (net : Net) (side : ℕ) (board : Board) : Type 0 where
   pub joints : Lists (IsJointOf net side) board.joints
+  pub once : AreOnce board.joints
   pub columns : AreColumns net side board.joints board.columns
   pub one_each : length board.flows ≡ row_count (side_in net side)
   pub flows : (row : ℕ) (d : Flow) → row < length board.flows → IsFlow net side row (slice_index_or board.flows row d)

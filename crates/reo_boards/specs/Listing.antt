@@ -10,6 +10,10 @@ pub record Lists (holds : ℕ → Type 0) (list : List ℕ) : Type 0 where
   pub sound : (m : ℕ) → m < length list → holds (slice_index list m)
   pub whole : (k : ℕ) → holds k → StandsIn list k
 
+-- No number stands twice in a list.
+abbrev pub AreOnce : List ℕ → Type 0
+AreOnce list = (m n : ℕ) → m < n → n < length list → slice_index list m ≢ slice_index list n
+
 -- So many lists, all empty.
 pub record AreEmpty (count : ℕ) (lists : List (List ℕ)) : Type 0 where
   pub one_each : length lists ≡ count

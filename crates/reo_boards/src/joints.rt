@@ -2,7 +2,7 @@
 ghost use Rattle.std.specs.Prelude.{◌≡◌, ◌<◌, ℕ, [], ◌∷◌, ◌++◌, IfOk, OnOk, length, slice_index_or};
 ghost use Rattle.reo_net_base.specs.Net.{net_of, all_sides};
 ghost use Rattle.reo_net_ends.specs.Ends.{AreEnds};
-ghost use Rattle.reo_boards.specs.Listing.{Lists, AreEmpty, IsAdded};
+ghost use Rattle.reo_boards.specs.Listing.{Lists, AreOnce, AreEmpty, IsAdded};
 ghost use Rattle.reo_boards.specs.Marks.{side_in, IsJointOf, IsApartAt};
 
 use reo_net_base::{End, Primitive};
@@ -36,7 +36,7 @@ pub(crate) fn add(
     Ok(())
 }
 
-/// The joints of a side, in the order of its ends.
+/// The joints of a side, each once, in the order of its ends.
 pub(crate) fn joints_of<P: Primitive>(
     alloc: Global,
     circuit: &Circuit<P>,
@@ -45,7 +45,8 @@ pub(crate) fn joints_of<P: Primitive>(
 ) -> Result<List<usize>, NoMemory>
     requires ends { AreEnds (net_of P.behaviour circuit.now) ends.now }
     requires side { side < length (all_sides (net_of P.behaviour circuit.now).primitives) }
-    ensures { IfOk result (Lists (IsJointOf (net_of P.behaviour circuit.now) side)) }
+    ensures joints { IfOk result (Lists (IsJointOf (net_of P.behaviour circuit.now) side)) }
+    ensures once { IfOk result AreOnce }
 {
     circuit.known();
     let owner = circuit.owner(side);

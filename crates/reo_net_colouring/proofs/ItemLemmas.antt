@@ -1,5 +1,5 @@
 -- Items that rows determine.
-use Rattle.std.proofs.Common.{◌≡◌, ◌≢◌, ◌⊎◌, inl, inr, ℕ, zero, suc, ◌+◌, ◌<◌, List, Option, None, Some, true, false, length, get_or, set, drop, refl, ap, sym, ◌∙◌, arith, rules, cond, add-one, get_or-set_same, get_or-set_other}
+use Rattle.std.proofs.Common.{◌≡◌, ◌≢◌, ◌⊎◌, inl, inr, ℕ, zero, suc, ◌+◌, ◌<◌, List, [], ◌∷◌, Option, None, Some, Bool, true, false, length, get_or, set, drop, refl, ap, sym, ◌∙◌, arith, rules, cond, add-one, get_or-set_same, get_or-set_other}
 use Rattle.std.specs.Bool.{◌==◌}
 use Rattle.std.specs.Option.{option_and_then}
 use Rattle.std.proofs.Math.Seq.{drop-cons}
@@ -16,7 +16,9 @@ use Rattle.reo_net_base.specs.Net.{Net, all_sides, behaviour_at, end_eq, end_of,
 use Rattle.reo_net_base.specs.Colouring.{AreRows, taken_at, given_at, item_given, ItemFits, IsColouring, IsFilled}
 use Rattle.reo_net_base.specs.Ends.{IsGiver, IsTaker}
 use Rattle.reo_net_base.specs.Wired.{IsWired, IsOrder}
-use Rattle.reo_net_laws.proofs.Items.{given_same}
+use Rattle.reo_net_ends.specs.Ends.{joint_at, AreEnds}
+use Rattle.reo_net_ends.proofs.EndLemmas.{taker_at, of_taker}
+use Rattle.reo_net_laws.proofs.Items.{end_is, given_same}
 use Rattle.reo_net_laws.proofs.Sides.{gives_at, row_in_table, row_below, side_in_range, same_side_at}
 use Rattle.reo_net_laws.proofs.Orders.{no_joint, Feeds, place_in, place_of, fed_before}
 use Rattle.reo_net_colouring.proofs.FilledBefore.{AreFilledBefore}
@@ -38,6 +40,31 @@ taken_from joints items e i d lt same =
 
 pub taken_past : (joints : List Joint) (items : List (Option Value)) (e : End) (i : ℕ) → length joints ≡ i → taken_at (drop i joints) (drop i items) e ≡ None
 taken_past joints items e i n = rw (drop_all i joints (omega arith)) refl
+
+end_same : (a b : End) → a ≡ b → end_eq a b ≡ true
+end_same a b is =
+    let p : a.primitive ≡ b.primitive = ap (λ (e : End). e.primitive) is in
+    let q : a.end ≡ b.end = ap (λ (e : End). e.end) is in
+    grind (arith, nat_tests)
+
+-- The item at the only joint that goes to an end.
+taken_at_joint : (joints : List Joint) (items : List (Option Value)) (e : End) (k : ℕ) → length items ≡ length joints → k < length joints → ((d : Joint) → (get_or joints k d).taker ≡ e)
+    → ((m : ℕ) (d : Joint) → m < length joints → (get_or joints m d).taker ≡ e → m ≡ k) → taken_at joints items e ≡ get_or items k None
+taken_at_joint [] items e k n lt is only = absurd (omega arith)
+taken_at_joint (j ∷ js) [] e k n lt is only = absurd (omega arith)
+taken_at_joint (j ∷ js) (x ∷ xs) e zero n lt is only = ap (λ (t : Bool). cond t x (taken_at js xs e)) (end_same j.taker e (is j))
+taken_at_joint (j ∷ js) (x ∷ xs) e (suc k) n lt is only =
+    elim (end_eq j.taker e) as (λ t. end_eq j.taker e ≡ t → cond t x (taken_at js xs e) ≡ get_or xs k None) [
+      | true ↦ λ same. absurd (let here : zero ≡ suc k = only zero j (omega arith) (end_is j.taker e same) in omega (arith, here))
+      | false ↦ λ other. taken_at_joint js xs e k (omega arith) (omega arith) is (λ m d m_lt same. let at : suc m ≡ suc k = only (suc m) d (omega arith) same in omega (arith, at))
+    ] refl
+
+-- The item that comes in at an end stands at its joint.
+pub taken_by_ends : (net : Net) → IsWired net → (table : List (List ℕ)) → AreEnds net table → (items : List (Option Value)) → length items ≡ length net.joints → (e : End) → IsTaker net e
+    → taken_at net.joints items e ≡ get_or items (joint_at table e) None
+taken_by_ends net wired table are items n e is =
+    taken_at_joint net.joints items e (joint_at table e) n (are.in_range e is.is_end) (λ d. taker_at net wired table are e d is)
+    (λ m d lt same. sym (of_taker net wired table are m d lt) ∙ ap (joint_at table) same)
 
 -- What a row gives, by where it comes from.
 pub given_none : (net : Net) (rows : List ℕ) (items : List (Option Value)) (e : End)

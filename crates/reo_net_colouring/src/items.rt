@@ -6,10 +6,12 @@ ghost use Rattle.reo_net_base.specs.Sides.{AreRowsOf};
 ghost use Rattle.reo_net_base.specs.Ends.{IsGiver};
 ghost use Rattle.reo_net_base.specs.Net.{net_of, all_sides, behaviour_at, mark_at};
 ghost use Rattle.reo_net_base.specs.Colouring.{RowsFit, given_at, item_given, IsFilled};
+ghost use Rattle.reo_net_ends.specs.Ends.{AreEnds};
 
-use crate::taken::taken;
+use crate::taken::taken_by;
 use reo_net_base::{Colouring, End, Joint, Mark, Primitive};
 use reo_net_circuit::Circuit;
+use reo_net_ends::{Ends, ends_of};
 use reo_values::{List, NoMemory, Value};
 use std::alloc::Global;
 
@@ -17,10 +19,12 @@ use std::alloc::Global;
 fn given_for<P: Primitive>(
     alloc: Global,
     circuit: &Circuit<P>,
+    ends: &Ends,
     rows: &[u32],
     items: &[Option<Value>],
     giver: End,
 ) -> Result<Option<Value>, NoMemory>
+    requires ends { AreEnds (net_of P.behaviour circuit.now) ends.now }
     requires rows { AreRowsOf (net_of P.behaviour circuit.now) rows.now }
     requires items { length items.now ≡ length circuit.now.joints }
     requires giver { IsGiver (net_of P.behaviour circuit.now) giver }
@@ -42,7 +46,7 @@ fn given_for<P: Primitive>(
                 primitive: giver.primitive,
                 end: from,
             };
-            match taken(circuit.joints(), items, source) {
+            match taken_by(circuit, ends, items, source) {
                 None => Ok(None),
                 Some(item) => {
                     let item = primitive.gives(alloc, side, row, giver.end, Some(item))?;
@@ -58,10 +62,12 @@ fn given_for<P: Primitive>(
 fn item_for<P: Primitive>(
     alloc: Global,
     circuit: &Circuit<P>,
+    ends: &Ends,
     rows: &[u32],
     items: &[Option<Value>],
     joint: Joint,
 ) -> Result<Option<Value>, NoMemory>
+    requires ends { AreEnds (net_of P.behaviour circuit.now) ends.now }
     requires rows { AreRowsOf (net_of P.behaviour circuit.now) rows.now }
     requires items { length items.now ≡ length circuit.now.joints }
     requires giver { IsGiver (net_of P.behaviour circuit.now) joint.giver }
@@ -69,7 +75,7 @@ fn item_for<P: Primitive>(
         IfOk result (λ found. found ≡ item_given net rows.now items.now joint) }
 {
     match circuit.mark_at(rows, joint.giver) {
-        Mark::F => given_for(alloc, circuit, rows, items, joint.giver),
+        Mark::F => given_for(alloc, circuit, ends, rows, items, joint.giver),
         _ => Ok(None),
     }
 }
@@ -98,9 +104,11 @@ fn put_item(items: &mut Vec<Option<Value>>, joint: usize, item: Option<Value>)
 pub(crate) fn items_of<P: Primitive>(
     alloc: Global,
     circuit: &Circuit<P>,
+    ends: &Ends,
     rows: &[u32],
 ) -> Result<List<Option<Value>>, NoMemory>
-    requires { AreRowsOf (net_of P.behaviour circuit.now) rows.now }
+    requires ends { AreEnds (net_of P.behaviour circuit.now) ends.now }
+    requires rows { AreRowsOf (net_of P.behaviour circuit.now) rows.now }
     ensures filled { IfOk result (IsFilled (net_of P.behaviour circuit.now) rows.now) }
     ensures one { let net = net_of P.behaviour circuit.now in IfOk result (λ items.
         (others : Items (Option Item)) → IsFilled net rows.now others → others ≡ items) }
@@ -111,14 +119,34 @@ pub(crate) fn items_of<P: Primitive>(
     for at in 0..order.len() {
         let index = order[at];
         let joint = circuit.joint(index);
-        let item = item_for(alloc, circuit, rows, &items, joint)?;
+        let item = item_for(alloc, circuit, ends, rows, &items, joint)?;
         put_item(&mut items, index, item);
     }
     Ok(List::from_vec(items))
 }
 
-/// The rows with the items that they determine, whether or not they are let in. `NoMemory` is
-/// out of memory.
+/// The rows with the items that they determine, whether or not they are let in, by the joints of
+/// the circuit's ends. It costs as many steps as there are joints. `NoMemory` is out of memory.
+pub fn fill_with<P: Primitive>(
+    alloc: Global,
+    circuit: &Circuit<P>,
+    ends: &Ends,
+    rows: List<u32>,
+) -> Result<Colouring, NoMemory>
+    requires ends { AreEnds (net_of P.behaviour circuit.now) ends.now }
+    requires rows { RowsFit (net_of P.behaviour circuit.now) rows }
+    ensures rows { IfOk result (λ filled. filled.rows ≡ rows) }
+    ensures items { let net = net_of P.behaviour circuit.now in
+        IfOk result (λ filled. IsFilled net rows filled.items) }
+    ensures one { let net = net_of P.behaviour circuit.now in IfOk result (λ filled.
+        (others : Items (Option Item)) → IsFilled net rows others → others ≡ filled.items) }
+{
+    let items = items_of(alloc, circuit, ends, rows.as_slice())?;
+    Ok(Colouring { rows, items })
+}
+
+/// The rows with the items that they determine, whether or not they are let in. It costs as many
+/// steps as the circuit has ends and joints. `NoMemory` is out of memory.
 pub fn fill<P: Primitive>(
     alloc: Global,
     circuit: &Circuit<P>,
@@ -131,6 +159,6 @@ pub fn fill<P: Primitive>(
     ensures one { let net = net_of P.behaviour circuit.now in IfOk result (λ filled.
         (others : Items (Option Item)) → IsFilled net rows others → others ≡ filled.items) }
 {
-    let items = items_of(alloc, circuit, rows.as_slice())?;
-    Ok(Colouring { rows, items })
+    let ends = ends_of(alloc, circuit)?;
+    fill_with(alloc, circuit, &ends, rows)
 }

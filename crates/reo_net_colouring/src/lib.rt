@@ -12,7 +12,7 @@ mod whole;
 
 pub use colours::colour;
 pub use fitting::fits;
-pub use items::fill;
+pub use items::{fill, fill_with};
 pub use moves::are_moves;
 pub use order::compare;
 pub use whole::is_colouring;

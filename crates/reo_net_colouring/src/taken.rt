@@ -1,9 +1,13 @@
 //! Items that come in at ends.
 ghost use Rattle.std.specs.Prelude.{◌≡◌, ◌<◌, length, option_copied};
-ghost use Rattle.reo_net_base.specs.Net.{end_eq};
+ghost use Rattle.reo_net_base.specs.Ends.{IsTaker};
+ghost use Rattle.reo_net_base.specs.Net.{net_of, end_eq};
 ghost use Rattle.reo_net_base.specs.Colouring.{taken_at};
+ghost use Rattle.reo_net_ends.specs.Ends.{AreEnds};
 
-use reo_net_base::{End, Joint};
+use reo_net_base::{End, Joint, Primitive};
+use reo_net_circuit::Circuit;
+use reo_net_ends::Ends;
 use reo_values::Value;
 
 /// Whether two ends are one.
@@ -24,4 +28,20 @@ pub(crate) fn taken<'a>(joints: &[Joint], items: &'a [Option<Value>], end: End) 
         }
     }
     None
+}
+
+/// The item at the joint of an end that takes in, if there is one: no joint is searched for.
+pub(crate) fn taken_by<'a, P: Primitive>(
+    circuit: &Circuit<P>,
+    ends: &Ends,
+    items: &'a [Option<Value>],
+    end: End,
+) -> Option<&'a Value>
+    requires ends { AreEnds (net_of P.behaviour circuit.now) ends.now }
+    requires items { length items.now ≡ length circuit.now.joints }
+    requires end { IsTaker (net_of P.behaviour circuit.now) end }
+    ensures { option_copied result ≡ taken_at circuit.now.joints items.entry.now end }
+{
+    circuit.known();
+    items[ends.joint_at(end)].as_ref()
 }

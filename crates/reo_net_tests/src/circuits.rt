@@ -42,7 +42,7 @@ pub fn made(
     let joints = joined(alloc, joints)?;
     let primitives = kinds(rt, alloc, pieces)?;
     assert!(rt; are_parts(primitives.as_slice(), ports, joints.as_slice()));
-    assert!(rt; primitives.len() < 100 && joints.len() < 100);
+    assert!(rt; primitives.len() < 1000 && joints.len() < 1000);
     Ok(Circuit::new(alloc, primitives, ports, joints))
 }
 

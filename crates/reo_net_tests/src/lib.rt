@@ -10,6 +10,8 @@ mod knots;
 #[cfg(test)]
 mod orders;
 #[cfg(test)]
+mod pairs;
+#[cfg(test)]
 mod pieces;
 #[cfg(test)]
 mod refused;

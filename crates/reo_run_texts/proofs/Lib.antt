@@ -11,3 +11,4 @@ mod ProgramPorts
 mod ProgramOrder
 mod OverSmall
 mod RunLemmas
+pub mod Counting

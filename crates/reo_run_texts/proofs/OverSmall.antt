@@ -1,10 +1,35 @@
 -- The numbers of rounds that cannot be planned.
-use Rattle.std.proofs.Common.{ℕ, ◌≤◌, ◌^◌}
-use Rattle.reo_net_base.specs.Net.{Net}
-use Rattle.reo_weights.specs.Over.{Cause, IsOver}
+use Rattle.std.proofs.Common.{◌≡◌, ℕ, zero, suc, ◌+◌, ◌*◌, ◌<◌, ◌≤◌, ◌^◌, List, [], ◌∷◌, ◌++◌, length, arith, length-append}
+use Rattle.std.proofs.lemmas.List.FromFn.{length-map-range_with_len}
+use Rattle.reo_net_base.specs.Behaviour.{Behaviour}
+use Rattle.reo_net_base.specs.Lawful.{IsLawful}
+use Rattle.reo_net_base.specs.Net.{Net, Side, sides_of, all_sides, behaviour_at}
+use Rattle.reo_net_base.specs.Wired.{IsWired}
 use Rattle.reo_trace_texts.specs.Lines.{IsEnding}
+use Rattle.reo_weights.specs.Over.{Cause, IsOver}
+use Rattle.reo_weights.specs.Over.Cause.{spent, wide}
+use Rattle.reo_weights.specs.Laws.{CausesAreSmall, HasSmallNumbers}
 use Rattle.reo_runs.specs.Run.{ending_by}
 
--- They are small where the budget and the number of the round are.
-pub over_small : (budget : ℕ) (net : Net) (turn : ℕ) (cause : Cause) → budget ≤ 10 ^ 9 → turn ≤ 10 ^ 9 → IsOver budget net cause → IsEnding (ending_by turn cause)
-over_small budget net turn cause few within over = absurd over
+side_count : (b : Behaviour) → length (sides_of b) ≡ b.sides
+side_count b = length-map-range_with_len {X = Side} (λ k. record { of = b; number = k }) 0 b.sides
+
+-- There are at most two sides for each primitive.
+sides_few : (bs : List Behaviour) → ((i : ℕ) → i < length bs → IsLawful (behaviour_at bs i)) → length (all_sides bs) ≤ 2 * length bs
+sides_few [] law = omega arith
+sides_few (b ∷ bs) law =
+    let rest = sides_few bs (λ i lt. law (suc i) (omega arith)) in
+    let own = (law zero (omega arith)).few_sides in
+    omega (arith, rest, own, side_count b, length-append (sides_of b) (all_sides bs))
+
+-- They are small where the budget, the number of the round and the circuit are.
+pub over_small : CausesAreSmall → (budget : ℕ) (net : Net) → IsWired net → length net.primitives ≤ 2 ^ 31 → (turn : ℕ) (cause : Cause) → budget ≤ 10 ^ 9 → turn ≤ 10 ^ 9
+    → IsOver budget net cause → IsEnding (ending_by turn cause)
+over_small small budget net wired few turn (spent knot weight limit) few_budget within over =
+    let s = small budget net (spent knot weight limit) over in
+    let sides = sides_few net.primitives wired.lawful in
+    (omega (arith, within), omega (arith, s.0, sides, few), omega (arith, s.1), omega (arith, s.2, few_budget))
+over_small small budget net wired few turn (wide knot) few_budget within over =
+    let s = small budget net (wide knot) over in
+    let sides = sides_few net.primitives wired.lawful in
+    (omega (arith, within), omega (arith, s, sides, few))

@@ -7,6 +7,7 @@ use reo_flatten_laws::{
 };
 use reo_net_order::order_exists;
 use reo_values::item_test_is_exact;
+use reo_weights::causes_are_small;
 
 /// In a program as a text says it that is accepted, the names of ports are names, no two of them
 /// alike, and their types are such as a program may have.
@@ -28,4 +29,5 @@ pub fn runs_are_trace_texts()
     nodes_are_distinct();
     order_exists();
     item_test_is_exact();
+    causes_are_small();
 }

@@ -1,6 +1,7 @@
 //! Rounds that are planned.
-ghost use Rattle.std.specs.Prelude.{◌≡◌, ◌<◌, ◌+◌, ◌^◌, MatchResult};
-ghost use Rattle.reo_net_base.specs.Net.{net_of};
+ghost use Rattle.std.specs.Prelude.{◌≡◌, ◌<◌, ◌+◌, ◌^◌, ℕ, MatchResult};
+ghost use Rattle.reo_net_base.specs.Net.{Net, net_of};
+ghost use Rattle.reo_engine_base.specs.Plans.{IsPlan, IsPlanFault};
 ghost use Rattle.reo_runner.specs.Rounds.{IsPlannedRound, IsUnplanned};
 ghost use Rattle.reo_runner.specs.declared.planning.RoundFault.TheVariants.{NoMemory as OutOfMemory};
 
@@ -43,30 +44,58 @@ pub(crate) struct Planned {
     pub line: RoundLine,
 }
 
+/// Why a round was not made, where it cannot be planned.
+fn round_fault(fault: PlanFault) -> RoundFault
+    ensures { (budget : ℕ) (net : Net) → IsPlanFault budget net fault → IsUnplanned budget net result }
+{
+    match fault {
+        PlanFault::Wide { knot } => RoundFault::Wide { knot: knot as u64 },
+        PlanFault::Spent { knot, weight } => RoundFault::Spent {
+            knot: knot as u64,
+            weight,
+        },
+        PlanFault::NoMemory => RoundFault::NoMemory,
+    }
+}
+
+/// The plan of the round that stands next. What was found of its parts is kept for rounds to come.
+fn prepared_plan<P: Ported, L: Ledger>(
+    alloc: Global,
+    engine: &mut Engine<P>,
+    budget: u64,
+    steps: &mut Steps<L>,
+) -> Result<Plan, PlanFault>
+    requires small { budget < 10 ^ 18 }
+    ensures exact { let net = net_of P.behaviour engine.old.circuit in
+        let turn = engine.old.rounds + 1 in
+        MatchResult result (IsPlan budget net engine.old.circuit.ports turn)
+        (IsPlanFault budget net) }
+    ensures circuit { engine.new.circuit ≡ engine.old.circuit }
+    ensures rounds { engine.new.rounds ≡ engine.old.rounds }
+{
+    engine.prepare(alloc, budget, steps)?;
+    engine.plan(alloc, budget, steps)
+}
+
 /// Plans the round that stands next, and makes its line.
 pub(crate) fn plan_round<P: Ported, L: Ledger>(
     alloc: Global,
-    engine: &Engine<P>,
+    engine: &mut Engine<P>,
     budget: u64,
     steps: &mut Steps<L>,
 ) -> Result<Planned, RoundFault>
     requires small { budget < 10 ^ 18 }
-    ensures exact { let net = net_of P.behaviour engine.now.circuit in
-        let turn = engine.now.rounds + 1 in
-        MatchResult result (IsPlannedRound budget net engine.now.circuit.ports turn)
+    ensures exact { let net = net_of P.behaviour engine.old.circuit in
+        let turn = engine.old.rounds + 1 in
+        MatchResult result (IsPlannedRound budget net engine.old.circuit.ports turn)
         (IsUnplanned budget net) }
+    ensures circuit { engine.new.circuit ≡ engine.old.circuit }
+    ensures rounds { engine.new.rounds ≡ engine.old.rounds }
 {
     engine.known();
-    let plan = match engine.plan(alloc, budget, steps) {
+    let plan = match prepared_plan(alloc, engine, budget, steps) {
         Ok(plan) => plan,
-        Err(PlanFault::Wide { knot }) => return Err(RoundFault::Wide { knot: knot as u64 }),
-        Err(PlanFault::Spent { knot, weight }) => {
-            return Err(RoundFault::Spent {
-                knot: knot as u64,
-                weight,
-            });
-        }
-        Err(PlanFault::NoMemory) => return Err(RoundFault::NoMemory),
+        Err(fault) => return Err(round_fault(fault)),
     };
     let rows = plan.colouring.rows.as_slice();
     let turn = engine.rounds() + 1;

@@ -5,7 +5,9 @@ use Rattle.reo_values.specs.declared.value.Value.{Value}
 use Rattle.reo_net_base.specs.Moves.{moves_of}
 use Rattle.reo_net_base.specs.Net.{Net, Wiring, net_of}
 use Rattle.reo_net_base.specs.Step.{stepped}
+use Rattle.reo_net_base.specs.Wired.{IsWired}
 use Rattle.reo_net_laws.specs.FirstLaws.{FirstIsOne}
+use Rattle.reo_weights.specs.Laws.{CauseIsOne}
 use Rattle.reo_players.specs.Offers.{offer_for}
 use Rattle.reo_trace.specs.declared.line.RoundLine.{RoundLine}
 use Rattle.reo_trace.specs.declared.line.Ending.{Ending}
@@ -16,29 +18,22 @@ use Rattle.reo_runs.specs.Round.{State, RoundOf, net_ready, advanced}
 use Rattle.reo_runs.specs.Run.{Place, Leads, EndsAs, place_after, ending_by, firsts}
 use Rattle.reo_runs.specs.Whole.{HasOrder, HasOneRun}
 use Rattle.reo_runs.proofs.OrderLemmas.{KeepsShape, ready_order, round_order}
-use Rattle.reo_runs.proofs.OverLemmas.{one_cause}
+
+module _ (budget limit : ℕ) (one_cause : CauseIsOne) where
+  -- In place of one round stands one ending.
+  one_stop : (net : Net) → IsWired net → (turn : ℕ) (e f : Ending) → (firsts budget limit).stops net turn e → (firsts budget limit).stops net turn f → e ≡ f
+  one_stop net wired turn e f (inl p) (inl q) = p.1 ∙ sym q.1
+  one_stop net wired turn e f (inl p) (inr q) = absurd (omega (arith, p.0, q.0))
+  one_stop net wired turn e f (inr p) (inl q) = absurd (omega (arith, p.0, q.0))
+  one_stop net wired turn e f (inr p) (inr q) = p.3 ∙ ap (ending_by turn) (one_cause budget net wired p.1 q.1 p.2 q.2) ∙ sym q.3
 
 module _ (budget limit : ℕ) where
-  -- In place of one round stands one ending.
-  one_stop : (net : Net) (turn : ℕ) (e f : Ending) → (firsts budget limit).stops net turn e → (firsts budget limit).stops net turn f → e ≡ f
-  one_stop net turn e f (inl p) (inl q) = p.1 ∙ sym q.1
-  one_stop net turn e f (inl p) (inr q) = absurd (omega (arith, p.0, q.0))
-  one_stop net turn e f (inr p) (inl q) = absurd (omega (arith, p.0, q.0))
-  one_stop net turn e f (inr p) (inr q) = p.3 ∙ ap (ending_by turn) (one_cause budget net p.1 q.1 p.2 q.2) ∙ sym q.3
-
   -- Where a round may be made, no ending stands in its place.
   no_stop : (net : Net) (turn : ℕ) (rows : List ℕ) (items : List (Option Value)) (e : Ending) → (firsts budget limit).suits net turn rows items → (firsts budget limit).stops net turn e → ⊥
   no_stop net turn rows items e fits (inl p) = absurd (omega (arith, fits.0, p.0))
   no_stop net turn rows items e fits (inr p) = fits.1 p.1 p.2
 
 module _ {P : Type 0} (r : Rules P) (budget limit : ℕ) where
-  -- From one place there is one ending.
-  one_end : (turn : ℕ) (p : Place P) (e f : Ending) → EndsAs (firsts budget limit) r turn p e → EndsAs (firsts budget limit) r turn p f → e ≡ f
-  one_end turn p e f (inl over) (inl also) = cc
-  one_end turn p e f (inl over) (inr q) = let on = q.0 in absurd (cc)
-  one_end turn p e f (inr q) (inl over) = let on = q.0 in absurd (cc)
-  one_end turn p e f (inr q) (inr s) = one_stop budget limit (net_ready r p.state) turn e f q.1 s.1
-
   -- Where a round was made, no run ends.
   no_end : (turn : ℕ) (p : Place P) (line : RoundLine) (b : State P) (e : Ending) → p.over ≡ None → RoundOf (firsts budget limit) r turn p.state line b → EndsAs (firsts budget limit) r turn p e → ⊥
   no_end turn p line b e on round (inl over) = absurd (cc)
@@ -49,7 +44,14 @@ module _ {P : Type 0} (r : Rules P) (budget limit : ℕ) where
   ends_here turn t p q e count same ends =
       subst (λ (n : ℕ). EndsAs (firsts budget limit) r n p e) count (subst (λ (s : Place P). EndsAs (firsts budget limit) r t s e) (sym same) ends)
 
-  module _ (k : KeepsShape r) (one : FirstIsOne) where
+  module _ (k : KeepsShape r) (one : FirstIsOne) (one_cause : CauseIsOne) where
+    -- From one place there is one ending.
+    one_end : (turn : ℕ) (p : Place P) (e f : Ending) → HasOrder (net_of r.behaviour p.state.circuit) → EndsAs (firsts budget limit) r turn p e → EndsAs (firsts budget limit) r turn p f → e ≡ f
+    one_end turn p e f old (inl over) (inl also) = cc
+    one_end turn p e f old (inl over) (inr q) = let on = q.0 in absurd (cc)
+    one_end turn p e f old (inr q) (inl over) = let on = q.0 in absurd (cc)
+    one_end turn p e f old (inr q) (inr s) = one_stop budget limit one_cause (net_ready r p.state) (ready_order r k (offer_for p.state.players) p.state.circuit old).wired turn e f q.1 s.1
+
     one_round : (turn : ℕ) (a : State P) (x y : RoundLine) (b d : State P) → HasOrder (net_of r.behaviour a.circuit)
         → RoundOf (firsts budget limit) r turn a x b → RoundOf (firsts budget limit) r turn a y d → (x ≡ y) × (b ≡ d)
     one_round turn a x y b d old p q =
@@ -66,7 +68,7 @@ module _ {P : Type 0} (r : Rules P) (budget limit : ℕ) where
         → Leads (firsts budget limit) r turn p xs q → Leads (firsts budget limit) r turn p ys s
         → EndsAs (firsts budget limit) r t q e → EndsAs (firsts budget limit) r u s f → (xs ≡ ys) × (e ≡ f)
     one_leads turn t u p [] [] q s e f count also old d g ends other =
-        (λ i. [], one_end turn p e f (ends_here turn t p q e (omega (arith, count)) d ends) (ends_here turn u p s f (omega (arith, also)) g other))
+        (λ i. [], one_end turn p e f old (ends_here turn t p q e (omega (arith, count)) d ends) (ends_here turn u p s f (omega (arith, also)) g other))
     one_leads turn t u p [] (y ∷ ys) q s e f count also old d g ends other =
         absurd (no_end turn p y g.1 e g.0 g.2 (ends_here turn t p q e (omega (arith, count)) d ends))
     one_leads turn t u p (x ∷ xs) [] q s e f count also old d g ends other =

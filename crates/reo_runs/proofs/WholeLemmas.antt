@@ -17,7 +17,7 @@ use Rattle.reo_runs.specs.Round.{State, Choosing, RoundOf, net_ready, advanced}
 use Rattle.reo_runs.specs.Run.{Place, Leads, EndsAs, HasBegun, place_after, ending_by, firsts}
 use Rattle.reo_runs.specs.Whole.{HasOrder, GoesOn, HasRun}
 use Rattle.reo_runs.proofs.OrderLemmas.{KeepsShape, ready_order, round_order}
-use Rattle.reo_runs.proofs.OverLemmas.{over_or_not}
+use Rattle.reo_weights.specs.Laws.{OverIsDecided}
 
 module _ {P : Type 0} (C : Choosing) (r : Rules P) where
   -- What is left of a run from a place on, before the round of this number.
@@ -66,7 +66,7 @@ module _ {P : Type 0} (r : Rules P) (budget limit : ℕ) where
       let rest = leads_within (turn + 1) (place_after turn x p.state d.1) xs q d.3 (omega (arith, d.2.made.suits.0)) in
       omega (arith, rest)
 
-  module _ (k : KeepsShape r) (first : FirstExists) where
+  module _ (k : KeepsShape r) (first : FirstExists) (decided : OverIsDecided) where
     round_exists : (turn : ℕ) (a : State P) → turn ≤ limit → ((cause : Cause) → IsOver budget (net_ready r a) cause → ⊥) → HasOrder (net_of r.behaviour a.circuit)
         → (line : RoundLine) × (b : State P) × RoundOf (firsts budget limit) r turn a line b
     round_exists turn a within none old =
@@ -110,7 +110,7 @@ module _ {P : Type 0} (r : Rules P) (budget limit : ℕ) where
         let within : turn ≤ limit = omega (arith, count) in
         elim p.over as (λ o. p.over ≡ o → RunsOn (firsts budget limit) r turn p) [
           | Some ending ↦ λ over. over_here turn p ending over
-          | None ↦ λ on. elim (over_or_not budget (net_ready r p.state)) as (λ _. RunsOn (firsts budget limit) r turn p) [
+          | None ↦ λ on. elim (decided budget (net_ready r p.state) (ready_order r k (offer_for p.state.players) p.state.circuit old).wired (ready_order r k (offer_for p.state.players) p.state.circuit old).order (ready_order r k (offer_for p.state.players) p.state.circuit old).is_order) as (λ _. RunsOn (firsts budget limit) r turn p) [
             | inl d ↦ stopped_here turn p within on d.0 d.1
             | inr none ↦
                 let next = round_exists turn p.state within none old in

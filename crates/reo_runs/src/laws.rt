@@ -10,6 +10,7 @@ use reo_net_circuit::Circuit;
 use reo_net_laws::{first_exists, first_flows, first_is_one, first_jams_for_cause};
 use reo_players::offers_agree;
 use reo_trace::idle_means_no_flow;
+use reo_weights::{cause_is_one, over_is_decided};
 
 /// Where the joints have an order, there is a run from each start, and each beginning of a run
 /// goes on to a whole run, also with any round that can come next.
@@ -17,6 +18,7 @@ pub fn trace_exists<P: Ported>()
     ensures { RunExists (rules_of P.behaviour P.settled P.port_state P.placed P.withdrawn) }
 {
     first_exists();
+    over_is_decided();
 }
 
 /// Where the joints have an order, two runs from one start have the same lines and the same
@@ -25,6 +27,7 @@ pub fn one_trace<P: Ported>()
     ensures { RunIsOne (rules_of P.behaviour P.settled P.port_state P.placed P.withdrawn) }
 {
     first_is_one();
+    cause_is_one();
 }
 
 /// In every circuit each round of a run is idle only where no colouring flows, and jams only what

@@ -22,7 +22,8 @@ sooner : (a b : Bool) → a ≡ true → (a || b) ≡ true
 sooner true b h = refl
 sooner false b h = cc
 
-either : (a b : Bool) → (a || b) ≡ true → (a ≡ true) ⊎ (b ≡ true)
+-- One of two things is so.
+pub either : (a b : Bool) → (a || b) ≡ true → (a ≡ true) ⊎ (b ≡ true)
 either true b h = inl refl
 either false b h = inr h
 

@@ -9,3 +9,12 @@ pub mod Jamming
 pub mod Firsts
 pub mod Knotted
 pub mod Listing
+pub mod Pinned
+pub mod Counted
+pub mod Tried
+pub mod Remains
+pub mod Named
+pub mod Matched
+pub mod Searched
+pub mod Isolating
+pub mod Singles

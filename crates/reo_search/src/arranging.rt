@@ -1,5 +1,5 @@
 //! The first assignment of a knot.
-ghost use Rattle.std.specs.Prelude.{◌≡◌, ◌<◌, ◌+◌, ◌^◌, ℕ, true, IfOk, MatchOption, length, slice_index_or, []};
+ghost use Rattle.std.specs.Prelude.{◌≡◌, ◌<◌, ◌+◌, ◌^◌, ℕ, true, IfOk, OnOk, MatchOption, length, slice_index_or, []};
 ghost use Rattle.reo_net_base.specs.Net.{net_of, all_sides};
 ghost use Rattle.reo_net_laws.specs.Parts.{IsKnot};
 ghost use Rattle.reo_knots.specs.Knots.{AreKnots, in_knot, knot_count};
@@ -48,7 +48,8 @@ pub fn first_by<P: Primitive>(
     requires some_side { 0 < length sides.now }
     requires places { (k : ℕ) (d : Spot) → k < length places.now → among sides.now (side_of_place (slice_index_or places.now k d)) ≡ true }
     requires one { OneAtLoops (net_of P.behaviour circuit.now) (among sides.now) (family_of state.old.alive) }
-    ensures { IfOk result (λ found. MatchOption found (HasNone (net_of P.behaviour circuit.now) (names_of items.now) (among sides.now) (family_of state.old.alive)) (IsFirstWith (net_of P.behaviour circuit.now) (names_of items.now) (among sides.now) turn (family_of state.old.alive) places.now)) }
+    ensures first { IfOk result (λ found. MatchOption found (HasNone (net_of P.behaviour circuit.now) (names_of items.now) (among sides.now) (family_of state.old.alive)) (IsFirstWith (net_of P.behaviour circuit.now) (names_of items.now) (among sides.now) turn (family_of state.old.alive) places.now)) }
+    ensures search { OnOk result (IsSearch (net_of P.behaviour circuit.now) boards.now ends.now items.now (among sides.now) state.new) }
 {
     match walk(
         alloc, circuit, boards, ends, items, sides, state, places, turn,

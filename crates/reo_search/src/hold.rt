@@ -21,7 +21,7 @@ use reo_propagate_rows::{FLOWS, Flags, mark_seen};
 use reo_values::{List, NoMemory, Value};
 
 /// What a joint lost, with a value more, by its place.
-fn one_more(loss: Loss, code: usize) -> Loss
+pub(crate) fn one_more(loss: Loss, code: usize) -> Loss
     ensures some { result.some ≡ true }
     ensures flow { result.flow ≡ false → (loss.flow ≡ false) × (code < 4) }
 {

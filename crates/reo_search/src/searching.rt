@@ -1,31 +1,131 @@
 //! The first assignment of a knot, over all values that its joints can have.
-ghost use Rattle.std.specs.Prelude.{◌≡◌, ◌↔◌, ◌<◌, ◌≤◌, ◌+◌, ◌^◌, ℕ, false, IsTrue, IfOk, OnOk, MatchResult, length};
+ghost use Rattle.std.specs.Prelude.{◌≡◌, ◌↔◌, ◌<◌, ◌≤◌, ◌+◌, ◌^◌, ℕ, true, false, [], IsTrue, IfOk, IfSome, OnOk, MatchResult, length, slice_index_or};
 ghost use Rattle.reo_net_base.specs.Net.{net_of, all_sides};
 ghost use Rattle.reo_net_ends.specs.Ends.{AreEnds};
+ghost use Rattle.reo_net_laws.specs.Parts.{IsKnot};
 ghost use Rattle.reo_knots.specs.Knots.{AreKnots, in_knot, knot_count};
+ghost use Rattle.reo_support.specs.Chosen.{IsChosen};
 ghost use Rattle.reo_reach.specs.Supplied.{AreShort, IsReached, IsSupply, is_wide};
 ghost use Rattle.reo_reach.specs.Width.{IsJointIn};
-ghost use Rattle.reo_weights.specs.Weights.{IsWeight};
+ghost use Rattle.reo_weights.specs.Weights.{IsWeight, AreNamed, all_values};
 ghost use Rattle.reo_propagate_rows.specs.Rows.{AreTables};
-ghost use Rattle.reo_propagate_rows.specs.Sets.{IsReady};
+ghost use Rattle.reo_propagate_rows.specs.Sets.{IsReady, names_of};
+ghost use Rattle.reo_propagate.specs.Queues.{among};
+ghost use Rattle.reo_propagate.specs.Beginning.{IsSearch};
+ghost use Rattle.reo_search.specs.declared.place.Place.{Place as Spot};
+ghost use Rattle.reo_search.specs.Places.{side_of_place, places_in};
+ghost use Rattle.reo_search.specs.Remaining.{AreLoopsIn, IsLeftOfAll, CoverAll, choices_of};
+ghost use Rattle.reo_search.specs.Trying.{MayRestart, IsLeastOf, IsFirstOf};
 ghost use Rattle.reo_search.specs.First.{IsFirstWithin, IsSearchFault, HasNoThreeColouring};
 
+use crate::choices::first_over;
 use crate::fault::SearchFault;
-use crate::part::Part;
-use reo_boards::Board;
+use crate::part::{Part, part_of};
+use crate::place::Place;
+use crate::places::places_of;
+use crate::walk::walk;
+use crate::weighing::{are_single, codes_of, narrow_all, weight_of};
+use crate::widths::has_wide;
+use reo_boards::{Board, boards_of};
 use reo_knots::Knots;
 use reo_net_base::Primitive;
 use reo_net_circuit::Circuit;
-use reo_net_ends::Ends;
-use reo_propagate::State;
+use reo_net_ends::{Ends, ends_of};
+use reo_propagate::{State, begin, restart};
 use reo_reach::Supply;
 use reo_steps::Steps;
-use reo_values::{List, NoMemory};
+use reo_values::{List, NoMemory, Value};
 use std::alloc::Global;
 use std::sync::ledger::Ledger;
 
-/// The weight of a knot of which no joint is wide: the product over its loop joints of the numbers of values supported there, at most
-/// 10^18. `NoMemory` is out of memory.
+/// The numbers of the first assignment, where a walk over what is left finds it. `None` says
+/// nothing: then each value at the loop joints is to be tried. `NoMemory` is out of memory.
+fn first_by_walk<P: Primitive>(
+    alloc: Global,
+    circuit: &Circuit<P>,
+    boards: &List<Board>,
+    ends: &Ends,
+    items: &[List<Value>],
+    sides: &[usize],
+    state: &mut State,
+    places: &[Place],
+    turn: u64,
+    loops: &[usize],
+) -> Result<Option<List<usize>>, NoMemory>
+    requires search { IsSearch (net_of P.behaviour circuit.now) boards.now ends.now items.now (among sides.now) state.old }
+    requires knot { IsKnot (net_of P.behaviour circuit.now) (among sides.now) }
+    requires sides { (s : ℕ) → among sides.now s ≡ true → s < length (all_sides (net_of P.behaviour circuit.now).primitives) }
+    requires some_side { 0 < length sides.now }
+    requires places { (k : ℕ) (d : Spot) → k < length places.now → among sides.now (side_of_place (slice_index_or places.now k d)) ≡ true }
+    requires loops { AreLoopsIn (net_of P.behaviour circuit.now) (among sides.now) loops.now }
+    requires left { IsLeftOfAll (net_of P.behaviour circuit.now) (names_of items.now) (among sides.now) state.old.alive }
+    ensures first { IfOk result (λ found. IfSome found (IsLeastOf (IsChosen (net_of P.behaviour circuit.now) (names_of items.now) (among sides.now) (all_values (names_of items.now))) (net_of P.behaviour circuit.now) turn places.now)) }
+    ensures tables { OnOk result (MayRestart (net_of P.behaviour circuit.now) boards.now ends.now items.now state.new) }
+{
+    match walk(
+        alloc, circuit, boards, ends, items, sides, state, places, turn,
+    )? {
+        None => Ok(None),
+        Some(chosen) => {
+            let left = codes_of(alloc, &state.alive, loops)?;
+            if are_single(&left) {
+                Ok(Some(chosen))
+            } else {
+                Ok(None)
+            }
+        }
+    }
+}
+
+/// The numbers of the first assignment. It ticks at most as many times as there are choices of what
+/// is left at the loop joints, and not at all where a walk finds it. `NoMemory` is out of memory.
+fn first_numbers<P: Primitive, L: Ledger>(
+    alloc: Global,
+    circuit: &Circuit<P>,
+    boards: &List<Board>,
+    ends: &Ends,
+    items: &[List<Value>],
+    sides: &[usize],
+    state: &mut State,
+    places: &[Place],
+    turn: u64,
+    loops: &[usize],
+    left: &List<List<usize>>,
+    steps: &mut Steps<L>,
+) -> Result<List<usize>, NoMemory>
+    requires search { IsSearch (net_of P.behaviour circuit.now) boards.now ends.now items.now (among sides.now) state.old }
+    requires knot { IsKnot (net_of P.behaviour circuit.now) (among sides.now) }
+    requires sides { (s : ℕ) → among sides.now s ≡ true → s < length (all_sides (net_of P.behaviour circuit.now).primitives) }
+    requires some_side { 0 < length sides.now }
+    requires places { (k : ℕ) (d : Spot) → k < length places.now → among sides.now (side_of_place (slice_index_or places.now k d)) ≡ true }
+    requires loops { AreLoopsIn (net_of P.behaviour circuit.now) (among sides.now) loops.now }
+    requires alive { IsLeftOfAll (net_of P.behaviour circuit.now) (names_of items.now) (among sides.now) state.old.alive }
+    requires left { length left.now ≡ length loops.now }
+    requires cover { CoverAll (net_of P.behaviour circuit.now) (names_of items.now) (among sides.now) loops.now left.now }
+    requires named { AreNamed (net_of P.behaviour circuit.now) (among sides.now) (names_of items.now) }
+    ensures first { IfOk result (IsLeastOf (IsChosen (net_of P.behaviour circuit.now) (names_of items.now) (among sides.now) (all_values (names_of items.now))) (net_of P.behaviour circuit.now) turn places.now) }
+    ensures tables { OnOk result (MayRestart (net_of P.behaviour circuit.now) boards.now ends.now items.now state.new) }
+    ensures ticks { steps.new ≤ steps.old + choices_of left.now }
+{
+    circuit.known();
+    let found = first_by_walk(
+        alloc, circuit, boards, ends, items, sides, state, places, turn, loops,
+    )?;
+    if let Some(chosen) = found {
+        return Ok(chosen);
+    }
+    let mut codes = List::new(alloc);
+    match first_over(
+        alloc, circuit, boards, ends, items, sides, state, places, turn, loops, left, &mut codes,
+        steps,
+    )? {
+        None => unreachable!(),
+        Some(chosen) => Ok(chosen),
+    }
+}
+
+/// The weight of a knot of which no joint is wide: the product over its loop joints of the numbers
+/// of values supported there, at most 10^18. `NoMemory` is out of memory.
 pub fn weight<P: Primitive>(
     alloc: Global,
     circuit: &Circuit<P>,
@@ -40,16 +140,22 @@ pub fn weight<P: Primitive>(
     requires narrow { (j : ℕ) → IsJointIn (net_of P.behaviour circuit.now) (in_knot knots.now.numbers knot) j → is_wide supply.now j ≡ false }
     ensures { IfOk result (IsWeight (net_of P.behaviour circuit.now) (in_knot knots.now.numbers knot)) }
 {
-    let _ = alloc;
-    let _ = circuit;
-    let _ = knots;
-    let _ = supply;
-    let _ = knot;
-    Err(NoMemory)
+    circuit.known();
+    let ends = ends_of(alloc, circuit)?;
+    let boards = boards_of(alloc, circuit, &ends)?;
+    let items = supply.lists();
+    let sides = knots.sides(knot);
+    let loops = knots.loop_joints(knot);
+    let mut state = begin(alloc, circuit, &boards, &ends, items, sides)?;
+    let left = narrow_all(
+        alloc, circuit, &boards, &ends, items, sides, &mut state, loops,
+    )?;
+    Ok(weight_of(&left))
 }
 
-/// What `first` answers, over tables that were made before: boards and ends of the circuit, and a search that was begun, at any sides.
-/// Of the supply only the joints of the knot are looked at. It costs what the knot has.
+/// What `first` answers, over tables that were made before: boards and ends of the circuit, and a
+/// search that was begun, at any sides. Of the supply only the joints of the knot are looked at. It
+/// costs what the knot has.
 ///
 /// # Errors
 ///
@@ -82,27 +188,47 @@ pub fn first_with<P: Primitive, L: Ledger>(
     ensures waits { OnOk result (length state.new.queue.waits ≡ length (all_sides (net_of P.behaviour circuit.now).primitives)) }
     ensures ticks { (w : ℕ) → IsWeight (net_of P.behaviour circuit.now) (in_knot knots.now.numbers knot) w → steps.new ≤ steps.old + w }
 {
-    let _ = alloc;
-    let _ = circuit;
-    let _ = knots;
-    let _ = boards;
-    let _ = ends;
-    let _ = supply;
-    let _ = &state.queue;
-    let _ = knot;
-    let _ = turn;
-    let _ = budget;
-    let _ = steps;
-    Err(SearchFault::NoMemory)
+    circuit.known();
+    let _order = circuit.order();
+    let sides = knots.sides(knot);
+    if has_wide(circuit, boards, supply, sides) {
+        return Err(SearchFault::Wide { knot });
+    }
+    let items = supply.lists();
+    let loops = knots.loop_joints(knot);
+    restart(alloc, circuit, boards, ends, items, sides, state)?;
+    let left = narrow_all(alloc, circuit, boards, ends, items, sides, state, loops)?;
+    let weight = weight_of(&left);
+    if weight > budget {
+        return Err(SearchFault::Spent { knot, weight });
+    }
+    let places = places_of(alloc, circuit, sides)?;
+    let chosen = first_numbers(
+        alloc,
+        circuit,
+        boards,
+        ends,
+        items,
+        sides,
+        state,
+        places.as_slice(),
+        turn,
+        loops,
+        &left,
+        steps,
+    )?;
+    Ok(part_of(alloc, circuit, sides, chosen.as_slice())?)
 }
 
-/// The rows that the first colouring of the circuit, in the round of a number, has on the sides of a knot. The part is jammed exactly
-/// where the knot has no colouring without a jam. It makes at most as many ticks as the weight of the knot says.
+/// The rows that the first colouring of the circuit, in the round of a number, has on the sides of
+/// a knot. The part is jammed exactly where the knot has no colouring without a jam. It makes at
+/// most as many ticks as the weight of the knot says.
 ///
 /// # Errors
 ///
-/// The first of these that holds: `Wide`, exactly where more than 256 items can stand at a joint of the knot; `Spent`, exactly where the
-/// weight of the knot is above the budget. `NoMemory` is out of memory.
+/// The first of these that holds: `Wide`, exactly where more than 256 items can stand at a joint of
+/// the knot; `Spent`, exactly where the weight of the knot is above the budget. `NoMemory` is out
+/// of memory.
 pub fn first<P: Primitive, L: Ledger>(
     alloc: Global,
     circuit: &Circuit<P>,
@@ -122,13 +248,18 @@ pub fn first<P: Primitive, L: Ledger>(
     ensures jammed { IfOk result (λ part. IsTrue part.jammed ↔ HasNoThreeColouring (net_of P.behaviour circuit.now) (in_knot knots.now.numbers knot)) }
     ensures ticks { (w : ℕ) → IsWeight (net_of P.behaviour circuit.now) (in_knot knots.now.numbers knot) w → steps.new ≤ steps.old + w }
 {
-    let _ = alloc;
-    let _ = circuit;
-    let _ = knots;
-    let _ = supply;
-    let _ = knot;
-    let _ = turn;
-    let _ = budget;
-    let _ = steps;
-    Err(SearchFault::NoMemory)
+    circuit.known();
+    let ends = ends_of(alloc, circuit)?;
+    let boards = boards_of(alloc, circuit, &ends)?;
+    let mut state = begin(
+        alloc,
+        circuit,
+        &boards,
+        &ends,
+        supply.lists(),
+        knots.sides(knot),
+    )?;
+    first_with(
+        alloc, circuit, knots, &boards, &ends, supply, &mut state, knot, turn, budget, steps,
+    )
 }

@@ -10,7 +10,7 @@ use Rattle.reo_top_inputs.specs.declared.command.Command.TheVariants.{Run, Check
 use Rattle.reo_top_inputs.specs.declared.role.Role.{Role}
 use Rattle.reo_top_inputs.specs.declared.role.Role.TheVariants.{Circuit, Script, Trace}
 use Rattle.reo_top_inputs.specs.declared.setting.Setting.{Setting}
-use Rattle.reo_top_inputs.specs.declared.setting.Setting.TheVariants.{Rounds}
+use Rattle.reo_top_inputs.specs.declared.setting.Setting.TheVariants.{Budget, Rounds}
 use Rattle.reo_top_inputs.specs.Amounts.{are_amounts}
 use Rattle.reo_top_inputs.specs.Settings.{numbers_of}
 
@@ -44,7 +44,7 @@ amounts_of Bench = Size ∷ []
 
 -- The options of a command, in order.
 abbrev pub settings_of : Command → List Setting
-settings_of Run = Rounds ∷ []
+settings_of Run = Budget ∷ Rounds ∷ []
 settings_of Check = []
 settings_of Print = []
 settings_of Verify = []

@@ -5,24 +5,23 @@ use Rattle.reo_runner.specs.declared.outcome.Limits.{Limits}
 use Rattle.reo_runs.specs.Round.{Choosing}
 use Rattle.reo_runs.specs.Run.{firsts}
 use Rattle.reo_top_inputs.specs.declared.command.Command.TheVariants.{Run}
-use Rattle.reo_top_inputs.specs.declared.setting.Setting.TheVariants.{Rounds}
+use Rattle.reo_top_inputs.specs.declared.setting.Setting.TheVariants.{Budget, Rounds}
 use Rattle.reo_top_inputs.specs.Commands.{numbers_in}
+use Rattle.reo_top_inputs.specs.declared.setting.Setting.{Setting}
 use Rattle.reo_top_inputs.specs.Settings.{absent}
-
--- The greatest weight of a part.
-abbrev pub budget : ℕ
-budget = 100000
 
 -- How far a run may go where no option says it.
 abbrev pub usual_limits : Limits
-usual_limits = record { budget = budget; rounds = absent Rounds }
+usual_limits = record { budget = absent Budget; rounds = absent Rounds }
 
--- How far the run of these words may go: as many rounds as their option says.
+-- The number of an option of a run, by its place among the options; that for where it is absent, where the words are not those of a run.
+abbrev pub number_or_absent : List (List ℕ) → ℕ → Setting → ℕ
+number_or_absent words place setting =
+    unwrap_or (option_and_then (λ (numbers : List ℕ). slice_get numbers place) (numbers_in Run words)) (absent setting)
+
+-- How far the run of these words may go: as their options say.
 abbrev pub limits_of : List (List ℕ) → Limits
-limits_of words = record {
-  budget = budget;
-  rounds = unwrap_or (option_and_then (λ (numbers : List ℕ). slice_get numbers 0) (numbers_in Run words)) (absent Rounds);
-}
+limits_of words = record { budget = number_or_absent words 0 Budget; rounds = number_or_absent words 1 Rounds }
 
 -- The choice of such a run: in each round the first colouring.
 abbrev pub firsts_for : Limits → Choosing

@@ -2,23 +2,27 @@
 use Rattle.std.specs.Prelude.{ℕ, cond, Bool, false, List, [], ◌∷◌, Option, Some, None, drop, codes, option_and_then, option_map, slice_index_or}
 use Rattle.std.specs.Str.{bytes_eq}
 use Rattle.reo_top_inputs.specs.declared.setting.Setting.{Setting}
-use Rattle.reo_top_inputs.specs.declared.setting.Setting.TheVariants.{Rounds}
+use Rattle.reo_top_inputs.specs.declared.setting.Setting.TheVariants.{Budget, Rounds}
 use Rattle.reo_top_inputs.specs.Numbers.{number_in}
 
 -- The word of an option.
 abbrev pub setting_word : Setting → List ℕ
+setting_word Budget = codes "--budget"
 setting_word Rounds = codes "--rounds"
 
 -- The least number that may stand behind it.
 abbrev pub least : Setting → ℕ
+least Budget = 1
 least Rounds = 1
 
 -- The greatest.
 abbrev pub most : Setting → ℕ
+most Budget = 1000000000
 most Rounds = 1000000000
 
 -- The number that stands for it where it is absent.
 abbrev pub absent : Setting → ℕ
+absent Budget = 100000
 absent Rounds = 100000
 
 -- The number that a word says, in the range of the option.

@@ -71,7 +71,7 @@ impl Command {
         ensures { result.now ≡ settings_of self }
     {
         match self {
-            Command::Run => &[Setting::Rounds],
+            Command::Run => &[Setting::Budget, Setting::Rounds],
             Command::Check | Command::Print | Command::Verify | Command::Bench => &[],
         }
     }

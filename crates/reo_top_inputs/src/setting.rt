@@ -9,6 +9,8 @@ use reo_values::Bytes;
 /// An option of a command.
 #[derive(Clone, Copy, Debug, PartialEq, Eq)]
 pub enum Setting {
+    /// `--budget N`: the greatest weight of a part that a round may be planned for.
+    Budget,
     /// `--rounds N`: how many rounds may be made.
     Rounds,
 }
@@ -19,6 +21,7 @@ impl Setting {
         ensures { result.now ≡ setting_word self }
     {
         match self {
+            Setting::Budget => b"--budget",
             Setting::Rounds => b"--rounds",
         }
     }
@@ -28,7 +31,7 @@ impl Setting {
         ensures { result ≡ least self }
     {
         match self {
-            Setting::Rounds => 1,
+            Setting::Budget | Setting::Rounds => 1,
         }
     }
 
@@ -37,7 +40,7 @@ impl Setting {
         ensures { result ≡ most self }
     {
         match self {
-            Setting::Rounds => 1_000_000_000,
+            Setting::Budget | Setting::Rounds => 1_000_000_000,
         }
     }
 
@@ -46,7 +49,7 @@ impl Setting {
         ensures { result ≡ absent self }
     {
         match self {
-            Setting::Rounds => 100_000,
+            Setting::Budget | Setting::Rounds => 100_000,
         }
     }
 }

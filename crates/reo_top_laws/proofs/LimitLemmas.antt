@@ -2,7 +2,7 @@
 use Rattle.std.proofs.Common.{◌≡◌, ℕ, ◌^◌, ◌≤◌, Bool, true, false, cond, List, [], ◌∷◌, drop, refl, arith}
 use Rattle.std.specs.Prelude.{Option, Some, None, option_and_then, option_map, slice_get, slice_index_or}
 use Rattle.std.specs.Option.{unwrap_or}
-use Rattle.reo_top_inputs.specs.declared.setting.Setting.TheVariants.{Rounds}
+use Rattle.reo_top_inputs.specs.declared.setting.Setting.TheVariants.{Budget, Rounds}
 use Rattle.reo_top_inputs.specs.Commands.{others_of}
 use Rattle.reo_top_inputs.specs.Limits.{limits_of}
 use Rattle.reo_top_inputs.specs.Settings.{number_of, behind, numbers_of, number_behind, stands}
@@ -27,14 +27,33 @@ few_first None rest h = omega arith
 few_first (Some n) None h = omega arith
 few_first (Some n) (Some ns) h = h
 
-few_said : (words : List (List ℕ)) → IsFew (number_of Rounds words)
-few_said words =
+few_second : (o : Option ℕ) (rest : Option (List ℕ)) → unwrap_or (option_and_then (λ (numbers : List ℕ). slice_get numbers 0) rest) 100000 ≤ 10 ^ 9
+    → unwrap_or (option_and_then (λ (numbers : List ℕ). slice_get numbers 1) (option_and_then (λ (n : ℕ). option_map (λ (ns : List ℕ). n ∷ ns) rest) o)) 100000 ≤ 10 ^ 9
+few_second None rest h = omega arith
+few_second (Some n) None h = omega arith
+few_second (Some n) (Some ns) h = h
+
+few_budget_said : (words : List (List ℕ)) → IsFew (number_of Budget words)
+few_budget_said words =
+    few_or (stands Budget words) (number_behind Budget (slice_index_or words 1 []))
+    (few_told (number_behind Budget (slice_index_or words 1 [])) (λ n e. (digits_said (slice_index_or words 1 []) n e).2))
+
+few_rounds_said : (words : List (List ℕ)) → IsFew (number_of Rounds words)
+few_rounds_said words =
     few_or (stands Rounds words) (number_behind Rounds (slice_index_or words 1 []))
     (few_told (number_behind Rounds (slice_index_or words 1 [])) (λ n e. (digits_said (slice_index_or words 1 []) n e).2))
 
-few_options : (words : List (List ℕ))
-    → unwrap_or (option_and_then (λ (numbers : List ℕ). slice_get numbers 0) (numbers_of (Rounds ∷ []) words)) 100000 ≤ 10 ^ 9
-few_options words = few_first (number_of Rounds words) (numbers_of [] (behind Rounds words)) (few_said words)
+rest_few : (words : List (List ℕ)) → unwrap_or (option_and_then (λ (numbers : List ℕ). slice_get numbers 0) (numbers_of (Rounds ∷ []) words)) 100000 ≤ 10 ^ 9
+rest_few words = few_first (number_of Rounds words) (numbers_of [] (behind Rounds words)) (few_rounds_said words)
 
+-- The budget is at most 10^9.
+pub few_budget : (words : List (List ℕ)) → (limits_of words).budget ≤ 10 ^ 9
+few_budget words =
+    let options : List (List ℕ) = drop 2 (others_of words) in
+    few_first (number_of Budget options) (numbers_of (Rounds ∷ []) (behind Budget options)) (few_budget_said options)
+
+-- The number of rounds is at most 10^9.
 pub few_rounds : (words : List (List ℕ)) → (limits_of words).rounds ≤ 10 ^ 9
-few_rounds words = few_options (drop 2 (others_of words))
+few_rounds words =
+    let options : List (List ℕ) = drop 2 (others_of words) in
+    few_second (number_of Budget options) (numbers_of (Rounds ∷ []) (behind Budget options)) (rest_few (behind Budget options))

@@ -1,5 +1,5 @@
--- The words of the option of a run.
-use Rattle.std.proofs.Common.{◌≡◌, ◌∙◌, ℕ, ◌^◌, ◌≤◌, ◌<◌, Bool, true, false, cond, not, List, [], ◌∷◌, length, refl, sym, ap, subst, arith, nat_le, ◌==◌, ◌&&◌}
+-- The words of the options of a run.
+use Rattle.std.proofs.Common.{◌≡◌, ◌∙◌, ℕ, ◌^◌, ◌≤◌, ◌<◌, Bool, true, false, cond, not, List, [], ◌∷◌, length, refl, sym, ap, subst, arith, nat_le, ◌==◌, ◌&&◌, ◌++◌, get_or, drop}
 use Rattle.std.specs.Prelude.{Option, Some, None, codes, option_and_then, option_map}
 use Rattle.std.specs.List.{list_all}
 use Rattle.std.specs.Str.{bytes_eq}
@@ -8,10 +8,10 @@ use Rattle.std.proofs.lemmas.Slice.Eq.{bytes_eq-Decides}
 use Rattle.reo_values.specs.Names.{is_digit}
 use Rattle.reo_grammar.specs.Tokens.{number_from}
 use Rattle.reo_grammar.proofs.Sound.{and-left, and-right, and-both}
-use Rattle.reo_top_inputs.specs.declared.setting.Setting.TheVariants.{Rounds}
+use Rattle.reo_top_inputs.specs.declared.setting.Setting.TheVariants.{Budget, Rounds}
 use Rattle.reo_top_inputs.specs.Settings.{numbers_of, number_behind}
 use Rattle.reo_top_inputs.specs.Numbers.{is_number}
-use Rattle.reo_top_laws.specs.Words.{IsInDigits, SaysRounds}
+use Rattle.reo_top_laws.specs.Words.{IsInDigits, Says, SayLimits}
 use Rattle.reo_top_laws.proofs.DigitLemmas.{value_is, are_digits, some_digit, behind_zeros}
 
 -- A number is told where it passes its test.
@@ -97,7 +97,7 @@ many true None w v u ws n e = cc
 many true (Some m) w v u ws n e = cc
 many false o w v u ws n e = cc
 
-pub rounds_told : (words : List (List ℕ)) (n : ℕ) → numbers_of (Rounds ∷ []) words ≡ Some (n ∷ []) → SaysRounds words n
+rounds_told : (words : List (List ℕ)) (n : ℕ) → numbers_of (Rounds ∷ []) words ≡ Some (n ∷ []) → Says (codes "--rounds") words n
 rounds_told [] n e = cc
 rounds_told (w ∷ []) n e = lone (bytes_eq w (codes "--rounds")) w n e
 rounds_told (w ∷ v ∷ []) n e =
@@ -106,9 +106,80 @@ rounds_told (w ∷ v ∷ []) n e =
     ((bytes_eq-Decides w (codes "--rounds")).0 parts.0, number.0, number.1, number.2)
 rounds_told (w ∷ v ∷ u ∷ ws) n e = many (bytes_eq w (codes "--rounds")) (number_behind Rounds v) w v u ws n e
 
-pub told_rounds : (words : List (List ℕ)) (n : ℕ) → SaysRounds words n → numbers_of (Rounds ∷ []) words ≡ Some (n ∷ [])
+told_rounds : (words : List (List ℕ)) (n : ℕ) → Says (codes "--rounds") words n → numbers_of (Rounds ∷ []) words ≡ Some (n ∷ [])
 told_rounds [] n e = cc
 told_rounds (w ∷ []) n e = absurd e
 told_rounds (w ∷ v ∷ []) n e =
     two_back (bytes_eq w (codes "--rounds")) (number_behind Rounds v) w v n ((bytes_eq-Decides w (codes "--rounds")).1 e.0) (number_said v n e.1 e.2 e.3)
 told_rounds (w ∷ v ∷ u ∷ ws) n e = absurd e
+
+-- The number of the first option and those of the others.
+taken_both : (o : Option ℕ) (rest : Option (List ℕ)) (b n : ℕ) → option_and_then (λ (m : ℕ). option_map (λ (ns : List ℕ). m ∷ ns) rest) o ≡ Some (b ∷ n ∷ []) → (o ≡ Some b) × (rest ≡ Some (n ∷ []))
+taken_both None rest b n e = absurd (cc)
+taken_both (Some m) None b n e = absurd (cc)
+taken_both (Some m) (Some ns) b n e = (cc, cc)
+
+given_both : (o : Option ℕ) (rest : Option (List ℕ)) (b n : ℕ) → o ≡ Some b → rest ≡ Some (n ∷ []) → option_and_then (λ (m : ℕ). option_map (λ (ns : List ℕ). m ∷ ns) rest) o ≡ Some (b ∷ n ∷ [])
+given_both None rest b n e f = absurd (cc)
+given_both (Some m) None b n e f = absurd (cc)
+given_both (Some m) (Some ns) b n e f = cc
+
+-- Both numbers, where the word of the first option stands or not.
+abbrev both_numbers : Bool → List ℕ → List (List ℕ) → Option (List ℕ)
+both_numbers t w ws =
+    option_and_then (λ (m : ℕ). option_map (λ (ns : List ℕ). m ∷ ns) (numbers_of (Rounds ∷ []) (cond t (drop 1 ws) (w ∷ ws))))
+    (cond t (number_behind Budget (get_or ws 0 [])) (Some 100000))
+
+absent_first : (words : List (List ℕ)) (b n : ℕ) → Some 100000 ≡ Some b → numbers_of (Rounds ∷ []) words ≡ Some (n ∷ []) → SayLimits words b n
+absent_first words b n e f = record { first = []; second = words; words_are = refl; budget_said = cc; rounds_said = rounds_told words n f }
+
+limits_for : (t : Bool) (w : List ℕ) (ws : List (List ℕ)) (b n : ℕ) → bytes_eq w (codes "--budget") ≡ t → both_numbers t w ws ≡ Some (b ∷ n ∷ []) → SayLimits (w ∷ ws) b n
+limits_for false w ws b n is e =
+    let parts = taken_both (Some 100000) (numbers_of (Rounds ∷ []) (w ∷ ws)) b n e in
+    absent_first (w ∷ ws) b n parts.0 parts.1
+limits_for true w [] b n is e =
+    let parts = taken_both (number_behind Budget []) (numbers_of (Rounds ∷ []) []) b n e in
+    absurd (no_digits b parts.0)
+  where
+    no_digits : (b : ℕ) → number_behind Budget [] ≡ Some b → ⊥
+    no_digits b e = cc
+limits_for true w (v ∷ us) b n is e =
+    let parts = taken_both (number_behind Budget v) (numbers_of (Rounds ∷ []) us) b n e in
+    let number = digits_said v b parts.0 in
+    record {
+      first = w ∷ v ∷ [];
+      second = us;
+      words_are = refl;
+      budget_said = ((bytes_eq-Decides w (codes "--budget")).0 is, number.0, number.1, number.2);
+      rounds_said = rounds_told us n parts.1;
+    }
+
+pub limits_told : (words : List (List ℕ)) (b n : ℕ) → numbers_of (Budget ∷ Rounds ∷ []) words ≡ Some (b ∷ n ∷ []) → SayLimits words b n
+limits_told [] b n e =
+    let parts = taken_both (Some 100000) (numbers_of (Rounds ∷ []) []) b n e in
+    absent_first [] b n parts.0 parts.1
+limits_told (w ∷ ws) b n e = limits_for (bytes_eq w (codes "--budget")) w ws b n refl e
+
+-- The word of the second option is not that of the first.
+other_word : (w : List ℕ) → w ≡ codes "--rounds" → bytes_eq w (codes "--budget") ≡ false
+other_word w is = ap (λ (x : List ℕ). bytes_eq x (codes "--budget")) is
+
+absent_back : (words : List (List ℕ)) (b n : ℕ) → b ≡ 100000 → Says (codes "--rounds") words n → numbers_of (Budget ∷ Rounds ∷ []) words ≡ Some (b ∷ n ∷ [])
+absent_back [] b n is said = given_both (Some 100000) (numbers_of (Rounds ∷ []) []) b n (cc) (told_rounds [] n said)
+absent_back (w ∷ []) b n is said = absurd said
+absent_back (w ∷ v ∷ []) b n is said =
+    subst (λ (t : Bool). both_numbers t w (v ∷ []) ≡ Some (b ∷ n ∷ [])) (sym (other_word w said.0))
+    (given_both (Some 100000) (numbers_of (Rounds ∷ []) (w ∷ v ∷ [])) b n (cc) (told_rounds (w ∷ v ∷ []) n said))
+absent_back (w ∷ v ∷ u ∷ us) b n is said = absurd said
+
+told_for : (first second : List (List ℕ)) (b n : ℕ) → Says (codes "--budget") first b → Says (codes "--rounds") second n → numbers_of (Budget ∷ Rounds ∷ []) (first ++ second) ≡ Some (b ∷ n ∷ [])
+told_for [] second b n is said = absent_back second b n is said
+told_for (w ∷ []) second b n is said = absurd is
+told_for (w ∷ v ∷ []) second b n is said =
+    subst (λ (t : Bool). both_numbers t w (v ∷ second) ≡ Some (b ∷ n ∷ [])) (sym ((bytes_eq-Decides w (codes "--budget")).1 is.0))
+    (given_both (number_behind Budget v) (numbers_of (Rounds ∷ []) second) b n (number_said v b is.1 is.2 is.3) (told_rounds second n said))
+told_for (w ∷ v ∷ u ∷ us) second b n is said = absurd is
+
+pub told_limits : (words : List (List ℕ)) (b n : ℕ) → SayLimits words b n → numbers_of (Budget ∷ Rounds ∷ []) words ≡ Some (b ∷ n ∷ [])
+told_limits words b n said =
+    subst (λ (ws : List (List ℕ)). numbers_of (Budget ∷ Rounds ∷ []) ws ≡ Some (b ∷ n ∷ [])) (sym said.words_are) (told_for said.first said.second b n said.budget_said said.rounds_said)

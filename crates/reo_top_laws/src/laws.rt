@@ -1,5 +1,5 @@
 //! What words say, and what becomes of a trace that was written.
-ghost use Rattle.reo_top_laws.specs.Words.{RoundsAreSaid};
+ghost use Rattle.reo_top_laws.specs.Words.{LimitsAreSaid};
 ghost use Rattle.reo_top_laws.specs.Certificates.{WrittenTracesAreVerified};
 
 use reo_flatten_laws::names_are_plain;
@@ -8,10 +8,11 @@ use reo_run_texts::runs_are_trace_texts;
 use reo_trees_laws::programs_are_spelled;
 use reo_verdict_laws::runs_are_verified;
 
-/// The words behind the names of a run say so many rounds exactly where there are none and it is
-/// 100,000, or they are `--rounds` and that number, from 1 to 10^9, in at most ten digits.
-pub fn rounds_are_said()
-    ensures { RoundsAreSaid }
+/// The words behind the names of a run say a budget and a number of rounds exactly where they are,
+/// in this order, `--budget` and that budget, or nothing and it is 100,000, and `--rounds` and that
+/// number, or nothing and it is 100,000; both are from 1 to 10^9, in at most ten digits.
+pub fn limits_are_said()
+    ensures { LimitsAreSaid }
 {}
 
 /// The trace that a run wrote whole is a trace for the ports of its circuit, and the verdict on it

@@ -1,5 +1,14 @@
 pub mod CauseLemmas
+pub mod Decisions
+pub mod EqualItems
+pub mod ExistLemmas
+pub mod GreatestLemmas
 pub mod ListLemmas
+pub mod Listings
 pub mod MoveLemmas
+pub mod NameLemmas
 pub mod NumberLemmas
+pub mod PartLists
+pub mod StandLists
+pub mod UseLemmas
 pub mod WeightLemmas

@@ -1,5 +1,5 @@
 -- Values by two namings of the items that can stand at the joints of a set of sides.
-use Rattle.std.proofs.Common.{◌≡◌, ◌⊎◌, inl, inr, ℕ, ◌<◌, List, Bool, true, false, length, get_or, Option, Some, None, refl, ap, sym, ◌∙◌, subst, arith}
+use Rattle.std.proofs.Common.{◌≡◌, ◌⊎◌, inl, inr, ℕ, ◌<◌, List, Bool, true, false, length, Option, Some, None, refl, ap, sym, ◌∙◌, arith}
 use Rattle.std.specs.Prelude.{◌&&◌}
 use Rattle.std.specs.Option.{is_some, option_and_then}
 use Rattle.std.proofs.lemmas.Bool.{cases_Bool, cases_lt, and_from}
@@ -17,9 +17,9 @@ use Rattle.reo_reach.specs.Standing.{giver_of}
 use Rattle.reo_reach.specs.Width.{IsJointIn}
 use Rattle.reo_support.specs.declared.value.JointValue.{JointValue}
 use Rattle.reo_support.specs.declared.value.JointValue.TheVariants.{Flow, RG, GR, GG, Jam}
-use Rattle.reo_support.specs.Values.{giver_mark, taker_mark, Names, Choice, Family, item_named, items_of, no_joint, joint_of, giver_side, taker_side, AtSide}
-use Rattle.reo_support.specs.Fitting.{given_for, given_in, Fits, IsFrom}
-use Rattle.reo_support.specs.Supported.{IsUsed, IsSupported, IsWithin, IsInGreatest}
+use Rattle.reo_support.specs.Values.{giver_mark, taker_mark, Names, Choice, Family, item_named, items_of, no_joint, joint_of, giver_side, AtSide}
+use Rattle.reo_support.specs.Fitting.{given_for, given_in, Fits}
+use Rattle.reo_support.specs.Supported.{IsUsed, IsWithin, IsInGreatest}
 use Rattle.reo_support.proofs.Fitting.{items_count, fits_local}
 use Rattle.reo_support.proofs.Narrowing.{at_cases}
 use Rattle.reo_weights.specs.Weights.{AreNamed, all_values}
@@ -58,6 +58,7 @@ abbrev pub value_there : {A B : Type 0} → A ⊎ B → JointValue → JointValu
 value_there (inl here) v = v
 value_there (inr elsewhere) v = RG
 
+-- Where it holds that is the value itself.
 pub there_same : {A : Type 0} → (x : A ⊎ (A → ⊥)) → A → (v : JointValue) → v ≡ value_there x v
 there_same (inl here) h v = refl
 there_same (inr elsewhere) h v = absurd (elsewhere h)
@@ -136,6 +137,7 @@ module _ (net : Net) (inside : ℕ → Bool) where
     move_is j GG is at = record { item = refl; giver = λ h. refl; taker = λ h. refl; whole = refl }
     move_is j Jam is at = record { item = refl; giver = λ h. refl; taker = λ h. refl; whole = refl }
 
+    -- It says the same.
     pub move_says : (j : ℕ) (v : JointValue) → IsJointIn net inside j → IsMoved a b j v (move j v)
     move_says j v is = move_is j v is (joint_cases j)
 

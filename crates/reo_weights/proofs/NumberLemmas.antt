@@ -1,6 +1,6 @@
 -- Numberings: how many numbers there are, and that there is one numbering.
-use Rattle.std.proofs.Common.{◌≡◌, inl, inr, ℕ, zero, suc, ◌+◌, ◌<◌, ◌≤◌, List, length, get_or, sym, ◌∙◌, arith}
-use Rattle.std.proofs.lemmas.Bool.{cases_eq, cases_lt}
+use Rattle.std.proofs.Common.{◌≡◌, inl, inr, ℕ, zero, suc, ◌<◌, ◌≤◌, List, get_or, sym, ◌∙◌, arith}
+use Rattle.std.proofs.lemmas.Bool.{cases_lt}
 use Rattle.std.proofs.lemmas.Grind.{same_number_lists}
 use Rattle.reo_net_base.specs.Sides.{side_count}
 use Rattle.reo_net_laws.specs.Parts.{SameKnot}
@@ -52,6 +52,7 @@ module _ (are_same : ℕ → ℕ → Type 0) (n : ℕ) where
         let it = a_are.each k lt in
         omega (arith, b_are.in_range it.0 it.1, agree (suc it.0) it.0 (omega arith) it.1, it.2)
 
+    -- Two numberings give each side one number.
     pub same_numbers : a ≡ b
     same_numbers = same_number_lists a b (omega (arith, a_are.one_each, b_are.one_each)) (λ k lt. agree (suc k) k (omega arith) (omega (arith, a_are.one_each)))
 

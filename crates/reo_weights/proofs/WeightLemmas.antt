@@ -10,10 +10,9 @@ use Rattle.reo_net_laws.specs.Parts.{IsClosed}
 use Rattle.reo_reach.specs.Width.{IsJointIn}
 use Rattle.reo_support.specs.declared.value.JointValue.{JointValue}
 use Rattle.reo_support.specs.Values.{Names, giver_side}
-use Rattle.reo_support.specs.Supported.{IsInGreatest}
 use Rattle.reo_weights.specs.Weights.{AreNamed, all_values, AreSupported, IsWeight, product_of, capped}
 use Rattle.reo_weights.specs.Laws.{WeightIsSmall, WeightIsOne}
-use Rattle.reo_weights.proofs.ListLemmas.{AreOnce, fewer, same_increasing}
+use Rattle.reo_weights.proofs.ListLemmas.{fewer, same_increasing}
 use Rattle.reo_weights.proofs.MoveLemmas.{move, move_back, greatest_moves}
 
 -- No weight is above the greatest.

@@ -1,7 +1,6 @@
 -- What is known of weights, and of rounds that cannot be planned.
-use Rattle.std.specs.Prelude.{ℕ, ◌<◌, ◌≤◌, ◌≡◌, ◌⊎◌, Bool, true, List}
-use Rattle.reo_net_order.specs.Arrows.{NoCycle}
-use Rattle.reo_net_base.specs.Net.{Net, from_sides, to_sides}
+use Rattle.std.specs.Prelude.{ℕ, ◌<◌, ◌≤◌, ◌≡◌, ◌⊎◌, Bool, List}
+use Rattle.reo_net_base.specs.Net.{Net}
 use Rattle.reo_net_base.specs.Sides.{side_count}
 use Rattle.reo_net_base.specs.Wired.{IsWired, IsOrder}
 use Rattle.reo_net_laws.specs.Parts.{IsClosed, SameKnot}

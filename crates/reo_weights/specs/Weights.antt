@@ -1,5 +1,5 @@
 -- The weights of parts: how many choices of values their loop joints have.
-use Rattle.std.specs.Prelude.{ℕ, ◌*◌, ◌<◌, ◌≡◌, ◌≢◌, ◌↔◌, Bool, true, Option, Some, is_some, List, [], ◌∷◌, Contains, length, map, min, slice_index, slice_index_or}
+use Rattle.std.specs.Prelude.{ℕ, ◌*◌, ◌<◌, ◌≡◌, ◌≢◌, ◌↔◌, Bool, true, Some, is_some, List, [], ◌∷◌, Contains, length, map, min, slice_index, slice_index_or}
 use Rattle.reo_values.specs.declared.value.Value.{Value}
 use Rattle.reo_net_base.specs.Net.{Net}
 use Rattle.reo_knots.specs.Knots.{IsLoop, AreThose}

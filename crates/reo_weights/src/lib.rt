@@ -7,5 +7,5 @@ mod over;
 mod weights;
 
 pub use numbers::numbers_are_one;
-pub use over::{cause_is_one, causes_are_small, within_is_not_over};
+pub use over::{cause_is_one, causes_are_small, over_is_decided, within_is_not_over};
 pub use weights::{weight_is_one, weight_is_small};

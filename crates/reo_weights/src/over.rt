@@ -1,5 +1,6 @@
 //! Laws of rounds that cannot be planned within a budget.
-ghost use Rattle.reo_weights.specs.Laws.{CauseIsOne, CausesAreSmall, WithinIsNotOver};
+ghost use Rattle.reo_weights.specs.Laws.{CauseIsOne, CausesAreSmall};
+ghost use Rattle.reo_weights.specs.Laws.{OverIsDecided, WithinIsNotOver};
 
 /// There is one cause and no other.
 pub fn cause_is_one()
@@ -9,6 +10,11 @@ pub fn cause_is_one()
 /// No cause is there where each part is within the budget.
 pub fn within_is_not_over()
     ensures { WithinIsNotOver }
+{}
+
+/// Where the joints have an order, either there is a cause or there is none.
+pub fn over_is_decided()
+    ensures { OverIsDecided }
 {}
 
 /// The numbers that a cause names are small.

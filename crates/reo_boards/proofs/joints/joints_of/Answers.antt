@@ -25,8 +25,8 @@ loop-end-preserved g c =
           c.loop-end.end c.loop-end.joints (λ h. w.if-side_of-owner.false (side_is ∙ h)) c.loop-end.invariant)
     ]
 
-pub returns : goal.returns
-returns g c =
+pub returns-clause-joints : goal.returns-clause-joints
+returns-clause-joints g c =
     let net : Net = net_of g.P.Primitive.behaviour c.args.circuit.now in
     let i_in : c.owner-owner.result.primitive < length net.primitives = omega (arith, length-map c.args.circuit.now.primitives g.P.Primitive.behaviour, c.owner-owner.ensures.primitive) in
     let last : c.loop-end.end ≡ (g.P.Primitive.behaviour c.primitive-primitive.result.now).ends = omega (arith, c.ends-end-end.ensures) in

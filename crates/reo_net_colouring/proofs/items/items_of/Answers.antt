@@ -22,7 +22,7 @@ loop-at-preserved g c =
     let item = rw (c.deref.ensures.value, ← c.joint-joint.ensures c.joint-joint.result) at c.in_ok-item.ensures in
     record {
       one_each = rw (c.put_item.ensures, length-set c.loop-at.items.items j c.in_ok-item.item) c.loop-at.invariant.one_each;
-      filled = rw c.put_item.ensures (filled_more net c.known.ensures.wired c.args.rows.now c.requires order c.order-order.ensures c.loop-at.items.items c.loop-at.invariant.one_each c.loop-at.at j c.joint-joint.result c.in_ok-item.item at_in refl item c.loop-at.invariant.filled);
+      filled = rw c.put_item.ensures (filled_more net c.known.ensures.wired c.args.rows.now c.requires.rows order c.order-order.ensures c.loop-at.items.items c.loop-at.invariant.one_each c.loop-at.at j c.joint-joint.result c.in_ok-item.item at_in refl item c.loop-at.invariant.filled);
     }
 
 pub returns-clause-filled : goal.returns-clause-filled
@@ -30,12 +30,12 @@ returns-clause-filled g c =
     let net : Net = net_of g.P.Primitive.behaviour c.args.circuit.now in
     let order : List ℕ = c.order-order.result.now in
     let end : c.loop-at.at ≡ length order = omega arith in
-    rw c.from_vec.ensures (filled_all net c.known.ensures.wired c.args.rows.now c.requires order c.order-order.ensures c.loop-at.items.items c.loop-at.invariant.one_each (rw end at c.loop-at.invariant.filled))
+    rw c.from_vec.ensures (filled_all net c.known.ensures.wired c.args.rows.now c.requires.rows order c.order-order.ensures c.loop-at.items.items c.loop-at.invariant.one_each (rw end at c.loop-at.invariant.filled))
 
 pub returns-clause-one : goal.returns-clause-one
 returns-clause-one g c = λ others filled.
     let net : Net = net_of g.P.Primitive.behaviour c.args.circuit.now in
     let order : List ℕ = c.order-order.result.now in
     let end : c.loop-at.at ≡ length order = omega arith in
-    let mine = filled_all net c.known.ensures.wired c.args.rows.now c.requires order c.order-order.ensures c.loop-at.items.items c.loop-at.invariant.one_each (rw end at c.loop-at.invariant.filled) in
-    filled_one net c.known.ensures.wired c.args.rows.now c.requires order c.order-order.ensures others c.loop-at.items.items filled mine ∙ sym c.from_vec.ensures
+    let mine = filled_all net c.known.ensures.wired c.args.rows.now c.requires.rows order c.order-order.ensures c.loop-at.items.items c.loop-at.invariant.one_each (rw end at c.loop-at.invariant.filled) in
+    filled_one net c.known.ensures.wired c.args.rows.now c.requires.rows order c.order-order.ensures others c.loop-at.items.items filled mine ∙ sym c.from_vec.ensures

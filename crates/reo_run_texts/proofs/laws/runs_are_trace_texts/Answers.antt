@@ -21,6 +21,7 @@ use Rattle.reo_run_texts.proofs.ProgramJoints.{joints_agree}
 use Rattle.reo_run_texts.proofs.ProgramPorts.{own_port_types, at_port}
 use Rattle.reo_run_texts.proofs.ProgramOrder.{kinds_keep_shape, program_order}
 use Rattle.reo_run_texts.proofs.RunLemmas.{IsGood, run_text}
+use Rattle.reo_run_texts.proofs.Counting.{program_count}
 use Rattle.reo_run_texts.proofs.laws.runs_are_trace_texts.Goals as goal
 
 pub returns : goal.returns
@@ -37,9 +38,10 @@ returns c p components budget limit lines ending good few_budget few run =
     let channels = (meaning_named (meanings_of ds) (codes "main")).channels [] (parameter_names (main_parameters ds)) in
     let at_ports : (i : ℕ) (q : Port) → slice_get ports i ≡ Some q → type_at types (end_of i 0) ≡ q.kindred = λ i q is.
     at_port T ports channels (flat_map (own_types T placed) nodes) i q is ∙ own_port_types (types_of ds) (main_parameters ds) ((typing_named (typings_of ds) (codes "main")).nodes []) once i q is in
-    let start : IsGood kind_rules kinds_keep_shape IsRight (kinds_keep c.item_test_is_exact.ensures) types ports at_ports budget limit few_budget few (wiring_of_program ds) = record {
+    let start : IsGood kind_rules kinds_keep_shape IsRight (kinds_keep c.item_test_is_exact.ensures) types ports at_ports budget limit few_budget few c.causes_are_small.ensures (wiring_of_program ds) = record {
       order = program_order c.order_exists.ensures ds (c.circuits_are_made.ensures ds good.plain good.accepted.no_break) good.accepted.no_cycle;
       typed = record { primitives = all_right T placed nodes fits; joints = joints_agree T placed nodes };
       count = refl;
+      few_primitives = program_count ds (unbroken ds good.accepted.no_break).few;
     } in
-    run_text kind_rules kinds_keep_shape IsRight (kinds_keep c.item_test_is_exact.ensures) types ports at_ports budget limit few_budget few (wiring_of_program ds) components lines ending start run
+    run_text kind_rules kinds_keep_shape IsRight (kinds_keep c.item_test_is_exact.ensures) types ports at_ports budget limit few_budget few c.causes_are_small.ensures (wiring_of_program ds) components lines ending start run

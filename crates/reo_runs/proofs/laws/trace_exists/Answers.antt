@@ -7,4 +7,4 @@ pub returns : goal.returns
 returns g c =
     let r = rules_of g.P.Primitive.behaviour g.P.Primitive.settled g.P.Ported.port_state g.P.Ported.placed g.P.Ported.withdrawn in
     let shape : KeepsShape r = record { lawful = g.met.P.Primitive.lawful; settled = g.met.P.Primitive.settled_shape; placed = g.met.P.Ported.placed_shape; withdrawn = g.met.P.Ported.withdrawn_shape } in
-    λ budget limit start order. has_run r budget limit shape c.first_exists.ensures start order
+    λ budget limit start order. has_run r budget limit shape c.first_exists.ensures c.over_is_decided.ensures start order

@@ -50,7 +50,7 @@ returns-in-None-clause-first g c =
     let items_are : c.lists-items.result.now ≡ c.args.supply.now.items = c.lists-items.ensures in
     let numbers : AreInSupply net (in_knot c.args.knots.now.numbers c.args.knot) c.lists-items.result.now (listed c.args.sets.now.values) =
     subst (λ (xs : List (List Value)). AreInSupply net (in_knot c.args.knots.now.numbers c.args.knot) xs (listed c.args.sets.now.values)) (sym items_are) c.requires.numbers in
-    let found = rw (c.in-None.is) at c.in_ok-first_by.ensures in
+    let found = rw (c.in-None.is) at c.in_ok-first_by.ensures.first in
     subst (λ (xs : List (List Value)). HasNoAssignment net (names_of xs) (in_knot c.args.knots.now.numbers c.args.knot) (listed c.args.sets.now.values)) items_are
     (none net c.args.knots.now c.args.knot c.sides-sides.result.now c.requires.knots c.requires.knot c.sides-sides.ensures
     c.known.ensures.wired _ _ c.lists-items.result.now c.in_ok-state.state.alive c.in_ok-state.ensures.search.ready (listed c.args.sets.now.values) c.in_ok-state.ensures.values numbers
@@ -67,7 +67,7 @@ part_of-requires-clause-in_tables g c =
     let numbers : AreInSupply net (in_knot c.args.knots.now.numbers c.args.knot) c.lists-items.result.now (listed c.args.sets.now.values) =
     subst (λ (xs : List (List Value)). AreInSupply net (in_knot c.args.knots.now.numbers c.args.knot) xs (listed c.args.sets.now.values)) (sym items_are) c.requires.numbers in
     let are : c.as_slice.result.now ≡ places_in net c.sides-sides.result.now = c.as_slice.ensures ∙ c.in_ok-places.ensures in
-    let found = rw (c.in-Some.is) at c.in_ok-first_by.ensures in
+    let found = rw (c.in-Some.is) at c.in_ok-first_by.ensures.first in
     let placed = subst (λ (ps : List Place). IsFirstWith net (names_of c.lists-items.result.now) (among c.sides-sides.result.now) c.args.turn (family_of c.in_ok-state.state.alive) ps c.in-Some.chosen) are found in
     let chosen_is : c.as_slice-in-Some.result.now ≡ c.in-Some.chosen = c.as_slice-in-Some.ensures in
     in_tables net c.args.knots.now c.args.knot c.sides-sides.result.now c.requires.knots c.requires.knot c.sides-sides.ensures
@@ -82,7 +82,7 @@ returns-clause-first g c =
     let numbers : AreInSupply net (in_knot c.args.knots.now.numbers c.args.knot) c.lists-items.result.now (listed c.args.sets.now.values) =
     subst (λ (xs : List (List Value)). AreInSupply net (in_knot c.args.knots.now.numbers c.args.knot) xs (listed c.args.sets.now.values)) (sym items_are) c.requires.numbers in
     let are : c.as_slice.result.now ≡ places_in net c.sides-sides.result.now = c.as_slice.ensures ∙ c.in_ok-places.ensures in
-    let found = rw (c.in-Some.is) at c.in_ok-first_by.ensures in
+    let found = rw (c.in-Some.is) at c.in_ok-first_by.ensures.first in
     let placed = subst (λ (ps : List Place). IsFirstWith net (names_of c.lists-items.result.now) (among c.sides-sides.result.now) c.args.turn (family_of c.in_ok-state.state.alive) ps c.in-Some.chosen) are found in
     let chosen_is : c.as_slice-in-Some.result.now ≡ c.in-Some.chosen = c.as_slice-in-Some.ensures in
     subst (λ (xs : List (List Value)). IsFirstPart net (names_of xs) (in_knot c.args.knots.now.numbers c.args.knot) c.args.turn (listed c.args.sets.now.values) c.in_ok-part_of-in-Some.field-0) items_are

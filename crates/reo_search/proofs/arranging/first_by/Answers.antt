@@ -4,8 +4,8 @@ use Rattle.reo_propagate.specs.Queues.{among}
 use Rattle.reo_search.proofs.Settling.{walked_first, one_less}
 use Rattle.reo_search.proofs.arranging.first_by.Goals as goal
 
-pub returns-in-Some : goal.returns-in-Some
-returns-in-Some g c =
+pub returns-in-Some-clause-first : goal.returns-in-Some-clause-first
+returns-in-Some-clause-first g c =
     let net : Net = net_of g.P.Primitive.behaviour c.args.circuit.now in
     let walked = rw (c.in-Some.is) at c.in_ok-walk.ensures.found in
     walked_first net (names_of c.args.items.now) (among c.args.sides.now) c.args.turn (family_of c.args.state.now.alive) (family_of c.walk.new.state.alive) c.args.places.now c.in-Some.chosen c.requires.knot walked

@@ -2,11 +2,11 @@ use Rattle.std.proofs.Common.{◌≡◌}
 use Rattle.reo_net_base.specs.Net.{Net, net_of}
 use Rattle.reo_net_colouring.specs.Filled.{AllFit}
 use Rattle.reo_net_colouring.proofs.ItemLemmas.{filled_from}
-use Rattle.reo_net_colouring.proofs.colours.colour.Goals as goal
+use Rattle.reo_net_colouring.proofs.colours.colour_with.Goals as goal
 
 pub returns-then-all_fit : goal.returns-then-all_fit
 returns-then-all_fit g c = record {
-  rows_fit = c.requires;
+  rows_fit = c.requires.rows;
   one_each = c.in_ok-items.ensures.filled.one_each;
   items_fit = rw c.as_slice.ensures at (c.all_fit.ensures.0 c.if-all_fit.true);
 }
