@@ -16,7 +16,7 @@ use reo_engine_base::PlanFault;
 use reo_knots::Knots;
 use reo_net_base::{Colouring, Primitive};
 use reo_net_circuit::Circuit;
-use reo_net_colouring::fill;
+use reo_net_colouring::fill_with;
 use reo_net_ends::Ends;
 use reo_steps::Steps;
 use reo_values::List;
@@ -108,5 +108,5 @@ pub fn first_by_parts<P: Primitive, L: Ledger>(
 {
     circuit.known();
     let rows = rows_by_parts(alloc, circuit, knots, ends, kept, turn, budget, steps)?;
-    Ok(fill(alloc, circuit, rows)?)
+    Ok(fill_with(alloc, circuit, ends, rows)?)
 }
