@@ -117,10 +117,10 @@ module _ {P : Type 0} (r : Rules P) (shape : KeepsShape r) (right : P → EndTyp
   ending_good : (turn : ℕ) (q : Place P) (ending : Ending) → IsGood q.state.circuit → EndsSmall q.over → EndsAs (firsts budget limit) r turn q ending → IsEnding ending
   ending_good turn q ending good small (inl over) = small ending over
   ending_good turn q ending good small (inr (on, inl full)) = subst IsEnding (sym full.1) (omega (arith, few))
-  ending_good turn q ending good small (inr (on, inr stop)) = 
+  ending_good turn q ending good small (inr (on, inr stop)) =
       let now = ready_good (offer_for q.state.players) q.state.circuit good in
       let primitives : length (map r.behaviour (ready r (offer_for q.state.players) q.state.circuit).primitives) ≤ 2 ^ 31 =
-          let n = length-map (ready r (offer_for q.state.players) q.state.circuit).primitives r.behaviour in omega (arith, n, now.few_primitives) in
+      let n = length-map (ready r (offer_for q.state.players) q.state.circuit).primitives r.behaviour in omega (arith, n, now.few_primitives) in
       subst IsEnding (sym stop.3) (over_small small_causes budget (net_ready r q.state) now.order.wired primitives turn stop.1 few_budget (omega (arith, stop.0, few)) stop.2)
 
   pub run_text : (w : Wiring P) (components : List Component) (lines : List RoundLine) (ending : Ending) → IsGood w → IsRun (firsts budget limit) r (start_of w components) lines ending
