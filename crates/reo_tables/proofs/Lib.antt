@@ -1,0 +1,5 @@
+pub mod Renewed
+pub mod Refreshed
+pub mod Readied
+pub mod Staying
+pub mod Sorted
