@@ -149,14 +149,14 @@ module _ (net : Net) (other : ℕ → Bool) where
   }
 
 -- Two sets without a common side have no common joint.
-pub no_joint : (net : Net) (sides joints : List ℕ) (other : ℕ → Bool) → AreJointsOf net (among sides) joints → AreApart (among sides) other → (j : ℕ) → IsJointIn net other j → Contains joints j → ⊥
-no_joint net sides joints other are apart j is h =
+pub apart_joints : (net : Net) (sides joints : List ℕ) (other : ℕ → Bool) → AreJointsOf net (among sides) joints → AreApart (among sides) other → (j : ℕ) → IsJointIn net other j → Contains joints j → ⊥
+apart_joints net sides joints other are apart j is h =
     let start = (are.exact j).0 h in
     both_ways (other (side_at net (giver_of net j))) (apart (side_at net (giver_of net j)) start.1) is.1
 
 -- Nor is a side of the one in the other.
-pub no_side : (sides : List ℕ) (other : ℕ → Bool) → AreApart (among sides) other → (s : ℕ) → other s ≡ true → among sides s ≡ false
-no_side sides other apart s h = not_among sides s (λ g. both_ways (other s) (apart s g) h)
+pub apart_sides : (sides : List ℕ) (other : ℕ → Bool) → AreApart (among sides) other → (s : ℕ) → other s ≡ true → among sides s ≡ false
+apart_sides sides other apart s h = not_among sides s (λ g. both_ways (other s) (apart s g) h)
 
 -- All is right on the set.
 pub all_right : (net : Net) (sides joints : List ℕ) (mid new : Tables) → AreJointsOf net (among sides) joints → ((j : ℕ) → Contains joints j → IsJointRight net mid j) → OnlySides sides mid new

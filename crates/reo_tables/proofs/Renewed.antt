@@ -1,5 +1,5 @@
 -- Lists of which some places are made anew.
-use Rattle.std.proofs.Common.{◌≡◌, ◌≢◌, inl, inr, ℕ, ◌+◌, ◌<◌, Bool, true, List, [], length, get_or, set, replicate, refl, ap, sym, ◌∙◌, subst, arith, below_more, get_or-set_same, get_or-set_other}
+use Rattle.std.proofs.Common.{◌≡◌, ◌≢◌, inl, inr, ℕ, ◌+◌, ◌<◌, Bool, true, Result, Ok, Err, OnOk, List, [], length, get_or, set, replicate, refl, ap, sym, ◌∙◌, subst, arith, below_more, get_or-set_same, get_or-set_other}
 use Rattle.std.specs.Prelude.{Contains}
 use Rattle.std.proofs.lemmas.Bool.{both_ways}
 use Rattle.std.proofs.lemmas.Bool.Decides.{eqb_tells}
@@ -76,3 +76,8 @@ contains_among xs x it = subst (λ (k : ℕ). among xs k ≡ true) (get_or_defau
 -- And back.
 pub among_contains : (xs : List ℕ) (x : ℕ) → among xs x ≡ true → Contains xs x
 among_contains xs x h = let it = among_stands xs x h in (it.0, it.1, get_or_default xs it.0 x 0 it.1 ∙ it.2)
+
+-- What follows on success.
+pub on_ok : {X E P Q : Type 0} (r : Result X E) → OnOk r P → (P → Q) → OnOk r Q
+on_ok (Ok x) h f = f h
+on_ok (Err e) h f = h
