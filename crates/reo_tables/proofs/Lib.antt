@@ -3,3 +3,4 @@ pub mod Refreshed
 pub mod Readied
 pub mod Staying
 pub mod Sorted
+pub mod PartSets

@@ -42,7 +42,7 @@ not_true true h = absurd (h refl)
 not_true false h = refl
 
 -- A side has the number of no other part.
-not_other : (numbers : List ℕ) (k s : ℕ) → k ≢ get_or numbers s 0 → in_knot numbers k s ≡ false
+pub not_other : (numbers : List ℕ) (k s : ℕ) → k ≢ get_or numbers s 0 → in_knot numbers k s ≡ false
 not_other numbers k s ne = not_true (in_knot numbers k s) (λ h. ne (sym (eq_same (get_or numbers s 0) k (and_right (nat_lt s (length numbers)) (get_or numbers s 0 == k) h))))
 
 -- One joint more came to its part.
@@ -80,11 +80,13 @@ all_picked net knots order n orders is all are = record {
   each = λ k lt. are.each k lt ∙ ap (joints_in net (in_knot knots.numbers k)) (take_all n order (omega (arith, all)));
 }
 
-later : (a b : Bool) → b ≡ true → (a || b) ≡ true
+-- One of two things is so where the second is.
+pub later : (a b : Bool) → b ≡ true → (a || b) ≡ true
 later true b h = refl
 later false b h = h
 
-sooner : (a b : Bool) → a ≡ true → (a || b) ≡ true
+-- Or where the first is.
+pub sooner : (a b : Bool) → a ≡ true → (a || b) ≡ true
 sooner true b h = refl
 sooner false b h = cc
 
@@ -101,7 +103,7 @@ out_for f x xs s true is rest h = elim (either (x == s) (among (filter f xs) s) 
 out_for f x xs s false is rest h = let r = rest h in (r.0, later (x == s) (among xs s) r.1)
 
 -- What passes a test among a list is among it.
-out_of_filter : (f : ℕ → Bool) (xs : List ℕ) (s : ℕ) → among (filter f xs) s ≡ true → (f s ≡ true) × (among xs s ≡ true)
+pub out_of_filter : (f : ℕ → Bool) (xs : List ℕ) (s : ℕ) → among (filter f xs) s ≡ true → (f s ≡ true) × (among xs s ≡ true)
 out_of_filter f [] s h = cc
 out_of_filter f (x ∷ xs) s h = out_for f x xs s (f x) refl (out_of_filter f xs s) h
 
@@ -113,7 +115,7 @@ into_for f x xs s false is good rest (inl here) = let wrong : false ≡ true = s
 into_for f x xs s false is good rest (inr there) = rest there
 
 -- What is among a list and passes the test.
-into_filter : (f : ℕ → Bool) (xs : List ℕ) (s : ℕ) → f s ≡ true → among xs s ≡ true → among (filter f xs) s ≡ true
+pub into_filter : (f : ℕ → Bool) (xs : List ℕ) (s : ℕ) → f s ≡ true → among xs s ≡ true → among (filter f xs) s ≡ true
 into_filter f [] s good h = h
 into_filter f (x ∷ xs) s good h = into_for f x xs s (f x) refl good (into_filter f xs s good) (either (x == s) (among xs s) h)
 

@@ -6,6 +6,7 @@ mod empty;
 mod laws;
 mod notes;
 mod orders;
+mod parts;
 mod refreshing;
 mod tables;
 mod values;
@@ -14,5 +15,6 @@ pub use laws::{
     orders_are_of_parts, orders_stay, right_parts_are_ready, right_tables_stay, room_stays,
 };
 pub use orders::orders_of;
+pub use parts::refresh_part;
 pub use refreshing::refresh;
 pub use tables::Tables;

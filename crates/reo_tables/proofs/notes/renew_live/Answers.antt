@@ -1,5 +1,5 @@
 use Rattle.std.proofs.Common.{◌≡◌, ◌∙◌, ℕ, ◌<◌, Bool, true, List, length, get_or, arith}
-use Rattle.reo_net_base.specs.Net.{Net, net_of, row_count}
+use Rattle.reo_net_base.specs.Net.{Net, net_of, no_side, row_count}
 use Rattle.reo_boards.specs.Marks.{side_in}
 use Rattle.reo_propagate.proofs.Among.{among_at}
 use Rattle.reo_tables.proofs.Renewed.{IsPut, row_put, row_length, stays_more, right_more}
@@ -23,10 +23,10 @@ loop-side-preserved g c =
     let next : List (List Bool) = c.renew.new.self in
     let same = c.loop-side.invariant.stays.one_each in
     let side_lt = c.requires.sides side (among_at sides n c.loop-side-test.true) in
-    let side_in : side < length next = omega (arith, side_lt, c.requires.one_each, same, c.renew.ensures.one_each) in
+    let place : side < length next = omega (arith, side_lt, c.requires.one_each, same, c.renew.ensures.one_each) in
     let put : IsPut side now next = row_put side now next c.renew.ensures.one_each c.renew.ensures.other in
     record {
       stays = stays_more sides n c.args.live.now now next c.loop-side-test.true c.loop-side.invariant.stays put;
       right = right_more sides n (λ s row. length row ≡ row_count (side_in net s)) now next (λ s h. let s_lt = c.requires.sides s h in omega (arith, s_lt, c.requires.one_each, same)) c.loop-side-test.true
-          c.loop-side.invariant.right put (λ d. row_length side c.rows.result true next side_in c.in_ok-renew.ensures.here d ∙ c.rows.ensures.count);
+          c.loop-side.invariant.right put (λ d. row_length side c.rows.result true next place c.in_ok-renew.ensures.here d ∙ c.rows.ensures.count no_side);
     }

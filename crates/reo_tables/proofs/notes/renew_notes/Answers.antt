@@ -1,5 +1,5 @@
 use Rattle.std.proofs.Common.{◌≡◌, ◌∙◌, ℕ, ◌<◌, List, length, get_or, set, ap, arith}
-use Rattle.reo_net_base.specs.Net.{Net, net_of}
+use Rattle.reo_net_base.specs.Net.{Net, net_of, no_side}
 use Rattle.reo_boards.specs.Marks.{groups_in}
 use Rattle.reo_propagate.proofs.Among.{among_at}
 use Rattle.reo_propagate_rows.specs.declared.groups.Group.{Group}
@@ -26,7 +26,7 @@ loop-side-preserved g c =
     let side_lt = c.requires.sides side (among_at sides n c.loop-side-test.true) in
     let side_in : side < length now = omega (arith, side_lt, c.requires.one_each, same) in
     let put : IsPut side now (set now side blank) = set_put side blank now in
-    let count : length blank ≡ groups_in net side = c.in_ok-blank.ensures ∙ c.groups.ensures in
+    let count : length blank ≡ groups_in net side = c.in_ok-blank.ensures ∙ c.groups.ensures no_side in
     record {
       stays = stays_more sides n c.args.notes.now now (set now side blank) c.loop-side-test.true c.loop-side.invariant.stays put;
       right = right_more sides n (λ s list. length list ≡ groups_in net s) now (set now side blank) (λ s h. let s_lt = c.requires.sides s h in omega (arith, s_lt, c.requires.one_each, same)) c.loop-side-test.true
