@@ -6,12 +6,10 @@ use Rattle.reo_net_base.specs.Net.{Net, side_at}
 use Rattle.reo_net_base.specs.Sides.{side_count}
 use Rattle.reo_net_base.specs.Wired.{IsWired}
 use Rattle.reo_net_laws.proofs.Sides.{side_in_range}
-use Rattle.reo_net_ends.specs.Ends.{AreEnds}
-use Rattle.reo_knots.specs.Knots.{Knotted, AreKnots, in_knot, knot_count}
+use Rattle.reo_knots.specs.Knots.{in_knot}
 use Rattle.reo_support.proofs.Labels.{same_eq}
 use Rattle.reo_reach.specs.Standing.{no_joint, giver_of}
-use Rattle.reo_tables.specs.declared.tables.Tables.{Tables}
-use Rattle.reo_tables.specs.Tables.{HasRoom, IsSideRight, IsJointRight, AreRightOn, AreReady}
+use Rattle.reo_tables.specs.Tables.{IsSideRight, IsJointRight}
 use Rattle.reo_tables.specs.Laws.{RightPartsAreReady}
 
 true_below : (a b : ℕ) → a < b → nat_lt a b ≡ true

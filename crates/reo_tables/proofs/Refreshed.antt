@@ -4,7 +4,6 @@ use Rattle.std.specs.Prelude.{Contains}
 use Rattle.std.proofs.lemmas.Bool.{both_ways}
 use Rattle.reo_values.specs.declared.value.Value.{Value}
 use Rattle.reo_net_base.specs.Net.{Net, row_count, side_at}
-use Rattle.reo_net_base.specs.Sides.{side_count}
 use Rattle.reo_net_base.specs.Wired.{IsWired}
 use Rattle.reo_net_laws.specs.Alike.{AreAlike}
 use Rattle.reo_net_laws.specs.Parts.{IsClosed}
@@ -22,7 +21,7 @@ use Rattle.reo_propagate.proofs.Among.{among_stands}
 use Rattle.reo_propagate_rows.specs.declared.groups.Group.{Group}
 use Rattle.reo_tables.specs.declared.tables.Tables.{Tables}
 use Rattle.reo_tables.specs.Tables.{HasRoom, IsSideRight, IsJointRight, AreRightOn, AreApart}
-use Rattle.reo_tables.specs.Renewing.{StaysBesides, AreRightAt, OnlySides, OnlyJoints}
+use Rattle.reo_tables.specs.Renewing.{AreRightAt, OnlySides, OnlyJoints}
 use Rattle.reo_tables.specs.Orders.{AreJointsOf}
 use Rattle.reo_tables.proofs.Renewed.{contains_among, among_contains, right_all}
 

@@ -1,5 +1,5 @@
 -- The joints of parts, in an order of all joints.
-use Rattle.std.proofs.Common.{◌≡◌, ◌≢◌, ◌⊎◌, ◌↔◌, inl, inr, ℕ, zero, suc, ◌+◌, ◌<◌, Bool, true, false, cond, ◌&&◌, ◌||◌, List, [], ◌∷◌, ◌++◌, length, get_or, take, refl, ap, sym, ◌∙◌, subst, arith, append-nil}
+use Rattle.std.proofs.Common.{◌≡◌, ◌≢◌, ◌⊎◌, ◌↔◌, inl, inr, ℕ, zero, suc, ◌+◌, ◌<◌, Bool, true, false, cond, ◌||◌, List, [], ◌∷◌, ◌++◌, length, get_or, take, refl, ap, sym, ◌∙◌, subst, arith, append-nil}
 use Rattle.std.specs.Prelude.{Contains, filter, nat_lt}
 use Rattle.std.specs.Bool.{◌==◌}
 use Rattle.std.proofs.lemmas.Bool.Decides.{eqb_tells}
@@ -15,9 +15,9 @@ use Rattle.reo_net_laws.specs.Parts.{IsClosed}
 use Rattle.reo_net_laws.proofs.Orders.{place_in, place_of}
 use Rattle.reo_net_laws.proofs.Sets.{and_right}
 use Rattle.reo_boards.specs.Listing.{AreEmpty, IsAdded}
-use Rattle.reo_support.proofs.Labels.{same_eq, eq_same}
-use Rattle.reo_knots.specs.Knots.{Knotted, AreKnots, in_knot, knot_count}
-use Rattle.reo_reach.specs.InOrder.{AreInOrder, joints_in}
+use Rattle.reo_support.proofs.Labels.{eq_same}
+use Rattle.reo_knots.specs.Knots.{Knotted, in_knot, knot_count}
+use Rattle.reo_reach.specs.InOrder.{joints_in}
 use Rattle.reo_reach.specs.Standing.{no_joint, giver_of}
 use Rattle.reo_reach.specs.Width.{IsJointIn}
 use Rattle.reo_reach.proofs.PartLemmas.{parts_in_order}
@@ -126,13 +126,13 @@ module _ (net : Net) (wired : IsWired net) (order : List ℕ) (is : IsOrder net 
   exact : (j : ℕ) → Contains (joints_in net inside order) j ↔ IsJointIn net inside j
   exact j = (
     (λ h.
-    let it = out_of_filter (λ (j : ℕ). inside (side_at net (giver_of net j))) order j (contains_among (joints_in net inside order) j h) in
-    let place = among_contains order j it.1 in
-    (subst (λ (k : ℕ). k < length net.joints) (at_place j place) (place_in net order is place.0 place.1), it.0)),
+        let it = out_of_filter (λ (j : ℕ). inside (side_at net (giver_of net j))) order j (contains_among (joints_in net inside order) j h) in
+        let place = among_contains order j it.1 in
+        (subst (λ (k : ℕ). k < length net.joints) (at_place j place) (place_in net order is place.0 place.1), it.0)),
     (λ h.
-    let place = place_of net order is j h.0 in
-    among_contains (joints_in net inside order) j
-    (into_filter (λ (j : ℕ). inside (side_at net (giver_of net j))) order j h.1 (subst (λ (k : ℕ). among order k ≡ true) place.2 (among_at order place.0 place.1)))),
+        let place = place_of net order is j h.0 in
+        among_contains (joints_in net inside order) j
+        (into_filter (λ (j : ℕ). inside (side_at net (giver_of net j))) order j h.1 (subst (λ (k : ℕ). among order k ≡ true) place.2 (among_at order place.0 place.1)))),
   )
     where
       at_place : (j : ℕ) (place : Contains order j) → get_or order place.0 0 ≡ j

@@ -15,7 +15,7 @@ use Rattle.reo_net_laws.specs.Alike.{SameSide, AreAlike}
 use Rattle.reo_net_laws.specs.Ends.{mark_in}
 use Rattle.reo_net_laws.specs.Parts.{IsClosed}
 use Rattle.reo_net_laws.proofs.Sides.{side_is, owner_of, owner_side, side_at_place}
-use Rattle.reo_support.specs.Values.{joint_of, giver_side, taker_side, AtSide}
+use Rattle.reo_support.specs.Values.{joint_of, giver_side, taker_side}
 use Rattle.reo_boards.specs.declared.board.Board.{Board}
 use Rattle.reo_boards.specs.declared.board.Flow.{Flow}
 use Rattle.reo_boards.specs.Boards.{IsBoard, IsFlow}
@@ -25,8 +25,8 @@ use Rattle.reo_reach.specs.Standing.{no_joint}
 use Rattle.reo_reach.specs.Width.{IsJointIn}
 use Rattle.reo_reach.proofs.StayLemmas.{reached_stays}
 use Rattle.reo_tables.specs.declared.tables.Tables.{Tables}
-use Rattle.reo_tables.specs.Tables.{HasRoom, IsSideRight, IsJointRight, AreRightOn}
-use Rattle.reo_tables.specs.Laws.{IsSameOn, RightTablesStay, RoomStays}
+use Rattle.reo_tables.specs.Tables.{IsSideRight, AreRightOn}
+use Rattle.reo_tables.specs.Laws.{RightTablesStay, RoomStays}
 
 same_side : (b d : Behaviour) (side : ℕ) → d ≡ b → SameSide b d side
 same_side b d side e = subst (λ (x : Behaviour). SameSide b x side) (sym e) record {

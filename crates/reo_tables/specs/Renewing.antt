@@ -1,6 +1,6 @@
 -- Some places of tables, made anew.
-use Rattle.std.specs.Prelude.{ℕ, ◌<◌, ◌≡◌, Bool, false, List, length, slice_index, slice_index_or}
-use Rattle.reo_reach.specs.Supplied.{AreShort, OthersStay}
+use Rattle.std.specs.Prelude.{ℕ, ◌<◌, ◌≡◌, false, List, length, slice_index, slice_index_or}
+use Rattle.reo_reach.specs.Supplied.{OthersStay}
 use Rattle.reo_propagate.specs.Queues.{among}
 use Rattle.reo_tables.specs.declared.tables.Tables.{Tables}
 

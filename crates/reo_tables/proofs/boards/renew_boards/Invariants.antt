@@ -7,5 +7,5 @@ use Rattle.reo_tables.proofs.boards.renew_boards.Given as goal
 abbrev pub invariant-loop-side : goal.invariant-loop-side
 invariant-loop-side g l = record {
   stays : StaysBesides l.sides l.initial.boards l.boards;
-  right : AreRightAt l.sides l.side-index (IsBoard (net_of g.P.Primitive.behaviour l.circuit)) l.boards
+  right : AreRightAt l.sides l.side-index (IsBoard (net_of g.P.Primitive.behaviour l.circuit)) l.boards;
 }

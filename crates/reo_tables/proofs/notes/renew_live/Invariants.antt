@@ -8,5 +8,5 @@ use Rattle.reo_tables.proofs.notes.renew_live.Given as goal
 abbrev pub invariant-loop-side : goal.invariant-loop-side
 invariant-loop-side g l = record {
   stays : StaysBesides l.sides l.initial.live l.live;
-  right : AreRightAt l.sides l.side-index (λ s row. length row ≡ row_count (side_in (net_of g.P.Primitive.behaviour l.circuit) s)) l.live
+  right : AreRightAt l.sides l.side-index (λ s row. length row ≡ row_count (side_in (net_of g.P.Primitive.behaviour l.circuit) s)) l.live;
 }

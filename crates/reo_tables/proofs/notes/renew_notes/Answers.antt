@@ -26,7 +26,8 @@ loop-side-preserved g c =
     let side_lt = c.requires.sides side (among_at sides n c.loop-side-test.true) in
     let side_in : side < length now = omega (arith, side_lt, c.requires.one_each, same) in
     let put : IsPut side now (set now side blank) = set_put side blank now in
-    let count : length blank ≡ groups_in net side = c.in_ok-blank.ensures ∙ c.groups.ensures no_side in
+    let groups : c.groups.result ≡ groups_in net side = c.groups.ensures no_side in
+    let count : length blank ≡ groups_in net side = c.in_ok-blank.ensures ∙ groups in
     record {
       stays = stays_more sides n c.args.notes.now now (set now side blank) c.loop-side-test.true c.loop-side.invariant.stays put;
       right = right_more sides n (λ s list. length list ≡ groups_in net s) now (set now side blank) (λ s h. let s_lt = c.requires.sides s h in omega (arith, s_lt, c.requires.one_each, same)) c.loop-side-test.true

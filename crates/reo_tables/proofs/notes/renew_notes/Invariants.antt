@@ -8,5 +8,5 @@ use Rattle.reo_tables.proofs.notes.renew_notes.Given as goal
 abbrev pub invariant-loop-side : goal.invariant-loop-side
 invariant-loop-side g l = record {
   stays : StaysBesides l.sides l.initial.notes l.notes;
-  right : AreRightAt l.sides l.side-index (λ s list. length list ≡ groups_in (net_of g.P.Primitive.behaviour l.circuit) s) l.notes
+  right : AreRightAt l.sides l.side-index (λ s list. length list ≡ groups_in (net_of g.P.Primitive.behaviour l.circuit) s) l.notes;
 }

@@ -7,5 +7,5 @@ use Rattle.reo_tables.proofs.values.renew_values.Given as goal
 abbrev pub invariant-loop-joint : goal.invariant-loop-joint
 invariant-loop-joint l = record {
   stays : StaysBesides l.joints l.initial.flags l.flags;
-  right : AreRightAt l.joints l.joint-index (λ j row. length row ≡ length (items_at l.supply j) + 4) l.flags
+  right : AreRightAt l.joints l.joint-index (λ j row. length row ≡ length (items_at l.supply j) + 4) l.flags;
 }
