@@ -10,7 +10,7 @@ use Rattle.reo_knots.specs.Knots.{in_knot}
 use Rattle.reo_support.proofs.Labels.{same_eq}
 use Rattle.reo_reach.specs.Standing.{no_joint, giver_of}
 use Rattle.reo_tables.specs.Tables.{IsSideRight, IsJointRight}
-use Rattle.reo_tables.specs.Laws.{RightPartsAreReady}
+use Rattle.reo_tables.specs.Laws.{ReadyTablesAreRight, RightPartsAreReady}
 
 true_below : (a b : ℕ) → a < b → nat_lt a b ≡ true
 true_below a b h = grind (arith, nat_tests)
@@ -59,3 +59,21 @@ right_parts_are_ready net wired ends are_ends knots are tables room right = reco
         let s : ℕ = side_at net (giver_of net j) in
         let s_in : side_at net (giver_of net j) < side_count net = starts net wired j lt in
         (right (get_or knots.numbers s 0) (are.numbered.in_range s s_in)).joints j (lt, own s s_in)
+
+pub ready_tables_are_right : ReadyTablesAreRight
+ready_tables_are_right net ends tables ready = (
+  record {
+    boards = ready.ready.boards_are.one_each;
+    places = ready.supply.places;
+    short = ready.short;
+    alive = ready.ready.one_set;
+    seen = ready.flags.joints;
+    live = ready.flags.sides;
+    notes = ready.flags.noted;
+    waits = ready.waits;
+  },
+  λ inside. record {
+    sides = λ s lt h. record { board = λ d. ready.ready.boards_are.each s d lt; rows = ready.flags.width s lt; groups = ready.flags.groups s lt };
+    joints = λ j is. record { reached = ready.supply.reached j is.0; values = ready.ready.width j is.0; marks = ready.flags.values j is.0 };
+  },
+)

@@ -17,6 +17,12 @@ RightPartsAreReady = (net : Net) → IsWired net → (ends : List (List ℕ)) �
     → ((k : ℕ) → k < knot_count knots → AreRightOn net (in_knot knots.numbers k) tables)
     → AreReady net ends tables
 
+-- The tables of a circuit have room for it, and are right on each set of sides.
+abbrev pub ReadyTablesAreRight : Type 0
+ReadyTablesAreRight = (net : Net) (ends : List (List ℕ)) (tables : Tables)
+    → AreReady net ends tables
+    → HasRoom net tables × ((inside : ℕ → Bool) → AreRightOn net inside tables)
+
 -- A circuit of the same shape that is another at no primitive of a set of sides.
 pub record IsSameOn (net other : Net) (inside : ℕ → Bool) : Type 0 where
   pub joints : other.joints ≡ net.joints

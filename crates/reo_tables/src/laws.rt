@@ -1,10 +1,15 @@
 //! Laws of tables and of the orders of parts.
-ghost use Rattle.reo_tables.specs.Laws.{RightPartsAreReady, RightTablesStay, RoomStays};
+ghost use Rattle.reo_tables.specs.Laws.{ReadyTablesAreRight, RightPartsAreReady, RightTablesStay, RoomStays};
 ghost use Rattle.reo_tables.specs.Laws.{OrdersAreOfParts, OrdersStay};
 
 /// Tables that are right on each part are those of the circuit.
 pub fn right_parts_are_ready()
     ensures { RightPartsAreReady }
+{}
+
+/// The tables of a circuit have room for it, and are right on each set of sides.
+pub fn ready_tables_are_right()
+    ensures { ReadyTablesAreRight }
 {}
 
 /// Tables that are right on a set out of which no joint leads stay so where the circuit changes at

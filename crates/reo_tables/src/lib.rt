@@ -12,7 +12,8 @@ mod tables;
 mod values;
 
 pub use laws::{
-    orders_are_of_parts, orders_stay, right_parts_are_ready, right_tables_stay, room_stays,
+    orders_are_of_parts, orders_stay, ready_tables_are_right, right_parts_are_ready,
+    right_tables_stay, room_stays,
 };
 pub use orders::orders_of;
 pub use parts::refresh_part;
