@@ -1,26 +1,26 @@
 -- What is looked up of a circuit, when it changes.
-use Rattle.std.proofs.Common.{◌≡◌, ◌≢◌, ◌∙◌, inl, inr, ℕ, zero, suc, ◌+◌, ◌<◌, Bool, true, false, List, [], ◌∷◌, length, map, get_or, replicate, refl, ap, sym, subst, arith}
+use Rattle.std.proofs.Common.{◌≡◌, ◌≢◌, ◌∙◌, inl, inr, ℕ, zero, suc, ◌+◌, ◌<◌, Bool, true, false, List, [], ◌∷◌, length, map, get_or, refl, ap, sym, subst, arith}
 use Rattle.std.specs.Prelude.{Option, Some, None, slice_get}
-use Rattle.std.proofs.lemmas.List.{length-map, get_or-replicate}
+use Rattle.std.proofs.lemmas.List.{length-map}
 use Rattle.reo_net_base.specs.declared.joint.Joint.{Joint}
 use Rattle.reo_net_base.specs.declared.joint.End.{End}
 use Rattle.reo_net_base.specs.Behaviour.{Behaviour, nothing}
 use Rattle.reo_net_base.specs.Net.{Net, Wiring, net_of, behaviour_at, is_at}
 use Rattle.reo_net_base.specs.Shapes.{SameShapes, SameNetShape}
-use Rattle.reo_net_base.specs.Sides.{side_count}
 use Rattle.reo_net_base.specs.Step.{change_at}
 use Rattle.reo_net_base.specs.Wired.{IsWired, IsEnd}
-use Rattle.reo_net_circuit.proofs.Cases.{eq_cases, lt_cases}
+use Rattle.reo_net_circuit.proofs.Cases.{eq_cases}
 use Rattle.reo_net_ends.specs.Ends.{AreEnds, joint_at}
-use Rattle.reo_knots.specs.Knots.{Knotted, AreKnots, knot_count}
+use Rattle.reo_knots.specs.Knots.{Knotted, AreKnots}
 use Rattle.reo_planning.specs.declared.kept.Kept.{Kept}
-use Rattle.reo_planning.specs.Keeping.{is_settled, IsFresh, IsKept}
+use Rattle.reo_planning.specs.Keeping.{is_settled, IsKept}
 use Rattle.reo_planning.specs.Unsettling.{AreFewer, AreMarkedUnsettled, AreMovingUnsettled, IsElsewhere, IsUnsettled, part_at}
 use Rattle.reo_planning.proofs.Elsewhere.{kept_elsewhere, kept_fewer, kept_later}
-use Rattle.reo_planning.proofs.Setting.{fewer_none}
+use Rattle.reo_planning.proofs.Setting.{fewer_none, fewer_twice}
 use Rattle.reo_planning.proofs.Shapes.{knots_stay}
 use Rattle.reo_engine.specs.Changes.{is_changed, OthersStay}
 use Rattle.reo_engine.specs.Engine.{IsLookedUp}
+use Rattle.reo_engine.specs.Settled.{StaySettled}
 
 not_both : (b : Bool) → b ≡ false → b ≡ true → ⊥
 not_both true h g = cc
@@ -112,3 +112,10 @@ module _ {P : Type 0} (behaviour : P → Behaviour) where
       unmarked : (b : Bool) → (b ≡ true → ⊥) → b ≡ false
       unmarked true h = absurd (h refl)
       unmarked false h = refl
+
+-- Over a round the parts that are not marked and do not move stay settled.
+pub stay_settled : (net : Net) (knots : Knotted) (marks : List Bool) (old some now : Kept) → AreMarkedUnsettled net knots marks (length marks) old some → AreMovingUnsettled some now → StaySettled net knots marks old now
+stay_settled net knots marks old some now marked moving = record {
+  fewer = fewer_twice old some now marked.fewer moving.fewer;
+  stay = λ k settled still apart. moving.stay k (ap (λ (xs : List Bool). get_or xs k true) marked.fewer.moving ∙ still) (marked.stay k apart settled);
+}

@@ -2,3 +2,4 @@ pub mod Engine
 pub mod Changes
 pub mod Suited
 pub mod Isolation
+pub mod Settled

@@ -10,7 +10,9 @@ mod engine;
 mod keeping;
 mod laws;
 mod offering;
+mod offers;
 mod planning;
+mod rounds;
 
 pub use engine::Engine;
 pub use laws::plans_suit;

@@ -1,6 +1,7 @@
 -- Ticks, part by part.
-use Rattle.std.proofs.Common.{◌≡◌, ℕ, zero, suc, ◌+◌, ◌-◌, ◌<◌, ◌≤◌, sym, subst, arith, add-one}
-use Rattle.reo_planning.specs.Planned.{sum_below}
+use Rattle.std.proofs.Common.{◌≡◌, Bool, true, false, cond, ℕ, zero, suc, ◌+◌, ◌-◌, ◌<◌, ◌≤◌, sym, subst, arith, add-one}
+use Rattle.reo_planning.specs.Keeping.{serves}
+use Rattle.reo_planning.specs.Planned.{LeftWeighsNoMore, sum_below, weight_left}
 
 -- One number more.
 sum_next : (f : ℕ → ℕ) (n : ℕ) → sum_below (n + 1) f ≡ sum_below n f + f n
@@ -27,3 +28,11 @@ ticked_all f n count start now next lt far more =
     let rest = sum_fewer f (n + 1) gap in
     let whole : sum_below (n + 1) f ≤ sum_below count f = subst (λ (m : ℕ). sum_below (n + 1) f ≤ sum_below m f) shift rest in
     omega (arith, ticked_more f n start now next far more, whole)
+
+less_left : (b : Bool) (a c w : ℕ) → a ≤ c → a + cond b 0 w ≤ c + w
+less_left true a c w le = omega arith
+less_left false a c w le = omega arith
+
+pub left_no_more : LeftWeighsNoMore
+left_no_more kept budget weights zero = omega arith
+left_no_more kept budget weights (suc n) = less_left (serves kept budget n) (sum_below n (weight_left kept budget weights)) (sum_below n weights) (weights n) (left_no_more kept budget weights n)

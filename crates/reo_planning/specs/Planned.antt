@@ -1,5 +1,5 @@
 -- Rows that are those of the first assignments of the parts of a circuit.
-use Rattle.std.specs.Prelude.{ℕ, zero, suc, ◌+◌, ◌<◌, ◌≡◌, cond, false, List, length, slice_index}
+use Rattle.std.specs.Prelude.{ℕ, zero, suc, ◌+◌, ◌<◌, ◌≤◌, ◌≡◌, cond, false, List, length, slice_index}
 use Rattle.reo_net_base.specs.declared.colouring.Colouring.{Colouring}
 use Rattle.reo_net_base.specs.Net.{Net}
 use Rattle.reo_net_base.specs.Sides.{side_count}
@@ -46,3 +46,8 @@ AreWeights net knots weights = (k : ℕ) → k < knot_count knots
 -- What a part weighs, but nothing where its rows are kept.
 abbrev pub weight_left : Kept → ℕ → (ℕ → ℕ) → ℕ → ℕ
 weight_left kept budget weights k = cond (serves kept budget k) 0 (weights k)
+
+-- What is left weighs no more than all.
+abbrev pub LeftWeighsNoMore : Type 0
+LeftWeighsNoMore = (kept : Kept) (budget : ℕ) (weights : ℕ → ℕ) (n : ℕ)
+    → sum_below n (weight_left kept budget weights) ≤ sum_below n weights

@@ -1,5 +1,5 @@
 -- Parts that are not settled any more, and what is kept of the others.
-use Rattle.std.specs.Prelude.{ℕ, ◌+◌, ◌<◌, ◌≡◌, true, false, Bool, List, length, slice_index, slice_index_or}
+use Rattle.std.specs.Prelude.{ℕ, ◌+◌, ◌<◌, ◌≡◌, ◌≢◌, true, false, Bool, List, length, slice_index, slice_index_or}
 use Rattle.reo_net_base.specs.Net.{Net, behaviour_at, first_side}
 use Rattle.reo_net_base.specs.Shapes.{SameShapes}
 use Rattle.reo_net_base.specs.Wired.{IsWired}
@@ -25,23 +25,41 @@ abbrev pub AreUnsettled : Net → Knotted → ℕ → ℕ → Kept → Type 0
 AreUnsettled net knots primitive n kept = (side : ℕ) → side < n
     → is_settled kept (part_at net knots primitive side) ≡ false
 
--- The parts of no side of a primitive are settled any more.
+-- No side of a primitive is of a part.
+abbrev pub IsApart : Net → Knotted → ℕ → ℕ → Type 0
+IsApart net knots primitive k = (side : ℕ) → side < (behaviour_at net.primitives primitive).sides
+    → part_at net knots primitive side ≢ k
+
+-- The parts of the sides of a primitive are not settled any more, and those that were settled and
+-- have none of its sides still are.
 pub record IsUnsettled (net : Net) (knots : Knotted) (primitive : ℕ) (old new : Kept)
     : Type 0 where
   pub fewer : AreFewer old new
   pub gone : AreUnsettled net knots primitive (behaviour_at net.primitives primitive).sides new
+  pub stay : (k : ℕ) → IsApart net knots primitive k → is_settled old k ≡ true
+      → is_settled new k ≡ true
 
--- The parts of no side of the first n primitives that are marked are settled any more.
+-- None of the first n primitives that is marked has a side of a part.
+abbrev pub AreApart : Net → Knotted → List Bool → ℕ → ℕ → Type 0
+AreApart net knots marks n k = (i : ℕ) → i < n → slice_index_or marks i false ≡ true
+    → IsApart net knots i k
+
+-- The parts of the sides of the first n primitives that are marked are not settled any more, and
+-- those that were settled and have none of their sides still are.
 pub record AreMarkedUnsettled (net : Net) (knots : Knotted) (marks : List Bool) (n : ℕ)
     (old new : Kept) : Type 0 where
   pub fewer : AreFewer old new
   pub gone : (i : ℕ) → i < n → slice_index_or marks i false ≡ true
       → AreUnsettled net knots i (behaviour_at net.primitives i).sides new
+  pub stay : (k : ℕ) → AreApart net knots marks n k → is_settled old k ≡ true
+      → is_settled new k ≡ true
 
--- No part that moves is settled any more.
+-- The parts that may move are not settled any more, and the others that were settled still are.
 pub record AreMovingUnsettled (old new : Kept) : Type 0 where
   pub fewer : AreFewer old new
   pub still : (k : ℕ) → is_settled new k ≡ true → is_moving new k ≡ false
+  pub stay : (k : ℕ) → is_moving old k ≡ false → is_settled old k ≡ true
+      → is_settled new k ≡ true
 
 -- A circuit of the same shape that is another at no primitive of a settled part.
 pub record IsElsewhere (net other : Net) (knots : Knotted) (kept : Kept) : Type 0 where

@@ -1,4 +1,5 @@
-//! What stays of knots and of what is kept of them.
+//! What stays of knots and of what is kept of them, and what is left to search.
+ghost use Rattle.reo_planning.specs.Planned.{LeftWeighsNoMore};
 ghost use Rattle.reo_planning.specs.Unsettling.{KeptElsewhere, KeptLater, KnotsStay};
 
 /// What is kept stays right where a circuit changes at no primitive of a part that is still
@@ -15,4 +16,9 @@ pub fn kept_later()
 /// The knots of a circuit are those of each circuit of the same shape.
 pub fn knots_stay()
     ensures { KnotsStay }
+{}
+
+/// The parts of which no rows are kept weigh together no more than all parts.
+pub fn left_weighs_no_more()
+    ensures { LeftWeighsNoMore }
 {}

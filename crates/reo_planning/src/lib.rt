@@ -13,5 +13,5 @@ mod rows;
 mod tables;
 
 pub use kept::Kept;
-pub use laws::{kept_elsewhere, kept_later, knots_stay};
+pub use laws::{kept_elsewhere, kept_later, knots_stay, left_weighs_no_more};
 pub use planning::{first_by_parts, rows_by_parts};

@@ -1,7 +1,7 @@
-use Rattle.std.proofs.Common.{◌≡◌, ◌∙◌, List, length, map, sym, rules, arith}
+use Rattle.std.proofs.Common.{◌≡◌, ◌∙◌, length, map, sym, rules, arith}
 use Rattle.std.proofs.lemmas.List.{length-map}
-use Rattle.reo_net_base.specs.Net.{Wiring}
-use Rattle.reo_engine.proofs.Lookups.{round_made}
+use Rattle.reo_net_base.specs.Net.{Net, Wiring, net_of}
+use Rattle.reo_engine.proofs.Lookups.{round_made, stay_settled}
 use Rattle.reo_engine.proofs.QuietLemmas.{others_stay}
 use Rattle.reo_engine.proofs.engine.Engine.commit.Goals as goal
 
@@ -29,5 +29,11 @@ invariant_of-self g c =
       marks ∙ sym before ∙ sym c.step.ensures.shape.primitives.count ∙ after,
       search rules,
       round_made g.P.Primitive.behaviour now c.step.new.self c.mark_flowing.new.marks c.known.ensures.wired c.known-2.ensures.wired c.step.ensures.shape others marks
-      c.self.inside.rounds c.self.inside.knots c.self.inside.ends c.self.inside.kept c.unsettle_marked.new.self c.unsettle_moving.new.self old.3 (rw c.as_slice-marks.ensures at c.unsettle_marked.ensures) c.unsettle_moving.ensures,
+          c.self.inside.rounds c.self.inside.knots c.self.inside.ends c.self.inside.kept c.unsettle_marked.new.self c.unsettle_moving.new.self old.3 (rw c.as_slice-marks.ensures at c.unsettle_marked.ensures) c.unsettle_moving.ensures,
     )
+
+pub returns-clause-settled : goal.returns-clause-settled
+returns-clause-settled g c =
+    let net : Net = net_of g.P.Primitive.behaviour c.self.inside.circuit in
+    rw (← c.self.view_is) (stay_settled net c.self.inside.knots c.mark_flowing.new.marks c.self.inside.kept c.unsettle_marked.new.self c.unsettle_moving.new.self
+    (rw c.as_slice-marks.ensures at c.unsettle_marked.ensures) c.unsettle_moving.ensures)

@@ -1,4 +1,4 @@
-use Rattle.std.proofs.Common.{◌≡◌, ◌+◌, ℕ, sym, subst}
+use Rattle.std.proofs.Common.{◌+◌, ℕ, sym, subst}
 use Rattle.reo_net_base.specs.declared.colouring.Colouring.{Colouring}
 use Rattle.reo_net_base.specs.First.{IsFirst}
 use Rattle.reo_net_base.specs.Net.{Net, net_of}

@@ -1,4 +1,4 @@
-use Rattle.std.proofs.Common.{◌≡◌, ◌∙◌, inl, inr, ℕ, ◌+◌, ◌<◌, Bool, false, List, sym, ap, subst, arith, length, get_or, set}
+use Rattle.std.proofs.Common.{◌≡◌, ◌∙◌, inl, inr, ℕ, ◌+◌, ◌<◌, Bool, false, List, sym, ap, subst, arith, length, get_or, set, get_or-set_other, ◌≢◌}
 use Rattle.std.proofs.lemmas.List.{length-map}
 use Rattle.reo_net_base.specs.Behaviour.{Behaviour}
 use Rattle.reo_net_base.specs.Net.{Net, net_of, all_sides, behaviour_at, first_side}
@@ -51,7 +51,7 @@ at_mut-requires g c =
     omega (arith, below, c.knot_of.ensures, c.requires.one_each, c.loop-side.invariant.fewer.one_each)
 
 pub loop-side-init : goal.loop-side-init
-loop-side-init g c = record { fewer = fewer_none c.args.self.now; gone = λ side lt. absurd (omega arith) }
+loop-side-init g c = record { fewer = fewer_none c.args.self.now; gone = λ side lt. absurd (omega arith); stay = λ k apart h. h }
 
 pub loop-side-preserved : goal.loop-side-preserved
 loop-side-preserved g c =
@@ -64,4 +64,7 @@ loop-side-preserved g c =
     record {
       fewer = fewer_more c.args.self.now c.loop-side.self c.knot_of.result c.loop-side.invariant.fewer;
       gone = unsettled_more net c.args.knots.now c.args.primitive c.loop-side.side c.knot_of.result c.loop-side.self.settled place (omega (arith, below, c.knot_of.ensures, c.requires.one_each, c.loop-side.invariant.fewer.one_each)) c.loop-side.invariant.gone;
+      stay = λ k apart h.
+          let other : k ≢ c.knot_of.result = λ e. apart c.loop-side.side (omega arith) (sym place ∙ sym e) in
+          get_or-set_other c.loop-side.self.settled c.knot_of.result k false false other ∙ c.loop-side.invariant.stay k (λ side lt_side. apart side (omega arith)) h;
     }

@@ -8,4 +8,5 @@ abbrev pub invariant-loop-part : goal.invariant-loop-part
 invariant-loop-part l = record {
   fewer : AreFewer l.initial.self l.self;
   still : (k : ℕ) → k < l.part → is_settled l.self k ≡ true → is_moving l.self k ≡ false;
+  stay : (k : ℕ) → is_moving l.initial.self k ≡ false → is_settled l.initial.self k ≡ true → is_settled l.self k ≡ true;
 }
