@@ -1,4 +1,5 @@
 pub mod CountLemmas
 pub mod FlowLemmas
 pub mod KeptLemmas
+pub mod Lookups
 pub mod QuietLemmas

@@ -1,3 +1,5 @@
 pub mod Engine
 pub mod Changes
 pub mod Suited
+pub mod Isolation
+pub mod Settled

@@ -1,14 +1,18 @@
 //! The engine: a circuit that takes offers at its ports and goes on round by round.
 //!
-//! A round is planned and then made. Only `new` and `plan` take memory, so a round that was planned
-//! can always be made.
+//! A round is planned and then made. Only `new`, `plan` and `prepare` take memory, so a round that
+//! was planned can always be made. The rows of parts in which nothing changes are kept from round to
+//! round.
 #![tactic(auto)]
 
 mod changes;
 mod engine;
+mod keeping;
 mod laws;
 mod offering;
+mod offers;
 mod planning;
+mod rounds;
 
 pub use engine::Engine;
 pub use laws::plans_suit;

@@ -1,2 +1,10 @@
+pub mod KnotSets
+pub mod Shapes
+pub mod Elsewhere
+pub mod Parting
+pub mod Firsts
+pub mod Flowing
+pub mod Passing
+pub mod Setting
+pub mod Summing
 pub mod Writing
-pub mod Collecting

@@ -1,12 +1,12 @@
 //! Why a round cannot be planned.
-ghost use Rattle.reo_planning.specs.Faults.{is_of};
+ghost use Rattle.reo_planning.specs.Faults.{SaysSame};
 
 use reo_engine_base::PlanFault;
 use reo_search::SearchFault;
 
 /// Why a round cannot be planned, by why a part is not searched.
 pub(crate) fn plan_fault(fault: SearchFault) -> PlanFault
-    ensures { is_of fault result }
+    ensures { SaysSame fault result }
 {
     match fault {
         SearchFault::Wide { knot } => PlanFault::Wide { knot },

@@ -1,9 +1,17 @@
-//! The first colouring of a circuit, part by part.
+//! The first colouring of a circuit, part by part, with what is kept of parts from round to round.
 #![tactic(auto)]
 
 mod faults;
+mod flags;
+mod keeping;
+mod kept;
+mod laws;
+mod moving;
 mod parts;
+mod planning;
 mod rows;
 mod tables;
 
-pub use parts::first_by_parts;
+pub use kept::Kept;
+pub use laws::{kept_elsewhere, kept_later, knots_stay, left_weighs_no_more};
+pub use planning::{first_by_parts, rows_by_parts};

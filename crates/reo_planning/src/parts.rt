@@ -1,20 +1,22 @@
-//! The first colouring, part by part.
-ghost use Rattle.std.specs.Prelude.{◌≡◌, ◌<◌, ◌≤◌, ◌+◌, ◌^◌, ℕ, MatchResult};
+//! The rows of the first assignment of one part.
+ghost use Rattle.std.specs.Prelude.{◌≡◌, ◌<◌, ◌≤◌, ◌+◌, ◌^◌, ℕ, true, cond, MatchResult, OnOk, length, slice_index};
 ghost use Rattle.reo_net_base.specs.Net.{net_of};
-ghost use Rattle.reo_net_ends.specs.Ends.{AreEnds};
-ghost use Rattle.reo_knots.specs.Knots.{AreKnots, knot_count};
-ghost use Rattle.reo_engine_base.specs.Plans.{IsPlanFault};
-ghost use Rattle.reo_planning.specs.Planned.{ArePlanned, IsFirstBy, AreWeights, sum_below};
+ghost use Rattle.reo_net_base.specs.Sides.{side_count};
+ghost use Rattle.reo_knots.specs.Knots.{AreKnots, in_knot, knot_count};
+ghost use Rattle.reo_weights.specs.Weights.{IsWeight};
+ghost use Rattle.reo_planning.specs.Faults.{IsPartFault};
+ghost use Rattle.reo_planning.specs.Keeping.{IsKept, serves};
+ghost use Rattle.reo_planning.specs.Planned.{IsPartPlanned};
 ghost use Rattle.reo_planning.specs.Tables.{AreReady};
 
 use crate::faults::plan_fault;
-use crate::rows::{put_rows, some_rows};
-use crate::tables::{Tables, tables_of};
+use crate::kept::Kept;
+use crate::rows::put_rows;
+use crate::tables::Tables;
 use reo_engine_base::PlanFault;
 use reo_knots::Knots;
-use reo_net_base::{Colouring, Primitive};
+use reo_net_base::Primitive;
 use reo_net_circuit::Circuit;
-use reo_net_colouring::fill;
 use reo_net_ends::Ends;
 use reo_search::first_with;
 use reo_steps::Steps;
@@ -22,80 +24,87 @@ use reo_values::List;
 use std::alloc::Global;
 use std::sync::ledger::Ledger;
 
-/// The rows of the first colouring, part by part.
-fn rows_by_parts<P: Primitive, L: Ledger>(
+/// Searches a part, and writes the rows of its first assignment down.
+fn search_part<P: Primitive, L: Ledger>(
     alloc: Global,
     circuit: &Circuit<P>,
     knots: &Knots,
     ends: &Ends,
     tables: &mut Tables,
+    knot: usize,
     turn: u64,
     budget: u64,
     steps: &mut Steps<L>,
-) -> Result<List<u32>, PlanFault>
+    rows: &mut List<u32>,
+) -> Result<(), PlanFault>
     requires knots { AreKnots (net_of P.behaviour circuit.now) knots.now }
+    requires knot { knot < knot_count knots.now }
     requires tables { AreReady (net_of P.behaviour circuit.now) ends.now tables.old }
     requires budget { budget < 10 ^ 18 }
+    requires rows { length rows.old ≡ side_count (net_of P.behaviour circuit.now) }
     ensures exact { let net = net_of P.behaviour circuit.now in
-        MatchResult result (ArePlanned budget net knots.now turn (knot_count knots.now)) (IsPlanFault budget net) }
-    ensures ticks { (weights : ℕ → ℕ) → AreWeights (net_of P.behaviour circuit.now) knots.now weights
-        → steps.new ≤ steps.old + sum_below (knot_count knots.now) weights }
+        MatchResult result (λ _. IsPartPlanned budget net knots.now turn knot rows.old rows.new)
+        (IsPartFault budget net (in_knot knots.now.numbers knot) knot) }
+    ensures tables { OnOk result (AreReady (net_of P.behaviour circuit.now) ends.now tables.new) }
+    ensures ticks { (w : ℕ) → IsWeight (net_of P.behaviour circuit.now) (in_knot knots.now.numbers knot) w
+        → steps.new ≤ steps.old + w }
 {
-    let mut rows = some_rows(alloc, circuit.sides())?;
-    for knot in 0..knots.count() {
-        match first_with(
-            alloc,
-            circuit,
-            knots,
-            &tables.boards,
-            ends,
-            &tables.supply,
-            &mut tables.state,
-            knot,
-            turn,
-            budget,
-            steps,
-        ) {
-            Ok(part) => put_rows(&mut rows, &part),
-            Err(fault) => return Err(plan_fault(fault)),
+    match first_with(
+        alloc,
+        circuit,
+        knots,
+        &tables.boards,
+        ends,
+        &tables.supply,
+        &mut tables.state,
+        knot,
+        turn,
+        budget,
+        steps,
+    ) {
+        Ok(part) => {
+            put_rows(rows, &part);
+            Ok(())
         }
+        Err(fault) => Err(plan_fault(fault)),
     }
-    Ok(rows)
 }
 
-/// The first colouring of a circuit in the round of a number, where no part is over. It makes at most as many ticks as the weights of
-/// the parts say together.
-///
-/// # Errors
-///
-/// `Wide` and `Spent` come exactly where a part is over, for the least such part. `NoMemory` is out of memory.
-pub fn first_by_parts<P: Primitive, L: Ledger>(
+/// Writes the rows of the first assignment of a part down: those that are kept stand there already,
+/// where they serve, and else the part is searched.
+pub(crate) fn plan_part<P: Primitive, L: Ledger>(
     alloc: Global,
     circuit: &Circuit<P>,
     knots: &Knots,
     ends: &Ends,
+    kept: &Kept,
+    tables: &mut Tables,
+    knot: usize,
     turn: u64,
     budget: u64,
     steps: &mut Steps<L>,
-) -> Result<Colouring, PlanFault>
+    rows: &mut List<u32>,
+) -> Result<(), PlanFault>
     requires knots { AreKnots (net_of P.behaviour circuit.now) knots.now }
-    requires ends { AreEnds (net_of P.behaviour circuit.now) ends.now }
+    requires knot { knot < knot_count knots.now }
+    requires kept { IsKept (net_of P.behaviour circuit.now) knots.now turn kept.now }
+    requires tables { AreReady (net_of P.behaviour circuit.now) ends.now tables.old }
     requires budget { budget < 10 ^ 18 }
+    requires rows { length rows.old ≡ side_count (net_of P.behaviour circuit.now) }
+    requires here { (s : ℕ) → in_knot knots.now.numbers knot s ≡ true
+        → slice_index rows.old s ≡ slice_index kept.now.rows s }
     ensures exact { let net = net_of P.behaviour circuit.now in
-        MatchResult result (IsFirstBy budget net turn) (IsPlanFault budget net) }
-    ensures ticks { (weights : ℕ → ℕ) → AreWeights (net_of P.behaviour circuit.now) knots.now weights
-        → steps.new ≤ steps.old + sum_below (knot_count knots.now) weights }
+        MatchResult result (λ _. IsPartPlanned budget net knots.now turn knot rows.old rows.new)
+        (IsPartFault budget net (in_knot knots.now.numbers knot) knot) }
+    ensures tables { OnOk result (AreReady (net_of P.behaviour circuit.now) ends.now tables.new) }
+    ensures ticks { (w : ℕ) → IsWeight (net_of P.behaviour circuit.now) (in_knot knots.now.numbers knot) w
+        → steps.new ≤ steps.old + cond (serves kept.now budget knot) 0 w }
+    ensures none { serves kept.now budget knot ≡ true → steps.new ≡ steps.old }
 {
-    let mut tables = tables_of(alloc, circuit, ends)?;
-    let rows = rows_by_parts(
-        alloc,
-        circuit,
-        knots,
-        ends,
-        &mut tables,
-        turn,
-        budget,
-        steps,
-    )?;
-    Ok(fill(alloc, circuit, rows)?)
+    if kept.serves(knot, budget) {
+        return Ok(());
+    }
+    search_part(
+        alloc, circuit, knots, ends, tables, knot, turn, budget, steps, rows,
+    )
 }

@@ -17,3 +17,4 @@ pub mod Named
 pub mod Matched
 pub mod Searched
 pub mod Isolating
+pub mod Singles

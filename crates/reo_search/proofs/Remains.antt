@@ -84,6 +84,7 @@ value_there items j GR lt = refl
 value_there items j GG lt = refl
 value_there items j Jam lt = refl
 
+-- And back.
 pub there_value : (items : List (List Value)) (j : ℕ) (v : JointValue) → all_values (names_of items) j v ≡ true → code_of v < length (get_or items j []) + 4
 there_value items j (Flow n) h = let lt = at_some (get_or items j []) n h in omega (arith, lt)
 there_value items j RG h = omega arith
@@ -92,9 +93,11 @@ there_value items j GG h = omega arith
 there_value items j Jam h = omega arith
 
 module _ (net : Net) (inside : ℕ → Bool) (boards : List Board) (ends : List (List ℕ)) (items : List (List Value)) (start : List (List Bool)) (ready : IsReady net boards ends items start) (whole : AllAreThere net items inside start) where
+  -- The table has all values.
   pub to_start : (j side : ℕ) (v : JointValue) → j < length net.joints → AtSide net j side → inside side ≡ true → all_values (names_of items) j v ≡ true → family_of start j v ≡ true
   to_start j side v lt at is h = whole j side v (record { in_range = lt; here = at }) is (there_value items j v h)
 
+  -- It has no others.
   pub from_start : (j : ℕ) (v : JointValue) → j < length net.joints → family_of start j v ≡ true → all_values (names_of items) j v ≡ true
   from_start j v lt h = let there = flag_in start j (code_of v) h in value_there items j v (omega (arith, there, ready.width j lt))
 

@@ -66,6 +66,7 @@ module _ (net : Net) (wired : IsWired net) (knots : Knotted) (knot : ℕ) (are :
         here = λ d. ap (λ (x : Joint). get_or knots.numbers (side_at net x.giver) 0) (get_or_default net.joints j d no_joint j_lt) ∙ number;
       }
 
+  -- They are the joints of the knot that close loops.
   pub loops_those : AreThose (λ (j : ℕ). IsJointIn net (in_knot knots.numbers knot) j × IsLoop net j) loops
   loops_those = record {
     increasing = those_of.increasing;
@@ -85,12 +86,15 @@ loops_are_in net inside loops those = record {
 
 -- Wide, or not.
 module _ (net : Net) (inside : ℕ → Bool) (supplied : Supplied) (told : TellsItems net inside supplied) where
+  -- Where a joint is wide the set is.
   pub wide_set : (j : ℕ) × IsJointIn net inside j × (is_wide supplied j ≡ true) → IsWide net inside
   wide_set h = let many = told.wide.0 h in record { joint = many.0; is_joint = many.1; many = many.2 }
 
+  -- Where none is wide the set is not.
   pub narrow_set : ((j : ℕ) × IsJointIn net inside j × (is_wide supplied j ≡ true) → ⊥) → IsWide net inside → ⊥
   narrow_set none w = none (told.wide.1 (w.joint, w.is_joint, w.many))
 
+-- None of them is marked, then.
 pub narrow_joints : (net : Net) (inside : ℕ → Bool) (supplied : Supplied) → ((j : ℕ) × IsJointIn net inside j × (is_wide supplied j ≡ true) → ⊥) → (j : ℕ) → IsJointIn net inside j → is_wide supplied j ≡ false
 narrow_joints net inside supplied none j is = elim (cases_Bool (is_wide supplied j)) [
   | inl wide ↦ absurd (none (j, is, wide))
@@ -178,6 +182,7 @@ module _ (net : Net) (wired : IsWired net) (inside : ℕ → Bool) (knot : IsKno
         none_for [] s h = cc
         none_for (x ∷ xs) s h = omega arith
 
+    -- Each side tells, and so one of them.
     pub jam_exact : IsTrue part.jammed ↔ HasNoThreeColouring net inside
     jam_exact = (
       λ t. let m = rows.jammed.0 t in (exact_at m.0 m.1).0 ((jam_test m.0 m.1).0 m.2),

@@ -91,9 +91,11 @@ module _ (net : Net) (names : Names) (inside : ℕ → Bool) (loops codes : List
   pub next_none : (rows : ℕ → ℕ) (choice : Choice) → HasNextOf net names inside loops codes [] rows choice → ⊥
   next_none rows choice h = let lt = h.next.1 in omega (arith, lt)
 
+  -- With one value more, those before are still there.
   pub next_left : (list : List ℕ) (x : ℕ) (rows : ℕ → ℕ) (choice : Choice) → HasNextOf net names inside loops codes list rows choice → HasNextOf net names inside loops codes (list ++ x ∷ []) rows choice
   next_left list x rows choice h = record { has = h.has; next = Contains-append_left list (x ∷ []) (code_of (choice (get_or loops (length codes) 0))) h.next }
 
+  -- And those that have it.
   pub next_right : (list : List ℕ) (x : ℕ) (rows : ℕ → ℕ) (choice : Choice) → HasCodes net names inside loops (codes ++ x ∷ []) rows choice → HasNextOf net names inside loops codes (list ++ x ∷ []) rows choice
   next_right list x rows choice h =
       let long : length (codes ++ x ∷ []) ≡ length codes + 1 = length-append codes (x ∷ []) in
@@ -103,6 +105,7 @@ module _ (net : Net) (names : Names) (inside : ℕ → Bool) (loops codes : List
         next = subst (Contains (list ++ x ∷ [])) (sym here) (Contains-push list x);
       }
 
+  -- And no others.
   pub next_cases : (list : List ℕ) (x : ℕ) (rows : ℕ → ℕ) (choice : Choice) → HasNextOf net names inside loops codes (list ++ x ∷ []) rows choice
       → HasNextOf net names inside loops codes list rows choice ⊎ HasCodes net names inside loops (codes ++ x ∷ []) rows choice
   next_cases list x rows choice h = elim (Contains-push_cases list x (code_of (choice (get_or loops (length codes) 0))) h.next) [

@@ -1,5 +1,5 @@
 -- Trying each choice of values at the loop joints.
-use Rattle.std.specs.Prelude.{ℕ, ◌<◌, ◌≡◌, ◌≢◌, ◌⊎◌, Bool, List, Option, Some, None, Contains, length, slice_index}
+use Rattle.std.specs.Prelude.{ℕ, ◌<◌, ◌≤◌, ◌≡◌, ◌≢◌, ◌⊎◌, Bool, List, [], ◌∷◌, Option, Some, None, Contains, length, take, drop, slice_index, slice_index_or}
 use Rattle.std.specs.declared.cmp.Ordering.TheVariants.{Less}
 use Rattle.std.specs.Ordering.{nat_cmp}
 use Rattle.std.specs.Cmp.Lexicographic.{slice_cmp}
@@ -15,6 +15,7 @@ use Rattle.reo_propagate_rows.specs.Sets.{code_of, IsReady}
 use Rattle.reo_propagate.specs.declared.state.State.{State}
 use Rattle.reo_search.specs.declared.place.Place.{Place}
 use Rattle.reo_search.specs.Places.{numbers}
+use Rattle.reo_search.specs.Remaining.{choices_of}
 
 -- A search may begin anew with these tables.
 pub record MayRestart (net : Net) (boards : List Board) (ends : List (List ℕ)) (items : List (List Value)) (state : State) : Type 0 where
@@ -52,3 +53,12 @@ pub record HasCodes (net : Net) (names : Names) (inside : ℕ → Bool) (loops c
 pub record HasNextOf (net : Net) (names : Names) (inside : ℕ → Bool) (loops codes list : List ℕ) (rows : ℕ → ℕ) (choice : Choice) : Type 0 where
   pub has : HasCodes net names inside loops codes rows choice
   pub next : Contains list (code_of (choice (slice_index loops (length codes))))
+
+-- The values at the next joints came to a list, as long as one alone is left there.
+pub record AreSingles (left : List (List ℕ)) (old new : List ℕ) : Type 0 where
+  pub within : length new ≤ length left
+  pub longer : length old ≤ length new
+  pub kept : take (length old) new ≡ old
+  pub same : (m : ℕ) → m < length old → slice_index new m ≡ slice_index old m
+  pub only : (m : ℕ) → length old ≤ m → m < length new → slice_index_or left m [] ≡ slice_index new m ∷ []
+  pub choices : choices_of (drop (length new) left) ≡ choices_of (drop (length old) left)

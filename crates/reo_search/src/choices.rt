@@ -8,7 +8,7 @@ ghost use Rattle.reo_weights.specs.Weights.{AreNamed};
 ghost use Rattle.reo_search.specs.declared.place.Place.{Place as Spot};
 ghost use Rattle.reo_search.specs.Places.{side_of_place};
 ghost use Rattle.reo_search.specs.Remaining.{AreLoopsIn, CoverAll, choices_of};
-ghost use Rattle.reo_search.specs.Trying.{MayRestart, HasCodes, IsFirstOf, IsLesser};
+ghost use Rattle.reo_search.specs.Trying.{MayRestart, HasCodes, IsFirstOf, IsLesser, AreSingles};
 
 use crate::arranging::first_by;
 use crate::pinning::pin;
@@ -77,8 +77,24 @@ fn try_choice<P: Primitive, L: Ledger>(
     Ok(found)
 }
 
+/// Adds the values at the next joints, as long as one alone is left there.
+fn push_single(left: &List<List<usize>>, codes: &mut List<usize>) -> Result<(), NoMemory>
+    requires { length codes.old ≤ length left.now }
+    ensures { OnOk result (AreSingles left.now codes.old codes.new) }
+{
+    for index in codes.len()..left.len() {
+        let values = left.at(index);
+        if values.len() != 1 {
+            return Ok(());
+        }
+        codes.push(*values.at(0))?;
+    }
+    Ok(())
+}
+
 /// The numbers of the first assignment that has these values at the first loop joints, where each of what is left at the others is
-/// tried: `None` exactly where there is none. It ticks at most as many times as there are choices.
+/// tried: `None` exactly where there is none. It ticks at most as many times as there are choices. It calls itself only where more than
+/// one value is left.
 pub(crate) fn first_over<P: Primitive, L: Ledger>(
     alloc: Global,
     circuit: &Circuit<P>,
@@ -109,8 +125,10 @@ pub(crate) fn first_over<P: Primitive, L: Ledger>(
     ensures ticks { steps.new ≤ steps.old + choices_of (drop (length codes.old) left.now) }
 {
     let held = codes.len();
-    if held == loops.len() {
-        return try_choice(
+    push_single(left, codes)?;
+    let many = codes.len();
+    if many == loops.len() {
+        let tried = try_choice(
             alloc,
             circuit,
             boards,
@@ -123,9 +141,11 @@ pub(crate) fn first_over<P: Primitive, L: Ledger>(
             loops,
             codes.as_slice(),
             steps,
-        );
+        )?;
+        codes.truncate(held);
+        return Ok(tried);
     }
-    let next = left.at(held);
+    let next = left.at(many);
     let mut best = None;
     for index in 0..next.len() {
         codes.push(*next.at(index))?;
@@ -133,8 +153,9 @@ pub(crate) fn first_over<P: Primitive, L: Ledger>(
             alloc, circuit, boards, ends, items, sides, state, places, turn, loops, left, codes,
             steps,
         )?;
-        codes.truncate(held);
+        codes.truncate(many);
         best = lesser(best, found);
     }
+    codes.truncate(held);
     Ok(best)
 }

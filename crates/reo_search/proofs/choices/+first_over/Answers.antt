@@ -9,6 +9,7 @@ use Rattle.reo_search.specs.Remaining.{choices_of}
 use Rattle.reo_search.specs.Trying.{IsFirstOf, HasCodes, HasNextOf}
 use Rattle.reo_search.proofs.Counted.{steps_more}
 use Rattle.reo_search.proofs.Tried.{first_same, first_of_two, next_left, next_right, next_cases, next_all}
+use Rattle.reo_search.proofs.Singles.{singles_less, singles_all}
 use Rattle.reo_search.proofs.choices.+first_over.Goals as goal
 
 pub loop-index-preserved : goal.loop-index-preserved
@@ -17,7 +18,7 @@ loop-index-preserved g t c =
     let names : Names = names_of c.args.items.now in
     let inside : ℕ → Bool = among c.args.sides.now in
     let loops : List ℕ = c.args.loops.now in
-    let codes : List ℕ = c.args.codes.now in
+    let codes : List ℕ = c.push_single.new.codes in
     let list : List ℕ = c.at-next.result.now in
     let i : ℕ = c.loop-index.index in
     let x : ℕ = c.at.result.now in
@@ -33,10 +34,22 @@ loop-index-preserved g t c =
           (first_of_two net c.args.turn c.args.places.now (HasNextOf net names inside loops codes (take i list)) (HasCodes net names inside loops (codes ++ x ∷ [])) (HasNextOf net names inside loops codes (take i list ++ x ∷ []))
           (next_left net names inside loops codes (take i list) x) (next_right net names inside loops codes (take i list) x) (next_cases net names inside loops codes (take i list) x)
           c.loop-index.best c.in_ok-found.found c.lesser-best.result c.loop-index.invariant.best_is here c.lesser-best.ensures);
-      codes_are = c.truncate.ensures ∙ ap (take c.len-held.result) (c.in_ok-found.ensures.codes ∙ pushed) ∙ ap (λ (n : ℕ). take n (codes ++ x ∷ [])) c.len-held.ensures ∙ take-append_seam codes (x ∷ []);
+      codes_are = c.truncate-in-loop-index.ensures ∙ ap (take c.len-many.result) (c.in_ok-found.ensures.codes ∙ pushed) ∙ ap (λ (n : ℕ). take n (codes ++ x ∷ [])) c.len-many.ensures ∙ take-append_seam codes (x ∷ []);
       tables = c.in_ok-found.ensures.tables;
       ticks = steps_more c.args.steps.now c.loop-index.steps c.first_over.new.steps i (choices_of (drop (length codes + 1) c.args.left.now)) c.loop-index.invariant.ticks ticks;
     }
+
+pub returns-then-many-loops-clause-first : goal.returns-then-many-loops-clause-first
+returns-then-many-loops-clause-first g t c =
+    let net : Net = net_of g.P.Primitive.behaviour c.args.circuit.now in
+    let names : Names = names_of c.args.items.now in
+    let inside : ℕ → Bool = among c.args.sides.now in
+    let loops : List ℕ = c.args.loops.now in
+    let singles = c.in_ok-push_single.ensures in
+    let found = subst (λ (xs : List ℕ). IsFirstOf (HasCodes net names inside loops xs) net c.args.turn c.args.places.now c.in_ok-tried.tried) c.as_slice.ensures c.in_ok-tried.ensures.first in
+    first_same net c.args.turn c.args.places.now (HasCodes net names inside loops c.push_single.new.codes) (HasCodes net names inside loops c.args.codes.now)
+    (singles_less net names inside loops c.args.left.now c.args.codes.now c.push_single.new.codes singles)
+    (singles_all net names inside loops c.args.left.now c.args.codes.now c.push_single.new.codes singles c.requires.cover c.requires.left) c.in_ok-tried.tried found
 
 pub returns-clause-first : goal.returns-clause-first
 returns-clause-first g t c =
@@ -44,13 +57,16 @@ returns-clause-first g t c =
     let names : Names = names_of c.args.items.now in
     let inside : ℕ → Bool = among c.args.sides.now in
     let loops : List ℕ = c.args.loops.now in
-    let codes : List ℕ = c.args.codes.now in
+    let old : List ℕ = c.args.codes.now in
+    let codes : List ℕ = c.push_single.new.codes in
     let left : List (List ℕ) = c.args.left.now in
     let list : List ℕ = c.at-next.result.now in
-    let under : length codes < length loops = omega (arith, c.requires.codes, c.if-held-loops.false, c.len-held.ensures) in
-    let held_lt : c.len-held.result < length left = omega (arith, under, c.len-held.ensures, c.requires.left) in
-    let list_is : list ≡ get_or left (length codes) [] = c.at-next.ensures ∙ get_or_default left c.len-held.result list [] held_lt ∙ ap (λ (n : ℕ). get_or left n []) c.len-held.ensures in
+    let singles = c.in_ok-push_single.ensures in
+    let under : length codes < length loops = omega (arith, singles.within, c.requires.left, c.if-many-loops.false, c.len-many.ensures) in
+    let many_lt : c.len-many.result < length left = omega (arith, under, c.len-many.ensures, c.requires.left) in
+    let list_is : list ≡ get_or left (length codes) [] = c.at-next.ensures ∙ get_or_default left c.len-many.result list [] many_lt ∙ ap (λ (n : ℕ). get_or left n []) c.len-many.ensures in
     let whole : take c.loop-index.index list ≡ list = take_all c.loop-index.index list (omega (arith, c.loop-index-test.false, c.len-index-end.ensures)) in
     let best = subst (λ (xs : List ℕ). IsFirstOf (HasNextOf net names inside loops codes xs) net c.args.turn c.args.places.now c.loop-index.best) (whole ∙ list_is) c.loop-index.invariant.best_is in
-    first_same net c.args.turn c.args.places.now (HasNextOf net names inside loops codes (get_or left (length codes) [])) (HasCodes net names inside loops codes)
-    (λ rows choice h. h.has) (next_all net names inside loops codes left c.requires.cover under) c.loop-index.best best
+    first_same net c.args.turn c.args.places.now (HasNextOf net names inside loops codes (get_or left (length codes) [])) (HasCodes net names inside loops old)
+    (λ rows choice h. singles_less net names inside loops left old codes singles rows choice h.has)
+    (λ rows choice h. next_all net names inside loops codes left c.requires.cover under rows choice (singles_all net names inside loops left old codes singles c.requires.cover c.requires.left rows choice h)) c.loop-index.best best

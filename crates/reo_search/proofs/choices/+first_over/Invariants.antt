@@ -11,8 +11,8 @@ decreases-first_over g l = length l.loops.now - length l.codes.now
 
 abbrev pub invariant-loop-index : goal.invariant-loop-index
 invariant-loop-index g l = record {
-  best_is : IsFirstOf (HasNextOf (net_of g.P.Primitive.behaviour l.circuit) (names_of l.items) (among l.sides) l.loops l.fn.codes (take l.index l.next)) (net_of g.P.Primitive.behaviour l.circuit) l.turn l.places l.best;
-  codes_are : l.codes ≡ l.fn.codes;
+  best_is : IsFirstOf (HasNextOf (net_of g.P.Primitive.behaviour l.circuit) (names_of l.items) (among l.sides) l.loops l.initial.codes (take l.index l.next)) (net_of g.P.Primitive.behaviour l.circuit) l.turn l.places l.best;
+  codes_are : l.codes ≡ l.initial.codes;
   tables : MayRestart (net_of g.P.Primitive.behaviour l.circuit) l.boards l.ends l.items l.state;
-  ticks : l.steps ≤ l.fn.steps + l.index * choices_of (drop (length l.fn.codes + 1) l.left);
+  ticks : l.steps ≤ l.fn.steps + l.index * choices_of (drop (length l.initial.codes + 1) l.left);
 }

@@ -1,5 +1,12 @@
+use Rattle.std.proofs.Common.{arith}
+use Rattle.std.proofs.lemmas.List.{length-map}
 use Rattle.reo_engine.proofs.KeptLemmas.{just_ports_kept, one_each_kept}
+use Rattle.reo_engine.proofs.Lookups.{one_changes}
 use Rattle.reo_engine.proofs.engine.Engine.withdraw.Goals as goal
+
+pub unsettle-requires-clause-primitive : goal.unsettle-requires-clause-primitive
+unsettle-requires-clause-primitive g c =
+    omega (arith, c.known_ports.ensures.within, length-map c.self.inside.circuit.primitives g.P.Primitive.behaviour)
 
 pub invariant_of-self : goal.invariant_of-self
 invariant_of-self g c =
@@ -7,4 +14,6 @@ invariant_of-self g c =
       old.0,
       one_each_kept g.P.Primitive.behaviour g.P.Ported.port_state c.self.inside.circuit c.withdraw.new.self c.self.inside.changed c.mark.new.marks c.args.port c.withdraw.ensures.shape old.1 c.mark.ensures,
       just_ports_kept g.P.Primitive.behaviour g.P.Ported.port_state c.self.inside.circuit c.withdraw.new.self c.withdraw.ensures.shape old.2,
+      one_changes g.P.Primitive.behaviour c.self.inside.circuit c.withdraw.new.self g.P.Ported.withdrawn c.args.port c.known.ensures.wired c.known-2.ensures.wired c.withdraw.ensures.shape.net
+          c.withdraw.ensures.circuit c.self.inside.rounds c.self.inside.knots c.self.inside.ends c.self.inside.kept c.unsettle.new.self old.3 c.unsettle.ensures,
     )

@@ -1,0 +1,67 @@
+//! Looking at parts ahead of a plan.
+ghost use Rattle.std.specs.Prelude.{◌≡◌, ◌+◌, ◌<◌, ◌≤◌, ◌^◌, ℕ, OnOk, OnErr, MatchResult};
+ghost use Rattle.reo_weights.specs.Over.{Cause, IsOver};
+ghost use Rattle.reo_engine_base.specs.Plans.{IsPlanFault};
+ghost use Rattle.reo_knots.specs.Knots.{knot_count};
+ghost use Rattle.reo_planning.specs.Keeping.{AllServe};
+ghost use Rattle.reo_planning.specs.Planned.{AreWeights, sum_below, weight_left};
+ghost use Rattle.reo_engine.specs.Engine.{net_now};
+
+use crate::engine::Engine;
+use reo_engine_base::PlanFault;
+use reo_net_base::Ported;
+use reo_planning::rows_by_parts;
+use reo_steps::Steps;
+use std::alloc::Global;
+use std::sync::ledger::Ledger;
+
+impl<P: Ported> Engine<P> {
+    /// Looks at the parts that are not settled, and keeps their rows. Afterwards all parts are
+    /// settled, and `plan` with this or a greater budget makes no tick until something changes.
+    /// Where they are settled already nothing changes, and it takes no memory.
+    ///
+    /// It makes at most as many ticks as `plan` would. All but what is kept stays as it was, and
+    /// after a fault the engine is as it was.
+    ///
+    /// # Errors
+    ///
+    /// `Wide` and `Spent` come exactly where a part is over, for the least such part. `NoMemory` is
+    /// out of memory.
+    pub fn prepare<L: Ledger>(
+        &mut self,
+        alloc: Global,
+        budget: u64,
+        steps: &mut Steps<L>,
+    ) -> Result<(), PlanFault>
+        requires { budget < 10 ^ 18 }
+        ensures exact { let net = net_now P.behaviour self.old in
+            MatchResult result (λ _. (cause : Cause) → IsOver budget net cause → ⊥)
+            (IsPlanFault budget net) }
+        ensures settled { let count = knot_count self.new.knots in
+            OnOk result (AllServe count budget self.new.kept) }
+        ensures stays { self.new ≡ record self.old { kept = self.new.kept } }
+        ensures refused { OnErr result (self.new ≡ self.old) }
+        ensures ticks { let count = knot_count self.old.knots in (weights : ℕ → ℕ)
+            → AreWeights (net_now P.behaviour self.old) self.old.knots weights
+            → steps.new ≤ steps.old + sum_below count (weight_left self.old.kept budget weights) }
+        ensures none { AllServe (knot_count self.old.knots) budget self.old.kept
+            → (self.new ≡ self.old) × (steps.new ≡ steps.old) }
+    {
+        self.circuit.known();
+        if self.kept.all_serve(budget) {
+            return Ok(());
+        }
+        let rows = rows_by_parts(
+            alloc,
+            &self.circuit,
+            &self.knots,
+            &self.ends,
+            &self.kept,
+            self.rounds + 1,
+            budget,
+            steps,
+        )?;
+        self.kept.store(&self.circuit, &self.knots, rows, budget);
+        Ok(())
+    }
+}

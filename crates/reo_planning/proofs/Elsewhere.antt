@@ -1,0 +1,146 @@
+-- What is kept of parts where a circuit changes elsewhere, and in later rounds.
+use Rattle.std.proofs.Common.{◌≡◌, ℕ, ◌+◌, ◌<◌, List, Bool, true, length, get_or, refl, ap, sym, ◌∙◌, subst, arith}
+use Rattle.reo_net_base.specs.declared.joint.End.{End}
+use Rattle.reo_net_base.specs.Behaviour.{Behaviour}
+use Rattle.reo_net_base.specs.Net.{Net, first_side, behaviour_at, side_at, row_at, mark_at}
+use Rattle.reo_net_base.specs.Sides.{side_count}
+use Rattle.reo_net_base.specs.Wired.{IsWired}
+use Rattle.reo_net_circuit.proofs.ReshapeLemmas.{first_same}
+use Rattle.reo_net_laws.specs.Alike.{SameSide, AreAlike}
+use Rattle.reo_net_laws.proofs.Isolation.{isolated}
+use Rattle.reo_net_laws.proofs.Sides.{side_at_place, side_in_range}
+use Rattle.reo_knots.specs.Knots.{Knotted, AreKnots, in_knot, knot_count}
+use Rattle.reo_still.specs.Joining.{HasFirst}
+use Rattle.reo_still.specs.Still.{IsStill}
+use Rattle.reo_still.proofs.Rounds.{still_stay_first}
+use Rattle.reo_still_weights.proofs.WithinLemmas.{alike_weigh}
+use Rattle.reo_planning.specs.declared.kept.Kept.{Kept}
+use Rattle.reo_planning.specs.Keeping.{is_settled, is_moving, HasSizes, IsKnown, IsKept}
+use Rattle.reo_planning.specs.Unsettling.{AreFewer, IsElsewhere, KeptElsewhere, KeptLater}
+use Rattle.reo_planning.proofs.KnotSets.{number_is}
+use Rattle.reo_planning.proofs.Shapes.{count_same}
+
+same_side : (b d : Behaviour) (side : ℕ) → d ≡ b → SameSide b d side
+same_side b d side e = subst (λ (x : Behaviour). SameSide b x side) (sym e) record {
+  rows = refl;
+  mark = λ row end lt of. refl;
+  class = λ row turn lt. refl;
+  from = λ row end gives. refl;
+  given = λ row end taken gives. refl;
+  passes = λ row end item lt of takes. refl;
+}
+
+mark_is : (net : Net) (rows : List ℕ) (e : End)
+    → mark_at net rows e ≡ (behaviour_at net.primitives e.primitive).mark ((behaviour_at net.primitives e.primitive).side_of e.end) (get_or rows (first_side net.primitives e.primitive + (behaviour_at net.primitives e.primitive).side_of e.end) 0) e.end
+unfolding mark_at row_at side_at
+mark_is net rows e = refl
+
+-- A part of which no primitive changes.
+module _ (net other : Net) (wired : IsWired net) (after : IsWired other) (knots : Knotted) (are : AreKnots net knots) (kept : Kept) (is : IsElsewhere net other knots kept)
+    (k : ℕ) (lt : k < knot_count knots) (settled : is_settled kept k ≡ true) where
+  same_at : (i side : ℕ) → i < length net.primitives → side < (behaviour_at net.primitives i).sides → in_knot knots.numbers k (first_side net.primitives i + side) ≡ true
+      → behaviour_at other.primitives i ≡ behaviour_at net.primitives i
+  same_at i side i_in side_in h =
+      is.same i side i_in side_in (ap (is_settled kept) (number_is knots.numbers k (first_side net.primitives i + side) h) ∙ settled)
+
+  alike : AreAlike net other (in_knot knots.numbers k)
+  alike = record {
+    joints = is.joints;
+    count = is.shapes.count;
+    shape = is.shapes.same;
+    sides = λ i side i_in side_in h. same_side (behaviour_at net.primitives i) (behaviour_at other.primitives i) side (same_at i side i_in side_in h);
+  }
+
+  still_there : (rows : List ℕ) → IsStill net (in_knot knots.numbers k) rows → IsStill other (in_knot knots.numbers k) rows
+  still_there rows still e e_in h flows =
+      let p_in : e.primitive < length net.primitives = omega (arith, e_in.0, is.shapes.count) in
+      let shape = is.shapes.same e.primitive p_in in
+      let end_in : e.end < (behaviour_at net.primitives e.primitive).ends = subst (λ (n : ℕ). e.end < n) shape.ends e_in.1 in
+      let b : Behaviour = behaviour_at net.primitives e.primitive in
+      let first : first_side other.primitives e.primitive ≡ first_side net.primitives e.primitive = first_same net.primitives other.primitives is.shapes e.primitive in
+      let place : side_at other e ≡ first_side net.primitives e.primitive + b.side_of e.end = side_at_place other e ∙ (λ i. first i + shape.side_of e.end i) in
+      let here : in_knot knots.numbers k (first_side net.primitives e.primitive + b.side_of e.end) ≡ true = ap (in_knot knots.numbers k) (sym place) ∙ h in
+      let same : behaviour_at other.primitives e.primitive ≡ b = same_at e.primitive (b.side_of e.end) p_in ((wired.lawful e.primitive p_in).sides_in e.end end_in) here in
+      let marks : mark_at other rows e ≡ mark_at net rows e =
+      mark_is other rows e ∙ (λ i. (same i).mark ((same i).side_of e.end) (get_or rows (first i + (same i).side_of e.end) 0) e.end) ∙ sym (mark_is net rows e) in
+      still e (p_in, end_in) (ap (in_knot knots.numbers k) (side_at_place net e) ∙ here) (sym marks ∙ flows)
+
+  known_there : (budget turn : ℕ) (rows : List ℕ) (moves : Bool) → IsKnown budget net knots turn rows moves k → IsKnown budget other knots turn rows moves k
+  known_there budget turn rows moves known =
+      let closed = (are.are_knots k lt).closed in
+      let sides = count_same net.primitives other.primitives is.shapes in
+      record {
+        within = alike_weigh budget net other wired after (in_knot knots.numbers k) closed alike known.within;
+        first = record {
+          others = known.first.others;
+          items = known.first.items;
+          first = isolated net other wired after (in_knot knots.numbers k) closed alike turn known.first.others known.first.items known.first.first;
+          same = λ s s_in h. known.first.same s (omega (arith, sides)) h;
+        };
+        still = λ not. still_there rows (known.still not);
+      }
+
+-- What is known of a part, by the same rows, marks and budget.
+known_same : (budget limit : ℕ) (net : Net) (knots : Knotted) (turn : ℕ) (rows others : List ℕ) (moves goes : Bool) (k : ℕ) → limit ≡ budget → others ≡ rows → goes ≡ moves
+    → IsKnown budget net knots turn rows moves k → IsKnown limit net knots turn others goes k
+known_same budget limit net knots turn rows others moves goes k e f g known =
+    subst (λ (n : ℕ). IsKnown n net knots turn others goes k) (sym e)
+    (subst (λ (xs : List ℕ). IsKnown budget net knots turn xs goes k) (sym f)
+    (subst (λ (b : Bool). IsKnown budget net knots turn rows b k) (sym g) known))
+
+sizes_same : (sides parts : ℕ) (old new : Kept) → AreFewer old new → HasSizes sides parts old → HasSizes sides parts new
+sizes_same sides parts old new fewer sizes = record {
+  one_row = ap length fewer.rows ∙ sizes.one_row;
+  one_each = fewer.one_each ∙ sizes.one_each;
+  one_mark = ap length fewer.moving ∙ sizes.one_mark;
+}
+
+-- Where fewer parts are settled, all is kept.
+pub kept_fewer : (net : Net) (knots : Knotted) (turn : ℕ) (old new : Kept) → IsKept net knots turn old → AreFewer old new → IsKept net knots turn new
+kept_fewer net knots turn old new kept fewer = record {
+  sizes = sizes_same (side_count net) (knot_count knots) old new fewer kept.sizes;
+  known = λ k lt settled.
+      known_same old.budget new.budget net knots turn old.rows new.rows (is_moving old k) (is_moving new k) k fewer.budget fewer.rows (ap (λ (xs : List Bool). get_or xs k true) fewer.moving)
+      (kept.known k lt (fewer.fewer k settled));
+}
+
+pub kept_elsewhere : KeptElsewhere
+kept_elsewhere net other wired after knots are turn old new kept fewer is =
+    let here = kept_fewer net knots turn old new kept fewer in
+    let sides = count_same net.primitives other.primitives is.shapes in
+    record {
+      sizes = record { one_row = here.sizes.one_row ∙ sym sides; one_each = here.sizes.one_each; one_mark = here.sizes.one_mark };
+      known = λ k lt settled. known_there net other wired after knots are new is k lt settled new.budget turn new.rows (is_moving new k) (here.known k lt settled);
+    }
+
+-- Nothing flows by rows that are the same on a part.
+still_by : (net : Net) → IsWired net → (numbers : List ℕ) (k turn : ℕ) (rows : List ℕ) (has : HasFirst net numbers turn rows k) → IsStill net (in_knot numbers k) rows → IsStill net (in_knot numbers k) has.others
+still_by net wired numbers k turn rows has still e e_in h flows =
+    let place : ℕ = first_side net.primitives e.primitive + (behaviour_at net.primitives e.primitive).side_of e.end in
+    let s_in : side_at net e < side_count net = side_in_range net wired e e_in in
+    let same : get_or rows (side_at net e) 0 ≡ get_or has.others (side_at net e) 0 = has.same (side_at net e) s_in h in
+    let there : get_or rows place 0 ≡ get_or has.others place 0 = subst (λ (s : ℕ). get_or rows s 0 ≡ get_or has.others s 0) (side_at_place net e) same in
+    let marks : mark_at net rows e ≡ mark_at net has.others e =
+    mark_is net rows e ∙ ap (λ (row : ℕ). (behaviour_at net.primitives e.primitive).mark ((behaviour_at net.primitives e.primitive).side_of e.end) row e.end) there ∙ sym (mark_is net has.others e) in
+    still e e_in h (marks ∙ flows)
+
+pub kept_later : KeptLater
+kept_later net wired knots turn later old new kept unsettled =
+    let here = kept_fewer net knots turn old new kept unsettled.fewer in
+    record {
+      sizes = here.sizes;
+      known = λ k lt settled.
+          let known = here.known k lt settled in
+          let still = known.still (unsettled.still k settled) in
+          let others_still : IsStill net (in_knot knots.numbers k) known.first.others = still_by net wired knots.numbers k turn new.rows known.first still in
+          record {
+            within = known.within;
+            first = record {
+              others = known.first.others;
+              items = known.first.items;
+              first = still_stay_first net wired (in_knot knots.numbers k) turn later known.first.others known.first.items known.first.first others_still;
+              same = known.first.same;
+            };
+            still = λ _. still;
+          };
+    }

@@ -1,0 +1,50 @@
+-- The sides of a part.
+use Rattle.std.proofs.Common.{◌≡◌, ◌≢◌, ℕ, ◌<◌, ◌&&◌, Bool, true, false, List, length, get_or, sym, ◌∙◌, arith}
+use Rattle.std.specs.Prelude.{◌==◌, nat_lt}
+use Rattle.std.proofs.lemmas.Bool.Decides.{nat_tests}
+use Rattle.reo_net_base.specs.Net.{Net}
+use Rattle.reo_net_base.specs.Sides.{side_count}
+use Rattle.reo_net_laws.specs.Parts.{SameKnot}
+use Rattle.reo_net_laws.proofs.Sets.{and_left, and_right}
+use Rattle.reo_knots.specs.Knots.{AreNumbers, in_knot}
+
+below_true : (a b : ℕ) → nat_lt a b ≡ true → a < b
+below_true a b h = grind (arith, nat_tests)
+
+true_below : (a b : ℕ) → a < b → nat_lt a b ≡ true
+true_below a b h = grind (arith, nat_tests)
+
+eq_true : (a b : ℕ) → (a == b) ≡ true → a ≡ b
+eq_true a b h = grind (arith, nat_tests)
+
+true_eq : (a b : ℕ) → a ≡ b → (a == b) ≡ true
+true_eq a b h = grind (arith, nat_tests)
+
+both : (a b : Bool) → a ≡ true → b ≡ true → (a && b) ≡ true
+both a b h g = cc
+
+-- A side of a part has its number.
+pub number_is : (numbers : List ℕ) (k s : ℕ) → in_knot numbers k s ≡ true → get_or numbers s 0 ≡ k
+number_is numbers k s h = eq_true (get_or numbers s 0) k (and_right (nat_lt s (length numbers)) (get_or numbers s 0 == k) h)
+
+not_true : (t : Bool) → (t ≡ true → ⊥) → t ≡ false
+not_true true h = absurd (h (λ i. true))
+not_true false h = λ i. false
+
+-- A side of a part is in no other part.
+pub elsewhere : (numbers : List ℕ) (k m s : ℕ) → in_knot numbers k s ≡ true → m ≢ k → in_knot numbers m s ≡ false
+elsewhere numbers k m s h ne = not_true (in_knot numbers m s) (λ g. ne (sym (number_is numbers m s g) ∙ number_is numbers k s h))
+
+module _ (net : Net) (numbers : List ℕ) (count : ℕ) (are : AreNumbers (SameKnot net) (side_count net) numbers count) where
+  -- The sides of a part are sides of the circuit.
+  pub below : (k s : ℕ) → in_knot numbers k s ≡ true → s < side_count net
+  below k s h =
+      let lt = below_true s (length numbers) (and_left (nat_lt s (length numbers)) (get_or numbers s 0 == k) h) in
+      let n = are.one_each in
+      omega (arith, lt, n)
+
+  -- A side is in its own part.
+  pub in_own : (s k : ℕ) → s < side_count net → get_or numbers s 0 ≡ k → in_knot numbers k s ≡ true
+  in_own s k lt is =
+      let n = are.one_each in
+      both (nat_lt s (length numbers)) (get_or numbers s 0 == k) (true_below s (length numbers) (omega (arith, n))) (true_eq (get_or numbers s 0) k is)

@@ -1,0 +1,50 @@
+-- What is kept of the parts of a circuit.
+use Rattle.std.specs.Prelude.{ℕ, ◌<◌, ◌≡◌, Bool, true, false, ◌&&◌, List, length, nat_le, replicate, slice_index_or}
+use Rattle.reo_net_base.specs.Net.{Net}
+use Rattle.reo_net_base.specs.Sides.{side_count}
+use Rattle.reo_knots.specs.Knots.{Knotted, in_knot, knot_count}
+use Rattle.reo_still.specs.Joining.{HasFirst}
+use Rattle.reo_still.specs.Still.{IsStill}
+use Rattle.reo_weights.specs.Over.{IsWithin}
+use Rattle.reo_planning.specs.declared.kept.Kept.{Kept}
+
+-- Whether a part is settled: its rows are kept.
+abbrev pub is_settled : Kept → ℕ → Bool
+is_settled kept k = slice_index_or kept.settled k false
+
+-- Whether something may flow in a part by the rows that are kept.
+abbrev pub is_moving : Kept → ℕ → Bool
+is_moving kept k = slice_index_or kept.moving k true
+
+-- Whether the rows that are kept of a part serve for a budget.
+abbrev pub serves : Kept → ℕ → ℕ → Bool
+serves kept budget k = nat_le kept.budget budget && is_settled kept k
+
+-- The rows that are kept of so many parts, all of them, serve for a budget.
+abbrev pub AllServe : ℕ → ℕ → Kept → Type 0
+AllServe count budget kept = (k : ℕ) → k < count → serves kept budget k ≡ true
+
+-- A part is within a budget, rows there are those of its first assignment, and nothing flows in it
+-- unless it moves.
+pub record IsKnown (budget : ℕ) (net : Net) (knots : Knotted) (turn : ℕ) (rows : List ℕ)
+    (moves : Bool) (k : ℕ) : Type 0 where
+  pub within : IsWithin budget net (in_knot knots.numbers k)
+  pub first : HasFirst net knots.numbers turn rows k
+  pub still : moves ≡ false → IsStill net (in_knot knots.numbers k) rows
+
+-- A row for each of so many sides, and two marks for each of so many parts.
+pub record HasSizes (sides parts : ℕ) (kept : Kept) : Type 0 where
+  pub one_row : length kept.rows ≡ sides
+  pub one_each : length kept.settled ≡ parts
+  pub one_mark : length kept.moving ≡ parts
+
+-- What is kept is right in the round of a number: each part that is settled is known.
+pub record IsKept (net : Net) (knots : Knotted) (turn : ℕ) (kept : Kept) : Type 0 where
+  pub sizes : HasSizes (side_count net) (knot_count knots) kept
+  pub known : (k : ℕ) → k < knot_count knots → is_settled kept k ≡ true
+      → IsKnown kept.budget net knots turn kept.rows (is_moving kept k) k
+
+-- No part is settled.
+pub record IsFresh (sides parts : ℕ) (kept : Kept) : Type 0 where
+  pub sizes : HasSizes sides parts kept
+  pub none : kept.settled ≡ replicate parts false
