@@ -40,7 +40,14 @@ impl<P: Ported> Model for Engine<P> {
 
     ghost Value = { Running P };
 
-    ghost view = { λ e. record { circuit = e.circuit; rounds = e.rounds; changed = e.changed; knots = e.knots; ends = e.ends; kept = e.kept } };
+    ghost view = { λ e. record {
+      circuit = e.circuit;
+      rounds = e.rounds;
+      changed = e.changed;
+      knots = e.knots;
+      ends = e.ends;
+      kept = e.kept;
+    } };
 
     ghost invariant = { λ e. (e.rounds ≤ 2 ^ 63)
         × (length e.changed ≡ length e.circuit.primitives)

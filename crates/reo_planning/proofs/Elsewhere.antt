@@ -15,7 +15,7 @@ use Rattle.reo_still.specs.Still.{IsStill}
 use Rattle.reo_still.proofs.Rounds.{still_stay_first}
 use Rattle.reo_still_weights.proofs.WithinLemmas.{alike_weigh}
 use Rattle.reo_planning.specs.declared.kept.Kept.{Kept}
-use Rattle.reo_planning.specs.Keeping.{is_settled, is_moving, HasSizes, IsKnown, IsKept}
+use Rattle.reo_planning.specs.Keeping.{is_settled, is_moving, FlowsIn, HasSizes, IsKnown, IsKept}
 use Rattle.reo_planning.specs.Unsettling.{AreFewer, IsElsewhere, KeptElsewhere, KeptLater}
 use Rattle.reo_planning.proofs.KnotSets.{number_is}
 use Rattle.reo_planning.proofs.Shapes.{count_same}
@@ -51,19 +51,38 @@ module _ (net other : Net) (wired : IsWired net) (after : IsWired other) (knots 
     sides = λ i side i_in side_in h. same_side (behaviour_at net.primitives i) (behaviour_at other.primitives i) side (same_at i side i_in side_in h);
   }
 
+  -- At an end of the part, of which circuit it may be.
+  module _ (e : End) (p_in : e.primitive < length net.primitives) (end_in : e.end < (behaviour_at net.primitives e.primitive).ends) where
+    first : first_side other.primitives e.primitive ≡ first_side net.primitives e.primitive
+    first = first_same net.primitives other.primitives is.shapes e.primitive
+
+    place : side_at other e ≡ side_at net e
+    place = side_at_place other e ∙ (λ i. first i + (is.shapes.same e.primitive p_in).side_of e.end i) ∙ sym (side_at_place net e)
+
+    marks : (rows : List ℕ) → in_knot knots.numbers k (side_at net e) ≡ true → mark_at other rows e ≡ mark_at net rows e
+    marks rows h =
+        let b : Behaviour = behaviour_at net.primitives e.primitive in
+        let same : behaviour_at other.primitives e.primitive ≡ b =
+        same_at e.primitive (b.side_of e.end) p_in ((wired.lawful e.primitive p_in).sides_in e.end end_in) (ap (in_knot knots.numbers k) (sym (side_at_place net e)) ∙ h) in
+        mark_is other rows e ∙ (λ i. (same i).mark ((same i).side_of e.end) (get_or rows (first i + (same i).side_of e.end) 0) e.end) ∙ sym (mark_is net rows e)
+
   still_there : (rows : List ℕ) → IsStill net (in_knot knots.numbers k) rows → IsStill other (in_knot knots.numbers k) rows
   still_there rows still e e_in h flows =
       let p_in : e.primitive < length net.primitives = omega (arith, e_in.0, is.shapes.count) in
-      let shape = is.shapes.same e.primitive p_in in
-      let end_in : e.end < (behaviour_at net.primitives e.primitive).ends = subst (λ (n : ℕ). e.end < n) shape.ends e_in.1 in
-      let b : Behaviour = behaviour_at net.primitives e.primitive in
-      let first : first_side other.primitives e.primitive ≡ first_side net.primitives e.primitive = first_same net.primitives other.primitives is.shapes e.primitive in
-      let place : side_at other e ≡ first_side net.primitives e.primitive + b.side_of e.end = side_at_place other e ∙ (λ i. first i + shape.side_of e.end i) in
-      let here : in_knot knots.numbers k (first_side net.primitives e.primitive + b.side_of e.end) ≡ true = ap (in_knot knots.numbers k) (sym place) ∙ h in
-      let same : behaviour_at other.primitives e.primitive ≡ b = same_at e.primitive (b.side_of e.end) p_in ((wired.lawful e.primitive p_in).sides_in e.end end_in) here in
-      let marks : mark_at other rows e ≡ mark_at net rows e =
-      mark_is other rows e ∙ (λ i. (same i).mark ((same i).side_of e.end) (get_or rows (first i + (same i).side_of e.end) 0) e.end) ∙ sym (mark_is net rows e) in
-      still e (p_in, end_in) (ap (in_knot knots.numbers k) (side_at_place net e) ∙ here) (sym marks ∙ flows)
+      let end_in : e.end < (behaviour_at net.primitives e.primitive).ends = subst (λ (n : ℕ). e.end < n) (is.shapes.same e.primitive p_in).ends e_in.1 in
+      let here : in_knot knots.numbers k (side_at net e) ≡ true = ap (in_knot knots.numbers k) (sym (place e p_in end_in)) ∙ h in
+      still e (p_in, end_in) here (sym (marks e p_in end_in rows here) ∙ flows)
+
+  flows_there : (rows : List ℕ) → FlowsIn net (in_knot knots.numbers k) rows → FlowsIn other (in_knot knots.numbers k) rows
+  flows_there rows flow =
+      let e : End = flow.end in
+      let e_in = flow.is_end in
+      record {
+        end = e;
+        is_end = (omega (arith, e_in.0, is.shapes.count), subst (λ (n : ℕ). e.end < n) (sym (is.shapes.same e.primitive e_in.0).ends) e_in.1);
+        here = ap (in_knot knots.numbers k) (place e e_in.0 e_in.1) ∙ flow.here;
+        flows = marks e e_in.0 e_in.1 rows flow.here ∙ flow.flows;
+      }
 
   known_there : (budget turn : ℕ) (rows : List ℕ) (moves : Bool) → IsKnown budget net knots turn rows moves k → IsKnown budget other knots turn rows moves k
   known_there budget turn rows moves known =
@@ -78,6 +97,7 @@ module _ (net other : Net) (wired : IsWired net) (after : IsWired other) (knots 
           same = λ s s_in h. known.first.same s (omega (arith, sides)) h;
         };
         still = λ not. still_there rows (known.still not);
+        flows = λ moves. flows_there rows (known.flows moves);
       }
 
 -- What is known of a part, by the same rows, marks and budget.
@@ -142,5 +162,6 @@ kept_later net wired knots turn later old new kept unsettled =
               same = known.first.same;
             };
             still = λ _. still;
+            flows = known.flows;
           };
     }

@@ -21,11 +21,13 @@ clear_still (f ∷ fs) zero (suc k) h = h
 clear_still (f ∷ fs) (suc i) zero h = h
 clear_still (f ∷ fs) (suc i) (suc k) h = clear_still fs i k h
 
-not_both : (b : Bool) → b ≡ false → b ≡ true → ⊥
+-- No flag is both set and clear.
+pub not_both : (b : Bool) → b ≡ false → b ≡ true → ⊥
 not_both true h g = cc
 not_both false h g = cc
 
-true_or_false : (b : Bool) → (b ≡ true) ⊎ (b ≡ false)
+-- A flag is set or clear.
+pub true_or_false : (b : Bool) → (b ≡ true) ⊎ (b ≡ false)
 true_or_false true = inl refl
 true_or_false false = inr refl
 

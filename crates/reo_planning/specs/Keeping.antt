@@ -1,7 +1,10 @@
 -- What is kept of the parts of a circuit.
 use Rattle.std.specs.Prelude.{ℕ, ◌<◌, ◌≡◌, Bool, true, false, ◌&&◌, List, length, nat_le, replicate, slice_index_or}
-use Rattle.reo_net_base.specs.Net.{Net}
+use Rattle.reo_net_base.specs.declared.joint.End.{End}
+use Rattle.reo_net_base.specs.declared.mark.Mark.TheVariants.{F}
+use Rattle.reo_net_base.specs.Net.{Net, side_at, mark_at}
 use Rattle.reo_net_base.specs.Sides.{side_count}
+use Rattle.reo_net_base.specs.Wired.{IsEnd}
 use Rattle.reo_knots.specs.Knots.{Knotted, in_knot, knot_count}
 use Rattle.reo_still.specs.Joining.{HasFirst}
 use Rattle.reo_still.specs.Still.{IsStill}
@@ -12,7 +15,7 @@ use Rattle.reo_planning.specs.declared.kept.Kept.{Kept}
 abbrev pub is_settled : Kept → ℕ → Bool
 is_settled kept k = slice_index_or kept.settled k false
 
--- Whether something may flow in a part by the rows that are kept.
+-- Whether something flows in a part by the rows that are kept.
 abbrev pub is_moving : Kept → ℕ → Bool
 is_moving kept k = slice_index_or kept.moving k true
 
@@ -24,13 +27,21 @@ serves kept budget k = nat_le kept.budget budget && is_settled kept k
 abbrev pub AllServe : ℕ → ℕ → Kept → Type 0
 AllServe count budget kept = (k : ℕ) → k < count → serves kept budget k ≡ true
 
--- A part is within a budget, rows there are those of its first assignment, and nothing flows in it
--- unless it moves.
+-- Some end of a set of sides flows.
+pub record FlowsIn (net : Net) (inside : ℕ → Bool) (rows : List ℕ) : Type 0 where
+  pub end : End
+  pub is_end : IsEnd net.primitives end
+  pub here : inside (side_at net end) ≡ true
+  pub flows : mark_at net rows end ≡ F
+
+-- A part is within a budget, rows there are those of its first assignment, and something flows in
+-- it exactly where it moves.
 pub record IsKnown (budget : ℕ) (net : Net) (knots : Knotted) (turn : ℕ) (rows : List ℕ)
     (moves : Bool) (k : ℕ) : Type 0 where
   pub within : IsWithin budget net (in_knot knots.numbers k)
   pub first : HasFirst net knots.numbers turn rows k
   pub still : moves ≡ false → IsStill net (in_knot knots.numbers k) rows
+  pub flows : moves ≡ true → FlowsIn net (in_knot knots.numbers k) rows
 
 -- A row for each of so many sides, and two marks for each of so many parts.
 pub record HasSizes (sides parts : ℕ) (kept : Kept) : Type 0 where

@@ -41,12 +41,14 @@ impl Kept {
         self.budget = budget;
     }
 
-    /// The parts of the sides of a primitive are not settled any more. This takes no memory.
+    /// The parts of the sides of a primitive are not settled any more, and all others are as they
+    /// were. This takes no memory.
     pub fn unsettle<P: Primitive>(&mut self, circuit: &Circuit<P>, knots: &Knots, primitive: usize)
         requires knots { AreKnots (net_of P.behaviour circuit.now) knots.now }
         requires one_each { length self.old.settled ≡ knot_count knots.now }
         requires primitive { primitive < length circuit.now.primitives }
-        ensures { IsUnsettled (net_of P.behaviour circuit.now) knots.now primitive self.old self.new }
+        ensures { let net = net_of P.behaviour circuit.now in
+            IsUnsettled net knots.now primitive self.old self.new }
     {
         circuit.known();
         let _count = circuit.sides();
@@ -77,8 +79,8 @@ impl Kept {
         }
     }
 
-    /// The parts that may move by the rows that are kept are not settled any more. This takes no
-    /// memory.
+    /// The parts in which something flows by the rows that are kept are not settled any more. This
+    /// takes no memory.
     pub fn unsettle_moving(&mut self)
         requires { length self.old.settled ≡ length self.old.moving }
         ensures { AreMovingUnsettled self.old self.new }

@@ -9,7 +9,7 @@ use std::alloc::Global;
 
 /// What is kept of the parts of a circuit: a row for each side, of which those on settled parts are
 /// the rows of their first assignments; for each part whether it is settled, and whether something
-/// may flow in it by these rows; and a budget within which the settled parts are.
+/// flows in it by these rows; and a budget within which the settled parts are.
 #[derive(Drop)]
 pub struct Kept {
     pub(crate) rows: List<u32>,

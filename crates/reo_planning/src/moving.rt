@@ -5,7 +5,7 @@ ghost use Rattle.reo_net_base.specs.Colouring.{RowsFit};
 ghost use Rattle.reo_net_base.specs.Sides.{AreRowsOf};
 ghost use Rattle.reo_knots.specs.Knots.{AreKnots, in_knot, knot_count};
 ghost use Rattle.reo_still.specs.Still.{IsStill};
-ghost use Rattle.reo_planning.specs.Marked.{IsJointMarked};
+ghost use Rattle.reo_planning.specs.Marked.{AllFlow, IsJointMarked};
 
 use crate::flags::set_all;
 use reo_knots::Knots;
@@ -25,18 +25,18 @@ fn mark_joint<P: Primitive>(
     requires rows { AreRowsOf (net_of P.behaviour circuit.now) rows.now }
     requires joint { joint < length circuit.now.joints }
     requires one_each { length moving.old ≡ knot_count knots.now }
-    ensures { IsJointMarked (net_of P.behaviour circuit.now) knots.now rows.now joint moving.old moving.new }
+    ensures { let net = net_of P.behaviour circuit.now in
+        IsJointMarked net knots.now rows.now joint moving.old moving.new }
 {
     circuit.known();
     let giver = circuit.joint(joint).giver;
     let side = circuit.side_of(giver);
-    if circuit.mark_at(rows, giver) == Mark::F {
+    if let Mark::F = circuit.mark_at(rows, giver) {
         *moving.at_mut(knots.knot_of(side)) = true;
     }
 }
 
-/// Marks the parts in which something flows by these rows: nothing flows in a part that is not
-/// marked.
+/// Marks exactly the parts in which something flows by these rows.
 pub(crate) fn mark_moving<P: Primitive>(
     circuit: &Circuit<P>,
     knots: &Knots,
@@ -50,6 +50,7 @@ pub(crate) fn mark_moving<P: Primitive>(
     ensures still { let net = net_of P.behaviour circuit.now in
         (k : ℕ) → k < knot_count knots.now → slice_index_or moving.new k true ≡ false
         → IsStill net (in_knot knots.now.numbers k) rows.now }
+    ensures flow { AllFlow (net_of P.behaviour circuit.now) knots.now rows.now moving.new }
 {
     circuit.known();
     set_all(moving, false);

@@ -46,8 +46,8 @@ fn search_part<P: Primitive, L: Ledger>(
         MatchResult result (λ _. IsPartPlanned budget net knots.now turn knot rows.old rows.new)
         (IsPartFault budget net (in_knot knots.now.numbers knot) knot) }
     ensures tables { OnOk result (AreReady (net_of P.behaviour circuit.now) ends.now tables.new) }
-    ensures ticks { (w : ℕ) → IsWeight (net_of P.behaviour circuit.now) (in_knot knots.now.numbers knot) w
-        → steps.new ≤ steps.old + w }
+    ensures ticks { let net = net_of P.behaviour circuit.now in
+        (w : ℕ) → IsWeight net (in_knot knots.now.numbers knot) w → steps.new ≤ steps.old + w }
 {
     match first_with(
         alloc,
@@ -97,7 +97,8 @@ pub(crate) fn plan_part<P: Primitive, L: Ledger>(
         MatchResult result (λ _. IsPartPlanned budget net knots.now turn knot rows.old rows.new)
         (IsPartFault budget net (in_knot knots.now.numbers knot) knot) }
     ensures tables { OnOk result (AreReady (net_of P.behaviour circuit.now) ends.now tables.new) }
-    ensures ticks { (w : ℕ) → IsWeight (net_of P.behaviour circuit.now) (in_knot knots.now.numbers knot) w
+    ensures ticks { let net = net_of P.behaviour circuit.now in
+        (w : ℕ) → IsWeight net (in_knot knots.now.numbers knot) w
         → steps.new ≤ steps.old + cond (serves kept.now budget knot) 0 w }
     ensures none { serves kept.now budget knot ≡ true → steps.new ≡ steps.old }
 {

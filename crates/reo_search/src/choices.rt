@@ -42,7 +42,8 @@ fn lesser(best: Option<List<usize>>, found: Option<List<usize>>) -> Option<List<
     }
 }
 
-/// The numbers of the first assignment that has these values at the loop joints: `None` exactly where there is none. It ticks once.
+/// The numbers of the first assignment that has these values at the loop joints: `None` exactly
+/// where there is none. It ticks once.
 fn try_choice<P: Primitive, L: Ledger>(
     alloc: Global,
     circuit: &Circuit<P>,
@@ -92,9 +93,9 @@ fn push_single(left: &List<List<usize>>, codes: &mut List<usize>) -> Result<(), 
     Ok(())
 }
 
-/// The numbers of the first assignment that has these values at the first loop joints, where each of what is left at the others is
-/// tried: `None` exactly where there is none. It ticks at most as many times as there are choices. It calls itself only where more than
-/// one value is left.
+/// The numbers of the first assignment that has these values at the first loop joints, where each
+/// of what is left at the others is tried: `None` exactly where there is none. It ticks at most as
+/// many times as there are choices. It calls itself only where more than one value is left.
 pub(crate) fn first_over<P: Primitive, L: Ledger>(
     alloc: Global,
     circuit: &Circuit<P>,

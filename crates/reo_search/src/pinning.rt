@@ -86,7 +86,8 @@ fn pin_and_wake<P: Primitive>(
     Ok(())
 }
 
-/// Leaves one value alone at each of some joints, the one of its number. `NoMemory` is out of memory.
+/// Leaves one value alone at each of some joints, the one of its number. `NoMemory` is out of
+/// memory.
 pub(crate) fn pin<P: Primitive>(
     circuit: &Circuit<P>,
     boards: &List<Board>,

@@ -38,8 +38,8 @@ use reo_values::{List, NoMemory, Value};
 use std::alloc::Global;
 use std::sync::ledger::Ledger;
 
-/// The numbers of the first assignment, where a walk over what is left finds it. `None` says nothing: then each value at the loop
-/// joints is to be tried. `NoMemory` is out of memory.
+/// The numbers of the first assignment, where a walk over what is left finds it. `None` says
+/// nothing: then each value at the loop joints is to be tried. `NoMemory` is out of memory.
 fn first_by_walk<P: Primitive>(
     alloc: Global,
     circuit: &Circuit<P>,
@@ -77,8 +77,8 @@ fn first_by_walk<P: Primitive>(
     }
 }
 
-/// The numbers of the first assignment. It ticks at most as many times as there are choices of what is left at the loop joints, and not
-/// at all where a walk finds it. `NoMemory` is out of memory.
+/// The numbers of the first assignment. It ticks at most as many times as there are choices of what
+/// is left at the loop joints, and not at all where a walk finds it. `NoMemory` is out of memory.
 fn first_numbers<P: Primitive, L: Ledger>(
     alloc: Global,
     circuit: &Circuit<P>,
@@ -124,8 +124,8 @@ fn first_numbers<P: Primitive, L: Ledger>(
     }
 }
 
-/// The weight of a knot of which no joint is wide: the product over its loop joints of the numbers of values supported there, at most
-/// 10^18. `NoMemory` is out of memory.
+/// The weight of a knot of which no joint is wide: the product over its loop joints of the numbers
+/// of values supported there, at most 10^18. `NoMemory` is out of memory.
 pub fn weight<P: Primitive>(
     alloc: Global,
     circuit: &Circuit<P>,
@@ -153,8 +153,9 @@ pub fn weight<P: Primitive>(
     Ok(weight_of(&left))
 }
 
-/// What `first` answers, over tables that were made before: boards and ends of the circuit, and a search that was begun, at any sides.
-/// Of the supply only the joints of the knot are looked at. It costs what the knot has.
+/// What `first` answers, over tables that were made before: boards and ends of the circuit, and a
+/// search that was begun, at any sides. Of the supply only the joints of the knot are looked at. It
+/// costs what the knot has.
 ///
 /// # Errors
 ///
@@ -219,13 +220,15 @@ pub fn first_with<P: Primitive, L: Ledger>(
     Ok(part_of(alloc, circuit, sides, chosen.as_slice())?)
 }
 
-/// The rows that the first colouring of the circuit, in the round of a number, has on the sides of a knot. The part is jammed exactly
-/// where the knot has no colouring without a jam. It makes at most as many ticks as the weight of the knot says.
+/// The rows that the first colouring of the circuit, in the round of a number, has on the sides of
+/// a knot. The part is jammed exactly where the knot has no colouring without a jam. It makes at
+/// most as many ticks as the weight of the knot says.
 ///
 /// # Errors
 ///
-/// The first of these that holds: `Wide`, exactly where more than 256 items can stand at a joint of the knot; `Spent`, exactly where the
-/// weight of the knot is above the budget. `NoMemory` is out of memory.
+/// The first of these that holds: `Wide`, exactly where more than 256 items can stand at a joint of
+/// the knot; `Spent`, exactly where the weight of the knot is above the budget. `NoMemory` is out
+/// of memory.
 pub fn first<P: Primitive, L: Ledger>(
     alloc: Global,
     circuit: &Circuit<P>,

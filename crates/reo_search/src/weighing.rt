@@ -74,7 +74,8 @@ fn times(weight: u64, count: usize) -> u64
     }
 }
 
-/// How many choices there are of one of each list, at most the greatest weight. This takes no memory.
+/// How many choices there are of one of each list, at most the greatest weight. This takes no
+/// memory.
 pub(crate) fn weight_of(left: &List<List<usize>>) -> u64
     ensures { result ≡ capped (choices_of left.now) }
 {
@@ -85,7 +86,8 @@ pub(crate) fn weight_of(left: &List<List<usize>>) -> u64
     weight
 }
 
-/// Narrows all values at these sides, and tells what is left at some joints. `NoMemory` is out of memory.
+/// Narrows all values at these sides, and tells what is left at some joints. `NoMemory` is out of
+/// memory.
 pub(crate) fn narrow_all<P: Primitive>(
     alloc: Global,
     circuit: &Circuit<P>,

@@ -1,4 +1,4 @@
-use Rattle.std.proofs.Common.{◌≡◌, ◌∙◌, ◌+◌, ◌<◌, ℕ, List, [], ◌∷◌, length, get_or, ap, sym, subst, arith, length-append}
+use Rattle.std.proofs.Common.{◌≡◌, ◌∙◌, ◌<◌, ℕ, List, [], ◌∷◌, length, ap, sym, subst, arith, length-append}
 use Rattle.std.proofs.lemmas.List.{get_or_default}
 use Rattle.reo_search.specs.Trying.{AreSingles}
 use Rattle.reo_search.proofs.Singles.{singles_none, singles_more}
