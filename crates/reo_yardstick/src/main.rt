@@ -77,9 +77,21 @@ fn compare_all<L: Ledger>(rt: &HostRuntime, blank: Blank) -> io::Result<()>
     for _ in 0..200 {
         compare(rt, &mut steps, &mut chance, &mut tally)?;
     }
-    let Tally { refused, circuits, rounds, idle, jammed, parts, loops, heavy } = tally;
-    println!(rt; "{circuits} circuits, {refused} texts refused; {rounds} rounds, {idle} idle, {jammed} with a jam; \
-{parts} parts, {loops} with loop joints, {heavy} of a weight above 1: none differs")
+    let Tally {
+        refused,
+        circuits,
+        rounds,
+        idle,
+        jammed,
+        parts,
+        loops,
+        heavy,
+        greatest,
+    } = tally;
+    println!(rt;
+        "{circuits} circuits, {refused} texts refused; {rounds} rounds, {idle} idle, {jammed} with a jam; \
+{parts} parts, {loops} with loop joints, {heavy} of a weight above 1, {greatest} at most: none differs"
+    )
 }
 
 fn main(rt: HostRuntime) -> io::Result<()> {

@@ -16,23 +16,23 @@ use reo_values::NoMemory;
 use std::alloc::Global;
 use std::sync::ledger::Ledger;
 
-/// Whether the weight of a part is above 1: a budget of 1 is spent.
-fn is_heavy<L: Ledger>(
+/// The weight of a part, which is told where a budget of 1 is spent.
+fn weight_of<L: Ledger>(
     alloc: Global,
     circuit: &Circuit<Kind>,
     knots: &Knots,
     supply: &Supply,
     knot: usize,
     steps: &mut Steps<L>,
-) -> bool
+) -> u64
     requires knots { AreKnots (net_of behaviour_of circuit.now) knots.now }
     requires knot { knot < knot_count knots.now }
     requires supply { IsSupply (net_of behaviour_of circuit.now) supply.now }
     requires short { AreShort supply.now }
 {
     match first(alloc, circuit, knots, supply, knot, 1, 1, steps) {
-        Err(SearchFault::Spent { .. }) => true,
-        _ => false,
+        Err(SearchFault::Spent { weight, .. }) => weight,
+        _ => 1,
     }
 }
 
@@ -48,8 +48,9 @@ pub fn count_parts<L: Ledger>(
     for knot in 0..knots.count() {
         count(&mut tally.parts, true);
         count(&mut tally.loops, !knots.loop_joints(knot).is_empty());
-        let heavy = is_heavy(alloc, circuit, &knots, &supply, knot, steps);
-        count(&mut tally.heavy, heavy);
+        let weight = weight_of(alloc, circuit, &knots, &supply, knot, steps);
+        count(&mut tally.heavy, 1 < weight);
+        tally.greatest = tally.greatest.max(weight);
     }
     Ok(())
 }

@@ -17,6 +17,8 @@ pub struct Tally {
     pub loops: u64,
     /// Parts of a weight above 1.
     pub heavy: u64,
+    /// The greatest weight.
+    pub greatest: u64,
 }
 
 /// Nothing was compared.
@@ -30,6 +32,7 @@ pub fn empty_tally() -> Tally {
         parts: 0,
         loops: 0,
         heavy: 0,
+        greatest: 0,
     }
 }
 

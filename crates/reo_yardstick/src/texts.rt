@@ -3,19 +3,47 @@ use crate::chance::Chance;
 use std::alloc::{AllocError, Global};
 
 /// The front of a circuit text, the nodes from which channels go, and those to which they go.
-type Frame = (&'static str, &'static [&'static str], &'static [&'static str]);
+type Frame = (
+    &'static str,
+    &'static [&'static str],
+    &'static [&'static str],
+);
 
 /// Fronts with two to four ports and up to two nodes between them.
 const FRAMES: &[Frame] = &[
     ("in a: t, out b: t) {", &[" a"], &[" b"]),
-    ("in a: t, out b: t) { node m: t;", &[" a", " m"], &[" m", " b"]),
-    ("in a: t, out b: t) { node m: t; node n: t;", &[" a", " m", " n"], &[" m", " n", " b"]),
+    (
+        "in a: t, out b: t) { node m: t;",
+        &[" a", " m"],
+        &[" m", " b"],
+    ),
+    (
+        "in a: t, out b: t) { node m: t; node n: t;",
+        &[" a", " m", " n"],
+        &[" m", " n", " b"],
+    ),
     ("in a: t, in c: t, out b: t) {", &[" a", " c"], &[" b"]),
-    ("in a: t, in c: t, out b: t) { node m: t;", &[" a", " m", " c"], &[" m", " b"]),
+    (
+        "in a: t, in c: t, out b: t) { node m: t;",
+        &[" a", " m", " c"],
+        &[" m", " b"],
+    ),
     ("in a: t, out b: t, out d: t) {", &[" a"], &[" b", " d"]),
-    ("in a: t, out b: t, out d: t) { node m: t;", &[" a", " m"], &[" m", " d", " b"]),
-    ("in a: t, in c: t, out b: t, out d: t) {", &[" a", " c"], &[" b", " d"]),
-    ("in a: t, in c: t, out b: t, out d: t) { node m: t;", &[" a", " m", " c"], &[" m", " b", " d"]),
+    (
+        "in a: t, out b: t, out d: t) { node m: t;",
+        &[" a", " m"],
+        &[" m", " d", " b"],
+    ),
+    (
+        "in a: t, in c: t, out b: t, out d: t) {",
+        &[" a", " c"],
+        &[" b", " d"],
+    ),
+    (
+        "in a: t, in c: t, out b: t, out d: t) { node m: t;",
+        &[" a", " m", " c"],
+        &[" m", " b", " d"],
+    ),
 ];
 
 /// The words of channels before and behind their nodes. The first two take at both nodes.
@@ -47,7 +75,12 @@ fn chosen(chance: &mut Chance, nodes: &[&'static str], place: usize) -> &'static
 }
 
 /// Writes a channel between two nodes.
-fn put_channel(text: &mut String, chance: &mut Chance, frame: &Frame, place: usize) -> Result<(), AllocError> {
+fn put_channel(
+    text: &mut String,
+    chance: &mut Chance,
+    frame: &Frame,
+    place: usize,
+) -> Result<(), AllocError> {
     let (_, sources, targets) = *frame;
     let channel = chance.below(CHANNELS.len());
     let (word, behind) = CHANNELS[channel];
