@@ -74,7 +74,7 @@ fn compare_all<L: Ledger>(rt: &HostRuntime, blank: Blank) -> io::Result<()>
     let mut steps = Steps::<L>::new(blank);
     let mut chance = Chance::new(1);
     let mut tally = empty_tally();
-    for _ in 0..200 {
+    for _ in 0..100 {
         compare(rt, &mut steps, &mut chance, &mut tally)?;
     }
     let Tally {
@@ -89,8 +89,9 @@ fn compare_all<L: Ledger>(rt: &HostRuntime, blank: Blank) -> io::Result<()>
         greatest,
     } = tally;
     println!(rt;
-        "{circuits} circuits, {refused} texts refused; {rounds} rounds, {idle} idle, {jammed} with a jam; \
-{parts} parts, {loops} with loop joints, {heavy} of a weight above 1, {greatest} at most: none differs"
+        "{circuits} circuits, {refused} texts passed over; \
+{rounds} rounds, {idle} idle, {jammed} with a jam; {parts} parts, {loops} with loop joints, \
+{heavy} of a weight above 1, {greatest} at most: none differs"
     )
 }
 

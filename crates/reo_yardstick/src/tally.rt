@@ -3,7 +3,7 @@
 /// How much was compared, and what came about.
 #[derive(Drop)]
 pub struct Tally {
-    /// Texts that are no circuits.
+    /// Texts that are no circuits, or too large ones.
     pub refused: u64,
     pub circuits: u64,
     pub rounds: u64,
