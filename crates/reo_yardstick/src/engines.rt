@@ -49,7 +49,7 @@ fn circuit_of(alloc: Global, text: &[u8]) -> Option<Circuit<Kind>>
 }
 
 /// The most sides of a circuit that the plain search is given.
-const MOST_SIDES: usize = 10;
+const MOST_SIDES: usize = 11;
 
 /// An engine on the flat circuit of a short text, where that is none that is refused, nor one with
 /// too many sides for the plain search.

@@ -74,7 +74,7 @@ fn compare_all<L: Ledger>(rt: &HostRuntime, blank: Blank) -> io::Result<()>
     let mut steps = Steps::<L>::new(blank);
     let mut chance = Chance::new(1);
     let mut tally = empty_tally();
-    for _ in 0..100 {
+    for _ in 0..1000 {
         compare(rt, &mut steps, &mut chance, &mut tally)?;
     }
     let Tally {
