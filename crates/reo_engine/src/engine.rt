@@ -23,8 +23,7 @@ use std::marker::Model;
 ///
 /// And it keeps the rows of parts that `prepare` looked at, as long as nothing in them changes: such
 /// a part is settled, and is not searched again. A knot of the circuit is a part. The tables of
-/// their search are kept too: `prepare` makes what they have of a part anew only where the part is
-/// not settled.
+/// the search are kept too: what they have of a part is made anew only where it is not settled.
 #[derive(Drop)]
 pub struct Engine<P: Ported> {
     pub(crate) circuit: Circuit<P>,

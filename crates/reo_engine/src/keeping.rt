@@ -20,8 +20,8 @@ impl<P: Ported> Engine<P> {
     /// settled, and `plan` with this or a greater budget makes no tick until something changes.
     /// Where they are settled already nothing changes, and it takes no memory.
     ///
-    /// It makes the tables of a search anew only for parts that are not settled. After a fault it
-    /// has none, and makes them all when it is called again.
+    /// The tables of the search are made anew only for parts that are not settled; the first time,
+    /// and after a fault, they are made for the whole circuit.
     ///
     /// It makes at most as many ticks as `plan` would. All but what is kept stays as it was, and
     /// after a fault the engine is as it was.

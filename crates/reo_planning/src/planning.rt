@@ -112,7 +112,7 @@ fn rows_by_parts<P: Primitive, L: Ledger>(
 /// as many ticks as the weights of those say together.
 ///
 /// The tables are kept from round to round: only what they have of parts that are not settled is
-/// made anew. Where there are none yet, they are made; after a fault there are none.
+/// made anew. Where there are none they are made for the whole circuit; after a fault there are none.
 ///
 /// # Errors
 ///
