@@ -26,5 +26,5 @@ returns g c =
     let over = c.begins-begins.ensures ∙ ap (λ (ps : List Player). cond (all_done ps) (Some (Done 0)) None) c.in_ok-players.ensures in
     let start : Place g.row.P.Denot = start_of c.args.circuit c.args.script.components in
     let same : record { state = record { circuit = c.in_ok-engine.engine.circuit; players = c.in_ok-players.players }; over = c.begins-begins.result } ≡ start =
-        λ i. record { state = record { circuit = c.in_ok-engine.ensures.circuit i; players = c.in_ok-players.ensures i }; over = over i } in
+    λ i. record { state = record { circuit = c.in_ok-engine.ensures.circuit i; players = c.in_ok-players.ensures i }; over = over i } in
     subst (λ (s : Place g.row.P.Denot). MatchResult c.replay_rounds.result (AreReplayed r s c.args.rounds.now) (IsHalted r c.args.nodes.now c.args.homes.now s c.args.rounds.now)) same c.replay_rounds.ensures
