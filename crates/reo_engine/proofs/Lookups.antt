@@ -16,10 +16,13 @@ use Rattle.reo_planning.specs.declared.kept.Kept.{Kept}
 use Rattle.reo_planning.specs.Keeping.{is_settled, IsKept}
 use Rattle.reo_planning.specs.Unsettling.{AreFewer, AreMarkedUnsettled, AreMovingUnsettled, IsElsewhere, IsUnsettled, part_at}
 use Rattle.reo_planning.proofs.Elsewhere.{kept_elsewhere, kept_fewer, kept_later}
+use Rattle.reo_planning.proofs.KeptTables.{tables_elsewhere}
 use Rattle.reo_planning.proofs.Setting.{fewer_none, fewer_twice}
 use Rattle.reo_planning.proofs.Shapes.{knots_stay}
+use Rattle.reo_tables.specs.declared.tables.Tables.{Tables}
+use Rattle.reo_tables.proofs.Sorted.{orders_stay}
 use Rattle.reo_engine.specs.Changes.{is_changed, OthersStay}
-use Rattle.reo_engine.specs.Engine.{IsLookedUp}
+use Rattle.reo_engine.specs.Engine.{AreHeld, IsLookedUp}
 use Rattle.reo_engine.specs.Settled.{StaySettled}
 
 not_both : (b : Bool) → b ≡ false → b ≡ true → ⊥
@@ -51,6 +54,14 @@ looked_up_elsewhere net other wired after later knots ends old new are_knots are
   is_kept = kept_elsewhere net other wired after knots are_knots (later + 1) old new is_kept fewer is;
 }
 
+-- What is held beside stays right there.
+held_elsewhere : (net other : Net) → IsWired net → (knots : Knotted) (old new : Kept) (orders : List (List ℕ)) (tables : Option Tables)
+    → AreKnots net knots → AreHeld net knots old orders tables → AreFewer old new → IsElsewhere net other knots new → AreHeld other knots new orders tables
+held_elsewhere net other wired knots old new orders tables are_knots held fewer is = record {
+  are_orders = orders_stay net other wired is.joints is.shapes knots orders held.are_orders;
+  may_be_kept = tables_elsewhere net other wired knots are_knots old new fewer is tables held.may_be_kept;
+}
+
 module _ {P : Type 0} (behaviour : P → Behaviour) where
   -- Where one primitive changes, the others behave as before.
   change_other : (f : P → P) (ps : List P) (port i : ℕ) → i ≢ port → behaviour_at (map behaviour (change_at f ps port)) i ≡ behaviour_at (map behaviour ps) i
@@ -70,14 +81,13 @@ module _ {P : Type 0} (behaviour : P → Behaviour) where
   behaviour_is (p ∷ ps) zero = refl
   behaviour_is (p ∷ ps) (suc i) = behaviour_is ps i
 
-  -- What is looked up stays right where one primitive changes, once the parts of its sides are unsettled.
-  pub one_changes : (old new : Wiring P) (f : P → P) (port : ℕ) → IsWired (net_of behaviour old) → IsWired (net_of behaviour new) → SameNetShape behaviour old new
-      → new ≡ record old { primitives = change_at f old.primitives port } → (rounds : ℕ) (knots : Knotted) (ends : List (List ℕ)) (kept now : Kept)
-      → IsLookedUp (net_of behaviour old) rounds knots ends kept → IsUnsettled (net_of behaviour old) knots port kept now → IsLookedUp (net_of behaviour new) rounds knots ends now
-  one_changes old new f port wired after shape is rounds knots ends kept now looked unsettled =
+  -- Where one primitive changes, nothing changes at a part that is still settled once the parts of its sides are unsettled.
+  one_elsewhere : (old new : Wiring P) (f : P → P) (port : ℕ) → SameNetShape behaviour old new
+      → new ≡ record old { primitives = change_at f old.primitives port } → (knots : Knotted) (kept now : Kept)
+      → IsUnsettled (net_of behaviour old) knots port kept now → IsElsewhere (net_of behaviour old) (net_of behaviour new) knots now
+  one_elsewhere old new f port shape is knots kept now unsettled =
       let net : Net = net_of behaviour old in
-      let other : Net = net_of behaviour new in
-      looked_up_elsewhere net other wired after rounds knots ends kept now looked.are_knots looked.are_ends looked.is_kept unsettled.fewer record {
+      record {
         joints = shape.joints;
         shapes = shape.primitives;
         same = λ i side i_in side_in settled. elim (eq_cases i port) [
@@ -89,18 +99,30 @@ module _ {P : Type 0} (behaviour : P → Behaviour) where
         ];
       }
 
-  -- What is looked up stays right over a round, once the parts that it marks and those that move are unsettled.
-  pub round_made : (old new : Wiring P) (marks : List Bool) → IsWired (net_of behaviour old) → IsWired (net_of behaviour new) → SameNetShape behaviour old new
-      → OthersStay marks old.primitives new.primitives → length marks ≡ length old.primitives → (rounds : ℕ) (knots : Knotted) (ends : List (List ℕ)) (kept some now : Kept)
-      → IsLookedUp (net_of behaviour old) rounds knots ends kept → AreMarkedUnsettled (net_of behaviour old) knots marks (length marks) kept some → AreMovingUnsettled some now
-      → IsLookedUp (net_of behaviour new) (rounds + 1) knots ends now
-  round_made old new marks wired after shape stay one_each rounds knots ends kept some now looked marked moving =
+  -- What is looked up stays right where one primitive changes, once the parts of its sides are unsettled.
+  pub one_changes : (old new : Wiring P) (f : P → P) (port : ℕ) → IsWired (net_of behaviour old) → IsWired (net_of behaviour new) → SameNetShape behaviour old new
+      → new ≡ record old { primitives = change_at f old.primitives port } → (rounds : ℕ) (knots : Knotted) (ends : List (List ℕ)) (kept now : Kept)
+      → IsLookedUp (net_of behaviour old) rounds knots ends kept → IsUnsettled (net_of behaviour old) knots port kept now → IsLookedUp (net_of behaviour new) rounds knots ends now
+  one_changes old new f port wired after shape is rounds knots ends kept now looked unsettled =
+      looked_up_elsewhere (net_of behaviour old) (net_of behaviour new) wired after rounds knots ends kept now looked.are_knots looked.are_ends looked.is_kept unsettled.fewer
+      (one_elsewhere old new f port shape is knots kept now unsettled)
+
+  -- And what is held beside.
+  pub one_held : (old new : Wiring P) (f : P → P) (port : ℕ) → IsWired (net_of behaviour old) → SameNetShape behaviour old new
+      → new ≡ record old { primitives = change_at f old.primitives port } → (knots : Knotted) → AreKnots (net_of behaviour old) knots → (kept now : Kept) (orders : List (List ℕ)) (tables : Option Tables)
+      → AreHeld (net_of behaviour old) knots kept orders tables → IsUnsettled (net_of behaviour old) knots port kept now → AreHeld (net_of behaviour new) knots now orders tables
+  one_held old new f port wired shape is knots are_knots kept now orders tables held unsettled =
+      held_elsewhere (net_of behaviour old) (net_of behaviour new) wired knots kept now orders tables are_knots held unsettled.fewer
+      (one_elsewhere old new f port shape is knots kept now unsettled)
+
+  -- Over a round nothing changes at a part that is still settled, once the parts that it marks and those that move are unsettled.
+  round_elsewhere : (old new : Wiring P) (marks : List Bool) → SameNetShape behaviour old new
+      → OthersStay marks old.primitives new.primitives → length marks ≡ length old.primitives → (knots : Knotted) (kept some now : Kept)
+      → AreMarkedUnsettled (net_of behaviour old) knots marks (length marks) kept some → AreMovingUnsettled some now → IsElsewhere (net_of behaviour old) (net_of behaviour new) knots now
+  round_elsewhere old new marks shape stay one_each knots kept some now marked moving =
       let net : Net = net_of behaviour old in
-      let other : Net = net_of behaviour new in
-      let first = kept_fewer net knots (rounds + 1) kept some looked.is_kept marked.fewer in
-      let later : IsKept net knots ((rounds + 1) + 1) now = kept_later net wired knots (rounds + 1) ((rounds + 1) + 1) some now first moving in
       let count : length net.primitives ≡ length old.primitives = length-map old.primitives behaviour in
-      looked_up_elsewhere net other wired after (rounds + 1) knots ends now now looked.are_knots looked.are_ends later (fewer_none now) record {
+      record {
         joints = shape.joints;
         shapes = shape.primitives;
         same = λ i side i_in side_in settled.
@@ -112,6 +134,27 @@ module _ {P : Type 0} (behaviour : P → Behaviour) where
       unmarked : (b : Bool) → (b ≡ true → ⊥) → b ≡ false
       unmarked true h = absurd (h refl)
       unmarked false h = refl
+
+  -- What is looked up stays right over a round, once the parts that it marks and those that move are unsettled.
+  pub round_made : (old new : Wiring P) (marks : List Bool) → IsWired (net_of behaviour old) → IsWired (net_of behaviour new) → SameNetShape behaviour old new
+      → OthersStay marks old.primitives new.primitives → length marks ≡ length old.primitives → (rounds : ℕ) (knots : Knotted) (ends : List (List ℕ)) (kept some now : Kept)
+      → IsLookedUp (net_of behaviour old) rounds knots ends kept → AreMarkedUnsettled (net_of behaviour old) knots marks (length marks) kept some → AreMovingUnsettled some now
+      → IsLookedUp (net_of behaviour new) (rounds + 1) knots ends now
+  round_made old new marks wired after shape stay one_each rounds knots ends kept some now looked marked moving =
+      let net : Net = net_of behaviour old in
+      let first = kept_fewer net knots (rounds + 1) kept some looked.is_kept marked.fewer in
+      let later : IsKept net knots ((rounds + 1) + 1) now = kept_later net wired knots (rounds + 1) ((rounds + 1) + 1) some now first moving in
+      looked_up_elsewhere net (net_of behaviour new) wired after (rounds + 1) knots ends now now looked.are_knots looked.are_ends later (fewer_none now)
+      (round_elsewhere old new marks shape stay one_each knots kept some now marked moving)
+
+  -- And what is held beside.
+  pub round_held : (old new : Wiring P) (marks : List Bool) → IsWired (net_of behaviour old) → SameNetShape behaviour old new
+      → OthersStay marks old.primitives new.primitives → length marks ≡ length old.primitives → (knots : Knotted) → AreKnots (net_of behaviour old) knots → (kept some now : Kept)
+      → (orders : List (List ℕ)) (tables : Option Tables) → AreHeld (net_of behaviour old) knots kept orders tables
+      → AreMarkedUnsettled (net_of behaviour old) knots marks (length marks) kept some → AreMovingUnsettled some now → AreHeld (net_of behaviour new) knots now orders tables
+  round_held old new marks wired shape stay one_each knots are_knots kept some now orders tables held marked moving =
+      held_elsewhere (net_of behaviour old) (net_of behaviour new) wired knots kept now orders tables are_knots held (fewer_twice kept some now marked.fewer moving.fewer)
+      (round_elsewhere old new marks shape stay one_each knots kept some now marked moving)
 
 -- Over a round the parts that are not marked and do not move stay settled.
 pub stay_settled : (net : Net) (knots : Knotted) (marks : List Bool) (old some now : Kept) → AreMarkedUnsettled net knots marks (length marks) old some → AreMovingUnsettled some now → StaySettled net knots marks old now

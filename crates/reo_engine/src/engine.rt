@@ -10,6 +10,7 @@ use reo_net_base::Ported;
 use reo_net_circuit::Circuit;
 use reo_net_ends::{Ends, ends_of};
 use reo_planning::Kept;
+use reo_tables::{Tables, orders_of};
 use reo_values::{List, NoMemory};
 use std::alloc::Global;
 use std::marker::Model;
@@ -21,7 +22,8 @@ use std::marker::Model;
 /// they stood.
 ///
 /// And it keeps the rows of parts that `prepare` looked at, as long as nothing in them changes: such
-/// a part is settled, and is not searched again. A knot of the circuit is a part.
+/// a part is settled, and is not searched again. A knot of the circuit is a part. The tables of
+/// the search are kept too: what they have of a part is made anew only where it is not settled.
 #[derive(Drop)]
 pub struct Engine<P: Ported> {
     pub(crate) circuit: Circuit<P>,
@@ -30,13 +32,15 @@ pub struct Engine<P: Ported> {
     pub(crate) knots: Knots,
     pub(crate) ends: Ends,
     pub(crate) kept: Kept,
+    pub(crate) orders: List<List<usize>>,
+    pub(crate) tables: Option<Tables>,
 }
 
 impl<P: Ported> Model for Engine<P> {
     ghost use Rattle.std.specs.Prelude.{◌≡◌, ◌≤◌, ◌^◌, length, map};
     ghost use Rattle.reo_net_base.specs.Net.{net_of};
     ghost use Rattle.reo_engine_base.specs.Offering.{AreJustPorts};
-    ghost use Rattle.reo_engine.specs.Engine.{Running, IsLookedUp};
+    ghost use Rattle.reo_engine.specs.Engine.{Running, AreHeld, IsLookedUp};
 
     ghost Value = { Running P };
 
@@ -52,7 +56,8 @@ impl<P: Ported> Model for Engine<P> {
     ghost invariant = { λ e. (e.rounds ≤ 2 ^ 63)
         × (length e.changed ≡ length e.circuit.primitives)
         × AreJustPorts (map P.port_state e.circuit.primitives) e.circuit.ports
-        × IsLookedUp (net_of P.behaviour e.circuit) e.rounds e.knots e.ends e.kept };
+        × IsLookedUp (net_of P.behaviour e.circuit) e.rounds e.knots e.ends e.kept
+        × AreHeld (net_of P.behaviour e.circuit) e.knots e.kept e.orders e.tables };
 }
 
 impl<P: Ported> Engine<P> {
@@ -69,6 +74,7 @@ impl<P: Ported> Engine<P> {
         let knots = find_knots(alloc, &circuit)?;
         let ends = ends_of(alloc, &circuit)?;
         let kept = Kept::new(alloc, circuit.sides(), knots.count())?;
+        let orders = orders_of(alloc, &circuit, &knots)?;
         Ok(Engine {
             circuit,
             rounds: 0,
@@ -76,6 +82,8 @@ impl<P: Ported> Engine<P> {
             knots,
             ends,
             kept,
+            orders,
+            tables: None,
         })
     }
 

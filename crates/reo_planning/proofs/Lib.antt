@@ -1,3 +1,4 @@
+pub mod KeptTables
 pub mod KnotSets
 pub mod Shapes
 pub mod Elsewhere

@@ -2,6 +2,6 @@ pub mod Written
 pub mod Keeping
 pub mod Planned
 pub mod Faults
-pub mod Tables
 pub mod Marked
 pub mod Unsettling
+pub mod Tables

@@ -1,6 +1,6 @@
 //! What is kept of parts from round to round.
 ghost use Rattle.std.specs.Prelude.{◌≡◌, ◌<◌, ◌≤◌, ◌↔◌, IsTrue, IfOk, length};
-ghost use Rattle.reo_planning.specs.Keeping.{AllServe, IsFresh, serves};
+ghost use Rattle.reo_planning.specs.Keeping.{AllServe, IsFresh, is_settled, serves};
 
 use crate::flags::flags;
 use crate::rows::some_rows;
@@ -34,12 +34,20 @@ impl Kept {
         })
     }
 
+    /// Whether a part is settled. This takes no memory.
+    pub fn is_settled(&self, part: usize) -> bool
+        requires { part < length self.now.settled }
+        ensures { result ≡ is_settled self.now part }
+    {
+        *self.settled.at(part)
+    }
+
     /// Whether the rows that are kept of a part serve for a budget. This takes no memory.
     pub fn serves(&self, part: usize, budget: u64) -> bool
         requires { part < length self.now.settled }
         ensures { result ≡ serves self.now budget part }
     {
-        self.budget <= budget && *self.settled.at(part)
+        self.budget <= budget && self.is_settled(part)
     }
 
     /// Whether the rows that are kept serve for a budget, of all parts. This takes no memory.

@@ -1,37 +1,72 @@
 //! The first colouring, part by part.
-ghost use Rattle.std.specs.Prelude.{◌≡◌, ◌<◌, ◌≤◌, ◌+◌, ◌^◌, ℕ, IfOk, MatchResult};
+ghost use Rattle.std.specs.Prelude.{◌≡◌, ◌<◌, ◌≤◌, ◌+◌, ◌^◌, ℕ, IfOk, MatchResult, OnOk};
 ghost use Rattle.reo_net_base.specs.Net.{net_of};
 ghost use Rattle.reo_net_base.specs.Colouring.{RowsFit};
 ghost use Rattle.reo_net_ends.specs.Ends.{AreEnds};
 ghost use Rattle.reo_knots.specs.Knots.{AreKnots, knot_count};
 ghost use Rattle.reo_engine_base.specs.Plans.{IsPlanFault};
+ghost use Rattle.reo_tables.specs.Orders.{AreOrders};
+ghost use Rattle.reo_tables.specs.Tables.{AreReady};
 ghost use Rattle.reo_planning.specs.Keeping.{AllServe, IsKept};
 ghost use Rattle.reo_planning.specs.Planned.{ArePlanned, IsFirstBy, AreWeights, sum_below, weight_left};
+ghost use Rattle.reo_planning.specs.Tables.{MayBeKept, MayStay};
 
 use crate::kept::Kept;
 use crate::parts::plan_part;
+use crate::renewing::renewed;
 use crate::rows::copied;
 use crate::tables::tables_of;
 use reo_engine_base::PlanFault;
 use reo_knots::Knots;
 use reo_net_base::{Colouring, Primitive};
 use reo_net_circuit::Circuit;
-use reo_net_colouring::fill;
+use reo_net_colouring::fill_with;
 use reo_net_ends::Ends;
 use reo_steps::Steps;
+use reo_tables::Tables;
 use reo_values::List;
 use std::alloc::Global;
 use std::sync::ledger::Ledger;
 
+/// The rows of the first colouring of a circuit in the round of a number, by tables that are ready.
+fn rows_with<P: Primitive, L: Ledger>(
+    alloc: Global,
+    circuit: &Circuit<P>,
+    knots: &Knots,
+    ends: &Ends,
+    kept: &Kept,
+    tables: &mut Tables,
+    turn: u64,
+    budget: u64,
+    steps: &mut Steps<L>,
+) -> Result<List<u32>, PlanFault>
+    requires knots { AreKnots (net_of P.behaviour circuit.now) knots.now }
+    requires tables { AreReady (net_of P.behaviour circuit.now) ends.now tables.old }
+    requires kept { IsKept (net_of P.behaviour circuit.now) knots.now turn kept.now }
+    requires budget { budget < 10 ^ 18 }
+    ensures exact { let net = net_of P.behaviour circuit.now in
+        MatchResult result (ArePlanned budget net knots.now turn (knot_count knots.now))
+        (IsPlanFault budget net) }
+    ensures fit { IfOk result (RowsFit (net_of P.behaviour circuit.now)) }
+    ensures tables { OnOk result (AreReady (net_of P.behaviour circuit.now) ends.now tables.new) }
+    ensures ticks { let count = knot_count knots.now in (weights : ℕ → ℕ)
+        → AreWeights (net_of P.behaviour circuit.now) knots.now weights
+        → steps.new ≤ steps.old + sum_below count (weight_left kept.now budget weights) }
+{
+    circuit.known();
+    let mut rows = copied(alloc, kept.rows.as_slice())?;
+    for knot in 0..knots.count() {
+        plan_part(
+            alloc, circuit, knots, ends, kept, tables, knot, turn, budget, steps, &mut rows,
+        )?;
+    }
+    Ok(rows)
+}
+
 /// The rows of the first colouring of a circuit in the round of a number, where no part is over.
-/// They are those that are kept, where these serve; only other parts are searched. It makes at most
-/// as many ticks as the weights of those say together.
-///
-/// # Errors
-///
-/// `Wide` and `Spent` come exactly where a part is over, for the least such part. `NoMemory` is out
-/// of memory.
-pub fn rows_by_parts<P: Primitive, L: Ledger>(
+/// They are those that are kept, where these serve; only other parts are searched, by tables that
+/// are made for it. It makes at most as many ticks as the weights of those say together.
+fn rows_by_parts<P: Primitive, L: Ledger>(
     alloc: Global,
     circuit: &Circuit<P>,
     knots: &Knots,
@@ -55,31 +90,73 @@ pub fn rows_by_parts<P: Primitive, L: Ledger>(
     ensures none { AllServe (knot_count knots.now) budget kept.now → steps.new ≡ steps.old }
 {
     circuit.known();
-    let mut rows = copied(alloc, kept.rows.as_slice())?;
     if kept.all_serve(budget) {
-        return Ok(rows);
+        return Ok(copied(alloc, kept.rows.as_slice())?);
     }
     let mut tables = tables_of(alloc, circuit, ends)?;
-    for knot in 0..knots.count() {
-        plan_part(
-            alloc,
-            circuit,
-            knots,
-            ends,
-            kept,
-            &mut tables,
-            knot,
-            turn,
-            budget,
-            steps,
-            &mut rows,
-        )?;
-    }
+    rows_with(
+        alloc,
+        circuit,
+        knots,
+        ends,
+        kept,
+        &mut tables,
+        turn,
+        budget,
+        steps,
+    )
+}
+
+/// The rows of the first colouring of a circuit in the round of a number, where no part is over.
+/// They are those that are kept, where these serve; only other parts are searched. It makes at most
+/// as many ticks as the weights of those say together.
+///
+/// The tables are kept from round to round: only what they have of parts that are not settled is
+/// made anew. Where there are none they are made for the whole circuit; after a fault there are none.
+///
+/// # Errors
+///
+/// `Wide` and `Spent` come exactly where a part is over, for the least such part. `NoMemory` is out
+/// of memory.
+pub fn rows_by_tables<P: Primitive, L: Ledger>(
+    alloc: Global,
+    circuit: &Circuit<P>,
+    knots: &Knots,
+    ends: &Ends,
+    orders: &List<List<usize>>,
+    kept: &Kept,
+    tables: &mut Option<Tables>,
+    turn: u64,
+    budget: u64,
+    steps: &mut Steps<L>,
+) -> Result<List<u32>, PlanFault>
+    requires knots { AreKnots (net_of P.behaviour circuit.now) knots.now }
+    requires ends { AreEnds (net_of P.behaviour circuit.now) ends.now }
+    requires orders { AreOrders (net_of P.behaviour circuit.now) knots.now orders.now }
+    requires kept { IsKept (net_of P.behaviour circuit.now) knots.now turn kept.now }
+    requires budget { budget < 10 ^ 18 }
+    requires tables { MayBeKept (net_of P.behaviour circuit.now) knots.now kept.now tables.old }
+    ensures exact { let net = net_of P.behaviour circuit.now in
+        MatchResult result (ArePlanned budget net knots.now turn (knot_count knots.now))
+        (IsPlanFault budget net) }
+    ensures fit { IfOk result (RowsFit (net_of P.behaviour circuit.now)) }
+    ensures tables { MayStay (net_of P.behaviour circuit.now) knots.now tables.new }
+    ensures ticks { let count = knot_count knots.now in (weights : ℕ → ℕ)
+        → AreWeights (net_of P.behaviour circuit.now) knots.now weights
+        → steps.new ≤ steps.old + sum_below count (weight_left kept.now budget weights) }
+{
+    circuit.known();
+    let mut ready = renewed(alloc, circuit, knots, ends, orders, kept, tables.take())?;
+    let rows = rows_with(
+        alloc, circuit, knots, ends, kept, &mut ready, turn, budget, steps,
+    )?;
+    *tables = Some(ready);
     Ok(rows)
 }
 
-/// The first colouring of a circuit in the round of a number, where no part is over. It searches
-/// as `rows_by_parts` does, and makes at most as many ticks.
+/// The first colouring of a circuit in the round of a number, where no part is over. Its rows are
+/// those that are kept, where these serve; only other parts are searched, by tables that are made
+/// for it. It makes at most as many ticks as the weights of those say together.
 ///
 /// # Errors
 ///
@@ -108,5 +185,5 @@ pub fn first_by_parts<P: Primitive, L: Ledger>(
 {
     circuit.known();
     let rows = rows_by_parts(alloc, circuit, knots, ends, kept, turn, budget, steps)?;
-    Ok(fill(alloc, circuit, rows)?)
+    Ok(fill_with(alloc, circuit, ends, rows)?)
 }

@@ -1,25 +1,18 @@
-//! The tables by which the parts of a circuit are searched.
+//! The tables of a whole circuit.
 ghost use Rattle.std.specs.Prelude.{◌≡◌, ◌<◌, IfOk, length};
 ghost use Rattle.reo_net_base.specs.Net.{net_of};
 ghost use Rattle.reo_net_ends.specs.Ends.{AreEnds};
-ghost use Rattle.reo_planning.specs.Tables.{AreReady};
+ghost use Rattle.reo_tables.specs.Tables.{AreReady};
 
-use reo_boards::{Board, boards_of};
+use reo_boards::boards_of;
 use reo_net_base::Primitive;
 use reo_net_circuit::Circuit;
 use reo_net_ends::Ends;
-use reo_propagate::{State, begin};
-use reo_reach::{Supply, reach};
-use reo_values::{List, NoMemory};
+use reo_propagate::begin;
+use reo_reach::reach;
+use reo_tables::Tables;
+use reo_values::NoMemory;
 use std::alloc::Global;
-
-/// The items that can stand at joints, what is looked up of sides, and a search that was begun.
-#[derive(Drop)]
-pub(crate) struct Tables {
-    pub supply: Supply,
-    pub boards: List<Board>,
-    pub state: State,
-}
 
 /// The tables of a circuit in its present state. `NoMemory` is out of memory.
 pub(crate) fn tables_of<P: Primitive>(

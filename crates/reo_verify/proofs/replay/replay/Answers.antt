@@ -1,7 +1,14 @@
-use Rattle.std.proofs.Common.{map, sym, subst}
+use Rattle.std.proofs.Common.{◌≡◌, ◌∙◌, List, map, ap, sym, subst}
+use Rattle.std.specs.Prelude.{MatchResult, Option, Some, None, cond}
 use Rattle.reo_net_base.specs.Net.{Wiring}
+use Rattle.reo_players.specs.Players.{Player, all_done}
+use Rattle.reo_trace.specs.declared.line.Ending.{Ending}
+use Rattle.reo_trace.specs.declared.line.Ending.TheVariants.{Done}
+use Rattle.reo_engine_base.specs.Rules.{rules_of}
+use Rattle.reo_runs.specs.Run.{Place, start_of}
 use Rattle.reo_runner_ports.specs.Between.{AreBetween}
 use Rattle.reo_runner_ports.proofs.Begun.{just_ports, between_first}
+use Rattle.reo_verify.specs.Replayed.{AreReplayed, IsHalted}
 use Rattle.reo_verify.proofs.replay.replay.Goals as goal
 
 pub new-requires-2 : goal.new-requires-2
@@ -12,3 +19,12 @@ replay_rounds-requires-clause-between g c =
     let first = between_first (map g.P.Ported.port_state c.args.circuit.primitives) c.args.circuit.ports c.args.ports.now.list c.args.script.components c.requires.fit in
     let players = subst (λ ps. AreBetween c.args.ports.now.list c.args.circuit.ports ps (map g.P.Ported.port_state c.args.circuit.primitives)) (sym c.in_ok-players.ensures) first in
     subst (λ (w : Wiring g.row.P.Denot). AreBetween c.args.ports.now.list w.ports c.in_ok-players.players (map g.P.Ported.port_state w.primitives)) (sym c.in_ok-engine.ensures.circuit) players
+
+pub returns : goal.returns
+returns g c =
+    let r = rules_of g.P.Primitive.behaviour g.P.Primitive.settled g.P.Ported.port_state g.P.Ported.placed g.P.Ported.withdrawn in
+    let over = c.begins-begins.ensures ∙ ap (λ (ps : List Player). cond (all_done ps) (Some (Done 0)) None) c.in_ok-players.ensures in
+    let start : Place g.row.P.Denot = start_of c.args.circuit c.args.script.components in
+    let same : record { state = record { circuit = c.in_ok-engine.engine.circuit; players = c.in_ok-players.players }; over = c.begins-begins.result } ≡ start =
+    λ i. record { state = record { circuit = c.in_ok-engine.ensures.circuit i; players = c.in_ok-players.ensures i }; over = over i } in
+    subst (λ (s : Place g.row.P.Denot). MatchResult c.replay_rounds.result (AreReplayed r s c.args.rounds.now) (IsHalted r c.args.nodes.now c.args.homes.now s c.args.rounds.now)) same c.replay_rounds.ensures

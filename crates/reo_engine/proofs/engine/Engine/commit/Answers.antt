@@ -1,7 +1,7 @@
 use Rattle.std.proofs.Common.{◌≡◌, ◌∙◌, length, map, sym, rules, arith}
 use Rattle.std.proofs.lemmas.List.{length-map}
 use Rattle.reo_net_base.specs.Net.{Net, Wiring, net_of}
-use Rattle.reo_engine.proofs.Lookups.{round_made, stay_settled}
+use Rattle.reo_engine.proofs.Lookups.{round_held, round_made, stay_settled}
 use Rattle.reo_engine.proofs.QuietLemmas.{others_stay}
 use Rattle.reo_engine.proofs.engine.Engine.commit.Goals as goal
 
@@ -30,6 +30,9 @@ invariant_of-self g c =
       search rules,
       round_made g.P.Primitive.behaviour now c.step.new.self c.mark_flowing.new.marks c.known.ensures.wired c.known-2.ensures.wired c.step.ensures.shape others marks
           c.self.inside.rounds c.self.inside.knots c.self.inside.ends c.self.inside.kept c.unsettle_marked.new.self c.unsettle_moving.new.self old.3 (rw c.as_slice-marks.ensures at c.unsettle_marked.ensures) c.unsettle_moving.ensures,
+      round_held g.P.Primitive.behaviour now c.step.new.self c.mark_flowing.new.marks c.known.ensures.wired c.step.ensures.shape others marks
+          c.self.inside.knots old.3.are_knots c.self.inside.kept c.unsettle_marked.new.self c.unsettle_moving.new.self c.self.inside.orders c.self.inside.tables old.4
+          (rw c.as_slice-marks.ensures at c.unsettle_marked.ensures) c.unsettle_moving.ensures,
     )
 
 pub returns-clause-settled : goal.returns-clause-settled

@@ -1,7 +1,7 @@
 use Rattle.std.proofs.Common.{arith}
 use Rattle.std.proofs.lemmas.List.{length-map}
 use Rattle.reo_engine.proofs.KeptLemmas.{just_ports_kept, one_each_kept}
-use Rattle.reo_engine.proofs.Lookups.{one_changes}
+use Rattle.reo_engine.proofs.Lookups.{one_changes, one_held}
 use Rattle.reo_engine.proofs.engine.Engine.offer.Goals as goal
 
 pub unsettle-requires-clause-primitive : goal.unsettle-requires-clause-primitive
@@ -16,4 +16,6 @@ invariant_of-self g c =
       just_ports_kept g.P.Primitive.behaviour g.P.Ported.port_state c.self.inside.circuit c.place.new.self c.place.ensures.shape old.2,
       one_changes g.P.Primitive.behaviour c.self.inside.circuit c.place.new.self (λ p. g.P.Ported.placed p c.args.offer) c.args.port c.known.ensures.wired c.known-in-None.ensures.wired c.place.ensures.shape.net
           c.place.ensures.circuit c.self.inside.rounds c.self.inside.knots c.self.inside.ends c.self.inside.kept c.unsettle.new.self old.3 c.unsettle.ensures,
+      one_held g.P.Primitive.behaviour c.self.inside.circuit c.place.new.self (λ p. g.P.Ported.placed p c.args.offer) c.args.port c.known.ensures.wired c.place.ensures.shape.net
+          c.place.ensures.circuit c.self.inside.knots old.3.are_knots c.self.inside.kept c.unsettle.new.self c.self.inside.orders c.self.inside.tables old.4 c.unsettle.ensures,
     )

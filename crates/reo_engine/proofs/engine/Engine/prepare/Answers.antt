@@ -2,6 +2,7 @@ use Rattle.std.proofs.Common.{◌≡◌, ◌+◌, ℕ, Bool, true, false, length
 use Rattle.reo_net_base.specs.Net.{Net, net_of}
 use Rattle.reo_knots.specs.Knots.{knot_count}
 use Rattle.reo_weights.proofs.CauseLemmas.{within_not_over}
+use Rattle.reo_planning.specs.declared.kept.Kept.{Kept}
 use Rattle.reo_planning.specs.Keeping.{AllServe}
 use Rattle.reo_planning.proofs.Parting.{all_served}
 use Rattle.reo_engine.proofs.engine.Engine.prepare.Goals as goal
@@ -9,6 +10,10 @@ use Rattle.reo_engine.proofs.engine.Engine.prepare.Goals as goal
 not_both : (b : Bool) → b ≡ false → b ≡ true → ⊥
 not_both true h g = cc
 not_both false h g = cc
+
+-- Not all parts serve where the answer is no.
+not_all : (kept : Kept) (budget count : ℕ) (answer : Bool) → length kept.settled ≡ count → answer ≡ false → (AllServe (length kept.settled) budget kept → answer ≡ true) → AllServe count budget kept → ⊥
+not_all kept budget count answer one_each h tells all = not_both answer h (tells (subst (λ (n : ℕ). AllServe n budget kept) (sym one_each) all))
 
 pub returns-then-all_serve-clause-exact : goal.returns-then-all_serve-clause-exact
 returns-then-all_serve-clause-exact g c =
@@ -20,7 +25,8 @@ returns-then-all_serve-clause-exact g c =
     rw (← c.self.view_is) (within_not_over c.args.budget net c.known.ensures.wired c.self.inside.knots.numbers (knot_count c.self.inside.knots) looked.are_knots.numbered planned.within)
 
 pub returns-in_err-rows-clause-none : goal.returns-in_err-rows-clause-none
-returns-in_err-rows-clause-none g c = rw (← c.self.view_is) (λ all. (refl, c.rows_by_parts.ensures.none all))
+returns-in_err-rows-clause-none g c = rw (← c.self.view_is) (λ all.
+    absurd (not_all c.self.inside.kept c.args.budget (knot_count c.self.inside.knots) c.all_serve.result c.self.invariant.3.is_kept.sizes.one_each c.if-all_serve.false c.all_serve.ensures.1 all))
 
 pub invariant_of-self : goal.invariant_of-self
 invariant_of-self g c =
@@ -28,7 +34,18 @@ invariant_of-self g c =
       old.0,
       old.1,
       old.2,
+      old.3,
+      record { are_orders = old.4.are_orders; may_be_kept = c.rows_by_tables.ensures.tables c.self.inside.kept },
+    )
+
+pub invariant_of-self-2 : goal.invariant_of-self-2
+invariant_of-self-2 g c =
+    let old = c.self.invariant in (
+      old.0,
+      old.1,
+      old.2,
       record { are_knots = old.3.are_knots; are_ends = old.3.are_ends; is_kept = c.store.ensures.kept (c.self.inside.rounds + 1) c.in_ok-rows.ensures.exact },
+      record { are_orders = old.4.are_orders; may_be_kept = c.rows_by_tables.ensures.tables c.store.new.self },
     )
 
 pub returns-clause-exact : goal.returns-clause-exact
@@ -38,6 +55,4 @@ returns-clause-exact g c =
 
 pub returns-clause-none : goal.returns-clause-none
 returns-clause-none g c = rw (← c.self.view_is) (λ all.
-    let every : AllServe (length c.self.inside.kept.settled) c.args.budget c.self.inside.kept =
-    subst (λ (n : ℕ). AllServe n c.args.budget c.self.inside.kept) (sym c.self.invariant.3.is_kept.sizes.one_each) all in
-    absurd (not_both c.all_serve.result c.if-all_serve.false (c.all_serve.ensures.1 every)))
+    absurd (not_all c.self.inside.kept c.args.budget (knot_count c.self.inside.knots) c.all_serve.result c.self.invariant.3.is_kept.sizes.one_each c.if-all_serve.false c.all_serve.ensures.1 all))

@@ -1,9 +1,9 @@
 use Rattle.std.proofs.Common.{◌+◌, ◌≤◌, ℕ}
 use Rattle.reo_net_base.specs.Net.{net_of}
 use Rattle.reo_planning.specs.Planned.{AreWeights, sum_below, weight_left}
-use Rattle.reo_planning.specs.Tables.{AreReady}
+use Rattle.reo_tables.specs.Tables.{AreReady}
 use Rattle.reo_planning.proofs.Parting.{ArePlannedSoFar}
-use Rattle.reo_planning.proofs.planning.rows_by_parts.Given as goal
+use Rattle.reo_planning.proofs.planning.rows_with.Given as goal
 
 -- The parts so far are planned, and those that come have the rows that are kept.
 abbrev pub invariant-loop-knot : goal.invariant-loop-knot

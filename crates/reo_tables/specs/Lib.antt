@@ -1,0 +1,4 @@
+pub mod Tables
+pub mod Renewing
+pub mod Orders
+pub mod Laws

@@ -1,0 +1,123 @@
+//! Rounds that are planned by parts and searched plainly.
+use crate::chance::Chance;
+use crate::parts::count_parts;
+use crate::tally::{Tally, count};
+use reo_engine::{Engine, Plan, PlanFault};
+use reo_kinds::Kind;
+use reo_net_base::{Colouring, Offer};
+use reo_net_plain::plain_first;
+use reo_steps::Steps;
+use reo_values::{Value, same_item};
+use std::alloc::Global;
+use std::sync::ledger::Ledger;
+
+/// A budget that no part of these circuits is over.
+const BUDGET: u64 = 1_000_000;
+
+/// Whether the same items stand at two joints, or none at both.
+fn same_at(one: &Option<Value>, other: &Option<Value>) -> bool {
+    match (one, other) {
+        (Some(one), Some(other)) => same_item(one, other),
+        (None, None) => true,
+        _ => false,
+    }
+}
+
+/// Whether the same items stand at all joints.
+fn same_items(one: &[Option<Value>], other: &[Option<Value>]) -> bool {
+    if one.len() != other.len() {
+        return false;
+    }
+    for joint in 0..one.len() {
+        if !same_at(&one[joint], &other[joint]) {
+            return false;
+        }
+    }
+    true
+}
+
+/// Whether two colourings have the same rows and items.
+fn same(one: &Colouring, other: &Colouring) -> bool {
+    one.rows.as_slice() == other.rows.as_slice()
+        && same_items(one.items.as_slice(), other.items.as_slice())
+}
+
+/// Whether a plan by parts has this colouring.
+fn agrees<L: Ledger>(
+    alloc: Global,
+    engine: &Engine<Kind>,
+    steps: &mut Steps<L>,
+    plain: &Colouring,
+) -> Result<bool, PlanFault> {
+    let plan = engine.plan(alloc, BUDGET, steps)?;
+    Ok(same(&plan.colouring, plain))
+}
+
+/// Whether the plans of the next round have the colouring of the plain search: a first one, a second
+/// one, and one after parts were looked at, if they are.
+fn all_agree<L: Ledger>(
+    alloc: Global,
+    engine: &mut Engine<Kind>,
+    steps: &mut Steps<L>,
+    prepared: bool,
+) -> Result<bool, PlanFault> {
+    engine.known();
+    let plain = plain_first(alloc, engine.circuit(), engine.rounds() + 1)?;
+    if !agrees(alloc, engine, steps, &plain)? {
+        return Ok(false);
+    }
+    if prepared {
+        engine.prepare(alloc, BUDGET, steps)?;
+    }
+    agrees(alloc, engine, steps, &plain)
+}
+
+/// Changes what is offered at a port, or nothing.
+fn change_offer(engine: &mut Engine<Kind>, chance: &mut Chance, port: usize) {
+    match chance.below(8) {
+        0 => {
+            let _was = engine.withdraw(port);
+        }
+        1..=3 => {
+            let _taken = engine.offer(port, Offer::Take);
+        }
+        4..=6 => {
+            let number = Value::Int(chance.below(4) as i64);
+            let _taken = engine.offer(port, Offer::Write(number));
+        }
+        _ => {}
+    }
+}
+
+/// Makes a round of a plan, if it suits.
+fn make(engine: &mut Engine<Kind>, plan: Plan, tally: &mut Tally) {
+    if engine.suits(&plan) && engine.rounds() < 1000 {
+        count(&mut tally.rounds, true);
+        count(&mut tally.idle, plan.idle);
+        count(&mut tally.jammed, 0 < plan.jammed);
+        let _done = engine.commit(plan);
+    }
+}
+
+/// Makes rounds, and answers whether all their plans have the colouring of the plain search.
+pub fn rounds_agree<L: Ledger>(
+    alloc: Global,
+    engine: &mut Engine<Kind>,
+    steps: &mut Steps<L>,
+    chance: &mut Chance,
+    tally: &mut Tally,
+) -> Result<bool, PlanFault> {
+    for _ in 0..8 {
+        for port in 0..engine.circuit().ports() {
+            change_offer(engine, chance, port);
+        }
+        count_parts(alloc, engine.circuit(), steps, tally)?;
+        let prepared = chance.below(2) == 0;
+        if !all_agree(alloc, engine, steps, prepared)? {
+            return Ok(false);
+        }
+        let plan = engine.plan(alloc, BUDGET, steps)?;
+        make(engine, plan, tally);
+    }
+    Ok(true)
+}
