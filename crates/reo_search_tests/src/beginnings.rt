@@ -176,7 +176,7 @@ fn are_right<P: Primitive>(
 
 #[test]
 fn a_search_of_the_drain_begins_and_begins_anew(rt: HostRuntime) -> Result<(), Fail> {
-    let circuit = drained(&rt, rt.alloc())?;
+    let circuit = drained(&rt, rt.alloc(), true)?;
     let knots = find_knots(rt.alloc(), &circuit)?;
     are_right(&rt, rt.alloc(), &circuit, &knots)
 }

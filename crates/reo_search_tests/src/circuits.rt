@@ -1,54 +1,54 @@
 //! A drain on one port: a writer, a replicator of two, and a sync drain that takes both outputs.
+use crate::building::{joint, put_together};
 use reo_kinds::{Branches, Kind, WriterPort};
-use reo_net_base::{End, Joint};
-use reo_net_circuit::{Circuit, are_parts};
+use reo_net_base::Joint;
+use reo_net_circuit::Circuit;
 use reo_values::{Kindred, List, NoMemory, Value};
 use std::alloc::Global;
 use std::process::Abort;
 use std::test::Fail;
 
-/// The joints, each a giver's primitive and end and then a taker's. The last one closes a loop.
+/// The joints. The last one closes a loop.
 const JOINTS: [[usize; 4]; 3] = [[0, 0, 2, 0], [2, 1, 1, 0], [2, 2, 1, 1]];
 
 fn joints(alloc: Global) -> Result<List<Joint>, NoMemory> {
     let mut list = List::new(alloc);
-    for [giver, source, taker, sink] in &JOINTS {
-        list.push(Joint {
-            giver: End {
-                primitive: *giver,
-                end: *source,
-            },
-            taker: End {
-                primitive: *taker,
-                end: *sink,
-            },
-        })?;
+    for ends in &JOINTS {
+        list.push(joint(*ends))?;
     }
     Ok(list)
 }
 
-/// The primitive of this number: a writer that offers 1, the drain, or the replicator.
-fn primitive(number: usize) -> Kind {
+/// A writer that offers 1, or nothing.
+fn writer(offers: bool) -> Kind {
+    let kindred = Kindred::Int(0, 9);
+    Kind::Writer(if offers {
+        WriterPort::offering(kindred, Value::Int(1))
+    } else {
+        WriterPort::new(kindred)
+    })
+}
+
+/// The primitive of this number: the writer, the drain, or the replicator.
+fn primitive(number: usize, offers: bool) -> Kind {
     match number {
-        0 => Kind::Writer(WriterPort::offering(Kindred::Int(0, 9), Value::Int(1))),
+        0 => writer(offers),
         1 => Kind::SyncDrain,
         _ => Kind::Replicator(Branches::new(2)),
     }
 }
 
-fn primitives(alloc: Global) -> Result<List<Kind>, NoMemory> {
+fn primitives(alloc: Global, offers: bool) -> Result<List<Kind>, NoMemory> {
     let mut list = List::new(alloc);
     for number in 0..3 {
-        list.push(primitive(number))?;
+        list.push(primitive(number, offers))?;
     }
     Ok(list)
 }
 
-/// The drain on one port.
-pub fn drained(rt: &impl Abort, alloc: Global) -> Result<Circuit<Kind>, Fail> {
+/// The drain on one port, where 1 is offered or nothing.
+pub fn drained(rt: &impl Abort, alloc: Global, offers: bool) -> Result<Circuit<Kind>, Fail> {
     let joints = joints(alloc)?;
-    let primitives = primitives(alloc)?;
-    assert!(rt; are_parts(primitives.as_slice(), 1, joints.as_slice()));
-    assert!(rt; primitives.len() < 100 && joints.len() < 100);
-    Ok(Circuit::new(alloc, primitives, 1, joints)?)
+    let primitives = primitives(alloc, offers)?;
+    put_together(rt, alloc, primitives, 1, joints)
 }

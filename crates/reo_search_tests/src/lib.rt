@@ -1,4 +1,4 @@
-//! Searches of a knot with a loop, whose first assignments were found by hand: tests alone.
+//! Searches of a knot, whose answers were found by hand: tests alone.
 #![tactic(auto)]
 
 #[cfg(test)]
@@ -6,8 +6,20 @@ mod beginnings;
 #[cfg(test)]
 mod bounds;
 #[cfg(test)]
+mod building;
+#[cfg(test)]
 mod circuits;
+#[cfg(test)]
+mod limits;
+#[cfg(test)]
+mod searches;
 #[cfg(test)]
 mod sets;
 #[cfg(test)]
 mod tests;
+#[cfg(test)]
+mod weights;
+#[cfg(test)]
+mod widths;
+#[cfg(test)]
+mod writers;

@@ -215,6 +215,6 @@ fn are_right<L: Ledger>(
 
 #[test]
 fn a_drain_on_one_port_is_searched(rt: HostRuntime) -> Result<(), Fail> {
-    let circuit = drained(&rt, rt.alloc())?;
+    let circuit = drained(&rt, rt.alloc(), true)?;
     are_right::<Brand>(&rt, rt.alloc(), &circuit, Blank::new(1))
 }
