@@ -2,7 +2,6 @@
 #![tactic(auto)]
 
 mod boards;
-mod empty;
 mod laws;
 mod notes;
 mod orders;

@@ -1,6 +1,0 @@
-use Rattle.std.proofs.Common.{◌≡◌, length}
-use Rattle.reo_tables.proofs.empty.no_flags.Given as goal
-
--- One for each so far.
-abbrev pub invariant-loop-index : goal.invariant-loop-index
-invariant-loop-index l = length l.flags ≡ l._index
