@@ -20,8 +20,9 @@ pub struct Flow {
     pub giving: List<usize>,
 }
 
-/// What a search looks up of a side: its joints; for each joint the bytes of the marks that the groups of its rows have
-/// there; for each row where it flows; and for each end of the primitive the rows that are not as their groups there.
+/// What a search looks up of a side: its joints; for each joint the bytes of the marks that the
+/// groups of its rows have there; for each row where it flows; and for each end of the primitive
+/// the rows that are not as their groups there.
 #[derive(Drop)]
 pub struct Board {
     pub joints: List<usize>,
@@ -30,8 +31,8 @@ pub struct Board {
     pub apart: List<List<usize>>,
 }
 
-/// The board of a side, in time linear in its ends times its groups, its rows and where these flow. `NoMemory` is out of
-/// memory.
+/// The board of a side, in time linear in its ends times its groups, its rows and where these flow.
+/// `NoMemory` is out of memory.
 pub fn board_of<P: Primitive>(
     alloc: Global,
     circuit: &Circuit<P>,

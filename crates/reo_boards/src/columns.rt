@@ -18,7 +18,8 @@ pub(crate) fn columns_of<P: Primitive>(
     joints: &[usize],
 ) -> Result<List<u8>, NoMemory>
     requires side { side < length (all_sides (net_of P.behaviour circuit.now).primitives) }
-    requires joints { (m : ℕ) → m < length joints.now → IsJointOf (net_of P.behaviour circuit.now) side (slice_index joints.now m) }
+    requires joints { let net = net_of P.behaviour circuit.now in
+        (m : ℕ) → m < length joints.now → IsJointOf net side (slice_index joints.now m) }
     ensures { IfOk result (AreColumns (net_of P.behaviour circuit.now) side joints.now) }
 {
     circuit.known();

@@ -83,12 +83,15 @@ fn add_group<P: Primitive>(
     joint: usize,
 ) -> Result<(), NoMemory>
     requires side { side < length (all_sides (net_of P.behaviour circuit.now).primitives) }
-    requires one_each { length flows.old ≡ row_count (side_in (net_of P.behaviour circuit.now) side) }
+    requires one_each { let net = net_of P.behaviour circuit.now in
+        length flows.old ≡ row_count (side_in net side) }
     requires joint { IsJointOf (net_of P.behaviour circuit.now) side joint }
     requires group { group < groups_in (net_of P.behaviour circuit.now) side }
     requires rows { Lists (IsOfGroup (net_of P.behaviour circuit.now) side group) rows.now }
-    requires flows { common_in (net_of P.behaviour circuit.now) side group (end_at (net_of P.behaviour circuit.now) side joint).end ≡ F }
-    ensures { OnOk result (AreAdded (net_of P.behaviour circuit.now) side joint (IsAsGroup (net_of P.behaviour circuit.now) side group joint) flows.old flows.new) }
+    requires flows { let net = net_of P.behaviour circuit.now in
+        common_in net side group (end_at net side joint).end ≡ F }
+    ensures { let net = net_of P.behaviour circuit.now in
+        OnOk result (AreAdded net side joint (IsAsGroup net side group joint) flows.old flows.new) }
 {
     circuit.known();
     let gives = giver_side(circuit, joint) == side;
@@ -111,10 +114,14 @@ fn add_apart<P: Primitive>(
     joint: usize,
 ) -> Result<(), NoMemory>
     requires side { side < length (all_sides (net_of P.behaviour circuit.now).primitives) }
-    requires one_each { length flows.old ≡ row_count (side_in (net_of P.behaviour circuit.now) side) }
+    requires one_each { let net = net_of P.behaviour circuit.now in
+        length flows.old ≡ row_count (side_in net side) }
     requires joint { IsJointOf (net_of P.behaviour circuit.now) side joint }
-    requires rows { Lists (IsApartAt (net_of P.behaviour circuit.now) side (end_at (net_of P.behaviour circuit.now) side joint).end) rows.now }
-    ensures { OnOk result (AreAdded (net_of P.behaviour circuit.now) side joint (IsApartAt (net_of P.behaviour circuit.now) side (end_at (net_of P.behaviour circuit.now) side joint).end) flows.old flows.new) }
+    requires rows { let net = net_of P.behaviour circuit.now in
+        Lists (IsApartAt net side (end_at net side joint).end) rows.now }
+    ensures { let net = net_of P.behaviour circuit.now in
+        OnOk result (AreAdded net side joint (IsApartAt net side (end_at net side joint).end)
+        flows.old flows.new) }
 {
     circuit.known();
     let gives = giver_side(circuit, joint) == side;
@@ -136,10 +143,12 @@ fn add_groups<P: Primitive>(
     joint: usize,
 ) -> Result<(), NoMemory>
     requires side { side < length (all_sides (net_of P.behaviour circuit.now).primitives) }
-    requires one_each { length flows.old ≡ row_count (side_in (net_of P.behaviour circuit.now) side) }
+    requires one_each { let net = net_of P.behaviour circuit.now in
+        length flows.old ≡ row_count (side_in net side) }
     requires joint { IsJointOf (net_of P.behaviour circuit.now) side joint }
     requires groups { ByGroup (net_of P.behaviour circuit.now) side by_group.now }
-    ensures { OnOk result (AreAdded (net_of P.behaviour circuit.now) side joint (IsAsSomeGroup (net_of P.behaviour circuit.now) side joint) flows.old flows.new) }
+    ensures { let net = net_of P.behaviour circuit.now in
+        OnOk result (AreAdded net side joint (IsAsSomeGroup net side joint) flows.old flows.new) }
 {
     circuit.known();
     let end = end_at(circuit, side, joint).end;
@@ -168,12 +177,15 @@ fn add_joint<P: Primitive>(
     joint: usize,
 ) -> Result<(), NoMemory>
     requires side { side < length (all_sides (net_of P.behaviour circuit.now).primitives) }
-    requires one_each { length flows.old ≡ row_count (side_in (net_of P.behaviour circuit.now) side) }
+    requires one_each { let net = net_of P.behaviour circuit.now in
+        length flows.old ≡ row_count (side_in net side) }
     requires joint { IsJointOf (net_of P.behaviour circuit.now) side joint }
     requires groups { ByGroup (net_of P.behaviour circuit.now) side by_group.now }
     requires ends { length apart.now ≡ (side_in (net_of P.behaviour circuit.now) side).of.ends }
-    requires apart { (end : ℕ) → Lists (IsApartAt (net_of P.behaviour circuit.now) side end) (slice_index_or apart.now end []) }
-    ensures { OnOk result (AreAdded (net_of P.behaviour circuit.now) side joint (IsRowOf (net_of P.behaviour circuit.now) side) flows.old flows.new) }
+    requires apart { let net = net_of P.behaviour circuit.now in
+        (end : ℕ) → Lists (IsApartAt net side end) (slice_index_or apart.now end []) }
+    ensures { let net = net_of P.behaviour circuit.now in
+        OnOk result (AreAdded net side joint (IsRowOf net side) flows.old flows.new) }
 {
     circuit.known();
     let end = end_at(circuit, side, joint).end;
@@ -193,9 +205,13 @@ pub(crate) fn flows_of<P: Primitive>(
     requires side { side < length (all_sides (net_of P.behaviour circuit.now).primitives) }
     requires joints { Lists (IsJointOf (net_of P.behaviour circuit.now) side) joints.now }
     requires ends { length apart.now ≡ (side_in (net_of P.behaviour circuit.now) side).of.ends }
-    requires apart { (end : ℕ) → Lists (IsApartAt (net_of P.behaviour circuit.now) side end) (slice_index_or apart.now end []) }
-    ensures one_each { IfOk result (λ flows. length flows ≡ row_count (side_in (net_of P.behaviour circuit.now) side)) }
-    ensures flows { IfOk result (λ flows. (row : ℕ) (d : Flowing) → row < length flows → IsFlow (net_of P.behaviour circuit.now) side row (slice_index_or flows row d)) }
+    requires apart { let net = net_of P.behaviour circuit.now in
+        (end : ℕ) → Lists (IsApartAt net side end) (slice_index_or apart.now end []) }
+    ensures one_each { let net = net_of P.behaviour circuit.now in
+        IfOk result (λ flows. length flows ≡ row_count (side_in net side)) }
+    ensures flows { let net = net_of P.behaviour circuit.now in
+        IfOk result (λ flows. (row : ℕ) (d : Flowing) → row < length flows
+        → IsFlow net side row (slice_index_or flows row d)) }
 {
     circuit.known();
     let by_group = rows_by_group(alloc, circuit, side)?;

@@ -70,8 +70,11 @@ pub(crate) fn apart_of<P: Primitive>(
     side: usize,
 ) -> Result<List<List<usize>>, NoMemory>
     requires side { side < length (all_sides (net_of P.behaviour circuit.now).primitives) }
-    ensures ends { IfOk result (λ lists. length lists ≡ (side_in (net_of P.behaviour circuit.now) side).of.ends) }
-    ensures apart { IfOk result (λ lists. (end : ℕ) → Lists (IsApartAt (net_of P.behaviour circuit.now) side end) (slice_index_or lists end [])) }
+    ensures ends { let net = net_of P.behaviour circuit.now in
+        IfOk result (λ lists. length lists ≡ (side_in net side).of.ends) }
+    ensures apart { let net = net_of P.behaviour circuit.now in
+        IfOk result (λ lists. (end : ℕ) → Lists (IsApartAt net side end)
+        (slice_index_or lists end [])) }
 {
     circuit.known();
     let owner = circuit.owner(side);

@@ -43,7 +43,8 @@ impl Line {
 
     /// Takes the first number, if there is one.
     pub fn take_first(&mut self) -> Option<usize>
-        ensures { MatchOption result ((self.old ≡ []) × (self.new ≡ [])) (λ first. self.old ≡ first ∷ self.new) }
+        ensures { MatchOption result ((self.old ≡ []) × (self.new ≡ []))
+            (λ first. self.old ≡ first ∷ self.new) }
     {
         self.numbers.pop_front()
     }

@@ -25,7 +25,8 @@ use reo_values::{List, NoMemory, Value};
 pub fn other_side<P: Primitive>(circuit: &Circuit<P>, side: usize, joint: usize) -> usize
     requires { IsJointOf (net_of P.behaviour circuit.now) side joint }
     ensures at { IsJointOf (net_of P.behaviour circuit.now) result joint }
-    ensures two { (t : ℕ) → AtSide (net_of P.behaviour circuit.now) joint t → (t ≡ side) ⊎ (t ≡ result) }
+    ensures two { let net = net_of P.behaviour circuit.now in
+        (t : ℕ) → AtSide net joint t → (t ≡ side) ⊎ (t ≡ result) }
     ensures in_range { result < length (all_sides (net_of P.behaviour circuit.now).primitives) }
 {
     let giver = giver_side(circuit, joint);
@@ -48,18 +49,26 @@ fn tend_joint<P: Primitive>(
     side: usize,
     joint: usize,
 ) -> Result<(), NoMemory>
-    requires ready { IsReady (net_of P.behaviour circuit.now) boards.now ends.now items.now state.old.alive }
+    requires ready { let net = net_of P.behaviour circuit.now in
+        IsReady net boards.now ends.now items.now state.old.alive }
     requires tables { AreTables (net_of P.behaviour circuit.now) items.now state.old.rows }
     requires closed { IsClosed (net_of P.behaviour circuit.now) (among sides.now) }
     requires side { side < length (all_sides (net_of P.behaviour circuit.now).primitives) }
     requires inside { among sides.now side ≡ true }
     requires joint { IsJointOf (net_of P.behaviour circuit.now) side joint }
-    requires sifted { (start : Family) × IsSifted (net_of P.behaviour circuit.now) (names_of items.now) start side state.old.rows }
-    requires tended { IsTended (net_of P.behaviour circuit.now) (names_of items.now) (among sides.now) side state.old.alive state.old.rows state.old.queue }
-    ensures tended_at { IsTendedAt (net_of P.behaviour circuit.now) (names_of items.now) side joint state.old state.new }
+    requires sifted { let net = net_of P.behaviour circuit.now in
+        (start : Family) × IsSifted net (names_of items.now) start side state.old.rows }
+    requires tended { let net = net_of P.behaviour circuit.now in
+        IsTended net (names_of items.now) (among sides.now) side state.old.alive state.old.rows
+        state.old.queue }
+    ensures tended_at { let net = net_of P.behaviour circuit.now in
+        IsTendedAt net (names_of items.now) side joint state.old state.new }
     ensures tables { AreTables (net_of P.behaviour circuit.now) items.now state.new.rows }
-    ensures tended { OnOk result (IsTended (net_of P.behaviour circuit.now) (names_of items.now) (among sides.now) side state.new.alive state.new.rows state.new.queue) }
-    ensures fewer { OnOk result (count_set state.new.alive + length state.new.queue.line ≤ count_set state.old.alive + length state.old.queue.line) }
+    ensures tended { let net = net_of P.behaviour circuit.now in
+        OnOk result (IsTended net (names_of items.now) (among sides.now) side state.new.alive
+        state.new.rows state.new.queue) }
+    ensures fewer { OnOk result (count_set state.new.alive + length state.new.queue.line
+        ≤ count_set state.old.alive + length state.old.queue.line) }
 {
     let _ = sides;
     circuit.known();
@@ -101,16 +110,23 @@ fn revise<P: Primitive>(
     state: &mut State,
     side: usize,
 ) -> Result<(), NoMemory>
-    requires ready { IsReady (net_of P.behaviour circuit.now) boards.now ends.now items.now state.old.alive }
+    requires ready { let net = net_of P.behaviour circuit.now in
+        IsReady net boards.now ends.now items.now state.old.alive }
     requires tables { AreTables (net_of P.behaviour circuit.now) items.now state.old.rows }
     requires closed { IsClosed (net_of P.behaviour circuit.now) (among sides.now) }
     requires side { side < length (all_sides (net_of P.behaviour circuit.now).primitives) }
     requires inside { among sides.now side ≡ true }
-    requires tended { IsTended (net_of P.behaviour circuit.now) (names_of items.now) (among sides.now) side state.old.alive state.old.rows state.old.queue }
-    ensures revised { IsRevised (net_of P.behaviour circuit.now) (names_of items.now) side state.old.alive state.new.alive }
+    requires tended { let net = net_of P.behaviour circuit.now in
+        IsTended net (names_of items.now) (among sides.now) side state.old.alive state.old.rows
+        state.old.queue }
+    ensures revised { let net = net_of P.behaviour circuit.now in
+        IsRevised net (names_of items.now) side state.old.alive state.new.alive }
     ensures tables { AreTables (net_of P.behaviour circuit.now) items.now state.new.rows }
-    ensures tended { OnOk result (IsTended (net_of P.behaviour circuit.now) (names_of items.now) (among sides.now) (nobody (net_of P.behaviour circuit.now)) state.new.alive state.new.rows state.new.queue) }
-    ensures fewer { OnOk result (count_set state.new.alive + length state.new.queue.line ≤ count_set state.old.alive + length state.old.queue.line) }
+    ensures tended { let net = net_of P.behaviour circuit.now in
+        OnOk result (IsTended net (names_of items.now) (among sides.now) (nobody net)
+        state.new.alive state.new.rows state.new.queue) }
+    ensures fewer { OnOk result (count_set state.new.alive + length state.new.queue.line
+        ≤ count_set state.old.alive + length state.old.queue.line) }
 {
     circuit.known();
     sift(
@@ -141,13 +157,13 @@ fn revise<P: Primitive>(
 
 /// Takes what is not used at these sides away from their joints, until none of them waits. What is
 /// left are the greatest supported sets within the old ones; the values of other joints stay. Only
-/// what waits is looked at: after a few joints lost values and their sides were let wait it costs what
-/// changes.
+/// what waits is looked at: after a few joints lost values and their sides were let wait it costs
+/// what changes.
 ///
 /// # Errors
 ///
-/// `NoMemory` is out of memory; some of what is not used may then still be there, and nothing else has
-/// gone.
+/// `NoMemory` is out of memory; some of what is not used may then still be there, and nothing else
+/// has gone.
 pub fn propagate<P: Primitive>(
     circuit: &Circuit<P>,
     boards: &List<Board>,
@@ -156,13 +172,19 @@ pub fn propagate<P: Primitive>(
     sides: &[usize],
     state: &mut State,
 ) -> Result<(), NoMemory>
-    requires search { IsSearch (net_of P.behaviour circuit.now) boards.now ends.now items.now (among sides.now) state.old }
+    requires search { let net = net_of P.behaviour circuit.now in
+        IsSearch net boards.now ends.now items.now (among sides.now) state.old }
     requires closed { IsClosed (net_of P.behaviour circuit.now) (among sides.now) }
-    requires sides { (s : ℕ) → among sides.now s ≡ true → s < length (all_sides (net_of P.behaviour circuit.now).primitives) }
-    ensures reduced { IsReduced (net_of P.behaviour circuit.now) (names_of items.now) (among sides.now) state.old.alive state.new.alive }
-    ensures search { OnOk result (IsSearch (net_of P.behaviour circuit.now) boards.now ends.now items.now (among sides.now) state.new) }
+    requires sides { let net = net_of P.behaviour circuit.now in
+        (s : ℕ) → among sides.now s ≡ true → s < length (all_sides net.primitives) }
+    ensures reduced { let net = net_of P.behaviour circuit.now in
+        IsReduced net (names_of items.now) (among sides.now) state.old.alive state.new.alive }
+    ensures search { let net = net_of P.behaviour circuit.now in
+        OnOk result (IsSearch net boards.now ends.now items.now (among sides.now) state.new) }
     ensures empty { OnOk result (state.new.queue.line ≡ []) }
-    ensures greatest { OnOk result (AreGreatest (net_of P.behaviour circuit.now) (names_of items.now) (among sides.now) state.old.alive state.new.alive) }
+    ensures greatest { let net = net_of P.behaviour circuit.now in
+        OnOk result (AreGreatest net (names_of items.now) (among sides.now) state.old.alive
+        state.new.alive) }
 {
     circuit.known();
     while let Some(side) = state.queue.next() {

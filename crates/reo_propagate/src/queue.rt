@@ -28,8 +28,10 @@ impl Queue {
 
     /// Takes the side that has waited longest, if one waits.
     pub fn next(&mut self) -> Option<usize>
-        requires { (m : ℕ) → m < length self.old.line → slice_index self.old.line m < length self.old.waits }
-        ensures { MatchOption result ((self.old.line ≡ []) × (self.new ≡ self.old)) (IsNext self.old self.new) }
+        requires { (m : ℕ) → m < length self.old.line
+            → slice_index self.old.line m < length self.old.waits }
+        ensures { MatchOption result ((self.old.line ≡ []) × (self.new ≡ self.old))
+            (IsNext self.old self.new) }
     {
         match self.line.take_first() {
             None => None,

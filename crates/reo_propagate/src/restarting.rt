@@ -46,8 +46,10 @@ fn freshen<P: Primitive>(circuit: &Circuit<P>, boards: &List<Board>, side: usize
     requires boards { AreBoards (net_of P.behaviour circuit.now) boards.now }
     requires side { side < length (all_sides (net_of P.behaviour circuit.now).primitives) }
     requires alive { length state.old.alive ≡ length circuit.now.joints }
-    requires live { length state.old.rows.live ≡ length (all_sides (net_of P.behaviour circuit.now).primitives) }
-    requires waits { length state.old.queue.waits ≡ length (all_sides (net_of P.behaviour circuit.now).primitives) }
+    requires live { let net = net_of P.behaviour circuit.now in
+        length state.old.rows.live ≡ length (all_sides net.primitives) }
+    requires waits { let net = net_of P.behaviour circuit.now in
+        length state.old.queue.waits ≡ length (all_sides net.primitives) }
     ensures { IsFresh (net_of P.behaviour circuit.now) side state.old state.new }
 {
     let _ = circuit;
@@ -64,11 +66,16 @@ fn freshen_all<P: Primitive>(
     state: &mut State,
 )
     requires boards { AreBoards (net_of P.behaviour circuit.now) boards.now }
-    requires sides { (m : ℕ) → m < length sides.now → slice_index sides.now m < length (all_sides (net_of P.behaviour circuit.now).primitives) }
+    requires sides { let net = net_of P.behaviour circuit.now in
+        (m : ℕ) → m < length sides.now
+        → slice_index sides.now m < length (all_sides net.primitives) }
     requires alive { length state.old.alive ≡ length circuit.now.joints }
-    requires live { length state.old.rows.live ≡ length (all_sides (net_of P.behaviour circuit.now).primitives) }
-    requires waits { length state.old.queue.waits ≡ length (all_sides (net_of P.behaviour circuit.now).primitives) }
-    ensures { AreFresh (net_of P.behaviour circuit.now) sides.now (length sides.now) state.old state.new }
+    requires live { let net = net_of P.behaviour circuit.now in
+        length state.old.rows.live ≡ length (all_sides net.primitives) }
+    requires waits { let net = net_of P.behaviour circuit.now in
+        length state.old.queue.waits ≡ length (all_sides net.primitives) }
+    ensures { let net = net_of P.behaviour circuit.now in
+        AreFresh net sides.now (length sides.now) state.old state.new }
 {
     for side in sides {
         freshen(circuit, boards, *side, state);
@@ -90,12 +97,19 @@ pub fn restart<P: Primitive>(
     sides: &[usize],
     state: &mut State,
 ) -> Result<(), NoMemory>
-    requires ready { IsReady (net_of P.behaviour circuit.now) boards.now ends.now items.now state.old.alive }
+    requires ready { let net = net_of P.behaviour circuit.now in
+        IsReady net boards.now ends.now items.now state.old.alive }
     requires tables { AreTables (net_of P.behaviour circuit.now) items.now state.old.rows }
-    requires waits { length state.old.queue.waits ≡ length (all_sides (net_of P.behaviour circuit.now).primitives) }
-    requires sides { (s : ℕ) → among sides.now s ≡ true → s < length (all_sides (net_of P.behaviour circuit.now).primitives) }
-    ensures search { OnOk result (IsSearch (net_of P.behaviour circuit.now) boards.now ends.now items.now (among sides.now) state.new) }
-    ensures whole { OnOk result ((j side : ℕ) (v : Standing) → IsJointOf (net_of P.behaviour circuit.now) side j → among sides.now side ≡ true → code_of v < length (slice_index_or items.now j []) + 4 → family_of state.new.alive j v ≡ true) }
+    requires waits { let net = net_of P.behaviour circuit.now in
+        length state.old.queue.waits ≡ length (all_sides net.primitives) }
+    requires sides { let net = net_of P.behaviour circuit.now in
+        (s : ℕ) → among sides.now s ≡ true → s < length (all_sides net.primitives) }
+    ensures search { let net = net_of P.behaviour circuit.now in
+        OnOk result (IsSearch net boards.now ends.now items.now (among sides.now) state.new) }
+    ensures whole { let net = net_of P.behaviour circuit.now in
+        OnOk result ((j side : ℕ) (v : Standing) → IsJointOf net side j
+        → among sides.now side ≡ true → code_of v < length (slice_index_or items.now j []) + 4
+        → family_of state.new.alive j v ≡ true) }
     ensures err { OnErr result (state.new ≡ state.old) }
 {
     let _ = ends;

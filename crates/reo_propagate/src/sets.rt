@@ -87,8 +87,11 @@ pub fn begin_with<P: Primitive>(
     requires items { length items.now ≡ length circuit.now.joints }
     requires few { (j : ℕ) → length (slice_index_or items.now j []) < 2 ^ 32 }
     requires sets { length sets.now.values ≡ length circuit.now.joints }
-    ensures search { IfOk result (IsSearch (net_of P.behaviour circuit.now) boards.now ends.now items.now (among sides.now)) }
-    ensures values { IfOk result (λ state. (j : ℕ) (v : Standing) → j < length circuit.now.joints → code_of v < length (slice_index_or items.now j []) + 4 → family_of state.alive j v ≡ listed sets.now.values j v) }
+    ensures search { let net = net_of P.behaviour circuit.now in
+        IfOk result (IsSearch net boards.now ends.now items.now (among sides.now)) }
+    ensures values { IfOk result (λ state. (j : ℕ) (v : Standing) → j < length circuit.now.joints
+        → code_of v < length (slice_index_or items.now j []) + 4
+        → family_of state.alive j v ≡ listed sets.now.values j v) }
 {
     let _ = boards;
     let _ = ends;
@@ -98,12 +101,14 @@ pub fn begin_with<P: Primitive>(
     Ok(State { alive, rows, queue })
 }
 
-/// Keeps the values of a list that have their flags at a joint, and says whether there are any. This
-/// takes no memory.
+/// Keeps the values of a list that have their flags at a joint, and says whether there are any.
+/// This takes no memory.
 fn keep_values(values: &mut List<JointValue>, alive: &Flags, joint: usize) -> bool
     requires joint { joint < length alive.now }
-    requires flags { (v : Standing) → in_set values.old v ≡ true → code_of v < length (slice_index_or alive.now joint []) }
-    ensures values { (v : Standing) → in_set values.new v ≡ (in_set values.old v && family_of alive.now joint v) }
+    requires flags { (v : Standing) → in_set values.old v ≡ true
+        → code_of v < length (slice_index_or alive.now joint []) }
+    ensures values { (v : Standing) → in_set values.new
+        v ≡ (in_set values.old v && family_of alive.now joint v) }
     ensures some { IsTrue result ↔ ((v : Standing) × (in_set values.new v ≡ true)) }
 {
     let mut count = 0;
@@ -130,9 +135,13 @@ fn keep_joint<P: Primitive>(
     requires joint { joint < length circuit.now.joints }
     requires one_set { length alive.now ≡ length circuit.now.joints }
     requires one_each { length sets.old.values ≡ length circuit.now.joints }
-    requires flags { HaveFlags (gives_at (net_of P.behaviour circuit.now) side) alive.now sets.old.values }
-    ensures kept { AreKept (λ j. (joint == j) && gives_at (net_of P.behaviour circuit.now) side j) alive.now sets.old.values sets.new.values }
-    ensures some { IsTrue result ↔ HaveSome (λ j. (joint == j) && gives_at (net_of P.behaviour circuit.now) side j) sets.new.values }
+    requires flags { let net = net_of P.behaviour circuit.now in
+        HaveFlags (gives_at net side) alive.now sets.old.values }
+    ensures kept { let net = net_of P.behaviour circuit.now in
+        AreKept (λ j. (joint == j) && gives_at net side j)
+        alive.now sets.old.values sets.new.values }
+    ensures some { let net = net_of P.behaviour circuit.now in
+        IsTrue result ↔ HaveSome (λ j. (joint == j) && gives_at net side j) sets.new.values }
 {
     if giver_side(circuit, joint) != side {
         return true;
@@ -140,8 +149,8 @@ fn keep_joint<P: Primitive>(
     keep_values(sets.values.at_mut(joint), alive, joint)
 }
 
-/// Keeps at each joint where a side gives the values that have their flags, and says whether there are
-/// any at each. This takes no memory.
+/// Keeps at each joint where a side gives the values that have their flags, and says whether there
+/// are any at each. This takes no memory.
 fn keep_given<P: Primitive>(
     circuit: &Circuit<P>,
     board: &Board,
@@ -152,9 +161,12 @@ fn keep_given<P: Primitive>(
     requires board { IsBoard (net_of P.behaviour circuit.now) side board.now }
     requires one_set { length alive.now ≡ length circuit.now.joints }
     requires one_each { length sets.old.values ≡ length circuit.now.joints }
-    requires flags { HaveFlags (gives_at (net_of P.behaviour circuit.now) side) alive.now sets.old.values }
-    ensures kept { AreKept (gives_at (net_of P.behaviour circuit.now) side) alive.now sets.old.values sets.new.values }
-    ensures some { IsTrue result ↔ HaveSome (gives_at (net_of P.behaviour circuit.now) side) sets.new.values }
+    requires flags { let net = net_of P.behaviour circuit.now in
+        HaveFlags (gives_at net side) alive.now sets.old.values }
+    ensures kept { let net = net_of P.behaviour circuit.now in
+        AreKept (gives_at net side) alive.now sets.old.values sets.new.values }
+    ensures some { let net = net_of P.behaviour circuit.now in
+        IsTrue result ↔ HaveSome (gives_at net side) sets.new.values }
 {
     let mut full = true;
     for index in 0..board.joints.len() {
@@ -165,8 +177,8 @@ fn keep_given<P: Primitive>(
     full
 }
 
-/// Keeps the values that have their flags at the joints where these sides give, and says whether there
-/// are any at each. This takes no memory.
+/// Keeps the values that have their flags at the joints where these sides give, and says whether
+/// there are any at each. This takes no memory.
 fn keep_sets<P: Primitive>(
     circuit: &Circuit<P>,
     boards: &List<Board>,
@@ -175,12 +187,17 @@ fn keep_sets<P: Primitive>(
     sets: &mut Sets,
 ) -> bool
     requires boards { AreBoards (net_of P.behaviour circuit.now) boards.now }
-    requires sides { (s : ℕ) → among sides.now s ≡ true → s < length (all_sides (net_of P.behaviour circuit.now).primitives) }
+    requires sides { let net = net_of P.behaviour circuit.now in
+        (s : ℕ) → among sides.now s ≡ true → s < length (all_sides net.primitives) }
     requires one_set { length alive.now ≡ length circuit.now.joints }
     requires one_each { length sets.old.values ≡ length circuit.now.joints }
-    requires flags { HaveFlags (λ j. among sides.now (giver_side (net_of P.behaviour circuit.now) j)) alive.now sets.old.values }
-    ensures kept { AreKept (λ j. among sides.now (giver_side (net_of P.behaviour circuit.now) j)) alive.now sets.old.values sets.new.values }
-    ensures some { IsTrue result ↔ HaveSome (λ j. among sides.now (giver_side (net_of P.behaviour circuit.now) j)) sets.new.values }
+    requires flags { let net = net_of P.behaviour circuit.now in
+        HaveFlags (λ j. among sides.now (giver_side net j)) alive.now sets.old.values }
+    ensures kept { let net = net_of P.behaviour circuit.now in
+        AreKept (λ j. among sides.now (giver_side net j))
+        alive.now sets.old.values sets.new.values }
+    ensures some { let net = net_of P.behaviour circuit.now in
+        IsTrue result ↔ HaveSome (λ j. among sides.now (giver_side net j)) sets.new.values }
 {
     let mut full = true;
     for side in sides {
@@ -191,8 +208,8 @@ fn keep_sets<P: Primitive>(
     full
 }
 
-/// The flags of the values of lists that narrowing leaves at the joints of these sides. `NoMemory` is
-/// out of memory.
+/// The flags of the values of lists that narrowing leaves at the joints of these sides. `NoMemory`
+/// is out of memory.
 fn left_of<P: Primitive>(
     alloc: Global,
     circuit: &Circuit<P>,
@@ -207,20 +224,25 @@ fn left_of<P: Primitive>(
     requires items { length items.now ≡ length circuit.now.joints }
     requires few { (j : ℕ) → length (slice_index_or items.now j []) < 2 ^ 32 }
     requires one_each { length sets.now.values ≡ length circuit.now.joints }
-    requires sides { (s : ℕ) → among sides.now s ≡ true → s < length (all_sides (net_of P.behaviour circuit.now).primitives) }
+    requires sides { let net = net_of P.behaviour circuit.now in
+        (s : ℕ) → among sides.now s ≡ true → s < length (all_sides net.primitives) }
     requires closed { IsClosed (net_of P.behaviour circuit.now) (among sides.now) }
-    requires numbers { AreInSupply (net_of P.behaviour circuit.now) (among sides.now) items.now (listed sets.now.values) }
+    requires numbers { let net = net_of P.behaviour circuit.now in
+        AreInSupply net (among sides.now) items.now (listed sets.now.values) }
     ensures one_set { IfOk result (λ alive. length alive ≡ length circuit.now.joints) }
-    ensures flags { IfOk result (λ alive. HaveFlags (λ j. among sides.now (giver_side (net_of P.behaviour circuit.now) j)) alive sets.now.values) }
-    ensures left { IfOk result (AreLeft (net_of P.behaviour circuit.now) (names_of items.now) (among sides.now) (listed sets.now.values)) }
+    ensures flags { let net = net_of P.behaviour circuit.now in
+        IfOk result (λ alive. HaveFlags (λ j. among sides.now (giver_side net j)) alive
+        sets.now.values) }
+    ensures left { let net = net_of P.behaviour circuit.now in
+        IfOk result (AreLeft net (names_of items.now) (among sides.now) (listed sets.now.values)) }
 {
     let mut state = begin_with(alloc, circuit, boards, ends, items, sides, sets)?;
     propagate(circuit, boards, ends, items, sides, &mut state)?;
     Ok(state.alive)
 }
 
-/// Narrows the sets at the joints of these sides to the greatest supported ones within them, and says
-/// whether each of them still has a value. All other sets stay.
+/// Narrows the sets at the joints of these sides to the greatest supported ones within them, and
+/// says whether each of them still has a value. All other sets stay.
 ///
 /// # Errors
 ///
@@ -235,12 +257,22 @@ pub fn narrow<P: Primitive>(
     requires items { length supply.now.items ≡ length circuit.now.joints }
     requires few { (j : ℕ) → length (slice_index_or supply.now.items j []) < 2 ^ 32 }
     requires one_each { length sets.old.values ≡ length circuit.now.joints }
-    requires sides { (s : ℕ) → among sides.now s ≡ true → s < length (all_sides (net_of P.behaviour circuit.now).primitives) }
+    requires sides { let net = net_of P.behaviour circuit.now in
+        (s : ℕ) → among sides.now s ≡ true → s < length (all_sides net.primitives) }
     requires closed { IsClosed (net_of P.behaviour circuit.now) (among sides.now) }
-    requires numbers { AreInSupply (net_of P.behaviour circuit.now) (among sides.now) supply.now.items (listed sets.old.values) }
-    ensures greatest { OnOk result ((j side : ℕ) (v : Standing) → IsJointOf (net_of P.behaviour circuit.now) side j → among sides.now side ≡ true → (listed sets.new.values j v ≡ true) ↔ IsInGreatest (net_of P.behaviour circuit.now) (names_of supply.now.items) (among sides.now) (listed sets.old.values) j v) }
-    ensures others { (j : ℕ) → ((side : ℕ) → IsJointOf (net_of P.behaviour circuit.now) side j → among sides.now side ≡ true → ⊥) → slice_index_or sets.new.values j [] ≡ slice_index_or sets.old.values j [] }
-    ensures full { IfOk result (λ full. IsTrue full ↔ AreFullAt (net_of P.behaviour circuit.now) (among sides.now) (listed sets.new.values)) }
+    requires numbers { let net = net_of P.behaviour circuit.now in
+        AreInSupply net (among sides.now) supply.now.items (listed sets.old.values) }
+    ensures greatest { let net = net_of P.behaviour circuit.now in
+        OnOk result ((j side : ℕ) (v : Standing) → IsJointOf net side j
+        → among sides.now side ≡ true → (listed sets.new.values j v ≡ true)
+        ↔ IsInGreatest net (names_of supply.now.items) (among sides.now) (listed sets.old.values) j
+        v) }
+    ensures others { let net = net_of P.behaviour circuit.now in
+        (j : ℕ) → ((side : ℕ) → IsJointOf net side j → among sides.now side ≡ true → ⊥)
+        → slice_index_or sets.new.values j [] ≡ slice_index_or sets.old.values j [] }
+    ensures full { let net = net_of P.behaviour circuit.now in
+        IfOk result (λ full. IsTrue full ↔ AreFullAt net (among sides.now)
+        (listed sets.new.values)) }
     ensures one_each { length sets.new.values ≡ length sets.old.values }
     ensures err { OnErr result (sets.new ≡ sets.old) }
 {

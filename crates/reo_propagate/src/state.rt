@@ -62,7 +62,8 @@ pub fn begin<P: Primitive>(
     requires ends { AreEnds (net_of P.behaviour circuit.now) ends.now }
     requires items { length items.now ≡ length circuit.now.joints }
     requires few { (j : ℕ) → length (slice_index_or items.now j []) < 2 ^ 32 }
-    ensures search { IfOk result (IsSearch (net_of P.behaviour circuit.now) boards.now ends.now items.now (among sides.now)) }
+    ensures search { let net = net_of P.behaviour circuit.now in
+        IfOk result (IsSearch net boards.now ends.now items.now (among sides.now)) }
     ensures whole { IfOk result (IsWhole (net_of P.behaviour circuit.now) items.now) }
 {
     let _ = boards;

@@ -59,14 +59,20 @@ pub fn thin<P: Primitive>(
     side: usize,
     joint: usize,
 ) -> Loss
-    requires ready { IsReady (net_of P.behaviour circuit.now) boards.now ends.now items.now alive.old }
+    requires ready { let net = net_of P.behaviour circuit.now in
+        IsReady net boards.now ends.now items.now alive.old }
     requires tables { AreTables (net_of P.behaviour circuit.now) items.now rows.now }
     requires side { side < length (all_sides (net_of P.behaviour circuit.now).primitives) }
     requires joint { IsJointOf (net_of P.behaviour circuit.now) side joint }
     requires noted { AreNoted (net_of P.behaviour circuit.now) rows.now.live side rows.now.notes }
     ensures cut { IsCut joint alive.old alive.new result }
     ensures fewer { count_set alive.new + cond result.some 1 0 ≤ count_set alive.old }
-    ensures thinned { (start : Family) → IsSifted (net_of P.behaviour circuit.now) (names_of items.now) start side rows.now → IsSeen (net_of P.behaviour circuit.now) (names_of items.now) start side rows.now → IsThinned (net_of P.behaviour circuit.now) (names_of items.now) side start (family_of alive.old) → IsThinnedTo (net_of P.behaviour circuit.now) (names_of items.now) side joint (length (slice_index_or alive.old joint [])) start alive.new }
+    ensures thinned { let net = net_of P.behaviour circuit.now in
+        (start : Family) → IsSifted net (names_of items.now) start side rows.now
+        → IsSeen net (names_of items.now) start side rows.now
+        → IsThinned net (names_of items.now) side start (family_of alive.old)
+        → IsThinnedTo net (names_of items.now) side joint
+        (length (slice_index_or alive.old joint [])) start alive.new }
 {
     let _ = ends;
     let marks = used_marks(circuit, boards, items, rows, side, joint);

@@ -15,9 +15,9 @@ use reo_net_ends::Ends;
 use reo_propagate_rows::{Flags, Rows, can_stay};
 use reo_values::{List, NoMemory, Value};
 
-/// Lets a side wait where a joint of it lost values, unless it can stay at rest: no value with flow was
-/// lost there, and each of its rows has the mark of some value there, but for some that it can do
-/// without. `NoMemory` is out of memory.
+/// Lets a side wait where a joint of it lost values, unless it can stay at rest: no value with flow
+/// was lost there, and each of its rows has the mark of some value there, but for some that it can
+/// do without. `NoMemory` is out of memory.
 pub fn wake<P: Primitive>(
     circuit: &Circuit<P>,
     boards: &List<Board>,
@@ -30,14 +30,20 @@ pub fn wake<P: Primitive>(
     joint: usize,
     lost_flow: bool,
 ) -> Result<(), NoMemory>
-    requires ready { IsReady (net_of P.behaviour circuit.now) boards.now ends.now items.now alive.now }
+    requires ready { let net = net_of P.behaviour circuit.now in
+        IsReady net boards.now ends.now items.now alive.now }
     requires tables { AreTables (net_of P.behaviour circuit.now) items.now rows.old }
     requires side { side < length (all_sides (net_of P.behaviour circuit.now).primitives) }
     requires joint { IsJointOf (net_of P.behaviour circuit.now) side joint }
-    requires waits { length queue.old.waits ≡ length (all_sides (net_of P.behaviour circuit.now).primitives) }
-    requires noted { slice_index_or queue.old.waits side true ≡ false → AreNoted (net_of P.behaviour circuit.now) rows.old.live side rows.old.notes }
+    requires waits { let net = net_of P.behaviour circuit.now in
+        length queue.old.waits ≡ length (all_sides net.primitives) }
+    requires noted { let net = net_of P.behaviour circuit.now in
+        slice_index_or queue.old.waits side true ≡ false
+        → AreNoted net rows.old.live side rows.old.notes }
     ensures tables { AreTables (net_of P.behaviour circuit.now) items.now rows.new }
-    ensures awake { OnOk result (IsAwakeOrStays (net_of P.behaviour circuit.now) (family_of alive.now) rows.old rows.new queue.old queue.new side joint lost_flow) }
+    ensures awake { let net = net_of P.behaviour circuit.now in
+        OnOk result (IsAwakeOrStays net (family_of alive.now) rows.old rows.new queue.old queue.new
+        side joint lost_flow) }
     ensures err { OnErr result (rows.new ≡ rows.old) }
 {
     if *queue.waits.at(side) {

@@ -61,7 +61,8 @@ impl Flags {
         Ok(Flags { rows })
     }
 
-    /// One more row of so many flags, all alike. After `NoMemory`, which is out of memory, the rows are as they were.
+    /// One more row of so many flags, all alike. After `NoMemory`, which is out of memory, the rows
+    /// are as they were.
     pub fn push_row(&mut self, alloc: Global, count: usize, value: bool) -> Result<(), NoMemory>
         ensures ok { OnOk result (self.new ≡ self.old ++ replicate count value ∷ []) }
         ensures err { OnErr result (self.new ≡ self.old) }
@@ -100,7 +101,8 @@ impl Flags {
         requires place { place < length (slice_index_or self.old row []) }
         requires was { flag self.old row place ≡ true }
         ensures alike { AreAlikeTables self.old self.new }
-        ensures flags { (i p : ℕ) → flag self.new i p ≡ (flag self.old i p && not ((i == row) && (p == place))) }
+        ensures flags { (i p : ℕ) → flag self.new i
+            p ≡ (flag self.old i p && not ((i == row) && (p == place))) }
         ensures fewer { count_set self.new + 1 ≡ count_set self.old }
     {
         let flags = self.rows.at_mut(row);
@@ -112,14 +114,15 @@ impl Flags {
         requires row { row < length self.old }
         requires place { place < length (slice_index_or self.old row []) }
         ensures alike { AreAlikeTables self.old self.new }
-        ensures flags { (i p : ℕ) → flag self.new i p ≡ cond ((i == row) && (p == place)) value (flag self.old i p) }
+        ensures flags { (i p : ℕ) → flag self.new i p ≡ cond ((i == row) && (p == place)) value
+            (flag self.old i p) }
     {
         let flags = self.rows.at_mut(row);
         *flags.at_mut(place) = value;
     }
 
-    /// Puts a row of so many flags, all alike, in the place of a row. After `NoMemory`, which is out of memory, the rows are as
-    /// they were.
+    /// Puts a row of so many flags, all alike, in the place of a row. After `NoMemory`, which is
+    /// out of memory, the rows are as they were.
     pub fn renew(
         &mut self,
         alloc: Global,
@@ -130,7 +133,8 @@ impl Flags {
         requires { row < length self.old }
         ensures one_each { length self.new ≡ length self.old }
         ensures here { OnOk result (slice_index_or self.new row [] ≡ replicate count value) }
-        ensures other { (i : ℕ) → (i ≡ row → ⊥) → slice_index_or self.new i [] ≡ slice_index_or self.old i [] }
+        ensures other { (i : ℕ) → (i ≡ row → ⊥) → slice_index_or self.new i [] ≡ slice_index_or
+            self.old i [] }
         ensures err { OnErr result (self.new ≡ self.old) }
     {
         let flags = row_of(alloc, count, value)?;

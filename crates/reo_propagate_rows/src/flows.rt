@@ -34,10 +34,13 @@ fn is_flow_given<P: Primitive>(
     joint: usize,
     taken: Option<&Value>,
 ) -> bool
-    requires ready { IsReady (net_of P.behaviour circuit.now) boards.now ends.now items.now alive.now }
+    requires ready { let net = net_of P.behaviour circuit.now in
+        IsReady net boards.now ends.now items.now alive.now }
     requires row { IsRowOf (net_of P.behaviour circuit.now) side row }
     requires gives { GivesFlow (net_of P.behaviour circuit.now) side row joint }
-    ensures { IsTrue result ↔ IsGivenIn (net_of P.behaviour circuit.now) (names_of items.now) (family_of alive.now) row joint (option_copied taken.entry) }
+    ensures { let net = net_of P.behaviour circuit.now in
+        IsTrue result ↔ IsGivenIn net (names_of items.now) (family_of alive.now) row joint
+        (option_copied taken.entry) }
 {
     let _ = boards;
     let _ = ends;
@@ -81,11 +84,14 @@ fn is_passed_on<P: Primitive>(
     joint: usize,
     item: &Value,
 ) -> bool
-    requires ready { IsReady (net_of P.behaviour circuit.now) boards.now ends.now items.now alive.now }
+    requires ready { let net = net_of P.behaviour circuit.now in
+        IsReady net boards.now ends.now items.now alive.now }
     requires row { IsRowOf (net_of P.behaviour circuit.now) side row }
     requires flow { IsFlow (net_of P.behaviour circuit.now) side row flow.now }
     requires takes { TakesFlow (net_of P.behaviour circuit.now) side row joint }
-    ensures { IsTrue result ↔ IsPassedOn (net_of P.behaviour circuit.now) (names_of items.now) (family_of alive.now) side row joint (Some item.now) }
+    ensures { let net = net_of P.behaviour circuit.now in
+        IsTrue result ↔ IsPassedOn net (names_of items.now) (family_of alive.now) side row joint
+        (Some item.now) }
 {
     for index in 0..flow.giving.len() {
         let other = *flow.giving.at(index);
@@ -108,7 +114,8 @@ fn is_passed_on<P: Primitive>(
     true
 }
 
-/// Whether an item, by its place, may be taken in with flow at a joint, and what is given for it may stand.
+/// Whether an item, by its place, may be taken in with flow at a joint, and what is given for it
+/// may stand.
 pub(crate) fn flow_works<P: Primitive>(
     circuit: &Circuit<P>,
     boards: &List<Board>,
@@ -121,14 +128,17 @@ pub(crate) fn flow_works<P: Primitive>(
     joint: usize,
     code: usize,
 ) -> bool
-    requires ready { IsReady (net_of P.behaviour circuit.now) boards.now ends.now items.now alive.now }
+    requires ready { let net = net_of P.behaviour circuit.now in
+        IsReady net boards.now ends.now items.now alive.now }
     requires row { IsRowOf (net_of P.behaviour circuit.now) side row }
     requires flow { IsFlow (net_of P.behaviour circuit.now) side row flow.now }
     requires takes { TakesFlow (net_of P.behaviour circuit.now) side row joint }
     requires flows { 4 ≤ code }
     requires code { code < length (slice_index_or alive.now joint []) }
     requires has { flag alive.now joint code ≡ true }
-    ensures { IsTrue result ↔ TakerWorks (net_of P.behaviour circuit.now) (names_of items.now) (family_of alive.now) side row joint (Flowing (code - 4)) }
+    ensures { let net = net_of P.behaviour circuit.now in
+        IsTrue result ↔ TakerWorks net (names_of items.now) (family_of alive.now) side row joint
+        (Flowing (code - 4)) }
 {
     let item = items[joint].at(code - FLOWS);
     lets_in(circuit, side, row, joint, item)
@@ -149,11 +159,13 @@ fn takes_flow<P: Primitive>(
     flow: &Flow,
     joint: usize,
 ) -> bool
-    requires ready { IsReady (net_of P.behaviour circuit.now) boards.now ends.now items.now alive.now }
+    requires ready { let net = net_of P.behaviour circuit.now in
+        IsReady net boards.now ends.now items.now alive.now }
     requires row { IsRowOf (net_of P.behaviour circuit.now) side row }
     requires flow { IsFlow (net_of P.behaviour circuit.now) side row flow.now }
     requires takes { TakesFlow (net_of P.behaviour circuit.now) side row joint }
-    ensures { IsTrue result ↔ TakerHas (net_of P.behaviour circuit.now) (names_of items.now) (family_of alive.now) side row joint }
+    ensures { let net = net_of P.behaviour circuit.now in
+        IsTrue result ↔ TakerHas net (names_of items.now) (family_of alive.now) side row joint }
 {
     for code in FLOWS..alive.width(joint) {
         if alive.is_set(joint, code)
@@ -178,10 +190,12 @@ pub(crate) fn flows_stand<P: Primitive>(
     row: usize,
     flow: &Flow,
 ) -> bool
-    requires ready { IsReady (net_of P.behaviour circuit.now) boards.now ends.now items.now alive.now }
+    requires ready { let net = net_of P.behaviour circuit.now in
+        IsReady net boards.now ends.now items.now alive.now }
     requires row { IsRowOf (net_of P.behaviour circuit.now) side row }
     requires flow { IsFlow (net_of P.behaviour circuit.now) side row flow.now }
-    ensures { IsTrue result ↔ FlowsStand (net_of P.behaviour circuit.now) (names_of items.now) (family_of alive.now) side row }
+    ensures { let net = net_of P.behaviour circuit.now in
+        IsTrue result ↔ FlowsStand net (names_of items.now) (family_of alive.now) side row }
 {
     for index in 0..flow.taking.len() {
         let joint = *flow.taking.at(index);

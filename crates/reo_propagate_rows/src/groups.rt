@@ -1,5 +1,6 @@
 //! What is noted of the groups of a side.
-/// Two rows of a group that have their flags: one of them, and another that is apart at another end.
+/// Two rows of a group that have their flags: one of them, and another that is apart at another
+/// end.
 #[derive(Clone, Copy, Debug, PartialEq, Eq)]
 pub struct Group {
     pub first: Option<usize>,

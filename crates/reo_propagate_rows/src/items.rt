@@ -25,8 +25,10 @@ pub(crate) fn source_of<P: Primitive>(
     requires joint { joint < length circuit.now.joints }
     requires at { giver_side (net_of P.behaviour circuit.now) joint ≡ side }
     requires row { IsRowOf (net_of P.behaviour circuit.now) side row }
-    requires flows { mark_in (net_of P.behaviour circuit.now) row (joint_of (net_of P.behaviour circuit.now) joint).giver ≡ F }
-    ensures { result ≡ from_in (net_of P.behaviour circuit.now) row (joint_of (net_of P.behaviour circuit.now) joint).giver }
+    requires flows { let net = net_of P.behaviour circuit.now in
+        mark_in net row (joint_of net joint).giver ≡ F }
+    ensures { let net = net_of P.behaviour circuit.now in
+        result ≡ from_in net row (joint_of net joint).giver }
 {
     circuit.known();
     let _ = side;
@@ -47,7 +49,8 @@ pub(crate) fn lets_in<P: Primitive>(
     requires joint { joint < length circuit.now.joints }
     requires at { taker_side (net_of P.behaviour circuit.now) joint ≡ side }
     requires row { IsRowOf (net_of P.behaviour circuit.now) side row }
-    ensures { result ≡ passes_in (net_of P.behaviour circuit.now) row (joint_of (net_of P.behaviour circuit.now) joint).taker item.now }
+    ensures { let net = net_of P.behaviour circuit.now in
+        result ≡ passes_in net row (joint_of net joint).taker item.now }
 {
     circuit.known();
     let _ = side;
@@ -69,8 +72,11 @@ pub(crate) fn gives_item<P: Primitive>(
     requires joint { joint < length circuit.now.joints }
     requires at { giver_side (net_of P.behaviour circuit.now) joint ≡ side }
     requires row { IsRowOf (net_of P.behaviour circuit.now) side row }
-    requires flows { mark_in (net_of P.behaviour circuit.now) row (joint_of (net_of P.behaviour circuit.now) joint).giver ≡ F }
-    ensures { IsTrue result ↔ (given_for (net_of P.behaviour circuit.now) row (joint_of (net_of P.behaviour circuit.now) joint).giver (option_copied taken.entry) ≡ Some item.now) }
+    requires flows { let net = net_of P.behaviour circuit.now in
+        mark_in net row (joint_of net joint).giver ≡ F }
+    ensures { let net = net_of P.behaviour circuit.now in
+        IsTrue result ↔ (given_for net row (joint_of net joint).giver
+        (option_copied taken.entry) ≡ Some item.now) }
 {
     circuit.known();
     let _ = side;
@@ -94,7 +100,9 @@ pub(crate) fn gives_value<P: Primitive>(
     requires gives { GivesFlow (net_of P.behaviour circuit.now) side row joint }
     requires flows { 4 ≤ code }
     requires code { code < length (slice_index_or items.now joint []) + 4 }
-    ensures { IsTrue result ↔ IsGivenAs (net_of P.behaviour circuit.now) (names_of items.now) row joint (option_copied taken.entry) (value_of code) }
+    ensures { let net = net_of P.behaviour circuit.now in
+        IsTrue result ↔ IsGivenAs net (names_of items.now) row joint (option_copied taken.entry)
+        (value_of code) }
 {
     let item = items[joint].at(code - FLOWS);
     gives_item(circuit, side, row, joint, taken, item)

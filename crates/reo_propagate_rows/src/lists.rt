@@ -20,7 +20,8 @@ pub(crate) fn apart_there<'a, P: Primitive>(
     requires boards { AreBoards (net_of P.behaviour circuit.now) boards.now }
     requires side { side < length (all_sides (net_of P.behaviour circuit.now).primitives) }
     requires joint { IsJointOf (net_of P.behaviour circuit.now) side joint }
-    ensures { Lists (IsApartAt (net_of P.behaviour circuit.now) side (end_at (net_of P.behaviour circuit.now) side joint).end) result.now }
+    ensures { let net = net_of P.behaviour circuit.now in
+        Lists (IsApartAt net side (end_at net side joint).end) result.now }
 {
     circuit.known();
     let end = end_at(circuit, side, joint);

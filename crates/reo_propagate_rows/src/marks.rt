@@ -15,8 +15,8 @@ use reo_net_circuit::Circuit;
 use reo_net_ends::Ends;
 use reo_values::{List, Value};
 
-/// The places of the values of a joint: without flow, where the giver requires a reason, where the taker does, where neither
-/// does, and jam; from `FLOWS` on the values with flow.
+/// The places of the values of a joint: without flow, where the giver requires a reason, where the
+/// taker does, where neither does, and jam; from `FLOWS` on the values with flow.
 pub const GIVER_REQUIRES: usize = 0;
 
 pub const TAKER_REQUIRES: usize = 1;
@@ -145,9 +145,16 @@ fn has_flow(alive: &Flags, joint: usize) -> bool
     false
 }
 
-/// The marks at one end of a joint: there a reason is given where the other end requires one, or neither does.
+/// The marks at one end of a joint: there a reason is given where the other end requires one, or
+/// neither does.
 fn marks_of(flow: bool, other: bool, neither: bool, required: bool, jam: bool) -> Marks
-    ensures { result ≡ record { flow = flow; given = other || neither; required = required; jam = jam } }
+    ensures { result ≡ record {
+      flow = flow;
+      given = other || neither;
+      required = required;
+      jam =
+          jam;
+    } }
 {
     Marks {
         flow,
@@ -167,9 +174,11 @@ pub fn marks_left<P: Primitive>(
     side: usize,
     joint: usize,
 ) -> Marks
-    requires ready { IsReady (net_of P.behaviour circuit.now) boards.now ends.now items.now alive.now }
+    requires ready { let net = net_of P.behaviour circuit.now in
+        IsReady net boards.now ends.now items.now alive.now }
     requires joint { joint < length circuit.now.joints }
-    ensures { (m : Said) → (marks_has result m ≡ true) ↔ HasMark (net_of P.behaviour circuit.now) (family_of alive.now) side joint m }
+    ensures { let net = net_of P.behaviour circuit.now in
+        (m : Said) → (marks_has result m ≡ true) ↔ HasMark net (family_of alive.now) side joint m }
 {
     let _ = boards;
     let _ = ends;

@@ -13,8 +13,9 @@ use reo_net_circuit::Circuit;
 use reo_values::{List, NoMemory, Value};
 use std::alloc::Global;
 
-/// For each side which rows may still stand and what is noted of its groups; for each joint which values with flow were seen
-/// to be used by the side that was looked at last; and room for the marks of one side's groups.
+/// For each side which rows may still stand and what is noted of its groups; for each joint which
+/// values with flow were seen to be used by the side that was looked at last; and room for the
+/// marks of one side's groups.
 #[derive(Drop)]
 pub struct Rows {
     pub live: Flags,
@@ -40,7 +41,8 @@ fn empty_notes(alloc: Global, count: usize) -> Result<List<Group>, NoMemory>
 
 /// The flags of the rows of all sides: each row has its flag. `NoMemory` is out of memory.
 fn row_flags<P: Primitive>(alloc: Global, circuit: &Circuit<P>) -> Result<Flags, NoMemory>
-    ensures { IfOk result (AreRowFlags (net_of P.behaviour circuit.now) (length (all_sides (net_of P.behaviour circuit.now).primitives))) }
+    ensures { let net = net_of P.behaviour circuit.now in
+        IfOk result (AreRowFlags net (length (all_sides net.primitives))) }
 {
     let mut live = Flags::new(alloc);
     for side in 0..circuit.sides() {
@@ -54,7 +56,8 @@ fn group_notes<P: Primitive>(
     alloc: Global,
     circuit: &Circuit<P>,
 ) -> Result<List<List<Group>>, NoMemory>
-    ensures { IfOk result (AreGroupNotes (net_of P.behaviour circuit.now) (length (all_sides (net_of P.behaviour circuit.now).primitives))) }
+    ensures { let net = net_of P.behaviour circuit.now in
+        IfOk result (AreGroupNotes net (length (all_sides net.primitives))) }
 {
     let mut notes = List::new(alloc);
     for side in 0..circuit.sides() {
@@ -84,7 +87,8 @@ pub fn all_rows<P: Primitive>(
     requires items { length items.now ≡ length circuit.now.joints }
     requires few { (j : ℕ) → length (slice_index_or items.now j []) < 2 ^ 32 }
     ensures tables { IfOk result (AreTables (net_of P.behaviour circuit.now) items.now) }
-    ensures all { IfOk result (λ rows. (side row : ℕ) → row < length (slice_index_or rows.live side []) → flag rows.live side row ≡ true) }
+    ensures all { IfOk result (λ rows. (side row : ℕ)
+        → row < length (slice_index_or rows.live side []) → flag rows.live side row ≡ true) }
 {
     Ok(Rows {
         live: row_flags(alloc, circuit)?,

@@ -37,7 +37,8 @@ fn unsee(seen: &mut Flags, joint: usize)
 fn unsee_all(seen: &mut Flags, joints: &[usize])
     requires { (m : ℕ) → m < length joints.now → slice_index joints.now m < length seen.old }
     ensures alike { AreAlikeTables seen.old seen.new }
-    ensures here { (m code : ℕ) → m < length joints.now → 4 ≤ code → flag seen.new (slice_index joints.now m) code ≡ false }
+    ensures here { (m code : ℕ) → m < length joints.now → 4 ≤ code
+        → flag seen.new (slice_index joints.now m) code ≡ false }
 {
     for index in 0..joints.len() {
         unsee(seen, joints[index]);
@@ -63,7 +64,9 @@ fn see_value<P: Primitive>(
     requires gives { GivesFlow (net_of P.behaviour circuit.now) side row joint }
     requires flows { 4 ≤ code }
     requires code { code < length (slice_index_or items.now joint []) + 4 }
-    ensures { AreSeen (IsGivenValue (net_of P.behaviour circuit.now) (names_of items.now) (family_of alive.now) row joint (option_copied taken.entry) code) seen.old seen.new }
+    ensures { let net = net_of P.behaviour circuit.now in
+        AreSeen (IsGivenValue net (names_of items.now) (family_of alive.now) row joint
+        (option_copied taken.entry) code) seen.old seen.new }
 {
     if alive.is_set(joint, code)
         && !seen.is_set(joint, code)
@@ -89,14 +92,17 @@ fn see_given<P: Primitive>(
     requires seen { HasValuePlaces (net_of P.behaviour circuit.now) items.now seen.old }
     requires row { IsRowOf (net_of P.behaviour circuit.now) side row }
     requires gives { GivesFlow (net_of P.behaviour circuit.now) side row joint }
-    ensures { AreSeen (GivenUse (net_of P.behaviour circuit.now) (names_of items.now) (family_of alive.now) row joint (option_copied taken.entry)) seen.old seen.new }
+    ensures { let net = net_of P.behaviour circuit.now in
+        AreSeen (GivenUse net (names_of items.now) (family_of alive.now) row joint
+        (option_copied taken.entry)) seen.old seen.new }
 {
     for code in FLOWS..alive.width(joint) {
         see_value(circuit, items, alive, seen, side, row, joint, taken, code);
     }
 }
 
-/// Sees the values that a row gives at a joint for an item that it takes in at another, if they hang on it.
+/// Sees the values that a row gives at a joint for an item that it takes in at another, if they
+/// hang on it.
 fn see_followed<P: Primitive>(
     circuit: &Circuit<P>,
     items: &[List<Value>],
@@ -114,7 +120,9 @@ fn see_followed<P: Primitive>(
     requires row { IsRowOf (net_of P.behaviour circuit.now) side row }
     requires takes { TakesFlow (net_of P.behaviour circuit.now) side row source }
     requires gives { GivesFlow (net_of P.behaviour circuit.now) side row joint }
-    ensures { AreSeen (FollowedUse (net_of P.behaviour circuit.now) (names_of items.now) (family_of alive.now) row source (Some item.now) joint) seen.old seen.new }
+    ensures { let net = net_of P.behaviour circuit.now in
+        AreSeen (FollowedUse net (names_of items.now) (family_of alive.now) row source
+        (Some item.now) joint) seen.old seen.new }
 {
     if follows(circuit, side, row, joint, source) {
         see_given(circuit, items, alive, seen, side, row, joint, Some(item));
@@ -139,7 +147,9 @@ fn see_followers<P: Primitive>(
     requires row { IsRowOf (net_of P.behaviour circuit.now) side row }
     requires flow { IsFlow (net_of P.behaviour circuit.now) side row flow.now }
     requires takes { TakesFlow (net_of P.behaviour circuit.now) side row source }
-    ensures { AreSeen (FollowUse (net_of P.behaviour circuit.now) (names_of items.now) (family_of alive.now) side row source (Some item.now)) seen.old seen.new }
+    ensures { let net = net_of P.behaviour circuit.now in
+        AreSeen (FollowUse net (names_of items.now) (family_of alive.now) side row source
+        (Some item.now)) seen.old seen.new }
 {
     for index in 0..flow.giving.len() {
         let joint = *flow.giving.at(index);
@@ -147,7 +157,8 @@ fn see_followers<P: Primitive>(
     }
 }
 
-/// Sees a value of a joint, by its place, if a row takes it in there with flow, and what it gives for it.
+/// Sees a value of a joint, by its place, if a row takes it in there with flow, and what it gives
+/// for it.
 fn see_taken<P: Primitive>(
     circuit: &Circuit<P>,
     boards: &List<Board>,
@@ -161,14 +172,17 @@ fn see_taken<P: Primitive>(
     source: usize,
     code: usize,
 )
-    requires ready { IsReady (net_of P.behaviour circuit.now) boards.now ends.now items.now alive.now }
+    requires ready { let net = net_of P.behaviour circuit.now in
+        IsReady net boards.now ends.now items.now alive.now }
     requires seen { HasValuePlaces (net_of P.behaviour circuit.now) items.now seen.old }
     requires row { IsRowOf (net_of P.behaviour circuit.now) side row }
     requires flow { IsFlow (net_of P.behaviour circuit.now) side row flow.now }
     requires takes { TakesFlow (net_of P.behaviour circuit.now) side row source }
     requires flows { 4 ≤ code }
     requires code { code < length (slice_index_or alive.now source []) }
-    ensures { AreSeen (TakenUse (net_of P.behaviour circuit.now) (names_of items.now) (family_of alive.now) side row source code) seen.old seen.new }
+    ensures { let net = net_of P.behaviour circuit.now in
+        AreSeen (TakenUse net (names_of items.now) (family_of alive.now) side row source code)
+        seen.old seen.new }
 {
     if alive.is_set(source, code)
         && flow_works(
@@ -194,12 +208,15 @@ fn see_takes<P: Primitive>(
     flow: &Flow,
     source: usize,
 )
-    requires ready { IsReady (net_of P.behaviour circuit.now) boards.now ends.now items.now alive.now }
+    requires ready { let net = net_of P.behaviour circuit.now in
+        IsReady net boards.now ends.now items.now alive.now }
     requires seen { HasValuePlaces (net_of P.behaviour circuit.now) items.now seen.old }
     requires row { IsRowOf (net_of P.behaviour circuit.now) side row }
     requires flow { IsFlow (net_of P.behaviour circuit.now) side row flow.now }
     requires takes { TakesFlow (net_of P.behaviour circuit.now) side row source }
-    ensures { AreSeen (TakesUse (net_of P.behaviour circuit.now) (names_of items.now) (family_of alive.now) side row source) seen.old seen.new }
+    ensures { let net = net_of P.behaviour circuit.now in
+        AreSeen (TakesUse net (names_of items.now) (family_of alive.now) side row source) seen.old
+        seen.new }
 {
     for code in FLOWS..alive.width(source) {
         see_taken(
@@ -223,7 +240,9 @@ fn see_alone<P: Primitive>(
     requires seen { HasValuePlaces (net_of P.behaviour circuit.now) items.now seen.old }
     requires row { IsRowOf (net_of P.behaviour circuit.now) side row }
     requires gives { GivesFlow (net_of P.behaviour circuit.now) side row joint }
-    ensures { AreSeen (AloneUse (net_of P.behaviour circuit.now) (names_of items.now) (family_of alive.now) row joint) seen.old seen.new }
+    ensures { let net = net_of P.behaviour circuit.now in
+        AreSeen (AloneUse net (names_of items.now) (family_of alive.now) row joint) seen.old
+        seen.new }
 {
     if source_of(circuit, side, row, joint).is_none() {
         see_given(circuit, items, alive, seen, side, row, joint, None);
@@ -242,11 +261,13 @@ fn see_row<P: Primitive>(
     row: usize,
     flow: &Flow,
 )
-    requires ready { IsReady (net_of P.behaviour circuit.now) boards.now ends.now items.now alive.now }
+    requires ready { let net = net_of P.behaviour circuit.now in
+        IsReady net boards.now ends.now items.now alive.now }
     requires seen { HasValuePlaces (net_of P.behaviour circuit.now) items.now seen.old }
     requires row { IsRowOf (net_of P.behaviour circuit.now) side row }
     requires flow { IsFlow (net_of P.behaviour circuit.now) side row flow.now }
-    ensures { AreSeen (RowUse (net_of P.behaviour circuit.now) (names_of items.now) (family_of alive.now) side row) seen.old seen.new }
+    ensures { let net = net_of P.behaviour circuit.now in
+        AreSeen (RowUse net (names_of items.now) (family_of alive.now) side row) seen.old seen.new }
 {
     circuit.known();
     for index in 0..flow.taking.len() {
@@ -273,13 +294,17 @@ fn see_live<P: Primitive>(
     side: usize,
     row: usize,
 )
-    requires ready { IsReady (net_of P.behaviour circuit.now) boards.now ends.now items.now alive.now }
+    requires ready { let net = net_of P.behaviour circuit.now in
+        IsReady net boards.now ends.now items.now alive.now }
     requires live { side < length live.now }
-    requires width { length (slice_index_or live.now side []) ≡ row_count (side_in (net_of P.behaviour circuit.now) side) }
+    requires width { let net = net_of P.behaviour circuit.now in
+        length (slice_index_or live.now side []) ≡ row_count (side_in net side) }
     requires seen { HasValuePlaces (net_of P.behaviour circuit.now) items.now seen.old }
     requires side { side < length (all_sides (net_of P.behaviour circuit.now).primitives) }
     requires row { IsRowOf (net_of P.behaviour circuit.now) side row }
-    ensures { AreSeen (LiveRowUse (net_of P.behaviour circuit.now) (names_of items.now) (family_of alive.now) live.now side row) seen.old seen.new }
+    ensures { let net = net_of P.behaviour circuit.now in
+        AreSeen (LiveRowUse net (names_of items.now) (family_of alive.now) live.now side row)
+        seen.old seen.new }
 {
     if live.is_set(side, row) {
         let flow = boards.at(side).flows.at(row);
@@ -287,8 +312,8 @@ fn see_live<P: Primitive>(
     }
 }
 
-/// Sees which values with flow at the joints of a side go with its rows that have their flags. Those that were seen there
-/// before are forgotten. This takes no memory.
+/// Sees which values with flow at the joints of a side go with its rows that have their flags.
+/// Those that were seen there before are forgotten. This takes no memory.
 pub fn see<P: Primitive>(
     circuit: &Circuit<P>,
     boards: &List<Board>,
@@ -298,11 +323,13 @@ pub fn see<P: Primitive>(
     rows: &mut Rows,
     side: usize,
 )
-    requires ready { IsReady (net_of P.behaviour circuit.now) boards.now ends.now items.now alive.now }
+    requires ready { let net = net_of P.behaviour circuit.now in
+        IsReady net boards.now ends.now items.now alive.now }
     requires tables { AreTables (net_of P.behaviour circuit.now) items.now rows.old }
     requires side { side < length (all_sides (net_of P.behaviour circuit.now).primitives) }
     ensures tables { AreTables (net_of P.behaviour circuit.now) items.now rows.new }
-    ensures seen { IsSeen (net_of P.behaviour circuit.now) (names_of items.now) (family_of alive.now) side rows.new }
+    ensures seen { let net = net_of P.behaviour circuit.now in
+        IsSeen net (names_of items.now) (family_of alive.now) side rows.new }
     ensures live { rows.new.live ≡ rows.old.live }
     ensures notes { rows.new.notes ≡ rows.old.notes }
 {

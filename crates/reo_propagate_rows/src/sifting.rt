@@ -24,7 +24,8 @@ use reo_net_circuit::Circuit;
 use reo_net_ends::Ends;
 use reo_values::{List, NoMemory, Value};
 
-/// Where a group of a side has the mark of no value, where this is not 0 exactly if that is nowhere.
+/// Where a group of a side has the mark of no value, where this is not 0 exactly if that is
+/// nowhere.
 fn odd_where<P: Primitive>(
     circuit: &Circuit<P>,
     boards: &List<Board>,
@@ -35,10 +36,12 @@ fn odd_where<P: Primitive>(
     group: usize,
     fit: u8,
 ) -> Odd
-    requires ready { IsReady (net_of P.behaviour circuit.now) boards.now ends.now items.now alive.now }
+    requires ready { let net = net_of P.behaviour circuit.now in
+        IsReady net boards.now ends.now items.now alive.now }
     requires side { side < length (all_sides (net_of P.behaviour circuit.now).primitives) }
     requires group { group < groups_in (net_of P.behaviour circuit.now) side }
-    requires fit { (fit ≢ 0) ↔ GroupStands (net_of P.behaviour circuit.now) (family_of alive.now) side group }
+    requires fit { let net = net_of P.behaviour circuit.now in
+        (fit ≢ 0) ↔ GroupStands net (family_of alive.now) side group }
     ensures { IsOdd (net_of P.behaviour circuit.now) (family_of alive.now) side group result }
 {
     if fit != 0 {
@@ -59,9 +62,11 @@ fn find_odds<P: Primitive>(
     fits: &mut Vec<u8>,
     odds: &mut List<Odd>,
 ) -> Result<(), NoMemory>
-    requires ready { IsReady (net_of P.behaviour circuit.now) boards.now ends.now items.now alive.now }
+    requires ready { let net = net_of P.behaviour circuit.now in
+        IsReady net boards.now ends.now items.now alive.now }
     requires side { side < length (all_sides (net_of P.behaviour circuit.now).primitives) }
-    ensures { OnOk result (AreOdds (net_of P.behaviour circuit.now) (family_of alive.now) side odds.new) }
+    ensures { let net = net_of P.behaviour circuit.now in
+        OnOk result (AreOdds net (family_of alive.now) side odds.new) }
 {
     fit_groups(circuit, boards, ends, items, alive, side, fits)?;
     odds.clear();
@@ -84,7 +89,8 @@ fn find_odds<P: Primitive>(
 /// Nothing is noted of the groups of a side.
 fn clear_notes(notes: &mut List<Group>)
     ensures one_each { length notes.new ≡ length notes.old }
-    ensures nothing { (group : ℕ) (d : Noted) → group < length notes.old → slice_index_or notes.new group d ≡ nothing_noted }
+    ensures nothing { (group : ℕ) (d : Noted) → group < length notes.old
+        → slice_index_or notes.new group d ≡ nothing_noted }
 {
     for group in 0..notes.len() {
         *notes.at_mut(group) = Group {
@@ -98,8 +104,11 @@ fn clear_notes(notes: &mut List<Group>)
 fn with_row<P: Primitive>(circuit: &Circuit<P>, side: usize, noted: Group, row: usize) -> Group
     requires side { side < length (all_sides (net_of P.behaviour circuit.now).primitives) }
     requires row { IsRowOf (net_of P.behaviour circuit.now) side row }
-    requires first { (r : ℕ) → noted.first ≡ Some r → IsRowOf (net_of P.behaviour circuit.now) side r }
-    ensures { (rows : ℕ → Bool) → IsNotedOf (net_of P.behaviour circuit.now) side rows noted → IsNotedOf (net_of P.behaviour circuit.now) side (λ r. rows r || (r == row)) result }
+    requires first { let net = net_of P.behaviour circuit.now in
+        (r : ℕ) → noted.first ≡ Some r → IsRowOf net side r }
+    ensures { let net = net_of P.behaviour circuit.now in
+        (rows : ℕ → Bool) → IsNotedOf net side rows noted
+        → IsNotedOf net side (λ r. rows r || (r == row)) result }
 {
     match noted.first {
         None => Group {
@@ -126,7 +135,10 @@ fn note<P: Primitive>(circuit: &Circuit<P>, notes: &mut List<Group>, side: usize
     requires notes { length notes.old ≡ groups_in (net_of P.behaviour circuit.now) side }
     requires noted { AreRowsNoted (net_of P.behaviour circuit.now) side notes.old }
     ensures one_each { length notes.new ≡ length notes.old }
-    ensures noted { (live : Row (Row Bool)) → flag live side row ≡ true → AreNotedFrom (net_of P.behaviour circuit.now) live side (row + 1) notes.old → AreNotedFrom (net_of P.behaviour circuit.now) live side row notes.new }
+    ensures noted { let net = net_of P.behaviour circuit.now in
+        (live : Row (Row Bool)) → flag live side row ≡ true
+        → AreNotedFrom net live side (row + 1) notes.old
+        → AreNotedFrom net live side row notes.new }
 {
     let group = circuit.group(side, row);
     let noted = *notes.at(group);
@@ -144,11 +156,14 @@ fn works<P: Primitive>(
     row: usize,
     odd: Odd,
 ) -> bool
-    requires ready { IsReady (net_of P.behaviour circuit.now) boards.now ends.now items.now alive.now }
+    requires ready { let net = net_of P.behaviour circuit.now in
+        IsReady net boards.now ends.now items.now alive.now }
     requires side { side < length (all_sides (net_of P.behaviour circuit.now).primitives) }
     requires row { IsRowOf (net_of P.behaviour circuit.now) side row }
-    requires odd { IsOdd (net_of P.behaviour circuit.now) (family_of alive.now) side (group_in (net_of P.behaviour circuit.now) side row) odd }
-    ensures { IsTrue result ↔ RowWorks (net_of P.behaviour circuit.now) (names_of items.now) (family_of alive.now) side row }
+    requires odd { let net = net_of P.behaviour circuit.now in
+        IsOdd net (family_of alive.now) side (group_in net side row) odd }
+    ensures { let net = net_of P.behaviour circuit.now in
+        IsTrue result ↔ RowWorks net (names_of items.now) (family_of alive.now) side row }
 {
     circuit.known();
     let flow = boards.at(side).flows.at(row);
@@ -156,7 +171,8 @@ fn works<P: Primitive>(
         && flows_stand(circuit, boards, ends, items, alive, side, row, flow)
 }
 
-/// Clears the flag of a row of a side if it does not work, and else notes it, where the rows behind it are noted.
+/// Clears the flag of a row of a side if it does not work, and else notes it, where the rows behind
+/// it are noted.
 fn sift_row<P: Primitive>(
     circuit: &Circuit<P>,
     boards: &List<Board>,
@@ -167,13 +183,18 @@ fn sift_row<P: Primitive>(
     side: usize,
     row: usize,
 )
-    requires ready { IsReady (net_of P.behaviour circuit.now) boards.now ends.now items.now alive.now }
+    requires ready { let net = net_of P.behaviour circuit.now in
+        IsReady net boards.now ends.now items.now alive.now }
     requires tables { AreTables (net_of P.behaviour circuit.now) items.now rows.old }
     requires side { side < length (all_sides (net_of P.behaviour circuit.now).primitives) }
     requires row { IsRowOf (net_of P.behaviour circuit.now) side row }
-    requires odds { AreOdds (net_of P.behaviour circuit.now) (family_of alive.now) side rows.old.odds }
-    requires noted { AreRowsNoted (net_of P.behaviour circuit.now) side (slice_index_or rows.old.notes side []) }
-    ensures { IsRowSifted (net_of P.behaviour circuit.now) items.now (names_of items.now) (family_of alive.now) side row rows.old rows.new }
+    requires odds { let net = net_of P.behaviour circuit.now in
+        AreOdds net (family_of alive.now) side rows.old.odds }
+    requires noted { let net = net_of P.behaviour circuit.now in
+        AreRowsNoted net side (slice_index_or rows.old.notes side []) }
+    ensures { let net = net_of P.behaviour circuit.now in
+        IsRowSifted net items.now (names_of items.now) (family_of alive.now) side row rows.old
+        rows.new }
 {
     if rows.live.is_set(side, row) {
         let odd = *rows.odds.at(circuit.group(side, row));
@@ -185,8 +206,8 @@ fn sift_row<P: Primitive>(
     }
 }
 
-/// Clears the flags of the rows of a side that do not work, and notes the last of each group that do: a search that goes through the
-/// ends of a side in order does without the first ones first.
+/// Clears the flags of the rows of a side that do not work, and notes the last of each group that
+/// do: a search that goes through the ends of a side in order does without the first ones first.
 ///
 /// After `NoMemory`, which is out of memory, nothing has changed.
 pub fn sift<P: Primitive>(
@@ -198,14 +219,18 @@ pub fn sift<P: Primitive>(
     rows: &mut Rows,
     side: usize,
 ) -> Result<(), NoMemory>
-    requires ready { IsReady (net_of P.behaviour circuit.now) boards.now ends.now items.now alive.now }
+    requires ready { let net = net_of P.behaviour circuit.now in
+        IsReady net boards.now ends.now items.now alive.now }
     requires tables { AreTables (net_of P.behaviour circuit.now) items.now rows.old }
     requires side { side < length (all_sides (net_of P.behaviour circuit.now).primitives) }
-    requires works { AreLive (net_of P.behaviour circuit.now) (names_of items.now) (family_of alive.now) side rows.old }
+    requires works { let net = net_of P.behaviour circuit.now in
+        AreLive net (names_of items.now) (family_of alive.now) side rows.old }
     ensures tables { AreTables (net_of P.behaviour circuit.now) items.now rows.new }
-    ensures sifted { OnOk result (IsSifted (net_of P.behaviour circuit.now) (names_of items.now) (family_of alive.now) side rows.new) }
+    ensures sifted { let net = net_of P.behaviour circuit.now in
+        OnOk result (IsSifted net (names_of items.now) (family_of alive.now) side rows.new) }
     ensures others { OtherSidesStay side rows.old rows.new }
-    ensures works { AreLive (net_of P.behaviour circuit.now) (names_of items.now) (family_of alive.now) side rows.new }
+    ensures works { let net = net_of P.behaviour circuit.now in
+        AreLive net (names_of items.now) (family_of alive.now) side rows.new }
     ensures seen { rows.new.seen ≡ rows.old.seen }
 {
     find_odds(

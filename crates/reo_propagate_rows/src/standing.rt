@@ -46,7 +46,8 @@ fn clear_unfit<P: Primitive>(
     side: usize,
     fits: &mut [u8],
 )
-    requires ready { IsReady (net_of P.behaviour circuit.now) boards.now ends.now items.now alive.now }
+    requires ready { let net = net_of P.behaviour circuit.now in
+        IsReady net boards.now ends.now items.now alive.now }
     requires side { side < length (all_sides (net_of P.behaviour circuit.now).primitives) }
     requires fits { fits.old ≡ replicate (groups_in (net_of P.behaviour circuit.now) side) 1 }
     ensures { AreFit (net_of P.behaviour circuit.now) (family_of alive.now) side fits.new }
@@ -61,7 +62,8 @@ fn clear_unfit<P: Primitive>(
     }
 }
 
-/// Which groups of a side have the mark of some value at each joint: their bytes are not 0. `NoMemory` is out of memory.
+/// Which groups of a side have the mark of some value at each joint: their bytes are not 0.
+/// `NoMemory` is out of memory.
 pub(crate) fn fit_groups<P: Primitive>(
     circuit: &Circuit<P>,
     boards: &List<Board>,
@@ -71,9 +73,11 @@ pub(crate) fn fit_groups<P: Primitive>(
     side: usize,
     fits: &mut Vec<u8>,
 ) -> Result<(), NoMemory>
-    requires ready { IsReady (net_of P.behaviour circuit.now) boards.now ends.now items.now alive.now }
+    requires ready { let net = net_of P.behaviour circuit.now in
+        IsReady net boards.now ends.now items.now alive.now }
     requires side { side < length (all_sides (net_of P.behaviour circuit.now).primitives) }
-    ensures { OnOk result (AreFit (net_of P.behaviour circuit.now) (family_of alive.now) side fits.new.items) }
+    ensures { let net = net_of P.behaviour circuit.now in
+        OnOk result (AreFit net (family_of alive.now) side fits.new.items) }
 {
     all_ones(fits, circuit.groups(side))?;
     clear_unfit(
@@ -99,11 +103,14 @@ fn group_stands_at<P: Primitive>(
     group: usize,
     joint: usize,
 ) -> bool
-    requires ready { IsReady (net_of P.behaviour circuit.now) boards.now ends.now items.now alive.now }
+    requires ready { let net = net_of P.behaviour circuit.now in
+        IsReady net boards.now ends.now items.now alive.now }
     requires side { side < length (all_sides (net_of P.behaviour circuit.now).primitives) }
     requires group { group < groups_in (net_of P.behaviour circuit.now) side }
     requires joint { IsJointOf (net_of P.behaviour circuit.now) side joint }
-    ensures { IsTrue result ↔ HasMark (net_of P.behaviour circuit.now) (family_of alive.now) side joint (common_at_joint (net_of P.behaviour circuit.now) side group joint) }
+    ensures { let net = net_of P.behaviour circuit.now in
+        IsTrue result ↔ HasMark net (family_of alive.now) side joint
+        (common_at_joint net side group joint) }
 {
     circuit.known();
     let end = end_at(circuit, side, joint);
@@ -122,10 +129,13 @@ fn fails_besides<P: Primitive>(
     group: usize,
     besides: Option<usize>,
 ) -> Option<usize>
-    requires ready { IsReady (net_of P.behaviour circuit.now) boards.now ends.now items.now alive.now }
+    requires ready { let net = net_of P.behaviour circuit.now in
+        IsReady net boards.now ends.now items.now alive.now }
     requires side { side < length (all_sides (net_of P.behaviour circuit.now).primitives) }
     requires group { group < groups_in (net_of P.behaviour circuit.now) side }
-    ensures { MatchOption result (GroupStandsBesides (net_of P.behaviour circuit.now) (family_of alive.now) side group besides) (λ end. (besides ≢ Some end) × FailsAt (net_of P.behaviour circuit.now) (family_of alive.now) side group end) }
+    ensures { let net = net_of P.behaviour circuit.now in
+        MatchOption result (GroupStandsBesides net (family_of alive.now) side group besides)
+        (λ end. (besides ≢ Some end) × FailsAt net (family_of alive.now) side group end) }
 {
     let board = boards.at(side);
     for index in 0..board.joints.len() {
@@ -150,7 +160,8 @@ pub(crate) fn odd_of<P: Primitive>(
     side: usize,
     group: usize,
 ) -> Odd
-    requires ready { IsReady (net_of P.behaviour circuit.now) boards.now ends.now items.now alive.now }
+    requires ready { let net = net_of P.behaviour circuit.now in
+        IsReady net boards.now ends.now items.now alive.now }
     requires side { side < length (all_sides (net_of P.behaviour circuit.now).primitives) }
     requires group { group < groups_in (net_of P.behaviour circuit.now) side }
     ensures { IsOdd (net_of P.behaviour circuit.now) (family_of alive.now) side group result }
@@ -170,7 +181,8 @@ pub(crate) fn odd_of<P: Primitive>(
 fn joint_there<P: Primitive>(circuit: &Circuit<P>, ends: &Ends, side: usize, end: usize) -> usize
     requires ends { AreEnds (net_of P.behaviour circuit.now) ends.now }
     requires side { side < length (all_sides (net_of P.behaviour circuit.now).primitives) }
-    requires end { IsEndOf (side_in (net_of P.behaviour circuit.now) side).of (side_in (net_of P.behaviour circuit.now) side).number end }
+    requires end { let net = net_of P.behaviour circuit.now in
+        IsEndOf (side_in net side).of (side_in net side).number end }
     ensures { IsAtEnd (net_of P.behaviour circuit.now) side end result }
 {
     circuit.known();
@@ -192,11 +204,14 @@ fn stands_at<P: Primitive>(
     row: usize,
     end: usize,
 ) -> bool
-    requires ready { IsReady (net_of P.behaviour circuit.now) boards.now ends.now items.now alive.now }
+    requires ready { let net = net_of P.behaviour circuit.now in
+        IsReady net boards.now ends.now items.now alive.now }
     requires side { side < length (all_sides (net_of P.behaviour circuit.now).primitives) }
     requires row { IsRowOf (net_of P.behaviour circuit.now) side row }
-    requires end { IsEndOf (side_in (net_of P.behaviour circuit.now) side).of (side_in (net_of P.behaviour circuit.now) side).number end }
-    ensures { IsTrue result ↔ StandsAtEnd (net_of P.behaviour circuit.now) (family_of alive.now) side row end }
+    requires end { let net = net_of P.behaviour circuit.now in
+        IsEndOf (side_in net side).of (side_in net side).number end }
+    ensures { let net = net_of P.behaviour circuit.now in
+        IsTrue result ↔ StandsAtEnd net (family_of alive.now) side row end }
 {
     circuit.known();
     let joint = joint_there(circuit, ends, side, end);
@@ -204,7 +219,8 @@ fn stands_at<P: Primitive>(
     marks.has(mark_at_joint(circuit, side, row, joint))
 }
 
-/// Whether a row that is apart at such an end, or nowhere, can have the mark of some value where its group does not.
+/// Whether a row that is apart at such an end, or nowhere, can have the mark of some value where
+/// its group does not.
 fn excuses(odd: Odd, apart: Option<usize>) -> bool
     ensures { IsTrue result ↔ Excuses odd apart }
 {
@@ -226,11 +242,14 @@ pub(crate) fn marks_stand<P: Primitive>(
     row: usize,
     odd: Odd,
 ) -> bool
-    requires ready { IsReady (net_of P.behaviour circuit.now) boards.now ends.now items.now alive.now }
+    requires ready { let net = net_of P.behaviour circuit.now in
+        IsReady net boards.now ends.now items.now alive.now }
     requires side { side < length (all_sides (net_of P.behaviour circuit.now).primitives) }
     requires row { IsRowOf (net_of P.behaviour circuit.now) side row }
-    requires odd { IsOdd (net_of P.behaviour circuit.now) (family_of alive.now) side (group_in (net_of P.behaviour circuit.now) side row) odd }
-    ensures { IsTrue result ↔ MarksStand (net_of P.behaviour circuit.now) (family_of alive.now) side row }
+    requires odd { let net = net_of P.behaviour circuit.now in
+        IsOdd net (family_of alive.now) side (group_in net side row) odd }
+    ensures { let net = net_of P.behaviour circuit.now in
+        IsTrue result ↔ MarksStand net (family_of alive.now) side row }
 {
     circuit.known();
     let apart = circuit.apart(side, row);
@@ -260,10 +279,12 @@ fn lacks_mark<P: Primitive>(
     marks: Marks,
 ) -> bool
     requires side { side < length live.now }
-    requires width { length (slice_index_or live.now side []) ≡ row_count (side_in (net_of P.behaviour circuit.now) side) }
+    requires width { let net = net_of P.behaviour circuit.now in
+        length (slice_index_or live.now side []) ≡ row_count (side_in net side) }
     requires row { IsRowOf (net_of P.behaviour circuit.now) side row }
     requires joint { IsJointOf (net_of P.behaviour circuit.now) side joint }
-    ensures { IsTrue result ↔ IsLacking (net_of P.behaviour circuit.now) live.now side joint marks row }
+    ensures { let net = net_of P.behaviour circuit.now in
+        IsTrue result ↔ IsLacking net live.now side joint marks row }
 {
     live.is_set(side, row) && !marks.has(mark_at_joint(circuit, side, row, joint))
 }
@@ -275,7 +296,8 @@ fn flows_nowhere(flow: &Flow) -> bool
     flow.taking.is_empty() && flow.giving.is_empty()
 }
 
-/// Whether a side can do without a row where it is apart: it flows nowhere, and it is not noted of its group.
+/// Whether a side can do without a row where it is apart: it flows nowhere, and it is not noted of
+/// its group.
 fn is_idle<P: Primitive>(
     circuit: &Circuit<P>,
     board: &Board,
@@ -308,12 +330,15 @@ fn can_spare<P: Primitive>(
 ) -> bool
     requires side { side < length (all_sides (net_of P.behaviour circuit.now).primitives) }
     requires live { side < length live.now }
-    requires width { length (slice_index_or live.now side []) ≡ row_count (side_in (net_of P.behaviour circuit.now) side) }
+    requires width { let net = net_of P.behaviour circuit.now in
+        length (slice_index_or live.now side []) ≡ row_count (side_in net side) }
     requires board { IsBoard (net_of P.behaviour circuit.now) side board.now }
     requires notes { length notes.now ≡ groups_in (net_of P.behaviour circuit.now) side }
     requires joint { IsJointOf (net_of P.behaviour circuit.now) side joint }
-    requires list { (m : ℕ) → m < length list.now → IsRowOf (net_of P.behaviour circuit.now) side (slice_index list.now m) }
-    ensures { IsTrue result ↔ CanSpare (net_of P.behaviour circuit.now) live.now notes.now side joint marks list.now }
+    requires list { let net = net_of P.behaviour circuit.now in
+        (m : ℕ) → m < length list.now → IsRowOf net side (slice_index list.now m) }
+    ensures { let net = net_of P.behaviour circuit.now in
+        IsTrue result ↔ CanSpare net live.now notes.now side joint marks list.now }
 {
     for index in 0..list.len() {
         let row = list[index];
@@ -336,11 +361,14 @@ fn clear_lacking<P: Primitive>(
     marks: Marks,
 )
     requires live { side < length live.old }
-    requires width { length (slice_index_or live.old side []) ≡ row_count (side_in (net_of P.behaviour circuit.now) side) }
+    requires width { let net = net_of P.behaviour circuit.now in
+        length (slice_index_or live.old side []) ≡ row_count (side_in net side) }
     requires joint { IsJointOf (net_of P.behaviour circuit.now) side joint }
-    requires list { (m : ℕ) → m < length list.now → IsRowOf (net_of P.behaviour circuit.now) side (slice_index list.now m) }
+    requires list { let net = net_of P.behaviour circuit.now in
+        (m : ℕ) → m < length list.now → IsRowOf net side (slice_index list.now m) }
     ensures alike { AreAlikeTables live.old live.new }
-    ensures cleared { AreCleared (net_of P.behaviour circuit.now) side joint marks list.now (length list.now) live.old live.new }
+    ensures cleared { let net = net_of P.behaviour circuit.now in
+        AreCleared net side joint marks list.now (length list.now) live.old live.new }
 {
     for index in 0..list.len() {
         let row = list[index];
@@ -361,7 +389,8 @@ fn groups_have<P: Primitive>(
     requires side { side < length (all_sides (net_of P.behaviour circuit.now).primitives) }
     requires notes { length notes.now ≡ groups_in (net_of P.behaviour circuit.now) side }
     requires joint { IsJointOf (net_of P.behaviour circuit.now) side joint }
-    ensures { IsTrue result ↔ GroupsHave (net_of P.behaviour circuit.now) notes.now side joint marks }
+    ensures { let net = net_of P.behaviour circuit.now in
+        IsTrue result ↔ GroupsHave net notes.now side joint marks }
 {
     circuit.known();
     let end = end_at(circuit, side, joint);
@@ -373,9 +402,9 @@ fn groups_have<P: Primitive>(
     true
 }
 
-/// Whether a side that is at rest can stay so, where a joint there lost values without flow: then the rows with their flags have
-/// the marks of values there, but for some that are apart there and that the side can do without, which lose their flags. Else
-/// nothing changes.
+/// Whether a side that is at rest can stay so, where a joint there lost values without flow: then
+/// the rows with their flags have the marks of values there, but for some that are apart there and
+/// that the side can do without, which lose their flags. Else nothing changes.
 pub fn can_stay<P: Primitive>(
     circuit: &Circuit<P>,
     boards: &List<Board>,
@@ -386,12 +415,14 @@ pub fn can_stay<P: Primitive>(
     side: usize,
     joint: usize,
 ) -> bool
-    requires ready { IsReady (net_of P.behaviour circuit.now) boards.now ends.now items.now alive.now }
+    requires ready { let net = net_of P.behaviour circuit.now in
+        IsReady net boards.now ends.now items.now alive.now }
     requires tables { AreTables (net_of P.behaviour circuit.now) items.now rows.old }
     requires side { side < length (all_sides (net_of P.behaviour circuit.now).primitives) }
     requires noted { AreNoted (net_of P.behaviour circuit.now) rows.old.live side rows.old.notes }
     requires joint { IsJointOf (net_of P.behaviour circuit.now) side joint }
-    ensures yes { IsTrue result → IsSpared (net_of P.behaviour circuit.now) (family_of alive.now) side joint rows.old rows.new }
+    ensures yes { let net = net_of P.behaviour circuit.now in
+        IsTrue result → IsSpared net (family_of alive.now) side joint rows.old rows.new }
     ensures no { result ≡ false → rows.new ≡ rows.old }
     ensures tables { AreTables (net_of P.behaviour circuit.now) items.now rows.new }
 {

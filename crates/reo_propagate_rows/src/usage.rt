@@ -27,8 +27,11 @@ use reo_values::{List, Value};
 /// Whether some row is as its group at an end, by what is noted of the rows.
 fn has_common_row<P: Primitive>(circuit: &Circuit<P>, side: usize, noted: Group, end: usize) -> bool
     requires side { side < length (all_sides (net_of P.behaviour circuit.now).primitives) }
-    requires first { (row : ℕ) → noted.first ≡ Some row → IsRowOf (net_of P.behaviour circuit.now) side row }
-    ensures { (rows : ℕ → Bool) → IsNotedOf (net_of P.behaviour circuit.now) side rows noted → IsTrue result ↔ HasCommonRow (net_of P.behaviour circuit.now) rows side end }
+    requires first { let net = net_of P.behaviour circuit.now in
+        (row : ℕ) → noted.first ≡ Some row → IsRowOf net side row }
+    ensures { let net = net_of P.behaviour circuit.now in
+        (rows : ℕ → Bool) → IsNotedOf net side rows noted → IsTrue result
+        ↔ HasCommonRow net rows side end }
 {
     match noted.first {
         None => false,
@@ -36,7 +39,8 @@ fn has_common_row<P: Primitive>(circuit: &Circuit<P>, side: usize, noted: Group,
     }
 }
 
-/// The marks that the groups of a side have at a joint there, where a row with its flag is as its group.
+/// The marks that the groups of a side have at a joint there, where a row with its flag is as its
+/// group.
 fn common_marks<P: Primitive>(
     circuit: &Circuit<P>,
     items: &[List<Value>],
@@ -48,7 +52,9 @@ fn common_marks<P: Primitive>(
     requires side { side < length (all_sides (net_of P.behaviour circuit.now).primitives) }
     requires noted { AreNoted (net_of P.behaviour circuit.now) rows.now.live side rows.now.notes }
     requires joint { IsJointOf (net_of P.behaviour circuit.now) side joint }
-    ensures { (m : Said) → (marks_has result m ≡ true) ↔ IsCommonMark (net_of P.behaviour circuit.now) rows.now.live side joint (groups_in (net_of P.behaviour circuit.now) side) m }
+    ensures { let net = net_of P.behaviour circuit.now in
+        (m : Said) → (marks_has result m ≡ true) ↔ IsCommonMark net rows.now.live side joint
+        (groups_in net side) m }
 {
     circuit.known();
     let _ = items;
@@ -72,10 +78,14 @@ fn listed_marks<P: Primitive>(
     list: &[usize],
 ) -> Marks
     requires live { side < length live.now }
-    requires width { length (slice_index_or live.now side []) ≡ row_count (side_in (net_of P.behaviour circuit.now) side) }
+    requires width { let net = net_of P.behaviour circuit.now in
+        length (slice_index_or live.now side []) ≡ row_count (side_in net side) }
     requires joint { IsJointOf (net_of P.behaviour circuit.now) side joint }
-    requires list { (m : ℕ) → m < length list.now → IsRowOf (net_of P.behaviour circuit.now) side (slice_index list.now m) }
-    ensures { (m : Said) → (marks_has result m ≡ true) ↔ IsListedMark (net_of P.behaviour circuit.now) live.now side joint list.now (length list.now) m }
+    requires list { let net = net_of P.behaviour circuit.now in
+        (m : ℕ) → m < length list.now → IsRowOf net side (slice_index list.now m) }
+    ensures { let net = net_of P.behaviour circuit.now in
+        (m : Said) → (marks_has result m ≡ true) ↔ IsListedMark net live.now side joint list.now
+        (length list.now) m }
 {
     let mut marks = Marks::none();
     for index in 0..list.len() {
@@ -113,7 +123,9 @@ pub fn used_marks<P: Primitive>(
     requires side { side < length (all_sides (net_of P.behaviour circuit.now).primitives) }
     requires noted { AreNoted (net_of P.behaviour circuit.now) rows.now.live side rows.now.notes }
     requires joint { IsJointOf (net_of P.behaviour circuit.now) side joint }
-    ensures { (m : Said) → (marks_has result m ≡ true) ↔ ((row : ℕ) × (flag rows.now.live side row ≡ true) × (mark_at_joint (net_of P.behaviour circuit.now) side row joint ≡ m)) }
+    ensures { let net = net_of P.behaviour circuit.now in
+        (m : Said) → (marks_has result m ≡ true) ↔ ((row : ℕ) × (flag rows.now.live side row ≡ true)
+        × (mark_at_joint net side row joint ≡ m)) }
 {
     circuit.known();
     let apart = apart_there(circuit, boards, side, joint);
@@ -122,7 +134,8 @@ pub fn used_marks<P: Primitive>(
     both(common, listed)
 }
 
-/// Whether a value of a joint, by its place, is used at a side, where these are the marks that the rows of the side have there.
+/// Whether a value of a joint, by its place, is used at a side, where these are the marks that the
+/// rows of the side have there.
 pub fn is_used<P: Primitive>(
     circuit: &Circuit<P>,
     items: &[List<Value>],
@@ -135,8 +148,13 @@ pub fn is_used<P: Primitive>(
     requires tables { AreTables (net_of P.behaviour circuit.now) items.now rows.now }
     requires joint { IsJointOf (net_of P.behaviour circuit.now) side joint }
     requires code { code < length (slice_index_or rows.now.seen joint []) }
-    requires marks { (m : Said) → (marks_has marks m ≡ true) ↔ ((row : ℕ) × (flag rows.now.live side row ≡ true) × (mark_at_joint (net_of P.behaviour circuit.now) side row joint ≡ m)) }
-    ensures { (family : Family) → IsSifted (net_of P.behaviour circuit.now) (names_of items.now) family side rows.now → IsSeen (net_of P.behaviour circuit.now) (names_of items.now) family side rows.now → family joint (value_of code) ≡ true → IsTrue result ↔ IsUsed (net_of P.behaviour circuit.now) (names_of items.now) family side joint (value_of code) }
+    requires marks { let net = net_of P.behaviour circuit.now in
+        (m : Said) → (marks_has marks m ≡ true) ↔ ((row : ℕ) × (flag rows.now.live side row ≡ true)
+        × (mark_at_joint net side row joint ≡ m)) }
+    ensures { let net = net_of P.behaviour circuit.now in
+        (family : Family) → IsSifted net (names_of items.now) family side rows.now
+        → IsSeen net (names_of items.now) family side rows.now → family joint (value_of code) ≡ true
+        → IsTrue result ↔ IsUsed net (names_of items.now) family side joint (value_of code) }
 {
     circuit.known();
     let _ = items;

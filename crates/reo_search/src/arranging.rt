@@ -29,8 +29,8 @@ use reo_values::{List, NoMemory, Value};
 use std::alloc::Global;
 use std::sync::ledger::Ledger;
 
-/// The numbers of the first assignment of a knot with values in the sets of a search, by these places: `None` exactly where there is
-/// none.
+/// The numbers of the first assignment of a knot with values in the sets of a search, by these
+/// places: `None` exactly where there is none.
 pub fn first_by<P: Primitive>(
     alloc: Global,
     circuit: &Circuit<P>,
@@ -42,14 +42,22 @@ pub fn first_by<P: Primitive>(
     places: &[Place],
     turn: u64,
 ) -> Result<Option<List<usize>>, NoMemory>
-    requires search { IsSearch (net_of P.behaviour circuit.now) boards.now ends.now items.now (among sides.now) state.old }
+    requires search { let net = net_of P.behaviour circuit.now in
+        IsSearch net boards.now ends.now items.now (among sides.now) state.old }
     requires knot { IsKnot (net_of P.behaviour circuit.now) (among sides.now) }
-    requires sides { (s : ℕ) → among sides.now s ≡ true → s < length (all_sides (net_of P.behaviour circuit.now).primitives) }
+    requires sides { let net = net_of P.behaviour circuit.now in
+        (s : ℕ) → among sides.now s ≡ true → s < length (all_sides net.primitives) }
     requires some_side { 0 < length sides.now }
-    requires places { (k : ℕ) (d : Spot) → k < length places.now → among sides.now (side_of_place (slice_index_or places.now k d)) ≡ true }
-    requires one { OneAtLoops (net_of P.behaviour circuit.now) (among sides.now) (family_of state.old.alive) }
-    ensures first { IfOk result (λ found. MatchOption found (HasNone (net_of P.behaviour circuit.now) (names_of items.now) (among sides.now) (family_of state.old.alive)) (IsFirstWith (net_of P.behaviour circuit.now) (names_of items.now) (among sides.now) turn (family_of state.old.alive) places.now)) }
-    ensures search { OnOk result (IsSearch (net_of P.behaviour circuit.now) boards.now ends.now items.now (among sides.now) state.new) }
+    requires places { (k : ℕ) (d : Spot) → k < length places.now
+        → among sides.now (side_of_place (slice_index_or places.now k d)) ≡ true }
+    requires one { let net = net_of P.behaviour circuit.now in
+        OneAtLoops net (among sides.now) (family_of state.old.alive) }
+    ensures first { let net = net_of P.behaviour circuit.now in
+        IfOk result (λ found. MatchOption found (HasNone net (names_of items.now) (among sides.now)
+        (family_of state.old.alive)) (IsFirstWith net (names_of items.now) (among sides.now) turn
+        (family_of state.old.alive) places.now)) }
+    ensures search { let net = net_of P.behaviour circuit.now in
+        OnOk result (IsSearch net boards.now ends.now items.now (among sides.now) state.new) }
 {
     match walk(
         alloc, circuit, boards, ends, items, sides, state, places, turn,
@@ -59,7 +67,8 @@ pub fn first_by<P: Primitive>(
     }
 }
 
-/// The first assignment of a knot with values in these sets, or `None` exactly where there is none. It ticks once.
+/// The first assignment of a knot with values in these sets, or `None` exactly where there is none.
+/// It ticks once.
 pub fn arrange<P: Primitive, L: Ledger>(
     alloc: Global,
     circuit: &Circuit<P>,
@@ -75,9 +84,15 @@ pub fn arrange<P: Primitive, L: Ledger>(
     requires items { length supply.now.items ≡ length circuit.now.joints }
     requires few { (j : ℕ) → length (slice_index_or supply.now.items j []) < 2 ^ 32 }
     requires one_each { length sets.now.values ≡ length circuit.now.joints }
-    requires numbers { AreInSupply (net_of P.behaviour circuit.now) (in_knot knots.now.numbers knot) supply.now.items (listed sets.now.values) }
-    requires one { OneAtLoops (net_of P.behaviour circuit.now) (in_knot knots.now.numbers knot) (listed sets.now.values) }
-    ensures first { IfOk result (λ found. MatchOption found (HasNoAssignment (net_of P.behaviour circuit.now) (names_of supply.now.items) (in_knot knots.now.numbers knot) (listed sets.now.values)) (IsFirstPart (net_of P.behaviour circuit.now) (names_of supply.now.items) (in_knot knots.now.numbers knot) turn (listed sets.now.values))) }
+    requires numbers { let net = net_of P.behaviour circuit.now in
+        AreInSupply net (in_knot knots.now.numbers knot) supply.now.items (listed sets.now.values) }
+    requires one { let net = net_of P.behaviour circuit.now in
+        OneAtLoops net (in_knot knots.now.numbers knot) (listed sets.now.values) }
+    ensures first { let net = net_of P.behaviour circuit.now in
+        IfOk result (λ found. MatchOption found (HasNoAssignment net (names_of supply.now.items)
+        (in_knot knots.now.numbers knot) (listed sets.now.values))
+        (IsFirstPart net (names_of supply.now.items) (in_knot knots.now.numbers knot) turn
+        (listed sets.now.values))) }
     ensures ticks { steps.new ≡ steps.old + 1 }
 {
     steps.tick();

@@ -58,15 +58,21 @@ fn try_choice<P: Primitive, L: Ledger>(
     codes: &[usize],
     steps: &mut Steps<L>,
 ) -> Result<Option<List<usize>>, NoMemory>
-    requires tables { MayRestart (net_of P.behaviour circuit.now) boards.now ends.now items.now state.old }
+    requires tables { let net = net_of P.behaviour circuit.now in
+        MayRestart net boards.now ends.now items.now state.old }
     requires knot { IsKnot (net_of P.behaviour circuit.now) (among sides.now) }
-    requires sides { (s : ℕ) → among sides.now s ≡ true → s < length (all_sides (net_of P.behaviour circuit.now).primitives) }
+    requires sides { let net = net_of P.behaviour circuit.now in
+        (s : ℕ) → among sides.now s ≡ true → s < length (all_sides net.primitives) }
     requires some_side { 0 < length sides.now }
-    requires places { (k : ℕ) (d : Spot) → k < length places.now → among sides.now (side_of_place (slice_index_or places.now k d)) ≡ true }
+    requires places { (k : ℕ) (d : Spot) → k < length places.now
+        → among sides.now (side_of_place (slice_index_or places.now k d)) ≡ true }
     requires loops { AreLoopsIn (net_of P.behaviour circuit.now) (among sides.now) loops.now }
     requires codes { length codes.now ≡ length loops.now }
-    ensures first { IfOk result (IsFirstOf (HasCodes (net_of P.behaviour circuit.now) (names_of items.now) (among sides.now) loops.now codes.now) (net_of P.behaviour circuit.now) turn places.now) }
-    ensures tables { OnOk result (MayRestart (net_of P.behaviour circuit.now) boards.now ends.now items.now state.new) }
+    ensures first { let net = net_of P.behaviour circuit.now in
+        IfOk result (IsFirstOf (HasCodes net (names_of items.now) (among sides.now) loops.now
+        codes.now) net turn places.now) }
+    ensures tables { let net = net_of P.behaviour circuit.now in
+        OnOk result (MayRestart net boards.now ends.now items.now state.new) }
     ensures ticks { steps.new ≤ steps.old + 1 }
 {
     restart(alloc, circuit, boards, ends, items, sides, state)?;
@@ -111,18 +117,25 @@ pub(crate) fn first_over<P: Primitive, L: Ledger>(
     codes: &mut List<usize>,
     steps: &mut Steps<L>,
 ) -> Result<Option<List<usize>>, NoMemory>
-    requires tables { MayRestart (net_of P.behaviour circuit.now) boards.now ends.now items.now state.old }
+    requires tables { let net = net_of P.behaviour circuit.now in
+        MayRestart net boards.now ends.now items.now state.old }
     requires knot { IsKnot (net_of P.behaviour circuit.now) (among sides.now) }
-    requires sides { (s : ℕ) → among sides.now s ≡ true → s < length (all_sides (net_of P.behaviour circuit.now).primitives) }
+    requires sides { let net = net_of P.behaviour circuit.now in
+        (s : ℕ) → among sides.now s ≡ true → s < length (all_sides net.primitives) }
     requires some_side { 0 < length sides.now }
-    requires places { (k : ℕ) (d : Spot) → k < length places.now → among sides.now (side_of_place (slice_index_or places.now k d)) ≡ true }
+    requires places { (k : ℕ) (d : Spot) → k < length places.now
+        → among sides.now (side_of_place (slice_index_or places.now k d)) ≡ true }
     requires loops { AreLoopsIn (net_of P.behaviour circuit.now) (among sides.now) loops.now }
     requires left { length left.now ≡ length loops.now }
-    requires cover { CoverAll (net_of P.behaviour circuit.now) (names_of items.now) (among sides.now) loops.now left.now }
+    requires cover { let net = net_of P.behaviour circuit.now in
+        CoverAll net (names_of items.now) (among sides.now) loops.now left.now }
     requires codes { length codes.old ≤ length loops.now }
-    ensures first { IfOk result (IsFirstOf (HasCodes (net_of P.behaviour circuit.now) (names_of items.now) (among sides.now) loops.now codes.old) (net_of P.behaviour circuit.now) turn places.now) }
+    ensures first { let net = net_of P.behaviour circuit.now in
+        IfOk result (IsFirstOf (HasCodes net (names_of items.now) (among sides.now) loops.now
+        codes.old) net turn places.now) }
     ensures codes { OnOk result (codes.new ≡ codes.old) }
-    ensures tables { OnOk result (MayRestart (net_of P.behaviour circuit.now) boards.now ends.now items.now state.new) }
+    ensures tables { let net = net_of P.behaviour circuit.now in
+        OnOk result (MayRestart net boards.now ends.now items.now state.new) }
     ensures ticks { steps.new ≤ steps.old + choices_of (drop (length codes.old) left.now) }
 {
     let held = codes.len();

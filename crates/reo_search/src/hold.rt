@@ -42,7 +42,9 @@ fn hold_joint<P: Primitive>(
     requires one_set { length alive.old ≡ length circuit.now.joints }
     requires joint { IsJointOf (net_of P.behaviour circuit.now) (side_of_place place) joint }
     requires row { IsRowOf (net_of P.behaviour circuit.now) (side_of_place place) row }
-    ensures { IsHeldTo (net_of P.behaviour circuit.now) place row joint (length (slice_index_or alive.old joint [])) alive.old alive.new result }
+    ensures { let net = net_of P.behaviour circuit.now in
+        IsHeldTo net place row joint (length (slice_index_or alive.old joint [])) alive.old
+        alive.new result }
 {
     let side = side_of_place(place);
     let mark = mark_at_joint(circuit, side, row, joint);
@@ -59,7 +61,8 @@ fn hold_joint<P: Primitive>(
     loss
 }
 
-/// Holds a joint to what suits a row at a place. Where it lost a value its two sides wait, or can stay.
+/// Holds a joint to what suits a row at a place. Where it lost a value its two sides wait, or can
+/// stay.
 fn hold_and_wake<P: Primitive>(
     circuit: &Circuit<P>,
     boards: &List<Board>,
@@ -71,14 +74,19 @@ fn hold_and_wake<P: Primitive>(
     row: usize,
     joint: usize,
 ) -> Result<(), NoMemory>
-    requires search { IsSearch (net_of P.behaviour circuit.now) boards.now ends.now items.now (among sides.now) state.old }
+    requires search { let net = net_of P.behaviour circuit.now in
+        IsSearch net boards.now ends.now items.now (among sides.now) state.old }
     requires closed { IsClosed (net_of P.behaviour circuit.now) (among sides.now) }
     requires inside { among sides.now (side_of_place place) ≡ true }
     requires joint { IsJointOf (net_of P.behaviour circuit.now) (side_of_place place) joint }
     requires row { IsRowOf (net_of P.behaviour circuit.now) (side_of_place place) row }
-    ensures held { OnOk result (IsHeldSoFar (net_of P.behaviour circuit.now) place row state.old.alive state.new.alive) }
-    ensures suits { OnOk result ((c : ℕ) → flag state.new.alive joint c ≡ true → value_suits (net_of P.behaviour circuit.now) place row joint (value_of c) ≡ true) }
-    ensures search { OnOk result (IsSearch (net_of P.behaviour circuit.now) boards.now ends.now items.now (among sides.now) state.new) }
+    ensures held { let net = net_of P.behaviour circuit.now in
+        OnOk result (IsHeldSoFar net place row state.old.alive state.new.alive) }
+    ensures suits { let net = net_of P.behaviour circuit.now in
+        OnOk result ((c : ℕ) → flag state.new.alive joint c ≡ true
+        → value_suits net place row joint (value_of c) ≡ true) }
+    ensures search { let net = net_of P.behaviour circuit.now in
+        OnOk result (IsSearch net boards.now ends.now items.now (among sides.now) state.new) }
 {
     let _ = sides;
     circuit.known();
@@ -125,13 +133,17 @@ pub(crate) fn hold<P: Primitive>(
     place: Place,
     row: usize,
 ) -> Result<(), NoMemory>
-    requires search { IsSearch (net_of P.behaviour circuit.now) boards.now ends.now items.now (among sides.now) state.old }
+    requires search { let net = net_of P.behaviour circuit.now in
+        IsSearch net boards.now ends.now items.now (among sides.now) state.old }
     requires closed { IsClosed (net_of P.behaviour circuit.now) (among sides.now) }
-    requires side { side_of_place place < length (all_sides (net_of P.behaviour circuit.now).primitives) }
+    requires side { let net = net_of P.behaviour circuit.now in
+        side_of_place place < length (all_sides net.primitives) }
     requires inside { among sides.now (side_of_place place) ≡ true }
     requires row { IsRowOf (net_of P.behaviour circuit.now) (side_of_place place) row }
-    ensures held { OnOk result (IsHeld (net_of P.behaviour circuit.now) place row state.old.alive state.new.alive) }
-    ensures search { OnOk result (IsSearch (net_of P.behaviour circuit.now) boards.now ends.now items.now (among sides.now) state.new) }
+    ensures held { let net = net_of P.behaviour circuit.now in
+        OnOk result (IsHeld net place row state.old.alive state.new.alive) }
+    ensures search { let net = net_of P.behaviour circuit.now in
+        OnOk result (IsSearch net boards.now ends.now items.now (among sides.now) state.new) }
 {
     let joints = &boards.at(side_of_place(place)).joints;
     for index in 0..joints.len() {

@@ -9,7 +9,8 @@ use reo_net_circuit::Circuit;
 use reo_values::{List, NoMemory};
 use std::alloc::Global;
 
-/// The sides of a knot in increasing order, a row for each of them, and whether one of these is a jam row.
+/// The sides of a knot in increasing order, a row for each of them, and whether one of these is a
+/// jam row.
 #[derive(Drop)]
 pub struct Part {
     pub jammed: bool,
@@ -49,12 +50,20 @@ pub(crate) fn part_of<P: Primitive>(
     sides: &[usize],
     chosen: &[usize],
 ) -> Result<Part, NoMemory>
-    requires sides { (m : ℕ) → m < length sides.now → slice_index sides.now m < length (all_sides (net_of P.behaviour circuit.now).primitives) }
+    requires sides { let net = net_of P.behaviour circuit.now in
+        (m : ℕ) → m < length sides.now
+        → slice_index sides.now m < length (all_sides net.primitives) }
     requires enough { length sides.now ≤ length chosen.now }
-    requires in_tables { (m : ℕ) → m < length sides.now → slice_index chosen.now (length chosen.now - length sides.now + m) < row_count (side_in (net_of P.behaviour circuit.now) (slice_index sides.now m)) }
+    requires in_tables { let net = net_of P.behaviour circuit.now in
+        (m : ℕ) → m < length sides.now → slice_index chosen.now
+        (length chosen.now - length sides.now + m) < row_count
+        (side_in net (slice_index sides.now m)) }
     ensures sides { IfOk result (λ part. part.sides ≡ sides.now) }
-    ensures rows { IfOk result (λ part. part.rows ≡ drop (length chosen.now - length sides.now) chosen.now) }
-    ensures jammed { IfOk result (λ part. IsTrue part.jammed ↔ ((m : ℕ) × (m < length part.sides) × IsJamRow (net_of P.behaviour circuit.now) (slice_index part.sides m) (slice_index part.rows m))) }
+    ensures rows { IfOk result (λ part. part.rows ≡ drop (length chosen.now - length sides.now)
+        chosen.now) }
+    ensures jammed { let net = net_of P.behaviour circuit.now in
+        IfOk result (λ part. IsTrue part.jammed ↔ ((m : ℕ) × (m < length part.sides)
+        × IsJamRow net (slice_index part.sides m) (slice_index part.rows m))) }
 {
     let mut part = Part {
         jammed: false,

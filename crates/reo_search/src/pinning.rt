@@ -19,7 +19,8 @@ use reo_values::{List, NoMemory, Value};
 /// Takes all values of a joint away but one.
 fn pin_joint(alive: &mut Flags, joint: usize, chosen: usize) -> Loss
     requires { joint < length alive.old }
-    ensures { IsPinnedBelow joint chosen (length (slice_index_or alive.old joint [])) alive.old alive.new result }
+    ensures { IsPinnedBelow joint chosen (length (slice_index_or alive.old joint [])) alive.old
+        alive.new result }
 {
     let mut loss = Loss {
         some: false,
@@ -45,12 +46,14 @@ fn pin_and_wake<P: Primitive>(
     joint: usize,
     chosen: usize,
 ) -> Result<(), NoMemory>
-    requires search { IsSearch (net_of P.behaviour circuit.now) boards.now ends.now items.now (among sides.now) state.old }
+    requires search { let net = net_of P.behaviour circuit.now in
+        IsSearch net boards.now ends.now items.now (among sides.now) state.old }
     requires closed { IsClosed (net_of P.behaviour circuit.now) (among sides.now) }
     requires joint { joint < length circuit.now.joints }
     requires inside { among sides.now (giver_side (net_of P.behaviour circuit.now) joint) ≡ true }
     ensures pinned { OnOk result (IsPinned joint chosen state.old.alive state.new.alive) }
-    ensures search { OnOk result (IsSearch (net_of P.behaviour circuit.now) boards.now ends.now items.now (among sides.now) state.new) }
+    ensures search { let net = net_of P.behaviour circuit.now in
+        OnOk result (IsSearch net boards.now ends.now items.now (among sides.now) state.new) }
 {
     let _ = sides;
     circuit.known();
@@ -98,13 +101,19 @@ pub(crate) fn pin<P: Primitive>(
     joints: &[usize],
     codes: &[usize],
 ) -> Result<(), NoMemory>
-    requires search { IsSearch (net_of P.behaviour circuit.now) boards.now ends.now items.now (among sides.now) state.old }
+    requires search { let net = net_of P.behaviour circuit.now in
+        IsSearch net boards.now ends.now items.now (among sides.now) state.old }
     requires closed { IsClosed (net_of P.behaviour circuit.now) (among sides.now) }
-    requires joints { (m : ℕ) → m < length joints.now → slice_index joints.now m < length circuit.now.joints }
-    requires inside { (m : ℕ) → m < length joints.now → among sides.now (giver_side (net_of P.behaviour circuit.now) (slice_index joints.now m)) ≡ true }
+    requires joints { (m : ℕ) → m < length joints.now
+        → slice_index joints.now m < length circuit.now.joints }
+    requires inside { let net = net_of P.behaviour circuit.now in
+        (m : ℕ) → m < length joints.now → among sides.now
+        (giver_side net (slice_index joints.now m)) ≡ true }
     requires one_each { length joints.now ≤ length codes.now }
-    ensures pinned { OnOk result (ArePinned joints.now codes.now (length joints.now) state.old.alive state.new.alive) }
-    ensures search { OnOk result (IsSearch (net_of P.behaviour circuit.now) boards.now ends.now items.now (among sides.now) state.new) }
+    ensures pinned { OnOk result (ArePinned joints.now codes.now (length joints.now) state.old.alive
+        state.new.alive) }
+    ensures search { let net = net_of P.behaviour circuit.now in
+        OnOk result (IsSearch net boards.now ends.now items.now (among sides.now) state.new) }
 {
     for index in 0..joints.len() {
         let joint = joints[index];

@@ -25,7 +25,8 @@ pub(crate) fn side_of_place(place: Place) -> usize
     }
 }
 
-/// Whether one mark is as the other at a place: a class tells flow, no flow and jam apart, a row all four marks.
+/// Whether one mark is as the other at a place: a class tells flow, no flow and jam apart, a row
+/// all four marks.
 pub(crate) fn suits(place: Place, mark: Mark, other: Mark) -> bool
     ensures { result ≡ suits place mark other }
 {
@@ -52,7 +53,8 @@ pub(crate) fn number_of<P: Primitive>(
     row: usize,
     turn: u64,
 ) -> usize
-    requires side { side_of_place place < length (all_sides (net_of P.behaviour circuit.now).primitives) }
+    requires side { let net = net_of P.behaviour circuit.now in
+        side_of_place place < length (all_sides net.primitives) }
     requires row { IsRowOf (net_of P.behaviour circuit.now) (side_of_place place) row }
     ensures { result ≡ number_of (net_of P.behaviour circuit.now) turn place row }
 {

@@ -9,15 +9,18 @@ use reo_net_circuit::Circuit;
 use reo_values::{List, NoMemory};
 use std::alloc::Global;
 
-/// The places of these sides: the classes of those that lead, then the classes of all, then the rows of all, each in the order of the
-/// list. `NoMemory` is out of memory.
+/// The places of these sides: the classes of those that lead, then the classes of all, then the
+/// rows of all, each in the order of the list. `NoMemory` is out of memory.
 pub fn places_of<P: Primitive>(
     alloc: Global,
     circuit: &Circuit<P>,
     sides: &[usize],
 ) -> Result<List<Place>, NoMemory>
-    requires { (m : ℕ) → m < length sides.now → slice_index sides.now m < length (all_sides (net_of P.behaviour circuit.now).primitives) }
-    ensures { IfOk result (λ places. places ≡ places_in (net_of P.behaviour circuit.now) sides.now) }
+    requires { let net = net_of P.behaviour circuit.now in
+        (m : ℕ) → m < length sides.now
+        → slice_index sides.now m < length (all_sides net.primitives) }
+    ensures { let net = net_of P.behaviour circuit.now in
+        IfOk result (λ places. places ≡ places_in net sides.now) }
 {
     let mut places = List::new(alloc);
     for side in sides {

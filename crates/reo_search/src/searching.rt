@@ -52,15 +52,23 @@ fn first_by_walk<P: Primitive>(
     turn: u64,
     loops: &[usize],
 ) -> Result<Option<List<usize>>, NoMemory>
-    requires search { IsSearch (net_of P.behaviour circuit.now) boards.now ends.now items.now (among sides.now) state.old }
+    requires search { let net = net_of P.behaviour circuit.now in
+        IsSearch net boards.now ends.now items.now (among sides.now) state.old }
     requires knot { IsKnot (net_of P.behaviour circuit.now) (among sides.now) }
-    requires sides { (s : ℕ) → among sides.now s ≡ true → s < length (all_sides (net_of P.behaviour circuit.now).primitives) }
+    requires sides { let net = net_of P.behaviour circuit.now in
+        (s : ℕ) → among sides.now s ≡ true → s < length (all_sides net.primitives) }
     requires some_side { 0 < length sides.now }
-    requires places { (k : ℕ) (d : Spot) → k < length places.now → among sides.now (side_of_place (slice_index_or places.now k d)) ≡ true }
+    requires places { (k : ℕ) (d : Spot) → k < length places.now
+        → among sides.now (side_of_place (slice_index_or places.now k d)) ≡ true }
     requires loops { AreLoopsIn (net_of P.behaviour circuit.now) (among sides.now) loops.now }
-    requires left { IsLeftOfAll (net_of P.behaviour circuit.now) (names_of items.now) (among sides.now) state.old.alive }
-    ensures first { IfOk result (λ found. IfSome found (IsLeastOf (IsChosen (net_of P.behaviour circuit.now) (names_of items.now) (among sides.now) (all_values (names_of items.now))) (net_of P.behaviour circuit.now) turn places.now)) }
-    ensures tables { OnOk result (MayRestart (net_of P.behaviour circuit.now) boards.now ends.now items.now state.new) }
+    requires left { let net = net_of P.behaviour circuit.now in
+        IsLeftOfAll net (names_of items.now) (among sides.now) state.old.alive }
+    ensures first { let net = net_of P.behaviour circuit.now in
+        IfOk result (λ found. IfSome found (IsLeastOf
+        (IsChosen net (names_of items.now) (among sides.now) (all_values (names_of items.now))) net
+        turn places.now)) }
+    ensures tables { let net = net_of P.behaviour circuit.now in
+        OnOk result (MayRestart net boards.now ends.now items.now state.new) }
 {
     match walk(
         alloc, circuit, boards, ends, items, sides, state, places, turn,
@@ -93,18 +101,27 @@ fn first_numbers<P: Primitive, L: Ledger>(
     left: &List<List<usize>>,
     steps: &mut Steps<L>,
 ) -> Result<List<usize>, NoMemory>
-    requires search { IsSearch (net_of P.behaviour circuit.now) boards.now ends.now items.now (among sides.now) state.old }
+    requires search { let net = net_of P.behaviour circuit.now in
+        IsSearch net boards.now ends.now items.now (among sides.now) state.old }
     requires knot { IsKnot (net_of P.behaviour circuit.now) (among sides.now) }
-    requires sides { (s : ℕ) → among sides.now s ≡ true → s < length (all_sides (net_of P.behaviour circuit.now).primitives) }
+    requires sides { let net = net_of P.behaviour circuit.now in
+        (s : ℕ) → among sides.now s ≡ true → s < length (all_sides net.primitives) }
     requires some_side { 0 < length sides.now }
-    requires places { (k : ℕ) (d : Spot) → k < length places.now → among sides.now (side_of_place (slice_index_or places.now k d)) ≡ true }
+    requires places { (k : ℕ) (d : Spot) → k < length places.now
+        → among sides.now (side_of_place (slice_index_or places.now k d)) ≡ true }
     requires loops { AreLoopsIn (net_of P.behaviour circuit.now) (among sides.now) loops.now }
-    requires alive { IsLeftOfAll (net_of P.behaviour circuit.now) (names_of items.now) (among sides.now) state.old.alive }
+    requires alive { let net = net_of P.behaviour circuit.now in
+        IsLeftOfAll net (names_of items.now) (among sides.now) state.old.alive }
     requires left { length left.now ≡ length loops.now }
-    requires cover { CoverAll (net_of P.behaviour circuit.now) (names_of items.now) (among sides.now) loops.now left.now }
-    requires named { AreNamed (net_of P.behaviour circuit.now) (among sides.now) (names_of items.now) }
-    ensures first { IfOk result (IsLeastOf (IsChosen (net_of P.behaviour circuit.now) (names_of items.now) (among sides.now) (all_values (names_of items.now))) (net_of P.behaviour circuit.now) turn places.now) }
-    ensures tables { OnOk result (MayRestart (net_of P.behaviour circuit.now) boards.now ends.now items.now state.new) }
+    requires cover { let net = net_of P.behaviour circuit.now in
+        CoverAll net (names_of items.now) (among sides.now) loops.now left.now }
+    requires named { let net = net_of P.behaviour circuit.now in
+        AreNamed net (among sides.now) (names_of items.now) }
+    ensures first { let net = net_of P.behaviour circuit.now in
+        IfOk result (IsLeastOf (IsChosen net (names_of items.now) (among sides.now)
+        (all_values (names_of items.now))) net turn places.now) }
+    ensures tables { let net = net_of P.behaviour circuit.now in
+        OnOk result (MayRestart net boards.now ends.now items.now state.new) }
     ensures ticks { steps.new ≤ steps.old + choices_of left.now }
 {
     circuit.known();
@@ -137,8 +154,10 @@ pub fn weight<P: Primitive>(
     requires knot { knot < knot_count knots.now }
     requires supply { IsSupply (net_of P.behaviour circuit.now) supply.now }
     requires short { AreShort supply.now }
-    requires narrow { (j : ℕ) → IsJointIn (net_of P.behaviour circuit.now) (in_knot knots.now.numbers knot) j → is_wide supply.now j ≡ false }
-    ensures { IfOk result (IsWeight (net_of P.behaviour circuit.now) (in_knot knots.now.numbers knot)) }
+    requires narrow { let net = net_of P.behaviour circuit.now in
+        (j : ℕ) → IsJointIn net (in_knot knots.now.numbers knot) j → is_wide supply.now j ≡ false }
+    ensures { let net = net_of P.behaviour circuit.now in
+        IfOk result (IsWeight net (in_knot knots.now.numbers knot)) }
 {
     circuit.known();
     let ends = ends_of(alloc, circuit)?;
@@ -175,18 +194,29 @@ pub fn first_with<P: Primitive, L: Ledger>(
 ) -> Result<Part, SearchFault>
     requires knots { AreKnots (net_of P.behaviour circuit.now) knots.now }
     requires knot { knot < knot_count knots.now }
-    requires reached { (j : ℕ) → IsJointIn (net_of P.behaviour circuit.now) (in_knot knots.now.numbers knot) j → IsReached (net_of P.behaviour circuit.now) supply.now j }
+    requires reached { let net = net_of P.behaviour circuit.now in
+        (j : ℕ) → IsJointIn net (in_knot knots.now.numbers knot) j → IsReached net supply.now j }
     requires short { AreShort supply.now }
-    requires ready { IsReady (net_of P.behaviour circuit.now) boards.now ends.now supply.now.items state.old.alive }
+    requires ready { let net = net_of P.behaviour circuit.now in
+        IsReady net boards.now ends.now supply.now.items state.old.alive }
     requires tables { AreTables (net_of P.behaviour circuit.now) supply.now.items state.old.rows }
-    requires waits { length state.old.queue.waits ≡ length (all_sides (net_of P.behaviour circuit.now).primitives) }
+    requires waits { let net = net_of P.behaviour circuit.now in
+        length state.old.queue.waits ≡ length (all_sides net.primitives) }
     requires budget { budget < 10 ^ 18 }
-    ensures exact { MatchResult result (IsFirstWithin budget (net_of P.behaviour circuit.now) (in_knot knots.now.numbers knot) turn) (IsSearchFault budget (net_of P.behaviour circuit.now) (in_knot knots.now.numbers knot) knot) }
-    ensures jammed { IfOk result (λ part. IsTrue part.jammed ↔ HasNoThreeColouring (net_of P.behaviour circuit.now) (in_knot knots.now.numbers knot)) }
-    ensures ready { OnOk result (IsReady (net_of P.behaviour circuit.now) boards.now ends.now supply.now.items state.new.alive) }
-    ensures tables { OnOk result (AreTables (net_of P.behaviour circuit.now) supply.now.items state.new.rows) }
-    ensures waits { OnOk result (length state.new.queue.waits ≡ length (all_sides (net_of P.behaviour circuit.now).primitives)) }
-    ensures ticks { (w : ℕ) → IsWeight (net_of P.behaviour circuit.now) (in_knot knots.now.numbers knot) w → steps.new ≤ steps.old + w }
+    ensures exact { let net = net_of P.behaviour circuit.now in
+        MatchResult result (IsFirstWithin budget net (in_knot knots.now.numbers knot) turn)
+        (IsSearchFault budget net (in_knot knots.now.numbers knot) knot) }
+    ensures jammed { let net = net_of P.behaviour circuit.now in
+        IfOk result (λ part. IsTrue part.jammed ↔ HasNoThreeColouring net
+        (in_knot knots.now.numbers knot)) }
+    ensures ready { let net = net_of P.behaviour circuit.now in
+        OnOk result (IsReady net boards.now ends.now supply.now.items state.new.alive) }
+    ensures tables { let net = net_of P.behaviour circuit.now in
+        OnOk result (AreTables net supply.now.items state.new.rows) }
+    ensures waits { let net = net_of P.behaviour circuit.now in
+        OnOk result (length state.new.queue.waits ≡ length (all_sides net.primitives)) }
+    ensures ticks { let net = net_of P.behaviour circuit.now in
+        (w : ℕ) → IsWeight net (in_knot knots.now.numbers knot) w → steps.new ≤ steps.old + w }
 {
     circuit.known();
     let _order = circuit.order();
@@ -244,9 +274,14 @@ pub fn first<P: Primitive, L: Ledger>(
     requires supply { IsSupply (net_of P.behaviour circuit.now) supply.now }
     requires short { AreShort supply.now }
     requires budget { budget < 10 ^ 18 }
-    ensures exact { MatchResult result (IsFirstWithin budget (net_of P.behaviour circuit.now) (in_knot knots.now.numbers knot) turn) (IsSearchFault budget (net_of P.behaviour circuit.now) (in_knot knots.now.numbers knot) knot) }
-    ensures jammed { IfOk result (λ part. IsTrue part.jammed ↔ HasNoThreeColouring (net_of P.behaviour circuit.now) (in_knot knots.now.numbers knot)) }
-    ensures ticks { (w : ℕ) → IsWeight (net_of P.behaviour circuit.now) (in_knot knots.now.numbers knot) w → steps.new ≤ steps.old + w }
+    ensures exact { let net = net_of P.behaviour circuit.now in
+        MatchResult result (IsFirstWithin budget net (in_knot knots.now.numbers knot) turn)
+        (IsSearchFault budget net (in_knot knots.now.numbers knot) knot) }
+    ensures jammed { let net = net_of P.behaviour circuit.now in
+        IfOk result (λ part. IsTrue part.jammed ↔ HasNoThreeColouring net
+        (in_knot knots.now.numbers knot)) }
+    ensures ticks { let net = net_of P.behaviour circuit.now in
+        (w : ℕ) → IsWeight net (in_knot knots.now.numbers knot) w → steps.new ≤ steps.old + w }
 {
     circuit.known();
     let ends = ends_of(alloc, circuit)?;

@@ -40,9 +40,13 @@ fn consider<P: Primitive>(
     best: Option<Least>,
     row: usize,
 ) -> Option<Least>
-    requires side { side_of_place place < length (all_sides (net_of P.behaviour circuit.now).primitives) }
-    requires sides { length live.now ≡ length (all_sides (net_of P.behaviour circuit.now).primitives) }
-    requires width { length (slice_index_or live.now (side_of_place place) []) ≡ row_count (side_in (net_of P.behaviour circuit.now) (side_of_place place)) }
+    requires side { let net = net_of P.behaviour circuit.now in
+        side_of_place place < length (all_sides net.primitives) }
+    requires sides { let net = net_of P.behaviour circuit.now in
+        length live.now ≡ length (all_sides net.primitives) }
+    requires width { let net = net_of P.behaviour circuit.now in
+        length (slice_index_or live.now (side_of_place place) []) ≡ row_count
+        (side_in net (side_of_place place)) }
     requires row { row < length (slice_index_or live.now (side_of_place place) []) }
     requires best { IsBest (net_of P.behaviour circuit.now) turn place live.now row best }
     ensures { IsBest (net_of P.behaviour circuit.now) turn place live.now (row + 1) result }
@@ -79,10 +83,16 @@ pub(crate) fn least_row<P: Primitive>(
     place: Place,
     turn: u64,
 ) -> Option<Least>
-    requires side { side_of_place place < length (all_sides (net_of P.behaviour circuit.now).primitives) }
-    requires sides { length live.now ≡ length (all_sides (net_of P.behaviour circuit.now).primitives) }
-    requires width { length (slice_index_or live.now (side_of_place place) []) ≡ row_count (side_in (net_of P.behaviour circuit.now) (side_of_place place)) }
-    ensures { IsBest (net_of P.behaviour circuit.now) turn place live.now (length (slice_index_or live.now (side_of_place place) [])) result }
+    requires side { let net = net_of P.behaviour circuit.now in
+        side_of_place place < length (all_sides net.primitives) }
+    requires sides { let net = net_of P.behaviour circuit.now in
+        length live.now ≡ length (all_sides net.primitives) }
+    requires width { let net = net_of P.behaviour circuit.now in
+        length (slice_index_or live.now (side_of_place place) []) ≡ row_count
+        (side_in net (side_of_place place)) }
+    ensures { let net = net_of P.behaviour circuit.now in
+        IsBest net turn place live.now (length (slice_index_or live.now (side_of_place place) []))
+        result }
 {
     let mut best = None;
     for row in 0..live.width(side_of_place(place)) {
@@ -91,8 +101,8 @@ pub(crate) fn least_row<P: Primitive>(
     best
 }
 
-/// Holds a place to the least number of a row that works there, if one does. Where all of them have that number, nothing is to be
-/// held.
+/// Holds a place to the least number of a row that works there, if one does. Where all of them have
+/// that number, nothing is to be held.
 fn step<P: Primitive>(
     circuit: &Circuit<P>,
     boards: &List<Board>,
@@ -103,14 +113,20 @@ fn step<P: Primitive>(
     place: Place,
     turn: u64,
 ) -> Result<Option<usize>, NoMemory>
-    requires search { IsSearch (net_of P.behaviour circuit.now) boards.now ends.now items.now (among sides.now) state.old }
+    requires search { let net = net_of P.behaviour circuit.now in
+        IsSearch net boards.now ends.now items.now (among sides.now) state.old }
     requires closed { IsClosed (net_of P.behaviour circuit.now) (among sides.now) }
-    requires sides { (s : ℕ) → among sides.now s ≡ true → s < length (all_sides (net_of P.behaviour circuit.now).primitives) }
+    requires sides { let net = net_of P.behaviour circuit.now in
+        (s : ℕ) → among sides.now s ≡ true → s < length (all_sides net.primitives) }
     requires inside { among sides.now (side_of_place place) ≡ true }
     requires empty { state.old.queue.line ≡ [] }
-    ensures found { IfOk result (λ found. MatchOption found (HasNone (net_of P.behaviour circuit.now) (names_of items.now) (among sides.now) (family_of state.old.alive)) (IsStepped (net_of P.behaviour circuit.now) (names_of items.now) (among sides.now) turn place (family_of state.old.alive) (family_of state.new.alive))) }
+    ensures found { let net = net_of P.behaviour circuit.now in
+        IfOk result (λ found. MatchOption found (HasNone net (names_of items.now) (among sides.now)
+        (family_of state.old.alive)) (IsStepped net (names_of items.now) (among sides.now) turn
+        place (family_of state.old.alive) (family_of state.new.alive))) }
     ensures alike { OnOk result (AreAlikeTables state.old.alive state.new.alive) }
-    ensures search { OnOk result (IsSearch (net_of P.behaviour circuit.now) boards.now ends.now items.now (among sides.now) state.new) }
+    ensures search { let net = net_of P.behaviour circuit.now in
+        OnOk result (IsSearch net boards.now ends.now items.now (among sides.now) state.new) }
     ensures empty { OnOk result (state.new.queue.line ≡ []) }
 {
     circuit.known();
@@ -126,10 +142,11 @@ fn step<P: Primitive>(
     }
 }
 
-/// Goes through places, and gives each the least number of a row that works there with what is left.
+/// Goes through places, and gives each the least number of a row that works there with what is
+/// left.
 ///
-/// `None` where the walk cannot go on. On a knot where each loop joint had one value from the start, that says that there was no
-/// assignment.
+/// `None` where the walk cannot go on. On a knot where each loop joint had one value from the
+/// start, that says that there was no assignment.
 pub fn walk<P: Primitive>(
     alloc: Global,
     circuit: &Circuit<P>,
@@ -141,14 +158,21 @@ pub fn walk<P: Primitive>(
     places: &[Place],
     turn: u64,
 ) -> Result<Option<List<usize>>, NoMemory>
-    requires search { IsSearch (net_of P.behaviour circuit.now) boards.now ends.now items.now (among sides.now) state.old }
+    requires search { let net = net_of P.behaviour circuit.now in
+        IsSearch net boards.now ends.now items.now (among sides.now) state.old }
     requires closed { IsClosed (net_of P.behaviour circuit.now) (among sides.now) }
-    requires sides { (s : ℕ) → among sides.now s ≡ true → s < length (all_sides (net_of P.behaviour circuit.now).primitives) }
+    requires sides { let net = net_of P.behaviour circuit.now in
+        (s : ℕ) → among sides.now s ≡ true → s < length (all_sides net.primitives) }
     requires some_side { 0 < length sides.now }
-    requires places { (k : ℕ) (d : Spot) → k < length places.now → among sides.now (side_of_place (slice_index_or places.now k d)) ≡ true }
-    ensures found { IfOk result (λ found. MatchOption found (IsStuck (net_of P.behaviour circuit.now) (names_of items.now) (among sides.now) (family_of state.old.alive)) (IsWalked (net_of P.behaviour circuit.now) (names_of items.now) (among sides.now) turn (family_of state.old.alive) (family_of state.new.alive) places.now)) }
+    requires places { (k : ℕ) (d : Spot) → k < length places.now
+        → among sides.now (side_of_place (slice_index_or places.now k d)) ≡ true }
+    ensures found { let net = net_of P.behaviour circuit.now in
+        IfOk result (λ found. MatchOption found (IsStuck net (names_of items.now) (among sides.now)
+        (family_of state.old.alive)) (IsWalked net (names_of items.now) (among sides.now) turn
+        (family_of state.old.alive) (family_of state.new.alive) places.now)) }
     ensures alike { OnOk result (AreAlikeTables state.old.alive state.new.alive) }
-    ensures search { OnOk result (IsSearch (net_of P.behaviour circuit.now) boards.now ends.now items.now (among sides.now) state.new) }
+    ensures search { let net = net_of P.behaviour circuit.now in
+        OnOk result (IsSearch net boards.now ends.now items.now (among sides.now) state.new) }
 {
     circuit.known();
     propagate(circuit, boards, ends, items, sides, state)?;

@@ -52,7 +52,8 @@ pub(crate) fn codes_of(
 
 /// Whether no list has more than one element. This takes no memory.
 pub(crate) fn are_single(left: &List<List<usize>>) -> bool
-    ensures { IsTrue result → (m : ℕ) → m < length left.now → length (slice_index_or left.now m []) ≤ 1 }
+    ensures { IsTrue result → (m : ℕ) → m < length left.now
+        → length (slice_index_or left.now m []) ≤ 1 }
 {
     for index in 0..left.len() {
         if left.at(index).len() > 1 {
@@ -98,13 +99,19 @@ pub(crate) fn narrow_all<P: Primitive>(
     state: &mut State,
     loops: &[usize],
 ) -> Result<List<List<usize>>, NoMemory>
-    requires search { IsSearch (net_of P.behaviour circuit.now) boards.now ends.now items.now (among sides.now) state.old }
+    requires search { let net = net_of P.behaviour circuit.now in
+        IsSearch net boards.now ends.now items.now (among sides.now) state.old }
     requires closed { IsClosed (net_of P.behaviour circuit.now) (among sides.now) }
-    requires sides { (s : ℕ) → among sides.now s ≡ true → s < length (all_sides (net_of P.behaviour circuit.now).primitives) }
-    requires whole { AllAreThere (net_of P.behaviour circuit.now) items.now (among sides.now) state.old.alive }
-    requires loops { (m : ℕ) → m < length loops.now → slice_index loops.now m < length circuit.now.joints }
-    ensures search { OnOk result (IsSearch (net_of P.behaviour circuit.now) boards.now ends.now items.now (among sides.now) state.new) }
-    ensures left { OnOk result (IsLeftOfAll (net_of P.behaviour circuit.now) (names_of items.now) (among sides.now) state.new.alive) }
+    requires sides { let net = net_of P.behaviour circuit.now in
+        (s : ℕ) → among sides.now s ≡ true → s < length (all_sides net.primitives) }
+    requires whole { let net = net_of P.behaviour circuit.now in
+        AllAreThere net items.now (among sides.now) state.old.alive }
+    requires loops { (m : ℕ) → m < length loops.now
+        → slice_index loops.now m < length circuit.now.joints }
+    ensures search { let net = net_of P.behaviour circuit.now in
+        OnOk result (IsSearch net boards.now ends.now items.now (among sides.now) state.new) }
+    ensures left { let net = net_of P.behaviour circuit.now in
+        OnOk result (IsLeftOfAll net (names_of items.now) (among sides.now) state.new.alive) }
     ensures codes { IfOk result (AreCodes state.new.alive loops.now (length loops.now)) }
 {
     propagate(circuit, boards, ends, items, sides, state)?;

@@ -16,7 +16,8 @@ use reo_values::List;
 /// Whether one of some joints is wide.
 fn some_wide(supply: &Supply, joints: &[usize]) -> bool
     requires { (m : ℕ) → m < length joints.now → slice_index joints.now m < length supply.now.items }
-    ensures { IsTrue result ↔ ((m : ℕ) × (m < length joints.now) × (is_wide supply.now (slice_index joints.now m) ≡ true)) }
+    ensures { IsTrue result ↔ ((m : ℕ) × (m < length joints.now)
+        × (is_wide supply.now (slice_index joints.now m) ≡ true)) }
 {
     for joint in joints {
         if supply.is_wide(*joint) {
@@ -36,8 +37,11 @@ pub(crate) fn has_wide<P: Primitive>(
     requires boards { AreBoards (net_of P.behaviour circuit.now) boards.now }
     requires items { length supply.now.items ≡ length circuit.now.joints }
     requires closed { IsClosed (net_of P.behaviour circuit.now) (among sides.now) }
-    requires sides { (s : ℕ) → among sides.now s ≡ true → s < length (all_sides (net_of P.behaviour circuit.now).primitives) }
-    ensures { IsTrue result ↔ ((j : ℕ) × IsJointIn (net_of P.behaviour circuit.now) (among sides.now) j × (is_wide supply.now j ≡ true)) }
+    requires sides { let net = net_of P.behaviour circuit.now in
+        (s : ℕ) → among sides.now s ≡ true → s < length (all_sides net.primitives) }
+    ensures { let net = net_of P.behaviour circuit.now in
+        IsTrue result ↔ ((j : ℕ) × IsJointIn net (among sides.now) j
+        × (is_wide supply.now j ≡ true)) }
 {
     let _ = circuit;
     for side in sides {

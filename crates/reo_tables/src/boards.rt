@@ -25,10 +25,12 @@ pub(crate) fn renew_boards<P: Primitive>(
     requires ends { AreEnds (net_of P.behaviour circuit.now) ends.now }
     requires sides { (s : ℕ) → among sides.now s ≡ true
         → s < length (all_sides (net_of P.behaviour circuit.now).primitives) }
-    requires one_each { length boards.old ≡ length (all_sides (net_of P.behaviour circuit.now).primitives) }
+    requires one_each { let net = net_of P.behaviour circuit.now in
+        length boards.old ≡ length (all_sides net.primitives) }
     ensures stays { StaysBesides sides.now boards.old boards.new }
     ensures right { OnOk result
-        (AreRightAt sides.now (length sides.now) (IsBoard (net_of P.behaviour circuit.now)) boards.new) }
+        (AreRightAt sides.now (length sides.now)
+        (IsBoard (net_of P.behaviour circuit.now)) boards.new) }
 {
     for side in sides {
         let board = board_of(alloc, circuit, ends, *side)?;

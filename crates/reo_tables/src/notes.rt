@@ -21,10 +21,12 @@ pub(crate) fn renew_live<P: Primitive>(
 ) -> Result<(), NoMemory>
     requires sides { (s : ℕ) → among sides.now s ≡ true
         → s < length (all_sides (net_of P.behaviour circuit.now).primitives) }
-    requires one_each { length live.old ≡ length (all_sides (net_of P.behaviour circuit.now).primitives) }
+    requires one_each { let net = net_of P.behaviour circuit.now in
+        length live.old ≡ length (all_sides net.primitives) }
     ensures stays { StaysBesides sides.now live.old live.new }
     ensures right { let net = net_of P.behaviour circuit.now in OnOk result
-        (AreRightAt sides.now (length sides.now) (λ s row. length row ≡ row_count (side_in net s)) live.new) }
+        (AreRightAt sides.now (length sides.now)
+        (λ s row. length row ≡ row_count (side_in net s)) live.new) }
 {
     for side in sides {
         live.renew(alloc, *side, circuit.rows(*side), true)?;
@@ -56,10 +58,12 @@ pub(crate) fn renew_notes<P: Primitive>(
 ) -> Result<(), NoMemory>
     requires sides { (s : ℕ) → among sides.now s ≡ true
         → s < length (all_sides (net_of P.behaviour circuit.now).primitives) }
-    requires one_each { length notes.old ≡ length (all_sides (net_of P.behaviour circuit.now).primitives) }
+    requires one_each { let net = net_of P.behaviour circuit.now in
+        length notes.old ≡ length (all_sides net.primitives) }
     ensures stays { StaysBesides sides.now notes.old notes.new }
     ensures right { let net = net_of P.behaviour circuit.now in OnOk result
-        (AreRightAt sides.now (length sides.now) (λ s list. length list ≡ groups_in net s) notes.new) }
+        (AreRightAt sides.now (length sides.now)
+        (λ s list. length list ≡ groups_in net s) notes.new) }
 {
     for side in sides {
         let blank = blank_notes(alloc, circuit.groups(*side))?;

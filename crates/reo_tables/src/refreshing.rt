@@ -82,7 +82,8 @@ pub fn refresh<P: Primitive>(
     requires sides { (s : ℕ) → among sides.now s ≡ true
         → s < length (all_sides (net_of P.behaviour circuit.now).primitives) }
     requires joints { AreJointsOf (net_of P.behaviour circuit.now) (among sides.now) joints.now }
-    ensures right { OnOk result (AreRightOn (net_of P.behaviour circuit.now) (among sides.now) tables.new) }
+    ensures right { let net = net_of P.behaviour circuit.now in
+        OnOk result (AreRightOn net (among sides.now) tables.new) }
     ensures room { HasRoom (net_of P.behaviour circuit.now) tables.new }
     ensures others { let net = net_of P.behaviour circuit.now in
         (other : ℕ → Bool) → IsClosed net other → AreApart (among sides.now) other

@@ -16,7 +16,8 @@ fn row_of<P: Primitive>(circuit: &Circuit<P>, rows: &[u32], index: usize, side: 
     requires rows { AreRows (all_sides (net_of P.behaviour circuit.now).primitives) rows.now }
     requires index { index < length circuit.now.primitives }
     requires side { side < (behaviour_at (net_of P.behaviour circuit.now).primitives index).sides }
-    ensures { result ≡ slice_index rows.now (first_side (net_of P.behaviour circuit.now).primitives index + side) }
+    ensures { let net = net_of P.behaviour circuit.now in
+        result ≡ slice_index rows.now (first_side net.primitives index + side) }
 {
     let _sides = circuit.sides();
     let first = circuit.first_of(index);
@@ -28,7 +29,9 @@ fn cell_at<P: Primitive>(circuit: &Circuit<P>, rows: &[u32], index: usize, side:
     requires rows { AreRows (all_sides (net_of P.behaviour circuit.now).primitives) rows.now }
     requires index { index < length circuit.now.primitives }
     requires side { side < (behaviour_at (net_of P.behaviour circuit.now).primitives index).sides }
-    ensures { result ≡ cell_of (behaviour_at (net_of P.behaviour circuit.now).primitives index) side (slice_index rows.now (first_side (net_of P.behaviour circuit.now).primitives index + side)) }
+    ensures { let net = net_of P.behaviour circuit.now in
+        result ≡ cell_of (behaviour_at net.primitives index) side
+        (slice_index rows.now (first_side net.primitives index + side)) }
 {
     let row = row_of(circuit, rows, index, side);
     if row as usize + 1 == circuit.primitive(index).rows(side) {
@@ -76,7 +79,9 @@ fn entries_of<P: Primitive>(
 fn is_still<P: Primitive>(circuit: &Circuit<P>, rows: &[u32], index: usize) -> bool
     requires rows { AreRows (all_sides (net_of P.behaviour circuit.now).primitives) rows.now }
     requires index { index < length circuit.now.joints }
-    ensures { (d : JointEnds) → result ≡ is_still (net_of P.behaviour circuit.now) rows.now (slice_index_or circuit.now.joints index d) }
+    ensures { let net = net_of P.behaviour circuit.now in
+        (d : JointEnds)
+        → result ≡ is_still net rows.now (slice_index_or circuit.now.joints index d) }
 {
     circuit.known();
     let Joint { giver, taker } = circuit.joint(index);
@@ -124,7 +129,8 @@ pub fn line_of<P: Primitive>(
     rows: &[u32],
 ) -> Result<RoundLine, NoMemory>
     requires { AreRows (all_sides (net_of P.behaviour circuit.now).primitives) rows.now }
-    ensures { IfOk result (λ line. line ≡ line_for (net_of P.behaviour circuit.now) round rows.now moves.now) }
+    ensures { let net = net_of P.behaviour circuit.now in
+        IfOk result (λ line. line ≡ line_for net round rows.now moves.now) }
 {
     let idle = is_idle(circuit, rows);
     let moves = copy_moves(alloc, moves)?;

@@ -1,5 +1,5 @@
 //! The texts of lines.
-ghost use Rattle.std.specs.Prelude.{◌≡◌, ◌++◌, IfOk, OnOk, codes};
+ghost use Rattle.std.specs.Prelude.{◌≡◌, ◌<◌, ◌++◌, IfOk, OnOk, codes};
 ghost use Rattle.std.specs.Fmt.{decimal};
 ghost use Rattle.reo_trace.specs.EndingText.{ending_text};
 ghost use Rattle.reo_trace.specs.declared.line.Ending.TheVariants.{Spent, Wide};
@@ -11,10 +11,21 @@ use reo_net_base::{Move, Ports, Way};
 use reo_values::{Bytes, NoMemory, value_text};
 use std::alloc::Global;
 
+/// Adds a number of one digit. It takes no memory beside the text's.
+fn append_digit(text: &mut Bytes, number: u64) -> Result<(), NoMemory>
+    requires { number < 10 }
+    ensures { OnOk result (text.new ≡ text.old ++ decimal number) }
+{
+    text.push(b'0' + number as u8)
+}
+
 /// Adds a number in decimal.
 fn append_number(alloc: Global, text: &mut Bytes, number: u64) -> Result<(), NoMemory>
     ensures { OnOk result (text.new ≡ text.old ++ decimal number) }
 {
+    if number < 10 {
+        return append_digit(text, number);
+    }
     match number.to_string(alloc) {
         Ok(digits) => text.append(digits.as_bytes()),
         Err(_) => Err(NoMemory),
@@ -75,7 +86,8 @@ fn append_moves(
     ports: &Ports,
     line: &RoundLine,
 ) -> Result<(), NoMemory>
-    ensures { OnOk result (text.new ≡ text.old ++ moves_text ports.now.list line.now.idle line.now.moves) }
+    ensures { OnOk result (text.new ≡ text.old ++ moves_text ports.now.list line.now.idle
+        line.now.moves) }
 {
     if line.idle {
         text.append(b"idle")
@@ -149,7 +161,8 @@ fn after_rounds(alloc: Global, words: &[u8], rounds: u64) -> Result<Bytes, NoMem
 
 /// Words, the number of a round, words and the number of a part.
 fn before_round(alloc: Global, words: &[u8], round: u64, knot: u64) -> Result<Bytes, NoMemory>
-    ensures { IfOk result (λ text. text ≡ words.now ++ (decimal round ++ (codes ": knot " ++ decimal knot))) }
+    ensures { IfOk result (λ text. text ≡ words.now ++
+        (decimal round ++ (codes ": knot " ++ decimal knot))) }
 {
     let mut text = Bytes::from_slice(alloc, words)?;
     append_number(alloc, &mut text, round)?;
@@ -160,7 +173,9 @@ fn before_round(alloc: Global, words: &[u8], round: u64, knot: u64) -> Result<By
 
 /// Adds a weight and a budget, and the end of the line.
 fn append_weight(alloc: Global, text: &mut Bytes, weight: u64, budget: u64) -> Result<(), NoMemory>
-    ensures { OnOk result (text.new ≡ text.old ++ (codes " weight " ++ (decimal weight ++ (codes " budget " ++ (decimal budget ++ codes "\n"))))) }
+    ensures { OnOk result (text.new ≡ text.old ++
+        (codes " weight " ++ (decimal weight ++ (codes " budget " ++
+        (decimal budget ++ codes "\n"))))) }
 {
     text.append(b" weight ")?;
     append_number(alloc, text, weight)?;

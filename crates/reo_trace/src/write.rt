@@ -49,8 +49,10 @@ pub fn write_round<S: Sink>(
     line: &RoundLine,
     out: &mut S,
 ) -> Result<(), WriteFault>
-    ensures ok { OnOk result (Appended (S.told out.old) (S.told out.new) (round_text ports.now.list line.now)) }
-    ensures failed { IsErrOf result WriteFault.Failed → TookPart (S.told out.old) (S.told out.new) (round_text ports.now.list line.now) }
+    ensures ok { OnOk result (Appended (S.told out.old) (S.told out.new)
+        (round_text ports.now.list line.now)) }
+    ensures failed { IsErrOf result WriteFault.Failed
+        → TookPart (S.told out.old) (S.told out.new) (round_text ports.now.list line.now) }
     ensures cause { IsErrOf result WriteFault.Failed → Rose (S.faults out.old) (S.faults out.new) }
     ensures memory { IsErrOf result WriteFault.NoMemory → out.new ≡ out.old }
     ensures count { S.faults out.old ≤ S.faults out.new }
@@ -67,7 +69,8 @@ pub fn write_round<S: Sink>(
 /// The same as those of `write_round`.
 pub fn write_ending<S: Sink>(alloc: Global, ending: &Ending, out: &mut S) -> Result<(), WriteFault>
     ensures ok { OnOk result (Appended (S.told out.old) (S.told out.new) (ending_text ending.now)) }
-    ensures failed { IsErrOf result WriteFault.Failed → TookPart (S.told out.old) (S.told out.new) (ending_text ending.now) }
+    ensures failed { IsErrOf result WriteFault.Failed
+        → TookPart (S.told out.old) (S.told out.new) (ending_text ending.now) }
     ensures cause { IsErrOf result WriteFault.Failed → Rose (S.faults out.old) (S.faults out.new) }
     ensures memory { IsErrOf result WriteFault.NoMemory → out.new ≡ out.old }
     ensures count { S.faults out.old ≤ S.faults out.new }
