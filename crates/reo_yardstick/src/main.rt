@@ -1,15 +1,20 @@
-//! The search by parts beside the plain search, which goes through all colourings: on small circuits
-//! that chance puts together, both find the same rows and items, round for round.
+//! The search by parts beside the plain search, which goes through all colourings: on small
+//! circuits that chance puts together, both find the same rows and items, round for round. So does
+//! arranging part by part.
 #![tactic(auto)]
 
 ghost use Rattle.std.specs.Prelude.{◌≡◌, ◌<◌};
 
+mod arranged;
+mod bounds;
 mod chance;
 mod engines;
 mod parts;
 mod rounds;
+mod sets;
 mod tally;
 mod texts;
+mod values;
 
 use crate::chance::Chance;
 use crate::engines::engine_of;
@@ -87,11 +92,12 @@ fn compare_all<L: Ledger>(rt: &HostRuntime, blank: Blank) -> io::Result<()>
         loops,
         heavy,
         greatest,
+        arranged,
     } = tally;
     println!(rt;
         "{circuits} circuits, {refused} texts passed over; \
 {rounds} rounds, {idle} idle, {jammed} with a jam; {parts} parts, {loops} with loop joints, \
-{heavy} of a weight above 1, {greatest} at most: none differs"
+{heavy} of a weight above 1, {greatest} at most, {arranged} arranged: none differs"
     )
 }
 

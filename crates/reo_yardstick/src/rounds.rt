@@ -1,4 +1,5 @@
-//! Rounds that are planned by parts and searched plainly.
+//! Rounds that are arranged and planned by parts, and searched plainly.
+use crate::arranged::all_arranged;
 use crate::chance::Chance;
 use crate::parts::count_parts;
 use crate::tally::{Tally, count};
@@ -53,23 +54,40 @@ fn agrees<L: Ledger>(
     Ok(same(&plan.colouring, plain))
 }
 
-/// Whether the plans of the next round have the colouring of the plain search: a first one, a second
-/// one, and one after parts were looked at, if they are.
-fn all_agree<L: Ledger>(
+/// Whether plans of the next round have a colouring: a first one, and a second one, before which
+/// parts may be prepared.
+fn plans_agree<L: Ledger>(
     alloc: Global,
     engine: &mut Engine<Kind>,
     steps: &mut Steps<L>,
+    plain: &Colouring,
     prepared: bool,
 ) -> Result<bool, PlanFault> {
-    engine.known();
-    let plain = plain_first(alloc, engine.circuit(), engine.rounds() + 1)?;
-    if !agrees(alloc, engine, steps, &plain)? {
+    if !agrees(alloc, engine, steps, plain)? {
         return Ok(false);
     }
     if prepared {
         engine.prepare(alloc, BUDGET, steps)?;
     }
-    agrees(alloc, engine, steps, &plain)
+    agrees(alloc, engine, steps, plain)
+}
+
+/// Whether the parts that are arranged, and the plans of the next round, have the colouring of the
+/// plain search.
+fn all_agree<L: Ledger>(
+    alloc: Global,
+    engine: &mut Engine<Kind>,
+    steps: &mut Steps<L>,
+    prepared: bool,
+    tally: &mut Tally,
+) -> Result<bool, PlanFault> {
+    engine.known();
+    let turn = engine.rounds() + 1;
+    let plain = plain_first(alloc, engine.circuit(), turn)?;
+    if !all_arranged(alloc, engine.circuit(), &plain, turn, steps, tally)? {
+        return Ok(false);
+    }
+    plans_agree(alloc, engine, steps, &plain, prepared)
 }
 
 /// Changes what is offered at a port, or nothing.
@@ -113,7 +131,7 @@ pub fn rounds_agree<L: Ledger>(
         }
         count_parts(alloc, engine.circuit(), steps, tally)?;
         let prepared = chance.below(2) == 0;
-        if !all_agree(alloc, engine, steps, prepared)? {
+        if !all_agree(alloc, engine, steps, prepared, tally)? {
             return Ok(false);
         }
         let plan = engine.plan(alloc, BUDGET, steps)?;

@@ -19,6 +19,8 @@ pub struct Tally {
     pub heavy: u64,
     /// The greatest weight.
     pub greatest: u64,
+    /// Parts that were arranged.
+    pub arranged: u64,
 }
 
 /// Nothing was compared.
@@ -33,6 +35,7 @@ pub fn empty_tally() -> Tally {
         loops: 0,
         heavy: 0,
         greatest: 0,
+        arranged: 0,
     }
 }
 

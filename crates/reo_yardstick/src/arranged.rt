@@ -1,0 +1,114 @@
+//! Parts that are arranged with values in sets.
+ghost use Rattle.std.specs.Prelude.{◌≡◌, ◌<◌, length};
+ghost use Rattle.reo_net_base.specs.Net.{net_of};
+ghost use Rattle.reo_net_base.specs.Colouring.{IsColouring};
+ghost use Rattle.reo_kinds.specs.Kinds.{behaviour_of};
+ghost use Rattle.reo_knots.specs.Knots.{AreKnots, knot_count};
+ghost use Rattle.reo_reach.specs.Supplied.{AreShort, IsSupply};
+
+use crate::bounds::{are_within, loops_are_single};
+use crate::sets::sets_of;
+use crate::tally::{Tally, count};
+use reo_kinds::Kind;
+use reo_knots::{Knots, find_knots};
+use reo_net_base::Colouring;
+use reo_net_circuit::Circuit;
+use reo_propagate::Sets;
+use reo_reach::{Supply, reach};
+use reo_search::{Part, arrange};
+use reo_steps::Steps;
+use reo_values::NoMemory;
+use std::alloc::Global;
+use std::sync::ledger::Ledger;
+
+/// Whether a part has these sides, and the rows of a colouring there.
+fn has_rows(part: &Part, sides: &[usize], rows: &[u32]) -> bool {
+    if part.sides.as_slice() != sides || part.rows.len() != sides.len() {
+        return false;
+    }
+    for index in 0..sides.len() {
+        let side = sides[index];
+        if rows.len() <= side || *part.rows.at(index) != rows[side] {
+            return false;
+        }
+    }
+    true
+}
+
+/// Whether a colouring has a jam row, the last of a table, at one of these sides.
+fn has_jam_row(circuit: &Circuit<Kind>, sides: &[usize], plain: &Colouring) -> bool
+    requires { IsColouring (net_of behaviour_of circuit.now) plain.now.rows plain.now.items }
+{
+    let rows = plain.rows.as_slice();
+    for side in sides {
+        if *side < circuit.sides() && circuit.row(rows, *side) + 1 == circuit.rows(*side) {
+            return true;
+        }
+    }
+    false
+}
+
+/// Whether there is a part with these sides and the rows of a colouring, and it jams exactly where
+/// one of these is a jam row.
+fn is_of(circuit: &Circuit<Kind>, part: &Option<Part>, sides: &[usize], plain: &Colouring) -> bool
+    requires { IsColouring (net_of behaviour_of circuit.now) plain.now.rows plain.now.items }
+{
+    match part {
+        Some(part) => {
+            has_rows(part, sides, plain.rows.as_slice())
+                && part.jammed == has_jam_row(circuit, sides, plain)
+        }
+        None => false,
+    }
+}
+
+/// Whether the first assignment of a part with values in some sets has the rows of a colouring.
+fn agrees<L: Ledger>(
+    alloc: Global,
+    circuit: &Circuit<Kind>,
+    knots: &Knots,
+    supply: &Supply,
+    sets: &Sets,
+    plain: &Colouring,
+    knot: usize,
+    turn: u64,
+    steps: &mut Steps<L>,
+) -> Result<bool, NoMemory>
+    requires knots { AreKnots (net_of behaviour_of circuit.now) knots.now }
+    requires knot { knot < knot_count knots.now }
+    requires supply { IsSupply (net_of behaviour_of circuit.now) supply.now }
+    requires short { AreShort supply.now }
+    requires plain { IsColouring (net_of behaviour_of circuit.now) plain.now.rows plain.now.items }
+{
+    if !are_within(supply.lists(), sets) || !loops_are_single(knots, sets, knot) {
+        return Ok(false);
+    }
+    let part = arrange(alloc, circuit, knots, supply, sets, knot, turn, steps)?;
+    Ok(is_of(circuit, &part, knots.sides(knot), plain))
+}
+
+/// Arranges all parts of a circuit, with the values of its first colouring at the loop joints:
+/// whether all have its rows.
+pub fn all_arranged<L: Ledger>(
+    alloc: Global,
+    circuit: &Circuit<Kind>,
+    plain: &Colouring,
+    turn: u64,
+    steps: &mut Steps<L>,
+    tally: &mut Tally,
+) -> Result<bool, NoMemory>
+    requires { IsColouring (net_of behaviour_of circuit.now) plain.now.rows plain.now.items }
+{
+    let knots = find_knots(alloc, circuit)?;
+    let supply = reach(alloc, circuit)?;
+    let sets = sets_of(alloc, circuit, &knots, &supply, plain)?;
+    for knot in 0..knots.count() {
+        if !agrees(
+            alloc, circuit, &knots, &supply, &sets, plain, knot, turn, steps,
+        )? {
+            return Ok(false);
+        }
+        count(&mut tally.arranged, true);
+    }
+    Ok(true)
+}
