@@ -1,7 +1,7 @@
-//! The command: `run CIRCUIT SCRIPT [--rounds N]` writes the trace of the script on the circuit,
-//! `check CIRCUIT` the parts of the circuit, `print CIRCUIT` the canonical text of the circuit,
-//! `verify CIRCUIT SCRIPT TRACE` the verdict on the trace, `bench N` what came of the run of made
-//! work.
+//! The command: `run CIRCUIT SCRIPT [--budget W] [--rounds N]` writes the trace of the script on
+//! the circuit, `check CIRCUIT` the parts of the circuit, `print CIRCUIT` the canonical text of the
+//! circuit, `verify CIRCUIT SCRIPT TRACE` the verdict on the trace, `bench N` what came of the run
+//! of made work.
 #![tactic(auto)]
 
 ghost use Rattle.std.specs.Prelude.{◌≡◌, ◌≢◌, [], map, drop, IfErr, IfOk, IsErr, MatchResult};
@@ -9,20 +9,23 @@ ghost use Rattle.std.specs.IoError.{error_kind};
 ghost use Rattle.std.specs.Process.{exit_status};
 ghost use Rattle.std.specs.String.{string_bytes};
 ghost use Rattle.std.specs.Vec.Iter.{into_iter_items};
-ghost use Rattle.reo_top_inputs.specs.Commands.{command_of};
-ghost use Rattle.reo_top_inputs.specs.Statuses.{IsAmong, statuses_for};
+ghost use Rattle.reo_command.specs.Commands.{command_of};
+ghost use Rattle.reo_command.specs.Statuses.{IsAmong, statuses_for};
 
-use reo_io::{DiskFiles, StdSink, StdSource};
+use reo_io::{DiskFiles, Sink, SinkFault, StdSink, StdSource};
 use reo_top::{Status, reo};
 use reo_values::{Bytes, List, NoMemory};
 use std::alloc::Global;
 use std::env::Args;
-use std::io::ErrorKind;
+use std::io::{BufWriter, ErrorKind, Write};
 use std::process::ExitCode;
 use std::{env, io};
 
 /// Memory ran out before the command could begin.
 const NO_MEMORY: Status = Status { code: 10 };
+
+/// The output failed.
+const WRITE_FAULT: Status = Status { code: 9 };
 
 /// The words behind the first argument, which is the program's name, in their order.
 fn words_behind(alloc: Global, arguments: Args) -> Result<List<Bytes>, NoMemory>
@@ -38,9 +41,13 @@ fn words_behind(alloc: Global, arguments: Args) -> Result<List<Bytes>, NoMemory>
 /// The words of the command, from what the system gave. Where it gave none for another cause than
 /// out of memory, there are none.
 fn words_of(alloc: Global, given: io::Result<Args>) -> Result<List<Bytes>, NoMemory>
-    ensures words { IfOk given (λ arguments. IfOk result (λ words. words ≡ map string_bytes (drop 1 (into_iter_items arguments)))) }
-    ensures none { IfErr given (λ fault. error_kind fault ≢ ErrorKind.OutOfMemory → result ≡ Ok []) }
-    ensures memory { IfErr given (λ fault. error_kind fault ≡ ErrorKind.OutOfMemory → IsErr result) }
+    ensures words { IfOk given
+        (λ arguments. IfOk result
+        (λ words. words ≡ map string_bytes (drop 1 (into_iter_items arguments)))) }
+    ensures none { IfErr given
+        (λ fault. error_kind fault ≢ ErrorKind.OutOfMemory → result ≡ Ok []) }
+    ensures memory { IfErr given
+        (λ fault. error_kind fault ≡ ErrorKind.OutOfMemory → IsErr result) }
 {
     match given {
         Ok(arguments) => words_behind(alloc, arguments),
@@ -56,20 +63,63 @@ fn exit_code(status: Status) -> ExitCode
     ExitCode::from(status.code)
 }
 
+/// The status of the command with these words on the system's files and input, over this output.
+fn status_over<S: Sink>(rt: &HostRuntime, words: &List<Bytes>, out: &mut S) -> Status
+    ensures { IsAmong (statuses_for (command_of words.now)) result.code }
+{
+    let alloc: Global = rt.alloc();
+    let mut files = DiskFiles::new(alloc, rt);
+    let mut source = StdSource::new(rt.reader());
+    reo(alloc, words, &mut files, &mut source, out)
+}
+
+/// The status of a failed output, which each command may have.
+fn write_fault(words: &List<Bytes>) -> Status
+    ensures { IsAmong (statuses_for (command_of words.now)) result.code }
+{
+    let _words = words;
+    WRITE_FAULT
+}
+
+/// The status of the command with these words, once all that was put is out. Where it does not come
+/// out, the output failed, and nothing more is tried.
+fn status_behind<W: Write + Drop>(
+    rt: &HostRuntime,
+    words: &List<Bytes>,
+    writer: BufWriter<W>,
+) -> Status
+    ensures { IsAmong (statuses_for (command_of words.now)) result.code }
+{
+    let mut sink = StdSink::new(writer);
+    let status = status_over(rt, words, &mut sink);
+    let flushed = sink.flush();
+    let (_writer, _left) = sink.into_writer().into_parts();
+    match flushed {
+        Ok(()) => status,
+        Err(SinkFault::Failed) => write_fault(words),
+    }
+}
+
+/// The status of the command with these words on the system's files and streams. What is put is
+/// gathered and written in large pieces, or each by itself where there is no memory for that.
+fn status_of(rt: &HostRuntime, words: &List<Bytes>) -> Status
+    ensures { IsAmong (statuses_for (command_of words.now)) result.code }
+{
+    match BufWriter::new(rt.alloc(), io::writer(rt)) {
+        Ok(writer) => status_behind(rt, words, writer),
+        Err(_) => status_over(rt, words, &mut StdSink::new(io::writer(rt))),
+    }
+}
+
 /// What the process ends with: the status of the command with these words on the system's files
 /// and streams, or 10 where memory for the words ran out.
 fn ended(rt: &HostRuntime, words: Result<List<Bytes>, NoMemory>) -> ExitCode
-    ensures { MatchResult words (λ words. IsAmong (statuses_for (command_of words)) (exit_status result)) (λ _. exit_status result ≡ 10) }
+    ensures { MatchResult words
+        (λ words. IsAmong (statuses_for (command_of words)) (exit_status result))
+        (λ _. exit_status result ≡ 10) }
 {
-    let alloc: Global = rt.alloc();
     match words {
-        Ok(words) => {
-            let mut files = DiskFiles::new(alloc, rt);
-            let mut source = StdSource::new(rt.reader());
-            let mut sink = StdSink::new(io::writer(rt));
-            let status = reo(alloc, &words, &mut files, &mut source, &mut sink);
-            exit_code(status)
-        }
+        Ok(words) => exit_code(status_of(rt, &words)),
         Err(NoMemory) => exit_code(NO_MEMORY),
     }
 }

@@ -7,7 +7,7 @@ use std::process::{self, ExitCode};
 use std::test::Fail;
 
 const TWO: &[u8] =
-    b"connector main(in a: int 0..9, out b: int 0..9, in c: int 0..9, out d: int 0..9) { sync a b; sync c d; }";
+    b"type n = int 0..9; connector main(in a: n, out b: n, in c: n, out d: n) { sync a b; sync c d; }";
 
 const LATER: &[u8] =
     b"component p { write a 1; } component q { write c 2; } component r { take d; }";

@@ -2,8 +2,16 @@
 //! two blanks have an empty word between them, and an empty line has no words. Behind the line,
 //! `> ..`, stands what the command writes, and then its status, `= ..`. The files that cases name
 //! are those of `data/`. A line that begins with `#` says what the cases below it show.
+//!
+//! Of a case behind `~ ` stands only how many lines the command writes, and the last of them. Such
+//! cases write much; the file `above` of such a case is what the one before it has written.
 #![tactic(auto)]
 
+mod files;
+mod lines;
+mod whole;
+
+use crate::whole::show_whole;
 use reo_io::{DiskFiles, StdSink, SureSource};
 use reo_top::reo;
 use reo_values::{Bytes, List, NoMemory};
@@ -11,7 +19,7 @@ use std::alloc::Global;
 use std::io::{self, ErrorKind};
 
 /// The words of a case.
-fn words_of(alloc: Global, line: &str) -> Result<List<Bytes>, NoMemory> {
+pub(crate) fn words_of(alloc: Global, line: &str) -> Result<List<Bytes>, NoMemory> {
     let mut words = List::new(alloc);
     if !line.is_empty() {
         for word in line.split(' ') {
@@ -41,12 +49,17 @@ fn show(rt: &HostRuntime, line: &str) -> io::Result<()> {
 }
 
 fn main(rt: HostRuntime) -> io::Result<()> {
+    let mut above = Bytes::new(rt.alloc());
     for line in rt.lines(rt.alloc()) {
         let line = line?;
-        if line.as_str().starts_with('#') {
+        let line = line.as_str();
+        if line.starts_with('#') {
             println!(rt; "{line}")?;
+        } else if let Some(case) = line.strip_prefix("~ ") {
+            println!(rt; "> {line}")?;
+            above = show_whole(&rt, case, above.as_slice())?;
         } else {
-            show(&rt, line.as_str())?;
+            show(&rt, line)?;
         }
     }
     Ok(())

@@ -1,3 +1,3 @@
 mod ChunkLemmas
-mod ExactLemmas
+pub mod ExactLemmas
 mod RowLemmas

@@ -1,7 +1,7 @@
 -- What readers give, beside what reading by a grammar comes to.
 use Rattle.std.specs.Prelude.{◌≡◌, ℕ, Option, Some, None, cond, List, [], ◌∷◌, Result, Ok, Err, IsErrOf}
 use Rattle.reo_grammar.specs.Tokens.{Lexeme, is_number, number_from}
-use Rattle.reo_grammar.specs.Tokens.Class.{fixed, name, number, text}
+use Rattle.reo_grammar.specs.Tokens.Class.{fixed, name, named, number, text}
 use Rattle.reo_grammar.specs.Grammar.{Outcome, token_at, then}
 use Rattle.reo_grammar.specs.Grammar.Outcome.{got, bad, out}
 use Rattle.reo_trees.specs.Texts.{text_bytes}
@@ -33,9 +33,12 @@ abbrev pub value_at : List Lexeme → Option ℕ
 value_at [] = None
 value_at (t ∷ ts) = cond (is_number t.kind) (Some (number_from 0 t.bytes)) None
 
--- Reading a word, a name, a number, a text in quotes.
+-- Reading a word, a name that is told, a name, a number, a text in quotes.
 abbrev pub word_at : List ℕ → List Lexeme → Outcome (Unit {0})
 word_at b ts = then (token_at (fixed b) ts) (λ t r. got tt r)
+
+abbrev pub named_at : List ℕ → List Lexeme → Outcome (Unit {0})
+named_at b ts = then (token_at (named b) ts) (λ t r. got tt r)
 
 abbrev pub name_at : List Lexeme → Outcome (List ℕ)
 name_at ts = then (token_at name ts) (λ t r. got t.bytes r)

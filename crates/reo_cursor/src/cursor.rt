@@ -1,10 +1,10 @@
 //! The place among the tokens.
 ghost use Rattle.std.specs.Prelude.{◌≡◌, ◌≢◌, ℕ, ◌<◌, ◌≤◌, List, [], ◌∷◌, drop, length, All, MatchOption, IfOk, true};
 ghost use Rattle.reo_grammar.specs.Tokens.{Lexeme, AreReal, is_real};
-ghost use Rattle.reo_grammar.specs.Tokens.Class.{fixed, other, name as name_class, number as number_class, text as text_class};
+ghost use Rattle.reo_grammar.specs.Tokens.Class.{fixed, other, name as name_class, named, number as number_class, text as text_class};
 ghost use Rattle.reo_grammar.specs.Grammar.{starts, line_of};
 ghost use Rattle.reo_lexer.specs.Lexing.{Lies, lexemes_of};
-ghost use Rattle.reo_cursor.specs.Reading.{Gives, NeedsNoMemory, StaysWithoutMemory, lexeme_seen, value_at, word_at, name_at, number_at, text_at};
+ghost use Rattle.reo_cursor.specs.Reading.{Gives, NeedsNoMemory, StaysWithoutMemory, lexeme_seen, value_at, word_at, name_at, named_at, number_at, text_at};
 
 use crate::bytes::{number_of, text_of};
 use crate::{Halt, Seen, seen_of};
@@ -30,7 +30,8 @@ impl<'a> Model for Cursor<'a> {
 
     ghost view = { λ c. drop c.at (lexemes_of c.text.now c.tokens.now) };
 
-    ghost invariant = { λ c. (c.at ≤ length c.tokens.now) × All (Lies c.text.now) c.tokens.now × AreReal (lexemes_of c.text.now c.tokens.now) };
+    ghost invariant = { λ c. (c.at ≤ length c.tokens.now) × All (Lies c.text.now) c.tokens.now
+        × AreReal (lexemes_of c.text.now c.tokens.now) };
 }
 
 impl<'a> Cursor<'a> {
@@ -56,7 +57,8 @@ impl<'a> Cursor<'a> {
 
     /// The next token, or None at the end.
     pub fn next(&self) -> Option<Seen<'a>>
-        ensures seen { MatchOption result (self.now ≡ []) (λ s. self.now ≡ lexeme_seen s ∷ drop 1 self.now) }
+        ensures seen { MatchOption result (self.now ≡ [])
+            (λ s. self.now ≡ lexeme_seen s ∷ drop 1 self.now) }
         ensures real { MatchOption result (Unit {0}) (λ s. is_real (lexeme_seen s) ≡ true) }
     {
         if self.at < self.tokens.len() {
@@ -114,6 +116,16 @@ impl<'a> Cursor<'a> {
         }
     }
 
+    /// Whether the next token is this name.
+    pub fn is_named(&self, name: &[u8]) -> bool
+        ensures { result ≡ starts (named name.now) self.now }
+    {
+        match self.next() {
+            Some(seen) => seen.kind == TokenKind::Name && seen.bytes == name,
+            None => false,
+        }
+    }
+
     /// Whether the next token is a text in quotes.
     pub fn is_text(&self) -> bool
         ensures { result ≡ starts text_class self.now }
@@ -156,6 +168,23 @@ impl<'a> Cursor<'a> {
         ensures memory { NeedsNoMemory result }
     {
         if self.is(word) {
+            self.advance();
+            Ok(())
+        } else {
+            Err(Halt::Syntax)
+        }
+    }
+
+    /// Takes this name.
+    ///
+    /// # Errors
+    ///
+    /// `Syntax`: the next token is another one, or none is left. The cursor stays where it was.
+    pub fn expect_named(&mut self, name: &[u8]) -> Result<(), Halt>
+        ensures read { Gives result self.new (named_at name.now self.old) }
+        ensures memory { NeedsNoMemory result }
+    {
+        if self.is_named(name) {
             self.advance();
             Ok(())
         } else {

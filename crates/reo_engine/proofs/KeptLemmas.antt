@@ -7,7 +7,7 @@ use Rattle.reo_net_base.specs.PortState.{PortState}
 use Rattle.reo_net_base.specs.Shapes.{SamePortedShape, SameWays}
 use Rattle.reo_net_base.specs.Step.{change_at}
 use Rattle.reo_net_circuit.proofs.PortLemmas.{change_length}
-use Rattle.reo_engine_base.specs.Offering.{AreJustPorts}
+use Rattle.reo_rounds.specs.Offering.{AreJustPorts}
 
 ports_kept : (old new : List PortState) (ports : ℕ) → SameWays old new → AreJustPorts old ports → AreJustPorts new ports
 ports_kept old new ports same are = record {

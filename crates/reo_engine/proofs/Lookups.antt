@@ -19,8 +19,8 @@ use Rattle.reo_planning.proofs.Elsewhere.{kept_elsewhere, kept_fewer, kept_later
 use Rattle.reo_planning.proofs.KeptTables.{tables_elsewhere}
 use Rattle.reo_planning.proofs.Setting.{fewer_none, fewer_twice}
 use Rattle.reo_planning.proofs.Shapes.{knots_stay}
-use Rattle.reo_tables.specs.declared.tables.Tables.{Tables}
-use Rattle.reo_tables.proofs.Sorted.{orders_stay}
+use Rattle.reo_kept_tables.specs.declared.tables.Tables.{Tables}
+use Rattle.reo_kept_tables.proofs.Sorted.{orders_stay}
 use Rattle.reo_engine.specs.Changes.{is_changed, OthersStay}
 use Rattle.reo_engine.specs.Engine.{AreHeld, IsLookedUp}
 use Rattle.reo_engine.specs.Settled.{StaySettled}

@@ -7,8 +7,8 @@ use Rattle.reo_knots.specs.Knots.{Knotted, AreKnots}
 use Rattle.reo_planning.specs.declared.kept.Kept.{Kept}
 use Rattle.reo_planning.specs.Keeping.{IsKept}
 use Rattle.reo_planning.specs.Tables.{MayBeKept}
-use Rattle.reo_tables.specs.declared.tables.Tables.{Tables}
-use Rattle.reo_tables.specs.Orders.{AreOrders}
+use Rattle.reo_kept_tables.specs.declared.tables.Tables.{Tables}
+use Rattle.reo_kept_tables.specs.Orders.{AreOrders}
 
 -- A circuit, how many rounds were made, and which primitives may have changed since the last of
 -- them began; the circuit's knots, the joints at its ends, and what is kept of its parts.

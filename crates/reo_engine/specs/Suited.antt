@@ -1,8 +1,8 @@
 -- Plans suit the circuit that they were made for.
 use Rattle.std.specs.Prelude.{ℕ}
 use Rattle.reo_net_base.specs.Net.{Net}
-use Rattle.reo_engine_base.specs.declared.plan.Plan.{Plan}
-use Rattle.reo_engine_base.specs.Plans.{IsPlan, Suits}
+use Rattle.reo_rounds.specs.declared.plan.Plan.{Plan}
+use Rattle.reo_rounds.specs.Plans.{IsPlan, Suits}
 
 -- Whatever the budget and the round.
 abbrev pub PlansSuit : Type 0

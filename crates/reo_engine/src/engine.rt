@@ -1,16 +1,16 @@
 //! Engines.
 ghost use Rattle.std.specs.Prelude.{◌≡◌, ◌≤◌, ◌^◌, true, IfOk, map, length, replicate};
 ghost use Rattle.reo_knots.specs.Knots.{AreKnots};
-ghost use Rattle.reo_engine_base.specs.Offering.{AreJustPorts};
+ghost use Rattle.reo_rounds.specs.Offering.{AreJustPorts};
 ghost use Rattle.reo_engine.specs.Engine.{net_now};
 
 use crate::changes::all_marked;
+use reo_kept_tables::{Tables, orders_of};
 use reo_knots::{Knots, find_knots};
 use reo_net_base::Ported;
 use reo_net_circuit::Circuit;
 use reo_net_ends::{Ends, ends_of};
 use reo_planning::Kept;
-use reo_tables::{Tables, orders_of};
 use reo_values::{List, NoMemory};
 use std::alloc::Global;
 use std::marker::Model;
@@ -21,9 +21,9 @@ use std::marker::Model;
 /// something flowed in it, and the ports at which an offer came or went since. All others stand as
 /// they stood.
 ///
-/// And it keeps the rows of parts that `prepare` looked at, as long as nothing in them changes: such
-/// a part is settled, and is not searched again. A knot of the circuit is a part. The tables of
-/// the search are kept too: what they have of a part is made anew only where it is not settled.
+/// And it keeps the rows of parts that `prepare` looked at, as long as nothing in them changes:
+/// such a part is settled, and is not searched again. A knot of the circuit is a part. The tables
+/// of the search are kept too: what they have of a part is made anew only where it is not settled.
 #[derive(Drop)]
 pub struct Engine<P: Ported> {
     pub(crate) circuit: Circuit<P>,
@@ -39,7 +39,7 @@ pub struct Engine<P: Ported> {
 impl<P: Ported> Model for Engine<P> {
     ghost use Rattle.std.specs.Prelude.{◌≡◌, ◌≤◌, ◌^◌, length, map};
     ghost use Rattle.reo_net_base.specs.Net.{net_of};
-    ghost use Rattle.reo_engine_base.specs.Offering.{AreJustPorts};
+    ghost use Rattle.reo_rounds.specs.Offering.{AreJustPorts};
     ghost use Rattle.reo_engine.specs.Engine.{Running, AreHeld, IsLookedUp};
 
     ghost Value = { Running P };

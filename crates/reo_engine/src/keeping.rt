@@ -1,16 +1,16 @@
 //! Looking at parts ahead of a plan.
 ghost use Rattle.std.specs.Prelude.{◌≡◌, ◌+◌, ◌<◌, ◌≤◌, ◌^◌, ℕ, OnOk, OnErr, MatchResult};
 ghost use Rattle.reo_weights.specs.Over.{Cause, IsOver};
-ghost use Rattle.reo_engine_base.specs.Plans.{IsPlanFault};
+ghost use Rattle.reo_rounds.specs.Plans.{IsPlanFault};
 ghost use Rattle.reo_knots.specs.Knots.{knot_count};
 ghost use Rattle.reo_planning.specs.Keeping.{AllServe};
 ghost use Rattle.reo_planning.specs.Planned.{AreWeights, sum_below, weight_left};
 ghost use Rattle.reo_engine.specs.Engine.{net_now};
 
 use crate::engine::Engine;
-use reo_engine_base::PlanFault;
 use reo_net_base::Ported;
 use reo_planning::rows_by_tables;
+use reo_rounds::PlanFault;
 use reo_steps::Steps;
 use std::alloc::Global;
 use std::sync::ledger::Ledger;

@@ -1,14 +1,15 @@
 //! The engine: a circuit that takes offers at its ports and goes on round by round.
 //!
 //! A round is planned and then made. Only `new`, `plan` and `prepare` take memory, so a round that
-//! was planned can always be made. The rows of parts in which nothing changes are kept from round to
-//! round.
+//! was planned can always be made. The rows of parts in which nothing changes are kept from round
+//! to round.
 #![tactic(auto)]
 
 mod changes;
 mod engine;
 mod keeping;
 mod laws;
+mod next;
 mod offering;
 mod offers;
 mod planning;
@@ -17,4 +18,4 @@ mod rounds;
 pub use engine::Engine;
 pub use laws::plans_suit;
 pub use planning::plan_with;
-pub use reo_engine_base::{Declined, Done, OfferFault, Plan, PlanFault};
+pub use reo_rounds::{Declined, Done, OfferFault, Plan, PlanFault, PlannedRound};

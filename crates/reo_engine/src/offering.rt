@@ -1,12 +1,12 @@
 //! Offers at ports.
 ghost use Rattle.std.specs.Prelude.{◌≡◌, ◌↔◌, IsTrue, MatchOption, map};
-ghost use Rattle.reo_engine_base.specs.Offering.{IsOfferFault, IsTakenAt};
+ghost use Rattle.reo_rounds.specs.Offering.{IsOfferFault, IsTakenAt};
 ghost use Rattle.reo_net_base.specs.PortState.{way_of, CanPlace, IsAccepted};
-ghost use Rattle.reo_engine_base.specs.Offering.{IsPortFault};
+ghost use Rattle.reo_rounds.specs.Offering.{IsPortFault};
 
-use reo_engine_base::OfferFault;
 use reo_net_base::{Offer, Ported, Way};
 use reo_net_circuit::Circuit;
+use reo_rounds::OfferFault;
 
 /// The way of the port of an offer.
 fn way_of(offer: &Offer) -> Way

@@ -2,15 +2,15 @@
 ghost use Rattle.std.specs.Prelude.{◌≡◌, ◌↔◌, IsTrue, true, false, Some, None, OnOk, IfErr, OnErr, MatchResult, map};
 ghost use Rattle.reo_net_circuit.specs.Offers.{OnlyPort};
 ghost use Rattle.reo_net_base.specs.Step.{change_at};
-ghost use Rattle.reo_engine_base.specs.Offering.{IsOfferFault, IsPendingAt, IsTakenAt};
+ghost use Rattle.reo_rounds.specs.Offering.{IsOfferFault, IsPendingAt, IsTakenAt};
 ghost use Rattle.reo_planning.specs.Unsettling.{IsUnsettled};
 ghost use Rattle.reo_engine.specs.Engine.{net_now};
 
 use crate::changes::mark;
 use crate::engine::Engine;
 use crate::offering::offer_fault;
-use reo_engine_base::Declined;
 use reo_net_base::{Offer, Ported};
+use reo_rounds::Declined;
 
 impl<P: Ported> Engine<P> {
     /// Makes an offer pending at a port. The parts of its sides are settled no longer, and all
@@ -58,9 +58,9 @@ impl<P: Ported> Engine<P> {
     }
 
     /// Takes the offer that is pending at a port back. The answer is `false` exactly where the
-    /// number names no port or nothing is pending there, and then nothing changes. Else the parts of
-    /// the port's sides are settled no longer, and all others stay settled that were. This takes no
-    /// memory.
+    /// number names no port or nothing is pending there, and then nothing changes. Else the parts
+    /// of the port's sides are settled no longer, and all others stay settled that were. This takes
+    /// no memory.
     pub fn withdraw(&mut self, port: usize) -> bool
         ensures exact { let states = map P.port_state self.old.circuit.primitives in
             IsTrue result ↔ IsPendingAt states self.old.circuit.ports port }

@@ -2,7 +2,7 @@
 ghost use Rattle.std.specs.Prelude.{◌≡◌, ◌+◌, ◌<◌, ◌≤◌, ◌^◌, ◌↔◌, ℕ, IsTrue, IfOk, MatchResult, map};
 ghost use Rattle.reo_net_circuit.specs.Offers.{AreAfterRound};
 ghost use Rattle.reo_net_base.specs.Step.{stepped};
-ghost use Rattle.reo_engine_base.specs.Plans.{IsPlan, IsPlanFault, Suits};
+ghost use Rattle.reo_rounds.specs.Plans.{IsPlan, IsPlanFault, Suits};
 ghost use Rattle.reo_knots.specs.Knots.{knot_count};
 ghost use Rattle.reo_planning.specs.Keeping.{AllServe};
 ghost use Rattle.reo_planning.specs.Planned.{AreWeights, sum_below, weight_left};
@@ -14,9 +14,9 @@ ghost use Rattle.reo_engine.specs.Settled.{StaySettled};
 use crate::changes::mark_flowing;
 use crate::engine::Engine;
 use crate::planning::{plan_with, suits};
-use reo_engine_base::{Done, Plan, PlanFault};
 use reo_net_base::Ported;
 use reo_planning::first_by_parts;
+use reo_rounds::{Done, Plan, PlanFault};
 use reo_steps::Steps;
 use std::alloc::Global;
 use std::sync::ledger::Ledger;
@@ -24,7 +24,8 @@ use std::sync::ledger::Ledger;
 impl<P: Ported> Engine<P> {
     /// Plans the round that comes next: the first colouring of the circuit in the round of the
     /// number `rounds() + 1`. The engine stays as it is, and the plan suits it until it changes. On
-    /// each part the plan is the part's first assignment, whatever the other parts are.
+    /// each part, as on each closed set of sides, the plan is the first assignment of the part,
+    /// whatever the other parts are.
     ///
     /// Parts that are settled within the budget are not searched. It makes at most as many ticks as
     /// the others weigh together, and none where there are no others.
@@ -44,7 +45,7 @@ impl<P: Ported> Engine<P> {
             MatchResult result (IsPlan budget net self.now.circuit.ports (self.now.rounds + 1))
             (IsPlanFault budget net) }
         ensures parts { let net = net_now P.behaviour self.now in
-            IfOk result (λ plan. AreFirstInParts net self.now.knots (self.now.rounds + 1)
+            IfOk result (λ plan. AreFirstInParts net (self.now.rounds + 1)
             plan.colouring.rows plan.colouring.items) }
         ensures ticks { let count = knot_count self.now.knots in (weights : ℕ → ℕ)
             → AreWeights (net_now P.behaviour self.now) self.now.knots weights
@@ -76,9 +77,9 @@ impl<P: Ported> Engine<P> {
         suits(&self.circuit, plan)
     }
 
-    /// Makes a round that suits: the circuit steps, and one round more was made. The parts that were
-    /// settled stay so, but those in which something flowed in the round and those that may move by
-    /// the rows that are kept of them. This takes no memory.
+    /// Makes a round that suits: the circuit steps, and one round more was made. The parts that
+    /// were settled stay so, but those in which something flowed in the round and those that may
+    /// move by the rows that are kept of them. This takes no memory.
     pub fn commit(&mut self, plan: Plan) -> Done
         requires suits { Suits (net_now P.behaviour self.old) self.old.circuit.ports plan }
         requires few { self.old.rounds < 2 ^ 63 }
@@ -89,7 +90,8 @@ impl<P: Ported> Engine<P> {
         ensures offers { let old = self.old.circuit in
             let states = map P.port_state old.primitives in
             let after = map P.port_state self.new.circuit.primitives in
-            AreAfterRound (net_now P.behaviour self.old) plan.colouring.rows old.ports states after }
+            AreAfterRound
+            (net_now P.behaviour self.old) plan.colouring.rows old.ports states after }
         ensures rounds { self.new.rounds ≡ self.old.rounds + 1 }
         ensures changed { let net = net_now P.behaviour self.old in
             AreThoseThatFlowed net plan.colouring.rows self.new.changed }

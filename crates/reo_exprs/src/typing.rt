@@ -184,7 +184,8 @@ fn type_within(alloc: Global, expr: &Expr, of: &Kindred) -> Result<Option<Kindre
     }
 }
 
-// The type that was found, the fault where there is none, and out of memory only where that was met.
+// The type that was found, the fault where there is none, and out of memory only where that was
+// met.
 fn or_fault(
     found: Result<Option<Kindred>, NoMemory>,
     fault: TypeFault,
@@ -209,7 +210,8 @@ pub fn type_of(alloc: Global, expr: &Expr, of: &Kindred) -> Result<Kindred, Type
     ensures typed { IfOk result (λ t. type_of_expr expr.now of.now ≡ Some t) }
     ensures kind { IfOk result (λ t. IsSome (kind_of_expr expr.now of.now)) }
     ensures mistyped { IsErrOf result TypeFault.Mistyped → kind_of_expr expr.now of.now ≡ None }
-    ensures range { IsErrOf result TypeFault.Range → IsSome (kind_of_expr expr.now of.now) × (type_of_expr expr.now of.now ≡ None) }
+    ensures range { IsErrOf result TypeFault.Range → IsSome (kind_of_expr expr.now of.now)
+        × (type_of_expr expr.now of.now ≡ None) }
 {
     or_fault(kind_of_expr(alloc, expr, of), TypeFault::Mistyped)?;
     or_fault(type_within(alloc, expr, of), TypeFault::Range)

@@ -84,7 +84,8 @@ fn one_view<'a>(op: Unary, x: View<'a>, of: &Kindred, item: &'a Value) -> View<'
     requires typed { AreTyped x of.now }
     requires near { IsTrue (is_near (number (value_of_view x item.now))) }
     requires member { IsIn item.now of.now }
-    ensures value { value_of_view result item.now ≡ unary_value op (value_of_view x.entry item.now) }
+    ensures value { value_of_view result item.now ≡ unary_value op
+        (value_of_view x.entry item.now) }
     ensures typed { AreTyped result of.now }
     ensures work { work_of_view result ≤ work_of_view x.entry }
 {
@@ -122,7 +123,8 @@ fn calculated<'a>(op: Binary, x: i64, y: i64) -> View<'a>
     requires apart { op ≢ Binary.Pair }
     requires fits { IsTrue (is_near (number (binary_value op (Value.Int x) (Value.Int y)))) }
     requires divisor { IsTrue (may_stand_right op (Kindred.Int y y)) }
-    ensures value { (item : Value) → value_of_view result item ≡ binary_value op (Value.Int x) (Value.Int y) }
+    ensures value { (item : Value) → value_of_view result item ≡ binary_value op (Value.Int x)
+        (Value.Int y) }
     ensures typed { (of : Kindred) → AreTyped result of }
     ensures work { work_of_view result ≡ 0 }
 {
@@ -231,7 +233,8 @@ fn same_made(x: View<'_>, y: View<'_>, of: &Kindred, item: &Value) -> bool
     requires left_made { IsMade x }
     requires right_made { IsMade y }
     requires member { IsIn item.now of.now }
-    ensures { result ≡ same_value (value_of_view x.entry item.now) (value_of_view y.entry item.now) }
+    ensures { result ≡ same_value (value_of_view x.entry item.now)
+        (value_of_view y.entry item.now) }
 {
     match (x, y) {
         (View::Unit, View::Unit) => true,
@@ -257,7 +260,8 @@ fn same_view(x: View<'_>, y: View<'_>, of: &Kindred, item: &Value) -> bool
     requires left { AreTyped x of.now }
     requires right { AreTyped y of.now }
     requires member { IsIn item.now of.now }
-    ensures { result ≡ same_value (value_of_view x.entry item.now) (value_of_view y.entry item.now) }
+    ensures { result ≡ same_value (value_of_view x.entry item.now)
+        (value_of_view y.entry item.now) }
 {
     match x {
         View::Item(part) => is_item(y, part, of, item),

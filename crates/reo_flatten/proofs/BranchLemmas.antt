@@ -3,8 +3,8 @@ use Rattle.std.proofs.Common.{arith, ◌≡◌, ◌∙◌, ℕ, ◌≤◌, Bool,
 use Rattle.std.proofs.Math.Bridge.{le_prop}
 use Rattle.std.proofs.lemmas.Bool.{leb-true, leb-false}
 use Rattle.reo_kinds.specs.declared.kind.Kind.{Kind}
-use Rattle.reo_kinds.specs.declared.kind.Branches.{Branches}
-use Rattle.reo_flatten_base.specs.Flat.{branched_with, branched}
+use Rattle.reo_net_base.specs.declared.branches.Branches.{Branches}
+use Rattle.reo_flat.specs.Flat.{branched_with, branched}
 
 one_proof : (a b : ℕ) (p q : a ≤ b) → p ≡ q
 one_proof a b p q = le_prop p q

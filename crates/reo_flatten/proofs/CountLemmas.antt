@@ -5,21 +5,21 @@ use Rattle.std.proofs.lemmas.List.{length-append, length-map}
 use Rattle.std.proofs.lemmas.Bool.{lt-ltb, le-ltb}
 use Rattle.reo_net_base.specs.declared.joint.End.{End}
 use Rattle.reo_trees.specs.declared.programs.Declaration.{Declaration}
-use Rattle.reo_rules_base.specs.declared.fault.FlatFault.TheVariants as faults
-use Rattle.reo_rules_base.specs.declared.fault.FlatFault.{FlatFault}
-use Rattle.reo_rules_base.specs.Lists.{where_true, first_of}
-use Rattle.reo_rules_base.specs.Judged.{IsFirst}
-use Rattle.reo_rules_base.specs.Scopes.{connector_names, parameter_names}
-use Rattle.reo_rules_base.specs.Types.{types_of}
-use Rattle.reo_flatten_base.specs.Counts.{IsSizesOf, AreSizes}
+use Rattle.reo_rules.specs.declared.fault.FlatFault.TheVariants as faults
+use Rattle.reo_rules.specs.declared.fault.FlatFault.{FlatFault}
+use Rattle.reo_rules.specs.Lists.{where_true, first_of}
+use Rattle.reo_rules.specs.Judged.{IsFirst}
+use Rattle.reo_rules.specs.Scopes.{connector_names, parameter_names}
+use Rattle.reo_rules.specs.Types.{types_of}
+use Rattle.reo_flat.specs.Counts.{IsSizesOf, AreSizes}
 use Rattle.reo_flatten_unfold.proofs.Positions.{found_within}
 use Rattle.reo_flatten.proofs.MainLemmas.{main_meaning}
-use Rattle.reo_flatten_base.specs.declared.sizes.Sizes.{Sizes}
-use Rattle.reo_flatten_base.specs.Unfolding.{Placed, Meaning, no_meaning, meaning_named, meanings_of}
-use Rattle.reo_flatten_base.specs.Joints.{is_many, ends_of, pairs, givers, takers, joints_between, joints_of, many}
-use Rattle.reo_flatten_base.specs.Ends.{incoming, outgoing}
-use Rattle.reo_flatten_base.specs.Flat.{port_of, port_placed, ports_of, main_parameters, placed_of, primitives_of, own_kinds, nodes_of, joints_at}
-use Rattle.reo_flatten_base.specs.Sizes.{is_too_many, too_many}
+use Rattle.reo_flat.specs.declared.sizes.Sizes.{Sizes}
+use Rattle.reo_flat.specs.Unfolding.{Placed, Meaning, no_meaning, meaning_named, meanings_of}
+use Rattle.reo_flat.specs.Joints.{is_many, ends_of, pairs, givers, takers, joints_between, joints_of, many}
+use Rattle.reo_flat.specs.Ends.{incoming, outgoing}
+use Rattle.reo_flat.specs.Flat.{port_of, port_placed, ports_of, main_parameters, placed_of, primitives_of, own_kinds, nodes_of, joints_at}
+use Rattle.reo_flat.specs.Sizes.{is_too_many, too_many}
 
 by_first : (a b c : Bool) → a ≡ true → (a || b) || c ≡ true
 by_first true b c is = refl

@@ -11,11 +11,11 @@ use Rattle.reo_net_base.specs.Net.{end_of}
 use Rattle.reo_net_base.specs.Behaviour.{Behaviour}
 use Rattle.reo_kinds.specs.declared.kind.Kind.{Kind}
 use Rattle.reo_kinds.specs.Kinds.{behaviour_of}
-use Rattle.reo_flatten_base.specs.Unfolding.{Placed}
-use Rattle.reo_flatten_base.specs.Ends.{ends_in, ends_from}
+use Rattle.reo_flat.specs.Unfolding.{Placed}
+use Rattle.reo_flat.specs.Ends.{ends_in, ends_from}
 use Rattle.reo_flatten_unfold.proofs.ListLemmas.{take_next}
-use Rattle.reo_rules_base.specs.Lists.{where_true, has_name}
-use Rattle.reo_rules_base.specs.Touches.{bool_eq}
+use Rattle.reo_rules.specs.Lists.{where_true, has_name}
+use Rattle.reo_rules.specs.Touches.{bool_eq}
 use Rattle.reo_flatten_unfold.proofs.Positions.{before_first, place_none}
 use Rattle.reo_flatten.specs.NodeEnds.{placed_with, name_at, Grows, one_at}
 

@@ -17,15 +17,15 @@ use Rattle.reo_trees.specs.declared.programs.Declaration.{Declaration}
 use Rattle.reo_trees.specs.declared.programs.Declaration.TheVariants as declarations
 use Rattle.reo_trees.specs.declared.programs.Program.{Program}
 use Rattle.reo_literals.specs.Items.{HasFewNames}
-use Rattle.reo_rules_base.specs.declared.fault.FlatFault.{FlatFault}
-use Rattle.reo_rules_base.specs.declared.fault.FlatFault.TheVariants as faults
-use Rattle.reo_rules_base.specs.Lists.{each_after, where_true}
-use Rattle.reo_rules_base.specs.Types.{Typed, types_after, types_of, type_named, resolved, parts_of, depth_of}
-use Rattle.reo_rules_base.specs.Scopes.{scope_of}
-use Rattle.reo_rules_base.specs.Twice.{twice_among, twice_in, twice}
-use Rattle.reo_rules_base.specs.Ranges.{is_out, range_in_type, range_in_item, range_in_connector, range_in, out_of_range}
-use Rattle.reo_rules_base.specs.Scopes.{connector_names}
-use Rattle.reo_rules_base.proofs.AfterLemmas.{left_none, right_none, flat_map-append}
+use Rattle.reo_rules.specs.declared.fault.FlatFault.{FlatFault}
+use Rattle.reo_rules.specs.declared.fault.FlatFault.TheVariants as faults
+use Rattle.reo_rules.specs.Lists.{each_after, where_true}
+use Rattle.reo_rules.specs.Types.{Typed, types_after, types_of, type_named, resolved, parts_of, depth_of}
+use Rattle.reo_rules.specs.Scopes.{scope_of}
+use Rattle.reo_rules.specs.Twice.{twice_among, twice_in, twice}
+use Rattle.reo_rules.specs.Ranges.{is_out, range_in_type, range_in_item, range_in_connector, range_in, out_of_range}
+use Rattle.reo_rules.specs.Scopes.{connector_names}
+use Rattle.reo_rules.proofs.AfterLemmas.{left_none, right_none, flat_map-append}
 use Rattle.reo_flatten_unfold.specs.Fits.{IsFew, FormFits, AreFit}
 use Rattle.reo_flatten_unfold.proofs.ListLemmas.{each_none, fails}
 use Rattle.reo_flatten_unfold.proofs.TypeLemmas.{few_pair}
@@ -103,6 +103,9 @@ fits types scope line (forms.Joined (channels.Fifo1 held) first second) none spe
 fits types scope line (forms.Joined (channels.Fifo size held) first second) none spelled = (spelled.0.0, spelled.0.1, ltb-false size (length held) (fails (nat_lt size (length held)) (faults.Range line) none))
 fits types scope line (forms.Joined (channels.Filter t) first second) none spelled = tt
 fits types scope line (forms.Joined (channels.Map t) first second) none spelled = tt
+fits types scope line (forms.Joined (channels.Shift size held) first second) none spelled = (spelled.0.0, spelled.0.1, ltb-false size (length held) (fails (nat_lt size (length held)) (faults.Range line) none))
+fits types scope line (forms.Joined (channels.Variable held) first second) none spelled = tt
+fits types scope line (forms.Joined (channels.Quota number) first second) none spelled = tt
 fits types scope line (forms.Used name arguments) none spelled = tt
 
 pub are_fit : (p : Program) → IsSpelled p → twice p.declarations ≡ [] → out_of_range p.declarations ≡ [] → AreFit p.declarations

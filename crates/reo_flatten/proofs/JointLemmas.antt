@@ -4,7 +4,7 @@ use Rattle.std.proofs.lemmas.List.{take_more, length-take-le}
 use Rattle.std.proofs.lemmas.List.FromFn.{length-map-range_with_len, map-range_with_len_more}
 use Rattle.reo_net_base.specs.declared.joint.End.{End}
 use Rattle.reo_net_base.specs.Net.{end_of}
-use Rattle.reo_flatten_base.specs.Joints.{ends_of, pairs}
+use Rattle.reo_flat.specs.Joints.{ends_of, pairs}
 
 pairs-more : (gs ts : List End) (g t : End) → length gs ≡ length ts → pairs (gs ++ g ∷ []) (ts ++ t ∷ []) ≡ pairs gs ts ++ record { giver = g; taker = t } ∷ []
 pairs-more [] [] g t even = refl

@@ -6,14 +6,14 @@ use Rattle.std.proofs.lemmas.Option.{unwrap_or-slice_get}
 use Rattle.reo_trees.specs.declared.programs.Connector.{Connector}
 use Rattle.reo_trees.specs.declared.programs.Declaration.{Declaration}
 use Rattle.reo_trees.specs.declared.programs.Declaration.TheVariants as declarations
-use Rattle.reo_rules_base.specs.Scopes.{connectors_in, connectors_of, connector_names}
-use Rattle.reo_rules_base.proofs.AfterLemmas.{flat_map-append}
-use Rattle.reo_rules_base.proofs.Mapped.{position-map}
-use Rattle.reo_flatten_base.specs.Unfolding.{Meaning, no_meaning, meaning_named, meanings_of}
-use Rattle.reo_rules_base.specs.declared.fault.FlatFault.TheVariants as faults
-use Rattle.reo_rules_base.specs.Lists.{where_true}
-use Rattle.reo_flatten_base.specs.Flat.{main_of, main_parameters}
-use Rattle.reo_flatten_base.specs.Sizes.{no_main}
+use Rattle.reo_rules.specs.Scopes.{connectors_in, connectors_of, connector_names}
+use Rattle.reo_rules.proofs.AfterLemmas.{flat_map-append}
+use Rattle.reo_rules.proofs.Mapped.{position-map}
+use Rattle.reo_flat.specs.Unfolding.{Meaning, no_meaning, meaning_named, meanings_of}
+use Rattle.reo_rules.specs.declared.fault.FlatFault.TheVariants as faults
+use Rattle.reo_rules.specs.Lists.{where_true}
+use Rattle.reo_flat.specs.Flat.{main_of, main_parameters}
+use Rattle.reo_flat.specs.Sizes.{no_main}
 use Rattle.reo_flatten_unfold.specs.declared.ground.Stand.{Stand}
 use Rattle.reo_flatten_unfold.specs.Ground.{IsStand, IsGround}
 use Rattle.reo_flatten_unfold.specs.declared.ground.Ground.{Ground}

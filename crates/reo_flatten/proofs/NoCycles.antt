@@ -17,23 +17,23 @@ use Rattle.reo_trees.specs.declared.programs.Connector.{Connector}
 use Rattle.reo_trees.specs.declared.programs.Declaration.{Declaration}
 use Rattle.reo_trees.specs.declared.programs.Declaration.TheVariants as declarations
 use Rattle.reo_trees.specs.declared.programs.Program.{Program}
-use Rattle.reo_rules_base.specs.declared.fault.FlatFault.{FlatFault}
-use Rattle.reo_rules_base.specs.declared.fault.FlatFault.TheVariants as faults
-use Rattle.reo_rules_base.specs.Lists.{each_after, where_true, first_of, has_name}
-use Rattle.reo_rules_base.specs.Judged.{IsFirst}
-use Rattle.reo_rules_base.specs.Types.{Typed, parts_of, types_of, type_named, names_of}
-use Rattle.reo_rules_base.specs.Terms.{symbols_in}
-use Rattle.reo_rules_base.specs.Scopes.{connectors_of, connector_names, parameter_names, node_names, type_names, scope_of}
-use Rattle.reo_rules_base.specs.Touches.{Touch, touches_in, touches_of}
-use Rattle.reo_rules_base.specs.Twice.{twice_among, twice_in_part, twice_in_type, twice_in_parameter, twice_in_item, twice_in, twice}
-use Rattle.reo_rules_base.specs.Unknown.{missing, unknown_in_part, unknown_in_type, lacking, unknown_symbol, unknown_in_term, unknown_in_channel, unknown_in_item, unknown_in, unknown}
-use Rattle.reo_rules_base.specs.Mistyped.{mistyped_in, mistyped}
-use Rattle.reo_rules_base.specs.Ranges.{range_in_type, range_in_item, range_in, out_of_range}
-use Rattle.reo_rules_base.specs.Arity.{arity_in_item, arity_in, arity}
-use Rattle.reo_rules_base.specs.Direction.{direction_in_item, direction_in, direction}
-use Rattle.reo_rules_base.specs.Dangling.{dangling_parameter, dangling_in_item, dangling_in, dangling}
-use Rattle.reo_flatten_base.specs.Sizes.{no_main, too_many}
-use Rattle.reo_flatten_base.specs.Refusals.{breaks, IsRefused}
+use Rattle.reo_rules.specs.declared.fault.FlatFault.{FlatFault}
+use Rattle.reo_rules.specs.declared.fault.FlatFault.TheVariants as faults
+use Rattle.reo_rules.specs.Lists.{each_after, where_true, first_of, has_name}
+use Rattle.reo_rules.specs.Judged.{IsFirst}
+use Rattle.reo_rules.specs.Types.{Typed, parts_of, types_of, type_named, names_of}
+use Rattle.reo_rules.specs.Terms.{symbols_in}
+use Rattle.reo_rules.specs.Scopes.{connectors_of, connector_names, parameter_names, node_names, type_names, scope_of}
+use Rattle.reo_rules.specs.Touches.{Touch, touches_in, touches_of}
+use Rattle.reo_rules.specs.Twice.{twice_among, twice_in_part, twice_in_type, twice_in_parameter, twice_in_item, twice_in, twice}
+use Rattle.reo_rules.specs.Unknown.{missing, unknown_in_part, unknown_in_type, lacking, unknown_symbol, unknown_in_term, unknown_in_channel, unknown_in_item, unknown_in, unknown}
+use Rattle.reo_rules.specs.Mistyped.{mistyped_in, mistyped}
+use Rattle.reo_rules.specs.Ranges.{range_in_type, range_in_item, range_in, out_of_range}
+use Rattle.reo_rules.specs.Arity.{arity_in_item, arity_in, arity}
+use Rattle.reo_rules.specs.Direction.{direction_in_item, direction_in, direction}
+use Rattle.reo_rules.specs.Dangling.{dangling_parameter, dangling_in_item, dangling_in, dangling}
+use Rattle.reo_flat.specs.Sizes.{no_main, too_many}
+use Rattle.reo_flat.specs.Refusals.{breaks, IsRefused}
 
 -- The fault is no cycle.
 abbrev pub NoCycle : FlatFault → Type 0
@@ -120,6 +120,9 @@ unknown_channel types (channels.Fifo1 held) = tt
 unknown_channel types (channels.Fifo size held) = tt
 unknown_channel types (channels.Filter t) = unknown_term types t
 unknown_channel types (channels.Map t) = unknown_term types t
+unknown_channel types (channels.Shift size held) = tt
+unknown_channel types (channels.Variable held) = tt
+unknown_channel types (channels.Quota number) = tt
 
 unknown_item : (types : List Typed) (connectors nodes : List (List ℕ)) (line : ℕ) (f : Form) → AllNo (unknown_in_item types connectors nodes line f)
 unknown_item types connectors nodes line (forms.Node name term) = unknown_type (names_of types) term

@@ -5,13 +5,13 @@ use Rattle.std.proofs.lemmas.List.{length-map}
 use Rattle.reo_kinds.specs.declared.kind.Kind.{Kind}
 use Rattle.reo_trees.specs.declared.programs.Declaration.{Declaration}
 use Rattle.reo_trees.specs.declared.programs.Program.{Program}
-use Rattle.reo_rules_base.specs.declared.fault.FlatFault.{FlatFault}
-use Rattle.reo_rules_base.specs.Rules.{rule_breaks}
-use Rattle.reo_rules_base.proofs.AfterLemmas.{both_none}
-use Rattle.reo_flatten_base.specs.Unfolding.{Placed}
-use Rattle.reo_flatten_base.specs.Flat.{own_kinds, placed_of, nodes_of, primitives_of, joints_in}
-use Rattle.reo_flatten_base.specs.Sizes.{no_main, too_many}
-use Rattle.reo_flatten_base.specs.Refusals.{breaks, IsAccepted, IsRefused}
+use Rattle.reo_rules.specs.declared.fault.FlatFault.{FlatFault}
+use Rattle.reo_rules.specs.Rules.{rule_breaks}
+use Rattle.reo_rules.proofs.AfterLemmas.{both_none}
+use Rattle.reo_flat.specs.Unfolding.{Placed}
+use Rattle.reo_flat.specs.Flat.{own_kinds, placed_of, nodes_of, primitives_of, joints_in}
+use Rattle.reo_flat.specs.Sizes.{no_main, too_many}
+use Rattle.reo_flat.specs.Refusals.{breaks, IsAccepted, IsRefused}
 use Rattle.reo_flatten_laws.specs.Nodes.{IsServed}
 use Rattle.reo_flatten.specs.declared.ends.NodeEnds.{NodeEnds}
 use Rattle.reo_flatten.specs.declared.last.Flat.{Flat}

@@ -1,10 +1,10 @@
 -- Joints and homes, node by node.
 use Rattle.std.proofs.Common.{arith, ◌≡◌, ◌∙◌, ℕ, suc, ◌+◌, ◌<◌, List, [], ◌∷◌, ◌++◌, length, take, get_or, replicate, refl, sym, ap}
 use Rattle.std.proofs.lemmas.List.{append_assoc, append-nil, length-take-le}
-use Rattle.reo_flatten_base.specs.Unfolding.{Placed}
-use Rattle.reo_flatten_base.specs.Ends.{incoming, outgoing}
-use Rattle.reo_flatten_base.specs.Joints.{joints_of, many}
-use Rattle.reo_flatten_base.specs.Flat.{joints_at, homes_at}
+use Rattle.reo_flat.specs.Unfolding.{Placed}
+use Rattle.reo_flat.specs.Ends.{incoming, outgoing}
+use Rattle.reo_flat.specs.Joints.{joints_of, many}
+use Rattle.reo_flat.specs.Flat.{joints_at, homes_at}
 use Rattle.reo_flatten_unfold.proofs.ListLemmas.{take_next}
 
 -- Where the own primitives of the nodes behind these begin.

@@ -3,10 +3,10 @@ use Rattle.std.specs.Prelude.{ℕ, ◌≡◌, ◌<◌, ◌&&◌, Bool, true, fal
 use Rattle.reo_net_base.specs.declared.joint.End.{End}
 use Rattle.reo_kinds.specs.declared.kind.Kind.{Kind}
 use Rattle.reo_kinds.specs.Kinds.{behaviour_of}
-use Rattle.reo_rules_base.specs.Lists.{where_true}
-use Rattle.reo_rules_base.specs.Touches.{bool_eq}
-use Rattle.reo_flatten_base.specs.Unfolding.{Placed}
-use Rattle.reo_flatten_base.specs.Ends.{ends_in, incoming, outgoing}
+use Rattle.reo_rules.specs.Lists.{where_true}
+use Rattle.reo_rules.specs.Touches.{bool_eq}
+use Rattle.reo_flat.specs.Unfolding.{Placed}
+use Rattle.reo_flat.specs.Ends.{ends_in, incoming, outgoing}
 use Rattle.reo_flatten.specs.declared.ends.NodeEnds.{NodeEnds}
 
 -- Primitives with the nodes that each is at.

@@ -1,8 +1,8 @@
 -- What a program's flat circuit is made from.
 use Rattle.std.specs.Prelude.{◌≡◌, List, map}
 use Rattle.reo_trees.specs.declared.programs.Declaration.{Declaration}
-use Rattle.reo_flatten_base.specs.Unfolding.{Placed}
-use Rattle.reo_flatten_base.specs.Flat.{primitives_of, placed_of, ports_of, joints_in, nodes_of, homes_in}
+use Rattle.reo_flat.specs.Unfolding.{Placed}
+use Rattle.reo_flat.specs.Flat.{primitives_of, placed_of, ports_of, joints_in, nodes_of, homes_in}
 use Rattle.reo_flatten.specs.declared.last.Parts.{Parts}
 use Rattle.reo_flatten.specs.declared.unfolded.Begun.{Begun}
 

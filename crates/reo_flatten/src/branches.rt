@@ -1,9 +1,9 @@
 //! A node's merger and replicator.
 ghost use Rattle.std.specs.Prelude.{◌≡◌, ◌++◌, length, OnOk};
-ghost use Rattle.reo_rules_base.specs.Lists.{where_true};
+ghost use Rattle.reo_rules.specs.Lists.{where_true};
 ghost use Rattle.reo_kinds.specs.declared.kind.Kind.TheVariants as primitives;
-ghost use Rattle.reo_flatten_base.specs.Joints.{many, is_many};
-ghost use Rattle.reo_flatten_base.specs.Flat.{branched};
+ghost use Rattle.reo_flat.specs.Joints.{many, is_many};
+ghost use Rattle.reo_flat.specs.Flat.{branched};
 ghost use Rattle.reo_flatten.specs.NodeParts.{own};
 
 use reo_kinds::{Branches, Kind};

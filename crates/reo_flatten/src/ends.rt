@@ -3,12 +3,12 @@ ghost use Rattle.std.specs.Prelude.{◌≡◌, ◌<◌, ℕ, List, [], length, r
 ghost use Rattle.reo_net_base.specs.declared.joint.End.{End as AnEnd};
 ghost use Rattle.reo_values.specs.Valid.{AreDistinct};
 ghost use Rattle.reo_kinds.specs.Kinds.{behaviour_of};
-ghost use Rattle.reo_flatten_base.specs.Unfolding.{Placed};
+ghost use Rattle.reo_flat.specs.Unfolding.{Placed};
 ghost use Rattle.reo_flatten.specs.NodeEnds.{placed_with, AddsEnd, AddsEnds, AreEnds};
 
 use reo_kinds::Kind;
 use reo_net_base::End;
-use reo_rules_base::Names;
+use reo_rules::Names;
 use reo_values::{Bytes, List, NoMemory};
 use std::alloc::Global;
 

@@ -1,6 +1,6 @@
 //! The joints of a node.
 ghost use Rattle.std.specs.Prelude.{◌≡◌, ◌<◌, ◌+◌, ◌^◌, ◌++◌, [], cond, length, option_to_list, OnOk};
-ghost use Rattle.reo_flatten_base.specs.Joints.{is_many, ends_of, pairs, givers, takers, joints_of};
+ghost use Rattle.reo_flat.specs.Joints.{is_many, ends_of, pairs, givers, takers, joints_of};
 
 use crate::branches::many;
 use reo_net_base::{End, Joint};

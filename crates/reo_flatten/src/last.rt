@@ -1,9 +1,9 @@
 //! The last step: a circuit from what a program unfolds to, or the node of its first cycle.
 ghost use Rattle.std.specs.Prelude.{◌≡◌, [], IfOk, MatchResult};
 ghost use Rattle.std.specs.List.{All};
-ghost use Rattle.reo_rules_base.specs.Scopes.{connectors_of};
-ghost use Rattle.reo_flatten_base.specs.Flat.{wiring_of_program, homes_in, nodes_of, ports_of};
-ghost use Rattle.reo_flatten_base.specs.Refusals.{breaks, IsAccepted, IsRefused};
+ghost use Rattle.reo_rules.specs.Scopes.{connectors_of};
+ghost use Rattle.reo_flat.specs.Flat.{wiring_of_program, homes_in, nodes_of, ports_of};
+ghost use Rattle.reo_flat.specs.Refusals.{breaks, IsAccepted, IsRefused};
 ghost use Rattle.reo_flatten_laws.specs.Plain.{HasPlainNames};
 ghost use Rattle.reo_flatten.specs.Parts.{IsParts};
 
@@ -11,7 +11,7 @@ use reo_flatten_laws::{circuits_are_made, circuits_are_small, homes_are_nodes, h
 use reo_kinds::Kind;
 use reo_net_base::{Joint, Port, Ports};
 use reo_net_circuit::{Circuit, NetFault};
-use reo_rules_base::FlatFault;
+use reo_rules::FlatFault;
 use reo_trees::Program;
 use reo_values::{Bytes, List};
 use std::alloc::Global;

@@ -4,6 +4,7 @@
 mod branches;
 mod ends;
 mod joints;
+mod judging;
 mod last;
 mod main_ports;
 mod nodes;
@@ -11,5 +12,5 @@ mod unfolded;
 mod whole;
 
 pub use last::Flat;
-pub use reo_rules_base::FlatFault;
+pub use reo_rules::FlatFault;
 pub use whole::flatten;

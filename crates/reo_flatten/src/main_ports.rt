@@ -1,9 +1,9 @@
 //! The ports of `main`, and what is placed for them.
 ghost use Rattle.std.specs.Prelude.{◌≡◌, List, [], ◌∷◌, map, IfOk};
 ghost use Rattle.reo_net_base.specs.declared.port.Port.{Port as APort};
-ghost use Rattle.reo_rules_base.specs.Types.{Typed};
-ghost use Rattle.reo_rules_base.specs.Scopes.{parameter_names};
-ghost use Rattle.reo_flatten_base.specs.Flat.{way_of, port_of, port_kind, port_placed};
+ghost use Rattle.reo_rules.specs.Types.{Typed};
+ghost use Rattle.reo_rules.specs.Scopes.{parameter_names};
+ghost use Rattle.reo_flat.specs.Flat.{way_of, port_of, port_kind, port_placed};
 ghost use Rattle.reo_flatten_unfold.specs.Known.{AreTypes};
 
 use reo_flatten_unfold::{Types, kindred_of};

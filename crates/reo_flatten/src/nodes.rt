@@ -1,9 +1,9 @@
 //! The own primitives and the joints of all nodes.
 ghost use Rattle.std.specs.Prelude.{◌≡◌, ◌<◌, ◌+◌, ◌*◌, ◌^◌, ◌++◌, ℕ, List, [], length, replicate, IfOk, OnOk};
 ghost use Rattle.std.specs.List.{flat_map};
-ghost use Rattle.reo_flatten_base.specs.Unfolding.{Placed};
-ghost use Rattle.reo_flatten_base.specs.Joints.{joints_of};
-ghost use Rattle.reo_flatten_base.specs.Flat.{own_kinds, joints_at, homes_at};
+ghost use Rattle.reo_flat.specs.Unfolding.{Placed};
+ghost use Rattle.reo_flat.specs.Joints.{joints_of};
+ghost use Rattle.reo_flat.specs.Flat.{own_kinds, joints_at, homes_at};
 ghost use Rattle.reo_flatten.specs.NodeEnds.{AreEnds};
 
 use crate::branches::{many, own_kinds};

@@ -10,7 +10,7 @@ use crate::ends::{NodeEnds, ends_of};
 use crate::main_ports::{names_of, port_ends, port_kinds, ports_of};
 use reo_flatten_unfold::{Ground, Unfolded, connector, connector_at};
 use reo_net_base::Port;
-use reo_rules_base::Names;
+use reo_rules::Names;
 use reo_trees::Declaration;
 use reo_values::{Bytes, List, NoMemory};
 use std::alloc::Global;

@@ -2,18 +2,19 @@
 ghost use Rattle.std.specs.Prelude.{◌≡◌, ◌≤◌, [], true, false, IfOk, MatchResult, Some, length, position, bytes_eq, codes};
 ghost use Rattle.std.specs.List.{All};
 ghost use Rattle.reo_trees_laws.specs.Spelled.{IsSpelled};
-ghost use Rattle.reo_rules_base.specs.Scopes.{connectors_of};
-ghost use Rattle.reo_rules_base.specs.Rules.{rule_breaks};
-ghost use Rattle.reo_rules_base.specs.Judged.{IsJudged};
-ghost use Rattle.reo_flatten_base.specs.Unfolding.{meaning_named, meanings_of};
-ghost use Rattle.reo_flatten_base.specs.Flat.{wiring_of_program, homes_in, nodes_of, ports_of};
-ghost use Rattle.reo_flatten_base.specs.Sizes.{is_too_many, too_many};
-ghost use Rattle.reo_flatten_base.specs.Refusals.{breaks, IsAccepted, IsRefused};
+ghost use Rattle.reo_rules.specs.Scopes.{connectors_of};
+ghost use Rattle.reo_rules.specs.Rules.{rule_breaks};
+ghost use Rattle.reo_rules.specs.Judged.{IsJudged};
+ghost use Rattle.reo_flat.specs.Unfolding.{meaning_named, meanings_of};
+ghost use Rattle.reo_flat.specs.Flat.{wiring_of_program, homes_in, nodes_of, ports_of};
+ghost use Rattle.reo_flat.specs.Sizes.{is_too_many, too_many};
+ghost use Rattle.reo_flat.specs.Refusals.{breaks, IsAccepted, IsRefused};
 ghost use Rattle.reo_flatten_laws.specs.Plain.{HasPlainNames};
 ghost use Rattle.reo_flatten_unfold.specs.Ground.{IsGround};
 ghost use Rattle.reo_flatten_unfold.specs.Fits.{AreFit};
 ghost use Rattle.reo_flatten.specs.Parts.{IsParts};
 
+use crate::judging::judge;
 use crate::last::{Flat, Parts, close};
 use crate::nodes::{Wired, all_joints, all_own};
 use crate::unfolded::{Begun, begin, ends_at};
@@ -21,8 +22,7 @@ use reo_flatten_laws::{
     circuits_are_small, counts_are_channels, nodes_are_distinct, nodes_are_served,
 };
 use reo_flatten_unfold::{Ground, Unfolded, connector_at, ground_of};
-use reo_rules::judge;
-use reo_rules_base::FlatFault;
+use reo_rules::FlatFault;
 use reo_trees::{Declaration, Program};
 use std::alloc::Global;
 

@@ -12,8 +12,8 @@ use Rattle.reo_exprs.specs.Kinds.{kind_of, LiesInside}
 use Rattle.reo_exprs.proofs.JoinCases.{names_same}
 use Rattle.reo_exprs.proofs.Options.{from_both}
 use Rattle.reo_exprs.proofs.Twinned.{Twins_of-equal}
-use Rattle.reo_rules_base.specs.Types.{is_same, int_eq}
-use Rattle.reo_rules_base.specs.Ranges.{is_inside}
+use Rattle.reo_rules.specs.Types.{is_same, int_eq}
+use Rattle.reo_rules.specs.Ranges.{is_inside}
 
 pub un_not : (b : Bool) → not b ≡ false → b ≡ true
 un_not true h = refl
@@ -49,20 +49,6 @@ same_types (kindred.Pair' m (kindred.more_of-Twins a b kindred.end_of-Twins)) (k
     let both = from_both (is_same a c) (is_same b d) h in
     Twins_of-equal (record { left = a; right = b }) (record { left = c; right = d }) (same_types a c both.0) (same_types b d both.1)
 same_types _ _ h = absurd (cc)
-
--- A type that the test finds inside another lies inside it.
-pub inside_types : (a b : Kindred) → is_inside a b ≡ true → LiesInside a b
-inside_types kindred.Unit kindred.Unit h = tt
-inside_types kindred.Bool kindred.Bool h = tt
-inside_types (kindred.Int low high) (kindred.Int low2 high2) h =
-    let both = from_both (le_z low2 low) (le_z high high2) h in
-    (in_order low2 low both.0, in_order high high2 both.1)
-inside_types (kindred.Sym names) (kindred.Sym names2) h = names_same names names2 h
-inside_types (kindred.Text most) (kindred.Text most2) h = leb-true most most2 h
-inside_types (kindred.Pair' m (kindred.more_of-Twins a b kindred.end_of-Twins)) (kindred.Pair' n (kindred.more_of-Twins c d kindred.end_of-Twins)) h =
-    let both = from_both (is_inside a c) (is_inside b d) h in
-    (inside_types a c both.0, inside_types b d both.1)
-inside_types _ _ h = absurd (cc)
 
 -- The type of truth values is the one of its kind.
 pub truth_kind : (t : Kindred) → kind_of t ≡ kinds.Bool → t ≡ kinds.Bool

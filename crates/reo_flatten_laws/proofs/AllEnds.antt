@@ -8,12 +8,12 @@ use Rattle.reo_net_base.specs.Behaviour.{Behaviour}
 use Rattle.reo_net_base.specs.Net.{end_of, end_eq, behaviour_at}
 use Rattle.reo_kinds.specs.declared.kind.Kind.TheVariants as primitives
 use Rattle.reo_kinds.specs.Kinds.{behaviour_of}
-use Rattle.reo_rules_base.specs.Lists.{where_true}
+use Rattle.reo_rules.specs.Lists.{where_true}
 use Rattle.reo_kinds.specs.declared.kind.Kind.{Kind}
-use Rattle.reo_flatten_base.specs.Unfolding.{Placed}
-use Rattle.reo_flatten_base.specs.Ends.{incoming, outgoing}
-use Rattle.reo_flatten_base.specs.Joints.{is_many, ends_of, many}
-use Rattle.reo_flatten_base.specs.Flat.{branched, branched_with, own_kinds}
+use Rattle.reo_flat.specs.Unfolding.{Placed}
+use Rattle.reo_flat.specs.Ends.{incoming, outgoing}
+use Rattle.reo_flat.specs.Joints.{is_many, ends_of, many}
+use Rattle.reo_flat.specs.Flat.{branched, branched_with, own_kinds}
 use Rattle.reo_flatten_laws.proofs.Times.{one_if, times, own_in}
 use Rattle.reo_flatten_laws.proofs.NodeSums.{listed, all_listed, own_sum}
 

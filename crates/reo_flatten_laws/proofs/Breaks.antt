@@ -3,18 +3,18 @@ use Rattle.std.proofs.Common.{◌≡◌, ◌∙◌, List, [], ◌∷◌, ◌++�
 use Rattle.std.specs.List.{flat_map}
 use Rattle.std.proofs.lemmas.List.{append-nil, append_assoc}
 use Rattle.reo_trees.specs.declared.programs.Declaration.{Declaration}
-use Rattle.reo_rules_base.specs.declared.fault.FlatFault.{FlatFault}
-use Rattle.reo_rules_base.specs.Lists.{each_after, where_true}
-use Rattle.reo_rules_base.specs.Scopes.{connectors_in, connectors_of}
-use Rattle.reo_rules_base.specs.Twice.{twice}
-use Rattle.reo_rules_base.specs.Unknown.{unknown}
-use Rattle.reo_rules_base.specs.Mistyped.{mistyped}
-use Rattle.reo_rules_base.specs.Ranges.{out_of_range}
-use Rattle.reo_rules_base.specs.Arity.{arity}
-use Rattle.reo_rules_base.specs.Direction.{direction}
-use Rattle.reo_rules_base.specs.Rules.{rule_breaks, KeepsRules}
-use Rattle.reo_flatten_base.specs.Sizes.{no_main, too_many}
-use Rattle.reo_flatten_base.specs.Refusals.{breaks}
+use Rattle.reo_rules.specs.declared.fault.FlatFault.{FlatFault}
+use Rattle.reo_rules.specs.Lists.{each_after, where_true}
+use Rattle.reo_rules.specs.Scopes.{connectors_in, connectors_of}
+use Rattle.reo_rules.specs.Twice.{twice}
+use Rattle.reo_rules.specs.Unknown.{unknown}
+use Rattle.reo_rules.specs.Mistyped.{mistyped}
+use Rattle.reo_rules.specs.Ranges.{out_of_range}
+use Rattle.reo_rules.specs.Arity.{arity}
+use Rattle.reo_rules.specs.Direction.{direction}
+use Rattle.reo_rules.specs.Rules.{rule_breaks, KeepsRules}
+use Rattle.reo_flat.specs.Sizes.{no_main, too_many}
+use Rattle.reo_flat.specs.Refusals.{breaks}
 
 pub left_none : {X : Type 0} (xs ys : List X) → xs ++ ys ≡ [] → xs ≡ []
 left_none [] ys none = refl

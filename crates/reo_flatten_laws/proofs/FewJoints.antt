@@ -5,10 +5,10 @@ use Rattle.std.proofs.lemmas.Bool.{leb-false}
 use Rattle.std.proofs.lemmas.List.{length-append}
 use Rattle.reo_net_base.specs.declared.joint.End.{End}
 use Rattle.reo_net_base.specs.Net.{end_of}
-use Rattle.reo_flatten_base.specs.Unfolding.{Placed}
-use Rattle.reo_flatten_base.specs.Ends.{incoming, outgoing}
-use Rattle.reo_flatten_base.specs.Joints.{is_many, ends_of, pairs, joints_between, joints_of, many}
-use Rattle.reo_flatten_base.specs.Flat.{joints_at}
+use Rattle.reo_flat.specs.Unfolding.{Placed}
+use Rattle.reo_flat.specs.Ends.{incoming, outgoing}
+use Rattle.reo_flat.specs.Joints.{is_many, ends_of, pairs, joints_between, joints_of, many}
+use Rattle.reo_flat.specs.Flat.{joints_at}
 use Rattle.reo_flatten_laws.proofs.Times.{weigh}
 use Rattle.reo_flatten_laws.proofs.NodeSums.{over, listed, all_listed, IsServed}
 use Rattle.reo_flatten_laws.proofs.TwoEnds.{IsNarrow}

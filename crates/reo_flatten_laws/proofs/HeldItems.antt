@@ -25,7 +25,7 @@ item_told v w true h = (refl, some_same v w h)
 item_told v w false h = absurd (cc)
 
 -- Each is of the type.
-item_in : (k : Kindred) (l : Literal) (v : Value) → item_of k l ≡ Some v → IsIn v k
+pub item_in : (k : Kindred) (l : Literal) (v : Value) → item_of k l ≡ Some v → IsIn v k
 item_in k l v h =
     let from = from_and_then (λ w. cond (is_item w k) (Some w) None) (value_of l.constant k) v h in
     let test = item_told from.0 v (is_item from.0 k) from.2 in

@@ -9,14 +9,14 @@ use Rattle.reo_trees.specs.declared.items.Form.{Form}
 use Rattle.reo_trees.specs.declared.items.Form.TheVariants as forms
 use Rattle.reo_trees.specs.declared.programs.Parameter.{Parameter}
 use Rattle.reo_trees.specs.declared.programs.Connector.{Connector}
-use Rattle.reo_rules_base.specs.declared.fault.FlatFault.TheVariants as faults
-use Rattle.reo_rules_base.specs.Lists.{each_after}
-use Rattle.reo_rules_base.specs.Types.{Typed, type_named}
-use Rattle.reo_flatten_base.specs.ChannelKinds.{channel_kind}
-use Rattle.reo_rules_base.specs.Scopes.{parameter_names, node_names, node_names_in}
-use Rattle.reo_flatten_base.specs.Unfolding.{Placed, Meaning, meaning_named, flat_name, use_path, nodes_in, channels_in}
-use Rattle.reo_rules_base.specs.Unknown.{missing, unknown_in_item}
-use Rattle.reo_rules_base.specs.Arity.{arity_in_item}
+use Rattle.reo_rules.specs.declared.fault.FlatFault.TheVariants as faults
+use Rattle.reo_rules.specs.Lists.{each_after}
+use Rattle.reo_rules.specs.Types.{Typed, type_named}
+use Rattle.reo_flat.specs.ChannelKinds.{channel_kind}
+use Rattle.reo_rules.specs.Scopes.{parameter_names, node_names, node_names_in}
+use Rattle.reo_flat.specs.Unfolding.{Placed, Meaning, meaning_named, flat_name, use_path, nodes_in, channels_in}
+use Rattle.reo_rules.specs.Unknown.{missing, unknown_in_item}
+use Rattle.reo_rules.specs.Arity.{arity_in_item}
 use Rattle.reo_flatten_laws.proofs.Breaks.{holds, left_none, right_none, flat_map-append}
 use Rattle.reo_flatten_laws.proofs.Within.{In, in_left, in_right, in_either, Inside, none_inside, all_cons, widen, Matches, lookup, known_name, flat_known}
 

@@ -15,6 +15,7 @@ pub mod ServedItems
 pub mod TwoEnds
 pub mod OnceTwice
 pub mod Alike
+pub mod Inside
 pub mod HeldItems
 pub mod RightKinds
 pub mod TypesGrow
@@ -22,3 +23,4 @@ pub mod Validity
 pub mod TypedNodes
 pub mod TypedPrograms
 pub mod AtNodes
+pub mod Rising

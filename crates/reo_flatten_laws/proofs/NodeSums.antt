@@ -5,13 +5,13 @@ use Rattle.std.proofs.lemmas.Slice.Eq.{bytes_eq-Decides}
 use Rattle.reo_net_base.specs.declared.joint.End.{End}
 use Rattle.reo_net_base.specs.Behaviour.{Behaviour}
 use Rattle.reo_net_base.specs.Net.{end_of}
-use Rattle.reo_rules_base.specs.Lists.{where_true}
+use Rattle.reo_rules.specs.Lists.{where_true}
 use Rattle.reo_kinds.specs.Kinds.{behaviour_of}
-use Rattle.reo_flatten_base.specs.Unfolding.{Placed}
-use Rattle.reo_rules_base.specs.Touches.{bool_eq}
-use Rattle.reo_flatten_base.specs.Ends.{ends_in, ends_from, incoming, outgoing}
-use Rattle.reo_flatten_base.specs.Joints.{joints_of, many}
-use Rattle.reo_flatten_base.specs.Flat.{joints_at}
+use Rattle.reo_flat.specs.Unfolding.{Placed}
+use Rattle.reo_rules.specs.Touches.{bool_eq}
+use Rattle.reo_flat.specs.Ends.{ends_in, ends_from, incoming, outgoing}
+use Rattle.reo_flat.specs.Joints.{joints_of, many}
+use Rattle.reo_flat.specs.Flat.{joints_at}
 use Rattle.reo_flatten_laws.proofs.Within.{In}
 use Rattle.reo_flatten_laws.proofs.Once.{Once}
 use Rattle.reo_flatten_laws.proofs.Times.{times, weigh, weigh-append, times-append, ends_in_joints, ends_in_joints-append, own_in, own_out, node_ends}

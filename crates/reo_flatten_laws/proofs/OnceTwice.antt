@@ -6,11 +6,11 @@ use Rattle.reo_trees.specs.declared.items.Form.{Form}
 use Rattle.reo_trees.specs.declared.items.Form.TheVariants as forms
 use Rattle.reo_trees.specs.declared.programs.Parameter.{Parameter}
 use Rattle.reo_trees.specs.declared.programs.Connector.{Connector}
-use Rattle.reo_rules_base.specs.declared.fault.FlatFault.{FlatFault}
-use Rattle.reo_rules_base.specs.declared.fault.FlatFault.TheVariants as faults
-use Rattle.reo_rules_base.specs.Lists.{each_after, has_name, where_true}
-use Rattle.reo_rules_base.specs.Scopes.{parameter_names, node_names, node_names_in}
-use Rattle.reo_rules_base.specs.Twice.{twice_among, twice_in_type, twice_in_parameter, twice_in_item, twice_in_connector}
+use Rattle.reo_rules.specs.declared.fault.FlatFault.{FlatFault}
+use Rattle.reo_rules.specs.declared.fault.FlatFault.TheVariants as faults
+use Rattle.reo_rules.specs.Lists.{each_after, has_name, where_true}
+use Rattle.reo_rules.specs.Scopes.{parameter_names, node_names, node_names_in}
+use Rattle.reo_rules.specs.Twice.{twice_among, twice_in_type, twice_in_parameter, twice_in_item, twice_in_connector}
 use Rattle.reo_flatten_laws.proofs.Breaks.{left_none, right_none, flat_map-append}
 use Rattle.reo_flatten_laws.proofs.Within.{In, in-has}
 use Rattle.reo_flatten_laws.proofs.Once.{Once, once_append}

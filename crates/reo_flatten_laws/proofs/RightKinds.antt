@@ -1,8 +1,9 @@
 -- Channels become the primitives that they are, and fit the types of their nodes.
 use Rattle.std.proofs.Common.{arith, lit≤, ◌≡◌, ◌∙◌, ℕ, ◌≤◌, suc, Bool, true, false, not, ◌&&◌, ◌||◌, Option, Some, None, List, [], ◌∷◌, length, refl, sym, ap, subst}
-use Rattle.std.specs.Prelude.{is_none}
+use Rattle.std.specs.Prelude.{is_none, option_map}
 use Rattle.std.specs.List.{list_any}
 use Rattle.std.proofs.lemmas.Bool.{leb-false}
+use Rattle.reo_values.specs.declared.value.Value.{Value}
 use Rattle.reo_values.specs.declared.kindred.Kindred as kindred
 use Rattle.reo_values.specs.declared.kindred.Kindred.{Kindred}
 use Rattle.reo_values.specs.declared.kindred.Kindred.TheVariants as kinds
@@ -24,17 +25,18 @@ use Rattle.reo_trees.specs.declared.literals.Literal.{Literal}
 use Rattle.reo_trees.specs.declared.items.Channel.{Channel}
 use Rattle.reo_trees.specs.declared.items.Channel.TheVariants as channels
 use Rattle.reo_literals.specs.Items.{item_of, items_of}
-use Rattle.reo_rules_base.specs.Types.{Typed, is_same}
-use Rattle.reo_rules_base.specs.Terms.{expr_of}
-use Rattle.reo_rules_base.specs.Channels.{keeps_type, literals_of}
-use Rattle.reo_rules_base.specs.Mistyped.{is_kind, has_kind, misfits, is_channel_mistyped}
-use Rattle.reo_rules_base.specs.Ranges.{lies_in, leaves, leaves_by_filter, leaves_by_map}
-use Rattle.reo_flatten_base.specs.ChannelKinds.{filter_with, filter_kind, map_with, map_kind, channel_kind}
+use Rattle.reo_rules.specs.Types.{Typed, is_same}
+use Rattle.reo_rules.specs.Terms.{expr_of}
+use Rattle.reo_rules.specs.Channels.{keeps_type, literals_of}
+use Rattle.reo_rules.specs.Mistyped.{is_kind, has_kind, misfits, is_channel_mistyped}
+use Rattle.reo_rules.specs.Ranges.{lies_in, leaves, leaves_by_filter, leaves_by_map}
+use Rattle.reo_flat.specs.ChannelKinds.{filter_with, filter_kind, map_with, map_kind, channel_kind}
 use Rattle.reo_flatten_laws.specs.Channels.{IsFor}
 use Rattle.reo_flatten_laws.specs.Fitting.{Fits}
 use Rattle.reo_flatten_laws.proofs.Each.{each_of}
-use Rattle.reo_flatten_laws.proofs.Alike.{un_not, same_types, inside_types, truth_kind}
-use Rattle.reo_flatten_laws.proofs.HeldItems.{items_all, items_in, few_items}
+use Rattle.reo_flatten_laws.proofs.Alike.{un_not, same_types, truth_kind}
+use Rattle.reo_flatten_laws.proofs.Inside.{inside_told}
+use Rattle.reo_flatten_laws.proofs.HeldItems.{item_in, items_all, items_in, few_items}
 
 three : (x y z : Bool) → (x || y || z) ≡ false → (x ≡ false) × (y ≡ false) × (z ≡ false)
 three true y z h = absurd (cc)
@@ -73,9 +75,9 @@ filter_rule a (Some e) kind bound =
     let rule = filter_is e a (type_of_expr e a) refl (typed.1 ∙ ap (λ (t : Kindred). Some t) (truth_kind typed.0 same)) in
     (rule.0, rule.1, rule.2, ap (λ (f : Expr). Some f) (sym rule.3))
 
-inside_told : (b : Kindred) (o : Option Kindred) → not (lies_in b o) ≡ false → (t : Kindred) × (o ≡ Some t) × LiesInside t b
-inside_told b None h = absurd (cc)
-inside_told b (Some t) h = (t, refl, inside_types t b (un_not _ h))
+lies_told : (b : Kindred) (o : Option Kindred) → not (lies_in b o) ≡ false → (t : Kindred) × (o ≡ Some t) × LiesInside t b
+lies_told b None h = absurd (cc)
+lies_told b (Some t) h = (t, refl, (inside_told t b).0 (un_not _ h))
 
 not_none : (o : Option Kindred) (t : Kindred) → o ≡ Some t → is_none o ≡ false
 not_none None t h = absurd (cc)
@@ -86,7 +88,7 @@ map_rule : (a b : Kindred) (o : Option Expr) → not (has_kind a (kind_of b) o) 
     → (rule : MapRule) × (map_kind a o ≡ primitives.Map rule) × (rule.of ≡ a) × (o ≡ Some rule.expr) × ((t : Kindred) × (type_of_expr rule.expr a ≡ Some t) × LiesInside t b)
 map_rule a b None kind bound = absurd (cc)
 map_rule a b (Some e) kind bound =
-    let typed = inside_told b (type_of_expr e a) bound in
+    let typed = lies_told b (type_of_expr e a) bound in
     let rule = map_is e a (type_of_expr e a) refl (not_none (type_of_expr e a) typed.0 typed.1) in
     (rule.0, rule.1, rule.2, ap (λ (f : Expr). Some f) (sym rule.3), (typed.0, ap (λ (f : Expr). type_of_expr f a) rule.3 ∙ typed.1, typed.2))
 
@@ -94,6 +96,14 @@ map_rule a b (Some e) kind bound =
 parts_told : (types : List Typed) (a b : Kindred) (c : Channel) → is_channel_mistyped types a b c ≡ false
     → ((keeps_type c && not (is_same a b)) ≡ false) × (list_any (λ (l : Literal). is_none (item_of a l)) (literals_of c) ≡ false) × (misfits types a b c ≡ false)
 parts_told types a b c h = three (keeps_type c && not (is_same a b)) (list_any (λ (l : Literal). is_none (item_of a l)) (literals_of c)) (misfits types a b c) h
+
+item_there : (o : Option Value) → is_none o ≡ false → option_map (λ v. Some v) o ≡ Some o
+item_there None h = absurd (cc)
+item_there (Some v) h = refl
+
+or-false-left : (x y : Bool) → (x || y) ≡ false → x ≡ false
+or-false-left true y h = absurd (cc)
+or-false-left false y h = refl
 
 pub channel_is : (types : List Typed) (a b : Kindred) (c : Channel) → is_channel_mistyped types a b c ≡ false → leaves types a b c ≡ false → IsFor types a c (channel_kind types a c)
 channel_is types a b channels.Sync typed bound = tt
@@ -108,10 +118,15 @@ channel_is types a b (channels.Filter t) typed bound =
 channel_is types a b (channels.Map t) typed bound =
     let rule = map_rule a b (expr_of types t.form) (parts_told types a b (channels.Map t) typed).2 bound in
     subst (λ (k : Kind). IsFor types a (channels.Map t) k) (sym rule.1) (rule.2, rule.3)
+channel_is types a b (channels.Shift size held) typed bound = (refl, items_all a held (parts_told types a b (channels.Shift size held) typed).1)
+channel_is types a b (channels.Variable None) typed bound = refl
+channel_is types a b (channels.Variable (Some l)) typed bound = item_there (item_of a l) (or-false-left _ _ (parts_told types a b (channels.Variable (Some l)) typed).1)
+channel_is types a b (channels.Quota number) typed bound = refl
 
 -- What is known of the channel of a text.
 abbrev pub IsSound : List Typed → Channel → Type 0
 IsSound types (channels.Fifo size held) = (1 ≤ size) × (size ≤ 1024)
+IsSound types (channels.Shift size held) = (1 ≤ size) × (size ≤ 1024)
 IsSound types (channels.Filter t) = (e : Expr) → expr_of types t.form ≡ Some e → IsWellFormed e
 IsSound types (channels.Map t) = (e : Expr) → expr_of types t.form ≡ Some e → IsWellFormed e
 IsSound types c = Unit {0}
@@ -149,3 +164,12 @@ channel_fits types a b (channels.Map t) typed bound sound =
     let well = sound rule.0.expr rule.3 in
     subst (λ (k : Kind). Fits k (a ∷ b ∷ [])) (sym rule.1)
     (rule.2, well, (λ v member. item_inside rule.4.0 b (value_of_expr rule.0.expr v) rule.4.2 (value_in_type rule.0.expr a rule.4.0 v well rule.4.1 member)))
+channel_fits types a b (channels.Shift size held) typed bound sound =
+    let short = leb-false (suc size) (length held) bound in (
+      same_types a b (un_not _ (parts_told types a b (channels.Shift size held) typed).0),
+      each_of (λ v. IsIn v a) (items_of a held) (items_in a held),
+      is_buffer size a held sound.0 sound.1 (omega arith),
+    )
+channel_fits types a b (channels.Variable None) typed bound sound = (same_types a b (un_not _ (parts_told types a b (channels.Variable None) typed).0), (λ v is. absurd (cc)))
+channel_fits types a b (channels.Variable (Some l)) typed bound sound = (same_types a b (un_not _ (parts_told types a b (channels.Variable (Some l)) typed).0), (λ v is. item_in a l v is))
+channel_fits types a b (channels.Quota number) typed bound sound = same_types a b (un_not _ (parts_told types a b (channels.Quota number) typed).0)

@@ -16,15 +16,15 @@ use Rattle.reo_trees.specs.declared.items.Channel.{Channel}
 use Rattle.reo_trees.specs.declared.items.Channel.TheVariants as channels
 use Rattle.reo_trees.specs.declared.programs.Parameter.{Parameter}
 use Rattle.reo_trees.specs.declared.programs.Connector.{Connector}
-use Rattle.reo_rules_base.specs.Lists.{where_true}
-use Rattle.reo_rules_base.specs.Types.{Typed}
-use Rattle.reo_rules_base.specs.Terms.{expr_of}
-use Rattle.reo_rules_base.specs.Scopes.{connector_named, parameters_named}
-use Rattle.reo_flatten_base.specs.ChannelKinds.{channel_kind, filter_with, filter_kind, map_with, map_kind}
-use Rattle.reo_flatten_base.specs.Unfolding.{Placed, Meaning, no_meaning, meaning_named}
-use Rattle.reo_rules_base.specs.Touches.{bool_eq}
-use Rattle.reo_flatten_base.specs.Ends.{ends_in, ends_from}
-use Rattle.reo_rules_base.specs.Channels.{is_drain}
+use Rattle.reo_rules.specs.Lists.{where_true}
+use Rattle.reo_rules.specs.Types.{Typed}
+use Rattle.reo_rules.specs.Terms.{expr_of}
+use Rattle.reo_rules.specs.Scopes.{connector_named, parameters_named}
+use Rattle.reo_flat.specs.ChannelKinds.{channel_kind, filter_with, filter_kind, map_with, map_kind}
+use Rattle.reo_flat.specs.Unfolding.{Placed, Meaning, no_meaning, meaning_named}
+use Rattle.reo_rules.specs.Touches.{bool_eq}
+use Rattle.reo_flat.specs.Ends.{ends_in, ends_from}
+use Rattle.reo_rules.specs.Channels.{is_drain}
 use Rattle.reo_flatten_laws.proofs.Within.{In}
 use Rattle.reo_flatten_laws.proofs.TwoEnds.{IsNarrow}
 
@@ -125,6 +125,9 @@ channel_ways types of (channels.Fifo1 held) = (refl, refl)
 channel_ways types of (channels.Fifo n held) = (refl, refl)
 channel_ways types of (channels.Filter t) = filter_ways of (expr_of types t.form)
 channel_ways types of (channels.Map t) = map_ways of (expr_of types t.form)
+channel_ways types of (channels.Shift n held) = (refl, refl)
+channel_ways types of (channels.Variable held) = (refl, refl)
+channel_ways types of (channels.Quota n) = (refl, refl)
 
 -- Each argument has an end of its parameter's way, and each node of its own both.
 pub record Serves (m : Meaning) (ps : List Parameter) (path : List ℕ) (arguments : List (List ℕ)) : Type 0 where

@@ -10,14 +10,14 @@ use Rattle.reo_trees.specs.declared.items.Form.{Form}
 use Rattle.reo_trees.specs.declared.items.Form.TheVariants as forms
 use Rattle.reo_trees.specs.declared.programs.Parameter.{Parameter}
 use Rattle.reo_trees.specs.declared.programs.Connector.{Connector}
-use Rattle.reo_rules_base.specs.Lists.{each_after}
-use Rattle.reo_rules_base.specs.Types.{Typed, type_named}
-use Rattle.reo_rules_base.specs.Scopes.{parameter_names, node_names, node_names_in, scope_of, parameters_named}
-use Rattle.reo_flatten_base.specs.Unfolding.{Placed, Meaning, meaning_of, flat_name, use_path, nodes_in, channels_in}
-use Rattle.reo_rules_base.specs.Touches.{bool_eq, Touch, touch, touches_in, touches_of, is_touched}
-use Rattle.reo_rules_base.specs.Channels.{is_drain}
-use Rattle.reo_rules_base.specs.Arity.{arity_in_item}
-use Rattle.reo_rules_base.specs.Dangling.{dangling_parameter, dangling_in_item}
+use Rattle.reo_rules.specs.Lists.{each_after}
+use Rattle.reo_rules.specs.Types.{Typed, type_named}
+use Rattle.reo_rules.specs.Scopes.{parameter_names, node_names, node_names_in, scope_of, parameters_named}
+use Rattle.reo_flat.specs.Unfolding.{Placed, Meaning, meaning_of, flat_name, use_path, nodes_in, channels_in}
+use Rattle.reo_rules.specs.Touches.{bool_eq, Touch, touch, touches_in, touches_of, is_touched}
+use Rattle.reo_rules.specs.Channels.{is_drain}
+use Rattle.reo_rules.specs.Arity.{arity_in_item}
+use Rattle.reo_rules.specs.Dangling.{dangling_parameter, dangling_in_item}
 use Rattle.reo_flatten_laws.proofs.Breaks.{holds, left_none, right_none}
 use Rattle.reo_flatten_laws.proofs.Within.{In, in_left, in_right, in_either}
 use Rattle.reo_flatten_laws.proofs.Once.{Once}

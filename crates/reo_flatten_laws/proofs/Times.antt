@@ -8,7 +8,7 @@ use Rattle.reo_net_base.specs.declared.joint.End.{End}
 use Rattle.reo_net_base.specs.declared.joint.Joint.{Joint}
 use Rattle.reo_net_base.specs.Net.{end_of, end_eq, is_at}
 use Rattle.reo_net_circuit.specs.Counts.{joints_at}
-use Rattle.reo_flatten_base.specs.Joints.{is_many, ends_of, pairs, joints_between}
+use Rattle.reo_flat.specs.Joints.{is_many, ends_of, pairs, joints_between}
 
 abbrev pub one_if : Bool → ℕ
 one_if b = cond b 1 0

@@ -18,12 +18,12 @@ use Rattle.reo_trees.specs.declared.items.Channel.{Channel}
 use Rattle.reo_trees.specs.declared.items.Channel.TheVariants as channels
 use Rattle.reo_trees.specs.declared.programs.Declaration.{Declaration}
 use Rattle.reo_trees.specs.declared.programs.Declaration.TheVariants as declarations
-use Rattle.reo_rules_base.specs.Lists.{each_after}
-use Rattle.reo_rules_base.specs.Types.{Typed}
-use Rattle.reo_rules_base.specs.Terms.{expr_of}
-use Rattle.reo_flatten_base.specs.ChannelKinds.{channel_kind, filter_with, filter_kind, map_with, map_kind}
-use Rattle.reo_flatten_base.specs.Unfolding.{Placed, Meaning, no_meaning, meaning_named, meaning_of, meanings_after, channels_in}
-use Rattle.reo_flatten_base.specs.Flat.{port_kind, port_placed, ports_of, placed_of}
+use Rattle.reo_rules.specs.Lists.{each_after}
+use Rattle.reo_rules.specs.Types.{Typed}
+use Rattle.reo_rules.specs.Terms.{expr_of}
+use Rattle.reo_flat.specs.ChannelKinds.{channel_kind, filter_with, filter_kind, map_with, map_kind}
+use Rattle.reo_flat.specs.Unfolding.{Placed, Meaning, no_meaning, meaning_named, meaning_of, meanings_after, channels_in}
+use Rattle.reo_flat.specs.Flat.{port_kind, port_placed, ports_of, placed_of}
 use Rattle.reo_flatten_laws.proofs.Within.{In}
 use Rattle.reo_flatten_laws.proofs.Once.{Once}
 use Rattle.reo_flatten_laws.proofs.AllEnds.{Fits}
@@ -76,6 +76,9 @@ two_ends types of (channels.Fifo1 held) = refl
 two_ends types of (channels.Fifo n held) = refl
 two_ends types of (channels.Filter t) = filter_two of (expr_of types t.form)
 two_ends types of (channels.Map t) = map_two of (expr_of types t.form)
+two_ends types of (channels.Shift n held) = refl
+two_ends types of (channels.Variable held) = refl
+two_ends types of (channels.Quota n) = refl
 
 after : {X Y : Type 0} (P : Y → Type 0) (f : List X → X → List Y) → ((before : List X) (x : X) → AllByRecursion P (f before x)) → (before xs : List X) → AllByRecursion P (each_after f before xs)
 after P f each before [] = tt

@@ -17,17 +17,17 @@ use Rattle.reo_trees.specs.declared.items.Channel.TheVariants as channels
 use Rattle.reo_trees.specs.declared.programs.Parameter.{Parameter}
 use Rattle.reo_trees.specs.declared.programs.Connector.{Connector}
 use Rattle.reo_trees_laws.specs.Spelled.{IsSpelledChannel, IsSpelledForm, IsSpelledItem}
-use Rattle.reo_rules_base.specs.declared.fault.FlatFault.TheVariants as faults
-use Rattle.reo_rules_base.specs.Lists.{each_after, where_true}
-use Rattle.reo_rules_base.specs.Types.{Typed, names_of, type_named, resolved, is_same}
-use Rattle.reo_rules_base.specs.Scopes.{connector_named, parameters_named, parameter_names, node_names, node_names_in, parameter_type}
-use Rattle.reo_rules_base.specs.Twice.{twice_in_type, twice_among, twice_in_item}
-use Rattle.reo_rules_base.specs.Unknown.{missing, unknown_in_item}
-use Rattle.reo_rules_base.specs.Mistyped.{is_mistyped}
-use Rattle.reo_rules_base.specs.Ranges.{range_in_item}
-use Rattle.reo_rules_base.specs.Arity.{arity_in_item}
-use Rattle.reo_flatten_base.specs.ChannelKinds.{channel_kind}
-use Rattle.reo_flatten_base.specs.Unfolding.{Placed, Meaning, no_meaning, meaning_named, flat_name, use_path, channels_in}
+use Rattle.reo_rules.specs.declared.fault.FlatFault.TheVariants as faults
+use Rattle.reo_rules.specs.Lists.{each_after, where_true}
+use Rattle.reo_rules.specs.Types.{Typed, names_of, type_named, resolved, is_same}
+use Rattle.reo_rules.specs.Scopes.{connector_named, parameters_named, parameter_names, node_names, node_names_in, parameter_type}
+use Rattle.reo_rules.specs.Twice.{twice_in_type, twice_among, twice_in_item}
+use Rattle.reo_rules.specs.Unknown.{missing, unknown_in_item}
+use Rattle.reo_rules.specs.Mistyped.{is_mistyped}
+use Rattle.reo_rules.specs.Ranges.{range_in_item}
+use Rattle.reo_rules.specs.Arity.{arity_in_item}
+use Rattle.reo_flat.specs.ChannelKinds.{channel_kind}
+use Rattle.reo_flat.specs.Unfolding.{Placed, Meaning, no_meaning, meaning_named, flat_name, use_path, channels_in}
 use Rattle.reo_flatten_laws.specs.NodeTypes.{Typing, no_typing, typing_named, typed_in}
 use Rattle.reo_flatten_laws.specs.Fitting.{Fits}
 use Rattle.reo_flatten_laws.proofs.Breaks.{holds, fails, left_none, right_none, flat_map-append}
@@ -168,6 +168,10 @@ sound_of types valid (channels.Fifo1 (Some l)) spelled = tt
 sound_of types valid (channels.Fifo size held) spelled = (spelled.0, spelled.1)
 sound_of types valid (channels.Filter t) spelled = λ e is. well_formed types valid t.form spelled e is
 sound_of types valid (channels.Map t) spelled = λ e is. well_formed types valid t.form spelled e is
+sound_of types valid (channels.Shift size held) spelled = (spelled.0, spelled.1)
+sound_of types valid (channels.Variable None) spelled = tt
+sound_of types valid (channels.Variable (Some l)) spelled = tt
+sound_of types valid (channels.Quota number) spelled = tt
 
 any_none : {X : Type 0} (p : X → Bool) (x : X) (xs : List X) → (p x || list_any p xs) ≡ false → (p x ≡ false) × (list_any p xs ≡ false)
 any_none p x xs none = step (p x) none where

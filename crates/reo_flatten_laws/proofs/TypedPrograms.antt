@@ -12,15 +12,15 @@ use Rattle.reo_trees.specs.declared.programs.Connector.{Connector}
 use Rattle.reo_trees.specs.declared.programs.Declaration.{Declaration}
 use Rattle.reo_trees.specs.declared.programs.Declaration.TheVariants as declarations
 use Rattle.reo_trees_laws.specs.Spelled.{IsSpelledItem, IsSpelledParameter, IsSpelledConnector, IsSpelledDeclaration}
-use Rattle.reo_rules_base.specs.Lists.{each_after}
-use Rattle.reo_rules_base.specs.Types.{Typed, names_of, types_of, types_after, resolved}
-use Rattle.reo_rules_base.specs.Scopes.{type_names, connectors_of, connector_names, parameter_names, node_names, node_names_in, node_types_in}
-use Rattle.reo_rules_base.specs.Twice.{twice_among, twice_in_type, twice_in_parameter, twice_in_connector, twice_in}
-use Rattle.reo_rules_base.specs.Unknown.{unknown_in_type, unknown_in_connector, unknown_in}
-use Rattle.reo_rules_base.specs.Mistyped.{mistyped_in}
-use Rattle.reo_rules_base.specs.Ranges.{range_in_type, range_in_connector, range_in}
-use Rattle.reo_rules_base.specs.Arity.{arity_in}
-use Rattle.reo_flatten_base.specs.Unfolding.{Meaning, meaning_of, meanings_after}
+use Rattle.reo_rules.specs.Lists.{each_after}
+use Rattle.reo_rules.specs.Types.{Typed, names_of, types_of, types_after, resolved}
+use Rattle.reo_rules.specs.Scopes.{type_names, connectors_of, connector_names, parameter_names, node_names, node_names_in, node_types_in}
+use Rattle.reo_rules.specs.Twice.{twice_among, twice_in_type, twice_in_parameter, twice_in_connector, twice_in}
+use Rattle.reo_rules.specs.Unknown.{unknown_in_type, unknown_in_connector, unknown_in}
+use Rattle.reo_rules.specs.Mistyped.{mistyped_in}
+use Rattle.reo_rules.specs.Ranges.{range_in_type, range_in_connector, range_in}
+use Rattle.reo_rules.specs.Arity.{arity_in}
+use Rattle.reo_flat.specs.Unfolding.{Meaning, meaning_of, meanings_after}
 use Rattle.reo_flatten_laws.specs.NodeTypes.{Typing, typed_in, typing_of, typings_after}
 use Rattle.reo_flatten_laws.proofs.Breaks.{left_none, right_none, one_more}
 use Rattle.reo_flatten_laws.proofs.Each.{by_recursion, both}

@@ -10,10 +10,10 @@ use Rattle.reo_trees.specs.declared.types.TypeTerm.{TypeTerm}
 use Rattle.reo_trees.specs.declared.programs.Parameter.{Parameter}
 use Rattle.reo_trees.specs.declared.programs.Declaration.{Declaration}
 use Rattle.reo_trees.specs.declared.programs.Declaration.TheVariants as declarations
-use Rattle.reo_rules_base.specs.declared.fault.FlatFault.{FlatFault}
-use Rattle.reo_rules_base.specs.Lists.{has_name}
-use Rattle.reo_rules_base.specs.Types.{Typed, names_of, type_named, resolved, parts_of, types_after, types_of}
-use Rattle.reo_rules_base.specs.Unknown.{missing, unknown_in_part, unknown_in_type}
+use Rattle.reo_rules.specs.declared.fault.FlatFault.{FlatFault}
+use Rattle.reo_rules.specs.Lists.{has_name}
+use Rattle.reo_rules.specs.Types.{Typed, names_of, type_named, resolved, parts_of, types_after, types_of}
+use Rattle.reo_rules.specs.Unknown.{missing, unknown_in_part, unknown_in_type}
 use Rattle.reo_flatten_laws.proofs.Breaks.{holds, left_none, right_none, flat_map-append}
 
 named_stays : (types more : List Typed) (name : List ℕ) → has_name (names_of types) name ≡ true → type_named (types ++ more) name ≡ type_named types name

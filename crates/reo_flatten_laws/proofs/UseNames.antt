@@ -10,9 +10,9 @@ use Rattle.reo_trees.specs.declared.items.Form.{Form}
 use Rattle.reo_trees.specs.declared.items.Form.TheVariants as forms
 use Rattle.reo_trees.specs.declared.programs.Parameter.{Parameter}
 use Rattle.reo_trees.specs.declared.programs.Connector.{Connector}
-use Rattle.reo_rules_base.specs.Lists.{each_after}
-use Rattle.reo_rules_base.specs.Scopes.{parameter_names, node_names, node_names_in, connector_named, parameters_named}
-use Rattle.reo_flatten_base.specs.Unfolding.{Meaning, no_meaning, meaning_named, use_path, is_use, nodes_in}
+use Rattle.reo_rules.specs.Lists.{each_after}
+use Rattle.reo_rules.specs.Scopes.{parameter_names, node_names, node_names_in, connector_named, parameters_named}
+use Rattle.reo_flat.specs.Unfolding.{Meaning, no_meaning, meaning_named, use_path, is_use, nodes_in}
 use Rattle.reo_flatten_laws.specs.Plain.{IsPlainName, HasPlainName}
 use Rattle.reo_flatten_laws.proofs.Within.{In, in_right, in_either}
 use Rattle.reo_flatten_laws.proofs.Cuts.{Free, cut_once, uncut, number_once, behind, mapped_twice}

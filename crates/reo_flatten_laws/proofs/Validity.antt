@@ -25,13 +25,13 @@ use Rattle.reo_trees.specs.declared.types.TypeTerm.{TypeTerm}
 use Rattle.reo_trees.specs.declared.terms.TermForm as form
 use Rattle.reo_trees.specs.declared.terms.TermForm.{TermForm}
 use Rattle.reo_trees_laws.specs.Spelled.{LiesNear, IsSpelledShape, IsSpelledTerm}
-use Rattle.reo_rules_base.specs.declared.fault.FlatFault.{FlatFault}
-use Rattle.reo_rules_base.specs.declared.fault.FlatFault.TheVariants as faults
-use Rattle.reo_rules_base.specs.Lists.{each_after, where_true}
-use Rattle.reo_rules_base.specs.Types.{Typed, type_named, resolved, parts_of, depth_of}
-use Rattle.reo_rules_base.specs.Terms.{symbol_in, expr_of}
-use Rattle.reo_rules_base.specs.Twice.{twice_among, twice_in_part, twice_in_type}
-use Rattle.reo_rules_base.specs.Ranges.{is_out, range_in_type}
+use Rattle.reo_rules.specs.declared.fault.FlatFault.{FlatFault}
+use Rattle.reo_rules.specs.declared.fault.FlatFault.TheVariants as faults
+use Rattle.reo_rules.specs.Lists.{each_after, where_true}
+use Rattle.reo_rules.specs.Types.{Typed, type_named, resolved, parts_of, depth_of}
+use Rattle.reo_rules.specs.Terms.{symbol_in, expr_of}
+use Rattle.reo_rules.specs.Twice.{twice_among, twice_in_part, twice_in_type}
+use Rattle.reo_rules.specs.Ranges.{is_out, range_in_type}
 use Rattle.reo_flatten_laws.proofs.Breaks.{fails, left_none, right_none, flat_map-append}
 use Rattle.reo_flatten_laws.proofs.Once.{Once, distinct}
 use Rattle.reo_flatten_laws.proofs.OnceTwice.{new_name}

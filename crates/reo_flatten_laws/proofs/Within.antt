@@ -6,11 +6,11 @@ use Rattle.std.specs.List.{All}
 use Rattle.std.proofs.lemmas.Slice.Eq.{bytes_eq-Decides}
 use Rattle.reo_trees.specs.declared.programs.Parameter.{Parameter}
 use Rattle.reo_trees.specs.declared.programs.Connector.{Connector}
-use Rattle.reo_rules_base.specs.declared.fault.FlatFault.TheVariants as faults
-use Rattle.reo_rules_base.specs.Lists.{has_name}
-use Rattle.reo_rules_base.specs.Scopes.{parameter_names, connector_named, parameters_named}
-use Rattle.reo_flatten_base.specs.Unfolding.{Placed, Meaning, no_meaning, meaning_named, flat_name}
-use Rattle.reo_rules_base.specs.Unknown.{missing}
+use Rattle.reo_rules.specs.declared.fault.FlatFault.TheVariants as faults
+use Rattle.reo_rules.specs.Lists.{has_name}
+use Rattle.reo_rules.specs.Scopes.{parameter_names, connector_named, parameters_named}
+use Rattle.reo_flat.specs.Unfolding.{Placed, Meaning, no_meaning, meaning_named, flat_name}
+use Rattle.reo_rules.specs.Unknown.{missing}
 use Rattle.reo_flatten_laws.proofs.Breaks.{holds}
 
 -- A name is one of these.

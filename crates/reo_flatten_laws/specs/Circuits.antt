@@ -5,9 +5,9 @@ use Rattle.reo_net_base.specs.Wired.{ArePorts}
 use Rattle.reo_net_circuit.specs.Parts.{AreJoints}
 use Rattle.reo_net_circuit.specs.Fault.{AllJoined, AllRight}
 use Rattle.reo_trees.specs.declared.programs.Declaration.{Declaration}
-use Rattle.reo_rules_base.specs.Scopes.{connectors_of}
-use Rattle.reo_flatten_base.specs.Flat.{primitives_of, joints_in, ports_of, net_of_program}
-use Rattle.reo_flatten_base.specs.Refusals.{breaks}
+use Rattle.reo_rules.specs.Scopes.{connectors_of}
+use Rattle.reo_flat.specs.Flat.{primitives_of, joints_in, ports_of, net_of_program}
+use Rattle.reo_flat.specs.Refusals.{breaks}
 use Rattle.reo_flatten_laws.specs.Plain.{HasPlainNames}
 
 -- What a circuit is made from, with no fault in it but a cycle.

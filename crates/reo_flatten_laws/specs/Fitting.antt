@@ -1,5 +1,5 @@
 -- Primitives that fit the types of their nodes.
-use Rattle.std.specs.Prelude.{◌≡◌, List, [], ◌∷◌, map}
+use Rattle.std.specs.Prelude.{◌≡◌, Some, List, [], ◌∷◌, map}
 use Rattle.std.specs.List.{All}
 use Rattle.reo_values.specs.declared.value.Value.{Value}
 use Rattle.reo_values.specs.declared.kindred.Kindred.{Kindred}
@@ -12,17 +12,17 @@ use Rattle.reo_kinds.specs.declared.kind.Kind.{Kind}
 use Rattle.reo_kinds.specs.declared.kind.Kind.TheVariants as primitives
 use Rattle.reo_trees.specs.declared.programs.Program.{Program}
 use Rattle.reo_trees_laws.specs.Spelled.{IsSpelled}
-use Rattle.reo_rules_base.specs.Types.{Typed, type_named}
-use Rattle.reo_rules_base.specs.Scopes.{connectors_of}
-use Rattle.reo_flatten_base.specs.Unfolding.{Placed}
-use Rattle.reo_flatten_base.specs.Flat.{placed_of}
-use Rattle.reo_flatten_base.specs.Refusals.{breaks}
+use Rattle.reo_rules.specs.Types.{Typed, type_named}
+use Rattle.reo_rules.specs.Scopes.{connectors_of}
+use Rattle.reo_flat.specs.Unfolding.{Placed}
+use Rattle.reo_flat.specs.Flat.{placed_of}
+use Rattle.reo_flat.specs.Refusals.{breaks}
 use Rattle.reo_flatten_laws.specs.Plain.{HasPlainNames}
 use Rattle.reo_flatten_laws.specs.NodeTypes.{node_types_of}
 
 -- The primitive fits nodes of these types, in the order of its ends: a port and what passes items
--- on have the type of their nodes, a buffer holds items of it, and a map's value is in the type of
--- its second node for each item of that of its first. Nothing else stands between nodes.
+-- on have the type of their nodes, what keeps items holds items of it, and a map's value is in the
+-- type of its second node for each item of that of its first. Nothing else stands between nodes.
 abbrev pub Fits : Kind → List Kindred → Type 0
 Fits (primitives.Writer port) (k ∷ []) = port.kindred ≡ k
 Fits (primitives.Taker port) (k ∷ []) = Unit {0}
@@ -31,6 +31,9 @@ Fits primitives.Lossy (x ∷ y ∷ []) = x ≡ y
 Fits primitives.SyncDrain (x ∷ y ∷ []) = Unit {0}
 Fits primitives.AsyncDrain (x ∷ y ∷ []) = Unit {0}
 Fits (primitives.Store b) (x ∷ y ∷ []) = (x ≡ y) × All (λ v. IsIn v x) b.items × IsBuffer b
+Fits (primitives.Shift b) (x ∷ y ∷ []) = (x ≡ y) × All (λ v. IsIn v x) b.items × IsBuffer b
+Fits (primitives.Variable held) (x ∷ y ∷ []) = (x ≡ y) × ((v : Value) → held ≡ Some v → IsIn v x)
+Fits (primitives.Quota left) (x ∷ y ∷ []) = x ≡ y
 Fits (primitives.Filter rule) (x ∷ y ∷ []) = (x ≡ y) × (rule.of ≡ x) × IsWellFormed rule.expr
 Fits (primitives.Map rule) (x ∷ y ∷ []) = (rule.of ≡ x) × IsWellFormed rule.expr × ((v : Value) → IsIn v x → IsIn (value_of_expr rule.expr v) y)
 Fits _ _ = ⊥

@@ -3,7 +3,7 @@ use Rattle.std.specs.Prelude.{ℕ, ◌<◌, ◌^◌, List, length}
 use Rattle.std.specs.List.{All}
 use Rattle.reo_trees.specs.declared.programs.Program.{Program}
 use Rattle.reo_trees.specs.Says.{SaysProgram}
-use Rattle.reo_rules_base.specs.Scopes.{connectors_of}
+use Rattle.reo_rules.specs.Scopes.{connectors_of}
 use Rattle.reo_flatten_laws.specs.Plain.{HasPlainNames}
 
 -- No name of a text's program has the byte `@`.

@@ -4,11 +4,11 @@ use Rattle.std.specs.List.{All}
 use Rattle.reo_net_circuit.specs.Parts.{AreJoints}
 use Rattle.reo_net_circuit.specs.Fault.{AllJoined, AllRight}
 use Rattle.reo_trees.specs.declared.programs.Declaration.{Declaration}
-use Rattle.reo_rules_base.specs.Scopes.{connectors_of}
-use Rattle.reo_rules_base.specs.Twice.{twice}
-use Rattle.reo_rules_base.specs.Unknown.{unknown}
-use Rattle.reo_rules_base.specs.Arity.{arity}
-use Rattle.reo_flatten_base.specs.Flat.{nodes_of, placed_of, net_of_program}
+use Rattle.reo_rules.specs.Scopes.{connectors_of}
+use Rattle.reo_rules.specs.Twice.{twice}
+use Rattle.reo_rules.specs.Unknown.{unknown}
+use Rattle.reo_rules.specs.Arity.{arity}
+use Rattle.reo_flat.specs.Flat.{nodes_of, placed_of, net_of_program}
 use Rattle.reo_flatten_laws.specs.Plain.{HasPlainNames}
 use Rattle.reo_flatten_laws.specs.Nodes.{IsServed}
 

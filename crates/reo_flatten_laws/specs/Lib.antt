@@ -9,3 +9,4 @@ pub mod NodeTypes
 pub mod Fitting
 pub mod Ports
 pub mod FromTexts
+pub mod Inside

@@ -7,11 +7,11 @@ use Rattle.reo_trees.specs.declared.items.Form.TheVariants as forms
 use Rattle.reo_trees.specs.declared.programs.Connector.{Connector}
 use Rattle.reo_trees.specs.declared.programs.Declaration.{Declaration}
 use Rattle.reo_trees.specs.declared.programs.Declaration.TheVariants as declarations
-use Rattle.reo_rules_base.specs.Lists.{each_after}
-use Rattle.reo_rules_base.specs.Types.{Typed, types_of, names_of, resolved}
-use Rattle.reo_rules_base.specs.Scopes.{parameter_type}
-use Rattle.reo_flatten_base.specs.Unfolding.{use_path}
-use Rattle.reo_flatten_base.specs.Flat.{main_parameters, nodes_of}
+use Rattle.reo_rules.specs.Lists.{each_after}
+use Rattle.reo_rules.specs.Types.{Typed, types_of, names_of, resolved}
+use Rattle.reo_rules.specs.Scopes.{parameter_type}
+use Rattle.reo_flat.specs.Unfolding.{use_path}
+use Rattle.reo_flat.specs.Flat.{main_parameters, nodes_of}
 
 -- The nodes that a connector comes to where it is used, with their types, by the path of the use.
 pub record Typing : Type 0 where

@@ -3,15 +3,15 @@ use Rattle.std.specs.Prelude.{ℕ, ◌≡◌, ◌<◌, ◌≤◌, true, List, []
 use Rattle.std.specs.List.{All}
 use Rattle.reo_values.specs.Valid.{AreDistinct}
 use Rattle.reo_trees.specs.declared.programs.Declaration.{Declaration}
-use Rattle.reo_rules_base.specs.Lists.{has_name}
-use Rattle.reo_rules_base.specs.Scopes.{connectors_of}
-use Rattle.reo_rules_base.specs.Twice.{twice}
-use Rattle.reo_rules_base.specs.Unknown.{unknown}
-use Rattle.reo_rules_base.specs.Arity.{arity}
-use Rattle.reo_flatten_base.specs.Unfolding.{Placed}
-use Rattle.reo_flatten_base.specs.Ends.{incoming, outgoing}
-use Rattle.reo_flatten_base.specs.Flat.{nodes_of, placed_of}
-use Rattle.reo_flatten_base.specs.Refusals.{breaks}
+use Rattle.reo_rules.specs.Lists.{has_name}
+use Rattle.reo_rules.specs.Scopes.{connectors_of}
+use Rattle.reo_rules.specs.Twice.{twice}
+use Rattle.reo_rules.specs.Unknown.{unknown}
+use Rattle.reo_rules.specs.Arity.{arity}
+use Rattle.reo_flat.specs.Unfolding.{Placed}
+use Rattle.reo_flat.specs.Ends.{incoming, outgoing}
+use Rattle.reo_flat.specs.Flat.{nodes_of, placed_of}
+use Rattle.reo_flat.specs.Refusals.{breaks}
 use Rattle.reo_flatten_laws.specs.Plain.{HasPlainNames}
 
 -- What is placed is at nodes that there are, where no name is unknown and each use has an argument

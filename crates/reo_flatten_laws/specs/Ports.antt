@@ -3,8 +3,8 @@ use Rattle.std.specs.Prelude.{◌≡◌, List, [], length, map, take}
 use Rattle.reo_values.specs.Valid.{AreDistinct}
 use Rattle.reo_net_base.specs.declared.port.Port.{Port}
 use Rattle.reo_trees.specs.declared.programs.Declaration.{Declaration}
-use Rattle.reo_rules_base.specs.Twice.{twice}
-use Rattle.reo_flatten_base.specs.Flat.{ports_of, port_kind, nodes_of, primitives_of}
+use Rattle.reo_rules.specs.Twice.{twice}
+use Rattle.reo_flat.specs.Flat.{ports_of, port_kind, nodes_of, primitives_of}
 
 -- No two ports have one name, where no name stands twice.
 abbrev pub PortsDiffer : Type 0

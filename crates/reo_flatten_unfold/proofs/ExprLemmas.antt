@@ -12,8 +12,8 @@ use Rattle.reo_trees.specs.declared.terms.TermForm.TheVariants as forms
 use Rattle.reo_trees.specs.declared.terms.Term.{Term}
 use Rattle.reo_trees.specs.declared.terms.TermPair.{TermPair}
 use Rattle.reo_trees.specs.declared.terms.TermTriple.{TermTriple}
-use Rattle.reo_rules_base.specs.Types.{Typed}
-use Rattle.reo_rules_base.specs.Terms.{expr_of}
+use Rattle.reo_rules.specs.Types.{Typed}
+use Rattle.reo_rules.specs.Terms.{expr_of}
 
 pub expr_of-One : (ts : List Typed) (op : Unary) (x : Term) → expr_of ts (forms.One op x) ≡ option_map (λ a. exprs.One op a) (expr_of ts x.form)
 unfolding hidden hidden-the_row-Term-0

@@ -5,8 +5,8 @@ use Rattle.std.specs.List.{prefix_len}
 use Rattle.std.proofs.lemmas.Bool.Decides.{leb_tells}
 use Rattle.std.proofs.lemmas.List.Sums.{prefix_len-le-length}
 use Rattle.std.proofs.lemmas.List.Quantifiers.{position-Some}
-use Rattle.reo_flatten_base.specs.Unfolding.{Meaning, no_meaning, meaning_named}
-use Rattle.reo_rules_base.proofs.Mapped.{position-map}
+use Rattle.reo_flat.specs.Unfolding.{Meaning, no_meaning, meaning_named}
+use Rattle.reo_rules.proofs.Mapped.{position-map}
 
 module _ {X : Type 0} (p : X → Bool) (d : X) where
   one_on : (x : X) (xs : List X) (n : ℕ) → get_or xs n d ≡ get_or (x ∷ xs) (1 + n) d

@@ -7,15 +7,15 @@ use Rattle.reo_trees.specs.declared.types.TypeTerm.{TypeTerm}
 use Rattle.reo_trees.specs.declared.programs.Connector.{Connector}
 use Rattle.reo_trees.specs.declared.programs.Declaration.{Declaration}
 use Rattle.reo_trees.specs.declared.programs.Declaration.TheVariants as declarations
-use Rattle.reo_rules_base.specs.Lists.{has_name}
-use Rattle.reo_rules_base.specs.Types.{Typed, types_after, types_of, resolved, names_of}
-use Rattle.reo_rules_base.specs.Scopes.{type_names, connectors_of, connector_names}
-use Rattle.reo_rules_base.proofs.AfterLemmas.{flat_map-append, left_none}
-use Rattle.reo_rules_base.specs.Twice.{twice_among, twice_in}
-use Rattle.reo_rules_base.specs.Scopes.{connectors_in}
-use Rattle.reo_flatten_base.specs.declared.sizes.Sizes.{Sizes}
-use Rattle.reo_flatten_base.specs.Unfolding.{Meaning, meaning_of, meanings_after, meanings_of}
-use Rattle.reo_flatten_base.specs.Counts.{IsSizesOf, AreSizes}
+use Rattle.reo_rules.specs.Lists.{has_name}
+use Rattle.reo_rules.specs.Types.{Typed, types_after, types_of, resolved, names_of}
+use Rattle.reo_rules.specs.Scopes.{type_names, connectors_of, connector_names}
+use Rattle.reo_rules.proofs.AfterLemmas.{flat_map-append, left_none}
+use Rattle.reo_rules.specs.Twice.{twice_among, twice_in}
+use Rattle.reo_rules.specs.Scopes.{connectors_in}
+use Rattle.reo_flat.specs.declared.sizes.Sizes.{Sizes}
+use Rattle.reo_flat.specs.Unfolding.{Meaning, meaning_of, meanings_after, meanings_of}
+use Rattle.reo_flat.specs.Counts.{IsSizesOf, AreSizes}
 use Rattle.reo_flatten_unfold.specs.declared.ground.Stand.{Stand}
 use Rattle.reo_flatten_unfold.specs.declared.ground.Ground.{Ground}
 use Rattle.reo_flatten_unfold.specs.Known.{AreTypes}

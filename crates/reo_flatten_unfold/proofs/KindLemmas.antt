@@ -12,7 +12,7 @@ use Rattle.reo_kinds.specs.declared.kind.Kind.TheVariants as primitives
 use Rattle.reo_kinds.specs.declared.kind.FilterRule.{FilterRule}
 use Rattle.reo_kinds.specs.declared.kind.MapRule.{MapRule}
 use Rattle.reo_kinds.specs.Predicates.{IsTyped-prop}
-use Rattle.reo_flatten_base.specs.ChannelKinds.{filter_with, filter_kind, map_with, map_kind}
+use Rattle.reo_flat.specs.ChannelKinds.{filter_with, filter_kind, map_with, map_kind}
 use Rattle.reo_flatten_unfold.specs.Known.{is_truth}
 
 pub truth_is : (t : Option Kindred) → is_truth t ≡ true → t ≡ Some kinds.Bool

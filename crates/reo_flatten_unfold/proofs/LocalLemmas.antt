@@ -10,13 +10,13 @@ use Rattle.reo_trees.specs.declared.items.Form.{Form}
 use Rattle.reo_trees.specs.declared.items.Form.TheVariants as forms
 use Rattle.reo_trees.specs.declared.programs.Parameter.{Parameter}
 use Rattle.reo_trees.specs.declared.programs.Connector.{Connector}
-use Rattle.reo_rules_base.specs.Lists.{each_after, has_name}
-use Rattle.reo_rules_base.specs.Names.{with_name}
-use Rattle.reo_rules_base.specs.Types.{Typed, names_of, type_named, resolved}
-use Rattle.reo_rules_base.specs.Scopes.{parameter_names, node_names, node_names_in, parameter_type, node_types_in, scope_of}
-use Rattle.reo_rules_base.specs.Twice.{twice_among, twice_in_item, twice_in_parameter}
-use Rattle.reo_rules_base.proofs.AfterLemmas.{left_none}
-use Rattle.reo_rules_base.proofs.Mapped.{position-map}
+use Rattle.reo_rules.specs.Lists.{each_after, has_name}
+use Rattle.reo_rules.specs.Names.{with_name}
+use Rattle.reo_rules.specs.Types.{Typed, names_of, type_named, resolved}
+use Rattle.reo_rules.specs.Scopes.{parameter_names, node_names, node_names_in, parameter_type, node_types_in, scope_of}
+use Rattle.reo_rules.specs.Twice.{twice_among, twice_in_item, twice_in_parameter}
+use Rattle.reo_rules.proofs.AfterLemmas.{left_none}
+use Rattle.reo_rules.proofs.Mapped.{position-map}
 use Rattle.reo_flatten_unfold.specs.Known.{shape_type}
 use Rattle.reo_flatten_unfold.specs.Local.{node_place, IsNew, shape_in}
 use Rattle.reo_flatten_unfold.proofs.ListLemmas.{fails, slice_get-left, slice_get-right}

@@ -2,8 +2,8 @@
 use Rattle.std.proofs.Common.{arith, ◌≡◌, ◌∙◌, ℕ, suc, ◌+◌, ◌<◌, ◌≤◌, List, [], ◌∷◌, ◌++◌, length, get_or, Bool, true, false, not, cond, None, position, refl, ap, bytes_eq}
 use Rattle.std.proofs.lemmas.List.{length-append, length-map}
 use Rattle.reo_trees.specs.declared.programs.Parameter.{Parameter}
-use Rattle.reo_rules_base.specs.Scopes.{parameter_names}
-use Rattle.reo_flatten_base.specs.Unfolding.{flat_name}
+use Rattle.reo_rules.specs.Scopes.{parameter_names}
+use Rattle.reo_flat.specs.Unfolding.{flat_name}
 use Rattle.reo_flatten_unfold.proofs.Positions.{before_first, place_none}
 
 module _ (path : List ℕ) (rest : List (List ℕ)) (name : List ℕ) where

@@ -10,11 +10,11 @@ use Rattle.reo_values.specs.declared.kindred.Kindred.TheVariants as kinds
 use Rattle.reo_trees.specs.declared.types.Shape.TheBlock.{hidden-the_row-TypePair-0}
 use Rattle.reo_trees.specs.declared.types.Shape.TheVariants as shapes
 use Rattle.reo_trees.specs.declared.types.TypePair.{TypePair}
-use Rattle.reo_rules_base.specs.Types.{Typed, type_named, resolved}
+use Rattle.reo_rules.specs.Types.{Typed, type_named, resolved}
 use Rattle.reo_values.specs.declared.kindred.Kindred.TheBlock.{hidden-the_row-Twins-0}
 use Rattle.reo_trees.specs.declared.types.Shape.{Shape}
 use Rattle.reo_flatten_unfold.specs.Fits.{IsFew}
-use Rattle.reo_rules_base.proofs.Mapped.{position-map}
+use Rattle.reo_rules.proofs.Mapped.{position-map}
 use Rattle.reo_flatten_unfold.specs.declared.types.Types.{Types}
 use Rattle.reo_flatten_unfold.specs.Known.{AreTypes}
 use Rattle.reo_flatten_unfold.proofs.Positions.{found_before, found_late, found_none}

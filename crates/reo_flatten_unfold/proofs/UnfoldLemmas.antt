@@ -4,14 +4,14 @@ use Rattle.std.specs.Prelude.{unwrap_or}
 use Rattle.std.specs.List.{All}
 use Rattle.std.proofs.lemmas.List.{append-nil, append_assoc, map-append}
 use Rattle.reo_literals.specs.Items.{HasFewNames}
-use Rattle.reo_rules_base.specs.Types.{Typed}
+use Rattle.reo_rules.specs.Types.{Typed}
 use Rattle.std.proofs.lemmas.List.Sums.{sum_by-append, sum_by-cons}
 use Rattle.std.proofs.lemmas.Option.{unwrap_or-slice_get}
 use Rattle.reo_trees.specs.declared.items.Item.{Item}
 use Rattle.reo_trees.specs.declared.items.Form.TheVariants as forms
-use Rattle.reo_rules_base.specs.Lists.{each_after}
-use Rattle.reo_rules_base.proofs.Mapped.{position-map}
-use Rattle.reo_flatten_base.specs.Unfolding.{Placed, Meaning, no_meaning, meaning_named, meanings_of, use_path, is_use}
+use Rattle.reo_rules.specs.Lists.{each_after}
+use Rattle.reo_rules.proofs.Mapped.{position-map}
+use Rattle.reo_flat.specs.Unfolding.{Placed, Meaning, no_meaning, meaning_named, meanings_of, use_path, is_use}
 use Rattle.reo_flatten_unfold.specs.declared.unfold.Frame.{Frame}
 use Rattle.reo_flatten_unfold.specs.Frames.{IsFrame, known_at, flat_at, nodes_at, channels_at, AddsForm, AddsItems}
 use Rattle.reo_flatten_unfold.proofs.ListLemmas.{take_next, each_after-more}

@@ -1,6 +1,6 @@
 -- What an unfolding adds.
 use Rattle.std.specs.Prelude.{ℕ, ◌≡◌, ◌++◌, List, map}
-use Rattle.reo_flatten_base.specs.Unfolding.{Placed}
+use Rattle.reo_flat.specs.Unfolding.{Placed}
 use Rattle.reo_flatten_unfold.specs.declared.unfold.Unfolded.{Unfolded}
 
 -- These nodes and these channels came at the end.

@@ -13,8 +13,8 @@ use Rattle.reo_trees.specs.declared.programs.Connector.{Connector}
 use Rattle.reo_trees.specs.declared.programs.Declaration.{Declaration}
 use Rattle.reo_trees.specs.declared.programs.Declaration.TheVariants as declarations
 use Rattle.reo_literals.specs.Items.{HasFewNames}
-use Rattle.reo_rules_base.specs.Types.{Typed, types_of}
-use Rattle.reo_rules_base.specs.Twice.{twice_in_connector}
+use Rattle.reo_rules.specs.Types.{Typed, types_of}
+use Rattle.reo_rules.specs.Twice.{twice_in_connector}
 
 -- No list of names in a written type has more than 1,024.
 abbrev pub IsFew : Shape → Type 0
@@ -25,6 +25,7 @@ IsFew s = Unit {0}
 -- A buffer has 1 to 1,024 places, and no more items than places.
 abbrev pub ChannelFits : Channel → Type 0
 ChannelFits (channels.Fifo size held) = (1 ≤ size) × (size ≤ 1024) × (length held ≤ size)
+ChannelFits (channels.Shift size held) = (1 ≤ size) × (size ≤ 1024) × (length held ≤ size)
 ChannelFits c = Unit {0}
 
 abbrev pub FormFits : Form → Type 0

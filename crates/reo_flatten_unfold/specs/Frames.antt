@@ -3,11 +3,11 @@ use Rattle.std.specs.Prelude.{ℕ, List, [], ◌∷◌, take}
 use Rattle.reo_trees.specs.declared.items.Item.{Item}
 use Rattle.reo_trees.specs.declared.items.Form.{Form}
 use Rattle.reo_trees.specs.declared.items.Channel.{Channel}
-use Rattle.reo_rules_base.specs.Lists.{each_after}
-use Rattle.reo_rules_base.specs.Types.{Typed, types_of, type_named}
-use Rattle.reo_rules_base.specs.Scopes.{scope_of}
-use Rattle.reo_flatten_base.specs.ChannelKinds.{channel_kind}
-use Rattle.reo_flatten_base.specs.Unfolding.{Placed, Meaning, meanings_of, flat_name, nodes_in, channels_in}
+use Rattle.reo_rules.specs.Lists.{each_after}
+use Rattle.reo_rules.specs.Types.{Typed, types_of, type_named}
+use Rattle.reo_rules.specs.Scopes.{scope_of}
+use Rattle.reo_flat.specs.ChannelKinds.{channel_kind}
+use Rattle.reo_flat.specs.Unfolding.{Placed, Meaning, meanings_of, flat_name, nodes_in, channels_in}
 use Rattle.reo_flatten_unfold.specs.declared.unfold.Frame.{Frame}
 use Rattle.reo_flatten_unfold.specs.declared.unfold.Unfolded.{Unfolded}
 use Rattle.reo_flatten_unfold.specs.Ground.{IsGround, IsStand}

@@ -5,11 +5,11 @@ use Rattle.reo_trees.specs.declared.items.Item.{Item}
 use Rattle.reo_trees.specs.declared.programs.Connector.{Connector}
 use Rattle.reo_trees.specs.declared.programs.Declaration.{Declaration}
 use Rattle.reo_trees.specs.declared.programs.Declaration.TheVariants as declarations
-use Rattle.reo_rules_base.specs.Types.{types_of}
-use Rattle.reo_rules_base.specs.Scopes.{connectors_of, connector_names}
-use Rattle.reo_flatten_base.specs.Unfolding.{Meaning, meanings_of, uses_in, depth_in, placed_in}
-use Rattle.reo_flatten_base.specs.Counts.{IsSizeOf, AreSizes}
-use Rattle.reo_flatten_base.specs.declared.sizes.Sizes.{Sizes}
+use Rattle.reo_rules.specs.Types.{types_of}
+use Rattle.reo_rules.specs.Scopes.{connectors_of, connector_names}
+use Rattle.reo_flat.specs.Unfolding.{Meaning, meanings_of, uses_in, depth_in, placed_in}
+use Rattle.reo_flat.specs.Counts.{IsSizeOf, AreSizes}
+use Rattle.reo_flat.specs.declared.sizes.Sizes.{Sizes}
 use Rattle.reo_flatten_unfold.specs.declared.ground.Stand.{Stand}
 use Rattle.reo_flatten_unfold.specs.declared.ground.Ground.{Ground}
 use Rattle.reo_flatten_unfold.specs.Known.{AreTypes}

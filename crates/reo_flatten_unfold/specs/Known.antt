@@ -3,7 +3,7 @@ use Rattle.std.specs.Prelude.{◌≡◌, List, map, Option, Some, None, Bool, tr
 use Rattle.reo_values.specs.declared.kindred.Kindred.{Kindred}
 use Rattle.reo_values.specs.declared.kindred.Kindred.TheVariants as kinds
 use Rattle.reo_trees.specs.declared.types.Shape.{Shape}
-use Rattle.reo_rules_base.specs.Types.{Typed, names_of, resolved}
+use Rattle.reo_rules.specs.Types.{Typed, names_of, resolved}
 use Rattle.reo_flatten_unfold.specs.declared.types.Types.{Types}
 
 -- The types are these, in their order.

@@ -5,8 +5,8 @@ use Rattle.reo_trees.specs.declared.items.Form.{Form}
 use Rattle.reo_trees.specs.declared.items.Form.TheVariants as forms
 use Rattle.reo_trees.specs.declared.types.Shape.{Shape}
 use Rattle.reo_trees.specs.declared.programs.Connector.{Connector}
-use Rattle.reo_rules_base.specs.Lists.{each_after, has_name}
-use Rattle.reo_rules_base.specs.Scopes.{parameter_names, node_names}
+use Rattle.reo_rules.specs.Lists.{each_after, has_name}
+use Rattle.reo_rules.specs.Scopes.{parameter_names, node_names}
 use Rattle.reo_flatten_unfold.specs.declared.local.Local.{Local}
 
 -- The place of an item among others, where it declares a node.

@@ -2,11 +2,11 @@
 ghost use Rattle.std.specs.Prelude.{◌≡◌, ℕ, List, max, length};
 ghost use Rattle.std.specs.List.{sum_by, fold};
 ghost use Rattle.reo_trees.specs.declared.items.Item.{Item as AnItem};
-ghost use Rattle.reo_flatten_base.specs.Unfolding.{Meaning, uses_in, depth_in, placed_in};
-ghost use Rattle.reo_flatten_base.specs.Counts.{IsSizeOf, AreSizes};
+ghost use Rattle.reo_flat.specs.Unfolding.{Meaning, uses_in, depth_in, placed_in};
+ghost use Rattle.reo_flat.specs.Counts.{IsSizeOf, AreSizes};
 
-use reo_flatten_base::Sizes;
-use reo_rules_base::Names;
+use reo_flat::Sizes;
+use reo_rules::Names;
 use reo_trees::{Form, Item};
 
 /// What an item unfolds to, by the sizes of the connectors before.

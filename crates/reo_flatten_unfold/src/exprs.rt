@@ -2,8 +2,8 @@
 ghost use Rattle.std.specs.Prelude.{◌≡◌, List, IfOk, take};
 ghost use Rattle.std.specs.List.{All};
 ghost use Rattle.reo_literals.specs.Items.{HasFewNames};
-ghost use Rattle.reo_rules_base.specs.Types.{Typed};
-ghost use Rattle.reo_rules_base.specs.Terms.{symbol_in, expr_of};
+ghost use Rattle.reo_rules.specs.Types.{Typed};
+ghost use Rattle.reo_rules.specs.Terms.{symbol_in, expr_of};
 ghost use Rattle.reo_flatten_unfold.specs.Known.{AreTypes};
 
 use crate::types::Types;

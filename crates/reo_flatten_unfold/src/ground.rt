@@ -1,15 +1,15 @@
 //! What the unfolding reads of a program: its types and connectors by name.
 ghost use Rattle.std.specs.Prelude.{◌≡◌, ◌<◌, ◌+◌, List, [], ◌∷◌, ◌++◌, IfOk, OnOk, false, length, take};
-ghost use Rattle.reo_rules_base.specs.Lists.{has_name};
-ghost use Rattle.reo_rules_base.specs.Twice.{twice};
-ghost use Rattle.reo_flatten_base.specs.Unfolding.{Meaning};
-ghost use Rattle.reo_flatten_base.specs.Counts.{AreSizes};
+ghost use Rattle.reo_rules.specs.Lists.{has_name};
+ghost use Rattle.reo_rules.specs.Twice.{twice};
+ghost use Rattle.reo_flat.specs.Unfolding.{Meaning};
+ghost use Rattle.reo_flat.specs.Counts.{AreSizes};
 ghost use Rattle.reo_flatten_unfold.specs.Ground.{IsGround, AddsSizes};
 
 use crate::counts::connector_sizes;
 use crate::types::Types;
-use reo_flatten_base::Sizes;
-use reo_rules_base::Names;
+use reo_flat::Sizes;
+use reo_rules::Names;
 use reo_trees::{Connector, Declaration};
 use reo_values::{List, NoMemory};
 use std::alloc::Global;
@@ -39,7 +39,8 @@ impl Ground {
         ensures names { OnOk result (self.new.connectors
             ≡ self.old.connectors ++ connector.now.name ∷ []) }
         ensures stands { OnOk result (self.new.stands
-            ≡ self.old.stands ++ record { place = place; types = length self.old.types.kindreds } ∷ []) }
+            ≡ self.old.stands ++ record { place = place; types = length self.old.types.kindreds }
+            ∷ []) }
         ensures sizes { (known : List Meaning) → AreSizes known self.old.connectors self.old.sizes
             → OnOk result (AddsSizes known connector.now.items self.old.sizes self.new.sizes) }
     {

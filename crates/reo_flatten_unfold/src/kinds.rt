@@ -4,8 +4,8 @@ ghost use Rattle.std.specs.List.{All};
 ghost use Rattle.std.specs.Option.{option_copied};
 ghost use Rattle.reo_buffers.specs.Stored.{stored};
 ghost use Rattle.reo_literals.specs.Items.{items_of, HasFewNames};
-ghost use Rattle.reo_rules_base.specs.Types.{Typed};
-ghost use Rattle.reo_flatten_base.specs.ChannelKinds.{filter_kind, map_kind, channel_kind};
+ghost use Rattle.reo_rules.specs.Types.{Typed};
+ghost use Rattle.reo_flat.specs.ChannelKinds.{filter_kind, map_kind, channel_kind};
 ghost use Rattle.reo_flatten_unfold.specs.Known.{AreTypes, shape_type, is_truth};
 ghost use Rattle.reo_exprs.specs.Typing.{type_of_expr};
 ghost use Rattle.reo_flatten_unfold.specs.Fits.{IsFew, ChannelFits};
@@ -15,7 +15,7 @@ use crate::types::{Types, kindred_of};
 use reo_buffers::Buffer;
 use reo_exprs::{Expr, TypeFault, type_of};
 use reo_kinds::{FilterRule, Kind, MapRule};
-use reo_literals::items_of;
+use reo_literals::{item_of, items_of};
 use reo_trees::{Channel, Literal, Shape};
 use reo_values::{Kindred, NoMemory};
 use std::alloc::Global;
@@ -41,15 +41,15 @@ fn node_type(
 }
 
 /// A buffer of this size with the items that literals are.
-fn store(alloc: Global, size: usize, of: &Kindred, held: &[Literal]) -> Result<Kind, NoMemory>
+fn store(alloc: Global, size: usize, of: &Kindred, held: &[Literal]) -> Result<Buffer, NoMemory>
     requires some { 1 ≤ size }
     requires few { size ≤ 1024 }
     requires fits { length held.now ≤ size }
     requires names { HasFewNames of.now }
-    ensures { IfOk result (λ kind. kind ≡ Kind.Store (stored size (items_of of.now held.now))) }
+    ensures { IfOk result (λ made. made ≡ stored size (items_of of.now held.now)) }
 {
     let items = items_of(alloc, of, held)?;
-    Ok(Kind::Store(Buffer::with(alloc, size, items)?))
+    Buffer::with(alloc, size, items)
 }
 
 /// Whether the type of an expression is that of truth values.
@@ -121,12 +121,22 @@ pub(crate) fn channel_kind(
         Channel::Fifo1(None) => Ok(Kind::Store(Buffer::new(alloc, 1)?)),
         Channel::Fifo1(Some(literal)) => {
             let of = node_type(alloc, types, known, of)?;
-            store(alloc, 1, &of, slice::from_ref(literal))
+            Ok(Kind::Store(store(alloc, 1, &of, slice::from_ref(literal))?))
         }
         Channel::Fifo(size, held) => {
             let of = node_type(alloc, types, known, of)?;
-            store(alloc, *size as usize, &of, held.as_slice())
+            Ok(Kind::Store(store(alloc, *size as usize, &of, held.as_slice())?))
         }
+        Channel::Shift(size, held) => {
+            let of = node_type(alloc, types, known, of)?;
+            Ok(Kind::Shift(store(alloc, *size as usize, &of, held.as_slice())?))
+        }
+        Channel::Variable(None) => Ok(Kind::Variable(None)),
+        Channel::Variable(Some(literal)) => {
+            let of = node_type(alloc, types, known, of)?;
+            Ok(Kind::Variable(item_of(alloc, &of, literal)?))
+        }
+        Channel::Quota(number) => Ok(Kind::Quota(*number)),
         Channel::Filter(term) => {
             let Some(expr) = expr_of(alloc, types, known, &term.form)? else {
                 return Ok(Kind::Sync);

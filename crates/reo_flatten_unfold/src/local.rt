@@ -1,15 +1,15 @@
 //! The names of one connector.
 ghost use Rattle.std.specs.Prelude.{◌≡◌, List, [], ◌++◌, IfOk, IfSome, OnOk};
 ghost use Rattle.std.specs.Option.{option_copied};
-ghost use Rattle.reo_rules_base.specs.Types.{Typed, type_named};
-ghost use Rattle.reo_rules_base.specs.Scopes.{scope_of, parameter_names, node_names_in};
-ghost use Rattle.reo_rules_base.specs.Twice.{twice_in_connector, twice_in_parameter};
-ghost use Rattle.reo_rules_base.specs.Lists.{each_after};
+ghost use Rattle.reo_rules.specs.Types.{Typed, type_named};
+ghost use Rattle.reo_rules.specs.Scopes.{scope_of, parameter_names, node_names_in};
+ghost use Rattle.reo_rules.specs.Twice.{twice_in_connector, twice_in_parameter};
+ghost use Rattle.reo_rules.specs.Lists.{each_after};
 ghost use Rattle.reo_flatten_unfold.specs.Known.{shape_type};
 ghost use Rattle.reo_flatten_unfold.specs.Fits.{IsFew, FormFits, IsFit};
 ghost use Rattle.reo_flatten_unfold.specs.Local.{IsNew, IsLocal, node_place, shape_in};
 
-use reo_rules_base::Names;
+use reo_rules::Names;
 use reo_trees::{Connector, Form, Item, Parameter, Shape};
 use reo_values::{Bytes, List, NoMemory};
 use std::alloc::Global;

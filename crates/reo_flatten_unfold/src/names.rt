@@ -2,10 +2,10 @@
 ghost use Rattle.std.specs.Prelude.{◌≡◌, ◌<◌, ◌^◌, ◌++◌, List, IfOk, OnOk, ℕ, length, codes, map};
 ghost use Rattle.std.specs.Fmt.{decimal};
 ghost use Rattle.reo_trees.specs.declared.programs.Parameter.{Parameter as AParameter};
-ghost use Rattle.reo_rules_base.specs.Scopes.{parameter_names};
-ghost use Rattle.reo_flatten_base.specs.Unfolding.{flat_name};
+ghost use Rattle.reo_rules.specs.Scopes.{parameter_names};
+ghost use Rattle.reo_flat.specs.Unfolding.{flat_name};
 
-use reo_rules_base::Names;
+use reo_rules::Names;
 use reo_values::{Bytes, List, NoMemory, append_number};
 use std::alloc::Global;
 

@@ -3,12 +3,12 @@ ghost use Rattle.std.specs.Prelude.{◌≡◌, List, IfOk, IfSome, OnOk, [], ◌
 ghost use Rattle.std.specs.List.{All};
 ghost use Rattle.std.specs.Option.{option_copied};
 ghost use Rattle.reo_literals.specs.Items.{HasFewNames};
-ghost use Rattle.reo_rules_base.specs.Lists.{has_name};
-ghost use Rattle.reo_rules_base.specs.Types.{Typed, type_named, resolved};
+ghost use Rattle.reo_rules.specs.Lists.{has_name};
+ghost use Rattle.reo_rules.specs.Types.{Typed, type_named, resolved};
 ghost use Rattle.reo_flatten_unfold.specs.Known.{AreTypes};
 ghost use Rattle.reo_flatten_unfold.specs.Fits.{IsFew};
 
-use reo_rules_base::Names;
+use reo_rules::Names;
 use reo_trees::Shape;
 use reo_values::{Boxed, Bytes, Copies, Kindred, List, NoMemory, Twins, copy_kindred};
 use std::alloc::Global;

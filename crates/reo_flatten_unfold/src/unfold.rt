@@ -3,7 +3,7 @@ ghost use Rattle.std.specs.Prelude.{◌≡◌, ◌<◌, ◌^◌, ◌+◌, [], �
 ghost use Rattle.std.specs.List.{count_by};
 ghost use Rattle.reo_trees.specs.declared.items.Item.{Item as AnItem};
 ghost use Rattle.reo_trees.specs.declared.programs.Connector.{Connector as AConnector};
-ghost use Rattle.reo_flatten_base.specs.Unfolding.{no_meaning, meanings_of, is_use};
+ghost use Rattle.reo_flat.specs.Unfolding.{no_meaning, meanings_of, is_use};
 ghost use Rattle.reo_flatten_unfold.specs.Ground.{IsGround};
 ghost use Rattle.reo_flatten_unfold.specs.Fits.{ChannelFits, FormFits, AreFit};
 ghost use Rattle.reo_flatten_unfold.specs.Adds.{Adds};
@@ -211,7 +211,8 @@ pub fn connector(
     requires number { number < length ground.now.stands }
     requires fit { AreFit declarations.now }
     ensures made { let m = slice_index_or (meanings_of declarations.now) number no_meaning in
-        OnOk result (Adds made.old made.new (m.nodes path.old) (m.channels path.old arguments.now)) }
+        OnOk result (Adds made.old made.new (m.nodes path.old)
+        (m.channels path.old arguments.now)) }
     ensures path { OnOk result (path.new ≡ path.old) }
 {
     let stand = *ground.stands.at(number);

@@ -34,7 +34,8 @@ fn append_output(alloc: Global, text: &mut Bytes, number: u32) -> Result<(), NoM
 /// Adds the outputs from 0 to the number of stages.
 fn append_outputs(alloc: Global, text: &mut Bytes, stages: u32) -> Result<(), NoMemory>
     requires { stages ≤ 256 }
-    ensures { OnOk result (text.new ≡ text.old ++ flat_map output_text (range_with_len 0 (stages + 1))) }
+    ensures { OnOk result
+        (text.new ≡ text.old ++ flat_map output_text (range_with_len 0 (stages + 1))) }
 {
     for number in 0..stages + 1 {
         append_output(alloc, text, number)?;
@@ -64,7 +65,8 @@ fn append_link(alloc: Global, text: &mut Bytes, number: u32) -> Result<(), NoMem
 /// Adds the lines of the nodes between stages.
 fn append_links(alloc: Global, text: &mut Bytes, stages: u32) -> Result<(), NoMemory>
     requires { 1 ≤ stages }
-    ensures { OnOk result (text.new ≡ text.old ++ flat_map link_line (range_with_len 1 (stages - 1))) }
+    ensures { OnOk result
+        (text.new ≡ text.old ++ flat_map link_line (range_with_len 1 (stages - 1))) }
 {
     for number in 1..stages {
         append_link(alloc, text, number)?;
@@ -112,7 +114,8 @@ fn append_use(alloc: Global, text: &mut Bytes, stages: u32, number: u32) -> Resu
 /// Adds the lines of all stages.
 fn append_uses(alloc: Global, text: &mut Bytes, stages: u32) -> Result<(), NoMemory>
     requires { stages ≤ 256 }
-    ensures { OnOk result (text.new ≡ text.old ++ flat_map (use_line stages) (range_with_len 1 stages)) }
+    ensures { OnOk result
+        (text.new ≡ text.old ++ flat_map (use_line stages) (range_with_len 1 stages)) }
 {
     for number in 1..stages + 1 {
         append_use(alloc, text, stages, number)?;

@@ -51,7 +51,8 @@ fn append_taker(alloc: Global, text: &mut Bytes, number: u32) -> Result<(), NoMe
 /// Adds the components that take, one at each output.
 fn append_takers(alloc: Global, text: &mut Bytes, stages: u32) -> Result<(), NoMemory>
     requires { stages ≤ 256 }
-    ensures { OnOk result (text.new ≡ text.old ++ flat_map taker_line (range_with_len 0 (stages + 1))) }
+    ensures { OnOk result
+        (text.new ≡ text.old ++ flat_map taker_line (range_with_len 0 (stages + 1))) }
 {
     for number in 0..stages + 1 {
         append_taker(alloc, text, number)?;

@@ -1,11 +1,11 @@
 -- Made work is accepted.
 use Rattle.std.proofs.Common.{◌≡◌, ℕ, ◌≤◌, Some, List, [], ◌∷◌, refl, sym, ap, subst, map}
 use Rattle.std.specs.Prelude.{Ok}
-use Rattle.reo_rules_base.specs.declared.fault.FlatFault.TheVariants as faults
-use Rattle.reo_rules_base.specs.Lists.{first_of}
-use Rattle.reo_script_base.specs.declared.action.Script.{Script}
-use Rattle.reo_script_base.specs.ScriptAnswers.{Answers, answer_by}
-use Rattle.reo_script_base.specs.ScriptRules.{component_for}
+use Rattle.reo_rules.specs.declared.fault.FlatFault.TheVariants as faults
+use Rattle.reo_rules.specs.Lists.{first_of}
+use Rattle.reo_scripts.specs.declared.action.Script.{Script}
+use Rattle.reo_scripts.specs.ScriptAnswers.{Answers, answer_by}
+use Rattle.reo_scripts.specs.ScriptRules.{component_for}
 use Rattle.reo_gen.specs.Scripts.{script_text}
 use Rattle.reo_gen_laws.specs.Accepted.{IsAcceptedWork}
 use Rattle.reo_gen_laws.specs.NotRefused.{AcceptedIsNotRefused}

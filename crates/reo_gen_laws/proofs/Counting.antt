@@ -17,12 +17,12 @@ use Rattle.reo_syntax.proofs.Decimals.{decimal-value}
 use Rattle.reo_net_base.specs.Behaviour.{Behaviour}
 use Rattle.reo_net_base.specs.Net.{end_of}
 use Rattle.reo_kinds.specs.Kinds.{behaviour_of}
-use Rattle.reo_rules_base.specs.Lists.{where_true}
-use Rattle.reo_rules_base.specs.Touches.{bool_eq}
-use Rattle.reo_flatten_base.specs.Unfolding.{Placed}
-use Rattle.reo_flatten_base.specs.Ends.{ends_in, ends_from, incoming, outgoing}
-use Rattle.reo_flatten_base.specs.Joints.{is_many}
-use Rattle.reo_flatten_base.specs.Flat.{own_kinds, port_placed, primitives_of, branched}
+use Rattle.reo_rules.specs.Lists.{where_true}
+use Rattle.reo_rules.specs.Touches.{bool_eq}
+use Rattle.reo_flat.specs.Unfolding.{Placed}
+use Rattle.reo_flat.specs.Ends.{ends_in, ends_from, incoming, outgoing}
+use Rattle.reo_flat.specs.Joints.{is_many}
+use Rattle.reo_flat.specs.Flat.{own_kinds, port_placed, primitives_of, branched}
 use Rattle.reo_flatten_laws.proofs.Cuts.{number_once, behind}
 use Rattle.reo_gen.specs.Names.{link, output}
 use Rattle.reo_gen.specs.Circuits.{source_of, sink_of}

@@ -7,7 +7,7 @@ use Rattle.reo_grammar.specs.Levels.{term_starts, term_ends, count_of, in_term, 
 use Rattle.reo_grammar.proofs.Levels.{in_term-more, count_of-more}
 use Rattle.reo_grammar.proofs.Lines.{matches-alike}
 use Rattle.reo_grammar.proofs.Sound.{and-left, and-right}
-use Rattle.reo_script_base.specs.ScriptAnswers.{IsDeep}
+use Rattle.reo_scripts.specs.ScriptAnswers.{IsDeep}
 
 -- So many are open.
 pub record Height : Type 0 where

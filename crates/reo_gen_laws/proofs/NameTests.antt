@@ -7,7 +7,7 @@ use Rattle.std.proofs.lemmas.Fmt.{decimal_injective}
 use Rattle.std.proofs.lemmas.List.Folds.{list_any-append}
 use Rattle.std.proofs.lemmas.Slice.Eq.{bytes_eq-Decides}
 use Rattle.reo_lexer.proofs.Spelled.{never}
-use Rattle.reo_rules_base.specs.Lists.{has_name}
+use Rattle.reo_rules.specs.Lists.{has_name}
 use Rattle.reo_gen.specs.Names.{link, output}
 
 pub same-name : (a : List ℕ) → bytes_eq a a ≡ true

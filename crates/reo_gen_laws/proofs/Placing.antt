@@ -10,9 +10,9 @@ use Rattle.reo_kinds.specs.declared.kind.Kind.{Kind}
 use Rattle.reo_kinds.specs.declared.kind.Kind.TheVariants as primitives
 use Rattle.reo_trees.specs.declared.items.Item.{Item}
 use Rattle.reo_trees.specs.declared.programs.Parameter.{Parameter}
-use Rattle.reo_rules_base.specs.Scopes.{parameter_names, scope_of}
-use Rattle.reo_flatten_base.specs.Unfolding.{Placed, Meaning, meaning_named, meanings_of, meaning_of, flat_name, is_use, nodes_in, channels_in}
-use Rattle.reo_flatten_base.specs.Flat.{nodes_of, placed_of, port_placed}
+use Rattle.reo_rules.specs.Scopes.{parameter_names, scope_of}
+use Rattle.reo_flat.specs.Unfolding.{Placed, Meaning, meaning_named, meanings_of, meaning_of, flat_name, is_use, nodes_in, channels_in}
+use Rattle.reo_flat.specs.Flat.{nodes_of, placed_of, port_placed}
 use Rattle.reo_gen.specs.Names.{link, output}
 use Rattle.reo_gen.specs.Circuits.{source_of, sink_of}
 use Rattle.reo_gen_laws.proofs.Written.{Lines, made_by}

@@ -14,12 +14,12 @@ use Rattle.reo_net_base.specs.Net.{Net, end_of, behaviour_at, sides_of, first_si
 use Rattle.reo_kinds.specs.declared.kind.Kind.{Kind}
 use Rattle.reo_kinds.specs.declared.kind.Kind.TheVariants as primitives
 use Rattle.reo_kinds.specs.Kinds.{behaviour_of}
-use Rattle.reo_rules_base.specs.Lists.{where_true}
-use Rattle.reo_rules_base.specs.Touches.{bool_eq}
-use Rattle.reo_flatten_base.specs.Unfolding.{Placed}
-use Rattle.reo_flatten_base.specs.Ends.{ends_in, ends_from, incoming, outgoing}
-use Rattle.reo_flatten_base.specs.Joints.{is_many, ends_of, pairs, joints_between, joints_of, many}
-use Rattle.reo_flatten_base.specs.Flat.{branched, branched_with, own_kinds, joints_at}
+use Rattle.reo_rules.specs.Lists.{where_true}
+use Rattle.reo_rules.specs.Touches.{bool_eq}
+use Rattle.reo_flat.specs.Unfolding.{Placed}
+use Rattle.reo_flat.specs.Ends.{ends_in, ends_from, incoming, outgoing}
+use Rattle.reo_flat.specs.Joints.{is_many, ends_of, pairs, joints_between, joints_of, many}
+use Rattle.reo_flat.specs.Flat.{branched, branched_with, own_kinds, joints_at}
 use Rattle.reo_flatten_laws.proofs.Each.{both}
 
 -- Arrows that rise lead nowhere back.

@@ -12,8 +12,8 @@ use Rattle.reo_kinds.specs.declared.kind.Kind.{Kind}
 use Rattle.reo_kinds.specs.declared.kind.Kind.TheVariants.{Writer, Taker, Sync, Lossy, SyncDrain, Store}
 use Rattle.reo_net_order.specs.Arrows.{NoCycle}
 use Rattle.reo_net_base.specs.Net.{from_sides, to_sides}
-use Rattle.reo_flatten_base.specs.Unfolding.{Placed}
-use Rattle.reo_flatten_base.specs.Flat.{net_of_program, port_placed, placed_of, nodes_of}
+use Rattle.reo_flat.specs.Unfolding.{Placed}
+use Rattle.reo_flat.specs.Flat.{net_of_program, port_placed, placed_of, nodes_of}
 use Rattle.reo_flatten_laws.proofs.Each.{both}
 use Rattle.reo_gen.specs.Names.{link, output}
 use Rattle.reo_gen.specs.Circuits.{source_of, sink_of}

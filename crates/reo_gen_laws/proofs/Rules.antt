@@ -13,20 +13,20 @@ use Rattle.std.proofs.lemmas.Bool.Decides.{Decides-eqb}
 use Rattle.reo_values.specs.declared.kindred.Kindred.TheVariants as kinds
 use Rattle.reo_trees.specs.declared.items.Item.{Item}
 use Rattle.reo_trees.specs.declared.programs.Parameter.{Parameter}
-use Rattle.reo_rules_base.specs.declared.fault.FlatFault.{FlatFault}
-use Rattle.reo_rules_base.specs.declared.fault.FlatFault.TheVariants as faults
-use Rattle.reo_rules_base.specs.Lists.{each_after, where_true, has_name}
-use Rattle.reo_rules_base.specs.Scopes.{parameter_names, node_names, node_names_in, parameter_type, node_types_in, scope_of}
-use Rattle.reo_rules_base.specs.Twice.{twice, twice_in_parameter, twice_in_item}
-use Rattle.reo_rules_base.specs.Unknown.{unknown, unknown_in_item, unknown_in_type, missing}
-use Rattle.reo_rules_base.specs.Mistyped.{mistyped}
-use Rattle.reo_rules_base.specs.Ranges.{out_of_range, range_in_type}
-use Rattle.reo_rules_base.specs.Types.{Typed, type_named, is_same}
-use Rattle.reo_rules_base.specs.Arity.{arity}
-use Rattle.reo_rules_base.specs.Touches.{Touch, touch, touches_in, is_touched, bool_eq}
-use Rattle.reo_rules_base.specs.Direction.{direction, goes_against}
-use Rattle.reo_rules_base.specs.Dangling.{dangling, dangling_parameter, dangling_in_item}
-use Rattle.reo_rules_base.specs.Rules.{rule_breaks}
+use Rattle.reo_rules.specs.declared.fault.FlatFault.{FlatFault}
+use Rattle.reo_rules.specs.declared.fault.FlatFault.TheVariants as faults
+use Rattle.reo_rules.specs.Lists.{each_after, where_true, has_name}
+use Rattle.reo_rules.specs.Scopes.{parameter_names, node_names, node_names_in, parameter_type, node_types_in, scope_of}
+use Rattle.reo_rules.specs.Twice.{twice, twice_in_parameter, twice_in_item}
+use Rattle.reo_rules.specs.Unknown.{unknown, unknown_in_item, unknown_in_type, missing}
+use Rattle.reo_rules.specs.Mistyped.{mistyped}
+use Rattle.reo_rules.specs.Ranges.{out_of_range, range_in_type}
+use Rattle.reo_rules.specs.Types.{Typed, type_named, is_same}
+use Rattle.reo_rules.specs.Arity.{arity}
+use Rattle.reo_rules.specs.Touches.{Touch, touch, touches_in, is_touched, bool_eq}
+use Rattle.reo_rules.specs.Direction.{direction, goes_against}
+use Rattle.reo_rules.specs.Dangling.{dangling, dangling_parameter, dangling_in_item}
+use Rattle.reo_rules.specs.Rules.{rule_breaks}
 use Rattle.reo_gen.specs.Names.{link, output}
 use Rattle.reo_gen.specs.Circuits.{source_of, sink_of}
 use Rattle.reo_gen_laws.proofs.Written.{Lines, made_by}

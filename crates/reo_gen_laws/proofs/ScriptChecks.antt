@@ -15,13 +15,13 @@ use Rattle.reo_net_base.specs.declared.port.Way.TheVariants.{In, Out}
 use Rattle.reo_values.specs.declared.value.Value.TheVariants as values
 use Rattle.reo_literals.specs.Items.{item_of}
 use Rattle.reo_trees.specs.declared.literals.Constant.TheVariants as constants
-use Rattle.reo_rules_base.specs.Lists.{where_true, has_name}
-use Rattle.reo_flatten_base.specs.Flat.{ports_of}
-use Rattle.reo_script_base.specs.declared.fault.ScriptFault.{ScriptFault}
-use Rattle.reo_script_base.specs.declared.fault.ScriptFault.TheVariants as faults
-use Rattle.reo_script_base.specs.declared.forms.ActionForm.TheBlock.{hidden-the_row-ActionForm-0}
-use Rattle.reo_script_base.specs.declared.forms.ComponentForm.{ComponentForm}
-use Rattle.reo_script_base.specs.ScriptRules.{Naming, namings, namings_in, port_named, no_port, wrong_way, outside, shared, shared_in, ports_in, same, goes_in, breaks}
+use Rattle.reo_rules.specs.Lists.{where_true, has_name}
+use Rattle.reo_flat.specs.Flat.{ports_of}
+use Rattle.reo_scripts.specs.declared.fault.ScriptFault.{ScriptFault}
+use Rattle.reo_scripts.specs.declared.fault.ScriptFault.TheVariants as faults
+use Rattle.reo_scripts.specs.declared.forms.ActionForm.TheBlock.{hidden-the_row-ActionForm-0}
+use Rattle.reo_scripts.specs.declared.forms.ComponentForm.{ComponentForm}
+use Rattle.reo_scripts.specs.ScriptRules.{Naming, namings, namings_in, port_named, no_port, wrong_way, outside, shared, shared_in, ports_in, same, goes_in, breaks}
 use Rattle.reo_gen.specs.Names.{output}
 use Rattle.reo_gen_laws.proofs.Written.{Lines, made_by}
 use Rattle.reo_gen_laws.proofs.Trees.{output_by, Places, declarations_of}

@@ -16,12 +16,12 @@ use Rattle.reo_trees.specs.declared.literals.Literal.{Literal}
 use Rattle.reo_trees.specs.Forms.{name_form, word, ◌◂◌}
 use Rattle.reo_trees.specs.Forms.Rule.{literal_rule}
 use Rattle.reo_trees.specs.Literals.{greatest}
-use Rattle.reo_script_base.specs.declared.forms.ActionForm.{ActionForm}
-use Rattle.reo_script_base.specs.declared.forms.ActionForm.TheVariants as forms
-use Rattle.reo_script_base.specs.declared.forms.ComponentForm.{ComponentForm}
-use Rattle.reo_script_base.specs.ScriptForms.{ScriptFormOf, script_rules, script_form, lifted, within_form, label_form, action_list, component_form}
-use Rattle.reo_script_base.specs.ScriptForms.ScriptRule.{action_rule, of_circuit}
-use Rattle.reo_script_base.specs.ScriptAnswers.{SaysScript}
+use Rattle.reo_scripts.specs.declared.forms.ActionForm.{ActionForm}
+use Rattle.reo_scripts.specs.declared.forms.ActionForm.TheVariants as forms
+use Rattle.reo_scripts.specs.declared.forms.ComponentForm.{ComponentForm}
+use Rattle.reo_scripts.specs.ScriptForms.{ScriptFormOf, script_rules, script_form, lifted, within_form, label_form, action_list, component_form}
+use Rattle.reo_scripts.specs.ScriptForms.ScriptRule.{action_rule, of_circuit}
+use Rattle.reo_scripts.specs.ScriptAnswers.{SaysScript}
 use Rattle.reo_gen.specs.Names.{numbered, output}
 use Rattle.reo_gen.specs.Scripts.{write_text, writer_line, taker_line, script_text}
 use Rattle.reo_gen_laws.proofs.Heights.{Height, height, low-nowhere, over}

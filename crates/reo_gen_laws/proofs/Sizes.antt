@@ -8,12 +8,12 @@ use Rattle.std.proofs.lemmas.Fmt.{length-decimal-le}
 use Rattle.std.proofs.lemmas.List.{length-append}
 use Rattle.std.proofs.lemmas.List.Sums.{fold-append, sum_by-append, sum_by-cons}
 use Rattle.reo_trees.specs.declared.items.Item.{Item}
-use Rattle.reo_rules_base.specs.declared.fault.FlatFault.TheVariants as faults
-use Rattle.reo_rules_base.specs.Lists.{where_true}
-use Rattle.reo_flatten_base.specs.Unfolding.{uses_in, depth_in}
-use Rattle.reo_flatten_base.specs.Flat.{primitives_of}
-use Rattle.reo_flatten_base.specs.Sizes.{too_many}
-use Rattle.reo_flatten_base.specs.Refusals.{IsAccepted}
+use Rattle.reo_rules.specs.declared.fault.FlatFault.TheVariants as faults
+use Rattle.reo_rules.specs.Lists.{where_true}
+use Rattle.reo_flat.specs.Unfolding.{uses_in, depth_in}
+use Rattle.reo_flat.specs.Flat.{primitives_of}
+use Rattle.reo_flat.specs.Sizes.{too_many}
+use Rattle.reo_flat.specs.Refusals.{IsAccepted}
 use Rattle.reo_gen.specs.Names.{numbered, link, output}
 use Rattle.reo_gen.specs.Circuits.{stage_text, output_text, link_line, source_of, sink_of, use_line, circuit_text}
 use Rattle.reo_gen.specs.Scripts.{write_text, writer_line, taker_line, script_text}

@@ -2,10 +2,10 @@
 use Rattle.std.specs.Prelude.{ℕ, ◌≡◌, ◌+◌, ◌*◌, ◌^◌, ◌<◌, ◌≤◌, Ok, length}
 use Rattle.reo_trees.specs.declared.programs.Program.{Program}
 use Rattle.reo_trees.specs.Says.{SaysProgram}
-use Rattle.reo_flatten_base.specs.Flat.{ports_of, primitives_of}
-use Rattle.reo_flatten_base.specs.Refusals.{IsAccepted}
-use Rattle.reo_script_base.specs.declared.action.Script.{Script}
-use Rattle.reo_script_base.specs.ScriptAnswers.{Answers}
+use Rattle.reo_flat.specs.Flat.{ports_of, primitives_of}
+use Rattle.reo_flat.specs.Refusals.{IsAccepted}
+use Rattle.reo_scripts.specs.declared.action.Script.{Script}
+use Rattle.reo_scripts.specs.ScriptAnswers.{Answers}
 use Rattle.reo_gen.specs.Circuits.{circuit_text}
 use Rattle.reo_gen.specs.Scripts.{script_text}
 

@@ -1,4 +1,5 @@
-//! Languages: a grammar that is read with one token of sight, and the laws that hold for each of them.
+//! Languages: a grammar that is read with one token of sight, and the laws that hold for each of
+//! them.
 ghost use Rattle.std.specs.Prelude.{◌≡◌, ◌⊎◌, ℕ, ◌<◌, ◌++◌, ◌∷◌, [], List, length, true};
 ghost use Rattle.reo_grammar.specs.Tokens.{Lexeme, AreReal, Alike};
 ghost use Rattle.reo_grammar.specs.Grammar.{Grammar, Says, Refused, read, reads};
@@ -35,37 +36,49 @@ pub trait Language {
 
 /// Tokens say one tree.
 pub fn one_tree<L: Language>()
-    ensures { (ts : List Lexeme) (x y : L.Tree) → Says L.rules L.form ts x → Says L.rules L.form ts y → x ≡ y }
+    ensures { (ts : List Lexeme) (x y : L.Tree) → Says L.rules L.form ts x
+        → Says L.rules L.form ts y → x ≡ y }
 {}
 
-/// Reading, with room above the number of tokens: what is read to the end is said, what is said is read to the end, and
-/// the room is enough.
+/// Reading, with room above the number of tokens: what is read to the end is said, what is said is
+/// read to the end, and the room is enough.
 pub fn reading_is_exact<L: Language>()
-    ensures sound { (ts : List Lexeme) (room : ℕ) (x : L.Tree) → length ts < room → read (reads L.rules room) L.form ts ≡ got x [] → Says L.rules L.form ts x }
-    ensures complete { (ts : List Lexeme) (room : ℕ) (x : L.Tree) → length ts < room → Says L.rules L.form ts x → read (reads L.rules room) L.form ts ≡ got x [] }
-    ensures enough { (ts : List Lexeme) (room : ℕ) → length ts < room → read (reads L.rules room) L.form ts ≡ out → ⊥ }
+    ensures sound { (ts : List Lexeme) (room : ℕ) (x : L.Tree) → length ts < room
+        → read (reads L.rules room) L.form ts ≡ got x [] → Says L.rules L.form ts x }
+    ensures complete { (ts : List Lexeme) (room : ℕ) (x : L.Tree) → length ts < room
+        → Says L.rules L.form ts x → read (reads L.rules room) L.form ts ≡ got x [] }
+    ensures enough { (ts : List Lexeme) (room : ℕ) → length ts < room
+        → read (reads L.rules room) L.form ts ≡ out → ⊥ }
 {}
 
-/// Where reading stops, the tokens are refused: the tokens before the first one left begin something, and those up to
-/// and including it begin nothing; where none is left, they begin something and say nothing.
+/// Where reading stops, the tokens are refused: the tokens before the first one left begin
+/// something, and those up to and including it begin nothing; where none is left, they begin
+/// something and say nothing.
 pub fn refusal_is_exact<L: Language>()
-    ensures stopped { (ts u : List Lexeme) (room : ℕ) → length ts < room → read (reads L.rules room) L.form ts ≡ bad u → Refused L.rules L.form ts u }
-    ensures rest { (ts u : List Lexeme) (room : ℕ) (x : L.Tree) (t : Lexeme) → length ts < room → read (reads L.rules room) L.form ts ≡ got x (t ∷ u) → Refused L.rules L.form ts (t ∷ u) }
+    ensures stopped { (ts u : List Lexeme) (room : ℕ) → length ts < room
+        → read (reads L.rules room) L.form ts ≡ bad u → Refused L.rules L.form ts u }
+    ensures rest { (ts u : List Lexeme) (room : ℕ) (x : L.Tree) (t : Lexeme) → length ts < room
+        → read (reads L.rules room) L.form ts ≡ got x (t ∷ u) → Refused L.rules L.form ts (t ∷ u) }
 {}
 
 /// Tokens that texts have say something or are refused at one place, and never both.
 pub fn one_answer<L: Language>()
-    ensures decided { (ts : List Lexeme) → ((x : L.Tree) × Says L.rules L.form ts x) ⊎ ((u : List Lexeme) × Refused L.rules L.form ts u) }
-    ensures apart { (ts u : List Lexeme) (x : L.Tree) → AreReal ts → Says L.rules L.form ts x → Refused L.rules L.form ts u → ⊥ }
-    ensures one_place { (ts u v : List Lexeme) → AreReal ts → Refused L.rules L.form ts u → Refused L.rules L.form ts v → u ≡ v }
+    ensures decided { (ts : List Lexeme) → ((x : L.Tree) × Says L.rules L.form ts x)
+        ⊎ ((u : List Lexeme) × Refused L.rules L.form ts u) }
+    ensures apart { (ts u : List Lexeme) (x : L.Tree) → AreReal ts → Says L.rules L.form ts x
+        → Refused L.rules L.form ts u → ⊥ }
+    ensures one_place { (ts u v : List Lexeme) → AreReal ts → Refused L.rules L.form ts u
+        → Refused L.rules L.form ts v → u ≡ v }
 {}
 
 /// A refusal at a token stands whatever follows: that of a front is that of the whole.
 pub fn refusal_of_front<L: Language>()
-    ensures { (ts u more : List Lexeme) (t : Lexeme) → Refused L.rules L.form ts (t ∷ u) → Refused L.rules L.form (ts ++ more) (t ∷ (u ++ more)) }
+    ensures { (ts u more : List Lexeme) (t : Lexeme) → Refused L.rules L.form ts (t ∷ u)
+        → Refused L.rules L.form (ts ++ more) (t ∷ (u ++ more)) }
 {}
 
 /// Lines aside, the same tokens say something too.
 pub fn same_with_other_lines<L: Language>()
-    ensures { (ts us : List Lexeme) (x : L.Tree) → Alike ts us → Says L.rules L.form ts x → (y : L.Tree) × Says L.rules L.form us y }
+    ensures { (ts us : List Lexeme) (x : L.Tree) → Alike ts us → Says L.rules L.form ts x
+        → (y : L.Tree) × Says L.rules L.form us y }
 {}

@@ -1,6 +1,7 @@
 -- Counts of faults, one call after another.
-use Rattle.std.proofs.Common.{◌≡◌, ℕ, ◌≤◌, List, [], refl, arith}
-use Rattle.std.specs.Prelude.{Result, Ok, Err, IsOk, IsErrOf}
+use Rattle.std.proofs.Common.{◌≡◌, ◌∙◌, ℕ, ◌≤◌, ◌<◌, List, [], inl, inr, refl, sym, arith}
+use Rattle.std.proofs.Math.Nat.{eq-or-lt_of_le}
+use Rattle.std.specs.Prelude.{Result, Ok, Err, IsOk, IsErr, IsErrOf}
 use Rattle.reo_io.specs.Causes.{Rose, HasCause}
 use Rattle.reo_io.specs.Fetches.{failed_after}
 use Rattle.reo_io.specs.declared.files.FetchFault.{FetchFault}
@@ -14,10 +15,22 @@ Rose-since before mid now h rose = omega arith
 pub Rose-until : (before mid now : ℕ) → Rose before mid → mid ≤ now → Rose before now
 Rose-until before mid now rose h = omega arith
 
--- a cause that came after other calls
-pub HasCause-after : {T E : Type 0} (before mid now : ℕ) (result : Result T E) → before ≤ mid → HasCause mid now result → HasCause before now result
-HasCause-after before mid now (Ok x) h cause = record { later = omega arith; failed = tt }
-HasCause-after before mid now (Err e) h cause = record { later = omega arith; failed = Rose-since before mid now h cause.failed }
+-- a cause that came after calls that left the count as it was
+pub HasCause-after : {T E : Type 0} (before mid now : ℕ) (result : Result T E) → mid ≡ before → HasCause mid now result → HasCause before now result
+HasCause-after before mid now (Ok x) h cause = record { later = omega arith; failed = tt; answered = cause.answered ∙ h }
+HasCause-after before mid now (Err e) h cause = record { later = omega arith; failed = Rose-since before mid now (omega arith) cause.failed; answered = tt }
+
+-- where the count rose, the call answered an error
+pub HasCause-rose : {T E : Type 0} (before now : ℕ) (result : Result T E) → HasCause before now result → before < now → IsErr result
+HasCause-rose before now (Ok x) cause rose = absurd (let same : now ≡ before = cause.answered in omega arith)
+HasCause-rose before now (Err e) cause rose = refl
+
+-- a count that rises only with one error is as it was where there is none
+pub same_count : {T E : Type 0} (before now : ℕ) (x : T) (fault : E) → before ≤ now → (before < now → IsErrOf (Ok x) fault) → now ≡ before
+same_count before now x fault later risen = elim (eq-or-lt_of_le later) [
+  | inl same ↦ sym same
+  | inr rose ↦ absurd (let is : IsErrOf (Ok x) fault = risen rose in cc)
+]
 
 -- where the count is constantly 0, no call answers an error
 pub HasCause-never : {T E : Type 0} (result : Result T E) → HasCause 0 0 result → IsOk result

@@ -7,7 +7,8 @@ use reo_values::Bytes;
 
 /// The bytes of the first file of a name.
 pub(crate) fn find_file<'a>(files: &'a [Named], name: &[u8]) -> Option<&'a Bytes>
-    ensures { MatchOption result (first_of files.now name.now ≡ None) (λ bytes. first_of files.now name.now ≡ Some bytes.now) }
+    ensures { MatchOption result (first_of files.now name.now ≡ None)
+        (λ bytes. first_of files.now name.now ≡ Some bytes.now) }
 {
     for file in files {
         if file.name.as_slice() == name {

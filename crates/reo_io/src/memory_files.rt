@@ -25,7 +25,8 @@ impl MemoryFiles {
     /// from 1, fail.
     pub fn new(alloc: Global, files: List<Named>, failing: List<u64>) -> Result<Self, NoMemory>
         ensures made { IsOk result }
-        ensures told { IfOk result (λ made. files_told made ≡ record { files = files; others = None }) }
+        ensures told { IfOk result
+            (λ made. files_told made ≡ record { files = files; others = None }) }
         ensures failed { IfOk result (λ made. files_failed made ≡ []) }
         ensures calls { IfOk result (λ made. files_calls made ≡ first_calls failing) }
     {
@@ -61,12 +62,15 @@ impl Files for MemoryFiles {
         requires small { limit < 2 ^ 32 }
         ensures size { Holds limit room.new result }
         ensures bytes { Fetches (Some (files_told self.old)) name.now limit room.new result }
-        ensures cause { files_failed self.new ≡ failed_after (files_failed self.old) name.now result }
+        ensures cause { files_failed self.new ≡ failed_after
+            (files_failed self.old) name.now result }
         ensures counted { files_fetches self.new ≡ fetches_after 1 (files_fetches self.old) }
         ensures told_same { Some (files_told self.new) ≡ Some (files_told self.old) }
         ensures calls { files_calls self.new ≡ after_call (files_calls self.old) }
-        ensures failed { IsErrOf result FetchFault.Failed → FailsNext (files_calls self.old) ⊎ (file_of (files_told self.old) name.now ≡ None) }
-        ensures fails { FailsNext (files_calls self.old) → IsErrOf result FetchFault.Failed ⊎ IsErrOf result FetchFault.NoMemory }
+        ensures failed { IsErrOf result FetchFault.Failed → FailsNext (files_calls self.old)
+            ⊎ (file_of (files_told self.old) name.now ≡ None) }
+        ensures fails { FailsNext (files_calls self.old) → IsErrOf result FetchFault.Failed
+            ⊎ IsErrOf result FetchFault.NoMemory }
     {
         self.fetches = self.fetches.wrapping_add(1);
         if self.calls.next_fails() {

@@ -23,8 +23,8 @@ impl MemorySink {
     ghost use Rattle.reo_io.specs.FailingCalls.{first_calls};
     ghost use Rattle.reo_io.specs.Memory.{sink_bytes, sink_calls, sink_faults, sink_piece, sink_room};
 
-    /// An empty sink with room for so many bytes, of which one call takes at most `piece`. The calls
-    /// that `failing` numbers, from 1, fail, and so does a call without room left.
+    /// An empty sink with room for so many bytes, of which one call takes at most `piece`. The
+    /// calls that `failing` numbers, from 1, fail, and so does a call without room left.
     pub fn new(
         alloc: Global,
         room: usize,
@@ -64,14 +64,19 @@ impl Sink for MemorySink {
 
     fn put(&mut self, piece: &[u8]) -> Result<usize, SinkFault>
         requires { 0 < length piece.now }
-        ensures bytes { Puts (Some (sink_bytes self.old)) (Some (sink_bytes self.new)) piece.now result }
+        ensures bytes { Puts (Some (sink_bytes self.old))
+            (Some (sink_bytes self.new)) piece.now result }
         ensures cause { HasCause (sink_faults self.old) (sink_faults self.new) result }
-        ensures count { IfOk result (λ count. count ≡ min (length piece.now) (min (sink_piece self.old) (sink_room self.old))) }
-        ensures failed { IsErr result ↔ (FailsNext (sink_calls self.old) ⊎ (sink_room self.old ≡ 0)) }
+        ensures count { IfOk result
+            (λ count. count ≡ min (length piece.now)
+            (min (sink_piece self.old) (sink_room self.old))) }
+        ensures failed { IsErr result
+            ↔ (FailsNext (sink_calls self.old) ⊎ (sink_room self.old ≡ 0)) }
         ensures faults { sink_faults self.new ≡ faults_after (sink_faults self.old) result }
         ensures calls { sink_calls self.new ≡ after_call (sink_calls self.old) }
         ensures piece { sink_piece self.new ≡ sink_piece self.old }
-        ensures room { length (sink_bytes self.new) + sink_room self.new ≡ length (sink_bytes self.old) + sink_room self.old }
+        ensures room { length (sink_bytes self.new) + sink_room self.new
+            ≡ length (sink_bytes self.old) + sink_room self.old }
     {
         let fails = self.calls.next_fails();
         let room = self.kept.room();

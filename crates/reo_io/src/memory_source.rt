@@ -65,9 +65,12 @@ impl Source for MemorySource {
     fn take(&mut self, room: &mut [u8]) -> Result<usize, SourceFault>
         requires { 0 < length room.old }
         ensures bound { IfOk result (λ count. count ≤ length room.new) }
-        ensures bytes { Takes (Some (source_left self.old)) (Some (source_left self.new)) room.new result }
+        ensures bytes { Takes (Some (source_left self.old))
+            (Some (source_left self.new)) room.new result }
         ensures cause { HasCause (source_faults self.old) (source_faults self.new) result }
-        ensures count { IfOk result (λ count. count ≡ min (length (source_left self.old)) (min (length room.old) (source_piece self.old))) }
+        ensures count { IfOk result
+            (λ count. count ≡ min (length (source_left self.old))
+            (min (length room.old) (source_piece self.old))) }
         ensures failed { IsErr result ↔ FailsNext (source_calls self.old) }
         ensures faults { source_faults self.new ≡ faults_after (source_faults self.old) result }
         ensures calls { source_calls self.new ≡ after_call (source_calls self.old) }

@@ -11,7 +11,8 @@ fn read_front<F: Read>(file: &mut F, limit: usize, room: &mut Bytes) -> Result<(
     requires empty { room.old ≡ [] }
     requires small { limit < 2 ^ 32 }
     ensures size { length room.new ≤ limit + 1 }
-    ensures bytes { OnOk result (IfSome (F.remaining file.old) (λ bytes. room.new ≡ take (limit + 1) bytes)) }
+    ensures bytes { OnOk result
+        (IfSome (F.remaining file.old) (λ bytes. room.new ≡ take (limit + 1) bytes)) }
     ensures short { IsErrOf result FetchFault.TooLong → ⊥ }
 {
     let mut buffer = [0u8; 4096];
@@ -41,7 +42,8 @@ pub(crate) fn read_file<F: Read>(
     requires small { limit < 2 ^ 32 }
     ensures size { Holds limit room.new result }
     // where the reader says what it has left
-    ensures bytes { IfSome (F.remaining file.old) (λ bytes. Gives (Some bytes) limit room.new result) }
+    ensures bytes { IfSome (F.remaining file.old)
+        (λ bytes. Gives (Some bytes) limit room.new result) }
 {
     match read_front(file, limit, room) {
         Ok(()) if room.len() <= limit => Ok(()),

@@ -15,7 +15,7 @@ pub trait Sink {
     /// The bytes so far, where the sink tells them.
     ghost told: { Self → Option (List ℕ) };
 
-    /// How often the sink has failed. It never falls.
+    /// How often the sink has failed. It never falls, and rises only where a call answers `Failed`.
     ghost faults: { Self → ℕ };
 
     /// Takes bytes from the front of the piece, at least one, and answers how many. After `Failed`

@@ -15,7 +15,8 @@ pub trait Source {
     /// The bytes left, where the source tells them.
     ghost told: { Self → Option (List ℕ) };
 
-    /// How often the source has failed. It never falls.
+    /// How often the source has failed. It never falls, and rises only where a call answers
+    /// `Failed`.
     ghost faults: { Self → ℕ };
 
     /// Puts the next bytes at the front of the room, and answers how many. No byte is the end.

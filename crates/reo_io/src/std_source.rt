@@ -40,7 +40,8 @@ impl<R: Read> Source for StdSource<R> {
         ensures cause { HasCause (reader_faults self.old) (reader_faults self.new) result }
         ensures faults { reader_faults self.new ≡ faults_after (reader_faults self.old) result }
         // the call is one read of the reader, where it says what its reads give
-        ensures read { ReadConsumes (R.remaining (reader_of self.old)) (R.remaining (reader_of self.new)) result room.new }
+        ensures read { ReadConsumes (R.remaining (reader_of self.old))
+            (R.remaining (reader_of self.new)) result room.new }
     {
         match self.reader.read(room) {
             Ok(count) => Ok(count),

@@ -19,7 +19,8 @@ impl SureFiles {
     /// These files; of two with one name the first counts.
     pub fn new(_alloc: Global, files: List<Named>) -> Result<Self, NoMemory>
         ensures made { IsOk result }
-        ensures told { IfOk result (λ made. sure_files made ≡ record { files = files; others = Some [] }) }
+        ensures told { IfOk result
+            (λ made. sure_files made ≡ record { files = files; others = Some [] }) }
     {
         Ok(SureFiles { files, fetches: 0 })
     }

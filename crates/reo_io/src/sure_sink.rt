@@ -51,9 +51,11 @@ impl Sink for SureSink {
         ensures bytes { Puts (sure_told self.old) (sure_told self.new) piece.now result }
         ensures cause { HasCause 0 0 result }
         ensures count { result ≡ Ok (length piece.now) }
-        ensures kept { sure_kept self.new ≡ sure_kept self.old ++ take (sure_room self.old) piece.now }
+        ensures kept { sure_kept self.new ≡ sure_kept self.old ++ take
+            (sure_room self.old) piece.now }
         ensures room { sure_room self.new ≡ sure_room self.old - length piece.now }
-        ensures told { IsSome (sure_told self.new) ↔ (IsSome (sure_told self.old) × (length piece.now ≤ sure_room self.old)) }
+        ensures told { IsSome (sure_told self.new)
+            ↔ (IsSome (sure_told self.old) × (length piece.now ≤ sure_room self.old)) }
     {
         let count = piece.len().min(self.kept.room());
         keep(&mut self.kept, &piece[..count]);

@@ -45,7 +45,8 @@ impl Source for SureSource {
     fn take(&mut self, room: &mut [u8]) -> Result<usize, SourceFault>
         requires { 0 < length room.old }
         ensures bound { IfOk result (λ count. count ≤ length room.new) }
-        ensures bytes { Takes (Some (sure_left self.old)) (Some (sure_left self.new)) room.new result }
+        ensures bytes { Takes (Some (sure_left self.old))
+            (Some (sure_left self.new)) room.new result }
         ensures cause { HasCause 0 0 result }
         ensures count { result ≡ Ok (min (length (sure_left self.old)) (length room.old)) }
     {

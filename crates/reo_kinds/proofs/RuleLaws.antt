@@ -6,15 +6,16 @@ use Rattle.reo_net_base.specs.Behaviour.{IsEndOf}
 use Rattle.reo_buffers.specs.Stored.{is_full}
 use Rattle.reo_kinds.specs.declared.ends.Ends.{Ends}
 use Rattle.reo_kinds.specs.declared.ends.Ends.TheVariants.{Out, In, InOut, InIn, MouthTail, Outputs}
-use Rattle.reo_kinds.specs.declared.kind.Branches.{Branches}
+use Rattle.reo_net_base.specs.declared.branches.Branches.{Branches}
 use Rattle.reo_kinds.specs.declared.kind.Kind.{Kind}
 use Rattle.reo_kinds.specs.declared.kind.Kind.TheVariants.{Writer, Taker, Sync, Lossy, SyncDrain, AsyncDrain, Store, Shift, Variable, Quota, Filter, Map, Merger, Replicator}
-use Rattle.reo_kinds.specs.declared.table.Table.{Table}
-use Rattle.reo_kinds.specs.declared.table.Table.TheVariants as tables
-use Rattle.reo_kinds.specs.declared.shape.Shape.{Shape}
-use Rattle.reo_kinds.specs.declared.shape.Shape.TheVariants.{Single, Double, Replicating}
-use Rattle.reo_kinds.specs.Tables.{rows_of}
-use Rattle.reo_kinds.specs.Forms.{rows_by, class_by, behaviour_by}
+use Rattle.reo_net_base.specs.declared.table.Table.{Table}
+use Rattle.reo_net_base.specs.declared.table.Table.TheVariants as tables
+use Rattle.reo_net_base.specs.declared.form.Form.{Form}
+use Rattle.reo_net_base.specs.declared.form.Form.TheVariants.{Single, Double, Replicating}
+use Rattle.reo_net_base.specs.Tables.{rows_of}
+use Rattle.reo_net_base.specs.Forms.{rows_by, class_by}
+use Rattle.reo_kinds.specs.Forms.{behaviour_by}
 use Rattle.reo_kinds.specs.TableTests.{is_table, TableFacts, table_facts, set_count, first_row}
 use Rattle.reo_kinds.specs.SideLaws.{FlowsBy, only_zero}
 use Rattle.reo_kinds.specs.ItemLaws.{ready_facts}
@@ -22,20 +23,20 @@ use Rattle.reo_kinds.specs.KindLaws.{quota_is}
 use Rattle.reo_kinds.specs.Kinds.{behaviour_of, ready, ready_table, quota_table, mouth_and_tail, front_of, lets_in, given_of}
 use Rattle.reo_kinds.specs.RuleOfClasses.{IsByRule, IsInTurn, IsClassed}
 
--- The rule for the shape of a side at its ends.
-record IsRuled (shape : Shape) (IsIn : ℕ → Type 0) (turn : ℕ) : Type 0 where
+-- The rule for the form of a side at its ends.
+record IsRuled (form : Form) (IsIn : ℕ → Type 0) (turn : ℕ) : Type 0 where
   sets : ℕ
   first : ℕ → ℕ
   in_order : (before set : ℕ) → before < set → set < sets → first before < first set
-  plain : (set : ℕ) → set < sets → first set + 1 < rows_by shape
-  none_before : (set other : ℕ) → set < sets → other < first set → ¬ (FlowsBy shape IsIn other (first set) × FlowsBy shape IsIn (first set) other)
-  place : (row : ℕ) → row + 1 < rows_by shape → class_by shape row turn < sets
-  of_set : (row : ℕ) → row + 1 < rows_by shape → FlowsBy shape IsIn (first (class_by shape row turn)) row × FlowsBy shape IsIn row (first (class_by shape row turn))
-  jam : (row : ℕ) → row + 1 ≡ rows_by shape → class_by shape row turn ≡ sets
+  plain : (set : ℕ) → set < sets → first set + 1 < rows_by form
+  none_before : (set other : ℕ) → set < sets → other < first set → ¬ (FlowsBy form IsIn other (first set) × FlowsBy form IsIn (first set) other)
+  place : (row : ℕ) → row + 1 < rows_by form → class_by form row turn < sets
+  of_set : (row : ℕ) → row + 1 < rows_by form → FlowsBy form IsIn (first (class_by form row turn)) row × FlowsBy form IsIn row (first (class_by form row turn))
+  jam : (row : ℕ) → row + 1 ≡ rows_by form → class_by form row turn ≡ sets
 
-by_rule : (ends : Ends) (shape : ℕ → Shape) (lets_in : ℕ → Value → Bool) (given : Option Value → Option Value) (side turn : ℕ)
-    → IsRuled (shape side) (IsEndOf (behaviour_by ends shape lets_in given) side) turn → IsByRule (behaviour_by ends shape lets_in given) side turn
-by_rule ends shape lets_in given side turn is = record {
+by_rule : (ends : Ends) (form : ℕ → Form) (lets_in : ℕ → Value → Bool) (given : Option Value → Option Value) (side turn : ℕ)
+    → IsRuled (form side) (IsEndOf (behaviour_by ends form lets_in given) side) turn → IsByRule (behaviour_by ends form lets_in given) side turn
+by_rule ends form lets_in given side turn is = record {
   sets = is.sets;
   first = is.first;
   in_order = is.in_order;

@@ -7,13 +7,14 @@ use Rattle.reo_net_base.specs.Behaviour.{Behaviour, IsEndOf}
 use Rattle.reo_net_base.specs.Lawful.{IsLawful, IsTwoSided, GivesAt, AreAsTheirGroup}
 use Rattle.reo_kinds.specs.declared.ends.Ends.{Ends}
 use Rattle.reo_kinds.specs.declared.ends.Ends.TheVariants.{Out, In, InOut, InIn, MouthTail, Inputs, Outputs}
-use Rattle.reo_kinds.specs.declared.kind.Branches.{Branches}
-use Rattle.reo_kinds.specs.Rows.{Rows, mark_in}
-use Rattle.reo_kinds.specs.declared.table.Table.{Table}
-use Rattle.reo_kinds.specs.declared.shape.Shape.{Shape}
-use Rattle.reo_kinds.specs.declared.shape.Shape.TheVariants.{Double, Merging, Replicating}
-use Rattle.reo_kinds.specs.Tables.{rows_of}
-use Rattle.reo_kinds.specs.Forms.{mark_by, side_count, behaviour_by}
+use Rattle.reo_net_base.specs.declared.branches.Branches.{Branches}
+use Rattle.reo_net_base.specs.Rows.{Rows, mark_in}
+use Rattle.reo_net_base.specs.declared.table.Table.{Table}
+use Rattle.reo_net_base.specs.declared.form.Form.{Form}
+use Rattle.reo_net_base.specs.declared.form.Form.TheVariants.{Double, Merging, Replicating}
+use Rattle.reo_net_base.specs.Tables.{rows_of}
+use Rattle.reo_net_base.specs.Forms.{mark_by}
+use Rattle.reo_kinds.specs.Forms.{side_count, behaviour_by}
 use Rattle.reo_kinds.specs.Kinds.{ready, ready_table, mouth_and_tail}
 use Rattle.reo_kinds.specs.TableTests.{is_table, TableFacts, table_facts}
 use Rattle.reo_kinds.specs.SideLaws.{IsSide, double_side, single_side, merger_side, merger_flow, replicator_side}
@@ -41,12 +42,12 @@ pub record IsGiving (b : Behaviour) : Type 0 where
   pub given_for : (side row end from : ℕ) (item : Value) → GivesAt b side row end → b.from side row end ≡ Some from → IsSome (b.given side row end (Some item))
   pub given_for_none : (side row end from : ℕ) → GivesAt b side row end → b.from side row end ≡ Some from → b.given side row end None ≡ None
 
-module _ (ends : Ends) (shape : ℕ → Shape) (lets_in : ℕ → Value → Bool) (given : Option Value → Option Value) where
+module _ (ends : Ends) (form : ℕ → Form) (lets_in : ℕ → Value → Bool) (given : Option Value → Option Value) where
   -- A primitive keeps the laws where its ends, its sides and its items do.
-  pub lawful_by : AreEnds (behaviour_by ends shape lets_in given)
-      → ((side : ℕ) → side < side_count ends → IsSide (shape side) (IsEndOf (behaviour_by ends shape lets_in given) side))
-      → IsGiving (behaviour_by ends shape lets_in given)
-      → IsLawful (behaviour_by ends shape lets_in given)
+  pub lawful_by : AreEnds (behaviour_by ends form lets_in given)
+      → ((side : ℕ) → side < side_count ends → IsSide (form side) (IsEndOf (behaviour_by ends form lets_in given) side))
+      → IsGiving (behaviour_by ends form lets_in given)
+      → IsLawful (behaviour_by ends form lets_in given)
   lawful_by lie sides items = record {
     some_side = lie.some_side;
     few_sides = lie.few_sides;

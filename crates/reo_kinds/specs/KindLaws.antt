@@ -1,5 +1,5 @@
 -- Each kind keeps the laws of a primitive.
-use Rattle.reo_kinds.specs.declared.shape.Shape.{Shape}
+use Rattle.reo_net_base.specs.declared.form.Form.{Form}
 use Rattle.std.proofs.Common.{is_some, ◌==◌, ℕ, zero, suc, ◌≡◌, ◌≢◌, true, false, Bool, cond, not, nat_lt, ◌<◌, Option, None, refl, sym, ap, ◌∙◌, arith}
 use Rattle.reo_values.specs.declared.value.Value.{Value}
 use Rattle.reo_net_base.specs.declared.mark.Mark.{Mark}
@@ -11,14 +11,15 @@ use Rattle.reo_net_base.specs.Lawful.{IsLawful, SameShape, IsQuiet}
 use Rattle.reo_buffers.specs.Stored.{is_full}
 use Rattle.reo_kinds.specs.declared.kind.Kind.{Kind}
 use Rattle.reo_kinds.specs.declared.kind.Kind.TheVariants.{Writer, Taker, Sync, Lossy, SyncDrain, AsyncDrain, Store, Shift, Variable, Quota, Filter, Map, Merger, Replicator}
-use Rattle.reo_kinds.specs.declared.table.Table.TheVariants as tables
-use Rattle.reo_kinds.specs.Tables.{rows_of}
+use Rattle.reo_net_base.specs.declared.table.Table.TheVariants as tables
+use Rattle.reo_net_base.specs.Tables.{rows_of}
 use Rattle.reo_kinds.specs.TableTests.{is_table}
 use Rattle.reo_kinds.specs.ItemLaws.{Passes, out_lawful, in_lawful, drain_lawful, channel_lawful, kept_lawful, merger_lawful, replicator_lawful}
 use Rattle.reo_kinds.specs.declared.ends.Ends.{Ends}
 use Rattle.reo_kinds.specs.declared.ends.Ends.TheVariants as ends
-use Rattle.reo_kinds.specs.Forms.{end_count, side_count, side_in, takes_at, leads_by}
-use Rattle.reo_kinds.specs.Kinds.{behaviour_of, settled_kind, mouth_and_tail, put_in, shift_in, given_away, replaced, ready, ends_of, shape_of, after, first_flows, second_flows, quota_table, front_of, lets_in, given_of}
+use Rattle.reo_net_base.specs.Forms.{leads_by}
+use Rattle.reo_kinds.specs.Forms.{end_count, side_count, side_in, takes_at}
+use Rattle.reo_kinds.specs.Kinds.{behaviour_of, settled_kind, mouth_and_tail, put_in, shift_in, given_away, replaced, ready, ends_of, form_of, after, first_flows, second_flows, quota_table, front_of, lets_in, given_of}
 
 sync_passes : Passes (rows_of tables.Together)
 sync_passes zero flows = refl
@@ -39,7 +40,7 @@ filter_passes (suc (suc zero)) flows = absurd cc
 filter_passes (suc (suc (suc zero))) flows = absurd cc
 filter_passes (suc (suc (suc (suc row)))) flows = absurd cc
 
-quota_passes : (some_left : Bool) → Passes (rows_of (quota_table some_left))
+pub quota_passes : (some_left : Bool) → Passes (rows_of (quota_table some_left))
 quota_passes true row flows = sync_passes row flows
 quota_passes false zero flows = absurd cc
 quota_passes false (suc row) flows = absurd cc
@@ -73,7 +74,7 @@ ends_stay first second item (Writer port) = refl
 ends_stay first second item _ = refl
 
 -- Neither a mouth nor a tail leads.
-none_leads : (mouth : Bool) (first second : Shape) → leads_by first ≡ false → leads_by second ≡ false → leads_by (cond mouth first second) ≡ false
+none_leads : (mouth : Bool) (first second : Form) → leads_by first ≡ false → leads_by second ≡ false → leads_by (cond mouth first second) ≡ false
 none_leads true first second h k = h
 none_leads false first second h k = k
 
@@ -84,7 +85,7 @@ kept_leads : (free : Bool) (front : Option Value) (free_now : Bool) (front_now :
     → leads_by (mouth_and_tail free front side) ≡ leads_by (mouth_and_tail free_now front_now side)
 kept_leads free front free_now front_now side = keeps_none free front side ∙ sym (keeps_none free_now front_now side)
 
-leads_stay : (first second : Bool) (item : Option Value) (kind : Kind) (side : ℕ) → leads_by (shape_of (after first second item kind) side) ≡ leads_by (shape_of kind side)
+leads_stay : (first second : Bool) (item : Option Value) (kind : Kind) (side : ℕ) → leads_by (form_of (after first second item kind) side) ≡ leads_by (form_of kind side)
 leads_stay first second item (Store buffer) side =
     kept_leads (not (is_full (put_in item (given_away second buffer)))) (front_of (put_in item (given_away second buffer))) (not (is_full buffer)) (front_of buffer) side
 leads_stay first second item (Shift buffer) side = kept_leads true (front_of (shift_in item (given_away second buffer))) true (front_of buffer) side

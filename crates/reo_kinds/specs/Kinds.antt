@@ -19,10 +19,10 @@ use Rattle.reo_kinds.specs.declared.kind.Kind.{Kind}
 use Rattle.reo_kinds.specs.declared.kind.Kind.TheVariants.{Writer, Taker, Sync, Lossy, SyncDrain, AsyncDrain, Store, Shift, Variable, Quota, Filter, Map, Merger, Replicator}
 use Rattle.reo_values.specs.Kind.{is_item}
 use Rattle.reo_kinds.specs.Rules.{accepts, image}
-use Rattle.reo_kinds.specs.declared.table.Table.{Table}
-use Rattle.reo_kinds.specs.declared.table.Table.TheVariants as tables
-use Rattle.reo_kinds.specs.declared.shape.Shape.{Shape}
-use Rattle.reo_kinds.specs.declared.shape.Shape.TheVariants.{Single, Double, Merging, Replicating}
+use Rattle.reo_net_base.specs.declared.table.Table.{Table}
+use Rattle.reo_net_base.specs.declared.table.Table.TheVariants as tables
+use Rattle.reo_net_base.specs.declared.form.Form.{Form}
+use Rattle.reo_net_base.specs.declared.form.Form.TheVariants.{Single, Double, Merging, Replicating}
 use Rattle.reo_kinds.specs.Forms.{behaviour_by}
 
 -- How the ends of a kind lie.
@@ -43,7 +43,7 @@ abbrev pub ready_table : Bool → Table
 ready_table true = tables.Ready
 ready_table false = tables.Resting
 
-abbrev pub ready : Bool → Shape
+abbrev pub ready : Bool → Form
 ready can_flow = Single (ready_table can_flow)
 
 -- The table of a quota, by whether any is left.
@@ -52,7 +52,7 @@ quota_table true = tables.Together
 quota_table false = tables.Spent
 
 -- A mouth and a tail, by whether the mouth can flow and by the item that the tail gives, if there is one.
-abbrev pub mouth_and_tail : Bool → Option Value → ℕ → Shape
+abbrev pub mouth_and_tail : Bool → Option Value → ℕ → Form
 mouth_and_tail free front side = cond (side == 0) (ready free) (ready (is_some front))
 
 -- The front of a buffer.
@@ -60,21 +60,21 @@ abbrev pub front_of : Stored → Option Value
 front_of buffer = slice_get buffer.items 0
 
 -- The side of this number of a kind, in its present state.
-abbrev pub shape_of : Kind → ℕ → Shape
-shape_of (Writer port) side = ready (is_some port.offer)
-shape_of (Taker port) side = ready port.pending
-shape_of Sync side = Double tables.Together
-shape_of Lossy side = Double tables.Lossy
-shape_of SyncDrain side = Double tables.Together
-shape_of AsyncDrain side = Double tables.OneOfTwo
-shape_of (Store buffer) side = mouth_and_tail (not (is_full buffer)) (front_of buffer) side
-shape_of (Shift buffer) side = mouth_and_tail true (front_of buffer) side
-shape_of (Variable held) side = mouth_and_tail true held side
-shape_of (Quota left) side = Double (quota_table (nat_lt 0 left))
-shape_of (Filter rule) side = Double tables.Filter
-shape_of (Map rule) side = Double tables.Together
-shape_of (Merger branches) side = Merging branches
-shape_of (Replicator branches) side = Replicating branches
+abbrev pub form_of : Kind → ℕ → Form
+form_of (Writer port) side = ready (is_some port.offer)
+form_of (Taker port) side = ready port.pending
+form_of Sync side = Double tables.Together
+form_of Lossy side = Double tables.Lossy
+form_of SyncDrain side = Double tables.Together
+form_of AsyncDrain side = Double tables.OneOfTwo
+form_of (Store buffer) side = mouth_and_tail (not (is_full buffer)) (front_of buffer) side
+form_of (Shift buffer) side = mouth_and_tail true (front_of buffer) side
+form_of (Variable held) side = mouth_and_tail true held side
+form_of (Quota left) side = Double (quota_table (nat_lt 0 left))
+form_of (Filter rule) side = Double tables.Filter
+form_of (Map rule) side = Double tables.Together
+form_of (Merger branches) side = Merging branches
+form_of (Replicator branches) side = Replicating branches
 
 -- A filter's row 0, which passes items on, lets in what is accepted, and row 1, which loses them, what is not.
 abbrev pub filter_lets_in : Bool → ℕ → Bool
@@ -99,7 +99,7 @@ given_of _ taken = taken
 
 -- The table of a kind in its present state.
 abbrev pub behaviour_of : Kind → Behaviour
-behaviour_of kind = behaviour_by (ends_of kind) (shape_of kind) (lets_in kind) (given_of kind)
+behaviour_of kind = behaviour_by (ends_of kind) (form_of kind) (lets_in kind) (given_of kind)
 
 -- A writer with nothing offered, and a taker with no take pending or with one.
 abbrev pub unoffered : WriterPort → WriterPort

@@ -2,9 +2,6 @@ pub mod Items
 pub mod Predicates
 pub mod Rules
 pub mod Given
-pub mod Rows
-pub mod Tables
-pub mod Branching
 pub mod Forms
 pub mod Kinds
 pub mod TableTests
@@ -13,3 +10,5 @@ pub mod ItemLaws
 pub mod KindLaws
 pub mod PortStateLaws
 pub mod RuleOfClasses
+pub mod Telling
+pub mod TellingLaws

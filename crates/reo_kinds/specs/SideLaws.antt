@@ -5,21 +5,21 @@ use Rattle.std.proofs.Math.Nat.{mod-lt, mod-eq_of_lt, mod-eq-sub-mod}
 use Rattle.std.proofs.Math.ListN.{get_or-eq_default}
 use Rattle.reo_net_base.specs.declared.mark.Mark.{Mark}
 use Rattle.reo_net_base.specs.declared.mark.Mark.TheVariants.{F, J}
-use Rattle.reo_kinds.specs.Rows.{Rows, mark_in}
-use Rattle.reo_kinds.specs.Branching.{merger_mark, merger_class, beginning}
-use Rattle.reo_kinds.specs.declared.kind.Branches.{Branches}
-use Rattle.reo_kinds.specs.declared.table.Table.{Table}
-use Rattle.reo_kinds.specs.declared.shape.Shape.{Shape}
-use Rattle.reo_kinds.specs.declared.shape.Shape.TheVariants.{Single, Double, Merging, Replicating}
-use Rattle.reo_kinds.specs.Tables.{rows_of}
-use Rattle.reo_kinds.specs.Forms.{rows_by, mark_by, class_by, groups_by, group_by, common_by, apart_by}
+use Rattle.reo_net_base.specs.Rows.{Rows, mark_in}
+use Rattle.reo_net_base.specs.Branching.{merger_mark, merger_class, beginning}
+use Rattle.reo_net_base.specs.declared.branches.Branches.{Branches}
+use Rattle.reo_net_base.specs.declared.table.Table.{Table}
+use Rattle.reo_net_base.specs.declared.form.Form.{Form}
+use Rattle.reo_net_base.specs.declared.form.Form.TheVariants.{Single, Double, Merging, Replicating}
+use Rattle.reo_net_base.specs.Tables.{rows_of}
+use Rattle.reo_net_base.specs.Forms.{rows_by, mark_by, class_by, groups_by, group_by, common_by, apart_by}
 use Rattle.reo_kinds.specs.TableTests.{TableFacts}
 
-abbrev pub FlowsBy : Shape → (ℕ → Type 0) → ℕ → ℕ → Type 0
+abbrev pub FlowsBy : Form → (ℕ → Type 0) → ℕ → ℕ → Type 0
 FlowsBy form IsIn row other = (end : ℕ) → IsIn end → mark_by form row end ≡ F → mark_by form other end ≡ F
 
 -- The laws of a table at the ends of its side.
-pub record IsSide (form : Shape) (IsIn : ℕ → Type 0) : Type 0 where
+pub record IsSide (form : Form) (IsIn : ℕ → Type 0) : Type 0 where
   pub some_row : 0 < rows_by form
   pub few_rows : rows_by form < 2 ^ 32
   pub jam_row : (row end : ℕ) → IsIn end → row + 1 ≡ rows_by form → mark_by form row end ≡ J

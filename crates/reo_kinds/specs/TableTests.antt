@@ -5,7 +5,7 @@ use Rattle.std.proofs.lemmas.Bool.Decides.{nat_tests}
 use Rattle.reo_net_base.specs.declared.mark.Mark.{Mark}
 use Rattle.reo_net_base.specs.declared.mark.Mark.TheVariants.{F, G, R, J}
 use Rattle.reo_net_base.specs.Marks.{is_flow}
-use Rattle.reo_kinds.specs.Rows.{Rows, mark_in, class_in, distinct_rows, same_flow}
+use Rattle.reo_net_base.specs.Rows.{Rows, mark_in, class_in, distinct_rows, same_flow}
 
 -- Whether the test holds of all numbers below n.
 abbrev pub all_below : ℕ → (ℕ → Bool) → Bool

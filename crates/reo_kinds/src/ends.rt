@@ -3,7 +3,8 @@ ghost use Rattle.std.specs.Prelude.{◌≡◌};
 ghost use Rattle.reo_kinds.specs.Forms.{end_count, side_count, side_in, takes_at, decides_in};
 ghost use Rattle.reo_kinds.specs.Kinds.{ends_of};
 
-use crate::kind::{Branches, Kind};
+use crate::kind::Kind;
+use reo_net_base::Branches;
 
 /// How the ends of a kind lie.
 #[derive(Clone, Copy)]

@@ -7,6 +7,7 @@ ghost use Rattle.reo_kinds.specs.Predicates.{IsPredicate, IsTyped-prop};
 
 use reo_buffers::Buffer;
 use reo_exprs::Expr;
+use reo_net_base::Branches;
 use reo_values::{Kindred, Value};
 
 /// A primitive: a port, a channel, or what joins several ends at one node.
@@ -76,14 +77,6 @@ pub struct MapRule {
     pub ghost typed: { IsTyped expr of } by { IsTyped-prop of-code expr of },
 }
 
-/// How many inputs a merger has, or outputs a replicator: 2 to 8,192.
-#[derive(Clone, Copy, Debug)]
-pub struct Branches {
-    pub count: usize,
-    pub ghost some: { 2 ≤ count },
-    pub ghost few: { count ≤ 8192 },
-}
-
 impl WriterPort {
     /// A port for items of this type, with no offer pending.
     pub fn new(kindred: Kindred) -> Self
@@ -137,16 +130,5 @@ impl MapRule {
         ensures expr { result.expr ≡ expr }
     {
         MapRule { of, expr }
-    }
-}
-
-impl Branches {
-    /// So many branches.
-    pub fn new(count: usize) -> Self
-        requires some { 2 ≤ count }
-        requires few { count ≤ 8192 }
-        ensures { result.count ≡ count }
-    {
-        Branches { count }
     }
 }

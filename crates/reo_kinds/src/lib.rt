@@ -1,8 +1,8 @@
 //! The primitives of Reo circuits, by their literal tables.
 #![tactic(auto)]
 
-mod branching;
 mod ends;
+mod form;
 mod given;
 mod kind;
 mod laws;
@@ -11,8 +11,8 @@ mod port;
 mod primitive;
 mod rule;
 mod settle;
-mod shape;
-mod table;
+mod telling;
 
-pub use kind::{Branches, FilterRule, Kind, MapRule, TakerPort, WriterPort};
+pub use kind::{FilterRule, Kind, MapRule, TakerPort, WriterPort};
 pub use laws::classes_by_rule;
+pub use reo_net_base::Branches;

@@ -1,10 +1,11 @@
 //! The kinds as ports.
 ghost use Rattle.reo_kinds.specs.Kinds.{port_state_of, placed_kind, withdrawn_kind};
+ghost use Rattle.reo_kinds.specs.TellingLaws.{placed_kind_lasting, placed_kind_tables, withdrawn_kind_lasting, withdrawn_kind_tables};
 ghost use Rattle.reo_kinds.specs.PortStateLaws.{no_port_kind, placed_kind_port, placed_kind_shape, withdrawn_kind_port, withdrawn_kind_shape, placed_kind_again, settled_kind_port};
 
 use crate::kind::Kind;
 use crate::offer;
-use reo_net_base::{Offer, Ported, Way};
+use reo_net_base::{Offer, Ported, Restoring, Way};
 use reo_values::{Value, is_in};
 
 impl Ported for Kind {
@@ -59,11 +60,21 @@ impl Ported for Kind {
 
     ghost placed_shape = { placed_kind_shape };
 
+    ghost placed_lasting = { placed_kind_lasting };
+
+    ghost placed_tables = { placed_kind_tables };
+
     ghost withdrawn_port = { withdrawn_kind_port };
 
     ghost withdrawn_shape = { withdrawn_kind_shape };
 
-    ghost placed_again = { placed_kind_again };
+    ghost withdrawn_lasting = { withdrawn_kind_lasting };
+
+    ghost withdrawn_tables = { withdrawn_kind_tables };
 
     ghost settled_port = { settled_kind_port };
+}
+
+impl Restoring for Kind {
+    ghost placed_again = { placed_kind_again };
 }

@@ -2,9 +2,9 @@
 ghost use Rattle.std.specs.Prelude.{◌≡◌, ◌-◌, cond, None};
 ghost use Rattle.reo_kinds.specs.Kinds.{first_flows, second_flows, after, given_away, put_in, shift_in, replaced};
 
+use crate::form::form_of;
 use crate::kind::Kind;
 use crate::offer;
-use crate::shape::shape_of;
 use reo_buffers::Buffer;
 use reo_net_base::Chosen;
 use reo_values::Value;
@@ -63,14 +63,14 @@ fn lower(left: &mut u32, flows: bool)
 pub fn first_flows(kind: &Kind, rows: Chosen) -> bool
     ensures { result ≡ first_flows kind.now rows }
 {
-    shape_of(kind, 0).mark(rows.first, 0).is_flow()
+    form_of(kind, 0).mark(rows.first, 0).is_flow()
 }
 
 /// Whether the tail flows by its row.
 pub fn second_flows(kind: &Kind, rows: Chosen) -> bool
     ensures { result ≡ second_flows kind.now rows }
 {
-    shape_of(kind, 1).mark(rows.second, 1).is_flow()
+    form_of(kind, 1).mark(rows.second, 1).is_flow()
 }
 
 /// The item, if its end flows.

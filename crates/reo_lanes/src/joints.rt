@@ -6,9 +6,9 @@ use crate::LANES;
 use crate::matched::{broken_lanes, bytes_match};
 use std::simd::prelude::*;
 
-/// The least place at which `left` and `right` break the joint rule, `None` where there is none. A byte
-/// is a mark: 1 is flow, 2 gives a reason, 4 requires a reason, 8 is jam; any other counts as 4 does.
-/// Both lists have the same length, which may be any. This takes no memory.
+/// The least place at which `left` and `right` break the joint rule, `None` where there is none. A
+/// byte is a mark: 1 is flow, 2 gives a reason, 4 requires a reason, 8 is jam; any other counts as
+/// 4 does. Both lists have the same length, which may be any. This takes no memory.
 pub fn joints_match(left: &[u8], right: &[u8]) -> Option<usize>
     requires { length left.now ≡ length right.now }
     ensures { MatchOption result (MatchBetween left.now right.now 0 (length left.now))

@@ -6,9 +6,9 @@ ghost use Rattle.reo_lanes.specs.Rows.{kept_row, kept_rows, KeptBetween};
 use crate::LANES;
 use std::simd::prelude::*;
 
-/// Clears each row whose cell shares no bit with `allowed`: `live[i]` becomes 0 where
-/// `column[i] & allowed` is 0, and stays otherwise. Both lists have the same length, which may be any.
-/// This takes no memory.
+/// Clears each row whose cell shares no bit with `allowed`: `live[i]` becomes 0 where `column[i] &
+/// allowed` is 0, and stays otherwise. Both lists have the same length, which may be any. This
+/// takes no memory.
 pub fn keep_rows(column: &[u8], allowed: u8, live: &mut [u8])
     requires { length column.now ≡ length live.old }
     ensures { live.new ≡ kept_rows column.now allowed live.old }

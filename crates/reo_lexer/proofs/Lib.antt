@@ -8,6 +8,7 @@ pub mod Once
 pub mod Found
 pub mod Reading
 pub mod Next
+pub mod Exists
 pub mod Spans
 pub mod Cut
 pub mod Onward

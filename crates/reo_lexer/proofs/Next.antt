@@ -26,7 +26,7 @@ below text at n h i j =
     let e : length (from text at) ≡ length text - at = ap length (from-drop text at h) ∙ length-drop at text in omega arith
 
 -- What stands behind a gap begins with no space and no `#`.
-behind-stops : (y : Bool) (bs : List ℕ) (b : ℕ) (r : List ℕ) → behind y bs ≡ b ∷ r → (is_space b ≡ false) × ((b == 35) ≡ false)
+pub behind-stops : (y : Bool) (bs : List ℕ) (b : ℕ) (r : List ℕ) → behind y bs ≡ b ∷ r → (is_space b ≡ false) × ((b == 35) ≡ false)
 behind-stops true [] b r e = absurd (cc)
 behind-stops false [] b r e = absurd (cc)
 behind-stops true (x ∷ bs) b r e = behind-stops (is_no_lf x) bs b r e

@@ -9,7 +9,9 @@ mod parts;
 mod token;
 mod words;
 
-pub use laws::{one_reading, real_tokens_follow, refusals_of_texts, tokens_of_front};
+pub use laws::{
+    each_text_is_read, one_reading, real_tokens_follow, refusals_of_texts, tokens_of_front,
+};
 pub use lexer::lex;
 pub use reo_grammar::TokenKind;
 pub use token::{LexFault, Token};

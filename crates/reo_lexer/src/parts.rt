@@ -79,7 +79,8 @@ pub struct Inside {
 /// The inside of a text in quotes, from the byte behind the opening quote on.
 pub fn inside_of(left: &[u8]) -> Inside
     ensures within { result.length ≤ length left.now }
-    ensures rest { inside false left.now ≡ record { escape = result.escape; left = drop result.length left.now } }
+    ensures rest { inside false left.now
+        ≡ record { escape = result.escape; left = drop result.length left.now } }
 {
     let mut escape = false;
     for (index, byte) in left.iter().enumerate() {

@@ -23,7 +23,8 @@ pub enum LexFault {
     /// A byte that begins no token, or one in a text in quotes that may not stand there; its line.
     #[error("line {line}: bad byte")]
     BadByte { line: u32 },
-    /// A text in quotes meets LF, CR or the end before its closing quote; the line of the opening one.
+    /// A text in quotes meets LF, CR or the end before its closing quote; the line of the opening
+    /// one.
     #[error("line {line}: open text")]
     OpenText { line: u32 },
     /// More than 18 digits in a row; their line.

@@ -1,7 +1,9 @@
-//! Circuits of primitives, and their colourings: what a caller of the net floor needs, in one place.
+//! Circuits of primitives, and their colourings: what a caller of the net floor needs, in one
+//! place.
 //!
 //! A [`Circuit`] is made from primitives and joints, or refused with a [`NetFault`]. Its colourings
-//! are compared and filled, the first one is found, it steps by it, and its ports take offers.
+//! are compared and filled, the first one is found, it steps by it, and its ports take offers. A
+//! [`Supply`] has the items that can stand at its joints.
 #![tactic(auto)]
 
 pub use reo_net_base::{
@@ -11,3 +13,4 @@ pub use reo_net_base::{
 pub use reo_net_circuit::{Circuit, NetFault, SideOwner, are_parts, moves};
 pub use reo_net_colouring::{are_moves, colour, compare, fill, is_colouring};
 pub use reo_net_plain::plain_first;
+pub use reo_reach::Supply;

@@ -7,7 +7,8 @@ pub struct End {
     pub end: usize,
 }
 
-/// Two ends that are joined at a node: items leave the circuit's one primitive at the giver and enter another at the taker.
+/// Two ends that are joined at a node: items leave the circuit's one primitive at the giver and
+/// enter another at the taker.
 #[derive(Clone, Copy, Debug, PartialEq, Eq)]
 pub struct Joint {
     pub giver: End,

@@ -1,14 +1,24 @@
-//! What stands in a circuit: the primitives by their behaviour, the joints between their ends, and what a colouring is.
+//! What stands in a circuit: the primitives by their behaviour, the joints between their ends, and
+//! what a colouring is.
 #![tactic(auto)]
 
+mod branches;
+mod branching;
 mod colouring;
+mod form;
 mod joint;
+mod laws;
 mod mark;
 mod port;
 mod primitive;
+mod table;
 
+pub use branches::Branches;
 pub use colouring::{Chosen, Colouring, Move};
+pub use form::Form;
 pub use joint::{End, Joint};
+pub use laws::{one_number_one_table, own_groups_are_groups};
 pub use mark::{Mark, marks_match};
-pub use port::{Offer, Port, Ported, Ports, Way};
+pub use port::{Offer, Port, Ported, Ports, Restoring, Way};
 pub use primitive::Primitive;
+pub use table::Table;

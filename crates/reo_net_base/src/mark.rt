@@ -24,7 +24,8 @@ impl Mark {
     }
 }
 
-/// The joint rule: both ends flow, or both jam, or neither flows or jams and at least one gives a reason.
+/// The joint rule: both ends flow, or both jam, or neither flows or jams and at least one gives a
+/// reason.
 pub fn marks_match(giver: Mark, taker: Mark) -> bool
     ensures { result ≡ marks_match giver taker }
 {

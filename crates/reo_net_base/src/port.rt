@@ -4,6 +4,7 @@ ghost use Rattle.reo_values.specs.declared.value.Value.{Value as Item};
 ghost use Rattle.reo_net_base.specs.declared.colouring.Chosen.{Chosen as Rows};
 ghost use Rattle.reo_net_base.specs.declared.port.Offer.{Offer as Offered};
 ghost use Rattle.reo_net_base.specs.Marks.{is_flow};
+ghost use Rattle.reo_net_base.specs.Lasting.{KeepsTables};
 ghost use Rattle.reo_net_base.specs.Lawful.{SameShape};
 ghost use Rattle.reo_net_base.specs.PortState.{PortState, CanPlace, IsPortWith};
 
@@ -75,18 +76,41 @@ pub trait Ported: Primitive {
     ghost no_port: { (p : Self) → (port_state p).way ≡ None → (port_state p).pending ≡ None };
 
     /// An offer that is placed is pending, and the rest stays.
-    ghost placed_port: { (p : Self) (offer : Offered) → CanPlace (port_state p) offer → IsPortWith (port_state p) (port_state (placed p offer)) (Some offer) };
+    ghost placed_port: { (p : Self) (offer : Offered) → CanPlace (port_state p) offer
+        → IsPortWith (port_state p) (port_state (placed p offer)) (Some offer) };
 
-    ghost placed_shape: { (p : Self) (offer : Offered) → SameShape (Self.behaviour p) (Self.behaviour (placed p offer)) };
+    ghost placed_shape: { (p : Self) (offer : Offered)
+        → SameShape (Self.behaviour p) (Self.behaviour (placed p offer)) };
+
+    ghost placed_lasting: { (p : Self) (offer : Offered)
+        → Self.lasting (placed p offer) ≡ Self.lasting p };
+
+    ghost placed_tables: { (p : Self) (offer : Offered)
+        → KeepsTables (Self.lasting p) (Self.behaviour p) (Self.behaviour (placed p offer)) };
 
     /// After a withdrawal nothing is pending, and the rest stays.
-    ghost withdrawn_port: { (p : Self) → IsPortWith (port_state p) (port_state (withdrawn p)) None };
+    ghost withdrawn_port: { (p : Self)
+        → IsPortWith (port_state p) (port_state (withdrawn p)) None };
 
-    ghost withdrawn_shape: { (p : Self) → SameShape (Self.behaviour p) (Self.behaviour (withdrawn p)) };
+    ghost withdrawn_shape: { (p : Self)
+        → SameShape (Self.behaviour p) (Self.behaviour (withdrawn p)) };
 
-    /// An offer that is taken back and placed again is as if it had stayed.
-    ghost placed_again: { (p : Self) (offer : Offered) → (port_state p).pending ≡ Some offer → placed (withdrawn p) offer ≡ p };
+    ghost withdrawn_lasting: { (p : Self) → Self.lasting (withdrawn p) ≡ Self.lasting p };
+
+    ghost withdrawn_tables: { (p : Self)
+        → KeepsTables (Self.lasting p) (Self.behaviour p) (Self.behaviour (withdrawn p)) };
 
     /// After a round the offer is gone where the port flowed, and else as it was. The rest stays.
-    ghost settled_port: { (p : Self) (rows : Rows) (taken : Option Item) → IsPortWith (port_state p) (port_state (Self.settled p rows taken)) (cond (is_flow ((Self.behaviour p).mark 0 rows.first 0)) None (port_state p).pending) };
+    ghost settled_port: { (p : Self) (rows : Rows) (taken : Option Item)
+        → IsPortWith (port_state p) (port_state (Self.settled p rows taken))
+        (cond (is_flow ((Self.behaviour p).mark 0 rows.first 0)) None (port_state p).pending) };
+}
+
+/// Ports at which an offer that is taken back leaves nothing behind. Only runs ask for it: they
+/// take an offer back where its action gives up, and place the offers of the next round anew.
+pub trait Restoring: Ported {
+    /// An offer that is taken back and placed again is as if it had stayed.
+    ghost placed_again: { (p : Self) (offer : Offered)
+        → (Self.port_state p).pending ≡ Some offer
+        → Self.placed (Self.withdrawn p) offer ≡ p };
 }

@@ -1,5 +1,6 @@
 -- One primitive changes.
-use Rattle.std.proofs.Common.{◌≡◌, ◌≢◌, inl, inr, Option, ℕ, zero, suc, ◌<◌, List, [], ◌∷◌, length, map, get_or, set, refl, ap, arith}
+use Rattle.std.proofs.Common.{◌≡◌, ◌≢◌, inl, inr, Option, ℕ, zero, suc, ◌<◌, List, [], ◌∷◌, length, map, get_or, set, refl, sym, ap, ◌∙◌, arith}
+use Rattle.std.proofs.lemmas.List.{length-map}
 use Rattle.reo_net_base.specs.Behaviour.{Behaviour}
 use Rattle.reo_net_base.specs.Lawful.{SameShape}
 use Rattle.reo_net_base.specs.Net.{behaviour_at}
@@ -36,6 +37,29 @@ module _ {P : Type 0} (behaviour : P → Behaviour) (f : P → P) (law : (p : P)
 
   pub changed : (ps : List P) (i : ℕ) → SameShapes (map behaviour ps) (map behaviour (change_at f ps i))
   changed ps i = record { count = count ps i; same = λ k lt. same ps i k }
+
+-- One primitive is replaced by another of its shape.
+module _ {P : Type 0} (behaviour : P → Behaviour) (q : P) where
+  put_same : (ps : List P) (i k : ℕ) → SameShape (behaviour_at (map behaviour ps) i) (behaviour q)
+      → SameShape (behaviour_at (map behaviour ps) k) (behaviour_at (map behaviour (change_at (λ _. q) ps i)) k)
+  put_same [] i k law = same_shape (behaviour_at [] k)
+  put_same (p ∷ ps) zero zero law = law
+  put_same (p ∷ ps) zero (suc k) law = same_shape (behaviour_at (map behaviour ps) k)
+  put_same (p ∷ ps) (suc i) zero law = same_shape (behaviour p)
+  put_same (p ∷ ps) (suc i) (suc k) law = put_same ps i k law
+
+  pub replaced : (ps : List P) (i : ℕ) → SameShape (behaviour_at (map behaviour ps) i) (behaviour q)
+      → SameShapes (map behaviour ps) (map behaviour (change_at (λ _. q) ps i))
+  replaced ps i law = record {
+    count = length-map (change_at (λ _. q) ps i) behaviour ∙ change_length (λ _. q) ps i ∙ sym (length-map ps behaviour);
+    same = λ k lt. put_same ps i k law;
+  }
+
+  -- What is put is read there.
+  pub put_here : (port_state : P → PortState) (ps : List P) (i : ℕ) → i < length ps → port_state_at (map port_state (change_at (λ _. q) ps i)) i ≡ port_state q
+  put_here port_state [] i lt = absurd (omega arith)
+  put_here port_state (p ∷ ps) zero lt = refl
+  put_here port_state (p ∷ ps) (suc i) lt = put_here port_state ps i (omega arith)
 
 -- The states after one primitive changed.
 module _ {P : Type 0} (port_state : P → PortState) (f : P → P) where

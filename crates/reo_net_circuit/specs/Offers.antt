@@ -42,3 +42,8 @@ ShapeAfterRound behaviour settled port_state w =
 pub record OnlyPort (old new : List PortState) (port : ℕ) (pending : Option Offer) : Type 0 where
   pub here : IsPortWith (port_state_at old port) (port_state_at new port) pending
   pub others : (i : ℕ) → i ≢ port → port_state_at new i ≡ port_state_at old i
+
+-- The same ports, but that one is in this state.
+pub record OnlyState (old new : List PortState) (index : ℕ) (state : PortState) : Type 0 where
+  pub here : port_state_at new index ≡ state
+  pub others : (i : ℕ) → i ≢ index → port_state_at new i ≡ port_state_at old i

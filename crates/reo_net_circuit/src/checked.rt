@@ -61,7 +61,8 @@ fn ordered<P: Primitive>(
     joints: &[Joint],
 ) -> Result<List<usize>, NetFault>
     requires joints { AreJoints (net_of P.behaviour (wiring_of primitives.now 0 joints.now)) }
-    requires layout { IsLaidOut (map P.behaviour primitives.now) layout.now.firsts layout.now.owners }
+    requires layout { IsLaidOut
+        (map P.behaviour primitives.now) layout.now.firsts layout.now.owners }
     requires joined { AllJoined (net_of P.behaviour (wiring_of primitives.now 0 joints.now)) }
     requires right { AllRight (net_of P.behaviour (wiring_of primitives.now 0 joints.now)) }
     ensures { let net = net_of P.behaviour (wiring_of primitives.now 0 joints.now) in

@@ -4,6 +4,7 @@ ghost use Rattle.std.specs.List.{position_or_len};
 ghost use Rattle.reo_net_order.specs.Arrows.{NoCycle};
 ghost use Rattle.reo_net_base.specs.declared.joint.Joint.{Joint as JointEnds};
 ghost use Rattle.reo_net_base.specs.Net.{net_of, all_sides, behaviour_at, first_side, side_at, side_of_end, Side, end_of, is_at, from_sides, to_sides};
+ghost use Rattle.reo_net_base.specs.Lawful.{SameShape};
 ghost use Rattle.reo_net_base.specs.Colouring.{IsColouring};
 ghost use Rattle.reo_net_base.specs.Wired.{IsWired, IsEnd, IsOrder, ArePorts};
 ghost use Rattle.reo_net_base.specs.Step.{stepped, change_at};
@@ -11,13 +12,13 @@ ghost use Rattle.reo_net_base.specs.Shapes.{SameNetShape, SamePortedShape};
 ghost use Rattle.reo_net_base.specs.PortState.{CanPlace, port_state_at};
 ghost use Rattle.reo_net_circuit.specs.Parts.{wiring_of, AreJoints};
 ghost use Rattle.reo_net_circuit.specs.Layout.{IsLaidOut};
-ghost use Rattle.reo_net_circuit.specs.Offers.{OnlyPort};
+ghost use Rattle.reo_net_circuit.specs.Offers.{OnlyPort, OnlyState};
 ghost use Rattle.reo_net_circuit.specs.Fault.{HasNoFault, IsNetFault};
 
 use crate::checked::{Tables, tables_of};
 use crate::fault::NetFault;
 use crate::layout::SideOwner;
-use crate::ports::{place_at, withdraw_at};
+use crate::ports::{place_at, put_at, withdraw_at};
 use crate::step::step_all;
 use reo_net_base::{Colouring, End, Joint, Offer, Ported, Primitive};
 use reo_net_order::order_has_no_cycle;
@@ -47,7 +48,8 @@ impl<P: Primitive> Model for Circuit<P> {
 
     ghost view = { λ a. wiring_of a.primitives.items a.ports a.joints };
 
-    ghost invariant = { λ a. IsCircuit P.behaviour (wiring_of a.primitives.items a.ports a.joints) a.tables };
+    ghost invariant = { λ a. IsCircuit P.behaviour
+        (wiring_of a.primitives.items a.ports a.joints) a.tables };
 }
 
 impl<P: Primitive> Circuit<P> {
@@ -90,7 +92,8 @@ impl<P: Primitive> Circuit<P> {
     /// 2^31 primitives, so also ports, and fewer than 2^31 joints.
     pub fn known(&self)
         ensures wired { IsWired (net_of P.behaviour self.now) }
-        ensures no_cycle { let net = net_of P.behaviour self.now in NoCycle (from_sides net) (to_sides net) }
+        ensures no_cycle { let net = net_of P.behaviour self.now in NoCycle (from_sides net)
+            (to_sides net) }
         ensures few_primitives { length self.now.primitives < 2 ^ 31 }
         ensures few_ports { self.now.ports < 2 ^ 31 }
         ensures few_joints { length self.now.joints < 2 ^ 31 }
@@ -117,7 +120,8 @@ impl<P: Primitive> Circuit<P> {
     pub fn primitive(&self, index: usize) -> &P
         requires { index < length self.now.primitives }
         ensures value { result.now ≡ slice_index_or self.now.primitives index result.now }
-        ensures behaviour { P.behaviour result.now ≡ behaviour_at (net_of P.behaviour self.now).primitives index }
+        ensures behaviour { P.behaviour result.now ≡ behaviour_at
+            (net_of P.behaviour self.now).primitives index }
     {
         &self.primitives[index]
     }
@@ -169,9 +173,17 @@ impl<P: Primitive> Circuit<P> {
     pub fn owner(&self, side: usize) -> SideOwner
         requires { side < length (all_sides (net_of P.behaviour self.now).primitives) }
         ensures primitive { result.primitive < length self.now.primitives }
-        ensures side { result.side < (behaviour_at (net_of P.behaviour self.now).primitives result.primitive).sides }
-        ensures place { side ≡ first_side (net_of P.behaviour self.now).primitives result.primitive + result.side }
-        ensures owner { (e : Side) → slice_index_or (all_sides (net_of P.behaviour self.now).primitives) side e ≡ record { of = behaviour_at (net_of P.behaviour self.now).primitives result.primitive; number = result.side } }
+        ensures side { result.side <
+            (behaviour_at (net_of P.behaviour self.now).primitives result.primitive).sides }
+        ensures place { side ≡ first_side (net_of P.behaviour self.now).primitives result.primitive
+            + result.side }
+        ensures owner { (e : Side)
+            → slice_index_or (all_sides (net_of P.behaviour self.now).primitives) side e
+            ≡ record {
+              of = behaviour_at
+                  (net_of P.behaviour self.now).primitives result.primitive;
+              number = result.side;
+            } }
     {
         self.stands(side)
     }
@@ -180,8 +192,10 @@ impl<P: Primitive> Circuit<P> {
     fn stands(&self, side: usize) -> SideOwner
         requires { side < length (all_sides (net_of P.behaviour self.now).primitives) }
         ensures primitive { result.primitive < length self.now.primitives }
-        ensures side { result.side < (behaviour_at (net_of P.behaviour self.now).primitives result.primitive).sides }
-        ensures place { side ≡ first_side (net_of P.behaviour self.now).primitives result.primitive + result.side }
+        ensures side { result.side <
+            (behaviour_at (net_of P.behaviour self.now).primitives result.primitive).sides }
+        ensures place { side ≡ first_side (net_of P.behaviour self.now).primitives result.primitive
+            + result.side }
     {
         *self.tables.owners.at(side)
     }
@@ -200,7 +214,9 @@ impl<P: Primitive> Circuit<P> {
         requires { IsEnd (net_of P.behaviour self.now).primitives end }
         ensures number { result ≡ side_at (net_of P.behaviour self.now) end }
         ensures in_range { result < length (all_sides (net_of P.behaviour self.now).primitives) }
-        ensures side { (e : Side) → slice_index_or (all_sides (net_of P.behaviour self.now).primitives) result e ≡ side_of_end (net_of P.behaviour self.now) end }
+        ensures side { (e : Side)
+            → slice_index_or (all_sides (net_of P.behaviour self.now).primitives) result e
+            ≡ side_of_end (net_of P.behaviour self.now) end }
     {
         self.known();
         let _sides = self.sides();
@@ -224,7 +240,8 @@ impl<P: Primitive> Circuit<P> {
     /// circuit stays. This takes no memory.
     pub fn step(&mut self, colouring: Colouring)
         requires { IsColouring (net_of P.behaviour self.old) colouring.rows colouring.items }
-        ensures circuit { let primitives = stepped P.behaviour P.settled self.old colouring.rows colouring.items in
+        ensures circuit { let primitives = stepped P.behaviour P.settled self.old
+            colouring.rows colouring.items in
             self.new ≡ record self.old { primitives = primitives } }
         ensures shape { SameNetShape P.behaviour self.old self.new }
     {
@@ -244,10 +261,16 @@ impl<P: Ported> Circuit<P> {
     /// Makes this the pending offer of a port. All else stays. This takes no memory.
     pub fn place(&mut self, port: usize, offer: Offer)
         requires port { port < self.old.ports }
-        requires offer { CanPlace (port_state_at (map P.port_state self.old.primitives) port) offer }
-        ensures circuit { self.new ≡ record self.old { primitives = change_at (λ p. P.placed p offer) self.old.primitives port } }
+        requires offer { CanPlace
+            (port_state_at (map P.port_state self.old.primitives) port) offer }
+        ensures circuit { self.new
+            ≡ record self.old {
+              primitives = change_at
+                  (λ p. P.placed p offer) self.old.primitives port;
+            } }
         ensures shape { SamePortedShape P.behaviour P.port_state self.old self.new }
-        ensures offers { OnlyPort (map P.port_state self.old.primitives) (map P.port_state self.new.primitives) port (Some offer) }
+        ensures offers { OnlyPort (map P.port_state self.old.primitives)
+            (map P.port_state self.new.primitives) port (Some offer) }
     {
         place_at(self.primitives.as_mut_slice(), port, offer);
     }
@@ -255,11 +278,34 @@ impl<P: Ported> Circuit<P> {
     /// Takes the pending offer of a port back. All else stays. This takes no memory.
     pub fn withdraw(&mut self, port: usize)
         requires port { port < self.old.ports }
-        requires pending { IsSome (port_state_at (map P.port_state self.old.primitives) port).pending }
-        ensures circuit { self.new ≡ record self.old { primitives = change_at P.withdrawn self.old.primitives port } }
+        requires pending { IsSome (port_state_at
+            (map P.port_state self.old.primitives) port).pending }
+        ensures circuit { self.new
+            ≡ record self.old { primitives = change_at P.withdrawn self.old.primitives port } }
         ensures shape { SamePortedShape P.behaviour P.port_state self.old self.new }
-        ensures offers { OnlyPort (map P.port_state self.old.primitives) (map P.port_state self.new.primitives) port None }
+        ensures offers { OnlyPort (map P.port_state self.old.primitives)
+            (map P.port_state self.new.primitives) port None }
     {
         withdraw_at(self.primitives.as_mut_slice(), port);
+    }
+
+    /// Puts a primitive in place of one that has its shape, which is handed back. The shape of the
+    /// circuit stays, each other primitive stays with its offer, and in place of what the old
+    /// primitive was as a port there is what the new one is. This takes no memory.
+    pub fn put(&mut self, index: usize, primitive: P) -> P
+        requires index { index < length self.old.primitives }
+        requires shape { SameShape (behaviour_at (net_of P.behaviour self.old).primitives index)
+            (P.behaviour primitive) }
+        ensures circuit { self.new
+            ≡ record self.old {
+              primitives = change_at
+                  (λ _. primitive) self.old.primitives index;
+            } }
+        ensures before { result ≡ slice_index_or self.old.primitives index result }
+        ensures shape { SameNetShape P.behaviour self.old self.new }
+        ensures ports { OnlyState (map P.port_state self.old.primitives)
+            (map P.port_state self.new.primitives) index (P.port_state primitive) }
+    {
+        put_at(self.primitives.as_mut_slice(), index, primitive)
     }
 }

@@ -16,7 +16,8 @@ fn count_end(counts: &mut [List<usize>], end: End)
     requires end { end.end < length (slice_index_or counts.old end.primitive []) }
     requires few { count_at counts.old end.primitive end.end < 2 ^ 40 }
     ensures same { SameRows counts.old counts.new }
-    ensures counts { (i e : ℕ) → count_at counts.new i e ≡ count_at counts.old i e + cond (end_eq end (end_of i e)) 1 0 }
+    ensures counts { (i e : ℕ) → count_at counts.new i e ≡ count_at counts.old i e + cond
+        (end_eq end (end_of i e)) 1 0 }
 {
     let row = &mut counts[end.primitive];
     let count = *row.at(end.end);
@@ -26,13 +27,16 @@ fn count_end(counts: &mut [List<usize>], end: End)
 /// Counts one more at the one or two ends of a joint.
 fn count_joint(counts: &mut [List<usize>], joint: Joint)
     requires giver { joint.giver.primitive < length counts.old }
-    requires giver_end { joint.giver.end < length (slice_index_or counts.old joint.giver.primitive []) }
+    requires giver_end { joint.giver.end < length
+        (slice_index_or counts.old joint.giver.primitive []) }
     requires taker { joint.taker.primitive < length counts.old }
-    requires taker_end { joint.taker.end < length (slice_index_or counts.old joint.taker.primitive []) }
+    requires taker_end { joint.taker.end < length
+        (slice_index_or counts.old joint.taker.primitive []) }
     requires few_giver { count_at counts.old joint.giver.primitive joint.giver.end < 2 ^ 32 }
     requires few_taker { count_at counts.old joint.taker.primitive joint.taker.end < 2 ^ 32 }
     ensures same { SameRows counts.old counts.new }
-    ensures counts { (i e : ℕ) → count_at counts.new i e ≡ count_at counts.old i e + cond (is_at (end_of i e) joint) 1 0 }
+    ensures counts { (i e : ℕ) → count_at counts.new i e ≡ count_at counts.old i e + cond
+        (is_at (end_of i e) joint) 1 0 }
 {
     let giver = joint.giver;
     let taker = joint.taker;
@@ -62,7 +66,8 @@ fn joint_counts<P: Primitive>(
 ) -> Result<Vec<List<usize>>, NoMemory>
     requires few { length joints.now < 2 ^ 31 }
     requires joints { AreJoints (net_of P.behaviour (wiring_of primitives.now 0 joints.now)) }
-    ensures { IfOk result (λ counts. AreCounts (map P.behaviour primitives.now) joints.now counts.items) }
+    ensures { IfOk result
+        (λ counts. AreCounts (map P.behaviour primitives.now) joints.now counts.items) }
 {
     let mut counts = no_counts(alloc, primitives)?;
     for index in 0..joints.len() {
@@ -74,7 +79,8 @@ fn joint_counts<P: Primitive>(
 
 /// The first count that is not one.
 fn not_one(counts: &[usize]) -> Option<usize>
-    ensures { MatchOption result ((e : ℕ) → e < length counts.now → slice_index counts.now e ≡ 1) (λ e. (e < length counts.now) × (slice_index counts.now e ≢ 1)) }
+    ensures { MatchOption result ((e : ℕ) → e < length counts.now → slice_index counts.now e ≡ 1)
+        (λ e. (e < length counts.now) × (slice_index counts.now e ≢ 1)) }
 {
     for (end, count) in counts.iter().enumerate() {
         if *count != 1 {
@@ -92,7 +98,10 @@ pub fn ends_fault<P: Primitive>(
 ) -> Result<Option<usize>, NoMemory>
     requires few { length joints.now < 2 ^ 31 }
     requires joints { AreJoints (net_of P.behaviour (wiring_of primitives.now 0 joints.now)) }
-    ensures { IfOk result (λ fault. MatchOption fault (AllJoined (net_of P.behaviour (wiring_of primitives.now 0 joints.now))) (IsEndsFault (net_of P.behaviour (wiring_of primitives.now 0 joints.now)))) }
+    ensures { IfOk result
+        (λ fault. MatchOption fault
+        (AllJoined (net_of P.behaviour (wiring_of primitives.now 0 joints.now)))
+        (IsEndsFault (net_of P.behaviour (wiring_of primitives.now 0 joints.now)))) }
 {
     let counts = joint_counts(alloc, primitives, joints)?;
     for index in 0..counts.len() {

@@ -25,8 +25,11 @@ fn add_move<P: Primitive>(
     port: usize,
 ) -> Result<(), NoMemory>
     requires port { port < circuit.now.ports }
-    requires rows { AreRows (all_sides (net_of P.behaviour circuit.now).primitives) colouring.now.rows }
-    ensures { OnOk result (moves.new ≡ moves.old ++ moves_at (net_of P.behaviour circuit.now) colouring.now.rows colouring.now.items port) }
+    requires rows { AreRows
+        (all_sides (net_of P.behaviour circuit.now).primitives) colouring.now.rows }
+    ensures { OnOk result
+        (moves.new ≡ moves.old ++ moves_at
+        (net_of P.behaviour circuit.now) colouring.now.rows colouring.now.items port) }
 {
     circuit.known_ports();
     let end = End {
@@ -51,7 +54,9 @@ pub fn moves<P: Primitive>(
     colouring: &Colouring,
 ) -> Result<List<Move>, NoMemory>
     requires { AreRows (all_sides (net_of P.behaviour circuit.now).primitives) colouring.now.rows }
-    ensures { IfOk result (λ moves. moves ≡ moves_of (net_of P.behaviour circuit.now) circuit.now.ports colouring.now.rows colouring.now.items) }
+    ensures { IfOk result (λ moves. moves ≡
+        moves_of (net_of P.behaviour circuit.now) circuit.now.ports colouring.now.rows
+        colouring.now.items) }
 {
     let mut moves = List::new(alloc);
     for port in 0..circuit.ports() {

@@ -23,7 +23,8 @@ pub struct Layout {
 
 /// Adds the sides of a primitive to the table of owners.
 fn add_owners(owners: &mut List<SideOwner>, primitive: usize, sides: usize) -> Result<(), NoMemory>
-    ensures { OnOk result (owners.new ≡ owners.old ++ map (side_owner_at primitive) (range_with_len 0 sides)) }
+    ensures { OnOk result
+        (owners.new ≡ owners.old ++ map (side_owner_at primitive) (range_with_len 0 sides)) }
 {
     for side in 0..sides {
         owners.push(SideOwner { primitive, side })?;
@@ -34,7 +35,8 @@ fn add_owners(owners: &mut List<SideOwner>, primitive: usize, sides: usize) -> R
 /// Where the sides of each primitive stand, and whose each side is.
 pub fn lay_out<P: Primitive>(alloc: Global, primitives: &[P]) -> Result<Layout, NoMemory>
     requires { 2 * length primitives.now < 2 ^ 62 }
-    ensures { IfOk result (λ layout. IsLaidOut (map P.behaviour primitives.now) layout.firsts layout.owners) }
+    ensures { IfOk result
+        (λ layout. IsLaidOut (map P.behaviour primitives.now) layout.firsts layout.owners) }
 {
     let mut firsts = List::new(alloc);
     let mut owners = List::new(alloc);

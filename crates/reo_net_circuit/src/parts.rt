@@ -44,7 +44,8 @@ fn is_end<P: Primitive>(primitives: &[P], end: End) -> bool
 
 /// Whether each joint is between ends that there are.
 fn are_joints<P: Primitive>(primitives: &[P], joints: &[Joint]) -> bool
-    ensures { IsTrue result ↔ AreJoints (net_of P.behaviour (wiring_of primitives.now 0 joints.now)) }
+    ensures { IsTrue result
+        ↔ AreJoints (net_of P.behaviour (wiring_of primitives.now 0 joints.now)) }
 {
     for index in 0..joints.len() {
         let joint = joint_at(joints, index);
@@ -80,7 +81,9 @@ fn are_ports<P: Primitive>(primitives: &[P], ports: usize) -> bool
 /// Whether a circuit can be made from these, if it has no fault: each of the first `ports`
 /// primitives has one side and one end, and joints name ends that there are.
 pub fn are_parts<P: Primitive>(primitives: &[P], ports: usize, joints: &[Joint]) -> bool
-    ensures { IsTrue result ↔ (ArePorts (map P.behaviour primitives.now) ports × AreJoints (net_of P.behaviour (wiring_of primitives.now 0 joints.now))) }
+    ensures { IsTrue result
+        ↔ (ArePorts (map P.behaviour primitives.now) ports
+        × AreJoints (net_of P.behaviour (wiring_of primitives.now 0 joints.now))) }
 {
     are_ports(primitives, ports) && are_joints(primitives, joints)
 }

@@ -1,11 +1,12 @@
 //! Offers at ports.
-ghost use Rattle.std.specs.Prelude.{◌≡◌, ◌<◌, ◌↔◌, IsTrue, IsSome, map, length};
+ghost use Rattle.std.specs.Prelude.{◌≡◌, ◌<◌, ◌↔◌, IsTrue, IsSome, map, length, slice_index_or};
 ghost use Rattle.reo_net_base.specs.PortState.{CanPlace, port_state_at};
 ghost use Rattle.reo_net_base.specs.Step.{change_at};
 ghost use Rattle.reo_net_circuit.specs.Offers.{OffersAfterRound, ShapeAfterRound};
 
 use crate::circuit::Circuit;
 use reo_net_base::{Offer, Ported, Way};
+use std::mem::replace;
 
 /// Whether an offer may be placed here.
 pub fn can_place<P: Ported>(primitive: &P, offer: &Offer) -> bool
@@ -38,6 +39,15 @@ pub fn withdraw_at<P: Ported>(primitives: &mut [P], index: usize)
     primitive.withdraw();
 }
 
+/// Puts a primitive in place of one of the primitives, which is handed back.
+pub fn put_at<P: Ported>(primitives: &mut [P], index: usize, primitive: P) -> P
+    requires { index < length primitives.old }
+    ensures list { primitives.new ≡ change_at (λ _. primitive) primitives.old index }
+    ensures before { result ≡ slice_index_or primitives.old index result }
+{
+    replace(&mut primitives[index], primitive)
+}
+
 impl<P: Ported> Circuit<P> {
     /// What holds of offers in a round: where a port flows its offer is gone, and else it is as it
     /// was. What is no port has none. The shape of the circuit stays, and so do the ways of its
@@ -54,7 +64,8 @@ impl<P: Ported> Circuit<P> {
     /// and a written item fits.
     pub fn can_place(&self, port: usize, offer: &Offer) -> bool
         requires { port < self.now.ports }
-        ensures { IsTrue result ↔ CanPlace (port_state_at (map P.port_state self.now.primitives) port) offer.now }
+        ensures { IsTrue result
+            ↔ CanPlace (port_state_at (map P.port_state self.now.primitives) port) offer.now }
     {
         self.known_ports();
         can_place(self.primitive(port), offer)
@@ -63,7 +74,8 @@ impl<P: Ported> Circuit<P> {
     /// Whether an offer is pending at a port.
     pub fn is_pending(&self, port: usize) -> bool
         requires { port < self.now.ports }
-        ensures { IsTrue result ↔ IsSome (port_state_at (map P.port_state self.now.primitives) port).pending }
+        ensures { IsTrue result
+            ↔ IsSome (port_state_at (map P.port_state self.now.primitives) port).pending }
     {
         self.known_ports();
         self.primitive(port).pending()

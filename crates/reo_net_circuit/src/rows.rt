@@ -33,7 +33,8 @@ impl<P: Primitive> Circuit<P> {
 
     /// Whether there is one row for each side, each in the table of its side.
     pub fn are_rows(&self, rows: &[u32]) -> bool
-        ensures { IsTrue result ↔ AreRows (all_sides (net_of P.behaviour self.now).primitives) rows.now }
+        ensures { IsTrue result
+            ↔ AreRows (all_sides (net_of P.behaviour self.now).primitives) rows.now }
     {
         if rows.len() != self.sides() {
             return false;
@@ -51,7 +52,9 @@ impl<P: Primitive> Circuit<P> {
         requires rows { AreRows (all_sides (net_of P.behaviour self.now).primitives) rows.now }
         requires side { side < length (all_sides (net_of P.behaviour self.now).primitives) }
         ensures row { result ≡ slice_index rows.now side }
-        ensures in_table { (e : Side) → result < row_count (slice_index_or (all_sides (net_of P.behaviour self.now).primitives) side e) }
+        ensures in_table { (e : Side)
+            → result < row_count
+            (slice_index_or (all_sides (net_of P.behaviour self.now).primitives) side e) }
     {
         rows[side] as usize
     }
@@ -84,7 +87,11 @@ impl<P: Primitive> Circuit<P> {
     pub fn class(&self, turn: u64, rows: &[u32], side: usize) -> usize
         requires rows { AreRows (all_sides (net_of P.behaviour self.now).primitives) rows.now }
         requires side { side < length (all_sides (net_of P.behaviour self.now).primitives) }
-        ensures { (e : Side) → result ≡ (slice_index_or (all_sides (net_of P.behaviour self.now).primitives) side e).of.class (slice_index_or (all_sides (net_of P.behaviour self.now).primitives) side e).number (slice_index rows.now side) turn }
+        ensures { (e : Side)
+            → result ≡ (slice_index_or
+            (all_sides (net_of P.behaviour self.now).primitives) side e).of.class
+            (slice_index_or (all_sides (net_of P.behaviour self.now).primitives) side e).number
+            (slice_index rows.now side) turn }
     {
         let place = self.owner(side);
         let row = self.row(rows, side);

@@ -14,7 +14,11 @@ use reo_values::Value;
 fn chosen<P: Primitive>(primitive: &P, first: usize, rows: &[u32]) -> Chosen
     requires first { first < length rows.now }
     requires second { (P.behaviour primitive.now).sides ≡ 2 → first + 1 < length rows.now }
-    ensures { result ≡ record { first = slice_index rows.now first; second = cond ((P.behaviour primitive.now).sides == 2) (slice_index rows.now (first + 1)) 0 } }
+    ensures { result ≡ record {
+      first = slice_index rows.now first;
+      second = cond
+          ((P.behaviour primitive.now).sides == 2) (slice_index rows.now (first + 1)) 0;
+    } }
 {
     let second = if primitive.sides() == 2 {
         rows[first + 1] as usize
@@ -48,11 +52,15 @@ pub fn step_all<P: Primitive>(
     rows: &[u32],
     mut items: Vec<Option<Value>>,
 )
-    requires firsts { AreFirsts (map P.behaviour primitives.old) firsts.now (length (map P.behaviour primitives.old)) }
-    requires mouths { AreMouths (net_of P.behaviour (wiring_of primitives.old 0 joints.now)) mouths.now }
+    requires firsts { AreFirsts (map P.behaviour primitives.old) firsts.now
+        (length (map P.behaviour primitives.old)) }
+    requires mouths { AreMouths
+        (net_of P.behaviour (wiring_of primitives.old 0 joints.now)) mouths.now }
     requires rows { AreRows (all_sides (map P.behaviour primitives.old)) rows.now }
     requires items { length items.items ≡ length joints.now }
-    ensures { primitives.new ≡ settled_list P.settled primitives.old (all_chosen (net_of P.behaviour (wiring_of primitives.old 0 joints.now)) rows.now) (all_taken (net_of P.behaviour (wiring_of primitives.old 0 joints.now)) items.items) }
+    ensures { primitives.new ≡ settled_list P.settled primitives.old
+        (all_chosen (net_of P.behaviour (wiring_of primitives.old 0 joints.now)) rows.now)
+        (all_taken (net_of P.behaviour (wiring_of primitives.old 0 joints.now)) items.items) }
 {
     let _ = joints;
     for index in 0..primitives.len() {

@@ -14,7 +14,9 @@ use std::alloc::Global;
 /// Whether a joint goes to the mouth of a primitive with two sides.
 fn is_mouth<P: Primitive>(primitives: &[P], joint: Joint) -> bool
     requires { IsEnd (map P.behaviour primitives.now) joint.taker }
-    ensures { result ≡ is_mouth (behaviour_at (map P.behaviour primitives.now) joint.taker.primitive) joint.taker.primitive joint }
+    ensures { result ≡ is_mouth
+        (behaviour_at
+        (map P.behaviour primitives.now) joint.taker.primitive) joint.taker.primitive joint }
 {
     let primitive = primitive_at(primitives, joint.taker.primitive);
     primitive.sides() == 2 && primitive.side_of(joint.taker.end) == 0
@@ -34,7 +36,8 @@ pub fn mouth_table<P: Primitive>(
     joints: &[Joint],
 ) -> Result<List<usize>, NoMemory>
     requires { AreJoints (net_of P.behaviour (wiring_of primitives.now 0 joints.now)) }
-    ensures { IfOk result (λ mouths. AreMouths (net_of P.behaviour (wiring_of primitives.now 0 joints.now)) mouths) }
+    ensures { IfOk result
+        (λ mouths. AreMouths (net_of P.behaviour (wiring_of primitives.now 0 joints.now)) mouths) }
 {
     let none = joints.len();
     let mut mouths = repeated(alloc, none, primitives.len())?;
@@ -50,7 +53,10 @@ pub fn mouth_table<P: Primitive>(
 /// Notes a joint at an end, where it is the first at the end 0 of its primitive.
 fn note_end(table: &mut [usize], end: End, none: usize, joint: usize)
     requires { end.primitive < length table.old }
-    ensures { (i : ℕ) → i < length table.old → slice_index table.new i ≡ cond (end_eq end (end_of i 0)) (cond (slice_index table.old i == none) joint (slice_index table.old i)) (slice_index table.old i) }
+    ensures { (i : ℕ) → i < length table.old → slice_index table.new i
+        ≡ cond (end_eq end (end_of i 0))
+        (cond (slice_index table.old i == none) joint (slice_index table.old i))
+        (slice_index table.old i) }
 {
     let old = table[end.primitive];
     table[end.primitive] = first_so_far(end.end == 0, old, none, joint);
@@ -61,7 +67,10 @@ fn note_joint(table: &mut [usize], joint: Joint, none: usize, index: usize)
     requires giver { joint.giver.primitive < length table.old }
     requires taker { joint.taker.primitive < length table.old }
     requires index { index < none }
-    ensures { (i : ℕ) → i < length table.old → slice_index table.new i ≡ cond (is_at (end_of i 0) joint) (cond (slice_index table.old i == none) index (slice_index table.old i)) (slice_index table.old i) }
+    ensures { (i : ℕ) → i < length table.old → slice_index table.new i
+        ≡ cond (is_at (end_of i 0) joint)
+        (cond (slice_index table.old i == none) index (slice_index table.old i))
+        (slice_index table.old i) }
 {
     note_end(table, joint.giver, none, index);
     note_end(table, joint.taker, none, index);
@@ -74,7 +83,9 @@ pub fn port_table<P: Primitive>(
     joints: &[Joint],
 ) -> Result<List<usize>, NoMemory>
     requires { AreJoints (net_of P.behaviour (wiring_of primitives.now 0 joints.now)) }
-    ensures { IfOk result (λ table. ArePortJoints (net_of P.behaviour (wiring_of primitives.now 0 joints.now)) table) }
+    ensures { IfOk result
+        (λ table. ArePortJoints
+        (net_of P.behaviour (wiring_of primitives.now 0 joints.now)) table) }
 {
     let none = joints.len();
     let mut table = repeated(alloc, none, primitives.len())?;

@@ -23,9 +23,11 @@ fn side_number<P: Primitive>(
     end: End,
 ) -> usize
     requires end { IsEnd (map P.behaviour primitives.now) end }
-    requires firsts { AreFirsts (map P.behaviour primitives.now) firsts.now (length (map P.behaviour primitives.now)) }
+    requires firsts { AreFirsts (map P.behaviour primitives.now) firsts.now
+        (length (map P.behaviour primitives.now)) }
     requires sides { sides ≡ length (all_sides (map P.behaviour primitives.now)) }
-    ensures number { result ≡ side_at (net_of P.behaviour (wiring_of primitives.now 0 joints.now)) end }
+    ensures number { result ≡ side_at
+        (net_of P.behaviour (wiring_of primitives.now 0 joints.now)) end }
     ensures in_range { result < sides }
 {
     let _ = joints;
@@ -49,12 +51,18 @@ fn joint_sides<P: Primitive>(
     joints: &[Joint],
 ) -> Result<JointSides, NoMemory>
     requires joints { AreJoints (net_of P.behaviour (wiring_of primitives.now 0 joints.now)) }
-    requires firsts { AreFirsts (map P.behaviour primitives.now) firsts.now (length (map P.behaviour primitives.now)) }
+    requires firsts { AreFirsts (map P.behaviour primitives.now) firsts.now
+        (length (map P.behaviour primitives.now)) }
     requires sides { sides ≡ length (all_sides (map P.behaviour primitives.now)) }
-    ensures from { IfOk result (λ made. made.from ≡ from_sides (net_of P.behaviour (wiring_of primitives.now 0 joints.now))) }
-    ensures to { IfOk result (λ made. made.to ≡ to_sides (net_of P.behaviour (wiring_of primitives.now 0 joints.now))) }
-    ensures from_range { IfOk result (λ made. EachIndex made.from (λ k. slice_index made.from k < sides)) }
-    ensures to_range { IfOk result (λ made. EachIndex made.to (λ k. slice_index made.to k < sides)) }
+    ensures from { IfOk result
+        (λ made. made.from ≡ from_sides
+        (net_of P.behaviour (wiring_of primitives.now 0 joints.now))) }
+    ensures to { IfOk result
+        (λ made. made.to ≡ to_sides (net_of P.behaviour (wiring_of primitives.now 0 joints.now))) }
+    ensures from_range { IfOk result
+        (λ made. EachIndex made.from (λ k. slice_index made.from k < sides)) }
+    ensures to_range { IfOk result
+        (λ made. EachIndex made.to (λ k. slice_index made.to k < sides)) }
 {
     let mut from = List::new(alloc);
     let mut to = List::new(alloc);
@@ -75,9 +83,12 @@ pub fn joint_order<P: Primitive>(
     joints: &[Joint],
 ) -> Result<Sorted, NoMemory>
     requires joints { AreJoints (net_of P.behaviour (wiring_of primitives.now 0 joints.now)) }
-    requires firsts { AreFirsts (map P.behaviour primitives.now) firsts.now (length (map P.behaviour primitives.now)) }
+    requires firsts { AreFirsts (map P.behaviour primitives.now) firsts.now
+        (length (map P.behaviour primitives.now)) }
     requires sides { sides ≡ length (all_sides (map P.behaviour primitives.now)) }
-    ensures { IfOk result (IsSorted (from_sides (net_of P.behaviour (wiring_of primitives.now 0 joints.now))) (to_sides (net_of P.behaviour (wiring_of primitives.now 0 joints.now)))) }
+    ensures { IfOk result
+        (IsSorted (from_sides (net_of P.behaviour (wiring_of primitives.now 0 joints.now)))
+        (to_sides (net_of P.behaviour (wiring_of primitives.now 0 joints.now)))) }
 {
     let JointSides { from, to } = joint_sides(alloc, primitives, firsts, sides, joints)?;
     match order_or_cycle(alloc, from.as_slice(), to.as_slice(), sides) {

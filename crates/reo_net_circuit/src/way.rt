@@ -10,7 +10,9 @@ use reo_net_base::{Joint, Primitive};
 /// The least joint whose giver takes in or whose taker does not.
 pub fn way_fault<P: Primitive>(primitives: &[P], joints: &[Joint]) -> Option<usize>
     requires { AreJoints (net_of P.behaviour (wiring_of primitives.now 0 joints.now)) }
-    ensures { MatchOption result (AllRight (net_of P.behaviour (wiring_of primitives.now 0 joints.now))) (IsWayFault (net_of P.behaviour (wiring_of primitives.now 0 joints.now))) }
+    ensures { MatchOption result
+        (AllRight (net_of P.behaviour (wiring_of primitives.now 0 joints.now)))
+        (IsWayFault (net_of P.behaviour (wiring_of primitives.now 0 joints.now))) }
 {
     for index in 0..joints.len() {
         let joint = joint_at(joints, index);

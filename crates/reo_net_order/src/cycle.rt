@@ -19,9 +19,13 @@ fn is_on_cycle(
     requires arrows { length ins.now.ends.items ≡ length outs.now.ends.items }
     requires sides { length ins.now.first.items ≡ length outs.now.first.items }
     requires arrow { arrow < length outs.now.ends.items }
-    requires queue { IsEmptyQueue (length outs.now.ends.items) queue.old.order.items queue.old.placed.items }
-    ensures answer { IfOk result (λ is. IsTrue is ↔ OnCycle outs.now.ends.items ins.now.ends.items arrow) }
-    ensures queue { IfOk result (λ is. IsEmptyQueue (length outs.now.ends.items) queue.new.order.items queue.new.placed.items) }
+    requires queue { IsEmptyQueue
+        (length outs.now.ends.items) queue.old.order.items queue.old.placed.items }
+    ensures answer { IfOk result
+        (λ is. IsTrue is ↔ OnCycle outs.now.ends.items ins.now.ends.items arrow) }
+    ensures queue { IfOk result
+        (λ is. IsEmptyQueue
+        (length outs.now.ends.items) queue.new.order.items queue.new.placed.items) }
 {
     push_all(queue, outs, ins.ends[arrow])?;
     let mut at = 0;
@@ -39,15 +43,17 @@ fn is_on_cycle(
 fn is_off(front: &[bool], back: &[bool], arrow: usize) -> bool
     requires front { arrow < length front.now }
     requires back { arrow < length back.now }
-    ensures { IsTrue result ↔ ((slice_index_or front.now arrow false ≡ true) ⊎ (slice_index_or back.now arrow false ≡ true)) }
+    ensures { IsTrue result
+        ↔ ((slice_index_or front.now arrow false ≡ true)
+        ⊎ (slice_index_or back.now arrow false ≡ true)) }
 {
     front[arrow] || back[arrow]
 }
 
 /// The least arrow on a directed cycle.
 ///
-/// Arrows with a flag in one of two lists are on none and are passed over: those before all cycles, and those
-/// behind all. So only arrows between two cycles are searched from in vain.
+/// Arrows with a flag in one of two lists are on none and are passed over: those before all cycles,
+/// and those behind all. So only arrows between two cycles are searched from in vain.
 pub fn least_on_cycle(
     alloc: Global,
     outs: &Links,
@@ -59,7 +65,9 @@ pub fn least_on_cycle(
     requires sides { length ins.now.first.items ≡ length outs.now.first.items }
     requires front { AreOff outs.now.ends.items ins.now.ends.items front.now }
     requires back { AreOff outs.now.ends.items ins.now.ends.items back.now }
-    ensures { IfOk result (λ found. MatchOption found (NoCycle outs.now.ends.items ins.now.ends.items) (IsLeastOnCycle outs.now.ends.items ins.now.ends.items)) }
+    ensures { IfOk result
+        (λ found. MatchOption found (NoCycle outs.now.ends.items ins.now.ends.items)
+        (IsLeastOnCycle outs.now.ends.items ins.now.ends.items)) }
 {
     let mut queue = empty(alloc, outs.ends.len())?;
     for arrow in 0..outs.ends.len() {

@@ -1,6 +1,7 @@
 ghost use Rattle.reo_net_order.specs.Arrows.{CycleBySides, OrderExists, OrderHasNoCycle};
 
-/// An arrow leads back to itself exactly where it goes from a side of a directed cycle of sides to the next.
+/// An arrow leads back to itself exactly where it goes from a side of a directed cycle of sides to
+/// the next.
 pub fn cycle_by_sides()
     ensures { CycleBySides }
 {}

@@ -1,8 +1,8 @@
-//! Arrows between numbered sides: an order in which each arrow stands behind those that feed it, or the
-//! least arrow on a directed cycle.
+//! Arrows between numbered sides: an order in which each arrow stands behind those that feed it, or
+//! the least arrow on a directed cycle.
 //!
-//! A graph is two lists of equal length: arrow `j` goes from side `from[j]` to side `to[j]`, and feeds the
-//! arrows that start at side `to[j]`. What the sides stand for is the caller's matter.
+//! A graph is two lists of equal length: arrow `j` goes from side `from[j]` to side `to[j]`, and
+//! feeds the arrows that start at side `to[j]`. What the sides stand for is the caller's matter.
 #![tactic(auto)]
 
 mod cycle;

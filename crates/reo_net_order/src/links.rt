@@ -5,8 +5,8 @@ use std::alloc::{AllocError, Global};
 
 /// The arrows at each side, linked from the last to the first.
 ///
-/// `ends` has the side of each arrow. `first` has for each side one more than the last arrow there, and
-/// `next` for each arrow one more than the one before it at its side; 0 is none.
+/// `ends` has the side of each arrow. `first` has for each side one more than the last arrow there,
+/// and `next` for each arrow one more than the one before it at its side; 0 is none.
 #[derive(Drop)]
 pub struct Links {
     pub ends: Vec<usize>,

@@ -17,7 +17,9 @@ pub enum Sorted {
 
 /// A place without a flag, where there is one.
 fn unplaced(placed: &[bool]) -> Option<usize>
-    ensures { MatchOption result (EachIndex placed.now (λ j. slice_index_or placed.now j false ≡ true)) (λ j. (j < length placed.now) × (slice_index_or placed.now j false ≡ false)) }
+    ensures { MatchOption result
+        (EachIndex placed.now (λ j. slice_index_or placed.now j false ≡ true))
+        (λ j. (j < length placed.now) × (slice_index_or placed.now j false ≡ false)) }
 {
     for arrow in 0..placed.len() {
         if !placed[arrow] {
@@ -27,11 +29,11 @@ fn unplaced(placed: &[bool]) -> Option<usize>
     None
 }
 
-/// An order of the arrows in which each stands behind all that feed it, or, where there is none, the least
-/// arrow on a directed cycle.
+/// An order of the arrows in which each stands behind all that feed it, or, where there is none,
+/// the least arrow on a directed cycle.
 ///
-/// Arrow `j` goes from side `from[j]` to side `to[j]`; sides are numbers below `sides`. Which of several
-/// orders is given is left open.
+/// Arrow `j` goes from side `from[j]` to side `to[j]`; sides are numbers below `sides`. Which of
+/// several orders is given is left open.
 ///
 /// # Errors
 ///

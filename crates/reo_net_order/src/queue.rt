@@ -23,8 +23,10 @@ pub fn empty(alloc: Global, arrows: usize) -> Result<Queue, AllocError>
 
 /// Takes all arrows out, in steps as many as they are.
 pub fn clear(queue: &mut Queue)
-    requires { IsQueue (length queue.old.placed.items) queue.old.order.items queue.old.placed.items }
-    ensures { IsEmptyQueue (length queue.old.placed.items) queue.new.order.items queue.new.placed.items }
+    requires { IsQueue
+        (length queue.old.placed.items) queue.old.order.items queue.old.placed.items }
+    ensures { IsEmptyQueue
+        (length queue.old.placed.items) queue.new.order.items queue.new.placed.items }
 {
     while let Some(arrow) = queue.order.pop() {
         queue.placed[arrow] = false;
@@ -33,9 +35,11 @@ pub fn clear(queue: &mut Queue)
 
 /// Adds the arrows at a side that are not there yet.
 pub fn push_all(queue: &mut Queue, links: &Links, side: usize) -> Result<(), AllocError>
-    requires queue { IsQueue (length links.now.ends.items) queue.old.order.items queue.old.placed.items }
+    requires queue { IsQueue
+        (length links.now.ends.items) queue.old.order.items queue.old.placed.items }
     requires side { side < length links.now.first.items }
-    ensures { OnOk result (Pushed links.now.ends.items side queue.old.order.items queue.new.order.items queue.new.placed.items) }
+    ensures { OnOk result (Pushed links.now.ends.items side queue.old.order.items
+        queue.new.order.items queue.new.placed.items) }
 {
     let mut at = links.first[side];
     while at > 0 {

@@ -22,11 +22,13 @@ fn skip(links: &Links, placed: &[bool], side: usize, wait: usize) -> usize
 
 /// As many arrows as can stand in a row, each behind all that feed it.
 ///
-/// A side waits for one arrow into it at a time; once it waits for none, the arrows from it are placed.
+/// A side waits for one arrow into it at a time; once it waits for none, the arrows from it are
+/// placed.
 pub fn sort(alloc: Global, outs: &Links, ins: &Links) -> Result<Queue, AllocError>
     requires arrows { length ins.now.ends.items ≡ length outs.now.ends.items }
     requires sides { length ins.now.first.items ≡ length outs.now.first.items }
-    ensures { IfOk result (λ front. IsFront outs.now.ends.items ins.now.ends.items front.order.items front.placed.items) }
+    ensures { IfOk result (λ front.
+        IsFront outs.now.ends.items ins.now.ends.items front.order.items front.placed.items) }
 {
     let mut queue = empty(alloc, outs.ends.len())?;
     let mut waits = copied(alloc, &ins.first)?;

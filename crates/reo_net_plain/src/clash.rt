@@ -38,7 +38,8 @@ fn clashes_at<P: Primitive>(
 pub(crate) fn clashes<P: Primitive>(circuit: &Circuit<P>, rows: &[u32], chosen: &[bool]) -> bool
     requires rows { AreRowsOf (net_of P.behaviour circuit.now) rows.now }
     requires chosen { length chosen.now ≡ side_count (net_of P.behaviour circuit.now) }
-    ensures clash { result ≡ true → NoneAgrees (net_of P.behaviour circuit.now) chosen.now rows.now }
+    ensures clash { result ≡ true
+        → NoneAgrees (net_of P.behaviour circuit.now) chosen.now rows.now }
     ensures fit { let net = net_of P.behaviour circuit.now in
         result ≡ false → AllChosen net chosen.now → RowsFit net rows.now }
 {

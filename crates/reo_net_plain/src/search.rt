@@ -26,7 +26,8 @@ fn improved<P: Primitive>(
     requires rows { RowsFit (net_of P.behaviour circuit.now) rows.now }
     requires best { IsColouring (net_of P.behaviour circuit.now) best.rows best.items }
     ensures { let net = net_of P.behaviour circuit.now in IfOk result
-        (λ found. Improves net turn (λ others. others ≡ rows.now) best.rows found.rows found.items) }
+        (λ found. Improves net turn
+        (λ others. others ≡ rows.now) best.rows found.rows found.items) }
 {
     let tried = rows.as_slice();
     match colour(alloc, circuit, tried)? {
@@ -42,8 +43,8 @@ fn improved<P: Primitive>(
     }
 }
 
-/// The best of a colouring and all that have these rows at the chosen sides. It goes no further where
-/// two chosen sides do not match.
+/// The best of a colouring and all that have these rows at the chosen sides. It goes no further
+/// where two chosen sides do not match.
 fn best_from<P: Primitive>(
     alloc: Global,
     circuit: &Circuit<P>,

@@ -1,7 +1,8 @@
 //! What buffers, shift buffers, variables and quotas keep from round to round.
+use crate::checks::is;
 use crate::pieces::Piece::{self, Quota, Shift, Store, Variable};
 use crate::pieces::kind;
-use crate::tables::{has_groups, has_table, is};
+use crate::tables::{has_groups, has_table};
 use reo_kinds::Kind;
 use reo_net_base::{Chosen, Mark, Primitive};
 use reo_values::Value;
@@ -23,10 +24,10 @@ const TOGETHER: &str = "FF0/0-<0 RG1/1- GR1/2- JJ2/3- |";
 
 const SPENT: &str = "GG0/0- JJ1/1- |";
 
-/// A piece, and rounds one after the other.
-const CASES: [(Piece, &[Round]); 8] = [
-    // in, in and out, out, out
+/// What is told, a piece, and rounds one after the other.
+const CASES: [(&str, Piece, &[Round]); 8] = [
     (
+        "in, in and out, out, out",
         Store(2, &[]),
         &[
             (0, 0, Some(5), SOME, Some(5)),
@@ -35,8 +36,8 @@ const CASES: [(Piece, &[Round]); 8] = [
             (1, 0, None, EMPTY, None),
         ],
     ),
-    // in until it is full, then out in the same order
     (
+        "in until it is full, then out in the same order",
         Store(2, &[4]),
         &[
             (0, 1, Some(5), FULL, Some(4)),
@@ -45,8 +46,8 @@ const CASES: [(Piece, &[Round]); 8] = [
             (1, 0, None, EMPTY, None),
         ],
     ),
-    // size one: in, out, in
     (
+        "size one: in, out, in",
         Store(1, &[]),
         &[
             (0, 0, Some(5), FULL, Some(5)),
@@ -54,8 +55,8 @@ const CASES: [(Piece, &[Round]); 8] = [
             (0, 0, Some(6), FULL, Some(6)),
         ],
     ),
-    // a full shift buffer loses its front for an item that comes in
     (
+        "a full shift buffer loses its front for an item that comes in",
         Shift(2, &[4, 5]),
         &[
             (0, 1, Some(6), SOME, Some(5)),
@@ -63,8 +64,8 @@ const CASES: [(Piece, &[Round]); 8] = [
             (1, 0, None, EMPTY, None),
         ],
     ),
-    // but keeps it where the tail flows
     (
+        "but keeps it where the tail flows",
         Shift(2, &[4, 5]),
         &[
             (0, 0, Some(6), SOME, Some(5)),
@@ -72,8 +73,8 @@ const CASES: [(Piece, &[Round]); 8] = [
             (1, 1, None, SOME, Some(6)),
         ],
     ),
-    // a variable keeps what it gives, and holds what comes in
     (
+        "a variable keeps what it gives, and holds what comes in",
         Variable(None),
         &[
             (0, 0, Some(7), SOME, Some(7)),
@@ -83,6 +84,7 @@ const CASES: [(Piece, &[Round]); 8] = [
         ],
     ),
     (
+        "a quota lets so many through",
         Quota(2),
         &[
             (1, 0, None, TOGETHER, None),
@@ -92,7 +94,11 @@ const CASES: [(Piece, &[Round]); 8] = [
             (0, 0, None, SPENT, None),
         ],
     ),
-    (Quota(0), &[(0, 0, None, SPENT, None)]),
+    (
+        "a quota of none lets nothing through",
+        Quota(0),
+        &[(0, 0, None, SPENT, None)],
+    ),
 ];
 
 fn item(number: Option<i64>) -> Option<Value> {
@@ -172,14 +178,12 @@ pub fn is_right(rt: &impl Abort, alloc: Global, piece: Piece, look: Look) -> Res
 
 #[test]
 fn what_is_kept_goes_from_round_to_round(rt: HostRuntime) -> Result<(), Fail> {
-    let mut case: usize = 0;
-    for (piece, rounds) in &CASES {
+    for (name, piece, rounds) in &CASES {
         is(
             &rt,
             is_right(&rt, rt.alloc(), *piece, Look::Rounds(*rounds))?,
-            case,
+            name,
         );
-        case = case.wrapping_add(1);
     }
     Ok(())
 }

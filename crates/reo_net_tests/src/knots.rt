@@ -1,6 +1,7 @@
 //! Knots of worked circuits, found by hand.
-use crate::circuits::{BETWEEN, made};
+use crate::circuits::made;
 use crate::pieces::Piece::{self, Replicator, Store, Sync, SyncDrain, Taker, Writer};
+use crate::shapes::BETWEEN;
 use reo_knots::{Knots, find_knots};
 use std::test::Fail;
 
@@ -15,19 +16,19 @@ type Case = (
 
 const CASES: &[Case] = &[
     (
-        &[Writer(true), Taker(true), Sync],
+        &[Writer(Some(3)), Taker(true), Sync],
         2,
-        &BETWEEN,
+        BETWEEN,
         &[(&[0, 1, 2], &[])],
     ),
     (
-        &[Writer(true), Taker(true), Store(2, &[])],
+        &[Writer(Some(3)), Taker(true), Store(2, &[])],
         2,
-        &BETWEEN,
+        BETWEEN,
         &[(&[0, 2], &[]), (&[1, 3], &[])],
     ),
     (
-        &[Writer(true), SyncDrain, Replicator(2)],
+        &[Writer(Some(3)), SyncDrain, Replicator(2)],
         1,
         &[[0, 0, 2, 0], [2, 1, 1, 0], [2, 2, 1, 1]],
         &[(&[0, 1, 2], &[2])],

@@ -2,7 +2,11 @@
 #![tactic(auto)]
 
 #[cfg(test)]
+mod checks;
+#[cfg(test)]
 mod circuits;
+#[cfg(test)]
+mod firsts;
 #[cfg(test)]
 mod kept;
 #[cfg(test)]
@@ -14,16 +18,14 @@ mod pairs;
 #[cfg(test)]
 mod pieces;
 #[cfg(test)]
+mod puts;
+#[cfg(test)]
 mod refused;
 #[cfg(test)]
 mod rounds;
 #[cfg(test)]
 mod row_lists;
 #[cfg(test)]
-mod rules;
-#[cfg(test)]
-mod states;
+mod shapes;
 #[cfg(test)]
 mod tables;
-#[cfg(test)]
-mod tests;

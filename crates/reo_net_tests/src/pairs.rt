@@ -15,7 +15,7 @@ const PAIRS: usize = 40;
 fn pieces(alloc: Global) -> Result<List<Piece>, NoMemory> {
     let mut pieces = List::new(alloc);
     for [one, other] in [
-        [Writer(true), Taker(true)],
+        [Writer(Some(3)), Taker(true)],
         [Sync, Sync],
         [Replicator(2), Merger(2)],
     ] {
@@ -57,7 +57,8 @@ fn joints(alloc: Global) -> Result<List<[usize; 4]>, NoMemory> {
 }
 
 /// Whether a knot is that of the pair of its number: the two ports, the two channels and the two
-/// nodes. The fifth joint of the pair closes its loop: what it joins is linked by the other channel.
+/// nodes. The fifth joint of the pair closes its loop: what it joins is linked by the other
+/// channel.
 fn is_pair(knots: &Knots, pair: usize) -> bool
     requires { pair < 40 }
 {

@@ -11,10 +11,8 @@ use std::test::Fail;
 /// One of the primitives of a circuit. All items are 0 to 9.
 #[derive(Clone, Copy)]
 pub enum Piece {
-    /// A port where items are written, with 3 offered or nothing.
-    Writer(bool),
     /// A port where items are written, with this one offered, or nothing.
-    Offering(Option<i64>),
+    Writer(Option<i64>),
     /// A port where items are taken.
     Taker(bool),
     Sync,
@@ -41,18 +39,8 @@ pub enum Piece {
     Quota(u32),
 }
 
-/// A port where items are written, with 3 offered or nothing.
-fn writer(offered: bool) -> Kind {
-    let kindred = Kindred::Int(0, 9);
-    Kind::Writer(if offered {
-        WriterPort::offering(kindred, Value::Int(3))
-    } else {
-        WriterPort::new(kindred)
-    })
-}
-
 /// A port where items are written, with this one offered, or nothing.
-fn offering(item: Option<i64>) -> Kind {
+fn writer(item: Option<i64>) -> Kind {
     let mut writer = Kind::Writer(WriterPort::new(Kindred::Int(0, 9)));
     if let Some(number) = item {
         if writer.fits(&Value::Int(number)) {
@@ -136,8 +124,7 @@ fn item(number: Option<i64>) -> Option<Value> {
 /// The primitive that a piece stands for.
 pub fn kind(rt: &impl Abort, alloc: Global, piece: Piece) -> Result<Kind, Fail> {
     match piece {
-        Piece::Writer(offered) => Ok(writer(offered)),
-        Piece::Offering(item) => Ok(offering(item)),
+        Piece::Writer(item) => Ok(writer(item)),
         Piece::Taker(pending) => Ok(taker(pending)),
         Piece::Sync => Ok(Kind::Sync),
         Piece::Lossy => Ok(Kind::Lossy),
@@ -163,4 +150,41 @@ pub fn kinds(rt: &impl Abort, alloc: Global, pieces: &[Piece]) -> Result<List<Ki
         list.push(made)?;
     }
     Ok(list)
+}
+
+/// The piece that a word says: `w` and `t` are ports, with the number that is offered behind `w`
+/// and a sign behind `t` where an item can be taken; `m2` is a merger and `r2` a replicator.
+fn piece_of(word: &str) -> Option<Piece> {
+    match word {
+        "w" => Some(Piece::Writer(None)),
+        "t" => Some(Piece::Taker(false)),
+        "t+" => Some(Piece::Taker(true)),
+        "sync" => Some(Piece::Sync),
+        "lossy" => Some(Piece::Lossy),
+        "drain" => Some(Piece::SyncDrain),
+        "adrain" => Some(Piece::AsyncDrain),
+        "above" => Some(Piece::Above),
+        "rest" => Some(Piece::Rest),
+        "map" => Some(Piece::TwiceAndOne),
+        "m2" => Some(Piece::Merger(2)),
+        "m3" => Some(Piece::Merger(3)),
+        "r2" => Some(Piece::Replicator(2)),
+        "r3" => Some(Piece::Replicator(3)),
+        _ => match word.strip_prefix('w')?.parse::<i64>() {
+            Ok(item) => Some(Piece::Writer(Some(item))),
+            Err(_) => None,
+        },
+    }
+}
+
+/// The pieces that words say, up to the first word that says none.
+pub fn read_pieces(alloc: Global, words: &str) -> Result<List<Piece>, NoMemory> {
+    let mut pieces = List::new(alloc);
+    for word in words.split(' ') {
+        match piece_of(word) {
+            Some(piece) => pieces.push(piece)?,
+            None => return Ok(pieces),
+        }
+    }
+    Ok(pieces)
 }

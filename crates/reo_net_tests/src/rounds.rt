@@ -1,6 +1,8 @@
 //! Rounds of circuits that keep items, and of mergers that take turns.
-use crate::circuits::{made, rows_in_round};
+use crate::checks::is;
+use crate::circuits::made;
 use crate::pieces::Piece::{self, Lossy, Merger, Replicator, Store, Sync, Taker, Writer};
+use crate::shapes::BETWEEN;
 use reo_kinds::Kind;
 use reo_net_base::{Colouring, Move, Offer};
 use reo_net_circuit::{Circuit, moves};
@@ -104,33 +106,23 @@ fn first_wrong(
     Ok(0)
 }
 
-/// Asserts that the rounds of a circuit are these, from round 1 on.
-fn rounds_are(
-    rt: &impl Abort,
-    alloc: Global,
-    pieces: &[Piece],
-    ports: usize,
-    joints: &[[usize; 4]],
-    rounds: &[Round],
-) -> Result<(), Fail> {
-    let mut circuit = made(rt, alloc, pieces, ports, joints)??;
-    let wrong = first_wrong(alloc, &mut circuit, rounds)?;
-    assert!(rt; wrong == 0, "round {wrong}");
-    Ok(())
-}
+/// A circuit in rounds from round 1 on: what is told, the pieces, how many are ports, their joints,
+/// and the rounds.
+type Case = (
+    &'static str,
+    &'static [Piece],
+    usize,
+    &'static [[usize; 4]],
+    &'static [Round],
+);
 
-/// A writer, a taker and a buffer between them.
-const BUFFERED: [[usize; 4]; 2] = [[0, 0, 2, 0], [2, 1, 1, 0]];
-
-/// Rows of the writer, the taker, the mouth and the tail: F R J or G J for each.
-#[test]
-fn one_item_comes_in_and_one_goes_out_in_a_round(rt: HostRuntime) -> Result<(), Fail> {
-    rounds_are(
-        &rt,
-        rt.alloc(),
-        &[Writer(false), Taker(false), Store(2, &[])],
+const CASES: &[Case] = &[
+    // Rows of the writer, the taker, the mouth and the tail: F R J or G J for each.
+    (
+        "one item comes in and one goes out in a round",
+        &[Writer(None), Taker(false), Store(2, &[])],
         2,
-        &BUFFERED,
+        BETWEEN,
         &[
             // an empty buffer gives nothing in the round in which an item comes in
             (&[(0, Some(3)), (1, None)], &[0, 1, 0, 0], &[(0, 3)]),
@@ -141,16 +133,11 @@ fn one_item_comes_in_and_one_goes_out_in_a_round(rt: HostRuntime) -> Result<(), 
             (&[(1, None)], &[0, 0, 0, 0], &[(0, 6), (1, 5)]),
             (&[(1, None)], &[0, 0, 1, 0], &[(1, 6)]),
         ],
-    )
-}
-
-/// Rows of the writer, the taker, the lossy channel, the mouth and the tail.
-#[test]
-fn a_lossy_channel_loses_what_a_full_buffer_keeps_out(rt: HostRuntime) -> Result<(), Fail> {
-    rounds_are(
-        &rt,
-        rt.alloc(),
-        &[Writer(false), Taker(false), Lossy, Store(1, &[])],
+    ),
+    // Rows of the writer, the taker, the lossy channel, the mouth and the tail.
+    (
+        "a lossy channel loses what a full buffer keeps out",
+        &[Writer(None), Taker(false), Lossy, Store(1, &[])],
         2,
         &[[0, 0, 2, 0], [2, 1, 3, 0], [3, 1, 1, 0]],
         &[
@@ -158,18 +145,13 @@ fn a_lossy_channel_loses_what_a_full_buffer_keeps_out(rt: HostRuntime) -> Result
             (&[(0, Some(4))], &[0, 0, 1, 0, 1], &[(0, 4)]),
             (&[(1, None)], &[0, 0, 2, 0, 0], &[(1, 3)]),
         ],
-    )
-}
-
-/// A writer and a buffer before a merger, a replicator behind it to a taker and back to the buffer.
-/// Rows of the writer, the taker, the merger, the replicator, the mouth and the tail.
-#[test]
-fn a_cycle_through_a_buffer_is_a_circuit(rt: HostRuntime) -> Result<(), Fail> {
-    rounds_are(
-        &rt,
-        rt.alloc(),
+    ),
+    // A writer and a buffer before a merger, a replicator behind it to a taker and back to the
+    // buffer. Rows of the writer, the taker, the merger, the replicator, the mouth and the tail.
+    (
+        "a cycle through a buffer is a circuit",
         &[
-            Writer(false),
+            Writer(None),
             Taker(false),
             Merger(2),
             Replicator(2),
@@ -188,19 +170,14 @@ fn a_cycle_through_a_buffer_is_a_circuit(rt: HostRuntime) -> Result<(), Fail> {
             &[0, 0, 0, 0, 0, 0],
             &[(0, 3), (1, 3)],
         )],
-    )
-}
-
-/// Two writers, a taker, a channel from each writer to a merger, and the merger. Rows in this
-/// order.
-#[test]
-fn a_merger_takes_from_its_inputs_in_turn(rt: HostRuntime) -> Result<(), Fail> {
-    rounds_are(
-        &rt,
-        rt.alloc(),
+    ),
+    // Two writers, a taker, a channel from each writer to a merger, and the merger. Rows in this
+    // order.
+    (
+        "a merger takes from its inputs in turn",
         &[
-            Writer(false),
-            Writer(false),
+            Writer(None),
+            Writer(None),
             Taker(false),
             Sync,
             Sync,
@@ -232,72 +209,20 @@ fn a_merger_takes_from_its_inputs_in_turn(rt: HostRuntime) -> Result<(), Fail> {
             ),
             (&[(2, None)], &[0, 0, 0, 1, 0, 1], &[(1, 4), (2, 4)]),
         ],
-    )
+    ),
+];
+
+/// Whether the rounds of a circuit are as a case tells.
+fn is_right(rt: &impl Abort, alloc: Global, case: &Case) -> Result<bool, Fail> {
+    let (_, pieces, ports, joints, rounds) = *case;
+    let mut circuit = made(rt, alloc, pieces, ports, joints)??;
+    Ok(first_wrong(alloc, &mut circuit, rounds)? == 0)
 }
 
-/// Three writers and a taker.
-const FOUR: [Piece; 4] = [Writer(true), Writer(true), Writer(true), Taker(true)];
-
-/// The rows of the ports and of a merger with three inputs in rounds 1 to 4.
 #[test]
-fn each_of_three_inputs_has_its_turn(rt: HostRuntime) -> Result<(), Fail> {
-    let [a, b, c, t] = FOUR;
-    for (turn, want) in [
-        (1, [0, 1, 1, 0, 0]),
-        (2, [1, 0, 1, 0, 1]),
-        (3, [1, 1, 0, 0, 2]),
-        (4, [0, 1, 1, 0, 0]),
-    ] {
-        rows_in_round(
-            &rt,
-            rt.alloc(),
-            &[a, b, c, t, Merger(3)],
-            4,
-            &[[0, 0, 4, 0], [1, 0, 4, 1], [2, 0, 4, 2], [4, 3, 3, 0]],
-            turn,
-            &want,
-        )?;
-    }
-    Ok(())
-}
-
-/// Writers a and b before a merger, whose output stands with writer c before another. The merger
-/// that stands first among the primitives decides first: rows of the ports and of both mergers in
-/// rounds 1 to 4, where the one behind a and b stands first, and where the other does.
-#[test]
-fn of_two_mergers_in_a_row_the_first_decides_first(rt: HostRuntime) -> Result<(), Fail> {
-    let [a, b, c, t] = FOUR;
-    for (turn, before, behind) in [
-        (1, [0, 1, 1, 0, 0, 0], [0, 1, 1, 0, 0, 0]),
-        (2, [1, 0, 1, 0, 1, 0], [1, 1, 0, 0, 1, 2]),
-        (3, [0, 1, 1, 0, 0, 0], [0, 1, 1, 0, 0, 0]),
-        (4, [1, 0, 1, 0, 1, 0], [1, 1, 0, 0, 1, 2]),
-    ] {
-        let pieces = [a, b, c, t, Merger(2), Merger(2)];
-        for (joints, want) in [
-            (
-                [
-                    [0, 0, 4, 0],
-                    [1, 0, 4, 1],
-                    [4, 2, 5, 0],
-                    [2, 0, 5, 1],
-                    [5, 2, 3, 0],
-                ],
-                before,
-            ),
-            (
-                [
-                    [0, 0, 5, 0],
-                    [1, 0, 5, 1],
-                    [5, 2, 4, 0],
-                    [2, 0, 4, 1],
-                    [4, 2, 3, 0],
-                ],
-                behind,
-            ),
-        ] {
-            rows_in_round(&rt, rt.alloc(), &pieces, 4, &joints, turn, &want)?;
-        }
+fn rounds_go_on_as_worked_out(rt: HostRuntime) -> Result<(), Fail> {
+    for case in CASES {
+        is(&rt, is_right(&rt, rt.alloc(), case)?, case.0);
     }
     Ok(())
 }

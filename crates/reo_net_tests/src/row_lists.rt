@@ -1,19 +1,26 @@
 //! All row lists of one channel and of two, and which of them suit the joints.
-use crate::circuits::BETWEEN;
+use crate::checks::is;
 use crate::pieces::Piece::{self, Taker, Writer};
 use crate::pieces::kinds;
+use crate::shapes::BETWEEN;
 use reo_kinds::Kind;
 use reo_net_base::{Mark, Primitive, marks_match};
 use std::test::Fail;
 
-/// For a writer's and a taker's state: the number of row lists, and those that suit the joints, each as the rows of the
-/// writer, the taker and the channel. Ports have F R J or G J, the channel has FF RG GR JJ.
+/// For a writer's and a taker's state: the number of row lists, and those that suit the joints,
+/// each as the rows of the writer, the taker and the channel. Ports have F R J or G J, the channel
+/// has FF RG GR JJ.
 const CASES: [(bool, bool, u32, &[[usize; 3]]); 4] = [
     (true, true, 36, &[[0, 0, 0], [2, 2, 3]]),
     (true, false, 24, &[[1, 0, 2], [2, 1, 3]]),
     (false, true, 24, &[[0, 1, 1], [1, 2, 3]]),
     (false, false, 16, &[[0, 0, 1], [0, 0, 2], [1, 1, 3]]),
 ];
+
+/// What a writer offers, if anything.
+fn offer(offered: bool) -> Option<i64> {
+    if offered { Some(3) } else { None }
+}
 
 /// The mark of an end on the first side, if there is such a row and such an end.
 fn mark(primitive: &Kind, row: usize, end: usize) -> Option<Mark> {
@@ -79,7 +86,7 @@ fn row_list(number: usize) -> [usize; 3] {
 fn just_listed_suit(primitives: &[Kind], list: &[[usize; 3]]) -> bool {
     for number in 0..36 {
         let rows = row_list(number);
-        if suit_joints(primitives, &rows, &BETWEEN) != is_listed(list, rows) {
+        if suit_joints(primitives, &rows, BETWEEN) != is_listed(list, rows) {
             return false;
         }
     }
@@ -102,19 +109,22 @@ fn count_row_lists(primitives: &[Kind]) -> u32 {
 
 #[test]
 fn the_row_lists_of_one_channel(rt: HostRuntime) -> Result<(), Fail> {
-    for (offered, pending, count, colourings) in CASES {
-        let pieces = [Writer(offered), Taker(pending), Piece::Sync];
+    for (offered, pending, count, colourings) in &CASES {
+        let pieces = [Writer(offer(*offered)), Taker(*pending), Piece::Sync];
         let primitives = kinds(&rt, rt.alloc(), &pieces)?;
-        assert!(rt; just_listed_suit(primitives.as_slice(), colourings));
-        assert!(rt; count_row_lists(primitives.as_slice()) == count);
+        let right = just_listed_suit(primitives.as_slice(), colourings)
+            && count_row_lists(primitives.as_slice()) == *count;
+        is(&rt, right, "one channel");
     }
     Ok(())
 }
 
-/// The joints of two channels between two writers and two takers: a giver's primitive and end, and then a taker's.
+/// The joints of two channels between two writers and two takers: a giver's primitive and end, and
+/// then a taker's.
 const JOINTS: [[usize; 4]; 4] = [[0, 0, 4, 0], [4, 1, 1, 0], [2, 0, 5, 0], [5, 1, 3, 0]];
 
-/// Whether the row lists of two channels suit their joints just where that of each channel is listed.
+/// Whether the row lists of two channels suit their joints just where that of each channel is
+/// listed.
 fn just_pairs_suit(primitives: &[Kind], first: &[[usize; 3]], second: &[[usize; 3]]) -> bool {
     for number in 0..36 * 36 {
         let [w, t, s] = row_list(number / 36);
@@ -129,18 +139,19 @@ fn just_pairs_suit(primitives: &[Kind], first: &[[usize; 3]], second: &[[usize; 
 
 #[test]
 fn the_row_lists_of_two_channels(rt: HostRuntime) -> Result<(), Fail> {
-    for (a, b, _, first) in CASES {
-        for (c, d, _, second) in CASES {
+    for (a, b, _, first) in &CASES {
+        for (c, d, _, second) in &CASES {
             let pieces = [
-                Writer(a),
-                Taker(b),
-                Writer(c),
-                Taker(d),
+                Writer(offer(*a)),
+                Taker(*b),
+                Writer(offer(*c)),
+                Taker(*d),
                 Piece::Sync,
                 Piece::Sync,
             ];
             let primitives = kinds(&rt, rt.alloc(), &pieces)?;
-            assert!(rt; just_pairs_suit(primitives.as_slice(), first, second));
+            let right = just_pairs_suit(primitives.as_slice(), first, second);
+            is(&rt, right, "two channels");
         }
     }
     Ok(())

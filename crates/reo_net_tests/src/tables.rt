@@ -1,21 +1,21 @@
 //! The tables of the kinds, row by row and state by state.
+use crate::checks::is;
 use crate::kept::{Look, is_right};
 use crate::pieces::Piece::{
-    self, Above, AsyncDrain, Lossy, Merger, Offering, Quota, Replicator, Shift, Store, Sync,
-    SyncDrain, Taker, TwiceAndOne, Variable, Writer,
+    self, Above, AsyncDrain, Lossy, Merger, Quota, Replicator, Shift, Store, Sync, SyncDrain,
+    Taker, TwiceAndOne, Variable, Writer,
 };
 use reo_kinds::Kind;
 use reo_net_base::{Mark, Primitive};
-use std::process::Abort;
 use std::test::Fail;
 
 /// A piece, the number of the round, and the rows of its sides, with `|` behind each side. A row is
 /// the marks of its ends, its class, `/`, its group, the end at which it is not as its group or
 /// `-`, and for each end that gives with flow `<` and the end whose item decides or `-`.
 const TABLES: [(Piece, u64, &str); 28] = [
-    (Writer(true), 1, "F0/0-<- R1/1- J2/2- |"),
-    (Writer(false), 1, "G0/0- J1/1- |"),
-    (Offering(Some(10)), 1, "G0/0- J1/1- |"),
+    (Writer(Some(3)), 1, "F0/0-<- R1/1- J2/2- |"),
+    (Writer(None), 1, "G0/0- J1/1- |"),
+    (Writer(Some(10)), 1, "G0/0- J1/1- |"),
     (Taker(true), 1, "F0/0- R1/1- J2/2- |"),
     (Taker(false), 1, "G0/0- J1/1- |"),
     (Sync, 1, "FF0/0-<0 RG1/1- GR1/2- JJ2/3- |"),
@@ -212,35 +212,23 @@ pub fn has_groups(kind: &Kind, groups: &str) -> bool {
     wanted.right && wanted.left.is_empty()
 }
 
-/// Asserts that a case is right.
-pub fn is(rt: &impl Abort, answer: bool, what: usize) {
-    assert!(rt; answer, "case {what}");
-}
-
 #[test]
 fn each_kind_has_its_table_in_each_state(rt: HostRuntime) -> Result<(), Fail> {
-    let mut case: usize = 0;
     for (piece, turn, table) in &TABLES {
-        is(
-            &rt,
-            is_right(&rt, rt.alloc(), *piece, Look::Table(*turn, *table))?,
-            case,
-        );
-        case = case.wrapping_add(1);
+        let look = Look::Table(*turn, *table);
+        is(&rt, is_right(&rt, rt.alloc(), *piece, look)?, table);
     }
     Ok(())
 }
 
 #[test]
 fn rows_stand_in_groups_and_mergers_lead(rt: HostRuntime) -> Result<(), Fail> {
-    let mut case: usize = 0;
     for (piece, groups) in &GROUPS {
         is(
             &rt,
             is_right(&rt, rt.alloc(), *piece, Look::Groups(*groups))?,
-            case,
+            groups,
         );
-        case = case.wrapping_add(1);
     }
     Ok(())
 }

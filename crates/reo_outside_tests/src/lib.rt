@@ -1,5 +1,5 @@
-//! What no contract says of files, sources, sinks and traces: that calls succeed, what real ones do,
-//! and that the texts are those that were meant. Tests alone.
+//! What no contract says of files, sources, sinks and traces: that calls succeed, what real ones
+//! do, and that the texts are those that were meant. Tests alone.
 #![tactic(auto)]
 
 #[cfg(test)]

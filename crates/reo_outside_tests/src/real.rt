@@ -6,6 +6,7 @@ use crate::takes::five_takes;
 use reo_io::{DiskFiles, StdSink, StdSource};
 use reo_values::{Bytes, NoMemory};
 use std::fs::{self, File};
+use std::io::BufWriter;
 use std::process;
 use std::test::Fail;
 
@@ -55,6 +56,24 @@ fn the_wrong_way_round(rt: &HostRuntime, path: &str) -> Result<bool, Fail> {
     )
 }
 
+/// The marks of a put and of a flush through a buffer before a file.
+fn marks_of_buffered(rt: &HostRuntime, file: File) -> Result<[u8; 2], Fail> {
+    let mut sink = StdSink::new(BufWriter::new(rt.alloc(), file)?);
+    let put = mark_of_put(b"abc", &mut sink);
+    let flush = if sink.flush().is_ok() { b'.' } else { b'!' };
+    let (_file, _left) = sink.into_writer().into_parts();
+    Ok([put, flush])
+}
+
+/// What is put through a buffer is taken, and comes to the file by the flush, which fails where
+/// the file is open for reading.
+fn buffered(rt: &HostRuntime, path: &str) -> Result<bool, Fail> {
+    let written = marks_of_buffered(rt, File::create(rt, path)?)? == [b'.', b'.'];
+    let all = disk_says(rt, path.as_bytes(), 9, ".abc")?;
+    let unwritten = marks_of_buffered(rt, File::open(rt, path)?)? == [b'.', b'!'];
+    Ok(written && all && unwritten)
+}
+
 #[test]
 fn the_real_ones_write_and_read_a_file(rt: HostRuntime) -> Result<(), Fail> {
     let path = path_of(&rt)?;
@@ -67,6 +86,7 @@ fn the_real_ones_write_and_read_a_file(rt: HostRuntime) -> Result<(), Fail> {
         the_wrong_way_round(&rt, path.as_str())?,
         "the wrong way round",
     );
+    is(&rt, buffered(&rt, path.as_str())?, "buffered");
     fs::remove_file(&rt, path.as_str())?;
     is(&rt, disk_says(&rt, path.as_bytes(), 9, "!")?, "no file");
     is(&rt, disk_says(&rt, b"\xff", 9, "!")?, "no text");

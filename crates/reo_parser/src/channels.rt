@@ -4,10 +4,10 @@ ghost use Rattle.reo_grammar.specs.Grammar.{read, reads, starts};
 ghost use Rattle.reo_cursor.specs.Reading.{Gives};
 ghost use Rattle.reo_trees.specs.Channels.{plain_channels, plain_channel as channel_form, plain_form, held_form, fifo1_form, literals_form, held_list as held_list_form, fifo_form, filter_form, map_form};
 ghost use Rattle.reo_trees.specs.Rules.{circuit_rules};
-ghost use Rattle.reo_parser_terms.specs.Reading.{read_plain};
+ghost use Rattle.reo_terms.specs.Reading.{read_plain};
 
 use reo_cursor::{Cursor, Halt};
-use reo_parser_terms::{literal, names_before, term_before};
+use reo_terms::{literal, names_before, term_before};
 use reo_trees::{Channel, Form, Literal};
 use reo_values::List;
 use std::alloc::Global;
@@ -16,14 +16,15 @@ use std::alloc::Global;
 const MOST_PLACES: u64 = 1024;
 
 /// Whether a channel that is a word and two nodes is next.
-#[tactic(auto, using(reo_parser_terms::proofs::Among::among_more))]
+#[tactic(auto, using(reo_terms::proofs::Among::among_more))]
 pub fn is_plain(cursor: &Cursor) -> bool
     ensures { result ≡ starts plain_channels cursor.now }
 {
     cursor.is(b"sync") || cursor.is(b"lossy") || cursor.is(b"syncdrain") || cursor.is(b"asyncdrain")
 }
 
-fn plain_channel(cursor: &mut Cursor) -> Result<Channel, Halt>
+/// The word of a channel that is a word and two nodes.
+pub fn plain_channel(cursor: &mut Cursor) -> Result<Channel, Halt>
     ensures { Gives result cursor.new (read_plain channel_form cursor.old) }
 {
     if cursor.is(b"sync") {
@@ -54,8 +55,8 @@ pub fn plain(cursor: &mut Cursor, alloc: Global) -> Result<Form, Halt>
     })
 }
 
-/// The item that a buffer with one place holds at first.
-fn held(cursor: &mut Cursor, alloc: Global, room: usize) -> Result<Option<Literal>, Halt>
+/// The item that a buffer with one place holds at first, with rules nested at most `room` deep.
+pub fn held(cursor: &mut Cursor, alloc: Global, room: usize) -> Result<Option<Literal>, Halt>
     ensures { Gives result cursor.new (read (reads circuit_rules room) held_form cursor.old) }
 {
     if cursor.is(b"with") {
@@ -97,8 +98,8 @@ fn literals(cursor: &mut Cursor, alloc: Global, room: usize) -> Result<List<Lite
     Ok(literals)
 }
 
-/// The items that a buffer holds at first.
-fn held_list(cursor: &mut Cursor, alloc: Global, room: usize) -> Result<List<Literal>, Halt>
+/// The items that a buffer holds at first, with rules nested at most `room` deep.
+pub fn held_list(cursor: &mut Cursor, alloc: Global, room: usize) -> Result<List<Literal>, Halt>
     ensures { Gives result cursor.new (read (reads circuit_rules room) held_list_form cursor.old) }
 {
     if cursor.is(b"with") {

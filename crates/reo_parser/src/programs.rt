@@ -6,17 +6,17 @@ ghost use Rattle.reo_trees.specs.Forms.{word, ◌▸◌, ◌◂◌};
 ghost use Rattle.reo_trees.specs.Items.{items_form};
 ghost use Rattle.reo_trees.specs.Programs.{ways, way_form, parameter_form, parameters_form, connector_form, named_form, declaration_form, declaration_words, declarations_form, program_form};
 ghost use Rattle.reo_trees.specs.Rules.{circuit_rules};
-ghost use Rattle.reo_parser_terms.specs.Reading.{read_plain};
+ghost use Rattle.reo_terms.specs.Reading.{read_plain};
 
 use crate::items::items;
 use reo_cursor::{Cursor, Halt};
-use reo_parser_terms::{name_before, type_before, type_term};
+use reo_terms::{name_before, type_before, type_term};
 use reo_trees::{Connector, Declaration, Item, Parameter, Program};
 use reo_values::List;
 use std::alloc::Global;
 
 /// Whether `in` or `out` is next.
-#[tactic(auto, using(reo_parser_terms::proofs::Among::among_more))]
+#[tactic(auto, using(reo_terms::proofs::Among::among_more))]
 fn is_way(cursor: &Cursor) -> bool
     ensures { result ≡ starts ways cursor.now }
 {
@@ -51,7 +51,8 @@ fn parameter(cursor: &mut Cursor, alloc: Global, room: usize) -> Result<Paramete
     })
 }
 
-fn parameters(cursor: &mut Cursor, alloc: Global, room: usize) -> Result<List<Parameter>, Halt>
+/// The parameters of a connector, with rules nested at most `room` deep.
+pub fn parameters(cursor: &mut Cursor, alloc: Global, room: usize) -> Result<List<Parameter>, Halt>
     ensures { Gives result cursor.new (read (reads circuit_rules room) parameters_form cursor.old) }
 {
     let mut parameters = List::new(alloc);
@@ -69,7 +70,9 @@ fn parameters(cursor: &mut Cursor, alloc: Global, room: usize) -> Result<List<Pa
 
 /// The items of a connector, with the braces round them.
 fn body(cursor: &mut Cursor, alloc: Global, room: usize) -> Result<List<Item>, Halt>
-    ensures { Gives result cursor.new (read (reads circuit_rules room) (word (codes "{") ▸ items_form ◂ word (codes "}")) cursor.old) }
+    ensures { Gives result cursor.new
+        (read (reads circuit_rules room)
+        (word (codes "{") ▸ items_form ◂ word (codes "}")) cursor.old) }
 {
     cursor.expect(b"{")?;
     let items = items(cursor, alloc, room)?;
@@ -105,7 +108,8 @@ fn named(cursor: &mut Cursor, alloc: Global, room: usize) -> Result<Declaration,
 }
 
 fn declaration(cursor: &mut Cursor, alloc: Global, room: usize) -> Result<Declaration, Halt>
-    ensures { Gives result cursor.new (read (reads circuit_rules room) declaration_form cursor.old) }
+    ensures { Gives result cursor.new
+        (read (reads circuit_rules room) declaration_form cursor.old) }
 {
     if cursor.is(b"type") {
         named(cursor, alloc, room)
@@ -116,15 +120,16 @@ fn declaration(cursor: &mut Cursor, alloc: Global, room: usize) -> Result<Declar
 }
 
 /// Whether a declaration begins with the next token.
-#[tactic(auto, using(reo_parser_terms::proofs::Among::among_more))]
-fn is_declaration(cursor: &Cursor) -> bool
+#[tactic(auto, using(reo_terms::proofs::Among::among_more))]
+pub fn is_declaration(cursor: &Cursor) -> bool
     ensures { result ≡ starts declaration_words cursor.now }
 {
     cursor.is(b"type") || cursor.is(b"connector")
 }
 
 fn declarations(cursor: &mut Cursor, alloc: Global, room: usize) -> Result<List<Declaration>, Halt>
-    ensures { Gives result cursor.new (read (reads circuit_rules room) declarations_form cursor.old) }
+    ensures { Gives result cursor.new
+        (read (reads circuit_rules room) declarations_form cursor.old) }
 {
     let mut declarations = List::new(alloc);
     'declarations: while is_declaration(cursor) {

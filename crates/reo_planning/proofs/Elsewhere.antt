@@ -13,7 +13,7 @@ use Rattle.reo_knots.specs.Knots.{Knotted, AreKnots, in_knot, knot_count}
 use Rattle.reo_still.specs.Joining.{HasFirst}
 use Rattle.reo_still.specs.Still.{IsStill}
 use Rattle.reo_still.proofs.Rounds.{still_stay_first}
-use Rattle.reo_still_weights.proofs.WithinLemmas.{alike_weigh}
+use Rattle.reo_still.proofs.WithinLemmas.{alike_weigh}
 use Rattle.reo_planning.specs.declared.kept.Kept.{Kept}
 use Rattle.reo_planning.specs.Keeping.{is_settled, is_moving, FlowsIn, HasSizes, IsKnown, IsKept}
 use Rattle.reo_planning.specs.Unsettling.{AreFewer, IsElsewhere, KeptElsewhere, KeptLater}

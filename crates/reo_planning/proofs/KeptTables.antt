@@ -5,11 +5,11 @@ use Rattle.reo_net_base.specs.Wired.{IsWired}
 use Rattle.reo_net_circuit.proofs.Cases.{eq_cases}
 use Rattle.reo_net_ends.specs.Ends.{AreEnds}
 use Rattle.reo_knots.specs.Knots.{Knotted, AreKnots, in_knot, knot_count}
-use Rattle.reo_tables.specs.declared.tables.Tables.{Tables}
-use Rattle.reo_tables.specs.Tables.{HasRoom, AreReady, AreRightOn}
-use Rattle.reo_tables.specs.Laws.{IsSameOn}
-use Rattle.reo_tables.proofs.Readied.{ready_tables_are_right, right_parts_are_ready}
-use Rattle.reo_tables.proofs.Staying.{right_tables_stay, room_stays}
+use Rattle.reo_kept_tables.specs.declared.tables.Tables.{Tables}
+use Rattle.reo_kept_tables.specs.Tables.{HasRoom, AreReady, AreRightOn}
+use Rattle.reo_kept_tables.specs.Laws.{IsSameOn}
+use Rattle.reo_kept_tables.proofs.Readied.{ready_tables_are_right, right_parts_are_ready}
+use Rattle.reo_kept_tables.proofs.Staying.{right_tables_stay, room_stays}
 use Rattle.reo_planning.specs.declared.kept.Kept.{Kept}
 use Rattle.reo_planning.specs.Keeping.{is_settled}
 use Rattle.reo_planning.specs.Tables.{AreKeptTables, MayStay, TablesElsewhere}

@@ -3,7 +3,7 @@ use Rattle.std.proofs.Common.{◌≡◌, ℕ, zero, suc, ◌+◌, ◌<◌, Bool,
 use Rattle.std.specs.Bool.{◌==◌}
 use Rattle.std.proofs.lemmas.List.{length-set}
 use Rattle.reo_net_laws.specs.Sublists.{part_rows}
-use Rattle.reo_support.proofs.Labels.{same_eq, eq_same}
+use Rattle.reo_joint_values.proofs.Equal.{same_eq, eq_same}
 use Rattle.reo_propagate.specs.Queues.{among}
 use Rattle.reo_propagate.proofs.Among.{among_more}
 use Rattle.reo_planning.specs.Written.{AreWritten}

@@ -3,8 +3,8 @@ use Rattle.std.specs.Prelude.{ℕ, ◌≡◌, Bool}
 use Rattle.reo_net_base.specs.Net.{Net}
 use Rattle.reo_weights.specs.Over.{IsOverBy}
 use Rattle.reo_weights.specs.Over.Cause.{spent, wide}
-use Rattle.reo_engine_base.specs.declared.plan.PlanFault.{PlanFault}
-use Rattle.reo_engine_base.specs.declared.plan.PlanFault.TheVariants as plans
+use Rattle.reo_rounds.specs.declared.plan.PlanFault.{PlanFault}
+use Rattle.reo_rounds.specs.declared.plan.PlanFault.TheVariants as plans
 use Rattle.reo_search.specs.declared.fault.SearchFault.{SearchFault}
 use Rattle.reo_search.specs.declared.fault.SearchFault.TheVariants as searches
 

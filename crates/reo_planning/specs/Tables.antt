@@ -3,8 +3,8 @@ use Rattle.std.specs.Prelude.{ℕ, ◌<◌, ◌≡◌, true, Option, Some, None}
 use Rattle.reo_net_base.specs.Net.{Net}
 use Rattle.reo_net_base.specs.Wired.{IsWired}
 use Rattle.reo_knots.specs.Knots.{Knotted, AreKnots, in_knot, knot_count}
-use Rattle.reo_tables.specs.declared.tables.Tables.{Tables}
-use Rattle.reo_tables.specs.Tables.{AreRightOn, HasRoom}
+use Rattle.reo_kept_tables.specs.declared.tables.Tables.{Tables}
+use Rattle.reo_kept_tables.specs.Tables.{AreRightOn, HasRoom}
 use Rattle.reo_planning.specs.declared.kept.Kept.{Kept}
 use Rattle.reo_planning.specs.Keeping.{is_settled}
 use Rattle.reo_planning.specs.Unsettling.{AreFewer, IsElsewhere}

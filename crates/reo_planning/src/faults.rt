@@ -1,7 +1,7 @@
 //! Why a round cannot be planned.
 ghost use Rattle.reo_planning.specs.Faults.{SaysSame};
 
-use reo_engine_base::PlanFault;
+use reo_rounds::PlanFault;
 use reo_search::SearchFault;
 
 /// Why a round cannot be planned, by why a part is not searched.

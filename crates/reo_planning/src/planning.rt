@@ -4,9 +4,9 @@ ghost use Rattle.reo_net_base.specs.Net.{net_of};
 ghost use Rattle.reo_net_base.specs.Colouring.{RowsFit};
 ghost use Rattle.reo_net_ends.specs.Ends.{AreEnds};
 ghost use Rattle.reo_knots.specs.Knots.{AreKnots, knot_count};
-ghost use Rattle.reo_engine_base.specs.Plans.{IsPlanFault};
-ghost use Rattle.reo_tables.specs.Orders.{AreOrders};
-ghost use Rattle.reo_tables.specs.Tables.{AreReady};
+ghost use Rattle.reo_rounds.specs.Plans.{IsPlanFault};
+ghost use Rattle.reo_kept_tables.specs.Orders.{AreOrders};
+ghost use Rattle.reo_kept_tables.specs.Tables.{AreReady};
 ghost use Rattle.reo_planning.specs.Keeping.{AllServe, IsKept};
 ghost use Rattle.reo_planning.specs.Planned.{ArePlanned, IsFirstBy, AreWeights, sum_below, weight_left};
 ghost use Rattle.reo_planning.specs.Tables.{MayBeKept, MayStay};
@@ -16,14 +16,14 @@ use crate::parts::plan_part;
 use crate::renewing::renewed;
 use crate::rows::copied;
 use crate::tables::tables_of;
-use reo_engine_base::PlanFault;
+use reo_kept_tables::Tables;
 use reo_knots::Knots;
 use reo_net_base::{Colouring, Primitive};
 use reo_net_circuit::Circuit;
 use reo_net_colouring::fill_with;
 use reo_net_ends::Ends;
+use reo_rounds::PlanFault;
 use reo_steps::Steps;
-use reo_tables::Tables;
 use reo_values::List;
 use std::alloc::Global;
 use std::sync::ledger::Ledger;
@@ -112,7 +112,8 @@ fn rows_by_parts<P: Primitive, L: Ledger>(
 /// as many ticks as the weights of those say together.
 ///
 /// The tables are kept from round to round: only what they have of parts that are not settled is
-/// made anew. Where there are none they are made for the whole circuit; after a fault there are none.
+/// made anew. Where there are none they are made for the whole circuit; after a fault there are
+/// none.
 ///
 /// # Errors
 ///

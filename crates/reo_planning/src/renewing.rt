@@ -3,18 +3,18 @@ ghost use Rattle.std.specs.Prelude.{◌≡◌, ◌≢◌, ◌<◌, ℕ, true, If
 ghost use Rattle.reo_net_base.specs.Net.{net_of};
 ghost use Rattle.reo_net_ends.specs.Ends.{AreEnds};
 ghost use Rattle.reo_knots.specs.Knots.{AreKnots, in_knot, knot_count};
-ghost use Rattle.reo_tables.specs.Orders.{AreOrders};
-ghost use Rattle.reo_tables.specs.Tables.{AreReady, AreRightOn, HasRoom};
+ghost use Rattle.reo_kept_tables.specs.Orders.{AreOrders};
+ghost use Rattle.reo_kept_tables.specs.Tables.{AreReady, AreRightOn, HasRoom};
 ghost use Rattle.reo_planning.specs.Keeping.{is_settled};
 ghost use Rattle.reo_planning.specs.Tables.{AreKeptTables, MayBeKept};
 
 use crate::kept::Kept;
 use crate::tables::tables_of;
+use reo_kept_tables::{Tables, refresh_part};
 use reo_knots::Knots;
 use reo_net_base::Primitive;
 use reo_net_circuit::Circuit;
 use reo_net_ends::Ends;
-use reo_tables::{Tables, refresh_part};
 use reo_values::{List, NoMemory};
 use std::alloc::Global;
 

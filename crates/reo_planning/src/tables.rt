@@ -2,15 +2,15 @@
 ghost use Rattle.std.specs.Prelude.{◌≡◌, ◌<◌, IfOk, length};
 ghost use Rattle.reo_net_base.specs.Net.{net_of};
 ghost use Rattle.reo_net_ends.specs.Ends.{AreEnds};
-ghost use Rattle.reo_tables.specs.Tables.{AreReady};
+ghost use Rattle.reo_kept_tables.specs.Tables.{AreReady};
 
-use reo_boards::boards_of;
+use reo_kept_tables::Tables;
 use reo_net_base::Primitive;
 use reo_net_circuit::Circuit;
 use reo_net_ends::Ends;
 use reo_propagate::begin;
 use reo_reach::reach;
-use reo_tables::Tables;
+use reo_side_tables::boards_of;
 use reo_values::NoMemory;
 use std::alloc::Global;
 

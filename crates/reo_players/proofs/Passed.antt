@@ -3,10 +3,10 @@ use Rattle.std.proofs.Common.{◌≡◌, ◌∙◌, ℕ, suc, true, false, ◌-�
 use Rattle.std.proofs.lemmas.List.{append_assoc}
 use Rattle.std.proofs.lemmas.Option.{slice_get_cases}
 use Rattle.reo_players.proofs.Stands.{rest_by, stands_by, stands_of}
-use Rattle.reo_script_base.specs.declared.action.Action as action
-use Rattle.reo_script_base.specs.declared.action.Action.{Action, Repeat}
+use Rattle.reo_scripts.specs.declared.action.Action as action
+use Rattle.reo_scripts.specs.declared.action.Action.{Action, Repeat}
 use Rattle.reo_players.specs.declared.counter.Counter.{Counter}
-use Rattle.reo_rules_base.specs.Lists.{first_of}
+use Rattle.reo_rules.specs.Lists.{first_of}
 use Rattle.reo_players.specs.Written.{Task, times_over, written}
 use Rattle.reo_players.specs.Written.Task.{writes, takes, rests}
 use Rattle.reo_players.specs.Counters.{actions_in, levels_within, levels_of, IsLive, AreLive, rest_here, rest_of, rest_within, Stands, StandsHere, PassedOn, PassedWithin, task_of}

@@ -1,4 +1,5 @@
-//! Components in a run: how far each has come in its written-out list of actions, and what it offers.
+//! Components in a run: how far each has come in its written-out list of actions, and what it
+//! offers.
 #![tactic(auto)]
 
 mod counter;

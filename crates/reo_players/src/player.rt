@@ -7,7 +7,7 @@ ghost use Rattle.reo_players.specs.Players.{after, step_of, beginning_of, presen
 use crate::counter::{Counter, levels, pass, stand_at, standing};
 use crate::live::live_of;
 use crate::step::Step;
-use reo_script_base::{Action, Component};
+use reo_scripts::{Action, Component};
 use reo_values::{List, NoMemory};
 use std::alloc::Global;
 use std::marker::Model;
@@ -33,9 +33,11 @@ impl Model for Player {
 
     ghost coded = { player_code item.the_row.coded };
 
-    ghost view = { λ p. record { rest = rest_left p.done p.actions p.counters.items; seen = p.seen } };
+    ghost view = { λ p.
+        record { rest = rest_left p.done p.actions p.counters.items; seen = p.seen } };
 
-    ghost invariant = { λ p. AreLive p.actions × (levels_of p.actions ≤ length p.counters.items) × StandsUntil p.done p.actions p.counters.items };
+    ghost invariant = { λ p. AreLive p.actions × (levels_of p.actions ≤ length p.counters.items)
+        × StandsUntil p.done p.actions p.counters.items };
 }
 
 impl Player {
@@ -60,7 +62,8 @@ impl Player {
 
     /// Its present action, which is no repeat; None where it is done.
     pub fn present(&self) -> Option<&Action>
-        ensures { MatchOption result (present self.now ≡ None) (λ a. (present self.now ≡ task_of a.now) × IsSome (task_of a.now)) }
+        ensures { MatchOption result (present self.now ≡ None)
+            (λ a. (present self.now ≡ task_of a.now) × IsSome (task_of a.now)) }
     {
         if self.done {
             None

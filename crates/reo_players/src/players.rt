@@ -5,7 +5,7 @@ ghost use Rattle.reo_players.specs.Wants.{Wants};
 
 use crate::player::Player;
 use crate::step::Step;
-use reo_script_base::{Action, Component, Script};
+use reo_scripts::{Action, Component, Script};
 use reo_values::{List, NoMemory, Value};
 use std::alloc::Global;
 use std::marker::Model;

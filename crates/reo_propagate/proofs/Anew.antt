@@ -5,9 +5,9 @@ use Rattle.std.proofs.Common.{◌&&◌}
 use Rattle.std.proofs.lemmas.Bool.Decides.{eqb_tells}
 use Rattle.std.proofs.lemmas.List.{length-set}
 use Rattle.reo_net_base.specs.Net.{Net}
-use Rattle.reo_support.proofs.Labels.{same_eq}
-use Rattle.reo_boards.specs.Marks.{IsJointOf}
-use Rattle.reo_propagate_rows.specs.Flags.{flag, AreAlikeTables}
+use Rattle.reo_joint_values.proofs.Equal.{same_eq}
+use Rattle.reo_side_tables.specs.Marks.{IsJointOf}
+use Rattle.reo_rows.specs.Flags.{flag, AreAlikeTables}
 use Rattle.reo_propagate.specs.declared.state.State.{State}
 use Rattle.reo_propagate.specs.Setting.{AreSet, IsOfFirst, IsJointOfFirst, IsFresh, AreFresh}
 

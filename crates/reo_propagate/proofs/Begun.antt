@@ -7,16 +7,16 @@ use Rattle.reo_net_base.specs.Net.{Net, all_sides, no_side, row_count}
 use Rattle.reo_net_base.specs.Sides.{side_count}
 use Rattle.reo_net_laws.proofs.Sides.{below_or}
 use Rattle.reo_net_ends.specs.Ends.{AreEnds}
-use Rattle.reo_support.specs.declared.value.JointValue.{JointValue}
-use Rattle.reo_support.specs.Values.{Names, Family}
-use Rattle.reo_boards.specs.declared.board.Board.{Board}
-use Rattle.reo_boards.specs.Boards.{AreBoards}
-use Rattle.reo_boards.specs.Listing.{StandsIn}
-use Rattle.reo_boards.specs.Marks.{IsJointOf}
-use Rattle.reo_propagate_rows.specs.declared.rows.Rows.{Rows}
-use Rattle.reo_propagate_rows.specs.Flags.{flag}
-use Rattle.reo_propagate_rows.specs.Sets.{code_of, family_of, names_of, IsReady}
-use Rattle.reo_propagate_rows.specs.Rows.{AreTables, AreLive}
+use Rattle.reo_joint_values.specs.declared.value.JointValue.{JointValue}
+use Rattle.reo_joint_values.specs.Values.{Names, Family}
+use Rattle.reo_side_tables.specs.declared.board.Board.{Board}
+use Rattle.reo_side_tables.specs.Boards.{AreBoards}
+use Rattle.reo_side_tables.specs.Listing.{StandsIn}
+use Rattle.reo_side_tables.specs.Marks.{IsJointOf}
+use Rattle.reo_rows.specs.declared.rows.Rows.{Rows}
+use Rattle.reo_rows.specs.Flags.{flag}
+use Rattle.reo_rows.specs.Sets.{code_of, family_of, names_of, IsReady}
+use Rattle.reo_rows.specs.Rows.{AreTables, AreLive}
 use Rattle.reo_propagate.specs.declared.state.State.{State}
 use Rattle.reo_propagate.specs.Queues.{among}
 use Rattle.reo_propagate.specs.Beginning.{AreFlags, IsSearch}

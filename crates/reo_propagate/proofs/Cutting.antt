@@ -3,8 +3,8 @@ use Rattle.std.proofs.Common.{◌≡◌, ◌≢◌, ◌⊎◌, ◌↔◌, inl, i
 use Rattle.std.specs.Bool.{◌==◌}
 use Rattle.std.proofs.lemmas.Bool.{cases_eq, both_ways, and_parts}
 use Rattle.std.proofs.lemmas.List.{get_or_past}
-use Rattle.reo_support.proofs.Labels.{same_eq, other_eq}
-use Rattle.reo_propagate_rows.specs.Flags.{flag, AreAlikeTables}
+use Rattle.reo_joint_values.proofs.Equal.{same_eq, other_eq}
+use Rattle.reo_rows.specs.Flags.{flag, AreAlikeTables}
 use Rattle.reo_propagate.specs.declared.thinning.Loss.{Loss}
 use Rattle.reo_propagate.specs.Narrow.{IsCut}
 

@@ -5,13 +5,13 @@ use Rattle.std.proofs.lemmas.Bool.{cases_eq, cases_Bool, and_parts, or_left, or_
 use Rattle.std.proofs.lemmas.List.{get_or_past, take_more, take_all}
 use Rattle.reo_net_base.specs.Net.{Net}
 use Rattle.reo_net_laws.proofs.Sides.{below_or}
-use Rattle.reo_support.specs.declared.value.JointValue.{JointValue}
-use Rattle.reo_support.specs.Values.{giver_side}
-use Rattle.reo_support.proofs.Labels.{same_eq, eq_same, other_eq}
-use Rattle.reo_boards.specs.Listing.{Lists}
-use Rattle.reo_boards.specs.Marks.{IsJointOf}
-use Rattle.reo_boards.specs.Flowing.{gives_at}
-use Rattle.reo_propagate_rows.specs.Sets.{family_of}
+use Rattle.reo_joint_values.specs.declared.value.JointValue.{JointValue}
+use Rattle.reo_joint_values.specs.Values.{giver_side}
+use Rattle.reo_joint_values.proofs.Equal.{same_eq, eq_same, other_eq}
+use Rattle.reo_side_tables.specs.Listing.{Lists}
+use Rattle.reo_side_tables.specs.Marks.{IsJointOf}
+use Rattle.reo_side_tables.specs.Flowing.{gives_at}
+use Rattle.reo_rows.specs.Sets.{family_of}
 use Rattle.reo_propagate.specs.Queues.{among}
 use Rattle.reo_propagate.proofs.Among.{among_at, among_more}
 use Rattle.reo_propagate.specs.ListedSets.{in_set, listed, AreKept, HaveSome}

@@ -6,13 +6,13 @@ use Rattle.reo_values.specs.declared.value.Value.{Value}
 use Rattle.reo_net_base.specs.Net.{Net}
 use Rattle.reo_net_laws.specs.Parts.{IsClosed}
 use Rattle.reo_net_laws.proofs.Sides.{below_or}
-use Rattle.reo_support.specs.declared.value.JointValue.{JointValue}
-use Rattle.reo_support.specs.Values.{Names, Family, giver_side, AtSide}
-use Rattle.reo_support.specs.Supported.{IsInGreatest}
-use Rattle.reo_support.proofs.Rows.{at_inside}
-use Rattle.reo_boards.specs.Marks.{IsJointOf}
-use Rattle.reo_propagate_rows.specs.Sets.{code_of, family_of}
-use Rattle.reo_propagate_rows.proofs.Codes.{flag_in}
+use Rattle.reo_joint_values.specs.declared.value.JointValue.{JointValue}
+use Rattle.reo_joint_values.specs.Values.{Names, Family, giver_side, AtSide}
+use Rattle.reo_joint_values.specs.Supported.{IsInGreatest}
+use Rattle.reo_joint_values.proofs.Inside.{at_inside}
+use Rattle.reo_side_tables.specs.Marks.{IsJointOf}
+use Rattle.reo_rows.specs.Sets.{code_of, family_of}
+use Rattle.reo_rows.proofs.Codes.{flag_in}
 use Rattle.reo_propagate.specs.Narrow.{AreGreatest}
 use Rattle.reo_propagate.specs.ListedSets.{listed, AreKept, HaveSome, HaveFlags, AreLeft, AreInSupply, AreFullAt}
 

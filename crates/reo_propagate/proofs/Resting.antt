@@ -4,19 +4,19 @@ use Rattle.std.specs.Bool.{◌==◌}
 use Rattle.std.proofs.lemmas.Bool.{cases_eq}
 use Rattle.reo_net_base.specs.Net.{Net}
 use Rattle.reo_net_base.specs.Wired.{IsWired}
-use Rattle.reo_support.specs.declared.value.JointValue.{JointValue}
-use Rattle.reo_support.specs.declared.value.JointValue.TheVariants.{Flow}
-use Rattle.reo_support.specs.Values.{Names, Family, no_joint, giver_side, taker_side, AtSide}
-use Rattle.reo_support.proofs.Works.{works_more}
-use Rattle.reo_support.proofs.Narrowing.{settled_same}
-use Rattle.reo_boards.specs.Marks.{group_in, IsJointOf}
-use Rattle.reo_propagate_rows.specs.declared.rows.Rows.{Rows}
-use Rattle.reo_propagate_rows.specs.declared.groups.Group.{Group}
-use Rattle.reo_propagate_rows.specs.Flags.{flag}
-use Rattle.reo_propagate_rows.specs.Sets.{code_of, family_of}
-use Rattle.reo_propagate_rows.specs.Groups.{live_in, IsNoted, AreNoted}
-use Rattle.reo_propagate_rows.specs.Rows.{AreLive, IsSifted, IsSeen, IsLiveUse, OtherSidesStay, IsSpared}
-use Rattle.reo_propagate_rows.proofs.Staying.{stays_sifted, stays_settled}
+use Rattle.reo_joint_values.specs.declared.value.JointValue.{JointValue}
+use Rattle.reo_joint_values.specs.declared.value.JointValue.TheVariants.{Flow}
+use Rattle.reo_joint_values.specs.Values.{Names, Family, no_joint, giver_side, taker_side, AtSide}
+use Rattle.reo_joint_values.proofs.Works.{works_more}
+use Rattle.reo_joint_values.proofs.Narrowing.{settled_same}
+use Rattle.reo_side_tables.specs.Marks.{group_in, IsJointOf}
+use Rattle.reo_rows.specs.declared.rows.Rows.{Rows}
+use Rattle.reo_rows.specs.declared.groups.Group.{Group}
+use Rattle.reo_rows.specs.Flags.{flag}
+use Rattle.reo_rows.specs.Sets.{code_of, family_of}
+use Rattle.reo_rows.specs.Groups.{live_in, IsNoted, AreNoted}
+use Rattle.reo_rows.specs.Rows.{AreLive, IsSifted, IsSeen, IsLiveUse, OtherSidesStay, IsSpared}
+use Rattle.reo_rows.proofs.Staying.{stays_sifted, stays_settled}
 use Rattle.reo_propagate.specs.declared.queue.Queue.{Queue}
 use Rattle.reo_propagate.specs.declared.thinning.Loss.{Loss}
 use Rattle.reo_propagate.specs.Narrow.{IsAtRest, IsAwakeOrStays, IsCut, OtherRowsMayGo}

@@ -4,19 +4,19 @@ use Rattle.reo_values.specs.declared.value.Value.{Value}
 use Rattle.reo_net_base.specs.Net.{Net}
 use Rattle.reo_net_base.specs.Wired.{IsWired}
 use Rattle.reo_net_laws.proofs.Sides.{below_or}
-use Rattle.reo_support.specs.declared.value.JointValue.{JointValue}
-use Rattle.reo_support.specs.Values.{Names, Family, AtSide}
-use Rattle.reo_support.specs.Supported.{IsUsed, IsThinned}
-use Rattle.reo_support.proofs.Narrowing.{thinned_none, narrowed_twice, narrowed_thinned}
-use Rattle.reo_boards.specs.declared.board.Board.{Board}
-use Rattle.reo_boards.specs.Listing.{Lists}
-use Rattle.reo_boards.specs.Marks.{IsJointOf}
-use Rattle.reo_propagate_rows.specs.declared.groups.Group.{Group}
-use Rattle.reo_propagate_rows.specs.declared.rows.Rows.{Rows}
-use Rattle.reo_propagate_rows.specs.Flags.{flag, count_set, AreAlikeTables}
-use Rattle.reo_propagate_rows.specs.Sets.{code_of, value_of, family_of, names_of, IsReady}
-use Rattle.reo_propagate_rows.proofs.Codes.{flag_value}
-use Rattle.reo_propagate_rows.specs.Rows.{AreTables, IsSifted, IsSeen, OtherSidesStay}
+use Rattle.reo_joint_values.specs.declared.value.JointValue.{JointValue}
+use Rattle.reo_joint_values.specs.Values.{Names, Family, AtSide}
+use Rattle.reo_joint_values.specs.Supported.{IsUsed, IsThinned}
+use Rattle.reo_joint_values.proofs.Narrowing.{thinned_none, narrowed_twice, narrowed_thinned}
+use Rattle.reo_side_tables.specs.declared.board.Board.{Board}
+use Rattle.reo_side_tables.specs.Listing.{Lists}
+use Rattle.reo_side_tables.specs.Marks.{IsJointOf}
+use Rattle.reo_rows.specs.declared.groups.Group.{Group}
+use Rattle.reo_rows.specs.declared.rows.Rows.{Rows}
+use Rattle.reo_rows.specs.Flags.{flag, count_set, AreAlikeTables}
+use Rattle.reo_rows.specs.Sets.{code_of, value_of, family_of, names_of, IsReady}
+use Rattle.reo_rows.proofs.Codes.{flag_value}
+use Rattle.reo_rows.specs.Rows.{AreTables, IsSifted, IsSeen, OtherSidesStay}
 use Rattle.reo_propagate.specs.declared.queue.Queue.{Queue}
 use Rattle.reo_propagate.specs.declared.thinning.Loss.{Loss}
 use Rattle.reo_propagate.specs.declared.state.State.{State}

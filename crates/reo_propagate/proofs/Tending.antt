@@ -5,18 +5,18 @@ use Rattle.std.proofs.lemmas.List.{get_or_past, length-set}
 use Rattle.reo_net_base.specs.Net.{Net}
 use Rattle.reo_net_base.specs.Sides.{side_count}
 use Rattle.reo_net_base.specs.Wired.{IsWired}
-use Rattle.reo_support.specs.declared.value.JointValue.{JointValue}
-use Rattle.reo_support.specs.Values.{Names, Family, AtSide}
-use Rattle.reo_support.specs.Supported.{IsUsed, IsSupported, IsThinned}
-use Rattle.reo_support.proofs.Narrowing.{at_cases, used_still}
-use Rattle.reo_boards.specs.Listing.{StandsIn, Lists}
-use Rattle.reo_boards.specs.Marks.{IsJointOf}
-use Rattle.reo_propagate_rows.specs.declared.rows.Rows.{Rows}
-use Rattle.reo_propagate_rows.specs.Flags.{flag}
-use Rattle.reo_propagate_rows.specs.Sets.{code_of, family_of}
-use Rattle.reo_propagate_rows.specs.Groups.{AreNoted}
-use Rattle.reo_propagate_rows.specs.Rows.{AreLive, IsSifted, OtherSidesStay, IsSpared}
-use Rattle.reo_propagate_rows.proofs.Thinned.{live_less, sifted_thinned}
+use Rattle.reo_joint_values.specs.declared.value.JointValue.{JointValue}
+use Rattle.reo_joint_values.specs.Values.{Names, Family, AtSide}
+use Rattle.reo_joint_values.specs.Supported.{IsUsed, IsSupported, IsThinned}
+use Rattle.reo_joint_values.proofs.Narrowing.{at_cases, used_still}
+use Rattle.reo_side_tables.specs.Listing.{StandsIn, Lists}
+use Rattle.reo_side_tables.specs.Marks.{IsJointOf}
+use Rattle.reo_rows.specs.declared.rows.Rows.{Rows}
+use Rattle.reo_rows.specs.Flags.{flag}
+use Rattle.reo_rows.specs.Sets.{code_of, family_of}
+use Rattle.reo_rows.specs.Groups.{AreNoted}
+use Rattle.reo_rows.specs.Rows.{AreLive, IsSifted, OtherSidesStay, IsSpared}
+use Rattle.reo_rows.proofs.Thinned.{live_less, sifted_thinned}
 use Rattle.reo_propagate.specs.declared.queue.Queue.{Queue}
 use Rattle.reo_propagate.specs.declared.thinning.Loss.{Loss}
 use Rattle.reo_propagate.specs.Queues.{IsWoken, IsNext}

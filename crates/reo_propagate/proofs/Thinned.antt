@@ -2,14 +2,14 @@
 use Rattle.std.proofs.Common.{◌≡◌, ◌⊎◌, ◌↔◌, inl, inr, ℕ, ◌+◌, ◌<◌, ◌≤◌, Bool, true, false, cond, List, [], length, get_or, ap, sym, ◌∙◌, subst, arith, below_more}
 use Rattle.std.proofs.lemmas.Bool.{cases_eq, cases_Bool, both_ways}
 use Rattle.reo_net_base.specs.Net.{Net}
-use Rattle.reo_support.specs.declared.value.JointValue.{JointValue}
-use Rattle.reo_support.specs.Values.{Names, Family}
-use Rattle.reo_support.specs.Supported.{IsUsed, IsThinned}
-use Rattle.reo_propagate_rows.specs.Flags.{flag, count_set, AreAlikeTables}
-use Rattle.reo_propagate_rows.specs.declared.rows.Rows.{Rows}
-use Rattle.reo_propagate_rows.specs.Rows.{IsSifted, IsSeen}
-use Rattle.reo_propagate_rows.specs.Sets.{value_of, code_of, family_of}
-use Rattle.reo_propagate_rows.proofs.Codes.{value_code, flag_value, flag_in}
+use Rattle.reo_joint_values.specs.declared.value.JointValue.{JointValue}
+use Rattle.reo_joint_values.specs.Values.{Names, Family}
+use Rattle.reo_joint_values.specs.Supported.{IsUsed, IsThinned}
+use Rattle.reo_rows.specs.Flags.{flag, count_set, AreAlikeTables}
+use Rattle.reo_rows.specs.declared.rows.Rows.{Rows}
+use Rattle.reo_rows.specs.Rows.{IsSifted, IsSeen}
+use Rattle.reo_rows.specs.Sets.{value_of, code_of, family_of}
+use Rattle.reo_rows.proofs.Codes.{value_code, flag_value, flag_in}
 use Rattle.reo_propagate.specs.declared.thinning.Loss.{Loss}
 use Rattle.reo_propagate.specs.Narrow.{IsCut, IsThinnedTo}
 use Rattle.reo_propagate.proofs.Cutting.{IsCleared, was_set, other_row, other_place, cleared, cut_more}

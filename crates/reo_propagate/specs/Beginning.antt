@@ -2,11 +2,11 @@
 use Rattle.std.specs.Prelude.{ℕ, ◌+◌, ◌<◌, ◌≡◌, Bool, true, List, [], length, slice_index_or}
 use Rattle.reo_values.specs.declared.value.Value.{Value}
 use Rattle.reo_net_base.specs.Net.{Net}
-use Rattle.reo_support.specs.declared.value.JointValue.{JointValue}
-use Rattle.reo_support.specs.Values.{Family}
-use Rattle.reo_boards.specs.declared.board.Board.{Board}
-use Rattle.reo_propagate_rows.specs.Rows.{AreTables}
-use Rattle.reo_propagate_rows.specs.Sets.{code_of, family_of, names_of, IsReady}
+use Rattle.reo_joint_values.specs.declared.value.JointValue.{JointValue}
+use Rattle.reo_joint_values.specs.Values.{Family}
+use Rattle.reo_side_tables.specs.declared.board.Board.{Board}
+use Rattle.reo_rows.specs.Rows.{AreTables}
+use Rattle.reo_rows.specs.Sets.{code_of, family_of, names_of, IsReady}
 use Rattle.reo_propagate.specs.declared.state.State.{State}
 use Rattle.reo_propagate.specs.Narrow.{IsTended, nobody}
 

@@ -2,12 +2,12 @@
 use Rattle.std.specs.Prelude.{ℕ, ◌+◌, ◌<◌, ◌≡◌, ◌≢◌, ◌&&◌, ◌||◌, ◌↔◌, Bool, true, false, List, [], ◌∷◌, length, slice_index_or}
 use Rattle.reo_values.specs.declared.value.Value.{Value}
 use Rattle.reo_net_base.specs.Net.{Net}
-use Rattle.reo_support.specs.declared.value.JointValue.{JointValue}
-use Rattle.reo_support.specs.Values.{value_eq, Names, Family}
-use Rattle.reo_support.specs.Supported.{IsInGreatest}
-use Rattle.reo_boards.specs.Marks.{IsJointOf}
-use Rattle.reo_propagate_rows.specs.Flags.{flag, AreAlikeTables}
-use Rattle.reo_propagate_rows.specs.Sets.{code_of, family_of}
+use Rattle.reo_joint_values.specs.declared.value.JointValue.{JointValue}
+use Rattle.reo_joint_values.specs.Values.{value_eq, Names, Family}
+use Rattle.reo_joint_values.specs.Supported.{IsInGreatest}
+use Rattle.reo_side_tables.specs.Marks.{IsJointOf}
+use Rattle.reo_rows.specs.Flags.{flag, AreAlikeTables}
+use Rattle.reo_rows.specs.Sets.{code_of, family_of}
 
 -- Whether a list has a value.
 abbrev pub in_set : List JointValue → JointValue → Bool

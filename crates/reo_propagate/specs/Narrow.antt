@@ -2,15 +2,15 @@
 use Rattle.std.specs.Prelude.{ℕ, ◌<◌, ◌≤◌, ◌≡◌, ◌≢◌, ◌⊎◌, ◌↔◌, Bool, true, false, List, length, slice_index, slice_index_or}
 use Rattle.reo_net_base.specs.Net.{Net}
 use Rattle.reo_net_base.specs.Sides.{side_count}
-use Rattle.reo_support.specs.declared.value.JointValue.{JointValue}
-use Rattle.reo_support.specs.Values.{Names, Family, AtSide}
-use Rattle.reo_support.specs.Supported.{IsUsed, IsSettledAt, IsThinned, IsNarrowed, IsInGreatest}
-use Rattle.reo_boards.specs.Listing.{StandsIn}
-use Rattle.reo_boards.specs.Marks.{IsJointOf}
-use Rattle.reo_propagate_rows.specs.declared.rows.Rows.{Rows}
-use Rattle.reo_propagate_rows.specs.Flags.{flag, AreAlikeTables}
-use Rattle.reo_propagate_rows.specs.Sets.{value_of, family_of}
-use Rattle.reo_propagate_rows.specs.Rows.{AreLive, IsSifted, IsSeen, IsSpared}
+use Rattle.reo_joint_values.specs.declared.value.JointValue.{JointValue}
+use Rattle.reo_joint_values.specs.Values.{Names, Family, AtSide}
+use Rattle.reo_joint_values.specs.Supported.{IsUsed, IsSettledAt, IsThinned, IsNarrowed, IsInGreatest}
+use Rattle.reo_side_tables.specs.Listing.{StandsIn}
+use Rattle.reo_side_tables.specs.Marks.{IsJointOf}
+use Rattle.reo_rows.specs.declared.rows.Rows.{Rows}
+use Rattle.reo_rows.specs.Flags.{flag, AreAlikeTables}
+use Rattle.reo_rows.specs.Sets.{value_of, family_of}
+use Rattle.reo_rows.specs.Rows.{AreLive, IsSifted, IsSeen, IsSpared}
 use Rattle.reo_propagate.specs.declared.queue.Queue.{Queue}
 use Rattle.reo_propagate.specs.declared.state.State.{State}
 use Rattle.reo_propagate.specs.declared.thinning.Loss.{Loss}

@@ -1,6 +1,6 @@
 -- Sides that wait in a line.
 use Rattle.std.specs.Prelude.{ℕ, ◌+◌, ◌<◌, ◌≤◌, ◌≡◌, ◌≢◌, ◌⊎◌, ◌==◌, ◌||◌, Bool, true, false, List, [], ◌∷◌, length, slice_set, slice_index, slice_index_or}
-use Rattle.reo_boards.specs.Listing.{StandsIn}
+use Rattle.reo_side_tables.specs.Listing.{StandsIn}
 use Rattle.reo_propagate.specs.declared.queue.Queue.{Queue}
 
 -- Whether a list has a number.

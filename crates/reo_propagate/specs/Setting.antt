@@ -1,9 +1,9 @@
 -- Flags that are set anew.
 use Rattle.std.specs.Prelude.{ℕ, ◌<◌, ◌≡◌, Bool, true, List, [], length, slice_index, slice_index_or, slice_set}
 use Rattle.reo_net_base.specs.Net.{Net}
-use Rattle.reo_boards.specs.Marks.{IsJointOf}
-use Rattle.reo_propagate_rows.specs.declared.rows.Rows.{Rows}
-use Rattle.reo_propagate_rows.specs.Flags.{flag, AreAlikeTables}
+use Rattle.reo_side_tables.specs.Marks.{IsJointOf}
+use Rattle.reo_rows.specs.declared.rows.Rows.{Rows}
+use Rattle.reo_rows.specs.Flags.{flag, AreAlikeTables}
 use Rattle.reo_propagate.specs.declared.state.State.{State}
 
 -- Flags of a table were set, in some rows all of them, and none was cleared.

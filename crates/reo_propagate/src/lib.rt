@@ -13,6 +13,7 @@ mod waking;
 pub use line::Line;
 pub use narrowing::{other_side, propagate};
 pub use queue::Queue;
+pub use reo_joint_values::JointValue;
 pub use restarting::restart;
 pub use sets::{Sets, begin_with, narrow};
 pub use state::{State, begin};

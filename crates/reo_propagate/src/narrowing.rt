@@ -2,11 +2,11 @@
 ghost use Rattle.std.specs.Prelude.{◌≡◌, ◌⊎◌, ◌<◌, ◌≤◌, ◌+◌, ℕ, true, [], OnOk, length};
 ghost use Rattle.reo_net_base.specs.Net.{net_of, all_sides};
 ghost use Rattle.reo_net_laws.specs.Parts.{IsClosed};
-ghost use Rattle.reo_support.specs.Values.{Family, AtSide};
-ghost use Rattle.reo_boards.specs.Marks.{IsJointOf};
-ghost use Rattle.reo_propagate_rows.specs.Flags.{count_set};
-ghost use Rattle.reo_propagate_rows.specs.Rows.{AreTables, IsSifted};
-ghost use Rattle.reo_propagate_rows.specs.Sets.{names_of, IsReady};
+ghost use Rattle.reo_joint_values.specs.Values.{Family, AtSide};
+ghost use Rattle.reo_side_tables.specs.Marks.{IsJointOf};
+ghost use Rattle.reo_rows.specs.Flags.{count_set};
+ghost use Rattle.reo_rows.specs.Rows.{AreTables, IsSifted};
+ghost use Rattle.reo_rows.specs.Sets.{names_of, IsReady};
 ghost use Rattle.reo_propagate.specs.Queues.{among};
 ghost use Rattle.reo_propagate.specs.Narrow.{IsTended, IsTendedAt, nobody, IsReduced, IsRevised, AreGreatest};
 ghost use Rattle.reo_propagate.specs.Beginning.{IsSearch};
@@ -14,11 +14,11 @@ ghost use Rattle.reo_propagate.specs.Beginning.{IsSearch};
 use crate::state::State;
 use crate::thinning::thin;
 use crate::waking::wake;
-use reo_boards::{Board, giver_side, taker_side};
 use reo_net_base::Primitive;
 use reo_net_circuit::Circuit;
 use reo_net_ends::Ends;
-use reo_propagate_rows::{see, sift};
+use reo_rows::{see, sift};
+use reo_side_tables::{Board, giver_side, taker_side};
 use reo_values::{List, NoMemory, Value};
 
 /// The other side of a joint of a side. This takes no memory.

@@ -1,22 +1,22 @@
 //! Beginning anew at some sides of a search that was made before.
 ghost use Rattle.std.specs.Prelude.{◌≡◌, ◌<◌, ◌+◌, ℕ, true, [], OnOk, OnErr, length, slice_index, slice_index_or};
 ghost use Rattle.reo_net_base.specs.Net.{net_of, all_sides};
-ghost use Rattle.reo_support.specs.declared.value.JointValue.{JointValue as Standing};
-ghost use Rattle.reo_boards.specs.Boards.{AreBoards};
-ghost use Rattle.reo_boards.specs.Marks.{IsJointOf};
-ghost use Rattle.reo_propagate_rows.specs.Rows.{AreTables};
-ghost use Rattle.reo_propagate_rows.specs.Sets.{code_of, family_of, IsReady};
+ghost use Rattle.reo_joint_values.specs.declared.value.JointValue.{JointValue as Standing};
+ghost use Rattle.reo_side_tables.specs.Boards.{AreBoards};
+ghost use Rattle.reo_side_tables.specs.Marks.{IsJointOf};
+ghost use Rattle.reo_rows.specs.Rows.{AreTables};
+ghost use Rattle.reo_rows.specs.Sets.{code_of, family_of, IsReady};
 ghost use Rattle.reo_propagate.specs.Queues.{among};
 ghost use Rattle.reo_propagate.specs.Beginning.{IsSearch};
 ghost use Rattle.reo_propagate.specs.Setting.{AreSet, IsOfFirst, IsFresh, AreFresh};
 
 use crate::line::line_of;
 use crate::state::State;
-use reo_boards::Board;
 use reo_net_base::Primitive;
 use reo_net_circuit::Circuit;
 use reo_net_ends::Ends;
-use reo_propagate_rows::Flags;
+use reo_rows::Flags;
+use reo_side_tables::Board;
 use reo_values::{List, NoMemory, Value};
 use std::alloc::Global;
 

@@ -3,26 +3,26 @@ ghost use Rattle.std.specs.Prelude.{◌≡◌, ◌↔◌, ◌<◌, ◌+◌, ◌^
 ghost use Rattle.reo_net_base.specs.Net.{net_of, all_sides};
 ghost use Rattle.reo_net_ends.specs.Ends.{AreEnds};
 ghost use Rattle.reo_net_laws.specs.Parts.{IsClosed};
-ghost use Rattle.reo_support.specs.declared.value.JointValue.{JointValue as Standing};
-ghost use Rattle.reo_support.specs.Values.{giver_side};
-ghost use Rattle.reo_support.specs.Supported.{IsInGreatest};
-ghost use Rattle.reo_boards.specs.Boards.{IsBoard, AreBoards};
-ghost use Rattle.reo_boards.specs.Flowing.{gives_at};
-ghost use Rattle.reo_boards.specs.Marks.{IsJointOf};
-ghost use Rattle.reo_propagate_rows.specs.Sets.{code_of, family_of, names_of};
+ghost use Rattle.reo_joint_values.specs.declared.value.JointValue.{JointValue as Standing};
+ghost use Rattle.reo_joint_values.specs.Values.{giver_side};
+ghost use Rattle.reo_joint_values.specs.Supported.{IsInGreatest};
+ghost use Rattle.reo_side_tables.specs.Boards.{IsBoard, AreBoards};
+ghost use Rattle.reo_side_tables.specs.Flowing.{gives_at};
+ghost use Rattle.reo_side_tables.specs.Marks.{IsJointOf};
+ghost use Rattle.reo_rows.specs.Sets.{code_of, family_of, names_of};
 ghost use Rattle.reo_propagate.specs.Queues.{among};
 ghost use Rattle.reo_propagate.specs.Beginning.{AreFlags, IsSearch};
 ghost use Rattle.reo_propagate.specs.ListedSets.{in_set, listed, ArePut, AreKept, HaveSome, HaveFlags, AreLeft, AreInSupply, AreFullAt};
 
 use crate::narrowing::propagate;
 use crate::state::{State, all_waiting};
-use reo_boards::{Board, boards_of, giver_side};
+use reo_joint_values::JointValue;
 use reo_net_base::Primitive;
 use reo_net_circuit::Circuit;
 use reo_net_ends::{Ends, ends_of};
-use reo_propagate_rows::{FLOWS, Flags, all_rows};
 use reo_reach::Supply;
-use reo_support::JointValue;
+use reo_rows::{FLOWS, Flags, all_rows};
+use reo_side_tables::{Board, boards_of, giver_side};
 use reo_values::{List, NoMemory, Value};
 use std::alloc::Global;
 

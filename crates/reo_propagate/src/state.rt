@@ -2,17 +2,17 @@
 ghost use Rattle.std.specs.Prelude.{◌≡◌, ◌<◌, ◌^◌, ℕ, true, [], IfOk, length, replicate, slice_index_or};
 ghost use Rattle.reo_net_base.specs.Net.{net_of, all_sides};
 ghost use Rattle.reo_net_ends.specs.Ends.{AreEnds};
-ghost use Rattle.reo_boards.specs.Boards.{AreBoards};
+ghost use Rattle.reo_side_tables.specs.Boards.{AreBoards};
 ghost use Rattle.reo_propagate.specs.Queues.{among};
 ghost use Rattle.reo_propagate.specs.Beginning.{AreFlags, IsSearch, IsWhole};
 
 use crate::line::line_of;
 use crate::queue::Queue;
-use reo_boards::Board;
 use reo_net_base::Primitive;
 use reo_net_circuit::Circuit;
 use reo_net_ends::Ends;
-use reo_propagate_rows::{FLOWS, Flags, Rows, all_rows};
+use reo_rows::{FLOWS, Flags, Rows, all_rows};
+use reo_side_tables::Board;
 use reo_values::{List, NoMemory, Value};
 use std::alloc::Global;
 

@@ -1,21 +1,21 @@
 //! Taking away what is not used at a side from a joint there.
 ghost use Rattle.std.specs.Prelude.{◌≡◌, ◌⊎◌, ◌↔◌, ◌<◌, ◌≤◌, ◌+◌, ℕ, true, false, cond, length, slice_index_or, []};
 ghost use Rattle.reo_net_base.specs.Net.{net_of, all_sides};
-ghost use Rattle.reo_support.specs.Values.{Family};
-ghost use Rattle.reo_support.specs.Supported.{IsThinned};
-ghost use Rattle.reo_boards.specs.Boards.{AreBoards};
-ghost use Rattle.reo_boards.specs.Marks.{IsJointOf};
-ghost use Rattle.reo_propagate_rows.specs.Flags.{count_set};
-ghost use Rattle.reo_propagate_rows.specs.Groups.{AreNoted};
-ghost use Rattle.reo_propagate_rows.specs.Rows.{AreTables, IsSifted, IsSeen};
-ghost use Rattle.reo_propagate_rows.specs.Sets.{family_of, names_of, IsReady};
+ghost use Rattle.reo_joint_values.specs.Values.{Family};
+ghost use Rattle.reo_joint_values.specs.Supported.{IsThinned};
+ghost use Rattle.reo_side_tables.specs.Boards.{AreBoards};
+ghost use Rattle.reo_side_tables.specs.Marks.{IsJointOf};
+ghost use Rattle.reo_rows.specs.Flags.{count_set};
+ghost use Rattle.reo_rows.specs.Groups.{AreNoted};
+ghost use Rattle.reo_rows.specs.Rows.{AreTables, IsSifted, IsSeen};
+ghost use Rattle.reo_rows.specs.Sets.{family_of, names_of, IsReady};
 ghost use Rattle.reo_propagate.specs.Narrow.{IsCut, IsThinnedTo};
 
-use reo_boards::Board;
 use reo_net_base::Primitive;
 use reo_net_circuit::Circuit;
 use reo_net_ends::Ends;
-use reo_propagate_rows::{FLOWS, Flags, Rows, is_used, used_marks};
+use reo_rows::{FLOWS, Flags, Rows, is_used, used_marks};
+use reo_side_tables::Board;
 use reo_values::{List, Value};
 
 /// Whether a joint lost a value, and whether one with flow.

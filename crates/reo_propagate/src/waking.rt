@@ -1,18 +1,18 @@
 //! Letting a side wait where a joint of it lost values.
 ghost use Rattle.std.specs.Prelude.{◌≡◌, ◌<◌, true, false, OnOk, OnErr, length, slice_index_or};
 ghost use Rattle.reo_net_base.specs.Net.{net_of, all_sides};
-ghost use Rattle.reo_boards.specs.Marks.{IsJointOf};
-ghost use Rattle.reo_propagate_rows.specs.Groups.{AreNoted};
-ghost use Rattle.reo_propagate_rows.specs.Rows.{AreTables};
-ghost use Rattle.reo_propagate_rows.specs.Sets.{family_of, IsReady};
+ghost use Rattle.reo_side_tables.specs.Marks.{IsJointOf};
+ghost use Rattle.reo_rows.specs.Groups.{AreNoted};
+ghost use Rattle.reo_rows.specs.Rows.{AreTables};
+ghost use Rattle.reo_rows.specs.Sets.{family_of, IsReady};
 ghost use Rattle.reo_propagate.specs.Narrow.{IsAwakeOrStays};
 
 use crate::queue::Queue;
-use reo_boards::Board;
 use reo_net_base::Primitive;
 use reo_net_circuit::Circuit;
 use reo_net_ends::Ends;
-use reo_propagate_rows::{Flags, Rows, can_stay};
+use reo_rows::{Flags, Rows, can_stay};
+use reo_side_tables::Board;
 use reo_values::{List, NoMemory, Value};
 
 /// Lets a side wait where a joint of it lost values, unless it can stay at rest: no value with flow

@@ -1,12 +1,10 @@
 -- Adding items to a list.
-use Rattle.std.proofs.Common.{◌≡◌, ◌≢◌, inl, inr, ℕ, ◌+◌, ◌<◌, ◌≤◌, List, [], ◌∷◌, ◌++◌, true, length, get_or, nat_lt, sym, ◌∙◌, subst, arith, below_more, length-append}
+use Rattle.std.proofs.Common.{◌≡◌, inl, inr, ℕ, ◌+◌, ◌<◌, ◌≤◌, List, [], ◌∷◌, ◌++◌, true, length, nat_lt, sym, subst, arith, below_more, length-append}
 use Rattle.std.specs.Prelude.{Contains}
-use Rattle.std.proofs.Math.Seq.{get_or-append_seam}
 use Rattle.std.proofs.lemmas.Bool.Decides.{nat_tests}
-use Rattle.std.proofs.lemmas.List.{get_or_default, get_or_append_left}
 use Rattle.std.proofs.lemmas.List.Elements.{Contains-push, Contains-push_cases, Contains-append_left}
 use Rattle.reo_values.specs.declared.value.Value.{Value}
-use Rattle.reo_reach.specs.Supplied.{AreDistinct}
+use Rattle.reo_joint_values.proofs.Distinct.{distinct_push}
 use Rattle.reo_reach.specs.Added.{AreAdded}
 
 -- Nothing is added where nothing is wanted.
@@ -43,15 +41,6 @@ added_there items item there = record {
   longer = omega arith;
   short = λ le. le;
 }
-
-distinct_push : (items : List Value) (item : Value) → (Contains items item → ⊥) → AreDistinct items → AreDistinct (items ++ item ∷ [])
-distinct_push items item new apart m n d lt n_in =
-    let count = length-append items (item ∷ []) in
-    let left : (k : ℕ) → k < length items → get_or (items ++ item ∷ []) k d ≡ get_or items k d = λ k k_in. get_or_append_left items (item ∷ []) d k k_in in
-    below_more (λ (n : ℕ). (m : ℕ) → m < n → get_or (items ++ item ∷ []) m d ≢ get_or (items ++ item ∷ []) n d) (length items)
-    (λ n n_lt m m_lt same. apart m n d m_lt n_lt (sym (left m (omega arith)) ∙ same ∙ left n n_lt))
-    (λ m m_lt same. new (m, m_lt, get_or_default items m item d m_lt ∙ sym (left m m_lt) ∙ same ∙ get_or-append_seam items item [] d))
-    n (omega (arith, n_in, count)) m lt
 
 -- An item that is not there is added to a list that is not full.
 pub added_push : (items : List Value) (item : Value) → (Contains items item → ⊥) → length items ≤ 256 → AreAdded items (items ++ item ∷ []) (λ x. x ≡ item)

@@ -6,9 +6,10 @@ use Rattle.std.proofs.lemmas.List.{get_or_default, length-set}
 use Rattle.reo_values.specs.declared.value.Value.{Value}
 use Rattle.reo_net_base.specs.declared.joint.End.{End}
 use Rattle.reo_net_base.specs.Net.{Net}
-use Rattle.reo_reach.specs.Standing.{giver_of, Brings, CanStand}
-use Rattle.reo_reach.specs.Standing.CanStand.{alone, passed}
-use Rattle.reo_reach.specs.Supplied.{Supplied, items_at, is_wide, HasPlaces, AreDistinct, IsClear, IsReached, AreShort, OthersStay}
+use Rattle.reo_joint_values.specs.Standing.{giver_of, Brings, CanStand}
+use Rattle.reo_joint_values.specs.Standing.CanStand.{alone, passed}
+use Rattle.reo_joint_values.specs.Many.{AreDistinct}
+use Rattle.reo_reach.specs.Supplied.{Supplied, items_at, is_wide, HasPlaces, IsClear, IsReached, AreShort, OthersStay}
 use Rattle.reo_reach.specs.Supplied.Leads.{here, on}
 use Rattle.reo_reach.specs.InOrder.{AreInOrder}
 use Rattle.reo_reach.specs.Added.{IsProduced, IsMade, renewed}

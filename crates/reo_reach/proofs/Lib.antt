@@ -3,6 +3,5 @@ pub mod FilledLemmas
 pub mod OrderLemmas
 pub mod PartLemmas
 pub mod RowLemmas
-pub mod StandLemmas
 pub mod StayLemmas
 pub mod WidthLemmas

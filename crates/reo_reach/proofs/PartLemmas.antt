@@ -6,7 +6,7 @@ use Rattle.std.proofs.lemmas.Bool.{cases_Bool}
 use Rattle.std.proofs.lemmas.List.{get_or_append_left, take_all}
 use Rattle.std.proofs.lemmas.List.Elements.{filter_more}
 use Rattle.reo_net_base.specs.Net.{Net, side_at}
-use Rattle.reo_reach.specs.Standing.{no_joint, giver_of, Brings}
+use Rattle.reo_joint_values.specs.Standing.{no_joint, giver_of, Brings}
 use Rattle.reo_reach.specs.InOrder.{AreInOrder, PartsAreInOrder}
 use Rattle.reo_reach.proofs.OrderLemmas.{brings_feeds, order_in_order}
 

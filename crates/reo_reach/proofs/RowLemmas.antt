@@ -14,7 +14,7 @@ use Rattle.reo_net_base.specs.Wired.{IsWired}
 use Rattle.reo_net_laws.specs.Ends.{mark_in, from_in}
 use Rattle.reo_net_ends.specs.Ends.{joint_at, AreEnds}
 use Rattle.reo_net_ends.proofs.EndLemmas.{taker_at, of_taker}
-use Rattle.reo_reach.specs.Standing.{no_joint, giver_of, taker_of, given_in, passes_in, FlowsAt, IsGivenFor, GivesAlone}
+use Rattle.reo_joint_values.specs.Standing.{no_joint, giver_of, taker_of, given_in, passes_in, FlowsAt, IsGivenFor, GivesAlone}
 use Rattle.reo_reach.specs.Supplied.{Supplied, items_at}
 use Rattle.reo_reach.specs.Added.{AreAdded, IsProduced, IsMade}
 use Rattle.reo_reach.specs.Added.IsProduced.{by_state, by_item}

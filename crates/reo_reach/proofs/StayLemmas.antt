@@ -13,11 +13,11 @@ use Rattle.reo_net_laws.specs.Ends.{mark_in, from_in}
 use Rattle.reo_net_laws.specs.Parts.{IsClosed}
 use Rattle.reo_net_laws.specs.Alike.{SameSide, AreAlike}
 use Rattle.reo_net_laws.proofs.Sides.{side_at_place}
-use Rattle.reo_reach.specs.Standing.{no_joint, giver_of, taker_of, given_in, passes_in, FlowsAt, Brings, GivesAlone, GivesFor, CanStand}
-use Rattle.reo_reach.specs.Standing.CanStand.{alone, passed}
-use Rattle.reo_reach.specs.Supplied.{Supplied, items_at, AreDistinct, Leads, IsClear, IsReached}
+use Rattle.reo_joint_values.specs.Standing.{no_joint, giver_of, taker_of, given_in, passes_in, FlowsAt, Brings, GivesAlone, GivesFor, CanStand}
+use Rattle.reo_joint_values.specs.Standing.CanStand.{alone, passed}
+use Rattle.reo_joint_values.specs.Many.{AreDistinct, IsJointIn}
+use Rattle.reo_reach.specs.Supplied.{Supplied, items_at, Leads, IsClear, IsReached}
 use Rattle.reo_reach.specs.Supplied.Leads.{here, on}
-use Rattle.reo_reach.specs.Width.{IsJointIn}
 use Rattle.reo_reach.specs.Stays.{AgreeAt, ReachedStay}
 use Rattle.reo_reach.proofs.OrderLemmas.{giver_at, brings_feeds}
 use Rattle.reo_reach.proofs.RowLemmas.{gives_by, source_is, source_takes}

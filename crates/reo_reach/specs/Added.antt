@@ -3,8 +3,9 @@ use Rattle.std.specs.Prelude.{ℕ, ◌≤◌, ◌⊎◌, ◌≡◌, List, Contai
 use Rattle.reo_values.specs.declared.value.Value.{Value}
 use Rattle.reo_net_base.specs.declared.joint.End.{End}
 use Rattle.reo_net_base.specs.Net.{Net}
-use Rattle.reo_reach.specs.Standing.{giver_of, GivesAlone, GivesFor}
-use Rattle.reo_reach.specs.Supplied.{Supplied, items_at, AreDistinct}
+use Rattle.reo_joint_values.specs.Standing.{giver_of, GivesAlone, GivesFor}
+use Rattle.reo_joint_values.specs.Many.{AreDistinct}
+use Rattle.reo_reach.specs.Supplied.{Supplied, items_at}
 
 -- A list after wanted items were added that were not there: all of them, or so many that there are
 -- more than 256 items.

@@ -3,7 +3,7 @@ use Rattle.std.specs.Prelude.{ℕ, ◌<◌, ◌≡◌, ◌≢◌, Bool, List, fi
 use Rattle.reo_net_base.specs.Net.{Net, side_at}
 use Rattle.reo_net_base.specs.Wired.{IsWired, IsOrder}
 use Rattle.reo_net_laws.specs.Parts.{IsClosed}
-use Rattle.reo_reach.specs.Standing.{giver_of, Brings}
+use Rattle.reo_joint_values.specs.Standing.{giver_of, Brings}
 
 -- Joints, none twice, each behind all that bring what some row gives there.
 pub record AreInOrder (net : Net) (joints : List ℕ) : Type 0 where

@@ -5,7 +5,7 @@ use Rattle.reo_net_base.specs.Wired.{IsWired}
 use Rattle.reo_net_laws.specs.Parts.{IsClosed}
 use Rattle.reo_net_laws.specs.Alike.{AreAlike}
 use Rattle.reo_reach.specs.Supplied.{Supplied, items_at, is_wide, IsReached}
-use Rattle.reo_reach.specs.Width.{IsJointIn}
+use Rattle.reo_joint_values.specs.Many.{IsJointIn}
 
 -- Two supplies are the same at the joints of a set.
 pub record AgreeAt (net : Net) (inside : ℕ → Bool) (old new : Supplied) : Type 0 where

@@ -1,9 +1,10 @@
 -- What is known of the items that can stand at each joint.
-use Rattle.std.specs.Prelude.{ℕ, ◌<◌, ◌≤◌, ◌≡◌, ◌≢◌, Bool, true, false, List, [], Contains, length, slice_index_or, refl}
+use Rattle.std.specs.Prelude.{ℕ, ◌<◌, ◌≤◌, ◌≡◌, Bool, true, false, List, [], Contains, length, slice_index_or, refl}
 use Rattle.std.specs.Coded.{Coded, code_by, coded×, coded_bool, coded_list}
 use Rattle.reo_values.specs.declared.value.Value.{Value}
 use Rattle.reo_net_base.specs.Net.{Net}
-use Rattle.reo_reach.specs.Standing.{giver_of, Brings, CanStand}
+use Rattle.reo_joint_values.specs.Standing.{giver_of, Brings, CanStand}
+use Rattle.reo_joint_values.specs.Many.{AreDistinct}
 
 -- What contracts see of a supply: a list of items for each joint, and a mark of those where more
 -- than 256 items can stand.
@@ -34,11 +35,6 @@ is_wide supplied j = slice_index_or supplied.wide j false
 pub record HasPlaces (net : Net) (supplied : Supplied) : Type 0 where
   pub one_list : length supplied.items ≡ length net.joints
   pub one_mark : length supplied.wide ≡ length net.joints
-
--- No item stands twice in a list.
-abbrev pub AreDistinct : List Value → Type 0
-AreDistinct items = (m n : ℕ) (d : Value) → m < n → n < length items
-    → slice_index_or items m d ≢ slice_index_or items n d
 
 -- A directed path from one joint to another: each joint on it brings what some row gives at the
 -- next.

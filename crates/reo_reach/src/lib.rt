@@ -19,9 +19,6 @@ mod stock;
 mod supply;
 mod visits;
 
-pub use laws::{
-    items_can_stand, many_are_not_clear, parts_are_in_order, parts_are_told,
-    possible_items_are_closed, possible_items_are_least, reached_stay,
-};
+pub use laws::{many_are_not_clear, parts_are_in_order, parts_are_told, reached_stay};
 pub use supply::Supply;
 pub use visits::{reach, reach_at};

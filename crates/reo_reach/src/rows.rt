@@ -6,7 +6,7 @@ ghost use Rattle.reo_net_base.specs.Ends.{IsGiver};
 ghost use Rattle.reo_net_base.specs.Net.{net_of, behaviour_at, end_of};
 ghost use Rattle.reo_net_laws.specs.Ends.{from_in};
 ghost use Rattle.reo_net_ends.specs.Ends.{AreEnds};
-ghost use Rattle.reo_reach.specs.Standing.{FlowsAt, GivesAlone, IsGivenFor};
+ghost use Rattle.reo_joint_values.specs.Standing.{FlowsAt, GivesAlone, IsGivenFor};
 ghost use Rattle.reo_reach.specs.Supplied.{HasPlaces};
 ghost use Rattle.reo_reach.specs.Added.{AreAdded, IsProduced};
 

@@ -1,6 +1,8 @@
-//! The static rules of a program, judged in their order.
+//! The static rules of a program: what its names, types and terms mean, and what breaks each.
 #![tactic(auto)]
 
-mod door;
+mod fault;
+mod names;
 
-pub use door::judge;
+pub use fault::FlatFault;
+pub use names::Names;

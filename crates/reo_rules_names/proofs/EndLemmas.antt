@@ -3,14 +3,14 @@ use Rattle.std.proofs.Common.{◌≡◌, ◌∙◌, ℕ, List, [], ◌∷◌, �
 use Rattle.std.specs.List.{list_any, zip}
 use Rattle.std.proofs.lemmas.List.Folds.{list_any-append}
 use Rattle.reo_trees.specs.declared.programs.Parameter.{Parameter}
-use Rattle.reo_rules_base.specs.Lists.{has_name}
-use Rattle.reo_rules_base.specs.Names.{with_name}
+use Rattle.reo_rules.specs.Lists.{has_name}
+use Rattle.reo_rules.specs.Names.{with_name}
 use Rattle.reo_trees.specs.declared.items.Form.TheVariants as forms
 use Rattle.reo_trees.specs.declared.programs.Connector.{Connector}
-use Rattle.reo_rules_base.specs.Scopes.{parameters_named}
-use Rattle.reo_rules_base.specs.Touches.{Touch, touch, touches_in, is_touched, bool_eq}
-use Rattle.reo_rules_base.specs.Direction.{goes_against}
-use Rattle.reo_rules_base.proofs.Mapped.{list_any-map}
+use Rattle.reo_rules.specs.Scopes.{parameters_named}
+use Rattle.reo_rules.specs.Touches.{Touch, touch, touches_in, is_touched, bool_eq}
+use Rattle.reo_rules.specs.Direction.{goes_against}
+use Rattle.reo_rules.proofs.Mapped.{list_any-map}
 use Rattle.reo_rules_names.specs.declared.ends.Ends.{Ends}
 use Rattle.reo_rules_names.specs.Ends.{AreEnds}
 use Rattle.reo_rules_names.proofs.SameLemmas.{has_name-with, or-false}

@@ -5,11 +5,11 @@ use Rattle.reo_trees.specs.declared.types.TypeTerm.{TypeTerm}
 use Rattle.reo_trees.specs.declared.programs.Connector.{Connector}
 use Rattle.reo_trees.specs.declared.programs.Declaration.{Declaration}
 use Rattle.reo_trees.specs.declared.programs.Declaration.TheVariants as declarations
-use Rattle.reo_rules_base.specs.declared.fault.FlatFault.{FlatFault}
-use Rattle.reo_rules_base.specs.Lists.{each_after}
-use Rattle.reo_rules_base.specs.Scopes.{connectors_of, connectors_in}
-use Rattle.reo_rules_base.specs.Judged.{IsFirst}
-use Rattle.reo_rules_base.proofs.AfterLemmas.{after_more, after_first, more_flat}
+use Rattle.reo_rules.specs.declared.fault.FlatFault.{FlatFault}
+use Rattle.reo_rules.specs.Lists.{each_after}
+use Rattle.reo_rules.specs.Scopes.{connectors_of, connectors_in}
+use Rattle.reo_rules.specs.Judged.{IsFirst}
+use Rattle.reo_rules.proofs.AfterLemmas.{after_more, after_first, more_flat}
 use Rattle.reo_rules_names.specs.declared.connectors.Connectors.{Connectors}
 use Rattle.reo_rules_names.specs.Connectors.{AreConnectors}
 

@@ -7,11 +7,11 @@ use Rattle.reo_trees.specs.declared.types.Shape.{Shape}
 use Rattle.reo_trees.specs.declared.types.Shape.TheVariants as shapes
 use Rattle.reo_trees.specs.declared.types.TypePair.{TypePair}
 use Rattle.reo_trees.specs.declared.types.TypeTerm.{TypeTerm}
-use Rattle.reo_rules_base.specs.declared.fault.FlatFault.{FlatFault}
-use Rattle.reo_rules_base.specs.Types.{parts_of}
-use Rattle.reo_rules_base.specs.Twice.{twice_in_part}
-use Rattle.reo_rules_base.specs.Unknown.{unknown_in_part}
-use Rattle.reo_rules_base.proofs.Parts.{over_parts-Pair}
+use Rattle.reo_rules.specs.declared.fault.FlatFault.{FlatFault}
+use Rattle.reo_rules.specs.Types.{parts_of}
+use Rattle.reo_rules.specs.Twice.{twice_in_part}
+use Rattle.reo_rules.specs.Unknown.{unknown_in_part}
+use Rattle.reo_rules.proofs.Parts.{over_parts-Pair}
 
 abbrev pub twice_parts : ℕ → Shape → List FlatFault
 twice_parts line s = flat_map (λ (part : TypeTerm). twice_in_part part.line part.shape) (parts_of line s)

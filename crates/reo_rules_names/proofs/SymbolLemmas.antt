@@ -10,11 +10,11 @@ use Rattle.reo_values.specs.declared.kindred.Kindred.TheBlock.{hidden-the_row-Tw
 use Rattle.reo_trees.specs.declared.types.Shape.TheVariants as shapes
 use Rattle.reo_trees.specs.declared.types.Shape.TheBlock.{hidden-the_row-TypePair-0}
 use Rattle.reo_trees.specs.declared.types.TypePair.{TypePair}
-use Rattle.reo_rules_base.specs.declared.fault.FlatFault.TheVariants as faults
-use Rattle.reo_rules_base.specs.Lists.{has_name, where_true}
-use Rattle.reo_rules_base.specs.Names.{with_name}
-use Rattle.reo_rules_base.specs.Types.{Typed, type_named, resolved}
-use Rattle.reo_rules_base.specs.Unknown.{missing, lacking}
+use Rattle.reo_rules.specs.declared.fault.FlatFault.TheVariants as faults
+use Rattle.reo_rules.specs.Lists.{has_name, where_true}
+use Rattle.reo_rules.specs.Names.{with_name}
+use Rattle.reo_rules.specs.Types.{Typed, type_named, resolved}
+use Rattle.reo_rules.specs.Unknown.{missing, lacking}
 use Rattle.reo_rules_names.specs.declared.types.Types.{Types}
 use Rattle.reo_rules_names.specs.SameNames.{SameNames}
 use Rattle.reo_rules_names.specs.Values.{value_at}

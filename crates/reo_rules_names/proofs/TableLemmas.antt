@@ -6,10 +6,10 @@ use Rattle.std.proofs.lemmas.List.{length-append}
 use Rattle.reo_values.specs.declared.kindred.Kindred.TheVariants as kinds
 use Rattle.reo_trees.specs.declared.programs.Parameter.{Parameter}
 use Rattle.reo_trees.specs.declared.programs.Connector.{Connector}
-use Rattle.reo_rules_base.specs.Scopes.{connector_named, parameters_named}
-use Rattle.reo_rules_base.specs.Types.{Typed, type_named, names_of}
-use Rattle.reo_rules_base.specs.Lists.{has_name}
-use Rattle.reo_rules_base.specs.Names.{with_name}
+use Rattle.reo_rules.specs.Scopes.{connector_named, parameters_named}
+use Rattle.reo_rules.specs.Types.{Typed, type_named, names_of}
+use Rattle.reo_rules.specs.Lists.{has_name}
+use Rattle.reo_rules.specs.Names.{with_name}
 use Rattle.reo_rules_names.specs.declared.connectors.Connectors.{Connectors}
 use Rattle.reo_rules_names.specs.Values.{value_at}
 use Rattle.reo_rules_names.specs.Connectors.{AreConnectors}

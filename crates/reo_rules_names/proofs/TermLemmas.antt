@@ -10,11 +10,11 @@ use Rattle.reo_trees.specs.declared.terms.TermForm.TheVariants as terms
 use Rattle.reo_trees.specs.declared.terms.TermForm.TheBlock.{hidden-the_row-Term-0, hidden-the_row-TermPair-1, hidden-the_row-TermTriple-2}
 use Rattle.reo_trees.specs.declared.terms.TermPair.{TermPair}
 use Rattle.reo_trees.specs.declared.terms.TermTriple.{TermTriple}
-use Rattle.reo_rules_base.specs.declared.fault.FlatFault.{FlatFault}
-use Rattle.reo_rules_base.specs.Types.{Typed}
-use Rattle.reo_rules_base.specs.Terms.{symbols_in}
-use Rattle.reo_rules_base.specs.Unknown.{unknown_symbol}
-use Rattle.reo_rules_base.proofs.AfterLemmas.{flat_map-append}
+use Rattle.reo_rules.specs.declared.fault.FlatFault.{FlatFault}
+use Rattle.reo_rules.specs.Types.{Typed}
+use Rattle.reo_rules.specs.Terms.{symbols_in}
+use Rattle.reo_rules.specs.Unknown.{unknown_symbol}
+use Rattle.reo_rules.proofs.AfterLemmas.{flat_map-append}
 
 -- The breaks of the symbols in an expression.
 abbrev pub in_term : List Typed → ℕ → TermForm → List FlatFault

@@ -12,14 +12,14 @@ use Rattle.reo_trees.specs.declared.programs.Parameter.{Parameter}
 use Rattle.reo_trees.specs.declared.programs.Connector.{Connector}
 use Rattle.reo_trees.specs.declared.programs.Declaration.{Declaration}
 use Rattle.reo_trees.specs.declared.programs.Declaration.TheVariants as declarations
-use Rattle.reo_rules_base.specs.Types.{Typed, resolved, parts_of, types_of, types_after}
-use Rattle.reo_rules_base.specs.Unknown.{unknown_in_part, unknown_in_channel, unknown_in_item, unknown_in}
-use Rattle.reo_rules_base.specs.declared.fault.FlatFault.{FlatFault}
-use Rattle.reo_rules_base.specs.Lists.{each_after, has_name}
-use Rattle.reo_rules_base.specs.Names.{with_name}
-use Rattle.reo_rules_base.specs.Scopes.{connectors_of, connectors_in, connector_names}
-use Rattle.reo_rules_base.specs.Judged.{IsFirst}
-use Rattle.reo_rules_base.proofs.AfterLemmas.{after_more, after_first, more_flat}
+use Rattle.reo_rules.specs.Types.{Typed, resolved, parts_of, types_of, types_after}
+use Rattle.reo_rules.specs.Unknown.{unknown_in_part, unknown_in_channel, unknown_in_item, unknown_in}
+use Rattle.reo_rules.specs.declared.fault.FlatFault.{FlatFault}
+use Rattle.reo_rules.specs.Lists.{each_after, has_name}
+use Rattle.reo_rules.specs.Names.{with_name}
+use Rattle.reo_rules.specs.Scopes.{connectors_of, connectors_in, connector_names}
+use Rattle.reo_rules.specs.Judged.{IsFirst}
+use Rattle.reo_rules.proofs.AfterLemmas.{after_more, after_first, more_flat}
 use Rattle.reo_rules_names.specs.declared.types.Types.{Types}
 use Rattle.reo_rules_names.specs.SameNames.{SameNames}
 use Rattle.reo_rules_names.specs.Symbols.{AreTypes}

@@ -2,11 +2,11 @@
 use Rattle.std.specs.Prelude.{ℕ, not, List, map}
 use Rattle.std.specs.List.{list_any}
 use Rattle.reo_trees.specs.declared.programs.Parameter.{Parameter}
-use Rattle.reo_rules_base.specs.declared.fault.FlatFault.{FlatFault}
-use Rattle.reo_rules_base.specs.declared.fault.FlatFault.TheVariants as faults
-use Rattle.reo_rules_base.specs.Lists.{where_true}
-use Rattle.reo_rules_base.specs.Touches.{Touch, touch}
-use Rattle.reo_rules_base.specs.Direction.{goes_against}
+use Rattle.reo_rules.specs.declared.fault.FlatFault.{FlatFault}
+use Rattle.reo_rules.specs.declared.fault.FlatFault.TheVariants as faults
+use Rattle.reo_rules.specs.Lists.{where_true}
+use Rattle.reo_rules.specs.Touches.{Touch, touch}
+use Rattle.reo_rules.specs.Direction.{goes_against}
 use Rattle.reo_rules_names.specs.declared.ends.Ends.{Ends}
 use Rattle.reo_rules_names.specs.Ends.{AreEnds}
 

@@ -2,7 +2,7 @@
 use Rattle.std.specs.Prelude.{◌≡◌, ℕ, List, [], length, map}
 use Rattle.reo_trees.specs.declared.programs.Parameter.{Parameter}
 use Rattle.reo_trees.specs.declared.programs.Connector.{Connector}
-use Rattle.reo_rules_base.specs.Scopes.{parameters_named}
+use Rattle.reo_rules.specs.Scopes.{parameters_named}
 use Rattle.reo_rules_names.specs.declared.connectors.Connectors.{Connectors}
 use Rattle.reo_rules_names.specs.SameNames.{SameNames}
 use Rattle.reo_rules_names.specs.Values.{value_at}

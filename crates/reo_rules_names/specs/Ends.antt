@@ -1,7 +1,7 @@
 -- Ends in a table by name.
 use Rattle.std.specs.Prelude.{◌≡◌, ℕ, Bool, cond, List}
-use Rattle.reo_rules_base.specs.Lists.{has_name}
-use Rattle.reo_rules_base.specs.Touches.{Touch, is_touched}
+use Rattle.reo_rules.specs.Lists.{has_name}
+use Rattle.reo_rules.specs.Touches.{Touch, is_touched}
 use Rattle.reo_rules_names.specs.declared.ends.Ends.{Ends}
 
 -- The names with an end of this way.

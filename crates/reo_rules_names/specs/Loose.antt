@@ -3,9 +3,9 @@ use Rattle.std.specs.Prelude.{List, ◌++◌}
 use Rattle.std.specs.List.{flat_map}
 use Rattle.reo_trees.specs.declared.items.Item.{Item}
 use Rattle.reo_trees.specs.declared.programs.Connector.{Connector}
-use Rattle.reo_rules_base.specs.declared.fault.FlatFault.{FlatFault}
-use Rattle.reo_rules_base.specs.Touches.{Touch}
-use Rattle.reo_rules_base.specs.Dangling.{dangling_parameter, dangling_in_item}
+use Rattle.reo_rules.specs.declared.fault.FlatFault.{FlatFault}
+use Rattle.reo_rules.specs.Touches.{Touch}
+use Rattle.reo_rules.specs.Dangling.{dangling_parameter, dangling_in_item}
 
 -- The breaks in a connector that has these ends: its parameters', and then its nodes'.
 abbrev pub lacking_ends : List Touch → Connector → List FlatFault

@@ -1,8 +1,8 @@
 -- Types in a table by name, with the symbols of those that are sym types.
 use Rattle.std.specs.Prelude.{◌≡◌, ◌<◌, ℕ, Option, Some, None, List, [], length, slice_index_or}
 use Rattle.reo_values.specs.declared.kindred.Kindred.{Kindred}
-use Rattle.reo_rules_base.specs.Types.{Typed, type_named, names_of}
-use Rattle.reo_rules_base.specs.Unknown.{missing, lacking}
+use Rattle.reo_rules.specs.Types.{Typed, type_named, names_of}
+use Rattle.reo_rules.specs.Unknown.{missing, lacking}
 use Rattle.reo_rules_names.specs.declared.types.Types.{Types}
 use Rattle.reo_rules_names.specs.SameNames.{SameNames}
 use Rattle.reo_rules_names.specs.Values.{value_at}

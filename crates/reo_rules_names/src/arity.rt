@@ -1,21 +1,22 @@
 //! Uses with another number of arguments than their connector has parameters.
-ghost use Rattle.std.specs.Prelude.{◌≡◌, [], List};
+ghost use Rattle.std.specs.Prelude.{◌≡◌, [], List, IsErrOf};
 ghost use Rattle.std.specs.List.{flat_map};
 ghost use Rattle.reo_trees.specs.declared.items.Item.{Item as AnItem};
 ghost use Rattle.reo_trees.specs.declared.programs.Connector.{Connector as AConnector};
-ghost use Rattle.reo_rules_base.specs.Arity.{arity_in_item, arity};
-ghost use Rattle.reo_rules_base.specs.Judged.{IsJudged};
+ghost use Rattle.reo_rules.specs.Arity.{arity_in_item, arity};
+ghost use Rattle.reo_rules.specs.Judged.{IsJudged};
 ghost use Rattle.reo_rules_names.specs.Connectors.{AreConnectors};
 
 use crate::connectors::Connectors;
-use reo_rules_base::FlatFault;
+use reo_rules::FlatFault;
 use reo_trees::{Declaration, Form, Item, Program};
 use std::alloc::Global;
 
 /// An item.
 fn item_arity(connectors: &Connectors, line: u32, form: &Form) -> Result<(), FlatFault>
-    ensures { (known : List AConnector) → AreConnectors known connectors.now
+    ensures judged { (known : List AConnector) → AreConnectors known connectors.now
         → IsJudged (arity_in_item known line form.now) result }
+    ensures sure { IsErrOf result FlatFault.NoMemory → ⊥ }
 {
     match form {
         Form::Used { name, arguments } => {
@@ -31,8 +32,9 @@ fn item_arity(connectors: &Connectors, line: u32, form: &Form) -> Result<(), Fla
 
 /// Items one after another.
 fn items_arity(connectors: &Connectors, items: &[Item]) -> Result<(), FlatFault>
-    ensures { (known : List AConnector) → AreConnectors known connectors.now
+    ensures judged { (known : List AConnector) → AreConnectors known connectors.now
         → IsJudged (flat_map (λ (i : AnItem). arity_in_item known i.line i.form) items.now) result }
+    ensures sure { IsErrOf result FlatFault.NoMemory → ⊥ }
 {
     for item in items {
         item_arity(connectors, item.line, &item.form)?;

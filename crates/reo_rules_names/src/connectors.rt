@@ -2,9 +2,9 @@
 ghost use Rattle.std.specs.Prelude.{◌≡◌, [], ◌∷◌, ◌++◌, IfOk, OnOk, List, map};
 ghost use Rattle.reo_trees.specs.declared.programs.Parameter.{Parameter as AParameter};
 ghost use Rattle.reo_trees.specs.declared.programs.Connector.{Connector as AConnector};
-ghost use Rattle.reo_rules_base.specs.Scopes.{parameters_named};
+ghost use Rattle.reo_rules.specs.Scopes.{parameters_named};
 
-use reo_rules_base::Names;
+use reo_rules::Names;
 use reo_trees::{Connector, Parameter};
 use reo_values::{List, NoMemory};
 use std::alloc::Global;

@@ -3,16 +3,16 @@ ghost use Rattle.std.specs.Prelude.{◌≡◌, [], ◌++◌, List, Bool, ℕ, If
 ghost use Rattle.std.specs.List.{flat_map, zip};
 ghost use Rattle.reo_trees.specs.declared.items.Item.{Item as AnItem};
 ghost use Rattle.reo_trees.specs.declared.programs.Connector.{Connector as AConnector};
-ghost use Rattle.reo_rules_base.specs.Touches.{Touch, touch, touches_in, touches_of};
-ghost use Rattle.reo_rules_base.specs.Dangling.{dangling_parameter, dangling_in_item, dangling};
-ghost use Rattle.reo_rules_base.specs.Judged.{IsJudged};
+ghost use Rattle.reo_rules.specs.Touches.{Touch, touch, touches_in, touches_of};
+ghost use Rattle.reo_rules.specs.Dangling.{dangling_parameter, dangling_in_item, dangling};
+ghost use Rattle.reo_rules.specs.Judged.{IsJudged};
 ghost use Rattle.reo_rules_names.specs.Connectors.{AreConnectors};
 ghost use Rattle.reo_rules_names.specs.Ends.{AreEnds};
 ghost use Rattle.reo_rules_names.specs.Loose.{lacking_ends};
 
 use crate::connectors::Connectors;
 use crate::ends::{Ends, is_drain};
-use reo_rules_base::FlatFault;
+use reo_rules::FlatFault;
 use reo_trees::{Connector, Declaration, Form, Item, Parameter, Program};
 use reo_values::{Bytes, NoMemory};
 use std::alloc::Global;

@@ -1,9 +1,9 @@
 //! Ends at names.
 ghost use Rattle.std.specs.Prelude.{◌≡◌, [], ◌∷◌, ◌++◌, OnOk, List};
-ghost use Rattle.reo_rules_base.specs.Touches.{Touch, touch, is_touched};
-ghost use Rattle.reo_rules_base.specs.Channels.{is_drain};
+ghost use Rattle.reo_rules.specs.Touches.{Touch, touch, is_touched};
+ghost use Rattle.reo_rules.specs.Channels.{is_drain};
 
-use reo_rules_base::Names;
+use reo_rules::Names;
 use reo_trees::Channel;
 use reo_values::NoMemory;
 use std::alloc::Global;

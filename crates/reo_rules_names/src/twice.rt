@@ -3,13 +3,13 @@ ghost use Rattle.std.specs.Prelude.{◌≡◌, [], ◌∷◌, ◌++◌, OnOk, �
 ghost use Rattle.std.specs.List.{flat_map};
 ghost use Rattle.reo_trees.specs.declared.items.Item.{Item as AnItem};
 ghost use Rattle.reo_trees.specs.declared.types.TypeTerm.{TypeTerm as APart};
-ghost use Rattle.reo_rules_base.specs.Lists.{each_after};
-ghost use Rattle.reo_rules_base.specs.Types.{parts_of};
-ghost use Rattle.reo_rules_base.specs.Scopes.{parameter_names};
-ghost use Rattle.reo_rules_base.specs.Twice.{twice_among, twice_in_part, twice_in_parameter, twice_in_item, twice_in_connector, twice};
-ghost use Rattle.reo_rules_base.specs.Judged.{IsJudged};
+ghost use Rattle.reo_rules.specs.Lists.{each_after};
+ghost use Rattle.reo_rules.specs.Types.{parts_of};
+ghost use Rattle.reo_rules.specs.Scopes.{parameter_names};
+ghost use Rattle.reo_rules.specs.Twice.{twice_among, twice_in_part, twice_in_parameter, twice_in_item, twice_in_connector, twice};
+ghost use Rattle.reo_rules.specs.Judged.{IsJudged};
 
-use reo_rules_base::{FlatFault, Names};
+use reo_rules::{FlatFault, Names};
 use reo_trees::{Connector, Declaration, Form, Item, Parameter, Program, Shape};
 use reo_values::Bytes;
 use std::alloc::Global;

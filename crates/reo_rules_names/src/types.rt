@@ -1,10 +1,10 @@
 //! Types by name, with the symbols of those that are sym types.
 ghost use Rattle.std.specs.Prelude.{◌≡◌, [], ◌∷◌, ◌++◌, IfOk, OnOk, List, None, length, MatchOption};
-ghost use Rattle.reo_rules_base.specs.Types.{Typed, type_named, resolved};
+ghost use Rattle.reo_rules.specs.Types.{Typed, type_named, resolved};
 ghost use Rattle.reo_rules_names.specs.SameNames.{SameNames};
 ghost use Rattle.reo_rules_names.specs.Values.{value_at};
 
-use reo_rules_base::Names;
+use reo_rules::Names;
 use reo_trees::Shape;
 use reo_values::{Bytes, List, NoMemory};
 use std::alloc::Global;

@@ -4,17 +4,17 @@ ghost use Rattle.std.specs.List.{flat_map};
 ghost use Rattle.reo_trees.specs.declared.items.Item.{Item as AnItem};
 ghost use Rattle.reo_trees.specs.declared.types.TypeTerm.{TypeTerm as APart};
 ghost use Rattle.reo_trees.specs.declared.programs.Parameter.{Parameter as AParameter};
-ghost use Rattle.reo_rules_base.specs.Lists.{each_after};
-ghost use Rattle.reo_rules_base.specs.Types.{Typed, parts_of};
-ghost use Rattle.reo_rules_base.specs.Terms.{symbols_in};
-ghost use Rattle.reo_rules_base.specs.Scopes.{parameter_names, node_names, node_names_in};
-ghost use Rattle.reo_rules_base.specs.Unknown.{missing, unknown_in_part, unknown_in_type, unknown_symbol, unknown_in_channel, unknown_in_item, unknown_in_connector, unknown};
-ghost use Rattle.reo_rules_base.specs.Judged.{IsJudged};
+ghost use Rattle.reo_rules.specs.Lists.{each_after};
+ghost use Rattle.reo_rules.specs.Types.{Typed, parts_of};
+ghost use Rattle.reo_rules.specs.Terms.{symbols_in};
+ghost use Rattle.reo_rules.specs.Scopes.{parameter_names, node_names, node_names_in};
+ghost use Rattle.reo_rules.specs.Unknown.{missing, unknown_in_part, unknown_in_type, unknown_symbol, unknown_in_channel, unknown_in_item, unknown_in_connector, unknown};
+ghost use Rattle.reo_rules.specs.Judged.{IsJudged};
 ghost use Rattle.reo_rules_names.specs.SameNames.{SameNames};
 ghost use Rattle.reo_rules_names.specs.Symbols.{AreTypes};
 
 use crate::types::Types;
-use reo_rules_base::{FlatFault, Names};
+use reo_rules::{FlatFault, Names};
 use reo_trees::{Channel, Connector, Declaration, Form, Item, Parameter, Program, Shape, TermForm};
 use reo_values::{Bytes, NoMemory};
 use std::alloc::Global;
@@ -117,7 +117,10 @@ fn channel_unknown(alloc: Global, types: &Types, channel: &Channel) -> Result<()
         | Channel::SyncDrain
         | Channel::AsyncDrain
         | Channel::Fifo1(_)
-        | Channel::Fifo(_, _) => Ok(()),
+        | Channel::Fifo(_, _)
+        | Channel::Shift(_, _)
+        | Channel::Variable(_)
+        | Channel::Quota(_) => Ok(()),
     }
 }
 

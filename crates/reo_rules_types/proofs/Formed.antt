@@ -18,8 +18,8 @@ use Rattle.reo_trees.specs.declared.terms.TermForm.TheBlock.{hidden-the_row-Term
 use Rattle.reo_trees.specs.declared.terms.Term.{Term}
 use Rattle.reo_trees.specs.declared.terms.TermPair.{TermPair}
 use Rattle.reo_trees.specs.declared.terms.TermTriple.{TermTriple}
-use Rattle.reo_rules_base.specs.Types.{Typed, type_named}
-use Rattle.reo_rules_base.specs.Terms.{symbol_in, expr_of}
+use Rattle.reo_rules.specs.Types.{Typed, type_named}
+use Rattle.reo_rules.specs.Terms.{symbol_in, expr_of}
 use Rattle.reo_rules_types.specs.Cells.{is_symbol}
 use Rattle.reo_rules_types.specs.Kinded.{kind_of_form, kind_of_symbol}
 use Rattle.reo_exprs.specs.declared.expr.ExprPair.{ExprPair}

@@ -9,11 +9,11 @@ use Rattle.reo_trees.specs.declared.items.Item.{Item}
 use Rattle.reo_trees.specs.declared.items.Form.{Form}
 use Rattle.reo_trees.specs.declared.items.Form.TheVariants as forms
 use Rattle.reo_trees.specs.declared.programs.Parameter.{Parameter}
-use Rattle.reo_rules_base.specs.Lists.{each_after, where_true, has_name}
-use Rattle.reo_rules_base.specs.Types.{Typed, names_of}
-use Rattle.reo_rules_base.specs.Scopes.{parameter_names, parameter_type, node_names, node_names_in, node_types_in}
-use Rattle.reo_rules_base.specs.Twice.{twice_in_parameter, twice_in_item, twice_in_type}
-use Rattle.reo_rules_base.proofs.AfterLemmas.{left_none, right_none}
+use Rattle.reo_rules.specs.Lists.{each_after, where_true, has_name}
+use Rattle.reo_rules.specs.Types.{Typed, names_of}
+use Rattle.reo_rules.specs.Scopes.{parameter_names, parameter_type, node_names, node_names_in, node_types_in}
+use Rattle.reo_rules.specs.Twice.{twice_in_parameter, twice_in_item, twice_in_type}
+use Rattle.reo_rules.proofs.AfterLemmas.{left_none, right_none}
 use Rattle.reo_rules_types.specs.Scoped.{typed}
 use Rattle.reo_rules_types.proofs.Scoped.{names_typed}
 

@@ -13,9 +13,9 @@ use Rattle.reo_exprs.proofs.Kinded.{join_by_kind}
 use Rattle.reo_exprs.proofs.Options.{from_and_then}
 use Rattle.reo_exprs.proofs.Steps.{is_kind}
 use Rattle.reo_trees.specs.declared.terms.TermForm.{TermForm}
-use Rattle.reo_rules_base.specs.Types.{Typed, is_same}
-use Rattle.reo_rules_base.specs.Terms.{expr_of}
-use Rattle.reo_rules_base.specs.Mistyped.{is_kind as is_that_kind, has_kind}
+use Rattle.reo_rules.specs.Types.{Typed, is_same}
+use Rattle.reo_rules.specs.Terms.{expr_of}
+use Rattle.reo_rules.specs.Mistyped.{is_kind as is_that_kind, has_kind}
 use Rattle.reo_rules_types.specs.Cells.{type_at, Keeps}
 use Rattle.reo_rules_types.specs.Kinded.{fits_test, kind_of_form, IsMade}
 use Rattle.reo_rules_types.specs.Scoped.{typed, AreKnown}

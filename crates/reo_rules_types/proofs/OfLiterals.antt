@@ -17,7 +17,7 @@ use Rattle.reo_trees.specs.declared.literals.Constant.TheBlock.{hidden-the_row-L
 use Rattle.reo_trees.specs.declared.literals.LiteralPair.{LiteralPair}
 use Rattle.reo_trees.specs.declared.literals.Literal.{Literal}
 use Rattle.reo_literals.specs.Items.{value_of, item_of}
-use Rattle.reo_rules_base.specs.Lists.{has_name}
+use Rattle.reo_rules.specs.Lists.{has_name}
 use Rattle.reo_rules_types.specs.declared.cell.Cell.{Cell}
 use Rattle.reo_rules_types.specs.declared.cell.Cell.TheVariants as cells
 use Rattle.reo_rules_types.specs.Cells.{kindred_of}

@@ -25,14 +25,14 @@ use Rattle.reo_trees.specs.declared.types.Shape.TheVariants as shapes
 use Rattle.reo_trees.specs.declared.types.Shape.TheBlock.{hidden-the_row-TypePair-0}
 use Rattle.reo_trees.specs.declared.types.TypePair.{TypePair}
 use Rattle.reo_trees.specs.declared.types.TypeTerm.{TypeTerm}
-use Rattle.reo_rules_base.specs.declared.fault.FlatFault.{FlatFault}
-use Rattle.reo_rules_base.specs.declared.fault.FlatFault.TheVariants as faults
-use Rattle.reo_rules_base.specs.Lists.{where_true, first_of}
-use Rattle.reo_rules_base.specs.Types.{Typed, resolved, parts_of, depth_of}
-use Rattle.reo_rules_base.specs.Ranges.{is_out, is_inside, range_in_type}
-use Rattle.reo_rules_base.specs.Judged.{IsFirst}
-use Rattle.reo_rules_base.proofs.Parts.{over_parts-Pair}
-use Rattle.reo_rules_base.proofs.Mapped.{position-map}
+use Rattle.reo_rules.specs.declared.fault.FlatFault.{FlatFault}
+use Rattle.reo_rules.specs.declared.fault.FlatFault.TheVariants as faults
+use Rattle.reo_rules.specs.Lists.{where_true, first_of}
+use Rattle.reo_rules.specs.Types.{Typed, resolved, parts_of, depth_of}
+use Rattle.reo_rules.specs.Ranges.{is_out, is_inside, range_in_type}
+use Rattle.reo_rules.specs.Judged.{IsFirst}
+use Rattle.reo_rules.proofs.Parts.{over_parts-Pair}
+use Rattle.reo_rules.proofs.Mapped.{position-map}
 use Rattle.reo_rules_types.specs.declared.cell.Cell.{Cell}
 use Rattle.reo_rules_types.specs.declared.cell.Cell.TheVariants as cells
 use Rattle.reo_rules_types.specs.Cells.{kindred_of}

@@ -12,7 +12,7 @@ use Rattle.reo_exprs.proofs.JoinCases.{names_same}
 use Rattle.reo_exprs.proofs.Joined.{names_match}
 use Rattle.reo_exprs.proofs.Options.{from_both, to_both}
 use Rattle.reo_exprs.proofs.Twinned.{Twins_of-equal}
-use Rattle.reo_rules_base.specs.Types.{int_eq, is_same}
+use Rattle.reo_rules.specs.Types.{int_eq, is_same}
 
 test_is : (b : Bool) → Decides b (T b)
 test_is true = (λ h. tt, λ h. refl)

@@ -5,7 +5,7 @@ use Rattle.std.specs.Map.{lookup, keys_of}
 use Rattle.std.proofs.lemmas.List.{map-append}
 use Rattle.reo_values.specs.declared.kindred.Kindred.{Kindred}
 use Rattle.reo_values.specs.declared.kindred.Kindred.TheVariants as kinds
-use Rattle.reo_rules_base.specs.Types.{Typed, type_named, names_of}
+use Rattle.reo_rules.specs.Types.{Typed, type_named, names_of}
 use Rattle.reo_rules_types.specs.Cells.{type_at, Keeps}
 use Rattle.reo_rules_types.specs.Scoped.{number_named, typed, AreBelow, AreKnown}
 use Rattle.reo_rules_types.proofs.Kept.{at_told, at_there, at_within, kept_at, kept_below}

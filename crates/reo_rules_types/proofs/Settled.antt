@@ -12,10 +12,10 @@ use Rattle.reo_trees.specs.declared.types.Shape.{Shape}
 use Rattle.reo_trees.specs.declared.types.Shape.TheBlock.{hidden-the_row-TypePair-0}
 use Rattle.reo_trees.specs.declared.types.TypeTerm.{TypeTerm}
 use Rattle.reo_trees.specs.declared.programs.Parameter.{Parameter}
-use Rattle.reo_rules_base.specs.Lists.{has_name}
-use Rattle.reo_rules_base.specs.Types.{Typed, names_of, type_named, resolved, parts_of}
-use Rattle.reo_rules_base.specs.Unknown.{missing, unknown_in_part, unknown_in_type}
-use Rattle.reo_rules_base.proofs.AfterLemmas.{left_none, right_none, flat_map-append}
+use Rattle.reo_rules.specs.Lists.{has_name}
+use Rattle.reo_rules.specs.Types.{Typed, names_of, type_named, resolved, parts_of}
+use Rattle.reo_rules.specs.Unknown.{missing, unknown_in_part, unknown_in_type}
+use Rattle.reo_rules.proofs.AfterLemmas.{left_none, right_none, flat_map-append}
 use Rattle.reo_rules_types.specs.Stands.{IsSettled, AreSettled}
 use Rattle.reo_rules_types.proofs.Names.{where_false}
 

@@ -6,7 +6,7 @@ use Rattle.reo_values.specs.declared.kindred.Kindred.TheVariants as kinds
 use Rattle.reo_trees.specs.declared.types.Shape.TheVariants as shapes
 use Rattle.reo_trees.specs.declared.types.Shape.TheBlock.{hidden-the_row-TypePair-0}
 use Rattle.reo_trees.specs.declared.types.TypePair.{TypePair}
-use Rattle.reo_rules_base.specs.Types.{Typed, resolved}
+use Rattle.reo_rules.specs.Types.{Typed, resolved}
 use Rattle.reo_rules_types.specs.declared.cell.Cell.TheVariants as cells
 use Rattle.reo_rules_types.specs.Cells.{kindred_of, Keeps}
 use Rattle.reo_rules_types.specs.Scoped.{typed, AreKnown}

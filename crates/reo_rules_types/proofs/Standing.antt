@@ -7,12 +7,12 @@ use Rattle.reo_trees.specs.declared.programs.Connector.{Connector}
 use Rattle.reo_trees.specs.declared.programs.Declaration.{Declaration}
 use Rattle.reo_trees.specs.declared.programs.Declaration.TheVariants as declarations
 use Rattle.reo_trees.specs.declared.items.Item.{Item}
-use Rattle.reo_rules_base.specs.Lists.{each_after, has_name}
-use Rattle.reo_rules_base.specs.Names.{with_name}
-use Rattle.reo_rules_base.specs.Types.{Typed, names_of, resolved, types_after, types_of}
-use Rattle.reo_rules_base.specs.Scopes.{type_names, connectors_of, connector_names, parameter_names, node_names}
-use Rattle.reo_rules_base.specs.Unknown.{unknown_in_item, unknown_in_connector}
-use Rattle.reo_rules_base.proofs.AfterLemmas.{left_none}
+use Rattle.reo_rules.specs.Lists.{each_after, has_name}
+use Rattle.reo_rules.specs.Names.{with_name}
+use Rattle.reo_rules.specs.Types.{Typed, names_of, resolved, types_after, types_of}
+use Rattle.reo_rules.specs.Scopes.{type_names, connectors_of, connector_names, parameter_names, node_names}
+use Rattle.reo_rules.specs.Unknown.{unknown_in_item, unknown_in_connector}
+use Rattle.reo_rules.proofs.AfterLemmas.{left_none}
 use Rattle.reo_rules_types.specs.declared.known.Known.{Known}
 use Rattle.reo_rules_types.specs.Cells.{Keeps}
 use Rattle.reo_rules_types.specs.Scoped.{typed, AreKnown}

@@ -8,8 +8,8 @@ use Rattle.reo_exprs.specs.Kinds.{interval_of, is_bool}
 use Rattle.reo_exprs.specs.Typing.{kind_of_expr}
 use Rattle.reo_trees.specs.declared.terms.TermForm.{TermForm}
 use Rattle.reo_trees.specs.declared.terms.TermForm.TheVariants as form_variants
-use Rattle.reo_rules_base.specs.Types.{Typed, is_same}
-use Rattle.reo_rules_base.specs.Terms.{expr_of}
+use Rattle.reo_rules.specs.Types.{Typed, is_same}
+use Rattle.reo_rules.specs.Terms.{expr_of}
 use Rattle.reo_rules_types.specs.Cells.{type_at}
 
 -- The kind of a written expression where `it` has the type.

@@ -3,7 +3,7 @@ use Rattle.std.specs.Prelude.{◌≡◌, ℕ, ◌<◌, List, [], ◌∷◌, map,
 use Rattle.std.specs.Map.{lookup}
 use Rattle.reo_values.specs.declared.kindred.Kindred.{Kindred}
 use Rattle.reo_values.specs.declared.kindred.Kindred.TheVariants as kinds
-use Rattle.reo_rules_base.specs.Types.{Typed}
+use Rattle.reo_rules.specs.Types.{Typed}
 use Rattle.reo_rules_types.specs.Cells.{type_at}
 
 -- The number of the first entry of this name; 0 where there is none.

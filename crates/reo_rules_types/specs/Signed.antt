@@ -3,7 +3,7 @@ use Rattle.std.specs.Prelude.{◌≡◌, ℕ, List, [], ◌∷◌, map, Some, sl
 use Rattle.reo_values.specs.declared.kindred.Kindred.{Kindred}
 use Rattle.reo_trees.specs.declared.programs.Parameter.{Parameter}
 use Rattle.reo_trees.specs.declared.programs.Connector.{Connector}
-use Rattle.reo_rules_base.specs.Types.{Typed, resolved}
+use Rattle.reo_rules.specs.Types.{Typed, resolved}
 
 -- The numbers are those of the types, one by one.
 abbrev pub AreOf : List Kindred → List ℕ → List Kindred → Type 0

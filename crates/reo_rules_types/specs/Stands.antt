@@ -5,8 +5,8 @@ use Rattle.reo_trees.specs.declared.types.Shape.{Shape}
 use Rattle.reo_trees.specs.declared.programs.Parameter.{Parameter}
 use Rattle.reo_trees.specs.declared.programs.Connector.{Connector}
 use Rattle.reo_trees.specs.declared.programs.Declaration.{Declaration}
-use Rattle.reo_rules_base.specs.Types.{Typed, types_of, resolved}
-use Rattle.reo_rules_base.specs.Scopes.{connectors_of, connector_names}
+use Rattle.reo_rules.specs.Types.{Typed, types_of, resolved}
+use Rattle.reo_rules.specs.Scopes.{connectors_of, connector_names}
 use Rattle.reo_rules_types.specs.declared.known.Known.{Known}
 use Rattle.reo_rules_types.specs.Scoped.{typed}
 use Rattle.reo_rules_types.specs.Signed.{AreOf, parameter_types}

@@ -4,10 +4,10 @@ ghost use Rattle.std.specs.List.{list_any, zip};
 ghost use Rattle.reo_values.specs.declared.kindred.Kindred.{Kindred as AType};
 ghost use Rattle.reo_trees.specs.declared.literals.Literal.{Literal as ALiteral};
 ghost use Rattle.reo_literals.specs.Items.{item_of};
-ghost use Rattle.reo_rules_base.specs.Types.{type_named, is_same};
-ghost use Rattle.reo_rules_base.specs.Terms.{expr_of};
-ghost use Rattle.reo_rules_base.specs.Channels.{keeps_type, literals_of};
-ghost use Rattle.reo_rules_base.specs.Mistyped.{has_kind, misfits, is_channel_mistyped};
+ghost use Rattle.reo_rules.specs.Types.{type_named, is_same};
+ghost use Rattle.reo_rules.specs.Terms.{expr_of};
+ghost use Rattle.reo_rules.specs.Channels.{keeps_type, literals_of};
+ghost use Rattle.reo_rules.specs.Mistyped.{has_kind, misfits, is_channel_mistyped};
 ghost use Rattle.reo_rules_types.specs.Cells.{type_at, Keeps};
 ghost use Rattle.reo_rules_types.specs.Scoped.{typed, AreKnown};
 ghost use Rattle.reo_rules_types.specs.Signed.{AreOf};
@@ -27,20 +27,27 @@ fn keeps_type(channel: &Channel) -> bool
     match channel {
         Channel::SyncDrain | Channel::AsyncDrain | Channel::Map(_) => false,
         Channel::Sync | Channel::Lossy | Channel::Filter(_) => true,
-        Channel::Fifo1(_) | Channel::Fifo(_, _) => true,
+        Channel::Fifo1(_) | Channel::Fifo(_, _) | Channel::Shift(_, _) => true,
+        Channel::Variable(_) | Channel::Quota(_) => true,
     }
 }
 
 // Whether some literal of a channel is no item of a type.
 fn literal_misfits(types: &Types, number: usize, channel: &Channel) -> bool
     requires { number < length types.now }
-    ensures { result ≡ list_any (λ (l : ALiteral). is_none (item_of (type_at types.now number) l)) (literals_of channel.now) }
+    ensures { result ≡ list_any (λ (l : ALiteral). is_none (item_of (type_at types.now number) l))
+        (literals_of channel.now) }
 {
     match channel {
-        Channel::Fifo1(Some(literal)) => !is_literal(types, number, &literal.constant),
-        Channel::Fifo(_, literals) => some_misfits(types, number, literals.as_slice()),
+        Channel::Fifo1(Some(literal)) | Channel::Variable(Some(literal)) => {
+            !is_literal(types, number, &literal.constant)
+        }
+        Channel::Fifo(_, literals) | Channel::Shift(_, literals) => {
+            some_misfits(types, number, literals.as_slice())
+        }
         Channel::Sync | Channel::Lossy | Channel::SyncDrain | Channel::AsyncDrain => false,
-        Channel::Fifo1(None) | Channel::Filter(_) | Channel::Map(_) => false,
+        Channel::Fifo1(None) | Channel::Variable(None) | Channel::Quota(_) => false,
+        Channel::Filter(_) | Channel::Map(_) => false,
     }
 }
 
@@ -57,7 +64,10 @@ fn lacks_kind(
     requires of { of < length types.old }
     requires want { want < length types.old }
     ensures keeps { OnOk result (Keeps types.old types.new) }
-    ensures test { IfOk result (λ r. r ≡ not (has_kind (type_at types.old of) (type_at types.old want) (expr_of (typed types.old declared.now) form.now))) }
+    ensures test { IfOk result
+        (λ r. r ≡ not
+        (has_kind (type_at types.old of) (type_at types.old want)
+        (expr_of (typed types.old declared.now) form.now))) }
 {
     match kind_of_term(alloc, types, declared, form, of)? {
         Some(kind) => Ok(!types.same(kind, want)),
@@ -78,7 +88,9 @@ fn misfits(
     requires first { a < length types.old }
     requires second { b < length types.old }
     ensures keeps { OnOk result (Keeps types.old types.new) }
-    ensures test { IfOk result (λ r. r ≡ misfits (typed types.old declared.now) (type_at types.old a) (type_at types.old b) channel.now) }
+    ensures test { IfOk result
+        (λ r. r ≡ misfits (typed types.old declared.now) (type_at types.old a)
+        (type_at types.old b) channel.now) }
 {
     match channel {
         Channel::Filter(term) => {
@@ -90,7 +102,8 @@ fn misfits(
             lacks_kind(alloc, types, declared, &term.form, a, want)
         }
         Channel::Sync | Channel::Lossy | Channel::SyncDrain | Channel::AsyncDrain => Ok(false),
-        Channel::Fifo1(_) | Channel::Fifo(_, _) => Ok(false),
+        Channel::Fifo1(_) | Channel::Fifo(_, _) | Channel::Shift(_, _) => Ok(false),
+        Channel::Variable(_) | Channel::Quota(_) => Ok(false),
     }
 }
 
@@ -108,7 +121,9 @@ pub(crate) fn channel_mistyped(
     requires first { a < length types.old }
     requires second { b < length types.old }
     ensures keeps { OnOk result (Keeps types.old types.new) }
-    ensures test { IfOk result (λ r. r ≡ is_channel_mistyped (typed types.old declared.now) (type_at types.old a) (type_at types.old b) channel.now) }
+    ensures test { IfOk result
+        (λ r. r ≡ is_channel_mistyped (typed types.old declared.now) (type_at types.old a)
+        (type_at types.old b) channel.now) }
 {
     if keeps_type(channel) && !types.same(a, b) {
         return Ok(true);
@@ -128,7 +143,9 @@ pub(crate) fn use_mistyped(
     numbers: &[usize],
 ) -> bool
     requires { AreKnown types.now scope.now }
-    ensures { (kinds : List AType) → AreOf types.now numbers.now kinds → result ≡ list_any (λ (q : List ℕ × AType). not (is_same (type_named (typed types.now scope.now) q.0) q.1)) (zip arguments.now kinds) }
+    ensures { (kinds : List AType) → AreOf types.now numbers.now kinds → result ≡ list_any
+        (λ (q : List ℕ × AType). not (is_same (type_named (typed types.now scope.now) q.0) q.1))
+        (zip arguments.now kinds) }
 {
     for (place, argument) in arguments.iter().enumerate() {
         let number = scope.find(argument.as_slice());

@@ -1,6 +1,6 @@
 //! Expressions, their names resolved.
 ghost use Rattle.std.specs.Prelude.{◌≡◌, ◌<◌, length, map, Some, IfOk, bytes_eq, position};
-ghost use Rattle.reo_rules_base.specs.Terms.{symbol_in, expr_of};
+ghost use Rattle.reo_rules.specs.Terms.{symbol_in, expr_of};
 ghost use Rattle.reo_rules_types.specs.Cells.{type_at};
 ghost use Rattle.reo_rules_types.specs.Resolved.{pair_of};
 ghost use Rattle.reo_rules_types.specs.Scoped.{typed, AreKnown};
@@ -55,7 +55,9 @@ fn two_expr(alloc: Global, op: Binary, pair: ExprPair) -> Result<Option<Expr>, N
 }
 
 fn if_expr(alloc: Global, condition: Expr, pair: ExprPair) -> Result<Option<Expr>, NoMemory>
-    ensures { IfOk result (λ made. made ≡ Some (Expr.If (record { condition = condition; yes = pair.left; no = pair.right }))) }
+    ensures { IfOk result
+        (λ made. made
+        ≡ Some (Expr.If (record { condition = condition; yes = pair.left; no = pair.right }))) }
 {
     let parts = ExprTriple {
         condition,
@@ -75,7 +77,9 @@ fn two_of(
     right: &Term,
 ) -> Result<Option<ExprPair>, NoMemory>
     requires { AreKnown types.now declared.now }
-    ensures { IfOk result (λ made. made ≡ pair_of (expr_of (typed types.now declared.now) left.now.form) (expr_of (typed types.now declared.now) right.now.form)) }
+    ensures { IfOk result
+        (λ made. made ≡ pair_of (expr_of (typed types.now declared.now) left.now.form)
+        (expr_of (typed types.now declared.now) right.now.form)) }
 {
     let Some(left) = expr_of_term(alloc, types, declared, &left.form)? else {
         return Ok(None);

@@ -39,7 +39,8 @@ fn is_text(types: &Types, number: usize) -> bool
 // The type of the left parts, of a type of pairs.
 fn left(types: &Types, number: usize) -> Option<usize>
     requires { number < length types.now }
-    ensures { IsMade types.now result (option_map (λ t. t.left) (twins_of (type_at types.now number))) }
+    ensures { IsMade types.now result
+        (option_map (λ t. t.left) (twins_of (type_at types.now number))) }
 {
     match types.cell(number) {
         Cell::Pair(left, _) => Some(*left),
@@ -50,7 +51,8 @@ fn left(types: &Types, number: usize) -> Option<usize>
 // The type of the right parts, of a type of pairs.
 fn right(types: &Types, number: usize) -> Option<usize>
     requires { number < length types.now }
-    ensures { IsMade types.now result (option_map (λ t. t.right) (twins_of (type_at types.now number))) }
+    ensures { IsMade types.now result
+        (option_map (λ t. t.right) (twins_of (type_at types.now number))) }
 {
     match types.cell(number) {
         Cell::Pair(_, right) => Some(*right),
@@ -61,7 +63,8 @@ fn right(types: &Types, number: usize) -> Option<usize>
 // The type of truth values, where a test holds.
 fn truth(alloc: Global, types: &mut Types, test: bool) -> Result<Option<usize>, NoMemory>
     ensures keeps { OnOk result (Keeps types.old types.new) }
-    ensures kind { IfOk result (λ made. IsMade types.new made (if test then Some type_variants.Bool else None)) }
+    ensures kind { IfOk result
+        (λ made. IsMade types.new made (if test then Some type_variants.Bool else None)) }
 {
     if test {
         Ok(Some(types.put(alloc, Cell::Bool)?))
@@ -73,7 +76,9 @@ fn truth(alloc: Global, types: &mut Types, test: bool) -> Result<Option<usize>, 
 // The kind of numbers, where a test holds.
 fn whole(alloc: Global, types: &mut Types, test: bool) -> Result<Option<usize>, NoMemory>
     ensures keeps { OnOk result (Keeps types.old types.new) }
-    ensures kind { IfOk result (λ made. IsMade types.new made (if test then Some (type_variants.Int (pos 0) (pos 0)) else None)) }
+    ensures kind { IfOk result
+        (λ made. IsMade types.new made
+        (if test then Some (type_variants.Int (pos 0) (pos 0)) else None)) }
 {
     if test {
         Ok(Some(types.put(alloc, Cell::Int(0, 0))?))
@@ -91,7 +96,8 @@ fn one_kind(
     requires known { x < length types.old }
     requires bare { bare (type_at types.old x) ≡ type_at types.old x }
     ensures keeps { OnOk result (Keeps types.old types.new) }
-    ensures kind { IfOk result (λ made. IsMade types.new made (unary_kind op (type_at types.old x))) }
+    ensures kind { IfOk result
+        (λ made. IsMade types.new made (unary_kind op (type_at types.old x))) }
 {
     match op {
         Unary::Not => {
@@ -136,7 +142,9 @@ fn two_kind(
     requires left_bare { bare (type_at types.old x) ≡ type_at types.old x }
     requires right_bare { bare (type_at types.old y) ≡ type_at types.old y }
     ensures keeps { OnOk result (Keeps types.old types.new) }
-    ensures kind { IfOk result (λ made. IsMade types.new made (binary_kind op (type_at types.old x) (type_at types.old y))) }
+    ensures kind { IfOk result
+        (λ made. IsMade types.new made
+        (binary_kind op (type_at types.old x) (type_at types.old y))) }
 {
     let fits = fits_test(types, op, x, y);
     match op {
@@ -155,7 +163,8 @@ fn choice_kind(types: &Types, condition: usize, yes: usize, no: usize) -> Option
     requires no { no < length types.now }
     requires yes_bare { bare (type_at types.now yes) ≡ type_at types.now yes }
     requires no_bare { bare (type_at types.now no) ≡ type_at types.now no }
-    ensures { IsMade types.now result (if_kind (type_at types.now condition) (type_at types.now yes) (type_at types.now no)) }
+    ensures { IsMade types.now result
+        (if_kind (type_at types.now condition) (type_at types.now yes) (type_at types.now no)) }
 {
     if is_bool(types, condition) && types.same(yes, no) {
         Some(yes)
@@ -167,7 +176,9 @@ fn choice_kind(types: &Types, condition: usize, yes: usize, no: usize) -> Option
 // The type of a symbol, where the type of this name has it.
 fn symbol_kind(types: &Types, declared: &Scope, name: &Bytes, symbol: &Bytes) -> Option<usize>
     requires { AreKnown types.now declared.now }
-    ensures { (of : AType) → IsMade types.now result (kind_of_symbol (typed types.now declared.now) name.now symbol.now of) }
+    ensures { (of : AType)
+        → IsMade types.now result
+        (kind_of_symbol (typed types.now declared.now) name.now symbol.now of) }
 {
     let number = declared.find(name.as_slice());
     if types.has_symbol(number, symbol.as_slice()) {
@@ -190,7 +201,9 @@ pub(crate) fn kind_of_term(
     requires known { AreKnown types.old declared.now }
     requires of { of < length types.old }
     ensures keeps { OnOk result (Keeps types.old types.new) }
-    ensures kind { IfOk result (λ made. IsMade types.new made (kind_of_form (typed types.old declared.now) form.now (type_at types.old of))) }
+    ensures kind { IfOk result
+        (λ made. IsMade types.new made
+        (kind_of_form (typed types.old declared.now) form.now (type_at types.old of))) }
 {
     match form {
         TermForm::It => Ok(Some(types.kind(of))),

@@ -1,6 +1,6 @@
 //! What is known of the declarations before a place.
 use crate::scope::Scope;
-use reo_rules_base::Names;
+use reo_rules::Names;
 use reo_values::List;
 
 /// The numbers of the declared types, the names of the connectors, and the numbers of the types

@@ -48,7 +48,8 @@ pub(crate) fn is_literal(types: &Types, number: usize, constant: &Constant) -> b
 /// Whether some literal is no item of a type.
 pub(crate) fn some_misfits(types: &Types, number: usize, literals: &[Literal]) -> bool
     requires { number < length types.now }
-    ensures { result ≡ list_any (λ (l : ALiteral). is_none (item_of (type_at types.now number) l)) literals.now }
+    ensures { result ≡ list_any
+        (λ (l : ALiteral). is_none (item_of (type_at types.now number) l)) literals.now }
 {
     for literal in literals {
         if !is_literal(types, number, &literal.constant) {

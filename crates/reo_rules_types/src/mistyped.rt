@@ -4,15 +4,15 @@ ghost use Rattle.std.specs.List.{flat_map};
 ghost use Rattle.reo_trees.specs.declared.items.Item.{Item as AnItem};
 ghost use Rattle.reo_trees.specs.declared.programs.Declaration.{Declaration as ADeclaration};
 ghost use Rattle.reo_trees.specs.declared.programs.Declaration.TheVariants as declarations;
-ghost use Rattle.reo_rules_base.specs.declared.fault.FlatFault.TheVariants as faults;
-ghost use Rattle.reo_rules_base.specs.Lists.{where_true, has_name};
-ghost use Rattle.reo_rules_base.specs.Types.{types_of};
-ghost use Rattle.reo_rules_base.specs.Scopes.{connectors_of, connector_names, parameters_named};
-ghost use Rattle.reo_rules_base.specs.Twice.{twice_in_connector};
-ghost use Rattle.reo_rules_base.specs.Unknown.{unknown_in};
-ghost use Rattle.reo_rules_base.specs.Mistyped.{is_use_mistyped, is_mistyped, mistyped_in, mistyped};
-ghost use Rattle.reo_rules_base.specs.Judged.{IsJudged};
-ghost use Rattle.reo_rules_base.specs.Rules.{KeepsNames};
+ghost use Rattle.reo_rules.specs.declared.fault.FlatFault.TheVariants as faults;
+ghost use Rattle.reo_rules.specs.Lists.{where_true, has_name};
+ghost use Rattle.reo_rules.specs.Types.{types_of};
+ghost use Rattle.reo_rules.specs.Scopes.{connectors_of, connector_names, parameters_named};
+ghost use Rattle.reo_rules.specs.Twice.{twice_in_connector};
+ghost use Rattle.reo_rules.specs.Unknown.{unknown_in};
+ghost use Rattle.reo_rules.specs.Mistyped.{is_use_mistyped, is_mistyped, mistyped_in, mistyped};
+ghost use Rattle.reo_rules.specs.Judged.{IsJudged};
+ghost use Rattle.reo_rules.specs.Rules.{KeepsNames};
 ghost use Rattle.reo_rules_types.specs.Cells.{Keeps};
 ghost use Rattle.reo_rules_types.specs.Scoped.{typed, AreKnown};
 ghost use Rattle.reo_rules_types.specs.Stands.{Stands};
@@ -22,7 +22,7 @@ use crate::known::Known;
 use crate::scope::Scope;
 use crate::scopes::{declare_type, read_scope};
 use crate::types::Types;
-use reo_rules_base::{FlatFault, Names};
+use reo_rules::{FlatFault, Names};
 use reo_trees::{Connector, Declaration, Form, Item, Program};
 use reo_values::{Bytes, List, NoMemory};
 use std::alloc::Global;
@@ -36,7 +36,9 @@ fn used_mistyped(
     arguments: &[Bytes],
 ) -> bool
     requires { AreKnown types.now scope.now }
-    ensures { (before : List ADeclaration) → Stands before types.now known.now → result ≡ is_use_mistyped (types_of before) (typed types.now scope.now) arguments.now (parameters_named (connectors_of before) name.now) }
+    ensures { (before : List ADeclaration) → Stands before types.now known.now
+        → result ≡ is_use_mistyped (types_of before) (typed types.now scope.now) arguments.now
+        (parameters_named (connectors_of before) name.now) }
 {
     match known.connectors.find(name.as_slice()) {
         Some(place) => match known.signatures.get(place) {
@@ -58,7 +60,9 @@ fn item_mistyped(
     requires known { AreKnown types.old known.now.declared }
     requires scope { AreKnown types.old scope.now }
     ensures keeps { OnOk result (Keeps types.old types.new) }
-    ensures test { (before : List ADeclaration) → Stands before types.old known.now → IfOk result (λ r. r ≡ is_mistyped (types_of before) (connectors_of before) (typed types.old scope.now) form.now) }
+    ensures test { (before : List ADeclaration) → Stands before types.old known.now → IfOk result
+        (λ r. r ≡ is_mistyped (types_of before) (connectors_of before)
+        (typed types.old scope.now) form.now) }
 {
     match form {
         Form::Node { .. } => Ok(false),
@@ -87,7 +91,11 @@ fn items_mistyped(
     requires known { AreKnown types.old known.now.declared }
     requires scope { AreKnown types.old scope.now }
     ensures keeps { OnOk result (Keeps types.old types.new) }
-    ensures judged { (before : List ADeclaration) → Stands before types.old known.now → IsJudged (flat_map (λ (i : AnItem). where_true (is_mistyped (types_of before) (connectors_of before) (typed types.old scope.now) i.form) (faults.Mistyped i.line)) items.now) result }
+    ensures judged { (before : List ADeclaration) → Stands before types.old known.now
+        → IsJudged (flat_map
+        (λ (i : AnItem). where_true
+        (is_mistyped (types_of before) (connectors_of before) (typed types.old scope.now) i.form)
+        (faults.Mistyped i.line)) items.now) result }
 {
     for item in items {
         if item_mistyped(alloc, types, known, scope, &item.form)? {
@@ -107,8 +115,13 @@ fn connector_mistyped(
     requires known { AreKnown types.old known.old.declared }
     requires distinct { twice_in_connector connector.now ≡ [] }
     ensures known { OnOk result (AreKnown types.new known.new.declared) }
-    ensures judged { (before : List ADeclaration) → Stands before types.old known.old → IsJudged (mistyped_in before (declarations.Made connector.now)) result }
-    ensures stands { (before : List ADeclaration) → Stands before types.old known.old → has_name (connector_names before) connector.now.name ≡ false → unknown_in before (declarations.Made connector.now) ≡ [] → OnOk result (Stands (before ++ declarations.Made connector.now ∷ []) types.new known.new) }
+    ensures judged { (before : List ADeclaration) → Stands before types.old known.old
+        → IsJudged (mistyped_in before (declarations.Made connector.now)) result }
+    ensures stands { (before : List ADeclaration) → Stands before types.old known.old
+        → has_name (connector_names before) connector.now.name ≡ false
+        → unknown_in before (declarations.Made connector.now) ≡ []
+        → OnOk result
+        (Stands (before ++ declarations.Made connector.now ∷ []) types.new known.new) }
 {
     let mut scope = Scope::new(alloc);
     let numbers = read_scope(alloc, types, &known.declared, &mut scope, connector)?;

@@ -1,17 +1,17 @@
 //! Types and items that leave their bounds.
-ghost use Rattle.std.specs.Prelude.{◌≡◌, ◌<◌, [], false, not, is_none, length, nat_lt, List, IfOk, OnOk};
+ghost use Rattle.std.specs.Prelude.{◌≡◌, ◌<◌, [], false, not, is_none, length, nat_lt, List, IfOk, OnOk, IsErrOf};
 ghost use Rattle.std.specs.List.{flat_map};
 ghost use Rattle.reo_exprs.specs.Typing.{type_of_expr};
 ghost use Rattle.reo_trees.specs.declared.items.Item.{Item as AnItem};
 ghost use Rattle.reo_trees.specs.declared.programs.Parameter.{Parameter as AParameter};
-ghost use Rattle.reo_rules_base.specs.declared.fault.FlatFault.TheVariants as faults;
-ghost use Rattle.reo_rules_base.specs.Lists.{where_true};
-ghost use Rattle.reo_rules_base.specs.Types.{Typed, types_of, resolved, depth_of};
-ghost use Rattle.reo_rules_base.specs.Terms.{expr_of};
-ghost use Rattle.reo_rules_base.specs.Twice.{twice_in_connector};
-ghost use Rattle.reo_rules_base.specs.Ranges.{range_in_type, lies_in, leaves_by_filter, leaves_by_map, leaves, range_in_item, range_in_connector, out_of_range};
-ghost use Rattle.reo_rules_base.specs.Judged.{IsJudged};
-ghost use Rattle.reo_rules_base.specs.Rules.{KeepsNames};
+ghost use Rattle.reo_rules.specs.declared.fault.FlatFault.TheVariants as faults;
+ghost use Rattle.reo_rules.specs.Lists.{where_true};
+ghost use Rattle.reo_rules.specs.Types.{Typed, types_of, resolved, depth_of};
+ghost use Rattle.reo_rules.specs.Terms.{expr_of};
+ghost use Rattle.reo_rules.specs.Twice.{twice_in_connector};
+ghost use Rattle.reo_rules.specs.Ranges.{range_in_type, lies_in, leaves_by_filter, leaves_by_map, leaves, range_in_item, range_in_connector, out_of_range};
+ghost use Rattle.reo_rules.specs.Judged.{IsJudged};
+ghost use Rattle.reo_rules.specs.Rules.{KeepsNames};
 ghost use Rattle.reo_rules_types.specs.Cells.{type_at, Keeps};
 ghost use Rattle.reo_rules_types.specs.Scoped.{typed, AreKnown};
 
@@ -22,7 +22,7 @@ use crate::shapes::number_of;
 use crate::trees::{is_deeper, tree_of};
 use crate::types::Types;
 use reo_exprs::{Expr, TypeFault, lies_inside, type_of};
-use reo_rules_base::FlatFault;
+use reo_rules::FlatFault;
 use reo_trees::{
     Channel, Connector, Declaration, Form, Item, Parameter, Program, Shape, TermForm, TypeTerm,
 };
@@ -35,7 +35,8 @@ const MOST_LEVELS: usize = 8;
 
 // A break, where a test holds.
 fn range_where(test: bool, line: u32) -> Result<(), FlatFault>
-    ensures { IsJudged (where_true test (faults.Range line)) result }
+    ensures judged { IsJudged (where_true test (faults.Range line)) result }
+    ensures sure { IsErrOf result FlatFault.NoMemory → ⊥ }
 {
     if test {
         Err(FlatFault::Range { line })
@@ -46,7 +47,9 @@ fn range_where(test: bool, line: u32) -> Result<(), FlatFault>
 
 // The first part of a written type, no deeper than pairs may be nested, that leaves its bounds.
 fn shape_range(line: u32, shape: &Shape) -> Result<(), FlatFault>
-    ensures { (known : List Typed) → nat_lt 8 (depth_of (resolved known shape.now)) ≡ false → IsJudged (range_in_type known (record { line = line; shape = shape.now })) result }
+    ensures judged { (known : List Typed) → nat_lt 8 (depth_of (resolved known shape.now)) ≡ false
+        → IsJudged (range_in_type known (record { line = line; shape = shape.now })) result }
+    ensures sure { IsErrOf result FlatFault.NoMemory → ⊥ }
 {
     match shape {
         Shape::Int(low, high) => range_where(!(*low <= *high), line),
@@ -125,7 +128,9 @@ fn filter_leaves(
 ) -> Result<bool, NoMemory>
     requires known { AreKnown types.now declared.now }
     requires of { of < length types.now }
-    ensures { IfOk result (λ r. r ≡ leaves_by_filter (type_at types.now of) (expr_of (typed types.now declared.now) form.now)) }
+    ensures { IfOk result
+        (λ r. r ≡ leaves_by_filter (type_at types.now of)
+        (expr_of (typed types.now declared.now) form.now)) }
 {
     match expr_of_term(alloc, types, declared, form)? {
         Some(expr) => filter_untyped(alloc, types, &expr, of),
@@ -142,7 +147,8 @@ fn map_outside(
     target: &Kindred,
 ) -> Result<bool, NoMemory>
     requires { of < length types.now }
-    ensures { IfOk result (λ r. r ≡ not (lies_in target.now (type_of_expr expr.now (type_at types.now of)))) }
+    ensures { IfOk result
+        (λ r. r ≡ not (lies_in target.now (type_of_expr expr.now (type_at types.now of)))) }
 {
     let of = tree_of(alloc, types, of)?;
     lies_outside(alloc, expr, &of, target)
@@ -158,7 +164,9 @@ fn map_misses(
 ) -> Result<bool, NoMemory>
     requires of { of < length types.now }
     requires target { target < length types.now }
-    ensures { IfOk result (λ r. r ≡ not (lies_in (type_at types.now target) (type_of_expr expr.now (type_at types.now of)))) }
+    ensures { IfOk result
+        (λ r. r ≡ not
+        (lies_in (type_at types.now target) (type_of_expr expr.now (type_at types.now of)))) }
 {
     let target = tree_of(alloc, types, target)?;
     map_outside(alloc, types, expr, of, &target)
@@ -175,7 +183,9 @@ fn map_leaves(
     requires known { AreKnown types.now declared.now }
     requires of { of < length types.now }
     requires target { target < length types.now }
-    ensures { IfOk result (λ r. r ≡ leaves_by_map (type_at types.now of) (type_at types.now target) (expr_of (typed types.now declared.now) form.now)) }
+    ensures { IfOk result
+        (λ r. r ≡ leaves_by_map (type_at types.now of) (type_at types.now target)
+        (expr_of (typed types.now declared.now) form.now)) }
 {
     match expr_of_term(alloc, types, declared, form)? {
         Some(expr) => map_misses(alloc, types, &expr, of, target),
@@ -195,14 +205,18 @@ fn channel_leaves(
     requires known { AreKnown types.now declared.now }
     requires first { a < length types.now }
     requires second { b < length types.now }
-    ensures { IfOk result (λ r. r ≡ leaves (typed types.now declared.now) (type_at types.now a) (type_at types.now b) channel.now) }
+    ensures { IfOk result
+        (λ r. r ≡ leaves (typed types.now declared.now) (type_at types.now a)
+        (type_at types.now b) channel.now) }
 {
     match channel {
-        Channel::Fifo(size, held) => Ok((*size as usize) < held.len()),
+        Channel::Fifo(size, held) | Channel::Shift(size, held) => {
+            Ok((*size as usize) < held.len())
+        }
         Channel::Filter(term) => filter_leaves(alloc, types, declared, a, &term.form),
         Channel::Map(term) => map_leaves(alloc, types, declared, a, b, &term.form),
         Channel::Sync | Channel::Lossy | Channel::SyncDrain | Channel::AsyncDrain => Ok(false),
-        Channel::Fifo1(_) => Ok(false),
+        Channel::Fifo1(_) | Channel::Variable(_) | Channel::Quota(_) => Ok(false),
     }
 }
 
@@ -218,7 +232,9 @@ fn item_range(
     requires known { AreKnown types.old declared.now }
     requires scope { AreKnown types.old scope.now }
     ensures keeps { OnOk result (Keeps types.old types.new) }
-    ensures judged { IsJudged (range_in_item (typed types.old declared.now) (typed types.old scope.now) line form.now) result }
+    ensures judged { IsJudged
+        (range_in_item (typed types.old declared.now)
+        (typed types.old scope.now) line form.now) result }
 {
     match form {
         Form::Node { term, .. } => type_range(alloc, types, declared, term),
@@ -242,7 +258,9 @@ fn parameters_range(
 ) -> Result<(), FlatFault>
     requires { AreKnown types.old declared.now }
     ensures keeps { OnOk result (Keeps types.old types.new) }
-    ensures judged { IsJudged (flat_map (λ (p : AParameter). range_in_type (typed types.old declared.now) p.term) parameters.now) result }
+    ensures judged { IsJudged
+        (flat_map (λ (p : AParameter). range_in_type
+        (typed types.old declared.now) p.term) parameters.now) result }
 {
     for parameter in parameters {
         type_range(alloc, types, declared, &parameter.term)?;
@@ -260,7 +278,9 @@ fn items_range(
     requires known { AreKnown types.old declared.now }
     requires scope { AreKnown types.old scope.now }
     ensures keeps { OnOk result (Keeps types.old types.new) }
-    ensures judged { IsJudged (flat_map (λ (i : AnItem). range_in_item (typed types.old declared.now) (typed types.old scope.now) i.line i.form) items.now) result }
+    ensures judged { IsJudged
+        (flat_map (λ (i : AnItem). range_in_item (typed types.old declared.now)
+        (typed types.old scope.now) i.line i.form) items.now) result }
 {
     for item in items {
         item_range(alloc, types, declared, scope, item.line, &item.form)?;
@@ -278,7 +298,8 @@ fn connector_range(
     requires known { AreKnown types.old declared.now }
     requires distinct { twice_in_connector connector.now ≡ [] }
     ensures keeps { OnOk result (Keeps types.old types.new) }
-    ensures judged { IsJudged (range_in_connector (typed types.old declared.now) connector.now) result }
+    ensures judged { IsJudged
+        (range_in_connector (typed types.old declared.now) connector.now) result }
 {
     let mut scope = Scope::new(alloc);
     let _numbers = read_scope(alloc, types, declared, &mut scope, connector)?;

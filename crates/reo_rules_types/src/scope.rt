@@ -1,7 +1,7 @@
 //! Names with the numbers of their types.
 ghost use Rattle.std.specs.Prelude.{◌≡◌, ◌∷◌, ◌++◌, [], false, OnOk};
 ghost use Rattle.std.specs.Map.{keys_of};
-ghost use Rattle.reo_rules_base.specs.Lists.{has_name};
+ghost use Rattle.reo_rules.specs.Lists.{has_name};
 ghost use Rattle.reo_rules_types.specs.Scoped.{number_named};
 
 use indexmap::IndexMap;

@@ -4,10 +4,10 @@ ghost use Rattle.std.specs.List.{flat_map};
 ghost use Rattle.std.specs.Map.{keys_of};
 ghost use Rattle.reo_trees.specs.declared.items.Item.{Item as AnItem};
 ghost use Rattle.reo_trees.specs.declared.programs.Parameter.{Parameter as AParameter};
-ghost use Rattle.reo_rules_base.specs.Lists.{each_after, has_name};
-ghost use Rattle.reo_rules_base.specs.Types.{resolved};
-ghost use Rattle.reo_rules_base.specs.Scopes.{parameter_names, parameter_type, node_types_in, scope_of};
-ghost use Rattle.reo_rules_base.specs.Twice.{twice_in_parameter, twice_in_item, twice_in_connector};
+ghost use Rattle.reo_rules.specs.Lists.{each_after, has_name};
+ghost use Rattle.reo_rules.specs.Types.{resolved};
+ghost use Rattle.reo_rules.specs.Scopes.{parameter_names, parameter_type, node_types_in, scope_of};
+ghost use Rattle.reo_rules.specs.Twice.{twice_in_parameter, twice_in_item, twice_in_connector};
 ghost use Rattle.reo_rules_types.specs.Cells.{Keeps};
 ghost use Rattle.reo_rules_types.specs.Scoped.{typed, AreKnown};
 ghost use Rattle.reo_rules_types.specs.Signed.{AreOf, parameter_types};
@@ -32,7 +32,10 @@ pub(crate) fn declare_type(
     requires new { has_name (keys_of declared.old) name.now ≡ false }
     ensures keeps { OnOk result (Keeps types.old types.new) }
     ensures known { OnOk result (AreKnown types.new declared.new) }
-    ensures scope { OnOk result (typed types.new declared.new ≡ typed types.old declared.old ++ record { name = name.now; kindred = resolved (typed types.old declared.old) shape.now } ∷ []) }
+    ensures scope { OnOk result
+        (typed types.new declared.new ≡ typed types.old declared.old
+        ++ record { name = name.now; kindred = resolved (typed types.old declared.old) shape.now }
+        ∷ []) }
 {
     let number = number_of(alloc, types, declared, shape)?;
     declared.add(alloc, name.as_slice(), number)
@@ -52,8 +55,12 @@ fn declare(
     requires new { has_name (keys_of scope.old) name.now ≡ false }
     ensures keeps { OnOk result (Keeps types.old types.new) }
     ensures known { OnOk result (AreKnown types.new scope.new) }
-    ensures scope { OnOk result (typed types.new scope.new ≡ typed types.old scope.old ++ record { name = name.now; kindred = resolved (typed types.old declared.now) shape.now } ∷ []) }
-    ensures number { IfOk result (λ n. slice_get types.new n ≡ Some (resolved (typed types.old declared.now) shape.now)) }
+    ensures scope { OnOk result
+        (typed types.new scope.new ≡ typed types.old scope.old
+        ++ record { name = name.now; kindred = resolved (typed types.old declared.now) shape.now }
+        ∷ []) }
+    ensures number { IfOk result
+        (λ n. slice_get types.new n ≡ Some (resolved (typed types.old declared.now) shape.now)) }
 {
     let number = number_of(alloc, types, declared, shape)?;
     scope.add(alloc, name.as_slice(), number)?;
@@ -73,8 +80,13 @@ fn read_parameters(
     requires distinct { each_after twice_in_parameter [] parameters.now ≡ [] }
     ensures keeps { OnOk result (Keeps types.old types.new) }
     ensures known { OnOk result (AreKnown types.new scope.new) }
-    ensures scope { OnOk result (typed types.new scope.new ≡ map (parameter_type (typed types.old declared.now)) parameters.now) }
-    ensures numbers { IfOk result (λ numbers. AreOf types.new numbers (map (λ (p : AParameter). resolved (typed types.old declared.now) p.term.shape) parameters.now)) }
+    ensures scope { OnOk result
+        (typed types.new scope.new
+        ≡ map (parameter_type (typed types.old declared.now)) parameters.now) }
+    ensures numbers { IfOk result
+        (λ numbers. AreOf types.new numbers
+        (map (λ (p : AParameter). resolved
+        (typed types.old declared.now) p.term.shape) parameters.now)) }
 {
     let mut numbers = List::new(alloc);
     for parameter in parameters {
@@ -97,10 +109,13 @@ fn read_nodes(
     requires known { AreKnown types.old declared.now }
     requires scope { AreKnown types.old scope.old }
     requires names { keys_of scope.old ≡ parameter_names parameters.now }
-    requires distinct { each_after (λ before (i : AnItem). twice_in_item parameters.now before i.line i.form) [] items.now ≡ [] }
+    requires distinct { each_after
+        (λ before (i : AnItem). twice_in_item parameters.now before i.line i.form) [] items.now
+        ≡ [] }
     ensures keeps { OnOk result (Keeps types.old types.new) }
     ensures known { OnOk result (AreKnown types.new scope.new) }
-    ensures scope { OnOk result (typed types.new scope.new ≡ typed types.old scope.old ++ flat_map (λ (i : AnItem). node_types_in (typed types.old declared.now) i.form) items.now) }
+    ensures scope { OnOk result (typed types.new scope.new ≡ typed types.old scope.old ++ flat_map
+        (λ (i : AnItem). node_types_in (typed types.old declared.now) i.form) items.now) }
 {
     for item in items {
         if let Form::Node { name, term } = &item.form {
@@ -124,8 +139,11 @@ pub(crate) fn read_scope(
     requires distinct { twice_in_connector connector.now ≡ [] }
     ensures keeps { OnOk result (Keeps types.old types.new) }
     ensures known { OnOk result (AreKnown types.new scope.new) }
-    ensures scope { OnOk result (typed types.new scope.new ≡ scope_of (typed types.old declared.now) connector.now) }
-    ensures numbers { IfOk result (λ numbers. AreOf types.new numbers (parameter_types (typed types.old declared.now) connector.now)) }
+    ensures scope { OnOk result
+        (typed types.new scope.new ≡ scope_of (typed types.old declared.now) connector.now) }
+    ensures numbers { IfOk result
+        (λ numbers. AreOf types.new numbers
+        (parameter_types (typed types.old declared.now) connector.now)) }
 {
     let parameters = connector.parameters.as_slice();
     let numbers = read_parameters(alloc, types, declared, scope, parameters)?;

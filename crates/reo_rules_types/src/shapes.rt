@@ -1,6 +1,6 @@
 //! The numbers of written types.
 ghost use Rattle.std.specs.Prelude.{◌≡◌, ◌<◌, length, slice_get, Some, IfOk, OnOk};
-ghost use Rattle.reo_rules_base.specs.Types.{resolved};
+ghost use Rattle.reo_rules.specs.Types.{resolved};
 ghost use Rattle.reo_rules_types.specs.Cells.{Keeps};
 ghost use Rattle.reo_rules_types.specs.Scoped.{typed, AreKnown};
 
@@ -21,7 +21,8 @@ pub(crate) fn number_of(
 ) -> Result<usize, NoMemory>
     requires { AreKnown types.old declared.now }
     ensures keeps { OnOk result (Keeps types.old types.new) }
-    ensures number { IfOk result (λ n. slice_get types.new n ≡ Some (resolved (typed types.old declared.now) shape.now)) }
+    ensures number { IfOk result
+        (λ n. slice_get types.new n ≡ Some (resolved (typed types.old declared.now) shape.now)) }
 {
     match shape {
         Shape::Unit => types.put(alloc, Cell::Unit),

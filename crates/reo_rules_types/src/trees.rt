@@ -1,6 +1,6 @@
 //! Types as trees, for programs that keep the bounds of types.
 ghost use Rattle.std.specs.Prelude.{◌≡◌, ◌<◌, length, slice_get, map, nat_lt, Some, IfOk};
-ghost use Rattle.reo_rules_base.specs.Types.{depth_of};
+ghost use Rattle.reo_rules.specs.Types.{depth_of};
 ghost use Rattle.reo_rules_types.specs.Cells.{type_at};
 
 use crate::cell::Cell;

@@ -1,14 +1,14 @@
 //! Types by number, each type once.
 ghost use Rattle.std.specs.Prelude.{◌≡◌, ◌<◌, ℕ, List, map, [], ◌∷◌, ◌++◌, length, slice_get, Some, None, IfOk, OnOk, MatchOption};
 ghost use Rattle.reo_exprs.specs.Kinds.{kind_of};
-ghost use Rattle.reo_rules_base.specs.Lists.{has_name};
-ghost use Rattle.reo_rules_base.specs.Types.{is_same};
+ghost use Rattle.reo_rules.specs.Lists.{has_name};
+ghost use Rattle.reo_rules.specs.Types.{is_same};
 ghost use Rattle.reo_values.specs.declared.kindred.Kindred.{Kindred as AType};
 ghost use Rattle.reo_rules_types.specs.Cells.{type_at, kindred_of, is_symbol, Fits, Keeps};
 
 use crate::cell::Cell;
 use indexmap::IndexMap;
-use reo_rules_base::Names;
+use reo_rules::Names;
 use reo_values::{Bytes, NoMemory};
 use std::alloc::Global;
 use std::marker::Model;
@@ -63,7 +63,9 @@ fn copied(alloc: Global, names: &[Bytes]) -> Result<Vec<Vec<u8>>, NoMemory>
 
 /// The symbols of a type of names, and none of another.
 fn symbols_of(alloc: Global, cell: &Cell) -> Result<Names, NoMemory>
-    ensures { IfOk result (λ symbols. (types : List AType) (name : List ℕ) → has_name symbols name ≡ is_symbol (kindred_of types cell.now) name) }
+    ensures { IfOk result
+        (λ symbols. (types : List AType) (name : List ℕ)
+        → has_name symbols name ≡ is_symbol (kindred_of types cell.now) name) }
 {
     let mut symbols = Names::new(alloc);
     if let Cell::Sym(names) = cell {
@@ -90,7 +92,8 @@ impl Types {
     /// already, or it is its own kind.
     fn keep(&mut self, alloc: Global, cell: Cell, kind: Option<usize>) -> Result<usize, NoMemory>
         requires fits { Fits (length self.old) cell }
-        requires kind { let of = kindred_of self.old cell in MatchOption kind (kind_of of ≡ of) (λ n. slice_get self.old n ≡ Some (kind_of of)) }
+        requires kind { let of = kindred_of self.old cell in MatchOption kind (kind_of of ≡ of)
+            (λ n. slice_get self.old n ≡ Some (kind_of of)) }
         ensures keeps { OnOk result (Keeps self.old self.new) }
         ensures number { IfOk result (λ n. slice_get self.new n ≡ Some (kindred_of self.old cell)) }
         ensures first { self.old ≡ [] → IfOk result (λ n. n ≡ 0) }
@@ -113,7 +116,8 @@ impl Types {
     /// The cell of a type's kind, where the type may have another kind than itself.
     fn kind_cell(&self, cell: &Cell) -> Option<Cell>
         requires { Fits (length self.now) cell.now }
-        ensures { let of = kindred_of self.now cell.now in MatchOption result (kind_of of ≡ of) (λ kind. Fits (length self.now) kind × (kindred_of self.now kind ≡ kind_of of)) }
+        ensures { let of = kindred_of self.now cell.now in MatchOption result (kind_of of ≡ of)
+            (λ kind. Fits (length self.now) kind × (kindred_of self.now kind ≡ kind_of of)) }
     {
         match cell {
             Cell::Unit | Cell::Bool | Cell::Sym(_) => None,
@@ -184,7 +188,8 @@ impl Types {
 
     /// Whether two numbers are those of one type, where both are numbers of types.
     pub(crate) fn alike(&self, a: usize, b: usize) -> bool
-        ensures { (k l : AType) → slice_get self.now a ≡ Some k → slice_get self.now b ≡ Some l → result ≡ is_same k l }
+        ensures { (k l : AType) → slice_get self.now a ≡ Some k → slice_get self.now b ≡ Some l
+            → result ≡ is_same k l }
     {
         let _map = &self.map;
         a == b

@@ -163,6 +163,22 @@ const JAMS: &[Act] = &[
     Round(&[], (&[], true, 6), 2),
 ];
 
+/// An engine with offers at a and b alone, and one with offers at c and d besides: the same sides
+/// jam in both.
+const WITHOUT: &[Act] = &[
+    Offer(0, Some(1), None),
+    Offer(1, None, None),
+    Plan(&[2, 2, 0, 0, 3, 3, 1, 4, 4], (&[], true, 6)),
+];
+
+const WITH: &[Act] = &[
+    Offer(3, None, None),
+    Offer(2, Some(2), None),
+    Offer(1, None, None),
+    Offer(0, Some(1), None),
+    Plan(&[2, 2, 0, 0, 3, 3, 0, 4, 4], (&[(2, 2), (3, 2)], false, 6)),
+];
+
 #[test]
 fn engines_answer_as_told(rt: HostRuntime) {
     let alloc = rt.alloc();
@@ -172,4 +188,14 @@ fn engines_answer_as_told(rt: HostRuntime) {
     is(&rt, are_played(alloc, BUFFERED, CHANGED), "changed");
     is(&rt, are_played(alloc, BUFFERED, JUDGED), "judged");
     is(&rt, are_played(alloc, APART, JAMS), "jams");
+    is(
+        &rt,
+        are_played(alloc, APART, WITHOUT),
+        "without offers at c and d",
+    );
+    is(
+        &rt,
+        are_played(alloc, APART, WITH),
+        "with offers at c and d",
+    );
 }

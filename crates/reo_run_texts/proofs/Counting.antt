@@ -1,5 +1,5 @@
 -- How many primitives there are, round by round and in a program.
-use Rattle.std.proofs.Common.{◌≡◌, ◌∙◌, ◌||◌, ℕ, zero, suc, ◌<◌, ◌≤◌, Bool, true, false, cond, List, [], ◌∷◌, refl, ap, sym, length, map, arith, codes}
+use Rattle.std.proofs.Common.{◌≡◌, ◌||◌, ℕ, suc, ◌≤◌, Bool, true, false, List, [], ◌∷◌, refl, ap, length, arith, codes}
 use Rattle.std.specs.Prelude.{Option, nat_lt}
 use Rattle.std.proofs.lemmas.Bool.Decides.{nat_tests}
 use Rattle.reo_values.specs.declared.value.Value.{Value}
@@ -8,14 +8,14 @@ use Rattle.reo_net_base.specs.declared.port.Offer.{Offer}
 use Rattle.reo_net_base.specs.Net.{Wiring, net_of}
 use Rattle.reo_net_base.specs.Step.{stepped, settled_list, all_chosen, all_taken}
 use Rattle.reo_trees.specs.declared.programs.Declaration.{Declaration}
-use Rattle.reo_rules_base.specs.Lists.{where_true}
-use Rattle.reo_rules_base.specs.declared.fault.FlatFault.{FlatFault}
-use Rattle.reo_rules_base.specs.declared.fault.FlatFault.TheVariants as faults
-use Rattle.reo_flatten_base.specs.Unfolding.{meaning_named, meanings_of}
-use Rattle.reo_flatten_base.specs.Flat.{primitives_of}
-use Rattle.reo_flatten_base.specs.Sizes.{is_too_many, too_many}
-use Rattle.reo_engine_base.specs.Rules.{Rules}
-use Rattle.reo_engine_base.specs.Ready.{ready, ports_ready}
+use Rattle.reo_rules.specs.Lists.{where_true}
+use Rattle.reo_rules.specs.declared.fault.FlatFault.{FlatFault}
+use Rattle.reo_rules.specs.declared.fault.FlatFault.TheVariants as faults
+use Rattle.reo_flat.specs.Unfolding.{meaning_named, meanings_of}
+use Rattle.reo_flat.specs.Flat.{primitives_of}
+use Rattle.reo_flat.specs.Sizes.{is_too_many, too_many}
+use Rattle.reo_rounds.specs.Rules.{Rules}
+use Rattle.reo_rounds.specs.Ready.{ready, ports_ready}
 
 module _ {P : Type 0} (r : Rules P) where
   ports_count : (offers : ℕ → Option Offer) (ps : List P) (limit n : ℕ) → length (ports_ready r offers limit n ps) ≡ length ps

@@ -8,7 +8,7 @@ use Rattle.reo_values.specs.Kind.{IsIn}
 use Rattle.reo_net_base.specs.declared.colouring.Chosen.{Chosen}
 use Rattle.reo_net_base.specs.declared.port.Offer.{Offer}
 use Rattle.reo_net_base.specs.Behaviour.{Behaviour}
-use Rattle.reo_engine_base.specs.Rules.{Rules}
+use Rattle.reo_rounds.specs.Rules.{Rules}
 
 -- The type of each end of a primitive.
 abbrev pub EndTypes : Type 0

@@ -8,7 +8,7 @@ mod LineLemmas
 mod ProgramKinds
 mod ProgramJoints
 mod ProgramPorts
-mod ProgramOrder
+pub mod ProgramOrder
 mod OverSmall
 mod RunLemmas
 pub mod Counting

@@ -1,5 +1,5 @@
 -- The numbers of rounds that cannot be planned.
-use Rattle.std.proofs.Common.{◌≡◌, ℕ, zero, suc, ◌+◌, ◌*◌, ◌<◌, ◌≤◌, ◌^◌, List, [], ◌∷◌, ◌++◌, length, arith, length-append}
+use Rattle.std.proofs.Common.{◌≡◌, ℕ, zero, suc, ◌*◌, ◌<◌, ◌≤◌, ◌^◌, List, [], ◌∷◌, length, arith, length-append}
 use Rattle.std.proofs.lemmas.List.FromFn.{length-map-range_with_len}
 use Rattle.reo_net_base.specs.Behaviour.{Behaviour}
 use Rattle.reo_net_base.specs.Lawful.{IsLawful}
@@ -8,8 +8,8 @@ use Rattle.reo_net_base.specs.Wired.{IsWired}
 use Rattle.reo_trace_texts.specs.Lines.{IsEnding}
 use Rattle.reo_weights.specs.Over.{Cause, IsOver}
 use Rattle.reo_weights.specs.Over.Cause.{spent, wide}
-use Rattle.reo_weights.specs.Laws.{CausesAreSmall, HasSmallNumbers}
-use Rattle.reo_runs.specs.Run.{ending_by}
+use Rattle.reo_weights.specs.Laws.{CausesAreSmall}
+use Rattle.reo_rounds.specs.Stopping.{ending_by}
 
 side_count : (b : Behaviour) → length (sides_of b) ≡ b.sides
 side_count b = length-map-range_with_len {X = Side} (λ k. record { of = b; number = k }) 0 b.sides

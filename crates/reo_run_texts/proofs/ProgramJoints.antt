@@ -9,12 +9,12 @@ use Rattle.reo_net_base.specs.Behaviour.{Behaviour}
 use Rattle.reo_net_base.specs.Net.{end_of}
 use Rattle.reo_kinds.specs.Kinds.{behaviour_of}
 use Rattle.reo_kinds.specs.declared.kind.Kind.TheVariants.{Sync}
-use Rattle.reo_rules_base.specs.Lists.{where_true}
-use Rattle.reo_rules_base.specs.Touches.{bool_eq}
-use Rattle.reo_flatten_base.specs.Unfolding.{Placed}
-use Rattle.reo_flatten_base.specs.Ends.{ends_in, ends_from, incoming, outgoing}
-use Rattle.reo_flatten_base.specs.Joints.{is_many, many, ends_of, pairs, joints_between, joints_of}
-use Rattle.reo_flatten_base.specs.Flat.{joints_at}
+use Rattle.reo_rules.specs.Lists.{where_true}
+use Rattle.reo_rules.specs.Touches.{bool_eq}
+use Rattle.reo_flat.specs.Unfolding.{Placed}
+use Rattle.reo_flat.specs.Ends.{ends_in, ends_from, incoming, outgoing}
+use Rattle.reo_flat.specs.Joints.{is_many, many, ends_of, pairs, joints_between, joints_of}
+use Rattle.reo_flat.specs.Flat.{joints_at}
 use Rattle.reo_flatten_laws.specs.Homes.{IsAtNode}
 use Rattle.reo_flatten_laws.proofs.AtNodes.{incoming_at, outgoing_at}
 use Rattle.reo_flatten_laws.proofs.Each.{both, each_of, all_to}

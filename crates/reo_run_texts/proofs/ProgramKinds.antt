@@ -4,14 +4,14 @@ use Rattle.std.specs.List.{AllByRecursion, flat_map}
 use Rattle.reo_values.specs.declared.value.Value.{Value}
 use Rattle.reo_values.specs.declared.kindred.Kindred.{Kindred}
 use Rattle.reo_values.specs.Kind.{IsIn}
-use Rattle.reo_kinds.specs.declared.kind.Branches.{Branches}
+use Rattle.reo_net_base.specs.declared.branches.Branches.{Branches}
 use Rattle.reo_kinds.specs.declared.kind.Kind.{Kind}
-use Rattle.reo_kinds.specs.declared.kind.Kind.TheVariants.{Writer, Taker, Sync, Lossy, SyncDrain, AsyncDrain, Store, Filter, Map, Merger, Replicator}
-use Rattle.reo_rules_base.specs.Lists.{where_true}
-use Rattle.reo_flatten_base.specs.Unfolding.{Placed}
-use Rattle.reo_flatten_base.specs.Ends.{incoming, outgoing}
-use Rattle.reo_flatten_base.specs.Joints.{is_many}
-use Rattle.reo_flatten_base.specs.Flat.{branched, branched_with, own_kinds}
+use Rattle.reo_kinds.specs.declared.kind.Kind.TheVariants.{Writer, Taker, Sync, Lossy, SyncDrain, AsyncDrain, Store, Shift, Variable, Quota, Filter, Map, Merger, Replicator}
+use Rattle.reo_rules.specs.Lists.{where_true}
+use Rattle.reo_flat.specs.Unfolding.{Placed}
+use Rattle.reo_flat.specs.Ends.{incoming, outgoing}
+use Rattle.reo_flat.specs.Joints.{is_many}
+use Rattle.reo_flat.specs.Flat.{branched, branched_with, own_kinds}
 use Rattle.reo_flatten_laws.specs.Fitting.{Fits}
 use Rattle.reo_flatten_laws.proofs.Each.{by_recursion}
 use Rattle.reo_flatten_laws.proofs.TypedNodes.{FitsAt}
@@ -40,6 +40,9 @@ module _ (T : List ℕ → Kindred) where
   fits_right SyncDrain (n ∷ m ∷ []) fits = tt
   fits_right AsyncDrain (n ∷ m ∷ []) fits = tt
   fits_right (Store b) (n ∷ m ∷ []) fits = (fits.0, by_recursion (λ (v : Value). IsIn v (T n)) b.items fits.1)
+  fits_right (Shift b) (n ∷ m ∷ []) fits = (fits.0, by_recursion (λ (v : Value). IsIn v (T n)) b.items fits.1)
+  fits_right (Variable held) (n ∷ m ∷ []) fits = fits
+  fits_right (Quota left) (n ∷ m ∷ []) fits = fits
   fits_right (Filter rule) (n ∷ m ∷ []) fits = fits.0
   fits_right (Map rule) (n ∷ m ∷ []) fits = (fits.0, fits.2)
   fits_right kind nodes fits = absurd fits

@@ -9,10 +9,10 @@ use Rattle.reo_kinds.specs.Kinds.{behaviour_of}
 use Rattle.reo_kinds.specs.KindLaws.{kind_lawful, kind_shape}
 use Rattle.reo_kinds.specs.PortStateLaws.{placed_kind_shape, withdrawn_kind_shape}
 use Rattle.reo_trees.specs.declared.programs.Declaration.{Declaration}
-use Rattle.reo_flatten_base.specs.Flat.{net_of_program, primitives_of}
+use Rattle.reo_flat.specs.Flat.{net_of_program, primitives_of}
 use Rattle.reo_flatten_laws.specs.Circuits.{IsMade}
-use Rattle.reo_runs.specs.Whole.{HasOrder}
-use Rattle.reo_runs.proofs.OrderLemmas.{KeepsShape}
+use Rattle.reo_rounds.specs.Order.{HasOrder}
+use Rattle.reo_rounds.proofs.OrderLemmas.{KeepsShape}
 use Rattle.reo_run_texts.specs.Laws.{kind_rules}
 
 -- The kinds keep their laws and their shapes.

@@ -8,10 +8,10 @@ use Rattle.reo_exprs.proofs.Options.{some_same}
 use Rattle.reo_net_base.specs.declared.port.Port.{Port}
 use Rattle.reo_net_base.specs.Net.{end_of}
 use Rattle.reo_trees.specs.declared.programs.Parameter.{Parameter}
-use Rattle.reo_rules_base.specs.Types.{Typed, names_of, type_named}
-use Rattle.reo_rules_base.specs.Scopes.{parameter_type}
-use Rattle.reo_flatten_base.specs.Unfolding.{Placed}
-use Rattle.reo_flatten_base.specs.Flat.{port_of, port_placed}
+use Rattle.reo_rules.specs.Types.{Typed, names_of, type_named}
+use Rattle.reo_rules.specs.Scopes.{parameter_type}
+use Rattle.reo_flat.specs.Unfolding.{Placed}
+use Rattle.reo_flat.specs.Flat.{port_of, port_placed}
 use Rattle.reo_flatten_laws.proofs.Within.{In}
 use Rattle.reo_flatten_laws.proofs.Once.{Once}
 use Rattle.reo_flatten_laws.proofs.TypedNodes.{all_left, HasTypes}

@@ -12,14 +12,14 @@ use Rattle.reo_exprs.proofs.Options.{some_same, from_map}
 use Rattle.reo_net_base.specs.declared.colouring.Chosen.{Chosen}
 use Rattle.reo_net_base.specs.declared.port.Offer.{Offer}
 use Rattle.reo_net_base.specs.declared.port.Offer.TheVariants.{Write, Take}
-use Rattle.reo_buffers.specs.Stored.{Stored, is_full, with_back}
+use Rattle.reo_buffers.specs.Stored.{Stored, is_full, with_back, without_front}
 use Rattle.reo_kinds.specs.declared.kind.WriterPort.{WriterPort}
 use Rattle.reo_kinds.specs.declared.kind.MapRule.{MapRule}
 use Rattle.reo_kinds.specs.declared.kind.Kind.{Kind}
 use Rattle.reo_kinds.specs.declared.kind.Kind.TheVariants.{Writer, Taker, Sync, Lossy, SyncDrain, AsyncDrain, Store, Shift, Variable, Quota, Filter, Map, Merger, Replicator}
 use Rattle.reo_kinds.specs.Items.{offer_fits}
 use Rattle.reo_kinds.specs.Rules.{image}
-use Rattle.reo_kinds.specs.Kinds.{behaviour_of, unoffered, given_away, put_in, after, first_flows, second_flows, settled_kind, offering_if, placed_kind, withdrawn_kind}
+use Rattle.reo_kinds.specs.Kinds.{behaviour_of, unoffered, given_away, put_in, shift_in, replaced, after, first_flows, second_flows, settled_kind, offering_if, placed_kind, withdrawn_kind}
 use Rattle.reo_run_texts.specs.Laws.{kind_rules}
 use Rattle.reo_flatten_laws.proofs.Each.{both}
 use Rattle.reo_run_texts.proofs.Keeping.{EndTypes, GivesRight, MouthIsFirst, KeepsTypes}
@@ -41,9 +41,9 @@ IsRight Lossy types = types 0 ≡ types 1
 IsRight SyncDrain types = Unit {0}
 IsRight AsyncDrain types = Unit {0}
 IsRight (Store buffer) types = (types 0 ≡ types 1) × AreIn (types 0) buffer.items
-IsRight (Shift buffer) types = ⊥
-IsRight (Variable held) types = ⊥
-IsRight (Quota left) types = ⊥
+IsRight (Shift buffer) types = (types 0 ≡ types 1) × AreIn (types 0) buffer.items
+IsRight (Variable held) types = (types 0 ≡ types 1) × ((v : Value) → held ≡ Some v → IsIn v (types 0))
+IsRight (Quota left) types = types 0 ≡ types 1
 IsRight (Filter rule) types = types 0 ≡ types 1
 IsRight (Map rule) types = (rule.of ≡ types 0) × ((v : Value) → IsIn v (types 0) → IsIn (value_of_expr rule.expr v) (types 1))
 IsRight (Merger branches) types = HaveOneType branches.count types
@@ -89,9 +89,9 @@ module _ (exact : ItemTestIsExact) where
   kind_gives SyncDrain types right side row end below gives taken from v is = absurd (cc)
   kind_gives AsyncDrain types right side row end below gives taken from v is = absurd (cc)
   kind_gives (Store buffer) types right side row end below gives taken from v is = passes_on types v end right.0 below gives (front_in (types 0) buffer.items v right.1 is)
-  kind_gives (Shift buffer) types right side row end below gives taken from v is = absurd right
-  kind_gives (Variable held) types right side row end below gives taken from v is = absurd right
-  kind_gives (Quota left) types right side row end below gives taken from v is = absurd right
+  kind_gives (Shift buffer) types right side row end below gives taken from v is = passes_on types v end right.0 below gives (front_in (types 0) buffer.items v right.1 is)
+  kind_gives (Variable held) types right side row end below gives taken from v is = passes_on types v end right.0 below gives (right.1 v is)
+  kind_gives (Quota left) types right side row end below gives taken from v is = passes_on types v end right below gives (from 0 v refl is).1
   kind_gives (Filter rule) types right side row end below gives taken from v is = passes_on types v end right below gives (from 0 v refl is).1
   kind_gives (Map rule) types right side row end below gives taken from v is =
       let came = from_map (image rule) (taken 0) v is in
@@ -141,6 +141,14 @@ put_right k (Some v) buffer comes all = step (is_full buffer) where
   step true = all
   step false = both (λ w. IsIn w k) buffer.items (v ∷ []) all (comes v refl, tt)
 
+shift_right : (k : Kindred) (item : Option Value) (buffer : Stored) → ((v : Value) → item ≡ Some v → IsIn v k) → AreIn k buffer.items → AreIn k (shift_in item buffer).items
+shift_right k None buffer comes all = all
+shift_right k (Some v) buffer comes all = both (λ w. IsIn w k) (cond (is_full buffer) (without_front buffer) buffer).items (v ∷ []) (away_in k (is_full buffer) buffer all) (comes v refl, tt)
+
+replaced_right : (k : Kindred) (item held : Option Value) → ((v : Value) → item ≡ Some v → IsIn v k) → ((v : Value) → held ≡ Some v → IsIn v k) → (v : Value) → replaced item held ≡ Some v → IsIn v k
+replaced_right k None held comes all v is = all v is
+replaced_right k (Some w) held comes all v is = comes v is
+
 unoffered_type : (flows : Bool) (port : WriterPort) → (cond flows (unoffered port) port).kindred ≡ port.kindred
 unoffered_type true port = refl
 unoffered_type false port = refl
@@ -155,9 +163,10 @@ after_right first second item (Writer port) types right comes = unoffered_type f
 after_right first second item (Taker port) types right comes = tt
 after_right first second item (Store buffer) types right comes =
     (right.0, put_right (types 0) item (given_away second buffer) (λ v is. comes v refl is) (away_in (types 0) second buffer right.1))
-after_right first second item (Shift buffer) types right comes = absurd right
-after_right first second item (Variable held) types right comes = absurd right
-after_right first second item (Quota left) types right comes = absurd right
+after_right first second item (Shift buffer) types right comes =
+    (right.0, shift_right (types 0) item (given_away second buffer) (λ v is. comes v refl is) (away_in (types 0) second buffer right.1))
+after_right first second item (Variable held) types right comes = (right.0, replaced_right (types 0) item held (λ v is. comes v refl is) right.1)
+after_right first second item (Quota left) types right comes = right
 after_right first second item kind types right comes = right
 
 kind_settled : (kind : Kind) (types : EndTypes) (rows : Chosen) (taken : Option Value) → IsRight kind types → ((v : Value) → (behaviour_of kind).sides ≡ 2 → taken ≡ Some v → IsIn v (types 0))

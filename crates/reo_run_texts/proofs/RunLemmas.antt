@@ -10,7 +10,7 @@ use Rattle.reo_net_base.specs.declared.port.Port.{Port}
 use Rattle.reo_net_base.specs.Net.{Net, Wiring, net_of, end_of}
 use Rattle.reo_net_base.specs.Moves.{item_at, moves_of}
 use Rattle.reo_net_base.specs.Step.{stepped}
-use Rattle.reo_script_base.specs.declared.action.Component.{Component}
+use Rattle.reo_scripts.specs.declared.action.Component.{Component}
 use Rattle.reo_players.specs.Players.{Player, beginning_of, all_done, someone_counts}
 use Rattle.reo_players.specs.Offers.{offer_for}
 use Rattle.reo_trace.specs.declared.line.RoundLine.{RoundLine}
@@ -20,13 +20,13 @@ use Rattle.reo_trace.specs.Entries.{line_for, entries_of}
 use Rattle.reo_trace.specs.TraceText.{trace_text}
 use Rattle.reo_trace_texts.specs.Lines.{IsEntry, IsMove, IsLine, AreLines, IsEnding}
 use Rattle.reo_trace_texts.specs.Texts.{IsTraceText}
-use Rattle.reo_engine_base.specs.Rules.{Rules}
-use Rattle.reo_engine_base.specs.Ready.{ready}
-use Rattle.reo_engine_base.specs.EngineRound.{EngineRound}
+use Rattle.reo_rounds.specs.Rules.{Rules}
+use Rattle.reo_rounds.specs.Ready.{ready}
+use Rattle.reo_rounds.specs.EngineRound.{EngineRound}
 use Rattle.reo_runs.specs.Round.{net_ready}
 use Rattle.reo_runs.specs.Run.{Place, Leads, EndsAs, IsRun, start_of, over_after, place_after, firsts}
-use Rattle.reo_runs.specs.Whole.{HasOrder}
-use Rattle.reo_runs.proofs.OrderLemmas.{KeepsShape, ready_order, round_order}
+use Rattle.reo_rounds.specs.Order.{HasOrder}
+use Rattle.reo_rounds.proofs.OrderLemmas.{KeepsShape, ready_order, round_order}
 use Rattle.reo_flatten_laws.proofs.Each.{each_of}
 use Rattle.reo_run_texts.proofs.Keeping.{EndTypes, KeepsTypes}
 use Rattle.reo_run_texts.proofs.TypedItems.{type_at, IsTyped, items_typed, end_typed}
@@ -73,7 +73,7 @@ module _ {P : Type 0} (r : Rules P) (shape : KeepsShape r) (right : P → EndTyp
         let wired = now.order.wired in
         let rows = round.rows in
         let items = round.items in
-        let col = round.suits.2.colouring in
+        let col = round.suits.1.1.colouring in
         let typed = items_typed r right keeps w types now.typed wired rows items col now.order.order now.order.is_order in
         let fits : (port : ℕ) (p : Port) (v : Value) → slice_get ports port ≡ Some p → item_at w.joints items (end_of port 0) ≡ Some v → IsIn v p.kindred = λ port p v there is.
         subst (IsIn v) (at_ports port p there) (end_typed w.joints types items now.typed.joints typed col.one_each (end_of port 0) v is) in
@@ -91,7 +91,7 @@ module _ {P : Type 0} (r : Rules P) (shape : KeepsShape r) (right : P → EndTyp
     round_good =
         let w : Wiring P = ready r offers a in
         let now = ready_good offers a good in
-        let col = round.suits.2.colouring in
+        let col = round.suits.1.1.colouring in
         let typed = items_typed r right keeps w types now.typed now.order.wired round.rows round.items col now.order.order now.order.is_order in
         let next : Wiring P = record w { primitives = stepped r.behaviour r.settled w round.rows round.items } in
         let kept : IsTyped right next types = record { primitives = stepped_right r right keeps w types now.typed round.items col.one_each typed round.rows; joints = now.typed.joints } in

@@ -10,9 +10,9 @@ use Rattle.reo_trees.specs.declared.programs.Connector.{Connector}
 use Rattle.reo_trees.specs.declared.programs.Declaration.{Declaration}
 use Rattle.reo_trees.specs.declared.programs.Declaration.TheVariants as declarations
 use Rattle.reo_trees_laws.specs.Spelled.{IsSpelledParameter, IsSpelledDeclaration}
-use Rattle.reo_rules_base.specs.Types.{Typed}
-use Rattle.reo_rules_base.specs.Scopes.{connectors_of, connector_named, parameters_named, parameter_type}
-use Rattle.reo_flatten_base.specs.Flat.{port_of, main_parameters}
+use Rattle.reo_rules.specs.Types.{Typed}
+use Rattle.reo_rules.specs.Scopes.{connectors_of, connector_named, parameters_named, parameter_type}
+use Rattle.reo_flat.specs.Flat.{port_of, main_parameters}
 use Rattle.reo_flatten_laws.proofs.Each.{by_recursion}
 
 -- The parameters of each connector are spelled.

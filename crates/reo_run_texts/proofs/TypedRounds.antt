@@ -13,8 +13,8 @@ use Rattle.reo_net_base.specs.Behaviour.{Behaviour}
 use Rattle.reo_net_base.specs.Net.{Net, Wiring, net_of, behaviour_at}
 use Rattle.reo_net_base.specs.Step.{settled_list, stepped, all_chosen, all_taken, taken_for, mouth_of, is_mouth}
 use Rattle.reo_net_laws.proofs.Orders.{no_joint}
-use Rattle.reo_engine_base.specs.Rules.{Rules}
-use Rattle.reo_engine_base.specs.Ready.{cleared, with_pending, ports_ready, ready}
+use Rattle.reo_rounds.specs.Rules.{Rules}
+use Rattle.reo_rounds.specs.Ready.{cleared, with_pending, ports_ready, ready}
 use Rattle.reo_run_texts.proofs.Keeping.{EndTypes, MouthIsFirst, KeepsTypes}
 use Rattle.reo_run_texts.proofs.Lists.{first_passes}
 use Rattle.reo_run_texts.proofs.TypedItems.{no_types, AreRight, IsTyped, ItemsTyped}

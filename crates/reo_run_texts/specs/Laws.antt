@@ -3,19 +3,19 @@ use Rattle.std.specs.Prelude.{ℕ, ◌≤◌, ◌^◌, List}
 use Rattle.std.specs.List.{All}
 use Rattle.reo_trees.specs.declared.programs.Program.{Program}
 use Rattle.reo_trees_laws.specs.Spelled.{IsSpelled}
-use Rattle.reo_rules_base.specs.Scopes.{connectors_of}
-use Rattle.reo_flatten_base.specs.Flat.{ports_of, wiring_of_program}
-use Rattle.reo_flatten_base.specs.Refusals.{IsAccepted}
+use Rattle.reo_rules.specs.Scopes.{connectors_of}
+use Rattle.reo_flat.specs.Flat.{ports_of, wiring_of_program}
+use Rattle.reo_flat.specs.Refusals.{IsAccepted}
 use Rattle.reo_flatten_laws.specs.Plain.{HasPlainNames}
 use Rattle.reo_kinds.specs.declared.kind.Kind.{Kind}
 use Rattle.reo_kinds.specs.Kinds.{behaviour_of, settled_kind, port_state_of, placed_kind, withdrawn_kind}
-use Rattle.reo_script_base.specs.declared.action.Component.{Component}
+use Rattle.reo_scripts.specs.declared.action.Component.{Component}
 use Rattle.reo_trace.specs.declared.line.RoundLine.{RoundLine}
 use Rattle.reo_trace.specs.declared.line.Ending.{Ending}
 use Rattle.reo_trace.specs.TraceText.{trace_text}
 use Rattle.reo_trace_texts.specs.Lines.{AreTold}
 use Rattle.reo_trace_texts.specs.Texts.{IsTraceText}
-use Rattle.reo_engine_base.specs.Rules.{Rules, rules_of}
+use Rattle.reo_rounds.specs.Rules.{Rules, rules_of}
 use Rattle.reo_runs.specs.Run.{start_of, firsts, IsRun}
 
 -- What is known of the kinds.

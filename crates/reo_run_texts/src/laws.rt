@@ -18,8 +18,8 @@ pub fn ports_are_told()
     types_are_valid();
 }
 
-/// On the circuit of such a program, what a run of any components writes is the text of a trace, the
-/// one with its lines and its ending.
+/// On the circuit of such a program, what a run of any components writes is the text of a trace,
+/// the one with its lines and its ending.
 pub fn runs_are_trace_texts()
     ensures { RunsAreTraceTexts }
 {

@@ -9,11 +9,11 @@ use Rattle.reo_players.specs.Players.{Player}
 use Rattle.reo_players.specs.Offers.{offer_for}
 use Rattle.reo_trace.specs.declared.line.RoundLine.{RoundLine}
 use Rattle.reo_trace.specs.Entries.{line_for}
-use Rattle.reo_engine_base.specs.declared.plan.Plan.{Plan}
+use Rattle.reo_rounds.specs.declared.plan.Plan.{Plan}
 use Rattle.reo_weights.specs.Over.{IsOver}
-use Rattle.reo_engine_base.specs.Plans.{IsPlan}
-use Rattle.reo_engine_base.specs.Ready.{ready}
-use Rattle.reo_engine_base.specs.Rules.{Rules}
+use Rattle.reo_rounds.specs.Plans.{IsPlan}
+use Rattle.reo_rounds.specs.Ready.{ready}
+use Rattle.reo_rounds.specs.Rules.{Rules}
 use Rattle.reo_runs.specs.Round.{State, RoundOf, advanced}
 use Rattle.reo_runs.specs.Run.{firsts}
 use Rattle.reo_runner.specs.declared.outcome.Tally.{Tally}
@@ -30,8 +30,10 @@ round_planned r budget limit turn a w p line players same within plan line_is pl
     items = p.colouring.items;
     suits = (
       within,
-      λ cause over. plan.within cause (subst (λ x. IsOver budget (net_of r.behaviour x) cause) (sym same) over),
-      subst (λ x. IsFirst (net_of r.behaviour x) turn p.colouring.rows p.colouring.items) same plan.first,
+      (
+        λ cause over. plan.within cause (subst (λ x. IsOver budget (net_of r.behaviour x) cause) (sym same) over),
+        subst (λ x. IsFirst (net_of r.behaviour x) turn p.colouring.rows p.colouring.items) same plan.first,
+      ),
     );
     shown = line_is ∙ ap (λ ms. line_for (net_of r.behaviour w) turn p.colouring.rows ms) plan.shows.moves
         ∙ ap (λ (x : Wiring _). line_for (net_of r.behaviour x) turn p.colouring.rows (moves_of (net_of r.behaviour x) x.ports p.colouring.rows p.colouring.items)) same;

@@ -17,14 +17,14 @@ use Rattle.reo_trace.specs.declared.line.Ending.{Ending}
 use Rattle.reo_trace.specs.declared.line.Ending.TheVariants as endings
 use Rattle.reo_trace.specs.EndingText.{ending_text}
 use Rattle.reo_trace.specs.TraceText.{rounds_text}
-use Rattle.reo_engine_base.specs.Rules.{Rules}
+use Rattle.reo_rounds.specs.Rules.{Rules}
 use Rattle.reo_weights.specs.Over.Cause.{spent, wide}
 use Rattle.reo_runs.specs.Round.{State, RoundOf}
 use Rattle.reo_runs.specs.Run.{Place, Leads, IsRun, EndsAs, HasBegun, place_after, over_after, firsts}
 use Rattle.reo_runs.specs.Whole.{GoesOn, HasRun}
 use Rattle.reo_runs.specs.Written.{Ran, Cut, Kept, moved, goes, is_in, is_out}
 use Rattle.reo_runs.proofs.WholeLemmas.{leads_on}
-use Rattle.reo_runner_ports.specs.Pending.{IsButForOffers}
+use Rattle.reo_at_ports.specs.Pending.{IsButForOffers}
 use Rattle.reo_runner.specs.declared.outcome.Outcome.{Outcome}
 use Rattle.reo_runner.specs.declared.outcome.Tally.{Tally}
 use Rattle.reo_runner.specs.declared.outcome.End2.{End2}

@@ -6,9 +6,9 @@ use Rattle.reo_net_base.specs.Net.{Wiring}
 use Rattle.reo_players.specs.Players.{Player}
 use Rattle.reo_trace.specs.declared.line.RoundLine.{RoundLine}
 use Rattle.reo_trace.specs.TraceText.{rounds_text}
-use Rattle.reo_engine_base.specs.Rules.{Rules}
+use Rattle.reo_rounds.specs.Rules.{Rules}
 use Rattle.reo_runs.specs.Run.{Place, Leads, firsts}
-use Rattle.reo_runner_ports.specs.Pending.{IsButForOffers}
+use Rattle.reo_at_ports.specs.Pending.{IsButForOffers}
 use Rattle.reo_runner.specs.Outcome.{Counts}
 use Rattle.reo_runner.specs.declared.outcome.Tally.{Tally}
 

@@ -6,7 +6,7 @@ use Rattle.reo_trace.specs.EndingText.{ending_text}
 use Rattle.reo_trace.specs.declared.line.RoundLine.{RoundLine}
 use Rattle.reo_trace.specs.declared.line.Ending.{Ending}
 use Rattle.reo_trace.specs.declared.line.Ending.TheVariants as endings
-use Rattle.reo_engine_base.specs.Rules.{Rules}
+use Rattle.reo_rounds.specs.Rules.{Rules}
 use Rattle.reo_runs.specs.Run.{Place, firsts}
 use Rattle.reo_runs.specs.Written.{Ran, Cut, Kept, moved, is_in, is_out}
 use Rattle.reo_runner.specs.declared.outcome.Outcome.{Outcome}

@@ -8,25 +8,19 @@ use Rattle.reo_net_base.specs.Net.{Net, Wiring}
 use Rattle.reo_players.specs.Players.{Player}
 use Rattle.reo_trace.specs.declared.line.RoundLine.{RoundLine}
 use Rattle.reo_trace.specs.RoundText.{round_text}
-use Rattle.reo_trace.specs.Entries.{line_for}
-use Rattle.reo_engine_base.specs.Plans.{IsPlan}
-use Rattle.reo_engine_base.specs.Rules.{Rules}
+use Rattle.reo_rounds.specs.declared.plan.PlanFault.{PlanFault}
+use Rattle.reo_rounds.specs.declared.plan.PlanFault.TheVariants as plans
+use Rattle.reo_rounds.specs.Rules.{Rules}
 use Rattle.reo_weights.specs.Over.{IsOver}
 use Rattle.reo_weights.specs.Over.Cause.{spent, wide}
 use Rattle.reo_runs.specs.Round.{State, RoundOf, net_ready}
 use Rattle.reo_runs.specs.Run.{firsts, over_after}
 use Rattle.reo_runs.specs.Written.{goes, is_in, is_out}
-use Rattle.reo_runner_ports.specs.Pending.{IsButForOffers}
+use Rattle.reo_at_ports.specs.Pending.{IsButForOffers}
 use Rattle.reo_runner.specs.declared.outcome.Tally.{Tally}
 use Rattle.reo_runner.specs.declared.round.Made.{Made}
-use Rattle.reo_runner.specs.declared.planning.Planned.{Planned}
 use Rattle.reo_runner.specs.declared.planning.RoundFault.{RoundFault}
 use Rattle.reo_runner.specs.declared.planning.RoundFault.TheVariants as faults
-
--- A round that is planned: its plan, and the line that shows it.
-pub record IsPlannedRound (budget : ℕ) (net : Net) (ports turn : ℕ) (p : Planned) : Type 0 where
-  pub plan : IsPlan budget net ports turn p.plan
-  pub line_is : p.line ≡ line_for net turn p.plan.colouring.rows p.plan.moves
 
 -- Why a round is not planned. `NoMemory` may come at any time.
 abbrev pub IsUnplanned : ℕ → Net → RoundFault → Type 0
@@ -34,6 +28,12 @@ IsUnplanned budget net (faults.Spent knot weight) = IsOver budget net (spent kno
 IsUnplanned budget net (faults.Wide knot) = IsOver budget net (wide knot)
 IsUnplanned budget net faults.Failed = ⊥
 IsUnplanned budget net faults.NoMemory = Unit {0}
+
+-- Why a round is not made, by why it is not planned.
+abbrev pub fault_of_plan : PlanFault → RoundFault
+fault_of_plan (plans.Wide knot) = faults.Wide knot
+fault_of_plan (plans.Spent knot weight) = faults.Spent knot weight
+fault_of_plan plans.NoMemory = faults.NoMemory
 
 -- The numbers after one round more, in which these moved.
 pub record IsTallied (ports : List Port) (moves : List Move) (old new : Tally) : Type 0 where

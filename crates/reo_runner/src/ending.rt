@@ -1,5 +1,5 @@
 //! How a run ends.
-ghost use Rattle.std.specs.Prelude.{◌≡◌, ◌≤◌};
+ghost use Rattle.std.specs.Prelude.{◌≡◌, ◌<◌, ◌≤◌};
 ghost use Rattle.reo_io.specs.Causes.{Rose};
 ghost use Rattle.reo_runner.specs.Outcome.{Closes, outcome_end};
 
@@ -26,6 +26,7 @@ pub(crate) fn close<S: Sink>(alloc: Global, ending: Ending, tally: Tally, out: &
     ensures text { Closes ending tally (S.told out.old) (S.told out.new) result }
     ensures cause { result.end ≡ End2.WriteFault → Rose (S.faults out.old) (S.faults out.new) }
     ensures later { S.faults out.old ≤ S.faults out.new }
+    ensures risen { S.faults out.old < S.faults out.new → result.end ≡ End2.WriteFault }
 {
     match write_ending(alloc, &ending, out) {
         Ok(()) => tally.outcome(outcome_end(ending)),

@@ -1,14 +1,13 @@
 //! Rounds that are planned.
-ghost use Rattle.std.specs.Prelude.{◌≡◌, ◌<◌, ◌+◌, ◌^◌, ℕ, MatchResult};
-ghost use Rattle.reo_net_base.specs.Net.{Net, net_of};
-ghost use Rattle.reo_engine_base.specs.Plans.{IsPlan, IsPlanFault};
-ghost use Rattle.reo_runner.specs.Rounds.{IsPlannedRound, IsUnplanned};
+ghost use Rattle.std.specs.Prelude.{◌≡◌, ◌<◌, ◌+◌, ◌^◌, MatchResult};
+ghost use Rattle.reo_net_base.specs.Net.{net_of};
+ghost use Rattle.reo_rounds.specs.Plans.{IsPlannedRound};
+ghost use Rattle.reo_runner.specs.Rounds.{IsUnplanned, fault_of_plan};
 ghost use Rattle.reo_runner.specs.declared.planning.RoundFault.TheVariants.{NoMemory as OutOfMemory};
 
-use reo_engine::{Engine, Plan, PlanFault};
+use reo_engine::{Engine, PlanFault, PlannedRound};
 use reo_net_base::Ported;
 use reo_steps::Steps;
-use reo_trace::{RoundLine, WriteFault, line_of};
 use reo_values::NoMemory;
 use std::alloc::Global;
 use std::sync::ledger::Ledger;
@@ -37,16 +36,9 @@ impl From<NoMemory> for RoundFault {
     }
 }
 
-/// A round that is planned, and its line.
-#[derive(Drop)]
-pub(crate) struct Planned {
-    pub plan: Plan,
-    pub line: RoundLine,
-}
-
 /// Why a round was not made, where it cannot be planned.
 fn round_fault(fault: PlanFault) -> RoundFault
-    ensures { (budget : ℕ) (net : Net) → IsPlanFault budget net fault → IsUnplanned budget net result }
+    ensures { result ≡ fault_of_plan fault }
 {
     match fault {
         PlanFault::Wide { knot } => RoundFault::Wide { knot: knot as u64 },
@@ -58,32 +50,14 @@ fn round_fault(fault: PlanFault) -> RoundFault
     }
 }
 
-/// The plan of the round that stands next. What was found of its parts is kept for rounds to come.
-fn prepared_plan<P: Ported, L: Ledger>(
-    alloc: Global,
-    engine: &mut Engine<P>,
-    budget: u64,
-    steps: &mut Steps<L>,
-) -> Result<Plan, PlanFault>
-    requires small { budget < 10 ^ 18 }
-    ensures exact { let net = net_of P.behaviour engine.old.circuit in
-        let turn = engine.old.rounds + 1 in
-        MatchResult result (IsPlan budget net engine.old.circuit.ports turn)
-        (IsPlanFault budget net) }
-    ensures circuit { engine.new.circuit ≡ engine.old.circuit }
-    ensures rounds { engine.new.rounds ≡ engine.old.rounds }
-{
-    engine.prepare(alloc, budget, steps)?;
-    engine.plan(alloc, budget, steps)
-}
-
-/// Plans the round that stands next, and makes its line.
+/// Plans the round that stands next, with its line. What was found of its parts is kept for rounds
+/// to come.
 pub(crate) fn plan_round<P: Ported, L: Ledger>(
     alloc: Global,
     engine: &mut Engine<P>,
     budget: u64,
     steps: &mut Steps<L>,
-) -> Result<Planned, RoundFault>
+) -> Result<PlannedRound, RoundFault>
     requires small { budget < 10 ^ 18 }
     ensures exact { let net = net_of P.behaviour engine.old.circuit in
         let turn = engine.old.rounds + 1 in
@@ -92,13 +66,8 @@ pub(crate) fn plan_round<P: Ported, L: Ledger>(
     ensures circuit { engine.new.circuit ≡ engine.old.circuit }
     ensures rounds { engine.new.rounds ≡ engine.old.rounds }
 {
-    engine.known();
-    let plan = match prepared_plan(alloc, engine, budget, steps) {
-        Ok(plan) => plan,
-        Err(fault) => return Err(round_fault(fault)),
-    };
-    let rows = plan.colouring.rows.as_slice();
-    let turn = engine.rounds() + 1;
-    let line = line_of(alloc, engine.circuit(), turn, plan.moves.as_slice(), rows)?;
-    Ok(Planned { plan, line })
+    match engine.plan_round(alloc, budget, steps) {
+        Ok(planned) => Ok(planned),
+        Err(fault) => Err(round_fault(fault)),
+    }
 }

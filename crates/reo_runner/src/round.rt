@@ -4,22 +4,22 @@ ghost use Rattle.reo_io.specs.Causes.{Rose};
 ghost use Rattle.reo_net_base.specs.Net.{Wiring, net_of};
 ghost use Rattle.reo_net_base.specs.Step.{stepped};
 ghost use Rattle.reo_players.specs.Players.{someone_counts};
-ghost use Rattle.reo_engine_base.specs.Plans.{Suits};
-ghost use Rattle.reo_engine_base.specs.Rules.{rules_of};
+ghost use Rattle.reo_rounds.specs.Plans.{Suits};
+ghost use Rattle.reo_rounds.specs.Rules.{rules_of};
 ghost use Rattle.reo_runs.specs.Round.{State, advanced};
 ghost use Rattle.reo_runs.specs.Run.{over_after};
-ghost use Rattle.reo_runner_ports.specs.Pending.{IsButForOffers};
-ghost use Rattle.reo_runner_ports.specs.Between.{AreBetween, AreStarted};
+ghost use Rattle.reo_at_ports.specs.Pending.{IsButForOffers};
+ghost use Rattle.reo_at_ports.specs.Between.{AreBetween, AreStarted};
 ghost use Rattle.reo_runner.specs.Rounds.{MadeRound, IsRoundFault, IsTallied, IsSmall};
 ghost use Rattle.reo_runner.specs.declared.planning.RoundFault.TheVariants.{Failed as SinkFailed};
 
 use crate::outcome::{Limits, Tally};
 use crate::planning::{RoundFault, plan_round};
+use reo_at_ports::{Carried, carry_out, offer_all};
 use reo_engine::{Engine, Plan};
 use reo_io::Sink;
-use reo_net_base::{Ported, Ports};
+use reo_net_base::{Ports, Restoring};
 use reo_players::Players;
-use reo_runner_ports::{Carried, carry_out, offer_all};
 use reo_steps::Steps;
 use reo_trace::{Ending, WriteFault, write_round};
 use std::alloc::Global;
@@ -33,7 +33,7 @@ pub(crate) struct Made {
 }
 
 /// Makes a planned round, and counts what moved.
-fn count_out<P: Ported>(
+fn count_out<P: Restoring>(
     engine: &mut Engine<P>,
     players: &mut Players,
     ports: &Ports,
@@ -72,10 +72,10 @@ fn count_out<P: Ported>(
 ///
 /// # Errors
 ///
-/// `Spent` and `Wide` name a part that is over. `Failed` comes only where the sink's count of faults
-/// rose: a front of the line was taken, and not the whole. `NoMemory` is out of memory. But for
-/// `Failed` the sink stays as it was. No round was made.
-pub(crate) fn make_round<P: Ported, L: Ledger, S: Sink>(
+/// `Spent` and `Wide` name a part that is over. `Failed` comes only where the sink's count of
+/// faults rose: a front of the line was taken, and not the whole. `NoMemory` is out of memory. But
+/// for `Failed` the sink stays as it was. No round was made.
+pub(crate) fn make_round<P: Restoring, L: Ledger, S: Sink>(
     alloc: Global,
     engine: &mut Engine<P>,
     players: &mut Players,
@@ -111,6 +111,7 @@ pub(crate) fn make_round<P: Ported, L: Ledger, S: Sink>(
     ensures small { IfOk result (λ made. IsSmall made.tally) }
     ensures cause { IsErrOf result SinkFailed → Rose (S.faults out.old) (S.faults out.new) }
     ensures later { S.faults out.old ≤ S.faults out.new }
+    ensures risen { S.faults out.old < S.faults out.new → IsErrOf result SinkFailed }
 {
     offer_all(alloc, engine, ports, players)?;
     let planned = plan_round(alloc, engine, limits.budget, steps)?;

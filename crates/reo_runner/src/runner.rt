@@ -4,14 +4,14 @@ ghost use Rattle.reo_io.specs.Causes.{Rose};
 ghost use Rattle.reo_kinds.specs.Kinds.{port_state_of};
 ghost use Rattle.reo_net_base.specs.PortState.{PortState};
 ghost use Rattle.reo_players.specs.Players.{all_done};
-ghost use Rattle.reo_script_base.specs.declared.action.Component.{Component};
-ghost use Rattle.reo_engine_base.specs.Rules.{rules_of};
+ghost use Rattle.reo_scripts.specs.declared.action.Component.{Component};
+ghost use Rattle.reo_rounds.specs.Rules.{rules_of};
 ghost use Rattle.reo_runs.specs.Run.{Place, start_of, firsts};
 ghost use Rattle.reo_runs.specs.Whole.{HasRun};
-ghost use Rattle.reo_runner_ports.specs.Between.{AreBetween};
-ghost use Rattle.reo_runner_ports.specs.Kinds.{kind_rules};
+ghost use Rattle.reo_at_ports.specs.Between.{AreBetween};
+ghost use Rattle.reo_at_ports.specs.Kinds.{kind_rules};
 ghost use Rattle.reo_runner.specs.Outcome.{CameTo, StopsAs};
-ghost use Rattle.reo_runner_ports.specs.Runnable.{CanRun};
+ghost use Rattle.reo_at_ports.specs.Runnable.{CanRun};
 ghost use Rattle.reo_runner.specs.Runs.{HasRuns};
 ghost use Rattle.reo_runner.specs.declared.planning.RoundFault.TheVariants.{Failed as SinkFailed};
 
@@ -22,11 +22,11 @@ use crate::round::make_round;
 use reo_engine::Engine;
 use reo_flatten::Flat;
 use reo_io::Sink;
-use reo_net_base::{Ported, Ports};
+use reo_net_base::{Ported, Ports, Restoring};
 use reo_net_circuit::Circuit;
 use reo_players::Players;
 use reo_runs::{known_order, trace_exists};
-use reo_script_base::Script;
+use reo_scripts::Script;
 use reo_steps::Steps;
 use reo_trace::Ending;
 use std::alloc::Global;
@@ -54,7 +54,9 @@ fn stop<S: Sink>(
     ensures stops { StopsAs turn budget tally fault (S.told out.old) (S.told out.new) result }
     ensures cause { fault ≢ SinkFailed → result.end ≡ End2.WriteFault
         → Rose (S.faults out.old) (S.faults out.new) }
+    ensures failed { fault ≡ SinkFailed → result.end ≡ End2.WriteFault }
     ensures later { S.faults out.old ≤ S.faults out.new }
+    ensures risen { S.faults out.old < S.faults out.new → result.end ≡ End2.WriteFault }
 {
     match fault {
         RoundFault::Spent { knot, weight } => {
@@ -74,7 +76,7 @@ fn stop<S: Sink>(
 }
 
 /// The rounds of a run of which some component is not done, and its ending.
-fn make_rounds<P: Ported, L: Ledger, S: Sink>(
+fn make_rounds<P: Restoring, L: Ledger, S: Sink>(
     alloc: Global,
     engine: &mut Engine<P>,
     players: &mut Players,
@@ -95,6 +97,7 @@ fn make_rounds<P: Ported, L: Ledger, S: Sink>(
         (S.told out.old) (S.told out.new) result }
     ensures cause { result.end ≡ End2.WriteFault → Rose (S.faults out.old) (S.faults out.new) }
     ensures later { S.faults out.old ≤ S.faults out.new }
+    ensures risen { S.faults out.old < S.faults out.new → result.end ≡ End2.WriteFault }
 {
     has_runs(engine.circuit());
     let mut tally = Tally::new();
@@ -118,7 +121,7 @@ fn make_rounds<P: Ported, L: Ledger, S: Sink>(
 }
 
 /// The run of components on a circuit, whose steps are counted in a book.
-fn run_counted<P: Ported, L: Ledger, S: Sink>(
+fn run_counted<P: Restoring, L: Ledger, S: Sink>(
     alloc: Global,
     circuit: Circuit<P>,
     ports: &Ports,
@@ -139,6 +142,7 @@ fn run_counted<P: Ported, L: Ledger, S: Sink>(
         (S.told out.old) (S.told out.new) result }
     ensures cause { result.end ≡ End2.WriteFault → Rose (S.faults out.old) (S.faults out.new) }
     ensures later { S.faults out.old ≤ S.faults out.new }
+    ensures risen { S.faults out.old < S.faults out.new → result.end ≡ End2.WriteFault }
 {
     has_runs(&circuit);
     let tally = Tally::new();
@@ -191,6 +195,7 @@ pub fn run<S: Sink>(
         (S.told out.old) (S.told out.new) result }
     ensures cause { result.end ≡ End2.WriteFault → Rose (S.faults out.old) (S.faults out.new) }
     ensures later { S.faults out.old ≤ S.faults out.new }
+    ensures risen { S.faults out.old < S.faults out.new → result.end ≡ End2.WriteFault }
 {
     let Flat {
         circuit,

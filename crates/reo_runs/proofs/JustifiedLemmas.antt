@@ -10,11 +10,11 @@ use Rattle.reo_players.specs.Offers.{offer_for}
 use Rattle.reo_trace.specs.declared.line.RoundLine.{RoundLine}
 use Rattle.reo_trace.specs.declared.line.Ending.{Ending}
 use Rattle.reo_trace.specs.Idle.{IdleMeansNoFlow}
-use Rattle.reo_engine_base.specs.Rules.{Rules}
+use Rattle.reo_rounds.specs.Rules.{Rules}
 use Rattle.reo_runs.specs.Round.{State, RoundOf, net_ready}
 use Rattle.reo_runs.specs.Run.{Place, Leads, IsRun, place_after, firsts}
 use Rattle.reo_runs.specs.Justified.{IsJustified, justified}
-use Rattle.reo_runs.proofs.OrderLemmas.{KeepsShape, ready_wired, round_wired}
+use Rattle.reo_rounds.proofs.OrderLemmas.{KeepsShape, ready_wired, round_wired}
 
 module _ {P : Type 0} (r : Rules P) (k : KeepsShape r) (budget limit : ℕ) (flows : FirstFlows) (cause : FirstJamsForCause) (still : IdleMeansNoFlow) where
   first_justified : (net : Net) → IsWired net → (turn : ℕ) (rows : List ℕ) (items : List (Option Value)) → IsFirst net turn rows items → IsJustified net turn rows items
@@ -34,7 +34,7 @@ module _ {P : Type 0} (r : Rules P) (k : KeepsShape r) (budget limit : ℕ) (flo
       items = round.made.items;
       suits = (
         round.made.suits,
-        first_justified (net_ready r a) (ready_wired r k (offer_for a.players) a.circuit wired) turn round.made.rows round.made.items round.made.suits.2,
+        first_justified (net_ready r a) (ready_wired r k (offer_for a.players) a.circuit wired) turn round.made.rows round.made.items round.made.suits.1.1,
       );
       shown = round.made.shown;
       circuit = round.made.circuit;

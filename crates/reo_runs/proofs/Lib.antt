@@ -1,4 +1,3 @@
-pub mod OrderLemmas
 pub mod WholeLemmas
 pub mod OneLemmas
 pub mod JustifiedLemmas

@@ -6,8 +6,8 @@ use Rattle.reo_net_base.specs.declared.port.Offer.{Offer}
 use Rattle.reo_net_base.specs.declared.port.Offer.TheVariants.{Write, Take}
 use Rattle.reo_net_base.specs.PortState.{PortState, port_state_at, way_of, CanPlace, IsPortWith, IsAccepted}
 use Rattle.reo_players.specs.Offers.{offer_for}
-use Rattle.reo_engine_base.specs.Rules.{Rules}
-use Rattle.reo_engine_base.specs.Ready.{cleared, with_pending, ports_ready, ready}
+use Rattle.reo_rounds.specs.Rules.{Rules}
+use Rattle.reo_rounds.specs.Ready.{cleared, with_pending, ports_ready, ready}
 use Rattle.reo_runs.specs.Round.{State}
 use Rattle.reo_runs.specs.Started.{AreTaken}
 

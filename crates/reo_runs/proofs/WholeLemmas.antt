@@ -1,22 +1,22 @@
 -- There is a whole run.
 use Rattle.std.proofs.Common.{◌≡◌, ℕ, zero, suc, ◌+◌, ◌-◌, ◌≤◌, inl, inr, List, [], ◌∷◌, ◌++◌, refl, subst, length, arith, length-append}
 use Rattle.std.specs.Prelude.{Some, None}
-use Rattle.reo_net_base.specs.Moves.{moves_of}
 use Rattle.reo_net_base.specs.Net.{Net, net_of}
-use Rattle.reo_net_base.specs.Step.{stepped}
 use Rattle.reo_net_laws.specs.FirstLaws.{FirstExists}
 use Rattle.reo_players.specs.Offers.{offer_for}
 use Rattle.reo_trace.specs.declared.line.RoundLine.{RoundLine}
 use Rattle.reo_trace.specs.declared.line.Ending.{Ending}
 use Rattle.reo_trace.specs.declared.line.Ending.TheVariants.{Limit}
-use Rattle.reo_trace.specs.Entries.{line_for}
-use Rattle.reo_engine_base.specs.Rules.{Rules}
+use Rattle.reo_rounds.specs.Rules.{Rules}
 use Rattle.reo_weights.specs.Over.{Cause, IsOver}
-use Rattle.reo_engine_base.specs.Ready.{ready}
+use Rattle.reo_rounds.specs.Order.{HasOrder}
+use Rattle.reo_rounds.specs.Ready.{ready}
+use Rattle.reo_rounds.specs.Stopping.{ending_by}
+use Rattle.reo_rounds.proofs.RoundLemmas.{round_exists}
 use Rattle.reo_runs.specs.Round.{State, Choosing, RoundOf, net_ready, advanced}
-use Rattle.reo_runs.specs.Run.{Place, Leads, EndsAs, HasBegun, place_after, ending_by, firsts}
-use Rattle.reo_runs.specs.Whole.{HasOrder, GoesOn, HasRun}
-use Rattle.reo_runs.proofs.OrderLemmas.{KeepsShape, ready_order, round_order}
+use Rattle.reo_runs.specs.Run.{Place, Leads, EndsAs, HasBegun, place_after, firsts}
+use Rattle.reo_runs.specs.Whole.{GoesOn, HasRun}
+use Rattle.reo_rounds.proofs.OrderLemmas.{KeepsShape, ready_order, round_order}
 use Rattle.reo_weights.specs.Laws.{OverIsDecided}
 
 module _ {P : Type 0} (C : Choosing) (r : Rules P) where
@@ -67,16 +67,16 @@ module _ {P : Type 0} (r : Rules P) (budget limit : ℕ) where
       omega (arith, rest)
 
   module _ (k : KeepsShape r) (first : FirstExists) (decided : OverIsDecided) where
-    round_exists : (turn : ℕ) (a : State P) → turn ≤ limit → ((cause : Cause) → IsOver budget (net_ready r a) cause → ⊥) → HasOrder (net_of r.behaviour a.circuit)
+    round_here : (turn : ℕ) (a : State P) → turn ≤ limit → ((cause : Cause) → IsOver budget (net_ready r a) cause → ⊥) → HasOrder (net_of r.behaviour a.circuit)
         → (line : RoundLine) × (b : State P) × RoundOf (firsts budget limit) r turn a line b
-    round_exists turn a within none old =
+    round_here turn a within none old =
         let net : Net = net_ready r a in
         let now : HasOrder net = ready_order r k (offer_for a.players) a.circuit old in
-        let found = first net now.wired now.order now.is_order turn in
-        let w = ready r (offer_for a.players) a.circuit in (
-          line_for net turn found.0 (moves_of net a.circuit.ports found.0 found.1),
-          record { circuit = record w { primitives = stepped r.behaviour r.settled w found.0 found.1 }; players = advanced net found.0 a.players },
-          record { made = record { rows = found.0; items = found.1; suits = (within, none, found.2); shown = refl; circuit = refl }; players = refl },
+        let w = ready r (offer_for a.players) a.circuit in
+        let found = round_exists r turn w first now budget none in (
+          found.0,
+          record { circuit = found.1; players = advanced net found.2.rows a.players },
+          record { made = record { rows = found.2.rows; items = found.2.items; suits = (within, found.2.suits); shown = found.2.shown; circuit = found.2.circuit }; players = refl },
         )
 
     -- A run is over here.
@@ -113,7 +113,7 @@ module _ {P : Type 0} (r : Rules P) (budget limit : ℕ) where
           | None ↦ λ on. elim (decided budget (net_ready r p.state) (ready_order r k (offer_for p.state.players) p.state.circuit old).wired (ready_order r k (offer_for p.state.players) p.state.circuit old).order (ready_order r k (offer_for p.state.players) p.state.circuit old).is_order) as (λ _. RunsOn (firsts budget limit) r turn p) [
             | inl d ↦ stopped_here turn p within on d.0 d.1
             | inr none ↦
-                let next = round_exists turn p.state within none old in
+                let next = round_here turn p.state within none old in
                 let q : Place P = place_after turn next.0 p.state next.1 in
                 let more = runs_on left (turn + 1) q (omega (arith, count)) (round_order r k (offer_for p.state.players) (firsts budget limit).suits turn p.state.circuit next.0 next.1.circuit next.2.made old) in
                 let length_is : turn + 1 + length more.rest ≡ turn + length (next.0 ∷ more.rest) = omega arith in

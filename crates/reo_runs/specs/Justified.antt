@@ -12,7 +12,7 @@ use Rattle.reo_net_laws.specs.Parts.{IsClosed}
 use Rattle.reo_trace.specs.declared.line.RoundLine.{RoundLine}
 use Rattle.reo_trace.specs.declared.line.Ending.{Ending}
 use Rattle.reo_trace.specs.Entries.{is_idle}
-use Rattle.reo_engine_base.specs.Rules.{Rules}
+use Rattle.reo_rounds.specs.Rules.{Rules}
 use Rattle.reo_runs.specs.Round.{Choosing}
 use Rattle.reo_runs.specs.Run.{Place, IsRun, firsts}
 

@@ -1,16 +1,16 @@
 -- One round of a run.
-use Rattle.std.specs.Prelude.{ℕ, ◌≡◌, Bool, false, List, Option, map, option_and_then}
+use Rattle.std.specs.Prelude.{ℕ, ◌≡◌, Bool, false, List, map, option_and_then}
 use Rattle.std.specs.Option.{option_map_or}
-use Rattle.reo_values.specs.declared.value.Value.{Value}
 use Rattle.reo_net_base.specs.Marks.{is_flow}
 use Rattle.reo_net_base.specs.Net.{Net, Wiring, mark_at, end_of}
 use Rattle.reo_players.specs.Players.{Player, present, port_of, after}
 use Rattle.reo_players.specs.Offers.{offer_for}
 use Rattle.reo_trace.specs.declared.line.RoundLine.{RoundLine}
 use Rattle.reo_trace.specs.declared.line.Ending.{Ending}
-use Rattle.reo_engine_base.specs.Rules.{Rules}
-use Rattle.reo_engine_base.specs.Ready.{ready_net}
-use Rattle.reo_engine_base.specs.EngineRound.{EngineRound}
+use Rattle.reo_rounds.specs.Rules.{Rules}
+use Rattle.reo_rounds.specs.Ready.{ready_net}
+use Rattle.reo_rounds.specs.EngineRound.{EngineRound}
+use Rattle.reo_rounds.specs.RoundOn.{Suiting}
 
 -- A circuit between two rounds, and the components.
 pub record State (P : Type 0) : Type 0 where
@@ -31,7 +31,7 @@ advanced net rows players = map (λ (p : Player). after (flowed net rows p) p) p
 
 -- Which rows and items a round of a number may have, and which endings may stand in its place.
 pub record Choosing : Type 1 where
-  pub suits : Net → ℕ → List ℕ → List (Option Value) → Type 0
+  pub suits : Suiting
   pub stops : Net → ℕ → Ending → Type 0
 
 -- One round: that of the circuit with the offers of the components, after which each component has come as far as the rows say.

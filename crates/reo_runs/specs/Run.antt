@@ -1,15 +1,15 @@
 -- Whole runs.
 use Rattle.std.specs.Prelude.{ℕ, ◌+◌, ◌≤◌, ◌≡◌, ◌&&◌, ◌⊎◌, Bool, not, cond, Option, Some, None, List, [], ◌∷◌, length, map}
-use Rattle.reo_net_base.specs.First.{IsFirst}
 use Rattle.reo_net_base.specs.Net.{Wiring}
-use Rattle.reo_script_base.specs.declared.action.Component.{Component}
+use Rattle.reo_scripts.specs.declared.action.Component.{Component}
 use Rattle.reo_players.specs.Players.{Player, beginning_of, all_done, someone_counts}
 use Rattle.reo_trace.specs.declared.line.RoundLine.{RoundLine}
 use Rattle.reo_trace.specs.declared.line.Ending.{Ending}
 use Rattle.reo_trace.specs.declared.line.Ending.TheVariants as endings
-use Rattle.reo_engine_base.specs.Rules.{Rules}
+use Rattle.reo_rounds.specs.RoundOn.{first_within}
+use Rattle.reo_rounds.specs.Rules.{Rules}
+use Rattle.reo_rounds.specs.Stopping.{ending_by}
 use Rattle.reo_weights.specs.Over.{Cause, IsOver}
-use Rattle.reo_weights.specs.Over.Cause.{spent, wide}
 use Rattle.reo_runs.specs.Round.{State, Choosing, RoundOf, net_ready}
 
 -- How far a run has come: its state, and how it ended where it is done or stuck.
@@ -52,14 +52,9 @@ module _ {P : Type 0} (C : Choosing) (r : Rules P) where
   pub record HasBegun (start : Place P) (lines : List RoundLine) (state : State P) : Type 0 where
     pub rounds : Leads 1 start lines (record { state = state; over = None })
 
--- The ending that says why the round of a number cannot be planned.
-abbrev pub ending_by : ℕ → Cause → Ending
-ending_by turn (spent knot weight budget) = endings.Spent turn knot weight budget
-ending_by turn (wide knot) = endings.Wide turn knot
-
 -- The choice of a run: as long as the limit allows and no part is over the first colouring, and else the ending that says so.
 abbrev pub firsts : (budget limit : ℕ) → Choosing
 firsts budget limit = record {
-  suits = λ net turn rows items. (turn ≤ limit) × ((cause : Cause) → IsOver budget net cause → ⊥) × IsFirst net turn rows items;
+  suits = λ net turn rows items. (turn ≤ limit) × first_within budget net turn rows items;
   stops = λ net turn ending. ((limit + 1 ≡ turn) × (ending ≡ endings.Limit limit)) ⊎ ((turn ≤ limit) × (cause : Cause) × IsOver budget net cause × (ending ≡ ending_by turn cause));
 }

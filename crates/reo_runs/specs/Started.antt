@@ -4,8 +4,8 @@ use Rattle.reo_net_base.specs.declared.port.Offer.{Offer}
 use Rattle.reo_net_base.specs.PortState.{port_state_at, way_of, IsAccepted, IsPortWith}
 use Rattle.reo_net_base.specs.Net.{Wiring}
 use Rattle.reo_players.specs.Offers.{IsOffered, AreApart, offer_for}
-use Rattle.reo_engine_base.specs.Rules.{Rules}
-use Rattle.reo_engine_base.specs.Ready.{with_pending, ready}
+use Rattle.reo_rounds.specs.Rules.{Rules}
+use Rattle.reo_rounds.specs.Ready.{with_pending, ready}
 use Rattle.reo_runs.specs.Round.{State}
 
 -- At each port the offer of the component whose present action names it is pending, and at every other port nothing. A port is

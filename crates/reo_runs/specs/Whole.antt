@@ -1,18 +1,12 @@
 -- Whole runs: there is exactly one from each start.
 use Rattle.std.specs.Prelude.{ℕ, ◌+◌, ◌≡◌, List, [], ◌∷◌, ◌++◌, length}
-use Rattle.reo_net_base.specs.Net.{Net, net_of}
-use Rattle.reo_net_base.specs.Wired.{IsWired, IsOrder}
+use Rattle.reo_net_base.specs.Net.{net_of}
 use Rattle.reo_trace.specs.declared.line.RoundLine.{RoundLine}
 use Rattle.reo_trace.specs.declared.line.Ending.{Ending}
-use Rattle.reo_engine_base.specs.Rules.{Rules}
+use Rattle.reo_rounds.specs.Order.{HasOrder}
+use Rattle.reo_rounds.specs.Rules.{Rules}
 use Rattle.reo_runs.specs.Round.{State, Choosing, RoundOf}
 use Rattle.reo_runs.specs.Run.{Place, IsRun, HasBegun, firsts}
-
--- A circuit that is put together well, with an order of its joints.
-pub record HasOrder (net : Net) : Type 0 where
-  pub wired : IsWired net
-  pub order : List ℕ
-  pub is_order : IsOrder net order
 
 module _ {P : Type 0} (C : Choosing) (r : Rules P) (start : Place P) where
   -- A whole run whose first round lines are these: the lines that follow, and the ending.

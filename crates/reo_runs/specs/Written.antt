@@ -12,7 +12,7 @@ use Rattle.reo_trace.specs.declared.line.Ending.{Ending}
 use Rattle.reo_trace.specs.RoundText.{round_text}
 use Rattle.reo_trace.specs.EndingText.{ending_text}
 use Rattle.reo_trace.specs.TraceText.{rounds_text, trace_text}
-use Rattle.reo_engine_base.specs.Rules.{Rules}
+use Rattle.reo_rounds.specs.Rules.{Rules}
 use Rattle.reo_runs.specs.Round.{Choosing}
 use Rattle.reo_runs.specs.Run.{Place, IsRun}
 use Rattle.reo_runs.specs.Whole.{GoesOn}

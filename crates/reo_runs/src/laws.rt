@@ -1,12 +1,10 @@
 //! Laws of runs.
-ghost use Rattle.reo_engine_base.specs.Rules.{rules_of};
+ghost use Rattle.reo_rounds.specs.Rules.{rules_of};
 ghost use Rattle.reo_runs.specs.Justified.{RunsAreJustified};
 ghost use Rattle.reo_runs.specs.Started.{RoundsStart};
-ghost use Rattle.reo_runs.specs.Whole.{HasOrder, RunExists, RunIsOne};
-ghost use Rattle.reo_net_base.specs.Net.{net_of};
+ghost use Rattle.reo_runs.specs.Whole.{RunExists, RunIsOne};
 
 use reo_net_base::Ported;
-use reo_net_circuit::Circuit;
 use reo_net_laws::{first_exists, first_flows, first_is_one, first_jams_for_cause};
 use reo_players::offers_agree;
 use reo_trace::idle_means_no_flow;
@@ -47,12 +45,4 @@ pub fn rounds_start<P: Ported>()
     ensures { RoundsStart (rules_of P.behaviour P.settled P.port_state P.placed P.withdrawn) }
 {
     offers_agree();
-}
-
-/// What holds of each circuit: its joints have an order.
-pub fn known_order<P: Ported>(circuit: &Circuit<P>)
-    ensures { HasOrder (net_of P.behaviour circuit.now) }
-{
-    circuit.known();
-    let _order = circuit.order();
 }

@@ -3,4 +3,5 @@
 
 mod laws;
 
-pub use laws::{known_order, one_trace, rounds_start, runs_are_justified, trace_exists};
+pub use laws::{one_trace, rounds_start, runs_are_justified, trace_exists};
+pub use reo_rounds::known_order;

@@ -3,7 +3,7 @@ use Rattle.std.proofs.Common.{◌≡◌, ℕ, ◌+◌, ◌<◌, List, [], ◌∷
 use Rattle.reo_grammar.specs.Tokens.{Lexeme}
 use Rattle.reo_lexer.specs.declared.token.Token.{Token}
 use Rattle.reo_lexer.specs.Lexing.{lexeme_of, lexemes_of}
-use Rattle.reo_texts.proofs.Fronts.{take-next}
+use Rattle.reo_terms.proofs.Fronts.{take-next}
 use Rattle.reo_script.specs.declared.depth.Depth.{Depth}
 use Rattle.reo_script.specs.Depth.{Deepens}
 

@@ -12,15 +12,15 @@ use Rattle.reo_net_base.specs.declared.port.Port.{Port}
 use Rattle.reo_trees.specs.declared.literals.Literal.{Literal}
 use Rattle.reo_trees.specs.Rules.{circuit_rules}
 use Rattle.reo_trees.specs.Table.{circuit_table}
-use Rattle.reo_texts.specs.Refused.{IsFirstDeep}
-use Rattle.reo_script_base.specs.declared.event.Event.{Event}
-use Rattle.reo_script_base.specs.declared.event.EventForm.{EventForm}
-use Rattle.reo_script_base.specs.declared.event.EventForm.TheVariants as forms
-use Rattle.reo_script_base.specs.declared.event.EventFault.{EventFault}
-use Rattle.reo_script_base.specs.declared.event.EventFault.TheVariants as faults
-use Rattle.reo_script_base.specs.ScriptAnswers.{IsDeep}
-use Rattle.reo_script_base.specs.ScriptRules.{goes_wrong, item_at, port_number}
-use Rattle.reo_script_base.specs.Events.{event_form, SaysEvent, event_at, written_at, withdrawn_at, event_for, AnswersEvent, IsReadEvent, IsThisEvent}
+use Rattle.reo_terms.specs.Refused.{IsFirstDeep}
+use Rattle.reo_scripts.specs.declared.event.Event.{Event}
+use Rattle.reo_scripts.specs.declared.event.EventForm.{EventForm}
+use Rattle.reo_scripts.specs.declared.event.EventForm.TheVariants as forms
+use Rattle.reo_scripts.specs.declared.event.EventFault.{EventFault}
+use Rattle.reo_scripts.specs.declared.event.EventFault.TheVariants as faults
+use Rattle.reo_scripts.specs.ScriptAnswers.{IsDeep}
+use Rattle.reo_scripts.specs.ScriptRules.{goes_wrong, item_at, port_number}
+use Rattle.reo_scripts.specs.Events.{event_form, SaysEvent, event_at, written_at, withdrawn_at, event_for, AnswersEvent, IsReadEvent, IsThisEvent}
 
 -- A list up to a place, and with what stands there.
 cut : (ls : List Lexeme) (n : ℕ) → n < length ls → (t : Lexeme) × (u : List Lexeme) × (ls ≡ take n ls ++ (t ∷ u)) × (take (suc n) ls ≡ take n ls ++ (t ∷ []))

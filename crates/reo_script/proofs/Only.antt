@@ -9,16 +9,16 @@ use Rattle.reo_lexer.specs.Lexing.{IsTokens, lexemes_of}
 use Rattle.reo_lexer.proofs.Reading.{one-list, one-fault, not-both}
 use Rattle.reo_lexer.proofs.Spans.{tokens-real}
 use Rattle.reo_net_base.specs.declared.port.Port.{Port}
-use Rattle.reo_rules_base.specs.Lists.{first_of}
-use Rattle.reo_texts.proofs.Only.{syntax-line, deep-line, not-both-faults, said-no-syntax, said-no-deep}
-use Rattle.reo_script_base.specs.declared.fault.ScriptFault.{ScriptFault}
-use Rattle.reo_script_base.specs.declared.fault.ScriptFault.TheVariants as faults
-use Rattle.reo_script_base.specs.declared.forms.ComponentForm.{ComponentForm}
-use Rattle.reo_script_base.specs.declared.action.Script.{Script}
-use Rattle.reo_script_base.specs.ScriptForms.{script_rules, script_form}
-use Rattle.reo_script_base.specs.Table.{script_table}
-use Rattle.reo_script_base.specs.ScriptRules.{breaks}
-use Rattle.reo_script_base.specs.ScriptAnswers.{IsDeep, IsSyntax, IsTooDeep, Says, IsSaid, Answers, IsRead, IsThis, answer_by, answer_for}
+use Rattle.reo_rules.specs.Lists.{first_of}
+use Rattle.reo_terms.proofs.Only.{syntax-line, deep-line, not-both-faults, said-no-syntax, said-no-deep}
+use Rattle.reo_scripts.specs.declared.fault.ScriptFault.{ScriptFault}
+use Rattle.reo_scripts.specs.declared.fault.ScriptFault.TheVariants as faults
+use Rattle.reo_scripts.specs.declared.forms.ComponentForm.{ComponentForm}
+use Rattle.reo_scripts.specs.declared.action.Script.{Script}
+use Rattle.reo_scripts.specs.ScriptForms.{script_rules, script_form}
+use Rattle.reo_scripts.specs.Table.{script_table}
+use Rattle.reo_scripts.specs.ScriptRules.{breaks}
+use Rattle.reo_scripts.specs.ScriptAnswers.{IsDeep, IsSyntax, IsTooDeep, Says, IsSaid, Answers, IsRead, IsThis, answer_by, answer_for}
 use Rattle.reo_script.specs.Places.{IsFirstBreak}
 
 module _ (text : List ℕ) where

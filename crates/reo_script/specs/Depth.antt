@@ -3,7 +3,7 @@ use Rattle.std.specs.Prelude.{◌≡◌, true, false, Bool, List, [], ◌∷◌,
 use Rattle.reo_grammar.specs.Tokens.{Lexeme, matches}
 use Rattle.reo_grammar.specs.Tokens.Class.{fixed}
 use Rattle.reo_grammar.specs.Levels.{count_of}
-use Rattle.reo_texts.specs.Counting.{Counts}
+use Rattle.reo_terms.specs.Counting.{Counts}
 use Rattle.reo_script.specs.declared.depth.Depth.{Depth as ADepth}
 
 -- Whether the last of the tokens is a `repeat`.

@@ -5,13 +5,13 @@ ghost use Rattle.reo_grammar.specs.Grammar.Grammar.{chain, rule, nothing};
 ghost use Rattle.reo_cursor.specs.Reading.{Gives};
 ghost use Rattle.reo_trees.specs.Forms.{word, ◌◂◌};
 ghost use Rattle.reo_trees.specs.Rules.{circuit_rules};
-ghost use Rattle.reo_parser_terms.specs.Reading.{read_plain};
-ghost use Rattle.reo_script_base.specs.ScriptForms.{within_form, write_form, take_form, pause_form, times_form, action_list, actions_form, repeat_form, action_form, script_rules};
-ghost use Rattle.reo_script_base.specs.ScriptForms.ScriptRule.{action_rule};
+ghost use Rattle.reo_terms.specs.Reading.{read_plain};
+ghost use Rattle.reo_scripts.specs.ScriptForms.{within_form, write_form, take_form, pause_form, times_form, action_list, actions_form, repeat_form, action_form, script_rules};
+ghost use Rattle.reo_scripts.specs.ScriptForms.ScriptRule.{action_rule};
 
 use reo_cursor::{Cursor, Halt};
-use reo_parser_terms::literal;
-use reo_script_base::ActionForm;
+use reo_scripts::ActionForm;
+use reo_terms::literal;
 use reo_values::List;
 use std::alloc::Global;
 

@@ -4,13 +4,13 @@ ghost use Rattle.reo_grammar.specs.Tokens.{Lexeme};
 ghost use Rattle.reo_grammar.specs.Levels.{Nowhere};
 ghost use Rattle.reo_lexer.specs.Lexing.{Lies, lexemes_of};
 ghost use Rattle.reo_cursor.specs.Reading.{lexeme_seen};
-ghost use Rattle.reo_texts.specs.Refused.{IsFirstDeep};
-ghost use Rattle.reo_script_base.specs.ScriptAnswers.{IsDeep, IsNested};
+ghost use Rattle.reo_terms.specs.Refused.{IsFirstDeep};
+ghost use Rattle.reo_scripts.specs.ScriptAnswers.{IsDeep, IsNested};
 ghost use Rattle.reo_script.specs.Depth.{Deepens};
 
 use reo_cursor::{Seen, seen_of};
 use reo_lexer::Token;
-use reo_texts::Levels;
+use reo_terms::Levels;
 
 /// In how many others a `repeat` may stand at most, with one more.
 const MOST_REPEATS: u64 = 16;
@@ -48,7 +48,8 @@ impl Depth {
         requires operators { self.levels.operators < 2 ^ 63 }
         requires opened { self.opened < 2 ^ 63 }
         requires closed { self.closed < 2 ^ 63 }
-        ensures { (ts : List Lexeme) → Deepens self ts → Deepens result (ts ++ lexeme_seen seen.entry ∷ []) }
+        ensures { (ts : List Lexeme) → Deepens self ts
+            → Deepens result (ts ++ lexeme_seen seen.entry ∷ []) }
     {
         Depth {
             levels: self.levels.after(seen),
@@ -82,7 +83,8 @@ impl Depth {
 pub fn first_deep(text: &[u8], tokens: &[Token]) -> Option<usize>
     requires spans { All (Lies text.now) tokens.now }
     requires few { length tokens.now < 2 ^ 32 }
-    ensures { MatchOption result (Nowhere IsDeep (lexemes_of text.now tokens.now)) (λ place. IsFirstDeep IsDeep (lexemes_of text.now tokens.now) place) }
+    ensures { MatchOption result (Nowhere IsDeep (lexemes_of text.now tokens.now))
+        (λ place. IsFirstDeep IsDeep (lexemes_of text.now tokens.now) place) }
 {
     let mut depth = Depth::new();
     for (place, token) in tokens.iter().enumerate() {

@@ -1,15 +1,15 @@
 //! The rules of a script on the ports of a circuit.
-ghost use Rattle.std.specs.Prelude.{◌≡◌, map, is_none, option_copied};
+ghost use Rattle.std.specs.Prelude.{◌≡◌, map, is_none, option_copied, IsErrOf};
 ghost use Rattle.std.specs.List.{flat_map};
 ghost use Rattle.reo_net_base.specs.declared.port.Port.{Port as APort};
-ghost use Rattle.reo_script_base.specs.ScriptRules.{port_named as port_named_in, no_port as no_port_at, wrong_way as wrong_way_at, outside as outside_at, goes_wrong, goes_outside};
+ghost use Rattle.reo_scripts.specs.ScriptRules.{port_named as port_named_in, no_port as no_port_at, wrong_way as wrong_way_at, outside as outside_at, goes_wrong, goes_outside};
 ghost use Rattle.reo_script.specs.Places.{naming_of, IsJudgedBy};
 
 use crate::places::Place;
 use reo_literals::is_item_of;
 use reo_net_base::{Port, Way};
-use reo_rules_base::Names;
-use reo_script_base::ScriptFault;
+use reo_rules::Names;
+use reo_scripts::ScriptFault;
 use std::alloc::Global;
 
 /// The port of a name, if there is one.
@@ -102,7 +102,9 @@ pub(crate) fn judge_items(
     places: &[Place],
 ) -> Result<(), ScriptFault>
     requires { names.now ≡ map (λ (p : APort). p.name) ports.now }
-    ensures { IsJudgedBy (flat_map (outside_at ports.now) (map naming_of places.now)) result }
+    ensures judged { let names = map naming_of places.now in
+        IsJudgedBy (flat_map (outside_at ports.now) names) result }
+    ensures sure { IsErrOf result ScriptFault.NoMemory → ⊥ }
 {
     for place in places {
         if is_outside(names, ports, place) {

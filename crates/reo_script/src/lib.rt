@@ -1,4 +1,5 @@
-//! Reading script texts.
+//! Reading script texts and event lines. The trees of scripts, and the faults of their texts, are
+//! given on.
 #![tactic(auto)]
 
 mod actions;
@@ -14,4 +15,5 @@ mod sharing;
 mod texts;
 
 pub use lines::read_event;
+pub use reo_scripts::{Action, Component, Event, EventFault, Script, ScriptFault};
 pub use script::read_script;

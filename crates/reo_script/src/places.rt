@@ -1,10 +1,10 @@
 //! The places of a script that name a port.
 ghost use Rattle.std.specs.Prelude.{◌≡◌, ◌++◌, IfOk, OnOk, map};
 ghost use Rattle.std.specs.List.{flat_map};
-ghost use Rattle.reo_script_base.specs.ScriptRules.{namings, namings_in};
+ghost use Rattle.reo_scripts.specs.ScriptRules.{namings, namings_in};
 ghost use Rattle.reo_script.specs.Places.{naming_of};
 
-use reo_script_base::{ActionForm, ComponentForm};
+use reo_scripts::{ActionForm, ComponentForm};
 use reo_trees::Literal;
 use reo_values::{Bytes, List, NoMemory};
 use std::alloc::Global;
@@ -20,7 +20,8 @@ pub struct Place<'a> {
 /// Adds the places of an action.
 #[cycle(note)]
 fn note<'a>(action: &'a ActionForm, places: &mut List<Place<'a>>) -> Result<(), NoMemory>
-    ensures { OnOk result (map naming_of places.new ≡ map naming_of places.old ++ namings action.now) }
+    ensures { OnOk result
+        (map naming_of places.new ≡ map naming_of places.old ++ namings action.now) }
 {
     match action {
         ActionForm::Write {
@@ -46,7 +47,8 @@ fn note<'a>(action: &'a ActionForm, places: &mut List<Place<'a>>) -> Result<(), 
 /// Adds the places of actions.
 #[cycle(note)]
 fn note_all<'a>(actions: &'a [ActionForm], places: &mut List<Place<'a>>) -> Result<(), NoMemory>
-    ensures { OnOk result (map naming_of places.new ≡ map naming_of places.old ++ flat_map namings actions.now) }
+    ensures { OnOk result
+        (map naming_of places.new ≡ map naming_of places.old ++ flat_map namings actions.now) }
 {
     for action in actions {
         note(action, places)?;

@@ -1,10 +1,10 @@
 //! Reading scripts.
 ghost use Rattle.std.specs.Prelude.{◌≡◌, ◌<◌, ◌^◌, length, map, IfOk, Result};
 ghost use Rattle.reo_net_base.specs.declared.port.Port.{Port as APort};
-ghost use Rattle.reo_script_base.specs.declared.action.Script.{Script as AScript};
-ghost use Rattle.reo_script_base.specs.declared.fault.ScriptFault.{ScriptFault as AFault};
-ghost use Rattle.reo_script_base.specs.ScriptAnswers.{Answers, IsRead, IsThis};
-ghost use Rattle.reo_script_base.specs.ScriptRules.{breaks};
+ghost use Rattle.reo_scripts.specs.declared.action.Script.{Script as AScript};
+ghost use Rattle.reo_scripts.specs.declared.fault.ScriptFault.{ScriptFault as AFault};
+ghost use Rattle.reo_scripts.specs.ScriptAnswers.{Answers, IsRead, IsThis};
+ghost use Rattle.reo_scripts.specs.ScriptRules.{breaks};
 ghost use Rattle.reo_script.specs.Places.{ArePortsOf, IsJudgedBy};
 
 use crate::judging::{judge_items, judge_names, judge_ways};
@@ -13,8 +13,8 @@ use crate::places::places_of;
 use crate::sharing::judge_sharing;
 use crate::texts::said;
 use reo_net_base::{Port, Ports};
-use reo_rules_base::Names;
-use reo_script_base::{ComponentForm, Script, ScriptFault};
+use reo_rules::Names;
+use reo_scripts::{ComponentForm, Script, ScriptFault};
 use reo_values::NoMemory;
 use std::alloc::Global;
 
@@ -69,7 +69,8 @@ pub fn read_script(alloc: Global, text: &[u8], ports: &Ports) -> Result<Script, 
     requires few { length text.now < 2 ^ 32 }
     requires ports { ArePortsOf ports.now.list }
     ensures read { IsRead text.now ports.now.list result }
-    ensures only { (answer : Result AScript AFault) → Answers text.now ports.now.list answer → IsThis answer result }
+    ensures only { (answer : Result AScript AFault) → Answers text.now ports.now.list answer
+        → IsThis answer result }
 {
     answer_of(alloc, text, ports.list.as_slice())
 }

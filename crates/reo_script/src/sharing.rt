@@ -1,13 +1,13 @@
 //! Ports that two components name.
 ghost use Rattle.std.specs.Prelude.{◌≡◌, [], ◌++◌, map, OnOk, IfOk, List};
 ghost use Rattle.std.specs.List.{flat_map};
-ghost use Rattle.reo_rules_base.specs.Lists.{has_name};
-ghost use Rattle.reo_script_base.specs.ScriptRules.{Naming as ANaming, namings_in, shared, shared_in};
+ghost use Rattle.reo_rules.specs.Lists.{has_name};
+ghost use Rattle.reo_scripts.specs.ScriptRules.{Naming as ANaming, namings_in, shared, shared_in};
 ghost use Rattle.reo_script.specs.Places.{naming_of, IsJudgedBy};
 
 use crate::places::{Place, places_in};
-use reo_rules_base::Names;
-use reo_script_base::{ComponentForm, ScriptFault};
+use reo_rules::Names;
+use reo_scripts::{ComponentForm, ScriptFault};
 use reo_values::NoMemory;
 use std::alloc::Global;
 
@@ -28,7 +28,10 @@ fn judge_others(alloc: Global, seen: &Names, places: &[Place]) -> Result<(), Scr
 
 /// Adds the ports that places name.
 fn note(alloc: Global, seen: &mut Names, places: &[Place]) -> Result<(), NoMemory>
-    ensures { OnOk result ((name : List _) → has_name seen.new name ≡ has_name (seen.old ++ map (λ (n : ANaming). n.port) (map naming_of places.now)) name) }
+    ensures { OnOk result
+        ((name : List _)
+        → has_name seen.new name
+        ≡ has_name (seen.old ++ map (λ (n : ANaming). n.port) (map naming_of places.now)) name) }
 {
     for place in places {
         seen.note(alloc, place.port.as_slice())?;

@@ -2,7 +2,7 @@
 use crate::checks::is;
 use crate::reading::{deep_script, nested, opened, script_of};
 use reo_lexer::LexFault;
-use reo_script_base::ScriptFault;
+use reo_scripts::ScriptFault;
 use reo_values::Bytes;
 use std::alloc::Global;
 
@@ -147,8 +147,8 @@ fn is_nested(alloc: Global, times: usize, answer: Answer) -> bool {
 }
 
 /// What stands behind sixteen repeats, a line each, that are not ended: of a token that is refused
-/// and one that is too deep the first counts, on one token the refusal, and that of a text that only
-/// begins one stands behind all tokens.
+/// and one that is too deep the first counts, on one token the refusal, and that of a text that
+/// only begins one stands behind all tokens.
 const OPENED: &[(&str, Answer)] = &[
     ("\nwrite\nrepeat 1 { }", Syntax(19)),
     ("\nrepeat", TooDeep(18)),

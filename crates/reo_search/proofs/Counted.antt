@@ -1,10 +1,13 @@
 -- How many choices there are.
-use Rattle.std.proofs.Common.{◌≡◌, inl, inr, ℕ, zero, suc, ◌+◌, ◌*◌, ◌<◌, ◌≤◌, List, [], ◌∷◌, ◌++◌, length, get_or, take, ap, sym, ◌∙◌, arith}
+use Rattle.std.proofs.Common.{◌≡◌, inl, inr, ℕ, zero, suc, ◌+◌, ◌*◌, ◌<◌, ◌≤◌, List, [], ◌∷◌, ◌++◌, Bool, length, get_or, take, ap, sym, ◌∙◌, arith}
 use Rattle.std.specs.Prelude.{min, map}
 use Rattle.std.proofs.lemmas.Bool.{cases_lt}
 use Rattle.std.proofs.lemmas.List.{take_more, map-append}
-use Rattle.reo_weights.specs.Weights.{product_of, capped}
-use Rattle.reo_search.specs.Remaining.{choices_of}
+use Rattle.reo_net_base.specs.Net.{Net}
+use Rattle.reo_weights.specs.Weights.{all_values, product_of, capped}
+use Rattle.reo_joint_values.specs.Values.{Names, Choice}
+use Rattle.reo_joint_values.specs.Chosen.{IsChosen}
+use Rattle.reo_search.specs.Remaining.{CoverAll, choices_of}
 
 product_snoc : (xs : List ℕ) (n : ℕ) → product_of (xs ++ n ∷ []) ≡ product_of xs * n
 product_snoc [] n = omega arith
@@ -43,5 +46,24 @@ pub capped_small : (n budget : ℕ) → capped n ≤ budget → budget < 1000000
 capped_small n budget le lt = omega arith
 
 -- Steps so far, and those of one more.
-pub steps_more : (start mid now i p : ℕ) → mid ≤ start + i * p → now ≤ mid + p → now ≤ start + (i + 1) * p
+pub steps_more : (start mid now i p : ℕ) → mid ≡ start + i * p → now ≡ mid + p → now ≡ start + (i + 1) * p
 steps_more start mid now i p before here = omega arith
+
+positive_times : (a b : ℕ) → 1 ≤ a → 1 ≤ b → 1 ≤ a * b
+positive_times zero b h g = absurd (omega arith)
+positive_times (suc a) zero h g = absurd (omega arith)
+positive_times (suc a) (suc b) h g = omega arith
+
+-- There is a choice where each list has an element.
+pub some_choice : (left : List (List ℕ)) → ((m : ℕ) → m < length left → 1 ≤ length (get_or left m [])) → 1 ≤ choices_of left
+some_choice [] some = omega arith
+some_choice (xs ∷ left) some =
+    let here : 1 ≤ length xs = some 0 (omega arith) in
+    let rest : 1 ≤ choices_of left = some_choice left (λ m lt. some (suc m) (omega (arith, lt))) in
+    positive_times (length xs) (choices_of left) here rest
+
+-- So there is where they cover an assignment.
+pub some_covered : (net : Net) (names : Names) (inside : ℕ → Bool) (loops : List ℕ) (left : List (List ℕ)) → CoverAll net names inside loops left → length left ≡ length loops
+    → (rows : ℕ → ℕ) (choice : Choice) → IsChosen net names inside (all_values names) rows choice → 1 ≤ choices_of left
+some_covered net names inside loops left cover one_each rows choice chosen =
+    some_choice left (λ m lt. let there = cover rows choice chosen m (omega (arith, lt, one_each)) in omega (arith, there.1))

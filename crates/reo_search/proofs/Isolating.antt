@@ -13,13 +13,13 @@ use Rattle.reo_net_laws.specs.Sublists.{sides_in, part_rows}
 use Rattle.reo_net_laws.proofs.Assignments.{sides_same, side_same}
 use Rattle.reo_net_laws.proofs.Isolation.{isolated}
 use Rattle.reo_net_laws.proofs.OneFirst.{one_inside}
-use Rattle.reo_support.proofs.Labels.{eq_same}
+use Rattle.reo_joint_values.proofs.Equal.{eq_same}
 use Rattle.reo_propagate.specs.Queues.{among}
-use Rattle.reo_search.specs.declared.part.Part.{Part}
+use Rattle.reo_walk.specs.declared.part.Part.{Part}
 use Rattle.reo_search.specs.First.{AreFirstRows}
 use Rattle.reo_search.specs.Isolated.{FirstRowsAgree}
-use Rattle.reo_search.proofs.Knotted.{either, among_filter}
-use Rattle.reo_search.proofs.Resting.{among_at}
+use Rattle.reo_walk.proofs.Knotted.{either, among_filter}
+use Rattle.reo_walk.proofs.Resting.{among_at}
 
 -- Rows that are the same at each of some sides.
 rows_same : (sides a b : List ℕ) → ((m : ℕ) → m < length sides → get_or a (get_or sides m 0) 0 ≡ get_or b (get_or sides m 0) 0) → part_rows sides a ≡ part_rows sides b

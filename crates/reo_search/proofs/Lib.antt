@@ -1,15 +1,3 @@
-pub mod Numbering
-pub mod Settling
-pub mod Stepping
-pub mod Holding
-pub mod Staying
-pub mod Waking
-pub mod Resting
-pub mod Jamming
-pub mod Firsts
-pub mod Knotted
-pub mod Listing
-pub mod Pinned
 pub mod Counted
 pub mod Tried
 pub mod Remains

@@ -4,19 +4,20 @@ use Rattle.std.specs.Prelude.{MatchOption}
 use Rattle.std.proofs.lemmas.List.{get_or_default}
 use Rattle.reo_values.specs.declared.value.Value.{Value}
 use Rattle.reo_net_base.specs.Net.{Net}
-use Rattle.reo_support.specs.declared.value.JointValue.{JointValue}
-use Rattle.reo_support.specs.Values.{Names, Choice, giver_side}
-use Rattle.reo_support.specs.Chosen.{IsChosen, OneAtLoops}
-use Rattle.reo_support.proofs.Narrowing.{chosen_stays, chosen_was}
+use Rattle.reo_joint_values.specs.declared.value.JointValue.{JointValue}
+use Rattle.reo_joint_values.specs.Values.{Names, Choice, giver_side}
+use Rattle.reo_joint_values.specs.Chosen.{IsChosen}
+use Rattle.reo_support.specs.Sets.{OneAtLoops}
+use Rattle.reo_joint_values.proofs.Narrowing.{chosen_stays, chosen_was}
 use Rattle.reo_weights.specs.Weights.{all_values}
-use Rattle.reo_boards.specs.declared.board.Board.{Board}
-use Rattle.reo_propagate_rows.specs.Flags.{flag}
-use Rattle.reo_propagate_rows.specs.Sets.{code_of, family_of, names_of, IsReady}
+use Rattle.reo_side_tables.specs.declared.board.Board.{Board}
+use Rattle.reo_rows.specs.Flags.{flag}
+use Rattle.reo_rows.specs.Sets.{code_of, family_of, names_of, IsReady}
 use Rattle.reo_propagate.specs.Beginning.{IsSearch}
 use Rattle.reo_propagate.specs.declared.state.State.{State}
-use Rattle.reo_search.specs.declared.place.Place.{Place}
-use Rattle.reo_search.specs.Settling.{HasNone, IsFirstWith}
-use Rattle.reo_search.specs.Pins.{ArePinned}
+use Rattle.reo_walk.specs.declared.place.Place.{Place}
+use Rattle.reo_walk.specs.Settling.{HasNone, IsFirstWith}
+use Rattle.reo_walk.specs.Pins.{ArePinned}
 use Rattle.reo_search.specs.Remaining.{AreLoopsIn, AllAreThere, IsLeftOfAll}
 use Rattle.reo_search.specs.Trying.{MayRestart, IsLeastOf, IsFirstOf, HasCodes}
 use Rattle.reo_search.proofs.Remains.{to_start, from_start, same_code}

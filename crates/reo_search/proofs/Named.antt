@@ -18,23 +18,24 @@ use Rattle.reo_net_laws.specs.Sublists.{sides_in, part_rows}
 use Rattle.reo_net_laws.specs.JamRows.{jam_rows, no_items}
 use Rattle.reo_net_laws.proofs.JamRows.{jam_colouring}
 use Rattle.reo_net_laws.proofs.Sets.{each_part}
-use Rattle.reo_reach.specs.Supplied.{Supplied, items_at, is_wide, AreDistinct}
-use Rattle.reo_reach.specs.Width.{IsJointIn, TellsItems}
-use Rattle.reo_reach.proofs.StandLemmas.{items_stand}
+use Rattle.reo_joint_values.specs.Many.{AreDistinct, IsJointIn}
+use Rattle.reo_reach.specs.Supplied.{Supplied, items_at, is_wide}
+use Rattle.reo_reach.specs.Width.{TellsItems}
+use Rattle.reo_joint_values.proofs.StandLemmas.{items_stand}
 use Rattle.reo_net_order.proofs.ExistLemmas.{order_or_cycle}
 use Rattle.reo_weights.specs.Weights.{AreNamed, all_values}
-use Rattle.reo_support.specs.declared.value.JointValue.{JointValue}
-use Rattle.reo_support.specs.declared.value.JointValue.TheVariants.{Flow, RG, GR, GG, Jam}
-use Rattle.reo_support.specs.Values.{Names, items_of, no_joint}
-use Rattle.reo_support.specs.Chosen.{IsChosen, rows_of}
-use Rattle.reo_support.specs.Ties.{AreSides, IsNamed, HasNamed, HasChoice, IsFirstChosen}
-use Rattle.reo_support.specs.Ties as ties
-use Rattle.reo_support.proofs.Choosing.{assignments_are_choices, first_by_values}
-use Rattle.reo_propagate_rows.specs.Sets.{names_of}
-use Rattle.reo_search.specs.Places.{places_in}
-use Rattle.reo_search.specs.Settling.{HasChosen, IsFirstWith}
+use Rattle.reo_joint_values.specs.declared.value.JointValue.{JointValue}
+use Rattle.reo_joint_values.specs.declared.value.JointValue.TheVariants.{Flow, RG, GR, GG, Jam}
+use Rattle.reo_joint_values.specs.Values.{Names, items_of, no_joint}
+use Rattle.reo_joint_values.specs.Chosen.{IsChosen, rows_of}
+use Rattle.reo_joint_values.specs.Ties.{AreSides, IsNamed, HasNamed, HasChoice, IsFirstChosen}
+use Rattle.reo_joint_values.specs.Ties as ties
+use Rattle.reo_joint_values.proofs.Choosing.{assignments_are_choices, first_by_values}
+use Rattle.reo_rows.specs.Sets.{names_of}
+use Rattle.reo_walk.specs.Places.{places_in}
+use Rattle.reo_walk.specs.Settling.{HasChosen, IsFirstWith}
 use Rattle.reo_search.specs.Trying.{IsLeastOf}
-use Rattle.reo_search.proofs.Firsts.{key_is, last_are, last_rows_are}
+use Rattle.reo_walk.proofs.Firsts.{key_is, last_are, last_rows_are}
 
 -- Where lists have just the items that can stand, each once, their places are the numbers.
 pub are_named : (net : Net) (inside : ℕ → Bool) (supplied : Supplied) → TellsItems net inside supplied → ((j : ℕ) → IsJointIn net inside j → is_wide supplied j ≡ false)

@@ -12,18 +12,18 @@ use Rattle.reo_values.specs.declared.value.Value.{Value}
 use Rattle.reo_net_base.specs.Net.{Net}
 use Rattle.reo_knots.specs.Knots.{IsLoop, AreThose}
 use Rattle.reo_knots.proofs.GroupLemmas.{picked_those}
-use Rattle.reo_reach.specs.Width.{IsJointIn}
+use Rattle.reo_joint_values.specs.Many.{IsJointIn}
 use Rattle.reo_weights.specs.Weights.{AreNamed, all_values, AreSupported, product_of, capped, IsWeight}
-use Rattle.reo_support.specs.declared.value.JointValue.{JointValue}
-use Rattle.reo_support.specs.declared.value.JointValue.TheVariants.{Flow, RG, GR, GG, Jam}
-use Rattle.reo_support.specs.Values.{Names, Family, giver_side, AtSide}
-use Rattle.reo_support.specs.Supported.{IsNarrowed}
-use Rattle.reo_support.specs.Chosen.{OneAtLoops}
-use Rattle.reo_support.proofs.Narrowing.{narrowed_whole, chosen_stays}
-use Rattle.reo_boards.specs.declared.board.Board.{Board}
-use Rattle.reo_propagate_rows.specs.Flags.{flag}
-use Rattle.reo_propagate_rows.specs.Sets.{code_of, value_of, family_of, names_of, IsReady}
-use Rattle.reo_propagate_rows.proofs.Codes.{code_value, value_code, flag_in}
+use Rattle.reo_joint_values.specs.declared.value.JointValue.{JointValue}
+use Rattle.reo_joint_values.specs.declared.value.JointValue.TheVariants.{Flow, RG, GR, GG, Jam}
+use Rattle.reo_joint_values.specs.Values.{Names, Family, giver_side, AtSide}
+use Rattle.reo_joint_values.specs.Supported.{IsNarrowed}
+use Rattle.reo_support.specs.Sets.{OneAtLoops}
+use Rattle.reo_joint_values.proofs.Narrowing.{narrowed_whole, chosen_stays}
+use Rattle.reo_side_tables.specs.declared.board.Board.{Board}
+use Rattle.reo_rows.specs.Flags.{flag}
+use Rattle.reo_rows.specs.Sets.{code_of, value_of, family_of, names_of, IsReady}
+use Rattle.reo_rows.proofs.Codes.{code_value, value_code, flag_in}
 use Rattle.reo_search.specs.Remaining.{AreLoopsIn, AllAreThere, IsLeftOfAll, AreCodesAt, AreCodes, choices_of, CoverAll}
 
 range_more : (a n : ℕ) → range_with_len a (suc n) ≡ range_with_len a n ++ (a + n) ∷ []

@@ -17,24 +17,25 @@ use Rattle.reo_net_laws.proofs.Sides.{side_in_range}
 use Rattle.reo_net_laws.proofs.Flows.{knot_jams_exactly}
 use Rattle.reo_knots.specs.Knots.{Knotted, AreKnots, AreThose, IsLoop, IsLoopOf, in_knot, knot_count}
 use Rattle.reo_reach.specs.Supplied.{Supplied, is_wide}
-use Rattle.reo_reach.specs.Width.{IsJointIn, TellsItems}
+use Rattle.reo_joint_values.specs.Many.{IsJointIn}
+use Rattle.reo_reach.specs.Width.{TellsItems}
 use Rattle.reo_weights.specs.Widths.{IsWide}
 use Rattle.reo_weights.specs.Weights.{AreNamed, all_values, IsWeight, capped}
 use Rattle.reo_weights.proofs.WeightLemmas.{one_weight}
-use Rattle.reo_support.specs.Values.{Names, items_of, no_joint, giver_side}
-use Rattle.reo_support.specs.Chosen.{IsChosen, rows_of}
-use Rattle.reo_support.specs.Ties.{AreSides}
-use Rattle.reo_support.proofs.Labels.{same_eq, eq_same}
-use Rattle.reo_boards.specs.Marks.{side_in}
+use Rattle.reo_joint_values.specs.Values.{Names, items_of, no_joint, giver_side}
+use Rattle.reo_joint_values.specs.Chosen.{IsChosen, rows_of}
+use Rattle.reo_joint_values.specs.Ties.{AreSides}
+use Rattle.reo_joint_values.proofs.Equal.{same_eq, eq_same}
+use Rattle.reo_side_tables.specs.Marks.{side_in}
 use Rattle.reo_propagate.specs.Queues.{among}
-use Rattle.reo_search.specs.declared.part.Part.{Part}
-use Rattle.reo_search.specs.Places.{places_in}
-use Rattle.reo_search.specs.Arranged.{IsJamRow}
+use Rattle.reo_walk.specs.declared.part.Part.{Part}
+use Rattle.reo_walk.specs.Places.{places_in}
+use Rattle.reo_walk.specs.Arranged.{IsJamRow}
 use Rattle.reo_search.specs.Remaining.{AreLoopsIn, choices_of}
 use Rattle.reo_search.specs.Trying.{IsLeastOf}
 use Rattle.reo_search.specs.First.{AreFirstRows, HasNoThreeColouring}
-use Rattle.reo_search.proofs.Knotted.{among_sides}
-use Rattle.reo_search.proofs.Resting.{among_at}
+use Rattle.reo_walk.proofs.Knotted.{among_sides}
+use Rattle.reo_walk.proofs.Resting.{among_at}
 use Rattle.reo_search.proofs.Counted.{capped_small}
 use Rattle.reo_search.proofs.Named.{first_in, last_are_rows, last_are_those}
 

@@ -5,8 +5,8 @@ use Rattle.std.proofs.Math.Seq.{drop-cons, take-length, get_or-append_seam}
 use Rattle.std.proofs.lemmas.Bool.{cases_eq, cases_lt}
 use Rattle.std.proofs.lemmas.List.{take-append-le, get_or_append_left}
 use Rattle.reo_net_base.specs.Net.{Net}
-use Rattle.reo_support.specs.Values.{Names, Choice}
-use Rattle.reo_propagate_rows.specs.Sets.{code_of}
+use Rattle.reo_joint_values.specs.Values.{Names, Choice}
+use Rattle.reo_rows.specs.Sets.{code_of}
 use Rattle.reo_search.specs.Remaining.{choices_of, CoverAll}
 use Rattle.reo_search.specs.Trying.{HasCodes, AreSingles}
 

@@ -10,10 +10,10 @@ use Rattle.std.proofs.lemmas.List.{get_or_append_left}
 use Rattle.std.proofs.Math.Seq.{get_or-append_seam}
 use Rattle.std.proofs.lemmas.List.Elements.{Contains-push, Contains-push_cases, Contains-append_left}
 use Rattle.reo_net_base.specs.Net.{Net}
-use Rattle.reo_support.specs.Values.{Names, Choice}
-use Rattle.reo_propagate_rows.specs.Sets.{code_of}
-use Rattle.reo_search.specs.declared.place.Place.{Place}
-use Rattle.reo_search.specs.Places.{numbers}
+use Rattle.reo_joint_values.specs.Values.{Names, Choice}
+use Rattle.reo_rows.specs.Sets.{code_of}
+use Rattle.reo_walk.specs.declared.place.Place.{Place}
+use Rattle.reo_walk.specs.Places.{numbers}
 use Rattle.reo_search.specs.Remaining.{CoverAll}
 use Rattle.reo_search.specs.Trying.{IsFirstOf, IsLesser, HasCodes, HasNextOf}
 

@@ -7,10 +7,10 @@ use Rattle.reo_net_laws.specs.Keys.{IsFirstIn}
 use Rattle.reo_net_laws.specs.Sublists.{sides_in, part_rows}
 use Rattle.reo_weights.specs.Over.{IsWithin, IsOverBy}
 use Rattle.reo_weights.specs.Over.Cause.{spent, wide}
-use Rattle.reo_search.specs.declared.part.Part.{Part}
+use Rattle.reo_walk.specs.declared.part.Part.{Part}
 use Rattle.reo_search.specs.declared.fault.SearchFault.{SearchFault}
 use Rattle.reo_search.specs.declared.fault.SearchFault.TheVariants as faults
-use Rattle.reo_search.specs.Arranged.{IsJamRow}
+use Rattle.reo_walk.specs.Arranged.{IsJamRow}
 
 -- The part tells the sides of a set and the rows there of its first assignment, and whether one of them is a jam row.
 pub record AreFirstRows (net : Net) (inside : ℕ → Bool) (turn : ℕ) (part : Part) : Type 0 where

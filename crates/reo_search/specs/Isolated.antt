@@ -4,7 +4,7 @@ use Rattle.reo_net_base.specs.Net.{Net}
 use Rattle.reo_net_base.specs.Wired.{IsWired, IsOrder}
 use Rattle.reo_net_laws.specs.Parts.{IsClosed}
 use Rattle.reo_net_laws.specs.Alike.{AreAlike}
-use Rattle.reo_search.specs.declared.part.Part.{Part}
+use Rattle.reo_walk.specs.declared.part.Part.{Part}
 use Rattle.reo_search.specs.First.{AreFirstRows}
 
 -- Where two circuits are alike on a closed set of sides, their first assignments have the same sides and rows there.

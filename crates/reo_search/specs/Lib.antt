@@ -1,9 +1,3 @@
-pub mod Places
-pub mod Holding
-pub mod Pins
-pub mod Settling
-pub mod Walking
-pub mod Arranged
 pub mod Remaining
 pub mod Trying
 pub mod First

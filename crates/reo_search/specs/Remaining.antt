@@ -4,13 +4,13 @@ use Rattle.reo_values.specs.declared.value.Value.{Value}
 use Rattle.reo_net_base.specs.Net.{Net}
 use Rattle.reo_knots.specs.Knots.{IsLoop, AreThose}
 use Rattle.reo_weights.specs.Weights.{all_values, product_of}
-use Rattle.reo_support.specs.declared.value.JointValue.{JointValue}
-use Rattle.reo_support.specs.Values.{Names, Choice, giver_side}
-use Rattle.reo_support.specs.Supported.{IsSupported, IsNarrowed}
-use Rattle.reo_support.specs.Chosen.{IsChosen}
-use Rattle.reo_boards.specs.Marks.{IsJointOf}
-use Rattle.reo_propagate_rows.specs.Flags.{flag}
-use Rattle.reo_propagate_rows.specs.Sets.{code_of, family_of}
+use Rattle.reo_joint_values.specs.declared.value.JointValue.{JointValue}
+use Rattle.reo_joint_values.specs.Values.{Names, Choice, giver_side}
+use Rattle.reo_joint_values.specs.Supported.{IsSupported, IsNarrowed}
+use Rattle.reo_joint_values.specs.Chosen.{IsChosen}
+use Rattle.reo_side_tables.specs.Marks.{IsJointOf}
+use Rattle.reo_rows.specs.Flags.{flag}
+use Rattle.reo_rows.specs.Sets.{code_of, family_of}
 
 -- The loop joints of a set of sides.
 pub record AreLoopsIn (net : Net) (inside : ℕ → Bool) (loops : List ℕ) : Type 0 where

@@ -7,14 +7,14 @@ use Rattle.reo_values.specs.declared.value.Value.{Value}
 use Rattle.reo_net_base.specs.Net.{Net}
 use Rattle.reo_net_base.specs.Sides.{side_count}
 use Rattle.reo_weights.specs.Weights.{all_values}
-use Rattle.reo_support.specs.Values.{Names, Choice}
-use Rattle.reo_support.specs.Chosen.{IsChosen}
-use Rattle.reo_boards.specs.declared.board.Board.{Board}
-use Rattle.reo_propagate_rows.specs.Rows.{AreTables}
-use Rattle.reo_propagate_rows.specs.Sets.{code_of, IsReady}
+use Rattle.reo_joint_values.specs.Values.{Names, Choice}
+use Rattle.reo_joint_values.specs.Chosen.{IsChosen}
+use Rattle.reo_side_tables.specs.declared.board.Board.{Board}
+use Rattle.reo_rows.specs.Rows.{AreTables}
+use Rattle.reo_rows.specs.Sets.{code_of, IsReady}
 use Rattle.reo_propagate.specs.declared.state.State.{State}
-use Rattle.reo_search.specs.declared.place.Place.{Place}
-use Rattle.reo_search.specs.Places.{numbers}
+use Rattle.reo_walk.specs.declared.place.Place.{Place}
+use Rattle.reo_walk.specs.Places.{numbers}
 use Rattle.reo_search.specs.Remaining.{choices_of}
 
 -- A search may begin anew with these tables.

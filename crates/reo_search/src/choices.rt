@@ -2,24 +2,22 @@
 ghost use Rattle.std.specs.Prelude.{◌≡◌, ◌<◌, ◌≤◌, ◌+◌, ℕ, true, IfOk, OnOk, length, drop, slice_index_or};
 ghost use Rattle.reo_net_base.specs.Net.{net_of, all_sides};
 ghost use Rattle.reo_net_laws.specs.Parts.{IsKnot};
-ghost use Rattle.reo_propagate_rows.specs.Sets.{names_of};
+ghost use Rattle.reo_rows.specs.Sets.{names_of};
 ghost use Rattle.reo_propagate.specs.Queues.{among};
 ghost use Rattle.reo_weights.specs.Weights.{AreNamed};
-ghost use Rattle.reo_search.specs.declared.place.Place.{Place as Spot};
-ghost use Rattle.reo_search.specs.Places.{side_of_place};
+ghost use Rattle.reo_walk.specs.declared.place.Place.{Place as Spot};
+ghost use Rattle.reo_walk.specs.Places.{side_of_place};
 ghost use Rattle.reo_search.specs.Remaining.{AreLoopsIn, CoverAll, choices_of};
 ghost use Rattle.reo_search.specs.Trying.{MayRestart, HasCodes, IsFirstOf, IsLesser, AreSingles};
 
-use crate::arranging::first_by;
-use crate::pinning::pin;
-use crate::place::Place;
-use reo_boards::Board;
 use reo_net_base::Primitive;
 use reo_net_circuit::Circuit;
 use reo_net_ends::Ends;
 use reo_propagate::{State, restart};
+use reo_side_tables::Board;
 use reo_steps::Steps;
 use reo_values::{List, NoMemory, Value};
+use reo_walk::{Place, first_by, pin};
 use std::alloc::Global;
 use std::sync::ledger::Ledger;
 
@@ -74,6 +72,7 @@ fn try_choice<P: Primitive, L: Ledger>(
     ensures tables { let net = net_of P.behaviour circuit.now in
         OnOk result (MayRestart net boards.now ends.now items.now state.new) }
     ensures ticks { steps.new ≤ steps.old + 1 }
+    ensures one { OnOk result (steps.new ≡ steps.old + 1) }
 {
     restart(alloc, circuit, boards, ends, items, sides, state)?;
     pin(circuit, boards, ends, items, sides, state, loops, codes)?;
@@ -100,8 +99,8 @@ fn push_single(left: &List<List<usize>>, codes: &mut List<usize>) -> Result<(), 
 }
 
 /// The numbers of the first assignment that has these values at the first loop joints, where each
-/// of what is left at the others is tried: `None` exactly where there is none. It ticks at most as
-/// many times as there are choices. It calls itself only where more than one value is left.
+/// of what is left at the others is tried: `None` exactly where there is none. It ticks once for
+/// each choice that there is. It calls itself only where more than one value is left.
 pub(crate) fn first_over<P: Primitive, L: Ledger>(
     alloc: Global,
     circuit: &Circuit<P>,
@@ -137,6 +136,8 @@ pub(crate) fn first_over<P: Primitive, L: Ledger>(
     ensures tables { let net = net_of P.behaviour circuit.now in
         OnOk result (MayRestart net boards.now ends.now items.now state.new) }
     ensures ticks { steps.new ≤ steps.old + choices_of (drop (length codes.old) left.now) }
+    ensures each { let choices = choices_of (drop (length codes.old) left.now) in
+        OnOk result (steps.new ≡ steps.old + choices) }
 {
     let held = codes.len();
     push_single(left, codes)?;

@@ -1,40 +1,37 @@
 //! The first assignment of a knot, over all values that its joints can have.
-ghost use Rattle.std.specs.Prelude.{◌≡◌, ◌↔◌, ◌<◌, ◌≤◌, ◌+◌, ◌^◌, ℕ, true, false, [], IsTrue, IfOk, IfSome, OnOk, MatchResult, length, slice_index_or};
+ghost use Rattle.std.specs.Prelude.{◌≡◌, ◌↔◌, ◌<◌, ◌≤◌, ◌+◌, ◌^◌, ◌⊎◌, ℕ, true, false, [], IsTrue, IfOk, IfSome, OnOk, MatchResult, length, slice_index_or};
 ghost use Rattle.reo_net_base.specs.Net.{net_of, all_sides};
 ghost use Rattle.reo_net_ends.specs.Ends.{AreEnds};
 ghost use Rattle.reo_net_laws.specs.Parts.{IsKnot};
 ghost use Rattle.reo_knots.specs.Knots.{AreKnots, in_knot, knot_count};
-ghost use Rattle.reo_support.specs.Chosen.{IsChosen};
+ghost use Rattle.reo_joint_values.specs.Chosen.{IsChosen};
 ghost use Rattle.reo_reach.specs.Supplied.{AreShort, IsReached, IsSupply, is_wide};
-ghost use Rattle.reo_reach.specs.Width.{IsJointIn};
+ghost use Rattle.reo_joint_values.specs.Many.{IsJointIn};
 ghost use Rattle.reo_weights.specs.Weights.{IsWeight, AreNamed, all_values};
-ghost use Rattle.reo_propagate_rows.specs.Rows.{AreTables};
-ghost use Rattle.reo_propagate_rows.specs.Sets.{IsReady, names_of};
+ghost use Rattle.reo_rows.specs.Rows.{AreTables};
+ghost use Rattle.reo_rows.specs.Sets.{IsReady, names_of};
 ghost use Rattle.reo_propagate.specs.Queues.{among};
 ghost use Rattle.reo_propagate.specs.Beginning.{IsSearch};
-ghost use Rattle.reo_search.specs.declared.place.Place.{Place as Spot};
-ghost use Rattle.reo_search.specs.Places.{side_of_place, places_in};
+ghost use Rattle.reo_walk.specs.declared.place.Place.{Place as Spot};
+ghost use Rattle.reo_walk.specs.Places.{side_of_place, places_in};
 ghost use Rattle.reo_search.specs.Remaining.{AreLoopsIn, IsLeftOfAll, CoverAll, choices_of};
 ghost use Rattle.reo_search.specs.Trying.{MayRestart, IsLeastOf, IsFirstOf};
 ghost use Rattle.reo_search.specs.First.{IsFirstWithin, IsSearchFault, HasNoThreeColouring};
 
 use crate::choices::first_over;
 use crate::fault::SearchFault;
-use crate::part::{Part, part_of};
-use crate::place::Place;
-use crate::places::places_of;
-use crate::walk::walk;
 use crate::weighing::{are_single, codes_of, narrow_all, weight_of};
 use crate::widths::has_wide;
-use reo_boards::{Board, boards_of};
 use reo_knots::Knots;
 use reo_net_base::Primitive;
 use reo_net_circuit::Circuit;
 use reo_net_ends::{Ends, ends_of};
 use reo_propagate::{State, begin, restart};
 use reo_reach::Supply;
+use reo_side_tables::{Board, boards_of};
 use reo_steps::Steps;
 use reo_values::{List, NoMemory, Value};
+use reo_walk::{Part, Place, part_of, places_of, walk};
 use std::alloc::Global;
 use std::sync::ledger::Ledger;
 
@@ -85,8 +82,9 @@ fn first_by_walk<P: Primitive>(
     }
 }
 
-/// The numbers of the first assignment. It ticks at most as many times as there are choices of what
-/// is left at the loop joints, and not at all where a walk finds it. `NoMemory` is out of memory.
+/// The numbers of the first assignment. It ticks once where a walk finds it, which makes one
+/// choice, and else once for each choice of what is left at the loop joints. `NoMemory` is out of
+/// memory.
 fn first_numbers<P: Primitive, L: Ledger>(
     alloc: Global,
     circuit: &Circuit<P>,
@@ -123,12 +121,15 @@ fn first_numbers<P: Primitive, L: Ledger>(
     ensures tables { let net = net_of P.behaviour circuit.now in
         OnOk result (MayRestart net boards.now ends.now items.now state.new) }
     ensures ticks { steps.new ≤ steps.old + choices_of left.now }
+    ensures counts { OnOk result ((steps.new ≡ steps.old + 1)
+        ⊎ (steps.new ≡ steps.old + choices_of left.now)) }
 {
     circuit.known();
     let found = first_by_walk(
         alloc, circuit, boards, ends, items, sides, state, places, turn, loops,
     )?;
     if let Some(chosen) = found {
+        steps.tick();
         return Ok(chosen);
     }
     let mut codes = List::new(alloc);

@@ -3,17 +3,17 @@ ghost use Rattle.std.specs.Prelude.{◌≡◌, ◌≤◌, ◌<◌, ◌*◌, ℕ,
 ghost use Rattle.reo_net_base.specs.Net.{net_of, all_sides};
 ghost use Rattle.reo_net_laws.specs.Parts.{IsClosed};
 ghost use Rattle.reo_weights.specs.Weights.{capped};
-ghost use Rattle.reo_propagate_rows.specs.Sets.{names_of};
+ghost use Rattle.reo_rows.specs.Sets.{names_of};
 ghost use Rattle.reo_propagate.specs.Queues.{among};
 ghost use Rattle.reo_propagate.specs.Beginning.{IsSearch};
 ghost use Rattle.reo_search.specs.Remaining.{AllAreThere, IsLeftOfAll, AreCodesAt, AreCodes, choices_of};
 
-use reo_boards::Board;
 use reo_net_base::Primitive;
 use reo_net_circuit::Circuit;
 use reo_net_ends::Ends;
 use reo_propagate::{State, propagate};
-use reo_propagate_rows::Flags;
+use reo_rows::Flags;
+use reo_side_tables::Board;
 use reo_values::{List, NoMemory, Value};
 use std::alloc::Global;
 

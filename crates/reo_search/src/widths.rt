@@ -3,19 +3,20 @@ ghost use Rattle.std.specs.Prelude.{◌≡◌, ◌↔◌, ◌<◌, ℕ, true, Is
 ghost use Rattle.reo_net_base.specs.Net.{net_of, all_sides};
 ghost use Rattle.reo_net_laws.specs.Parts.{IsClosed};
 ghost use Rattle.reo_reach.specs.Supplied.{is_wide};
-ghost use Rattle.reo_reach.specs.Width.{IsJointIn};
-ghost use Rattle.reo_boards.specs.Boards.{AreBoards};
+ghost use Rattle.reo_joint_values.specs.Many.{IsJointIn};
+ghost use Rattle.reo_side_tables.specs.Boards.{AreBoards};
 ghost use Rattle.reo_propagate.specs.Queues.{among};
 
-use reo_boards::Board;
 use reo_net_base::Primitive;
 use reo_net_circuit::Circuit;
 use reo_reach::Supply;
+use reo_side_tables::Board;
 use reo_values::List;
 
 /// Whether one of some joints is wide.
 fn some_wide(supply: &Supply, joints: &[usize]) -> bool
-    requires { (m : ℕ) → m < length joints.now → slice_index joints.now m < length supply.now.items }
+    requires { (m : ℕ) → m < length joints.now
+        → slice_index joints.now m < length supply.now.items }
     ensures { IsTrue result ↔ ((m : ℕ) × (m < length joints.now)
         × (is_wide supply.now (slice_index joints.now m) ≡ true)) }
 {

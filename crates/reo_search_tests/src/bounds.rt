@@ -1,13 +1,13 @@
 //! What a search asks of its sets, looked at before it.
 ghost use Rattle.std.specs.Prelude.{◌≡◌, ◌<◌, ◌+◌, ℕ, [], IsTrue, length, slice_index, slice_index_or};
 ghost use Rattle.reo_knots.specs.Knots.{knot_count};
-ghost use Rattle.reo_propagate_rows.specs.Sets.{code_of};
+ghost use Rattle.reo_rows.specs.Sets.{code_of};
 ghost use Rattle.reo_search_tests.specs.Bounds.{AreBelow, IsWithin, AreWithin, AreSingle};
 
+use reo_joint_values::JointValue;
 use reo_knots::Knots;
 use reo_propagate::Sets;
-use reo_propagate_rows::FLOWS;
-use reo_support::JointValue;
+use reo_rows::FLOWS;
 use reo_values::{List, Value};
 
 /// The number of a value: the values without flow have the first four.

@@ -20,7 +20,7 @@ fn joints(alloc: Global) -> Result<List<Joint>, NoMemory> {
 }
 
 /// A writer that offers 1, or nothing.
-fn writer(offers: bool) -> Kind {
+pub fn writer(offers: bool) -> Kind {
     let kindred = Kindred::Int(0, 9);
     Kind::Writer(if offers {
         WriterPort::offering(kindred, Value::Int(1))

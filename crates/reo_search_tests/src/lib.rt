@@ -12,6 +12,8 @@ mod circuits;
 #[cfg(test)]
 mod limits;
 #[cfg(test)]
+mod plainest;
+#[cfg(test)]
 mod searches;
 #[cfg(test)]
 mod sets;

@@ -1,13 +1,13 @@
 //! Sets of values at the joints of the drain.
+use reo_joint_values::JointValue::{self, Flow, GG, GR, Jam, RG};
 use reo_propagate::Sets;
-use reo_support::JointValue::{self, Flow, GG, GR, Jam, RG};
 use reo_values::{List, NoMemory};
 use std::alloc::Global;
 
 /// All values of a joint where one item can stand.
 pub const ALL: [JointValue; 5] = [Flow(0), RG, GR, GG, Jam];
 
-fn list_of(alloc: Global, values: &[JointValue]) -> Result<List<JointValue>, NoMemory> {
+pub fn list_of(alloc: Global, values: &[JointValue]) -> Result<List<JointValue>, NoMemory> {
     let mut list = List::new(alloc);
     for value in values {
         list.push(*value)?;

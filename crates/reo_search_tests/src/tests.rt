@@ -6,6 +6,7 @@ ghost use Rattle.reo_knots.specs.Knots.{AreKnots};
 use crate::bounds::{are_within, loops_are_single};
 use crate::circuits::drained;
 use crate::sets::held_to;
+use reo_joint_values::JointValue::{self, Flow, GG, GR, Jam, RG};
 use reo_kinds::Kind;
 use reo_knots::{Knots, find_knots};
 use reo_net_base::Primitive;
@@ -14,7 +15,6 @@ use reo_propagate::{Sets, narrow};
 use reo_reach::{Supply, reach};
 use reo_search::{Part, arrange};
 use reo_steps::Steps;
-use reo_support::JointValue::{self, Flow, GG, GR, Jam, RG};
 use reo_values::Value;
 use std::alloc::Global;
 use std::marker::Brand;
@@ -44,12 +44,12 @@ const LEFT: [(JointValue, Option<&'static [JointValue]>); 5] = [
 ];
 
 /// The one assertion of all tests.
-fn is(rt: &impl Abort, answer: bool, what: &str) {
+pub fn is(rt: &impl Abort, answer: bool, what: &str) {
     assert!(rt; answer, "{what}");
 }
 
 /// Whether an item is 1.
-fn is_one(item: &Value) -> bool {
+pub fn is_one(item: &Value) -> bool {
     match item {
         Value::Int(number) => *number == 1,
         _ => false,
@@ -78,7 +78,7 @@ fn is_one_knot(knots: &Knots) -> bool {
 }
 
 /// Whether a part has these rows and jams or not.
-fn is_part(part: &Option<Part>, want: &Option<(&'static [u32], bool)>) -> bool {
+pub fn is_part(part: &Option<Part>, want: &Option<(&'static [u32], bool)>) -> bool {
     match (part, want) {
         (Some(part), Some((rows, jammed))) => {
             part.sides.as_slice() == [0, 1, 2].as_slice()
@@ -91,7 +91,7 @@ fn is_part(part: &Option<Part>, want: &Option<(&'static [u32], bool)>) -> bool {
 }
 
 /// The first assignment of the knot. It ticks once.
-fn arranged<P: Primitive, L: Ledger>(
+pub fn arranged<P: Primitive, L: Ledger>(
     rt: &impl Abort,
     alloc: Global,
     circuit: &Circuit<P>,

@@ -2,7 +2,7 @@
 ghost use Rattle.std.specs.Prelude.{IfSome};
 ghost use Rattle.std.specs.List.{All};
 ghost use Rattle.reo_trees_laws.specs.Spelled.{IsSpelled};
-ghost use Rattle.reo_rules_base.specs.Scopes.{connectors_of};
+ghost use Rattle.reo_rules.specs.Scopes.{connectors_of};
 ghost use Rattle.reo_flatten_laws.specs.Plain.{HasPlainNames};
 
 use reo_flatten::flatten;

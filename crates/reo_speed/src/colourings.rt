@@ -2,11 +2,10 @@
 ghost use Rattle.std.specs.Prelude.{◌≡◌, ◌<◌, ℕ, length};
 ghost use Rattle.reo_net_base.specs.Net.{net_of, all_sides};
 ghost use Rattle.reo_knots.specs.Knots.{AreKnots, knot_count};
-ghost use Rattle.reo_propagate_rows.specs.Rows.{AreTables};
-ghost use Rattle.reo_propagate_rows.specs.Sets.{IsReady};
+ghost use Rattle.reo_rows.specs.Rows.{AreTables};
+ghost use Rattle.reo_rows.specs.Sets.{IsReady};
 ghost use Rattle.reo_reach.specs.Supplied.{AreShort, IsSupply};
 
-use reo_boards::{Board, boards_of};
 use reo_knots::Knots;
 use reo_net_base::Primitive;
 use reo_net_circuit::Circuit;
@@ -14,6 +13,7 @@ use reo_net_ends::{Ends, ends_of};
 use reo_propagate::{State, begin};
 use reo_reach::{Supply, reach};
 use reo_search::{Part, SearchFault, first_with};
+use reo_side_tables::{Board, boards_of};
 use reo_steps::Steps;
 use reo_values::List;
 use std::alloc::Global;

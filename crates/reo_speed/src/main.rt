@@ -1,7 +1,7 @@
-//! First colourings of circuits that grow: a line of the input names a kind of circuit and its size,
-//! which of its ports offer, and how many times the first colouring of its first part is made. Behind
-//! the line stand the rows of its sides. The time of a run, less that of one with fewer times, is
-//! that of first colourings alone.
+//! First colourings of circuits that grow: a line of the input names a kind of circuit and its
+//! size, which of its ports offer, and how many times the first colouring of its first part is
+//! made. Behind the line stand the rows of its sides. The time of a run, less that of one with
+//! fewer times, is that of first colourings alone.
 #![tactic(auto)]
 
 ghost use Rattle.std.specs.Prelude.{◌≡◌, ◌<◌};

@@ -3,3 +3,8 @@ pub mod Rounds
 pub mod Quiet
 pub mod PartSets
 pub mod Together
+pub mod Turned
+pub mod EndLemmas
+pub mod StandLemmas
+pub mod SupportLemmas
+pub mod WithinLemmas

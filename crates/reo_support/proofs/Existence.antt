@@ -6,11 +6,12 @@ use Rattle.reo_net_base.specs.Sides.{side_count}
 use Rattle.reo_net_base.specs.Wired.{IsWired}
 use Rattle.reo_net_laws.specs.Ends.{IsRowOf}
 use Rattle.reo_net_laws.proofs.Sides.{owner_of, owner_side}
-use Rattle.reo_support.specs.declared.value.JointValue.TheVariants.{Jam}
-use Rattle.reo_support.specs.Values.{giver_side, AtSide}
+use Rattle.reo_joint_values.specs.declared.value.JointValue.TheVariants.{Jam}
+use Rattle.reo_joint_values.specs.Values.{giver_side, AtSide}
 use Rattle.reo_support.specs.Laws.{FullSetsStand}
-use Rattle.reo_support.proofs.Narrowing.{at_cases}
-use Rattle.reo_support.proofs.Rows.{at_inside, stands, value_stands}
+use Rattle.reo_joint_values.proofs.Narrowing.{at_cases}
+use Rattle.reo_joint_values.proofs.Inside.{at_inside}
+use Rattle.reo_support.proofs.Rows.{stands, value_stands}
 
 -- One of the first n joints is at a side, or none.
 some_joint : (net : Net) (side n : ℕ) → ((j : ℕ) × (j < n) × AtSide net j side) ⊎ ((j : ℕ) → j < n → AtSide net j side → ⊥)

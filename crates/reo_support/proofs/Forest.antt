@@ -4,7 +4,8 @@ use Rattle.std.specs.Bool.{◌==◌}
 use Rattle.std.specs.Prelude.{◌||◌}
 use Rattle.std.proofs.lemmas.Bool.{cases_eq, cond-true, cond-false}
 use Rattle.reo_net_laws.proofs.Sides.{below_or}
-use Rattle.reo_support.proofs.Labels.{label, same_eq, eq_same, other_eq, label_joins, label_stays, label_along, label_before}
+use Rattle.reo_joint_values.proofs.Equal.{same_eq, eq_same, other_eq}
+use Rattle.reo_support.proofs.Labels.{label, label_joins, label_stays, label_along, label_before}
 use Rattle.reo_support.proofs.Labels.Before.{one, down, up}
 
 -- A joint comes from a side or goes there.

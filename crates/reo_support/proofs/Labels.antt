@@ -1,28 +1,19 @@
 -- Labels of sides: one for all sides that joints link.
-use Rattle.std.proofs.Common.{◌≡◌, ◌≢◌, inl, inr, ℕ, zero, suc, ◌<◌, ◌≤◌, Bool, true, false, length, refl, ap, sym, ◌∙◌, subst, arith}
+use Rattle.std.proofs.Common.{◌≡◌, inl, inr, ℕ, zero, suc, ◌<◌, ◌≤◌, Bool, length, refl, ap, sym, ◌∙◌, subst, arith}
 use Rattle.std.specs.Bool.{◌==◌}
 use Rattle.std.proofs.lemmas.Bool.{cases_eq}
 use Rattle.std.proofs.lemmas.List.{get_or_default}
-use Rattle.std.proofs.lemmas.Bool.Decides.{nat_tests}
 use Rattle.reo_net_base.specs.Net.{Net}
 use Rattle.reo_net_laws.specs.Parts.{IsLinked}
+use Rattle.reo_joint_values.specs.Values.{giver_side, taker_side, no_joint}
+use Rattle.reo_joint_values.proofs.Equal.{same_eq, eq_same}
 use Rattle.reo_knots.specs.Labels.{renamed}
 use Rattle.reo_knots.proofs.LabelLemmas.{renamed_same, renamed_other}
-use Rattle.reo_support.specs.Values.{giver_side, taker_side, no_joint}
 
 -- The label of a side where the first n joints link: the taker's label becomes the giver's.
 abbrev pub label : (ℕ → ℕ) → (ℕ → ℕ) → ℕ → ℕ → ℕ
 label giver taker zero k = k
 label giver taker (suc n) k = renamed (label giver taker n (taker n)) (label giver taker n (giver n)) (label giver taker n k)
-
-pub same_eq : (a b : ℕ) → a ≡ b → (a == b) ≡ true
-same_eq a b h = grind (arith, nat_tests)
-
-pub eq_same : (a b : ℕ) → (a == b) ≡ true → a ≡ b
-eq_same a b h = grind (arith, nat_tests)
-
-pub other_eq : (a b : ℕ) → a ≢ b → (a == b) ≡ false
-other_eq a b h = grind (arith, nat_tests)
 
 -- Labels that are one after a renaming were one, or were the two.
 pub data Before (from to a b : ℕ) : Type 0 where

@@ -1,9 +1,5 @@
-pub mod Assigning
-pub mod Choosing
 pub mod Existence
-pub mod Fitting
 pub mod Forest
+pub mod Greatest
 pub mod Labels
-pub mod Narrowing
 pub mod Rows
-pub mod Works

@@ -1,28 +1,23 @@
 -- On a knot with one value at each loop joint: each row that works with values of a supported family stands in an assignment.
-use Rattle.std.proofs.Common.{◌≡◌, inl, inr, ℕ, ◌<◌, Bool, true, length, ap, sym, ◌∙◌, subst, arith}
+use Rattle.std.proofs.Common.{◌≡◌, ℕ, ◌<◌, Bool, true, length, ◌∙◌, subst, arith}
 use Rattle.std.proofs.lemmas.List.{get_or_default}
 use Rattle.reo_net_base.specs.declared.joint.Joint.{Joint}
 use Rattle.reo_net_base.specs.Net.{Net, side_at}
 use Rattle.reo_net_base.specs.Wired.{IsWired}
-use Rattle.reo_net_laws.specs.Parts.{IsClosed, IsLinked, IsKnot}
+use Rattle.reo_net_laws.specs.Parts.{IsLinked, IsKnot}
 use Rattle.reo_knots.specs.Knots.{IsLoop}
-use Rattle.reo_support.specs.declared.value.JointValue.{JointValue}
-use Rattle.reo_support.specs.Values.{Names, Choice, Family, no_joint, giver_side, taker_side, AtSide}
-use Rattle.reo_support.specs.Fitting.{Fits, IsFrom}
-use Rattle.reo_support.specs.Supported.{IsSupported}
-use Rattle.reo_support.specs.Chosen.{IsChosen, OneAtLoops}
-use Rattle.reo_support.specs.Works.{RowWorks}
+use Rattle.reo_joint_values.specs.declared.value.JointValue.{JointValue}
+use Rattle.reo_joint_values.specs.Values.{Names, Choice, Family, no_joint, giver_side, taker_side, AtSide}
+use Rattle.reo_joint_values.specs.Fitting.{Fits, IsFrom}
+use Rattle.reo_joint_values.specs.Supported.{IsSupported}
+use Rattle.reo_joint_values.specs.Chosen.{IsChosen}
+use Rattle.reo_support.specs.Sets.{OneAtLoops}
+use Rattle.reo_joint_values.specs.Works.{RowWorks}
 use Rattle.reo_support.proofs.Labels.{label, label_linked, linked_label}
 use Rattle.reo_support.proofs.Forest.{Growth, grown}
-use Rattle.reo_support.proofs.Fitting.{fits_local}
-use Rattle.reo_support.proofs.Works.{works_possible}
-
--- Each side of a joint is inside where one is.
-pub at_inside : (net : Net) (inside : ℕ → Bool) → IsClosed net inside → (j a b : ℕ) → j < length net.joints → AtSide net j a → AtSide net j b → inside a ≡ true → inside b ≡ true
-at_inside net inside closed j a b lt (inl x) (inl y) is = ap inside (sym y ∙ x) ∙ is
-at_inside net inside closed j a b lt (inl x) (inr y) is = ap inside (sym y) ∙ sym (closed.along j no_joint lt) ∙ ap inside x ∙ is
-at_inside net inside closed j a b lt (inr x) (inl y) is = ap inside (sym y) ∙ closed.along j no_joint lt ∙ ap inside x ∙ is
-at_inside net inside closed j a b lt (inr x) (inr y) is = ap inside (sym y ∙ x) ∙ is
+use Rattle.reo_joint_values.proofs.Inside.{at_inside}
+use Rattle.reo_joint_values.proofs.Fitting.{fits_local}
+use Rattle.reo_joint_values.proofs.Works.{works_possible}
 
 -- A joint whose sides the joints before it link closes a loop.
 linked_loop : (net : Net) (j : ℕ) → j < length net.joints → IsLinked net j (giver_side net j) (taker_side net j) → IsLoop net j

@@ -3,11 +3,12 @@ use Rattle.std.specs.Prelude.{ℕ, ◌<◌, ◌≡◌, Bool, true, length}
 use Rattle.reo_net_base.specs.Net.{Net}
 use Rattle.reo_net_base.specs.Wired.{IsWired}
 use Rattle.reo_net_laws.specs.Parts.{IsKnot}
-use Rattle.reo_support.specs.declared.value.JointValue.{JointValue}
-use Rattle.reo_support.specs.Values.{Names, Choice, Family, AtSide}
-use Rattle.reo_support.specs.Supported.{IsSupported}
-use Rattle.reo_support.specs.Chosen.{IsChosen, OneAtLoops, AreFull}
-use Rattle.reo_support.specs.Works.{RowWorks}
+use Rattle.reo_joint_values.specs.declared.value.JointValue.{JointValue}
+use Rattle.reo_joint_values.specs.Values.{Names, Choice, Family, AtSide}
+use Rattle.reo_joint_values.specs.Supported.{IsSupported}
+use Rattle.reo_joint_values.specs.Chosen.{IsChosen}
+use Rattle.reo_support.specs.Sets.{OneAtLoops, AreFull}
+use Rattle.reo_joint_values.specs.Works.{RowWorks}
 
 -- An assignment with this row at this side.
 pub record HasRow (net : Net) (names : Names) (inside : ℕ → Bool) (sets : Family) (side row : ℕ)

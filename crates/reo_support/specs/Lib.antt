@@ -1,8 +1,3 @@
-pub mod Chosen
-pub mod Fitting
+pub mod ForestSupport
 pub mod Laws
-pub mod Supported
-pub mod Ties
-pub mod Uses
-pub mod Values
-pub mod Works
+pub mod Sets

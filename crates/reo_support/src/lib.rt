@@ -1,13 +1,7 @@
-//! Values at joints, and which of them the rows of sides support, as mathematics. Each function is
-//! empty: its contract is a law.
+//! Forest support: where loop joints have one value each, what rows support stands in assignments.
+//! Each function is empty: its contract is a law.
 #![tactic(auto)]
 
 mod laws;
-mod ties;
-mod uses;
-mod value;
 
-pub use laws::{full_sets_stand, rows_stand, values_stand};
-pub use ties::{assignments_are_choices, choices_are_assignments, first_by_values};
-pub use uses::{narrowed_is_greatest, thinning_keeps_use, use_is_by_rows};
-pub use value::JointValue;
+pub use laws::{forest_support, full_sets_stand, rows_stand, values_stand};

@@ -1,17 +1,27 @@
 //! The text of items.
-ghost use Rattle.std.specs.Prelude.{◌≡◌, ◌++◌, OnOk};
+ghost use Rattle.std.specs.Prelude.{◌≡◌, ◌++◌, OnOk, codes};
+ghost use Rattle.std.specs.Fmt.{decimal};
 ghost use Rattle.reo_syntax.specs.ItemText.{channel_head, channel_tail, held_text, form_of_item_text, item_text};
 
-use crate::bytes::append_size;
 use crate::literal::{append_literal, append_literals};
 use crate::spread::append_names;
 use crate::term::append_term;
 use crate::type_term::append_type;
 use reo_trees::{Channel, Form, Item, Literal};
-use reo_values::{Bytes, NoMemory};
+use reo_values::{Bytes, NoMemory, append_number};
 use std::alloc::Global;
 
-fn append_head(alloc: Global, out: &mut Bytes, channel: &Channel) -> Result<(), NoMemory>
+// Adds a word and a number, each with a space behind it.
+fn append_counted(alloc: Global, out: &mut Bytes, word: &[u8], number: u32) -> Result<(), NoMemory>
+    ensures { OnOk result (out.new ≡ out.old ++ (word.now ++ (decimal number ++ codes " "))) }
+{
+    out.append(word)?;
+    append_number(alloc, out, i64::from(number))?;
+    out.append(b" ")
+}
+
+/// Adds what a channel begins with, before its nodes. `NoMemory` means out of memory.
+pub fn append_head(alloc: Global, out: &mut Bytes, channel: &Channel) -> Result<(), NoMemory>
     ensures { OnOk result (out.new ≡ out.old ++ channel_head channel.now) }
 {
     match channel {
@@ -20,13 +30,12 @@ fn append_head(alloc: Global, out: &mut Bytes, channel: &Channel) -> Result<(), 
         Channel::SyncDrain => out.append(b"syncdrain "),
         Channel::AsyncDrain => out.append(b"asyncdrain "),
         Channel::Fifo1(_) => out.append(b"fifo1 "),
-        Channel::Fifo(size, _) => {
-            out.append(b"fifo ")?;
-            append_size(alloc, out, *size)?;
-            out.append(b" ")
-        }
+        Channel::Fifo(size, _) => append_counted(alloc, out, b"fifo ", u32::from(*size)),
         Channel::Filter(_) => out.append(b"filter "),
         Channel::Map(_) => out.append(b"map "),
+        Channel::Shift(size, _) => append_counted(alloc, out, b"shift ", u32::from(*size)),
+        Channel::Variable(_) => out.append(b"variable "),
+        Channel::Quota(number) => append_counted(alloc, out, b"quota ", *number),
     }
 }
 
@@ -40,15 +49,18 @@ fn append_held(alloc: Global, out: &mut Bytes, held: &[Literal]) -> Result<(), N
     append_literals(alloc, out, held)
 }
 
-fn append_tail(alloc: Global, out: &mut Bytes, channel: &Channel) -> Result<(), NoMemory>
+/// Adds what stands behind a channel's nodes. `NoMemory` means out of memory.
+pub fn append_tail(alloc: Global, out: &mut Bytes, channel: &Channel) -> Result<(), NoMemory>
     ensures { OnOk result (out.new ≡ out.old ++ channel_tail channel.now) }
 {
     match channel {
-        Channel::Fifo1(Some(literal)) => {
+        Channel::Fifo1(Some(literal)) | Channel::Variable(Some(literal)) => {
             out.append(b" with ")?;
             append_literal(alloc, out, literal)
         }
-        Channel::Fifo(_, held) => append_held(alloc, out, held.as_slice()),
+        Channel::Fifo(_, held) | Channel::Shift(_, held) => {
+            append_held(alloc, out, held.as_slice())
+        }
         Channel::Filter(term) => {
             out.append(b" when ")?;
             append_term(alloc, out, term)

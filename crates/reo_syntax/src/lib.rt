@@ -10,10 +10,13 @@ mod spread;
 mod term;
 mod type_term;
 
+pub use item::{append_head, append_tail};
 pub use laws::canonical_text_says_the_program;
-pub use program::print;
+pub use program::{append_parameters, print};
 pub use reo_trees::{
     Binary, Channel, Circuits, Connector, Constant, Declaration, Form, Item, Literal, LiteralPair,
     Opened, Parameter, Program, Shape, Term, TermForm, TermPair, TermTriple, TypePair, TypeTerm,
     Unary, one_program,
 };
+pub use spread::append_comma;
+pub use type_term::append_type;

@@ -30,7 +30,8 @@ fn append_parameter(alloc: Global, out: &mut Bytes, parameter: &Parameter) -> Re
     append_type(alloc, out, &parameter.term)
 }
 
-fn append_parameters(
+/// Adds parameters with `, ` between them. `NoMemory` means out of memory.
+pub fn append_parameters(
     alloc: Global,
     out: &mut Bytes,
     parameters: &[Parameter],

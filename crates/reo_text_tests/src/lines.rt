@@ -64,8 +64,8 @@ fn lines_of_both(
     Some((lines_of(whole)?, lines_of(inner)?))
 }
 
-/// A text, whether the inner difference is the left one, and the lines of both. The expression with a
-/// grouping begins at the parenthesis, and the grouped one inside.
+/// A text, whether the inner difference is the left one, and the lines of both. The expression with
+/// a grouping begins at the parenthesis, and the grouped one inside.
 const GROUPED: &[(&str, bool, ((u32, u32, u32), (u32, u32, u32)))] = &[
     (
         "connector m() { map a b to\n1 - (\n2 - 3); }",

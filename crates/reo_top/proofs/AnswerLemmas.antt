@@ -1,21 +1,21 @@
 -- From what was read and written to what the command has come to.
 use Rattle.std.proofs.Common.{◌≡◌, ◌∙◌, ◌⊎◌, inl, inr, ℕ, false, List, sym, subst, ap, refl, arith}
 use Rattle.std.specs.Prelude.{◌≢◌, Err}
-use Rattle.reo_top_inputs.specs.declared.role.Role.{Role}
-use Rattle.reo_top_inputs.specs.declared.stop.Stop.{Stop}
-use Rattle.reo_top_inputs.specs.declared.stop.Stop.TheVariants.{Missed, TooLong, Refused, NoMemory}
+use Rattle.reo_command.specs.declared.role.Role.{Role}
+use Rattle.reo_command.specs.declared.stop.Stop.{Stop}
+use Rattle.reo_command.specs.declared.stop.Stop.TheVariants.{Missed, TooLong, Refused, NoMemory}
 use Rattle.reo_top.specs.Answers.{Blames, IsAnswered}
 use Rattle.reo_top.specs.Cases.{Cases, IsExact}
-use Rattle.reo_top_inputs.specs.Fetched.{Content, has_gone, AreFetched}
+use Rattle.reo_command.specs.Fetched.{Content, has_gone, AreFetched}
 use Rattle.reo_top.specs.Outputs.{Outputs, IsLine}
 use Rattle.reo_top.specs.Owed.{owed_by}
-use Rattle.reo_top_inputs.specs.Readings.{IsReadAs}
-use Rattle.reo_top_inputs.specs.States.{SinkState, FilesState, Change}
-use Rattle.reo_top_inputs.specs.Statuses.{IsAmong}
+use Rattle.reo_command.specs.Readings.{IsReadAs}
+use Rattle.reo_command.specs.States.{SinkState, FilesState, Change}
+use Rattle.reo_command.specs.Statuses.{IsAmong}
 use Rattle.reo_top.specs.Stopped.{IsRefusedAs}
-use Rattle.reo_top_inputs.specs.Stops.{stop_text, stop_status}
+use Rattle.reo_command.specs.Stops.{stop_text, stop_status}
 use Rattle.reo_top.proofs.CaseLemmas.{lifted, no_memory_cases, no_memory_exact, true_is_false}
-use Rattle.reo_top_inputs.proofs.ReadLemmas.{IsReadingAt, is_missed}
+use Rattle.reo_command.proofs.ReadLemmas.{IsReadingAt, is_missed}
 use Rattle.reo_top.proofs.StopLemmas.{stop_cases, stop_exact, stop_only, stop_told}
 
 -- A stop is a fact of the answers, or memory ran out.

@@ -6,7 +6,7 @@ use Rattle.reo_io.proofs.Taken.{Appended-none}
 use Rattle.reo_io.proofs.Counts.{Rose-since}
 use Rattle.reo_top.specs.Cases.{Adds, AreFirstLines, Cases, IsExact, IsWritten, Refuses, SaysNoMemory, EndsWithNoMemory}
 use Rattle.reo_top.specs.Outputs.{Outputs, IsLine}
-use Rattle.reo_top_inputs.specs.States.{SinkState, Change}
+use Rattle.reo_command.specs.States.{SinkState, Change}
 
 pub true_is_false : (b : Bool) → b ≡ true → b ≡ false → ⊥
 true_is_false b is_true is_false = cc

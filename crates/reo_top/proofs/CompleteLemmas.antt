@@ -5,20 +5,20 @@ use Rattle.std.specs.Prelude.{◌≢◌, Option, Some, None, IfSome}
 use Rattle.reo_io.specs.Fetches.{Folder}
 use Rattle.reo_trace.specs.declared.line.Ending.{Ending}
 use Rattle.reo_trace.specs.declared.line.Ending.TheVariants.{Done, Stuck, Limit, Spent, Wide}
-use Rattle.reo_top_inputs.specs.declared.command.Command.TheVariants.{Run}
+use Rattle.reo_command.specs.declared.command.Command.TheVariants.{Run}
 use Rattle.reo_top.specs.Answers.{IsAnswered, Answered}
 use Rattle.reo_top.specs.Cases.{IsFailure, IsFair}
-use Rattle.reo_top_inputs.specs.Commands.{command_of, is_free, roles_of}
+use Rattle.reo_command.specs.Commands.{command_of, is_free, roles_of}
 use Rattle.reo_top.specs.Complete.{NothingFailed, IsWhole, Complete, ending_statuses}
-use Rattle.reo_top_inputs.specs.Fetched.{Content, has_gone, missed, AreFetched}
+use Rattle.reo_command.specs.Fetched.{Content, has_gone, missed, AreFetched}
 use Rattle.reo_top.specs.Headline.{Accepted, IsTraced, Headline}
-use Rattle.reo_top_inputs.specs.Limits.{limits_of}
+use Rattle.reo_command.specs.Limits.{limits_of}
 use Rattle.reo_top.specs.Owed.{owed_of}
-use Rattle.reo_top_inputs.specs.Readings.{Runnable}
-use Rattle.reo_top_inputs.specs.States.{SinkState, FilesState, Change}
-use Rattle.reo_top_inputs.specs.Statuses.{IsAmong}
+use Rattle.reo_command.specs.Readings.{Runnable}
+use Rattle.reo_command.specs.States.{SinkState, FilesState, Change}
+use Rattle.reo_command.specs.Statuses.{IsAmong}
 use Rattle.reo_top.specs.Traces.{ending_status}
-use Rattle.reo_top_inputs.proofs.FetchLemmas.{is_noted}
+use Rattle.reo_command.proofs.FetchLemmas.{is_noted}
 use Rattle.reo_top.proofs.TopLemmas.{answered_with, told_always}
 
 same_rest : {A : Type 0} (x : A) (xs ys : List A) → x ∷ xs ≡ x ∷ ys → xs ≡ ys

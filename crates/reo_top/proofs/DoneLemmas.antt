@@ -1,7 +1,7 @@
 -- The statuses of a line that a command writes when its work is done.
 use Rattle.std.proofs.Common.{ℕ, List, subst, sym, arith}
 use Rattle.std.specs.Prelude.{◌≢◌}
-use Rattle.reo_top_inputs.specs.Statuses.{IsAmong, done}
+use Rattle.reo_command.specs.Statuses.{IsAmong, done}
 use Rattle.reo_top.specs.Outputs.{IsLine}
 
 pub done_status : (statuses : List ℕ) → IsAmong statuses done → (line bytes : List ℕ) (status : ℕ) → IsLine line done bytes status → IsAmong statuses status

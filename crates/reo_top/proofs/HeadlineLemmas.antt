@@ -9,32 +9,32 @@ use Rattle.reo_net_circuit.proofs.WireLemmas.{wired_is}
 use Rattle.reo_io.specs.Fetches.{Folder, file_of}
 use Rattle.reo_kinds.specs.Kinds.{behaviour_of}
 use Rattle.reo_kinds.specs.KindLaws.{kind_lawful}
-use Rattle.reo_flatten_base.specs.Flat.{primitives_of, net_of_program}
+use Rattle.reo_flat.specs.Flat.{primitives_of, net_of_program}
 use Rattle.reo_flatten_laws.specs.Circuits.{CircuitsAreMade}
 use Rattle.reo_flatten_laws.specs.FromTexts.{NamesArePlain}
 use Rattle.reo_runner.specs.declared.outcome.Limits.{Limits}
-use Rattle.reo_runner_ports.specs.Kinds.{kind_rules}
+use Rattle.reo_at_ports.specs.Kinds.{kind_rules}
 use Rattle.reo_runs.specs.Justified.{RunsAreJustified}
-use Rattle.reo_top_inputs.specs.declared.command.Command.TheVariants.{Run}
-use Rattle.reo_top_inputs.specs.declared.role.Role.{Role}
-use Rattle.reo_top_inputs.specs.declared.role.Role.TheVariants.{Circuit, Script}
-use Rattle.reo_top_inputs.specs.declared.stop.Stop.{Stop}
-use Rattle.reo_top_inputs.specs.declared.stop.Stop.TheVariants.{Missed}
+use Rattle.reo_command.specs.declared.command.Command.TheVariants.{Run}
+use Rattle.reo_command.specs.declared.role.Role.{Role}
+use Rattle.reo_command.specs.declared.role.Role.TheVariants.{Circuit, Script}
+use Rattle.reo_command.specs.declared.stop.Stop.{Stop}
+use Rattle.reo_command.specs.declared.stop.Stop.TheVariants.{Missed}
 use Rattle.reo_top.specs.Answers.{IsAnswered, Answered}
 use Rattle.reo_top.specs.Cases.{Cases, IsFailure}
-use Rattle.reo_top_inputs.specs.Commands.{command_of, is_free, roles_of}
-use Rattle.reo_top_inputs.specs.Fetched.{Content, gone, long, text, unknown, content_of, AreTold}
+use Rattle.reo_command.specs.Commands.{command_of, is_free, roles_of}
+use Rattle.reo_command.specs.Fetched.{Content, gone, long, text, unknown, content_of, AreTold}
 use Rattle.reo_top.specs.Headline.{Accepted, IsTraced, Headline}
-use Rattle.reo_top_inputs.specs.Limits.{limits_of}
+use Rattle.reo_command.specs.Limits.{limits_of}
 use Rattle.reo_top.specs.Owed.{owed_by, owed_of, TracesRun}
-use Rattle.reo_top_inputs.specs.Readings.{FlatCircuit, Runnable, IsCircuitText, CircuitStops, ReadsRun, StopsRun}
-use Rattle.reo_top_inputs.specs.Roles.{most_bytes}
-use Rattle.reo_top_inputs.specs.States.{SinkState, FilesState, Change}
-use Rattle.reo_top_inputs.specs.Stops.{stop_status}
-use Rattle.reo_top_inputs.proofs.FlatLemmas.{circuit_apart}
+use Rattle.reo_command.specs.Readings.{FlatCircuit, Runnable, IsCircuitText, CircuitStops, ReadsRun, StopsRun}
+use Rattle.reo_command.specs.Roles.{most_bytes}
+use Rattle.reo_command.specs.States.{SinkState, FilesState, Change}
+use Rattle.reo_command.specs.Stops.{stop_status}
+use Rattle.reo_command.proofs.FlatLemmas.{circuit_apart}
 use Rattle.reo_top.proofs.RunLemmas.{start_for}
 use Rattle.reo_top.proofs.TopLemmas.{answered_with, told_always}
-use Rattle.reo_top_inputs.proofs.WorkLemmas.{run_reading}
+use Rattle.reo_command.proofs.WorkLemmas.{run_reading}
 
 -- A circuit that is accepted is put together well.
 wired : CircuitsAreMade → NamesArePlain → (circuit : List ℕ) (flat : FlatCircuit) → length circuit ≤ 1048576 → IsCircuitText circuit flat → IsWired (net_of behaviour_of flat.wiring)

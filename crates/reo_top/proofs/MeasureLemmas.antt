@@ -5,27 +5,27 @@ use Rattle.std.specs.Prelude.{◌≢◌, Option, Some, None}
 use Rattle.reo_trace.specs.declared.line.RoundLine.{RoundLine}
 use Rattle.reo_trace.specs.declared.line.Ending.{Ending}
 use Rattle.reo_trace.specs.declared.line.Ending.TheVariants.{Done, Stuck, Limit, Spent, Wide}
-use Rattle.reo_engine_base.specs.Rules.{Rules}
+use Rattle.reo_rounds.specs.Rules.{Rules}
 use Rattle.reo_runner.specs.declared.outcome.Limits.{Limits}
 use Rattle.reo_runner.specs.declared.outcome.End2.{End2}
 use Rattle.reo_runner.specs.declared.outcome.End2.TheVariants as ends
 use Rattle.reo_runner.specs.declared.outcome.Outcome.{Outcome}
 use Rattle.reo_runner.specs.Outcome.{CameTo, Wrote}
-use Rattle.reo_runner_ports.specs.Kinds.{kind_rules}
+use Rattle.reo_at_ports.specs.Kinds.{kind_rules}
 use Rattle.reo_runs.specs.Run.{Place, Leads, IsRun, firsts, place_after}
 use Rattle.reo_runs.specs.Whole.{HasOneRun}
 use Rattle.reo_runs.specs.Written.{moved, is_in, is_out}
-use Rattle.reo_top_inputs.specs.declared.command.Command.TheVariants.{Bench}
+use Rattle.reo_command.specs.declared.command.Command.TheVariants.{Bench}
 use Rattle.reo_gen.specs.Circuits.{circuit_text}
 use Rattle.reo_gen.specs.Scripts.{script_text}
-use Rattle.reo_top_inputs.specs.Fetched.{text}
-use Rattle.reo_top_inputs.specs.Limits.{usual_limits, firsts_for}
-use Rattle.reo_top_inputs.specs.Made.{ReadsMade}
-use Rattle.reo_top_inputs.specs.Readings.{Runnable}
-use Rattle.reo_top_inputs.specs.States.{SinkState, Change}
-use Rattle.reo_top_inputs.specs.Statuses.{IsAmong, statuses_of}
-use Rattle.reo_top_inputs.proofs.WorkLemmas.{run_reading}
-use Rattle.reo_top_inputs.proofs.ResultLemmas.{some_is, none_is_some}
+use Rattle.reo_command.specs.Fetched.{text}
+use Rattle.reo_command.specs.Limits.{usual_limits, firsts_for}
+use Rattle.reo_command.specs.Made.{ReadsMade}
+use Rattle.reo_command.specs.Readings.{Runnable}
+use Rattle.reo_command.specs.States.{SinkState, Change}
+use Rattle.reo_command.specs.Statuses.{IsAmong, statuses_of}
+use Rattle.reo_command.proofs.WorkLemmas.{run_reading}
+use Rattle.reo_command.proofs.ResultLemmas.{some_is, none_is_some}
 use Rattle.reo_top.specs.Cases.{Cases, IsExact, IsFair, Refuses}
 use Rattle.reo_top.specs.Measures.{measure_line, measure_status, MeasuresRun, MeasuresMade, ending_for}
 use Rattle.reo_top.specs.Outputs.{IsLine}

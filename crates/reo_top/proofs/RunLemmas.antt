@@ -16,18 +16,18 @@ use Rattle.reo_kinds.specs.declared.kind.Kind.{Kind}
 use Rattle.reo_runner.specs.declared.outcome.Limits.{Limits}
 use Rattle.reo_runner.specs.declared.outcome.End2.{End2}
 use Rattle.reo_runner.specs.declared.outcome.Outcome.{Outcome}
-use Rattle.reo_runner_ports.specs.Kinds.{kind_rules}
+use Rattle.reo_at_ports.specs.Kinds.{kind_rules}
 use Rattle.reo_runner.specs.Outcome.{CameTo, Wrote}
 use Rattle.reo_runs.specs.Run.{Place, IsRun, start_of}
 use Rattle.reo_runs.specs.Whole.{HasOneRun}
 use Rattle.reo_runs.specs.Written.{Ran, Cut, Kept}
-use Rattle.reo_top_inputs.specs.declared.command.Command.TheVariants.{Run}
+use Rattle.reo_command.specs.declared.command.Command.TheVariants.{Run}
 use Rattle.reo_top.specs.Cases.{AreFirstLines, Cases, IsExact, IsFair, EndsWithNoMemory}
-use Rattle.reo_top_inputs.specs.Limits.{firsts_for}
+use Rattle.reo_command.specs.Limits.{firsts_for}
 use Rattle.reo_top.specs.Owed.{TracesRun}
-use Rattle.reo_top_inputs.specs.Readings.{Runnable}
-use Rattle.reo_top_inputs.specs.States.{SinkState, Change}
-use Rattle.reo_top_inputs.specs.Statuses.{IsAmong, statuses_of}
+use Rattle.reo_command.specs.Readings.{Runnable}
+use Rattle.reo_command.specs.States.{SinkState, Change}
+use Rattle.reo_command.specs.Statuses.{IsAmong, statuses_of}
 use Rattle.reo_top.specs.Traces.{ending_status}
 use Rattle.reo_top.proofs.CaseLemmas.{lines_cases}
 use Rattle.reo_top.proofs.LineLemmas.{rounds_end, Ends}

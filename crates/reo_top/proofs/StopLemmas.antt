@@ -1,17 +1,17 @@
 -- What was written for what stopped a command, and for what it made.
 use Rattle.std.proofs.Common.{◌≡◌, ◌⊎◌, inl, inr, refl, ℕ, true, false, List, arith}
 use Rattle.std.specs.Prelude.{◌≢◌}
-use Rattle.reo_top_inputs.specs.declared.role.Role.{Role}
-use Rattle.reo_top_inputs.specs.declared.role.Role.TheVariants.{Circuit, Script, Trace}
-use Rattle.reo_top_inputs.specs.declared.stop.Stop.{Stop}
-use Rattle.reo_top_inputs.specs.declared.stop.Stop.TheVariants.{Missed, TooLong, Refused, NoMemory}
+use Rattle.reo_command.specs.declared.role.Role.{Role}
+use Rattle.reo_command.specs.declared.role.Role.TheVariants.{Circuit, Script, Trace}
+use Rattle.reo_command.specs.declared.stop.Stop.{Stop}
+use Rattle.reo_command.specs.declared.stop.Stop.TheVariants.{Missed, TooLong, Refused, NoMemory}
 use Rattle.reo_top.specs.Cases.{Cases, IsExact}
 use Rattle.reo_top.specs.Outputs.{Outputs, IsLine}
-use Rattle.reo_top_inputs.specs.Roles.{refused_status}
-use Rattle.reo_top_inputs.specs.States.{SinkState, Change}
+use Rattle.reo_command.specs.Roles.{refused_status}
+use Rattle.reo_command.specs.States.{SinkState, Change}
 use Rattle.reo_top.specs.Stopped.{IsRefusedAs}
-use Rattle.reo_top_inputs.specs.Stops.{stop_text, stop_status}
-use Rattle.reo_top_inputs.proofs.ReadLemmas.{is_missed}
+use Rattle.reo_command.specs.Stops.{stop_text, stop_status}
+use Rattle.reo_command.proofs.ReadLemmas.{is_missed}
 use Rattle.reo_top.proofs.CaseLemmas.{line_cases, no_memory_cases, no_memory_exact, line_written, line_code, line_not_three, true_is_false}
 
 -- The line of the stop is owed.

@@ -2,21 +2,21 @@
 use Rattle.std.proofs.Common.{◌≡◌, inl, inr, ℕ, false, List, [], ◌∷◌, sym, subst, refl, arith}
 use Rattle.std.specs.Prelude.{◌≢◌, Option, Some, None, IfSome, codes}
 use Rattle.reo_runner.specs.declared.outcome.Limits.{Limits}
-use Rattle.reo_top_inputs.specs.declared.command.Command.{Command}
-use Rattle.reo_top_inputs.specs.declared.command.Command.TheVariants.{Run, Bench}
+use Rattle.reo_command.specs.declared.command.Command.{Command}
+use Rattle.reo_command.specs.declared.command.Command.TheVariants.{Run, Bench}
 use Rattle.reo_top.specs.Answers.{IsAnswered, Answered, roles_for, names_for, free_for}
 use Rattle.reo_top.specs.Cases.{Cases, IsExact, Refuses}
-use Rattle.reo_top_inputs.specs.Amounts.{size_of}
+use Rattle.reo_command.specs.Amounts.{size_of}
 use Rattle.reo_top.specs.Measures.{MeasuresMade}
-use Rattle.reo_top_inputs.specs.Commands.{command_of, names_of, is_free, roles_of}
-use Rattle.reo_top_inputs.specs.Fetched.{Content}
+use Rattle.reo_command.specs.Commands.{command_of, names_of, is_free, roles_of}
+use Rattle.reo_command.specs.Fetched.{Content}
 use Rattle.reo_top.specs.Outputs.{Outputs, IsLine}
-use Rattle.reo_top_inputs.specs.Limits.{limits_of}
+use Rattle.reo_command.specs.Limits.{limits_of}
 use Rattle.reo_top.specs.Owed.{owed_of, owed_for, owed_by, TracesRun}
-use Rattle.reo_top_inputs.specs.Readings.{ReadsRun, StopsRun}
-use Rattle.reo_top_inputs.specs.States.{SinkState, FilesState, Change}
-use Rattle.reo_top_inputs.specs.Statuses.{IsAmong, statuses_of, statuses_for}
-use Rattle.reo_top_inputs.proofs.FetchLemmas.{none_fetched}
+use Rattle.reo_command.specs.Readings.{ReadsRun, StopsRun}
+use Rattle.reo_command.specs.States.{SinkState, FilesState, Change}
+use Rattle.reo_command.specs.Statuses.{IsAmong, statuses_of, statuses_for}
+use Rattle.reo_command.proofs.FetchLemmas.{none_fetched}
 use Rattle.reo_top.proofs.CaseLemmas.{line_cases, line_written, line_code, line_not_three, true_is_false}
 
 pub told_always : {X : Type 0} (o : Option X) (B : X → Type 0) → ((x : X) → B x) → IfSome o B

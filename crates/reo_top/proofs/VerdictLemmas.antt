@@ -2,17 +2,17 @@
 use Rattle.std.proofs.Common.{◌≡◌, ◌∙◌, ◌⊎◌, inl, inr, ℕ, List, refl, ap, subst, sym, arith}
 use Rattle.std.specs.Prelude.{◌≢◌}
 use Rattle.reo_runs.specs.Run.{start_of}
-use Rattle.reo_runner_ports.specs.Kinds.{kind_rules}
+use Rattle.reo_at_ports.specs.Kinds.{kind_rules}
 use Rattle.reo_verdicts.specs.declared.verdict.Verdict.{Verdict}
 use Rattle.reo_verdicts.specs.declared.verdict.Verdict.TheVariants.{Verified, Refused}
 use Rattle.reo_verdicts.specs.Verdicts.{IsVerdict}
-use Rattle.reo_top_inputs.specs.declared.command.Command.TheVariants.{Verify}
+use Rattle.reo_command.specs.declared.command.Command.TheVariants.{Verify}
 use Rattle.reo_top.specs.Cases.{Cases, IsExact, IsFair, Refuses}
-use Rattle.reo_top_inputs.specs.Claims.{Claimed}
+use Rattle.reo_command.specs.Claims.{Claimed}
 use Rattle.reo_top.specs.Outputs.{IsLine}
 use Rattle.reo_top.specs.Owed.{JudgesTrace}
-use Rattle.reo_top_inputs.specs.States.{SinkState, Change}
-use Rattle.reo_top_inputs.specs.Statuses.{IsAmong, statuses_of}
+use Rattle.reo_command.specs.States.{SinkState, Change}
+use Rattle.reo_command.specs.Statuses.{IsAmong, statuses_of}
 use Rattle.reo_top.specs.VerdictTexts.{verdict_line, verdict_status}
 use Rattle.reo_top.proofs.CaseLemmas.{line_cases, line_written}
 

@@ -1,14 +1,14 @@
 -- What the top call has come to.
 use Rattle.std.specs.Prelude.{ℕ, ◌≡◌, ◌⊎◌, Bool, true, false, List, [], Option, Some, None}
-use Rattle.reo_top_inputs.specs.declared.command.Command.{Command}
-use Rattle.reo_top_inputs.specs.declared.role.Role.{Role}
-use Rattle.reo_top.specs.Cases.{Cases, IsExactFor, IsFair}
-use Rattle.reo_top_inputs.specs.Commands.{command_of, roles_of, is_free, names_of}
-use Rattle.reo_top_inputs.specs.Fetched.{Content, has_gone, AreFetched}
+use Rattle.reo_command.specs.declared.command.Command.{Command}
+use Rattle.reo_command.specs.declared.role.Role.{Role}
+use Rattle.reo_top.specs.Cases.{Cases, IsExactFor, IsFair, TellsFaults}
+use Rattle.reo_command.specs.Commands.{command_of, roles_of, is_free, names_of}
+use Rattle.reo_command.specs.Fetched.{Content, has_gone, AreFetched}
 use Rattle.reo_top.specs.Outputs.{Outputs}
 use Rattle.reo_top.specs.Owed.{owed_for}
-use Rattle.reo_top_inputs.specs.States.{SinkState, FilesState, Change}
-use Rattle.reo_top_inputs.specs.Statuses.{IsAmong, statuses_for, read_fault, write_fault}
+use Rattle.reo_command.specs.States.{SinkState, FilesState, Change}
+use Rattle.reo_command.specs.Statuses.{IsAmong, statuses_for, read_fault, write_fault}
 
 -- A file cannot be had exactly where the status says so, or the sink failed on the line that does.
 pub record Blames (answers : List Content) (code : ℕ) : Type 0 where
@@ -46,6 +46,7 @@ Answered words files sink code = IsAnswered (free_for (command_of words)) (owed_
 pub record IsHonest (words : List (List ℕ)) (sink : Change SinkState) (code : ℕ) : Type 0 where
   pub status : IsAmong (statuses_for (command_of words)) code
   pub fair : IsFair sink code
+  pub tells : TellsFaults sink code
 
 -- The files tell what they told, and the source is as it was.
 pub record KeepsInputs {R : Type 0} (files : Change FilesState) (before after : R) : Type 0 where

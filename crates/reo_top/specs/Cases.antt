@@ -1,10 +1,10 @@
 -- What a command has written, and its status.
-use Rattle.std.specs.Prelude.{ℕ, ◌≡◌, ◌⊎◌, ◌++◌, ◌≤◌, Bool, true, false, List, [], Option, codes}
+use Rattle.std.specs.Prelude.{ℕ, ◌≡◌, ◌⊎◌, ◌++◌, ◌<◌, ◌≤◌, Bool, true, false, List, [], Option, codes}
 use Rattle.reo_io.specs.Causes.{Rose}
 use Rattle.reo_io.specs.Sinks.{Appended, TookPart}
 use Rattle.reo_top.specs.Outputs.{Outputs}
-use Rattle.reo_top_inputs.specs.States.{SinkState, Change}
-use Rattle.reo_top_inputs.specs.Statuses.{read_fault, write_fault, out_of_memory}
+use Rattle.reo_command.specs.States.{SinkState, Change}
+use Rattle.reo_command.specs.Statuses.{read_fault, write_fault, out_of_memory}
 
 -- These bytes came at the end of what the sink tells.
 abbrev pub Adds : Change SinkState → List ℕ → Type 0
@@ -85,3 +85,7 @@ pub record IsFair (sink : Change SinkState) (code : ℕ) : Type 0 where
   pub rose : code ≡ write_fault → Rose sink.old.faults sink.new.faults
   pub later : sink.old.faults ≤ sink.new.faults
   pub grew : (bytes : List ℕ) × Adds sink bytes
+
+-- Where the count of faults of the sink has risen, a fault of the sink is answered, or that memory ran out.
+abbrev pub TellsFaults : Change SinkState → ℕ → Type 0
+TellsFaults sink code = sink.old.faults < sink.new.faults → (code ≡ write_fault) ⊎ (code ≡ out_of_memory)

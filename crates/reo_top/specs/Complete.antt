@@ -2,10 +2,10 @@
 use Rattle.std.specs.Prelude.{ℕ, ◌≡◌, ◌⊎◌, List, [], ◌∷◌, IfSome}
 use Rattle.reo_io.specs.Causes.{Rose}
 use Rattle.reo_top.specs.Headline.{Accepted, IsTraced}
-use Rattle.reo_top_inputs.specs.Limits.{limits_of}
-use Rattle.reo_top_inputs.specs.Readings.{Runnable}
-use Rattle.reo_top_inputs.specs.States.{SinkState, FilesState, Change}
-use Rattle.reo_top_inputs.specs.Statuses.{done, stuck, part_over, limit_reached, out_of_memory, IsAmong}
+use Rattle.reo_command.specs.Limits.{limits_of}
+use Rattle.reo_command.specs.Readings.{Runnable}
+use Rattle.reo_command.specs.States.{SinkState, FilesState, Change}
+use Rattle.reo_command.specs.Statuses.{done, stuck, part_over, limit_reached, out_of_memory, IsAmong}
 
 -- No fetch has failed, and the sink has not.
 pub record NothingFailed (files : Change FilesState) (sink : Change SinkState) : Type 0 where

@@ -1,25 +1,25 @@
 -- What a command owes, by what its fetches answered.
 use Rattle.std.specs.Prelude.{ℕ, ◌≡◌, ◌⊎◌, List, [], Option, Some, None, codes}
 use Rattle.reo_runner.specs.declared.outcome.Limits.{Limits}
-use Rattle.reo_runner_ports.specs.Kinds.{kind_rules}
+use Rattle.reo_at_ports.specs.Kinds.{kind_rules}
 use Rattle.reo_runs.specs.Run.{start_of}
 use Rattle.reo_verdicts.specs.declared.verdict.Verdict.{Verdict}
 use Rattle.reo_verdicts.specs.Verdicts.{IsVerdict}
 use Rattle.reo_trees.specs.declared.programs.Program.{Program}
 use Rattle.reo_syntax.specs.Canonical.{canonical_text}
-use Rattle.reo_parts.specs.Parts.{parts_text}
-use Rattle.reo_top_inputs.specs.declared.command.Command.{Command}
-use Rattle.reo_top_inputs.specs.declared.command.Command.TheVariants.{Run, Check, Print, Verify, Bench}
-use Rattle.reo_top_inputs.specs.declared.stop.Stop.{Stop}
-use Rattle.reo_top_inputs.specs.Claims.{Claimed, ReadsClaim, StopsVerify}
-use Rattle.reo_top_inputs.specs.Fetched.{Content}
-use Rattle.reo_top_inputs.specs.Limits.{limits_of, firsts_for}
-use Rattle.reo_top_inputs.specs.Amounts.{size_of}
+use Rattle.reo_inventory.specs.Parts.{parts_text}
+use Rattle.reo_command.specs.declared.command.Command.{Command}
+use Rattle.reo_command.specs.declared.command.Command.TheVariants.{Run, Check, Print, Verify, Bench}
+use Rattle.reo_command.specs.declared.stop.Stop.{Stop}
+use Rattle.reo_command.specs.Claims.{Claimed, ReadsClaim, StopsVerify}
+use Rattle.reo_command.specs.Fetched.{Content}
+use Rattle.reo_command.specs.Limits.{limits_of, firsts_for}
+use Rattle.reo_command.specs.Amounts.{size_of}
 use Rattle.reo_top.specs.Measures.{MeasuresMade}
 use Rattle.reo_top.specs.Outputs.{Outputs, IsLine}
-use Rattle.reo_top_inputs.specs.Readings.{FlatCircuit, Runnable, ReadsProgram, StopsPrint, ReadsCircuit, StopsCheck, ReadsRun, StopsRun}
-use Rattle.reo_top_inputs.specs.Statuses.{done, words_refused}
-use Rattle.reo_top_inputs.specs.Stops.{stop_text, stop_status}
+use Rattle.reo_command.specs.Readings.{FlatCircuit, Runnable, ReadsProgram, StopsPrint, ReadsCircuit, StopsCheck, ReadsRun, StopsRun}
+use Rattle.reo_command.specs.Statuses.{done, words_refused}
+use Rattle.reo_command.specs.Stops.{stop_text, stop_status}
 use Rattle.reo_top.specs.Traces.{IsTraceOf}
 use Rattle.reo_top.specs.VerdictTexts.{verdict_line, verdict_status}
 

@@ -1,10 +1,10 @@
 -- What was written for what stopped a command.
 use Rattle.std.specs.Prelude.{ℕ, ◌⊎◌}
-use Rattle.reo_top_inputs.specs.declared.stop.Stop.{Stop}
-use Rattle.reo_top_inputs.specs.declared.stop.Stop.TheVariants.{Missed, TooLong, Refused, NoMemory}
+use Rattle.reo_command.specs.declared.stop.Stop.{Stop}
+use Rattle.reo_command.specs.declared.stop.Stop.TheVariants.{Missed, TooLong, Refused, NoMemory}
 use Rattle.reo_top.specs.Cases.{Refuses, EndsWithNoMemory}
-use Rattle.reo_top_inputs.specs.States.{SinkState, Change}
-use Rattle.reo_top_inputs.specs.Stops.{stop_text, stop_status}
+use Rattle.reo_command.specs.States.{SinkState, Change}
+use Rattle.reo_command.specs.Stops.{stop_text, stop_status}
 
 -- The line of the stop was written, or the sink failed on it; a refusal may also end out of memory.
 abbrev pub IsRefusedAs : Stop → Change SinkState → ℕ → Type 0

@@ -6,9 +6,9 @@ use Rattle.reo_trace.specs.declared.line.Ending.TheVariants.{Done, Stuck, Limit,
 use Rattle.reo_trace.specs.TraceText.{trace_text}
 use Rattle.reo_runs.specs.Round.{Choosing}
 use Rattle.reo_runs.specs.Run.{IsRun, start_of}
-use Rattle.reo_runner_ports.specs.Kinds.{kind_rules}
-use Rattle.reo_top_inputs.specs.Readings.{Runnable}
-use Rattle.reo_top_inputs.specs.Statuses.{done, stuck, part_over, limit_reached}
+use Rattle.reo_at_ports.specs.Kinds.{kind_rules}
+use Rattle.reo_command.specs.Readings.{Runnable}
+use Rattle.reo_command.specs.Statuses.{done, stuck, part_over, limit_reached}
 
 -- The status of an ending.
 abbrev pub ending_status : Ending → ℕ

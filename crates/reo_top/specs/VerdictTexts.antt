@@ -7,7 +7,7 @@ use Rattle.reo_verdicts.specs.declared.verdict.Refusal.{Refusal}
 use Rattle.reo_verdicts.specs.declared.verdict.Refusal.TheVariants as refusals
 use Rattle.reo_verdicts.specs.declared.verdict.Verdict.{Verdict}
 use Rattle.reo_verdicts.specs.declared.verdict.Verdict.TheVariants as verdicts
-use Rattle.reo_top_inputs.specs.Statuses.{done, trace_refused}
+use Rattle.reo_command.specs.Statuses.{done, trace_refused}
 
 -- What is wrong with the entries of a round; at a joint with the node's name.
 abbrev pub wrong_words : Wrong → List ℕ → List ℕ

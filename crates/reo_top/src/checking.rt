@@ -1,22 +1,22 @@
 //! The parts of a circuit that is fetched and read.
 ghost use Rattle.std.specs.Prelude.{◌≡◌, [], ◌∷◌, length};
-ghost use Rattle.reo_top_inputs.specs.declared.command.Command.TheVariants as commands;
-ghost use Rattle.reo_top_inputs.specs.declared.role.Role.TheVariants as roles;
+ghost use Rattle.reo_command.specs.declared.command.Command.TheVariants as commands;
+ghost use Rattle.reo_command.specs.declared.role.Role.TheVariants as roles;
 ghost use Rattle.reo_top.specs.Answers.{IsAnswered};
-ghost use Rattle.reo_top.specs.Cases.{Cases, IsExact, IsFair};
-ghost use Rattle.reo_top_inputs.specs.Commands.{is_free};
+ghost use Rattle.reo_top.specs.Cases.{Cases, IsExact, IsFair, TellsFaults};
+ghost use Rattle.reo_command.specs.Commands.{is_free};
 ghost use Rattle.reo_top.specs.Owed.{ListsParts, owed_by};
-ghost use Rattle.reo_top_inputs.specs.Readings.{ReadsCircuit, StopsCheck};
-ghost use Rattle.reo_top_inputs.specs.ReadSteps.{circuit_in};
-ghost use Rattle.reo_top_inputs.specs.States.{files_change, sink_change};
-ghost use Rattle.reo_top_inputs.specs.Statuses.{IsAmong, statuses_of};
+ghost use Rattle.reo_command.specs.Readings.{ReadsCircuit, StopsCheck};
+ghost use Rattle.reo_command.specs.ReadSteps.{circuit_in};
+ghost use Rattle.reo_command.specs.States.{files_change, sink_change};
+ghost use Rattle.reo_command.specs.Statuses.{IsAmong, statuses_of};
 
 use crate::answer::{answer, no_memory};
 use crate::refusing::refuse;
+use reo_command::{DONE, Status, read_flat};
 use reo_flatten::Flat;
+use reo_inventory::parts_text;
 use reo_io::{Files, Sink};
-use reo_parts::parts_text;
-use reo_top_inputs::{DONE, Status, read_flat};
 use std::alloc::Global;
 
 /// Writes the parts of a circuit.
@@ -27,6 +27,7 @@ fn write_parts<S: Sink>(alloc: Global, flat: &Flat, out: &mut S) -> Status
     ensures exact { IsExact (ListsParts (circuit_in flat.now))
         (sink_change S.told S.faults out.old out.new) result.code }
     ensures fair { IsFair (sink_change S.told S.faults out.old out.new) result.code }
+    ensures tells { TellsFaults (sink_change S.told S.faults out.old out.new) result.code }
 {
     let homes = flat.homes.as_slice();
     match parts_text(alloc, &flat.circuit, homes, flat.nodes.as_slice()) {
@@ -49,6 +50,7 @@ pub(crate) fn check_circuit<F: Files, S: Sink>(
         (sink_change S.told S.faults out.old out.new) result.code }
     ensures status { IsAmong (statuses_of commands.Check) result.code }
     ensures fair { IsFair (sink_change S.told S.faults out.old out.new) result.code }
+    ensures tells { TellsFaults (sink_change S.told S.faults out.old out.new) result.code }
 {
     match read_flat(alloc, name, files) {
         Ok(flat) => write_parts(alloc, &flat, out),

@@ -12,6 +12,6 @@ mod top;
 mod verdict;
 mod verifying;
 
-pub use reo_top_inputs::{Command, Setting, Status, command_of};
+pub use reo_command::{Command, Setting, Status, command_of};
 pub use reo_verify::{Refusal, Verdict, verify_trace};
 pub use top::reo;

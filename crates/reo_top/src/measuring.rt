@@ -2,24 +2,24 @@
 ghost use Rattle.std.specs.Prelude.{◌≡◌, ◌++◌, ◌≤◌, ◌<◌, ◌^◌, IfOk, OnOk, None, map};
 ghost use Rattle.reo_kinds.specs.Kinds.{port_state_of};
 ghost use Rattle.reo_runner.specs.Outcome.{CameTo};
-ghost use Rattle.reo_runner_ports.specs.Kinds.{kind_rules};
-ghost use Rattle.reo_runner_ports.specs.Runnable.{CanRun};
+ghost use Rattle.reo_at_ports.specs.Kinds.{kind_rules};
+ghost use Rattle.reo_at_ports.specs.Runnable.{CanRun};
 ghost use Rattle.reo_runs.specs.Run.{start_of};
-ghost use Rattle.reo_top_inputs.specs.declared.command.Command.TheVariants as commands;
-ghost use Rattle.reo_top_inputs.specs.Limits.{usual_limits};
-ghost use Rattle.reo_top_inputs.specs.ReadSteps.{runnable_in};
-ghost use Rattle.reo_top_inputs.specs.States.{sink_change};
-ghost use Rattle.reo_top_inputs.specs.Statuses.{IsAmong, statuses_of};
-ghost use Rattle.reo_top.specs.Cases.{Cases, IsExact, IsFair};
+ghost use Rattle.reo_command.specs.declared.command.Command.TheVariants as commands;
+ghost use Rattle.reo_command.specs.Limits.{usual_limits};
+ghost use Rattle.reo_command.specs.ReadSteps.{runnable_in};
+ghost use Rattle.reo_command.specs.States.{sink_change};
+ghost use Rattle.reo_command.specs.Statuses.{IsAmong, statuses_of};
+ghost use Rattle.reo_top.specs.Cases.{Cases, IsExact, IsFair, TellsFaults};
 ghost use Rattle.reo_top.specs.Measures.{measure_text, measure_line, measure_status, MeasuresRun, MeasuresMade, ending_for};
 
 use crate::answer::{answer, no_memory};
 use crate::append::append_numbered;
+use reo_command::{DONE, PART_OVER, Status, Work, make_run, usual_limits};
 use reo_io::{NullSink, Sink};
 use reo_kinds::Kind;
 use reo_runner::{End2, Limits, Outcome, run};
 use reo_runs::{known_order, one_trace};
-use reo_top_inputs::{DONE, PART_OVER, Status, Work, make_run, usual_limits};
 use reo_trace::{Ending, ending_line_text};
 use reo_values::{Bytes, NoMemory};
 use std::alloc::Global;
@@ -142,6 +142,7 @@ fn write_measure<S: Sink>(alloc: Global, size: u32, work: Work, out: &mut S) -> 
     ensures exact { IsExact (MeasuresRun size usual_limits (runnable_in work.flat work.script))
         (sink_change S.told S.faults out.old out.new) result.code }
     ensures fair { IsFair (sink_change S.told S.faults out.old out.new) result.code }
+    ensures tells { TellsFaults (sink_change S.told S.faults out.old out.new) result.code }
 {
     known_order(&work.flat.circuit);
     one_trace::<Kind>();
@@ -168,6 +169,7 @@ pub(crate) fn measure_work<S: Sink>(alloc: Global, size: u32, out: &mut S) -> St
         (sink_change S.told S.faults out.old out.new) result.code }
     ensures status { IsAmong (statuses_of commands.Bench) result.code }
     ensures fair { IsFair (sink_change S.told S.faults out.old out.new) result.code }
+    ensures tells { TellsFaults (sink_change S.told S.faults out.old out.new) result.code }
 {
     match make_run(alloc, size) {
         Ok(work) => write_measure(alloc, size, work, out),

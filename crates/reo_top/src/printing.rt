@@ -1,20 +1,20 @@
 //! The canonical text of a circuit that is fetched and read.
 ghost use Rattle.std.specs.Prelude.{[], ◌∷◌};
-ghost use Rattle.reo_top_inputs.specs.declared.command.Command.TheVariants as commands;
-ghost use Rattle.reo_top_inputs.specs.declared.role.Role.TheVariants as roles;
+ghost use Rattle.reo_command.specs.declared.command.Command.TheVariants as commands;
+ghost use Rattle.reo_command.specs.declared.role.Role.TheVariants as roles;
 ghost use Rattle.reo_top.specs.Answers.{IsAnswered};
-ghost use Rattle.reo_top.specs.Cases.{Cases, IsExact, IsFair};
-ghost use Rattle.reo_top_inputs.specs.Commands.{is_free};
+ghost use Rattle.reo_top.specs.Cases.{Cases, IsExact, IsFair, TellsFaults};
+ghost use Rattle.reo_command.specs.Commands.{is_free};
 ghost use Rattle.reo_top.specs.Owed.{PrintsProgram, owed_by};
-ghost use Rattle.reo_top_inputs.specs.Readings.{ReadsProgram, StopsPrint};
-ghost use Rattle.reo_top_inputs.specs.States.{files_change, sink_change};
-ghost use Rattle.reo_top_inputs.specs.Statuses.{IsAmong, statuses_of};
+ghost use Rattle.reo_command.specs.Readings.{ReadsProgram, StopsPrint};
+ghost use Rattle.reo_command.specs.States.{files_change, sink_change};
+ghost use Rattle.reo_command.specs.Statuses.{IsAmong, statuses_of};
 
 use crate::answer::{answer, no_memory};
 use crate::refusing::refuse;
+use reo_command::{DONE, Status, read_program};
 use reo_io::{Files, Sink};
 use reo_syntax::print;
-use reo_top_inputs::{DONE, Status, read_program};
 use reo_trees::Program;
 use std::alloc::Global;
 
@@ -25,6 +25,7 @@ fn write_text<S: Sink>(alloc: Global, program: &Program, out: &mut S) -> Status
     ensures exact { IsExact (PrintsProgram program.now)
         (sink_change S.told S.faults out.old out.new) result.code }
     ensures fair { IsFair (sink_change S.told S.faults out.old out.new) result.code }
+    ensures tells { TellsFaults (sink_change S.told S.faults out.old out.new) result.code }
 {
     match print(alloc, program) {
         Ok(text) => answer(text.as_slice(), DONE, out),
@@ -46,6 +47,7 @@ pub(crate) fn print_circuit<F: Files, S: Sink>(
         (sink_change S.told S.faults out.old out.new) result.code }
     ensures status { IsAmong (statuses_of commands.Print) result.code }
     ensures fair { IsFair (sink_change S.told S.faults out.old out.new) result.code }
+    ensures tells { TellsFaults (sink_change S.told S.faults out.old out.new) result.code }
 {
     match read_program(alloc, name, files) {
         Ok(program) => write_text(alloc, &program, out),

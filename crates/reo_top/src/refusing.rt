@@ -1,14 +1,14 @@
 //! The line of what stops a command before its own work.
 ghost use Rattle.std.specs.Prelude.{◌≡◌, IfOk};
-ghost use Rattle.reo_top.specs.Cases.{IsFair};
-ghost use Rattle.reo_top_inputs.specs.States.{sink_change};
+ghost use Rattle.reo_top.specs.Cases.{IsFair, TellsFaults};
+ghost use Rattle.reo_command.specs.States.{sink_change};
 ghost use Rattle.reo_top.specs.Stopped.{IsRefusedAs};
-ghost use Rattle.reo_top_inputs.specs.Stops.{stop_text};
-ghost use Rattle.reo_top_inputs.specs.declared.stop.Stop.TheVariants as stops;
+ghost use Rattle.reo_command.specs.Stops.{stop_text};
+ghost use Rattle.reo_command.specs.declared.stop.Stop.TheVariants as stops;
 
 use crate::answer::{answer, no_memory};
+use reo_command::{READ_FAULT, Refusal, Role, Status, Stop, TOO_LONG, append_refusal};
 use reo_io::Sink;
-use reo_top_inputs::{READ_FAULT, Refusal, Role, Status, Stop, TOO_LONG, append_refusal};
 use reo_values::{Bytes, NoMemory};
 use std::alloc::Global;
 
@@ -49,6 +49,7 @@ fn refused_line(alloc: Global, role: Role, refusal: &Refusal) -> Result<Bytes, N
 pub(crate) fn refuse<S: Sink>(alloc: Global, stop: Stop, out: &mut S) -> Status
     ensures refused { IsRefusedAs stop (sink_change S.told S.faults out.old out.new) result.code }
     ensures fair { IsFair (sink_change S.told S.faults out.old out.new) result.code }
+    ensures tells { TellsFaults (sink_change S.told S.faults out.old out.new) result.code }
 {
     match stop {
         Stop::Missed(role) => answer(missed_line(role), READ_FAULT, out),

@@ -1,25 +1,25 @@
 //! A circuit and a script that are fetched and read, and their run.
 ghost use Rattle.std.specs.Prelude.{[], ◌∷◌, ◌≤◌, ◌^◌, map};
 ghost use Rattle.reo_kinds.specs.Kinds.{port_state_of};
-ghost use Rattle.reo_runner_ports.specs.Runnable.{CanRun};
-ghost use Rattle.reo_top_inputs.specs.declared.command.Command.TheVariants as commands;
-ghost use Rattle.reo_top_inputs.specs.declared.role.Role.TheVariants as roles;
+ghost use Rattle.reo_at_ports.specs.Runnable.{CanRun};
+ghost use Rattle.reo_command.specs.declared.command.Command.TheVariants as commands;
+ghost use Rattle.reo_command.specs.declared.role.Role.TheVariants as roles;
 ghost use Rattle.reo_top.specs.Answers.{IsAnswered};
-ghost use Rattle.reo_top.specs.Cases.{Cases, IsExact, IsFair};
-ghost use Rattle.reo_top_inputs.specs.Commands.{is_free};
+ghost use Rattle.reo_top.specs.Cases.{Cases, IsExact, IsFair, TellsFaults};
+ghost use Rattle.reo_command.specs.Commands.{is_free};
 ghost use Rattle.reo_top.specs.Owed.{TracesRun, owed_by};
-ghost use Rattle.reo_top_inputs.specs.Readings.{ReadsRun, StopsRun};
-ghost use Rattle.reo_top_inputs.specs.ReadSteps.{runnable_in};
-ghost use Rattle.reo_top_inputs.specs.States.{files_change, sink_change};
-ghost use Rattle.reo_top_inputs.specs.Statuses.{IsAmong, statuses_of};
+ghost use Rattle.reo_command.specs.Readings.{ReadsRun, StopsRun};
+ghost use Rattle.reo_command.specs.ReadSteps.{runnable_in};
+ghost use Rattle.reo_command.specs.States.{files_change, sink_change};
+ghost use Rattle.reo_command.specs.Statuses.{IsAmong, statuses_of};
 
 use crate::answer::no_memory;
 use crate::refusing::refuse;
+use reo_command::{DONE, LIMIT_REACHED, PART_OVER, STUCK, Status, WRITE_FAULT, Work, read_run};
 use reo_io::{Files, Sink};
 use reo_kinds::Kind;
 use reo_runner::{End2, Limits, run};
 use reo_runs::{known_order, one_trace};
-use reo_top_inputs::{DONE, LIMIT_REACHED, PART_OVER, STUCK, Status, WRITE_FAULT, Work, read_run};
 use std::alloc::Global;
 
 /// Runs a script on a circuit, and writes the trace.
@@ -35,6 +35,7 @@ fn write_trace<S: Sink>(alloc: Global, work: Work, limits: Limits, out: &mut S) 
     ensures exact { IsExact (TracesRun limits (runnable_in work.flat work.script))
         (sink_change S.told S.faults out.old out.new) result.code }
     ensures fair { IsFair (sink_change S.told S.faults out.old out.new) result.code }
+    ensures tells { TellsFaults (sink_change S.told S.faults out.old out.new) result.code }
 {
     let Work { flat, script } = work;
     known_order(&flat.circuit);
@@ -73,6 +74,7 @@ pub(crate) fn run_circuit<F: Files, S: Sink>(
         (sink_change S.told S.faults out.old out.new) result.code }
     ensures status { IsAmong (statuses_of commands.Run) result.code }
     ensures fair { IsFair (sink_change S.told S.faults out.old out.new) result.code }
+    ensures tells { TellsFaults (sink_change S.told S.faults out.old out.new) result.code }
 {
     match read_run(alloc, circuit, script, files) {
         Ok(work) => write_trace(alloc, work, limits, out),

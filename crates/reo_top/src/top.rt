@@ -3,7 +3,7 @@ ghost use Rattle.std.specs.Prelude.{◌≡◌, [], slice_index_or};
 ghost use Rattle.reo_top.specs.Answers.{Answered, IsHonest, KeepsInputs};
 ghost use Rattle.reo_top.specs.Complete.{Complete};
 ghost use Rattle.reo_top.specs.Headline.{Headline};
-ghost use Rattle.reo_top_inputs.specs.States.{files_change, sink_change};
+ghost use Rattle.reo_command.specs.States.{files_change, sink_change};
 
 use crate::answer::answer;
 use crate::checking::check_circuit;
@@ -11,11 +11,11 @@ use crate::measuring::measure_work;
 use crate::printing::print_circuit;
 use crate::running::run_circuit;
 use crate::verifying::verify_claim;
+use reo_command::{Command, Status, WORDS_REFUSED, command_of, limits_of, size_of};
 use reo_flatten_laws::{circuits_are_made, names_are_plain};
 use reo_io::{Files, Sink, Source};
 use reo_kinds::Kind;
 use reo_runs::runs_are_justified;
-use reo_top_inputs::{Command, Status, WORDS_REFUSED, command_of, limits_of, size_of};
 use reo_values::{Bytes, List};
 use std::alloc::Global;
 
@@ -35,7 +35,8 @@ fn word_at(words: &[Bytes], place: usize) -> &[u8]
 /// whose every round is the first colouring, is idle only where no colouring flows, and jams only
 /// what has no three-colouring, up to the ending of the run. Else a fetch failed, the sink failed
 /// or memory ran out, and the status says so. Where nothing failed, the whole trace was written,
-/// with the status of its ending, or memory ran out.
+/// with the status of its ending, or memory ran out. Where the sink's count of faults rose, the
+/// status is that of a failed sink, or that of memory that ran out.
 pub fn reo<F: Files, R: Source, S: Sink>(
     alloc: Global,
     words: &List<Bytes>,

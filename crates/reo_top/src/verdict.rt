@@ -6,7 +6,7 @@ ghost use Rattle.reo_top.specs.VerdictTexts.{wrong_words, in_round, refusal_word
 
 use crate::append::append_numbered;
 use reo_checker::Wrong;
-use reo_top_inputs::{DONE, TRACE_REFUSED};
+use reo_command::{DONE, TRACE_REFUSED};
 use reo_values::{Bytes, NoMemory};
 use reo_verify::{Refusal, Verdict};
 use std::alloc::Global;

@@ -1,27 +1,27 @@
 //! The verdict on a trace that is fetched and read.
 ghost use Rattle.std.specs.Prelude.{[], ◌∷◌, map};
 ghost use Rattle.reo_kinds.specs.Kinds.{port_state_of};
-ghost use Rattle.reo_runner_ports.specs.Runnable.{CanRun};
+ghost use Rattle.reo_at_ports.specs.Runnable.{CanRun};
 ghost use Rattle.reo_verdicts.specs.Replays.{HasText};
-ghost use Rattle.reo_top_inputs.specs.declared.command.Command.TheVariants as commands;
-ghost use Rattle.reo_top_inputs.specs.declared.role.Role.TheVariants as roles;
+ghost use Rattle.reo_command.specs.declared.command.Command.TheVariants as commands;
+ghost use Rattle.reo_command.specs.declared.role.Role.TheVariants as roles;
 ghost use Rattle.reo_top.specs.Answers.{IsAnswered};
-ghost use Rattle.reo_top.specs.Cases.{Cases, IsExact, IsFair};
-ghost use Rattle.reo_top_inputs.specs.Claims.{ReadsClaim, StopsVerify};
-ghost use Rattle.reo_top_inputs.specs.Commands.{is_free};
+ghost use Rattle.reo_top.specs.Cases.{Cases, IsExact, IsFair, TellsFaults};
+ghost use Rattle.reo_command.specs.Claims.{ReadsClaim, StopsVerify};
+ghost use Rattle.reo_command.specs.Commands.{is_free};
 ghost use Rattle.reo_top.specs.Owed.{JudgesTrace, owed_by};
-ghost use Rattle.reo_top_inputs.specs.ReadSteps.{claimed_in};
-ghost use Rattle.reo_top_inputs.specs.States.{files_change, sink_change};
-ghost use Rattle.reo_top_inputs.specs.Statuses.{IsAmong, statuses_of};
+ghost use Rattle.reo_command.specs.ReadSteps.{claimed_in};
+ghost use Rattle.reo_command.specs.States.{files_change, sink_change};
+ghost use Rattle.reo_command.specs.Statuses.{IsAmong, statuses_of};
 
 use crate::answer::{answer, no_memory};
 use crate::refusing::refuse;
 use crate::verdict::{verdict_line, verdict_status};
+use reo_command::{Claim, Status, Work, read_claim};
 use reo_flatten_laws::names_are_plain;
 use reo_io::{Files, Sink};
 use reo_run_texts::ports_are_told;
-use reo_top_inputs::{Claim, Status, Work, read_claim};
-use reo_trace_laws::one_answer;
+use reo_trace_texts::one_answer;
 use reo_trees_laws::programs_are_spelled;
 use reo_verify::verify_trace;
 use std::alloc::Global;
@@ -36,6 +36,7 @@ fn write_verdict<S: Sink>(alloc: Global, claim: Claim, out: &mut S) -> Status
     ensures exact { let claimed = claimed_in claim.work.flat claim.work.script claim.trace in
         IsExact (JudgesTrace claimed) (sink_change S.told S.faults out.old out.new) result.code }
     ensures fair { IsFair (sink_change S.told S.faults out.old out.new) result.code }
+    ensures tells { TellsFaults (sink_change S.told S.faults out.old out.new) result.code }
 {
     let Claim {
         work: Work { flat, script },
@@ -67,6 +68,7 @@ pub(crate) fn verify_claim<F: Files, S: Sink>(
         (sink_change S.told S.faults out.old out.new) result.code }
     ensures status { IsAmong (statuses_of commands.Verify) result.code }
     ensures fair { IsFair (sink_change S.told S.faults out.old out.new) result.code }
+    ensures tells { TellsFaults (sink_change S.told S.faults out.old out.new) result.code }
 {
     names_are_plain();
     programs_are_spelled();

@@ -4,16 +4,16 @@ use Rattle.reo_trees.specs.declared.programs.Program.{Program}
 use Rattle.reo_trees.specs.Says.{SaysProgram}
 use Rattle.reo_trees_laws.specs.Spelled.{IsSpelled}
 use Rattle.reo_flatten_laws.specs.FromTexts.{NamesArePlain}
-use Rattle.reo_script_base.specs.declared.action.Component.{Component}
+use Rattle.reo_scripts.specs.declared.action.Component.{Component}
 use Rattle.reo_trace.specs.declared.line.RoundLine.{RoundLine}
 use Rattle.reo_trace.specs.declared.line.Ending.{Ending}
 use Rattle.reo_trace.specs.TraceText.{trace_text}
 use Rattle.reo_trace_texts.specs.declared.trace.Trace.{Trace}
 use Rattle.reo_trace_texts.specs.Texts.{IsTraceText}
 use Rattle.reo_runs.specs.Run.{start_of, firsts, IsRun}
-use Rattle.reo_runner_ports.specs.Kinds.{kind_rules}
+use Rattle.reo_at_ports.specs.Kinds.{kind_rules}
 use Rattle.reo_run_texts.specs.Laws.{IsTold, RunsAreTraceTexts}
-use Rattle.reo_top_inputs.specs.Readings.{FlatCircuit, IsCircuitText, flat_of}
+use Rattle.reo_command.specs.Readings.{FlatCircuit, IsCircuitText, flat_of}
 
 -- The trace with these rounds and this ending.
 abbrev pub trace_with : List RoundLine → Ending → Trace

@@ -2,10 +2,10 @@
 use Rattle.std.proofs.Common.{◌≡◌, ℕ, ◌^◌, ◌≤◌, Bool, true, false, cond, List, [], ◌∷◌, drop, refl, arith}
 use Rattle.std.specs.Prelude.{Option, Some, None, option_and_then, option_map, slice_get, slice_index_or}
 use Rattle.std.specs.Option.{unwrap_or}
-use Rattle.reo_top_inputs.specs.declared.setting.Setting.TheVariants.{Budget, Rounds}
-use Rattle.reo_top_inputs.specs.Commands.{others_of}
-use Rattle.reo_top_inputs.specs.Limits.{limits_of}
-use Rattle.reo_top_inputs.specs.Settings.{number_of, behind, numbers_of, number_behind, stands}
+use Rattle.reo_command.specs.declared.setting.Setting.TheVariants.{Budget, Rounds}
+use Rattle.reo_command.specs.Commands.{others_of}
+use Rattle.reo_command.specs.Limits.{limits_of}
+use Rattle.reo_command.specs.Settings.{number_of, behind, numbers_of, number_behind, stands}
 use Rattle.reo_top_laws.proofs.WordLemmas.{digits_said}
 
 -- No number or one that is small enough.

@@ -8,9 +8,9 @@ use Rattle.std.proofs.lemmas.Slice.Eq.{bytes_eq-Decides}
 use Rattle.reo_values.specs.Names.{is_digit}
 use Rattle.reo_grammar.specs.Tokens.{number_from}
 use Rattle.reo_grammar.proofs.Sound.{and-left, and-right, and-both}
-use Rattle.reo_top_inputs.specs.declared.setting.Setting.TheVariants.{Budget, Rounds}
-use Rattle.reo_top_inputs.specs.Settings.{numbers_of, number_behind}
-use Rattle.reo_top_inputs.specs.Numbers.{is_number}
+use Rattle.reo_command.specs.declared.setting.Setting.TheVariants.{Budget, Rounds}
+use Rattle.reo_command.specs.Settings.{numbers_of, number_behind}
+use Rattle.reo_command.specs.Numbers.{is_number}
 use Rattle.reo_top_laws.specs.Words.{IsInDigits, Says, SayLimits}
 use Rattle.reo_top_laws.proofs.DigitLemmas.{value_is, are_digits, some_digit, behind_zeros}
 

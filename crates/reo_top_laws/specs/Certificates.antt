@@ -3,12 +3,12 @@ use Rattle.std.specs.Prelude.{ℕ, ◌<◌, ◌^◌, List, [], ◌∷◌, length
 use Rattle.reo_trace.specs.declared.line.RoundLine.{RoundLine}
 use Rattle.reo_verdicts.specs.declared.verdict.Verdict.TheVariants.{Verified}
 use Rattle.reo_verdicts.specs.Said.{jammed}
-use Rattle.reo_top_inputs.specs.Claims.{Claimed, ReadsClaim}
-use Rattle.reo_top_inputs.specs.Fetched.{text}
-use Rattle.reo_top_inputs.specs.Limits.{limits_of, firsts_for}
-use Rattle.reo_top_inputs.specs.Readings.{Runnable, ReadsRun}
+use Rattle.reo_command.specs.Claims.{Claimed, ReadsClaim}
+use Rattle.reo_command.specs.Fetched.{text}
+use Rattle.reo_command.specs.Limits.{limits_of, firsts_for}
+use Rattle.reo_command.specs.Readings.{Runnable, ReadsRun}
 use Rattle.reo_top.specs.Owed.{JudgesTrace}
-use Rattle.reo_top_inputs.specs.Statuses.{done}
+use Rattle.reo_command.specs.Statuses.{done}
 use Rattle.reo_top.specs.Traces.{IsTraceOf}
 use Rattle.reo_top.specs.VerdictTexts.{verdict_line}
 

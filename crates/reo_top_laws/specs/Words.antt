@@ -1,8 +1,8 @@
 -- What the words of a run say, in other words than those of its definition.
 use Rattle.std.specs.Prelude.{ℕ, ◌≡◌, ◌≤◌, ◌^◌, ◌↔◌, Some, List, [], ◌∷◌, ◌++◌, codes, length, replicate}
 use Rattle.std.specs.Fmt.{decimal}
-use Rattle.reo_top_inputs.specs.declared.setting.Setting.TheVariants.{Budget, Rounds}
-use Rattle.reo_top_inputs.specs.Settings.{numbers_of}
+use Rattle.reo_command.specs.declared.setting.Setting.TheVariants.{Budget, Rounds}
+use Rattle.reo_command.specs.Settings.{numbers_of}
 
 -- A number in decimal, with zeros before it, in at most ten digits.
 pub record IsInDigits (word : List ℕ) (n : ℕ) : Type 0 where

@@ -1,12 +1,15 @@
-//! What words say, and what becomes of a trace that was written.
+//! What words say, that there is one trace, and what becomes of one that was written.
 ghost use Rattle.reo_top_laws.specs.Words.{LimitsAreSaid};
 ghost use Rattle.reo_top_laws.specs.Certificates.{WrittenTracesAreVerified};
+ghost use Rattle.reo_top_laws.specs.OneTrace.{ThereIsOneTrace};
 
-use reo_flatten_laws::names_are_plain;
+use reo_flatten_laws::{circuits_are_made, names_are_plain};
 use reo_kinds::Kind;
+use reo_net_order::order_exists;
 use reo_run_texts::runs_are_trace_texts;
+use reo_runs::{one_trace, trace_exists};
 use reo_trees_laws::programs_are_spelled;
-use reo_verdict_laws::runs_are_verified;
+use reo_verdicts::runs_are_verified;
 
 /// The words behind the names of a run say a budget and a number of rounds exactly where they are,
 /// in this order, `--budget` and that budget, or nothing and it is 100,000, and `--rounds` and that
@@ -14,6 +17,19 @@ use reo_verdict_laws::runs_are_verified;
 pub fn limits_are_said()
     ensures { LimitsAreSaid }
 {}
+
+/// For each circuit text and script text that are accepted there is exactly one trace text, with
+/// one status, however far the run may go. This speaks of texts alone: it needs no memory and no
+/// call.
+pub fn there_is_one_trace()
+    ensures { ThereIsOneTrace }
+{
+    circuits_are_made();
+    names_are_plain();
+    order_exists();
+    trace_exists::<Kind>();
+    one_trace::<Kind>();
+}
 
 /// The trace that a run wrote whole is a trace for the ports of its circuit, and the verdict on it
 /// is that it is verified.

@@ -3,4 +3,4 @@
 
 mod laws;
 
-pub use laws::{limits_are_said, written_traces_are_verified};
+pub use laws::{limits_are_said, there_is_one_trace, written_traces_are_verified};

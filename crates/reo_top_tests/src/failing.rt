@@ -19,8 +19,8 @@ fn status_of(
     Ok(reo(alloc, &words, files, &mut source, sink).code)
 }
 
-/// A command, its circuit, the fetch that fails, the room of the sink, the status, and what the sink
-/// has got.
+/// A command, its circuit, the fetch that fails, the room of the sink, the status, and what the
+/// sink has got.
 struct Case {
     words: &'static str,
     circuit: &'static str,

@@ -1,5 +1,5 @@
 //! Writing lines.
-ghost use Rattle.std.specs.Prelude.{◌≡◌, ◌≤◌, OnOk, IsErrOf};
+ghost use Rattle.std.specs.Prelude.{◌≡◌, ◌<◌, ◌≤◌, OnOk, IsErrOf};
 ghost use Rattle.reo_io.specs.Causes.{Rose};
 ghost use Rattle.reo_io.specs.Sinks.{Appended, TookPart};
 ghost use Rattle.reo_trace.specs.EndingText.{ending_text};
@@ -41,8 +41,8 @@ impl From<SinkFault> for WriteFault {
 ///
 /// # Errors
 ///
-/// `Failed` comes only where the sink's count of faults rose: a front of the line was taken, and
-/// not the whole. `NoMemory` is out of memory: the sink stays as it was.
+/// `Failed` comes only where the sink's count of faults rose, and it rises nowhere else: a front of
+/// the line was taken, and not the whole. `NoMemory` is out of memory: the sink stays as it was.
 pub fn write_round<S: Sink>(
     alloc: Global,
     ports: &Ports,
@@ -56,6 +56,7 @@ pub fn write_round<S: Sink>(
     ensures cause { IsErrOf result WriteFault.Failed → Rose (S.faults out.old) (S.faults out.new) }
     ensures memory { IsErrOf result WriteFault.NoMemory → out.new ≡ out.old }
     ensures count { S.faults out.old ≤ S.faults out.new }
+    ensures risen { S.faults out.old < S.faults out.new → IsErrOf result WriteFault.Failed }
 {
     let text = round_line_text(alloc, ports, line)?;
     put_all(text.as_slice(), out)?;
@@ -74,6 +75,7 @@ pub fn write_ending<S: Sink>(alloc: Global, ending: &Ending, out: &mut S) -> Res
     ensures cause { IsErrOf result WriteFault.Failed → Rose (S.faults out.old) (S.faults out.new) }
     ensures memory { IsErrOf result WriteFault.NoMemory → out.new ≡ out.old }
     ensures count { S.faults out.old ≤ S.faults out.new }
+    ensures risen { S.faults out.old < S.faults out.new → IsErrOf result WriteFault.Failed }
 {
     let text = ending_line_text(alloc, ending)?;
     put_all(text.as_slice(), out)?;

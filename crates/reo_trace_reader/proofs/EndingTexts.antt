@@ -8,7 +8,7 @@ use Rattle.reo_trace.specs.declared.line.Ending.TheVariants.{Done, Stuck, Limit,
 use Rattle.reo_trace_texts.specs.Lines.{IsEnding, IsSmall}
 use Rattle.reo_trace_texts.specs.declared.fault.LineFault.{LineFault}
 use Rattle.reo_trace_reader.specs.Reads.{Stood}
-use Rattle.reo_trace_laws.proofs.Fronts.{heads_apart}
+use Rattle.reo_trace_texts.proofs.Fronts.{heads_apart}
 use Rattle.reo_trace_reader.specs.declared.lines.Part.{Part}
 use Rattle.reo_trace_reader.specs.declared.lines.Load.{Load}
 use Rattle.reo_trace_reader.specs.Ends.{NoDigit, EndsLine}

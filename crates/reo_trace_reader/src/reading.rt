@@ -19,8 +19,7 @@ use crate::lines::{ending, round};
 use crate::reader::Reader;
 use reo_net_base::Ports;
 use reo_trace::{Ending, RoundLine};
-use reo_trace_laws::{one_answer, one_line_answer};
-use reo_trace_texts::{LineFault, Trace, TraceFault, TraceLine};
+use reo_trace_texts::{LineFault, Trace, TraceFault, TraceLine, one_answer, one_line_answer};
 use reo_values::{List, NoMemory};
 use std::alloc::Global;
 

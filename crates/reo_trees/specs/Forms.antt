@@ -1,18 +1,20 @@
 -- What the forms of the circuit text are made of.
 use Rattle.std.specs.Prelude.{ℕ, List, [], ◌∷◌, ◌++◌, codes}
 use Rattle.reo_grammar.specs.Tokens.{number_from}
-use Rattle.reo_grammar.specs.Tokens.Class.{fixed, name, number, text}
+use Rattle.reo_grammar.specs.Tokens.Class.{fixed, name, named, number, text}
 use Rattle.reo_grammar.specs.Grammar.{Grammar}
 use Rattle.reo_grammar.specs.Grammar.Grammar.{token, both, made, chain}
 use Rattle.reo_trees.specs.declared.types.TypeTerm.{TypeTerm}
 use Rattle.reo_trees.specs.declared.literals.Literal.{Literal}
 use Rattle.reo_trees.specs.declared.terms.Term.{Term}
 use Rattle.reo_trees.specs.declared.terms.Opened.{Opened}
+use Rattle.reo_trees.specs.declared.items_two.ItemTwo.{ItemTwo}
 use Rattle.reo_trees.specs.Texts.{text_bytes}
 
--- The rules that lead back to themselves: types, literals, terms, and what a `!` or `-` stands before.
+-- The rules that lead back to themselves: types, literals, terms, what a `!` or `-` stands before, and what stands in
+-- a loop, which texts of version 2 alone have.
 pub data Rule : Type 0 where
-  type_rule literal_rule term_rule unary_rule : Rule
+  type_rule literal_rule term_rule unary_rule looped_rule : Rule
 
 -- What each rule's texts stand for.
 abbrev pub tree_of : Rule → Type 0
@@ -20,10 +22,15 @@ tree_of type_rule = TypeTerm
 tree_of literal_rule = Literal
 tree_of term_rule = Term
 tree_of unary_rule = Opened
+tree_of looped_rule = ItemTwo
 
 -- A grammar of circuit texts that stand for values of this type.
 abbrev pub FormOf : Type 0 → Type 1
 FormOf A = Grammar Rule tree_of A
+
+-- A name of these bytes.
+abbrev pub named_word : List ℕ → FormOf (Unit {0})
+named_word b = made (λ t. tt) (token (named b))
 
 -- A reserved word or a sign.
 abbrev pub word : List ℕ → FormOf (Unit {0})

@@ -7,6 +7,10 @@ pub mod Terms
 pub mod Channels
 pub mod Items
 pub mod Programs
+pub mod Indexes
+pub mod ItemsTwo
+pub mod ProgramsTwo
 pub mod Rules
 pub mod Table
 pub mod Says
+pub mod SaysTwo

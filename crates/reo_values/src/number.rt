@@ -21,7 +21,8 @@ pub fn number_text(alloc: Global, number: i64) -> Result<Bytes, NoMemory>
 /// out of memory.
 pub fn read_number(alloc: Global, text: &[u8], low: i64, high: i64) -> Result<i64, ReadFault>
     ensures found { IfOk result (λ z. (low ≤ℤ z) × (z ≤ℤ high) × (text.now ≡ signed_decimal z)) }
-    ensures none { IsErrOf result ReadFault.NotALiteral → (z : ℤ) → low ≤ℤ z → z ≤ℤ high → text.now ≢ signed_decimal z }
+    ensures none { IsErrOf result ReadFault.NotALiteral → (z : ℤ) → low ≤ℤ z → z ≤ℤ high
+        → text.now ≢ signed_decimal z }
 {
     let Ok(word) = str::from_utf8(text) else {
         return Err(ReadFault::NotALiteral);

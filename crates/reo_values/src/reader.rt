@@ -53,7 +53,8 @@ impl<'a> Reader<'a> {
 
     /// Takes the next byte, or answers None where nothing is left.
     pub fn next(&mut self) -> Option<u8>
-        ensures { MatchOption result ((self.old ≡ []) × (self.new ≡ [])) (λ byte. self.old ≡ byte ∷ self.new) }
+        ensures { MatchOption result ((self.old ≡ []) × (self.new ≡ []))
+            (λ byte. self.old ≡ byte ∷ self.new) }
     {
         if self.at == self.text.len() {
             return None;
@@ -66,7 +67,8 @@ impl<'a> Reader<'a> {
     /// Takes this byte, or fails where another or none is next.
     pub fn expect(&mut self, byte: u8) -> Result<(), ReadFault>
         ensures found { OnOk result (self.old ≡ byte ∷ self.new) }
-        ensures none { IsErrOf result ReadFault.NotALiteral → (rest : List ℕ) → self.old ≢ byte ∷ rest }
+        ensures none { IsErrOf result ReadFault.NotALiteral → (rest : List ℕ)
+            → self.old ≢ byte ∷ rest }
         ensures fault { IfErr result (λ fault. fault ≡ ReadFault.NotALiteral) }
     {
         match self.next() {

@@ -13,9 +13,13 @@ use std::alloc::Global;
 
 // One byte of a text between quotes, without what escapes it, or None at the closing quote.
 fn quoted_byte(reader: &mut Reader) -> Result<Option<u8>, ReadFault>
-    ensures found { IfOk result (λ found. MatchOption found (reader.old ≡ quote ∷ reader.new) (λ byte. reader.old ≡ escape byte ++ reader.new)) }
-    ensures end { IsErrOf result ReadFault.NotALiteral → (rest : List ℕ) → reader.old ≢ quote ∷ rest }
-    ensures none { IsErrOf result ReadFault.NotALiteral → (byte : ℕ) (rest : List ℕ) → reader.old ≢ escape byte ++ rest }
+    ensures found { IfOk result
+        (λ found. MatchOption found (reader.old ≡ quote ∷ reader.new)
+        (λ byte. reader.old ≡ escape byte ++ reader.new)) }
+    ensures end { IsErrOf result ReadFault.NotALiteral → (rest : List ℕ)
+        → reader.old ≢ quote ∷ rest }
+    ensures none { IsErrOf result ReadFault.NotALiteral → (byte : ℕ) (rest : List ℕ)
+        → reader.old ≢ escape byte ++ rest }
     ensures fault { IfErr result (λ fault. fault ≡ ReadFault.NotALiteral) }
 {
     match reader.next() {
@@ -32,7 +36,8 @@ fn quoted_byte(reader: &mut Reader) -> Result<Option<u8>, ReadFault>
 // The bytes of a quoted text.
 fn quoted_bytes(alloc: Global, reader: &mut Reader) -> Result<Bytes, ReadFault>
     ensures found { IfOk result (λ bytes. reader.old ≡ quoted bytes ++ reader.new) }
-    ensures none { IsErrOf result ReadFault.NotALiteral → (bytes rest : List ℕ) → reader.old ≢ quoted bytes ++ rest }
+    ensures none { IsErrOf result ReadFault.NotALiteral → (bytes rest : List ℕ)
+        → reader.old ≢ quoted bytes ++ rest }
 {
     reader.expect(b'"')?;
     let mut made = Bytes::new(alloc);
@@ -58,7 +63,8 @@ fn read_unit(word: &[u8]) -> Result<(), ReadFault>
 // The truth value of a word.
 fn read_truth(word: &[u8]) -> Result<bool, ReadFault>
     ensures found { IfOk result (λ truth. word.now ≡ truth_text truth) }
-    ensures none { IsErrOf result ReadFault.NotALiteral → (truth : Bool) → word.now ≢ truth_text truth }
+    ensures none { IsErrOf result ReadFault.NotALiteral → (truth : Bool)
+        → word.now ≢ truth_text truth }
     ensures fault { IfErr result (λ fault. fault ≡ ReadFault.NotALiteral) }
 {
     if word == b"true".as_slice() {
@@ -73,8 +79,10 @@ fn read_truth(word: &[u8]) -> Result<bool, ReadFault>
 // The place of a name.
 fn read_name(names: &[Bytes], word: &[u8]) -> Result<u16, ReadFault>
     requires { AreNames names.now }
-    ensures found { IfOk result (λ k. (k < length names.now) × (word.now ≡ slice_index_or names.now k [])) }
-    ensures none { IsErrOf result ReadFault.NotALiteral → (k : ℕ) → k < length names.now → word.now ≢ slice_index_or names.now k [] }
+    ensures found { IfOk result
+        (λ k. (k < length names.now) × (word.now ≡ slice_index_or names.now k [])) }
+    ensures none { IsErrOf result ReadFault.NotALiteral → (k : ℕ) → k < length names.now
+        → word.now ≢ slice_index_or names.now k [] }
     ensures fault { IfErr result (λ fault. fault ≡ ReadFault.NotALiteral) }
 {
     for (place, name) in names.iter().enumerate() {
@@ -89,8 +97,10 @@ fn read_name(names: &[Bytes], word: &[u8]) -> Result<u16, ReadFault>
 fn word_item(alloc: Global, word: &[u8], kindred: &Kindred) -> Result<Value, ReadFault>
     requires valid { IsValid kindred.now }
     requires words { HasWords kindred.now }
-    ensures found { IfOk result (λ item. IsIn item kindred.now × (word.now ≡ text_of item kindred.now)) }
-    ensures none { IsErrOf result ReadFault.NotALiteral → (item : Value) → IsIn item kindred.now → word.now ≢ text_of item kindred.now }
+    ensures found { IfOk result
+        (λ item. IsIn item kindred.now × (word.now ≡ text_of item kindred.now)) }
+    ensures none { IsErrOf result ReadFault.NotALiteral → (item : Value) → IsIn item kindred.now
+        → word.now ≢ text_of item kindred.now }
 {
     match kindred {
         Kindred::Unit => {
@@ -106,7 +116,9 @@ fn word_item(alloc: Global, word: &[u8], kindred: &Kindred) -> Result<Value, Rea
 
 // The text of at most so many bytes, each from the space to the tilde.
 fn text_item(alloc: Global, reader: &mut Reader, most: u16) -> Result<Value, ReadFault>
-    ensures found { IfOk result (λ item. IsIn item (Kindred.Text most) × (reader.old ≡ text_of item (Kindred.Text most) ++ reader.new)) }
+    ensures found { IfOk result
+        (λ item. IsIn item (Kindred.Text most)
+        × (reader.old ≡ text_of item (Kindred.Text most) ++ reader.new)) }
     ensures again { ReadsAgain result reader.old reader.new (Kindred.Text most) }
 {
     let bytes = quoted_bytes(alloc, reader)?;
@@ -120,7 +132,8 @@ fn text_item(alloc: Global, reader: &mut Reader, most: u16) -> Result<Value, Rea
 // The item whose text is next. It goes down the type, and never deeper.
 fn item(alloc: Global, reader: &mut Reader, kindred: &Kindred) -> Result<Value, ReadFault>
     requires { IsValid kindred.now }
-    ensures found { IfOk result (λ item. IsIn item kindred.now × (reader.old ≡ text_of item kindred.now ++ reader.new)) }
+    ensures found { IfOk result
+        (λ item. IsIn item kindred.now × (reader.old ≡ text_of item kindred.now ++ reader.new)) }
     ensures again { ReadsAgain result reader.old reader.new kindred.now }
 {
     match kindred {
@@ -143,8 +156,10 @@ fn item(alloc: Global, reader: &mut Reader, kindred: &Kindred) -> Result<Value, 
 /// `NoMemory` means out of memory.
 pub fn read_value(alloc: Global, text: &[u8], kindred: &Kindred) -> Result<Value, ReadFault>
     requires { IsValid kindred.now }
-    ensures found { IfOk result (λ item. IsIn item kindred.now × (text.now ≡ text_of item kindred.now)) }
-    ensures none { IsErrOf result ReadFault.NotALiteral → (item : Value) → IsIn item kindred.now → text.now ≢ text_of item kindred.now }
+    ensures found { IfOk result
+        (λ item. IsIn item kindred.now × (text.now ≡ text_of item kindred.now)) }
+    ensures none { IsErrOf result ReadFault.NotALiteral → (item : Value) → IsIn item kindred.now
+        → text.now ≢ text_of item kindred.now }
 {
     let mut reader = Reader::new(text);
     let found = item(alloc, &mut reader, kindred)?;

@@ -1,5 +1,5 @@
-//! Expressions as words: an operator stands behind its operands, and `if` behind the two expressions
-//! that it chooses from and, last, its condition.
+//! Expressions as words: an operator stands behind its operands, and `if` behind the two
+//! expressions that it chooses from and, last, its condition.
 use crate::notation::{Unread, behind, last, numbered, spaced};
 use reo_exprs::{Expr, ExprPair, ExprTriple};
 use reo_values::{Binary, Boxed, Bytes, List, NoMemory, Unary};

@@ -3,7 +3,7 @@ use Rattle.std.specs.Prelude.{ℕ, ◌+◌, ◌≡◌, ◌≢◌, ◌⊎◌, Non
 use Rattle.reo_trace.specs.declared.line.RoundLine.{RoundLine}
 use Rattle.reo_trace.specs.declared.line.Ending.{Ending}
 use Rattle.reo_trace_texts.specs.declared.trace.Trace.{Trace}
-use Rattle.reo_engine_base.specs.Rules.{Rules}
+use Rattle.reo_rounds.specs.Rules.{Rules}
 use Rattle.reo_runs.specs.Round.{net_ready}
 use Rattle.reo_runs.specs.Run.{Place, Leads, EndsAs, IsRun}
 use Rattle.reo_verdicts.specs.declared.verdict.Refusal.{Refusal}

@@ -32,8 +32,8 @@ pub enum Refusal {
 /// The verdict on a trace.
 #[derive(Drop)]
 pub enum Verdict {
-    /// It is the trace of a run, in each round with some colouring: so many rounds, in which so many
-    /// cells are the jam row.
+    /// It is the trace of a run, in each round with some colouring: so many rounds, in which so
+    /// many cells are the jam row.
     Verified { rounds: u64, jammed: u64 },
     /// It is not, for this cause.
     Refused(Refusal),

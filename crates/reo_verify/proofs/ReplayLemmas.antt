@@ -12,14 +12,14 @@ use Rattle.reo_trace.specs.declared.line.RoundLine.{RoundLine}
 use Rattle.reo_trace.specs.declared.line.Ending.{Ending}
 use Rattle.reo_trace.specs.Entries.{line_for}
 use Rattle.reo_trace_texts.specs.Lines.{IsLine, AreLines}
-use Rattle.reo_engine_base.specs.declared.plan.Plan.{Plan}
-use Rattle.reo_engine_base.specs.Ready.{ready}
-use Rattle.reo_engine_base.specs.Rules.{Rules}
+use Rattle.reo_rounds.specs.declared.plan.Plan.{Plan}
+use Rattle.reo_rounds.specs.Ready.{ready}
+use Rattle.reo_rounds.specs.Rules.{Rules}
 use Rattle.reo_runs.specs.Round.{State, advanced, net_ready}
 use Rattle.reo_runs.specs.Run.{Place, Leads, place_after, over_after}
 use Rattle.reo_runs.proofs.WholeLemmas.{leads_on}
-use Rattle.reo_runner_ports.specs.Pending.{IsButForOffers}
-use Rattle.reo_runner_ports.proofs.AfterRound.{over_by}
+use Rattle.reo_at_ports.specs.Pending.{IsButForOffers}
+use Rattle.reo_at_ports.proofs.AfterRound.{over_by}
 use Rattle.reo_verdicts.specs.declared.verdict.Refusal.{Refusal}
 use Rattle.reo_verdicts.specs.declared.verdict.Refusal.TheVariants as refusals
 use Rattle.reo_verdicts.specs.Replays.{colourings}

@@ -4,9 +4,9 @@ use Rattle.reo_net_base.specs.Net.{Wiring}
 use Rattle.reo_players.specs.Players.{Player}
 use Rattle.reo_trace.specs.declared.line.RoundLine.{RoundLine}
 use Rattle.reo_trace.specs.declared.line.Ending.{Ending}
-use Rattle.reo_engine_base.specs.Rules.{Rules}
+use Rattle.reo_rounds.specs.Rules.{Rules}
 use Rattle.reo_runs.specs.Run.{Place, Leads}
-use Rattle.reo_runner_ports.specs.Pending.{IsButForOffers}
+use Rattle.reo_at_ports.specs.Pending.{IsButForOffers}
 use Rattle.reo_verdicts.specs.Replays.{colourings}
 
 -- So far: the lines are rounds of a run, which is over so or goes on, with a circuit that this one is but for offers.

@@ -6,8 +6,8 @@ use Rattle.reo_net_base.specs.Colouring.{IsColouring}
 use Rattle.reo_trace.specs.declared.line.Entry.{Entry}
 use Rattle.reo_trace.specs.declared.line.RoundLine.{RoundLine}
 use Rattle.reo_trace.specs.Entries.{line_for}
-use Rattle.reo_engine_base.specs.declared.plan.Plan.{Plan}
-use Rattle.reo_engine_base.specs.Plans.{Suits}
+use Rattle.reo_rounds.specs.declared.plan.Plan.{Plan}
+use Rattle.reo_rounds.specs.Plans.{Suits}
 use Rattle.reo_verdicts.specs.Said.{AreSaid}
 use Rattle.reo_verdicts.specs.Wrongs.{IsWrongWith, HasWrongMoves}
 use Rattle.reo_verify.specs.declared.judging.Stop.{Stop}

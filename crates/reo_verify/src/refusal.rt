@@ -1,7 +1,7 @@
 //! Why a round is refused.
-ghost use Rattle.std.specs.Prelude.{◌≡◌, [], IfOk, slice_index, slice_index_or};
+ghost use Rattle.std.specs.Prelude.{◌≡◌, [], IfOk, OnErr, IsTrue, slice_index, slice_index_or};
 ghost use Rattle.reo_verdicts.specs.Wrongs.{node_of};
-ghost use Rattle.reo_verify.specs.Replayed.{IsRefusalBy};
+ghost use Rattle.reo_verify.specs.Replayed.{IsRefusalBy, MayWantMemory, names_node};
 
 use crate::judging::Stop;
 use reo_checker::Wrong;
@@ -23,7 +23,8 @@ fn home_name(alloc: Global, nodes: &[Bytes], homes: &[u32], joint: usize) -> Res
 
 /// The node that a cause names: that of its joint. `NoMemory` is out of memory.
 fn node_of(alloc: Global, nodes: &[Bytes], homes: &[u32], wrong: Wrong) -> Result<Bytes, NoMemory>
-    ensures { IfOk result (λ node. node ≡ node_of nodes.now homes.now wrong) }
+    ensures node { IfOk result (λ node. node ≡ node_of nodes.now homes.now wrong) }
+    ensures sure { OnErr result (IsTrue (names_node wrong)) }
 {
     match wrong {
         Wrong::Count => Ok(Bytes::new(alloc)),
@@ -41,7 +42,8 @@ pub(crate) fn refusal_of(
     round: u64,
     stop: Stop,
 ) -> Result<Refusal, NoMemory>
-    ensures { IfOk result (IsRefusalBy nodes.now homes.now round stop) }
+    ensures refusal { IfOk result (IsRefusalBy nodes.now homes.now round stop) }
+    ensures sure { OnErr result (MayWantMemory stop) }
 {
     match stop {
         Stop::Wrong(wrong) => {

@@ -4,21 +4,21 @@ ghost use Rattle.reo_net_base.specs.Net.{Wiring};
 ghost use Rattle.reo_players.specs.Players.{all_done};
 ghost use Rattle.reo_trace.specs.declared.line.Ending.TheVariants.{Done as IsDone};
 ghost use Rattle.reo_trace_texts.specs.Lines.{AreLines};
-ghost use Rattle.reo_engine_base.specs.Rules.{rules_of};
+ghost use Rattle.reo_rounds.specs.Rules.{rules_of};
 ghost use Rattle.reo_runs.specs.Run.{Place, start_of};
-ghost use Rattle.reo_runner_ports.specs.Pending.{IsButForOffers};
-ghost use Rattle.reo_runner_ports.specs.Between.{AreBetween};
-ghost use Rattle.reo_runner_ports.specs.Runnable.{CanRun};
+ghost use Rattle.reo_at_ports.specs.Pending.{IsButForOffers};
+ghost use Rattle.reo_at_ports.specs.Between.{AreBetween};
+ghost use Rattle.reo_at_ports.specs.Runnable.{CanRun};
 ghost use Rattle.reo_verify.specs.Replayed.{IsReplayed, IsNoRound, AreReplayed, IsHalted};
 
 use crate::judging::{Stop, plan_of};
 use crate::refusal::refusal_of;
+use reo_at_ports::{carry_out, offer_all};
 use reo_engine::Engine;
-use reo_net_base::{Ported, Ports};
+use reo_net_base::{Ports, Restoring};
 use reo_net_circuit::Circuit;
 use reo_players::Players;
-use reo_runner_ports::{carry_out, offer_all};
-use reo_script_base::Script;
+use reo_scripts::Script;
 use reo_trace::{Ending, RoundLine};
 use reo_values::{Bytes, NoMemory};
 use reo_verdicts::Refusal;
@@ -51,7 +51,7 @@ impl From<NoMemory> for Halt {
 /// # Errors
 ///
 /// What is wrong first with the line. `NoMemory` is out of memory. No round was made.
-fn replay_round<P: Ported>(
+fn replay_round<P: Restoring>(
     alloc: Global,
     engine: &mut Engine<P>,
     players: &mut Players,
@@ -88,7 +88,7 @@ fn replay_round<P: Ported>(
 ///
 /// `Refused` with what is wrong with the first line that shows no round. `NoMemory` is out of
 /// memory.
-fn replay_rounds<P: Ported>(
+fn replay_rounds<P: Restoring>(
     alloc: Global,
     engine: &mut Engine<P>,
     players: &mut Players,
@@ -144,7 +144,7 @@ fn begins(players: &Players) -> Option<Ending>
 ///
 /// `Refused` with what is wrong with the first line that shows no round. `NoMemory` is out of
 /// memory.
-pub(crate) fn replay<P: Ported>(
+pub(crate) fn replay<P: Restoring>(
     alloc: Global,
     circuit: Circuit<P>,
     ports: &Ports,

@@ -1,10 +1,10 @@
 //! The verdict on a trace.
 ghost use Rattle.std.specs.Prelude.{◌≡◌, ◌<◌, ◌^◌, IfOk, map};
 ghost use Rattle.reo_kinds.specs.Kinds.{port_state_of};
-ghost use Rattle.reo_engine_base.specs.Rules.{rules_of};
+ghost use Rattle.reo_rounds.specs.Rules.{rules_of};
 ghost use Rattle.reo_runs.specs.Run.{start_of};
-ghost use Rattle.reo_runner_ports.specs.Kinds.{kind_rules};
-ghost use Rattle.reo_runner_ports.specs.Runnable.{CanRun};
+ghost use Rattle.reo_at_ports.specs.Kinds.{kind_rules};
+ghost use Rattle.reo_at_ports.specs.Runnable.{CanRun};
 ghost use Rattle.reo_verdicts.specs.declared.verdict.Verdict.{Verdict as AVerdict};
 ghost use Rattle.reo_verdicts.specs.Said.{jammed};
 ghost use Rattle.reo_verdicts.specs.Replays.{HasText};
@@ -15,15 +15,14 @@ use crate::ending::{ends_as, jammed};
 use crate::replay::{Halt, replay};
 use reo_flatten::Flat;
 use reo_kinds::Kind;
-use reo_net_base::{Ported, Ports};
+use reo_net_base::{Ports, Restoring};
 use reo_net_circuit::Circuit;
 use reo_runs::known_order;
-use reo_script_base::Script;
+use reo_scripts::Script;
 use reo_trace::Ending;
 use reo_trace_texts::Trace;
 use reo_values::{Bytes, NoMemory};
-use reo_verdict_laws::one_verdict;
-use reo_verdicts::{Refusal, Verdict};
+use reo_verdicts::{Refusal, Verdict, one_verdict};
 use std::alloc::Global;
 
 /// The verdict on a trace whose lines are all rounds of a run that is over so, or not over.
@@ -43,7 +42,7 @@ fn verdict_at(over: Option<Ending>, trace: &Trace) -> Verdict
 }
 
 /// The verdict on a trace of components on a circuit. `NoMemory` is out of memory.
-fn verdict_of<P: Ported>(
+fn verdict_of<P: Restoring>(
     alloc: Global,
     circuit: Circuit<P>,
     ports: &Ports,

@@ -11,12 +11,12 @@ use Rattle.reo_net_base.specs.Wired.{IsWired, IsOrder}
 use Rattle.reo_net_laws.specs.Parts.{SameKnot}
 use Rattle.reo_knots.specs.Knots.{AreNumbers, AreThose, IsLoop, in_knot}
 use Rattle.reo_knots.proofs.GroupLemmas.{picked_those}
-use Rattle.reo_reach.specs.Width.{IsJointIn}
-use Rattle.reo_support.specs.declared.value.JointValue.{JointValue}
+use Rattle.reo_joint_values.specs.Many.{IsJointIn}
+use Rattle.reo_joint_values.specs.declared.value.JointValue.{JointValue}
 use Rattle.reo_weights.specs.Weights.{all_values, AreSupported, IsWeight, product_of, capped}
 use Rattle.reo_weights.specs.Over.{Cause, IsWithin, IsOverBy, IsOver}
 use Rattle.reo_weights.specs.Over.Cause.{spent, wide}
-use Rattle.reo_weights.specs.Laws.{OverIsDecided}
+use Rattle.reo_weights.specs.Laws.{OverIsDecided, WeightExists}
 use Rattle.reo_weights.proofs.CauseLemmas.{within_not_over}
 use Rattle.reo_weights.proofs.Decisions.{IsDecided, is_so, so_true, true_so}
 use Rattle.reo_weights.proofs.GreatestLemmas.{value_list, supported_values, supported_are}
@@ -57,7 +57,7 @@ module _ (net : Net) (wired : IsWired net) (order : List ℕ) (is : IsOrder net 
         (supported_are net (item_names net wired order is) wired values_there inside j at)
 
     -- A set of sides has a weight.
-    some_weight : (weight : ℕ) × IsWeight net inside weight
+    pub some_weight : (weight : ℕ) × IsWeight net inside weight
     some_weight = (
       capped (product_of (map length (map supported_there loop_list))),
       record {
@@ -96,6 +96,10 @@ module _ (net : Net) (wired : IsWired net) (order : List ℕ) (is : IsOrder net 
         | inr over ↦ inr (over.0, record { numbers = numbers; count = count; numbered = are; knot = n; in_range = omega arith; over = over.1; before = within })
       ]
     ]
+
+-- Each set of sides has a weight.
+pub weight_exists : WeightExists
+weight_exists net wired order is inside = some_weight net wired order is inside
 
 -- Whether a round cannot be planned within a budget is decided.
 pub over_decided : OverIsDecided

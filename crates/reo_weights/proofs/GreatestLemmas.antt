@@ -8,12 +8,12 @@ use Rattle.reo_net_base.specs.Net.{Net}
 use Rattle.reo_net_base.specs.Sides.{side_count}
 use Rattle.reo_net_base.specs.Wired.{IsWired}
 use Rattle.reo_net_laws.proofs.Sides.{side_in_range}
-use Rattle.reo_reach.specs.Width.{IsJointIn}
-use Rattle.reo_support.specs.declared.value.JointValue.{JointValue}
-use Rattle.reo_support.specs.declared.value.JointValue.TheVariants.{Flow, RG, GR, GG, Jam}
-use Rattle.reo_support.specs.Values.{Names, Family, no_joint, joint_of, giver_side, taker_side, AtSide}
-use Rattle.reo_support.specs.Supported.{IsUsed, IsSupported, IsInGreatest, IsNarrowed}
-use Rattle.reo_support.proofs.Narrowing.{narrowed_further, narrowed_whole}
+use Rattle.reo_joint_values.specs.Many.{IsJointIn}
+use Rattle.reo_joint_values.specs.declared.value.JointValue.{JointValue}
+use Rattle.reo_joint_values.specs.declared.value.JointValue.TheVariants.{Flow, RG, GR, GG, Jam}
+use Rattle.reo_joint_values.specs.Values.{Names, Family, no_joint, joint_of, giver_side, taker_side, AtSide}
+use Rattle.reo_joint_values.specs.Supported.{IsUsed, IsSupported, IsInGreatest, IsNarrowed}
+use Rattle.reo_joint_values.proofs.Narrowing.{narrowed_further, narrowed_whole}
 use Rattle.reo_weights.specs.Weights.{all_values, AreSupported}
 use Rattle.reo_weights.proofs.Decisions.{IsDecided, is_so, so_true, true_so, both_decided, same_decided, true_decided, some_in}
 use Rattle.reo_weights.proofs.ListLemmas.{AreOnce}

@@ -12,3 +12,9 @@ pub mod PartLists
 pub mod StandLists
 pub mod UseLemmas
 pub mod WeightLemmas
+pub mod FewerEnds
+pub mod FewerStands
+pub mod FewerSupport
+pub mod FewerWeights
+pub mod BoundLemmas
+pub mod BoundWeights

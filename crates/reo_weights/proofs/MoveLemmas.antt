@@ -13,15 +13,15 @@ use Rattle.reo_net_base.specs.Wired.{IsWired}
 use Rattle.reo_net_laws.specs.Ends.{from_in}
 use Rattle.reo_net_laws.specs.Parts.{IsClosed}
 use Rattle.reo_net_laws.proofs.Sets.{and_left, and_right}
-use Rattle.reo_reach.specs.Standing.{giver_of}
-use Rattle.reo_reach.specs.Width.{IsJointIn}
-use Rattle.reo_support.specs.declared.value.JointValue.{JointValue}
-use Rattle.reo_support.specs.declared.value.JointValue.TheVariants.{Flow, RG, GR, GG, Jam}
-use Rattle.reo_support.specs.Values.{giver_mark, taker_mark, Names, Choice, Family, item_named, items_of, no_joint, joint_of, giver_side, AtSide}
-use Rattle.reo_support.specs.Fitting.{given_for, given_in, Fits}
-use Rattle.reo_support.specs.Supported.{IsUsed, IsWithin, IsInGreatest}
-use Rattle.reo_support.proofs.Fitting.{items_count, fits_local}
-use Rattle.reo_support.proofs.Narrowing.{at_cases}
+use Rattle.reo_joint_values.specs.Standing.{giver_of}
+use Rattle.reo_joint_values.specs.Many.{IsJointIn}
+use Rattle.reo_joint_values.specs.declared.value.JointValue.{JointValue}
+use Rattle.reo_joint_values.specs.declared.value.JointValue.TheVariants.{Flow, RG, GR, GG, Jam}
+use Rattle.reo_joint_values.specs.Values.{giver_mark, taker_mark, Names, Choice, Family, item_named, items_of, no_joint, joint_of, giver_side, AtSide}
+use Rattle.reo_joint_values.specs.Fitting.{given_for, given_in, Fits}
+use Rattle.reo_joint_values.specs.Supported.{IsUsed, IsWithin, IsInGreatest}
+use Rattle.reo_joint_values.proofs.Fitting.{items_count, fits_local}
+use Rattle.reo_joint_values.proofs.Narrowing.{at_cases}
 use Rattle.reo_weights.specs.Weights.{AreNamed, all_values}
 
 -- Choices by two namings, with the same items.

@@ -6,9 +6,9 @@ use Rattle.std.proofs.lemmas.Bool.{cases_lt}
 use Rattle.reo_values.specs.declared.value.Value.{Value}
 use Rattle.reo_net_base.specs.Net.{Net}
 use Rattle.reo_net_base.specs.Wired.{IsWired, IsOrder}
-use Rattle.reo_reach.specs.Standing.{CanStand}
-use Rattle.reo_reach.specs.Width.{HasMany, IsJointIn}
-use Rattle.reo_support.specs.Values.{Names}
+use Rattle.reo_joint_values.specs.Standing.{CanStand}
+use Rattle.reo_joint_values.specs.Many.{HasMany, IsJointIn}
+use Rattle.reo_joint_values.specs.Values.{Names}
 use Rattle.reo_weights.specs.Widths.{IsWide}
 use Rattle.reo_weights.specs.Weights.{AreNamed}
 use Rattle.reo_weights.proofs.Decisions.{IsDecided, both_decided, same_decided, some_decided}

@@ -16,7 +16,7 @@ use Rattle.reo_knots.specs.Labels.{AreLabels, same_label, renamed}
 use Rattle.reo_knots.proofs.KnotLemmas.{numbered}
 use Rattle.reo_knots.proofs.LinkLemmas.{own_labels, linked_labels}
 use Rattle.reo_knots.proofs.NumberLemmas.{more_numbered}
-use Rattle.reo_support.specs.Values.{joint_of, no_joint}
+use Rattle.reo_joint_values.specs.Values.{joint_of, no_joint}
 use Rattle.reo_weights.proofs.Decisions.{IsDecided, same_decided, some_decided}
 
 -- A list of numbers for the first n sides, in the order of the least sides of each label.

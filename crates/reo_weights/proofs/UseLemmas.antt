@@ -11,13 +11,13 @@ use Rattle.reo_net_base.specs.Net.{Net, Side, all_sides, no_side, row_count}
 use Rattle.reo_net_base.specs.Sides.{side_count}
 use Rattle.reo_net_base.specs.Wired.{IsWired}
 use Rattle.reo_net_laws.specs.Ends.{mark_in, IsRowOf}
-use Rattle.reo_support.specs.declared.value.JointValue.{JointValue}
-use Rattle.reo_support.specs.declared.value.JointValue.TheVariants.{RG}
-use Rattle.reo_support.specs.Values.{giver_mark, taker_mark, value_eq, Names, Choice, Family, item_named, joint_of, giver_side, taker_side, AtSide}
-use Rattle.reo_support.specs.Fitting.{given_in, passes_in, GivesValue, TakesValue, Fits, IsFrom}
-use Rattle.reo_support.specs.Supported.{IsUsed}
-use Rattle.reo_support.proofs.Fitting.{fits_local}
-use Rattle.reo_support.proofs.Narrowing.{value_same, same_value, at_cases}
+use Rattle.reo_joint_values.specs.declared.value.JointValue.{JointValue}
+use Rattle.reo_joint_values.specs.declared.value.JointValue.TheVariants.{RG}
+use Rattle.reo_joint_values.specs.Values.{giver_mark, taker_mark, value_eq, Names, Choice, Family, item_named, joint_of, giver_side, taker_side, AtSide}
+use Rattle.reo_joint_values.specs.Fitting.{given_in, passes_in, GivesValue, TakesValue, Fits, IsFrom}
+use Rattle.reo_joint_values.specs.Supported.{IsUsed}
+use Rattle.reo_joint_values.proofs.Fitting.{fits_local}
+use Rattle.reo_joint_values.proofs.Narrowing.{value_same, same_value, at_cases}
 use Rattle.reo_weights.specs.Weights.{all_values}
 use Rattle.reo_weights.proofs.Decisions.{IsDecided, both_decided, given_decided, same_decided, true_decided, each_decided, some_decided, some_in, marks_decided, options_decided}
 use Rattle.reo_weights.proofs.EqualItems.{items_decided}

@@ -1,5 +1,5 @@
 -- A set of sides has one weight.
-use Rattle.std.proofs.Common.{◌≡◌, ℕ, ◌<◌, ◌≤◌, List, [], Bool, true, length, get_or, inl, refl, ap, sym, ◌∙◌, subst, arith}
+use Rattle.std.proofs.Common.{◌≡◌, ℕ, zero, ◌<◌, ◌≤◌, List, [], ◌∷◌, Bool, true, length, get_or, inl, refl, ap, sym, ◌∙◌, subst, arith}
 use Rattle.std.specs.Prelude.{Contains, map}
 use Rattle.std.proofs.lemmas.List.{length-map, get_or-map}
 use Rattle.std.proofs.lemmas.List.Elements.{Contains-get_or}
@@ -7,11 +7,12 @@ use Rattle.std.proofs.lemmas.Grind.{same_number_lists}
 use Rattle.reo_net_base.specs.Net.{Net}
 use Rattle.reo_net_base.specs.Wired.{IsWired}
 use Rattle.reo_net_laws.specs.Parts.{IsClosed}
-use Rattle.reo_reach.specs.Width.{IsJointIn}
-use Rattle.reo_support.specs.declared.value.JointValue.{JointValue}
-use Rattle.reo_support.specs.Values.{Names, giver_side}
+use Rattle.reo_knots.specs.Knots.{IsLoop}
+use Rattle.reo_joint_values.specs.Many.{IsJointIn}
+use Rattle.reo_joint_values.specs.declared.value.JointValue.{JointValue}
+use Rattle.reo_joint_values.specs.Values.{Names, giver_side}
 use Rattle.reo_weights.specs.Weights.{AreNamed, all_values, AreSupported, IsWeight, product_of, capped}
-use Rattle.reo_weights.specs.Laws.{WeightIsSmall, WeightIsOne}
+use Rattle.reo_weights.specs.Laws.{WeightIsSmall, WeightIsOne, LooplessPartsWeighOne}
 use Rattle.reo_weights.proofs.ListLemmas.{fewer, same_increasing}
 use Rattle.reo_weights.proofs.MoveLemmas.{move, move_back, greatest_moves}
 
@@ -59,3 +60,19 @@ module _ (net : Net) (inside : ℕ → Bool) (wired : IsWired net) (closed : IsC
 -- A closed set of sides has one weight.
 pub one_weight : WeightIsOne
 one_weight net wired inside closed w x p q = same_weight net inside wired closed w x p q
+
+-- The numbers of which nothing holds.
+no_numbers : (holds : ℕ → Type 0) → ((x : ℕ) → holds x → ⊥) → (xs : List ℕ) → ((x : ℕ) → Contains xs x → holds x) → xs ≡ []
+no_numbers holds none [] are = refl
+no_numbers holds none (x ∷ xs) are = absurd (none x (are x (zero, omega arith, refl)))
+
+no_values : (values : List (List JointValue)) → length values ≡ 0 → product_of (map length values) ≡ 1
+no_values [] none = refl
+no_values (v ∷ vs) none = absurd (omega arith)
+
+-- Without a loop joint there is nothing to multiply.
+pub loopless : LooplessPartsWeighOne
+loopless net inside none weight is =
+    let no_loops = no_numbers (λ j. IsJointIn net inside j × IsLoop net j) (λ j h. none j h.0 h.1) is.loops (λ j h. (is.are_loops.exact j).0 h) in
+    let no_lists : length is.values ≡ 0 = is.one_each ∙ ap length no_loops in
+    is.is ∙ ap capped (no_values is.values no_lists)

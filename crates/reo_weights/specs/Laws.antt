@@ -4,7 +4,8 @@ use Rattle.reo_net_base.specs.Net.{Net}
 use Rattle.reo_net_base.specs.Sides.{side_count}
 use Rattle.reo_net_base.specs.Wired.{IsWired, IsOrder}
 use Rattle.reo_net_laws.specs.Parts.{IsClosed, SameKnot}
-use Rattle.reo_knots.specs.Knots.{AreNumbers, in_knot}
+use Rattle.reo_knots.specs.Knots.{AreNumbers, IsLoop, in_knot}
+use Rattle.reo_joint_values.specs.Many.{IsJointIn}
 use Rattle.reo_weights.specs.Weights.{IsWeight}
 use Rattle.reo_weights.specs.Over.{Cause, IsWithin, IsOver}
 use Rattle.reo_weights.specs.Over.Cause.{spent, wide}
@@ -13,6 +14,17 @@ use Rattle.reo_weights.specs.Over.Cause.{spent, wide}
 abbrev pub WeightIsOne : Type 0
 WeightIsOne = (net : Net) → IsWired net → (inside : ℕ → Bool) → IsClosed net inside
     → (w x : ℕ) → IsWeight net inside w → IsWeight net inside x → w ≡ x
+
+-- Where the joints have an order, each set of sides has a weight.
+abbrev pub WeightExists : Type 0
+WeightExists = (net : Net) → IsWired net → (order : List ℕ) → IsOrder net order
+    → (inside : ℕ → Bool) → (weight : ℕ) × IsWeight net inside weight
+
+-- A set of sides without a loop joint weighs one.
+abbrev pub LooplessPartsWeighOne : Type 0
+LooplessPartsWeighOne = (net : Net) (inside : ℕ → Bool)
+    → ((j : ℕ) → IsJointIn net inside j → IsLoop net j → ⊥)
+    → (weight : ℕ) → IsWeight net inside weight → weight ≡ 1
 
 -- No weight is above the greatest.
 abbrev pub WeightIsSmall : Type 0

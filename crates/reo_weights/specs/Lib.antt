@@ -1,4 +1,6 @@
 pub mod Widths
 pub mod Weights
 pub mod Over
+pub mod Fewer
+pub mod Bounds
 pub mod Laws

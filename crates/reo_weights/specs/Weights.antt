@@ -3,12 +3,12 @@ use Rattle.std.specs.Prelude.{ℕ, ◌*◌, ◌<◌, ◌≡◌, ◌≢◌, ◌�
 use Rattle.reo_values.specs.declared.value.Value.{Value}
 use Rattle.reo_net_base.specs.Net.{Net}
 use Rattle.reo_knots.specs.Knots.{IsLoop, AreThose}
-use Rattle.reo_reach.specs.Standing.{CanStand}
-use Rattle.reo_reach.specs.Width.{IsJointIn}
-use Rattle.reo_support.specs.declared.value.JointValue.{JointValue}
-use Rattle.reo_support.specs.declared.value.JointValue.TheVariants.{Flow, RG, GR, GG, Jam}
-use Rattle.reo_support.specs.Values.{Names, Family}
-use Rattle.reo_support.specs.Supported.{IsInGreatest}
+use Rattle.reo_joint_values.specs.Standing.{CanStand}
+use Rattle.reo_joint_values.specs.Many.{IsJointIn}
+use Rattle.reo_joint_values.specs.declared.value.JointValue.{JointValue}
+use Rattle.reo_joint_values.specs.declared.value.JointValue.TheVariants.{Flow, RG, GR, GG, Jam}
+use Rattle.reo_joint_values.specs.Values.{Names, Family}
+use Rattle.reo_joint_values.specs.Supported.{IsInGreatest}
 
 -- Numbers for the items that can stand at the joints of a set of sides: at each joint each of them has one number, and nothing else
 -- has one.

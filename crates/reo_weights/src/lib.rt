@@ -2,10 +2,14 @@
 //! its contract is a law.
 #![tactic(auto)]
 
+mod bounds;
+mod fewer;
 mod numbers;
 mod over;
 mod weights;
 
+pub use bounds::{bounded_parts_are_within, few_items_stand, weight_is_at_most};
+pub use fewer::{fewer_rows_stay_within, fewer_rows_weigh_no_more};
 pub use numbers::numbers_are_one;
 pub use over::{cause_is_one, causes_are_small, over_is_decided, within_is_not_over};
-pub use weights::{weight_is_one, weight_is_small};
+pub use weights::{loopless_parts_weigh_one, weight_exists, weight_is_one, weight_is_small};

@@ -7,12 +7,12 @@ use Rattle.std.proofs.lemmas.List.{get_or_default}
 use Rattle.reo_net_base.specs.declared.joint.Joint.{Joint}
 use Rattle.reo_net_base.specs.Net.{Net, side_at}
 use Rattle.reo_knots.specs.Knots.{Knotted, AreKnots, IsLoopOf, in_knot, knot_count}
-use Rattle.reo_support.specs.declared.value.JointValue.{JointValue}
-use Rattle.reo_support.specs.Values.{value_eq, no_joint, giver_side}
-use Rattle.reo_support.specs.Chosen.{OneAtLoops}
-use Rattle.reo_support.proofs.Labels.{eq_same}
-use Rattle.reo_support.proofs.Narrowing.{same_value}
-use Rattle.reo_propagate_rows.specs.Sets.{code_of}
+use Rattle.reo_joint_values.specs.declared.value.JointValue.{JointValue}
+use Rattle.reo_joint_values.specs.Values.{value_eq, no_joint, giver_side}
+use Rattle.reo_support.specs.Sets.{OneAtLoops}
+use Rattle.reo_joint_values.proofs.Equal.{eq_same}
+use Rattle.reo_joint_values.proofs.Narrowing.{same_value}
+use Rattle.reo_rows.specs.Sets.{code_of}
 use Rattle.reo_propagate.specs.ListedSets.{in_set, listed}
 use Rattle.reo_propagate.proofs.Listed.{set_more}
 use Rattle.reo_yardstick.specs.Bounds.{AreBelow, AreSingle}

@@ -7,8 +7,8 @@ use Rattle.reo_net_base.specs.declared.port.Way.{Way}
 use Rattle.reo_net_base.specs.declared.port.Way.TheVariants.{In}
 use Rattle.reo_net_base.specs.PortState.{PortState}
 use Rattle.reo_values.specs.declared.kindred.Kindred.TheVariants as kindreds
-use Rattle.reo_engine_base.specs.Offering.{AreJustPorts}
-use Rattle.reo_flatten_ports.specs.PortsOf.{HasPorts}
+use Rattle.reo_rounds.specs.Offering.{AreJustPorts}
+use Rattle.reo_run_premises.specs.PortsOf.{HasPorts}
 
 -- What stands in for a port that there is not.
 no_port : Port

@@ -1,8 +1,8 @@
 -- Bounds of sets that are given as lists.
 use Rattle.std.specs.Prelude.{ℕ, ◌+◌, ◌<◌, ◌≡◌, true, List, [], length, slice_index, slice_index_or}
 use Rattle.reo_values.specs.declared.value.Value.{Value}
-use Rattle.reo_support.specs.declared.value.JointValue.{JointValue}
-use Rattle.reo_propagate_rows.specs.Sets.{code_of}
+use Rattle.reo_joint_values.specs.declared.value.JointValue.{JointValue}
+use Rattle.reo_rows.specs.Sets.{code_of}
 use Rattle.reo_propagate.specs.ListedSets.{in_set}
 
 -- The numbers of values are below a bound.

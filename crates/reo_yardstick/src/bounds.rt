@@ -1,12 +1,12 @@
 //! What a search asks of its sets, looked at before it.
 ghost use Rattle.std.specs.Prelude.{◌≡◌, ◌<◌, ◌+◌, [], IsTrue, length, slice_index_or};
 ghost use Rattle.reo_knots.specs.Knots.{knot_count};
-ghost use Rattle.reo_propagate_rows.specs.Sets.{code_of};
+ghost use Rattle.reo_rows.specs.Sets.{code_of};
 ghost use Rattle.reo_yardstick.specs.Bounds.{AreBelow, AreWithin, AreSingle};
 
+use reo_joint_values::JointValue;
 use reo_knots::Knots;
 use reo_propagate::Sets;
-use reo_support::JointValue;
 use reo_values::{List, Value};
 
 /// Whether a value has no flow, or the number of one of so many items.

@@ -2,18 +2,18 @@
 ghost use Rattle.std.specs.Prelude.{IfSome, map};
 ghost use Rattle.std.specs.List.{All};
 ghost use Rattle.reo_trees_laws.specs.Spelled.{IsSpelled};
-ghost use Rattle.reo_rules_base.specs.Scopes.{connectors_of};
+ghost use Rattle.reo_rules.specs.Scopes.{connectors_of};
 ghost use Rattle.reo_flatten_laws.specs.Plain.{HasPlainNames};
 ghost use Rattle.reo_kinds.specs.Kinds.{port_state_of};
-ghost use Rattle.reo_engine_base.specs.Offering.{AreJustPorts};
+ghost use Rattle.reo_rounds.specs.Offering.{AreJustPorts};
 
 use reo_engine::Engine;
 use reo_flatten::flatten;
 use reo_flatten_laws::names_are_plain;
-use reo_flatten_ports::flat_ports_fit;
 use reo_kinds::Kind;
 use reo_net_circuit::Circuit;
 use reo_parser::parse;
+use reo_run_premises::flat_ports_fit;
 use reo_trees::Program;
 use reo_trees_laws::programs_are_spelled;
 use std::alloc::Global;

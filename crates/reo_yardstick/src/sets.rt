@@ -6,13 +6,13 @@ ghost use Rattle.reo_kinds.specs.Kinds.{behaviour_of};
 ghost use Rattle.reo_reach.specs.Supplied.{AreShort, IsSupply};
 
 use crate::values::value_at;
+use reo_joint_values::JointValue::{self, Flow, GG, GR, Jam, RG};
 use reo_kinds::Kind;
 use reo_knots::Knots;
 use reo_net_base::Colouring;
 use reo_net_circuit::Circuit;
 use reo_propagate::Sets;
 use reo_reach::Supply;
-use reo_support::JointValue::{self, Flow, GG, GR, Jam, RG};
 use reo_values::{List, NoMemory};
 use std::alloc::Global;
 

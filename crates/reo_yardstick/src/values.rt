@@ -5,10 +5,10 @@ ghost use Rattle.reo_net_base.specs.Sides.{AreRowsOf};
 ghost use Rattle.reo_net_base.specs.Colouring.{IsColouring};
 ghost use Rattle.reo_kinds.specs.Kinds.{behaviour_of};
 
+use reo_joint_values::JointValue::{self, Flow, GG, GR, Jam, RG};
 use reo_kinds::Kind;
 use reo_net_base::{Colouring, Mark};
 use reo_net_circuit::Circuit;
-use reo_support::JointValue::{self, Flow, GG, GR, Jam, RG};
 use reo_values::{List, Value, same_item};
 
 /// The number of an item: past the last where it is none of these.

@@ -1,6 +1,6 @@
 use Rattle.std.proofs.Common.{◌∙◌, ap, sym}
 use Rattle.reo_net_base.specs.Net.{Net, net_of}
-use Rattle.reo_engine_base.specs.Plans.{jammed_sides}
+use Rattle.reo_rounds.specs.Plans.{jammed_sides}
 use Rattle.reo_engine.proofs.planning.shows_its_own.Goals as goal
 
 pub returns-then-plan-jammed_sides : goal.returns-then-plan-jammed_sides

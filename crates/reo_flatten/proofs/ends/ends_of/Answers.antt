@@ -2,8 +2,8 @@
 use Rattle.std.proofs.Common.{arith, ◌≡◌, ◌≤◌, ◌∙◌, ◌++◌, ◌<◌, true, false, length, get_or, sym, subst}
 use Rattle.std.proofs.lemmas.List.{take_all}
 use Rattle.reo_kinds.specs.Kinds.{behaviour_of}
-use Rattle.reo_flatten_base.specs.Unfolding.{Placed}
-use Rattle.reo_flatten_base.specs.Ends.{ends_in}
+use Rattle.reo_flat.specs.Unfolding.{Placed}
+use Rattle.reo_flat.specs.Ends.{ends_in}
 use Rattle.reo_flatten.specs.NodeEnds.{placed_with, name_at, AreEnds}
 use Rattle.reo_flatten.proofs.EndLemmas.{ends_from-more, placed_is, many_placed}
 use Rattle.reo_flatten.proofs.ends.ends_of.Goals as goal

@@ -1,6 +1,6 @@
 -- The joints so far.
 use Rattle.std.proofs.Common.{◌≡◌, ◌++◌, take}
-use Rattle.reo_flatten_base.specs.Joints.{ends_of, pairs}
+use Rattle.reo_flat.specs.Joints.{ends_of, pairs}
 use Rattle.reo_flatten.proofs.joints.into_merger.Given as goal
 
 abbrev pub invariant-loop-end : goal.invariant-loop-end

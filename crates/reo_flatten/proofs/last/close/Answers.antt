@@ -10,7 +10,7 @@ use Rattle.reo_net_circuit.specs.Fault.{AllJoined, AllRight, IsEndsFault, IsWayF
 use Rattle.reo_kinds.specs.declared.kind.Kind.{Kind}
 use Rattle.reo_kinds.specs.Kinds.{behaviour_of}
 use Rattle.reo_trees.specs.declared.programs.Declaration.{Declaration}
-use Rattle.reo_flatten_base.specs.Flat.{primitives_of, ports_of, joints_in, nodes_of, homes_in, net_of_program}
+use Rattle.reo_flat.specs.Flat.{primitives_of, ports_of, joints_in, nodes_of, homes_in, net_of_program}
 use Rattle.reo_flatten.proofs.last.close.Goals as goal
 
 same_net : (ds : List Declaration) (ks : List Kind) (n : ℕ) (js : List Joint) → ks ≡ primitives_of ds → n ≡ length (ports_of ds) → js ≡ joints_in ds → net_of behaviour_of (wiring_of ks n js) ≡ net_of_program ds

@@ -1,6 +1,6 @@
 -- Those so far.
 use Rattle.std.proofs.Common.{◌≡◌, take}
-use Rattle.reo_rules_base.specs.Scopes.{parameter_names}
+use Rattle.reo_rules.specs.Scopes.{parameter_names}
 use Rattle.reo_flatten.proofs.main_ports.names_of.Given as goal
 
 abbrev pub invariant-loop-parameter : goal.invariant-loop-parameter

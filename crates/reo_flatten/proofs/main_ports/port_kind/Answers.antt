@@ -6,7 +6,7 @@ use Rattle.reo_values.specs.declared.kindred.Kindred.{Kindred}
 use Rattle.reo_kinds.specs.declared.kind.WriterPort.{WriterPort}
 use Rattle.reo_kinds.specs.declared.kind.Kind.TheVariants.{Writer}
 use Rattle.reo_kinds.specs.Items.{offer_fits}
-use Rattle.reo_flatten_base.specs.Flat.{port_kind}
+use Rattle.reo_flat.specs.Flat.{port_kind}
 use Rattle.reo_flatten.proofs.main_ports.port_kind.Goals as goal
 
 abbrev free_with : (k : Kindred) → true ≡ true → WriterPort

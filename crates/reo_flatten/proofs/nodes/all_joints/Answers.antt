@@ -1,9 +1,9 @@
 -- One node more.
 use Rattle.std.proofs.Common.{arith, ◌≡◌, ◌≤◌, ◌<◌, ◌∙◌, ◌+◌, ◌++◌, Bool, true, false, cond, [], List, ℕ, length, replicate, sym, ap}
 use Rattle.std.proofs.lemmas.List.{take_all, get_or_default}
-use Rattle.reo_flatten_base.specs.Unfolding.{Placed}
-use Rattle.reo_flatten_base.specs.Joints.{is_many, many, joints_of}
-use Rattle.reo_flatten_base.specs.Flat.{joints_at, homes_at}
+use Rattle.reo_flat.specs.Unfolding.{Placed}
+use Rattle.reo_flat.specs.Joints.{is_many, many, joints_of}
+use Rattle.reo_flat.specs.Flat.{joints_at, homes_at}
 use Rattle.reo_flatten.specs.NodeEnds.{name_at, AreEnds}
 use Rattle.reo_flatten.proofs.WiringLemmas.{after-more, joints-more, homes-more}
 use Rattle.reo_flatten.proofs.nodes.all_joints.Goals as goal

@@ -1,7 +1,7 @@
 -- Those of the nodes so far.
 use Rattle.std.proofs.Common.{◌≡◌, ◌≤◌, ◌+◌, ◌*◌, List, ℕ, take}
-use Rattle.reo_flatten_base.specs.Unfolding.{Placed}
-use Rattle.reo_flatten_base.specs.Flat.{joints_at, homes_at}
+use Rattle.reo_flat.specs.Unfolding.{Placed}
+use Rattle.reo_flat.specs.Flat.{joints_at, homes_at}
 use Rattle.reo_flatten.specs.NodeEnds.{AreEnds}
 use Rattle.reo_flatten.proofs.WiringLemmas.{after}
 use Rattle.reo_flatten.proofs.nodes.all_joints.Given as goal

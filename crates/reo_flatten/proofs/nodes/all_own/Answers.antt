@@ -2,8 +2,8 @@
 use Rattle.std.proofs.Common.{arith, ◌≤◌, ◌<◌, ◌∙◌, ◌++◌, [], length, ap, take}
 use Rattle.std.specs.List.{flat_map}
 use Rattle.std.proofs.lemmas.List.{append_assoc, take_all, get_or_default}
-use Rattle.reo_rules_base.proofs.AfterLemmas.{more_flat}
-use Rattle.reo_flatten_base.specs.Flat.{own_kinds}
+use Rattle.reo_rules.proofs.AfterLemmas.{more_flat}
+use Rattle.reo_flat.specs.Flat.{own_kinds}
 use Rattle.reo_flatten.specs.NodeParts.{own}
 use Rattle.reo_flatten.specs.NodeEnds.{name_at}
 use Rattle.reo_flatten.proofs.nodes.all_own.Goals as goal

@@ -1,8 +1,8 @@
 -- Those of the nodes so far.
 use Rattle.std.proofs.Common.{◌≡◌, ◌++◌, List, ℕ, take}
 use Rattle.std.specs.List.{flat_map}
-use Rattle.reo_flatten_base.specs.Unfolding.{Placed}
-use Rattle.reo_flatten_base.specs.Flat.{own_kinds}
+use Rattle.reo_flat.specs.Unfolding.{Placed}
+use Rattle.reo_flat.specs.Flat.{own_kinds}
 use Rattle.reo_flatten.specs.NodeEnds.{AreEnds}
 use Rattle.reo_flatten.proofs.nodes.all_own.Given as goal
 

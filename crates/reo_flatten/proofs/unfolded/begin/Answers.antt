@@ -2,12 +2,12 @@
 use Rattle.std.proofs.Common.{arith, ◌≡◌, ◌∙◌, ◌<◌, ◌++◌, [], length, map, get_or, position, bytes_eq, codes, sym, ap, subst}
 use Rattle.std.proofs.lemmas.List.{map-append, length-map}
 use Rattle.reo_net_base.specs.declared.port.Port.{Port}
-use Rattle.reo_rules_base.specs.Types.{types_of}
+use Rattle.reo_rules.specs.Types.{types_of}
 use Rattle.reo_trees.specs.declared.programs.Connector.{Connector}
-use Rattle.reo_rules_base.specs.Scopes.{parameter_names, connector_names, connectors_of}
+use Rattle.reo_rules.specs.Scopes.{parameter_names, connector_names, connectors_of}
 use Rattle.reo_flatten_unfold.proofs.Positions.{found_within}
-use Rattle.reo_flatten_base.specs.Unfolding.{Placed, Meaning, no_meaning, meanings_of, meaning_named}
-use Rattle.reo_flatten_base.specs.Flat.{port_of, port_placed, ports_of, main_parameters}
+use Rattle.reo_flat.specs.Unfolding.{Placed, Meaning, no_meaning, meanings_of, meaning_named}
+use Rattle.reo_flat.specs.Flat.{port_of, port_placed, ports_of, main_parameters}
 use Rattle.reo_flatten_unfold.specs.Ground.{IsStand, Stands}
 use Rattle.reo_flatten_unfold.specs.Adds.{Adds}
 use Rattle.reo_flatten_unfold.specs.declared.unfold.Unfolded.{Unfolded}

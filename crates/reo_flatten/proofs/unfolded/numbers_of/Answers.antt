@@ -1,8 +1,8 @@
 -- One name more.
 use Rattle.std.proofs.Common.{◌≡◌, ◌∙◌, ap, false}
-use Rattle.reo_rules_base.specs.Lists.{has_name}
-use Rattle.reo_rules_base.specs.Names.{with_name}
-use Rattle.reo_rules_base.proofs.AfterLemmas.{more_seen}
+use Rattle.reo_rules.specs.Lists.{has_name}
+use Rattle.reo_rules.specs.Names.{with_name}
+use Rattle.reo_rules.proofs.AfterLemmas.{more_seen}
 use Rattle.reo_flatten_unfold.proofs.LocalLemmas.{noted}
 use Rattle.reo_flatten.proofs.EndLemmas.{new_name}
 use Rattle.reo_flatten.proofs.unfolded.numbers_of.Goals as goal

@@ -1,15 +1,15 @@
 -- Rule by rule.
 use Rattle.std.proofs.Common.{◌∙◌, ◌++◌, sym, ap, subst}
-use Rattle.reo_rules_base.specs.Lists.{first_of}
-use Rattle.reo_rules_base.specs.Rules.{rule_breaks}
-use Rattle.reo_rules_base.specs.Twice.{twice}
-use Rattle.reo_rules_base.specs.Unknown.{unknown}
-use Rattle.reo_rules_base.specs.Mistyped.{mistyped}
-use Rattle.reo_rules_base.specs.Ranges.{out_of_range}
-use Rattle.reo_rules_base.proofs.AfterLemmas.{left_none, right_none, first_left, first_right}
-use Rattle.reo_flatten_base.specs.Sizes.{no_main, too_many}
-use Rattle.reo_flatten_base.specs.Refusals.{breaks}
-use Rattle.reo_rules_base.specs.Judged.{IsFirst}
+use Rattle.reo_rules.specs.Lists.{first_of}
+use Rattle.reo_rules.specs.Rules.{rule_breaks}
+use Rattle.reo_rules.specs.Twice.{twice}
+use Rattle.reo_rules.specs.Unknown.{unknown}
+use Rattle.reo_rules.specs.Mistyped.{mistyped}
+use Rattle.reo_rules.specs.Ranges.{out_of_range}
+use Rattle.reo_rules.proofs.AfterLemmas.{left_none, right_none, first_left, first_right}
+use Rattle.reo_flat.specs.Sizes.{no_main, too_many}
+use Rattle.reo_flat.specs.Refusals.{breaks}
+use Rattle.reo_rules.specs.Judged.{IsFirst}
 use Rattle.reo_flatten_unfold.specs.Fits.{AreFit}
 use Rattle.reo_flatten.proofs.NoCycles.{refused_by}
 use Rattle.reo_flatten.proofs.MainLemmas.{main_there, main_missing}

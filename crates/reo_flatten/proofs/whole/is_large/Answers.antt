@@ -1,7 +1,7 @@
 -- By the sizes of `main`.
 use Rattle.std.proofs.Common.{arith, ◌∙◌, ◌+◌, length, position, bytes_eq, codes, sym, ap, subst}
 use Rattle.std.proofs.lemmas.Bool.{ltb-true}
-use Rattle.reo_flatten_base.specs.Unfolding.{meaning_named, meanings_of}
+use Rattle.reo_flat.specs.Unfolding.{meaning_named, meanings_of}
 use Rattle.reo_flatten_unfold.specs.Ground.{IsStand, Stands}
 use Rattle.reo_flatten.proofs.MainLemmas.{main_parameters_are, main_within}
 use Rattle.reo_flatten.proofs.CountLemmas.{many_uses, many_deep, many_primitives, placed_within, placed_count, main_sizes}

@@ -1,11 +1,11 @@
 -- By what `main` unfolds to.
 use Rattle.std.proofs.Common.{arith, ◌∙◌, ◌≤◌, length, codes, sym, ap, subst}
 use Rattle.reo_values.specs.Valid.{AreDistinct}
-use Rattle.reo_rules_base.specs.Twice.{twice}
-use Rattle.reo_rules_base.proofs.AfterLemmas.{left_none}
-use Rattle.reo_flatten_base.specs.Unfolding.{meaning_named, meanings_of}
-use Rattle.reo_flatten_base.specs.Flat.{placed_of, nodes_of, primitives_of, joints_at, homes_at}
-use Rattle.reo_flatten_base.specs.Sizes.{too_many}
+use Rattle.reo_rules.specs.Twice.{twice}
+use Rattle.reo_rules.proofs.AfterLemmas.{left_none}
+use Rattle.reo_flat.specs.Unfolding.{meaning_named, meanings_of}
+use Rattle.reo_flat.specs.Flat.{placed_of, nodes_of, primitives_of, joints_at, homes_at}
+use Rattle.reo_flat.specs.Sizes.{too_many}
 use Rattle.reo_flatten.proofs.MainLemmas.{main_there}
 use Rattle.reo_flatten.proofs.CountLemmas.{many_primitives, few_enough, too_many_is, too_many_none, first_too_many}
 use Rattle.reo_flatten.proofs.PartLemmas.{ends_are, kinds_are, first_is, first_low, no_breaks, few_nodes}

@@ -7,12 +7,12 @@ use Rattle.reo_trees.specs.declared.items.Form.TheVariants as forms
 use Rattle.reo_trees.specs.declared.programs.Parameter.{Parameter}
 use Rattle.reo_trees.specs.declared.programs.Connector.{Connector}
 use Rattle.reo_trees.specs.declared.programs.Declaration.TheVariants as declarations
-use Rattle.reo_rules_base.specs.declared.fault.FlatFault.TheVariants as faults
-use Rattle.reo_rules_base.specs.Lists.{each_after, where_true}
-use Rattle.reo_rules_base.specs.Types.{Typed, types_of, type_named}
-use Rattle.reo_rules_base.specs.Scopes.{connectors_of, scope_of}
-use Rattle.reo_rules_base.specs.Mistyped.{is_mistyped, mistyped_in}
-use Rattle.reo_rules_base.specs.Ranges.{range_in_type, range_in_item, range_in}
+use Rattle.reo_rules.specs.declared.fault.FlatFault.TheVariants as faults
+use Rattle.reo_rules.specs.Lists.{each_after, where_true}
+use Rattle.reo_rules.specs.Types.{Typed, types_of, type_named}
+use Rattle.reo_rules.specs.Scopes.{connectors_of, scope_of}
+use Rattle.reo_rules.specs.Mistyped.{is_mistyped, mistyped_in}
+use Rattle.reo_rules.specs.Ranges.{range_in_type, range_in_item, range_in}
 use Rattle.reo_flatten_laws.specs.Channels.{IsForItem}
 use Rattle.reo_flatten_laws.proofs.Each.{each_of}
 use Rattle.reo_flatten_laws.proofs.Breaks.{left_none, right_none, fails, after_at}

@@ -8,11 +8,11 @@ use Rattle.reo_trees.specs.declared.items.Form.TheVariants as forms
 use Rattle.reo_trees.specs.declared.programs.Parameter.{Parameter}
 use Rattle.reo_trees.specs.declared.programs.Declaration.{Declaration}
 use Rattle.reo_trees.specs.declared.programs.Declaration.TheVariants as declarations
-use Rattle.reo_rules_base.specs.Lists.{each_after}
-use Rattle.reo_rules_base.specs.Types.{Typed, types_of, names_of}
-use Rattle.reo_rules_base.specs.Scopes.{parameter_names, parameter_type}
-use Rattle.reo_flatten_base.specs.Unfolding.{Meaning, no_meaning, meaning_named, meaning_of, meanings_after, meanings_of, nodes_in, use_path}
-use Rattle.reo_flatten_base.specs.Flat.{main_parameters}
+use Rattle.reo_rules.specs.Lists.{each_after}
+use Rattle.reo_rules.specs.Types.{Typed, types_of, names_of}
+use Rattle.reo_rules.specs.Scopes.{parameter_names, parameter_type}
+use Rattle.reo_flat.specs.Unfolding.{Meaning, no_meaning, meaning_named, meaning_of, meanings_after, meanings_of, nodes_in, use_path}
+use Rattle.reo_flat.specs.Flat.{main_parameters}
 use Rattle.reo_flatten_laws.specs.NodeTypes.{Typing, no_typing, typing_named, typed_in, typing_of, typings_after, typings_of}
 use Rattle.reo_flatten_laws.proofs.channels.nodes_have_types.Goals as goal
 

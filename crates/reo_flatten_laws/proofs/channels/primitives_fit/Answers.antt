@@ -8,10 +8,10 @@ use Rattle.reo_values.specs.declared.kindred.Kindred.{Kindred}
 use Rattle.reo_values.specs.declared.kindred.Kindred.TheVariants as kinds
 use Rattle.reo_trees.specs.declared.programs.Parameter.{Parameter}
 use Rattle.reo_trees_laws.specs.Spelled.{IsSpelledDeclaration}
-use Rattle.reo_rules_base.specs.Types.{Typed, names_of, type_named, types_of, resolved}
-use Rattle.reo_rules_base.specs.Scopes.{connectors_of, parameter_names, parameter_type}
-use Rattle.reo_flatten_base.specs.Unfolding.{meaning_named, meanings_of}
-use Rattle.reo_flatten_base.specs.Flat.{main_parameters, way_of, port_of, port_kind, port_placed, nodes_of, placed_of}
+use Rattle.reo_rules.specs.Types.{Typed, names_of, type_named, types_of, resolved}
+use Rattle.reo_rules.specs.Scopes.{connectors_of, parameter_names, parameter_type}
+use Rattle.reo_flat.specs.Unfolding.{meaning_named, meanings_of}
+use Rattle.reo_flat.specs.Flat.{main_parameters, way_of, port_of, port_kind, port_placed, nodes_of, placed_of}
 use Rattle.reo_flatten_laws.specs.NodeTypes.{typings_of, node_types_of}
 use Rattle.reo_flatten_laws.specs.Fitting.{Fits}
 use Rattle.reo_flatten_laws.proofs.Breaks.{unbroken}

@@ -4,10 +4,10 @@ use Rattle.std.specs.List.{AllByRecursion}
 use Rattle.reo_values.specs.Valid.{IsValid}
 use Rattle.reo_trees.specs.declared.programs.Parameter.{Parameter}
 use Rattle.reo_trees_laws.specs.Spelled.{IsSpelledDeclaration}
-use Rattle.reo_rules_base.specs.Types.{Typed, types_of, resolved}
-use Rattle.reo_rules_base.specs.Scopes.{connectors_of, parameter_type}
-use Rattle.reo_flatten_base.specs.Unfolding.{meanings_of}
-use Rattle.reo_flatten_base.specs.Flat.{main_parameters}
+use Rattle.reo_rules.specs.Types.{Typed, types_of, resolved}
+use Rattle.reo_rules.specs.Scopes.{connectors_of, parameter_type}
+use Rattle.reo_flat.specs.Unfolding.{meanings_of}
+use Rattle.reo_flat.specs.Flat.{main_parameters}
 use Rattle.reo_flatten_laws.specs.NodeTypes.{typing_named, typings_of, node_types_of}
 use Rattle.reo_flatten_laws.proofs.Breaks.{unbroken}
 use Rattle.reo_flatten_laws.proofs.Each.{by_recursion, each_of, both}

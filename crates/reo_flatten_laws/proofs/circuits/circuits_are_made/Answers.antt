@@ -10,9 +10,9 @@ use Rattle.reo_net_base.specs.Behaviour.{Behaviour}
 use Rattle.reo_net_base.specs.Net.{behaviour_at}
 use Rattle.reo_net_base.specs.Wired.{IsPort}
 use Rattle.reo_kinds.specs.Kinds.{behaviour_of}
-use Rattle.reo_rules_base.specs.Scopes.{parameter_names}
-use Rattle.reo_flatten_base.specs.Unfolding.{Placed, meaning_named, meanings_of}
-use Rattle.reo_flatten_base.specs.Flat.{main_parameters, nodes_of, placed_of, ports_of, port_placed, port_kind, own_kinds, primitives_of}
+use Rattle.reo_rules.specs.Scopes.{parameter_names}
+use Rattle.reo_flat.specs.Unfolding.{Placed, meaning_named, meanings_of}
+use Rattle.reo_flat.specs.Flat.{main_parameters, nodes_of, placed_of, ports_of, port_placed, port_kind, own_kinds, primitives_of}
 use Rattle.reo_flatten_laws.proofs.Breaks.{unbroken}
 use Rattle.reo_flatten_laws.proofs.RightWays.{Holds, all_hold, holds_split}
 use Rattle.reo_flatten_laws.proofs.circuits.circuits_are_made.Goals as goal

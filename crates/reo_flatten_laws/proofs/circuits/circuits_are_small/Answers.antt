@@ -3,9 +3,9 @@ use Rattle.std.proofs.Common.{arith, ◌≡◌, ◌<◌, suc, length, map, Bool,
 use Rattle.std.specs.List.{AllByRecursion, flat_map}
 use Rattle.std.proofs.lemmas.Bool.{leb-false}
 use Rattle.std.proofs.lemmas.List.{length-append, length-map}
-use Rattle.reo_flatten_base.specs.Unfolding.{Placed, meaning_named, meanings_of}
-use Rattle.reo_flatten_base.specs.Ends.{incoming, outgoing}
-use Rattle.reo_flatten_base.specs.Flat.{nodes_of, placed_of, own_kinds, primitives_of}
+use Rattle.reo_flat.specs.Unfolding.{Placed, meaning_named, meanings_of}
+use Rattle.reo_flat.specs.Ends.{incoming, outgoing}
+use Rattle.reo_flat.specs.Flat.{nodes_of, placed_of, own_kinds, primitives_of}
 use Rattle.reo_flatten_laws.proofs.Breaks.{fails, unbroken}
 use Rattle.reo_flatten_laws.proofs.Within.{In, has-in}
 use Rattle.reo_flatten_laws.proofs.NodeSums.{all_ends_at_nodes}

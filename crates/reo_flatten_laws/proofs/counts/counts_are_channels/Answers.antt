@@ -9,9 +9,9 @@ use Rattle.reo_trees.specs.declared.items.Form.{Form}
 use Rattle.reo_trees.specs.declared.items.Form.TheVariants as forms
 use Rattle.reo_trees.specs.declared.programs.Declaration.{Declaration}
 use Rattle.reo_trees.specs.declared.programs.Declaration.TheVariants as declarations
-use Rattle.reo_rules_base.specs.Lists.{each_after}
-use Rattle.reo_rules_base.specs.Types.{Typed}
-use Rattle.reo_flatten_base.specs.Unfolding.{Meaning, no_meaning, meaning_named, meaning_of, meanings_after, channels_in, placed_in}
+use Rattle.reo_rules.specs.Lists.{each_after}
+use Rattle.reo_rules.specs.Types.{Typed}
+use Rattle.reo_flat.specs.Unfolding.{Meaning, no_meaning, meaning_named, meaning_of, meanings_after, channels_in, placed_in}
 use Rattle.reo_flatten_laws.proofs.counts.counts_are_channels.Goals as goal
 
 -- A connector places as many channels as are counted.

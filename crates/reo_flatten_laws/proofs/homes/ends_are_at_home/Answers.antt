@@ -3,10 +3,10 @@ use Rattle.std.proofs.Common.{arith, ◌≡◌, ◌∙◌, ℕ, ◌+◌, ◌<◌
 use Rattle.std.specs.List.{AllByRecursion}
 use Rattle.std.proofs.lemmas.List.{append_assoc, length-append}
 use Rattle.reo_net_base.specs.declared.joint.Joint.{Joint}
-use Rattle.reo_flatten_base.specs.Unfolding.{Placed}
-use Rattle.reo_flatten_base.specs.Ends.{incoming, outgoing}
-use Rattle.reo_flatten_base.specs.Joints.{joints_of, many}
-use Rattle.reo_flatten_base.specs.Flat.{homes_at, joints_at, placed_of, nodes_of, joints_in, homes_in}
+use Rattle.reo_flat.specs.Unfolding.{Placed}
+use Rattle.reo_flat.specs.Ends.{incoming, outgoing}
+use Rattle.reo_flat.specs.Joints.{joints_of, many}
+use Rattle.reo_flat.specs.Flat.{homes_at, joints_at, placed_of, nodes_of, joints_in, homes_in}
 use Rattle.reo_flatten_laws.proofs.AtNodes.{incoming_at, outgoing_at, IsAtBoth, joints_at_node}
 use Rattle.reo_flatten_laws.proofs.homes.ends_are_at_home.Goals as goal
 

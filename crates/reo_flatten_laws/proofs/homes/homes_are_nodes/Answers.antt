@@ -1,10 +1,10 @@
 -- Node by node.
 use Rattle.std.proofs.Common.{arith, ◌≡◌, ℕ, ◌+◌, ◌<◌, zero, suc, List, [], ◌∷◌, length, replicate}
 use Rattle.std.specs.List.{AllByRecursion}
-use Rattle.reo_flatten_base.specs.Unfolding.{Placed}
-use Rattle.reo_flatten_base.specs.Ends.{incoming, outgoing}
-use Rattle.reo_flatten_base.specs.Joints.{joints_of, many}
-use Rattle.reo_flatten_base.specs.Flat.{homes_at, placed_of, nodes_of, homes_in}
+use Rattle.reo_flat.specs.Unfolding.{Placed}
+use Rattle.reo_flat.specs.Ends.{incoming, outgoing}
+use Rattle.reo_flat.specs.Joints.{joints_of, many}
+use Rattle.reo_flat.specs.Flat.{homes_at, placed_of, nodes_of, homes_in}
 use Rattle.reo_flatten_laws.proofs.homes.homes_are_nodes.Goals as goal
 use Rattle.reo_flatten_laws.proofs.Each.{both, each_of}
 

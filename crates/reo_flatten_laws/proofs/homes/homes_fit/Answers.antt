@@ -1,10 +1,10 @@
 -- Node by node.
 use Rattle.std.proofs.Common.{◌≡◌, ◌∙◌, ℕ, ◌+◌, suc, List, [], ◌∷◌, length, refl, sym}
 use Rattle.std.proofs.lemmas.List.{length-append, length-replicate}
-use Rattle.reo_flatten_base.specs.Unfolding.{Placed}
-use Rattle.reo_flatten_base.specs.Ends.{incoming, outgoing}
-use Rattle.reo_flatten_base.specs.Joints.{joints_of, many}
-use Rattle.reo_flatten_base.specs.Flat.{homes_at, joints_at, placed_of, nodes_of}
+use Rattle.reo_flat.specs.Unfolding.{Placed}
+use Rattle.reo_flat.specs.Ends.{incoming, outgoing}
+use Rattle.reo_flat.specs.Joints.{joints_of, many}
+use Rattle.reo_flat.specs.Flat.{homes_at, joints_at, placed_of, nodes_of}
 use Rattle.reo_flatten_laws.proofs.homes.homes_fit.Goals as goal
 
 fit : (placed : List Placed) (i at : ℕ) (ns : List (List ℕ)) → length (homes_at placed i at ns) ≡ length (joints_at placed at ns)

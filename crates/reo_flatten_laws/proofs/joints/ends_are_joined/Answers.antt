@@ -5,9 +5,9 @@ use Rattle.std.proofs.lemmas.List.{length-map, map-append}
 use Rattle.reo_net_base.specs.Net.{end_of, end_eq}
 use Rattle.reo_net_circuit.proofs.CountLemmas.{joined_of_count}
 use Rattle.reo_kinds.specs.Kinds.{behaviour_of}
-use Rattle.reo_flatten_base.specs.Unfolding.{Placed}
-use Rattle.reo_flatten_base.specs.Ends.{incoming, outgoing}
-use Rattle.reo_flatten_base.specs.Flat.{nodes_of, placed_of, joints_in, own_kinds, primitives_of}
+use Rattle.reo_flat.specs.Unfolding.{Placed}
+use Rattle.reo_flat.specs.Ends.{incoming, outgoing}
+use Rattle.reo_flat.specs.Flat.{nodes_of, placed_of, joints_in, own_kinds, primitives_of}
 use Rattle.reo_flatten_laws.proofs.Within.{In, has-in}
 use Rattle.reo_flatten_laws.proofs.Times.{one_if, times, ends_in_joints, one_joint}
 use Rattle.reo_flatten_laws.proofs.NodeSums.{all_ends_at_nodes, all_joint_ends}

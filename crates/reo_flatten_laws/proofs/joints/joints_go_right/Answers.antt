@@ -3,9 +3,9 @@ use Rattle.std.proofs.Common.{zero-add, ◌≡◌, ◌∙◌, ◌+◌, ◌≤◌
 use Rattle.std.specs.List.{flat_map}
 use Rattle.std.proofs.lemmas.List.{length-map, map-append}
 use Rattle.reo_kinds.specs.Kinds.{behaviour_of}
-use Rattle.reo_flatten_base.specs.Unfolding.{Placed}
-use Rattle.reo_flatten_base.specs.Ends.{incoming, outgoing}
-use Rattle.reo_flatten_base.specs.Flat.{nodes_of, placed_of, joints_in, own_kinds, primitives_of}
+use Rattle.reo_flat.specs.Unfolding.{Placed}
+use Rattle.reo_flat.specs.Ends.{incoming, outgoing}
+use Rattle.reo_flat.specs.Flat.{nodes_of, placed_of, joints_in, own_kinds, primitives_of}
 use Rattle.reo_flatten_laws.proofs.TwoEnds.{placed_fits}
 use Rattle.reo_flatten_laws.proofs.RightWays.{Holds, all_hold, holds_split, all_go, GoesOn, joints_go}
 use Rattle.reo_flatten_laws.proofs.joints.joints_go_right.Goals as goal

@@ -7,11 +7,11 @@ use Rattle.reo_trees.specs.declared.programs.Parameter.{Parameter}
 use Rattle.reo_trees.specs.declared.programs.Connector.{Connector}
 use Rattle.reo_trees.specs.declared.programs.Declaration.{Declaration}
 use Rattle.reo_trees.specs.declared.programs.Declaration.TheVariants as declarations
-use Rattle.reo_rules_base.specs.Lists.{each_after}
-use Rattle.reo_rules_base.specs.Types.{Typed}
-use Rattle.reo_rules_base.specs.Scopes.{connectors_of, parameter_names, node_names}
-use Rattle.reo_flatten_base.specs.Unfolding.{Meaning, meaning_of, meanings_of, meanings_after}
-use Rattle.reo_rules_base.specs.Twice.{twice_in, twice_in_connector}
+use Rattle.reo_rules.specs.Lists.{each_after}
+use Rattle.reo_rules.specs.Types.{Typed}
+use Rattle.reo_rules.specs.Scopes.{connectors_of, parameter_names, node_names}
+use Rattle.reo_flat.specs.Unfolding.{Meaning, meaning_of, meanings_of, meanings_after}
+use Rattle.reo_rules.specs.Twice.{twice_in, twice_in_connector}
 use Rattle.reo_flatten_laws.specs.Plain.{IsPlainName, HasPlainName, HasPlainNames}
 use Rattle.reo_flatten_laws.proofs.Breaks.{left_none, right_none}
 use Rattle.reo_flatten_laws.proofs.Within.{In, in_left}

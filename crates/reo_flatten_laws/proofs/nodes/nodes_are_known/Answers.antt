@@ -7,13 +7,13 @@ use Rattle.reo_trees.specs.declared.programs.Parameter.{Parameter}
 use Rattle.reo_trees.specs.declared.programs.Connector.{Connector}
 use Rattle.reo_trees.specs.declared.programs.Declaration.{Declaration}
 use Rattle.reo_trees.specs.declared.programs.Declaration.TheVariants as declarations
-use Rattle.reo_rules_base.specs.Lists.{each_after}
-use Rattle.reo_rules_base.specs.Types.{Typed, types_of, names_of}
-use Rattle.reo_rules_base.specs.Scopes.{connectors_of, connector_names, parameter_names, scope_of}
-use Rattle.reo_flatten_base.specs.Unfolding.{Placed, Meaning, meaning_of, meaning_named, meanings_of, meanings_after}
-use Rattle.reo_rules_base.specs.Unknown.{unknown_in, unknown_in_type}
-use Rattle.reo_rules_base.specs.Arity.{arity_in}
-use Rattle.reo_flatten_base.specs.Flat.{main_parameters, nodes_of, ports_of, port_of, port_placed}
+use Rattle.reo_rules.specs.Lists.{each_after}
+use Rattle.reo_rules.specs.Types.{Typed, types_of, names_of}
+use Rattle.reo_rules.specs.Scopes.{connectors_of, connector_names, parameter_names, scope_of}
+use Rattle.reo_flat.specs.Unfolding.{Placed, Meaning, meaning_of, meaning_named, meanings_of, meanings_after}
+use Rattle.reo_rules.specs.Unknown.{unknown_in, unknown_in_type}
+use Rattle.reo_rules.specs.Arity.{arity_in}
+use Rattle.reo_flat.specs.Flat.{main_parameters, nodes_of, ports_of, port_of, port_placed}
 use Rattle.reo_flatten_laws.proofs.Breaks.{left_none, right_none, one_more}
 use Rattle.reo_flatten_laws.proofs.Within.{In, in_left, in_right, in-has, Inside, none_inside, all_cons, Claim, Matches, lookup}
 use Rattle.reo_flatten_laws.proofs.KnownItems.{items_inside}

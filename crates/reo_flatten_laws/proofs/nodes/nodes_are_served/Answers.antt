@@ -8,14 +8,14 @@ use Rattle.reo_trees.specs.declared.programs.Parameter.{Parameter}
 use Rattle.reo_trees.specs.declared.programs.Connector.{Connector}
 use Rattle.reo_trees.specs.declared.programs.Declaration.{Declaration}
 use Rattle.reo_trees.specs.declared.programs.Declaration.TheVariants as declarations
-use Rattle.reo_rules_base.specs.Lists.{each_after}
-use Rattle.reo_rules_base.specs.Types.{Typed, types_of}
-use Rattle.reo_rules_base.specs.Scopes.{connectors_of, parameter_names}
-use Rattle.reo_flatten_base.specs.Unfolding.{Placed, Meaning, meaning_of, meaning_named, meanings_of, meanings_after}
-use Rattle.reo_flatten_base.specs.Flat.{main_parameters, nodes_of, placed_of, primitives_of, own_kinds, port_of, port_placed, port_kind, way_of}
-use Rattle.reo_rules_base.specs.Twice.{twice_in, twice_in_connector}
-use Rattle.reo_rules_base.specs.Arity.{arity_in}
-use Rattle.reo_rules_base.specs.Dangling.{dangling_in}
+use Rattle.reo_rules.specs.Lists.{each_after}
+use Rattle.reo_rules.specs.Types.{Typed, types_of}
+use Rattle.reo_rules.specs.Scopes.{connectors_of, parameter_names}
+use Rattle.reo_flat.specs.Unfolding.{Placed, Meaning, meaning_of, meaning_named, meanings_of, meanings_after}
+use Rattle.reo_flat.specs.Flat.{main_parameters, nodes_of, placed_of, primitives_of, own_kinds, port_of, port_placed, port_kind, way_of}
+use Rattle.reo_rules.specs.Twice.{twice_in, twice_in_connector}
+use Rattle.reo_rules.specs.Arity.{arity_in}
+use Rattle.reo_rules.specs.Dangling.{dangling_in}
 use Rattle.reo_flatten_laws.proofs.Breaks.{fails, left_none, right_none, one_more, unbroken}
 use Rattle.reo_flatten_laws.proofs.Within.{In, in_either}
 use Rattle.reo_flatten_laws.proofs.OnceTwice.{names_once}

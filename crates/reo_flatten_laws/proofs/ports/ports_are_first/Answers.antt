@@ -4,10 +4,10 @@ use Rattle.std.specs.List.{flat_map}
 use Rattle.std.proofs.lemmas.List.{append_assoc, length-map, map-append}
 use Rattle.reo_net_base.specs.declared.port.Port.{Port}
 use Rattle.reo_trees.specs.declared.programs.Parameter.{Parameter}
-use Rattle.reo_rules_base.specs.Types.{Typed, types_of}
-use Rattle.reo_rules_base.specs.Scopes.{parameter_names}
-use Rattle.reo_flatten_base.specs.Unfolding.{Placed, meaning_named, meanings_of}
-use Rattle.reo_flatten_base.specs.Flat.{main_parameters, ports_of, port_of, port_kind, port_placed, placed_of, nodes_of, own_kinds, primitives_of}
+use Rattle.reo_rules.specs.Types.{Typed, types_of}
+use Rattle.reo_rules.specs.Scopes.{parameter_names}
+use Rattle.reo_flat.specs.Unfolding.{Placed, meaning_named, meanings_of}
+use Rattle.reo_flat.specs.Flat.{main_parameters, ports_of, port_of, port_kind, port_placed, placed_of, nodes_of, own_kinds, primitives_of}
 use Rattle.reo_flatten_laws.proofs.ports.ports_are_first.Goals as goal
 
 front : {X : Type 0} (xs ys : List X) → take (length xs) (xs ++ ys) ≡ xs

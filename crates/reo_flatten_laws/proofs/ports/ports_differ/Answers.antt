@@ -8,11 +8,11 @@ use Rattle.reo_trees.specs.declared.programs.Parameter.{Parameter}
 use Rattle.reo_trees.specs.declared.programs.Connector.{Connector}
 use Rattle.reo_trees.specs.declared.programs.Declaration.{Declaration}
 use Rattle.reo_trees.specs.declared.programs.Declaration.TheVariants as declarations
-use Rattle.reo_rules_base.specs.Lists.{each_after}
-use Rattle.reo_rules_base.specs.Types.{Typed, types_of}
-use Rattle.reo_rules_base.specs.Scopes.{connectors_of, connector_named, parameters_named, parameter_names, node_names}
-use Rattle.reo_rules_base.specs.Twice.{twice_in, twice_in_connector}
-use Rattle.reo_flatten_base.specs.Flat.{main_parameters, port_of}
+use Rattle.reo_rules.specs.Lists.{each_after}
+use Rattle.reo_rules.specs.Types.{Typed, types_of}
+use Rattle.reo_rules.specs.Scopes.{connectors_of, connector_named, parameters_named, parameter_names, node_names}
+use Rattle.reo_rules.specs.Twice.{twice_in, twice_in_connector}
+use Rattle.reo_flat.specs.Flat.{main_parameters, port_of}
 use Rattle.reo_flatten_laws.proofs.Breaks.{left_none, right_none}
 use Rattle.reo_flatten_laws.proofs.Once.{Once, distinct}
 use Rattle.reo_flatten_laws.proofs.OnceTwice.{names_once}

@@ -1,7 +1,6 @@
 -- A name has no byte but letters, digits and `_`.
-use Rattle.std.proofs.Common.{arith, ◌≡◌, ℕ, ◌<◌, ◌≤◌, ◌^◌, List, [], ◌∷◌, length, inl, inr}
+use Rattle.std.proofs.Common.{arith, ℕ, ◌<◌, ◌≤◌, ◌^◌, List, [], ◌∷◌, length}
 use Rattle.std.specs.List.{AllByRecursion}
-use Rattle.reo_values.specs.Names.{IsName, IsNameStart, IsNameByte}
 use Rattle.reo_trees.specs.declared.items.Form.{Form}
 use Rattle.reo_trees.specs.declared.items.Form.TheVariants as forms
 use Rattle.reo_trees.specs.declared.programs.Connector.{Connector}
@@ -9,29 +8,16 @@ use Rattle.reo_trees.specs.declared.programs.Declaration.{Declaration}
 use Rattle.reo_trees.specs.declared.programs.Declaration.TheVariants as declarations
 use Rattle.reo_trees_laws.specs.Spelled.{IsSpelledForm, IsSpelledConnector, IsSpelledDeclaration}
 use Rattle.reo_trees_laws.specs.Few.{HasAtMost}
-use Rattle.reo_rules_base.specs.Scopes.{connectors_of}
-use Rattle.reo_flatten_laws.specs.Plain.{IsPlainName, HasPlainName, HasPlainNames}
+use Rattle.reo_trees_laws.proofs.Loose.{name_plain}
+use Rattle.reo_rules.specs.Scopes.{connectors_of}
+use Rattle.reo_flatten_laws.specs.Plain.{HasPlainName, HasPlainNames}
 use Rattle.reo_flatten_laws.proofs.Each.{by_recursion, each_of}
-use Rattle.reo_flatten_laws.proofs.Within.{all_cons}
 use Rattle.reo_flatten_laws.proofs.texts.names_are_plain.Goals as goal
 
-start_plain : (b : ℕ) → IsNameStart b → b ≡ 64 → ⊥
-start_plain b (inl upper) is = let low = upper.0 in omega arith
-start_plain b (inr (inl line)) is = omega arith
-start_plain b (inr (inr lower)) is = let low = lower.0 in omega arith
-
-byte_plain : (b : ℕ) → IsNameByte b → b ≡ 64 → ⊥
-byte_plain b (inl digit) is = let high = digit.1 in omega arith
-byte_plain b (inr start) is = start_plain b start is
-
-name_plain : (name : List ℕ) → IsName name → IsPlainName name
-name_plain [] is = absurd is
-name_plain (b ∷ bs) is = all_cons (λ c. c ≡ 64 → ⊥) b bs (start_plain b is.0) (λ k d below. byte_plain _ (is.1 k d below))
-
 form_plain : (f : Form) → IsSpelledForm f → HasPlainName f
-form_plain (forms.Node name term) spelled = name_plain name spelled.0.0
+form_plain (forms.Node name term) spelled = spelled.0
 form_plain (forms.Joined channel first second) spelled = tt
-form_plain (forms.Used name arguments) spelled = name_plain name spelled.0.0
+form_plain (forms.Used name arguments) spelled = spelled.0
 
 connector_plain : (most : ℕ) (c : Connector) → most < 2 ^ 64 → IsSpelledConnector c → length c.items ≤ most → HasPlainNames c
 connector_plain most c fits spelled few = record {

@@ -1,8 +1,8 @@
 -- The sizes of the items so far.
 use Rattle.std.proofs.Common.{List, take, max, fold, sum_by}
 use Rattle.reo_trees.specs.declared.items.Item.{Item}
-use Rattle.reo_flatten_base.specs.Unfolding.{Meaning, uses_in, depth_in, placed_in}
-use Rattle.reo_flatten_base.specs.Counts.{IsSizeOf, AreSizes}
+use Rattle.reo_flat.specs.Unfolding.{Meaning, uses_in, depth_in, placed_in}
+use Rattle.reo_flat.specs.Counts.{IsSizeOf, AreSizes}
 use Rattle.reo_flatten_unfold.proofs.counts.connector_sizes.Given as goal
 
 abbrev pub invariant-loop-item : goal.invariant-loop-item

@@ -1,8 +1,8 @@
 -- A use counts as one more than what it unfolds to.
 use Rattle.std.proofs.Common.{arith, ◌≡◌, ◌∙◌, ℕ, ◌+◌, ◌≤◌, lit≤, min, refl, sym, ap, subst, bytes_eq, position, get_or}
-use Rattle.reo_flatten_base.specs.declared.sizes.Sizes.{Sizes}
-use Rattle.reo_flatten_base.specs.Unfolding.{Meaning, no_meaning, meaning_named, uses_in, depth_in, placed_in}
-use Rattle.reo_flatten_base.specs.Counts.{IsSizeOf, IsSizesOf}
+use Rattle.reo_flat.specs.declared.sizes.Sizes.{Sizes}
+use Rattle.reo_flat.specs.Unfolding.{Meaning, no_meaning, meaning_named, uses_in, depth_in, placed_in}
+use Rattle.reo_flat.specs.Counts.{IsSizeOf, IsSizesOf}
 use Rattle.reo_flatten_unfold.proofs.Found.{meaning_at, meaning_none}
 use Rattle.reo_flatten_unfold.proofs.counts.item_sizes.Goals as goal
 

@@ -2,7 +2,7 @@
 use Rattle.std.proofs.Common.{◌≡◌, ◌∙◌, IfOk, sym, ap, subst, take}
 use Rattle.std.specs.Option.{option_copied}
 use Rattle.reo_kinds.specs.declared.kind.Kind.{Kind}
-use Rattle.reo_flatten_base.specs.ChannelKinds.{filter_kind, map_kind, channel_kind}
+use Rattle.reo_flat.specs.ChannelKinds.{filter_kind, map_kind, channel_kind}
 use Rattle.reo_flatten_unfold.specs.Known.{shape_type}
 use Rattle.reo_flatten_unfold.proofs.kinds.channel_kind.Goals as goal
 

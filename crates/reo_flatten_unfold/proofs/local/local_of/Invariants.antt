@@ -1,6 +1,6 @@
 -- The names so far.
 use Rattle.std.proofs.Common.{◌≡◌, ◌++◌, take}
-use Rattle.reo_rules_base.specs.Scopes.{parameter_names, node_names}
+use Rattle.reo_rules.specs.Scopes.{parameter_names, node_names}
 use Rattle.reo_flatten_unfold.specs.Local.{node_places}
 use Rattle.reo_flatten_unfold.proofs.local.local_of.Given as goal
 

@@ -1,10 +1,10 @@
 -- One name more.
 use Rattle.std.proofs.Common.{◌≡◌, ◌∙◌, [], ap, take, false}
 use Rattle.reo_trees.specs.declared.programs.Parameter.{Parameter}
-use Rattle.reo_rules_base.specs.Lists.{has_name}
-use Rattle.reo_rules_base.specs.Names.{with_name}
-use Rattle.reo_rules_base.specs.Twice.{twice_in_parameter}
-use Rattle.reo_rules_base.proofs.AfterLemmas.{more_mapped}
+use Rattle.reo_rules.specs.Lists.{has_name}
+use Rattle.reo_rules.specs.Names.{with_name}
+use Rattle.reo_rules.specs.Twice.{twice_in_parameter}
+use Rattle.reo_rules.proofs.AfterLemmas.{more_mapped}
 use Rattle.reo_flatten_unfold.proofs.ListLemmas.{each_none}
 use Rattle.reo_flatten_unfold.proofs.LocalLemmas.{noted, new_parameter}
 use Rattle.reo_flatten_unfold.proofs.local.parameter_names.Goals as goal

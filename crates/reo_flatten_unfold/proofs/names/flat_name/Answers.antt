@@ -1,6 +1,6 @@
 -- By the number of the name.
 use Rattle.std.proofs.Common.{arith, ◌≡◌, ◌∙◌, ◌++◌, sym, ap, subst, position, bytes_eq, get_or, IfOk, inl, inr}
-use Rattle.reo_rules_base.specs.Scopes.{parameter_names}
+use Rattle.reo_rules.specs.Scopes.{parameter_names}
 use Rattle.reo_flatten_unfold.proofs.Positions.{place_is}
 use Rattle.reo_flatten_unfold.proofs.NameLemmas.{flat_at_parameter, flat_at_node, flat_nowhere}
 use Rattle.reo_flatten_unfold.proofs.names.flat_name.Goals as goal

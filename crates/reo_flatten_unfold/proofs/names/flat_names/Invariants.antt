@@ -1,8 +1,8 @@
 -- The names so far.
 use Rattle.std.proofs.Common.{◌≡◌, ◌++◌, List, ℕ, length, map, take}
 use Rattle.reo_trees.specs.declared.programs.Parameter.{Parameter}
-use Rattle.reo_rules_base.specs.Scopes.{parameter_names}
-use Rattle.reo_flatten_base.specs.Unfolding.{flat_name}
+use Rattle.reo_rules.specs.Scopes.{parameter_names}
+use Rattle.reo_flat.specs.Unfolding.{flat_name}
 use Rattle.reo_flatten_unfold.proofs.names.flat_names.Given as goal
 
 abbrev pub invariant-loop-name : goal.invariant-loop-name

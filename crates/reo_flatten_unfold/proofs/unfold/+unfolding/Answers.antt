@@ -3,8 +3,8 @@ use Rattle.std.proofs.Common.{rules, arith, ◌≡◌, ◌∙◌, ◌<◌, ◌�
 use Rattle.std.specs.Fmt.{decimal}
 use Rattle.std.proofs.lemmas.List.{take_all, length-take-le}
 use Rattle.reo_trees.specs.declared.items.Item.{Item}
-use Rattle.reo_rules_base.specs.Scopes.{node_names}
-use Rattle.reo_flatten_base.specs.Unfolding.{Meaning, no_meaning, is_use}
+use Rattle.reo_rules.specs.Scopes.{node_names}
+use Rattle.reo_flat.specs.Unfolding.{Meaning, no_meaning, is_use}
 use Rattle.reo_flatten_unfold.specs.Ground.{IsStand, Stands}
 use Rattle.reo_flatten_unfold.specs.Fits.{FormFits}
 use Rattle.std.proofs.lemmas.List.Sums.{count_by-le-length}

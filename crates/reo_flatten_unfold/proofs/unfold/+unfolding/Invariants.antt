@@ -1,7 +1,7 @@
 -- A use is of a connector before, and the items so far.
 use Rattle.std.proofs.Common.{◌≡◌, ◌+◌, ◌*◌, take, count_by}
 use Rattle.reo_trees.specs.declared.items.Item.{Item}
-use Rattle.reo_flatten_base.specs.Unfolding.{is_use}
+use Rattle.reo_flat.specs.Unfolding.{is_use}
 use Rattle.reo_flatten_unfold.specs.Frames.{AddsItems}
 use Rattle.reo_flatten_unfold.proofs.unfold.+unfolding.Given as goal
 

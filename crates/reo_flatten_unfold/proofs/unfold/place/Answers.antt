@@ -4,9 +4,9 @@ use Rattle.std.specs.List.{All}
 use Rattle.reo_literals.specs.Items.{HasFewNames}
 use Rattle.std.specs.Option.{option_copied}
 use Rattle.std.proofs.lemmas.List.{append-nil}
-use Rattle.reo_rules_base.specs.Types.{types_of}
-use Rattle.reo_rules_base.specs.Scopes.{node_names}
-use Rattle.reo_flatten_base.specs.ChannelKinds.{channel_kind}
+use Rattle.reo_rules.specs.Types.{types_of}
+use Rattle.reo_rules.specs.Scopes.{node_names}
+use Rattle.reo_flat.specs.ChannelKinds.{channel_kind}
 use Rattle.reo_flatten_unfold.specs.Known.{shape_type}
 use Rattle.reo_flatten_unfold.proofs.UnfoldLemmas.{few_kindreds}
 use Rattle.reo_flatten_unfold.proofs.GroundLemmas.{types_before}

@@ -1,7 +1,7 @@
 -- A component that does not count and whose offer does not flow stays where it is.
 use Rattle.std.proofs.Common.{◌≡◌, ◌∙◌, ℕ, List, [], ◌∷◌, Bool, true, false, ◌||◌, ◌&&◌, cond, Some, None, refl, ap, map}
 use Rattle.std.specs.Prelude.{is_none}
-use Rattle.reo_rules_base.specs.Lists.{first_of}
+use Rattle.reo_rules.specs.Lists.{first_of}
 use Rattle.reo_players.specs.Written.{Task}
 use Rattle.reo_players.specs.Written.Task.{writes, takes, rests}
 use Rattle.reo_players.specs.Players.{Player, after, after_task, counts, is_done, all_done, someone_counts}

@@ -1,8 +1,8 @@
 use Rattle.std.proofs.Common.{ℕ, Bool}
 use Rattle.reo_net_base.specs.Net.{Net, net_of}
-use Rattle.reo_support.specs.Values.{Names}
-use Rattle.reo_support.proofs.Narrowing.{narrowed_whole}
-use Rattle.reo_propagate_rows.specs.Sets.{family_of, names_of}
+use Rattle.reo_joint_values.specs.Values.{Names}
+use Rattle.reo_joint_values.proofs.Narrowing.{narrowed_whole}
+use Rattle.reo_rows.specs.Sets.{family_of, names_of}
 use Rattle.reo_propagate.specs.Queues.{among}
 use Rattle.reo_propagate.proofs.Tending.{next_inside, tended_next, tended_supported}
 use Rattle.reo_propagate.proofs.Revising.{ready_alike, reduced_twice, reduced_side}

@@ -1,10 +1,10 @@
 use Rattle.std.proofs.Common.{◌≡◌, ◌∙◌, ◌<◌, ℕ, List, length, get_or, subst, sym, arith}
 use Rattle.std.proofs.lemmas.List.{get_or_default}
 use Rattle.reo_net_base.specs.Net.{Net, net_of}
-use Rattle.reo_boards.specs.declared.board.Board.{Board}
-use Rattle.reo_boards.specs.Listing.{Lists}
-use Rattle.reo_boards.specs.Marks.{IsJointOf}
-use Rattle.reo_boards.specs.Boards.{IsBoard}
+use Rattle.reo_side_tables.specs.declared.board.Board.{Board}
+use Rattle.reo_side_tables.specs.Listing.{Lists}
+use Rattle.reo_side_tables.specs.Marks.{IsJointOf}
+use Rattle.reo_side_tables.specs.Boards.{IsBoard}
 use Rattle.reo_propagate.specs.declared.state.State.{State}
 use Rattle.reo_propagate.specs.Queues.{among}
 use Rattle.reo_propagate.proofs.Revising.{revising_none, revised_more, revising_more, revising_ends}

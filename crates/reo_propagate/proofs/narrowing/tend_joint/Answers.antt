@@ -1,7 +1,7 @@
 use Rattle.std.proofs.Common.{◌≡◌, ◌≢◌, ℕ, true, refl}
 use Rattle.reo_net_base.specs.Net.{Net, net_of}
-use Rattle.reo_support.proofs.Rows.{at_inside}
-use Rattle.reo_propagate_rows.specs.Sets.{names_of, family_of}
+use Rattle.reo_joint_values.proofs.Inside.{at_inside}
+use Rattle.reo_rows.specs.Sets.{names_of, family_of}
 use Rattle.reo_propagate.specs.declared.state.State.{State}
 use Rattle.reo_propagate.specs.Queues.{among}
 use Rattle.reo_propagate.proofs.Cutting.{same_all}

@@ -2,8 +2,8 @@ use Rattle.std.proofs.Common.{◌≡◌, ◌∙◌, ◌<◌, ◌≤◌, ◌+◌,
 use Rattle.std.proofs.lemmas.Bool.{both_ways}
 use Rattle.std.proofs.lemmas.List.{get_or_default}
 use Rattle.reo_net_base.specs.Net.{Net, net_of}
-use Rattle.reo_support.specs.declared.value.JointValue.{JointValue}
-use Rattle.reo_boards.specs.Flowing.{gives_at}
+use Rattle.reo_joint_values.specs.declared.value.JointValue.{JointValue}
+use Rattle.reo_side_tables.specs.Flowing.{gives_at}
 use Rattle.reo_propagate.specs.ListedSets.{HaveSome}
 use Rattle.reo_propagate.proofs.Kept.{at_first, at_one, first_more, first_all, kept_more, some_more, some_less, kept_as, some_as}
 use Rattle.reo_propagate.proofs.sets.keep_given.Goals.{then-not-keep_joint, else-not-keep_joint}

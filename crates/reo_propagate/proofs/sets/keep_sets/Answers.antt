@@ -2,11 +2,11 @@ use Rattle.std.proofs.Common.{◌≡◌, ◌∙◌, ◌<◌, ◌+◌, ℕ, Bool,
 use Rattle.std.proofs.lemmas.Bool.{both_ways}
 use Rattle.reo_net_base.specs.Net.{Net, net_of}
 use Rattle.reo_net_base.specs.Sides.{side_count}
-use Rattle.reo_support.specs.declared.value.JointValue.{JointValue}
-use Rattle.reo_support.specs.Values.{giver_side}
-use Rattle.reo_support.proofs.Labels.{eq_same}
-use Rattle.reo_boards.specs.Boards.{IsBoard}
-use Rattle.reo_boards.specs.Flowing.{gives_at}
+use Rattle.reo_joint_values.specs.declared.value.JointValue.{JointValue}
+use Rattle.reo_joint_values.specs.Values.{giver_side}
+use Rattle.reo_joint_values.proofs.Equal.{eq_same}
+use Rattle.reo_side_tables.specs.Boards.{IsBoard}
+use Rattle.reo_side_tables.specs.Flowing.{gives_at}
 use Rattle.reo_propagate.specs.Queues.{among}
 use Rattle.reo_propagate.specs.ListedSets.{HaveSome}
 use Rattle.reo_propagate.proofs.Among.{among_at}

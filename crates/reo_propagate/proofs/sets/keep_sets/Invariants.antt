@@ -1,6 +1,6 @@
 use Rattle.std.proofs.Common.{◌≡◌, ◌↔◌, true, take}
 use Rattle.reo_net_base.specs.Net.{net_of}
-use Rattle.reo_support.specs.Values.{giver_side}
+use Rattle.reo_joint_values.specs.Values.{giver_side}
 use Rattle.reo_propagate.specs.Queues.{among}
 use Rattle.reo_propagate.specs.ListedSets.{AreKept, HaveSome}
 use Rattle.reo_propagate.proofs.sets.keep_sets.Given as goal

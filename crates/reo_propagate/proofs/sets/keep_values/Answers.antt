@@ -1,9 +1,9 @@
 use Rattle.std.proofs.Common.{◌≡◌, ◌∙◌, ◌<◌, ◌≤◌, ◌+◌, ℕ, List, Bool, true, get_or, set, length, ap, sym, subst, arith}
 use Rattle.std.proofs.lemmas.Bool.{ltb-true, lt-ltb}
 use Rattle.std.proofs.lemmas.List.{length-take-le}
-use Rattle.reo_support.specs.declared.value.JointValue.{JointValue}
-use Rattle.reo_propagate_rows.specs.Flags.{flag}
-use Rattle.reo_propagate_rows.specs.Sets.{family_of}
+use Rattle.reo_joint_values.specs.declared.value.JointValue.{JointValue}
+use Rattle.reo_rows.specs.Flags.{flag}
+use Rattle.reo_rows.specs.Sets.{family_of}
 use Rattle.reo_propagate.specs.ListedSets.{in_set}
 use Rattle.reo_propagate.proofs.Listed.{IsKeeping, in_set_at, some_in, keeping_more, keeping_less}
 use Rattle.reo_propagate.proofs.sets.keep_values.Goals.{then-is_set, else-is_set}

@@ -1,5 +1,5 @@
 use Rattle.reo_net_base.specs.Net.{net_of}
-use Rattle.reo_propagate_rows.specs.Sets.{names_of}
+use Rattle.reo_rows.specs.Sets.{names_of}
 use Rattle.reo_propagate.specs.Queues.{among}
 use Rattle.reo_propagate.proofs.Narrowed.{flags_there, are_left}
 use Rattle.reo_propagate.proofs.sets.left_of.Goals as goal

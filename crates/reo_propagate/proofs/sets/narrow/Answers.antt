@@ -1,7 +1,7 @@
 use Rattle.std.proofs.Common.{ℕ, Bool, List, ◌∙◌, subst}
 use Rattle.reo_values.specs.declared.value.Value.{Value}
 use Rattle.reo_net_base.specs.Net.{Net, net_of}
-use Rattle.reo_propagate_rows.specs.Sets.{names_of}
+use Rattle.reo_rows.specs.Sets.{names_of}
 use Rattle.reo_propagate.specs.Queues.{among}
 use Rattle.reo_propagate.specs.ListedSets.{listed, AreLeft}
 use Rattle.reo_propagate.proofs.Narrowed.{lists_greatest, lists_other, lists_full}

@@ -2,10 +2,10 @@ use Rattle.std.proofs.Common.{◌≡◌, ◌∷◌, ◌++◌, ℕ, [], get_or, t
 use Rattle.std.specs.Bool.{◌==◌}
 use Rattle.std.proofs.Common.{◌&&◌}
 use Rattle.std.proofs.lemmas.List.{take_more}
-use Rattle.reo_support.specs.declared.value.JointValue.{JointValue}
-use Rattle.reo_support.specs.declared.value.JointValue.TheVariants.{Flow}
-use Rattle.reo_propagate_rows.specs.Flags.{flag}
-use Rattle.reo_propagate_rows.specs.Sets.{code_of}
+use Rattle.reo_joint_values.specs.declared.value.JointValue.{JointValue}
+use Rattle.reo_joint_values.specs.declared.value.JointValue.TheVariants.{Flow}
+use Rattle.reo_rows.specs.Flags.{flag}
+use Rattle.reo_rows.specs.Sets.{code_of}
 use Rattle.reo_propagate.specs.ListedSets.{ArePut}
 use Rattle.reo_propagate.proofs.Listed.{put_more, put_past}
 use Rattle.reo_propagate.proofs.sets.put_values.Goals.{then-code-width, else-code-width}

@@ -1,10 +1,10 @@
 use Rattle.std.proofs.Common.{◌≡◌, ◌+◌, ◌∙◌, ℕ, List, Bool, true, inl, inr, sym, subst}
 use Rattle.std.proofs.lemmas.Bool.{both_ways}
 use Rattle.reo_net_base.specs.Net.{Net, net_of}
-use Rattle.reo_support.specs.Values.{Names}
-use Rattle.reo_propagate_rows.specs.declared.rows.Rows.{Rows}
-use Rattle.reo_propagate_rows.specs.Flags.{flag}
-use Rattle.reo_propagate_rows.specs.Sets.{names_of}
+use Rattle.reo_joint_values.specs.Values.{Names}
+use Rattle.reo_rows.specs.declared.rows.Rows.{Rows}
+use Rattle.reo_rows.specs.Flags.{flag}
+use Rattle.reo_rows.specs.Sets.{names_of}
 use Rattle.reo_propagate.specs.declared.thinning.Loss.{Loss}
 use Rattle.reo_propagate.proofs.Thinned.{IsThinning, thinning_keep, thinning_clear}
 use Rattle.reo_propagate.proofs.thinning.thin.Goals.{then-is_set+then-not-is_used, else-is_set, else-is_set-via-then-is_set+else-not-is_used, else-is_set-via-else-is_set}

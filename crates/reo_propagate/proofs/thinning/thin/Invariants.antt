@@ -1,5 +1,5 @@
 use Rattle.reo_net_base.specs.Net.{net_of}
-use Rattle.reo_propagate_rows.specs.Sets.{names_of}
+use Rattle.reo_rows.specs.Sets.{names_of}
 use Rattle.reo_propagate.proofs.Thinned.{IsThinning}
 use Rattle.reo_propagate.proofs.thinning.thin.Given as goal
 

@@ -2,7 +2,7 @@ use Rattle.std.proofs.Common.{◌≡◌, ℕ, List, length, get_or, subst, arith
 use Rattle.reo_values.specs.declared.value.Value.{Value}
 use Rattle.reo_net_base.specs.declared.joint.End.{End}
 use Rattle.reo_net_base.specs.Net.{Net, net_of, end_of}
-use Rattle.reo_reach.specs.Standing.{IsGivenFor}
+use Rattle.reo_joint_values.specs.Standing.{IsGivenFor}
 use Rattle.reo_reach.specs.Added.{AreAdded}
 use Rattle.reo_reach.proofs.AddedLemmas.{Below, added_more}
 use Rattle.reo_reach.proofs.RowLemmas.{passed_one, passed_all}

@@ -1,7 +1,7 @@
 use Rattle.reo_values.specs.declared.value.Value.{Value}
 use Rattle.std.proofs.Common.{get_or}
 use Rattle.reo_net_base.specs.Net.{net_of, end_of}
-use Rattle.reo_reach.specs.Standing.{IsGivenFor}
+use Rattle.reo_joint_values.specs.Standing.{IsGivenFor}
 use Rattle.reo_reach.specs.Added.{AreAdded}
 use Rattle.reo_reach.proofs.AddedLemmas.{Below}
 use Rattle.reo_reach.proofs.rows.add_passed.Given as goal

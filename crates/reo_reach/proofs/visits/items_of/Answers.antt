@@ -4,7 +4,7 @@ use Rattle.reo_net_base.specs.Ends.{IsGiver}
 use Rattle.reo_net_base.specs.declared.joint.End.{End}
 use Rattle.reo_net_base.specs.Net.{Net, net_of}
 use Rattle.reo_net_base.specs.declared.joint.Joint.{Joint}
-use Rattle.reo_reach.specs.Standing.{no_joint}
+use Rattle.reo_joint_values.specs.Standing.{no_joint}
 use Rattle.reo_reach.specs.Added.{AreAdded, IsProduced}
 use Rattle.reo_reach.proofs.AddedLemmas.{Below, added_none, added_more}
 use Rattle.reo_reach.proofs.RowLemmas.{all_made}

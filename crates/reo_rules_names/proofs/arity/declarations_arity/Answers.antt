@@ -2,10 +2,10 @@
 use Rattle.std.proofs.Common.{◌∙◌, ◌+◌, refl, sym, ap, subst, take}
 use Rattle.std.specs.List.{flat_map}
 use Rattle.reo_trees.specs.declared.items.Item.{Item}
-use Rattle.reo_rules_base.specs.Scopes.{connectors_of}
-use Rattle.reo_rules_base.specs.Arity.{arity_in_item, arity_in}
-use Rattle.reo_rules_base.specs.Judged.{IsFirst}
-use Rattle.reo_rules_base.proofs.AfterLemmas.{judged_err}
+use Rattle.reo_rules.specs.Scopes.{connectors_of}
+use Rattle.reo_rules.specs.Arity.{arity_in_item, arity_in}
+use Rattle.reo_rules.specs.Judged.{IsFirst}
+use Rattle.reo_rules.proofs.AfterLemmas.{judged_err}
 use Rattle.reo_rules_names.proofs.LoopLemmas.{Keeps, made_next, type_next, made_first}
 use Rattle.reo_rules_names.proofs.arity.declarations_arity.Goals as goal
 use Rattle.reo_rules_names.proofs.arity.declarations_arity.Goals.{in-Made+in_ok-items_arity+in_ok-add, in_default}
@@ -17,7 +17,7 @@ returns-in_err-items_arity c =
     let inv = c.loop-declaration.invariant in
     let known = connectors_of (take i ds) in
     let fault = c.in_err-items_arity.field-0.0 in
-    let here = c.in_err-items_arity.ensures known inv.connectors in
+    let here = c.in_err-items_arity.ensures.judged known inv.connectors in
     judged_err c.from_residual.result fault _ c.from_residual.ensures
     (made_first arity_in ds i c.declaration-item.result c.loop-declaration-test.true c.declaration-item.is c.loop-declaration.connectors inv c.in-Made.connector fault c.in-Made.is
     (subst (λ items. IsFirst (flat_map (λ (k : Item). arity_in_item known k.line k.form) items) fault) c.as_slice.ensures here))
@@ -32,7 +32,7 @@ loop-declaration-preserved c =
     let known = connectors_of (take i ds) in
     elim c.match-declaration.branch [
       | in-Made+in_ok-items_arity+in_ok-add w ↦
-          let none = ap (flat_map (λ (k : Item). arity_in_item known k.line k.form)) (sym w.as_slice.ensures) ∙ w.in_ok-items_arity.ensures known inv.connectors in
+          let none = ap (flat_map (λ (k : Item). arity_in_item known k.line k.form)) (sym w.as_slice.ensures) ∙ w.in_ok-items_arity.ensures.judged known inv.connectors in
           subst (λ t. Keeps arity_in (take (i + 1) ds) t) (sym w.connectors-is)
           (made_next arity_in ds i d c.loop-declaration-test.true c.declaration-item.is table inv w.add.new.self w.in-Made.connector w.in-Made.is none w.in_ok-add.ensures)
       | in_default w ↦

@@ -3,7 +3,7 @@ use Rattle.std.proofs.Common.{◌≡◌, List, [], take}
 use Rattle.std.specs.List.{flat_map}
 use Rattle.reo_trees.specs.declared.items.Item.{Item}
 use Rattle.reo_trees.specs.declared.programs.Connector.{Connector}
-use Rattle.reo_rules_base.specs.Arity.{arity_in_item}
+use Rattle.reo_rules.specs.Arity.{arity_in_item}
 use Rattle.reo_rules_names.specs.Connectors.{AreConnectors}
 use Rattle.reo_rules_names.proofs.arity.items_arity.Given as goal
 

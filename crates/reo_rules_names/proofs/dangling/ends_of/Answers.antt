@@ -3,8 +3,8 @@ use Rattle.std.proofs.Common.{subst, take}
 use Rattle.std.specs.List.{flat_map}
 use Rattle.std.proofs.lemmas.List.{take_all}
 use Rattle.reo_trees.specs.declared.items.Item.{Item}
-use Rattle.reo_rules_base.specs.Touches.{touches_in}
-use Rattle.reo_rules_base.proofs.AfterLemmas.{more_flat}
+use Rattle.reo_rules.specs.Touches.{touches_in}
+use Rattle.reo_rules.proofs.AfterLemmas.{more_flat}
 use Rattle.reo_rules_names.specs.Ends.{AreEnds}
 use Rattle.reo_rules_names.proofs.dangling.ends_of.Goals as goal
 

@@ -1,9 +1,9 @@
 -- No parameter so far has a break.
 use Rattle.std.proofs.Common.{◌≡◌, List, [], take}
 use Rattle.std.specs.List.{flat_map}
-use Rattle.reo_rules_base.specs.Touches.{Touch}
+use Rattle.reo_rules.specs.Touches.{Touch}
 use Rattle.reo_rules_names.specs.Ends.{AreEnds}
-use Rattle.reo_rules_base.specs.Dangling.{dangling_parameter}
+use Rattle.reo_rules.specs.Dangling.{dangling_parameter}
 use Rattle.reo_rules_names.proofs.dangling.parameters_dangling.Given as goal
 
 abbrev pub invariant-loop-parameter : goal.invariant-loop-parameter

@@ -1,6 +1,6 @@
 -- The connectors so far are in the table, and none of them has a break.
 use Rattle.std.proofs.Common.{take}
-use Rattle.reo_rules_base.specs.Direction.{direction_in}
+use Rattle.reo_rules.specs.Direction.{direction_in}
 use Rattle.reo_rules_names.proofs.LoopLemmas.{Keeps}
 use Rattle.reo_rules_names.proofs.direction.declarations_direction.Given as goal
 

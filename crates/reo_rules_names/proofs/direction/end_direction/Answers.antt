@@ -1,9 +1,9 @@
 -- The end is closed at a parameter, or at none.
 use Rattle.std.proofs.Common.{◌∙◌, Some, inr, map, not, sym, ap}
 use Rattle.reo_trees.specs.declared.programs.Parameter.{Parameter}
-use Rattle.reo_rules_base.specs.declared.fault.FlatFault.TheVariants as faults
-use Rattle.reo_rules_base.specs.Lists.{where_true, first_of}
-use Rattle.reo_rules_base.specs.Touches.{touch, is_touched}
+use Rattle.reo_rules.specs.declared.fault.FlatFault.TheVariants as faults
+use Rattle.reo_rules.specs.Lists.{where_true, first_of}
+use Rattle.reo_rules.specs.Touches.{touch, is_touched}
 use Rattle.reo_rules_names.proofs.EndLemmas.{closed_there}
 use Rattle.reo_rules_names.proofs.direction.end_direction.Goals as goal
 

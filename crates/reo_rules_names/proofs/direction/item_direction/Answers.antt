@@ -3,10 +3,10 @@ use Rattle.std.proofs.Common.{◌∙◌, ℕ, Bool, List, map, sym, ap}
 use Rattle.std.specs.List.{flat_map, zip}
 use Rattle.std.proofs.lemmas.List.Folds.{flat_map-map}
 use Rattle.reo_trees.specs.declared.programs.Parameter.{Parameter}
-use Rattle.reo_rules_base.specs.Scopes.{parameters_named}
-use Rattle.reo_rules_base.specs.Touches.{touch}
-use Rattle.reo_rules_base.specs.Direction.{direction_in_item}
-use Rattle.reo_rules_base.proofs.AfterLemmas.{judged_same}
+use Rattle.reo_rules.specs.Scopes.{parameters_named}
+use Rattle.reo_rules.specs.Touches.{touch}
+use Rattle.reo_rules.specs.Direction.{direction_in_item}
+use Rattle.reo_rules.proofs.AfterLemmas.{judged_same}
 use Rattle.reo_rules_names.specs.Closed.{against}
 use Rattle.reo_rules_names.proofs.EndLemmas.{used_touches}
 use Rattle.reo_rules_names.proofs.direction.item_direction.Goals as goal

@@ -6,7 +6,7 @@ use Rattle.reo_trees.specs.declared.programs.Parameter.{Parameter}
 use Rattle.reo_trees.specs.declared.programs.Connector.{Connector}
 use Rattle.reo_rules_names.specs.Connectors.{AreConnectors}
 use Rattle.reo_rules_names.specs.Closed.{AreClosed}
-use Rattle.reo_rules_base.specs.Direction.{direction_in_item}
+use Rattle.reo_rules.specs.Direction.{direction_in_item}
 use Rattle.reo_rules_names.proofs.direction.items_direction.Given as goal
 
 abbrev pub invariant-loop-item : goal.invariant-loop-item

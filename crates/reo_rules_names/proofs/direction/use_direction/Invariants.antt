@@ -4,7 +4,7 @@ use Rattle.std.specs.List.{flat_map, zip}
 use Rattle.std.specs.Slice.Iter.{iter_rest}
 use Rattle.std.specs.Iterator.Adapters.{zip_first, zip_second}
 use Rattle.reo_trees.specs.declared.programs.Parameter.{Parameter}
-use Rattle.reo_rules_base.specs.Touches.{touch}
+use Rattle.reo_rules.specs.Touches.{touch}
 use Rattle.reo_rules_names.specs.Closed.{AreClosed, against}
 use Rattle.reo_rules_names.proofs.direction.use_direction.Given as goal
 

@@ -1,8 +1,8 @@
 -- The types and the connectors so far were seen, and nothing stands twice in them.
 use Rattle.std.proofs.Common.{◌≡◌, [], take}
-use Rattle.reo_rules_base.specs.Lists.{each_after}
-use Rattle.reo_rules_base.specs.Scopes.{type_names, connector_names}
-use Rattle.reo_rules_base.specs.Twice.{twice_in}
+use Rattle.reo_rules.specs.Lists.{each_after}
+use Rattle.reo_rules.specs.Scopes.{type_names, connector_names}
+use Rattle.reo_rules.specs.Twice.{twice_in}
 use Rattle.reo_rules_names.proofs.twice.declarations_twice.Given as goal
 
 abbrev pub invariant-loop-declaration : goal.invariant-loop-declaration

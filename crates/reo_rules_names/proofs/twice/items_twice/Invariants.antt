@@ -1,9 +1,9 @@
 -- The parameters and the nodes so far were seen, and nothing stands twice in them.
 use Rattle.std.proofs.Common.{◌≡◌, ◌++◌, [], take}
 use Rattle.reo_trees.specs.declared.items.Item.{Item}
-use Rattle.reo_rules_base.specs.Lists.{each_after}
-use Rattle.reo_rules_base.specs.Scopes.{parameter_names, node_names}
-use Rattle.reo_rules_base.specs.Twice.{twice_in_item}
+use Rattle.reo_rules.specs.Lists.{each_after}
+use Rattle.reo_rules.specs.Scopes.{parameter_names, node_names}
+use Rattle.reo_rules.specs.Twice.{twice_in_item}
 use Rattle.reo_rules_names.proofs.twice.items_twice.Given as goal
 
 abbrev pub invariant-loop-item : goal.invariant-loop-item

@@ -1,8 +1,8 @@
 -- The parameters so far were seen, and nothing stands twice in them.
 use Rattle.std.proofs.Common.{◌≡◌, [], take}
-use Rattle.reo_rules_base.specs.Lists.{each_after}
-use Rattle.reo_rules_base.specs.Scopes.{parameter_names}
-use Rattle.reo_rules_base.specs.Twice.{twice_in_parameter}
+use Rattle.reo_rules.specs.Lists.{each_after}
+use Rattle.reo_rules.specs.Scopes.{parameter_names}
+use Rattle.reo_rules.specs.Twice.{twice_in_parameter}
 use Rattle.reo_rules_names.proofs.twice.parameters_twice.Given as goal
 
 abbrev pub invariant-loop-parameter : goal.invariant-loop-parameter

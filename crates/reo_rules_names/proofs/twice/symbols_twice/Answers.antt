@@ -1,8 +1,8 @@
 -- The first symbol that stands twice is the first break.
 use Rattle.std.proofs.Common.{◌∙◌, [], subst, sym, ap}
-use Rattle.reo_rules_base.specs.Twice.{twice_among}
-use Rattle.reo_rules_base.specs.Judged.{IsFirst}
-use Rattle.reo_rules_base.proofs.AfterLemmas.{judged_err, after_first, after_more, more_seen}
+use Rattle.reo_rules.specs.Twice.{twice_among}
+use Rattle.reo_rules.specs.Judged.{IsFirst}
+use Rattle.reo_rules.proofs.AfterLemmas.{judged_err, after_first, after_more, more_seen}
 use Rattle.reo_rules_names.proofs.twice.symbols_twice.Goals as goal
 
 pub returns-in_err-once : goal.returns-in_err-once

@@ -1,7 +1,7 @@
 -- The names so far were seen, and none of them stands twice.
 use Rattle.std.proofs.Common.{◌≡◌, [], take}
-use Rattle.reo_rules_base.specs.Lists.{each_after}
-use Rattle.reo_rules_base.specs.Twice.{twice_among}
+use Rattle.reo_rules.specs.Lists.{each_after}
+use Rattle.reo_rules.specs.Twice.{twice_among}
 use Rattle.reo_rules_names.proofs.twice.symbols_twice.Given as goal
 
 abbrev pub invariant-loop-name : goal.invariant-loop-name

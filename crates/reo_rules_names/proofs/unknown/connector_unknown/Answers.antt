@@ -3,12 +3,12 @@ use Rattle.std.proofs.Common.{◌∙◌, ◌++◌, [], sym, ap, subst}
 use Rattle.std.specs.List.{flat_map}
 use Rattle.reo_trees.specs.declared.items.Item.{Item}
 use Rattle.reo_trees.specs.declared.programs.Parameter.{Parameter}
-use Rattle.reo_rules_base.specs.Lists.{each_after}
-use Rattle.reo_rules_base.specs.Types.{names_of}
-use Rattle.reo_rules_base.specs.Scopes.{parameter_names, node_names}
-use Rattle.reo_rules_base.specs.Unknown.{unknown_in_item, unknown_in_type}
-use Rattle.reo_rules_base.specs.Judged.{IsFirst}
-use Rattle.reo_rules_base.proofs.AfterLemmas.{judged_err, judged_same, judged_right, first_left}
+use Rattle.reo_rules.specs.Lists.{each_after}
+use Rattle.reo_rules.specs.Types.{names_of}
+use Rattle.reo_rules.specs.Scopes.{parameter_names, node_names}
+use Rattle.reo_rules.specs.Unknown.{unknown_in_item, unknown_in_type}
+use Rattle.reo_rules.specs.Judged.{IsFirst}
+use Rattle.reo_rules.proofs.AfterLemmas.{judged_err, judged_same, judged_right, first_left}
 use Rattle.reo_rules_names.proofs.UnknownLemmas.{types_same}
 use Rattle.reo_rules_names.proofs.unknown.connector_unknown.Goals as goal
 

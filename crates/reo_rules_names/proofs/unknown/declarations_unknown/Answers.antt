@@ -1,11 +1,11 @@
 -- What a declaration names, and then the declaration itself.
 use Rattle.std.proofs.Common.{◌∙◌, ◌+◌, sym, ap, subst, take}
 use Rattle.reo_trees.specs.declared.programs.Declaration.TheVariants as declarations
-use Rattle.reo_rules_base.specs.Types.{names_of, types_of}
-use Rattle.reo_rules_base.specs.Names.{with_name}
-use Rattle.reo_rules_base.specs.Scopes.{connector_names}
-use Rattle.reo_rules_base.specs.Judged.{IsFirst}
-use Rattle.reo_rules_base.proofs.AfterLemmas.{judged_err}
+use Rattle.reo_rules.specs.Types.{names_of, types_of}
+use Rattle.reo_rules.specs.Names.{with_name}
+use Rattle.reo_rules.specs.Scopes.{connector_names}
+use Rattle.reo_rules.specs.Judged.{IsFirst}
+use Rattle.reo_rules.proofs.AfterLemmas.{judged_err}
 use Rattle.reo_rules_names.proofs.UnknownLemmas.{Knows, type_known, connector_known, unknown_first, unknown_parts-same}
 use Rattle.reo_rules_names.proofs.unknown.declarations_unknown.Goals as goal
 use Rattle.reo_rules_names.proofs.unknown.declarations_unknown.Goals.{in-Named+in_ok-type_unknown-in-Named+in_ok-add-in-Named, in-Made+in_ok-connector_unknown-in-Made+in_ok-note-in-Made}

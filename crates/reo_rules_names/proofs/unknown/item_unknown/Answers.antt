@@ -1,8 +1,8 @@
 -- A node's type, by the names of the types in the table.
 use Rattle.std.proofs.Common.{◌∙◌, sym, ap}
-use Rattle.reo_rules_base.specs.Types.{names_of}
-use Rattle.reo_rules_base.specs.Unknown.{unknown_in_item}
-use Rattle.reo_rules_base.proofs.AfterLemmas.{judged_same}
+use Rattle.reo_rules.specs.Types.{names_of}
+use Rattle.reo_rules.specs.Unknown.{unknown_in_item}
+use Rattle.reo_rules.proofs.AfterLemmas.{judged_same}
 use Rattle.reo_rules_names.proofs.UnknownLemmas.{unknown_parts-same}
 use Rattle.reo_rules_names.proofs.unknown.item_unknown.Goals as goal
 

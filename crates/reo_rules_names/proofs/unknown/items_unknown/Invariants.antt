@@ -2,10 +2,10 @@
 use Rattle.std.proofs.Common.{◌≡◌, ◌++◌, [], ℕ, List, take}
 use Rattle.reo_trees.specs.declared.items.Item.{Item}
 use Rattle.reo_trees.specs.declared.programs.Parameter.{Parameter}
-use Rattle.reo_rules_base.specs.Lists.{each_after}
-use Rattle.reo_rules_base.specs.Types.{Typed}
-use Rattle.reo_rules_base.specs.Scopes.{parameter_names, node_names}
-use Rattle.reo_rules_base.specs.Unknown.{unknown_in_item}
+use Rattle.reo_rules.specs.Lists.{each_after}
+use Rattle.reo_rules.specs.Types.{Typed}
+use Rattle.reo_rules.specs.Scopes.{parameter_names, node_names}
+use Rattle.reo_rules.specs.Unknown.{unknown_in_item}
 use Rattle.reo_rules_names.specs.SameNames.{SameNames}
 use Rattle.reo_rules_names.specs.Symbols.{AreTypes}
 use Rattle.reo_rules_names.proofs.unknown.items_unknown.Given as goal

@@ -2,7 +2,7 @@
 use Rattle.std.proofs.Common.{◌≡◌, [], take}
 use Rattle.std.specs.List.{flat_map}
 use Rattle.reo_trees.specs.declared.programs.Parameter.{Parameter}
-use Rattle.reo_rules_base.specs.Unknown.{unknown_in_type}
+use Rattle.reo_rules.specs.Unknown.{unknown_in_type}
 use Rattle.reo_rules_names.proofs.unknown.parameters_unknown.Given as goal
 
 abbrev pub invariant-loop-parameter : goal.invariant-loop-parameter

@@ -1,12 +1,12 @@
 -- A type that is not declared hides its symbol.
 use Rattle.std.proofs.Common.{[], ◌∷◌, Bool, true, false, not, cond, inl, inr, List, subst}
-use Rattle.reo_rules_base.specs.declared.fault.FlatFault.{FlatFault}
-use Rattle.reo_rules_base.specs.declared.fault.FlatFault.TheVariants as faults
-use Rattle.reo_rules_base.specs.Lists.{has_name, where_true}
-use Rattle.reo_rules_base.specs.Types.{type_named}
-use Rattle.reo_rules_base.specs.Unknown.{lacking}
-use Rattle.reo_rules_base.specs.Judged.{IsFirst}
-use Rattle.reo_rules_base.proofs.AfterLemmas.{judged_err}
+use Rattle.reo_rules.specs.declared.fault.FlatFault.{FlatFault}
+use Rattle.reo_rules.specs.declared.fault.FlatFault.TheVariants as faults
+use Rattle.reo_rules.specs.Lists.{has_name, where_true}
+use Rattle.reo_rules.specs.Types.{type_named}
+use Rattle.reo_rules.specs.Unknown.{lacking}
+use Rattle.reo_rules.specs.Judged.{IsFirst}
+use Rattle.reo_rules.proofs.AfterLemmas.{judged_err}
 use Rattle.reo_rules_names.proofs.unknown.symbol_unknown.Goals as goal
 
 first_missing : (b : Bool) (f e : FlatFault) (rest : List FlatFault) → IsFirst (where_true (not b) f) e → IsFirst (cond b rest (f ∷ [])) e

@@ -1,8 +1,8 @@
 -- The kind against the one that is wanted.
 use Rattle.std.proofs.Common.{◌∙◌, sym, ap}
 use Rattle.std.specs.Prelude.{not}
-use Rattle.reo_rules_base.specs.Types.{is_same}
-use Rattle.reo_rules_base.specs.Mistyped.{is_kind}
+use Rattle.reo_rules.specs.Types.{is_same}
+use Rattle.reo_rules.specs.Mistyped.{is_kind}
 use Rattle.reo_rules_types.specs.Cells.{type_at}
 use Rattle.reo_rules_types.specs.Scoped.{typed}
 use Rattle.reo_rules_types.proofs.Kept.{kept_at, kept_below}

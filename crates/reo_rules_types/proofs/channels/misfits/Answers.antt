@@ -1,8 +1,8 @@
 -- What a filter wants is there; what a map wants is the kind of its second node.
 use Rattle.std.proofs.Common.{◌≡◌, ◌∙◌, sym, ap, subst}
 use Rattle.std.specs.Prelude.{not, IfOk}
-use Rattle.reo_rules_base.specs.Terms.{expr_of}
-use Rattle.reo_rules_base.specs.Mistyped.{has_kind, misfits}
+use Rattle.reo_rules.specs.Terms.{expr_of}
+use Rattle.reo_rules.specs.Mistyped.{has_kind, misfits}
 use Rattle.reo_rules_types.specs.Cells.{type_at}
 use Rattle.reo_rules_types.specs.Scoped.{typed}
 use Rattle.reo_rules_types.proofs.Kept.{at_told, at_within, kept_at, kept_below}

@@ -3,7 +3,7 @@ use Rattle.std.proofs.Common.{arith, ◌≡◌, ◌∙◌, ℕ, get_or, List, sl
 use Rattle.std.specs.Prelude.{not}
 use Rattle.std.proofs.lemmas.Option.{slice_get_within}
 use Rattle.reo_values.specs.declared.kindred.Kindred.{Kindred}
-use Rattle.reo_rules_base.specs.Types.{type_named, is_same}
+use Rattle.reo_rules.specs.Types.{type_named, is_same}
 use Rattle.reo_rules_types.specs.Scoped.{typed, number_named}
 use Rattle.reo_rules_types.proofs.Scoped.{named_there}
 use Rattle.reo_rules_types.proofs.Signed.{zip_more, zip_hit, of_place, as_many}

@@ -3,7 +3,7 @@ use Rattle.std.proofs.Common.{◌≡◌, ℕ, List, false, take}
 use Rattle.std.specs.Prelude.{not}
 use Rattle.std.specs.List.{list_any, zip}
 use Rattle.reo_values.specs.declared.kindred.Kindred.{Kindred}
-use Rattle.reo_rules_base.specs.Types.{type_named, is_same}
+use Rattle.reo_rules.specs.Types.{type_named, is_same}
 use Rattle.reo_rules_types.specs.Scoped.{typed}
 use Rattle.reo_rules_types.specs.Signed.{AreOf}
 use Rattle.reo_rules_types.proofs.channels.use_mistyped.Given as goal

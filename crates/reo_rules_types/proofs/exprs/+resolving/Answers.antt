@@ -2,7 +2,7 @@
 use Rattle.std.proofs.Common.{◌≡◌, ◌∙◌, ◌<◌, length, sym, ap, subst}
 use Rattle.std.specs.Prelude.{IfOk}
 use Rattle.reo_trees.specs.declared.terms.TermForm.TheVariants as forms
-use Rattle.reo_rules_base.specs.Terms.{symbol_in, expr_of}
+use Rattle.reo_rules.specs.Terms.{symbol_in, expr_of}
 use Rattle.reo_rules_types.specs.Cells.{type_at}
 use Rattle.reo_rules_types.specs.Scoped.{typed, number_named}
 use Rattle.reo_rules_types.proofs.Scoped.{named_is, named_below}

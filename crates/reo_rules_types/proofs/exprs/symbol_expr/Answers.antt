@@ -3,7 +3,7 @@ use Rattle.std.proofs.Common.{◌∙◌, Some, map, sym, ap, bytes_eq}
 use Rattle.std.specs.Prelude.{option_map}
 use Rattle.std.specs.List.{position_from}
 use Rattle.reo_exprs.specs.declared.expr.Expr.TheVariants as exprs
-use Rattle.reo_rules_base.specs.Terms.{symbol_in}
+use Rattle.reo_rules.specs.Terms.{symbol_in}
 use Rattle.reo_rules_types.specs.Cells.{kindred_of}
 use Rattle.reo_rules_types.proofs.Cells.{of_cell}
 use Rattle.reo_rules_types.proofs.OfKinds.{no_value}

@@ -1,12 +1,12 @@
 -- A declared type is known; a connector is judged, and then it is known.
 use Rattle.std.proofs.Common.{◌≡◌, ◌∙◌, ◌+◌, List, [], ◌∷◌, ◌++◌, take, refl, sym, ap, subst}
 use Rattle.reo_trees.specs.declared.programs.Declaration.{Declaration}
-use Rattle.reo_rules_base.specs.Lists.{has_name}
-use Rattle.reo_rules_base.specs.Twice.{twice_in, twice_in_type, twice_in_connector}
-use Rattle.reo_rules_base.specs.Unknown.{unknown_in}
-use Rattle.reo_rules_base.specs.Mistyped.{mistyped_in}
-use Rattle.reo_rules_base.specs.Judged.{IsFirst}
-use Rattle.reo_rules_base.proofs.AfterLemmas.{judged_err, after_first, after_more, more_seen, left_none, right_none}
+use Rattle.reo_rules.specs.Lists.{has_name}
+use Rattle.reo_rules.specs.Twice.{twice_in, twice_in_type, twice_in_connector}
+use Rattle.reo_rules.specs.Unknown.{unknown_in}
+use Rattle.reo_rules.specs.Mistyped.{mistyped_in}
+use Rattle.reo_rules.specs.Judged.{IsFirst}
+use Rattle.reo_rules.proofs.AfterLemmas.{judged_err, after_first, after_more, more_seen, left_none, right_none}
 use Rattle.reo_rules_types.proofs.Names.{after_at, where_false, keys_are}
 use Rattle.reo_rules_types.proofs.Standing.{stands_named, names_types}
 use Rattle.reo_values.specs.declared.kindred.Kindred.{Kindred}

@@ -1,9 +1,9 @@
 -- The two nodes have the numbers of their types.
 use Rattle.std.proofs.Common.{◌≡◌, ◌∙◌, ◌<◌, length, sym, ap, subst}
 use Rattle.std.specs.Prelude.{IfOk}
-use Rattle.reo_rules_base.specs.Types.{types_of}
-use Rattle.reo_rules_base.specs.Scopes.{connectors_of}
-use Rattle.reo_rules_base.specs.Mistyped.{is_channel_mistyped, is_mistyped}
+use Rattle.reo_rules.specs.Types.{types_of}
+use Rattle.reo_rules.specs.Scopes.{connectors_of}
+use Rattle.reo_rules.specs.Mistyped.{is_channel_mistyped, is_mistyped}
 use Rattle.reo_rules_types.specs.Cells.{type_at}
 use Rattle.reo_rules_types.specs.Scoped.{typed, number_named}
 use Rattle.reo_rules_types.proofs.Scoped.{named_is, named_below}

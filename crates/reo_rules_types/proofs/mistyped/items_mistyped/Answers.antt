@@ -1,12 +1,12 @@
 -- One more item.
 use Rattle.std.proofs.Common.{◌∙◌, inr, sym, ap}
 use Rattle.reo_trees.specs.declared.items.Item.{Item}
-use Rattle.reo_rules_base.specs.declared.fault.FlatFault.TheVariants as faults
-use Rattle.reo_rules_base.specs.Lists.{where_true, first_of}
-use Rattle.reo_rules_base.specs.Types.{types_of}
-use Rattle.reo_rules_base.specs.Scopes.{connectors_of}
-use Rattle.reo_rules_base.specs.Mistyped.{is_mistyped}
-use Rattle.reo_rules_base.proofs.AfterLemmas.{flat_more, flat_first}
+use Rattle.reo_rules.specs.declared.fault.FlatFault.TheVariants as faults
+use Rattle.reo_rules.specs.Lists.{where_true, first_of}
+use Rattle.reo_rules.specs.Types.{types_of}
+use Rattle.reo_rules.specs.Scopes.{connectors_of}
+use Rattle.reo_rules.specs.Mistyped.{is_mistyped}
+use Rattle.reo_rules.proofs.AfterLemmas.{flat_more, flat_first}
 use Rattle.reo_rules_types.specs.Scoped.{typed}
 use Rattle.reo_rules_types.proofs.Kept.{keeps_both}
 use Rattle.reo_rules_types.proofs.Scoped.{known_kept, typed_kept}

@@ -3,11 +3,11 @@ use Rattle.std.proofs.Common.{◌≡◌, List, [], take}
 use Rattle.std.specs.List.{flat_map}
 use Rattle.reo_trees.specs.declared.items.Item.{Item}
 use Rattle.reo_trees.specs.declared.programs.Declaration.{Declaration}
-use Rattle.reo_rules_base.specs.declared.fault.FlatFault.TheVariants as faults
-use Rattle.reo_rules_base.specs.Lists.{where_true}
-use Rattle.reo_rules_base.specs.Types.{types_of}
-use Rattle.reo_rules_base.specs.Scopes.{connectors_of}
-use Rattle.reo_rules_base.specs.Mistyped.{is_mistyped}
+use Rattle.reo_rules.specs.declared.fault.FlatFault.TheVariants as faults
+use Rattle.reo_rules.specs.Lists.{where_true}
+use Rattle.reo_rules.specs.Types.{types_of}
+use Rattle.reo_rules.specs.Scopes.{connectors_of}
+use Rattle.reo_rules.specs.Mistyped.{is_mistyped}
 use Rattle.reo_rules_types.specs.Cells.{Keeps}
 use Rattle.reo_rules_types.specs.Scoped.{typed}
 use Rattle.reo_rules_types.specs.Stands.{Stands}

@@ -4,9 +4,9 @@ use Rattle.std.specs.Prelude.{not}
 use Rattle.std.proofs.lemmas.Option.{same_Some}
 use Rattle.reo_values.specs.declared.kindred.Kindred.{Kindred}
 use Rattle.reo_trees.specs.declared.programs.Parameter.{Parameter}
-use Rattle.reo_rules_base.specs.Types.{type_named, types_of, resolved, is_same}
-use Rattle.reo_rules_base.specs.Scopes.{connectors_of}
-use Rattle.reo_rules_base.specs.Mistyped.{is_use_mistyped}
+use Rattle.reo_rules.specs.Types.{type_named, types_of, resolved, is_same}
+use Rattle.reo_rules.specs.Scopes.{connectors_of}
+use Rattle.reo_rules.specs.Mistyped.{is_use_mistyped}
 use Rattle.reo_rules_types.specs.Scoped.{typed}
 use Rattle.reo_rules_types.specs.Signed.{AreOf, parameter_types}
 use Rattle.reo_rules_types.proofs.Signatures.{connector_at, connector_none, signed_at, zip-map, zip_nil}

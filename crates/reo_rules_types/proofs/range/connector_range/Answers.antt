@@ -3,12 +3,12 @@ use Rattle.std.proofs.Common.{◌∙◌, List, sym, subst}
 use Rattle.std.specs.List.{flat_map}
 use Rattle.reo_trees.specs.declared.items.Item.{Item}
 use Rattle.reo_trees.specs.declared.programs.Parameter.{Parameter}
-use Rattle.reo_rules_base.specs.declared.fault.FlatFault.{FlatFault}
-use Rattle.reo_rules_base.specs.Types.{Typed}
-use Rattle.reo_rules_base.specs.Scopes.{scope_of}
-use Rattle.reo_rules_base.specs.Ranges.{range_in_type, range_in_item}
-use Rattle.reo_rules_base.specs.Judged.{IsFirst, IsJudged}
-use Rattle.reo_rules_base.proofs.AfterLemmas.{judged_err, judged_right, first_left}
+use Rattle.reo_rules.specs.declared.fault.FlatFault.{FlatFault}
+use Rattle.reo_rules.specs.Types.{Typed}
+use Rattle.reo_rules.specs.Scopes.{scope_of}
+use Rattle.reo_rules.specs.Ranges.{range_in_type, range_in_item}
+use Rattle.reo_rules.specs.Judged.{IsFirst, IsJudged}
+use Rattle.reo_rules.proofs.AfterLemmas.{judged_err, judged_right, first_left}
 use Rattle.reo_rules_types.specs.Scoped.{typed}
 use Rattle.reo_rules_types.proofs.Kept.{keeps_both}
 use Rattle.reo_rules_types.proofs.Scoped.{known_kept, typed_kept}

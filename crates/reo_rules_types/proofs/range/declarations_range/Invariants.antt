@@ -1,8 +1,8 @@
 -- The types so far are declared, and the declarations so far keep their bounds.
 use Rattle.std.proofs.Common.{◌≡◌, [], take}
-use Rattle.reo_rules_base.specs.Lists.{each_after}
-use Rattle.reo_rules_base.specs.Types.{types_of}
-use Rattle.reo_rules_base.specs.Ranges.{range_in}
+use Rattle.reo_rules.specs.Lists.{each_after}
+use Rattle.reo_rules.specs.Types.{types_of}
+use Rattle.reo_rules.specs.Ranges.{range_in}
 use Rattle.reo_rules_types.specs.Scoped.{typed, AreKnown}
 use Rattle.reo_rules_types.proofs.range.declarations_range.Given as goal
 

@@ -1,9 +1,9 @@
 -- The two nodes have the numbers of their types.
 use Rattle.std.proofs.Common.{◌∙◌, ◌<◌, length, sym, ap, subst}
-use Rattle.reo_rules_base.specs.declared.fault.FlatFault.TheVariants as faults
-use Rattle.reo_rules_base.specs.Lists.{where_true}
-use Rattle.reo_rules_base.specs.Ranges.{leaves, range_in_item}
-use Rattle.reo_rules_base.proofs.AfterLemmas.{judged_same}
+use Rattle.reo_rules.specs.declared.fault.FlatFault.TheVariants as faults
+use Rattle.reo_rules.specs.Lists.{where_true}
+use Rattle.reo_rules.specs.Ranges.{leaves, range_in_item}
+use Rattle.reo_rules.proofs.AfterLemmas.{judged_same}
 use Rattle.reo_rules_types.specs.Cells.{type_at}
 use Rattle.reo_rules_types.specs.Scoped.{typed, number_named}
 use Rattle.reo_rules_types.proofs.Scoped.{named_is, named_below}
@@ -29,4 +29,4 @@ returns-in_ok-channel_leaves-in-Joined-clause-judged c =
     judged_same _ _ c.range_where.result
     (ap (λ b. where_true b (faults.Range c.args.line)) (c.in_ok-channel_leaves-in-Joined.ensures ∙ (λ i. leaves known (first i) (second i) c.in-Joined.channel))
     ∙ ap (range_in_item known (typed types es) c.args.line) (sym c.in-Joined.is))
-    c.range_where.ensures
+    c.range_where.ensures.judged

@@ -2,7 +2,7 @@
 use Rattle.std.proofs.Common.{◌≡◌, [], take}
 use Rattle.std.specs.List.{flat_map}
 use Rattle.reo_trees.specs.declared.items.Item.{Item}
-use Rattle.reo_rules_base.specs.Ranges.{range_in_item}
+use Rattle.reo_rules.specs.Ranges.{range_in_item}
 use Rattle.reo_rules_types.specs.Cells.{Keeps}
 use Rattle.reo_rules_types.specs.Scoped.{typed}
 use Rattle.reo_rules_types.proofs.range.items_range.Given as goal

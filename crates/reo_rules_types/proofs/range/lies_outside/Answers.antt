@@ -1,7 +1,7 @@
 -- A type that lies outside, or none.
 use Rattle.std.proofs.Common.{◌∙◌, Err, sym, ap}
 use Rattle.std.specs.Prelude.{not}
-use Rattle.reo_rules_base.specs.Ranges.{lies_in}
+use Rattle.reo_rules.specs.Ranges.{lies_in}
 use Rattle.reo_rules_types.proofs.Ranged.{untyped, inside_is}
 use Rattle.reo_rules_types.proofs.range.lies_outside.Goals as goal
 

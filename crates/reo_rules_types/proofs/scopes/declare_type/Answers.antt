@@ -1,7 +1,7 @@
 -- The name stands behind the others, with the number of its type.
 use Rattle.std.proofs.Common.{◌∙◌, [], ◌∷◌, ◌++◌, sym, ap, subst}
 use Rattle.std.proofs.lemmas.Result.{on_ok_weaker}
-use Rattle.reo_rules_base.specs.Types.{resolved}
+use Rattle.reo_rules.specs.Types.{resolved}
 use Rattle.reo_rules_types.specs.Scoped.{typed, AreKnown}
 use Rattle.reo_rules_types.proofs.Kept.{at_within}
 use Rattle.reo_rules_types.proofs.Scoped.{known_kept, known_push, typed_kept, typed_push}

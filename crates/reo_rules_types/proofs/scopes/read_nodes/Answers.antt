@@ -5,10 +5,10 @@ use Rattle.std.proofs.lemmas.List.{append-nil, append_assoc}
 use Rattle.reo_trees.specs.declared.items.Item.{Item}
 use Rattle.reo_trees.specs.declared.items.Form.{Form}
 use Rattle.reo_trees.specs.declared.items.Form.TheVariants as forms
-use Rattle.reo_rules_base.specs.Lists.{has_name}
-use Rattle.reo_rules_base.specs.Types.{Typed}
-use Rattle.reo_rules_base.specs.Scopes.{node_types_in}
-use Rattle.reo_rules_base.proofs.AfterLemmas.{more_flat}
+use Rattle.reo_rules.specs.Lists.{has_name}
+use Rattle.reo_rules.specs.Types.{Typed}
+use Rattle.reo_rules.specs.Scopes.{node_types_in}
+use Rattle.reo_rules.proofs.AfterLemmas.{more_flat}
 use Rattle.reo_rules_types.specs.Scoped.{typed, AreKnown}
 use Rattle.reo_rules_types.proofs.Kept.{keeps_both}
 use Rattle.reo_rules_types.proofs.Scoped.{known_kept, typed_kept, names_typed}

@@ -2,7 +2,7 @@
 use Rattle.std.proofs.Common.{◌≡◌, ◌++◌, take}
 use Rattle.std.specs.List.{flat_map}
 use Rattle.reo_trees.specs.declared.items.Item.{Item}
-use Rattle.reo_rules_base.specs.Scopes.{node_types_in}
+use Rattle.reo_rules.specs.Scopes.{node_types_in}
 use Rattle.reo_rules_types.specs.Cells.{Keeps}
 use Rattle.reo_rules_types.specs.Scoped.{typed, AreKnown}
 use Rattle.reo_rules_types.proofs.scopes.read_nodes.Given as goal

@@ -2,10 +2,10 @@
 use Rattle.std.proofs.Common.{◌∙◌, [], ◌∷◌, ◌++◌, map, take, Some, refl, sym, ap, subst}
 use Rattle.reo_values.specs.declared.kindred.Kindred.{Kindred}
 use Rattle.reo_trees.specs.declared.programs.Parameter.{Parameter}
-use Rattle.reo_rules_base.specs.Lists.{has_name}
-use Rattle.reo_rules_base.specs.Types.{resolved}
-use Rattle.reo_rules_base.specs.Scopes.{parameter_type}
-use Rattle.reo_rules_base.proofs.AfterLemmas.{more_mapped}
+use Rattle.reo_rules.specs.Lists.{has_name}
+use Rattle.reo_rules.specs.Types.{resolved}
+use Rattle.reo_rules.specs.Scopes.{parameter_type}
+use Rattle.reo_rules.proofs.AfterLemmas.{more_mapped}
 use Rattle.reo_rules_types.specs.Scoped.{typed, AreKnown}
 use Rattle.reo_rules_types.specs.Signed.{AreOf}
 use Rattle.reo_rules_types.proofs.Kept.{keeps_both}

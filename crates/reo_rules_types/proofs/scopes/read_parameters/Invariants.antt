@@ -1,8 +1,8 @@
 -- The parameters so far are in scope, with their types.
 use Rattle.std.proofs.Common.{◌≡◌, map, take}
 use Rattle.reo_trees.specs.declared.programs.Parameter.{Parameter}
-use Rattle.reo_rules_base.specs.Types.{resolved}
-use Rattle.reo_rules_base.specs.Scopes.{parameter_type}
+use Rattle.reo_rules.specs.Types.{resolved}
+use Rattle.reo_rules.specs.Scopes.{parameter_type}
 use Rattle.reo_rules_types.specs.Cells.{Keeps}
 use Rattle.reo_rules_types.specs.Scoped.{typed, AreKnown}
 use Rattle.reo_rules_types.specs.Signed.{AreOf}

@@ -2,7 +2,7 @@
 use Rattle.std.proofs.Common.{◌≡◌, ◌∙◌, Some, slice_get, sym, ap, subst}
 use Rattle.std.specs.Prelude.{IfOk}
 use Rattle.reo_trees.specs.declared.types.Shape.TheVariants as shapes
-use Rattle.reo_rules_base.specs.Types.{resolved}
+use Rattle.reo_rules.specs.Types.{resolved}
 use Rattle.reo_rules_types.specs.Scoped.{typed, number_named}
 use Rattle.reo_rules_types.proofs.Kept.{at_within, kept_below}
 use Rattle.reo_rules_types.proofs.Scoped.{known_kept, named_there}

@@ -4,7 +4,7 @@ use Rattle.reo_values.specs.declared.kindred.Kindred.{Kindred}
 use Rattle.reo_rules_types.specs.declared.cell.Cell.{Cell}
 use Rattle.reo_rules_types.specs.declared.cell.Cell.TheVariants as cells
 use Rattle.reo_values.specs.declared.kindred.Twins.{Twins}
-use Rattle.reo_rules_base.specs.Types.{depth_of}
+use Rattle.reo_rules.specs.Types.{depth_of}
 use Rattle.reo_rules_types.specs.Cells.{type_at, kindred_of}
 use Rattle.reo_rules_types.proofs.Cells.{of_cell}
 use Rattle.reo_rules_types.proofs.Ranged.{depth-Pair, no_level, left_deeper, right_deeper, no_depth}

@@ -1,7 +1,7 @@
 -- One more name was noted.
 use Rattle.std.proofs.Common.{◌∙◌, ◌||◌, false, ap, sym, map, take, bytes_eq, [], ◌∷◌, ◌++◌}
 use Rattle.std.proofs.lemmas.List.{take_more, map_push}
-use Rattle.reo_rules_base.specs.Lists.{has_name}
+use Rattle.reo_rules.specs.Lists.{has_name}
 use Rattle.reo_rules_types.proofs.Lists.{noted, noted_push}
 use Rattle.reo_rules_types.proofs.types.symbols_of.Goals as goal
 

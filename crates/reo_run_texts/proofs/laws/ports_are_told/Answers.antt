@@ -3,8 +3,8 @@ use Rattle.reo_values.specs.Names.{IsName}
 use Rattle.reo_values.specs.Valid.{IsValid}
 use Rattle.reo_net_base.specs.declared.port.Port.{Port}
 use Rattle.reo_trees_laws.specs.Spelled.{IsSpelledDeclaration}
-use Rattle.reo_rules_base.specs.Types.{Typed, types_of}
-use Rattle.reo_flatten_base.specs.Flat.{main_parameters, ports_of}
+use Rattle.reo_rules.specs.Types.{Typed, types_of}
+use Rattle.reo_flat.specs.Flat.{main_parameters, ports_of}
 use Rattle.reo_flatten_laws.specs.NodeTypes.{typing_named, typings_of, node_types_of}
 use Rattle.reo_flatten_laws.proofs.Breaks.{unbroken}
 use Rattle.reo_flatten_laws.proofs.Each.{by_recursion, each_of}

@@ -3,10 +3,10 @@ use Rattle.std.specs.Prelude.{Some, slice_get}
 use Rattle.std.specs.List.{flat_map}
 use Rattle.reo_net_base.specs.declared.port.Port.{Port}
 use Rattle.reo_net_base.specs.Net.{end_of}
-use Rattle.reo_rules_base.specs.Types.{type_named, types_of}
-use Rattle.reo_rules_base.specs.Scopes.{parameter_names}
-use Rattle.reo_flatten_base.specs.Unfolding.{meaning_named, meanings_of}
-use Rattle.reo_flatten_base.specs.Flat.{main_parameters, ports_of, nodes_of, placed_of, wiring_of_program}
+use Rattle.reo_rules.specs.Types.{type_named, types_of}
+use Rattle.reo_rules.specs.Scopes.{parameter_names}
+use Rattle.reo_flat.specs.Unfolding.{meaning_named, meanings_of}
+use Rattle.reo_flat.specs.Flat.{main_parameters, ports_of, nodes_of, placed_of, wiring_of_program}
 use Rattle.reo_flatten_laws.specs.NodeTypes.{typing_named, typings_of, node_types_of}
 use Rattle.reo_flatten_laws.proofs.Breaks.{unbroken}
 use Rattle.reo_flatten_laws.proofs.Each.{by_recursion}

@@ -1,10 +1,10 @@
 use Rattle.std.proofs.Common.{◌∙◌, ◌+◌, ℕ, refl, sym, arith, rules}
 use Rattle.reo_net_base.specs.Net.{Wiring, net_of}
 use Rattle.reo_net_base.specs.Step.{stepped}
-use Rattle.reo_engine_base.specs.Rules.{rules_of}
-use Rattle.reo_engine_base.specs.declared.plan.Plan.{Plan}
+use Rattle.reo_rounds.specs.Rules.{rules_of}
+use Rattle.reo_rounds.specs.declared.plan.Plan.{Plan}
 use Rattle.reo_runs.specs.Round.{State, advanced}
-use Rattle.reo_runner_ports.proofs.AfterRound.{over_by}
+use Rattle.reo_at_ports.proofs.AfterRound.{over_by}
 use Rattle.reo_runner.proofs.RoundLemmas.{round_planned, tallied_by}
 use Rattle.reo_runner.proofs.round.make_round.Goals as goal
 

@@ -1,6 +1,6 @@
 use Rattle.std.proofs.Common.{sym, subst}
 use Rattle.reo_net_base.specs.Net.{Wiring, net_of}
-use Rattle.reo_runs.specs.Whole.{HasOrder}
+use Rattle.reo_rounds.specs.Order.{HasOrder}
 use Rattle.reo_runner.proofs.runner.has_runs.Goals as goal
 
 pub returns : goal.returns

@@ -1,7 +1,9 @@
-use Rattle.std.proofs.Common.{◌≡◌, ◌∙◌, ◌+◌, ℕ, None, sym, ap, arith, rules}
-use Rattle.reo_engine_base.specs.Rules.{rules_of}
+use Rattle.std.proofs.Common.{◌≡◌, ◌∙◌, ◌+◌, ℕ, None, refl, sym, ap, arith, rules}
+use Rattle.reo_rounds.specs.Rules.{rules_of}
 use Rattle.reo_runs.specs.Run.{Place}
-use Rattle.reo_runner_ports.proofs.Kept.{self_but}
+use Rattle.reo_at_ports.proofs.Kept.{self_but}
+use Rattle.reo_io.proofs.Counts.{same_count}
+use Rattle.reo_runner.specs.declared.planning.RoundFault.TheVariants.{Failed as SinkFailed}
 use Rattle.reo_runner.proofs.RunLemmas.{so_far_none, at_limit, ended, so_far_more, stopped_by, none_of}
 use Rattle.reo_runner.proofs.runner.make_rounds.Goals as goal
 
@@ -10,7 +12,7 @@ loop-limits-init g c =
     let r = rules_of g.P.Primitive.behaviour g.P.Primitive.settled g.P.Ported.port_state g.P.Ported.placed g.P.Ported.withdrawn in
     record {
       so_far = so_far_none r c.args.ports.now.list c.args.limits.budget c.args.limits.rounds c.args.engine.now.circuit c.args.players.now (g.S.Sink.told c.args.out.now) c.args.engine.now.rounds c.new-tally.result
-          (self_but r g.met.P.Ported.placed_again c.args.engine.now.circuit) c.requires.none_made c.new-tally.ensures.rounds c.new-tally.ensures.written c.new-tally.ensures.delivered;
+          (self_but r g.met.P.Restoring.placed_again c.args.engine.now.circuit) c.requires.none_made c.new-tally.ensures.rounds c.new-tally.ensures.written c.new-tally.ensures.delivered;
       between = c.requires.between;
       within = omega (arith, c.requires.none_made);
       small = record {
@@ -19,7 +21,7 @@ loop-limits-init g c =
         delivered = omega (arith, c.new-tally.ensures.delivered);
       };
       count = c.new-tally.ensures.rounds ∙ sym c.requires.none_made;
-      later = omega arith;
+      same = refl;
     }
 
 pub returns-then-made-limits-clause-came : goal.returns-then-made-limits-clause-came
@@ -52,7 +54,7 @@ loop-limits-preserved g c =
       within = search rules;
       small = c.in-Ok.ensures.small;
       count = made.tallied.rounds ∙ ap (λ (n : ℕ). n + 1) c.loop-limits.invariant.count ∙ sym rounds;
-      later = omega (arith, c.in-Ok.ensures.later, c.loop-limits.invariant.later);
+      same = same_count _ _ c.in-Ok.made SinkFailed c.in-Ok.ensures.later c.in-Ok.ensures.risen ∙ c.loop-limits.invariant.same;
     }
 
 pub returns-in-Err-clause-came : goal.returns-in-Err-clause-came

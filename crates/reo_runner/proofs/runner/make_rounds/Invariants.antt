@@ -1,6 +1,6 @@
 use Rattle.std.proofs.Common.{◌≡◌, ◌≤◌, ◌-◌, None, map}
-use Rattle.reo_engine_base.specs.Rules.{rules_of}
-use Rattle.reo_runner_ports.specs.Between.{AreBetween}
+use Rattle.reo_rounds.specs.Rules.{rules_of}
+use Rattle.reo_at_ports.specs.Between.{AreBetween}
 use Rattle.reo_runner.specs.Rounds.{IsSmall}
 use Rattle.reo_runner.proofs.SoFar.{SoFar}
 use Rattle.reo_runner.proofs.runner.make_rounds.Given as goal
@@ -15,7 +15,7 @@ invariant-loop-limits g l = record {
   within : l.engine.rounds ≤ l.limits.rounds;
   small : IsSmall l.tally;
   count : l.tally.rounds ≡ l.engine.rounds;
-  later : g.S.Sink.faults l.fn.out ≤ g.S.Sink.faults l.out;
+  same : g.S.Sink.faults l.out ≡ g.S.Sink.faults l.fn.out;
 }
 
 abbrev pub decreases-loop-limits : goal.decreases-loop-limits

@@ -1,8 +1,8 @@
 use Rattle.std.proofs.Common.{◌∙◌, ap, sym, zero-add, refl, arith}
 use Rattle.std.specs.Prelude.{option_map, slice_get}
 use Rattle.reo_players.specs.Offers.{offer_for}
-use Rattle.reo_engine_base.specs.Ready.{with_pending}
-use Rattle.reo_engine_base.specs.Rules.{rules_of}
+use Rattle.reo_rounds.specs.Ready.{with_pending}
+use Rattle.reo_rounds.specs.Rules.{rules_of}
 use Rattle.reo_runs.proofs.StartLemmas.{started, ready_others, ready_at}
 use Rattle.reo_runs.proofs.laws.rounds_start.Goals as goal
 

@@ -2,9 +2,9 @@ use Rattle.std.proofs.Common.{◌+◌, ◌<◌, ◌≤◌, take, get_or, arith}
 use Rattle.reo_grammar.specs.declared.kind.TokenKind.TheVariants as kinds
 use Rattle.reo_lexer.specs.Lexing.{lexeme_of, lexemes_of}
 use Rattle.reo_cursor.specs.Reading.{lexeme_seen}
-use Rattle.reo_texts.proofs.Counts.{operators-small, above-yes, above-no}
-use Rattle.reo_texts.proofs.Fronts.{take-next, nowhere-none, nowhere-more, lexemes-length}
-use Rattle.reo_script_base.specs.ScriptAnswers.{IsDeep}
+use Rattle.reo_terms.proofs.Counts.{operators-small, above-yes, above-no}
+use Rattle.reo_terms.proofs.Fronts.{take-next, nowhere-none, nowhere-more, lexemes-length}
+use Rattle.reo_scripts.specs.ScriptAnswers.{IsDeep}
 use Rattle.reo_script.specs.Depth.{Deepens}
 use Rattle.reo_script.proofs.Deepening.{deepens-next}
 use Rattle.reo_script.proofs.depth.first_deep.Goals as goal

@@ -5,9 +5,9 @@ use Rattle.reo_lexer.specs.declared.token.Token.{Token}
 use Rattle.reo_lexer.specs.Lexing.{lexemes_of}
 use Rattle.reo_trees.specs.Rules.{circuit_rules}
 use Rattle.reo_trees.specs.Table.{circuit_table}
-use Rattle.reo_texts.proofs.Fronts.{lexemes-length}
-use Rattle.reo_texts.proofs.Whole.{all-said, rest-refused, never-out}
-use Rattle.reo_script_base.specs.Events.{event_form}
+use Rattle.reo_terms.proofs.Fronts.{lexemes-length}
+use Rattle.reo_terms.proofs.Whole.{all-said, rest-refused, never-out}
+use Rattle.reo_scripts.specs.Events.{event_form}
 use Rattle.reo_script.proofs.lines.event_of.Goals as goal
 
 enough : (text : List ℕ) (ts : List Token) → length (lexemes_of text ts) < length ts + 1

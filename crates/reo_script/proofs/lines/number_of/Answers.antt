@@ -3,7 +3,7 @@ use Rattle.std.proofs.Common.{◌∙◌, sym}
 use Rattle.std.specs.Str.{bytes_eq}
 use Rattle.std.proofs.lemmas.Iterator.Adapters.{position_from-zero}
 use Rattle.reo_net_base.specs.declared.port.Port.{Port}
-use Rattle.reo_rules_base.proofs.Mapped.{position-map}
+use Rattle.reo_rules.proofs.Mapped.{position-map}
 use Rattle.reo_script.proofs.lines.number_of.Goals as goal
 
 pub returns : goal.returns

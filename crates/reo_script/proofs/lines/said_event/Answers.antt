@@ -1,6 +1,6 @@
 use Rattle.std.proofs.Common.{length, ap, sym, subst, arith}
 use Rattle.reo_lexer.specs.Lexing.{IsTokens}
-use Rattle.reo_texts.proofs.Only.{tokens-few}
+use Rattle.reo_terms.proofs.Only.{tokens-few}
 use Rattle.reo_script.proofs.OneEvent.{deep-silent}
 use Rattle.reo_script.proofs.lines.said_event.Goals as goal
 

@@ -1,10 +1,10 @@
 use Rattle.std.proofs.Common.{arith, false, ℕ, ◌<◌, ◌≡◌, ◌∙◌, List, [], ◌∷◌, ◌++◌, sym, ap, map, cond, get_or, length}
 use Rattle.std.proofs.lemmas.List.{take-map, length-map, get_or-map}
 use Rattle.reo_net_base.specs.declared.port.Port.{Port}
-use Rattle.reo_rules_base.specs.Lists.{has_name}
-use Rattle.reo_rules_base.specs.Names.{with_name}
-use Rattle.reo_rules_base.proofs.AfterLemmas.{more_mapped}
-use Rattle.reo_rules_base.proofs.Distinct.{new_name}
+use Rattle.reo_rules.specs.Lists.{has_name}
+use Rattle.reo_rules.specs.Names.{with_name}
+use Rattle.reo_rules.proofs.AfterLemmas.{more_mapped}
+use Rattle.reo_rules.proofs.Distinct.{new_name}
 use Rattle.reo_script.proofs.script.names_of.Goals as goal
 
 abbrev pub name_of : Port → List ℕ

@@ -1,10 +1,10 @@
 use Rattle.std.proofs.Common.{ℕ, ◌+◌, ◌<◌, List, length, refl, sym, ◌∙◌, arith}
 use Rattle.reo_lexer.specs.declared.token.Token.{Token}
 use Rattle.reo_lexer.specs.Lexing.{lexemes_of}
-use Rattle.reo_texts.proofs.Fronts.{lexemes-length}
-use Rattle.reo_script_base.specs.ScriptForms.{script_rules, script_form}
-use Rattle.reo_script_base.specs.Table.{script_table}
-use Rattle.reo_texts.proofs.Whole.{all-said, rest-refused, stop-refused, never-out}
+use Rattle.reo_terms.proofs.Fronts.{lexemes-length}
+use Rattle.reo_scripts.specs.ScriptForms.{script_rules, script_form}
+use Rattle.reo_scripts.specs.Table.{script_table}
+use Rattle.reo_terms.proofs.Whole.{all-said, rest-refused, stop-refused, never-out}
 use Rattle.reo_script.proofs.texts.read_all.Goals as goal
 
 enough : (text : List ℕ) (ts : List Token) → length (lexemes_of text ts) < length ts + 1

@@ -1,5 +1,5 @@
 use Rattle.std.proofs.Common.{length, ap, arith}
-use Rattle.reo_texts.proofs.Only.{tokens-few}
+use Rattle.reo_terms.proofs.Only.{tokens-few}
 use Rattle.reo_script.proofs.texts.said.Goals as goal
 
 pub first_deep-requires-clause-few : goal.first_deep-requires-clause-few

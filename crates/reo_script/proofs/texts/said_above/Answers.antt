@@ -1,7 +1,7 @@
 use Rattle.reo_grammar.specs.declared.kind.TokenKind.TheVariants as kinds
-use Rattle.reo_script_base.specs.ScriptForms.{script_rules, script_form}
-use Rattle.reo_script_base.specs.ScriptAnswers.{IsDeep}
-use Rattle.reo_texts.proofs.Answering.{cut-real, deep-said, deep-begun, syntax-above}
+use Rattle.reo_scripts.specs.ScriptForms.{script_rules, script_form}
+use Rattle.reo_scripts.specs.ScriptAnswers.{IsDeep}
+use Rattle.reo_terms.proofs.Answering.{cut-real, deep-said, deep-begun, syntax-above}
 use Rattle.reo_script.proofs.texts.said_above.Goals as goal
 
 pub read_all-requires-clause-real : goal.read_all-requires-clause-real

@@ -1,9 +1,9 @@
 use Rattle.std.proofs.Common.{arith, []}
-use Rattle.reo_script_base.specs.ScriptForms.{script_rules, script_form}
-use Rattle.reo_script_base.specs.ScriptAnswers.{IsDeep}
+use Rattle.reo_scripts.specs.ScriptForms.{script_rules, script_form}
+use Rattle.reo_scripts.specs.ScriptAnswers.{IsDeep}
 use Rattle.reo_script.proofs.Empty.{no-components}
-use Rattle.reo_texts.proofs.Answering.{some-tokens, syntax-within}
-use Rattle.reo_texts.proofs.Fronts.{lexemes-length}
+use Rattle.reo_terms.proofs.Answering.{some-tokens, syntax-within}
+use Rattle.reo_terms.proofs.Fronts.{lexemes-length}
 use Rattle.reo_script.proofs.texts.said_within.Goals as goal
 
 pub line_of_refusal-requires : goal.line_of_refusal-requires

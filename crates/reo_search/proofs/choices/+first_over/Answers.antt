@@ -1,9 +1,9 @@
-use Rattle.std.proofs.Common.{◌≡◌, ◌∙◌, ◌+◌, ◌<◌, ◌≤◌, ◌∷◌, ◌++◌, [], ℕ, Bool, List, length, get_or, take, drop, take_all, ap, sym, subst, arith, length-append}
+use Rattle.std.proofs.Common.{◌≡◌, ◌∙◌, ◌+◌, ◌<◌, ◌∷◌, ◌++◌, [], ℕ, Bool, List, length, get_or, take, drop, take_all, ap, sym, subst, arith, length-append}
 use Rattle.std.proofs.lemmas.List.{take_more, get_or_default}
 use Rattle.std.proofs.Math.Seq.{take-append_seam}
 use Rattle.reo_net_base.specs.Net.{Net, net_of}
-use Rattle.reo_support.specs.Values.{Names}
-use Rattle.reo_propagate_rows.specs.Sets.{names_of}
+use Rattle.reo_joint_values.specs.Values.{Names}
+use Rattle.reo_rows.specs.Sets.{names_of}
 use Rattle.reo_propagate.specs.Queues.{among}
 use Rattle.reo_search.specs.Remaining.{choices_of}
 use Rattle.reo_search.specs.Trying.{IsFirstOf, HasCodes, HasNextOf}
@@ -28,7 +28,7 @@ loop-index-preserved g t c =
     let pushed : c.push.new.self ≡ codes ++ x ∷ [] = c.in_ok-push.ensures.ok ∙ ap (λ (xs : List ℕ). xs ++ x ∷ []) c.loop-index.invariant.codes_are in
     let here = subst (λ (xs : List ℕ). IsFirstOf (HasCodes net names inside loops xs) net c.args.turn c.args.places.now c.in_ok-found.found) pushed c.in_ok-found.ensures.first in
     let long : length c.push.new.self ≡ length codes + 1 = ap length pushed ∙ length-append codes (x ∷ []) in
-    let ticks = subst (λ (n : ℕ). c.first_over.new.steps ≤ c.loop-index.steps + choices_of (drop n c.args.left.now)) long c.first_over.ensures.ticks in
+    let each = subst (λ (n : ℕ). c.first_over.new.steps ≡ c.loop-index.steps + choices_of (drop n c.args.left.now)) long c.in_ok-found.ensures.each in
     record {
       best_is = subst (λ (xs : List ℕ). IsFirstOf (HasNextOf net names inside loops codes xs) net c.args.turn c.args.places.now c.lesser-best.result) (sym taken)
           (first_of_two net c.args.turn c.args.places.now (HasNextOf net names inside loops codes (take i list)) (HasCodes net names inside loops (codes ++ x ∷ [])) (HasNextOf net names inside loops codes (take i list ++ x ∷ []))
@@ -36,7 +36,7 @@ loop-index-preserved g t c =
           c.loop-index.best c.in_ok-found.found c.lesser-best.result c.loop-index.invariant.best_is here c.lesser-best.ensures);
       codes_are = c.truncate-in-loop-index.ensures ∙ ap (take c.len-many.result) (c.in_ok-found.ensures.codes ∙ pushed) ∙ ap (λ (n : ℕ). take n (codes ++ x ∷ [])) c.len-many.ensures ∙ take-append_seam codes (x ∷ []);
       tables = c.in_ok-found.ensures.tables;
-      ticks = steps_more c.args.steps.now c.loop-index.steps c.first_over.new.steps i (choices_of (drop (length codes + 1) c.args.left.now)) c.loop-index.invariant.ticks ticks;
+      ticks = steps_more c.args.steps.now c.loop-index.steps c.first_over.new.steps i (choices_of (drop (length codes + 1) c.args.left.now)) c.loop-index.invariant.ticks each;
     }
 
 pub returns-then-many-loops-clause-first : goal.returns-then-many-loops-clause-first

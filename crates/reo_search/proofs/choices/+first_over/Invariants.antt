@@ -1,6 +1,6 @@
-use Rattle.std.proofs.Common.{◌≡◌, ◌≤◌, ◌+◌, ◌*◌, ◌-◌, length, take, drop}
+use Rattle.std.proofs.Common.{◌≡◌, ◌+◌, ◌*◌, ◌-◌, length, take, drop}
 use Rattle.reo_net_base.specs.Net.{net_of}
-use Rattle.reo_propagate_rows.specs.Sets.{names_of}
+use Rattle.reo_rows.specs.Sets.{names_of}
 use Rattle.reo_propagate.specs.Queues.{among}
 use Rattle.reo_search.specs.Remaining.{choices_of}
 use Rattle.reo_search.specs.Trying.{MayRestart, HasNextOf, IsFirstOf}
@@ -14,5 +14,5 @@ invariant-loop-index g l = record {
   best_is : IsFirstOf (HasNextOf (net_of g.P.Primitive.behaviour l.circuit) (names_of l.items) (among l.sides) l.loops l.initial.codes (take l.index l.next)) (net_of g.P.Primitive.behaviour l.circuit) l.turn l.places l.best;
   codes_are : l.codes ≡ l.initial.codes;
   tables : MayRestart (net_of g.P.Primitive.behaviour l.circuit) l.boards l.ends l.items l.state;
-  ticks : l.steps ≤ l.fn.steps + l.index * choices_of (drop (length l.initial.codes + 1) l.left);
+  ticks : l.steps ≡ l.fn.steps + l.index * choices_of (drop (length l.initial.codes + 1) l.left);
 }

@@ -1,9 +1,9 @@
 use Rattle.std.proofs.Common.{ℕ, Bool, arith}
 use Rattle.reo_net_base.specs.Net.{Net, net_of}
-use Rattle.reo_support.specs.Values.{Names}
-use Rattle.reo_propagate_rows.specs.Sets.{family_of, names_of}
+use Rattle.reo_joint_values.specs.Values.{Names}
+use Rattle.reo_rows.specs.Sets.{family_of, names_of}
 use Rattle.reo_propagate.specs.Queues.{among}
-use Rattle.reo_search.proofs.Settling.{walked_first}
+use Rattle.reo_walk.proofs.Settling.{walked_first}
 use Rattle.reo_search.proofs.Remains.{single_loops}
 use Rattle.reo_search.proofs.Matched.{least_all}
 use Rattle.reo_search.proofs.searching.first_by_walk.Goals as goal

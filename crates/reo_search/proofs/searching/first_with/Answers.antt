@@ -4,19 +4,20 @@ use Rattle.reo_net_base.specs.Net.{Net, net_of}
 use Rattle.reo_net_laws.specs.Parts.{IsKnot}
 use Rattle.reo_knots.specs.Knots.{Knotted, in_knot}
 use Rattle.reo_reach.specs.Supplied.{Supplied, is_wide}
-use Rattle.reo_reach.specs.Width.{IsJointIn, TellsItems}
+use Rattle.reo_joint_values.specs.Many.{IsJointIn}
+use Rattle.reo_reach.specs.Width.{TellsItems}
 use Rattle.reo_reach.proofs.WidthLemmas.{parts_told}
 use Rattle.reo_weights.specs.Weights.{AreNamed, all_values, IsWeight, capped}
-use Rattle.reo_support.specs.Values.{Names}
-use Rattle.reo_support.specs.Chosen.{IsChosen}
-use Rattle.reo_propagate_rows.specs.Sets.{names_of}
+use Rattle.reo_joint_values.specs.Values.{Names}
+use Rattle.reo_joint_values.specs.Chosen.{IsChosen}
+use Rattle.reo_rows.specs.Sets.{names_of}
 use Rattle.reo_propagate.specs.Queues.{among}
-use Rattle.reo_search.specs.declared.place.Place.{Place}
-use Rattle.reo_search.specs.Places.{places_in}
+use Rattle.reo_walk.specs.declared.place.Place.{Place}
+use Rattle.reo_walk.specs.Places.{places_in}
 use Rattle.reo_search.specs.Remaining.{AreLoopsIn, IsLeftOfAll, CoverAll, choices_of}
 use Rattle.reo_search.specs.Trying.{IsLeastOf}
-use Rattle.reo_search.proofs.Knotted.{AllOf, all_places}
-use Rattle.reo_search.proofs.Listing.{real, listed_sides, among_same, knot_among, among_real, each_real, some}
+use Rattle.reo_walk.proofs.Knotted.{AllOf, all_places}
+use Rattle.reo_walk.proofs.Listing.{real, listed_sides, among_same, knot_among, among_real, each_real, some}
 use Rattle.reo_search.proofs.Remains.{covers, weight_left}
 use Rattle.reo_search.proofs.Named.{are_named}
 use Rattle.reo_search.proofs.Searched.{loops_those, loops_are_in, wide_set, narrow_set, narrow_joints, ticks_below, rows_in_tables, part_first, jam_exact}

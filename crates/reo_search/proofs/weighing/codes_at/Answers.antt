@@ -1,5 +1,5 @@
 use Rattle.std.proofs.Common.{ℕ, Bool, sym, ◌∙◌, subst, arith}
-use Rattle.reo_propagate_rows.specs.Flags.{flag}
+use Rattle.reo_rows.specs.Flags.{flag}
 use Rattle.reo_search.specs.Remaining.{AreCodesAt}
 use Rattle.reo_search.proofs.Remains.{picked_yes, picked_no, codes_end}
 use Rattle.reo_search.proofs.weighing.codes_at.Goals as goal

@@ -1,8 +1,8 @@
 use Rattle.std.proofs.Common.{ℕ, Bool}
 use Rattle.reo_net_base.specs.Net.{Net, net_of}
-use Rattle.reo_propagate_rows.specs.Sets.{family_of, names_of}
+use Rattle.reo_rows.specs.Sets.{family_of, names_of}
 use Rattle.reo_propagate.specs.Queues.{among}
-use Rattle.reo_search.proofs.Resting.{supported_of}
+use Rattle.reo_walk.proofs.Resting.{supported_of}
 use Rattle.reo_search.proofs.Remains.{narrowed_all}
 use Rattle.reo_search.proofs.weighing.narrow_all.Goals as goal
 

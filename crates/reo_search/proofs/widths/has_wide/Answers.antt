@@ -1,11 +1,11 @@
 use Rattle.std.proofs.Common.{◌≡◌, inl, ℕ, ◌<◌, true, false, get_or, refl, sym, ◌∙◌, subst, arith, below_more}
 use Rattle.reo_net_base.specs.Net.{Net, net_of}
 use Rattle.reo_net_base.specs.Sides.{side_count}
-use Rattle.reo_support.specs.Values.{giver_side}
-use Rattle.reo_support.proofs.Rows.{at_inside}
-use Rattle.reo_boards.specs.declared.board.Board.{Board}
-use Rattle.reo_boards.specs.Listing.{Lists}
-use Rattle.reo_boards.specs.Marks.{IsJointOf}
+use Rattle.reo_joint_values.specs.Values.{giver_side}
+use Rattle.reo_joint_values.proofs.Inside.{at_inside}
+use Rattle.reo_side_tables.specs.declared.board.Board.{Board}
+use Rattle.reo_side_tables.specs.Listing.{Lists}
+use Rattle.reo_side_tables.specs.Marks.{IsJointOf}
 use Rattle.reo_propagate.specs.Queues.{among}
 use Rattle.reo_propagate.proofs.Among.{among_at, among_stands}
 use Rattle.reo_reach.specs.Supplied.{is_wide}

@@ -1,6 +1,6 @@
 use Rattle.std.proofs.Common.{◌≡◌, ◌<◌, ℕ, true, get_or}
 use Rattle.reo_net_base.specs.Net.{net_of}
-use Rattle.reo_boards.specs.Marks.{IsJointOf}
+use Rattle.reo_side_tables.specs.Marks.{IsJointOf}
 use Rattle.reo_reach.specs.Supplied.{is_wide}
 use Rattle.reo_search.proofs.widths.has_wide.Given as goal
 

@@ -1,7 +1,7 @@
 use Rattle.std.proofs.Common.{rules, ◌<◌}
 use Rattle.reo_net_base.specs.Net.{net_of}
 use Rattle.reo_knots.specs.Knots.{knot_count}
-use Rattle.reo_search.proofs.Listing.{knot_among, among_real}
+use Rattle.reo_walk.proofs.Listing.{knot_among, among_real}
 use Rattle.reo_search_tests.proofs.beginnings.are_right.Goals as goal
 
 pub begins-requires-clause-closed : goal.begins-requires-clause-closed

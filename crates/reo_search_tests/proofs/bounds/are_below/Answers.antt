@@ -1,8 +1,8 @@
 use Rattle.std.proofs.Common.{◌≡◌, ℕ, List, get_or, take, sym, subst, arith}
 use Rattle.std.proofs.lemmas.List.{take_more}
-use Rattle.reo_support.specs.declared.value.JointValue.{JointValue}
-use Rattle.reo_support.specs.declared.value.JointValue.TheVariants.{Flow}
-use Rattle.reo_propagate_rows.specs.Sets.{code_of}
+use Rattle.reo_joint_values.specs.declared.value.JointValue.{JointValue}
+use Rattle.reo_joint_values.specs.declared.value.JointValue.TheVariants.{Flow}
+use Rattle.reo_rows.specs.Sets.{code_of}
 use Rattle.reo_search_tests.specs.Bounds.{AreBelow}
 use Rattle.reo_search_tests.proofs.Bounded.{below_more}
 use Rattle.reo_search_tests.proofs.bounds.are_below.Goals as goal

@@ -1,7 +1,7 @@
 use Rattle.std.proofs.Common.{rules, ◌<◌}
 use Rattle.reo_net_base.specs.Net.{net_of}
 use Rattle.reo_knots.specs.Knots.{knot_count}
-use Rattle.reo_search.proofs.Listing.{knot_among, among_real}
+use Rattle.reo_walk.proofs.Listing.{knot_among, among_real}
 use Rattle.reo_search_tests.proofs.tests.narrowed.Goals as goal
 
 pub narrow-requires-clause-closed : goal.narrow-requires-clause-closed

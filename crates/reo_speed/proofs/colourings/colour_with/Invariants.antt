@@ -1,7 +1,7 @@
 use Rattle.std.proofs.Common.{◌≡◌, length}
 use Rattle.reo_net_base.specs.Net.{net_of, all_sides}
-use Rattle.reo_propagate_rows.specs.Rows.{AreTables}
-use Rattle.reo_propagate_rows.specs.Sets.{IsReady}
+use Rattle.reo_rows.specs.Rows.{AreTables}
+use Rattle.reo_rows.specs.Sets.{IsReady}
 use Rattle.reo_speed.proofs.colourings.colour_with.Given as goal
 
 -- The tables stay what a search begins over.

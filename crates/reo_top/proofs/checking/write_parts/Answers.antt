@@ -1,5 +1,5 @@
 use Rattle.reo_top.specs.Owed.{ListsParts}
-use Rattle.reo_top_inputs.specs.ReadSteps.{circuit_in}
+use Rattle.reo_command.specs.ReadSteps.{circuit_in}
 use Rattle.reo_top.proofs.CaseLemmas.{no_memory_cases}
 use Rattle.reo_top.proofs.checking.write_parts.Goals as goal
 

@@ -1,5 +1,5 @@
-use Rattle.reo_top_inputs.specs.ReadSteps.{runnable_in}
-use Rattle.reo_top_inputs.specs.States.{sink_change}
+use Rattle.reo_command.specs.ReadSteps.{runnable_in}
+use Rattle.reo_command.specs.States.{sink_change}
 use Rattle.reo_top.specs.Measures.{MeasuresMade}
 use Rattle.reo_top.proofs.CaseLemmas.{no_memory_cases}
 use Rattle.reo_top.proofs.MeasureLemmas.{made_cases, made_exact, made_status}

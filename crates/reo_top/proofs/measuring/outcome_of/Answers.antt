@@ -1,5 +1,5 @@
 use Rattle.std.specs.Prelude.{None}
-use Rattle.reo_top_inputs.specs.ReadSteps.{runnable_in}
+use Rattle.reo_command.specs.ReadSteps.{runnable_in}
 use Rattle.reo_top.proofs.MeasureLemmas.{rounds_within}
 use Rattle.reo_top.proofs.measuring.outcome_of.Goals as goal
 

@@ -1,10 +1,10 @@
 use Rattle.std.proofs.Common.{ap, sym, subst, length}
 use Rattle.std.specs.Prelude.{None}
 use Rattle.reo_runner.specs.declared.outcome.Limits.{Limits}
-use Rattle.reo_top_inputs.specs.Limits.{usual_limits}
-use Rattle.reo_top_inputs.specs.Readings.{Runnable}
-use Rattle.reo_top_inputs.specs.ReadSteps.{runnable_in}
-use Rattle.reo_top_inputs.specs.States.{sink_change}
+use Rattle.reo_command.specs.Limits.{usual_limits}
+use Rattle.reo_command.specs.Readings.{Runnable}
+use Rattle.reo_command.specs.ReadSteps.{runnable_in}
+use Rattle.reo_command.specs.States.{sink_change}
 use Rattle.reo_top.specs.Cases.{Cases, IsExact}
 use Rattle.reo_top.specs.Measures.{MeasuresRun}
 use Rattle.reo_top.proofs.CaseLemmas.{no_memory_cases}

@@ -1,14 +1,14 @@
 use Rattle.std.proofs.Common.{[], ◌∷◌, refl}
-use Rattle.reo_top_inputs.specs.declared.command.Command.TheVariants.{Print}
-use Rattle.reo_top_inputs.specs.declared.role.Role.TheVariants.{Circuit}
+use Rattle.reo_command.specs.declared.command.Command.TheVariants.{Print}
+use Rattle.reo_command.specs.declared.role.Role.TheVariants.{Circuit}
 use Rattle.reo_top.specs.Owed.{PrintsProgram}
-use Rattle.reo_top_inputs.specs.Readings.{ReadsProgram, StopsPrint}
-use Rattle.reo_top_inputs.specs.Statuses.{statuses_of}
+use Rattle.reo_command.specs.Readings.{ReadsProgram, StopsPrint}
+use Rattle.reo_command.specs.Statuses.{statuses_of}
 use Rattle.reo_syntax.specs.Canonical.{canonical_text}
 use Rattle.reo_top.proofs.AnswerLemmas.{refused_answered, refused_status_in, made_answered, made_status_in}
 use Rattle.reo_top.proofs.DoneLemmas.{done_status, done_not_three}
-use Rattle.reo_top_inputs.proofs.CircuitLemmas.{print_reading}
-use Rattle.reo_top_inputs.proofs.ReadLemmas.{reading_at}
+use Rattle.reo_command.proofs.CircuitLemmas.{print_reading}
+use Rattle.reo_command.proofs.ReadLemmas.{reading_at}
 use Rattle.reo_top.proofs.printing.print_circuit.Goals as goal
 
 pub returns-in-Ok-clause-answered : goal.returns-in-Ok-clause-answered

@@ -1,16 +1,16 @@
 use Rattle.std.proofs.Common.{List, [], ◌∷◌, refl}
-use Rattle.reo_top_inputs.specs.declared.command.Command.TheVariants.{Run}
-use Rattle.reo_top_inputs.specs.declared.role.Role.TheVariants.{Circuit, Script}
+use Rattle.reo_command.specs.declared.command.Command.TheVariants.{Run}
+use Rattle.reo_command.specs.declared.role.Role.TheVariants.{Circuit, Script}
 use Rattle.reo_top.specs.Owed.{TracesRun}
-use Rattle.reo_top_inputs.specs.declared.reading.Work.{Work}
-use Rattle.reo_top_inputs.specs.Fetched.{Content}
-use Rattle.reo_top_inputs.specs.Readings.{ReadsRun, StopsRun}
-use Rattle.reo_top_inputs.specs.ReadSteps.{runnable_in}
-use Rattle.reo_top_inputs.specs.Statuses.{statuses_of}
+use Rattle.reo_command.specs.declared.reading.Work.{Work}
+use Rattle.reo_command.specs.Fetched.{Content}
+use Rattle.reo_command.specs.Readings.{ReadsRun, StopsRun}
+use Rattle.reo_command.specs.ReadSteps.{runnable_in}
+use Rattle.reo_command.specs.Statuses.{statuses_of}
 use Rattle.reo_top.proofs.AnswerLemmas.{refused_answered, refused_status_in, made_answered, made_status_in}
-use Rattle.reo_top_inputs.proofs.ReadLemmas.{reading_at, same_stops}
+use Rattle.reo_command.proofs.ReadLemmas.{reading_at, same_stops}
 use Rattle.reo_top.proofs.RunLemmas.{trace_status, trace_not_three}
-use Rattle.reo_top_inputs.proofs.WorkLemmas.{run_reading}
+use Rattle.reo_command.proofs.WorkLemmas.{run_reading}
 use Rattle.reo_top.proofs.running.run_circuit.Goals as goal
 
 -- What is read, as the code has it.

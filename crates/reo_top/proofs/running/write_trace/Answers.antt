@@ -1,9 +1,9 @@
 use Rattle.std.proofs.Common.{◌+◌, length}
 use Rattle.reo_runner.specs.declared.outcome.End2.TheVariants as ends
 use Rattle.reo_trace.specs.declared.line.Ending.TheVariants.{Done, Stuck, Limit, Spent, Wide}
-use Rattle.reo_top_inputs.specs.Readings.{Runnable}
-use Rattle.reo_top_inputs.specs.ReadSteps.{runnable_in}
-use Rattle.reo_top_inputs.specs.States.{SinkState, sink_change}
+use Rattle.reo_command.specs.Readings.{Runnable}
+use Rattle.reo_command.specs.ReadSteps.{runnable_in}
+use Rattle.reo_command.specs.States.{SinkState, sink_change}
 use Rattle.reo_top.proofs.RunLemmas.{start_for, came_as, ran_exact, cut_cases, kept_cases, kept_fair}
 use Rattle.reo_top.proofs.running.write_trace.Goals as goal
 

@@ -1,14 +1,14 @@
 use Rattle.std.proofs.Common.{◌≡◌, ◌∙◌, ℕ, List, [], ◌∷◌, get_or, refl, ap}
 use Rattle.std.specs.Prelude.{Some}
-use Rattle.reo_top_inputs.specs.declared.command.Command.TheVariants.{Run, Check, Print, Verify, Bench}
-use Rattle.reo_top_inputs.specs.Commands.{command_of, names_of}
-use Rattle.reo_top_inputs.specs.Amounts.{size_of}
-use Rattle.reo_top_inputs.specs.Limits.{limits_of}
-use Rattle.reo_top_inputs.specs.States.{files_change}
+use Rattle.reo_command.specs.declared.command.Command.TheVariants.{Run, Check, Print, Verify, Bench}
+use Rattle.reo_command.specs.Commands.{command_of, names_of}
+use Rattle.reo_command.specs.Amounts.{size_of}
+use Rattle.reo_command.specs.Limits.{limits_of}
+use Rattle.reo_command.specs.States.{files_change}
 use Rattle.reo_top.proofs.CompleteLemmas.{complete, complete_else}
 use Rattle.reo_top.proofs.HeadlineLemmas.{headline, headline_else}
 use Rattle.reo_top.proofs.TopLemmas.{answered_as, answered_none, bench_answered, run_answered}
-use Rattle.reo_top_inputs.proofs.WordLemmas.{names_fit, check_name, print_name, two_names, three_names, command_seen, none_seen, no_run, is_no_run, word_seen}
+use Rattle.reo_command.proofs.WordLemmas.{names_fit, check_name, print_name, two_names, three_names, command_seen, none_seen, no_run, is_no_run, word_seen}
 use Rattle.reo_top.proofs.top.reo.Goals as goal
 
 pub returns-in-Some-Run-clause-answer : goal.returns-in-Some-Run-clause-answer

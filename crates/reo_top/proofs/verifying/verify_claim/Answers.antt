@@ -1,15 +1,15 @@
 use Rattle.std.proofs.Common.{List, [], ◌∷◌, refl}
-use Rattle.reo_top_inputs.specs.declared.command.Command.TheVariants.{Verify}
-use Rattle.reo_top_inputs.specs.declared.role.Role.TheVariants.{Circuit, Script, Trace}
-use Rattle.reo_top_inputs.specs.Claims.{ReadsClaim, StopsVerify}
+use Rattle.reo_command.specs.declared.command.Command.TheVariants.{Verify}
+use Rattle.reo_command.specs.declared.role.Role.TheVariants.{Circuit, Script, Trace}
+use Rattle.reo_command.specs.Claims.{ReadsClaim, StopsVerify}
 use Rattle.reo_top.specs.Owed.{JudgesTrace}
-use Rattle.reo_top_inputs.specs.ReadSteps.{claimed_in}
-use Rattle.reo_top_inputs.specs.Statuses.{statuses_of}
+use Rattle.reo_command.specs.ReadSteps.{claimed_in}
+use Rattle.reo_command.specs.Statuses.{statuses_of}
 use Rattle.reo_top.proofs.AnswerLemmas.{refused_answered, refused_status_in, made_answered, made_status_in}
-use Rattle.reo_top_inputs.specs.declared.claim.Claim.{Claim}
-use Rattle.reo_top_inputs.specs.Fetched.{Content}
-use Rattle.reo_top_inputs.proofs.ClaimLemmas.{claim_reading}
-use Rattle.reo_top_inputs.proofs.ReadLemmas.{same_stops}
+use Rattle.reo_command.specs.declared.claim.Claim.{Claim}
+use Rattle.reo_command.specs.Fetched.{Content}
+use Rattle.reo_command.proofs.ClaimLemmas.{claim_reading}
+use Rattle.reo_command.proofs.ReadLemmas.{same_stops}
 use Rattle.reo_top.proofs.VerdictLemmas.{judged_status, judged_not_three}
 use Rattle.reo_top.proofs.verifying.verify_claim.Goals as goal
 

@@ -1,6 +1,6 @@
 use Rattle.std.proofs.Common.{◌∙◌}
 use Rattle.reo_top.specs.Owed.{JudgesTrace}
-use Rattle.reo_top_inputs.specs.ReadSteps.{claimed_in}
+use Rattle.reo_command.specs.ReadSteps.{claimed_in}
 use Rattle.reo_top.proofs.CaseLemmas.{no_memory_cases}
 use Rattle.reo_top.proofs.VerdictLemmas.{verdict_cases, verdict_exact, verdict_refuses, verdict_fair}
 use Rattle.reo_top.proofs.verifying.write_verdict.Goals as goal

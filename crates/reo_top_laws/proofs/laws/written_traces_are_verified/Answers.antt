@@ -2,7 +2,7 @@ use Rattle.std.proofs.Common.{refl, arith, length}
 use Rattle.reo_verdicts.specs.declared.verdict.Verdict.TheVariants.{Verified}
 use Rattle.reo_verdicts.specs.Said.{jammed}
 use Rattle.reo_runs.specs.Run.{start_of}
-use Rattle.reo_top_inputs.specs.Limits.{limits_of}
+use Rattle.reo_command.specs.Limits.{limits_of}
 use Rattle.reo_top_laws.proofs.CertificateLemmas.{trace_with, program_told, is_trace}
 use Rattle.reo_top_laws.proofs.LimitLemmas.{few_budget, few_rounds}
 use Rattle.reo_top_laws.proofs.laws.written_traces_are_verified.Goals as goal

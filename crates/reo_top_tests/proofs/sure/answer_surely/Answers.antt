@@ -1,5 +1,5 @@
 use Rattle.std.proofs.Common.{sym}
-use Rattle.reo_top_inputs.proofs.FetchLemmas.{is_noted}
+use Rattle.reo_command.proofs.FetchLemmas.{is_noted}
 use Rattle.reo_top_tests.proofs.sure.answer_surely.Goals as goal
 
 pub returns-clause-fetched : goal.returns-clause-fetched

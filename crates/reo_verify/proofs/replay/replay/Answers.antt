@@ -4,10 +4,10 @@ use Rattle.reo_net_base.specs.Net.{Wiring}
 use Rattle.reo_players.specs.Players.{Player, all_done}
 use Rattle.reo_trace.specs.declared.line.Ending.{Ending}
 use Rattle.reo_trace.specs.declared.line.Ending.TheVariants.{Done}
-use Rattle.reo_engine_base.specs.Rules.{rules_of}
+use Rattle.reo_rounds.specs.Rules.{rules_of}
 use Rattle.reo_runs.specs.Run.{Place, start_of}
-use Rattle.reo_runner_ports.specs.Between.{AreBetween}
-use Rattle.reo_runner_ports.proofs.Begun.{just_ports, between_first}
+use Rattle.reo_at_ports.specs.Between.{AreBetween}
+use Rattle.reo_at_ports.proofs.Begun.{just_ports, between_first}
 use Rattle.reo_verify.specs.Replayed.{AreReplayed, IsHalted}
 use Rattle.reo_verify.proofs.replay.replay.Goals as goal
 

@@ -1,7 +1,7 @@
 use Rattle.std.proofs.Common.{◌+◌, ℕ}
 use Rattle.reo_net_base.specs.Net.{Wiring}
-use Rattle.reo_engine_base.specs.Rules.{rules_of}
-use Rattle.reo_engine_base.specs.declared.plan.Plan.{Plan}
+use Rattle.reo_rounds.specs.Rules.{rules_of}
+use Rattle.reo_rounds.specs.declared.plan.Plan.{Plan}
 use Rattle.reo_runs.specs.Round.{State}
 use Rattle.reo_verify.proofs.ReplayLemmas.{round_replayed}
 use Rattle.reo_verify.proofs.replay.replay_round.Goals as goal

@@ -1,7 +1,7 @@
 use Rattle.std.proofs.Common.{◌≡◌, ◌∙◌, ◌+◌, ℕ, suc, take, ap, sym, subst, arith}
-use Rattle.reo_engine_base.specs.Rules.{rules_of}
+use Rattle.reo_rounds.specs.Rules.{rules_of}
 use Rattle.reo_runs.specs.Run.{Place}
-use Rattle.reo_runner_ports.proofs.Kept.{self_but}
+use Rattle.reo_at_ports.proofs.Kept.{self_but}
 use Rattle.reo_verify.proofs.Cuts.{got_by}
 use Rattle.reo_verify.proofs.SoFar.{SoFar}
 use Rattle.reo_verify.proofs.ReplayLemmas.{line_at, so_far_none, so_far_more, ended_before, stopped_at, all_replayed, ended_by, on_by}
@@ -11,7 +11,7 @@ pub loop-line-init : goal.loop-line-init
 loop-line-init g c =
     let r = rules_of g.P.Primitive.behaviour g.P.Primitive.settled g.P.Ported.port_state g.P.Ported.placed g.P.Ported.withdrawn in
     record {
-      so_far = so_far_none r c.args.engine.now.circuit c.args.players.now c.args.begins (self_but r g.met.P.Ported.placed_again c.args.engine.now.circuit);
+      so_far = so_far_none r c.args.engine.now.circuit c.args.players.now c.args.begins (self_but r g.met.P.Restoring.placed_again c.args.engine.now.circuit);
       between = c.requires.between;
       count = c.requires.none_made;
     }
@@ -65,7 +65,7 @@ returns-in-Err g c =
     let turn_is : c.rounds-turn.result ≡ i = c.rounds-turn.ensures ∙ count in
     stopped_at r c.args.nodes.now c.args.homes.now start c.args.rounds.now i c.line-item.result got c.loop-line.engine.circuit c.loop-line.players c.loop-line.over so_far
     (c.rounds-turn.result + 1) c.in-Err.stop _ (ap (λ (n : ℕ). n + 1) turn_is) (on_by c.loop-line.over (sym c.is_some.ensures ∙ c.if-is_some.false)) (omega (arith, line.number_is, turn_is))
-    (c.in-Err.ensures.wrong so_far.circuit so_far.left) c.in_ok-refusal-in-Err.ensures
+    (c.in-Err.ensures.wrong so_far.circuit so_far.left) c.in_ok-refusal-in-Err.ensures.refusal
 
 pub loop-line-preserved : goal.loop-line-preserved
 loop-line-preserved g c =

@@ -1,5 +1,5 @@
 use Rattle.std.proofs.Common.{subst}
-use Rattle.reo_engine_base.specs.Rules.{rules_of}
+use Rattle.reo_rounds.specs.Rules.{rules_of}
 use Rattle.reo_runs.specs.Run.{start_of}
 use Rattle.reo_verify.specs.declared.replay.Halt.{Halt}
 use Rattle.reo_verify.specs.Replayed.{AreReplayed, IsHalted}

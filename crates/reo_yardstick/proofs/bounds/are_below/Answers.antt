@@ -1,7 +1,7 @@
 use Rattle.std.proofs.Common.{ℕ, List, ◌+◌, get_or, take, sym, subst}
 use Rattle.std.proofs.lemmas.List.{take_more}
-use Rattle.reo_support.specs.declared.value.JointValue.{JointValue}
-use Rattle.reo_support.specs.declared.value.JointValue.TheVariants.{Flow}
+use Rattle.reo_joint_values.specs.declared.value.JointValue.{JointValue}
+use Rattle.reo_joint_values.specs.declared.value.JointValue.TheVariants.{Flow}
 use Rattle.reo_yardstick.specs.Bounds.{AreBelow}
 use Rattle.reo_yardstick.proofs.Bounded.{below_more}
 use Rattle.reo_yardstick.proofs.bounds.are_below.Goals as goal

@@ -1,5 +1,5 @@
 use Rattle.std.proofs.Common.{refl}
-use Rattle.reo_flatten_base.specs.Flat.{ports_of}
+use Rattle.reo_flat.specs.Flat.{ports_of}
 use Rattle.reo_yardstick.proofs.Ports.{just_ports}
 use Rattle.reo_yardstick.proofs.engines.circuit_of.Goals as goal
 

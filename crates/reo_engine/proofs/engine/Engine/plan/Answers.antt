@@ -3,7 +3,6 @@ use Rattle.reo_net_base.specs.declared.colouring.Colouring.{Colouring}
 use Rattle.reo_net_base.specs.First.{IsFirst}
 use Rattle.reo_net_base.specs.Net.{Net, net_of}
 use Rattle.reo_net_laws.proofs.FirstInside.{first_inside}
-use Rattle.reo_knots.specs.Knots.{in_knot}
 use Rattle.reo_engine.proofs.engine.Engine.plan.Goals as goal
 
 pub returns-in_err-colouring-clause-none : goal.returns-in_err-colouring-clause-none
@@ -29,5 +28,5 @@ returns-clause-parts g c =
     let turn : ℕ = c.self.inside.rounds + 1 in
     let first : IsFirst net turn c.in_ok-plan_with.field-0.colouring.rows c.in_ok-plan_with.field-0.colouring.items =
     subst (λ (x : Colouring). IsFirst net turn x.rows x.items) (sym c.in_ok-plan_with.ensures.same) c.in_ok-colouring.ensures.exact.first in
-    rw (← c.self.view_is) (λ k lt. first_inside net c.known.ensures.wired turn c.in_ok-plan_with.field-0.colouring.rows c.in_ok-plan_with.field-0.colouring.items first
-    (in_knot c.self.inside.knots.numbers k) (c.self.invariant.3.are_knots.are_knots k lt).closed)
+    rw (← c.self.view_is) (λ inside closed.
+    first_inside net c.known.ensures.wired turn c.in_ok-plan_with.field-0.colouring.rows c.in_ok-plan_with.field-0.colouring.items first inside closed)

@@ -1,7 +1,7 @@
 -- By the number of the name.
 use Rattle.std.proofs.Common.{arith, ◌∙◌, ◌<◌, ◌++◌, ◌∷◌, [], sym, ap, position, bytes_eq, length, true, false}
 use Rattle.std.proofs.lemmas.List.{get_or_default}
-use Rattle.reo_rules_base.specs.Touches.{bool_eq}
+use Rattle.reo_rules.specs.Touches.{bool_eq}
 use Rattle.reo_flatten.proofs.EndLemmas.{is_named, grows_at, grows_other, grows_nowhere}
 use Rattle.reo_flatten.proofs.ends.NodeEnds.add.Goals as goal
 

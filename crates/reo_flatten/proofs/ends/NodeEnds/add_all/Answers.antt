@@ -3,7 +3,7 @@ use Rattle.std.proofs.Common.{◌≡◌, ◌∙◌, ◌++◌, ◌+◌, Bool, tru
 use Rattle.reo_net_base.specs.Net.{end_of}
 use Rattle.reo_net_base.specs.declared.joint.End.{End}
 use Rattle.reo_kinds.specs.Kinds.{behaviour_of}
-use Rattle.reo_flatten_base.specs.Ends.{ends_in}
+use Rattle.reo_flat.specs.Ends.{ends_in}
 use Rattle.reo_flatten.specs.NodeEnds.{one_at}
 use Rattle.reo_flatten.proofs.EndLemmas.{ends_in-more, grows_on}
 use Rattle.reo_flatten.proofs.ends.NodeEnds.add_all.Goals as goal

@@ -1,10 +1,10 @@
 -- By the declaration.
 use Rattle.std.proofs.Common.{arith, ◌≡◌, ◌∙◌, ◌++◌, ◌∷◌, [], length, take, refl, sym, ap, subst}
 use Rattle.std.proofs.lemmas.List.{length-take-le, length-map}
-use Rattle.reo_rules_base.specs.Lists.{has_name}
-use Rattle.reo_rules_base.specs.Types.{types_of}
-use Rattle.reo_rules_base.specs.Twice.{twice_in}
-use Rattle.reo_flatten_base.specs.Unfolding.{Meaning, meanings_of}
+use Rattle.reo_rules.specs.Lists.{has_name}
+use Rattle.reo_rules.specs.Types.{types_of}
+use Rattle.reo_rules.specs.Twice.{twice_in}
+use Rattle.reo_flat.specs.Unfolding.{Meaning, meanings_of}
 use Rattle.reo_flatten_unfold.specs.declared.ground.Ground.{Ground}
 use Rattle.reo_flatten_unfold.specs.Ground.{IsGround}
 use Rattle.reo_flatten_unfold.proofs.ListLemmas.{each_none, take_next}

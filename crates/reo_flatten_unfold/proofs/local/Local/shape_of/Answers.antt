@@ -4,7 +4,7 @@ use Rattle.std.specs.Prelude.{slice_get}
 use Rattle.std.proofs.lemmas.Option.{slice_get_within, get_or_from_slice_get}
 use Rattle.reo_trees.specs.declared.items.Item.{Item}
 use Rattle.reo_trees.specs.declared.programs.Parameter.{Parameter}
-use Rattle.reo_rules_base.specs.Types.{resolved}
+use Rattle.reo_rules.specs.Types.{resolved}
 use Rattle.reo_flatten_unfold.specs.Known.{shape_type}
 use Rattle.reo_flatten_unfold.specs.Fits.{FormFits}
 use Rattle.reo_flatten_unfold.specs.Local.{shape_in}

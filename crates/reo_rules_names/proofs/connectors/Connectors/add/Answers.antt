@@ -1,8 +1,8 @@
 -- A name that is there already, or one more.
 use Rattle.std.proofs.Common.{◌≡◌, ◌∙◌, sym, ap, [], ◌∷◌, ◌++◌}
 use Rattle.std.proofs.lemmas.Result.{on_ok_weaker}
-use Rattle.reo_rules_base.specs.Lists.{has_name}
-use Rattle.reo_rules_base.specs.Names.{with_name}
+use Rattle.reo_rules.specs.Lists.{has_name}
+use Rattle.reo_rules.specs.Names.{with_name}
 use Rattle.reo_rules_names.proofs.TableLemmas.{ways, connector_there, connector_pushed}
 use Rattle.reo_rules_names.proofs.connectors.Connectors.add.Goals as goal
 

@@ -1,6 +1,6 @@
 -- The names of the end's way have one more, and the others stay.
 use Rattle.std.proofs.Common.{[], ◌∷◌, ◌++◌, sym, subst}
-use Rattle.reo_rules_base.specs.Touches.{touch}
+use Rattle.reo_rules.specs.Touches.{touch}
 use Rattle.reo_rules_names.specs.Ends.{AreEnds}
 use Rattle.reo_rules_names.proofs.EndLemmas.{source_noted, sink_noted}
 use Rattle.reo_rules_names.proofs.ends.Ends.note.Goals as goal

@@ -1,9 +1,9 @@
 -- A name that is there already, or one more.
 use Rattle.std.proofs.Common.{◌≡◌, ◌∙◌, [], ◌∷◌, ◌++◌, sym, ap}
 use Rattle.std.proofs.lemmas.Result.{on_ok_weaker}
-use Rattle.reo_rules_base.specs.Lists.{has_name}
-use Rattle.reo_rules_base.specs.Names.{with_name}
-use Rattle.reo_rules_base.specs.Types.{Typed, resolved}
+use Rattle.reo_rules.specs.Lists.{has_name}
+use Rattle.reo_rules.specs.Names.{with_name}
+use Rattle.reo_rules.specs.Types.{Typed, resolved}
 use Rattle.reo_rules_names.proofs.SymbolLemmas.{type_there, type_pushed}
 use Rattle.reo_rules_names.proofs.types.Types.add.Goals as goal
 

@@ -1,7 +1,7 @@
 -- A sym type has a new set; a pair has none.
 use Rattle.std.proofs.Common.{◌∙◌, Some, sym, ap, subst}
-use Rattle.reo_rules_base.specs.Types.{resolved}
-use Rattle.reo_rules_base.specs.Unknown.{lacking}
+use Rattle.reo_rules.specs.Types.{resolved}
+use Rattle.reo_rules.specs.Unknown.{lacking}
 use Rattle.reo_rules_names.specs.SameNames.{SameNames}
 use Rattle.reo_rules_names.specs.Symbols.{IsSetOf}
 use Rattle.reo_rules_names.proofs.SymbolLemmas.{types_kept, new_set, pair_lacks}

@@ -1,7 +1,7 @@
 -- The set of the number that stands beside the name.
 use Rattle.std.proofs.Common.{◌∙◌, [], get_or, sym, subst}
 use Rattle.std.proofs.lemmas.Option.{slice_get-get_or}
-use Rattle.reo_rules_base.specs.Types.{type_named}
+use Rattle.reo_rules.specs.Types.{type_named}
 use Rattle.reo_rules_names.specs.Symbols.{IsSetOf, LacksNone, LacksOthers}
 use Rattle.reo_rules_names.proofs.SymbolLemmas.{set_found}
 use Rattle.reo_rules_names.proofs.types.Types.symbols.Goals as goal

@@ -5,7 +5,7 @@ use Rattle.std.specs.Map.{lookup, keys_of}
 use Rattle.std.proofs.lemmas.List.{map-append}
 use Rattle.std.proofs.lemmas.Map.Made.{is_some-lookup}
 use Rattle.indexmap.proofs.CallerLemmas.{insert_entry-new}
-use Rattle.reo_rules_base.specs.Lists.{has_name}
+use Rattle.reo_rules.specs.Lists.{has_name}
 use Rattle.reo_rules_types.proofs.Scoped.{lookup-map}
 use Rattle.reo_rules_types.proofs.scope.Scope.add.Goals as goal
 use Rattle.reo_rules_types.proofs.scope.Scope.add.Goals.{in-Ok-insert, in-Err}

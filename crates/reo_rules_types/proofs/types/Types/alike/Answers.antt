@@ -1,7 +1,7 @@
 -- No type has two numbers.
 use Rattle.std.proofs.Common.{arith, ◌≡◌, ◌∙◌, ℕ, List, true, ◌==◌, sym, ap, subst, slice_get, Some}
 use Rattle.reo_values.specs.declared.kindred.Kindred.{Kindred}
-use Rattle.reo_rules_base.specs.Types.{is_same}
+use Rattle.reo_rules.specs.Types.{is_same}
 use Rattle.std.proofs.lemmas.Option.{same_Some}
 use Rattle.reo_rules_types.proofs.Same.{same_told, same_self, same_tests}
 use Rattle.reo_rules_types.proofs.types.Types.alike.Goals as goal

@@ -1,0 +1,24 @@
+-- All components have made their offers.
+use Rattle.std.proofs.Common.{◌≡◌, ◌∙◌, List, map, ap, arith}
+use Rattle.reo_net_base.specs.Net.{Wiring}
+use Rattle.reo_net_base.specs.PortState.{PortState}
+use Rattle.reo_rounds.specs.Rules.{Rules, rules_of}
+use Rattle.reo_players.specs.Offers.{offer_for}
+use Rattle.reo_at_ports.specs.Pending.{pending_in}
+use Rattle.reo_at_ports.proofs.Ready.{ready_same}
+use Rattle.reo_at_ports.proofs.OffersMade.{started, pending_is}
+use Rattle.reo_at_ports.proofs.offering.offer_all.Goals as goal
+
+pub returns-clause-started : goal.returns-clause-started
+returns-clause-started g c =
+    let states : List PortState = map g.P.Ported.port_state c.loop-component.engine.circuit.primitives in
+    started c.args.ports.now.list c.loop-component.engine.circuit.ports c.loop-component.component c.args.players.now states (omega (arith, c.count-component-end.ensures, c.loop-component-test.false)) c.loop-component.invariant.offers
+
+pub returns-clause-ready : goal.returns-clause-ready
+returns-clause-ready g c = λ w but.
+    let states : List PortState = map g.P.Ported.port_state c.loop-component.engine.circuit.primitives in
+    let r : Rules g.row.P.Denot = rules_of g.P.Primitive.behaviour g.P.Primitive.settled g.P.Ported.port_state g.P.Ported.placed g.P.Ported.withdrawn in
+    let is = c.loop-component.invariant.circuit w but in
+    let count : c.loop-component.engine.circuit.ports ≡ w.ports = ap (λ (v : Wiring g.row.P.Denot). v.ports) is in
+    is ∙ ready_same r (pending_in r c.loop-component.engine.circuit.primitives) (offer_for c.args.players.now) w
+    (λ i lt. pending_is c.offers_agree.ensures c.args.ports.now.list c.loop-component.engine.circuit.ports c.args.players.now states (returns-clause-started g c) i (omega arith))

@@ -1,0 +1,39 @@
+-- Components and the ports of a circuit.
+use Rattle.std.specs.Prelude.{ℕ, ◌≡◌, Bool, false, is_none, List, length, map, option_and_then}
+use Rattle.std.specs.Option.{option_map_or}
+use Rattle.reo_net_base.specs.declared.port.Port.{Port}
+use Rattle.reo_net_base.specs.PortState.{PortState}
+use Rattle.reo_players.specs.Players.{Player, player_of, present, port_of, after}
+use Rattle.reo_players.specs.Offers.{offer_at}
+use Rattle.reo_run_premises.specs.Fitting.{FitPorts}
+use Rattle.reo_run_premises.specs.PortsOf.{HasPorts}
+use Rattle.reo_at_ports.specs.Pending.{pending_at, held_at, ArePending, ArePendingOrGone}
+
+-- The ports are these, and what the components have left to do fits them.
+pub record AreAtPorts (ports : List Port) (count : ℕ) (players : List Player) (states : List PortState) : Type 0 where
+  pub count_is : count ≡ length ports
+  pub ports_are : HasPorts states ports
+  pub fit : FitPorts ports (map (λ (p : Player). p.rest) players)
+
+-- Between two rounds: pending are the offers that a round has seen.
+pub record AreBetween (ports : List Port) (count : ℕ) (players : List Player) (states : List PortState) : Type 0 where
+  pub at_ports : AreAtPorts ports count players states
+  pub pending : ArePending (λ i port. held_at port (player_of players i)) (length players) (length ports) states
+
+-- At the start of a round: pending are the offers of all components.
+pub record AreStarted (ports : List Port) (count : ℕ) (players : List Player) (states : List PortState) : Type 0 where
+  pub at_ports : AreAtPorts ports count players states
+  pub pending : ArePending (λ i port. offer_at port (player_of players i)) (length players) (length ports) states
+
+-- After a round, before the components go on: of the offers of all components some are gone.
+pub record AreStepped (ports : List Port) (count : ℕ) (players : List Player) (states : List PortState) : Type 0 where
+  pub at_ports : AreAtPorts ports count players states
+  pub pending : ArePendingOrGone (λ i port. offer_at port (player_of players i)) (length players) (length ports) states
+
+-- Whether a component's offer is gone.
+abbrev pub is_gone : List PortState → Player → Bool
+is_gone states p = option_map_or (λ port. is_none (pending_at states port)) (option_and_then port_of (present p)) false
+
+-- The components after the round.
+abbrev pub gone_on : List PortState → List Player → List Player
+gone_on states players = map (λ (p : Player). after (is_gone states p) p) players

@@ -1,0 +1,111 @@
+//! What the components offer at the start of a round.
+ghost use Rattle.std.specs.Prelude.{◌≡◌, ◌<◌, ◌+◌, IfOk, OnOk, MatchOption, Some, length, map};
+ghost use Rattle.reo_net_base.specs.Net.{Wiring};
+ghost use Rattle.reo_net_base.specs.Step.{change_at};
+ghost use Rattle.reo_net_circuit.specs.Offers.{OnlyPort};
+ghost use Rattle.reo_players.specs.Players.{player_of};
+ghost use Rattle.reo_players.specs.Offers.{offer_for};
+ghost use Rattle.reo_rounds.specs.Offering.{IsTakenAt};
+ghost use Rattle.reo_rounds.specs.Ready.{ready};
+ghost use Rattle.reo_rounds.specs.Rules.{rules_of};
+ghost use Rattle.reo_at_ports.specs.Pending.{IsButForOffers};
+ghost use Rattle.reo_at_ports.specs.Between.{AreBetween, AreStarted};
+ghost use Rattle.reo_at_ports.specs.Parts.{AreOffering, HasOffered, IsFresh};
+
+use reo_engine::Engine;
+use reo_net_base::{Offer, Ported, Ports};
+use reo_players::{Players, Want, offers_agree};
+use reo_values::{NoMemory, copy};
+use std::alloc::Global;
+
+/// Makes an offer pending that its port takes.
+fn place<P: Ported>(engine: &mut Engine<P>, port: usize, offer: Offer)
+    requires { let old = engine.old.circuit in
+        IsTakenAt (map P.port_state old.primitives) old.ports port offer }
+    ensures circuit { let old = engine.old.circuit in
+        let primitives = change_at (λ p. P.placed p offer) old.primitives port in
+        engine.new.circuit ≡ record old { primitives = primitives } }
+    ensures offers { let old = engine.old.circuit.primitives in
+        let new = engine.new.circuit.primitives in
+        OnlyPort (map P.port_state old) (map P.port_state new) port (Some offer) }
+    ensures rounds { engine.new.rounds ≡ engine.old.rounds }
+{
+    let Ok(()) = engine.offer(port, offer) else {
+        unreachable!()
+    };
+}
+
+/// What a component offers that no round has seen yet, and at which port. `NoMemory` is out of
+/// memory.
+fn fresh_offer(
+    alloc: Global,
+    players: &Players,
+    component: usize,
+) -> Result<Option<(usize, Offer)>, NoMemory>
+    requires { component < length players.now }
+    ensures { let player = player_of players.now component in
+        IfOk result (λ made. MatchOption made (HasOffered player)
+        (λ m. IsFresh player m.0 m.1)) }
+{
+    if !players.fresh(component) {
+        return Ok(None);
+    }
+    match players.wants(component) {
+        Want::Write { port, item } => Ok(Some((port, Offer::Write(copy(alloc, item)?)))),
+        Want::Take { port } => Ok(Some((port, Offer::Take))),
+        Want::Rest => Ok(None),
+        Want::Done => Ok(None),
+    }
+}
+
+/// Offers what a component wants, where no round has seen it yet. `NoMemory` is out of memory.
+fn offer_fresh<P: Ported>(
+    alloc: Global,
+    engine: &mut Engine<P>,
+    ports: &Ports,
+    players: &Players,
+    component: usize,
+) -> Result<(), NoMemory>
+    requires there { component < length players.now }
+    requires before { let old = engine.old.circuit in
+        let states = map P.port_state old.primitives in
+        AreOffering ports.now.list old.ports component players.now states }
+    ensures offers { let new = engine.new.circuit in
+        let states = map P.port_state new.primitives in
+        OnOk result (AreOffering ports.now.list new.ports (component + 1) players.now states) }
+    ensures circuit { let r = rules_of P.behaviour P.settled P.port_state P.placed P.withdrawn in
+        OnOk result ((w : Wiring _) → IsButForOffers r w engine.old.circuit
+        → IsButForOffers r w engine.new.circuit) }
+    ensures rounds { engine.new.rounds ≡ engine.old.rounds }
+{
+    let _ = ports;
+    if let Some((port, offer)) = fresh_offer(alloc, players, component)? {
+        place(engine, port, offer);
+    }
+    Ok(())
+}
+
+/// Offers at the ports what the components want: those offers that no round has seen yet come to
+/// those that are pending. `NoMemory` is out of memory.
+pub fn offer_all<P: Ported>(
+    alloc: Global,
+    engine: &mut Engine<P>,
+    ports: &Ports,
+    players: &Players,
+) -> Result<(), NoMemory>
+    requires { let old = engine.old.circuit in
+        AreBetween ports.now.list old.ports players.now (map P.port_state old.primitives) }
+    ensures ready { let r = rules_of P.behaviour P.settled P.port_state P.placed P.withdrawn in
+        OnOk result ((w : Wiring _) → IsButForOffers r w engine.old.circuit
+        → engine.new.circuit ≡ ready r (offer_for players.now) w) }
+    ensures started { let new = engine.new.circuit in
+        let states = map P.port_state new.primitives in
+        OnOk result (AreStarted ports.now.list new.ports players.now states) }
+    ensures rounds { engine.new.rounds ≡ engine.old.rounds }
+{
+    offers_agree();
+    for component in 0..players.count() {
+        offer_fresh(alloc, engine, ports, players, component)?;
+    }
+    Ok(())
+}

@@ -1,7 +1,0 @@
-use Rattle.reo_net_base.specs.Net.{net_of}
-use Rattle.reo_boards.specs.Flowing.{AreAdded}
-use Rattle.reo_boards.proofs.Adding.{IsBelow}
-use Rattle.reo_boards.proofs.flows.add_apart.Given as goal
-
-abbrev pub invariant-loop-index : goal.invariant-loop-index
-invariant-loop-index g l = AreAdded (net_of g.P.Primitive.behaviour l.circuit) l.side l.joint (IsBelow l.rows l.index) l.initial.flows l.flows

@@ -1,0 +1,4 @@
+pub mod Taking
+pub mod ClosingLemmas
+pub mod OneClosing
+pub mod TakenLemmas

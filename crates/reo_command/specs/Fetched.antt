@@ -1,0 +1,76 @@
+-- What the fetches of a command answered.
+use Rattle.std.specs.Prelude.{ℕ, ◌≡◌, ◌++◌, ◌≤◌, nat_le, cond, Bool, true, false, List, [], ◌∷◌, Option, Some, None, Result, Ok, Err, IfSome, length}
+use Rattle.reo_io.specs.Fetches.{Folder, file_of, fetches_after}
+use Rattle.reo_command.specs.declared.role.Role.{Role}
+use Rattle.reo_command.specs.declared.stop.Stop.{Stop}
+use Rattle.reo_command.specs.declared.stop.Stop.TheVariants.{Missed, TooLong, Refused, NoMemory}
+use Rattle.reo_command.specs.Roles.{most_bytes}
+use Rattle.reo_command.specs.States.{FilesState, Change}
+
+-- What a fetch answered: that the file cannot be had, that it is too long, its bytes, or that memory ran out.
+pub data Content : Type 0 where
+  gone : Content
+  long : Content
+  text : List ℕ → Content
+  unknown : Content
+
+-- What the file of a role is.
+abbrev pub content_of : Role → Option (List ℕ) → Content
+content_of role None = gone
+content_of role (Some bytes) = cond (nat_le (length bytes) (most_bytes role)) (text bytes) long
+
+-- The answer is the file, where it gives bytes or says that it is too long.
+abbrev pub IsTold : Content → Content → Type 0
+IsTold file gone = Unit {0}
+IsTold file long = file ≡ long
+IsTold file (text bytes) = file ≡ text bytes
+IsTold file unknown = Unit {0}
+
+-- The answers are the first files of these roles and names.
+abbrev pub AreTold : Folder → List Role → List (List ℕ) → List Content → Type 0
+AreTold folder roles names [] = Unit {0}
+AreTold folder [] names (c ∷ cs) = ⊥
+AreTold folder (r ∷ rs) [] (c ∷ cs) = ⊥
+AreTold folder (r ∷ rs) (n ∷ ns) (c ∷ cs) = IsTold (content_of r (file_of folder n)) c × AreTold folder rs ns cs
+
+-- The names of files that cannot be had.
+abbrev pub missed : List (List ℕ) → List Content → List (List ℕ)
+missed [] cs = []
+missed (n ∷ ns) [] = []
+missed (n ∷ ns) (gone ∷ cs) = n ∷ missed ns cs
+missed (n ∷ ns) (long ∷ cs) = missed ns cs
+missed (n ∷ ns) (text bytes ∷ cs) = missed ns cs
+missed (n ∷ ns) (unknown ∷ cs) = missed ns cs
+
+-- Some file cannot be had.
+abbrev pub has_gone : List Content → Bool
+has_gone [] = false
+has_gone (gone ∷ cs) = true
+has_gone (long ∷ cs) = has_gone cs
+has_gone (text bytes ∷ cs) = has_gone cs
+has_gone (unknown ∷ cs) = has_gone cs
+
+-- The first files of these roles and names were fetched, in order, with these answers: as many fetches were made as there
+-- are answers, the names of those that failed were noted, and the files tell what they told.
+pub record AreFetched (roles : List Role) (names : List (List ℕ)) (answers : List Content) (files : Change FilesState) : Type 0 where
+  pub few : length answers ≤ length names
+  pub count : files.new.fetches ≡ fetches_after (length answers) files.old.fetches
+  pub failed : files.new.failed ≡ files.old.failed ++ missed names answers
+  pub same : files.new.told ≡ files.old.told
+  pub told : IfSome files.old.told (λ folder. AreTold folder roles names answers)
+
+-- What the call that fetches one file says of it.
+abbrev pub answer_of : Result (List ℕ) Stop → Content
+answer_of (Ok bytes) = text bytes
+answer_of (Err (Missed role)) = gone
+answer_of (Err (TooLong role)) = long
+answer_of (Err (Refused role refusal)) = unknown
+answer_of (Err NoMemory) = unknown
+
+-- A fetch of the file of a role stops for nothing else than that it cannot be had, is too long, or memory ran out.
+abbrev pub IsFetchStop : Role → Result (List ℕ) Stop → Type 0
+IsFetchStop role (Ok bytes) = Unit {0}
+IsFetchStop role (Err (Missed other)) = other ≡ role
+IsFetchStop role (Err (TooLong other)) = other ≡ role
+IsFetchStop role (Err (Refused other refusal)) = ⊥
+IsFetchStop role (Err NoMemory) = Unit {0}

@@ -1,0 +1,33 @@
+//! What commands are told: their words, their files, what is read in these, and what stops a
+//! command before its own work.
+#![tactic(auto)]
+
+mod amount;
+mod claim;
+mod command;
+mod fetching;
+mod limit;
+mod made;
+mod number;
+mod reading;
+mod refusal;
+mod role;
+mod setting;
+mod status;
+mod stop;
+mod texts;
+
+pub use amount::{Amount, size_of};
+pub use claim::{Claim, read_claim};
+pub use command::{Command, command_of};
+pub use limit::{limits_of, usual_limits};
+pub use made::make_run;
+pub use reading::{Work, read_flat, read_program, read_run};
+pub use refusal::{Refusal, append_refusal};
+pub use role::Role;
+pub use setting::Setting;
+pub use status::{
+    CIRCUIT_REFUSED, DONE, LIMIT_REACHED, OUT_OF_MEMORY, PART_OVER, READ_FAULT, SCRIPT_REFUSED,
+    STUCK, Status, TOO_LONG, TRACE_REFUSED, WORDS_REFUSED, WRITE_FAULT,
+};
+pub use stop::Stop;

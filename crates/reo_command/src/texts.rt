@@ -1,0 +1,141 @@
+//! What the texts of files say, or what stops a command for them.
+ghost use Rattle.std.specs.Prelude.{◌≡◌, ◌<◌, ◌^◌, IfOk, Ok, length, map};
+ghost use Rattle.std.specs.List.{All};
+ghost use Rattle.reo_trees.specs.Says.{SaysProgram};
+ghost use Rattle.reo_trees_laws.specs.Spelled.{IsSpelled};
+ghost use Rattle.reo_rules.specs.Scopes.{connectors_of};
+ghost use Rattle.reo_flatten_laws.specs.Plain.{HasPlainNames};
+ghost use Rattle.reo_players.specs.Written.{written_out};
+ghost use Rattle.reo_script.specs.Places.{ArePortsOf};
+ghost use Rattle.reo_scripts.specs.ScriptAnswers.{Answers};
+ghost use Rattle.reo_run_premises.specs.Fitting.{FitPorts};
+ghost use Rattle.reo_trace_texts.specs.Lines.{AreTold};
+ghost use Rattle.reo_trace_texts.specs.Texts.{IsTraceText};
+ghost use Rattle.reo_verdicts.specs.Replays.{HasText};
+ghost use Rattle.reo_command.specs.declared.role.Role.TheVariants as roles;
+ghost use Rattle.reo_command.specs.Claims.{TraceStops};
+ghost use Rattle.reo_command.specs.Readings.{IsCircuitText, ProgramStops, CircuitStops, ScriptStops};
+ghost use Rattle.reo_command.specs.ReadSteps.{IsRefusalOf, IsTextRead, HasItsPorts, circuit_in};
+ghost use Rattle.reo_command.specs.Refusals.{parse_refusal, flat_refusal, script_refusal, trace_refusal};
+
+use crate::refusal::{flat_refusal, parse_refusal, script_refusal, trace_refusal};
+use crate::role::Role;
+use crate::stop::Stop;
+use reo_flatten::{Flat, FlatFault, flatten};
+use reo_flatten_laws::{homes_fit, names_are_plain};
+use reo_net_base::Ports;
+use reo_parser::{ParseFault, parse};
+use reo_run_premises::{flat_ports_fit, scripts_fit};
+use reo_run_texts::ports_are_told;
+use reo_script::read_script;
+use reo_scripts::{Script, ScriptFault};
+use reo_trace_reader::{Trace, TraceFault, read_trace};
+use reo_trees::Program;
+use reo_trees_laws::programs_are_spelled;
+use std::alloc::Global;
+
+/// What stops a command whose circuit text says no program.
+fn program_stop(alloc: Global, fault: &ParseFault) -> Stop
+    ensures { IsRefusalOf roles.Circuit (parse_refusal fault.now) result }
+{
+    match parse_refusal(alloc, fault) {
+        Ok(refusal) => Stop::Refused(Role::Circuit, refusal),
+        Err(_) => Stop::NoMemory,
+    }
+}
+
+/// The program that a text says, or what stops the command.
+pub(crate) fn program_of(alloc: Global, text: &[u8]) -> Result<Program, Stop>
+    requires few { length text.now < 2 ^ 32 }
+    ensures read { IsTextRead SaysProgram ProgramStops text.now result }
+    ensures spelled { IfOk result (λ program. IsSpelled program) }
+    ensures plain { IfOk result (λ program.
+        All HasPlainNames (connectors_of program.declarations)) }
+{
+    names_are_plain();
+    programs_are_spelled();
+    match parse(alloc, text) {
+        Ok(program) => Ok(program),
+        Err(fault) => Err(program_stop(alloc, &fault)),
+    }
+}
+
+/// What stops a command whose circuit breaks a rule.
+fn circuit_stop(alloc: Global, fault: &FlatFault) -> Stop
+    ensures { IsRefusalOf roles.Circuit (flat_refusal fault.now) result }
+{
+    match flat_refusal(alloc, fault) {
+        Ok(refusal) => Stop::Refused(Role::Circuit, refusal),
+        Err(_) => Stop::NoMemory,
+    }
+}
+
+/// The flat circuit of the program that a text says, or what stops the command.
+pub(crate) fn circuit_of(alloc: Global, text: &[u8]) -> Result<Flat, Stop>
+    requires few { length text.now < 2 ^ 32 }
+    ensures read { IsTextRead (λ bytes flat. IsCircuitText bytes (circuit_in flat)) CircuitStops
+        text.now result }
+    ensures homes { IfOk result (λ flat. length flat.homes ≡ length flat.circuit.joints) }
+    ensures ports { IfOk result (λ flat. HasItsPorts flat.circuit flat.ports.list) }
+{
+    homes_fit();
+    flat_ports_fit();
+    ports_are_told();
+    let program = match program_of(alloc, text) {
+        Ok(program) => program,
+        Err(stop) => return Err(stop),
+    };
+    match flatten(alloc, &program) {
+        Ok(flat) => Ok(flat),
+        Err(fault) => Err(circuit_stop(alloc, &fault)),
+    }
+}
+
+/// What stops a run whose script is refused.
+fn script_stop(alloc: Global, fault: &ScriptFault) -> Stop
+    ensures { IsRefusalOf roles.Script (script_refusal fault.now) result }
+{
+    match script_refusal(alloc, fault) {
+        Ok(refusal) => Stop::Refused(Role::Script, refusal),
+        Err(_) => Stop::NoMemory,
+    }
+}
+
+/// The script that a text says for the ports of a circuit, or what stops the command.
+pub(crate) fn script_of(alloc: Global, text: &[u8], ports: &Ports) -> Result<Script, Stop>
+    requires few { length text.now < 2 ^ 32 }
+    requires ports { ArePortsOf ports.now.list }
+    ensures read { IsTextRead (λ bytes script. Answers bytes ports.now.list (Ok script))
+        (ScriptStops ports.now.list) text.now result }
+    ensures fit { IfOk result (λ script.
+        FitPorts ports.now.list (map written_out script.components)) }
+{
+    scripts_fit();
+    match read_script(alloc, text, ports) {
+        Ok(script) => Ok(script),
+        Err(fault) => Err(script_stop(alloc, &fault)),
+    }
+}
+
+/// What stops a verification whose trace text is none.
+fn trace_stop(alloc: Global, fault: TraceFault) -> Stop
+    ensures { IsRefusalOf roles.Trace (trace_refusal fault) result }
+{
+    match trace_refusal(alloc, fault) {
+        Ok(refusal) => Stop::Refused(Role::Trace, refusal),
+        Err(_) => Stop::NoMemory,
+    }
+}
+
+/// The trace that a text is for the ports of a circuit, or what stops the command.
+pub(crate) fn trace_of(alloc: Global, text: &[u8], ports: &Ports) -> Result<Trace, Stop>
+    requires { AreTold ports.now.list }
+    ensures read { IsTextRead (IsTraceText ports.now.list) (TraceStops ports.now.list)
+        text.now result }
+    ensures text { IfOk result (HasText ports.now.list) }
+{
+    match read_trace(alloc, text, ports) {
+        Ok(trace) => Ok(trace),
+        Err(fault) => Err(trace_stop(alloc, fault)),
+    }
+}

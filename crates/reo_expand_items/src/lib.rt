@@ -1,0 +1,11 @@
+//! The expansion of items that are no loops.
+#![tactic(auto)]
+
+mod arrays;
+mod copying;
+mod plain;
+mod walk;
+mod weights;
+
+pub use copying::{copied_channel, copied_parameters, copied_type};
+pub use walk::Walk;

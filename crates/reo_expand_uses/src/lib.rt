@@ -1,0 +1,6 @@
+//! The names of connectors that items use, and with which numbers.
+#![tactic(auto)]
+
+mod uses;
+
+pub use uses::Uses;

@@ -1,0 +1,4 @@
+mod LoopSteps
+mod TurnSteps
+mod Unfit
+mod Values

@@ -1,4 +1,0 @@
-pub mod NoPorts
-pub mod Channels
-pub mod States
-pub mod FewNames

@@ -1,2 +1,0 @@
-pub mod PortsOf
-pub mod FlatPorts

@@ -1,0 +1,10 @@
+pub mod Chosen
+pub mod Fitting
+pub mod Many
+pub mod Standing
+pub mod StandingLaws
+pub mod Supported
+pub mod Ties
+pub mod Uses
+pub mod Values
+pub mod Works

@@ -1,0 +1,63 @@
+-- The sides of a part, as a list and as a set.
+use Rattle.std.proofs.Common.{◌≡◌, ◌≢◌, ℕ, zero, suc, ◌+◌, ◌<◌, Bool, true, false, List, [], length, get_or, refl, ap, sym, ◌∙◌, subst, arith}
+use Rattle.std.specs.Prelude.{◌==◌, nat_lt}
+use Rattle.std.specs.List.{range_with_len}
+use Rattle.std.proofs.lemmas.Bool.Decides.{nat_tests}
+use Rattle.reo_net_base.specs.Net.{Net}
+use Rattle.reo_net_base.specs.Sides.{side_count}
+use Rattle.reo_net_base.specs.Wired.{IsWired}
+use Rattle.reo_net_laws.specs.Sublists.{sides_in}
+use Rattle.reo_net_laws.proofs.Sets.{and_left, and_right}
+use Rattle.reo_knots.specs.Knots.{Knotted, AreKnots, in_knot, knot_count}
+use Rattle.reo_joint_values.proofs.Equal.{same_eq, eq_same}
+use Rattle.reo_propagate.specs.Queues.{among}
+use Rattle.reo_kept_tables.specs.Tables.{AreApart}
+use Rattle.reo_kept_tables.specs.Orders.{AreJointsOf, AreOrders}
+use Rattle.reo_kept_tables.proofs.Sorted.{later, sooner, not_other, out_of_filter, into_filter, orders_are_of_parts}
+
+below_true : (a b : ℕ) → nat_lt a b ≡ true → a < b
+below_true a b h = grind (arith, nat_tests)
+
+one_truth : (a b : Bool) → (a ≡ true → b ≡ true) → (b ≡ true → a ≡ true) → a ≡ b
+one_truth true b to back = sym (to refl)
+one_truth false true to back = back refl
+one_truth false false to back = refl
+
+among_range : (a n s : ℕ) → s < n → among (range_with_len a n) (a + s) ≡ true
+among_range a zero s lt = absurd (omega arith)
+among_range a (suc n) zero lt = sooner (a == (a + zero)) (among (range_with_len (a + 1) n) (a + zero)) (same_eq a (a + zero) (omega arith))
+among_range a (suc n) (suc s) lt =
+    let shift : (a + 1) + s ≡ a + suc s = omega arith in
+    later (a == (a + suc s)) (among (range_with_len (a + 1) n) (a + suc s)) (subst (λ (k : ℕ). among (range_with_len (a + 1) n) k ≡ true) shift (among_range (a + 1) n s (omega arith)))
+
+module _ (net : Net) (knots : Knotted) (are : AreKnots net knots) (part : ℕ) (lt : part < knot_count knots) where
+  -- A side of a part is one of the circuit.
+  real : (s : ℕ) → in_knot knots.numbers part s ≡ true → s < side_count net
+  real s h =
+      let under = below_true s (length knots.numbers) (and_left (nat_lt s (length knots.numbers)) (get_or knots.numbers s 0 == part) h) in
+      omega (arith, under, are.numbered.one_each)
+
+  among_part : (s : ℕ) → among (sides_in net (in_knot knots.numbers part)) s ≡ in_knot knots.numbers part s
+  among_part s = one_truth (among (sides_in net (in_knot knots.numbers part)) s) (in_knot knots.numbers part s)
+      (λ h. (out_of_filter (in_knot knots.numbers part) (range_with_len 0 (side_count net)) s h).0)
+      (λ h. into_filter (in_knot knots.numbers part) (range_with_len 0 (side_count net)) s h
+      (subst (λ (k : ℕ). among (range_with_len 0 (side_count net)) k ≡ true) (let z : 0 + s ≡ s = omega arith in z) (among_range 0 (side_count net) s (real s h))))
+
+  -- The list of the sides of a part has just these.
+  pub is_part : (sides : List ℕ) → sides ≡ get_or knots.sides part [] → among sides ≡ in_knot knots.numbers part
+  is_part sides is = ap among (is ∙ are.sides_are part [] lt) ∙ (λ i s. among_part s i)
+
+  pub part_real : (sides : List ℕ) → sides ≡ get_or knots.sides part [] → (s : ℕ) → among sides s ≡ true → s < side_count net
+  part_real sides is s h = real s (sym (λ i. is_part sides is i s) ∙ h)
+
+  -- Its joints are those of its list.
+  pub part_joints : IsWired net → (orders : List (List ℕ)) → AreOrders net knots orders → (sides joints : List ℕ) → sides ≡ get_or knots.sides part [] → joints ≡ get_or orders part [] → AreJointsOf net (among sides) joints
+  part_joints wired orders order sides joints is here =
+      subst (λ (inside : ℕ → Bool). AreJointsOf net inside joints) (sym (is_part sides is))
+      (subst (λ (list : List ℕ). AreJointsOf net (in_knot knots.numbers part) list) (sym here) (orders_are_of_parts net wired knots are orders order part lt))
+
+  -- It has no side of another part.
+  pub part_apart : (sides : List ℕ) → sides ≡ get_or knots.sides part [] → (k : ℕ) → k ≢ part → AreApart (among sides) (in_knot knots.numbers k)
+  part_apart sides is k ne s h =
+      let mine : in_knot knots.numbers part s ≡ true = sym (λ i. is_part sides is i s) ∙ h in
+      not_other knots.numbers k s (λ e. ne (e ∙ eq_same (get_or knots.numbers s 0) part (and_right (nat_lt s (length knots.numbers)) (get_or knots.numbers s 0 == part) mine)))

@@ -1,0 +1,4 @@
+pub mod Loops
+pub mod Answering
+pub mod Only
+pub mod Answered

@@ -1,0 +1,10 @@
+//! Reading circuit texts of either version.
+#![tactic(auto)]
+
+mod depth;
+mod laws;
+mod programs;
+mod texts;
+
+pub use laws::each_text_of_any_is_answered;
+pub use texts::parse_any;

@@ -1,5 +1,0 @@
-use Rattle.reo_propagate_rows.specs.Beginning.{AreValueFlags}
-use Rattle.reo_propagate_rows.proofs.rows.value_flags.Given as goal
-
-abbrev pub invariant-loop-joint : goal.invariant-loop-joint
-invariant-loop-joint l = AreValueFlags l.items l.joint l.seen

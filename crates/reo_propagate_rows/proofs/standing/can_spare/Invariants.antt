@@ -1,8 +1,0 @@
-use Rattle.std.proofs.Common.{◌<◌, ℕ, get_or}
-use Rattle.reo_net_base.specs.Net.{net_of}
-use Rattle.reo_propagate_rows.specs.Sparing.{IsIdle, IsLacking}
-use Rattle.reo_propagate_rows.proofs.standing.can_spare.Given as goal
-
-abbrev pub invariant-loop-index : goal.invariant-loop-index
-invariant-loop-index g l = (m : ℕ) → m < l.index → IsLacking (net_of g.P.Primitive.behaviour l.circuit) l.live l.side l.joint l.marks (get_or l.list m 0)
-    → IsIdle (net_of g.P.Primitive.behaviour l.circuit) l.side (get_or l.list m 0) l.notes

@@ -1,5 +1,0 @@
-use Rattle.reo_reach.proofs.StandLemmas.{items_stand}
-use Rattle.reo_reach.proofs.laws.items_can_stand.Goals as goal
-
-pub returns : goal.returns
-returns c = items_stand c.order_exists.ensures

@@ -1,0 +1,9 @@
+pub mod Fronts
+pub mod Items
+pub mod Live
+pub mod Logs
+pub mod Places
+pub mod RightTexts
+pub mod Steps
+pub mod Texts
+pub mod Wide

@@ -1,0 +1,137 @@
+-- A log has one answer, unless memory ends.
+use Rattle.std.proofs.Common.{◌≡◌, ◌≢◌, ◌⊎◌, inl, inr, ℕ, ◌+◌, ◌<◌, ◌≤◌, true, false, List, Option, None, Some, length, get_or, refl, ap, sym, ◌∙◌, subst, arith}
+use Rattle.std.proofs.lemmas.Bool.{cases_eq}
+use Rattle.reo_values.specs.declared.value.Value.{Value}
+use Rattle.reo_net_base.specs.declared.joint.Joint.{Joint as JointEnds}
+use Rattle.reo_net_base.specs.Net.{Net}
+use Rattle.reo_net_base.specs.Sides.{AreRowsOf}
+use Rattle.reo_net_base.specs.Colouring.{RowsFit, IsColouring, IsFilled, ItemFits}
+use Rattle.reo_net_base.specs.Wired.{IsWired, IsOrder}
+use Rattle.reo_net_laws.proofs.Orders.{no_joint}
+use Rattle.reo_net_laws.proofs.Sides.{below_or, rows_length, row_below, side_in, side_is}
+use Rattle.reo_net_base.specs.Net.{no_side, all_sides, first_side, behaviour_at}
+use Rattle.reo_net_colouring.proofs.ItemLemmas.{filled_from, filled_one}
+use Rattle.reo_checker.specs.declared.wrong.Wrong.{Wrong}
+use Rattle.reo_checker.specs.declared.wrong.Wrong.TheVariants.{Count, Row, Joint, Item}
+use Rattle.reo_checker.specs.Faults.{side_row, ItemFails, AreWrongRows, IsWrong, IsRowFault, IsJointFault, IsItemFault}
+use Rattle.reo_refute_laws.proofs.OneAnswer.{right_or_wrong, one_wrong_line}
+use Rattle.reo_refute_base.specs.Wide.{IsWide}
+use Rattle.reo_refute_faults.specs.Faults.{HasColouring, AreWrongItems, AreNoColouring, IsProof, IsProofFault, ProofOrFault, OneFault}
+use Rattle.reo_refute_faults.specs.declared.fault.ProofFault.{ProofFault}
+use Rattle.reo_refute_faults.specs.declared.fault.ProofFault.TheVariants.{Colouring, Wide, Line, NoMemory}
+
+-- Of two least places neither is below the other.
+leasts : (i k : ℕ) → (i < k → ⊥) → (k < i → ⊥) → i ≡ k
+leasts i k below above = elim (below_or i k) [
+  | inl lt ↦ absurd (below lt)
+  | inr le ↦ elim (cases_eq i k) [ inl same ↦ same | inr other ↦ absurd (above (omega (arith, le, other))) ]
+]
+
+fails_fits : (net : Net) (rows : List ℕ) (items : List (Option Value)) (j : JointEnds) (o : Option Value) → ItemFails net rows items j o → ItemFits net rows items j o → ⊥
+fails_fits net rows items j None flows none = none flows
+fails_fits net rows items j (Some item) (inl dry) has = dry has.flows
+fails_fits net rows items j (Some item) (inr (inl other)) has = other has.given
+fails_fits net rows items j (Some item) (inr (inr out)) has = let in_ = has.let_in in absurd cc
+
+row_earlier : (net : Net) (rows : List ℕ) (i k : ℕ) → IsRowFault net rows i → IsRowFault net rows k → i < k → ⊥
+row_earlier net rows i k a b lt =
+    let has = b.before i lt a.out.side a.out.is_side in
+    omega (arith, has, a.out.out)
+
+joint_earlier : (net : Net) (rows : List ℕ) (i k : ℕ) → IsJointFault net rows i → IsJointFault net rows k → i < k → ⊥
+joint_earlier net rows i k a b lt =
+    let match = b.before i no_joint lt in
+    let clash = a.clashes no_joint in
+    cc
+
+item_earlier : (net : Net) (rows : List ℕ) (items : List (Option Value)) (i k : ℕ) → IsItemFault net rows items i → IsItemFault net rows items k → i < k → ⊥
+item_earlier net rows items i k a b lt = fails_fits net rows items (get_or net.joints i no_joint) (get_or items i None) (a.fails no_joint) (b.before i no_joint lt)
+
+-- Rows in their tables have no row out.
+row_out : (net : Net) (rows : List ℕ) (i : ℕ) → IsRowFault net rows i → AreRowsOf net rows → ⊥
+row_out net rows i fault are =
+    let below = row_below (all_sides net.primitives) rows are (first_side net.primitives i + fault.out.side) no_side (side_in net.primitives i fault.out.side fault.in_range fault.out.is_side) in
+    let here : side_row net rows i fault.out.side < (behaviour_at net.primitives i).rows fault.out.side = rw (side_is net.primitives i fault.out.side no_side fault.in_range fault.out.is_side) at below in
+    omega (arith, here, fault.out.out)
+
+-- Rows with something wrong do not fit.
+wrong_rows : (net : Net) (rows : List ℕ) (wrong : Wrong) → AreWrongRows net rows wrong → RowsFit net rows → ⊥
+wrong_rows net rows Count other fit = other (rows_length (all_sides net.primitives) rows fit.in_tables)
+wrong_rows net rows (Row i) h fit = row_out net rows i h.1 fit.in_tables
+wrong_rows net rows (Joint j) h fit =
+    let clash = h.1.clashes no_joint in
+    let match = fit.matched j no_joint h.1.in_range in
+    absurd cc
+wrong_rows net rows (Item j) h fit = h
+
+-- Rows and items with something wrong are no colouring.
+wrong_colouring : (net : Net) (rows : List ℕ) (items : List (Option Value)) (wrong : Wrong) → IsWrong net rows items wrong → IsColouring net rows items → ⊥
+wrong_colouring net rows items Count (inl other) col = wrong_rows net rows Count other col.rows_fit
+wrong_colouring net rows items Count (inr other) col = other col.one_each
+wrong_colouring net rows items (Row i) h col = wrong_rows net rows (Row i) h.1 col.rows_fit
+wrong_colouring net rows items (Joint j) h col = wrong_rows net rows (Joint j) h.1 col.rows_fit
+wrong_colouring net rows items (Item j) h col = fails_fits net rows items (get_or net.joints j no_joint) (get_or items j None) (h.2.fails no_joint) (col.items_fit j no_joint h.2.in_range)
+
+-- What is wrong first with rows is one.
+one_of_rows : (net : Net) (rows : List ℕ) (a b : Wrong) → AreWrongRows net rows a → AreWrongRows net rows b → a ≡ b
+one_of_rows net rows Count Count x y = refl
+one_of_rows net rows Count (Row k) x y = absurd (x y.0)
+one_of_rows net rows Count (Joint k) x y = absurd (x (rows_length (all_sides net.primitives) rows y.0))
+one_of_rows net rows Count (Item k) x y = absurd y
+one_of_rows net rows (Row i) Count x y = absurd (y x.0)
+one_of_rows net rows (Row i) (Row k) x y = ap Row (leasts i k (row_earlier net rows i k x.1 y.1) (row_earlier net rows k i y.1 x.1))
+one_of_rows net rows (Row i) (Joint k) x y = absurd (row_out net rows i x.1 y.0)
+one_of_rows net rows (Row i) (Item k) x y = absurd y
+one_of_rows net rows (Joint i) Count x y = absurd (y (rows_length (all_sides net.primitives) rows x.0))
+one_of_rows net rows (Joint i) (Row k) x y = absurd (row_out net rows k y.1 x.0)
+one_of_rows net rows (Joint i) (Joint k) x y = ap Joint (leasts i k (joint_earlier net rows i k x.1 y.1) (joint_earlier net rows k i y.1 x.1))
+one_of_rows net rows (Joint i) (Item k) x y = absurd y
+one_of_rows net rows (Item i) b x y = absurd x
+
+-- What is wrong with items where the rows fit is an item.
+item_of : (net : Net) (rows : List ℕ) (items : List (Option Value)) (w : Wrong) → RowsFit net rows → IsFilled net rows items → IsWrong net rows items w
+    → (i : ℕ) × (w ≡ Item i) × IsItemFault net rows items i
+item_of net rows items Count fit filled (inl other) = absurd (wrong_rows net rows Count other fit)
+item_of net rows items Count fit filled (inr other) = absurd (other filled.one_each)
+item_of net rows items (Row i) fit filled h = absurd (wrong_rows net rows (Row i) h.1 fit)
+item_of net rows items (Joint i) fit filled h = absurd (wrong_rows net rows (Joint i) h.1 fit)
+item_of net rows items (Item i) fit filled h = (i, refl, h.2)
+
+module _ (net : Net) (wired : IsWired net) (order : List ℕ) (is_order : IsOrder net order) (rows : List ℕ) where
+  one_of_items : (a b : Wrong) → AreWrongItems net rows a → AreWrongItems net rows b → a ≡ b
+  one_of_items a b x y =
+      let same : y.items ≡ x.items = filled_one net wired rows x.rows_fit.in_tables order is_order y.items x.items y.filled x.filled in
+      let p = item_of net rows x.items a x.rows_fit x.filled x.is_wrong in
+      let q = item_of net rows x.items b x.rows_fit x.filled (subst (λ (l : List (Option Value)). IsWrong net rows l b) same y.is_wrong) in
+      p.1 ∙ ap Item (leasts p.0 q.0 (item_earlier net rows x.items p.0 q.0 p.2 q.2) (item_earlier net rows x.items q.0 p.0 q.2 p.2)) ∙ sym q.1
+
+  one_wrong : (a b : Wrong) → AreNoColouring net rows a → AreNoColouring net rows b → a ≡ b
+  one_wrong a b (inl x) (inl y) = one_of_rows net rows a b x y
+  one_wrong a b (inl x) (inr y) = absurd (wrong_rows net rows a x y.rows_fit)
+  one_wrong a b (inr x) (inl y) = absurd (wrong_rows net rows b y x.rows_fit)
+  one_wrong a b (inr x) (inr y) = one_of_items a b x y
+
+  no_colouring : (a : Wrong) → AreNoColouring net rows a → HasColouring net rows → ⊥
+  no_colouring a (inl x) has = wrong_rows net rows a x has.1.rows_fit
+  no_colouring a (inr x) has =
+      let same : x.items ≡ has.0 = filled_one net wired rows x.rows_fit.in_tables order is_order x.items has.0 x.filled (filled_from net rows has.0 has.1) in
+      wrong_colouring net rows has.0 a (subst (λ (l : List (Option Value)). IsWrong net rows l a) same x.is_wrong) has.1
+
+pub proof_or_fault : ProofOrFault
+proof_or_fault net wired order is_order turn rows log (Colouring wrong) counts is fault = no_colouring net wired order is_order rows wrong fault is.colouring
+proof_or_fault net wired order is_order turn rows log Wide counts is fault = is.narrow fault.1
+proof_or_fault net wired order is_order turn rows log (Line line) counts is fault = right_or_wrong net turn rows log line is.right fault.2
+proof_or_fault net wired order is_order turn rows log NoMemory counts is fault = counts refl
+
+pub one_fault : OneFault
+one_fault net wired order is_order turn rows log NoMemory b c d x y = absurd (c refl)
+one_fault net wired order is_order turn rows log a NoMemory c d x y = absurd (d refl)
+one_fault net wired order is_order turn rows log (Colouring v) (Colouring w) c d x y = ap Colouring (one_wrong net wired order is_order rows v w x y)
+one_fault net wired order is_order turn rows log (Colouring v) Wide c d x y = absurd (no_colouring net wired order is_order rows v x y.0)
+one_fault net wired order is_order turn rows log (Colouring v) (Line m) c d x y = absurd (no_colouring net wired order is_order rows v x y.0)
+one_fault net wired order is_order turn rows log Wide (Colouring w) c d x y = absurd (no_colouring net wired order is_order rows w y x.0)
+one_fault net wired order is_order turn rows log Wide Wide c d x y = refl
+one_fault net wired order is_order turn rows log Wide (Line m) c d x y = absurd (y.1 x.1)
+one_fault net wired order is_order turn rows log (Line l) (Colouring w) c d x y = absurd (no_colouring net wired order is_order rows w y x.0)
+one_fault net wired order is_order turn rows log (Line l) Wide c d x y = absurd (x.1 y.1)
+one_fault net wired order is_order turn rows log (Line l) (Line m) c d x y = ap Line (one_wrong_line net turn rows log l m x.2 y.2)

@@ -1,0 +1,17 @@
+pub mod Branches
+pub mod Choosing
+pub mod Deciding
+pub mod Existing
+pub mod Fronts
+pub mod Growing
+pub mod LineTexts
+pub mod Listing
+pub mod OneAnswer
+pub mod OneList
+pub mod Prefixes
+pub mod Reading
+pub mod Refuting
+pub mod Standing
+pub mod Supporting
+pub mod Telling
+pub mod Told

@@ -1,0 +1,4 @@
+pub mod NotedLemmas
+pub mod PassLemmas
+pub mod RowLemmas
+pub mod VisitLemmas

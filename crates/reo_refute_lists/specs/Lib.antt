@@ -1,0 +1,4 @@
+pub mod Given
+pub mod Noted
+pub mod Passes
+pub mod Visits

@@ -1,0 +1,2 @@
+pub mod AllowedRows
+pub mod KeyPlaces

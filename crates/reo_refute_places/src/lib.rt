@@ -1,0 +1,11 @@
+//! The places of a key, and the rows of sides that are allowed there.
+#![tactic(auto)]
+
+mod allowed;
+mod marking;
+mod place;
+mod places;
+
+pub use allowed::Allowed;
+pub use place::{KeyPlace, Number};
+pub use places::key_places;

@@ -1,0 +1,9 @@
+pub mod Rules
+pub mod Ready
+pub mod Plans
+pub mod Offering
+pub mod Order
+pub mod RoundOn
+pub mod EngineRound
+pub mod Stopping
+pub mod Laws

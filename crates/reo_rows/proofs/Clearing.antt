@@ -1,0 +1,30 @@
+-- What clearing a flag leaves.
+use Rattle.std.proofs.Common.{◌≡◌, ◌≢◌, ◌⊎◌, inl, inr, ℕ, Bool, true, false, not, ◌&&◌, List, refl, sym, ◌∙◌}
+use Rattle.std.specs.Bool.{◌==◌}
+use Rattle.std.proofs.lemmas.Bool.{and_parts}
+use Rattle.reo_joint_values.proofs.Equal.{same_eq, other_eq}
+use Rattle.reo_rows.specs.Flags.{flag}
+
+and_no : (f a b : Bool) → (a ≡ false) ⊎ (b ≡ false) → (f && not (a && b)) ≡ f
+and_no true true b (inl e) = absurd cc
+and_no true true true (inr e) = absurd cc
+and_no true true false (inr e) = refl
+and_no true false b e = refl
+and_no false a b e = refl
+
+gone_of : (f : Bool) → (f && not (true && true)) ≡ false
+gone_of true = refl
+gone_of false = refl
+
+module _ (table new : List (List Bool)) (i p : ℕ) (is : (k q : ℕ) → flag new k q ≡ (flag table k q && not ((k == i) && (q == p)))) where
+  pub was_set : (k q : ℕ) → flag new k q ≡ true → flag table k q ≡ true
+  was_set k q h = (and_parts (flag table k q) (not ((k == i) && (q == p))) (sym (is k q) ∙ h)).0
+
+  pub other_row : (k q : ℕ) → k ≢ i → flag new k q ≡ flag table k q
+  other_row k q ne = is k q ∙ and_no (flag table k q) (k == i) (q == p) (inl (other_eq k i ne))
+
+  pub other_place : (k q : ℕ) → q ≢ p → flag new k q ≡ flag table k q
+  other_place k q ne = is k q ∙ and_no (flag table k q) (k == i) (q == p) (inr (other_eq q p ne))
+
+  pub gone_flag : flag new i p ≡ false
+  gone_flag = is i p ∙ rw (same_eq i i refl, same_eq p p refl) (gone_of (flag table i p))

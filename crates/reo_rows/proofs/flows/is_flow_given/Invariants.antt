@@ -1,0 +1,10 @@
+use Rattle.std.proofs.Common.{◌≡◌, ◌<◌, ◌≤◌, ℕ, true, option_copied}
+use Rattle.reo_net_base.specs.Net.{net_of}
+use Rattle.reo_joint_values.specs.Works.{IsGivenAs}
+use Rattle.reo_rows.specs.Flags.{flag}
+use Rattle.reo_rows.specs.Sets.{value_of, names_of}
+use Rattle.reo_rows.proofs.flows.is_flow_given.Given as goal
+
+abbrev pub invariant-loop-code : goal.invariant-loop-code
+invariant-loop-code g l = (c : ℕ) → 4 ≤ c → c < l.code → flag l.alive l.joint c ≡ true
+    → IsGivenAs (net_of g.P.Primitive.behaviour l.circuit) (names_of l.items) l.row l.joint (option_copied l.taken) (value_of c) → ⊥

@@ -1,0 +1,11 @@
+use Rattle.std.proofs.Common.{◌≡◌, ◌<◌, ◌≤◌, ◌-◌, ℕ, true}
+use Rattle.reo_net_base.specs.Net.{net_of}
+use Rattle.reo_joint_values.specs.declared.value.JointValue.TheVariants.{Flow}
+use Rattle.reo_joint_values.specs.Works.{TakerWorks}
+use Rattle.reo_rows.specs.Flags.{flag}
+use Rattle.reo_rows.specs.Sets.{family_of, names_of}
+use Rattle.reo_rows.proofs.flows.takes_flow.Given as goal
+
+abbrev pub invariant-loop-code : goal.invariant-loop-code
+invariant-loop-code g l = (c : ℕ) → 4 ≤ c → c < l.code → flag l.alive l.joint c ≡ true
+    → TakerWorks (net_of g.P.Primitive.behaviour l.circuit) (names_of l.items) (family_of l.alive) l.side l.row l.joint (Flow (c - 4)) → ⊥

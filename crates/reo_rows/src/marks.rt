@@ -1,0 +1,197 @@
+//! Sets of marks, and the marks of the values of a joint.
+ghost use Rattle.std.specs.Prelude.{◌≡◌, ◌↔◌, ◌<◌, ◌||◌, ℕ, true, false, IsTrue, length, slice_index_or, []};
+ghost use Rattle.reo_net_base.specs.declared.mark.Mark.{Mark as Said};
+ghost use Rattle.reo_net_base.specs.Net.{net_of};
+ghost use Rattle.reo_net_laws.specs.Ends.{same_mark};
+ghost use Rattle.reo_joint_values.specs.declared.value.JointValue.TheVariants.{Flow};
+ghost use Rattle.reo_joint_values.specs.Values.{giver_mark, taker_mark};
+ghost use Rattle.reo_rows.specs.Sets.{value_of, family_of, IsReady};
+ghost use Rattle.reo_rows.specs.Stands.{value_mark, HasMark, marks_has, marks_byte};
+
+use crate::flags::Flags;
+use reo_net_base::{Mark, Primitive};
+use reo_net_circuit::Circuit;
+use reo_net_ends::Ends;
+use reo_side_tables::{Board, giver_side};
+use reo_values::{List, Value};
+
+/// The places of the values of a joint: without flow, where the giver requires a reason, where the
+/// taker does, where neither does, and jam; from `FLOWS` on the values with flow.
+pub const GIVER_REQUIRES: usize = 0;
+
+pub const TAKER_REQUIRES: usize = 1;
+
+pub const NEITHER_REQUIRES: usize = 2;
+
+pub const JAM: usize = 3;
+
+pub const FLOWS: usize = 4;
+
+/// A set of marks.
+#[derive(Clone, Copy, Debug, PartialEq, Eq)]
+pub struct Marks {
+    pub flow: bool,
+    pub given: bool,
+    pub required: bool,
+    pub jam: bool,
+}
+
+impl Marks {
+    /// No marks.
+    pub fn none() -> Marks
+        ensures { (m : Said) → marks_has result m ≡ false }
+    {
+        Marks {
+            flow: false,
+            given: false,
+            required: false,
+            jam: false,
+        }
+    }
+
+    /// Whether the set has a mark.
+    pub fn has(self, mark: Mark) -> bool
+        ensures { result ≡ marks_has self mark }
+    {
+        match mark {
+            Mark::F => self.flow,
+            Mark::G => self.given,
+            Mark::R => self.required,
+            Mark::J => self.jam,
+        }
+    }
+
+    /// The set with one mark more.
+    pub fn with(self, mark: Mark) -> Marks
+        ensures { (m : Said) → marks_has result m ≡ (same_mark mark m || marks_has self m) }
+    {
+        let mut marks = self;
+        match mark {
+            Mark::F => marks.flow = true,
+            Mark::G => marks.given = true,
+            Mark::R => marks.required = true,
+            Mark::J => marks.jam = true,
+        }
+        marks
+    }
+
+    /// The bytes of its marks together.
+    pub fn byte(self) -> u8
+        ensures { result ≡ marks_byte self }
+    {
+        let mut byte = 0;
+        if self.flow {
+            byte += 1;
+        }
+        if self.given {
+            byte += 2;
+        }
+        if self.required {
+            byte += 4;
+        }
+        if self.jam {
+            byte += 8;
+        }
+        byte
+    }
+}
+
+/// The mark of a value, by its place, at the giver of its joint.
+fn mark_given(code: usize) -> Mark
+    ensures { result ≡ giver_mark (value_of code) }
+{
+    match code {
+        0 => Mark::R,
+        1 | 2 => Mark::G,
+        3 => Mark::J,
+        _ => Mark::F,
+    }
+}
+
+/// The mark of a value, by its place, at the taker of its joint.
+fn mark_taken(code: usize) -> Mark
+    ensures { result ≡ taker_mark (value_of code) }
+{
+    match code {
+        1 => Mark::R,
+        0 | 2 => Mark::G,
+        3 => Mark::J,
+        _ => Mark::F,
+    }
+}
+
+/// The mark of a value of a joint, by its place, as a side of the joint sees it.
+pub fn mark_seen<P: Primitive>(circuit: &Circuit<P>, side: usize, joint: usize, code: usize) -> Mark
+    requires { joint < length circuit.now.joints }
+    ensures { result ≡ value_mark (net_of P.behaviour circuit.now) side joint (value_of code) }
+{
+    if giver_side(circuit, joint) == side {
+        mark_given(code)
+    } else {
+        mark_taken(code)
+    }
+}
+
+/// Whether a joint has a value with flow.
+fn has_flow(alive: &Flags, joint: usize) -> bool
+    requires { joint < length alive.now }
+    ensures { IsTrue result ↔ ((n : ℕ) × (family_of alive.now joint (Flow n) ≡ true)) }
+{
+    for code in FLOWS..alive.width(joint) {
+        if alive.is_set(joint, code) {
+            return true;
+        }
+    }
+    false
+}
+
+/// The marks at one end of a joint: there a reason is given where the other end requires one, or
+/// neither does.
+fn marks_of(flow: bool, other: bool, neither: bool, required: bool, jam: bool) -> Marks
+    ensures { result ≡ record {
+      flow = flow;
+      given = other || neither;
+      required = required;
+      jam =
+          jam;
+    } }
+{
+    Marks {
+        flow,
+        given: other || neither,
+        required,
+        jam,
+    }
+}
+
+/// The marks that the values of a joint have, as a side of the joint sees them.
+pub fn marks_left<P: Primitive>(
+    circuit: &Circuit<P>,
+    boards: &List<Board>,
+    ends: &Ends,
+    items: &[List<Value>],
+    alive: &Flags,
+    side: usize,
+    joint: usize,
+) -> Marks
+    requires ready { let net = net_of P.behaviour circuit.now in
+        IsReady net boards.now ends.now items.now alive.now }
+    requires joint { joint < length circuit.now.joints }
+    ensures { let net = net_of P.behaviour circuit.now in
+        (m : Said) → (marks_has result m ≡ true) ↔ HasMark net (family_of alive.now) side joint m }
+{
+    let _ = boards;
+    let _ = ends;
+    let _ = items;
+    let gives = giver_side(circuit, joint) == side;
+    let giver_requires = alive.is_set(joint, GIVER_REQUIRES);
+    let taker_requires = alive.is_set(joint, TAKER_REQUIRES);
+    let neither = alive.is_set(joint, NEITHER_REQUIRES);
+    let flow = has_flow(alive, joint);
+    let jam = alive.is_set(joint, JAM);
+    if gives {
+        marks_of(flow, taker_requires, neither, giver_requires, jam)
+    } else {
+        marks_of(flow, giver_requires, neither, taker_requires, jam)
+    }
+}

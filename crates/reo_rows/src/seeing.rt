@@ -1,0 +1,350 @@
+//! Seeing which values with flow the rows of a side use.
+ghost use Rattle.std.specs.Prelude.{◌≡◌, ◌≢◌, ◌<◌, ◌≤◌, ◌+◌, ℕ, true, false, None, Some, length, option_copied, slice_index, slice_index_or, []};
+ghost use Rattle.reo_net_base.specs.Net.{net_of, all_sides, row_count};
+ghost use Rattle.reo_net_laws.specs.Ends.{IsRowOf};
+ghost use Rattle.reo_joint_values.specs.Values.{taker_side};
+ghost use Rattle.reo_side_tables.specs.Boards.{IsFlow};
+ghost use Rattle.reo_side_tables.specs.Marks.{side_in, TakesFlow, GivesFlow};
+ghost use Rattle.reo_rows.specs.Flags.{flag, AreAlikeTables};
+ghost use Rattle.reo_rows.specs.Rows.{AreTables, IsSeen};
+ghost use Rattle.reo_rows.specs.Seeing.{HasValuePlaces, AreSeen, IsGivenValue, GivenUse, FollowedUse, FollowUse, TakenUse, TakesUse, AloneUse, RowUse, LiveRowUse};
+ghost use Rattle.reo_rows.specs.Sets.{family_of, names_of, IsReady};
+
+use crate::flags::Flags;
+use crate::flows::{flow_works, follows};
+use crate::items::{gives_value, source_of};
+use crate::marks::FLOWS;
+use crate::rows::Rows;
+use reo_net_base::Primitive;
+use reo_net_circuit::Circuit;
+use reo_net_ends::Ends;
+use reo_side_tables::{Board, Flow};
+use reo_values::{List, Value};
+
+/// No value with flow of a joint is seen.
+fn unsee(seen: &mut Flags, joint: usize)
+    requires { joint < length seen.old }
+    ensures alike { AreAlikeTables seen.old seen.new }
+    ensures here { (code : ℕ) → 4 ≤ code → flag seen.new joint code ≡ false }
+    ensures other { (j code : ℕ) → j ≢ joint → flag seen.new j code ≡ flag seen.old j code }
+{
+    for code in FLOWS..seen.width(joint) {
+        seen.put(joint, code, false);
+    }
+}
+
+/// No value with flow of these joints is seen.
+fn unsee_all(seen: &mut Flags, joints: &[usize])
+    requires { (m : ℕ) → m < length joints.now → slice_index joints.now m < length seen.old }
+    ensures alike { AreAlikeTables seen.old seen.new }
+    ensures here { (m code : ℕ) → m < length joints.now → 4 ≤ code
+        → flag seen.new (slice_index joints.now m) code ≡ false }
+{
+    for index in 0..joints.len() {
+        unsee(seen, joints[index]);
+    }
+}
+
+/// Sees a value of a joint, by its place, if a row gives it there with flow for what it takes.
+fn see_value<P: Primitive>(
+    circuit: &Circuit<P>,
+    items: &[List<Value>],
+    alive: &Flags,
+    seen: &mut Flags,
+    side: usize,
+    row: usize,
+    joint: usize,
+    taken: Option<&Value>,
+    code: usize,
+)
+    requires items { length items.now ≡ length circuit.now.joints }
+    requires alive { HasValuePlaces (net_of P.behaviour circuit.now) items.now alive.now }
+    requires seen { HasValuePlaces (net_of P.behaviour circuit.now) items.now seen.old }
+    requires row { IsRowOf (net_of P.behaviour circuit.now) side row }
+    requires gives { GivesFlow (net_of P.behaviour circuit.now) side row joint }
+    requires flows { 4 ≤ code }
+    requires code { code < length (slice_index_or items.now joint []) + 4 }
+    ensures { let net = net_of P.behaviour circuit.now in
+        AreSeen (IsGivenValue net (names_of items.now) (family_of alive.now) row joint
+        (option_copied taken.entry) code) seen.old seen.new }
+{
+    if alive.is_set(joint, code)
+        && !seen.is_set(joint, code)
+        && gives_value(circuit, items, side, row, joint, taken, code)
+    {
+        seen.put(joint, code, true);
+    }
+}
+
+/// Sees the values of a joint that a row gives there with flow for what it takes.
+fn see_given<P: Primitive>(
+    circuit: &Circuit<P>,
+    items: &[List<Value>],
+    alive: &Flags,
+    seen: &mut Flags,
+    side: usize,
+    row: usize,
+    joint: usize,
+    taken: Option<&Value>,
+)
+    requires items { length items.now ≡ length circuit.now.joints }
+    requires alive { HasValuePlaces (net_of P.behaviour circuit.now) items.now alive.now }
+    requires seen { HasValuePlaces (net_of P.behaviour circuit.now) items.now seen.old }
+    requires row { IsRowOf (net_of P.behaviour circuit.now) side row }
+    requires gives { GivesFlow (net_of P.behaviour circuit.now) side row joint }
+    ensures { let net = net_of P.behaviour circuit.now in
+        AreSeen (GivenUse net (names_of items.now) (family_of alive.now) row joint
+        (option_copied taken.entry)) seen.old seen.new }
+{
+    for code in FLOWS..alive.width(joint) {
+        see_value(circuit, items, alive, seen, side, row, joint, taken, code);
+    }
+}
+
+/// Sees the values that a row gives at a joint for an item that it takes in at another, if they
+/// hang on it.
+fn see_followed<P: Primitive>(
+    circuit: &Circuit<P>,
+    items: &[List<Value>],
+    alive: &Flags,
+    seen: &mut Flags,
+    side: usize,
+    row: usize,
+    source: usize,
+    item: &Value,
+    joint: usize,
+)
+    requires items { length items.now ≡ length circuit.now.joints }
+    requires alive { HasValuePlaces (net_of P.behaviour circuit.now) items.now alive.now }
+    requires seen { HasValuePlaces (net_of P.behaviour circuit.now) items.now seen.old }
+    requires row { IsRowOf (net_of P.behaviour circuit.now) side row }
+    requires takes { TakesFlow (net_of P.behaviour circuit.now) side row source }
+    requires gives { GivesFlow (net_of P.behaviour circuit.now) side row joint }
+    ensures { let net = net_of P.behaviour circuit.now in
+        AreSeen (FollowedUse net (names_of items.now) (family_of alive.now) row source
+        (Some item.now) joint) seen.old seen.new }
+{
+    if follows(circuit, side, row, joint, source) {
+        see_given(circuit, items, alive, seen, side, row, joint, Some(item));
+    }
+}
+
+/// Sees the values that a row gives for an item that it takes in at a joint.
+fn see_followers<P: Primitive>(
+    circuit: &Circuit<P>,
+    items: &[List<Value>],
+    alive: &Flags,
+    seen: &mut Flags,
+    side: usize,
+    row: usize,
+    flow: &Flow,
+    source: usize,
+    item: &Value,
+)
+    requires items { length items.now ≡ length circuit.now.joints }
+    requires alive { HasValuePlaces (net_of P.behaviour circuit.now) items.now alive.now }
+    requires seen { HasValuePlaces (net_of P.behaviour circuit.now) items.now seen.old }
+    requires row { IsRowOf (net_of P.behaviour circuit.now) side row }
+    requires flow { IsFlow (net_of P.behaviour circuit.now) side row flow.now }
+    requires takes { TakesFlow (net_of P.behaviour circuit.now) side row source }
+    ensures { let net = net_of P.behaviour circuit.now in
+        AreSeen (FollowUse net (names_of items.now) (family_of alive.now) side row source
+        (Some item.now)) seen.old seen.new }
+{
+    for index in 0..flow.giving.len() {
+        let joint = *flow.giving.at(index);
+        see_followed(circuit, items, alive, seen, side, row, source, item, joint);
+    }
+}
+
+/// Sees a value of a joint, by its place, if a row takes it in there with flow, and what it gives
+/// for it.
+fn see_taken<P: Primitive>(
+    circuit: &Circuit<P>,
+    boards: &List<Board>,
+    ends: &Ends,
+    items: &[List<Value>],
+    alive: &Flags,
+    seen: &mut Flags,
+    side: usize,
+    row: usize,
+    flow: &Flow,
+    source: usize,
+    code: usize,
+)
+    requires ready { let net = net_of P.behaviour circuit.now in
+        IsReady net boards.now ends.now items.now alive.now }
+    requires seen { HasValuePlaces (net_of P.behaviour circuit.now) items.now seen.old }
+    requires row { IsRowOf (net_of P.behaviour circuit.now) side row }
+    requires flow { IsFlow (net_of P.behaviour circuit.now) side row flow.now }
+    requires takes { TakesFlow (net_of P.behaviour circuit.now) side row source }
+    requires flows { 4 ≤ code }
+    requires code { code < length (slice_index_or alive.now source []) }
+    ensures { let net = net_of P.behaviour circuit.now in
+        AreSeen (TakenUse net (names_of items.now) (family_of alive.now) side row source code)
+        seen.old seen.new }
+{
+    if alive.is_set(source, code)
+        && flow_works(
+            circuit, boards, ends, items, alive, side, row, flow, source, code,
+        )
+    {
+        seen.put(source, code, true);
+        let item = items[source].at(code - FLOWS);
+        see_followers(circuit, items, alive, seen, side, row, flow, source, item);
+    }
+}
+
+/// Sees the values that a row takes in with flow at a joint, and what it gives for them.
+fn see_takes<P: Primitive>(
+    circuit: &Circuit<P>,
+    boards: &List<Board>,
+    ends: &Ends,
+    items: &[List<Value>],
+    alive: &Flags,
+    seen: &mut Flags,
+    side: usize,
+    row: usize,
+    flow: &Flow,
+    source: usize,
+)
+    requires ready { let net = net_of P.behaviour circuit.now in
+        IsReady net boards.now ends.now items.now alive.now }
+    requires seen { HasValuePlaces (net_of P.behaviour circuit.now) items.now seen.old }
+    requires row { IsRowOf (net_of P.behaviour circuit.now) side row }
+    requires flow { IsFlow (net_of P.behaviour circuit.now) side row flow.now }
+    requires takes { TakesFlow (net_of P.behaviour circuit.now) side row source }
+    ensures { let net = net_of P.behaviour circuit.now in
+        AreSeen (TakesUse net (names_of items.now) (family_of alive.now) side row source) seen.old
+        seen.new }
+{
+    for code in FLOWS..alive.width(source) {
+        see_taken(
+            circuit, boards, ends, items, alive, seen, side, row, flow, source, code,
+        );
+    }
+}
+
+/// Sees the values that a row gives with flow at a joint, if its state alone decides them.
+fn see_alone<P: Primitive>(
+    circuit: &Circuit<P>,
+    items: &[List<Value>],
+    alive: &Flags,
+    seen: &mut Flags,
+    side: usize,
+    row: usize,
+    joint: usize,
+)
+    requires items { length items.now ≡ length circuit.now.joints }
+    requires alive { HasValuePlaces (net_of P.behaviour circuit.now) items.now alive.now }
+    requires seen { HasValuePlaces (net_of P.behaviour circuit.now) items.now seen.old }
+    requires row { IsRowOf (net_of P.behaviour circuit.now) side row }
+    requires gives { GivesFlow (net_of P.behaviour circuit.now) side row joint }
+    ensures { let net = net_of P.behaviour circuit.now in
+        AreSeen (AloneUse net (names_of items.now) (family_of alive.now) row joint) seen.old
+        seen.new }
+{
+    if source_of(circuit, side, row, joint).is_none() {
+        see_given(circuit, items, alive, seen, side, row, joint, None);
+    }
+}
+
+/// Sees the values with flow that go with a row.
+fn see_row<P: Primitive>(
+    circuit: &Circuit<P>,
+    boards: &List<Board>,
+    ends: &Ends,
+    items: &[List<Value>],
+    alive: &Flags,
+    seen: &mut Flags,
+    side: usize,
+    row: usize,
+    flow: &Flow,
+)
+    requires ready { let net = net_of P.behaviour circuit.now in
+        IsReady net boards.now ends.now items.now alive.now }
+    requires seen { HasValuePlaces (net_of P.behaviour circuit.now) items.now seen.old }
+    requires row { IsRowOf (net_of P.behaviour circuit.now) side row }
+    requires flow { IsFlow (net_of P.behaviour circuit.now) side row flow.now }
+    ensures { let net = net_of P.behaviour circuit.now in
+        AreSeen (RowUse net (names_of items.now) (family_of alive.now) side row) seen.old seen.new }
+{
+    circuit.known();
+    for index in 0..flow.taking.len() {
+        let source = *flow.taking.at(index);
+        see_takes(
+            circuit, boards, ends, items, alive, seen, side, row, flow, source,
+        );
+    }
+    for index in 0..flow.giving.len() {
+        let joint = *flow.giving.at(index);
+        see_alone(circuit, items, alive, seen, side, row, joint);
+    }
+}
+
+/// Sees the values with flow that go with a row of a side, if it has its flag.
+fn see_live<P: Primitive>(
+    circuit: &Circuit<P>,
+    boards: &List<Board>,
+    ends: &Ends,
+    items: &[List<Value>],
+    alive: &Flags,
+    live: &Flags,
+    seen: &mut Flags,
+    side: usize,
+    row: usize,
+)
+    requires ready { let net = net_of P.behaviour circuit.now in
+        IsReady net boards.now ends.now items.now alive.now }
+    requires live { side < length live.now }
+    requires width { let net = net_of P.behaviour circuit.now in
+        length (slice_index_or live.now side []) ≡ row_count (side_in net side) }
+    requires seen { HasValuePlaces (net_of P.behaviour circuit.now) items.now seen.old }
+    requires side { side < length (all_sides (net_of P.behaviour circuit.now).primitives) }
+    requires row { IsRowOf (net_of P.behaviour circuit.now) side row }
+    ensures { let net = net_of P.behaviour circuit.now in
+        AreSeen (LiveRowUse net (names_of items.now) (family_of alive.now) live.now side row)
+        seen.old seen.new }
+{
+    if live.is_set(side, row) {
+        let flow = boards.at(side).flows.at(row);
+        see_row(circuit, boards, ends, items, alive, seen, side, row, flow);
+    }
+}
+
+/// Sees which values with flow at the joints of a side go with its rows that have their flags.
+/// Those that were seen there before are forgotten. This takes no memory.
+pub fn see<P: Primitive>(
+    circuit: &Circuit<P>,
+    boards: &List<Board>,
+    ends: &Ends,
+    items: &[List<Value>],
+    alive: &Flags,
+    rows: &mut Rows,
+    side: usize,
+)
+    requires ready { let net = net_of P.behaviour circuit.now in
+        IsReady net boards.now ends.now items.now alive.now }
+    requires tables { AreTables (net_of P.behaviour circuit.now) items.now rows.old }
+    requires side { side < length (all_sides (net_of P.behaviour circuit.now).primitives) }
+    ensures tables { AreTables (net_of P.behaviour circuit.now) items.now rows.new }
+    ensures seen { let net = net_of P.behaviour circuit.now in
+        IsSeen net (names_of items.now) (family_of alive.now) side rows.new }
+    ensures live { rows.new.live ≡ rows.old.live }
+    ensures notes { rows.new.notes ≡ rows.old.notes }
+{
+    unsee_all(&mut rows.seen, boards.at(side).joints.as_slice());
+    for row in 0..circuit.rows(side) {
+        see_live(
+            circuit,
+            boards,
+            ends,
+            items,
+            alive,
+            &rows.live,
+            &mut rows.seen,
+            side,
+            row,
+        );
+    }
+}

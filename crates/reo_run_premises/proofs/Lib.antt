@@ -1,0 +1,10 @@
+pub mod NoPorts
+pub mod Channels
+pub mod States
+pub mod FewNames
+pub mod Each
+pub mod Places
+pub mod Bodies
+pub mod WrittenOut
+pub mod Sharing
+pub mod Apart

@@ -1,0 +1,3 @@
+pub mod PortsOf
+pub mod FlatPorts
+pub mod Fitting

@@ -1,6 +1,0 @@
-pub mod Each
-pub mod Places
-pub mod Bodies
-pub mod WrittenOut
-pub mod Sharing
-pub mod Apart

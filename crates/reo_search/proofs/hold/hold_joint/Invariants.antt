@@ -1,6 +1,0 @@
-use Rattle.reo_net_base.specs.Net.{net_of}
-use Rattle.reo_search.specs.Holding.{IsHeldTo}
-use Rattle.reo_search.proofs.hold.hold_joint.Given as goal
-
-abbrev pub invariant-loop-code : goal.invariant-loop-code
-invariant-loop-code g l = IsHeldTo (net_of g.P.Primitive.behaviour l.circuit) l.place l.row l.joint l.code l.initial.alive l.alive l.loss

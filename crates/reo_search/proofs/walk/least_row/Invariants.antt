@@ -1,6 +1,0 @@
-use Rattle.reo_net_base.specs.Net.{net_of}
-use Rattle.reo_search.specs.Walking.{IsBest}
-use Rattle.reo_search.proofs.walk.least_row.Given as goal
-
-abbrev pub invariant-loop-row : goal.invariant-loop-row
-invariant-loop-row g l = IsBest (net_of g.P.Primitive.behaviour l.circuit) l.turn l.place l.live l.row l.best

@@ -1,0 +1,5 @@
+pub mod Open
+pub mod Same
+pub mod Walking
+pub mod Turning
+pub mod Keyed

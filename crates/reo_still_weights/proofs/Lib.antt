@@ -1,5 +1,0 @@
-pub mod Turned
-pub mod EndLemmas
-pub mod StandLemmas
-pub mod SupportLemmas
-pub mod WithinLemmas

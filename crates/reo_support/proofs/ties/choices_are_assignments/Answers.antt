@@ -1,5 +1,0 @@
-use Rattle.reo_support.proofs.Assigning.{choices_are_assignments}
-use Rattle.reo_support.proofs.ties.choices_are_assignments.Goals as goal
-
-pub returns : goal.returns
-returns c = choices_are_assignments

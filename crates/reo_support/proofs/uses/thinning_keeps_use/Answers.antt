@@ -1,5 +1,0 @@
-use Rattle.reo_support.proofs.Narrowing.{used_still, used_before}
-use Rattle.reo_support.proofs.uses.thinning_keeps_use.Goals as goal
-
-pub returns : goal.returns
-returns c = λ net names side old now thin j v. (used_still net names side old now thin j v, used_before net names side old now thin j v)

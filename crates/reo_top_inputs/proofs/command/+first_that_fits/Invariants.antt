@@ -1,5 +1,0 @@
-use Rattle.std.proofs.Common.{length}
-use Rattle.reo_top_inputs.proofs.command.+first_that_fits.Given as goal
-
-abbrev pub decreases-first_that_fits : goal.decreases-first_that_fits
-decreases-first_that_fits l = length l.commands.now

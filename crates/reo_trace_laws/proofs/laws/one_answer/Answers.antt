@@ -1,5 +1,0 @@
-use Rattle.reo_trace_laws.proofs.Answering.{one_answer_of-text}
-use Rattle.reo_trace_laws.proofs.laws.one_answer.Goals as goal
-
-pub returns : goal.returns
-returns c = one_answer_of-text

@@ -1,6 +1,0 @@
-pub mod ItemLemmas
-pub mod ReplayLemmas
-pub mod SaidLemmas
-pub mod VerdictLemmas
-pub mod VerifiedLemmas
-pub mod WrongLemmas

@@ -1,0 +1,6 @@
+pub mod Places
+pub mod Holding
+pub mod Pins
+pub mod Settling
+pub mod Walking
+pub mod Arranged

@@ -1,0 +1,121 @@
+//! The first assignment of a knot.
+ghost use Rattle.std.specs.Prelude.{◌≡◌, ◌<◌, ◌+◌, ◌^◌, ℕ, true, IfOk, OnOk, MatchOption, length, slice_index_or, []};
+ghost use Rattle.reo_net_base.specs.Net.{net_of, all_sides};
+ghost use Rattle.reo_net_laws.specs.Parts.{IsKnot};
+ghost use Rattle.reo_knots.specs.Knots.{AreKnots, in_knot, knot_count};
+ghost use Rattle.reo_support.specs.Sets.{OneAtLoops};
+ghost use Rattle.reo_rows.specs.Sets.{family_of, names_of};
+ghost use Rattle.reo_propagate.specs.Queues.{among};
+ghost use Rattle.reo_propagate.specs.Beginning.{IsSearch};
+ghost use Rattle.reo_propagate.specs.ListedSets.{listed, AreInSupply};
+ghost use Rattle.reo_walk.specs.declared.place.Place.{Place as Spot};
+ghost use Rattle.reo_walk.specs.Places.{side_of_place};
+ghost use Rattle.reo_walk.specs.Settling.{HasNone, IsFirstWith};
+ghost use Rattle.reo_walk.specs.Arranged.{HasNoAssignment, IsFirstPart};
+
+use crate::part::{Part, part_of};
+use crate::place::Place;
+use crate::places::places_of;
+use crate::walking::walk;
+use reo_knots::Knots;
+use reo_net_base::Primitive;
+use reo_net_circuit::Circuit;
+use reo_net_ends::{Ends, ends_of};
+use reo_propagate::{Sets, State, begin_with};
+use reo_reach::Supply;
+use reo_side_tables::{Board, boards_of};
+use reo_steps::Steps;
+use reo_values::{List, NoMemory, Value};
+use std::alloc::Global;
+use std::sync::ledger::Ledger;
+
+/// The numbers of the first assignment of a knot with values in the sets of a search, by these
+/// places: `None` exactly where there is none.
+pub fn first_by<P: Primitive>(
+    alloc: Global,
+    circuit: &Circuit<P>,
+    boards: &List<Board>,
+    ends: &Ends,
+    items: &[List<Value>],
+    sides: &[usize],
+    state: &mut State,
+    places: &[Place],
+    turn: u64,
+) -> Result<Option<List<usize>>, NoMemory>
+    requires search { let net = net_of P.behaviour circuit.now in
+        IsSearch net boards.now ends.now items.now (among sides.now) state.old }
+    requires knot { IsKnot (net_of P.behaviour circuit.now) (among sides.now) }
+    requires sides { let net = net_of P.behaviour circuit.now in
+        (s : ℕ) → among sides.now s ≡ true → s < length (all_sides net.primitives) }
+    requires some_side { 0 < length sides.now }
+    requires places { (k : ℕ) (d : Spot) → k < length places.now
+        → among sides.now (side_of_place (slice_index_or places.now k d)) ≡ true }
+    requires one { let net = net_of P.behaviour circuit.now in
+        OneAtLoops net (among sides.now) (family_of state.old.alive) }
+    ensures first { let net = net_of P.behaviour circuit.now in
+        IfOk result (λ found. MatchOption found (HasNone net (names_of items.now) (among sides.now)
+        (family_of state.old.alive)) (IsFirstWith net (names_of items.now) (among sides.now) turn
+        (family_of state.old.alive) places.now)) }
+    ensures search { let net = net_of P.behaviour circuit.now in
+        OnOk result (IsSearch net boards.now ends.now items.now (among sides.now) state.new) }
+{
+    match walk(
+        alloc, circuit, boards, ends, items, sides, state, places, turn,
+    )? {
+        None => Ok(None),
+        Some(chosen) => Ok(Some(chosen)),
+    }
+}
+
+/// The first assignment of a knot with values in these sets, or `None` exactly where there is none.
+/// It ticks once.
+pub fn arrange<P: Primitive, L: Ledger>(
+    alloc: Global,
+    circuit: &Circuit<P>,
+    knots: &Knots,
+    supply: &Supply,
+    sets: &Sets,
+    knot: usize,
+    turn: u64,
+    steps: &mut Steps<L>,
+) -> Result<Option<Part>, NoMemory>
+    requires knots { AreKnots (net_of P.behaviour circuit.now) knots.now }
+    requires knot { knot < knot_count knots.now }
+    requires items { length supply.now.items ≡ length circuit.now.joints }
+    requires few { (j : ℕ) → length (slice_index_or supply.now.items j []) < 2 ^ 32 }
+    requires one_each { length sets.now.values ≡ length circuit.now.joints }
+    requires numbers { let net = net_of P.behaviour circuit.now in
+        AreInSupply net (in_knot knots.now.numbers knot) supply.now.items (listed sets.now.values) }
+    requires one { let net = net_of P.behaviour circuit.now in
+        OneAtLoops net (in_knot knots.now.numbers knot) (listed sets.now.values) }
+    ensures first { let net = net_of P.behaviour circuit.now in
+        IfOk result (λ found. MatchOption found (HasNoAssignment net (names_of supply.now.items)
+        (in_knot knots.now.numbers knot) (listed sets.now.values))
+        (IsFirstPart net (names_of supply.now.items) (in_knot knots.now.numbers knot) turn
+        (listed sets.now.values))) }
+    ensures ticks { steps.new ≡ steps.old + 1 }
+{
+    steps.tick();
+    circuit.known();
+    let _order = circuit.order();
+    let ends = ends_of(alloc, circuit)?;
+    let boards = boards_of(alloc, circuit, &ends)?;
+    let items = supply.lists();
+    let sides = knots.sides(knot);
+    let places = places_of(alloc, circuit, sides)?;
+    let mut state = begin_with(alloc, circuit, &boards, &ends, items, sides, sets)?;
+    match first_by(
+        alloc,
+        circuit,
+        &boards,
+        &ends,
+        items,
+        sides,
+        &mut state,
+        places.as_slice(),
+        turn,
+    )? {
+        None => Ok(None),
+        Some(chosen) => Ok(Some(part_of(alloc, circuit, sides, chosen.as_slice())?)),
+    }
+}
