@@ -1,0 +1,4 @@
+mod PlainLemmas
+mod ItemLemmas
+mod ProgramLemmas
+mod CountLemmas
