@@ -1,8 +1,8 @@
 -- From pieces that were heard to what hearing a source has come to.
-use Rattle.std.proofs.Common.{◌≡◌, ◌∙◌, ℕ, ◌+◌, ◌-◌, ◌≤◌, ◌<◌, Bool, true, false, List, [], ◌∷◌, ◌++◌, length, take, sym, subst, ap, refl, arith, Result, Ok, Err}
+use Rattle.std.proofs.Common.{◌≡◌, ◌∙◌, ℕ, ◌+◌, ◌-◌, ◌≤◌, Bool, true, false, List, [], ◌∷◌, ◌++◌, length, take, sym, subst, ap, refl, arith, Result, Ok, Err}
 use Rattle.std.proofs.lemmas.List.{append_assoc, length-append, length-take-le, take-append-le}
 use Rattle.std.proofs.lemmas.Grind.{flat_map-append}
-use Rattle.std.specs.Prelude.{Option}
+use Rattle.std.specs.Prelude.{Option, IfOk}
 use Rattle.std.specs.Option.{unwrap_or}
 use Rattle.reo_io.specs.Causes.{Rose}
 use Rattle.reo_io.specs.Sinks.{Appended, TookPart}
@@ -20,11 +20,11 @@ use Rattle.reo_live_base.specs.Live.{Live, beginning}
 use Rattle.reo_live_base.specs.Answers.{answer_text, answers_text}
 use Rattle.reo_live_base.specs.Hearing.{After, Last}
 use Rattle.reo_live_base.specs.Laws.{CutsChangeNothing, HearingExists}
-use Rattle.reo_closings.specs.Sources.{SourceState, SourceChange, Events, AreTaken, AreTakenSoFar, most_events}
-use Rattle.reo_closings.specs.Closings.{Closing, over, many, missed, ends, Closes}
+use Rattle.reo_closings.specs.Sources.{SourceState, Events, AreTaken, most_events}
+use Rattle.reo_closings.specs.Closings.{Closing, over, ends, Closes}
 use Rattle.reo_hearing.specs.declared.heard.Heard.{Heard}
 use Rattle.reo_hearing.specs.declared.heard.Heard.TheVariants as heards
-use Rattle.reo_hearing.specs.Heard.{is_stop, IsHeard, HeardFrom, SoFar, HeardLast, HeardPart, HeardLines, HeardAll}
+use Rattle.reo_hearing.specs.Heard.{IsFew, TookFew, IsHeard, HeardFrom, SoFar, IsNext, HeardLast, HeardPart, HeardLines}
 use Rattle.reo_hearing.specs.Pieces.{Wrote, WroteLast, WrotePart, WroteLines, ComesTo, ComesSomewhere, IsPiece, EndsPiece, IsClose}
 use Rattle.reo_closings.proofs.Taking.{take_both}
 use Rattle.reo_closings.proofs.ClosingLemmas.{closes_over, goes_on}
@@ -139,14 +139,34 @@ module _ {P : Type 0} (r : Rules P) (ports : List Port) (budget : ℕ) (cuts : C
         }
 
     -- A piece with which hearing ends.
-    pub piece_over : (t : Live P) (heard : Heard) → Takes {E = SourceFault} at.told new.told room (Ok count) → EndsPiece r ports budget mid now s (take (most_events - taken) (take count room)) t heard
-        → HeardFrom r ports budget w before now (record { old = old; new = new }) heard
-    piece_over t heards.Ended takes h = (all_of old.told (far.bytes ++ take count room), all_heard takes, piece_last t false takes h)
-    piece_over t heards.Stopped takes h = (all_of old.told (far.bytes ++ take count room), all_heard takes, piece_last t true takes h)
-    piece_over t heards.Many takes h = absurd h
-    piece_over t heards.Missed takes h = absurd h
-    piece_over t heards.Broken takes h = (all_of old.told (far.bytes ++ take count room), all_heard takes, piece_part takes h)
-    piece_over t heards.NoMemory takes h = (all_of old.told (far.bytes ++ take count room), all_heard takes, piece_lines takes h)
+    module _ (fits : count ≤ length room) (few : taken + count ≤ most_events + 1) (takes : Takes {E = SourceFault} at.told new.told room (Ok count)) where
+      piece_few : (heard : Heard) → IsFew heard (length (far.bytes ++ take count room)) → TookFew (record { old = old; new = new }) heard
+      piece_few heard is = record { bytes = far.bytes ++ take count room; taken = taken_more old at new far.bytes room count far.taken takes later; few = is }
+
+      within : length (far.bytes ++ take count room) ≤ most_events + 1
+      within = let is = count_more far.bytes room count taken far.count_is fits in omega (arith, is, few)
+
+      piece_from : (heard : Heard) → IsFew heard (length (far.bytes ++ take count room)) → IsHeard r ports budget w before now (all_of old.told (far.bytes ++ take count room)) heard
+          → HeardFrom r ports budget w before now (record { old = old; new = new }) heard
+      piece_from heard is come = record { events = all_of old.told (far.bytes ++ take count room); taken = all_heard takes; few = piece_few heard is; come = come }
+
+      pub piece_over : (t : Live P) (heard : Heard) → EndsPiece r ports budget mid now s (take (most_events - taken) (take count room)) t heard
+          → HeardFrom r ports budget w before now (record { old = old; new = new }) heard
+      piece_over t heards.Ended h = piece_from heards.Ended within (piece_last t false takes h)
+      piece_over t heards.Stopped h = piece_from heards.Stopped within (piece_last t true takes h)
+      piece_over t heards.Many h = absurd h
+      piece_over t heards.Missed h = absurd h
+      piece_over t heards.Broken h = piece_from heards.Broken within (piece_part takes h)
+      piece_over t heards.NoMemory h = piece_from heards.NoMemory within (piece_lines takes h)
+
+  -- What a piece has come to.
+  pub piece_next : HearingExists r → KeepsShape r → (t : Live P) → count ≤ length room → taken + count ≤ most_events + 1 → Takes {E = SourceFault} at.told new.told room (Ok count)
+      → (result : Result ℕ Heard) → IsPiece r ports budget mid now s (take (most_events - taken) (take count room)) t result → IfOk result (λ n. n ≡ length (take count room))
+      → IsNext r ports budget mid now (record { old = at; new = new }) w before old taken t result
+  piece_next exists k t fits few takes (Ok n) wrote is =
+      let same : count ≡ n = sym (is ∙ length-take-le count room fits) in
+      subst (λ (m : ℕ). SoFar r ports budget w before now old new t (taken + m)) same (far_more t fits takes wrote)
+  piece_next exists k t fits few takes (Err heard) h is = λ order. piece_over exists k order fits few takes t heard h
 
 module _ {P : Type 0} (r : Rules P) (ports : List Port) (budget : ℕ) (w : Wiring P) (before mid : Option (List ℕ)) (old at : SourceState) (s : Live P)
     (taken : ℕ) (unspent : s.stand.over ≡ false) (far : SoFar r ports budget w before mid old at s taken) where
@@ -194,36 +214,56 @@ module _ {P : Type 0} (r : Rules P) (ports : List Port) (budget : ℕ) (w : Wiri
         }
 
     -- The input ends.
-    pub close_over : (new : SourceState) (room : List ℕ) (heard : Heard) → at.faults ≤ new.faults → Takes {E = SourceFault} at.told new.told room (Ok 0) → IsClose r ports budget mid now s heard
-        → HeardFrom r ports budget w before now (record { old = old; new = new }) heard
-    close_over new room heard later takes h =
-        (record { bytes = far.bytes; failed = false }, ended_taken old at new far.bytes room far.taken takes later, close_heard heard h)
+    module _ (new : SourceState) (room : List ℕ) (later : at.faults ≤ new.faults) (takes : Takes {E = SourceFault} at.told new.told room (Ok 0)) where
+      close_within : length (far.bytes ++ take 0 room) ≤ most_events + 1
+      close_within = let is = count_more far.bytes room 0 taken far.count_is (omega arith) in omega (arith, is, few)
+
+      close_from : (heard : Heard) → IsFew heard (length (far.bytes ++ take 0 room)) → IsClose r ports budget mid now s heard → HeardFrom r ports budget w before now (record { old = old; new = new }) heard
+      close_from heard is h = record {
+        events = record { bytes = far.bytes; failed = false };
+        taken = ended_taken old at new far.bytes room far.taken takes later;
+        few = record { bytes = far.bytes ++ take 0 room; taken = taken_more old at new far.bytes room 0 far.taken takes later; few = is };
+        come = close_heard heard h;
+      }
+
+      pub close_over : (heard : Heard) → IsClose r ports budget mid now s heard → HeardFrom r ports budget w before now (record { old = old; new = new }) heard
+      close_over heards.Ended h = close_from heards.Ended close_within h
+      close_over heards.Stopped h = close_from heards.Stopped close_within h
+      close_over heards.Many h = absurd h
+      close_over heards.Missed h = absurd h
+      close_over heards.Broken h = close_from heards.Broken close_within h
+      close_over heards.NoMemory h = close_from heards.NoMemory close_within h
 
   -- A take fails.
   pub missed_over : (fault : SourceFault) (new : SourceState) (room : List ℕ) → taken ≤ most_events → at.faults ≤ new.faults → Rose at.faults new.faults → Takes {E = SourceFault} at.told new.told room (Err fault)
       → HeardFrom r ports budget w before mid (record { old = old; new = new }) heards.Missed
   missed_over fault new room few later rose takes =
-      let so = taken_same fault old at new far.bytes room far.taken takes later in (
-        record { bytes = far.bytes; failed = true },
-        missed_taken old new far.bytes so (Rose-since old.faults at.faults new.faults far.taken.later rose),
-        record {
+      let so = taken_same fault old at new far.bytes room far.taken takes later in
+      let within = short few in
+      record {
+        events = record { bytes = far.bytes; failed = true };
+        taken = missed_taken old new far.bytes so (Rose-since old.faults at.faults new.faults far.taken.later rose);
+        few = record { bytes = far.bytes; taken = so; few = omega (arith, within) };
+        come = record {
           answers = far.answers;
           closes = record { state = s; heard = far.answers; after = far.after; by = (unspent, short few, refl, refl) };
           text = far.text;
-        },
-      )
+        };
+      }
 
   -- There are too many bytes.
-  pub many_over : most_events < taken → HeardFrom r ports budget w before mid (record { old = old; new = at }) heards.Many
+  pub many_over : taken ≡ most_events + 1 → HeardFrom r ports budget w before mid (record { old = old; new = at }) heards.Many
   many_over lot =
       let is = far.count_is in
       let found = rest_of old.told at.told far.bytes far.taken.told in
       let size : length (unwrap_or old.told far.bytes) ≡ length far.bytes + length found.0 = ap (λ (l : List ℕ). length l) found.1 ∙ length-append far.bytes found.0 in
       let whole : most_events ≤ length far.bytes = omega (arith, is, lot) in
-      let cut : take most_events (unwrap_or old.told far.bytes) ≡ take most_events far.bytes = ap (λ (l : List ℕ). take most_events l) found.1 ∙ take-append-le most_events far.bytes found.0 whole in (
-        all_of old.told far.bytes,
-        whole_taken old at far.bytes far.taken,
-        record {
+      let cut : take most_events (unwrap_or old.told far.bytes) ≡ take most_events far.bytes = ap (λ (l : List ℕ). take most_events l) found.1 ∙ take-append-le most_events far.bytes found.0 whole in
+      record {
+        events = all_of old.told far.bytes;
+        taken = whole_taken old at far.bytes far.taken;
+        few = record { bytes = far.bytes; taken = far.taken; few = is ∙ lot };
+        come = record {
           answers = far.answers;
           closes = record {
             state = s;
@@ -232,5 +272,5 @@ module _ {P : Type 0} (r : Rules P) (ports : List Port) (budget : ℕ) (w : Wiri
             by = (unspent, omega (arith, size, is, lot), refl);
           };
           text = far.text;
-        },
-      )
+        };
+      }

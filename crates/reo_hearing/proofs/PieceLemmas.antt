@@ -1,5 +1,5 @@
 -- From what a call that hears something says to how hearing goes on or ends.
-use Rattle.std.proofs.Common.{◌≡◌, ◌∙◌, ℕ, Bool, true, false, List, [], ◌∷◌, ◌++◌, sym, subst, ap, refl, Result, Ok, Err}
+use Rattle.std.proofs.Common.{◌≡◌, ℕ, Bool, true, false, List, subst, refl, Result, Ok, Err}
 use Rattle.std.specs.Prelude.{Option}
 use Rattle.reo_io.specs.Sinks.{Appended}
 use Rattle.reo_net_base.specs.declared.port.Port.{Port}
@@ -10,7 +10,7 @@ use Rattle.reo_live_base.specs.Live.{Live}
 use Rattle.reo_live_base.specs.Answers.{answers_text}
 use Rattle.reo_live_base.specs.Hearing.{Last}
 use Rattle.reo_live.specs.Fed.{Whole, IsFed, IsFinished}
-use Rattle.reo_live.specs.Outcomes.{is_over, outcome_of}
+use Rattle.reo_live.specs.Outcomes.{outcome_of}
 use Rattle.reo_live.specs.declared.fault.Going.{Going}
 use Rattle.reo_live.specs.declared.fault.Going.TheVariants as goings
 use Rattle.reo_live.specs.declared.fault.LiveFault.{LiveFault}

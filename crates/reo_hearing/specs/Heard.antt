@@ -1,8 +1,9 @@
 -- What hearing a source has come to.
-use Rattle.std.specs.Prelude.{ℕ, ◌≡◌, ◌<◌, ◌≤◌, ◌+◌, ◌++◌, Bool, true, false, Option, IfSome, Some, List, [], ◌∷◌, length, take}
+use Rattle.std.specs.Prelude.{ℕ, ◌≡◌, ◌≤◌, ◌+◌, ◌++◌, Bool, true, false, Option, List, [], ◌∷◌, length, take, Result, Ok, Err}
 use Rattle.reo_io.specs.Sinks.{Appended, TookPart}
-use Rattle.reo_net_base.specs.Net.{Wiring}
+use Rattle.reo_net_base.specs.Net.{Wiring, net_of}
 use Rattle.reo_net_base.specs.declared.port.Port.{Port}
+use Rattle.reo_rounds.specs.Order.{HasOrder}
 use Rattle.reo_rounds.specs.Rules.{Rules}
 use Rattle.reo_live_base.specs.declared.answer.Answer.{Answer}
 use Rattle.reo_live_base.specs.declared.answer.Answer.TheVariants as answers
@@ -29,14 +30,27 @@ IsLast many = ⊥
 IsLast missed = ⊥
 IsLast ends = Unit {0}
 
-module _ {P : Type 0} (r : Rules P) (ports : List Port) (budget : ℕ) (w : Wiring P) (before now : Option (List ℕ)) where
+-- Where there are too many bytes, one more is taken than are heard; never are more taken.
+abbrev pub IsFew : Heard → (count : ℕ) → Type 0
+IsFew heards.Many count = count ≡ most_events + 1
+IsFew heard count = count ≤ most_events + 1
+
+-- These bytes were taken from a source.
+pub record TookFew (source : SourceChange) (heard : Heard) : Type 0 where
+  pub bytes : List ℕ
+  pub taken : AreTakenSoFar source.old source.new bytes
+  pub few : IsFew heard (length bytes)
+
+module _ {P : Type 0} (r : Rules P) (ports : List Port) (budget : ℕ) (w : Wiring P)
+    (before now : Option (List ℕ)) where
   -- All answers were written, and hearing closes so.
   pub record HeardAll (events : Events) (closing : Closing) : Type 0 where
     pub answers : List Answer
     pub closes : Closes r ports budget w events closing answers
     pub text : Appended before now (answers_text ports answers)
 
-  -- All answers were written, and the last says that nothing further is judged: since a round cannot be planned, or not.
+  -- All answers were written, and the last says that nothing further is judged: since a round
+  -- cannot be planned, or not.
   pub record HeardLast (events : Events) (stop : Bool) : Type 0 where
     pub closing : Closing
     pub is_last : IsLast closing
@@ -71,10 +85,13 @@ module _ {P : Type 0} (r : Rules P) (ports : List Port) (budget : ℕ) (w : Wiri
   IsHeard events heards.NoMemory = HeardLines events
 
   -- Some events were taken from a source, and hearing them has come to this.
-  abbrev pub HeardFrom : SourceChange → Heard → Type 0
-  HeardFrom source heard = (events : Events) × AreTaken events source × IsHeard events heard
+  pub record HeardFrom (source : SourceChange) (heard : Heard) : Type 0 where
+    pub events : Events
+    pub taken : AreTaken events source
+    pub few : TookFew source heard
+    pub come : IsHeard events heard
 
-  -- So many bytes were taken from a source that was so, those that are heard were answered, and a line more may follow.
+  -- So many bytes were taken from a source that was so, and those that are heard were answered.
   pub record SoFar (old new : SourceState) (live : Live P) (count : ℕ) : Type 0 where
     pub bytes : List ℕ
     pub answers : List Answer
@@ -82,3 +99,19 @@ module _ {P : Type 0} (r : Rules P) (ports : List Port) (budget : ℕ) (w : Wiri
     pub after : After r ports budget (beginning w) (take most_events bytes) live answers
     pub text : Appended before now (answers_text ports answers)
     pub taken : AreTakenSoFar old new bytes
+
+module _ {P : Type 0} (r : Rules P) (ports : List Port) (budget : ℕ) (mid now : Option (List ℕ))
+    (source : SourceChange) where
+  -- One piece more has come to a state, or hearing has ended.
+  abbrev pub IsNext : Wiring P → (before : Option (List ℕ)) → (old : SourceState) → (taken : ℕ)
+      → Live P → Result ℕ Heard → Type 0
+  IsNext w before old taken t (Ok count) =
+      SoFar r ports budget w before now old source.new t (taken + count)
+  IsNext w before old taken t (Err heard) = HasOrder (net_of r.behaviour w)
+      → HeardFrom r ports budget w before now (record { old = old; new = source.new }) heard
+
+  -- So it is wherever hearing began that has come so far.
+  abbrev pub GoesOn : Live P → (taken : ℕ) → Live P → Result ℕ Heard → Type 0
+  GoesOn s taken t result = (w : Wiring P) (before : Option (List ℕ)) (old : SourceState)
+      → SoFar r ports budget w before mid old source.old s taken
+      → IsNext w before old taken t result

@@ -48,7 +48,8 @@ module _ (ports : List Port) (before now : Option (List ℕ)) (Come : List Answe
     pub come : Come (lines ++ rest)
     pub text : Appended before now (answers_text ports lines)
 
-module _ {P : Type 0} (r : Rules P) (ports : List Port) (budget : ℕ) (before now : Option (List ℕ)) where
+module _ {P : Type 0} (r : Rules P) (ports : List Port) (budget : ℕ)
+    (before now : Option (List ℕ)) where
   -- With these answers it has come to this state, and it is over or not.
   abbrev pub ComesTo : Live P → List ℕ → Live P → Bool → List Answer → Type 0
   ComesTo s bytes t over answers = After r ports budget s bytes t answers × (t.stand.over ≡ over)

@@ -12,7 +12,7 @@ use reo_net_base::Ported;
 use std::alloc::Global;
 
 /// The most bytes that are heard.
-const MOST: u64 = 1 << 32;
+pub(crate) const MOST: u64 = 1 << 32;
 
 /// How hearing has ended, by what a call that hears something returned.
 fn heard_of(fault: LiveFault) -> Heard
@@ -27,7 +27,7 @@ fn heard_of(fault: LiveFault) -> Heard
 
 /// Hears a piece behind so many bytes, as far as it lies within those that are heard. It answers
 /// the length of the piece, or how hearing has ended.
-pub fn hear_piece<P: Ported, S: Sink>(
+pub(crate) fn hear_piece<P: Ported, S: Sink>(
     alloc: Global,
     live: &mut Live<P>,
     taken: u64,
@@ -59,12 +59,14 @@ pub fn hear_piece<P: Ported, S: Sink>(
 }
 
 /// Hears that the input ends.
-pub fn hear_end<P: Ported, S: Sink>(alloc: Global, live: &mut Live<P>, out: &mut S) -> Heard
+pub(crate) fn hear_end<P: Ported, S: Sink>(alloc: Global, live: &mut Live<P>, out: &mut S) -> Heard
     requires open { live.old.live.stand.over ≡ false }
     requires few { live.old.live.stand.lines ≤ 2 ^ 32 }
     ensures closed { let r = rules_of P.behaviour P.settled P.port_state P.placed P.withdrawn in
         IsClose r live.old.ports live.old.budget (S.told out.old) (S.told out.new)
         live.old.live result }
+    ensures ports { live.new.ports ≡ live.old.ports }
+    ensures budget { live.new.budget ≡ live.old.budget }
     ensures cause { result ≡ heards.Broken → Rose (S.faults out.old) (S.faults out.new) }
     ensures later { S.faults out.old ≤ S.faults out.new }
     ensures risen { S.faults out.old < S.faults out.new → result ≡ heards.Broken }

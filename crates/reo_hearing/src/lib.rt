@@ -3,6 +3,7 @@
 
 mod heard;
 mod hearing;
+mod taking;
 
 pub use heard::Heard;
-pub use hearing::{hear_end, hear_piece};
+pub use taking::hear;
