@@ -1,7 +1,7 @@
 //! The command: `run CIRCUIT SCRIPT [--budget W] [--rounds N]` writes the trace of the script on
 //! the circuit, `check CIRCUIT` the parts of the circuit, `print CIRCUIT` the canonical text of the
 //! circuit, `verify CIRCUIT SCRIPT TRACE` the verdict on the trace, `bench N` what came of the run
-//! of made work.
+//! of made work, `live CIRCUIT [--budget W]` the answers to the events of the input.
 #![tactic(auto)]
 
 ghost use Rattle.std.specs.Prelude.{◌≡◌, ◌≢◌, [], map, drop, IfErr, IfOk, IsErr, MatchResult};
@@ -13,7 +13,7 @@ ghost use Rattle.reo_command.specs.Commands.{command_of};
 ghost use Rattle.reo_command.specs.Statuses.{IsAmong, statuses_for};
 
 use reo_io::{DiskFiles, Sink, SinkFault, StdSink, StdSource};
-use reo_top::{Status, reo};
+use reo_top::{Command, Status, command_of, reo};
 use reo_values::{Bytes, List, NoMemory};
 use std::alloc::Global;
 use std::env::Args;
@@ -100,15 +100,26 @@ fn status_behind<W: Write + Drop>(
     }
 }
 
-/// The status of the command with these words on the system's files and streams. What is put is
-/// gathered and written in large pieces, or each by itself where there is no memory for that.
-fn status_of(rt: &HostRuntime, words: &List<Bytes>) -> Status
+/// The same, where what is put is gathered and written in large pieces, or each by itself where
+/// there is no memory for that.
+fn gathered_status(rt: &HostRuntime, words: &List<Bytes>) -> Status
     ensures { IsAmong (statuses_for (command_of words.now)) result.code }
 {
     match BufWriter::new(rt.alloc(), io::writer(rt)) {
         Ok(writer) => status_behind(rt, words, writer),
         Err(_) => status_over(rt, words, &mut StdSink::new(io::writer(rt))),
     }
+}
+
+/// The status of the command with these words on the system's files and streams. Where events are
+/// heard each answer is written by itself, so that it is out before more is taken.
+fn status_of(rt: &HostRuntime, words: &List<Bytes>) -> Status
+    ensures { IsAmong (statuses_for (command_of words.now)) result.code }
+{
+    if command_of(words.as_slice()) == Some(Command::Live) {
+        return status_over(rt, words, &mut StdSink::new(io::writer(rt)));
+    }
+    gathered_status(rt, words)
 }
 
 /// What the process ends with: the status of the command with these words on the system's files

@@ -1,7 +1,8 @@
 //! The command on each case of the input: a case a line, its words with one blank between each two;
 //! two blanks have an empty word between them, and an empty line has no words. Behind the line,
 //! `> ..`, stands what the command writes, and then its status, `= ..`. The files that cases name
-//! are those of `data/`. A line that begins with `#` says what the cases below it show.
+//! are those of `data/`. Behind ` < ` stand the events of a case, each `;` for a line feed. A line
+//! that begins with `#` says what the cases below it show.
 //!
 //! Of a case behind `~ ` stands only how many lines the command writes, and the last of them. Such
 //! cases write much; the file `above` of such a case is what the one before it has written.
@@ -29,12 +30,31 @@ pub(crate) fn words_of(alloc: Global, line: &str) -> Result<List<Bytes>, NoMemor
     Ok(words)
 }
 
-/// The status of the command on a case, over the system's files and output, with nothing to read.
+/// The bytes of the events of a case.
+fn events_of(alloc: Global, events: &str) -> Result<Bytes, NoMemory> {
+    let mut bytes = Bytes::new(alloc);
+    for byte in events.as_bytes() {
+        bytes.push(if *byte == b';' { b'\n' } else { *byte })?;
+    }
+    Ok(bytes)
+}
+
+/// The words of a case, and its events.
+fn parts_of(line: &str) -> (&str, &str) {
+    match line.split_once(" < ") {
+        Some(parts) => parts,
+        None => (line, ""),
+    }
+}
+
+/// The status of the command on a case, over the system's files and output, and the events of the
+/// case.
 fn status_of(rt: &HostRuntime, line: &str) -> Result<u8, NoMemory> {
     let alloc: Global = rt.alloc();
-    let words = words_of(alloc, line)?;
+    let (words, events) = parts_of(line);
+    let words = words_of(alloc, words)?;
     let mut files = DiskFiles::new(alloc, rt);
-    let mut source = SureSource::new(alloc, Bytes::new(alloc))?;
+    let mut source = SureSource::new(alloc, events_of(alloc, events)?)?;
     let mut sink = StdSink::new(io::writer(rt));
     Ok(reo(alloc, &words, &mut files, &mut source, &mut sink).code)
 }

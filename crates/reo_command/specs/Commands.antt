@@ -1,12 +1,12 @@
 -- The commands, and their words.
-use Rattle.std.specs.Prelude.{ℕ, ◌==◌, ◌&&◌, Bool, false, not, List, [], ◌∷◌, Option, find, take, drop, length, codes}
+use Rattle.std.specs.Prelude.{ℕ, ◌==◌, ◌&&◌, Bool, true, false, not, List, [], ◌∷◌, Option, find, take, drop, length, codes}
 use Rattle.std.specs.Option.{is_some}
 use Rattle.std.specs.List.{list_all}
 use Rattle.std.specs.Str.{bytes_eq}
 use Rattle.reo_command.specs.declared.amount.Amount.{Amount}
 use Rattle.reo_command.specs.declared.amount.Amount.TheVariants.{Size}
 use Rattle.reo_command.specs.declared.command.Command.{Command}
-use Rattle.reo_command.specs.declared.command.Command.TheVariants.{Run, Check, Print, Verify, Bench}
+use Rattle.reo_command.specs.declared.command.Command.TheVariants.{Run, Check, Print, Verify, Bench, Live}
 use Rattle.reo_command.specs.declared.role.Role.{Role}
 use Rattle.reo_command.specs.declared.role.Role.TheVariants.{Circuit, Script, Trace}
 use Rattle.reo_command.specs.declared.setting.Setting.{Setting}
@@ -16,7 +16,7 @@ use Rattle.reo_command.specs.Settings.{numbers_of}
 
 -- All commands.
 abbrev pub commands : List Command
-commands = Run ∷ Check ∷ Print ∷ Verify ∷ Bench ∷ []
+commands = Run ∷ Check ∷ Print ∷ Verify ∷ Bench ∷ Live ∷ []
 
 -- The first word of a command.
 abbrev pub command_word : Command → List ℕ
@@ -25,6 +25,7 @@ command_word Check = codes "check"
 command_word Print = codes "print"
 command_word Verify = codes "verify"
 command_word Bench = codes "bench"
+command_word Live = codes "live"
 
 -- The files that a command fetches, in order.
 abbrev pub roles_of : Command → List Role
@@ -33,6 +34,7 @@ roles_of Check = Circuit ∷ []
 roles_of Print = Circuit ∷ []
 roles_of Verify = Circuit ∷ Script ∷ Trace ∷ []
 roles_of Bench = []
+roles_of Live = Circuit ∷ []
 
 -- The amounts that a command is told, in order.
 abbrev pub amounts_of : Command → List Amount
@@ -41,6 +43,7 @@ amounts_of Check = []
 amounts_of Print = []
 amounts_of Verify = []
 amounts_of Bench = Size ∷ []
+amounts_of Live = []
 
 -- The options of a command, in order.
 abbrev pub settings_of : Command → List Setting
@@ -49,6 +52,7 @@ settings_of Check = []
 settings_of Print = []
 settings_of Verify = []
 settings_of Bench = []
+settings_of Live = Budget ∷ []
 
 -- Whether what a command writes is free by its definition: then only its status is exact.
 abbrev pub is_free : Command → Bool
@@ -57,6 +61,16 @@ is_free Check = false
 is_free Print = false
 is_free Verify = false
 is_free Bench = false
+is_free Live = false
+
+-- Whether a command takes its events from the source.
+abbrev pub takes_events : Command → Bool
+takes_events Run = false
+takes_events Check = false
+takes_events Print = false
+takes_events Verify = false
+takes_events Bench = false
+takes_events Live = true
 
 -- None of these words is empty.
 abbrev pub none_empty : List (List ℕ) → Bool

@@ -2,7 +2,7 @@
 use Rattle.std.specs.Prelude.{ℕ, ◌==◌, List, [], ◌∷◌, Option, Some, None, IsTrue}
 use Rattle.std.specs.List.{list_any}
 use Rattle.reo_command.specs.declared.command.Command.{Command}
-use Rattle.reo_command.specs.declared.command.Command.TheVariants.{Run, Check, Print, Verify, Bench}
+use Rattle.reo_command.specs.declared.command.Command.TheVariants.{Run, Check, Print, Verify, Bench, Live}
 
 -- Each component is at its end, or another command did its work.
 abbrev pub done : ℕ
@@ -16,11 +16,11 @@ stuck = 1
 abbrev pub words_refused : ℕ
 words_refused = 2
 
--- A file cannot be had.
+-- A file cannot be had, or the source failed.
 abbrev pub read_fault : ℕ
 read_fault = 3
 
--- A file has more bytes than its limit.
+-- A file has more bytes than its limit, or the source has.
 abbrev pub too_long : ℕ
 too_long = 4
 
@@ -63,6 +63,7 @@ statuses_of Check = done ∷ circuit_statuses
 statuses_of Print = done ∷ circuit_statuses
 statuses_of Verify = done ∷ script_refused ∷ trace_refused ∷ circuit_statuses
 statuses_of Bench = done ∷ part_over ∷ write_fault ∷ out_of_memory ∷ []
+statuses_of Live = done ∷ part_over ∷ circuit_statuses
 
 -- The statuses of the command, or of the refusal of words that have none.
 abbrev pub statuses_for : Option Command → List ℕ

@@ -19,15 +19,18 @@ pub enum Command {
     Verify,
     /// `bench N` runs made work of size N, and writes what came of it in one line.
     Bench,
+    /// `live CIRCUIT [--budget N]` hears events from the source, and writes the answers.
+    Live,
 }
 
 /// All commands.
-const COMMANDS: [Command; 5] = [
+const COMMANDS: [Command; 6] = [
     Command::Run,
     Command::Check,
     Command::Print,
     Command::Verify,
     Command::Bench,
+    Command::Live,
 ];
 
 impl Command {
@@ -41,6 +44,7 @@ impl Command {
             Command::Print => b"print",
             Command::Verify => b"verify",
             Command::Bench => b"bench",
+            Command::Live => b"live",
         }
     }
 
@@ -50,7 +54,7 @@ impl Command {
     {
         match self {
             Command::Run => 2,
-            Command::Check | Command::Print => 1,
+            Command::Check | Command::Print | Command::Live => 1,
             Command::Verify => 3,
             Command::Bench => 0,
         }
@@ -62,7 +66,7 @@ impl Command {
     {
         match self {
             Command::Bench => &[Amount::Size],
-            Command::Run | Command::Check | Command::Print | Command::Verify => &[],
+            Command::Run | Command::Check | Command::Print | Command::Verify | Command::Live => &[],
         }
     }
 
@@ -72,6 +76,7 @@ impl Command {
     {
         match self {
             Command::Run => &[Setting::Budget, Setting::Rounds],
+            Command::Live => &[Setting::Budget],
             Command::Check | Command::Print | Command::Verify | Command::Bench => &[],
         }
     }

@@ -20,7 +20,7 @@ mod texts;
 pub use amount::{Amount, size_of};
 pub use claim::{Claim, read_claim};
 pub use command::{Command, command_of};
-pub use limit::{limits_of, usual_limits};
+pub use limit::{budget_of, limits_of, usual_limits};
 pub use made::make_run;
 pub use reading::{Work, read_flat, read_program, read_run};
 pub use refusal::{Refusal, append_refusal};

@@ -1,6 +1,6 @@
 //! How far a run may go, by the words.
 ghost use Rattle.std.specs.Prelude.{◌≡◌, ◌≤◌, ◌^◌};
-ghost use Rattle.reo_command.specs.Limits.{limits_of, number_or_absent, usual_limits};
+ghost use Rattle.reo_command.specs.Limits.{budget_of, limits_of, number_or_absent, usual_limits};
 
 use crate::command::{Command, options_of};
 use crate::setting::{Setting, number_at};
@@ -17,13 +17,13 @@ pub fn usual_limits() -> Limits
     }
 }
 
-/// The number of an option of a run, by its place among the options: that for where it is absent,
-/// where the words are not those of a run.
-fn number_or_absent(words: &[Bytes], place: usize, setting: Setting) -> u64
-    ensures { result ≡ number_or_absent words.now place setting }
+/// The number of an option of a command, by its place among the options: that for where it is
+/// absent, where the words are not those of the command.
+fn number_or_absent(command: Command, words: &[Bytes], place: usize, setting: Setting) -> u64
+    ensures { result ≡ number_or_absent command words.now place setting }
 {
-    let options = options_of(Command::Run, words);
-    let number = number_at(Command::Run.settings(), options, place);
+    let options = options_of(command, words);
+    let number = number_at(command.settings(), options, place);
     number.unwrap_or(setting.absent())
 }
 
@@ -36,7 +36,16 @@ pub fn limits_of(words: &[Bytes]) -> Limits
     ensures few_rounds { result.rounds ≤ 10 ^ 9 }
 {
     Limits {
-        budget: number_or_absent(words, 0, Setting::Budget),
-        rounds: number_or_absent(words, 1, Setting::Rounds),
+        budget: number_or_absent(Command::Run, words, 0, Setting::Budget),
+        rounds: number_or_absent(Command::Run, words, 1, Setting::Rounds),
     }
+}
+
+/// The budget of the rounds that these words hear.
+pub fn budget_of(words: &[Bytes]) -> u64
+    ensures budget { result ≡ budget_of words.now }
+    ensures some { 1 ≤ result }
+    ensures small { result ≤ 10 ^ 9 }
+{
+    number_or_absent(Command::Live, words, 0, Setting::Budget)
 }

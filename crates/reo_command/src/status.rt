@@ -15,10 +15,10 @@ pub const STUCK: u8 = 1;
 /// The words have no form.
 pub const WORDS_REFUSED: u8 = 2;
 
-/// A file cannot be had.
+/// A file cannot be had, or the source fails.
 pub const READ_FAULT: u8 = 3;
 
-/// A file has more bytes than its limit.
+/// A file has more bytes than its limit, or the source has.
 pub const TOO_LONG: u8 = 4;
 
 /// The text of a circuit is refused.

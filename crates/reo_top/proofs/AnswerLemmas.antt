@@ -1,10 +1,10 @@
 -- From what was read and written to what the command has come to.
-use Rattle.std.proofs.Common.{◌≡◌, ◌∙◌, ◌⊎◌, inl, inr, ℕ, false, List, sym, subst, ap, refl, arith}
-use Rattle.std.specs.Prelude.{◌≢◌, Err}
+use Rattle.std.proofs.Common.{◌≡◌, ◌∙◌, ◌⊎◌, inl, inr, ℕ, Bool, true, false, List, sym, subst, ap, refl, arith}
+use Rattle.std.specs.Prelude.{◌≢◌, ◌||◌, Err}
 use Rattle.reo_command.specs.declared.role.Role.{Role}
 use Rattle.reo_command.specs.declared.stop.Stop.{Stop}
 use Rattle.reo_command.specs.declared.stop.Stop.TheVariants.{Missed, TooLong, Refused, NoMemory}
-use Rattle.reo_top.specs.Answers.{Blames, IsAnswered}
+use Rattle.reo_top.specs.Answers.{Blames, IsAnswered, IsAnsweredWith}
 use Rattle.reo_top.specs.Cases.{Cases, IsExact}
 use Rattle.reo_command.specs.Fetched.{Content, has_gone, AreFetched}
 use Rattle.reo_top.specs.Outputs.{Outputs, IsLine}
@@ -55,7 +55,7 @@ module _ {X : Type 0} (Reads : List Content → X → Type 0) (Stops : List Cont
       | inr none ↦ none.1 ∙ ap is_missed (sym none.0)
     ]
 
-    refused_blames : Blames answers code
+    refused_blames : Blames false answers code
     refused_blames = record {
       only = λ three. gone_is ∙ stop_only s sink code h three;
       told = λ gone. stop_told s sink code h (sym gone_is ∙ gone);
@@ -97,9 +97,10 @@ module _ {X : Type 0} (Reads : List Content → X → Type 0) (Stops : List Cont
     pub made_status_in : ((bytes : List ℕ) (status : ℕ) → Makes x bytes status → IsAmong statuses status) → IsAmong statuses 9 → IsAmong statuses 10 → IsAmong statuses code
     made_status_in makes nine ten = code_in (IsAmong statuses) makes nine ten
 
-    pub made_answered : IsExact (Makes x) sink code → ((bytes : List ℕ) (status : ℕ) → Makes x bytes status → status ≢ 3)
-        → (roles : List Role) (names : List (List ℕ)) (files : Change FilesState) → AreFetched roles names answers files → IsAnswered false (owed_by Reads Stops Makes) roles names files sink code
-    made_answered exact not_three roles names files fetched = record {
+    -- A take failed, where the status says so.
+    made_answered_with : (failed : Bool) → IsExact (Makes x) sink code → (code ≡ 3 → (failed || has_gone answers) ≡ true)
+        → (roles : List Role) (names : List (List ℕ)) (files : Change FilesState) → AreFetched roles names answers files → IsAnsweredWith failed false (owed_by Reads Stops Makes) roles names files sink code
+    made_answered_with failed exact three roles names files fetched = record {
       answers = answers;
       fetched = fetched;
       cases = lifted sink code (Makes x) (owed_by Reads Stops Makes answers) (λ bytes status h. inr (x, reads, h)) cases;
@@ -108,7 +109,23 @@ module _ {X : Type 0} (Reads : List Content → X → Type 0) (Stops : List Cont
         | inr made ↦ exact bytes status (subst (λ (y : X). Makes y bytes status) (law.one made.0 x made.1 reads) made.2)
       ];
       blames = record {
-        only = λ three. absurd (code_in (λ k. k ≢ 3) not_three (λ e. omega (arith, e)) (λ e. omega (arith, e)) three);
+        only = three;
         told = λ gone. absurd (true_is_false (has_gone answers) gone (law.here x reads));
       };
     }
+
+    pub made_answered : IsExact (Makes x) sink code → ((bytes : List ℕ) (status : ℕ) → Makes x bytes status → status ≢ 3)
+        → (roles : List Role) (names : List (List ℕ)) (files : Change FilesState) → AreFetched roles names answers files → IsAnswered false (owed_by Reads Stops Makes) roles names files sink code
+    made_answered exact not_three roles names files fetched =
+        made_answered_with false exact (λ three. absurd (code_in (λ k. k ≢ 3) not_three (λ e. omega (arith, e)) (λ e. omega (arith, e)) three)) roles names files fetched
+
+    some_failed : (failed gone : Bool) → failed ≡ true → (failed || gone) ≡ true
+    some_failed true gone is = refl
+    some_failed false gone is = absurd cc
+
+    -- Where a take failed, what was made may say so.
+    pub heard_answered : (failed : Bool) → IsExact (Makes x) sink code → ((bytes : List ℕ) (status : ℕ) → Makes x bytes status → status ≡ 3 → failed ≡ true)
+        → (roles : List Role) (names : List (List ℕ)) (files : Change FilesState) → AreFetched roles names answers files → IsAnsweredWith failed false (owed_by Reads Stops Makes) roles names files sink code
+    heard_answered failed exact is_three roles names files fetched =
+        made_answered_with failed exact
+        (λ three. some_failed failed (has_gone answers) (code_in (λ k. k ≡ 3 → failed ≡ true) is_three (λ e. absurd (omega (arith, e))) (λ e. absurd (omega (arith, e))) three)) roles names files fetched

@@ -8,6 +8,7 @@ use Rattle.reo_trace.specs.declared.line.Ending.TheVariants.{Done, Stuck, Limit,
 use Rattle.reo_command.specs.declared.command.Command.TheVariants.{Run}
 use Rattle.reo_top.specs.Answers.{IsAnswered, Answered}
 use Rattle.reo_top.specs.Cases.{IsFailure, IsFair}
+use Rattle.reo_closings.specs.Sources.{SourceChange, Events}
 use Rattle.reo_command.specs.Commands.{command_of, is_free, roles_of}
 use Rattle.reo_top.specs.Complete.{NothingFailed, IsWhole, Complete, ending_statuses}
 use Rattle.reo_command.specs.Fetched.{Content, has_gone, missed, AreFetched}
@@ -43,18 +44,18 @@ module _ (words : List (List ℕ)) (files : Change FilesState) (sink : Change Si
   no_gone : (names : List (List ℕ)) (answers : List Content) → AreFetched (roles_of Run) names answers files → files.new.failed ≡ files.old.failed → has_gone answers ≡ true → ⊥
   no_gone names answers fetched same is = is_noted names answers fetched.few is (nothing_more files.old.failed (missed names answers) (sym fetched.failed ∙ same))
 
-  module _ (names : List (List ℕ)) (run : IsAnswered (is_free Run) (owed_of Run words) (roles_of Run) names files sink code) (fair : IsFair sink code) (nothing : NothingFailed files sink) (other : code ≢ 10) where
+  module _ (events : Events) (names : List (List ℕ)) (run : IsAnswered (is_free Run) (owed_of Run words events) (roles_of Run) names files sink code) (fair : IsFair sink code) (nothing : NothingFailed files sink) (other : code ≢ 10) where
     no_failure : IsFailure code → ⊥
     no_failure (inl three) = no_gone names run.answers run.fetched nothing.fetches (run.blames.only three)
     no_failure (inr (inl nine)) = nothing.takes (fair.rose nine)
     no_failure (inr (inr ten)) = other ten
 
-  module _ (h : Answered words files sink code) (headline : Headline words files sink code) (fair : IsFair sink code) where
+  module _ (source : SourceChange) (h : Answered words files source sink code) (headline : Headline words files sink code) (fair : IsFair sink code) where
     whole_or_ten : (folder : Folder) (r : Runnable) → files.old.told ≡ Some folder → Accepted words folder r → NothingFailed files sink → code ≢ 10 → IsWhole words r sink code
     whole_or_ten folder r is a nothing other =
-        let run = answered_with words files sink code Run (a.circuit ∷ a.script ∷ []) a.run a.names h in
+        let run = answered_with words files source sink code Run (a.circuit ∷ a.script ∷ []) a.run a.names h in
         let here = subst (λ (o : Option Folder). IfSome o (λ f. (x : Runnable) → Accepted words f x → (IsFailure code → ⊥) → IsTraced (limits_of words) x sink code)) is headline in
-        whole r (here r a (no_failure (a.circuit ∷ a.script ∷ []) run fair nothing other))
+        whole r (here r a (no_failure h.events (a.circuit ∷ a.script ∷ []) run fair nothing other))
 
     told_as : (o : Option Folder) → files.old.told ≡ o → IfSome o (λ folder. (r : Runnable) → Accepted words folder r → NothingFailed files sink → (code ≡ 10) ⊎ IsWhole words r sink code)
     told_as None is = tt

@@ -22,6 +22,7 @@ use Rattle.reo_command.specs.declared.stop.Stop.{Stop}
 use Rattle.reo_command.specs.declared.stop.Stop.TheVariants.{Missed}
 use Rattle.reo_top.specs.Answers.{IsAnswered, Answered}
 use Rattle.reo_top.specs.Cases.{Cases, IsFailure}
+use Rattle.reo_closings.specs.Sources.{SourceChange}
 use Rattle.reo_command.specs.Commands.{command_of, is_free, roles_of}
 use Rattle.reo_command.specs.Fetched.{Content, gone, long, text, unknown, content_of, AreTold}
 use Rattle.reo_top.specs.Headline.{Accepted, IsTraced, Headline}
@@ -164,11 +165,11 @@ module _ (folder : Folder) (c s : List ℕ) (r : Runnable) (reads : ReadsRun (co
     traced answers told (inr (inr ran_out)) = absurd (fine (inr (inr ran_out.code_is)))
 
 -- The headline, from what the call has come to.
-module _ (justified : RunsAreJustified kind_rules) (made : CircuitsAreMade) (plain : NamesArePlain) (words : List (List ℕ)) (files : Change FilesState) (sink : Change SinkState) (code : ℕ) (h : Answered words files sink code) where
+module _ (justified : RunsAreJustified kind_rules) (made : CircuitsAreMade) (plain : NamesArePlain) (words : List (List ℕ)) (files : Change FilesState) (source : SourceChange) (sink : Change SinkState) (code : ℕ) (h : Answered words files source sink code) where
   told_as : (o : Option Folder) → files.old.told ≡ o → IfSome o (λ folder. (r : Runnable) → Accepted words folder r → (IsFailure code → ⊥) → IsTraced (limits_of words) r sink code)
   told_as None is = tt
   told_as (Some folder) is = λ r a fine.
-      let run : IsAnswered (is_free Run) (owed_of Run words) (roles_of Run) (a.circuit ∷ a.script ∷ []) files sink code = answered_with words files sink code Run (a.circuit ∷ a.script ∷ []) a.run a.names h in
+      let run : IsAnswered (is_free Run) (owed_of Run words h.events) (roles_of Run) (a.circuit ∷ a.script ∷ []) files sink code = answered_with words files source sink code Run (a.circuit ∷ a.script ∷ []) a.run a.names h in
       let told : AreTold folder (Circuit ∷ Script ∷ []) (a.circuit ∷ a.script ∷ []) run.answers =
       subst (λ (o : Option Folder). IfSome o (λ f. AreTold f (Circuit ∷ Script ∷ []) (a.circuit ∷ a.script ∷ []) run.answers)) is run.fetched.told in
       traced folder a.circuit a.script r a.reads (limits_of words) justified made plain sink code fine run.answers told run.cases

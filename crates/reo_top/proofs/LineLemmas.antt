@@ -13,10 +13,10 @@ use Rattle.reo_trace.specs.TraceText.{rounds_text}
 abbrev pub Ends : List ℕ → Type 0
 Ends bytes = (front : List ℕ) × (bytes ≡ front ++ codes "\n")
 
-after : (first rest : List ℕ) → Ends rest → Ends (first ++ rest)
+pub after : (first rest : List ℕ) → Ends rest → Ends (first ++ rest)
 after first rest (front, is) = (first ++ front, ap (λ (z : List ℕ). first ++ z) is ∙ sym (append_assoc first front (codes "\n")))
 
-round_ends : (ports : List Port) (line : RoundLine) → Ends (round_text ports line)
+pub round_ends : (ports : List Port) (line : RoundLine) → Ends (round_text ports line)
 unfolding round_text
 round_ends ports line =
     after (codes "round ") _ (after (decimal line.round) _ (after (codes ": ") _ (after (moves_text ports line.idle line.moves) _ (after (codes " | ") _ (spaced entry_text line.entries, refl)))))

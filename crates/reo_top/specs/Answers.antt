@@ -1,28 +1,35 @@
 -- What the top call has come to.
-use Rattle.std.specs.Prelude.{ℕ, ◌≡◌, ◌⊎◌, Bool, true, false, List, [], Option, Some, None}
+use Rattle.std.specs.Prelude.{ℕ, ◌≡◌, ◌⊎◌, ◌&&◌, ◌||◌, Bool, true, false, List, [], Option, Some, None}
 use Rattle.reo_command.specs.declared.command.Command.{Command}
 use Rattle.reo_command.specs.declared.role.Role.{Role}
 use Rattle.reo_top.specs.Cases.{Cases, IsExactFor, IsFair, TellsFaults}
-use Rattle.reo_command.specs.Commands.{command_of, roles_of, is_free, names_of}
+use Rattle.reo_closings.specs.Sources.{SourceChange, Events, AreTaken}
+use Rattle.reo_command.specs.Commands.{command_of, roles_of, is_free, takes_events, names_of}
 use Rattle.reo_command.specs.Fetched.{Content, has_gone, AreFetched}
 use Rattle.reo_top.specs.Outputs.{Outputs}
+use Rattle.reo_top.specs.Heard.{TakesFew}
 use Rattle.reo_top.specs.Owed.{owed_for}
 use Rattle.reo_command.specs.States.{SinkState, FilesState, Change}
 use Rattle.reo_command.specs.Statuses.{IsAmong, statuses_for, read_fault, write_fault}
 
--- A file cannot be had exactly where the status says so, or the sink failed on the line that does.
-pub record Blames (answers : List Content) (code : ℕ) : Type 0 where
-  pub only : code ≡ read_fault → has_gone answers ≡ true
+-- A file cannot be had, or a take failed, where the status says so; and where a file cannot be had the status says so, or the
+-- sink failed on the line that does.
+pub record Blames (failed : Bool) (answers : List Content) (code : ℕ) : Type 0 where
+  pub only : code ≡ read_fault → (failed || has_gone answers) ≡ true
   pub told : has_gone answers ≡ true → (code ≡ read_fault) ⊎ (code ≡ write_fault)
 
--- What a command that fetches such files has come to, for some answers of its fetches: those of the files, where they are
--- told. What was written is what is owed for these answers, and nothing else is.
-pub record IsAnswered (free : Bool) (Owed : List Content → Outputs) (roles : List Role) (names : List (List ℕ)) (files : Change FilesState) (sink : Change SinkState) (code : ℕ) : Type 0 where
+-- What a command that fetches such files has come to, where a take failed or none did, for some answers of its fetches: those
+-- of the files, where they are told. What was written is what is owed for these answers, and nothing else is.
+pub record IsAnsweredWith (failed : Bool) (free : Bool) (Owed : List Content → Outputs) (roles : List Role) (names : List (List ℕ)) (files : Change FilesState) (sink : Change SinkState) (code : ℕ) : Type 0 where
   pub answers : List Content
   pub fetched : AreFetched roles names answers files
   pub cases : Cases (Owed answers) sink code
   pub exact : IsExactFor free (Owed answers) sink code
-  pub blames : Blames answers code
+  pub blames : Blames failed answers code
+
+-- The same, for a command that takes no events.
+abbrev pub IsAnswered : Bool → (List Content → Outputs) → List Role → List (List ℕ) → Change FilesState → Change SinkState → ℕ → Type 0
+IsAnswered = IsAnsweredWith false
 
 -- The files of a command, and their names.
 abbrev pub roles_for : Option Command → List Role
@@ -38,9 +45,29 @@ abbrev pub free_for : Option Command → Bool
 free_for None = false
 free_for (Some command) = is_free command
 
--- What the top call has come to, by its words.
-abbrev pub Answered : List (List ℕ) → Change FilesState → Change SinkState → ℕ → Type 0
-Answered words files sink code = IsAnswered (free_for (command_of words)) (owed_for (command_of words) words) (roles_for (command_of words)) (names_for (command_of words) words) files sink code
+-- Whether the command takes its events from the source.
+abbrev pub takes_for : Option Command → Bool
+takes_for None = false
+takes_for (Some command) = takes_events command
+
+-- What the top call has come to, by its words, for the answers of its fetches.
+abbrev pub AnsweredFor : Option Command → List (List ℕ) → Events → Change FilesState → Change SinkState → ℕ → Type 0
+AnsweredFor o words events files sink code =
+    IsAnsweredWith (takes_for o && events.failed) (free_for o) (owed_for o words events) (roles_for o) (names_for o words) files sink code
+
+-- And for some events of the source: those that it tells, where it does. From the source a front of them was taken.
+pub record Answered (words : List (List ℕ)) (files : Change FilesState) (source : SourceChange) (sink : Change SinkState) (code : ℕ) : Type 0 where
+  pub events : Events
+  pub taken : AreTaken events source
+  pub few : TakesFew source code
+  pub answered : AnsweredFor (command_of words) words events files sink code
+
+-- What hearing the source on a circuit has come to.
+pub record IsHeardAs (free : Bool) (Owed : Events → List Content → Outputs) (roles : List Role) (names : List (List ℕ)) (files : Change FilesState) (source : SourceChange) (sink : Change SinkState) (code : ℕ) : Type 0 where
+  pub events : Events
+  pub taken : AreTaken events source
+  pub few : TakesFew source code
+  pub answered : IsAnsweredWith events.failed free (Owed events) roles names files sink code
 
 -- The status is one of the command's, and says what the sink did.
 pub record IsHonest (words : List (List ℕ)) (sink : Change SinkState) (code : ℕ) : Type 0 where
@@ -48,7 +75,7 @@ pub record IsHonest (words : List (List ℕ)) (sink : Change SinkState) (code : 
   pub fair : IsFair sink code
   pub tells : TellsFaults sink code
 
--- The files tell what they told, and the source is as it was.
-pub record KeepsInputs {R : Type 0} (files : Change FilesState) (before after : R) : Type 0 where
+-- The files tell what they told, and the source is as it was, but for a command that takes events.
+pub record KeepsInputs {R : Type 0} (words : List (List ℕ)) (files : Change FilesState) (before after : R) : Type 0 where
   pub told : files.new.told ≡ files.old.told
-  pub source : after ≡ before
+  pub source : takes_for (command_of words) ≡ false → after ≡ before

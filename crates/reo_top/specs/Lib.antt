@@ -4,6 +4,8 @@ pub mod Complete
 pub mod Headline
 pub mod Measures
 pub mod Outputs
+pub mod Heard
+pub mod Closed
 pub mod Owed
 pub mod Stopped
 pub mod Traces

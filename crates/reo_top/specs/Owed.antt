@@ -9,12 +9,14 @@ use Rattle.reo_trees.specs.declared.programs.Program.{Program}
 use Rattle.reo_syntax.specs.Canonical.{canonical_text}
 use Rattle.reo_inventory.specs.Parts.{parts_text}
 use Rattle.reo_command.specs.declared.command.Command.{Command}
-use Rattle.reo_command.specs.declared.command.Command.TheVariants.{Run, Check, Print, Verify, Bench}
+use Rattle.reo_command.specs.declared.command.Command.TheVariants.{Run, Check, Print, Verify, Bench, Live}
 use Rattle.reo_command.specs.declared.stop.Stop.{Stop}
 use Rattle.reo_command.specs.Claims.{Claimed, ReadsClaim, StopsVerify}
 use Rattle.reo_command.specs.Fetched.{Content}
-use Rattle.reo_command.specs.Limits.{limits_of, firsts_for}
+use Rattle.reo_command.specs.Limits.{limits_of, budget_of, firsts_for}
 use Rattle.reo_command.specs.Amounts.{size_of}
+use Rattle.reo_closings.specs.Sources.{Events}
+use Rattle.reo_top.specs.Heard.{HearsCircuit}
 use Rattle.reo_top.specs.Measures.{MeasuresMade}
 use Rattle.reo_top.specs.Outputs.{Outputs, IsLine}
 use Rattle.reo_command.specs.Readings.{FlatCircuit, Runnable, ReadsProgram, StopsPrint, ReadsCircuit, StopsCheck, ReadsRun, StopsRun}
@@ -49,15 +51,16 @@ JudgesTrace c bytes code =
 
 -- What a command owes for its words: a run the trace of the run within the limits of its options, a check the parts of the
 -- circuit, a print the canonical text of the program, a verification the verdict on the trace, a bench the line of the run of made
--- work within the usual limits, whatever is fetched.
-abbrev pub owed_of : Command → List (List ℕ) → List Content → Outputs
-owed_of Run words = owed_by ReadsRun StopsRun (TracesRun (limits_of words))
-owed_of Check words = owed_by ReadsCircuit StopsCheck ListsParts
-owed_of Print words = owed_by ReadsProgram StopsPrint PrintsProgram
-owed_of Verify words = owed_by ReadsClaim StopsVerify JudgesTrace
-owed_of Bench words = λ answers. MeasuresMade (size_of words)
+-- work within the usual limits, whatever is fetched, and live the answers to the events of the source.
+abbrev pub owed_of : Command → List (List ℕ) → Events → List Content → Outputs
+owed_of Run words events = owed_by ReadsRun StopsRun (TracesRun (limits_of words))
+owed_of Check words events = owed_by ReadsCircuit StopsCheck ListsParts
+owed_of Print words events = owed_by ReadsProgram StopsPrint PrintsProgram
+owed_of Verify words events = owed_by ReadsClaim StopsVerify JudgesTrace
+owed_of Bench words events = λ answers. MeasuresMade (size_of words)
+owed_of Live words events = owed_by ReadsCircuit StopsCheck (HearsCircuit (budget_of words) events)
 
 -- The same, or the refusal of words that have no form, for which nothing is fetched.
-abbrev pub owed_for : Option Command → List (List ℕ) → List Content → Outputs
-owed_for None words answers = λ bytes code. (answers ≡ []) × IsLine (codes "words refused\n") words_refused bytes code
-owed_for (Some command) words answers = owed_of command words answers
+abbrev pub owed_for : Option Command → List (List ℕ) → Events → List Content → Outputs
+owed_for None words events answers = λ bytes code. (answers ≡ []) × IsLine (codes "words refused\n") words_refused bytes code
+owed_for (Some command) words events answers = owed_of command words events answers

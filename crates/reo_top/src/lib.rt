@@ -4,6 +4,7 @@
 mod answer;
 mod append;
 mod checking;
+mod hearing;
 mod measuring;
 mod printing;
 mod refusing;

@@ -3,15 +3,17 @@ ghost use Rattle.std.specs.Prelude.{◌≡◌, [], slice_index_or};
 ghost use Rattle.reo_top.specs.Answers.{Answered, IsHonest, KeepsInputs};
 ghost use Rattle.reo_top.specs.Complete.{Complete};
 ghost use Rattle.reo_top.specs.Headline.{Headline};
+ghost use Rattle.reo_closings.specs.Sources.{source_change};
 ghost use Rattle.reo_command.specs.States.{files_change, sink_change};
 
 use crate::answer::answer;
 use crate::checking::check_circuit;
+use crate::hearing::hear_events;
 use crate::measuring::measure_work;
 use crate::printing::print_circuit;
 use crate::running::run_circuit;
 use crate::verifying::verify_claim;
-use reo_command::{Command, Status, WORDS_REFUSED, command_of, limits_of, size_of};
+use reo_command::{Command, Status, WORDS_REFUSED, budget_of, command_of, limits_of, size_of};
 use reo_flatten_laws::{circuits_are_made, names_are_plain};
 use reo_io::{Files, Sink, Source};
 use reo_kinds::Kind;
@@ -29,7 +31,8 @@ fn word_at(words: &[Bytes], place: usize) -> &[u8]
     }
 }
 
-/// The whole command: its words and files to bytes on the sink, and its status.
+/// The whole command: its words, its files and the events of its source to bytes on the sink, and
+/// its status.
 ///
 /// The headline: for every circuit and script that are accepted the bytes written are a trace
 /// whose every round is the first colouring, is idle only where no colouring flows, and jams only
@@ -49,12 +52,13 @@ pub fn reo<F: Files, R: Source, S: Sink>(
     ensures complete { let files = files_change F.told F.failed F.fetches files.old files.new in
         Complete words.now files (sink_change S.told S.faults out.old out.new) result.code }
     ensures answer { let files = files_change F.told F.failed F.fetches files.old files.new in
-        Answered words.now files (sink_change S.told S.faults out.old out.new) result.code }
+        let source = source_change R.told R.faults source.old source.new in
+        let sink = sink_change S.told S.faults out.old out.new in
+        Answered words.now files source sink result.code }
     ensures honest { IsHonest words.now (sink_change S.told S.faults out.old out.new) result.code }
     ensures inputs { let files = files_change F.told F.failed F.fetches files.old files.new in
-        KeepsInputs files source.old source.new }
+        KeepsInputs words.now files source.old source.new }
 {
-    let _ = source;
     circuits_are_made();
     names_are_plain();
     runs_are_justified::<Kind>();
@@ -79,6 +83,10 @@ pub fn reo<F: Files, R: Source, S: Sink>(
             verify_claim(alloc, circuit, script, word_at(words, 3), files, out)
         }
         Some(Command::Bench) => measure_work(alloc, size_of(words), out),
+        Some(Command::Live) => {
+            let budget = budget_of(words);
+            hear_events(alloc, word_at(words, 1), budget, files, source, out)
+        }
         None => answer(b"words refused\n", WORDS_REFUSED, out),
     }
 }

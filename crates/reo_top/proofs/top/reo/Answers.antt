@@ -1,14 +1,15 @@
 use Rattle.std.proofs.Common.{◌≡◌, ◌∙◌, ℕ, List, [], ◌∷◌, get_or, refl, ap}
 use Rattle.std.specs.Prelude.{Some}
-use Rattle.reo_command.specs.declared.command.Command.TheVariants.{Run, Check, Print, Verify, Bench}
+use Rattle.reo_command.specs.declared.command.Command.TheVariants.{Run, Check, Print, Verify, Bench, Live}
 use Rattle.reo_command.specs.Commands.{command_of, names_of}
 use Rattle.reo_command.specs.Amounts.{size_of}
-use Rattle.reo_command.specs.Limits.{limits_of}
+use Rattle.reo_command.specs.Limits.{limits_of, budget_of}
 use Rattle.reo_command.specs.States.{files_change}
 use Rattle.reo_top.proofs.CompleteLemmas.{complete, complete_else}
 use Rattle.reo_top.proofs.HeadlineLemmas.{headline, headline_else}
-use Rattle.reo_top.proofs.TopLemmas.{answered_as, answered_none, bench_answered, run_answered}
-use Rattle.reo_command.proofs.WordLemmas.{names_fit, check_name, print_name, two_names, three_names, command_seen, none_seen, no_run, is_no_run, word_seen}
+use Rattle.reo_top.proofs.StillLemmas.{still_answered, still_bench, still_none, still_run}
+use Rattle.reo_top.proofs.TopLemmas.{live_answered, live_takes}
+use Rattle.reo_command.proofs.WordLemmas.{names_fit, check_name, live_name, print_name, two_names, three_names, command_seen, none_seen, no_run, is_no_run, word_seen}
 use Rattle.reo_top.proofs.top.reo.Goals as goal
 
 pub returns-in-Some-Run-clause-answer : goal.returns-in-Some-Run-clause-answer
@@ -20,13 +21,13 @@ returns-in-Some-Run-clause-answer g c =
     let second : get_or words 2 [] ≡ c.word_at-in-Some-Run.result.now = word_seen words seen c.as_slice-words.ensures 2 _ c.word_at-in-Some-Run.ensures in
     let names : names_of Run words ≡ c.word_at.result.now ∷ c.word_at-in-Some-Run.result.now ∷ [] = two_names words (names_fit words Run is) ∙ (λ i. first i ∷ second i ∷ []) in
     let limits : c.limits_of-limits.result ≡ limits_of words = c.limits_of-limits.ensures.limits ∙ ap limits_of c.as_slice-words.ensures in
-    run_answered words _ _ _ c.limits_of-limits.result c.word_at.result.now c.word_at-in-Some-Run.result.now is names limits c.run_circuit.ensures.answered
+    still_run g.R.Source.told g.R.Source.faults c.args.source.now words _ _ _ c.limits_of-limits.result c.word_at.result.now c.word_at-in-Some-Run.result.now is names limits c.run_circuit.ensures.answered
 
 pub returns-in-Some-Run-clause-headline : goal.returns-in-Some-Run-clause-headline
-returns-in-Some-Run-clause-headline g c = headline c.runs_are_justified.ensures c.circuits_are_made.ensures c.names_are_plain.ensures c.args.words.now _ _ _ (returns-in-Some-Run-clause-answer g c)
+returns-in-Some-Run-clause-headline g c = headline c.runs_are_justified.ensures c.circuits_are_made.ensures c.names_are_plain.ensures c.args.words.now _ _ _ _ (returns-in-Some-Run-clause-answer g c)
 
 pub returns-in-Some-Run-clause-complete : goal.returns-in-Some-Run-clause-complete
-returns-in-Some-Run-clause-complete g c = complete c.args.words.now _ _ _ (returns-in-Some-Run-clause-answer g c) (returns-in-Some-Run-clause-headline g c) c.run_circuit.ensures.fair
+returns-in-Some-Run-clause-complete g c = complete c.args.words.now _ _ _ _ (returns-in-Some-Run-clause-answer g c) (returns-in-Some-Run-clause-headline g c) c.run_circuit.ensures.fair
 
 pub returns-in-Some-Check-clause-headline : goal.returns-in-Some-Check-clause-headline
 returns-in-Some-Check-clause-headline g c =
@@ -45,7 +46,7 @@ returns-in-Some-Check-clause-answer g c =
     let is : command_of words ≡ Some Check = command_seen words seen c.as_slice-words.ensures _ _ Check c.command_of.ensures c.in-Some-Check.is c.in-Some-Check.field-0-is in
     let first : get_or words 1 [] ≡ c.word_at-in-Some-Check.result.now = word_seen words seen c.as_slice-words.ensures 1 _ c.word_at-in-Some-Check.ensures in
     let names : names_of Check words ≡ c.word_at-in-Some-Check.result.now ∷ [] = check_name words (names_fit words Check is) ∙ (λ i. first i ∷ []) in
-    answered_as words _ _ _ Check (c.word_at-in-Some-Check.result.now ∷ []) is names c.check_circuit.ensures.answered
+    still_answered g.R.Source.told g.R.Source.faults c.args.source.now words _ _ _ Check (c.word_at-in-Some-Check.result.now ∷ []) is names c.check_circuit.ensures.answered
 
 pub returns-in-Some-Print-clause-headline : goal.returns-in-Some-Print-clause-headline
 returns-in-Some-Print-clause-headline g c =
@@ -64,7 +65,7 @@ returns-in-Some-Print-clause-answer g c =
     let is : command_of words ≡ Some Print = command_seen words seen c.as_slice-words.ensures _ _ Print c.command_of.ensures c.in-Some-Print.is c.in-Some-Print.field-0-is in
     let first : get_or words 1 [] ≡ c.word_at-in-Some-Print.result.now = word_seen words seen c.as_slice-words.ensures 1 _ c.word_at-in-Some-Print.ensures in
     let names : names_of Print words ≡ c.word_at-in-Some-Print.result.now ∷ [] = print_name words (names_fit words Print is) ∙ (λ i. first i ∷ []) in
-    answered_as words _ _ _ Print (c.word_at-in-Some-Print.result.now ∷ []) is names c.print_circuit.ensures.answered
+    still_answered g.R.Source.told g.R.Source.faults c.args.source.now words _ _ _ Print (c.word_at-in-Some-Print.result.now ∷ []) is names c.print_circuit.ensures.answered
 
 pub returns-in-Some-Verify-clause-headline : goal.returns-in-Some-Verify-clause-headline
 returns-in-Some-Verify-clause-headline g c =
@@ -86,7 +87,7 @@ returns-in-Some-Verify-clause-answer g c =
     let third : get_or words 3 [] ≡ c.word_at-in-Some-Verify.result.now = word_seen words seen c.as_slice-words.ensures 3 _ c.word_at-in-Some-Verify.ensures in
     let named : names_of Verify words ≡ c.word_at-circuit.result.now ∷ c.word_at-script.result.now ∷ c.word_at-in-Some-Verify.result.now ∷ [] =
     three_names words (names_fit words Verify is) ∙ (λ i. first i ∷ second i ∷ third i ∷ []) in
-    answered_as words _ _ _ Verify (c.word_at-circuit.result.now ∷ c.word_at-script.result.now ∷ c.word_at-in-Some-Verify.result.now ∷ []) is named c.verify_claim.ensures.answered
+    still_answered g.R.Source.told g.R.Source.faults c.args.source.now words _ _ _ Verify (c.word_at-circuit.result.now ∷ c.word_at-script.result.now ∷ c.word_at-in-Some-Verify.result.now ∷ []) is named c.verify_claim.ensures.answered
 
 pub returns-in-Some-Bench-clause-headline : goal.returns-in-Some-Bench-clause-headline
 returns-in-Some-Bench-clause-headline g c =
@@ -103,7 +104,7 @@ returns-in-Some-Bench-clause-answer g c =
     let words : List (List ℕ) = c.args.words.now in
     let is : command_of words ≡ Some Bench = command_seen words c.as_slice-words.result.now c.as_slice-words.ensures _ _ Bench c.command_of.ensures c.in-Some-Bench.is c.in-Some-Bench.field-0-is in
     let size : c.size_of.result ≡ size_of words = c.size_of.ensures.size ∙ ap size_of c.as_slice-words.ensures in
-    bench_answered words _ _ _ c.size_of.result is size c.measure_work.ensures.cases c.measure_work.ensures.exact c.measure_work.ensures.status refl
+    still_bench g.R.Source.told g.R.Source.faults c.args.source.now words _ _ _ c.size_of.result is size c.measure_work.ensures.cases c.measure_work.ensures.exact c.measure_work.ensures.status refl
 
 pub returns-in-None-clause-headline : goal.returns-in-None-clause-headline
 returns-in-None-clause-headline g c =
@@ -119,4 +120,29 @@ pub returns-in-None-clause-answer : goal.returns-in-None-clause-answer
 returns-in-None-clause-answer g c =
     let words : List (List ℕ) = c.args.words.now in
     let is = none_seen words c.as_slice-words.result.now c.as_slice-words.ensures _ c.command_of.ensures c.in-None.is in
-    answered_none words _ _ _ is refl c.answer.ensures.answers
+    still_none g.R.Source.told g.R.Source.faults c.args.source.now words _ _ _ is refl c.answer.ensures.answers
+
+pub returns-in-Some-Live-clause-headline : goal.returns-in-Some-Live-clause-headline
+returns-in-Some-Live-clause-headline g c =
+    let is = command_seen c.args.words.now c.as_slice-words.result.now c.as_slice-words.ensures _ _ Live c.command_of.ensures c.in-Some-Live.is c.in-Some-Live.field-0-is in
+    headline_else c.args.words.now (files_change g.F.Files.told g.F.Files.failed g.F.Files.fetches c.args.files.now c.hear_events.new.files) _ _ (is_no_run (command_of c.args.words.now) Live (λ e. cc) is)
+
+pub returns-in-Some-Live-clause-complete : goal.returns-in-Some-Live-clause-complete
+returns-in-Some-Live-clause-complete g c =
+    let is = command_seen c.args.words.now c.as_slice-words.result.now c.as_slice-words.ensures _ _ Live c.command_of.ensures c.in-Some-Live.is c.in-Some-Live.field-0-is in
+    complete_else c.args.words.now _ _ _ (is_no_run (command_of c.args.words.now) Live (λ e. cc) is)
+
+pub returns-in-Some-Live-clause-answer : goal.returns-in-Some-Live-clause-answer
+returns-in-Some-Live-clause-answer g c =
+    let words : List (List ℕ) = c.args.words.now in
+    let seen : List (List ℕ) = c.as_slice-words.result.now in
+    let is : command_of words ≡ Some Live = command_seen words seen c.as_slice-words.ensures _ _ Live c.command_of.ensures c.in-Some-Live.is c.in-Some-Live.field-0-is in
+    let first : get_or words 1 [] ≡ c.word_at-in-Some-Live.result.now = word_seen words seen c.as_slice-words.ensures 1 _ c.word_at-in-Some-Live.ensures in
+    let names : names_of Live words ≡ c.word_at-in-Some-Live.result.now ∷ [] = live_name words (names_fit words Live is) ∙ (λ i. first i ∷ []) in
+    let budget : c.budget_of-budget.result ≡ budget_of words = c.budget_of-budget.ensures.budget ∙ ap budget_of c.as_slice-words.ensures in
+    live_answered words _ _ _ _ c.budget_of-budget.result c.word_at-in-Some-Live.result.now is names budget c.hear_events.ensures.answered
+
+pub returns-in-Some-Live-clause-inputs : goal.returns-in-Some-Live-clause-inputs
+returns-in-Some-Live-clause-inputs g c =
+    let is = command_seen c.args.words.now c.as_slice-words.result.now c.as_slice-words.ensures _ _ Live c.command_of.ensures c.in-Some-Live.is c.in-Some-Live.field-0-is in
+    record { told = c.hear_events.ensures.answered.answered.fetched.same; source = λ none. absurd (live_takes (command_of c.args.words.now) is none) }
