@@ -1,0 +1,7 @@
+mod Uses
+mod Copies
+mod Later
+mod OneMore
+mod Walks
+mod Numbered
+mod Whole

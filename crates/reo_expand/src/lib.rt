@@ -1,0 +1,13 @@
+//! What a program of version 2 stands for.
+#![tactic(auto)]
+
+mod behind;
+mod copying;
+mod expanding;
+mod families;
+mod laws;
+mod noting;
+mod turned;
+
+pub use expanding::expand;
+pub use laws::{expanded_or_refused, one_expansion};

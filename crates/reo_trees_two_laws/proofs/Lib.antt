@@ -1,0 +1,5 @@
+mod Counted
+mod World
+mod Indexes
+mod Items
+mod Programs
