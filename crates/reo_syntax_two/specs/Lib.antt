@@ -1,0 +1,3 @@
+pub mod IndexText
+pub mod ItemText
+pub mod Canonical

@@ -1,0 +1,8 @@
+//! The canonical text of a circuit program of version 2.
+#![tactic(auto)]
+
+mod indexes;
+mod items;
+mod program;
+
+pub use program::print_two;

@@ -1,0 +1,10 @@
+pub mod Starts
+pub mod Indexes
+pub mod Unfold
+pub mod Items
+pub mod Claims
+pub mod Loops
+pub mod Programs
+pub mod Few
+pub mod Bare
+pub mod Whole

@@ -1,0 +1,2 @@
+pub mod Unlined
+pub mod Written
