@@ -1,0 +1,4 @@
+pub mod Columns
+pub mod Families
+pub mod Flows
+pub mod Marks
