@@ -10,7 +10,6 @@ use Rattle.reo_trees.specs.SaysTwo.{SaysTwo, SaysAny}
 use Rattle.reo_parser.specs.declared.fault.ParseFault.{ParseFault}
 use Rattle.reo_parser_two.proofs.Only.{same}
 use Rattle.reo_expand_base.specs.Expansion.{expansion}
-use Rattle.reo_expand.specs.Laws.{OneExpansion}
 use Rattle.reo_circuit_texts.specs.Circuits.{SaysCircuit}
 
 ok_is : (a b : AnyProgram) → ◌≡◌ {A = Result AnyProgram ParseFault} (Ok a) (Ok b) → a ≡ b
@@ -39,8 +38,8 @@ module _ (text : List ℕ) where
   pub not_both : (p : Program) (q : ProgramTwo) → SaysProgram text p → SaysTwo text q → ⊥
   not_both p q says other = one_is_two p q (one_any text (One p) (Two q) says other)
 
-  pub one_program : OneExpansion → (p q : Program) → SaysCircuit text p → SaysCircuit text q → p ≡ q
-  one_program one p q (inl a) (inl b) = one_of_one p q a b
-  one_program one p q (inl a) (inr (t, b, expanded)) = absurd (not_both p t a b)
-  one_program one p q (inr (s, a, expanded)) (inl b) = absurd (not_both q s b a)
-  one_program one p q (inr (s, a, expanded)) (inr (t, b, other)) = expanded.is ∙ sym (subst (λ (u : ProgramTwo). q ≡ expansion u) (one_of_two t s b a) other.is)
+  pub one_program : (p q : Program) → SaysCircuit text p → SaysCircuit text q → p ≡ q
+  one_program p q (inl a) (inl b) = one_of_one p q a b
+  one_program p q (inl a) (inr (t, b, expanded)) = absurd (not_both p t a b)
+  one_program p q (inr (s, a, expanded)) (inl b) = absurd (not_both q s b a)
+  one_program p q (inr (s, a, expanded)) (inr (t, b, other)) = expanded.is ∙ sym (subst (λ (u : ProgramTwo). q ≡ expansion u) (one_of_two t s b a) other.is)

@@ -1,7 +1,6 @@
 //! Laws of what the texts of circuits say. Each function calls laws alone: its contract is a law.
 ghost use Rattle.reo_circuit_texts.specs.Laws.{CircuitNamesArePlain, CircuitsAreSpelled, OneCircuitProgram};
 
-use reo_expand::one_expansion;
 use reo_expand_laws::{expansions_are_few, expansions_are_spelled};
 use reo_flatten_laws::names_are_plain;
 use reo_trees_laws::programs_are_spelled;
@@ -29,6 +28,4 @@ pub fn circuit_names_are_plain()
 /// No text says, or stands for, two programs.
 pub fn one_circuit_program()
     ensures { OneCircuitProgram }
-{
-    one_expansion();
-}
+{}

@@ -1,9 +1,6 @@
 -- What a verification reads in its files, and what stops it.
 use Rattle.std.proofs.Common.{◌≡◌, ◌∙◌, ℕ, ◌<◌, ◌^◌, false, List, [], ◌∷◌, ◌++◌, length, sym, subst, refl, arith}
-use Rattle.reo_trees.specs.declared.programs.Program.{Program}
-use Rattle.reo_trees.specs.Says.{SaysProgram}
-use Rattle.reo_trees_laws.specs.Spelled.{IsSpelled}
-use Rattle.reo_flatten_laws.specs.FromTexts.{NamesArePlain}
+use Rattle.reo_circuit_texts.specs.Laws.{CircuitsAreSpelled, CircuitNamesArePlain}
 use Rattle.reo_run_texts.specs.Laws.{PortsAreTold}
 use Rattle.reo_trace_texts.specs.declared.trace.Trace.{Trace as Told}
 use Rattle.reo_trace_texts.specs.Laws.{OneAnswer}
@@ -68,7 +65,7 @@ third_gone gone b t r h = absurd h
 third_gone long b t r h = absurd h
 third_gone unknown b t r h = absurd h
 
-module _ (one : OneAnswer) (spelled : (bytes : List ℕ) (p : Program) → SaysProgram bytes p → IsSpelled p) (plain : NamesArePlain) (told : PortsAreTold) where
+module _ (one : OneAnswer) (spelled : CircuitsAreSpelled) (plain : CircuitNamesArePlain) (told : PortsAreTold) where
   circuit_told : (bytes : List ℕ) (flat : FlatCircuit) → length bytes < 2 ^ 63 → IsCircuitText bytes flat → AreTold flat.ports
   circuit_told bytes flat short is =
       let here = told is.program (record { spelled = spelled bytes is.program is.says; plain = plain bytes is.program (omega (arith, short)) is.says; accepted = is.accepted }) in

@@ -18,7 +18,8 @@ use Rattle.reo_command.specs.declared.stop.Stop.TheVariants.{Refused}
 use Rattle.reo_command.specs.Readings.{FlatCircuit, IsCircuitText, CircuitStops, ReadsCircuit, StopsCheck, flat_of}
 use Rattle.reo_command.specs.Refusals.{flat_refusal, RefusesCircuit}
 use Rattle.reo_command.specs.Statuses.{statuses_of}
-use Rattle.reo_command.proofs.CircuitLemmas.{one_program, not_refused, one_refusal}
+use Rattle.reo_circuit_texts.proofs.OneLemmas.{one_program}
+use Rattle.reo_command.proofs.UnfoldingLemmas.{unfolding_apart, unfolding_stop, unfolding_refusal}
 use Rattle.reo_command.proofs.ReadLemmas.{IsOneText, IsOneReading, file_reading}
 use Rattle.reo_command.proofs.ResultLemmas.{some_is, none_is_some}
 
@@ -87,18 +88,18 @@ module _ (bytes : List ℕ) where
       accepted_apart a.program f r told a.accepted (cause_of a.program f (subst (λ (y : Program). IsRefused y f) same refused))
 
   pub circuit_apart : (x : FlatCircuit) (s : Stop) → IsCircuitText bytes x → CircuitStops bytes s → ⊥
-  circuit_apart x s a (inl (r, b, is)) = not_refused bytes a.program r a.says b
+  circuit_apart x s a (inl b) = unfolding_apart bytes a.program s a.says b
   circuit_apart x s a (inr (r, b, is)) = circuit_not_refused x r a b
 
   one_circuit_stop : (s t : Stop) → CircuitStops bytes s → CircuitStops bytes t → s ≡ t
-  one_circuit_stop s t (inl (r, a, is)) (inl (q, b, so)) = is ∙ ap (Refused Circuit) (one_refusal bytes r q a b) ∙ sym so
-  one_circuit_stop s t (inl (r, a, is)) (inr (q, (p, f, says, refused, told), so)) = absurd (not_refused bytes p r says a)
-  one_circuit_stop s t (inr (r, (p, f, says, refused, told), is)) (inl (q, b, so)) = absurd (not_refused bytes p q says b)
+  one_circuit_stop s t (inl a) (inl b) = unfolding_stop bytes s t a b
+  one_circuit_stop s t (inl a) (inr (q, (p, f, says, refused, told), so)) = absurd (unfolding_apart bytes p s says a)
+  one_circuit_stop s t (inr (r, (p, f, says, refused, told), is)) (inl b) = absurd (unfolding_apart bytes p t says b)
   one_circuit_stop s t (inr (r, a, is)) (inr (q, b, so)) = is ∙ ap (Refused Circuit) (one_circuit_refusal r q a b) ∙ sym so
 
   -- Its stops are refusals.
   circuit_refusal : (s : Stop) → CircuitStops bytes s → (r : Refusal) × (s ≡ Refused Circuit r)
-  circuit_refusal s (inl (r, a, is)) = (r, is)
+  circuit_refusal s (inl a) = unfolding_refusal bytes s a
   circuit_refusal s (inr (r, a, is)) = (r, is)
 
 pub circuit_law : IsOneText Circuit IsCircuitText CircuitStops

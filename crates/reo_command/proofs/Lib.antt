@@ -1,4 +1,5 @@
 pub mod CircuitLemmas
+pub mod UnfoldingLemmas
 pub mod ClaimLemmas
 pub mod FetchLemmas
 pub mod FlatLemmas

@@ -24,7 +24,7 @@ module _ (size : ℕ) (work : IsAcceptedWork size) where
 
   read : ReadsMade size accepted
   unfolding accepted
-  read = (record { program = work.program; says = work.says; accepted = work.accepted; is = refl }, work.answered)
+  read = (record { program = work.program; says = inl work.says; accepted = work.accepted; is = refl }, work.answered)
 
   pub only_memory : (stop : Stop) → IsStoppedBy (TextsStop (circuit_text size) (script_text size)) stop → stop ≡ NoMemory
   only_memory (Missed role) h = absurd (texts_apart (circuit_text size) (script_text size) accepted (Missed role) read h)

@@ -4,7 +4,7 @@ use Rattle.std.proofs.lemmas.Bool.Decides.{nat_tests}
 use Rattle.std.specs.Prelude.{Option, Some, None, find, ◌&&◌, ◌==◌}
 use Rattle.reo_command.specs.declared.amount.Amount.{Amount}
 use Rattle.reo_command.specs.declared.command.Command.{Command}
-use Rattle.reo_command.specs.declared.command.Command.TheVariants.{Run, Check, Print, Verify, Live}
+use Rattle.reo_command.specs.declared.command.Command.TheVariants.{Run, Check, Print, Upgrade, Verify, Live}
 use Rattle.reo_command.specs.declared.setting.Setting.{Setting}
 use Rattle.reo_command.specs.Commands.{command_of, command_word, commands, names_of, is_form, fits, roles_of, amounts_of, settings_of}
 
@@ -43,6 +43,9 @@ check_name words e = take_one words e
 
 pub print_name : (words : List (List ℕ)) → length (names_of Print words) ≡ 1 → names_of Print words ≡ get_or words 1 [] ∷ []
 print_name words e = take_one words e
+
+pub upgrade_name : (words : List (List ℕ)) → length (names_of Upgrade words) ≡ 1 → names_of Upgrade words ≡ get_or words 1 [] ∷ []
+upgrade_name words e = take_one words e
 
 pub live_name : (words : List (List ℕ)) → length (names_of Live words) ≡ 1 → names_of Live words ≡ get_or words 1 [] ∷ []
 live_name words e = take_one words e

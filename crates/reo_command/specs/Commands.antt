@@ -6,7 +6,7 @@ use Rattle.std.specs.Str.{bytes_eq}
 use Rattle.reo_command.specs.declared.amount.Amount.{Amount}
 use Rattle.reo_command.specs.declared.amount.Amount.TheVariants.{Size}
 use Rattle.reo_command.specs.declared.command.Command.{Command}
-use Rattle.reo_command.specs.declared.command.Command.TheVariants.{Run, Check, Print, Verify, Bench, Live}
+use Rattle.reo_command.specs.declared.command.Command.TheVariants.{Run, Check, Print, Upgrade, Verify, Bench, Live}
 use Rattle.reo_command.specs.declared.role.Role.{Role}
 use Rattle.reo_command.specs.declared.role.Role.TheVariants.{Circuit, Script, Trace}
 use Rattle.reo_command.specs.declared.setting.Setting.{Setting}
@@ -16,13 +16,14 @@ use Rattle.reo_command.specs.Settings.{numbers_of}
 
 -- All commands.
 abbrev pub commands : List Command
-commands = Run ∷ Check ∷ Print ∷ Verify ∷ Bench ∷ Live ∷ []
+commands = Run ∷ Check ∷ Print ∷ Upgrade ∷ Verify ∷ Bench ∷ Live ∷ []
 
 -- The first word of a command.
 abbrev pub command_word : Command → List ℕ
 command_word Run = codes "run"
 command_word Check = codes "check"
 command_word Print = codes "print"
+command_word Upgrade = codes "upgrade"
 command_word Verify = codes "verify"
 command_word Bench = codes "bench"
 command_word Live = codes "live"
@@ -32,6 +33,7 @@ abbrev pub roles_of : Command → List Role
 roles_of Run = Circuit ∷ Script ∷ []
 roles_of Check = Circuit ∷ []
 roles_of Print = Circuit ∷ []
+roles_of Upgrade = Circuit ∷ []
 roles_of Verify = Circuit ∷ Script ∷ Trace ∷ []
 roles_of Bench = []
 roles_of Live = Circuit ∷ []
@@ -41,6 +43,7 @@ abbrev pub amounts_of : Command → List Amount
 amounts_of Run = []
 amounts_of Check = []
 amounts_of Print = []
+amounts_of Upgrade = []
 amounts_of Verify = []
 amounts_of Bench = Size ∷ []
 amounts_of Live = []
@@ -50,6 +53,7 @@ abbrev pub settings_of : Command → List Setting
 settings_of Run = Budget ∷ Rounds ∷ []
 settings_of Check = []
 settings_of Print = []
+settings_of Upgrade = []
 settings_of Verify = []
 settings_of Bench = []
 settings_of Live = Budget ∷ []
@@ -59,6 +63,7 @@ abbrev pub is_free : Command → Bool
 is_free Run = false
 is_free Check = false
 is_free Print = false
+is_free Upgrade = false
 is_free Verify = false
 is_free Bench = false
 is_free Live = false
@@ -68,6 +73,7 @@ abbrev pub takes_events : Command → Bool
 takes_events Run = false
 takes_events Check = false
 takes_events Print = false
+takes_events Upgrade = false
 takes_events Verify = false
 takes_events Bench = false
 takes_events Live = true

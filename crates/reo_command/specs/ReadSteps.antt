@@ -16,6 +16,11 @@ use Rattle.reo_command.specs.declared.role.Role.{Role}
 use Rattle.reo_command.specs.declared.role.Role.TheVariants as roles
 use Rattle.reo_command.specs.declared.stop.Stop.{Stop}
 use Rattle.reo_command.specs.declared.stop.Stop.TheVariants.{Missed, TooLong, Refused, NoMemory}
+use Rattle.reo_trees.specs.declared.programs.Program.{Program}
+use Rattle.reo_trees.specs.declared.programs_two.ProgramTwo.{ProgramTwo}
+use Rattle.reo_expand_base.specs.declared.fault.ExpandFault.{ExpandFault}
+use Rattle.reo_expand_base.specs.Steps.{IsExpanded, walk_of}
+use Rattle.reo_command.specs.Refusals.{expand_refusal}
 use Rattle.reo_command.specs.Claims.{Claimed, ReadsTrace, StopsTrace}
 use Rattle.reo_command.specs.Fetched.{Content}
 use Rattle.reo_command.specs.Readings.{FlatCircuit, Runnable, ScriptStops, ReadsFile, StopsFile, IsReadFrom}
@@ -32,6 +37,11 @@ IsRefusalOf role wanted NoMemory = Unit {0}
 abbrev pub IsStoppedBy : (Stop → Type 0) → Stop → Type 0
 IsStoppedBy Stops NoMemory = Unit {0}
 IsStoppedBy Stops stop = Stops stop
+
+-- What a program of version 2 stands for, or its first refusal, or memory ran out.
+abbrev pub IsExpandedAs : ProgramTwo → Result Program Stop → Type 0
+IsExpandedAs p (Ok q) = IsExpanded p q
+IsExpandedAs p (Err stop) = IsStoppedBy (λ (s : Stop). (r : Refusal) × (fault : ExpandFault) × (walk_of p ≡ Err fault) × (expand_refusal fault ≡ Some r) × (s ≡ Refused roles.Circuit r)) stop
 
 -- What a text says, or what stops a command for it.
 abbrev pub IsTextRead : {X : Type 0} → (List ℕ → X → Type 0) → (List ℕ → Stop → Type 0) → List ℕ → Result X Stop → Type 0

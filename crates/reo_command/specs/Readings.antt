@@ -4,7 +4,9 @@ use Rattle.reo_net_base.specs.declared.port.Port.{Port}
 use Rattle.reo_net_base.specs.Net.{Wiring}
 use Rattle.reo_kinds.specs.declared.kind.Kind.{Kind}
 use Rattle.reo_trees.specs.declared.programs.Program.{Program}
-use Rattle.reo_trees.specs.Says.{SaysProgram}
+use Rattle.reo_trees.specs.declared.programs_two.AnyProgram.{AnyProgram}
+use Rattle.reo_trees.specs.SaysTwo.{SaysAny}
+use Rattle.reo_circuit_texts.specs.Circuits.{SaysCircuit}
 use Rattle.reo_flat.specs.Flat.{wiring_of_program, ports_of, nodes_of, homes_in}
 use Rattle.reo_flat.specs.Refusals.{IsAccepted}
 use Rattle.reo_scripts.specs.declared.action.Script.{Script}
@@ -15,7 +17,7 @@ use Rattle.reo_command.specs.declared.refusal.Refusal.{Refusal}
 use Rattle.reo_command.specs.declared.stop.Stop.{Stop}
 use Rattle.reo_command.specs.declared.stop.Stop.TheVariants.{Refused, NoMemory}
 use Rattle.reo_command.specs.Fetched.{Content, gone, long, text, unknown, has_gone, AreFetched}
-use Rattle.reo_command.specs.Refusals.{RefusesProgram, RefusesCircuit, RefusesScript}
+use Rattle.reo_command.specs.Refusals.{RefusesProgram, RefusesExpansion, RefusesCircuit, RefusesScript}
 use Rattle.reo_command.specs.States.{FilesState, Change}
 use Rattle.reo_command.specs.Stops.{FileStops}
 
@@ -35,10 +37,11 @@ flat_of program = record {
   homes = homes_in program.declarations;
 }
 
--- The circuit text is accepted as this circuit: it says a program that breaks no rule, and this is what that unfolds to.
+-- The circuit text is accepted as this circuit: it says a program, or one of version 2 that stands for a program, that breaks no
+-- rule, and this is what that unfolds to.
 pub record IsCircuitText (bytes : List ℕ) (flat : FlatCircuit) : Type 0 where
   pub program : Program
-  pub says : SaysProgram bytes program
+  pub says : SaysCircuit bytes program
   pub accepted : IsAccepted program
   pub is : flat ≡ flat_of program
 
@@ -46,9 +49,16 @@ pub record IsCircuitText (bytes : List ℕ) (flat : FlatCircuit) : Type 0 where
 abbrev pub ProgramStops : List ℕ → Stop → Type 0
 ProgramStops bytes stop = (r : Refusal) × RefusesProgram bytes r × (stop ≡ Refused roles.Circuit r)
 
--- So does, but for a print, one that says a program that breaks a rule.
+-- So does, but for a print and an upgrade, one that says a program that stands for none.
+abbrev pub ExpansionStops : List ℕ → Stop → Type 0
+ExpansionStops bytes stop = (r : Refusal) × RefusesExpansion bytes r × (stop ≡ Refused roles.Circuit r)
+
+abbrev pub UnfoldingStops : List ℕ → Stop → Type 0
+UnfoldingStops bytes stop = ProgramStops bytes stop ⊎ ExpansionStops bytes stop
+
+-- And one whose program breaks a rule.
 abbrev pub CircuitStops : List ℕ → Stop → Type 0
-CircuitStops bytes stop = ProgramStops bytes stop ⊎ ((r : Refusal) × RefusesCircuit bytes r × (stop ≡ Refused roles.Circuit r))
+CircuitStops bytes stop = UnfoldingStops bytes stop ⊎ ((r : Refusal) × RefusesCircuit bytes r × (stop ≡ Refused roles.Circuit r))
 
 -- And a script text that is not accepted for these ports.
 abbrev pub ScriptStops : List Port → List ℕ → Stop → Type 0
@@ -64,9 +74,9 @@ abbrev pub StopsFile : Role → (List ℕ → Stop → Type 0) → List Content 
 StopsFile role TextStops (file ∷ []) stop = FileStops role TextStops file stop
 StopsFile role TextStops _ stop = ⊥
 
--- A program in the file of a print.
-abbrev pub ReadsProgram : List Content → Program → Type 0
-ReadsProgram = ReadsFile SaysProgram
+-- A program of either version in the file of a print.
+abbrev pub ReadsProgram : List Content → AnyProgram → Type 0
+ReadsProgram = ReadsFile SaysAny
 
 abbrev pub StopsPrint : List Content → Stop → Type 0
 StopsPrint = StopsFile roles.Circuit ProgramStops

@@ -5,9 +5,14 @@ use Rattle.reo_lexer.specs.declared.token.LexFault.{LexFault}
 use Rattle.reo_lexer.specs.declared.token.LexFault.TheVariants as lexing
 use Rattle.reo_parser.specs.declared.fault.ParseFault.{ParseFault}
 use Rattle.reo_parser.specs.declared.fault.ParseFault.TheVariants as faults
-use Rattle.reo_parser.specs.Parsed.{Answers}
+use Rattle.reo_parser_two.specs.ParsedAny.{AnswersAny}
 use Rattle.reo_trees.specs.declared.programs.Program.{Program}
-use Rattle.reo_trees.specs.Says.{SaysProgram}
+use Rattle.reo_trees.specs.declared.programs_two.ProgramTwo.{ProgramTwo}
+use Rattle.reo_trees.specs.SaysTwo.{SaysTwo}
+use Rattle.reo_expand_base.specs.declared.fault.ExpandFault.{ExpandFault}
+use Rattle.reo_expand_base.specs.declared.fault.ExpandFault.TheVariants as expansions
+use Rattle.reo_expand_base.specs.Steps.{walk_of}
+use Rattle.reo_circuit_texts.specs.Circuits.{SaysCircuit}
 use Rattle.reo_rules.specs.declared.fault.FlatFault.{FlatFault}
 use Rattle.reo_rules.specs.declared.fault.FlatFault.TheVariants as rules
 use Rattle.reo_flat.specs.Refusals.{IsRefused}
@@ -41,6 +46,14 @@ parse_refusal faults.NoMemory = None
 -- A cause on no line.
 abbrev pub on_no_line : List ℕ → Option Refusal
 on_no_line words = Some (record { line = None; words = words })
+
+-- The refusal of a program that has no expansion. Out of memory is none.
+abbrev pub expand_refusal : ExpandFault → Option Refusal
+expand_refusal (expansions.Unbound line name) = on_line line (name ++ codes " unbound")
+expand_refusal (expansions.Index line) = on_line line (codes "index")
+expand_refusal (expansions.Number line) = on_line line (codes "arity")
+expand_refusal expansions.TooMany = on_no_line (codes "too many")
+expand_refusal expansions.NoMemory = None
 
 -- The refusal of a program that breaks a rule. Out of memory is none.
 abbrev pub flat_refusal : FlatFault → Option Refusal
@@ -81,13 +94,17 @@ line_text (Some line) = codes "line " ++ decimal line ++ codes ": "
 abbrev pub refusal_text : Refusal → List ℕ
 refusal_text r = line_text r.line ++ r.words
 
--- The text says no program, and is refused so.
+-- The text says no program of its version, and is refused so.
 abbrev pub RefusesProgram : List ℕ → Refusal → Type 0
-RefusesProgram text r = (fault : ParseFault) × Answers text (Err fault) × (parse_refusal fault ≡ Some r)
+RefusesProgram text r = (fault : ParseFault) × AnswersAny text (Err fault) × (parse_refusal fault ≡ Some r)
 
--- The text says a program that breaks a rule, and is refused so.
+-- The text says a program of version 2 that stands for none, and is refused so, by the first refusal that is met.
+abbrev pub RefusesExpansion : List ℕ → Refusal → Type 0
+RefusesExpansion text r = (program : ProgramTwo) × (fault : ExpandFault) × SaysTwo text program × (walk_of program ≡ Err fault) × (expand_refusal fault ≡ Some r)
+
+-- The text says a program, or one that stands for one, that breaks a rule, and is refused so.
 abbrev pub RefusesCircuit : List ℕ → Refusal → Type 0
-RefusesCircuit text r = (program : Program) × (fault : FlatFault) × SaysProgram text program × IsRefused program fault × (flat_refusal fault ≡ Some r)
+RefusesCircuit text r = (program : Program) × (fault : FlatFault) × SaysCircuit text program × IsRefused program fault × (flat_refusal fault ≡ Some r)
 
 -- The text says no script for these ports, and is refused so.
 abbrev pub RefusesScript : List Port → List ℕ → Refusal → Type 0

@@ -2,7 +2,7 @@
 use Rattle.std.specs.Prelude.{ℕ, ◌==◌, List, [], ◌∷◌, Option, Some, None, IsTrue}
 use Rattle.std.specs.List.{list_any}
 use Rattle.reo_command.specs.declared.command.Command.{Command}
-use Rattle.reo_command.specs.declared.command.Command.TheVariants.{Run, Check, Print, Verify, Bench, Live}
+use Rattle.reo_command.specs.declared.command.Command.TheVariants.{Run, Check, Print, Upgrade, Verify, Bench, Live}
 
 -- Each component is at its end, or another command did its work.
 abbrev pub done : ℕ
@@ -61,6 +61,7 @@ abbrev pub statuses_of : Command → List ℕ
 statuses_of Run = done ∷ stuck ∷ script_refused ∷ part_over ∷ limit_reached ∷ circuit_statuses
 statuses_of Check = done ∷ circuit_statuses
 statuses_of Print = done ∷ circuit_statuses
+statuses_of Upgrade = done ∷ circuit_statuses
 statuses_of Verify = done ∷ script_refused ∷ trace_refused ∷ circuit_statuses
 statuses_of Bench = done ∷ part_over ∷ write_fault ∷ out_of_memory ∷ []
 statuses_of Live = done ∷ part_over ∷ circuit_statuses

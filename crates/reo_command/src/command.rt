@@ -13,8 +13,10 @@ pub enum Command {
     Run,
     /// `check CIRCUIT` writes the parts of the circuit.
     Check,
-    /// `print CIRCUIT` writes the canonical text of the circuit.
+    /// `print CIRCUIT` writes the canonical text of the circuit, of its own version.
     Print,
+    /// `upgrade CIRCUIT` writes the canonical text of the circuit as one of version 2.
+    Upgrade,
     /// `verify CIRCUIT SCRIPT TRACE` writes the verdict on the trace.
     Verify,
     /// `bench N` runs made work of size N, and writes what came of it in one line.
@@ -24,10 +26,11 @@ pub enum Command {
 }
 
 /// All commands.
-const COMMANDS: [Command; 6] = [
+const COMMANDS: [Command; 7] = [
     Command::Run,
     Command::Check,
     Command::Print,
+    Command::Upgrade,
     Command::Verify,
     Command::Bench,
     Command::Live,
@@ -42,6 +45,7 @@ impl Command {
             Command::Run => b"run",
             Command::Check => b"check",
             Command::Print => b"print",
+            Command::Upgrade => b"upgrade",
             Command::Verify => b"verify",
             Command::Bench => b"bench",
             Command::Live => b"live",
@@ -54,7 +58,7 @@ impl Command {
     {
         match self {
             Command::Run => 2,
-            Command::Check | Command::Print | Command::Live => 1,
+            Command::Check | Command::Print | Command::Upgrade | Command::Live => 1,
             Command::Verify => 3,
             Command::Bench => 0,
         }
@@ -66,7 +70,8 @@ impl Command {
     {
         match self {
             Command::Bench => &[Amount::Size],
-            Command::Run | Command::Check | Command::Print | Command::Verify | Command::Live => &[],
+            Command::Run | Command::Check | Command::Print | Command::Upgrade => &[],
+            Command::Verify | Command::Live => &[],
         }
     }
 
@@ -77,7 +82,8 @@ impl Command {
         match self {
             Command::Run => &[Setting::Budget, Setting::Rounds],
             Command::Live => &[Setting::Budget],
-            Command::Check | Command::Print | Command::Verify | Command::Bench => &[],
+            Command::Check | Command::Print | Command::Upgrade => &[],
+            Command::Verify | Command::Bench => &[],
         }
     }
 }

@@ -19,11 +19,11 @@ use reo_flatten::Flat;
 use reo_io::Files;
 use reo_net_base::Ports;
 use reo_scripts::Script;
-use reo_trees::Program;
+use reo_trees::AnyProgram;
 use std::alloc::Global;
 
-/// The program that a file says, or what stops the command.
-pub fn read_program<F: Files>(alloc: Global, name: &[u8], files: &mut F) -> Result<Program, Stop>
+/// The program of either version that a file says, or what stops the command.
+pub fn read_program<F: Files>(alloc: Global, name: &[u8], files: &mut F) -> Result<AnyProgram, Stop>
     ensures { IsReadFrom ReadsProgram StopsPrint (roles.Circuit ∷ []) (name.now ∷ [])
         (files_change F.told F.failed F.fetches files.old files.new) result }
 {
@@ -31,7 +31,8 @@ pub fn read_program<F: Files>(alloc: Global, name: &[u8], files: &mut F) -> Resu
     program_of(alloc, text.as_slice())
 }
 
-/// The flat circuit of the program that a file says, or what stops the command.
+/// The flat circuit of the program that a file says, or for which its program stands, or what stops
+/// the command.
 pub fn read_flat<F: Files>(alloc: Global, name: &[u8], files: &mut F) -> Result<Flat, Stop>
     ensures read { IsReadFrom (λ answers flat. ReadsCircuit answers (circuit_in flat))
         StopsCheck (roles.Circuit ∷ []) (name.now ∷ [])

@@ -1,7 +1,8 @@
 //! Why texts are refused, for all layers alike.
 ghost use Rattle.std.specs.Prelude.{◌≡◌, ◌++◌, IfOk, OnOk, Some};
-ghost use Rattle.reo_command.specs.Refusals.{on_line, on_no_line, lex_refusal, parse_refusal, flat_refusal, script_refusal, trace_refusal, line_text, refusal_text};
+ghost use Rattle.reo_command.specs.Refusals.{on_line, on_no_line, lex_refusal, parse_refusal, expand_refusal, flat_refusal, script_refusal, trace_refusal, line_text, refusal_text};
 
+use reo_expand_base::ExpandFault;
 use reo_lexer::LexFault;
 use reo_parser::ParseFault;
 use reo_rules::FlatFault;
@@ -80,6 +81,21 @@ fn two_on_line(alloc: Global, line: u32, first: &[u8], second: &[u8]) -> Result<
         line: Some(line),
         words,
     })
+}
+
+/// Why a program of version 2 stands for none, by the first refusal. `NoMemory` is out of memory.
+pub(crate) fn expand_refusal(alloc: Global, fault: &ExpandFault) -> Result<Refusal, NoMemory>
+    ensures { IfOk result (λ refusal. expand_refusal fault.now ≡ Some refusal) }
+{
+    match fault {
+        ExpandFault::Unbound { line, name } => {
+            two_on_line(alloc, *line, name.as_slice(), b" unbound")
+        }
+        ExpandFault::Index { line } => on_line(alloc, *line, b"index"),
+        ExpandFault::Number { line } => on_line(alloc, *line, b"arity"),
+        ExpandFault::TooMany => on_no_line(alloc, b"too many"),
+        ExpandFault::NoMemory => Err(NoMemory),
+    }
 }
 
 /// Two words of a cause on no line. `NoMemory` is out of memory.

@@ -1,7 +1,8 @@
 //! What the texts of files say, or what stops a command for them.
 ghost use Rattle.std.specs.Prelude.{◌≡◌, ◌<◌, ◌^◌, IfOk, Ok, length, map};
 ghost use Rattle.std.specs.List.{All};
-ghost use Rattle.reo_trees.specs.Says.{SaysProgram};
+ghost use Rattle.reo_trees.specs.SaysTwo.{SaysAny};
+ghost use Rattle.reo_circuit_texts.specs.Circuits.{SaysCircuit};
 ghost use Rattle.reo_trees_laws.specs.Spelled.{IsSpelled};
 ghost use Rattle.reo_rules.specs.Scopes.{connectors_of};
 ghost use Rattle.reo_flatten_laws.specs.Plain.{HasPlainNames};
@@ -14,24 +15,27 @@ ghost use Rattle.reo_trace_texts.specs.Texts.{IsTraceText};
 ghost use Rattle.reo_verdicts.specs.Replays.{HasText};
 ghost use Rattle.reo_command.specs.declared.role.Role.TheVariants as roles;
 ghost use Rattle.reo_command.specs.Claims.{TraceStops};
-ghost use Rattle.reo_command.specs.Readings.{IsCircuitText, ProgramStops, CircuitStops, ScriptStops};
-ghost use Rattle.reo_command.specs.ReadSteps.{IsRefusalOf, IsTextRead, HasItsPorts, circuit_in};
-ghost use Rattle.reo_command.specs.Refusals.{parse_refusal, flat_refusal, script_refusal, trace_refusal};
+ghost use Rattle.reo_command.specs.Readings.{IsCircuitText, ProgramStops, UnfoldingStops, CircuitStops, ScriptStops};
+ghost use Rattle.reo_command.specs.ReadSteps.{IsRefusalOf, IsExpandedAs, IsTextRead, HasItsPorts, circuit_in};
+ghost use Rattle.reo_command.specs.Refusals.{parse_refusal, expand_refusal, flat_refusal, script_refusal, trace_refusal};
 
-use crate::refusal::{flat_refusal, parse_refusal, script_refusal, trace_refusal};
+use crate::refusal::{expand_refusal, flat_refusal, parse_refusal, script_refusal, trace_refusal};
 use crate::role::Role;
 use crate::stop::Stop;
+use reo_circuit_texts::{circuit_names_are_plain, circuits_are_spelled};
+use reo_expand::expand;
+use reo_expand_base::ExpandFault;
 use reo_flatten::{Flat, FlatFault, flatten};
-use reo_flatten_laws::{homes_fit, names_are_plain};
+use reo_flatten_laws::homes_fit;
 use reo_net_base::Ports;
-use reo_parser::{ParseFault, parse};
+use reo_parser::ParseFault;
+use reo_parser_two::parse_any;
 use reo_run_premises::{flat_ports_fit, scripts_fit};
 use reo_run_texts::ports_are_told;
 use reo_script::read_script;
 use reo_scripts::{Script, ScriptFault};
 use reo_trace_reader::{Trace, TraceFault, read_trace};
-use reo_trees::Program;
-use reo_trees_laws::programs_are_spelled;
+use reo_trees::{AnyProgram, Program, ProgramTwo};
 use std::alloc::Global;
 
 /// What stops a command whose circuit text says no program.
@@ -44,19 +48,52 @@ fn program_stop(alloc: Global, fault: &ParseFault) -> Stop
     }
 }
 
-/// The program that a text says, or what stops the command.
-pub(crate) fn program_of(alloc: Global, text: &[u8]) -> Result<Program, Stop>
+/// The program of either version that a text says, or what stops the command.
+pub(crate) fn program_of(alloc: Global, text: &[u8]) -> Result<AnyProgram, Stop>
     requires few { length text.now < 2 ^ 32 }
-    ensures read { IsTextRead SaysProgram ProgramStops text.now result }
+    ensures { IsTextRead SaysAny ProgramStops text.now result }
+{
+    match parse_any(alloc, text) {
+        Ok(program) => Ok(program),
+        Err(fault) => Err(program_stop(alloc, &fault)),
+    }
+}
+
+/// What stops a command whose program of version 2 stands for none.
+fn expansion_stop(alloc: Global, fault: &ExpandFault) -> Stop
+    ensures { IsRefusalOf roles.Circuit (expand_refusal fault.now) result }
+{
+    match expand_refusal(alloc, fault) {
+        Ok(refusal) => Stop::Refused(Role::Circuit, refusal),
+        Err(_) => Stop::NoMemory,
+    }
+}
+
+/// What a program of version 2 stands for, or what stops the command.
+fn expansion_of(alloc: Global, program: &ProgramTwo) -> Result<Program, Stop>
+    ensures { IsExpandedAs program.now result }
+{
+    match expand(alloc, program) {
+        Ok(program) => Ok(program),
+        Err(fault) => Err(expansion_stop(alloc, &fault)),
+    }
+}
+
+/// The program that a text says, or for which the one that it says stands, or what stops the
+/// command.
+fn unfolding_of(alloc: Global, text: &[u8]) -> Result<Program, Stop>
+    requires few { length text.now < 2 ^ 32 }
+    ensures read { IsTextRead SaysCircuit UnfoldingStops text.now result }
     ensures spelled { IfOk result (λ program. IsSpelled program) }
     ensures plain { IfOk result (λ program.
         All HasPlainNames (connectors_of program.declarations)) }
 {
-    names_are_plain();
-    programs_are_spelled();
-    match parse(alloc, text) {
-        Ok(program) => Ok(program),
-        Err(fault) => Err(program_stop(alloc, &fault)),
+    circuit_names_are_plain();
+    circuits_are_spelled();
+    match program_of(alloc, text) {
+        Ok(AnyProgram::One(program)) => Ok(program),
+        Ok(AnyProgram::Two(program)) => expansion_of(alloc, &program),
+        Err(stop) => Err(stop),
     }
 }
 
@@ -81,7 +118,7 @@ pub(crate) fn circuit_of(alloc: Global, text: &[u8]) -> Result<Flat, Stop>
     homes_fit();
     flat_ports_fit();
     ports_are_told();
-    let program = match program_of(alloc, text) {
+    let program = match unfolding_of(alloc, text) {
         Ok(program) => program,
         Err(stop) => return Err(stop),
     };
