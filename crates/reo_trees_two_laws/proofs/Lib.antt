@@ -1,0 +1,4 @@
+pub mod Indexes
+pub mod Unfold
+pub mod Items
+pub mod Programs
