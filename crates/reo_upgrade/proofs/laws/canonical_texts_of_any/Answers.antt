@@ -1,0 +1,8 @@
+use Rattle.reo_upgrade.proofs.Whole.{says-any, says-upgraded}
+use Rattle.reo_upgrade.proofs.laws.canonical_texts_of_any.Goals as goal
+
+pub returns-clause-says : goal.returns-clause-says
+returns-clause-says c text p h = says-any text p h
+
+pub returns-clause-upgrades : goal.returns-clause-upgrades
+returns-clause-upgrades c text p h = says-upgraded text p h
