@@ -10,6 +10,6 @@ mod support;
 mod tables;
 
 pub use columns::Column;
-pub use live::LiveAt;
+pub use live::{LiveAt, is_flow_of};
 pub use support::has_support;
 pub use tables::tables_of;

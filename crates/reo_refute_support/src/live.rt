@@ -24,7 +24,7 @@ pub struct LiveAt {
 }
 
 /// Whether a value is the flow of the item of this number.
-fn is_flow_of(number: usize, value: JointValue) -> bool
+pub fn is_flow_of(number: usize, value: JointValue) -> bool
     ensures { result ≡ value_eq (Flow number) value }
 {
     match value {

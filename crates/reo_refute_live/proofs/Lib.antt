@@ -1,0 +1,4 @@
+pub mod HoldLemmas
+pub mod OpenLemmas
+pub mod TableLemmas
+pub mod ValueLemmas
