@@ -11,7 +11,7 @@ use Rattle.reo_kinds.specs.Kinds.{behaviour_of}
 use Rattle.reo_kinds.specs.KindLaws.{kind_lawful}
 use Rattle.reo_flat.specs.Flat.{primitives_of, net_of_program}
 use Rattle.reo_flatten_laws.specs.Circuits.{CircuitsAreMade}
-use Rattle.reo_flatten_laws.specs.FromTexts.{NamesArePlain}
+use Rattle.reo_circuit_texts.specs.Laws.{CircuitNamesArePlain}
 use Rattle.reo_runner.specs.declared.outcome.Limits.{Limits}
 use Rattle.reo_at_ports.specs.Kinds.{kind_rules}
 use Rattle.reo_runs.specs.Justified.{RunsAreJustified}
@@ -38,7 +38,7 @@ use Rattle.reo_top.proofs.TopLemmas.{answered_with, told_always}
 use Rattle.reo_command.proofs.WorkLemmas.{run_reading}
 
 -- A circuit that is accepted is put together well.
-wired : CircuitsAreMade → NamesArePlain → (circuit : List ℕ) (flat : FlatCircuit) → length circuit ≤ 1048576 → IsCircuitText circuit flat → IsWired (net_of behaviour_of flat.wiring)
+wired : CircuitsAreMade → CircuitNamesArePlain → (circuit : List ℕ) (flat : FlatCircuit) → length circuit ≤ 1048576 → IsCircuitText circuit flat → IsWired (net_of behaviour_of flat.wiring)
 wired made plain circuit flat few is =
     let parts = made is.program.declarations (plain circuit is.program (omega (arith, few)) is.says) is.accepted.no_break in
     let here : IsWired (net_of_program is.program.declarations) =
@@ -139,10 +139,10 @@ module _ (folder : Folder) (c s : List ℕ) (r : Runnable) (reads : ReadsRun (co
   same_reads (text t ∷ unknown ∷ cs) told x h = absurd h
   same_reads (text t ∷ text u ∷ d ∷ cs) told x h = absurd h
 
-  well : CircuitsAreMade → NamesArePlain → IsWired (net_of behaviour_of r.flat.wiring)
+  well : CircuitsAreMade → CircuitNamesArePlain → IsWired (net_of behaviour_of r.flat.wiring)
   well made plain = let circuit = circuit_there A B r reads in wired made plain circuit.bytes r.flat (size_of Circuit (file_of folder c) circuit.bytes circuit.is) circuit.reads
 
-  module _ (limits : Limits) (justified : RunsAreJustified kind_rules) (made : CircuitsAreMade) (plain : NamesArePlain) (sink : Change SinkState) (code : ℕ) (fine : IsFailure code → ⊥) where
+  module _ (limits : Limits) (justified : RunsAreJustified kind_rules) (made : CircuitsAreMade) (plain : CircuitNamesArePlain) (sink : Change SinkState) (code : ℕ) (fine : IsFailure code → ⊥) where
     traced : (answers : List Content) → AreTold folder (Circuit ∷ Script ∷ []) (c ∷ s ∷ []) answers → Cases (owed_by ReadsRun StopsRun (TracesRun limits) answers) sink code → IsTraced limits r sink code
     traced answers told (inl wrote) = elim wrote.owed [
       | inl stopped ↦ absurd (fine (inl (stopped.2.1 ∙ only_missed answers told stopped.0 stopped.1)))
@@ -165,7 +165,7 @@ module _ (folder : Folder) (c s : List ℕ) (r : Runnable) (reads : ReadsRun (co
     traced answers told (inr (inr ran_out)) = absurd (fine (inr (inr ran_out.code_is)))
 
 -- The headline, from what the call has come to.
-module _ (justified : RunsAreJustified kind_rules) (made : CircuitsAreMade) (plain : NamesArePlain) (words : List (List ℕ)) (files : Change FilesState) (source : SourceChange) (sink : Change SinkState) (code : ℕ) (h : Answered words files source sink code) where
+module _ (justified : RunsAreJustified kind_rules) (made : CircuitsAreMade) (plain : CircuitNamesArePlain) (words : List (List ℕ)) (files : Change FilesState) (source : SourceChange) (sink : Change SinkState) (code : ℕ) (h : Answered words files source sink code) where
   told_as : (o : Option Folder) → files.old.told ≡ o → IfSome o (λ folder. (r : Runnable) → Accepted words folder r → (IsFailure code → ⊥) → IsTraced (limits_of words) r sink code)
   told_as None is = tt
   told_as (Some folder) is = λ r a fine.

@@ -5,11 +5,12 @@ use Rattle.reo_at_ports.specs.Kinds.{kind_rules}
 use Rattle.reo_runs.specs.Run.{start_of}
 use Rattle.reo_verdicts.specs.declared.verdict.Verdict.{Verdict}
 use Rattle.reo_verdicts.specs.Verdicts.{IsVerdict}
-use Rattle.reo_trees.specs.declared.programs.Program.{Program}
-use Rattle.reo_syntax.specs.Canonical.{canonical_text}
+use Rattle.reo_trees.specs.declared.programs_two.AnyProgram.{AnyProgram}
+use Rattle.reo_syntax_two.specs.Canonical.{canonical_text_two}
+use Rattle.reo_upgrade.specs.Upgraded.{upgraded, canonical_text_any}
 use Rattle.reo_inventory.specs.Parts.{parts_text}
 use Rattle.reo_command.specs.declared.command.Command.{Command}
-use Rattle.reo_command.specs.declared.command.Command.TheVariants.{Run, Check, Print, Verify, Bench, Live}
+use Rattle.reo_command.specs.declared.command.Command.TheVariants.{Run, Check, Print, Upgrade, Verify, Bench, Live}
 use Rattle.reo_command.specs.declared.stop.Stop.{Stop}
 use Rattle.reo_command.specs.Claims.{Claimed, ReadsClaim, StopsVerify}
 use Rattle.reo_command.specs.Fetched.{Content}
@@ -31,9 +32,13 @@ owed_by {X} Reads Stops Makes answers bytes code =
     ((stop : Stop) × Stops answers stop × IsLine (stop_text stop) (stop_status stop) bytes code)
     ⊎ ((x : X) × Reads answers x × Makes x bytes code)
 
--- The canonical text of a program.
-abbrev pub PrintsProgram : Program → Outputs
-PrintsProgram program = IsLine (canonical_text program) done
+-- The canonical text of a program, of its own version.
+abbrev pub PrintsProgram : AnyProgram → Outputs
+PrintsProgram program = IsLine (canonical_text_any program) done
+
+-- That of the program as one of version 2.
+abbrev pub UpgradesProgram : AnyProgram → Outputs
+UpgradesProgram program = IsLine (canonical_text_two (upgraded program)) done
 
 -- The parts of a circuit, line by line.
 abbrev pub ListsParts : FlatCircuit → Outputs
@@ -50,12 +55,13 @@ JudgesTrace c bytes code =
     × IsLine (verdict_line verdict) (verdict_status verdict) bytes code
 
 -- What a command owes for its words: a run the trace of the run within the limits of its options, a check the parts of the
--- circuit, a print the canonical text of the program, a verification the verdict on the trace, a bench the line of the run of made
+-- circuit, a print the canonical text of the program, an upgrade that of version 2, a verification the verdict on the trace, a bench the line of the run of made
 -- work within the usual limits, whatever is fetched, and live the answers to the events of the source.
 abbrev pub owed_of : Command → List (List ℕ) → Events → List Content → Outputs
 owed_of Run words events = owed_by ReadsRun StopsRun (TracesRun (limits_of words))
 owed_of Check words events = owed_by ReadsCircuit StopsCheck ListsParts
 owed_of Print words events = owed_by ReadsProgram StopsPrint PrintsProgram
+owed_of Upgrade words events = owed_by ReadsProgram StopsPrint UpgradesProgram
 owed_of Verify words events = owed_by ReadsClaim StopsVerify JudgesTrace
 owed_of Bench words events = λ answers. MeasuresMade (size_of words)
 owed_of Live words events = owed_by ReadsCircuit StopsCheck (HearsCircuit (budget_of words) events)

@@ -10,11 +10,12 @@ use crate::answer::answer;
 use crate::checking::check_circuit;
 use crate::hearing::hear_events;
 use crate::measuring::measure_work;
-use crate::printing::print_circuit;
+use crate::printing::{print_circuit, upgrade_circuit};
 use crate::running::run_circuit;
 use crate::verifying::verify_claim;
+use reo_circuit_texts::circuit_names_are_plain;
 use reo_command::{Command, Status, WORDS_REFUSED, budget_of, command_of, limits_of, size_of};
-use reo_flatten_laws::{circuits_are_made, names_are_plain};
+use reo_flatten_laws::circuits_are_made;
 use reo_io::{Files, Sink, Source};
 use reo_kinds::Kind;
 use reo_runs::runs_are_justified;
@@ -60,7 +61,7 @@ pub fn reo<F: Files, R: Source, S: Sink>(
         KeepsInputs words.now files source.old source.new }
 {
     circuits_are_made();
-    names_are_plain();
+    circuit_names_are_plain();
     runs_are_justified::<Kind>();
     let words = words.as_slice();
     match command_of(words) {
@@ -77,6 +78,7 @@ pub fn reo<F: Files, R: Source, S: Sink>(
         }
         Some(Command::Check) => check_circuit(alloc, word_at(words, 1), files, out),
         Some(Command::Print) => print_circuit(alloc, word_at(words, 1), files, out),
+        Some(Command::Upgrade) => upgrade_circuit(alloc, word_at(words, 1), files, out),
         Some(Command::Verify) => {
             let circuit = word_at(words, 1);
             let script = word_at(words, 2);

@@ -17,12 +17,11 @@ ghost use Rattle.reo_command.specs.Statuses.{IsAmong, statuses_of};
 use crate::answer::{answer, no_memory};
 use crate::refusing::refuse;
 use crate::verdict::{verdict_line, verdict_status};
+use reo_circuit_texts::{circuit_names_are_plain, circuits_are_spelled};
 use reo_command::{Claim, Status, Work, read_claim};
-use reo_flatten_laws::names_are_plain;
 use reo_io::{Files, Sink};
 use reo_run_texts::ports_are_told;
 use reo_trace_texts::one_answer;
-use reo_trees_laws::programs_are_spelled;
 use reo_verify::verify_trace;
 use std::alloc::Global;
 
@@ -70,8 +69,8 @@ pub(crate) fn verify_claim<F: Files, S: Sink>(
     ensures fair { IsFair (sink_change S.told S.faults out.old out.new) result.code }
     ensures tells { TellsFaults (sink_change S.told S.faults out.old out.new) result.code }
 {
-    names_are_plain();
-    programs_are_spelled();
+    circuit_names_are_plain();
+    circuits_are_spelled();
     ports_are_told();
     one_answer();
     match read_claim(alloc, circuit, script, trace, files) {

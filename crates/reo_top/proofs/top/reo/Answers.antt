@@ -1,6 +1,6 @@
 use Rattle.std.proofs.Common.{◌≡◌, ◌∙◌, ℕ, List, [], ◌∷◌, get_or, refl, ap}
 use Rattle.std.specs.Prelude.{Some}
-use Rattle.reo_command.specs.declared.command.Command.TheVariants.{Run, Check, Print, Verify, Bench, Live}
+use Rattle.reo_command.specs.declared.command.Command.TheVariants.{Run, Check, Print, Upgrade, Verify, Bench, Live}
 use Rattle.reo_command.specs.Commands.{command_of, names_of}
 use Rattle.reo_command.specs.Amounts.{size_of}
 use Rattle.reo_command.specs.Limits.{limits_of, budget_of}
@@ -9,7 +9,7 @@ use Rattle.reo_top.proofs.CompleteLemmas.{complete, complete_else}
 use Rattle.reo_top.proofs.HeadlineLemmas.{headline, headline_else}
 use Rattle.reo_top.proofs.StillLemmas.{still_answered, still_bench, still_none, still_run}
 use Rattle.reo_top.proofs.TopLemmas.{live_answered, live_takes}
-use Rattle.reo_command.proofs.WordLemmas.{names_fit, check_name, live_name, print_name, two_names, three_names, command_seen, none_seen, no_run, is_no_run, word_seen}
+use Rattle.reo_command.proofs.WordLemmas.{names_fit, check_name, live_name, print_name, upgrade_name, two_names, three_names, command_seen, none_seen, no_run, is_no_run, word_seen}
 use Rattle.reo_top.proofs.top.reo.Goals as goal
 
 pub returns-in-Some-Run-clause-answer : goal.returns-in-Some-Run-clause-answer
@@ -24,7 +24,7 @@ returns-in-Some-Run-clause-answer g c =
     still_run g.R.Source.told g.R.Source.faults c.args.source.now words _ _ _ c.limits_of-limits.result c.word_at.result.now c.word_at-in-Some-Run.result.now is names limits c.run_circuit.ensures.answered
 
 pub returns-in-Some-Run-clause-headline : goal.returns-in-Some-Run-clause-headline
-returns-in-Some-Run-clause-headline g c = headline c.runs_are_justified.ensures c.circuits_are_made.ensures c.names_are_plain.ensures c.args.words.now _ _ _ _ (returns-in-Some-Run-clause-answer g c)
+returns-in-Some-Run-clause-headline g c = headline c.runs_are_justified.ensures c.circuits_are_made.ensures c.circuit_names_are_plain.ensures c.args.words.now _ _ _ _ (returns-in-Some-Run-clause-answer g c)
 
 pub returns-in-Some-Run-clause-complete : goal.returns-in-Some-Run-clause-complete
 returns-in-Some-Run-clause-complete g c = complete c.args.words.now _ _ _ _ (returns-in-Some-Run-clause-answer g c) (returns-in-Some-Run-clause-headline g c) c.run_circuit.ensures.fair
@@ -66,6 +66,25 @@ returns-in-Some-Print-clause-answer g c =
     let first : get_or words 1 [] ≡ c.word_at-in-Some-Print.result.now = word_seen words seen c.as_slice-words.ensures 1 _ c.word_at-in-Some-Print.ensures in
     let names : names_of Print words ≡ c.word_at-in-Some-Print.result.now ∷ [] = print_name words (names_fit words Print is) ∙ (λ i. first i ∷ []) in
     still_answered g.R.Source.told g.R.Source.faults c.args.source.now words _ _ _ Print (c.word_at-in-Some-Print.result.now ∷ []) is names c.print_circuit.ensures.answered
+
+pub returns-in-Some-Upgrade-clause-headline : goal.returns-in-Some-Upgrade-clause-headline
+returns-in-Some-Upgrade-clause-headline g c =
+    let is = command_seen c.args.words.now c.as_slice-words.result.now c.as_slice-words.ensures _ _ Upgrade c.command_of.ensures c.in-Some-Upgrade.is c.in-Some-Upgrade.field-0-is in
+    headline_else c.args.words.now (files_change g.F.Files.told g.F.Files.failed g.F.Files.fetches c.args.files.now c.upgrade_circuit.new.files) _ _ (is_no_run (command_of c.args.words.now) Upgrade (λ e. cc) is)
+
+pub returns-in-Some-Upgrade-clause-complete : goal.returns-in-Some-Upgrade-clause-complete
+returns-in-Some-Upgrade-clause-complete g c =
+    let is = command_seen c.args.words.now c.as_slice-words.result.now c.as_slice-words.ensures _ _ Upgrade c.command_of.ensures c.in-Some-Upgrade.is c.in-Some-Upgrade.field-0-is in
+    complete_else c.args.words.now _ _ _ (is_no_run (command_of c.args.words.now) Upgrade (λ e. cc) is)
+
+pub returns-in-Some-Upgrade-clause-answer : goal.returns-in-Some-Upgrade-clause-answer
+returns-in-Some-Upgrade-clause-answer g c =
+    let words : List (List ℕ) = c.args.words.now in
+    let seen : List (List ℕ) = c.as_slice-words.result.now in
+    let is : command_of words ≡ Some Upgrade = command_seen words seen c.as_slice-words.ensures _ _ Upgrade c.command_of.ensures c.in-Some-Upgrade.is c.in-Some-Upgrade.field-0-is in
+    let first : get_or words 1 [] ≡ c.word_at-in-Some-Upgrade.result.now = word_seen words seen c.as_slice-words.ensures 1 _ c.word_at-in-Some-Upgrade.ensures in
+    let names : names_of Upgrade words ≡ c.word_at-in-Some-Upgrade.result.now ∷ [] = upgrade_name words (names_fit words Upgrade is) ∙ (λ i. first i ∷ []) in
+    still_answered g.R.Source.told g.R.Source.faults c.args.source.now words _ _ _ Upgrade (c.word_at-in-Some-Upgrade.result.now ∷ []) is names c.upgrade_circuit.ensures.answered
 
 pub returns-in-Some-Verify-clause-headline : goal.returns-in-Some-Verify-clause-headline
 returns-in-Some-Verify-clause-headline g c =

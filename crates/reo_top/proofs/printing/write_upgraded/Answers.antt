@@ -1,0 +1,6 @@
+use Rattle.reo_top.specs.Owed.{UpgradesProgram}
+use Rattle.reo_top.proofs.CaseLemmas.{no_memory_cases}
+use Rattle.reo_top.proofs.printing.write_upgraded.Goals as goal
+
+pub returns-in-Err-clause-cases : goal.returns-in-Err-clause-cases
+returns-in-Err-clause-cases g c = no_memory_cases _ _ (UpgradesProgram c.args.program.now) c.no_memory.ensures.says
