@@ -1,9 +1,7 @@
 -- The trace of a run, as a text and as a claim.
 use Rattle.std.proofs.Common.{◌≡◌, ℕ, ◌^◌, ◌≤◌, ◌<◌, List, length, sym, subst}
 use Rattle.reo_trees.specs.declared.programs.Program.{Program}
-use Rattle.reo_trees.specs.Says.{SaysProgram}
-use Rattle.reo_trees_laws.specs.Spelled.{IsSpelled}
-use Rattle.reo_flatten_laws.specs.FromTexts.{NamesArePlain}
+use Rattle.reo_circuit_texts.specs.Laws.{CircuitsAreSpelled, CircuitNamesArePlain}
 use Rattle.reo_scripts.specs.declared.action.Component.{Component}
 use Rattle.reo_trace.specs.declared.line.RoundLine.{RoundLine}
 use Rattle.reo_trace.specs.declared.line.Ending.{Ending}
@@ -20,7 +18,7 @@ abbrev pub trace_with : List RoundLine → Ending → Trace
 trace_with lines ending = record { rounds = lines; ending = ending }
 
 -- The program of a circuit's text is told.
-pub program_told : ((text : List ℕ) (p : Program) → SaysProgram text p → IsSpelled p) → NamesArePlain
+pub program_told : CircuitsAreSpelled → CircuitNamesArePlain
     → (bytes : List ℕ) (flat : FlatCircuit) (circuit : IsCircuitText bytes flat) → length bytes < 2 ^ 64 → IsTold circuit.program
 program_told spelled plain bytes flat circuit short = record {
   spelled = spelled bytes circuit.program circuit.says;

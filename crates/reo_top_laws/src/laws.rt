@@ -3,12 +3,12 @@ ghost use Rattle.reo_top_laws.specs.Words.{LimitsAreSaid};
 ghost use Rattle.reo_top_laws.specs.Certificates.{WrittenTracesAreVerified};
 ghost use Rattle.reo_top_laws.specs.OneTrace.{ThereIsOneTrace};
 
-use reo_flatten_laws::{circuits_are_made, names_are_plain};
+use reo_circuit_texts::{circuit_names_are_plain, circuits_are_spelled};
+use reo_flatten_laws::circuits_are_made;
 use reo_kinds::Kind;
 use reo_net_order::order_exists;
 use reo_run_texts::runs_are_trace_texts;
 use reo_runs::{one_trace, trace_exists};
-use reo_trees_laws::programs_are_spelled;
 use reo_verdicts::runs_are_verified;
 
 /// The words behind the names of a run say a budget and a number of rounds exactly where they are,
@@ -25,7 +25,7 @@ pub fn there_is_one_trace()
     ensures { ThereIsOneTrace }
 {
     circuits_are_made();
-    names_are_plain();
+    circuit_names_are_plain();
     order_exists();
     trace_exists::<Kind>();
     one_trace::<Kind>();
@@ -36,8 +36,8 @@ pub fn there_is_one_trace()
 pub fn written_traces_are_verified()
     ensures { WrittenTracesAreVerified }
 {
-    programs_are_spelled();
-    names_are_plain();
+    circuits_are_spelled();
+    circuit_names_are_plain();
     runs_are_trace_texts();
     runs_are_verified::<Kind>();
 }

@@ -1,4 +1,4 @@
-use Rattle.std.proofs.Common.{refl, arith, length}
+use Rattle.std.proofs.Common.{refl, length}
 use Rattle.reo_verdicts.specs.declared.verdict.Verdict.TheVariants.{Verified}
 use Rattle.reo_verdicts.specs.Said.{jammed}
 use Rattle.reo_runs.specs.Run.{start_of}
@@ -9,7 +9,7 @@ use Rattle.reo_top_laws.proofs.laws.written_traces_are_verified.Goals as goal
 
 pub returns : goal.returns
 returns c words circuit script trace r code short reads t =
-    let told = program_told c.programs_are_spelled.ensures c.names_are_plain.ensures circuit r.flat reads.0 short in
+    let told = program_told c.circuits_are_spelled.ensures c.circuit_names_are_plain.ensures circuit r.flat reads.0 short in
     let budget = (limits_of words).budget in
     let limit = (limits_of words).rounds in
     record {
