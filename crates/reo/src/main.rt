@@ -1,7 +1,8 @@
 //! The command: `run CIRCUIT SCRIPT [--budget W] [--rounds N]` writes the trace of the script on
 //! the circuit, `check CIRCUIT` the parts of the circuit, `print CIRCUIT` the canonical text of the
-//! circuit, `verify CIRCUIT SCRIPT TRACE` the verdict on the trace, `bench N` what came of the run
-//! of made work, `live CIRCUIT [--budget W]` the answers to the events of the input.
+//! circuit, `upgrade CIRCUIT` that of version 2, `verify CIRCUIT SCRIPT TRACE` the verdict on the
+//! trace, `bench N` what came of the run of made work, `live CIRCUIT [--budget W]` the answers to
+//! the events of the input.
 #![tactic(auto)]
 
 ghost use Rattle.std.specs.Prelude.{◌≡◌, ◌≢◌, [], map, drop, IfErr, IfOk, IsErr, MatchResult};
