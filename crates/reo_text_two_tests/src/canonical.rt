@@ -1,7 +1,8 @@
 //! Texts of either version are read, and written in the one layout.
 use crate::checks::is;
-use crate::texts::{any_of, text_of};
+use crate::texts::any_of;
 use reo_parser::ParseFault;
+use reo_upgrade::print_any;
 use std::alloc::Global;
 
 /// Texts in the one layout, together with each form of the grammar: they are written as they are.
@@ -19,6 +20,7 @@ const CANONICAL: &[&str] = &[
     "reo 2\nconnector c() {\n  sync x.(1 + 2 - 3 + a - b + 0 - 1000000000 + c) y;\n}\n",
     "reo 2\nconnector c<n>() {\n  for i = 0 to n {\n  }\n  for j = i + 1 to i - 1 {\n    for k = 0 to j {\n      use d<k>(x.k);\n    }\n    sync x.j y;\n  }\n}\n",
     "reo 2\nconnector c() {\n  for a = 0 to 1 {\n    for b = 0 to 1 {\n      for c = 0 to 1 {\n        for d = 0 to 1 {\n          for e = 0 to 1 {\n            for f = 0 to 1 {\n              for g = 0 to 1 {\n                for h = 0 to 1 {\n                }\n              }\n            }\n          }\n        }\n      }\n    }\n  }\n}\n",
+    "reo 2\nconnector c() {\n  for i = 0 to n - 1 {\n    map a b to ----------------------------------------------------------------it;\n  }\n}\n",
     "reo 2\nconnector for<for>() {\n  node for.(for): unit;\n  for for = for to for {\n    sync for.for shift;\n    shift 1 shift shift;\n    variable variable variable;\n    quota 1 quota quota;\n    use for<for>(for);\n  }\n}\nconnector reo() {\n}\n",
 ];
 
@@ -46,7 +48,7 @@ const WRITTEN: &[(&str, &str)] = &[
 /// What a text is written as, if it is read.
 fn is_written(alloc: Global, text: &str, wanted: &str) -> Result<bool, ParseFault> {
     let program = any_of(alloc, text)?;
-    match text_of(alloc, &program) {
+    match print_any(alloc, &program) {
         Ok(written) => Ok(written.as_slice() == wanted.as_bytes()),
         Err(_) => Err(ParseFault::NoMemory),
     }

@@ -152,8 +152,9 @@ const REFUSED: &[(&str, ParseFault)] = &[
     (NINE_OPEN, TooDeep { line: 3 }),
     (NINE_LATE, Syntax { line: 2 }),
     (NINE_AT_ONCE, Syntax { line: 3 }),
-    // The sixty-fifth parenthesis.
+    // The sixty-fifth parenthesis, and the sixty-fifth operator behind one word `to`.
     (DEEP, TooDeep { line: 2 }),
+    (DEEP_BEHIND, TooDeep { line: 2 }),
 ];
 
 const NINE: &str =
@@ -173,6 +174,9 @@ const NINE_AT_ONCE: &str =
 
 const DEEP: &str =
     "reo 2 connector c() { for i = 0 to 1 { map a b to\n((((((((((((((((((((((((((((((((((((((((((((((((((((((((((((((((((it";
+
+const DEEP_BEHIND: &str =
+    "reo 2 connector c() { for i = 0 to n - 1 { map a b to ----------------------------------------------------------------\n-it; } }";
 
 #[test]
 fn texts_are_refused_at_their_first_fault(rt: HostRuntime) {

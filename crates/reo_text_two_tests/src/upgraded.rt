@@ -1,7 +1,8 @@
 //! Texts of either version are written as ones of version 2.
 use crate::checks::is;
-use crate::texts::{any_of, upgrade_of};
+use crate::texts::any_of;
 use reo_parser::ParseFault;
+use reo_upgrade::upgrade;
 use std::alloc::Global;
 
 /// A text, and the one of version 2 that says the same: small texts, an exclusive router, and a
@@ -36,7 +37,7 @@ const UPGRADED: &[(&str, &str)] = &[
 
 fn is_upgraded(alloc: Global, text: &str, wanted: &str) -> Result<bool, ParseFault> {
     let program = any_of(alloc, text)?;
-    match upgrade_of(alloc, &program) {
+    match upgrade(alloc, &program) {
         Ok(written) => Ok(written.as_slice() == wanted.as_bytes()),
         Err(_) => Err(ParseFault::NoMemory),
     }
