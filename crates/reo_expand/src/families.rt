@@ -49,7 +49,7 @@ fn numbered(
     ensures small { walk.new.count ≤ 65536 }
 {
     for value in values {
-        walk.room.take(connector.name.len() as u64)?;
+        walk.room.take_name(connector.name.as_slice())?;
         let instance = numbered_instance(alloc, &connector.name, number, *value)?;
         let next = copied(walk, alloc, firsts, before, connector, instance)?;
         out.push(next)?;
@@ -75,7 +75,7 @@ fn plain(
         (record { name = connector.now.name; bound = [] })) ∷ []) }
     ensures small { walk.new.count ≤ 65536 }
 {
-    walk.room.take(connector.name.len() as u64)?;
+    walk.room.take_name(connector.name.as_slice())?;
     let name = connector.name.copy(alloc)?;
     let bound = List::new(alloc);
     let instance = Instance { name, bound };
@@ -123,7 +123,7 @@ fn named(
 ) -> Result<(), NoMemory>
     ensures { OnOk result (out.new ≡ out.old ++ declarations.Named line name.now term.now ∷ []) }
 {
-    room.take(name.len() as u64)?;
+    room.take_name(name.as_slice())?;
     let name = name.copy(alloc)?;
     let term = copied_type(alloc, room, term)?;
     out.push(Declaration::Named { line, name, term })?;

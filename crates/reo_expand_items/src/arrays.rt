@@ -24,7 +24,7 @@ fn array_names(
 {
     let mut names = List::new(alloc);
     for place in 0..size {
-        room.take(name.len() as u64)?;
+        room.take_name(name)?;
         let next = placed_name(alloc, name, place as i64)?;
         names.push(next)?;
     }

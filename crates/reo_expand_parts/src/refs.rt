@@ -27,7 +27,7 @@ pub fn node_name(
     ensures { Judges (ref_steps bound.now line node.now) (λ b. b ≡ ref_name bound.now node.now)
         result }
 {
-    room.take(node.name.len() as u64)?;
+    room.take_name(node.name.as_slice())?;
     match &node.place {
         None => {
             let name = node.name.copy(alloc)?;
@@ -95,7 +95,7 @@ pub fn used_name(
     ensures { Judges (index_steps bound.now line 0 number.now)
         (λ b. b ≡ used bound.now name.now number.now) result }
 {
-    room.take(name.len() as u64)?;
+    room.take_name(name.as_slice())?;
     match number {
         None => {
             let name = name.copy(alloc)?;

@@ -49,11 +49,11 @@ fn unit_value(
 {
     let value = match &signed.unit {
         IndexUnit::Number(number) => {
-            room.take(1)?;
+            room.take_unit(0)?;
             *number as i64
         }
         IndexUnit::Name(name) => {
-            room.take(name.len() as u64)?;
+            room.take_unit(name.len())?;
             match bound_to(bound, name.as_slice()) {
                 Some(value) => near(value)?,
                 None => {

@@ -68,7 +68,7 @@ fn enter(
     ensures small { walk.new.count ≤ 65536 }
 {
     walk.counted(1)?;
-    walk.room.take(variable.len() as u64)?;
+    walk.room.take_name(variable.as_slice())?;
     let name = variable.copy(alloc)?;
     bound.push(Bound { name, value })?;
     Ok(())
