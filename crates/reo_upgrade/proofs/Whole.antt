@@ -20,6 +20,7 @@ use Rattle.reo_trees.specs.Programs.{program_form}
 use Rattle.reo_trees.specs.ProgramsTwo.{declarations_two, program_two}
 use Rattle.reo_trees.specs.Says.{SaysProgram, most_levels}
 use Rattle.reo_trees.specs.SaysTwo.{SaysTwo, SaysAny, most_loops}
+use Rattle.reo_trees.proofs.Versions.{one_of_any}
 use Rattle.reo_syntax.specs.Canonical.{canonical_text}
 use Rattle.reo_syntax.specs.Unlined.{bare_item_form, bare_item, bare_parameter, bare_declaration, bare_program, Same}
 use Rattle.reo_syntax.specs.Written.{IsWritten}
@@ -32,10 +33,11 @@ use Rattle.reo_syntax_two_laws.specs.Unlined as two
 use Rattle.reo_syntax_two_laws.specs.Unlined.{SameTwo}
 use Rattle.reo_syntax_two_laws.specs.Written.{SaysSameTwo}
 use Rattle.reo_syntax_two_laws.proofs.Programs.{version-out}
+use Rattle.reo_syntax_two_laws.proofs.Bare as bare_two
 use Rattle.reo_syntax_two_laws.proofs.Whole as whole_two
 use Rattle.reo_syntax_two_laws.proofs.Whole.{out-says}
 use Rattle.reo_expand_base.specs.Lifted.{lifted_form, lifted_item, lifted_declaration, lifted}
-use Rattle.reo_upgrade.specs.Upgraded.{upgraded, canonical_text_any, SaysSameAny}
+use Rattle.reo_upgrade.specs.Upgraded.{upgraded, canonical_text_any, SameAny, SaysSameAny}
 use Rattle.reo_upgrade.proofs.Texts.{lifted-text}
 use Rattle.reo_upgrade.proofs.Programs.{lifted-said}
 use Rattle.reo_upgrade.proofs.Fronts.{the_reo, the_two, nowhere-version}
@@ -105,6 +107,19 @@ says-lifted p (text, (q, s, e)) =
 pub says-any : (text : List ℕ) (p : AnyProgram) → SaysAny text p → SaysSameAny (canonical_text_any p) p
 says-any text (One p) s = let (q, t, e) = says-program p (text, (p, s, refl)) in (One q, t, e)
 says-any text (Two p) s = let (q, t, e) = whole_two.says-program p (text, (p, s, refl)) in (Two q, t, e)
+
+-- No other program is said by it.
+pub says-back : (text : List ℕ) (p q : AnyProgram) → SaysAny text p → SaysAny (canonical_text_any p) q → SameAny p q
+says-back text p q s t = let (r, u, e) = says-any text p s in subst (SameAny p) (one_of_any (canonical_text_any p) r q u t) e
+
+text-same : (p q : AnyProgram) → SameAny p q → canonical_text_any q ≡ canonical_text_any p
+text-same (One p) (One q) e = sym (lines-aside p q e)
+text-same (One p) (Two q) e = absurd e
+text-same (Two p) (One q) e = absurd e
+text-same (Two p) (Two q) e = sym (bare_two.lines-aside p q e)
+
+pub writes-again : (text : List ℕ) (p q : AnyProgram) → SaysAny text p → SaysAny (canonical_text_any p) q → canonical_text_any q ≡ canonical_text_any p
+writes-again text p q s t = text-same p q (says-back text p q s t)
 
 pub says-upgraded : (text : List ℕ) (p : AnyProgram) → SaysAny text p → SaysSameTwo (canonical_text_two (upgraded p)) (upgraded p)
 says-upgraded text (One p) s = says-lifted p (text, (p, s, refl))

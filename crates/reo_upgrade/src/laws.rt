@@ -8,7 +8,7 @@ ghost use Rattle.reo_syntax.specs.Written.{IsWritten};
 ghost use Rattle.reo_syntax_two.specs.Canonical.{canonical_text_two};
 ghost use Rattle.reo_syntax_two_laws.specs.Written.{SaysSameTwo};
 ghost use Rattle.reo_expand_base.specs.Lifted.{lifted};
-ghost use Rattle.reo_upgrade.specs.Upgraded.{upgraded, canonical_text_any, SaysSameAny};
+ghost use Rattle.reo_upgrade.specs.Upgraded.{upgraded, canonical_text_any, SameAny, SaysSameAny};
 
 /// The canonical text of a lifted program is the line `reo 2` and the canonical text of the
 /// program. It says the lifted program, lines aside, where some text says the program, lines aside.
@@ -20,11 +20,16 @@ pub fn lifted_text_says_the_lifted()
 {}
 
 /// The canonical text of a program that a text of either version says, says the same program,
-/// lines aside, and its canonical text of version 2 says the program as one of version 2, lines
+/// lines aside, and no other: whoever reads it back has the same program, lines aside, and writes
+/// the same text. The canonical text of version 2 says the program as one of version 2, lines
 /// aside.
 pub fn canonical_texts_of_any()
     ensures says { (text : List ℕ) (p : AnyProgram) → SaysAny text p
         → SaysSameAny (canonical_text_any p) p }
+    ensures back { (text : List ℕ) (p q : AnyProgram) → SaysAny text p
+        → SaysAny (canonical_text_any p) q → SameAny p q }
+    ensures again { (text : List ℕ) (p q : AnyProgram) → SaysAny text p
+        → SaysAny (canonical_text_any p) q → canonical_text_any q ≡ canonical_text_any p }
     ensures upgrades { (text : List ℕ) (p : AnyProgram) → SaysAny text p
         → SaysSameTwo (canonical_text_two (upgraded p)) (upgraded p) }
 {}
