@@ -1,5 +1,5 @@
 //! The command over objects that fail, which no file brings about: fetches that fail although the
-//! file is there, and sinks that fail in the middle. Tests alone; what files show of the command is
+//! file is there, and sinks and sources that fail in the middle. Tests alone; what files show of the command is
 //! in the cases of `reo_cases`.
 #![tactic(auto)]
 
@@ -11,3 +11,5 @@ mod failing;
 mod objects;
 #[cfg(test)]
 mod sure;
+#[cfg(test)]
+mod talking;

@@ -64,6 +64,13 @@ pub fn memory_sink(
     MemorySink::new(alloc, room, piece.max(1), calls(alloc, failing)?)
 }
 
+/// A source with these events, which gives a byte a call, and of which the call with this number
+/// fails.
+pub fn memory_source(alloc: Global, events: &str, failing: u64) -> Result<MemorySource, NoMemory> {
+    let bytes = Bytes::from_slice(alloc, events.as_bytes())?;
+    MemorySource::new(alloc, bytes, 1, calls(alloc, failing)?)
+}
+
 /// A source with nothing in it.
 pub fn empty_source(alloc: Global) -> Result<MemorySource, NoMemory> {
     MemorySource::new(alloc, Bytes::new(alloc), 1, List::new(alloc))
