@@ -1,0 +1,5 @@
+pub mod Determined
+pub mod Judged
+pub mod Passing
+pub mod Stepping
+pub mod Taking

@@ -1,0 +1,13 @@
+//! Checks logs: that they show that no colouring stands before given rows.
+#![tactic(auto)]
+
+mod checking;
+mod colouring;
+mod going;
+mod lines;
+mod part;
+mod parts;
+mod step;
+mod stop;
+
+pub use checking::check_proof;
