@@ -6,7 +6,9 @@ use reo_parser_two_laws::{first_texts_mean_what_they_meant, second_texts_are_ref
 use reo_syntax_two_laws::canonical_text_two_says_the_program;
 use reo_trees::one_program_of_any;
 use reo_trees_two_laws::programs_two_are_spelled;
-use reo_upgrade::{canonical_texts_of_any, lifted_text_says_the_lifted};
+use reo_upgrade::{
+    canonical_texts_of_any, lifted_programs_are_spelled, lifted_text_says_the_lifted,
+};
 
 #[test]
 fn laws_of_texts(_rt: HostRuntime) {
@@ -20,6 +22,7 @@ fn laws_of_texts(_rt: HostRuntime) {
     canonical_text_two_says_the_program();
     lifted_stands_for_itself();
     lifted_is_walked();
+    lifted_programs_are_spelled();
     lifted_text_says_the_lifted();
     canonical_texts_of_any();
 }

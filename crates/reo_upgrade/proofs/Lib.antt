@@ -4,3 +4,4 @@ pub mod Items
 pub mod Programs
 pub mod Fronts
 pub mod Whole
+pub mod Spelled

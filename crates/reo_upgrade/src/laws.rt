@@ -2,9 +2,11 @@
 ghost use Rattle.std.specs.Prelude.{◌≡◌, ◌++◌, ℕ, List, codes};
 ghost use Rattle.reo_trees.specs.declared.programs.Program.{Program};
 ghost use Rattle.reo_trees.specs.declared.programs_two.AnyProgram.{AnyProgram};
+ghost use Rattle.reo_trees.specs.Says.{SaysProgram};
 ghost use Rattle.reo_trees.specs.SaysTwo.{SaysAny};
 ghost use Rattle.reo_syntax.specs.Canonical.{canonical_text};
 ghost use Rattle.reo_syntax.specs.Written.{IsWritten};
+ghost use Rattle.reo_trees_laws.specs.SpelledTwo.{IsSpelledTwo};
 ghost use Rattle.reo_syntax_two.specs.Canonical.{canonical_text_two};
 ghost use Rattle.reo_syntax_two_laws.specs.Written.{SaysSameTwo};
 ghost use Rattle.reo_expand_base.specs.Lifted.{lifted};
@@ -32,4 +34,10 @@ pub fn canonical_texts_of_any()
         → SaysAny (canonical_text_any p) q → canonical_text_any q ≡ canonical_text_any p }
     ensures upgrades { (text : List ℕ) (p : AnyProgram) → SaysAny text p
         → SaysSameTwo (canonical_text_two (upgraded p)) (upgraded p) }
+{}
+
+/// What a program that a text of version 1 says becomes as one of version 2 is spelled as a text of
+/// version 2 can have it.
+pub fn lifted_programs_are_spelled()
+    ensures { (text : List ℕ) (p : Program) → SaysProgram text p → IsSpelledTwo (lifted p) }
 {}

@@ -4,5 +4,5 @@
 mod laws;
 mod printing;
 
-pub use laws::{canonical_texts_of_any, lifted_text_says_the_lifted};
+pub use laws::{canonical_texts_of_any, lifted_programs_are_spelled, lifted_text_says_the_lifted};
 pub use printing::{print_any, upgrade};
