@@ -1,0 +1,13 @@
+//! Logs, whose answers were found by hand: tests alone.
+#![tactic(auto)]
+
+#[cfg(test)]
+mod building;
+#[cfg(test)]
+mod drain;
+#[cfg(test)]
+mod lines;
+#[cfg(test)]
+mod lists;
+#[cfg(test)]
+mod writers;
