@@ -28,7 +28,7 @@ use Rattle.reo_syntax.specs.TypeText.{type_text}
 use Rattle.reo_syntax.specs.TermText.{term_text}
 use Rattle.reo_syntax.specs.ItemText.{channel_head, channel_tail, held_text}
 use Rattle.reo_syntax.specs.Unlined.{bare_type, bare_literal, bare_term, bare_held, bare_channel}
-use Rattle.reo_syntax.proofs.Row.{is_apart}
+use Rattle.reo_syntax.proofs.Row.{is_apart, apart-cut}
 use Rattle.reo_syntax.proofs.Again.{Out, out-both, out-left, out-right, out-made, out-nothing, out-text, out-word, out-word-as, out-name, out-gap, out-behind}
 use Rattle.reo_syntax.proofs.Decimals.{out-number}
 use Rattle.reo_syntax.proofs.Cuts.{open-cut, close-cut}
@@ -85,7 +85,7 @@ see-number = see-either (see-made (see-both (see-word (λ t m. see-both (see-the
     (see-nothing (λ r h. out-right (out-nothing None r (SamePlace None) refl)))
   where
     above-cut : (r : List ℕ) → is_apart r ≡ true → is_cut kinds.Sign (codes ">") r ≡ true
-    above-cut r h = Rattle.reo_syntax.proofs.Row.apart-cut kinds.Sign (codes ">") r refl h
+    above-cut r h = apart-cut kinds.Sign (codes ">") r refl h
 
 see-arguments : {w : World} → See w arguments_two (Again arguments_two (spread ref_text) SameRefs)
 see-arguments = see-either (see-then see-refs (λ ts xs o r h. out-left (o r h))) (see-nothing (λ r h. out-right (out-nothing [] r (SameRefs []) refl)))

@@ -1,5 +1,5 @@
 -- The first bytes of names and numbers, and what stands before them.
-use Rattle.std.proofs.Common.{◌≡◌, ℕ, ◌==◌, Bool, true, false, ◌||◌, not, List, [], ◌∷◌, ◌++◌, refl, sym, ◌∙◌, subst, arith, codes}
+use Rattle.std.proofs.Common.{◌≡◌, ℕ, ◌==◌, Bool, true, false, ◌||◌, not, List, [], ◌∷◌, ◌++◌, refl, sym, ◌∙◌, ap, subst, arith, codes}
 use Rattle.std.specs.List.{list_all}
 use Rattle.std.proofs.lemmas.Bool.Decides.{nat_tests}
 use Rattle.reo_values.specs.Names.{is_letter, is_digit, is_name_byte, is_name}
@@ -67,7 +67,7 @@ out-named b gap t r m q s i =
     let e : t.bytes ≡ b = same_bytes t.bytes b (and-right _ _ m) in
     let k : t.kind ≡ kinds.Name = name-kind t.kind (and-left _ _ m) in
     let c : is_cut t.kind t.bytes (gap ++ r) ≡ true = rw (k, e) i in
-    out-text (Rattle.std.proofs.Common.ap (λ l. l ++ gap) e) (out-made (λ x. Unit {0}) (out-token (named b) t t gap r m q s c (even-alike t t refl refl)) (λ x h. tt))
+    out-text (ap (λ l. l ++ gap) e) (out-made (λ x. Unit {0}) (out-token (named b) t t gap r m q s c (even-alike t t refl refl)) (λ x h. tt))
 
 pub see-named : {w : World} {b : List ℕ} {P : List Lexeme → Unit {0} → Type 0} → ((t : Lexeme) → matches (named b) t ≡ true → is_real t ≡ true → P (t ∷ []) tt) → See w (named_word b) P
 see-named s = see-made (see-token s)
