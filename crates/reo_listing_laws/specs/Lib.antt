@@ -1,0 +1,4 @@
+pub mod Shapes
+pub mod Gated
+pub mod Extended
+pub mod Searched
