@@ -16,7 +16,7 @@ use Rattle.reo_kinds.specs.Kinds.{behaviour_of}
 use Rattle.reo_open.specs.declared.opens.Open.{Open}
 use Rattle.reo_open.specs.Opens.{open_behaviour}
 use Rattle.reo_open.specs.OpenLaws.{open_lawful}
-use Rattle.reo_open.specs.Opened.{opened, open_wiring, open_net}
+use Rattle.reo_open.specs.Opened.{opened, open_net}
 use Rattle.reo_open.specs.OpenedLaws.{opened_shapes}
 
 module _ (w : Wiring Kind) (wired : IsWired (net_of behaviour_of w)) where

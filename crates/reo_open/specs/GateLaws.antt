@@ -1,5 +1,5 @@
 -- Gates keep the laws of a primitive.
-use Rattle.std.proofs.Common.{ℕ, ◌+◌, ◌<◌, ◌≡◌, refl, sym, ap, length, arith, slice_index_or, List, []}
+use Rattle.std.proofs.Common.{ℕ, ◌≡◌, refl, ap, length, arith, slice_index_or, List, []}
 use Rattle.std.proofs.Math.ListN.{get_or-eq_default}
 use Rattle.reo_net_base.specs.declared.mark.Mark.{Mark}
 use Rattle.reo_net_base.specs.declared.mark.Mark.TheVariants.{J}

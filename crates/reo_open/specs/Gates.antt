@@ -36,9 +36,9 @@ gate_behaviour g = record {
   given = λ _ _ _ _. Some Unit;
 }
 
--- A round leaves a gate as it is.
+-- A round leaves a gate as it is; which rows it has may be changed between rounds.
 abbrev pub gate_lasting : Lasting
-gate_lasting = record { varies = λ _. false; is_open = λ _. true; keeps = false; carries = true; origin = None }
+gate_lasting = record { varies = λ _. true; is_open = λ _. true; keeps = false; carries = true; origin = None }
 
 -- The gate with these rows alone.
 abbrev pub with_allowed : Allowed → Gate → Gate

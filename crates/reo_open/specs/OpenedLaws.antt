@@ -1,18 +1,16 @@
 -- The open circuit has the shape of the circuit.
-use Rattle.std.proofs.Common.{ℕ, zero, suc, ◌+◌, ◌<◌, ◌≡◌, ◌==◌, Bool, true, false, not, cond, Option, is_some, List, [], ◌∷◌, length, map, refl, sym, ap, ◌∙◌, arith}
+use Rattle.std.proofs.Common.{ℕ, zero, suc, ◌≡◌, ◌==◌, Bool, true, false, not, cond, Option, is_some, List, [], ◌∷◌, length, map, refl, sym, ap, ◌∙◌}
 use Rattle.reo_values.specs.declared.value.Value.{Value}
 use Rattle.reo_net_base.specs.declared.form.Form.{Form}
-use Rattle.reo_net_base.specs.Behaviour.{Behaviour}
 use Rattle.reo_net_base.specs.Forms.{leads_by}
 use Rattle.reo_net_base.specs.Lawful.{SameShape}
 use Rattle.reo_net_base.specs.Net.{behaviour_at}
 use Rattle.reo_net_base.specs.Shapes.{SameShapes}
-use Rattle.reo_buffers.specs.Stored.{Stored, is_full}
+use Rattle.reo_buffers.specs.Stored.{is_full}
 use Rattle.reo_kinds.specs.declared.kind.Kind.{Kind}
-use Rattle.reo_kinds.specs.declared.kind.Kind.TheVariants.{Writer, Taker, Sync, Store, Shift, Variable, Filter, Map}
+use Rattle.reo_kinds.specs.declared.kind.Kind.TheVariants.{Writer, Taker, Store, Shift, Variable, Map}
 use Rattle.reo_kinds.specs.Kinds.{behaviour_of, mouth_and_tail, ready, front_of}
 use Rattle.reo_kinds.specs.KindLaws.{same_shape}
-use Rattle.reo_open.specs.declared.opens.Open.{Open}
 use Rattle.reo_open.specs.Opens.{open_behaviour}
 use Rattle.reo_open.specs.Opened.{opened, unit_stored, unit_held}
 

@@ -1,6 +1,10 @@
-//! What stands in open circuits, as ports: nothing is offered there.
+//! What stands in open circuits, as ports.
+//!
+//! At a gate one thing may be offered: that the surroundings require a reason, which stands for a
+//! take. It is pending where the gate has that row alone.
 ghost use Rattle.reo_open.specs.OpenPorts.{open_port_state, open_placed, open_withdrawn, no_port_open, placed_open_port, placed_open_shape, placed_open_lasting, placed_open_tables, withdrawn_open_port, withdrawn_open_shape, withdrawn_open_lasting, withdrawn_open_tables, settled_open_port};
 
+use crate::gate::Allowed;
 use crate::opens::Open;
 use reo_net_base::{Offer, Ported, Way};
 use reo_values::Value;
@@ -13,7 +17,10 @@ impl Ported for Open {
     ghost withdrawn = { open_withdrawn };
 
     fn way(&self) -> Option<Way> {
-        None
+        match self {
+            Open::Border(_) => Some(Way::Out),
+            Open::Inner(_) => None,
+        }
     }
 
     fn fits(&self, _item: &Value) -> bool {
@@ -21,12 +28,23 @@ impl Ported for Open {
     }
 
     fn pending(&self) -> bool {
-        false
+        match self {
+            Open::Border(gate) => gate.allowed == Allowed::Required,
+            Open::Inner(_) => false,
+        }
     }
 
-    fn place(&mut self, _offer: Offer) {}
+    fn place(&mut self, _offer: Offer) {
+        if let Open::Border(gate) = self {
+            gate.allowed = Allowed::Required;
+        }
+    }
 
-    fn withdraw(&mut self) {}
+    fn withdraw(&mut self) {
+        if let Open::Border(gate) = self {
+            gate.allowed = Allowed::All;
+        }
+    }
 
     ghost no_port = { no_port_open };
 

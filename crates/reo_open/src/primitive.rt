@@ -167,7 +167,7 @@ impl Primitive for Open {
 
     fn varies(&self, side: usize) -> bool {
         match self {
-            Open::Border(_) => false,
+            Open::Border(_) => true,
             Open::Inner(kind) => kind.varies(side),
         }
     }
