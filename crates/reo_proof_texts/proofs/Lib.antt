@@ -1,0 +1,4 @@
+pub mod CutLemmas
+pub mod RoundLemmas
+pub mod VerdictLemmas
+pub mod FirstLemmas

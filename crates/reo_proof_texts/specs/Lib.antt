@@ -1,0 +1,4 @@
+pub mod Cuts
+pub mod Proven
+pub mod ProofVerdicts
+pub mod Laws
