@@ -1,0 +1,3 @@
+pub mod MeetingLemmas
+pub mod WalkingLemmas
+pub mod PartLemmas

@@ -1,0 +1,10 @@
+//! The lists of marks that the ports of one part of an open circuit have.
+#![tactic(auto)]
+
+mod adding;
+mod holding;
+mod meeting;
+mod part;
+mod walking;
+
+pub use part::rows_of;
