@@ -1,0 +1,4 @@
+mod Cuts
+mod RowLemmas
+mod SaidLemmas
+mod JudgeLemmas
