@@ -1,0 +1,43 @@
+//! The values of a joint, by their places.
+ghost use Rattle.std.specs.Prelude.{◌≡◌, ◌<◌, ◌∷◌, [], length, slice_index_or};
+ghost use Rattle.reo_joint_values.specs.declared.value.JointValue.TheVariants.{RG, GR, GG, Jam};
+ghost use Rattle.reo_refute_base.specs.Live.{values_of};
+ghost use Rattle.reo_refute_live.specs.Open.{AreSmall};
+
+use reo_joint_values::JointValue;
+use reo_values::{List, Value};
+
+/// How many values a joint has.
+pub(crate) fn value_count(lists: &[List<Value>], joint: usize) -> usize
+    requires small { AreSmall lists.now }
+    requires joint { joint < length lists.now }
+    ensures { result ≡ length (values_of lists.now joint) }
+{
+    lists[joint].len() + 4
+}
+
+/// The value of this place among those in which nothing flows.
+fn still_at(place: usize) -> JointValue
+    ensures { result ≡ slice_index_or (RG ∷ GR ∷ GG ∷ Jam ∷ []) place Jam }
+{
+    match place {
+        0 => JointValue::RG,
+        1 => JointValue::GR,
+        2 => JointValue::GG,
+        _ => JointValue::Jam,
+    }
+}
+
+/// The value of this place among those of a joint.
+pub(crate) fn value_at(lists: &[List<Value>], joint: usize, place: usize) -> JointValue
+    requires small { AreSmall lists.now }
+    requires joint { joint < length lists.now }
+    ensures { result ≡ slice_index_or (values_of lists.now joint) place Jam }
+{
+    let items = lists[joint].len();
+    if place < items {
+        JointValue::Flow(place as u32)
+    } else {
+        still_at(place - items)
+    }
+}
