@@ -98,8 +98,8 @@ fn line_at_side<P: Primitive>(
     }
 }
 
-/// The line of a joint at which no value is live, or one may go, if it is such. `NoMemory` is out of
-/// memory.
+/// The line of a joint at which no value is live, or one may go, if it is such. `NoMemory` is out
+/// of memory.
 pub(crate) fn line_at<P: Primitive>(
     circuit: &Circuit<P>,
     turn: u64,

@@ -73,9 +73,9 @@ fn first_double(lists: &[List<Value>], live: &Live) -> Option<usize>
     None
 }
 
-/// The next line of a branch at a place: `Drop` of a live value that has no support, or `Empty` of a
-/// joint at which no value is live, or `Split` of one at which two are; or `None` where at each joint
-/// one value is live, with support at both its sides. What the buffer held does not matter.
+/// The next line of a branch at a place: `Drop` of a live value that has no support, or `Empty` of
+/// a joint at which no value is live, or `Split` of one at which two are; or `None` where at each
+/// joint one value is live, with support at both its sides. What the buffer held does not matter.
 /// `NoMemory` is out of memory.
 pub fn next_line<P: Primitive>(
     circuit: &Circuit<P>,

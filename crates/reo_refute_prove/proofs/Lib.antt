@@ -1,0 +1,6 @@
+pub mod FewItems
+pub mod Firsts
+pub mod Lessening
+pub mod Numbers
+pub mod Proved
+pub mod Writing

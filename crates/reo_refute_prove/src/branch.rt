@@ -1,0 +1,102 @@
+//! One branch of a log.
+ghost use Rattle.std.specs.Prelude.{◌^◌, ◌≡◌, ◌≤◌, ◌<◌, ℕ, List, [], IfOk, OnOk, IsTrue, cond, length};
+ghost use Rattle.reo_net_base.specs.Net.{net_of};
+ghost use Rattle.reo_refute_base.specs.Places.{IsAllowed};
+ghost use Rattle.reo_refute_places.specs.AllowedRows.{AreAllowedRows};
+ghost use Rattle.reo_refute_support.specs.Columns.{AreTables};
+ghost use Rattle.reo_refute_live.specs.Open.{open_in, IsOpen};
+ghost use Rattle.reo_refute_prove.specs.Making.{AreFew, NeverSettles, IsLineMade, IsBranchMade};
+
+use crate::going::go_on;
+use reo_net_base::Primitive;
+use reo_net_circuit::Circuit;
+use reo_refute_lines::put_line;
+use reo_refute_live::Live;
+use reo_refute_next::next_line;
+use reo_refute_places::Allowed;
+use reo_refute_support::Column;
+use reo_values::{Bytes, List, NoMemory, Value};
+use std::alloc::Global;
+
+/// How many sides there are: fewer than 2^63.
+fn count_sides(tables: &[List<Column>]) -> usize
+    ensures count { result ≡ length tables.now }
+    ensures small { result < 2 ^ 63 }
+{
+    tables.len()
+}
+
+/// Writes the next line of a branch: whether a branch is open behind it.
+fn put_next<P: Primitive>(
+    alloc: Global,
+    circuit: &Circuit<P>,
+    turn: u64,
+    given: &[u32],
+    number: usize,
+    lists: &[List<Value>],
+    tables: &List<List<Column>>,
+    allowed: &Allowed,
+    live: &mut Live,
+    rows: &mut Vec<u8>,
+    out: &mut Bytes,
+) -> Result<bool, NoMemory>
+    requires tables { AreTables (net_of P.behaviour circuit.now) tables.now }
+    requires lists { length lists.now ≡ length circuit.now.joints }
+    requires few { AreFew lists.now }
+    requires allowed { AreAllowedRows (net_of P.behaviour circuit.now) turn given.now number
+        allowed.now }
+    requires never { NeverSettles (net_of P.behaviour circuit.now) lists.now
+        (IsAllowed (net_of P.behaviour circuit.now) turn given.now number) }
+    requires open { IsOpen lists.now live.old }
+    ensures open { IfOk result (λ more. IsTrue more → IsOpen lists.now live.new) }
+    ensures made { let net = net_of P.behaviour circuit.now in
+        IfOk result (λ more. IsLineMade net lists.now (IsAllowed net turn given.now number)
+        (open_in live.old) (cond more (open_in live.new) []) out.old out.new) }
+{
+    circuit.known();
+    let _sides = count_sides(tables.as_slice());
+    match next_line(
+        circuit, turn, given, number, lists, tables, allowed, live, rows,
+    )? {
+        Some(line) => {
+            put_line(alloc, out, line)?;
+            let more = go_on(alloc, circuit, turn, given, number, lists, live, line)?;
+            Ok(more)
+        }
+        None => Ok(false),
+    }
+}
+
+/// Writes a branch in which all values are live first.
+pub(crate) fn put_branch<P: Primitive>(
+    alloc: Global,
+    circuit: &Circuit<P>,
+    turn: u64,
+    given: &[u32],
+    number: usize,
+    lists: &[List<Value>],
+    tables: &List<List<Column>>,
+    allowed: &Allowed,
+    rows: &mut Vec<u8>,
+    out: &mut Bytes,
+) -> Result<(), NoMemory>
+    requires tables { AreTables (net_of P.behaviour circuit.now) tables.now }
+    requires lists { length lists.now ≡ length circuit.now.joints }
+    requires few { AreFew lists.now }
+    requires allowed { AreAllowedRows (net_of P.behaviour circuit.now) turn given.now number
+        allowed.now }
+    requires never { NeverSettles (net_of P.behaviour circuit.now) lists.now
+        (IsAllowed (net_of P.behaviour circuit.now) turn given.now number) }
+    ensures { let net = net_of P.behaviour circuit.now in
+        OnOk result (IsBranchMade net lists.now (IsAllowed net turn given.now number) out.old
+        out.new) }
+{
+    let mut live = Live::new(alloc, lists)?;
+    let mut open = true;
+    while open {
+        open = put_next(
+            alloc, circuit, turn, given, number, lists, tables, allowed, &mut live, rows, out,
+        )?;
+    }
+    Ok(())
+}
