@@ -1,4 +1,4 @@
-mod Cuts
+pub mod Cuts
 mod RowLemmas
 mod SaidLemmas
 mod JudgeLemmas

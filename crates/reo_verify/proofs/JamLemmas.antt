@@ -18,7 +18,7 @@ use Rattle.reo_trace.specs.TraceText.{rounds_text}
 use Rattle.reo_trace_texts.specs.declared.trace.Trace.{Trace}
 use Rattle.reo_verdicts.specs.Said.{cells_of, is_jam, jammed}
 use Rattle.reo_verdicts.specs.Replays.{HasText}
-use Rattle.reo_verify.proofs.Cuts.{cut_at, take_one_more}
+use Rattle.reo_judging.proofs.Cuts.{cut_at, take_one_more}
 
 abbrev pub jams_in : Entry → ℕ
 jams_in e = count_by is_jam (cells_of e)

@@ -1,7 +1,3 @@
-mod Cuts
-mod RowLemmas
-mod SaidLemmas
-mod JudgeLemmas
 mod JamLemmas
 mod SoFar
 mod ReplayLemmas

@@ -24,11 +24,12 @@ use Rattle.reo_verdicts.specs.declared.verdict.Refusal.{Refusal}
 use Rattle.reo_verdicts.specs.declared.verdict.Refusal.TheVariants as refusals
 use Rattle.reo_verdicts.specs.Replays.{colourings}
 use Rattle.reo_verdicts.specs.Wrongs.{IsWrongRound}
-use Rattle.reo_verify.specs.declared.judging.Stop.{Stop}
-use Rattle.reo_verify.specs.declared.judging.Stop.TheVariants as stops
-use Rattle.reo_verify.specs.Judged.{IsPlanShown}
-use Rattle.reo_verify.specs.Replayed.{IsReplayed, IsNoRound, IsRefusalBy, AreReplayed, IsCutOff}
-use Rattle.reo_verify.proofs.Cuts.{cut_at, take_one_more, taken, take_all}
+use Rattle.reo_judging.specs.declared.judging.Stop.{Stop}
+use Rattle.reo_judging.specs.declared.judging.Stop.TheVariants as stops
+use Rattle.reo_judging.specs.Judged.{IsPlanShown}
+use Rattle.reo_judging.specs.Refused.{IsRefusalBy}
+use Rattle.reo_verify.specs.Replayed.{IsReplayed, IsNoRound, AreReplayed, IsCutOff}
+use Rattle.reo_judging.proofs.Cuts.{cut_at, take_one_more, taken, take_all}
 use Rattle.reo_verify.proofs.SoFar.{SoFar}
 
 -- What a line shows, and was done, is a round.

@@ -1,5 +1,5 @@
 -- What a replay comes to.
-use Rattle.std.specs.Prelude.{ℕ, ◌+◌, ◌≡◌, ◌⊎◌, Bool, true, false, IsTrue, None, Some, Option, List, ◌∷◌, ◌++◌, length}
+use Rattle.std.specs.Prelude.{ℕ, ◌+◌, ◌≡◌, ◌⊎◌, None, Some, Option, List, ◌∷◌, ◌++◌, length}
 use Rattle.reo_net_base.specs.Net.{Wiring}
 use Rattle.reo_players.specs.Players.{Player}
 use Rattle.reo_trace.specs.declared.line.RoundLine.{RoundLine}
@@ -9,8 +9,6 @@ use Rattle.reo_rounds.specs.Rules.{Rules}
 use Rattle.reo_runs.specs.Round.{State, RoundOf, net_ready}
 use Rattle.reo_runs.specs.Run.{Place, Leads, over_after}
 use Rattle.reo_at_ports.specs.Pending.{IsButForOffers}
-use Rattle.reo_checker.specs.declared.wrong.Wrong.{Wrong}
-use Rattle.reo_checker.specs.declared.wrong.Wrong.TheVariants as wrongs
 use Rattle.reo_verdicts.specs.declared.verdict.Refusal.{Refusal}
 use Rattle.reo_verdicts.specs.declared.verdict.Refusal.TheVariants as refusals
 use Rattle.reo_verdicts.specs.declared.verdict.Verdict.{Verdict}
@@ -18,31 +16,10 @@ use Rattle.reo_verdicts.specs.declared.verdict.Verdict.TheVariants as verdicts
 use Rattle.reo_verdicts.specs.Replays.{MayStop, colourings}
 use Rattle.reo_verdicts.specs.Said.{jammed}
 use Rattle.reo_verdicts.specs.Verdicts.{IsWrongAt}
-use Rattle.reo_verdicts.specs.Wrongs.{node_of}
-use Rattle.reo_verify.specs.declared.judging.Stop.{Stop}
-use Rattle.reo_verify.specs.declared.judging.Stop.TheVariants as stops
+use Rattle.reo_judging.specs.declared.judging.Stop.{Stop}
 use Rattle.reo_verify.specs.declared.replay.Halt.{Halt}
 use Rattle.reo_verify.specs.declared.replay.Halt.TheVariants as halts
-use Rattle.reo_verify.specs.Judged.{IsLineStop}
-
--- The refusal of the round of a number whose line is not right.
-abbrev pub IsRefusalBy : List (List ℕ) → List ℕ → ℕ → Stop → Refusal → Type 0
-IsRefusalBy nodes homes round (stops.Wrong wrong) refusal = refusal ≡ refusals.Round round wrong (node_of nodes homes wrong)
-IsRefusalBy nodes homes round stops.Moves refusal = refusal ≡ refusals.Moves round
-IsRefusalBy nodes homes round stops.NoMemory refusal = ⊥
-
--- The cause names the node of a joint.
-abbrev pub names_node : Wrong → Bool
-names_node wrongs.Count = false
-names_node (wrongs.Row primitive) = false
-names_node (wrongs.Joint joint) = true
-names_node (wrongs.Item joint) = true
-
--- Saying so may want memory: it names a node, or memory ran out before.
-abbrev pub MayWantMemory : Stop → Type 0
-MayWantMemory (stops.Wrong wrong) = IsTrue (names_node wrong)
-MayWantMemory stops.Moves = ⊥
-MayWantMemory stops.NoMemory = Unit {0}
+use Rattle.reo_judging.specs.Judged.{IsLineStop}
 
 -- The ending of a run that is over so, or, where it is not, in place of the round of a number.
 abbrev pub IsEndOf : Option Ending → ℕ → Ending → Type 0

@@ -3,10 +3,7 @@
 #![tactic(auto)]
 
 mod ending;
-mod judging;
-mod refusal;
 mod replay;
-mod rows;
 mod verifying;
 
 pub use reo_verdicts::{Refusal, Verdict};

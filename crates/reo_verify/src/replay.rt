@@ -11,10 +11,9 @@ ghost use Rattle.reo_at_ports.specs.Between.{AreBetween};
 ghost use Rattle.reo_at_ports.specs.Runnable.{CanRun};
 ghost use Rattle.reo_verify.specs.Replayed.{IsReplayed, IsNoRound, AreReplayed, IsHalted};
 
-use crate::judging::{Stop, plan_of};
-use crate::refusal::refusal_of;
 use reo_at_ports::{carry_out, offer_all};
 use reo_engine::Engine;
+use reo_judging::{Stop, plan_of, refusal_of};
 use reo_net_base::{Ports, Restoring};
 use reo_net_circuit::Circuit;
 use reo_players::Players;
