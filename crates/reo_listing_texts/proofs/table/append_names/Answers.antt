@@ -5,6 +5,5 @@ use Rattle.reo_listing_texts.proofs.table.append_names.Goals as goal
 
 pub loop-place-preserved : goal.loop-place-preserved
 loop-place-preserved c =
-    spaced-more (port_name c.args.ports.now) c.args.numbers.now c.loop-place.place c.index-numbers-place.result _ _ _ _ (search rules)
-    c.loop-place.invariant c.in_ok-append_gap.ensures
-    (c.in_ok-append.ensures.ok ∙ ap (λ bytes. c.append_gap.new.text ++ bytes) c.port_name.ensures ∙ ap (λ n. c.append_gap.new.text ++ port_name c.args.ports.now n) c.index-numbers-place.is)
+    spaced-more (port_name c.args.ports.now) c.args.numbers.now c.loop-place.place _ _ _ _ _ (search rules)
+    c.loop-place.invariant c.in_ok-append_gap.ensures (c.in_ok-append.ensures.ok ∙ ap (λ bytes. c.append_gap.new.text ++ bytes) c.port_name.ensures)
