@@ -52,5 +52,5 @@ module _ (net : Net) (ports budget : ℕ) (numbers : List ℕ) (part : ℕ) (tab
       subst (λ n. IsNextPart net ports budget numbers count n × IsSpent budget net (in_knot numbers n) weight) (sym it.0) (record { in_range = lt; has = has; tables = tables; before = before }, it.1)
   stops has (faults.Rows k) it count lt =
       subst (λ n. IsNextPart net ports budget numbers count n × IsWithin budget net (in_knot numbers n) × HasMany net (in_knot numbers n) (ports_of net ports budget numbers n)) (sym it.0)
-      (record { in_range = lt; has = has; tables = tables; before = before }, it.1)
+      (record { in_range = lt; has = has; tables = tables; before = before }, it.1, it.2)
   stops has faults.NoMemory it count lt = it

@@ -28,7 +28,7 @@ module _ (net : Net) (wired : IsWired net) (ports budget : ℕ) (numbers : List 
   last_of : (fault : ListFault) → ◌≢◌ {A = Answer} (Err fault) (Err NoMemory) → ListsParts net ports budget numbers count (Err fault) → IsLast net wired ports budget numbers count are fault
   last_of (Filter i) some it = absurd it
   last_of (Spent part weight) some it = record { part = part; next = it.0; stopped = (refl, it.1) }
-  last_of (Rows part) some it = record { part = part; next = it.0; stopped = (refl, it.1) }
+  last_of (Rows part) some it = record { part = part; next = it.0; stopped = (refl, it.1, it.2) }
   last_of NoMemory some it = absurd (some refl)
 
   apart : (tables : List Table) (fault : ListFault) → ListsParts net ports budget numbers count (Ok tables) → IsLast net wired ports budget numbers count are fault → ⊥
@@ -77,8 +77,8 @@ listing_is_one w wired budget x y some other p q = elim (says w budget x some p)
     | inl second ↦ absurd (no_filter w.primitives second.0 lists.0 second.2)
     | inr others ↦
         let net = open_net w in
-        let open = open_wired w wired in
-        let they = part_numbers net open in
-        by_parts net open w.ports budget they.0 they.1 they.2 x y some other (lists.1 they.0 they.1 they.2) (others.1 they.0 they.1 they.2)
+        let opened = open_wired w wired in
+        let they = part_numbers net opened in
+        by_parts net opened w.ports budget they.0 they.1 they.2 x y some other (lists.1 they.0 they.1 they.2) (others.1 they.0 they.1 they.2)
   ]
 ]
