@@ -1,16 +1,15 @@
 -- A circuit is listed in one way.
-use Rattle.std.proofs.Common.{◌≡◌, ◌≢◌, inl, inr, ◌⊎◌, ℕ, ◌<◌, true, false, List, length, refl, sym, ap, ◌∙◌, subst, arith}
+use Rattle.std.proofs.Common.{◌≡◌, ◌≢◌, inl, inr, ◌⊎◌, ℕ, ◌<◌, List, refl, sym, ap, ◌∙◌, arith}
 use Rattle.std.specs.Prelude.{Result, Ok, Err}
 use Rattle.std.proofs.lemmas.Bool.{cases_lt}
-use Rattle.reo_net_base.specs.Net.{Net, Wiring, net_of}
+use Rattle.reo_net_base.specs.Net.{Net, Wiring}
 use Rattle.reo_net_base.specs.Sides.{side_count}
 use Rattle.reo_net_base.specs.Wired.{IsWired}
 use Rattle.reo_net_laws.specs.Parts.{SameKnot}
 use Rattle.reo_knots.specs.Knots.{AreNumbers}
 use Rattle.reo_kinds.specs.declared.kind.Kind.{Kind}
 use Rattle.reo_kinds.specs.declared.kind.Kind.TheVariants as kinds
-use Rattle.reo_kinds.specs.Kinds.{behaviour_of}
-use Rattle.reo_open.specs.Opened.{open_net, is_filter, HasNoFilter}
+use Rattle.reo_open.specs.Opened.{open_net, HasNoFilter}
 use Rattle.reo_open.proofs.FaultLemmas.{open_wired}
 use Rattle.reo_weights.proofs.PartLists.{part_numbers}
 use Rattle.reo_listing_base.specs.declared.table.Table.{Table}
