@@ -1,5 +1,5 @@
 -- One part more.
-use Rattle.std.proofs.Common.{◌≡◌, ◌∙◌, ℕ, zero, suc, ◌+◌, ◌<◌, ◌≤◌, ◌==◌, Bool, true, false, List, [], ◌∷◌, ◌++◌, cond, map, length, get_or, refl, sym, ap, subst, arith}
+use Rattle.std.proofs.Common.{◌≡◌, ◌∙◌, ℕ, zero, suc, ◌+◌, ◌<◌, ◌==◌, true, false, List, [], ◌∷◌, ◌++◌, map, length, get_or, refl, sym, ap, subst, arith}
 use Rattle.std.specs.Prelude.{nat_lt}
 use Rattle.std.proofs.lemmas.Bool.Decides.{nat_tests}
 use Rattle.std.proofs.lemmas.List.{append-nil, map-append}
@@ -12,7 +12,7 @@ use Rattle.reo_weights.specs.Over.{IsWithin, IsSpent}
 use Rattle.reo_listing_base.specs.Tables.{HasMany}
 use Rattle.reo_listing_base.specs.Listed.{ports_of, has_ports, IsTableOf, AreTables, IsNextPart}
 use Rattle.reo_listing_ports.proofs.PortRange.{kept_more}
-use Rattle.reo_listing_rows.specs.PartTables.{IsPartTable, IsPartFault}
+use Rattle.reo_listing_rows.specs.PartTables.{IsPartFault}
 use Rattle.reo_listing.specs.Parts.{IsPartsTable, StopsAt}
 
 -- What is so of each of a list and of one more is so of all.
