@@ -20,7 +20,7 @@ use Rattle.reo_refute_faults.specs.declared.fault.ProofFault.TheVariants as faul
 use Rattle.reo_refute_faults.specs.Faults.{IsProofFault}
 use Rattle.reo_proof_texts.specs.declared.refusal.ProofRefusal.{ProofRefusal}
 use Rattle.reo_proof_texts.specs.declared.refusal.ProofRefusal.TheVariants as refusals
-use Rattle.reo_proof_texts.specs.Cuts.{LoggedRound, lines_text, all_logged, lines_in, Next, IsNext}
+use Rattle.reo_proof_texts.specs.Cuts.{LoggedRound, all_logged, Next, IsNext}
 use Rattle.reo_proof_texts.specs.ProofVerdicts.{FailsBy, IsWrongRoundBy, IsWrongNext, IsProofRefused, IsVerified, IsProofVerdict}
 use Rattle.reo_proof_reader.specs.Found.{IsRoundFound}
 use Rattle.reo_proof_rounds.specs.declared.stop.RoundStop.{RoundStop}
@@ -29,7 +29,7 @@ use Rattle.reo_proof_rounds.specs.Rounds.{IsLogRefused, IsNoProof}
 use Rattle.reo_verify_proof.specs.Answered.{IfVerdict}
 use Rattle.reo_verify_proof.specs.Ended.{IsVerdictAt}
 use Rattle.reo_verify_proof.specs.Refusing.{of_cause, IsRoundRefusal}
-use Rattle.reo_verify_proof.proofs.ReplayLemmas.{now_at, place_now, round_now}
+use Rattle.reo_verify_proof.proofs.ReplayLemmas.{place_now}
 use Rattle.reo_verify_proof.proofs.SoFar.{SoFar}
 use Rattle.reo_verify_proof.proofs.Verdicts.{if_verdict}
 

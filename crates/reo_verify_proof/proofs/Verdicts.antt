@@ -1,5 +1,5 @@
 -- Answers that are verdicts.
-use Rattle.std.proofs.Common.{◌≡◌, ◌≢◌, ℕ, refl}
+use Rattle.std.proofs.Common.{◌≢◌, ℕ, refl}
 use Rattle.std.specs.Prelude.{Result, Ok, Err}
 use Rattle.reo_proof_texts.specs.declared.refusal.ProofRefusal.{ProofRefusal}
 use Rattle.reo_proof_texts.specs.declared.refusal.ProofRefusal.TheVariants as refusals

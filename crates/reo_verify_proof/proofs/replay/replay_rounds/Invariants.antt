@@ -1,4 +1,4 @@
-use Rattle.std.proofs.Common.{◌≡◌, length, map}
+use Rattle.std.proofs.Common.{length, map}
 use Rattle.reo_rounds.specs.Rules.{rules_of}
 use Rattle.reo_at_ports.specs.Between.{AreBetween}
 use Rattle.reo_verify_proof.proofs.SoFar.{SoFar}
