@@ -1,5 +1,5 @@
 -- What runs with their logs write.
-use Rattle.std.specs.Prelude.{ℕ, ◌≤◌, ◌^◌, ◌≡◌, List, Ok, length, map}
+use Rattle.std.specs.Prelude.{ℕ, ◌≤◌, ◌^◌, ◌≡◌, List, Ok, length}
 use Rattle.reo_trees.specs.declared.programs.Program.{Program}
 use Rattle.reo_flat.specs.Flat.{ports_of, wiring_of_program}
 use Rattle.reo_net_base.specs.declared.port.Port.{Port}
