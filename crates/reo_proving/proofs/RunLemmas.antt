@@ -1,5 +1,5 @@
 -- Rounds with their logs, one after another.
-use Rattle.std.proofs.Common.{◌≡◌, ◌∙◌, ℕ, ◌+◌, ◌≤◌, inl, inr, List, [], ◌∷◌, ◌++◌, Bool, true, false, cond, ap, sym, refl, subst, length, map, arith, append_assoc, length-append}
+use Rattle.std.proofs.Common.{◌≡◌, ◌∙◌, ℕ, ◌+◌, inl, inr, List, [], ◌∷◌, ◌++◌, Bool, true, false, cond, ap, sym, refl, subst, length, map, arith, append_assoc, length-append}
 use Rattle.std.proofs.lemmas.List.{append-nil}
 use Rattle.std.proofs.lemmas.Grind.{flat_map-append}
 use Rattle.std.specs.Prelude.{Option, Some, None, Result, Ok, Err, IsErr, IsErrAnd, IsErrOf}
@@ -20,10 +20,10 @@ use Rattle.reo_runs.specs.Run.{Place, EndsAs, place_after, over_after, start_of,
 use Rattle.reo_at_ports.specs.Pending.{IsButForOffers}
 use Rattle.reo_proof_texts.specs.Cuts.{LoggedRound, logged_text, all_logged}
 use Rattle.reo_proof_texts.specs.Proven.{IsProven, AreProven, IsProved}
-use Rattle.reo_proof_laws.specs.Proofs.{ProofGoesOn, HasProofs}
+use Rattle.reo_proof_laws.specs.Proofs.{HasProofs}
 use Rattle.reo_proof_laws.proofs.Goings.{proven_more}
-use Rattle.reo_proving.specs.Proving.{HasProved, HasCut, HasKept, HasCome}
-use Rattle.reo_proving.specs.Rounds.{MadeRound, StopsHere, Went, CutRound}
+use Rattle.reo_proving.specs.Proving.{HasProved, HasCut, HasKept}
+use Rattle.reo_proving.specs.Rounds.{Went, CutRound}
 use Rattle.reo_proving.proofs.SoFar.{SoFar, Finished}
 
 -- The text of one round more with its log.

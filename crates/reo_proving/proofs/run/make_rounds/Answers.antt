@@ -1,4 +1,4 @@
-use Rattle.std.proofs.Common.{◌≡◌, ◌∙◌, ◌+◌, ◌<◌, ℕ, None, Some, Ok, Err, refl, sym, ap, arith, rules}
+use Rattle.std.proofs.Common.{◌≡◌, ◌∙◌, None, Err, refl, sym, ap, arith}
 use Rattle.reo_io.proofs.Counts.{same_count}
 use Rattle.reo_trace.specs.declared.write.WriteFault.TheVariants.{Failed as SinkFailed}
 use Rattle.reo_rounds.specs.Rules.{rules_of}
