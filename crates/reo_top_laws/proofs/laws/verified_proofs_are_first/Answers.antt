@@ -1,4 +1,4 @@
-use Rattle.std.proofs.Common.{◌≡◌, ◌∙◌, List, ◌++◌, sym, subst}
+use Rattle.std.proofs.Common.{◌∙◌, sym, subst}
 use Rattle.reo_net_base.specs.Net.{net_of}
 use Rattle.reo_kinds.specs.Kinds.{behaviour_of}
 use Rattle.reo_rounds.specs.Order.{HasOrder}

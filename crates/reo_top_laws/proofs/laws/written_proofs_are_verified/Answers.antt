@@ -1,11 +1,11 @@
-use Rattle.std.proofs.Common.{ℕ, List, length, refl, sym, subst, arith}
+use Rattle.std.proofs.Common.{length, refl, sym, subst, arith}
 use Rattle.std.specs.Prelude.{Ok}
 use Rattle.reo_at_ports.specs.Kinds.{kind_rules}
 use Rattle.reo_runs.specs.Run.{firsts, start_of}
 use Rattle.reo_proof_texts.specs.Proven.{IsProved}
 use Rattle.reo_proof_texts.specs.ProofVerdicts.{IsProofVerdict}
 use Rattle.reo_command.specs.Limits.{usual_limits}
-use Rattle.reo_command.specs.Readings.{FlatCircuit, flat_of}
+use Rattle.reo_command.specs.Readings.{FlatCircuit}
 use Rattle.reo_top_laws.proofs.CertificateLemmas.{program_told}
 use Rattle.reo_top_laws.proofs.laws.written_proofs_are_verified.Goals as goal
 
