@@ -1,0 +1,8 @@
+pub mod Linked
+mod Tables
+mod Within
+mod Sums
+mod Places
+mod Bounded
+mod Looped
+mod Covered
