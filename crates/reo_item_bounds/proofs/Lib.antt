@@ -1,6 +1,6 @@
 pub mod Linked
-mod Tables
-mod Within
+pub mod Tables
+pub mod Within
 mod Sums
 mod Places
 mod Bounded

@@ -18,12 +18,12 @@ module _ (net other : Net) (joints : other.joints ≡ net.joints)
   taker_there : (j : ℕ) (d : Joint) → j < length net.joints → side_at other (get_or other.joints j d).taker ≡ side_at net (get_or net.joints j d).taker
   taker_there j d lt = ap (λ (x : Joint). side_at other x.taker) (joint_same j d) ∙ takers j d lt
 
-  closed_on : (n : ℕ) → n ≤ length net.joints → (inside : ℕ → Bool) → IsClosedBelow net n inside → IsClosedBelow other n inside
+  pub closed_on : (n : ℕ) → n ≤ length net.joints → (inside : ℕ → Bool) → IsClosedBelow net n inside → IsClosedBelow other n inside
   closed_on n le inside closed = record {
     along = λ j d lt. let j_in : j < length net.joints = omega arith in ap inside (giver_there j d j_in) ∙ closed.along j d lt ∙ ap inside (sym (taker_there j d j_in));
   }
 
-  closed_back : (n : ℕ) → n ≤ length net.joints → (inside : ℕ → Bool) → IsClosedBelow other n inside → IsClosedBelow net n inside
+  pub closed_back : (n : ℕ) → n ≤ length net.joints → (inside : ℕ → Bool) → IsClosedBelow other n inside → IsClosedBelow net n inside
   closed_back n le inside closed = record {
     along = λ j d lt. let j_in : j < length net.joints = omega arith in ap inside (sym (giver_there j d j_in)) ∙ closed.along j d lt ∙ ap inside (taker_there j d j_in);
   }

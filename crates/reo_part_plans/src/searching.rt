@@ -1,5 +1,5 @@
 //! Finding an entry by its key.
-ghost use Rattle.std.specs.Prelude.{◌≡◌, ◌↔◌, ◌<◌, IfSome, IsTrue, length, slice_index_or};
+ghost use Rattle.std.specs.Prelude.{◌≡◌, ◌<◌, ◌≤◌, IfSome, IsTrue, length, slice_index_or};
 ghost use Rattle.reo_part_plans.specs.declared.entry.Entry.{Entry as Remembered};
 
 use crate::entry::Entry;
