@@ -1,12 +1,12 @@
 -- What is noted for a joint is a bound.
-use Rattle.std.proofs.Common.{◌≡◌, ℕ, zero, suc, ◌+◌, ◌*◌, ◌<◌, ◌≤◌, List, [], ◌∷◌, ◌++◌, true, Bool, length, get_or, take, refl, ap, sym, ◌∙◌, subst, arith}
+use Rattle.std.proofs.Common.{◌≡◌, ℕ, zero, suc, ◌+◌, ◌*◌, ◌<◌, ◌≤◌, List, [], ◌∷◌, ◌++◌, true, length, get_or, take, refl, ap, sym, ◌∙◌, subst, arith}
 use Rattle.std.specs.Prelude.{Contains, map}
 use Rattle.std.proofs.lemmas.List.{get_or_default, map-append}
 use Rattle.reo_net_base.specs.declared.form.Form.{Form}
 use Rattle.reo_net_base.specs.declared.joint.End.{End}
 use Rattle.reo_net_base.specs.declared.mark.Mark.TheVariants.{F}
 use Rattle.reo_net_base.specs.Behaviour.{Behaviour, IsEndOf}
-use Rattle.reo_net_base.specs.Forms.{HasForm, IsPlaceOf, mark_by, rows_by}
+use Rattle.reo_net_base.specs.Forms.{HasForm, mark_by, rows_by}
 use Rattle.reo_net_base.specs.Net.{Net, behaviour_at, end_of}
 use Rattle.reo_net_base.specs.Wired.{IsWired}
 use Rattle.reo_net_ends.specs.Ends.{AreEnds, joint_at}

@@ -1,15 +1,14 @@
 -- What covers rows.
-use Rattle.std.proofs.Common.{◌≡◌, ℕ, ◌+◌, ◌<◌, ◌≤◌, ◌⊎◌, inl, inr, Bool, true, List, [], cond, length, get_or, refl, ap, sym, ◌∙◌, subst, arith, ◌==◌}
+use Rattle.std.proofs.Common.{◌≡◌, ℕ, ◌+◌, ◌≤◌, inl, inr, true, List, get_or, sym, subst, arith}
 use Rattle.reo_net_base.specs.declared.branches.Branches.{Branches}
 use Rattle.reo_net_base.specs.declared.form.Form.{Form}
-use Rattle.reo_net_base.specs.declared.form.Form.TheVariants.{Single, Merging}
+use Rattle.reo_net_base.specs.declared.form.Form.TheVariants.{Merging}
 use Rattle.reo_net_base.specs.declared.joint.End.{End}
 use Rattle.reo_net_base.specs.declared.mark.Mark.TheVariants.{F}
 use Rattle.reo_net_base.specs.Behaviour.{Behaviour}
 use Rattle.reo_net_base.specs.Forms.{mark_by}
 use Rattle.reo_net_base.specs.Net.{end_of}
 use Rattle.reo_net_ends.specs.Ends.{joint_at}
-use Rattle.reo_weights.specs.Bounds.{sum_below}
 use Rattle.reo_item_bounds.specs.Shares.{Covers, IsShare, AreShared}
 use Rattle.reo_item_bounds.proofs.Places.{merger_flows, before_or_here}
 use Rattle.reo_item_bounds.proofs.Sums.{more, more_before, more_here, sum_more}

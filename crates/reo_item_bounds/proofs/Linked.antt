@@ -1,8 +1,8 @@
 -- Loop joints of circuits of one shape.
-use Rattle.std.proofs.Common.{◌≡◌, ℕ, ◌<◌, ◌≤◌, List, Bool, length, get_or, ap, sym, ◌∙◌, subst, arith}
+use Rattle.std.proofs.Common.{◌≡◌, ℕ, ◌<◌, ◌≤◌, List, Bool, length, get_or, ap, sym, ◌∙◌, arith}
 use Rattle.reo_net_base.specs.declared.joint.Joint.{Joint}
 use Rattle.reo_net_base.specs.Net.{Net, side_at}
-use Rattle.reo_net_laws.specs.Parts.{IsClosedBelow, IsLinked}
+use Rattle.reo_net_laws.specs.Parts.{IsClosedBelow}
 use Rattle.reo_knots.specs.Knots.{IsLoop}
 
 -- Circuits with the same joints, at each of which the ends have the same sides.

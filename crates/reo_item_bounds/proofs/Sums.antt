@@ -1,5 +1,5 @@
 -- Sums of shares.
-use Rattle.std.proofs.Common.{◌≡◌, ℕ, zero, suc, ◌+◌, ◌<◌, ◌≤◌, ◌==◌, cond, refl, ap, ◌∙◌, arith}
+use Rattle.std.proofs.Common.{◌≡◌, ℕ, zero, suc, ◌+◌, ◌<◌, ◌==◌, cond, refl, ap, ◌∙◌, arith}
 use Rattle.reo_weights.specs.Bounds.{sum_below}
 
 -- A sum is that of each function with the same numbers there.

@@ -1,6 +1,5 @@
 -- Bounds of a set in circuits with the same tables there.
-use Rattle.std.proofs.Common.{◌≡◌, ℕ, ◌+◌, ◌<◌, ◌≤◌, List, Bool, true, false, length, get_or, refl, ap, sym, ◌∙◌, subst, arith}
-use Rattle.reo_net_base.specs.declared.mark.Mark.TheVariants.{F}
+use Rattle.std.proofs.Common.{◌≡◌, ℕ, ◌+◌, ◌<◌, ◌≤◌, List, Bool, true, length, get_or, refl, ap, sym, ◌∙◌, subst, arith}
 use Rattle.reo_net_base.specs.declared.joint.End.{End}
 use Rattle.reo_net_base.specs.declared.joint.Joint.{Joint}
 use Rattle.reo_net_base.specs.Behaviour.{Behaviour}

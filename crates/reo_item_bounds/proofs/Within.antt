@@ -1,17 +1,16 @@
 -- Parts with bounds that tables tell are within a budget.
-use Rattle.std.proofs.Common.{◌≡◌, ℕ, ◌<◌, ◌≤◌, ◌&&◌, List, Bool, true, false, Some, None, length, refl, ap, sym, ◌∙◌, subst, arith, nat_lt}
+use Rattle.std.proofs.Common.{◌≡◌, ℕ, ◌<◌, ◌≤◌, ◌&&◌, Bool, true, false, Some, length, refl, ap, sym, ◌∙◌, subst, arith, nat_lt}
 use Rattle.reo_net_base.specs.declared.joint.End.{End}
 use Rattle.reo_net_base.specs.Behaviour.{Behaviour}
 use Rattle.reo_net_base.specs.Lawful.{GivesAt}
 use Rattle.reo_net_base.specs.Net.{Net, behaviour_at, end_of, side_at}
-use Rattle.reo_net_base.specs.Wired.{IsWired, IsOrder}
+use Rattle.reo_net_base.specs.Wired.{IsWired}
 use Rattle.reo_net_laws.specs.Ends.{mark_in, from_in}
-use Rattle.reo_net_laws.specs.Parts.{IsClosed}
 use Rattle.reo_joint_values.specs.Standing.{no_joint, giver_of, taker_of, FlowsAt, Brings}
 use Rattle.reo_joint_values.specs.Many.{IsJointIn}
 use Rattle.reo_weights.specs.Bounds.{AreBounds, sum_below, giver_rows}
 use Rattle.reo_weights.proofs.BoundWeights.{bounded_within}
-use Rattle.reo_item_bounds.specs.Bounds.{ComesIn, IsBoundAt, HasBounds}
+use Rattle.reo_item_bounds.specs.Bounds.{ComesIn, IsBoundAt}
 use Rattle.reo_item_bounds.specs.Laws.{BoundedPartsAreWithin}
 
 module _ (net : Net) (wired : IsWired net) where

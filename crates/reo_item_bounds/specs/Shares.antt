@@ -1,11 +1,11 @@
 -- The share of one row, and their sum.
-use Rattle.std.specs.Prelude.{ℕ, ◌<◌, ◌≤◌, ◌≡◌, true, List, length, slice_index}
+use Rattle.std.specs.Prelude.{ℕ, ◌<◌, ◌≤◌, ◌≡◌, true, List, slice_index}
 use Rattle.reo_net_base.specs.declared.form.Form.{Form}
 use Rattle.reo_net_base.specs.declared.joint.End.{End}
 use Rattle.reo_net_base.specs.declared.mark.Mark.TheVariants.{F}
 use Rattle.reo_net_base.specs.Behaviour.{Behaviour}
 use Rattle.reo_net_base.specs.Net.{end_of}
-use Rattle.reo_net_base.specs.Forms.{IsPlaceOf, mark_by, rows_by}
+use Rattle.reo_net_base.specs.Forms.{IsPlaceOf, mark_by}
 use Rattle.reo_net_ends.specs.Ends.{joint_at}
 use Rattle.reo_weights.specs.Bounds.{sum_below}
 

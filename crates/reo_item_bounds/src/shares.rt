@@ -80,7 +80,10 @@ fn most_by<P: Primitive>(
                 primitive,
                 end: branches.count,
             };
-            let input = End { primitive, end: row };
+            let input = End {
+                primitive,
+                end: row,
+            };
             let most = noted(circuit, ends, bounds, output);
             most.max(noted(circuit, ends, bounds, input))
         }

@@ -42,7 +42,7 @@ use Rattle.reo_part_plans.specs.declared.entry.Entry.{Entry}
 use Rattle.reo_part_plans.specs.declared.looks.Look.{Look}
 use Rattle.reo_part_plans.specs.declared.plans.PartPlans.{PartPlans}
 use Rattle.reo_part_plans.specs.Laws.{PlansStay}
-use Rattle.reo_part_plans.specs.Looks.{LetsIn, IsLookAt, IsKey}
+use Rattle.reo_part_plans.specs.Looks.{IsLookAt, IsKey}
 use Rattle.reo_part_plans.specs.Remembered.{IsRemembered, AreRemembered, ArePlans, IsRecalled}
 
 shape_after : (b d e : Behaviour) → SameShape b d → SameShape d e → SameShape b e

@@ -1,7 +1,6 @@
 -- Tables that are kept, and what is looked up.
-use Rattle.std.proofs.Common.{◌≡◌, ◌∙◌, inl, inr, ℕ, ◌+◌, ◌<◌, ◌≢◌, Bool, true, false, Some, None, Option, List, length, get_or, ap, sym, subst, arith, refl}
+use Rattle.std.proofs.Common.{◌≡◌, ◌∙◌, inl, inr, ℕ, ◌+◌, ◌<◌, ◌≢◌, Bool, true, Some, None, Option, List, length, ap, sym, subst, arith}
 use Rattle.reo_net_base.specs.Net.{Net, first_side}
-use Rattle.reo_net_base.specs.Shapes.{SameShapes}
 use Rattle.reo_net_base.specs.Wired.{IsWired}
 use Rattle.reo_net_circuit.proofs.Cases.{eq_cases}
 use Rattle.reo_net_ends.specs.Ends.{AreEnds}
@@ -20,7 +19,7 @@ use Rattle.reo_planning.proofs.KnotSets.{number_is}
 use Rattle.reo_part_plans.specs.Remembered.{ArePlans}
 use Rattle.reo_part_plans.proofs.Recalled.{plans_stay}
 use Rattle.reo_settling.specs.declared.lookups.Lookups.{Lookups}
-use Rattle.reo_settling.specs.Held.{is_fresh, AreFreshTables, AreKeptTables, MayBeFresh, MayBeKept}
+use Rattle.reo_settling.specs.Held.{is_fresh, AreFreshTables, MayBeFresh, MayBeKept}
 use Rattle.reo_settling.specs.Lookups.{AreLookups, AreSteady, LookupsStay, IsForgotten}
 
 -- No primitive of a settled part is another.

@@ -1,5 +1,5 @@
 -- What is looked up when parts are settled.
-use Rattle.std.specs.Prelude.{ℕ, ◌<◌, ◌≡◌, true, List, length}
+use Rattle.std.specs.Prelude.{ℕ, ◌<◌, ◌≡◌, true, length}
 use Rattle.reo_net_base.specs.Net.{Net}
 use Rattle.reo_net_base.specs.Wired.{IsWired}
 use Rattle.reo_knots.specs.Knots.{Knotted, AreKnots, knot_count}

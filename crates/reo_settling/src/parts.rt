@@ -73,7 +73,8 @@ impl Lookups {
         self.tables = Some(ready);
         let joints = self.orders.at(part).as_slice();
         let rows = rows.as_slice();
-        self.plans.remember(alloc, circuit, ends, knots, joints, part, turn, rows)?;
+        self.plans
+            .remember(alloc, circuit, ends, knots, joints, part, turn, rows)?;
         Ok(())
     }
 

@@ -68,7 +68,16 @@ fn renew<P: Primitive>(
 {
     circuit.known();
     for part in 0..knots.count() {
-        renew_part(alloc, circuit, knots, ends, orders, fresh[part], part, tables)?;
+        renew_part(
+            alloc,
+            circuit,
+            knots,
+            ends,
+            orders,
+            fresh[part],
+            part,
+            tables,
+        )?;
     }
     Ok(())
 }

@@ -1,6 +1,6 @@
-use Rattle.std.proofs.Common.{ℕ, ◌<◌, arith, get_or}
+use Rattle.std.proofs.Common.{ℕ, arith, get_or}
 use Rattle.std.proofs.lemmas.List.Elements.{Contains-get_or}
-use Rattle.reo_net_base.specs.Net.{Net, net_of}
+use Rattle.reo_net_base.specs.Net.{net_of}
 use Rattle.reo_item_bounds.specs.Bounds.{IsBoundAt}
 use Rattle.reo_item_bounds.proofs.Bounded.{of_each}
 use Rattle.reo_item_bounds.proofs.checking.are_bounds.Goals as goal

@@ -1,11 +1,10 @@
-use Rattle.std.proofs.Common.{◌≡◌, ◌∙◌, ℕ, ◌+◌, ◌<◌, ◌≤◌, List, [], Bool, length, get_or, arith, subst, sym, ap}
+use Rattle.std.proofs.Common.{◌≡◌, ◌∙◌, ℕ, ◌+◌, ◌<◌, List, [], length, get_or, arith, subst, sym, ap}
 use Rattle.std.specs.Prelude.{IsTrue, map}
 use Rattle.std.proofs.lemmas.Option.{IfSome_then}
 use Rattle.reo_knots.specs.Knots.{in_knot}
 use Rattle.reo_joint_values.specs.Many.{IsJointIn}
 use Rattle.reo_weights.specs.Weights.{product_of}
 use Rattle.reo_item_bounds.specs.Bounds.{IsBoundAt}
-use Rattle.std.proofs.lemmas.List.Elements.{Contains-get_or}
 use Rattle.reo_net_base.specs.Net.{Net, net_of}
 use Rattle.reo_item_bounds.proofs.Looped.{loops_below, has_bounds}
 use Rattle.reo_item_bounds.proofs.choices.most_choices.Goals as goal
@@ -29,5 +28,5 @@ returns g c =
     let each : (j : ℕ) → IsJointIn net (in_knot c.args.knots.now.numbers c.args.part) j → IsBoundAt net (λ (k : ℕ). get_or bounds k 0) j =
     λ j is. subst (λ (xs : List ℕ). IsBoundAt net (λ (k : ℕ). get_or xs k 0) j) first (c.are_bounds.ensures told j (c.requires.all j is)) in
     IfSome_then c.product.result c.product.ensures (λ choices is.
-      has_bounds net c.known.ensures.wired c.args.knots.now c.requires.knots c.args.part c.requires.part [] (λ (k : ℕ). get_or bounds k 0) each choices
-      ((λ i. product_of (map (λ (j : ℕ). get_or (sym again i) j 0 + 4) (sym loops i))) ∙ is))
+    has_bounds net c.known.ensures.wired c.args.knots.now c.requires.knots c.args.part c.requires.part [] (λ (k : ℕ). get_or bounds k 0) each choices
+    ((λ i. product_of (map (λ (j : ℕ). get_or (sym again i) j 0 + 4) (sym loops i))) ∙ is))

@@ -1,4 +1,4 @@
-use Rattle.std.proofs.Common.{ℕ, ◌+◌, ◌*◌, ◌≤◌, arith, get_or}
+use Rattle.std.proofs.Common.{ℕ, ◌+◌, arith, get_or}
 use Rattle.reo_item_bounds.proofs.Bounded.{product_next}
 use Rattle.reo_item_bounds.proofs.choices.product.Goals as goal
 

@@ -1,8 +1,8 @@
-use Rattle.std.proofs.Common.{ℕ, ◌<◌, ◌≤◌, arith, subst, sym}
+use Rattle.std.proofs.Common.{ℕ, arith, subst}
 use Rattle.reo_net_base.specs.declared.form.Form.{Form}
 use Rattle.reo_net_base.specs.Behaviour.{Behaviour}
 use Rattle.reo_net_base.specs.Forms.{HasForm}
-use Rattle.reo_net_base.specs.Net.{Net, net_of, behaviour_at}
+use Rattle.reo_net_base.specs.Net.{net_of, behaviour_at}
 use Rattle.reo_item_bounds.proofs.Places.{end_below}
 use Rattle.reo_item_bounds.proofs.shares.most_by.Goals as goal
 

@@ -44,6 +44,8 @@ returns-after-loop-row g c = λ small.
     let below : b.side_of c.args.giver.end < b.sides = (c.known.ensures.wired.lawful c.args.giver.primitive c.requires.giver.0).sides_in c.args.giver.end c.requires.giver.1 in
     let lt : c.side_of-side.result < (g.P.Primitive.behaviour c.primitive-primitive.result.now).sides = subst (λ (d : Behaviour). c.side_of-side.result < d.sides) (sym is) (subst (λ (s : ℕ). s < b.sides) (sym side) below) in
     let has = g.met.P.Primitive.has_form c.primitive-primitive.result.now c.side_of-side.result c.in-Some.form lt (sym c.form.ensures ∙ c.in-Some.is) in
-    let all : c.loop-row.row ≡ rows_by c.in-Some.form = grind (arith, c.rows-row-end.ensures) in
-    (c.in-Some.form, subst (HasForm c.in-Some.form b) side (subst (λ (d : Behaviour). HasForm c.in-Some.form d c.side_of-side.result) is has),
-    subst (λ (n : ℕ). AreShared b c.args.giver c.in-Some.form c.args.ends.now c.args.bounds.now n c.loop-row.sum) all (c.loop-row.invariant small))
+    let all : c.loop-row.row ≡ rows_by c.in-Some.form = grind (arith, c.rows-row-end.ensures) in (
+      c.in-Some.form,
+      subst (HasForm c.in-Some.form b) side (subst (λ (d : Behaviour). HasForm c.in-Some.form d c.side_of-side.result) is has),
+      subst (λ (n : ℕ). AreShared b c.args.giver c.in-Some.form c.args.ends.now c.args.bounds.now n c.loop-row.sum) all (c.loop-row.invariant small),
+    )

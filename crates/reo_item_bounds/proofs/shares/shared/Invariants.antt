@@ -1,4 +1,4 @@
-use Rattle.std.proofs.Common.{◌≡◌, ◌≤◌, ℕ}
+use Rattle.std.proofs.Common.{◌≤◌}
 use Rattle.reo_net_base.specs.Net.{net_of, behaviour_at}
 use Rattle.reo_item_bounds.specs.Shares.{AreShared}
 use Rattle.reo_item_bounds.proofs.shares.shared.Given as goal

@@ -1,4 +1,4 @@
-use Rattle.std.proofs.Common.{◌≡◌, ◌∙◌, ◌+◌, ◌<◌, ℕ, List, [], ◌∷◌, ◌++◌, length, get_or, take, set, sym, subst, arith}
+use Rattle.std.proofs.Common.{◌≡◌, ◌∙◌, ◌<◌, ℕ, List, [], ◌∷◌, ◌++◌, length, get_or, take, set, sym, subst, arith}
 use Rattle.std.proofs.lemmas.List.{length-set}
 use Rattle.reo_planning.specs.Written.{AreWritten}
 use Rattle.reo_planning.proofs.Writing.{written_more, row_at_side, take_next}

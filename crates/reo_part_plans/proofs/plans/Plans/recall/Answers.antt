@@ -1,4 +1,4 @@
-use Rattle.std.proofs.Common.{◌≡◌, ◌∙◌, ◌<◌, ℕ, Bool, true, List, length, get_or, subst, sym, arith}
+use Rattle.std.proofs.Common.{◌≡◌, ◌<◌, ℕ, true, get_or, subst, sym, arith}
 use Rattle.std.specs.Prelude.{IsTrue}
 use Rattle.reo_net_base.specs.Net.{Net, net_of}
 use Rattle.reo_part_plans.specs.Looks.{IsKey}

@@ -1,9 +1,8 @@
-use Rattle.std.proofs.Common.{◌≡◌, ◌∙◌, ◌<◌, ℕ, Bool, true, List, length, get_or, subst, sym, arith}
+use Rattle.std.proofs.Common.{◌<◌, ℕ, get_or, subst, sym, arith}
 use Rattle.std.specs.Prelude.{IsTrue, Option, IfSome}
 use Rattle.reo_knots.specs.Knots.{in_knot}
 use Rattle.reo_item_bounds.specs.Bounds.{HasBounds}
 use Rattle.reo_net_base.specs.Net.{Net, net_of}
-use Rattle.reo_part_plans.specs.Looks.{IsKey}
 use Rattle.reo_part_plans.proofs.Recalled.{part_below, remembered, unchanged, either_way}
 use Rattle.reo_part_plans.proofs.plans.Plans.remember.Goals as goal
 
