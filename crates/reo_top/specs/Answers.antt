@@ -2,11 +2,11 @@
 use Rattle.std.specs.Prelude.{ℕ, ◌≡◌, ◌⊎◌, ◌&&◌, ◌||◌, Bool, true, false, List, [], Option, Some, None}
 use Rattle.reo_command.specs.declared.command.Command.{Command}
 use Rattle.reo_command.specs.declared.role.Role.{Role}
-use Rattle.reo_top.specs.Cases.{Cases, IsExactFor, IsFair, TellsFaults}
+use Rattle.reo_top_base.specs.Cases.{Cases, IsExactFor, IsFair, TellsFaults}
 use Rattle.reo_closings.specs.Sources.{SourceChange, Events, AreTaken}
 use Rattle.reo_command.specs.Commands.{command_of, roles_of, is_free, takes_events, names_of}
 use Rattle.reo_command.specs.Fetched.{Content, has_gone, AreFetched}
-use Rattle.reo_top.specs.Outputs.{Outputs}
+use Rattle.reo_top_base.specs.Outputs.{Outputs}
 use Rattle.reo_top.specs.Heard.{TakesFew}
 use Rattle.reo_top.specs.Owed.{owed_for}
 use Rattle.reo_command.specs.States.{SinkState, FilesState, Change}

@@ -19,12 +19,12 @@ use Rattle.reo_command.specs.Amounts.{size_of}
 use Rattle.reo_closings.specs.Sources.{Events}
 use Rattle.reo_top.specs.Heard.{HearsCircuit}
 use Rattle.reo_top.specs.Measures.{MeasuresMade}
-use Rattle.reo_top.specs.Outputs.{Outputs, IsLine}
+use Rattle.reo_top_base.specs.Outputs.{Outputs, IsLine}
 use Rattle.reo_command.specs.Readings.{FlatCircuit, Runnable, ReadsProgram, StopsPrint, ReadsCircuit, StopsCheck, ReadsRun, StopsRun}
 use Rattle.reo_command.specs.Statuses.{done, words_refused}
 use Rattle.reo_command.specs.Stops.{stop_text, stop_status}
-use Rattle.reo_top.specs.Traces.{IsTraceOf}
-use Rattle.reo_top.specs.VerdictTexts.{verdict_line, verdict_status}
+use Rattle.reo_top_runs.specs.Traces.{IsTraceOf}
+use Rattle.reo_top_verdicts.specs.VerdictTexts.{verdict_line, verdict_status}
 
 -- The line of what stops the command, or what it makes of what it reads.
 abbrev pub owed_by : {X : Type 0} → (List Content → X → Type 0) → (List Content → Stop → Type 0) → (X → Outputs) → List Content → Outputs

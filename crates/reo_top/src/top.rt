@@ -6,7 +6,6 @@ ghost use Rattle.reo_top.specs.Headline.{Headline};
 ghost use Rattle.reo_closings.specs.Sources.{source_change};
 ghost use Rattle.reo_command.specs.States.{files_change, sink_change};
 
-use crate::answer::answer;
 use crate::checking::check_circuit;
 use crate::hearing::hear_events;
 use crate::measuring::measure_work;
@@ -19,6 +18,7 @@ use reo_flatten_laws::circuits_are_made;
 use reo_io::{Files, Sink, Source};
 use reo_kinds::Kind;
 use reo_runs::runs_are_justified;
+use reo_top_base::answer;
 use reo_values::{Bytes, List};
 use std::alloc::Global;
 

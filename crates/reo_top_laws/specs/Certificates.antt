@@ -7,10 +7,10 @@ use Rattle.reo_command.specs.Claims.{Claimed, ReadsClaim}
 use Rattle.reo_command.specs.Fetched.{text}
 use Rattle.reo_command.specs.Limits.{limits_of, firsts_for}
 use Rattle.reo_command.specs.Readings.{Runnable, ReadsRun}
-use Rattle.reo_top.specs.Owed.{JudgesTrace}
+use Rattle.reo_top_verdicts.specs.Judged.{JudgesTrace}
 use Rattle.reo_command.specs.Statuses.{done}
-use Rattle.reo_top.specs.Traces.{IsTraceOf}
-use Rattle.reo_top.specs.VerdictTexts.{verdict_line}
+use Rattle.reo_top_runs.specs.Traces.{IsTraceOf}
+use Rattle.reo_top_verdicts.specs.VerdictTexts.{verdict_line}
 
 -- The files of a circuit, a script and a trace are read together, and the verdict is that the trace is verified.
 pub record IsVerified (circuit script trace : List ℕ) (lines : List RoundLine) : Type 0 where

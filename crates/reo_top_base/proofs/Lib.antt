@@ -1,0 +1,5 @@
+pub mod AnswerLemmas
+pub mod CaseLemmas
+pub mod DoneLemmas
+pub mod LineLemmas
+pub mod StopLemmas

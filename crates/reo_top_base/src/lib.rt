@@ -1,0 +1,11 @@
+//! What the commands come to: answers with their statuses, lines of what stops them, and the cases
+//! in which they end.
+#![tactic(auto)]
+
+mod answer;
+mod append;
+mod refusing;
+
+pub use answer::{answer, no_memory};
+pub use append::append_numbered;
+pub use refusing::refuse;
