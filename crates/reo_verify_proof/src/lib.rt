@@ -1,0 +1,8 @@
+//! The verification of proof texts: a proof text is replayed, and each of its rounds is accepted by
+//! its log.
+#![tactic(auto)]
+
+mod verifying;
+
+pub use reo_proof_texts::ProofRefusal;
+pub use verifying::verify_proof;
