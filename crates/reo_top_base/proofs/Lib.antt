@@ -3,3 +3,4 @@ pub mod CaseLemmas
 pub mod DoneLemmas
 pub mod LineLemmas
 pub mod StopLemmas
+pub mod ToldLemmas

@@ -51,7 +51,7 @@ fn write_verdict<S: Sink>(alloc: Global, claim: Claim, out: &mut S) -> Status
 }
 
 /// Fetches the circuit, the script and the trace, reads them, and writes the verdict.
-pub(crate) fn verify_claim<F: Files, S: Sink>(
+pub fn verify_claim<F: Files, S: Sink>(
     alloc: Global,
     circuit: &[u8],
     script: &[u8],

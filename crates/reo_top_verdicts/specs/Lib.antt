@@ -1,0 +1,3 @@
+pub mod VerdictTexts
+pub mod ProofVerdictTexts
+pub mod Judged
