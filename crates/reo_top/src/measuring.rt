@@ -18,9 +18,10 @@ use reo_io::{NullSink, Sink};
 use reo_kinds::Kind;
 use reo_runner::{End2, Limits, Outcome, run};
 use reo_runs::{known_order, one_trace};
-use reo_top_base::{answer, append_numbered, no_memory};
+use reo_top_base::{answer, no_memory};
 use reo_trace::{Ending, ending_line_text};
 use reo_values::{Bytes, NoMemory};
+use reo_verdict_words::append_numbered;
 use std::alloc::Global;
 
 /// Adds the line of a run, its line feed included. `NoMemory` is out of memory.

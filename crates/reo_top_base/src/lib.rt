@@ -3,9 +3,7 @@
 #![tactic(auto)]
 
 mod answer;
-mod append;
 mod refusing;
 
 pub use answer::{answer, no_memory};
-pub use append::append_numbered;
 pub use refusing::refuse;

@@ -9,7 +9,8 @@ use Rattle.reo_proof_texts.specs.declared.refusal.ProofRefusal.{ProofRefusal}
 use Rattle.reo_proof_texts.specs.ProofVerdicts.{IsProofVerdict}
 use Rattle.reo_command.specs.Claims.{Claimed}
 use Rattle.reo_top_base.specs.Outputs.{Outputs, IsLine}
-use Rattle.reo_top_verdicts.specs.ProofVerdictTexts.{proof_line, proof_status}
+use Rattle.reo_proof_verdict_texts.specs.VerdictTexts.{proof_verdict_line}
+use Rattle.reo_top_verdicts.specs.ProofStatuses.{proof_status}
 use Rattle.reo_top_verdicts.specs.VerdictTexts.{verdict_line, verdict_status}
 
 -- This is the verdict on the trace.
@@ -26,4 +27,4 @@ IsProofJudged c verdict =
     IsProofVerdict kind_rules c.work.flat.ports c.work.flat.nodes c.work.flat.homes (start_of c.work.flat.wiring c.work.script.components) c.claim verdict
 
 abbrev pub JudgesProof : Claimed (List ℕ) → Outputs
-JudgesProof c bytes code = (verdict : Result ℕ ProofRefusal) × IsProofJudged c verdict × IsLine (proof_line verdict) (proof_status verdict) bytes code
+JudgesProof c bytes code = (verdict : Result ℕ ProofRefusal) × IsProofJudged c verdict × IsLine (proof_verdict_line verdict) (proof_status verdict) bytes code

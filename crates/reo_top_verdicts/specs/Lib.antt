@@ -1,3 +1,3 @@
 pub mod VerdictTexts
-pub mod ProofVerdictTexts
+pub mod ProofStatuses
 pub mod Judged

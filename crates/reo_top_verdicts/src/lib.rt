@@ -2,7 +2,6 @@
 #![tactic(auto)]
 
 mod proof;
-mod proof_verdict;
 mod verdict;
 mod verifying;
 

@@ -1,43 +1,13 @@
 //! The line of a verdict.
-ghost use Rattle.std.specs.Prelude.{◌≡◌, ◌++◌, [], IfOk, OnOk};
-ghost use Rattle.std.specs.Fmt.{decimal};
+ghost use Rattle.std.specs.Prelude.{◌≡◌, ◌++◌, IfOk, OnOk};
 ghost use Rattle.reo_verdicts.specs.declared.verdict.Verdict.TheVariants as verdicts;
-ghost use Rattle.reo_top_verdicts.specs.VerdictTexts.{wrong_words, in_round, refusal_words, verdict_line, verdict_status};
+ghost use Rattle.reo_top_verdicts.specs.VerdictTexts.{refusal_words, verdict_line, verdict_status};
 
-use reo_checker::Wrong;
 use reo_command::{DONE, TRACE_REFUSED};
-use reo_top_base::append_numbered;
 use reo_values::{Bytes, NoMemory};
+use reo_verdict_words::{append_numbered, append_round, append_wrong};
 use reo_verify::{Refusal, Verdict};
 use std::alloc::Global;
-
-/// Adds what is wrong with the entries of a round. `NoMemory` is out of memory.
-fn append_wrong(alloc: Global, line: &mut Bytes, wrong: Wrong, node: &[u8]) -> Result<(), NoMemory>
-    ensures { OnOk result (line.new ≡ line.old ++ wrong_words wrong node.now) }
-{
-    match wrong {
-        Wrong::Count => line.append(b"count"),
-        Wrong::Row { primitive } => append_numbered(alloc, line, b"row ", primitive as u64),
-        Wrong::Joint { joint } => {
-            append_numbered(alloc, line, b"joint ", joint as u64)?;
-            line.append(b" at ")?;
-            line.append(node)
-        }
-        Wrong::Item { joint } => {
-            append_numbered(alloc, line, b"item ", joint as u64)?;
-            line.append(b" at ")?;
-            line.append(node)
-        }
-    }
-}
-
-/// Adds the round that a cause is in. `NoMemory` is out of memory.
-fn append_round(alloc: Global, line: &mut Bytes, round: u64) -> Result<(), NoMemory>
-    ensures { OnOk result (line.new ≡ line.old ++ in_round round []) }
-{
-    append_numbered(alloc, line, b"round ", round)?;
-    line.append(b": ")
-}
 
 /// Adds why a trace is refused. `NoMemory` is out of memory.
 fn append_refusal(alloc: Global, line: &mut Bytes, refusal: &Refusal) -> Result<(), NoMemory>
