@@ -2,6 +2,8 @@
 //! its log.
 #![tactic(auto)]
 
+mod refusing;
+mod replay;
 mod verifying;
 
 pub use reo_proof_texts::ProofRefusal;

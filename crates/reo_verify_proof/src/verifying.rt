@@ -9,8 +9,11 @@ ghost use Rattle.reo_proof_texts.specs.declared.refusal.ProofRefusal.{ProofRefus
 ghost use Rattle.reo_proof_texts.specs.ProofVerdicts.{IsProofVerdict};
 ghost use Rattle.reo_verify_proof.specs.Answered.{IfVerdict};
 
+use crate::replay::replay;
 use reo_flatten::Flat;
-use reo_proof_texts::ProofRefusal;
+use reo_kinds::Kind;
+use reo_proof_texts::{ProofRefusal, one_proof_verdict};
+use reo_runs::known_order;
 use reo_scripts::Script;
 use std::alloc::Global;
 
@@ -41,5 +44,15 @@ pub fn verify_proof(
         → IsProofVerdict kind_rules flat.ports.list flat.nodes flat.homes start proof.now verdict
         → IfVerdict result (λ answer. answer ≡ verdict) }
 {
-    Err(ProofRefusal::NoMemory)
+    let Flat {
+        circuit,
+        ports,
+        nodes,
+        homes,
+    } = flat;
+    known_order(&circuit);
+    one_proof_verdict::<Kind>();
+    let nodes = nodes.as_slice();
+    let homes = homes.as_slice();
+    replay(alloc, circuit, &ports, nodes, homes, script, proof)
 }

@@ -1,7 +1,7 @@
 use Rattle.std.proofs.Common.{◌≡◌, ap, arith}
 use Rattle.reo_judging.proofs.Cuts.{got_by}
 use Rattle.reo_verify.proofs.JamLemmas.{jammed_cut, jams_of}
-use Rattle.reo_verify.proofs.ending.jammed.Goals as goal
+use Rattle.reo_verify.proofs.jams.jammed.Goals as goal
 
 pub entries_jams-count-requires : goal.entries_jams-count-requires
 entries_jams-count-requires c =

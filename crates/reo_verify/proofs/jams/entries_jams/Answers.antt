@@ -3,7 +3,7 @@ use Rattle.reo_trace.specs.declared.line.Cell.TheVariants.{Row}
 use Rattle.reo_trace.specs.declared.line.Entry.TheVariants.{One}
 use Rattle.reo_judging.proofs.Cuts.{got_or}
 use Rattle.reo_verify.proofs.JamLemmas.{jams_cut}
-use Rattle.reo_verify.proofs.ending.entries_jams.Goals as goal
+use Rattle.reo_verify.proofs.jams.entries_jams.Goals as goal
 
 pub overflow_add-count : goal.overflow_add-count
 overflow_add-count c =

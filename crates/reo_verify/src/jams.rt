@@ -1,35 +1,9 @@
-//! The ending of a trace.
-ghost use Rattle.std.specs.Prelude.{◌≡◌, ◌↔◌, ◌<◌, ◌^◌, [], ◌∷◌, IsTrue};
+//! How many cells of a trace are the jam row.
+ghost use Rattle.std.specs.Prelude.{◌≡◌, ◌<◌, ◌^◌, [], ◌∷◌};
 ghost use Rattle.std.specs.List.{count_by, flat_map};
 ghost use Rattle.reo_verdicts.specs.Said.{cells_of, is_jam, jammed};
-ghost use Rattle.reo_verdicts.specs.Replays.{MayStop};
-ghost use Rattle.reo_verify.specs.Replayed.{IsEndOf};
 
-use reo_trace::{Cell, Ending, Entry, RoundLine};
-
-/// Whether an ending may stand in place of the round of a number.
-fn may_stop(turn: u64, ending: Ending) -> bool
-    ensures { IsTrue result ↔ MayStop turn ending }
-{
-    match ending {
-        Ending::Done { .. } => false,
-        Ending::Stuck { .. } => false,
-        Ending::Limit { rounds } => rounds < turn && rounds + 1 == turn,
-        Ending::Spent { round, .. } => round == turn,
-        Ending::Wide { round, .. } => round == turn,
-    }
-}
-
-/// Whether an ending is that of a run that is over so, or, where it is not, may stand in place of
-/// the round of a number.
-pub(crate) fn ends_as(over: Option<Ending>, turn: u64, ending: Ending) -> bool
-    ensures { IsTrue result ↔ IsEndOf over turn ending }
-{
-    match over {
-        Some(over) => over == ending,
-        None => may_stop(turn, ending),
-    }
-}
+use reo_trace::{Cell, Entry, RoundLine};
 
 /// One where a cell is the jam row.
 fn jams(cell: Cell) -> u64

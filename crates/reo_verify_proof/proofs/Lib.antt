@@ -1,0 +1,5 @@
+mod SoFar
+mod Lists
+mod FaultLemmas
+mod ReplayLemmas
+mod VerdictLemmas
