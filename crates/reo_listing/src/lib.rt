@@ -2,6 +2,7 @@
 #![tactic(auto)]
 
 mod listing;
+mod parts;
 
 pub use listing::list;
 pub use reo_listing_base::{ListFault, Table};

@@ -1,10 +1,11 @@
 -- The lines of one boundary table.
-use Rattle.std.specs.Prelude.{ℕ, zero, suc, List, [], ◌∷◌, ◌++◌, map, slice_index_or, codes}
+use Rattle.std.specs.Prelude.{ℕ, List, [], ◌++◌, map, slice_index_or, codes}
 use Rattle.std.specs.Fmt.{decimal}
-use Rattle.std.specs.List.{flat_map, join_with_byte}
+use Rattle.std.specs.List.{flat_map}
 use Rattle.reo_net_base.specs.declared.mark.Mark.{Mark}
 use Rattle.reo_net_base.specs.declared.mark.Mark.TheVariants.{F, G, R, J}
 use Rattle.reo_net_base.specs.declared.port.Port.{Port}
+use Rattle.reo_trace.specs.Spaced.{spaced}
 use Rattle.reo_listing_base.specs.declared.table.Table.{Table}
 
 -- The letter of a mark.
@@ -28,14 +29,9 @@ rows_text rows = flat_map row_line rows
 abbrev pub port_name : List Port → ℕ → List ℕ
 port_name ports number = slice_index_or (map (λ (port : Port). port.name) ports) number []
 
--- What stands before the name at a place: nothing before the first.
-abbrev pub gap : ℕ → List ℕ
-gap zero = []
-gap (suc place) = 32 ∷ []
-
 -- The names of some ports, with one space between each two.
 abbrev pub names_text : List Port → List ℕ → List ℕ
-names_text ports numbers = join_with_byte 32 (map (port_name ports) numbers)
+names_text ports numbers = spaced (port_name ports) numbers
 
 -- The line of a part: its number, and the names of its ports.
 unfoldable pub part_line : List Port → Table → List ℕ

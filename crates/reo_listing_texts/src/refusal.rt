@@ -14,7 +14,12 @@ fn filter_line(alloc: Global, primitive: usize, budget: u64) -> Result<Bytes, No
 {
     let _ = budget;
     let mut line = Bytes::new(alloc);
-    append_numbered(alloc, &mut line, b"list refused: filter ", primitive as u128)?;
+    append_numbered(
+        alloc,
+        &mut line,
+        b"list refused: filter ",
+        primitive as u128,
+    )?;
     line.append(b"\n")?;
     Ok(line)
 }

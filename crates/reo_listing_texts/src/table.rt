@@ -1,6 +1,7 @@
 //! The lines of one boundary table.
 ghost use Rattle.std.specs.Prelude.{◌≡◌, ◌++◌, OnOk};
-ghost use Rattle.reo_listing_texts.specs.TableTexts.{letter, letters, gap, names_text, port_name, part_line, row_line, rows_text, table_text};
+ghost use Rattle.reo_trace.specs.Spaced.{gap};
+ghost use Rattle.reo_listing_texts.specs.TableTexts.{letter, letters, names_text, port_name, part_line, row_line, rows_text, table_text};
 
 use crate::numbers::append_numbered;
 use reo_listing_base::Table;
@@ -77,6 +78,7 @@ fn append_names(text: &mut Bytes, ports: &[Port], numbers: &[usize]) -> Result<(
 }
 
 /// Adds the line of a part.
+#[tactic(auto, unfolding(crate::specs::TableTexts::part_line))]
 fn append_part(
     alloc: Global,
     text: &mut Bytes,

@@ -1,5 +1,5 @@
 //! The text of boundary tables.
-ghost use Rattle.std.specs.Prelude.{◌≡◌, ◌++◌, ◌≤◌, ◌*◌, ◌^◌, IfOk, OnOk, length};
+ghost use Rattle.std.specs.Prelude.{◌≡◌, ◌++◌, IfOk, OnOk, length};
 ghost use Rattle.std.specs.List.{flat_map};
 ghost use Rattle.reo_listing_texts.specs.TableTexts.{table_text};
 ghost use Rattle.reo_listing_texts.specs.TablesText.{row_count, count_line, tables_text};
@@ -38,6 +38,7 @@ fn row_count(tables: &[Table]) -> u128
 }
 
 /// Adds how many tables and lists there are.
+#[tactic(auto, unfolding(crate::specs::TablesText::count_line))]
 fn append_counts(alloc: Global, text: &mut Bytes, tables: &[Table]) -> Result<(), NoMemory>
     ensures { OnOk result (text.new ≡ text.old ++ count_line (length tables.now)
         (row_count tables.now)) }

@@ -1,5 +1,5 @@
 -- The tables of a circuit, as what is owed.
-use Rattle.std.proofs.Common.{◌≡◌, ◌⊎◌, inl, inr, ℕ, List, refl, sym, arith}
+use Rattle.std.proofs.Common.{◌≡◌, ℕ, List, refl, arith}
 use Rattle.std.specs.Prelude.{◌≢◌, Result, Ok, Err}
 use Rattle.reo_net_base.specs.Net.{net_of}
 use Rattle.reo_net_base.specs.Wired.{IsWired}
@@ -7,7 +7,6 @@ use Rattle.reo_kinds.specs.Kinds.{behaviour_of}
 use Rattle.reo_listing_base.specs.declared.fault.ListFault.{ListFault}
 use Rattle.reo_listing_base.specs.declared.fault.ListFault.TheVariants.{Filter, Spent, Rows, NoMemory}
 use Rattle.reo_listing_base.specs.declared.table.Table.{Table}
-use Rattle.reo_listing_base.specs.Listed.{Lists}
 use Rattle.reo_listing_answers.specs.Laws.{ListingIsOne}
 use Rattle.reo_command.specs.declared.command.Command.TheVariants.{Tables}
 use Rattle.reo_command.specs.declared.role.Role.TheVariants.{Circuit}
@@ -16,25 +15,12 @@ use Rattle.reo_command.specs.Statuses.{IsAmong, statuses_of}
 use Rattle.reo_command.proofs.FlatLemmas.{circuit_law}
 use Rattle.reo_command.proofs.ReadLemmas.{IsOneReading, file_reading}
 use Rattle.reo_top_base.proofs.ToldLemmas.{told_status, told_not_three}
-use Rattle.reo_top_tables.specs.Listings.{listing_text, listing_status, IsAnswer, IsListing, ListsTables}
-
--- An answer is no want of memory.
-is_no_want : (result : Result (List Table) ListFault) → IsAnswer result → result ≡ Err NoMemory → ⊥
-is_no_want (Ok tables) is same = cc
-is_no_want (Err (Filter primitive)) is same = cc
-is_no_want (Err (Spent part weight)) is same = cc
-is_no_want (Err (Rows part)) is same = cc
-is_no_want (Err NoMemory) is same = is
+use Rattle.reo_top_tables.specs.Listings.{listing_text, listing_status, IsListing, ListsTables}
 
 -- There is one answer.
-module _ (one : ListingIsOne) (budget : ℕ) (flat : FlatCircuit) (wired : IsWired (net_of behaviour_of flat.wiring)) (x : Result (List Table) ListFault) (is : IsListing budget flat x) where
-  of_two : (y : Result (List Table) ListFault) → IsListing budget flat y → (x ≡ y) ⊎ ((x ≡ Err NoMemory) ⊎ (y ≡ Err NoMemory)) → x ≡ y
-  of_two y other (inl same) = same
-  of_two y other (inr (inl want)) = absurd (is_no_want x is.0 want)
-  of_two y other (inr (inr want)) = absurd (is_no_want y other.0 want)
-
-  pub only_listing : (y : Result (List Table) ListFault) → IsListing budget flat y → x ≡ y
-  only_listing y other = of_two y other (one flat.wiring wired budget x y is.1 other.1)
+pub only_listing : ListingIsOne → (budget : ℕ) (flat : FlatCircuit) → IsWired (net_of behaviour_of flat.wiring) → (x : Result (List Table) ListFault) → IsListing budget flat x
+    → (y : Result (List Table) ListFault) → IsListing budget flat y → x ≡ y
+only_listing one budget flat wired x is y other = one flat.wiring wired budget x y is.0 other.0 is.1 other.1
 
 -- The statuses of listings.
 status_in : (x : Result (List Table) ListFault) → IsAmong (statuses_of Tables) (listing_status x)

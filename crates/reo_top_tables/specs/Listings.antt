@@ -1,5 +1,5 @@
 -- What is written of the boundary tables of a circuit.
-use Rattle.std.specs.Prelude.{ℕ, List, Result, Ok, Err}
+use Rattle.std.specs.Prelude.{ℕ, ◌≢◌, List, Result, Ok, Err}
 use Rattle.reo_net_base.specs.declared.port.Port.{Port}
 use Rattle.reo_listing_base.specs.declared.fault.ListFault.{ListFault}
 use Rattle.reo_listing_base.specs.declared.fault.ListFault.TheVariants.{Filter, Spent, Rows, NoMemory}
@@ -24,14 +24,9 @@ listing_status (Err (Spent part weight)) = part_over
 listing_status (Err (Rows part)) = tables_refused
 listing_status (Err NoMemory) = out_of_memory
 
--- Memory did not run out.
-abbrev pub IsAnswer : Result (List Table) ListFault → Type 0
-IsAnswer (Err NoMemory) = ⊥
-IsAnswer result = Unit {0}
-
--- What listing the tables of a circuit answers.
+-- What listing the tables of a circuit answers, where memory does not run out.
 abbrev pub IsListing : ℕ → FlatCircuit → Result (List Table) ListFault → Type 0
-IsListing budget flat result = IsAnswer result × Lists flat.wiring budget result
+IsListing budget flat result = (result ≢ Err NoMemory) × Lists flat.wiring budget result
 
 -- The tables of a circuit within a budget, or why they are not listed.
 abbrev pub ListsTables : ℕ → FlatCircuit → Outputs

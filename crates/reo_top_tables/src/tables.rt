@@ -1,7 +1,8 @@
 //! The boundary tables of a circuit, and what is written of them.
-ghost use Rattle.std.specs.Prelude.{◌≡◌, ◌<◌, ◌^◌, IfOk};
+ghost use Rattle.std.specs.Prelude.{◌≡◌, ◌≢◌, ◌<◌, ◌^◌, IfOk, OnOk, Err as IsErr};
+ghost use Rattle.reo_listing_base.specs.declared.fault.ListFault.TheVariants as faults;
 ghost use Rattle.reo_listing_base.specs.Listed.{Lists};
-ghost use Rattle.reo_top_tables.specs.Listings.{IsAnswer, listing_status, listing_text};
+ghost use Rattle.reo_top_tables.specs.Listings.{listing_status, listing_text};
 
 use reo_command::{DONE, OUT_OF_MEMORY, PART_OVER, TABLES_REFUSED};
 use reo_flatten::Flat;
@@ -46,7 +47,7 @@ pub(crate) fn listing_text(
     listing: &Listing,
 ) -> Result<Bytes, NoMemory>
     ensures text { IfOk result (λ text. text ≡ listing_text budget ports.now listing.now) }
-    ensures answer { IfOk result (λ _. IsAnswer listing.now) }
+    ensures told { OnOk result (listing.now ≢ IsErr faults.NoMemory) }
 {
     match listing {
         Ok(tables) => tables_text(alloc, ports, tables.as_slice()),

@@ -11,14 +11,14 @@ pub returns-in-Ok-clause-cases : goal.returns-in-Ok-clause-cases
 returns-in-Ok-clause-cases g c =
     let flat : FlatCircuit = circuit_in c.args.flat.now in
     told_cases (IsListing c.args.budget flat) (listing_text c.args.budget flat.ports) listing_status c.list_tables-listing.result _ _ c.as_slice-in-Ok.result.now c.listing_status.result
-    (c.as_slice-in-Ok.ensures ∙ c.in-Ok.ensures.text) c.listing_status.ensures (c.in-Ok.ensures.answer, c.list_tables-listing.ensures) c.answer.ensures.answers
+    (c.as_slice-in-Ok.ensures ∙ c.in-Ok.ensures.text) c.listing_status.ensures (c.in-Ok.ensures.told, c.list_tables-listing.ensures) c.answer.ensures.answers
 
 pub returns-in-Ok-clause-exact : goal.returns-in-Ok-clause-exact
 returns-in-Ok-clause-exact g c =
     let flat : FlatCircuit = circuit_in c.args.flat.now in
     told_exact (IsListing c.args.budget flat) (listing_text c.args.budget flat.ports) listing_status c.list_tables-listing.result _ _ c.as_slice-in-Ok.result.now c.listing_status.result
     (c.as_slice-in-Ok.ensures ∙ c.in-Ok.ensures.text) c.listing_status.ensures
-    (only_listing c.one_listing.ensures c.args.budget flat c.known.ensures.wired c.list_tables-listing.result (c.in-Ok.ensures.answer, c.list_tables-listing.ensures)) c.answer.ensures.answers
+    (only_listing c.one_listing.ensures c.args.budget flat c.known.ensures.wired c.list_tables-listing.result (c.in-Ok.ensures.told, c.list_tables-listing.ensures)) c.answer.ensures.answers
 
 pub returns-in-Ok-clause-fair : goal.returns-in-Ok-clause-fair
 returns-in-Ok-clause-fair g c =
