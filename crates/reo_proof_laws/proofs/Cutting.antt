@@ -1,5 +1,5 @@
 -- The logs of a proved text are cut into lines.
-use Rattle.std.proofs.Common.{◌≡◌, ◌∙◌, ℕ, ◌+◌, List, [], ◌∷◌, ◌++◌, refl, ap, sym, subst, length, map, arith}
+use Rattle.std.proofs.Common.{◌≡◌, ◌∙◌, ℕ, ◌+◌, List, [], ◌∷◌, ◌++◌, refl, ap, sym, subst, length, map}
 use Rattle.std.specs.Prelude.{codes}
 use Rattle.std.specs.List.{All}
 use Rattle.std.proofs.lemmas.List.{length-map}
@@ -10,7 +10,7 @@ use Rattle.reo_trace.specs.declared.line.Ending.{Ending}
 use Rattle.reo_trace.specs.EndingText.{ending_text}
 use Rattle.reo_trace.specs.RoundText.{round_text}
 use Rattle.reo_rounds.specs.Rules.{Rules}
-use Rattle.reo_runs.specs.Round.{State, Choosing, net_ready}
+use Rattle.reo_runs.specs.Round.{Choosing, net_ready}
 use Rattle.reo_runs.specs.Run.{Place, EndsAs, place_after, firsts}
 use Rattle.reo_refute_faults.specs.Faults.{IsProof}
 use Rattle.reo_proof_texts.specs.Cuts.{LoggedRound, lines_text, all_logged}

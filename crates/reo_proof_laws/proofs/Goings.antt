@@ -1,5 +1,5 @@
 -- What has begun with right logs goes on to a proved text.
-use Rattle.std.proofs.Common.{◌≡◌, ◌∙◌, ℕ, zero, suc, ◌+◌, ◌-◌, ◌<◌, ◌≤◌, ◌^◌, inl, inr, List, [], ◌∷◌, ◌++◌, refl, ap, sym, subst, length, map, arith, length-append}
+use Rattle.std.proofs.Common.{◌≡◌, ℕ, zero, suc, ◌+◌, ◌-◌, ◌≤◌, inl, inr, List, [], ◌∷◌, ◌++◌, refl, ap, sym, subst, length, arith, length-append}
 use Rattle.std.specs.Prelude.{Option, Some, None}
 use Rattle.std.proofs.lemmas.List.{length-map}
 use Rattle.reo_net_base.specs.declared.port.Offer.{Offer}
@@ -25,7 +25,7 @@ use Rattle.reo_rounds.proofs.RoundLemmas.{round_exists}
 use Rattle.reo_runs.specs.Round.{State, Choosing, RoundOf, net_ready, advanced}
 use Rattle.reo_runs.specs.Run.{Place, EndsAs, place_after, firsts}
 use Rattle.reo_proof_texts.specs.Cuts.{LoggedRound, all_logged}
-use Rattle.reo_proof_texts.specs.Proven.{IsProven, AreProven, IsProved}
+use Rattle.reo_proof_texts.specs.Proven.{IsProven, AreProven}
 use Rattle.reo_proof_laws.specs.Logs.{IsSized, FirstsHaveLogs}
 use Rattle.reo_proof_laws.specs.Proofs.{ProofGoesOn, HasProofs}
 use Rattle.reo_proof_laws.proofs.Narrowness.{within_is_narrow}

@@ -1,5 +1,5 @@
 -- A circuit of which no joint is wide has item lists.
-use Rattle.std.proofs.Common.{◌≡◌, ◌⊎◌, inl, inr, ℕ, zero, suc, ◌*◌, ◌-◌, ◌<◌, ◌≤◌, List, [], ◌∷◌, ◌++◌, length, set, refl, sym, ◌∙◌, subst, arith}
+use Rattle.std.proofs.Common.{◌≡◌, ◌⊎◌, inl, inr, ℕ, zero, suc, ◌+◌, ◌*◌, ◌-◌, ◌<◌, ◌≤◌, List, [], ◌∷◌, ◌++◌, length, set, refl, sym, ◌∙◌, subst, arith}
 use Rattle.std.specs.Prelude.{Contains, replicate}
 use Rattle.std.proofs.lemmas.Bool.{cases_eq, cases_lt}
 use Rattle.std.proofs.lemmas.List.{append-nil}
@@ -65,7 +65,7 @@ module _ (net : Net) (wired : IsWired net) (narrow : IsWide net → ⊥) where
       let n = new_at lists good j lt in
       let items : List Value = items_at lists j ++ n.0 in
       elim (cases_eq (length n.0) 0) [
-        | inl none ↦ let c = nothing_comes net lists good j lt n.0 n.1 items refl none in (set lists j items, c.0, c.1, inl c.2)
+        | inl nil ↦ let c = nothing_comes net lists good j lt n.0 n.1 items refl nil in (set lists j items, c.0, c.1, inl c.2)
         | inr some ↦ let c = items_come net lists good j lt n.0 n.1 items refl (omega (arith, some)) in (set lists j items, c.0, c.1, inr c.2)
       ]
 
