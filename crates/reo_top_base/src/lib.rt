@@ -2,8 +2,8 @@
 //! in which they end.
 #![tactic(auto)]
 
-mod answer;
+mod answering;
 mod refusing;
 
-pub use answer::{answer, no_memory};
+pub use answering::{answer, no_memory};
 pub use refusing::refuse;

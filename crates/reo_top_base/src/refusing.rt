@@ -6,7 +6,7 @@ ghost use Rattle.reo_top_base.specs.Stopped.{IsRefusedAs};
 ghost use Rattle.reo_command.specs.Stops.{stop_text};
 ghost use Rattle.reo_command.specs.declared.stop.Stop.TheVariants as stops;
 
-use crate::answer::{answer, no_memory};
+use crate::answering::{answer, no_memory};
 use reo_command::{READ_FAULT, Refusal, Role, Status, Stop, TOO_LONG, append_refusal};
 use reo_io::Sink;
 use reo_values::{Bytes, NoMemory};
