@@ -1,6 +1,7 @@
 -- One part more.
-use Rattle.std.proofs.Common.{◌≡◌, ◌∙◌, ℕ, zero, suc, ◌+◌, ◌<◌, ◌≤◌, Bool, true, false, List, [], ◌∷◌, ◌++◌, cond, map, length, get_or, refl, sym, ap, subst, arith}
+use Rattle.std.proofs.Common.{◌≡◌, ◌∙◌, ℕ, zero, suc, ◌+◌, ◌<◌, ◌==◌, true, false, List, [], ◌∷◌, ◌++◌, map, length, get_or, refl, sym, ap, subst, arith}
 use Rattle.std.specs.Prelude.{nat_lt}
+use Rattle.std.proofs.lemmas.Bool.Decides.{nat_tests}
 use Rattle.std.proofs.lemmas.List.{append-nil, map-append}
 use Rattle.reo_net_base.specs.Net.{Net}
 use Rattle.reo_knots.specs.Knots.{in_knot}
@@ -11,7 +12,7 @@ use Rattle.reo_weights.specs.Over.{IsWithin, IsSpent}
 use Rattle.reo_listing_base.specs.Tables.{HasMany}
 use Rattle.reo_listing_base.specs.Listed.{ports_of, has_ports, IsTableOf, AreTables, IsNextPart}
 use Rattle.reo_listing_ports.proofs.PortRange.{kept_more}
-use Rattle.reo_listing_rows.specs.PartTables.{IsPartTable, IsPartFault}
+use Rattle.reo_listing_rows.specs.PartTables.{IsPartFault}
 use Rattle.reo_listing.specs.Parts.{IsPartsTable, StopsAt}
 
 -- What is so of each of a list and of one more is so of all.
@@ -21,8 +22,22 @@ each_more P [] x each last (suc k) d lt = absurd (omega (arith, lt))
 each_more P (y ∷ ys) x each last zero d lt = each zero d (omega arith)
 each_more P (y ∷ ys) x each last (suc k) d lt = each_more P ys x (λ n e h. each (suc n) e (omega (arith, h))) last k d (omega (arith, lt))
 
-pub no_port : (n : ℕ) → n ≡ 0 → nat_lt 0 n ≡ false
-no_port n is = subst (λ k. nat_lt 0 k ≡ false) (sym is) refl
+no_number : (xs : List ℕ) → (length xs == 0) ≡ true → nat_lt 0 (length xs) ≡ false
+no_number [] none = refl
+no_number (x ∷ xs) none = grind (arith, none)
+
+some_number : (xs : List ℕ) → (length xs == 0) ≡ false → nat_lt 0 (length xs) ≡ true
+some_number [] some = cc
+some_number (x ∷ xs) some = grind (arith, nat_tests)
+
+-- Whether a part has ports, by the list of them.
+pub without_ports : (net : Net) (ports budget : ℕ) (numbers : List ℕ) (part : ℕ) (xs : List ℕ) → xs ≡ ports_of net ports budget numbers part → (length xs == 0) ≡ true
+    → has_ports net ports budget numbers part ≡ false
+without_ports net ports budget numbers part xs are none = subst (λ (ys : List ℕ). nat_lt 0 (length ys) ≡ false) are (no_number xs none)
+
+pub with_ports : (net : Net) (ports budget : ℕ) (numbers : List ℕ) (part : ℕ) (xs : List ℕ) → xs ≡ ports_of net ports budget numbers part → (length xs == 0) ≡ false
+    → has_ports net ports budget numbers part ≡ true
+with_ports net ports budget numbers part xs are some = subst (λ (ys : List ℕ). nat_lt 0 (length ys) ≡ true) are (some_number xs some)
 
 module _ (net : Net) (ports budget : ℕ) (numbers : List ℕ) (part : ℕ) (tables : List Table) (before : AreTables net ports budget numbers part tables) where
   -- A part without ports has no table.
@@ -45,12 +60,16 @@ module _ (net : Net) (ports budget : ℕ) (numbers : List ℕ) (part : ℕ) (tab
       })
 
   -- Why a part with ports has no table is why nothing is listed.
-  pub stops : has_ports net ports budget numbers part ≡ true → (fault : ListFault) → IsPartFault budget net (in_knot numbers part) (ports_of net ports budget numbers part) part fault
+  stops_by : has_ports net ports budget numbers part ≡ true → (fault : ListFault) → IsPartFault budget net (in_knot numbers part) (ports_of net ports budget numbers part) part fault
       → StopsAt net ports budget numbers part fault
-  stops has (faults.Filter i) it count lt = it
-  stops has (faults.Spent k weight) it count lt =
+  stops_by has (faults.Filter i) it count lt = it
+  stops_by has (faults.Spent k weight) it count lt =
       subst (λ n. IsNextPart net ports budget numbers count n × IsSpent budget net (in_knot numbers n) weight) (sym it.0) (record { in_range = lt; has = has; tables = tables; before = before }, it.1)
-  stops has (faults.Rows k) it count lt =
+  stops_by has (faults.Rows k) it count lt =
       subst (λ n. IsNextPart net ports budget numbers count n × IsWithin budget net (in_knot numbers n) × HasMany net (in_knot numbers n) (ports_of net ports budget numbers n)) (sym it.0)
       (record { in_range = lt; has = has; tables = tables; before = before }, it.1, it.2)
-  stops has faults.NoMemory it count lt = it
+  stops_by has faults.NoMemory it count lt = it
+
+  pub stops : has_ports net ports budget numbers part ≡ true → (xs : List ℕ) → xs ≡ ports_of net ports budget numbers part → (fault : ListFault)
+      → IsPartFault budget net (in_knot numbers part) xs part fault → StopsAt net ports budget numbers part fault
+  stops has xs are fault it = stops_by has fault (subst (λ (ys : List ℕ). IsPartFault budget net (in_knot numbers part) ys part fault) are it)

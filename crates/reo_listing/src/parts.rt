@@ -111,15 +111,7 @@ pub(crate) fn list_parts<L: Ledger>(
     let mut circuit = circuit;
     let mut tables = List::new(alloc);
     for part in 0..knots.count() {
-        if let Err(fault) = add_part(
-            alloc,
-            &mut circuit,
-            knots,
-            part,
-            budget,
-            &mut tables,
-            steps,
-        ) {
+        if let Err(fault) = add_part(alloc, &mut circuit, knots, part, budget, &mut tables, steps) {
             return Err(fault);
         }
     }

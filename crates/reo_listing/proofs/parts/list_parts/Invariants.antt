@@ -5,4 +5,4 @@ use Rattle.reo_listing_base.specs.Listed.{AreTables}
 use Rattle.reo_listing.proofs.parts.list_parts.Given as goal
 
 abbrev pub invariant-loop-part : goal.invariant-loop-part
-invariant-loop-part l = (l.circuit ≡ l.initial.circuit) × AreTables (net_of open_behaviour l.initial.circuit) l.initial.circuit.ports l.budget l.knots.numbers l.part l.tables
+invariant-loop-part g l = (l.circuit ≡ l.initial.circuit) × AreTables (net_of open_behaviour l.initial.circuit) l.initial.circuit.ports l.budget l.knots.numbers l.part l.tables
