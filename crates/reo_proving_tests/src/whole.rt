@@ -31,7 +31,7 @@ const CASES: &[Case] = &[
     // the limit stands in place of the second round
     Case {
         work: Work {
-            circuit: ONE.circuit,
+            circuit: "connector main(in a: int 0..9, out b: int 0..9) { sync a b; }",
             script: "component p { write a 3; write a 4; } component q { repeat 2 { take b; } }",
             budget: 100_000,
             rounds: 1,
