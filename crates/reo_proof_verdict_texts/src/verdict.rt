@@ -31,7 +31,10 @@ fn append_refusal(alloc: Global, line: &mut Bytes, refusal: &ProofRefusal) -> Re
             append_round(alloc, line, *round)?;
             line.append(b"wide")
         }
-        ProofRefusal::Log { round, line: number } => {
+        ProofRefusal::Log {
+            round,
+            line: number,
+        } => {
             append_round(alloc, line, *round)?;
             append_numbered(alloc, line, b"line ", *number)
         }

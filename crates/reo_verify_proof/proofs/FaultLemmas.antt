@@ -1,5 +1,5 @@
 -- Faults of logs whose rows are those of a colouring.
-use Rattle.std.proofs.Common.{◌≡◌, ◌≢◌, inl, inr, ap, sym, ℕ, ◌+◌, ◌≤◌, List, Option, [], ◌∷◌, ◌++◌, length, length-append, arith}
+use Rattle.std.proofs.Common.{inl, inr, ap, ℕ, ◌+◌, ◌≤◌, List, Option, [], ◌∷◌, length, length-append, arith}
 use Rattle.reo_values.specs.declared.value.Value.{Value}
 use Rattle.reo_net_base.specs.Net.{Net}
 use Rattle.reo_net_base.specs.Colouring.{IsColouring}

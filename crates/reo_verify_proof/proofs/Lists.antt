@@ -41,8 +41,7 @@ module _ {P : Type 0} (r : Rules P) (q : Place P) (x : LoggedRound) (b : State P
       subst (λ (s : Place P). AreProven colourings r turn s (x ∷ []) (place_after (turn + length none) x.line q.state b)) (sym are) here
   proven_more turn p (y ∷ ys) are proven =
       let same : turn + length (y ∷ ys) ≡ turn + 1 + length ys = omega arith in
-      let rest = proven_more (turn + 1) (place_after turn y.line p.state are.1) ys are.3 (subst (λ (n : ℕ). IsProven colourings r n q.state x b) same proven) in
-      (
+      let rest = proven_more (turn + 1) (place_after turn y.line p.state are.1) ys are.3 (subst (λ (n : ℕ). IsProven colourings r n q.state x b) same proven) in (
         are.0,
         are.1,
         are.2,

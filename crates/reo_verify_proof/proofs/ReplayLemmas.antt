@@ -1,5 +1,5 @@
 -- The replay of a proof text, round by round.
-use Rattle.std.proofs.Common.{◌≡◌, ◌≢◌, ◌∙◌, inl, inr, ap, refl, sym, subst, ℕ, ◌+◌, ◌<◌, ◌≤◌, ◌^◌, List, [], ◌∷◌, ◌++◌, length, append_assoc, append-nil, length-append, arith}
+use Rattle.std.proofs.Common.{◌≡◌, ◌∙◌, ap, refl, sym, subst, ℕ, ◌+◌, ◌<◌, ◌≤◌, ◌^◌, List, [], ◌∷◌, ◌++◌, length, append_assoc, length-append, arith}
 use Rattle.std.specs.Prelude.{Option, None}
 use Rattle.reo_net_base.specs.declared.port.Port.{Port}
 use Rattle.reo_net_base.specs.Net.{Net, Wiring, net_of}
@@ -15,15 +15,14 @@ use Rattle.reo_runs.specs.Run.{Place, place_after}
 use Rattle.reo_at_ports.specs.Pending.{IsButForOffers}
 use Rattle.reo_verdicts.specs.Replays.{colourings}
 use Rattle.reo_verdicts.specs.Said.{AreSaid}
-use Rattle.reo_refute_faults.specs.declared.fault.ProofFault.{ProofFault}
 use Rattle.reo_refute_faults.specs.declared.fault.ProofFault.TheVariants as faults
 use Rattle.reo_refute_faults.specs.Faults.{IsProof}
-use Rattle.reo_proof_texts.specs.Cuts.{LoggedRound, lines_text, logged_text, all_logged, lines_in, AreLogged, IsLogged, Next}
+use Rattle.reo_proof_texts.specs.Cuts.{LoggedRound, logged_text, all_logged, IsLogged}
 use Rattle.reo_proof_texts.specs.Proven.{IsProven, AreProven}
 use Rattle.reo_proof_reader.specs.Found.{IsRoundFound}
 use Rattle.reo_proof_rounds.specs.declared.stop.RoundStop.{RoundStop}
 use Rattle.reo_proof_rounds.specs.declared.stop.RoundStop.TheVariants as stops
-use Rattle.reo_proof_rounds.specs.Rounds.{IsRoundProven, IsLogRefused, IsNoProof}
+use Rattle.reo_proof_rounds.specs.Rounds.{IsRoundProven, IsNoProof}
 use Rattle.reo_verify_proof.specs.Refusing.{IsOfRound}
 use Rattle.reo_verify_proof.proofs.FaultLemmas.{none_wrong_by, wrong_line_le}
 use Rattle.reo_verify_proof.proofs.Lists.{lines_more, text_more, logged_more, proven_more, lines_le, rounds_le, Found, found_le}

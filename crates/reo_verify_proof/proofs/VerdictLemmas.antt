@@ -20,7 +20,7 @@ use Rattle.reo_refute_faults.specs.declared.fault.ProofFault.TheVariants as faul
 use Rattle.reo_refute_faults.specs.Faults.{IsProofFault}
 use Rattle.reo_proof_texts.specs.declared.refusal.ProofRefusal.{ProofRefusal}
 use Rattle.reo_proof_texts.specs.declared.refusal.ProofRefusal.TheVariants as refusals
-use Rattle.reo_proof_texts.specs.Cuts.{LoggedRound, lines_text, all_logged, lines_in, Next, IsNext}
+use Rattle.reo_proof_texts.specs.Cuts.{LoggedRound, all_logged, Next, IsNext}
 use Rattle.reo_proof_texts.specs.ProofVerdicts.{FailsBy, IsWrongRoundBy, IsWrongNext, IsProofRefused, IsVerified, IsProofVerdict}
 use Rattle.reo_proof_reader.specs.Found.{IsRoundFound}
 use Rattle.reo_proof_rounds.specs.declared.stop.RoundStop.{RoundStop}
@@ -29,32 +29,9 @@ use Rattle.reo_proof_rounds.specs.Rounds.{IsLogRefused, IsNoProof}
 use Rattle.reo_verify_proof.specs.Answered.{IfVerdict}
 use Rattle.reo_verify_proof.specs.Ended.{IsVerdictAt}
 use Rattle.reo_verify_proof.specs.Refusing.{of_cause, IsRoundRefusal}
-use Rattle.reo_verify_proof.proofs.ReplayLemmas.{now_at, place_now, round_now}
+use Rattle.reo_verify_proof.proofs.ReplayLemmas.{place_now}
 use Rattle.reo_verify_proof.proofs.SoFar.{SoFar}
-
--- An answer is a verdict.
-pub if_verdict : (answer : Result ℕ ProofRefusal) (holds : Result ℕ ProofRefusal → Type 0) → holds answer → IfVerdict answer holds
-if_verdict (Ok count) holds is = is
-if_verdict (Err (refusals.Line line)) holds is = is
-if_verdict (Err (refusals.Ended round)) holds is = is
-if_verdict (Err (refusals.Round round wrong node)) holds is = is
-if_verdict (Err (refusals.Moves round)) holds is = is
-if_verdict (Err (refusals.Wide round)) holds is = is
-if_verdict (Err (refusals.Log round line)) holds is = is
-if_verdict (Err refusals.End) holds is = is
-if_verdict (Err refusals.NoMemory) holds is = tt
-
--- What holds of a verdict, and of one thing alone.
-pub only_by : (answer : Result ℕ ProofRefusal) (holds : Result ℕ ProofRefusal → Type 0) (x : Result ℕ ProofRefusal) → ((y : Result ℕ ProofRefusal) → holds y → y ≡ x) → IfVerdict answer holds → IfVerdict answer (λ y. y ≡ x)
-only_by (Ok count) holds x one is = one (Ok count) is
-only_by (Err (refusals.Line line)) holds x one is = one (Err (refusals.Line line)) is
-only_by (Err (refusals.Ended round)) holds x one is = one (Err (refusals.Ended round)) is
-only_by (Err (refusals.Round round wrong node)) holds x one is = one (Err (refusals.Round round wrong node)) is
-only_by (Err (refusals.Moves round)) holds x one is = one (Err (refusals.Moves round)) is
-only_by (Err (refusals.Wide round)) holds x one is = one (Err (refusals.Wide round)) is
-only_by (Err (refusals.Log round line)) holds x one is = one (Err (refusals.Log round line)) is
-only_by (Err refusals.End) holds x one is = one (Err refusals.End) is
-only_by (Err refusals.NoMemory) holds x one is = tt
+use Rattle.reo_verify_proof.proofs.Verdicts.{if_verdict}
 
 module _ {P : Type 0} (r : Rules P) (ports : List Port) (nodes : List (List ℕ)) (homes : List ℕ) (start : Place P) (text left : List ℕ) (before made : ℕ) (w : Wiring P) (players : List Player) (over : Option Ending)
     (so_far : SoFar r ports start text left before made w players over) where
@@ -135,8 +112,8 @@ module _ {P : Type 0} (r : Rules P) (ports : List Port) (nodes : List (List ℕ)
     by_round on number (stops.Log (faults.Colouring wrong)) refusal why is = absurd is
     by_round on number (stops.Log faults.Wide) refusal why is =
         subst (λ (z : ProofRefusal). IfVerdict (Err z) (IsProofVerdict r ports nodes homes start text)) (sym is)
-        (refused (Next.round x new) (refusals.Wide (made + 1)) found.next_is (inr (on, refl, fails faults.Wide why)))
+        (refused (Next.round x new) (refusals.Wide (made + 1)) found.next_is (inr (on, (refl, fails faults.Wide why))))
     by_round on number (stops.Log (faults.Line n)) refusal why is =
         subst (λ (z : ProofRefusal). IfVerdict (Err z) (IsProofVerdict r ports nodes homes start text)) (sym is)
-        (refused (Next.round x new) (refusals.Log (made + 1) (before + 1 + n)) found.next_is (inr (on, refl, n, fails (faults.Line n) why, refl)))
+        (refused (Next.round x new) (refusals.Log (made + 1) (before + 1 + n)) found.next_is (inr (on, (refl, n, fails (faults.Line n) why, refl))))
     by_round on number (stops.Log faults.NoMemory) refusal why is = subst (λ (z : ProofRefusal). IfVerdict (Err z) (IsProofVerdict r ports nodes homes start text)) (sym is) tt

@@ -69,7 +69,9 @@ fn replay_rounds<P: Restoring>(
         let made = engine.rounds();
         match read_next(alloc, &mut reader, ports, made + 1) {
             Err(_) => return Err(ProofRefusal::NoMemory),
-            Ok(Next::Wrong { line }) => return Err(ProofRefusal::Line { line: before + line }),
+            Ok(Next::Wrong { line }) => return Err(ProofRefusal::Line {
+                line: before + line,
+            }),
             Ok(Next::Ending(ending)) => return verdict_at(over, made, ending),
             Ok(Next::Round { line, log, lines }) => {
                 if over.is_some() {

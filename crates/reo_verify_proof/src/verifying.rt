@@ -1,5 +1,5 @@
 //! The verdict on a proof text.
-ghost use Rattle.std.specs.Prelude.{◌≡◌, ℕ, Result, map};
+ghost use Rattle.std.specs.Prelude.{◌≡◌, ℕ, Result, IfOk, map};
 ghost use Rattle.reo_kinds.specs.Kinds.{port_state_of};
 ghost use Rattle.reo_trace_texts.specs.Lines.{AreTold};
 ghost use Rattle.reo_runs.specs.Run.{start_of};
@@ -8,11 +8,12 @@ ghost use Rattle.reo_at_ports.specs.Runnable.{CanRun};
 ghost use Rattle.reo_proof_texts.specs.declared.refusal.ProofRefusal.{ProofRefusal as ARefusal};
 ghost use Rattle.reo_proof_texts.specs.ProofVerdicts.{IsProofVerdict};
 ghost use Rattle.reo_verify_proof.specs.Answered.{IfVerdict};
+ghost use Rattle.reo_verify_proof.specs.Firsts.{AreFirsts};
 
 use crate::replay::replay;
 use reo_flatten::Flat;
 use reo_kinds::Kind;
-use reo_proof_texts::{ProofRefusal, one_proof_verdict};
+use reo_proof_texts::{ProofRefusal, one_proof_verdict, verified_rounds_are_first};
 use reo_runs::known_order;
 use reo_scripts::Script;
 use std::alloc::Global;
@@ -20,7 +21,7 @@ use std::alloc::Global;
 /// The verdict on a proof text of a script on a circuit: how many rounds it has, where it is the
 /// proved text of a run in which each round is some colouring. The text is replayed: in each round
 /// the components make their offers, the line and its log are judged, the circuit steps by the rows
-/// of the line and each component goes on.
+/// of the line and each component goes on. Where it is verified, each round is the first colouring.
 ///
 /// Not judged is why a round could not be planned.
 ///
@@ -43,6 +44,8 @@ pub fn verify_proof(
         (verdict : Result ℕ ARefusal)
         → IsProofVerdict kind_rules flat.ports.list flat.nodes flat.homes start proof.now verdict
         → IfVerdict result (λ answer. answer ≡ verdict) }
+    ensures first { let start = start_of flat.circuit script.components in
+        IfOk result (AreFirsts kind_rules flat.ports.list start proof.now) }
 {
     let Flat {
         circuit,
@@ -52,6 +55,7 @@ pub fn verify_proof(
     } = flat;
     known_order(&circuit);
     one_proof_verdict::<Kind>();
+    verified_rounds_are_first::<Kind>();
     let nodes = nodes.as_slice();
     let homes = homes.as_slice();
     replay(alloc, circuit, &ports, nodes, homes, script, proof)

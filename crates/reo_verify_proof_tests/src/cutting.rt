@@ -89,7 +89,11 @@ fn a_text_without_a_line_is_refused_for_the_first_that_is_wrong(
 fn a_text_that_is_cut_is_refused_for_the_line_of_the_cut(rt: HostRuntime) -> Result<(), Fail> {
     let whole = without(rt.alloc(), LINES.len())?;
     let text = whole.as_slice();
-    is(&rt, is_told(rt.alloc(), text, b"proved 1 rounds\n"), "whole");
+    is(
+        &rt,
+        is_told(rt.alloc(), text, b"proved 1 rounds\n"),
+        "whole",
+    );
     for end in 0..text.len() {
         is(&rt, is_cut(rt.alloc(), &text[..end]), "cut");
     }

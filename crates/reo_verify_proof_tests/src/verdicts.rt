@@ -1,6 +1,8 @@
 //! Verdicts on proof texts.
 use crate::checks::is;
 use crate::judging::is_judged;
+use std::alloc::Global;
+use std::process::Abort;
 use std::test::Fail;
 
 /// A circuit and a script.
@@ -217,11 +219,11 @@ const ROUNDS: &[Case] = &[
 ];
 
 /// Whether each text has its verdict.
-fn are_judged(rt: &HostRuntime, cases: &[Case]) {
+fn are_judged(rt: &impl Abort, alloc: Global, cases: &[Case]) {
     for (given, proof, line) in cases {
         let (circuit, script) = given;
         let judged = is_judged(
-            rt.alloc(),
+            alloc,
             circuit.as_bytes(),
             script.as_bytes(),
             proof.as_bytes(),
@@ -233,18 +235,18 @@ fn are_judged(rt: &HostRuntime, cases: &[Case]) {
 
 #[test]
 fn proved_texts_are_verified(rt: HostRuntime) -> Result<(), Fail> {
-    are_judged(&rt, PROVED);
+    are_judged(&rt, rt.alloc(), PROVED);
     Ok(())
 }
 
 #[test]
 fn wrong_lines_are_told(rt: HostRuntime) -> Result<(), Fail> {
-    are_judged(&rt, LINES);
+    are_judged(&rt, rt.alloc(), LINES);
     Ok(())
 }
 
 #[test]
 fn wrong_rounds_are_told(rt: HostRuntime) -> Result<(), Fail> {
-    are_judged(&rt, ROUNDS);
+    are_judged(&rt, rt.alloc(), ROUNDS);
     Ok(())
 }

@@ -2,12 +2,11 @@
 use crate::checks::is;
 use crate::judging::is_judged;
 use reo_values::{Bytes, NoMemory};
-use std::alloc::Global;
-use std::string::FmtError;
+use std::alloc::{AllocError, Global};
 use std::test::Fail;
 
 /// Adds a text that was made.
-fn append_made(out: &mut Bytes, made: Result<String, FmtError>) -> Result<(), NoMemory> {
+fn append_made(out: &mut Bytes, made: Result<String, AllocError>) -> Result<(), NoMemory> {
     match made {
         Ok(text) => out.append(text.as_bytes()),
         Err(_) => Err(NoMemory),
