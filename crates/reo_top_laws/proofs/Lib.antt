@@ -2,5 +2,4 @@ pub mod CertificateLemmas
 pub mod DigitLemmas
 pub mod LimitLemmas
 pub mod WordLemmas
-pub mod ProofLemmas
 pub mod TraceLemmas

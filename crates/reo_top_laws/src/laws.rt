@@ -8,10 +8,8 @@ use reo_circuit_texts::{circuit_names_are_plain, circuits_are_spelled};
 use reo_flatten_laws::circuits_are_made;
 use reo_kinds::Kind;
 use reo_net_order::order_exists;
-use reo_proof_laws::proved_texts_are_cut;
-use reo_proof_texts::{
-    proved_texts_are_of_runs, proved_texts_are_verified, verified_rounds_are_first,
-};
+use reo_proof_texts::verified_rounds_are_first;
+use reo_run_proofs::run_proofs_are_verified;
 use reo_run_texts::runs_are_trace_texts;
 use reo_runs::{one_trace, trace_exists};
 use reo_verdicts::runs_are_verified;
@@ -54,10 +52,7 @@ pub fn written_proofs_are_verified()
 {
     circuits_are_spelled();
     circuit_names_are_plain();
-    runs_are_trace_texts();
-    proved_texts_are_cut::<Kind>();
-    proved_texts_are_of_runs::<Kind>();
-    proved_texts_are_verified::<Kind>();
+    run_proofs_are_verified();
 }
 
 /// A proof is verified only where its rounds are those of a run in which each is the first
