@@ -1,15 +1,15 @@
 -- A round that was planned, made and written with its log is a proven round.
-use Rattle.std.proofs.Common.{◌≡◌, ◌∙◌, ℕ, ◌+◌, ◌≤◌, List, ◌++◌, refl, sym, ap, subst}
-use Rattle.std.specs.Prelude.{Option, Some, None, codes}
+use Rattle.std.proofs.Common.{◌≡◌, ◌∙◌, inl, inr, ℕ, ◌≤◌, List, ◌++◌, refl, sym, ap, subst}
+use Rattle.std.specs.Prelude.{Option, Some, codes}
 use Rattle.reo_io.specs.Sinks.{Appended, TookPart}
 use Rattle.reo_net_base.specs.declared.port.Port.{Port}
 use Rattle.reo_net_base.specs.First.{IsFirst}
 use Rattle.reo_net_base.specs.Moves.{moves_of}
 use Rattle.reo_net_base.specs.Net.{Net, Wiring, net_of}
 use Rattle.reo_net_base.specs.Step.{stepped}
+use Rattle.reo_engine.specs.Engine.{Running}
 use Rattle.reo_players.specs.Players.{Player}
 use Rattle.reo_players.specs.Offers.{offer_for}
-use Rattle.reo_trace.specs.declared.line.RoundLine.{RoundLine}
 use Rattle.reo_trace.specs.declared.line.Ending.{Ending}
 use Rattle.reo_trace.specs.declared.line.Ending.TheVariants as endings
 use Rattle.reo_trace.specs.Entries.{line_for}
@@ -18,7 +18,7 @@ use Rattle.reo_rounds.specs.declared.plan.Plan.{Plan}
 use Rattle.reo_rounds.specs.declared.plan.PlanFault.{PlanFault}
 use Rattle.reo_rounds.specs.declared.plan.PlanFault.TheVariants as faults
 use Rattle.reo_rounds.specs.declared.plan.PlannedRound.{PlannedRound}
-use Rattle.reo_rounds.specs.Plans.{IsPlan, IsPlannedRound, IsPlanFault}
+use Rattle.reo_rounds.specs.Plans.{IsPlannedRound, IsPlanFault}
 use Rattle.reo_rounds.specs.Ready.{ready}
 use Rattle.reo_rounds.specs.Rules.{Rules}
 use Rattle.reo_weights.specs.Over.{IsOver}
@@ -28,10 +28,17 @@ use Rattle.reo_runs.specs.Run.{firsts, over_after}
 use Rattle.reo_at_ports.specs.Pending.{IsButForOffers}
 use Rattle.reo_at_ports.proofs.AfterRound.{over_by}
 use Rattle.reo_refute_faults.specs.Faults.{IsProof}
-use Rattle.reo_proof_texts.specs.Cuts.{LoggedRound, lines_text, logged_text}
+use Rattle.reo_proof_texts.specs.Cuts.{LoggedRound, lines_text}
 use Rattle.reo_proof_texts.specs.Proven.{IsProven}
 use Rattle.reo_proof_laws.specs.Logs.{LogsAreLines}
-use Rattle.reo_proving.specs.Rounds.{ending_for, IsEndedLog, HasLogged, HasLoggedPart, MadeRound, StopsHere, Went, CutRound}
+use Rattle.reo_proving.specs.Rounds.{ending_for, IsEndedLog, HasLogged, HasLoggedPart, Went, CutRound}
+
+-- What stays of an engine whose kept rows alone change.
+pub same_circuit : {P : Type 0} (x y : Running P) → x ≡ record y { kept = x.kept } → x.circuit ≡ y.circuit
+same_circuit x y is = ap (λ (e : Running _). e.circuit) is
+
+pub same_rounds : {P : Type 0} (x y : Running P) → x ≡ record y { kept = x.kept } → x.rounds ≡ y.rounds
+same_rounds x y is = ap (λ (e : Running _). e.rounds) is
 
 -- Why the next round cannot be planned is why the run stops in place of it.
 stops_by : {P : Type 0} (r : Rules P) (budget limit turn : ℕ) (a : State P) (fault : PlanFault) (ending : Ending) → turn ≤ limit → IsPlanFault budget (net_ready r a) fault → ending_for turn budget fault ≡ Some ending

@@ -1,8 +1,8 @@
 -- Rounds with their logs, one after another.
-use Rattle.std.proofs.Common.{◌≡◌, ◌∙◌, ℕ, ◌+◌, ◌≤◌, inl, inr, List, [], ◌∷◌, ◌++◌, Bool, true, cond, ap, sym, refl, subst, length, map, arith, append_assoc, length-append}
+use Rattle.std.proofs.Common.{◌≡◌, ◌∙◌, ℕ, ◌+◌, inl, inr, List, [], ◌∷◌, ◌++◌, Bool, true, false, cond, ap, sym, refl, subst, length, map, arith, append_assoc, length-append}
 use Rattle.std.proofs.lemmas.List.{append-nil}
 use Rattle.std.proofs.lemmas.Grind.{flat_map-append}
-use Rattle.std.specs.Prelude.{Option, Some, None, Result, Ok, Err, IsErrOf}
+use Rattle.std.specs.Prelude.{Option, Some, None, Result, Ok, Err, IsErr, IsErrAnd, IsErrOf}
 use Rattle.reo_io.specs.Sinks.{Appended, TookPart}
 use Rattle.reo_io.proofs.Taken.{Appended-none, Appended-append, TookPart-after, TookPart-more}
 use Rattle.reo_net_base.specs.declared.port.Port.{Port}
@@ -20,10 +20,10 @@ use Rattle.reo_runs.specs.Run.{Place, EndsAs, place_after, over_after, start_of,
 use Rattle.reo_at_ports.specs.Pending.{IsButForOffers}
 use Rattle.reo_proof_texts.specs.Cuts.{LoggedRound, logged_text, all_logged}
 use Rattle.reo_proof_texts.specs.Proven.{IsProven, AreProven, IsProved}
-use Rattle.reo_proof_laws.specs.Proofs.{ProofGoesOn, HasProofs}
+use Rattle.reo_proof_laws.specs.Proofs.{HasProofs}
 use Rattle.reo_proof_laws.proofs.Goings.{proven_more}
-use Rattle.reo_proving.specs.Proving.{HasProved, HasCut, HasKept, HasCome}
-use Rattle.reo_proving.specs.Rounds.{MadeRound, StopsHere, Went, CutRound}
+use Rattle.reo_proving.specs.Proving.{HasProved, HasCut, HasKept}
+use Rattle.reo_proving.specs.Rounds.{Went, CutRound}
 use Rattle.reo_proving.proofs.SoFar.{SoFar, Finished}
 
 -- The text of one round more with its log.
@@ -34,9 +34,24 @@ text_on : (ports : List Port) (before mid now : Option (List ℕ)) (xs : List Lo
 text_on ports before mid now xs x p q = subst (λ (z : List ℕ). Appended before now z) (sym (text_more ports xs x)) (Appended-append before mid now _ _ p q)
 
 -- What the answer says of a fault.
-pub by_fault : (P : Result Ending WriteFault → Type 0) (fault : WriteFault) → (fault ≡ Failed → P (Err Failed)) → (fault ≡ NoMemory → P (Err NoMemory)) → P (Err fault)
-by_fault P Failed cut kept = cut refl
-by_fault P NoMemory cut kept = kept refl
+by_fault : (Q : Result Ending WriteFault → Type 0) (fault : WriteFault) → (fault ≡ Failed → Q (Err Failed)) → (fault ≡ NoMemory → Q (Err NoMemory)) → Q (Err fault)
+by_fault Q Failed cut kept = cut refl
+by_fault Q NoMemory cut kept = kept refl
+
+-- A fault that is passed on.
+pub passed_on : (Q : Result Ending WriteFault → Type 0) (r : Result Ending WriteFault) (d : WriteFault) → IsErr r × IsErrAnd r (λ y. y ≡ d) → (d ≡ Failed → Q (Err Failed)) → (d ≡ NoMemory → Q (Err NoMemory)) → Q r
+passed_on Q (Ok v) d h cut kept = absurd h.1
+passed_on Q (Err e) d h cut kept = subst (λ (x : WriteFault). Q (Err x)) (sym h.1) (by_fault Q d cut kept)
+
+pub same_fault : {T U E : Type 0} (r : Result T E) (d x : E) → IsErr r × IsErrAnd r (λ y. y ≡ d) → IsErrOf r x → IsErrOf {T = U} (Err d) x
+same_fault (Ok v) d x h is = absurd h.1
+same_fault (Err e) d x h is =
+    let same : e ≡ x = cc in
+    ap Err (sym h.1 ∙ same)
+
+pub none_of : {X : Type 0} (o : Option X) → ((x : X) → o ≡ Some x → ⊥) → o ≡ None
+none_of None h = refl
+none_of (Some x) h = absurd (h x refl)
 
 module _ {P : Type 0} (r : Rules P) (ports : List Port) (budget limit : ℕ) (start : Place P) where
   -- The run ended, and its ending was written.
@@ -168,6 +183,17 @@ module _ {P : Type 0} (r : Rules P) (ports : List Port) (budget limit : ℕ) (st
         count = count_more made.logged;
         text = text_on ports before mid now so_far.rounds made.logged so_far.text made.text;
       }
+
+-- A run that begins, some component not being done.
+pub begun : {P : Type 0} (Q : Place P → Type 0) (w v : Wiring P) (cs : List Component) (players : List Player) → all_done (map beginning_of cs) ≡ false → players ≡ map beginning_of cs → v ≡ w
+    → Q (record { state = record { circuit = v; players = players }; over = None }) → Q (start_of w cs)
+begun Q w v cs players going same here is =
+    let from : Place _ = record { state = record { circuit = v; players = players }; over = None } in
+    let begins : from ≡ start_of w cs = λ i. record {
+      state = record { circuit = here i; players = same i };
+      over = ap (λ (b : Bool). cond b (Some (endings.Done 0)) None) (sym going) i;
+    } in
+    subst Q begins is
 
 -- Nothing was made yet.
 pub so_far_none : {P : Type 0} (r : Rules P) (ports : List Port) (budget limit : ℕ) (w : Wiring P) (players : List Player) (before : Option (List ℕ)) (n : ℕ) → IsButForOffers r w w → n ≡ 0

@@ -1,5 +1,5 @@
 -- One round of a run with its log.
-use Rattle.std.specs.Prelude.{ℕ, ◌+◌, ◌≡◌, ◌⊎◌, Option, Some, None, List, ◌++◌, codes}
+use Rattle.std.specs.Prelude.{ℕ, ◌≡◌, ◌⊎◌, Option, Some, None, List, ◌++◌, codes}
 use Rattle.reo_io.specs.Sinks.{Appended, TookPart}
 use Rattle.reo_net_base.specs.declared.port.Port.{Port}
 use Rattle.reo_net_base.specs.Net.{Net, Wiring}
