@@ -2,7 +2,7 @@
 use Rattle.std.proofs.Common.{◌≡◌, ◌∙◌, ◌⊎◌, inl, inr, refl, ℕ, List, [], ◌∷◌, ◌++◌, map, take, sym, subst, ap, append_assoc, arith}
 use Rattle.std.proofs.lemmas.Grind.{flat_map-append}
 use Rattle.std.proofs.lemmas.List.{append-nil}
-use Rattle.std.specs.Prelude.{◌≢◌, ◌≤◌, Option, codes, true}
+use Rattle.std.specs.Prelude.{◌≢◌, ◌≤◌, Option, Result, Err, codes, true}
 use Rattle.reo_io.specs.Causes.{Rose}
 use Rattle.reo_io.specs.Sinks.{Appended}
 use Rattle.reo_io.proofs.Counts.{Rose-since}
@@ -10,6 +10,7 @@ use Rattle.reo_io.proofs.Taken.{Appended-append}
 use Rattle.reo_net_base.specs.declared.port.Port.{Port}
 use Rattle.reo_trace.specs.declared.line.RoundLine.{RoundLine}
 use Rattle.reo_trace.specs.declared.line.Ending.{Ending}
+use Rattle.reo_trace.specs.declared.write.WriteFault.{WriteFault}
 use Rattle.reo_trace.specs.EndingText.{ending_text}
 use Rattle.reo_trace.specs.RoundText.{round_text}
 use Rattle.reo_runner.specs.declared.outcome.Limits.{Limits}
@@ -18,7 +19,7 @@ use Rattle.reo_runs.specs.Whole.{HasOneRun}
 use Rattle.reo_proof_texts.specs.Cuts.{LoggedRound, lines_text, logged_text, all_logged}
 use Rattle.reo_proof_texts.specs.Laws.{ProvedTextsAreOfRuns}
 use Rattle.reo_proof_texts.specs.Proven.{IsProved}
-use Rattle.reo_proving.specs.Proving.{HasProved, HasCut, HasKept}
+use Rattle.reo_proving.specs.Proving.{HasProved, HasCut, HasKept, HasCome}
 use Rattle.reo_command.specs.declared.command.Command.TheVariants.{Prove}
 use Rattle.reo_command.specs.Limits.{firsts_for}
 use Rattle.reo_command.specs.Readings.{Runnable}
@@ -46,6 +47,11 @@ all_end ports (x ∷ xs) = inr (some_end ports x xs)
 module _ (limits : Limits) (r : Runnable) where
   abbrev Proves : List LoggedRound → Ending → List ℕ → Type 0
   Proves rounds ending text = IsProved (firsts_for limits) kind_rules r.flat.ports (start_for r) rounds ending text
+
+  -- What was written, by the fault.
+  pub came_as : (before now : Option (List ℕ)) (fault known : WriteFault) → fault ≡ known → HasCome (firsts_for limits) kind_rules r.flat.ports (start_for r) before now (Err fault)
+      → HasCome (firsts_for limits) kind_rules r.flat.ports (start_for r) before now (Err known)
+  came_as before now fault known is came = subst (λ (f : WriteFault). HasCome (firsts_for limits) kind_rules r.flat.ports (start_for r) before now (Err f)) is came
 
   owed_text : (rounds : List LoggedRound) (ending : Ending) (text : List ℕ) → Proves rounds ending text → ProvesRun limits r text (ending_status ending)
   owed_text rounds ending text proved = record { rounds = rounds; ending = ending; proved = proved; status = refl }
