@@ -1,4 +1,6 @@
 pub mod Cuts
 mod RowLemmas
 mod SaidLemmas
-mod JudgeLemmas
+pub mod JudgeLemmas
+pub mod RefusalLemmas
+pub mod EndLemmas

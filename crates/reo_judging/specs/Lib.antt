@@ -1,3 +1,4 @@
 pub mod Entries
 pub mod Judged
+pub mod Ends
 pub mod Refused

@@ -1,6 +1,6 @@
 -- Rounds of a replay, one after another.
-use Rattle.std.proofs.Common.{◌≡◌, ◌≢◌, ◌∙◌, inl, inr, ℕ, zero, suc, ◌+◌, ◌≤◌, true, false, List, [], ◌∷◌, ◌++◌, length, take, drop, refl, sym, ap, subst, arith}
-use Rattle.std.specs.Prelude.{Option, Some, None, is_some, slice_get}
+use Rattle.std.proofs.Common.{◌≡◌, ◌≢◌, ◌∙◌, inl, inr, ℕ, zero, suc, ◌+◌, ◌≤◌, List, [], ◌∷◌, ◌++◌, length, take, drop, refl, sym, ap, subst, arith}
+use Rattle.std.specs.Prelude.{Option, Some, None, slice_get}
 use Rattle.reo_net_base.specs.declared.port.Port.{Port}
 use Rattle.reo_net_base.specs.Colouring.{IsColouring}
 use Rattle.reo_net_base.specs.Moves.{moves_of}
@@ -25,10 +25,10 @@ use Rattle.reo_verdicts.specs.declared.verdict.Refusal.TheVariants as refusals
 use Rattle.reo_verdicts.specs.Replays.{colourings}
 use Rattle.reo_verdicts.specs.Wrongs.{IsWrongRound}
 use Rattle.reo_judging.specs.declared.judging.Stop.{Stop}
-use Rattle.reo_judging.specs.declared.judging.Stop.TheVariants as stops
 use Rattle.reo_judging.specs.Judged.{IsPlanShown}
 use Rattle.reo_judging.specs.Refused.{IsRefusalBy}
 use Rattle.reo_verify.specs.Replayed.{IsReplayed, IsNoRound, AreReplayed, IsCutOff}
+use Rattle.reo_judging.proofs.RefusalLemmas.{wrong_by}
 use Rattle.reo_judging.proofs.Cuts.{cut_at, take_one_more, taken, take_all}
 use Rattle.reo_verify.proofs.SoFar.{SoFar}
 
@@ -68,14 +68,6 @@ line_at ports number (suc i) (x ∷ xs) line are is =
     let next : number + 1 + i ≡ number + suc i = omega arith in
     subst (λ n. IsLine ports n line) next (line_at ports (number + 1) i xs line are.1 is)
 
-pub ended_by : (over : Option Ending) → is_some over ≡ true → over ≢ None
-ended_by None is = λ none. absurd (cc)
-ended_by (Some ending) is = λ none. absurd (cc)
-
-pub on_by : (over : Option Ending) → is_some over ≡ false → over ≡ None
-on_by None is = refl
-on_by (Some ending) is = absurd (cc)
-
 -- No line was replayed yet.
 pub so_far_none : {P : Type 0} (r : Rules P) (w : Wiring P) (players : List Player) (over : Option Ending) → IsButForOffers r w w
     → SoFar r (record { state = record { circuit = w; players = players }; over = over }) [] w players over
@@ -93,17 +85,6 @@ all_replayed r start lines i w players over le so_far =
     }
 
 module _ {P : Type 0} (r : Rules P) (nodes : List (List ℕ)) (homes : List ℕ) where
-  -- What is wrong first with a line, and its refusal.
-  wrong_by : (a : State P) (turn : ℕ) (line : RoundLine) (stop : Stop) (refusal : Refusal) → line.round ≡ turn → IsNoRound r a line stop → IsRefusalBy nodes homes turn stop refusal
-      → IsWrongRound nodes homes (net_ready r a) a.circuit.ports turn line refusal
-  wrong_by a turn line (stops.Wrong wrong) refusal number why is = subst (IsWrongRound nodes homes (net_ready r a) a.circuit.ports turn line) (sym is) (refl, refl, why)
-  wrong_by a turn line stops.Moves refusal number why is =
-      subst (IsWrongRound nodes homes (net_ready r a) a.circuit.ports turn line) (sym is) (
-        refl,
-        (why.0, why.1, why.2, why.3, subst (λ n. line ≢ line_for (net_ready r a) n why.0 (moves_of (net_ready r a) a.circuit.ports why.0 why.1)) number why.4),
-      )
-  wrong_by a turn line stops.NoMemory refusal number why is = absurd is
-
   module _ (start : Place P) (lines : List RoundLine) (i : ℕ) (line : RoundLine) (got : slice_get lines i ≡ Some line) (w : Wiring P) (players : List Player) (over : Option Ending) (so_far : SoFar r start (take i lines) w players over) where
     abbrev pub now_at : State P
     now_at = record { circuit = so_far.circuit; players = players }
@@ -151,6 +132,6 @@ module _ {P : Type 0} (r : Rules P) (nodes : List (List ℕ)) (homes : List ℕ)
       wrong = λ ending. inr (
         on,
         let at : turn ≡ length (take i lines) + 1 = omega (arith, turn_is, taken lines i line got) in
-            subst (λ n. IsWrongRound nodes homes (net_ready r now_at) so_far.circuit.ports n line refusal) at (wrong_by now_at turn line stop refusal number why is),
+            subst (λ n. IsWrongRound nodes homes (net_ready r now_at) so_far.circuit.ports n line refusal) at (wrong_by nodes homes (net_ready r now_at) so_far.circuit.ports turn line stop refusal number why is),
       );
     }

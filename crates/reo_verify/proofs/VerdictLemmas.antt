@@ -10,7 +10,8 @@ use Rattle.reo_verdicts.specs.declared.verdict.Refusal.{Refusal}
 use Rattle.reo_verdicts.specs.declared.verdict.Verdict.{Verdict}
 use Rattle.reo_verdicts.specs.declared.verdict.Verdict.TheVariants.{Verified, Refused}
 use Rattle.reo_verdicts.specs.Verdicts.{IsRefused, IsVerdict}
-use Rattle.reo_verify.specs.Replayed.{IsEndOf, IsVerdictAt, AreReplayed, IsCutOff}
+use Rattle.reo_judging.specs.Ends.{IsEndOf}
+use Rattle.reo_verify.specs.Replayed.{IsVerdictAt, AreReplayed, IsCutOff}
 
 module _ {P : Type 0} (r : Rules P) (nodes : List (List ℕ)) (homes : List ℕ) (start : Place P) (t : Trace) where
   -- All lines are rounds.

@@ -1,5 +1,5 @@
 -- What a replay comes to.
-use Rattle.std.specs.Prelude.{ℕ, ◌+◌, ◌≡◌, ◌⊎◌, None, Some, Option, List, ◌∷◌, ◌++◌, length}
+use Rattle.std.specs.Prelude.{ℕ, ◌+◌, ◌≡◌, Option, List, ◌∷◌, ◌++◌, length}
 use Rattle.reo_net_base.specs.Net.{Wiring}
 use Rattle.reo_players.specs.Players.{Player}
 use Rattle.reo_trace.specs.declared.line.RoundLine.{RoundLine}
@@ -13,17 +13,14 @@ use Rattle.reo_verdicts.specs.declared.verdict.Refusal.{Refusal}
 use Rattle.reo_verdicts.specs.declared.verdict.Refusal.TheVariants as refusals
 use Rattle.reo_verdicts.specs.declared.verdict.Verdict.{Verdict}
 use Rattle.reo_verdicts.specs.declared.verdict.Verdict.TheVariants as verdicts
-use Rattle.reo_verdicts.specs.Replays.{MayStop, colourings}
+use Rattle.reo_verdicts.specs.Replays.{colourings}
 use Rattle.reo_verdicts.specs.Said.{jammed}
 use Rattle.reo_verdicts.specs.Verdicts.{IsWrongAt}
 use Rattle.reo_judging.specs.declared.judging.Stop.{Stop}
 use Rattle.reo_verify.specs.declared.replay.Halt.{Halt}
 use Rattle.reo_verify.specs.declared.replay.Halt.TheVariants as halts
+use Rattle.reo_judging.specs.Ends.{IsEndOf}
 use Rattle.reo_judging.specs.Judged.{IsLineStop}
-
--- The ending of a run that is over so, or, where it is not, in place of the round of a number.
-abbrev pub IsEndOf : Option Ending → ℕ → Ending → Type 0
-IsEndOf over turn ending = (over ≡ Some ending) ⊎ ((over ≡ None) × MayStop turn ending)
 
 -- The round that a line shows was made of a state: the circuit is as it left it, but for offers, and the components too.
 pub record IsReplayed {P : Type 0} (r : Rules P) (turn : ℕ) (a : State P) (line : RoundLine) (w : Wiring P) (players : List Player) (over : Option Ending) : Type 0 where

@@ -2,7 +2,7 @@
 //! colourings.
 #![tactic(auto)]
 
-mod ending;
+mod jams;
 mod replay;
 mod verifying;
 

@@ -1,8 +1,6 @@
 //! The replay of a trace.
-ghost use Rattle.std.specs.Prelude.{◌≡◌, ◌<◌, ◌+◌, ◌^◌, cond, Some, None, IfOk, OnOk, IfErr, MatchResult, map};
+ghost use Rattle.std.specs.Prelude.{◌≡◌, ◌<◌, ◌+◌, ◌^◌, IfOk, OnOk, IfErr, MatchResult, map};
 ghost use Rattle.reo_net_base.specs.Net.{Wiring};
-ghost use Rattle.reo_players.specs.Players.{all_done};
-ghost use Rattle.reo_trace.specs.declared.line.Ending.TheVariants.{Done as IsDone};
 ghost use Rattle.reo_trace_texts.specs.Lines.{AreLines};
 ghost use Rattle.reo_rounds.specs.Rules.{rules_of};
 ghost use Rattle.reo_runs.specs.Run.{Place, start_of};
@@ -13,7 +11,7 @@ ghost use Rattle.reo_verify.specs.Replayed.{IsReplayed, IsNoRound, AreReplayed, 
 
 use reo_at_ports::{carry_out, offer_all};
 use reo_engine::Engine;
-use reo_judging::{Stop, plan_of, refusal_of};
+use reo_judging::{Stop, begins, plan_of, refusal_of};
 use reo_net_base::{Ports, Restoring};
 use reo_net_circuit::Circuit;
 use reo_players::Players;
@@ -123,17 +121,6 @@ fn replay_rounds<P: Restoring>(
         }
     }
     Ok(over)
-}
-
-/// How a run is over before its first round, if it is.
-fn begins(players: &Players) -> Option<Ending>
-    ensures { result ≡ cond (all_done players.now) (Some (IsDone 0)) None }
-{
-    if players.all_done() {
-        Some(Ending::Done { rounds: 0 })
-    } else {
-        None
-    }
 }
 
 /// Makes the rounds that lines show, of components on a circuit. The answer is how the run is over

@@ -11,9 +11,10 @@ ghost use Rattle.reo_verdicts.specs.Replays.{HasText};
 ghost use Rattle.reo_verdicts.specs.Verdicts.{IsVerdict};
 ghost use Rattle.reo_verify.specs.Replayed.{IsVerdictAt};
 
-use crate::ending::{ends_as, jammed};
+use crate::jams::jammed;
 use crate::replay::{Halt, replay};
 use reo_flatten::Flat;
+use reo_judging::ends_as;
 use reo_kinds::Kind;
 use reo_net_base::{Ports, Restoring};
 use reo_net_circuit::Circuit;

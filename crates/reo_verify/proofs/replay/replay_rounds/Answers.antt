@@ -3,8 +3,9 @@ use Rattle.reo_rounds.specs.Rules.{rules_of}
 use Rattle.reo_runs.specs.Run.{Place}
 use Rattle.reo_at_ports.proofs.Kept.{self_but}
 use Rattle.reo_judging.proofs.Cuts.{got_by}
+use Rattle.reo_judging.proofs.EndLemmas.{ended_by, on_by}
 use Rattle.reo_verify.proofs.SoFar.{SoFar}
-use Rattle.reo_verify.proofs.ReplayLemmas.{line_at, so_far_none, so_far_more, ended_before, stopped_at, all_replayed, ended_by, on_by}
+use Rattle.reo_verify.proofs.ReplayLemmas.{line_at, so_far_none, so_far_more, ended_before, stopped_at, all_replayed}
 use Rattle.reo_verify.proofs.replay.replay_rounds.Goals as goal
 
 pub loop-line-init : goal.loop-line-init

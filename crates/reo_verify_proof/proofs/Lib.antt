@@ -1,0 +1,7 @@
+pub mod Verdicts
+mod SoFar
+mod Lists
+mod FaultLemmas
+mod ReplayLemmas
+mod VerdictLemmas
+mod FirstsLemmas

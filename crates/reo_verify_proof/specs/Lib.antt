@@ -1,0 +1,4 @@
+pub mod Answered
+pub mod Refusing
+pub mod Ended
+pub mod Firsts
