@@ -1,15 +1,11 @@
 -- The rounds of a trace, and logs cut into lines, are rounds with their logs.
-use Rattle.std.proofs.Common.{◌≡◌, ◌∙◌, ◌≤◌, ◌^◌, ℕ, ◌+◌, List, [], ◌∷◌, map, sym, ap, length, subst}
-use Rattle.std.specs.Prelude.{Ok}
+use Rattle.std.proofs.Common.{◌∙◌, ℕ, ◌+◌, List, [], ◌∷◌, map, sym, ap, length}
 use Rattle.std.specs.List.{All}
 use Rattle.std.proofs.lemmas.List.{length-map}
 use Rattle.std.proofs.lemmas.List.Elements.{All-head, All-tail}
-use Rattle.reo_trees.specs.declared.programs.Program.{Program}
 use Rattle.reo_flat.specs.Flat.{ports_of, wiring_of_program}
 use Rattle.reo_kinds.specs.declared.kind.Kind.{Kind}
 use Rattle.reo_net_base.specs.declared.port.Port.{Port}
-use Rattle.reo_scripts.specs.declared.action.Component.{Component}
-use Rattle.reo_trace.specs.declared.line.Ending.{Ending}
 use Rattle.reo_trace.specs.declared.line.RoundLine.{RoundLine}
 use Rattle.reo_trace_texts.specs.Lines.{AreLines}
 use Rattle.reo_runs.specs.Run.{Place, start_of}
