@@ -2,13 +2,11 @@
 use Rattle.std.proofs.Common.{◌≡◌, ◌∙◌, ◌⊎◌, inl, inr, refl, ℕ, List, [], ◌∷◌, ◌++◌, map, take, sym, subst, ap, append_assoc, arith}
 use Rattle.std.proofs.lemmas.Grind.{flat_map-append}
 use Rattle.std.proofs.lemmas.List.{append-nil}
-use Rattle.std.specs.Prelude.{◌≢◌, ◌≤◌, Option, Result, Err, codes, true}
+use Rattle.std.specs.Prelude.{◌≢◌, ◌≤◌, Option, Err, codes, true}
 use Rattle.reo_io.specs.Causes.{Rose}
-use Rattle.reo_io.specs.Sinks.{Appended}
 use Rattle.reo_io.proofs.Counts.{Rose-since}
 use Rattle.reo_io.proofs.Taken.{Appended-append}
 use Rattle.reo_net_base.specs.declared.port.Port.{Port}
-use Rattle.reo_trace.specs.declared.line.RoundLine.{RoundLine}
 use Rattle.reo_trace.specs.declared.line.Ending.{Ending}
 use Rattle.reo_trace.specs.declared.write.WriteFault.{WriteFault}
 use Rattle.reo_trace.specs.EndingText.{ending_text}
