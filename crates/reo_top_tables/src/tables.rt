@@ -1,5 +1,5 @@
 //! The boundary tables of a circuit, and what is written of them.
-ghost use Rattle.std.specs.Prelude.{◌≡◌, ◌≢◌, ◌<◌, ◌^◌, IfOk, OnOk, Err as IsErr};
+ghost use Rattle.std.specs.Prelude.{◌≡◌, ◌≢◌, ◌<◌, ◌^◌, IfOk, OnOk, Err as Fault};
 ghost use Rattle.reo_listing_base.specs.declared.fault.ListFault.TheVariants as faults;
 ghost use Rattle.reo_listing_base.specs.Listed.{Lists};
 ghost use Rattle.reo_top_tables.specs.Listings.{listing_status, listing_text};
@@ -47,7 +47,7 @@ pub(crate) fn listing_text(
     listing: &Listing,
 ) -> Result<Bytes, NoMemory>
     ensures text { IfOk result (λ text. text ≡ listing_text budget ports.now listing.now) }
-    ensures told { OnOk result (listing.now ≢ IsErr faults.NoMemory) }
+    ensures told { OnOk result (listing.now ≢ Fault faults.NoMemory) }
 {
     match listing {
         Ok(tables) => tables_text(alloc, ports, tables.as_slice()),
