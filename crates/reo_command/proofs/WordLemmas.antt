@@ -4,7 +4,7 @@ use Rattle.std.proofs.lemmas.Bool.Decides.{nat_tests}
 use Rattle.std.specs.Prelude.{Option, Some, None, find, ◌&&◌, ◌==◌}
 use Rattle.reo_command.specs.declared.amount.Amount.{Amount}
 use Rattle.reo_command.specs.declared.command.Command.{Command}
-use Rattle.reo_command.specs.declared.command.Command.TheVariants.{Run, Check, Print, Upgrade, Verify, Live}
+use Rattle.reo_command.specs.declared.command.Command.TheVariants.{Run, Check, Print, Upgrade, Verify, Live, Tables, Prove, VerifyProof}
 use Rattle.reo_command.specs.declared.setting.Setting.{Setting}
 use Rattle.reo_command.specs.Commands.{command_of, command_word, commands, names_of, is_form, fits, roles_of, amounts_of, settings_of}
 
@@ -20,18 +20,30 @@ form_length : (word : List ℕ) (count : ℕ) (amounts : List Amount) (settings 
 form_length word count amounts settings [] is = absurd (no is)
 form_length word count amounts settings (first ∷ others) is = let same : (length (take count others) == count) ≡ true = second _ (length (take count others) == count) _ _ is in grind (arith, nat_tests)
 
+take_two : (words : List (List ℕ)) → length (take 2 (drop 1 words)) ≡ 2 → take 2 (drop 1 words) ≡ get_or words 1 [] ∷ get_or words 2 [] ∷ []
+take_two [] e = absurd (omega (arith, e))
+take_two (w ∷ []) e = absurd (omega (arith, e))
+take_two (w ∷ a ∷ []) e = absurd (omega (arith, e))
+take_two (w ∷ a ∷ b ∷ ws) e = refl
+
 pub two_names : (words : List (List ℕ)) → length (names_of Run words) ≡ 2 → names_of Run words ≡ get_or words 1 [] ∷ get_or words 2 [] ∷ []
-two_names [] e = absurd (omega (arith, e))
-two_names (w ∷ []) e = absurd (omega (arith, e))
-two_names (w ∷ a ∷ []) e = absurd (omega (arith, e))
-two_names (w ∷ a ∷ b ∷ ws) e = refl
+two_names words e = take_two words e
+
+pub prove_names : (words : List (List ℕ)) → length (names_of Prove words) ≡ 2 → names_of Prove words ≡ get_or words 1 [] ∷ get_or words 2 [] ∷ []
+prove_names words e = take_two words e
+
+take_three : (words : List (List ℕ)) → length (take 3 (drop 1 words)) ≡ 3 → take 3 (drop 1 words) ≡ get_or words 1 [] ∷ get_or words 2 [] ∷ get_or words 3 [] ∷ []
+take_three [] e = absurd (omega (arith, e))
+take_three (w ∷ []) e = absurd (omega (arith, e))
+take_three (w ∷ a ∷ []) e = absurd (omega (arith, e))
+take_three (w ∷ a ∷ b ∷ []) e = absurd (omega (arith, e))
+take_three (w ∷ a ∷ b ∷ c ∷ ws) e = refl
 
 pub three_names : (words : List (List ℕ)) → length (names_of Verify words) ≡ 3 → names_of Verify words ≡ get_or words 1 [] ∷ get_or words 2 [] ∷ get_or words 3 [] ∷ []
-three_names [] e = absurd (omega (arith, e))
-three_names (w ∷ []) e = absurd (omega (arith, e))
-three_names (w ∷ a ∷ []) e = absurd (omega (arith, e))
-three_names (w ∷ a ∷ b ∷ []) e = absurd (omega (arith, e))
-three_names (w ∷ a ∷ b ∷ c ∷ ws) e = refl
+three_names words e = take_three words e
+
+pub proof_names : (words : List (List ℕ)) → length (names_of VerifyProof words) ≡ 3 → names_of VerifyProof words ≡ get_or words 1 [] ∷ get_or words 2 [] ∷ get_or words 3 [] ∷ []
+proof_names words e = take_three words e
 
 take_one : (words : List (List ℕ)) → length (take 1 (drop 1 words)) ≡ 1 → take 1 (drop 1 words) ≡ get_or words 1 [] ∷ []
 take_one [] e = absurd (omega (arith, e))
@@ -49,6 +61,9 @@ upgrade_name words e = take_one words e
 
 pub live_name : (words : List (List ℕ)) → length (names_of Live words) ≡ 1 → names_of Live words ≡ get_or words 1 [] ∷ []
 live_name words e = take_one words e
+
+pub tables_name : (words : List (List ℕ)) → length (names_of Tables words) ≡ 1 → names_of Tables words ≡ get_or words 1 [] ∷ []
+tables_name words e = take_one words e
 
 -- The command of some words fits them.
 command_is : (a b : Command) (x y : Option Command) → x ≡ Some a → y ≡ Some b → x ≡ y → a ≡ b

@@ -6,9 +6,9 @@ use Rattle.std.specs.Str.{bytes_eq}
 use Rattle.reo_command.specs.declared.amount.Amount.{Amount}
 use Rattle.reo_command.specs.declared.amount.Amount.TheVariants.{Size}
 use Rattle.reo_command.specs.declared.command.Command.{Command}
-use Rattle.reo_command.specs.declared.command.Command.TheVariants.{Run, Check, Print, Upgrade, Verify, Bench, Live}
+use Rattle.reo_command.specs.declared.command.Command.TheVariants.{Run, Check, Print, Upgrade, Verify, Bench, Live, Tables, Prove, VerifyProof}
 use Rattle.reo_command.specs.declared.role.Role.{Role}
-use Rattle.reo_command.specs.declared.role.Role.TheVariants.{Circuit, Script, Trace}
+use Rattle.reo_command.specs.declared.role.Role.TheVariants.{Circuit, Script, Trace, Proof}
 use Rattle.reo_command.specs.declared.setting.Setting.{Setting}
 use Rattle.reo_command.specs.declared.setting.Setting.TheVariants.{Budget, Rounds}
 use Rattle.reo_command.specs.Amounts.{are_amounts}
@@ -16,7 +16,7 @@ use Rattle.reo_command.specs.Settings.{numbers_of}
 
 -- All commands.
 abbrev pub commands : List Command
-commands = Run ∷ Check ∷ Print ∷ Upgrade ∷ Verify ∷ Bench ∷ Live ∷ []
+commands = Run ∷ Check ∷ Print ∷ Upgrade ∷ Verify ∷ Bench ∷ Live ∷ Tables ∷ Prove ∷ VerifyProof ∷ []
 
 -- The first word of a command.
 abbrev pub command_word : Command → List ℕ
@@ -27,6 +27,9 @@ command_word Upgrade = codes "upgrade"
 command_word Verify = codes "verify"
 command_word Bench = codes "bench"
 command_word Live = codes "live"
+command_word Tables = codes "list"
+command_word Prove = codes "prove"
+command_word VerifyProof = codes "verify-proof"
 
 -- The files that a command fetches, in order.
 abbrev pub roles_of : Command → List Role
@@ -37,6 +40,9 @@ roles_of Upgrade = Circuit ∷ []
 roles_of Verify = Circuit ∷ Script ∷ Trace ∷ []
 roles_of Bench = []
 roles_of Live = Circuit ∷ []
+roles_of Tables = Circuit ∷ []
+roles_of Prove = Circuit ∷ Script ∷ []
+roles_of VerifyProof = Circuit ∷ Script ∷ Proof ∷ []
 
 -- The amounts that a command is told, in order.
 abbrev pub amounts_of : Command → List Amount
@@ -47,6 +53,9 @@ amounts_of Upgrade = []
 amounts_of Verify = []
 amounts_of Bench = Size ∷ []
 amounts_of Live = []
+amounts_of Tables = []
+amounts_of Prove = []
+amounts_of VerifyProof = []
 
 -- The options of a command, in order.
 abbrev pub settings_of : Command → List Setting
@@ -57,6 +66,9 @@ settings_of Upgrade = []
 settings_of Verify = []
 settings_of Bench = []
 settings_of Live = Budget ∷ []
+settings_of Tables = []
+settings_of Prove = []
+settings_of VerifyProof = []
 
 -- Whether what a command writes is free by its definition: then only its status is exact.
 abbrev pub is_free : Command → Bool
@@ -67,6 +79,9 @@ is_free Upgrade = false
 is_free Verify = false
 is_free Bench = false
 is_free Live = false
+is_free Tables = false
+is_free Prove = true
+is_free VerifyProof = false
 
 -- Whether a command takes its events from the source.
 abbrev pub takes_events : Command → Bool
@@ -77,6 +92,9 @@ takes_events Upgrade = false
 takes_events Verify = false
 takes_events Bench = false
 takes_events Live = true
+takes_events Tables = false
+takes_events Prove = false
+takes_events VerifyProof = false
 
 -- None of these words is empty.
 abbrev pub none_empty : List (List ℕ) → Bool

@@ -11,6 +11,7 @@ use Rattle.reo_scripts.specs.declared.action.Script.{Script}
 use Rattle.reo_scripts.specs.ScriptAnswers.{Answers}
 use Rattle.reo_trace_texts.specs.declared.trace.Trace.{Trace}
 use Rattle.reo_trace_texts.specs.Lines.{AreTold}
+use Rattle.reo_trace_texts.specs.Texts.{IsTraceText}
 use Rattle.reo_command.specs.declared.refusal.Refusal.{Refusal}
 use Rattle.reo_command.specs.declared.role.Role.{Role}
 use Rattle.reo_command.specs.declared.role.Role.TheVariants as roles
@@ -21,7 +22,7 @@ use Rattle.reo_trees.specs.declared.programs_two.ProgramTwo.{ProgramTwo}
 use Rattle.reo_expand_base.specs.declared.fault.ExpandFault.{ExpandFault}
 use Rattle.reo_expand_base.specs.Steps.{IsExpanded, walk_of}
 use Rattle.reo_command.specs.Refusals.{expand_refusal}
-use Rattle.reo_command.specs.Claims.{Claimed, ReadsTrace, StopsTrace}
+use Rattle.reo_command.specs.Claims.{Claimed, IsProofText, NoTextStops, TraceStops}
 use Rattle.reo_command.specs.Fetched.{Content}
 use Rattle.reo_command.specs.Readings.{FlatCircuit, Runnable, ScriptStops, ReadsFile, StopsFile, IsReadFrom}
 use Rattle.reo_command.specs.States.{FilesState, Change}
@@ -75,10 +76,15 @@ StopsScript ports = StopsFile roles.Script (ScriptStops ports)
 abbrev pub IsScriptRead : List Port → List (List ℕ) → Change FilesState → Result Script Stop → Type 0
 IsScriptRead ports names files result = IsReadFrom (ReadsScript ports) (StopsScript ports) (roles.Script ∷ []) names files result
 
--- With a trace besides.
-abbrev pub claimed_in : Flat → Script → Trace → Claimed
-claimed_in flat script trace = record { work = runnable_in flat script; trace = trace }
+-- With what is said to be of their run.
+abbrev pub claimed_in : {X : Type 0} → Flat → Script → X → Claimed X
+claimed_in flat script claim = record { work = runnable_in flat script; claim = claim }
 
 -- The file of a trace was fetched, and is read so.
 abbrev pub IsTraceRead : List Port → List (List ℕ) → Change FilesState → Result Trace Stop → Type 0
-IsTraceRead ports names files result = IsReadFrom (ReadsTrace ports) (StopsTrace ports) (roles.Trace ∷ []) names files result
+IsTraceRead ports names files result =
+    IsReadFrom (ReadsFile (IsTraceText ports)) (StopsFile roles.Trace (TraceStops ports)) (roles.Trace ∷ []) names files result
+
+-- The file of a proof was fetched.
+abbrev pub IsProofRead : List (List ℕ) → Change FilesState → Result (List ℕ) Stop → Type 0
+IsProofRead names files result = IsReadFrom (ReadsFile IsProofText) (StopsFile roles.Proof NoTextStops) (roles.Proof ∷ []) names files result

@@ -23,10 +23,17 @@ pub enum Command {
     Bench,
     /// `live CIRCUIT [--budget N]` hears events from the source, and writes the answers.
     Live,
+    /// `list CIRCUIT` writes the boundary tables of the circuit.
+    Tables,
+    /// `prove CIRCUIT SCRIPT` writes the trace of the script on the circuit, with a log behind each
+    /// round that shows that no colouring stands before it.
+    Prove,
+    /// `verify-proof CIRCUIT SCRIPT PROOF` writes the verdict on such a text.
+    VerifyProof,
 }
 
 /// All commands.
-const COMMANDS: [Command; 7] = [
+const COMMANDS: [Command; 10] = [
     Command::Run,
     Command::Check,
     Command::Print,
@@ -34,6 +41,9 @@ const COMMANDS: [Command; 7] = [
     Command::Verify,
     Command::Bench,
     Command::Live,
+    Command::Tables,
+    Command::Prove,
+    Command::VerifyProof,
 ];
 
 impl Command {
@@ -49,6 +59,9 @@ impl Command {
             Command::Verify => b"verify",
             Command::Bench => b"bench",
             Command::Live => b"live",
+            Command::Tables => b"list",
+            Command::Prove => b"prove",
+            Command::VerifyProof => b"verify-proof",
         }
     }
 
@@ -57,9 +70,10 @@ impl Command {
         ensures { result ≡ length (roles_of self) }
     {
         match self {
-            Command::Run => 2,
+            Command::Run | Command::Prove => 2,
             Command::Check | Command::Print | Command::Upgrade | Command::Live => 1,
-            Command::Verify => 3,
+            Command::Tables => 1,
+            Command::Verify | Command::VerifyProof => 3,
             Command::Bench => 0,
         }
     }
@@ -71,7 +85,8 @@ impl Command {
         match self {
             Command::Bench => &[Amount::Size],
             Command::Run | Command::Check | Command::Print | Command::Upgrade => &[],
-            Command::Verify | Command::Live => &[],
+            Command::Verify | Command::Live | Command::Tables => &[],
+            Command::Prove | Command::VerifyProof => &[],
         }
     }
 
@@ -83,7 +98,8 @@ impl Command {
             Command::Run => &[Setting::Budget, Setting::Rounds],
             Command::Live => &[Setting::Budget],
             Command::Check | Command::Print | Command::Upgrade => &[],
-            Command::Verify | Command::Bench => &[],
+            Command::Verify | Command::Bench | Command::Tables => &[],
+            Command::Prove | Command::VerifyProof => &[],
         }
     }
 }

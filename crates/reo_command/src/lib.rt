@@ -18,7 +18,7 @@ mod stop;
 mod texts;
 
 pub use amount::{Amount, size_of};
-pub use claim::{Claim, read_claim};
+pub use claim::{Claim, ProofClaim, read_claim, read_proof};
 pub use command::{Command, command_of};
 pub use limit::{budget_of, limits_of, usual_limits};
 pub use made::make_run;
@@ -27,7 +27,8 @@ pub use refusal::{Refusal, append_refusal};
 pub use role::Role;
 pub use setting::Setting;
 pub use status::{
-    CIRCUIT_REFUSED, DONE, LIMIT_REACHED, OUT_OF_MEMORY, PART_OVER, READ_FAULT, SCRIPT_REFUSED,
-    STUCK, Status, TOO_LONG, TRACE_REFUSED, WORDS_REFUSED, WRITE_FAULT,
+    CIRCUIT_REFUSED, DONE, LIMIT_REACHED, OUT_OF_MEMORY, PART_OVER, PROOF_REFUSED, READ_FAULT,
+    SCRIPT_REFUSED, STUCK, Status, TABLES_REFUSED, TOO_LONG, TRACE_REFUSED, WORDS_REFUSED,
+    WRITE_FAULT,
 };
 pub use stop::Stop;

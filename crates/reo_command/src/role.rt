@@ -2,7 +2,7 @@
 ghost use Rattle.std.specs.Prelude.{◌≡◌, ◌<◌, ◌^◌};
 ghost use Rattle.reo_command.specs.Roles.{role_text, refused_text, most_bytes, refused_status};
 
-use crate::status::{CIRCUIT_REFUSED, SCRIPT_REFUSED, TRACE_REFUSED};
+use crate::status::{CIRCUIT_REFUSED, PROOF_REFUSED, SCRIPT_REFUSED, TRACE_REFUSED};
 
 /// What a file is to a command.
 #[derive(Clone, Copy, Debug, PartialEq, Eq)]
@@ -10,6 +10,7 @@ pub enum Role {
     Circuit,
     Script,
     Trace,
+    Proof,
 }
 
 impl Role {
@@ -21,6 +22,7 @@ impl Role {
             Role::Circuit => b"circuit",
             Role::Script => b"script",
             Role::Trace => b"trace",
+            Role::Proof => b"proof",
         }
     }
 
@@ -32,6 +34,7 @@ impl Role {
             Role::Circuit => b"circuit",
             Role::Script => b"script",
             Role::Trace => b"verify",
+            Role::Proof => b"proof",
         }
     }
 
@@ -42,7 +45,7 @@ impl Role {
     {
         match self {
             Role::Circuit | Role::Script => 1_048_576,
-            Role::Trace => 67_108_864,
+            Role::Trace | Role::Proof => 67_108_864,
         }
     }
 
@@ -54,6 +57,7 @@ impl Role {
             Role::Circuit => CIRCUIT_REFUSED,
             Role::Script => SCRIPT_REFUSED,
             Role::Trace => TRACE_REFUSED,
+            Role::Proof => PROOF_REFUSED,
         }
     }
 }

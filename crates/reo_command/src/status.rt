@@ -27,7 +27,7 @@ pub const CIRCUIT_REFUSED: u8 = 5;
 /// The text of a script is refused.
 pub const SCRIPT_REFUSED: u8 = 6;
 
-/// A part of the round that stood next is over.
+/// A part of the round that stood next, or of the open circuit that is listed, is over.
 pub const PART_OVER: u8 = 7;
 
 /// The limit of rounds is reached.
@@ -41,3 +41,9 @@ pub const OUT_OF_MEMORY: u8 = 10;
 
 /// The text of a trace is none, or the trace is refused.
 pub const TRACE_REFUSED: u8 = 11;
+
+/// A proof text is refused.
+pub const PROOF_REFUSED: u8 = 13;
+
+/// The tables of a circuit are refused: it has a filter, or one of them has too many lists.
+pub const TABLES_REFUSED: u8 = 14;

@@ -3,3 +3,4 @@ pub mod FlowLemmas
 pub mod KeptLemmas
 pub mod Lookups
 pub mod QuietLemmas
+mod Fresh

@@ -16,13 +16,13 @@ use Rattle.reo_planning.specs.declared.kept.Kept.{Kept}
 use Rattle.reo_planning.specs.Keeping.{is_settled, IsKept}
 use Rattle.reo_planning.specs.Unsettling.{AreFewer, AreMarkedUnsettled, AreMovingUnsettled, IsElsewhere, IsUnsettled, part_at}
 use Rattle.reo_planning.proofs.Elsewhere.{kept_elsewhere, kept_fewer, kept_later}
-use Rattle.reo_planning.proofs.KeptTables.{tables_elsewhere}
 use Rattle.reo_planning.proofs.Setting.{fewer_none, fewer_twice}
 use Rattle.reo_planning.proofs.Shapes.{knots_stay}
-use Rattle.reo_kept_tables.specs.declared.tables.Tables.{Tables}
-use Rattle.reo_kept_tables.proofs.Sorted.{orders_stay}
+use Rattle.reo_settling.specs.declared.lookups.Lookups.{Lookups}
+use Rattle.reo_settling.specs.Lookups.{AreLookups}
+use Rattle.reo_settling.proofs.HeldTables.{lookups_stay}
 use Rattle.reo_engine.specs.Changes.{is_changed, OthersStay}
-use Rattle.reo_engine.specs.Engine.{AreHeld, IsLookedUp}
+use Rattle.reo_engine.specs.Engine.{IsLookedUp}
 use Rattle.reo_engine.specs.Settled.{StaySettled}
 
 not_both : (b : Bool) → b ≡ false → b ≡ true → ⊥
@@ -52,14 +52,6 @@ looked_up_elsewhere net other wired after later knots ends old new are_knots are
   are_knots = knots_stay net other wired is.joints is.shapes knots are_knots;
   are_ends = ends_stay net other is.joints is.shapes ends are_ends;
   is_kept = kept_elsewhere net other wired after knots are_knots (later + 1) old new is_kept fewer is;
-}
-
--- What is held beside stays right there.
-held_elsewhere : (net other : Net) → IsWired net → (knots : Knotted) (old new : Kept) (orders : List (List ℕ)) (tables : Option Tables)
-    → AreKnots net knots → AreHeld net knots old orders tables → AreFewer old new → IsElsewhere net other knots new → AreHeld other knots new orders tables
-held_elsewhere net other wired knots old new orders tables are_knots held fewer is = record {
-  are_orders = orders_stay net other wired is.joints is.shapes knots orders held.are_orders;
-  may_be_kept = tables_elsewhere net other wired knots are_knots old new fewer is tables held.may_be_kept;
 }
 
 module _ {P : Type 0} (behaviour : P → Behaviour) where
@@ -107,13 +99,13 @@ module _ {P : Type 0} (behaviour : P → Behaviour) where
       looked_up_elsewhere (net_of behaviour old) (net_of behaviour new) wired after rounds knots ends kept now looked.are_knots looked.are_ends looked.is_kept unsettled.fewer
       (one_elsewhere old new f port shape is knots kept now unsettled)
 
-  -- And what is held beside.
+  -- And so does what is looked up beside.
   pub one_held : (old new : Wiring P) (f : P → P) (port : ℕ) → IsWired (net_of behaviour old) → SameNetShape behaviour old new
-      → new ≡ record old { primitives = change_at f old.primitives port } → (knots : Knotted) → AreKnots (net_of behaviour old) knots → (kept now : Kept) (orders : List (List ℕ)) (tables : Option Tables)
-      → AreHeld (net_of behaviour old) knots kept orders tables → IsUnsettled (net_of behaviour old) knots port kept now → AreHeld (net_of behaviour new) knots now orders tables
-  one_held old new f port wired shape is knots are_knots kept now orders tables held unsettled =
-      held_elsewhere (net_of behaviour old) (net_of behaviour new) wired knots kept now orders tables are_knots held unsettled.fewer
-      (one_elsewhere old new f port shape is knots kept now unsettled)
+      → new ≡ record old { primitives = change_at f old.primitives port } → (knots : Knotted) → AreKnots (net_of behaviour old) knots → (kept now : Kept) (lookups : Lookups)
+      → AreLookups (net_of behaviour old) knots kept lookups → IsUnsettled (net_of behaviour old) knots port kept now → AreLookups (net_of behaviour new) knots now lookups
+  one_held old new f port wired shape is knots are_knots kept now lookups held unsettled =
+      lookups_stay (net_of behaviour old) (net_of behaviour new) wired knots are_knots kept now unsettled.fewer
+      (one_elsewhere old new f port shape is knots kept now unsettled) lookups held
 
   -- Over a round nothing changes at a part that is still settled, once the parts that it marks and those that move are unsettled.
   round_elsewhere : (old new : Wiring P) (marks : List Bool) → SameNetShape behaviour old new
@@ -147,14 +139,14 @@ module _ {P : Type 0} (behaviour : P → Behaviour) where
       looked_up_elsewhere net (net_of behaviour new) wired after (rounds + 1) knots ends now now looked.are_knots looked.are_ends later (fewer_none now)
       (round_elsewhere old new marks shape stay one_each knots kept some now marked moving)
 
-  -- And what is held beside.
+  -- And so does what is looked up beside.
   pub round_held : (old new : Wiring P) (marks : List Bool) → IsWired (net_of behaviour old) → SameNetShape behaviour old new
       → OthersStay marks old.primitives new.primitives → length marks ≡ length old.primitives → (knots : Knotted) → AreKnots (net_of behaviour old) knots → (kept some now : Kept)
-      → (orders : List (List ℕ)) (tables : Option Tables) → AreHeld (net_of behaviour old) knots kept orders tables
-      → AreMarkedUnsettled (net_of behaviour old) knots marks (length marks) kept some → AreMovingUnsettled some now → AreHeld (net_of behaviour new) knots now orders tables
-  round_held old new marks wired shape stay one_each knots are_knots kept some now orders tables held marked moving =
-      held_elsewhere (net_of behaviour old) (net_of behaviour new) wired knots kept now orders tables are_knots held (fewer_twice kept some now marked.fewer moving.fewer)
-      (round_elsewhere old new marks shape stay one_each knots kept some now marked moving)
+      → (lookups : Lookups) → AreLookups (net_of behaviour old) knots kept lookups
+      → AreMarkedUnsettled (net_of behaviour old) knots marks (length marks) kept some → AreMovingUnsettled some now → AreLookups (net_of behaviour new) knots now lookups
+  round_held old new marks wired shape stay one_each knots are_knots kept some now lookups held marked moving =
+      lookups_stay (net_of behaviour old) (net_of behaviour new) wired knots are_knots kept now (fewer_twice kept some now marked.fewer moving.fewer)
+      (round_elsewhere old new marks shape stay one_each knots kept some now marked moving) lookups held
 
 -- Over a round the parts that are not marked and do not move stay settled.
 pub stay_settled : (net : Net) (knots : Knotted) (marks : List Bool) (old some now : Kept) → AreMarkedUnsettled net knots marks (length marks) old some → AreMovingUnsettled some now → StaySettled net knots marks old now

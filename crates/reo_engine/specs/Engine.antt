@@ -1,14 +1,11 @@
 -- An engine as contracts see it.
-use Rattle.std.specs.Prelude.{ℕ, ◌+◌, Bool, List, Option}
+use Rattle.std.specs.Prelude.{ℕ, ◌+◌, Bool, List}
 use Rattle.reo_net_base.specs.Behaviour.{Behaviour}
 use Rattle.reo_net_base.specs.Net.{Net, Wiring, net_of}
 use Rattle.reo_net_ends.specs.Ends.{AreEnds}
 use Rattle.reo_knots.specs.Knots.{Knotted, AreKnots}
 use Rattle.reo_planning.specs.declared.kept.Kept.{Kept}
 use Rattle.reo_planning.specs.Keeping.{IsKept}
-use Rattle.reo_planning.specs.Tables.{MayBeKept}
-use Rattle.reo_kept_tables.specs.declared.tables.Tables.{Tables}
-use Rattle.reo_kept_tables.specs.Orders.{AreOrders}
 
 -- A circuit, how many rounds were made, and which primitives may have changed since the last of
 -- them began; the circuit's knots, the joints at its ends, and what is kept of its parts.
@@ -31,9 +28,3 @@ pub record IsLookedUp (net : Net) (rounds : ℕ) (knots : Knotted) (ends : List 
   pub are_knots : AreKnots net knots
   pub are_ends : AreEnds net ends
   pub is_kept : IsKept net knots (rounds + 1) kept
-
--- What is held beside: the joints of each part, in order, and tables that may be kept.
-pub record AreHeld (net : Net) (knots : Knotted) (kept : Kept) (orders : List (List ℕ))
-    (tables : Option Tables) : Type 0 where
-  pub are_orders : AreOrders net knots orders
-  pub may_be_kept : MayBeKept net knots kept tables

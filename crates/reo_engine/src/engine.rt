@@ -5,12 +5,12 @@ ghost use Rattle.reo_rounds.specs.Offering.{AreJustPorts};
 ghost use Rattle.reo_engine.specs.Engine.{net_now};
 
 use crate::changes::all_marked;
-use reo_kept_tables::{Tables, orders_of};
 use reo_knots::{Knots, find_knots};
 use reo_net_base::Ported;
 use reo_net_circuit::Circuit;
 use reo_net_ends::{Ends, ends_of};
 use reo_planning::Kept;
+use reo_settling::Lookups;
 use reo_values::{List, NoMemory};
 use std::alloc::Global;
 use std::marker::Model;
@@ -22,8 +22,10 @@ use std::marker::Model;
 /// they stood.
 ///
 /// And it keeps the rows of parts that `prepare` looked at, as long as nothing in them changes:
-/// such a part is settled, and is not searched again. A knot of the circuit is a part. The tables
-/// of the search are kept too: what they have of a part is made anew only where it is not settled.
+/// such a part is settled, and is not looked at again. A knot of the circuit is a part. Where each
+/// row of a part lets each item in, its rows are remembered as well by its state, and serve again in
+/// each round in which it comes back to that state. The tables of the search are kept too: what they
+/// have of a part is made anew only where it is searched.
 #[derive(Drop)]
 pub struct Engine<P: Ported> {
     pub(crate) circuit: Circuit<P>,
@@ -32,15 +34,15 @@ pub struct Engine<P: Ported> {
     pub(crate) knots: Knots,
     pub(crate) ends: Ends,
     pub(crate) kept: Kept,
-    pub(crate) orders: List<List<usize>>,
-    pub(crate) tables: Option<Tables>,
+    pub(crate) lookups: Lookups,
 }
 
 impl<P: Ported> Model for Engine<P> {
     ghost use Rattle.std.specs.Prelude.{◌≡◌, ◌≤◌, ◌^◌, length, map};
     ghost use Rattle.reo_net_base.specs.Net.{net_of};
     ghost use Rattle.reo_rounds.specs.Offering.{AreJustPorts};
-    ghost use Rattle.reo_engine.specs.Engine.{Running, AreHeld, IsLookedUp};
+    ghost use Rattle.reo_settling.specs.Lookups.{AreLookups};
+    ghost use Rattle.reo_engine.specs.Engine.{Running, IsLookedUp};
 
     ghost Value = { Running P };
 
@@ -57,7 +59,7 @@ impl<P: Ported> Model for Engine<P> {
         × (length e.changed ≡ length e.circuit.primitives)
         × AreJustPorts (map P.port_state e.circuit.primitives) e.circuit.ports
         × IsLookedUp (net_of P.behaviour e.circuit) e.rounds e.knots e.ends e.kept
-        × AreHeld (net_of P.behaviour e.circuit) e.knots e.kept e.orders e.tables };
+        × AreLookups (net_of P.behaviour e.circuit) e.knots e.kept e.lookups };
 }
 
 impl<P: Ported> Engine<P> {
@@ -74,7 +76,7 @@ impl<P: Ported> Engine<P> {
         let knots = find_knots(alloc, &circuit)?;
         let ends = ends_of(alloc, &circuit)?;
         let kept = Kept::new(alloc, circuit.sides(), knots.count())?;
-        let orders = orders_of(alloc, &circuit, &knots)?;
+        let lookups = Lookups::new(alloc, &circuit, &knots)?;
         Ok(Engine {
             circuit,
             rounds: 0,
@@ -82,8 +84,7 @@ impl<P: Ported> Engine<P> {
             knots,
             ends,
             kept,
-            orders,
-            tables: None,
+            lookups,
         })
     }
 

@@ -9,7 +9,6 @@ ghost use Rattle.reo_engine.specs.Engine.{net_now};
 
 use crate::engine::Engine;
 use reo_net_base::Ported;
-use reo_planning::rows_by_tables;
 use reo_rounds::PlanFault;
 use reo_steps::Steps;
 use std::alloc::Global;
@@ -20,8 +19,9 @@ impl<P: Ported> Engine<P> {
     /// settled, and `plan` with this or a greater budget makes no tick until something changes.
     /// Where they are settled already nothing changes, and it takes no memory.
     ///
-    /// The tables of the search are made anew only for parts that are not settled; the first time,
-    /// and after a fault, they are made for the whole circuit.
+    /// Rows that are remembered by the state of a part serve where it comes back to this state. The
+    /// tables of the search are made anew only where a part is searched, for the parts that changed;
+    /// the first time, and after a fault, they are made for the whole circuit.
     ///
     /// It makes at most as many ticks as `plan` would. All but what is kept stays as it was, and
     /// after a fault the engine is as it was.
@@ -54,14 +54,12 @@ impl<P: Ported> Engine<P> {
         if self.kept.all_serve(budget) {
             return Ok(());
         }
-        let rows = rows_by_tables(
+        let rows = self.lookups.settle(
             alloc,
             &self.circuit,
             &self.knots,
             &self.ends,
-            &self.orders,
             &self.kept,
-            &mut self.tables,
             self.rounds + 1,
             budget,
             steps,

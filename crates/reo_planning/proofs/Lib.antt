@@ -1,4 +1,3 @@
-pub mod KeptTables
 pub mod KnotSets
 pub mod Shapes
 pub mod Elsewhere

@@ -4,4 +4,3 @@ pub mod Planned
 pub mod Faults
 pub mod Marked
 pub mod Unsettling
-pub mod Tables

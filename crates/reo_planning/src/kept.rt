@@ -34,6 +34,13 @@ impl Kept {
         })
     }
 
+    /// The rows that are kept, of settled parts and of others. This takes no memory.
+    pub fn rows(&self) -> &[u32]
+        ensures { result.now ≡ self.now.rows }
+    {
+        self.rows.as_slice()
+    }
+
     /// Whether a part is settled. This takes no memory.
     pub fn is_settled(&self, part: usize) -> bool
         requires { part < length self.now.settled }

@@ -1,6 +1,5 @@
 //! What stays of knots and of what is kept of them, and what is left to search.
 ghost use Rattle.reo_planning.specs.Planned.{LeftWeighsNoMore};
-ghost use Rattle.reo_planning.specs.Tables.{TablesElsewhere};
 ghost use Rattle.reo_planning.specs.Unsettling.{KeptElsewhere, KeptLater, KnotsStay};
 
 /// What is kept stays right where a circuit changes at no primitive of a part that is still
@@ -22,9 +21,4 @@ pub fn knots_stay()
 /// The parts of which no rows are kept weigh together no more than all parts.
 pub fn left_weighs_no_more()
     ensures { LeftWeighsNoMore }
-{}
-
-/// Tables may be kept where a circuit changes at no primitive of a part that is still settled.
-pub fn tables_elsewhere()
-    ensures { TablesElsewhere }
 {}

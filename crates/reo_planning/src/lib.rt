@@ -9,10 +9,12 @@ mod laws;
 mod moving;
 mod parts;
 mod planning;
-mod renewing;
 mod rows;
 mod tables;
 
 pub use kept::Kept;
-pub use laws::{kept_elsewhere, kept_later, knots_stay, left_weighs_no_more, tables_elsewhere};
-pub use planning::{first_by_parts, rows_by_tables};
+pub use laws::{kept_elsewhere, kept_later, knots_stay, left_weighs_no_more};
+pub use parts::search_part;
+pub use planning::first_by_parts;
+pub use rows::{copied, put_rows};
+pub use tables::tables_of;

@@ -24,8 +24,13 @@ use reo_values::List;
 use std::alloc::Global;
 use std::sync::ledger::Ledger;
 
-/// Searches a part, and writes the rows of its first assignment down.
-fn search_part<P: Primitive, L: Ledger>(
+/// Searches a part, and writes the rows of its first assignment down. It makes at most as many ticks
+/// as the part weighs.
+///
+/// # Errors
+///
+/// `Wide` and `Spent` come exactly where the part is over. `NoMemory` is out of memory.
+pub fn search_part<P: Primitive, L: Ledger>(
     alloc: Global,
     circuit: &Circuit<P>,
     knots: &Knots,
@@ -63,7 +68,7 @@ fn search_part<P: Primitive, L: Ledger>(
         steps,
     ) {
         Ok(part) => {
-            put_rows(rows, &part);
+            put_rows(rows, part.sides.as_slice(), part.rows.as_slice());
             Ok(())
         }
         Err(fault) => Err(plan_fault(fault)),

@@ -5,15 +5,12 @@ ghost use Rattle.reo_net_base.specs.Colouring.{RowsFit};
 ghost use Rattle.reo_net_ends.specs.Ends.{AreEnds};
 ghost use Rattle.reo_knots.specs.Knots.{AreKnots, knot_count};
 ghost use Rattle.reo_rounds.specs.Plans.{IsPlanFault};
-ghost use Rattle.reo_kept_tables.specs.Orders.{AreOrders};
 ghost use Rattle.reo_kept_tables.specs.Tables.{AreReady};
 ghost use Rattle.reo_planning.specs.Keeping.{AllServe, IsKept};
 ghost use Rattle.reo_planning.specs.Planned.{ArePlanned, IsFirstBy, AreWeights, sum_below, weight_left};
-ghost use Rattle.reo_planning.specs.Tables.{MayBeKept, MayStay};
 
 use crate::kept::Kept;
 use crate::parts::plan_part;
-use crate::renewing::renewed;
 use crate::rows::copied;
 use crate::tables::tables_of;
 use reo_kept_tables::Tables;
@@ -105,54 +102,6 @@ fn rows_by_parts<P: Primitive, L: Ledger>(
         budget,
         steps,
     )
-}
-
-/// The rows of the first colouring of a circuit in the round of a number, where no part is over.
-/// They are those that are kept, where these serve; only other parts are searched. It makes at most
-/// as many ticks as the weights of those say together.
-///
-/// The tables are kept from round to round: only what they have of parts that are not settled is
-/// made anew. Where there are none they are made for the whole circuit; after a fault there are
-/// none.
-///
-/// # Errors
-///
-/// `Wide` and `Spent` come exactly where a part is over, for the least such part. `NoMemory` is out
-/// of memory.
-pub fn rows_by_tables<P: Primitive, L: Ledger>(
-    alloc: Global,
-    circuit: &Circuit<P>,
-    knots: &Knots,
-    ends: &Ends,
-    orders: &List<List<usize>>,
-    kept: &Kept,
-    tables: &mut Option<Tables>,
-    turn: u64,
-    budget: u64,
-    steps: &mut Steps<L>,
-) -> Result<List<u32>, PlanFault>
-    requires knots { AreKnots (net_of P.behaviour circuit.now) knots.now }
-    requires ends { AreEnds (net_of P.behaviour circuit.now) ends.now }
-    requires orders { AreOrders (net_of P.behaviour circuit.now) knots.now orders.now }
-    requires kept { IsKept (net_of P.behaviour circuit.now) knots.now turn kept.now }
-    requires budget { budget < 10 ^ 18 }
-    requires tables { MayBeKept (net_of P.behaviour circuit.now) knots.now kept.now tables.old }
-    ensures exact { let net = net_of P.behaviour circuit.now in
-        MatchResult result (ArePlanned budget net knots.now turn (knot_count knots.now))
-        (IsPlanFault budget net) }
-    ensures fit { IfOk result (RowsFit (net_of P.behaviour circuit.now)) }
-    ensures tables { MayStay (net_of P.behaviour circuit.now) knots.now tables.new }
-    ensures ticks { let count = knot_count knots.now in (weights : ℕ → ℕ)
-        → AreWeights (net_of P.behaviour circuit.now) knots.now weights
-        → steps.new ≤ steps.old + sum_below count (weight_left kept.now budget weights) }
-{
-    circuit.known();
-    let mut ready = renewed(alloc, circuit, knots, ends, orders, kept, tables.take())?;
-    let rows = rows_with(
-        alloc, circuit, knots, ends, kept, &mut ready, turn, budget, steps,
-    )?;
-    *tables = Some(ready);
-    Ok(rows)
 }
 
 /// The first colouring of a circuit in the round of a number, where no part is over. Its rows are

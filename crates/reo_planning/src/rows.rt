@@ -3,7 +3,6 @@ ghost use Rattle.std.specs.Prelude.{◌≡◌, ◌<◌, ℕ, List as Listed, IfO
 ghost use Rattle.reo_net_laws.specs.Sublists.{part_rows};
 ghost use Rattle.reo_planning.specs.Written.{AreWritten};
 
-use reo_search::Part;
 use reo_values::{List, NoMemory};
 use std::alloc::Global;
 
@@ -18,7 +17,7 @@ pub(crate) fn some_rows(alloc: Global, count: usize) -> Result<List<u32>, NoMemo
 }
 
 /// A copy of rows. `NoMemory` is out of memory.
-pub(crate) fn copied(alloc: Global, rows: &[u32]) -> Result<List<u32>, NoMemory>
+pub fn copied(alloc: Global, rows: &[u32]) -> Result<List<u32>, NoMemory>
     ensures { IfOk result (λ made. made ≡ rows.now) }
 {
     match rows.iter().copied().collect(alloc) {
@@ -27,15 +26,15 @@ pub(crate) fn copied(alloc: Global, rows: &[u32]) -> Result<List<u32>, NoMemory>
     }
 }
 
-/// Writes the rows of a part down.
-pub(crate) fn put_rows(rows: &mut List<u32>, part: &Part)
-    requires one_each { length part.now.rows ≡ length part.now.sides }
-    requires sides { (m : ℕ) → m < length part.now.sides
-        → slice_index part.now.sides m < length rows.old }
-    ensures { (from : Listed ℕ) → part.now.rows ≡ part_rows part.now.sides from
-        → AreWritten part.now.sides from rows.old rows.new }
+/// Writes rows down at some sides.
+pub fn put_rows(rows: &mut List<u32>, sides: &[usize], those: &[u32])
+    requires one_each { length those.now ≡ length sides.now }
+    requires sides { (m : ℕ) → m < length sides.now
+        → slice_index sides.now m < length rows.old }
+    ensures { (from : Listed ℕ) → those.now ≡ part_rows sides.now from
+        → AreWritten sides.now from rows.old rows.new }
 {
-    for index in 0..part.sides.len() {
-        *rows.at_mut(*part.sides.at(index)) = *part.rows.at(index);
+    for index in 0..sides.len() {
+        *rows.at_mut(sides[index]) = those[index];
     }
 }

@@ -15,7 +15,7 @@ use reo_values::NoMemory;
 use std::alloc::Global;
 
 /// The tables of a circuit in its present state. `NoMemory` is out of memory.
-pub(crate) fn tables_of<P: Primitive>(
+pub fn tables_of<P: Primitive>(
     alloc: Global,
     circuit: &Circuit<P>,
     ends: &Ends,

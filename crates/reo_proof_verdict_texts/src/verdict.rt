@@ -1,5 +1,5 @@
 //! The line of a verdict on a proof text.
-ghost use Rattle.std.specs.Prelude.{◌≡◌, ◌≢◌, ◌++◌, [], IfOk, OnOk, Ok as IsOk, Err as IsErr};
+ghost use Rattle.std.specs.Prelude.{◌≡◌, ◌≢◌, ◌++◌, [], IfOk, OnOk, Ok as Verified, Err as Refused};
 ghost use Rattle.reo_proof_texts.specs.declared.refusal.ProofRefusal.TheVariants as refusals;
 ghost use Rattle.reo_proof_verdict_texts.specs.VerdictTexts.{refusal_words, proof_verdict_line};
 
@@ -45,7 +45,7 @@ fn append_refusal(alloc: Global, line: &mut Bytes, refusal: &ProofRefusal) -> Re
 
 /// The line of a proof text that is verified. `NoMemory` is out of memory.
 fn proved_line(alloc: Global, rounds: u64) -> Result<Bytes, NoMemory>
-    ensures { IfOk result (λ line. line ≡ proof_verdict_line (IsOk rounds)) }
+    ensures { IfOk result (λ line. line ≡ proof_verdict_line (Verified rounds)) }
 {
     let mut line = Bytes::new(alloc);
     append_numbered(alloc, &mut line, b"proved ", rounds)?;
@@ -55,7 +55,7 @@ fn proved_line(alloc: Global, rounds: u64) -> Result<Bytes, NoMemory>
 
 /// The line of a proof text that is refused. `NoMemory` is out of memory, here or before.
 fn refused_line(alloc: Global, refusal: &ProofRefusal) -> Result<Bytes, NoMemory>
-    ensures line { IfOk result (λ line. line ≡ proof_verdict_line (IsErr refusal.now)) }
+    ensures line { IfOk result (λ line. line ≡ proof_verdict_line (Refused refusal.now)) }
     ensures told { OnOk result (refusal.now ≢ refusals.NoMemory) }
 {
     let mut line = Bytes::from_slice(alloc, b"proof refused: ")?;
@@ -70,7 +70,7 @@ pub fn proof_verdict_line(
     verdict: &Result<u64, ProofRefusal>,
 ) -> Result<Bytes, NoMemory>
     ensures line { IfOk result (λ line. line ≡ proof_verdict_line verdict.now) }
-    ensures told { OnOk result (verdict.now ≢ IsErr refusals.NoMemory) }
+    ensures told { OnOk result (verdict.now ≢ Refused refusals.NoMemory) }
 {
     match verdict {
         Ok(rounds) => proved_line(alloc, *rounds),

@@ -1,5 +1,5 @@
 //! The next line of a branch.
-ghost use Rattle.std.specs.Prelude.{◌≡◌, ◌≢◌, ◌<◌, ◌^◌, ℕ, List, [], IfOk, MatchOption, length};
+ghost use Rattle.std.specs.Prelude.{◌≡◌, ◌≢◌, ◌<◌, ◌≤◌, ◌^◌, ℕ, List, [], IfOk, MatchOption, length};
 ghost use Rattle.reo_net_base.specs.Net.{net_of};
 ghost use Rattle.reo_refute_base.specs.Live.{live_at};
 ghost use Rattle.reo_refute_base.specs.Places.{IsAllowed};
@@ -20,7 +20,8 @@ use reo_refute_places::Allowed;
 use reo_refute_support::Column;
 use reo_values::{List, NoMemory, Value};
 
-/// The line of the first joint at which no value is live, or one may go, if there is such a joint.
+/// The line of the first joint of some in a row at which no value is live, or one may go, if there
+/// is such a joint.
 fn kept_or_line<P: Primitive>(
     circuit: &Circuit<P>,
     turn: u64,
@@ -30,6 +31,8 @@ fn kept_or_line<P: Primitive>(
     tables: &List<List<Column>>,
     allowed: &Allowed,
     live: &Live,
+    from: usize,
+    to: usize,
     rows: &mut Vec<u8>,
 ) -> Result<Option<LogLine>, NoMemory>
     requires tables { AreTables (net_of P.behaviour circuit.now) tables.now }
@@ -38,14 +41,15 @@ fn kept_or_line<P: Primitive>(
     requires allowed { AreAllowedRows (net_of P.behaviour circuit.now) turn given.now number
         allowed.now }
     requires small { AreSmall lists.now }
+    requires to { to ≤ length circuit.now.joints }
     ensures { let net = net_of P.behaviour circuit.now in
         let family = family_of live.now.table in
         IfOk result (λ found. MatchOption found
-        ((j : ℕ) → j < length net.joints
+        ((j : ℕ) → from ≤ j → j < to
         → IsKept net lists.now (IsAllowed net turn given.now number) family j)
         (LeadsOn net lists.now (IsAllowed net turn given.now number) family)) }
 {
-    for joint in 0..circuit.joint_count() {
+    for joint in from..to {
         match line_at(
             circuit, turn, given, number, lists, tables, allowed, live, joint, rows,
         )? {
@@ -75,7 +79,8 @@ fn first_double(lists: &[List<Value>], live: &Live) -> Option<usize>
 
 /// The next line of a branch at a place: `Drop` of a live value that has no support, or `Empty` of
 /// a joint at which no value is live, or `Split` of one at which two are; or `None` where at each
-/// joint one value is live, with support at both its sides. What the buffer held does not matter.
+/// joint one value is live, with support at both its sides. Joints are looked at from the one of a
+/// number on, which may be any, and then those before it. What the buffer held does not matter.
 /// `NoMemory` is out of memory.
 pub fn next_line<P: Primitive>(
     circuit: &Circuit<P>,
@@ -86,6 +91,7 @@ pub fn next_line<P: Primitive>(
     tables: &List<List<Column>>,
     allowed: &Allowed,
     live: &Live,
+    from: usize,
     rows: &mut Vec<u8>,
 ) -> Result<Option<LogLine>, NoMemory>
     requires tables { AreTables (net_of P.behaviour circuit.now) tables.now }
@@ -98,13 +104,20 @@ pub fn next_line<P: Primitive>(
         IfOk result (IsNextLine net lists.now (IsAllowed net turn given.now number)
         (family_of live.now.table)) }
 {
+    let count = circuit.joint_count();
+    let from = from.min(count);
     match kept_or_line(
-        circuit, turn, given, number, lists, tables, allowed, live, rows,
+        circuit, turn, given, number, lists, tables, allowed, live, from, count, rows,
     )? {
         Some(line) => Ok(Some(line)),
-        None => match first_double(lists, live) {
-            Some(joint) => Ok(Some(LogLine::Split(joint))),
-            None => Ok(None),
+        None => match kept_or_line(
+            circuit, turn, given, number, lists, tables, allowed, live, 0, from, rows,
+        )? {
+            Some(line) => Ok(Some(line)),
+            None => match first_double(lists, live) {
+                Some(joint) => Ok(Some(LogLine::Split(joint))),
+                None => Ok(None),
+            },
         },
     }
 }

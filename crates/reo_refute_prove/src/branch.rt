@@ -10,6 +10,7 @@ ghost use Rattle.reo_refute_prove.specs.Making.{AreFew, NeverSettles, IsLineMade
 use crate::going::go_on;
 use reo_net_base::Primitive;
 use reo_net_circuit::Circuit;
+use reo_refute_base::LogLine;
 use reo_refute_lines::put_line;
 use reo_refute_live::Live;
 use reo_refute_next::next_line;
@@ -17,6 +18,20 @@ use reo_refute_places::Allowed;
 use reo_refute_support::Column;
 use reo_values::{Bytes, List, NoMemory, Value};
 use std::alloc::Global;
+
+/// How many joints before the one of a line are looked at first for the next.
+const NEAR: usize = 16;
+
+/// The joint with which to begin behind a line: what it took away may be missed near its joint, and
+/// joints of one place in a circuit mostly stand near to each other.
+fn near_of(line: LogLine) -> usize {
+    match line {
+        LogLine::Drop(joint, _, _) | LogLine::Empty(joint) | LogLine::Split(joint) => {
+            joint.saturating_sub(NEAR)
+        }
+        LogLine::At(_) => 0,
+    }
+}
 
 /// How many sides there are: fewer than 2^63.
 fn count_sides(tables: &[List<Column>]) -> usize
@@ -37,6 +52,7 @@ fn put_next<P: Primitive>(
     tables: &List<List<Column>>,
     allowed: &Allowed,
     live: &mut Live,
+    near: &mut usize,
     rows: &mut Vec<u8>,
     out: &mut Bytes,
 ) -> Result<bool, NoMemory>
@@ -56,9 +72,10 @@ fn put_next<P: Primitive>(
     circuit.known();
     let _sides = count_sides(tables.as_slice());
     match next_line(
-        circuit, turn, given, number, lists, tables, allowed, live, rows,
+        circuit, turn, given, number, lists, tables, allowed, live, *near, rows,
     )? {
         Some(line) => {
+            *near = near_of(line);
             put_line(alloc, out, line)?;
             let more = go_on(alloc, circuit, turn, given, number, lists, live, line)?;
             Ok(more)
@@ -93,9 +110,11 @@ pub(crate) fn put_branch<P: Primitive>(
 {
     let mut live = Live::new(alloc, lists)?;
     let mut open = true;
+    let mut near = 0;
     while open {
         open = put_next(
-            alloc, circuit, turn, given, number, lists, tables, allowed, &mut live, rows, out,
+            alloc, circuit, turn, given, number, lists, tables, allowed, &mut live, &mut near, rows,
+            out,
         )?;
     }
     Ok(())

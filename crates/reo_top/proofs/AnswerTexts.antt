@@ -8,7 +8,7 @@ use Rattle.reo_trace.specs.EndingText.{ending_text}
 use Rattle.reo_live_base.specs.declared.answer.Answer.{Answer}
 use Rattle.reo_live_base.specs.declared.answer.Answer.TheVariants as answers
 use Rattle.reo_live_base.specs.Answers.{fault_text, refusal_text, end_text, answer_text, answers_text}
-use Rattle.reo_top.proofs.LineLemmas.{Ends, after, round_ends}
+use Rattle.reo_top_base.proofs.LineLemmas.{Ends, after, round_ends}
 
 answer_ends : (ports : List Port) (answer : Answer) → Ends (answer_text ports answer)
 unfolding answer_text refusal_text end_text ending_text

@@ -20,20 +20,23 @@ use Rattle.reo_command.specs.declared.role.Role.{Role}
 use Rattle.reo_command.specs.declared.role.Role.TheVariants.{Circuit, Script}
 use Rattle.reo_command.specs.declared.stop.Stop.{Stop}
 use Rattle.reo_command.specs.declared.stop.Stop.TheVariants.{Missed}
-use Rattle.reo_top.specs.Answers.{IsAnswered, Answered}
-use Rattle.reo_top.specs.Cases.{Cases, IsFailure}
+use Rattle.reo_top.specs.Answers.{Answered}
+use Rattle.reo_top_base.specs.Answered.{IsAnswered}
+use Rattle.reo_top_base.specs.Cases.{Cases, IsFailure}
 use Rattle.reo_closings.specs.Sources.{SourceChange}
 use Rattle.reo_command.specs.Commands.{command_of, is_free, roles_of}
 use Rattle.reo_command.specs.Fetched.{Content, gone, long, text, unknown, content_of, AreTold}
 use Rattle.reo_top.specs.Headline.{Accepted, IsTraced, Headline}
 use Rattle.reo_command.specs.Limits.{limits_of}
-use Rattle.reo_top.specs.Owed.{owed_by, owed_of, TracesRun}
+use Rattle.reo_top.specs.Owed.{owed_of}
+use Rattle.reo_top_base.specs.Owed.{owed_by}
+use Rattle.reo_top_runs.specs.Traces.{TracesRun}
 use Rattle.reo_command.specs.Readings.{FlatCircuit, Runnable, IsCircuitText, CircuitStops, ReadsRun, StopsRun}
 use Rattle.reo_command.specs.Roles.{most_bytes}
 use Rattle.reo_command.specs.States.{SinkState, FilesState, Change}
 use Rattle.reo_command.specs.Stops.{stop_status}
 use Rattle.reo_command.proofs.FlatLemmas.{circuit_apart}
-use Rattle.reo_top.proofs.RunLemmas.{start_for}
+use Rattle.reo_top_runs.proofs.RunLemmas.{start_for}
 use Rattle.reo_top.proofs.TopLemmas.{answered_with, told_always}
 use Rattle.reo_command.proofs.WorkLemmas.{run_reading}
 

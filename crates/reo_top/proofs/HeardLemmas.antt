@@ -25,14 +25,14 @@ use Rattle.reo_hearing.specs.declared.heard.Heard.TheVariants as heards
 use Rattle.reo_hearing.specs.Heard.{IsHeard, HeardFrom, TookFew, HeardAll, HeardLast, HeardPart, HeardLines}
 use Rattle.reo_command.specs.Readings.{FlatCircuit}
 use Rattle.reo_command.specs.States.{SinkState, Change}
-use Rattle.reo_top.specs.Cases.{AreFirstLines, Cases, IsExact, IsFair, TellsFaults, Refuses, SaysNoMemory}
+use Rattle.reo_top_base.specs.Cases.{AreFirstLines, Cases, IsExact, IsFair, TellsFaults, Refuses, SaysNoMemory}
 use Rattle.reo_top.specs.Closed.{Says, IsClosedAs}
-use Rattle.reo_top.specs.Outputs.{IsLine}
+use Rattle.reo_top_base.specs.Outputs.{IsLine}
 use Rattle.reo_top.specs.Heard.{closing_text, closing_status, HearsCircuit, IsHeardOn, TakesFew}
 use Rattle.reo_top.proofs.AnswerTexts.{answers_end}
-use Rattle.reo_top.proofs.CaseLemmas.{line_cases, line_written, lines_cases}
+use Rattle.reo_top_base.proofs.CaseLemmas.{line_cases, line_written, lines_cases}
 use Rattle.reo_top.proofs.ClosingStatuses.{last_is, status_last, text_last}
-use Rattle.reo_top.proofs.LineLemmas.{Ends}
+use Rattle.reo_top_base.proofs.LineLemmas.{Ends}
 
 -- A line behind what came, and a sink that failed on it.
 line_behind : (old mid new : SinkState) (code status : ℕ) (first line : List ℕ) → old.faults ≤ mid.faults → Appended old.told mid.told first

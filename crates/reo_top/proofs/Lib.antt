@@ -1,16 +1,9 @@
-pub mod AnswerLemmas
 pub mod AnswerTexts
-pub mod CaseLemmas
 pub mod ClosingStatuses
 pub mod CompleteLemmas
-pub mod DoneLemmas
 pub mod HeadlineLemmas
 pub mod HeardLemmas
-pub mod LineLemmas
 pub mod MeasureLemmas
-pub mod RunLemmas
 pub mod StillLemmas
-pub mod StopLemmas
 pub mod TopLemmas
 pub mod UntakenLemmas
-pub mod VerdictLemmas

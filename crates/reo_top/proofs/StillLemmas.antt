@@ -11,10 +11,13 @@ use Rattle.reo_command.specs.Limits.{limits_of}
 use Rattle.reo_command.specs.Readings.{ReadsRun, StopsRun}
 use Rattle.reo_command.specs.States.{SinkState, FilesState, Change}
 use Rattle.reo_command.specs.Statuses.{IsAmong, statuses_of}
-use Rattle.reo_top.specs.Answers.{IsAnswered, IsAnsweredWith, Answered}
-use Rattle.reo_top.specs.Cases.{Cases, IsExact, Refuses}
+use Rattle.reo_top.specs.Answers.{Answered}
+use Rattle.reo_top_base.specs.Answered.{IsAnswered, IsAnsweredWith}
+use Rattle.reo_top_base.specs.Cases.{Cases, IsExact, Refuses}
 use Rattle.reo_top.specs.Measures.{MeasuresMade}
-use Rattle.reo_top.specs.Owed.{owed_of, owed_by, TracesRun}
+use Rattle.reo_top.specs.Owed.{owed_of}
+use Rattle.reo_top_base.specs.Owed.{owed_by}
+use Rattle.reo_top_runs.specs.Traces.{TracesRun}
 use Rattle.reo_top.proofs.TopLemmas.{answered_as, answered_none, bench_answered, run_answered}
 use Rattle.reo_top.proofs.UntakenLemmas.{none_taken, none_taken_few}
 

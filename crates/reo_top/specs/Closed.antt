@@ -4,7 +4,7 @@ use Rattle.reo_hearing.specs.declared.heard.Heard.{Heard}
 use Rattle.reo_hearing.specs.declared.heard.Heard.TheVariants as heards
 use Rattle.reo_command.specs.States.{SinkState, Change}
 use Rattle.reo_command.specs.Statuses.{done, part_over, read_fault, too_long, write_fault}
-use Rattle.reo_top.specs.Cases.{Refuses, EndsWithNoMemory}
+use Rattle.reo_top_base.specs.Cases.{Refuses, EndsWithNoMemory}
 
 -- Nothing was written, and this is the status.
 abbrev pub Says : ℕ → Change SinkState → ℕ → Type 0

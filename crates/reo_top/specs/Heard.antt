@@ -9,8 +9,8 @@ use Rattle.reo_hearing.specs.Heard.{is_stop}
 use Rattle.reo_command.specs.Readings.{FlatCircuit}
 use Rattle.reo_command.specs.States.{SinkState, Change}
 use Rattle.reo_command.specs.Statuses.{done, part_over, read_fault, too_long}
-use Rattle.reo_top.specs.Cases.{Cases, IsExact}
-use Rattle.reo_top.specs.Outputs.{Outputs, IsLine}
+use Rattle.reo_top_base.specs.Cases.{Cases, IsExact}
+use Rattle.reo_top_base.specs.Outputs.{Outputs, IsLine}
 
 -- The line behind the answers.
 abbrev pub closing_text : Closing → List ℕ

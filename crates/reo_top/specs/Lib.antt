@@ -1,12 +1,7 @@
 pub mod Answers
-pub mod Cases
 pub mod Complete
 pub mod Headline
 pub mod Measures
-pub mod Outputs
 pub mod Heard
 pub mod Closed
 pub mod Owed
-pub mod Stopped
-pub mod Traces
-pub mod VerdictTexts

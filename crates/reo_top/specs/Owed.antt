@@ -1,36 +1,26 @@
 -- What a command owes, by what its fetches answered.
-use Rattle.std.specs.Prelude.{ℕ, ◌≡◌, ◌⊎◌, List, [], Option, Some, None, codes}
-use Rattle.reo_runner.specs.declared.outcome.Limits.{Limits}
-use Rattle.reo_at_ports.specs.Kinds.{kind_rules}
-use Rattle.reo_runs.specs.Run.{start_of}
-use Rattle.reo_verdicts.specs.declared.verdict.Verdict.{Verdict}
-use Rattle.reo_verdicts.specs.Verdicts.{IsVerdict}
+use Rattle.std.specs.Prelude.{ℕ, ◌≡◌, List, [], Option, Some, None, codes}
 use Rattle.reo_trees.specs.declared.programs_two.AnyProgram.{AnyProgram}
 use Rattle.reo_syntax_two.specs.Canonical.{canonical_text_two}
 use Rattle.reo_upgrade.specs.Upgraded.{upgraded, canonical_text_any}
 use Rattle.reo_inventory.specs.Parts.{parts_text}
 use Rattle.reo_command.specs.declared.command.Command.{Command}
-use Rattle.reo_command.specs.declared.command.Command.TheVariants.{Run, Check, Print, Upgrade, Verify, Bench, Live}
-use Rattle.reo_command.specs.declared.stop.Stop.{Stop}
-use Rattle.reo_command.specs.Claims.{Claimed, ReadsClaim, StopsVerify}
+use Rattle.reo_command.specs.declared.command.Command.TheVariants.{Run, Check, Print, Upgrade, Verify, Bench, Live, Tables, Prove, VerifyProof}
+use Rattle.reo_command.specs.Claims.{ReadsClaim, StopsVerify, ReadsProof, StopsProof}
 use Rattle.reo_command.specs.Fetched.{Content}
-use Rattle.reo_command.specs.Limits.{limits_of, budget_of, firsts_for}
+use Rattle.reo_command.specs.Limits.{limits_of, budget_of, usual_limits}
 use Rattle.reo_command.specs.Amounts.{size_of}
 use Rattle.reo_closings.specs.Sources.{Events}
 use Rattle.reo_top.specs.Heard.{HearsCircuit}
 use Rattle.reo_top.specs.Measures.{MeasuresMade}
-use Rattle.reo_top.specs.Outputs.{Outputs, IsLine}
-use Rattle.reo_command.specs.Readings.{FlatCircuit, Runnable, ReadsProgram, StopsPrint, ReadsCircuit, StopsCheck, ReadsRun, StopsRun}
+use Rattle.reo_top_base.specs.Outputs.{Outputs, IsLine}
+use Rattle.reo_top_base.specs.Owed.{owed_by}
+use Rattle.reo_top_runs.specs.ProvedRuns.{ProvesRun}
+use Rattle.reo_top_runs.specs.Traces.{TracesRun}
+use Rattle.reo_top_tables.specs.Listings.{ListsTables}
+use Rattle.reo_top_verdicts.specs.Judged.{JudgesTrace, JudgesProof}
+use Rattle.reo_command.specs.Readings.{FlatCircuit, ReadsProgram, StopsPrint, ReadsCircuit, StopsCheck, ReadsRun, StopsRun}
 use Rattle.reo_command.specs.Statuses.{done, words_refused}
-use Rattle.reo_command.specs.Stops.{stop_text, stop_status}
-use Rattle.reo_top.specs.Traces.{IsTraceOf}
-use Rattle.reo_top.specs.VerdictTexts.{verdict_line, verdict_status}
-
--- The line of what stops the command, or what it makes of what it reads.
-abbrev pub owed_by : {X : Type 0} → (List Content → X → Type 0) → (List Content → Stop → Type 0) → (X → Outputs) → List Content → Outputs
-owed_by {X} Reads Stops Makes answers bytes code =
-    ((stop : Stop) × Stops answers stop × IsLine (stop_text stop) (stop_status stop) bytes code)
-    ⊎ ((x : X) × Reads answers x × Makes x bytes code)
 
 -- The canonical text of a program, of its own version.
 abbrev pub PrintsProgram : AnyProgram → Outputs
@@ -44,19 +34,11 @@ UpgradesProgram program = IsLine (canonical_text_two (upgraded program)) done
 abbrev pub ListsParts : FlatCircuit → Outputs
 ListsParts flat = IsLine (parts_text flat.wiring.primitives flat.wiring.joints flat.homes flat.nodes) done
 
--- The trace of the run of a script on a circuit by first colourings, which goes no further than this.
-abbrev pub TracesRun : Limits → Runnable → Outputs
-TracesRun limits = IsTraceOf (firsts_for limits)
-
--- The verdict on the trace, in a line, with its status.
-abbrev pub JudgesTrace : Claimed → Outputs
-JudgesTrace c bytes code =
-    (verdict : Verdict) × IsVerdict kind_rules c.work.flat.nodes c.work.flat.homes (start_of c.work.flat.wiring c.work.script.components) c.trace verdict
-    × IsLine (verdict_line verdict) (verdict_status verdict) bytes code
-
 -- What a command owes for its words: a run the trace of the run within the limits of its options, a check the parts of the
--- circuit, a print the canonical text of the program, an upgrade that of version 2, a verification the verdict on the trace, a bench the line of the run of made
--- work within the usual limits, whatever is fetched, and live the answers to the events of the source.
+-- circuit, a print the canonical text of the program, an upgrade that of version 2, a verification the verdict on the trace, a
+-- bench the line of the run of made work within the usual limits, whatever is fetched, live the answers to the events of the
+-- source, a listing the boundary tables of the circuit within the usual budget, a proof some proved text of the run within the
+-- usual limits, and the verification of one the verdict on it.
 abbrev pub owed_of : Command → List (List ℕ) → Events → List Content → Outputs
 owed_of Run words events = owed_by ReadsRun StopsRun (TracesRun (limits_of words))
 owed_of Check words events = owed_by ReadsCircuit StopsCheck ListsParts
@@ -65,6 +47,9 @@ owed_of Upgrade words events = owed_by ReadsProgram StopsPrint UpgradesProgram
 owed_of Verify words events = owed_by ReadsClaim StopsVerify JudgesTrace
 owed_of Bench words events = λ answers. MeasuresMade (size_of words)
 owed_of Live words events = owed_by ReadsCircuit StopsCheck (HearsCircuit (budget_of words) events)
+owed_of Tables words events = owed_by ReadsCircuit StopsCheck (ListsTables usual_limits.budget)
+owed_of Prove words events = owed_by ReadsRun StopsRun (ProvesRun usual_limits)
+owed_of VerifyProof words events = owed_by ReadsProof StopsProof JudgesProof
 
 -- The same, or the refusal of words that have no form, for which nothing is fetched.
 abbrev pub owed_for : Option Command → List (List ℕ) → Events → List Content → Outputs

@@ -9,13 +9,11 @@ ghost use Rattle.reo_command.specs.ReadSteps.{HasItsPorts, circuit_in};
 ghost use Rattle.reo_command.specs.States.{files_change, sink_change};
 ghost use Rattle.reo_command.specs.Statuses.{IsAmong, statuses_of};
 ghost use Rattle.reo_top.specs.Answers.{IsHeardAs};
-ghost use Rattle.reo_top.specs.Cases.{IsFair, TellsFaults};
+ghost use Rattle.reo_top_base.specs.Cases.{IsFair, TellsFaults};
 ghost use Rattle.reo_top.specs.Closed.{IsClosedAs};
 ghost use Rattle.reo_top.specs.Heard.{HearsCircuit, IsHeardOn};
-ghost use Rattle.reo_top.specs.Owed.{owed_by};
+ghost use Rattle.reo_top_base.specs.Owed.{owed_by};
 
-use crate::answer::{answer, no_memory};
-use crate::refusing::refuse;
 use reo_closings::{closing_exists, closing_is_one};
 use reo_command::{DONE, PART_OVER, READ_FAULT, Status, TOO_LONG, WRITE_FAULT, read_flat};
 use reo_flatten::Flat;
@@ -24,6 +22,7 @@ use reo_io::{Files, Sink, Source};
 use reo_kinds::Kind;
 use reo_live::Live;
 use reo_runs::known_order;
+use reo_top_base::{answer, no_memory, refuse};
 use std::alloc::Global;
 
 /// Writes the line behind the answers, if one is owed, and answers the status.

@@ -6,19 +6,20 @@ ghost use Rattle.reo_top.specs.Headline.{Headline};
 ghost use Rattle.reo_closings.specs.Sources.{source_change};
 ghost use Rattle.reo_command.specs.States.{files_change, sink_change};
 
-use crate::answer::answer;
 use crate::checking::check_circuit;
 use crate::hearing::hear_events;
 use crate::measuring::measure_work;
 use crate::printing::{print_circuit, upgrade_circuit};
-use crate::running::run_circuit;
-use crate::verifying::verify_claim;
 use reo_circuit_texts::circuit_names_are_plain;
 use reo_command::{Command, Status, WORDS_REFUSED, budget_of, command_of, limits_of, size_of};
 use reo_flatten_laws::circuits_are_made;
 use reo_io::{Files, Sink, Source};
 use reo_kinds::Kind;
 use reo_runs::runs_are_justified;
+use reo_top_base::answer;
+use reo_top_runs::{prove_circuit, run_circuit};
+use reo_top_tables::list_circuit;
+use reo_top_verdicts::{verify_claim, verify_proof_claim};
 use reo_values::{Bytes, List};
 use std::alloc::Global;
 
@@ -88,6 +89,16 @@ pub fn reo<F: Files, R: Source, S: Sink>(
         Some(Command::Live) => {
             let budget = budget_of(words);
             hear_events(alloc, word_at(words, 1), budget, files, source, out)
+        }
+        Some(Command::Tables) => list_circuit(alloc, word_at(words, 1), files, out),
+        Some(Command::Prove) => {
+            let circuit = word_at(words, 1);
+            prove_circuit(alloc, circuit, word_at(words, 2), files, out)
+        }
+        Some(Command::VerifyProof) => {
+            let circuit = word_at(words, 1);
+            let script = word_at(words, 2);
+            verify_proof_claim(alloc, circuit, script, word_at(words, 3), files, out)
         }
         None => answer(b"words refused\n", WORDS_REFUSED, out),
     }

@@ -1,3 +1,4 @@
 pub mod Words
 pub mod Certificates
 pub mod OneTrace
+pub mod Proofs

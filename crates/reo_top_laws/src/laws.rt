@@ -2,11 +2,14 @@
 ghost use Rattle.reo_top_laws.specs.Words.{LimitsAreSaid};
 ghost use Rattle.reo_top_laws.specs.Certificates.{WrittenTracesAreVerified};
 ghost use Rattle.reo_top_laws.specs.OneTrace.{ThereIsOneTrace};
+ghost use Rattle.reo_top_laws.specs.Proofs.{VerifiedProofsAreFirst, WrittenProofsAreVerified};
 
 use reo_circuit_texts::{circuit_names_are_plain, circuits_are_spelled};
 use reo_flatten_laws::circuits_are_made;
 use reo_kinds::Kind;
 use reo_net_order::order_exists;
+use reo_proof_texts::verified_rounds_are_first;
+use reo_run_proofs::run_proofs_are_verified;
 use reo_run_texts::runs_are_trace_texts;
 use reo_runs::{one_trace, trace_exists};
 use reo_verdicts::runs_are_verified;
@@ -40,4 +43,25 @@ pub fn written_traces_are_verified()
     circuit_names_are_plain();
     runs_are_trace_texts();
     runs_are_verified::<Kind>();
+}
+
+/// The verdict on a proved text that a run wrote whole is that it is verified, with as many rounds
+/// as the run has.
+pub fn written_proofs_are_verified()
+    ensures { WrittenProofsAreVerified }
+{
+    circuits_are_spelled();
+    circuit_names_are_plain();
+    run_proofs_are_verified();
+}
+
+/// A proof is verified only where its rounds are those of a run in which each is the first
+/// colouring of what the rounds before it have left, whoever wrote it.
+pub fn verified_proofs_are_first()
+    ensures { VerifiedProofsAreFirst }
+{
+    circuits_are_made();
+    circuit_names_are_plain();
+    order_exists();
+    verified_rounds_are_first::<Kind>();
 }

@@ -3,4 +3,7 @@
 
 mod laws;
 
-pub use laws::{limits_are_said, there_is_one_trace, written_traces_are_verified};
+pub use laws::{
+    limits_are_said, there_is_one_trace, verified_proofs_are_first, written_proofs_are_verified,
+    written_traces_are_verified,
+};

@@ -1,6 +1,8 @@
 //! Fetches and sinks that fail.
 use crate::checks::is;
-use crate::objects::{GIVE, GIVEN, ONE, empty_source, memory_files, memory_sink, words_of};
+use crate::objects::{
+    GIVE, GIVEN, ONE, PROVED, empty_source, memory_files, memory_sink, words_of,
+};
 use reo_io::{MemoryFiles, MemorySink};
 use reo_top::reo;
 use reo_values::NoMemory;
@@ -140,6 +142,88 @@ const CASES: &[Case] = &[
         text: "bench 1:",
     },
     Case {
+        words: "list C",
+        circuit: ONE,
+        fetch: 0,
+        room: 99,
+        status: 0,
+        text: "part 0: a b\nFF\nGG\nGR\nRG\nlisted 1 parts, 4 rows\n",
+    },
+    Case {
+        words: "list C",
+        circuit: ONE,
+        fetch: 1,
+        room: 99,
+        status: 3,
+        text: "read fault circuit\n",
+    },
+    // nothing is written before all tables are found
+    Case {
+        words: "list C",
+        circuit: ONE,
+        fetch: 0,
+        room: 9,
+        status: 9,
+        text: "part 0: a",
+    },
+    Case {
+        words: "prove C S",
+        circuit: ONE,
+        fetch: 0,
+        room: 99,
+        status: 0,
+        text: PROVED,
+    },
+    Case {
+        words: "prove C S",
+        circuit: ONE,
+        fetch: 2,
+        room: 99,
+        status: 3,
+        text: "read fault script\n",
+    },
+    Case {
+        words: "prove C S",
+        circuit: ONE,
+        fetch: 0,
+        room: 30,
+        status: 9,
+        text: "round 1: a!3 b?3 | 0 0 0\nprove",
+    },
+    // the third fetch is that of the proof
+    Case {
+        words: "verify-proof C S P",
+        circuit: ONE,
+        fetch: 0,
+        room: 99,
+        status: 0,
+        text: "proved 1 rounds\n",
+    },
+    Case {
+        words: "verify-proof C S P",
+        circuit: ONE,
+        fetch: 2,
+        room: 99,
+        status: 3,
+        text: "read fault script\n",
+    },
+    Case {
+        words: "verify-proof C S P",
+        circuit: ONE,
+        fetch: 3,
+        room: 99,
+        status: 3,
+        text: "read fault proof\n",
+    },
+    Case {
+        words: "verify-proof C S P",
+        circuit: ONE,
+        fetch: 0,
+        room: 6,
+        status: 9,
+        text: "proved",
+    },
+    Case {
         words: "walk C S",
         circuit: ONE,
         fetch: 0,
@@ -165,24 +249,39 @@ fn failing_fetches_and_full_sinks(rt: HostRuntime) -> Result<(), Fail> {
     Ok(())
 }
 
-/// Whether a run whose sink takes a byte a call, and fails at this call, has this status, and the
-/// sink this text.
-fn breaks_at(alloc: Global, put: u64, status: u8, text: &[u8]) -> Result<bool, NoMemory> {
+/// Whether a command whose sink takes a byte a call, and fails at this call, has this status, and
+/// the sink this text.
+fn breaks_at(
+    alloc: Global,
+    words: &str,
+    put: u64,
+    status: u8,
+    text: &[u8],
+) -> Result<bool, NoMemory> {
     let mut files = memory_files(alloc, ONE, GIVE, 0)?;
     let mut sink = memory_sink(alloc, 99, 1, put)?;
-    let code = status_of(alloc, "run C S", &mut files, &mut sink)?;
+    let code = status_of(alloc, words, &mut files, &mut sink)?;
     Ok(code == status && sink.bytes() == text)
+}
+
+/// Whether a command that writes this text has got a front of it on a sink that fails, at each call
+/// in turn.
+fn has_fronts(alloc: Global, words: &str, text: &str) -> Result<bool, NoMemory> {
+    let mut put = 1;
+    for (kept, _) in text.as_bytes().iter().enumerate() {
+        let (front, _) = text.as_bytes().split_at(kept);
+        if !breaks_at(alloc, words, put, 9, front)? {
+            return Ok(false);
+        }
+        put = put.wrapping_add(1);
+    }
+    breaks_at(alloc, words, put, 0, text.as_bytes())
 }
 
 #[test]
 fn a_failing_sink_has_a_front(rt: HostRuntime) -> Result<(), Fail> {
     let alloc = rt.alloc();
-    let mut put = 1;
-    for (kept, _) in GIVEN.as_bytes().iter().enumerate() {
-        let (front, _) = GIVEN.as_bytes().split_at(kept);
-        is(&rt, breaks_at(alloc, put, 9, front)?, GIVEN);
-        put = put.wrapping_add(1);
-    }
-    is(&rt, breaks_at(alloc, put, 0, GIVEN.as_bytes())?, GIVEN);
+    is(&rt, has_fronts(alloc, "run C S", GIVEN)?, GIVEN);
+    is(&rt, has_fronts(alloc, "prove C S", PROVED)?, PROVED);
     Ok(())
 }

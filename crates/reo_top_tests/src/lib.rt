@@ -1,6 +1,6 @@
 //! The command over objects that fail, which no file brings about: fetches that fail although the
-//! file is there, and sinks and sources that fail in the middle. Tests alone; what files show of the command is
-//! in the cases of `reo_cases`.
+//! file is there, and sinks and sources that fail in the middle; and proofs that it has written,
+//! which it verifies. Tests alone; what files show of the command is in the cases of `reo_cases`.
 #![tactic(auto)]
 
 #[cfg(test)]
@@ -9,6 +9,8 @@ mod checks;
 mod failing;
 #[cfg(test)]
 mod objects;
+#[cfg(test)]
+mod proofs;
 #[cfg(test)]
 mod sure;
 #[cfg(test)]

@@ -10,6 +10,9 @@ pub const GIVE: &str = "component p { write a 3; } component q { take b; }";
 /// The trace of `GIVE` on `ONE`.
 pub const GIVEN: &str = "round 1: a!3 b?3 | 0 0 0\ndone after 1 rounds\n";
 
+/// The proved text of that run: no log has a line.
+pub const PROVED: &str = "round 1: a!3 b?3 | 0 0 0\nproved\ndone after 1 rounds\n";
+
 /// The words of a line, with one blank between each two.
 pub fn words_of(alloc: Global, line: &str) -> Result<List<Bytes>, NoMemory> {
     let mut words = List::new(alloc);
@@ -39,7 +42,20 @@ fn calls(alloc: Global, failing: u64) -> Result<List<u64>, NoMemory> {
     Ok(calls)
 }
 
-/// These files, of which the fetch with this number fails.
+/// The files `C`, `S` and `P` with these texts.
+pub fn three_files(
+    alloc: Global,
+    circuit: &str,
+    script: &str,
+    proof: &str,
+) -> Result<List<Named>, NoMemory> {
+    let mut files = both_files(alloc, circuit, script)?;
+    files.push(named(alloc, "P", proof)?)?;
+    Ok(files)
+}
+
+/// The files `C` and `S` with these texts, and `P` with that of `PROVED`, of which the fetch with
+/// this number fails.
 pub fn memory_files(
     alloc: Global,
     circuit: &str,
@@ -48,7 +64,7 @@ pub fn memory_files(
 ) -> Result<MemoryFiles, NoMemory> {
     MemoryFiles::new(
         alloc,
-        both_files(alloc, circuit, script)?,
+        three_files(alloc, circuit, script, PROVED)?,
         calls(alloc, failing)?,
     )
 }

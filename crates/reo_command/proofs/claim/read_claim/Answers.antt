@@ -1,10 +1,11 @@
 use Rattle.std.proofs.Common.{List, [], ◌∷◌, refl}
+use Rattle.reo_trace_texts.specs.Texts.{IsTraceText}
 use Rattle.reo_command.specs.declared.claim.Claim.{Claim}
 use Rattle.reo_command.specs.declared.reading.Work.{Work}
 use Rattle.reo_command.specs.declared.role.Role.TheVariants.{Circuit, Script, Trace}
-use Rattle.reo_command.specs.Claims.{ReadsTrace, StopsTrace, ReadsClaim, StopsVerify}
+use Rattle.reo_command.specs.Claims.{TraceStops, ReadsClaim, StopsVerify}
 use Rattle.reo_command.specs.Fetched.{Content}
-use Rattle.reo_command.specs.Readings.{Runnable, ReadsRun, StopsRun}
+use Rattle.reo_command.specs.Readings.{ReadsFile, StopsFile, Runnable, ReadsRun, StopsRun}
 use Rattle.reo_command.specs.ReadSteps.{runnable_in, claimed_in}
 use Rattle.reo_command.proofs.ClaimLemmas.{claim_first, claim_next, claim_whole}
 use Rattle.reo_command.proofs.FetchLemmas.{stopped_first, stopped_next, read_next}
@@ -20,19 +21,19 @@ Reads answers claim = ReadsClaim answers (claimed_in claim.work.flat claim.work.
 
 pub returns-in-Err-clause-read : goal.returns-in-Err-clause-read
 returns-in-Err-clause-read g c =
-    stopped_first First StopsRun Reads StopsVerify (Circuit ∷ Script ∷ []) (c.args.circuit.now ∷ c.args.script.now ∷ []) Trace c.args.trace.now claim_first c.in-Err.stop _ c.in-Err.ensures.read
+    stopped_first First StopsRun Reads StopsVerify (Circuit ∷ Script ∷ []) (c.args.circuit.now ∷ c.args.script.now ∷ []) Trace c.args.trace.now (claim_first Trace IsTraceText TraceStops) c.in-Err.stop _ c.in-Err.ensures.read
 
 pub returns-in-Err-read_lines-clause-read : goal.returns-in-Err-read_lines-clause-read
 returns-in-Err-read_lines-clause-read g c =
     let read = c.in-Ok.ensures.read in
     let work : Runnable = runnable_in c.in-Ok.work.flat c.in-Ok.work.script in
-    stopped_next First StopsRun Reads StopsVerify (Circuit ∷ Script ∷ []) (c.args.circuit.now ∷ c.args.script.now ∷ []) Trace c.args.trace.now (ReadsTrace work.flat.ports) (StopsTrace work.flat.ports) _ _ _ read.answers refl
-    (run_all read.answers work read.read) read.fetched read.short (run_here read.answers work read.read) (claim_next work read.answers read.read) c.in-Err-read_lines.stop c.in-Err-read_lines.ensures.read
+    stopped_next First StopsRun Reads StopsVerify (Circuit ∷ Script ∷ []) (c.args.circuit.now ∷ c.args.script.now ∷ []) Trace c.args.trace.now (ReadsFile (IsTraceText work.flat.ports)) (StopsFile Trace (TraceStops work.flat.ports)) _ _ _ read.answers refl
+    (run_all read.answers work read.read) read.fetched read.short (run_here read.answers work read.read) (claim_next Trace IsTraceText TraceStops work read.answers read.read) c.in-Err-read_lines.stop c.in-Err-read_lines.ensures.read
 
 pub returns-in-Ok-read_lines-clause-read : goal.returns-in-Ok-read_lines-clause-read
 returns-in-Ok-read_lines-clause-read g c =
     let read = c.in-Ok.ensures.read in
     let work : Runnable = runnable_in c.in-Ok.work.flat c.in-Ok.work.script in
-    read_next First StopsRun Reads StopsVerify (Circuit ∷ Script ∷ []) (c.args.circuit.now ∷ c.args.script.now ∷ []) Trace c.args.trace.now (ReadsTrace work.flat.ports) (StopsTrace work.flat.ports) _ _ _ read.answers refl
+    read_next First StopsRun Reads StopsVerify (Circuit ∷ Script ∷ []) (c.args.circuit.now ∷ c.args.script.now ∷ []) Trace c.args.trace.now (ReadsFile (IsTraceText work.flat.ports)) (StopsFile Trace (TraceStops work.flat.ports)) _ _ _ read.answers refl
     (run_all read.answers work read.read) read.fetched read.short (run_here read.answers work read.read)
-    c.in-Ok-read_lines.trace (record { work = c.in-Ok.work; trace = c.in-Ok-read_lines.trace }) (λ more said. claim_whole work read.answers read.read more c.in-Ok-read_lines.trace said) c.in-Ok-read_lines.ensures.read
+    c.in-Ok-read_lines.trace (record { work = c.in-Ok.work; trace = c.in-Ok-read_lines.trace }) (λ more said. claim_whole Trace IsTraceText TraceStops work read.answers read.read more c.in-Ok-read_lines.trace said) c.in-Ok-read_lines.ensures.read

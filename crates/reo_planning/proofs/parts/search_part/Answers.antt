@@ -1,15 +1,23 @@
-use Rattle.std.proofs.Common.{◌<◌, ℕ, get_or, subst, sym}
+use Rattle.std.proofs.Common.{◌≡◌, ◌<◌, ℕ, List, length, get_or, subst, sym}
 use Rattle.reo_net_base.specs.Net.{Net, net_of}
+use Rattle.reo_net_laws.specs.Sublists.{part_rows}
+use Rattle.reo_planning.specs.Written.{AreWritten}
 use Rattle.reo_planning.proofs.Parting.{searched, sides_in_range}
 use Rattle.reo_planning.proofs.parts.search_part.Goals as goal
 
 pub put_rows-requires-clause-sides : goal.put_rows-requires-clause-sides
 put_rows-requires-clause-sides g c =
     let net : Net = net_of g.P.Primitive.behaviour c.args.circuit.now in
-    λ m lt. subst (λ (n : ℕ). get_or c.in-Ok.part.sides m 0 < n) (sym c.requires.rows)
-    (sides_in_range c.args.budget net c.args.knots.now c.requires.knots c.args.turn c.args.knot c.requires.knot c.in-Ok.part c.in-Ok.ensures.exact m lt)
+    let below : (m : ℕ) → m < length c.in-Ok.part.sides → get_or c.in-Ok.part.sides m 0 < length c.args.rows.now = λ m lt. subst (λ (n : ℕ). get_or c.in-Ok.part.sides m 0 < n) (sym c.requires.rows)
+    (sides_in_range c.args.budget net c.args.knots.now c.requires.knots c.args.turn c.args.knot c.requires.knot c.in-Ok.part c.in-Ok.ensures.exact m lt) in
+    subst (λ (xs : List ℕ). (m : ℕ) → m < length xs → get_or xs m 0 < length c.args.rows.now) (sym c.as_slice.ensures) below
 
 pub returns-in-Ok-clause-exact : goal.returns-in-Ok-clause-exact
 returns-in-Ok-clause-exact g c =
     let net : Net = net_of g.P.Primitive.behaviour c.args.circuit.now in
-    searched c.args.budget net c.args.knots.now c.requires.knots c.args.turn c.args.knot c.requires.knot c.in-Ok.part c.args.rows.now c.put_rows.new.rows c.requires.rows c.in-Ok.ensures.exact c.put_rows.ensures
+    let old : List ℕ = c.args.rows.now in
+    let new : List ℕ = c.put_rows.new.rows in
+    let written : (from : List ℕ) → c.in-Ok.part.rows ≡ part_rows c.in-Ok.part.sides from → AreWritten c.in-Ok.part.sides from old new =
+    subst (λ (xs : List ℕ). (from : List ℕ) → c.in-Ok.part.rows ≡ part_rows xs from → AreWritten xs from old new) c.as_slice.ensures
+    (subst (λ (ys : List ℕ). (from : List ℕ) → ys ≡ part_rows c.as_slice.result.now from → AreWritten c.as_slice.result.now from old new) c.as_slice-in-Ok.ensures c.put_rows.ensures) in
+    searched c.args.budget net c.args.knots.now c.requires.knots c.args.turn c.args.knot c.requires.knot c.in-Ok.part old new c.requires.rows c.in-Ok.ensures.exact written

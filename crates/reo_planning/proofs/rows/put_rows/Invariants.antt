@@ -7,5 +7,5 @@ use Rattle.reo_planning.proofs.rows.put_rows.Given as goal
 abbrev pub invariant-loop-index : goal.invariant-loop-index
 invariant-loop-index l = record {
   one_each : length l.rows ≡ length l.initial.rows;
-  written : (from : List ℕ) → l.part.rows ≡ part_rows l.part.sides from → AreWritten (take l.index l.part.sides) from l.initial.rows l.rows;
+  written : (from : List ℕ) → l.those ≡ part_rows l.sides from → AreWritten (take l.index l.sides) from l.initial.rows l.rows;
 }

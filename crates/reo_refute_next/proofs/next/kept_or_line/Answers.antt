@@ -1,5 +1,6 @@
-use Rattle.std.proofs.Common.{ℕ, below_more}
+use Rattle.std.proofs.Common.{◌≡◌, inl, inr, ℕ, ◌<◌, ◌≤◌, subst, sym, arith}
 use Rattle.reo_net_base.specs.Net.{Net, net_of}
+use Rattle.reo_net_circuit.proofs.Cases.{eq_cases}
 use Rattle.reo_refute_base.specs.Places.{IsAllowed}
 use Rattle.reo_refute_support.specs.Families.{family_of}
 use Rattle.reo_refute_next.specs.Next.{IsKept}
@@ -8,5 +9,9 @@ use Rattle.reo_refute_next.proofs.next.kept_or_line.Goals as goal
 pub loop-joint-preserved : goal.loop-joint-preserved
 loop-joint-preserved g c =
     let net : Net = net_of g.P.Primitive.behaviour c.args.circuit.now in
-    below_more (λ (j : ℕ). IsKept net c.args.lists.now (IsAllowed net c.args.turn c.args.given.now c.args.number) (family_of c.args.live.now.table) j) c.loop-joint.joint c.loop-joint.invariant
-    (rw c.in-None.is at c.in_ok-line.ensures)
+    let Kept : ℕ → Type 0 = IsKept net c.args.lists.now (IsAllowed net c.args.turn c.args.given.now c.args.number) (family_of c.args.live.now.table) in
+    let here : Kept c.loop-joint.joint = rw c.in-None.is at c.in_ok-line.ensures in
+    λ j le lt. elim (eq_cases j c.loop-joint.joint) [
+      | inl e ↦ subst Kept (sym e) here
+      | inr ne ↦ c.loop-joint.invariant j le (omega (arith, lt, ne))
+    ]

@@ -9,7 +9,7 @@ use Rattle.reo_command.specs.ReadSteps.{circuit_in}
 use Rattle.reo_command.specs.Statuses.{statuses_of}
 use Rattle.reo_command.proofs.ReadLemmas.{reading_at, same_stops}
 use Rattle.reo_top.specs.Heard.{HearsCircuit}
-use Rattle.reo_top.proofs.AnswerLemmas.{refused_answered, refused_status_in, heard_answered, made_status_in}
+use Rattle.reo_top_base.proofs.AnswerLemmas.{refused_answered, refused_status_in, heard_answered, made_status_in}
 use Rattle.reo_top.proofs.ClosingStatuses.{heard_status, heard_three, live_reading}
 use Rattle.reo_top.proofs.UntakenLemmas.{none_taken, none_taken_few}
 use Rattle.reo_top.proofs.hearing.hear_events.Goals as goal

@@ -1,6 +1,6 @@
 use Rattle.std.proofs.Common.{◌≡◌, ◌∙◌, ℕ, List, [], ◌∷◌, get_or, refl, ap}
 use Rattle.std.specs.Prelude.{Some}
-use Rattle.reo_command.specs.declared.command.Command.TheVariants.{Run, Check, Print, Upgrade, Verify, Bench, Live}
+use Rattle.reo_command.specs.declared.command.Command.TheVariants.{Run, Check, Print, Upgrade, Verify, Bench, Live, Tables, Prove, VerifyProof}
 use Rattle.reo_command.specs.Commands.{command_of, names_of}
 use Rattle.reo_command.specs.Amounts.{size_of}
 use Rattle.reo_command.specs.Limits.{limits_of, budget_of}
@@ -9,7 +9,7 @@ use Rattle.reo_top.proofs.CompleteLemmas.{complete, complete_else}
 use Rattle.reo_top.proofs.HeadlineLemmas.{headline, headline_else}
 use Rattle.reo_top.proofs.StillLemmas.{still_answered, still_bench, still_none, still_run}
 use Rattle.reo_top.proofs.TopLemmas.{live_answered, live_takes}
-use Rattle.reo_command.proofs.WordLemmas.{names_fit, check_name, live_name, print_name, upgrade_name, two_names, three_names, command_seen, none_seen, no_run, is_no_run, word_seen}
+use Rattle.reo_command.proofs.WordLemmas.{names_fit, check_name, live_name, print_name, upgrade_name, tables_name, two_names, prove_names, three_names, proof_names, command_seen, none_seen, no_run, is_no_run, word_seen}
 use Rattle.reo_top.proofs.top.reo.Goals as goal
 
 pub returns-in-Some-Run-clause-answer : goal.returns-in-Some-Run-clause-answer
@@ -165,3 +165,65 @@ pub returns-in-Some-Live-clause-inputs : goal.returns-in-Some-Live-clause-inputs
 returns-in-Some-Live-clause-inputs g c =
     let is = command_seen c.args.words.now c.as_slice-words.result.now c.as_slice-words.ensures _ _ Live c.command_of.ensures c.in-Some-Live.is c.in-Some-Live.field-0-is in
     record { told = c.hear_events.ensures.answered.answered.fetched.same; source = λ none. absurd (live_takes (command_of c.args.words.now) is none) }
+
+pub returns-in-Some-Tables-clause-headline : goal.returns-in-Some-Tables-clause-headline
+returns-in-Some-Tables-clause-headline g c =
+    let is = command_seen c.args.words.now c.as_slice-words.result.now c.as_slice-words.ensures _ _ Tables c.command_of.ensures c.in-Some-Tables.is c.in-Some-Tables.field-0-is in
+    headline_else c.args.words.now (files_change g.F.Files.told g.F.Files.failed g.F.Files.fetches c.args.files.now c.list_circuit.new.files) _ _ (is_no_run (command_of c.args.words.now) Tables (λ e. cc) is)
+
+pub returns-in-Some-Tables-clause-complete : goal.returns-in-Some-Tables-clause-complete
+returns-in-Some-Tables-clause-complete g c =
+    let is = command_seen c.args.words.now c.as_slice-words.result.now c.as_slice-words.ensures _ _ Tables c.command_of.ensures c.in-Some-Tables.is c.in-Some-Tables.field-0-is in
+    complete_else c.args.words.now _ _ _ (is_no_run (command_of c.args.words.now) Tables (λ e. cc) is)
+
+pub returns-in-Some-Tables-clause-answer : goal.returns-in-Some-Tables-clause-answer
+returns-in-Some-Tables-clause-answer g c =
+    let words : List (List ℕ) = c.args.words.now in
+    let seen : List (List ℕ) = c.as_slice-words.result.now in
+    let is : command_of words ≡ Some Tables = command_seen words seen c.as_slice-words.ensures _ _ Tables c.command_of.ensures c.in-Some-Tables.is c.in-Some-Tables.field-0-is in
+    let first : get_or words 1 [] ≡ c.word_at-in-Some-Tables.result.now = word_seen words seen c.as_slice-words.ensures 1 _ c.word_at-in-Some-Tables.ensures in
+    let names : names_of Tables words ≡ c.word_at-in-Some-Tables.result.now ∷ [] = tables_name words (names_fit words Tables is) ∙ (λ i. first i ∷ []) in
+    still_answered g.R.Source.told g.R.Source.faults c.args.source.now words _ _ _ Tables (c.word_at-in-Some-Tables.result.now ∷ []) is names c.list_circuit.ensures.answered
+
+pub returns-in-Some-Prove-clause-headline : goal.returns-in-Some-Prove-clause-headline
+returns-in-Some-Prove-clause-headline g c =
+    let is = command_seen c.args.words.now c.as_slice-words.result.now c.as_slice-words.ensures _ _ Prove c.command_of.ensures c.in-Some-Prove.is c.in-Some-Prove.field-0-is in
+    headline_else c.args.words.now (files_change g.F.Files.told g.F.Files.failed g.F.Files.fetches c.args.files.now c.prove_circuit.new.files) _ _ (is_no_run (command_of c.args.words.now) Prove (λ e. cc) is)
+
+pub returns-in-Some-Prove-clause-complete : goal.returns-in-Some-Prove-clause-complete
+returns-in-Some-Prove-clause-complete g c =
+    let is = command_seen c.args.words.now c.as_slice-words.result.now c.as_slice-words.ensures _ _ Prove c.command_of.ensures c.in-Some-Prove.is c.in-Some-Prove.field-0-is in
+    complete_else c.args.words.now _ _ _ (is_no_run (command_of c.args.words.now) Prove (λ e. cc) is)
+
+pub returns-in-Some-Prove-clause-answer : goal.returns-in-Some-Prove-clause-answer
+returns-in-Some-Prove-clause-answer g c =
+    let words : List (List ℕ) = c.args.words.now in
+    let seen : List (List ℕ) = c.as_slice-words.result.now in
+    let is : command_of words ≡ Some Prove = command_seen words seen c.as_slice-words.ensures _ _ Prove c.command_of.ensures c.in-Some-Prove.is c.in-Some-Prove.field-0-is in
+    let first : get_or words 1 [] ≡ c.word_at-circuit-in-Some-Prove.result.now = word_seen words seen c.as_slice-words.ensures 1 _ c.word_at-circuit-in-Some-Prove.ensures in
+    let second : get_or words 2 [] ≡ c.word_at-in-Some-Prove.result.now = word_seen words seen c.as_slice-words.ensures 2 _ c.word_at-in-Some-Prove.ensures in
+    let names : names_of Prove words ≡ c.word_at-circuit-in-Some-Prove.result.now ∷ c.word_at-in-Some-Prove.result.now ∷ [] = prove_names words (names_fit words Prove is) ∙ (λ i. first i ∷ second i ∷ []) in
+    still_answered g.R.Source.told g.R.Source.faults c.args.source.now words _ _ _ Prove (c.word_at-circuit-in-Some-Prove.result.now ∷ c.word_at-in-Some-Prove.result.now ∷ []) is names c.prove_circuit.ensures.answered
+
+pub returns-in-Some-VerifyProof-clause-headline : goal.returns-in-Some-VerifyProof-clause-headline
+returns-in-Some-VerifyProof-clause-headline g c =
+    let is = command_seen c.args.words.now c.as_slice-words.result.now c.as_slice-words.ensures _ _ VerifyProof c.command_of.ensures c.in-Some-VerifyProof.is c.in-Some-VerifyProof.field-0-is in
+    headline_else c.args.words.now (files_change g.F.Files.told g.F.Files.failed g.F.Files.fetches c.args.files.now c.verify_proof_claim.new.files) _ _ (is_no_run (command_of c.args.words.now) VerifyProof (λ e. cc) is)
+
+pub returns-in-Some-VerifyProof-clause-complete : goal.returns-in-Some-VerifyProof-clause-complete
+returns-in-Some-VerifyProof-clause-complete g c =
+    let is = command_seen c.args.words.now c.as_slice-words.result.now c.as_slice-words.ensures _ _ VerifyProof c.command_of.ensures c.in-Some-VerifyProof.is c.in-Some-VerifyProof.field-0-is in
+    complete_else c.args.words.now _ _ _ (is_no_run (command_of c.args.words.now) VerifyProof (λ e. cc) is)
+
+pub returns-in-Some-VerifyProof-clause-answer : goal.returns-in-Some-VerifyProof-clause-answer
+returns-in-Some-VerifyProof-clause-answer g c =
+    let words : List (List ℕ) = c.args.words.now in
+    let seen : List (List ℕ) = c.as_slice-words.result.now in
+    let is : command_of words ≡ Some VerifyProof = command_seen words seen c.as_slice-words.ensures _ _ VerifyProof c.command_of.ensures c.in-Some-VerifyProof.is c.in-Some-VerifyProof.field-0-is in
+    let first : get_or words 1 [] ≡ c.word_at-circuit-in-Some-VerifyProof.result.now = word_seen words seen c.as_slice-words.ensures 1 _ c.word_at-circuit-in-Some-VerifyProof.ensures in
+    let second : get_or words 2 [] ≡ c.word_at-script-in-Some-VerifyProof.result.now = word_seen words seen c.as_slice-words.ensures 2 _ c.word_at-script-in-Some-VerifyProof.ensures in
+    let third : get_or words 3 [] ≡ c.word_at-in-Some-VerifyProof.result.now = word_seen words seen c.as_slice-words.ensures 3 _ c.word_at-in-Some-VerifyProof.ensures in
+    let named : names_of VerifyProof words ≡ c.word_at-circuit-in-Some-VerifyProof.result.now ∷ c.word_at-script-in-Some-VerifyProof.result.now ∷ c.word_at-in-Some-VerifyProof.result.now ∷ [] =
+    proof_names words (names_fit words VerifyProof is) ∙ (λ i. first i ∷ second i ∷ third i ∷ []) in
+    still_answered g.R.Source.told g.R.Source.faults c.args.source.now words _ _ _ VerifyProof
+    (c.word_at-circuit-in-Some-VerifyProof.result.now ∷ c.word_at-script-in-Some-VerifyProof.result.now ∷ c.word_at-in-Some-VerifyProof.result.now ∷ []) is named c.verify_proof_claim.ensures.answered

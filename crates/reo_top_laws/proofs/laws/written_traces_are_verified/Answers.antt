@@ -13,7 +13,7 @@ returns c words circuit script trace r code short reads t =
     let budget = (limits_of words).budget in
     let limit = (limits_of words).rounds in
     record {
-      claimed = record { work = r; trace = trace_with t.lines t.ending };
+      claimed = record { work = r; claim = trace_with t.lines t.ending };
       reads = (reads, is_trace c.runs_are_trace_texts.ensures reads.0.program told r.script.components budget limit (few_budget words) (few_rounds words) t.lines t.ending trace r.flat reads.0.is t.run t.bytes_are);
       judged = (
         Verified (length t.lines) (jammed t.lines),

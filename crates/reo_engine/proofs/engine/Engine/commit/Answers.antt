@@ -31,7 +31,7 @@ invariant_of-self g c =
       round_made g.P.Primitive.behaviour now c.step.new.self c.mark_flowing.new.marks c.known.ensures.wired c.known-2.ensures.wired c.step.ensures.shape others marks
           c.self.inside.rounds c.self.inside.knots c.self.inside.ends c.self.inside.kept c.unsettle_marked.new.self c.unsettle_moving.new.self old.3 (rw c.as_slice-marks.ensures at c.unsettle_marked.ensures) c.unsettle_moving.ensures,
       round_held g.P.Primitive.behaviour now c.step.new.self c.mark_flowing.new.marks c.known.ensures.wired c.step.ensures.shape others marks
-          c.self.inside.knots old.3.are_knots c.self.inside.kept c.unsettle_marked.new.self c.unsettle_moving.new.self c.self.inside.orders c.self.inside.tables old.4
+          c.self.inside.knots old.3.are_knots c.self.inside.kept c.unsettle_marked.new.self c.unsettle_moving.new.self c.self.inside.lookups old.4
           (rw c.as_slice-marks.ensures at c.unsettle_marked.ensures) c.unsettle_moving.ensures,
     )
 

@@ -35,7 +35,7 @@ invariant_of-self g c =
       old.1,
       old.2,
       old.3,
-      record { are_orders = old.4.are_orders; may_be_kept = c.rows_by_tables.ensures.tables c.self.inside.kept },
+      c.settle.ensures.lookups c.self.inside.kept,
     )
 
 pub invariant_of-self-2 : goal.invariant_of-self-2
@@ -45,7 +45,7 @@ invariant_of-self-2 g c =
       old.1,
       old.2,
       record { are_knots = old.3.are_knots; are_ends = old.3.are_ends; is_kept = c.store.ensures.kept (c.self.inside.rounds + 1) c.in_ok-rows.ensures.exact },
-      record { are_orders = old.4.are_orders; may_be_kept = c.rows_by_tables.ensures.tables c.store.new.self },
+      c.settle.ensures.lookups c.store.new.self,
     )
 
 pub returns-clause-exact : goal.returns-clause-exact

@@ -1,0 +1,8 @@
+pub mod Linked
+pub mod Tables
+pub mod Within
+mod Sums
+mod Places
+mod Bounded
+mod Looped
+mod Covered

@@ -1,0 +1,12 @@
+//! Laws of bounds. Each function is empty: its contract is a law.
+ghost use Rattle.reo_item_bounds.specs.Laws.{BoundedPartsAreWithin, BoundsStay};
+
+/// Bounds of a set are those of each circuit whose sides have the same tables there.
+pub fn bounds_stay()
+    ensures { BoundsStay }
+{}
+
+/// A closed set with bounds is within each budget that allows so many choices.
+pub fn bounded_parts_stay_within()
+    ensures { BoundedPartsAreWithin }
+{}

@@ -1,0 +1,11 @@
+//! Bounds on how many items can stand at the joints of a part, and so on what the part weighs, told
+//! by the tables of its sides alone.
+#![tactic(auto)]
+
+mod checking;
+mod choices;
+mod laws;
+mod shares;
+
+pub use choices::most_choices;
+pub use laws::{bounded_parts_stay_within, bounds_stay};

@@ -1,0 +1,2 @@
+pub mod Listable
+pub mod Parts

@@ -1,0 +1,6 @@
+//! Laws of what listing boundary tables answers.
+#![tactic(auto)]
+
+mod laws;
+
+pub use laws::one_listing;

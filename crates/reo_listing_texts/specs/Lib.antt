@@ -1,0 +1,3 @@
+pub mod TableTexts
+pub mod TablesText
+pub mod Refusals

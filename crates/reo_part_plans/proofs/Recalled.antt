@@ -1,0 +1,308 @@
+-- What is remembered is right in each state that has its key.
+use Rattle.std.proofs.Common.{◌≡◌, ◌∙◌, inl, inr, ℕ, zero, suc, ◌+◌, ◌-◌, ◌%◌, ◌<◌, ◌≤◌, Bool, true, List, [], ◌∷◌, ◌++◌, length, get_or, get_or-set_same, get_or-set_other, set, refl, ap, sym, subst, arith}
+use Rattle.std.specs.Prelude.{Contains, Result, Ok, Err, OnOk, OnErr}
+use Rattle.std.proofs.lemmas.List.{get_or_default, length-set}
+use Rattle.std.proofs.lemmas.List.Elements.{Contains-get_or}
+use Rattle.reo_net_base.specs.declared.form.Form.{Form}
+use Rattle.reo_net_base.specs.declared.form.Form.TheVariants.{Single, Double, Merging, Replicating}
+use Rattle.reo_net_base.specs.declared.joint.End.{End}
+use Rattle.reo_net_base.specs.declared.joint.Joint.{Joint}
+use Rattle.reo_net_base.specs.declared.table.Table.{Table}
+use Rattle.reo_net_base.specs.declared.table.Table.TheVariants.{Ready, Resting, Together, Lossy, OneOfTwo, Filter, Spent}
+use Rattle.reo_net_base.specs.Behaviour.{Behaviour}
+use Rattle.reo_net_base.specs.Lawful.{SameShape}
+use Rattle.reo_net_base.specs.Net.{Net, Side, all_sides, no_side, behaviour_at, first_side, side_at}
+use Rattle.reo_net_base.specs.Forms.{number_in, period_in}
+use Rattle.reo_net_base.specs.Tables.{place_in}
+use Rattle.reo_net_base.specs.Shapes.{SameShapes}
+use Rattle.reo_net_base.specs.Sides.{side_count}
+use Rattle.reo_net_base.specs.Wired.{IsWired, IsEnd, IsOrder}
+use Rattle.reo_net_base.proofs.Numbers.{one_table}
+use Rattle.reo_net_circuit.proofs.Cases.{eq_cases}
+use Rattle.reo_net_circuit.proofs.ReshapeLemmas.{first_same, side_same, order_same}
+use Rattle.reo_net_laws.specs.Parts.{IsClosed, IsClosedBelow}
+use Rattle.reo_net_laws.specs.Sublists.{sides_in, part_rows}
+use Rattle.reo_net_laws.proofs.Sides.{side_is}
+use Rattle.reo_knots.specs.Knots.{Knotted, AreKnots, in_knot, knot_count}
+use Rattle.reo_still.specs.Joining.{HasFirst}
+use Rattle.reo_propagate.specs.Queues.{among}
+use Rattle.reo_kept_tables.proofs.Renewed.{among_contains, contains_among}
+use Rattle.reo_walk.proofs.Knotted.{among_sides, sides_below}
+use Rattle.reo_planning.specs.Planned.{IsPartPlanned}
+use Rattle.reo_planning.specs.Written.{AreWritten}
+use Rattle.reo_planning.proofs.KnotSets.{below}
+use Rattle.reo_weights.specs.Over.{IsWithin}
+use Rattle.reo_state_laws.specs.States.{HaveSameTables, IsOpen, AreFirstRows}
+use Rattle.reo_state_laws.proofs.Same.{same_rows}
+use Rattle.reo_item_bounds.specs.Bounds.{HasBounds}
+use Rattle.reo_item_bounds.proofs.Linked.{closed_on}
+use Rattle.reo_item_bounds.proofs.Tables.{stay}
+use Rattle.reo_item_bounds.proofs.Within.{within}
+use Rattle.reo_part_plans.specs.declared.entry.Entry.{Entry}
+use Rattle.reo_part_plans.specs.declared.looks.Look.{Look}
+use Rattle.reo_part_plans.specs.declared.plans.PartPlans.{PartPlans}
+use Rattle.reo_part_plans.specs.Laws.{PlansStay}
+use Rattle.reo_part_plans.specs.Looks.{IsLookAt, IsKey}
+use Rattle.reo_part_plans.specs.Remembered.{IsRemembered, AreRemembered, ArePlans, IsRecalled}
+
+shape_after : (b d e : Behaviour) → SameShape b d → SameShape d e → SameShape b e
+shape_after b d e r s = record {
+  ends = s.ends ∙ r.ends;
+  sides = s.sides ∙ r.sides;
+  side_of = λ end. s.side_of end ∙ r.side_of end;
+  takes_in = λ end. s.takes_in end ∙ r.takes_in end;
+  leads = λ side. s.leads side ∙ r.leads side;
+}
+
+shape_back : (b d : Behaviour) → SameShape b d → SameShape d b
+shape_back b d r = record {
+  ends = sym r.ends;
+  sides = sym r.sides;
+  side_of = λ end. sym (r.side_of end);
+  takes_in = λ end. sym (r.takes_in end);
+  leads = λ side. sym (r.leads side);
+}
+
+shapes_after : (bs ds es : List Behaviour) → SameShapes bs ds → SameShapes ds es → SameShapes bs es
+shapes_after bs ds es r s = record {
+  count = s.count ∙ r.count;
+  same = λ i lt. shape_after (behaviour_at bs i) (behaviour_at ds i) (behaviour_at es i) (r.same i lt) (s.same i (omega (arith, r.count)));
+}
+
+shapes_back : (bs ds : List Behaviour) → SameShapes bs ds → SameShapes ds bs
+shapes_back bs ds r = record {
+  count = sym r.count;
+  same = λ i lt. shape_back (behaviour_at bs i) (behaviour_at ds i) (r.same i (omega (arith, r.count)));
+}
+
+remembered_stays : (net other : Net) → other.joints ≡ net.joints → SameShapes net.primitives other.primitives → (inside : ℕ → Bool) (sides : List ℕ) (entry : Entry)
+    → IsRemembered net inside sides entry → IsRemembered other inside sides entry
+remembered_stays net other joints shapes inside sides entry is = record {
+  before = is.before;
+  turn = is.turn;
+  wired = is.wired;
+  joints = joints ∙ is.joints;
+  shapes = shapes_after is.before.primitives net.primitives other.primitives is.shapes shapes;
+  key = is.key;
+  from = is.from;
+  first = is.first;
+  rows = is.rows;
+  bounds = is.bounds;
+}
+
+few_places : (t : Table) → place_in t ≤ 6
+few_places Ready = omega arith
+few_places Resting = omega arith
+few_places Together = omega arith
+few_places Lossy = omega arith
+few_places OneOfTwo = omega arith
+few_places Filter = omega arith
+few_places Spent = omega arith
+
+-- Forms of one number have one period.
+one_period : (form other : Form) → number_in form ≡ number_in other → period_in form ≡ period_in other
+one_period (Single t) (Single s) same = refl
+one_period (Single t) (Double s) same = refl
+one_period (Single t) (Merging c) same = let few = few_places t in absurd (omega (arith, same, few))
+one_period (Single t) (Replicating c) same = refl
+one_period (Double t) (Single s) same = refl
+one_period (Double t) (Double s) same = refl
+one_period (Double t) (Merging c) same = let few = few_places t in absurd (omega (arith, same, few))
+one_period (Double t) (Replicating c) same = refl
+one_period (Merging b) (Single s) same = let few = few_places s in absurd (omega (arith, same, few))
+one_period (Merging b) (Double s) same = let few = few_places s in absurd (omega (arith, same, few))
+one_period (Merging b) (Merging c) same = omega (arith, same)
+one_period (Merging b) (Replicating c) same = absurd (omega (arith, same))
+one_period (Replicating b) (Single s) same = refl
+one_period (Replicating b) (Double s) same = refl
+one_period (Replicating b) (Merging c) same = absurd (omega (arith, same))
+one_period (Replicating b) (Replicating c) same = refl
+
+abbrev no_look : Look
+no_look = record { number = 0; rest = 0 }
+
+pub plans_stay : PlansStay
+plans_stay net other joints shapes knots parts are = record {
+  one_each = are.one_each;
+  right = λ k d lt m e m_in. remembered_stays net other joints shapes (in_knot knots.numbers k) (get_or knots.sides k []) (get_or (get_or parts k d).entries m e) (are.right k d lt m e m_in);
+}
+
+-- What a key tells of the sides that it has looks at.
+module _ (inside : ℕ → Bool) (sides : List ℕ) (all : (s : ℕ) → inside s ≡ true → Contains sides s) (key : List Look) where
+  look_at : (net : Net) (turn : ℕ) → IsKey net sides turn key → (i side m : ℕ) → i < length net.primitives → side < (behaviour_at net.primitives i).sides
+      → m < length sides → get_or sides m 0 ≡ first_side net.primitives i + side → IsLookAt (behaviour_at net.primitives i) side turn (get_or key m no_look)
+  look_at net turn is i side m i_in side_in m_in here =
+      let side_here : get_or (all_sides net.primitives) (get_or sides m 0) no_side ≡ record { of = behaviour_at net.primitives i; number = side } =
+      ap (λ (k : ℕ). get_or (all_sides net.primitives) k no_side) here ∙ side_is net.primitives i side no_side i_in side_in in
+      subst (λ (x : Side). IsLookAt x.of x.number turn (get_or key m no_look)) side_here (is.each m no_look no_side m_in)
+
+  place_is : (s : ℕ) (h : inside s ≡ true) → get_or sides (all s h).0 0 ≡ s
+  place_is s h = let at = all s h in get_or_default sides at.0 0 s at.1 ∙ at.2
+
+  -- A set with a key lets each item in.
+  pub key_opens : (net : Net) (turn : ℕ) → IsKey net sides turn key → IsOpen net inside
+  key_opens net turn is i side row end item i_in side_in h row_in is_end takes =
+      let s : ℕ = first_side net.primitives i + side in
+      (look_at net turn is i side (all s h).0 i_in side_in (all s h).1 (place_is s h)).lets_in row end item row_in is_end takes
+
+  -- Sides with one key have the same tables.
+  pub key_tables : (net other : Net) (turn later : ℕ) → other.joints ≡ net.joints → SameShapes net.primitives other.primitives → IsKey net sides turn key → IsKey other sides later key → HaveSameTables turn later net other inside
+  key_tables net other turn later joints shapes here there = record {
+    joints = joints;
+    count = shapes.count;
+    shape = shapes.same;
+    sides = λ i side i_in side_in h.
+        let s : ℕ = first_side net.primitives i + side in
+        let m : ℕ = (all s h).0 in
+        let first : first_side other.primitives i ≡ first_side net.primitives i = first_same net.primitives other.primitives shapes i in
+        let shape = shapes.same i i_in in
+        let other_in : side < (behaviour_at other.primitives i).sides = subst (λ (n : ℕ). side < n) (sym shape.sides) side_in in
+        let a = look_at net turn here i side m i_in side_in (all s h).1 (place_is s h) in
+        let b = look_at other later there i side m (omega (arith, shapes.count)) other_in (all s h).1 (place_is s h ∙ ap (λ (f : ℕ). f + side) (sym first)) in
+        let number : number_in a.form ≡ number_in b.form = sym a.number ∙ b.number in
+        let rest = sym a.rest ∙ b.rest ∙ ap (λ (n : ℕ). (later - 1) % n) (sym (one_period a.form b.form number)) in
+        one_table a.form b.form number turn later rest (behaviour_at net.primitives i) (behaviour_at other.primitives i) side a.has b.has;
+  }
+
+-- What is remembered by the key that a part has now.
+module _ (net : Net) (wired : IsWired net) (order : List ℕ) (is_order : IsOrder net order) (inside : ℕ → Bool) (closed : IsClosed net inside)
+    (sides : List ℕ) (all : (s : ℕ) → inside s ≡ true → Contains sides s) (entry : Entry) (is : IsRemembered net inside sides entry) (turn : ℕ) (key : IsKey net sides turn entry.key) where
+  back : SameShapes net.primitives is.before.primitives
+  back = shapes_back is.before.primitives net.primitives is.shapes
+
+  tables : HaveSameTables is.turn turn is.before net inside
+  tables = key_tables inside sides all entry.key is.before net is.turn turn is.joints is.shapes is.key key
+
+  same_net : record { primitives = is.before.primitives; joints = net.joints } ≡ is.before
+  same_net i = record { primitives = is.before.primitives; joints = is.joints i }
+
+  order_before : IsOrder is.before order
+  order_before = subst (λ (n : Net). IsOrder n order) same_net (order_same net.primitives is.before.primitives back net.joints wired order is_order)
+
+  closed_before : IsClosed is.before inside
+  closed_before =
+      let at : (e : End) → IsEnd net.primitives e → side_at is.before e ≡ side_at net e = λ e e_in.
+      ap (λ (n : Net). side_at n e) (sym same_net) ∙ side_same net.primitives is.before.primitives back net.joints e e_in in
+      subst (λ (js : List Joint). IsClosedBelow is.before (length js) inside) is.joints
+      (closed_on net is.before (sym is.joints) (λ j d lt. at (get_or net.joints j d).giver (wired.givers j d lt)) (λ j d lt. at (get_or net.joints j d).taker (wired.takers j d lt)) (length net.joints) (omega arith) inside closed)
+
+  -- The part is within each budget that allows so many choices.
+  pub recalled_within : (budget : ℕ) → entry.choices ≤ budget → IsWithin budget net inside
+  recalled_within budget few = within net wired order is_order inside closed entry.choices (stay is.turn turn is.before net is.wired inside tables entry.choices is.bounds) budget few
+
+  -- And its rows are first.
+  pub recalled_first : AreFirstRows net inside turn is.from
+  recalled_first =
+      same_rows is.turn turn is.before net is.wired wired order order_before is_order inside closed_before tables
+      (key_opens inside sides all entry.key is.before is.turn is.key) (key_opens inside sides all entry.key net turn key) is.from is.first
+
+abbrev no_entry : Entry
+no_entry = record { key = []; rows = []; choices = 0 }
+
+rows_same : (sides a b : List ℕ) → ((m : ℕ) → m < length sides → get_or a (get_or sides m 0) 0 ≡ get_or b (get_or sides m 0) 0) → part_rows sides a ≡ part_rows sides b
+rows_same [] a b h = refl
+rows_same (s ∷ sides) a b h = λ i. h zero (omega arith) i ∷ rows_same sides a b (λ m lt. h (suc m) (omega arith)) i
+
+same_shapes : (bs : List Behaviour) → SameShapes bs bs
+same_shapes bs = record { count = refl; same = λ i lt. record { ends = refl; sides = refl; side_of = λ _. refl; takes_in = λ _. refl; leads = λ _. refl } }
+
+-- One entry more that is right.
+one_more : (net : Net) (inside : ℕ → Bool) (sides : List ℕ) (entries : List Entry) (entry : Entry) → AreRemembered net inside sides entries → IsRemembered net inside sides entry
+    → AreRemembered net inside sides (entries ++ entry ∷ [])
+one_more net inside sides [] entry all is zero d lt = is
+one_more net inside sides [] entry all is (suc m) d lt = absurd (omega arith)
+one_more net inside sides (e ∷ es) entry all is zero d lt = all zero d (omega arith)
+one_more net inside sides (e ∷ es) entry all is (suc m) d lt = one_more net inside sides es entry (λ n x n_in. all (suc n) x (omega arith)) is m d (omega arith)
+
+-- What follows from both outcomes holds.
+pub either_way : {X E A B G : Type 0} (r : Result X E) → OnOk r A → OnErr r B → (A → G) → (B → G) → G
+either_way (Ok x) a b f h = f a
+either_way (Err e) a b f h = h b
+
+-- The part of a number, with the list of its sides.
+module _ (net : Net) (wired : IsWired net) (knots : Knotted) (are : AreKnots net knots) (k : ℕ) (lt : k < knot_count knots) (sides : List ℕ) (is : sides ≡ get_or knots.sides k []) where
+  real : (s : ℕ) → in_knot knots.numbers k s ≡ true → s < side_count net
+  real = below net knots.numbers (knot_count knots) are.numbered k
+
+  listed : sides ≡ sides_in net (in_knot knots.numbers k)
+  listed = is ∙ are.sides_are k [] lt
+
+  pub part_below : (m : ℕ) → m < length sides → get_or sides m 0 < side_count net
+  part_below = subst (λ (xs : List ℕ). (m : ℕ) → m < length xs → get_or xs m 0 < side_count net) (sym listed) (sides_below net (in_knot knots.numbers k) real)
+
+  in_part : (s : ℕ) → among sides s ≡ in_knot knots.numbers k s
+  in_part s = ap (λ (xs : List ℕ). among xs s) listed ∙ among_sides net (in_knot knots.numbers k) real s
+
+  pub part_all : (s : ℕ) → in_knot knots.numbers k s ≡ true → Contains sides s
+  part_all s h = among_contains sides s (in_part s ∙ h)
+
+  right_here : (parts : List PartPlans) → ArePlans net knots parts → (p : PartPlans) → p ≡ get_or parts k p → AreRemembered net (in_knot knots.numbers k) sides p.entries
+  right_here parts plans p here =
+      subst (λ (xs : List ℕ). AreRemembered net (in_knot knots.numbers k) xs p.entries) (sym is)
+      (subst (λ (x : PartPlans). AreRemembered net (in_knot knots.numbers k) (get_or knots.sides k []) x.entries) (sym here) (plans.right k p lt))
+
+  -- The rows of an entry with the key of the part are those of its first assignment.
+  pub recalled : (order : List ℕ) → IsOrder net order → (budget turn : ℕ) (parts : List PartPlans) → ArePlans net knots parts → (p : PartPlans) → p ≡ get_or parts k p
+      → (key : List Look) → IsKey net sides turn key → (old new : List ℕ) → length old ≡ side_count net → IsRecalled p.entries key sides budget old new → IsPartPlanned budget net knots turn k old new
+  recalled order is_order budget turn parts plans p here key is_key old new one_row found =
+      let inside : ℕ → Bool = in_knot knots.numbers k in
+      let entry : Entry = get_or p.entries found.place no_entry in
+      let remembered : IsRemembered net inside sides entry = right_here parts plans p here found.place no_entry found.in_range in
+      let closed : IsClosed net inside = (are.are_knots k lt).closed in
+      let key_now : IsKey net sides turn entry.key = subst (IsKey net sides turn) (sym (found.key_is no_entry)) is_key in
+      let first = recalled_first net wired order is_order inside closed sides part_all entry remembered turn key_now in
+      let w : AreWritten sides remembered.from old new = found.written no_entry remembered.from remembered.rows in
+      record {
+        one_each = w.one_each;
+        within = recalled_within net wired order is_order inside closed sides part_all entry remembered turn key_now budget (found.few no_entry);
+        first = record {
+          others = remembered.from;
+          items = first.items;
+          first = first.first;
+          same = λ s s_in h. w.here s (omega (arith, one_row, s_in)) (in_part s ∙ h);
+        };
+        others = λ s h. w.others s (in_part s ∙ h);
+      }
+
+  -- The rows of the first assignment are right for the key that the part has now.
+  new_entry : (turn : ℕ) (key : List Look) → IsKey net sides turn key → (rows those : List ℕ) → HasFirst net knots.numbers turn rows k → those ≡ part_rows sides rows
+      → (choices : ℕ) → HasBounds net (in_knot knots.numbers k) choices → IsRemembered net (in_knot knots.numbers k) sides (record { key = key; rows = those; choices = choices })
+  new_entry turn key is_key rows those first told choices has = record {
+    before = net;
+    turn = turn;
+    wired = wired;
+    joints = refl;
+    shapes = same_shapes net.primitives;
+    key = is_key;
+    from = first.others;
+    first = record { items = first.items; first = first.first };
+    rows = told ∙ rows_same sides rows first.others (λ m m_in.
+        first.same (get_or sides m 0) (part_below m m_in) (sym (in_part (get_or sides m 0)) ∙ contains_among sides (get_or sides m 0) (Contains-get_or sides m 0 m_in)));
+    bounds = has;
+  }
+
+  -- What is remembered of one part is exchanged for what is right.
+  exchanged : (parts : List PartPlans) → ArePlans net knots parts → (new : PartPlans) → AreRemembered net (in_knot knots.numbers k) sides new.entries → ArePlans net knots (set parts k new)
+  exchanged parts plans new right =
+      let inside : ℕ → Bool = in_knot knots.numbers k in
+      let here : AreRemembered net inside (get_or knots.sides k []) new.entries = subst (λ (xs : List ℕ). AreRemembered net inside xs new.entries) is right in
+      record {
+        one_each = length-set parts k new ∙ plans.one_each;
+        right = λ n d n_in. elim (eq_cases n k) [
+          | inl e ↦ subst (λ (n : ℕ). AreRemembered net (in_knot knots.numbers n) (get_or knots.sides n []) (get_or (set parts k new) n d).entries) (sym e)
+              (subst (λ (x : PartPlans). AreRemembered net inside (get_or knots.sides k []) x.entries) (sym (get_or-set_same parts k new d (omega (arith, lt, plans.one_each)))) here)
+          | inr ne ↦ subst (λ (x : PartPlans). AreRemembered net (in_knot knots.numbers n) (get_or knots.sides n []) x.entries) (sym (get_or-set_other parts k n new d ne)) (plans.right n d n_in)
+        ];
+      }
+
+  pub remembered : (turn : ℕ) (parts : List PartPlans) → ArePlans net knots parts → (key : List Look) → IsKey net sides turn key → (rows those : List ℕ) → HasFirst net knots.numbers turn rows k → those ≡ part_rows sides rows
+      → (choices : ℕ) → HasBounds net (in_knot knots.numbers k) choices → (p new : PartPlans) → p ≡ get_or parts k p → new.entries ≡ p.entries ++ record { key = key; rows = those; choices = choices } ∷ []
+      → ArePlans net knots (set parts k new)
+  remembered turn parts plans key is_key rows those first told choices has p new here added =
+      let entry : Entry = record { key = key; rows = those; choices = choices } in
+      let more : AreRemembered net (in_knot knots.numbers k) sides (p.entries ++ entry ∷ []) =
+      one_more net (in_knot knots.numbers k) sides p.entries entry (right_here parts plans p here) (new_entry turn key is_key rows those first told choices has) in
+      exchanged parts plans new (subst (AreRemembered net (in_knot knots.numbers k) sides) (sym added) more)
+
+  pub unchanged : (parts : List PartPlans) → ArePlans net knots parts → (p new : PartPlans) → p ≡ get_or parts k p → new.entries ≡ p.entries → ArePlans net knots (set parts k new)
+  unchanged parts plans p new here same = exchanged parts plans new (subst (AreRemembered net (in_knot knots.numbers k) sides) (sym same) (right_here parts plans p here))

@@ -1,0 +1,69 @@
+//! What is looked at of the sides of a part.
+ghost use Rattle.std.specs.Prelude.{◌≡◌, ◌<◌, ◌≤◌, ℕ, IfSome, IsTrue, IfOk, length, slice_index, slice_index_or};
+ghost use Rattle.reo_net_base.specs.Net.{Side, all_sides, net_of};
+ghost use Rattle.reo_net_base.specs.Sides.{side_count};
+ghost use Rattle.reo_part_plans.specs.Looks.{IsLookAt, IsKey};
+
+use reo_net_base::Primitive;
+use reo_net_circuit::Circuit;
+use reo_values::{List, NoMemory};
+
+/// What is looked at of a side: the number of its form, and after how many rounds since its classes
+/// were as in the first round.
+#[derive(Clone, Copy, PartialEq, Eq)]
+pub struct Look {
+    pub number: u32,
+    pub rest: u64,
+}
+
+/// What is looked at of a side in the round of a number: `None` where its table is of no form, or
+/// some row does not let each item in.
+fn look_at<P: Primitive>(circuit: &Circuit<P>, side: usize, turn: u64) -> Option<Look>
+    requires side { side < side_count (net_of P.behaviour circuit.now) }
+    requires turn { 1 ≤ turn }
+    ensures { IfSome result (λ look. (s : Side) →
+        let at = slice_index_or (all_sides (net_of P.behaviour circuit.now).primitives) side s in
+        IsLookAt at.of at.number turn look) }
+{
+    circuit.known();
+    let owner = circuit.owner(side);
+    let primitive = circuit.primitive(owner.primitive);
+    if !primitive.is_open(owner.side) {
+        return None;
+    }
+    match primitive.form(owner.side) {
+        None => None,
+        Some(form) => Some(Look {
+            number: form.number(),
+            rest: (turn - 1) % form.period(),
+        }),
+    }
+}
+
+/// Looks at some sides in the round of a number, and notes what was seen as a key. The answer is
+/// whether it is one: at some side there may be nothing to look at.
+///
+/// # Errors
+///
+/// `NoMemory` is out of memory.
+pub(crate) fn look_at_all<P: Primitive>(
+    circuit: &Circuit<P>,
+    sides: &[usize],
+    turn: u64,
+    key: &mut List<Look>,
+) -> Result<bool, NoMemory>
+    requires sides { (m : ℕ) → m < length sides.now
+        → slice_index sides.now m < side_count (net_of P.behaviour circuit.now) }
+    requires turn { 1 ≤ turn }
+    ensures { IfOk result (λ is_key. IsTrue is_key
+        → IsKey (net_of P.behaviour circuit.now) sides.now turn key.new) }
+{
+    key.clear();
+    for index in 0..sides.len() {
+        match look_at(circuit, sides[index], turn) {
+            None => return Ok(false),
+            Some(look) => key.push(look)?,
+        }
+    }
+    Ok(true)
+}

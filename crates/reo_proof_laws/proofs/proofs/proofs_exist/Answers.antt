@@ -1,0 +1,10 @@
+use Rattle.reo_rounds.specs.Rules.{rules_of}
+use Rattle.reo_rounds.proofs.OrderLemmas.{KeepsShape}
+use Rattle.reo_proof_laws.proofs.Goings.{has_proofs}
+use Rattle.reo_proof_laws.proofs.proofs.proofs_exist.Goals as goal
+
+pub returns : goal.returns
+returns g c =
+    let r = rules_of g.P.Primitive.behaviour g.P.Primitive.settled g.P.Ported.port_state g.P.Ported.placed g.P.Ported.withdrawn in
+    let shape : KeepsShape r = record { lawful = g.met.P.Primitive.lawful; settled = g.met.P.Primitive.settled_shape; placed = g.met.P.Ported.placed_shape; withdrawn = g.met.P.Ported.withdrawn_shape } in
+    λ budget limit ports start order sized. has_proofs r budget limit shape c.first_exists.ensures c.over_is_decided.ensures c.firsts_have_logs.ensures ports start (record { order = order; sized = sized })

@@ -1,0 +1,3 @@
+mod RoundLemmas
+mod SoFar
+mod RunLemmas

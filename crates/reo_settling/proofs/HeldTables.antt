@@ -1,0 +1,112 @@
+-- Tables that are kept, and what is looked up.
+use Rattle.std.proofs.Common.{◌≡◌, ◌∙◌, inl, inr, ℕ, ◌+◌, ◌<◌, ◌≢◌, Bool, true, Some, None, Option, List, length, ap, sym, subst, arith}
+use Rattle.reo_net_base.specs.Net.{Net, first_side}
+use Rattle.reo_net_base.specs.Wired.{IsWired}
+use Rattle.reo_net_circuit.proofs.Cases.{eq_cases}
+use Rattle.reo_net_ends.specs.Ends.{AreEnds}
+use Rattle.reo_knots.specs.Knots.{Knotted, AreKnots, in_knot, knot_count}
+use Rattle.reo_kept_tables.specs.declared.tables.Tables.{Tables}
+use Rattle.reo_kept_tables.specs.Tables.{HasRoom, AreReady, AreRightOn}
+use Rattle.reo_kept_tables.specs.Laws.{IsSameOn}
+use Rattle.reo_kept_tables.specs.Orders.{AreOrders}
+use Rattle.reo_kept_tables.proofs.Readied.{ready_tables_are_right, right_parts_are_ready}
+use Rattle.reo_kept_tables.proofs.Sorted.{orders_stay}
+use Rattle.reo_kept_tables.proofs.Staying.{right_tables_stay, room_stays}
+use Rattle.reo_planning.specs.declared.kept.Kept.{Kept}
+use Rattle.reo_planning.specs.Keeping.{is_settled}
+use Rattle.reo_planning.specs.Unsettling.{AreFewer, IsElsewhere}
+use Rattle.reo_planning.proofs.KnotSets.{number_is}
+use Rattle.reo_part_plans.specs.Remembered.{ArePlans}
+use Rattle.reo_part_plans.proofs.Recalled.{plans_stay}
+use Rattle.reo_settling.specs.declared.lookups.Lookups.{Lookups}
+use Rattle.reo_settling.specs.Held.{is_fresh, AreFreshTables, MayBeFresh, MayBeKept}
+use Rattle.reo_settling.specs.Lookups.{AreLookups, AreSteady, LookupsStay, IsForgotten}
+
+-- No primitive of a settled part is another.
+same_on : (net other : Net) (knots : Knotted) (kept : Kept) → IsElsewhere net other knots kept → (k : ℕ) → is_settled kept k ≡ true → IsSameOn net other (in_knot knots.numbers k)
+same_on net other knots kept is k settled = record {
+  joints = is.joints;
+  shapes = is.shapes;
+  same = λ i side i_in side_in h. is.same i side i_in side_in (ap (is_settled kept) (number_is knots.numbers k (first_side net.primitives i + side) h) ∙ settled);
+}
+
+tables_elsewhere : (net other : Net) → IsWired net → (knots : Knotted) → AreKnots net knots → (old new : Kept) → AreFewer old new → IsElsewhere net other knots new
+    → (fresh : List Bool) (tables : Option Tables) → MayBeKept net knots old fresh tables → MayBeKept other knots new fresh tables
+tables_elsewhere net other wired knots are old new fewer is fresh None kept = tt
+tables_elsewhere net other wired knots are old new fewer is fresh (Some tables) kept = record {
+  room = room_stays net other is.joints is.shapes tables kept.room;
+  right = λ k lt marked settled.
+      right_tables_stay net other wired (in_knot knots.numbers k) (are.are_knots k lt).closed (same_on net other knots new is k settled) tables (kept.right k lt marked (fewer.fewer k settled));
+}
+
+pub lookups_stay : LookupsStay
+lookups_stay net other wired knots are old new fewer is lookups held = record {
+  orders = orders_stay net other wired is.joints is.shapes knots lookups.orders held.orders;
+  one_each = held.one_each;
+  tables = tables_elsewhere net other wired knots are old new fewer is lookups.fresh lookups.tables held.tables;
+  plans = plans_stay net other is.joints is.shapes knots lookups.plans held.plans;
+}
+
+kept_tables : (net : Net) (knots : Knotted) (kept : Kept) (fresh : List Bool) (tables : Option Tables) → MayBeFresh net knots fresh tables → MayBeKept net knots kept fresh tables
+kept_tables net knots kept fresh None may = tt
+kept_tables net knots kept fresh (Some tables) may = record { room = may.room; right = λ k lt marked settled. may.right k lt marked }
+
+-- What is steady is right whichever parts are settled.
+pub steady_is : (net : Net) (knots : Knotted) (kept : Kept) (lookups : Lookups) → AreSteady net knots lookups → AreLookups net knots kept lookups
+steady_is net knots kept lookups steady = record {
+  orders = steady.orders;
+  one_each = steady.one_each;
+  tables = kept_tables net knots kept lookups.fresh lookups.tables steady.tables;
+  plans = steady.plans;
+}
+
+fresh_tables : (net : Net) (knots : Knotted) (kept : Kept) (old new : List Bool) → length new ≡ knot_count knots → ((k : ℕ) → k < length new → is_fresh new k ≡ true → (is_fresh old k ≡ true) × (is_settled kept k ≡ true))
+    → (tables : Option Tables) → MayBeKept net knots kept old tables → MayBeFresh net knots new tables
+fresh_tables net knots kept old new one_each fewer None may = tt
+fresh_tables net knots kept old new one_each fewer (Some tables) may = record {
+  room = may.room;
+  right = λ k lt marked. let before = fewer k (omega (arith, lt, one_each)) marked in may.right k lt before.0 before.1;
+}
+
+-- Where the tables of parts that are not settled are forgotten, what is looked up is steady.
+pub forgotten_is : (net : Net) (knots : Knotted) (kept : Kept) (old new : Lookups) → AreLookups net knots kept old → IsForgotten kept old new → AreSteady net knots new
+forgotten_is net knots kept old new are is = record {
+  orders = subst (AreOrders net knots) (sym is.orders) are.orders;
+  one_each = is.one_each ∙ are.one_each;
+  tables = subst (MayBeFresh net knots new.fresh) (sym is.tables) (fresh_tables net knots kept old.fresh new.fresh (is.one_each ∙ are.one_each) is.fewer old.tables are.tables);
+  plans = subst (ArePlans net knots) (sym is.plans) are.plans;
+}
+
+-- Tables that are ready are right wherever a part is marked.
+pub ready_may_stay : (net : Net) (knots : Knotted) (ends : List (List ℕ)) (fresh : List Bool) (tables : Tables) → AreReady net ends tables → AreFreshTables net knots fresh tables
+ready_may_stay net knots ends fresh tables ready =
+    let right = ready_tables_are_right net ends tables ready in
+    record { room = right.0; right = λ k lt marked. right.1 (in_knot knots.numbers k) }
+
+-- There is room, and the tables are right on the first n parts and on those that are fresh.
+pub record AreRenewed (net : Net) (knots : Knotted) (fresh : List Bool) (n : ℕ) (tables : Tables) : Type 0 where
+  pub room : HasRoom net tables
+  pub done : (k : ℕ) → k < n → AreRightOn net (in_knot knots.numbers k) tables
+  pub rest : (k : ℕ) → k < knot_count knots → is_fresh fresh k ≡ true → AreRightOn net (in_knot knots.numbers k) tables
+
+-- None is made anew yet.
+pub renewed_none : (net : Net) (knots : Knotted) (fresh : List Bool) (tables : Tables) → AreFreshTables net knots fresh tables → AreRenewed net knots fresh 0 tables
+renewed_none net knots fresh tables are = record { room = are.room; done = λ k lt. absurd (omega arith); rest = are.right }
+
+-- One part more is right.
+pub renewed_more : (net : Net) (knots : Knotted) (fresh : List Bool) (n : ℕ) (old new : Tables) → n < knot_count knots → AreRenewed net knots fresh n old → HasRoom net new → AreRightOn net (in_knot knots.numbers n) new
+    → ((k : ℕ) → k < knot_count knots → k ≢ n → AreRightOn net (in_knot knots.numbers k) old → AreRightOn net (in_knot knots.numbers k) new)
+    → AreRenewed net knots fresh (n + 1) new
+renewed_more net knots fresh n old new n_in far room right others = record {
+  room = room;
+  done = λ k lt. by k (λ ne. others k (omega arith) ne (far.done k (omega arith)));
+  rest = λ k lt settled. by k (λ ne. others k lt ne (far.rest k lt settled));
+}
+  where
+    by : (k : ℕ) → (k ≢ n → AreRightOn net (in_knot knots.numbers k) new) → AreRightOn net (in_knot knots.numbers k) new
+    by k other = elim (eq_cases k n) [ inl e ↦ subst (λ (m : ℕ). AreRightOn net (in_knot knots.numbers m) new) (sym e) right | inr ne ↦ other ne ]
+
+-- All parts are right, so the tables are ready.
+pub renewed_all : (net : Net) → IsWired net → (ends : List (List ℕ)) → AreEnds net ends → (knots : Knotted) → AreKnots net knots → (fresh : List Bool) (tables : Tables) → AreRenewed net knots fresh (knot_count knots) tables
+    → AreReady net ends tables
+renewed_all net wired ends are_ends knots are fresh tables far = right_parts_are_ready net wired ends are_ends knots are tables far.room far.done

@@ -1,0 +1,42 @@
+use Rattle.std.proofs.Common.{◌≡◌, ◌<◌, ℕ, subst, arith}
+use Rattle.reo_net_base.specs.Net.{Net, net_of}
+use Rattle.reo_knots.specs.Knots.{knot_count}
+use Rattle.reo_rounds.specs.Plans.{IsPlanFault}
+use Rattle.reo_planning.specs.Planned.{ArePlanned, weight_left}
+use Rattle.reo_planning.proofs.Parting.{planned_more, least_over}
+use Rattle.reo_planning.proofs.Firsts.{planned_fit}
+use Rattle.reo_planning.proofs.Passing.{passed_on}
+use Rattle.reo_planning.proofs.Summing.{ticked_more, ticked_all}
+use Rattle.reo_settling.proofs.lookups.Lookups.settle.Goals as goal
+
+pub returns-in_err-settle_part-clause-exact : goal.returns-in_err-settle_part-clause-exact
+returns-in_err-settle_part-clause-exact g c =
+    let net : Net = net_of g.P.Primitive.behaviour c.args.circuit.now in
+    let lt : c.loop-knot.knot < knot_count c.args.knots.now = omega arith in
+    passed_on c.from_residual-in_err-settle_part.result c.in_err-settle_part.field-0.0
+    (ArePlanned c.args.budget net c.args.knots.now c.args.turn (knot_count c.args.knots.now)) (IsPlanFault c.args.budget net) c.from_residual-in_err-settle_part.ensures
+    (least_over c.args.budget net c.args.knots.now c.requires.knots c.args.turn c.loop-knot.knot lt c.loop-knot.rows c.loop-knot.invariant.far.planned c.in_err-settle_part.field-0.0 c.in_err-settle_part.ensures.exact)
+
+pub returns-in_err-settle_part-clause-ticks : goal.returns-in_err-settle_part-clause-ticks
+returns-in_err-settle_part-clause-ticks g c = λ weights are.
+    let lt : c.loop-knot.knot < knot_count c.args.knots.now = omega arith in
+    ticked_all (weight_left c.args.kept.now c.args.budget weights) c.loop-knot.knot (knot_count c.args.knots.now) c.args.steps.now c.loop-knot.steps c.settle_part.new.steps
+    lt (c.loop-knot.invariant.ticks weights are) (c.settle_part.ensures.ticks (weights c.loop-knot.knot) (are c.loop-knot.knot lt))
+
+pub loop-knot-preserved : goal.loop-knot-preserved
+loop-knot-preserved g c =
+    let net : Net = net_of g.P.Primitive.behaviour c.args.circuit.now in
+    let lt : c.loop-knot.knot < knot_count c.args.knots.now = omega arith in
+    record {
+      far = planned_more c.args.budget net c.args.knots.now c.args.turn c.loop-knot.knot c.args.kept.now.rows c.loop-knot.rows c.settle_part.new.rows c.loop-knot.invariant.far c.in_ok-settle_part.ensures.exact;
+      steady = c.settle_part.ensures.steady;
+      ticks = λ weights are. ticked_more (weight_left c.args.kept.now c.args.budget weights) c.loop-knot.knot c.args.steps.now c.loop-knot.steps c.settle_part.new.steps
+          (c.loop-knot.invariant.ticks weights are) (c.settle_part.ensures.ticks (weights c.loop-knot.knot) (are c.loop-knot.knot lt));
+    }
+
+pub returns-clause-fit : goal.returns-clause-fit
+returns-clause-fit g c =
+    let net : Net = net_of g.P.Primitive.behaviour c.args.circuit.now in
+    let last : c.loop-knot.knot ≡ knot_count c.args.knots.now = omega arith in
+    planned_fit c.args.budget net c.known.ensures.wired c.args.knots.now c.requires.knots c.args.turn c.loop-knot.rows
+    (subst (λ (n : ℕ). ArePlanned c.args.budget net c.args.knots.now c.args.turn n c.loop-knot.rows) last c.loop-knot.invariant.far.planned)

@@ -1,0 +1,11 @@
+//! The rows of the parts that are not settled: remembered, or searched by tables that are kept.
+#![tactic(auto)]
+
+mod laws;
+mod lookups;
+mod parts;
+mod renewing;
+mod settling;
+
+pub use laws::lookups_stay;
+pub use lookups::Lookups;

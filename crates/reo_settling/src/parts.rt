@@ -1,0 +1,122 @@
+//! The rows of one part.
+ghost use Rattle.std.specs.Prelude.{◌≡◌, ◌<◌, ◌≤◌, ◌+◌, ◌^◌, ℕ, true, cond, MatchResult, OnOk, length, replicate, slice_index};
+ghost use Rattle.reo_net_base.specs.Net.{net_of};
+ghost use Rattle.reo_net_base.specs.Sides.{side_count};
+ghost use Rattle.reo_net_ends.specs.Ends.{AreEnds};
+ghost use Rattle.reo_knots.specs.Knots.{AreKnots, in_knot, knot_count};
+ghost use Rattle.reo_weights.specs.Weights.{IsWeight};
+ghost use Rattle.reo_planning.specs.Faults.{IsPartFault};
+ghost use Rattle.reo_planning.specs.Keeping.{IsKept, serves};
+ghost use Rattle.reo_planning.specs.Planned.{IsPartPlanned};
+ghost use Rattle.reo_settling.specs.Lookups.{AreSteady};
+
+use crate::lookups::Lookups;
+use crate::renewing::renewed;
+use reo_knots::Knots;
+use reo_net_base::Primitive;
+use reo_net_circuit::Circuit;
+use reo_net_ends::Ends;
+use reo_planning::{Kept, search_part};
+use reo_rounds::PlanFault;
+use reo_steps::Steps;
+use reo_values::List;
+use std::alloc::Global;
+use std::sync::ledger::Ledger;
+
+/// Sets all marks.
+fn mark_all(marks: &mut List<bool>)
+    ensures { length marks.new ≡ length marks.old }
+{
+    for index in 0..marks.len() {
+        *marks.at_mut(index) = true;
+    }
+}
+
+impl Lookups {
+    /// Searches a part, writes the rows of its first assignment down, and remembers them. The
+    /// tables are made ready for the search, and are kept.
+    fn search<P: Primitive, L: Ledger>(
+        &mut self,
+        alloc: Global,
+        circuit: &Circuit<P>,
+        knots: &Knots,
+        ends: &Ends,
+        part: usize,
+        turn: u64,
+        budget: u64,
+        steps: &mut Steps<L>,
+        rows: &mut List<u32>,
+    ) -> Result<(), PlanFault>
+        requires knots { AreKnots (net_of P.behaviour circuit.now) knots.now }
+        requires ends { AreEnds (net_of P.behaviour circuit.now) ends.now }
+        requires part { part < knot_count knots.now }
+        requires turn { 1 ≤ turn }
+        requires budget { budget < 10 ^ 18 }
+        requires steady { AreSteady (net_of P.behaviour circuit.now) knots.now self.old }
+        requires rows { length rows.old ≡ side_count (net_of P.behaviour circuit.now) }
+        ensures steady { AreSteady (net_of P.behaviour circuit.now) knots.now self.new }
+        ensures exact { let net = net_of P.behaviour circuit.now in
+            MatchResult result (λ _. IsPartPlanned budget net knots.now turn part rows.old rows.new)
+            (IsPartFault budget net (in_knot knots.now.numbers part) part) }
+        ensures ticks { let net = net_of P.behaviour circuit.now in
+            (w : ℕ) → IsWeight net (in_knot knots.now.numbers part) w
+            → steps.new ≤ steps.old + w }
+    {
+        circuit.known();
+        let tables = self.tables.take();
+        let fresh = self.fresh.as_slice();
+        let mut ready = renewed(alloc, circuit, knots, ends, &self.orders, fresh, tables)?;
+        search_part(
+            alloc, circuit, knots, ends, &mut ready, part, turn, budget, steps, rows,
+        )?;
+        mark_all(&mut self.fresh);
+        self.tables = Some(ready);
+        let joints = self.orders.at(part).as_slice();
+        let rows = rows.as_slice();
+        self.plans
+            .remember(alloc, circuit, ends, knots, joints, part, turn, rows)?;
+        Ok(())
+    }
+
+    /// Writes the rows of the first assignment of a part down: those that are kept stand there
+    /// already, where they serve; else they are remembered, or the part is searched.
+    pub(crate) fn settle_part<P: Primitive, L: Ledger>(
+        &mut self,
+        alloc: Global,
+        circuit: &Circuit<P>,
+        knots: &Knots,
+        ends: &Ends,
+        kept: &Kept,
+        part: usize,
+        turn: u64,
+        budget: u64,
+        steps: &mut Steps<L>,
+        rows: &mut List<u32>,
+    ) -> Result<(), PlanFault>
+        requires knots { AreKnots (net_of P.behaviour circuit.now) knots.now }
+        requires ends { AreEnds (net_of P.behaviour circuit.now) ends.now }
+        requires part { part < knot_count knots.now }
+        requires turn { 1 ≤ turn }
+        requires budget { budget < 10 ^ 18 }
+        requires kept { IsKept (net_of P.behaviour circuit.now) knots.now turn kept.now }
+        requires steady { AreSteady (net_of P.behaviour circuit.now) knots.now self.old }
+        requires rows { length rows.old ≡ side_count (net_of P.behaviour circuit.now) }
+        requires here { (s : ℕ) → in_knot knots.now.numbers part s ≡ true
+            → slice_index rows.old s ≡ slice_index kept.now.rows s }
+        ensures steady { AreSteady (net_of P.behaviour circuit.now) knots.now self.new }
+        ensures exact { let net = net_of P.behaviour circuit.now in
+            MatchResult result (λ _. IsPartPlanned budget net knots.now turn part rows.old rows.new)
+            (IsPartFault budget net (in_knot knots.now.numbers part) part) }
+        ensures ticks { let net = net_of P.behaviour circuit.now in
+            (w : ℕ) → IsWeight net (in_knot knots.now.numbers part) w
+            → steps.new ≤ steps.old + cond (serves kept.now budget part) 0 w }
+    {
+        if kept.serves(part, budget) {
+            return Ok(());
+        }
+        if self.plans.recall(circuit, knots, part, turn, budget, rows)? {
+            return Ok(());
+        }
+        self.search(alloc, circuit, knots, ends, part, turn, budget, steps, rows)
+    }
+}

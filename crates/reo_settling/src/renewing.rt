@@ -1,0 +1,110 @@
+//! Tables that are kept, made ready for a search.
+ghost use Rattle.std.specs.Prelude.{◌≡◌, ◌≢◌, ◌<◌, ℕ, true, IfOk, OnOk, length};
+ghost use Rattle.reo_net_base.specs.Net.{net_of};
+ghost use Rattle.reo_net_ends.specs.Ends.{AreEnds};
+ghost use Rattle.reo_knots.specs.Knots.{AreKnots, in_knot, knot_count};
+ghost use Rattle.reo_kept_tables.specs.Orders.{AreOrders};
+ghost use Rattle.reo_kept_tables.specs.Tables.{AreReady, AreRightOn, HasRoom};
+ghost use Rattle.reo_settling.specs.Held.{AreFreshTables, MayBeFresh};
+
+use reo_kept_tables::{Tables, refresh_part};
+use reo_knots::Knots;
+use reo_net_base::Primitive;
+use reo_net_circuit::Circuit;
+use reo_net_ends::Ends;
+use reo_planning::tables_of;
+use reo_values::{List, NoMemory};
+use std::alloc::Global;
+
+/// Makes the tables of a part anew, if they are not fresh.
+fn renew_part<P: Primitive>(
+    alloc: Global,
+    circuit: &Circuit<P>,
+    knots: &Knots,
+    ends: &Ends,
+    orders: &List<List<usize>>,
+    fresh: bool,
+    part: usize,
+    tables: &mut Tables,
+) -> Result<(), NoMemory>
+    requires knots { AreKnots (net_of P.behaviour circuit.now) knots.now }
+    requires ends { AreEnds (net_of P.behaviour circuit.now) ends.now }
+    requires orders { AreOrders (net_of P.behaviour circuit.now) knots.now orders.now }
+    requires part { part < knot_count knots.now }
+    requires room { HasRoom (net_of P.behaviour circuit.now) tables.old }
+    requires right { let net = net_of P.behaviour circuit.now in fresh ≡ true
+        → AreRightOn net (in_knot knots.now.numbers part) tables.old }
+    ensures right { let net = net_of P.behaviour circuit.now in
+        OnOk result (AreRightOn net (in_knot knots.now.numbers part) tables.new) }
+    ensures room { HasRoom (net_of P.behaviour circuit.now) tables.new }
+    ensures others { let net = net_of P.behaviour circuit.now in
+        (k : ℕ) → k < knot_count knots.now → k ≢ part
+        → AreRightOn net (in_knot knots.now.numbers k) tables.old
+        → AreRightOn net (in_knot knots.now.numbers k) tables.new }
+{
+    if fresh {
+        return Ok(());
+    }
+    refresh_part(alloc, circuit, ends, knots, orders, part, tables)
+}
+
+/// Makes the tables of all parts anew where they are not fresh. The marks stay.
+fn renew<P: Primitive>(
+    alloc: Global,
+    circuit: &Circuit<P>,
+    knots: &Knots,
+    ends: &Ends,
+    orders: &List<List<usize>>,
+    fresh: &[bool],
+    tables: &mut Tables,
+) -> Result<(), NoMemory>
+    requires knots { AreKnots (net_of P.behaviour circuit.now) knots.now }
+    requires ends { AreEnds (net_of P.behaviour circuit.now) ends.now }
+    requires orders { AreOrders (net_of P.behaviour circuit.now) knots.now orders.now }
+    requires one_each { length fresh.now ≡ knot_count knots.now }
+    requires tables { AreFreshTables
+        (net_of P.behaviour circuit.now) knots.now fresh.now tables.old }
+    ensures { OnOk result (AreReady (net_of P.behaviour circuit.now) ends.now tables.new) }
+{
+    circuit.known();
+    for part in 0..knots.count() {
+        renew_part(
+            alloc,
+            circuit,
+            knots,
+            ends,
+            orders,
+            fresh[part],
+            part,
+            tables,
+        )?;
+    }
+    Ok(())
+}
+
+/// The tables of a circuit in its present state, from those that are kept, if there are any: only
+/// what they have of parts that are not fresh is made anew. `NoMemory` is out of memory.
+pub(crate) fn renewed<P: Primitive>(
+    alloc: Global,
+    circuit: &Circuit<P>,
+    knots: &Knots,
+    ends: &Ends,
+    orders: &List<List<usize>>,
+    fresh: &[bool],
+    tables: Option<Tables>,
+) -> Result<Tables, NoMemory>
+    requires knots { AreKnots (net_of P.behaviour circuit.now) knots.now }
+    requires ends { AreEnds (net_of P.behaviour circuit.now) ends.now }
+    requires orders { AreOrders (net_of P.behaviour circuit.now) knots.now orders.now }
+    requires one_each { length fresh.now ≡ knot_count knots.now }
+    requires tables { MayBeFresh (net_of P.behaviour circuit.now) knots.now fresh.now tables }
+    ensures { IfOk result (AreReady (net_of P.behaviour circuit.now) ends.now) }
+{
+    match tables {
+        Some(mut tables) => {
+            renew(alloc, circuit, knots, ends, orders, fresh, &mut tables)?;
+            Ok(tables)
+        }
+        None => tables_of(alloc, circuit, ends),
+    }
+}

@@ -1,0 +1,83 @@
+//! The rows of all parts.
+ghost use Rattle.std.specs.Prelude.{◌≡◌, ◌<◌, ◌≤◌, ◌+◌, ◌^◌, ℕ, IfOk, MatchResult, length};
+ghost use Rattle.reo_net_base.specs.Net.{net_of};
+ghost use Rattle.reo_net_base.specs.Colouring.{RowsFit};
+ghost use Rattle.reo_net_ends.specs.Ends.{AreEnds};
+ghost use Rattle.reo_knots.specs.Knots.{AreKnots, knot_count};
+ghost use Rattle.reo_rounds.specs.Plans.{IsPlanFault};
+ghost use Rattle.reo_planning.specs.declared.kept.Kept.{Kept as KeptRows};
+ghost use Rattle.reo_planning.specs.Keeping.{IsKept};
+ghost use Rattle.reo_planning.specs.Planned.{ArePlanned, AreWeights, sum_below, weight_left};
+ghost use Rattle.reo_settling.specs.Lookups.{AreLookups, IsForgotten};
+
+use crate::lookups::Lookups;
+use reo_knots::Knots;
+use reo_net_base::Primitive;
+use reo_net_circuit::Circuit;
+use reo_net_ends::Ends;
+use reo_planning::{Kept, copied};
+use reo_rounds::PlanFault;
+use reo_steps::Steps;
+use reo_values::List;
+use std::alloc::Global;
+use std::sync::ledger::Ledger;
+
+impl Lookups {
+    /// Of parts that are not settled the tables are not fresh.
+    fn forget(&mut self, kept: &Kept)
+        requires { length self.old.fresh ≡ length kept.now.settled }
+        ensures { IsForgotten kept.now self.old self.new }
+    {
+        for part in 0..self.fresh.len() {
+            if !kept.is_settled(part) {
+                *self.fresh.at_mut(part) = false;
+            }
+        }
+    }
+
+    /// The rows of the first colouring of a circuit in the round of a number, where no part is
+    /// over. They are those that are kept, where these serve; of other parts they are remembered,
+    /// or searched. It makes at most as many ticks as the weights of those say together.
+    ///
+    /// # Errors
+    ///
+    /// `Wide` and `Spent` come exactly where a part is over, for the least such part. `NoMemory` is
+    /// out of memory.
+    pub fn settle<P: Primitive, L: Ledger>(
+        &mut self,
+        alloc: Global,
+        circuit: &Circuit<P>,
+        knots: &Knots,
+        ends: &Ends,
+        kept: &Kept,
+        turn: u64,
+        budget: u64,
+        steps: &mut Steps<L>,
+    ) -> Result<List<u32>, PlanFault>
+        requires knots { AreKnots (net_of P.behaviour circuit.now) knots.now }
+        requires ends { AreEnds (net_of P.behaviour circuit.now) ends.now }
+        requires turn { 1 ≤ turn }
+        requires budget { budget < 10 ^ 18 }
+        requires kept { IsKept (net_of P.behaviour circuit.now) knots.now turn kept.now }
+        requires lookups { AreLookups (net_of P.behaviour circuit.now) knots.now kept.now self.old }
+        ensures lookups { (later : KeptRows)
+            → AreLookups (net_of P.behaviour circuit.now) knots.now later self.new }
+        ensures exact { let net = net_of P.behaviour circuit.now in
+            MatchResult result (ArePlanned budget net knots.now turn (knot_count knots.now))
+            (IsPlanFault budget net) }
+        ensures fit { IfOk result (RowsFit (net_of P.behaviour circuit.now)) }
+        ensures ticks { let count = knot_count knots.now in (weights : ℕ → ℕ)
+            → AreWeights (net_of P.behaviour circuit.now) knots.now weights
+            → steps.new ≤ steps.old + sum_below count (weight_left kept.now budget weights) }
+    {
+        circuit.known();
+        self.forget(kept);
+        let mut rows = copied(alloc, kept.rows())?;
+        for knot in 0..knots.count() {
+            self.settle_part(
+                alloc, circuit, knots, ends, kept, knot, turn, budget, steps, &mut rows,
+            )?;
+        }
+        Ok(rows)
+    }
+}

@@ -1,0 +1,2 @@
+pub mod ProveLemmas
+pub mod RunLemmas

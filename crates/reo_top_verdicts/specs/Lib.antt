@@ -1,0 +1,3 @@
+pub mod VerdictTexts
+pub mod ProofStatuses
+pub mod Judged
