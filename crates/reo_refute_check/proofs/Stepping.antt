@@ -86,41 +86,41 @@ module _ (net : Net) (lists : Lists) (allowed : ℕ → ℕ → Type 0) where
     pub drop_stuck : (j : ℕ) (v : JointValue) (side : ℕ) → IsNext old new (Drop j v side) → (MayGo net lists allowed (family_of live.table) j v side → ⊥) → (stop : Stop) → stop ≡ Line new.count
         → IsStepTaken net lists allowed live after old new (Err stop)
     drop_stuck j v side next h stop e =
-        stuck_taken (Drop j v side) next (λ now is. h (drop_asks (open_in live) now (Drop j v side) is (family_of live.table) (still_open live.splits) j v side refl refl)) stop e
+        stuck_taken (Drop j v side) next (λ now is. h (drop_asks (open_in live) now (Drop j v side) is (family_of live.table) (still_open live) j v side refl refl)) stop e
 
     pub empty_stuck : (j : ℕ) → IsNext old new (Empty j) → (IsEmpty net lists (family_of live.table) j → ⊥) → (stop : Stop) → stop ≡ Line new.count
         → IsStepTaken net lists allowed live after old new (Err stop)
     empty_stuck j next h stop e =
-        stuck_taken (Empty j) next (λ now is. h (empty_asks (open_in live) now (Empty j) is (family_of live.table) (still_open live.splits) j refl refl)) stop e
+        stuck_taken (Empty j) next (λ now is. h (empty_asks (open_in live) now (Empty j) is (family_of live.table) (still_open live) j refl refl)) stop e
 
     pub split_stuck : (j : ℕ) → IsNext old new (Split j) → (MaySplit net lists (family_of live.table) j → ⊥) → (stop : Stop) → stop ≡ Line new.count
         → IsStepTaken net lists allowed live after old new (Err stop)
     split_stuck j next h stop e =
-        stuck_taken (Split j) next (λ now is. h (split_asks (open_in live) now (Split j) is (family_of live.table) (still_open live.splits) j refl refl)) stop e
+        stuck_taken (Split j) next (λ now is. h (split_asks (open_in live) now (Split j) is (family_of live.table) (still_open live) j refl refl)) stop e
 
     pub drop_read : (j : ℕ) (v : JointValue) (side : ℕ) → IsNext old new (Drop j v side) → MayGo net lists allowed (family_of live.table) j v side
-        → family_of after.table ≡ without (family_of live.table) j v → after.splits ≡ live.splits → IsStepRead net lists allowed (open_in live) (open_in after) old new
+        → family_of after.table ≡ without (family_of live.table) j v → still_open after ≡ still_open live → IsStepRead net lists allowed (open_in live) (open_in after) old new
     drop_read j v side next may gone rest =
-        let same : without (family_of live.table) j v ∷ still_open live.splits ≡ open_in after =
-        ap (λ (f : Family). f ∷ still_open live.splits) (sym gone) ∙ ap (λ s. family_of after.table ∷ still_open s) (sym rest) in
+        let same : without (family_of live.table) j v ∷ still_open live ≡ open_in after =
+        ap (λ (f : Family). f ∷ still_open live) (sym gone) ∙ ap (λ (o : List Family). family_of after.table ∷ o) (sym rest) in
         record {
           line = Drop j v side;
           next = next;
-          step = subst (IsStep net lists allowed (open_in live) (Drop j v side)) same (drop (family_of live.table) (still_open live.splits) j v side may);
+          step = subst (IsStep net lists allowed (open_in live) (Drop j v side)) same (drop (family_of live.table) (still_open live) j v side may);
         }
 
-    pub empty_read : (j : ℕ) → IsNext old new (Empty j) → IsEmpty net lists (family_of live.table) j → (more : Bool) → still_open live.splits ≡ cond more (open_in after) []
+    pub empty_read : (j : ℕ) → IsNext old new (Empty j) → IsEmpty net lists (family_of live.table) j → (more : Bool) → still_open live ≡ cond more (open_in after) []
         → IsStepRead net lists allowed (open_in live) (cond more (open_in after) []) old new
     empty_read j next is more same = record {
       line = Empty j;
       next = next;
-      step = subst (IsStep net lists allowed (open_in live) (Empty j)) same (empty (family_of live.table) (still_open live.splits) j is);
+      step = subst (IsStep net lists allowed (open_in live) (Empty j)) same (empty (family_of live.table) (still_open live) j is);
     }
 
-    pub split_read : (j : ℕ) → IsNext old new (Split j) → MaySplit net lists (family_of live.table) j → open_in after ≡ branches lists (family_of live.table) j ++ still_open live.splits
+    pub split_read : (j : ℕ) → IsNext old new (Split j) → MaySplit net lists (family_of live.table) j → open_in after ≡ branches lists (family_of live.table) j ++ still_open live
         → IsStepRead net lists allowed (open_in live) (open_in after) old new
     split_read j next may same = record {
       line = Split j;
       next = next;
-      step = subst (IsStep net lists allowed (open_in live) (Split j)) (sym same) (split (family_of live.table) (still_open live.splits) j may);
+      step = subst (IsStep net lists allowed (open_in live) (Split j)) (sym same) (split (family_of live.table) (still_open live) j may);
     }

@@ -1,11 +1,11 @@
 //! One part of a log.
 ghost use Rattle.reo_refute_base.specs.declared.line.LogLine.TheVariants.{At as AtPlace};
-ghost use Rattle.std.specs.Prelude.{◌≢◌, true, false, ◌≡◌, ◌<◌, ℕ, List, length};
+ghost use Rattle.std.specs.Prelude.{◌≢◌, true, false, ◌≡◌, ◌<◌, ℕ, List, OnOk, length};
 ghost use Rattle.reo_net_base.specs.Net.{net_of};
 ghost use Rattle.reo_refute_base.specs.Places.{IsAllowed};
 ghost use Rattle.reo_refute_places.specs.AllowedRows.{AreAllowedRows};
 ghost use Rattle.reo_refute_support.specs.Columns.{AreTables};
-ghost use Rattle.reo_refute_live.specs.Open.{AreSmall};
+ghost use Rattle.reo_refute_live.specs.Open.{AreSmall, IsClosed};
 ghost use Rattle.reo_refute_check.specs.Judging.{IsPartTaken};
 ghost use Rattle.reo_refute_check.specs.Reading.{IsShort, IsAtTaken};
 
@@ -62,6 +62,7 @@ pub(crate) fn check_part<P: Primitive>(
     lists: &[List<Value>],
     tables: &List<List<Column>>,
     allowed: &Allowed,
+    live: &mut Live,
     lines: &mut Lines,
     rows: &mut Vec<u8>,
 ) -> Result<(), Stop>
@@ -70,15 +71,17 @@ pub(crate) fn check_part<P: Primitive>(
     requires small { AreSmall lists.now }
     requires allowed { AreAllowedRows (net_of P.behaviour circuit.now) turn given.now number
         allowed.now }
+    requires closed { IsClosed lists.now live.old }
     requires short { IsShort lines.old }
-    ensures { let net = net_of P.behaviour circuit.now in
+    ensures part { let net = net_of P.behaviour circuit.now in
         IsPartTaken net lists.now (IsAllowed net turn given.now number) lines.old lines.new result }
+    ensures closed { OnOk result (IsClosed lists.now live.new) }
 {
-    let mut live = Live::new(alloc, lists)?;
+    live.restart(lists);
     let mut open = true;
     while open {
         match step(
-            alloc, circuit, turn, given, number, lists, tables, allowed, &mut live, lines, rows,
+            alloc, circuit, turn, given, number, lists, tables, allowed, live, lines, rows,
         ) {
             Ok(more) => open = more,
             Err(stop) => return Err(stop),

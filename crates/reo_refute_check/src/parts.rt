@@ -7,7 +7,7 @@ ghost use Rattle.reo_refute_base.specs.Places.{IsLive};
 ghost use Rattle.reo_refute_places.specs.AllowedRows.{AreAgreeing, AreAllowedRows};
 ghost use Rattle.reo_refute_places.specs.KeyPlaces.{IsPlace, position_of};
 ghost use Rattle.reo_refute_support.specs.Columns.{AreTables};
-ghost use Rattle.reo_refute_live.specs.Open.{AreSmall};
+ghost use Rattle.reo_refute_live.specs.Open.{AreSmall, IsClosed};
 ghost use Rattle.reo_refute_check.specs.Judging.{IsPlaceTaken, ArePartsTaken};
 ghost use Rattle.reo_refute_check.specs.Reading.{IsShort};
 
@@ -16,6 +16,7 @@ use crate::part::{check_part, take_at};
 use crate::stop::Stop;
 use reo_net_base::Primitive;
 use reo_net_circuit::Circuit;
+use reo_refute_live::Live;
 use reo_refute_places::{Allowed, KeyPlace};
 use reo_refute_support::Column;
 use reo_values::{List, Value};
@@ -31,6 +32,7 @@ fn check_live<P: Primitive>(
     lists: &[List<Value>],
     tables: &List<List<Column>>,
     allowed: &Allowed,
+    live: &mut Live,
     lines: &mut Lines,
     rows: &mut Vec<u8>,
 ) -> Result<(), Stop>
@@ -39,15 +41,17 @@ fn check_live<P: Primitive>(
     requires small { AreSmall lists.now }
     requires allowed { AreAllowedRows (net_of P.behaviour circuit.now) turn given.now number
         allowed.now }
+    requires closed { IsClosed lists.now live.old }
     requires live { IsLive (net_of P.behaviour circuit.now) turn given.now number }
     requires short { IsShort lines.old }
-    ensures { let net = net_of P.behaviour circuit.now in
+    ensures taken { let net = net_of P.behaviour circuit.now in
         IsPlaceTaken net turn given.now lists.now number lines.old lines.new result }
+    ensures closed { OnOk result (IsClosed lists.now live.new) }
 {
     match take_at(lines, number) {
         Err(stop) => Err(stop),
         Ok(()) => check_part(
-            alloc, circuit, turn, given, number, lists, tables, allowed, lines, rows,
+            alloc, circuit, turn, given, number, lists, tables, allowed, live, lines, rows,
         ),
     }
 }
@@ -63,6 +67,7 @@ fn check_place<P: Primitive>(
     lists: &[List<Value>],
     tables: &List<List<Column>>,
     allowed: &mut Allowed,
+    live: &mut Live,
     lines: &mut Lines,
     rows: &mut Vec<u8>,
 ) -> Result<(), Stop>
@@ -73,15 +78,17 @@ fn check_place<P: Primitive>(
     requires small { AreSmall lists.now }
     requires agreeing { AreAgreeing (net_of P.behaviour circuit.now) turn given.now number
         allowed.old.agreeing }
+    requires closed { IsClosed lists.now live.old }
     requires short { IsShort lines.old }
     ensures taken { let net = net_of P.behaviour circuit.now in
         IsPlaceTaken net turn given.now lists.now number lines.old lines.new result }
     ensures agreeing { let net = net_of P.behaviour circuit.now in
         OnOk result (AreAgreeing net turn given.now (number + 1) allowed.new.agreeing) }
+    ensures closed { OnOk result (IsClosed lists.now live.new) }
 {
     if allowed.come_to(circuit, turn, given, number, place)? {
         check_live(
-            alloc, circuit, turn, given, number, lists, tables, allowed, lines, rows,
+            alloc, circuit, turn, given, number, lists, tables, allowed, live, lines, rows,
         )?;
     }
     allowed.pass(circuit, turn, given, number, place);
@@ -110,6 +117,7 @@ pub(crate) fn check_parts<P: Primitive>(
         ArePartsTaken net turn given.now lists.now lines.old result }
 {
     let mut allowed = Allowed::new(alloc, circuit)?;
+    let mut live = Live::new(alloc, lists)?;
     let mut rows = Vec::new(alloc);
     for number in 0..places.len() {
         let place = places[number];
@@ -123,6 +131,7 @@ pub(crate) fn check_parts<P: Primitive>(
             lists,
             tables,
             &mut allowed,
+            &mut live,
             lines,
             &mut rows,
         ) {

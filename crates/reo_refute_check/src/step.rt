@@ -1,10 +1,10 @@
 //! One line of a branch.
-ghost use Rattle.std.specs.Prelude.{◌≡◌, ◌<◌, ℕ, List, IfOk, IsTrue, length};
+ghost use Rattle.std.specs.Prelude.{◌≡◌, ◌<◌, ℕ, List, IfOk, IsTrue, false, length};
 ghost use Rattle.reo_net_base.specs.Net.{net_of};
 ghost use Rattle.reo_refute_base.specs.Places.{IsAllowed};
 ghost use Rattle.reo_refute_places.specs.AllowedRows.{AreAllowedRows};
 ghost use Rattle.reo_refute_support.specs.Columns.{AreTables};
-ghost use Rattle.reo_refute_live.specs.Open.{AreSmall, IsOpen};
+ghost use Rattle.reo_refute_live.specs.Open.{AreSmall, IsOpen, IsClosed};
 ghost use Rattle.reo_refute_check.specs.Judging.{IsStepTaken};
 ghost use Rattle.reo_refute_check.specs.Reading.{IsShort};
 
@@ -45,6 +45,7 @@ pub(crate) fn step<P: Primitive>(
         IsStepTaken net lists.now (IsAllowed net turn given.now number) live.old live.new lines.old
         lines.new result }
     ensures open { IfOk result (λ more. IsTrue more → IsOpen lists.now live.new) }
+    ensures closed { IfOk result (λ more. more ≡ false → IsClosed lists.now live.new) }
 {
     match lines.next() {
         Some(LogLine::Drop(joint, value, side)) => {
@@ -54,14 +55,14 @@ pub(crate) fn step<P: Primitive>(
             )? {
                 return Err(lines.wrong());
             }
-            live.clear(lists, joint, value);
+            live.clear(lists, joint, value)?;
             Ok(true)
         }
         Some(LogLine::Empty(joint)) => {
             if joint >= circuit.joint_count() || live.has_live(lists, joint) {
                 return Err(lines.wrong());
             }
-            let more = live.close(alloc, lists)?;
+            let more = live.close(lists)?;
             Ok(more)
         }
         Some(LogLine::Split(joint)) => {

@@ -1,57 +1,183 @@
--- Flags of which one alone stays.
-use Rattle.std.proofs.Common.{◌≡◌, ◌≢◌, inl, inr, ℕ, ◌+◌, ◌<◌, ◌≤◌, ◌&&◌, Bool, true, false, List, length, get_or, set, refl, ap, sym, ◌∙◌, subst, arith}
+-- Values of a joint of which one stays.
+use Rattle.std.proofs.Common.{◌≡◌, inl, inr, ℕ, zero, suc, ◌+◌, ◌<◌, ◌≤◌, ◌&&◌, ◌||◌, not, nat_lt, Bool, true, false, cond, List, [], ◌∷◌, ◌++◌, length, get_or, map, take, refl, ap, sym, ◌∙◌, subst, arith}
+use Rattle.std.specs.Prelude.{filter}
+use Rattle.std.specs.Bool.{◌==◌}
+use Rattle.std.specs.List.{range_with_len}
+use Rattle.std.proofs.lemmas.Bool.{cases_eq, cases_Bool}
 use Rattle.std.proofs.lemmas.Bool.Decides.{nat_tests}
-use Rattle.std.proofs.lemmas.List.{length-set, get_or_past, get_or-set_same, get_or-set_other}
-use Rattle.reo_net_laws.proofs.Sides.{below_or}
+use Rattle.std.proofs.lemmas.List.{take_more, take_all}
 use Rattle.reo_joint_values.specs.declared.value.JointValue.{JointValue}
-use Rattle.reo_joint_values.specs.declared.value.JointValue.TheVariants.{Flow}
-use Rattle.reo_joint_values.specs.Values.{value_eq}
-use Rattle.reo_refute_live.specs.Tables.{AreHeld}
+use Rattle.reo_joint_values.specs.declared.value.JointValue.TheVariants.{Flow, RG, GR, GG, Jam}
+use Rattle.reo_joint_values.specs.Values.{Family, value_eq}
+use Rattle.reo_joint_values.proofs.Equal.{eq_same}
+use Rattle.reo_joint_values.proofs.Narrowing.{same_value}
+use Rattle.reo_refute_base.specs.Items.{Lists, items_at}
+use Rattle.reo_refute_base.specs.Live.{all_live, live_at, values_of, without, alone}
+use Rattle.reo_refute_support.specs.declared.live.LiveAt.{LiveAt}
+use Rattle.reo_refute_support.specs.Families.{family_of, AreLive}
+use Rattle.reo_refute_live.proofs.TrailLemmas.{live_one}
 
--- Of the first n flags that of the item of a value alone stays.
-pub record AreHeldBelow (n : ℕ) (old new : List Bool) (value : JointValue) : Type 0 where
-  pub one_each : length new ≡ length old
-  pub done : (k : ℕ) → k < n → get_or new k false ≡ get_or old k false && value_eq (Flow k) value
-  pub rest : (k : ℕ) → n ≤ k → get_or new k false ≡ get_or old k false
+-- Whether a value is among some.
+abbrev pub is_among : JointValue → List JointValue → Bool
+is_among w [] = false
+is_among w (v ∷ vs) = value_eq w v || is_among w vs
 
-both_true : (a b : Bool) → b ≡ true → a ≡ a && b
-both_true a b e = grind (arith, nat_tests)
+or_assoc : (a b c : Bool) → a || (b || c) ≡ (a || b) || c
+or_assoc a b c = grind (arith, nat_tests)
 
-both_false : (a b : Bool) → b ≡ false → false ≡ a && b
-both_false a b e = grind (arith, nat_tests)
+among_append : (w : JointValue) (xs ys : List JointValue) → is_among w (xs ++ ys) ≡ is_among w xs || is_among w ys
+among_append w [] ys = refl
+among_append w (x ∷ xs) ys = ap (λ (b : Bool). value_eq w x || b) (among_append w xs ys) ∙ or_assoc (value_eq w x) (is_among w xs) (is_among w ys)
 
-module _ (old : List Bool) (value : JointValue) where
-  pub held_none : AreHeldBelow 0 old old value
-  held_none = record { one_each = refl; done = λ k lt. absurd (omega (arith, lt)); rest = λ k le. refl }
+or_none : (a : Bool) → a || false ≡ a
+or_none a = grind (arith, nat_tests)
 
-  grown : (n : ℕ) (now new : List Bool) → AreHeldBelow n old now value → length new ≡ length now → ((k : ℕ) → k ≢ n → get_or new k false ≡ get_or now k false)
-      → get_or new n false ≡ get_or old n false && value_eq (Flow n) value → AreHeldBelow (n + 1) old new value
-  grown n now new are same others here = record {
-    one_each = same ∙ are.one_each;
-    done = λ k lt. elim (below_or k n) [
-      | inl below ↦ others k (λ e. omega (arith, e, below)) ∙ are.done k below
-      | inr from ↦
-          let is : n ≡ k = omega (arith, from, lt) in
-          subst (λ (m : ℕ). get_or new m false ≡ get_or old m false && value_eq (Flow m) value) is here
-    ];
-    rest = λ k le. others k (λ e. omega (arith, e, le)) ∙ are.rest k (omega (arith, le));
-  }
+among_last : (w v : JointValue) (xs : List JointValue) → is_among w (xs ++ (v ∷ [])) ≡ is_among w xs || value_eq w v
+among_last w v xs = among_append w xs (v ∷ []) ∙ ap (λ (b : Bool). is_among w xs || b) (or_none (value_eq w v))
 
-  pub held_stays : (n : ℕ) (now : List Bool) → AreHeldBelow n old now value → value_eq (Flow n) value ≡ true → AreHeldBelow (n + 1) old now value
-  held_stays n now are is = grown n now now are refl (λ k e. refl) (are.rest n (omega arith) ∙ both_true (get_or old n false) (value_eq (Flow n) value) is)
+or_here : (a b : Bool) → a ≡ true → a || b ≡ true
+or_here a b h = grind (arith, nat_tests)
 
-  pub held_cleared : (n : ℕ) (now : List Bool) → n < length now → AreHeldBelow n old now value → value_eq (Flow n) value ≡ false → AreHeldBelow (n + 1) old (set now n false) value
-  held_cleared n now lt are is =
-      grown n now (set now n false) are (length-set now n false) (λ k e. get_or-set_other now n k false false e)
-      (get_or-set_same now n false false lt ∙ both_false (get_or old n false) (value_eq (Flow n) value) is)
+or_there : (a b : Bool) → b ≡ true → a || b ≡ true
+or_there a b h = grind (arith, nat_tests)
 
-  pub held_all : (n : ℕ) (new : List Bool) → n ≡ length old → AreHeldBelow n old new value → AreHeld old new value
-  held_all n new is are = record {
-    one_each = are.one_each;
-    held = λ k. elim (below_or k n) [
-      | inl below ↦ are.done k below
-      | inr from ↦
-          let past : get_or old k false ≡ false = get_or_past old k false (omega (arith, from, is)) in
-          are.rest k from ∙ past ∙ sym (ap (λ (b : Bool). b && value_eq (Flow k) value) past)
-    ];
-  }
+or_rest : (a b : Bool) → a ≡ false → a || b ≡ true → b ≡ true
+or_rest a b h k = grind (arith, nat_tests)
+
+-- What is live is among the values that are live.
+among_filter : (p : JointValue → Bool) (w : JointValue) (vs : List JointValue) → p w ≡ true → is_among w vs ≡ true → is_among w (filter p vs) ≡ true
+among_filter p w [] h is = is
+among_filter p w (v ∷ vs) h is = elim (cases_Bool (value_eq w v)) [
+  | inl same ↦
+      let here : p v ≡ true = ap p (sym (same_value w v same)) ∙ h in
+      subst (λ (b : Bool). is_among w (cond b (v ∷ filter p vs) (filter p vs)) ≡ true) (sym here) (or_here (value_eq w v) (is_among w (filter p vs)) same)
+  | inr other ↦
+      let rest = among_filter p w vs h (or_rest (value_eq w v) (is_among w vs) other is) in
+      elim (p v) as (λ b. is_among w (cond b (v ∷ filter p vs) (filter p vs)) ≡ true) [
+        | true ↦ or_there (value_eq w v) (is_among w (filter p vs)) rest
+        | false ↦ rest
+      ]
+]
+
+same_number : (n : ℕ) → (n == n) ≡ true
+same_number n = grind (arith, nat_tests)
+
+among_flows : (n k count : ℕ) → k ≤ n → n < k + count → is_among (Flow n) (map Flow (range_with_len k count)) ≡ true
+among_flows n k zero le lt = absurd (omega (arith, le, lt))
+among_flows n k (suc count) le lt = elim (cases_eq n k) [
+  | inl e ↦ or_here (n == k) (is_among (Flow n) (map Flow (range_with_len (k + 1) count))) (subst (λ (m : ℕ). (n == m) ≡ true) e (same_number n))
+  | inr off ↦ or_there (n == k) (is_among (Flow n) (map Flow (range_with_len (k + 1) count))) (among_flows n (k + 1) count (omega (arith, le, off)) (omega (arith, lt)))
+]
+
+below_from : (k n : ℕ) → nat_lt n k ≡ true → n < k
+below_from k n is = grind (arith, nat_tests)
+
+module _ (lists : Lists) (joint : ℕ) where
+  abbrev flows : List JointValue
+  flows = map Flow (range_with_len 0 (length (items_at lists joint)))
+
+  abbrev marks : List JointValue
+  marks = RG ∷ GR ∷ GG ∷ Jam ∷ []
+
+  in_marks : (w : JointValue) → is_among w marks ≡ true → is_among w (values_of lists joint) ≡ true
+  in_marks w is = among_append w flows marks ∙ or_there (is_among w flows) (is_among w marks) is
+
+  all_among : (w : JointValue) → all_live lists joint w ≡ true → is_among w (values_of lists joint) ≡ true
+  all_among (Flow n) is =
+      let lt : n < 0 + length (items_at lists joint) = omega (arith, below_from (length (items_at lists joint)) n is) in
+      among_append (Flow n) flows marks ∙ or_here (is_among (Flow n) flows) (is_among (Flow n) marks) (among_flows n 0 (length (items_at lists joint)) (omega arith) lt)
+  all_among RG is = in_marks RG refl
+  all_among GR is = in_marks GR refl
+  all_among GG is = in_marks GG refl
+  all_among Jam is = in_marks Jam refl
+
+  pub live_among : (table : List LiveAt) → AreLive lists table → (w : JointValue) → family_of table joint w ≡ true → is_among w (live_at lists (family_of table) joint) ≡ true
+  live_among table are w is = among_filter (family_of table joint) w (values_of lists joint) is (all_among w (live_one lists table are joint w is))
+
+-- What is live when of these values of a joint only one is left, if it is among them.
+abbrev pub held : Family → ℕ → JointValue → List JointValue → Family
+held live joint keep vs i w = live i w && not ((i == joint) && (is_among w vs && not (value_eq w keep)))
+
+none_held : (a e q : Bool) → a && not (e && (false && q)) ≡ a
+none_held a e q = grind (arith, nat_tests)
+
+left_out : (a e m s q : Bool) → (s ≡ true → q ≡ false) → (a && not (e && (m && not q))) && not (e && s) ≡ a && not (e && ((m || s) && not q))
+left_out a e m true q h = let off = h refl in grind (arith, nat_tests)
+left_out a e m false q h = grind (arith, nat_tests)
+
+left_in : (a e m s q : Bool) → (s ≡ true → q ≡ true) → a && not (e && (m && not q)) ≡ a && not (e && ((m || s) && not q))
+left_in a e m true q h = let on = h refl in grind (arith, nat_tests)
+left_in a e m false q h = grind (arith, nat_tests)
+
+left_dead : (a e m s q : Bool) → (e ≡ true → s ≡ true → a && not (e && (m && not q)) ≡ false) → a && not (e && (m && not q)) ≡ a && not (e && ((m || s) && not q))
+left_dead a true m true q h = let dead = h refl refl in grind (arith, nat_tests)
+left_dead a false m true q h = grind (arith, nat_tests)
+left_dead a e m false q h = grind (arith, nat_tests)
+
+all_held : (a e m q : Bool) → (a ≡ true → e ≡ true → m ≡ true) → a && not (e && (m && not q)) ≡ a && (not e || q)
+all_held true true m q h = let on = h refl refl in grind (arith, nat_tests)
+all_held false e m q h = grind (arith, nat_tests)
+all_held a false m q h = grind (arith, nat_tests)
+
+and_left : (a b : Bool) → a && b ≡ false → a ≡ true → b ≡ false
+and_left a b h k = grind (arith, nat_tests)
+
+not_back : (a : Bool) → not a ≡ false → a ≡ true
+not_back a h = grind (arith, nat_tests)
+
+and_both : (a b : Bool) → a && not b ≡ true → (a ≡ true) × (b ≡ false)
+and_both true false h = (refl, refl)
+and_both true true h = absurd cc
+and_both false b h = absurd cc
+
+module _ (live : Family) (joint : ℕ) (keep : JointValue) where
+  pub held_none : held live joint keep [] ≡ live
+  held_none i j w = none_held (live j w) (j == joint) (not (value_eq w keep)) i
+
+  module _ (vs : List JointValue) (n : ℕ) (v : JointValue) (lt : n < length vs) (is : v ≡ get_or vs n v) where
+    more : take (n + 1) vs ≡ take n vs ++ (v ∷ [])
+    more = take_more vs n v lt ∙ ap (λ (x : JointValue). take n vs ++ (x ∷ [])) (sym is)
+
+    among_more : (w : JointValue) → is_among w (take (n + 1) vs) ≡ is_among w (take n vs) || value_eq w v
+    among_more w = ap (is_among w) more ∙ among_last w v (take n vs)
+
+    by_among : (j : ℕ) (w : JointValue) → live j w && not ((j == joint) && ((is_among w (take n vs) || value_eq w v) && not (value_eq w keep))) ≡ held live joint keep (take (n + 1) vs) j w
+    by_among j w = ap (λ (b : Bool). live j w && not ((j == joint) && (b && not (value_eq w keep)))) (sym (among_more w))
+
+    module _ (now : Family) (now_is : now ≡ held live joint keep (take n vs)) where
+      now_at : (j : ℕ) (w : JointValue) → now j w ≡ held live joint keep (take n vs) j w
+      now_at j w = ap (λ (f : Family). f j w) now_is
+
+      -- The next value goes.
+      pub held_gone : now joint v && not (value_eq v keep) ≡ true → (after : Family) → after ≡ without now joint v → after ≡ held live joint keep (take (n + 1) vs)
+      held_gone goes after after_is = after_is ∙ (λ i j w. at j w i)
+        where
+          at : (j : ℕ) (w : JointValue) → without now joint v j w ≡ held live joint keep (take (n + 1) vs) j w
+          at j w =
+              let off : value_eq w v ≡ true → value_eq w keep ≡ false = λ same. ap (λ (x : JointValue). value_eq x keep) (same_value w v same) ∙ (and_both (now joint v) (value_eq v keep) goes).1 in
+              ap (λ (b : Bool). b && not ((j == joint) && value_eq w v)) (now_at j w) ∙ left_out (live j w) (j == joint) (is_among w (take n vs)) (value_eq w v) (value_eq w keep) off ∙ by_among j w
+
+      -- It stays, or is not live.
+      pub held_stays : now joint v && not (value_eq v keep) ≡ false → now ≡ held live joint keep (take (n + 1) vs)
+      held_stays stays = now_is ∙ (λ i j w. at j w i)
+        where
+          at : (j : ℕ) (w : JointValue) → held live joint keep (take n vs) j w ≡ held live joint keep (take (n + 1) vs) j w
+          at j w = elim (cases_Bool (now joint v)) [
+            | inl on ↦
+                let kept : value_eq v keep ≡ true = not_back (value_eq v keep) (and_left (now joint v) (not (value_eq v keep)) stays on) in
+                let yes : value_eq w v ≡ true → value_eq w keep ≡ true = λ same. ap (λ (x : JointValue). value_eq x keep) (same_value w v same) ∙ kept in
+                left_in (live j w) (j == joint) (is_among w (take n vs)) (value_eq w v) (value_eq w keep) yes ∙ by_among j w
+            | inr dead ↦
+                let none : (j == joint) ≡ true → value_eq w v ≡ true → held live joint keep (take n vs) j w ≡ false =
+                λ here same. sym (now_at j w) ∙ ap (λ (k : ℕ). now k w) (eq_same j joint here) ∙ ap (now joint) (same_value w v same) ∙ dead in
+                left_dead (live j w) (j == joint) (is_among w (take n vs)) (value_eq w v) (value_eq w keep) none ∙ by_among j w
+          ]
+
+  -- All but one went.
+  pub held_all : (vs : List JointValue) (n : ℕ) → length vs ≤ n → ((w : JointValue) → live joint w ≡ true → is_among w vs ≡ true) → held live joint keep (take n vs) ≡ alone live joint keep
+  held_all vs n le all = ap (held live joint keep) (take_all n vs le) ∙ (λ i j w. at j w i)
+    where
+      at : (j : ℕ) (w : JointValue) → held live joint keep vs j w ≡ alone live joint keep j w
+      at j w =
+          all_held (live j w) (j == joint) (is_among w vs) (value_eq w keep)
+          (λ on here. all w (ap (λ (k : ℕ). live k w) (sym (eq_same j joint here)) ∙ on))

@@ -1,4 +1,5 @@
 pub mod HoldLemmas
 pub mod OpenLemmas
 pub mod TableLemmas
+pub mod TrailLemmas
 pub mod ValueLemmas

@@ -10,9 +10,10 @@ use Rattle.reo_joint_values.specs.declared.value.JointValue.TheVariants.{Flow, R
 use Rattle.reo_joint_values.specs.Values.{value_eq}
 use Rattle.reo_joint_values.proofs.Equal.{same_eq, other_eq}
 use Rattle.reo_refute_base.specs.Items.{Lists, items_at}
-use Rattle.reo_refute_base.specs.Live.{all_live, without, alone}
+use Rattle.reo_refute_base.specs.Live.{all_live, without}
 use Rattle.reo_refute_support.specs.declared.live.LiveAt.{LiveAt}
 use Rattle.reo_refute_support.specs.Families.{has, family_of, none_gone, AreLive}
+use Rattle.reo_refute_live.specs.Trail.{with_back}
 
 -- The entry of a joint with these items, in which all is live.
 abbrev pub whole : List Value → LiveAt
@@ -78,11 +79,11 @@ module _ (table : List LiveAt) (joint : ℕ) (lt : joint < length table) (entry 
   gone_other : (a b c : Bool) → b ≡ false → a ≡ a && not (b && c)
   gone_other a b c e = grind (arith, nat_tests)
 
-  held_here : (a b c : Bool) → b ≡ true → a && c ≡ a && (not b || c)
-  held_here a b c e = grind (arith, nat_tests)
+  back_here : (a b c : Bool) → b ≡ true → a || c ≡ a || (b && c)
+  back_here a b c e = grind (arith, nat_tests)
 
-  held_other : (a b c : Bool) → b ≡ false → a ≡ a && (not b || c)
-  held_other a b c e = grind (arith, nat_tests)
+  back_other : (a b c : Bool) → b ≡ false → a ≡ a || (b && c)
+  back_other a b c e = grind (arith, nat_tests)
 
   pub cleared : (value : JointValue) → ((w : JointValue) → has entry w ≡ has (get_or table joint none_gone) w && not (value_eq w value))
       → family_of (set table joint entry) ≡ without (family_of table) joint value
@@ -96,14 +97,14 @@ module _ (table : List LiveAt) (joint : ℕ) (lt : joint < length table) (entry 
         | inr off ↦ others_stay j w off ∙ gone_other (family_of table j w) (j == joint) (value_eq w value) (other_eq j joint off)
       ]
 
-  pub held_alone : (value : JointValue) → ((w : JointValue) → has entry w ≡ has (get_or table joint none_gone) w && value_eq w value)
-      → family_of (set table joint entry) ≡ alone (family_of table) joint value
-  held_alone value here i j w = at j w i
+  pub returned : (value : JointValue) → ((w : JointValue) → has entry w ≡ has (get_or table joint none_gone) w || value_eq w value)
+      → family_of (set table joint entry) ≡ with_back (family_of table) (record { joint = joint; value = value })
+  returned value here i j w = at j w i
     where
-      at : (j : ℕ) (w : JointValue) → family_of (set table joint entry) j w ≡ alone (family_of table) joint value j w
+      at : (j : ℕ) (w : JointValue) → family_of (set table joint entry) j w ≡ with_back (family_of table) (record { joint = joint; value = value }) j w
       at j w = elim (cases_eq j joint) [
         | inl e ↦
-            subst (λ (k : ℕ). family_of (set table joint entry) k w ≡ alone (family_of table) joint value k w) (sym e)
-            (here_is w ∙ here w ∙ held_here (family_of table joint w) (joint == joint) (value_eq w value) (same_eq joint joint refl))
-        | inr off ↦ others_stay j w off ∙ held_other (family_of table j w) (j == joint) (value_eq w value) (other_eq j joint off)
+            subst (λ (k : ℕ). family_of (set table joint entry) k w ≡ with_back (family_of table) (record { joint = joint; value = value }) k w) (sym e)
+            (here_is w ∙ here w ∙ back_here (family_of table joint w) (joint == joint) (value_eq w value) (same_eq joint joint refl))
+        | inr off ↦ others_stay j w off ∙ back_other (family_of table j w) (j == joint) (value_eq w value) (other_eq j joint off)
       ]

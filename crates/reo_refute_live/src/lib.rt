@@ -1,9 +1,10 @@
 //! The values that are live in the open branches of a log.
 #![tactic(auto)]
 
-mod holding;
 mod live;
 mod table;
+mod trail;
 mod values;
 
 pub use live::{Live, Split};
+pub use trail::Gone;

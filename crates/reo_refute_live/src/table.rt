@@ -1,10 +1,12 @@
 //! Tables of live values, one entry for each joint.
-ghost use Rattle.std.specs.Prelude.{◌≡◌, ◌<◌, ◌&&◌, not, true, IfOk, length, replicate, slice_index_or, []};
+ghost use Rattle.std.specs.Prelude.{◌≡◌, ◌<◌, ◌&&◌, ◌||◌, ℕ, not, true, IfOk, length, replicate, slice_index_or, []};
 ghost use Rattle.reo_joint_values.specs.declared.value.JointValue.{JointValue as Standing};
+ghost use Rattle.reo_joint_values.specs.declared.value.JointValue.TheVariants.{Flow};
 ghost use Rattle.reo_joint_values.specs.Values.{value_eq};
 ghost use Rattle.reo_refute_base.specs.Items.{Lists};
 ghost use Rattle.reo_refute_base.specs.Live.{all_live, without};
-ghost use Rattle.reo_refute_support.specs.Families.{family_of, has, AreLive};
+ghost use Rattle.reo_refute_support.specs.Families.{family_of, has, none_gone, AreLive};
+ghost use Rattle.reo_refute_live.specs.Trail.{with_back};
 
 use reo_joint_values::JointValue;
 use reo_refute_support::LiveAt;
@@ -80,4 +82,31 @@ pub(crate) fn clear(table: &mut List<LiveAt>, joint: usize, value: JointValue)
     ensures gone { family_of table.new ≡ without (family_of table.old) joint value }
 {
     clear_at(table.at_mut(joint), value);
+}
+
+/// A value of a joint comes back.
+fn bring_back_at(live: &mut LiveAt, value: JointValue)
+    requires { (n : ℕ) → value ≡ Flow n → n < length live.old.flows }
+    ensures flags { length live.new.flows ≡ length live.old.flows }
+    ensures back { (w : Standing) → has live.new w ≡ (has live.old w || value_eq w value) }
+{
+    match value {
+        JointValue::Flow(number) => *live.flows.at_mut(number as usize) = true,
+        JointValue::RG => live.rg = true,
+        JointValue::GR => live.gr = true,
+        JointValue::GG => live.gg = true,
+        JointValue::Jam => live.jam = true,
+    }
+}
+
+/// A value comes back.
+pub(crate) fn bring_back(table: &mut List<LiveAt>, joint: usize, value: JointValue)
+    requires joint { joint < length table.old }
+    requires flag { (n : ℕ) → value ≡ Flow n
+        → n < length (slice_index_or table.old joint none_gone).flows }
+    ensures live { (lists : Lists) → AreLive lists table.old → AreLive lists table.new }
+    ensures back { family_of table.new ≡ with_back (family_of table.old)
+        (record { joint = joint; value = value }) }
+{
+    bring_back_at(table.at_mut(joint), value);
 }

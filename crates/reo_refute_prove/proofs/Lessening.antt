@@ -47,28 +47,28 @@ module _ (net : Net) (lists : Lists) where
 
   module _ (allowed : ℕ → ℕ → Type 0) (live after : Live) where
     pub drop_leads : (j : ℕ) (v : JointValue) (side : ℕ) → LeadsOn net lists allowed (family_of live.table) (Drop j v side)
-        → family_of after.table ≡ without (family_of live.table) j v → after.splits ≡ live.splits → LeadsTo net lists allowed (open_in live) (open_in after) (Drop j v side)
+        → family_of after.table ≡ without (family_of live.table) j v → still_open after ≡ still_open live → LeadsTo net lists allowed (open_in live) (open_in after) (Drop j v side)
     drop_leads j v side leads gone rest =
-        let same : without (family_of live.table) j v ∷ still_open live.splits ≡ open_in after =
-        ap (λ (f : Family). f ∷ still_open live.splits) (sym gone) ∙ ap (λ s. family_of after.table ∷ still_open s) (sym rest) in
+        let same : without (family_of live.table) j v ∷ still_open live ≡ open_in after =
+        ap (λ (f : Family). f ∷ still_open live) (sym gone) ∙ ap (λ (o : List Family). family_of after.table ∷ o) (sym rest) in
         subst (λ (o : List Family). LeadsTo net lists allowed (open_in live) o (Drop j v side)) same (record {
-          step = drop (family_of live.table) (still_open live.splits) j v side leads.0;
-          less = first_less (without (family_of live.table) j v) (family_of live.table) (still_open live.splits) (drops_lessen net lists (family_of live.table) j v leads.0.in_range leads.1);
+          step = drop (family_of live.table) (still_open live) j v side leads.0;
+          less = first_less (without (family_of live.table) j v) (family_of live.table) (still_open live) (drops_lessen net lists (family_of live.table) j v leads.0.in_range leads.1);
         })
 
-    pub close_leads : (j : ℕ) → LeadsOn net lists allowed (family_of live.table) (Empty j) → (more : Bool) → still_open live.splits ≡ cond more (open_in after) []
+    pub close_leads : (j : ℕ) → LeadsOn net lists allowed (family_of live.table) (Empty j) → (more : Bool) → still_open live ≡ cond more (open_in after) []
         → LeadsTo net lists allowed (open_in live) (cond more (open_in after) []) (Empty j)
     close_leads j leads more same =
         subst (λ (o : List Family). LeadsTo net lists allowed (open_in live) o (Empty j)) same (record {
-          step = empty (family_of live.table) (still_open live.splits) j leads;
-          less = rest_less (family_of live.table) (still_open live.splits);
+          step = empty (family_of live.table) (still_open live) j leads;
+          less = rest_less (family_of live.table) (still_open live);
         })
 
-    pub split_leads : (j : ℕ) → AreFew lists → LeadsOn net lists allowed (family_of live.table) (Split j) → open_in after ≡ branches lists (family_of live.table) j ++ still_open live.splits
+    pub split_leads : (j : ℕ) → AreFew lists → LeadsOn net lists allowed (family_of live.table) (Split j) → open_in after ≡ branches lists (family_of live.table) j ++ still_open live
         → LeadsTo net lists allowed (open_in live) (open_in after) (Split j)
     split_leads j few leads same =
         let f : Family = family_of live.table in
         subst (λ (o : List Family). LeadsTo net lists allowed (open_in live) o (Split j)) (sym same) (record {
-          step = split f (still_open live.splits) j (record { in_range = leads.0; some = λ e. (let none : length (live_at lists f j) ≡ 0 = ap (λ (l : List JointValue). length l) e in omega (arith, none, leads.1.has_first.1)) });
-          less = more_less f (branches lists f j) (still_open live.splits) (splits_lessen net lists f j leads.0 (few_live lists f j few) leads.1);
+          step = split f (still_open live) j (record { in_range = leads.0; some = λ e. (let none : length (live_at lists f j) ≡ 0 = ap (λ (l : List JointValue). length l) e in omega (arith, none, leads.1.has_first.1)) });
+          less = more_less f (branches lists f j) (still_open live) (splits_lessen net lists f j leads.0 (few_live lists f j few) leads.1);
         })

@@ -43,7 +43,7 @@ pub(crate) fn go_on<P: Primitive>(
     let _ = number;
     match line {
         LogLine::Drop(joint, value, _) => {
-            live.clear(lists, joint, value);
+            live.clear(lists, joint, value)?;
             Ok(true)
         }
         LogLine::Split(joint) => {
@@ -51,7 +51,7 @@ pub(crate) fn go_on<P: Primitive>(
             Ok(true)
         }
         LogLine::Empty(_) => {
-            let more = live.close(alloc, lists)?;
+            let more = live.close(lists)?;
             Ok(more)
         }
         LogLine::At(_) => Ok(false),

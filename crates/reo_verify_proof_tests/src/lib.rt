@@ -8,6 +8,8 @@ mod cutting;
 #[cfg(test)]
 mod judging;
 #[cfg(test)]
+mod splits;
+#[cfg(test)]
 mod verdicts;
 #[cfg(test)]
 mod wide;

@@ -12,6 +12,7 @@ loop-number-init g c =
     let net : Net = net_of g.P.Primitive.behaviour c.args.circuit.now in
     record {
       agreeing = c.in_ok-allowed.ensures c.args.turn c.args.given.now;
+      closed = c.in_ok-live.ensures.closed;
       passed = passed_none net c.args.turn c.args.given.now c.args.lists.now 0 c.args.lines.now c.requires.short;
     }
 
@@ -25,6 +26,7 @@ loop-number-preserved g c =
     let net : Net = net_of g.P.Primitive.behaviour c.args.circuit.now in
     record {
       agreeing = c.in-Ok.ensures.agreeing;
+      closed = c.in-Ok.ensures.closed;
       passed = passed_both net c.args.turn c.args.given.now c.args.lists.now 0 c.loop-number.number (c.loop-number.number + 1) c.args.lines.now c.loop-number.lines c.check_place.new.lines c.loop-number.invariant.passed c.in-Ok.ensures.taken;
     }
 

@@ -1,5 +1,6 @@
 use Rattle.reo_net_base.specs.Net.{net_of}
 use Rattle.reo_refute_places.specs.AllowedRows.{AreAgreeing}
+use Rattle.reo_refute_live.specs.Open.{IsClosed}
 use Rattle.reo_refute_check.specs.Judging.{ArePassed}
 use Rattle.reo_refute_check.proofs.parts.check_parts.Given as goal
 
@@ -7,5 +8,6 @@ use Rattle.reo_refute_check.proofs.parts.check_parts.Given as goal
 abbrev pub invariant-loop-number : goal.invariant-loop-number
 invariant-loop-number g l = record {
   agreeing : AreAgreeing (net_of g.P.Primitive.behaviour l.circuit) l.turn l.given l.number l.allowed.agreeing;
+  closed : IsClosed l.lists l.live;
   passed : ArePassed (net_of g.P.Primitive.behaviour l.circuit) l.turn l.given l.lists 0 l.number l.initial.lines l.lines;
 }

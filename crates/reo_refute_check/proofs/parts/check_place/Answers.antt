@@ -11,7 +11,7 @@ returns-clause-taken g c =
     let net : Net = net_of g.P.Primitive.behaviour c.args.circuit.now in
     elim c.if-branch.branch [
       | then-branch+in_ok-check_live w ↦
-          subst (λ (l : Lines). ArePassed net c.args.turn c.args.given.now c.args.lists.now c.args.number (c.args.number + 1) c.args.lines.now l) (sym w.lines-is) w.in_ok-check_live.ensures
+          subst (λ (l : Lines). ArePassed net c.args.turn c.args.given.now c.args.lists.now c.args.number (c.args.number + 1) c.args.lines.now l) (sym w.lines-is) w.in_ok-check_live.ensures.taken
       | else-branch w ↦
           subst (λ (l : Lines). ArePassed net c.args.turn c.args.given.now c.args.lists.now c.args.number (c.args.number + 1) c.args.lines.now l) (sym w.lines-is)
           (passed_dead net c.args.turn c.args.given.now c.args.lists.now c.args.number c.args.lines.now c.requires.short

@@ -17,12 +17,12 @@ returns-then-not-branch-clause-step g c =
     c.in-Some-Drop.joint c.in-Some-Drop.value c.in-Some-Drop.side next
     (λ may. let wrong : false ≡ true = sym c.if-not-branch.true ∙ c.in_ok-may_go-in-Some-Drop.ensures.1 may in cc) c.wrong.result c.wrong.ensures
 
-pub returns-else-not-branch-clause-step : goal.returns-else-not-branch-clause-step
-returns-else-not-branch-clause-step g c =
+pub returns-in_ok-clear-in-Some-Drop-clause-step : goal.returns-in_ok-clear-in-Some-Drop-clause-step
+returns-in_ok-clear-in-Some-Drop-clause-step g c =
     let net : Net = net_of g.P.Primitive.behaviour c.args.circuit.now in
     let next : IsNext c.args.lines.now c.next.new.self (Drop c.in-Some-Drop.joint c.in-Some-Drop.value c.in-Some-Drop.side) = rw c.in-Some-Drop.field-0-is at c.in-Some-Drop.ensures in
     drop_read net c.args.lists.now (IsAllowed net c.args.turn c.args.given.now c.args.number) c.args.live.now c.clear.new.self c.args.lines.now c.next.new.self
-    c.in-Some-Drop.joint c.in-Some-Drop.value c.in-Some-Drop.side next (c.in_ok-may_go-in-Some-Drop.ensures.0 c.if-not-branch.false) c.clear.ensures.gone c.clear.ensures.rest
+    c.in-Some-Drop.joint c.in-Some-Drop.value c.in-Some-Drop.side next (c.in_ok-may_go-in-Some-Drop.ensures.0 c.if-not-branch.false) c.in_ok-clear-in-Some-Drop.ensures.gone c.in_ok-clear-in-Some-Drop.ensures.rest
 
 pub returns-then-joint-joint_count-clause-step : goal.returns-then-joint-joint_count-clause-step
 returns-then-joint-joint_count-clause-step g c =

@@ -10,12 +10,12 @@ use Rattle.reo_refute_prove.specs.Making.{LeadsTo}
 use Rattle.reo_refute_prove.proofs.Lessening.{drop_leads, close_leads, split_leads}
 use Rattle.reo_refute_prove.proofs.going.go_on.Goals as goal
 
-pub returns-in-Drop-clause-leads : goal.returns-in-Drop-clause-leads
-returns-in-Drop-clause-leads g c =
+pub returns-in_ok-clear-in-Drop-clause-leads : goal.returns-in_ok-clear-in-Drop-clause-leads
+returns-in_ok-clear-in-Drop-clause-leads g c =
     let net : Net = net_of g.P.Primitive.behaviour c.args.circuit.now in
     let leads : LeadsOn net c.args.lists.now (IsAllowed net c.args.turn c.args.given.now c.args.number) (family_of c.args.live.now.table) (Drop c.in-Drop.joint c.in-Drop.value c.in-Drop.field-2) = subst (λ (l : LogLine). LeadsOn net c.args.lists.now (IsAllowed net c.args.turn c.args.given.now c.args.number) (family_of c.args.live.now.table) l) c.in-Drop.is c.requires.leads in
     subst (λ (l : LogLine). LeadsTo net c.args.lists.now (IsAllowed net c.args.turn c.args.given.now c.args.number) (open_in c.args.live.now) (open_in c.clear.new.self) l) (sym c.in-Drop.is)
-    (drop_leads net c.args.lists.now (IsAllowed net c.args.turn c.args.given.now c.args.number) c.args.live.now c.clear.new.self c.in-Drop.joint c.in-Drop.value c.in-Drop.field-2 leads c.clear.ensures.gone c.clear.ensures.rest)
+    (drop_leads net c.args.lists.now (IsAllowed net c.args.turn c.args.given.now c.args.number) c.args.live.now c.clear.new.self c.in-Drop.joint c.in-Drop.value c.in-Drop.field-2 leads c.in_ok-clear-in-Drop.ensures.gone c.in_ok-clear-in-Drop.ensures.rest)
 
 pub returns-in_ok-split-in-Split-clause-leads : goal.returns-in_ok-split-in-Split-clause-leads
 returns-in_ok-split-in-Split-clause-leads g c =
