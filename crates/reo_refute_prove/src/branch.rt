@@ -113,8 +113,8 @@ pub(crate) fn put_branch<P: Primitive>(
     let mut near = 0;
     while open {
         open = put_next(
-            alloc, circuit, turn, given, number, lists, tables, allowed, &mut live, &mut near, rows,
-            out,
+            alloc, circuit, turn, given, number, lists, tables, allowed, &mut live, &mut near,
+            rows, out,
         )?;
     }
     Ok(())
