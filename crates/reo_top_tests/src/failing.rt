@@ -1,8 +1,6 @@
 //! Fetches and sinks that fail.
 use crate::checks::is;
-use crate::objects::{
-    GIVE, GIVEN, ONE, PROVED, empty_source, memory_files, memory_sink, words_of,
-};
+use crate::objects::{GIVE, GIVEN, ONE, PROVED, empty_source, memory_files, memory_sink, words_of};
 use reo_io::{MemoryFiles, MemorySink};
 use reo_top::reo;
 use reo_values::NoMemory;
