@@ -1,0 +1,113 @@
+//! What stands for a round.
+ghost use Rattle.std.specs.Prelude.{◌≡◌, None, IfOk, length, set};
+ghost use Rattle.reo_net_base.specs.Net.{net_of};
+ghost use Rattle.reo_net_ends.specs.Ends.{AreEnds};
+ghost use Rattle.reo_knots.specs.Knots.{AreKnots, knot_count};
+ghost use Rattle.reo_kept_tables.specs.Orders.{AreOrders};
+ghost use Rattle.reo_standing.specs.Filling.{AreBlank, AreHeldAmong, AreStillElse};
+ghost use Rattle.reo_standing.specs.Standing.{HaveFirstItems, Stands};
+
+use crate::filling::fill;
+use reo_knots::Knots;
+use reo_net_base::{Colouring, Primitive};
+use reo_net_circuit::{Circuit, moves};
+use reo_net_ends::Ends;
+use reo_trace::RoundLine;
+use reo_values::{List, NoMemory, Value};
+use std::alloc::Global;
+
+/// What stands for a round: its rows with the items at all joints, the joints that flow, and the line
+/// of the round without its entries.
+#[derive(Drop)]
+pub struct Standing {
+    pub colouring: Colouring,
+    pub flowing: List<usize>,
+    pub line: RoundLine,
+}
+
+/// No item at any of so many joints. `NoMemory` is out of memory.
+pub fn blank(alloc: Global, joints: usize) -> Result<List<Option<Value>>, NoMemory>
+    ensures { IfOk result (AreBlank joints) }
+{
+    let mut items = List::new(alloc);
+    for _ in 0..joints {
+        items.push(None)?;
+    }
+    Ok(items)
+}
+
+/// What stands for the round of a number, whose rows are those of its first colouring: its items are
+/// put into a list that has none. In the parts that are not marked nothing flows. `NoMemory` is out
+/// of memory.
+pub fn stand<P: Primitive>(
+    alloc: Global,
+    circuit: &Circuit<P>,
+    knots: &Knots,
+    ends: &Ends,
+    orders: &List<List<usize>>,
+    rows: List<u32>,
+    marked: &[bool],
+    turn: u64,
+    items: List<Option<Value>>,
+) -> Result<Standing, NoMemory>
+    requires knots { AreKnots (net_of P.behaviour circuit.now) knots.now }
+    requires ends { AreEnds (net_of P.behaviour circuit.now) ends.now }
+    requires orders { AreOrders (net_of P.behaviour circuit.now) knots.now orders.now }
+    requires first { HaveFirstItems (net_of P.behaviour circuit.now) turn rows }
+    requires one_each { length marked.now ≡ knot_count knots.now }
+    requires still { AreStillElse (net_of P.behaviour circuit.now) knots.now rows marked.now }
+    requires items { AreBlank (length circuit.now.joints) items }
+    ensures stands { let net = net_of P.behaviour circuit.now in
+        IfOk result (Stands net circuit.now.ports turn) }
+    ensures rows { IfOk result (λ made. made.colouring.rows ≡ rows) }
+{
+    circuit.known();
+    let mut items = items;
+    let mut flowing = List::new(alloc);
+    fill(
+        alloc,
+        circuit,
+        knots,
+        ends,
+        orders,
+        rows.as_slice(),
+        marked,
+        &mut items,
+        &mut flowing,
+    )?;
+    let colouring = Colouring { rows, items };
+    let moves = moves(alloc, circuit, &colouring)?;
+    let idle = flowing.is_empty();
+    Ok(Standing {
+        colouring,
+        flowing,
+        line: RoundLine {
+            round: turn,
+            idle,
+            moves,
+            entries: List::new(alloc),
+        },
+    })
+}
+
+/// Clears the item at a joint, if there is such a joint.
+fn clear_at(items: &mut List<Option<Value>>, joint: usize)
+    ensures { items.new ≡ set items.old joint None }
+{
+    if joint < items.len() {
+        *items.at_mut(joint) = None;
+    }
+}
+
+/// The list of items again, of which those at the joints that flow are cleared. This takes no
+/// memory.
+pub fn cleared(items: List<Option<Value>>, flowing: &[usize]) -> List<Option<Value>>
+    requires { AreHeldAmong items flowing.now }
+    ensures { AreBlank (length items) result }
+{
+    let mut items = items;
+    for index in 0..flowing.len() {
+        clear_at(&mut items, flowing[index]);
+    }
+    items
+}

@@ -1,0 +1,222 @@
+-- A circuit of which the first so many primitives have gone on.
+use Rattle.std.proofs.Common.{◌≡◌, ◌∙◌, ℕ, zero, suc, ◌+◌, ◌<◌, ◌≤◌, true, List, [], ◌∷◌, ◌++◌, length, map, get_or, set, take, drop, ap, sym, subst, refl, arith, append-nil}
+use Rattle.std.specs.Prelude.{Option, None, cond, ◌==◌}
+use Rattle.std.specs.List.{flat_map, position_or_len}
+use Rattle.std.proofs.lemmas.List.{length-map, length-set, get_or-map, take_all, drop_all}
+use Rattle.std.proofs.lemmas.List.FromFn.{get_or-map-range_with_len, length-map-range_with_len}
+use Rattle.reo_values.specs.declared.value.Value.{Value}
+use Rattle.reo_net_base.specs.declared.colouring.Chosen.{Chosen}
+use Rattle.reo_net_base.specs.declared.joint.End.{End}
+use Rattle.reo_net_base.specs.declared.joint.Joint.{Joint}
+use Rattle.reo_net_base.specs.Behaviour.{Behaviour, nothing}
+use Rattle.reo_net_base.specs.Colouring.{IsColouring}
+use Rattle.reo_net_base.specs.Lawful.{SameShape, IsQuiet}
+use Rattle.reo_net_base.specs.Net.{Net, Wiring, net_of, all_sides, behaviour_at, first_side, is_at, sides_of}
+use Rattle.reo_net_base.specs.Shapes.{SameShapes, SameNetShape}
+use Rattle.reo_net_base.specs.Step.{all_chosen, all_taken, change_at, chosen_for, mouth_of, settled_list, stepped, taken_for}
+use Rattle.reo_net_base.specs.Wired.{IsWired, IsEnd}
+use Rattle.reo_net_ends.specs.Ends.{AreEnds, joint_at}
+use Rattle.reo_net_circuit.proofs.ReshapeLemmas.{first_same}
+use Rattle.reo_net_circuit.proofs.SettleLemmas.{rest_same, same_at, settled_more}
+use Rattle.reo_net_circuit.proofs.ShapeLemmas.{mouth_same}
+use Rattle.reo_net_circuit.proofs.StepLemmas.{taken_kept}
+use Rattle.reo_stepping.specs.Changes.{HasFlow}
+use Rattle.reo_stepping.specs.Clearing.{ComesNoItem}
+use Rattle.reo_stepping.proofs.QuietLemmas.{quiet_rows, nothing_taken}
+use Rattle.reo_stepping.proofs.StepLemmas.{change_is_set, change_none, set_same}
+
+shape_twice : (a b c : Behaviour) → SameShape a b → SameShape b c → SameShape a c
+shape_twice a b c f g = record {
+  ends = g.ends ∙ f.ends;
+  sides = g.sides ∙ f.sides;
+  side_of = λ end. g.side_of end ∙ f.side_of end;
+  takes_in = λ end. g.takes_in end ∙ f.takes_in end;
+  leads = λ side. g.leads side ∙ f.leads side;
+}
+
+shapes_twice : (xs ys zs : List Behaviour) → SameShapes xs ys → SameShapes ys zs → SameShapes xs zs
+shapes_twice xs ys zs f g = record {
+  count = g.count ∙ f.count;
+  same = λ i lt. let n = f.count in shape_twice (behaviour_at xs i) (behaviour_at ys i) (behaviour_at zs i) (f.same i lt) (g.same i (omega (arith, n, lt)));
+}
+
+-- An item that goes.
+none_at : (xs : List (Option Value)) (m j : ℕ) → get_or xs j None ≡ None → get_or (set xs m None) j None ≡ None
+none_at [] m j h = h
+none_at (x ∷ xs) zero zero h = refl
+none_at (x ∷ xs) zero (suc j) h = h
+none_at (x ∷ xs) (suc m) zero h = h
+none_at (x ∷ xs) (suc m) (suc j) h = none_at xs m j h
+
+some_of : {X : Type 0} → (xs : List X) (i : ℕ) → i < length xs → X
+some_of [] i lt = absurd (omega arith)
+some_of (x ∷ xs) i lt = x
+
+all_is : (bs : List Behaviour) → length (all_sides bs) ≡ first_side bs (length bs)
+all_is bs = ap (λ (xs : List Behaviour). length (flat_map sides_of xs)) (sym (take_all (length bs) bs (omega arith)))
+
+-- Circuits of the same shape have as many sides.
+pub sides_same : (bs ds : List Behaviour) → SameShapes bs ds → length (all_sides ds) ≡ length (all_sides bs)
+sides_same bs ds r = all_is ds ∙ ap (first_side ds) r.count ∙ first_same bs ds r (length bs) ∙ sym (all_is bs)
+
+-- The joints at the ends are those of each circuit of the same shape.
+pub ends_kept : (old new : Net) → new.joints ≡ old.joints → SameShapes old.primitives new.primitives → (table : List (List ℕ)) → AreEnds old table → AreEnds new table
+ends_kept old new joints shapes table are = record {
+  one_list = are.one_list ∙ sym shapes.count;
+  one_each = λ i lt. let i_in : i < length old.primitives = omega (arith, shapes.count) in are.one_each i i_in ∙ sym (shapes.same i i_in).ends;
+  in_range = λ e e_in. subst (λ (js : List Joint). joint_at table e < length js) (sym joints) (are.in_range e (back e e_in));
+  here = λ e d e_in. subst (λ (js : List Joint). is_at e (get_or js (joint_at table e) d) ≡ true) (sym joints) (are.here e d (back e e_in));
+}
+  where
+    back : (e : End) → IsEnd new.primitives e → IsEnd old.primitives e
+    back e e_in =
+        let p_in : e.primitive < length old.primitives = omega (arith, e_in.0, shapes.count) in (
+          p_in,
+          subst (λ (n : ℕ). e.end < n) (shapes.same e.primitive p_in).ends e_in.1,
+        )
+
+no_chosen : Chosen
+no_chosen = record { first = 0; second = 0 }
+
+module _ {P : Type 0} (behaviour : P → Behaviour) where
+  pub net_shape_twice : (a b c : Wiring P) → SameNetShape behaviour a b → SameNetShape behaviour b c → SameNetShape behaviour a c
+  net_shape_twice a b c f g = record {
+    joints = g.joints ∙ f.joints;
+    ports = g.ports ∙ f.ports;
+    primitives = shapes_twice (map behaviour a.primitives) (map behaviour b.primitives) (map behaviour c.primitives) f.primitives g.primitives;
+  }
+
+  -- The rows of a primitive and the joint at its mouth are those of each circuit of the same shape.
+  pub chosen_same : (a b : Wiring P) → SameNetShape behaviour a b → (rows : List ℕ) (i : ℕ) → i < length a.primitives → chosen_for (net_of behaviour b) rows i ≡ chosen_for (net_of behaviour a) rows i
+  chosen_same a b s rows i lt =
+      let first : first_side (map behaviour b.primitives) i ≡ first_side (map behaviour a.primitives) i = first_same (map behaviour a.primitives) (map behaviour b.primitives) s.primitives i in
+      let n = length-map a.primitives behaviour in
+      let sides = (s.primitives.same i (omega (arith, n, lt))).sides in
+      λ t. record { first = get_or rows (first t) 0; second = cond (sides t == 2) (get_or rows (first t + 1) 0) 0 }
+
+  pub mouth_stays : (a b : Wiring P) → SameNetShape behaviour a b → (i : ℕ) → i < length a.primitives → mouth_of (net_of behaviour b) i ≡ mouth_of (net_of behaviour a) i
+  mouth_stays a b s i lt =
+      let n = length-map a.primitives behaviour in
+      let test = mouth_same (behaviour_at (map behaviour a.primitives) i) (behaviour_at (map behaviour b.primitives) i) i (s.primitives.same i (omega (arith, n, lt))) in
+      λ t. position_or_len (test t) (s.joints t)
+
+  module _ (settled : P → Chosen → Option Value → P) (start : Wiring P) (rows : List ℕ) (from : List (Option Value)) where
+    -- The first so many primitives have gone on, and their items are gone.
+    pub record IsFar (n : ℕ) (w : Wiring P) (items : List (Option Value)) : Type 0 where
+      pub shape : SameNetShape behaviour start w
+      pub count : length items ≡ length start.joints
+      pub untaken : (i : ℕ) → n ≤ i → i < length start.primitives → taken_for (net_of behaviour start) items i ≡ taken_for (net_of behaviour start) from i
+      pub unsettled : drop n w.primitives ≡ drop n start.primitives
+      pub whole : take n w.primitives ++ settled_list settled (drop n start.primitives) (drop n (all_chosen (net_of behaviour start) rows)) (drop n (all_taken (net_of behaviour start) from))
+          ≡ settled_list settled start.primitives (all_chosen (net_of behaviour start) rows) (all_taken (net_of behaviour start) from)
+      pub none : ComesNoItem from items
+
+    pub same_count : (w : Wiring P) → SameNetShape behaviour start w → length w.primitives ≡ length start.primitives
+    same_count w s = sym (length-map w.primitives behaviour) ∙ s.primitives.count ∙ length-map start.primitives behaviour
+
+    -- What one primitive takes and by which rows it goes on, in the circuit as it is and as it was.
+    chosen_at : (n : ℕ) (w : Wiring P) (items : List (Option Value)) → n < length start.primitives → IsFar n w items
+        → chosen_for (net_of behaviour w) rows n ≡ get_or (all_chosen (net_of behaviour start) rows) n no_chosen
+    chosen_at n w items lt far =
+        let net : Net = net_of behaviour start in
+        let bs = length-map start.primitives behaviour in
+        chosen_same start w far.shape rows n lt
+        ∙ sym (get_or-map-range_with_len {X = Chosen} (chosen_for net rows) 0 (length net.primitives) n n no_chosen (omega (arith, bs, lt)) (omega arith))
+
+    taken_is : (n : ℕ) (w : Wiring P) (items : List (Option Value)) → n < length start.primitives → IsFar n w items
+        → taken_for (net_of behaviour w) items n ≡ taken_for (net_of behaviour start) from n
+    taken_is n w items lt far = ap (λ (m : ℕ). get_or items m None) (mouth_stays start w far.shape n lt) ∙ far.untaken n (omega arith) lt
+
+    taken_there : (n : ℕ) (w : Wiring P) (items : List (Option Value)) → n < length start.primitives → IsFar n w items
+        → taken_for (net_of behaviour w) items n ≡ get_or (all_taken (net_of behaviour start) from) n None
+    taken_there n w items lt far =
+        let net : Net = net_of behaviour start in
+        let bs = length-map start.primitives behaviour in
+        taken_is n w items lt far
+        ∙ sym (get_or-map-range_with_len {X = Option Value} (taken_for net from) 0 (length net.primitives) n n None (omega (arith, bs, lt)) (omega arith))
+
+    -- None has gone on yet.
+    pub far_none : length from ≡ length start.joints → IsFar 0 start from
+    far_none count = record {
+      shape = record { joints = refl; ports = refl; primitives = record { count = refl; same = λ i lt. record { ends = refl; sides = refl; side_of = λ _. refl; takes_in = λ _. refl; leads = λ _. refl } } };
+      count = count;
+      untaken = λ i le lt. refl;
+      unsettled = refl;
+      whole = refl;
+      none = record { count = refl; none = λ j h. h };
+    }
+
+    -- One more goes on.
+    pub far_more : (n : ℕ) (w next : Wiring P) (items others : List (Option Value)) → n < length start.primitives → IsFar n w items
+        → next ≡ record w { primitives = change_at (λ p. settled p (chosen_for (net_of behaviour w) rows n) (taken_for (net_of behaviour w) items n)) w.primitives n }
+        → SameNetShape behaviour w next → others ≡ set items (mouth_of (net_of behaviour w) n) None → IsFar (n + 1) next others
+    far_more n w next items others lt far is shape rest =
+        let net : Net = net_of behaviour start in
+        let bs = length-map start.primitives behaviour in
+        let d : P = some_of start.primitives n lt in
+        let chosen : List Chosen = all_chosen net rows in
+        let taken : List (Option Value) = all_taken net from in
+        let f : P → P = λ p. settled p (chosen_for (net_of behaviour w) rows n) (taken_for (net_of behaviour w) items n) in
+        let value : f (get_or w.primitives n d) ≡ settled (get_or start.primitives n d) (get_or chosen n no_chosen) (get_or taken n None) =
+        (λ t. settled (same_at w.primitives start.primitives n d far.unsettled t) (chosen_at n w items lt far t) (taken_there n w items lt far t)) in
+        let made : next.primitives ≡ set w.primitives n (settled (get_or start.primitives n d) (get_or chosen n no_chosen) (get_or taken n None)) =
+        ap (λ (v : Wiring P). v.primitives) is ∙ change_is_set f w.primitives n d ∙ ap (set w.primitives n) value in
+        let cleared : others ≡ set items (mouth_of net n) None = rest ∙ ap (λ (m : ℕ). set items m None) (mouth_stays start w far.shape n lt) in
+        let size = same_count w far.shape in
+        record {
+          shape = net_shape_twice start w next far.shape shape;
+          count = ap (λ (xs : List (Option Value)). length xs) cleared ∙ length-set items (mouth_of net n) None ∙ far.count;
+          untaken = λ i le i_in.
+              ap (λ (xs : List (Option Value)). taken_for net xs i) cleared ∙ taken_kept net items n i far.count (omega arith) ∙ far.untaken i (omega arith) i_in;
+          unsettled = ap (drop (n + 1)) made ∙ rest_same w.primitives start.primitives n (settled (get_or start.primitives n d) (get_or chosen n no_chosen) (get_or taken n None)) far.unsettled;
+          whole = ap (λ (ps : List P). take (n + 1) ps ++ settled_list settled (drop (n + 1) start.primitives) (drop (n + 1) chosen) (drop (n + 1) taken)) made
+              ∙ settled_more settled w.primitives start.primitives chosen taken n d no_chosen None (omega (arith, size, lt)) lt
+              (omega (arith, bs, lt, length-map-range_with_len {X = Chosen} (chosen_for net rows) 0 (length net.primitives)))
+              (omega (arith, bs, lt, length-map-range_with_len {X = Option Value} (taken_for net from) 0 (length net.primitives)))
+              ∙ far.whole;
+          none = record {
+            count = ap (λ (xs : List (Option Value)). length xs) cleared ∙ length-set items (mouth_of net n) None ∙ far.none.count;
+            none = λ j h. ap (λ (xs : List (Option Value)). get_or xs j None) cleared ∙ none_at items (mouth_of net n) j (far.none.none j h);
+          };
+        }
+
+    -- All have gone on.
+    pub far_all : (n : ℕ) (w : Wiring P) (items : List (Option Value)) → n ≡ length start.primitives → IsFar n w items → w ≡ record start { primitives = stepped behaviour settled start rows from }
+    far_all n w items last far =
+        let size = same_count w far.shape in
+        let net : Net = net_of behaviour start in
+        let whole : w.primitives ≡ stepped behaviour settled start rows from =
+        ended n last (omega (arith, size, last)) ∙ far.whole in
+        λ t. record { primitives = whole t; ports = far.shape.ports t; joints = far.shape.joints t }
+      where
+        ended : (k : ℕ) → k ≡ length start.primitives → length w.primitives ≤ k
+            → w.primitives ≡ take k w.primitives ++ settled_list settled (drop k start.primitives) (drop k (all_chosen (net_of behaviour start) rows)) (drop k (all_taken (net_of behaviour start) from))
+        ended k at le =
+            let rest : drop k start.primitives ≡ [] = drop_all k start.primitives (omega (arith, at)) in
+            sym (append-nil w.primitives) ∙ ap (λ (ps : List P). ps ++ []) (sym (take_all k w.primitives le))
+            ∙ ap (λ (qs : List P). take k w.primitives ++ settled_list settled qs (drop k (all_chosen (net_of behaviour start) rows)) (drop k (all_taken (net_of behaviour start) from))) (sym rest)
+
+    module _ (quiet : (p : P) (r : Chosen) → IsQuiet (behaviour p) r → settled p r None ≡ p) (wired : IsWired (net_of behaviour start)) (is : IsColouring (net_of behaviour start) rows from) where
+      -- One of which no end flows stays as it is.
+      pub still_stays : (n : ℕ) (w : Wiring P) (items : List (Option Value)) → n < length start.primitives → IsFar n w items → (HasFlow (net_of behaviour start) rows n → ⊥)
+          → change_at (λ p. settled p (chosen_for (net_of behaviour w) rows n) (taken_for (net_of behaviour w) items n)) w.primitives n ≡ w.primitives
+      still_stays n w items lt far still =
+          let net : Net = net_of behaviour start in
+          let bs = length-map start.primitives behaviour in
+          let n_in : n < length net.primitives = omega (arith, bs, lt) in
+          let d : P = some_of start.primitives n lt in
+          let p : P = get_or start.primitives n d in
+          let same : get_or w.primitives n d ≡ p = same_at w.primitives start.primitives n d far.unsettled in
+          let behaves : behaviour_at net.primitives n ≡ behaviour p = get_or-map behaviour start.primitives n d nothing lt in
+          let rests : IsQuiet (behaviour p) (chosen_for net rows n) = subst (λ (b : Behaviour). IsQuiet b (chosen_for net rows n)) behaves (quiet_rows net rows from wired is n n_in still) in
+          let none : taken_for (net_of behaviour w) items n ≡ None = taken_is n w items lt far ∙ nothing_taken net rows from wired is n still in
+          change_none (λ q. settled q (chosen_for (net_of behaviour w) rows n) (taken_for (net_of behaviour w) items n)) w.primitives n d
+          ((λ t. settled (same t) (chosen_same start w far.shape rows n lt t) (none t)) ∙ quiet p (chosen_for net rows n) rests ∙ sym same)
+
+      -- And nothing is taken from it.
+      pub still_takes_none : (n : ℕ) (w : Wiring P) (items : List (Option Value)) → n < length start.primitives → IsFar n w items → (HasFlow (net_of behaviour start) rows n → ⊥)
+          → set items (mouth_of (net_of behaviour w) n) None ≡ items
+      still_takes_none n w items lt far still =
+          let net : Net = net_of behaviour start in
+          let none : taken_for (net_of behaviour w) items n ≡ None = taken_is n w items lt far ∙ nothing_taken net rows from wired is n still in
+          ap (λ (o : Option Value). set items (mouth_of (net_of behaviour w) n) o) (sym none) ∙ set_same items (mouth_of (net_of behaviour w) n) None

@@ -1,0 +1,13 @@
+//! A round of a circuit at the cost of what flows: the primitives of which some end flows go on, and
+//! all others stay.
+#![tactic(auto)]
+
+mod flowing;
+mod marked;
+mod mouths;
+mod one;
+mod standin;
+
+pub use flowing::mark_flowing;
+pub use marked::step_marked;
+pub use standin::Standin;

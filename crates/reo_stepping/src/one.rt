@@ -1,0 +1,69 @@
+//! One primitive goes on.
+ghost use Rattle.std.specs.Prelude.{◌≡◌, ◌+◌, ◌<◌, ◌==◌, cond, length, slice_index};
+ghost use Rattle.reo_net_base.specs.Net.{net_of};
+ghost use Rattle.reo_net_base.specs.Shapes.{SameNetShape};
+ghost use Rattle.reo_net_base.specs.Sides.{side_count};
+ghost use Rattle.reo_net_base.specs.Step.{change_at, chosen_for};
+
+use crate::standin::Standin;
+use reo_net_base::{Chosen, Primitive};
+use reo_net_circuit::Circuit;
+use reo_values::Value;
+
+/// The rows of the one or two sides of a primitive, of which the first has this number.
+fn rows_for<P: Primitive>(primitive: &P, rows: &[u32], first: usize) -> Chosen
+    requires first { first < length rows.now }
+    requires second { (P.behaviour primitive.now).sides ≡ 2 → first + 1 < length rows.now }
+    ensures { result ≡ record {
+      first = slice_index rows.now first;
+      second = cond
+          ((P.behaviour primitive.now).sides == 2) (slice_index rows.now (first + 1)) 0;
+    } }
+{
+    let second = if primitive.sides() == 2 {
+        rows[first + 1] as usize
+    } else {
+        0
+    };
+    Chosen {
+        first: rows[first] as usize,
+        second,
+    }
+}
+
+/// The rows of the one or two sides of the primitive at a place.
+fn chosen_for<P: Primitive>(circuit: &Circuit<P>, rows: &[u32], index: usize) -> Chosen
+    requires index { index < length circuit.now.primitives }
+    requires rows { length rows.now ≡ side_count (net_of P.behaviour circuit.now) }
+    ensures { result ≡ chosen_for (net_of P.behaviour circuit.now) rows.now index }
+{
+    circuit.known();
+    let first = circuit.first_of(index);
+    rows_for(circuit.primitive(index), rows, first)
+}
+
+/// A primitive goes on by the rows of its sides and the item at its mouth. All others stay, and so
+/// does the shape of the circuit.
+pub(crate) fn go_on<P: Standin>(
+    circuit: &mut Circuit<P>,
+    rows: &[u32],
+    index: usize,
+    taken: Option<Value>,
+)
+    requires index { index < length circuit.old.primitives }
+    requires rows { length rows.now ≡ side_count (net_of P.behaviour circuit.old) }
+    ensures circuit { let old = circuit.old in
+        let chosen = chosen_for (net_of P.behaviour old) rows.now index in
+        let primitives = change_at (λ p. P.settled p chosen taken) old.primitives index in
+        circuit.new ≡ record old { primitives = primitives } }
+    ensures shape { SameNetShape P.behaviour circuit.old circuit.new }
+{
+    let chosen = chosen_for(circuit, rows, index);
+    if !circuit.primitive(index).keeps() {
+        return;
+    }
+    let other = circuit.primitive(index).stand_in();
+    let mut primitive = circuit.put(index, other);
+    primitive.settle(chosen, taken);
+    drop(circuit.put(index, primitive));
+}
