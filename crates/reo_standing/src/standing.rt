@@ -16,8 +16,8 @@ use reo_trace::RoundLine;
 use reo_values::{List, NoMemory, Value};
 use std::alloc::Global;
 
-/// What stands for a round: its rows with the items at all joints, the joints that flow, and the line
-/// of the round without its entries.
+/// What stands for a round: its rows with the items at all joints, the joints that flow, and the
+/// line of the round without its entries.
 #[derive(Drop)]
 pub struct Standing {
     pub colouring: Colouring,
@@ -36,9 +36,9 @@ pub fn blank(alloc: Global, joints: usize) -> Result<List<Option<Value>>, NoMemo
     Ok(items)
 }
 
-/// What stands for the round of a number, whose rows are those of its first colouring: its items are
-/// put into a list that has none. In the parts that are not marked nothing flows. `NoMemory` is out
-/// of memory.
+/// What stands for the round of a number, whose rows are those of its first colouring: its items
+/// are put into a list that has none. In the parts that are not marked nothing flows. `NoMemory` is
+/// out of memory.
 pub fn stand<P: Primitive>(
     alloc: Global,
     circuit: &Circuit<P>,
