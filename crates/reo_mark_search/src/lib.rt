@@ -1,0 +1,17 @@
+//! The search of a part by sets of marks alone, where each row lets each item in.
+//!
+//! At each end stands the set of the marks that it may still have. The search takes, at each place of
+//! the key, the least number that is left, and narrows; it never goes back. It makes no tick.
+#![tactic(auto)]
+
+mod found;
+mod narrowing;
+mod noting;
+mod search;
+mod seats;
+mod spots;
+mod taking;
+mod walking;
+
+pub use found::Found;
+pub use search::MarkSearch;

@@ -1,0 +1,17 @@
+//! Sets of the marks that the ends of sides may still have, and their narrowing, side by side.
+#![tactic(auto)]
+
+mod choosing;
+mod classing;
+mod forms;
+mod line;
+mod listed;
+mod marks;
+mod narrowing;
+mod sets;
+mod stars;
+mod tallies;
+
+pub use forms::is_usual;
+pub use marks::Marks;
+pub use sets::Sets;

@@ -1,0 +1,297 @@
+//! Sides with one or two ends, whose rows are listed.
+ghost use Rattle.std.specs.Prelude.{◌≡◌, true, false};
+ghost use Rattle.reo_net_base.specs.Rows.{classes_of};
+ghost use Rattle.reo_net_base.specs.Tables.{rows_of};
+ghost use Rattle.reo_mark_sets.specs.Listed.{used_at, used_pair, fits_one, fits_two, first_fit, are_taken, is_single};
+ghost use Rattle.reo_mark_sets.specs.Marks.{only, are_within};
+
+use crate::marks::Marks;
+use reo_net_base::{Mark, Table};
+
+/// Marks of two ends.
+#[derive(Clone, Copy)]
+pub(crate) struct Pair {
+    pub first: Marks,
+    pub second: Marks,
+}
+
+/// The marks of an end of some rows, and their class.
+#[derive(Clone, Copy)]
+pub(crate) struct OfClass {
+    pub class: usize,
+    pub marks: Marks,
+}
+
+/// The marks of two ends of some rows, and their class.
+#[derive(Clone, Copy)]
+pub(crate) struct PairOfClass {
+    pub class: usize,
+    pub pair: Pair,
+}
+
+/// The marks that the rows with one of some marks have at their one end.
+pub(crate) fn narrowed_one(table: Table, a: Marks) -> Marks
+    ensures { result ≡ used_at (rows_of table) (fits_one a) 0 }
+{
+    match table {
+        Table::Ready | Table::Lossy => Marks {
+            flow: a.flow,
+            given: false,
+            required: a.required,
+        },
+        Table::Resting | Table::Spent => Marks {
+            flow: false,
+            given: a.given,
+            required: false,
+        },
+        Table::Together | Table::OneOfTwo | Table::Filter => a,
+    }
+}
+
+/// The marks that the rows with one of some marks at each of their two ends have there.
+pub(crate) fn narrowed_two(table: Table, a: Marks, b: Marks) -> Pair
+    ensures { result ≡ used_pair (rows_of table) a b }
+{
+    let flow = a.flow && b.flow;
+    let first = a.required && b.given;
+    let second = a.given && b.required;
+    match table {
+        Table::Ready | Table::Resting => Pair {
+            first: Marks::none(),
+            second: Marks::none(),
+        },
+        Table::Together => Pair {
+            first: Marks {
+                flow,
+                given: second,
+                required: first,
+            },
+            second: Marks {
+                flow,
+                given: first,
+                required: second,
+            },
+        },
+        Table::Lossy => Pair {
+            first: Marks {
+                flow: a.flow && (b.flow || b.required),
+                given: false,
+                required: first,
+            },
+            second: Marks {
+                flow,
+                given: first,
+                required: a.flow && b.required,
+            },
+        },
+        Table::OneOfTwo => Pair {
+            first: Marks {
+                flow: a.flow && b.given,
+                given: a.given && b.flow,
+                required: a.required && b.required,
+            },
+            second: Marks {
+                flow: a.given && b.flow,
+                given: a.flow && b.given,
+                required: a.required && b.required,
+            },
+        },
+        Table::Filter => Pair {
+            first: Marks {
+                flow: a.flow && (b.flow || b.given),
+                given: second,
+                required: first,
+            },
+            second: Marks {
+                flow,
+                given: (a.flow || a.required) && b.given,
+                required: second,
+            },
+        },
+        Table::Spent => {
+            let given = a.given && b.given;
+            Pair {
+                first: Marks {
+                    flow: false,
+                    given,
+                    required: false,
+                },
+                second: Marks {
+                    flow: false,
+                    given,
+                    required: false,
+                },
+            }
+        }
+    }
+}
+
+/// Of the rows of one end with one of some marks those of the least class.
+pub(crate) fn classed_one(table: Table, a: Marks) -> OfClass
+    requires { is_single table ≡ true }
+    ensures taken { are_taken result.class (rows_of table) (classes_of (rows_of table)) (fits_one a) (fits_one result.marks) ≡ true }
+    ensures within { are_within result.marks a ≡ true }
+{
+    if matches!(table, Table::Resting) {
+        OfClass { class: 0, marks: a }
+    } else if a.flow {
+        OfClass {
+            class: 0,
+            marks: a.only(Mark::F),
+        }
+    } else {
+        OfClass { class: 1, marks: a }
+    }
+}
+
+/// Marks of two ends, one mark for each.
+fn chosen(a: Marks, first: Mark, b: Marks, second: Mark) -> Pair
+    ensures { result ≡ record { first = only a first; second = only b second } }
+{
+    Pair {
+        first: a.only(first),
+        second: b.only(second),
+    }
+}
+
+/// Of the rows of two ends with one of some marks at each those of the least class.
+pub(crate) fn classed_two(table: Table, a: Marks, b: Marks) -> PairOfClass
+    ensures taken { are_taken result.class (rows_of table) (classes_of (rows_of table)) (fits_two a b) (fits_two result.pair.first result.pair.second) ≡ true }
+    ensures first { are_within result.pair.first a ≡ true }
+    ensures second { are_within result.pair.second b ≡ true }
+{
+    match table {
+        Table::Ready | Table::Resting | Table::Spent => PairOfClass {
+            class: 0,
+            pair: Pair {
+                first: a,
+                second: b,
+            },
+        },
+        Table::Together => if a.flow && b.flow {
+            PairOfClass {
+                class: 0,
+                pair: chosen(a, Mark::F, b, Mark::F),
+            }
+        } else {
+            PairOfClass {
+                class: 1,
+                pair: Pair {
+                    first: a,
+                    second: b,
+                },
+            }
+        },
+        Table::Lossy => if a.flow && b.flow {
+            PairOfClass {
+                class: 0,
+                pair: chosen(a, Mark::F, b, Mark::F),
+            }
+        } else if a.flow && b.required {
+            PairOfClass {
+                class: 1,
+                pair: chosen(a, Mark::F, b, Mark::R),
+            }
+        } else {
+            PairOfClass {
+                class: 2,
+                pair: Pair {
+                    first: a,
+                    second: b,
+                },
+            }
+        },
+        Table::OneOfTwo => if a.flow && b.given {
+            PairOfClass {
+                class: 0,
+                pair: chosen(a, Mark::F, b, Mark::G),
+            }
+        } else if a.given && b.flow {
+            PairOfClass {
+                class: 1,
+                pair: chosen(a, Mark::G, b, Mark::F),
+            }
+        } else {
+            PairOfClass {
+                class: 2,
+                pair: Pair {
+                    first: a,
+                    second: b,
+                },
+            }
+        },
+        Table::Filter => if a.flow && b.flow {
+            PairOfClass {
+                class: 0,
+                pair: chosen(a, Mark::F, b, Mark::F),
+            }
+        } else if a.flow && b.given {
+            PairOfClass {
+                class: 1,
+                pair: chosen(a, Mark::F, b, Mark::G),
+            }
+        } else {
+            PairOfClass {
+                class: 2,
+                pair: Pair {
+                    first: a,
+                    second: b,
+                },
+            }
+        },
+    }
+}
+
+/// The first row of one end with one of some marks, or else the last.
+pub(crate) fn first_one(table: Table, a: Marks) -> usize
+    requires { is_single table ≡ true }
+    ensures { result ≡ first_fit (rows_of table) (fits_one a) }
+{
+    if matches!(table, Table::Resting) || a.flow {
+        0
+    } else {
+        1
+    }
+}
+
+/// The first row of two ends with one of some marks at each, or else the last.
+pub(crate) fn first_two(table: Table, a: Marks, b: Marks) -> usize
+    requires { is_single table ≡ false }
+    ensures { result ≡ first_fit (rows_of table) (fits_two a b) }
+{
+    let flow = a.flow && b.flow;
+    let first = a.required && b.given;
+    match table {
+        Table::Ready | Table::Resting | Table::Spent => 0,
+        Table::Together => if flow {
+            0
+        } else if first {
+            1
+        } else {
+            2
+        },
+        Table::Lossy => if flow {
+            0
+        } else if a.flow && b.required {
+            1
+        } else {
+            2
+        },
+        Table::OneOfTwo => if a.flow && b.given {
+            0
+        } else if a.given && b.flow {
+            1
+        } else {
+            2
+        },
+        Table::Filter => if flow {
+            0
+        } else if a.flow && b.given {
+            1
+        } else if first {
+            2
+        } else {
+            3
+        },
+    }
+}
