@@ -27,7 +27,8 @@ pub record HasFirstRows (net : Net) (inside : ℕ → Bool) (turn : ℕ) (rows :
   pub first : AreFirstRows net inside turn those
   pub same : (s : ℕ) → s < side_count net → inside s ≡ true → slice_index rows s ≡ slice_index those s
 
--- The rows are first on the set, and none jams; or they are first, and nothing does without a jam; or nothing is known.
+-- The rows are first on the set, and none jams; or they are first, and nothing does without a jam;
+-- or nothing is known.
 abbrev pub IsFound : Net → (ℕ → Bool) → ℕ → List ℕ → Found → Type 0
 IsFound net inside turn rows Rows =
     HasFirstRows net inside turn rows × ((k : ℕ) → k < side_count net → inside k ≡ true → jams net rows k ≡ false)

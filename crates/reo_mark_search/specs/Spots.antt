@@ -12,8 +12,8 @@ use Rattle.reo_mark_sets.specs.Standing.{ArePlaces, width_by, is_usual}
 abbrev pub spot_of : List (List ℕ) → End → ℕ
 spot_of spots e = slice_index (slice_index_or spots e.primitive []) e.end
 
--- A list for each primitive, with a place for each of its ends: twice the number of the joint of which it is the giver, or
--- the place behind that of the joint of which it is the taker.
+-- A list for each primitive, with a place for each of its ends: twice the number of the joint of
+-- which it is the giver, or the place behind that of the joint of which it is the taker.
 pub record AreSpots (net : Net) (spots : List (List ℕ)) : Type 0 where
   pub one_list : length spots ≡ length net.primitives
   pub one_each : (i : ℕ) → i < length net.primitives
@@ -34,7 +34,8 @@ pub record AreEndsOf (net : Net) (spots : List (List ℕ)) (i side : ℕ) (form 
   pub each : (o : ℕ) → o < length places → slice_index places o ≡ spot_of spots (end_of i (end_by form side o))
   pub are : ArePlaces (2 * length net.joints) places
 
--- A side of a number, with the form of its table, of which there are as many ends as the table has, and their places.
+-- A side of a number, with the form of its table, of which there are as many ends as the table has,
+-- and their places.
 pub record IsSeat (net : Net) (spots : List (List ℕ)) (k : ℕ) (form : Form) (places : List ℕ) : Type 0 where
   pub primitive : ℕ
   pub side : ℕ

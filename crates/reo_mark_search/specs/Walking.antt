@@ -7,8 +7,8 @@ use Rattle.reo_mark_sets.specs.declared.marks.Marks.{Marks}
 use Rattle.reo_mark_sets.specs.Standing.{AreFewer}
 use Rattle.reo_mark_search.specs.Fitting.{Fits, IsRival}
 
--- Whatever rows have marks that are left are a walk along the places so far; and those that have the same numbers
--- there have marks that are left, too.
+-- Whatever rows have marks that are left are a walk along the places so far; and those that have
+-- the same numbers there have marks that are left, too.
 pub record IsWalked (net : Net) (inside : ℕ → Bool) (ps : List Position) (sets : List Marks) : Type 0 where
   pub walk : (rows : List ℕ) → IsRival net inside rows → Fits net inside sets rows → IsWalk (IsRival net inside) ps rows
   pub remain : (rows others : List ℕ) → IsRival net inside rows → Fits net inside sets rows

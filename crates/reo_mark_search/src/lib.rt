@@ -1,7 +1,7 @@
 //! The search of a part by sets of marks alone, where each row lets each item in.
 //!
-//! At each end stands the set of the marks that it may still have. The search takes, at each place of
-//! the key, the least number that is left, and narrows; it never goes back. It makes no tick.
+//! At each end stands the set of the marks that it may still have. The search takes, at each place
+//! of the key, the least number that is left, and narrows; it never goes back. It makes no tick.
 #![tactic(auto)]
 
 mod found;

@@ -29,8 +29,8 @@ fn reset_all(sets: &mut Sets, places: &[usize])
     }
 }
 
-/// Notes the form of a side, and begins with all marks there. The answer is whether it was done: the
-/// table of the side may be of no form, or some row may not let each item in.
+/// Notes the form of a side, and begins with all marks there. The answer is whether it was done:
+/// the table of the side may be of no form, or some row may not let each item in.
 fn note_at<P: Primitive>(
     circuit: &Circuit<P>,
     spots: &List<List<usize>>,
@@ -71,8 +71,8 @@ fn note_at<P: Primitive>(
     }
 }
 
-/// Notes the forms of the sides of a part, and begins with all marks there. The answer is whether it
-/// was done.
+/// Notes the forms of the sides of a part, and begins with all marks there. The answer is whether
+/// it was done.
 pub(crate) fn note_all<P: Primitive>(
     circuit: &Circuit<P>,
     knots: &Knots,

@@ -20,8 +20,8 @@ use reo_net_ends::Ends;
 use reo_values::{List, NoMemory};
 use std::alloc::Global;
 
-/// What is kept for the searches of a circuit, made once: where the marks of ends stand, the forms of
-/// the sides of the part that is searched, and the marks.
+/// What is kept for the searches of a circuit, made once: where the marks of ends stand, the forms
+/// of the sides of the part that is searched, and the marks.
 #[derive(Drop)]
 pub struct MarkSearch {
     pub(crate) spots: List<List<usize>>,

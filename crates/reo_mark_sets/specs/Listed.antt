@@ -38,8 +38,9 @@ first_fit [] fits = 0
 first_fit (row ∷ []) fits = 0
 first_fit (row ∷ (next ∷ rows)) fits = cond (fits row) 0 (suc (first_fit (next ∷ rows) fits))
 
--- A row with a number, which passes the old test and the new one or not: the number is at least the least one if the row
--- passed before, it is the least one if it passes now, and a row with the least one passes still.
+-- A row with a number, which passes the old test and the new one or not: the number is at least the
+-- least one if the row passed before, it is the least one if it passes now, and a row with the
+-- least one passes still.
 abbrev pub is_taken : ℕ → ℕ → Bool → Bool → Bool
 is_taken least number old new =
     (not old || nat_le least number) && (not new || (number == least)) && (not (old && (number == least)) || new)

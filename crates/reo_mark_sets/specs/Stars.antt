@@ -11,7 +11,8 @@ use Rattle.reo_mark_sets.specs.Marks.{has, marks_at, open_at}
 use Rattle.reo_mark_sets.specs.Tallies.{HoldsOften}
 use Rattle.reo_mark_sets.specs.Standing.{AreElsewhere}
 
--- By a row one end alone is apart, or none is: then all ends but the center give reasons, or none does.
+-- By a row one end alone is apart, or none is: then all ends but the center give reasons, or none
+-- does.
 pub data Kind : Type 0 where
   apart : ℕ → Kind
   rest : Kind
@@ -60,7 +61,8 @@ pub record KindWorks (star : Star) (center from to : ℕ) (places : List ℕ) (s
   pub is_kind : IsKind from to kind
   pub each : (o : ℕ) → o < length places → has (open_at sets (slice_index places o)) (kind_mark star center kind o) ≡ true
 
--- The ends that may be apart: none; one alone; or each that can have the mark, of which there are two.
+-- The ends that may be apart: none; one alone; or each that can have the mark, of which there are
+-- two.
 abbrev pub AreAparts : Star → ℕ → ℕ → ℕ → List ℕ → List Marks → Tally → Type 0
 AreAparts star center from to places sets Nowhere = (x : ℕ) → KindWorks star center from to places sets (apart x) → ⊥
 AreAparts star center from to places sets (Once i) =

@@ -11,8 +11,8 @@ use std::marker::Model;
 /// The marks that the two ends of each joint may still have: those of its giver at the place twice
 /// the number of the joint, and those of its taker at the place behind it.
 ///
-/// Contracts see the marks by their places. The sides whose ends met fewer marks than before wait to
-/// be narrowed.
+/// Contracts see the marks by their places. The sides whose ends met fewer marks than before wait
+/// to be narrowed.
 #[derive(Drop)]
 pub struct Sets {
     marks: List<Marks>,
