@@ -1,0 +1,3 @@
+pub mod Waiting
+pub mod Moving
+pub mod Repeats
