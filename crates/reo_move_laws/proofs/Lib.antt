@@ -1,0 +1,4 @@
+pub mod Lists
+pub mod Joints
+pub mod Flows
+pub mod Offers
