@@ -32,3 +32,4 @@ pub use status::{
     WRITE_FAULT,
 };
 pub use stop::Stop;
+pub use texts::circuit_of;
