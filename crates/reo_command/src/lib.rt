@@ -32,4 +32,3 @@ pub use status::{
     WRITE_FAULT,
 };
 pub use stop::Stop;
-pub use texts::circuit_of;

@@ -108,7 +108,7 @@ fn circuit_stop(alloc: Global, fault: &FlatFault) -> Stop
 }
 
 /// The flat circuit of the program that a text says, or what stops the command.
-pub fn circuit_of(alloc: Global, text: &[u8]) -> Result<Flat, Stop>
+pub(crate) fn circuit_of(alloc: Global, text: &[u8]) -> Result<Flat, Stop>
     requires few { length text.now < 2 ^ 32 }
     ensures read { IsTextRead (λ bytes flat. IsCircuitText bytes (circuit_in flat)) CircuitStops
         text.now result }
