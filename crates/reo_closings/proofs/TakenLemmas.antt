@@ -6,7 +6,7 @@ use Rattle.std.proofs.lemmas.List.{append-nil, append_assoc}
 use Rattle.reo_io.specs.Causes.{Rose}
 use Rattle.reo_io.specs.Sources.{Takes}
 use Rattle.reo_io.specs.declared.source.SourceFault.{SourceFault}
-use Rattle.reo_closings.specs.Sources.{SourceState, SourceChange, Events, AreTaken, AreTakenSoFar}
+use Rattle.reo_closings.specs.Sources.{SourceState, SourceChange, Events, AreTaken, AreTakenSoFar, IsTake}
 
 -- What a source told and tells.
 abbrev Left : Option (List ℕ) → Option (List ℕ) → List ℕ → Type 0
@@ -34,18 +34,20 @@ some_end : (left : List ℕ) (mid now : Option (List ℕ)) (room : List ℕ) →
 some_end left mid now room mid_is takes = (subst (λ (o : Option (List ℕ)). Takes {E = SourceFault} o now room (Ok 0)) mid_is takes).3 refl
 
 -- A source after a take, by what it told before.
-pub taken_more : (old mid new : SourceState) (bytes room : List ℕ) (count : ℕ) → AreTakenSoFar old mid bytes → Takes {E = SourceFault} mid.told new.told room (Ok count) → mid.faults ≤ new.faults
+pub taken_more : (old mid new : SourceState) (bytes room : List ℕ) (count : ℕ) → AreTakenSoFar old mid bytes → IsTake {E = SourceFault} mid new room (Ok count) → mid.faults ≤ new.faults
     → AreTakenSoFar old new (bytes ++ take count room)
 taken_more old mid new bytes room count h takes more = let was = h.later in record {
   later = omega (arith, was, more);
-  told = left_more old.told mid.told new.told bytes room count h.told takes;
+  given = takes.1 ∙ (ap (λ (g : List ℕ). g ++ take count room) h.given ∙ append_assoc old.given bytes (take count room));
+  told = left_more old.told mid.told new.told bytes room count h.told takes.0;
 }
 
-pub taken_same : (fault : SourceFault) (old mid new : SourceState) (bytes room : List ℕ) → AreTakenSoFar old mid bytes → Takes {E = SourceFault} mid.told new.told room (Err fault) → mid.faults ≤ new.faults
+pub taken_same : (fault : SourceFault) (old mid new : SourceState) (bytes room : List ℕ) → AreTakenSoFar old mid bytes → IsTake {E = SourceFault} mid new room (Err fault) → mid.faults ≤ new.faults
     → AreTakenSoFar old new bytes
 taken_same fault old mid new bytes room h takes more = let was = h.later in record {
   later = omega (arith, was, more);
-  told = left_same fault old.told mid.told new.told bytes room h.told takes;
+  given = takes.1 ∙ h.given;
+  told = left_same fault old.told mid.told new.told bytes room h.told takes.0;
 }
 
 -- All bytes that a source had, or those that were taken.
@@ -73,6 +75,7 @@ whole_taken old new bytes h = let found = rest_of old.told new.told bytes h.told
   front = found.1;
   fault = λ e. no_fault e;
   later = h.later;
+  given = h.given;
   told = whole_told old.told new.told bytes h.told;
 }
 
@@ -89,6 +92,7 @@ missed_taken old new bytes h rose = record {
   front = sym (append-nil bytes);
   fault = λ e. (refl, rose);
   later = h.later;
+  given = h.given;
   told = missed_told old.told new.told bytes h.told;
 }
 
@@ -101,7 +105,7 @@ ended_told (Some all) mid now bytes room h takes =
     let more = some_more all bytes room h.0 mid now 0 h.1 h.2 takes in
     (more.0, more.1 ∙ ap (λ (l : List ℕ). l ++ more.0) (append-nil bytes), more.2, λ e. sym is)
 
-pub ended_taken : (old mid new : SourceState) (bytes room : List ℕ) → AreTakenSoFar old mid bytes → Takes {E = SourceFault} mid.told new.told room (Ok 0) → mid.faults ≤ new.faults
+pub ended_taken : (old mid new : SourceState) (bytes room : List ℕ) → AreTakenSoFar old mid bytes → IsTake {E = SourceFault} mid new room (Ok 0) → mid.faults ≤ new.faults
     → AreTaken (record { bytes = bytes; failed = false }) (record { old = old; new = new })
 ended_taken old mid new bytes room h takes more = let was = h.later in record {
   taken = bytes;
@@ -109,5 +113,6 @@ ended_taken old mid new bytes room h takes more = let was = h.later in record {
   front = sym (append-nil bytes);
   fault = λ e. no_fault e;
   later = omega (arith, was, more);
-  told = ended_told old.told mid.told new.told bytes room h.told takes;
+  given = takes.1 ∙ (append-nil mid.given ∙ h.given);
+  told = ended_told old.told mid.told new.told bytes room h.told takes.0;
 }

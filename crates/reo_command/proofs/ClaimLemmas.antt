@@ -13,8 +13,8 @@ use Rattle.reo_command.specs.declared.role.Role.TheVariants.{Trace, Proof}
 use Rattle.reo_command.specs.declared.stop.Stop.{Stop}
 use Rattle.reo_command.specs.declared.stop.Stop.TheVariants.{Missed, TooLong, Refused, NoMemory}
 use Rattle.reo_command.specs.Claims.{Claimed, ReadsBehind, StopsBehind, TraceStops, ReadsClaim, StopsVerify, IsProofText, NoTextStops, ReadsProof, StopsProof}
-use Rattle.reo_command.specs.Fetched.{Content, gone, long, text, unknown, has_gone, AreFetched, answer_of, IsFetchStop}
-use Rattle.reo_command.specs.Readings.{FlatCircuit, IsCircuitText, ReadsFile, StopsFile, Runnable, ReadsRun, StopsRun, AreShort, IsReadAs}
+use Rattle.reo_command.specs.Fetched.{Content, gone, long, text, unknown, has_gone, AreFetched, answer_of, IsFetchStop, AreShort}
+use Rattle.reo_command.specs.Readings.{FlatCircuit, IsCircuitText, ReadsFile, StopsFile, Runnable, ReadsRun, StopsRun, IsReadAs}
 use Rattle.reo_command.specs.ReadSteps.{IsProofRead}
 use Rattle.reo_command.specs.Roles.{refused_status}
 use Rattle.reo_command.specs.States.{FilesState, Change}

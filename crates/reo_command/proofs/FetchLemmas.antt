@@ -6,8 +6,8 @@ use Rattle.reo_io.specs.Fetches.{Folder, fetches_after}
 use Rattle.reo_command.specs.declared.role.Role.{Role}
 use Rattle.reo_command.specs.declared.stop.Stop.{Stop}
 use Rattle.reo_command.specs.declared.stop.Stop.TheVariants.{Missed, TooLong, Refused, NoMemory}
-use Rattle.reo_command.specs.Fetched.{Content, gone, long, text, unknown, has_gone, missed, AreTold, AreFetched}
-use Rattle.reo_command.specs.Readings.{ReadsFile, StopsFile, AreShort, IsReadAs, IsReadFrom}
+use Rattle.reo_command.specs.Fetched.{Content, gone, long, text, unknown, has_gone, missed, texts_given, AreTold, AreFetched, AreShort}
+use Rattle.reo_command.specs.Readings.{ReadsFile, StopsFile, IsReadAs, IsReadFrom}
 use Rattle.reo_command.specs.ReadSteps.{IsTextRead}
 use Rattle.reo_command.specs.States.{FilesState, Change}
 use Rattle.reo_command.proofs.ReadLemmas.{stop_read}
@@ -46,6 +46,15 @@ missed_more (n ∷ ns) m (long ∷ cs) few = missed_more ns m cs (omega (arith, 
 missed_more (n ∷ ns) m (text bytes ∷ cs) few = missed_more ns m cs (omega (arith, few))
 missed_more (n ∷ ns) m (unknown ∷ cs) few = missed_more ns m cs (omega (arith, few))
 
+given_more : (names : List (List ℕ)) (m : List ℕ) (answers : List Content) → length answers ≤ length names → texts_given (names ++ m ∷ []) answers ≡ texts_given names answers
+given_more [] m [] few = refl
+given_more (n ∷ ns) m [] few = refl
+given_more [] m (c ∷ cs) few = absurd (omega (arith, few))
+given_more (n ∷ ns) m (gone ∷ cs) few = given_more ns m cs (omega (arith, few))
+given_more (n ∷ ns) m (long ∷ cs) few = given_more ns m cs (omega (arith, few))
+given_more (n ∷ ns) m (text bytes ∷ cs) few = ap (λ (fs : List (List ℕ × List ℕ)). (n, bytes) ∷ fs) (given_more ns m cs (omega (arith, few)))
+given_more (n ∷ ns) m (unknown ∷ cs) few = given_more ns m cs (omega (arith, few))
+
 if_told : {X : Type 0} (o : Option X) (A B : X → Type 0) → ((x : X) → A x → B x) → IfSome o A → IfSome o B
 if_told None A B f h = h
 if_told (Some x) A B f h = f x h
@@ -61,6 +70,8 @@ module _ (roles : List Role) (names : List (List ℕ)) (q : Role) (m : List ℕ)
     few = let e : length (names ++ m ∷ []) ≡ length names + length (m ∷ []) = length-append names (m ∷ []) in omega (arith, f.few, e);
     count = f.count;
     failed = f.failed ∙ ap (λ (xs : List (List ℕ)). files.old.failed ++ xs) (sym (missed_more names m answers f.few));
+    short = f.short;
+    given = f.given ∙ ap (λ (fs : List (List ℕ × List ℕ)). files.old.given ++ fs) (sym (given_more names m answers f.few));
     same = f.same;
     told = if_told files.old.told (λ folder. AreTold folder roles names answers) (λ folder. AreTold folder (roles ++ q ∷ []) (names ++ m ∷ []) answers) (λ folder h. told_more folder roles names q m answers h) f.told;
   }
@@ -83,6 +94,15 @@ missed_then (n ∷ ns) m (text bytes ∷ cs) more all = missed_then ns m cs more
 missed_then (n ∷ ns) m (unknown ∷ cs) more all = missed_then ns m cs more (omega (arith, all))
 missed_then [] m (c ∷ cs) more all = absurd (omega (arith, all))
 missed_then (n ∷ ns) m [] more all = absurd (omega (arith, all))
+
+given_then : (names : List (List ℕ)) (m : List ℕ) (answers more : List Content) → length answers ≡ length names → texts_given (names ++ m ∷ []) (answers ++ more) ≡ texts_given names answers ++ texts_given (m ∷ []) more
+given_then [] m [] more all = refl
+given_then (n ∷ ns) m (gone ∷ cs) more all = given_then ns m cs more (omega (arith, all))
+given_then (n ∷ ns) m (long ∷ cs) more all = given_then ns m cs more (omega (arith, all))
+given_then (n ∷ ns) m (text bytes ∷ cs) more all = ap (λ (fs : List (List ℕ × List ℕ)). (n, bytes) ∷ fs) (given_then ns m cs more (omega (arith, all)))
+given_then (n ∷ ns) m (unknown ∷ cs) more all = given_then ns m cs more (omega (arith, all))
+given_then [] m (c ∷ cs) more all = absurd (omega (arith, all))
+given_then (n ∷ ns) m [] more all = absurd (omega (arith, all))
 
 count_then : (answers more : List Content) (k : ℕ) → fetches_after (length more) (fetches_after (length answers) k) ≡ fetches_after (length (answers ++ more)) k
 count_then [] more k = refl
@@ -109,6 +129,9 @@ module _ (roles : List Role) (names : List (List ℕ)) (q : Role) (m : List ℕ)
     count = g.count ∙ ap (fetches_after (length more)) f.count ∙ count_then answers more before.fetches;
     failed = g.failed ∙ ap (λ (xs : List (List ℕ)). xs ++ missed (m ∷ []) more) f.failed ∙ append_assoc before.failed (missed names answers) (missed (m ∷ []) more)
         ∙ ap (λ (xs : List (List ℕ)). before.failed ++ xs) (sym (missed_then names m answers more all));
+    short = short_then answers more f.short g.short;
+    given = g.given ∙ ap (λ (fs : List (List ℕ × List ℕ)). fs ++ texts_given (m ∷ []) more) f.given ∙ append_assoc before.given (texts_given names answers) (texts_given (m ∷ []) more)
+        ∙ ap (λ (fs : List (List ℕ × List ℕ)). before.given ++ fs) (sym (given_then names m answers more all));
     same = g.same ∙ f.same;
     told = if_both before.told (λ folder. AreTold folder roles names answers) (λ folder. AreTold folder (q ∷ []) (m ∷ []) more) (λ folder. AreTold folder (roles ++ q ∷ []) (names ++ m ∷ []) (answers ++ more))
         (λ folder a b. told_then folder roles names q m answers more same all a b) f.told (subst (λ (o : Option Folder). IfSome o (λ folder. AreTold folder (q ∷ []) (m ∷ []) more)) f.same g.told);
@@ -173,6 +196,10 @@ missed_none : (names : List (List ℕ)) → missed names [] ≡ []
 missed_none [] = refl
 missed_none (n ∷ ns) = refl
 
+given_none : (names : List (List ℕ)) → texts_given names [] ≡ []
+given_none [] = refl
+given_none (n ∷ ns) = refl
+
 if_any : {X : Type 0} (o : Option X) (B : X → Type 0) → ((x : X) → B x) → IfSome o B
 if_any None B f = tt
 if_any (Some x) B f = f x
@@ -182,6 +209,8 @@ none_fetched names files same = record {
   few = omega arith;
   count = ap (λ (f : FilesState). f.fetches) same;
   failed = ap (λ (f : FilesState). f.failed) same ∙ sym (append-nil files.old.failed) ∙ ap (λ (ns : List (List ℕ)). files.old.failed ++ ns) (sym (missed_none names));
+  short = tt;
+  given = ap (λ (f : FilesState). f.given) same ∙ sym (append-nil files.old.given) ∙ ap (λ (fs : List (List ℕ × List ℕ)). files.old.given ++ fs) (sym (given_none names));
   same = ap (λ (f : FilesState). f.told) same;
   told = if_any files.old.told (λ folder. AreTold folder [] names []) (λ folder. told_none folder names);
 }

@@ -1,5 +1,5 @@
 -- What the fetches of a command answered.
-use Rattle.std.specs.Prelude.{ℕ, ◌≡◌, ◌++◌, ◌≤◌, nat_le, cond, Bool, true, false, List, [], ◌∷◌, Option, Some, None, Result, Ok, Err, IfSome, length}
+use Rattle.std.specs.Prelude.{ℕ, ◌≡◌, ◌++◌, ◌≤◌, ◌<◌, ◌^◌, nat_le, cond, Bool, true, false, List, [], ◌∷◌, Option, Some, None, Result, Ok, Err, IfSome, length}
 use Rattle.reo_io.specs.Fetches.{Folder, file_of, fetches_after}
 use Rattle.reo_command.specs.declared.role.Role.{Role}
 use Rattle.reo_command.specs.declared.stop.Stop.{Stop}
@@ -42,6 +42,15 @@ missed (n ∷ ns) (long ∷ cs) = missed ns cs
 missed (n ∷ ns) (text bytes ∷ cs) = missed ns cs
 missed (n ∷ ns) (unknown ∷ cs) = missed ns cs
 
+-- The names and bytes of the files that were given whole.
+abbrev pub texts_given : List (List ℕ) → List Content → List (List ℕ × List ℕ)
+texts_given [] cs = []
+texts_given (n ∷ ns) [] = []
+texts_given (n ∷ ns) (gone ∷ cs) = texts_given ns cs
+texts_given (n ∷ ns) (long ∷ cs) = texts_given ns cs
+texts_given (n ∷ ns) (text bytes ∷ cs) = (n, bytes) ∷ texts_given ns cs
+texts_given (n ∷ ns) (unknown ∷ cs) = texts_given ns cs
+
 -- Some file cannot be had.
 abbrev pub has_gone : List Content → Bool
 has_gone [] = false
@@ -50,12 +59,26 @@ has_gone (long ∷ cs) = has_gone cs
 has_gone (text bytes ∷ cs) = has_gone cs
 has_gone (unknown ∷ cs) = has_gone cs
 
+-- Texts that were fetched have fewer than 2^63 bytes.
+abbrev pub IsShort : Content → Type 0
+IsShort gone = Unit {0}
+IsShort long = Unit {0}
+IsShort (text bytes) = length bytes < 2 ^ 63
+IsShort unknown = Unit {0}
+
+abbrev pub AreShort : List Content → Type 0
+AreShort [] = Unit {0}
+AreShort (c ∷ cs) = IsShort c × AreShort cs
+
 -- The first files of these roles and names were fetched, in order, with these answers: as many fetches were made as there
--- are answers, the names of those that failed were noted, and the files tell what they told.
+-- are answers, the names of those that failed were noted, the texts among the answers are what the fetches gave, and the files
+-- tell what they told. No text is long.
 pub record AreFetched (roles : List Role) (names : List (List ℕ)) (answers : List Content) (files : Change FilesState) : Type 0 where
   pub few : length answers ≤ length names
   pub count : files.new.fetches ≡ fetches_after (length answers) files.old.fetches
   pub failed : files.new.failed ≡ files.old.failed ++ missed names answers
+  pub given : files.new.given ≡ files.old.given ++ texts_given names answers
+  pub short : AreShort answers
   pub same : files.new.told ≡ files.old.told
   pub told : IfSome files.old.told (λ folder. AreTold folder roles names answers)
 

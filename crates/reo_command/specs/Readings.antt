@@ -1,5 +1,5 @@
 -- What commands read in their files: circuits and scripts that are accepted, and what stops a command.
-use Rattle.std.specs.Prelude.{ℕ, ◌≡◌, ◌⊎◌, ◌<◌, ◌^◌, false, List, [], ◌∷◌, Result, Ok, Err, length}
+use Rattle.std.specs.Prelude.{ℕ, ◌≡◌, ◌⊎◌, false, List, [], ◌∷◌, Result, Ok, Err}
 use Rattle.reo_net_base.specs.declared.port.Port.{Port}
 use Rattle.reo_net_base.specs.Net.{Wiring}
 use Rattle.reo_kinds.specs.declared.kind.Kind.{Kind}
@@ -16,7 +16,7 @@ use Rattle.reo_command.specs.declared.role.Role.TheVariants as roles
 use Rattle.reo_command.specs.declared.refusal.Refusal.{Refusal}
 use Rattle.reo_command.specs.declared.stop.Stop.{Stop}
 use Rattle.reo_command.specs.declared.stop.Stop.TheVariants.{Refused, NoMemory}
-use Rattle.reo_command.specs.Fetched.{Content, gone, long, text, unknown, has_gone, AreFetched}
+use Rattle.reo_command.specs.Fetched.{Content, gone, long, text, unknown, has_gone, AreFetched, AreShort}
 use Rattle.reo_command.specs.Refusals.{RefusesProgram, RefusesExpansion, RefusesCircuit, RefusesScript}
 use Rattle.reo_command.specs.States.{FilesState, Change}
 use Rattle.reo_command.specs.Stops.{FileStops}
@@ -109,17 +109,6 @@ abbrev pub IsReadAs : {X : Type 0} → (List Content → X → Type 0) → (List
 IsReadAs Reads Stops answers (Ok x) = Reads answers x
 IsReadAs Reads Stops answers (Err NoMemory) = has_gone answers ≡ false
 IsReadAs Reads Stops answers (Err stop) = Stops answers stop
-
--- Texts that were fetched have fewer than 2^63 bytes.
-abbrev pub IsShort : Content → Type 0
-IsShort gone = Unit {0}
-IsShort long = Unit {0}
-IsShort (text bytes) = length bytes < 2 ^ 63
-IsShort unknown = Unit {0}
-
-abbrev pub AreShort : List Content → Type 0
-AreShort [] = Unit {0}
-AreShort (c ∷ cs) = IsShort c × AreShort cs
 
 -- Files were fetched, and are read so.
 pub record IsReadFrom {X : Type 0} (Reads : List Content → X → Type 0) (Stops : List Content → Stop → Type 0) (roles : List Role) (names : List (List ℕ)) (files : Change FilesState) (result : Result X Stop) : Type 0 where

@@ -1,7 +1,6 @@
 //! Fetching files.
 ghost use Rattle.std.specs.Prelude.{[], ◌∷◌, ◌≤◌, IfOk, length};
-ghost use Rattle.reo_command.specs.Fetched.{AreFetched, answer_of, IsFetchStop};
-ghost use Rattle.reo_command.specs.Readings.{AreShort};
+ghost use Rattle.reo_command.specs.Fetched.{AreFetched, answer_of, IsFetchStop, AreShort};
 ghost use Rattle.reo_command.specs.Roles.{most_bytes};
 ghost use Rattle.reo_command.specs.States.{files_change};
 
@@ -19,7 +18,7 @@ pub(crate) fn fetch<F: Files>(
     files: &mut F,
 ) -> Result<Bytes, Stop>
     ensures fetched { AreFetched (role ∷ []) (name.now ∷ []) (answer_of result ∷ [])
-        (files_change F.told F.failed F.fetches files.old files.new) }
+        (files_change F.told F.failed F.given F.fetches files.old files.new) }
     ensures stop { IsFetchStop role result }
     ensures short { AreShort (answer_of result ∷ []) }
     ensures size { IfOk result (λ bytes. length bytes ≤ most_bytes role) }

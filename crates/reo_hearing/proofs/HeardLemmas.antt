@@ -6,7 +6,6 @@ use Rattle.std.specs.Prelude.{Option, IfOk}
 use Rattle.std.specs.Option.{unwrap_or}
 use Rattle.reo_io.specs.Causes.{Rose}
 use Rattle.reo_io.specs.Sinks.{Appended, TookPart}
-use Rattle.reo_io.specs.Sources.{Takes}
 use Rattle.reo_io.specs.declared.source.SourceFault.{SourceFault}
 use Rattle.reo_io.proofs.Counts.{Rose-since}
 use Rattle.reo_io.proofs.Taken.{Appended-append, TookPart-after, TookPart-more}
@@ -20,7 +19,7 @@ use Rattle.reo_live_base.specs.Live.{Live, beginning}
 use Rattle.reo_live_base.specs.Answers.{answer_text, answers_text}
 use Rattle.reo_live_base.specs.Hearing.{After, Last}
 use Rattle.reo_live_base.specs.Laws.{CutsChangeNothing, HearingExists}
-use Rattle.reo_closings.specs.Sources.{SourceState, Events, AreTaken, most_events}
+use Rattle.reo_closings.specs.Sources.{SourceState, Events, AreTaken, IsTake, most_events}
 use Rattle.reo_closings.specs.Closings.{Closing, over, ends, Closes}
 use Rattle.reo_hearing.specs.declared.heard.Heard.{Heard}
 use Rattle.reo_hearing.specs.declared.heard.Heard.TheVariants as heards
@@ -61,7 +60,7 @@ module _ {P : Type 0} (r : Rules P) (ports : List Port) (budget : ℕ) (cuts : C
       (cuts ports budget (beginning w) s t (take most_events far.bytes) (take (most_events - taken) (take count room)) far.answers y far.after after)
 
   -- One piece more.
-  pub far_more : (t : Live P) → count ≤ length room → Takes {E = SourceFault} at.told new.told room (Ok count) → Wrote ports mid now (ComesTo r ports budget mid now s (take (most_events - taken) (take count room)) t false)
+  pub far_more : (t : Live P) → count ≤ length room → IsTake {E = SourceFault} at new room (Ok count) → Wrote ports mid now (ComesTo r ports budget mid now s (take (most_events - taken) (take count room)) t false)
       → SoFar r ports budget w before now old new t (taken + count)
   far_more t fits takes wrote = record {
     bytes = far.bytes ++ take count room;
@@ -73,10 +72,10 @@ module _ {P : Type 0} (r : Rules P) (ports : List Port) (budget : ℕ) (cuts : C
   }
 
   -- All that the source had, the first of which was heard.
-  pub all_heard : Takes {E = SourceFault} at.told new.told room (Ok count) → AreTaken (all_of old.told (far.bytes ++ take count room)) (record { old = old; new = new })
+  pub all_heard : IsTake {E = SourceFault} at new room (Ok count) → AreTaken (all_of old.told (far.bytes ++ take count room)) (record { old = old; new = new })
   all_heard takes = whole_taken old new (far.bytes ++ take count room) (taken_more old at new far.bytes room count far.taken takes later)
 
-  all_cut : Takes {E = SourceFault} at.told new.told room (Ok count)
+  all_cut : IsTake {E = SourceFault} at new room (Ok count)
       → (more : List ℕ) × (take most_events (unwrap_or old.told (far.bytes ++ take count room)) ≡ take most_events (far.bytes ++ take count room) ++ more)
   all_cut takes =
       let bytes = far.bytes ++ take count room in
@@ -84,7 +83,7 @@ module _ {P : Type 0} (r : Rules P) (ports : List Port) (budget : ℕ) (cuts : C
       (take (most_events - length bytes) found.0, ap (λ (l : List ℕ). take most_events l) found.1 ∙ take_both most_events bytes found.0)
 
   -- A piece with which it is over.
-  pub piece_last : (t : Live P) (stop : Bool) → Takes {E = SourceFault} at.told new.told room (Ok count)
+  pub piece_last : (t : Live P) (stop : Bool) → IsTake {E = SourceFault} at new room (Ok count)
       → WroteLast ports mid now (ComesTo r ports budget mid now s (take (most_events - taken) (take count room)) t true) stop
       → HeardLast r ports budget w before now (all_of old.told (far.bytes ++ take count room)) stop
   piece_last t stop takes wrote =
@@ -104,14 +103,14 @@ module _ {P : Type 0} (r : Rules P) (ports : List Port) (budget : ℕ) (cuts : C
       }
 
   module _ (exists : HearingExists r) (k : KeepsShape r) (order : HasOrder (net_of r.behaviour w)) where
-    goes : (t : Live P) (y : List Answer) → Takes {E = SourceFault} at.told new.told room (Ok count) → After r ports budget s (take (most_events - taken) (take count room)) t y
+    goes : (t : Live P) (y : List Answer) → IsTake {E = SourceFault} at new room (Ok count) → After r ports budget s (take (most_events - taken) (take count room)) t y
         → (closing : Closing) × (z : List Answer) × Closes r ports budget w (all_of old.told (far.bytes ++ take count room)) closing ((far.answers ++ y) ++ z)
     goes t y takes after =
         let cut = all_cut takes in
         goes_on r ports budget cuts w exists k order (all_of old.told (far.bytes ++ take count room)) (take most_events (far.bytes ++ take count room)) cut.0 t (far.answers ++ y) cut.1 (then_heard t y after)
 
     -- A piece on which the sink failed.
-    pub piece_part : Takes {E = SourceFault} at.told new.told room (Ok count) → WrotePart ports mid now (ComesSomewhere r ports budget mid now s (take (most_events - taken) (take count room)))
+    pub piece_part : IsTake {E = SourceFault} at new room (Ok count) → WrotePart ports mid now (ComesSomewhere r ports budget mid now s (take (most_events - taken) (take count room)))
         → HeardPart r ports budget w before now (all_of old.told (far.bytes ++ take count room))
     piece_part takes wrote =
         let found = goes wrote.come.0 wrote.answers takes wrote.come.1 in
@@ -123,7 +122,7 @@ module _ {P : Type 0} (r : Rules P) (ports : List Port) (budget : ℕ) (cuts : C
         }
 
     -- A piece in which memory ran out.
-    pub piece_lines : Takes {E = SourceFault} at.told new.told room (Ok count) → WroteLines ports mid now (ComesSomewhere r ports budget mid now s (take (most_events - taken) (take count room)))
+    pub piece_lines : IsTake {E = SourceFault} at new room (Ok count) → WroteLines ports mid now (ComesSomewhere r ports budget mid now s (take (most_events - taken) (take count room)))
         → HeardLines r ports budget w before now (all_of old.told (far.bytes ++ take count room))
     piece_lines takes wrote =
         let found = goes wrote.come.0 (wrote.lines ++ wrote.rest) takes wrote.come.1 in
@@ -139,7 +138,7 @@ module _ {P : Type 0} (r : Rules P) (ports : List Port) (budget : ℕ) (cuts : C
         }
 
     -- A piece with which hearing ends.
-    module _ (fits : count ≤ length room) (few : taken + count ≤ most_events + 1) (takes : Takes {E = SourceFault} at.told new.told room (Ok count)) where
+    module _ (fits : count ≤ length room) (few : taken + count ≤ most_events + 1) (takes : IsTake {E = SourceFault} at new room (Ok count)) where
       piece_few : (heard : Heard) → IsFew heard (length (far.bytes ++ take count room)) → TookFew (record { old = old; new = new }) heard
       piece_few heard is = record { bytes = far.bytes ++ take count room; taken = taken_more old at new far.bytes room count far.taken takes later; few = is }
 
@@ -160,7 +159,7 @@ module _ {P : Type 0} (r : Rules P) (ports : List Port) (budget : ℕ) (cuts : C
       piece_over t heards.NoMemory h = piece_from heards.NoMemory within (piece_lines takes h)
 
   -- What a piece has come to.
-  pub piece_next : HearingExists r → KeepsShape r → (t : Live P) → count ≤ length room → taken + count ≤ most_events + 1 → Takes {E = SourceFault} at.told new.told room (Ok count)
+  pub piece_next : HearingExists r → KeepsShape r → (t : Live P) → count ≤ length room → taken + count ≤ most_events + 1 → IsTake {E = SourceFault} at new room (Ok count)
       → (result : Result ℕ Heard) → IsPiece r ports budget mid now s (take (most_events - taken) (take count room)) t result → IfOk result (λ n. n ≡ length (take count room))
       → IsNext r ports budget mid now (record { old = at; new = new }) w before old taken t result
   piece_next exists k t fits few takes (Ok n) wrote is =
@@ -214,7 +213,7 @@ module _ {P : Type 0} (r : Rules P) (ports : List Port) (budget : ℕ) (w : Wiri
         }
 
     -- The input ends.
-    module _ (new : SourceState) (room : List ℕ) (later : at.faults ≤ new.faults) (takes : Takes {E = SourceFault} at.told new.told room (Ok 0)) where
+    module _ (new : SourceState) (room : List ℕ) (later : at.faults ≤ new.faults) (takes : IsTake {E = SourceFault} at new room (Ok 0)) where
       close_within : length (far.bytes ++ take 0 room) ≤ most_events + 1
       close_within = let is = count_more far.bytes room 0 taken far.count_is (omega arith) in omega (arith, is, few)
 
@@ -235,7 +234,7 @@ module _ {P : Type 0} (r : Rules P) (ports : List Port) (budget : ℕ) (w : Wiri
       close_over heards.NoMemory h = close_from heards.NoMemory close_within h
 
   -- A take fails.
-  pub missed_over : (fault : SourceFault) (new : SourceState) (room : List ℕ) → taken ≤ most_events → at.faults ≤ new.faults → Rose at.faults new.faults → Takes {E = SourceFault} at.told new.told room (Err fault)
+  pub missed_over : (fault : SourceFault) (new : SourceState) (room : List ℕ) → taken ≤ most_events → at.faults ≤ new.faults → Rose at.faults new.faults → IsTake {E = SourceFault} at new room (Err fault)
       → HeardFrom r ports budget w before mid (record { old = old; new = new }) heards.Missed
   missed_over fault new room few later rose takes =
       let so = taken_same fault old at new far.bytes room far.taken takes later in

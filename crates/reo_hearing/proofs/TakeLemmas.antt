@@ -1,16 +1,16 @@
 -- From one take to the next.
 use Rattle.std.proofs.Common.{inl, inr, ◌≡◌, ℕ, ◌≤◌, ◌<◌, false, List, [], ◌++◌, sym, subst, refl, arith, Result, Ok, Err}
 use Rattle.std.proofs.Math.Nat.{eq-or-lt_of_le}
+use Rattle.std.proofs.lemmas.List.{append-nil}
 use Rattle.std.specs.Prelude.{Option, Some, None, IfSome}
 use Rattle.reo_io.specs.Causes.{HasCause}
-use Rattle.reo_io.specs.Sources.{Takes}
 use Rattle.reo_io.specs.declared.source.SourceFault.{SourceFault}
 use Rattle.reo_io.proofs.Taken.{Appended-none}
 use Rattle.reo_net_base.specs.Net.{Wiring}
 use Rattle.reo_net_base.specs.declared.port.Port.{Port}
 use Rattle.reo_rounds.specs.Rules.{Rules}
 use Rattle.reo_live_base.specs.Live.{Live, beginning}
-use Rattle.reo_closings.specs.Sources.{SourceState, SourceChange, AreTakenSoFar, most_events}
+use Rattle.reo_closings.specs.Sources.{SourceState, SourceChange, AreTakenSoFar, IsTake, most_events}
 use Rattle.reo_closings.proofs.ClosingLemmas.{after_none}
 use Rattle.reo_hearing.specs.declared.heard.Heard.{Heard}
 use Rattle.reo_hearing.specs.declared.heard.Heard.TheVariants as heards
@@ -31,7 +31,7 @@ none_left None = tt
 none_left (Some all) = (all, refl, refl)
 
 none_taken : (old : SourceState) → AreTakenSoFar old old []
-none_taken old = record { later = omega arith; told = none_left old.told }
+none_taken old = record { later = omega arith; given = sym (append-nil old.given); told = none_left old.told }
 
 module _ {P : Type 0} (r : Rules P) (ports : List Port) (budget : ℕ) where
   pub far_none : (w : Wiring P) (before : Option (List ℕ)) (old : SourceState) (s : Live P) → s ≡ beginning w → SoFar r ports budget w before before old old s 0
@@ -53,14 +53,14 @@ module _ {P : Type 0} (r : Rules P) (ports : List Port) (budget : ℕ) where
 
   module _ (mid now : Option (List ℕ)) (at new : SourceState) (s t : Live P) (taken : ℕ) (unspent : s.stand.over ≡ false) (few : taken ≤ most_events) where
     -- The input has ended.
-    pub close_next : (room : List ℕ) (heard : Heard) (count : ℕ) → count ≡ 0 → at.faults ≤ new.faults → Takes {E = SourceFault} at.told new.told room (Ok count) → IsClose r ports budget mid now s heard
+    pub close_next : (room : List ℕ) (heard : Heard) (count : ℕ) → count ≡ 0 → at.faults ≤ new.faults → IsTake {E = SourceFault} at new room (Ok count) → IsClose r ports budget mid now s heard
         → GoesOn r ports budget mid now (record { old = at; new = new }) s taken t (Err heard)
     close_next room heard count none later takes h = λ w before old far order.
-        let end : Takes {E = SourceFault} at.told new.told room (Ok 0) = subst (λ (n : ℕ). Takes {E = SourceFault} at.told new.told room (Ok n)) none takes in
+        let end : IsTake {E = SourceFault} at new room (Ok 0) = subst (λ (n : ℕ). IsTake {E = SourceFault} at new room (Ok n)) none takes in
         close_over r ports budget w before mid old at s taken unspent far now few new room later end heard h
 
     -- A take has failed.
-    pub missed_next : (room : List ℕ) (result : Result ℕ SourceFault) (fault : SourceFault) → result ≡ Err fault → HasCause at.faults new.faults result → Takes {E = SourceFault} at.told new.told room result
+    pub missed_next : (room : List ℕ) (result : Result ℕ SourceFault) (fault : SourceFault) → result ≡ Err fault → HasCause at.faults new.faults result → IsTake {E = SourceFault} at new room result
         → GoesOn r ports budget mid mid (record { old = at; new = new }) s taken t (Err heards.Missed)
     missed_next room (Ok count) fault is cause takes = absurd (cc)
     missed_next room (Err e) fault is cause takes = λ w before old far order. missed_over r ports budget w before mid old at s taken unspent far e new room few cause.later cause.failed takes

@@ -1,6 +1,7 @@
 pub mod Causes
 pub mod FailingCalls
 pub mod Fetches
+pub mod Given
 pub mod Memory
 pub mod Notes
 pub mod Real

@@ -1,6 +1,7 @@
 -- What the objects in memory hold.
 use Rattle.std.specs.Prelude.{ℕ, List, None}
 use Rattle.reo_io.specs.Fetches.{Folder}
+use Rattle.reo_io.specs.Given.{bytes_given, files_given}
 use Rattle.reo_io.specs.declared.failing_calls.FailingCalls.{FailingCalls}
 use Rattle.reo_io.specs.declared.memory_files.MemoryFiles.{MemoryFiles}
 use Rattle.reo_io.specs.declared.memory_sink.MemorySink.{MemorySink}
@@ -14,6 +15,10 @@ files_told files = record { files = files.files; others = None }
 abbrev pub files_failed : MemoryFiles → List (List ℕ)
 files_failed files = files.failed
 
+-- The names and bytes of the files that were given.
+abbrev pub files_given_so : MemoryFiles → List (List ℕ × List ℕ)
+files_given_so files = files_given files.given
+
 -- How many fetches there were.
 abbrev pub files_fetches : MemoryFiles → ℕ
 files_fetches files = files.fetches
@@ -25,6 +30,10 @@ files_calls files = files.calls
 -- The bytes left in a source in memory.
 abbrev pub source_left : MemorySource → List ℕ
 source_left source = source.bytes
+
+-- The bytes that it gave.
+abbrev pub source_given : MemorySource → List ℕ
+source_given source = bytes_given source.given
 
 -- The most bytes that one call takes.
 abbrev pub source_piece : MemorySource → ℕ

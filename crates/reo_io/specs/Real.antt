@@ -1,6 +1,7 @@
 -- What the real files, sources and sinks stand on, and their counts.
 use Rattle.std.specs.Prelude.{ℕ, List, Option, Result, None, Some, Err, IfSome}
 use Rattle.reo_io.specs.Fetches.{Folder, Gives}
+use Rattle.reo_io.specs.Given.{bytes_given, files_given}
 use Rattle.reo_io.specs.declared.disk_files.DiskFiles.{DiskFiles}
 use Rattle.reo_io.specs.declared.files.FetchFault.{FetchFault}
 use Rattle.reo_io.specs.declared.files.FetchFault.TheVariants.{Failed, NoMemory}
@@ -21,6 +22,10 @@ WasRead {File} left limit room result = (file : File) × IfSome (left file) (λ 
 abbrev pub disk_failed : {R File Dir : Type 0} → DiskFiles R File Dir → List (List ℕ)
 disk_failed files = files.failed
 
+-- The names and bytes of the files that were given.
+abbrev pub disk_given : {R File Dir : Type 0} → DiskFiles R File Dir → List (List ℕ × List ℕ)
+disk_given files = files_given files.given
+
 -- How many fetches there were.
 abbrev pub disk_fetches : {R File Dir : Type 0} → DiskFiles R File Dir → ℕ
 disk_fetches files = files.fetches
@@ -33,9 +38,17 @@ reader_of source = source.reader
 abbrev pub reader_faults : {R : Type 0} → StdSource R → ℕ
 reader_faults source = source.faults
 
+-- The bytes that the reader gave.
+abbrev pub reader_given : {R : Type 0} → StdSource R → List ℕ
+reader_given source = bytes_given source.given
+
 -- The writer of a sink.
 abbrev pub writer_of : {W : Type 0} → StdSink W → W
 writer_of sink = sink.writer
+
+-- The bytes that the writer took.
+abbrev pub writer_took : {W : Type 0} → StdSink W → List ℕ
+writer_took sink = bytes_given sink.took
 
 -- How often the writer has failed, or took no byte.
 abbrev pub writer_faults : {W : Type 0} → StdSink W → ℕ

@@ -1,6 +1,7 @@
 -- What the objects that never fail hold.
 use Rattle.std.specs.Prelude.{ℕ, List, [], Option, Some, None, if◌then◌else◌}
 use Rattle.reo_io.specs.Fetches.{Folder}
+use Rattle.reo_io.specs.Given.{bytes_given, files_given}
 use Rattle.reo_io.specs.declared.sure_files.SureFiles.{SureFiles}
 use Rattle.reo_io.specs.declared.sure_sink.SureSink.{SureSink}
 use Rattle.reo_io.specs.declared.sure_source.SureSource.{SureSource}
@@ -9,6 +10,10 @@ use Rattle.reo_io.specs.declared.sure_source.SureSource.{SureSource}
 abbrev pub sure_files : SureFiles → Folder
 sure_files files = record { files = files.files; others = Some [] }
 
+-- The names and bytes of the files that were given.
+abbrev pub sure_files_given : SureFiles → List (List ℕ × List ℕ)
+sure_files_given files = files_given files.given
+
 -- How many fetches there were.
 abbrev pub sure_fetches : SureFiles → ℕ
 sure_fetches files = files.fetches
@@ -16,6 +21,10 @@ sure_fetches files = files.fetches
 -- The bytes left in a source.
 abbrev pub sure_left : SureSource → List ℕ
 sure_left source = source.bytes
+
+-- The bytes that a source gave.
+abbrev pub sure_given : SureSource → List ℕ
+sure_given source = bytes_given source.given
 
 -- The bytes that a sink has kept.
 abbrev pub sure_kept : SureSink → List ℕ

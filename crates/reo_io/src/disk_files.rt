@@ -3,43 +3,49 @@ ghost use Rattle.std.specs.Prelude.{◌≡◌, ◌<◌, ◌^◌, []};
 
 use crate::failed_names::note;
 use crate::reading::read_file;
-use crate::{FetchFault, Files};
+use crate::{FetchFault, Files, GivenFiles};
 use reo_values::{Bytes, List};
 use std::alloc::Global;
 use std::fs::File;
 use std::{io, rt};
 
-/// The files of the system, whose content is not told. A name that is no text, a file that does not
+/// The files of the system, whose content is not told before it is fetched. A name that is no text, a file that does not
 /// exist and one that cannot be opened or read answer `Failed`.
 #[derive(Drop)]
 pub struct DiskFiles<'a, R: rt::Files> {
     system: &'a R,
     failed: List<Bytes>,
     fetches: u64,
+    given: GivenFiles,
 }
 
 impl<'a, R: rt::Files> DiskFiles<'a, R> {
-    ghost use Rattle.reo_io.specs.Real.{disk_failed};
+    ghost use Rattle.reo_io.specs.Real.{disk_failed, disk_given};
 
     /// The files of this system. No fetch has failed yet.
     pub fn new(alloc: Global, system: &'a R) -> Self
-        ensures { disk_failed result ≡ [] }
+        ensures failed { disk_failed result ≡ [] }
+        ensures given { disk_given result ≡ [] }
     {
         DiskFiles {
             system,
             failed: List::new(alloc),
             fetches: 0,
+            given: GivenFiles::new(),
         }
     }
 }
 
 impl<R: rt::Files> Files for DiskFiles<'_, R> {
     ghost use Rattle.reo_io.specs.Fetches.{Fetches, Holds, failed_after, fetches_after};
-    ghost use Rattle.reo_io.specs.Real.{WasRead, disk_failed, disk_fetches, disk_told};
+    ghost use Rattle.reo_io.specs.Given.{given_after};
+    ghost use Rattle.reo_io.specs.Real.{WasRead, disk_failed, disk_fetches, disk_given, disk_told};
 
     ghost told = { disk_told };
 
     ghost failed = { disk_failed };
+
+    ghost given = { disk_given };
 
     ghost fetches = { disk_fetches };
 
@@ -55,6 +61,8 @@ impl<R: rt::Files> Files for DiskFiles<'_, R> {
         ensures size { Holds limit room.new result }
         ensures bytes { Fetches (disk_told self.old) name.now limit room.new result }
         ensures cause { disk_failed self.new ≡ failed_after (disk_failed self.old) name.now result }
+        ensures given { disk_given self.new ≡ given_after
+            (disk_given self.old) name.now room.new result }
         ensures counted { disk_fetches self.new ≡ fetches_after 1 (disk_fetches self.old) }
         ensures told_same { disk_told self.new ≡ disk_told self.old }
         ensures read { WasRead R.File.remaining limit room.new result }
@@ -71,8 +79,12 @@ impl<R: rt::Files> Files for DiskFiles<'_, R> {
             Err(_) => return Err(note(alloc, &mut self.failed, name)),
         };
         match read_file(&mut file, limit, room) {
+            Ok(()) => {
+                self.given = self.given.then(name, room.as_slice());
+                Ok(())
+            }
             Err(FetchFault::Failed) => Err(note(alloc, &mut self.failed, name)),
-            given => given,
+            Err(fault) => Err(fault),
         }
     }
 }

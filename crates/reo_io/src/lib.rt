@@ -5,6 +5,7 @@ mod disk_files;
 mod failed_names;
 mod failing_calls;
 mod files;
+mod given;
 mod kept;
 mod lookup;
 mod memory_files;
@@ -23,6 +24,7 @@ mod sure_source;
 
 pub use disk_files::DiskFiles;
 pub use files::{FetchFault, Files, Named};
+pub use given::{GivenBytes, GivenFiles};
 pub use memory_files::MemoryFiles;
 pub use memory_sink::MemorySink;
 pub use memory_source::MemorySource;

@@ -4,7 +4,7 @@ ghost use Rattle.std.specs.Prelude.{◌≡◌, ◌<◌, ◌+◌, ◌^◌, ◌⊎
 use crate::failed_names::note;
 use crate::failing_calls::FailingCalls;
 use crate::lookup::{find_file, give};
-use crate::{FetchFault, Files, Named};
+use crate::{FetchFault, Files, GivenFiles, Named};
 use reo_values::{Bytes, List, NoMemory};
 use std::alloc::Global;
 
@@ -15,10 +15,11 @@ pub struct MemoryFiles {
     calls: FailingCalls,
     failed: List<Bytes>,
     fetches: u64,
+    given: GivenFiles,
 }
 
 impl MemoryFiles {
-    ghost use Rattle.reo_io.specs.Memory.{files_calls, files_failed, files_told};
+    ghost use Rattle.reo_io.specs.Memory.{files_calls, files_failed, files_given_so, files_told};
     ghost use Rattle.reo_io.specs.FailingCalls.{first_calls};
 
     /// These files; of two with one name the first counts. The fetches that `failing` numbers,
@@ -28,6 +29,7 @@ impl MemoryFiles {
         ensures told { IfOk result
             (λ made. files_told made ≡ record { files = files; others = None }) }
         ensures failed { IfOk result (λ made. files_failed made ≡ []) }
+        ensures given { IfOk result (λ made. files_given_so made ≡ []) }
         ensures calls { IfOk result (λ made. files_calls made ≡ first_calls failing) }
     {
         Ok(MemoryFiles {
@@ -35,6 +37,7 @@ impl MemoryFiles {
             calls: FailingCalls::new(failing),
             failed: List::new(alloc),
             fetches: 0,
+            given: GivenFiles::new(),
         })
     }
 }
@@ -42,12 +45,15 @@ impl MemoryFiles {
 impl Files for MemoryFiles {
     ghost use Rattle.reo_io.specs.FailingCalls.{FailsNext, after_call};
     ghost use Rattle.reo_io.specs.Fetches.{Fetches, Holds, failed_after, fetches_after, file_of};
-    ghost use Rattle.reo_io.specs.Memory.{files_calls, files_failed, files_fetches, files_told};
+    ghost use Rattle.reo_io.specs.Given.{given_after};
+    ghost use Rattle.reo_io.specs.Memory.{files_calls, files_failed, files_fetches, files_given_so, files_told};
     ghost use Rattle.std.specs.Prelude.{Some};
 
     ghost told = { λ files. Some (files_told files) };
 
     ghost failed = { files_failed };
+
+    ghost given = { files_given_so };
 
     ghost fetches = { files_fetches };
 
@@ -64,6 +70,8 @@ impl Files for MemoryFiles {
         ensures bytes { Fetches (Some (files_told self.old)) name.now limit room.new result }
         ensures cause { files_failed self.new ≡ failed_after
             (files_failed self.old) name.now result }
+        ensures given { files_given_so self.new ≡ given_after
+            (files_given_so self.old) name.now room.new result }
         ensures counted { files_fetches self.new ≡ fetches_after 1 (files_fetches self.old) }
         ensures told_same { Some (files_told self.new) ≡ Some (files_told self.old) }
         ensures calls { files_calls self.new ≡ after_call (files_calls self.old) }
@@ -77,7 +85,11 @@ impl Files for MemoryFiles {
             return Err(note(alloc, &mut self.failed, name));
         }
         match find_file(self.files.as_slice(), name) {
-            Some(bytes) => give(bytes.as_slice(), limit, room),
+            Some(bytes) => {
+                give(bytes.as_slice(), limit, room)?;
+                self.given = self.given.then(name, room.as_slice());
+                Ok(())
+            }
             None => Err(note(alloc, &mut self.failed, name)),
         }
     }

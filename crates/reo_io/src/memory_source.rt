@@ -1,11 +1,11 @@
 //! A source in memory, of which chosen calls fail.
-ghost use Rattle.std.specs.Prelude.{◌≡◌, ◌<◌, ◌≤◌, ◌↔◌, length, min, IfOk, IsErr, IsOk, Some};
+ghost use Rattle.std.specs.Prelude.{◌≡◌, ◌<◌, ◌≤◌, ◌↔◌, [], length, min, IfOk, IsErr, IsOk, Some};
 ghost use Rattle.reo_io.specs.Causes.{HasCause, faults_after};
 ghost use Rattle.reo_io.specs.Sources.{Takes};
 
 use crate::failing_calls::FailingCalls;
 use crate::remaining::Remaining;
-use crate::{Source, SourceFault};
+use crate::{GivenBytes, Source, SourceFault};
 use reo_values::{Bytes, List, NoMemory};
 use std::alloc::Global;
 
@@ -16,12 +16,13 @@ pub struct MemorySource {
     piece: usize,
     calls: FailingCalls,
     faults: u64,
+    given: GivenBytes,
     ghost some_bytes: { 1 ≤ piece },
 }
 
 impl MemorySource {
     ghost use Rattle.reo_io.specs.FailingCalls.{first_calls};
-    ghost use Rattle.reo_io.specs.Memory.{source_calls, source_faults, source_left, source_piece};
+    ghost use Rattle.reo_io.specs.Memory.{source_calls, source_faults, source_given, source_left, source_piece};
 
     /// A source of these bytes, of which one call gives at most `piece`. The calls that `failing`
     /// numbers, from 1, fail.
@@ -36,6 +37,7 @@ impl MemorySource {
         ensures left { IfOk result (λ source. source_left source ≡ bytes) }
         ensures piece { IfOk result (λ source. source_piece source ≡ piece) }
         ensures calls { IfOk result (λ source. source_calls source ≡ first_calls failing) }
+        ensures given { IfOk result (λ source. source_given source ≡ []) }
         ensures faults { IfOk result (λ source. source_faults source ≡ 0) }
     {
         Ok(MemorySource {
@@ -43,6 +45,7 @@ impl MemorySource {
             piece,
             calls: FailingCalls::new(failing),
             faults: 0,
+            given: GivenBytes::new(),
         })
     }
 
@@ -56,9 +59,12 @@ impl MemorySource {
 
 impl Source for MemorySource {
     ghost use Rattle.reo_io.specs.FailingCalls.{FailsNext, after_call};
-    ghost use Rattle.reo_io.specs.Memory.{source_calls, source_faults, source_left, source_piece};
+    ghost use Rattle.reo_io.specs.Given.{taken_after};
+    ghost use Rattle.reo_io.specs.Memory.{source_calls, source_faults, source_given, source_left, source_piece};
 
     ghost told = { λ source. Some (source_left source) };
+
+    ghost given = { source_given };
 
     ghost faults = { source_faults };
 
@@ -67,6 +73,8 @@ impl Source for MemorySource {
         ensures bound { IfOk result (λ count. count ≤ length room.new) }
         ensures bytes { Takes (Some (source_left self.old))
             (Some (source_left self.new)) room.new result }
+        ensures given { source_given self.new ≡ taken_after
+            (source_given self.old) room.new result }
         ensures cause { HasCause (source_faults self.old) (source_faults self.new) result }
         ensures count { IfOk result
             (λ count. count ≡ min (length (source_left self.old))
@@ -80,6 +88,8 @@ impl Source for MemorySource {
             self.faults = self.faults.saturating_add(1);
             return Err(SourceFault::Failed);
         }
-        Ok(self.bytes.move_to(room, self.piece))
+        let count = self.bytes.move_to(room, self.piece);
+        self.given = self.given.then(&room[..count]);
+        Ok(count)
     }
 }

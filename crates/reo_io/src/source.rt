@@ -12,8 +12,13 @@ pub enum SourceFault {
 
 /// Gives bytes, one after another.
 pub trait Source {
+    ghost use Rattle.reo_io.specs.Given.{taken_after};
+
     /// The bytes left, where the source tells them.
     ghost told: { Self → Option (List ℕ) };
+
+    /// The bytes that it gave, one after another.
+    ghost given: { Self → List ℕ };
 
     /// How often the source has failed. It never falls, and rises only where a call answers
     /// `Failed`.
@@ -25,5 +30,6 @@ pub trait Source {
         requires { 0 < length room.old }
         ensures bound { IfOk result (λ count. count ≤ length room.new) }
         ensures bytes { Takes (told self.old) (told self.new) room.new result }
+        ensures given { given self.new ≡ taken_after (given self.old) room.new result }
         ensures cause { HasCause (faults self.old) (faults self.new) result };
 }

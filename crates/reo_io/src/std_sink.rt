@@ -1,33 +1,40 @@
 //! The sink over any writer of std.
-ghost use Rattle.std.specs.Prelude.{◌≡◌, ◌<◌, length, None};
+ghost use Rattle.std.specs.Prelude.{◌≡◌, ◌<◌, length, [], Some};
 ghost use Rattle.std.specs.Io.KnownBytes.{Keeps, WriteAppends};
 ghost use Rattle.reo_io.specs.Causes.{HasCause, faults_after};
 ghost use Rattle.reo_io.specs.Sinks.{Puts};
 
-use crate::{Sink, SinkFault};
+use crate::{GivenBytes, Sink, SinkFault};
 use std::io::Write;
 
-/// The sink over a writer, which tells no bytes.
+/// The sink over a writer, which tells the bytes that the writer took.
 #[derive(Drop)]
 pub struct StdSink<W> {
     writer: W,
     faults: u64,
+    took: GivenBytes,
 }
 
 impl<W: Write> StdSink<W> {
-    ghost use Rattle.reo_io.specs.Real.{writer_faults, writer_of};
+    ghost use Rattle.reo_io.specs.Real.{writer_faults, writer_of, writer_took};
 
     /// The sink over this writer, which has not failed yet.
     pub fn new(writer: W) -> Self
         ensures writer { writer_of result ≡ writer }
+        ensures took { writer_took result ≡ [] }
         ensures faults { writer_faults result ≡ 0 }
     {
-        StdSink { writer, faults: 0 }
+        StdSink {
+            writer,
+            faults: 0,
+            took: GivenBytes::new(),
+        }
     }
 
     /// Has the writer give on what it holds back. Where it fails, that counts as a fault.
     pub fn flush(&mut self) -> Result<(), SinkFault>
         ensures faults { writer_faults self.new ≡ faults_after (writer_faults self.old) result }
+        ensures took { writer_took self.new ≡ writer_took self.old }
         ensures bytes { Keeps (W.contents (writer_of self.old)) (W.contents (writer_of self.new)) }
     {
         match self.writer.flush() {
@@ -48,16 +55,17 @@ impl<W: Write> StdSink<W> {
 }
 
 impl<W: Write> Sink for StdSink<W> {
-    ghost use Rattle.reo_io.specs.Real.{writer_faults, writer_of};
+    ghost use Rattle.reo_io.specs.Real.{writer_faults, writer_of, writer_took};
 
-    ghost told = { λ _. None };
+    ghost told = { λ sink. Some (writer_took sink) };
 
     ghost faults = { writer_faults };
 
     /// A write that takes no byte counts as a fault.
     fn put(&mut self, piece: &[u8]) -> Result<usize, SinkFault>
         requires { 0 < length piece.now }
-        ensures bytes { Puts None None piece.now result }
+        ensures bytes { Puts (Some (writer_took self.old))
+            (Some (writer_took self.new)) piece.now result }
         ensures cause { HasCause (writer_faults self.old) (writer_faults self.new) result }
         ensures faults { writer_faults self.new ≡ faults_after (writer_faults self.old) result }
         // the call is one write of the writer, where it says what its writes keep
@@ -65,7 +73,10 @@ impl<W: Write> Sink for StdSink<W> {
             (W.contents (writer_of self.new)) result piece.now }
     {
         match self.writer.write(piece) {
-            Ok(count) if 0 < count => Ok(count),
+            Ok(count) if 0 < count => {
+                self.took = self.took.then(&piece[..count]);
+                Ok(count)
+            }
             _ => {
                 self.faults = self.faults.saturating_add(1);
                 Err(SinkFault::Failed)

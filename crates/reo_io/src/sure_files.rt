@@ -2,7 +2,7 @@
 ghost use Rattle.std.specs.Prelude.{◌≡◌, ◌<◌, ◌+◌, ◌^◌, [], IfOk, IsErrOf, IsOk, Some};
 
 use crate::lookup::{find_file, give};
-use crate::{FetchFault, Files, Named};
+use crate::{FetchFault, Files, GivenFiles, Named};
 use reo_values::{Bytes, List, NoMemory};
 use std::alloc::Global;
 
@@ -11,29 +11,38 @@ use std::alloc::Global;
 pub struct SureFiles {
     files: List<Named>,
     fetches: u64,
+    given: GivenFiles,
 }
 
 impl SureFiles {
-    ghost use Rattle.reo_io.specs.Sure.{sure_files};
+    ghost use Rattle.reo_io.specs.Sure.{sure_files, sure_files_given};
 
     /// These files; of two with one name the first counts.
     pub fn new(_alloc: Global, files: List<Named>) -> Result<Self, NoMemory>
         ensures made { IsOk result }
         ensures told { IfOk result
             (λ made. sure_files made ≡ record { files = files; others = Some [] }) }
+        ensures given { IfOk result (λ made. sure_files_given made ≡ []) }
     {
-        Ok(SureFiles { files, fetches: 0 })
+        Ok(SureFiles {
+            files,
+            fetches: 0,
+            given: GivenFiles::new(),
+        })
     }
 }
 
 impl Files for SureFiles {
     ghost use Rattle.reo_io.specs.Fetches.{Fetches, Holds, failed_after, fetches_after};
-    ghost use Rattle.reo_io.specs.Sure.{sure_fetches, sure_files};
+    ghost use Rattle.reo_io.specs.Given.{given_after};
+    ghost use Rattle.reo_io.specs.Sure.{sure_fetches, sure_files, sure_files_given};
     ghost use Rattle.std.specs.Prelude.{[], Some};
 
     ghost told = { λ files. Some (sure_files files) };
 
     ghost failed = { λ _. [] };
+
+    ghost given = { sure_files_given };
 
     ghost fetches = { sure_fetches };
 
@@ -49,14 +58,17 @@ impl Files for SureFiles {
         ensures size { Holds limit room.new result }
         ensures bytes { Fetches (Some (sure_files self.old)) name.now limit room.new result }
         ensures cause { [] ≡ failed_after [] name.now result }
+        ensures given { sure_files_given self.new ≡ given_after
+            (sure_files_given self.old) name.now room.new result }
         ensures counted { sure_fetches self.new ≡ fetches_after 1 (sure_fetches self.old) }
         ensures told_same { Some (sure_files self.new) ≡ Some (sure_files self.old) }
         ensures sure { IsErrOf result FetchFault.Failed → ⊥ }
     {
         self.fetches = self.fetches.wrapping_add(1);
-        match find_file(self.files.as_slice(), name) {
-            Some(bytes) => give(bytes.as_slice(), limit, room),
-            None => Ok(()),
+        if let Some(bytes) = find_file(self.files.as_slice(), name) {
+            give(bytes.as_slice(), limit, room)?;
         }
+        self.given = self.given.then(name, room.as_slice());
+        Ok(())
     }
 }

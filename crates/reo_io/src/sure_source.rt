@@ -1,10 +1,10 @@
 //! A source in memory that never fails.
-ghost use Rattle.std.specs.Prelude.{◌≡◌, ◌<◌, ◌≤◌, length, min, IfOk, IsOk, Some, Ok};
+ghost use Rattle.std.specs.Prelude.{◌≡◌, ◌<◌, ◌≤◌, [], length, min, IfOk, IsOk, Some, Ok};
 ghost use Rattle.reo_io.specs.Causes.{HasCause};
 ghost use Rattle.reo_io.specs.Sources.{Takes};
 
 use crate::remaining::Remaining;
-use crate::{Source, SourceFault};
+use crate::{GivenBytes, Source, SourceFault};
 use reo_values::{Bytes, NoMemory};
 use std::alloc::Global;
 
@@ -12,18 +12,21 @@ use std::alloc::Global;
 #[derive(Drop)]
 pub struct SureSource {
     bytes: Remaining,
+    given: GivenBytes,
 }
 
 impl SureSource {
-    ghost use Rattle.reo_io.specs.Sure.{sure_left};
+    ghost use Rattle.reo_io.specs.Sure.{sure_given, sure_left};
 
     /// A source of these bytes.
     pub fn new(_alloc: Global, bytes: Bytes) -> Result<Self, NoMemory>
         ensures made { IsOk result }
+        ensures given { IfOk result (λ source. sure_given source ≡ []) }
         ensures left { IfOk result (λ source. sure_left source ≡ bytes) }
     {
         Ok(SureSource {
             bytes: Remaining::new(bytes),
+            given: GivenBytes::new(),
         })
     }
 
@@ -36,9 +39,12 @@ impl SureSource {
 }
 
 impl Source for SureSource {
-    ghost use Rattle.reo_io.specs.Sure.{sure_left};
+    ghost use Rattle.reo_io.specs.Given.{taken_after};
+    ghost use Rattle.reo_io.specs.Sure.{sure_given, sure_left};
 
     ghost told = { λ source. Some (sure_left source) };
+
+    ghost given = { sure_given };
 
     ghost faults = { λ _. 0 };
 
@@ -47,9 +53,13 @@ impl Source for SureSource {
         ensures bound { IfOk result (λ count. count ≤ length room.new) }
         ensures bytes { Takes (Some (sure_left self.old))
             (Some (sure_left self.new)) room.new result }
+        ensures given { sure_given self.new ≡ taken_after
+            (sure_given self.old) room.new result }
         ensures cause { HasCause 0 0 result }
         ensures count { result ≡ Ok (min (length (sure_left self.old)) (length room.old)) }
     {
-        Ok(self.bytes.move_to(room, usize::MAX))
+        let count = self.bytes.move_to(room, usize::MAX);
+        self.given = self.given.then(&room[..count]);
+        Ok(count)
     }
 }

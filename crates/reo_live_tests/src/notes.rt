@@ -1,10 +1,11 @@
 //! A source and a sink that note their calls in one list.
 ghost use Rattle.std.specs.Prelude.{◌≡◌, ◌<◌, ◌≤◌, length, IfOk, None};
 ghost use Rattle.reo_io.specs.Causes.{HasCause};
+ghost use Rattle.reo_io.specs.Given.{bytes_given, taken_after};
 ghost use Rattle.reo_io.specs.Sinks.{Puts};
 ghost use Rattle.reo_io.specs.Sources.{Takes};
 
-use reo_io::{Sink, SinkFault, Source, SourceFault};
+use reo_io::{GivenBytes, Sink, SinkFault, Source, SourceFault};
 use reo_values::Bytes;
 use std::cell::RefCell;
 
@@ -33,6 +34,7 @@ fn first_line(bytes: &[u8]) -> &[u8]
 pub struct NotingSource<'a> {
     left: &'a [u8],
     faults: u64,
+    given: GivenBytes,
     notes: &'a RefCell<Bytes>,
 }
 
@@ -41,6 +43,7 @@ impl<'a> NotingSource<'a> {
         NotingSource {
             left: bytes,
             faults: 0,
+            given: GivenBytes::new(),
             notes,
         }
     }
@@ -49,12 +52,16 @@ impl<'a> NotingSource<'a> {
 impl Source for NotingSource<'_> {
     ghost told = { λ _. None };
 
+    ghost given = { λ source. bytes_given source.given };
+
     ghost faults = { λ source. source.faults };
 
     fn take(&mut self, room: &mut [u8]) -> Result<usize, SourceFault>
         requires { 0 < length room.old }
         ensures bound { IfOk result (λ count. count ≤ length room.new) }
         ensures bytes { Takes None None room.new result }
+        ensures given { bytes_given self.new.given ≡ taken_after
+            (bytes_given self.old.given) room.new result }
         ensures cause { HasCause self.old.faults self.new.faults result }
     {
         note(self.notes, b"take\n");
@@ -66,6 +73,7 @@ impl Source for NotingSource<'_> {
         let (line, left) = self.left.split_at(count);
         room[..count].copy_from_slice(line);
         self.left = left;
+        self.given = self.given.then(&room[..count]);
         Ok(count)
     }
 }

@@ -13,7 +13,7 @@ use Rattle.reo_closings.specs.Sources.{SourceChange, Events}
 use Rattle.reo_command.specs.Commands.{command_of, is_free, roles_of}
 use Rattle.reo_top.specs.Complete.{NothingFailed, IsWhole, Complete, ending_statuses}
 use Rattle.reo_command.specs.Fetched.{Content, has_gone, missed, AreFetched}
-use Rattle.reo_top.specs.Headline.{Accepted, IsTraced, Headline}
+use Rattle.reo_top.specs.Headline.{Accepted, GaveAccepted, IsTraced, Headline}
 use Rattle.reo_command.specs.Limits.{limits_of}
 use Rattle.reo_top.specs.Owed.{owed_of}
 use Rattle.reo_command.specs.Readings.{Runnable}
@@ -55,7 +55,7 @@ module _ (words : List (List ℕ)) (files : Change FilesState) (sink : Change Si
     whole_or_ten : (folder : Folder) (r : Runnable) → files.old.told ≡ Some folder → Accepted words folder r → NothingFailed files sink → code ≢ 10 → IsWhole words r sink code
     whole_or_ten folder r is a nothing other =
         let run = answered_with words files source sink code Run (a.circuit ∷ a.script ∷ []) a.run a.names h in
-        let here = subst (λ (o : Option Folder). IfSome o (λ f. (x : Runnable) → Accepted words f x → (IsFailure code → ⊥) → IsTraced (limits_of words) x sink code)) is headline in
+        let here = subst (λ (o : Option Folder). IfSome o (λ f. (x : Runnable) → Accepted words f x → (IsFailure code → ⊥) → IsTraced (limits_of words) x sink code)) is headline.told in
         whole r (here r a (no_failure h.events (a.circuit ∷ a.script ∷ []) run fair nothing other))
 
     told_as : (o : Option Folder) → files.old.told ≡ o → IfSome o (λ folder. (r : Runnable) → Accepted words folder r → NothingFailed files sink → (code ≡ 10) ⊎ IsWhole words r sink code)
@@ -66,11 +66,26 @@ module _ (words : List (List ℕ)) (files : Change FilesState) (sink : Change Si
       | inr (inr more) ↦ inr (whole_or_ten folder r is a nothing (λ e. omega (arith, e, more)))
     ]
 
+    given_or_ten : (r : Runnable) → GaveAccepted words files r → NothingFailed files sink → code ≢ 10 → IsWhole words r sink code
+    given_or_ten r a nothing other =
+        let run = answered_with words files source sink code Run (a.circuit.0 ∷ a.script.0 ∷ []) a.run a.names h in
+        whole r (headline.given r a (no_failure h.events (a.circuit.0 ∷ a.script.0 ∷ []) run fair nothing other))
+
+    given_as : (r : Runnable) → GaveAccepted words files r → NothingFailed files sink → (code ≡ 10) ⊎ IsWhole words r sink code
+    given_as r a nothing = elim (cases_order code 10) [
+      | inl ten ↦ inl ten
+      | inr (inl less) ↦ inr (given_or_ten r a nothing (λ e. omega (arith, e, less)))
+      | inr (inr more) ↦ inr (given_or_ten r a nothing (λ e. omega (arith, e, more)))
+    ]
+
     -- From what the call has come to.
     pub complete : Complete words files sink code
-    complete = told_as files.old.told refl
+    complete = record { told = told_as files.old.told refl; given = given_as }
 
 -- Of other words it says nothing.
 pub complete_else : (words : List (List ℕ)) (files : Change FilesState) (sink : Change SinkState) (code : ℕ) → (command_of words ≡ Some Run → ⊥) → Complete words files sink code
 complete_else words files sink code other =
-    told_always files.old.told (λ folder. (r : Runnable) → Accepted words folder r → NothingFailed files sink → (code ≡ 10) ⊎ IsWhole words r sink code) (λ folder r a nothing. absurd (other a.run))
+    record {
+      told = told_always files.old.told (λ folder. (r : Runnable) → Accepted words folder r → NothingFailed files sink → (code ≡ 10) ⊎ IsWhole words r sink code) (λ folder r a nothing. absurd (other a.run));
+      given = λ r a nothing. absurd (other a.run);
+    }

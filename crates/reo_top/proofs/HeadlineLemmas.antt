@@ -1,5 +1,5 @@
 -- For an accepted circuit and script the trace of the run was written.
-use Rattle.std.proofs.Common.{◌≡◌, ◌∙◌, inl, inr, ℕ, ◌≤◌, Bool, true, false, cond, List, [], ◌∷◌, length, sym, subst, ap, refl, arith}
+use Rattle.std.proofs.Common.{◌≡◌, ◌∙◌, inl, inr, ℕ, ◌≤◌, ◌<◌, ◌^◌, Bool, true, false, cond, List, [], ◌∷◌, ◌++◌, length, sym, subst, ap, refl, arith}
 use Rattle.std.proofs.lemmas.Bool.{leb-true}
 use Rattle.std.specs.Prelude.{Option, Some, None, IfSome, nat_le}
 use Rattle.reo_net_base.specs.Net.{net_of}
@@ -25,8 +25,8 @@ use Rattle.reo_top_base.specs.Answered.{IsAnswered}
 use Rattle.reo_top_base.specs.Cases.{Cases, IsFailure}
 use Rattle.reo_closings.specs.Sources.{SourceChange}
 use Rattle.reo_command.specs.Commands.{command_of, is_free, roles_of}
-use Rattle.reo_command.specs.Fetched.{Content, gone, long, text, unknown, content_of, AreTold}
-use Rattle.reo_top.specs.Headline.{Accepted, IsTraced, Headline}
+use Rattle.reo_command.specs.Fetched.{Content, gone, long, text, unknown, content_of, texts_given, AreShort, AreTold}
+use Rattle.reo_top.specs.Headline.{Accepted, GaveAccepted, IsTraced, Headline}
 use Rattle.reo_command.specs.Limits.{limits_of}
 use Rattle.reo_top.specs.Owed.{owed_of}
 use Rattle.reo_top_base.specs.Owed.{owed_by}
@@ -41,7 +41,7 @@ use Rattle.reo_top.proofs.TopLemmas.{answered_with, told_always}
 use Rattle.reo_command.proofs.WorkLemmas.{run_reading}
 
 -- A circuit that is accepted is put together well.
-wired : CircuitsAreMade → CircuitNamesArePlain → (circuit : List ℕ) (flat : FlatCircuit) → length circuit ≤ 1048576 → IsCircuitText circuit flat → IsWired (net_of behaviour_of flat.wiring)
+wired : CircuitsAreMade → CircuitNamesArePlain → (circuit : List ℕ) (flat : FlatCircuit) → length circuit < 2 ^ 63 → IsCircuitText circuit flat → IsWired (net_of behaviour_of flat.wiring)
 wired made plain circuit flat few is =
     let parts = made is.program.declarations (plain circuit is.program (omega (arith, few)) is.says) is.accepted.no_break in
     let here : IsWired (net_of_program is.program.declarations) =
@@ -143,29 +143,75 @@ module _ (folder : Folder) (c s : List ℕ) (r : Runnable) (reads : ReadsRun (co
   same_reads (text t ∷ text u ∷ d ∷ cs) told x h = absurd h
 
   well : CircuitsAreMade → CircuitNamesArePlain → IsWired (net_of behaviour_of r.flat.wiring)
-  well made plain = let circuit = circuit_there A B r reads in wired made plain circuit.bytes r.flat (size_of Circuit (file_of folder c) circuit.bytes circuit.is) circuit.reads
+  well made plain = let circuit = circuit_there A B r reads in let few : length circuit.bytes ≤ 1048576 = size_of Circuit (file_of folder c) circuit.bytes circuit.is in wired made plain circuit.bytes r.flat (omega (arith, few)) circuit.reads
 
-  module _ (limits : Limits) (justified : RunsAreJustified kind_rules) (made : CircuitsAreMade) (plain : CircuitNamesArePlain) (sink : Change SinkState) (code : ℕ) (fine : IsFailure code → ⊥) where
-    traced : (answers : List Content) → AreTold folder (Circuit ∷ Script ∷ []) (c ∷ s ∷ []) answers → Cases (owed_by ReadsRun StopsRun (TracesRun limits) answers) sink code → IsTraced limits r sink code
-    traced answers told (inl wrote) = elim wrote.owed [
-      | inl stopped ↦ absurd (fine (inl (stopped.2.1 ∙ only_missed answers told stopped.0 stopped.1)))
-      | inr made_of ↦
-          let here : ReadsRun answers r = same_reads answers told made_of.0 made_of.1 in
-          let trace : TracesRun limits r wrote.bytes code = subst (λ (x : Runnable). TracesRun limits x wrote.bytes code) (run_reading.one answers made_of.0 r made_of.1 here) made_of.2 in
-          record {
-            bytes = wrote.bytes;
-            trace = record {
-              lines = trace.lines;
-              ending = trace.ending;
-              run = justified limits.budget limits.rounds (start_for r) (well made plain) trace.lines trace.ending trace.run;
-              bytes_are = trace.bytes_are;
-              status = trace.status;
-            };
-            adds = wrote.adds;
-          }
-    ]
-    traced answers told (inr (inl broke)) = absurd (fine (inr (inl broke.code_is)))
-    traced answers told (inr (inr ran_out)) = absurd (fine (inr (inr ran_out.code_is)))
+-- The trace is what was written, where nothing but a failure stops the run.
+module _ (limits : Limits) (justified : RunsAreJustified kind_rules) (r : Runnable) (well : IsWired (net_of behaviour_of r.flat.wiring)) (sink : Change SinkState) (code : ℕ) (fine : IsFailure code → ⊥) (answers : List Content)
+    (only : (stop : Stop) → StopsRun answers stop → stop_status stop ≡ 3) (same : (x : Runnable) → ReadsRun answers x → ReadsRun answers r) where
+  traced : Cases (owed_by ReadsRun StopsRun (TracesRun limits) answers) sink code → IsTraced limits r sink code
+  traced (inl wrote) = elim wrote.owed [
+    | inl stopped ↦ absurd (fine (inl (stopped.2.1 ∙ only stopped.0 stopped.1)))
+    | inr made_of ↦
+        let here : ReadsRun answers r = same made_of.0 made_of.1 in
+        let trace : TracesRun limits r wrote.bytes code = subst (λ (x : Runnable). TracesRun limits x wrote.bytes code) (run_reading.one answers made_of.0 r made_of.1 here) made_of.2 in
+        record {
+          bytes = wrote.bytes;
+          trace = record {
+            lines = trace.lines;
+            ending = trace.ending;
+            run = justified limits.budget limits.rounds (start_for r) well trace.lines trace.ending trace.run;
+            bytes_are = trace.bytes_are;
+            status = trace.status;
+          };
+          adds = wrote.adds;
+        }
+  ]
+  traced (inr (inl broke)) = absurd (fine (inr (inl broke.code_is)))
+  traced (inr (inr ran_out)) = absurd (fine (inr (inr ran_out.code_is)))
+
+-- Where the fetches gave two texts, these are their answers.
+same_list : {A : Type 0} (xs ys zs : List A) → xs ++ ys ≡ xs ++ zs → ys ≡ zs
+same_list [] ys zs e = e
+same_list (x ∷ xs) ys zs e = same_list xs ys zs (cc)
+
+at_most_one : (n : List ℕ) (cs : List Content) (p q : List ℕ × List ℕ) → texts_given (n ∷ []) cs ≡ p ∷ q ∷ [] → ⊥
+at_most_one n [] p q e = cc
+at_most_one n (gone ∷ cs) p q e = cc
+at_most_one n (long ∷ cs) p q e = cc
+at_most_one n (text t ∷ cs) p q e = cc
+at_most_one n (unknown ∷ cs) p q e = cc
+
+no_second : (m : List ℕ) (cs : List Content) (x p q : List ℕ × List ℕ) → x ∷ texts_given (m ∷ []) cs ≡ p ∷ q ∷ [] → texts_given (m ∷ []) cs ≡ q ∷ []
+no_second m cs x p q e = cc
+
+first_text : (n t : List ℕ) (rest : List (List ℕ × List ℕ)) (p q : List ℕ × List ℕ) → (n, t) ∷ rest ≡ p ∷ q ∷ [] → t ≡ p.1
+first_text n t rest p q e = ap (λ (x : List ℕ × List ℕ). x.1) (head_same e) where
+  head_same : (n, t) ∷ rest ≡ p ∷ q ∷ [] → (n, t) ≡ p
+  head_same f = cc
+
+one_given : (m u : List ℕ) (q : List ℕ × List ℕ) → (m, u) ∷ [] ≡ q ∷ [] → u ≡ q.1
+one_given m u q e = ap (λ (x : List ℕ × List ℕ). x.1) (head_same e) where
+  head_same : (m, u) ∷ [] ≡ q ∷ [] → (m, u) ≡ q
+  head_same f = cc
+
+none_given : (q : List ℕ × List ℕ) → [] ≡ q ∷ [] → ⊥
+none_given q e = cc
+
+second_is : (m : List ℕ) (cs : List Content) (q : List ℕ × List ℕ) → length cs ≤ 1 → texts_given (m ∷ []) cs ≡ q ∷ [] → cs ≡ text q.1 ∷ []
+second_is m [] q few e = absurd (none_given q e)
+second_is m (gone ∷ cs) q few e = absurd (none_given q e)
+second_is m (long ∷ cs) q few e = absurd (none_given q e)
+second_is m (unknown ∷ cs) q few e = absurd (none_given q e)
+second_is m (text u ∷ []) q few e = ap (λ (t : List ℕ). text t ∷ []) (one_given m u q e)
+second_is m (text u ∷ c ∷ cs) q few e = absurd (omega (arith, few))
+
+both_given : (n m : List ℕ) (answers : List Content) (p q : List ℕ × List ℕ) → length answers ≤ 2 → texts_given (n ∷ m ∷ []) answers ≡ p ∷ q ∷ [] → answers ≡ text p.1 ∷ text q.1 ∷ []
+both_given n m [] p q few e = absurd (cc)
+both_given n m (gone ∷ cs) p q few e = absurd (at_most_one m cs p q e)
+both_given n m (long ∷ cs) p q few e = absurd (at_most_one m cs p q e)
+both_given n m (unknown ∷ cs) p q few e = absurd (at_most_one m cs p q e)
+both_given n m (text t ∷ cs) p q few e =
+    ap (λ (u : List ℕ). text u ∷ cs) (first_text n t (texts_given (m ∷ []) cs) p q e) ∙ ap (λ (ds : List Content). text p.1 ∷ ds) (second_is m cs q (omega (arith, few)) (no_second m cs (n, t) p q e))
 
 -- The headline, from what the call has come to.
 module _ (justified : RunsAreJustified kind_rules) (made : CircuitsAreMade) (plain : CircuitNamesArePlain) (words : List (List ℕ)) (files : Change FilesState) (source : SourceChange) (sink : Change SinkState) (code : ℕ) (h : Answered words files source sink code) where
@@ -175,12 +221,25 @@ module _ (justified : RunsAreJustified kind_rules) (made : CircuitsAreMade) (pla
       let run : IsAnswered (is_free Run) (owed_of Run words h.events) (roles_of Run) (a.circuit ∷ a.script ∷ []) files sink code = answered_with words files source sink code Run (a.circuit ∷ a.script ∷ []) a.run a.names h in
       let told : AreTold folder (Circuit ∷ Script ∷ []) (a.circuit ∷ a.script ∷ []) run.answers =
       subst (λ (o : Option Folder). IfSome o (λ f. AreTold f (Circuit ∷ Script ∷ []) (a.circuit ∷ a.script ∷ []) run.answers)) is run.fetched.told in
-      traced folder a.circuit a.script r a.reads (limits_of words) justified made plain sink code fine run.answers told run.cases
+      traced (limits_of words) justified r (well folder a.circuit a.script r a.reads made plain) sink code fine run.answers (only_missed folder a.circuit a.script r a.reads run.answers told)
+      (same_reads folder a.circuit a.script r a.reads run.answers told) run.cases
+
+  given_as : (r : Runnable) → GaveAccepted words files r → (IsFailure code → ⊥) → IsTraced (limits_of words) r sink code
+  given_as r a fine =
+      let run : IsAnswered (is_free Run) (owed_of Run words h.events) (roles_of Run) (a.circuit.0 ∷ a.script.0 ∷ []) files sink code = answered_with words files source sink code Run (a.circuit.0 ∷ a.script.0 ∷ []) a.run a.names h in
+      let are : run.answers ≡ text a.circuit.1 ∷ text a.script.1 ∷ [] =
+      both_given a.circuit.0 a.script.0 run.answers a.circuit a.script run.fetched.few (same_list files.old.given (texts_given (a.circuit.0 ∷ a.script.0 ∷ []) run.answers) (a.circuit ∷ a.script ∷ []) (sym run.fetched.given ∙ a.given)) in
+      let short : AreShort (text a.circuit.1 ∷ text a.script.1 ∷ []) = subst (λ (cs : List Content). AreShort cs) are run.fetched.short in
+      let reads : ReadsRun run.answers r = subst (λ (cs : List Content). ReadsRun cs r) (sym are) a.reads in
+      traced (limits_of words) justified r (wired made plain a.circuit.1 r.flat short.0 a.reads.0) sink code fine run.answers (λ stop stops. absurd (run_reading.apart run.answers r stop reads stops)) (λ x other. reads) run.cases
 
   pub headline : Headline words files sink code
-  headline = told_as files.old.told refl
+  headline = record { told = told_as files.old.told refl; given = given_as }
 
 -- Of other words it says nothing.
 pub headline_else : (words : List (List ℕ)) (files : Change FilesState) (sink : Change SinkState) (code : ℕ) → (command_of words ≡ Some Run → ⊥) → Headline words files sink code
 headline_else words files sink code other =
-    told_always files.old.told (λ folder. (r : Runnable) → Accepted words folder r → (IsFailure code → ⊥) → IsTraced (limits_of words) r sink code) (λ folder r a fine. absurd (other a.run))
+    record {
+      told = told_always files.old.told (λ folder. (r : Runnable) → Accepted words folder r → (IsFailure code → ⊥) → IsTraced (limits_of words) r sink code) (λ folder r a fine. absurd (other a.run));
+      given = λ r a fine. absurd (other a.run);
+    }

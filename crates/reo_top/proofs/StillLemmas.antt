@@ -21,26 +21,26 @@ use Rattle.reo_top_runs.specs.Traces.{TracesRun}
 use Rattle.reo_top.proofs.TopLemmas.{answered_as, answered_none, bench_answered, run_answered}
 use Rattle.reo_top.proofs.UntakenLemmas.{none_taken, none_taken_few}
 
-module _ {R : Type 0} (told : R → Option (List ℕ)) (faults : R → ℕ) (source : R) (words : List (List ℕ)) (files : Change FilesState) (sink : Change SinkState) (code : ℕ) where
+module _ {R : Type 0} (told : R → Option (List ℕ)) (given : R → List ℕ) (faults : R → ℕ) (source : R) (words : List (List ℕ)) (files : Change FilesState) (sink : Change SinkState) (code : ℕ) where
   abbrev still : SourceChange
-  still = source_change told faults source source
+  still = source_change told given faults source source
 
   abbrev none : Events
-  none = untaken (state_of told faults source)
+  none = untaken (state_of told given faults source)
 
   pub still_answered : (command : Command) (names : List (List ℕ)) → command_of words ≡ Some command → names_of command words ≡ names
       → IsAnsweredWith (takes_events command && none.failed) (is_free command) (owed_of command words none) (roles_of command) names files sink code → Answered words files still sink code
-  still_answered command names is named h = answered_as words files still sink code none (none_taken told faults source) (none_taken_few told faults source code) command names is named h
+  still_answered command names is named h = answered_as words files still sink code none (none_taken told given faults source) (none_taken_few told given faults source code) command names is named h
 
   pub still_run : (limits : Limits) (circuit script : List ℕ) → command_of words ≡ Some Run → names_of Run words ≡ circuit ∷ script ∷ [] → limits ≡ limits_of words
       → IsAnswered (is_free Run) (owed_by ReadsRun StopsRun (TracesRun limits)) (roles_of Run) (circuit ∷ script ∷ []) files sink code → Answered words files still sink code
   still_run limits circuit script is named same h =
-      run_answered words files still sink code none (none_taken told faults source) (none_taken_few told faults source code) limits circuit script is named same h
+      run_answered words files still sink code none (none_taken told given faults source) (none_taken_few told given faults source code) limits circuit script is named same h
 
   pub still_bench : (size : ℕ) → command_of words ≡ Some Bench → size ≡ size_of words → Cases (MeasuresMade size) sink code → IsExact (MeasuresMade size) sink code → IsAmong (statuses_of Bench) code → files.new ≡ files.old
       → Answered words files still sink code
   still_bench size is of_words cases exact among same =
-      bench_answered words files still sink code none (none_taken told faults source) (none_taken_few told faults source code) size is of_words cases exact among same
+      bench_answered words files still sink code none (none_taken told given faults source) (none_taken_few told given faults source code) size is of_words cases exact among same
 
   pub still_none : command_of words ≡ None → files.new ≡ files.old → Refuses (codes "words refused\n") 2 sink code → Answered words files still sink code
-  still_none is same h = answered_none words files still sink code none (none_taken told faults source) (none_taken_few told faults source code) is same h
+  still_none is same h = answered_none words files still sink code none (none_taken told given faults source) (none_taken_few told given faults source code) is same h

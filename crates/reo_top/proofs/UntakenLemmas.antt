@@ -1,5 +1,6 @@
 -- Nothing was taken from a source.
-use Rattle.std.proofs.Common.{◌≡◌, inl, ℕ, false, List, [], refl, arith}
+use Rattle.std.proofs.Common.{◌≡◌, inl, ℕ, false, List, [], sym, refl, arith}
+use Rattle.std.proofs.lemmas.List.{append-nil}
 use Rattle.std.specs.Prelude.{Option, Some, None, IfSome, ◌++◌, true}
 use Rattle.std.specs.Option.{unwrap_or}
 use Rattle.reo_closings.specs.Sources.{AreTaken, source_change, state_of, untaken}
@@ -16,21 +17,22 @@ still_left (Some bytes) = (bytes, refl, refl)
 none_failed : {A : Type 0} → false ≡ true → A
 none_failed e = absurd cc
 
-module _ {R : Type 0} (told : R → Option (List ℕ)) (faults : R → ℕ) (source : R) where
-  pub none_taken : AreTaken (untaken (state_of told faults source)) (source_change told faults source source)
+module _ {R : Type 0} (told : R → Option (List ℕ)) (given : R → List ℕ) (faults : R → ℕ) (source : R) where
+  pub none_taken : AreTaken (untaken (state_of told given faults source)) (source_change told given faults source source)
   none_taken = record {
     taken = [];
     rest = unwrap_or (told source) [];
     front = refl;
     fault = λ e. none_failed e;
     later = omega arith;
+    given = sym (append-nil (given source));
     told = still_told (told source);
   }
 
-  pub none_taken_few : (code : ℕ) → TakesFew (source_change told faults source source) code
+  pub none_taken_few : (code : ℕ) → TakesFew (source_change told given faults source source) code
   none_taken_few code = record {
     bytes = [];
-    taken = record { later = omega arith; told = still_left (told source) };
+    taken = record { later = omega arith; given = sym (append-nil (given source)); told = still_left (told source) };
     few = omega arith;
     long = λ four. inl refl;
   }

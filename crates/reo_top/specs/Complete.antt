@@ -1,7 +1,7 @@
 -- Completeness: where nothing fails, a run of what is accepted comes to its end.
 use Rattle.std.specs.Prelude.{ℕ, ◌≡◌, ◌⊎◌, List, [], ◌∷◌, IfSome}
 use Rattle.reo_io.specs.Causes.{Rose}
-use Rattle.reo_top.specs.Headline.{Accepted, IsTraced}
+use Rattle.reo_top.specs.Headline.{Accepted, GaveAccepted, IsTraced}
 use Rattle.reo_command.specs.Limits.{limits_of}
 use Rattle.reo_command.specs.Readings.{Runnable}
 use Rattle.reo_command.specs.States.{SinkState, FilesState, Change}
@@ -22,8 +22,8 @@ pub record IsWhole (words : List (List ℕ)) (r : Runnable) (sink : Change SinkS
   pub status : IsAmong ending_statuses code
 
 -- For every accepted circuit and script the whole trace was written, with the status of its ending, or memory ran out, where
--- nothing failed.
-abbrev pub Complete : List (List ℕ) → Change FilesState → Change SinkState → ℕ → Type 0
-Complete words files sink code =
-    IfSome files.old.told (λ folder. (r : Runnable) → Accepted words folder r → NothingFailed files sink
-    → (code ≡ out_of_memory) ⊎ IsWhole words r sink code)
+-- nothing failed: for what the files are, where they are told, and for what the fetches gave.
+pub record Complete (words : List (List ℕ)) (files : Change FilesState) (sink : Change SinkState) (code : ℕ) : Type 0 where
+  pub told : IfSome files.old.told (λ folder. (r : Runnable) → Accepted words folder r → NothingFailed files sink
+      → (code ≡ out_of_memory) ⊎ IsWhole words r sink code)
+  pub given : (r : Runnable) → GaveAccepted words files r → NothingFailed files sink → (code ≡ out_of_memory) ⊎ IsWhole words r sink code

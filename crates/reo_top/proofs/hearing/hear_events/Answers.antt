@@ -38,11 +38,11 @@ returns-in-Ok-clause-status g c =
 pub returns-in-Err-clause-answered : goal.returns-in-Err-clause-answered
 returns-in-Err-clause-answered g c =
     let stopped = same_stops Reads ReadsCircuit StopsCheck c.in-Err.ensures.read.answers c.in-Err.stop c.in-Err.ensures.read.read in
-    let none = untaken (state_of g.R.Source.told g.R.Source.faults c.args.source.now) in
+    let none = untaken (state_of g.R.Source.told g.R.Source.given g.R.Source.faults c.args.source.now) in
     record {
       events = none;
-      taken = none_taken g.R.Source.told g.R.Source.faults c.args.source.now;
-      few = none_taken_few g.R.Source.told g.R.Source.faults c.args.source.now _;
+      taken = none_taken g.R.Source.told g.R.Source.given g.R.Source.faults c.args.source.now;
+      few = none_taken_few g.R.Source.told g.R.Source.given g.R.Source.faults c.args.source.now _;
       answered = refused_answered ReadsCircuit StopsCheck (HearsCircuit c.args.budget none) (statuses_of Live) _ _ c.in-Err.ensures.read.answers (reading_at live_reading _) c.in-Err.stop stopped c.refuse.ensures.refused (Circuit ∷ []) (c.args.name.now ∷ []) _
           c.in-Err.ensures.read.fetched;
     }
@@ -50,5 +50,5 @@ returns-in-Err-clause-answered g c =
 pub returns-in-Err-clause-status : goal.returns-in-Err-clause-status
 returns-in-Err-clause-status g c =
     let stopped = same_stops Reads ReadsCircuit StopsCheck c.in-Err.ensures.read.answers c.in-Err.stop c.in-Err.ensures.read.read in
-    let none = untaken (state_of g.R.Source.told g.R.Source.faults c.args.source.now) in
+    let none = untaken (state_of g.R.Source.told g.R.Source.given g.R.Source.faults c.args.source.now) in
     refused_status_in ReadsCircuit StopsCheck (HearsCircuit c.args.budget none) (statuses_of Live) _ _ c.in-Err.ensures.read.answers (reading_at live_reading _) c.in-Err.stop stopped c.refuse.ensures.refused refl refl

@@ -1,0 +1,22 @@
+-- What an object gave or took.
+use Rattle.std.specs.Prelude.{ℕ, List, [], ◌∷◌, ◌++◌, take, Result, Ok, Err}
+use Rattle.reo_io.specs.declared.given.GivenBytes.{GivenBytes}
+use Rattle.reo_io.specs.declared.given.GivenFiles.{GivenFiles}
+
+-- The bytes, one after another.
+abbrev pub bytes_given : GivenBytes → List ℕ
+bytes_given given = given.bytes
+
+-- The files, each with its name, one after another.
+abbrev pub files_given : GivenFiles → List (List ℕ × List ℕ)
+files_given given = given.files
+
+-- The names and bytes of the files that were given, after a fetch of this name: its room comes last where it answered Ok.
+abbrev pub given_after : List (List ℕ × List ℕ) → List ℕ → List ℕ → {E T : Type 0} → Result T E → List (List ℕ × List ℕ)
+given_after given name room (Ok _) = given ++ (name, room) ∷ []
+given_after given name room (Err _) = given
+
+-- The bytes that a source gave, after a take: as many of the room as it answered come last.
+abbrev pub taken_after : List ℕ → List ℕ → {E : Type 0} → Result ℕ E → List ℕ
+taken_after given room (Ok count) = given ++ take count room
+taken_after given room (Err _) = given
