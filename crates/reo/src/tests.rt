@@ -6,8 +6,8 @@ use std::fs;
 use std::process::{self, ExitCode};
 use std::test::Fail;
 
-const TWO: &[u8] =
-    b"type n = int 0..9; connector main(in a: n, out b: n, in c: n, out d: n) { sync a b; sync c d; }";
+const TWO: &[u8] = b"type n = int 0..9; connector main(in a: n, out b: n, in c: n, out d: n) { \
+        sync a b; sync c d; }";
 
 const LATER: &[u8] =
     b"component p { write a 1; } component q { write c 2; } component r { take d; }";

@@ -30,13 +30,16 @@ const ROWS: &[Row] = &[
     ),
     // Over all copies.
     Row(
-        "reo 2 connector c<n>() { for i = 1 to 32767 { } } connector m() { use c<1>(); use c<2>(); }",
+        "reo 2 connector c<n>() { for i = 1 to 32767 { } } connector m() { use c<1>(); use \
+            c<2>(); }",
         Answer::Text(
-            "connector c<1>() {\n}\nconnector c<2>() {\n}\nconnector m() {\n  use c<1>();\n  use c<2>();\n}\n",
+            "connector c<1>() {\n}\nconnector c<2>() {\n}\nconnector m() {\n  use c<1>();\n  \
+                use c<2>();\n}\n",
         ),
     ),
     Row(
-        "reo 2 connector c<n>() { for i = 1 to 32767 { } use e(); } connector m() { use c<1>(); use c<2>(); }",
+        "reo 2 connector c<n>() { for i = 1 to 32767 { } use e(); } connector m() { use c<1>(); \
+            use c<2>(); }",
         Answer::TooMany,
     ),
     // The indexes of an item are judged before it is counted, and a turn is counted before its

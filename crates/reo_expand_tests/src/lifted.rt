@@ -12,7 +12,9 @@ use std::alloc::Global;
 const TEXTS: &[&str] = &[
     "",
     "type t = pair(int -5..10, pair(text 3, bool));\ntype u = sym { red, green };\n",
-    "connector c(in a: int 0..9, out b: unit) {\n  node n: unit;\n  sync a n;\n  fifo 3 n b with 1, 2;\n}\nconnector main(in x: int 0..9) {\n  use c(x, y);\n  use c();\n}\n",
+    "connector c(in a: int 0..9, out b: unit) {\n  node n: unit;\n  sync a n;\n  \
+        fifo 3 n b with 1, 2;\n}\nconnector main(in x: int 0..9) {\n  use c(x, y);\n  use c();\n\
+        }\n",
 ];
 
 /// Whether a program of version 1 stands for itself as one of version 2.

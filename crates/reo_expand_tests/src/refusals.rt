@@ -3,15 +3,21 @@ use crate::rows::{Answer, Row, all_stand_for};
 
 const ROWS: &[Row] = &[
     Row(
-        "reo 2\nconnector line<n>(in a: unit, out b: unit) {\n  node x.(n + 1): unit;\n  sync a x.0;\n  for i = 0 to n - 1 { fifo1 x.i x.(i + 1); }\n  sync x.n b;\n}\nconnector main(in a: unit, out b: unit) { use line<0 - 1>(a, b); }\n",
+        "reo 2\nconnector line<n>(in a: unit, out b: unit) {\n  node x.(n + 1): unit;\n  \
+            sync a x.0;\n  for i = 0 to n - 1 { fifo1 x.i x.(i + 1); }\n  sync x.n b;\n}\n\
+            connector main(in a: unit, out b: unit) { use line<0 - 1>(a, b); }\n",
         Answer::Index(8),
     ),
     Row(
-        "reo 2\nconnector line<n>(in a: unit, out b: unit) {\n  node x.(n + 1): unit;\n  sync a x.0;\n  for i = 0 to n - 1 { fifo1 x.i x.(i + 1); }\n  sync x.n b;\n}\nconnector main(in a: unit, out b: unit) { use line(a, b); }\n",
+        "reo 2\nconnector line<n>(in a: unit, out b: unit) {\n  node x.(n + 1): unit;\n  \
+            sync a x.0;\n  for i = 0 to n - 1 { fifo1 x.i x.(i + 1); }\n  sync x.n b;\n}\n\
+            connector main(in a: unit, out b: unit) { use line(a, b); }\n",
         Answer::Number(8),
     ),
     Row(
-        "reo 2\nconnector line<n>(in a: unit, out b: unit) {\n  node x.(n + 1): unit;\n  sync a x.0;\n  for i = 0 to n - 1 { fifo1 x.i x.(i + 1); }\n  sync x.m b;\n}\nconnector main(in a: unit, out b: unit) { use line<2>(a, b); }\n",
+        "reo 2\nconnector line<n>(in a: unit, out b: unit) {\n  node x.(n + 1): unit;\n  \
+            sync a x.0;\n  for i = 0 to n - 1 { fifo1 x.i x.(i + 1); }\n  sync x.m b;\n}\n\
+            connector main(in a: unit, out b: unit) { use line<2>(a, b); }\n",
         Answer::Unbound(6, "m"),
     ),
     // Sizes of arrays are 1 to 4,096, numbers of uses 0 to 4,096.
@@ -75,13 +81,16 @@ const ROWS: &[Row] = &[
         Answer::Number(5),
     ),
     Row(
-        "reo 2\nconnector m() {\n use c<1>(); }\nconnector c<n>() {\n use c(); }\nconnector l() { use c<1>(); }",
+        "reo 2\nconnector m() {\n use c<1>(); }\nconnector c<n>() {\n use c(); }\n\
+            connector l() { use c<1>(); }",
         Answer::Text(
-            "connector m() {\n  use c<1>();\n}\nconnector c<1>() {\n  use c();\n}\nconnector l() {\n  use c<1>();\n}\n",
+            "connector m() {\n  use c<1>();\n}\nconnector c<1>() {\n  use c();\n}\n\
+                connector l() {\n  use c<1>();\n}\n",
         ),
     ),
     Row(
-        "reo 2\nconnector c<n>() { }\nconnector c<n>() {\n use c(); }\nconnector m() { use c<1>(); }",
+        "reo 2\nconnector c<n>() { }\nconnector c<n>() {\n use c(); }\n\
+            connector m() { use c<1>(); }",
         Answer::Number(4),
     ),
     // Connectors are walked from the last to the first.
@@ -91,11 +100,13 @@ const ROWS: &[Row] = &[
     ),
     // And copies in increasing order of their numbers.
     Row(
-        "reo 2\nconnector c<n>() {\n for i = n to 2 {\n use d<i + 4095>(); }\n node x.(4 - n): unit;\n}\nconnector m() { use c<4>(); use c<2>(); }",
+        "reo 2\nconnector c<n>() {\n for i = n to 2 {\n use d<i + 4095>(); }\n \
+            node x.(4 - n): unit;\n}\nconnector m() { use c<4>(); use c<2>(); }",
         Answer::Index(4),
     ),
     Row(
-        "reo 2\nconnector c<n>() {\n for i = n to 2 {\n use d<i + 4095>(); }\n node x.(4 - n): unit;\n}\nconnector m() { use c<4>(); use c<3>(); }",
+        "reo 2\nconnector c<n>() {\n for i = n to 2 {\n use d<i + 4095>(); }\n \
+            node x.(4 - n): unit;\n}\nconnector m() { use c<4>(); use c<3>(); }",
         Answer::Index(5),
     ),
     // The line is that of the innermost item that holds the index; bounds of a loop are judged

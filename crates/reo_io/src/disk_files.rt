@@ -9,8 +9,8 @@ use std::alloc::Global;
 use std::fs::File;
 use std::{io, rt};
 
-/// The files of the system, whose content is not told before it is fetched. A name that is no text, a file that does not
-/// exist and one that cannot be opened or read answer `Failed`.
+/// The files of the system, whose content is not told before it is fetched. A name that is no text,
+/// a file that does not exist and one that cannot be opened or read answer `Failed`.
 #[derive(Drop)]
 pub struct DiskFiles<'a, R: rt::Files> {
     system: &'a R,

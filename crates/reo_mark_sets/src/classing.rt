@@ -54,8 +54,10 @@ impl Sets {
         requires width { length places.now ≡ branches.count + 1 }
         requires places { ArePlaces (length self.now) places.now }
         ensures { MatchOption result
-            ((o : ℕ) → o < branches.count → (marks_at self.now (slice_index places.now o)).flow ≡ false)
-            (IsFirstInTurn (λ o. (marks_at self.now (slice_index places.now o)).flow) branches.count turn) }
+            ((o : ℕ) → o < branches.count
+            → (marks_at self.now (slice_index places.now o)).flow ≡ false)
+            (IsFirstInTurn (λ o. (marks_at self.now (slice_index places.now o)).flow)
+            branches.count turn) }
     {
         let count = branches.count;
         let begins = beginning(branches, turn);

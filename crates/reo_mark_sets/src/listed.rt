@@ -129,7 +129,8 @@ pub(crate) fn narrowed_two(table: Table, a: Marks, b: Marks) -> Pair
 /// Of the rows of one end with one of some marks those of the least class.
 pub(crate) fn classed_one(table: Table, a: Marks) -> OfClass
     requires { is_single table ≡ true }
-    ensures taken { are_taken result.class (rows_of table) (classes_of (rows_of table)) (fits_one a) (fits_one result.marks) ≡ true }
+    ensures taken { let rows = rows_of table in
+        are_taken result.class rows (classes_of rows) (fits_one a) (fits_one result.marks) ≡ true }
     ensures within { are_within result.marks a ≡ true }
 {
     if matches!(table, Table::Resting) {
@@ -156,7 +157,9 @@ fn chosen(a: Marks, first: Mark, b: Marks, second: Mark) -> Pair
 
 /// Of the rows of two ends with one of some marks at each those of the least class.
 pub(crate) fn classed_two(table: Table, a: Marks, b: Marks) -> PairOfClass
-    ensures taken { are_taken result.class (rows_of table) (classes_of (rows_of table)) (fits_two a b) (fits_two result.pair.first result.pair.second) ≡ true }
+    ensures taken { let rows = rows_of table in
+        are_taken result.class rows (classes_of rows) (fits_two a b)
+        (fits_two result.pair.first result.pair.second) ≡ true }
     ensures first { are_within result.pair.first a ≡ true }
     ensures second { are_within result.pair.second b ≡ true }
 {

@@ -189,7 +189,8 @@ impl Sets {
         requires places { ArePlaces (length self.old) places.now }
         requires star { IsStar (length places.now) center from to }
         ensures narrowed { IsStarNarrowed star center from to places.now self.old self.new }
-        ensures some { IsTrue result ↔ ((kind : Kind) × KindWorks star center from to places.now self.old kind) }
+        ensures some { IsTrue result
+            ↔ ((kind : Kind) × KindWorks star center from to places.now self.old kind) }
     {
         let aparts = self.aparts(star, places, center, from, to);
         let rests = self.rest_works(star, places, center, from, to);

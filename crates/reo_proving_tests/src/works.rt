@@ -36,8 +36,11 @@ pub const HALF: Work = Work {
 
 /// Four ports that flow in turn, ten times each.
 pub const TURNS: Work = Work {
-    circuit: "connector main(in a: int 0..9, in b: int 0..9, in c: int 0..9, in d: int 0..9) { node w: unit; node x: unit; node y: unit; node z: unit; fifo1 z w with unit; fifo1 w x; fifo1 x y; fifo1 y z; syncdrain a w; syncdrain b x; syncdrain c y; syncdrain d z; }",
-    script: "component pa { repeat 10 { write a 1; } } component pb { repeat 10 { write b 1; } } component pc { repeat 10 { write c 1; } } component pd { repeat 10 { write d 1; } }",
+    circuit: "connector main(in a: int 0..9, in b: int 0..9, in c: int 0..9, in d: int 0..9) { \
+        node w: unit; node x: unit; node y: unit; node z: unit; fifo1 z w with unit; fifo1 w x; \
+        fifo1 x y; fifo1 y z; syncdrain a w; syncdrain b x; syncdrain c y; syncdrain d z; }",
+    script: "component pa { repeat 10 { write a 1; } } component pb { repeat 10 { write b 1; } } \
+        component pc { repeat 10 { write c 1; } } component pd { repeat 10 { write d 1; } }",
     budget: 100_000,
     rounds: 100_000,
 };

@@ -157,26 +157,33 @@ const REFUSED: &[(&str, ParseFault)] = &[
     (DEEP_BEHIND, TooDeep { line: 2 }),
 ];
 
-const NINE: &str =
-    "reo 2 connector c() {\nfor a = 0 to 1 {\nfor b = 0 to 1 {\nfor c = 0 to 1 {\nfor d = 0 to 1 {\nfor e = 0 to 1 {\nfor f = 0 to 1 {\nfor g = 0 to 1 {\nfor h = 0 to 1 {\nfor i = 0 to 1 { } } } } } } } } } }";
+const NINE: &str = "reo 2 connector c() {\nfor a = 0 to 1 {\nfor b = 0 to 1 {\nfor c = 0 to 1 {\n\
+        for d = 0 to 1 {\nfor e = 0 to 1 {\nfor f = 0 to 1 {\nfor g = 0 to 1 {\n\
+        for h = 0 to 1 {\nfor i = 0 to 1 { } } } } } } } } } }";
 
 const NINE_BEHIND: &str =
-    "reo 2 connector c() { for a = 0 to 1 { for b = 0 to 1 { for c = 0 to 1 { for d = 0 to 1 {\nfor e = 0 to 1 { for f = 0 to 1 { for g = 0 to 1 { for h = 0 to 1 {\nsync for for;\nfor i = 0 to 1 { } } } } } } } } } }";
+    "reo 2 connector c() { for a = 0 to 1 { for b = 0 to 1 { for c = 0 to 1 { for d = 0 to 1 {\n\
+        for e = 0 to 1 { for f = 0 to 1 { for g = 0 to 1 { for h = 0 to 1 {\nsync for for;\n\
+        for i = 0 to 1 { } } } } } } } } } }";
 
 const NINE_OPEN: &str =
-    "reo 2 connector c() { for a = 0 to 1 { for b = 0 to 1 { for c = 0 to 1 { for d = 0 to 1 {\nfor e = 0 to 1 { for f = 0 to 1 { for g = 0 to 1 { for h = 0 to 1 {\nfor";
+    "reo 2 connector c() { for a = 0 to 1 { for b = 0 to 1 { for c = 0 to 1 { for d = 0 to 1 {\n\
+        for e = 0 to 1 { for f = 0 to 1 { for g = 0 to 1 { for h = 0 to 1 {\nfor";
 
 const NINE_LATE: &str =
-    "reo 2 connector c() { for a = 0 to 1 { for b = 0 to 1 { for c = 0 to 1 { for d = 0 to 1 {\nnode x; for e = 0 to 1 { for f = 0 to 1 { for g = 0 to 1 { for h = 0 to 1 {\nfor";
+    "reo 2 connector c() { for a = 0 to 1 { for b = 0 to 1 { for c = 0 to 1 { for d = 0 to 1 {\n\
+        node x; for e = 0 to 1 { for f = 0 to 1 { for g = 0 to 1 { for h = 0 to 1 {\nfor";
 
 const NINE_AT_ONCE: &str =
-    "reo 2 connector c() { for a = 0 to 1 { for b = 0 to 1 { for c = 0 to 1 { for d = 0 to 1 {\nfor e = 0 to 1 { for f = 0 to 1 { for g = 0 to 1 { for h = 0 to 1 { sync a b\nfor i = 0 to 1 { } } } } } } } } } }";
+    "reo 2 connector c() { for a = 0 to 1 { for b = 0 to 1 { for c = 0 to 1 { for d = 0 to 1 {\n\
+        for e = 0 to 1 { for f = 0 to 1 { for g = 0 to 1 { for h = 0 to 1 { sync a b\n\
+        for i = 0 to 1 { } } } } } } } } } }";
 
-const DEEP: &str =
-    "reo 2 connector c() { for i = 0 to 1 { map a b to\n((((((((((((((((((((((((((((((((((((((((((((((((((((((((((((((((((it";
+const DEEP: &str = "reo 2 connector c() { for i = 0 to 1 { map a b to\n\
+        ((((((((((((((((((((((((((((((((((((((((((((((((((((((((((((((((((it";
 
-const DEEP_BEHIND: &str =
-    "reo 2 connector c() { for i = 0 to n - 1 { map a b to ----------------------------------------------------------------\n-it; } }";
+const DEEP_BEHIND: &str = "reo 2 connector c() { for i = 0 to n - 1 { map a b to \
+        ----------------------------------------------------------------\n-it; } }";
 
 #[test]
 fn texts_are_refused_at_their_first_fault(rt: HostRuntime) {

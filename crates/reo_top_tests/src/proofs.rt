@@ -29,22 +29,32 @@ const CASES: &[Case] = &[
     },
     // parts that jam, and one that flows
     Case {
-        circuit: "connector main(in a: int 0..9, out b: int 0..9, in c: int 0..9, out d: int 0..9) { sync a b; sync a b; sync c d; }",
-        script: "component p { write a 1; } component q { take b; } component r { write c 2; } component s { take d; }",
+        circuit: "connector main(in a: int 0..9, out b: int 0..9, in c: int 0..9, out d: int \
+            0..9) { sync a b; sync a b; sync c d; }",
+        script: "component p { write a 1; } component q { take b; } component r { write c 2; } \
+            component s { take d; }",
         status: 1,
         verdict: "proved 2 rounds\n",
     },
     // an exclusive router
     Case {
-        circuit: "connector main(in a: int 0..9, out b: int 0..9, out c: int 0..9) { node x: int 0..9; node y: int 0..9; node k: int 0..9; lossy a x; lossy a y; sync x b; sync x k; sync y c; sync y k; syncdrain a k; }",
-        script: "component p { write a 1; write a 2; write a 3; } component q { take b; } component r { repeat 1 { take c; } }",
+        circuit: "connector main(in a: int 0..9, out b: int 0..9, out c: int 0..9) { node x: int \
+            0..9; node y: int 0..9; node k: int 0..9; lossy a x; lossy a y; sync x b; sync x k; \
+            sync y c; sync y k; syncdrain a k; }",
+        script: "component p { write a 1; write a 2; write a 3; } component q { take b; } \
+            component r { repeat 1 { take c; } }",
         status: 1,
         verdict: "proved 3 rounds\n",
     },
     // a sequencer
     Case {
-        circuit: "connector main(in a: int 0..9, in b: int 0..9, in c: int 0..9, in d: int 0..9) { node w: unit; node x: unit; node y: unit; node z: unit; fifo1 z w with unit; fifo1 w x; fifo1 x y; fifo1 y z; syncdrain a w; syncdrain b x; syncdrain c y; syncdrain d z; }",
-        script: "component pa { repeat 10 { write a 1; } } component pb { repeat 10 { write b 1; } } component pc { repeat 10 { write c 1; } } component pd { repeat 10 { write d 1; } }",
+        circuit: "connector main(in a: int 0..9, in b: int 0..9, in c: int 0..9, in d: int 0..9) \
+            { node w: unit; node x: unit; node y: unit; node z: unit; fifo1 z w with unit; fifo1 \
+            w x; fifo1 x y; fifo1 y z; syncdrain a w; syncdrain b x; syncdrain c y; syncdrain d \
+            z; }",
+        script: "component pa { repeat 10 { write a 1; } } component pb { repeat 10 { write b 1; \
+            } } component pc { repeat 10 { write c 1; } } component pd { repeat 10 { write d 1; \
+            } }",
         status: 0,
         verdict: "proved 40 rounds\n",
     },

@@ -45,8 +45,10 @@ const TYPES: &[&str] = &[
     "it 1 <=|0..9|bool",
     "it '\"\\ false if|text1|text2",
     "it 20 false if|-1..9|-1..20",
-    "it first it second *|-1000000000..1000000000 0..1000000000 ,|-1000000000000000000..1000000000000000000",
-    "it first it second +|1000000000000000000..1000000000000000000 0..0 ,|1000000000000000000..1000000000000000000",
+    "it first it second *|-1000000000..1000000000 0..1000000000 \
+        ,|-1000000000000000000..1000000000000000000",
+    "it first it second +|1000000000000000000..1000000000000000000 0..0 \
+        ,|1000000000000000000..1000000000000000000",
     "it first it second /|1..2 1..3 ,|0..2",
 ];
 
@@ -151,8 +153,10 @@ const VALUES: &[&str] = &[
     "it !|bool|true|false",
     "1 2 it if|bool|true|1",
     "1 2 it if|bool|false|2",
-    "it unit , unit , unit , unit , unit , unit , unit , unit ,|0..9|7|7 unit , unit , unit , unit , unit , unit , unit , unit ,",
-    "it unit , unit , unit , unit , unit , unit , unit , unit , it unit , unit , unit , unit , unit , unit , unit , unit , ==|0..9|7|true",
+    "it unit , unit , unit , unit , unit , unit , unit , unit ,|0..9|7|7 unit , unit , unit , \
+        unit , unit , unit , unit , unit ,",
+    "it unit , unit , unit , unit , unit , unit , unit , unit , it unit , unit , unit , unit , \
+        unit , unit , unit , unit , ==|0..9|7|true",
 ];
 
 /// An expression on an item, and the value that it should have.

@@ -24,7 +24,8 @@ const TEXTS: &[&str] = &[
     "text3|'a^~|\"a ~\"",
     "text3|'\"\\|\"\\\"\\\\\"",
     "-3..3 text9 ,|-3 ',)\" ,|(-3,\",)\\\"\")",
-    "0..9 unit , unit , unit , unit , unit , unit , unit , unit ,|7 unit , unit , unit , unit , unit , unit , unit , unit ,|((((((((7,unit),unit),unit),unit),unit),unit),unit),unit)",
+    "0..9 unit , unit , unit , unit , unit , unit , unit , unit ,|7 unit , unit , unit , unit , \
+        unit , unit , unit , unit ,|((((((((7,unit),unit),unit),unit),unit),unit),unit),unit)",
     "names1024|#1|n1",
     "names1024|#102|n102",
     "names1024|#1023|n1023",
