@@ -65,8 +65,7 @@ fn most_by<P: Primitive>(
     requires ends { AreEnds (net_of P.behaviour circuit.now) ends.now }
     requires one_each { length bounds.now ≡ length circuit.now.joints }
     requires giver { IsEnd (net_of P.behaviour circuit.now).primitives giver }
-    requires form { let primitives = (net_of P.behaviour circuit.now).primitives in
-        let b = behaviour_at primitives giver.primitive in
+    requires form { let b = behaviour_at (net_of P.behaviour circuit.now).primitives giver.primitive in
         HasForm form b (b.side_of giver.end) }
     requires flows { mark_by form row giver.end ≡ F }
     ensures { let b = behaviour_at (net_of P.behaviour circuit.now).primitives giver.primitive in
@@ -106,8 +105,7 @@ fn share<P: Primitive>(
     requires ends { AreEnds (net_of P.behaviour circuit.now) ends.now }
     requires one_each { length bounds.now ≡ length circuit.now.joints }
     requires giver { IsEnd (net_of P.behaviour circuit.now).primitives giver }
-    requires form { let primitives = (net_of P.behaviour circuit.now).primitives in
-        let b = behaviour_at primitives giver.primitive in
+    requires form { let b = behaviour_at (net_of P.behaviour circuit.now).primitives giver.primitive in
         HasForm form b (b.side_of giver.end) }
     requires flows { mark_by form row giver.end ≡ F }
     ensures { let b = behaviour_at (net_of P.behaviour circuit.now).primitives giver.primitive in
