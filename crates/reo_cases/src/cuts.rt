@@ -68,27 +68,31 @@ fn answer_to(rt: &HostRuntime, case: &Case, count: usize) -> Result<Whole, NoMem
     answer_of(alloc, &case.words, files, events, MOST_WRITTEN)
 }
 
+/// One front, with its answer.
+fn front_of(count: usize, answer: Whole) -> Fronts {
+    Fronts {
+        first: count,
+        last: count,
+        answer,
+    }
+}
+
+/// Whether two answers are the same.
+fn same_answer(one: &Whole, other: &Whole) -> bool {
+    one.status == other.status && one.text.as_slice() == other.text.as_slice()
+}
+
 /// All fronts of a case, with their answers.
 fn fronts_of(rt: &HostRuntime, case: &Case) -> Result<List<Fronts>, NoMemory> {
     let mut all = List::new(rt.alloc());
-    let mut fronts = Fronts {
-        first: 0,
-        last: 0,
-        answer: answer_to(rt, case, 0)?,
-    };
-    for last in 1..=case.text.bytes.len() {
-        let answer = answer_to(rt, case, last)?;
-        if answer.status == fronts.answer.status
-            && answer.text.as_slice() == fronts.answer.text.as_slice()
-        {
-            fronts.last = last;
+    let mut fronts = front_of(0, answer_to(rt, case, 0)?);
+    for count in 1..=case.text.bytes.len() {
+        let answer = answer_to(rt, case, count)?;
+        if same_answer(&fronts.answer, &answer) {
+            fronts.last = count;
         } else {
             all.push(fronts)?;
-            fronts = Fronts {
-                first: last,
-                last,
-                answer,
-            };
+            fronts = front_of(count, answer);
         }
     }
     all.push(fronts)?;
