@@ -6,12 +6,9 @@ use std::alloc::Global;
 /// The most bytes of a file.
 const MOST_BYTES: usize = 67_108_864;
 
-/// The bytes of the file of a name, where it can be had: `above` stands for these.
-fn bytes_of(rt: &HostRuntime, name: &[u8], above: &[u8]) -> Result<Option<Bytes>, NoMemory> {
+/// The bytes of the file of a name, where it can be had.
+pub(crate) fn bytes_of(rt: &HostRuntime, name: &[u8]) -> Result<Option<Bytes>, NoMemory> {
     let alloc: Global = rt.alloc();
-    if name == b"above".as_slice() {
-        return Ok(Some(Bytes::from_slice(alloc, above)?));
-    }
     let mut room = Bytes::new(alloc);
     match DiskFiles::new(alloc, rt).fetch(alloc, name, MOST_BYTES, &mut room) {
         Ok(()) => Ok(Some(room)),
@@ -20,16 +17,21 @@ fn bytes_of(rt: &HostRuntime, name: &[u8], above: &[u8]) -> Result<Option<Bytes>
     }
 }
 
-/// The files that words name.
+/// The files that words name; that of one name has these bytes.
 pub(crate) fn files_of(
     rt: &HostRuntime,
     words: &[Bytes],
-    above: &[u8],
+    given: &[u8],
+    bytes: &[u8],
 ) -> Result<MemoryFiles, NoMemory> {
     let alloc: Global = rt.alloc();
     let mut files = List::new(alloc);
+    files.push(Named {
+        name: Bytes::from_slice(alloc, given)?,
+        bytes: Bytes::from_slice(alloc, bytes)?,
+    })?;
     for word in words {
-        if let Some(bytes) = bytes_of(rt, word.as_slice(), above)? {
+        if let Some(bytes) = bytes_of(rt, word.as_slice())? {
             let name = word.copy(alloc)?;
             files.push(Named { name, bytes })?;
         }

@@ -1,10 +1,11 @@
 //! The lines of a text.
-ghost use Rattle.std.specs.Prelude.{◌≡◌, ◌++◌, List, ℕ, count_by};
+ghost use Rattle.std.specs.Prelude.{◌≡◌, ◌≤◌, ◌++◌, length, List, ℕ, count_by};
 ghost use Rattle.reo_cases.specs.Lines.{is_feed};
 
 /// How many line feeds a text has.
 pub(crate) fn count_of(text: &[u8]) -> usize
-    ensures { result ≡ count_by is_feed text.now }
+    ensures feeds { result ≡ count_by is_feed text.now }
+    ensures few { result ≤ length text.now }
 {
     let mut count = 0;
     for byte in text {
@@ -13,6 +14,23 @@ pub(crate) fn count_of(text: &[u8]) -> usize
         }
     }
     count
+}
+
+/// How many bytes the whole lines have that stand at the front of two texts, of the second not the
+/// last one.
+pub(crate) fn shared_of(before: &[u8], text: &[u8]) -> usize
+    ensures bound { result ≤ length text.now }
+{
+    let mut shared = 0;
+    for (at, byte) in text.iter().enumerate() {
+        if before.get(at) != Some(byte) {
+            break;
+        }
+        if *byte == b'\n' && at + 1 < text.len() {
+            shared = at + 1;
+        }
+    }
+    shared
 }
 
 /// The last line of a text, with its line feed.

@@ -6,12 +6,20 @@
 //!
 //! Of a case behind `~ ` stands only how many lines the command writes, and the last of them. Such
 //! cases write much; the file `above` of such a case is what the one before it has written.
+//!
+//! Of a case behind `/ ` the last file that it names, or its events where it has some, is cut
+//! behind each of its bytes. Behind the line stands what the command writes to each front, those
+//! that follow each other and have one answer together: `7..13 = 5 from 1: ..` for the fronts of 7
+//! to 13 bytes, with their status; lines that the fronts above had too are left out at the front,
+//! and the number of the first one that is not stands behind `from`.
 #![tactic(auto)]
 
+mod cuts;
 mod files;
 mod lines;
 mod whole;
 
+use crate::cuts::show_cuts;
 use crate::whole::show_whole;
 use reo_io::{DiskFiles, StdSink, SureSource};
 use reo_top::reo;
@@ -31,7 +39,7 @@ pub(crate) fn words_of(alloc: Global, line: &str) -> Result<List<Bytes>, NoMemor
 }
 
 /// The bytes of the events of a case.
-fn events_of(alloc: Global, events: &str) -> Result<Bytes, NoMemory> {
+pub(crate) fn events_of(alloc: Global, events: &str) -> Result<Bytes, NoMemory> {
     let mut bytes = Bytes::new(alloc);
     for byte in events.as_bytes() {
         bytes.push(if *byte == b';' { b'\n' } else { *byte })?;
@@ -40,7 +48,7 @@ fn events_of(alloc: Global, events: &str) -> Result<Bytes, NoMemory> {
 }
 
 /// The words of a case, and its events.
-fn parts_of(line: &str) -> (&str, &str) {
+pub(crate) fn parts_of(line: &str) -> (&str, &str) {
     match line.split_once(" < ") {
         Some(parts) => parts,
         None => (line, ""),
@@ -78,6 +86,9 @@ fn main(rt: HostRuntime) -> io::Result<()> {
         } else if let Some(case) = line.strip_prefix("~ ") {
             println!(rt; "> {line}")?;
             above = show_whole(&rt, case, above.as_slice())?;
+        } else if let Some(case) = line.strip_prefix("/ ") {
+            println!(rt; "> {line}")?;
+            show_cuts(&rt, case)?;
         } else {
             show(&rt, line)?;
         }

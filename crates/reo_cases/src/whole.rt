@@ -2,9 +2,9 @@
 use crate::files::files_of;
 use crate::lines::{count_of, last_of};
 use crate::words_of;
-use reo_io::{StdSink, SureSink, SureSource, put_all};
+use reo_io::{MemoryFiles, StdSink, SureSink, SureSource, put_all};
 use reo_top::reo;
-use reo_values::{Bytes, NoMemory};
+use reo_values::{Bytes, List, NoMemory};
 use std::alloc::Global;
 use std::io::{self, ErrorKind};
 
@@ -13,31 +13,47 @@ const MOST_WRITTEN: usize = 16_777_216;
 
 /// What a case has written, and its status.
 #[derive(Drop)]
-struct Whole {
-    text: Bytes,
-    status: u8,
+pub(crate) struct Whole {
+    pub(crate) text: Bytes,
+    pub(crate) status: u8,
 }
 
-/// The command on a case, over files and output in memory, with nothing to read.
+/// The command over files, events and output in memory, with room for so many bytes.
+pub(crate) fn answer_of(
+    alloc: Global,
+    words: &List<Bytes>,
+    mut files: MemoryFiles,
+    events: Bytes,
+    room: usize,
+) -> Result<Whole, NoMemory> {
+    let mut source = SureSource::new(alloc, events)?;
+    let mut sink = SureSink::new(alloc, room)?;
+    let status = reo(alloc, words, &mut files, &mut source, &mut sink).code;
+    let text = Bytes::from_slice(alloc, sink.bytes())?;
+    Ok(Whole { text, status })
+}
+
+/// The command on a case with nothing to hear, whose file `above` has these bytes.
 fn whole_of(rt: &HostRuntime, line: &str, above: &[u8]) -> Result<Whole, NoMemory> {
     let alloc: Global = rt.alloc();
     let words = words_of(alloc, line)?;
-    let mut files = files_of(rt, words.as_slice(), above)?;
-    let mut source = SureSource::new(alloc, Bytes::new(alloc))?;
-    let mut sink = SureSink::new(alloc, MOST_WRITTEN)?;
-    let status = reo(alloc, &words, &mut files, &mut source, &mut sink).code;
-    let text = Bytes::from_slice(alloc, sink.bytes())?;
-    Ok(Whole { text, status })
+    let files = files_of(rt, words.as_slice(), b"above", above)?;
+    answer_of(alloc, &words, files, Bytes::new(alloc), MOST_WRITTEN)
+}
+
+/// Shows a text.
+pub(crate) fn show_text(rt: &HostRuntime, text: &[u8]) -> io::Result<()> {
+    match put_all(text, &mut StdSink::new(io::writer(rt))) {
+        Ok(()) => Ok(()),
+        Err(_) => Err(ErrorKind::WriteZero.into()),
+    }
 }
 
 /// Shows how many lines a text has, and the last of them.
 fn show_last(rt: &HostRuntime, text: &[u8]) -> io::Result<()> {
     let count = count_of(text);
     println!(rt; "{count} lines, and this is the last:")?;
-    match put_all(last_of(text), &mut StdSink::new(io::writer(rt))) {
-        Ok(()) => Ok(()),
-        Err(_) => Err(ErrorKind::WriteZero.into()),
-    }
+    show_text(rt, last_of(text))
 }
 
 /// Shows one case that writes much, and answers what it has written.
