@@ -5,6 +5,7 @@ ghost use Rattle.reo_rounds.specs.Offering.{AreJustPorts};
 ghost use Rattle.reo_engine.specs.Engine.{net_now};
 
 use crate::changes::all_marked;
+use crate::flows::Flows;
 use reo_knots::{Knots, find_knots};
 use reo_net_base::Ported;
 use reo_net_circuit::Circuit;
@@ -35,6 +36,7 @@ pub struct Engine<P: Ported> {
     pub(crate) ends: Ends,
     pub(crate) kept: Kept,
     pub(crate) lookups: Lookups,
+    pub(crate) flows: Flows,
 }
 
 impl<P: Ported> Model for Engine<P> {
@@ -43,6 +45,7 @@ impl<P: Ported> Model for Engine<P> {
     ghost use Rattle.reo_rounds.specs.Offering.{AreJustPorts};
     ghost use Rattle.reo_settling.specs.Lookups.{AreLookups};
     ghost use Rattle.reo_engine.specs.Engine.{Running, IsLookedUp};
+    ghost use Rattle.reo_engine.specs.Flows.{AreFlows};
 
     ghost Value = { Running P };
 
@@ -59,7 +62,8 @@ impl<P: Ported> Model for Engine<P> {
         × (length e.changed ≡ length e.circuit.primitives)
         × AreJustPorts (map P.port_state e.circuit.primitives) e.circuit.ports
         × IsLookedUp (net_of P.behaviour e.circuit) e.rounds e.knots e.ends e.kept
-        × AreLookups (net_of P.behaviour e.circuit) e.knots e.kept e.lookups };
+        × AreLookups (net_of P.behaviour e.circuit) e.knots e.kept e.lookups
+        × AreFlows (net_of P.behaviour e.circuit) e.knots e.kept e.flows };
 }
 
 impl<P: Ported> Engine<P> {
@@ -77,6 +81,7 @@ impl<P: Ported> Engine<P> {
         let ends = ends_of(alloc, &circuit)?;
         let kept = Kept::new(alloc, circuit.sides(), knots.count())?;
         let lookups = Lookups::new(alloc, &circuit, &knots)?;
+        let flows = Flows::new(alloc, &circuit, &knots)?;
         Ok(Engine {
             circuit,
             rounds: 0,
@@ -85,6 +90,7 @@ impl<P: Ported> Engine<P> {
             ends,
             kept,
             lookups,
+            flows,
         })
     }
 

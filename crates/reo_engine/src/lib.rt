@@ -7,15 +7,19 @@
 
 mod changes;
 mod engine;
+mod flows;
 mod keeping;
 mod laws;
 mod next;
 mod offering;
 mod offers;
 mod planning;
+mod renewing;
 mod rounds;
+mod standing;
 
 pub use engine::Engine;
 pub use laws::plans_suit;
 pub use planning::plan_with;
 pub use reo_rounds::{Declined, Done, OfferFault, Plan, PlanFault, PlannedRound};
+pub use reo_standing::Standing;

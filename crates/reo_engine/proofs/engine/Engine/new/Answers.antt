@@ -1,7 +1,8 @@
-use Rattle.std.proofs.Common.{◌∙◌, length, ap, arith}
+use Rattle.std.proofs.Common.{◌≡◌, ◌∙◌, false, length, ap, sym, subst, arith}
 use Rattle.std.proofs.lemmas.List.{length-replicate}
 use Rattle.std.specs.Prelude.{true}
 use Rattle.reo_net_base.specs.Net.{net_of}
+use Rattle.reo_engine.specs.Flows.{MayBeBlank}
 use Rattle.reo_engine.proofs.Fresh.{fresh_kept}
 use Rattle.reo_engine.proofs.engine.Engine.new.Goals as goal
 
@@ -16,4 +17,10 @@ invariant_of-result g c = (
     is_kept = fresh_kept (net_of g.P.Primitive.behaviour c.args.circuit) c.in_ok-knots.knots 1 c.sides.result c.count.result c.in_ok-kept.kept c.sides.ensures c.count.ensures c.in_ok-kept.ensures;
   },
   c.in_ok-lookups.ensures c.in_ok-kept.kept,
+  record {
+    orders = c.in_ok-flows.ensures.orders;
+    blank = subst (MayBeBlank (length c.args.circuit.joints)) (sym c.in_ok-flows.ensures.blank) tt;
+    calm = λ e. absurd (let not : c.in_ok-flows.flows.calm ≡ false = c.in_ok-flows.ensures.calm in cc);
+    one_each = c.in_ok-flows.ensures.one_each;
+  },
 )
