@@ -22,8 +22,8 @@ invariant_of-self-2 g c =
       c.stand_by.ensures.flows,
     )
 
-pub invariant_of-self-3 : goal.invariant_of-self-3
-invariant_of-self-3 g c =
+pub invariant_of-self-in_err-standing : goal.invariant_of-self-in_err-standing
+invariant_of-self-in_err-standing g c =
     let old = c.self.invariant in (
       old.0,
       old.1,
