@@ -5,6 +5,7 @@
 //! always be made. The rows of parts in which nothing changes are kept from round to round.
 #![tactic(auto)]
 
+mod beginning;
 mod changes;
 mod engine;
 mod flows;
