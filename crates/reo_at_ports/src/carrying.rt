@@ -6,16 +6,18 @@ ghost use Rattle.reo_players.specs.Players.{all_done};
 ghost use Rattle.reo_trace.specs.declared.line.Ending.TheVariants.{Done as IsDone, Stuck as IsStuck};
 ghost use Rattle.reo_rounds.specs.Plans.{Suits};
 ghost use Rattle.reo_rounds.specs.Rules.{rules_of};
+ghost use Rattle.reo_standing.specs.Standing.{Stands};
 ghost use Rattle.reo_runs.specs.Round.{advanced};
 ghost use Rattle.reo_runs.specs.Run.{over_after};
 ghost use Rattle.reo_at_ports.specs.Pending.{IsButForOffers};
 ghost use Rattle.reo_at_ports.specs.Between.{AreBetween, AreStarted};
 
 use crate::advancing::advance_all;
-use reo_engine::{Done, Engine, Plan};
+use reo_engine::{Done, Engine, Plan, Standing};
 use reo_net_base::{Move, Ports, Restoring};
 use reo_players::Players;
-use reo_trace::Ending;
+use reo_stepping::Standin;
+use reo_trace::{Ending, RoundLine};
 use reo_values::List;
 
 /// What a round has come to: the items that moved at ports, and how the run is over, if it is.
@@ -72,6 +74,46 @@ pub fn carry_out<P: Restoring>(
         jammed,
     } = engine.commit(plan);
     let _ = jammed;
+    advance_all(engine, ports, players);
+    let over = over_after(engine.rounds(), idle, counted, players);
+    Carried { moves, over }
+}
+
+/// Makes the round that stands: the circuit steps, and each component goes on. This takes no memory.
+pub fn carry_on<P: Restoring + Standin>(
+    engine: &mut Engine<P>,
+    players: &mut Players,
+    ports: &Ports,
+    standing: Standing,
+) -> Carried
+    requires started { let old = engine.old.circuit in
+        AreStarted ports.now.list old.ports players.old (map P.port_state old.primitives) }
+    requires stands { let net = net_of P.behaviour engine.old.circuit in
+        let turn = engine.old.rounds + 1 in
+        Stands net engine.old.circuit.ports turn standing }
+    requires few { engine.old.rounds < 2 ^ 63 }
+    ensures players { let net = net_of P.behaviour engine.old.circuit in
+        players.new ≡ advanced net standing.colouring.rows players.old }
+    ensures circuit { let r = rules_of P.behaviour P.settled P.port_state P.placed P.withdrawn in
+        let old = engine.old.circuit in
+        let colouring = standing.colouring in
+        let primitives = stepped P.behaviour P.settled old colouring.rows colouring.items in
+        IsButForOffers r (record old { primitives = primitives }) engine.new.circuit }
+    ensures between { let new = engine.new.circuit in
+        AreBetween ports.now.list new.ports players.new (map P.port_state new.primitives) }
+    ensures rounds { engine.new.rounds ≡ engine.old.rounds + 1 }
+    ensures over { let turn = engine.old.rounds + 1 in
+        result.over ≡ over_after turn standing.line.idle players.old players.new }
+    ensures moves { result.moves ≡ standing.line.moves }
+{
+    let counted = players.someone_counts();
+    let RoundLine {
+        round,
+        idle,
+        moves,
+        entries,
+    } = engine.go_on(standing);
+    let _ = (round, entries);
     advance_all(engine, ports, players);
     let over = over_after(engine.rounds(), idle, counted, players);
     Carried { moves, over }

@@ -7,5 +7,5 @@ mod carrying;
 mod offering;
 
 pub use advancing::advance_all;
-pub use carrying::{Carried, carry_out};
+pub use carrying::{Carried, carry_on, carry_out};
 pub use offering::offer_all;

@@ -1,6 +1,7 @@
 pub mod CountLemmas
-pub mod FlowLemmas
 pub mod KeptLemmas
 pub mod Lookups
-pub mod QuietLemmas
+pub mod FlowsLemmas
+pub mod Others
+pub mod Reached
 mod Fresh

@@ -21,7 +21,8 @@ use Rattle.reo_planning.proofs.Shapes.{knots_stay}
 use Rattle.reo_settling.specs.declared.lookups.Lookups.{Lookups}
 use Rattle.reo_settling.specs.Lookups.{AreLookups}
 use Rattle.reo_settling.proofs.HeldTables.{lookups_stay}
-use Rattle.reo_engine.specs.Changes.{is_changed, OthersStay}
+use Rattle.reo_stepping.specs.Changes.{is_changed}
+use Rattle.reo_engine.specs.Changes.{OthersStay}
 use Rattle.reo_engine.specs.Engine.{IsLookedUp}
 use Rattle.reo_engine.specs.Settled.{StaySettled}
 

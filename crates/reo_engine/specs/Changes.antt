@@ -1,22 +1,6 @@
 -- Which primitives may have changed.
-use Rattle.std.specs.Prelude.{ℕ, ◌<◌, ◌≡◌, ◌↔◌, Bool, false, IsTrue, List, length, slice_get, slice_index_or}
-use Rattle.reo_net_base.specs.declared.mark.Mark.TheVariants.{F}
-use Rattle.reo_net_base.specs.Net.{Net, behaviour_at, mark_at, end_of}
-
--- Some end of a primitive flows.
-pub record HasFlow (net : Net) (rows : List ℕ) (primitive : ℕ) : Type 0 where
-  pub end : ℕ
-  pub is_end : end < (behaviour_at net.primitives primitive).ends
-  pub flows : mark_at net rows (end_of primitive end) ≡ F
-
--- The mark of a primitive; one that there is not has none.
-abbrev pub is_changed : List Bool → ℕ → Bool
-is_changed marks primitive = slice_index_or marks primitive false
-
--- After a round exactly those primitives are marked of which some end flowed.
-pub record AreThoseThatFlowed (net : Net) (rows : List ℕ) (marks : List Bool) : Type 0 where
-  pub one_each : length marks ≡ length net.primitives
-  pub each : (i : ℕ) → i < length net.primitives → IsTrue (is_changed marks i) ↔ HasFlow net rows i
+use Rattle.std.specs.Prelude.{ℕ, ◌≡◌, Bool, false, List, slice_get}
+use Rattle.reo_stepping.specs.Changes.{is_changed}
 
 -- A primitive that is not marked stands as it stood.
 abbrev pub OthersStay : {P : Type 0} → List Bool → List P → List P → Type 0

@@ -3,3 +3,5 @@ pub mod Changes
 pub mod Suited
 pub mod Isolation
 pub mod Settled
+pub mod Stood
+pub mod Flows

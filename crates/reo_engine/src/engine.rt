@@ -4,11 +4,12 @@ ghost use Rattle.reo_knots.specs.Knots.{AreKnots};
 ghost use Rattle.reo_rounds.specs.Offering.{AreJustPorts};
 ghost use Rattle.reo_engine.specs.Engine.{net_now};
 
-use crate::changes::all_marked;
+use crate::beginning::begin;
+use crate::flows::Flows;
 use reo_knots::{Knots, find_knots};
 use reo_net_base::Ported;
 use reo_net_circuit::Circuit;
-use reo_net_ends::{Ends, ends_of};
+use reo_net_ends::Ends;
 use reo_planning::Kept;
 use reo_settling::Lookups;
 use reo_values::{List, NoMemory};
@@ -35,6 +36,7 @@ pub struct Engine<P: Ported> {
     pub(crate) ends: Ends,
     pub(crate) kept: Kept,
     pub(crate) lookups: Lookups,
+    pub(crate) flows: Flows,
 }
 
 impl<P: Ported> Model for Engine<P> {
@@ -43,6 +45,7 @@ impl<P: Ported> Model for Engine<P> {
     ghost use Rattle.reo_rounds.specs.Offering.{AreJustPorts};
     ghost use Rattle.reo_settling.specs.Lookups.{AreLookups};
     ghost use Rattle.reo_engine.specs.Engine.{Running, IsLookedUp};
+    ghost use Rattle.reo_engine.specs.Flows.{AreFlows};
 
     ghost Value = { Running P };
 
@@ -59,7 +62,8 @@ impl<P: Ported> Model for Engine<P> {
         × (length e.changed ≡ length e.circuit.primitives)
         × AreJustPorts (map P.port_state e.circuit.primitives) e.circuit.ports
         × IsLookedUp (net_of P.behaviour e.circuit) e.rounds e.knots e.ends e.kept
-        × AreLookups (net_of P.behaviour e.circuit) e.knots e.kept e.lookups };
+        × AreLookups (net_of P.behaviour e.circuit) e.knots e.kept e.lookups
+        × AreFlows (net_of P.behaviour e.circuit) e.knots e.kept e.flows };
 }
 
 impl<P: Ported> Engine<P> {
@@ -72,19 +76,17 @@ impl<P: Ported> Engine<P> {
         ensures changed { let all = replicate (length circuit.primitives) true in
             IfOk result (λ made. made.changed ≡ all) }
     {
-        let changed = all_marked(alloc, circuit.primitives().len())?;
         let knots = find_knots(alloc, &circuit)?;
-        let ends = ends_of(alloc, &circuit)?;
-        let kept = Kept::new(alloc, circuit.sides(), knots.count())?;
-        let lookups = Lookups::new(alloc, &circuit, &knots)?;
+        let begun = begin(alloc, &circuit, &knots)?;
         Ok(Engine {
             circuit,
             rounds: 0,
-            changed,
+            changed: begun.changed,
             knots,
-            ends,
-            kept,
-            lookups,
+            ends: begun.ends,
+            kept: begun.kept,
+            lookups: begun.lookups,
+            flows: begun.flows,
         })
     }
 

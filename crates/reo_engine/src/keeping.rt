@@ -64,6 +64,7 @@ impl<P: Ported> Engine<P> {
             budget,
             steps,
         )?;
+        self.flows.calm = false;
         self.kept.store(&self.circuit, &self.knots, rows, budget);
         Ok(())
     }

@@ -1,21 +1,26 @@
 //! The engine: a circuit that takes offers at its ports and goes on round by round.
 //!
-//! A round is planned and then made. Only `new`, `plan` and `prepare` take memory, so a round that
-//! was planned can always be made. The rows of parts in which nothing changes are kept from round
-//! to round.
+//! A round is planned and then made by `plan` and `commit`; `stand` and `go_on` do the same at the
+//! cost of what flows. Making a round takes no memory, so one that was planned, or that stands, can
+//! always be made. The rows of parts in which nothing changes are kept from round to round.
 #![tactic(auto)]
 
+mod beginning;
 mod changes;
 mod engine;
+mod flows;
 mod keeping;
 mod laws;
 mod next;
 mod offering;
 mod offers;
 mod planning;
+mod renewing;
 mod rounds;
+mod standing;
 
 pub use engine::Engine;
 pub use laws::plans_suit;
 pub use planning::plan_with;
 pub use reo_rounds::{Declined, Done, OfferFault, Plan, PlanFault, PlannedRound};
+pub use reo_standing::Standing;

@@ -15,8 +15,8 @@ use std::alloc::Global;
 use std::sync::ledger::Ledger;
 
 impl<P: Ported> Engine<P> {
-    /// Plans the round that comes next, and makes the line that shows it. Whatever makes rounds
-    /// does so by this call and `commit`: runs, and circuits that are talked to.
+    /// Plans the round that comes next, and makes the line that shows it. Circuits that are talked
+    /// to make their rounds by this call and `commit`, and so do runs that are proved.
     ///
     /// What is found of the parts is kept for rounds to come, as `prepare` keeps it, and all else
     /// stays as it was. It makes at most as many ticks as the parts weigh together that are not

@@ -7,7 +7,8 @@ ghost use Rattle.reo_knots.specs.Knots.{knot_count};
 ghost use Rattle.reo_planning.specs.Keeping.{AllServe};
 ghost use Rattle.reo_planning.specs.Planned.{AreWeights, sum_below, weight_left};
 ghost use Rattle.reo_engine.specs.Engine.{net_now};
-ghost use Rattle.reo_engine.specs.Changes.{AreThoseThatFlowed, OthersStay};
+ghost use Rattle.reo_stepping.specs.Changes.{AreThoseThatFlowed};
+ghost use Rattle.reo_engine.specs.Changes.{OthersStay};
 ghost use Rattle.reo_engine.specs.Isolation.{AreFirstInParts};
 ghost use Rattle.reo_engine.specs.Settled.{StaySettled};
 

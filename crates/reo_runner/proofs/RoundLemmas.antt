@@ -1,5 +1,5 @@
 -- A round of the engine is a round of the run.
-use Rattle.std.proofs.Common.{◌≡◌, ◌∙◌, ℕ, ◌≤◌, List, sym, ap, subst}
+use Rattle.std.proofs.Common.{◌≡◌, ◌∙◌, ℕ, ◌≤◌, List, refl, sym, ap, subst}
 use Rattle.reo_net_base.specs.declared.port.Port.{Port}
 use Rattle.reo_net_base.specs.Moves.{moves_of}
 use Rattle.reo_net_base.specs.Net.{Net, Wiring, net_of}
@@ -11,7 +11,9 @@ use Rattle.reo_trace.specs.declared.line.RoundLine.{RoundLine}
 use Rattle.reo_trace.specs.Entries.{line_for}
 use Rattle.reo_rounds.specs.declared.plan.Plan.{Plan}
 use Rattle.reo_weights.specs.Over.{IsOver}
-use Rattle.reo_rounds.specs.Plans.{IsPlan}
+use Rattle.reo_rounds.specs.Plans.{IsPlan, jammed_sides}
+use Rattle.reo_standing.specs.declared.standing.Standing.{Standing}
+use Rattle.reo_engine.specs.Stood.{IsStood}
 use Rattle.reo_rounds.specs.Ready.{ready}
 use Rattle.reo_rounds.specs.Rules.{Rules}
 use Rattle.reo_runs.specs.Round.{State, RoundOf, advanced}
@@ -45,3 +47,18 @@ round_planned r budget limit turn a w p line players same within plan line_is pl
 -- The moves of a plan are those of its line.
 pub tallied_by : (net : Net) (turn : ℕ) (p : Plan) (ports : List Port) (line : RoundLine) (old new : Tally) → line ≡ line_for net turn p.colouring.rows p.moves → IsTallied ports p.moves old new → IsTallied ports line.moves old new
 tallied_by net turn p ports line old new line_is tallied = subst (λ ms. IsTallied ports ms old new) (sym (ap (λ (l : RoundLine). l.moves) line_is)) tallied
+
+-- What stands, as a plan.
+abbrev pub plan_of : Net → Standing → Plan
+plan_of net s = record { colouring = s.colouring; moves = s.line.moves; idle = s.line.idle; jammed = jammed_sides net s.colouring.rows }
+
+pub stood_plan : (budget : ℕ) (net : Net) (ports turn : ℕ) (s : Standing) → IsStood budget net ports turn s → IsPlan budget net ports turn (plan_of net s)
+stood_plan budget net ports turn s is = record {
+  within = is.within;
+  first = is.stands.first;
+  shows = record {
+    moves = ap (λ (l : RoundLine). l.moves) is.stands.line;
+    idle = ap (λ (l : RoundLine). l.idle) is.stands.line;
+    jammed = refl;
+  };
+}

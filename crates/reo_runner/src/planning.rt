@@ -1,11 +1,11 @@
 //! Rounds that are planned.
 ghost use Rattle.std.specs.Prelude.{◌≡◌, ◌<◌, ◌+◌, ◌^◌, MatchResult};
 ghost use Rattle.reo_net_base.specs.Net.{net_of};
-ghost use Rattle.reo_rounds.specs.Plans.{IsPlannedRound};
+ghost use Rattle.reo_engine.specs.Stood.{IsStood};
 ghost use Rattle.reo_runner.specs.Rounds.{IsUnplanned, fault_of_plan};
 ghost use Rattle.reo_runner.specs.declared.planning.RoundFault.TheVariants.{NoMemory as OutOfMemory};
 
-use reo_engine::{Engine, PlanFault, PlannedRound};
+use reo_engine::{Engine, PlanFault, Standing};
 use reo_net_base::Ported;
 use reo_steps::Steps;
 use reo_values::NoMemory;
@@ -50,24 +50,24 @@ fn round_fault(fault: PlanFault) -> RoundFault
     }
 }
 
-/// Plans the round that stands next, with its line. What was found of its parts is kept for rounds
+/// Has the engine look at the round that stands next. What was found of its parts is kept for rounds
 /// to come.
-pub(crate) fn plan_round<P: Ported, L: Ledger>(
+pub(crate) fn stand_next<P: Ported, L: Ledger>(
     alloc: Global,
     engine: &mut Engine<P>,
     budget: u64,
     steps: &mut Steps<L>,
-) -> Result<PlannedRound, RoundFault>
+) -> Result<Standing, RoundFault>
     requires small { budget < 10 ^ 18 }
     ensures exact { let net = net_of P.behaviour engine.old.circuit in
         let turn = engine.old.rounds + 1 in
-        MatchResult result (IsPlannedRound budget net engine.old.circuit.ports turn)
+        MatchResult result (IsStood budget net engine.old.circuit.ports turn)
         (IsUnplanned budget net) }
     ensures circuit { engine.new.circuit ≡ engine.old.circuit }
     ensures rounds { engine.new.rounds ≡ engine.old.rounds }
 {
-    match engine.plan_round(alloc, budget, steps) {
-        Ok(planned) => Ok(planned),
+    match engine.stand(alloc, budget, steps) {
+        Ok(standing) => Ok(standing),
         Err(fault) => Err(round_fault(fault)),
     }
 }

@@ -1,10 +1,11 @@
 //! One round of a run.
 ghost use Rattle.std.specs.Prelude.{◌≡◌, ◌≤◌, ◌<◌, ◌+◌, ◌^◌, map, IfOk, OnOk, IfErr, OnErr, IsErrOf};
 ghost use Rattle.reo_io.specs.Causes.{Rose};
+ghost use Rattle.reo_io.specs.Sinks.{Appended, TookPart};
 ghost use Rattle.reo_net_base.specs.Net.{Wiring, net_of};
 ghost use Rattle.reo_net_base.specs.Step.{stepped};
 ghost use Rattle.reo_players.specs.Players.{someone_counts};
-ghost use Rattle.reo_rounds.specs.Plans.{Suits};
+ghost use Rattle.reo_standing.specs.Standing.{Stands};
 ghost use Rattle.reo_rounds.specs.Rules.{rules_of};
 ghost use Rattle.reo_runs.specs.Round.{State, advanced};
 ghost use Rattle.reo_runs.specs.Run.{over_after};
@@ -14,14 +15,15 @@ ghost use Rattle.reo_runner.specs.Rounds.{MadeRound, IsRoundFault, IsTallied, Is
 ghost use Rattle.reo_runner.specs.declared.planning.RoundFault.TheVariants.{Failed as SinkFailed};
 
 use crate::outcome::{Limits, Tally};
-use crate::planning::{RoundFault, plan_round};
-use reo_at_ports::{Carried, carry_out, offer_all};
-use reo_engine::{Engine, Plan};
-use reo_io::Sink;
+use crate::planning::{RoundFault, stand_next};
+use reo_at_ports::{Carried, carry_on, offer_all};
+use reo_engine::{Engine, Standing};
+use reo_io::{Sink, SinkFault, put_all};
 use reo_net_base::{Ports, Restoring};
 use reo_players::Players;
+use reo_stepping::Standin;
 use reo_steps::Steps;
-use reo_trace::{Ending, WriteFault, write_round};
+use reo_trace::Ending;
 use std::alloc::Global;
 use std::sync::ledger::Ledger;
 
@@ -32,39 +34,53 @@ pub(crate) struct Made {
     pub over: Option<Ending>,
 }
 
-/// Makes a planned round, and counts what moved.
-fn count_out<P: Restoring>(
+/// Makes the round that stands, and counts what moved.
+fn count_out<P: Restoring + Standin>(
     engine: &mut Engine<P>,
     players: &mut Players,
     ports: &Ports,
-    plan: Plan,
+    standing: Standing,
     tally: Tally,
 ) -> Made
     requires started { let old = engine.old.circuit in
         AreStarted ports.now.list old.ports players.old (map P.port_state old.primitives) }
-    requires suits { Suits (net_of P.behaviour engine.old.circuit) engine.old.circuit.ports plan }
+    requires stands { let net = net_of P.behaviour engine.old.circuit in
+        let turn = engine.old.rounds + 1 in
+        Stands net engine.old.circuit.ports turn standing }
     requires few { engine.old.rounds < 10 ^ 9 }
     requires small { IsSmall tally }
     requires fewer { tally.rounds < 10 ^ 9 }
     ensures players { let net = net_of P.behaviour engine.old.circuit in
-        players.new ≡ advanced net plan.colouring.rows players.old }
+        players.new ≡ advanced net standing.colouring.rows players.old }
     ensures circuit { let r = rules_of P.behaviour P.settled P.port_state P.placed P.withdrawn in
         let old = engine.old.circuit in
-        let rows = plan.colouring.rows in
-        let primitives = stepped P.behaviour P.settled old rows plan.colouring.items in
+        let colouring = standing.colouring in
+        let primitives = stepped P.behaviour P.settled old colouring.rows colouring.items in
         IsButForOffers r (record old { primitives = primitives }) engine.new.circuit }
     ensures between { let new = engine.new.circuit in
         AreBetween ports.now.list new.ports players.new (map P.port_state new.primitives) }
     ensures rounds { engine.new.rounds ≡ engine.old.rounds + 1 }
     ensures over { let turn = engine.old.rounds + 1 in
-        result.over ≡ over_after turn plan.idle players.old players.new }
-    ensures tallied { IsTallied ports.now.list plan.moves tally result.tally }
+        result.over ≡ over_after turn standing.line.idle players.old players.new }
+    ensures tallied { IsTallied ports.now.list standing.line.moves tally result.tally }
     ensures small { IsSmall result.tally }
 {
     engine.circuit().known();
-    let Carried { moves, over } = carry_out(engine, players, ports, plan);
+    let Carried { moves, over } = carry_on(engine, players, ports, standing);
     let tally = tally.after(ports, moves.as_slice());
     Made { tally, over }
+}
+
+/// Writes the text of a line. After `Failed`, the one fault, a front of it was taken, and not the
+/// whole; it comes only where the sink's count of faults rose, and that rises nowhere else.
+fn write_line<S: Sink>(text: &[u8], out: &mut S) -> Result<(), SinkFault>
+    ensures ok { OnOk result (Appended (S.told out.old) (S.told out.new) text.now) }
+    ensures failed { OnErr result (TookPart (S.told out.old) (S.told out.new) text.now) }
+    ensures cause { OnErr result (Rose (S.faults out.old) (S.faults out.new)) }
+    ensures same { OnOk result (S.faults out.new ≡ S.faults out.old) }
+    ensures later { S.faults out.old ≤ S.faults out.new }
+{
+    put_all(text, out)
 }
 
 /// Makes the round that stands next: the components make their offers, the round is planned and its
@@ -75,7 +91,7 @@ fn count_out<P: Restoring>(
 /// `Spent` and `Wide` name a part that is over. `Failed` comes only where the sink's count of
 /// faults rose: a front of the line was taken, and not the whole. `NoMemory` is out of memory. But
 /// for `Failed` the sink stays as it was. No round was made.
-pub(crate) fn make_round<P: Restoring, L: Ledger, S: Sink>(
+pub(crate) fn make_round<P: Restoring + Standin, L: Ledger, S: Sink>(
     alloc: Global,
     engine: &mut Engine<P>,
     players: &mut Players,
@@ -114,10 +130,10 @@ pub(crate) fn make_round<P: Restoring, L: Ledger, S: Sink>(
     ensures risen { S.faults out.old < S.faults out.new → IsErrOf result SinkFailed }
 {
     offer_all(alloc, engine, ports, players)?;
-    let planned = plan_round(alloc, engine, limits.budget, steps)?;
-    match write_round(alloc, ports, &planned.line, out) {
-        Ok(()) => Ok(count_out(engine, players, ports, planned.plan, tally)),
-        Err(WriteFault::Failed) => Err(RoundFault::Failed),
-        Err(WriteFault::NoMemory) => Err(RoundFault::NoMemory),
+    let standing = stand_next(alloc, engine, limits.budget, steps)?;
+    let text = engine.line_text(alloc, ports, &standing)?;
+    match write_line(text.as_slice(), out) {
+        Ok(()) => Ok(count_out(engine, players, ports, standing, tally)),
+        Err(_) => Err(RoundFault::Failed),
     }
 }

@@ -27,6 +27,7 @@ use reo_net_circuit::Circuit;
 use reo_players::Players;
 use reo_runs::{known_order, trace_exists};
 use reo_scripts::Script;
+use reo_stepping::Standin;
 use reo_steps::Steps;
 use reo_trace::Ending;
 use std::alloc::Global;
@@ -76,7 +77,7 @@ fn stop<S: Sink>(
 }
 
 /// The rounds of a run of which some component is not done, and its ending.
-fn make_rounds<P: Restoring, L: Ledger, S: Sink>(
+fn make_rounds<P: Restoring + Standin, L: Ledger, S: Sink>(
     alloc: Global,
     engine: &mut Engine<P>,
     players: &mut Players,
@@ -121,7 +122,7 @@ fn make_rounds<P: Restoring, L: Ledger, S: Sink>(
 }
 
 /// The run of components on a circuit, whose steps are counted in a book.
-fn run_counted<P: Restoring, L: Ledger, S: Sink>(
+fn run_counted<P: Restoring + Standin, L: Ledger, S: Sink>(
     alloc: Global,
     circuit: Circuit<P>,
     ports: &Ports,

@@ -1,6 +1,6 @@
 use Rattle.std.proofs.Common.{◌≡◌, ◌<◌, ◌↔◌, ℕ, IsTrue, length}
-use Rattle.reo_engine.specs.Changes.{is_changed}
-use Rattle.reo_engine.proofs.FlowLemmas.{IsReached}
+use Rattle.reo_stepping.specs.Changes.{is_changed}
+use Rattle.reo_engine.proofs.Reached.{IsReached}
 use Rattle.reo_engine.proofs.changes.mark_flowing.Given as goal
 
 -- The primitives at the joints so far that have an item are marked.

@@ -36,6 +36,7 @@ invariant_of-self g c =
       old.2,
       old.3,
       c.settle.ensures.lookups c.self.inside.kept,
+      old.5,
     )
 
 pub invariant_of-self-2 : goal.invariant_of-self-2
@@ -46,6 +47,7 @@ invariant_of-self-2 g c =
       old.2,
       record { are_knots = old.3.are_knots; are_ends = old.3.are_ends; is_kept = c.store.ensures.kept (c.self.inside.rounds + 1) c.in_ok-rows.ensures.exact },
       c.settle.ensures.lookups c.store.new.self,
+      record { orders = old.5.orders; blank = old.5.blank; calm = λ e. absurd cc; one_each = old.5.one_each },
     )
 
 pub returns-clause-exact : goal.returns-clause-exact

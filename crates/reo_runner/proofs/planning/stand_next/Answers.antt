@@ -5,7 +5,7 @@ use Rattle.reo_rounds.specs.declared.plan.PlanFault.TheVariants as plans
 use Rattle.reo_rounds.specs.Plans.{IsPlanFault}
 use Rattle.reo_runner.specs.declared.planning.RoundFault.{RoundFault}
 use Rattle.reo_runner.specs.Rounds.{IsUnplanned, fault_of_plan}
-use Rattle.reo_runner.proofs.planning.plan_round.Goals as goal
+use Rattle.reo_runner.proofs.planning.stand_next.Goals as goal
 
 unplanned : (budget : ℕ) (net : Net) (fault : PlanFault) → IsPlanFault budget net fault → IsUnplanned budget net (fault_of_plan fault)
 unplanned budget net (plans.Wide knot) over = over

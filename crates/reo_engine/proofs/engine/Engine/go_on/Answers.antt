@@ -1,0 +1,69 @@
+use Rattle.std.proofs.Common.{◌≡◌, ◌∙◌, List, length, map, ap, sym, subst, rules, arith}
+use Rattle.std.proofs.lemmas.List.{length-map}
+use Rattle.reo_net_base.specs.declared.joint.Joint.{Joint}
+use Rattle.reo_net_base.specs.Net.{Net, Wiring, net_of}
+use Rattle.reo_planning.proofs.Setting.{fewer_twice}
+use Rattle.reo_standing.specs.Filling.{AreBlank}
+use Rattle.reo_engine.proofs.Others.{others_stay}
+use Rattle.reo_engine.proofs.FlowsLemmas.{flows_stay, held_among}
+use Rattle.reo_engine.proofs.Lookups.{round_held, round_made, stay_settled}
+use Rattle.reo_engine.proofs.engine.Engine.go_on.Goals as goal
+
+pub cleared-requires : goal.cleared-requires
+cleared-requires g c =
+    let net : Net = net_of g.P.Primitive.behaviour c.self.inside.circuit in
+    let stands = rw (← c.self.view_is) at c.requires.stands in
+    let standing = c.args.standing in
+    rw c.as_slice-joints.ensures (held_among net c.known.ensures.wired standing.colouring.rows standing.colouring.items c.step_marked.new.items stands.first.colouring standing.flowing stands.flowing c.step_marked.ensures.items)
+
+pub returns-clause-others : goal.returns-clause-others
+returns-clause-others g c =
+    let now : Wiring g.row.P.Denot = c.self.inside.circuit in
+    let stands = rw (← c.self.view_is) at c.requires.stands in
+    let standing = c.args.standing in
+    let flowed = rw c.as_slice-by.ensures at c.mark_flowing.ensures in
+    let step = rw c.as_slice-by.ensures at c.step_marked.ensures.circuit in
+    rw (← c.self.view_is) (others_stay g.P.Primitive.behaviour g.P.Primitive.settled g.met.P.Primitive.quiet now c.step_marked.new.circuit standing.colouring.rows standing.colouring.items c.mark_flowing.new.marks
+    c.known.ensures.wired stands.first.colouring flowed step)
+
+pub invariant_of-self : goal.invariant_of-self
+invariant_of-self g c =
+    let old = c.self.invariant in
+    let now : Wiring g.row.P.Denot = c.self.inside.circuit in
+    let net : Net = net_of g.P.Primitive.behaviour now in
+    let other : Net = net_of g.P.Primitive.behaviour c.step_marked.new.circuit in
+    let stands = rw (← c.self.view_is) at c.requires.stands in
+    let standing = c.args.standing in
+    let flowed = rw c.as_slice-by.ensures at c.mark_flowing.ensures in
+    let step = rw c.as_slice-by.ensures at c.step_marked.ensures.circuit in
+    let few = rw (← c.self.view_is) at c.requires.few in
+    let others = others_stay g.P.Primitive.behaviour g.P.Primitive.settled g.met.P.Primitive.quiet now c.step_marked.new.circuit standing.colouring.rows standing.colouring.items c.mark_flowing.new.marks
+    c.known.ensures.wired stands.first.colouring flowed step in
+    let before : length (map g.P.Primitive.behaviour now.primitives) ≡ length now.primitives = length-map now.primitives g.P.Primitive.behaviour in
+    let after : length (map g.P.Primitive.behaviour c.step_marked.new.circuit.primitives) ≡ length c.step_marked.new.circuit.primitives = length-map c.step_marked.new.circuit.primitives g.P.Primitive.behaviour in
+    let marks : length c.mark_flowing.new.marks ≡ length now.primitives = c.mark_flowing.ensures.one_each ∙ before in
+    let shape = c.step_marked.ensures.shape in
+    let unsettled = rw c.as_slice-marks.ensures at c.unsettle_marked.ensures in
+    let fewer = fewer_twice c.self.inside.kept c.unsettle_marked.new.self c.unsettle_moving.new.self unsettled.fewer c.unsettle_moving.ensures.fewer in
+    let count : length c.step_marked.new.items ≡ length c.step_marked.new.circuit.joints =
+    c.step_marked.ensures.items.count ∙ stands.first.colouring.one_each ∙ ap (λ (js : List Joint). length js) (sym shape.joints) in (
+      omega (arith, few),
+      marks ∙ sym before ∙ sym shape.primitives.count ∙ after,
+      search rules,
+      round_made g.P.Primitive.behaviour now c.step_marked.new.circuit c.mark_flowing.new.marks c.known.ensures.wired c.known-2.ensures.wired shape others marks
+          c.self.inside.rounds c.self.inside.knots c.self.inside.ends c.self.inside.kept c.unsettle_marked.new.self c.unsettle_moving.new.self old.3 unsettled c.unsettle_moving.ensures,
+      round_held g.P.Primitive.behaviour now c.step_marked.new.circuit c.mark_flowing.new.marks c.known.ensures.wired shape others marks
+          c.self.inside.knots old.3.are_knots c.self.inside.kept c.unsettle_marked.new.self c.unsettle_moving.new.self c.self.inside.lookups old.4 unsettled c.unsettle_moving.ensures,
+      record {
+        orders = (flows_stay net other c.known.ensures.wired shape.joints shape.primitives c.self.inside.knots c.self.inside.kept c.unsettle_moving.new.self fewer c.self.inside.flows old.5).orders;
+        blank = subst (λ n. AreBlank n c.cleared.result) count c.cleared.ensures;
+        calm = λ _ k settled. c.unsettle_moving.ensures.still k settled;
+        one_each = old.5.one_each;
+      },
+    )
+
+pub returns-clause-settled : goal.returns-clause-settled
+returns-clause-settled g c =
+    let net : Net = net_of g.P.Primitive.behaviour c.self.inside.circuit in
+    rw (← c.self.view_is) (stay_settled net c.self.inside.knots c.mark_flowing.new.marks c.self.inside.kept c.unsettle_marked.new.self c.unsettle_moving.new.self
+    (rw c.as_slice-marks.ensures at c.unsettle_marked.ensures) c.unsettle_moving.ensures)

@@ -1,0 +1,62 @@
+//! What an engine begins with.
+ghost use Rattle.std.specs.Prelude.{◌≡◌, true, IfOk, length, replicate};
+ghost use Rattle.reo_net_base.specs.Net.{net_of};
+ghost use Rattle.reo_net_ends.specs.Ends.{AreEnds};
+ghost use Rattle.reo_knots.specs.Knots.{AreKnots};
+ghost use Rattle.reo_planning.specs.declared.kept.Kept.{Kept as KeptRows};
+ghost use Rattle.reo_planning.specs.Keeping.{IsKept};
+ghost use Rattle.reo_settling.specs.Lookups.{AreLookups};
+ghost use Rattle.reo_engine.specs.Flows.{AreFlows};
+
+use crate::changes::all_marked;
+use crate::flows::Flows;
+use reo_knots::Knots;
+use reo_net_base::Primitive;
+use reo_net_circuit::Circuit;
+use reo_net_ends::{Ends, ends_of};
+use reo_planning::Kept;
+use reo_settling::Lookups;
+use reo_values::{List, NoMemory};
+use std::alloc::Global;
+
+/// What an engine begins with beside its circuit and the circuit's knots.
+#[derive(Drop)]
+pub(crate) struct Begun {
+    pub(crate) changed: List<bool>,
+    pub(crate) ends: Ends,
+    pub(crate) kept: Kept,
+    pub(crate) lookups: Lookups,
+    pub(crate) flows: Flows,
+}
+
+/// What an engine begins with: all primitives are marked, and nothing is kept. `NoMemory` is out of
+/// memory.
+pub(crate) fn begin<P: Primitive>(
+    alloc: Global,
+    circuit: &Circuit<P>,
+    knots: &Knots,
+) -> Result<Begun, NoMemory>
+    requires { AreKnots (net_of P.behaviour circuit.now) knots.now }
+    ensures changed { let all = replicate (length circuit.now.primitives) true in
+        IfOk result (λ made. made.changed ≡ all) }
+    ensures ends { IfOk result (λ made. AreEnds (net_of P.behaviour circuit.now) made.ends) }
+    ensures kept { let net = net_of P.behaviour circuit.now in
+        IfOk result (λ made. IsKept net knots.now 1 made.kept) }
+    ensures lookups { let net = net_of P.behaviour circuit.now in
+        IfOk result (λ made. (kept : KeptRows) → AreLookups net knots.now kept made.lookups) }
+    ensures flows { let net = net_of P.behaviour circuit.now in
+        IfOk result (λ made. AreFlows net knots.now made.kept made.flows) }
+{
+    let changed = all_marked(alloc, circuit.primitives().len())?;
+    let ends = ends_of(alloc, circuit)?;
+    let kept = Kept::new(alloc, circuit.sides(), knots.count())?;
+    let lookups = Lookups::new(alloc, circuit, knots)?;
+    let flows = Flows::new(alloc, circuit, knots)?;
+    Ok(Begun {
+        changed,
+        ends,
+        kept,
+        lookups,
+        flows,
+    })
+}

@@ -1,0 +1,115 @@
+//! Rows that are kept, brought up to date.
+ghost use Rattle.std.specs.Prelude.{◌≡◌, ◌<◌, ◌≤◌, ◌+◌, ◌^◌, ℕ, OnErr, MatchResult};
+ghost use Rattle.reo_net_base.specs.Net.{net_of};
+ghost use Rattle.reo_net_ends.specs.Ends.{AreEnds};
+ghost use Rattle.reo_knots.specs.Knots.{AreKnots, knot_count};
+ghost use Rattle.reo_rounds.specs.Plans.{IsPlanFault};
+ghost use Rattle.reo_planning.specs.Keeping.{AllServe, IsKept};
+ghost use Rattle.reo_planning.specs.Planned.{AreWeights, sum_below, weight_left};
+ghost use Rattle.reo_settling.specs.Lookups.{AreLookups};
+ghost use Rattle.reo_engine.specs.Flows.{AreFlows};
+ghost use Rattle.reo_engine.specs.Stood.{AreRenewed};
+
+use crate::flows::{Flows, mark_restless};
+use reo_knots::Knots;
+use reo_net_base::Primitive;
+use reo_net_circuit::Circuit;
+use reo_net_ends::Ends;
+use reo_planning::Kept;
+use reo_rounds::PlanFault;
+use reo_settling::Lookups;
+use reo_steps::Steps;
+use std::alloc::Global;
+use std::sync::ledger::Ledger;
+
+/// Has all parts settled, for the round of a number: those that are not are looked at. It makes at
+/// most as many ticks as they weigh together. After a fault the rows are as they were.
+///
+/// # Errors
+///
+/// `Wide` and `Spent` come exactly where a part is over, for the least such part. `NoMemory` is out
+/// of memory.
+fn renew<P: Primitive, L: Ledger>(
+    alloc: Global,
+    circuit: &Circuit<P>,
+    knots: &Knots,
+    ends: &Ends,
+    kept: &mut Kept,
+    lookups: &mut Lookups,
+    turn: u64,
+    budget: u64,
+    steps: &mut Steps<L>,
+) -> Result<(), PlanFault>
+    requires knots { AreKnots (net_of P.behaviour circuit.now) knots.now }
+    requires ends { AreEnds (net_of P.behaviour circuit.now) ends.now }
+    requires turn { 1 ≤ turn }
+    requires budget { budget < 10 ^ 18 }
+    requires kept { IsKept (net_of P.behaviour circuit.now) knots.now turn kept.old }
+    requires lookups { AreLookups
+        (net_of P.behaviour circuit.now) knots.now kept.old lookups.old }
+    ensures kept { IsKept (net_of P.behaviour circuit.now) knots.now turn kept.new }
+    ensures lookups { AreLookups
+        (net_of P.behaviour circuit.now) knots.now kept.new lookups.new }
+    ensures exact { let net = net_of P.behaviour circuit.now in
+        MatchResult result (λ _. AllServe (knot_count knots.now) budget kept.new)
+        (IsPlanFault budget net) }
+    ensures refused { OnErr result (kept.new ≡ kept.old) }
+    ensures ticks { let count = knot_count knots.now in (weights : ℕ → ℕ)
+        → AreWeights (net_of P.behaviour circuit.now) knots.now weights
+        → steps.new ≤ steps.old + sum_below count (weight_left kept.old budget weights) }
+{
+    circuit.known();
+    if kept.all_serve(budget) {
+        return Ok(());
+    }
+    let rows = lookups.settle(alloc, circuit, knots, ends, kept, turn, budget, steps)?;
+    kept.store(circuit, knots, rows, budget);
+    Ok(())
+}
+
+/// Has all parts settled for the round of a number, and marks those in which something may flow.
+/// What a round is made with stays right.
+///
+/// # Errors
+///
+/// As for `renew`.
+pub(crate) fn renew_marked<P: Primitive, L: Ledger>(
+    alloc: Global,
+    circuit: &Circuit<P>,
+    knots: &Knots,
+    ends: &Ends,
+    kept: &mut Kept,
+    lookups: &mut Lookups,
+    flows: &mut Flows,
+    turn: u64,
+    budget: u64,
+    steps: &mut Steps<L>,
+) -> Result<(), PlanFault>
+    requires knots { AreKnots (net_of P.behaviour circuit.now) knots.now }
+    requires ends { AreEnds (net_of P.behaviour circuit.now) ends.now }
+    requires turn { 1 ≤ turn }
+    requires budget { budget < 10 ^ 18 }
+    requires kept { IsKept (net_of P.behaviour circuit.now) knots.now turn kept.old }
+    requires lookups { AreLookups
+        (net_of P.behaviour circuit.now) knots.now kept.old lookups.old }
+    requires flows { AreFlows (net_of P.behaviour circuit.now) knots.now kept.old flows.old }
+    ensures kept { IsKept (net_of P.behaviour circuit.now) knots.now turn kept.new }
+    ensures lookups { AreLookups
+        (net_of P.behaviour circuit.now) knots.now kept.new lookups.new }
+    ensures flows { AreFlows (net_of P.behaviour circuit.now) knots.now kept.new flows.new }
+    ensures exact { let net = net_of P.behaviour circuit.now in
+        MatchResult result (λ _. AreRenewed budget net knots.now turn kept.new flows.new.marked)
+        (IsPlanFault budget net) }
+    ensures ticks { let count = knot_count knots.now in (weights : ℕ → ℕ)
+        → AreWeights (net_of P.behaviour circuit.now) knots.now weights
+        → steps.new ≤ steps.old + sum_below count (weight_left kept.old budget weights) }
+{
+    circuit.known();
+    let _order = circuit.order();
+    mark_restless(kept, flows.calm, &mut flows.marked);
+    flows.calm = false;
+    renew(
+        alloc, circuit, knots, ends, kept, lookups, turn, budget, steps,
+    )?;
+    Ok(())
+}
