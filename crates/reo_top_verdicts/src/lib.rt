@@ -6,4 +6,5 @@ mod verdict;
 mod verifying;
 
 pub use proof::verify_proof_claim;
+pub use verdict::{verdict_line, verdict_status};
 pub use verifying::verify_claim;

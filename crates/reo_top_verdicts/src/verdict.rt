@@ -53,7 +53,7 @@ fn refused_line(alloc: Global, refusal: &Refusal) -> Result<Bytes, NoMemory>
 }
 
 /// The line of a verdict, its line feed included. `NoMemory` is out of memory.
-pub(crate) fn verdict_line(alloc: Global, verdict: &Verdict) -> Result<Bytes, NoMemory>
+pub fn verdict_line(alloc: Global, verdict: &Verdict) -> Result<Bytes, NoMemory>
     ensures { IfOk result (λ line. line ≡ verdict_line verdict.now) }
 {
     match verdict {
@@ -63,7 +63,7 @@ pub(crate) fn verdict_line(alloc: Global, verdict: &Verdict) -> Result<Bytes, No
 }
 
 /// The status of a verdict.
-pub(crate) fn verdict_status(verdict: &Verdict) -> u8
+pub fn verdict_status(verdict: &Verdict) -> u8
     ensures { result ≡ verdict_status verdict.now }
 {
     match verdict {

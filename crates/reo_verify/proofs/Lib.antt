@@ -1,4 +1,4 @@
 mod JamLemmas
-mod SoFar
-mod ReplayLemmas
-mod VerdictLemmas
+pub mod SoFar
+pub mod ReplayLemmas
+pub mod VerdictLemmas

@@ -1,0 +1,4 @@
+pub mod TabledLemmas
+pub mod RoundLemmas
+pub mod NumberLemmas
+pub mod DrawingLemmas

@@ -1,0 +1,29 @@
+-- The table of a trace, as what is owed.
+use Rattle.std.proofs.Common.{ℕ, List, refl, arith}
+use Rattle.std.specs.Prelude.{◌≢◌}
+use Rattle.reo_trace_texts.specs.declared.trace.Trace.{Trace}
+use Rattle.reo_verdicts.specs.declared.verdict.Verdict.{Verdict}
+use Rattle.reo_verdicts.specs.declared.verdict.Verdict.TheVariants.{Verified, Refused}
+use Rattle.reo_command.specs.Claims.{Claimed}
+use Rattle.reo_command.specs.Statuses.{IsAmong}
+use Rattle.reo_top_base.proofs.ToldLemmas.{told_status, told_not_three}
+use Rattle.reo_top_verdicts.specs.Judged.{IsTraceJudged}
+use Rattle.reo_top_verdicts.specs.VerdictTexts.{verdict_status}
+use Rattle.reo_draw_rounds.specs.Tables.{table_text}
+use Rattle.reo_draw_command.specs.DrawStatuses.{statuses_of_table}
+use Rattle.reo_draw_command.specs.Tabled.{tabled_text, TablesTrace}
+
+status_in : (v : Verdict) → IsAmong statuses_of_table (verdict_status v)
+status_in (Verified rounds jammed) = refl
+status_in (Refused refusal) = refl
+
+not_three : (v : Verdict) → verdict_status v ≢ 3
+not_three (Verified rounds jammed) e = omega (arith, e)
+not_three (Refused refusal) e = omega (arith, e)
+
+module _ (c : Claimed Trace) where
+  pub tabled_status : (bytes : List ℕ) (status : ℕ) → TablesTrace c bytes status → IsAmong statuses_of_table status
+  tabled_status bytes status h = told_status (IsTraceJudged c) (tabled_text (table_text c.work.flat.ports c.claim)) verdict_status statuses_of_table status_in bytes status h
+
+  pub tabled_not_three : (bytes : List ℕ) (status : ℕ) → TablesTrace c bytes status → status ≢ 3
+  tabled_not_three bytes status h = told_not_three (IsTraceJudged c) (tabled_text (table_text c.work.flat.ports c.claim)) verdict_status not_three bytes status h

@@ -1,0 +1,45 @@
+use Rattle.std.proofs.Common.{List, [], ◌∷◌, refl}
+use Rattle.reo_command.specs.declared.role.Role.TheVariants.{Circuit, Script, Trace}
+use Rattle.reo_command.specs.Claims.{ReadsClaim, StopsVerify}
+use Rattle.reo_draw_command.specs.DrawStatuses.{statuses_of_round}
+use Rattle.reo_draw_command.specs.Rounds.{DrawsRound}
+use Rattle.reo_command.specs.ReadSteps.{claimed_in}
+use Rattle.reo_top_base.proofs.AnswerLemmas.{refused_answered, refused_status_in, made_answered, made_status_in}
+use Rattle.reo_command.specs.declared.claim.Claim.{Claim}
+use Rattle.reo_command.specs.Fetched.{Content}
+use Rattle.reo_command.proofs.ClaimLemmas.{claim_reading}
+use Rattle.reo_command.proofs.ReadLemmas.{same_stops}
+use Rattle.reo_draw_command.proofs.RoundLemmas.{round_reading, round_status, round_not_three}
+use Rattle.reo_draw_command.proofs.round.draw_round.Goals as goal
+
+-- What is read, as the code has it.
+abbrev Reads : List Content → Claim → Type 0
+Reads answers claim = ReadsClaim answers (claimed_in claim.work.flat claim.work.script claim.trace)
+
+pub returns-in-Ok-clause-answered : goal.returns-in-Ok-clause-answered
+returns-in-Ok-clause-answered g c =
+    let law = round_reading _ (claim_reading c.one_answer.ensures c.circuits_are_spelled.ensures c.circuit_names_are_plain.ensures c.ports_are_told.ensures c.in-Ok.ensures.read.answers c.in-Ok.ensures.read.short) in
+    let claimed = claimed_in c.in-Ok.claim.work.flat c.in-Ok.claim.work.script c.in-Ok.claim.trace in
+    made_answered ReadsClaim StopsVerify (DrawsRound c.args.word.now) statuses_of_round _ _ c.in-Ok.ensures.read.answers law claimed c.in-Ok.ensures.read.read
+    c.write_round.ensures.cases c.write_round.ensures.exact (round_not_three c.args.word.now claimed)
+    (Circuit ∷ Script ∷ Trace ∷ []) (c.args.circuit.now ∷ c.args.script.now ∷ c.args.trace.now ∷ []) _ c.in-Ok.ensures.read.fetched
+
+pub returns-in-Ok-clause-status : goal.returns-in-Ok-clause-status
+returns-in-Ok-clause-status g c =
+    let law = round_reading _ (claim_reading c.one_answer.ensures c.circuits_are_spelled.ensures c.circuit_names_are_plain.ensures c.ports_are_told.ensures c.in-Ok.ensures.read.answers c.in-Ok.ensures.read.short) in
+    let claimed = claimed_in c.in-Ok.claim.work.flat c.in-Ok.claim.work.script c.in-Ok.claim.trace in
+    made_status_in ReadsClaim StopsVerify (DrawsRound c.args.word.now) statuses_of_round _ _ c.in-Ok.ensures.read.answers law claimed c.in-Ok.ensures.read.read
+    c.write_round.ensures.cases (round_status c.args.word.now claimed) refl refl
+
+pub returns-in-Err-clause-answered : goal.returns-in-Err-clause-answered
+returns-in-Err-clause-answered g c =
+    let law = round_reading _ (claim_reading c.one_answer.ensures c.circuits_are_spelled.ensures c.circuit_names_are_plain.ensures c.ports_are_told.ensures c.in-Err.ensures.read.answers c.in-Err.ensures.read.short) in
+    let stopped = same_stops Reads ReadsClaim StopsVerify c.in-Err.ensures.read.answers c.in-Err.stop c.in-Err.ensures.read.read in
+    refused_answered ReadsClaim StopsVerify (DrawsRound c.args.word.now) statuses_of_round _ _ c.in-Err.ensures.read.answers law c.in-Err.stop stopped c.refuse.ensures.refused
+    (Circuit ∷ Script ∷ Trace ∷ []) (c.args.circuit.now ∷ c.args.script.now ∷ c.args.trace.now ∷ []) _ c.in-Err.ensures.read.fetched
+
+pub returns-in-Err-clause-status : goal.returns-in-Err-clause-status
+returns-in-Err-clause-status g c =
+    let law = round_reading _ (claim_reading c.one_answer.ensures c.circuits_are_spelled.ensures c.circuit_names_are_plain.ensures c.ports_are_told.ensures c.in-Err.ensures.read.answers c.in-Err.ensures.read.short) in
+    let stopped = same_stops Reads ReadsClaim StopsVerify c.in-Err.ensures.read.answers c.in-Err.stop c.in-Err.ensures.read.read in
+    refused_status_in ReadsClaim StopsVerify (DrawsRound c.args.word.now) statuses_of_round _ _ c.in-Err.ensures.read.answers law c.in-Err.stop stopped c.refuse.ensures.refused refl refl

@@ -1,0 +1,6 @@
+pub mod Words
+pub mod DrawStatuses
+pub mod Drawn
+pub mod Tabled
+pub mod Rounds
+pub mod Answers

@@ -1,0 +1,95 @@
+//! The table of a trace that is fetched and read.
+ghost use Rattle.std.specs.Prelude.{◌≡◌, [], ◌∷◌, false, map, IfOk};
+ghost use Rattle.reo_kinds.specs.Kinds.{port_state_of};
+ghost use Rattle.reo_at_ports.specs.Runnable.{CanRun};
+ghost use Rattle.reo_verdicts.specs.Replays.{HasText};
+ghost use Rattle.reo_command.specs.declared.role.Role.TheVariants as roles;
+ghost use Rattle.reo_command.specs.Claims.{ReadsClaim, StopsVerify};
+ghost use Rattle.reo_command.specs.ReadSteps.{claimed_in};
+ghost use Rattle.reo_command.specs.States.{files_change, sink_change};
+ghost use Rattle.reo_command.specs.Statuses.{IsAmong};
+ghost use Rattle.reo_top_base.specs.Answered.{IsAnswered};
+ghost use Rattle.reo_top_base.specs.Cases.{Cases, IsExact, IsFair, TellsFaults};
+ghost use Rattle.reo_top_base.specs.Owed.{owed_by};
+ghost use Rattle.reo_draw_command.specs.Tabled.{tabled_text, TablesTrace};
+ghost use Rattle.reo_draw_command.specs.DrawStatuses.{statuses_of_table};
+
+use reo_circuit_texts::{circuit_names_are_plain, circuits_are_spelled};
+use reo_command::{Claim, Status, Work, read_claim};
+use reo_draw_rounds::table_text;
+use reo_io::{Files, Sink};
+use reo_run_texts::ports_are_told;
+use reo_top_base::{answer, no_memory, refuse};
+use reo_top_verdicts::{verdict_line, verdict_status};
+use reo_trace_texts::one_answer;
+use reo_values::{Bytes, NoMemory};
+use reo_verify::{Verdict, verify_trace};
+use std::alloc::Global;
+
+/// What is written for a verdict: the table of a trace that is verified, and else the line of the
+/// verdict. `NoMemory` is out of memory.
+fn tabled_text(alloc: Global, table: Bytes, verdict: &Verdict) -> Result<Bytes, NoMemory>
+    ensures { IfOk result (λ text. text ≡ tabled_text table verdict.now) }
+{
+    match verdict {
+        Verdict::Verified { .. } => Ok(table),
+        Verdict::Refused(_) => verdict_line(alloc, verdict),
+    }
+}
+
+/// Writes the table of a trace, or why it is refused.
+fn write_table<S: Sink>(alloc: Global, claim: Claim, out: &mut S) -> Status
+    requires fit { CanRun (map port_state_of claim.work.flat.circuit.primitives)
+        claim.work.flat.circuit.ports claim.work.flat.ports.list claim.work.script.components }
+    requires text { HasText claim.work.flat.ports.list claim.trace }
+    ensures cases { let claimed = claimed_in claim.work.flat claim.work.script claim.trace in
+        Cases (TablesTrace claimed) (sink_change S.told S.faults out.old out.new) result.code }
+    ensures exact { let claimed = claimed_in claim.work.flat claim.work.script claim.trace in
+        IsExact (TablesTrace claimed) (sink_change S.told S.faults out.old out.new) result.code }
+    ensures fair { IsFair (sink_change S.told S.faults out.old out.new) result.code }
+    ensures tells { TellsFaults (sink_change S.told S.faults out.old out.new) result.code }
+{
+    let Claim {
+        work: Work { flat, script },
+        trace,
+    } = claim;
+    let Ok(table) = table_text(alloc, flat.ports.list.as_slice(), &trace) else {
+        return no_memory(out);
+    };
+    let Ok(verdict) = verify_trace(alloc, flat, script, &trace) else {
+        return no_memory(out);
+    };
+    match tabled_text(alloc, table, &verdict) {
+        Ok(text) => answer(text.as_slice(), verdict_status(&verdict), out),
+        Err(_) => no_memory(out),
+    }
+}
+
+/// Fetches the circuit, the script and the trace, reads them, and writes the table of the trace, or
+/// why it is refused.
+pub(crate) fn draw_table<F: Files, S: Sink>(
+    alloc: Global,
+    circuit: &[u8],
+    script: &[u8],
+    trace: &[u8],
+    files: &mut F,
+    out: &mut S,
+) -> Status
+    ensures answered { IsAnswered false (owed_by ReadsClaim StopsVerify TablesTrace)
+        (roles.Circuit ∷ roles.Script ∷ roles.Trace ∷ [])
+        (circuit.now ∷ script.now ∷ trace.now ∷ [])
+        (files_change F.told F.failed F.given F.fetches files.old files.new)
+        (sink_change S.told S.faults out.old out.new) result.code }
+    ensures status { IsAmong statuses_of_table result.code }
+    ensures fair { IsFair (sink_change S.told S.faults out.old out.new) result.code }
+    ensures tells { TellsFaults (sink_change S.told S.faults out.old out.new) result.code }
+{
+    circuit_names_are_plain();
+    circuits_are_spelled();
+    ports_are_told();
+    one_answer();
+    match read_claim(alloc, circuit, script, trace, files) {
+        Ok(claim) => write_table(alloc, claim, out),
+        Err(stop) => refuse(alloc, stop, out),
+    }
+}

@@ -1,0 +1,3 @@
+pub mod OneRoundLemmas
+pub mod DrawnLemmas
+pub mod ShownLemmas

@@ -1,0 +1,45 @@
+-- Steps of a replay that draws a round.
+use Rattle.std.specs.Prelude.{ℕ, ◌≡◌, ◌+◌, ◌<◌, ◌≤◌, Bool, true, false, Option, Some, None, List, length}
+use Rattle.reo_net_base.specs.declared.colouring.Colouring.{Colouring}
+use Rattle.reo_net_base.specs.declared.port.Port.{Port}
+use Rattle.reo_net_base.specs.Net.{Wiring, net_of}
+use Rattle.reo_kinds.specs.declared.kind.Kind.{Kind}
+use Rattle.reo_trace.specs.declared.line.RoundLine.{RoundLine}
+use Rattle.reo_trace.specs.declared.line.Ending.{Ending}
+use Rattle.reo_trace_texts.specs.declared.trace.Trace.{Trace}
+use Rattle.reo_runs.specs.Run.{Place}
+use Rattle.reo_at_ports.specs.Kinds.{kind_rules}
+use Rattle.reo_verdicts.specs.declared.verdict.Refusal.TheVariants as refusals
+use Rattle.reo_judging.specs.Ends.{IsEndOf}
+use Rattle.reo_judging.specs.Judged.{IsColouringSaid}
+use Rattle.reo_verify.specs.Replayed.{IsCutOff}
+use Rattle.reo_draw_rounds.specs.Rounds.{round_picture}
+use Rattle.reo_draw_replay.specs.declared.replay.Halt.{Halt}
+use Rattle.reo_draw_replay.specs.declared.replay.Halt.TheVariants as halts
+use Rattle.reo_draw_replay.specs.declared.showing.Shown.{Shown}
+use Rattle.reo_draw_replay.specs.declared.showing.Shown.TheVariants as shown
+use Rattle.reo_draw_replay.specs.Drawn.{IsDrawn}
+
+-- Some line is no round of a run, and this is the first that is wrong with it; or memory ran out.
+abbrev pub IsHalted : List (List ℕ) → List ℕ → Place Kind → List RoundLine → Halt → Type 0
+IsHalted nodes homes start lines (halts.Refused refusal) = IsCutOff kind_rules nodes homes start lines refusal
+IsHalted nodes homes start lines halts.NoMemory = Unit {0}
+
+module _ (ports : List Port) (nodes : List (List ℕ)) (homes : List ℕ) where
+  -- The picture of a line is made where it is asked for, and else what there was stays.
+  abbrev pub IsDrawnIf : Bool → Wiring Kind → RoundLine → Option (List ℕ) → Option (List ℕ) → Type 0
+  IsDrawnIf true w line before after =
+      (colouring : Colouring) × IsColouringSaid (net_of kind_rules.behaviour w) line.entries colouring
+      × (after ≡ Some (round_picture w ports homes nodes line colouring))
+  IsDrawnIf false w line before after = after ≡ before
+
+  -- The picture of the round of a number, or none where the first so many lines have no such round.
+  abbrev pub IsDrawnWithin : Place Kind → List RoundLine → (count number : ℕ) → Option (List ℕ) → Type 0
+  IsDrawnWithin start lines count number None = 1 ≤ number → count < number
+  IsDrawnWithin start lines count number (Some picture) = IsDrawn ports nodes homes start lines number picture
+
+-- What there is to show of a trace all of whose lines are rounds of a run that is over so, or not over.
+abbrev pub IsShownAt : Option Ending → Option (List ℕ) → Trace → Shown → Type 0
+IsShownAt over picture t (shown.Picture p) = IsEndOf over (length t.rounds + 1) t.ending × (picture ≡ Some p)
+IsShownAt over picture t shown.NoRound = IsEndOf over (length t.rounds + 1) t.ending × (picture ≡ None)
+IsShownAt over picture t (shown.Refused refusal) = (IsEndOf over (length t.rounds + 1) t.ending → ⊥) × (refusal ≡ refusals.End)

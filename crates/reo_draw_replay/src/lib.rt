@@ -1,0 +1,9 @@
+//! A trace that is replayed to its end, with the picture of one of its rounds made on the way.
+#![tactic(auto)]
+
+mod laws;
+mod replay;
+mod showing;
+
+pub use laws::one_round;
+pub use showing::{Shown, show_round};
