@@ -30,7 +30,7 @@ impl Model for Connector {
 
     ghost Value = { Held };
 
-    ghost coded = { Prim.hlevel (codes, (kindred.the_row.coded, kind.the_row.coded)) };
+    ghost coded = { Prim.hlevel (codes, kindred.the_row.coded, kind.the_row.coded) };
 
     ghost view = { λ c. record {
       circuit = c.engine.circuit;
