@@ -44,7 +44,7 @@ enum {
 
 /* A connector, or nothing. */
 struct reo_handle {
-    bool open;
+    bool full;
     void *at;
 };
 

@@ -21,7 +21,7 @@ const ROUTER: &str =
 /// `struct reo_handle` of `reo.h`.
 #[repr(C)]
 struct Handle {
-    open: bool,
+    full: bool,
     at: *mut c_void,
 }
 
@@ -79,7 +79,7 @@ struct Connector(Handle);
 
 impl Connector {
     fn open(text: &str) -> Result<Connector, Refused> {
-        let mut made = Connector(Handle { open: false, at: null_mut() });
+        let mut made = Connector(Handle { full: false, at: null_mut() });
         let mut cause = [0; 256];
         let mut length = 0;
         let number = unsafe {

@@ -10,9 +10,9 @@ use std::mem::replace;
 #[repr(C)]
 #[derive(Drop)]
 pub struct Handle {
-    open: bool,
+    full: bool,
     place: Place,
-    ghost fits: { IsTrue open ↔ IsSome place.session },
+    ghost fits: { IsTrue full ↔ IsSome place.session },
 }
 
 /// A handle of nothing.
@@ -20,7 +20,7 @@ fn nothing() -> Handle
     ensures { result.place.session ≡ None }
 {
     Handle {
-        open: false,
+        full: false,
         place: Place::nowhere(),
     }
 }
@@ -30,7 +30,7 @@ fn held(session: Box<Session>) -> Handle
     ensures { result.place.session ≡ Some session.value }
 {
     Handle {
-        open: true,
+        full: true,
         place: Place::of(session),
     }
 }
@@ -41,8 +41,8 @@ pub(crate) fn taken(alloc: Global, handle: &mut Handle) -> Option<Box<Session>>
     ensures some { IfSome result (λ session. handle.old.place.session ≡ Some session.value) }
     ensures none { result ≡ None → handle.old.place.session ≡ None }
 {
-    let Handle { open, place } = replace(handle, nothing());
-    if open {
+    let Handle { full, place } = replace(handle, nothing());
+    if full {
         Some(place.into_session(alloc))
     } else {
         None

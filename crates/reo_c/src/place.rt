@@ -1,6 +1,8 @@
 //! Where a session lies, as C holds it.
 ghost use Rattle.std.specs.Prelude.{◌≡◌, Option, Some, None, IsSome};
 ghost use Rattle.reo_c.specs.declared.session.Session.{Session};
+ghost use Rattle.std.specs.Coded.{coded_option};
+ghost use Rattle.reo_c.specs.contracts.session.Session.{the_row as session_row};
 ghost use Rattle.reo_c.specs.Owned.{owned};
 
 use crate::loose::Loose;
@@ -13,7 +15,7 @@ use std::marker::Model;
 #[derive(Drop)]
 pub struct Place {
     at: *mut u8,
-    pub ghost session: { Option Session },
+    pub ghost session: { Option Session } by { coded_option session_row.coded },
 }
 
 impl Model for Place {

@@ -41,6 +41,7 @@ fn flat_of(alloc: Global, text: &[u8]) -> Result<Flat, Stop>
 }
 
 /// The connector of a flat circuit, at its first round. `NoMemory` is out of memory.
+#[tactic(auto, using(crate::proofs::OpenedLemmas::just))]
 fn begun(alloc: Global, flat: Flat) -> Result<Connector, NoMemory>
     requires { HasItsPorts flat.circuit flat.ports.list }
     ensures { IfOk result (λ made. made ≡ begun (circuit_in flat)) }
@@ -64,6 +65,7 @@ impl Connector {
     /// `TooLong`: exactly where the text has more than `MOST_BYTES` bytes. `Refused`, with the line
     /// and the words of the cause: exactly where it says no circuit that is accepted. `NoMemory` is
     /// out of memory. `Missed` never comes.
+    #[tactic(auto, using(crate::proofs::OpenedLemmas::opened_ok, crate::proofs::OpenedLemmas::opened_err, crate::proofs::OpenedLemmas::opened_long, crate::proofs::OpenedLemmas::opened_none))]
     pub fn open(alloc: Global, text: &[u8]) -> Result<Connector, Stop>
         ensures { IsOpened text.now result }
     {
