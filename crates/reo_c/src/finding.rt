@@ -35,12 +35,7 @@ fn find_open(alloc: Global, handle: &mut Handle, name: &[u8], port: &mut usize) 
 
 /// Finds the port of a name: `port` becomes its number. `NoPort`: no port has it.
 #[unsafe(no_mangle)]
-pub extern "C" fn reo_port(
-    alloc: Global,
-    handle: &mut Handle,
-    name: &[u8],
-    port: &mut usize,
-) -> u32
+pub extern "C" fn reo_port(alloc: Global, handle: &mut Handle, name: &[u8], port: &mut usize) -> u32
     ensures { Answers (AtOpen (Finds name.now port.old port.new)
         handle.old.place.session handle.new.place.session) result }
 {

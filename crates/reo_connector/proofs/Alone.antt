@@ -16,13 +16,13 @@ use Rattle.reo_command.specs.declared.stop.Stop.TheVariants.{Missed, TooLong, Re
 use Rattle.reo_connector.specs.Opening.{IsFlatRead, alone}
 
 -- What the file says where it was told.
-is_text : Content → Bool
+abbrev is_text : Content → Bool
 is_text gone = false
 is_text long = false
 is_text (text bytes) = true
 is_text unknown = false
 
-bytes_in : List ℕ → Content → List ℕ
+abbrev bytes_in : List ℕ → Content → List ℕ
 bytes_in other gone = other
 bytes_in other long = other
 bytes_in other (text bytes) = bytes
@@ -37,7 +37,7 @@ short_text bytes most few = by_test (nat_le (length bytes) most) (le-leb (length
 
 module _ (bytes : List ℕ) (few : length bytes ≤ most_bytes Circuit) where
   -- Its only file is the text, or cannot be had.
-  Told : List Content → Type 0
+  abbrev Told : List Content → Type 0
   Told answers = AreTold (alone bytes) (Circuit ∷ []) ([] ∷ []) answers
 
   same_text : (other : List ℕ) → cond (nat_le (length bytes) (most_bytes Circuit)) (text bytes) long ≡ text other → bytes ≡ other

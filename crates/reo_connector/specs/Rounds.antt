@@ -11,8 +11,8 @@ use Rattle.reo_connector.specs.Held.{Held, net_in, with_primitives}
 abbrev pub after_round : Held → Plan → Held
 after_round c plan = record (with_primitives c
     (stepped behaviour_of settled_kind c.circuit plan.colouring.rows plan.colouring.items)) {
-  rounds = c.rounds + 1;
-}
+      rounds = c.rounds + 1;
+    }
 
 -- What is said of a round is what its plan shows.
 pub record IsToldOf (plan : Plan) (done : Done) : Type 0 where
