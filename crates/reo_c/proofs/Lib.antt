@@ -1,0 +1,4 @@
+pub mod AtLemmas
+pub mod Numbers
+pub mod Places
+pub mod Values

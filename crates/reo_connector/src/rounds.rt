@@ -1,0 +1,58 @@
+//! Rounds of a connector.
+ghost use Rattle.std.specs.Prelude.{◌≡◌, ◌<◌, ◌^◌, MatchResult, OnErr};
+ghost use Rattle.reo_connector.specs.Held.{net_in};
+ghost use Rattle.reo_connector.specs.Rounds.{IsMade};
+ghost use Rattle.reo_rounds.specs.Plans.{IsPlanFault};
+
+use crate::connector::Connector;
+use reo_rounds::{Done, PlanFault};
+use reo_steps::Steps;
+use std::alloc::Global;
+use std::marker::Brand;
+use std::sync::ledger::{Blank, Ledger};
+
+impl Connector {
+    /// Makes the round that comes next, its steps counted in a book.
+    fn round_counted<L: Ledger>(
+        &mut self,
+        alloc: Global,
+        budget: u64,
+        blank: Blank,
+    ) -> Result<Done, PlanFault>
+        requires name { blank.name ≡ L.name }
+        requires parts { blank.parts ≡ L.parts }
+        requires some_part { 0 < L.parts }
+        requires small { budget < 10 ^ 18 }
+        requires few { self.old.rounds < 2 ^ 63 }
+        ensures exact { MatchResult result (IsMade budget self.old self.new)
+            (IsPlanFault budget (net_in self.old)) }
+        ensures refused { OnErr result (self.new ≡ self.old) }
+    {
+        let mut steps = Steps::<L>::new(blank);
+        self.engine.prepare(alloc, budget, &mut steps)?;
+        let plan = self.engine.plan(alloc, budget, &mut steps)?;
+        Ok(self.engine.commit(plan))
+    }
+
+    /// Makes the round that comes next: that of the first colouring. It answers the ports that
+    /// flowed, in order, with their items, whether nothing flowed at all, and how many sides
+    /// jammed. The offers of the ports that flowed are gone; the others are pending still.
+    ///
+    /// The budget bounds the choices that a search of one part may make; one of `1,000,000` serves
+    /// all but odd circuits.
+    ///
+    /// # Errors
+    ///
+    /// `Wide` and `Spent`: exactly where a part of the circuit is over the budget, for the least
+    /// such part. `NoMemory` is out of memory. Nothing changes, and the call may be made again.
+    pub fn round(&mut self, alloc: Global, budget: u64) -> Result<Done, PlanFault>
+        requires small { budget < 10 ^ 18 }
+        requires few { self.old.rounds < 2 ^ 63 }
+        ensures exact { MatchResult result (IsMade budget self.old self.new)
+            (IsPlanFault budget (net_in self.old)) }
+        ensures refused { OnErr result (self.new ≡ self.old) }
+    {
+        let blank = Blank::new(1);
+        self.round_counted::<Brand>(alloc, budget, blank)
+    }
+}
