@@ -6,10 +6,10 @@ use Rattle.reo_values.specs.declared.value.Value.{Value}
 use Rattle.reo_net_base.specs.declared.joint.End.{End}
 use Rattle.reo_net_base.specs.declared.joint.Joint.{Joint}
 use Rattle.reo_net_base.specs.Behaviour.{Behaviour}
-use Rattle.reo_net_base.specs.Net.{Net, behaviour_at, first_side, mark_at, row_at, side_at}
+use Rattle.reo_net_base.specs.Net.{Net, behaviour_at, mark_at, row_at, side_at}
 use Rattle.reo_net_base.specs.Shapes.{SameShapes}
 use Rattle.reo_net_base.specs.Sides.{side_count}
-use Rattle.reo_net_base.specs.Wired.{IsWired, IsOrder, IsEnd}
+use Rattle.reo_net_base.specs.Wired.{IsWired, IsOrder}
 use Rattle.reo_net_base.specs.Colouring.{IsColouring}
 use Rattle.reo_net_circuit.proofs.Cases.{eq_cases, lt_cases}
 use Rattle.reo_net_laws.proofs.OneFirst.{one_inside}
@@ -21,7 +21,7 @@ use Rattle.reo_still.specs.Still.{IsStill}
 use Rattle.reo_still.proofs.Together.{parts_make_first}
 use Rattle.reo_weights.proofs.CauseLemmas.{within_not_over}
 use Rattle.reo_planning.specs.declared.kept.Kept.{Kept}
-use Rattle.reo_planning.specs.Keeping.{AllServe, IsKept, is_moving, is_settled}
+use Rattle.reo_planning.specs.Keeping.{AllServe, IsKept, is_settled}
 use Rattle.reo_planning.specs.Planned.{ArePlanned}
 use Rattle.reo_planning.specs.Unsettling.{AreFewer}
 use Rattle.reo_planning.proofs.Parting.{all_served}

@@ -1,5 +1,5 @@
-use Rattle.std.proofs.Common.{length, arith}
-use Rattle.reo_net_base.specs.Net.{Net, net_of}
+use Rattle.std.proofs.Common.{arith}
+use Rattle.reo_net_base.specs.Net.{net_of}
 use Rattle.reo_engine.proofs.FlowsLemmas.{all_renewed, flows_restless}
 use Rattle.reo_engine.proofs.renewing.renew_marked.Goals as goal
 

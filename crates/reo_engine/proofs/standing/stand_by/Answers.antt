@@ -1,6 +1,4 @@
-use Rattle.std.proofs.Common.{◌∙◌, subst, sym}
-use Rattle.reo_net_base.specs.Net.{Net, net_of}
-use Rattle.reo_standing.specs.Standing.{HaveFirstItems}
+use Rattle.reo_net_base.specs.Net.{net_of}
 use Rattle.reo_engine.proofs.FlowsLemmas.{flows_taken}
 use Rattle.reo_engine.proofs.standing.stand_by.Goals as goal
 
