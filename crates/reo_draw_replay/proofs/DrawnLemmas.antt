@@ -67,17 +67,17 @@ module _ (ports : List Port) (nodes : List (List ℕ)) (homes : List ℕ) where
         is = refl;
       }
 
-      later : (after : Option (List ℕ)) → (number ≡ i + 1 → ⊥) → IsDrawnWithin ports nodes homes start lines i number after → IsDrawnWithin ports nodes homes start lines (suc i) number after
+      later : (after : Option (List ℕ)) → (number ≡ i + 1 → ⊥) → IsDrawnWithin ports nodes homes start lines i number after → IsDrawnWithin ports nodes homes start lines (i + 1) number after
       later None other within = λ some. omega (arith, within some, other)
       later (Some picture) other within = within
 
       -- One line more.
       pub drawn_more : (turn : ℕ) (asked : Bool) (before after : Option (List ℕ)) → turn ≡ i + 1 → (turn == number) ≡ asked → IsDrawnIf ports nodes homes asked circuit_now line before after
-          → IsDrawnWithin ports nodes homes start lines i number before → IsDrawnWithin ports nodes homes start lines (suc i) number after
+          → IsDrawnWithin ports nodes homes start lines i number before → IsDrawnWithin ports nodes homes start lines (i + 1) number after
       drawn_more turn true before after turn_is is made within =
           let same : turn ≡ number = grind (arith, nat_tests) in
           let at : number ≡ i + 1 = omega (arith, same, turn_is) in
-          subst (λ (o : Option (List ℕ)). IsDrawnWithin ports nodes homes start lines (suc i) number o) (sym made.2) (drawn_here at made.0 made.1)
+          subst (λ (o : Option (List ℕ)). IsDrawnWithin ports nodes homes start lines (i + 1) number o) (sym made.2) (drawn_here at made.0 made.1)
       drawn_more turn false before after turn_is is made within =
           let other : turn ≡ number → ⊥ = λ same. absurd (grind (arith, nat_tests)) in
           later after (λ at. other (omega (arith, at, turn_is))) (subst (λ (o : Option (List ℕ)). IsDrawnWithin ports nodes homes start lines i number o) (sym made) within)

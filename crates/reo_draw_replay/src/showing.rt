@@ -39,7 +39,8 @@ pub enum Shown {
 fn shown_at(over: Option<Ending>, picture: Option<Bytes>, trace: &Trace) -> Shown
     ensures { IsShownAt over picture trace.now result }
 {
-    let count = trace.rounds.len() as u64;
+    let rounds = trace.rounds.as_slice();
+    let count = rounds.len() as u64;
     if ends_as(over, count + 1, trace.ending) {
         match picture {
             Some(picture) => Shown::Picture(picture),
