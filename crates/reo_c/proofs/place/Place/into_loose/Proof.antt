@@ -25,10 +25,9 @@ use Rattle.std.specs.Box.Ownership.{box_owns}
 use Rattle.std_heap.specs.contracts.Global as Heap
 use Rattle.std_heap.specs.contracts.GlobalAllocator.TheImpl.{ghosts}
 use Rattle.std_heap.proofs.Global.TheLaws as heap
-use Rattle.libc.specs.Heap.{chunk}
 use Rattle.reo_c.proofs.Places.{Place, Held, Z, one, opened, place_out}
 use Rattle.reo_c.proofs.Values.{both, loose_good, loose_in}
-use Rattle.reo_c.specs.Owned.{owned}
+use Rattle.reo_c.specs.Owned.{owned, freeing}
 use Rattle.reo_c.specs.declared.session.Session.{Session}
 use Rattle.reo_c.specs.contracts.session.Session as session
 use Rattle.reo_c.specs.contracts.place.Place.into_loose.{ended, clauses}
@@ -48,8 +47,8 @@ into_loose_spec 𝓤 𝓛 𝓜 𝓡 wired =
     move ! (1 ∷ []) $ heard ! (IsSome v.session) (λ some. let is = opened v.session some in let x = is.0 in
     split ! $ drop ! $ fsplit ! $ place_out ! v vs (λ ws.
     rewrite ! 0 (λ (s : Option Session). ‵ (owned v.at s)) is.1 refl $
-    use1 𝓛 (‵ (box_owns chunk session.the_row v.at x)) (id⊢ 𝓤 _) $
-    in_a_block ! v.at (λ p. box_owns chunk session.the_row p x) (fst∗ 𝓤 (never 𝓤) (sem 𝓛 (chunk (bare (lone session.the_row.mir)) null_ptr))) (λ b o e.
+    use1 𝓛 (‵ (box_owns freeing session.the_row v.at x)) (id⊢ 𝓤 _) $
+    in_a_block ! v.at (λ p. box_owns freeing session.the_row p x) (fst∗ 𝓤 (never 𝓤) (sem 𝓛 (freeing (bare (lone session.the_row.mir)) null_ptr))) (λ b o e.
     move ! (1 ∷ []) $ fsplit ! $ handle_tells Z ! a us (λ h eh fits. move ! (1 ∷ []) $ drop ! $ move ! (1 ∷ 0 ∷ []) $
     loose_in session.the_row Heap.the_row heap.the_row_laws ghosts ! b o h a x $
     regoal ! (λ (ys : List Val). prop (WpFn 𝓤 H 𝓣.C 𝓣.Λ code.function (ys ++ (us ++ [])) (W.post z))) ws refl $
