@@ -63,4 +63,4 @@ returns-in-None-clause-answer g c =
 pub returns-in-None-clause-status : goal.returns-in-None-clause-status
 returns-in-None-clause-status g c =
     let is = none_seen c.args.words.now c.as_slice-words.result.now c.as_slice-words.ensures _ c.drawing_of.ensures c.in-None.is in
-    status_none c.args.words.now _ is c.answer.ensures.answers
+    status_none c.args.words.now _ _ is c.answer.ensures.answers
