@@ -1,6 +1,6 @@
 -- From the words to what they ask for, and to what the command has come to.
-use Rattle.std.proofs.Common.{◌≡◌, ◌∙◌, ◌⊎◌, inl, inr, ℕ, suc, Bool, true, false, cond, List, [], ◌∷◌, length, take, get_or, sym, ap, subst, refl, arith}
-use Rattle.std.specs.Prelude.{◌==◌, ◌≤◌, ◌≢◌, Option, Some, None, codes}
+use Rattle.std.proofs.Common.{◌≡◌, ◌∙◌, inl, inr, ℕ, Bool, true, false, cond, List, [], ◌∷◌, length, take, get_or, sym, ap, subst, refl, arith}
+use Rattle.std.specs.Prelude.{◌==◌, ◌≤◌, Option, Some, None, codes}
 use Rattle.std.proofs.lemmas.Bool.Decides.{nat_tests}
 use Rattle.reo_command.specs.Claims.{ReadsClaim, StopsVerify}
 use Rattle.reo_command.specs.Commands.{none_empty}

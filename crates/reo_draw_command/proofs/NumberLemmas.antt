@@ -1,7 +1,7 @@
 -- The number that a word is.
-use Rattle.std.proofs.Common.{◌≡◌, ◌∙◌, ◌⊎◌, inl, inr, ℕ, ℤ, pos, ◌<◌, ◌^◌, ◌-◌, ◌≤ℤ◌, List, sym, refl, arith}
+use Rattle.std.proofs.Common.{◌≡◌, ◌∙◌, inl, inr, ℕ, ℤ, pos, ◌<◌, ◌^◌, ◌-◌, ◌≤ℤ◌, List, sym, refl, arith}
 use Rattle.std.specs.Prelude.{◌≢◌}
-use Rattle.std.specs.Fmt.{decimal, signed_decimal}
+use Rattle.std.specs.Fmt.{signed_decimal}
 use Rattle.std.proofs.lemmas.Int.{ints}
 use Rattle.std.proofs.lemmas.Fmt.{decimal_injective}
 use Rattle.reo_draw_command.specs.Rounds.{IsNumberOf}

@@ -1,7 +1,6 @@
 use Rattle.std.proofs.Common.{◌≡◌, ◌∙◌, ℕ, List, ap}
 use Rattle.reo_net_base.specs.declared.port.Port.{Port}
 use Rattle.reo_trace_texts.specs.declared.trace.Trace.{Trace}
-use Rattle.reo_verdicts.specs.declared.verdict.Verdict.{Verdict}
 use Rattle.reo_command.specs.Claims.{Claimed}
 use Rattle.reo_command.specs.ReadSteps.{claimed_in}
 use Rattle.reo_top_base.proofs.CaseLemmas.{no_memory_cases}
