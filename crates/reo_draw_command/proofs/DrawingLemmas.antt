@@ -1,6 +1,6 @@
 -- From the words to what they ask for, and to what the command has come to.
-use Rattle.std.proofs.Common.{◌≡◌, ◌∙◌, ◌⊎◌, inl, inr, ℕ, suc, Bool, true, false, cond, List, [], ◌∷◌, length, take, get_or, sym, ap, subst, refl, arith}
-use Rattle.std.specs.Prelude.{◌==◌, ◌≤◌, ◌≢◌, Option, Some, None, codes}
+use Rattle.std.proofs.Common.{◌≡◌, ◌∙◌, inl, inr, ℕ, Bool, true, false, cond, List, [], ◌∷◌, length, take, get_or, sym, ap, subst, refl, arith}
+use Rattle.std.specs.Prelude.{◌==◌, ◌≤◌, Option, Some, None, codes}
 use Rattle.std.proofs.lemmas.Bool.Decides.{nat_tests}
 use Rattle.reo_command.specs.Claims.{ReadsClaim, StopsVerify}
 use Rattle.reo_command.specs.Commands.{none_empty}
@@ -79,9 +79,6 @@ module _ (words : List (List ℕ)) (files : Change FilesState) (sink : Change Si
   round_answered names word is named word_is h =
       answered_as Round names is named (subst (λ (w : List ℕ). IsAnswered false (owed_by ReadsClaim StopsVerify (DrawsRound w)) (roles_of Round) names files sink code) (sym word_is) h)
 
-  pub status_as : (drawing : Drawing) → drawing_of words ≡ Some drawing → IsAmong (statuses_of drawing) code → IsAmong (statuses_for (drawing_of words)) code
-  status_as drawing is h = subst (λ (o : Option Drawing). IsAmong (statuses_for o) code) (sym is) h
-
   never_true : false ≡ true → ⊥
   never_true e = cc
 
@@ -98,6 +95,12 @@ module _ (words : List (List ℕ)) (files : Change FilesState) (sink : Change Si
   pub answered_none : drawing_of words ≡ None → files.new ≡ files.old → Refuses (codes "words refused\n") 2 sink code → Answered words files sink code
   answered_none is same h = subst (λ (o : Option Drawing). AnsweredFor o words files sink code) (sym is) (none_answered same h)
 
+-- The status.
+module _ (words : List (List ℕ)) (code : ℕ) where
+  pub status_as : (drawing : Drawing) → drawing_of words ≡ Some drawing → IsAmong (statuses_of drawing) code → IsAmong (statuses_for (drawing_of words)) code
+  status_as drawing is h = subst (λ (o : Option Drawing). IsAmong (statuses_for o) code) (sym is) h
+
+module _ (words : List (List ℕ)) (sink : Change SinkState) (code : ℕ) where
   none_among : Refuses (codes "words refused\n") 2 sink code → IsAmong (statuses_for None) code
   none_among h = elim (line_code sink code (codes "words refused\n") 2 h) [
     | inl is ↦ subst (λ (k : ℕ). IsAmong (statuses_for None) k) (sym is) refl

@@ -1,5 +1,5 @@
 -- The picture of a round, as what is owed.
-use Rattle.std.proofs.Common.{◌≡◌, ℕ, List, refl, subst, sym, arith}
+use Rattle.std.proofs.Common.{◌≡◌, ℕ, List, ◌∷◌, refl, subst, arith}
 use Rattle.std.specs.Prelude.{◌==◌, ◌||◌, ◌≢◌, true, false, IsTrue}
 use Rattle.std.specs.List.{list_any}
 use Rattle.reo_trace_texts.specs.declared.trace.Trace.{Trace}

@@ -3,5 +3,5 @@ use Rattle.reo_top_base.proofs.CaseLemmas.{no_memory_cases}
 use Rattle.reo_draw_command.specs.Drawn.{DrawsCircuit}
 use Rattle.reo_draw_command.proofs.circuit.write_circuit.Goals as goal
 
-pub returns-in-Err-clause-cases : goal.returns-in-Err-clause-cases
-returns-in-Err-clause-cases g c = no_memory_cases _ _ (DrawsCircuit (circuit_in c.args.flat.now)) c.no_memory.ensures.says
+pub returns-clause-cases : goal.returns-clause-cases
+returns-clause-cases g c = no_memory_cases _ _ (DrawsCircuit (circuit_in c.args.flat.now)) c.no_memory.ensures.says

@@ -1,4 +1,4 @@
-use Rattle.std.proofs.Common.{◌∙◌, ap}
+use Rattle.std.proofs.Common.{◌∙◌}
 use Rattle.reo_trace_texts.specs.declared.trace.Trace.{Trace}
 use Rattle.reo_command.specs.Claims.{Claimed}
 use Rattle.reo_command.specs.ReadSteps.{claimed_in}

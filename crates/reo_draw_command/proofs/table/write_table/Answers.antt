@@ -1,6 +1,6 @@
-use Rattle.std.proofs.Common.{◌∙◌, ℕ, List, ap}
+use Rattle.std.proofs.Common.{◌≡◌, ◌∙◌, ℕ, List, ap}
+use Rattle.reo_net_base.specs.declared.port.Port.{Port}
 use Rattle.reo_trace_texts.specs.declared.trace.Trace.{Trace}
-use Rattle.reo_verdicts.specs.declared.verdict.Verdict.{Verdict}
 use Rattle.reo_command.specs.Claims.{Claimed}
 use Rattle.reo_command.specs.ReadSteps.{claimed_in}
 use Rattle.reo_top_base.proofs.CaseLemmas.{no_memory_cases}
@@ -15,20 +15,23 @@ use Rattle.reo_draw_command.proofs.table.write_table.Goals as goal
 pub returns-in-Ok-tabled_text-clause-cases : goal.returns-in-Ok-tabled_text-clause-cases
 returns-in-Ok-tabled_text-clause-cases g c =
     let claimed : Claimed Trace = claimed_in c.args.claim.work.flat c.args.claim.work.script c.args.claim.trace in
-    told_cases (IsTraceJudged claimed) (tabled_text (table_text claimed.work.flat.ports claimed.claim)) verdict_status c.in-Ok-verify_trace.verdict _ _ c.as_slice-in-Ok.result.now c.verdict_status.result
-    (c.as_slice-in-Ok.ensures ∙ c.in-Ok-tabled_text.ensures ∙ ap (λ (table : List ℕ). tabled_text table c.in-Ok-verify_trace.verdict) c.in-Ok.ensures) c.verdict_status.ensures c.in-Ok-verify_trace.ensures.exact c.answer.ensures.answers
+    let table_is : c.in-Ok.table ≡ table_text claimed.work.flat.ports claimed.claim = c.in-Ok.ensures ∙ ap (λ (ports : List Port). table_text ports claimed.claim) c.as_slice.ensures in
+    told_cases (IsTraceJudged claimed) (tabled_text (table_text claimed.work.flat.ports claimed.claim)) verdict_status c.in-Ok-verify_trace.verdict _ _ c.as_slice-in-Ok-tabled_text.result.now c.verdict_status.result
+    (c.as_slice-in-Ok-tabled_text.ensures ∙ c.in-Ok-tabled_text.ensures ∙ ap (λ (table : List ℕ). tabled_text table c.in-Ok-verify_trace.verdict) table_is) c.verdict_status.ensures c.in-Ok-verify_trace.ensures.exact c.answer.ensures.answers
 
 pub returns-in-Ok-tabled_text-clause-exact : goal.returns-in-Ok-tabled_text-clause-exact
 returns-in-Ok-tabled_text-clause-exact g c =
     let claimed : Claimed Trace = claimed_in c.args.claim.work.flat c.args.claim.work.script c.args.claim.trace in
-    told_exact (IsTraceJudged claimed) (tabled_text (table_text claimed.work.flat.ports claimed.claim)) verdict_status c.in-Ok-verify_trace.verdict _ _ c.as_slice-in-Ok.result.now c.verdict_status.result
-    (c.as_slice-in-Ok.ensures ∙ c.in-Ok-tabled_text.ensures ∙ ap (λ (table : List ℕ). tabled_text table c.in-Ok-verify_trace.verdict) c.in-Ok.ensures) c.verdict_status.ensures c.in-Ok-verify_trace.ensures.only c.answer.ensures.answers
+    let table_is : c.in-Ok.table ≡ table_text claimed.work.flat.ports claimed.claim = c.in-Ok.ensures ∙ ap (λ (ports : List Port). table_text ports claimed.claim) c.as_slice.ensures in
+    told_exact (IsTraceJudged claimed) (tabled_text (table_text claimed.work.flat.ports claimed.claim)) verdict_status c.in-Ok-verify_trace.verdict _ _ c.as_slice-in-Ok-tabled_text.result.now c.verdict_status.result
+    (c.as_slice-in-Ok-tabled_text.ensures ∙ c.in-Ok-tabled_text.ensures ∙ ap (λ (table : List ℕ). tabled_text table c.in-Ok-verify_trace.verdict) table_is) c.verdict_status.ensures c.in-Ok-verify_trace.ensures.only c.answer.ensures.answers
 
 pub returns-in-Ok-tabled_text-clause-fair : goal.returns-in-Ok-tabled_text-clause-fair
 returns-in-Ok-tabled_text-clause-fair g c =
     let claimed : Claimed Trace = claimed_in c.args.claim.work.flat c.args.claim.work.script c.args.claim.trace in
-    told_fair (IsTraceJudged claimed) (tabled_text (table_text claimed.work.flat.ports claimed.claim)) verdict_status c.in-Ok-verify_trace.verdict _ _ c.as_slice-in-Ok.result.now c.verdict_status.result
-    (c.as_slice-in-Ok.ensures ∙ c.in-Ok-tabled_text.ensures ∙ ap (λ (table : List ℕ). tabled_text table c.in-Ok-verify_trace.verdict) c.in-Ok.ensures) c.verdict_status.ensures (verdict_not_nine c.in-Ok-verify_trace.verdict) c.answer.ensures.fair
+    let table_is : c.in-Ok.table ≡ table_text claimed.work.flat.ports claimed.claim = c.in-Ok.ensures ∙ ap (λ (ports : List Port). table_text ports claimed.claim) c.as_slice.ensures in
+    told_fair (IsTraceJudged claimed) (tabled_text (table_text claimed.work.flat.ports claimed.claim)) verdict_status c.in-Ok-verify_trace.verdict _ _ c.as_slice-in-Ok-tabled_text.result.now c.verdict_status.result
+    (c.as_slice-in-Ok-tabled_text.ensures ∙ c.in-Ok-tabled_text.ensures ∙ ap (λ (table : List ℕ). tabled_text table c.in-Ok-verify_trace.verdict) table_is) c.verdict_status.ensures (verdict_not_nine c.in-Ok-verify_trace.verdict) c.answer.ensures.fair
 
 pub returns-in_default-clause-cases : goal.returns-in_default-clause-cases
 returns-in_default-clause-cases g c = no_memory_cases _ _ (TablesTrace (claimed_in c.args.claim.work.flat c.args.claim.work.script c.args.claim.trace)) c.no_memory.ensures.says
