@@ -1,4 +1,0 @@
-pub mod AtLemmas
-pub mod Numbers
-pub mod Places
-pub mod Values
