@@ -4,6 +4,7 @@ use Rattle.std.specs.Prelude.{option_and_then, option_map, unwrap_or, if◌then�
 use Rattle.reo_values.specs.declared.kindred.Kindred.{Kindred}
 use Rattle.reo_exprs.specs.Kinds.{is_within}
 use Rattle.reo_exprs.specs.Typing.{provided, within}
+pub use Rattle.std.proofs.lemmas.Bool.{and_from as to_both}
 
 -- equal options have equal values
 pub some_same : {T : Type 0} (x y : T) → Some x ≡ Some y → x ≡ y
@@ -33,11 +34,6 @@ from_if false o t e = absurd (cc)
 pub from_both : (a b : Bool) → (a && b) ≡ true → (a ≡ true) × (b ≡ true)
 from_both true b e = (refl, e)
 from_both false b e = absurd (cc)
-
--- and make it true
-pub to_both : (a b : Bool) → a ≡ true → b ≡ true → (a && b) ≡ true
-to_both true b e f = f
-to_both false b e f = absurd (cc)
 
 -- a type that `within` let through is as it was, and near
 pub from_within : (k t : Kindred) → within k ≡ Some t → (is_within t ≡ true) × (k ≡ t)

@@ -26,6 +26,7 @@ use Rattle.reo_exprs.proofs.JoinCases.{where_joined}
 use Rattle.reo_exprs.proofs.Near.{near_bounds, near_fits}
 use Rattle.reo_exprs.proofs.Options.{some_same, from_and_then, from_map, from_provided, from_if, from_both, from_within}
 use Rattle.reo_exprs.proofs.Shapes.{is_number, is_pair, from_numbers}
+use Rattle.reo_values.proofs.Again.{pair_valid}
 
 -- the type of an interval in order whose bounds are near is valid
 near_valid : (x : Interval) → is_within (int_type x) ≡ true → x.low ≤ℤ x.high → IsValid (int_type x)
@@ -86,10 +87,6 @@ module _ (a b : Kindred) (v : IsValid a) (w : IsValid b) where
   binary_valid binary.Pair t f n e =
       let twins : Twins = record { left = a; right = b } in
       subst (λ k. IsValid k) (some_same (kinds.Pair twins) t e) (rw (IsValid-Pair twins) (v, w))
-
--- the parts of a valid type of pairs are valid
-pair_valid : (k : Kindred) (y : Twins) → k ≡ kinds.Pair y → IsValid k → IsValid y.left × IsValid y.right
-pair_valid k y p valid = rw IsValid-Pair at (subst IsValid p valid)
 
 -- the type of an operator with one operand is valid, where the operand's is
 unary_valid : (op : Unary) (a t : Kindred) → IsValid a → is_within t ≡ true → unary_type op a ≡ Some t → IsValid t

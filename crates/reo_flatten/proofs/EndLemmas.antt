@@ -18,6 +18,8 @@ use Rattle.reo_rules.specs.Lists.{where_true, has_name}
 use Rattle.reo_rules.specs.Touches.{bool_eq}
 use Rattle.reo_flatten_unfold.proofs.Positions.{before_first, place_none}
 use Rattle.reo_flatten.specs.NodeEnds.{placed_with, name_at, Grows, one_at}
+use Rattle.std.proofs.lemmas.Bool.{false_from_ne_true as differ_false}
+pub use Rattle.reo_rules.proofs.Distinct.{new_name}
 
 -- Nothing comes on the other side.
 never : (b : Bool) (e : End) → where_true (b && false) e ≡ []
@@ -36,10 +38,6 @@ grows_other names name takes way e old is = grows_none names (one_at name takes 
 -- No node has a name that is none of theirs.
 same_true : (a b : List ℕ) → a ≡ b → bytes_eq a b ≡ true
 same_true a b is = (bytes_eq-Decides a b).1 is
-
-differ_false : (b : Bool) → (b ≡ true → ⊥) → b ≡ false
-differ_false true no_way = absurd (no_way refl)
-differ_false false no_way = refl
 
 module _ {X : Type 0} (p : X → Bool) where
   at_once : (b : Bool) (r : ℕ) → b ≡ true → cond (not b) (1 + r) 0 ≤ 0
@@ -165,11 +163,3 @@ in_front [] (suc i) k d below = refl
 in_front (x ∷ xs) zero k d below = absurd (omega arith)
 in_front (x ∷ xs) (suc i) zero d below = refl
 in_front (x ∷ xs) (suc i) (suc k) d below = in_front xs i k d (omega arith)
-
-pub new_name : (nodes : List (List ℕ)) (i : ℕ) (node : List ℕ) → AreDistinct nodes → i < length nodes → node ≡ get_or nodes i node → has_name (take i nodes) node ≡ false
-new_name nodes i node distinct within is =
-    let long : length (take i nodes) ≡ i = length-take-le i nodes (omega arith) in
-    no_such (take i nodes) node (λ k below same.
-    let before : k < i = omega arith in
-    let twice = distinct k i (omega arith) within (sym (in_front nodes i k [] before) ∙ sym same ∙ is ∙ get_or_default nodes i node [] within) in
-    absurd (omega arith))

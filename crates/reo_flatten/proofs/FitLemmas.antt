@@ -31,6 +31,7 @@ use Rattle.reo_flatten_unfold.proofs.ListLemmas.{each_none, fails}
 use Rattle.reo_flatten_unfold.proofs.TypeLemmas.{few_pair}
 use Rattle.reo_flatten_unfold.proofs.GroundLemmas.{types_after-append}
 use Rattle.reo_values.specs.declared.kindred.Kindred.TheVariants as kinds
+use Rattle.reo_trees_laws.proofs.Lists.{all-more as all_one}
 
 -- No break means that no written type in it has too many names.
 abbrev range_part : List Typed → TypeTerm → List FlatFault
@@ -68,12 +69,6 @@ few_resolved known (shape.Sym names) all few = few
 few_resolved known (shape.Text a) all few = tt
 few_resolved known (shape.Pair' m (shape.more_of-TypePair k x l y e)) all few = few_pair (resolved known x) (resolved known y) (few_resolved known x all few.0) (few_resolved known y all few.1)
 few_resolved known (shape.Named a) all few = found_few known a all
-
-all_one : {X : Type 0} (P : X → Type 0) (xs : List X) (x : X) → All P xs → P x → All P (xs ++ x ∷ [])
-all_one P [] x all here zero d within = here
-all_one P [] x all here (suc k) d within = absurd (omega arith)
-all_one P (y ∷ ys) x all here zero d within = all 0 y (omega arith)
-all_one P (y ∷ ys) x all here (suc k) d within = all_one P ys x (λ j e h. all (suc j) e (omega arith)) here k d (omega arith)
 
 few_after : (before ds : List Declaration) (known : List Typed) → known ≡ types_of before → each_after range_in before ds ≡ [] → All (λ (e : Typed). HasFewNames e.kindred) known → All (λ (e : Typed). HasFewNames e.kindred) (types_after known ds)
 few_after before [] known is none all = all

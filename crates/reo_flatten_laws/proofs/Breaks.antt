@@ -1,6 +1,5 @@
 -- Lists of breaks that are empty.
 use Rattle.std.proofs.Common.{◌≡◌, ◌∙◌, List, [], ◌∷◌, ◌++◌, Bool, true, false, not, refl, sym, ap}
-use Rattle.std.specs.List.{flat_map}
 use Rattle.std.proofs.lemmas.List.{append-nil, append_assoc}
 use Rattle.reo_trees.specs.declared.programs.Declaration.{Declaration}
 use Rattle.reo_rules.specs.declared.fault.FlatFault.{FlatFault}
@@ -15,14 +14,8 @@ use Rattle.reo_rules.specs.Direction.{direction}
 use Rattle.reo_rules.specs.Rules.{rule_breaks, KeepsRules}
 use Rattle.reo_flat.specs.Sizes.{no_main, too_many}
 use Rattle.reo_flat.specs.Refusals.{breaks}
-
-pub left_none : {X : Type 0} (xs ys : List X) → xs ++ ys ≡ [] → xs ≡ []
-left_none [] ys none = refl
-left_none (x ∷ xs) ys none = absurd (cc)
-
-pub right_none : {X : Type 0} (xs ys : List X) → xs ++ ys ≡ [] → ys ≡ []
-right_none [] ys none = none
-right_none (x ∷ xs) ys none = absurd (cc)
+pub use Rattle.reo_rules.proofs.AfterLemmas.{left_none, right_none}
+pub use Rattle.std.proofs.lemmas.Grind.{flat_map-append}
 
 -- No break means that the test fails.
 pub fails : (b : Bool) (f : FlatFault) → where_true b f ≡ [] → b ≡ false
@@ -33,10 +26,6 @@ fails false f is = refl
 pub holds : (b : Bool) (f : FlatFault) → where_true (not b) f ≡ [] → b ≡ true
 holds true f is = refl
 holds false f is = absurd (cc)
-
-pub flat_map-append : {X A : Type 0} (f : X → List A) (xs ys : List X) → flat_map f (xs ++ ys) ≡ flat_map f xs ++ flat_map f ys
-flat_map-append f [] ys = refl
-flat_map-append f (x ∷ xs) ys = ap (λ zs. f x ++ zs) (flat_map-append f xs ys) ∙ sym (append_assoc (f x) (flat_map f xs) (flat_map f ys))
 
 -- The connectors behind one more declaration.
 pub one_more : (before : List Declaration) (d : Declaration) → connectors_of (before ++ d ∷ []) ≡ connectors_of before ++ connectors_in d

@@ -24,14 +24,11 @@ use Rattle.reo_flatten_laws.proofs.Once.{Once}
 use Rattle.reo_flatten_laws.proofs.UseNames.{once_left}
 use Rattle.reo_flatten_laws.proofs.Served.{HasEnd, end_left, end_right, channel_ways, IsServing, AreServing, serving_named}
 use Rattle.reo_flatten_laws.proofs.Each.{all_to}
+pub use Rattle.reo_exprs.proofs.Options.{from_both as each}
 
 either : (a b : Bool) → (a || b) ≡ true → (a ≡ true) ⊎ (b ≡ true)
 either true b is = inl refl
 either false b is = inr is
-
-pub each : (a b : Bool) → (a && b) ≡ true → (a ≡ true) × (b ≡ true)
-each true b is = (refl, is)
-each false b is = absurd (cc)
 
 equal : (v t : Bool) → bool_eq v t ≡ true → v ≡ t
 equal true true is = refl

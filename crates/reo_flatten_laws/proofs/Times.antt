@@ -9,6 +9,7 @@ use Rattle.reo_net_base.specs.declared.joint.Joint.{Joint}
 use Rattle.reo_net_base.specs.Net.{end_of, end_eq, is_at}
 use Rattle.reo_net_circuit.specs.Counts.{joints_at}
 use Rattle.reo_flat.specs.Joints.{is_many, ends_of, pairs, joints_between}
+use Rattle.std.proofs.lemmas.List.FromFn.{length-range_with_len as length-range}
 
 abbrev pub one_if : Bool → ℕ
 one_if b = cond b 1 0
@@ -62,10 +63,6 @@ times-pairs e [] [] same = refl
 times-pairs e [] (t ∷ ts) same = absurd (omega arith)
 times-pairs e (g ∷ gs) [] same = absurd (omega arith)
 times-pairs e (g ∷ gs) (t ∷ ts) same = let rest = times-pairs e gs ts (omega arith) in omega arith
-
-length-range : (from count : ℕ) → length (range_with_len from count) ≡ count
-length-range from zero = refl
-length-range from (suc n) = ap suc (length-range (from + 1) n)
 
 pub length-ends_of : (i from count : ℕ) → length (ends_of i from count) ≡ count
 length-ends_of i from count = length-map (range_with_len from count) (λ k. end_of i k) ∙ length-range from count

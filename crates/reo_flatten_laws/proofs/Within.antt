@@ -1,5 +1,5 @@
 -- The nodes of what is placed are among the nodes.
-use Rattle.std.proofs.Common.{arith, zero, ◌≡◌, ℕ, suc, List, [], ◌∷◌, ◌++◌, length, map, Bool, true, false, cond, ◌||◌, ◌⊎◌, inl, inr, Some, find, refl, sym, ap, subst, bytes_eq}
+use Rattle.std.proofs.Common.{arith, ◌≡◌, ℕ, List, [], ◌∷◌, ◌++◌, length, map, Bool, true, false, cond, ◌||◌, ◌⊎◌, inl, inr, Some, find, refl, sym, ap, subst, bytes_eq}
 use Rattle.std.specs.Prelude.{unwrap_or}
 use Rattle.std.specs.Option.{option_map_or}
 use Rattle.std.specs.List.{All}
@@ -12,6 +12,7 @@ use Rattle.reo_rules.specs.Scopes.{parameter_names, connector_named, parameters_
 use Rattle.reo_flat.specs.Unfolding.{Placed, Meaning, no_meaning, meaning_named, flat_name}
 use Rattle.reo_rules.specs.Unknown.{missing}
 use Rattle.reo_flatten_laws.proofs.Breaks.{holds}
+pub use Rattle.reo_trees_laws.proofs.Lists.{all-none as none_inside, all-cons as all_cons}
 
 -- A name is one of these.
 abbrev pub In : List (List ℕ) → List ℕ → Type 0
@@ -50,13 +51,6 @@ in-has (x ∷ xs) n (inr rest) = step (bytes_eq n x) (in-has xs n rest) where
 -- What is placed is at these nodes alone.
 abbrev pub Inside : List (List ℕ) → List Placed → Type 0
 Inside nodes placed = All (λ (p : Placed). All (In nodes) p.nodes) placed
-
-pub none_inside : {X : Type 0} (P : X → Type 0) → All P []
-none_inside P k d below = absurd (omega arith)
-
-pub all_cons : {X : Type 0} (P : X → Type 0) (x : X) (xs : List X) → P x → All P xs → All P (x ∷ xs)
-all_cons P x xs here rest zero d below = here
-all_cons P x xs here rest (suc k) d below = rest k d (omega arith)
 
 pub widen : (xs ys : List (List ℕ)) (placed : List Placed) → ((n : List ℕ) → In xs n → In ys n) → Inside xs placed → Inside ys placed
 widen xs ys placed wider inside k d below i e within = wider _ (inside k d below i e within)

@@ -1,5 +1,5 @@
 -- Which names are the same, and which are among others.
-use Rattle.std.proofs.Common.{◌≡◌, ℕ, ◌+◌, ◌≤◌, ◌<◌, ◌^◌, zero, suc, Bool, true, false, ◌||◌, List, ◌++◌, map, drop, inl, inr, refl, ◌∙◌, ap, subst, arith}
+use Rattle.std.proofs.Common.{◌≡◌, ℕ, ◌+◌, ◌≤◌, ◌<◌, ◌^◌, zero, suc, true, false, List, ◌++◌, map, drop, inl, inr, refl, ◌∙◌, ap, subst, arith}
 use Rattle.std.specs.Prelude.{bytes_eq}
 use Rattle.std.specs.List.{range_with_len}
 use Rattle.std.proofs.Math.Nat.{eq-or-lt_of_le}
@@ -9,6 +9,7 @@ use Rattle.std.proofs.lemmas.Slice.Eq.{bytes_eq-Decides}
 use Rattle.reo_lexer.proofs.Spelled.{never}
 use Rattle.reo_rules.specs.Lists.{has_name}
 use Rattle.reo_gen.specs.Names.{link, output}
+pub use Rattle.std.proofs.lemmas.Bool.{or_left as or-left, or_right as or-right, or_from as or-neither}
 
 pub same-name : (a : List ℕ) → bytes_eq a a ≡ true
 same-name a = (bytes_eq-Decides a a).1 refl
@@ -24,17 +25,6 @@ other-outputs m j hm hj h = other-name (output m) (output j) (λ e. h (decimal_i
 
 pub other-links : (m j : ℕ) → Small m → Small j → (m ≡ j → ⊥) → bytes_eq (link m) (link j) ≡ false
 other-links m j hm hj h = other-name (link m) (link j) (λ e. h (decimal_injective m j hm hj (ap (λ l. drop 1 l) e)))
-
-pub or-left : (a b : Bool) → a ≡ true → (a || b) ≡ true
-or-left true b h = refl
-or-left false b h = absurd (cc)
-
-pub or-right : (a b : Bool) → b ≡ true → (a || b) ≡ true
-or-right true b h = refl
-or-right false b h = h
-
-pub or-neither : (a b : Bool) → a ≡ false → b ≡ false → (a || b) ≡ false
-or-neither a b h k = (λ i. h i || b) ∙ k
 
 -- A name among the first of some, or among the last.
 pub has-left : (xs ys : List (List ℕ)) (n : List ℕ) → has_name xs n ≡ true → has_name (xs ++ ys) n ≡ true

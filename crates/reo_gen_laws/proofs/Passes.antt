@@ -5,9 +5,7 @@ use Rattle.std.proofs.Math.Nat.{eq-or-lt_of_le}
 use Rattle.reo_rules.specs.Lists.{each_after}
 use Rattle.reo_gen_laws.proofs.Written.{Lines, made_by}
 use Rattle.reo_gen_laws.proofs.NameTests.{or-left, or-right, or-neither}
-
-pub both-none : {Y : Type 0} (xs ys : List Y) → xs ≡ [] → ys ≡ [] → xs ++ ys ≡ []
-both-none xs ys e k = (λ i. e i ++ ys) ∙ k
+pub use Rattle.reo_rules.proofs.AfterLemmas.{both_none as both-none}
 
 -- A pass that finds nothing in any of them finds nothing.
 pub pass-none : {X Y : Type 0} (f : X → List Y) (make : ℕ → Lines → X) (a n : ℕ) (at : ℕ → Lines)

@@ -1,5 +1,5 @@
 -- Names with a number are names.
-use Rattle.std.proofs.Common.{◌≡◌, ℕ, ◌<◌, ◌^◌, Bool, true, false, ◌||◌, not, List, [], ◌∷◌, refl, codes}
+use Rattle.std.proofs.Common.{◌≡◌, ℕ, ◌<◌, ◌^◌, Bool, true, false, not, List, [], ◌∷◌, refl, codes}
 use Rattle.std.specs.List.{list_all}
 use Rattle.std.specs.Fmt.{decimal}
 use Rattle.reo_values.specs.Names.{is_digit, is_letter, is_name_byte}
@@ -10,10 +10,7 @@ use Rattle.reo_lexer.proofs.Spelled.{one_of-passes, yes-not, never}
 use Rattle.reo_syntax.proofs.Decimals.{decimal-value}
 use Rattle.reo_gen.specs.Names.{numbered, link, output}
 use Rattle.reo_gen_laws.proofs.Pieces.{IsNamed}
-
-or-right : (a b : Bool) → b ≡ true → (a || b) ≡ true
-or-right true b h = refl
-or-right false b h = h
+use Rattle.std.proofs.lemmas.Bool.{or_right as or-right}
 
 name_bytes : (ds : List ℕ) → list_all is_digit ds ≡ true → list_all is_name_byte ds ≡ true
 name_bytes [] h = refl

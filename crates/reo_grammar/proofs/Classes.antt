@@ -12,14 +12,11 @@ use Rattle.reo_grammar.specs.Tokens.Class.{fixed, among, other, name, named, num
 use Rattle.reo_grammar.specs.Grammar.{starts}
 use Rattle.reo_grammar.specs.Sight.{as_word, none_of, each_of, differ, apart, inside, apart_from, all_apart, all_inside}
 use Rattle.reo_grammar.proofs.Sound.{and-left, and-right, not-true, and-both}
+pub use Rattle.std.proofs.lemmas.Bool.{false_from_ne_true as false-not}
 
 pub not-false : (b : Bool) → not b ≡ true → b ≡ false
 not-false true h = absurd (cc)
 not-false false h = refl
-
-pub false-not : (b : Bool) → (b ≡ true → ⊥) → b ≡ false
-false-not true h = absurd (h refl)
-false-not false h = refl
 
 pub no-both : (b : Bool) → b ≡ true → b ≡ false → ⊥
 no-both true h k = cc

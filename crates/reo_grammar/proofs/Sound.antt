@@ -1,11 +1,12 @@
 -- What is got is derived, and what stands before a bad token begins something derived.
-use Rattle.std.proofs.Common.{◌≡◌, ℕ, zero, suc, Bool, true, false, ◌&&◌, ◌||◌, not, cond, List, [], ◌∷◌, ◌++◌, length, inl, inr, refl, sym, ◌∙◌, ap, append_assoc, append-nil}
+use Rattle.std.proofs.Common.{◌≡◌, ℕ, zero, suc, Bool, true, false, ◌&&◌, not, cond, List, [], ◌∷◌, ◌++◌, length, inl, inr, refl, sym, ◌∙◌, ap, append_assoc, append-nil}
 use Rattle.reo_grammar.specs.Tokens.{Lexeme, Class, matches, AreReal}
 use Rattle.reo_grammar.specs.Conditions.{sample, is_nullable, is_productive}
 use Rattle.reo_grammar.specs.Language.{Sound}
 use Rattle.reo_grammar.specs.Grammar.{Grammar, Outcome, Derives, Links, read, reads, Within, loop, then, starts, line_of}
 use Rattle.reo_grammar.specs.Grammar.Grammar.{nothing, token, both, made, either, chain, lined, rule}
 use Rattle.reo_grammar.specs.Grammar.Outcome.{got, bad, out}
+pub use Rattle.std.proofs.lemmas.Bool.{or_left as or-left, or_right as or-right, and_from as and-both}
 
 pub and-left : (a b : Bool) → (a && b) ≡ true → a ≡ true
 and-left true b h = refl
@@ -61,18 +62,6 @@ Good-then D E ts out k h next more = tt
 pub not-true : (b : Bool) → not b ≡ true → b ≡ true → ⊥
 not-true true h e = cc
 not-true false h e = cc
-
-pub or-left : (a b : Bool) → a ≡ true → (a || b) ≡ true
-or-left true b e = refl
-or-left false b e = cc
-
-pub or-right : (a b : Bool) → b ≡ true → (a || b) ≡ true
-or-right true b e = refl
-or-right false b e = e
-
-pub and-both : (a b : Bool) → a ≡ true → b ≡ true → (a && b) ≡ true
-and-both true b h k = k
-and-both false b h k = h
 
 pub append-empty : {A : Type 0} (a b : List A) → [] ≡ a ++ b → ([] ≡ a) × ([] ≡ b)
 append-empty [] b e = (refl, e)

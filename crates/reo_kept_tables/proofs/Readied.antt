@@ -1,5 +1,5 @@
 -- Tables that are right on each part.
-use Rattle.std.proofs.Common.{◌≡◌, ℕ, ◌<◌, ◌&&◌, Bool, true, List, length, get_or, refl, arith}
+use Rattle.std.proofs.Common.{◌≡◌, ℕ, ◌<◌, true, List, length, get_or, refl, arith}
 use Rattle.std.specs.Prelude.{◌==◌, nat_lt}
 use Rattle.std.proofs.lemmas.Bool.Decides.{nat_tests}
 use Rattle.reo_net_base.specs.Net.{Net, side_at}
@@ -11,12 +11,10 @@ use Rattle.reo_joint_values.proofs.Equal.{same_eq}
 use Rattle.reo_joint_values.specs.Standing.{no_joint, giver_of}
 use Rattle.reo_kept_tables.specs.Tables.{IsSideRight, IsJointRight}
 use Rattle.reo_kept_tables.specs.Laws.{ReadyTablesAreRight, RightPartsAreReady}
+use Rattle.std.proofs.lemmas.Bool.{and_from as both}
 
 true_below : (a b : ℕ) → a < b → nat_lt a b ≡ true
 true_below a b h = grind (arith, nat_tests)
-
-both : (a b : Bool) → a ≡ true → b ≡ true → (a && b) ≡ true
-both a b h g = cc
 
 -- A side has the number of its own part.
 pub in_own : (numbers : List ℕ) (s : ℕ) → s < length numbers → in_knot numbers (get_or numbers s 0) s ≡ true

@@ -27,6 +27,8 @@ use Rattle.reo_kept_tables.specs.Orders.{AreJointsOf, AreOrders}
 use Rattle.reo_kept_tables.specs.Laws.{OrdersAreOfParts, OrdersStay}
 use Rattle.reo_kept_tables.proofs.Renewed.{contains_among, among_contains}
 use Rattle.reo_kept_tables.proofs.Readied.{in_own}
+pub use Rattle.std.proofs.lemmas.Bool.{or_left as sooner, or_right as later}
+use Rattle.std.proofs.lemmas.Bool.{false_from_ne_true as not_true}
 
 -- For each part those of the first n joints of an order that are its.
 pub record ArePicked (net : Net) (numbers order : List ℕ) (n count : ℕ) (orders : List (List ℕ)) : Type 0 where
@@ -36,10 +38,6 @@ pub record ArePicked (net : Net) (numbers order : List ℕ) (n count : ℕ) (ord
 -- None was gone through yet.
 pub none_picked : (net : Net) (numbers order : List ℕ) (count : ℕ) (orders : List (List ℕ)) → AreEmpty count orders → ArePicked net numbers order 0 count orders
 none_picked net numbers order count orders are = record { one_each = are.one_each; each = λ k lt. are.empty k }
-
-not_true : (t : Bool) → (t ≡ true → ⊥) → t ≡ false
-not_true true h = absurd (h refl)
-not_true false h = refl
 
 -- A side has the number of no other part.
 pub not_other : (numbers : List ℕ) (k s : ℕ) → k ≢ get_or numbers s 0 → in_knot numbers k s ≡ false
@@ -79,16 +77,6 @@ all_picked net knots order n orders is all are = record {
   one_each = are.one_each;
   each = λ k lt. are.each k lt ∙ ap (joints_in net (in_knot knots.numbers k)) (take_all n order (omega (arith, all)));
 }
-
--- One of two things is so where the second is.
-pub later : (a b : Bool) → b ≡ true → (a || b) ≡ true
-later true b h = refl
-later false b h = h
-
--- Or where the first is.
-pub sooner : (a b : Bool) → a ≡ true → (a || b) ≡ true
-sooner true b h = refl
-sooner false b h = cc
 
 either : (a b : Bool) → (a || b) ≡ true → (a ≡ true) ⊎ (b ≡ true)
 either true b h = inl refl

@@ -6,6 +6,7 @@ use Rattle.reo_grammar.specs.Spelling.{is_closed}
 use Rattle.reo_grammar.proofs.Sound.{and-left, and-right, and-both}
 use Rattle.reo_lexer.specs.Faults.{is_body, stops, is_break, is_wrong}
 use Rattle.reo_lexer.specs.Skipping.{Inside, inside}
+use Rattle.reo_grammar.proofs.Classes.{not-false as not-yes}
 
 -- The byte goes on inside.
 abbrev pub is_more : Bool → ℕ → Bool
@@ -63,10 +64,6 @@ inside-goes false (b ∷ bs) = by (b == 92) (is_unescaped b) refl refl (inside-g
     by true y h p g k = further_escape b bs (inside true bs) h g
     by false true h p g k = further_unescaped b bs (inside false bs) h p k
     by false false h p g k = here false (b ∷ bs) (no-more (b == 92) (is_unescaped b) h p)
-
-not-yes : (b : Bool) → not b ≡ true → b ≡ false
-not-yes true h = absurd (cc)
-not-yes false h = refl
 
 -- An inside that no byte goes on behind is the whole of it.
 pub goes-inside : (e to : Bool) (body left : List ℕ) → is_body e body to ≡ true → halts to left ≡ true → inside e (body ++ left) ≡ record { escape = to; left = left }

@@ -13,6 +13,8 @@ use Rattle.reo_grammar.proofs.Classes.{same_bytes, or-cases, no-both}
 use Rattle.reo_lexer.specs.Faults.{ends}
 use Rattle.reo_lexer.specs.Gaps.{is_space}
 use Rattle.reo_lexer.proofs.Quotes.{closed-longest}
+pub use Rattle.reo_grammar.proofs.Classes.{not-false as not-yes}
+pub use Rattle.std.proofs.lemmas.Bool.{false_from_ne_true as never, not_from_false as yes-not}
 
 -- Each of some lists of bytes passes a test.
 abbrev pub all_pass : (List ℕ → Bool) → List (List ℕ) → Bool
@@ -40,14 +42,6 @@ abbrev pub kind_of : List ℕ → TokenKind
 kind_of [] = kinds.Sign
 kind_of (b ∷ bs) = cond (is_letter b) (cond (one_of (b ∷ bs) reserved) kinds.Word kinds.Name) (cond (is_digit b) kinds.Number (cond (b == 34) kinds.Text kinds.Sign))
 
-pub not-yes : (b : Bool) → not b ≡ true → b ≡ false
-not-yes true h = absurd (cc)
-not-yes false h = refl
-
-pub yes-not : (b : Bool) → b ≡ false → not b ≡ true
-yes-not true h = absurd (cc)
-yes-not false h = refl
-
 pub letter-parts : (b : ℕ) → is_letter b ≡ true → (65 ≤ b)
 letter-parts b h = or-cases (nat_le 65 b && nat_le b 90) ((nat_le 97 b && nat_le b 122) || b == 95) h
     (λ e. let k : nat_le 65 b ≡ true = and-left _ _ e in grind (arith, nat_tests))
@@ -63,11 +57,6 @@ digit-parts b h =
 
 pub quote-part : (b : ℕ) → (b == 34) ≡ true → b ≡ 34
 quote-part b h = grind (arith, nat_tests)
-
--- A test that cannot be true is false.
-pub never : (b : Bool) → (b ≡ true → ⊥) → b ≡ false
-never true h = absurd (h refl)
-never false h = refl
 
 digit-no-letter : (b : ℕ) → is_digit b ≡ true → is_letter b ≡ false
 digit-no-letter b h = never (is_letter b) (λ e. let k = letter-parts b e in let l = digit-parts b h in omega arith)

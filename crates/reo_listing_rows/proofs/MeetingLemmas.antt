@@ -13,10 +13,7 @@ use Rattle.reo_search.specs.declared.fault.SearchFault.TheVariants as faults
 use Rattle.reo_search.specs.First.{IsFirstWithin, IsSearchFault, HasNoThreeColouring}
 use Rattle.reo_walk.specs.declared.part.Part.{Part}
 use Rattle.reo_listing_rows.specs.Meeting.{IsMeeting}
-
-not_jam : (b : Bool) → (b ≡ true → ⊥) → b ≡ false
-not_jam true h = absurd (h refl)
-not_jam false h = refl
+use Rattle.std.proofs.lemmas.Bool.{false_from_ne_true as not_jam}
 
 module _ (net : Net) (inside : ℕ → Bool) (wired : IsWired net) (is_knot : IsKnot net inside) (exactly : KnotJamsExactly) (budget turn : ℕ) (part : Part) (first : IsFirstWithin budget net inside turn part) where
   met_by : (jammed : Bool) → (jammed ≡ true → HasNoThreeColouring net inside) → (HasNoThreeColouring net inside → jammed ≡ true) → IsMeeting net inside (not jammed)

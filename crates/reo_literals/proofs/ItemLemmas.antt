@@ -19,6 +19,7 @@ use Rattle.reo_trees.specs.declared.literals.Constant.TheVariants as constants
 use Rattle.reo_trees.specs.declared.literals.Constant.TheBlock.{hidden-the_row-LiteralPair-0}
 use Rattle.reo_trees.specs.declared.literals.LiteralPair.{LiteralPair}
 use Rattle.reo_literals.specs.Items.{value_of, item_in, HasFewNames}
+use Rattle.std.proofs.lemmas.List.Elements.{filter_map-append}
 
 -- A place that was found is one of the list.
 next : (b : Bool) (i k n : ℕ) (more : Option ℕ) → (more ≡ Some k → k < i + 1 + n) → cond b (Some i) more ≡ Some k → k < i + (1 + n)
@@ -121,10 +122,6 @@ parts_in k c x y at is there = both-parts _ _ (rw (is, at, item_in-Pair x y) at 
 joined : {Y : Type 0} (o : Option Y) (xs ys : List Y) → cons_option o (xs ++ ys) ≡ cons_option o xs ++ ys
 joined None xs ys = refl
 joined (Some y) xs ys = refl
-
-filter_map-append : {X Y : Type 0} (f : X → Option Y) (xs ys : List X) → filter_map f (xs ++ ys) ≡ filter_map f xs ++ filter_map f ys
-filter_map-append f [] ys = refl
-filter_map-append f (x ∷ xs) ys = ap (cons_option (f x)) (filter_map-append f xs ys) ∙ joined (f x) (filter_map f xs) (filter_map f ys)
 
 pub filter_map-more : {X Y : Type 0} (f : X → Option Y) (xs : List X) (i : ℕ) (x : X) → i < length xs → x ≡ get_or xs i x → filter_map f (take (i + 1) xs) ≡ filter_map f (take i xs) ++ cons_option (f x) []
 filter_map-more f xs i x within is =

@@ -5,6 +5,7 @@ use Rattle.reo_grammar.specs.Tokens.Class.{fixed}
 use Rattle.reo_grammar.specs.Levels.{count_of}
 use Rattle.reo_trees.specs.SaysTwo.{item_starts, IsLooped}
 use Rattle.reo_loops.specs.Places.{is_for, lets_item, begins_loop}
+use Rattle.std.proofs.lemmas.Bool.{and_from as and-true}
 
 -- With one more token.
 pub lets_next : (ts : List Lexeme) (t : Lexeme) → lets_item (ts ++ t ∷ []) ≡ matches item_starts t
@@ -42,9 +43,6 @@ at-end [] b t = refl
 at-end (s ∷ []) b t = refl
 at-end (s ∷ u ∷ []) b t = refl
 at-end (s ∷ u ∷ v ∷ a) b t = at-end (u ∷ v ∷ a) b t
-
-and-true : (x y : Bool) → x ≡ true → y ≡ true → (x && y) ≡ true
-and-true x y h i = rw (h, i) refl
 
 begins-only : (ts : List Lexeme) → Begins ts → begins_loop ts ≡ true
 begins-only ts (a, b, t, e, m, n) = ap begins_loop e ∙ at-end a b t ∙ and-true (matches item_starts b) (is_for t) m n

@@ -1,5 +1,5 @@
 -- What the end of a walk comes to.
-use Rattle.std.proofs.Common.{◌≡◌, ◌≢◌, inl, inr, ℕ, zero, suc, ◌+◌, ◌*◌, ◌<◌, ◌&&◌, ◌||◌, Bool, true, false, cond, Option, List, [], ◌∷◌, ◌++◌, length, slice_index, slice_index_or, refl, sym, ap, ◌∙◌, subst, arith}
+use Rattle.std.proofs.Common.{◌≡◌, inl, inr, ℕ, zero, suc, ◌+◌, ◌*◌, ◌<◌, ◌&&◌, ◌||◌, Bool, true, false, cond, Option, List, [], ◌∷◌, ◌++◌, length, slice_index, slice_index_or, refl, sym, ap, ◌∙◌, subst, arith}
 use Rattle.std.specs.Bool.{◌==◌}
 use Rattle.std.specs.Prelude.{Contains}
 use Rattle.std.proofs.lemmas.Bool.{and_parts, cases_Bool}
@@ -42,6 +42,7 @@ use Rattle.reo_mark_search.specs.Places.{class_place, lead_places, class_places,
 use Rattle.reo_mark_search.specs.Spots.{spot_of, AreSpots}
 use Rattle.reo_mark_search.proofs.Placed.{partner_even}
 use Rattle.reo_mark_search.proofs.Steps.{none_before, not_before_less, same_not_less}
+use Rattle.reo_mark_sets.proofs.Starring.{other_eq}
 
 -- The numbers at the places of sides are what their rows are compared by.
 module _ (net : Net) (turn : ℕ) (rows : List ℕ) where
@@ -97,15 +98,6 @@ met_parts own theirs F h = and_parts own.flow theirs.flow h
 met_parts own theirs G h = and_parts own.given (theirs.given || theirs.required) h
 met_parts own theirs R h = and_parts own.required theirs.given h
 met_parts own theirs J h = cc
-
-same_eq : (a b : ℕ) → a ≡ b → (a == b) ≡ true
-same_eq a b h = grind (arith, nat_tests)
-
-other_eq : (a b : ℕ) → a ≢ b → (a == b) ≡ false
-other_eq a b h = grind (arith, nat_tests)
-
-eq_same : (a b : ℕ) → (a == b) ≡ true → a ≡ b
-eq_same a b h = grind (arith, nat_tests)
 
 module _ (net : Net) (wired : IsWired net) (inside : ℕ → Bool) (knot : IsKnot net inside) (sides : List ℕ) (all : (k : ℕ) → inside k ≡ true → Contains sides k) where
   closed : IsClosed net inside

@@ -1,9 +1,7 @@
 -- The places of ends.
-use Rattle.std.proofs.Common.{◌≡◌, ◌≢◌, ◌⊎◌, inl, inr, ℕ, zero, suc, ◌+◌, ◌-◌, ◌*◌, ◌%◌, ◌<◌, Bool, true, false, cond, List, [], ◌∷◌, length, slice_index, slice_index_or, refl, sym, ap, ◌∙◌, subst, arith}
-use Rattle.std.specs.Bool.{◌==◌}
+use Rattle.std.proofs.Common.{◌≡◌, ◌≢◌, ◌⊎◌, inl, inr, ℕ, zero, suc, ◌+◌, ◌-◌, ◌*◌, ◌%◌, ◌<◌, Bool, cond, List, [], ◌∷◌, length, slice_index, slice_index_or, refl, sym, ap, ◌∙◌, subst, arith}
 use Rattle.std.specs.Prelude.{Contains}
 use Rattle.std.proofs.lemmas.Bool.{cases_eq}
-use Rattle.std.proofs.lemmas.Bool.Decides.{nat_tests}
 use Rattle.reo_net_base.specs.declared.form.Form.{Form}
 use Rattle.reo_net_base.specs.declared.form.Form.TheVariants.{Single, Double, Merging, Replicating}
 use Rattle.reo_net_base.specs.declared.joint.End.{End}
@@ -18,12 +16,7 @@ use Rattle.reo_net_laws.proofs.Sides.{side_at_place}
 use Rattle.reo_mark_sets.specs.Marks.{partner}
 use Rattle.reo_mark_sets.specs.Standing.{width_by}
 use Rattle.reo_mark_search.specs.Spots.{spot_of, AreSpots, end_by, AreEndsOf}
-
-eq_true : (a b : ℕ) → a ≡ b → (a == b) ≡ true
-eq_true a b h = grind (arith, nat_tests)
-
-eq_false : (a b : ℕ) → a ≢ b → (a == b) ≡ false
-eq_false a b h = grind (arith, nat_tests)
+use Rattle.reo_mark_sets.proofs.Starring.{same_eq as eq_true, other_eq as eq_false}
 
 -- The other end of a joint.
 pub partner_even : (j : ℕ) → partner (2 * j) ≡ 2 * j + 1

@@ -1,5 +1,5 @@
 -- What is done at a side, and rows that fit.
-use Rattle.std.proofs.Common.{◌≡◌, inl, inr, ℕ, ◌+◌, ◌*◌, ◌<◌, ◌≤◌, ◌&&◌, ◌||◌, Bool, true, false, List, length, slice_index, slice_index_or, refl, sym, ap, ◌∙◌, subst, arith}
+use Rattle.std.proofs.Common.{◌≡◌, inl, inr, ℕ, ◌+◌, ◌*◌, ◌<◌, ◌≤◌, ◌||◌, Bool, true, false, List, length, slice_index, slice_index_or, refl, sym, ap, ◌∙◌, subst, arith}
 use Rattle.std.specs.Bool.{◌==◌}
 use Rattle.std.proofs.lemmas.Bool.{and_from}
 use Rattle.std.proofs.lemmas.Bool.Decides.{nat_tests}
@@ -27,6 +27,7 @@ use Rattle.reo_mark_search.specs.Places.{class_place, row_place}
 use Rattle.reo_mark_search.specs.Spots.{spot_of, AreSpots, end_by, AreEndsOf}
 use Rattle.reo_mark_search.specs.Walking.{IsTakenAt}
 use Rattle.reo_mark_search.proofs.Placed.{decide, spot_is, spot_once, end_is, end_in, end_side, mark_offset, offset_of, partner_even, partner_odd}
+use Rattle.reo_net_laws.proofs.Sets.{and_left as and_first}
 
 -- A mark meets those among which its match is.
 pub meets_there : (a b : Mark) (theirs : Marks) → marks_match a b ≡ true → has theirs b ≡ true → meets theirs a ≡ true
@@ -78,10 +79,6 @@ has_met own theirs F x y = and_from own.flow theirs.flow x y
 has_met own theirs G x y = and_from own.given (theirs.given || theirs.required) x y
 has_met own theirs R x y = and_from own.required theirs.given x y
 has_met own theirs J x y = cc
-
-and_first : (x y : Bool) → (x && y) ≡ true → x ≡ true
-and_first true y h = refl
-and_first false y h = cc
 
 not_last : (x n : ℕ) → x < n → (x + 1 == n) ≡ false → x + 1 < n
 not_last x n lt h = grind (arith, nat_tests)

@@ -17,6 +17,7 @@ use Rattle.reo_mark_sets.specs.Stars.{apart_mark, center_apart, other_mark, cent
 use Rattle.reo_mark_sets.specs.Stars.Kind.{apart, rest, other}
 use Rattle.reo_mark_sets.specs.Stars.{Kind}
 use Rattle.reo_mark_sets.specs.Tallies.{IsTally, HoldsOften}
+pub use Rattle.std.proofs.lemmas.Bool.{or_left, or_right}
 
 pub same_eq : (a b : ℕ) → a ≡ b → (a == b) ≡ true
 same_eq a b h = grind (arith, nat_tests)
@@ -62,14 +63,6 @@ spoke_is star center other o e = ap (λ (t : Bool). cond t (center_other star) (
 pub or_cases : (a b : Bool) → (a || b) ≡ true → (a ≡ true) ⊎ (b ≡ true)
 or_cases true b h = inl refl
 or_cases false b h = inr h
-
-pub or_right : (a b : Bool) → b ≡ true → (a || b) ≡ true
-or_right true b h = refl
-or_right false b h = h
-
-pub or_left : (a b : Bool) → a ≡ true → (a || b) ≡ true
-or_left true b h = refl
-or_left false b h = cc
 
 -- What is left at the center, mark by mark.
 center_left_has : (star : Star) (a : Tally) (r o : Bool) (mark : Mark) → has (center_left star a r o) mark ≡ true

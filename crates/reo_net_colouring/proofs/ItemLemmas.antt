@@ -1,6 +1,5 @@
 -- Items that rows determine.
-use Rattle.std.proofs.Common.{◌≡◌, ◌≢◌, ◌⊎◌, inl, inr, ℕ, zero, suc, ◌+◌, ◌<◌, List, [], ◌∷◌, Option, None, Some, Bool, true, false, length, get_or, set, drop, refl, ap, sym, ◌∙◌, arith, rules, cond, add-one, get_or-set_same, get_or-set_other}
-use Rattle.std.specs.Bool.{◌==◌}
+use Rattle.std.proofs.Common.{◌≡◌, ◌≢◌, inl, inr, ℕ, zero, suc, ◌+◌, ◌<◌, List, [], ◌∷◌, Option, None, Some, Bool, true, false, length, get_or, set, drop, refl, ap, sym, ◌∙◌, arith, rules, cond, add-one, get_or-set_same, get_or-set_other}
 use Rattle.std.specs.Option.{option_and_then}
 use Rattle.std.proofs.Math.Seq.{drop-cons}
 use Rattle.std.proofs.lemmas.Bool.Decides.{nat_tests}
@@ -22,6 +21,7 @@ use Rattle.reo_net_laws.proofs.Items.{end_is, given_same}
 use Rattle.reo_net_laws.proofs.Sides.{gives_at, row_in_table, row_below, side_in_range, same_side_at}
 use Rattle.reo_net_laws.proofs.Orders.{no_joint, Feeds, place_in, place_of, fed_before}
 use Rattle.reo_net_colouring.proofs.FilledBefore.{AreFilledBefore}
+use Rattle.reo_net_circuit.proofs.Cases.{eq_cases}
 
 -- The ends of a joint.
 module _ (net : Net) (wired : IsWired net) (j : ℕ) (d : Joint) (lt : j < length net.joints) where
@@ -110,9 +110,6 @@ filled_from net rows items col = record {
   one_each = col.one_each;
   determined = λ j d lt. fits_given net rows items (get_or net.joints j d) (get_or items j None) (col.items_fit j d lt);
 }
-
-eq_cases : (a b : ℕ) → (a ≡ b) ⊎ (a ≢ b)
-eq_cases a b = elim (a == b) as (λ t. (a == b) ≡ t → (a ≡ b) ⊎ (a ≢ b)) [ true ↦ λ e. inl (grind (arith, nat_tests)) | false ↦ λ e. inr (λ h. grind (arith, nat_tests)) ] refl
 
 module _ (net : Net) (wired : IsWired net) (rows : List ℕ) (are : AreRows (all_sides net.primitives) rows) where
   -- The item that the rows put at a joint hangs on those at the joints that feed it.

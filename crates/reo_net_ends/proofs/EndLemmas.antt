@@ -9,18 +9,11 @@ use Rattle.reo_net_base.specs.Ends.{IsGiver, IsTaker}
 use Rattle.reo_net_base.specs.Wired.{IsWired, IsEnd}
 use Rattle.reo_net_ends.specs.Ends.{joint_at, HasEnd, AreEnds}
 use Rattle.reo_net_ends.specs.Laws.{EndsFindJoints}
+use Rattle.std.proofs.lemmas.Bool.{or_left, or_right}
 
 one_of : (a b : Bool) → (a || b) ≡ true → (a ≡ true) ⊎ (b ≡ true)
 one_of true b h = inl refl
 one_of false b h = inr h
-
-or_right : (a b : Bool) → b ≡ true → (a || b) ≡ true
-or_right true b h = refl
-or_right false b h = h
-
-or_left : (a b : Bool) → a ≡ true → (a || b) ≡ true
-or_left true b h = refl
-or_left false b h = cc
 
 end_is : (a b : End) → end_eq a b ≡ true → a ≡ b
 end_is a b h =

@@ -1,8 +1,6 @@
 -- Where sides and their rows stand.
-use Rattle.std.proofs.Common.{◌≡◌, ◌⊎◌, inl, inr, ℕ, zero, suc, ◌+◌, ◌-◌, ◌<◌, ◌≤◌, List, [], ◌∷◌, ◌++◌, true, false, length, get_or, take, refl, ap, ◌∙◌, arith, length-append}
-use Rattle.std.specs.Prelude.{nat_lt}
+use Rattle.std.proofs.Common.{◌≡◌, inl, inr, ℕ, zero, suc, ◌+◌, ◌-◌, ◌<◌, List, [], ◌∷◌, ◌++◌, false, length, get_or, take, refl, ap, ◌∙◌, arith, length-append}
 use Rattle.std.specs.List.{flat_map}
-use Rattle.std.proofs.lemmas.Bool.Decides.{nat_tests}
 use Rattle.std.proofs.lemmas.List.Concat.{get_or-flat_map}
 use Rattle.std.proofs.lemmas.List.Folds.{length-flat_map-take}
 use Rattle.std.proofs.lemmas.List.FromFn.{get_or-map-range_with_len, length-map-range_with_len}
@@ -13,6 +11,7 @@ use Rattle.reo_net_base.specs.Lawful.{GivesAt}
 use Rattle.reo_net_base.specs.Net.{Net, Side, all_sides, sides_of, first_side, behaviour_at, row_count, end_of, side_at, side_of_end, row_at, mark_at}
 use Rattle.reo_net_base.specs.Colouring.{AreRows}
 use Rattle.reo_net_base.specs.Wired.{IsWired, IsEnd}
+pub use Rattle.reo_net_order.proofs.Cases.{lt_cases as below_or}
 
 -- One row for each side, by the number of the side.
 pub rows_length : (ss : List Side) (rs : List ℕ) → AreRows ss rs → length rs ≡ length ss
@@ -52,9 +51,6 @@ pub record Owner (bs : List Behaviour) (k : ℕ) : Type 0 where
   pub primitive_in : primitive < length bs
   pub number_in : number < (behaviour_at bs primitive).sides
   pub place : k ≡ first_side bs primitive + number
-
-pub below_or : (x y : ℕ) → (x < y) ⊎ (y ≤ x)
-below_or x y = elim (nat_lt x y) as (λ t. nat_lt x y ≡ t → (x < y) ⊎ (y ≤ x)) [ true ↦ λ e. inl (grind (arith, nat_tests)) | false ↦ λ e. inr (grind (arith, nat_tests)) ] refl
 
 pub owner_of : (bs : List Behaviour) (k : ℕ) → k < length (all_sides bs) → Owner bs k
 owner_of [] k lt = absurd (omega arith)

@@ -1,5 +1,5 @@
 -- Rows that agree at the chosen sides.
-use Rattle.std.proofs.Common.{◌≡◌, ◌≢◌, ◌⊎◌, inl, inr, ℕ, suc, zero, ◌+◌, ◌<◌, ◌≤◌, Bool, not, cond, replicate, List, [], ◌∷◌, Option, true, false, length, get_or, set, refl, ap, sym, ◌∙◌, arith}
+use Rattle.std.proofs.Common.{◌≡◌, ◌≢◌, inl, inr, ℕ, suc, zero, ◌+◌, ◌<◌, Bool, not, cond, replicate, List, [], ◌∷◌, Option, true, false, length, get_or, set, refl, ap, sym, ◌∙◌, arith}
 use Rattle.std.specs.Ordering.{is_lt, ordering_reverse}
 use Rattle.std.specs.List.{count_by}
 use Rattle.std.specs.declared.cmp.Ordering.{Ordering}
@@ -7,8 +7,6 @@ use Rattle.std.specs.declared.cmp.Ordering.TheVariants.{Less, Equal, Greater}
 use Rattle.std.specs.Cmp.Lexicographic.{nat_list_cmp_total}
 use Rattle.std.proofs.lemmas.List.{length-set, length-replicate, ext_get_or, get_or_past, get_or-replicate, get_or-set_same, get_or-set_other}
 use Rattle.std.proofs.lemmas.List.Sums.{sum_by-cons}
-use Rattle.std.proofs.lemmas.Bool.Decides.{nat_tests}
-use Rattle.std.specs.Prelude.{nat_lt, nat_eq}
 use Rattle.reo_values.specs.declared.value.Value.{Value}
 use Rattle.reo_net_base.specs.declared.joint.End.{End}
 use Rattle.reo_net_base.specs.declared.joint.Joint.{Joint}
@@ -19,12 +17,7 @@ use Rattle.reo_net_base.specs.First.{key_at, positions, order_of}
 use Rattle.reo_net_laws.proofs.Sides.{are_rows, rows_length, row_below, row_is}
 use Rattle.reo_net_laws.proofs.Items.{mark_moved}
 use Rattle.reo_net_plain.specs.Chosen.{IsChosen, AllChosen, IsBetween, Agrees, Improves}
-
-lt_cases : (x y : ℕ) → (x < y) ⊎ (y ≤ x)
-lt_cases x y = elim (nat_lt x y) as (λ t. nat_lt x y ≡ t → (x < y) ⊎ (y ≤ x)) [ true ↦ λ e. inl (grind (arith, nat_tests)) | false ↦ λ e. inr (grind (arith, nat_tests)) ] refl
-
-eq_cases : (x y : ℕ) → (x ≡ y) ⊎ (x ≢ y)
-eq_cases x y = elim (nat_eq x y) as (λ t. nat_eq x y ≡ t → (x ≡ y) ⊎ (x ≢ y)) [ true ↦ λ e. inl (grind (arith, nat_tests)) | false ↦ λ e. inr (grind (arith, nat_tests)) ] refl
+use Rattle.reo_net_circuit.proofs.Cases.{lt_cases, eq_cases}
 
 -- A joint between chosen sides matches by these rows where it does by others that agree.
 pub match_agrees : (net : Net) (chosen : List Bool) (rows others : List ℕ) (joint : Joint) → Agrees chosen rows others → IsBetween net chosen joint → JointMatches net others joint → JointMatches net rows joint

@@ -1,5 +1,5 @@
 -- The sides of a part.
-use Rattle.std.proofs.Common.{◌≡◌, ◌≢◌, ℕ, ◌<◌, ◌&&◌, Bool, true, false, List, length, get_or, sym, ◌∙◌, arith}
+use Rattle.std.proofs.Common.{◌≡◌, ◌≢◌, ℕ, ◌<◌, true, false, List, length, get_or, sym, ◌∙◌, arith}
 use Rattle.std.specs.Prelude.{◌==◌, nat_lt}
 use Rattle.std.proofs.lemmas.Bool.Decides.{nat_tests}
 use Rattle.reo_net_base.specs.Net.{Net}
@@ -7,6 +7,8 @@ use Rattle.reo_net_base.specs.Sides.{side_count}
 use Rattle.reo_net_laws.specs.Parts.{SameKnot}
 use Rattle.reo_net_laws.proofs.Sets.{and_left, and_right}
 use Rattle.reo_knots.specs.Knots.{AreNumbers, in_knot}
+use Rattle.std.proofs.lemmas.Bool.{and_from as both, false_from_ne_true as not_true}
+use Rattle.reo_joint_values.proofs.Equal.{eq_same as eq_true, same_eq as true_eq}
 
 below_true : (a b : ℕ) → nat_lt a b ≡ true → a < b
 below_true a b h = grind (arith, nat_tests)
@@ -14,22 +16,9 @@ below_true a b h = grind (arith, nat_tests)
 true_below : (a b : ℕ) → a < b → nat_lt a b ≡ true
 true_below a b h = grind (arith, nat_tests)
 
-eq_true : (a b : ℕ) → (a == b) ≡ true → a ≡ b
-eq_true a b h = grind (arith, nat_tests)
-
-true_eq : (a b : ℕ) → a ≡ b → (a == b) ≡ true
-true_eq a b h = grind (arith, nat_tests)
-
-both : (a b : Bool) → a ≡ true → b ≡ true → (a && b) ≡ true
-both a b h g = cc
-
 -- A side of a part has its number.
 pub number_is : (numbers : List ℕ) (k s : ℕ) → in_knot numbers k s ≡ true → get_or numbers s 0 ≡ k
 number_is numbers k s h = eq_true (get_or numbers s 0) k (and_right (nat_lt s (length numbers)) (get_or numbers s 0 == k) h)
-
-not_true : (t : Bool) → (t ≡ true → ⊥) → t ≡ false
-not_true true h = absurd (h (λ i. true))
-not_true false h = λ i. false
 
 -- A side of a part is in no other part.
 pub elsewhere : (numbers : List ℕ) (k m s : ℕ) → in_knot numbers k s ≡ true → m ≢ k → in_knot numbers m s ≡ false

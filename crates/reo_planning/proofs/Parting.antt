@@ -1,5 +1,5 @@
 -- One part more has the rows of its first assignment.
-use Rattle.std.proofs.Common.{◌≡◌, ◌∙◌, inl, inr, ℕ, ◌+◌, ◌<◌, ◌≤◌, ◌≢◌, Bool, true, false, ◌&&◌, List, length, get_or, replicate, refl, ap, sym, subst, arith}
+use Rattle.std.proofs.Common.{◌≡◌, ◌∙◌, inl, inr, ℕ, ◌+◌, ◌<◌, ◌≤◌, ◌≢◌, Bool, true, false, List, length, get_or, replicate, refl, ap, sym, subst, arith}
 use Rattle.std.specs.Prelude.{nat_le}
 use Rattle.std.proofs.lemmas.Bool.Decides.{nat_tests}
 use Rattle.std.proofs.lemmas.List.{get_or-replicate}
@@ -26,6 +26,7 @@ use Rattle.reo_planning.specs.Keeping.{is_settled, serves, AllServe, IsKept}
 use Rattle.reo_planning.specs.Planned.{ArePlanned, IsPartPlanned}
 use Rattle.reo_planning.specs.Written.{AreWritten}
 use Rattle.reo_planning.proofs.KnotSets.{below, elsewhere}
+use Rattle.std.proofs.lemmas.Bool.{and_from as both_true}
 
 -- More is within a greater budget.
 within_more : (less more : ℕ) (net : Net) (inside : ℕ → Bool) → less ≤ more → IsWithin less net inside → IsWithin more net inside
@@ -168,9 +169,6 @@ all_served budget net knots are turn kept is all rows same =
 -- A test that is true for what serves itself.
 self_le : (n : ℕ) → nat_le n n ≡ true
 self_le n = grind (arith, nat_tests)
-
-both_true : (a b : Bool) → a ≡ true → b ≡ true → (a && b) ≡ true
-both_true a b h g = cc
 
 -- Where all parts are settled, all serve for the budget.
 pub all_settled : (kept : Kept) (budget count n : ℕ) → kept.budget ≡ budget → kept.settled ≡ replicate n true → n ≡ count → AllServe count budget kept

@@ -9,17 +9,14 @@ use Rattle.reo_net_base.specs.Net.{Net, all_sides, sides_of, first_side, side_at
 use Rattle.reo_net_base.specs.Shapes.{SameShapes}
 use Rattle.reo_net_base.specs.Sides.{side_count}
 use Rattle.reo_net_base.specs.Wired.{IsWired}
-use Rattle.reo_net_circuit.proofs.ReshapeLemmas.{first_same, side_same}
+use Rattle.reo_net_circuit.proofs.ReshapeLemmas.{side_same}
 use Rattle.reo_net_laws.specs.Parts.{IsClosedBelow, IsLinked, SameKnot, IsKnot}
 use Rattle.reo_knots.specs.Knots.{Knotted, AreNumbers, AreKnots, IsLoopOf, in_knot, knot_count}
 use Rattle.reo_planning.specs.Unsettling.{KnotsStay}
+pub use Rattle.reo_kept_tables.proofs.Staying.{count_same}
 
 all_is : (bs : List Behaviour) → length (all_sides bs) ≡ first_side bs (length bs)
 all_is bs = ap (λ (xs : List Behaviour). length (flat_map sides_of xs)) (sym (take_all (length bs) bs (omega arith)))
-
--- Circuits of one shape have as many sides.
-pub count_same : (bs ds : List Behaviour) → SameShapes bs ds → length (all_sides ds) ≡ length (all_sides bs)
-count_same bs ds r = all_is ds ∙ ap (first_side ds) r.count ∙ first_same bs ds r (length bs) ∙ sym (all_is bs)
 
 module _ (bs ds : List Behaviour) (js : List Joint) (wired : IsWired (record { primitives = bs; joints = js })) (r : SameShapes bs ds) where
   abbrev net : Net

@@ -3,7 +3,6 @@ use Rattle.std.proofs.Common.{◌≡◌, ℕ, zero, suc, ◌+◌, ◌*◌, ◌<�
 use Rattle.std.specs.List.{All}
 use Rattle.std.proofs.lemmas.Bool.Decides.{nat_tests}
 use Rattle.std.proofs.lemmas.List.Elements.{All-nil, All-cons, All-append}
-use Rattle.std.proofs.lemmas.List.FromFn.{length-map-range_with_len}
 use Rattle.reo_net_base.specs.Behaviour.{Behaviour}
 use Rattle.reo_net_base.specs.First.{is_leading, leading_positions, class_position, class_positions, row_positions, positions}
 use Rattle.reo_net_base.specs.Lawful.{IsLawful}
@@ -27,12 +26,10 @@ use Rattle.reo_refute_laws.proofs.Branches.{side_below}
 use Rattle.reo_refute_laws.proofs.Refuting.{true_lt}
 use Rattle.reo_refute_prove.specs.Making.{AreFew}
 use Rattle.reo_proof_laws.specs.Logs.{IsSized}
+use Rattle.reo_net_laws.proofs.Sides.{side_count as own_sides}
 
 and_first : (a b : Bool) → a && b ≡ true → a ≡ true
 and_first a b h = grind (arith, nat_tests)
-
-own_sides : (b : Behaviour) → length (sides_of b) ≡ b.sides
-own_sides b = length-map-range_with_len {X = Side} (λ k. record { of = b; number = k }) 0 b.sides
 
 -- There are at most two sides for each primitive.
 sides_few : (bs : List Behaviour) → ((i : ℕ) → i < length bs → IsLawful (behaviour_at bs i)) → length (all_sides bs) ≤ 2 * length bs

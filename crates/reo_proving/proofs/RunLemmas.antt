@@ -2,7 +2,7 @@
 use Rattle.std.proofs.Common.{◌≡◌, ◌∙◌, ℕ, ◌+◌, inl, inr, List, [], ◌∷◌, ◌++◌, Bool, true, false, cond, ap, sym, refl, subst, length, map, arith, append_assoc, length-append}
 use Rattle.std.proofs.lemmas.List.{append-nil}
 use Rattle.std.proofs.lemmas.Grind.{flat_map-append}
-use Rattle.std.specs.Prelude.{Option, Some, None, Result, Ok, Err, IsErr, IsErrAnd, IsErrOf}
+use Rattle.std.specs.Prelude.{Option, Some, None, Result, Ok, Err, IsErr, IsErrAnd}
 use Rattle.reo_io.specs.Sinks.{Appended, TookPart}
 use Rattle.reo_io.proofs.Taken.{Appended-none, Appended-append, TookPart-after, TookPart-more}
 use Rattle.reo_net_base.specs.declared.port.Port.{Port}
@@ -25,6 +25,7 @@ use Rattle.reo_proof_laws.proofs.Goings.{proven_more}
 use Rattle.reo_proving.specs.Proving.{HasProved, HasCut, HasKept}
 use Rattle.reo_proving.specs.Rounds.{Went, CutRound}
 use Rattle.reo_proving.proofs.SoFar.{SoFar, Finished}
+pub use Rattle.reo_values.proofs.Faults.{passed_on as same_fault}
 
 -- The text of one round more with its log.
 text_more : (ports : List Port) (xs : List LoggedRound) (x : LoggedRound) → all_logged ports (xs ++ x ∷ []) ≡ all_logged ports xs ++ logged_text ports x
@@ -42,12 +43,6 @@ by_fault Q NoMemory cut kept = kept refl
 pub passed_on : (Q : Result Ending WriteFault → Type 0) (r : Result Ending WriteFault) (d : WriteFault) → IsErr r × IsErrAnd r (λ y. y ≡ d) → (d ≡ Failed → Q (Err Failed)) → (d ≡ NoMemory → Q (Err NoMemory)) → Q r
 passed_on Q (Ok v) d h cut kept = absurd h.1
 passed_on Q (Err e) d h cut kept = subst (λ (x : WriteFault). Q (Err x)) (sym h.1) (by_fault Q d cut kept)
-
-pub same_fault : {T U E : Type 0} (r : Result T E) (d x : E) → IsErr r × IsErrAnd r (λ y. y ≡ d) → IsErrOf r x → IsErrOf {T = U} (Err d) x
-same_fault (Ok v) d x h is = absurd h.1
-same_fault (Err e) d x h is =
-    let same : e ≡ x = cc in
-    ap Err (sym h.1 ∙ same)
 
 pub none_of : {X : Type 0} (o : Option X) → ((x : X) → o ≡ Some x → ⊥) → o ≡ None
 none_of None h = refl

@@ -1,11 +1,11 @@
 -- A log has one answer, unless memory ends.
-use Rattle.std.proofs.Common.{◌≡◌, ◌≢◌, ◌⊎◌, inl, inr, ℕ, ◌+◌, ◌<◌, ◌≤◌, true, false, List, Option, None, Some, length, get_or, refl, ap, sym, ◌∙◌, subst, arith}
+use Rattle.std.proofs.Common.{◌≡◌, inl, inr, ℕ, ◌+◌, ◌<◌, List, Option, None, Some, get_or, refl, ap, sym, ◌∙◌, subst, arith}
 use Rattle.std.proofs.lemmas.Bool.{cases_eq}
 use Rattle.reo_values.specs.declared.value.Value.{Value}
 use Rattle.reo_net_base.specs.declared.joint.Joint.{Joint as JointEnds}
 use Rattle.reo_net_base.specs.Net.{Net}
 use Rattle.reo_net_base.specs.Sides.{AreRowsOf}
-use Rattle.reo_net_base.specs.Colouring.{RowsFit, IsColouring, IsFilled, ItemFits}
+use Rattle.reo_net_base.specs.Colouring.{RowsFit, IsFilled, ItemFits}
 use Rattle.reo_net_base.specs.Wired.{IsWired, IsOrder}
 use Rattle.reo_net_laws.proofs.Orders.{no_joint}
 use Rattle.reo_net_laws.proofs.Sides.{below_or, rows_length, row_below, side_in, side_is}
@@ -15,10 +15,9 @@ use Rattle.reo_checker.specs.declared.wrong.Wrong.{Wrong}
 use Rattle.reo_checker.specs.declared.wrong.Wrong.TheVariants.{Count, Row, Joint, Item}
 use Rattle.reo_checker.specs.Faults.{side_row, ItemFails, AreWrongRows, IsWrong, IsRowFault, IsJointFault, IsItemFault}
 use Rattle.reo_refute_laws.proofs.OneAnswer.{right_or_wrong, one_wrong_line}
-use Rattle.reo_refute_base.specs.Wide.{IsWide}
-use Rattle.reo_refute_faults.specs.Faults.{HasColouring, AreWrongItems, AreNoColouring, IsProof, IsProofFault, ProofOrFault, OneFault}
-use Rattle.reo_refute_faults.specs.declared.fault.ProofFault.{ProofFault}
+use Rattle.reo_refute_faults.specs.Faults.{HasColouring, AreWrongItems, AreNoColouring, ProofOrFault, OneFault}
 use Rattle.reo_refute_faults.specs.declared.fault.ProofFault.TheVariants.{Colouring, Wide, Line, NoMemory}
+use Rattle.reo_checker.proofs.ExactLemmas.{wrong_rows, wrong_colouring}
 
 -- Of two least places neither is below the other.
 leasts : (i k : ℕ) → (i < k → ⊥) → (k < i → ⊥) → i ≡ k
@@ -53,24 +52,6 @@ row_out net rows i fault are =
     let below = row_below (all_sides net.primitives) rows are (first_side net.primitives i + fault.out.side) no_side (side_in net.primitives i fault.out.side fault.in_range fault.out.is_side) in
     let here : side_row net rows i fault.out.side < (behaviour_at net.primitives i).rows fault.out.side = rw (side_is net.primitives i fault.out.side no_side fault.in_range fault.out.is_side) at below in
     omega (arith, here, fault.out.out)
-
--- Rows with something wrong do not fit.
-wrong_rows : (net : Net) (rows : List ℕ) (wrong : Wrong) → AreWrongRows net rows wrong → RowsFit net rows → ⊥
-wrong_rows net rows Count other fit = other (rows_length (all_sides net.primitives) rows fit.in_tables)
-wrong_rows net rows (Row i) h fit = row_out net rows i h.1 fit.in_tables
-wrong_rows net rows (Joint j) h fit =
-    let clash = h.1.clashes no_joint in
-    let match = fit.matched j no_joint h.1.in_range in
-    absurd cc
-wrong_rows net rows (Item j) h fit = h
-
--- Rows and items with something wrong are no colouring.
-wrong_colouring : (net : Net) (rows : List ℕ) (items : List (Option Value)) (wrong : Wrong) → IsWrong net rows items wrong → IsColouring net rows items → ⊥
-wrong_colouring net rows items Count (inl other) col = wrong_rows net rows Count other col.rows_fit
-wrong_colouring net rows items Count (inr other) col = other col.one_each
-wrong_colouring net rows items (Row i) h col = wrong_rows net rows (Row i) h.1 col.rows_fit
-wrong_colouring net rows items (Joint j) h col = wrong_rows net rows (Joint j) h.1 col.rows_fit
-wrong_colouring net rows items (Item j) h col = fails_fits net rows items (get_or net.joints j no_joint) (get_or items j None) (h.2.fails no_joint) (col.items_fit j no_joint h.2.in_range)
 
 -- What is wrong first with rows is one.
 one_of_rows : (net : Net) (rows : List ℕ) (a b : Wrong) → AreWrongRows net rows a → AreWrongRows net rows b → a ≡ b

@@ -13,9 +13,7 @@ use Rattle.reo_joint_values.proofs.Works.{Possible, fits_works, works_possible}
 use Rattle.reo_refute_base.specs.Live.{alone, HasSupport}
 use Rattle.reo_refute_base.specs.Places.{IsAllowed}
 use Rattle.reo_refute_support_laws.specs.Rows.{SupportingRow, SupportIsByRows}
-
-eq_from : (i j : ℕ) → (i == j) ≡ true → i ≡ j
-eq_from i j h = grind (arith, nat_tests)
+use Rattle.reo_joint_values.proofs.Equal.{eq_same as eq_from}
 
 alone_other : (a b c : Bool) → a ≡ true → b ≡ false → a && (not b || c) ≡ true
 alone_other a b c h e = grind (arith, nat_tests)

@@ -5,6 +5,7 @@ use Rattle.std.specs.List.{flat_map}
 use Rattle.reo_rules.specs.declared.fault.FlatFault.{FlatFault}
 use Rattle.reo_rules.specs.Lists.{each_after, first_of}
 use Rattle.reo_rules.specs.Judged.{IsFirst, IsJudged}
+pub use Rattle.std.proofs.lemmas.Grind.{flat_map-append}
 
 -- Two lists without a break have none together, and the other way round.
 pub both_none : {X : Type 0} (xs ys : List X) → xs ≡ [] → ys ≡ [] → xs ++ ys ≡ []
@@ -67,11 +68,6 @@ module _ {X : Type 0} (f : List X → X → List FlatFault) where
   -- No break up to the end: none at all.
   pub after_all : (b xs : List X) (i : ℕ) → length xs ≤ i → each_after f b (take i xs) ≡ [] → each_after f b xs ≡ []
   after_all b xs i past none = ap (each_after f b) (sym (take_all i xs past)) ∙ none
-
--- The breaks of two lists of parts.
-pub flat_map-append : {X A : Type 0} (f : X → List A) (xs ys : List X) → flat_map f (xs ++ ys) ≡ flat_map f xs ++ flat_map f ys
-flat_map-append f [] ys = refl
-flat_map-append f (x ∷ xs) ys = ap (λ zs. f x ++ zs) (flat_map-append f xs ys) ∙ sym (append_assoc (f x) (flat_map f xs) (flat_map f ys))
 
 -- The items up to the next one.
 pub more_seen : {X : Type 0} (xs : List X) (i : ℕ) (x : X) → i < length xs → x ≡ get_or xs i x → {seen next : List X} → seen ≡ take i xs → next ≡ seen ++ x ∷ [] → next ≡ take (i + 1) xs

@@ -1,13 +1,10 @@
 -- Names that stand once.
-use Rattle.std.proofs.Common.{arith, ◌≡◌, ◌∙◌, ℕ, zero, suc, ◌<◌, ◌||◌, List, [], ◌∷◌, length, take, get_or, Bool, true, false, bytes_eq, refl, sym}
+use Rattle.std.proofs.Common.{arith, ◌≡◌, ◌∙◌, ℕ, zero, suc, ◌<◌, ◌||◌, List, [], ◌∷◌, length, take, get_or, false, bytes_eq, refl, sym}
 use Rattle.std.proofs.lemmas.List.{length-take-le, get_or_default}
 use Rattle.std.proofs.lemmas.Slice.Eq.{bytes_eq-Decides}
 use Rattle.reo_values.specs.Valid.{AreDistinct}
 use Rattle.reo_rules.specs.Lists.{has_name}
-
-no_test : (b : Bool) → (b ≡ true → ⊥) → b ≡ false
-no_test false h = refl
-no_test true h = absurd (h refl)
+use Rattle.std.proofs.lemmas.Bool.{false_from_ne_true as no_test}
 
 -- A name that stands at no place of a list is none of it.
 no_such : (xs : List (List ℕ)) (name : List ℕ) → ((k : ℕ) → k < length xs → name ≡ get_or xs k [] → ⊥) → has_name xs name ≡ false

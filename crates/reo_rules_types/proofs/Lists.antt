@@ -8,6 +8,7 @@ use Rattle.std.proofs.lemmas.List.Folds.{list_any-append}
 use Rattle.std.proofs.lemmas.Option.{same_Some}
 use Rattle.reo_rules.specs.Lists.{has_name}
 use Rattle.reo_rules.specs.Names.{with_name}
+use Rattle.std.proofs.lemmas.Bool.{or_left as left_true, or_right as right_true}
 
 -- What has a number keeps it.
 pub more_keeps : {X : Type 0} (xs ys : List X) (n : ℕ) (x : X) → slice_get xs n ≡ Some x → slice_get (xs ++ ys) n ≡ Some x
@@ -69,16 +70,6 @@ either true b p q = absurd (cc)
 pub any_more : {X : Type 0} (f : X → Bool) (xs : List X) (i : ℕ) (x : X) → i < length xs → x ≡ get_or xs i x → list_any f (take i xs) ≡ false → f x ≡ false → list_any f (take (i + 1) xs) ≡ false
 any_more f xs i x below is none here =
     ap (list_any f) (take_more xs i x below ∙ ap (λ v. take i xs ++ v ∷ []) (sym is)) ∙ list_any-append f (take i xs) (x ∷ []) ∙ either (list_any f (take i xs)) (f x) none here
-
-left_true : (a b : Bool) → a ≡ true → (a || b) ≡ true
-left_true true true p = refl
-left_true true false p = refl
-left_true false b p = absurd (cc)
-
-right_true : (a b : Bool) → b ≡ true → (a || b) ≡ true
-right_true true true p = refl
-right_true true false p = absurd (cc)
-right_true false b p = p
 
 pub any_hit : {X : Type 0} (f : X → Bool) (xs : List X) (i : ℕ) (x : X) → i < length xs → x ≡ get_or xs i x → f x ≡ true → list_any f xs ≡ true
 any_hit f [] i x below is here = absurd (omega arith)

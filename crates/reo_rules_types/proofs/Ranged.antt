@@ -38,6 +38,7 @@ use Rattle.reo_rules_types.specs.declared.cell.Cell.TheVariants as cells
 use Rattle.reo_rules_types.specs.Cells.{kindred_of}
 use Rattle.reo_rules_types.proofs.Same.{le_told, same_tests}
 use Rattle.reo_rules_types.proofs.Shaped.{resolved-Pair}
+use Rattle.std.proofs.lemmas.Bool.{or_right as or_true}
 
 -- An expression that has no kind has no type.
 pub untyped : (e : Expr) (of : Kindred) → kind_of_expr e of ≡ None → type_of_expr e of ≡ None
@@ -118,11 +119,6 @@ head_part f line (shape.Sym names) = ([], refl)
 head_part f line (shape.Text m) = ([], refl)
 head_part f line (shape.Pair' m (shape.more_of-TypePair k x l y shape.end_of-TypePair)) = (flat_map f (parts_of k x ++ parts_of l y), refl)
 head_part f line (shape.Named name) = ([], refl)
-
-or_true : (b c : Bool) → c ≡ true → (b || c) ≡ true
-or_true true true e = refl
-or_true true false e = absurd (cc)
-or_true false c e = e
 
 first_part : (known : List Typed) (line : ℕ) (s : Shape) → nat_lt 8 (depth_of (resolved known s)) ≡ true → first_of (range_in_type known (record { line = line; shape = s })) ≡ Some (faults.Range line)
 unfolding part_breaks

@@ -1,28 +1,10 @@
 -- The types of parameters, by number.
-use Rattle.std.proofs.Common.{arith, ◌≡◌, ◌∙◌, ℕ, ◌+◌, ◌<◌, zero, suc, Bool, true, false, ◌||◌, List, [], ◌∷◌, ◌++◌, length, take, get_or, Some, slice_get, refl, sym, ap, subst}
+use Rattle.std.proofs.Common.{arith, ◌≡◌, ◌∙◌, ℕ, ◌+◌, ◌<◌, zero, suc, Bool, true, false, List, [], ◌∷◌, ◌++◌, length, take, get_or, Some, slice_get, refl, sym, ap, subst}
 use Rattle.std.specs.List.{list_any, zip}
 use Rattle.reo_values.specs.declared.kindred.Kindred.{Kindred}
 use Rattle.reo_rules_types.specs.Cells.{Keeps}
 use Rattle.reo_rules_types.specs.Signed.{AreOf}
-
-neither : (a b : Bool) → (a || b) ≡ false → (a ≡ false) × (b ≡ false)
-neither false b e = (refl, e)
-neither true true e = absurd (cc)
-neither true false e = absurd (cc)
-
-both_false : (a b : Bool) → a ≡ false → b ≡ false → (a || b) ≡ false
-both_false false b p q = q
-both_false true b p q = absurd (cc)
-
-left_true : (a b : Bool) → a ≡ true → (a || b) ≡ true
-left_true true true p = refl
-left_true true false p = refl
-left_true false b p = absurd (cc)
-
-right_true : (a b : Bool) → b ≡ true → (a || b) ≡ true
-right_true true true p = refl
-right_true true false p = absurd (cc)
-right_true false b p = p
+use Rattle.std.proofs.lemmas.Bool.{or_left as left_true, or_right as right_true, or_parts as neither, or_from as both_false}
 
 module _ {X Y : Type 0} (f : X × Y → Bool) where
   up : (xs : List X) (ys : List Y) (i : ℕ) (x : X) → i < length xs → x ≡ get_or xs i x → list_any f (zip (take i xs) ys) ≡ false → ((y : Y) → slice_get ys i ≡ Some y → f (x, y) ≡ false) → list_any f (zip (take (suc i) xs) ys) ≡ false

@@ -11,6 +11,8 @@ use Rattle.reo_scripts.specs.declared.fault.ScriptFault.TheVariants as faults
 use Rattle.reo_scripts.specs.declared.forms.ComponentForm.{ComponentForm}
 use Rattle.reo_scripts.specs.ScriptRules.{Naming, namings_in, shared_in, ports_in}
 use Rattle.reo_run_premises.proofs.Places.{fails}
+use Rattle.std.proofs.lemmas.Bool.{or_left as in_first}
+pub use Rattle.std.proofs.lemmas.Bool.{or_right as in_second}
 
 -- The names of ports in one component, and in that of a number.
 abbrev pub named_by : ComponentForm → List (List ℕ)
@@ -31,14 +33,6 @@ with_more : (before : List ComponentForm) (c : ComponentForm) → ports_in (befo
 with_more before c =
     ap (map (λ (n : Naming). n.port)) (flat_map-append namings_in before (c ∷ []) ∙ ap (λ ns. flat_map namings_in before ++ ns) (append-nil (namings_in c)))
     ∙ map-append (λ (n : Naming). n.port) (flat_map namings_in before) (namings_in c)
-
-in_first : (a b : Bool) → a ≡ true → (a || b) ≡ true
-in_first true b is = refl
-in_first false b is = absurd (cc)
-
-pub in_second : (a b : Bool) → b ≡ true → (a || b) ≡ true
-in_second true b is = refl
-in_second false b is = is
 
 -- What is named before one more component, and in it.
 named_before : (before : List ComponentForm) (c : ComponentForm) (name : List ℕ) → has_name (ports_in before) name ≡ true → has_name (ports_in (before ++ c ∷ [])) name ≡ true

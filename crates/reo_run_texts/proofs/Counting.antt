@@ -8,14 +8,13 @@ use Rattle.reo_net_base.specs.declared.port.Offer.{Offer}
 use Rattle.reo_net_base.specs.Net.{Wiring, net_of}
 use Rattle.reo_net_base.specs.Step.{stepped, settled_list, all_chosen, all_taken}
 use Rattle.reo_trees.specs.declared.programs.Declaration.{Declaration}
-use Rattle.reo_rules.specs.Lists.{where_true}
-use Rattle.reo_rules.specs.declared.fault.FlatFault.{FlatFault}
 use Rattle.reo_rules.specs.declared.fault.FlatFault.TheVariants as faults
 use Rattle.reo_flat.specs.Unfolding.{meaning_named, meanings_of}
 use Rattle.reo_flat.specs.Flat.{primitives_of}
 use Rattle.reo_flat.specs.Sizes.{is_too_many, too_many}
 use Rattle.reo_rounds.specs.Rules.{Rules}
 use Rattle.reo_rounds.specs.Ready.{ready, ports_ready}
+use Rattle.reo_flatten_laws.proofs.Breaks.{fails as none_true}
 
 module _ {P : Type 0} (r : Rules P) where
   ports_count : (offers : ℕ → Option Offer) (ps : List P) (limit n : ℕ) → length (ports_ready r offers limit n ps) ≡ length ps
@@ -35,10 +34,6 @@ module _ {P : Type 0} (r : Rules P) where
   -- As many as before stand after a round.
   pub stepped_count : (w : Wiring P) (rows : List ℕ) (items : List (Option Value)) → length (stepped r.behaviour r.settled w rows items) ≡ length w.primitives
   stepped_count w rows items = settled_count w.primitives (all_chosen (net_of r.behaviour w) rows) (all_taken (net_of r.behaviour w) items)
-
-none_true : (b : Bool) (f : FlatFault) → where_true b f ≡ [] → b ≡ false
-none_true true f h = cc
-none_true false f h = refl
 
 first_false : (a b : Bool) → (a || b) ≡ false → a ≡ false
 first_false true b h = h

@@ -1,18 +1,15 @@
 -- The numbers of rounds that cannot be planned.
-use Rattle.std.proofs.Common.{◌≡◌, ℕ, zero, suc, ◌*◌, ◌<◌, ◌≤◌, ◌^◌, List, [], ◌∷◌, length, arith, length-append}
-use Rattle.std.proofs.lemmas.List.FromFn.{length-map-range_with_len}
+use Rattle.std.proofs.Common.{ℕ, zero, suc, ◌*◌, ◌<◌, ◌≤◌, ◌^◌, List, [], ◌∷◌, length, arith, length-append}
 use Rattle.reo_net_base.specs.Behaviour.{Behaviour}
 use Rattle.reo_net_base.specs.Lawful.{IsLawful}
-use Rattle.reo_net_base.specs.Net.{Net, Side, sides_of, all_sides, behaviour_at}
+use Rattle.reo_net_base.specs.Net.{Net, sides_of, all_sides, behaviour_at}
 use Rattle.reo_net_base.specs.Wired.{IsWired}
 use Rattle.reo_trace_texts.specs.Lines.{IsEnding}
 use Rattle.reo_weights.specs.Over.{Cause, IsOver}
 use Rattle.reo_weights.specs.Over.Cause.{spent, wide}
 use Rattle.reo_weights.specs.Laws.{CausesAreSmall}
 use Rattle.reo_rounds.specs.Stopping.{ending_by}
-
-side_count : (b : Behaviour) → length (sides_of b) ≡ b.sides
-side_count b = length-map-range_with_len {X = Side} (λ k. record { of = b; number = k }) 0 b.sides
+use Rattle.reo_net_laws.proofs.Sides.{side_count}
 
 -- There are at most two sides for each primitive.
 sides_few : (bs : List Behaviour) → ((i : ℕ) → i < length bs → IsLawful (behaviour_at bs i)) → length (all_sides bs) ≤ 2 * length bs

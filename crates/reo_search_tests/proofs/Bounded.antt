@@ -1,5 +1,5 @@
 -- Sets within their bounds are what a search asks for.
-use Rattle.std.proofs.Common.{◌≡◌, ◌⊎◌, inl, inr, ℕ, ◌+◌, ◌<◌, ◌≤◌, ◌^◌, Bool, true, false, ◌||◌, List, [], ◌∷◌, ◌++◌, length, get_or, refl, sym, ◌∙◌, subst, arith}
+use Rattle.std.proofs.Common.{◌≡◌, inl, inr, ℕ, ◌+◌, ◌<◌, ◌^◌, true, false, List, [], ◌∷◌, ◌++◌, length, get_or, sym, ◌∙◌, subst, arith}
 use Rattle.std.specs.Prelude.{nat_lt}
 use Rattle.std.specs.Bool.{◌==◌}
 use Rattle.std.proofs.lemmas.Bool.{cases_lt, and_parts}
@@ -16,11 +16,8 @@ use Rattle.reo_joint_values.proofs.Narrowing.{same_value}
 use Rattle.reo_rows.specs.Sets.{code_of}
 use Rattle.reo_propagate.specs.ListedSets.{in_set, listed}
 use Rattle.reo_propagate.proofs.Listed.{set_more}
-use Rattle.reo_search_tests.specs.Bounds.{AreBelow, IsWithin, AreWithin, AreSingle}
-
-either : (a b : Bool) → (a || b) ≡ true → (a ≡ true) ⊎ (b ≡ true)
-either true b h = inl refl
-either false b h = inr h
+use Rattle.reo_search_tests.specs.Bounds.{AreBelow, AreWithin, AreSingle}
+use Rattle.reo_walk.proofs.Knotted.{either}
 
 -- A value more is below the bound.
 pub below_more : (values : List JointValue) (w : JointValue) (bound : ℕ) → AreBelow values bound → code_of w < bound

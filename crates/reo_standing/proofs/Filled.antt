@@ -1,5 +1,5 @@
 -- Items at the joints of all parts.
-use Rattle.std.proofs.Common.{◌≡◌, ◌≢◌, ◌∙◌, inl, inr, ℕ, zero, suc, ◌+◌, ◌<◌, ◌≤◌, Bool, true, false, not, ◌&&◌, ◌||◌, ◌⊎◌, List, [], ◌∷◌, ◌++◌, length, get_or, set, refl, ap, sym, subst, arith}
+use Rattle.std.proofs.Common.{◌≡◌, ◌≢◌, ◌∙◌, inl, inr, ℕ, zero, suc, ◌+◌, ◌<◌, ◌≤◌, true, false, not, ◌||◌, ◌⊎◌, List, [], ◌∷◌, ◌++◌, length, get_or, set, refl, ap, sym, subst, arith}
 use Rattle.std.specs.Prelude.{Option, Some, None, Contains, nat_lt, ◌==◌}
 use Rattle.std.proofs.lemmas.Bool.Decides.{nat_tests}
 use Rattle.std.proofs.lemmas.List.{get_or_default, length-append, length-set, same_lists}
@@ -25,18 +25,11 @@ use Rattle.reo_trace.specs.Entries.{is_idle, is_still}
 use Rattle.reo_stepping.specs.Flowing.{AreFlowing}
 use Rattle.reo_standing.specs.Filling.{AreBlank, AreBlankOn, AreFilled, AreHeld, AreHeldAmong, IsPartFilled, NoneFlows}
 use Rattle.reo_standing.proofs.Putting.{giver_flows, others_none, others_some, flow_or_not}
+use Rattle.std.proofs.lemmas.Bool.{and_from as both}
+use Rattle.reo_joint_values.proofs.Equal.{eq_same as true_eq, same_eq as eq_true}
 
 below_true : (a b : ℕ) → a < b → nat_lt a b ≡ true
 below_true a b h = grind (arith, nat_tests)
-
-eq_true : (a b : ℕ) → a ≡ b → (a == b) ≡ true
-eq_true a b h = grind (arith, nat_tests)
-
-true_eq : (a b : ℕ) → (a == b) ≡ true → a ≡ b
-true_eq a b h = grind (arith, nat_tests)
-
-both : (a b : Bool) → a ≡ true → b ≡ true → (a && b) ≡ true
-both a b h g = cc
 
 in_own : (numbers : List ℕ) (s k : ℕ) → s < length numbers → get_or numbers s 0 ≡ k → in_knot numbers k s ≡ true
 in_own numbers s k lt is = both (nat_lt s (length numbers)) (get_or numbers s 0 == k) (below_true s (length numbers) lt) (eq_true (get_or numbers s 0) k is)

@@ -1,5 +1,5 @@
 -- The joint at a mouth.
-use Rattle.std.proofs.Common.{◌≡◌, ◌≢◌, ◌∙◌, inl, inr, ℕ, zero, suc, ◌<◌, ◌≤◌, ◌⊎◌, Bool, true, false, List, [], ◌∷◌, length, get_or, set, ap, sym, refl, arith}
+use Rattle.std.proofs.Common.{◌≡◌, ◌≢◌, ◌∙◌, inl, inr, ℕ, zero, suc, ◌<◌, ◌≤◌, ◌⊎◌, true, false, List, [], ◌∷◌, length, get_or, set, ap, sym, refl, arith}
 use Rattle.std.specs.Prelude.{Option, None}
 use Rattle.std.proofs.lemmas.Bool.Decides.{nat_tests}
 use Rattle.std.proofs.lemmas.List.Sums.{passes_at_first, position_or_len_is}
@@ -15,6 +15,7 @@ use Rattle.reo_net_circuit.proofs.Cases.{lt_cases}
 use Rattle.reo_net_ends.specs.Ends.{AreEnds, joint_at}
 use Rattle.reo_net_ends.proofs.EndLemmas.{taker_at, of_taker}
 use Rattle.reo_stepping.proofs.FlowLemmas.{no_joint}
+use Rattle.std.proofs.lemmas.Bool.{false_from_ne_true as not_true}
 
 -- One of the two ends of a primitive with two sides is its mouth.
 one_end : (s : ℕ → ℕ) (f e : ℕ) → s 0 ≢ s 1 → f < 2 → e < 2 → s f ≡ 0 → s e ≡ 0 → f ≡ e
@@ -37,10 +38,6 @@ mouth_is_of b i j h = grind (arith, nat_tests)
 
 mouth_is_side : (b : Behaviour) (i : ℕ) (j : Joint) → is_mouth b i j ≡ true → b.side_of j.taker.end ≡ 0
 mouth_is_side b i j h = grind (arith, nat_tests)
-
-not_true : (t : Bool) → (t ≡ true → ⊥) → t ≡ false
-not_true true h = absurd (h refl)
-not_true false h = refl
 
 module _ (net : Net) (wired : IsWired net) (table : List (List ℕ)) (are : AreEnds net table) (i : ℕ) (i_in : i < length net.primitives) where
   -- The joint at the mouth is that of the end at side 0.

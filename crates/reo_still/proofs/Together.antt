@@ -27,18 +27,13 @@ use Rattle.reo_knots.specs.Knots.{AreNumbers, in_knot}
 use Rattle.reo_knots.proofs.KnotLemmas.{knot}
 use Rattle.reo_still.specs.Joining.{HaveFirsts, PartsMakeFirst}
 use Rattle.reo_still.proofs.PartSets.{fewer, same_places}
+use Rattle.reo_joint_values.proofs.Equal.{eq_same as test_equal, same_eq as equal_test}
 
 below_test : (a b : ℕ) → a < b → nat_lt a b ≡ true
 below_test a b h = grind (arith, nat_tests)
 
 test_below : (a b : ℕ) → nat_lt a b ≡ true → a < b
 test_below a b h = grind (arith, nat_tests)
-
-test_equal : (a b : ℕ) → (a == b) ≡ true → a ≡ b
-test_equal a b h = grind (arith, nat_tests)
-
-equal_test : (a b : ℕ) → a ≡ b → (a == b) ≡ true
-equal_test a b h = grind (arith, nat_tests)
 
 module _ (net : Net) (wired : IsWired net) (numbers : List ℕ) (count : ℕ) (are : AreNumbers (SameKnot net) (side_count net) numbers count) where
   -- The part of a side.

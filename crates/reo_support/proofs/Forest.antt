@@ -7,18 +7,11 @@ use Rattle.reo_net_laws.proofs.Sides.{below_or}
 use Rattle.reo_joint_values.proofs.Equal.{same_eq, eq_same, other_eq}
 use Rattle.reo_support.proofs.Labels.{label, label_joins, label_stays, label_along, label_before}
 use Rattle.reo_support.proofs.Labels.Before.{one, down, up}
+use Rattle.std.proofs.lemmas.Bool.{or_left as either_left, or_right as either_right}
 
 -- A joint comes from a side or goes there.
 abbrev pub At : (ℕ → ℕ) → (ℕ → ℕ) → ℕ → ℕ → Type 0
 At giver taker j k = (giver j ≡ k) ⊎ (taker j ≡ k)
-
-either_left : (a b : Bool) → a ≡ true → (a || b) ≡ true
-either_left true b h = refl
-either_left false b h = cc
-
-either_right : (a b : Bool) → b ≡ true → (a || b) ≡ true
-either_right true b h = refl
-either_right false b h = h
 
 either : (a b : Bool) → (a || b) ≡ true → (a ≡ true) ⊎ (b ≡ true)
 either true b h = inl refl

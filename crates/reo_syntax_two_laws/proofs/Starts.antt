@@ -1,5 +1,5 @@
 -- The first bytes of names and numbers, and what stands before them.
-use Rattle.std.proofs.Common.{◌≡◌, ℕ, ◌==◌, Bool, true, false, ◌||◌, not, List, [], ◌∷◌, ◌++◌, refl, sym, ◌∙◌, ap, subst, arith, codes}
+use Rattle.std.proofs.Common.{◌≡◌, ℕ, ◌==◌, Bool, true, false, not, List, [], ◌∷◌, ◌++◌, refl, sym, ◌∙◌, ap, subst, arith, codes}
 use Rattle.std.specs.List.{list_all}
 use Rattle.std.proofs.lemmas.Bool.Decides.{nat_tests}
 use Rattle.reo_values.specs.Names.{is_letter, is_digit, is_name_byte, is_name}
@@ -16,19 +16,12 @@ use Rattle.reo_lexer.proofs.Spelled.{never}
 use Rattle.reo_trees.specs.Forms.{named_word}
 use Rattle.reo_syntax.proofs.Again.{Out, out-made, out-text, out-token, name-kind, even-alike}
 use Rattle.reo_syntax.proofs.Seen.{World, See, see-made, see-token}
+use Rattle.std.proofs.lemmas.Bool.{or_left as or-first, or_right as or-second}
 
 -- The first byte is a letter or a digit.
 abbrev pub starts_well : List ℕ → Bool
 starts_well [] = false
 starts_well (b ∷ bs) = is_name_byte b
-
-or-first : (a b : Bool) → a ≡ true → (a || b) ≡ true
-or-first true b h = refl
-or-first false b h = absurd (cc)
-
-or-second : (a b : Bool) → b ≡ true → (a || b) ≡ true
-or-second true b h = refl
-or-second false b h = h
 
 pub starts-append : (a b : List ℕ) → starts_well a ≡ true → starts_well (a ++ b) ≡ true
 starts-append [] b h = absurd (cc)

@@ -10,13 +10,7 @@ use Rattle.reo_grammar.proofs.Refusals.{real-front, real-back, refused-silent, o
 use Rattle.reo_lexer.specs.declared.token.Token.{Token}
 use Rattle.reo_lexer.specs.Lexing.{IsTokens, Runs, AtEnd}
 use Rattle.reo_terms.specs.Refused.{refused_line, IsRefusedAt, IsDeepAt}
-
-spelled-some : (k : TokenKind) → spells k [] ≡ true → ⊥
-spelled-some kinds.Name h = cc
-spelled-some kinds.Word h = cc
-spelled-some kinds.Number h = cc
-spelled-some kinds.Text h = cc
-spelled-some kinds.Sign h = cc
+use Rattle.reo_lexer.proofs.Spelled.{no-empty as spelled-some}
 
 long : (k : TokenKind) (b : List ℕ) → spells k b ≡ true → 1 ≤ length b
 long k [] h = absurd (spelled-some k h)

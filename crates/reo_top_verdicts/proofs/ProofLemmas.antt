@@ -4,25 +4,13 @@ use Rattle.std.specs.Prelude.{◌≢◌, Result, Ok, Err}
 use Rattle.reo_proof_texts.specs.declared.refusal.ProofRefusal.{ProofRefusal}
 use Rattle.reo_proof_texts.specs.declared.refusal.ProofRefusal.TheVariants as refusals
 use Rattle.reo_proof_verdict_texts.specs.VerdictTexts.{proof_verdict_line}
-use Rattle.reo_verify_proof.specs.Answered.{IfVerdict}
 use Rattle.reo_command.specs.declared.command.Command.TheVariants.{VerifyProof}
 use Rattle.reo_command.specs.Claims.{Claimed}
 use Rattle.reo_command.specs.Statuses.{IsAmong, statuses_of}
 use Rattle.reo_top_base.proofs.ToldLemmas.{told_status, told_not_three}
 use Rattle.reo_top_verdicts.specs.Judged.{IsProofJudged, JudgesProof}
 use Rattle.reo_top_verdicts.specs.ProofStatuses.{proof_status}
-
--- Where memory did not run out, what is said of a verdict holds.
-pub if_told : (answer : Result ℕ ProofRefusal) (Holds : Result ℕ ProofRefusal → Type 0) → answer ≢ Err refusals.NoMemory → IfVerdict answer Holds → Holds answer
-if_told (Ok count) Holds told h = h
-if_told (Err (refusals.Line line)) Holds told h = h
-if_told (Err (refusals.Ended round)) Holds told h = h
-if_told (Err (refusals.Round round wrong node)) Holds told h = h
-if_told (Err (refusals.Moves round)) Holds told h = h
-if_told (Err (refusals.Wide round)) Holds told h = h
-if_told (Err (refusals.Log round line)) Holds told h = h
-if_told (Err refusals.End) Holds told h = h
-if_told (Err refusals.NoMemory) Holds told h = absurd (told refl)
+pub use Rattle.reo_verify_proof.proofs.Verdicts.{is_verdict as if_told}
 
 -- The statuses of verdicts on proofs.
 status_in : (v : Result ℕ ProofRefusal) → IsAmong (statuses_of VerifyProof) (proof_status v)

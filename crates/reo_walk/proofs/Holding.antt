@@ -20,12 +20,10 @@ use Rattle.reo_walk.specs.declared.place.Place.{Place}
 use Rattle.reo_walk.specs.Places.{side_of_place, suits, is_at_side, value_suits, held_to}
 use Rattle.reo_walk.specs.Holding.{IsHeldTo, IsHeldSoFar, AllSuit, IsHeld}
 use Rattle.reo_walk.proofs.Numbering.{both, first_of_both, second_of_both, then_if, at_test, test_at}
+use Rattle.reo_net_laws.proofs.Sets.{and_left as kept}
 
 pub clash : (b : Bool) → b ≡ true → b ≡ false → ⊥
 clash b yes_is no_is = let wrong : true ≡ false = sym yes_is ∙ no_is in cc
-
-kept : (a b : Bool) → (a && b) ≡ true → a ≡ true
-kept = first_of_both
 
 away : (i j p n : ℕ) → (i ≢ j) ⊎ (p ≢ n) → ((i == j) && (p == n)) ≡ false
 away i j p n (inl apart) = ap (λ (t : Bool). t && (p == n)) (other_eq i j apart)

@@ -5,18 +5,11 @@ use Rattle.std.proofs.Math.Seq.{get_or-append_seam}
 use Rattle.std.proofs.lemmas.List.{get_or_append_left}
 use Rattle.reo_net_base.specs.Net.{Net}
 use Rattle.reo_walk.specs.Arranged.{IsJamRow}
+use Rattle.std.proofs.lemmas.Bool.{or_left, or_right}
 
 -- One of the rows of some sides jams.
 abbrev pub SomeJams : Net → List ℕ → List ℕ → Type 0
 SomeJams net sides rows = (m : ℕ) × (m < length sides) × IsJamRow net (get_or sides m 0) (get_or rows m 0)
-
-or_left : (a b : Bool) → a ≡ true → (a || b) ≡ true
-or_left true b h = refl
-or_left false b h = cc
-
-or_right : (a b : Bool) → b ≡ true → (a || b) ≡ true
-or_right true b h = refl
-or_right false b h = h
 
 one_of : (a b : Bool) → (a || b) ≡ true → (a ≡ true) ⊎ (b ≡ true)
 one_of true b h = inl refl

@@ -13,14 +13,7 @@ use Rattle.reo_walk.specs.declared.place.Place.{Place}
 use Rattle.reo_walk.specs.declared.place.Place.TheVariants.{Class, Row}
 use Rattle.reo_walk.specs.Places.{side_of_place, places_in}
 use Rattle.reo_walk.proofs.Resting.{among_at}
-
-later : (a b : Bool) → b ≡ true → (a || b) ≡ true
-later true b h = refl
-later false b h = h
-
-sooner : (a b : Bool) → a ≡ true → (a || b) ≡ true
-sooner true b h = refl
-sooner false b h = cc
+use Rattle.std.proofs.lemmas.Bool.{or_left as sooner, or_right as later}
 
 -- One of two things is so.
 pub either : (a b : Bool) → (a || b) ≡ true → (a ≡ true) ⊎ (b ≡ true)

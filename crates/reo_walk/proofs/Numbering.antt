@@ -1,5 +1,5 @@
 -- An assignment keeps to the row at a place exactly where it has its number there.
-use Rattle.std.proofs.Common.{◌≡◌, inl, inr, ◌↔◌, ℕ, ◌<◌, Bool, true, false, not, cond, ◌&&◌, ◌||◌, length, get_or, refl, ap, sym, ◌∙◌, subst}
+use Rattle.std.proofs.Common.{◌≡◌, inl, inr, ◌↔◌, ℕ, ◌<◌, Bool, true, false, not, cond, ◌||◌, length, get_or, refl, ap, sym, ◌∙◌, subst}
 use Rattle.std.specs.Bool.{◌==◌}
 use Rattle.std.proofs.lemmas.List.{get_or_default}
 use Rattle.reo_net_base.specs.declared.mark.Mark.{Mark}
@@ -19,26 +19,9 @@ use Rattle.reo_rows.specs.Stands.{value_mark}
 use Rattle.reo_walk.specs.declared.place.Place.{Place}
 use Rattle.reo_walk.specs.declared.place.Place.TheVariants.{Class, Row}
 use Rattle.reo_walk.specs.Places.{side_of_place, number_of, suits, is_at_side, value_suits, held_to}
-
-pub both : (a b : Bool) → a ≡ true → b ≡ true → (a && b) ≡ true
-both true b x y = y
-both false b x y = cc
-
-pub first_of_both : (a b : Bool) → (a && b) ≡ true → a ≡ true
-first_of_both true b h = refl
-first_of_both false b h = cc
-
-pub second_of_both : (a b : Bool) → (a && b) ≡ true → b ≡ true
-second_of_both true b h = h
-second_of_both false b h = cc
-
-one_or : (a b : Bool) → a ≡ true → (a || b) ≡ true
-one_or true b h = refl
-one_or false b h = cc
-
-or_other : (a b : Bool) → b ≡ true → (a || b) ≡ true
-or_other true b h = refl
-or_other false b h = h
+pub use Rattle.reo_net_laws.proofs.Sets.{and_left as first_of_both, and_right as second_of_both}
+use Rattle.std.proofs.lemmas.Bool.{or_left as one_or, or_right as or_other}
+pub use Rattle.std.proofs.lemmas.Bool.{and_from as both}
 
 pub if_then : (a b : Bool) → (not a || b) ≡ true → a ≡ true → b ≡ true
 if_then true b h is = h

@@ -1,9 +1,6 @@
 -- Where no side waits, all are at rest.
-use Rattle.std.proofs.Common.{◌≡◌, ℕ, zero, suc, ◌||◌, ◌∷◌, ◌<◌, ◌≤◌, Bool, true, false, List, [], length, get_or, refl, ap, sym, subst, arith, None}
-use Rattle.std.specs.Bool.{◌==◌}
+use Rattle.std.proofs.Common.{◌≡◌, ℕ, ◌<◌, ◌≤◌, Bool, true, false, List, [], length, get_or, refl, sym, subst, arith, None}
 use Rattle.std.proofs.lemmas.List.{get_or_default}
-use Rattle.reo_joint_values.proofs.Equal.{same_eq}
-use Rattle.reo_propagate.specs.Queues.{among}
 use Rattle.reo_net_base.specs.Net.{Net, Side, all_sides, no_side, row_count}
 use Rattle.reo_net_base.specs.Sides.{side_count}
 use Rattle.reo_net_base.specs.Wired.{IsWired}
@@ -26,6 +23,7 @@ use Rattle.reo_walk.specs.Settling.{HasNone}
 use Rattle.reo_walk.specs.Walking.{IsLeastBelow, IsBest, IsStepped}
 use Rattle.reo_walk.proofs.Settling.{none_left}
 use Rattle.reo_walk.proofs.Stepping.{held_already}
+pub use Rattle.reo_propagate.proofs.Among.{among_at}
 
 module _ (net : Net) (names : Names) (inside : ℕ → Bool) (alive : List (List Bool)) (rows : Rows) (queue : Queue) (tended : IsTended net names inside (nobody net) alive rows queue) (empty : queue.line ≡ []) where
   rest_for : (side : ℕ) → inside side ≡ true → side < side_count net → (t : Bool) → get_or queue.waits side true ≡ t → IsAtRest net names (family_of alive) side rows
@@ -84,12 +82,3 @@ module _ (net : Net) (wired : IsWired net) (names : Names) (inside : ℕ → Boo
         stepped_to family
         (held_already net wired names inside turn p family least.row side_lt row_in rest.settled (λ r works. let f = rest.sifted.works r works in best.alone alone r (flag_in rows.live (side_of_place p) r f) f))
         (λ j v h. h) supported
-
-pub among_at : (sides : List ℕ) (m : ℕ) → m < length sides → among sides (get_or sides m 0) ≡ true
-among_at [] m lt = absurd (omega arith)
-among_at (s ∷ ss) zero lt = ap (λ (t : Bool). t || among ss s) (same_eq s s refl)
-among_at (s ∷ ss) (suc m) lt = later (s == get_or ss m 0) (among ss (get_or ss m 0)) (among_at ss m (omega arith))
-  where
-    later : (a b : Bool) → b ≡ true → (a || b) ≡ true
-    later true b h = refl
-    later false b h = h
