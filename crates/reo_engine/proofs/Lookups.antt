@@ -2,14 +2,15 @@
 use Rattle.std.proofs.Common.{◌≡◌, ◌≢◌, ◌∙◌, inl, inr, ℕ, zero, suc, ◌+◌, ◌<◌, Bool, true, false, List, [], ◌∷◌, length, map, get_or, refl, ap, sym, subst, arith}
 use Rattle.std.specs.Prelude.{Option, Some, None, slice_get}
 use Rattle.std.proofs.lemmas.List.{length-map}
+use Rattle.reo_net_base.specs.declared.joint.Joint.{Joint}
 use Rattle.reo_net_base.specs.declared.joint.End.{End}
 use Rattle.reo_net_base.specs.Behaviour.{Behaviour, nothing}
-use Rattle.reo_net_base.specs.Net.{Net, Wiring, net_of, behaviour_at}
-use Rattle.reo_net_base.specs.Shapes.{SameNetShape}
+use Rattle.reo_net_base.specs.Net.{Net, Wiring, net_of, behaviour_at, is_at}
+use Rattle.reo_net_base.specs.Shapes.{SameShapes, SameNetShape}
 use Rattle.reo_net_base.specs.Step.{change_at}
 use Rattle.reo_net_base.specs.Wired.{IsWired, IsEnd}
 use Rattle.reo_net_circuit.proofs.Cases.{eq_cases}
-use Rattle.reo_net_ends.specs.Ends.{AreEnds}
+use Rattle.reo_net_ends.specs.Ends.{AreEnds, joint_at}
 use Rattle.reo_knots.specs.Knots.{Knotted, AreKnots}
 use Rattle.reo_planning.specs.declared.kept.Kept.{Kept}
 use Rattle.reo_planning.specs.Keeping.{is_settled, IsKept}
@@ -24,9 +25,18 @@ use Rattle.reo_stepping.specs.Changes.{is_changed}
 use Rattle.reo_engine.specs.Changes.{OthersStay}
 use Rattle.reo_engine.specs.Engine.{IsLookedUp}
 use Rattle.reo_engine.specs.Settled.{StaySettled}
-use Rattle.reo_stepping.proofs.Far.{ends_kept as ends_stay}
-use Rattle.reo_planning.proofs.Setting.{not_both}
 
+not_both : (b : Bool) → b ≡ false → b ≡ true → ⊥
+not_both true h g = cc
+not_both false h g = cc
+
+-- The joints at the ends of a circuit are those of each circuit of its shape.
+ends_stay : (old new : Net) → new.joints ≡ old.joints → SameShapes old.primitives new.primitives → (table : List (List ℕ)) → AreEnds old table → AreEnds new table
+ends_stay old new joints shapes table are = record {
+  one_list = are.one_list ∙ sym shapes.count;
+  one_each = λ i lt. let i_in : i < length old.primitives = omega (arith, shapes.count) in are.one_each i i_in ∙ sym (shapes.same i i_in).ends;
+  in_range = λ e e_in. subst (λ (js : List Joint). joint_at table e < length js) (sym joints) (are.in_range e (back e e_in));
+  here = λ e d e_in. subst (λ (js : List Joint). is_at e (get_or js (joint_at table e) d) ≡ true) (sym joints) (are.here e d (back e e_in));
 }
   where
     back : (e : End) → IsEnd new.primitives e → IsEnd old.primitives e
