@@ -1,15 +1,16 @@
 -- What an object gave or took.
 use Rattle.std.specs.Prelude.{ℕ, List, [], ◌∷◌, ◌++◌, take, Result, Ok, Err}
+use Rattle.std.specs.List.{flat_map}
 use Rattle.reo_io.specs.declared.given.GivenBytes.{GivenBytes}
 use Rattle.reo_io.specs.declared.given.GivenFiles.{GivenFiles}
-
--- The bytes, one after another.
-abbrev pub bytes_given : GivenBytes → List ℕ
-bytes_given given = given.bytes
 
 -- The files, each with its name, one after another.
 abbrev pub files_given : GivenFiles → List (List ℕ × List ℕ)
 files_given given = given.files
+
+-- The bytes, one after another.
+abbrev pub bytes_given : GivenBytes → List ℕ
+bytes_given given = flat_map (λ file. file.1) (files_given given.pieces)
 
 -- The names and bytes of the files that were given, after a fetch of this name: its room comes last where it answered Ok.
 abbrev pub given_after : List (List ℕ × List ℕ) → List ℕ → List ℕ → {E T : Type 0} → Result T E → List (List ℕ × List ℕ)

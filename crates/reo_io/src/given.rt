@@ -5,35 +5,6 @@ ghost use Rattle.std.specs.Borrow.{ftrue};
 
 use std::marker::Model;
 
-/// Bytes that were given or taken, one after another.
-#[derive(Drop)]
-pub struct GivenBytes {
-    ghost bytes: { List ℕ },
-}
-
-impl Model for GivenBytes {
-    ghost also_owns = { λ _. ftrue };
-}
-
-impl GivenBytes {
-    ghost use Rattle.reo_io.specs.Given.{bytes_given};
-
-    /// No byte yet.
-    pub fn new() -> GivenBytes
-        ensures { bytes_given result ≡ [] }
-    {
-        GivenBytes {}
-    }
-
-    /// These bytes, and then those of the piece.
-    #[inline(always)]
-    pub fn then(&self, _piece: &[u8]) -> GivenBytes
-        ensures { bytes_given result ≡ bytes_given self.now ++ _piece.now }
-    {
-        GivenBytes {}
-    }
-}
-
 /// Files that were given, each with its name, one after another.
 #[derive(Drop)]
 pub struct GivenFiles {
@@ -51,14 +22,52 @@ impl GivenFiles {
     pub fn new() -> GivenFiles
         ensures { files_given result ≡ [] }
     {
-        GivenFiles {}
+        GivenFiles::told(&())
     }
 
     /// These files, and then one of this name and these bytes.
     #[inline(always)]
-    pub fn then(&self, _name: &[u8], _bytes: &[u8]) -> GivenFiles
-        ensures { files_given result ≡ files_given self.now ++ (_name.now, _bytes.now) ∷ [] }
+    pub fn then(&self, name: &[u8], bytes: &[u8]) -> GivenFiles
+        ensures { files_given result ≡ files_given self.now ++ (name.now, bytes.now) ∷ [] }
+    {
+        GivenFiles::told(&(self, name, bytes))
+    }
+
+    /// The files that the caller's proof tells, out of what is shown or out of nothing.
+    #[inline(always)]
+    fn told<T>(_shown: &T) -> GivenFiles
+        ghost files: { List (List ℕ × List ℕ) }
+        ensures { files_given result ≡ files }
     {
         GivenFiles {}
+    }
+}
+
+/// Bytes that were given or taken, one after another.
+#[derive(Drop)]
+pub struct GivenBytes {
+    pieces: GivenFiles,
+}
+
+impl GivenBytes {
+    ghost use Rattle.reo_io.specs.Given.{bytes_given};
+
+    /// No byte yet.
+    pub fn new() -> GivenBytes
+        ensures { bytes_given result ≡ [] }
+    {
+        GivenBytes {
+            pieces: GivenFiles::new(),
+        }
+    }
+
+    /// These bytes, and then those of the piece.
+    #[inline(always)]
+    pub fn then(&self, piece: &[u8]) -> GivenBytes
+        ensures { bytes_given result ≡ bytes_given self.now ++ piece.now }
+    {
+        GivenBytes {
+            pieces: self.pieces.then(b"", piece),
+        }
     }
 }
