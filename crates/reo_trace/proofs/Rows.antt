@@ -1,5 +1,7 @@
 -- One more text in a row.
-use Rattle.std.proofs.Common.{◌≡◌, ◌∙◌, ℕ, ◌+◌, zero, suc, ◌<◌, List, [], ◌∷◌, ◌++◌, ap, sym, refl, length, get_or, take, arith, append_assoc, add-one}
+use Rattle.std.proofs.Common.{◌≡◌, ◌∙◌, ℕ, ◌+◌, zero, suc, ◌<◌, List, [], ◌∷◌, ◌++◌, ap, sym, refl, length, get_or, take, map, arith, append_assoc, add-one}
+use Rattle.std.specs.List.{range_with_len}
+use Rattle.std.proofs.lemmas.List.FromFn.{length-map-range_with_len, map-range_with_len_more}
 use Rattle.reo_trace.specs.Spaced.{spaced, gap}
 
 -- the first so many and the next one
@@ -20,3 +22,21 @@ spaced-more text xs place d before was mid now within e f g =
     rw (add-one, spaced-take text xs place d within)
     (g ∙ ap (λ z. z ++ text (get_or xs place d)) (f ∙ ap (λ z. z ++ gap place) e) ∙ append_assoc (before ++ spaced text (take place xs)) (gap place) (text (get_or xs place d))
     ∙ append_assoc before (spaced text (take place xs)) (gap place ++ text (get_or xs place d)))
+
+-- one more text at the end
+spaced-last : {X : Type 0} (text : X → List ℕ) (xs : List X) (x : X) → spaced text (xs ++ x ∷ []) ≡ spaced text xs ++ (gap (length xs) ++ text x)
+spaced-last text [] x = refl
+spaced-last text (y ∷ []) x = refl
+spaced-last text (y ∷ z ∷ zs) x = ap (λ w. text y ++ (32 ∷ w)) (spaced-last text (z ∷ zs) x) ∙ sym (append_assoc (text y) (32 ∷ spaced text (z ∷ zs)) (32 ∷ text x))
+
+-- the texts of what stands at the first places, and the next one
+pub spaced-places : {X : Type 0} (text : X → List ℕ) (f : ℕ → X) (n : ℕ) (x : X) (before was mid now : List ℕ) → x ≡ f n
+    → was ≡ before ++ spaced text (map f (range_with_len 0 n)) → mid ≡ was ++ gap n → now ≡ mid ++ text x
+    → now ≡ before ++ spaced text (map f (range_with_len 0 (n + 1)))
+spaced-places {X} text f n x before was mid now at e g h =
+    let xs : List X = map f (range_with_len 0 n) in
+    let count : length xs ≡ n = length-map-range_with_len f 0 n in
+    let last : spaced text (xs ++ f n ∷ []) ≡ spaced text xs ++ (gap n ++ text (f n)) = spaced-last text xs (f n) ∙ ap (λ (k : ℕ). spaced text xs ++ (gap k ++ text (f n))) count in
+    h ∙ ap (λ z. z ++ text x) (g ∙ ap (λ z. z ++ gap n) e) ∙ ap (λ y. ((before ++ spaced text xs) ++ gap n) ++ text y) at
+    ∙ append_assoc (before ++ spaced text xs) (gap n) (text (f n)) ∙ append_assoc before (spaced text xs) (gap n ++ text (f n))
+    ∙ ap (λ z. before ++ z) (sym last) ∙ ap (λ (ys : List X). before ++ spaced text ys) (sym (map-range_with_len_more f 0 n n (omega arith)))

@@ -43,7 +43,7 @@ fn cell_at<P: Primitive>(circuit: &Circuit<P>, rows: &[u32], index: usize, side:
 
 /// The entry of the primitive at a place.
 #[tactic(auto, unfolding(crate::specs::Entries::entry_at))]
-fn entry_at<P: Primitive>(circuit: &Circuit<P>, rows: &[u32], index: usize) -> Entry
+pub(crate) fn entry_at<P: Primitive>(circuit: &Circuit<P>, rows: &[u32], index: usize) -> Entry
     requires rows { AreRows (all_sides (net_of P.behaviour circuit.now).primitives) rows.now }
     requires index { index < length circuit.now.primitives }
     ensures { result ≡ entry_at (net_of P.behaviour circuit.now) rows.now index }

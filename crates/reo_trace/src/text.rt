@@ -20,7 +20,7 @@ fn append_digit(text: &mut Bytes, number: u64) -> Result<(), NoMemory>
 }
 
 /// Adds a number in decimal.
-fn append_number(alloc: Global, text: &mut Bytes, number: u64) -> Result<(), NoMemory>
+pub(crate) fn append_number(alloc: Global, text: &mut Bytes, number: u64) -> Result<(), NoMemory>
     ensures { OnOk result (text.new ≡ text.old ++ decimal number) }
 {
     if number < 10 {
@@ -33,7 +33,7 @@ fn append_number(alloc: Global, text: &mut Bytes, number: u64) -> Result<(), NoM
 }
 
 /// Adds the space before the thing at a place: none before the first.
-fn append_gap(text: &mut Bytes, place: usize) -> Result<(), NoMemory>
+pub(crate) fn append_gap(text: &mut Bytes, place: usize) -> Result<(), NoMemory>
     ensures { OnOk result (text.new ≡ text.old ++ gap place) }
 {
     if place == 0 { Ok(()) } else { text.push(b' ') }
@@ -80,21 +80,21 @@ fn append_flows(
 }
 
 /// Adds the moves of a round.
-fn append_moves(
+pub(crate) fn append_moves(
     alloc: Global,
     text: &mut Bytes,
     ports: &Ports,
-    line: &RoundLine,
+    idle: bool,
+    moves: &[Move],
 ) -> Result<(), NoMemory>
-    ensures { OnOk result (text.new ≡ text.old ++ moves_text ports.now.list line.now.idle
-        line.now.moves) }
+    ensures { OnOk result (text.new ≡ text.old ++ moves_text ports.now.list idle moves.now) }
 {
-    if line.idle {
+    if idle {
         text.append(b"idle")
-    } else if line.moves.is_empty() {
+    } else if moves.is_empty() {
         text.append(b"-")
     } else {
-        append_flows(alloc, text, ports, line.moves.as_slice())
+        append_flows(alloc, text, ports, moves)
     }
 }
 
@@ -110,7 +110,7 @@ fn append_cell(alloc: Global, text: &mut Bytes, cell: Cell) -> Result<(), NoMemo
 
 /// Adds the rows of one primitive.
 #[tactic(auto, unfolding(crate::specs::RoundText::entry_text))]
-fn append_entry(alloc: Global, text: &mut Bytes, entry: Entry) -> Result<(), NoMemory>
+pub(crate) fn append_entry(alloc: Global, text: &mut Bytes, entry: Entry) -> Result<(), NoMemory>
     ensures { OnOk result (text.new ≡ text.old ++ entry_text entry) }
 {
     match entry {
@@ -142,7 +142,7 @@ pub fn round_line_text(alloc: Global, ports: &Ports, line: &RoundLine) -> Result
     let mut text = Bytes::from_slice(alloc, b"round ")?;
     append_number(alloc, &mut text, line.round)?;
     text.append(b": ")?;
-    append_moves(alloc, &mut text, ports, line)?;
+    append_moves(alloc, &mut text, ports, line.idle, line.moves.as_slice())?;
     text.append(b" | ")?;
     append_entries(alloc, &mut text, line.entries.as_slice())?;
     text.append(b"\n")?;
