@@ -11,13 +11,16 @@ use Rattle.reo_joint_values.specs.declared.value.JointValue.TheVariants.{Flow}
 use Rattle.reo_joint_values.specs.Values.{Names, Family, giver_side, taker_side, AtSide}
 use Rattle.reo_joint_values.specs.Works.{RowWorks}
 use Rattle.reo_joint_values.proofs.Works.{works_more}
+use Rattle.reo_joint_values.proofs.Narrowing.{settled_same}
 use Rattle.reo_joint_values.proofs.Equal.{same_eq, other_eq}
+use Rattle.reo_values.specs.declared.value.Value.{Value}
+use Rattle.reo_side_tables.specs.declared.board.Board.{Board}
 use Rattle.reo_side_tables.specs.Listing.{StandsIn}
 use Rattle.reo_side_tables.specs.Marks.{IsJointOf, group_in}
 use Rattle.reo_rows.specs.declared.rows.Rows.{Rows}
 use Rattle.reo_rows.specs.declared.groups.Group.{Group}
-use Rattle.reo_rows.specs.Flags.{flag}
-use Rattle.reo_rows.specs.Sets.{code_of, family_of}
+use Rattle.reo_rows.specs.Flags.{flag, AreAlikeTables}
+use Rattle.reo_rows.specs.Sets.{code_of, family_of, IsReady}
 use Rattle.reo_rows.specs.Groups.{live_in, AreNoted, IsNoted}
 use Rattle.reo_rows.specs.Rows.{AreLive, IsSifted, IsSpared}
 use Rattle.reo_propagate.specs.declared.queue.Queue.{Queue}
@@ -25,9 +28,6 @@ use Rattle.reo_propagate.specs.Queues.{IsWoken}
 use Rattle.reo_propagate.specs.Narrow.{IsAtRest, IsAwakeOrStays, IsTended, nobody}
 use Rattle.reo_walk.proofs.Holding.{clash}
 use Rattle.reo_walk.proofs.Staying.{stays_at_rest}
-pub use Rattle.reo_rows.proofs.Thinned.{live_less as live_by}
-pub use Rattle.reo_propagate.proofs.Resting.{rests_same as rest_by}
-pub use Rattle.reo_propagate.proofs.Revising.{ready_alike}
 
 -- What is known of sides while a joint lost values: of some sides by what was there before, of the others by what is left.
 pub record AreKept (net : Net) (names : Names) (inside : ℕ → Bool) (todo : ℕ → Bool) (old new : Family) (rows : Rows) (queue : Queue) : Type 0 where
@@ -64,6 +64,12 @@ sifted_by net names a b side rows same s = record {
   only = λ row f. works_more net names a b side row (λ j v lt at h. same j v lt at ∙ h) (s.only row f);
   noted = s.noted;
 }
+
+pub rest_by : (net : Net) (names : Names) (a b : Family) (side : ℕ) (rows : Rows) → ((j : ℕ) (v : JointValue) → j < length net.joints → AtSide net j side → b j v ≡ a j v) → IsAtRest net names a side rows → IsAtRest net names b side rows
+rest_by net names a b side rows same r = record { sifted = sifted_by net names a b side rows same r.sifted; settled = settled_same net names side a b same r.settled }
+
+pub live_by : (net : Net) (names : Names) (a b : Family) (side : ℕ) (rows : Rows) → ((j : ℕ) (v : JointValue) → b j v ≡ true → a j v ≡ true) → AreLive net names a side rows → AreLive net names b side rows
+live_by net names a b side rows less live row w = live row (works_more net names b a side row (λ j v lt at h. less j v h) w)
 
 -- The sides that are still to be looked at, but for one.
 abbrev pub without : ℕ → (ℕ → Bool) → ℕ → Bool
@@ -281,4 +287,11 @@ pub two_of : (net : Net) (joint a b : ℕ) → a ≡ giver_side net joint → b 
 two_of net joint a b a_is b_is t (inl at) = inl (sym at ∙ sym a_is)
 two_of net joint a b a_is b_is t (inr at) = inr (sym at ∙ sym b_is)
 
+pub ready_alike : (net : Net) (boards : List Board) (ends : List (List ℕ)) (items : List (List Value)) (old new : List (List Bool)) → AreAlikeTables old new → IsReady net boards ends items old → IsReady net boards ends items new
+ready_alike net boards ends items old new alike ready = record {
+  boards_are = ready.boards_are;
+  ends_are = ready.ends_are;
+  supply = ready.supply;
+  one_set = alike.rows ∙ ready.one_set;
+  width = λ j lt. alike.width j ∙ ready.width j lt;
 }
