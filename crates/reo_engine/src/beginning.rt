@@ -50,7 +50,7 @@ pub(crate) fn begin<P: Primitive>(
     let changed = all_marked(alloc, circuit.primitives().len())?;
     let ends = ends_of(alloc, circuit)?;
     let kept = Kept::new(alloc, circuit.sides(), knots.count())?;
-    let lookups = Lookups::new(alloc, circuit, knots)?;
+    let lookups = Lookups::new(alloc, circuit, knots, &ends)?;
     let flows = Flows::new(alloc, circuit, knots)?;
     Ok(Begun {
         changed,

@@ -31,7 +31,7 @@ use reo_rounds::PlanFault;
 use reo_standing::{Standing, cleared, stand};
 use reo_stepping::{Standin, mark_flowing, step_marked};
 use reo_steps::Steps;
-use reo_trace::{RoundLine, line_of, round_line_text};
+use reo_trace::{RoundLine, text_by_rows};
 use reo_values::{Bytes, NoMemory};
 use std::alloc::Global;
 use std::sync::ledger::Ledger;
@@ -144,8 +144,16 @@ impl<P: Ported> Engine<P> {
     {
         let moves = standing.line.moves.as_slice();
         let rows = standing.colouring.rows.as_slice();
-        let line = line_of(alloc, &self.circuit, self.rounds + 1, moves, rows)?;
-        round_line_text(alloc, ports, &line)
+        let idle = standing.line.idle;
+        text_by_rows(
+            alloc,
+            ports,
+            &self.circuit,
+            self.rounds + 1,
+            idle,
+            moves,
+            rows,
+        )
     }
 }
 

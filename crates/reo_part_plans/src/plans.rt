@@ -1,10 +1,9 @@
 //! What is remembered of the parts of a circuit.
-ghost use Rattle.std.specs.Prelude.{◌≡◌, ◌<◌, ◌≤◌, ◌++◌, ◌∷◌, ℕ, true, false, [], Ok, IfOk, OnErr, OnOk, IfSome, Contains, length, slice_index, slice_index_or};
+ghost use Rattle.std.specs.Prelude.{◌≡◌, ◌<◌, ◌≤◌, ◌++◌, ◌∷◌, ℕ, true, false, [], Ok, IfOk, OnErr, OnOk, IfSome, length, slice_index, slice_index_or};
 ghost use Rattle.reo_net_base.specs.Net.{net_of};
 ghost use Rattle.reo_net_base.specs.Sides.{side_count};
-ghost use Rattle.reo_net_ends.specs.Ends.{AreEnds};
 ghost use Rattle.reo_knots.specs.Knots.{AreKnots, in_knot, knot_count};
-ghost use Rattle.reo_joint_values.specs.Many.{IsJointIn};
+ghost use Rattle.reo_item_bounds.specs.Bounds.{HasBounds};
 ghost use Rattle.reo_still.specs.Joining.{HasFirst};
 ghost use Rattle.reo_planning.specs.Planned.{IsPartPlanned};
 ghost use Rattle.reo_part_plans.specs.Remembered.{AreNew, ArePlans, IsRecalled};
@@ -13,11 +12,9 @@ ghost use Rattle.reo_part_plans.specs.declared.entry.Entry.{Entry as Remembered}
 use crate::entry::{Entry, rows_at};
 use crate::looks::{Look, look_at_all};
 use crate::searching::find;
-use reo_item_bounds::most_choices;
 use reo_knots::Knots;
 use reo_net_base::Primitive;
 use reo_net_circuit::Circuit;
-use reo_net_ends::Ends;
 use reo_planning::put_rows;
 use reo_values::{List, NoMemory};
 use std::alloc::Global;
@@ -182,8 +179,8 @@ impl Plans {
     }
 
     /// Remembers the rows of the first assignment of a part for each round in which the part is in
-    /// the state in which it is now. Nothing is remembered where the items decide too, or no bound
-    /// of the part's weight is known, or there is no room.
+    /// the state in which it is now, with how many choices of values its loop joints have at most.
+    /// Nothing is remembered where the items decide too, or there is no room.
     ///
     /// # Errors
     ///
@@ -192,20 +189,17 @@ impl Plans {
         &mut self,
         alloc: Global,
         circuit: &Circuit<P>,
-        ends: &Ends,
         knots: &Knots,
-        joints: &[usize],
         part: usize,
         turn: u64,
+        choices: u64,
         rows: &[u32],
     ) -> Result<(), NoMemory>
         requires knots { AreKnots (net_of P.behaviour circuit.now) knots.now }
         requires part { part < knot_count knots.now }
-        requires ends { AreEnds (net_of P.behaviour circuit.now) ends.now }
-        requires joints { (j : ℕ) → Contains joints.now j → j < length circuit.now.joints }
-        requires all { let net = net_of P.behaviour circuit.now in
-            (j : ℕ) → IsJointIn net (in_knot knots.now.numbers part) j → Contains joints.now j }
         requires turn { 1 ≤ turn }
+        requires choices { HasBounds
+            (net_of P.behaviour circuit.now) (in_knot knots.now.numbers part) choices }
         requires plans { ArePlans (net_of P.behaviour circuit.now) knots.now self.old }
         requires one_row { length rows.now ≡ side_count (net_of P.behaviour circuit.now) }
         requires first { HasFirst
@@ -221,13 +215,8 @@ impl Plans {
         if !look_at_all(circuit, sides, turn, &mut key)? {
             return Ok(());
         }
-        match most_choices(alloc, circuit, ends, knots, part, joints)? {
-            None => Ok(()),
-            Some(choices) => {
-                let rows = rows_at(alloc, sides, rows)?;
-                let entry = Entry { key, rows, choices };
-                self.parts.at_mut(part).add(entry)
-            }
-        }
+        let rows = rows_at(alloc, sides, rows)?;
+        let entry = Entry { key, rows, choices };
+        self.parts.at_mut(part).add(entry)
     }
 }

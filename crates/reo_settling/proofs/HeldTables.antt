@@ -1,5 +1,5 @@
 -- Tables that are kept, and what is looked up.
-use Rattle.std.proofs.Common.{◌≡◌, ◌∙◌, inl, inr, ℕ, ◌+◌, ◌<◌, ◌≢◌, Bool, true, Some, None, Option, List, length, ap, sym, subst, arith}
+use Rattle.std.proofs.Common.{◌≡◌, ◌∙◌, inl, inr, ℕ, ◌+◌, ◌*◌, ◌<◌, ◌≢◌, Bool, true, Some, None, Option, List, length, get_or, ap, sym, subst, arith}
 use Rattle.reo_net_base.specs.Net.{Net, first_side}
 use Rattle.reo_net_base.specs.Wired.{IsWired}
 use Rattle.reo_net_circuit.proofs.Cases.{eq_cases}
@@ -11,11 +11,16 @@ use Rattle.reo_kept_tables.specs.Laws.{IsSameOn}
 use Rattle.reo_kept_tables.specs.Orders.{AreOrders}
 use Rattle.reo_kept_tables.proofs.Readied.{ready_tables_are_right, right_parts_are_ready}
 use Rattle.reo_kept_tables.proofs.Sorted.{orders_stay}
-use Rattle.reo_kept_tables.proofs.Staying.{right_tables_stay, room_stays}
+use Rattle.reo_kept_tables.proofs.Staying.{count_same, right_tables_stay, room_stays}
 use Rattle.reo_planning.specs.declared.kept.Kept.{Kept}
 use Rattle.reo_planning.specs.Keeping.{is_settled}
 use Rattle.reo_planning.specs.Unsettling.{AreFewer, IsElsewhere}
 use Rattle.reo_planning.proofs.KnotSets.{number_is}
+use Rattle.reo_net_base.specs.Shapes.{SameShapes}
+use Rattle.reo_net_base.specs.declared.joint.Joint.{Joint}
+use Rattle.reo_mark_search.specs.Found.{IsMarkSearch}
+use Rattle.reo_mark_search.specs.Spots.{spot_of}
+use Rattle.reo_mark_search.specs.declared.search.MarkSearch.{MarkSearch}
 use Rattle.reo_part_plans.specs.Remembered.{ArePlans}
 use Rattle.reo_part_plans.proofs.Recalled.{plans_stay}
 use Rattle.reo_settling.specs.declared.lookups.Lookups.{Lookups}
@@ -39,12 +44,26 @@ tables_elsewhere net other wired knots are old new fewer is fresh (Some tables) 
       right_tables_stay net other wired (in_knot knots.numbers k) (are.are_knots k lt).closed (same_on net other knots new is k settled) tables (kept.right k lt marked (fewer.fewer k settled));
 }
 
+-- What the search by marks keeps is right for each circuit of the same shape.
+marks_stay : (net other : Net) → other.joints ≡ net.joints → SameShapes net.primitives other.primitives → (marks : MarkSearch) → IsMarkSearch net marks → IsMarkSearch other marks
+marks_stay net other joints shapes marks is = record {
+  spots = record {
+    one_list = is.spots.one_list ∙ sym shapes.count;
+    one_each = λ i lt. let i_in : i < length net.primitives = omega (arith, lt, shapes.count) in is.spots.one_each i i_in ∙ sym (shapes.same i i_in).ends;
+    giver = λ j d lt. subst (λ (js : List Joint). (m : ℕ) (e : Joint) → m < length js → spot_of marks.spots (get_or js m e).giver ≡ 2 * m) (sym joints) is.spots.giver j d lt;
+    taker = λ j d lt. subst (λ (js : List Joint). (m : ℕ) (e : Joint) → m < length js → spot_of marks.spots (get_or js m e).taker ≡ 2 * m + 1) (sym joints) is.spots.taker j d lt;
+  };
+  one_form = is.one_form ∙ sym (count_same net.primitives other.primitives shapes);
+  two_each = is.two_each ∙ ap (λ (js : List Joint). 2 * length js) (sym joints);
+}
+
 pub lookups_stay : LookupsStay
 lookups_stay net other wired knots are old new fewer is lookups held = record {
   orders = orders_stay net other wired is.joints is.shapes knots lookups.orders held.orders;
   one_each = held.one_each;
   tables = tables_elsewhere net other wired knots are old new fewer is lookups.fresh lookups.tables held.tables;
   plans = plans_stay net other is.joints is.shapes knots lookups.plans held.plans;
+  marks = marks_stay net other is.joints is.shapes lookups.marks held.marks;
 }
 
 kept_tables : (net : Net) (knots : Knotted) (kept : Kept) (fresh : List Bool) (tables : Option Tables) → MayBeFresh net knots fresh tables → MayBeKept net knots kept fresh tables
@@ -58,6 +77,7 @@ steady_is net knots kept lookups steady = record {
   one_each = steady.one_each;
   tables = kept_tables net knots kept lookups.fresh lookups.tables steady.tables;
   plans = steady.plans;
+  marks = steady.marks;
 }
 
 fresh_tables : (net : Net) (knots : Knotted) (kept : Kept) (old new : List Bool) → length new ≡ knot_count knots → ((k : ℕ) → k < length new → is_fresh new k ≡ true → (is_fresh old k ≡ true) × (is_settled kept k ≡ true))
@@ -75,6 +95,7 @@ forgotten_is net knots kept old new are is = record {
   one_each = is.one_each ∙ are.one_each;
   tables = subst (MayBeFresh net knots new.fresh) (sym is.tables) (fresh_tables net knots kept old.fresh new.fresh (is.one_each ∙ are.one_each) is.fewer old.tables are.tables);
   plans = subst (ArePlans net knots) (sym is.plans) are.plans;
+  marks = subst (IsMarkSearch net) (sym is.marks) are.marks;
 }
 
 -- Tables that are ready are right wherever a part is marked.

@@ -1,26 +1,31 @@
 //! What is looked up when parts are settled.
 ghost use Rattle.std.specs.Prelude.{◌≡◌, IfOk, length, replicate};
 ghost use Rattle.reo_net_base.specs.Net.{net_of};
+ghost use Rattle.reo_net_ends.specs.Ends.{AreEnds};
 ghost use Rattle.reo_knots.specs.Knots.{AreKnots};
 ghost use Rattle.reo_planning.specs.declared.kept.Kept.{Kept as KeptRows};
 ghost use Rattle.reo_settling.specs.Lookups.{AreLookups};
 
 use reo_kept_tables::{Tables, orders_of};
 use reo_knots::Knots;
+use reo_mark_search::MarkSearch;
 use reo_net_base::Primitive;
 use reo_net_circuit::Circuit;
+use reo_net_ends::Ends;
 use reo_part_plans::Plans;
 use reo_values::{List, NoMemory};
 use std::alloc::Global;
 
-/// What is looked up when parts are settled: the joints of each part, in order; the tables of the
-/// search, and of each part whether they were made for its state; and the rows that are remembered.
+/// What is looked up when parts are settled: the joints of each part, in order; the rows that are
+/// remembered; what the search by marks keeps; and the tables of the search by values, and of each
+/// part whether they were made for its state.
 #[derive(Drop)]
 pub struct Lookups {
     pub(crate) orders: List<List<usize>>,
     pub(crate) fresh: List<bool>,
     pub(crate) tables: Option<Tables>,
     pub(crate) plans: Plans,
+    pub(crate) marks: MarkSearch,
 }
 
 /// So many marks, none set.
@@ -39,19 +44,23 @@ impl Lookups {
         alloc: Global,
         circuit: &Circuit<P>,
         knots: &Knots,
+        ends: &Ends,
     ) -> Result<Lookups, NoMemory>
-        requires { AreKnots (net_of P.behaviour circuit.now) knots.now }
+        requires knots { AreKnots (net_of P.behaviour circuit.now) knots.now }
+        requires ends { AreEnds (net_of P.behaviour circuit.now) ends.now }
         ensures { IfOk result (λ made. (kept : KeptRows)
             → AreLookups (net_of P.behaviour circuit.now) knots.now kept made) }
     {
         let orders = orders_of(alloc, circuit, knots)?;
         let fresh = unmarked(alloc, knots.count())?;
         let plans = Plans::new(alloc, knots.count())?;
+        let marks = MarkSearch::new(alloc, circuit, ends)?;
         Ok(Lookups {
             orders,
             fresh,
             tables: None,
             plans,
+            marks,
         })
     }
 }

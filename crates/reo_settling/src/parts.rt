@@ -1,10 +1,12 @@
 //! The rows of one part.
-ghost use Rattle.std.specs.Prelude.{◌≡◌, ◌<◌, ◌≤◌, ◌+◌, ◌^◌, ℕ, true, cond, MatchResult, OnOk, length, replicate, slice_index};
+ghost use Rattle.std.specs.Prelude.{◌≡◌, ◌<◌, ◌≤◌, ◌+◌, ◌^◌, ℕ, true, cond, IsTrue, MatchResult, OnOk, length, replicate, slice_index};
 ghost use Rattle.reo_net_base.specs.Net.{net_of};
 ghost use Rattle.reo_net_base.specs.Sides.{side_count};
 ghost use Rattle.reo_net_ends.specs.Ends.{AreEnds};
 ghost use Rattle.reo_knots.specs.Knots.{AreKnots, in_knot, knot_count};
 ghost use Rattle.reo_weights.specs.Weights.{IsWeight};
+ghost use Rattle.reo_mark_search.specs.Found.{AreRowsElsewhere, HasFirstRows};
+ghost use Rattle.reo_item_bounds.specs.Bounds.{HasBounds};
 ghost use Rattle.reo_planning.specs.Faults.{IsPartFault};
 ghost use Rattle.reo_planning.specs.Keeping.{IsKept, serves};
 ghost use Rattle.reo_planning.specs.Planned.{IsPartPlanned};
@@ -12,7 +14,9 @@ ghost use Rattle.reo_settling.specs.Lookups.{AreSteady};
 
 use crate::lookups::Lookups;
 use crate::renewing::renewed;
+use reo_item_bounds::most_choices;
 use reo_knots::Knots;
+use reo_mark_search::Found;
 use reo_net_base::Primitive;
 use reo_net_circuit::Circuit;
 use reo_net_ends::Ends;
@@ -33,8 +37,119 @@ fn mark_all(marks: &mut List<bool>)
 }
 
 impl Lookups {
-    /// Searches a part, writes the rows of its first assignment down, and remembers them. The
-    /// tables are made ready for the search, and are kept.
+    /// Searches a part by values, and writes the rows of its first assignment down. The tables are
+    /// made ready for the search, and are kept.
+    fn search_by_values<P: Primitive, L: Ledger>(
+        &mut self,
+        alloc: Global,
+        circuit: &Circuit<P>,
+        knots: &Knots,
+        ends: &Ends,
+        part: usize,
+        turn: u64,
+        budget: u64,
+        steps: &mut Steps<L>,
+        rows: &mut List<u32>,
+    ) -> Result<(), PlanFault>
+        requires knots { AreKnots (net_of P.behaviour circuit.now) knots.now }
+        requires ends { AreEnds (net_of P.behaviour circuit.now) ends.now }
+        requires part { part < knot_count knots.now }
+        requires budget { budget < 10 ^ 18 }
+        requires steady { AreSteady (net_of P.behaviour circuit.now) knots.now self.old }
+        requires rows { length rows.old ≡ side_count (net_of P.behaviour circuit.now) }
+        ensures steady { AreSteady (net_of P.behaviour circuit.now) knots.now self.new }
+        ensures exact { let net = net_of P.behaviour circuit.now in
+            MatchResult result (λ _. IsPartPlanned budget net knots.now turn part rows.old rows.new)
+            (IsPartFault budget net (in_knot knots.now.numbers part) part) }
+        ensures ticks { let net = net_of P.behaviour circuit.now in
+            (w : ℕ) → IsWeight net (in_knot knots.now.numbers part) w
+            → steps.new ≤ steps.old + w }
+    {
+        let tables = self.tables.take();
+        let fresh = self.fresh.as_slice();
+        let mut ready = renewed(alloc, circuit, knots, ends, &self.orders, fresh, tables)?;
+        search_part(
+            alloc, circuit, knots, ends, &mut ready, part, turn, budget, steps, rows,
+        )?;
+        mark_all(&mut self.fresh);
+        self.tables = Some(ready);
+        Ok(())
+    }
+
+    /// Searches a part by marks, and writes the rows of its first assignment down. The answer is
+    /// whether they were found; where they were not, the rows of the part are any. This takes no
+    /// memory and makes no tick.
+    fn search_by_marks<P: Primitive>(
+        &mut self,
+        circuit: &Circuit<P>,
+        knots: &Knots,
+        part: usize,
+        turn: u64,
+        rows: &mut List<u32>,
+    ) -> bool
+        requires knots { AreKnots (net_of P.behaviour circuit.now) knots.now }
+        requires part { part < knot_count knots.now }
+        requires steady { AreSteady (net_of P.behaviour circuit.now) knots.now self.old }
+        requires rows { length rows.old ≡ side_count (net_of P.behaviour circuit.now) }
+        ensures steady { AreSteady (net_of P.behaviour circuit.now) knots.now self.new }
+        ensures found { let inside = in_knot knots.now.numbers part in
+            IsTrue result → HasFirstRows (net_of P.behaviour circuit.now) inside turn rows.new }
+        ensures elsewhere { AreRowsElsewhere (in_knot knots.now.numbers part) rows.old rows.new }
+    {
+        match self.marks.search(circuit, knots, part, turn, rows) {
+            Found::Rows => true,
+            Found::Jam => true,
+            Found::Unknown => false,
+        }
+    }
+
+    /// Searches a part whose loop joints have at most so many choices of values, and writes the
+    /// rows of its first assignment down: by marks where the budget allows for all choices, and by
+    /// values where that finds nothing.
+    fn search_bounded<P: Primitive, L: Ledger>(
+        &mut self,
+        alloc: Global,
+        circuit: &Circuit<P>,
+        knots: &Knots,
+        ends: &Ends,
+        part: usize,
+        turn: u64,
+        choices: u64,
+        budget: u64,
+        steps: &mut Steps<L>,
+        rows: &mut List<u32>,
+    ) -> Result<(), PlanFault>
+        requires knots { AreKnots (net_of P.behaviour circuit.now) knots.now }
+        requires ends { AreEnds (net_of P.behaviour circuit.now) ends.now }
+        requires part { part < knot_count knots.now }
+        requires choices { HasBounds
+            (net_of P.behaviour circuit.now) (in_knot knots.now.numbers part) choices }
+        requires budget { budget < 10 ^ 18 }
+        requires steady { AreSteady (net_of P.behaviour circuit.now) knots.now self.old }
+        requires rows { length rows.old ≡ side_count (net_of P.behaviour circuit.now) }
+        ensures steady { AreSteady (net_of P.behaviour circuit.now) knots.now self.new }
+        ensures exact { let net = net_of P.behaviour circuit.now in
+            MatchResult result (λ _. IsPartPlanned budget net knots.now turn part rows.old rows.new)
+            (IsPartFault budget net (in_knot knots.now.numbers part) part) }
+        ensures ticks { let net = net_of P.behaviour circuit.now in
+            (w : ℕ) → IsWeight net (in_knot knots.now.numbers part) w
+            → steps.new ≤ steps.old + w }
+    {
+        circuit.known();
+        let _order = circuit.order();
+        if choices > budget {
+            return self.search_by_values(
+                alloc, circuit, knots, ends, part, turn, budget, steps, rows,
+            );
+        }
+        if self.search_by_marks(circuit, knots, part, turn, rows) {
+            return Ok(());
+        }
+        self.search_by_values(alloc, circuit, knots, ends, part, turn, budget, steps, rows)
+    }
+
+    /// Searches a part, writes the rows of its first assignment down, and remembers them where a
+    /// bound of its weight is known. The search is by marks where that bound is within the budget.
     fn search<P: Primitive, L: Ledger>(
         &mut self,
         alloc: Global,
@@ -63,18 +178,18 @@ impl Lookups {
             → steps.new ≤ steps.old + w }
     {
         circuit.known();
-        let tables = self.tables.take();
-        let fresh = self.fresh.as_slice();
-        let mut ready = renewed(alloc, circuit, knots, ends, &self.orders, fresh, tables)?;
-        search_part(
-            alloc, circuit, knots, ends, &mut ready, part, turn, budget, steps, rows,
-        )?;
-        mark_all(&mut self.fresh);
-        self.tables = Some(ready);
         let joints = self.orders.at(part).as_slice();
+        let Some(choices) = most_choices(alloc, circuit, ends, knots, part, joints)? else {
+            return self.search_by_values(
+                alloc, circuit, knots, ends, part, turn, budget, steps, rows,
+            );
+        };
+        self.search_bounded(
+            alloc, circuit, knots, ends, part, turn, choices, budget, steps, rows,
+        )?;
         let rows = rows.as_slice();
         self.plans
-            .remember(alloc, circuit, ends, knots, joints, part, turn, rows)?;
+            .remember(alloc, circuit, knots, part, turn, choices, rows)?;
         Ok(())
     }
 

@@ -9,6 +9,7 @@ invariant-loop-part l = record {
   orders : l.self.orders ≡ l.initial.self.orders;
   tables : l.self.tables ≡ l.initial.self.tables;
   plans : l.self.plans ≡ l.initial.self.plans;
+  marks : l.self.marks ≡ l.initial.self.marks;
   one_each : length l.self.fresh ≡ length l.initial.self.fresh;
   old : (k : ℕ) → is_fresh l.self.fresh k ≡ true → is_fresh l.initial.self.fresh k ≡ true;
   settled : (k : ℕ) → k < l.part → is_fresh l.self.fresh k ≡ true → is_settled l.kept k ≡ true;

@@ -4,11 +4,10 @@ use Rattle.reo_net_base.specs.Net.{Net, net_of}
 use Rattle.reo_knots.specs.Knots.{in_knot}
 use Rattle.reo_kept_tables.specs.Orders.{AreJointsOf}
 use Rattle.reo_kept_tables.proofs.Sorted.{orders_are_of_parts}
-use Rattle.reo_settling.proofs.HeldTables.{ready_may_stay}
 use Rattle.reo_settling.proofs.lookups.Lookups.search.Goals as goal
 
-pub remember-requires-clause-joints : goal.remember-requires-clause-joints
-remember-requires-clause-joints g c = λ j is.
+pub most_choices-requires-clause-joints : goal.most_choices-requires-clause-joints
+most_choices-requires-clause-joints g c = λ j is.
     let net : Net = net_of g.P.Primitive.behaviour c.args.circuit.now in
     let lt : c.args.part < length c.args.self.now.orders = omega (arith, c.requires.part, c.requires.steady.orders.one_each) in
     let here : c.as_slice-joints.result.now ≡ get_or c.args.self.now.orders c.args.part [] = c.as_slice-joints.ensures ∙ c.at.ensures ∙ get_or_default c.args.self.now.orders c.args.part c.at.result.now [] lt in
@@ -16,8 +15,8 @@ remember-requires-clause-joints g c = λ j is.
     subst (AreJointsOf net (in_knot c.args.knots.now.numbers c.args.part)) (sym here) (orders_are_of_parts net c.known.ensures.wired c.args.knots.now c.requires.knots c.args.self.now.orders c.requires.steady.orders c.args.part c.requires.part) in
     ((of.exact j).0 is).0
 
-pub remember-requires-clause-all : goal.remember-requires-clause-all
-remember-requires-clause-all g c = λ j is.
+pub most_choices-requires-clause-all : goal.most_choices-requires-clause-all
+most_choices-requires-clause-all g c = λ j is.
     let net : Net = net_of g.P.Primitive.behaviour c.args.circuit.now in
     let lt : c.args.part < length c.args.self.now.orders = omega (arith, c.requires.part, c.requires.steady.orders.one_each) in
     let here : c.as_slice-joints.result.now ≡ get_or c.args.self.now.orders c.args.part [] = c.as_slice-joints.ensures ∙ c.at.ensures ∙ get_or_default c.args.self.now.orders c.args.part c.at.result.now [] lt in
@@ -26,21 +25,19 @@ remember-requires-clause-all g c = λ j is.
     (of.exact j).1 is
 
 pub returns-in_err-remember-clause-steady : goal.returns-in_err-remember-clause-steady
-returns-in_err-remember-clause-steady g c =
-    let net : Net = net_of g.P.Primitive.behaviour c.args.circuit.now in
-    record {
-      orders = c.requires.steady.orders;
-      one_each = c.mark_all.ensures ∙ c.requires.steady.one_each;
-      tables = ready_may_stay net c.args.knots.now c.args.ends.now c.mark_all.new.marks c.search_part.new.tables c.in_ok-search_part.ensures.tables;
-      plans = c.remember.ensures.plans;
-    }
+returns-in_err-remember-clause-steady g c = record {
+  orders = c.search_bounded.ensures.steady.orders;
+  one_each = c.search_bounded.ensures.steady.one_each;
+  tables = c.search_bounded.ensures.steady.tables;
+  plans = c.remember.ensures.plans;
+  marks = c.search_bounded.ensures.steady.marks;
+}
 
 pub returns-clause-steady : goal.returns-clause-steady
-returns-clause-steady g c =
-    let net : Net = net_of g.P.Primitive.behaviour c.args.circuit.now in
-    record {
-      orders = c.requires.steady.orders;
-      one_each = c.mark_all.ensures ∙ c.requires.steady.one_each;
-      tables = ready_may_stay net c.args.knots.now c.args.ends.now c.mark_all.new.marks c.search_part.new.tables c.in_ok-search_part.ensures.tables;
-      plans = c.remember.ensures.plans;
-    }
+returns-clause-steady g c = record {
+  orders = c.search_bounded.ensures.steady.orders;
+  one_each = c.search_bounded.ensures.steady.one_each;
+  tables = c.search_bounded.ensures.steady.tables;
+  plans = c.remember.ensures.plans;
+  marks = c.search_bounded.ensures.steady.marks;
+}

@@ -1,0 +1,19 @@
+use Rattle.std.proofs.Common.{◌≤◌, arith}
+use Rattle.reo_net_base.specs.Net.{Net, net_of}
+use Rattle.reo_knots.specs.Knots.{in_knot}
+use Rattle.reo_planning.specs.Faults.{IsPartFault}
+use Rattle.reo_settling.proofs.Found.{found_planned, searched_after}
+use Rattle.reo_settling.proofs.lookups.Lookups.search_bounded.Goals as goal
+
+pub returns-then-search_by_marks-clause-exact : goal.returns-then-search_by_marks-clause-exact
+returns-then-search_by_marks-clause-exact g c =
+    let net : Net = net_of g.P.Primitive.behaviour c.args.circuit.now in
+    let le : c.args.choices ≤ c.args.budget = omega arith in
+    found_planned net c.known.ensures.wired c.order-order.result.now c.order-order.ensures c.args.knots.now c.requires.knots c.args.part c.requires.part
+    c.args.turn c.args.budget c.args.choices c.requires.choices le c.args.rows.now c.search_by_marks.new.rows (c.search_by_marks.ensures.found c.if-search_by_marks.true) c.search_by_marks.ensures.elsewhere
+
+pub returns-clause-exact : goal.returns-clause-exact
+returns-clause-exact g c =
+    let net : Net = net_of g.P.Primitive.behaviour c.args.circuit.now in
+    searched_after c.search_by_values.result (IsPartFault c.args.budget net (in_knot c.args.knots.now.numbers c.args.part) c.args.part) c.args.budget net c.args.knots.now c.args.turn c.args.part
+    c.args.rows.now c.search_by_marks.new.rows c.search_by_values.new.rows c.search_by_marks.ensures.elsewhere c.search_by_values.ensures.exact

@@ -1,0 +1,15 @@
+use Rattle.std.proofs.Common.{◌∙◌}
+use Rattle.reo_net_base.specs.Net.{Net, net_of}
+use Rattle.reo_settling.proofs.HeldTables.{ready_may_stay}
+use Rattle.reo_settling.proofs.lookups.Lookups.search_by_values.Goals as goal
+
+pub returns-clause-steady : goal.returns-clause-steady
+returns-clause-steady g c =
+    let net : Net = net_of g.P.Primitive.behaviour c.args.circuit.now in
+    record {
+      orders = c.requires.steady.orders;
+      one_each = c.mark_all.ensures ∙ c.requires.steady.one_each;
+      tables = ready_may_stay net c.args.knots.now c.args.ends.now c.mark_all.new.marks c.search_part.new.tables c.in_ok-search_part.ensures.tables;
+      plans = c.requires.steady.plans;
+      marks = c.requires.steady.marks;
+    }
