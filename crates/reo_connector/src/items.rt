@@ -50,7 +50,7 @@ impl Connector {
     }
 
     /// The text of an item at a port, as traces write it; no bytes where there is no port of the
-    /// number, or the item is not of its type. `NoMemory` is out of memory.
+    /// number, or the item is of another kind than its type. `NoMemory` is out of memory.
     pub fn text(&self, alloc: Global, port: usize, item: &Value) -> Result<Bytes, NoMemory>
         ensures { IfOk result (λ text. text ≡ text_at self.now port item.now) }
     {

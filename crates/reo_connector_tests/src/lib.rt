@@ -1,0 +1,15 @@
+//! Connectors that programs hold, call by call: tests alone.
+#![tactic(auto)]
+
+#[cfg(test)]
+mod acts;
+#[cfg(test)]
+mod checks;
+#[cfg(test)]
+mod connectors;
+#[cfg(test)]
+mod large;
+#[cfg(test)]
+mod offers;
+#[cfg(test)]
+mod opening;
