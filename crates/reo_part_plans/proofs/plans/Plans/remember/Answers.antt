@@ -12,8 +12,8 @@ pub rows_at-requires : goal.rows_at-requires
 rows_at-requires g c = λ m lt. subst (λ (n : ℕ). get_or c.sides-sides.result.now m 0 < n) (sym c.requires.one_row)
     (part_below (net_of g.P.Primitive.behaviour c.args.circuit.now) c.known.ensures.wired c.args.knots.now c.requires.knots c.args.part c.requires.part c.sides-sides.result.now c.sides-sides.ensures m lt)
 
-pub returns-in_ok-rows : goal.returns-in_ok-rows
-returns-in_ok-rows g c =
+pub returns : goal.returns
+returns g c =
     let net : Net = net_of g.P.Primitive.behaviour c.args.circuit.now in
     let plans = rw (← c.self.view_is) at c.requires.plans in
     let told : IsTrue c.in_ok-look_at_all.field-0 = grind (arith, c.if-not-branch.false) in
