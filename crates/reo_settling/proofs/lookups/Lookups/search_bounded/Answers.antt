@@ -15,5 +15,5 @@ returns-then-search_by_marks-clause-exact g c =
 pub returns-clause-exact : goal.returns-clause-exact
 returns-clause-exact g c =
     let net : Net = net_of g.P.Primitive.behaviour c.args.circuit.now in
-    searched_after c.search_by_values.result (IsPartFault c.args.budget net (in_knot c.args.knots.now.numbers c.args.part) c.args.part) c.args.budget net c.args.knots.now c.args.turn c.args.part
-    c.args.rows.now c.search_by_marks.new.rows c.search_by_values.new.rows c.search_by_marks.ensures.elsewhere c.search_by_values.ensures.exact
+    searched_after c.search_by_values-2.result (IsPartFault c.args.budget net (in_knot c.args.knots.now.numbers c.args.part) c.args.part) c.args.budget net c.args.knots.now c.args.turn c.args.part
+    c.args.rows.now c.search_by_marks.new.rows c.search_by_values-2.new.rows c.search_by_marks.ensures.elsewhere c.search_by_values-2.ensures.exact
