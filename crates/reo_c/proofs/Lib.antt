@@ -1,0 +1,6 @@
+pub mod AtLemmas
+pub mod Dropping
+pub mod Numbers
+pub mod Places
+pub mod Rows
+pub mod Words
