@@ -34,7 +34,7 @@ enum {
     REO_OUTSIDE = 7,       /* the item is none that the port takes */
     REO_NO_ITEM = 8,       /* no item of the port's type has this text, or there is no such port */
     REO_NOT_PENDING = 9,   /* nothing is pending at the port, or there is no such port */
-    REO_WIDE = 10,         /* at a joint of a part too many items can stand for the budget */
+    REO_WIDE = 10,         /* at a joint of a part more than 256 items can stand */
     REO_SPENT = 11,        /* a part of the circuit weighs more than the budget */
     REO_LARGE_BUDGET = 12, /* the budget is 10^18 or more */
     REO_NO_ROUND = 13,     /* the connector has made 2^63 rounds */

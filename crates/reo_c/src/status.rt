@@ -25,7 +25,7 @@ pub enum Status {
     NoItem,
     /// Nothing is pending at the port, or there is no such port.
     NotPending,
-    /// At a joint of a part of the circuit too many items can stand for the budget.
+    /// At a joint of a part of the circuit more than 256 items can stand.
     Wide,
     /// A part of the circuit weighs more than the budget.
     Spent,
