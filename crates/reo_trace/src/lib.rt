@@ -5,16 +5,14 @@
 //! then one line that says how the run ended.
 #![tactic(auto)]
 
-mod by_rows;
 mod entries;
 mod idle;
 mod line;
 mod text;
 mod write;
 
-pub use by_rows::text_by_rows;
 pub use entries::{is_idle, line_of};
 pub use idle::idle_means_no_flow;
 pub use line::{Cell, Ending, Entry, RoundLine};
-pub use text::{ending_line_text, round_line_text};
+pub use text::{append_moves, append_number, ending_line_text, round_line_text};
 pub use write::{WriteFault, write_ending, write_round};

@@ -1,39 +1,61 @@
 //! The texts of lines.
 ghost use Rattle.std.specs.Prelude.{◌≡◌, ◌<◌, ◌++◌, IfOk, OnOk, codes};
-ghost use Rattle.std.specs.Fmt.{decimal};
+ghost use Rattle.std.specs.Fmt.{decimal, signed_decimal};
+ghost use Rattle.reo_values.specs.ItemText.{text_of};
 ghost use Rattle.reo_trace.specs.EndingText.{ending_text};
 ghost use Rattle.reo_trace.specs.declared.line.Ending.TheVariants.{Spent, Wide};
 ghost use Rattle.reo_trace.specs.RoundText.{cell_text, entry_text, move_text, moves_text, round_text, sign_of};
 ghost use Rattle.reo_trace.specs.Spaced.{gap, spaced};
 
 use crate::{Cell, Ending, Entry, RoundLine};
+use itoa::Buffer;
 use reo_net_base::{Move, Ports, Way};
-use reo_values::{Bytes, NoMemory, value_text};
+use reo_values::{Bytes, Kindred, NoMemory, Value, value_text};
 use std::alloc::Global;
 
-/// Adds a number of one digit. It takes no memory beside the text's.
-fn append_digit(text: &mut Bytes, number: u64) -> Result<(), NoMemory>
-    requires { number < 10 }
+/// Adds a number in decimal. It takes no memory beside the text's.
+pub fn append_number(text: &mut Bytes, number: u64) -> Result<(), NoMemory>
     ensures { OnOk result (text.new ≡ text.old ++ decimal number) }
 {
-    text.push(b'0' + number as u8)
+    let mut buffer = Buffer::new();
+    text.append(buffer.format(number).as_bytes())
 }
 
-/// Adds a number in decimal.
-pub(crate) fn append_number(alloc: Global, text: &mut Bytes, number: u64) -> Result<(), NoMemory>
-    ensures { OnOk result (text.new ≡ text.old ++ decimal number) }
+/// Adds an item that is a number, in decimal. It takes no memory beside the text's.
+fn append_int(text: &mut Bytes, number: i64) -> Result<(), NoMemory>
+    ensures { OnOk result (text.new ≡ text.old ++ signed_decimal number) }
 {
-    if number < 10 {
-        return append_digit(text, number);
-    }
-    match number.to_string(alloc) {
-        Ok(digits) => text.append(digits.as_bytes()),
-        Err(_) => Err(NoMemory),
+    let mut buffer = Buffer::new();
+    text.append(buffer.format(number).as_bytes())
+}
+
+/// Adds an item. Only a text and a pair take memory beside the text's.
+fn append_item(
+    alloc: Global,
+    text: &mut Bytes,
+    item: &Value,
+    kindred: &Kindred,
+) -> Result<(), NoMemory>
+    ensures { OnOk result (text.new ≡ text.old ++ text_of item.now kindred.now) }
+{
+    match (item, kindred) {
+        (Value::Unit, Kindred::Unit) => text.append(b"unit"),
+        (Value::Bool(true), Kindred::Bool) => text.append(b"true"),
+        (Value::Bool(false), Kindred::Bool) => text.append(b"false"),
+        (Value::Int(number), Kindred::Int(_, _)) => append_int(text, *number),
+        (Value::Sym(place), Kindred::Sym(names)) => match names.get(*place as usize) {
+            Some(name) => text.append(name.as_slice()),
+            None => Ok(()),
+        },
+        _ => {
+            let made = value_text(alloc, item, kindred)?;
+            text.append(made.as_slice())
+        }
     }
 }
 
 /// Adds the space before the thing at a place: none before the first.
-pub(crate) fn append_gap(text: &mut Bytes, place: usize) -> Result<(), NoMemory>
+fn append_gap(text: &mut Bytes, place: usize) -> Result<(), NoMemory>
     ensures { OnOk result (text.new ≡ text.old ++ gap place) }
 {
     if place == 0 { Ok(()) } else { text.push(b' ') }
@@ -44,8 +66,8 @@ fn append_sign(text: &mut Bytes, way: Way) -> Result<(), NoMemory>
     ensures { OnOk result (text.new ≡ text.old ++ sign_of way) }
 {
     match way {
-        Way::In => text.append(b"!"),
-        Way::Out => text.append(b"?"),
+        Way::In => text.push(b'!'),
+        Way::Out => text.push(b'?'),
     }
 }
 
@@ -59,8 +81,7 @@ fn append_move(alloc: Global, text: &mut Bytes, ports: &Ports, one: &Move) -> Re
     };
     text.append(port.name.as_slice())?;
     append_sign(text, port.way)?;
-    let item = value_text(alloc, &one.item, &port.kindred)?;
-    text.append(item.as_slice())
+    append_item(alloc, text, &one.item, &port.kindred)
 }
 
 /// Adds what flowed at the ports, with single spaces between.
@@ -79,8 +100,8 @@ fn append_flows(
     Ok(())
 }
 
-/// Adds the moves of a round.
-pub(crate) fn append_moves(
+/// Adds the moves of a round. `NoMemory` is out of memory.
+pub fn append_moves(
     alloc: Global,
     text: &mut Bytes,
     ports: &Ports,
@@ -99,37 +120,37 @@ pub(crate) fn append_moves(
 }
 
 /// Adds the row of one side.
-fn append_cell(alloc: Global, text: &mut Bytes, cell: Cell) -> Result<(), NoMemory>
+fn append_cell(text: &mut Bytes, cell: Cell) -> Result<(), NoMemory>
     ensures { OnOk result (text.new ≡ text.old ++ cell_text cell) }
 {
     match cell {
-        Cell::Row(row) => append_number(alloc, text, u64::from(row)),
+        Cell::Row(row) => append_number(text, u64::from(row)),
         Cell::Jam => text.append(b"j"),
     }
 }
 
 /// Adds the rows of one primitive.
 #[tactic(auto, unfolding(crate::specs::RoundText::entry_text))]
-pub(crate) fn append_entry(alloc: Global, text: &mut Bytes, entry: Entry) -> Result<(), NoMemory>
+fn append_entry(text: &mut Bytes, entry: Entry) -> Result<(), NoMemory>
     ensures { OnOk result (text.new ≡ text.old ++ entry_text entry) }
 {
     match entry {
-        Entry::One(cell) => append_cell(alloc, text, cell),
+        Entry::One(cell) => append_cell(text, cell),
         Entry::Two(mouth, tail) => {
-            append_cell(alloc, text, mouth)?;
+            append_cell(text, mouth)?;
             text.append(b".")?;
-            append_cell(alloc, text, tail)
+            append_cell(text, tail)
         }
     }
 }
 
 /// Adds the rows of all primitives, with single spaces between.
-fn append_entries(alloc: Global, text: &mut Bytes, entries: &[Entry]) -> Result<(), NoMemory>
+fn append_entries(text: &mut Bytes, entries: &[Entry]) -> Result<(), NoMemory>
     ensures { OnOk result (text.new ≡ text.old ++ spaced entry_text entries.now) }
 {
     for (place, entry) in entries.iter().enumerate() {
         append_gap(text, place)?;
-        append_entry(alloc, text, *entry)?;
+        append_entry(text, *entry)?;
     }
     Ok(())
 }
@@ -140,11 +161,11 @@ pub fn round_line_text(alloc: Global, ports: &Ports, line: &RoundLine) -> Result
     ensures { IfOk result (λ text. text ≡ round_text ports.now.list line.now) }
 {
     let mut text = Bytes::from_slice(alloc, b"round ")?;
-    append_number(alloc, &mut text, line.round)?;
+    append_number(&mut text, line.round)?;
     text.append(b": ")?;
     append_moves(alloc, &mut text, ports, line.idle, line.moves.as_slice())?;
     text.append(b" | ")?;
-    append_entries(alloc, &mut text, line.entries.as_slice())?;
+    append_entries(&mut text, line.entries.as_slice())?;
     text.append(b"\n")?;
     Ok(text)
 }
@@ -154,7 +175,7 @@ fn after_rounds(alloc: Global, words: &[u8], rounds: u64) -> Result<Bytes, NoMem
     ensures { IfOk result (λ text. text ≡ words.now ++ (decimal rounds ++ codes " rounds\n")) }
 {
     let mut text = Bytes::from_slice(alloc, words)?;
-    append_number(alloc, &mut text, rounds)?;
+    append_number(&mut text, rounds)?;
     text.append(b" rounds\n")?;
     Ok(text)
 }
@@ -165,22 +186,22 @@ fn before_round(alloc: Global, words: &[u8], round: u64, knot: u64) -> Result<By
         (decimal round ++ (codes ": knot " ++ decimal knot))) }
 {
     let mut text = Bytes::from_slice(alloc, words)?;
-    append_number(alloc, &mut text, round)?;
+    append_number(&mut text, round)?;
     text.append(b": knot ")?;
-    append_number(alloc, &mut text, knot)?;
+    append_number(&mut text, knot)?;
     Ok(text)
 }
 
 /// Adds a weight and a budget, and the end of the line.
-fn append_weight(alloc: Global, text: &mut Bytes, weight: u64, budget: u64) -> Result<(), NoMemory>
+fn append_weight(text: &mut Bytes, weight: u64, budget: u64) -> Result<(), NoMemory>
     ensures { OnOk result (text.new ≡ text.old ++
         (codes " weight " ++ (decimal weight ++ (codes " budget " ++
         (decimal budget ++ codes "\n"))))) }
 {
     text.append(b" weight ")?;
-    append_number(alloc, text, weight)?;
+    append_number(text, weight)?;
     text.append(b" budget ")?;
-    append_number(alloc, text, budget)?;
+    append_number(text, budget)?;
     text.append(b"\n")
 }
 
@@ -196,7 +217,7 @@ fn spent_text(
     ensures { IfOk result (λ text. text ≡ ending_text (Spent round knot weight budget)) }
 {
     let mut text = before_round(alloc, b"spent in round ", round, knot)?;
-    append_weight(alloc, &mut text, weight, budget)?;
+    append_weight(&mut text, weight, budget)?;
     Ok(text)
 }
 
