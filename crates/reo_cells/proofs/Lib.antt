@@ -1,0 +1,5 @@
+pub mod Brought
+pub mod Kept
+pub mod Laid
+pub mod Shown
+pub mod Whole

@@ -1,0 +1,34 @@
+-- The cells of all sides of a circuit, as text that is patched.
+use Rattle.std.specs.Prelude.{ℕ, ◌+◌, ◌<◌, ◌≡◌, ◌≢◌, ◌==◌, List, length, if◌then◌else◌, slice_index, slice_index_or}
+use Rattle.std.specs.List.{count_by}
+use Rattle.reo_net_base.specs.Net.{Net, all_sides, no_side, row_count}
+use Rattle.reo_net_base.specs.Sides.{side_count}
+use Rattle.reo_cells.specs.declared.cells.Cells.{Cells}
+use Rattle.reo_cells.specs.Texts.{befores, is_wide, jam_code, kept_bytes}
+
+-- The code of the cell of a side by these rows: its row, but for the jam row.
+abbrev pub code_at : Net → List ℕ → ℕ → ℕ
+code_at net rows s =
+    if (slice_index rows s + 1) == row_count (slice_index_or (all_sides net.primitives) s no_side) then jam_code else slice_index rows s
+
+-- Cells of the sides of a circuit, by whichever rows. Of the circuit only the number of sides of each primitive counts.
+pub record AreCells (net : Net) (cells : Cells) : Type 0 where
+  pub one_each : length cells.shown ≡ side_count net
+  pub bytes : cells.text ≡ kept_bytes (befores net) cells.shown
+  pub counted : cells.wide ≡ count_by is_wide cells.shown
+
+-- The cell of a side is the one by these rows.
+abbrev pub IsShown : Net → List ℕ → ℕ → Cells → Type 0
+IsShown net rows s cells = slice_index cells.shown s ≡ code_at net rows s
+
+-- The cells of all sides are those by these rows.
+abbrev pub AreShown : Net → List ℕ → Cells → Type 0
+AreShown net rows cells = (s : ℕ) → s < side_count net → IsShown net rows s cells
+
+-- The cells of these sides have become those of these rows, and no others have changed.
+pub record AreBrought (net : Net) (rows sides : List ℕ) (old new : Cells) : Type 0 where
+  pub brought : (m : ℕ) → m < length sides → IsShown net rows (slice_index sides m) new
+  -- what was so stays so
+  pub stay : (s : ℕ) → IsShown net rows s old → IsShown net rows s new
+  pub others : (s : ℕ) → ((m : ℕ) → m < length sides → slice_index sides m ≢ s)
+      → slice_index new.shown s ≡ slice_index old.shown s
