@@ -1,4 +1,5 @@
 pub mod Linked
+pub mod Noting
 pub mod Tables
 pub mod Within
 mod Sums

@@ -1,3 +1,4 @@
 pub mod Bounds
+pub mod Kept
 pub mod Laws
 pub mod Shares

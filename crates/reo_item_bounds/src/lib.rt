@@ -4,8 +4,9 @@
 
 mod checking;
 mod choices;
+mod kept;
 mod laws;
 mod shares;
 
-pub use choices::most_choices;
-pub use laws::{bounded_parts_stay_within, bounds_stay};
+pub use kept::Bounds;
+pub use laws::{bounded_parts_stay_within, bounds_stay, kept_bounds_stay};
