@@ -31,12 +31,12 @@ use Rattle.reo_propagate.specs.Queues.{among}
 use Rattle.reo_walk.specs.declared.part.Part.{Part}
 use Rattle.reo_walk.specs.Places.{places_in}
 use Rattle.reo_walk.specs.Arranged.{IsJamRow}
-use Rattle.reo_search.specs.Remaining.{AreLoopsIn, choices_of}
-use Rattle.reo_search.specs.Trying.{IsLeastOf}
+use Rattle.reo_choices.specs.Remaining.{AreLoopsIn, choices_of}
+use Rattle.reo_choices.specs.Trying.{IsLeastOf}
 use Rattle.reo_search.specs.First.{AreFirstRows, HasNoThreeColouring}
 use Rattle.reo_walk.proofs.Knotted.{among_sides}
 use Rattle.reo_walk.proofs.Resting.{among_at}
-use Rattle.reo_search.proofs.Counted.{capped_small}
+use Rattle.reo_choices.proofs.Counted.{capped_small}
 use Rattle.reo_search.proofs.Named.{first_in, last_are_rows, last_are_those}
 
 lt_test : (a b : ℕ) → a < b → nat_lt a b ≡ true

@@ -1,4 +1,2 @@
-pub mod Remaining
-pub mod Trying
 pub mod First
 pub mod Isolated

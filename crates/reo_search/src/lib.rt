@@ -1,11 +1,9 @@
 //! The first assignment of a knot.
 #![tactic(auto)]
 
-mod choices;
 mod fault;
 mod laws;
 mod searching;
-mod weighing;
 mod widths;
 
 pub use fault::SearchFault;

@@ -1,27 +1,22 @@
 //! The first assignment of a knot, over all values that its joints can have.
-ghost use Rattle.std.specs.Prelude.{◌≡◌, ◌↔◌, ◌<◌, ◌≤◌, ◌+◌, ◌^◌, ◌⊎◌, ℕ, true, false, [], IsTrue, IfOk, IfSome, OnOk, MatchResult, length, slice_index_or};
+ghost use Rattle.std.specs.Prelude.{◌≡◌, ◌↔◌, ◌<◌, ◌≤◌, ◌+◌, ◌^◌, ℕ, false, IsTrue, IfOk, OnOk, MatchResult, length};
 ghost use Rattle.reo_net_base.specs.Net.{net_of, all_sides};
-ghost use Rattle.reo_net_ends.specs.Ends.{AreEnds};
-ghost use Rattle.reo_net_laws.specs.Parts.{IsKnot};
 ghost use Rattle.reo_knots.specs.Knots.{AreKnots, in_knot, knot_count};
 ghost use Rattle.reo_joint_values.specs.Chosen.{IsChosen};
 ghost use Rattle.reo_reach.specs.Supplied.{AreShort, IsReached, IsSupply, is_wide};
 ghost use Rattle.reo_joint_values.specs.Many.{IsJointIn};
-ghost use Rattle.reo_weights.specs.Weights.{IsWeight, AreNamed, all_values};
+ghost use Rattle.reo_weights.specs.Weights.{IsWeight, all_values};
 ghost use Rattle.reo_rows.specs.Rows.{AreTables};
 ghost use Rattle.reo_rows.specs.Sets.{IsReady, names_of};
 ghost use Rattle.reo_propagate.specs.Queues.{among};
 ghost use Rattle.reo_propagate.specs.Beginning.{IsSearch};
-ghost use Rattle.reo_walk.specs.declared.place.Place.{Place as Spot};
-ghost use Rattle.reo_walk.specs.Places.{side_of_place, places_in};
-ghost use Rattle.reo_search.specs.Remaining.{AreLoopsIn, IsLeftOfAll, CoverAll, choices_of};
-ghost use Rattle.reo_search.specs.Trying.{MayRestart, IsLeastOf, IsFirstOf};
+ghost use Rattle.reo_choices.specs.Remaining.{IsLeftOfAll, CoverAll, choices_of};
+ghost use Rattle.reo_choices.specs.Trying.{MayRestart, AreOfKnot, IsLeastOf};
 ghost use Rattle.reo_search.specs.First.{IsFirstWithin, IsSearchFault, HasNoThreeColouring};
 
-use crate::choices::first_over;
 use crate::fault::SearchFault;
-use crate::weighing::{are_single, codes_of, narrow_all, weight_of};
 use crate::widths::has_wide;
+use reo_choices::{first_over, narrow_all, weight_of};
 use reo_knots::Knots;
 use reo_net_base::Primitive;
 use reo_net_circuit::Circuit;
@@ -31,60 +26,12 @@ use reo_reach::Supply;
 use reo_side_tables::{Board, boards_of};
 use reo_steps::Steps;
 use reo_values::{List, NoMemory, Value};
-use reo_walk::{Part, Place, part_of, places_of, walk};
+use reo_walk::{Part, Place, part_of, places_of};
 use std::alloc::Global;
 use std::sync::ledger::Ledger;
 
-/// The numbers of the first assignment, where a walk over what is left finds it. `None` says
-/// nothing: then each value at the loop joints is to be tried. `NoMemory` is out of memory.
-fn first_by_walk<P: Primitive>(
-    alloc: Global,
-    circuit: &Circuit<P>,
-    boards: &List<Board>,
-    ends: &Ends,
-    items: &[List<Value>],
-    sides: &[usize],
-    state: &mut State,
-    places: &[Place],
-    turn: u64,
-    loops: &[usize],
-) -> Result<Option<List<usize>>, NoMemory>
-    requires search { let net = net_of P.behaviour circuit.now in
-        IsSearch net boards.now ends.now items.now (among sides.now) state.old }
-    requires knot { IsKnot (net_of P.behaviour circuit.now) (among sides.now) }
-    requires sides { let net = net_of P.behaviour circuit.now in
-        (s : ℕ) → among sides.now s ≡ true → s < length (all_sides net.primitives) }
-    requires some_side { 0 < length sides.now }
-    requires places { (k : ℕ) (d : Spot) → k < length places.now
-        → among sides.now (side_of_place (slice_index_or places.now k d)) ≡ true }
-    requires loops { AreLoopsIn (net_of P.behaviour circuit.now) (among sides.now) loops.now }
-    requires left { let net = net_of P.behaviour circuit.now in
-        IsLeftOfAll net (names_of items.now) (among sides.now) state.old.alive }
-    ensures first { let net = net_of P.behaviour circuit.now in
-        IfOk result (λ found. IfSome found (IsLeastOf
-        (IsChosen net (names_of items.now) (among sides.now) (all_values (names_of items.now))) net
-        turn places.now)) }
-    ensures tables { let net = net_of P.behaviour circuit.now in
-        OnOk result (MayRestart net boards.now ends.now items.now state.new) }
-{
-    match walk(
-        alloc, circuit, boards, ends, items, sides, state, places, turn,
-    )? {
-        None => Ok(None),
-        Some(chosen) => {
-            let left = codes_of(alloc, &state.alive, loops)?;
-            if are_single(&left) {
-                Ok(Some(chosen))
-            } else {
-                Ok(None)
-            }
-        }
-    }
-}
-
-/// The numbers of the first assignment. It ticks once where a walk finds it, which makes one
-/// choice, and else once for each choice of what is left at the loop joints. `NoMemory` is out of
-/// memory.
+/// The numbers of the first assignment. It ticks at most once for each choice of what is left at
+/// the loop joints. `NoMemory` is out of memory.
 fn first_numbers<P: Primitive, L: Ledger>(
     alloc: Global,
     circuit: &Circuit<P>,
@@ -101,41 +48,22 @@ fn first_numbers<P: Primitive, L: Ledger>(
 ) -> Result<List<usize>, NoMemory>
     requires search { let net = net_of P.behaviour circuit.now in
         IsSearch net boards.now ends.now items.now (among sides.now) state.old }
-    requires knot { IsKnot (net_of P.behaviour circuit.now) (among sides.now) }
-    requires sides { let net = net_of P.behaviour circuit.now in
-        (s : ℕ) → among sides.now s ≡ true → s < length (all_sides net.primitives) }
-    requires some_side { 0 < length sides.now }
-    requires places { (k : ℕ) (d : Spot) → k < length places.now
-        → among sides.now (side_of_place (slice_index_or places.now k d)) ≡ true }
-    requires loops { AreLoopsIn (net_of P.behaviour circuit.now) (among sides.now) loops.now }
+    requires knot { AreOfKnot (net_of P.behaviour circuit.now) sides.now places.now loops.now }
     requires alive { let net = net_of P.behaviour circuit.now in
         IsLeftOfAll net (names_of items.now) (among sides.now) state.old.alive }
     requires left { length left.now ≡ length loops.now }
     requires cover { let net = net_of P.behaviour circuit.now in
         CoverAll net (names_of items.now) (among sides.now) loops.now left.now }
-    requires named { let net = net_of P.behaviour circuit.now in
-        AreNamed net (among sides.now) (names_of items.now) }
     ensures first { let net = net_of P.behaviour circuit.now in
         IfOk result (IsLeastOf (IsChosen net (names_of items.now) (among sides.now)
         (all_values (names_of items.now))) net turn places.now) }
     ensures tables { let net = net_of P.behaviour circuit.now in
         OnOk result (MayRestart net boards.now ends.now items.now state.new) }
     ensures ticks { steps.new ≤ steps.old + choices_of left.now }
-    ensures counts { OnOk result ((steps.new ≡ steps.old + 1)
-        ⊎ (steps.new ≡ steps.old + choices_of left.now)) }
 {
     circuit.known();
-    let found = first_by_walk(
-        alloc, circuit, boards, ends, items, sides, state, places, turn, loops,
-    )?;
-    if let Some(chosen) = found {
-        steps.tick();
-        return Ok(chosen);
-    }
-    let mut codes = List::new(alloc);
     match first_over(
-        alloc, circuit, boards, ends, items, sides, state, places, turn, loops, left, &mut codes,
-        steps,
+        alloc, circuit, boards, ends, items, sides, state, places, turn, loops, left, steps,
     )? {
         None => unreachable!(),
         Some(chosen) => Ok(chosen),

@@ -14,11 +14,11 @@ use Rattle.reo_rows.specs.Sets.{names_of}
 use Rattle.reo_propagate.specs.Queues.{among}
 use Rattle.reo_walk.specs.declared.place.Place.{Place}
 use Rattle.reo_walk.specs.Places.{places_in}
-use Rattle.reo_search.specs.Remaining.{AreLoopsIn, IsLeftOfAll, CoverAll, choices_of}
-use Rattle.reo_search.specs.Trying.{IsLeastOf}
+use Rattle.reo_choices.specs.Remaining.{AreLoopsIn, IsLeftOfAll, CoverAll, choices_of}
+use Rattle.reo_choices.specs.Trying.{IsLeastOf}
 use Rattle.reo_walk.proofs.Knotted.{AllOf, all_places}
 use Rattle.reo_walk.proofs.Listing.{real, listed_sides, among_same, knot_among, among_real, each_real, some}
-use Rattle.reo_search.proofs.Remains.{covers, weight_left}
+use Rattle.reo_choices.proofs.Remains.{covers, weight_left}
 use Rattle.reo_search.proofs.Named.{are_named}
 use Rattle.reo_search.proofs.Searched.{loops_those, loops_are_in, wide_set, narrow_set, narrow_joints, ticks_below, rows_in_tables, part_first, jam_exact}
 use Rattle.reo_search.proofs.searching.first_with.Goals as goal
@@ -105,81 +105,35 @@ places_of-requires g c =
 
 pub first_numbers-requires-clause-knot : goal.first_numbers-requires-clause-knot
 first_numbers-requires-clause-knot g c =
-    knot_among (net_of g.P.Primitive.behaviour c.args.circuit.now) c.args.knots.now c.args.knot c.sides-sides.result.now c.requires.knots c.requires.knot c.sides-sides.ensures
-
-pub first_numbers-requires-clause-sides : goal.first_numbers-requires-clause-sides
-first_numbers-requires-clause-sides g c =
-    among_real (net_of g.P.Primitive.behaviour c.args.circuit.now) c.args.knots.now c.args.knot c.sides-sides.result.now c.requires.knots c.requires.knot c.sides-sides.ensures
-
-pub first_numbers-requires-clause-some_side : goal.first_numbers-requires-clause-some_side
-first_numbers-requires-clause-some_side g c =
-    some (net_of g.P.Primitive.behaviour c.args.circuit.now) c.args.knots.now c.args.knot c.sides-sides.result.now c.requires.knots c.requires.knot c.sides-sides.ensures
-
-pub first_numbers-requires-clause-places : goal.first_numbers-requires-clause-places
-first_numbers-requires-clause-places g c =
     let net : Net = net_of g.P.Primitive.behaviour c.args.circuit.now in
-    let are : c.as_slice.result.now ≡ places_in net c.sides-sides.result.now = c.as_slice.ensures ∙ c.in_ok-places.ensures in
-    subst (AllOf c.sides-sides.result.now) (sym are) (all_places net c.sides-sides.result.now)
-
-pub first_numbers-requires-clause-loops : goal.first_numbers-requires-clause-loops
-first_numbers-requires-clause-loops g c =
-    let net : Net = net_of g.P.Primitive.behaviour c.args.circuit.now in
-    let wired = c.known.ensures.wired in
     let knots : Knotted = c.args.knots.now in
     let sides : List ℕ = c.sides-sides.result.now in
-    let inside : ℕ → Bool = in_knot knots.numbers c.args.knot in
-    let same : among sides ≡ inside = among_same net knots c.args.knot sides c.requires.knots c.requires.knot c.sides-sides.ensures in
-    let knot_in : IsKnot net inside = c.requires.knots.are_knots c.args.knot c.requires.knot in
+    let same : among sides ≡ in_knot knots.numbers c.args.knot = among_same net knots c.args.knot sides c.requires.knots c.requires.knot c.sides-sides.ensures in
     let loops : List ℕ = c.loop_joints-loops.result.now in
-    let those = loops_those net wired knots c.args.knot c.requires.knots c.requires.knot loops c.loop_joints-loops.ensures in
-    let loops_in : AreLoopsIn net inside loops = loops_are_in net inside loops those in
-    subst (λ (f : ℕ → Bool). AreLoopsIn net f loops) (sym same) loops_in
+    let those = loops_those net c.known.ensures.wired knots c.args.knot c.requires.knots c.requires.knot loops c.loop_joints-loops.ensures in
+    let places_are : c.as_slice.result.now ≡ places_in net sides = c.as_slice.ensures ∙ c.in_ok-places.ensures in
+    record {
+      knot = knot_among net knots c.args.knot sides c.requires.knots c.requires.knot c.sides-sides.ensures;
+      sides_are = among_real net knots c.args.knot sides c.requires.knots c.requires.knot c.sides-sides.ensures;
+      some_side = some net knots c.args.knot sides c.requires.knots c.requires.knot c.sides-sides.ensures;
+      places_are = subst (AllOf sides) (sym places_are) (all_places net sides);
+      loops_are = subst (λ (f : ℕ → Bool). AreLoopsIn net f loops) (sym same) (loops_are_in net (in_knot knots.numbers c.args.knot) loops those);
+    }
 
 pub first_numbers-requires-clause-cover : goal.first_numbers-requires-clause-cover
 first_numbers-requires-clause-cover g c =
     let net : Net = net_of g.P.Primitive.behaviour c.args.circuit.now in
-    let wired = c.known.ensures.wired in
     let knots : Knotted = c.args.knots.now in
     let sides : List ℕ = c.sides-sides.result.now in
     let inside : ℕ → Bool = in_knot knots.numbers c.args.knot in
     let same : among sides ≡ inside = among_same net knots c.args.knot sides c.requires.knots c.requires.knot c.sides-sides.ensures in
-    let knot_in : IsKnot net inside = c.requires.knots.are_knots c.args.knot c.requires.knot in
-    let supplied : Supplied = c.args.supply.now in
-    let told : TellsItems net inside supplied = parts_told net wired inside knot_in.closed supplied c.requires.reached in
-    let none : (j : ℕ) × IsJointIn net inside j × (is_wide supplied j ≡ true) → ⊥ =
-    λ h. (let wide : true ≡ false = sym (c.has_wide.ensures.1 (h.0, subst (λ (f : ℕ → Bool). IsJointIn net f h.0) (sym same) h.1, h.2)) ∙ c.if-has_wide.false in cc) in
-    let items : List (List Value) = c.lists-items.result.now in
-    let names : Names = names_of items in
-    let named : AreNamed net inside names =
-    subst (λ (xs : List (List Value)). AreNamed net inside (names_of xs)) (sym c.lists-items.ensures)
-    (are_named net inside supplied told (narrow_joints net inside supplied none) (λ j is. (c.requires.reached j is).distinct)) in
+    let names : Names = names_of c.lists-items.result.now in
     let loops : List ℕ = c.loop_joints-loops.result.now in
-    let those = loops_those net wired knots c.args.knot c.requires.knots c.requires.knot loops c.loop_joints-loops.ensures in
+    let those = loops_those net c.known.ensures.wired knots c.args.knot c.requires.knots c.requires.knot loops c.loop_joints-loops.ensures in
     let loops_in : AreLoopsIn net inside loops = loops_are_in net inside loops those in
     let left : List (List ℕ) = c.in_ok-left.left in
     let all : IsLeftOfAll net names inside c.narrow_all.new.state.alive = subst (λ (f : ℕ → Bool). IsLeftOfAll net names f c.narrow_all.new.state.alive) same c.in_ok-left.ensures.left in
-    let codes = c.in_ok-left.ensures.codes in
-    subst (λ (f : ℕ → Bool). CoverAll net names f loops left) (sym same) (covers net names inside c.narrow_all.new.state.alive all loops loops_in left codes)
-
-pub first_numbers-requires-clause-named : goal.first_numbers-requires-clause-named
-first_numbers-requires-clause-named g c =
-    let net : Net = net_of g.P.Primitive.behaviour c.args.circuit.now in
-    let wired = c.known.ensures.wired in
-    let knots : Knotted = c.args.knots.now in
-    let sides : List ℕ = c.sides-sides.result.now in
-    let inside : ℕ → Bool = in_knot knots.numbers c.args.knot in
-    let same : among sides ≡ inside = among_same net knots c.args.knot sides c.requires.knots c.requires.knot c.sides-sides.ensures in
-    let knot_in : IsKnot net inside = c.requires.knots.are_knots c.args.knot c.requires.knot in
-    let supplied : Supplied = c.args.supply.now in
-    let told : TellsItems net inside supplied = parts_told net wired inside knot_in.closed supplied c.requires.reached in
-    let none : (j : ℕ) × IsJointIn net inside j × (is_wide supplied j ≡ true) → ⊥ =
-    λ h. (let wide : true ≡ false = sym (c.has_wide.ensures.1 (h.0, subst (λ (f : ℕ → Bool). IsJointIn net f h.0) (sym same) h.1, h.2)) ∙ c.if-has_wide.false in cc) in
-    let items : List (List Value) = c.lists-items.result.now in
-    let names : Names = names_of items in
-    let named : AreNamed net inside names =
-    subst (λ (xs : List (List Value)). AreNamed net inside (names_of xs)) (sym c.lists-items.ensures)
-    (are_named net inside supplied told (narrow_joints net inside supplied none) (λ j is. (c.requires.reached j is).distinct)) in
-    subst (λ (f : ℕ → Bool). AreNamed net f names) (sym same) named
+    subst (λ (f : ℕ → Bool). CoverAll net names f loops left) (sym same) (covers net names inside c.narrow_all.new.state.alive all loops loops_in left c.in_ok-left.ensures.codes)
 
 pub returns-in_err-chosen-clause-ticks : goal.returns-in_err-chosen-clause-ticks
 returns-in_err-chosen-clause-ticks g c =

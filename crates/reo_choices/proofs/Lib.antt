@@ -1,0 +1,7 @@
+pub mod Counted
+pub mod Bettering
+pub mod Tried
+pub mod Remains
+pub mod Matched
+pub mod Keeping
+pub mod Singles
