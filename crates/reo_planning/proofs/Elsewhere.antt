@@ -8,15 +8,15 @@ use Rattle.reo_net_base.specs.Wired.{IsWired}
 use Rattle.reo_net_circuit.proofs.ReshapeLemmas.{first_same}
 use Rattle.reo_net_laws.specs.Alike.{SameSide, AreAlike}
 use Rattle.reo_net_laws.proofs.Isolation.{isolated}
-use Rattle.reo_net_laws.proofs.Sides.{side_at_place, side_in_range}
+use Rattle.reo_net_laws.proofs.Sides.{side_at_place}
 use Rattle.reo_knots.specs.Knots.{Knotted, AreKnots, in_knot, knot_count}
-use Rattle.reo_still.specs.Joining.{HasFirst}
 use Rattle.reo_still.specs.Still.{IsStill}
 use Rattle.reo_still.proofs.Rounds.{still_stay_first}
 use Rattle.reo_still.proofs.WithinLemmas.{alike_weigh}
 use Rattle.reo_planning.specs.declared.kept.Kept.{Kept}
 use Rattle.reo_planning.specs.Keeping.{is_settled, is_moving, FlowsIn, HasSizes, IsKnown, IsKept}
 use Rattle.reo_planning.specs.Unsettling.{AreFewer, IsElsewhere, KeptElsewhere, KeptLater}
+use Rattle.reo_planning.proofs.Flowing.{still_same}
 use Rattle.reo_planning.proofs.KnotSets.{number_is}
 use Rattle.reo_planning.proofs.Shapes.{count_same}
 
@@ -133,17 +133,6 @@ kept_elsewhere net other wired after knots are turn old new kept fewer is =
       known = λ k lt settled. known_there net other wired after knots are new is k lt settled new.budget turn new.rows (is_moving new k) (here.known k lt settled);
     }
 
--- Nothing flows by rows that are the same on a part.
-still_by : (net : Net) → IsWired net → (numbers : List ℕ) (k turn : ℕ) (rows : List ℕ) (has : HasFirst net numbers turn rows k) → IsStill net (in_knot numbers k) rows → IsStill net (in_knot numbers k) has.others
-still_by net wired numbers k turn rows has still e e_in h flows =
-    let place : ℕ = first_side net.primitives e.primitive + (behaviour_at net.primitives e.primitive).side_of e.end in
-    let s_in : side_at net e < side_count net = side_in_range net wired e e_in in
-    let same : get_or rows (side_at net e) 0 ≡ get_or has.others (side_at net e) 0 = has.same (side_at net e) s_in h in
-    let there : get_or rows place 0 ≡ get_or has.others place 0 = subst (λ (s : ℕ). get_or rows s 0 ≡ get_or has.others s 0) (side_at_place net e) same in
-    let marks : mark_at net rows e ≡ mark_at net has.others e =
-    mark_is net rows e ∙ ap (λ (row : ℕ). (behaviour_at net.primitives e.primitive).mark ((behaviour_at net.primitives e.primitive).side_of e.end) row e.end) there ∙ sym (mark_is net has.others e) in
-    still e e_in h (marks ∙ flows)
-
 pub kept_later : KeptLater
 kept_later net wired knots turn later old new kept unsettled =
     let here = kept_fewer net knots turn old new kept unsettled.fewer in
@@ -152,7 +141,7 @@ kept_later net wired knots turn later old new kept unsettled =
       known = λ k lt settled.
           let known = here.known k lt settled in
           let still = known.still (unsettled.still k settled) in
-          let others_still : IsStill net (in_knot knots.numbers k) known.first.others = still_by net wired knots.numbers k turn new.rows known.first still in
+          let others_still : IsStill net (in_knot knots.numbers k) known.first.others = still_same net wired (in_knot knots.numbers k) new.rows known.first.others (λ s s_in h. sym (known.first.same s s_in h)) still in
           record {
             within = known.within;
             first = record {

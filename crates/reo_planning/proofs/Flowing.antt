@@ -1,25 +1,29 @@
--- Parts in which nothing flows, by the joints.
-use Rattle.std.proofs.Common.{◌≡◌, ◌∙◌, inl, inr, ℕ, ◌+◌, ◌<◌, Bool, true, false, List, length, get_or, set, replicate, refl, ap, sym, subst, arith, get_or-set_other}
-use Rattle.std.proofs.lemmas.List.{length-set, length-replicate, get_or-replicate}
+-- Whether something flows in a part, by its joints or by rows that are the same there.
+use Rattle.std.proofs.Common.{◌≡◌, ◌≢◌, ◌∙◌, inl, inr, ℕ, ◌<◌, Bool, true, false, List, [], length, get_or, refl, ap, sym, subst}
+use Rattle.std.proofs.lemmas.List.{get_or_default}
 use Rattle.reo_net_base.specs.declared.mark.Mark.{Mark}
 use Rattle.reo_net_base.specs.declared.mark.Mark.TheVariants.{F, G, R, J}
 use Rattle.reo_net_base.specs.declared.joint.End.{End}
-use Rattle.reo_net_base.specs.declared.joint.Joint.{Joint}
-use Rattle.reo_net_base.specs.Marks.{marks_match}
-use Rattle.reo_net_base.specs.Net.{Net, mark_at, side_at}
+use Rattle.reo_net_base.specs.Behaviour.{Behaviour}
+use Rattle.reo_net_base.specs.Marks.{is_flow, marks_match}
+use Rattle.reo_net_base.specs.Net.{Net, behaviour_at, mark_at, row_at, side_at}
 use Rattle.reo_net_base.specs.Colouring.{RowsFit}
+use Rattle.reo_net_base.specs.Sides.{side_count}
 use Rattle.reo_net_base.specs.Wired.{IsWired, IsEnd}
-use Rattle.reo_net_circuit.proofs.Cases.{eq_cases}
+use Rattle.reo_net_laws.specs.Parts.{IsClosed}
 use Rattle.reo_net_laws.proofs.Joined.{joint_of}
 use Rattle.reo_net_laws.proofs.Sides.{side_in_range}
+use Rattle.reo_joint_values.specs.Standing.{no_joint, giver_of, taker_of}
 use Rattle.reo_knots.specs.Knots.{Knotted, AreKnots, in_knot, knot_count}
+use Rattle.reo_kept_tables.specs.Orders.{AreJointsOf, AreOrders}
+use Rattle.reo_kept_tables.proofs.Sorted.{orders_are_of_parts}
 use Rattle.reo_still.specs.Still.{IsStill}
-use Rattle.reo_planning.specs.Marked.{AllFlow, AreMarkedBelow, IsJointMarked, part_of_joint}
-use Rattle.reo_planning.proofs.KnotSets.{number_is, in_own}
-use Rattle.reo_planning.proofs.Setting.{not_both, true_or_false, set_still, set_here}
+use Rattle.reo_planning.specs.Keeping.{FlowsIn}
+use Rattle.reo_planning.specs.Marked.{TellsFlow}
+use Rattle.reo_planning.proofs.Setting.{not_both}
 
-no_joint : Joint
-no_joint = record { giver = record { primitive = 0; end = 0 }; taker = record { primitive = 0; end = 0 } }
+not_flow : (m : Mark) → is_flow m ≡ false → m ≢ F
+not_flow m h e = not_both (is_flow m) h (ap is_flow e)
 
 -- Where a taker flows its giver flows.
 giver_flows : (giver taker : Mark) → marks_match giver taker ≡ true → taker ≡ F → giver ≡ F
@@ -37,61 +41,60 @@ giver_flows J G m e = absurd cc
 giver_flows J R m e = absurd cc
 giver_flows J J m e = absurd cc
 
--- The joints so far and one more are marked.
-pub marked_more : (net : Net) (knots : Knotted) (rows : List ℕ) (n : ℕ) (old new : List Bool) → AreMarkedBelow net knots rows n old → IsJointMarked net knots rows n old new → AreMarkedBelow net knots rows (n + 1) new
-marked_more net knots rows n old new far more j d lt flows = elim (eq_cases j n) [
-  | inl e ↦ subst (λ (m : ℕ). mark_at net rows (get_or net.joints m d).giver ≡ F → get_or new (part_of_joint net knots (get_or net.joints m d)) true ≡ true) (sym e) (more.here d) flows
-  | inr ne ↦ more.more (get_or knots.numbers (side_at net (get_or net.joints j d).giver) 0) (far j d (omega arith) flows)
-]
+-- The joints of a part are its list's.
+pub joints_of_part : (net : Net) → IsWired net → (knots : Knotted) → AreKnots net knots → (orders : List (List ℕ)) → AreOrders net knots orders → (k : ℕ) → k < knot_count knots
+    → (joints place : List ℕ) → joints ≡ place → place ≡ get_or orders k place → AreJointsOf net (in_knot knots.numbers k) joints
+joints_of_part net wired knots are orders order k lt joints place is at =
+    let k_in : k < length orders = subst (λ (n : ℕ). k < n) (sym order.one_each) lt in
+    subst (AreJointsOf net (in_knot knots.numbers k)) (sym (is ∙ at ∙ get_or_default orders k place [] k_in)) (orders_are_of_parts net wired knots are orders order k lt)
 
--- Nothing flows in a part that is not marked.
-pub nothing_flows : (net : Net) → IsWired net → (knots : Knotted) → AreKnots net knots → (rows : List ℕ) → RowsFit net rows → (n : ℕ) → length net.joints ≡ n → (marks : List Bool) → AreMarkedBelow net knots rows n marks
-    → (k : ℕ) → get_or marks k true ≡ false → IsStill net (in_knot knots.numbers k) rows
-nothing_flows net wired knots are rows fit n all marks marked k not e e_in h flows =
-    let at = joint_of net wired e e_in in
-    let j : ℕ = at.0 in
-    let joint : Joint = get_or net.joints j no_joint in
-    let lt : j < length net.joints = at.1 in
-    let giver_in = side_in_range net wired joint.giver (wired.givers j no_joint lt) in
-    let taker_in = side_in_range net wired joint.taker (wired.takers j no_joint lt) in
-    let linked : get_or knots.numbers (side_at net joint.giver) 0 ≡ get_or knots.numbers (side_at net joint.taker) 0 =
-    (are.numbered.same (side_at net joint.giver) (side_at net joint.taker) giver_in taker_in).1 (λ inside closed. closed.along j no_joint lt) in
-    let here : get_or knots.numbers (side_at net e) 0 ≡ k = number_is knots.numbers k (side_at net e) h in
-    let wrong : get_or knots.numbers (side_at net joint.giver) 0 ≡ k → mark_at net rows joint.giver ≡ F → ⊥ =
-    λ is flow. not_both (get_or marks k true) not (ap (λ (m : ℕ). get_or marks m true) (sym is) ∙ marked j no_joint (omega (arith, lt)) flow) in
-    elim (at.2 no_joint) [
-      | inl g ↦ wrong (ap (λ (x : End). get_or knots.numbers (side_at net x) 0) g ∙ here) (ap (mark_at net rows) g ∙ flows)
-      | inr t ↦ wrong (linked ∙ ap (λ (x : End). get_or knots.numbers (side_at net x) 0) t ∙ here)
-          (giver_flows (mark_at net rows joint.giver) (mark_at net rows joint.taker) (fit.matched j no_joint lt) (ap (mark_at net rows) t ∙ flows))
-    ]
+-- By the joints of a set.
+module _ (net : Net) (wired : IsWired net) (inside : ℕ → Bool) (joints : List ℕ) (are : AreJointsOf net inside joints) (rows : List ℕ) where
+  -- Whether the joint at a place flows.
+  abbrev pub flows_at : ℕ → Bool
+  flows_at m = is_flow (mark_at net rows (giver_of net (get_or joints m 0)))
 
--- Something flows in each part that is marked, once one more joint is looked at.
-pub flow_more : (net : Net) (knots : Knotted) (rows : List ℕ) (n : ℕ) (old new : List Bool) → AllFlow net knots rows old → IsJointMarked net knots rows n old new → AllFlow net knots rows new
-flow_more net knots rows n old new far more k lt set = elim (true_or_false (get_or old k true)) [
-  | inl was ↦ far k (let count = more.one_each in omega (arith, count)) was
-  | inr not ↦ more.only k not set
-]
+  -- Nothing flows where none of them does.
+  pub none_flow : IsClosed net inside → RowsFit net rows → ((m : ℕ) → m < length joints → flows_at m ≡ false) → TellsFlow net inside rows false
+  none_flow closed fit none = record { still = λ _. still; flows = λ e. absurd (not_both false refl e) }
+    where
+      giver_not : (j : ℕ) → j < length net.joints → inside (side_at net (giver_of net j)) ≡ true → mark_at net rows (giver_of net j) ≢ F
+      giver_not j lt here =
+          let place = (are.exact j).1 (lt, here) in
+          let is : get_or joints place.0 0 ≡ j = get_or_default joints place.0 0 j place.1 ∙ place.2 in
+          not_flow (mark_at net rows (giver_of net j)) (subst (λ (i : ℕ). is_flow (mark_at net rows (giver_of net i)) ≡ false) is (none place.0 place.1))
 
--- No part is marked yet.
-pub flow_none : (net : Net) (knots : Knotted) (rows : List ℕ) (count : ℕ) (marks : List Bool) → marks ≡ replicate count false → AllFlow net knots rows marks
-flow_none net knots rows count marks is k lt set =
-    let n : length marks ≡ count = ap length is ∙ length-replicate count false in
-    absurd (not_both (get_or marks k true) (ap (λ (xs : List Bool). get_or xs k true) is ∙ get_or-replicate count k false true (omega (arith, n))) set)
+      still : IsStill net inside rows
+      still e e_in h flows =
+          let at = joint_of net wired e e_in in
+          let j : ℕ = at.0 in
+          let inside_of : End → Bool = λ x. inside (side_at net x) in
+          elim (at.2 no_joint) [
+            | inl g ↦ giver_not j at.1 (ap inside_of g ∙ h) (ap (mark_at net rows) g ∙ flows)
+            | inr t ↦ giver_not j at.1 (closed.along j no_joint at.1 ∙ ap inside_of t ∙ h)
+                (giver_flows (mark_at net rows (giver_of net j)) (mark_at net rows (taker_of net j)) (fit.matched j no_joint at.1) (ap (mark_at net rows) t ∙ flows))
+          ]
 
--- The part of a joint that flows is marked.
-pub joint_marked : (net : Net) → IsWired net → (knots : Knotted) → AreKnots net knots → (rows : List ℕ) (j : ℕ) (joint : Joint) → j < length net.joints → ((d : Joint) → get_or net.joints j d ≡ joint)
-    → mark_at net rows joint.giver ≡ F → (old : List Bool) → length old ≡ knot_count knots → (part : ℕ) → part ≡ part_of_joint net knots joint → IsJointMarked net knots rows j old (set old part true)
-joint_marked net wired knots are rows j joint lt is flows old one_each part same =
-    let giver : End = joint.giver in
-    let e_in : IsEnd net.primitives giver = subst (λ (x : Joint). IsEnd net.primitives x.giver) (is no_joint) (wired.givers j no_joint lt) in
-    let s_in = side_in_range net wired giver e_in in
-    let below = are.numbered.in_range (side_at net giver) s_in in
-    record {
-      one_each = length-set old part true;
-      more = λ k h. set_still old part k h;
-      here = λ d flow. ap (λ (k : ℕ). get_or (set old part true) k true) (ap (part_of_joint net knots) (is d) ∙ sym same) ∙ set_here old part (omega (arith, one_each, below, same));
-      only = λ k not now. elim (eq_cases k part) [
-        | inl e ↦ record { end = giver; is_end = e_in; here = in_own net knots.numbers (knot_count knots) are.numbered (side_at net giver) k s_in (sym same ∙ sym e); flows = flows }
-        | inr ne ↦ absurd (not_both (get_or old k true) not (sym (get_or-set_other old part k true true ne) ∙ now))
-      ];
-    }
+-- The mark of an end by the row of its side.
+mark_by : (net : Net) (rows : List ℕ) (e : End)
+    → mark_at net rows e ≡ (behaviour_at net.primitives e.primitive).mark ((behaviour_at net.primitives e.primitive).side_of e.end) (get_or rows (side_at net e) 0) e.end
+unfolding mark_at row_at
+mark_by net rows e = ap (mark_at net rows) (λ i. e)
+
+-- By rows that are the same in a set.
+module _ (net : Net) (wired : IsWired net) (inside : ℕ → Bool) (rows others : List ℕ) (same : (s : ℕ) → s < side_count net → inside s ≡ true → get_or others s 0 ≡ get_or rows s 0) where
+  mark_same : (e : End) → IsEnd net.primitives e → inside (side_at net e) ≡ true → mark_at net others e ≡ mark_at net rows e
+  mark_same e e_in h =
+      let b : Behaviour = behaviour_at net.primitives e.primitive in
+      mark_by net others e ∙ ap (λ (r : ℕ). b.mark (b.side_of e.end) r e.end) (same (side_at net e) (side_in_range net wired e e_in) h) ∙ sym (mark_by net rows e)
+
+  pub still_same : IsStill net inside rows → IsStill net inside others
+  still_same still e e_in h flows = still e e_in h (sym (mark_same e e_in h) ∙ flows)
+
+  pub told_same : (flag : Bool) → TellsFlow net inside rows flag → TellsFlow net inside others flag
+  told_same flag told = record {
+    still = λ e. still_same (told.still e);
+    flows = λ e.
+        let flow : FlowsIn net inside rows = told.flows e in
+        record { end = flow.end; is_end = flow.is_end; here = flow.here; flows = mark_same flow.end flow.is_end flow.here ∙ flow.flows };
+  }

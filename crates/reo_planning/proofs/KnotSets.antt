@@ -7,14 +7,11 @@ use Rattle.reo_net_base.specs.Sides.{side_count}
 use Rattle.reo_net_laws.specs.Parts.{SameKnot}
 use Rattle.reo_net_laws.proofs.Sets.{and_left, and_right}
 use Rattle.reo_knots.specs.Knots.{AreNumbers, in_knot}
-use Rattle.std.proofs.lemmas.Bool.{and_from as both, false_from_ne_true as not_true}
-use Rattle.reo_joint_values.proofs.Equal.{eq_same as eq_true, same_eq as true_eq}
+use Rattle.std.proofs.lemmas.Bool.{false_from_ne_true as not_true}
+use Rattle.reo_joint_values.proofs.Equal.{eq_same as eq_true}
 
 below_true : (a b : ℕ) → nat_lt a b ≡ true → a < b
 below_true a b h = grind (arith, nat_tests)
-
-true_below : (a b : ℕ) → a < b → nat_lt a b ≡ true
-true_below a b h = grind (arith, nat_tests)
 
 -- A side of a part has its number.
 pub number_is : (numbers : List ℕ) (k s : ℕ) → in_knot numbers k s ≡ true → get_or numbers s 0 ≡ k
@@ -31,9 +28,3 @@ module _ (net : Net) (numbers : List ℕ) (count : ℕ) (are : AreNumbers (SameK
       let lt = below_true s (length numbers) (and_left (nat_lt s (length numbers)) (get_or numbers s 0 == k) h) in
       let n = are.one_each in
       omega (arith, lt, n)
-
-  -- A side is in its own part.
-  pub in_own : (s k : ℕ) → s < side_count net → get_or numbers s 0 ≡ k → in_knot numbers k s ≡ true
-  in_own s k lt is =
-      let n = are.one_each in
-      both (nat_lt s (length numbers)) (get_or numbers s 0 == k) (true_below s (length numbers) (omega (arith, n))) (true_eq (get_or numbers s 0) k is)

@@ -6,5 +6,6 @@ pub mod Firsts
 pub mod Flowing
 pub mod Passing
 pub mod Setting
+pub mod Storing
 pub mod Summing
 pub mod Writing

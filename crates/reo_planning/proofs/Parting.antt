@@ -1,8 +1,7 @@
 -- One part more has the rows of its first assignment.
-use Rattle.std.proofs.Common.{◌≡◌, ◌∙◌, inl, inr, ℕ, ◌+◌, ◌<◌, ◌≤◌, ◌≢◌, Bool, true, false, List, length, get_or, replicate, refl, ap, sym, subst, arith}
+use Rattle.std.proofs.Common.{◌≡◌, ◌∙◌, inl, inr, ℕ, ◌+◌, ◌<◌, ◌≤◌, ◌≢◌, Bool, true, List, length, get_or, refl, ap, sym, subst, arith}
 use Rattle.std.specs.Prelude.{nat_le}
 use Rattle.std.proofs.lemmas.Bool.Decides.{nat_tests}
-use Rattle.std.proofs.lemmas.List.{get_or-replicate}
 use Rattle.reo_net_base.specs.Net.{Net}
 use Rattle.reo_net_base.specs.Sides.{side_count}
 use Rattle.reo_net_circuit.proofs.Cases.{eq_cases}
@@ -26,7 +25,6 @@ use Rattle.reo_planning.specs.Keeping.{is_settled, serves, AllServe, IsKept}
 use Rattle.reo_planning.specs.Planned.{ArePlanned, IsPartPlanned}
 use Rattle.reo_planning.specs.Written.{AreWritten}
 use Rattle.reo_planning.proofs.KnotSets.{below, elsewhere}
-use Rattle.std.proofs.lemmas.Bool.{and_from as both_true}
 
 -- More is within a greater budget.
 within_more : (less more : ℕ) (net : Net) (inside : ℕ → Bool) → less ≤ more → IsWithin less net inside → IsWithin more net inside
@@ -165,13 +163,3 @@ all_served budget net knots are turn kept is all rows same =
       within = λ k lt. (part k lt).within;
       firsts = λ k lt. (part k lt).first;
     }
-
--- A test that is true for what serves itself.
-self_le : (n : ℕ) → nat_le n n ≡ true
-self_le n = grind (arith, nat_tests)
-
--- Where all parts are settled, all serve for the budget.
-pub all_settled : (kept : Kept) (budget count n : ℕ) → kept.budget ≡ budget → kept.settled ≡ replicate n true → n ≡ count → AllServe count budget kept
-all_settled kept budget count n is all same k lt =
-    both_true (nat_le kept.budget budget) (is_settled kept k) (subst (λ (b : ℕ). nat_le b budget ≡ true) (sym is) (self_le budget))
-    (ap (λ (xs : List Bool). get_or xs k false) all ∙ get_or-replicate n k true false (omega arith))

@@ -1,17 +1,8 @@
 -- Flags that are set or cleared.
-use Rattle.std.proofs.Common.{◌≡◌, ◌∙◌, ◌⊎◌, inl, inr, ℕ, zero, suc, ◌+◌, ◌<◌, Bool, true, false, List, [], ◌∷◌, ◌++◌, length, get_or, set, drop, replicate, refl, ap, arith, add-one, get_or-set_same}
+use Rattle.std.proofs.Common.{◌≡◌, ◌∙◌, ◌⊎◌, inl, inr, ℕ, zero, suc, ◌<◌, Bool, true, false, List, [], ◌∷◌, length, get_or, set, refl, get_or-set_same}
 use Rattle.std.proofs.lemmas.List.{length-set}
 use Rattle.reo_planning.specs.declared.kept.Kept.{Kept}
 use Rattle.reo_planning.specs.Unsettling.{AreFewer}
-
--- One flag more has its value.
-pub filled_more : (before now : List Bool) (value : Bool) (n : ℕ) → n < length before → now ≡ replicate n value ++ drop n before → set now n value ≡ replicate (n + 1) value ++ drop (n + 1) before
-filled_more before now value n lt is = ap (λ ms. set ms n value) is ∙ rw add-one (more before n lt)
-  where
-    more : (xs : List Bool) (k : ℕ) → k < length xs → set (replicate k value ++ drop k xs) k value ≡ replicate (suc k) value ++ drop (suc k) xs
-    more [] k lt = absurd (omega arith)
-    more (x ∷ xs) zero lt = refl
-    more (x ∷ xs) (suc k) lt = ap (λ ms. value ∷ ms) (more xs k (omega arith))
 
 -- A flag that is clear stays clear when another is cleared.
 pub clear_still : (flags : List Bool) (i k : ℕ) → get_or flags k false ≡ false → get_or (set flags i false) k false ≡ false
@@ -37,14 +28,6 @@ set_before flags i k h = elim (true_or_false (get_or flags k false)) [
   | inl yes_ ↦ yes_
   | inr not ↦ absurd (not_both (get_or (set flags i false) k false) (clear_still flags i k not) h)
 ]
-
--- A flag that is set stays set when another is set.
-pub set_still : (flags : List Bool) (i k : ℕ) → get_or flags k true ≡ true → get_or (set flags i true) k true ≡ true
-set_still [] i k h = h
-set_still (f ∷ fs) zero zero h = refl
-set_still (f ∷ fs) zero (suc k) h = h
-set_still (f ∷ fs) (suc i) zero h = h
-set_still (f ∷ fs) (suc i) (suc k) h = set_still fs i k h
 
 -- Nothing has changed.
 pub fewer_none : (kept : Kept) → AreFewer kept kept
@@ -74,7 +57,3 @@ module _ (old now : Kept) (part : ℕ) (fewer : AreFewer old now) where
 -- That part is not settled.
 pub cleared_here : (flags : List Bool) (i : ℕ) → i < length flags → get_or (set flags i false) i false ≡ false
 cleared_here flags i lt = get_or-set_same flags i false false lt
-
--- That flag is set.
-pub set_here : (flags : List Bool) (i : ℕ) → i < length flags → get_or (set flags i true) i true ≡ true
-set_here flags i lt = get_or-set_same flags i true true lt

@@ -1,33 +1,24 @@
--- Marks of the parts in which something flows.
-use Rattle.std.specs.Prelude.{ℕ, ◌<◌, ◌≡◌, Bool, true, false, List, length, slice_index, slice_index_or}
-use Rattle.reo_net_base.specs.declared.mark.Mark.TheVariants.{F}
-use Rattle.reo_net_base.specs.declared.joint.Joint.{Joint}
-use Rattle.reo_net_base.specs.Net.{Net, mark_at, side_at}
+-- Flags that tell in which parts something flows.
+use Rattle.std.specs.Prelude.{ℕ, ◌<◌, ◌≤◌, ◌≡◌, Bool, true, false, List, length}
+use Rattle.reo_net_base.specs.Net.{Net}
 use Rattle.reo_knots.specs.Knots.{Knotted, in_knot}
-use Rattle.reo_planning.specs.Keeping.{FlowsIn}
+use Rattle.reo_still.specs.Still.{IsStill}
+use Rattle.reo_planning.specs.declared.kept.Kept.{Kept}
+use Rattle.reo_planning.specs.Keeping.{FlowsIn, is_settled, is_moving}
 
--- The part of a joint.
-abbrev pub part_of_joint : Net → Knotted → Joint → ℕ
-part_of_joint net knots joint = slice_index knots.numbers (side_at net joint.giver)
+-- A flag tells whether something flows in a set of sides.
+pub record TellsFlow (net : Net) (inside : ℕ → Bool) (rows : List ℕ) (flag : Bool) : Type 0 where
+  pub still : flag ≡ false → IsStill net inside rows
+  pub flows : flag ≡ true → FlowsIn net inside rows
 
--- The part of each of the first n joints that flow is marked.
-abbrev pub AreMarkedBelow : Net → Knotted → List ℕ → ℕ → List Bool → Type 0
-AreMarkedBelow net knots rows n marks = (j : ℕ) (d : Joint) → j < n
-    → mark_at net rows (slice_index_or net.joints j d).giver ≡ F
-    → slice_index_or marks (part_of_joint net knots (slice_index_or net.joints j d)) true ≡ true
-
--- Something flows in each of the parts that is marked.
-abbrev pub AllFlow : Net → Knotted → List ℕ → List Bool → Type 0
-AllFlow net knots rows marks = (k : ℕ) → k < length marks → slice_index_or marks k true ≡ true
-    → FlowsIn net (in_knot knots.numbers k) rows
-
--- The part of a joint is marked if it flows, each mark that was set stays set, and something flows
--- in a part that is marked now and was not.
-pub record IsJointMarked (net : Net) (knots : Knotted) (rows : List ℕ) (j : ℕ)
-    (old new : List Bool) : Type 0 where
-  pub one_each : length new ≡ length old
-  pub more : (k : ℕ) → slice_index_or old k true ≡ true → slice_index_or new k true ≡ true
-  pub here : (d : Joint) → mark_at net rows (slice_index_or net.joints j d).giver ≡ F
-      → slice_index_or new (part_of_joint net knots (slice_index_or net.joints j d)) true ≡ true
-  pub only : (k : ℕ) → slice_index_or old k true ≡ false → slice_index_or new k true ≡ true
-      → FlowsIn net (in_knot knots.numbers k) rows
+-- The first n parts are settled. Those that were settled have the flags that they had, and the
+-- flags of the others among these tell whether something flows there by some rows.
+pub record AreMarked (net : Net) (knots : Knotted) (rows : List ℕ) (n : ℕ) (old new : Kept)
+    : Type 0 where
+  pub one_each : length new.settled ≡ length old.settled
+  pub one_mark : length new.moving ≡ length old.moving
+  pub settled : (k : ℕ) → k < n → is_settled new k ≡ true
+  pub rest : (k : ℕ) → n ≤ k → is_settled new k ≡ is_settled old k
+  pub stay : (k : ℕ) → is_settled old k ≡ true → is_moving new k ≡ is_moving old k
+  pub told : (k : ℕ) → k < n → is_settled old k ≡ false
+      → TellsFlow net (in_knot knots.numbers k) rows (is_moving new k)

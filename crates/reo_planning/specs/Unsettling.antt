@@ -1,8 +1,9 @@
 -- Parts that are not settled any more, and what is kept of the others.
-use Rattle.std.specs.Prelude.{ℕ, ◌+◌, ◌<◌, ◌≡◌, ◌≢◌, true, false, Bool, List, length, slice_index, slice_index_or}
+use Rattle.std.specs.Prelude.{ℕ, ◌+◌, ◌<◌, ◌≡◌, ◌≢◌, ◌⊎◌, ◌↔◌, true, false, Bool, IsTrue, List, length, slice_index, slice_index_or}
 use Rattle.reo_net_base.specs.Net.{Net, behaviour_at, first_side}
 use Rattle.reo_net_base.specs.Shapes.{SameShapes}
 use Rattle.reo_net_base.specs.Wired.{IsWired}
+use Rattle.reo_joint_values.specs.Standing.{giver_of, taker_of}
 use Rattle.reo_knots.specs.Knots.{Knotted, AreKnots}
 use Rattle.reo_planning.specs.declared.kept.Kept.{Kept}
 use Rattle.reo_planning.specs.Keeping.{is_settled, is_moving, IsKept}
@@ -53,6 +54,19 @@ pub record AreMarkedUnsettled (net : Net) (knots : Knotted) (marks : List Bool) 
       → AreUnsettled net knots i (behaviour_at net.primitives i).sides new
   pub stay : (k : ℕ) → AreApart net knots marks n k → is_settled old k ≡ true
       → is_settled new k ≡ true
+
+-- Some of the first n of some joints has an end at a primitive.
+pub record IsAtJoint (net : Net) (joints : List ℕ) (n i : ℕ) : Type 0 where
+  pub place : ℕ
+  pub before : place < n
+  pub here : ((giver_of net (slice_index joints place)).primitive ≡ i)
+      ⊎ ((taker_of net (slice_index joints place)).primitive ≡ i)
+
+-- Exactly the primitives at the ends of some joints are marked.
+pub record AreEndsMarked (net : Net) (joints : List ℕ) (marks : List Bool) : Type 0 where
+  pub one_each : length marks ≡ length net.primitives
+  pub each : (i : ℕ) → i < length net.primitives
+      → IsTrue (slice_index_or marks i false) ↔ IsAtJoint net joints (length joints) i
 
 -- The parts that may move are not settled any more, and the others that were settled still are.
 pub record AreMovingUnsettled (old new : Kept) : Type 0 where

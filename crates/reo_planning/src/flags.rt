@@ -1,5 +1,5 @@
 //! Lists of flags.
-ghost use Rattle.std.specs.Prelude.{◌≡◌, IfOk, length, replicate};
+ghost use Rattle.std.specs.Prelude.{◌≡◌, IfOk, replicate};
 
 use reo_values::{List, NoMemory};
 use std::alloc::Global;
@@ -11,14 +11,5 @@ pub(crate) fn flags(alloc: Global, count: usize, value: bool) -> Result<List<boo
     match vec![in alloc; value; count] {
         Ok(made) => Ok(List::from_vec(made)),
         Err(_) => Err(NoMemory),
-    }
-}
-
-/// Gives all flags this value.
-pub(crate) fn set_all(flags: &mut List<bool>, value: bool)
-    ensures { flags.new ≡ replicate (length flags.old) value }
-{
-    for index in 0..flags.len() {
-        *flags.at_mut(index) = value;
     }
 }

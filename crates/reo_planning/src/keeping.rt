@@ -1,44 +1,76 @@
 //! Keeping rows that were planned, and parts that are settled no longer.
-ghost use Rattle.std.specs.Prelude.{◌≡◌, ◌<◌, ℕ, length};
+ghost use Rattle.std.specs.Prelude.{◌≡◌, ◌<◌, ℕ, Bool, List as Listed, length, slice_index};
 ghost use Rattle.reo_net_base.specs.Net.{net_of};
 ghost use Rattle.reo_net_base.specs.Sides.{side_count};
 ghost use Rattle.reo_net_base.specs.Colouring.{RowsFit};
 ghost use Rattle.reo_knots.specs.Knots.{AreKnots, knot_count};
+ghost use Rattle.reo_kept_tables.specs.Orders.{AreOrders};
 ghost use Rattle.reo_planning.specs.Keeping.{AllServe, HasSizes, IsKept};
+ghost use Rattle.reo_planning.specs.Marked.{AreMarked};
 ghost use Rattle.reo_planning.specs.Planned.{ArePlanned};
-ghost use Rattle.reo_planning.specs.Unsettling.{IsUnsettled, AreMarkedUnsettled, AreMovingUnsettled};
+ghost use Rattle.reo_planning.specs.Unsettling.{IsUnsettled, AreEndsMarked, AreMarkedUnsettled, AreMovingUnsettled};
 
-use crate::flags::set_all;
 use crate::kept::Kept;
-use crate::moving::mark_moving;
+use crate::moving::some_flows;
 use reo_knots::Knots;
 use reo_net_base::Primitive;
 use reo_net_circuit::Circuit;
 use reo_values::List;
+use std::mem::replace;
 
 impl Kept {
-    /// Keeps rows that were planned: all parts are settled, within the budget of the plan. This
-    /// takes no memory.
-    pub fn store<P: Primitive>(
+    /// Marks the parts that are not settled by rows that fit, and then all parts are settled.
+    fn mark_rest<P: Primitive>(
         &mut self,
         circuit: &Circuit<P>,
         knots: &Knots,
-        rows: List<u32>,
-        budget: u64,
+        orders: &List<List<usize>>,
+        rows: &[u32],
     )
         requires knots { AreKnots (net_of P.behaviour circuit.now) knots.now }
         requires sizes { let sides = side_count (net_of P.behaviour circuit.now) in
             HasSizes sides (knot_count knots.now) self.old }
+        requires orders { AreOrders (net_of P.behaviour circuit.now) knots.now orders.now }
+        requires rows { RowsFit (net_of P.behaviour circuit.now) rows.now }
+        ensures { let net = net_of P.behaviour circuit.now in
+            AreMarked net knots.now rows.now (knot_count knots.now) self.old self.new }
+    {
+        circuit.known();
+        for part in 0..knots.count() {
+            if !self.is_settled(part) {
+                let joints = orders.at(part).as_slice();
+                *self.moving.at_mut(part) = some_flows(circuit, rows, joints);
+                *self.settled.at_mut(part) = true;
+            }
+        }
+    }
+
+    /// Keeps rows that were planned: all parts are settled, within the budget of the plan. The list
+    /// of those that were kept before is handed back. Marks are looked at only in parts that were
+    /// not settled. This takes no memory.
+    pub fn store<P: Primitive>(
+        &mut self,
+        circuit: &Circuit<P>,
+        knots: &Knots,
+        orders: &List<List<usize>>,
+        rows: List<u32>,
+        budget: u64,
+    ) -> List<u32>
+        requires knots { AreKnots (net_of P.behaviour circuit.now) knots.now }
+        requires sizes { let sides = side_count (net_of P.behaviour circuit.now) in
+            HasSizes sides (knot_count knots.now) self.old }
+        requires orders { AreOrders (net_of P.behaviour circuit.now) knots.now orders.now }
         requires rows { RowsFit (net_of P.behaviour circuit.now) rows }
         ensures kept { let net = net_of P.behaviour circuit.now in
-            (turn : ℕ) → ArePlanned budget net knots.now turn (knot_count knots.now) rows
+            (turn : ℕ) → IsKept net knots.now turn self.old
+            → ArePlanned budget net knots.now turn (knot_count knots.now) rows
             → IsKept net knots.now turn self.new }
         ensures settled { AllServe (knot_count knots.now) budget self.new }
     {
-        mark_moving(circuit, knots, rows.as_slice(), &mut self.moving);
-        set_all(&mut self.settled, true);
-        self.rows = rows;
+        circuit.known();
+        self.mark_rest(circuit, knots, orders, rows.as_slice());
         self.budget = budget;
+        replace(&mut self.rows, rows)
     }
 
     /// The parts of the sides of a primitive are not settled any more, and all others are as they
@@ -76,6 +108,30 @@ impl Kept {
             if marks[primitive] {
                 self.unsettle(circuit, knots, primitive);
             }
+        }
+    }
+
+    /// The parts of the sides of the primitives at both ends of these joints are not settled any
+    /// more. It goes through no other primitives. This takes no memory.
+    pub fn unsettle_joints<P: Primitive>(
+        &mut self,
+        circuit: &Circuit<P>,
+        knots: &Knots,
+        joints: &[usize],
+    )
+        requires knots { AreKnots (net_of P.behaviour circuit.now) knots.now }
+        requires one_each { length self.old.settled ≡ knot_count knots.now }
+        requires joints { (m : ℕ) → m < length joints.now
+            → slice_index joints.now m < length circuit.now.joints }
+        ensures { let net = net_of P.behaviour circuit.now in
+            (marks : Listed Bool) → AreEndsMarked net joints.now marks
+            → AreMarkedUnsettled net knots.now marks (length marks) self.old self.new }
+    {
+        circuit.known();
+        for index in 0..joints.len() {
+            let joint = circuit.joint(joints[index]);
+            self.unsettle(circuit, knots, joint.giver.primitive);
+            self.unsettle(circuit, knots, joint.taker.primitive);
         }
     }
 

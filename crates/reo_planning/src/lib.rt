@@ -16,5 +16,5 @@ pub use kept::Kept;
 pub use laws::{kept_elsewhere, kept_later, knots_stay, left_weighs_no_more};
 pub use parts::search_part;
 pub use planning::first_by_parts;
-pub use rows::{copied, put_rows};
+pub use rows::{put_rows, written_over};
 pub use tables::tables_of;

@@ -16,12 +16,24 @@ pub(crate) fn some_rows(alloc: Global, count: usize) -> Result<List<u32>, NoMemo
     }
 }
 
-/// A copy of rows. `NoMemory` is out of memory.
-pub fn copied(alloc: Global, rows: &[u32]) -> Result<List<u32>, NoMemory>
+/// A copy of rows, made as one block. `NoMemory` is out of memory.
+pub(crate) fn copied(alloc: Global, rows: &[u32]) -> Result<List<u32>, NoMemory>
     ensures { IfOk result (λ made. made ≡ rows.now) }
 {
-    match rows.iter().copied().collect(alloc) {
+    match Vec::from_slice(alloc, rows) {
         Ok(rows) => Ok(List::from_vec(rows)),
+        Err(_) => Err(NoMemory),
+    }
+}
+
+/// The rows, written over what a list has. `NoMemory` is out of memory.
+pub fn written_over(list: List<u32>, rows: &[u32]) -> Result<List<u32>, NoMemory>
+    ensures { IfOk result (λ made. made ≡ rows.now) }
+{
+    let mut made = list.into_vec();
+    made.clear();
+    match made.extend_from_slice(rows) {
+        Ok(()) => Ok(List::from_vec(made)),
         Err(_) => Err(NoMemory),
     }
 }

@@ -1,26 +1,12 @@
-use Rattle.std.proofs.Common.{◌≡◌, ◌∙◌, ℕ, List, true, false, ap, subst, length, get_or, arith}
-use Rattle.std.proofs.lemmas.List.{length-replicate}
+use Rattle.std.proofs.Common.{ℕ, List, subst}
 use Rattle.reo_net_base.specs.Net.{Net, net_of}
-use Rattle.reo_knots.specs.Knots.{in_knot}
-use Rattle.reo_still.specs.Still.{IsStill}
-use Rattle.reo_planning.specs.Keeping.{FlowsIn}
+use Rattle.reo_knots.specs.Knots.{knot_count}
+use Rattle.reo_planning.specs.Marked.{AreMarked}
+use Rattle.reo_planning.proofs.Storing.{kept_stored}
 use Rattle.reo_planning.proofs.kept.Kept.store.Goals as goal
 
 pub returns-clause-kept : goal.returns-clause-kept
-returns-clause-kept g c = λ turn planned.
+returns-clause-kept g c = λ turn was planned.
     let net : Net = net_of g.P.Primitive.behaviour c.args.circuit.now in
-    record {
-      sizes = record {
-        one_row = planned.one_row;
-        one_each = ap length c.set_all.ensures ∙ length-replicate (length c.args.self.now.settled) true ∙ c.requires.sizes.one_each;
-        one_mark = c.mark_moving.ensures.one_each ∙ c.requires.sizes.one_mark;
-      };
-      known = λ k lt settled. record {
-        within = planned.within k lt;
-        first = planned.firsts k lt;
-        still = subst (λ (xs : List ℕ). get_or c.mark_moving.new.moving k true ≡ false → IsStill net (in_knot c.args.knots.now.numbers k) xs) c.as_slice.ensures (c.mark_moving.ensures.still k lt);
-        flows = λ moves.
-            subst (λ (xs : List ℕ). FlowsIn net (in_knot c.args.knots.now.numbers k) xs) c.as_slice.ensures
-            (c.mark_moving.ensures.flow k (omega (arith, lt, c.mark_moving.ensures.one_each, c.requires.sizes.one_mark)) moves);
-      };
-    }
+    rw c.replace.ensures.after (kept_stored c.args.budget net c.known.ensures.wired c.args.knots.now c.requires.knots c.args.orders.now c.requires.orders turn c.args.rows c.args.self.now c.mark_rest.new.self was planned
+    (subst (λ (xs : List ℕ). AreMarked net c.args.knots.now xs (knot_count c.args.knots.now) c.args.self.now c.mark_rest.new.self) c.as_slice.ensures c.mark_rest.ensures))

@@ -1,0 +1,86 @@
+-- Parts that are marked when rows are stored.
+use Rattle.std.proofs.Common.{◌≡◌, ◌≢◌, ◌∙◌, inl, inr, ℕ, ◌+◌, ◌<◌, Bool, true, false, List, length, get_or, set, ap, sym, subst, arith, get_or-set_same, get_or-set_other}
+use Rattle.std.proofs.lemmas.List.{length-set}
+use Rattle.reo_net_base.specs.Net.{Net}
+use Rattle.reo_net_base.specs.Wired.{IsWired}
+use Rattle.reo_net_circuit.proofs.Cases.{eq_cases}
+use Rattle.reo_net_laws.proofs.OneFirst.{one_inside}
+use Rattle.reo_knots.specs.Knots.{Knotted, AreKnots, in_knot, knot_count}
+use Rattle.reo_kept_tables.specs.Orders.{AreOrders}
+use Rattle.reo_planning.specs.declared.kept.Kept.{Kept}
+use Rattle.reo_planning.specs.Keeping.{IsKept, is_settled, is_moving}
+use Rattle.reo_planning.specs.Marked.{AreMarked, TellsFlow}
+use Rattle.reo_planning.specs.Planned.{ArePlanned}
+use Rattle.reo_planning.proofs.Flowing.{told_same}
+use Rattle.reo_planning.proofs.Setting.{not_both, true_or_false}
+
+module _ (net : Net) (knots : Knotted) (rows : List ℕ) where
+  module _ (n : ℕ) (old now : Kept) (far : AreMarked net knots rows n old now) where
+    -- One part more, which is settled.
+    pub marked_as_was : is_settled now n ≡ true → AreMarked net knots rows (n + 1) old now
+    marked_as_was is = record {
+      one_each = far.one_each;
+      one_mark = far.one_mark;
+      settled = λ k lt. elim (eq_cases k n) [
+        | inl e ↦ ap (is_settled now) e ∙ is
+        | inr ne ↦ far.settled k (omega (arith, lt, ne))
+      ];
+      rest = λ k le. far.rest k (omega (arith, le));
+      stay = far.stay;
+      told = λ k lt not. elim (eq_cases k n) [
+        | inl e ↦ absurd (not_both (is_settled now n) (far.rest n (omega arith) ∙ ap (is_settled old) (sym e) ∙ not) is)
+        | inr ne ↦ far.told k (omega (arith, lt, ne)) not
+      ];
+    }
+
+    -- One part more, which is marked.
+    pub marked_more : (flag : Bool) → is_settled now n ≡ false → n < length now.settled → n < length now.moving → TellsFlow net (in_knot knots.numbers n) rows flag
+        → AreMarked net knots rows (n + 1) old (record now { settled = set now.settled n true; moving = set now.moving n flag })
+    marked_more flag is settled_in moving_in tells = record {
+      one_each = length-set now.settled n true ∙ far.one_each;
+      one_mark = length-set now.moving n flag ∙ far.one_mark;
+      settled = λ k lt. elim (eq_cases k n) [
+        | inl e ↦ ap (λ (i : ℕ). get_or (set now.settled n true) i false) e ∙ get_or-set_same now.settled n true false settled_in
+        | inr ne ↦ get_or-set_other now.settled n k true false ne ∙ far.settled k (omega (arith, lt, ne))
+      ];
+      rest = λ k le.
+          let ne : k ≢ n = omega (arith, le) in
+          get_or-set_other now.settled n k true false ne ∙ far.rest k (omega (arith, le));
+      stay = λ k was. elim (eq_cases k n) [
+        | inl e ↦ absurd (not_both (is_settled old k) (ap (is_settled old) e ∙ sym (far.rest n (omega arith)) ∙ is) was)
+        | inr ne ↦ get_or-set_other now.moving n k flag true ne ∙ far.stay k was
+      ];
+      told = λ k lt not. elim (eq_cases k n) [
+        | inl e ↦ subst (λ (i : ℕ). TellsFlow net (in_knot knots.numbers i) rows (get_or (set now.moving n flag) i true)) (sym e)
+            (subst (TellsFlow net (in_knot knots.numbers n) rows) (sym (get_or-set_same now.moving n flag true moving_in)) tells)
+        | inr ne ↦ subst (TellsFlow net (in_knot knots.numbers k) rows) (sym (get_or-set_other now.moving n k flag true ne)) (far.told k (omega (arith, lt, ne)) not)
+      ];
+    }
+
+-- Rows that are planned are kept where the parts that were not settled are marked by them.
+pub kept_stored : (budget : ℕ) (net : Net) → IsWired net → (knots : Knotted) → AreKnots net knots → (orders : List (List ℕ)) → AreOrders net knots orders → (turn : ℕ) (rows : List ℕ) (old new : Kept)
+    → IsKept net knots turn old → ArePlanned budget net knots turn (knot_count knots) rows → AreMarked net knots rows (knot_count knots) old new
+    → IsKept net knots turn (record new { rows = rows; budget = budget })
+kept_stored budget net wired knots are orders order turn rows old new was planned marked = record {
+  sizes = record { one_row = planned.one_row; one_each = marked.one_each ∙ was.sizes.one_each; one_mark = marked.one_mark ∙ was.sizes.one_mark };
+  known = λ k lt _.
+      let tells = told k lt in
+      record { within = planned.within k lt; first = planned.firsts k lt; still = tells.still; flows = tells.flows };
+}
+  where
+    -- The rows of a part that was settled are its first rows, as they were.
+    told_before : (k : ℕ) → k < knot_count knots → is_settled old k ≡ true → TellsFlow net (in_knot knots.numbers k) rows (is_moving old k)
+    told_before k lt yes_ =
+        let inside : ℕ → Bool = in_knot knots.numbers k in
+        let known = was.known k lt yes_ in
+        let before = known.first in
+        let now = planned.firsts k lt in
+        let one = one_inside net wired order.all order.is_order inside (are.are_knots k lt).closed turn before.others now.others before.items now.items before.first now.first in
+        told_same net wired inside old.rows rows (λ s s_in h. now.same s s_in h ∙ sym (one.rows s s_in h) ∙ sym (before.same s s_in h)) (is_moving old k)
+        (record { still = known.still; flows = known.flows })
+
+    told : (k : ℕ) → k < knot_count knots → TellsFlow net (in_knot knots.numbers k) rows (is_moving new k)
+    told k lt = elim (true_or_false (is_settled old k)) [
+      | inl yes_ ↦ subst (TellsFlow net (in_knot knots.numbers k) rows) (sym (marked.stay k yes_)) (told_before k lt yes_)
+      | inr not ↦ marked.told k lt not
+    ]
