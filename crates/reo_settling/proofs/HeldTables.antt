@@ -21,6 +21,8 @@ use Rattle.reo_net_base.specs.declared.joint.Joint.{Joint}
 use Rattle.reo_mark_search.specs.Found.{IsMarkSearch}
 use Rattle.reo_mark_search.specs.Spots.{spot_of}
 use Rattle.reo_mark_search.specs.declared.search.MarkSearch.{MarkSearch}
+use Rattle.reo_item_bounds.specs.Kept.{AreKeptBounds}
+use Rattle.reo_item_bounds.proofs.Noting.{kept_bounds_stay}
 use Rattle.reo_part_plans.specs.Remembered.{ArePlans}
 use Rattle.reo_part_plans.proofs.Recalled.{plans_stay}
 use Rattle.reo_settling.specs.declared.lookups.Lookups.{Lookups}
@@ -62,6 +64,7 @@ lookups_stay net other wired knots are old new fewer is lookups held = record {
   orders = orders_stay net other wired is.joints is.shapes knots lookups.orders held.orders;
   one_each = held.one_each;
   tables = tables_elsewhere net other wired knots are old new fewer is lookups.fresh lookups.tables held.tables;
+  bounds = kept_bounds_stay net other is.joints is.shapes lookups.bounds held.bounds;
   plans = plans_stay net other is.joints is.shapes knots lookups.plans held.plans;
   marks = marks_stay net other is.joints is.shapes lookups.marks held.marks;
 }
@@ -76,6 +79,7 @@ steady_is net knots kept lookups steady = record {
   orders = steady.orders;
   one_each = steady.one_each;
   tables = kept_tables net knots kept lookups.fresh lookups.tables steady.tables;
+  bounds = steady.bounds;
   plans = steady.plans;
   marks = steady.marks;
 }
@@ -94,6 +98,7 @@ forgotten_is net knots kept old new are is = record {
   orders = subst (AreOrders net knots) (sym is.orders) are.orders;
   one_each = is.one_each ∙ are.one_each;
   tables = subst (MayBeFresh net knots new.fresh) (sym is.tables) (fresh_tables net knots kept old.fresh new.fresh (is.one_each ∙ are.one_each) is.fewer old.tables are.tables);
+  bounds = subst (AreKeptBounds net) (sym is.bounds) are.bounds;
   plans = subst (ArePlans net knots) (sym is.plans) are.plans;
   marks = subst (IsMarkSearch net) (sym is.marks) are.marks;
 }

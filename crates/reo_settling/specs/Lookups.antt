@@ -7,17 +7,19 @@ use Rattle.reo_kept_tables.specs.Orders.{AreOrders}
 use Rattle.reo_planning.specs.declared.kept.Kept.{Kept}
 use Rattle.reo_planning.specs.Unsettling.{AreFewer, IsElsewhere}
 use Rattle.reo_mark_search.specs.Found.{IsMarkSearch}
+use Rattle.reo_item_bounds.specs.Kept.{AreKeptBounds}
 use Rattle.reo_part_plans.specs.Remembered.{ArePlans}
 use Rattle.reo_settling.specs.declared.lookups.Lookups.{Lookups}
 use Rattle.reo_planning.specs.Keeping.{is_settled}
 use Rattle.reo_settling.specs.Held.{is_fresh, MayBeFresh, MayBeKept}
 
 -- The joints of each part, in order; a mark for each part, and tables that are right where a part is marked and settled;
--- rows that are remembered; and what the search by marks keeps.
+-- bounds on items; rows that are remembered; and what the search by marks keeps.
 pub record AreLookups (net : Net) (knots : Knotted) (kept : Kept) (lookups : Lookups) : Type 0 where
   pub orders : AreOrders net knots lookups.orders
   pub one_each : length lookups.fresh ≡ knot_count knots
   pub tables : MayBeKept net knots kept lookups.fresh lookups.tables
+  pub bounds : AreKeptBounds net lookups.bounds
   pub plans : ArePlans net knots lookups.plans
   pub marks : IsMarkSearch net lookups.marks
 
@@ -26,6 +28,7 @@ pub record AreSteady (net : Net) (knots : Knotted) (lookups : Lookups) : Type 0 
   pub orders : AreOrders net knots lookups.orders
   pub one_each : length lookups.fresh ≡ knot_count knots
   pub tables : MayBeFresh net knots lookups.fresh lookups.tables
+  pub bounds : AreKeptBounds net lookups.bounds
   pub plans : ArePlans net knots lookups.plans
   pub marks : IsMarkSearch net lookups.marks
 
@@ -39,6 +42,7 @@ LookupsStay = (net other : Net) → IsWired net → (knots : Knotted) → AreKno
 pub record IsForgotten (kept : Kept) (old new : Lookups) : Type 0 where
   pub orders : new.orders ≡ old.orders
   pub tables : new.tables ≡ old.tables
+  pub bounds : new.bounds ≡ old.bounds
   pub plans : new.plans ≡ old.plans
   pub marks : new.marks ≡ old.marks
   pub one_each : length new.fresh ≡ length old.fresh

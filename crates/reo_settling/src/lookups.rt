@@ -1,11 +1,12 @@
 //! What is looked up when parts are settled.
 ghost use Rattle.std.specs.Prelude.{◌≡◌, IfOk, length, replicate};
-ghost use Rattle.reo_net_base.specs.Net.{net_of};
+ghost use Rattle.reo_net_base.specs.Net.{Net as Network, net_of};
 ghost use Rattle.reo_net_ends.specs.Ends.{AreEnds};
-ghost use Rattle.reo_knots.specs.Knots.{AreKnots};
+ghost use Rattle.reo_knots.specs.Knots.{AreKnots, Knotted};
 ghost use Rattle.reo_planning.specs.declared.kept.Kept.{Kept as KeptRows};
 ghost use Rattle.reo_settling.specs.Lookups.{AreLookups};
 
+use reo_item_bounds::Bounds;
 use reo_kept_tables::{Tables, orders_of};
 use reo_knots::Knots;
 use reo_mark_search::MarkSearch;
@@ -16,15 +17,17 @@ use reo_part_plans::Plans;
 use reo_values::{List, NoMemory};
 use std::alloc::Global;
 
-/// What is looked up when parts are settled: the joints of each part, in order; the rows that are
-/// remembered; what the search by marks keeps; and the tables of the search by values, and of each
-/// part whether they were made for its state.
+/// What is looked up when parts are settled: the joints of each part, in order; bounds on the items
+/// of joints; the rows that are remembered; a list of rows, any; what the search by marks keeps;
+/// and the tables of the search by values, and of each part whether they were made for its state.
 #[derive(Drop)]
 pub struct Lookups {
     pub(crate) orders: List<List<usize>>,
     pub(crate) fresh: List<bool>,
     pub(crate) tables: Option<Tables>,
+    pub(crate) bounds: Bounds,
     pub(crate) plans: Plans,
+    pub(crate) spare: List<u32>,
     pub(crate) marks: MarkSearch,
 }
 
@@ -53,14 +56,32 @@ impl Lookups {
     {
         let orders = orders_of(alloc, circuit, knots)?;
         let fresh = unmarked(alloc, knots.count())?;
+        let bounds = Bounds::new(alloc, circuit)?;
         let plans = Plans::new(alloc, knots.count())?;
         let marks = MarkSearch::new(alloc, circuit, ends)?;
         Ok(Lookups {
             orders,
             fresh,
             tables: None,
+            bounds,
             plans,
+            spare: List::new(alloc),
             marks,
         })
+    }
+
+    /// Hands a list of rows back, any, so that none is made for the rows of the next round.
+    pub fn hand_back(&mut self, rows: List<u32>)
+        ensures { (net : Network) (knots : Knotted) (kept : KeptRows)
+            → AreLookups net knots kept self.old → AreLookups net knots kept self.new }
+    {
+        self.spare = rows;
+    }
+
+    /// The joints of each part, in order.
+    pub fn orders(&self) -> &List<List<usize>>
+        ensures { result.now ≡ self.now.orders }
+    {
+        &self.orders
     }
 }

@@ -14,7 +14,6 @@ ghost use Rattle.reo_settling.specs.Lookups.{AreSteady};
 
 use crate::lookups::Lookups;
 use crate::renewing::renewed;
-use reo_item_bounds::most_choices;
 use reo_knots::Knots;
 use reo_mark_search::Found;
 use reo_net_base::Primitive;
@@ -179,7 +178,10 @@ impl Lookups {
     {
         circuit.known();
         let joints = self.orders.at(part).as_slice();
-        let Some(choices) = most_choices(alloc, circuit, ends, knots, part, joints)? else {
+        let found = self
+            .bounds
+            .most_choices(circuit, ends, knots, part, joints, budget);
+        let Some(choices) = found else {
             return self.search_by_values(
                 alloc, circuit, knots, ends, part, turn, budget, steps, rows,
             );

@@ -15,11 +15,12 @@ use reo_knots::Knots;
 use reo_net_base::Primitive;
 use reo_net_circuit::Circuit;
 use reo_net_ends::Ends;
-use reo_planning::{Kept, copied};
+use reo_planning::{Kept, written_over};
 use reo_rounds::PlanFault;
 use reo_steps::Steps;
 use reo_values::List;
 use std::alloc::Global;
+use std::mem::replace;
 use std::sync::ledger::Ledger;
 
 impl Lookups {
@@ -72,7 +73,8 @@ impl Lookups {
     {
         circuit.known();
         self.forget(kept);
-        let mut rows = copied(alloc, kept.rows())?;
+        let list = replace(&mut self.spare, List::new(alloc));
+        let mut rows = written_over(list, kept.rows())?;
         for knot in 0..knots.count() {
             self.settle_part(
                 alloc, circuit, knots, ends, kept, knot, turn, budget, steps, &mut rows,

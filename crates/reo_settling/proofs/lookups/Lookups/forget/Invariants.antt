@@ -8,6 +8,7 @@ abbrev pub invariant-loop-part : goal.invariant-loop-part
 invariant-loop-part l = record {
   orders : l.self.orders ≡ l.initial.self.orders;
   tables : l.self.tables ≡ l.initial.self.tables;
+  bounds : l.self.bounds ≡ l.initial.self.bounds;
   plans : l.self.plans ≡ l.initial.self.plans;
   marks : l.self.marks ≡ l.initial.self.marks;
   one_each : length l.self.fresh ≡ length l.initial.self.fresh;

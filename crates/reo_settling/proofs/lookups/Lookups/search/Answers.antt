@@ -6,29 +6,21 @@ use Rattle.reo_kept_tables.specs.Orders.{AreJointsOf}
 use Rattle.reo_kept_tables.proofs.Sorted.{orders_are_of_parts}
 use Rattle.reo_settling.proofs.lookups.Lookups.search.Goals as goal
 
-pub most_choices-requires-clause-joints : goal.most_choices-requires-clause-joints
-most_choices-requires-clause-joints g c = λ j is.
+pub most_choices-found-requires-clause-joints : goal.most_choices-found-requires-clause-joints
+most_choices-found-requires-clause-joints g c = λ j.
     let net : Net = net_of g.P.Primitive.behaviour c.args.circuit.now in
     let lt : c.args.part < length c.args.self.now.orders = omega (arith, c.requires.part, c.requires.steady.orders.one_each) in
     let here : c.as_slice-joints.result.now ≡ get_or c.args.self.now.orders c.args.part [] = c.as_slice-joints.ensures ∙ c.at.ensures ∙ get_or_default c.args.self.now.orders c.args.part c.at.result.now [] lt in
     let of : AreJointsOf net (in_knot c.args.knots.now.numbers c.args.part) c.as_slice-joints.result.now =
     subst (AreJointsOf net (in_knot c.args.knots.now.numbers c.args.part)) (sym here) (orders_are_of_parts net c.known.ensures.wired c.args.knots.now c.requires.knots c.args.self.now.orders c.requires.steady.orders c.args.part c.requires.part) in
-    ((of.exact j).0 is).0
-
-pub most_choices-requires-clause-all : goal.most_choices-requires-clause-all
-most_choices-requires-clause-all g c = λ j is.
-    let net : Net = net_of g.P.Primitive.behaviour c.args.circuit.now in
-    let lt : c.args.part < length c.args.self.now.orders = omega (arith, c.requires.part, c.requires.steady.orders.one_each) in
-    let here : c.as_slice-joints.result.now ≡ get_or c.args.self.now.orders c.args.part [] = c.as_slice-joints.ensures ∙ c.at.ensures ∙ get_or_default c.args.self.now.orders c.args.part c.at.result.now [] lt in
-    let of : AreJointsOf net (in_knot c.args.knots.now.numbers c.args.part) c.as_slice-joints.result.now =
-    subst (AreJointsOf net (in_knot c.args.knots.now.numbers c.args.part)) (sym here) (orders_are_of_parts net c.known.ensures.wired c.args.knots.now c.requires.knots c.args.self.now.orders c.requires.steady.orders c.args.part c.requires.part) in
-    (of.exact j).1 is
+    of.exact j
 
 pub returns-in_err-remember-clause-steady : goal.returns-in_err-remember-clause-steady
 returns-in_err-remember-clause-steady g c = record {
   orders = c.search_bounded.ensures.steady.orders;
   one_each = c.search_bounded.ensures.steady.one_each;
   tables = c.search_bounded.ensures.steady.tables;
+  bounds = c.search_bounded.ensures.steady.bounds;
   plans = c.remember.ensures.plans;
   marks = c.search_bounded.ensures.steady.marks;
 }
@@ -38,6 +30,7 @@ returns-clause-steady g c = record {
   orders = c.search_bounded.ensures.steady.orders;
   one_each = c.search_bounded.ensures.steady.one_each;
   tables = c.search_bounded.ensures.steady.tables;
+  bounds = c.search_bounded.ensures.steady.bounds;
   plans = c.remember.ensures.plans;
   marks = c.search_bounded.ensures.steady.marks;
 }

@@ -10,6 +10,7 @@ returns-clause-steady g c =
       orders = c.requires.steady.orders;
       one_each = c.mark_all.ensures ∙ c.requires.steady.one_each;
       tables = ready_may_stay net c.args.knots.now c.args.ends.now c.mark_all.new.marks c.search_part.new.tables c.in_ok-search_part.ensures.tables;
+      bounds = c.requires.steady.bounds;
       plans = c.requires.steady.plans;
       marks = c.requires.steady.marks;
     }
