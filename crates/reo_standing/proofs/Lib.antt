@@ -1,2 +1,3 @@
 pub mod Putting
 pub mod Filled
+pub mod PortMoves

@@ -4,6 +4,7 @@
 
 mod filling;
 mod giving;
+mod moving;
 mod standing;
 
-pub use standing::{Standing, blank, cleared, stand};
+pub use standing::{Sheet, Standing, blank, cleared, stand};

@@ -8,9 +8,10 @@ ghost use Rattle.reo_standing.specs.Filling.{AreBlank, AreHeldAmong, AreStillEls
 ghost use Rattle.reo_standing.specs.Standing.{HaveFirstItems, Stands};
 
 use crate::filling::fill;
+use crate::moving::moves_by_items;
 use reo_knots::Knots;
 use reo_net_base::{Colouring, Primitive};
-use reo_net_circuit::{Circuit, moves};
+use reo_net_circuit::Circuit;
 use reo_net_ends::Ends;
 use reo_trace::RoundLine;
 use reo_values::{List, NoMemory, Value};
@@ -25,6 +26,15 @@ pub struct Standing {
     pub line: RoundLine,
 }
 
+/// What a round that stands is written into: the rows of the round, a list of no items at the
+/// joints, and a list for the joints that flow, with any numbers.
+#[derive(Drop)]
+pub struct Sheet {
+    pub rows: List<u32>,
+    pub items: List<Option<Value>>,
+    pub flowing: List<usize>,
+}
+
 /// No item at any of so many joints. `NoMemory` is out of memory.
 pub fn blank(alloc: Global, joints: usize) -> Result<List<Option<Value>>, NoMemory>
     ensures { IfOk result (AreBlank joints) }
@@ -36,34 +46,37 @@ pub fn blank(alloc: Global, joints: usize) -> Result<List<Option<Value>>, NoMemo
     Ok(items)
 }
 
-/// What stands for the round of a number, whose rows are those of its first colouring: its items
-/// are put into a list that has none. In the parts that are not marked nothing flows. `NoMemory` is
-/// out of memory.
+/// What stands for the round of a number, written into a sheet whose rows are those of its first
+/// colouring. In the parts that are not marked nothing flows. `NoMemory` is out of memory.
 pub fn stand<P: Primitive>(
     alloc: Global,
     circuit: &Circuit<P>,
     knots: &Knots,
     ends: &Ends,
     orders: &List<List<usize>>,
-    rows: List<u32>,
     marked: &[bool],
     turn: u64,
-    items: List<Option<Value>>,
+    sheet: Sheet,
 ) -> Result<Standing, NoMemory>
     requires knots { AreKnots (net_of P.behaviour circuit.now) knots.now }
     requires ends { AreEnds (net_of P.behaviour circuit.now) ends.now }
     requires orders { AreOrders (net_of P.behaviour circuit.now) knots.now orders.now }
-    requires first { HaveFirstItems (net_of P.behaviour circuit.now) turn rows }
+    requires first { HaveFirstItems (net_of P.behaviour circuit.now) turn sheet.rows }
     requires one_each { length marked.now ≡ knot_count knots.now }
-    requires still { AreStillElse (net_of P.behaviour circuit.now) knots.now rows marked.now }
-    requires items { AreBlank (length circuit.now.joints) items }
+    requires still { AreStillElse
+        (net_of P.behaviour circuit.now) knots.now sheet.rows marked.now }
+    requires items { AreBlank (length circuit.now.joints) sheet.items }
     ensures stands { let net = net_of P.behaviour circuit.now in
         IfOk result (Stands net circuit.now.ports turn) }
-    ensures rows { IfOk result (λ made. made.colouring.rows ≡ rows) }
+    ensures rows { IfOk result (λ made. made.colouring.rows ≡ sheet.rows) }
 {
     circuit.known();
-    let mut items = items;
-    let mut flowing = List::new(alloc);
+    let Sheet {
+        rows,
+        mut items,
+        mut flowing,
+    } = sheet;
+    flowing.clear();
     fill(
         alloc,
         circuit,
@@ -76,7 +89,7 @@ pub fn stand<P: Primitive>(
         &mut flowing,
     )?;
     let colouring = Colouring { rows, items };
-    let moves = moves(alloc, circuit, &colouring)?;
+    let moves = moves_by_items(alloc, circuit, colouring.items.as_slice())?;
     let idle = flowing.is_empty();
     Ok(Standing {
         colouring,

@@ -53,7 +53,7 @@ beside_more joints flowing n i j old now here is lt before =
 
 module _ (net : Net) (rows : List ℕ) (wired : IsWired net) (fit : RowsFit net rows) (flowing : List ℕ) (are : AreFlowing net rows flowing) where
   -- Some end of a primitive at a joint that flows flows.
-  beside_flows : (i : ℕ) → IsBesideOne net.joints flowing (length flowing) i → HasFlow net rows i
+  pub beside_flows : (i : ℕ) → IsBesideOne net.joints flowing (length flowing) i → HasFlow net rows i
   beside_flows i found =
       let k : ℕ = get_or flowing found.place 0 in
       let j : Joint = get_or net.joints k no_joint in
@@ -74,7 +74,7 @@ module _ (net : Net) (rows : List ℕ) (wired : IsWired net) (fit : RowsFit net 
       ]
 
   -- A primitive of which some end flows is at a joint that flows.
-  flows_beside : (i : ℕ) → i < length net.primitives → HasFlow net rows i → IsBesideOne net.joints flowing (length flowing) i
+  pub flows_beside : (i : ℕ) → i < length net.primitives → HasFlow net rows i → IsBesideOne net.joints flowing (length flowing) i
   flows_beside i i_in flow =
       let at = joint_of net wired (end_of i flow.end) (i_in, flow.is_end) in
       let k : ℕ = at.0 in

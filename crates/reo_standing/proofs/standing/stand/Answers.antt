@@ -1,8 +1,9 @@
-use Rattle.std.proofs.Common.{◌∙◌, List, sym, subst}
+use Rattle.std.proofs.Common.{◌∙◌, List, ap, sym, subst}
 use Rattle.std.specs.Prelude.{Option}
 use Rattle.reo_values.specs.declared.value.Value.{Value}
 use Rattle.reo_net_base.specs.Colouring.{IsColouring}
 use Rattle.reo_net_base.specs.First.{IsFirst}
+use Rattle.reo_net_base.specs.Moves.{moves_of}
 use Rattle.reo_net_base.specs.Net.{Net, net_of}
 use Rattle.reo_net_base.specs.Sides.{AreRowsOf}
 use Rattle.reo_standing.proofs.Filled.{held_flow, held_none, idle_is}
@@ -19,7 +20,7 @@ fill-requires-clause-coloured g c = record {
 }
 
 pub fill-requires-clause-held : goal.fill-requires-clause-held
-fill-requires-clause-held g c = held_none c.args.items _ c.new-flowing.ensures c.requires.items.none
+fill-requires-clause-held g c = held_none c.args.sheet.items _ c.clear.ensures c.requires.items.none
 
 pub returns-clause-stands : goal.returns-clause-stands
 returns-clause-stands g c =
@@ -27,10 +28,12 @@ returns-clause-stands g c =
     let first = c.requires.first in
     let coloured : IsColouring net c.as_slice.result.now first.items = subst (λ (xs : List _). IsColouring net xs first.items) (sym c.as_slice.ensures) first.first.colouring in
     let filled = c.in_ok-fill.ensures first.items coloured in
-    let is : IsFirst net c.args.turn c.args.rows c.fill.new.items = subst (λ (xs : List (Option Value)). IsFirst net c.args.turn c.args.rows xs) (sym filled.items) first.first in
-    let idle = c.is_empty-idle.ensures ∙ sym (idle_is net c.known.ensures.wired c.args.rows c.fill.new.items is.colouring c.fill.new.flowing filled.held) in
+    let is : IsFirst net c.args.turn c.args.sheet.rows c.fill.new.items = subst (λ (xs : List (Option Value)). IsFirst net c.args.turn c.args.sheet.rows xs) (sym filled.items) first.first in
+    let idle = c.is_empty-idle.ensures ∙ sym (idle_is net c.known.ensures.wired c.args.sheet.rows c.fill.new.items is.colouring c.fill.new.flowing filled.held) in
+    let by_items : IsColouring net c.args.sheet.rows c.as_slice-2.result.now = subst (λ (xs : List (Option Value)). IsColouring net c.args.sheet.rows xs) (sym c.as_slice-2.ensures) is.colouring in
+    let moves = c.in_ok-moves.ensures c.args.sheet.rows by_items ∙ ap (λ (xs : List (Option Value)). moves_of net c.args.circuit.now.ports c.args.sheet.rows xs) c.as_slice-2.ensures in
     record {
       first = is;
-      flowing = held_flow net c.known.ensures.wired c.args.rows c.fill.new.items is.colouring c.fill.new.flowing filled.held;
-      line = λ t. record { round = c.args.turn; idle = idle t; moves = c.in_ok-moves.ensures t; entries = c.new.ensures t };
+      flowing = held_flow net c.known.ensures.wired c.args.sheet.rows c.fill.new.items is.colouring c.fill.new.flowing filled.held;
+      line = λ t. record { round = c.args.turn; idle = idle t; moves = moves t; entries = c.new.ensures t };
     }

@@ -1,0 +1,60 @@
+//! What flows at the ports, by the items at their joints.
+ghost use Rattle.std.specs.Prelude.{◌≡◌, ◌<◌, ◌++◌, ℕ, List as Listed, IfOk, OnOk, None, option_copied, slice_index_or};
+ghost use Rattle.reo_net_base.specs.Colouring.{IsColouring};
+ghost use Rattle.reo_net_base.specs.Moves.{moves_at, moves_of};
+ghost use Rattle.reo_net_base.specs.Net.{net_of};
+
+use reo_net_base::{Move, Primitive};
+use reo_net_circuit::Circuit;
+use reo_values::{List, NoMemory, Value, copy};
+use std::alloc::Global;
+
+/// The item at a place, if there is one.
+fn item_of(items: &[Option<Value>], place: usize) -> Option<&Value>
+    ensures { option_copied result ≡ slice_index_or items.now place None }
+{
+    items.get(place)?.as_ref()
+}
+
+/// Adds what flows at a port: the item at its joint, if there is one.
+fn add_move<P: Primitive>(
+    alloc: Global,
+    moves: &mut List<Move>,
+    circuit: &Circuit<P>,
+    items: &[Option<Value>],
+    port: usize,
+) -> Result<(), NoMemory>
+    requires port { port < circuit.now.ports }
+    ensures { let net = net_of P.behaviour circuit.now in
+        (rows : Listed ℕ) → IsColouring net rows items.now
+        → OnOk result (moves.new ≡ moves.old ++ moves_at net rows items.now port) }
+{
+    circuit.known();
+    circuit.known_ports();
+    let joint = circuit.port_joint(port);
+    match item_of(items, joint) {
+        None => Ok(()),
+        Some(value) => {
+            let item = copy(alloc, value)?;
+            moves.push(Move { port, item })
+        }
+    }
+}
+
+/// The ports that flow, in order, with their items. No mark is looked at: a joint flows exactly
+/// where it has an item. `NoMemory` is out of memory.
+pub(crate) fn moves_by_items<P: Primitive>(
+    alloc: Global,
+    circuit: &Circuit<P>,
+    items: &[Option<Value>],
+) -> Result<List<Move>, NoMemory>
+    ensures { let net = net_of P.behaviour circuit.now in
+        (rows : Listed ℕ) → IsColouring net rows items.now
+        → IfOk result (λ moves. moves ≡ moves_of net circuit.now.ports rows items.now) }
+{
+    let mut moves = List::new(alloc);
+    for port in 0..circuit.ports() {
+        add_move(alloc, &mut moves, circuit, items, port)?;
+    }
+    Ok(moves)
+}
