@@ -75,7 +75,7 @@ module _ {P : Type 0} (behaviour : P → Behaviour) where
   behaviour_is (p ∷ ps) (suc i) = behaviour_is ps i
 
   -- Where one primitive changes, nothing changes at a part that is still settled once the parts of its sides are unsettled.
-  one_elsewhere : (old new : Wiring P) (f : P → P) (port : ℕ) → SameNetShape behaviour old new
+  pub one_elsewhere : (old new : Wiring P) (f : P → P) (port : ℕ) → SameNetShape behaviour old new
       → new ≡ record old { primitives = change_at f old.primitives port } → (knots : Knotted) (kept now : Kept)
       → IsUnsettled (net_of behaviour old) knots port kept now → IsElsewhere (net_of behaviour old) (net_of behaviour new) knots now
   one_elsewhere old new f port shape is knots kept now unsettled =
@@ -109,7 +109,7 @@ module _ {P : Type 0} (behaviour : P → Behaviour) where
       (one_elsewhere old new f port shape is knots kept now unsettled) lookups held
 
   -- Over a round nothing changes at a part that is still settled, once the parts that it marks and those that move are unsettled.
-  round_elsewhere : (old new : Wiring P) (marks : List Bool) → SameNetShape behaviour old new
+  pub round_elsewhere : (old new : Wiring P) (marks : List Bool) → SameNetShape behaviour old new
       → OthersStay marks old.primitives new.primitives → length marks ≡ length old.primitives → (knots : Knotted) (kept some now : Kept)
       → AreMarkedUnsettled (net_of behaviour old) knots marks (length marks) kept some → AreMovingUnsettled some now → IsElsewhere (net_of behaviour old) (net_of behaviour new) knots now
   round_elsewhere old new marks shape stay one_each knots kept some now marked moving =

@@ -1,9 +1,11 @@
 -- What a round that stands is made with.
-use Rattle.std.specs.Prelude.{ℕ, ◌<◌, ◌≡◌, ◌&&◌, Bool, not, true, false, List, Option, Some, None, length, slice_index_or}
+use Rattle.std.specs.Prelude.{ℕ, ◌<◌, ◌≡◌, ◌&&◌, Bool, not, true, false, List, Option, Some, None, length, slice_index, slice_index_or}
 use Rattle.reo_values.specs.declared.value.Value.{Value}
 use Rattle.reo_net_base.specs.Net.{Net}
+use Rattle.reo_net_base.specs.Sides.{side_count}
+use Rattle.reo_cells.specs.declared.cells.Cells.{Cells}
+use Rattle.reo_cells.specs.Cells.{AreCells, IsShown}
 use Rattle.reo_knots.specs.Knots.{Knotted, knot_count}
-use Rattle.reo_kept_tables.specs.Orders.{AreOrders}
 use Rattle.reo_planning.specs.declared.kept.Kept.{Kept}
 use Rattle.reo_planning.specs.Keeping.{is_moving, is_settled}
 use Rattle.reo_standing.specs.Filling.{AreBlank}
@@ -14,6 +16,14 @@ abbrev pub MayBeBlank : ℕ → Option (List (Option Value)) → Type 0
 MayBeBlank joints None = Unit {0}
 MayBeBlank joints (Some items) = AreBlank joints items
 
+-- There is no list of no items, and all is as it was but for the two lists of any numbers.
+pub record HasNoSheet (old new : Flows) : Type 0 where
+  pub blank : new.blank ≡ None
+  pub calm : new.calm ≡ old.calm
+  pub marked : new.marked ≡ old.marked
+  pub cells : new.cells ≡ old.cells
+  pub shown : new.shown ≡ old.shown
+
 -- Of so many parts those are marked that are not settled, or all.
 pub record AreMarked (calm : Bool) (kept : Kept) (parts : ℕ) (marked : List Bool) : Type 0 where
   pub one_each : length marked ≡ parts
@@ -23,10 +33,28 @@ pub record AreMarked (calm : Bool) (kept : Kept) (parts : ℕ) (marked : List Bo
 abbrev pub AreCalm : Kept → Type 0
 AreCalm kept = (k : ℕ) → is_settled kept k ≡ true → is_moving kept k ≡ false
 
--- The joints of each part, in order; a list of no items, if there is one; whether nothing flows in settled parts; and a
--- mark for each part.
+-- The part of a side.
+abbrev pub part_of : Knotted → ℕ → ℕ
+part_of knots s = slice_index knots.numbers s
+
+-- Each side of a settled part is shown by the rows that are kept.
+abbrev pub AreKeptShown : Net → Knotted → Kept → Cells → Type 0
+AreKeptShown net knots kept cells = (s : ℕ) → s < side_count net → is_settled kept (part_of knots s) ≡ true
+    → IsShown net kept.rows s cells
+
+-- Each side of the first n parts that is of a marked one is shown by some rows, and those of parts that are not marked
+-- show what they showed.
+pub record AreShownAt (net : Net) (knots : Knotted) (rows : List ℕ) (marked : List Bool) (n : ℕ) (old new : Cells) : Type 0 where
+  pub here : (s : ℕ) → s < side_count net → part_of knots s < n → slice_index_or marked (part_of knots s) true ≡ true
+      → IsShown net rows s new
+  pub others : (s : ℕ) → s < side_count net → slice_index_or marked (part_of knots s) true ≡ false
+      → slice_index new.shown s ≡ slice_index old.shown s
+
+-- A list of no items, if there is one; whether nothing flows in settled parts; a mark for each part; and cells, which
+-- may show the rows that are kept of settled parts.
 pub record AreFlows (net : Net) (knots : Knotted) (kept : Kept) (flows : Flows) : Type 0 where
-  pub orders : AreOrders net knots flows.orders
   pub blank : MayBeBlank (length net.joints) flows.blank
   pub calm : flows.calm ≡ true → AreCalm kept
   pub one_each : length flows.marked ≡ knot_count knots
+  pub cells : AreCells net flows.cells
+  pub shown : flows.shown ≡ true → AreKeptShown net knots kept flows.cells

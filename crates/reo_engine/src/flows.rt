@@ -2,30 +2,37 @@
 ghost use Rattle.std.specs.Prelude.{◌≡◌, ◌<◌, ◌≤◌, ◌&&◌, None, false, not, IfOk, length};
 ghost use Rattle.reo_net_base.specs.Net.{net_of};
 ghost use Rattle.reo_knots.specs.Knots.{AreKnots, knot_count};
-ghost use Rattle.reo_kept_tables.specs.Orders.{AreOrders};
+ghost use Rattle.reo_net_base.specs.Sides.{AreRowsOf};
+ghost use Rattle.reo_cells.specs.Cells.{AreCells};
 ghost use Rattle.reo_planning.specs.Keeping.{is_settled};
 ghost use Rattle.reo_standing.specs.Filling.{AreBlank};
-ghost use Rattle.reo_engine.specs.Flows.{AreMarked, MayBeBlank};
+ghost use Rattle.reo_engine.specs.Flows.{AreMarked, AreShownAt, HasNoSheet, MayBeBlank};
 
 use crate::changes::all_marked;
-use reo_kept_tables::orders_of;
+use reo_cells::Cells;
 use reo_knots::Knots;
 use reo_net_base::Primitive;
 use reo_net_circuit::Circuit;
-use reo_planning::Kept;
-use reo_standing::blank;
-use reo_values::{List, NoMemory, Value};
+use reo_planning::{Kept, written_over};
+use reo_standing::{Sheet, blank};
+use reo_values::{Bytes, List, NoMemory, Value};
 use std::alloc::Global;
+use std::mem::replace;
 
-/// What a round that stands is made with: the joints of each part, in order; a list of no items at
-/// the joints, if there is one; whether nothing flows in any part that is settled, by the rows that
-/// are kept; and a mark for each part.
+/// What a round that stands is made with: a list of no items at the joints, if there is one, two
+/// lists of any numbers and a text of any bytes, so that a round takes no memory for them; whether
+/// nothing flows in any part that is settled, by the rows that are kept; a mark for each part; the
+/// cells of all sides; and whether they show the rows that are kept of settled parts.
 #[derive(Drop)]
 pub struct Flows {
-    pub(crate) orders: List<List<usize>>,
     pub(crate) blank: Option<List<Option<Value>>>,
+    pub(crate) rows: List<u32>,
+    pub(crate) flowing: List<usize>,
     pub(crate) calm: bool,
     pub(crate) marked: List<bool>,
+    pub(crate) cells: Cells,
+    pub(crate) shown: bool,
+    pub(crate) text: Bytes,
 }
 
 impl Flows {
@@ -36,20 +43,33 @@ impl Flows {
         knots: &Knots,
     ) -> Result<Flows, NoMemory>
         requires { AreKnots (net_of P.behaviour circuit.now) knots.now }
-        ensures orders { let net = net_of P.behaviour circuit.now in
-            IfOk result (λ made. AreOrders net knots.now made.orders) }
         ensures blank { IfOk result (λ made. made.blank ≡ None) }
         ensures calm { IfOk result (λ made. made.calm ≡ false) }
         ensures one_each { IfOk result (λ made. length made.marked ≡ knot_count knots.now) }
+        ensures cells { IfOk result (λ made. AreCells (net_of P.behaviour circuit.now) made.cells) }
+        ensures shown { IfOk result (λ made. made.shown ≡ false) }
     {
-        let orders = orders_of(alloc, circuit, knots)?;
+        let cells = Cells::new(alloc, circuit)?;
         let marked = all_marked(alloc, knots.count())?;
         Ok(Flows {
-            orders,
             blank: None,
+            rows: List::new(alloc),
+            flowing: List::new(alloc),
             calm: false,
             marked,
+            cells,
+            shown: false,
+            text: Bytes::new(alloc),
         })
+    }
+}
+
+impl Flows {
+    /// Whether settled parts need not be gone through: nothing flows in them, and they are shown.
+    pub(crate) fn spares_settled(&self) -> bool
+        ensures { result ≡ (self.now.calm && self.now.shown) }
+    {
+        self.calm && self.shown
     }
 }
 
@@ -73,8 +93,55 @@ pub(crate) fn mark_restless(kept: &Kept, calm: bool, marks: &mut List<bool>)
     }
 }
 
+/// Shows these rows at the sides of the parts that are marked. This takes no memory.
+pub(crate) fn show_marked<P: Primitive>(
+    circuit: &Circuit<P>,
+    knots: &Knots,
+    rows: &[u32],
+    marked: &[bool],
+    cells: &mut Cells,
+)
+    requires knots { AreKnots (net_of P.behaviour circuit.now) knots.now }
+    requires rows { AreRowsOf (net_of P.behaviour circuit.now) rows.now }
+    requires one_each { length marked.now ≡ knot_count knots.now }
+    requires cells { AreCells (net_of P.behaviour circuit.now) cells.old }
+    ensures cells { AreCells (net_of P.behaviour circuit.now) cells.new }
+    ensures shown { let net = net_of P.behaviour circuit.now in
+        AreShownAt net knots.now rows.now marked.now (knot_count knots.now) cells.old cells.new }
+{
+    circuit.known();
+    for part in 0..knots.count() {
+        if marked[part] {
+            cells.bring(circuit, rows, knots.sides(part));
+        }
+    }
+}
+
+/// A sheet with these rows, of lists that are taken out or made. `NoMemory` is out of memory.
+pub(crate) fn take_sheet(
+    alloc: Global,
+    flows: &mut Flows,
+    rows: &[u32],
+    joints: usize,
+) -> Result<Sheet, NoMemory>
+    requires { MayBeBlank joints flows.old.blank }
+    ensures rows { IfOk result (λ sheet. sheet.rows ≡ rows.now) }
+    ensures items { IfOk result (λ sheet. AreBlank joints sheet.items) }
+    ensures taken { HasNoSheet flows.old flows.new }
+{
+    let list = replace(&mut flows.rows, List::new(alloc));
+    let flowing = replace(&mut flows.flowing, List::new(alloc));
+    let items = take_blank(alloc, &mut flows.blank, joints)?;
+    let rows = written_over(list, rows)?;
+    Ok(Sheet {
+        rows,
+        items,
+        flowing,
+    })
+}
+
 /// The list of no items, taken out or made. `NoMemory` is out of memory.
-pub(crate) fn take_blank(
+fn take_blank(
     alloc: Global,
     list: &mut Option<List<Option<Value>>>,
     joints: usize,

@@ -65,7 +65,12 @@ impl<P: Ported> Engine<P> {
             steps,
         )?;
         self.flows.calm = false;
-        self.kept.store(&self.circuit, &self.knots, rows, budget);
+        self.flows.shown = false;
+        let orders = self.lookups.orders();
+        let list = self
+            .kept
+            .store(&self.circuit, &self.knots, orders, rows, budget);
+        self.lookups.hand_back(list);
         Ok(())
     }
 }

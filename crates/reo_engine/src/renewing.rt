@@ -1,5 +1,5 @@
 //! Rows that are kept, brought up to date.
-ghost use Rattle.std.specs.Prelude.{◌≡◌, ◌<◌, ◌≤◌, ◌+◌, ◌^◌, ℕ, OnErr, MatchResult};
+ghost use Rattle.std.specs.Prelude.{◌≡◌, ◌<◌, ◌≤◌, ◌+◌, ◌^◌, ℕ, OnOk, OnErr, MatchResult};
 ghost use Rattle.reo_net_base.specs.Net.{net_of};
 ghost use Rattle.reo_net_ends.specs.Ends.{AreEnds};
 ghost use Rattle.reo_knots.specs.Knots.{AreKnots, knot_count};
@@ -7,10 +7,11 @@ ghost use Rattle.reo_rounds.specs.Plans.{IsPlanFault};
 ghost use Rattle.reo_planning.specs.Keeping.{AllServe, IsKept};
 ghost use Rattle.reo_planning.specs.Planned.{AreWeights, sum_below, weight_left};
 ghost use Rattle.reo_settling.specs.Lookups.{AreLookups};
+ghost use Rattle.reo_cells.specs.Cells.{AreShown};
 ghost use Rattle.reo_engine.specs.Flows.{AreFlows};
 ghost use Rattle.reo_engine.specs.Stood.{AreRenewed};
 
-use crate::flows::{Flows, mark_restless};
+use crate::flows::{Flows, mark_restless, show_marked};
 use reo_knots::Knots;
 use reo_net_base::Primitive;
 use reo_net_circuit::Circuit;
@@ -63,12 +64,13 @@ fn renew<P: Primitive, L: Ledger>(
         return Ok(());
     }
     let rows = lookups.settle(alloc, circuit, knots, ends, kept, turn, budget, steps)?;
-    kept.store(circuit, knots, rows, budget);
+    let list = kept.store(circuit, knots, lookups.orders(), rows, budget);
+    lookups.hand_back(list);
     Ok(())
 }
 
-/// Has all parts settled for the round of a number, and marks those in which something may flow.
-/// What a round is made with stays right.
+/// Has all parts settled for the round of a number, marks those in which something may flow, and
+/// shows the rows. What a round is made with stays right.
 ///
 /// # Errors
 ///
@@ -100,16 +102,23 @@ pub(crate) fn renew_marked<P: Primitive, L: Ledger>(
     ensures exact { let net = net_of P.behaviour circuit.now in
         MatchResult result (λ _. AreRenewed budget net knots.now turn kept.new flows.new.marked)
         (IsPlanFault budget net) }
+    ensures shown { let net = net_of P.behaviour circuit.now in
+        OnOk result (AreShown net kept.new.rows flows.new.cells) }
     ensures ticks { let count = knot_count knots.now in (weights : ℕ → ℕ)
         → AreWeights (net_of P.behaviour circuit.now) knots.now weights
         → steps.new ≤ steps.old + sum_below count (weight_left kept.old budget weights) }
 {
     circuit.known();
     let _order = circuit.order();
-    mark_restless(kept, flows.calm, &mut flows.marked);
+    let calm = flows.spares_settled();
+    mark_restless(kept, calm, &mut flows.marked);
     flows.calm = false;
+    flows.shown = false;
     renew(
         alloc, circuit, knots, ends, kept, lookups, turn, budget, steps,
     )?;
+    let marked = flows.marked.as_slice();
+    show_marked(circuit, knots, kept.rows(), marked, &mut flows.cells);
+    flows.shown = true;
     Ok(())
 }

@@ -8,6 +8,7 @@ ghost use Rattle.reo_trace.specs.Entries.{line_for};
 ghost use Rattle.reo_trace.specs.RoundText.{round_text};
 ghost use Rattle.reo_rounds.specs.Plans.{IsPlanFault};
 ghost use Rattle.reo_knots.specs.Knots.{AreKnots, knot_count};
+ghost use Rattle.reo_kept_tables.specs.Orders.{AreOrders};
 ghost use Rattle.reo_planning.specs.Keeping.{AllServe};
 ghost use Rattle.reo_planning.specs.Planned.{AreWeights, sum_below, weight_left};
 ghost use Rattle.reo_stepping.specs.Changes.{AreThoseThatFlowed};
@@ -20,20 +21,21 @@ ghost use Rattle.reo_engine.specs.Settled.{StaySettled};
 ghost use Rattle.reo_engine.specs.Stood.{IsStood};
 
 use crate::engine::Engine;
-use crate::flows::{Flows, take_blank};
+use crate::flows::{Flows, take_sheet};
 use crate::renewing::renew_marked;
 use reo_knots::Knots;
 use reo_net_base::{Colouring, Ported, Ports, Primitive};
 use reo_net_circuit::Circuit;
 use reo_net_ends::Ends;
-use reo_planning::{Kept, copied};
+use reo_planning::Kept;
 use reo_rounds::PlanFault;
 use reo_standing::{Standing, cleared, stand};
 use reo_stepping::{Standin, mark_flowing, step_marked};
 use reo_steps::Steps;
-use reo_trace::{RoundLine, text_by_rows};
-use reo_values::{Bytes, NoMemory};
+use reo_trace::RoundLine;
+use reo_values::{Bytes, List, NoMemory};
 use std::alloc::Global;
+use std::mem::replace;
 use std::sync::ledger::Ledger;
 
 /// What stands for the round of a number, by rows that are kept of all parts. What a round is made
@@ -44,6 +46,7 @@ fn stand_by<P: Primitive>(
     knots: &Knots,
     ends: &Ends,
     kept: &Kept,
+    orders: &List<List<usize>>,
     flows: &mut Flows,
     turn: u64,
 ) -> Result<Standing, NoMemory>
@@ -52,30 +55,32 @@ fn stand_by<P: Primitive>(
     requires first { HaveFirstItems (net_of P.behaviour circuit.now) turn kept.now.rows }
     requires still { let net = net_of P.behaviour circuit.now in
         AreStillElse net knots.now kept.now.rows flows.old.marked }
+    requires orders { AreOrders (net_of P.behaviour circuit.now) knots.now orders.now }
     requires flows { AreFlows (net_of P.behaviour circuit.now) knots.now kept.now flows.old }
     ensures stands { let net = net_of P.behaviour circuit.now in
         IfOk result (Stands net circuit.now.ports turn) }
+    ensures rows { IfOk result (λ made. made.colouring.rows ≡ kept.now.rows) }
     ensures flows { AreFlows (net_of P.behaviour circuit.now) knots.now kept.now flows.new }
+    ensures cells { flows.new.cells ≡ flows.old.cells }
 {
-    let rows = copied(alloc, kept.rows())?;
-    let items = take_blank(alloc, &mut flows.blank, circuit.joint_count())?;
+    let sheet = take_sheet(alloc, flows, kept.rows(), circuit.joint_count())?;
     stand(
         alloc,
         circuit,
         knots,
         ends,
-        &flows.orders,
-        rows,
+        orders,
         flows.marked.as_slice(),
         turn,
-        items,
+        sheet,
     )
 }
 
 impl<P: Ported> Engine<P> {
     /// Brings the rows that are kept up to date for the round that comes next, and answers what
-    /// stands for it beside them. Only parts that are not settled are looked at, and only those in
-    /// which something flows are gone through for their items.
+    /// stands for it beside them, with the text of its line, line feed included. Only parts that
+    /// are not settled are looked at, only those in which something flows are gone through for
+    /// their items, and of the text only their cells are made anew.
     ///
     /// All parts are settled afterwards, and all but what is kept stays as it was. It makes at most
     /// as many ticks as the parts weigh together that are not settled.
@@ -87,14 +92,19 @@ impl<P: Ported> Engine<P> {
     pub fn stand<L: Ledger>(
         &mut self,
         alloc: Global,
+        ports: &Ports,
         budget: u64,
         steps: &mut Steps<L>,
-    ) -> Result<Standing, PlanFault>
+    ) -> Result<(Standing, Bytes), PlanFault>
         requires { budget < 10 ^ 18 }
         ensures exact { let net = net_now P.behaviour self.old in
             let turn = self.old.rounds + 1 in
-            MatchResult result (IsStood budget net self.old.circuit.ports turn)
+            MatchResult result (λ made. IsStood budget net self.old.circuit.ports turn made.0)
             (IsPlanFault budget net) }
+        ensures text { let net = net_now P.behaviour self.old in let turn = self.old.rounds + 1 in
+            IfOk result (λ made.
+            let line = line_for net turn made.0.colouring.rows made.0.line.moves in
+            made.1 ≡ round_text ports.now.list line) }
         ensures stays { self.new ≡ record self.old { kept = self.new.kept } }
         ensures settled { let count = knot_count self.new.knots in
             OnOk result (AllServe count budget self.new.kept) }
@@ -102,6 +112,7 @@ impl<P: Ported> Engine<P> {
             → AreWeights (net_now P.behaviour self.old) self.old.knots weights
             → steps.new ≤ steps.old + sum_below count (weight_left self.old.kept budget weights) }
     {
+        self.circuit.known();
         let turn = self.rounds + 1;
         renew_marked(
             alloc,
@@ -121,39 +132,22 @@ impl<P: Ported> Engine<P> {
             &self.knots,
             &self.ends,
             &self.kept,
+            self.lookups.orders(),
             &mut self.flows,
             turn,
         )?;
-        Ok(standing)
+        let RoundLine { idle, moves, .. } = &standing.line;
+        let over = replace(&mut self.flows.text, Bytes::new(alloc));
+        let cells = &self.flows.cells;
+        let text = cells.line_text(alloc, over, ports, turn, *idle, moves.as_slice())?;
+        Ok((standing, text))
     }
 
-    /// The text of the line of the round that stands, its line feed included. `NoMemory` is out of
-    /// memory.
-    pub fn line_text(
-        &self,
-        alloc: Global,
-        ports: &Ports,
-        standing: &Standing,
-    ) -> Result<Bytes, NoMemory>
-        requires { let net = net_now P.behaviour self.now in let turn = self.now.rounds + 1 in
-            Stands net self.now.circuit.ports turn standing.now }
-        ensures { let net = net_now P.behaviour self.now in let turn = self.now.rounds + 1 in
-            let rows = standing.now.colouring.rows in
-            let line = line_for net turn rows standing.now.line.moves in
-            IfOk result (λ text. text ≡ round_text ports.now.list line) }
+    /// Hands a text back, any, so that no room is made for that of the round that comes next.
+    pub fn hand_back(&mut self, text: Bytes)
+        ensures { self.new ≡ self.old }
     {
-        let moves = standing.line.moves.as_slice();
-        let rows = standing.colouring.rows.as_slice();
-        let idle = standing.line.idle;
-        text_by_rows(
-            alloc,
-            ports,
-            &self.circuit,
-            self.rounds + 1,
-            idle,
-            moves,
-            rows,
-        )
+        self.flows.text = text;
     }
 }
 
@@ -198,11 +192,14 @@ impl<P: Standin> Engine<P> {
         let by = rows.as_slice();
         mark_flowing(&self.circuit, by, joints, &mut self.changed);
         let marks = self.changed.as_slice();
-        self.kept.unsettle_marked(&self.circuit, &self.knots, marks);
+        self.kept
+            .unsettle_joints(&self.circuit, &self.knots, joints);
         self.kept.unsettle_moving();
         step_marked(&mut self.circuit, &self.ends, by, &mut items, marks);
         self.circuit.known();
         self.flows.blank = Some(cleared(items, joints));
+        self.flows.rows = rows;
+        self.flows.flowing = flowing;
         self.flows.calm = true;
         self.rounds += 1;
         line

@@ -1,14 +1,16 @@
 //! Rounds that are planned.
-ghost use Rattle.std.specs.Prelude.{◌≡◌, ◌<◌, ◌+◌, ◌^◌, MatchResult};
+ghost use Rattle.std.specs.Prelude.{◌≡◌, ◌<◌, ◌+◌, ◌^◌, IfOk, MatchResult};
 ghost use Rattle.reo_net_base.specs.Net.{net_of};
+ghost use Rattle.reo_trace.specs.Entries.{line_for};
+ghost use Rattle.reo_trace.specs.RoundText.{round_text};
 ghost use Rattle.reo_engine.specs.Stood.{IsStood};
 ghost use Rattle.reo_runner.specs.Rounds.{IsUnplanned, fault_of_plan};
 ghost use Rattle.reo_runner.specs.declared.planning.RoundFault.TheVariants.{NoMemory as OutOfMemory};
 
 use reo_engine::{Engine, PlanFault, Standing};
-use reo_net_base::Ported;
+use reo_net_base::{Ported, Ports};
 use reo_steps::Steps;
-use reo_values::NoMemory;
+use reo_values::{Bytes, NoMemory};
 use std::alloc::Global;
 use std::sync::ledger::Ledger;
 
@@ -50,24 +52,29 @@ fn round_fault(fault: PlanFault) -> RoundFault
     }
 }
 
-/// Has the engine look at the round that stands next. What was found of its parts is kept for rounds
-/// to come.
+/// Has the engine look at the round that stands next, and make the text of its line. What was found
+/// of its parts is kept for rounds to come.
 pub(crate) fn stand_next<P: Ported, L: Ledger>(
     alloc: Global,
     engine: &mut Engine<P>,
+    ports: &Ports,
     budget: u64,
     steps: &mut Steps<L>,
-) -> Result<Standing, RoundFault>
+) -> Result<(Standing, Bytes), RoundFault>
     requires small { budget < 10 ^ 18 }
     ensures exact { let net = net_of P.behaviour engine.old.circuit in
         let turn = engine.old.rounds + 1 in
-        MatchResult result (IsStood budget net engine.old.circuit.ports turn)
+        MatchResult result (λ made. IsStood budget net engine.old.circuit.ports turn made.0)
         (IsUnplanned budget net) }
+    ensures text { let net = net_of P.behaviour engine.old.circuit in
+        let turn = engine.old.rounds + 1 in IfOk result (λ made.
+        let line = line_for net turn made.0.colouring.rows made.0.line.moves in
+        made.1 ≡ round_text ports.now.list line) }
     ensures circuit { engine.new.circuit ≡ engine.old.circuit }
     ensures rounds { engine.new.rounds ≡ engine.old.rounds }
 {
-    match engine.stand(alloc, budget, steps) {
-        Ok(standing) => Ok(standing),
+    match engine.stand(alloc, ports, budget, steps) {
+        Ok(made) => Ok(made),
         Err(fault) => Err(round_fault(fault)),
     }
 }

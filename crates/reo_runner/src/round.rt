@@ -130,10 +130,13 @@ pub(crate) fn make_round<P: Restoring + Standin, L: Ledger, S: Sink>(
     ensures risen { S.faults out.old < S.faults out.new → IsErrOf result SinkFailed }
 {
     offer_all(alloc, engine, ports, players)?;
-    let standing = stand_next(alloc, engine, limits.budget, steps)?;
-    let text = engine.line_text(alloc, ports, &standing)?;
+    let made = stand_next(alloc, engine, ports, limits.budget, steps)?;
+    let (standing, text) = made;
     match write_line(text.as_slice(), out) {
-        Ok(()) => Ok(count_out(engine, players, ports, standing, tally)),
+        Ok(()) => {
+            engine.hand_back(text);
+            Ok(count_out(engine, players, ports, standing, tally))
+        }
         Err(_) => Err(RoundFault::Failed),
     }
 }

@@ -19,25 +19,25 @@ returns-in-Ok-clause-made g c = λ w left.
     let a : State g.row.P.Denot = record { circuit = w; players = c.args.players.now } in
     let v : Wiring g.row.P.Denot = c.stand_next.new.engine.circuit in
     let net : Net = net_of g.P.Primitive.behaviour v in
-    let kept = c.in_ok-standing.ensures.circuit in
-    let s : Standing = c.in_ok-standing.standing in
+    let kept = c.in_ok-made.ensures.circuit in
+    let s : Standing = c.in_ok-made.made.0 in
     let turn : ℕ = c.args.engine.now.rounds + 1 in
     let same = c.offer_all.ensures.rounds in
-    let stood = rw (sym kept) at (rw same at c.in_ok-standing.ensures.exact) in
+    let stood = rw (sym kept) at (rw same at c.in_ok-made.ensures.exact) in
     let started = rw (sym kept) at (c.in_ok-offer_all.ensures.ready w left) in
-    let counted = c.in_ok-standing.ensures.rounds ∙ same in
+    let counted = c.in_ok-made.ensures.rounds ∙ same in
     let plan : Plan = plan_of net s in
     let is = stood_plan c.args.limits.budget net v.ports turn s stood in
     let line : RoundLine = line_for net turn s.colouring.rows s.line.moves in
-    let text : c.as_slice.result.now ≡ round_text c.args.ports.now.list line = c.as_slice.ensures ∙ (rw counted at c.in_ok-text.ensures) in
+    let text : c.as_slice.result.now ≡ round_text c.args.ports.now.list line = c.as_slice.ensures ∙ (rw (sym kept) at (rw same at c.in_ok-made.ensures.text)) in
     record {
       line = line;
       next = record { circuit = record v { primitives = stepped g.P.Primitive.behaviour g.P.Primitive.settled v plan.colouring.rows plan.colouring.items }; players = c.count_out.new.players };
-      round = round_planned r c.args.limits.budget c.args.limits.rounds turn a v plan line c.count_out.new.players started (omega (arith, c.requires.goes_on)) is refl c.count_out.ensures.players;
+      round = round_planned r c.args.limits.budget c.args.limits.rounds turn a v plan line c.count_out.new.players started (omega (arith, c.requires.goes_on)) is refl (rw c.hand_back.ensures at c.count_out.ensures.players);
       text = rw text at c.in-Ok.ensures.ok;
       tallied = tallied_by net turn plan _ line _ _ refl c.count_out.ensures.tallied;
-      over = rw counted at c.count_out.ensures.over ∙ over_by _ turn _ plan line c.args.players.now c.count_out.new.players is.shows refl;
-      circuit = c.count_out.ensures.circuit;
+      over = rw counted at (rw c.hand_back.ensures at c.count_out.ensures.over) ∙ over_by _ turn _ plan line c.args.players.now c.count_out.new.players is.shows refl;
+      circuit = (rw c.hand_back.ensures at c.count_out.ensures.circuit);
       players_are = refl;
     }
 
@@ -47,17 +47,17 @@ returns-in-Err-clause-fault g c = λ w left.
     let a : State g.row.P.Denot = record { circuit = w; players = c.args.players.now } in
     let v : Wiring g.row.P.Denot = c.stand_next.new.engine.circuit in
     let net : Net = net_of g.P.Primitive.behaviour v in
-    let kept = c.in_ok-standing.ensures.circuit in
-    let s : Standing = c.in_ok-standing.standing in
+    let kept = c.in_ok-made.ensures.circuit in
+    let s : Standing = c.in_ok-made.made.0 in
     let turn : ℕ = c.args.engine.now.rounds + 1 in
     let same = c.offer_all.ensures.rounds in
-    let stood = rw (sym kept) at (rw same at c.in_ok-standing.ensures.exact) in
+    let stood = rw (sym kept) at (rw same at c.in_ok-made.ensures.exact) in
     let started = rw (sym kept) at (c.in_ok-offer_all.ensures.ready w left) in
-    let counted = c.in_ok-standing.ensures.rounds ∙ same in
+    let counted = c.in_ok-made.ensures.rounds ∙ same in
     let plan : Plan = plan_of net s in
     let is = stood_plan c.args.limits.budget net v.ports turn s stood in
     let line : RoundLine = line_for net turn s.colouring.rows s.line.moves in
-    let text : c.as_slice.result.now ≡ round_text c.args.ports.now.list line = c.as_slice.ensures ∙ (rw counted at c.in_ok-text.ensures) in
+    let text : c.as_slice.result.now ≡ round_text c.args.ports.now.list line = c.as_slice.ensures ∙ (rw (sym kept) at (rw same at c.in_ok-made.ensures.text)) in
     let next = advanced net plan.colouring.rows c.args.players.now in
     record {
       line = line;

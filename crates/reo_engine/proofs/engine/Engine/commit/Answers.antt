@@ -3,7 +3,7 @@ use Rattle.std.proofs.lemmas.List.{length-map}
 use Rattle.reo_net_base.specs.Net.{Net, Wiring, net_of}
 use Rattle.reo_planning.proofs.Setting.{fewer_twice}
 use Rattle.reo_engine.proofs.FlowsLemmas.{flows_stay}
-use Rattle.reo_engine.proofs.Lookups.{round_held, round_made, stay_settled}
+use Rattle.reo_engine.proofs.Lookups.{round_elsewhere, round_held, round_made, stay_settled}
 use Rattle.reo_engine.proofs.Others.{others_stay}
 use Rattle.reo_engine.proofs.engine.Engine.commit.Goals as goal
 
@@ -35,9 +35,10 @@ invariant_of-self g c =
       round_held g.P.Primitive.behaviour now c.step.new.self c.mark_flowing.new.marks c.known.ensures.wired c.step.ensures.shape others marks
           c.self.inside.knots old.3.are_knots c.self.inside.kept c.unsettle_marked.new.self c.unsettle_moving.new.self c.self.inside.lookups old.4
           (rw c.as_slice-marks.ensures at c.unsettle_marked.ensures) c.unsettle_moving.ensures,
-      flows_stay (net_of g.P.Primitive.behaviour now) (net_of g.P.Primitive.behaviour c.step.new.self) c.known.ensures.wired c.step.ensures.shape.joints c.step.ensures.shape.primitives
-          c.self.inside.knots c.self.inside.kept c.unsettle_moving.new.self
-          (fewer_twice c.self.inside.kept c.unsettle_marked.new.self c.unsettle_moving.new.self c.unsettle_marked.ensures.fewer c.unsettle_moving.ensures.fewer) c.self.inside.flows old.5,
+      flows_stay (net_of g.P.Primitive.behaviour now) (net_of g.P.Primitive.behaviour c.step.new.self) c.self.inside.knots c.self.inside.kept c.unsettle_moving.new.self
+          (fewer_twice c.self.inside.kept c.unsettle_marked.new.self c.unsettle_moving.new.self c.unsettle_marked.ensures.fewer c.unsettle_moving.ensures.fewer)
+          (round_elsewhere g.P.Primitive.behaviour now c.step.new.self c.mark_flowing.new.marks c.step.ensures.shape others marks c.self.inside.knots c.self.inside.kept c.unsettle_marked.new.self c.unsettle_moving.new.self
+          (rw c.as_slice-marks.ensures at c.unsettle_marked.ensures) c.unsettle_moving.ensures) c.self.inside.flows old.5,
     )
 
 pub returns-clause-settled : goal.returns-clause-settled

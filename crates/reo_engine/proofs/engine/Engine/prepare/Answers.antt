@@ -28,6 +28,9 @@ pub returns-in_err-rows-clause-none : goal.returns-in_err-rows-clause-none
 returns-in_err-rows-clause-none g c = rw (← c.self.view_is) (λ all.
     absurd (not_all c.self.inside.kept c.args.budget (knot_count c.self.inside.knots) c.all_serve.result c.self.invariant.3.is_kept.sizes.one_each c.if-all_serve.false c.all_serve.ensures.1 all))
 
+pub store-list-requires-clause-orders : goal.store-list-requires-clause-orders
+store-list-requires-clause-orders g c = rw c.orders-orders.ensures (c.settle.ensures.lookups c.self.inside.kept).orders
+
 pub invariant_of-self : goal.invariant_of-self
 invariant_of-self g c =
     let old = c.self.invariant in (
@@ -45,9 +48,9 @@ invariant_of-self-2 g c =
       old.0,
       old.1,
       old.2,
-      record { are_knots = old.3.are_knots; are_ends = old.3.are_ends; is_kept = c.store.ensures.kept (c.self.inside.rounds + 1) c.in_ok-rows.ensures.exact },
-      c.settle.ensures.lookups c.store.new.self,
-      record { orders = old.5.orders; blank = old.5.blank; calm = λ e. absurd cc; one_each = old.5.one_each },
+      record { are_knots = old.3.are_knots; are_ends = old.3.are_ends; is_kept = c.store-list.ensures.kept (c.self.inside.rounds + 1) old.3.is_kept c.in_ok-rows.ensures.exact },
+      c.hand_back.ensures (net_of g.P.Primitive.behaviour c.self.inside.circuit) c.self.inside.knots c.store-list.new.self (c.settle.ensures.lookups c.store-list.new.self),
+      record { blank = old.5.blank; calm = λ e. absurd cc; one_each = old.5.one_each; cells = old.5.cells; shown = λ e. absurd cc },
     )
 
 pub returns-clause-exact : goal.returns-clause-exact

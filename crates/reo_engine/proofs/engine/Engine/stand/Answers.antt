@@ -1,3 +1,9 @@
+use Rattle.std.proofs.Common.{ℕ, List, ap, sym, subst}
+use Rattle.reo_net_base.specs.Net.{Net, net_of}
+use Rattle.reo_trace.specs.declared.line.RoundLine.{RoundLine}
+use Rattle.reo_cells.specs.Cells.{AreShown}
+use Rattle.reo_cells.specs.declared.cells.Cells.{Cells}
+use Rattle.reo_engine.proofs.FlowsLemmas.{flows_texted}
 use Rattle.reo_engine.proofs.engine.Engine.stand.Goals as goal
 
 pub invariant_of-self : goal.invariant_of-self
@@ -19,7 +25,7 @@ invariant_of-self-2 g c =
       old.2,
       record { are_knots = old.3.are_knots; are_ends = old.3.are_ends; is_kept = c.renew_marked.ensures.kept },
       c.renew_marked.ensures.lookups,
-      c.stand_by.ensures.flows,
+      flows_texted (net_of g.P.Primitive.behaviour c.self.inside.circuit) c.self.inside.knots c.renew_marked.new.kept c.stand_by.new.flows c.replace-over.new.dest c.stand_by.ensures.flows,
     )
 
 pub invariant_of-self-in_err-standing : goal.invariant_of-self-in_err-standing
@@ -33,6 +39,9 @@ invariant_of-self-in_err-standing g c =
       c.stand_by.ensures.flows,
     )
 
+pub stand_by-requires-clause-orders : goal.stand_by-requires-clause-orders
+stand_by-requires-clause-orders g c = rw c.orders.ensures c.renew_marked.ensures.lookups.orders
+
 pub stand_by-requires-clause-first : goal.stand_by-requires-clause-first
 stand_by-requires-clause-first g c = c.in_ok-renew_marked.ensures.exact.first
 
@@ -44,3 +53,16 @@ returns-clause-exact g c = rw (← c.self.view_is) record {
   within = c.in_ok-renew_marked.ensures.exact.within;
   stands = c.in_ok-standing.ensures.stands;
 }
+
+pub returns-clause-text : goal.returns-clause-text
+returns-clause-text g c =
+    let net : Net = net_of g.P.Primitive.behaviour c.self.inside.circuit in
+    let rows : List ℕ = c.in_ok-standing.standing.colouring.rows in
+    let stands = c.in_ok-standing.ensures.stands in
+    let cells : Cells = c.stand_by.new.flows.cells in
+    let shown : AreShown net rows cells =
+    subst (λ (xs : List ℕ). AreShown net xs cells) (sym c.in_ok-standing.ensures.rows)
+    (subst (λ (x : Cells). AreShown net c.renew_marked.new.kept.rows x) (sym c.stand_by.ensures.cells) c.in_ok-renew_marked.ensures.shown) in
+    let idle = ap (λ (line : RoundLine). line.idle) stands.line in
+    let text = c.in_ok-text.ensures net rows c.known.ensures.wired c.stand_by.ensures.flows.cells stands.first.colouring.rows_fit.in_tables shown idle in
+    rw (← c.self.view_is) (rw c.as_slice.ensures at text)

@@ -3,7 +3,7 @@ use Rattle.std.proofs.lemmas.List.{length-map}
 use Rattle.reo_net_base.specs.Net.{net_of}
 use Rattle.reo_engine.proofs.FlowsLemmas.{flows_stay}
 use Rattle.reo_engine.proofs.KeptLemmas.{just_ports_kept, one_each_kept}
-use Rattle.reo_engine.proofs.Lookups.{one_changes, one_held}
+use Rattle.reo_engine.proofs.Lookups.{one_changes, one_elsewhere, one_held}
 use Rattle.reo_engine.proofs.engine.Engine.withdraw.Goals as goal
 
 pub unsettle-requires-clause-primitive : goal.unsettle-requires-clause-primitive
@@ -20,6 +20,7 @@ invariant_of-self g c =
           c.withdraw.ensures.circuit c.self.inside.rounds c.self.inside.knots c.self.inside.ends c.self.inside.kept c.unsettle.new.self old.3 c.unsettle.ensures,
       one_held g.P.Primitive.behaviour c.self.inside.circuit c.withdraw.new.self g.P.Ported.withdrawn c.args.port c.known.ensures.wired c.withdraw.ensures.shape.net
           c.withdraw.ensures.circuit c.self.inside.knots old.3.are_knots c.self.inside.kept c.unsettle.new.self c.self.inside.lookups old.4 c.unsettle.ensures,
-      flows_stay (net_of g.P.Primitive.behaviour c.self.inside.circuit) (net_of g.P.Primitive.behaviour c.withdraw.new.self) c.known.ensures.wired c.withdraw.ensures.shape.net.joints c.withdraw.ensures.shape.net.primitives
-          c.self.inside.knots c.self.inside.kept c.unsettle.new.self c.unsettle.ensures.fewer c.self.inside.flows old.5,
+      flows_stay (net_of g.P.Primitive.behaviour c.self.inside.circuit) (net_of g.P.Primitive.behaviour c.withdraw.new.self) c.self.inside.knots c.self.inside.kept c.unsettle.new.self c.unsettle.ensures.fewer
+          (one_elsewhere g.P.Primitive.behaviour c.self.inside.circuit c.withdraw.new.self g.P.Ported.withdrawn c.args.port c.withdraw.ensures.shape.net
+          c.withdraw.ensures.circuit c.self.inside.knots c.self.inside.kept c.unsettle.new.self c.unsettle.ensures) c.self.inside.flows old.5,
     )
