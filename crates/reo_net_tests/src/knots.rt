@@ -1,37 +1,32 @@
 //! Knots of worked circuits, found by hand.
-use crate::circuits::made;
-use crate::pieces::Piece::{self, Replicator, Store, Sync, SyncDrain, Taker, Writer};
-use crate::shapes::BETWEEN;
+use crate::checks::MEMORY;
+use crate::circuits::Look::Knots as Told;
+use crate::circuits::{Case, all_are_right};
+use crate::shapes::{BETWEEN, DOUBLED};
+use reo_kinds::Kind;
 use reo_knots::{Knots, find_knots};
-use std::test::Fail;
-
-/// Pieces, how many of them are ports, their joints, and of each knot the sides and the loop
-/// joints.
-type Case = (
-    &'static [Piece],
-    usize,
-    &'static [[usize; 4]],
-    &'static [(&'static [usize], &'static [usize])],
-);
+use reo_net_circuit::Circuit;
+use std::alloc::Global;
+use std::process::Abort;
 
 const CASES: &[Case] = &[
     (
-        &[Writer(Some(3)), Taker(true), Sync],
-        2,
+        "a channel",
+        "w3 t+ sync",
         BETWEEN,
-        &[(&[0, 1, 2], &[])],
+        Told(&[(&[0, 1, 2], &[])]),
     ),
     (
-        &[Writer(Some(3)), Taker(true), Store(2, &[])],
-        2,
+        "a buffer",
+        "w3 t+ b2",
         BETWEEN,
-        &[(&[0, 2], &[]), (&[1, 3], &[])],
+        Told(&[(&[0, 2], &[]), (&[1, 3], &[])]),
     ),
     (
-        &[Writer(Some(3)), SyncDrain, Replicator(2)],
-        1,
-        &[[0, 0, 2, 0], [2, 1, 1, 0], [2, 2, 1, 1]],
-        &[(&[0, 1, 2], &[2])],
+        "a drain of both outputs of a replicator",
+        "w3 drain r2",
+        DOUBLED,
+        Told(&[(&[0, 1, 2], &[2])]),
     ),
 ];
 
@@ -49,14 +44,20 @@ fn are(knots: &Knots, want: &[(&[usize], &[usize])]) -> bool {
     true
 }
 
+/// Whether the knots of a circuit have these sides and loop joints, and there are no others.
+pub fn has_knots(
+    rt: &impl Abort,
+    alloc: Global,
+    circuit: &Circuit<Kind>,
+    want: &[(&[usize], &[usize])],
+) -> bool {
+    let knots = find_knots(alloc, circuit).expect(rt, MEMORY);
+    let right = are(&knots, want);
+    drop(knots);
+    right
+}
+
 #[test]
-fn knots_have_their_sides_and_loop_joints(rt: HostRuntime) -> Result<(), Fail> {
-    let alloc = rt.alloc();
-    for (pieces, ports, joints, want) in CASES {
-        let Ok(circuit) = made(&rt, alloc, pieces, *ports, joints)? else {
-            return Err(Fail::from("no circuit"));
-        };
-        assert!(rt; are(&find_knots(alloc, &circuit)?, want));
-    }
-    Ok(())
+fn knots_have_their_sides_and_loop_joints(rt: HostRuntime) {
+    all_are_right(&rt, rt.alloc(), CASES);
 }

@@ -29,3 +29,5 @@ mod row_lists;
 mod shapes;
 #[cfg(test)]
 mod tables;
+#[cfg(test)]
+mod texts;

@@ -1,30 +1,28 @@
 //! Knots of forty pairs of ports with two channels each, found by hand.
 ghost use Rattle.std.specs.Prelude.{◌<◌};
 
+use crate::checks::{MEMORY, is};
 use crate::circuits::made;
 use crate::pieces::Piece::{self, Merger, Replicator, Sync, Taker, Writer};
+use crate::pieces::kind;
+use reo_kinds::Kind;
 use reo_knots::{Knots, find_knots};
-use reo_values::{List, NoMemory};
+use reo_net_circuit::Circuit;
+use reo_values::List;
 use std::alloc::Global;
-use std::test::Fail;
-
-const PAIRS: usize = 40;
+use std::process::Abort;
 
 /// The ports of all pairs, two each; then two channels for each pair, and then its nodes: what
 /// replicates to both channels, and what merges them.
-fn pieces(alloc: Global) -> Result<List<Piece>, NoMemory> {
-    let mut pieces = List::new(alloc);
-    for [one, other] in [
+fn piece(number: usize) -> Piece
+    requires { number < 240 }
+{
+    let stand = [
         [Writer(Some(3)), Taker(true)],
         [Sync, Sync],
         [Replicator(2), Merger(2)],
-    ] {
-        for _pair in 0..PAIRS {
-            pieces.push(one)?;
-            pieces.push(other)?;
-        }
-    }
-    Ok(pieces)
+    ];
+    stand[number / 80][number % 2]
 }
 
 /// The joints of a pair: from the writer through the replicator to the channels, and from these
@@ -45,15 +43,21 @@ fn joints_of(pair: usize) -> [[usize; 4]; 6]
     ]
 }
 
-/// The joints of all pairs: the first of each, then the second of each, and so on.
-fn joints(alloc: Global) -> Result<List<[usize; 4]>, NoMemory> {
+/// The circuit of all pairs: the first joint of each, then the second of each, and so on.
+fn forty(rt: &impl Abort, alloc: Global) -> Circuit<Kind> {
+    let mut kinds = List::new(alloc);
     let mut joints = List::new(alloc);
-    for place in 0..6 {
-        for pair in 0..PAIRS {
-            joints.push(joints_of(pair)[place])?;
-        }
+    for number in 0..240 {
+        kinds
+            .push(kind(rt, alloc, piece(number)))
+            .expect(rt, MEMORY);
+        joints
+            .push(joints_of(number % 40)[number / 40])
+            .expect(rt, MEMORY);
     }
-    Ok(joints)
+    let circuit = made(rt, alloc, kinds, 80, joints.as_slice()).expect(rt, "a circuit");
+    drop(joints);
+    circuit
 }
 
 /// Whether a knot is that of the pair of its number: the two ports, the two channels and the two
@@ -69,18 +73,21 @@ fn is_pair(knots: &Knots, pair: usize) -> bool
         && knots.loop_joints(pair) == [pair + 160].as_slice()
 }
 
-#[test]
-fn forty_pairs_are_forty_knots(rt: HostRuntime) -> Result<(), Fail> {
-    let alloc = rt.alloc();
-    let pieces = pieces(alloc)?;
-    let joints = joints(alloc)?;
-    let Ok(circuit) = made(&rt, alloc, pieces.as_slice(), 80, joints.as_slice())? else {
-        return Err(Fail::from("no circuit"));
-    };
-    let knots = find_knots(alloc, &circuit)?;
-    assert!(rt; knots.count() == PAIRS);
-    for pair in 0..PAIRS {
-        assert!(rt; is_pair(&knots, pair), "pair {pair}");
+/// Whether the knots are those of all pairs.
+fn are_pairs(knots: &Knots) -> bool {
+    for pair in 0..40 {
+        if !is_pair(knots, pair) {
+            return false;
+        }
     }
-    Ok(())
+    knots.count() == 40
+}
+
+#[test]
+fn forty_pairs_are_forty_knots(rt: HostRuntime) {
+    let circuit = forty(&rt, rt.alloc());
+    let knots = find_knots(rt.alloc(), &circuit).expect(&rt, MEMORY);
+    drop(circuit);
+    is(&rt, are_pairs(&knots), "forty pairs");
+    drop(knots);
 }

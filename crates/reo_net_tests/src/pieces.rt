@@ -1,12 +1,12 @@
 //! What stands in the circuits of the tests.
+use crate::checks::MEMORY;
 use reo_buffers::Buffer;
 use reo_exprs::{Expr, ExprPair, type_of};
 use reo_kinds::{Branches, FilterRule, Kind, MapRule, TakerPort, WriterPort};
 use reo_net_base::{Offer, Ported};
-use reo_values::{Binary, Boxed, Kindred, List, NoMemory, Value};
+use reo_values::{Binary, Boxed, Kindred, List, Value};
 use std::alloc::Global;
 use std::process::Abort;
-use std::test::Fail;
 
 /// One of the primitives of a circuit. All items are 0 to 9.
 #[derive(Clone, Copy)]
@@ -23,12 +23,8 @@ pub enum Piece {
     Merger(usize),
     /// With two outputs, or with three.
     Replicator(usize),
-    /// The filter by `it > 5`.
-    Above,
-    /// The filter by `it <= 5`.
-    Rest,
-    /// The map by `it * 2 + 1`.
-    TwiceAndOne,
+    /// The filter by `it` with these operators and numbers behind it, or the map by it.
+    By(&'static [(Binary, i64)]),
     /// A buffer of this size with these items.
     Store(usize, &'static [i64]),
     /// A shift buffer of this size with these items.
@@ -38,6 +34,15 @@ pub enum Piece {
     /// With so many left.
     Quota(u32),
 }
+
+/// The filter by `it > 5`.
+pub const ABOVE: Piece = Piece::By(&[(Binary::Gt, 5)]);
+
+/// The filter by `it <= 5`.
+pub const REST: Piece = Piece::By(&[(Binary::Le, 5)]);
+
+/// The map by `it * 2 + 1`.
+pub const TWICE_AND_ONE: Piece = Piece::By(&[(Binary::Mul, 2), (Binary::Add, 1)]);
 
 /// A port where items are written, with this one offered, or nothing.
 fn writer(item: Option<i64>) -> Kind {
@@ -50,71 +55,39 @@ fn writer(item: Option<i64>) -> Kind {
     writer
 }
 
-/// A port where items are taken.
-fn taker(pending: bool) -> Kind {
-    Kind::Taker(TakerPort { pending })
-}
-
-/// Two branches, or three.
-fn branches(count: usize) -> Branches {
-    if count == 3 {
-        Branches::new(3)
-    } else {
-        Branches::new(2)
+/// `it` with these operators and numbers behind it, one after the other.
+fn expr(rt: &impl Abort, alloc: Global, steps: &[(Binary, i64)]) -> Expr {
+    let mut expr = Expr::It;
+    for (op, number) in steps {
+        let right = Expr::Int(*number);
+        let pair = Boxed::new(alloc, ExprPair { left: expr, right });
+        expr = Expr::Two(*op, pair.expect(rt, MEMORY));
     }
+    expr
 }
 
-/// The two operands with their operator.
-fn two(alloc: Global, op: Binary, left: Expr, right: Expr) -> Result<Expr, NoMemory> {
-    Ok(Expr::Two(op, Boxed::new(alloc, ExprPair { left, right })?))
-}
-
-/// A filter by `it > 5`, or by `it <= 5`.
-fn filter(rt: &impl Abort, alloc: Global, op: Binary) -> Result<Kind, Fail> {
-    let expr = two(alloc, op, Expr::It, Expr::Int(5))?;
+/// The filter by an expression that has truth values, or the map by another.
+fn by(rt: &impl Abort, alloc: Global, expr: Expr) -> Kind {
     let of = Kindred::Int(0, 9);
-    match type_of(alloc, &expr, &of)? {
-        Kindred::Bool => Ok(Kind::Filter(FilterRule::new(of, expr))),
-        _ => panic!(rt; "a comparison has truth values"),
+    match type_of(alloc, &expr, &of).expect(rt, "a type") {
+        Kindred::Bool => Kind::Filter(FilterRule::new(of, expr)),
+        _ => Kind::Map(MapRule::new(of, expr)),
     }
-}
-
-/// The map by `it * 2 + 1`.
-fn twice_and_one(alloc: Global) -> Result<Kind, Fail> {
-    let twice = two(alloc, Binary::Mul, Expr::It, Expr::Int(2))?;
-    let expr = two(alloc, Binary::Add, twice, Expr::Int(1))?;
-    let of = Kindred::Int(0, 9);
-    let _ = type_of(alloc, &expr, &of)?;
-    Ok(Kind::Map(MapRule::new(of, expr)))
 }
 
 /// A buffer into which these items were put, as many as fit.
-fn filled(alloc: Global, size: usize, numbers: &[i64]) -> Result<Buffer, NoMemory> {
-    let mut buffer = Buffer::new(alloc, size.clamp(1, 1024))?;
+fn filled(rt: &impl Abort, alloc: Global, size: usize, numbers: &[i64]) -> Buffer {
+    let mut buffer = Buffer::new(alloc, size.clamp(1, 1024)).expect(rt, MEMORY);
     for number in numbers {
         if !buffer.is_full() {
             buffer.put(Value::Int(*number));
         }
     }
-    Ok(buffer)
-}
-
-/// A buffer made with these items, or without, where they do not fit.
-fn holding(alloc: Global, size: usize, numbers: &[i64]) -> Result<Buffer, NoMemory> {
-    let size = size.clamp(1, 1024);
-    let mut items = List::new(alloc);
-    for number in numbers {
-        items.push(Value::Int(*number))?;
-    }
-    if items.len() <= size {
-        Buffer::with(alloc, size, items)
-    } else {
-        Buffer::new(alloc, size)
-    }
+    buffer
 }
 
 /// The number as an item.
-fn item(number: Option<i64>) -> Option<Value> {
+pub fn item(number: Option<i64>) -> Option<Value> {
     match number {
         Some(number) => Some(Value::Int(number)),
         None => None,
@@ -122,69 +95,69 @@ fn item(number: Option<i64>) -> Option<Value> {
 }
 
 /// The primitive that a piece stands for.
-pub fn kind(rt: &impl Abort, alloc: Global, piece: Piece) -> Result<Kind, Fail> {
+pub fn kind(rt: &impl Abort, alloc: Global, piece: Piece) -> Kind {
     match piece {
-        Piece::Writer(item) => Ok(writer(item)),
-        Piece::Taker(pending) => Ok(taker(pending)),
-        Piece::Sync => Ok(Kind::Sync),
-        Piece::Lossy => Ok(Kind::Lossy),
-        Piece::SyncDrain => Ok(Kind::SyncDrain),
-        Piece::AsyncDrain => Ok(Kind::AsyncDrain),
-        Piece::Merger(inputs) => Ok(Kind::Merger(branches(inputs))),
-        Piece::Replicator(outputs) => Ok(Kind::Replicator(branches(outputs))),
-        Piece::Above => filter(rt, alloc, Binary::Gt),
-        Piece::Rest => filter(rt, alloc, Binary::Le),
-        Piece::TwiceAndOne => twice_and_one(alloc),
-        Piece::Store(size, numbers) => Ok(Kind::Store(filled(alloc, size, numbers)?)),
-        Piece::Shift(size, numbers) => Ok(Kind::Shift(holding(alloc, size, numbers)?)),
-        Piece::Variable(number) => Ok(Kind::Variable(item(number))),
-        Piece::Quota(left) => Ok(Kind::Quota(left)),
+        Piece::Writer(item) => writer(item),
+        Piece::Taker(pending) => Kind::Taker(TakerPort { pending }),
+        Piece::Sync => Kind::Sync,
+        Piece::Lossy => Kind::Lossy,
+        Piece::SyncDrain => Kind::SyncDrain,
+        Piece::AsyncDrain => Kind::AsyncDrain,
+        Piece::Merger(inputs) => Kind::Merger(Branches::new(inputs.clamp(2, 3))),
+        Piece::Replicator(outputs) => Kind::Replicator(Branches::new(outputs.clamp(2, 3))),
+        Piece::By(steps) => by(rt, alloc, expr(rt, alloc, steps)),
+        Piece::Store(size, numbers) => Kind::Store(filled(rt, alloc, size, numbers)),
+        Piece::Shift(size, numbers) => Kind::Shift(filled(rt, alloc, size, numbers)),
+        Piece::Variable(number) => Kind::Variable(item(number)),
+        Piece::Quota(left) => Kind::Quota(left),
     }
 }
 
-/// The primitives that pieces stand for.
-pub fn kinds(rt: &impl Abort, alloc: Global, pieces: &[Piece]) -> Result<List<Kind>, Fail> {
-    let mut list = List::new(alloc);
-    for piece in pieces {
-        let made = kind(rt, alloc, *piece)?;
-        list.push(made)?;
-    }
-    Ok(list)
-}
+/// Words for pieces: `w` and `t` are ports, with the number that is offered behind `w` and a sign
+/// behind `t` where an item can be taken; `m2` is a merger and `r2` a replicator; `b2` is an empty
+/// buffer of this size.
+const WORDS: &[(&str, Piece)] = &[
+    ("w", Piece::Writer(None)),
+    ("w0", Piece::Writer(Some(0))),
+    ("w2", Piece::Writer(Some(2))),
+    ("w3", Piece::Writer(Some(3))),
+    ("w4", Piece::Writer(Some(4))),
+    ("w5", Piece::Writer(Some(5))),
+    ("w6", Piece::Writer(Some(6))),
+    ("w9", Piece::Writer(Some(9))),
+    ("t", Piece::Taker(false)),
+    ("t+", Piece::Taker(true)),
+    ("sync", Piece::Sync),
+    ("lossy", Piece::Lossy),
+    ("drain", Piece::SyncDrain),
+    ("adrain", Piece::AsyncDrain),
+    ("above", ABOVE),
+    ("rest", REST),
+    ("map", TWICE_AND_ONE),
+    ("m2", Piece::Merger(2)),
+    ("m3", Piece::Merger(3)),
+    ("r2", Piece::Replicator(2)),
+    ("r3", Piece::Replicator(3)),
+    ("b1", Piece::Store(1, &[])),
+    ("b2", Piece::Store(2, &[])),
+];
 
-/// The piece that a word says: `w` and `t` are ports, with the number that is offered behind `w`
-/// and a sign behind `t` where an item can be taken; `m2` is a merger and `r2` a replicator.
+/// The piece that a word says.
 fn piece_of(word: &str) -> Option<Piece> {
-    match word {
-        "w" => Some(Piece::Writer(None)),
-        "t" => Some(Piece::Taker(false)),
-        "t+" => Some(Piece::Taker(true)),
-        "sync" => Some(Piece::Sync),
-        "lossy" => Some(Piece::Lossy),
-        "drain" => Some(Piece::SyncDrain),
-        "adrain" => Some(Piece::AsyncDrain),
-        "above" => Some(Piece::Above),
-        "rest" => Some(Piece::Rest),
-        "map" => Some(Piece::TwiceAndOne),
-        "m2" => Some(Piece::Merger(2)),
-        "m3" => Some(Piece::Merger(3)),
-        "r2" => Some(Piece::Replicator(2)),
-        "r3" => Some(Piece::Replicator(3)),
-        _ => match word.strip_prefix('w')?.parse::<i64>() {
-            Ok(item) => Some(Piece::Writer(Some(item))),
-            Err(_) => None,
-        },
-    }
-}
-
-/// The pieces that words say, up to the first word that says none.
-pub fn read_pieces(alloc: Global, words: &str) -> Result<List<Piece>, NoMemory> {
-    let mut pieces = List::new(alloc);
-    for word in words.split(' ') {
-        match piece_of(word) {
-            Some(piece) => pieces.push(piece)?,
-            None => return Ok(pieces),
+    for (name, piece) in WORDS {
+        if *name == word {
+            return Some(*piece);
         }
     }
-    Ok(pieces)
+    None
+}
+
+/// The primitives that words say.
+pub fn read_kinds(rt: &impl Abort, alloc: Global, words: &str) -> List<Kind> {
+    let mut kinds = List::new(alloc);
+    for word in words.split(' ') {
+        let piece = piece_of(word).expect(rt, word);
+        kinds.push(kind(rt, alloc, piece)).expect(rt, MEMORY);
+    }
+    kinds
 }

@@ -1,11 +1,9 @@
 //! What a search asks of its sets, looked at before it.
 ghost use Rattle.std.specs.Prelude.{◌≡◌, ◌<◌, ◌+◌, ℕ, [], IsTrue, length, slice_index, slice_index_or};
-ghost use Rattle.reo_knots.specs.Knots.{knot_count};
 ghost use Rattle.reo_rows.specs.Sets.{code_of};
 ghost use Rattle.reo_search_tests.specs.Bounds.{AreBelow, IsWithin, AreWithin, AreSingle};
 
 use reo_joint_values::JointValue;
-use reo_knots::Knots;
 use reo_propagate::Sets;
 use reo_rows::FLOWS;
 use reo_values::{List, Value};
@@ -68,7 +66,7 @@ fn is_single(sets: &Sets, joint: usize) -> bool
 }
 
 /// Whether the sets of these joints have at most one value each.
-fn are_single(sets: &Sets, joints: &[usize]) -> bool
+pub fn are_single(sets: &Sets, joints: &[usize]) -> bool
     ensures { IsTrue result → AreSingle sets.now.values (length joints.now) joints.now }
 {
     for index in 0..joints.len() {
@@ -77,13 +75,4 @@ fn are_single(sets: &Sets, joints: &[usize]) -> bool
         }
     }
     true
-}
-
-/// Whether the sets of a knot's loop joints have at most one value each.
-pub fn loops_are_single(knots: &Knots, sets: &Sets, knot: usize) -> bool
-    requires { knot < knot_count knots.now }
-    ensures { let joints = slice_index_or knots.now.loop_joints knot [] in
-        IsTrue result → AreSingle sets.now.values (length joints) joints }
-{
-    are_single(sets, knots.loop_joints(knot))
 }

@@ -2,17 +2,17 @@
 #![tactic(auto)]
 
 #[cfg(test)]
+mod arranged;
+#[cfg(test)]
 mod beginnings;
 #[cfg(test)]
 mod bounds;
 #[cfg(test)]
-mod building;
-#[cfg(test)]
 mod circuits;
 #[cfg(test)]
-mod limits;
+mod facts;
 #[cfg(test)]
-mod plainest;
+mod looks;
 #[cfg(test)]
 mod searches;
 #[cfg(test)]
@@ -20,8 +20,4 @@ mod sets;
 #[cfg(test)]
 mod tests;
 #[cfg(test)]
-mod weights;
-#[cfg(test)]
 mod widths;
-#[cfg(test)]
-mod writers;

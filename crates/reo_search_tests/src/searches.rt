@@ -1,137 +1,116 @@
 //! The weight of a first knot, and its first assignment over all values.
-ghost use Rattle.std.specs.Prelude.{◌≡◌, ◌<◌, ◌≤◌, ◌+◌, IfOk, OnOk};
+ghost use Rattle.std.specs.Prelude.{◌≡◌, ◌<◌, ◌≤◌, ◌+◌, ℕ, IsTrue};
 ghost use Rattle.reo_net_base.specs.Net.{net_of};
-ghost use Rattle.reo_knots.specs.Knots.{AreKnots, in_knot};
+ghost use Rattle.reo_knots.specs.Knots.{AreKnots, in_knot, knot_count};
 ghost use Rattle.reo_reach.specs.Supplied.{AreShort, IsSupply};
 ghost use Rattle.reo_weights.specs.Weights.{IsWeight};
 
+use crate::looks::is_part;
 use crate::widths::none_wide;
-use reo_kinds::Kind;
-use reo_knots::{Knots, find_knots};
+use reo_knots::Knots;
 use reo_net_base::Primitive;
 use reo_net_circuit::Circuit;
-use reo_reach::{Supply, reach};
+use reo_reach::Supply;
 use reo_search::{Part, SearchFault, first, weight};
 use reo_steps::Steps;
 use std::alloc::Global;
-use std::process::Abort;
-use std::sync::ledger::{Blank, Ledger};
-use std::test::Fail;
+use std::sync::ledger::Ledger;
 
 /// The greatest budget.
 pub const MOST: u64 = 999_999_999_999_999_999;
 
-/// Whether these are 0, 1, 2 and so on.
-fn are_counted(sides: &[usize]) -> bool {
-    for index in 0..sides.len() {
-        if sides[index] != index {
-            return false;
-        }
-    }
-    true
+/// What a search answers: a part of all sides with these rows, of which none jams, or a fault.
+#[derive(Clone, Copy)]
+enum Answer<'a> {
+    Rows(&'a [u32]),
+    Fault(SearchFault),
 }
 
-/// Whether an answer is a part of all sides with these rows, of which none jams.
-fn is_part(answer: &Result<Part, SearchFault>, rows: &[u32]) -> bool {
+fn is_answer(answer: &Result<Part, SearchFault>, want: Answer<'_>) -> bool {
     match answer {
-        Ok(part) => {
-            !part.jammed
-                && part.sides.len() == rows.len()
-                && are_counted(part.sides.as_slice())
-                && part.rows.as_slice() == rows
-        }
-        Err(_) => false,
+        Ok(part) => match want {
+            Answer::Rows(rows) => is_part(part, rows, false),
+            Answer::Fault(_) => false,
+        },
+        Err(fault) => match want {
+            Answer::Rows(_) => false,
+            Answer::Fault(want) => *fault == want,
+        },
     }
 }
 
-/// Whether an answer is this fault.
-pub fn is_fault(answer: &Result<Part, SearchFault>, want: SearchFault) -> bool {
-    match answer {
-        Ok(_) => false,
-        Err(fault) => *fault == want,
-    }
-}
-
-/// Whether an answer is the part with these rows, or where the budget is below the weight that the
-/// knot is spent.
-fn is_right(answer: &Result<Part, SearchFault>, weighs: u64, budget: u64, rows: &[u32]) -> bool {
-    let spent = SearchFault::Spent {
-        knot: 0,
-        weight: weighs,
-    };
-    if budget < weighs {
-        is_fault(answer, spent)
-    } else {
-        is_part(answer, rows)
-    }
-}
-
-/// The weight of the first knot.
-fn weighed<P: Primitive>(
-    rt: &impl Abort,
+/// Whether a search of the first knot in round 1 answers this. It makes at most as many ticks as
+/// the weight of the knot says.
+fn answers<P: Primitive, L: Ledger>(
     alloc: Global,
     circuit: &Circuit<P>,
     knots: &Knots,
     supply: &Supply,
-) -> Result<u64, Fail>
+    budget: u64,
+    want: Answer<'_>,
+    steps: &mut Steps<L>,
+) -> bool
     requires knots { AreKnots (net_of P.behaviour circuit.now) knots.now }
+    requires some { 0 < knot_count knots.now }
     requires supply { IsSupply (net_of P.behaviour circuit.now) supply.now }
     requires short { AreShort supply.now }
     ensures { let net = net_of P.behaviour circuit.now in
-        IfOk result (IsWeight net (in_knot knots.now.numbers 0)) }
+        (w : ℕ) → IsWeight net (in_knot knots.now.numbers 0) w → steps.new ≤ steps.old + w }
 {
-    assert!(rt; 0 < knots.count());
-    assert!(rt; none_wide(supply));
-    Ok(weight(alloc, circuit, knots, supply, 0)?)
+    let answer = first(alloc, circuit, knots, supply, 0, 1, budget.min(MOST), steps);
+    is_answer(&answer, want)
 }
 
-/// What a search of the first knot answers in round 1, where the knot weighs so much. It makes at
-/// most as many ticks.
-fn searched<P: Primitive, L: Ledger>(
-    rt: &impl Abort,
+/// Whether the first knot weighs so much, and its first assignment has these rows and is found
+/// within this budget, exactly where that is not below the weight. It makes at most so
+/// many ticks.
+pub fn searched<P: Primitive, L: Ledger>(
     alloc: Global,
     circuit: &Circuit<P>,
     knots: &Knots,
     supply: &Supply,
     weighs: u64,
     budget: u64,
+    rows: &[u32],
     steps: &mut Steps<L>,
-) -> Result<Result<Part, SearchFault>, Fail>
+) -> bool
     requires knots { AreKnots (net_of P.behaviour circuit.now) knots.now }
+    requires some { 0 < knot_count knots.now }
     requires supply { IsSupply (net_of P.behaviour circuit.now) supply.now }
     requires short { AreShort supply.now }
-    ensures { OnOk result (steps.new ≤ steps.old + weighs) }
+    ensures { IsTrue result → steps.new ≤ steps.old + weighs }
 {
-    assert!(rt; budget <= MOST);
-    assert!(rt; 0 < knots.count());
-    let found = weighed(rt, alloc, circuit, knots, supply)?;
-    assert!(rt; found == weighs);
-    Ok(first(alloc, circuit, knots, supply, 0, 1, budget, steps))
+    if !none_wide(supply) {
+        return false;
+    }
+    let Ok(found) = weight(alloc, circuit, knots, supply, 0) else {
+        return false;
+    };
+    let want = if budget < weighs {
+        Answer::Fault(SearchFault::Spent {
+            knot: 0,
+            weight: weighs,
+        })
+    } else {
+        Answer::Rows(rows)
+    };
+    found == weighs && answers(alloc, circuit, knots, supply, budget, want, steps)
 }
 
-/// Asserts that the first knot of a circuit weighs so much, and that its first assignment has these
-/// rows and is found exactly within budgets that are not below the weight.
-pub fn are_first<L: Ledger>(
-    rt: &impl Abort,
+/// Whether the first knot is wide, and is not searched within this budget.
+pub fn is_wide<P: Primitive, L: Ledger>(
     alloc: Global,
-    circuit: &Circuit<Kind>,
-    blank: Blank,
-    weighs: u64,
-    rows: &[u32],
-) -> Result<(), Fail>
-    requires name { blank.name ≡ L.name }
-    requires parts { blank.parts ≡ L.parts }
-    requires some_part { 0 < L.parts }
-    requires some { 0 < weighs }
+    circuit: &Circuit<P>,
+    knots: &Knots,
+    supply: &Supply,
+    budget: u64,
+    steps: &mut Steps<L>,
+) -> bool
+    requires knots { AreKnots (net_of P.behaviour circuit.now) knots.now }
+    requires some { 0 < knot_count knots.now }
+    requires supply { IsSupply (net_of P.behaviour circuit.now) supply.now }
+    requires short { AreShort supply.now }
 {
-    let mut steps = Steps::<L>::new(blank);
-    let knots = find_knots(alloc, circuit)?;
-    let supply = reach(alloc, circuit)?;
-    for budget in [weighs - 1, weighs, MOST] {
-        let answer = searched(
-            rt, alloc, circuit, &knots, &supply, weighs, budget, &mut steps,
-        )?;
-        assert!(rt; is_right(&answer, weighs, budget, rows), "{budget}");
-    }
-    Ok(())
+    let wide = Answer::Fault(SearchFault::Wide { knot: 0 });
+    !none_wide(supply) && answers(alloc, circuit, knots, supply, budget, wide, steps)
 }

@@ -1,220 +1,198 @@
-//! The search of the drain on one port.
-ghost use Rattle.std.specs.Prelude.{◌≡◌, ◌<◌, ◌+◌, OnOk};
-ghost use Rattle.reo_net_base.specs.Net.{net_of};
-ghost use Rattle.reo_knots.specs.Knots.{AreKnots};
+//! One channel, a drain on one port, and many writers: what was found by hand.
+use crate::beginnings::Left;
+use crate::circuits::Shape::{Channel, Drain, Writers};
+use crate::facts::Fact::{self, Arranged, Begun, Narrowed, Only, Supplied, Wide, Within};
+use crate::facts::are;
+use crate::searches::MOST;
+use crate::sets::{ALL, Table, WITHOUT_FLOW};
+use reo_joint_values::JointValue::{Flow, GG, GR, Jam, RG};
 
-use crate::bounds::{are_within, loops_are_single};
-use crate::circuits::drained;
-use crate::sets::held_to;
-use reo_joint_values::JointValue::{self, Flow, GG, GR, Jam, RG};
-use reo_kinds::Kind;
-use reo_knots::{Knots, find_knots};
-use reo_net_base::Primitive;
-use reo_net_circuit::Circuit;
-use reo_propagate::{Sets, narrow};
-use reo_reach::{Supply, reach};
-use reo_search::{Part, arrange};
-use reo_steps::Steps;
-use reo_values::Value;
-use std::alloc::Global;
-use std::marker::Brand;
-use std::process::Abort;
-use std::sync::ledger::{Blank, Ledger};
-use std::test::Fail;
+// Values at the joints of the drain: all, with one at the joint that closes the loop.
+const WITH_FLOW: Table = &[ALL, ALL, &[Flow(0)]];
 
-/// A value at the joint that closes the loop, and the rows of the writer, the drain and the
-/// replicator in the first assignment with it, and whether it jams: `None` where there is none.
-const CASES: [(JointValue, Option<(&'static [u32], bool)>); 5] = [
-    (Flow(0), Some((&[0, 0, 0], false))),
-    (RG, Some((&[1, 1, 3], false))),
-    (GR, Some((&[1, 2, 2], false))),
+const WITH_RG: Table = &[ALL, ALL, &[RG]];
+
+const WITH_GR: Table = &[ALL, ALL, &[GR]];
+
+const WITH_GG: Table = &[ALL, ALL, &[GG]];
+
+const WITH_JAM: Table = &[ALL, ALL, &[Jam]];
+
+/// The first assignments of the drain with each value at the joint that closes the loop, by the
+/// rows of the writer, the drain and the replicator, and whether they jam; and what is left.
+const SEARCHED: &[Fact<'static>] = &[
+    Supplied(3, 1),
+    Only(&[0, 1, 2], &[2]),
+    Arranged(0, WITH_FLOW, Some((&[0, 0, 0], false))),
+    Arranged(1, WITH_FLOW, Some((&[0, 0, 0], false))),
+    Arranged(0, WITH_RG, Some((&[1, 1, 3], false))),
+    Arranged(1, WITH_RG, Some((&[1, 1, 3], false))),
+    Arranged(0, WITH_GR, Some((&[1, 2, 2], false))),
+    Arranged(1, WITH_GR, Some((&[1, 2, 2], false))),
     // both ends of the drain would give a reason, and it requires one at one of them
-    (GG, None),
-    (Jam, Some((&[2, 3, 4], true))),
+    Arranged(0, WITH_GG, None),
+    Arranged(1, WITH_GG, None),
+    Arranged(0, WITH_JAM, Some((&[2, 3, 4], true))),
+    Arranged(1, WITH_JAM, Some((&[2, 3, 4], true))),
+    Narrowed(WITH_FLOW, Some(&[&[Flow(0)], &[Flow(0)], &[Flow(0)]])),
+    Narrowed(WITH_RG, Some(&[&[RG], &[GR], &[RG]])),
+    Narrowed(WITH_GR, Some(&[&[RG], &[RG], &[GR]])),
+    Narrowed(WITH_GG, None),
+    Narrowed(WITH_JAM, Some(&[&[Jam], &[Jam], &[Jam]])),
 ];
 
-/// A value at the joint that closes the loop, and what is left at each joint when the sets are
-/// narrowed: `None` where nothing is left at some joint.
-const LEFT: [(JointValue, Option<&'static [JointValue]>); 5] = [
-    (Flow(0), Some(&[Flow(0), Flow(0), Flow(0)])),
-    (RG, Some(&[RG, GR, RG])),
-    (GR, Some(&[RG, RG, GR])),
-    (GG, None),
-    (Jam, Some(&[Jam, Jam, Jam])),
+const WHOLE: Left = [[true; 5]; 3];
+
+/// The writer offers an item, so it gives no reason: GR and GG go from its joint. At the others the
+/// drain and the replicator have a row for each value, with values that the other joints keep.
+const SUPPORTED: Left = [[true, false, false, true, true], [true; 5], [true; 5]];
+
+/// Flow alone at the joint that closes the loop.
+const HELD: Left = [[true; 5], [true; 5], [false, false, false, false, true]];
+
+/// With flow at the joint that closes the loop there is flow everywhere.
+const FLOWING: Left = [[false, false, false, false, true]; 3];
+
+const BEGUN: &[Fact<'static>] = &[
+    Begun(None, &[WHOLE, SUPPORTED, WHOLE, SUPPORTED]),
+    Begun(Some(WITH_FLOW), &[HELD, FLOWING, WHOLE, SUPPORTED]),
 ];
 
-/// The one assertion of all tests.
-pub fn is(rt: &impl Abort, answer: bool, what: &str) {
-    assert!(rt; answer, "{what}");
-}
+/// At the joint that closes the loop all five values are supported: RG, GR, GG, the jam, and the
+/// flow of 1. The first assignment has flow everywhere: classes come first, and row 0 has the least
+/// class of each.
+const OFFERING: &[Fact<'static>] = &[
+    Within(4, 5, &[0, 0, 0]),
+    Within(5, 5, &[0, 0, 0]),
+    Within(MOST, 5, &[0, 0, 0]),
+];
 
-/// Whether an item is 1.
-pub fn is_one(item: &Value) -> bool {
-    match item {
-        Value::Int(number) => *number == 1,
-        _ => false,
-    }
-}
+/// With nothing offered no item can stand. The writer gives a reason or jams, so RG goes from its
+/// joint. At the joint that closes the loop all four values without flow are supported: by the rows
+/// 3 of the replicator and 1 of the drain RG, by 1 and 2 GR, by 1 and 1 GG, by 4 and 3 the jam.
+///
+/// Of the first assignment classes come first: the writer's row 0 has its least; then by the
+/// writer's mark nothing flows or jams, so that the drain and the replicator have class 1 each, by
+/// the rows 1 and 2 of the drain and 1 to 3 of the replicator. Then come rows. The drain's row 1
+/// requires a reason at its first end and gives one at the second. With it goes the replicator's
+/// row 1, which requires the writer's reason and gives one at both outputs.
+const RESTING: &[Fact<'static>] = &[
+    Within(3, 4, &[0, 1, 1]),
+    Within(4, 4, &[0, 1, 1]),
+    Within(MOST, 4, &[0, 1, 1]),
+];
 
-/// Whether 1 alone can stand at each of three joints, and none of them is wide.
-fn has_ones(supply: &Supply) -> bool {
-    if supply.lists().len() != 3 {
-        return false;
-    }
-    for joint in 0..supply.lists().len() {
-        let items = supply.items(joint);
-        if supply.is_wide(joint) || items.len() != 1 || !is_one(items.at(0)) {
-            return false;
-        }
-    }
-    true
-}
+// All values at both joints of the channel, those with flow only where an item can stand there.
+const CHANNEL_FLOWS: Table = &[ALL, ALL];
 
-/// Whether there is one knot, of the three sides, whose loop joint is the last.
-fn is_one_knot(knots: &Knots) -> bool {
-    knots.count() == 1
-        && knots.sides(0) == [0, 1, 2].as_slice()
-        && knots.loop_joints(0) == [2].as_slice()
-}
+const CHANNEL_RESTS: Table = &[WITHOUT_FLOW, WITHOUT_FLOW];
 
-/// Whether a part has these rows and jams or not.
-pub fn is_part(part: &Option<Part>, want: &Option<(&'static [u32], bool)>) -> bool {
-    match (part, want) {
-        (Some(part), Some((rows, jammed))) => {
-            part.sides.as_slice() == [0, 1, 2].as_slice()
-                && part.rows.as_slice() == *rows
-                && part.jammed == *jammed
-        }
-        (None, None) => true,
-        _ => false,
-    }
-}
+/// Whether 1 is offered to the channel, whether it can be taken, and what is found, with the rows
+/// of the writer, the taker and the channel: F R J or G J for a port, FF RG GR JJ for the channel.
+/// No joint closes a loop, so the channel weighs 1.
+const CHANNELS: &[(bool, bool, &'static [Fact<'static>])] = &[
+    (
+        true,
+        true,
+        &[
+            Supplied(2, 1),
+            Arranged(1, CHANNEL_FLOWS, Some((&[0, 0, 0], false))),
+            Within(0, 1, &[0, 0, 0]),
+            Within(1, 1, &[0, 0, 0]),
+            Within(MOST, 1, &[0, 0, 0]),
+        ],
+    ),
+    (
+        true,
+        false,
+        &[
+            Supplied(2, 1),
+            Arranged(1, CHANNEL_FLOWS, Some((&[1, 0, 2], false))),
+            Within(0, 1, &[1, 0, 2]),
+            Within(1, 1, &[1, 0, 2]),
+            Within(MOST, 1, &[1, 0, 2]),
+        ],
+    ),
+    (
+        false,
+        true,
+        &[
+            Supplied(2, 0),
+            Arranged(1, CHANNEL_RESTS, Some((&[0, 1, 1], false))),
+            Within(0, 1, &[0, 1, 1]),
+            Within(1, 1, &[0, 1, 1]),
+            Within(MOST, 1, &[0, 1, 1]),
+        ],
+    ),
+    (
+        false,
+        false,
+        &[
+            Supplied(2, 0),
+            Arranged(1, CHANNEL_RESTS, Some((&[0, 0, 1], false))),
+            Within(0, 1, &[0, 0, 1]),
+            Within(1, 1, &[0, 0, 1]),
+            Within(MOST, 1, &[0, 0, 1]),
+        ],
+    ),
+];
 
-/// The first assignment of the knot. It ticks once.
-pub fn arranged<P: Primitive, L: Ledger>(
-    rt: &impl Abort,
-    alloc: Global,
-    circuit: &Circuit<P>,
-    knots: &Knots,
-    supply: &Supply,
-    sets: &Sets,
-    turn: u64,
-    steps: &mut Steps<L>,
-) -> Result<Option<Part>, Fail>
-    requires { AreKnots (net_of P.behaviour circuit.now) knots.now }
-    ensures { OnOk result (steps.new ≡ steps.old + 1) }
-{
-    assert!(rt; 0 < knots.count());
-    assert!(rt; supply.lists().len() == circuit.joint_count());
-    assert!(rt; are_within(supply.lists(), sets));
-    assert!(rt; loops_are_single(knots, sets, 0));
-    Ok(arrange(alloc, circuit, knots, supply, sets, 0, turn, steps)?)
-}
-
-/// Whether the first assignment with a value at the loop joint is as it was found by hand.
-fn is_right<P: Primitive, L: Ledger>(
-    rt: &impl Abort,
-    alloc: Global,
-    circuit: &Circuit<P>,
-    knots: &Knots,
-    supply: &Supply,
-    value: JointValue,
-    turn: u64,
-    steps: &mut Steps<L>,
-    want: &Option<(&'static [u32], bool)>,
-) -> Result<bool, Fail>
-    requires { AreKnots (net_of P.behaviour circuit.now) knots.now }
-{
-    let sets = held_to(alloc, value)?;
-    let part = arranged(rt, alloc, circuit, knots, supply, &sets, turn, steps)?;
-    Ok(is_part(&part, want))
-}
-
-/// Whether each set has this value alone.
-fn have(sets: &Sets, want: &[JointValue]) -> bool {
-    if sets.values.len() != want.len() {
-        return false;
-    }
-    for joint in 0..want.len() {
-        let set = sets.values.at(joint);
-        if set.len() != 1 || *set.at(0) != want[joint] {
-            return false;
-        }
-    }
-    true
-}
-
-/// Narrows the sets of the knot: whether each of them has a value.
-fn narrowed<P: Primitive>(
-    rt: &impl Abort,
-    alloc: Global,
-    circuit: &Circuit<P>,
-    knots: &Knots,
-    supply: &Supply,
-    sets: &mut Sets,
-) -> Result<bool, Fail>
-    requires { AreKnots (net_of P.behaviour circuit.now) knots.now }
-{
-    assert!(rt; 0 < knots.count());
-    assert!(rt; supply.lists().len() == circuit.joint_count());
-    assert!(rt; are_within(supply.lists(), sets));
-    let sides = knots.sides(0);
-    Ok(narrow(alloc, circuit, supply, sides, sets)?)
-}
-
-/// Whether with this value at the loop joint is left what was found by hand.
-fn is_left<P: Primitive>(
-    rt: &impl Abort,
-    alloc: Global,
-    circuit: &Circuit<P>,
-    knots: &Knots,
-    supply: &Supply,
-    value: JointValue,
-    want: &Option<&'static [JointValue]>,
-) -> Result<bool, Fail>
-    requires { AreKnots (net_of P.behaviour circuit.now) knots.now }
-{
-    let mut sets = held_to(alloc, value)?;
-    let full = narrowed(rt, alloc, circuit, knots, supply, &mut sets)?;
-    match want {
-        None => Ok(!full),
-        Some(left) => Ok(full && have(&sets, left)),
-    }
-}
-
-/// Asserts the first assignments with each value at the loop joint, in rounds 0 and 1.
-fn are_right<L: Ledger>(
-    rt: &impl Abort,
-    alloc: Global,
-    circuit: &Circuit<Kind>,
-    blank: Blank,
-) -> Result<(), Fail>
-    requires name { blank.name ≡ L.name }
-    requires parts { blank.parts ≡ L.parts }
-    requires some_part { 0 < L.parts }
-{
-    let mut steps = Steps::<L>::new(blank);
-    let knots = find_knots(alloc, circuit)?;
-    let supply = reach(alloc, circuit)?;
-    is(rt, has_ones(&supply), "items");
-    is(rt, is_one_knot(&knots), "knot");
-    for turn in 0..2 {
-        for (value, want) in &CASES {
-            let right = is_right(
-                rt, alloc, circuit, &knots, &supply, *value, turn, &mut steps, want,
-            )?;
-            is(rt, right, "part");
-        }
-    }
-    for (value, want) in &LEFT {
-        let right = is_left(rt, alloc, circuit, &knots, &supply, *value, want)?;
-        is(rt, right, "sets");
-    }
-    Ok(())
+/// The rows of 256 writers, the taker and the merger. In round 1 the merger begins with its first
+/// input, which flows by its row 0. So do the first writer and the taker by theirs. Each other
+/// writer requires a reason, by its row 1, and the merger gives it.
+fn rows_of_writers() -> [u32; 258] {
+    let mut rows = [1; 258];
+    rows[0] = 0;
+    rows[256] = 0;
+    rows[257] = 0;
+    rows
 }
 
 #[test]
-fn a_drain_on_one_port_is_searched(rt: HostRuntime) -> Result<(), Fail> {
-    let circuit = drained(&rt, rt.alloc(), true)?;
-    are_right::<Brand>(&rt, rt.alloc(), &circuit, Blank::new(1))
+fn a_drain_on_one_port_is_searched(rt: HostRuntime) {
+    are(&rt, rt.alloc(), Drain(true), SEARCHED);
+}
+
+#[test]
+fn a_search_of_the_drain_begins_and_begins_anew(rt: HostRuntime) {
+    are(&rt, rt.alloc(), Drain(true), BEGUN);
+}
+
+#[test]
+fn a_drain_weighs_five_where_an_item_is_offered(rt: HostRuntime) {
+    are(&rt, rt.alloc(), Drain(true), OFFERING);
+}
+
+#[test]
+fn a_drain_weighs_four_where_nothing_is_offered(rt: HostRuntime) {
+    are(&rt, rt.alloc(), Drain(false), RESTING);
+}
+
+#[test]
+fn one_channel_is_searched(rt: HostRuntime) {
+    for (offers, pending, facts) in CHANNELS {
+        are(&rt, rt.alloc(), Channel(*offers, *pending), facts);
+    }
+}
+
+// No joint closes a loop, so the knot weighs 1, the product of no numbers.
+#[test]
+fn the_first_of_256_writers_flows(rt: HostRuntime) {
+    let rows = rows_of_writers();
+    let facts = [
+        Within(0, 1, &rows),
+        Within(1, 1, &rows),
+        Within(MOST, 1, &rows),
+    ];
+    are(&rt, rt.alloc(), Writers(256), &facts);
+}
+
+#[test]
+fn a_knot_of_257_writers_is_wide(rt: HostRuntime) {
+    are(
+        &rt,
+        rt.alloc(),
+        Writers(257),
+        &[Wide(0), Wide(1), Wide(MOST)],
+    )
 }
