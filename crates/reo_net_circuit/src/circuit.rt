@@ -19,10 +19,10 @@ use crate::checked::{Tables, tables_of};
 use crate::fault::NetFault;
 use crate::layout::SideOwner;
 use crate::ports::{place_at, put_at, withdraw_at};
-use crate::step::step_all;
-use reo_net_base::{Colouring, End, Joint, Offer, Ported, Primitive};
+use crate::step::{settle_at, step_all};
+use reo_net_base::{Chosen, Colouring, End, Joint, Offer, Ported, Primitive};
 use reo_net_order::order_has_no_cycle;
-use reo_values::List;
+use reo_values::{List, Value};
 use std::alloc::Global;
 use std::marker::Model;
 
@@ -254,6 +254,18 @@ impl<P: Primitive> Circuit<P> {
             rows.as_slice(),
             items.into_vec(),
         );
+    }
+
+    /// One primitive goes on by the rows of its sides and an item that comes in at its mouth. All
+    /// others stay, and so does the shape of the circuit. This takes no memory.
+    pub fn settle(&mut self, index: usize, rows: Chosen, taken: Option<Value>)
+        requires index { index < length self.old.primitives }
+        ensures circuit { self.new ≡ record self.old {
+          primitives = change_at (λ p. P.settled p rows taken) self.old.primitives index;
+        } }
+        ensures shape { SameNetShape P.behaviour self.old self.new }
+    {
+        settle_at(self.primitives.as_mut_slice(), index, rows, taken);
     }
 }
 

@@ -2,7 +2,7 @@
 ghost use Rattle.std.specs.Prelude.{◌≡◌, ◌+◌, ◌<◌, ◌==◌, cond, None, map, length, slice_index, slice_index_or, slice_set};
 ghost use Rattle.reo_net_base.specs.Net.{net_of, all_sides, behaviour_at};
 ghost use Rattle.reo_net_base.specs.Colouring.{AreRows};
-ghost use Rattle.reo_net_base.specs.Step.{settled_list, all_chosen, all_taken};
+ghost use Rattle.reo_net_base.specs.Step.{change_at, settled_list, all_chosen, all_taken};
 ghost use Rattle.reo_net_circuit.specs.Parts.{wiring_of};
 ghost use Rattle.reo_net_circuit.specs.Layout.{AreFirsts};
 ghost use Rattle.reo_net_circuit.specs.Tables.{AreMouths};
@@ -69,4 +69,18 @@ pub fn step_all<P: Primitive>(
         let primitive = &mut primitives[index];
         primitive.settle(rows, item);
     }
+}
+
+/// One of the primitives goes on by the rows of its sides and an item that comes in at its mouth.
+pub fn settle_at<P: Primitive>(
+    primitives: &mut [P],
+    index: usize,
+    rows: Chosen,
+    taken: Option<Value>,
+)
+    requires { index < length primitives.old }
+    ensures { primitives.new ≡ change_at (λ p. P.settled p rows taken) primitives.old index }
+{
+    let primitive = &mut primitives[index];
+    primitive.settle(rows, taken);
 }
