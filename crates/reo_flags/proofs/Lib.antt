@@ -1,0 +1,3 @@
+pub mod OneBit
+pub mod Lists
+pub mod Search

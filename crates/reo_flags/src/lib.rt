@@ -1,0 +1,8 @@
+//! Many truth values as bits of words, so that those that are set are found a word at a time. No
+//! call but `new` takes memory.
+#![tactic(auto)]
+
+mod flags;
+mod words;
+
+pub use flags::Flags;
