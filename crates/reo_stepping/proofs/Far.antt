@@ -79,6 +79,13 @@ no_chosen : Chosen
 no_chosen = record { first = 0; second = 0 }
 
 module _ {P : Type 0} (behaviour : P → Behaviour) where
+  net_shape_same : (a : Wiring P) → SameNetShape behaviour a a
+  net_shape_same a = record {
+    joints = refl;
+    ports = refl;
+    primitives = record { count = refl; same = λ i lt. record { ends = refl; sides = refl; side_of = λ _. refl; takes_in = λ _. refl; leads = λ _. refl } };
+  }
+
   pub net_shape_twice : (a b c : Wiring P) → SameNetShape behaviour a b → SameNetShape behaviour b c → SameNetShape behaviour a c
   net_shape_twice a b c f g = record {
     joints = g.joints ∙ f.joints;
@@ -138,7 +145,7 @@ module _ {P : Type 0} (behaviour : P → Behaviour) where
     -- None has gone on yet.
     pub far_none : length from ≡ length start.joints → IsFar 0 start from
     far_none count = record {
-      shape = record { joints = refl; ports = refl; primitives = record { count = refl; same = λ i lt. record { ends = refl; sides = refl; side_of = λ _. refl; takes_in = λ _. refl; leads = λ _. refl } } };
+      shape = net_shape_same start;
       count = count;
       untaken = λ i le lt. refl;
       unsettled = refl;
@@ -220,3 +227,13 @@ module _ {P : Type 0} (behaviour : P → Behaviour) where
           let net : Net = net_of behaviour start in
           let none : taken_for (net_of behaviour w) items n ≡ None = taken_is n w items lt far ∙ nothing_taken net rows from wired is n still in
           ap (λ (o : Option Value). set items (mouth_of (net_of behaviour w) n) o) (sym none) ∙ set_same items (mouth_of (net_of behaviour w) n) None
+
+      -- So those behind which none flows up to a place have gone on too.
+      pub far_over : (gap n m : ℕ) (w : Wiring P) (items : List (Option Value)) → n + gap ≡ m → m ≤ length start.primitives
+          → ((k : ℕ) → n ≤ k → k < m → HasFlow (net_of behaviour start) rows k → ⊥) → IsFar n w items → IsFar m w items
+      far_over zero n m w items e le still far = let same : n ≡ m = omega arith in subst (λ (k : ℕ). IsFar k w items) same far
+      far_over (suc gap) n m w items e le still far =
+          let lt : n < length start.primitives = omega arith in
+          let stays = still_stays n w items lt far (still n (omega arith) (omega arith)) in
+          far_over gap (n + 1) m w items (omega arith) le (λ k low high. still k (omega arith) high)
+          (far_more n w w items items lt far (ap (λ (ps : List P). record w { primitives = ps }) (sym stays)) (net_shape_same w) (sym (still_takes_none n w items lt far (still n (omega arith) (omega arith)))))

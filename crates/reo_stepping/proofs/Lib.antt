@@ -4,3 +4,4 @@ pub mod Marking
 pub mod MouthLemmas
 pub mod StepLemmas
 pub mod Far
+pub mod NextLemmas

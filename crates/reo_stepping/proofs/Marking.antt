@@ -1,6 +1,6 @@
 -- Primitives at the joints that flow.
 use Rattle.std.proofs.Common.{◌≡◌, ◌∙◌, ◌↔◌, inl, inr, ℕ, ◌+◌, ◌<◌, Bool, true, false, IsTrue, List, length, get_or, set, ap, sym, subst, arith}
-use Rattle.std.proofs.lemmas.List.{get_or_default, get_or-set_same, get_or-set_other}
+use Rattle.std.proofs.lemmas.List.{get_or_default}
 use Rattle.reo_net_base.specs.declared.mark.Mark.TheVariants.{F}
 use Rattle.reo_net_base.specs.declared.joint.End.{End}
 use Rattle.reo_net_base.specs.declared.joint.Joint.{Joint}
@@ -22,13 +22,6 @@ pub record IsBesideOne (joints : List Joint) (flowing : List ℕ) (count i : ℕ
 -- Before the first of them none is marked.
 pub none_beside : (joints : List Joint) (flowing : List ℕ) (marks : List Bool) (i : ℕ) → is_changed marks i ≡ false → IsTrue (is_changed marks i) ↔ IsBesideOne joints flowing 0 i
 none_beside joints flowing marks i not = (λ mark. absurd cc, λ beside. absurd (let before = beside.before in omega arith))
-
--- One mark more is clear.
-pub clear_more : (marks : List Bool) (n i : ℕ) → n < length marks → i < n + 1 → ((k : ℕ) → k < n → get_or marks k false ≡ false) → get_or (set marks n false) i false ≡ false
-clear_more marks n i n_in lt clear = elim (eq_cases i n) [
-  | inl e ↦ rw e (get_or-set_same marks n false false n_in)
-  | inr ne ↦ get_or-set_other marks n i false false ne ∙ clear i (omega arith)
-]
 
 -- One joint more marks those at its ends.
 pub beside_more : (joints : List Joint) (flowing : List ℕ) (n i : ℕ) (j : Joint) (old now : List Bool) → get_or joints (get_or flowing n 0) no_joint ≡ j

@@ -15,18 +15,6 @@ module _ {X : Type 0} where
   change_none f (x ∷ xs) zero d h = ap (λ (y : X). y ∷ xs) h
   change_none f (x ∷ xs) (suc i) d h = ap (λ (ys : List X). x ∷ ys) (change_none f xs i d h)
 
-  -- One element is put in place of another, and then a third in place of that.
-  pub changed_twice : (other last : X) (xs : List X) (i : ℕ) → change_at (λ _. last) (change_at (λ _. other) xs i) i ≡ change_at (λ _. last) xs i
-  changed_twice other last [] i = refl
-  changed_twice other last (x ∷ xs) zero = refl
-  changed_twice other last (x ∷ xs) (suc i) = ap (λ (ys : List X). x ∷ ys) (changed_twice other last xs i)
-
-  -- What is put there is what a function makes of the element.
-  pub changed_by : (f : X → X) (last : X) (xs : List X) (i : ℕ) (d : X) → last ≡ f (get_or xs i d) → change_at (λ _. last) xs i ≡ change_at f xs i
-  changed_by f last [] i d h = refl
-  changed_by f last (x ∷ xs) zero d h = ap (λ (y : X). y ∷ xs) h
-  changed_by f last (x ∷ xs) (suc i) d h = ap (λ (ys : List X). x ∷ ys) (changed_by f last xs i d h)
-
   -- A write of what stands there.
   pub set_same : (xs : List X) (i : ℕ) (d : X) → set xs i (get_or xs i d) ≡ xs
   set_same [] i d = refl

@@ -1,33 +1,23 @@
 //! Marks of the primitives of which some end flows.
-ghost use Rattle.std.specs.Prelude.{◌≡◌, ◌<◌, ℕ, false, true, length, set, slice_index_or};
+ghost use Rattle.std.specs.Prelude.{◌≡◌, ◌<◌, true, length, set};
 ghost use Rattle.reo_net_base.specs.Colouring.{RowsFit};
 ghost use Rattle.reo_net_base.specs.Net.{net_of};
 ghost use Rattle.reo_stepping.specs.Changes.{AreThoseThatFlowed};
 ghost use Rattle.reo_stepping.specs.Flowing.{AreFlowing};
 
+use reo_flags::Flags;
 use reo_net_base::{Joint, Primitive};
 use reo_net_circuit::Circuit;
-use reo_values::List;
-
-/// Clears all marks.
-fn clear_all(marks: &mut List<bool>)
-    ensures count { length marks.new ≡ length marks.old }
-    ensures clear { (i : ℕ) → i < length marks.old → slice_index_or marks.new i false ≡ false }
-{
-    for index in 0..marks.len() {
-        *marks.at_mut(index) = false;
-    }
-}
 
 /// Sets the marks of the primitives at both ends of a joint.
-fn mark_joint(marks: &mut List<bool>, joint: Joint)
+fn mark_joint(marks: &mut Flags, joint: Joint)
     requires giver { joint.giver.primitive < length marks.old }
     requires taker { joint.taker.primitive < length marks.old }
     ensures { let giver = set marks.old joint.giver.primitive true in
         marks.new ≡ set giver joint.taker.primitive true }
 {
-    *marks.at_mut(joint.giver.primitive) = true;
-    *marks.at_mut(joint.taker.primitive) = true;
+    marks.put(joint.giver.primitive, true);
+    marks.put(joint.taker.primitive, true);
 }
 
 /// Marks exactly the primitives of which some end flows by these rows, where these are the joints
@@ -36,7 +26,7 @@ pub fn mark_flowing<P: Primitive>(
     circuit: &Circuit<P>,
     rows: &[u32],
     flowing: &[usize],
-    marks: &mut List<bool>,
+    marks: &mut Flags,
 )
     requires rows { RowsFit (net_of P.behaviour circuit.now) rows.now }
     requires flowing { AreFlowing (net_of P.behaviour circuit.now) rows.now flowing.now }
@@ -45,7 +35,7 @@ pub fn mark_flowing<P: Primitive>(
 {
     let _ = rows;
     circuit.known();
-    clear_all(marks);
+    marks.clear();
     for index in 0..flowing.len() {
         mark_joint(marks, circuit.joint(flowing[index]));
     }

@@ -6,8 +6,6 @@ mod flowing;
 mod marked;
 mod mouths;
 mod one;
-mod standin;
 
 pub use flowing::mark_flowing;
 pub use marked::step_marked;
-pub use standin::Standin;

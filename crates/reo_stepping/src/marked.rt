@@ -1,5 +1,5 @@
 //! The primitives that are marked go on.
-ghost use Rattle.std.specs.Prelude.{◌≡◌, ◌<◌, None, false, length, set};
+ghost use Rattle.std.specs.Prelude.{◌≡◌, ◌<◌, None, length, set};
 ghost use Rattle.reo_net_base.specs.Colouring.{IsColouring};
 ghost use Rattle.reo_net_base.specs.Net.{net_of};
 ghost use Rattle.reo_net_base.specs.Shapes.{SameNetShape};
@@ -11,13 +11,14 @@ ghost use Rattle.reo_stepping.specs.Clearing.{ComesNoItem};
 
 use crate::mouths::take_at_mouth;
 use crate::one::go_on;
-use crate::standin::Standin;
+use reo_flags::Flags;
+use reo_net_base::Primitive;
 use reo_net_circuit::Circuit;
 use reo_net_ends::Ends;
 use reo_values::{List, Value};
 
 /// A primitive goes on by the rows of its sides and the item at its mouth, which is taken out.
-fn step_one<P: Standin>(
+fn step_one<P: Primitive>(
     circuit: &mut Circuit<P>,
     ends: &Ends,
     rows: &[u32],
@@ -41,49 +42,15 @@ fn step_one<P: Standin>(
     go_on(circuit, rows, index, taken);
 }
 
-/// A primitive goes on as by `step_one`, if it is marked. One that is not marked would stay so.
-fn step_if<P: Standin>(
-    circuit: &mut Circuit<P>,
-    ends: &Ends,
-    rows: &[u32],
-    items: &mut List<Option<Value>>,
-    index: usize,
-    marked: bool,
-)
-    requires ends { AreEnds (net_of P.behaviour circuit.old) ends.now }
-    requires index { index < length circuit.old.primitives }
-    requires rows { length rows.now ≡ side_count (net_of P.behaviour circuit.old) }
-    requires items { length items.old ≡ length circuit.old.joints }
-    requires stays { let old = circuit.old in let net = net_of P.behaviour old in
-        let chosen = chosen_for net rows.now index in
-        let taken = taken_for net items.old index in
-        marked ≡ false
-        → change_at (λ p. P.settled p chosen taken) old.primitives index ≡ old.primitives }
-    requires none { let mouth = mouth_of (net_of P.behaviour circuit.old) index in
-        marked ≡ false → set items.old mouth None ≡ items.old }
-    ensures circuit { let old = circuit.old in let net = net_of P.behaviour old in
-        let chosen = chosen_for net rows.now index in
-        let taken = taken_for net items.old index in
-        let primitives = change_at (λ p. P.settled p chosen taken) old.primitives index in
-        circuit.new ≡ record old { primitives = primitives } }
-    ensures shape { SameNetShape P.behaviour circuit.old circuit.new }
-    ensures items { let mouth = mouth_of (net_of P.behaviour circuit.old) index in
-        items.new ≡ set items.old mouth None }
-{
-    if marked {
-        step_one(circuit, ends, rows, items, index);
-    }
-}
-
 /// The round of a circuit with this colouring, where exactly those primitives are marked of which
 /// some end flows: they go on, each by the rows of its sides and the item at its mouth, which is
 /// taken out, and all others stay. The shape of the circuit stays. This takes no memory.
-pub fn step_marked<P: Standin>(
+pub fn step_marked<P: Primitive>(
     circuit: &mut Circuit<P>,
     ends: &Ends,
     rows: &[u32],
     items: &mut List<Option<Value>>,
-    marks: &[bool],
+    marks: &Flags,
 )
     requires ends { AreEnds (net_of P.behaviour circuit.old) ends.now }
     requires colouring { IsColouring (net_of P.behaviour circuit.old) rows.now items.old }
@@ -95,7 +62,9 @@ pub fn step_marked<P: Standin>(
     ensures items { ComesNoItem items.old items.new }
 {
     circuit.known();
-    for index in 0..marks.len() {
-        step_if(circuit, ends, rows, items, index, marks[index]);
+    let mut index = marks.next_set(0);
+    while index < marks.len() {
+        step_one(circuit, ends, rows, items, index);
+        index = marks.next_set(index + 1);
     }
 }

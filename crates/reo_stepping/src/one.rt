@@ -5,7 +5,6 @@ ghost use Rattle.reo_net_base.specs.Shapes.{SameNetShape};
 ghost use Rattle.reo_net_base.specs.Sides.{side_count};
 ghost use Rattle.reo_net_base.specs.Step.{change_at, chosen_for};
 
-use crate::standin::Standin;
 use reo_net_base::{Chosen, Primitive};
 use reo_net_circuit::Circuit;
 use reo_values::Value;
@@ -44,7 +43,7 @@ fn chosen_for<P: Primitive>(circuit: &Circuit<P>, rows: &[u32], index: usize) ->
 
 /// A primitive goes on by the rows of its sides and the item at its mouth. All others stay, and so
 /// does the shape of the circuit.
-pub(crate) fn go_on<P: Standin>(
+pub(crate) fn go_on<P: Primitive>(
     circuit: &mut Circuit<P>,
     rows: &[u32],
     index: usize,
@@ -62,8 +61,5 @@ pub(crate) fn go_on<P: Standin>(
     if !circuit.primitive(index).keeps() {
         return;
     }
-    let other = circuit.primitive(index).stand_in();
-    let mut primitive = circuit.put(index, other);
-    primitive.settle(chosen, taken);
-    drop(circuit.put(index, primitive));
+    circuit.settle(index, chosen, taken);
 }

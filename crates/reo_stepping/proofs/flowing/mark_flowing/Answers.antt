@@ -1,17 +1,22 @@
-use Rattle.std.proofs.Common.{◌≡◌, ◌∙◌, Bool, true, List, length, get_or, set, ap, sym, subst, arith}
-use Rattle.std.proofs.lemmas.List.{length-map, length-set}
+use Rattle.std.proofs.Common.{◌≡◌, ◌∙◌, ℕ, Bool, true, false, List, length, get_or, replicate, set, ap, sym, subst, arith}
+use Rattle.std.proofs.lemmas.List.{get_or-replicate, length-map, length-replicate, length-set}
 use Rattle.reo_net_base.specs.declared.joint.Joint.{Joint}
 use Rattle.reo_net_base.specs.Net.{Net, net_of}
 use Rattle.reo_net_base.specs.Wired.{IsEnd}
+use Rattle.reo_stepping.specs.Changes.{is_changed}
 use Rattle.reo_stepping.proofs.FlowLemmas.{no_joint}
 use Rattle.reo_stepping.proofs.Marking.{beside_more, none_beside, those_beside_flow}
 use Rattle.reo_stepping.proofs.flowing.mark_flowing.Goals as goal
 
 pub loop-index-init : goal.loop-index-init
-loop-index-init g c = record {
-  one_each = c.clear_all.ensures.count ∙ c.requires.one_each;
-  each = λ i lt. none_beside c.args.circuit.now.joints c.args.flowing.now c.clear_all.new.marks i (c.clear_all.ensures.clear i (omega (arith, c.requires.one_each, lt)));
-}
+loop-index-init g c =
+    let none : c.clear.new.self ≡ replicate (length c.args.circuit.now.primitives) false = c.clear.ensures ∙ ap (λ (n : ℕ). replicate n false) c.requires.one_each in
+    record {
+      one_each = ap (λ (ms : List Bool). length ms) none ∙ length-replicate (length c.args.circuit.now.primitives) false;
+      each = λ i lt.
+          none_beside c.args.circuit.now.joints c.args.flowing.now c.clear.new.self i
+          (ap (λ (ms : List Bool). is_changed ms i) none ∙ get_or-replicate (length c.args.circuit.now.primitives) i false false lt);
+    }
 
 pub mark_joint-requires-clause-giver : goal.mark_joint-requires-clause-giver
 mark_joint-requires-clause-giver g c =

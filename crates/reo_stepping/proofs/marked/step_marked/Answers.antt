@@ -1,26 +1,34 @@
-use Rattle.std.proofs.Common.{◌≡◌, ◌∙◌, ◌<◌, Bool, true, false, List, length, map, ap, sym, arith}
-use Rattle.std.proofs.lemmas.List.{length-map, get_or_default}
+use Rattle.std.proofs.Common.{ℕ, ◌+◌, ◌-◌, ◌≤◌, ◌∙◌, List, length, map, ap, sym, arith}
+use Rattle.std.proofs.lemmas.List.{length-map}
 use Rattle.reo_net_base.specs.Net.{Net, all_sides, net_of}
 use Rattle.reo_net_circuit.proofs.NetLemmas.{rows_length}
-use Rattle.reo_stepping.specs.Changes.{is_changed}
-use Rattle.reo_stepping.proofs.Far.{ends_kept, far_all, far_more, far_none, same_count, sides_same, still_stays, still_takes_none}
+use Rattle.reo_stepping.proofs.Far.{ends_kept, far_all, far_more, far_none, far_over, same_count, sides_same}
+use Rattle.reo_stepping.proofs.NextLemmas.{none_flows}
 use Rattle.reo_stepping.proofs.marked.step_marked.Goals as goal
 
-not_both : (b : Bool) → b ≡ false → b ≡ true → ⊥
-not_both true h g = cc
-not_both false h g = cc
-
 pub loop-index-init : goal.loop-index-init
-loop-index-init g c = far_none g.P.Primitive.behaviour g.P.Primitive.settled c.args.circuit.now c.args.rows.now c.args.items.now c.requires.colouring.one_each
+loop-index-init g c =
+    let net : Net = net_of g.P.Primitive.behaviour c.args.circuit.now in
+    let marks = c.requires.marks.one_each in
+    let bs = length-map c.args.circuit.now.primitives g.P.Primitive.behaviour in
+    let next : ℕ = c.next_set-index.result in
+    let in_range = c.next_set-index.ensures.in_range in
+    record {
+      in_range = in_range;
+      far = far_over g.P.Primitive.behaviour g.P.Primitive.settled c.args.circuit.now c.args.rows.now c.args.items.now g.met.P.Primitive.quiet c.known.ensures.wired c.requires.colouring
+          next 0 next c.args.circuit.now c.args.items.now (omega arith) (omega (arith, marks, bs, in_range))
+          (none_flows net c.args.rows.now c.args.marks.now c.requires.marks 0 next c.next_set-index.ensures)
+          (far_none g.P.Primitive.behaviour g.P.Primitive.settled c.args.circuit.now c.args.rows.now c.args.items.now c.requires.colouring.one_each);
+    }
 
-pub step_if-requires-clause-ends : goal.step_if-requires-clause-ends
-step_if-requires-clause-ends g c =
-    let far = c.loop-index.invariant in
+pub step_one-requires-clause-ends : goal.step_one-requires-clause-ends
+step_one-requires-clause-ends g c =
+    let far = c.loop-index.invariant.far in
     ends_kept (net_of g.P.Primitive.behaviour c.args.circuit.now) (net_of g.P.Primitive.behaviour c.loop-index.circuit) far.shape.joints far.shape.primitives c.args.ends.now c.requires.ends
 
-pub step_if-requires-clause-index : goal.step_if-requires-clause-index
-step_if-requires-clause-index g c =
-    let far = c.loop-index.invariant in
+pub step_one-requires-clause-index : goal.step_one-requires-clause-index
+step_one-requires-clause-index g c =
+    let far = c.loop-index.invariant.far in
     let marks = c.requires.marks.one_each in
     omega (
       arith,
@@ -29,60 +37,47 @@ step_if-requires-clause-index g c =
       same_count g.P.Primitive.behaviour g.P.Primitive.settled c.args.circuit.now c.args.rows.now c.args.items.now c.loop-index.circuit far.shape,
     )
 
-pub step_if-requires-clause-rows : goal.step_if-requires-clause-rows
-step_if-requires-clause-rows g c =
-    let far = c.loop-index.invariant in
+pub step_one-requires-clause-rows : goal.step_one-requires-clause-rows
+step_one-requires-clause-rows g c =
+    let far = c.loop-index.invariant.far in
     let bs = map g.P.Primitive.behaviour c.args.circuit.now.primitives in
     rows_length (all_sides bs) c.args.rows.now c.requires.colouring.rows_fit.in_tables
     ∙ sym (sides_same bs (map g.P.Primitive.behaviour c.loop-index.circuit.primitives) far.shape.primitives)
 
-pub step_if-requires-clause-items : goal.step_if-requires-clause-items
-step_if-requires-clause-items g c =
-    let far = c.loop-index.invariant in
+pub step_one-requires-clause-items : goal.step_one-requires-clause-items
+step_one-requires-clause-items g c =
+    let far = c.loop-index.invariant.far in
     far.count ∙ ap (λ (js : List _). length js) (sym far.shape.joints)
-
-pub step_if-requires-clause-stays : goal.step_if-requires-clause-stays
-step_if-requires-clause-stays g c = λ not.
-    let far = c.loop-index.invariant in
-    let net : Net = net_of g.P.Primitive.behaviour c.args.circuit.now in
-    let marks = c.requires.marks.one_each in
-    let bs = length-map c.args.circuit.now.primitives g.P.Primitive.behaviour in
-    let lt : c.loop-index.index < length c.args.circuit.now.primitives = omega (arith, marks, bs) in
-    still_stays g.P.Primitive.behaviour g.P.Primitive.settled c.args.circuit.now c.args.rows.now c.args.items.now g.met.P.Primitive.quiet c.known.ensures.wired c.requires.colouring
-    c.loop-index.index c.loop-index.circuit c.loop-index.items lt far
-    (λ flow. not_both (is_changed c.args.marks.now c.loop-index.index) (get_or_default c.args.marks.now c.loop-index.index false _ (omega (arith, marks, bs)) ∙ not)
-    ((c.requires.marks.each c.loop-index.index (omega (arith, bs, lt))).1 flow))
-
-pub step_if-requires-clause-none : goal.step_if-requires-clause-none
-step_if-requires-clause-none g c = λ not.
-    let far = c.loop-index.invariant in
-    let net : Net = net_of g.P.Primitive.behaviour c.args.circuit.now in
-    let marks = c.requires.marks.one_each in
-    let bs = length-map c.args.circuit.now.primitives g.P.Primitive.behaviour in
-    let lt : c.loop-index.index < length c.args.circuit.now.primitives = omega (arith, marks, bs) in
-    still_takes_none g.P.Primitive.behaviour g.P.Primitive.settled c.args.circuit.now c.args.rows.now c.args.items.now g.met.P.Primitive.quiet c.known.ensures.wired c.requires.colouring
-    c.loop-index.index c.loop-index.circuit c.loop-index.items lt far
-    (λ flow. not_both (is_changed c.args.marks.now c.loop-index.index) (get_or_default c.args.marks.now c.loop-index.index false _ (omega (arith, marks, bs)) ∙ not)
-    ((c.requires.marks.each c.loop-index.index (omega (arith, bs, lt))).1 flow))
 
 pub loop-index-preserved : goal.loop-index-preserved
 loop-index-preserved g c =
-    let far = c.loop-index.invariant in
+    let far = c.loop-index.invariant.far in
+    let net : Net = net_of g.P.Primitive.behaviour c.args.circuit.now in
     let marks = c.requires.marks.one_each in
     let bs = length-map c.args.circuit.now.primitives g.P.Primitive.behaviour in
-    far_more g.P.Primitive.behaviour g.P.Primitive.settled c.args.circuit.now c.args.rows.now c.args.items.now
-    c.loop-index.index c.loop-index.circuit c.step_if.new.circuit c.loop-index.items c.step_if.new.items (omega (arith, marks, bs)) far
-    c.step_if.ensures.circuit c.step_if.ensures.shape c.step_if.ensures.items
+    let next : ℕ = c.next_set-index-in-loop-index.result in
+    let in_range = c.next_set-index-in-loop-index.ensures.in_range in
+    let on : c.loop-index.index + 1 ≤ next = omega (arith, c.next_set-index-in-loop-index.ensures.from_on) in
+    let more = far_more g.P.Primitive.behaviour g.P.Primitive.settled c.args.circuit.now c.args.rows.now c.args.items.now
+    c.loop-index.index c.loop-index.circuit c.step_one.new.circuit c.loop-index.items c.step_one.new.items (omega (arith, marks, bs)) far
+    c.step_one.ensures.circuit c.step_one.ensures.shape c.step_one.ensures.items in
+    record {
+      in_range = in_range;
+      far = far_over g.P.Primitive.behaviour g.P.Primitive.settled c.args.circuit.now c.args.rows.now c.args.items.now g.met.P.Primitive.quiet c.known.ensures.wired c.requires.colouring
+          (next - (c.loop-index.index + 1)) (c.loop-index.index + 1) next c.step_one.new.circuit c.step_one.new.items (omega arith) (omega (arith, marks, bs, in_range))
+          (none_flows net c.args.rows.now c.args.marks.now c.requires.marks (c.loop-index.index + 1) next c.next_set-index-in-loop-index.ensures)
+          more;
+    }
 
 pub returns-clause-circuit : goal.returns-clause-circuit
 returns-clause-circuit g c =
     let marks = c.requires.marks.one_each in
     let bs = length-map c.args.circuit.now.primitives g.P.Primitive.behaviour in
     far_all g.P.Primitive.behaviour g.P.Primitive.settled c.args.circuit.now c.args.rows.now c.args.items.now
-    c.loop-index.index c.loop-index.circuit c.loop-index.items (omega (arith, marks, bs)) c.loop-index.invariant
+    c.loop-index.index c.loop-index.circuit c.loop-index.items (omega (arith, marks, bs, c.loop-index.invariant.in_range)) c.loop-index.invariant.far
 
 pub returns-clause-shape : goal.returns-clause-shape
-returns-clause-shape g c = c.loop-index.invariant.shape
+returns-clause-shape g c = c.loop-index.invariant.far.shape
 
 pub returns-clause-items : goal.returns-clause-items
-returns-clause-items g c = c.loop-index.invariant.none
+returns-clause-items g c = c.loop-index.invariant.far.none

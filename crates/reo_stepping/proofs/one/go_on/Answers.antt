@@ -1,7 +1,8 @@
 use Rattle.std.proofs.Common.{◌≡◌, ◌∙◌, false, List, get_or, ap, sym, arith}
+use Rattle.reo_net_base.specs.declared.colouring.Chosen.{Chosen}
 use Rattle.reo_net_base.specs.Net.{Wiring, net_of}
 use Rattle.reo_net_base.specs.Step.{change_at, chosen_for}
-use Rattle.reo_stepping.proofs.StepLemmas.{change_none, changed_by, changed_twice}
+use Rattle.reo_stepping.proofs.StepLemmas.{change_none}
 use Rattle.reo_stepping.proofs.one.go_on.Goals as goal
 
 pub returns-then-not-keeps-clause-circuit : goal.returns-then-not-keeps-clause-circuit
@@ -18,10 +19,5 @@ returns-then-not-keeps-clause-circuit g c =
 pub returns-clause-circuit : goal.returns-clause-circuit
 returns-clause-circuit g c =
     let w : Wiring g.row.P.Denot = c.args.circuit.now in
-    let d : g.row.P.Denot = c.put-primitive.result in
-    let last : g.row.P.Denot = c.settle.new.self in
-    let f : g.row.P.Denot → g.row.P.Denot = λ q. g.P.Primitive.settled q (chosen_for (net_of g.P.Primitive.behaviour w) c.args.rows.now c.args.index) c.args.taken in
-    let is : last ≡ f (get_or w.primitives c.args.index d) = c.settle.ensures ∙ (λ t. g.P.Primitive.settled (c.put-primitive.ensures.before t) (c.chosen_for-chosen.ensures t) c.args.taken) in
-    c.put.ensures.circuit
-    ∙ ap (λ (v : Wiring g.row.P.Denot). record v { primitives = change_at (λ _. last) v.primitives c.args.index }) c.put-primitive.ensures.circuit
-    ∙ ap (λ (ps : List g.row.P.Denot). record w { primitives = ps }) (changed_twice c.stand_in-other.result last w.primitives c.args.index ∙ changed_by f last w.primitives c.args.index d is)
+    c.settle.ensures.circuit
+    ∙ ap (λ (r : Chosen). record w { primitives = change_at (λ q. g.P.Primitive.settled q r c.args.taken) w.primitives c.args.index }) c.chosen_for-chosen.ensures
