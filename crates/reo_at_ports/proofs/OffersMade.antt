@@ -55,6 +55,10 @@ module _ (players : List Player) where
         | inr le ↦ holds n i port le ∙ nothing_held port i none
       ]
 
+-- A round has seen its offer.
+pub seen_offered : (p : Player) → nat_eq p.seen 0 ≡ false → (port : ℕ) → held_at port p ≡ offer_at port p
+seen_offered p seen port = ap (λ b. cond b None (offer_at port p)) seen
+
 -- A component that has nothing to add, as a round has seen its offer or it makes none.
 pub pass_over : (ports : List Port) (count n : ℕ) (players : List Player) (states : List PortState) → ((port : ℕ) → held_at port (player_of players n) ≡ offer_at port (player_of players n))
     → AreOffering ports count n players states → AreOffering ports count (n + 1) players states

@@ -1,10 +1,10 @@
 //! How far the components come in a round.
-ghost use Rattle.std.specs.Prelude.{◌≡◌, ℕ, ◌<◌, None, Some, length, map, option_and_then};
+ghost use Rattle.std.specs.Prelude.{◌≡◌, ℕ, ◌<◌, None, Some, length, map};
 ghost use Rattle.reo_net_base.specs.declared.port.Offer.{Offer as AnOffer};
 ghost use Rattle.reo_net_base.specs.Net.{Wiring};
 ghost use Rattle.reo_net_base.specs.Step.{change_at};
 ghost use Rattle.reo_net_circuit.specs.Offers.{OnlyPort};
-ghost use Rattle.reo_players.specs.Players.{player_of, present, port_of};
+ghost use Rattle.reo_players.specs.Players.{player_of};
 ghost use Rattle.reo_rounds.specs.Offering.{IsPendingAt};
 ghost use Rattle.reo_rounds.specs.Rules.{rules_of};
 ghost use Rattle.reo_at_ports.specs.Pending.{IsButForOffers, pending_in};
@@ -13,20 +13,7 @@ ghost use Rattle.reo_at_ports.specs.Parts.{HasGoneOn, IsLeft, IsPendingOrGone};
 
 use reo_engine::Engine;
 use reo_net_base::{Ported, Ports, Restoring};
-use reo_players::{Players, Step, Want};
-
-/// The port at which a component offers something.
-fn port_of(players: &Players, component: usize) -> Option<usize>
-    requires { component < length players.now }
-    ensures { result ≡ option_and_then port_of (present (player_of players.now component)) }
-{
-    match players.wants(component) {
-        Want::Write { port, item: _item } => Some(port),
-        Want::Take { port } => Some(port),
-        Want::Rest => None,
-        Want::Done => None,
-    }
-}
+use reo_players::{Players, Step};
 
 /// Whether what a component offered is gone, as it flowed in the round.
 fn is_gone<P: Ported>(
@@ -42,7 +29,7 @@ fn is_gone<P: Ported>(
         result ≡ is_gone_at states (player_of players.now component) }
 {
     let _ = ports;
-    match port_of(players, component) {
+    match players.port_of(component) {
         Some(port) => !engine.circuit().is_pending(port),
         None => false,
     }

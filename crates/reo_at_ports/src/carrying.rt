@@ -16,7 +16,6 @@ use crate::advancing::advance_all;
 use reo_engine::{Done, Engine, Plan, Standing};
 use reo_net_base::{Move, Ports, Restoring};
 use reo_players::Players;
-use reo_stepping::Standin;
 use reo_trace::{Ending, RoundLine};
 use reo_values::List;
 
@@ -80,7 +79,7 @@ pub fn carry_out<P: Restoring>(
 }
 
 /// Makes the round that stands: the circuit steps, and each component goes on. This takes no memory.
-pub fn carry_on<P: Restoring + Standin>(
+pub fn carry_on<P: Restoring>(
     engine: &mut Engine<P>,
     players: &mut Players,
     ports: &Ports,

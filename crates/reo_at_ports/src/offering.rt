@@ -1,5 +1,5 @@
 //! What the components offer at the start of a round.
-ghost use Rattle.std.specs.Prelude.{◌≡◌, ◌<◌, ◌+◌, IfOk, OnOk, MatchOption, Some, length, map};
+ghost use Rattle.std.specs.Prelude.{◌≡◌, ◌<◌, ◌+◌, ◌==◌, true, IfOk, OnOk, MatchOption, Some, length, map};
 ghost use Rattle.reo_net_base.specs.Net.{Wiring};
 ghost use Rattle.reo_net_base.specs.Step.{change_at};
 ghost use Rattle.reo_net_circuit.specs.Offers.{OnlyPort};
@@ -35,21 +35,19 @@ fn place<P: Ported>(engine: &mut Engine<P>, port: usize, offer: Offer)
     };
 }
 
-/// What a component offers that no round has seen yet, and at which port. `NoMemory` is out of
-/// memory.
+/// What a component offers whose present action no round has seen, and at which port. `NoMemory` is
+/// out of memory.
 fn fresh_offer(
     alloc: Global,
     players: &Players,
     component: usize,
 ) -> Result<Option<(usize, Offer)>, NoMemory>
-    requires { component < length players.now }
+    requires there { component < length players.now }
+    requires unseen { ((player_of players.now component).seen == 0) ≡ true }
     ensures { let player = player_of players.now component in
         IfOk result (λ made. MatchOption made (HasOffered player)
         (λ m. IsFresh player m.0 m.1)) }
 {
-    if !players.fresh(component) {
-        return Ok(None);
-    }
     match players.wants(component) {
         Want::Write { port, item } => Ok(Some((port, Offer::Write(copy(alloc, item)?)))),
         Want::Take { port } => Ok(Some((port, Offer::Take))),
@@ -58,7 +56,8 @@ fn fresh_offer(
     }
 }
 
-/// Offers what a component wants, where no round has seen it yet. `NoMemory` is out of memory.
+/// Offers what a component wants whose present action no round has seen. `NoMemory` is out of
+/// memory.
 fn offer_fresh<P: Ported>(
     alloc: Global,
     engine: &mut Engine<P>,
@@ -67,6 +66,7 @@ fn offer_fresh<P: Ported>(
     component: usize,
 ) -> Result<(), NoMemory>
     requires there { component < length players.now }
+    requires unseen { ((player_of players.now component).seen == 0) ≡ true }
     requires before { let old = engine.old.circuit in
         let states = map P.port_state old.primitives in
         AreOffering ports.now.list old.ports component players.now states }
@@ -105,7 +105,9 @@ pub fn offer_all<P: Ported>(
 {
     offers_agree();
     for component in 0..players.count() {
-        offer_fresh(alloc, engine, ports, players, component)?;
+        if players.fresh(component) {
+            offer_fresh(alloc, engine, ports, players, component)?;
+        }
     }
     Ok(())
 }

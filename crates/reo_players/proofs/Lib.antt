@@ -1,3 +1,4 @@
 mod Bodies
 mod Stands
 mod Passed
+mod Present

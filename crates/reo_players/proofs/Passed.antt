@@ -123,7 +123,7 @@ module _ (xs : List Action) (counters : List Counter) (here now : Counter) (old 
   passed_last h = rest_was ∙ ap (λ ts. ts ++ after) h.1
 
 -- The first task of a list that counters stand in.
-abbrev HasTask : List Task → Type 0
+abbrev pub HasTask : List Task → Type 0
 HasTask ts = (t : Task) × (us : List Task) × (ts ≡ t ∷ us)
 
 some_append : (xs ys : List Task) → HasTask xs → HasTask (xs ++ ys)
@@ -138,7 +138,7 @@ some_here (Some (action.Pause rounds)) left Inner inner all h = (rests rounds, [
 some_here (Some (action.Repeat' times shape body)) left Inner inner all h =
     some_append (inner (actions_in body)) (times_over left (flat_map written (actions_in body))) (all (actions_in body) h)
 
-some_task : (cs : List Counter) (xs : List Action) → Stands xs cs → HasTask (rest_of xs cs)
+pub some_task : (cs : List Counter) (xs : List Action) → Stands xs cs → HasTask (rest_of xs cs)
 some_task [] xs h = elim h [ ]
 some_task (c ∷ cs) xs h =
     some_append (rest_here (slice_get xs c.place) c.left (λ body. rest_of body cs)) (flat_map written (drop (suc c.place) xs))

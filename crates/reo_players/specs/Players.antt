@@ -46,6 +46,13 @@ offer_of (writes port item within) = Some (offers.Write item)
 offer_of (takes port within) = Some offers.Take
 offer_of (rests rounds) = None
 
+-- The same of the first action of a list.
+abbrev pub first_bound : List Task → Option ℕ
+first_bound ts = option_and_then bound_of (first_of ts)
+
+abbrev pub first_port : List Task → Option ℕ
+first_port ts = option_and_then port_of (first_of ts)
+
 -- It counts where its present action is a pause or has a bound.
 abbrev pub counts : Player → Bool
 counts p = is_some (option_and_then bound_of (present p))

@@ -1,8 +1,8 @@
 //! One component in a run.
-ghost use Rattle.std.specs.Prelude.{◌≡◌, IfOk, length, drop, MatchOption, None, IsSome, false, option_and_then};
+ghost use Rattle.std.specs.Prelude.{◌≡◌, ◌+◌, ◌==◌, IfOk, length, drop, MatchOption, None, IsSome, false, option_and_then};
 ghost use Rattle.std.specs.Option.{option_map_or};
-ghost use Rattle.reo_players.specs.Counters.{task_of};
-ghost use Rattle.reo_players.specs.Players.{after, step_of, beginning_of, present, counts, bound_of, port_of, runs_out as runs_out_of};
+ghost use Rattle.reo_players.specs.Counters.{rest_left, StandsUntil, task_of};
+ghost use Rattle.reo_players.specs.Players.{after, step_of, beginning_of, present, is_done as is_done_of, counts, bound_of, port_of as port_of_task, first_bound, first_port};
 
 use crate::counter::{Counter, levels, pass, stand_at, standing};
 use crate::live::live_of;
@@ -12,19 +12,21 @@ use reo_values::{List, NoMemory};
 use std::alloc::Global;
 use std::marker::Model;
 
-/// A component in a run: its actions, where its counters stand in them, and how many rounds its
-/// present action has seen.
+/// A component in a run: its actions, where its counters stand in them, and of its present action
+/// how many rounds it has seen, how many it may see, and the port that it names.
 #[derive(Drop)]
 pub struct Player {
     actions: List<Action>,
     counters: Vec<Counter>,
     seen: u32,
     done: bool,
+    bound: Option<u32>,
+    port: Option<usize>,
 }
 
 impl Model for Player {
-    ghost use Rattle.std.specs.Prelude.{List, ◌≤◌, length};
-    ghost use Rattle.reo_players.specs.Players.{Player as APlayer};
+    ghost use Rattle.std.specs.Prelude.{List, ◌≡◌, ◌≤◌, length};
+    ghost use Rattle.reo_players.specs.Players.{Player as APlayer, first_bound, first_port};
     ghost use Rattle.reo_players.specs.Codes.{player_code};
     ghost use Rattle.reo_values.specs.contracts.value.Value as item;
     ghost use Rattle.reo_players.specs.Counters.{rest_left, levels_of, AreLive, StandsUntil};
@@ -37,7 +39,9 @@ impl Model for Player {
         record { rest = rest_left p.done p.actions p.counters.items; seen = p.seen } };
 
     ghost invariant = { λ p. AreLive p.actions × (levels_of p.actions ≤ length p.counters.items)
-        × StandsUntil p.done p.actions p.counters.items };
+        × StandsUntil p.done p.actions p.counters.items
+        × (p.bound ≡ first_bound (rest_left p.done p.actions p.counters.items))
+        × (p.port ≡ first_port (rest_left p.done p.actions p.counters.items)) };
 }
 
 impl Player {
@@ -52,11 +56,14 @@ impl Player {
         if !done {
             stand_at(actions.as_slice(), &mut counters, 0);
         }
+        let (bound, port) = bound_and_port(actions.as_slice(), &counters, done);
         Ok(Player {
             actions,
             counters,
             seen: 0,
             done,
+            bound,
+            port,
         })
     }
 
@@ -72,6 +79,20 @@ impl Player {
         }
     }
 
+    /// Whether it is done.
+    pub fn is_done(&self) -> bool
+        ensures { result ≡ is_done_of self.now }
+    {
+        self.done
+    }
+
+    /// The port that its present action names.
+    pub fn port(&self) -> Option<usize>
+        ensures { result ≡ option_and_then port_of_task (present self.now) }
+    {
+        self.port
+    }
+
     /// How many rounds its present action has seen, counted up to the greatest number of 32 bits.
     pub fn seen(&self) -> u32
         ensures { result ≡ self.now.seen }
@@ -83,10 +104,7 @@ impl Player {
     pub fn counts(&self) -> bool
         ensures { result ≡ counts self.now }
     {
-        match self.present() {
-            Some(action) => bound(action).is_some(),
-            None => false,
-        }
+        self.bound.is_some()
     }
 
     /// One round has passed, in which its offer flowed, or did not.
@@ -94,22 +112,27 @@ impl Player {
         ensures player { self.new ≡ after flowed self.old }
         ensures step { result ≡ step_of flowed self.old }
     {
-        let (over, port) = match self.present() {
-            Some(action) => (runs_out(action, self.seen), port(action)),
-            None => return Step::Stays,
-        };
-        if !flowed && !over {
+        if self.done {
+            return Step::Stays;
+        }
+        if flowed {
+            self.go_on();
+            return Step::Moved;
+        }
+        if !runs_out(self.bound, self.seen) {
             self.seen = self.seen.saturating_add(1);
             return Step::Stays;
         }
+        let port = self.port;
         self.go_on();
         match port {
-            Some(port) if !flowed => Step::GaveUp { port },
-            _ => Step::Moved,
+            Some(port) => Step::GaveUp { port },
+            None => Step::Moved,
         }
     }
 
     /// Goes to its next action.
+    #[inline(never)]
     fn go_on(&mut self)
         ensures { self.new ≡ record { rest = drop 1 self.old.rest; seen = 0 } }
     {
@@ -117,7 +140,28 @@ impl Player {
         if !self.done {
             self.done = !pass(self.actions.as_slice(), &mut self.counters);
         }
+        let (bound, port) = bound_and_port(self.actions.as_slice(), &self.counters, self.done);
+        self.bound = bound;
+        self.port = port;
     }
+}
+
+/// How many rounds the action may see at which counters stand, and the port that it names; neither
+/// for a component that is done.
+fn bound_and_port(
+    actions: &[Action],
+    counters: &[Counter],
+    done: bool,
+) -> (Option<u32>, Option<usize>)
+    requires { StandsUntil done actions.now counters.now }
+    ensures bound { result.0 ≡ first_bound (rest_left done actions.now counters.now) }
+    ensures port { result.1 ≡ first_port (rest_left done actions.now counters.now) }
+{
+    if done {
+        return (None, None);
+    }
+    let action = standing(actions, counters);
+    (bound(action), port(action))
 }
 
 /// How many rounds an action may see.
@@ -134,7 +178,7 @@ fn bound(action: &Action) -> Option<u32>
 
 /// The port that an action names.
 fn port(action: &Action) -> Option<usize>
-    ensures { result ≡ option_and_then port_of (task_of action.now) }
+    ensures { result ≡ option_and_then port_of_task (task_of action.now) }
 {
     match action {
         Action::Write { port, .. } => Some(*port),
@@ -144,11 +188,11 @@ fn port(action: &Action) -> Option<usize>
     }
 }
 
-/// Whether the bound of an action that had seen so many rounds is used up by one more.
-fn runs_out(action: &Action, seen: u32) -> bool
-    ensures { result ≡ option_map_or (λ t. runs_out_of t seen) (task_of action.now) false }
+/// Whether a bound is used up by one round more than so many.
+fn runs_out(bound: Option<u32>, seen: u32) -> bool
+    ensures { result ≡ option_map_or (λ n. (seen + 1) == n) bound false }
 {
-    match bound(action) {
+    match bound {
         Some(most) => seen < most && most - seen == 1,
         None => false,
     }

@@ -1,6 +1,6 @@
 //! All components in a run.
-ghost use Rattle.std.specs.Prelude.{◌≡◌, ◌<◌, ◌==◌, IfOk, length, map};
-ghost use Rattle.reo_players.specs.Players.{beginning_of, present, player_of, all_done, someone_counts, IsAdvanced};
+ghost use Rattle.std.specs.Prelude.{◌≡◌, ◌<◌, ◌==◌, IfOk, length, map, option_and_then};
+ghost use Rattle.reo_players.specs.Players.{beginning_of, present, player_of, port_of as port_of_task, all_done, someone_counts, IsAdvanced};
 ghost use Rattle.reo_players.specs.Wants.{Wants};
 
 use crate::player::Player;
@@ -76,6 +76,14 @@ impl Players {
         }
     }
 
+    /// The port that a component's present action names: None for a pause, and where it is done.
+    pub fn port_of(&self, component: usize) -> Option<usize>
+        requires { component < length self.now }
+        ensures { result ≡ option_and_then port_of_task (present (player_of self.now component)) }
+    {
+        self.players.at(component).port()
+    }
+
     /// Whether a component's present action has not seen a round.
     pub fn fresh(&self, component: usize) -> bool
         requires { component < length self.now }
@@ -91,7 +99,7 @@ impl Players {
         self.players
             .as_slice()
             .iter()
-            .all(|player| player.present().is_none())
+            .all(|player| player.is_done())
     }
 
     /// Whether a component counts: its present action is a pause or has a bound.

@@ -1,13 +1,35 @@
 -- All components have made their offers.
-use Rattle.std.proofs.Common.{◌≡◌, ◌∙◌, List, map, ap, arith}
+use Rattle.std.proofs.Common.{rules, ◌≡◌, ◌∙◌, List, map, sym, ap, arith}
 use Rattle.reo_net_base.specs.Net.{Wiring}
 use Rattle.reo_net_base.specs.PortState.{PortState}
 use Rattle.reo_rounds.specs.Rules.{Rules, rules_of}
+use Rattle.reo_players.specs.Players.{player_of}
 use Rattle.reo_players.specs.Offers.{offer_for}
 use Rattle.reo_at_ports.specs.Pending.{pending_in}
 use Rattle.reo_at_ports.proofs.Ready.{ready_same}
-use Rattle.reo_at_ports.proofs.OffersMade.{started, pending_is}
+use Rattle.reo_at_ports.proofs.OffersMade.{seen_offered, pass_over, started, pending_is}
 use Rattle.reo_at_ports.proofs.offering.offer_all.Goals as goal
+use Rattle.reo_at_ports.proofs.offering.offer_all.Goals.{then-fresh+in_ok-offer_fresh, else-fresh}
+
+pub loop-component-preserved : goal.loop-component-preserved
+loop-component-preserved g c =
+    let before = c.loop-component.engine.circuit in
+    elim c.if-fresh.branch [
+      | then-fresh+in_ok-offer_fresh w ↦
+          let rounds : w.offer_fresh.new.engine.rounds ≡ c.args.engine.now.rounds = search rules in
+          rw w.engine-is record {
+            offers = w.in_ok-offer_fresh.ensures.offers;
+            circuit = λ v but. w.in_ok-offer_fresh.ensures.circuit v (c.loop-component.invariant.circuit v but);
+            rounds = rounds;
+          }
+      | else-fresh w ↦
+          let seen = seen_offered (player_of c.args.players.now c.loop-component.component) (sym c.fresh.ensures ∙ w.if-fresh.false) in
+          rw w.engine-is record {
+            offers = pass_over c.args.ports.now.list before.ports c.loop-component.component c.args.players.now (map g.P.Ported.port_state before.primitives) seen c.loop-component.invariant.offers;
+            circuit = c.loop-component.invariant.circuit;
+            rounds = c.loop-component.invariant.rounds;
+          }
+    ]
 
 pub returns-clause-started : goal.returns-clause-started
 returns-clause-started g c =

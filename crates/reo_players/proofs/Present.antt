@@ -1,0 +1,45 @@
+-- The present action of a component, and how it goes on from it.
+use Rattle.std.proofs.Common.{◌≡◌, ◌∙◌, ◌+◌, ℕ, Bool, true, false, cond, List, [], ◌∷◌, drop, Option, refl, sym, ap, true≢false}
+use Rattle.std.specs.Prelude.{is_none, nat_eq}
+use Rattle.std.specs.Option.{option_map_or}
+use Rattle.reo_scripts.specs.declared.action.Action.{Action}
+use Rattle.reo_rules.specs.Lists.{first_of}
+use Rattle.reo_players.specs.declared.counter.Counter.{Counter}
+use Rattle.reo_players.specs.declared.step.Step.TheVariants as steps
+use Rattle.reo_players.specs.Written.{Task}
+use Rattle.reo_players.specs.Counters.{rest_left, StandsUntil}
+use Rattle.reo_players.specs.Players.{Player, first_bound, one_more_seen, after_task, step_task}
+use Rattle.reo_players.proofs.Passed.{HasTask, some_task}
+
+-- There is one until the component is done.
+pub present_task : (done : Bool) (xs : List Action) (cs : List Counter) → StandsUntil done xs cs → done ≡ false → HasTask (rest_left done xs cs)
+present_task true xs cs stands not_done = absurd (true≢false not_done)
+present_task false xs cs stands not_done = some_task cs xs stands
+
+pub done_is : (done : Bool) (xs : List Action) (cs : List Counter) → StandsUntil done xs cs → done ≡ is_none (first_of (rest_left done xs cs))
+done_is true xs cs stands = refl
+done_is false xs cs stands = sym (ap (λ ts. is_none (first_of ts)) (some_task cs xs stands).2)
+
+abbrev pub used_up : Option ℕ → ℕ → Bool
+used_up bound seen = option_map_or (λ n. nat_eq (seen + 1) n) bound false
+
+-- Where its offer flowed it goes to the next.
+pub flows : (rest : List Task) → HasTask rest → (flowed : Bool) (seen : ℕ) → flowed ≡ true → after_task flowed seen rest ≡ record { rest = drop 1 rest; seen = 0 }
+flows [] has flowed seen is = let some = has.2 in absurd cc
+flows (t ∷ ts) has true seen is = refl
+flows (t ∷ ts) has false seen is = absurd (true≢false (sym is))
+
+pub flows_step : (rest : List Task) → HasTask rest → (flowed : Bool) (seen : ℕ) → flowed ≡ true → steps.Moved ≡ step_task flowed seen rest
+flows_step [] has flowed seen is = let some = has.2 in absurd cc
+flows_step (t ∷ ts) has true seen is = refl
+flows_step (t ∷ ts) has false seen is = absurd (true≢false (sym is))
+
+-- Where it did not, and its bound is not used up, it stays there.
+pub stays : (rest : List Task) → HasTask rest → (flowed : Bool) (seen : ℕ) (bound : Option ℕ) → bound ≡ first_bound rest
+    → flowed ≡ false → used_up bound seen ≡ false → after_task flowed seen rest ≡ record { rest = rest; seen = one_more_seen seen }
+stays [] has flowed seen bound is still on = let some = has.2 in absurd cc
+stays (t ∷ ts) has true seen bound is still on = absurd (true≢false still)
+stays (t ∷ ts) has false seen bound is still on =
+    let next : Player = record { rest = ts; seen = 0 } in
+    let here : Player = record { rest = t ∷ ts; seen = one_more_seen seen } in
+    ap (λ b. cond b next here) (ap (λ o. used_up o seen) (sym is) ∙ on)
