@@ -1,8 +1,9 @@
 pub mod Ending
+pub mod Finding
+pub mod Leaving
 pub mod Meeting
 pub mod Parts
 pub mod Placed
-pub mod Resetting
 pub mod Seated
 pub mod Spotted
 pub mod Steps

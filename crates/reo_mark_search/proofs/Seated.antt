@@ -267,3 +267,18 @@ module _ (net : Net) (wired : IsWired net) (spots : List (List ℕ)) (are : AreS
         let stands = fits_stands new rows rival fits in
         one_row (slice_index rows k) row (in_table rows rival) (subst (λ (n : ℕ). row < n) (sym has_form.rows) (omega (arith, is.first.plain))) (λ o lt. sym ((is.exact o (mark_by form (slice_index rows k) o) lt).0 (stands.each o lt)).1);
   }
+
+  -- A row that is left alone is that of each rival, and has its class.
+  pub fixed_taken : (turn row : ℕ) (sets : List Marks) → IsChosen form places row sets sets → IsTakenAt net inside (class_place net turn k) sets sets
+  unfolding chosen_taken
+  fixed_taken turn row sets is = record {
+    one_each = refl;
+    fewer = λ x m h. h;
+    number = class_by form row turn;
+    least = λ rows rival fits. let e = same rows rival fits in omega (arith, e);
+    stay = λ rows rival fits _. fits;
+    only = same;
+  }
+    where
+      same : (rows : List ℕ) → IsRival net inside rows → Fits net inside sets rows → number_of (class_place net turn k) rows ≡ class_by form row turn
+      same rows rival fits = class_here turn rows rival ∙ ap (λ (r : ℕ). class_by form r turn) ((chosen_taken row sets sets is).only rows rival fits)

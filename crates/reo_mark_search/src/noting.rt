@@ -9,25 +9,11 @@ ghost use Rattle.reo_mark_search.specs.Fitting.{Fits, IsRival, AreNoted, AreOpen
 ghost use Rattle.reo_mark_search.specs.Spots.{AreSpots};
 
 use crate::spots::places_at;
-use crate::taking::is_late;
 use reo_knots::Knots;
 use reo_mark_sets::{Sets, is_usual};
 use reo_net_base::{Form, Primitive};
 use reo_net_circuit::Circuit;
 use reo_values::List;
-
-/// All marks may stand at some places.
-fn reset_all(sets: &mut Sets, places: &[usize])
-    requires { (o : ℕ) → o < length places.now → slice_index places.now o < length sets.old }
-    ensures one_each { length sets.new ≡ length sets.old }
-    ensures here { (o : ℕ) → o < length places.now
-        → marks_at sets.new (slice_index places.now o) ≡ all_marks }
-    ensures stays { (x : ℕ) → marks_at sets.old x ≡ all_marks → marks_at sets.new x ≡ all_marks }
-{
-    for end in 0..places.len() {
-        sets.reset(places[end]);
-    }
-}
 
 /// Notes the form of a side, and begins with all marks there. The answer is whether it was done:
 /// the table of the side may be of no form, or some row may not let each item in.
@@ -64,8 +50,7 @@ fn note_at<P: Primitive>(
                 return false;
             }
             *forms.at_mut(side) = form;
-            reset_all(sets, places_at(circuit, spots, owner, form));
-            sets.wait(side, is_late(form));
+            sets.begin(side, form, places_at(circuit, spots, owner, form));
             true
         }
     }

@@ -7,6 +7,7 @@ ghost use Rattle.reo_knots.specs.Knots.{AreKnots, in_knot, knot_count};
 ghost use Rattle.reo_mark_search.specs.Found.{IsMarkSearch, AreRowsElsewhere, IsFound};
 ghost use Rattle.reo_mark_search.specs.Spots.{AreSpots};
 
+use crate::fixing::fixed_all;
 use crate::found::Found;
 use crate::narrowing::settle;
 use crate::noting::note_all;
@@ -74,6 +75,9 @@ fn search_part<P: Primitive>(
     }
     if !lead_all(circuit, knots, spots, forms, sets, part, turn) {
         return Found::Unknown;
+    }
+    if fixed_all(circuit, knots, spots, forms, sets, part, rows) {
+        return Found::Rows;
     }
     if !class_all(circuit, knots, spots, forms, sets, part, turn) {
         return Found::Unknown;

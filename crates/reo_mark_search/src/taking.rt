@@ -18,7 +18,7 @@ use reo_net_circuit::Circuit;
 use reo_values::List;
 
 /// Whether a form is that of a merger or of a replicator.
-pub(crate) fn is_late(form: Form) -> bool {
+fn is_late(form: Form) -> bool {
     matches!(form, Form::Merging(_) | Form::Replicating(_))
 }
 
@@ -52,7 +52,7 @@ pub(crate) fn class_at<P: Primitive>(
     let seat = seat_at(circuit, knots, spots, forms, part, side);
     sets.take_class(seat.form, seat.places, turn);
     if is_late(seat.form) {
-        sets.wait(side, true);
+        sets.wait(side);
     }
     settle(circuit, knots, spots, forms, sets, part)
 }

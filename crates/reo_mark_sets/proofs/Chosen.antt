@@ -1,21 +1,21 @@
 -- The first row that stands.
-use Rattle.std.proofs.Common.{◌≡◌, inl, inr, ◌↔◌, ℕ, zero, suc, ◌+◌, ◌<◌, ◌≤◌, Bool, true, false, cond, List, [], ◌∷◌, length, slice_index, set, sym, ap, ◌∙◌, subst, arith}
+use Rattle.std.proofs.Common.{◌≡◌, inl, inr, ◌↔◌, ℕ, zero, suc, ◌+◌, ◌<◌, ◌≤◌, Bool, true, false, cond, List, [], ◌∷◌, length, slice_index, set, sym, ap, ◌∙◌, refl, subst, arith}
 use Rattle.std.proofs.lemmas.Bool.{cases_eq}
 use Rattle.reo_net_base.specs.declared.mark.Mark.{Mark}
 use Rattle.reo_net_base.specs.declared.table.Table.{Table}
 use Rattle.reo_net_base.specs.declared.table.Table.TheVariants.{Ready, Resting, Together, Lossy, OneOfTwo, Filter, Spent}
 use Rattle.reo_net_base.specs.declared.branches.Branches.{Branches}
 use Rattle.reo_net_base.specs.declared.form.Form.{Form}
-use Rattle.reo_net_base.specs.declared.form.Form.TheVariants.{Double, Merging, Replicating}
+use Rattle.reo_net_base.specs.declared.form.Form.TheVariants.{Single, Double, Merging, Replicating}
 use Rattle.reo_net_base.specs.Forms.{mark_by}
 use Rattle.reo_net_base.specs.Rows.{Rows}
 use Rattle.reo_net_base.specs.Tables.{rows_of}
 use Rattle.reo_mark_sets.specs.declared.marks.Marks.{Marks}
 use Rattle.reo_mark_sets.specs.Marks.{has, marks_at, just, both}
-use Rattle.reo_mark_sets.specs.Listed.{fits_two, first_fit}
-use Rattle.reo_mark_sets.specs.Standing.{ArePlaces, Stands, AreElsewhere, IsLeastRow}
+use Rattle.reo_mark_sets.specs.Listed.{fits_one, fits_two, first_fit}
+use Rattle.reo_mark_sets.specs.Standing.{ArePlaces, Stands, AreElsewhere, IsLeastRow, IsChosen}
 use Rattle.reo_mark_sets.specs.Tallies.{IsFirstBetween}
-use Rattle.reo_mark_sets.proofs.Classed.{below_or, stands_two, still_or, still_output, copy_or, restrict_exact, restrict_other, restrict_count, just_has, has_just}
+use Rattle.reo_mark_sets.proofs.Classed.{below_or, stands_one, stands_two, still_or, still_output, copy_or, restrict_exact, restrict_other, restrict_count, just_has, has_just}
 use Rattle.reo_mark_sets.proofs.Putting.{contains_at}
 use Rattle.reo_mark_sets.proofs.Rows.{row_in}
 
@@ -52,6 +52,16 @@ module _ (fits : List Mark → Bool) where
       some OneOfTwo = omega arith
       some Filter = omega arith
       some Spent = omega arith
+
+pub single_first : (table : Table) (places : List ℕ) (sets : List Marks) → length places ≡ 1 → (a : Marks) → a ≡ marks_at sets (slice_index places 0)
+    → (row : ℕ) → row ≡ first_fit (rows_of table) (fits_one a) → IsLeastRow (Single table) places sets row
+single_first table places sets width a a_is row is = record {
+  plain = let below = fit_in (fits_one a) table in omega (arith, below, is);
+  least = λ r s.
+      let t = stands_one table places width sets r s in
+      let le = fit_least (fits_one a) (rows_of table) r t.0 ((λ i. fits_one (a_is i) (row_in (rows_of table) r)) ∙ t.1) in
+      omega (arith, le, is);
+}
 
 pub double_first : (table : Table) (places : List ℕ) (sets : List Marks) → length places ≡ 2 → (a b : Marks) → a ≡ marks_at sets (slice_index places 0) → b ≡ marks_at sets (slice_index places 1)
     → (row : ℕ) → row ≡ first_fit (rows_of table) (fits_two a b) → IsLeastRow (Double table) places sets row
@@ -153,3 +163,44 @@ chosen_elsewhere places initial now end all count others = record {
   one_each = count;
   others = λ x none. others x (λ o lt same. none (contains_at places o x (omega (arith, lt, all)) same));
 }
+
+-- One place or two are pinned.
+module _ (form : Form) (places : List ℕ) (row : ℕ) (initial : List Marks) (are : ArePlaces (length initial) places) (first : IsLeastRow form places initial row) where
+  abbrev Pinned : ℕ → List Marks → List Marks → Type 0
+  Pinned end now new = new ≡ set now (slice_index places end) (both (marks_at now (slice_index places end)) (just (mark_by form row end)))
+
+  abbrev Others : ℕ → List Marks → Type 0
+  Others end now = (x : ℕ) → ((o : ℕ) → o < end → slice_index places o ≡ x → ⊥) → marks_at now x ≡ marks_at initial x
+
+  abbrev Done : ℕ → List Marks → Type 0
+  Done end now = (o : ℕ) (m : Mark) → o < end → (has (marks_at now (slice_index places o)) m ≡ true) ↔ ((has (marks_at initial (slice_index places o)) m ≡ true) × (mark_by form row o ≡ m))
+
+  all_pinned : (now : List Marks) (end : ℕ) → end ≡ length places → length now ≡ length initial → Others end now → Done end now → IsChosen form places row initial now
+  all_pinned now end all count others done = record {
+    elsewhere = chosen_elsewhere places initial now end all count others;
+    first = first;
+    exact = λ o m lt. done o m (omega (arith, lt, all));
+  }
+
+  none_before : Done 0 initial
+  none_before o m lt = absurd (omega arith)
+
+  pub one_pinned : (new : List Marks) → length places ≡ 1 → Pinned 0 initial new → IsChosen form places row initial new
+  one_pinned new width is =
+      let lt : 0 < length places = omega (arith, width) in
+      all_pinned new 1 (sym width)
+      (pin_count form places initial initial new row 0 are lt refl (λ x none. refl) is)
+      (pin_others form places initial initial new row 0 are lt refl (λ x none. refl) is)
+      (pin_done form places initial initial new row 0 are lt refl (λ x none. refl) is none_before)
+
+  pub two_pinned : (now new : List Marks) → length places ≡ 2 → Pinned 0 initial now → Pinned 1 now new → IsChosen form places row initial new
+  two_pinned now new width before is =
+      let zero_in : 0 < length places = omega (arith, width) in
+      let one_in : 1 < length places = omega (arith, width) in
+      let count = pin_count form places initial initial now row 0 are zero_in refl (λ x none. refl) before in
+      let others = pin_others form places initial initial now row 0 are zero_in refl (λ x none. refl) before in
+      let done = pin_done form places initial initial now row 0 are zero_in refl (λ x none. refl) before none_before in
+      all_pinned new 2 (sym width)
+      (pin_count form places initial now new row 1 are one_in count others is)
+      (pin_others form places initial now new row 1 are one_in count others is)
+      (pin_done form places initial now new row 1 are one_in count others is done)

@@ -176,7 +176,7 @@ classes_count rows =
 
 -- A side with one end.
 module _ (table : Table) (places : List ℕ) (width : length places ≡ 1) where
-  stands_one : (sets : List Marks) (r : ℕ) → Stands (Single table) places sets r → (r < length (rows_of table)) × (fits_one (marks_at sets (slice_index places 0)) (row_in (rows_of table) r) ≡ true)
+  pub stands_one : (sets : List Marks) (r : ℕ) → Stands (Single table) places sets r → (r < length (rows_of table)) × (fits_one (marks_at sets (slice_index places 0)) (row_in (rows_of table) r) ≡ true)
   stands_one sets r s = (omega (arith, s.plain), s.each 0 (omega (arith, width)))
 
   one_stands : (sets : List Marks) (r : ℕ) → r < length (rows_of table) → fits_one (marks_at sets (slice_index places 0)) (row_in (rows_of table) r) ≡ true → Stands (Single table) places sets r

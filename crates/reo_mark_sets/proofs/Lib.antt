@@ -1,8 +1,10 @@
+pub mod Alone
 pub mod Chosen
 pub mod Classed
 pub mod Formed
 pub mod Narrowed
 pub mod Putting
+pub mod Resetting
 pub mod Rows
 pub mod Starring
 pub mod Tallying

@@ -16,7 +16,7 @@ same_bool true false h = cc
 same_bool false true h = cc
 same_bool false false h = refl
 
-same_marks : (a b : Marks) → (beq a.flow b.flow && (beq a.given b.given && beq a.required b.required)) ≡ true → a ≡ b
+pub same_marks : (a b : Marks) → (beq a.flow b.flow && (beq a.given b.given && beq a.required b.required)) ≡ true → a ≡ b
 same_marks a b h =
     let one = and_parts (beq a.flow b.flow) (beq a.given b.given && beq a.required b.required) h in
     let two = and_parts (beq a.given b.given) (beq a.required b.required) one.1 in

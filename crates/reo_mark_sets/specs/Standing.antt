@@ -7,7 +7,7 @@ use Rattle.reo_net_base.specs.declared.form.Form.TheVariants.{Single, Double, Me
 use Rattle.reo_net_base.specs.Forms.{rows_by, mark_by, class_by}
 use Rattle.reo_mark_sets.specs.declared.marks.Marks.{Marks}
 use Rattle.reo_mark_sets.specs.Listed.{is_single}
-use Rattle.reo_mark_sets.specs.Marks.{has, partner, marks_at, open_at}
+use Rattle.reo_mark_sets.specs.Marks.{has, just, partner, marks_at, open_at, all_marks}
 
 -- How many ends a side of a form has.
 abbrev pub width_by : Form → ℕ
@@ -85,3 +85,18 @@ pub record IsChosen (form : Form) (places : List ℕ) (row : ℕ) (old new : Lis
   pub exact : (o : ℕ) (mark : Mark) → o < length places
       → (has (marks_at new (slice_index places o)) mark ≡ true)
       ↔ ((has (marks_at old (slice_index places o)) mark ≡ true) × (mark_by form row o ≡ mark))
+
+-- A mark that stands at a place stands there alone, and meets one.
+abbrev pub IsSole : List Marks → ℕ → Type 0
+IsSole sets place = (mark : Mark) → has (marks_at sets place) mark ≡ true → (marks_at sets place ≡ just mark) × (has (open_at sets place) mark ≡ true)
+
+-- The marks of that row alone stand already, and some mark at each place meets one.
+pub record IsFixed (form : Form) (places : List ℕ) (row : ℕ) (sets : List Marks) : Type 0 where
+  pub chosen : IsChosen form places row sets sets
+  pub meets : (o : ℕ) → o < length places → (mark : Mark) × (has (open_at sets (slice_index places o)) mark ≡ true)
+
+-- All marks stand at the places, and wherever they stood.
+pub record AreAll (places : List ℕ) (old new : List Marks) : Type 0 where
+  pub one_each : length new ≡ length old
+  pub here : (o : ℕ) → o < length places → marks_at new (slice_index places o) ≡ all_marks
+  pub stays : (x : ℕ) → marks_at old x ≡ all_marks → marks_at new x ≡ all_marks

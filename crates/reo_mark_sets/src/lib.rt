@@ -3,6 +3,7 @@
 
 mod choosing;
 mod classing;
+mod fixed;
 mod forms;
 mod line;
 mod listed;

@@ -1,9 +1,9 @@
 //! Sides with one or two ends, whose rows are listed.
-ghost use Rattle.std.specs.Prelude.{◌≡◌, true, false};
-ghost use Rattle.reo_net_base.specs.Rows.{classes_of};
+ghost use Rattle.std.specs.Prelude.{◌≡◌, ◌&&◌, true, false};
+ghost use Rattle.reo_net_base.specs.Rows.{classes_of, mark_in};
 ghost use Rattle.reo_net_base.specs.Tables.{rows_of};
 ghost use Rattle.reo_mark_sets.specs.Listed.{used_at, used_pair, fits_one, fits_two, first_fit, are_taken, is_single};
-ghost use Rattle.reo_mark_sets.specs.Marks.{only, are_within};
+ghost use Rattle.reo_mark_sets.specs.Marks.{has, only, are_within};
 
 use crate::marks::Marks;
 use reo_net_base::{Mark, Table};
@@ -29,6 +29,13 @@ pub(crate) struct PairOfClass {
     pub pair: Pair,
 }
 
+/// A row, and whether its marks are among some.
+#[derive(Clone, Copy)]
+pub(crate) struct Fit {
+    pub row: usize,
+    pub fits: bool,
+}
+
 /// The marks that the rows with one of some marks have at their one end.
 pub(crate) fn narrowed_one(table: Table, a: Marks) -> Marks
     ensures { result ≡ used_at (rows_of table) (fits_one a) 0 }
@@ -52,9 +59,9 @@ pub(crate) fn narrowed_one(table: Table, a: Marks) -> Marks
 pub(crate) fn narrowed_two(table: Table, a: Marks, b: Marks) -> Pair
     ensures { result ≡ used_pair (rows_of table) a b }
 {
-    let flow = a.flow && b.flow;
-    let first = a.required && b.given;
-    let second = a.given && b.required;
+    let flow = a.flow & b.flow;
+    let first = a.required & b.given;
+    let second = a.given & b.required;
     match table {
         Table::Ready | Table::Resting => Pair {
             first: Marks::none(),
@@ -74,42 +81,42 @@ pub(crate) fn narrowed_two(table: Table, a: Marks, b: Marks) -> Pair
         },
         Table::Lossy => Pair {
             first: Marks {
-                flow: a.flow && (b.flow || b.required),
+                flow: a.flow & (b.flow | b.required),
                 given: false,
                 required: first,
             },
             second: Marks {
                 flow,
                 given: first,
-                required: a.flow && b.required,
+                required: a.flow & b.required,
             },
         },
         Table::OneOfTwo => Pair {
             first: Marks {
-                flow: a.flow && b.given,
-                given: a.given && b.flow,
-                required: a.required && b.required,
+                flow: a.flow & b.given,
+                given: a.given & b.flow,
+                required: a.required & b.required,
             },
             second: Marks {
-                flow: a.given && b.flow,
-                given: a.flow && b.given,
-                required: a.required && b.required,
+                flow: a.given & b.flow,
+                given: a.flow & b.given,
+                required: a.required & b.required,
             },
         },
         Table::Filter => Pair {
             first: Marks {
-                flow: a.flow && (b.flow || b.given),
+                flow: a.flow & (b.flow | b.given),
                 given: second,
                 required: first,
             },
             second: Marks {
                 flow,
-                given: (a.flow || a.required) && b.given,
+                given: (a.flow | a.required) & b.given,
                 required: second,
             },
         },
         Table::Spent => {
-            let given = a.given && b.given;
+            let given = a.given & b.given;
             Pair {
                 first: Marks {
                     flow: false,
@@ -246,55 +253,68 @@ pub(crate) fn classed_two(table: Table, a: Marks, b: Marks) -> PairOfClass
 }
 
 /// The first row of one end with one of some marks, or else the last.
-pub(crate) fn first_one(table: Table, a: Marks) -> usize
+pub(crate) fn first_one(table: Table, a: Marks) -> Fit
     requires { is_single table ≡ true }
-    ensures { result ≡ first_fit (rows_of table) (fits_one a) }
+    ensures row { result.row ≡ first_fit (rows_of table) (fits_one a) }
+    ensures fits { result.fits ≡ has a (mark_in (rows_of table) result.row 0) }
 {
-    if matches!(table, Table::Resting) || a.flow {
-        0
+    if matches!(table, Table::Resting) {
+        fitting(0, a.given)
+    } else if a.flow {
+        fitting(0, true)
     } else {
-        1
+        fitting(1, a.required)
     }
 }
 
-/// The first row of two ends with one of some marks at each, or else the last.
-pub(crate) fn first_two(table: Table, a: Marks, b: Marks) -> usize
-    requires { is_single table ≡ false }
-    ensures { result ≡ first_fit (rows_of table) (fits_two a b) }
+/// A row of this number, which fits or not.
+fn fitting(row: usize, fits: bool) -> Fit
+    ensures { result ≡ record { row = row; fits = fits } }
 {
-    let flow = a.flow && b.flow;
-    let first = a.required && b.given;
+    Fit { row, fits }
+}
+
+/// The first row of two ends with one of some marks at each, or else the last.
+pub(crate) fn first_two(table: Table, a: Marks, b: Marks) -> Fit
+    requires { is_single table ≡ false }
+    ensures row { result.row ≡ first_fit (rows_of table) (fits_two a b) }
+    ensures fits { let rows = rows_of table in
+        result.fits ≡ (has a (mark_in rows result.row 0) && has b (mark_in rows result.row 1)) }
+{
+    let flow = a.flow & b.flow;
+    let first = a.required & b.given;
+    let second = a.given & b.required;
     match table {
-        Table::Ready | Table::Resting | Table::Spent => 0,
+        Table::Ready | Table::Resting | Table::Spent => fitting(0, a.given & b.given),
         Table::Together => if flow {
-            0
+            fitting(0, true)
         } else if first {
-            1
+            fitting(1, true)
         } else {
-            2
+            fitting(2, second)
         },
         Table::Lossy => if flow {
-            0
-        } else if a.flow && b.required {
-            1
+            fitting(0, true)
+        } else if a.flow & b.required {
+            fitting(1, true)
         } else {
-            2
+            fitting(2, first)
         },
-        Table::OneOfTwo => if a.flow && b.given {
-            0
-        } else if a.given && b.flow {
-            1
+        Table::OneOfTwo => if a.flow & b.given {
+            fitting(0, true)
+        } else if a.given & b.flow {
+            fitting(1, true)
         } else {
-            2
+            fitting(2, a.required & b.required)
         },
         Table::Filter => if flow {
-            0
-        } else if a.flow && b.given {
-            1
+            fitting(0, true)
+        } else if a.flow & b.given {
+            fitting(1, true)
         } else if first {
-            2
+            fitting(2, true)
         } else {
-            3
+            fitting(3, second)
         },
     }
 }

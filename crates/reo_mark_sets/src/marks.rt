@@ -1,5 +1,6 @@
 //! Sets of marks.
-ghost use Rattle.std.specs.Prelude.{◌≡◌, ◌||◌};
+ghost use Rattle.std.specs.Prelude.{◌≡◌, ◌||◌, true};
+ghost use Rattle.reo_net_base.specs.declared.mark.Mark.{Mark as EndMark};
 ghost use Rattle.reo_mark_sets.specs.Marks.{has, met, only, just, both, no_marks, all_marks};
 
 use reo_net_base::Mark;
@@ -51,7 +52,22 @@ impl Marks {
     pub fn is_some(self) -> bool
         ensures { result ≡ (self.flow || (self.given || self.required)) }
     {
-        self.flow || self.given || self.required
+        self.flow | (self.given | self.required)
+    }
+
+    /// Whether there is one at most.
+    pub fn is_sole(self) -> bool
+        ensures { result ≡ true → (mark : EndMark) → has self mark ≡ true → self ≡ just mark }
+    {
+        let two = (self.flow | self.given) & self.required;
+        !((self.flow & self.given) | two)
+    }
+
+    /// Whether one of these meets none of some marks at a joint.
+    pub(crate) fn lose(self, theirs: Marks) -> bool {
+        let flow = self.flow & !theirs.flow;
+        let given = self.given & !(theirs.given | theirs.required);
+        flow | given | (self.required & !theirs.given)
     }
 
     /// Those of these marks that meet one of some marks at a joint.
@@ -59,9 +75,9 @@ impl Marks {
         ensures { result ≡ met self theirs }
     {
         Marks {
-            flow: self.flow && theirs.flow,
-            given: self.given && (theirs.given || theirs.required),
-            required: self.required && theirs.given,
+            flow: self.flow & theirs.flow,
+            given: self.given & (theirs.given | theirs.required),
+            required: self.required & theirs.given,
         }
     }
 
@@ -81,9 +97,9 @@ impl Marks {
         ensures { result ≡ both self other }
     {
         Marks {
-            flow: self.flow && other.flow,
-            given: self.given && other.given,
-            required: self.required && other.required,
+            flow: self.flow & other.flow,
+            given: self.given & other.given,
+            required: self.required & other.required,
         }
     }
 
@@ -92,9 +108,9 @@ impl Marks {
         ensures { result ≡ only self mark }
     {
         Marks {
-            flow: self.flow && matches!(mark, Mark::F),
-            given: self.given && matches!(mark, Mark::G),
-            required: self.required && matches!(mark, Mark::R),
+            flow: self.flow & matches!(mark, Mark::F),
+            given: self.given & matches!(mark, Mark::G),
+            required: self.required & matches!(mark, Mark::R),
         }
     }
 }

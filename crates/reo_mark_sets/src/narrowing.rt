@@ -17,8 +17,9 @@ impl Sets {
         ensures narrowed { IsNarrowed (Single table) places.now self.old self.new }
         ensures some { IsTrue result ↔ SomeWorks (Single table) places.now self.old }
     {
-        let marks = narrowed_one(table, self.open_at(places[0]));
-        self.put(places[0], marks);
+        let open = self.open_at(places[0]);
+        let marks = narrowed_one(table, open);
+        self.leave(places[0], open, marks);
         marks.is_some()
     }
 
@@ -29,9 +30,11 @@ impl Sets {
         ensures narrowed { IsNarrowed (Double table) places.now self.old self.new }
         ensures some { IsTrue result ↔ SomeWorks (Double table) places.now self.old }
     {
-        let pair = narrowed_two(table, self.open_at(places[0]), self.open_at(places[1]));
-        self.put(places[0], pair.first);
-        self.put(places[1], pair.second);
+        let first = self.open_at(places[0]);
+        let second = self.open_at(places[1]);
+        let pair = narrowed_two(table, first, second);
+        self.leave(places[0], first, pair.first);
+        self.leave(places[1], second, pair.second);
         pair.first.is_some()
     }
 

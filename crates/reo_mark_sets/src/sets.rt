@@ -1,9 +1,11 @@
 //! The marks of all ends.
-ghost use Rattle.std.specs.Prelude.{◌≡◌, ◌<◌, ◌+◌, ◌*◌, IfOk, length, replicate, slice_set};
+ghost use Rattle.std.specs.Prelude.{◌≡◌, ◌<◌, ◌+◌, ◌*◌, ℕ, IfOk, length, replicate, slice_index, slice_set};
 ghost use Rattle.reo_mark_sets.specs.Marks.{marks_at, open_at, partner, both, all_marks};
+ghost use Rattle.reo_mark_sets.specs.Standing.{AreAll, width_by};
 
-use crate::line::Line;
+use crate::line::{Line, Rank};
 use crate::marks::Marks;
+use reo_net_base::{Form, Table};
 use reo_values::{List, NoMemory};
 use std::alloc::Global;
 use std::marker::Model;
@@ -11,13 +13,12 @@ use std::marker::Model;
 /// The marks that the two ends of each joint may still have: those of its giver at the place twice
 /// the number of the joint, and those of its taker at the place behind it.
 ///
-/// Contracts see the marks by their places. The sides whose ends met fewer marks than before wait
-/// to be narrowed.
+/// Contracts see the marks by their places. The sides some of whose marks met one and meet none any
+/// more wait to be narrowed.
 #[derive(Drop)]
 pub struct Sets {
     marks: List<Marks>,
     keepers: List<usize>,
-    late: List<bool>,
     line: Line,
 }
 
@@ -31,10 +32,10 @@ impl Model for Sets {
 }
 
 /// The other end of a joint.
-fn partner(place: usize) -> usize
+pub(crate) fn partner(place: usize) -> usize
     ensures { result ≡ partner place }
 {
-    if place % 2 == 0 { place + 1 } else { place - 1 }
+    place ^ 1
 }
 
 /// So many times the same. `NoMemory` is out of memory.
@@ -57,32 +58,86 @@ impl Sets {
         ensures { IfOk result (λ made. length made ≡ length keepers) }
     {
         let marks = filled(alloc, Marks::all(), keepers.len())?;
-        let late = filled(alloc, false, sides)?;
         let line = Line::new(alloc, sides)?;
         Ok(Sets {
             marks,
             keepers,
-            late,
             line,
         })
     }
 
     /// All marks may stand at a place.
-    pub fn reset(&mut self, place: usize)
+    fn reset(&mut self, place: usize)
         requires { place < length self.old }
         ensures { self.new ≡ slice_set self.old place all_marks }
     {
         *self.marks.at_mut(place) = Marks::all();
     }
 
-    /// Lets a side wait, from now on behind all that are not late if it is.
-    pub fn wait(&mut self, side: usize, late: bool)
+    /// All marks may stand at some places.
+    fn reset_all(&mut self, places: &[usize])
+        requires { (o : ℕ) → o < length places.now → slice_index places.now o < length self.old }
+        ensures { AreAll places.now self.old self.new }
+    {
+        for end in 0..places.len() {
+            self.reset(places[end]);
+        }
+    }
+
+    /// All marks may stand at the place of a side with one end.
+    fn reset_one(&mut self, places: &[usize])
+        requires width { length places.now ≡ 1 }
+        requires places { (o : ℕ) → o < length places.now
+            → slice_index places.now o < length self.old }
+        ensures { AreAll places.now self.old self.new }
+    {
+        self.reset(places[0]);
+    }
+
+    /// All marks may stand at the places of a side with two ends.
+    fn reset_two(&mut self, places: &[usize])
+        requires width { length places.now ≡ 2 }
+        requires places { (o : ℕ) → o < length places.now
+            → slice_index places.now o < length self.old }
+        ensures { AreAll places.now self.old self.new }
+    {
+        self.reset(places[0]);
+        self.reset(places[1]);
+    }
+
+    /// Begins with all marks at the ends of a side of a form, which waits if they are narrowed then
+    /// by itself.
+    pub fn begin(&mut self, side: usize, form: Form, places: &[usize])
+        requires width { length places.now ≡ width_by form }
+        requires places { (o : ℕ) → o < length places.now
+            → slice_index places.now o < length self.old }
+        ensures { AreAll places.now self.old self.new }
+    {
+        match form {
+            Form::Single(_) => {
+                self.line.begin(side, Rank::Soon, true);
+                self.reset_one(places);
+            }
+            Form::Double(Table::Together) => {
+                self.line.begin(side, Rank::Soon, false);
+                self.reset_two(places);
+            }
+            Form::Double(_) => {
+                self.line.begin(side, Rank::Later, true);
+                self.reset_two(places);
+            }
+            Form::Merging(_) | Form::Replicating(_) => {
+                self.line.begin(side, Rank::Last, true);
+                self.reset_all(places);
+            }
+        }
+    }
+
+    /// Lets a side wait.
+    pub fn wait(&mut self, side: usize)
         ensures { self.new ≡ self.old }
     {
-        if side < self.late.len() {
-            *self.late.at_mut(side) = late;
-        }
-        self.line.join(side, late);
+        self.line.join(side);
     }
 
     /// Takes a side that waits, if there is one.
@@ -116,18 +171,30 @@ impl Sets {
         self.at(place).met(self.at(partner(place)))
     }
 
-    /// Lets the side at a place wait.
-    fn wake(&mut self, place: usize)
+    /// Lets the side at a place wait, where the other end of the joint has these marks, and some of
+    /// those at the place meet none of them.
+    fn wake(&mut self, place: usize, theirs: Marks)
         ensures { self.new ≡ self.old }
     {
-        if place < self.keepers.len() {
-            let side = *self.keepers.at(place);
-            let late = side < self.late.len() && *self.late.at(side);
-            self.line.join(side, late);
+        if place >= self.keepers.len() || place >= self.marks.len() {
+            return;
+        }
+        if self.at(place).lose(theirs) {
+            self.line.join(*self.keepers.at(place));
         }
     }
 
-    /// Puts marks at a place. Where they are others, the side at the other end of the joint waits.
+    /// Puts other marks at a place.
+    fn change(&mut self, place: usize, marks: Marks)
+        requires { place < length self.old }
+        ensures { self.new ≡ slice_set self.old place marks }
+    {
+        *self.marks.at_mut(place) = marks;
+        self.wake(partner(place), marks);
+    }
+
+    /// Puts marks at a place. Where they are others, the side at the other end of the joint may
+    /// wait.
     pub(crate) fn put(&mut self, place: usize, marks: Marks)
         requires { place < length self.old }
         ensures { self.new ≡ slice_set self.old place marks }
@@ -135,8 +202,19 @@ impl Sets {
         if self.at(place) == marks {
             return;
         }
+        self.change(place, marks);
+    }
+
+    /// Leaves at a place these of the marks that were open there. Where some go, the side at the
+    /// other end of the joint may wait.
+    pub(crate) fn leave(&mut self, place: usize, open: Marks, marks: Marks)
+        requires { place < length self.old }
+        ensures { self.new ≡ slice_set self.old place marks }
+    {
         *self.marks.at_mut(place) = marks;
-        self.wake(partner(place));
+        if marks != open {
+            self.wake(partner(place), marks);
+        }
     }
 
     /// Leaves at a place just those of its marks that are allowed.

@@ -197,10 +197,8 @@ impl Sets {
         let others = self.other_works(star, places, center, from, to);
         for end in from..to {
             let open = self.open_at(places[end]);
-            self.put(
-                places[end],
-                star.spoke_left(aparts, rests, others, open, end),
-            );
+            let left = star.spoke_left(aparts, rests, others, open, end);
+            self.leave(places[end], open, left);
         }
         self.put(places[center], star.center_left(aparts, rests, others));
         some_left(aparts, rests, others)

@@ -1,10 +1,8 @@
-use Rattle.std.proofs.Common.{◌≡◌, ◌∙◌, ◌<◌, ℕ, List, length, slice_index, sym, ap, subst, arith}
+use Rattle.std.proofs.Common.{◌≡◌, ◌∙◌, ◌<◌, ℕ, length, sym, subst, arith}
 use Rattle.std.proofs.lemmas.List.{length-map}
 use Rattle.reo_net_base.specs.Behaviour.{Behaviour}
 use Rattle.reo_net_base.specs.Forms.{HasForm}
 use Rattle.reo_net_base.specs.Net.{Net, net_of, behaviour_at}
-use Rattle.reo_mark_sets.specs.declared.marks.Marks.{Marks}
-use Rattle.reo_mark_sets.specs.Marks.{marks_at}
 use Rattle.reo_mark_search.specs.Fitting.{LetsIn}
 use Rattle.reo_mark_search.specs.Spots.{IsSeat}
 use Rattle.reo_mark_search.proofs.Meeting.{open_next, reset_next}
@@ -62,7 +60,4 @@ returns-else-not-is_usual-clause-reset g c = λ done sides n at before.
       usual = sym c.is_usual.ensures ∙ c.if-not-is_usual.false;
       ends = c.places_at.ensures;
     } in
-    let same = c.wait.ensures in
-    reset_next net c.args.spots.now sides n c.args.side at c.in-Some.form c.places_at.result.now seat c.known.ensures.wired c.requires.spots c.args.sets.now c.wait.new.self
-    (λ x all. ap (λ (s : List Marks). marks_at s x) same ∙ c.reset_all.ensures.stays x all)
-    (λ o o_in. ap (λ (s : List Marks). marks_at s (slice_index c.places_at.result.now o)) same ∙ c.reset_all.ensures.here o o_in) before
+    reset_next net c.args.spots.now sides n c.args.side at c.in-Some.form c.places_at.result.now seat c.known.ensures.wired c.requires.spots c.args.sets.now c.begin.new.self c.begin.ensures.stays c.begin.ensures.here before

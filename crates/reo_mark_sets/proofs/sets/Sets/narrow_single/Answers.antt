@@ -10,8 +10,8 @@ pub returns : goal.returns
 returns c =
     let S : List Marks = c.args.self.now in
     let used : c.narrowed_one-marks.result ≡ used_at (rows_of c.args.table) (fits_one (open_at S (slice_index c.args.places.now 0))) 0 =
-    c.narrowed_one-marks.ensures ∙ ap (λ (m : Marks). used_at (rows_of c.args.table) (fits_one m) 0) c.open_at.ensures in
+    c.narrowed_one-marks.ensures ∙ ap (λ (m : Marks). used_at (rows_of c.args.table) (fits_one m) 0) c.open_at-open.ensures in
     record {
-      narrowed = single_narrowed c.args.table c.args.places.now S c.requires.width c.requires.places c.put.new.self (c.put.ensures ∙ ap (set S (slice_index c.args.places.now 0)) used);
+      narrowed = single_narrowed c.args.table c.args.places.now S c.requires.width c.requires.places c.leave.new.self (c.leave.ensures ∙ ap (set S (slice_index c.args.places.now 0)) used);
       some = single_some c.args.table c.args.places.now S c.requires.width c.requires.places c.is_some.result c.narrowed_one-marks.result used c.is_some.ensures;
     }

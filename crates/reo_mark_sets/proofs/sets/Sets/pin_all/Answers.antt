@@ -3,7 +3,7 @@ use Rattle.reo_net_base.specs.Forms.{mark_by}
 use Rattle.reo_mark_sets.specs.declared.marks.Marks.{Marks}
 use Rattle.reo_mark_sets.specs.Marks.{marks_at, both, just}
 use Rattle.reo_mark_sets.proofs.Chosen.{pin_count, pin_others, pin_done, chosen_elsewhere}
-use Rattle.reo_mark_sets.proofs.sets.Sets.take_row.Goals as goal
+use Rattle.reo_mark_sets.proofs.sets.Sets.pin_all.Goals as goal
 
 pub restrict-requires : goal.restrict-requires
 restrict-requires c = omega (arith, c.requires.places.in_range c.loop-end.end (omega arith), c.loop-end.invariant.one_each)
@@ -14,7 +14,7 @@ loop-end-preserved c =
     let S : List Marks = c.args.self.now in
     let N : List Marks = c.loop-end.self in
     let end : ℕ = c.loop-end.end in
-    let row : ℕ = c.first_row-row.result in
+    let row : ℕ = c.args.row in
     let inv = c.loop-end.invariant in
     let lt : end < length P = omega arith in
     let is : c.restrict.new.self ≡ set N (slice_index P end) (both (marks_at N (slice_index P end)) (just (mark_by c.args.form row end))) =
@@ -31,6 +31,6 @@ returns c =
     let all : c.loop-end.end ≡ length c.args.places.now = omega arith in
     record {
       elsewhere = chosen_elsewhere c.args.places.now c.args.self.now c.loop-end.self c.loop-end.end all inv.one_each inv.others;
-      first = c.first_row-row.ensures;
+      first = c.requires.first;
       exact = λ o m lt. inv.done o m (omega (arith, lt, all));
     }

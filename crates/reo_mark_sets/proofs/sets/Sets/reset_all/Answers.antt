@@ -2,15 +2,15 @@ use Rattle.std.proofs.Common.{◌∙◌, ℕ, List, ap, slice_index, length, ari
 use Rattle.std.proofs.lemmas.List.{length-set}
 use Rattle.reo_mark_sets.specs.declared.marks.Marks.{Marks}
 use Rattle.reo_mark_sets.specs.Marks.{marks_at, all_marks}
-use Rattle.reo_mark_search.proofs.Resetting.{reset_stays, reset_here}
-use Rattle.reo_mark_search.proofs.noting.reset_all.Goals as goal
+use Rattle.reo_mark_sets.proofs.Resetting.{reset_stays, reset_here}
+use Rattle.reo_mark_sets.proofs.sets.Sets.reset_all.Goals as goal
 
 pub reset-requires : goal.reset-requires
 reset-requires c = omega (arith, c.requires c.loop-end.end (omega arith), c.loop-end.invariant.one_each)
 
 pub loop-end-preserved : goal.loop-end-preserved
 loop-end-preserved c =
-    let N : List Marks = c.loop-end.sets in
+    let N : List Marks = c.loop-end.self in
     let P : List ℕ = c.args.places.now in
     let end : ℕ = c.loop-end.end in
     let inv = c.loop-end.invariant in

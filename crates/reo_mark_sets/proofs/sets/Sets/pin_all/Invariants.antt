@@ -2,7 +2,7 @@ use Rattle.std.proofs.Common.{◌≡◌, ◌<◌, ◌↔◌, ℕ, true, length, 
 use Rattle.reo_net_base.specs.declared.mark.Mark.{Mark}
 use Rattle.reo_net_base.specs.Forms.{mark_by}
 use Rattle.reo_mark_sets.specs.Marks.{has, marks_at}
-use Rattle.reo_mark_sets.proofs.sets.Sets.take_row.Given as goal
+use Rattle.reo_mark_sets.proofs.sets.Sets.pin_all.Given as goal
 
 -- The marks at the ends so far, and all others as they were.
 abbrev pub invariant-loop-end : goal.invariant-loop-end
