@@ -11,7 +11,7 @@ use Rattle.reo_net_base.specs.declared.table.Table.{Table}
 use Rattle.reo_net_base.specs.declared.table.Table.TheVariants.{Ready, Resting, Together, Lossy, OneOfTwo, Filter, Spent}
 use Rattle.reo_net_base.specs.Behaviour.{Behaviour}
 use Rattle.reo_net_base.specs.Lawful.{SameShape}
-use Rattle.reo_net_base.specs.Net.{Net, Side, all_sides, no_side, behaviour_at, first_side, side_at}
+use Rattle.reo_net_base.specs.Net.{Net, Side, all_sides, no_side, behaviour_at, first_side, mark_at, row_at, side_at, side_of_end}
 use Rattle.reo_net_base.specs.Forms.{number_in, period_in}
 use Rattle.reo_net_base.specs.Tables.{place_in}
 use Rattle.reo_net_base.specs.Shapes.{SameShapes}
@@ -22,7 +22,7 @@ use Rattle.reo_net_circuit.proofs.Cases.{eq_cases}
 use Rattle.reo_net_circuit.proofs.ReshapeLemmas.{first_same, side_same, order_same}
 use Rattle.reo_net_laws.specs.Parts.{IsClosed, IsClosedBelow}
 use Rattle.reo_net_laws.specs.Sublists.{sides_in, part_rows}
-use Rattle.reo_net_laws.proofs.Sides.{side_is}
+use Rattle.reo_net_laws.proofs.Sides.{row_in_table, row_is, side_at_place, side_in_range, side_is}
 use Rattle.reo_knots.specs.Knots.{Knotted, AreKnots, in_knot, knot_count}
 use Rattle.reo_still.specs.Joining.{HasFirst}
 use Rattle.reo_propagate.specs.Queues.{among}
@@ -30,6 +30,9 @@ use Rattle.reo_kept_tables.proofs.Renewed.{among_contains, contains_among}
 use Rattle.reo_walk.proofs.Knotted.{among_sides, sides_below}
 use Rattle.reo_planning.specs.Planned.{IsPartPlanned}
 use Rattle.reo_planning.specs.Written.{AreWritten}
+use Rattle.reo_flowing.specs.Flowing.{AreFlowingOf}
+use Rattle.reo_flowing.proofs.Staying.{flowing_stay}
+use Rattle.reo_planning.proofs.Flowing.{mark_same}
 use Rattle.reo_planning.proofs.KnotSets.{below}
 use Rattle.reo_weights.specs.Over.{IsWithin}
 use Rattle.reo_state_laws.specs.States.{HaveSameTables, IsOpen, AreFirstRows}
@@ -87,6 +90,7 @@ remembered_stays net other joints shapes inside sides entry is = record {
   from = is.from;
   first = is.first;
   rows = is.rows;
+  flowing = is.flowing;
   bounds = is.bounds;
 }
 
@@ -196,8 +200,33 @@ module _ (net : Net) (wired : IsWired net) (order : List ℕ) (is_order : IsOrde
       same_rows is.turn turn is.before net is.wired wired order order_before is_order inside closed_before tables
       (key_opens inside sides all entry.key is.before is.turn is.key) (key_opens inside sides all entry.key net turn key) is.from is.first
 
+  module _ (rows : List ℕ) (same : (s : ℕ) → s < side_count net → inside s ≡ true → get_or rows s 0 ≡ get_or is.from s 0) where
+    at_before : (e : End) → IsEnd is.before.primitives e → side_at net e ≡ side_at is.before e
+    at_before e e_in = ap (λ (n : Net). side_at n e) (λ i. record { primitives = net.primitives; joints = is.joints i }) ∙ side_same is.before.primitives net.primitives is.shapes is.before.joints e e_in
+
+    same_row : (e : End) → IsEnd is.before.primitives e → inside (side_at is.before e) ≡ true → row_at net rows e ≡ row_at is.before is.from e
+    same_row e e_in h =
+        let at = at_before e e_in in
+        let here : IsEnd net.primitives e = (omega (arith, is.shapes.count, e_in.0), rw ((is.shapes.same e.primitive e_in.0).ends) e_in.1) in
+        row_is net rows e ∙ same (side_at net e) (side_in_range net wired e here) (ap inside at ∙ h) ∙ ap (λ (s : ℕ). get_or is.from s 0) at ∙ sym (row_is is.before is.from e)
+
+    -- The marks are those that were.
+    marks_there : (e : End) → IsEnd is.before.primitives e → inside (side_at is.before e) ≡ true → mark_at net rows e ≡ mark_at is.before is.from e
+    unfolding mark_at
+    marks_there e e_in h =
+        let b : Behaviour = behaviour_at is.before.primitives e.primitive in
+        let side : ℕ = b.side_of e.end in
+        let side_in = (is.wired.lawful e.primitive e_in.0).sides_in e.end e_in.1 in
+        let table = tables.sides e.primitive side e_in.0 side_in (ap inside (sym (side_at_place is.before e)) ∙ h) in
+        let in_table = row_in_table is.before is.wired e e_in is.from (side_of_end is.before e) (is.first.first.assignment.in_tables (side_at is.before e) (side_of_end is.before e) (side_in_range is.before is.wired e e_in) h) in
+        (λ i. (behaviour_at net.primitives e.primitive).mark ((is.shapes.same e.primitive e_in.0).side_of e.end i) (same_row e e_in h i) e.end) ∙ table.mark (row_at is.before is.from e) e.end in_table (e_in.1, refl)
+
+    -- And just its joints flow.
+    pub recalled_flowing : AreFlowingOf net inside rows entry.flowing
+    recalled_flowing = flowing_stay is.before net is.wired is.joints is.shapes inside is.from rows marks_there entry.flowing is.flowing
+
 abbrev no_entry : Entry
-no_entry = record { key = []; rows = []; choices = 0 }
+no_entry = record { key = []; rows = []; flowing = []; choices = 0 }
 
 rows_same : (sides a b : List ℕ) → ((m : ℕ) → m < length sides → get_or a (get_or sides m 0) 0 ≡ get_or b (get_or sides m 0) 0) → part_rows sides a ≡ part_rows sides b
 rows_same [] a b h = refl
@@ -243,8 +272,9 @@ module _ (net : Net) (wired : IsWired net) (knots : Knotted) (are : AreKnots net
 
   -- The rows of an entry with the key of the part are those of its first assignment.
   pub recalled : (order : List ℕ) → IsOrder net order → (budget turn : ℕ) (parts : List PartPlans) → ArePlans net knots parts → (p : PartPlans) → p ≡ get_or parts k p
-      → (key : List Look) → IsKey net sides turn key → (old new : List ℕ) → length old ≡ side_count net → IsRecalled p.entries key sides budget old new → IsPartPlanned budget net knots turn k old new
-  recalled order is_order budget turn parts plans p here key is_key old new one_row found =
+      → (key : List Look) → IsKey net sides turn key → (old new flowing : List ℕ) → length old ≡ side_count net → IsRecalled p.entries key sides budget old new flowing
+      → IsPartPlanned budget net knots turn k old new × AreFlowingOf net (in_knot knots.numbers k) new flowing
+  recalled order is_order budget turn parts plans p here key is_key old new flowing one_row found =
       let inside : ℕ → Bool = in_knot knots.numbers k in
       let entry : Entry = get_or p.entries found.place no_entry in
       let remembered : IsRemembered net inside sides entry = right_here parts plans p here found.place no_entry found.in_range in
@@ -252,22 +282,21 @@ module _ (net : Net) (wired : IsWired net) (knots : Knotted) (are : AreKnots net
       let key_now : IsKey net sides turn entry.key = subst (IsKey net sides turn) (sym (found.key_is no_entry)) is_key in
       let first = recalled_first net wired order is_order inside closed sides part_all entry remembered turn key_now in
       let w : AreWritten sides remembered.from old new = found.written no_entry remembered.from remembered.rows in
-      record {
-        one_each = w.one_each;
-        within = recalled_within net wired order is_order inside closed sides part_all entry remembered turn key_now budget (found.few no_entry);
-        first = record {
-          others = remembered.from;
-          items = first.items;
-          first = first.first;
-          same = λ s s_in h. w.here s (omega (arith, one_row, s_in)) (in_part s ∙ h);
-        };
-        others = λ s h. w.others s (in_part s ∙ h);
-      }
+      let same : (s : ℕ) → s < side_count net → inside s ≡ true → get_or new s 0 ≡ get_or remembered.from s 0 = λ s s_in h. w.here s (omega (arith, one_row, s_in)) (in_part s ∙ h) in
+      let flow = recalled_flowing net wired order is_order inside closed sides part_all entry remembered turn key_now new same in (
+        record {
+          one_each = w.one_each;
+          within = recalled_within net wired order is_order inside closed sides part_all entry remembered turn key_now budget (found.few no_entry);
+          first = record { others = remembered.from; items = first.items; first = first.first; same = same };
+          others = λ s h. w.others s (in_part s ∙ h);
+        },
+        subst (AreFlowingOf net inside new) (sym (found.flowing_is no_entry)) flow,
+      )
 
   -- The rows of the first assignment are right for the key that the part has now.
   new_entry : (turn : ℕ) (key : List Look) → IsKey net sides turn key → (rows those : List ℕ) → HasFirst net knots.numbers turn rows k → those ≡ part_rows sides rows
-      → (choices : ℕ) → HasBounds net (in_knot knots.numbers k) choices → IsRemembered net (in_knot knots.numbers k) sides (record { key = key; rows = those; choices = choices })
-  new_entry turn key is_key rows those first told choices has = record {
+      → (choices : ℕ) → HasBounds net (in_knot knots.numbers k) choices → (flowing : List ℕ) → AreFlowingOf net (in_knot knots.numbers k) rows flowing → IsRemembered net (in_knot knots.numbers k) sides (record { key = key; rows = those; flowing = flowing; choices = choices })
+  new_entry turn key is_key rows those first told choices has flowing of = record {
     before = net;
     turn = turn;
     wired = wired;
@@ -278,6 +307,8 @@ module _ (net : Net) (wired : IsWired net) (knots : Knotted) (are : AreKnots net
     first = record { items = first.items; first = first.first };
     rows = told ∙ rows_same sides rows first.others (λ m m_in.
         first.same (get_or sides m 0) (part_below m m_in) (sym (in_part (get_or sides m 0)) ∙ contains_among sides (get_or sides m 0) (Contains-get_or sides m 0 m_in)));
+    flowing = flowing_stay net net wired refl (same_shapes net.primitives) (in_knot knots.numbers k) rows first.others
+        (mark_same net wired (in_knot knots.numbers k) rows first.others (λ s s_in h. sym (first.same s s_in h))) flowing of;
     bounds = has;
   }
 
@@ -296,12 +327,12 @@ module _ (net : Net) (wired : IsWired net) (knots : Knotted) (are : AreKnots net
       }
 
   pub remembered : (turn : ℕ) (parts : List PartPlans) → ArePlans net knots parts → (key : List Look) → IsKey net sides turn key → (rows those : List ℕ) → HasFirst net knots.numbers turn rows k → those ≡ part_rows sides rows
-      → (choices : ℕ) → HasBounds net (in_knot knots.numbers k) choices → (p new : PartPlans) → p ≡ get_or parts k p → new.entries ≡ p.entries ++ record { key = key; rows = those; choices = choices } ∷ []
+      → (choices : ℕ) → HasBounds net (in_knot knots.numbers k) choices → (flowing : List ℕ) → AreFlowingOf net (in_knot knots.numbers k) rows flowing → (p new : PartPlans) → p ≡ get_or parts k p → new.entries ≡ p.entries ++ record { key = key; rows = those; flowing = flowing; choices = choices } ∷ []
       → ArePlans net knots (set parts k new)
-  remembered turn parts plans key is_key rows those first told choices has p new here added =
-      let entry : Entry = record { key = key; rows = those; choices = choices } in
+  remembered turn parts plans key is_key rows those first told choices has flowing of p new here added =
+      let entry : Entry = record { key = key; rows = those; flowing = flowing; choices = choices } in
       let more : AreRemembered net (in_knot knots.numbers k) sides (p.entries ++ entry ∷ []) =
-      one_more net (in_knot knots.numbers k) sides p.entries entry (right_here parts plans p here) (new_entry turn key is_key rows those first told choices has) in
+      one_more net (in_knot knots.numbers k) sides p.entries entry (right_here parts plans p here) (new_entry turn key is_key rows those first told choices has flowing of) in
       exchanged parts plans new (subst (AreRemembered net (in_knot knots.numbers k) sides) (sym added) more)
 
   pub unchanged : (parts : List PartPlans) → ArePlans net knots parts → (p new : PartPlans) → p ≡ get_or parts k p → new.entries ≡ p.entries → ArePlans net knots (set parts k new)

@@ -5,6 +5,7 @@ use Rattle.reo_net_base.specs.Shapes.{SameShapes}
 use Rattle.reo_net_base.specs.Wired.{IsWired}
 use Rattle.reo_net_laws.specs.Sublists.{part_rows}
 use Rattle.reo_knots.specs.Knots.{Knotted, in_knot, knot_count}
+use Rattle.reo_flowing.specs.Flowing.{AreFlowingOf}
 use Rattle.reo_state_laws.specs.States.{AreFirstRows}
 use Rattle.reo_item_bounds.specs.Bounds.{HasBounds}
 use Rattle.reo_part_plans.specs.declared.entry.Entry.{Entry}
@@ -14,8 +15,8 @@ use Rattle.reo_part_plans.specs.Looks.{IsKey}
 use Rattle.reo_part_plans.specs.declared.plans.PartPlans.{PartPlans}
 
 -- An entry is right for a set of sides of a circuit: in some circuit of the same shape, in some round, its key was that
--- of the sides, its rows were those of the first assignment, and by bounds that tables tell there were at most so many
--- choices of values at loop joints.
+-- of the sides, its rows were those of the first assignment, by which just its joints flowed, and by bounds that tables
+-- tell there were at most so many choices of values at loop joints.
 pub record IsRemembered (net : Net) (inside : ℕ → Bool) (sides : List ℕ) (entry : Entry) : Type 0 where
   pub before : Net
   pub turn : ℕ
@@ -26,6 +27,7 @@ pub record IsRemembered (net : Net) (inside : ℕ → Bool) (sides : List ℕ) (
   pub from : List ℕ
   pub first : AreFirstRows before inside turn from
   pub rows : entry.rows ≡ part_rows sides from
+  pub flowing : AreFlowingOf before inside from entry.flowing
   pub bounds : HasBounds before inside entry.choices
 
 -- Each entry of a part is right.
@@ -44,11 +46,12 @@ pub record AreNew (count : ℕ) (parts : List PartPlans) : Type 0 where
   pub one_each : length parts ≡ count
   pub none : (k : ℕ) (d : PartPlans) → k < count → (slice_index_or parts k d).entries ≡ []
 
--- The rows of an entry with a key, which allows no more choices than a budget, were written down.
-pub record IsRecalled (entries : List Entry) (key : List Look) (sides : List ℕ) (budget : ℕ) (old new : List ℕ) : Type 0 where
+-- The rows of an entry with a key, which allows no more choices than a budget, were written down, and its joints that flow.
+pub record IsRecalled (entries : List Entry) (key : List Look) (sides : List ℕ) (budget : ℕ) (old new flowing : List ℕ) : Type 0 where
   pub place : ℕ
   pub in_range : place < length entries
   pub key_is : (d : Entry) → (slice_index_or entries place d).key ≡ key
   pub few : (d : Entry) → (slice_index_or entries place d).choices ≤ budget
   pub written : (d : Entry) (from : List ℕ) → (slice_index_or entries place d).rows ≡ part_rows sides from
       → AreWritten sides from old new
+  pub flowing_is : (d : Entry) → flowing ≡ (slice_index_or entries place d).flowing

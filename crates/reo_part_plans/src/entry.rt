@@ -6,12 +6,13 @@ use crate::looks::Look;
 use reo_values::{List, NoMemory};
 use std::alloc::Global;
 
-/// The rows of a part, remembered by what was looked at of its sides, and how many choices of
-/// values its loop joints have at most.
+/// The rows of a part, remembered by what was looked at of its sides, with the joints that flow by
+/// them, and how many choices of values its loop joints have at most.
 #[derive(Drop)]
 pub struct Entry {
     pub key: List<Look>,
     pub rows: List<u32>,
+    pub flowing: List<usize>,
     pub choices: u64,
 }
 

@@ -3,6 +3,7 @@ ghost use Rattle.std.specs.Prelude.{◌≡◌, ◌<◌, ◌≤◌, ◌++◌, ◌
 ghost use Rattle.reo_net_base.specs.Net.{net_of};
 ghost use Rattle.reo_net_base.specs.Sides.{side_count};
 ghost use Rattle.reo_knots.specs.Knots.{AreKnots, in_knot, knot_count};
+ghost use Rattle.reo_flowing.specs.Flowing.{AreFlowingOf};
 ghost use Rattle.reo_item_bounds.specs.Bounds.{HasBounds};
 ghost use Rattle.reo_still.specs.Joining.{HasFirst};
 ghost use Rattle.reo_planning.specs.Planned.{IsPartPlanned};
@@ -12,6 +13,7 @@ ghost use Rattle.reo_part_plans.specs.declared.entry.Entry.{Entry as Remembered}
 use crate::entry::{Entry, rows_at};
 use crate::looks::{Look, look_at_all};
 use crate::searching::find;
+use reo_flowing::copy_over;
 use reo_knots::Knots;
 use reo_net_base::Primitive;
 use reo_net_circuit::Circuit;
@@ -100,25 +102,34 @@ impl PartPlans {
         }
     }
 
-    /// Writes the rows of the entry with a key down, if there is one that weighs no more than the
-    /// budget allows. The answer is whether it was done.
-    fn recall(&mut self, key: &[Look], sides: &[usize], budget: u64, rows: &mut List<u32>) -> bool
+    /// Writes the rows of the entry with a key and the joints that flow by them down, if there is
+    /// one that weighs no more than the budget allows. The answer is whether it was done.
+    /// `NoMemory` is out of memory.
+    fn recall(
+        &mut self,
+        key: &[Look],
+        sides: &[usize],
+        budget: u64,
+        rows: &mut List<u32>,
+        flowing: &mut List<usize>,
+    ) -> Result<bool, NoMemory>
         requires sides { (m : ℕ) → m < length sides.now
             → slice_index sides.now m < length rows.old }
         ensures entries { self.new.entries ≡ self.old.entries }
-        ensures same { result ≡ false → rows.new ≡ rows.old }
-        ensures found { result ≡ true → IsRecalled self.old.entries key.now sides.now budget
-            rows.old rows.new }
+        ensures same { result ≡ Ok false → rows.new ≡ rows.old }
+        ensures found { result ≡ Ok true → IsRecalled self.old.entries key.now sides.now budget
+            rows.old rows.new flowing.new }
     {
         match self.place_of(key) {
-            None => false,
+            None => Ok(false),
             Some(place) => {
                 let entry = self.entries.at(place);
                 if entry.choices > budget || entry.rows.len() != sides.len() {
-                    return false;
+                    return Ok(false);
                 }
+                copy_over(flowing, entry.flowing.as_slice())?;
                 put_rows(rows, sides, entry.rows.as_slice());
-                true
+                Ok(true)
             }
         }
     }
@@ -139,9 +150,9 @@ impl Plans {
         })
     }
 
-    /// Writes the rows of the first assignment of a part down, if they are remembered from a round
-    /// in which the part was in the same state, and is surely within the budget. The answer is
-    /// whether it was done.
+    /// Writes the rows of the first assignment of a part down, and the joints of the part that flow
+    /// by them, if they are remembered from a round in which the part was in the same state, and is
+    /// surely within the budget. The answer is whether it was done.
     ///
     /// # Errors
     ///
@@ -154,6 +165,7 @@ impl Plans {
         turn: u64,
         budget: u64,
         rows: &mut List<u32>,
+        flowing: &mut List<usize>,
     ) -> Result<bool, NoMemory>
         requires knots { AreKnots (net_of P.behaviour circuit.now) knots.now }
         requires part { part < knot_count knots.now }
@@ -163,6 +175,9 @@ impl Plans {
         ensures plans { ArePlans (net_of P.behaviour circuit.now) knots.now self.new }
         ensures recalled { let net = net_of P.behaviour circuit.now in
             result ≡ Ok true → IsPartPlanned budget net knots.now turn part rows.old rows.new }
+        ensures flowing { let net = net_of P.behaviour circuit.now in
+            let inside = in_knot knots.now.numbers part in
+            result ≡ Ok true → AreFlowingOf net inside rows.new flowing.new }
         ensures same { result ≡ Ok false → rows.new ≡ rows.old }
     {
         circuit.known();
@@ -175,12 +190,13 @@ impl Plans {
             return Ok(false);
         }
         let plans = self.parts.at_mut(part);
-        Ok(plans.recall(self.key.as_slice(), sides, budget, rows))
+        plans.recall(self.key.as_slice(), sides, budget, rows, flowing)
     }
 
     /// Remembers the rows of the first assignment of a part for each round in which the part is in
-    /// the state in which it is now, with how many choices of values its loop joints have at most.
-    /// Nothing is remembered where the items decide too, or there is no room.
+    /// the state in which it is now, with the joints of the part that flow by them, and how many
+    /// choices of values its loop joints have at most. Nothing is remembered where the items decide
+    /// too, or there is no room.
     ///
     /// # Errors
     ///
@@ -194,6 +210,7 @@ impl Plans {
         turn: u64,
         choices: u64,
         rows: &[u32],
+        flowing: &[usize],
     ) -> Result<(), NoMemory>
         requires knots { AreKnots (net_of P.behaviour circuit.now) knots.now }
         requires part { part < knot_count knots.now }
@@ -204,6 +221,8 @@ impl Plans {
         requires one_row { length rows.now ≡ side_count (net_of P.behaviour circuit.now) }
         requires first { HasFirst
             (net_of P.behaviour circuit.now) knots.now.numbers turn rows.now part }
+        requires flowing { AreFlowingOf (net_of P.behaviour circuit.now)
+            (in_knot knots.now.numbers part) rows.now flowing.now }
         ensures plans { ArePlans (net_of P.behaviour circuit.now) knots.now self.new }
     {
         circuit.known();
@@ -216,7 +235,14 @@ impl Plans {
             return Ok(());
         }
         let rows = rows_at(alloc, sides, rows)?;
-        let entry = Entry { key, rows, choices };
+        let mut joints = List::new(alloc);
+        copy_over(&mut joints, flowing)?;
+        let entry = Entry {
+            key,
+            rows,
+            flowing: joints,
+            choices,
+        };
         self.parts.at_mut(part).add(entry)
     }
 }

@@ -1,5 +1,8 @@
 -- Whether something flows in a part, by its joints or by rows that are the same there.
-use Rattle.std.proofs.Common.{◌≡◌, ◌≢◌, ◌∙◌, inl, inr, ℕ, ◌<◌, Bool, true, false, List, [], length, get_or, refl, ap, sym, subst}
+use Rattle.std.proofs.Common.{◌≡◌, ◌≢◌, ◌∙◌, inl, inr, ℕ, zero, suc, ◌<◌, Bool, true, false, cond, not, List, [], ◌∷◌, length, get_or, refl, ap, sym, subst, arith}
+use Rattle.std.specs.Prelude.{filter, ◌==◌}
+use Rattle.std.proofs.lemmas.Bool.Decides.{nat_tests}
+use Rattle.std.proofs.lemmas.List.Elements.{Contains-get_or}
 use Rattle.std.proofs.lemmas.List.{get_or_default}
 use Rattle.reo_net_base.specs.declared.mark.Mark.{Mark}
 use Rattle.reo_net_base.specs.declared.mark.Mark.TheVariants.{F, G, R, J}
@@ -14,9 +17,11 @@ use Rattle.reo_net_laws.specs.Parts.{IsClosed}
 use Rattle.reo_net_laws.proofs.Joined.{joint_of}
 use Rattle.reo_net_laws.proofs.Sides.{side_in_range}
 use Rattle.reo_joint_values.specs.Standing.{no_joint, giver_of, taker_of}
-use Rattle.reo_knots.specs.Knots.{Knotted, AreKnots, in_knot, knot_count}
-use Rattle.reo_kept_tables.specs.Orders.{AreJointsOf, AreOrders}
-use Rattle.reo_kept_tables.proofs.Sorted.{orders_are_of_parts}
+use Rattle.reo_reach.specs.InOrder.{joints_in}
+use Rattle.reo_flowing.specs.Flowing.{AreFlowingOf, flowing_of, flows_by}
+use Rattle.reo_flowing.proofs.Passing.{next_from, nothing_there}
+use Rattle.reo_kept_tables.specs.Orders.{AreJointsOf}
+use Rattle.reo_kept_tables.proofs.Sorted.{joints_of_set}
 use Rattle.reo_still.specs.Still.{IsStill}
 use Rattle.reo_planning.specs.Keeping.{FlowsIn}
 use Rattle.reo_planning.specs.Marked.{TellsFlow}
@@ -41,28 +46,37 @@ giver_flows J G m e = absurd cc
 giver_flows J R m e = absurd cc
 giver_flows J J m e = absurd cc
 
--- The joints of a part are its list's.
-pub joints_of_part : (net : Net) → IsWired net → (knots : Knotted) → AreKnots net knots → (orders : List (List ℕ)) → AreOrders net knots orders → (k : ℕ) → k < knot_count knots
-    → (joints place : List ℕ) → joints ≡ place → place ≡ get_or orders k place → AreJointsOf net (in_knot knots.numbers k) joints
-joints_of_part net wired knots are orders order k lt joints place is at =
-    let k_in : k < length orders = subst (λ (n : ℕ). k < n) (sym order.one_each) lt in
-    subst (AreJointsOf net (in_knot knots.numbers k)) (sym (is ∙ at ∙ get_or_default orders k place [] k_in)) (orders_are_of_parts net wired knots are orders order k lt)
+some_flow : (m : Mark) → is_flow m ≡ true → m ≡ F
+some_flow F h = refl
+some_flow G h = absurd cc
+some_flow R h = absurd cc
+some_flow J h = absurd cc
+
+pass_rest : (f : ℕ → Bool) (x : ℕ) (xs : List ℕ) → f x ≡ false → ((m : ℕ) → m < length xs → f (get_or xs m 0) ≡ false) → (m : ℕ) → m < length (x ∷ xs) → f (get_or (x ∷ xs) m 0) ≡ false
+pass_rest f x xs is rest zero lt = is
+pass_rest f x xs is rest (suc m) lt = rest m (omega arith)
+
+none_pass : (f : ℕ → Bool) (xs : List ℕ) → filter f xs ≡ [] → (m : ℕ) → m < length xs → f (get_or xs m 0) ≡ false
+none_pass f [] e = λ m lt. absurd (omega arith)
+none_pass f (x ∷ xs) e = elim (f x) as (λ t. f x ≡ t → filter f (x ∷ xs) ≡ [] → (m : ℕ) → m < length (x ∷ xs) → f (get_or (x ∷ xs) m 0) ≡ false) [
+  | true ↦ λ is e. absurd (nothing_there x (filter f xs) (sym e ∙ ap (λ (t : Bool). cond t (x ∷ filter f xs) (filter f xs)) is))
+  | false ↦ λ is e. pass_rest f x xs is (none_pass f xs (ap (λ (t : Bool). cond t (x ∷ filter f xs) (filter f xs)) (sym is) ∙ e))
+] refl e
+
+some_long : (x : ℕ) (xs : List ℕ) → not (length (x ∷ xs) == 0) ≡ true
+some_long x xs = grind (arith, nat_tests)
 
 -- By the joints of a set.
 module _ (net : Net) (wired : IsWired net) (inside : ℕ → Bool) (joints : List ℕ) (are : AreJointsOf net inside joints) (rows : List ℕ) where
-  -- Whether the joint at a place flows.
-  abbrev pub flows_at : ℕ → Bool
-  flows_at m = is_flow (mark_at net rows (giver_of net (get_or joints m 0)))
-
   -- Nothing flows where none of them does.
-  pub none_flow : IsClosed net inside → RowsFit net rows → ((m : ℕ) → m < length joints → flows_at m ≡ false) → TellsFlow net inside rows false
+  none_flow : IsClosed net inside → RowsFit net rows → ((m : ℕ) → m < length joints → flows_by net rows (get_or joints m 0) ≡ false) → TellsFlow net inside rows false
   none_flow closed fit none = record { still = λ _. still; flows = λ e. absurd (not_both false refl e) }
     where
       giver_not : (j : ℕ) → j < length net.joints → inside (side_at net (giver_of net j)) ≡ true → mark_at net rows (giver_of net j) ≢ F
       giver_not j lt here =
           let place = (are.exact j).1 (lt, here) in
           let is : get_or joints place.0 0 ≡ j = get_or_default joints place.0 0 j place.1 ∙ place.2 in
-          not_flow (mark_at net rows (giver_of net j)) (subst (λ (i : ℕ). is_flow (mark_at net rows (giver_of net i)) ≡ false) is (none place.0 place.1))
+          not_flow (mark_at net rows (giver_of net j)) (subst (λ (i : ℕ). flows_by net rows i ≡ false) is (none place.0 place.1))
 
       still : IsStill net inside rows
       still e e_in h flows =
@@ -75,6 +89,33 @@ module _ (net : Net) (wired : IsWired net) (inside : ℕ → Bool) (joints : Lis
                 (giver_flows (mark_at net rows (giver_of net j)) (mark_at net rows (taker_of net j)) (fit.matched j no_joint at.1) (ap (mark_at net rows) t ∙ flows))
           ]
 
+  -- Something flows where some of them does.
+  one_flows : (m : ℕ) → m < length joints → flows_by net rows (get_or joints m 0) ≡ true → TellsFlow net inside rows true
+  one_flows m lt flows = record {
+    still = λ e. absurd (not_both true e refl);
+    flows = λ _.
+        let is = (are.exact (get_or joints m 0)).0 (Contains-get_or joints m 0 lt) in
+        record { end = giver_of net (get_or joints m 0); is_end = wired.givers (get_or joints m 0) no_joint is.0; here = is.1; flows = some_flow (mark_at net rows (giver_of net (get_or joints m 0))) flows };
+  }
+
+-- Whether something flows in a set is told by whether a joint of it flows.
+pub told_by_joints : (net : Net) → IsWired net → (inside : ℕ → Bool) → IsClosed net inside → (rows : List ℕ) → RowsFit net rows → (flowing : List ℕ) → AreFlowingOf net inside rows flowing
+    → (empty : Bool) → empty ≡ (length flowing == 0) → TellsFlow net inside rows (not empty)
+told_by_joints net wired inside closed rows fit flowing of empty is = subst (λ (t : Bool). TellsFlow net inside rows (not t)) (sym is) (told flowing of.those)
+  where
+    joints : List ℕ
+    joints = joints_in net inside of.all
+
+    are : AreJointsOf net inside joints
+    are = joints_of_set net wired of.all of.is_order inside closed
+
+    told : (list : List ℕ) → list ≡ flowing_of net rows joints → TellsFlow net inside rows (not (length list == 0))
+    told [] none = none_flow net wired inside joints are rows closed fit (none_pass (flows_by net rows) joints (sym none))
+    told (x ∷ list) some =
+        let next = next_from (flows_by net rows) joints (λ _. Unit {0}) (λ n lt not far. tt) (length joints) 0 (omega arith) x list (sym some) tt in
+        let flows : flows_by net rows (get_or joints next.place 0) ≡ true = ap (flows_by net rows) next.here ∙ next.passes in
+        subst (TellsFlow net inside rows) (sym (some_long x list)) (one_flows net wired inside joints are rows next.place next.in_range flows)
+
 -- The mark of an end by the row of its side.
 mark_by : (net : Net) (rows : List ℕ) (e : End)
     → mark_at net rows e ≡ (behaviour_at net.primitives e.primitive).mark ((behaviour_at net.primitives e.primitive).side_of e.end) (get_or rows (side_at net e) 0) e.end
@@ -83,7 +124,7 @@ mark_by net rows e = ap (mark_at net rows) (λ i. e)
 
 -- By rows that are the same in a set.
 module _ (net : Net) (wired : IsWired net) (inside : ℕ → Bool) (rows others : List ℕ) (same : (s : ℕ) → s < side_count net → inside s ≡ true → get_or others s 0 ≡ get_or rows s 0) where
-  mark_same : (e : End) → IsEnd net.primitives e → inside (side_at net e) ≡ true → mark_at net others e ≡ mark_at net rows e
+  pub mark_same : (e : End) → IsEnd net.primitives e → inside (side_at net e) ≡ true → mark_at net others e ≡ mark_at net rows e
   mark_same e e_in h =
       let b : Behaviour = behaviour_at net.primitives e.primitive in
       mark_by net others e ∙ ap (λ (r : ℕ). b.mark (b.side_of e.end) r e.end) (same (side_at net e) (side_in_range net wired e e_in) h) ∙ sym (mark_by net rows e)

@@ -2,11 +2,10 @@
 use Rattle.std.proofs.Common.{◌≡◌, ◌≢◌, ◌∙◌, inl, inr, ℕ, ◌+◌, ◌<◌, Bool, true, false, List, length, get_or, set, ap, sym, subst, arith, get_or-set_same, get_or-set_other}
 use Rattle.std.proofs.lemmas.List.{length-set}
 use Rattle.reo_net_base.specs.Net.{Net}
-use Rattle.reo_net_base.specs.Wired.{IsWired}
+use Rattle.reo_net_base.specs.Wired.{IsWired, IsOrder}
 use Rattle.reo_net_circuit.proofs.Cases.{eq_cases}
 use Rattle.reo_net_laws.proofs.OneFirst.{one_inside}
 use Rattle.reo_knots.specs.Knots.{Knotted, AreKnots, in_knot, knot_count}
-use Rattle.reo_kept_tables.specs.Orders.{AreOrders}
 use Rattle.reo_planning.specs.declared.kept.Kept.{Kept}
 use Rattle.reo_planning.specs.Keeping.{IsKept, is_settled, is_moving}
 use Rattle.reo_planning.specs.Marked.{AreMarked, TellsFlow}
@@ -58,10 +57,10 @@ module _ (net : Net) (knots : Knotted) (rows : List ℕ) where
     }
 
 -- Rows that are planned are kept where the parts that were not settled are marked by them.
-pub kept_stored : (budget : ℕ) (net : Net) → IsWired net → (knots : Knotted) → AreKnots net knots → (orders : List (List ℕ)) → AreOrders net knots orders → (turn : ℕ) (rows : List ℕ) (old new : Kept)
+pub kept_stored : (budget : ℕ) (net : Net) → IsWired net → (order : List ℕ) → IsOrder net order → (knots : Knotted) → AreKnots net knots → (turn : ℕ) (rows : List ℕ) (old new : Kept)
     → IsKept net knots turn old → ArePlanned budget net knots turn (knot_count knots) rows → AreMarked net knots rows (knot_count knots) old new
     → IsKept net knots turn (record new { rows = rows; budget = budget })
-kept_stored budget net wired knots are orders order turn rows old new was planned marked = record {
+kept_stored budget net wired order is_order knots are turn rows old new was planned marked = record {
   sizes = record { one_row = planned.one_row; one_each = marked.one_each ∙ was.sizes.one_each; one_mark = marked.one_mark ∙ was.sizes.one_mark };
   known = λ k lt _.
       let tells = told k lt in
@@ -75,7 +74,7 @@ kept_stored budget net wired knots are orders order turn rows old new was planne
         let known = was.known k lt yes_ in
         let before = known.first in
         let now = planned.firsts k lt in
-        let one = one_inside net wired order.all order.is_order inside (are.are_knots k lt).closed turn before.others now.others before.items now.items before.first now.first in
+        let one = one_inside net wired order is_order inside (are.are_knots k lt).closed turn before.others now.others before.items now.items before.first now.first in
         told_same net wired inside old.rows rows (λ s s_in h. now.same s s_in h ∙ sym (one.rows s s_in h) ∙ sym (before.same s s_in h)) (is_moving old k)
         (record { still = known.still; flows = known.flows })
 

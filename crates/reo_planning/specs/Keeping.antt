@@ -1,5 +1,5 @@
 -- What is kept of the parts of a circuit.
-use Rattle.std.specs.Prelude.{ℕ, ◌<◌, ◌≡◌, Bool, true, false, ◌&&◌, List, length, nat_le, replicate, slice_index_or}
+use Rattle.std.specs.Prelude.{ℕ, ◌<◌, ◌≡◌, Bool, true, false, not, ◌&&◌, List, length, nat_le, replicate, slice_index_or}
 use Rattle.reo_net_base.specs.declared.joint.End.{End}
 use Rattle.reo_net_base.specs.declared.mark.Mark.TheVariants.{F}
 use Rattle.reo_net_base.specs.Net.{Net, side_at, mark_at}
@@ -14,6 +14,10 @@ use Rattle.reo_planning.specs.declared.kept.Kept.{Kept}
 -- Whether a part is settled: its rows are kept.
 abbrev pub is_settled : Kept → ℕ → Bool
 is_settled kept k = slice_index_or kept.settled k false
+
+-- Whether a part is to be looked at: it is not settled.
+abbrev pub is_open : Kept → ℕ → Bool
+is_open kept k = not (is_settled kept k)
 
 -- Whether something flows in a part by the rows that are kept.
 abbrev pub is_moving : Kept → ℕ → Bool

@@ -4,14 +4,14 @@ ghost use Rattle.reo_net_base.specs.Net.{net_of};
 ghost use Rattle.reo_net_base.specs.Sides.{side_count};
 ghost use Rattle.reo_net_base.specs.Colouring.{RowsFit};
 ghost use Rattle.reo_knots.specs.Knots.{AreKnots, knot_count};
-ghost use Rattle.reo_kept_tables.specs.Orders.{AreOrders};
-ghost use Rattle.reo_planning.specs.Keeping.{AllServe, HasSizes, IsKept};
+ghost use Rattle.reo_flowing.specs.Flowing.{AreFlowingIn};
+ghost use Rattle.reo_planning.specs.Keeping.{AllServe, HasSizes, IsKept, is_open};
 ghost use Rattle.reo_planning.specs.Marked.{AreMarked};
 ghost use Rattle.reo_planning.specs.Planned.{ArePlanned};
 ghost use Rattle.reo_planning.specs.Unsettling.{IsUnsettled, AreEndsMarked, AreMarkedUnsettled, AreMovingUnsettled};
 
 use crate::kept::Kept;
-use crate::moving::some_flows;
+use reo_flags::Flags;
 use reo_knots::Knots;
 use reo_net_base::Primitive;
 use reo_net_circuit::Circuit;
@@ -24,51 +24,55 @@ impl Kept {
         &mut self,
         circuit: &Circuit<P>,
         knots: &Knots,
-        orders: &List<List<usize>>,
         rows: &[u32],
+        flowing: &List<List<usize>>,
     )
         requires knots { AreKnots (net_of P.behaviour circuit.now) knots.now }
         requires sizes { let sides = side_count (net_of P.behaviour circuit.now) in
             HasSizes sides (knot_count knots.now) self.old }
-        requires orders { AreOrders (net_of P.behaviour circuit.now) knots.now orders.now }
         requires rows { RowsFit (net_of P.behaviour circuit.now) rows.now }
+        requires flowing { AreFlowingIn (net_of P.behaviour circuit.now) knots.now rows.now
+            (is_open self.old) flowing.now }
         ensures { let net = net_of P.behaviour circuit.now in
             AreMarked net knots.now rows.now (knot_count knots.now) self.old self.new }
     {
+        let _ = rows;
         circuit.known();
         for part in 0..knots.count() {
             if !self.is_settled(part) {
-                let joints = orders.at(part).as_slice();
-                *self.moving.at_mut(part) = some_flows(circuit, rows, joints);
+                *self.moving.at_mut(part) = !flowing.at(part).is_empty();
                 *self.settled.at_mut(part) = true;
             }
         }
     }
 
     /// Keeps rows that were planned: all parts are settled, within the budget of the plan. The list
-    /// of those that were kept before is handed back. Marks are looked at only in parts that were
-    /// not settled. This takes no memory.
+    /// of those that were kept before is handed back. For each part that was not settled the joints
+    /// are given that flow in it. This takes no memory.
     pub fn store<P: Primitive>(
         &mut self,
         circuit: &Circuit<P>,
         knots: &Knots,
-        orders: &List<List<usize>>,
+        flowing: &List<List<usize>>,
         rows: List<u32>,
         budget: u64,
     ) -> List<u32>
         requires knots { AreKnots (net_of P.behaviour circuit.now) knots.now }
         requires sizes { let sides = side_count (net_of P.behaviour circuit.now) in
             HasSizes sides (knot_count knots.now) self.old }
-        requires orders { AreOrders (net_of P.behaviour circuit.now) knots.now orders.now }
         requires rows { RowsFit (net_of P.behaviour circuit.now) rows }
+        requires flowing { AreFlowingIn (net_of P.behaviour circuit.now) knots.now rows
+            (is_open self.old) flowing.now }
         ensures kept { let net = net_of P.behaviour circuit.now in
             (turn : ℕ) → IsKept net knots.now turn self.old
             → ArePlanned budget net knots.now turn (knot_count knots.now) rows
             → IsKept net knots.now turn self.new }
         ensures settled { AllServe (knot_count knots.now) budget self.new }
+        ensures rows { self.new.rows ≡ rows }
     {
         circuit.known();
-        self.mark_rest(circuit, knots, orders, rows.as_slice());
+        let _order = circuit.order();
+        self.mark_rest(circuit, knots, rows.as_slice(), flowing);
         self.budget = budget;
         replace(&mut self.rows, rows)
     }
@@ -96,7 +100,7 @@ impl Kept {
         &mut self,
         circuit: &Circuit<P>,
         knots: &Knots,
-        marks: &[bool],
+        marks: &Flags,
     )
         requires knots { AreKnots (net_of P.behaviour circuit.now) knots.now }
         requires one_each { length self.old.settled ≡ knot_count knots.now }
@@ -105,7 +109,7 @@ impl Kept {
             AreMarkedUnsettled net knots.now marks.now (length marks.now) self.old self.new }
     {
         for primitive in 0..marks.len() {
-            if marks[primitive] {
+            if marks.at(primitive) {
                 self.unsettle(circuit, knots, primitive);
             }
         }

@@ -6,7 +6,6 @@ mod flags;
 mod keeping;
 mod kept;
 mod laws;
-mod moving;
 mod parts;
 mod planning;
 mod rows;

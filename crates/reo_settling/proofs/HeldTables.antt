@@ -1,5 +1,6 @@
 -- Tables that are kept, and what is looked up.
-use Rattle.std.proofs.Common.{◌≡◌, ◌∙◌, inl, inr, ℕ, ◌+◌, ◌*◌, ◌<◌, ◌≢◌, Bool, true, Some, None, Option, List, length, get_or, ap, sym, subst, arith}
+use Rattle.std.proofs.Common.{◌≡◌, ◌∙◌, inl, inr, ℕ, ◌+◌, ◌*◌, ◌<◌, ◌≢◌, Bool, true, false, Some, None, Option, List, length, get_or, ap, sym, subst, arith}
+use Rattle.std.specs.Prelude.{Result, Ok, Err, OnErr}
 use Rattle.reo_net_base.specs.Net.{Net, first_side}
 use Rattle.reo_net_base.specs.Wired.{IsWired}
 use Rattle.reo_net_circuit.proofs.Cases.{eq_cases}
@@ -12,6 +13,7 @@ use Rattle.reo_kept_tables.specs.Orders.{AreOrders}
 use Rattle.reo_kept_tables.proofs.Readied.{ready_tables_are_right, right_parts_are_ready}
 use Rattle.reo_kept_tables.proofs.Sorted.{orders_stay}
 use Rattle.reo_kept_tables.proofs.Staying.{count_same, right_tables_stay, room_stays}
+use Rattle.reo_flowing.specs.Flowing.{AreFlowingIn}
 use Rattle.reo_planning.specs.declared.kept.Kept.{Kept}
 use Rattle.reo_planning.specs.Keeping.{is_settled}
 use Rattle.reo_planning.specs.Unsettling.{AreFewer, IsElsewhere}
@@ -27,7 +29,8 @@ use Rattle.reo_part_plans.specs.Remembered.{ArePlans}
 use Rattle.reo_part_plans.proofs.Recalled.{plans_stay}
 use Rattle.reo_settling.specs.declared.lookups.Lookups.{Lookups}
 use Rattle.reo_settling.specs.Held.{is_fresh, AreFreshTables, MayBeFresh, MayBeKept}
-use Rattle.reo_settling.specs.Lookups.{AreLookups, AreSteady, LookupsStay, IsForgotten}
+use Rattle.reo_settling.specs.Lookups.{AreLookups, AreSteady, AreToldFor, LookupsStay, IsForgotten}
+use Rattle.reo_settling.proofs.Listed.{told_stays}
 
 -- No primitive of a settled part is another.
 same_on : (net other : Net) (knots : Knotted) (kept : Kept) → IsElsewhere net other knots kept → (k : ℕ) → is_settled kept k ≡ true → IsSameOn net other (in_knot knots.numbers k)
@@ -62,6 +65,8 @@ marks_stay net other joints shapes marks is = record {
 pub lookups_stay : LookupsStay
 lookups_stay net other wired knots are old new fewer is lookups held = record {
   orders = orders_stay net other wired is.joints is.shapes knots lookups.orders held.orders;
+  one_list = held.one_list;
+  flowing = told_stays net other wired knots old new fewer is lookups held.flowing;
   one_each = held.one_each;
   tables = tables_elsewhere net other wired knots are old new fewer is lookups.fresh lookups.tables held.tables;
   bounds = kept_bounds_stay net other is.joints is.shapes lookups.bounds held.bounds;
@@ -74,15 +79,42 @@ kept_tables net knots kept fresh None may = tt
 kept_tables net knots kept fresh (Some tables) may = record { room = may.room; right = λ k lt marked settled. may.right k lt marked }
 
 -- What is steady is right whichever parts are settled.
-pub steady_is : (net : Net) (knots : Knotted) (kept : Kept) (lookups : Lookups) → AreSteady net knots lookups → AreLookups net knots kept lookups
-steady_is net knots kept lookups steady = record {
+steady_is : (net : Net) (knots : Knotted) (kept : Kept) (lookups : Lookups) → AreSteady net knots lookups → AreToldFor net knots kept lookups → AreLookups net knots kept lookups
+steady_is net knots kept lookups steady told = record {
   orders = steady.orders;
+  one_list = steady.one_list;
+  flowing = told;
   one_each = steady.one_each;
   tables = kept_tables net knots kept lookups.fresh lookups.tables steady.tables;
   bounds = steady.bounds;
   plans = steady.plans;
   marks = steady.marks;
 }
+
+-- What is steady and told.
+pub told_is : (net : Net) (knots : Knotted) (kept : Kept) (lookups : Lookups) → AreSteady net knots lookups → AreFlowingIn net knots kept.rows (is_settled kept) lookups.flowing → AreLookups net knots kept (record lookups { told = true })
+told_is net knots kept lookups steady told = record {
+  orders = steady.orders;
+  one_list = steady.one_list;
+  flowing = λ _. told;
+  one_each = steady.one_each;
+  tables = kept_tables net knots kept lookups.fresh lookups.tables steady.tables;
+  bounds = steady.bounds;
+  plans = steady.plans;
+  marks = steady.marks;
+}
+
+not_both : (b : Bool) → b ≡ false → b ≡ true → ⊥
+not_both true h g = cc
+not_both false h g = cc
+
+-- What is steady and not told.
+pub untold_is : (net : Net) (knots : Knotted) (kept : Kept) (lookups : Lookups) → AreSteady net knots lookups → lookups.told ≡ false → AreLookups net knots kept lookups
+untold_is net knots kept lookups steady untold = steady_is net knots kept lookups steady (λ told. absurd (not_both lookups.told untold told))
+
+pub refused_by : {X E R : Type 0} (r : Result X E) → R → OnErr r R
+refused_by (Ok x) h = tt
+refused_by (Err e) h = h
 
 fresh_tables : (net : Net) (knots : Knotted) (kept : Kept) (old new : List Bool) → length new ≡ knot_count knots → ((k : ℕ) → k < length new → is_fresh new k ≡ true → (is_fresh old k ≡ true) × (is_settled kept k ≡ true))
     → (tables : Option Tables) → MayBeKept net knots kept old tables → MayBeFresh net knots new tables
@@ -96,6 +128,7 @@ fresh_tables net knots kept old new one_each fewer (Some tables) may = record {
 pub forgotten_is : (net : Net) (knots : Knotted) (kept : Kept) (old new : Lookups) → AreLookups net knots kept old → IsForgotten kept old new → AreSteady net knots new
 forgotten_is net knots kept old new are is = record {
   orders = subst (AreOrders net knots) (sym is.orders) are.orders;
+  one_list = ap length is.flowing ∙ are.one_list;
   one_each = is.one_each ∙ are.one_each;
   tables = subst (MayBeFresh net knots new.fresh) (sym is.tables) (fresh_tables net knots kept old.fresh new.fresh (is.one_each ∙ are.one_each) is.fewer old.tables are.tables);
   bounds = subst (AreKeptBounds net) (sym is.bounds) are.bounds;

@@ -1,9 +1,10 @@
 -- What is looked up when parts are settled.
-use Rattle.std.specs.Prelude.{ℕ, ◌<◌, ◌≡◌, true, length}
+use Rattle.std.specs.Prelude.{ℕ, ◌<◌, ◌≡◌, ◌≢◌, true, [], length, slice_index_or}
 use Rattle.reo_net_base.specs.Net.{Net}
 use Rattle.reo_net_base.specs.Wired.{IsWired}
 use Rattle.reo_knots.specs.Knots.{Knotted, AreKnots, knot_count}
 use Rattle.reo_kept_tables.specs.Orders.{AreOrders}
+use Rattle.reo_flowing.specs.Flowing.{AreFlowingIn}
 use Rattle.reo_planning.specs.declared.kept.Kept.{Kept}
 use Rattle.reo_planning.specs.Unsettling.{AreFewer, IsElsewhere}
 use Rattle.reo_mark_search.specs.Found.{IsMarkSearch}
@@ -13,19 +14,27 @@ use Rattle.reo_settling.specs.declared.lookups.Lookups.{Lookups}
 use Rattle.reo_planning.specs.Keeping.{is_settled}
 use Rattle.reo_settling.specs.Held.{is_fresh, MayBeFresh, MayBeKept}
 
--- The joints of each part, in order; a mark for each part, and tables that are right where a part is marked and settled;
--- bounds on items; rows that are remembered; and what the search by marks keeps.
+-- Where the joints that flow are told, they are those of each settled part by the rows that are kept.
+abbrev pub AreToldFor : Net → Knotted → Kept → Lookups → Type 0
+AreToldFor net knots kept lookups = lookups.told ≡ true
+    → AreFlowingIn net knots kept.rows (is_settled kept) lookups.flowing
+
+-- The joints of each part, in order, and those that flow, where they are told; a mark for each part, and tables that are
+-- right where a part is marked and settled; bounds on items; rows that are remembered; and what the search by marks keeps.
 pub record AreLookups (net : Net) (knots : Knotted) (kept : Kept) (lookups : Lookups) : Type 0 where
   pub orders : AreOrders net knots lookups.orders
+  pub one_list : length lookups.flowing ≡ knot_count knots
+  pub flowing : AreToldFor net knots kept lookups
   pub one_each : length lookups.fresh ≡ knot_count knots
   pub tables : MayBeKept net knots kept lookups.fresh lookups.tables
   pub bounds : AreKeptBounds net lookups.bounds
   pub plans : ArePlans net knots lookups.plans
   pub marks : IsMarkSearch net lookups.marks
 
--- The same, with tables that are right wherever a part is marked.
+-- The same but for the joints that flow, with tables that are right wherever a part is marked.
 pub record AreSteady (net : Net) (knots : Knotted) (lookups : Lookups) : Type 0 where
   pub orders : AreOrders net knots lookups.orders
+  pub one_list : length lookups.flowing ≡ knot_count knots
   pub one_each : length lookups.fresh ≡ knot_count knots
   pub tables : MayBeFresh net knots lookups.fresh lookups.tables
   pub bounds : AreKeptBounds net lookups.bounds
@@ -41,6 +50,8 @@ LookupsStay = (net other : Net) → IsWired net → (knots : Knotted) → AreKno
 -- Of parts that are not settled the tables are not fresh any more, and all else stays.
 pub record IsForgotten (kept : Kept) (old new : Lookups) : Type 0 where
   pub orders : new.orders ≡ old.orders
+  pub flowing : new.flowing ≡ old.flowing
+  pub told : new.told ≡ old.told
   pub tables : new.tables ≡ old.tables
   pub bounds : new.bounds ≡ old.bounds
   pub plans : new.plans ≡ old.plans
@@ -48,3 +59,14 @@ pub record IsForgotten (kept : Kept) (old new : Lookups) : Type 0 where
   pub one_each : length new.fresh ≡ length old.fresh
   pub fewer : (k : ℕ) → k < length new.fresh → is_fresh new.fresh k ≡ true
       → (is_fresh old.fresh k ≡ true) × (is_settled kept k ≡ true)
+
+-- The lists of joints of all other parts stay, and so does whether they are told.
+pub record IsListedAt (part : ℕ) (old new : Lookups) : Type 0 where
+  pub told : new.told ≡ old.told
+  pub one_each : length new.flowing ≡ length old.flowing
+  pub others : (k : ℕ) → k ≢ part → slice_index_or new.flowing k [] ≡ slice_index_or old.flowing k []
+
+-- All lists of joints stay.
+pub record AreListed (old new : Lookups) : Type 0 where
+  pub told : new.told ≡ old.told
+  pub flowing : new.flowing ≡ old.flowing

@@ -4,7 +4,7 @@ ghost use Rattle.reo_net_base.specs.Net.{Net as Network, net_of};
 ghost use Rattle.reo_net_ends.specs.Ends.{AreEnds};
 ghost use Rattle.reo_knots.specs.Knots.{AreKnots, Knotted};
 ghost use Rattle.reo_planning.specs.declared.kept.Kept.{Kept as KeptRows};
-ghost use Rattle.reo_settling.specs.Lookups.{AreLookups};
+ghost use Rattle.reo_settling.specs.Lookups.{AreListed, AreLookups};
 
 use reo_item_bounds::Bounds;
 use reo_kept_tables::{Tables, orders_of};
@@ -17,12 +17,15 @@ use reo_part_plans::Plans;
 use reo_values::{List, NoMemory};
 use std::alloc::Global;
 
-/// What is looked up when parts are settled: the joints of each part, in order; bounds on the items
+/// What is looked up when parts are settled: the joints of each part, in order, and those of them
+/// that flow, and whether these are told for the rows that are kept; bounds on the items
 /// of joints; the rows that are remembered; a list of rows, any; what the search by marks keeps;
 /// and the tables of the search by values, and of each part whether they were made for its state.
 #[derive(Drop)]
 pub struct Lookups {
     pub(crate) orders: List<List<usize>>,
+    pub(crate) flowing: List<List<usize>>,
+    pub(crate) told: bool,
     pub(crate) fresh: List<bool>,
     pub(crate) tables: Option<Tables>,
     pub(crate) bounds: Bounds,
@@ -41,6 +44,17 @@ fn unmarked(alloc: Global, count: usize) -> Result<List<bool>, NoMemory>
     }
 }
 
+/// So many lists of no joints.
+fn none_flowing(alloc: Global, count: usize) -> Result<List<List<usize>>, NoMemory>
+    ensures { IfOk result (λ made. length made ≡ count) }
+{
+    let mut made = List::new(alloc);
+    for _ in 0..count {
+        made.push(List::new(alloc))?;
+    }
+    Ok(made)
+}
+
 impl Lookups {
     /// For a circuit of which nothing was looked up. `NoMemory` is out of memory.
     pub fn new<P: Primitive>(
@@ -55,12 +69,15 @@ impl Lookups {
             → AreLookups (net_of P.behaviour circuit.now) knots.now kept made) }
     {
         let orders = orders_of(alloc, circuit, knots)?;
+        let flowing = none_flowing(alloc, knots.count())?;
         let fresh = unmarked(alloc, knots.count())?;
         let bounds = Bounds::new(alloc, circuit)?;
         let plans = Plans::new(alloc, knots.count())?;
         let marks = MarkSearch::new(alloc, circuit, ends)?;
         Ok(Lookups {
             orders,
+            flowing,
+            told: false,
             fresh,
             tables: None,
             bounds,
@@ -72,16 +89,25 @@ impl Lookups {
 
     /// Hands a list of rows back, any, so that none is made for the rows of the next round.
     pub fn hand_back(&mut self, rows: List<u32>)
-        ensures { (net : Network) (knots : Knotted) (kept : KeptRows)
+        ensures lookups { (net : Network) (knots : Knotted) (kept : KeptRows)
             → AreLookups net knots kept self.old → AreLookups net knots kept self.new }
+        ensures listed { AreListed self.old self.new }
     {
         self.spare = rows;
     }
 
-    /// The joints of each part, in order.
-    pub fn orders(&self) -> &List<List<usize>>
-        ensures { result.now ≡ self.now.orders }
+    /// For each part its joints that flow. They are those of the rows that are kept of a settled
+    /// part, where they are told.
+    pub fn flowing(&self) -> &List<List<usize>>
+        ensures { result.now ≡ self.now.flowing }
     {
-        &self.orders
+        &self.flowing
+    }
+
+    /// Whether the joints that flow are told.
+    pub fn is_told(&self) -> bool
+        ensures { result ≡ self.now.told }
+    {
+        self.told
     }
 }

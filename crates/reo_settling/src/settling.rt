@@ -1,9 +1,10 @@
 //! The rows of all parts.
-ghost use Rattle.std.specs.Prelude.{◌≡◌, ◌<◌, ◌≤◌, ◌+◌, ◌^◌, ℕ, IfOk, MatchResult, length};
+ghost use Rattle.std.specs.Prelude.{◌≡◌, ◌<◌, ◌≤◌, ◌+◌, ◌^◌, ℕ, true, false, IfOk, OnErr, OnOk, MatchResult, length};
 ghost use Rattle.reo_net_base.specs.Net.{net_of};
 ghost use Rattle.reo_net_base.specs.Colouring.{RowsFit};
 ghost use Rattle.reo_net_ends.specs.Ends.{AreEnds};
 ghost use Rattle.reo_knots.specs.Knots.{AreKnots, knot_count};
+ghost use Rattle.reo_flowing.specs.Flowing.{AreFlowingIn};
 ghost use Rattle.reo_rounds.specs.Plans.{IsPlanFault};
 ghost use Rattle.reo_planning.specs.declared.kept.Kept.{Kept as KeptRows};
 ghost use Rattle.reo_planning.specs.Keeping.{IsKept};
@@ -37,8 +38,9 @@ impl Lookups {
     }
 
     /// The rows of the first colouring of a circuit in the round of a number, where no part is
-    /// over. They are those that are kept, where these serve; of other parts they are remembered,
-    /// or searched. It makes at most as many ticks as the weights of those say together.
+    /// over, and for each part its joints that flow. The rows are those that are kept, where these
+    /// serve; of other parts they are remembered, or searched. It makes at most as many ticks as the
+    /// weights of those say together.
     ///
     /// # Errors
     ///
@@ -61,8 +63,14 @@ impl Lookups {
         requires budget { budget < 10 ^ 18 }
         requires kept { IsKept (net_of P.behaviour circuit.now) knots.now turn kept.now }
         requires lookups { AreLookups (net_of P.behaviour circuit.now) knots.now kept.now self.old }
-        ensures lookups { (later : KeptRows)
-            → AreLookups (net_of P.behaviour circuit.now) knots.now later self.new }
+        ensures lookups { let net = net_of P.behaviour circuit.now in
+            IfOk result (λ rows. (later : KeptRows) → later.rows ≡ rows
+            → AreLookups net knots.now later self.new) }
+        ensures refused { let net = net_of P.behaviour circuit.now in
+            OnErr result ((later : KeptRows) → AreLookups net knots.now later self.new) }
+        ensures told { OnOk result (self.new.told ≡ true) }
+        ensures flowing { let net = net_of P.behaviour circuit.now in
+            IfOk result (λ rows. AreFlowingIn net knots.now rows (λ _. true) self.new.flowing) }
         ensures exact { let net = net_of P.behaviour circuit.now in
             MatchResult result (ArePlanned budget net knots.now turn (knot_count knots.now))
             (IsPlanFault budget net) }
@@ -72,14 +80,16 @@ impl Lookups {
             → steps.new ≤ steps.old + sum_below count (weight_left kept.now budget weights) }
     {
         circuit.known();
+        let told = replace(&mut self.told, false);
         self.forget(kept);
         let list = replace(&mut self.spare, List::new(alloc));
         let mut rows = written_over(list, kept.rows())?;
         for knot in 0..knots.count() {
             self.settle_part(
-                alloc, circuit, knots, ends, kept, knot, turn, budget, steps, &mut rows,
+                alloc, circuit, knots, ends, kept, knot, turn, budget, told, steps, &mut rows,
             )?;
         }
+        self.told = true;
         Ok(rows)
     }
 }

@@ -1,9 +1,8 @@
 -- Items at the joints of all parts.
 use Rattle.std.proofs.Common.{◌≡◌, ◌≢◌, ◌∙◌, inl, inr, ℕ, zero, suc, ◌+◌, ◌<◌, ◌≤◌, true, false, not, ◌||◌, ◌⊎◌, List, [], ◌∷◌, ◌++◌, length, get_or, set, refl, ap, sym, subst, arith}
-use Rattle.std.specs.Prelude.{Option, Some, None, Contains, nat_lt, ◌==◌}
+use Rattle.std.specs.Prelude.{Option, Some, None, nat_lt, ◌==◌}
 use Rattle.std.proofs.lemmas.Bool.Decides.{nat_tests}
 use Rattle.std.proofs.lemmas.List.{get_or_default, length-append, length-set, same_lists}
-use Rattle.std.proofs.lemmas.List.Elements.{Contains-get_or}
 use Rattle.std.proofs.lemmas.List.Folds.{list_all_at}
 use Rattle.std.proofs.lemmas.List.Sums.{list_all-from_AllPass}
 use Rattle.reo_values.specs.declared.value.Value.{Value}
@@ -19,11 +18,10 @@ use Rattle.reo_net_laws.proofs.Sides.{side_in_range}
 use Rattle.reo_net_laws.proofs.Sets.{and_right}
 use Rattle.reo_knots.specs.Knots.{Knotted, AreKnots, in_knot, knot_count}
 use Rattle.reo_joint_values.specs.Standing.{giver_of, no_joint}
-use Rattle.reo_kept_tables.specs.Orders.{AreJointsOf}
-use Rattle.reo_still.specs.Still.{IsStill}
+use Rattle.reo_joint_values.specs.Many.{IsJointIn}
 use Rattle.reo_trace.specs.Entries.{is_idle, is_still}
 use Rattle.reo_stepping.specs.Flowing.{AreFlowing}
-use Rattle.reo_standing.specs.Filling.{AreBlank, AreBlankOn, AreFilled, AreHeld, AreHeldAmong, IsPartFilled, NoneFlows}
+use Rattle.reo_standing.specs.Filling.{AreBlank, AreBlankOn, AreFilled, AreHeld, AreHeldAmong, IsPartFilled}
 use Rattle.reo_standing.proofs.Putting.{giver_flows, others_none, others_some, flow_or_not}
 use Rattle.std.proofs.lemmas.Bool.{and_from as both}
 use Rattle.reo_joint_values.proofs.Equal.{eq_same as true_eq, same_eq as eq_true}
@@ -51,20 +49,15 @@ module _ (net : Net) (wired : IsWired net) (knots : Knotted) (are : AreKnots net
       let s_in = side_in_range net wired (giver_of net j) (wired.givers j no_joint lt) in
       in_own knots.numbers (side_at net (giver_of net j)) k (omega (arith, s_in, are.numbered.one_each)) is
 
-  module _ (joints : List ℕ) (k : ℕ) (of : AreJointsOf net (in_knot knots.numbers k) joints) where
-    of_part : (m : ℕ) → m < length joints → part_of net knots (get_or joints m 0) ≡ k
-    of_part m lt = number_of knots.numbers (side_at net (giver_of net (get_or joints m 0))) k ((of.exact (get_or joints m 0)).0 (Contains-get_or joints m 0 lt)).1
+  -- A joint of a part is of no other.
+  of_part : (j k : ℕ) → IsJointIn net (in_knot knots.numbers k) j → part_of net knots j ≡ k
+  of_part j k is = number_of knots.numbers (side_at net (giver_of net j)) k is.1
 
-    -- Where nothing flows in the part, none of its joints flows.
-    pub none_flows : (rows : List ℕ) → IsStill net (in_knot knots.numbers k) rows → NoneFlows net rows joints
-    none_flows rows still m lt flows =
-        let is = (of.exact (get_or joints m 0)).0 (Contains-get_or joints m 0 lt) in
-        still (giver_of net (get_or joints m 0)) (wired.givers (get_or joints m 0) no_joint is.0) is.1 (flows no_joint)
-
-    module _ (others : List (Option Value)) where
-      -- The joints of the parts below have their items, and the others none.
-      pub part_blank : (items : List (Option Value)) → ((j : ℕ) → j < length net.joints → k ≤ part_of net knots j → get_or items j None ≡ None) → AreBlankOn joints items
-      part_blank items later m lt = later (get_or joints m 0) ((of.exact (get_or joints m 0)).0 (Contains-get_or joints m 0 lt)).0 (omega (arith, of_part m lt))
+-- The joints of the parts below have their items, and the others none.
+pub part_blank : (net : Net) (knots : Knotted) (k : ℕ) (items : List (Option Value)) → ((j : ℕ) → j < length net.joints → k ≤ part_of net knots j → get_or items j None ≡ None) → AreBlankOn net (in_knot knots.numbers k) items
+part_blank net knots k items later j is =
+    let here : part_of net knots j ≡ k = number_of knots.numbers (side_at net (giver_of net j)) k is.1 in
+    later j is.0 (omega (arith, here))
 
 -- The parts below a number have their items, and the others none.
 pub record IsFilledBelow (net : Net) (knots : Knotted) (others : List (Option Value)) (n : ℕ) (items : List (Option Value)) (noted : List ℕ) : Type 0 where
@@ -80,25 +73,15 @@ pub record IsBlankFrom (net : Net) (knots : Knotted) (n : ℕ) (items : List (Op
 pub below_none : (net : Net) (knots : Knotted) (others items : List (Option Value)) (noted : List ℕ) → AreBlank (length net.joints) items → AreHeld items noted → IsFilledBelow net knots others 0 items noted
 below_none net knots others items noted blank held = record { here = λ j lt before. absurd (omega arith); later = λ j lt le. blank.none j; held = held }
 
--- A joint of another part is none of the joints of a part.
-apart : (net : Net) (wired : IsWired net) (knots : Knotted) (are : AreKnots net knots) (joints : List ℕ) (n : ℕ) → AreJointsOf net (in_knot knots.numbers n) joints
-    → (j : ℕ) → part_of net knots j ≢ n → Contains joints j → ⊥
-apart net wired knots are joints n of j ne among =
-    let place : get_or joints among.0 0 ≡ j = get_or_default joints among.0 0 j among.1 ∙ among.2 in
-    ne (ap (part_of net knots) (sym place) ∙ of_part net wired knots are joints n of among.0 among.1)
-
 -- One part more.
-pub below_more : (net : Net) → IsWired net → (knots : Knotted) → AreKnots net knots → (joints : List ℕ) (n : ℕ) → AreJointsOf net (in_knot knots.numbers n) joints
-    → (others items next : List (Option Value)) (noted more : List ℕ) → IsFilledBelow net knots others n items noted → IsPartFilled joints others items next more → IsFilledBelow net knots others (n + 1) next more
-below_more net wired knots are joints n of others items next noted more far part = record {
+pub below_more : (net : Net) → IsWired net → (knots : Knotted) → AreKnots net knots → (n : ℕ) (others items next : List (Option Value)) (noted more : List ℕ)
+    → IsFilledBelow net knots others n items noted → IsPartFilled net (in_knot knots.numbers n) others items next more → IsFilledBelow net knots others (n + 1) next more
+below_more net wired knots are n others items next noted more far part = record {
   here = λ j lt before. elim (eq_cases (part_of net knots j) n) [
-    | inl e ↦
-        let among = (of.exact j).1 (lt, own net wired knots are j n lt e) in
-        let place : get_or joints among.0 0 ≡ j = get_or_default joints among.0 0 j among.1 ∙ among.2 in
-        subst (λ (k : ℕ). get_or next k None ≡ get_or others k None) place (part.here among.0 among.1)
-    | inr ne ↦ part.others j (apart net wired knots are joints n of j ne) ∙ far.here j lt (omega (arith, before, ne))
+    | inl e ↦ part.here j (lt, own net wired knots are j n lt e)
+    | inr ne ↦ part.others j (λ is. ne (of_part net wired knots are j n is)) ∙ far.here j lt (omega (arith, before, ne))
   ];
-  later = λ j lt le. part.others j (apart net wired knots are joints n of j (λ e. absurd (omega (arith, le, e)))) ∙ far.later j lt (omega (arith, le));
+  later = λ j lt le. part.others j (λ is. let e = of_part net wired knots are j n is in absurd (omega (arith, le, e))) ∙ far.later j lt (omega (arith, le));
   held = part.held;
 }
 

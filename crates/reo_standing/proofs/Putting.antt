@@ -1,7 +1,10 @@
 -- Items that are put at the joints of a part, one after the other.
-use Rattle.std.proofs.Common.{◌≡◌, ◌≢◌, ◌∙◌, ◌⊎◌, inl, inr, ℕ, zero, suc, ◌+◌, ◌<◌, List, [], ◌∷◌, ◌++◌, length, get_or, refl, ap, sym, subst, arith}
-use Rattle.std.specs.Prelude.{Option, Some, None}
-use Rattle.std.proofs.lemmas.List.{get_or_default, length-append}
+use Rattle.std.proofs.Common.{◌≡◌, ◌≢◌, ◌∙◌, ◌⊎◌, ◌↔◌, inl, inr, ℕ, zero, suc, ◌+◌, ◌-◌, ◌<◌, ◌≤◌, Bool, true, false, List, [], ◌∷◌, ◌++◌, drop, length, get_or, refl, ap, sym, subst, arith}
+use Rattle.std.specs.List.{All}
+use Rattle.std.specs.Prelude.{Contains, Option, Some, None, filter}
+use Rattle.std.proofs.Math.Seq.{drop-cons}
+use Rattle.std.proofs.lemmas.List.{drop_all, get_or_default, length-append}
+use Rattle.std.proofs.lemmas.List.Elements.{All-filter, All-from_get_or, All-get_or, Contains-get_or, filter_passes}
 use Rattle.reo_values.specs.declared.value.Value.{Value}
 use Rattle.reo_net_base.specs.declared.mark.Mark.{Mark}
 use Rattle.reo_net_base.specs.declared.mark.Mark.TheVariants.{F, G, R, J}
@@ -10,6 +13,7 @@ use Rattle.reo_net_base.specs.declared.joint.Joint.{Joint}
 use Rattle.reo_net_base.specs.Behaviour.{Behaviour}
 use Rattle.reo_net_base.specs.Colouring.{IsColouring, ItemFits, given_at}
 use Rattle.reo_net_base.specs.Ends.{IsTaker}
+use Rattle.reo_net_base.specs.Marks.{is_flow}
 use Rattle.reo_net_base.specs.Net.{Net, all_sides, behaviour_at, end_of, mark_at, row_at, side_at}
 use Rattle.reo_net_base.specs.Wired.{IsWired}
 use Rattle.reo_net_circuit.proofs.Cases.{eq_cases, lt_cases}
@@ -19,9 +23,16 @@ use Rattle.reo_net_laws.specs.Ends.{mark_in, from_in}
 use Rattle.reo_net_laws.proofs.Sides.{gives_at, row_in_table, row_below, side_in_range}
 use Rattle.reo_net_colouring.proofs.ItemLemmas.{given_none, given_some, taken_by_ends}
 use Rattle.reo_joint_values.specs.Standing.{Brings, FlowsAt, giver_of, no_joint}
-use Rattle.reo_reach.specs.InOrder.{AreInOrder}
+use Rattle.reo_joint_values.specs.Many.{IsJointIn}
+use Rattle.reo_reach.specs.InOrder.{AreInOrder, joints_in}
+use Rattle.reo_net_laws.specs.Parts.{IsClosed}
+use Rattle.reo_net_laws.proofs.Orders.{place_in}
+use Rattle.reo_kept_tables.specs.Orders.{AreJointsOf}
+use Rattle.reo_kept_tables.proofs.Sorted.{joints_of_set}
+use Rattle.reo_flowing.specs.Flowing.{AreFlowingOf, flows_by}
+use Rattle.reo_flowing.proofs.Passing.{end_from, next_from}
 use Rattle.reo_stepping.specs.Flowing.{GiverFlows}
-use Rattle.reo_standing.specs.Filling.{AreBlankOn, AreHeld, IsPartFilled, IsPut, NoneFlows}
+use Rattle.reo_standing.specs.Filling.{AreBlankOn, AreHeld, IsPartFilled, IsPut}
 
 before_end : (xs ys : List ℕ) (m : ℕ) → m < length xs → get_or (xs ++ ys) m 0 ≡ get_or xs m 0
 before_end [] ys m lt = absurd (omega arith)
@@ -126,92 +137,159 @@ module _ (net : Net) (wired : IsWired net) (rows : List ℕ) (others : List (Opt
               ∙ sym (given_some net rows others e from some)
         ] refl
 
-    pub filled_none : (old : List (Option Value)) (noted : List ℕ) → AreHeld old noted → IsFilledTo joints others 0 old old noted
-    filled_none old noted held = record { count = refl; here = λ m lt. absurd (omega arith); rest = λ k h. refl; held = held }
+    module _ (inside : ℕ → Bool) (exact : (j : ℕ) → Contains joints j ↔ IsJointIn net inside j) where
+      -- A joint that has no item yet.
+      blank_yet : (n : ℕ) → n < length joints → (old new : List (Option Value)) (noted : List ℕ) → AreBlankOn net inside old → IsFilledTo joints others n old new noted → get_or new (get_or joints n 0) None ≡ None
+      blank_yet n n_in old new noted blank far = far.rest (get_or joints n 0) (λ m lt. ordered.once m n lt n_in) ∙ blank (get_or joints n 0) ((exact (get_or joints n 0)).0 (Contains-get_or joints n 0 n_in))
 
-    -- A joint that has no item yet.
-    blank_yet : (n : ℕ) → n < length joints → (old new : List (Option Value)) (noted : List ℕ) → AreBlankOn joints old → IsFilledTo joints others n old new noted → get_or new (get_or joints n 0) None ≡ None
-    blank_yet n n_in old new noted blank far = far.rest (get_or joints n 0) (λ m lt. ordered.once m n lt n_in) ∙ blank n n_in
-
-    -- One joint more that flows.
-    flowed_more : (n : ℕ) → n < length joints → (old new next : List (Option Value)) (noted more : List ℕ) → length old ≡ length net.joints → AreBlankOn joints old → IsFilledTo joints others n old new noted
-        → IsPut net rows (get_or joints n 0) new next noted more → mark_at net rows (giver_of net (get_or joints n 0)) ≡ F → IsFilledTo joints others (n + 1) old next more
-    flowed_more n n_in old new next noted more count blank far put flows =
-        let j : ℕ = get_or joints n 0 in
-        let j_in = ordered.in_range n n_in in
-        let done = put.flows (giver_flows net rows j j_in flows) in
-        let item : get_or next j None ≡ get_or others j None =
-        done.1 no_joint ∙ given_before new (far.count ∙ count) n n_in far.here flows ∙ sym (others_given j j_in flows) in
-        let some : get_or next j None ≢ None = λ e. others_some j j_in flows (sym item ∙ e) in
-        let longer : length more ≡ length noted + 1 = ap (λ (xs : List ℕ). length xs) done.0 ∙ length-append noted (j ∷ []) in
-        record {
-          count = put.count ∙ far.count;
-          here = λ m lt. elim (eq_cases m n) [
-            | inl e ↦ subst (λ (k : ℕ). get_or next (get_or joints k 0) None ≡ get_or others (get_or joints k 0) None) (sym e) item
-            | inr ne ↦ let earlier : m < n = omega (arith, lt, ne) in put.others (get_or joints m 0) (ordered.once m n earlier n_in) ∙ far.here m earlier
-          ];
-          rest = λ k h. put.others k (λ e. h n (omega arith) (sym e)) ∙ far.rest k (λ m lt. h m (omega arith));
-          held = record {
-            some = λ m lt. elim (lt_cases m (length noted)) [
-              | inl before ↦
-                  let at : get_or more m 0 ≡ get_or noted m 0 = ap (λ (xs : List ℕ). get_or xs m 0) done.0 ∙ before_end noted (j ∷ []) m before in
-                  let was = far.held.some m before in
-                  let apart : get_or noted m 0 ≢ j = λ e. was (ap (λ (k : ℕ). get_or new k None) e ∙ blank_yet n n_in old new noted blank far) in
-                  λ none. was (sym (put.others (get_or noted m 0) apart) ∙ ap (λ (k : ℕ). get_or next k None) (sym at) ∙ none)
-              | inr le ↦
-                  let last : m ≡ length noted = omega (arith, lt, le, longer) in
-                  let at : get_or more m 0 ≡ j = ap (λ (xs : List ℕ). get_or xs m 0) done.0 ∙ ap (λ (k : ℕ). get_or (noted ++ j ∷ []) k 0) last ∙ at_end noted j in
-                  λ none. some (ap (λ (k : ℕ). get_or next k None) (sym at) ∙ none)
-            ];
-            each = λ k there. elim (eq_cases k j) [
-              | inl e ↦ (length noted, omega (arith, longer), ap (λ (xs : List ℕ). get_or xs (length noted) 0) done.0 ∙ at_end noted j ∙ sym e)
-              | inr ne ↦
-                  let found = far.held.each k (λ none. there (put.others k ne ∙ none)) in
-                  (found.0, omega (arith, longer, found.1), ap (λ (xs : List ℕ). get_or xs found.0 0) done.0 ∙ before_end noted (j ∷ []) found.0 found.1 ∙ found.2)
-            ];
-          };
-        }
-      where
-        at_end : (xs : List ℕ) (x : ℕ) → get_or (xs ++ x ∷ []) (length xs) 0 ≡ x
-        at_end [] x = refl
-        at_end (y ∷ xs) x = at_end xs x
-
-    -- One joint more.
-    pub filled_more : (n : ℕ) → n < length joints → (old new next : List (Option Value)) (noted more : List ℕ) → length old ≡ length net.joints → AreBlankOn joints old → IsFilledTo joints others n old new noted
-        → IsPut net rows (get_or joints n 0) new next noted more → IsFilledTo joints others (n + 1) old next more
-    filled_more n n_in old new next noted more count blank far put = elim (flow_or_not (mark_at net rows (giver_of net (get_or joints n 0)))) [
-      | inl flows ↦ flowed_more n n_in old new next noted more count blank far put flows
-      | inr not ↦
+      -- One joint more that flows.
+      pub flowed_more : (n : ℕ) → n < length joints → (old new next : List (Option Value)) (noted more : List ℕ) → length old ≡ length net.joints → AreBlankOn net inside old → IsFilledTo joints others n old new noted
+          → IsPut net rows (get_or joints n 0) new next noted more → mark_at net rows (giver_of net (get_or joints n 0)) ≡ F → IsFilledTo joints others (n + 1) old next more
+      flowed_more n n_in old new next noted more count blank far put flows =
           let j : ℕ = get_or joints n 0 in
           let j_in = ordered.in_range n n_in in
-          let rests : GiverFlows net rows j → ⊥ = λ flows. not (flows no_joint) in
-          let same = put.still rests in
+          let item : get_or next j None ≡ get_or others j None =
+          put.item no_joint ∙ given_before new (far.count ∙ count) n n_in far.here flows ∙ sym (others_given j j_in flows) in
+          let some : get_or next j None ≢ None = λ e. others_some j j_in flows (sym item ∙ e) in
+          let longer : length more ≡ length noted + 1 = ap (λ (xs : List ℕ). length xs) put.noted_is ∙ length-append noted (j ∷ []) in
           record {
             count = put.count ∙ far.count;
             here = λ m lt. elim (eq_cases m n) [
-              | inl e ↦ subst (λ (k : ℕ). get_or next (get_or joints k 0) None ≡ get_or others (get_or joints k 0) None) (sym e)
-                  (ap (λ (xs : List (Option Value)). get_or xs j None) same.0 ∙ blank_yet n n_in old new noted blank far ∙ sym (others_none j j_in rests))
-              | inr ne ↦ ap (λ (xs : List (Option Value)). get_or xs (get_or joints m 0) None) same.0 ∙ far.here m (omega (arith, lt, ne))
+              | inl e ↦ subst (λ (k : ℕ). get_or next (get_or joints k 0) None ≡ get_or others (get_or joints k 0) None) (sym e) item
+              | inr ne ↦ let earlier : m < n = omega (arith, lt, ne) in put.others (get_or joints m 0) (ordered.once m n earlier n_in) ∙ far.here m earlier
             ];
-            rest = λ k h. ap (λ (xs : List (Option Value)). get_or xs k None) same.0 ∙ far.rest k (λ m lt. h m (omega arith));
-            held = subst (λ (ns : List ℕ). AreHeld next ns) (sym same.1) (subst (λ (xs : List (Option Value)). AreHeld xs noted) (sym same.0) far.held);
+            rest = λ k h. put.others k (λ e. h n (omega arith) (sym e)) ∙ far.rest k (λ m lt. h m (omega arith));
+            held = record {
+              some = λ m lt. elim (lt_cases m (length noted)) [
+                | inl before ↦
+                    let at : get_or more m 0 ≡ get_or noted m 0 = ap (λ (xs : List ℕ). get_or xs m 0) put.noted_is ∙ before_end noted (j ∷ []) m before in
+                    let was = far.held.some m before in
+                    let apart : get_or noted m 0 ≢ j = λ e. was (ap (λ (k : ℕ). get_or new k None) e ∙ blank_yet n n_in old new noted blank far) in
+                    λ none. was (sym (put.others (get_or noted m 0) apart) ∙ ap (λ (k : ℕ). get_or next k None) (sym at) ∙ none)
+                | inr le ↦
+                    let last : m ≡ length noted = omega (arith, lt, le, longer) in
+                    let at : get_or more m 0 ≡ j = ap (λ (xs : List ℕ). get_or xs m 0) put.noted_is ∙ ap (λ (k : ℕ). get_or (noted ++ j ∷ []) k 0) last ∙ at_end noted j in
+                    λ none. some (ap (λ (k : ℕ). get_or next k None) (sym at) ∙ none)
+              ];
+              each = λ k there. elim (eq_cases k j) [
+                | inl e ↦ (length noted, omega (arith, longer), ap (λ (xs : List ℕ). get_or xs (length noted) 0) put.noted_is ∙ at_end noted j ∙ sym e)
+                | inr ne ↦
+                    let found = far.held.each k (λ none. there (put.others k ne ∙ none)) in
+                    (found.0, omega (arith, longer, found.1), ap (λ (xs : List ℕ). get_or xs found.0 0) put.noted_is ∙ before_end noted (j ∷ []) found.0 found.1 ∙ found.2)
+              ];
+            };
           }
-    ]
+        where
+          at_end : (xs : List ℕ) (x : ℕ) → get_or (xs ++ x ∷ []) (length xs) 0 ≡ x
+          at_end [] x = refl
+          at_end (y ∷ xs) x = at_end xs x
 
-    -- All joints.
-    pub filled_all : (n : ℕ) → n ≡ length joints → (old new : List (Option Value)) (noted : List ℕ) → IsFilledTo joints others n old new noted → IsPartFilled joints others old new noted
-    filled_all n last old new noted far = record {
-      count = far.count;
-      here = λ m lt. far.here m (omega arith);
-      others = λ k not. far.rest k (λ m lt e. not (m, omega arith, get_or_default joints m k 0 (omega arith) ∙ e));
-      held = far.held;
-    }
+      -- One joint more that does not flow.
+      pub still_more : (n : ℕ) → n < length joints → (old new : List (Option Value)) (noted : List ℕ) → AreBlankOn net inside old → IsFilledTo joints others n old new noted
+          → mark_at net rows (giver_of net (get_or joints n 0)) ≢ F → IsFilledTo joints others (n + 1) old new noted
+      still_more n n_in old new noted blank far not = record {
+        count = far.count;
+        here = λ m lt. elim (eq_cases m n) [
+          | inl e ↦ subst (λ (k : ℕ). get_or new (get_or joints k 0) None ≡ get_or others (get_or joints k 0) None) (sym e)
+              (blank_yet n n_in old new noted blank far ∙ sym (others_none (get_or joints n 0) (ordered.in_range n n_in) (λ flows. not (flows no_joint))))
+          | inr ne ↦ far.here m (omega (arith, lt, ne))
+        ];
+        rest = λ k h. far.rest k (λ m lt. h m (omega arith));
+        held = far.held;
+      }
 
-    -- Where none of them flows nothing is to be put.
-    pub filled_still : (old : List (Option Value)) (noted : List ℕ) → AreBlankOn joints old → AreHeld old noted → NoneFlows net rows joints → IsPartFilled joints others old old noted
-    filled_still old noted blank held still = record {
-      count = refl;
-      here = λ m lt. blank m lt ∙ sym (others_none (get_or joints m 0) (ordered.in_range m lt) (still m lt));
-      others = λ k not. refl;
-      held = held;
-    }
+      -- All joints.
+      pub filled_all : (n : ℕ) → n ≡ length joints → (old new : List (Option Value)) (noted : List ℕ) → IsFilledTo joints others n old new noted → IsPartFilled net inside others old new noted
+      filled_all n last old new noted far = record {
+        count = far.count;
+        here = λ j h.
+            let place = (exact j).1 h in
+            let is : get_or joints place.0 0 ≡ j = get_or_default joints place.0 0 j place.1 ∙ place.2 in
+            subst (λ (k : ℕ). get_or new k None ≡ get_or others k None) is (far.here place.0 (omega (arith, last, place.1)));
+        others = λ k not. far.rest k (λ m lt e.
+            let m_in : m < length joints = omega (arith, last, lt) in
+            not (subst (IsJointIn net inside) e ((exact (get_or joints m 0)).0 (Contains-get_or joints m 0 m_in))));
+        held = far.held;
+      }
+
+-- The items at the first n of the joints of a set that flow.
+pub record IsFilledFar (net : Net) (inside : ℕ → Bool) (rows those : List ℕ) (n : ℕ) (others old new : List (Option Value)) (noted : List ℕ) : Type 0 where
+  pub joints : List ℕ
+  pub are : AreJointsOf net inside joints
+  pub place : ℕ
+  pub within : place ≤ length joints
+  pub left : filter (flows_by net rows) (drop place joints) ≡ drop n those
+  pub far : IsFilledTo joints others place old new noted
+
+some_flow : (m : Mark) → is_flow m ≡ true → m ≡ F
+some_flow F h = refl
+some_flow G h = absurd cc
+some_flow R h = absurd cc
+some_flow J h = absurd cc
+
+no_flow : (m : Mark) → is_flow m ≡ false → m ≢ F
+no_flow F h e = absurd cc
+no_flow G h e = cc
+no_flow R h e = cc
+no_flow J h e = cc
+
+-- None so far.
+pub far_none : (net : Net) → IsWired net → (inside : ℕ → Bool) → IsClosed net inside → (rows those : List ℕ) → AreFlowingOf net inside rows those → (others old : List (Option Value)) (noted : List ℕ) → AreHeld old noted
+    → IsFilledFar net inside rows those 0 others old old noted
+far_none net wired inside closed rows those of others old noted held = record {
+  joints = joints_in net inside of.all;
+  are = joints_of_set net wired of.all of.is_order inside closed;
+  place = 0;
+  within = omega arith;
+  left = sym of.those;
+  far = record { count = refl; here = λ m lt. absurd (omega arith); rest = λ k h. refl; held = held };
+}
+
+module _ (net : Net) (wired : IsWired net) (rows : List ℕ) (others : List (Option Value)) (is : IsColouring net rows others) (table : List (List ℕ)) (ends : AreEnds net table)
+    (inside : ℕ → Bool) (those : List ℕ) (old : List (Option Value)) (size : length old ≡ length net.joints) (blank : AreBlankOn net inside old) where
+  -- What does not flow is passed over.
+  passed_over : (joints : List ℕ) (are : AreJointsOf net inside joints) (new : List (Option Value)) (noted : List ℕ) (n : ℕ) → n < length joints → flows_by net rows (get_or joints n 0) ≡ false
+      → IsFilledTo joints others n old new noted → IsFilledTo joints others (n + 1) old new noted
+  passed_over joints are new noted n lt not far =
+      still_more net wired rows others is table ends joints are.in_order inside are.exact n lt old new noted blank far (no_flow (mark_at net rows (giver_of net (get_or joints n 0))) not)
+
+  -- One more of them.
+  pub far_more : (n : ℕ) → n < length those → (new next : List (Option Value)) (noted more : List ℕ) → IsFilledFar net inside rows those n others old new noted
+      → IsPut net rows (get_or those n 0) new next noted more → IsFilledFar net inside rows those (n + 1) others old next more
+  far_more n lt new next noted more so put =
+      let x : ℕ = get_or those n 0 in
+      let at = next_from (flows_by net rows) so.joints (λ (m : ℕ). IsFilledTo so.joints others m old new noted) (passed_over so.joints so.are new noted)
+      (length so.joints - so.place) so.place (omega (arith, so.within)) x (drop (suc n) those) (so.left ∙ drop-cons those n 0 lt) so.far in
+      let one_more : suc n ≡ n + 1 = omega arith in
+      let here : IsPut net rows (get_or so.joints at.place 0) new next noted more = subst (λ (j : ℕ). IsPut net rows j new next noted more) (sym at.here) put in
+      let flows = some_flow (mark_at net rows (giver_of net (get_or so.joints at.place 0))) (ap (flows_by net rows) at.here ∙ at.passes) in
+      record {
+        joints = so.joints;
+        are = so.are;
+        place = at.place + 1;
+        within = omega (arith, at.in_range);
+        left = at.left ∙ ap (λ (k : ℕ). drop k those) one_more;
+        far = flowed_more net wired rows others is table ends so.joints so.are.in_order inside so.are.exact at.place at.in_range old new next noted more size blank at.far here flows;
+      }
+
+  -- All of them.
+  pub far_all : (n : ℕ) → n ≡ length those → (new : List (Option Value)) (noted : List ℕ) → IsFilledFar net inside rows those n others old new noted → IsPartFilled net inside others old new noted
+  far_all n last new noted so =
+      let end = end_from (flows_by net rows) so.joints (λ (m : ℕ). IsFilledTo so.joints others m old new noted) (passed_over so.joints so.are new noted)
+      (length so.joints - so.place) so.place (omega (arith, so.within)) (so.left ∙ drop_all n those (omega (arith, last))) so.far in
+      filled_all net wired rows others is table ends so.joints so.are.in_order inside so.are.exact (length so.joints) refl old new noted end
+
+-- Each joint that is given flows.
+module _ (net : Net) (inside : ℕ → Bool) (rows those : List ℕ) (of : AreFlowingOf net inside rows those) where
+  passes : (m : ℕ) → m < length those → flows_by net rows (get_or those m 0) ≡ true
+  passes m lt = All-get_or (λ (j : ℕ). flows_by net rows j ≡ true) those m 0 lt (subst (All (λ (j : ℕ). flows_by net rows j ≡ true)) (sym of.those) (filter_passes (flows_by net rows) (joints_in net inside of.all)))
+
+  pub those_in : (m : ℕ) → m < length those → get_or those m 0 < length net.joints
+  those_in m lt = All-get_or (λ (j : ℕ). j < length net.joints) those m 0 lt (subst (All (λ (j : ℕ). j < length net.joints)) (sym of.those)
+      (All-filter (flows_by net rows) (λ (j : ℕ). j < length net.joints) (joints_in net inside of.all) (All-filter (λ (j : ℕ). inside (side_at net (giver_of net j))) (λ (j : ℕ). j < length net.joints) of.all (all_in))))
+    where
+      all_in : All (λ (j : ℕ). j < length net.joints) of.all
+      all_in = All-from_get_or (λ (j : ℕ). j < length net.joints) of.all 0 (place_in net of.all of.is_order)
+
+  pub those_flow : (m : ℕ) → m < length those → GiverFlows net rows (get_or those m 0)
+  those_flow m lt = giver_flows net rows (get_or those m 0) (those_in m lt) (some_flow (mark_at net rows (giver_of net (get_or those m 0))) (passes m lt))

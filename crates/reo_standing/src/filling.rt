@@ -1,24 +1,24 @@
 //! The items at the joints of the parts in which something flows.
-ghost use Rattle.std.specs.Prelude.{◌≡◌, ◌<◌, OnOk, List as Items, Option, false, length};
+ghost use Rattle.std.specs.Prelude.{◌≡◌, ◌<◌, ℕ, true, OnOk, List as Items, Option, length, slice_index};
 ghost use Rattle.reo_values.specs.declared.value.Value.{Value as Item};
 ghost use Rattle.reo_net_base.specs.Colouring.{IsColouring};
 ghost use Rattle.reo_net_base.specs.Net.{net_of};
 ghost use Rattle.reo_net_base.specs.Sides.{AreRowsOf};
 ghost use Rattle.reo_net_ends.specs.Ends.{AreEnds};
-ghost use Rattle.reo_reach.specs.InOrder.{AreInOrder};
-ghost use Rattle.reo_knots.specs.Knots.{AreKnots, knot_count};
-ghost use Rattle.reo_kept_tables.specs.Orders.{AreOrders};
-ghost use Rattle.reo_standing.specs.Filling.{AreBlank, AreBlankOn, AreFilled, AreHeld, AreStillElse, HaveColouring, IsPartFilled, IsPut, NoneFlows};
+ghost use Rattle.reo_knots.specs.Knots.{AreKnots, in_knot, knot_count};
+ghost use Rattle.reo_flowing.specs.Flowing.{AreFlowingIn, AreFlowingOf};
+ghost use Rattle.reo_stepping.specs.Flowing.{GiverFlows};
+ghost use Rattle.reo_standing.specs.Filling.{AreBlank, AreBlankOn, AreFilled, AreHeld, HaveColouring, IsPartFilled, IsPut};
 
 use crate::giving::given_at;
 use reo_knots::Knots;
-use reo_net_base::{Mark, Primitive};
+use reo_net_base::Primitive;
 use reo_net_circuit::Circuit;
 use reo_net_ends::Ends;
 use reo_values::{List, NoMemory, Value};
 use std::alloc::Global;
 
-/// Puts the item at a joint, if it flows, and notes the joint then.
+/// Puts the item at a joint that flows, and notes the joint.
 fn put_item<P: Primitive>(
     alloc: Global,
     circuit: &Circuit<P>,
@@ -31,42 +31,48 @@ fn put_item<P: Primitive>(
     requires ends { AreEnds (net_of P.behaviour circuit.now) ends.now }
     requires rows { AreRowsOf (net_of P.behaviour circuit.now) rows.now }
     requires joint { joint < length circuit.now.joints }
+    requires flows { GiverFlows (net_of P.behaviour circuit.now) rows.now joint }
     requires items { length items.old ≡ length circuit.now.joints }
     ensures { let net = net_of P.behaviour circuit.now in
         OnOk result (IsPut net rows.now joint items.old items.new flowing.old flowing.new) }
 {
     circuit.known();
     let giver = circuit.joint(joint).giver;
-    if let Mark::F = circuit.mark_at(rows, giver) {
-        let item = given_at(alloc, circuit, ends, rows, items.as_slice(), giver)?;
-        *items.at_mut(joint) = item;
-        flowing.push(joint)?;
-    }
-    Ok(())
+    let item = given_at(alloc, circuit, ends, rows, items.as_slice(), giver)?;
+    *items.at_mut(joint) = item;
+    flowing.push(joint)
 }
 
-/// Puts the items at the joints of a part, each behind those that feed it, and notes the joints
-/// that flow.
+/// Puts the items at the joints of a part that flow, each behind those that feed it, and notes
+/// them.
 fn fill_part<P: Primitive>(
     alloc: Global,
     circuit: &Circuit<P>,
+    knots: &Knots,
     ends: &Ends,
     rows: &[u32],
+    part: usize,
     joints: &[usize],
     items: &mut List<Option<Value>>,
     flowing: &mut List<usize>,
 ) -> Result<(), NoMemory>
+    requires knots { AreKnots (net_of P.behaviour circuit.now) knots.now }
     requires ends { AreEnds (net_of P.behaviour circuit.now) ends.now }
     requires rows { AreRowsOf (net_of P.behaviour circuit.now) rows.now }
+    requires part { part < knot_count knots.now }
+    requires joints { AreFlowingOf
+        (net_of P.behaviour circuit.now) (in_knot knots.now.numbers part) rows.now joints.now }
     requires items { length items.old ≡ length circuit.now.joints }
-    requires joints { AreInOrder (net_of P.behaviour circuit.now) joints.now }
     requires coloured { HaveColouring (net_of P.behaviour circuit.now) rows.now }
-    requires blank { AreBlankOn joints.now items.old }
+    requires blank { AreBlankOn
+        (net_of P.behaviour circuit.now) (in_knot knots.now.numbers part) items.old }
     requires held { AreHeld items.old flowing.old }
-    ensures { let net = net_of P.behaviour circuit.now in (others : Items (Option Item))
+    ensures { let net = net_of P.behaviour circuit.now in
+        let inside = in_knot knots.now.numbers part in (others : Items (Option Item))
         → IsColouring net rows.now others
-        → OnOk result (IsPartFilled joints.now others items.old items.new flowing.new) }
+        → OnOk result (IsPartFilled net inside others items.old items.new flowing.new) }
 {
+    let _ = knots;
     circuit.known();
     for index in 0..joints.len() {
         put_item(alloc, circuit, ends, rows, joints[index], items, flowing)?;
@@ -74,55 +80,22 @@ fn fill_part<P: Primitive>(
     Ok(())
 }
 
-/// Puts the items at the joints of a part, if it is marked.
-fn fill_if<P: Primitive>(
-    alloc: Global,
-    circuit: &Circuit<P>,
-    ends: &Ends,
-    rows: &[u32],
-    joints: &[usize],
-    marked: bool,
-    items: &mut List<Option<Value>>,
-    flowing: &mut List<usize>,
-) -> Result<(), NoMemory>
-    requires ends { AreEnds (net_of P.behaviour circuit.now) ends.now }
-    requires rows { AreRowsOf (net_of P.behaviour circuit.now) rows.now }
-    requires items { length items.old ≡ length circuit.now.joints }
-    requires joints { AreInOrder (net_of P.behaviour circuit.now) joints.now }
-    requires coloured { HaveColouring (net_of P.behaviour circuit.now) rows.now }
-    requires blank { AreBlankOn joints.now items.old }
-    requires still { marked ≡ false
-        → NoneFlows (net_of P.behaviour circuit.now) rows.now joints.now }
-    requires held { AreHeld items.old flowing.old }
-    ensures { let net = net_of P.behaviour circuit.now in (others : Items (Option Item))
-        → IsColouring net rows.now others
-        → OnOk result (IsPartFilled joints.now others items.old items.new flowing.new) }
-{
-    circuit.known();
-    if !marked {
-        return Ok(());
-    }
-    fill_part(alloc, circuit, ends, rows, joints, items, flowing)
-}
-
-/// Puts the items at the joints of the parts that are marked. In all others nothing flows.
+/// Puts the items at the joints of all parts that flow, which are given for each part.
 pub(crate) fn fill<P: Primitive>(
     alloc: Global,
     circuit: &Circuit<P>,
     knots: &Knots,
     ends: &Ends,
-    orders: &List<List<usize>>,
     rows: &[u32],
-    marked: &[bool],
+    lists: &List<List<usize>>,
     items: &mut List<Option<Value>>,
     flowing: &mut List<usize>,
 ) -> Result<(), NoMemory>
     requires knots { AreKnots (net_of P.behaviour circuit.now) knots.now }
     requires ends { AreEnds (net_of P.behaviour circuit.now) ends.now }
-    requires orders { AreOrders (net_of P.behaviour circuit.now) knots.now orders.now }
     requires rows { AreRowsOf (net_of P.behaviour circuit.now) rows.now }
-    requires one_each { length marked.now ≡ knot_count knots.now }
-    requires still { AreStillElse (net_of P.behaviour circuit.now) knots.now rows.now marked.now }
+    requires lists { AreFlowingIn
+        (net_of P.behaviour circuit.now) knots.now rows.now (λ _. true) lists.now }
     requires coloured { HaveColouring (net_of P.behaviour circuit.now) rows.now }
     requires blank { AreBlank (length circuit.now.joints) items.old }
     requires held { AreHeld items.old flowing.old }
@@ -132,16 +105,9 @@ pub(crate) fn fill<P: Primitive>(
 {
     circuit.known();
     for part in 0..knots.count() {
-        let joints = orders.at(part).as_slice();
-        fill_if(
-            alloc,
-            circuit,
-            ends,
-            rows,
-            joints,
-            marked[part],
-            items,
-            flowing,
+        let joints = lists.at(part).as_slice();
+        fill_part(
+            alloc, circuit, knots, ends, rows, part, joints, items, flowing,
         )?;
     }
     Ok(())

@@ -1,10 +1,10 @@
 //! What stands for a round.
-ghost use Rattle.std.specs.Prelude.{◌≡◌, None, IfOk, length, set};
+ghost use Rattle.std.specs.Prelude.{◌≡◌, None, true, IfOk, length, set};
 ghost use Rattle.reo_net_base.specs.Net.{net_of};
 ghost use Rattle.reo_net_ends.specs.Ends.{AreEnds};
-ghost use Rattle.reo_knots.specs.Knots.{AreKnots, knot_count};
-ghost use Rattle.reo_kept_tables.specs.Orders.{AreOrders};
-ghost use Rattle.reo_standing.specs.Filling.{AreBlank, AreHeldAmong, AreStillElse};
+ghost use Rattle.reo_knots.specs.Knots.{AreKnots};
+ghost use Rattle.reo_flowing.specs.Flowing.{AreFlowingIn};
+ghost use Rattle.reo_standing.specs.Filling.{AreBlank, AreHeldAmong};
 ghost use Rattle.reo_standing.specs.Standing.{HaveFirstItems, Stands};
 
 use crate::filling::fill;
@@ -47,24 +47,21 @@ pub fn blank(alloc: Global, joints: usize) -> Result<List<Option<Value>>, NoMemo
 }
 
 /// What stands for the round of a number, written into a sheet whose rows are those of its first
-/// colouring. In the parts that are not marked nothing flows. `NoMemory` is out of memory.
+/// colouring. For each part the joints are given that flow in it. `NoMemory` is out of memory.
 pub fn stand<P: Primitive>(
     alloc: Global,
     circuit: &Circuit<P>,
     knots: &Knots,
     ends: &Ends,
-    orders: &List<List<usize>>,
-    marked: &[bool],
+    lists: &List<List<usize>>,
     turn: u64,
     sheet: Sheet,
 ) -> Result<Standing, NoMemory>
     requires knots { AreKnots (net_of P.behaviour circuit.now) knots.now }
     requires ends { AreEnds (net_of P.behaviour circuit.now) ends.now }
-    requires orders { AreOrders (net_of P.behaviour circuit.now) knots.now orders.now }
     requires first { HaveFirstItems (net_of P.behaviour circuit.now) turn sheet.rows }
-    requires one_each { length marked.now ≡ knot_count knots.now }
-    requires still { AreStillElse
-        (net_of P.behaviour circuit.now) knots.now sheet.rows marked.now }
+    requires lists { AreFlowingIn
+        (net_of P.behaviour circuit.now) knots.now sheet.rows (λ _. true) lists.now }
     requires items { AreBlank (length circuit.now.joints) sheet.items }
     ensures stands { let net = net_of P.behaviour circuit.now in
         IfOk result (Stands net circuit.now.ports turn) }
@@ -82,9 +79,8 @@ pub fn stand<P: Primitive>(
         circuit,
         knots,
         ends,
-        orders,
         rows.as_slice(),
-        marked,
+        lists,
         &mut items,
         &mut flowing,
     )?;

@@ -2,14 +2,8 @@ use Rattle.std.proofs.Common.{subst}
 use Rattle.reo_net_base.specs.declared.joint.Joint.{Joint}
 use Rattle.reo_net_base.specs.Ends.{IsGiver}
 use Rattle.reo_net_base.specs.Net.{Net, net_of}
-use Rattle.reo_net_base.specs.Wired.{IsEnd}
 use Rattle.reo_joint_values.specs.Standing.{no_joint}
 use Rattle.reo_standing.proofs.filling.put_item.Goals as goal
-
-pub mark_at-requires-clause-end : goal.mark_at-requires-clause-end
-mark_at-requires-clause-end g c =
-    let net : Net = net_of g.P.Primitive.behaviour c.args.circuit.now in
-    subst (λ (j : Joint). IsEnd net.primitives j.giver) (c.joint.ensures no_joint) (c.known.ensures.wired.givers c.args.joint no_joint c.requires.joint)
 
 pub given_at-requires-clause-giver : goal.given_at-requires-clause-giver
 given_at-requires-clause-giver g c =

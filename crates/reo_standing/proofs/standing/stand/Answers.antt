@@ -37,3 +37,6 @@ returns-clause-stands g c =
       flowing = held_flow net c.known.ensures.wired c.args.sheet.rows c.fill.new.items is.colouring c.fill.new.flowing filled.held;
       line = λ t. record { round = c.args.turn; idle = idle t; moves = moves t; entries = c.new.ensures t };
     }
+
+pub fill-requires-clause-lists : goal.fill-requires-clause-lists
+fill-requires-clause-lists g c = rw c.as_slice.ensures c.requires.lists

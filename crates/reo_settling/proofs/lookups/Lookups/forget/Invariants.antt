@@ -7,6 +7,8 @@ use Rattle.reo_settling.proofs.lookups.Lookups.forget.Given as goal
 abbrev pub invariant-loop-part : goal.invariant-loop-part
 invariant-loop-part l = record {
   orders : l.self.orders ≡ l.initial.self.orders;
+  flowing : l.self.flowing ≡ l.initial.self.flowing;
+  told : l.self.told ≡ l.initial.self.told;
   tables : l.self.tables ≡ l.initial.self.tables;
   bounds : l.self.bounds ≡ l.initial.self.bounds;
   plans : l.self.plans ≡ l.initial.self.plans;

@@ -14,23 +14,3 @@ most_choices-found-requires-clause-joints g c = λ j.
     let of : AreJointsOf net (in_knot c.args.knots.now.numbers c.args.part) c.as_slice-joints.result.now =
     subst (AreJointsOf net (in_knot c.args.knots.now.numbers c.args.part)) (sym here) (orders_are_of_parts net c.known.ensures.wired c.args.knots.now c.requires.knots c.args.self.now.orders c.requires.steady.orders c.args.part c.requires.part) in
     of.exact j
-
-pub returns-in_err-remember-clause-steady : goal.returns-in_err-remember-clause-steady
-returns-in_err-remember-clause-steady g c = record {
-  orders = c.search_bounded.ensures.steady.orders;
-  one_each = c.search_bounded.ensures.steady.one_each;
-  tables = c.search_bounded.ensures.steady.tables;
-  bounds = c.search_bounded.ensures.steady.bounds;
-  plans = c.remember.ensures.plans;
-  marks = c.search_bounded.ensures.steady.marks;
-}
-
-pub returns-clause-steady : goal.returns-clause-steady
-returns-clause-steady g c = record {
-  orders = c.search_bounded.ensures.steady.orders;
-  one_each = c.search_bounded.ensures.steady.one_each;
-  tables = c.search_bounded.ensures.steady.tables;
-  bounds = c.search_bounded.ensures.steady.bounds;
-  plans = c.remember.ensures.plans;
-  marks = c.search_bounded.ensures.steady.marks;
-}

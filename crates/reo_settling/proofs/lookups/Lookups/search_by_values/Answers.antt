@@ -8,6 +8,7 @@ returns-clause-steady g c =
     let net : Net = net_of g.P.Primitive.behaviour c.args.circuit.now in
     record {
       orders = c.requires.steady.orders;
+      one_list = c.requires.steady.one_list;
       one_each = c.mark_all.ensures ∙ c.requires.steady.one_each;
       tables = ready_may_stay net c.args.knots.now c.args.ends.now c.mark_all.new.marks c.search_part.new.tables c.in_ok-search_part.ensures.tables;
       bounds = c.requires.steady.bounds;

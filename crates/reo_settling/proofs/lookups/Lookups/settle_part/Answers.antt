@@ -1,6 +1,7 @@
-use Rattle.std.proofs.Common.{◌∙◌, ◌+◌, ◌≤◌, Bool, cond, sym, subst}
+use Rattle.std.proofs.Common.{◌≡◌, ◌∙◌, ◌+◌, ◌≤◌, Bool, cond, sym, subst}
 use Rattle.reo_net_base.specs.Net.{Net, net_of}
 use Rattle.reo_planning.proofs.Parting.{served}
+use Rattle.reo_settling.proofs.Listed.{first_in_tables}
 use Rattle.reo_settling.proofs.lookups.Lookups.settle_part.Goals as goal
 
 pub returns-then-serves-clause-exact : goal.returns-then-serves-clause-exact
@@ -8,6 +9,12 @@ returns-then-serves-clause-exact g c =
     let net : Net = net_of g.P.Primitive.behaviour c.args.circuit.now in
     served c.args.budget net c.args.knots.now c.requires.knots c.args.turn c.args.part c.requires.part c.args.kept.now c.args.rows.now c.requires.kept (sym c.serves.ensures ∙ c.if-serves.true) c.requires.here
 
+pub list_served-requires-clause-rows : goal.list_served-requires-clause-rows
+list_served-requires-clause-rows g c =
+    let net : Net = net_of g.P.Primitive.behaviour c.args.circuit.now in
+    let planned = served c.args.budget net c.args.knots.now c.requires.knots c.args.turn c.args.part c.requires.part c.args.kept.now c.args.rows.now c.requires.kept (sym c.serves.ensures ∙ c.if-serves.true) c.requires.here in
+    rw c.as_slice.ensures (first_in_tables net c.args.knots.now c.args.turn c.args.part c.args.rows.now c.requires.rows planned.first)
+
 pub returns-clause-ticks : goal.returns-clause-ticks
 returns-clause-ticks g c = λ w is.
-    subst (λ (t : Bool). c.search.new.steps ≤ c.args.steps.now + cond t 0 w) (sym c.if-serves.false ∙ c.serves.ensures) (c.search.ensures.ticks w is)
+    subst (λ (t : Bool). c.find.new.steps ≤ c.args.steps.now + cond t 0 w) (sym c.if-serves.false ∙ c.serves.ensures) (c.find.ensures.ticks w is)
