@@ -1,8 +1,11 @@
 -- Cells of which the first so many are brought.
-use Rattle.std.proofs.Common.{◌≡◌, ◌≢◌, ◌∙◌, inl, inr, ℕ, ◌+◌, ◌<◌, List, length, get_or, set, ap, sym, refl, arith}
+use Rattle.std.proofs.Common.{◌≡◌, ◌≢◌, ◌∙◌, inl, inr, ℕ, ◌+◌, ◌<◌, Bool, false, List, length, get_or, set, ap, sym, refl, arith}
 use Rattle.std.proofs.lemmas.Bool.{cases_eq}
 use Rattle.std.proofs.lemmas.List.{get_or-set_other, get_or-set_same}
+use Rattle.std.specs.Prelude.{if◌then◌else◌}
 use Rattle.reo_net_base.specs.Net.{Net}
+use Rattle.reo_net_laws.specs.Jams.{jams}
+use Rattle.reo_cells.specs.Texts.{jam_code}
 use Rattle.reo_cells.specs.declared.cells.Cells.{Cells}
 use Rattle.reo_cells.specs.Cells.{AreBrought, IsShown, code_at}
 
@@ -52,3 +55,7 @@ all_brought net rows sides n old new e far = record {
   stay = far.stay;
   others = λ s none. far.others s (λ m lt. none m (omega (arith, e, lt)));
 }
+
+-- The code of a cell of a side that has no jam row.
+pub plain_code : (net : Net) (rows : List ℕ) (s : ℕ) → jams net rows s ≡ false → get_or rows s 0 ≡ code_at net rows s
+plain_code net rows s calm = ap (λ (t : Bool). if t then jam_code else get_or rows s 0) (sym calm)

@@ -1,7 +1,8 @@
 //! Cells become those of other rows.
-ghost use Rattle.std.specs.Prelude.{◌≡◌, ◌<◌, ℕ, length, set, slice_index};
+ghost use Rattle.std.specs.Prelude.{◌≡◌, ◌<◌, ℕ, false, length, set, slice_index};
 ghost use Rattle.reo_net_base.specs.Net.{Net, net_of};
 ghost use Rattle.reo_net_base.specs.Sides.{AreRowsOf, side_count};
+ghost use Rattle.reo_net_laws.specs.Jams.{jams};
 ghost use Rattle.reo_cells.specs.Cells.{AreBrought, AreCells};
 
 use crate::Cells;
@@ -41,6 +42,26 @@ impl Cells {
         for index in 0..sides.len() {
             let side = sides[index];
             self.show(side, code_of(circuit, rows, side));
+        }
+    }
+
+    /// The cells of these sides, none of which has its jam row, become those of these rows. A cell
+    /// that is as it was costs no more than a look. This takes no memory.
+    pub fn bring_plain<P: Primitive>(&mut self, circuit: &Circuit<P>, rows: &[u32], sides: &[usize])
+        requires cells { AreCells (net_of P.behaviour circuit.now) self.old }
+        requires rows { AreRowsOf (net_of P.behaviour circuit.now) rows.now }
+        requires sides { let net = net_of P.behaviour circuit.now in
+            (m : ℕ) → m < length sides.now → slice_index sides.now m < side_count net }
+        requires plain { let net = net_of P.behaviour circuit.now in (m : ℕ)
+            → m < length sides.now → jams net rows.now (slice_index sides.now m) ≡ false }
+        ensures cells { AreCells (net_of P.behaviour circuit.now) self.new }
+        ensures brought { AreBrought (net_of P.behaviour circuit.now) rows.now sides.now
+            self.old self.new }
+    {
+        let _ = circuit;
+        for index in 0..sides.len() {
+            let side = sides[index];
+            self.show(side, rows[side]);
         }
     }
 }
