@@ -15,6 +15,8 @@ use Rattle.reo_net_base.specs.Wired.{IsWired, IsOrder}
 use Rattle.reo_net_base.specs.Colouring.{IsColouring, RowsFit}
 use Rattle.reo_net_circuit.proofs.Cases.{eq_cases, lt_cases}
 use Rattle.reo_net_circuit.proofs.ReshapeLemmas.{first_same}
+use Rattle.reo_net_laws.specs.Jams.{jams}
+use Rattle.reo_net_laws.proofs.Jams.{jams_whole}
 use Rattle.reo_net_laws.proofs.OneFirst.{one_inside}
 use Rattle.reo_net_laws.proofs.Sets.{and_right}
 use Rattle.reo_net_laws.proofs.Sides.{Owner, owner_of, owner_side, side_in_range}
@@ -23,7 +25,7 @@ use Rattle.reo_cells.specs.Cells.{AreBrought, AreCells, AreShown, IsShown, code_
 use Rattle.reo_cells.specs.Texts.{jam_code}
 use Rattle.reo_cells.proofs.Laid.{cells_same}
 use Rattle.reo_knots.specs.Knots.{Knotted, AreKnots, in_knot, knot_count}
-use Rattle.reo_still.specs.Still.{IsStill}
+use Rattle.reo_flowing.specs.Flowing.{AreFlowingIn}
 use Rattle.reo_still.proofs.Together.{parts_make_first}
 use Rattle.reo_mark_search.proofs.Parts.{side_here, side_listed}
 use Rattle.reo_weights.proofs.CauseLemmas.{within_not_over}
@@ -39,7 +41,7 @@ use Rattle.reo_stepping.specs.Clearing.{ComesNoItem}
 use Rattle.reo_stepping.specs.Changes.{AreThoseThatFlowed}
 use Rattle.reo_stepping.specs.Flowing.{AreFlowing}
 use Rattle.reo_stepping.proofs.Marking.{beside_flows, flows_beside}
-use Rattle.reo_standing.specs.Filling.{AreHeldAmong, AreStillElse}
+use Rattle.reo_standing.specs.Filling.{AreHeldAmong, HaveColouring}
 use Rattle.reo_standing.proofs.Putting.{flow_or_not, giver_flows, others_none}
 use Rattle.reo_standing.specs.Standing.{HaveFirstItems}
 use Rattle.reo_engine.specs.declared.flows.Flows.{Flows}
@@ -84,25 +86,10 @@ pub flows_stay : (net other : Net) (knots : Knotted) (old new : Kept) → AreFew
     → (flows : Flows) → AreFlows net knots old flows → AreFlows other knots new flows
 flows_stay net other knots old new fewer is flows are = record {
   blank = subst (λ (js : List Joint). MayBeBlank (length js) flows.blank) (sym is.joints) are.blank;
-  calm = λ c k settled. ap (λ (xs : List Bool). get_or xs k true) fewer.moving ∙ are.calm c k (fewer.fewer k settled);
   one_each = are.one_each;
   cells = cells_same net other is.shapes flows.cells are.cells;
   shown = λ h. shown_stay net other knots old new fewer is flows.cells (are.shown h);
 }
-
--- The mark of an end by the row of its side.
-mark_by : (net : Net) (rows : List ℕ) (e : End)
-    → mark_at net rows e ≡ (behaviour_at net.primitives e.primitive).mark ((behaviour_at net.primitives e.primitive).side_of e.end) (get_or rows (side_at net e) 0) e.end
-unfolding mark_at row_at
-mark_by net rows e = ap (mark_at net rows) (λ i. e)
-
--- Nothing flows by rows that are the same in a set.
-still_by_same : (net : Net) → IsWired net → (inside : ℕ → Bool) (rows others : List ℕ) → ((s : ℕ) → s < side_count net → inside s ≡ true → get_or others s 0 ≡ get_or rows s 0)
-    → IsStill net inside rows → IsStill net inside others
-still_by_same net wired inside rows others same still e e_in h flows =
-    let row : get_or others (side_at net e) 0 ≡ get_or rows (side_at net e) 0 = same (side_at net e) (side_in_range net wired e e_in) h in
-    let b : Behaviour = behaviour_at net.primitives e.primitive in
-    still e e_in h (mark_by net rows e ∙ ap (λ (r : ℕ). b.mark (b.side_of e.end) r e.end) (sym row) ∙ sym (mark_by net others e) ∙ flows)
 
 not_false : (b : Bool) → not b ≡ false → b ≡ true
 not_false true h = λ i. true
@@ -126,7 +113,7 @@ in_own net knots are s k s_in is =
 -- Rows that come in place of those that were kept, all parts settled.
 module _ (net : Net) (wired : IsWired net) (order : List ℕ) (is_order : IsOrder net order) (knots : Knotted) (are : AreKnots net knots) (turn : ℕ) (old new : Kept)
     (was : IsKept net knots turn old) (is : IsKept net knots turn new) (settled : (k : ℕ) → k < knot_count knots → is_settled new k ≡ true)
-    (flows : Flows) (of : AreFlows net knots old flows) (marked : List Bool) (marks : AreMarked (flows.calm && flows.shown) old (knot_count knots) marked) where
+    (flows : Flows) (of : AreFlows net knots old flows) (marked : List Bool) (marks : AreMarked flows.shown old (knot_count knots) marked) where
   -- In a part that was settled they are the same.
   rows_same : (k : ℕ) → k < knot_count knots → is_settled old k ≡ true → (s : ℕ) → s < side_count net → in_knot knots.numbers k s ≡ true → get_or new.rows s 0 ≡ get_or old.rows s 0
   rows_same k lt there s s_in h =
@@ -135,21 +122,11 @@ module _ (net : Net) (wired : IsWired net) (order : List ℕ) (is_order : IsOrde
       let one = one_inside net wired order is_order (in_knot knots.numbers k) (are.are_knots k lt).closed turn before.first.others now.first.others before.first.items now.first.items before.first.first now.first.first in
       now.first.same s s_in h ∙ sym (one.rows s s_in h) ∙ sym (before.first.same s s_in h)
 
-  -- A part that is not marked was settled, without flow, and shown.
-  not_marked : (k : ℕ) → k < knot_count knots → get_or marked k true ≡ false → (flows.calm ≡ true) × (flows.shown ≡ true) × (is_settled old k ≡ true)
+  -- A part that is not marked was settled, and shown.
+  not_marked : (k : ℕ) → k < knot_count knots → get_or marked k true ≡ false → (flows.shown ≡ true) × (is_settled old k ≡ true)
   not_marked k lt h =
-      let both : ((flows.calm && flows.shown) && is_settled old k) ≡ true = not_false ((flows.calm && flows.shown) && is_settled old k) (sym (marks.each k lt) ∙ h) in
-      let first : (flows.calm && flows.shown) ≡ true = left_of (flows.calm && flows.shown) (is_settled old k) both in (
-        left_of flows.calm flows.shown first,
-        right_of flows.calm flows.shown first,
-        right_of (flows.calm && flows.shown) (is_settled old k) both,
-      )
-
-  -- In the parts that are not marked nothing flows by them either.
-  pub still_else : AreStillElse net knots new.rows marked
-  still_else k lt h =
-      let was_so = not_marked k lt h in
-      still_by_same net wired (in_knot knots.numbers k) old.rows new.rows (rows_same k lt was_so.2) ((was.known k lt was_so.2).still (of.calm was_so.0 k was_so.2))
+      let both : (flows.shown && is_settled old k) ≡ true = not_false (flows.shown && is_settled old k) (sym (marks.each k lt) ∙ h) in
+      (left_of flows.shown (is_settled old k) both, right_of flows.shown (is_settled old k) both)
 
   -- They are shown at each side, once those that are marked are.
   pub all_shown : (now : Cells) → AreShownAt net knots new.rows marked (knot_count knots) flows.cells now → AreShown net new.rows now
@@ -160,8 +137,8 @@ module _ (net : Net) (wired : IsWired net) (order : List ℕ) (is_order : IsOrde
         | inl marks_it ↦ at.here s s_in lt marks_it
         | inr unmarked ↦
             let was_so = not_marked k lt unmarked in
-            let row = rows_same k lt was_so.2 s s_in (in_own net knots are s k s_in refl) in
-            code_kept net old.rows new.rows s (get_or flows.cells.shown s 0) (get_or now.shown s 0) row (at.others s s_in unmarked) (of.shown was_so.1 s s_in was_so.2)
+            let row = rows_same k lt was_so.1 s s_in (in_own net knots are s k s_in refl) in
+            code_kept net old.rows new.rows s (get_or flows.cells.shown s 0) (get_or now.shown s 0) row (at.others s s_in unmarked) (of.shown was_so.0 s s_in was_so.1)
       ]
     where
       yes_or_no : (b : Bool) → (b ≡ true) ⊎ (b ≡ false)
@@ -203,26 +180,30 @@ pub served_settled : (kept : Kept) (budget count : ℕ) → AllServe count budge
 served_settled kept budget count all k lt = and_right (nat_le kept.budget budget) (is_settled kept k) (all k lt)
 
 -- All parts are renewed where they serve.
-pub all_renewed : (budget : ℕ) (net : Net) → IsWired net → (order : List ℕ) → IsOrder net order → (knots : Knotted) → AreKnots net knots → (turn : ℕ) (old new : Kept)
-    → IsKept net knots turn old → IsKept net knots turn new → AllServe (knot_count knots) budget new
-    → (flows : Flows) → AreFlows net knots old flows → (marked : List Bool) → AreMarked (flows.calm && flows.shown) old (length flows.marked) marked → AreRenewed budget net knots turn new marked
-all_renewed budget net wired order is_order knots are turn old new was is serve flows of marked marks =
+pub all_renewed : (budget : ℕ) (net : Net) → IsWired net → (knots : Knotted) → AreKnots net knots → (turn : ℕ) (new : Kept) → IsKept net knots turn new → AllServe (knot_count knots) budget new
+    → AreRenewed budget net knots turn new
+all_renewed budget net wired knots are turn new is serve =
     let planned = all_served budget net knots are turn new is serve new.rows refl in
-    let each : AreMarked (flows.calm && flows.shown) old (knot_count knots) marked = subst (λ (n : ℕ). AreMarked (flows.calm && flows.shown) old n marked) of.one_each marks in
     record {
       serve = serve;
       within = within_not_over budget net wired knots.numbers (knot_count knots) are.numbered planned.within;
       first = first_items budget net wired knots are turn new.rows planned;
-      one_each = each.one_each;
-      still = still_else net wired order is_order knots are turn old new was is (served_settled new budget (knot_count knots) serve) flows of marked each;
     }
 
--- What a round is made with stays right without calm, and where nothing is shown.
-pub flows_restless : (net : Net) (knots : Knotted) (old new : Kept) (flows : Flows) (marked : List Bool) → AreFlows net knots old flows → length marked ≡ length flows.marked
-    → AreFlows net knots new (record flows { calm = false; marked = marked; shown = false })
-flows_restless net knots old new flows marked are count = record {
+-- What is told of all parts is told of those that pass a test.
+pub told_by_test : (net : Net) (knots : Knotted) (rows : List ℕ) (lists : List (List ℕ)) → AreFlowingIn net knots rows (λ _. true) lists → (test : ℕ → Bool) → AreFlowingIn net knots rows test lists
+told_by_test net knots rows lists are test = record { one_each = are.one_each; each = λ k lt _. are.each k lt refl }
+
+-- What is told of settled parts is told of all where all serve.
+pub told_of_all : (net : Net) (knots : Knotted) (kept : Kept) (budget : ℕ) → AllServe (knot_count knots) budget kept → (lists : List (List ℕ)) → AreFlowingIn net knots kept.rows (is_settled kept) lists
+    → AreFlowingIn net knots kept.rows (λ _. true) lists
+told_of_all net knots kept budget serve lists are = record { one_each = are.one_each; each = λ k lt _. are.each k lt (served_settled kept budget (knot_count knots) serve k lt) }
+
+-- What a round is made with stays right where nothing is shown.
+pub flows_unshown : (net : Net) (knots : Knotted) (old new : Kept) (flows : Flows) (marked : List Bool) → AreFlows net knots old flows → length marked ≡ length flows.marked
+    → AreFlows net knots new (record flows { marked = marked; shown = false })
+flows_unshown net knots old new flows marked are count = record {
   blank = are.blank;
-  calm = λ e. absurd cc;
   one_each = count ∙ are.one_each;
   cells = are.cells;
   shown = λ e. absurd cc;
@@ -230,10 +211,9 @@ flows_restless net knots old new flows marked are count = record {
 
 -- And where all is shown.
 pub flows_shown : (net : Net) (knots : Knotted) (old new : Kept) (flows : Flows) (marked : List Bool) (now : Cells) → AreFlows net knots old flows → length marked ≡ length flows.marked
-    → AreCells net now → AreShown net new.rows now → AreFlows net knots new (record flows { calm = false; marked = marked; cells = now; shown = true })
+    → AreCells net now → AreShown net new.rows now → AreFlows net knots new (record flows { marked = marked; cells = now; shown = true })
 flows_shown net knots old new flows marked now are count cells shown = record {
   blank = are.blank;
-  calm = λ e. absurd cc;
   one_each = count ∙ are.one_each;
   cells = cells;
   shown = λ e s s_in settled. shown s s_in;
@@ -243,7 +223,6 @@ flows_shown net knots old new flows marked now are count cells shown = record {
 pub flows_taken : (net : Net) (knots : Knotted) (kept : Kept) (old new : Flows) → AreFlows net knots kept old → HasNoSheet old new → AreFlows net knots kept new
 flows_taken net knots kept old new are none = record {
   blank = subst (MayBeBlank (length net.joints)) (sym none.blank) tt;
-  calm = λ e. are.calm (sym none.calm ∙ e);
   one_each = ap (λ (xs : List Bool). length xs) none.marked ∙ are.one_each;
   cells = subst (AreCells net) (sym none.cells) are.cells;
   shown = λ e. subst (AreKeptShown net knots kept) (sym none.cells) (are.shown (sym none.shown ∙ e));
@@ -251,7 +230,7 @@ flows_taken net knots kept old new are none = record {
 
 -- And with any text.
 pub flows_texted : (net : Net) (knots : Knotted) (kept : Kept) (flows : Flows) (text : List ℕ) → AreFlows net knots kept flows → AreFlows net knots kept (record flows { text = text })
-flows_texted net knots kept flows text are = record { blank = are.blank; calm = are.calm; one_each = are.one_each; cells = are.cells; shown = are.shown }
+flows_texted net knots kept flows text are = record { blank = are.blank; one_each = are.one_each; cells = are.cells; shown = are.shown }
 
 -- Before the first part nothing is shown.
 pub shown_none : (net : Net) (knots : Knotted) (rows : List ℕ) (marked : List Bool) (cells : Cells) → AreShownAt net knots rows marked 0 cells cells
@@ -287,6 +266,14 @@ module _ (net : Net) (knots : Knotted) (are : AreKnots net knots) (rows : List �
     ];
     others = at.others;
   }
+
+-- Where the first side of a part has no jam row none has.
+pub jams_as_first : (net : Net) → IsWired net → (knots : Knotted) → AreKnots net knots → (rows : List ℕ) → HaveColouring net rows → (k : ℕ) → k < knot_count knots → (sides : List ℕ) → sides ≡ get_or knots.sides k []
+    → jams net rows (get_or sides 0 0) ≡ false → (m : ℕ) → m < length sides → jams net rows (get_or sides m 0) ≡ false
+jams_as_first net wired knots are rows coloured k lt sides is calm m m_in =
+    jams_whole net wired rows coloured.items coloured.colouring (get_or sides m 0) (get_or sides 0 0)
+    ((are.are_knots k lt).joined (get_or sides m 0) (get_or sides 0 0) (side_here net knots are k lt sides is m m_in) (side_here net knots are k lt sides is 0 (omega arith)))
+    ∙ calm
 
 -- The primitives at the ends of the joints that flow are those of which some end flows.
 pub ends_marked : (net : Net) (rows : List ℕ) → IsWired net → RowsFit net rows → (flowing : List ℕ) → AreFlowing net rows flowing → (marks : List Bool) → AreThoseThatFlowed net rows marks

@@ -7,7 +7,7 @@ use Rattle.reo_cells.specs.declared.cells.Cells.{Cells}
 use Rattle.reo_cells.specs.Cells.{AreCells, IsShown}
 use Rattle.reo_knots.specs.Knots.{Knotted, knot_count}
 use Rattle.reo_planning.specs.declared.kept.Kept.{Kept}
-use Rattle.reo_planning.specs.Keeping.{is_moving, is_settled}
+use Rattle.reo_planning.specs.Keeping.{is_settled}
 use Rattle.reo_standing.specs.Filling.{AreBlank}
 use Rattle.reo_engine.specs.declared.flows.Flows.{Flows}
 
@@ -19,19 +19,14 @@ MayBeBlank joints (Some items) = AreBlank joints items
 -- There is no list of no items, and all is as it was but for the two lists of any numbers.
 pub record HasNoSheet (old new : Flows) : Type 0 where
   pub blank : new.blank ≡ None
-  pub calm : new.calm ≡ old.calm
   pub marked : new.marked ≡ old.marked
   pub cells : new.cells ≡ old.cells
   pub shown : new.shown ≡ old.shown
 
 -- Of so many parts those are marked that are not settled, or all.
-pub record AreMarked (calm : Bool) (kept : Kept) (parts : ℕ) (marked : List Bool) : Type 0 where
+pub record AreMarked (shown : Bool) (kept : Kept) (parts : ℕ) (marked : List Bool) : Type 0 where
   pub one_each : length marked ≡ parts
-  pub each : (k : ℕ) → k < parts → slice_index_or marked k true ≡ not (calm && is_settled kept k)
-
--- Nothing flows in a part that is settled, by the rows that are kept.
-abbrev pub AreCalm : Kept → Type 0
-AreCalm kept = (k : ℕ) → is_settled kept k ≡ true → is_moving kept k ≡ false
+  pub each : (k : ℕ) → k < parts → slice_index_or marked k true ≡ not (shown && is_settled kept k)
 
 -- The part of a side.
 abbrev pub part_of : Knotted → ℕ → ℕ
@@ -50,11 +45,9 @@ pub record AreShownAt (net : Net) (knots : Knotted) (rows : List ℕ) (marked : 
   pub others : (s : ℕ) → s < side_count net → slice_index_or marked (part_of knots s) true ≡ false
       → slice_index new.shown s ≡ slice_index old.shown s
 
--- A list of no items, if there is one; whether nothing flows in settled parts; a mark for each part; and cells, which
--- may show the rows that are kept of settled parts.
+-- A list of no items, if there is one; a mark for each part; and cells, which may show the rows that are kept of settled parts.
 pub record AreFlows (net : Net) (knots : Knotted) (kept : Kept) (flows : Flows) : Type 0 where
   pub blank : MayBeBlank (length net.joints) flows.blank
-  pub calm : flows.calm ≡ true → AreCalm kept
   pub one_each : length flows.marked ≡ knot_count knots
   pub cells : AreCells net flows.cells
   pub shown : flows.shown ≡ true → AreKeptShown net knots kept flows.cells

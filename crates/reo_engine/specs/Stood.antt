@@ -1,12 +1,11 @@
 -- A round that stands.
-use Rattle.std.specs.Prelude.{ℕ, ◌≡◌, Bool, List, length}
+use Rattle.std.specs.Prelude.{ℕ}
 use Rattle.reo_net_base.specs.Net.{Net}
 use Rattle.reo_knots.specs.Knots.{Knotted, knot_count}
 use Rattle.reo_weights.specs.Over.{Cause, IsOver}
 use Rattle.reo_planning.specs.declared.kept.Kept.{Kept}
 use Rattle.reo_planning.specs.Keeping.{AllServe}
 use Rattle.reo_standing.specs.declared.standing.Standing.{Standing}
-use Rattle.reo_standing.specs.Filling.{AreStillElse}
 use Rattle.reo_standing.specs.Standing.{HaveFirstItems, Stands}
 
 -- No part is over, and what stands is the first colouring.
@@ -15,10 +14,8 @@ pub record IsStood (budget : ℕ) (net : Net) (ports turn : ℕ) (s : Standing) 
   pub stands : Stands net ports turn s
 
 -- All parts are settled within a budget: the rows that are kept are those of the first colouring of the round of a
--- number, and nothing flows in the parts that are not marked.
-pub record AreRenewed (budget : ℕ) (net : Net) (knots : Knotted) (turn : ℕ) (kept : Kept) (marked : List Bool) : Type 0 where
+-- number.
+pub record AreRenewed (budget : ℕ) (net : Net) (knots : Knotted) (turn : ℕ) (kept : Kept) : Type 0 where
   pub serve : AllServe (knot_count knots) budget kept
   pub within : (cause : Cause) → IsOver budget net cause → ⊥
   pub first : HaveFirstItems net turn kept.rows
-  pub one_each : length marked ≡ knot_count knots
-  pub still : AreStillElse net knots kept.rows marked

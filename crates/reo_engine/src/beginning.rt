@@ -8,21 +8,21 @@ ghost use Rattle.reo_planning.specs.Keeping.{IsKept};
 ghost use Rattle.reo_settling.specs.Lookups.{AreLookups};
 ghost use Rattle.reo_engine.specs.Flows.{AreFlows};
 
-use crate::changes::all_marked;
 use crate::flows::Flows;
+use reo_flags::Flags;
 use reo_knots::Knots;
 use reo_net_base::Primitive;
 use reo_net_circuit::Circuit;
 use reo_net_ends::{Ends, ends_of};
 use reo_planning::Kept;
 use reo_settling::Lookups;
-use reo_values::{List, NoMemory};
+use reo_values::NoMemory;
 use std::alloc::Global;
 
 /// What an engine begins with beside its circuit and the circuit's knots.
 #[derive(Drop)]
 pub(crate) struct Begun {
-    pub(crate) changed: List<bool>,
+    pub(crate) changed: Flags,
     pub(crate) ends: Ends,
     pub(crate) kept: Kept,
     pub(crate) lookups: Lookups,
@@ -47,7 +47,7 @@ pub(crate) fn begin<P: Primitive>(
     ensures flows { let net = net_of P.behaviour circuit.now in
         IfOk result (λ made. AreFlows net knots.now made.kept made.flows) }
 {
-    let changed = all_marked(alloc, circuit.primitives().len())?;
+    let changed = Flags::new(alloc, circuit.primitives().len(), true)?;
     let ends = ends_of(alloc, circuit)?;
     let kept = Kept::new(alloc, circuit.sides(), knots.count())?;
     let lookups = Lookups::new(alloc, circuit, knots, &ends)?;

@@ -1,10 +1,11 @@
 //! Marks of the primitives that may have changed.
-ghost use Rattle.std.specs.Prelude.{◌≡◌, ◌<◌, true, false, length, replicate, set, IfOk};
+ghost use Rattle.std.specs.Prelude.{◌≡◌, ◌<◌, true, length, replicate, set, IfOk};
 ghost use Rattle.reo_net_base.specs.Net.{net_of};
 ghost use Rattle.reo_net_base.specs.Step.{change_at};
 ghost use Rattle.reo_net_base.specs.Colouring.{IsColouring};
 ghost use Rattle.reo_stepping.specs.Changes.{AreThoseThatFlowed};
 
+use reo_flags::Flags;
 use reo_net_base::{Joint, Primitive};
 use reo_net_circuit::Circuit;
 use reo_values::{List, NoMemory, Value};
@@ -22,31 +23,22 @@ pub(crate) fn all_marked(alloc: Global, count: usize) -> Result<List<bool>, NoMe
 }
 
 /// Sets the mark of one primitive.
-pub(crate) fn mark(marks: &mut List<bool>, index: usize)
+pub(crate) fn mark(marks: &mut Flags, index: usize)
     requires { index < length marks.old }
     ensures { marks.new ≡ change_at (λ _. true) marks.old index }
 {
-    *marks.at_mut(index) = true;
-}
-
-/// Clears all marks.
-fn clear_all(marks: &mut List<bool>)
-    ensures { marks.new ≡ replicate (length marks.old) false }
-{
-    for index in 0..marks.len() {
-        *marks.at_mut(index) = false;
-    }
+    marks.put(index, true);
 }
 
 /// Sets the marks of the primitives at both ends of a joint.
-fn mark_joint(marks: &mut List<bool>, joint: Joint)
+fn mark_joint(marks: &mut Flags, joint: Joint)
     requires giver { joint.giver.primitive < length marks.old }
     requires taker { joint.taker.primitive < length marks.old }
     ensures { let giver = set marks.old joint.giver.primitive true in
         marks.new ≡ set giver joint.taker.primitive true }
 {
-    *marks.at_mut(joint.giver.primitive) = true;
-    *marks.at_mut(joint.taker.primitive) = true;
+    marks.put(joint.giver.primitive, true);
+    marks.put(joint.taker.primitive, true);
 }
 
 /// Marks exactly the primitives of which some end flows.
@@ -54,7 +46,7 @@ pub(crate) fn mark_flowing<P: Primitive>(
     circuit: &Circuit<P>,
     rows: &[u32],
     items: &[Option<Value>],
-    marks: &mut List<bool>,
+    marks: &mut Flags,
 )
     requires colouring { IsColouring (net_of P.behaviour circuit.now) rows.now items.now }
     requires one_each { length marks.old ≡ length circuit.now.primitives }
@@ -62,7 +54,7 @@ pub(crate) fn mark_flowing<P: Primitive>(
 {
     let _ = rows;
     circuit.known();
-    clear_all(marks);
+    marks.clear();
     for index in 0..circuit.joint_count() {
         if items[index].is_some() {
             mark_joint(marks, circuit.joint(index));

@@ -6,13 +6,14 @@ ghost use Rattle.reo_engine.specs.Engine.{net_now};
 
 use crate::beginning::begin;
 use crate::flows::Flows;
+use reo_flags::Flags;
 use reo_knots::{Knots, find_knots};
 use reo_net_base::Ported;
 use reo_net_circuit::Circuit;
 use reo_net_ends::Ends;
 use reo_planning::Kept;
 use reo_settling::Lookups;
-use reo_values::{List, NoMemory};
+use reo_values::NoMemory;
 use std::alloc::Global;
 use std::marker::Model;
 
@@ -31,7 +32,7 @@ use std::marker::Model;
 pub struct Engine<P: Ported> {
     pub(crate) circuit: Circuit<P>,
     pub(crate) rounds: u64,
-    pub(crate) changed: List<bool>,
+    pub(crate) changed: Flags,
     pub(crate) knots: Knots,
     pub(crate) ends: Ends,
     pub(crate) kept: Kept,

@@ -1,14 +1,16 @@
 //! What a round that stands is made with.
-ghost use Rattle.std.specs.Prelude.{◌≡◌, ◌<◌, ◌≤◌, ◌&&◌, None, false, not, IfOk, length};
+ghost use Rattle.std.specs.Prelude.{◌≡◌, ◌<◌, ◌≤◌, ◌&&◌, ℕ, None, true, false, not, [], IfOk, length, slice_index, slice_index_or};
 ghost use Rattle.reo_net_base.specs.Net.{net_of};
 ghost use Rattle.reo_knots.specs.Knots.{AreKnots, knot_count};
-ghost use Rattle.reo_net_base.specs.Sides.{AreRowsOf};
-ghost use Rattle.reo_cells.specs.Cells.{AreCells};
+ghost use Rattle.reo_net_base.specs.Sides.{AreRowsOf, side_count};
+ghost use Rattle.reo_net_laws.specs.Jams.{jams};
+ghost use Rattle.reo_cells.specs.Cells.{AreBrought, AreCells};
 ghost use Rattle.reo_planning.specs.Keeping.{is_settled};
-ghost use Rattle.reo_standing.specs.Filling.{AreBlank};
+ghost use Rattle.reo_standing.specs.Filling.{AreBlank, HaveColouring};
 ghost use Rattle.reo_engine.specs.Flows.{AreMarked, AreShownAt, HasNoSheet, MayBeBlank};
 
 use crate::changes::all_marked;
+use crate::planning::is_jammed;
 use reo_cells::Cells;
 use reo_knots::Knots;
 use reo_net_base::Primitive;
@@ -20,15 +22,14 @@ use std::alloc::Global;
 use std::mem::replace;
 
 /// What a round that stands is made with: a list of no items at the joints, if there is one, two
-/// lists of any numbers and a text of any bytes, so that a round takes no memory for them; whether
-/// nothing flows in any part that is settled, by the rows that are kept; a mark for each part; the
-/// cells of all sides; and whether they show the rows that are kept of settled parts.
+/// lists of any numbers and a text of any bytes, so that a round takes no memory for them; a mark
+/// for each part; the cells of all sides; and whether they show the rows that are kept of settled
+/// parts.
 #[derive(Drop)]
 pub struct Flows {
     pub(crate) blank: Option<List<Option<Value>>>,
     pub(crate) rows: List<u32>,
     pub(crate) flowing: List<usize>,
-    pub(crate) calm: bool,
     pub(crate) marked: List<bool>,
     pub(crate) cells: Cells,
     pub(crate) shown: bool,
@@ -44,7 +45,6 @@ impl Flows {
     ) -> Result<Flows, NoMemory>
         requires { AreKnots (net_of P.behaviour circuit.now) knots.now }
         ensures blank { IfOk result (λ made. made.blank ≡ None) }
-        ensures calm { IfOk result (λ made. made.calm ≡ false) }
         ensures one_each { IfOk result (λ made. length made.marked ≡ knot_count knots.now) }
         ensures cells { IfOk result (λ made. AreCells (net_of P.behaviour circuit.now) made.cells) }
         ensures shown { IfOk result (λ made. made.shown ≡ false) }
@@ -55,7 +55,6 @@ impl Flows {
             blank: None,
             rows: List::new(alloc),
             flowing: List::new(alloc),
-            calm: false,
             marked,
             cells,
             shown: false,
@@ -64,32 +63,63 @@ impl Flows {
     }
 }
 
-impl Flows {
-    /// Whether settled parts need not be gone through: nothing flows in them, and they are shown.
-    pub(crate) fn spares_settled(&self) -> bool
-        ensures { result ≡ (self.now.calm && self.now.shown) }
-    {
-        self.calm && self.shown
+/// Whether the rows of a part may not be shown, where those that are kept of settled parts are.
+fn is_unshown(kept: &Kept, shown: bool, part: usize) -> bool
+    requires { part < length kept.now.settled }
+    ensures { result ≡ not (shown && is_settled kept.now part) }
+{
+    if shown { !kept.is_settled(part) } else { true }
+}
+
+/// Marks the parts whose rows may not be shown: all but the settled ones where those are.
+/// This takes no memory.
+pub(crate) fn mark_unshown(kept: &Kept, shown: bool, marks: &mut List<bool>)
+    requires { length marks.old ≤ length kept.now.settled }
+    ensures { AreMarked shown kept.now (length marks.old) marks.new }
+{
+    for part in 0..marks.len() {
+        *marks.at_mut(part) = is_unshown(kept, shown, part);
     }
 }
 
-/// Whether something may flow in a part by the rows that are kept, or by those that come in their
-/// place, where nothing flows by those that are kept in settled parts, if it is calm.
-fn is_restless(kept: &Kept, calm: bool, part: usize) -> bool
-    requires { part < length kept.now.settled }
-    ensures { result ≡ not (calm && is_settled kept.now part) }
+/// Whether the first of some sides has no jam row; there is no first of none. This takes no memory.
+fn first_is_plain<P: Primitive>(circuit: &Circuit<P>, rows: &[u32], sides: &[usize]) -> bool
+    requires rows { AreRowsOf (net_of P.behaviour circuit.now) rows.now }
+    requires sides { let net = net_of P.behaviour circuit.now in
+        (m : ℕ) → m < length sides.now → slice_index sides.now m < side_count net }
+    ensures { let net = net_of P.behaviour circuit.now in
+        result ≡ true → jams net rows.now (slice_index sides.now 0) ≡ false }
 {
-    if calm { !kept.is_settled(part) } else { true }
+    if sides.is_empty() {
+        return false;
+    }
+    !is_jammed(circuit, rows, sides[0])
 }
 
-/// Marks the parts in which something may flow: all but the settled ones where it is calm.
-/// This takes no memory.
-pub(crate) fn mark_restless(kept: &Kept, calm: bool, marks: &mut List<bool>)
-    requires { length marks.old ≤ length kept.now.settled }
-    ensures { AreMarked calm kept.now (length marks.old) marks.new }
+/// Shows these rows at the sides of a part. They jam the part as a whole, or no side of it, so one
+/// side is looked at for whether they do. This takes no memory.
+fn show_part<P: Primitive>(
+    circuit: &Circuit<P>,
+    knots: &Knots,
+    part: usize,
+    rows: &[u32],
+    cells: &mut Cells,
+)
+    requires knots { AreKnots (net_of P.behaviour circuit.now) knots.now }
+    requires part { part < knot_count knots.now }
+    requires coloured { HaveColouring (net_of P.behaviour circuit.now) rows.now }
+    requires cells { AreCells (net_of P.behaviour circuit.now) cells.old }
+    ensures cells { AreCells (net_of P.behaviour circuit.now) cells.new }
+    ensures brought { let net = net_of P.behaviour circuit.now in
+        let sides = slice_index_or knots.now.sides part [] in
+        AreBrought net rows.now sides cells.old cells.new }
 {
-    for part in 0..marks.len() {
-        *marks.at_mut(part) = is_restless(kept, calm, part);
+    circuit.known();
+    let sides = knots.sides(part);
+    if first_is_plain(circuit, rows, sides) {
+        cells.bring_plain(circuit, rows, sides);
+    } else {
+        cells.bring(circuit, rows, sides);
     }
 }
 
@@ -102,7 +132,7 @@ pub(crate) fn show_marked<P: Primitive>(
     cells: &mut Cells,
 )
     requires knots { AreKnots (net_of P.behaviour circuit.now) knots.now }
-    requires rows { AreRowsOf (net_of P.behaviour circuit.now) rows.now }
+    requires coloured { HaveColouring (net_of P.behaviour circuit.now) rows.now }
     requires one_each { length marked.now ≡ knot_count knots.now }
     requires cells { AreCells (net_of P.behaviour circuit.now) cells.old }
     ensures cells { AreCells (net_of P.behaviour circuit.now) cells.new }
@@ -112,7 +142,7 @@ pub(crate) fn show_marked<P: Primitive>(
     circuit.known();
     for part in 0..knots.count() {
         if marked[part] {
-            cells.bring(circuit, rows, knots.sides(part));
+            show_part(circuit, knots, part, rows, cells);
         }
     }
 }

@@ -64,12 +64,11 @@ impl<P: Ported> Engine<P> {
             budget,
             steps,
         )?;
-        self.flows.calm = false;
         self.flows.shown = false;
-        let orders = self.lookups.orders();
+        let flowing = self.lookups.flowing();
         let list = self
             .kept
-            .store(&self.circuit, &self.knots, orders, rows, budget);
+            .store(&self.circuit, &self.knots, flowing, rows, budget);
         self.lookups.hand_back(list);
         Ok(())
     }

@@ -15,7 +15,7 @@ use reo_values::NoMemory;
 use std::alloc::Global;
 
 /// Whether a side has its jam row.
-fn is_jammed<P: Primitive>(circuit: &Circuit<P>, rows: &[u32], side: usize) -> bool
+pub(crate) fn is_jammed<P: Primitive>(circuit: &Circuit<P>, rows: &[u32], side: usize) -> bool
     requires rows { AreRowsOf (net_of P.behaviour circuit.now) rows.now }
     requires side { side < side_count (net_of P.behaviour circuit.now) }
     ensures { result ≡ jams (net_of P.behaviour circuit.now) rows.now side }

@@ -1,5 +1,5 @@
 //! Rows that are kept, brought up to date.
-ghost use Rattle.std.specs.Prelude.{◌≡◌, ◌<◌, ◌≤◌, ◌+◌, ◌^◌, ℕ, OnOk, OnErr, MatchResult};
+ghost use Rattle.std.specs.Prelude.{◌≡◌, ◌<◌, ◌≤◌, ◌+◌, ◌^◌, ℕ, true, OnOk, OnErr, MatchResult};
 ghost use Rattle.reo_net_base.specs.Net.{net_of};
 ghost use Rattle.reo_net_ends.specs.Ends.{AreEnds};
 ghost use Rattle.reo_knots.specs.Knots.{AreKnots, knot_count};
@@ -11,7 +11,7 @@ ghost use Rattle.reo_cells.specs.Cells.{AreShown};
 ghost use Rattle.reo_engine.specs.Flows.{AreFlows};
 ghost use Rattle.reo_engine.specs.Stood.{AreRenewed};
 
-use crate::flows::{Flows, mark_restless, show_marked};
+use crate::flows::{Flows, mark_unshown, show_marked};
 use reo_knots::Knots;
 use reo_net_base::Primitive;
 use reo_net_circuit::Circuit;
@@ -23,7 +23,8 @@ use reo_steps::Steps;
 use std::alloc::Global;
 use std::sync::ledger::Ledger;
 
-/// Has all parts settled, for the round of a number: those that are not are looked at. It makes at
+/// Has all parts settled, for the round of a number, and the joints told that flow in them: those
+/// that are not are looked at. It makes at
 /// most as many ticks as they weigh together. After a fault the rows are as they were.
 ///
 /// # Errors
@@ -54,22 +55,23 @@ fn renew<P: Primitive, L: Ledger>(
     ensures exact { let net = net_of P.behaviour circuit.now in
         MatchResult result (λ _. AllServe (knot_count knots.now) budget kept.new)
         (IsPlanFault budget net) }
+    ensures told { OnOk result (lookups.new.told ≡ true) }
     ensures refused { OnErr result (kept.new ≡ kept.old) }
     ensures ticks { let count = knot_count knots.now in (weights : ℕ → ℕ)
         → AreWeights (net_of P.behaviour circuit.now) knots.now weights
         → steps.new ≤ steps.old + sum_below count (weight_left kept.old budget weights) }
 {
     circuit.known();
-    if kept.all_serve(budget) {
+    if kept.all_serve(budget) && lookups.is_told() {
         return Ok(());
     }
     let rows = lookups.settle(alloc, circuit, knots, ends, kept, turn, budget, steps)?;
-    let list = kept.store(circuit, knots, lookups.orders(), rows, budget);
+    let list = kept.store(circuit, knots, lookups.flowing(), rows, budget);
     lookups.hand_back(list);
     Ok(())
 }
 
-/// Has all parts settled for the round of a number, marks those in which something may flow, and
+/// Has all parts settled for the round of a number, and the joints told that flow in them, and
 /// shows the rows. What a round is made with stays right.
 ///
 /// # Errors
@@ -100,8 +102,9 @@ pub(crate) fn renew_marked<P: Primitive, L: Ledger>(
         (net_of P.behaviour circuit.now) knots.now kept.new lookups.new }
     ensures flows { AreFlows (net_of P.behaviour circuit.now) knots.now kept.new flows.new }
     ensures exact { let net = net_of P.behaviour circuit.now in
-        MatchResult result (λ _. AreRenewed budget net knots.now turn kept.new flows.new.marked)
+        MatchResult result (λ _. AreRenewed budget net knots.now turn kept.new)
         (IsPlanFault budget net) }
+    ensures told { OnOk result (lookups.new.told ≡ true) }
     ensures shown { let net = net_of P.behaviour circuit.now in
         OnOk result (AreShown net kept.new.rows flows.new.cells) }
     ensures ticks { let count = knot_count knots.now in (weights : ℕ → ℕ)
@@ -110,9 +113,7 @@ pub(crate) fn renew_marked<P: Primitive, L: Ledger>(
 {
     circuit.known();
     let _order = circuit.order();
-    let calm = flows.spares_settled();
-    mark_restless(kept, calm, &mut flows.marked);
-    flows.calm = false;
+    mark_unshown(kept, flows.shown, &mut flows.marked);
     flows.shown = false;
     renew(
         alloc, circuit, knots, ends, kept, lookups, turn, budget, steps,

@@ -116,7 +116,7 @@ impl<P: Ported> Engine<P> {
         let rows = colouring.rows.as_slice();
         let items = colouring.items.as_slice();
         mark_flowing(&self.circuit, rows, items, &mut self.changed);
-        let marks = self.changed.as_slice();
+        let marks = &self.changed;
         self.kept.unsettle_marked(&self.circuit, &self.knots, marks);
         self.kept.unsettle_moving();
         self.circuit.step(colouring);

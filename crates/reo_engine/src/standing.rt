@@ -1,5 +1,5 @@
 //! Rounds that stand, and are made at the cost of what flows.
-ghost use Rattle.std.specs.Prelude.{◌≡◌, ◌+◌, ◌<◌, ◌≤◌, ◌^◌, ℕ, IfOk, OnOk, MatchResult, map};
+ghost use Rattle.std.specs.Prelude.{◌≡◌, ◌+◌, ◌<◌, ◌≤◌, ◌^◌, ℕ, true, IfOk, OnOk, MatchResult, map};
 ghost use Rattle.reo_net_base.specs.Net.{net_of};
 ghost use Rattle.reo_net_circuit.specs.Offers.{AreAfterRound};
 ghost use Rattle.reo_net_ends.specs.Ends.{AreEnds};
@@ -8,12 +8,11 @@ ghost use Rattle.reo_trace.specs.Entries.{line_for};
 ghost use Rattle.reo_trace.specs.RoundText.{round_text};
 ghost use Rattle.reo_rounds.specs.Plans.{IsPlanFault};
 ghost use Rattle.reo_knots.specs.Knots.{AreKnots, knot_count};
-ghost use Rattle.reo_kept_tables.specs.Orders.{AreOrders};
+ghost use Rattle.reo_flowing.specs.Flowing.{AreFlowingIn};
 ghost use Rattle.reo_planning.specs.Keeping.{AllServe};
 ghost use Rattle.reo_planning.specs.Planned.{AreWeights, sum_below, weight_left};
 ghost use Rattle.reo_stepping.specs.Changes.{AreThoseThatFlowed};
 ghost use Rattle.reo_engine.specs.Changes.{OthersStay};
-ghost use Rattle.reo_standing.specs.Filling.{AreStillElse};
 ghost use Rattle.reo_standing.specs.Standing.{HaveFirstItems, Stands};
 ghost use Rattle.reo_engine.specs.Flows.{AreFlows};
 ghost use Rattle.reo_engine.specs.Engine.{net_now};
@@ -30,7 +29,7 @@ use reo_net_ends::Ends;
 use reo_planning::Kept;
 use reo_rounds::PlanFault;
 use reo_standing::{Standing, cleared, stand};
-use reo_stepping::{Standin, mark_flowing, step_marked};
+use reo_stepping::{mark_flowing, step_marked};
 use reo_steps::Steps;
 use reo_trace::RoundLine;
 use reo_values::{Bytes, List, NoMemory};
@@ -46,16 +45,15 @@ fn stand_by<P: Primitive>(
     knots: &Knots,
     ends: &Ends,
     kept: &Kept,
-    orders: &List<List<usize>>,
+    lists: &List<List<usize>>,
     flows: &mut Flows,
     turn: u64,
 ) -> Result<Standing, NoMemory>
     requires knots { AreKnots (net_of P.behaviour circuit.now) knots.now }
     requires ends { AreEnds (net_of P.behaviour circuit.now) ends.now }
     requires first { HaveFirstItems (net_of P.behaviour circuit.now) turn kept.now.rows }
-    requires still { let net = net_of P.behaviour circuit.now in
-        AreStillElse net knots.now kept.now.rows flows.old.marked }
-    requires orders { AreOrders (net_of P.behaviour circuit.now) knots.now orders.now }
+    requires lists { AreFlowingIn
+        (net_of P.behaviour circuit.now) knots.now kept.now.rows (λ _. true) lists.now }
     requires flows { AreFlows (net_of P.behaviour circuit.now) knots.now kept.now flows.old }
     ensures stands { let net = net_of P.behaviour circuit.now in
         IfOk result (Stands net circuit.now.ports turn) }
@@ -64,23 +62,14 @@ fn stand_by<P: Primitive>(
     ensures cells { flows.new.cells ≡ flows.old.cells }
 {
     let sheet = take_sheet(alloc, flows, kept.rows(), circuit.joint_count())?;
-    stand(
-        alloc,
-        circuit,
-        knots,
-        ends,
-        orders,
-        flows.marked.as_slice(),
-        turn,
-        sheet,
-    )
+    stand(alloc, circuit, knots, ends, lists, turn, sheet)
 }
 
 impl<P: Ported> Engine<P> {
     /// Brings the rows that are kept up to date for the round that comes next, and answers what
     /// stands for it beside them, with the text of its line, line feed included. Only parts that
-    /// are not settled are looked at, only those in which something flows are gone through for
-    /// their items, and of the text only their cells are made anew.
+    /// are not settled are looked at, only joints that flow are gone through for their items, and
+    /// of the text only the cells of these parts are made anew.
     ///
     /// All parts are settled afterwards, and all but what is kept stays as it was. It makes at most
     /// as many ticks as the parts weigh together that are not settled.
@@ -132,7 +121,7 @@ impl<P: Ported> Engine<P> {
             &self.knots,
             &self.ends,
             &self.kept,
-            self.lookups.orders(),
+            self.lookups.flowing(),
             &mut self.flows,
             turn,
         )?;
@@ -151,7 +140,7 @@ impl<P: Ported> Engine<P> {
     }
 }
 
-impl<P: Standin> Engine<P> {
+impl<P: Ported> Engine<P> {
     /// Makes the round that stands: the circuit steps, and one round more was made. It is the round
     /// that `commit` makes by the same rows and items, but only primitives of which some end flows
     /// are touched. This takes no memory.
@@ -191,7 +180,7 @@ impl<P: Standin> Engine<P> {
         let joints = flowing.as_slice();
         let by = rows.as_slice();
         mark_flowing(&self.circuit, by, joints, &mut self.changed);
-        let marks = self.changed.as_slice();
+        let marks = &self.changed;
         self.kept
             .unsettle_joints(&self.circuit, &self.knots, joints);
         self.kept.unsettle_moving();
@@ -200,7 +189,6 @@ impl<P: Standin> Engine<P> {
         self.flows.blank = Some(cleared(items, joints));
         self.flows.rows = rows;
         self.flows.flowing = flowing;
-        self.flows.calm = true;
         self.rounds += 1;
         line
     }

@@ -10,7 +10,6 @@ returns-clause-kept g c = fresh_kept (net_of g.P.Primitive.behaviour c.args.circ
 pub returns-clause-flows : goal.returns-clause-flows
 returns-clause-flows g c = record {
   blank = subst (MayBeBlank (length c.args.circuit.now.joints)) (sym c.in_ok-flows.ensures.blank) tt;
-  calm = λ e. absurd (let not : c.in_ok-flows.flows.calm ≡ false = c.in_ok-flows.ensures.calm in cc);
   one_each = c.in_ok-flows.ensures.one_each;
   cells = c.in_ok-flows.ensures.cells;
   shown = λ e. absurd (let not : c.in_ok-flows.flows.shown ≡ false = c.in_ok-flows.ensures.shown in cc);

@@ -23,8 +23,8 @@ mark_joint-requires-clause-taker g c =
 
 pub loop-index-init : goal.loop-index-init
 loop-index-init g c = record {
-  one_each = ap length c.clear_all.ensures ∙ length-replicate (length c.args.marks.now) false ∙ c.requires.one_each;
-  each = λ i lt. none_reached c.args.circuit.now.joints c.args.items.now c.clear_all.new.marks (length c.args.marks.now) i c.clear_all.ensures (omega (arith, c.requires.one_each));
+  one_each = ap length c.clear.ensures ∙ length-replicate (length c.args.marks.now) false ∙ c.requires.one_each;
+  each = λ i lt. none_reached c.args.circuit.now.joints c.args.items.now c.clear.new.self (length c.args.marks.now) i c.clear.ensures (omega (arith, c.requires.one_each));
 }
 
 item_there : (items : List (Option Value)) (k : ℕ) (x : Option Value) (answer : Bool) → k < length items → x ≡ get_or items k x → answer ≡ is_some x → is_some (get_or items k None) ≡ answer

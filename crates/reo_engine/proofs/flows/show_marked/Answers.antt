@@ -1,15 +1,10 @@
-use Rattle.std.proofs.Common.{◌∙◌, ◌<◌, true, arith}
+use Rattle.std.proofs.Common.{◌∙◌, ◌<◌, true, [], get_or, refl, arith}
 use Rattle.std.proofs.lemmas.List.{get_or_default}
 use Rattle.reo_net_base.specs.Net.{Net, net_of}
 use Rattle.reo_knots.specs.Knots.{knot_count}
-use Rattle.reo_mark_search.proofs.Parts.{side_below}
 use Rattle.reo_engine.proofs.FlowsLemmas.{shown_less, shown_more}
 use Rattle.reo_engine.proofs.flows.show_marked.Goals.{then-marked-part, else-marked-part}
 use Rattle.reo_engine.proofs.flows.show_marked.Goals as goal
-
-pub bring-requires-clause-sides : goal.bring-requires-clause-sides
-bring-requires-clause-sides g c =
-    side_below (net_of g.P.Primitive.behaviour c.args.circuit.now) c.args.knots.now c.requires.knots c.loop-part.part (omega arith) c.sides.result.now c.sides.ensures
 
 pub loop-part-preserved : goal.loop-part-preserved
 loop-part-preserved g c =
@@ -18,9 +13,9 @@ loop-part-preserved g c =
     let one = c.requires.one_each in
     elim c.if-marked-part.branch [
       | then-marked-part w ↦ record {
-        cells = rw w.cells-is w.bring.ensures.cells;
-        at = rw w.cells-is (shown_more net c.args.knots.now c.requires.knots c.args.rows.now c.args.marked.now c.loop-part.part part_in c.args.cells.now c.loop-part.cells w.bring.new.self
-            c.loop-part.invariant.at (get_or_default c.args.marked.now c.loop-part.part true _ (omega (arith, part_in, one)) ∙ w.if-marked-part.true) w.sides.result.now w.sides.ensures w.bring.ensures.brought);
+        cells = rw w.cells-is w.show_part.ensures.cells;
+        at = rw w.cells-is (shown_more net c.args.knots.now c.requires.knots c.args.rows.now c.args.marked.now c.loop-part.part part_in c.args.cells.now c.loop-part.cells w.show_part.new.cells
+            c.loop-part.invariant.at (get_or_default c.args.marked.now c.loop-part.part true _ (omega (arith, part_in, one)) ∙ w.if-marked-part.true) (get_or c.args.knots.now.sides c.loop-part.part []) refl w.show_part.ensures.brought);
       }
       | else-marked-part w ↦ record {
         cells = rw w.cells-is c.loop-part.invariant.cells;

@@ -8,11 +8,8 @@ take_sheet-requires g c = rw c.joint_count.ensures c.requires.flows.blank
 pub stand-requires-clause-first : goal.stand-requires-clause-first
 stand-requires-clause-first g c = rw (c.in_ok-sheet.ensures.rows, c.rows.ensures) c.requires.first
 
-pub stand-requires-clause-one_each : goal.stand-requires-clause-one_each
-stand-requires-clause-one_each g c = rw (c.as_slice.ensures, c.take_sheet.ensures.taken.marked) c.requires.flows.one_each
-
-pub stand-requires-clause-still : goal.stand-requires-clause-still
-stand-requires-clause-still g c = rw (c.in_ok-sheet.ensures.rows, c.rows.ensures, c.as_slice.ensures, c.take_sheet.ensures.taken.marked) c.requires.still
+pub stand-requires-clause-lists : goal.stand-requires-clause-lists
+stand-requires-clause-lists g c = rw (c.in_ok-sheet.ensures.rows, c.rows.ensures) c.requires.lists
 
 pub stand-requires-clause-items : goal.stand-requires-clause-items
 stand-requires-clause-items g c = rw c.joint_count.ensures at c.in_ok-sheet.ensures.items

@@ -31,18 +31,18 @@ invariant_of-self g c =
       marks ∙ sym before ∙ sym c.step.ensures.shape.primitives.count ∙ after,
       search rules,
       round_made g.P.Primitive.behaviour now c.step.new.self c.mark_flowing.new.marks c.known.ensures.wired c.known-2.ensures.wired c.step.ensures.shape others marks
-          c.self.inside.rounds c.self.inside.knots c.self.inside.ends c.self.inside.kept c.unsettle_marked.new.self c.unsettle_moving.new.self old.3 (rw c.as_slice-marks.ensures at c.unsettle_marked.ensures) c.unsettle_moving.ensures,
+          c.self.inside.rounds c.self.inside.knots c.self.inside.ends c.self.inside.kept c.unsettle_marked.new.self c.unsettle_moving.new.self old.3 c.unsettle_marked.ensures c.unsettle_moving.ensures,
       round_held g.P.Primitive.behaviour now c.step.new.self c.mark_flowing.new.marks c.known.ensures.wired c.step.ensures.shape others marks
           c.self.inside.knots old.3.are_knots c.self.inside.kept c.unsettle_marked.new.self c.unsettle_moving.new.self c.self.inside.lookups old.4
-          (rw c.as_slice-marks.ensures at c.unsettle_marked.ensures) c.unsettle_moving.ensures,
+          c.unsettle_marked.ensures c.unsettle_moving.ensures,
       flows_stay (net_of g.P.Primitive.behaviour now) (net_of g.P.Primitive.behaviour c.step.new.self) c.self.inside.knots c.self.inside.kept c.unsettle_moving.new.self
           (fewer_twice c.self.inside.kept c.unsettle_marked.new.self c.unsettle_moving.new.self c.unsettle_marked.ensures.fewer c.unsettle_moving.ensures.fewer)
           (round_elsewhere g.P.Primitive.behaviour now c.step.new.self c.mark_flowing.new.marks c.step.ensures.shape others marks c.self.inside.knots c.self.inside.kept c.unsettle_marked.new.self c.unsettle_moving.new.self
-          (rw c.as_slice-marks.ensures at c.unsettle_marked.ensures) c.unsettle_moving.ensures) c.self.inside.flows old.5,
+          c.unsettle_marked.ensures c.unsettle_moving.ensures) c.self.inside.flows old.5,
     )
 
 pub returns-clause-settled : goal.returns-clause-settled
 returns-clause-settled g c =
     let net : Net = net_of g.P.Primitive.behaviour c.self.inside.circuit in
     rw (← c.self.view_is) (stay_settled net c.self.inside.knots c.mark_flowing.new.marks c.self.inside.kept c.unsettle_marked.new.self c.unsettle_moving.new.self
-    (rw c.as_slice-marks.ensures at c.unsettle_marked.ensures) c.unsettle_moving.ensures)
+    c.unsettle_marked.ensures c.unsettle_moving.ensures)

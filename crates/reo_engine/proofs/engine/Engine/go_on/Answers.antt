@@ -71,7 +71,6 @@ invariant_of-self g c =
           c.self.inside.knots old.3.are_knots c.self.inside.kept c.unsettle_joints.new.self c.unsettle_moving.new.self c.self.inside.lookups old.4 unsettled c.unsettle_moving.ensures,
       record {
         blank = subst (λ n. AreBlank n c.cleared.result) count c.cleared.ensures;
-        calm = λ _ k settled. c.unsettle_moving.ensures.still k settled;
         one_each = old.5.one_each;
         cells = stay.cells;
         shown = stay.shown;

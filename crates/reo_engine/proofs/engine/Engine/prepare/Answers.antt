@@ -3,8 +3,9 @@ use Rattle.reo_net_base.specs.Net.{Net, net_of}
 use Rattle.reo_knots.specs.Knots.{knot_count}
 use Rattle.reo_weights.proofs.CauseLemmas.{within_not_over}
 use Rattle.reo_planning.specs.declared.kept.Kept.{Kept}
-use Rattle.reo_planning.specs.Keeping.{AllServe}
+use Rattle.reo_planning.specs.Keeping.{AllServe, is_open}
 use Rattle.reo_planning.proofs.Parting.{all_served}
+use Rattle.reo_engine.proofs.FlowsLemmas.{told_by_test}
 use Rattle.reo_engine.proofs.engine.Engine.prepare.Goals as goal
 
 not_both : (b : Bool) → b ≡ false → b ≡ true → ⊥
@@ -28,8 +29,8 @@ pub returns-in_err-rows-clause-none : goal.returns-in_err-rows-clause-none
 returns-in_err-rows-clause-none g c = rw (← c.self.view_is) (λ all.
     absurd (not_all c.self.inside.kept c.args.budget (knot_count c.self.inside.knots) c.all_serve.result c.self.invariant.3.is_kept.sizes.one_each c.if-all_serve.false c.all_serve.ensures.1 all))
 
-pub store-list-requires-clause-orders : goal.store-list-requires-clause-orders
-store-list-requires-clause-orders g c = rw c.orders-orders.ensures (c.settle.ensures.lookups c.self.inside.kept).orders
+pub store-list-requires-clause-flowing : goal.store-list-requires-clause-flowing
+store-list-requires-clause-flowing g c = rw c.flowing-flowing.ensures (told_by_test (net_of g.P.Primitive.behaviour c.self.inside.circuit) c.self.inside.knots c.in_ok-rows.rows c.settle.new.self.flowing c.in_ok-rows.ensures.flowing (is_open c.self.inside.kept))
 
 pub invariant_of-self : goal.invariant_of-self
 invariant_of-self g c =
@@ -38,7 +39,7 @@ invariant_of-self g c =
       old.1,
       old.2,
       old.3,
-      c.settle.ensures.lookups c.self.inside.kept,
+      c.in_err-rows.ensures.refused c.self.inside.kept,
       old.5,
     )
 
@@ -49,8 +50,8 @@ invariant_of-self-2 g c =
       old.1,
       old.2,
       record { are_knots = old.3.are_knots; are_ends = old.3.are_ends; is_kept = c.store-list.ensures.kept (c.self.inside.rounds + 1) old.3.is_kept c.in_ok-rows.ensures.exact },
-      c.hand_back.ensures (net_of g.P.Primitive.behaviour c.self.inside.circuit) c.self.inside.knots c.store-list.new.self (c.settle.ensures.lookups c.store-list.new.self),
-      record { blank = old.5.blank; calm = λ e. absurd cc; one_each = old.5.one_each; cells = old.5.cells; shown = λ e. absurd cc },
+      c.hand_back.ensures.lookups (net_of g.P.Primitive.behaviour c.self.inside.circuit) c.self.inside.knots c.store-list.new.self (c.in_ok-rows.ensures.lookups c.store-list.new.self c.store-list.ensures.rows),
+      record { blank = old.5.blank; one_each = old.5.one_each; cells = old.5.cells; shown = λ e. absurd cc },
     )
 
 pub returns-clause-exact : goal.returns-clause-exact

@@ -3,7 +3,7 @@ use Rattle.reo_net_base.specs.Net.{Net, net_of}
 use Rattle.reo_trace.specs.declared.line.RoundLine.{RoundLine}
 use Rattle.reo_cells.specs.Cells.{AreShown}
 use Rattle.reo_cells.specs.declared.cells.Cells.{Cells}
-use Rattle.reo_engine.proofs.FlowsLemmas.{flows_texted}
+use Rattle.reo_engine.proofs.FlowsLemmas.{flows_texted, told_of_all}
 use Rattle.reo_engine.proofs.engine.Engine.stand.Goals as goal
 
 pub invariant_of-self : goal.invariant_of-self
@@ -39,14 +39,12 @@ invariant_of-self-in_err-standing g c =
       c.stand_by.ensures.flows,
     )
 
-pub stand_by-requires-clause-orders : goal.stand_by-requires-clause-orders
-stand_by-requires-clause-orders g c = rw c.orders.ensures c.renew_marked.ensures.lookups.orders
+pub stand_by-requires-clause-lists : goal.stand_by-requires-clause-lists
+stand_by-requires-clause-lists g c = rw c.flowing.ensures (told_of_all (net_of g.P.Primitive.behaviour c.self.inside.circuit) c.self.inside.knots c.renew_marked.new.kept c.args.budget c.in_ok-renew_marked.ensures.exact.serve
+    c.renew_marked.new.lookups.flowing (c.renew_marked.ensures.lookups.flowing c.in_ok-renew_marked.ensures.told))
 
 pub stand_by-requires-clause-first : goal.stand_by-requires-clause-first
 stand_by-requires-clause-first g c = c.in_ok-renew_marked.ensures.exact.first
-
-pub stand_by-requires-clause-still : goal.stand_by-requires-clause-still
-stand_by-requires-clause-still g c = c.in_ok-renew_marked.ensures.exact.still
 
 pub returns-clause-exact : goal.returns-clause-exact
 returns-clause-exact g c = rw (← c.self.view_is) record {
