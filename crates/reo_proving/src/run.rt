@@ -19,6 +19,7 @@ use reo_net_base::{Ported, Ports, Restoring};
 use reo_net_circuit::Circuit;
 use reo_players::Players;
 use reo_proof_laws::proofs_exist;
+use reo_release::release_run;
 use reo_runner::Limits;
 use reo_runs::known_order;
 use reo_scripts::Script;
@@ -104,7 +105,7 @@ fn run_counted<P: Restoring, L: Ledger, S: Sink>(
     }
     let mut engine = Engine::new(alloc, circuit)?;
     let mut steps = Steps::<L>::new(blank);
-    make_rounds(
+    let ending = make_rounds(
         alloc,
         &mut engine,
         &mut players,
@@ -112,7 +113,9 @@ fn run_counted<P: Restoring, L: Ledger, S: Sink>(
         limits,
         &mut steps,
         out,
-    )
+    );
+    release_run(engine, players);
+    ending
 }
 
 /// Runs a script on a circuit, and writes the proved text of the run: for each round, after it was

@@ -21,7 +21,6 @@ use reo_engine::{Engine, Standing};
 use reo_io::{Sink, SinkFault, put_all};
 use reo_net_base::{Ports, Restoring};
 use reo_players::Players;
-use reo_stepping::Standin;
 use reo_steps::Steps;
 use reo_trace::Ending;
 use std::alloc::Global;
@@ -35,7 +34,7 @@ pub(crate) struct Made {
 }
 
 /// Makes the round that stands, and counts what moved.
-fn count_out<P: Restoring + Standin>(
+fn count_out<P: Restoring>(
     engine: &mut Engine<P>,
     players: &mut Players,
     ports: &Ports,
@@ -91,7 +90,7 @@ fn write_line<S: Sink>(text: &[u8], out: &mut S) -> Result<(), SinkFault>
 /// `Spent` and `Wide` name a part that is over. `Failed` comes only where the sink's count of
 /// faults rose: a front of the line was taken, and not the whole. `NoMemory` is out of memory. But
 /// for `Failed` the sink stays as it was. No round was made.
-pub(crate) fn make_round<P: Restoring + Standin, L: Ledger, S: Sink>(
+pub(crate) fn make_round<P: Restoring, L: Ledger, S: Sink>(
     alloc: Global,
     engine: &mut Engine<P>,
     players: &mut Players,

@@ -25,9 +25,9 @@ use reo_io::Sink;
 use reo_net_base::{Ported, Ports, Restoring};
 use reo_net_circuit::Circuit;
 use reo_players::Players;
+use reo_release::{release_circuit, release_players, release_run};
 use reo_runs::{known_order, trace_exists};
 use reo_scripts::Script;
-use reo_stepping::Standin;
 use reo_steps::Steps;
 use reo_trace::Ending;
 use std::alloc::Global;
@@ -77,7 +77,7 @@ fn stop<S: Sink>(
 }
 
 /// The rounds of a run of which some component is not done, and its ending.
-fn make_rounds<P: Restoring + Standin, L: Ledger, S: Sink>(
+fn make_rounds<P: Restoring, L: Ledger, S: Sink>(
     alloc: Global,
     engine: &mut Engine<P>,
     players: &mut Players,
@@ -122,7 +122,7 @@ fn make_rounds<P: Restoring + Standin, L: Ledger, S: Sink>(
 }
 
 /// The run of components on a circuit, whose steps are counted in a book.
-fn run_counted<P: Restoring + Standin, L: Ledger, S: Sink>(
+fn run_counted<P: Restoring, L: Ledger, S: Sink>(
     alloc: Global,
     circuit: Circuit<P>,
     ports: &Ports,
@@ -148,16 +148,20 @@ fn run_counted<P: Restoring + Standin, L: Ledger, S: Sink>(
     has_runs(&circuit);
     let tally = Tally::new();
     let Ok(mut players) = Players::new(alloc, script) else {
+        release_circuit(circuit);
         return tally.outcome(End2::NoMemory);
     };
     if players.all_done() {
+        release_circuit(circuit);
+        release_players(players);
         return close(alloc, Ending::Done { rounds: 0 }, tally, out);
     }
     let Ok(mut engine) = Engine::new(alloc, circuit) else {
+        release_players(players);
         return tally.outcome(End2::NoMemory);
     };
     let mut steps = Steps::<L>::new(blank);
-    make_rounds(
+    let outcome = make_rounds(
         alloc,
         &mut engine,
         &mut players,
@@ -165,7 +169,9 @@ fn run_counted<P: Restoring + Standin, L: Ledger, S: Sink>(
         limits,
         &mut steps,
         out,
-    )
+    );
+    release_run(engine, players);
+    outcome
 }
 
 /// Runs a script on a circuit, and writes its trace: a line for each round, after it was planned
