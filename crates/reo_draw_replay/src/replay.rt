@@ -24,6 +24,7 @@ use reo_kinds::Kind;
 use reo_net_base::{Colouring, Ports};
 use reo_net_circuit::Circuit;
 use reo_players::Players;
+use reo_release::release_run;
 use reo_scripts::Script;
 use reo_trace::{Ending, RoundLine};
 use reo_values::{Bytes, NoMemory};
@@ -212,7 +213,7 @@ pub(crate) fn replay(
     let mut players = Players::new(alloc, script)?;
     let mut engine = Engine::new(alloc, circuit)?;
     let begins = begins(&players);
-    replay_rounds(
+    let answer = replay_rounds(
         alloc,
         &mut engine,
         &mut players,
@@ -223,5 +224,7 @@ pub(crate) fn replay(
         rounds,
         number,
         picture,
-    )
+    );
+    release_run(engine, players);
+    answer
 }

@@ -15,6 +15,7 @@ use reo_judging::{Stop, begins, plan_of, refusal_of};
 use reo_net_base::{Ports, Restoring};
 use reo_net_circuit::Circuit;
 use reo_players::Players;
+use reo_release::release_run;
 use reo_scripts::Script;
 use reo_trace::{Ending, RoundLine};
 use reo_values::{Bytes, NoMemory};
@@ -150,7 +151,7 @@ pub(crate) fn replay<P: Restoring>(
     let mut players = Players::new(alloc, script)?;
     let mut engine = Engine::new(alloc, circuit)?;
     let begins = begins(&players);
-    replay_rounds(
+    let answer = replay_rounds(
         alloc,
         &mut engine,
         &mut players,
@@ -159,5 +160,7 @@ pub(crate) fn replay<P: Restoring>(
         homes,
         begins,
         rounds,
-    )
+    );
+    release_run(engine, players);
+    answer
 }

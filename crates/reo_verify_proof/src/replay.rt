@@ -19,6 +19,7 @@ use reo_players::Players;
 use reo_proof_reader::{Next, Reader, read_next};
 use reo_proof_rounds::prove_round;
 use reo_proof_texts::ProofRefusal;
+use reo_release::release_run;
 use reo_runs::known_order;
 use reo_scripts::Script;
 use reo_trace::Ending;
@@ -113,7 +114,7 @@ pub(crate) fn replay<P: Restoring>(
         return Err(ProofRefusal::NoMemory);
     };
     let begins = begins(&players);
-    replay_rounds(
+    let answer = replay_rounds(
         alloc,
         &mut engine,
         &mut players,
@@ -122,5 +123,7 @@ pub(crate) fn replay<P: Restoring>(
         homes,
         begins,
         proof,
-    )
+    );
+    release_run(engine, players);
+    answer
 }

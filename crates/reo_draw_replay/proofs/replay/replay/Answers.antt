@@ -16,8 +16,8 @@ use Rattle.reo_draw_replay.proofs.replay.replay.Goals as goal
 pub new-requires-2 : goal.new-requires-2
 new-requires-2 c = just_ports _ _ c.args.ports.now.list c.requires.fit.count_is c.requires.fit.ports_are
 
-pub replay_rounds-requires-clause-between : goal.replay_rounds-requires-clause-between
-replay_rounds-requires-clause-between c =
+pub replay_rounds-answer-requires-clause-between : goal.replay_rounds-answer-requires-clause-between
+replay_rounds-answer-requires-clause-between c =
     let first = between_first (map port_state_of c.args.circuit.primitives) c.args.circuit.ports c.args.ports.now.list c.args.script.components c.requires.fit in
     let players = subst (λ ps. AreBetween c.args.ports.now.list c.args.circuit.ports ps (map port_state_of c.args.circuit.primitives)) (sym c.in_ok-players.ensures) first in
     subst (λ (w : Wiring Kind). AreBetween c.args.ports.now.list w.ports c.in_ok-players.players (map port_state_of w.primitives)) (sym c.in_ok-engine.ensures.circuit) players
@@ -28,7 +28,7 @@ returns-clause-replayed c =
     let start : Place Kind = start_of c.args.circuit c.args.script.components in
     let same : record { state = record { circuit = c.in_ok-engine.engine.circuit; players = c.in_ok-players.players }; over = c.begins-begins.result } ≡ start =
     λ i. record { state = record { circuit = c.in_ok-engine.ensures.circuit i; players = c.in_ok-players.ensures i }; over = over i } in
-    subst (λ (s : Place Kind). MatchResult c.replay_rounds.result (AreReplayed kind_rules s c.args.rounds.now) (IsHalted c.args.nodes.now c.args.homes.now s c.args.rounds.now)) same c.replay_rounds.ensures.replayed
+    subst (λ (s : Place Kind). MatchResult c.replay_rounds-answer.result (AreReplayed kind_rules s c.args.rounds.now) (IsHalted c.args.nodes.now c.args.homes.now s c.args.rounds.now)) same c.replay_rounds-answer.ensures.replayed
 
 pub returns-clause-drawn : goal.returns-clause-drawn
 returns-clause-drawn c =
@@ -36,4 +36,4 @@ returns-clause-drawn c =
     let start : Place Kind = start_of c.args.circuit c.args.script.components in
     let same : record { state = record { circuit = c.in_ok-engine.engine.circuit; players = c.in_ok-players.players }; over = c.begins-begins.result } ≡ start =
     λ i. record { state = record { circuit = c.in_ok-engine.ensures.circuit i; players = c.in_ok-players.ensures i }; over = over i } in
-    subst (λ (s : Place Kind). OnOk c.replay_rounds.result (IsDrawnWithin c.args.ports.now.list c.args.nodes.now c.args.homes.now s c.args.rounds.now (length c.args.rounds.now) c.args.number c.replay_rounds.new.picture)) same c.replay_rounds.ensures.drawn
+    subst (λ (s : Place Kind). OnOk c.replay_rounds-answer.result (IsDrawnWithin c.args.ports.now.list c.args.nodes.now c.args.homes.now s c.args.rounds.now (length c.args.rounds.now) c.args.number c.replay_rounds-answer.new.picture)) same c.replay_rounds-answer.ensures.drawn

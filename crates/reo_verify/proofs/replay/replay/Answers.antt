@@ -13,8 +13,8 @@ use Rattle.reo_verify.proofs.replay.replay.Goals as goal
 pub new-requires-2 : goal.new-requires-2
 new-requires-2 g c = just_ports _ _ c.args.ports.now.list c.requires.fit.count_is c.requires.fit.ports_are
 
-pub replay_rounds-requires-clause-between : goal.replay_rounds-requires-clause-between
-replay_rounds-requires-clause-between g c =
+pub replay_rounds-answer-requires-clause-between : goal.replay_rounds-answer-requires-clause-between
+replay_rounds-answer-requires-clause-between g c =
     let first = between_first (map g.P.Ported.port_state c.args.circuit.primitives) c.args.circuit.ports c.args.ports.now.list c.args.script.components c.requires.fit in
     let players = subst (λ ps. AreBetween c.args.ports.now.list c.args.circuit.ports ps (map g.P.Ported.port_state c.args.circuit.primitives)) (sym c.in_ok-players.ensures) first in
     subst (λ (w : Wiring g.row.P.Denot). AreBetween c.args.ports.now.list w.ports c.in_ok-players.players (map g.P.Ported.port_state w.primitives)) (sym c.in_ok-engine.ensures.circuit) players
@@ -26,4 +26,4 @@ returns g c =
     let start : Place g.row.P.Denot = start_of c.args.circuit c.args.script.components in
     let same : record { state = record { circuit = c.in_ok-engine.engine.circuit; players = c.in_ok-players.players }; over = c.begins-begins.result } ≡ start =
     λ i. record { state = record { circuit = c.in_ok-engine.ensures.circuit i; players = c.in_ok-players.ensures i }; over = over i } in
-    subst (λ (s : Place g.row.P.Denot). MatchResult c.replay_rounds.result (AreReplayed r s c.args.rounds.now) (IsHalted r c.args.nodes.now c.args.homes.now s c.args.rounds.now)) same c.replay_rounds.ensures
+    subst (λ (s : Place g.row.P.Denot). MatchResult c.replay_rounds-answer.result (AreReplayed r s c.args.rounds.now) (IsHalted r c.args.nodes.now c.args.homes.now s c.args.rounds.now)) same c.replay_rounds-answer.ensures
