@@ -1,3 +1,4 @@
 pub mod OneBit
 pub mod Lists
+pub mod Keeping
 pub mod Search

@@ -1,8 +1,9 @@
 //! Truth values as bits of words.
 ghost use Rattle.std.specs.Prelude.{◌≡◌, ◌<◌, true, false, IfOk, length, replicate, set, slice_index_or};
 ghost use Rattle.reo_flags.specs.Next.{IsNext};
+ghost use Rattle.reo_flags.specs.Where.{AreKeptWhere};
 
-use crate::words::{BITS, has_bit, next_bit, with_bit, word_of};
+use crate::words::{BITS, has_bit, keep_bits, next_bit, with_bit, word_of};
 use reo_values::NoMemory;
 use std::alloc::Global;
 use std::marker::Model;
@@ -26,7 +27,8 @@ impl Model for Flags {
 }
 
 impl Flags {
-    /// So many flags, all of this value. `NoMemory` is out of memory.
+    /// So many flags, all of this value. `NoMemory` is out of memory, as it always is for more than
+    /// 2^64 - 65 flags.
     pub fn new(alloc: Global, count: usize, value: bool) -> Result<Flags, NoMemory>
         ensures { IfOk result (λ made. made ≡ replicate count value) }
     {
@@ -64,6 +66,7 @@ impl Flags {
     }
 
     /// Gives all flags this value.
+    #[inline(always)]
     fn fill(&mut self, value: bool)
         ensures { self.new ≡ replicate (length self.old) value }
     {
@@ -82,6 +85,39 @@ impl Flags {
         ensures { self.new ≡ replicate (length self.old) true }
     {
         self.fill(true);
+    }
+
+    /// Makes these flags the same as others.
+    pub fn copy_from(&mut self, other: &Flags)
+        requires { length other.now ≡ length self.old }
+        ensures { self.new ≡ other.now }
+    {
+        self.words.copy_from_slice(&other.words);
+    }
+
+    /// Clears each flag at a place where the mark has not this value. All others stay.
+    #[inline(always)]
+    fn keep(&mut self, marks: &Flags, value: bool)
+        requires { length marks.now ≡ length self.old }
+        ensures { AreKeptWhere value marks.now self.old self.new }
+    {
+        keep_bits(&mut self.words, &marks.words, value);
+    }
+
+    /// Clears each flag at a place where a mark is set. All others stay.
+    pub fn clear_where(&mut self, marks: &Flags)
+        requires { length marks.now ≡ length self.old }
+        ensures { AreKeptWhere false marks.now self.old self.new }
+    {
+        self.keep(marks, false);
+    }
+
+    /// Clears each flag at a place where no mark is set. All others stay.
+    pub fn keep_where(&mut self, marks: &Flags)
+        requires { length marks.now ≡ length self.old }
+        ensures { AreKeptWhere true marks.now self.old self.new }
+    {
+        self.keep(marks, true);
     }
 
     /// The least place from `from` on whose flag has this value, or their number if there is none.

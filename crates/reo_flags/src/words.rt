@@ -1,7 +1,7 @@
 //! Bits in a row of words.
 ghost use Rattle.std.specs.Prelude.{◌≡◌, ℕ, ◌*◌, ◌^◌, ◌<◌, ◌≤◌, not, length};
 ghost use Rattle.std.specs.Int.{bit_at};
-ghost use Rattle.reo_flags.specs.Bits.{bit_of, IsNextBit};
+ghost use Rattle.reo_flags.specs.Bits.{AreKeptBits, bit_of, IsNextBit};
 
 /// How many bits a word has.
 pub(crate) const BITS: usize = 64;
@@ -41,6 +41,17 @@ fn having(word: u64, value: bool) -> u64
     ensures clear { (i : ℕ) → i < 64 → bit_at result i ≡ 0 → bit_of word i ≡ not value }
 {
     if value { word } else { !word }
+}
+
+/// Clears each bit of words at a place where that of others has not this value. All others stay.
+#[inline(always)]
+pub(crate) fn keep_bits(words: &mut [u64], marks: &[u64], value: bool)
+    requires { length marks.now ≡ length words.old }
+    ensures { AreKeptBits value marks.now (64 * length words.old) words.old words.new }
+{
+    for place in 0..words.len() {
+        words[place] = words[place] & having(marks[place], value);
+    }
 }
 
 /// The next bit of a value from the first of a word on.

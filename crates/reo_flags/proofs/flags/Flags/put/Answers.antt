@@ -25,5 +25,5 @@ returns c =
     let enough = c.self.invariant.enough in
     let read = get_or_read c.self.inside.words.items (c.args.place / 64) _ (omega arith) c.index-word.ensures 0 in
     rw (← c.self.view_is)
-    (one_put c.self.inside.count c.self.inside.words.items c.args.place c.with_bit.result c.args.value enough place_in c.with_bit.ensures.here
+    (one_put c.self.inside.count c.self.inside.words.items c.args.place c.with_bit.result c.args.value (omega arith) place_in c.with_bit.ensures.here
     (λ i lt ne. c.with_bit.ensures.others i lt ne ∙ ap (λ w. bit_of w i) read))
