@@ -6,13 +6,14 @@ use Rattle.reo_net_base.specs.Net.{Net, first_side, behaviour_at, side_at, row_a
 use Rattle.reo_net_base.specs.Sides.{side_count}
 use Rattle.reo_net_base.specs.Wired.{IsWired}
 use Rattle.reo_net_circuit.proofs.ReshapeLemmas.{first_same}
-use Rattle.reo_net_laws.specs.Alike.{SameSide, AreAlike}
+use Rattle.reo_net_laws.specs.Alike.{AreAlike}
 use Rattle.reo_net_laws.proofs.Isolation.{isolated}
 use Rattle.reo_net_laws.proofs.Sides.{side_at_place}
 use Rattle.reo_knots.specs.Knots.{Knotted, AreKnots, in_knot, knot_count}
 use Rattle.reo_still.specs.Still.{IsStill}
 use Rattle.reo_still.proofs.Rounds.{still_stay_first}
 use Rattle.reo_still.proofs.WithinLemmas.{alike_weigh}
+use Rattle.reo_kept_tables.proofs.Staying.{same_side}
 use Rattle.reo_planning.specs.declared.kept.Kept.{Kept}
 use Rattle.reo_planning.specs.Keeping.{is_settled, is_moving, FlowsIn, HasSizes, IsKnown, IsKept}
 use Rattle.reo_planning.specs.Unsettling.{AreFewer, IsElsewhere, KeptElsewhere, KeptLater}
@@ -20,17 +21,7 @@ use Rattle.reo_planning.proofs.Flowing.{still_same}
 use Rattle.reo_planning.proofs.KnotSets.{number_is}
 use Rattle.reo_planning.proofs.Shapes.{count_same}
 
-same_side : (b d : Behaviour) (side : ℕ) → d ≡ b → SameSide b d side
-same_side b d side e = subst (λ (x : Behaviour). SameSide b x side) (sym e) record {
-  rows = refl;
-  mark = λ row end lt of. refl;
-  class = λ row turn lt. refl;
-  from = λ row end gives. refl;
-  given = λ row end taken gives. refl;
-  passes = λ row end item lt of takes. refl;
-}
-
-mark_is : (net : Net) (rows : List ℕ) (e : End)
+pub mark_is : (net : Net) (rows : List ℕ) (e : End)
     → mark_at net rows e ≡ (behaviour_at net.primitives e.primitive).mark ((behaviour_at net.primitives e.primitive).side_of e.end) (get_or rows (first_side net.primitives e.primitive + (behaviour_at net.primitives e.primitive).side_of e.end) 0) e.end
 unfolding mark_at row_at side_at
 mark_is net rows e = refl

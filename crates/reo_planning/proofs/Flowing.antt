@@ -4,11 +4,10 @@ use Rattle.std.specs.Prelude.{filter, ◌==◌}
 use Rattle.std.proofs.lemmas.Bool.Decides.{nat_tests}
 use Rattle.std.proofs.lemmas.List.Elements.{Contains-get_or}
 use Rattle.std.proofs.lemmas.List.{get_or_default}
-use Rattle.reo_net_base.specs.declared.mark.Mark.{Mark}
-use Rattle.reo_net_base.specs.declared.mark.Mark.TheVariants.{F, G, R, J}
+use Rattle.reo_values.proofs.Truths.{not_both}
+use Rattle.reo_net_base.specs.declared.mark.Mark.TheVariants.{F}
 use Rattle.reo_net_base.specs.declared.joint.End.{End}
 use Rattle.reo_net_base.specs.Behaviour.{Behaviour}
-use Rattle.reo_net_base.specs.Marks.{is_flow, marks_match}
 use Rattle.reo_net_base.specs.Net.{Net, behaviour_at, mark_at, row_at, side_at}
 use Rattle.reo_net_base.specs.Colouring.{RowsFit}
 use Rattle.reo_net_base.specs.Sides.{side_count}
@@ -23,34 +22,10 @@ use Rattle.reo_flowing.proofs.Passing.{next_from, nothing_there}
 use Rattle.reo_kept_tables.specs.Orders.{AreJointsOf}
 use Rattle.reo_kept_tables.proofs.Sorted.{joints_of_set}
 use Rattle.reo_still.specs.Still.{IsStill}
+use Rattle.reo_still.proofs.Quiet.{flows_both}
+use Rattle.reo_side_tables.proofs.Adding.{flows_F, still_F}
 use Rattle.reo_planning.specs.Keeping.{FlowsIn}
 use Rattle.reo_planning.specs.Marked.{TellsFlow}
-use Rattle.reo_planning.proofs.Setting.{not_both}
-
-not_flow : (m : Mark) → is_flow m ≡ false → m ≢ F
-not_flow m h e = not_both (is_flow m) h (ap is_flow e)
-
--- Where a taker flows its giver flows.
-giver_flows : (giver taker : Mark) → marks_match giver taker ≡ true → taker ≡ F → giver ≡ F
-giver_flows F taker m e = refl
-giver_flows G F m e = absurd cc
-giver_flows G G m e = absurd cc
-giver_flows G R m e = absurd cc
-giver_flows G J m e = absurd cc
-giver_flows R F m e = absurd cc
-giver_flows R G m e = absurd cc
-giver_flows R R m e = absurd cc
-giver_flows R J m e = absurd cc
-giver_flows J F m e = absurd cc
-giver_flows J G m e = absurd cc
-giver_flows J R m e = absurd cc
-giver_flows J J m e = absurd cc
-
-some_flow : (m : Mark) → is_flow m ≡ true → m ≡ F
-some_flow F h = refl
-some_flow G h = absurd cc
-some_flow R h = absurd cc
-some_flow J h = absurd cc
 
 pass_rest : (f : ℕ → Bool) (x : ℕ) (xs : List ℕ) → f x ≡ false → ((m : ℕ) → m < length xs → f (get_or xs m 0) ≡ false) → (m : ℕ) → m < length (x ∷ xs) → f (get_or (x ∷ xs) m 0) ≡ false
 pass_rest f x xs is rest zero lt = is
@@ -76,7 +51,7 @@ module _ (net : Net) (wired : IsWired net) (inside : ℕ → Bool) (joints : Lis
       giver_not j lt here =
           let place = (are.exact j).1 (lt, here) in
           let is : get_or joints place.0 0 ≡ j = get_or_default joints place.0 0 j place.1 ∙ place.2 in
-          not_flow (mark_at net rows (giver_of net j)) (subst (λ (i : ℕ). flows_by net rows i ≡ false) is (none place.0 place.1))
+          still_F (mark_at net rows (giver_of net j)) (subst (λ (i : ℕ). flows_by net rows i ≡ false) is (none place.0 place.1))
 
       still : IsStill net inside rows
       still e e_in h flows =
@@ -86,7 +61,7 @@ module _ (net : Net) (wired : IsWired net) (inside : ℕ → Bool) (joints : Lis
           elim (at.2 no_joint) [
             | inl g ↦ giver_not j at.1 (ap inside_of g ∙ h) (ap (mark_at net rows) g ∙ flows)
             | inr t ↦ giver_not j at.1 (closed.along j no_joint at.1 ∙ ap inside_of t ∙ h)
-                (giver_flows (mark_at net rows (giver_of net j)) (mark_at net rows (taker_of net j)) (fit.matched j no_joint at.1) (ap (mark_at net rows) t ∙ flows))
+                (flows_both (mark_at net rows (giver_of net j)) (mark_at net rows (taker_of net j)) (fit.matched j no_joint at.1) (ap (mark_at net rows) t ∙ flows))
           ]
 
   -- Something flows where some of them does.
@@ -95,7 +70,7 @@ module _ (net : Net) (wired : IsWired net) (inside : ℕ → Bool) (joints : Lis
     still = λ e. absurd (not_both true e refl);
     flows = λ _.
         let is = (are.exact (get_or joints m 0)).0 (Contains-get_or joints m 0 lt) in
-        record { end = giver_of net (get_or joints m 0); is_end = wired.givers (get_or joints m 0) no_joint is.0; here = is.1; flows = some_flow (mark_at net rows (giver_of net (get_or joints m 0))) flows };
+        record { end = giver_of net (get_or joints m 0); is_end = wired.givers (get_or joints m 0) no_joint is.0; here = is.1; flows = flows_F (mark_at net rows (giver_of net (get_or joints m 0))) flows };
   }
 
 -- Whether something flows in a set is told by whether a joint of it flows.

@@ -8,4 +8,5 @@ pub mod Passing
 pub mod Setting
 pub mod Storing
 pub mod Summing
+pub mod Unsettled
 pub mod Writing

@@ -1,6 +1,8 @@
 -- Flags that are set or cleared.
-use Rattle.std.proofs.Common.{◌≡◌, ◌∙◌, ◌⊎◌, inl, inr, ℕ, zero, suc, ◌<◌, Bool, true, false, List, [], ◌∷◌, length, get_or, set, refl, get_or-set_same}
+use Rattle.std.proofs.Common.{◌≡◌, ◌∙◌, inl, inr, ℕ, zero, suc, ◌<◌, Bool, true, false, List, [], ◌∷◌, length, get_or, set, refl, ap, sym, get_or-set_same}
 use Rattle.std.proofs.lemmas.List.{length-set}
+use Rattle.reo_values.proofs.Truths.{not_both}
+use Rattle.reo_joint_values.proofs.Choosing.{true_or_false}
 use Rattle.reo_planning.specs.declared.kept.Kept.{Kept}
 use Rattle.reo_planning.specs.Unsettling.{AreFewer}
 
@@ -11,16 +13,6 @@ clear_still (f ∷ fs) zero zero h = refl
 clear_still (f ∷ fs) zero (suc k) h = h
 clear_still (f ∷ fs) (suc i) zero h = h
 clear_still (f ∷ fs) (suc i) (suc k) h = clear_still fs i k h
-
--- No flag is both set and clear.
-pub not_both : (b : Bool) → b ≡ false → b ≡ true → ⊥
-not_both true h g = cc
-not_both false h g = cc
-
--- A flag is set or clear.
-pub true_or_false : (b : Bool) → (b ≡ true) ⊎ (b ≡ false)
-true_or_false true = inl refl
-true_or_false false = inr refl
 
 -- A flag that is set after another was cleared was set before.
 pub set_before : (flags : List Bool) (i k : ℕ) → get_or (set flags i false) k false ≡ true → get_or flags k false ≡ true
@@ -45,13 +37,13 @@ fewer_twice a b c f g = record {
 
 module _ (old now : Kept) (part : ℕ) (fewer : AreFewer old now) where
   -- One part more is not settled.
-  pub fewer_more : AreFewer old (record now { settled = set now.settled part false })
-  fewer_more = record {
+  pub fewer_more : (settled : List Bool) → settled ≡ set now.settled part false → AreFewer old (record now { settled = settled })
+  fewer_more settled is = record {
     rows = fewer.rows;
     moving = fewer.moving;
     budget = fewer.budget;
-    one_each = length-set now.settled part false ∙ fewer.one_each;
-    fewer = λ k h. fewer.fewer k (set_before now.settled part k h);
+    one_each = ap length is ∙ length-set now.settled part false ∙ fewer.one_each;
+    fewer = λ k h. fewer.fewer k (set_before now.settled part k (ap (λ (flags : List Bool). get_or flags k false) (sym is) ∙ h));
   }
 
 -- That part is not settled.

@@ -1,37 +1,23 @@
 -- Parts that are marked when rows are stored.
-use Rattle.std.proofs.Common.{◌≡◌, ◌≢◌, ◌∙◌, inl, inr, ℕ, ◌+◌, ◌<◌, Bool, true, false, List, length, get_or, set, ap, sym, subst, arith, get_or-set_same, get_or-set_other}
+use Rattle.std.proofs.Common.{◌≡◌, ◌≢◌, ◌∙◌, inl, inr, ℕ, ◌+◌, ◌<◌, ◌≤◌, Bool, true, false, List, length, get_or, set, refl, ap, sym, subst, arith, get_or-set_same, get_or-set_other}
+use Rattle.std.proofs.lemmas.Bool.{cases_lt}
 use Rattle.std.proofs.lemmas.List.{length-set}
+use Rattle.reo_values.proofs.Truths.{not_both}
+use Rattle.reo_flags.specs.Next.{IsNext}
 use Rattle.reo_net_base.specs.Net.{Net}
 use Rattle.reo_net_base.specs.Wired.{IsWired, IsOrder}
 use Rattle.reo_net_circuit.proofs.Cases.{eq_cases}
 use Rattle.reo_net_laws.proofs.OneFirst.{one_inside}
+use Rattle.reo_joint_values.proofs.Choosing.{true_or_false}
 use Rattle.reo_knots.specs.Knots.{Knotted, AreKnots, in_knot, knot_count}
 use Rattle.reo_planning.specs.declared.kept.Kept.{Kept}
 use Rattle.reo_planning.specs.Keeping.{IsKept, is_settled, is_moving}
 use Rattle.reo_planning.specs.Marked.{AreMarked, TellsFlow}
 use Rattle.reo_planning.specs.Planned.{ArePlanned}
 use Rattle.reo_planning.proofs.Flowing.{told_same}
-use Rattle.reo_planning.proofs.Setting.{not_both, true_or_false}
 
 module _ (net : Net) (knots : Knotted) (rows : List ℕ) where
   module _ (n : ℕ) (old now : Kept) (far : AreMarked net knots rows n old now) where
-    -- One part more, which is settled.
-    pub marked_as_was : is_settled now n ≡ true → AreMarked net knots rows (n + 1) old now
-    marked_as_was is = record {
-      one_each = far.one_each;
-      one_mark = far.one_mark;
-      settled = λ k lt. elim (eq_cases k n) [
-        | inl e ↦ ap (is_settled now) e ∙ is
-        | inr ne ↦ far.settled k (omega (arith, lt, ne))
-      ];
-      rest = λ k le. far.rest k (omega (arith, le));
-      stay = far.stay;
-      told = λ k lt not. elim (eq_cases k n) [
-        | inl e ↦ absurd (not_both (is_settled now n) (far.rest n (omega arith) ∙ ap (is_settled old) (sym e) ∙ not) is)
-        | inr ne ↦ far.told k (omega (arith, lt, ne)) not
-      ];
-    }
-
     -- One part more, which is marked.
     pub marked_more : (flag : Bool) → is_settled now n ≡ false → n < length now.settled → n < length now.moving → TellsFlow net (in_knot knots.numbers n) rows flag
         → AreMarked net knots rows (n + 1) old (record now { settled = set now.settled n true; moving = set now.moving n flag })
@@ -55,6 +41,36 @@ module _ (net : Net) (knots : Knotted) (rows : List ℕ) where
         | inr ne ↦ subst (TellsFlow net (in_knot knots.numbers k) rows) (sym (get_or-set_other now.moving n k flag true ne)) (far.told k (omega (arith, lt, ne)) not)
       ];
     }
+
+  -- No part is marked yet.
+  pub marked_none : (old : Kept) → AreMarked net knots rows 0 old old
+  marked_none old = record {
+    one_each = refl;
+    one_mark = refl;
+    settled = λ k lt. absurd (omega arith);
+    rest = λ k le. refl;
+    stay = λ k was. refl;
+    told = λ k lt not. absurd (omega arith);
+  }
+
+  -- What is marked up to a part is marked up to the next that is not settled.
+  pub marked_next : (n next : ℕ) (old now : Kept) → n ≤ length now.settled → IsNext false now.settled n next → AreMarked net knots rows n old now → AreMarked net knots rows next old now
+  marked_next n next old now in_range is far =
+      let on = is.from_on in
+      record {
+        one_each = far.one_each;
+        one_mark = far.one_mark;
+        settled = λ k lt. elim (cases_lt k n) [
+          | inl low ↦ far.settled k low
+          | inr high ↦ is.none_before k high lt
+        ];
+        rest = λ k le. far.rest k (omega arith);
+        stay = far.stay;
+        told = λ k lt not. elim (cases_lt k n) [
+          | inl low ↦ far.told k low not
+          | inr high ↦ absurd (not_both (is_settled now k) (far.rest k high ∙ not) (is.none_before k high lt))
+        ];
+      }
 
 -- Rows that are planned are kept where the parts that were not settled are marked by them.
 pub kept_stored : (budget : ℕ) (net : Net) → IsWired net → (order : List ℕ) → IsOrder net order → (knots : Knotted) → AreKnots net knots → (turn : ℕ) (rows : List ℕ) (old new : Kept)

@@ -20,14 +20,16 @@ sum_fewer f n (suc k) =
     let shift : (n + k) + 1 ≡ n + suc k = omega arith in
     subst (λ (m : ℕ). sum_below n f ≤ sum_below m f) shift (omega (arith, before, next))
 
+-- Parts that do not tick.
+pub ticked_over : (f : ℕ → ℕ) (n next start now : ℕ) → n ≤ next → now ≤ start + sum_below n f → now ≤ start + sum_below next f
+ticked_over f n next start now le far =
+    let shift : n + (next - n) ≡ next = omega (arith, le) in
+    let whole : sum_below n f ≤ sum_below next f = subst (λ (m : ℕ). sum_below n f ≤ sum_below m f) shift (sum_fewer f n (next - n)) in
+    omega (arith, far, whole)
+
 -- A part that faults has ticked at most as often as it weighs, and all parts no more than that.
 pub ticked_all : (f : ℕ → ℕ) (n count start now next : ℕ) → n < count → now ≤ start + sum_below n f → next ≤ now + f n → next ≤ start + sum_below count f
-ticked_all f n count start now next lt far more =
-    let gap : ℕ = count - (n + 1) in
-    let shift : (n + 1) + gap ≡ count = omega arith in
-    let rest = sum_fewer f (n + 1) gap in
-    let whole : sum_below (n + 1) f ≤ sum_below count f = subst (λ (m : ℕ). sum_below (n + 1) f ≤ sum_below m f) shift rest in
-    omega (arith, ticked_more f n start now next far more, whole)
+ticked_all f n count start now next lt far more = ticked_over f (n + 1) count start next (omega arith) (ticked_more f n start now next far more)
 
 less_left : (b : Bool) (a c w : ℕ) → a ≤ c → a + cond b 0 w ≤ c + w
 less_left true a c w le = omega arith

@@ -1,11 +1,13 @@
 -- Writing rows down at one side after another.
-use Rattle.std.proofs.Common.{◌≡◌, ℕ, zero, suc, ◌+◌, ◌<◌, Bool, true, false, ◌||◌, List, [], ◌∷◌, ◌++◌, length, map, get_or, take, set, refl, ap, sym, ◌∙◌, subst, arith, get_or-set_same, get_or-set_other, add-one}
+use Rattle.std.proofs.Common.{◌≡◌, ℕ, ◌+◌, ◌<◌, Bool, true, false, ◌||◌, List, [], ◌∷◌, ◌++◌, length, get_or, take, set, refl, sym, ◌∙◌, subst, arith, get_or-set_same, get_or-set_other, add-one}
 use Rattle.std.specs.Bool.{◌==◌}
 use Rattle.std.proofs.lemmas.List.{length-set}
+use Rattle.reo_values.proofs.Naturals.{eq_same, same_eq}
+use Rattle.reo_values.proofs.Sequences.{one_more}
 use Rattle.reo_net_laws.specs.Sublists.{part_rows}
-use Rattle.reo_joint_values.proofs.Equal.{same_eq, eq_same}
 use Rattle.reo_propagate.specs.Queues.{among}
 use Rattle.reo_propagate.proofs.Among.{among_more}
+use Rattle.reo_walk.proofs.Listing.{mapped_at}
 use Rattle.reo_planning.specs.Written.{AreWritten}
 
 -- Nothing is written down yet.
@@ -50,20 +52,10 @@ module _ (sides from old now : List ℕ) (side row : ℕ) (lt : side < length ol
     others = λ s h. other_for s (sym (among_more sides side s) ∙ h);
   }
 
-mapped_at : (f : ℕ → ℕ) (xs : List ℕ) (m : ℕ) → m < length xs → get_or (map f xs) m 0 ≡ f (get_or xs m 0)
-mapped_at f [] m lt = absurd (omega arith)
-mapped_at f (x ∷ xs) zero lt = refl
-mapped_at f (x ∷ xs) (suc m) lt = mapped_at f xs m (omega arith)
-
 -- The row of a part that stands at a place is that of its side.
 pub row_at_side : (sides rows from : List ℕ) (m : ℕ) → m < length sides → rows ≡ part_rows sides from → get_or rows m 0 ≡ get_or from (get_or sides m 0) 0
 row_at_side sides rows from m lt is =
     subst (λ (xs : List ℕ). get_or xs m 0 ≡ get_or from (get_or sides m 0) 0) (sym is) (mapped_at (λ side. get_or from side 0) sides m lt)
-
-one_more : (xs : List ℕ) (m : ℕ) → m < length xs → take (suc m) xs ≡ take m xs ++ get_or xs m 0 ∷ []
-one_more [] m lt = absurd (omega arith)
-one_more (x ∷ xs) zero lt = refl
-one_more (x ∷ xs) (suc m) lt = ap (λ (ys : List ℕ). x ∷ ys) (one_more xs m (omega arith))
 
 -- One place more of a list.
 pub take_next : (xs : List ℕ) (m : ℕ) → m < length xs → take (m + 1) xs ≡ take m xs ++ get_or xs m 0 ∷ []

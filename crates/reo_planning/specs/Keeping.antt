@@ -1,5 +1,5 @@
 -- What is kept of the parts of a circuit.
-use Rattle.std.specs.Prelude.{ℕ, ◌<◌, ◌≡◌, Bool, true, false, not, ◌&&◌, List, length, nat_le, replicate, slice_index_or}
+use Rattle.std.specs.Prelude.{ℕ, ◌<◌, ◌≤◌, ◌≡◌, Bool, true, false, not, ◌&&◌, List, length, nat_le, replicate, slice_index_or}
 use Rattle.reo_net_base.specs.declared.joint.End.{End}
 use Rattle.reo_net_base.specs.declared.mark.Mark.TheVariants.{F}
 use Rattle.reo_net_base.specs.Net.{Net, side_at, mark_at}
@@ -30,6 +30,14 @@ serves kept budget k = nat_le kept.budget budget && is_settled kept k
 -- The rows that are kept of so many parts, all of them, serve for a budget.
 abbrev pub AllServe : ℕ → ℕ → Kept → Type 0
 AllServe count budget kept = (k : ℕ) → k < count → serves kept budget k ≡ true
+
+-- The part is the least from another on of which the rows that are kept do not serve for a budget,
+-- or the number of parts if there is none.
+pub record IsNextUnserved (budget from : ℕ) (kept : Kept) (part : ℕ) : Type 0 where
+  pub from_on : from ≤ part
+  pub in_range : part ≤ length kept.settled
+  pub none_before : (k : ℕ) → from ≤ k → k < part → serves kept budget k ≡ true
+  pub here : part < length kept.settled → serves kept budget part ≡ false
 
 -- Some end of a set of sides flows.
 pub record FlowsIn (net : Net) (inside : ℕ → Bool) (rows : List ℕ) : Type 0 where

@@ -38,11 +38,11 @@ impl Kept {
     {
         let _ = rows;
         circuit.known();
-        for part in 0..knots.count() {
-            if !self.is_settled(part) {
-                *self.moving.at_mut(part) = !flowing.at(part).is_empty();
-                *self.settled.at_mut(part) = true;
-            }
+        let mut part = self.settled.next_clear(0);
+        while part < self.settled.len() {
+            self.moving.put(part, !flowing.at(part).is_empty());
+            self.settled.put(part, true);
+            part = self.settled.next_clear(part + 1);
         }
     }
 
@@ -90,7 +90,7 @@ impl Kept {
         let _count = circuit.sides();
         let first = circuit.first_of(primitive);
         for side in 0..circuit.primitive(primitive).sides() {
-            *self.settled.at_mut(knots.knot_of(first + side)) = false;
+            self.settled.put(knots.knot_of(first + side), false);
         }
     }
 
@@ -108,10 +108,10 @@ impl Kept {
         ensures { let net = net_of P.behaviour circuit.now in
             AreMarkedUnsettled net knots.now marks.now (length marks.now) self.old self.new }
     {
-        for primitive in 0..marks.len() {
-            if marks.at(primitive) {
-                self.unsettle(circuit, knots, primitive);
-            }
+        let mut primitive = marks.next_set(0);
+        while primitive < marks.len() {
+            self.unsettle(circuit, knots, primitive);
+            primitive = marks.next_set(primitive + 1);
         }
     }
 
@@ -145,10 +145,6 @@ impl Kept {
         requires { length self.old.settled ≡ length self.old.moving }
         ensures { AreMovingUnsettled self.old self.new }
     {
-        for part in 0..self.moving.len() {
-            if *self.moving.at(part) {
-                *self.settled.at_mut(part) = false;
-            }
-        }
+        self.settled.clear_where(&self.moving);
     }
 }

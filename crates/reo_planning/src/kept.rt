@@ -1,9 +1,9 @@
 //! What is kept of parts from round to round.
 ghost use Rattle.std.specs.Prelude.{◌≡◌, ◌<◌, ◌≤◌, ◌↔◌, IsTrue, IfOk, length};
-ghost use Rattle.reo_planning.specs.Keeping.{AllServe, IsFresh, is_settled, serves};
+ghost use Rattle.reo_planning.specs.Keeping.{AllServe, IsFresh, IsNextUnserved, is_settled, serves};
 
-use crate::flags::flags;
 use crate::rows::some_rows;
+use reo_flags::Flags;
 use reo_values::{List, NoMemory};
 use std::alloc::Global;
 
@@ -13,8 +13,8 @@ use std::alloc::Global;
 #[derive(Drop)]
 pub struct Kept {
     pub(crate) rows: List<u32>,
-    pub(crate) settled: List<bool>,
-    pub(crate) moving: List<bool>,
+    pub(crate) settled: Flags,
+    pub(crate) moving: Flags,
     pub(crate) budget: u64,
 }
 
@@ -24,8 +24,8 @@ impl Kept {
         ensures { IfOk result (IsFresh sides parts) }
     {
         let rows = some_rows(alloc, sides)?;
-        let settled = flags(alloc, parts, false)?;
-        let moving = flags(alloc, parts, true)?;
+        let settled = Flags::new(alloc, parts, false)?;
+        let moving = Flags::new(alloc, parts, true)?;
         Ok(Kept {
             rows,
             settled,
@@ -41,12 +41,27 @@ impl Kept {
         self.rows.as_slice()
     }
 
+    /// For each part whether it is settled. This takes no memory.
+    pub fn settled(&self) -> &Flags
+        ensures { result.now ≡ self.now.settled }
+    {
+        &self.settled
+    }
+
+    /// For each part whether something flows in it by the rows that are kept. Of parts that are not
+    /// settled it tells nothing. This takes no memory.
+    pub fn moving(&self) -> &Flags
+        ensures { result.now ≡ self.now.moving }
+    {
+        &self.moving
+    }
+
     /// Whether a part is settled. This takes no memory.
     pub fn is_settled(&self, part: usize) -> bool
         requires { part < length self.now.settled }
         ensures { result ≡ is_settled self.now part }
     {
-        *self.settled.at(part)
+        self.settled.at(part)
     }
 
     /// Whether the rows that are kept of a part serve for a budget. This takes no memory.
@@ -57,15 +72,23 @@ impl Kept {
         self.budget <= budget && self.is_settled(part)
     }
 
+    /// The least part from `from` on of which the rows that are kept do not serve for a budget, or
+    /// the number of parts if there is none. This takes no memory.
+    pub fn next_unserved(&self, budget: u64, from: usize) -> usize
+        requires { from ≤ length self.now.settled }
+        ensures { IsNextUnserved budget from self.now result }
+    {
+        if self.budget <= budget {
+            self.settled.next_clear(from)
+        } else {
+            from
+        }
+    }
+
     /// Whether the rows that are kept serve for a budget, of all parts. This takes no memory.
     pub fn all_serve(&self, budget: u64) -> bool
         ensures { IsTrue result ↔ AllServe (length self.now.settled) budget self.now }
     {
-        for part in 0..self.settled.len() {
-            if !self.serves(part, budget) {
-                return false;
-            }
-        }
-        true
+        self.next_unserved(budget, 0) == self.settled.len()
     }
 }

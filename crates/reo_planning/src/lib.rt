@@ -2,7 +2,6 @@
 #![tactic(auto)]
 
 mod faults;
-mod flags;
 mod keeping;
 mod kept;
 mod laws;

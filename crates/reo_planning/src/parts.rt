@@ -24,8 +24,8 @@ use reo_values::List;
 use std::alloc::Global;
 use std::sync::ledger::Ledger;
 
-/// Searches a part, and writes the rows of its first assignment down. It makes at most as many ticks
-/// as the part weighs.
+/// Searches a part, and writes the rows of its first assignment down. It makes at most as many
+/// ticks as the part weighs.
 ///
 /// # Errors
 ///

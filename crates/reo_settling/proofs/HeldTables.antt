@@ -1,6 +1,10 @@
 -- Tables that are kept, and what is looked up.
-use Rattle.std.proofs.Common.{◌≡◌, ◌∙◌, inl, inr, ℕ, ◌+◌, ◌*◌, ◌<◌, ◌≢◌, Bool, true, false, Some, None, Option, List, length, get_or, ap, sym, subst, arith}
+use Rattle.std.proofs.Common.{◌≡◌, ◌∙◌, inl, inr, ℕ, ◌+◌, ◌*◌, ◌<◌, ◌≤◌, ◌≢◌, Bool, true, false, Some, None, Option, List, length, get_or, ap, sym, subst, arith}
 use Rattle.std.specs.Prelude.{Result, Ok, Err, OnErr}
+use Rattle.std.proofs.lemmas.Bool.{cases_Bool, cases_lt}
+use Rattle.reo_values.proofs.Truths.{not_both}
+use Rattle.reo_flags.specs.Next.{IsNext}
+use Rattle.reo_flags.specs.Where.{AreKeptWhere}
 use Rattle.reo_net_base.specs.Net.{Net, first_side}
 use Rattle.reo_net_base.specs.Wired.{IsWired}
 use Rattle.reo_net_circuit.proofs.Cases.{eq_cases}
@@ -104,10 +108,6 @@ told_is net knots kept lookups steady told = record {
   marks = steady.marks;
 }
 
-not_both : (b : Bool) → b ≡ false → b ≡ true → ⊥
-not_both true h g = cc
-not_both false h g = cc
-
 -- What is steady and not told.
 pub untold_is : (net : Net) (knots : Knotted) (kept : Kept) (lookups : Lookups) → AreSteady net knots lookups → lookups.told ≡ false → AreLookups net knots kept lookups
 untold_is net knots kept lookups steady untold = steady_is net knots kept lookups steady (λ told. absurd (not_both lookups.told untold told))
@@ -124,6 +124,13 @@ fresh_tables net knots kept old new one_each fewer (Some tables) may = record {
   right = λ k lt marked. let before = fewer k (omega (arith, lt, one_each)) marked in may.right k lt before.0 before.1;
 }
 
+-- Marks that stay only where parts are settled.
+pub fresh_kept : (kept : Kept) (old new : List Bool) → AreKeptWhere true kept.settled old new → (k : ℕ) → is_fresh new k ≡ true → (is_fresh old k ≡ true) × (is_settled kept k ≡ true)
+fresh_kept kept old new are k h = elim (cases_Bool (is_settled kept k)) [
+  | inl settled ↦ (sym (are.kept k settled) ∙ h, settled)
+  | inr open_ ↦ absurd (not_both (is_fresh new k) (are.gone k open_) h)
+]
+
 -- Where the tables of parts that are not settled are forgotten, what is looked up is steady.
 pub forgotten_is : (net : Net) (knots : Knotted) (kept : Kept) (old new : Lookups) → AreLookups net knots kept old → IsForgotten kept old new → AreSteady net knots new
 forgotten_is net knots kept old new are is = record {
@@ -135,6 +142,21 @@ forgotten_is net knots kept old new are is = record {
   plans = subst (ArePlans net knots) (sym is.plans) are.plans;
   marks = subst (IsMarkSearch net) (sym is.marks) are.marks;
 }
+
+-- And also where it is told no more which joints flow.
+pub forgotten_steady : (net : Net) (knots : Knotted) (kept : Kept) (old : Lookups) (told : Bool) (new : Lookups) → told ≡ false → AreLookups net knots kept old → IsForgotten kept (record old { told = told }) new → AreSteady net knots new
+forgotten_steady net knots kept old told new untold are is =
+    let now : AreLookups net knots kept (record old { told = told }) = record {
+      orders = are.orders;
+      one_list = are.one_list;
+      flowing = λ yes_. absurd (not_both told untold yes_);
+      one_each = are.one_each;
+      tables = are.tables;
+      bounds = are.bounds;
+      plans = are.plans;
+      marks = are.marks;
+    } in
+    forgotten_is net knots kept (record old { told = told }) new now is
 
 -- Tables that are ready are right wherever a part is marked.
 pub ready_may_stay : (net : Net) (knots : Knotted) (ends : List (List ℕ)) (fresh : List Bool) (tables : Tables) → AreReady net ends tables → AreFreshTables net knots fresh tables
@@ -164,6 +186,17 @@ renewed_more net knots fresh n old new n_in far room right others = record {
   where
     by : (k : ℕ) → (k ≢ n → AreRightOn net (in_knot knots.numbers k) new) → AreRightOn net (in_knot knots.numbers k) new
     by k other = elim (eq_cases k n) [ inl e ↦ subst (λ (m : ℕ). AreRightOn net (in_knot knots.numbers m) new) (sym e) right | inr ne ↦ other ne ]
+
+-- What is right up to a part is right up to the next that is not fresh.
+pub renewed_next : (net : Net) (knots : Knotted) (fresh : List Bool) (n next : ℕ) (tables : Tables) → next ≤ knot_count knots → IsNext false fresh n next → AreRenewed net knots fresh n tables → AreRenewed net knots fresh next tables
+renewed_next net knots fresh n next tables in_range is far = record {
+  room = far.room;
+  done = λ k lt. elim (cases_lt k n) [
+    | inl low ↦ far.done k low
+    | inr high ↦ far.rest k (omega arith) (is.none_before k high lt)
+  ];
+  rest = far.rest;
+}
 
 -- All parts are right, so the tables are ready.
 pub renewed_all : (net : Net) → IsWired net → (ends : List (List ℕ)) → AreEnds net ends → (knots : Knotted) → AreKnots net knots → (fresh : List Bool) (tables : Tables) → AreRenewed net knots fresh (knot_count knots) tables

@@ -1,3 +1,4 @@
 pub mod Found
 pub mod HeldTables
 pub mod Listed
+pub mod Served

@@ -5,8 +5,7 @@ use Rattle.std.proofs.lemmas.List.{length-set}
 use Rattle.std.proofs.lemmas.List.Elements.{Contains-get_or}
 use Rattle.reo_net_base.specs.Behaviour.{Behaviour}
 use Rattle.reo_net_base.specs.declared.joint.End.{End}
-use Rattle.reo_net_base.specs.Net.{Net, Side, all_sides, behaviour_at, first_side, mark_at, row_at, row_count, side_at}
-use Rattle.reo_net_base.specs.Shapes.{SameShapes}
+use Rattle.reo_net_base.specs.Net.{Net, all_sides, behaviour_at, first_side, mark_at, row_count, side_at}
 use Rattle.reo_net_base.specs.Sides.{side_count}
 use Rattle.reo_net_base.specs.Wired.{IsWired, IsEnd}
 use Rattle.reo_net_circuit.proofs.Cases.{eq_cases}
@@ -24,11 +23,10 @@ use Rattle.reo_planning.specs.Planned.{IsPartPlanned}
 use Rattle.reo_planning.specs.Unsettling.{AreFewer, IsElsewhere}
 use Rattle.reo_planning.proofs.Flowing.{mark_same}
 use Rattle.reo_planning.proofs.KnotSets.{elsewhere, number_is}
+use Rattle.reo_planning.proofs.Elsewhere.{mark_is}
+use Rattle.reo_part_plans.proofs.Recalled.{same_shapes}
 use Rattle.reo_settling.specs.declared.lookups.Lookups.{Lookups}
 use Rattle.reo_settling.specs.Lookups.{AreListed, AreToldFor, IsListedAt}
-
-same_shapes : (bs : List Behaviour) → SameShapes bs bs
-same_shapes bs = record { count = refl; same = λ i lt. record { ends = refl; sides = refl; side_of = λ _. refl; takes_in = λ _. refl; leads = λ _. refl } }
 
 -- The joints that flow in a part are the same by rows that are the same there.
 pub flowing_same : (net : Net) → IsWired net → (inside : ℕ → Bool) (rows others : List ℕ) → ((s : ℕ) → s < side_count net → inside s ≡ true → get_or others s 0 ≡ get_or rows s 0)
@@ -84,11 +82,6 @@ told_of_some net knots rows lists are kept same = record {
   one_each = are.one_each;
   each = λ k lt _. subst (λ (rs : List ℕ). AreFlowingOf net (in_knot knots.numbers k) rs (get_or lists k [])) (sym same) (are.each k lt refl);
 }
-
-mark_is : (net : Net) (rows : List ℕ) (e : End)
-    → mark_at net rows e ≡ (behaviour_at net.primitives e.primitive).mark ((behaviour_at net.primitives e.primitive).side_of e.end) (get_or rows (first_side net.primitives e.primitive + (behaviour_at net.primitives e.primitive).side_of e.end) 0) e.end
-unfolding mark_at row_at side_at
-mark_is net rows e = refl
 
 -- What is told stays right where a circuit changes at no primitive of a part that is still settled.
 pub told_stays : (net other : Net) → IsWired net → (knots : Knotted) (old new : Kept) → AreFewer old new → IsElsewhere net other knots new → (lookups : Lookups) → AreToldFor net knots old lookups → AreToldFor other knots new lookups

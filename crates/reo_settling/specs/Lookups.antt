@@ -1,5 +1,5 @@
 -- What is looked up when parts are settled.
-use Rattle.std.specs.Prelude.{ℕ, ◌<◌, ◌≡◌, ◌≢◌, true, [], length, slice_index_or}
+use Rattle.std.specs.Prelude.{ℕ, ◌<◌, ◌≤◌, ◌≡◌, ◌≢◌, Bool, true, [], length, slice_index_or}
 use Rattle.reo_net_base.specs.Net.{Net}
 use Rattle.reo_net_base.specs.Wired.{IsWired}
 use Rattle.reo_knots.specs.Knots.{Knotted, AreKnots, knot_count}
@@ -11,7 +11,7 @@ use Rattle.reo_mark_search.specs.Found.{IsMarkSearch}
 use Rattle.reo_item_bounds.specs.Kept.{AreKeptBounds}
 use Rattle.reo_part_plans.specs.Remembered.{ArePlans}
 use Rattle.reo_settling.specs.declared.lookups.Lookups.{Lookups}
-use Rattle.reo_planning.specs.Keeping.{is_settled}
+use Rattle.reo_planning.specs.Keeping.{is_settled, serves}
 use Rattle.reo_settling.specs.Held.{is_fresh, MayBeFresh, MayBeKept}
 
 -- Where the joints that flow are told, they are those of each settled part by the rows that are kept.
@@ -59,6 +59,13 @@ pub record IsForgotten (kept : Kept) (old new : Lookups) : Type 0 where
   pub one_each : length new.fresh ≡ length old.fresh
   pub fewer : (k : ℕ) → k < length new.fresh → is_fresh new.fresh k ≡ true
       → (is_fresh old.fresh k ≡ true) × (is_settled kept k ≡ true)
+
+-- The part comes after another, and all parts between serve and are told.
+pub record IsNextToSettle (budget : ℕ) (told : Bool) (from : ℕ) (kept : Kept) (part : ℕ) : Type 0 where
+  pub from_on : from ≤ part
+  pub in_range : part ≤ length kept.settled
+  pub served : (k : ℕ) → from ≤ k → k < part → serves kept budget k ≡ true
+  pub only_told : from < part → told ≡ true
 
 -- The lists of joints of all other parts stay, and so does whether they are told.
 pub record IsListedAt (part : ℕ) (old new : Lookups) : Type 0 where

@@ -1,11 +1,12 @@
 //! What is looked up when parts are settled.
-ghost use Rattle.std.specs.Prelude.{◌≡◌, IfOk, length, replicate};
+ghost use Rattle.std.specs.Prelude.{◌≡◌, IfOk, length};
 ghost use Rattle.reo_net_base.specs.Net.{Net as Network, net_of};
 ghost use Rattle.reo_net_ends.specs.Ends.{AreEnds};
 ghost use Rattle.reo_knots.specs.Knots.{AreKnots, Knotted};
 ghost use Rattle.reo_planning.specs.declared.kept.Kept.{Kept as KeptRows};
 ghost use Rattle.reo_settling.specs.Lookups.{AreListed, AreLookups};
 
+use reo_flags::Flags;
 use reo_item_bounds::Bounds;
 use reo_kept_tables::{Tables, orders_of};
 use reo_knots::Knots;
@@ -26,22 +27,12 @@ pub struct Lookups {
     pub(crate) orders: List<List<usize>>,
     pub(crate) flowing: List<List<usize>>,
     pub(crate) told: bool,
-    pub(crate) fresh: List<bool>,
+    pub(crate) fresh: Flags,
     pub(crate) tables: Option<Tables>,
     pub(crate) bounds: Bounds,
     pub(crate) plans: Plans,
     pub(crate) spare: List<u32>,
     pub(crate) marks: MarkSearch,
-}
-
-/// So many marks, none set.
-fn unmarked(alloc: Global, count: usize) -> Result<List<bool>, NoMemory>
-    ensures { IfOk result (λ made. length made ≡ count) }
-{
-    match vec![in alloc; false; count] {
-        Ok(made) => Ok(List::from_vec(made)),
-        Err(_) => Err(NoMemory),
-    }
 }
 
 /// So many lists of no joints.
@@ -70,7 +61,7 @@ impl Lookups {
     {
         let orders = orders_of(alloc, circuit, knots)?;
         let flowing = none_flowing(alloc, knots.count())?;
-        let fresh = unmarked(alloc, knots.count())?;
+        let fresh = Flags::new(alloc, knots.count(), false)?;
         let bounds = Bounds::new(alloc, circuit)?;
         let plans = Plans::new(alloc, knots.count())?;
         let marks = MarkSearch::new(alloc, circuit, ends)?;

@@ -29,15 +29,6 @@ use reo_values::{List, NoMemory};
 use std::alloc::Global;
 use std::sync::ledger::Ledger;
 
-/// Sets all marks.
-fn mark_all(marks: &mut List<bool>)
-    ensures { length marks.new ≡ length marks.old }
-{
-    for index in 0..marks.len() {
-        *marks.at_mut(index) = true;
-    }
-}
-
 impl Lookups {
     /// Searches a part by values, and writes the rows of its first assignment down. The tables are
     /// made ready for the search, and are kept.
@@ -69,12 +60,12 @@ impl Lookups {
             → steps.new ≤ steps.old + w }
     {
         let tables = self.tables.take();
-        let fresh = self.fresh.as_slice();
+        let fresh = &self.fresh;
         let mut ready = renewed(alloc, circuit, knots, ends, &self.orders, fresh, tables)?;
         search_part(
             alloc, circuit, knots, ends, &mut ready, part, turn, budget, steps, rows,
         )?;
-        mark_all(&mut self.fresh);
+        self.fresh.set_all();
         self.tables = Some(ready);
         Ok(())
     }

@@ -1,12 +1,13 @@
 //! Tables that are kept, made ready for a search.
-ghost use Rattle.std.specs.Prelude.{◌≡◌, ◌≢◌, ◌<◌, ℕ, true, IfOk, OnOk, length};
+ghost use Rattle.std.specs.Prelude.{◌≡◌, IfOk, OnOk, length};
 ghost use Rattle.reo_net_base.specs.Net.{net_of};
 ghost use Rattle.reo_net_ends.specs.Ends.{AreEnds};
-ghost use Rattle.reo_knots.specs.Knots.{AreKnots, in_knot, knot_count};
+ghost use Rattle.reo_knots.specs.Knots.{AreKnots, knot_count};
 ghost use Rattle.reo_kept_tables.specs.Orders.{AreOrders};
-ghost use Rattle.reo_kept_tables.specs.Tables.{AreReady, AreRightOn, HasRoom};
+ghost use Rattle.reo_kept_tables.specs.Tables.{AreReady};
 ghost use Rattle.reo_settling.specs.Held.{AreFreshTables, MayBeFresh};
 
+use reo_flags::Flags;
 use reo_kept_tables::{Tables, refresh_part};
 use reo_knots::Knots;
 use reo_net_base::Primitive;
@@ -16,38 +17,6 @@ use reo_planning::tables_of;
 use reo_values::{List, NoMemory};
 use std::alloc::Global;
 
-/// Makes the tables of a part anew, if they are not fresh.
-fn renew_part<P: Primitive>(
-    alloc: Global,
-    circuit: &Circuit<P>,
-    knots: &Knots,
-    ends: &Ends,
-    orders: &List<List<usize>>,
-    fresh: bool,
-    part: usize,
-    tables: &mut Tables,
-) -> Result<(), NoMemory>
-    requires knots { AreKnots (net_of P.behaviour circuit.now) knots.now }
-    requires ends { AreEnds (net_of P.behaviour circuit.now) ends.now }
-    requires orders { AreOrders (net_of P.behaviour circuit.now) knots.now orders.now }
-    requires part { part < knot_count knots.now }
-    requires room { HasRoom (net_of P.behaviour circuit.now) tables.old }
-    requires right { let net = net_of P.behaviour circuit.now in fresh ≡ true
-        → AreRightOn net (in_knot knots.now.numbers part) tables.old }
-    ensures right { let net = net_of P.behaviour circuit.now in
-        OnOk result (AreRightOn net (in_knot knots.now.numbers part) tables.new) }
-    ensures room { HasRoom (net_of P.behaviour circuit.now) tables.new }
-    ensures others { let net = net_of P.behaviour circuit.now in
-        (k : ℕ) → k < knot_count knots.now → k ≢ part
-        → AreRightOn net (in_knot knots.now.numbers k) tables.old
-        → AreRightOn net (in_knot knots.now.numbers k) tables.new }
-{
-    if fresh {
-        return Ok(());
-    }
-    refresh_part(alloc, circuit, ends, knots, orders, part, tables)
-}
-
 /// Makes the tables of all parts anew where they are not fresh. The marks stay.
 fn renew<P: Primitive>(
     alloc: Global,
@@ -55,7 +24,7 @@ fn renew<P: Primitive>(
     knots: &Knots,
     ends: &Ends,
     orders: &List<List<usize>>,
-    fresh: &[bool],
+    fresh: &Flags,
     tables: &mut Tables,
 ) -> Result<(), NoMemory>
     requires knots { AreKnots (net_of P.behaviour circuit.now) knots.now }
@@ -67,17 +36,10 @@ fn renew<P: Primitive>(
     ensures { OnOk result (AreReady (net_of P.behaviour circuit.now) ends.now tables.new) }
 {
     circuit.known();
-    for part in 0..knots.count() {
-        renew_part(
-            alloc,
-            circuit,
-            knots,
-            ends,
-            orders,
-            fresh[part],
-            part,
-            tables,
-        )?;
+    let mut part = fresh.next_clear(0);
+    while part < fresh.len() {
+        refresh_part(alloc, circuit, ends, knots, orders, part, tables)?;
+        part = fresh.next_clear(part + 1);
     }
     Ok(())
 }
@@ -90,7 +52,7 @@ pub(crate) fn renewed<P: Primitive>(
     knots: &Knots,
     ends: &Ends,
     orders: &List<List<usize>>,
-    fresh: &[bool],
+    fresh: &Flags,
     tables: Option<Tables>,
 ) -> Result<Tables, NoMemory>
     requires knots { AreKnots (net_of P.behaviour circuit.now) knots.now }

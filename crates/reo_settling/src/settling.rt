@@ -9,7 +9,7 @@ ghost use Rattle.reo_rounds.specs.Plans.{IsPlanFault};
 ghost use Rattle.reo_planning.specs.declared.kept.Kept.{Kept as KeptRows};
 ghost use Rattle.reo_planning.specs.Keeping.{IsKept};
 ghost use Rattle.reo_planning.specs.Planned.{ArePlanned, AreWeights, sum_below, weight_left};
-ghost use Rattle.reo_settling.specs.Lookups.{AreLookups, IsForgotten};
+ghost use Rattle.reo_settling.specs.Lookups.{AreLookups, IsForgotten, IsNextToSettle};
 
 use crate::lookups::Lookups;
 use reo_knots::Knots;
@@ -24,23 +24,32 @@ use std::alloc::Global;
 use std::mem::replace;
 use std::sync::ledger::Ledger;
 
+/// The next part from `from` on of which rows or joints are to be found, or the number of parts if
+/// there is none: where joints are told it is one of which the rows that are kept do not serve.
+fn next_to_settle(kept: &Kept, budget: u64, told: bool, from: usize) -> usize
+    requires { from ≤ length kept.now.settled }
+    ensures { IsNextToSettle budget told from kept.now result }
+{
+    if told {
+        kept.next_unserved(budget, from)
+    } else {
+        from
+    }
+}
+
 impl Lookups {
     /// Of parts that are not settled the tables are not fresh.
     fn forget(&mut self, kept: &Kept)
         requires { length self.old.fresh ≡ length kept.now.settled }
         ensures { IsForgotten kept.now self.old self.new }
     {
-        for part in 0..self.fresh.len() {
-            if !kept.is_settled(part) {
-                *self.fresh.at_mut(part) = false;
-            }
-        }
+        self.fresh.keep_where(kept.settled());
     }
 
     /// The rows of the first colouring of a circuit in the round of a number, where no part is
     /// over, and for each part its joints that flow. The rows are those that are kept, where these
-    /// serve; of other parts they are remembered, or searched. It makes at most as many ticks as the
-    /// weights of those say together.
+    /// serve; of other parts they are remembered, or searched. It makes at most as many ticks as
+    /// the weights of those say together.
     ///
     /// # Errors
     ///
@@ -84,10 +93,12 @@ impl Lookups {
         self.forget(kept);
         let list = replace(&mut self.spare, List::new(alloc));
         let mut rows = written_over(list, kept.rows())?;
-        for knot in 0..knots.count() {
+        let mut part = next_to_settle(kept, budget, told, 0);
+        while part < knots.count() {
             self.settle_part(
-                alloc, circuit, knots, ends, kept, knot, turn, budget, told, steps, &mut rows,
+                alloc, circuit, knots, ends, kept, part, turn, budget, told, steps, &mut rows,
             )?;
+            part = next_to_settle(kept, budget, told, part + 1);
         }
         self.told = true;
         Ok(rows)

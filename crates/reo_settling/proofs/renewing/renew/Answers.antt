@@ -1,21 +1,34 @@
-use Rattle.std.proofs.Common.{◌≡◌, ◌<◌, ℕ, subst, arith}
+use Rattle.std.proofs.Common.{◌≡◌, ◌<◌, ◌≤◌, ◌+◌, ℕ, subst, arith}
 use Rattle.reo_net_base.specs.Net.{Net, net_of}
 use Rattle.reo_knots.specs.Knots.{knot_count}
-use Rattle.reo_settling.proofs.HeldTables.{AreRenewed, renewed_all, renewed_more, renewed_none}
+use Rattle.reo_settling.proofs.HeldTables.{AreRenewed, renewed_all, renewed_more, renewed_next, renewed_none}
 use Rattle.reo_settling.proofs.renewing.renew.Goals as goal
 
 pub loop-part-init : goal.loop-part-init
-loop-part-init g c = renewed_none (net_of g.P.Primitive.behaviour c.args.circuit.now) c.args.knots.now c.args.fresh.now c.args.tables.now c.requires.tables
+loop-part-init g c =
+    let net : Net = net_of g.P.Primitive.behaviour c.args.circuit.now in
+    let next : ℕ = c.next_clear-part.result in
+    let is = c.next_clear-part.ensures in
+    let next_in : next ≤ knot_count c.args.knots.now = omega (arith, is.in_range, c.requires.one_each) in
+    record {
+      in_range = is.in_range;
+      far = renewed_next net c.args.knots.now c.args.fresh.now 0 next c.args.tables.now next_in is (renewed_none net c.args.knots.now c.args.fresh.now c.args.tables.now c.requires.tables);
+    }
 
 pub loop-part-preserved : goal.loop-part-preserved
 loop-part-preserved g c =
     let net : Net = net_of g.P.Primitive.behaviour c.args.circuit.now in
-    let lt : c.loop-part.part < knot_count c.args.knots.now = omega arith in
-    renewed_more net c.args.knots.now c.args.fresh.now c.loop-part.part c.loop-part.tables c.renew_part.new.tables lt c.loop-part.invariant c.renew_part.ensures.room c.in_ok-renew_part.ensures.right c.renew_part.ensures.others
+    let n : ℕ = c.loop-part.part in
+    let lt : n < knot_count c.args.knots.now = omega (arith, c.requires.one_each) in
+    let more = renewed_more net c.args.knots.now c.args.fresh.now n c.loop-part.tables c.refresh_part.new.tables lt c.loop-part.invariant.far c.refresh_part.ensures.room c.in_ok-refresh_part.ensures.right c.refresh_part.ensures.others in
+    let next : ℕ = c.next_clear-part-in-loop-part.result in
+    let is = c.next_clear-part-in-loop-part.ensures in
+    let next_in : next ≤ knot_count c.args.knots.now = omega (arith, is.in_range, c.requires.one_each) in
+    record { in_range = is.in_range; far = renewed_next net c.args.knots.now c.args.fresh.now (n + 1) next c.refresh_part.new.tables next_in is more }
 
 pub returns : goal.returns
 returns g c =
     let net : Net = net_of g.P.Primitive.behaviour c.args.circuit.now in
-    let last : c.loop-part.part ≡ knot_count c.args.knots.now = omega arith in
+    let last : c.loop-part.part ≡ knot_count c.args.knots.now = omega (arith, c.loop-part.invariant.in_range, c.requires.one_each) in
     renewed_all net c.known.ensures.wired c.args.ends.now c.requires.ends c.args.knots.now c.requires.knots c.args.fresh.now c.loop-part.tables
-    (subst (λ (n : ℕ). AreRenewed net c.args.knots.now c.args.fresh.now n c.loop-part.tables) last c.loop-part.invariant)
+    (subst (λ (n : ℕ). AreRenewed net c.args.knots.now c.args.fresh.now n c.loop-part.tables) last c.loop-part.invariant.far)

@@ -41,8 +41,8 @@ knot_of-requires g c =
     let lt = side_below net c.args.primitive c.loop-side.side c.first_of-first.result c.sides-side-end.result (omega arith) c.loop-side-test.true same c.first_of-first.ensures in
     omega (arith, lt, c.requires.knots.numbered.one_each)
 
-pub at_mut-requires : goal.at_mut-requires
-at_mut-requires g c =
+pub put-requires : goal.put-requires
+put-requires g c =
     let net : Net = net_of g.P.Primitive.behaviour c.args.circuit.now in
     let count : length net.primitives ≡ length c.args.circuit.now.primitives = length-map c.args.circuit.now.primitives g.P.Primitive.behaviour in
     let same = c.sides-side-end.ensures ∙ ap (λ (b : Behaviour). b.sides) c.primitive.ensures.behaviour in
@@ -61,10 +61,14 @@ loop-side-preserved g c =
     let lt = side_below net c.args.primitive c.loop-side.side c.first_of-first.result c.sides-side-end.result (omega arith) c.loop-side-test.true same c.first_of-first.ensures in
     let below = c.requires.knots.numbered.in_range (c.first_of-first.result + c.loop-side.side) lt in
     let place : c.knot_of.result ≡ part_at net c.args.knots.now c.args.primitive c.loop-side.side = c.knot_of.ensures ∙ ap (λ (first : ℕ). get_or c.args.knots.now.numbers (first + c.loop-side.side) 0) c.first_of-first.ensures in
+    let put_in : c.knot_of.result < length c.loop-side.self.settled = omega (arith, below, c.knot_of.ensures, c.requires.one_each, c.loop-side.invariant.fewer.one_each) in
+    let flag : (k : ℕ) → get_or c.put.new.self k false ≡ get_or (set c.loop-side.self.settled c.knot_of.result false) k false = λ k. ap (λ (flags : List Bool). get_or flags k false) c.put.ensures in
     record {
-      fewer = fewer_more c.args.self.now c.loop-side.self c.knot_of.result c.loop-side.invariant.fewer;
-      gone = unsettled_more net c.args.knots.now c.args.primitive c.loop-side.side c.knot_of.result c.loop-side.self.settled place (omega (arith, below, c.knot_of.ensures, c.requires.one_each, c.loop-side.invariant.fewer.one_each)) c.loop-side.invariant.gone;
+      fewer = fewer_more c.args.self.now c.loop-side.self c.knot_of.result c.loop-side.invariant.fewer c.put.new.self c.put.ensures;
+      gone = λ side side_in.
+          flag (part_at net c.args.knots.now c.args.primitive side)
+          ∙ unsettled_more net c.args.knots.now c.args.primitive c.loop-side.side c.knot_of.result c.loop-side.self.settled place put_in c.loop-side.invariant.gone side side_in;
       stay = λ k apart h.
           let other : k ≢ c.knot_of.result = λ e. apart c.loop-side.side (omega arith) (sym place ∙ sym e) in
-          get_or-set_other c.loop-side.self.settled c.knot_of.result k false false other ∙ c.loop-side.invariant.stay k (λ side lt_side. apart side (omega arith)) h;
+          flag k ∙ get_or-set_other c.loop-side.self.settled c.knot_of.result k false false other ∙ c.loop-side.invariant.stay k (λ side lt_side. apart side (omega arith)) h;
     }

@@ -1,4 +1,4 @@
-use Rattle.std.proofs.Common.{◌∙◌, ◌≡◌, length, subst, sym}
+use Rattle.std.proofs.Common.{◌∙◌}
 use Rattle.reo_net_base.specs.Net.{Net, net_of}
 use Rattle.reo_settling.proofs.Listed.{first_in_tables}
 use Rattle.reo_settling.proofs.lookups.Lookups.find.Goals as goal

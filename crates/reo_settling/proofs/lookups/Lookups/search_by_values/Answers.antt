@@ -1,4 +1,5 @@
-use Rattle.std.proofs.Common.{◌∙◌}
+use Rattle.std.proofs.Common.{◌∙◌, true, length, ap}
+use Rattle.std.proofs.lemmas.List.{length-replicate}
 use Rattle.reo_net_base.specs.Net.{Net, net_of}
 use Rattle.reo_settling.proofs.HeldTables.{ready_may_stay}
 use Rattle.reo_settling.proofs.lookups.Lookups.search_by_values.Goals as goal
@@ -9,8 +10,8 @@ returns-clause-steady g c =
     record {
       orders = c.requires.steady.orders;
       one_list = c.requires.steady.one_list;
-      one_each = c.mark_all.ensures ∙ c.requires.steady.one_each;
-      tables = ready_may_stay net c.args.knots.now c.args.ends.now c.mark_all.new.marks c.search_part.new.tables c.in_ok-search_part.ensures.tables;
+      one_each = ap length c.set_all.ensures ∙ length-replicate (length c.args.self.now.fresh) true ∙ c.requires.steady.one_each;
+      tables = ready_may_stay net c.args.knots.now c.args.ends.now c.set_all.new.self c.search_part.new.tables c.in_ok-search_part.ensures.tables;
       bounds = c.requires.steady.bounds;
       plans = c.requires.steady.plans;
       marks = c.requires.steady.marks;

@@ -1,4 +1,4 @@
-use Rattle.std.proofs.Common.{◌≡◌, ◌∙◌, ◌+◌, ◌≤◌, Bool, cond, sym, subst}
+use Rattle.std.proofs.Common.{◌∙◌, ◌+◌, ◌≤◌, Bool, cond, sym, subst}
 use Rattle.reo_net_base.specs.Net.{Net, net_of}
 use Rattle.reo_planning.proofs.Parting.{served}
 use Rattle.reo_settling.proofs.Listed.{first_in_tables}
