@@ -1,6 +1,7 @@
 -- Where the joints that flow stay the same.
 use Rattle.std.proofs.Common.{◌≡◌, ◌∙◌, ℕ, zero, suc, ◌<◌, Bool, true, false, cond, List, [], ◌∷◌, length, get_or, ap, sym, subst, refl, arith}
 use Rattle.std.specs.Prelude.{filter}
+use Rattle.reo_values.proofs.Sequences.{filter_same}
 use Rattle.reo_net_base.specs.declared.joint.End.{End}
 use Rattle.reo_net_base.specs.declared.joint.Joint.{Joint}
 use Rattle.reo_net_base.specs.Behaviour.{Behaviour}
@@ -13,13 +14,6 @@ use Rattle.reo_net_laws.proofs.Orders.{place_in}
 use Rattle.reo_joint_values.specs.Standing.{giver_of, no_joint}
 use Rattle.reo_reach.specs.InOrder.{joints_in}
 use Rattle.reo_flowing.specs.Flowing.{AreFlowingOf, flowing_of, flows_by}
-
-filter_same : (f g : ℕ → Bool) (xs : List ℕ) → ((m : ℕ) → m < length xs → f (get_or xs m 0) ≡ g (get_or xs m 0)) → filter f xs ≡ filter g xs
-filter_same f g [] same = refl
-filter_same f g (x ∷ xs) same =
-    let rest = filter_same f g xs (λ m lt. same (suc m) (omega arith)) in
-    let here = same zero (omega arith) in
-    λ i. cond (here i) (x ∷ rest i) (rest i)
 
 -- What passes one test among what passes another.
 filter_both : (f h g : ℕ → Bool) (xs : List ℕ) → ((m : ℕ) → m < length xs → g (get_or xs m 0) ≡ true → f (get_or xs m 0) ≡ h (get_or xs m 0)) → filter f (filter g xs) ≡ filter h (filter g xs)

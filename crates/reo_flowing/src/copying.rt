@@ -7,8 +7,12 @@ use reo_values::{List, NoMemory};
 pub fn copy_over(list: &mut List<usize>, those: &[usize]) -> Result<(), NoMemory>
     ensures { OnOk result (list.new ≡ those.now) }
 {
-    list.clear();
-    for index in 0..those.len() {
+    list.truncate(those.len());
+    let count = list.len();
+    for index in 0..count {
+        *list.at_mut(index) = those[index];
+    }
+    for index in count..those.len() {
         list.push(those[index])?;
     }
     Ok(())

@@ -41,21 +41,14 @@ use Rattle.reo_item_bounds.specs.Bounds.{HasBounds}
 use Rattle.reo_item_bounds.proofs.Linked.{closed_on}
 use Rattle.reo_item_bounds.proofs.Tables.{stay}
 use Rattle.reo_item_bounds.proofs.Within.{within}
+use Rattle.reo_item_bounds.proofs.Noting.{shapes_twice}
+use Rattle.reo_search.proofs.Isolating.{rows_same}
 use Rattle.reo_part_plans.specs.declared.entry.Entry.{Entry}
 use Rattle.reo_part_plans.specs.declared.looks.Look.{Look}
 use Rattle.reo_part_plans.specs.declared.plans.PartPlans.{PartPlans}
 use Rattle.reo_part_plans.specs.Laws.{PlansStay}
 use Rattle.reo_part_plans.specs.Looks.{IsLookAt, IsKey}
-use Rattle.reo_part_plans.specs.Remembered.{IsRemembered, AreRemembered, ArePlans, IsRecalled}
-
-shape_after : (b d e : Behaviour) → SameShape b d → SameShape d e → SameShape b e
-shape_after b d e r s = record {
-  ends = s.ends ∙ r.ends;
-  sides = s.sides ∙ r.sides;
-  side_of = λ end. s.side_of end ∙ r.side_of end;
-  takes_in = λ end. s.takes_in end ∙ r.takes_in end;
-  leads = λ side. s.leads side ∙ r.leads side;
-}
+use Rattle.reo_part_plans.specs.Remembered.{IsRemembered, AreRemembered, ArePlans, IsWrittenDown, IsRecalled}
 
 shape_back : (b d : Behaviour) → SameShape b d → SameShape d b
 shape_back b d r = record {
@@ -64,12 +57,6 @@ shape_back b d r = record {
   side_of = λ end. sym (r.side_of end);
   takes_in = λ end. sym (r.takes_in end);
   leads = λ side. sym (r.leads side);
-}
-
-shapes_after : (bs ds es : List Behaviour) → SameShapes bs ds → SameShapes ds es → SameShapes bs es
-shapes_after bs ds es r s = record {
-  count = s.count ∙ r.count;
-  same = λ i lt. shape_after (behaviour_at bs i) (behaviour_at ds i) (behaviour_at es i) (r.same i lt) (s.same i (omega (arith, r.count)));
 }
 
 shapes_back : (bs ds : List Behaviour) → SameShapes bs ds → SameShapes ds bs
@@ -85,7 +72,7 @@ remembered_stays net other joints shapes inside sides entry is = record {
   turn = is.turn;
   wired = is.wired;
   joints = joints ∙ is.joints;
-  shapes = shapes_after is.before.primitives net.primitives other.primitives is.shapes shapes;
+  shapes = shapes_twice is.before.primitives net.primitives other.primitives is.shapes shapes;
   key = is.key;
   from = is.from;
   first = is.first;
@@ -228,11 +215,7 @@ module _ (net : Net) (wired : IsWired net) (order : List ℕ) (is_order : IsOrde
 abbrev no_entry : Entry
 no_entry = record { key = []; rows = []; flowing = []; choices = 0 }
 
-rows_same : (sides a b : List ℕ) → ((m : ℕ) → m < length sides → get_or a (get_or sides m 0) 0 ≡ get_or b (get_or sides m 0) 0) → part_rows sides a ≡ part_rows sides b
-rows_same [] a b h = refl
-rows_same (s ∷ sides) a b h = λ i. h zero (omega arith) i ∷ rows_same sides a b (λ m lt. h (suc m) (omega arith)) i
-
-same_shapes : (bs : List Behaviour) → SameShapes bs bs
+pub same_shapes : (bs : List Behaviour) → SameShapes bs bs
 same_shapes bs = record { count = refl; same = λ i lt. record { ends = refl; sides = refl; side_of = λ _. refl; takes_in = λ _. refl; leads = λ _. refl } }
 
 -- One entry more that is right.
@@ -272,25 +255,26 @@ module _ (net : Net) (wired : IsWired net) (knots : Knotted) (are : AreKnots net
 
   -- The rows of an entry with the key of the part are those of its first assignment.
   pub recalled : (order : List ℕ) → IsOrder net order → (budget turn : ℕ) (parts : List PartPlans) → ArePlans net knots parts → (p : PartPlans) → p ≡ get_or parts k p
-      → (key : List Look) → IsKey net sides turn key → (old new flowing : List ℕ) → length old ≡ side_count net → IsRecalled p.entries key sides budget old new flowing
+      → (old new flowing : List ℕ) → length old ≡ side_count net → IsRecalled net sides turn budget p.entries old new flowing
       → IsPartPlanned budget net knots turn k old new × AreFlowingOf net (in_knot knots.numbers k) new flowing
-  recalled order is_order budget turn parts plans p here key is_key old new flowing one_row found =
+  recalled order is_order budget turn parts plans p here old new flowing one_row found =
       let inside : ℕ → Bool = in_knot knots.numbers k in
       let entry : Entry = get_or p.entries found.place no_entry in
-      let remembered : IsRemembered net inside sides entry = right_here parts plans p here found.place no_entry found.in_range in
+      let down : IsWrittenDown entry sides budget old new flowing = found.written no_entry in
+      let remembered : IsRemembered net inside sides entry = right_here parts plans p here found.place no_entry found.found_at.0 in
       let closed : IsClosed net inside = (are.are_knots k lt).closed in
-      let key_now : IsKey net sides turn entry.key = subst (IsKey net sides turn) (sym (found.key_is no_entry)) is_key in
+      let key_now : IsKey net sides turn entry.key = found.found_at.1 no_entry in
       let first = recalled_first net wired order is_order inside closed sides part_all entry remembered turn key_now in
-      let w : AreWritten sides remembered.from old new = found.written no_entry remembered.from remembered.rows in
+      let w : AreWritten sides remembered.from old new = down.written remembered.from remembered.rows in
       let same : (s : ℕ) → s < side_count net → inside s ≡ true → get_or new s 0 ≡ get_or remembered.from s 0 = λ s s_in h. w.here s (omega (arith, one_row, s_in)) (in_part s ∙ h) in
       let flow = recalled_flowing net wired order is_order inside closed sides part_all entry remembered turn key_now new same in (
         record {
           one_each = w.one_each;
-          within = recalled_within net wired order is_order inside closed sides part_all entry remembered turn key_now budget (found.few no_entry);
+          within = recalled_within net wired order is_order inside closed sides part_all entry remembered turn key_now budget down.few;
           first = record { others = remembered.from; items = first.items; first = first.first; same = same };
           others = λ s h. w.others s (in_part s ∙ h);
         },
-        subst (AreFlowingOf net inside new) (sym (found.flowing_is no_entry)) flow,
+        subst (AreFlowingOf net inside new) (sym down.flowing_is) flow,
       )
 
   -- The rows of the first assignment are right for the key that the part has now.

@@ -10,7 +10,6 @@ use Rattle.reo_state_laws.specs.States.{AreFirstRows}
 use Rattle.reo_item_bounds.specs.Bounds.{HasBounds}
 use Rattle.reo_part_plans.specs.declared.entry.Entry.{Entry}
 use Rattle.reo_planning.specs.Written.{AreWritten}
-use Rattle.reo_part_plans.specs.declared.looks.Look.{Look}
 use Rattle.reo_part_plans.specs.Looks.{IsKey}
 use Rattle.reo_part_plans.specs.declared.plans.PartPlans.{PartPlans}
 
@@ -46,12 +45,20 @@ pub record AreNew (count : ℕ) (parts : List PartPlans) : Type 0 where
   pub one_each : length parts ≡ count
   pub none : (k : ℕ) (d : PartPlans) → k < count → (slice_index_or parts k d).entries ≡ []
 
--- The rows of an entry with a key, which allows no more choices than a budget, were written down, and its joints that flow.
-pub record IsRecalled (entries : List Entry) (key : List Look) (sides : List ℕ) (budget : ℕ) (old new flowing : List ℕ) : Type 0 where
+-- The rows of an entry that allows no more choices than a budget were written down at some sides, and its joints that flow.
+pub record IsWrittenDown (entry : Entry) (sides : List ℕ) (budget : ℕ) (old new flowing : List ℕ) : Type 0 where
+  pub few : entry.choices ≤ budget
+  pub written : (from : List ℕ) → entry.rows ≡ part_rows sides from → AreWritten sides from old new
+  pub flowing_is : flowing ≡ entry.flowing
+
+-- An entry whose key is that of some sides in the round of a number.
+abbrev pub IsFoundAt : Net → List ℕ → ℕ → List Entry → ℕ → Type 0
+IsFoundAt net sides turn entries place = (place < length entries)
+    × ((d : Entry) → IsKey net sides turn (slice_index_or entries place d).key)
+
+-- Such an entry was written down.
+pub record IsRecalled (net : Net) (sides : List ℕ) (turn budget : ℕ) (entries : List Entry) (old new flowing : List ℕ)
+    : Type 0 where
   pub place : ℕ
-  pub in_range : place < length entries
-  pub key_is : (d : Entry) → (slice_index_or entries place d).key ≡ key
-  pub few : (d : Entry) → (slice_index_or entries place d).choices ≤ budget
-  pub written : (d : Entry) (from : List ℕ) → (slice_index_or entries place d).rows ≡ part_rows sides from
-      → AreWritten sides from old new
-  pub flowing_is : (d : Entry) → flowing ≡ (slice_index_or entries place d).flowing
+  pub found_at : IsFoundAt net sides turn entries place
+  pub written : (d : Entry) → IsWrittenDown (slice_index_or entries place d) sides budget old new flowing

@@ -1,8 +1,11 @@
 //! Rows that are remembered by a key.
-ghost use Rattle.std.specs.Prelude.{◌≡◌, ◌<◌, ℕ, IfOk, length, slice_index};
+ghost use Rattle.std.specs.Prelude.{◌≡◌, ◌<◌, ℕ, true, false, Ok, IfOk, length, slice_index};
 ghost use Rattle.reo_net_laws.specs.Sublists.{part_rows};
+ghost use Rattle.reo_part_plans.specs.Remembered.{IsWrittenDown};
 
 use crate::looks::Look;
+use reo_flowing::copy_over;
+use reo_planning::put_rows;
 use reo_values::{List, NoMemory};
 use std::alloc::Global;
 
@@ -14,6 +17,30 @@ pub struct Entry {
     pub rows: List<u32>,
     pub flowing: List<usize>,
     pub choices: u64,
+}
+
+impl Entry {
+    /// Writes its rows at some sides and its joints that flow down, if it allows no more choices
+    /// than the budget. The answer is whether it was done. `NoMemory` is out of memory.
+    pub(crate) fn write_down(
+        &self,
+        sides: &[usize],
+        budget: u64,
+        rows: &mut List<u32>,
+        flowing: &mut List<usize>,
+    ) -> Result<bool, NoMemory>
+        requires { (m : ℕ) → m < length sides.now → slice_index sides.now m < length rows.old }
+        ensures same { result ≡ Ok false → rows.new ≡ rows.old }
+        ensures written { result ≡ Ok true
+            → IsWrittenDown self.now sides.now budget rows.old rows.new flowing.new }
+    {
+        if self.choices > budget || self.rows.len() != sides.len() {
+            return Ok(false);
+        }
+        copy_over(flowing, self.flowing.as_slice())?;
+        put_rows(rows, sides, self.rows.as_slice());
+        Ok(true)
+    }
 }
 
 /// The rows at some sides. `NoMemory` is out of memory.

@@ -7,17 +7,15 @@ ghost use Rattle.reo_flowing.specs.Flowing.{AreFlowingOf};
 ghost use Rattle.reo_item_bounds.specs.Bounds.{HasBounds};
 ghost use Rattle.reo_still.specs.Joining.{HasFirst};
 ghost use Rattle.reo_planning.specs.Planned.{IsPartPlanned};
-ghost use Rattle.reo_part_plans.specs.Remembered.{AreNew, ArePlans, IsRecalled};
-ghost use Rattle.reo_part_plans.specs.declared.entry.Entry.{Entry as Remembered};
+ghost use Rattle.reo_part_plans.specs.Remembered.{AreNew, ArePlans, IsFoundAt, IsRecalled};
 
 use crate::entry::{Entry, rows_at};
-use crate::looks::{Look, look_at_all};
+use crate::looks::{Look, is_key, look_at_all};
 use crate::searching::find;
 use reo_flowing::copy_over;
 use reo_knots::Knots;
 use reo_net_base::Primitive;
 use reo_net_circuit::Circuit;
-use reo_planning::put_rows;
 use reo_values::{List, NoMemory};
 use std::alloc::Global;
 use std::marker::Model;
@@ -31,11 +29,12 @@ const ROOM: usize = 65_536;
 /// How many entries more may be added in vain, before no more are.
 const TRIES: u32 = 192;
 
-/// What is remembered of a part: entries, the one that was found last, and how many were added more
-/// than were found.
+/// What is remembered of a part: entries, for each the one that came after it the last time, the
+/// one that came last, and how many were added more than were found.
 #[derive(Drop)]
 pub struct PartPlans {
     pub(crate) entries: List<Entry>,
+    pub(crate) after: List<usize>,
     pub(crate) last: usize,
     pub(crate) misses: u32,
 }
@@ -65,6 +64,7 @@ impl PartPlans {
     {
         PartPlans {
             entries: List::new(alloc),
+            after: List::new(alloc),
             last: 0,
             misses: 0,
         }
@@ -76,60 +76,110 @@ impl PartPlans {
         self.misses < TRIES && count < MOST && count.saturating_mul(sides) < ROOM
     }
 
-    /// Adds an entry.
+    /// Notes that the entry of this place came after the one that came last.
+    fn follow(&mut self, place: usize)
+        ensures { self.new.entries ≡ self.old.entries }
+    {
+        if self.last < self.after.len() {
+            *self.after.at_mut(self.last) = place;
+        }
+        self.last = place;
+    }
+
+    /// Adds an entry, which comes after the one that came last.
     fn add(&mut self, entry: Entry) -> Result<(), NoMemory>
         ensures added { OnOk result (self.new.entries ≡ self.old.entries ++ entry ∷ []) }
         ensures refused { OnErr result (self.new.entries ≡ self.old.entries) }
     {
+        let place = self.entries.len();
         self.misses = self.misses.saturating_add(1);
-        self.entries.push(entry)
+        self.after.push(0)?;
+        self.entries.push(entry)?;
+        self.follow(place);
+        Ok(())
     }
 
-    /// The place of the entry with a key, if there is one. It is looked for first behind the one
-    /// that was found last.
-    fn place_of(&mut self, key: &[Look]) -> Option<usize>
-        ensures entries { self.new.entries ≡ self.old.entries }
-        ensures found { IfSome result (λ place. (place < length self.old.entries)
-            × ((d : Remembered) → (slice_index_or self.old.entries place d).key ≡ key.now)) }
+    /// Nothing more is remembered of the part, and nothing is recalled.
+    fn give_up(&mut self)
+        ensures { self.new.entries ≡ self.old.entries }
     {
-        match find(&self.entries, key, self.last.saturating_add(1)) {
-            None => None,
-            Some(place) => {
-                self.last = place;
-                self.misses = self.misses.saturating_sub(1);
-                Some(place)
-            }
+        self.misses = TRIES;
+    }
+
+    /// The place of the entry that came after the one that came last, the last time, if there is any
+    /// entry.
+    fn next(&self) -> Option<usize>
+        ensures { IfSome result (λ place. place < length self.now.entries) }
+    {
+        if self.last >= self.after.len() {
+            return None;
+        }
+        let next = *self.after.at(self.last);
+        if next < self.entries.len() {
+            Some(next)
+        } else {
+            None
         }
     }
 
-    /// Writes the rows of the entry with a key and the joints that flow by them down, if there is
-    /// one that weighs no more than the budget allows. The answer is whether it was done.
-    /// `NoMemory` is out of memory.
-    fn recall(
-        &mut self,
-        key: &[Look],
+    /// The place of the entry with the key that some sides have in the round of a number, if there
+    /// is one. The one that is next is tried while the sides are looked at; for the others the key is
+    /// written down first.
+    fn place_of<P: Primitive>(
+        &self,
+        circuit: &Circuit<P>,
         sides: &[usize],
+        turn: u64,
+        key: &mut List<Look>,
+    ) -> Result<Option<usize>, NoMemory>
+        requires sides { (m : ℕ) → m < length sides.now
+            → slice_index sides.now m < side_count (net_of P.behaviour circuit.now) }
+        requires turn { 1 ≤ turn }
+        ensures { IfOk result (λ found. IfSome found
+            (IsFoundAt (net_of P.behaviour circuit.now) sides.now turn self.now.entries)) }
+    {
+        let Some(next) = self.next() else {
+            return Ok(None);
+        };
+        if is_key(circuit, sides, turn, self.entries.at(next).key.as_slice()) {
+            return Ok(Some(next));
+        }
+        if !look_at_all(circuit, sides, turn, key)? {
+            return Ok(None);
+        }
+        Ok(find(&self.entries, key.as_slice(), next))
+    }
+
+    /// Writes the rows of the entry with the key that some sides have in the round of a number and
+    /// the joints that flow by them down, if there is one that weighs no more than the budget
+    /// allows. The answer is whether it was done. `NoMemory` is out of memory.
+    fn recall<P: Primitive>(
+        &mut self,
+        circuit: &Circuit<P>,
+        sides: &[usize],
+        turn: u64,
         budget: u64,
+        key: &mut List<Look>,
         rows: &mut List<u32>,
         flowing: &mut List<usize>,
     ) -> Result<bool, NoMemory>
         requires sides { (m : ℕ) → m < length sides.now
-            → slice_index sides.now m < length rows.old }
+            → slice_index sides.now m < side_count (net_of P.behaviour circuit.now) }
+        requires turn { 1 ≤ turn }
+        requires rows { length rows.old ≡ side_count (net_of P.behaviour circuit.now) }
         ensures entries { self.new.entries ≡ self.old.entries }
         ensures same { result ≡ Ok false → rows.new ≡ rows.old }
-        ensures found { result ≡ Ok true → IsRecalled self.old.entries key.now sides.now budget
-            rows.old rows.new flowing.new }
+        ensures found { result ≡ Ok true → IsRecalled (net_of P.behaviour circuit.now) sides.now
+            turn budget self.old.entries rows.old rows.new flowing.new }
     {
-        match self.place_of(key) {
+        match self.place_of(circuit, sides, turn, key)? {
             None => Ok(false),
             Some(place) => {
-                let entry = self.entries.at(place);
-                if entry.choices > budget || entry.rows.len() != sides.len() {
-                    return Ok(false);
-                }
-                copy_over(flowing, entry.flowing.as_slice())?;
-                put_rows(rows, sides, entry.rows.as_slice());
-                Ok(true)
+                self.follow(place);
+                self.misses = self.misses.saturating_sub(1);
+                self.entries
+                    .at(place)
+                    .write_down(sides, budget, rows, flowing)
             }
         }
     }
@@ -186,11 +236,9 @@ impl Plans {
         if self.parts.at(part).misses >= TRIES {
             return Ok(false);
         }
-        if !look_at_all(circuit, sides, turn, &mut self.key)? {
-            return Ok(false);
-        }
+        let key = &mut self.key;
         let plans = self.parts.at_mut(part);
-        plans.recall(self.key.as_slice(), sides, budget, rows, flowing)
+        plans.recall(circuit, sides, turn, budget, key, rows, flowing)
     }
 
     /// Remembers the rows of the first assignment of a part for each round in which the part is in
@@ -232,6 +280,7 @@ impl Plans {
         }
         let mut key = List::new(alloc);
         if !look_at_all(circuit, sides, turn, &mut key)? {
+            self.parts.at_mut(part).give_up();
             return Ok(());
         }
         let rows = rows_at(alloc, sides, rows)?;

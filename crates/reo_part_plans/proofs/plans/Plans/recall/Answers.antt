@@ -1,36 +1,23 @@
-use Rattle.std.proofs.Common.{◌<◌, ℕ, get_or, subst, sym, arith}
-use Rattle.std.specs.Prelude.{IsTrue}
 use Rattle.reo_net_base.specs.Net.{Net, net_of}
-use Rattle.reo_part_plans.specs.Looks.{IsKey}
 use Rattle.reo_part_plans.proofs.Recalled.{part_below, recalled}
 use Rattle.reo_part_plans.proofs.plans.Plans.recall.Goals as goal
 
-pub look_at_all-requires-clause-sides : goal.look_at_all-requires-clause-sides
-look_at_all-requires-clause-sides g c =
+pub recall-requires-clause-sides : goal.recall-requires-clause-sides
+recall-requires-clause-sides g c =
     part_below (net_of g.P.Primitive.behaviour c.args.circuit.now) c.known.ensures.wired c.args.knots.now c.requires.knots c.args.part c.requires.part c.sides-sides.result.now c.sides-sides.ensures
-
-pub recall-requires : goal.recall-requires
-recall-requires g c = record {
-  sides = λ m lt. subst (λ (n : ℕ). get_or c.sides-sides.result.now m 0 < n) (sym c.requires.rows)
-      (part_below (net_of g.P.Primitive.behaviour c.args.circuit.now) c.known.ensures.wired c.args.knots.now c.requires.knots c.args.part c.requires.part c.sides-sides.result.now c.sides-sides.ensures m lt);
-}
 
 pub returns-clause-recalled : goal.returns-clause-recalled
 returns-clause-recalled g c = λ done.
     let net : Net = net_of g.P.Primitive.behaviour c.args.circuit.now in
     let plans = rw (← c.self.view_is) at c.requires.plans in
-    let told : IsTrue c.in_ok-look_at_all.field-0 = grind (arith, c.if-not-branch.false) in
-    let key : IsKey net c.sides-sides.result.now c.args.turn c.as_slice.result.now = subst (IsKey net c.sides-sides.result.now c.args.turn) (sym c.as_slice.ensures) (c.in_ok-look_at_all.ensures told) in
     (recalled net c.known.ensures.wired c.args.knots.now c.requires.knots c.args.part c.requires.part c.sides-sides.result.now c.sides-sides.ensures
     c.order-order.result.now c.order-order.ensures c.args.budget c.args.turn c.self.inside.parts plans c.at_mut-plans.result.now c.at_mut-plans.ensures.value
-    c.as_slice.result.now key c.args.rows.now c.recall.new.rows c.recall.new.flowing c.requires.rows (c.recall.ensures.found done)).0
+    c.args.rows.now c.recall.new.rows c.recall.new.flowing c.requires.rows (c.recall.ensures.found done)).0
 
 pub returns-clause-flowing : goal.returns-clause-flowing
 returns-clause-flowing g c = λ done.
     let net : Net = net_of g.P.Primitive.behaviour c.args.circuit.now in
     let plans = rw (← c.self.view_is) at c.requires.plans in
-    let told : IsTrue c.in_ok-look_at_all.field-0 = grind (arith, c.if-not-branch.false) in
-    let key : IsKey net c.sides-sides.result.now c.args.turn c.as_slice.result.now = subst (IsKey net c.sides-sides.result.now c.args.turn) (sym c.as_slice.ensures) (c.in_ok-look_at_all.ensures told) in
     (recalled net c.known.ensures.wired c.args.knots.now c.requires.knots c.args.part c.requires.part c.sides-sides.result.now c.sides-sides.ensures
     c.order-order.result.now c.order-order.ensures c.args.budget c.args.turn c.self.inside.parts plans c.at_mut-plans.result.now c.at_mut-plans.ensures.value
-    c.as_slice.result.now key c.args.rows.now c.recall.new.rows c.recall.new.flowing c.requires.rows (c.recall.ensures.found done)).1
+    c.args.rows.now c.recall.new.rows c.recall.new.flowing c.requires.rows (c.recall.ensures.found done)).1

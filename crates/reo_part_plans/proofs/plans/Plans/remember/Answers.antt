@@ -21,7 +21,7 @@ returns g c =
       plans = either_way c.add.result c.add.ensures.added c.add.ensures.refused
           (remembered net c.known.ensures.wired c.args.knots.now c.requires.knots c.args.part c.requires.part c.sides-sides.result.now c.sides-sides.ensures
           c.args.turn c.self.inside.parts plans c.look_at_all.new.key (c.in_ok-look_at_all.ensures told) c.args.rows.now c.in_ok-rows.rows c.requires.first c.in_ok-rows.ensures
-          c.args.choices c.requires.choices c.copy_over.new.list (rw (c.in_ok-copy_over.ensures) c.requires.flowing) c.at_mut.result.now c.add.new.self c.at_mut.ensures.value)
+          c.args.choices c.requires.choices c.copy_over.new.list (rw (c.in_ok-copy_over.ensures) c.requires.flowing) c.at_mut-2.result.now c.add.new.self c.at_mut-2.ensures.value)
           (unchanged net c.known.ensures.wired c.args.knots.now c.requires.knots c.args.part c.requires.part c.sides-sides.result.now c.sides-sides.ensures
-          c.self.inside.parts plans c.at_mut.result.now c.add.new.self c.at_mut.ensures.value);
+          c.self.inside.parts plans c.at_mut-2.result.now c.add.new.self c.at_mut-2.ensures.value);
     }
