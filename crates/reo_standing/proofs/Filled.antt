@@ -1,5 +1,5 @@
 -- Items at the joints of all parts.
-use Rattle.std.proofs.Common.{◌≡◌, ◌≢◌, ◌∙◌, inl, inr, ℕ, zero, suc, ◌+◌, ◌<◌, ◌≤◌, true, false, not, ◌||◌, ◌⊎◌, List, [], ◌∷◌, ◌++◌, length, get_or, set, refl, ap, sym, subst, arith}
+use Rattle.std.proofs.Common.{◌≡◌, ◌≢◌, ◌∙◌, inl, inr, ℕ, zero, suc, ◌+◌, ◌<◌, ◌≤◌, Bool, true, false, not, ◌||◌, ◌⊎◌, List, [], ◌∷◌, ◌++◌, length, get_or, set, refl, ap, sym, subst, arith}
 use Rattle.std.specs.Prelude.{Option, Some, None, nat_lt, ◌==◌}
 use Rattle.std.proofs.lemmas.Bool.Decides.{nat_tests}
 use Rattle.std.proofs.lemmas.List.{get_or_default, length-append, length-set, same_lists}
@@ -14,26 +14,27 @@ use Rattle.reo_net_base.specs.Marks.{is_flow, marks_match}
 use Rattle.reo_net_base.specs.Net.{Net, mark_at, side_at}
 use Rattle.reo_net_base.specs.Wired.{IsWired}
 use Rattle.reo_net_circuit.proofs.Cases.{eq_cases, lt_cases}
+use Rattle.reo_net_ends.specs.Ends.{AreEnds}
 use Rattle.reo_net_laws.proofs.Sides.{side_in_range}
-use Rattle.reo_net_laws.proofs.Sets.{and_right}
 use Rattle.reo_knots.specs.Knots.{Knotted, AreKnots, in_knot, knot_count}
+use Rattle.reo_flowing.specs.Flowing.{AreFlowingIn}
 use Rattle.reo_joint_values.specs.Standing.{giver_of, no_joint}
 use Rattle.reo_joint_values.specs.Many.{IsJointIn}
 use Rattle.reo_trace.specs.Entries.{is_idle, is_still}
 use Rattle.reo_stepping.specs.Flowing.{AreFlowing}
-use Rattle.reo_standing.specs.Filling.{AreBlank, AreBlankOn, AreFilled, AreHeld, AreHeldAmong, IsPartFilled}
-use Rattle.reo_standing.proofs.Putting.{giver_flows, others_none, others_some, flow_or_not}
+use Rattle.reo_standing.specs.Filling.{AreBlank, AreBlankOn, AreFilled, AreHeld, AreHeldAmong, AreMoving, IsPartFilled}
+use Rattle.reo_standing.proofs.Putting.{far_all, far_none, giver_flows, others_none, others_some}
 use Rattle.std.proofs.lemmas.Bool.{and_from as both}
-use Rattle.reo_joint_values.proofs.Equal.{eq_same as true_eq, same_eq as eq_true}
-
-below_true : (a b : ℕ) → a < b → nat_lt a b ≡ true
-below_true a b h = grind (arith, nat_tests)
+use Rattle.reo_values.proofs.Truths.{and_right}
+use Rattle.reo_values.proofs.Naturals.{eq_same, lt_true, same_eq}
+use Rattle.reo_rows.proofs.Working.{flow_cases}
+use Rattle.reo_stepping.proofs.Far.{none_at}
 
 in_own : (numbers : List ℕ) (s k : ℕ) → s < length numbers → get_or numbers s 0 ≡ k → in_knot numbers k s ≡ true
-in_own numbers s k lt is = both (nat_lt s (length numbers)) (get_or numbers s 0 == k) (below_true s (length numbers) lt) (eq_true (get_or numbers s 0) k is)
+in_own numbers s k lt is = both (nat_lt s (length numbers)) (get_or numbers s 0 == k) (lt_true s (length numbers) lt) (same_eq (get_or numbers s 0) k is)
 
 number_of : (numbers : List ℕ) (s k : ℕ) → in_knot numbers k s ≡ true → get_or numbers s 0 ≡ k
-number_of numbers s k h = true_eq (get_or numbers s 0) k (and_right (nat_lt s (length numbers)) (get_or numbers s 0 == k) h)
+number_of numbers s k h = eq_same (get_or numbers s 0) k (and_right (nat_lt s (length numbers)) (get_or numbers s 0 == k) h)
 
 -- The part of a joint.
 abbrev pub part_of : Net → Knotted → ℕ → ℕ
@@ -85,6 +86,25 @@ below_more net wired knots are n others items next noted more far part = record 
   held = part.held;
 }
 
+module _ (net : Net) (wired : IsWired net) (rows : List ℕ) (others : List (Option Value)) (is : IsColouring net rows others) (table : List (List ℕ)) (ends : AreEnds net table) (knots : Knotted) (are : AreKnots net knots)
+    (lists : List (List ℕ)) (flowing : AreFlowingIn net knots rows (λ _. true) lists) (flags : List Bool) (moving : AreMoving (knot_count knots) flags lists) (items : List (Option Value)) (count : length items ≡ length net.joints) (noted : List ℕ) where
+  -- A part more for which no joint is listed.
+  part_over : (k : ℕ) → k < knot_count knots → get_or flags k false ≡ false → IsFilledBelow net knots others k items noted → IsFilledBelow net knots others (k + 1) items noted
+  part_over k lt clear far =
+      let inside : ℕ → Bool = in_knot knots.numbers k in
+      let those : List ℕ = get_or lists k [] in
+      let nothing : length those ≡ 0 = ap (λ (xs : List ℕ). length xs) (moving.none k lt clear) in
+      let so = far_none net wired inside (are.are_knots k lt).closed rows those (flowing.each k lt refl) others items noted far.held in
+      below_more net wired knots are k others items items noted noted far
+      (far_all net wired rows others is table ends inside those items count (part_blank net knots k items far.later) 0 (sym nothing) items noted so)
+
+  -- All parts whose flags are clear.
+  pub parts_over : (steps from to : ℕ) → from + steps ≡ to → to ≤ knot_count knots → ((k : ℕ) → from ≤ k → k < to → get_or flags k false ≡ false) → IsFilledBelow net knots others from items noted → IsFilledBelow net knots others to items noted
+  parts_over zero from to is_to le clear far = subst (λ (k : ℕ). IsFilledBelow net knots others k items noted) (omega (arith, is_to)) far
+  parts_over (suc steps) from to is_to le clear far =
+      parts_over steps (from + 1) to (omega (arith, is_to)) le (λ k low high. clear k (omega arith) high)
+      (part_over from (omega (arith, is_to)) (clear from (omega arith) (omega (arith, is_to))) far)
+
 -- All parts.
 pub below_all : (net : Net) → IsWired net → (knots : Knotted) → AreKnots net knots → (others items : List (Option Value)) (noted : List ℕ) (n : ℕ) → n ≡ knot_count knots → length items ≡ length net.joints → length others ≡ length net.joints
     → IsFilledBelow net knots others n items noted → AreFilled others items noted
@@ -110,7 +130,7 @@ giver_of_match J G m h = refl
 giver_of_match J R m h = refl
 giver_of_match J J m h = refl
 
-not_flow : (m : Mark) → (m ≡ F → ⊥) → is_flow m ≡ false
+pub not_flow : (m : Mark) → (m ≡ F → ⊥) → is_flow m ≡ false
 not_flow F h = absurd (h refl)
 not_flow G h = refl
 not_flow R h = refl
@@ -119,7 +139,7 @@ not_flow J h = refl
 flowing_not_still : (giver taker : Mark) → giver ≡ F → not (is_flow giver || is_flow taker) ≡ false
 flowing_not_still giver taker e = ap (λ (m : Mark). not (is_flow m || is_flow taker)) e
 
-past_none : (xs : List (Option Value)) (k : ℕ) → length xs ≤ k → get_or xs k None ≡ None
+pub past_none : (xs : List (Option Value)) (k : ℕ) → length xs ≤ k → get_or xs k None ≡ None
 past_none [] k le = refl
 past_none (x ∷ xs) zero le = absurd (omega arith)
 past_none (x ∷ xs) (suc k) le = past_none xs k (omega arith)
@@ -138,7 +158,7 @@ module _ (net : Net) (wired : IsWired net) (rows : List ℕ) (items : List (Opti
       ] in
       record {
         in_range = in_range;
-        flow = λ m lt. elim (flow_or_not (mark_at net rows (giver_of net (get_or noted m 0)))) [
+        flow = λ m lt. elim (flow_cases (mark_at net rows (giver_of net (get_or noted m 0)))) [
           | inl flows ↦ giver_flows net rows (get_or noted m 0) (in_range m lt) flows
           | inr not ↦ absurd (held.some m lt (others_none net wired rows items is (get_or noted m 0) (in_range m lt) (λ flows. not (flows no_joint))))
         ];
@@ -185,13 +205,6 @@ pub record IsClearedTo (joints : List ℕ) (n : ℕ) (old new : List (Option Val
   pub here : (m : ℕ) → m < n → get_or new (get_or joints m 0) None ≡ None
   pub none : (j : ℕ) → get_or old j None ≡ None → get_or new j None ≡ None
   pub rest : (j : ℕ) → get_or new j None ≢ None → get_or old j None ≢ None
-
-none_at : (xs : List (Option Value)) (m j : ℕ) → get_or xs j None ≡ None → get_or (set xs m None) j None ≡ None
-none_at [] m j h = h
-none_at (x ∷ xs) zero zero h = refl
-none_at (x ∷ xs) zero (suc j) h = h
-none_at (x ∷ xs) (suc m) zero h = h
-none_at (x ∷ xs) (suc m) (suc j) h = none_at xs m j h
 
 none_there : (xs : List (Option Value)) (m : ℕ) → get_or (set xs m None) m None ≡ None
 none_there [] m = refl

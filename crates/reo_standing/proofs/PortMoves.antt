@@ -1,11 +1,9 @@
 -- What flows at a port, by the item at its joint.
-use Rattle.std.proofs.Common.{◌≡◌, ◌∙◌, ◌⊎◌, inl, inr, ℕ, ◌+◌, ◌<◌, Bool, true, false, cond, List, [], ◌∷◌, ◌++◌, length, get_or, map, refl, ap, sym, subst, arith, append-nil}
+use Rattle.std.proofs.Common.{◌≡◌, ◌≢◌, ◌∙◌, ◌⊎◌, inl, inr, ℕ, zero, suc, ◌+◌, ◌<◌, ◌≤◌, Bool, true, false, cond, List, [], ◌∷◌, ◌++◌, length, get_or, refl, ap, sym, subst, append-nil, arith}
 use Rattle.std.specs.Prelude.{Option, Some, None, is_some}
 use Rattle.std.specs.List.{flat_map, position_or_len, range_with_len}
 use Rattle.std.proofs.lemmas.Bool.{or_left, or_right}
-use Rattle.std.proofs.lemmas.Bool.Decides.{nat_tests}
 use Rattle.std.proofs.lemmas.Grind.{flat_map-append}
-use Rattle.std.proofs.lemmas.List.FromFn.{map-range_with_len_more}
 use Rattle.std.proofs.lemmas.List.Sums.{passes_at_first}
 use Rattle.reo_values.specs.declared.value.Value.{Value}
 use Rattle.reo_net_base.specs.declared.colouring.Move.{Move}
@@ -14,22 +12,30 @@ use Rattle.reo_net_base.specs.declared.joint.Joint.{Joint}
 use Rattle.reo_net_base.specs.declared.mark.Mark.TheVariants.{F}
 use Rattle.reo_net_base.specs.Colouring.{IsColouring}
 use Rattle.reo_net_base.specs.Marks.{is_flow}
-use Rattle.reo_net_base.specs.Moves.{move_with, moves_at}
-use Rattle.reo_net_base.specs.Net.{Net, end_eq, end_of, is_at, mark_at}
+use Rattle.reo_net_base.specs.Moves.{item_at, move_with, moves_at, moves_of}
+use Rattle.reo_net_base.specs.Net.{Net, behaviour_at, end_eq, end_of, is_at, mark_at}
 use Rattle.reo_net_base.specs.Wired.{IsWired, IsEnd}
 use Rattle.reo_net_laws.proofs.Joined.{joint_of}
+use Rattle.reo_net_colouring.proofs.MoveLemmas.{range_more}
+use Rattle.reo_joint_values.proofs.StandLemmas.{end_self}
+use Rattle.reo_stepping.specs.Changes.{HasFlow}
+use Rattle.reo_standing.proofs.Filled.{not_flow}
 use Rattle.reo_stepping.proofs.FlowLemmas.{no_joint, with_item}
-
-map_same : (xs : List ℕ) → map (λ x. x) xs ≡ xs
-map_same [] = refl
-map_same (x ∷ xs) = ap (λ ys. x ∷ ys) (map_same xs)
-
-range_more : (k : ℕ) → range_with_len 0 (k + 1) ≡ range_with_len 0 k ++ k ∷ []
-range_more k = sym (map_same (range_with_len 0 (k + 1))) ∙ map-range_with_len_more (λ x. x) 0 k k (omega arith) ∙ ap (λ (xs : List ℕ). xs ++ k ∷ []) (map_same (range_with_len 0 k))
 
 -- The moves of one port more come at the end.
 pub flat_more : (f : ℕ → List Move) (k : ℕ) → flat_map f (range_with_len 0 (k + 1)) ≡ flat_map f (range_with_len 0 k) ++ f k
 flat_more f k = rw (range_more k, flat_map-append f (range_with_len 0 k) (k ∷ []), append-nil) refl
+
+-- Ports of which no end flows move nothing.
+pub moves_over : (net : Net) (rows : List ℕ) (items : List (Option Value)) (moves : List Move) (steps from to : ℕ) → from + steps ≡ to → ((k : ℕ) → from ≤ k → k < to → HasFlow net rows k → ⊥)
+    → ((k : ℕ) → from ≤ k → k < to → 0 < (behaviour_at net.primitives k).ends) → moves ≡ moves_of net from rows items → moves ≡ moves_of net to rows items
+moves_over net rows items moves zero from to is none ends so = so ∙ ap (λ (k : ℕ). moves_of net k rows items) (omega (arith, is))
+moves_over net rows items moves (suc steps) from to is none ends so =
+    let here : from < to = omega (arith, is) in
+    let not : mark_at net rows (end_of from 0) ≢ F = λ flows. none from (omega arith) here record { end = 0; is_end = ends from (omega arith) here; flows = flows } in
+    let nothing : moves_at net rows items from ≡ [] = ap (λ (b : Bool). cond b (move_with from (item_at net.joints items (end_of from 0))) []) (not_flow (mark_at net rows (end_of from 0)) not) in
+    moves_over net rows items moves steps (from + 1) to (omega (arith, is)) (λ k low high. none k (omega arith) high) (λ k low high. ends k (omega arith) high)
+    (so ∙ sym (flat_more (moves_at net rows items) from ∙ ap (λ (ms : List Move). moves_of net from rows items ++ ms) nothing ∙ append-nil (moves_of net from rows items)))
 
 abbrev no_moves : List Move
 no_moves = []
@@ -37,9 +43,6 @@ no_moves = []
 cond_none : (flows : Bool) → cond flows no_moves no_moves ≡ no_moves
 cond_none true = refl
 cond_none false = refl
-
-end_self : (e : End) → end_eq e e ≡ true
-end_self e = let p : e.primitive ≡ e.primitive = refl in let q : e.end ≡ e.end = refl in grind (arith, nat_tests)
 
 module _ (net : Net) (rows : List ℕ) (items : List (Option Value)) (wired : IsWired net) (is : IsColouring net rows items) (port : ℕ)
     (is_end : IsEnd net.primitives (end_of port 0)) (below : position_or_len (is_at (end_of port 0)) net.joints < length net.joints) where

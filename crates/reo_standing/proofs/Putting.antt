@@ -1,19 +1,17 @@
 -- Items that are put at the joints of a part, one after the other.
-use Rattle.std.proofs.Common.{◌≡◌, ◌≢◌, ◌∙◌, ◌⊎◌, ◌↔◌, inl, inr, ℕ, zero, suc, ◌+◌, ◌-◌, ◌<◌, ◌≤◌, Bool, true, false, List, [], ◌∷◌, ◌++◌, drop, length, get_or, refl, ap, sym, subst, arith}
+use Rattle.std.proofs.Common.{◌≡◌, ◌≢◌, ◌∙◌, ◌↔◌, inl, inr, ℕ, zero, suc, ◌+◌, ◌-◌, ◌<◌, ◌≤◌, Bool, true, false, List, [], ◌∷◌, ◌++◌, drop, length, get_or, refl, ap, sym, subst, arith}
 use Rattle.std.specs.List.{All}
 use Rattle.std.specs.Prelude.{Contains, Option, Some, None, filter}
 use Rattle.std.proofs.Math.Seq.{drop-cons}
 use Rattle.std.proofs.lemmas.List.{drop_all, get_or_default, length-append}
 use Rattle.std.proofs.lemmas.List.Elements.{All-filter, All-from_get_or, All-get_or, Contains-get_or, filter_passes}
 use Rattle.reo_values.specs.declared.value.Value.{Value}
-use Rattle.reo_net_base.specs.declared.mark.Mark.{Mark}
-use Rattle.reo_net_base.specs.declared.mark.Mark.TheVariants.{F, G, R, J}
+use Rattle.reo_net_base.specs.declared.mark.Mark.TheVariants.{F}
 use Rattle.reo_net_base.specs.declared.joint.End.{End}
 use Rattle.reo_net_base.specs.declared.joint.Joint.{Joint}
 use Rattle.reo_net_base.specs.Behaviour.{Behaviour}
 use Rattle.reo_net_base.specs.Colouring.{IsColouring, ItemFits, given_at}
 use Rattle.reo_net_base.specs.Ends.{IsTaker}
-use Rattle.reo_net_base.specs.Marks.{is_flow}
 use Rattle.reo_net_base.specs.Net.{Net, all_sides, behaviour_at, end_of, mark_at, row_at, side_at}
 use Rattle.reo_net_base.specs.Wired.{IsWired}
 use Rattle.reo_net_circuit.proofs.Cases.{eq_cases, lt_cases}
@@ -27,6 +25,7 @@ use Rattle.reo_joint_values.specs.Many.{IsJointIn}
 use Rattle.reo_reach.specs.InOrder.{AreInOrder, joints_in}
 use Rattle.reo_net_laws.specs.Parts.{IsClosed}
 use Rattle.reo_net_laws.proofs.Orders.{place_in}
+use Rattle.reo_side_tables.proofs.Adding.{flows_F, still_F}
 use Rattle.reo_kept_tables.specs.Orders.{AreJointsOf}
 use Rattle.reo_kept_tables.proofs.Sorted.{joints_of_set}
 use Rattle.reo_flowing.specs.Flowing.{AreFlowingOf, flows_by}
@@ -38,12 +37,6 @@ before_end : (xs ys : List ℕ) (m : ℕ) → m < length xs → get_or (xs ++ ys
 before_end [] ys m lt = absurd (omega arith)
 before_end (x ∷ xs) ys zero lt = refl
 before_end (x ∷ xs) ys (suc m) lt = before_end xs ys m (omega arith)
-
-pub flow_or_not : (m : Mark) → (m ≡ F) ⊎ (m ≢ F)
-flow_or_not F = inl refl
-flow_or_not G = inr (λ e. cc)
-flow_or_not R = inr (λ e. cc)
-flow_or_not J = inr (λ e. cc)
 
 -- What the items of a colouring are, where a joint flows and where it does not.
 fits_flow : (net : Net) (rows : List ℕ) (items : List (Option Value)) (j : Joint) (o : Option Value) → ItemFits net rows items j o → mark_at net rows j.giver ≡ F → o ≡ given_at net rows items j.giver
@@ -221,18 +214,6 @@ pub record IsFilledFar (net : Net) (inside : ℕ → Bool) (rows those : List �
   pub left : filter (flows_by net rows) (drop place joints) ≡ drop n those
   pub far : IsFilledTo joints others place old new noted
 
-some_flow : (m : Mark) → is_flow m ≡ true → m ≡ F
-some_flow F h = refl
-some_flow G h = absurd cc
-some_flow R h = absurd cc
-some_flow J h = absurd cc
-
-no_flow : (m : Mark) → is_flow m ≡ false → m ≢ F
-no_flow F h e = absurd cc
-no_flow G h e = cc
-no_flow R h e = cc
-no_flow J h e = cc
-
 -- None so far.
 pub far_none : (net : Net) → IsWired net → (inside : ℕ → Bool) → IsClosed net inside → (rows those : List ℕ) → AreFlowingOf net inside rows those → (others old : List (Option Value)) (noted : List ℕ) → AreHeld old noted
     → IsFilledFar net inside rows those 0 others old old noted
@@ -251,7 +232,7 @@ module _ (net : Net) (wired : IsWired net) (rows : List ℕ) (others : List (Opt
   passed_over : (joints : List ℕ) (are : AreJointsOf net inside joints) (new : List (Option Value)) (noted : List ℕ) (n : ℕ) → n < length joints → flows_by net rows (get_or joints n 0) ≡ false
       → IsFilledTo joints others n old new noted → IsFilledTo joints others (n + 1) old new noted
   passed_over joints are new noted n lt not far =
-      still_more net wired rows others is table ends joints are.in_order inside are.exact n lt old new noted blank far (no_flow (mark_at net rows (giver_of net (get_or joints n 0))) not)
+      still_more net wired rows others is table ends joints are.in_order inside are.exact n lt old new noted blank far (still_F (mark_at net rows (giver_of net (get_or joints n 0))) not)
 
   -- One more of them.
   pub far_more : (n : ℕ) → n < length those → (new next : List (Option Value)) (noted more : List ℕ) → IsFilledFar net inside rows those n others old new noted
@@ -262,7 +243,7 @@ module _ (net : Net) (wired : IsWired net) (rows : List ℕ) (others : List (Opt
       (length so.joints - so.place) so.place (omega (arith, so.within)) x (drop (suc n) those) (so.left ∙ drop-cons those n 0 lt) so.far in
       let one_more : suc n ≡ n + 1 = omega arith in
       let here : IsPut net rows (get_or so.joints at.place 0) new next noted more = subst (λ (j : ℕ). IsPut net rows j new next noted more) (sym at.here) put in
-      let flows = some_flow (mark_at net rows (giver_of net (get_or so.joints at.place 0))) (ap (flows_by net rows) at.here ∙ at.passes) in
+      let flows = flows_F (mark_at net rows (giver_of net (get_or so.joints at.place 0))) (ap (flows_by net rows) at.here ∙ at.passes) in
       record {
         joints = so.joints;
         are = so.are;
@@ -292,4 +273,4 @@ module _ (net : Net) (inside : ℕ → Bool) (rows those : List ℕ) (of : AreFl
       all_in = All-from_get_or (λ (j : ℕ). j < length net.joints) of.all 0 (place_in net of.all of.is_order)
 
   pub those_flow : (m : ℕ) → m < length those → GiverFlows net rows (get_or those m 0)
-  those_flow m lt = giver_flows net rows (get_or those m 0) (those_in m lt) (some_flow (mark_at net rows (giver_of net (get_or those m 0))) (passes m lt))
+  those_flow m lt = giver_flows net rows (get_or those m 0) (those_in m lt) (flows_F (mark_at net rows (giver_of net (get_or those m 0))) (passes m lt))

@@ -1,5 +1,5 @@
 -- Items that are put at joints.
-use Rattle.std.specs.Prelude.{ℕ, ◌<◌, ◌≡◌, ◌≢◌, Bool, List, ◌∷◌, [], ◌++◌, Option, None, length, slice_index, slice_index_or}
+use Rattle.std.specs.Prelude.{ℕ, ◌<◌, ◌≡◌, ◌≢◌, Bool, false, List, ◌∷◌, [], ◌++◌, Option, None, length, slice_index, slice_index_or}
 use Rattle.reo_values.specs.declared.value.Value.{Value}
 use Rattle.reo_net_base.specs.declared.joint.Joint.{Joint}
 use Rattle.reo_net_base.specs.Net.{Net}
@@ -19,6 +19,11 @@ pub record AreBlank (count : ℕ) (items : List (Option Value)) : Type 0 where
 -- No item at the joints of a set of sides.
 abbrev pub AreBlankOn : Net → (ℕ → Bool) → List (Option Value) → Type 0
 AreBlankOn net inside items = (j : ℕ) → IsJointIn net inside j → slice_index_or items j None ≡ None
+
+-- A flag for each of so many parts, and no joint is listed for a part whose flag is clear.
+pub record AreMoving (parts : ℕ) (flags : List Bool) (lists : List (List ℕ)) : Type 0 where
+  pub one_each : length flags ≡ parts
+  pub none : (k : ℕ) → k < parts → slice_index_or flags k false ≡ false → slice_index_or lists k [] ≡ []
 
 -- Exactly the joints that have an item.
 pub record AreHeld (items : List (Option Value)) (joints : List ℕ) : Type 0 where

@@ -8,9 +8,10 @@ ghost use Rattle.reo_net_ends.specs.Ends.{AreEnds};
 ghost use Rattle.reo_knots.specs.Knots.{AreKnots, in_knot, knot_count};
 ghost use Rattle.reo_flowing.specs.Flowing.{AreFlowingIn, AreFlowingOf};
 ghost use Rattle.reo_stepping.specs.Flowing.{GiverFlows};
-ghost use Rattle.reo_standing.specs.Filling.{AreBlank, AreBlankOn, AreFilled, AreHeld, HaveColouring, IsPartFilled, IsPut};
+ghost use Rattle.reo_standing.specs.Filling.{AreBlank, AreBlankOn, AreFilled, AreHeld, AreMoving, HaveColouring, IsPartFilled, IsPut};
 
-use crate::giving::given_at;
+use crate::giving::put_given;
+use reo_flags::Flags;
 use reo_knots::Knots;
 use reo_net_base::Primitive;
 use reo_net_circuit::Circuit;
@@ -38,8 +39,7 @@ fn put_item<P: Primitive>(
 {
     circuit.known();
     let giver = circuit.joint(joint).giver;
-    let item = given_at(alloc, circuit, ends, rows, items.as_slice(), giver)?;
-    *items.at_mut(joint) = item;
+    put_given(alloc, circuit, ends, rows, giver, joint, items)?;
     flowing.push(joint)
 }
 
@@ -80,7 +80,8 @@ fn fill_part<P: Primitive>(
     Ok(())
 }
 
-/// Puts the items at the joints of all parts that flow, which are given for each part.
+/// Puts the items at the joints that flow, which are given for each part. Only the parts are gone to
+/// that are flagged, and those of no other flow.
 pub(crate) fn fill<P: Primitive>(
     alloc: Global,
     circuit: &Circuit<P>,
@@ -88,6 +89,7 @@ pub(crate) fn fill<P: Primitive>(
     ends: &Ends,
     rows: &[u32],
     lists: &List<List<usize>>,
+    moving: &Flags,
     items: &mut List<Option<Value>>,
     flowing: &mut List<usize>,
 ) -> Result<(), NoMemory>
@@ -96,6 +98,7 @@ pub(crate) fn fill<P: Primitive>(
     requires rows { AreRowsOf (net_of P.behaviour circuit.now) rows.now }
     requires lists { AreFlowingIn
         (net_of P.behaviour circuit.now) knots.now rows.now (λ _. true) lists.now }
+    requires moving { AreMoving (knot_count knots.now) moving.now lists.now }
     requires coloured { HaveColouring (net_of P.behaviour circuit.now) rows.now }
     requires blank { AreBlank (length circuit.now.joints) items.old }
     requires held { AreHeld items.old flowing.old }
@@ -104,11 +107,13 @@ pub(crate) fn fill<P: Primitive>(
         → OnOk result (AreFilled others items.new flowing.new) }
 {
     circuit.known();
-    for part in 0..knots.count() {
+    let mut part = moving.next_set(0);
+    while part < moving.len() {
         let joints = lists.at(part).as_slice();
         fill_part(
             alloc, circuit, knots, ends, rows, part, joints, items, flowing,
         )?;
+        part = moving.next_set(part + 1);
     }
     Ok(())
 }

@@ -1,9 +1,11 @@
 //! What flows at the ports, by the items at their joints.
-ghost use Rattle.std.specs.Prelude.{◌≡◌, ◌<◌, ◌++◌, ℕ, List as Listed, IfOk, OnOk, None, option_copied, slice_index_or};
+ghost use Rattle.std.specs.Prelude.{◌≡◌, ◌<◌, ◌++◌, ℕ, List as Listed, IfOk, OnOk, None, length, option_copied, slice_index_or};
 ghost use Rattle.reo_net_base.specs.Colouring.{IsColouring};
 ghost use Rattle.reo_net_base.specs.Moves.{moves_at, moves_of};
 ghost use Rattle.reo_net_base.specs.Net.{net_of};
+ghost use Rattle.reo_stepping.specs.Changes.{AreThoseThatFlowed};
 
+use reo_flags::Flags;
 use reo_net_base::{Move, Primitive};
 use reo_net_circuit::Circuit;
 use reo_values::{List, NoMemory, Value, copy};
@@ -41,20 +43,26 @@ fn add_move<P: Primitive>(
     }
 }
 
-/// The ports that flow, in order, with their items. No mark is looked at: a joint flows exactly
-/// where it has an item. `NoMemory` is out of memory.
-pub(crate) fn moves_by_items<P: Primitive>(
+/// The ports that flow, in order, with their items, where exactly those primitives are marked of
+/// which some end flows. `NoMemory` is out of memory.
+pub(crate) fn moves_of_marked<P: Primitive>(
     alloc: Global,
     circuit: &Circuit<P>,
     items: &[Option<Value>],
+    marks: &Flags,
 ) -> Result<List<Move>, NoMemory>
+    requires one_each { length marks.now ≡ length circuit.now.primitives }
     ensures { let net = net_of P.behaviour circuit.now in
         (rows : Listed ℕ) → IsColouring net rows items.now
+        → AreThoseThatFlowed net rows marks.now
         → IfOk result (λ moves. moves ≡ moves_of net circuit.now.ports rows items.now) }
 {
+    circuit.known_ports();
     let mut moves = List::new(alloc);
-    for port in 0..circuit.ports() {
+    let mut port = marks.next_set(0);
+    while port < circuit.ports() {
         add_move(alloc, &mut moves, circuit, items, port)?;
+        port = marks.next_set(port + 1);
     }
     Ok(moves)
 }

@@ -2,37 +2,42 @@
 ghost use Rattle.std.specs.Prelude.{◌≡◌, None, true, IfOk, length, set};
 ghost use Rattle.reo_net_base.specs.Net.{net_of};
 ghost use Rattle.reo_net_ends.specs.Ends.{AreEnds};
-ghost use Rattle.reo_knots.specs.Knots.{AreKnots};
+ghost use Rattle.reo_knots.specs.Knots.{AreKnots, knot_count};
 ghost use Rattle.reo_flowing.specs.Flowing.{AreFlowingIn};
-ghost use Rattle.reo_standing.specs.Filling.{AreBlank, AreHeldAmong};
+ghost use Rattle.reo_standing.specs.Filling.{AreBlank, AreHeldAmong, AreMoving};
 ghost use Rattle.reo_standing.specs.Standing.{HaveFirstItems, Stands};
 
 use crate::filling::fill;
-use crate::moving::moves_by_items;
+use crate::moving::moves_of_marked;
+use reo_flags::Flags;
 use reo_knots::Knots;
 use reo_net_base::{Colouring, Primitive};
 use reo_net_circuit::Circuit;
 use reo_net_ends::Ends;
+use reo_stepping::mark_flowing;
 use reo_trace::RoundLine;
 use reo_values::{List, NoMemory, Value};
 use std::alloc::Global;
 
-/// What stands for a round: its rows with the items at all joints, the joints that flow, and the
-/// line of the round without its entries.
+/// What stands for a round: its rows with the items at all joints, the joints that flow, a mark for
+/// each primitive, set exactly where some end flows, and the line of the round without its entries.
 #[derive(Drop)]
 pub struct Standing {
     pub colouring: Colouring,
     pub flowing: List<usize>,
+    pub marks: Flags,
     pub line: RoundLine,
 }
 
 /// What a round that stands is written into: the rows of the round, a list of no items at the
-/// joints, and a list for the joints that flow, with any numbers.
+/// joints, a list for the joints that flow, with any numbers, and a mark for each primitive, with
+/// any values.
 #[derive(Drop)]
 pub struct Sheet {
     pub rows: List<u32>,
     pub items: List<Option<Value>>,
     pub flowing: List<usize>,
+    pub marks: Flags,
 }
 
 /// No item at any of so many joints. `NoMemory` is out of memory.
@@ -47,13 +52,15 @@ pub fn blank(alloc: Global, joints: usize) -> Result<List<Option<Value>>, NoMemo
 }
 
 /// What stands for the round of a number, written into a sheet whose rows are those of its first
-/// colouring. For each part the joints are given that flow in it. `NoMemory` is out of memory.
+/// colouring. For each part the joints are given that flow in it; a part in which none flows may be
+/// left without a flag, and then is not gone to. `NoMemory` is out of memory.
 pub fn stand<P: Primitive>(
     alloc: Global,
     circuit: &Circuit<P>,
     knots: &Knots,
     ends: &Ends,
     lists: &List<List<usize>>,
+    moving: &Flags,
     turn: u64,
     sheet: Sheet,
 ) -> Result<Standing, NoMemory>
@@ -62,7 +69,9 @@ pub fn stand<P: Primitive>(
     requires first { HaveFirstItems (net_of P.behaviour circuit.now) turn sheet.rows }
     requires lists { AreFlowingIn
         (net_of P.behaviour circuit.now) knots.now sheet.rows (λ _. true) lists.now }
+    requires moving { AreMoving (knot_count knots.now) moving.now lists.now }
     requires items { AreBlank (length circuit.now.joints) sheet.items }
+    requires marks { length sheet.marks ≡ length circuit.now.primitives }
     ensures stands { let net = net_of P.behaviour circuit.now in
         IfOk result (Stands net circuit.now.ports turn) }
     ensures rows { IfOk result (λ made. made.colouring.rows ≡ sheet.rows) }
@@ -72,6 +81,7 @@ pub fn stand<P: Primitive>(
         rows,
         mut items,
         mut flowing,
+        mut marks,
     } = sheet;
     flowing.clear();
     fill(
@@ -81,15 +91,18 @@ pub fn stand<P: Primitive>(
         ends,
         rows.as_slice(),
         lists,
+        moving,
         &mut items,
         &mut flowing,
     )?;
+    mark_flowing(circuit, rows.as_slice(), flowing.as_slice(), &mut marks);
+    let moves = moves_of_marked(alloc, circuit, items.as_slice(), &marks)?;
     let colouring = Colouring { rows, items };
-    let moves = moves_by_items(alloc, circuit, colouring.items.as_slice())?;
     let idle = flowing.is_empty();
     Ok(Standing {
         colouring,
         flowing,
+        marks,
         line: RoundLine {
             round: turn,
             idle,

@@ -1,6 +1,5 @@
-use Rattle.std.proofs.Common.{◌∙◌, ◌<◌, ℕ, List, Bool, length, get_or, arith}
-use Rattle.std.proofs.lemmas.List.{get_or_default}
-use Rattle.reo_net_base.specs.Net.{Net, net_of}
+use Rattle.std.proofs.Common.{◌∙◌, arith}
+use Rattle.reo_net_base.specs.Net.{net_of}
 use Rattle.reo_knots.specs.Knots.{in_knot}
 use Rattle.reo_standing.proofs.Putting.{far_all, far_more, far_none, those_flow, those_in}
 use Rattle.reo_standing.proofs.filling.fill_part.Goals as goal
