@@ -1,14 +1,14 @@
 -- What a round that stands is made with, when a circuit changes.
-use Rattle.std.proofs.Common.{◌≡◌, ◌≢◌, ◌∙◌, inl, inr, ℕ, zero, suc, ◌+◌, ◌<◌, ◌≤◌, Bool, true, false, not, ◌&&◌, List, [], ◌∷◌, length, get_or, set, refl, ap, sym, subst, arith}
+use Rattle.std.proofs.Common.{◌≡◌, ◌≢◌, ◌∙◌, inl, inr, ℕ, ◌+◌, ◌<◌, ◌≤◌, Bool, true, false, not, List, [], ◌∷◌, length, get_or, refl, ap, sym, subst, arith}
 use Rattle.std.specs.Prelude.{Option, None, nat_le, nat_lt, ◌==◌, ◌⊎◌, if◌then◌else◌}
 use Rattle.std.proofs.lemmas.Bool.{and_from}
 use Rattle.std.proofs.lemmas.Bool.Decides.{nat_tests}
-use Rattle.std.proofs.lemmas.List.{get_or_default, get_or-set_same, get_or-set_other}
+use Rattle.std.proofs.lemmas.List.{get_or_default}
 use Rattle.reo_values.specs.declared.value.Value.{Value}
-use Rattle.reo_net_base.specs.declared.joint.End.{End}
+use Rattle.reo_values.proofs.Truths.{and_right, not_both}
 use Rattle.reo_net_base.specs.declared.joint.Joint.{Joint}
 use Rattle.reo_net_base.specs.Behaviour.{Behaviour}
-use Rattle.reo_net_base.specs.Net.{Net, Side, all_sides, behaviour_at, mark_at, no_side, row_at, row_count, side_at}
+use Rattle.reo_net_base.specs.Net.{Net, Side, all_sides, behaviour_at, mark_at, no_side, row_count}
 use Rattle.reo_net_base.specs.Shapes.{SameShapes}
 use Rattle.reo_net_base.specs.Sides.{side_count}
 use Rattle.reo_net_base.specs.Wired.{IsWired, IsOrder}
@@ -18,14 +18,13 @@ use Rattle.reo_net_circuit.proofs.ReshapeLemmas.{first_same}
 use Rattle.reo_net_laws.specs.Jams.{jams}
 use Rattle.reo_net_laws.proofs.Jams.{jams_whole}
 use Rattle.reo_net_laws.proofs.OneFirst.{one_inside}
-use Rattle.reo_net_laws.proofs.Sets.{and_right}
-use Rattle.reo_net_laws.proofs.Sides.{Owner, owner_of, owner_side, side_in_range}
+use Rattle.reo_net_laws.proofs.Sides.{Owner, owner_of, owner_side}
 use Rattle.reo_cells.specs.declared.cells.Cells.{Cells}
 use Rattle.reo_cells.specs.Cells.{AreBrought, AreCells, AreShown, IsShown, code_at}
 use Rattle.reo_cells.specs.Texts.{jam_code}
 use Rattle.reo_cells.proofs.Laid.{cells_same}
 use Rattle.reo_knots.specs.Knots.{Knotted, AreKnots, in_knot, knot_count}
-use Rattle.reo_flowing.specs.Flowing.{AreFlowingIn}
+use Rattle.reo_flowing.specs.Flowing.{AreFlowingIn, AreFlowingOf}
 use Rattle.reo_still.proofs.Together.{parts_make_first}
 use Rattle.reo_mark_search.proofs.Parts.{side_here, side_listed}
 use Rattle.reo_weights.proofs.CauseLemmas.{within_not_over}
@@ -33,19 +32,22 @@ use Rattle.reo_planning.specs.declared.kept.Kept.{Kept}
 use Rattle.reo_planning.specs.Keeping.{AllServe, IsKept, is_settled}
 use Rattle.reo_planning.specs.Planned.{ArePlanned}
 use Rattle.reo_planning.specs.Unsettling.{AreEndsMarked, AreFewer, IsElsewhere, part_at}
+use Rattle.reo_planning.proofs.Flowing.{told_by_joints}
 use Rattle.reo_planning.proofs.KnotSets.{number_is}
 use Rattle.reo_planning.proofs.Parting.{all_served}
 use Rattle.reo_planning.proofs.Shapes.{count_same}
 use Rattle.reo_joint_values.specs.Standing.{giver_of, no_joint}
+use Rattle.reo_rows.proofs.Working.{flow_cases}
 use Rattle.reo_stepping.specs.Clearing.{ComesNoItem}
 use Rattle.reo_stepping.specs.Changes.{AreThoseThatFlowed}
 use Rattle.reo_stepping.specs.Flowing.{AreFlowing}
 use Rattle.reo_stepping.proofs.Marking.{beside_flows, flows_beside}
-use Rattle.reo_standing.specs.Filling.{AreHeldAmong, HaveColouring}
-use Rattle.reo_standing.proofs.Putting.{flow_or_not, giver_flows, others_none}
+use Rattle.reo_standing.specs.Filling.{AreHeldAmong, AreMoving, HaveColouring}
+use Rattle.reo_standing.proofs.Putting.{giver_flows, others_none}
 use Rattle.reo_standing.specs.Standing.{HaveFirstItems}
+use Rattle.reo_standing.proofs.Filled.{past_none}
 use Rattle.reo_engine.specs.declared.flows.Flows.{Flows}
-use Rattle.reo_engine.specs.Flows.{AreFlows, AreKeptShown, AreMarked, AreShownAt, HasNoSheet, MayBeBlank, part_of}
+use Rattle.reo_engine.specs.Flows.{AreFlows, AreKeptShown, AreFlaggedShown, AreShownAt, HasNoSheet, MayBeBlank, MayBeMarks, part_of}
 use Rattle.reo_engine.specs.Stood.{AreRenewed}
 
 -- The code of a cell, by its row and how many rows its side has.
@@ -86,22 +88,11 @@ pub flows_stay : (net other : Net) (knots : Knotted) (old new : Kept) → AreFew
     → (flows : Flows) → AreFlows net knots old flows → AreFlows other knots new flows
 flows_stay net other knots old new fewer is flows are = record {
   blank = subst (λ (js : List Joint). MayBeBlank (length js) flows.blank) (sym is.joints) are.blank;
+  marks = subst (λ (n : ℕ). MayBeMarks n flows.marks) (sym is.shapes.count) are.marks;
   one_each = are.one_each;
   cells = cells_same net other is.shapes flows.cells are.cells;
   shown = λ h. shown_stay net other knots old new fewer is flows.cells (are.shown h);
 }
-
-not_false : (b : Bool) → not b ≡ false → b ≡ true
-not_false true h = λ i. true
-not_false false h = absurd cc
-
-left_of : (a b : Bool) → (a && b) ≡ true → a ≡ true
-left_of true b h = λ i. true
-left_of false b h = absurd cc
-
-right_of : (a b : Bool) → (a && b) ≡ true → b ≡ true
-right_of true b h = h
-right_of false b h = absurd cc
 
 -- A side is in its own part.
 in_own : (net : Net) (knots : Knotted) → AreKnots net knots → (s k : ℕ) → s < side_count net → part_of knots s ≡ k → in_knot knots.numbers k s ≡ true
@@ -113,7 +104,7 @@ in_own net knots are s k s_in is =
 -- Rows that come in place of those that were kept, all parts settled.
 module _ (net : Net) (wired : IsWired net) (order : List ℕ) (is_order : IsOrder net order) (knots : Knotted) (are : AreKnots net knots) (turn : ℕ) (old new : Kept)
     (was : IsKept net knots turn old) (is : IsKept net knots turn new) (settled : (k : ℕ) → k < knot_count knots → is_settled new k ≡ true)
-    (flows : Flows) (of : AreFlows net knots old flows) (marked : List Bool) (marks : AreMarked flows.shown old (knot_count knots) marked) where
+    (flows : Flows) (of : AreFlows net knots old flows) (flags : List Bool) (flagged : AreFlaggedShown flows.shown old (knot_count knots) flags) where
   -- In a part that was settled they are the same.
   rows_same : (k : ℕ) → k < knot_count knots → is_settled old k ≡ true → (s : ℕ) → s < side_count net → in_knot knots.numbers k s ≡ true → get_or new.rows s 0 ≡ get_or old.rows s 0
   rows_same k lt there s s_in h =
@@ -122,23 +113,17 @@ module _ (net : Net) (wired : IsWired net) (order : List ℕ) (is_order : IsOrde
       let one = one_inside net wired order is_order (in_knot knots.numbers k) (are.are_knots k lt).closed turn before.first.others now.first.others before.first.items now.first.items before.first.first now.first.first in
       now.first.same s s_in h ∙ sym (one.rows s s_in h) ∙ sym (before.first.same s s_in h)
 
-  -- A part that is not marked was settled, and shown.
-  not_marked : (k : ℕ) → k < knot_count knots → get_or marked k true ≡ false → (flows.shown ≡ true) × (is_settled old k ≡ true)
-  not_marked k lt h =
-      let both : (flows.shown && is_settled old k) ≡ true = not_false (flows.shown && is_settled old k) (sym (marks.each k lt) ∙ h) in
-      (left_of flows.shown (is_settled old k) both, right_of flows.shown (is_settled old k) both)
-
-  -- They are shown at each side, once those that are marked are.
-  pub all_shown : (now : Cells) → AreShownAt net knots new.rows marked (knot_count knots) flows.cells now → AreShown net new.rows now
+  -- They are shown at each side, once those of parts that are not flagged are.
+  pub all_shown : (now : Cells) → AreShownAt net knots new.rows flags (knot_count knots) flows.cells now → AreShown net new.rows now
   all_shown now at s s_in =
       let k : ℕ = part_of knots s in
       let lt : k < knot_count knots = are.numbered.in_range s s_in in
-      elim (yes_or_no (get_or marked k true)) [
-        | inl marks_it ↦ at.here s s_in lt marks_it
-        | inr unmarked ↦
-            let was_so = not_marked k lt unmarked in
+      elim (yes_or_no (get_or flags k false)) [
+        | inl flag ↦
+            let was_so = flagged.each k flag in
             let row = rows_same k lt was_so.1 s s_in (in_own net knots are s k s_in refl) in
-            code_kept net old.rows new.rows s (get_or flows.cells.shown s 0) (get_or now.shown s 0) row (at.others s s_in unmarked) (of.shown was_so.0 s s_in was_so.1)
+            code_kept net old.rows new.rows s (get_or flows.cells.shown s 0) (get_or now.shown s 0) row (at.others s s_in flag) (of.shown was_so.0 s s_in was_so.1)
+        | inr clear ↦ at.here s s_in lt clear
       ]
     where
       yes_or_no : (b : Bool) → (b ≡ true) ⊎ (b ≡ false)
@@ -151,29 +136,17 @@ first_items budget net wired knots are turn rows planned =
     let joined = parts_make_first net wired knots.numbers (knot_count knots) are.numbered turn rows planned.one_row planned.firsts in
     record { items = joined.items; first = joined.first }
 
-past_none : (xs : List (Option Value)) (k : ℕ) → length xs ≤ k → get_or xs k None ≡ None
-past_none [] k le = refl
-past_none (x ∷ xs) zero le = absurd (omega arith)
-past_none (x ∷ xs) (suc k) le = past_none xs k (omega arith)
-
 -- After a round the joints that still have an item are among those that flowed.
 pub held_among : (net : Net) → IsWired net → (rows : List ℕ) (items now : List (Option Value)) → IsColouring net rows items → (flowing : List ℕ) → AreFlowing net rows flowing → ComesNoItem items now → AreHeldAmong now flowing
 held_among net wired rows items now is flowing are none j some =
     let before : get_or items j None ≢ None = λ e. some (none.none j e) in
     elim (lt_cases j (length net.joints)) [
-      | inl lt ↦ elim (flow_or_not (mark_at net rows (giver_of net j))) [
+      | inl lt ↦ elim (flow_cases (mark_at net rows (giver_of net j))) [
         | inl flows ↦ are.each j lt (giver_flows net rows j lt flows)
         | inr not ↦ absurd (before (others_none net wired rows items is j lt (λ flows. not (flows no_joint))))
       ]
       | inr past ↦ absurd (before (past_none items j (omega (arith, is.one_each, past))))
     ]
-
--- One mark more.
-pub mark_more : (f : ℕ → Bool) (xs : List Bool) (v : Bool) (n k : ℕ) → n < length xs → k < n + 1 → v ≡ f n → ((m : ℕ) → m < n → get_or xs m true ≡ f m) → get_or (set xs n v) k true ≡ f k
-mark_more f xs v n k n_in lt is each = elim (eq_cases k n) [
-  | inl e ↦ rw e (get_or-set_same xs n v true n_in ∙ is)
-  | inr ne ↦ get_or-set_other xs n k v true ne ∙ each k (omega (arith, lt, ne))
-]
 
 -- Parts that serve are settled.
 pub served_settled : (kept : Kept) (budget count : ℕ) → AllServe count budget kept → (k : ℕ) → k < count → is_settled kept k ≡ true
@@ -199,21 +172,44 @@ pub told_of_all : (net : Net) (knots : Knotted) (kept : Kept) (budget : ℕ) →
     → AreFlowingIn net knots kept.rows (λ _. true) lists
 told_of_all net knots kept budget serve lists are = record { one_each = are.one_each; each = λ k lt _. are.each k lt (served_settled kept budget (knot_count knots) serve k lt) }
 
+-- Joints are listed only for parts in which something flows by the rows that are kept.
+pub lists_moving : (net : Net) → IsWired net → (knots : Knotted) → AreKnots net knots → (turn : ℕ) (kept : Kept) → IsKept net knots turn kept → RowsFit net kept.rows → ((k : ℕ) → k < knot_count knots → is_settled kept k ≡ true)
+    → (lists : List (List ℕ)) → AreFlowingIn net knots kept.rows (λ _. true) lists → AreMoving (knot_count knots) kept.moving lists
+lists_moving net wired knots are turn kept is fit settled lists flowing = record {
+  one_each = is.sizes.one_mark;
+  none = λ k lt clear.
+      let inside : ℕ → Bool = in_knot knots.numbers k in
+      let marked : k < length kept.moving = omega (arith, lt, is.sizes.one_mark) in
+      let still = (is.known k lt (settled k lt)).still (get_or_default kept.moving k true false marked ∙ clear) in
+      elim (get_or lists k []) as (λ (xs : List ℕ). AreFlowingOf net inside kept.rows xs → xs ≡ []) [
+        | [] ↦ λ of. refl
+        | x ∷ xs ↦ λ of. absurd (
+            let told = told_by_joints net wired inside (are.are_knots k lt).closed kept.rows fit (x ∷ xs) of (length (x ∷ xs) == 0) refl in
+            let at = told.flows (some_long x xs) in
+            still at.end at.is_end at.here at.flows)
+      ] (flowing.each k lt refl);
+}
+  where
+    some_long : (x : ℕ) (xs : List ℕ) → not (length (x ∷ xs) == 0) ≡ true
+    some_long x xs = grind (arith, nat_tests)
+
 -- What a round is made with stays right where nothing is shown.
-pub flows_unshown : (net : Net) (knots : Knotted) (old new : Kept) (flows : Flows) (marked : List Bool) → AreFlows net knots old flows → length marked ≡ length flows.marked
-    → AreFlows net knots new (record flows { marked = marked; shown = false })
-flows_unshown net knots old new flows marked are count = record {
+pub flows_unshown : (net : Net) (knots : Knotted) (old new : Kept) (flows : Flows) (flags : List Bool) → AreFlows net knots old flows → length flags ≡ length flows.shown_parts
+    → AreFlows net knots new (record flows { shown_parts = flags; shown = false })
+flows_unshown net knots old new flows flags are count = record {
   blank = are.blank;
+  marks = are.marks;
   one_each = count ∙ are.one_each;
   cells = are.cells;
   shown = λ e. absurd cc;
 }
 
 -- And where all is shown.
-pub flows_shown : (net : Net) (knots : Knotted) (old new : Kept) (flows : Flows) (marked : List Bool) (now : Cells) → AreFlows net knots old flows → length marked ≡ length flows.marked
-    → AreCells net now → AreShown net new.rows now → AreFlows net knots new (record flows { marked = marked; cells = now; shown = true })
-flows_shown net knots old new flows marked now are count cells shown = record {
+pub flows_shown : (net : Net) (knots : Knotted) (old new : Kept) (flows : Flows) (flags : List Bool) (now : Cells) → AreFlows net knots old flows → length flags ≡ length flows.shown_parts
+    → AreCells net now → AreShown net new.rows now → AreFlows net knots new (record flows { shown_parts = flags; cells = now; shown = true })
+flows_shown net knots old new flows flags now are count cells shown = record {
   blank = are.blank;
+  marks = are.marks;
   one_each = count ∙ are.one_each;
   cells = cells;
   shown = λ e s s_in settled. shown s s_in;
@@ -223,49 +219,45 @@ flows_shown net knots old new flows marked now are count cells shown = record {
 pub flows_taken : (net : Net) (knots : Knotted) (kept : Kept) (old new : Flows) → AreFlows net knots kept old → HasNoSheet old new → AreFlows net knots kept new
 flows_taken net knots kept old new are none = record {
   blank = subst (MayBeBlank (length net.joints)) (sym none.blank) tt;
-  one_each = ap (λ (xs : List Bool). length xs) none.marked ∙ are.one_each;
+  marks = none.marks (length net.primitives) are.marks;
+  one_each = ap (λ (xs : List Bool). length xs) none.shown_parts ∙ are.one_each;
   cells = subst (AreCells net) (sym none.cells) are.cells;
   shown = λ e. subst (AreKeptShown net knots kept) (sym none.cells) (are.shown (sym none.shown ∙ e));
 }
 
 -- And with any text.
 pub flows_texted : (net : Net) (knots : Knotted) (kept : Kept) (flows : Flows) (text : List ℕ) → AreFlows net knots kept flows → AreFlows net knots kept (record flows { text = text })
-flows_texted net knots kept flows text are = record { blank = are.blank; one_each = are.one_each; cells = are.cells; shown = are.shown }
+flows_texted net knots kept flows text are = record { blank = are.blank; marks = are.marks; one_each = are.one_each; cells = are.cells; shown = are.shown }
 
 -- Before the first part nothing is shown.
-pub shown_none : (net : Net) (knots : Knotted) (rows : List ℕ) (marked : List Bool) (cells : Cells) → AreShownAt net knots rows marked 0 cells cells
-shown_none net knots rows marked cells = record { here = λ s s_in lt yes. absurd (omega (arith, lt)); others = λ s s_in no. refl }
+pub shown_none : (net : Net) (knots : Knotted) (rows : List ℕ) (flags : List Bool) (cells : Cells) → AreShownAt net knots rows flags 0 cells cells
+shown_none net knots rows flags cells = record { here = λ s s_in lt clear. absurd (omega (arith, lt)); others = λ s s_in flag. refl }
 
-false_true : (b : Bool) → b ≡ false → b ≡ true → ⊥
-false_true true f t = cc
-false_true false f t = cc
+-- Parts are passed over that are flagged.
+pub shown_over : (net : Net) (knots : Knotted) (rows : List ℕ) (flags : List Bool) (n next : ℕ) → ((k : ℕ) → n ≤ k → k < next → get_or flags k false ≡ true) → (old new : Cells) → AreShownAt net knots rows flags n old new
+    → AreShownAt net knots rows flags next old new
+shown_over net knots rows flags n next flagged old new at = record {
+  here = λ s s_in below clear. elim (lt_cases (part_of knots s) n) [
+    | inl lt ↦ at.here s s_in lt clear
+    | inr le ↦ absurd (not_both (get_or flags (part_of knots s) false) clear (flagged (part_of knots s) le below))
+  ];
+  others = at.others;
+}
 
--- One part more.
-module _ (net : Net) (knots : Knotted) (are : AreKnots net knots) (rows : List ℕ) (marked : List Bool) (n : ℕ) (lt : n < knot_count knots) (old mid new : Cells)
-    (at : AreShownAt net knots rows marked n old mid) where
-  -- It is marked, and was brought.
-  pub shown_more : get_or marked n true ≡ true → (sides : List ℕ) → sides ≡ get_or knots.sides n [] → AreBrought net rows sides mid new → AreShownAt net knots rows marked (n + 1) old new
-  shown_more mark sides is brought = record {
-    here = λ s s_in below yes. elim (eq_cases (part_of knots s) n) [
-      | inl e ↦
-          let there = side_listed net knots are n lt sides is s s_in (in_own net knots are s n s_in e) in
-          subst (λ (k : ℕ). IsShown net rows k new) (get_or_default sides there.0 0 s there.1 ∙ there.2) (brought.brought there.0 there.1)
-      | inr ne ↦ brought.stay s (at.here s s_in (omega (arith, below, ne)) yes)
-    ];
-    others = λ s s_in no. brought.others s (λ m m_in e.
-        let here : part_of knots (get_or sides m 0) ≡ n = number_is knots.numbers n (get_or sides m 0) (side_here net knots are n lt sides is m m_in) in
-        false_true (get_or marked (part_of knots s) true) no (ap (λ (k : ℕ). get_or marked k true) (ap (part_of knots) (sym e) ∙ here) ∙ mark)) ∙ at.others s s_in no;
-  }
-
-  -- It is not marked.
-  pub shown_less : get_or marked n true ≡ false → new ≡ mid → AreShownAt net knots rows marked (n + 1) old new
-  shown_less mark same = subst (AreShownAt net knots rows marked (n + 1) old) (sym same) record {
-    here = λ s s_in below yes. elim (eq_cases (part_of knots s) n) [
-      | inl e ↦ absurd (false_true (get_or marked n true) mark (ap (λ (k : ℕ). get_or marked k true) (sym e) ∙ yes))
-      | inr ne ↦ at.here s s_in (omega (arith, below, ne)) yes
-    ];
-    others = at.others;
-  }
+-- One part more, which is not flagged, and was brought.
+pub shown_more : (net : Net) (knots : Knotted) → AreKnots net knots → (rows : List ℕ) (flags : List Bool) (n : ℕ) → n < knot_count knots → (old mid new : Cells) → AreShownAt net knots rows flags n old mid
+    → get_or flags n false ≡ false → (sides : List ℕ) → sides ≡ get_or knots.sides n [] → AreBrought net rows sides mid new → AreShownAt net knots rows flags (n + 1) old new
+shown_more net knots are rows flags n lt old mid new at clear sides is brought = record {
+  here = λ s s_in below not. elim (eq_cases (part_of knots s) n) [
+    | inl e ↦
+        let there = side_listed net knots are n lt sides is s s_in (in_own net knots are s n s_in e) in
+        subst (λ (k : ℕ). IsShown net rows k new) (get_or_default sides there.0 0 s there.1 ∙ there.2) (brought.brought there.0 there.1)
+    | inr ne ↦ brought.stay s (at.here s s_in (omega (arith, below, ne)) not)
+  ];
+  others = λ s s_in flag. brought.others s (λ m m_in e.
+      let here : part_of knots (get_or sides m 0) ≡ n = number_is knots.numbers n (get_or sides m 0) (side_here net knots are n lt sides is m m_in) in
+      not_both (get_or flags (part_of knots s) false) (ap (λ (k : ℕ). get_or flags k false) (ap (part_of knots) (sym e) ∙ here) ∙ clear) flag) ∙ at.others s s_in flag;
+}
 
 -- Where the first side of a part has no jam row none has.
 pub jams_as_first : (net : Net) → IsWired net → (knots : Knotted) → AreKnots net knots → (rows : List ℕ) → HaveColouring net rows → (k : ℕ) → k < knot_count knots → (sides : List ℕ) → sides ≡ get_or knots.sides k []

@@ -2,15 +2,14 @@
 use Rattle.std.proofs.Common.{◌≡◌, ◌≢◌, ◌∙◌, inl, inr, ℕ, zero, suc, ◌+◌, ◌<◌, Bool, true, false, List, [], ◌∷◌, length, map, get_or, refl, ap, sym, subst, arith}
 use Rattle.std.specs.Prelude.{Option, Some, None, slice_get}
 use Rattle.std.proofs.lemmas.List.{length-map}
-use Rattle.reo_net_base.specs.declared.joint.Joint.{Joint}
-use Rattle.reo_net_base.specs.declared.joint.End.{End}
+use Rattle.reo_values.proofs.Truths.{not_both}
 use Rattle.reo_net_base.specs.Behaviour.{Behaviour, nothing}
-use Rattle.reo_net_base.specs.Net.{Net, Wiring, net_of, behaviour_at, is_at}
-use Rattle.reo_net_base.specs.Shapes.{SameShapes, SameNetShape}
+use Rattle.reo_net_base.specs.Net.{Net, Wiring, net_of, behaviour_at}
+use Rattle.reo_net_base.specs.Shapes.{SameNetShape}
 use Rattle.reo_net_base.specs.Step.{change_at}
-use Rattle.reo_net_base.specs.Wired.{IsWired, IsEnd}
+use Rattle.reo_net_base.specs.Wired.{IsWired}
 use Rattle.reo_net_circuit.proofs.Cases.{eq_cases}
-use Rattle.reo_net_ends.specs.Ends.{AreEnds, joint_at}
+use Rattle.reo_net_ends.specs.Ends.{AreEnds}
 use Rattle.reo_knots.specs.Knots.{Knotted, AreKnots}
 use Rattle.reo_planning.specs.declared.kept.Kept.{Kept}
 use Rattle.reo_planning.specs.Keeping.{is_settled, IsKept}
@@ -22,36 +21,17 @@ use Rattle.reo_settling.specs.declared.lookups.Lookups.{Lookups}
 use Rattle.reo_settling.specs.Lookups.{AreLookups}
 use Rattle.reo_settling.proofs.HeldTables.{lookups_stay}
 use Rattle.reo_stepping.specs.Changes.{is_changed}
+use Rattle.reo_stepping.proofs.Far.{ends_kept}
 use Rattle.reo_engine.specs.Changes.{OthersStay}
 use Rattle.reo_engine.specs.Engine.{IsLookedUp}
 use Rattle.reo_engine.specs.Settled.{StaySettled}
-
-not_both : (b : Bool) → b ≡ false → b ≡ true → ⊥
-not_both true h g = cc
-not_both false h g = cc
-
--- The joints at the ends of a circuit are those of each circuit of its shape.
-ends_stay : (old new : Net) → new.joints ≡ old.joints → SameShapes old.primitives new.primitives → (table : List (List ℕ)) → AreEnds old table → AreEnds new table
-ends_stay old new joints shapes table are = record {
-  one_list = are.one_list ∙ sym shapes.count;
-  one_each = λ i lt. let i_in : i < length old.primitives = omega (arith, shapes.count) in are.one_each i i_in ∙ sym (shapes.same i i_in).ends;
-  in_range = λ e e_in. subst (λ (js : List Joint). joint_at table e < length js) (sym joints) (are.in_range e (back e e_in));
-  here = λ e d e_in. subst (λ (js : List Joint). is_at e (get_or js (joint_at table e) d) ≡ true) (sym joints) (are.here e d (back e e_in));
-}
-  where
-    back : (e : End) → IsEnd new.primitives e → IsEnd old.primitives e
-    back e e_in =
-        let p_in : e.primitive < length old.primitives = omega (arith, e_in.0, shapes.count) in (
-          p_in,
-          subst (λ (n : ℕ). e.end < n) (shapes.same e.primitive p_in).ends e_in.1,
-        )
 
 -- What is looked up stays right where nothing changes at a part that is still settled.
 looked_up_elsewhere : (net other : Net) → IsWired net → IsWired other → (later : ℕ) (knots : Knotted) (ends : List (List ℕ)) (old new : Kept)
     → AreKnots net knots → AreEnds net ends → IsKept net knots (later + 1) old → AreFewer old new → IsElsewhere net other knots new → IsLookedUp other later knots ends new
 looked_up_elsewhere net other wired after later knots ends old new are_knots are_ends is_kept fewer is = record {
   are_knots = knots_stay net other wired is.joints is.shapes knots are_knots;
-  are_ends = ends_stay net other is.joints is.shapes ends are_ends;
+  are_ends = ends_kept net other is.joints is.shapes ends are_ends;
   is_kept = kept_elsewhere net other wired after knots are_knots (later + 1) old new is_kept fewer is;
 }
 

@@ -16,17 +16,23 @@ abbrev pub MayBeBlank : ℕ → Option (List (Option Value)) → Type 0
 MayBeBlank joints None = Unit {0}
 MayBeBlank joints (Some items) = AreBlank joints items
 
--- There is no list of no items, and all is as it was but for the two lists of any numbers.
+-- So many marks, if there are any.
+abbrev pub MayBeMarks : ℕ → Option (List Bool) → Type 0
+MayBeMarks count None = Unit {0}
+MayBeMarks count (Some marks) = length marks ≡ count
+
+-- There is no list of no items, and all is as it was but for the two lists of any numbers and the marks, which may be gone.
 pub record HasNoSheet (old new : Flows) : Type 0 where
   pub blank : new.blank ≡ None
-  pub marked : new.marked ≡ old.marked
+  pub marks : (count : ℕ) → MayBeMarks count old.marks → MayBeMarks count new.marks
+  pub shown_parts : new.shown_parts ≡ old.shown_parts
   pub cells : new.cells ≡ old.cells
   pub shown : new.shown ≡ old.shown
 
--- Of so many parts those are marked that are not settled, or all.
-pub record AreMarked (shown : Bool) (kept : Kept) (parts : ℕ) (marked : List Bool) : Type 0 where
-  pub one_each : length marked ≡ parts
-  pub each : (k : ℕ) → k < parts → slice_index_or marked k true ≡ not (shown && is_settled kept k)
+-- Of so many parts those are flagged that are settled, or none where such are not shown.
+pub record AreFlaggedShown (shown : Bool) (kept : Kept) (parts : ℕ) (flags : List Bool) : Type 0 where
+  pub one_each : length flags ≡ parts
+  pub each : (k : ℕ) → slice_index_or flags k false ≡ true → (shown ≡ true) × (is_settled kept k ≡ true)
 
 -- The part of a side.
 abbrev pub part_of : Knotted → ℕ → ℕ
@@ -37,17 +43,18 @@ abbrev pub AreKeptShown : Net → Knotted → Kept → Cells → Type 0
 AreKeptShown net knots kept cells = (s : ℕ) → s < side_count net → is_settled kept (part_of knots s) ≡ true
     → IsShown net kept.rows s cells
 
--- Each side of the first n parts that is of a marked one is shown by some rows, and those of parts that are not marked
+-- Each side of the first n parts that is of none that is flagged is shown by some rows, and those of parts that are flagged
 -- show what they showed.
-pub record AreShownAt (net : Net) (knots : Knotted) (rows : List ℕ) (marked : List Bool) (n : ℕ) (old new : Cells) : Type 0 where
-  pub here : (s : ℕ) → s < side_count net → part_of knots s < n → slice_index_or marked (part_of knots s) true ≡ true
+pub record AreShownAt (net : Net) (knots : Knotted) (rows : List ℕ) (flags : List Bool) (n : ℕ) (old new : Cells) : Type 0 where
+  pub here : (s : ℕ) → s < side_count net → part_of knots s < n → slice_index_or flags (part_of knots s) false ≡ false
       → IsShown net rows s new
-  pub others : (s : ℕ) → s < side_count net → slice_index_or marked (part_of knots s) true ≡ false
+  pub others : (s : ℕ) → s < side_count net → slice_index_or flags (part_of knots s) false ≡ true
       → slice_index new.shown s ≡ slice_index old.shown s
 
--- A list of no items, if there is one; a mark for each part; and cells, which may show the rows that are kept of settled parts.
+-- A list of no items and marks of primitives, if there are such; a flag for each part; and cells, which may show the rows that are kept of settled parts.
 pub record AreFlows (net : Net) (knots : Knotted) (kept : Kept) (flows : Flows) : Type 0 where
   pub blank : MayBeBlank (length net.joints) flows.blank
-  pub one_each : length flows.marked ≡ knot_count knots
+  pub marks : MayBeMarks (length net.primitives) flows.marks
+  pub one_each : length flows.shown_parts ≡ knot_count knots
   pub cells : AreCells net flows.cells
   pub shown : flows.shown ≡ true → AreKeptShown net knots kept flows.cells

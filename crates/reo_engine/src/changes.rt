@@ -1,5 +1,5 @@
 //! Marks of the primitives that may have changed.
-ghost use Rattle.std.specs.Prelude.{◌≡◌, ◌<◌, true, length, replicate, set, IfOk};
+ghost use Rattle.std.specs.Prelude.{◌≡◌, ◌<◌, true, length, set};
 ghost use Rattle.reo_net_base.specs.Net.{net_of};
 ghost use Rattle.reo_net_base.specs.Step.{change_at};
 ghost use Rattle.reo_net_base.specs.Colouring.{IsColouring};
@@ -8,19 +8,7 @@ ghost use Rattle.reo_stepping.specs.Changes.{AreThoseThatFlowed};
 use reo_flags::Flags;
 use reo_net_base::{Joint, Primitive};
 use reo_net_circuit::Circuit;
-use reo_values::{List, NoMemory, Value};
-use std::alloc::Global;
-
-/// So many marks, all set.
-pub(crate) fn all_marked(alloc: Global, count: usize) -> Result<List<bool>, NoMemory>
-    ensures { IfOk result (λ made. made ≡ replicate count true) }
-{
-    let mut made = List::new(alloc);
-    for _ in 0..count {
-        made.push(true)?;
-    }
-    Ok(made)
-}
+use reo_values::Value;
 
 /// Sets the mark of one primitive.
 pub(crate) fn mark(marks: &mut Flags, index: usize)

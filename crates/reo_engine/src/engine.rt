@@ -25,9 +25,9 @@ use std::marker::Model;
 ///
 /// And it keeps the rows of parts that `prepare` looked at, as long as nothing in them changes:
 /// such a part is settled, and is not looked at again. A knot of the circuit is a part. Where each
-/// row of a part lets each item in, its rows are remembered as well by its state, and serve again in
-/// each round in which it comes back to that state. The tables of the search are kept too: what they
-/// have of a part is made anew only where it is searched.
+/// row of a part lets each item in, its rows are remembered as well by its state, and serve again
+/// in each round in which it comes back to that state. The tables of the search are kept too: what
+/// they have of a part is made anew only where it is searched.
 #[derive(Drop)]
 pub struct Engine<P: Ported> {
     pub(crate) circuit: Circuit<P>,

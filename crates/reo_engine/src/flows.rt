@@ -1,17 +1,16 @@
 //! What a round that stands is made with.
-ghost use Rattle.std.specs.Prelude.{◌≡◌, ◌<◌, ◌≤◌, ◌&&◌, ℕ, None, true, false, not, [], IfOk, length, slice_index, slice_index_or};
+ghost use Rattle.std.specs.Prelude.{◌≡◌, ◌<◌, ℕ, None, true, false, [], IfOk, length, slice_index, slice_index_or};
 ghost use Rattle.reo_net_base.specs.Net.{net_of};
 ghost use Rattle.reo_knots.specs.Knots.{AreKnots, knot_count};
 ghost use Rattle.reo_net_base.specs.Sides.{AreRowsOf, side_count};
 ghost use Rattle.reo_net_laws.specs.Jams.{jams};
 ghost use Rattle.reo_cells.specs.Cells.{AreBrought, AreCells};
-ghost use Rattle.reo_planning.specs.Keeping.{is_settled};
 ghost use Rattle.reo_standing.specs.Filling.{AreBlank, HaveColouring};
-ghost use Rattle.reo_engine.specs.Flows.{AreMarked, AreShownAt, HasNoSheet, MayBeBlank};
+ghost use Rattle.reo_engine.specs.Flows.{AreFlaggedShown, AreShownAt, HasNoSheet, MayBeBlank, MayBeMarks};
 
-use crate::changes::all_marked;
 use crate::planning::is_jammed;
 use reo_cells::Cells;
+use reo_flags::Flags;
 use reo_knots::Knots;
 use reo_net_base::Primitive;
 use reo_net_circuit::Circuit;
@@ -21,16 +20,17 @@ use reo_values::{Bytes, List, NoMemory, Value};
 use std::alloc::Global;
 use std::mem::replace;
 
-/// What a round that stands is made with: a list of no items at the joints, if there is one, two
-/// lists of any numbers and a text of any bytes, so that a round takes no memory for them; a mark
-/// for each part; the cells of all sides; and whether they show the rows that are kept of settled
-/// parts.
+/// What a round that stands is made with: a list of no items at the joints and a mark for each
+/// primitive, if there are such, two lists of any numbers and a text of any bytes, so that a round
+/// takes no memory for them; a flag for each part; the cells of all sides; and whether they show the
+/// rows that are kept of settled parts.
 #[derive(Drop)]
 pub struct Flows {
     pub(crate) blank: Option<List<Option<Value>>>,
     pub(crate) rows: List<u32>,
     pub(crate) flowing: List<usize>,
-    pub(crate) marked: List<bool>,
+    pub(crate) marks: Option<Flags>,
+    pub(crate) shown_parts: Flags,
     pub(crate) cells: Cells,
     pub(crate) shown: bool,
     pub(crate) text: Bytes,
@@ -45,17 +45,19 @@ impl Flows {
     ) -> Result<Flows, NoMemory>
         requires { AreKnots (net_of P.behaviour circuit.now) knots.now }
         ensures blank { IfOk result (λ made. made.blank ≡ None) }
-        ensures one_each { IfOk result (λ made. length made.marked ≡ knot_count knots.now) }
+        ensures marks { IfOk result (λ made. made.marks ≡ None) }
+        ensures one_each { IfOk result (λ made. length made.shown_parts ≡ knot_count knots.now) }
         ensures cells { IfOk result (λ made. AreCells (net_of P.behaviour circuit.now) made.cells) }
         ensures shown { IfOk result (λ made. made.shown ≡ false) }
     {
         let cells = Cells::new(alloc, circuit)?;
-        let marked = all_marked(alloc, knots.count())?;
+        let shown_parts = Flags::new(alloc, knots.count(), false)?;
         Ok(Flows {
             blank: None,
             rows: List::new(alloc),
             flowing: List::new(alloc),
-            marked,
+            marks: None,
+            shown_parts,
             cells,
             shown: false,
             text: Bytes::new(alloc),
@@ -63,22 +65,16 @@ impl Flows {
     }
 }
 
-/// Whether the rows of a part may not be shown, where those that are kept of settled parts are.
-fn is_unshown(kept: &Kept, shown: bool, part: usize) -> bool
-    requires { part < length kept.now.settled }
-    ensures { result ≡ not (shown && is_settled kept.now part) }
+/// Flags exactly the parts whose rows are shown: the settled ones, where the rows that are kept of
+/// those are. This takes no memory.
+pub(crate) fn flag_shown(kept: &Kept, shown: bool, parts: &mut Flags)
+    requires { length kept.now.settled ≡ length parts.old }
+    ensures { AreFlaggedShown shown kept.now (length parts.old) parts.new }
 {
-    if shown { !kept.is_settled(part) } else { true }
-}
-
-/// Marks the parts whose rows may not be shown: all but the settled ones where those are.
-/// This takes no memory.
-pub(crate) fn mark_unshown(kept: &Kept, shown: bool, marks: &mut List<bool>)
-    requires { length marks.old ≤ length kept.now.settled }
-    ensures { AreMarked shown kept.now (length marks.old) marks.new }
-{
-    for part in 0..marks.len() {
-        *marks.at_mut(part) = is_unshown(kept, shown, part);
+    if shown {
+        parts.copy_from(kept.settled());
+    } else {
+        parts.clear();
     }
 }
 
@@ -123,50 +119,56 @@ fn show_part<P: Primitive>(
     }
 }
 
-/// Shows these rows at the sides of the parts that are marked. This takes no memory.
-pub(crate) fn show_marked<P: Primitive>(
+/// Shows these rows at the sides of the parts that are not flagged. This takes no memory.
+pub(crate) fn show_rest<P: Primitive>(
     circuit: &Circuit<P>,
     knots: &Knots,
     rows: &[u32],
-    marked: &[bool],
+    shown_parts: &Flags,
     cells: &mut Cells,
 )
     requires knots { AreKnots (net_of P.behaviour circuit.now) knots.now }
     requires coloured { HaveColouring (net_of P.behaviour circuit.now) rows.now }
-    requires one_each { length marked.now ≡ knot_count knots.now }
+    requires one_each { length shown_parts.now ≡ knot_count knots.now }
     requires cells { AreCells (net_of P.behaviour circuit.now) cells.old }
     ensures cells { AreCells (net_of P.behaviour circuit.now) cells.new }
-    ensures shown { let net = net_of P.behaviour circuit.now in
-        AreShownAt net knots.now rows.now marked.now (knot_count knots.now) cells.old cells.new }
+    ensures shown { let net = net_of P.behaviour circuit.now in let count = knot_count knots.now in
+        AreShownAt net knots.now rows.now shown_parts.now count cells.old cells.new }
 {
     circuit.known();
-    for part in 0..knots.count() {
-        if marked[part] {
-            show_part(circuit, knots, part, rows, cells);
-        }
+    let mut part = shown_parts.next_clear(0);
+    while part < shown_parts.len() {
+        show_part(circuit, knots, part, rows, cells);
+        part = shown_parts.next_clear(part + 1);
     }
 }
 
-/// A sheet with these rows, of lists that are taken out or made. `NoMemory` is out of memory.
+/// A sheet with these rows, of lists and marks that are taken out or made. `NoMemory` is out of
+/// memory.
 pub(crate) fn take_sheet(
     alloc: Global,
     flows: &mut Flows,
     rows: &[u32],
     joints: usize,
+    primitives: usize,
 ) -> Result<Sheet, NoMemory>
-    requires { MayBeBlank joints flows.old.blank }
+    requires blank { MayBeBlank joints flows.old.blank }
+    requires marks { MayBeMarks primitives flows.old.marks }
     ensures rows { IfOk result (λ sheet. sheet.rows ≡ rows.now) }
     ensures items { IfOk result (λ sheet. AreBlank joints sheet.items) }
+    ensures marks { IfOk result (λ sheet. length sheet.marks ≡ primitives) }
     ensures taken { HasNoSheet flows.old flows.new }
 {
     let list = replace(&mut flows.rows, List::new(alloc));
     let flowing = replace(&mut flows.flowing, List::new(alloc));
     let items = take_blank(alloc, &mut flows.blank, joints)?;
+    let marks = take_marks(alloc, &mut flows.marks, primitives)?;
     let rows = written_over(list, rows)?;
     Ok(Sheet {
         rows,
         items,
         flowing,
+        marks,
     })
 }
 
@@ -183,5 +185,21 @@ fn take_blank(
     match list.take() {
         Some(items) => Ok(items),
         None => blank(alloc, joints),
+    }
+}
+
+/// A mark for each primitive, with any values, taken out or made. `NoMemory` is out of memory.
+fn take_marks(
+    alloc: Global,
+    marks: &mut Option<Flags>,
+    primitives: usize,
+) -> Result<Flags, NoMemory>
+    requires { MayBeMarks primitives marks.old }
+    ensures one_each { IfOk result (λ made. length made ≡ primitives) }
+    ensures taken { marks.new ≡ None }
+{
+    match marks.take() {
+        Some(marks) => Ok(marks),
+        None => Flags::new(alloc, primitives, false),
     }
 }

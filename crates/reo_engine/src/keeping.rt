@@ -20,8 +20,8 @@ impl<P: Ported> Engine<P> {
     /// Where they are settled already nothing changes, and it takes no memory.
     ///
     /// Rows that are remembered by the state of a part serve where it comes back to this state. The
-    /// tables of the search are made anew only where a part is searched, for the parts that changed;
-    /// the first time, and after a fault, they are made for the whole circuit.
+    /// tables of the search are made anew only where a part is searched, for the parts that
+    /// changed; the first time, and after a fault, they are made for the whole circuit.
     ///
     /// It makes at most as many ticks as `plan` would. All but what is kept stays as it was, and
     /// after a fault the engine is as it was.

@@ -11,7 +11,7 @@ ghost use Rattle.reo_cells.specs.Cells.{AreShown};
 ghost use Rattle.reo_engine.specs.Flows.{AreFlows};
 ghost use Rattle.reo_engine.specs.Stood.{AreRenewed};
 
-use crate::flows::{Flows, mark_unshown, show_marked};
+use crate::flows::{Flows, flag_shown, show_rest};
 use reo_knots::Knots;
 use reo_net_base::Primitive;
 use reo_net_circuit::Circuit;
@@ -24,8 +24,8 @@ use std::alloc::Global;
 use std::sync::ledger::Ledger;
 
 /// Has all parts settled, for the round of a number, and the joints told that flow in them: those
-/// that are not are looked at. It makes at
-/// most as many ticks as they weigh together. After a fault the rows are as they were.
+/// that are not are looked at. It makes at most as many ticks as they weigh together. After a fault
+/// the rows are as they were.
 ///
 /// # Errors
 ///
@@ -113,13 +113,13 @@ pub(crate) fn renew_marked<P: Primitive, L: Ledger>(
 {
     circuit.known();
     let _order = circuit.order();
-    mark_unshown(kept, flows.shown, &mut flows.marked);
+    flag_shown(kept, flows.shown, &mut flows.shown_parts);
     flows.shown = false;
     renew(
         alloc, circuit, knots, ends, kept, lookups, turn, budget, steps,
     )?;
-    let marked = flows.marked.as_slice();
-    show_marked(circuit, knots, kept.rows(), marked, &mut flows.cells);
+    let shown = &flows.shown_parts;
+    show_rest(circuit, knots, kept.rows(), shown, &mut flows.cells);
     flows.shown = true;
     Ok(())
 }

@@ -13,6 +13,7 @@ ghost use Rattle.reo_planning.specs.Keeping.{AllServe};
 ghost use Rattle.reo_planning.specs.Planned.{AreWeights, sum_below, weight_left};
 ghost use Rattle.reo_stepping.specs.Changes.{AreThoseThatFlowed};
 ghost use Rattle.reo_engine.specs.Changes.{OthersStay};
+ghost use Rattle.reo_standing.specs.Filling.{AreMoving};
 ghost use Rattle.reo_standing.specs.Standing.{HaveFirstItems, Stands};
 ghost use Rattle.reo_engine.specs.Flows.{AreFlows};
 ghost use Rattle.reo_engine.specs.Engine.{net_now};
@@ -29,7 +30,7 @@ use reo_net_ends::Ends;
 use reo_planning::Kept;
 use reo_rounds::PlanFault;
 use reo_standing::{Standing, cleared, stand};
-use reo_stepping::{mark_flowing, step_marked};
+use reo_stepping::step_marked;
 use reo_steps::Steps;
 use reo_trace::RoundLine;
 use reo_values::{Bytes, List, NoMemory};
@@ -54,6 +55,7 @@ fn stand_by<P: Primitive>(
     requires first { HaveFirstItems (net_of P.behaviour circuit.now) turn kept.now.rows }
     requires lists { AreFlowingIn
         (net_of P.behaviour circuit.now) knots.now kept.now.rows (λ _. true) lists.now }
+    requires moving { AreMoving (knot_count knots.now) kept.now.moving lists.now }
     requires flows { AreFlows (net_of P.behaviour circuit.now) knots.now kept.now flows.old }
     ensures stands { let net = net_of P.behaviour circuit.now in
         IfOk result (Stands net circuit.now.ports turn) }
@@ -61,8 +63,11 @@ fn stand_by<P: Primitive>(
     ensures flows { AreFlows (net_of P.behaviour circuit.now) knots.now kept.now flows.new }
     ensures cells { flows.new.cells ≡ flows.old.cells }
 {
-    let sheet = take_sheet(alloc, flows, kept.rows(), circuit.joint_count())?;
-    stand(alloc, circuit, knots, ends, lists, turn, sheet)
+    let joints = circuit.joint_count();
+    let primitives = circuit.primitives().len();
+    let sheet = take_sheet(alloc, flows, kept.rows(), joints, primitives)?;
+    let moving = kept.moving();
+    stand(alloc, circuit, knots, ends, lists, moving, turn, sheet)
 }
 
 impl<P: Ported> Engine<P> {
@@ -171,6 +176,7 @@ impl<P: Ported> Engine<P> {
         let Standing {
             colouring,
             flowing,
+            marks,
             line,
         } = standing;
         let Colouring { rows, items } = colouring;
@@ -179,16 +185,15 @@ impl<P: Ported> Engine<P> {
         self.circuit.known_offers();
         let joints = flowing.as_slice();
         let by = rows.as_slice();
-        mark_flowing(&self.circuit, by, joints, &mut self.changed);
-        let marks = &self.changed;
         self.kept
             .unsettle_joints(&self.circuit, &self.knots, joints);
         self.kept.unsettle_moving();
-        step_marked(&mut self.circuit, &self.ends, by, &mut items, marks);
+        step_marked(&mut self.circuit, &self.ends, by, &mut items, &marks);
         self.circuit.known();
         self.flows.blank = Some(cleared(items, joints));
         self.flows.rows = rows;
         self.flows.flowing = flowing;
+        self.flows.marks = Some(replace(&mut self.changed, marks));
         self.rounds += 1;
         line
     }

@@ -1,19 +1,19 @@
 use Rattle.std.proofs.Common.{◌∙◌, ℕ, List, length, ap, sym, subst, arith}
 use Rattle.reo_net_base.specs.Net.{Net, net_of}
 use Rattle.reo_net_base.specs.Colouring.{IsColouring}
-use Rattle.reo_engine.specs.Flows.{AreMarked}
+use Rattle.reo_engine.specs.Flows.{AreFlaggedShown}
 use Rattle.reo_engine.proofs.FlowsLemmas.{all_renewed, all_shown, flows_unshown, flows_shown, served_settled}
 use Rattle.reo_engine.proofs.renewing.renew_marked.Goals as goal
 
-pub mark_unshown-requires : goal.mark_unshown-requires
-mark_unshown-requires g c = omega (arith, c.requires.flows.one_each, c.requires.kept.sizes.one_each)
+pub flag_shown-requires : goal.flag_shown-requires
+flag_shown-requires g c = omega (arith, c.requires.flows.one_each, c.requires.kept.sizes.one_each)
 
 pub returns-in_err-renew-clause-flows : goal.returns-in_err-renew-clause-flows
-returns-in_err-renew-clause-flows g c = flows_unshown (net_of g.P.Primitive.behaviour c.args.circuit.now) c.args.knots.now c.args.kept.now c.renew.new.kept c.args.flows.now c.mark_unshown.new.marks
-    c.requires.flows c.mark_unshown.ensures.one_each
+returns-in_err-renew-clause-flows g c = flows_unshown (net_of g.P.Primitive.behaviour c.args.circuit.now) c.args.knots.now c.args.kept.now c.renew.new.kept c.args.flows.now c.flag_shown.new.parts
+    c.requires.flows c.flag_shown.ensures.one_each
 
-pub show_marked-requires-clause-coloured : goal.show_marked-requires-clause-coloured
-show_marked-requires-clause-coloured g c =
+pub show_rest-requires-clause-coloured : goal.show_rest-requires-clause-coloured
+show_rest-requires-clause-coloured g c =
     let net : Net = net_of g.P.Primitive.behaviour c.args.circuit.now in
     let renewed = all_renewed c.args.budget net c.known.ensures.wired c.args.knots.now c.requires.knots c.args.turn c.renew.new.kept c.renew.ensures.kept c.in_ok-renew.ensures.exact in
     record {
@@ -21,20 +21,20 @@ show_marked-requires-clause-coloured g c =
       colouring = subst (λ (rows : List ℕ). IsColouring net rows renewed.first.items) (sym c.rows.ensures) renewed.first.first.colouring;
     }
 
-pub show_marked-requires-clause-one_each : goal.show_marked-requires-clause-one_each
-show_marked-requires-clause-one_each g c = ap length c.as_slice-marked.ensures ∙ c.mark_unshown.ensures.one_each ∙ c.requires.flows.one_each
+pub show_rest-requires-clause-one_each : goal.show_rest-requires-clause-one_each
+show_rest-requires-clause-one_each g c = c.flag_shown.ensures.one_each ∙ c.requires.flows.one_each
 
 pub returns-clause-shown : goal.returns-clause-shown
 returns-clause-shown g c =
     let net : Net = net_of g.P.Primitive.behaviour c.args.circuit.now in
-    let each = subst (λ (n : ℕ). AreMarked c.args.flows.now.shown c.args.kept.now n c.mark_unshown.new.marks) c.requires.flows.one_each c.mark_unshown.ensures in
+    let each = subst (λ (n : ℕ). AreFlaggedShown c.args.flows.now.shown c.args.kept.now n c.flag_shown.new.parts) c.requires.flows.one_each c.flag_shown.ensures in
     all_shown net c.known.ensures.wired c.order-order.result.now c.order-order.ensures c.args.knots.now c.requires.knots c.args.turn c.args.kept.now c.renew.new.kept c.requires.kept c.renew.ensures.kept
-    (served_settled c.renew.new.kept c.args.budget _ c.in_ok-renew.ensures.exact) c.args.flows.now c.requires.flows c.mark_unshown.new.marks each
-    c.show_marked.new.cells (rw (c.rows.ensures, c.as_slice-marked.ensures) at c.show_marked.ensures.shown)
+    (served_settled c.renew.new.kept c.args.budget _ c.in_ok-renew.ensures.exact) c.args.flows.now c.requires.flows c.flag_shown.new.parts each
+    c.show_rest.new.cells (rw c.rows.ensures at c.show_rest.ensures.shown)
 
 pub returns-clause-flows : goal.returns-clause-flows
-returns-clause-flows g c = flows_shown (net_of g.P.Primitive.behaviour c.args.circuit.now) c.args.knots.now c.args.kept.now c.renew.new.kept c.args.flows.now c.mark_unshown.new.marks
-    c.show_marked.new.cells c.requires.flows c.mark_unshown.ensures.one_each c.show_marked.ensures.cells (returns-clause-shown g c)
+returns-clause-flows g c = flows_shown (net_of g.P.Primitive.behaviour c.args.circuit.now) c.args.knots.now c.args.kept.now c.renew.new.kept c.args.flows.now c.flag_shown.new.parts
+    c.show_rest.new.cells c.requires.flows c.flag_shown.ensures.one_each c.show_rest.ensures.cells (returns-clause-shown g c)
 
 pub returns-clause-exact : goal.returns-clause-exact
 returns-clause-exact g c = all_renewed c.args.budget (net_of g.P.Primitive.behaviour c.args.circuit.now) c.known.ensures.wired c.args.knots.now c.requires.knots c.args.turn

@@ -14,9 +14,9 @@ unsettle_moving-requires g c =
     let net : Net = net_of g.P.Primitive.behaviour c.self.inside.circuit in
     let stands = rw (← c.self.view_is) at c.requires.stands in
     let standing = c.args.standing in
-    let flowed = rw c.as_slice-by.ensures at c.mark_flowing.ensures in
-    let unsettled = rw c.as_slice-joints.ensures at c.unsettle_joints.ensures c.mark_flowing.new.marks
-    (ends_marked net standing.colouring.rows c.known.ensures.wired stands.first.colouring.rows_fit standing.flowing stands.flowing c.mark_flowing.new.marks flowed) in
+    let flowed = stands.marks in
+    let unsettled = rw c.as_slice-joints.ensures at c.unsettle_joints.ensures standing.marks
+    (ends_marked net standing.colouring.rows c.known.ensures.wired stands.first.colouring.rows_fit standing.flowing stands.flowing standing.marks flowed) in
     let sizes = c.self.invariant.3.is_kept.sizes in
     unsettled.fewer.one_each ∙ sizes.one_each ∙ sym sizes.one_mark ∙ sym (ap (λ (xs : List Bool). length xs) unsettled.fewer.moving)
 
@@ -32,9 +32,9 @@ returns-clause-others g c =
     let now : Wiring g.row.P.Denot = c.self.inside.circuit in
     let stands = rw (← c.self.view_is) at c.requires.stands in
     let standing = c.args.standing in
-    let flowed = rw c.as_slice-by.ensures at c.mark_flowing.ensures in
+    let flowed = stands.marks in
     let step = rw c.as_slice-by.ensures at c.step_marked.ensures.circuit in
-    rw (← c.self.view_is) (others_stay g.P.Primitive.behaviour g.P.Primitive.settled g.met.P.Primitive.quiet now c.step_marked.new.circuit standing.colouring.rows standing.colouring.items c.mark_flowing.new.marks
+    rw (← c.self.view_is, c.replace.ensures.after) (others_stay g.P.Primitive.behaviour g.P.Primitive.settled g.met.P.Primitive.quiet now c.step_marked.new.circuit standing.colouring.rows standing.colouring.items standing.marks
     c.known.ensures.wired stands.first.colouring flowed step)
 
 pub invariant_of-self : goal.invariant_of-self
@@ -45,32 +45,33 @@ invariant_of-self g c =
     let other : Net = net_of g.P.Primitive.behaviour c.step_marked.new.circuit in
     let stands = rw (← c.self.view_is) at c.requires.stands in
     let standing = c.args.standing in
-    let flowed = rw c.as_slice-by.ensures at c.mark_flowing.ensures in
+    let flowed = stands.marks in
     let step = rw c.as_slice-by.ensures at c.step_marked.ensures.circuit in
     let few = rw (← c.self.view_is) at c.requires.few in
-    let others = others_stay g.P.Primitive.behaviour g.P.Primitive.settled g.met.P.Primitive.quiet now c.step_marked.new.circuit standing.colouring.rows standing.colouring.items c.mark_flowing.new.marks
+    let others = others_stay g.P.Primitive.behaviour g.P.Primitive.settled g.met.P.Primitive.quiet now c.step_marked.new.circuit standing.colouring.rows standing.colouring.items standing.marks
     c.known.ensures.wired stands.first.colouring flowed step in
     let before : length (map g.P.Primitive.behaviour now.primitives) ≡ length now.primitives = length-map now.primitives g.P.Primitive.behaviour in
     let after : length (map g.P.Primitive.behaviour c.step_marked.new.circuit.primitives) ≡ length c.step_marked.new.circuit.primitives = length-map c.step_marked.new.circuit.primitives g.P.Primitive.behaviour in
-    let marks : length c.mark_flowing.new.marks ≡ length now.primitives = c.mark_flowing.ensures.one_each ∙ before in
+    let marks : length standing.marks ≡ length now.primitives = flowed.one_each ∙ before in
     let shape = c.step_marked.ensures.shape in
-    let unsettled = rw c.as_slice-joints.ensures at c.unsettle_joints.ensures c.mark_flowing.new.marks
-    (ends_marked net standing.colouring.rows c.known.ensures.wired stands.first.colouring.rows_fit standing.flowing stands.flowing c.mark_flowing.new.marks flowed) in
+    let unsettled = rw c.as_slice-joints.ensures at c.unsettle_joints.ensures standing.marks
+    (ends_marked net standing.colouring.rows c.known.ensures.wired stands.first.colouring.rows_fit standing.flowing stands.flowing standing.marks flowed) in
     let fewer = fewer_twice c.self.inside.kept c.unsettle_joints.new.self c.unsettle_moving.new.self unsettled.fewer c.unsettle_moving.ensures.fewer in
     let stay = flows_stay net other c.self.inside.knots c.self.inside.kept c.unsettle_moving.new.self fewer
-    (round_elsewhere g.P.Primitive.behaviour now c.step_marked.new.circuit c.mark_flowing.new.marks shape others marks c.self.inside.knots c.self.inside.kept c.unsettle_joints.new.self c.unsettle_moving.new.self
+    (round_elsewhere g.P.Primitive.behaviour now c.step_marked.new.circuit standing.marks shape others marks c.self.inside.knots c.self.inside.kept c.unsettle_joints.new.self c.unsettle_moving.new.self
     unsettled c.unsettle_moving.ensures) c.self.inside.flows old.5 in
     let count : length c.step_marked.new.items ≡ length c.step_marked.new.circuit.joints =
     c.step_marked.ensures.items.count ∙ stands.first.colouring.one_each ∙ ap (λ (js : List Joint). length js) (sym shape.joints) in (
       omega (arith, few),
-      marks ∙ sym before ∙ sym shape.primitives.count ∙ after,
+      ap (λ (xs : List Bool). length xs) c.replace.ensures.after ∙ marks ∙ sym before ∙ sym shape.primitives.count ∙ after,
       search rules,
-      round_made g.P.Primitive.behaviour now c.step_marked.new.circuit c.mark_flowing.new.marks c.known.ensures.wired c.known-2.ensures.wired shape others marks
+      round_made g.P.Primitive.behaviour now c.step_marked.new.circuit standing.marks c.known.ensures.wired c.known-2.ensures.wired shape others marks
           c.self.inside.rounds c.self.inside.knots c.self.inside.ends c.self.inside.kept c.unsettle_joints.new.self c.unsettle_moving.new.self old.3 unsettled c.unsettle_moving.ensures,
-      round_held g.P.Primitive.behaviour now c.step_marked.new.circuit c.mark_flowing.new.marks c.known.ensures.wired shape others marks
+      round_held g.P.Primitive.behaviour now c.step_marked.new.circuit standing.marks c.known.ensures.wired shape others marks
           c.self.inside.knots old.3.are_knots c.self.inside.kept c.unsettle_joints.new.self c.unsettle_moving.new.self c.self.inside.lookups old.4 unsettled c.unsettle_moving.ensures,
       record {
         blank = subst (λ n. AreBlank n c.cleared.result) count c.cleared.ensures;
+        marks = ap (λ (xs : List Bool). length xs) c.replace.ensures.value ∙ old.1 ∙ sym before ∙ sym shape.primitives.count;
         one_each = old.5.one_each;
         cells = stay.cells;
         shown = stay.shown;
@@ -82,8 +83,8 @@ returns-clause-settled g c =
     let net : Net = net_of g.P.Primitive.behaviour c.self.inside.circuit in
     let stands = rw (← c.self.view_is) at c.requires.stands in
     let standing = c.args.standing in
-    let flowed = rw c.as_slice-by.ensures at c.mark_flowing.ensures in
-    let unsettled = rw c.as_slice-joints.ensures at c.unsettle_joints.ensures c.mark_flowing.new.marks
-    (ends_marked net standing.colouring.rows c.known.ensures.wired stands.first.colouring.rows_fit standing.flowing stands.flowing c.mark_flowing.new.marks flowed) in
-    rw (← c.self.view_is) (stay_settled net c.self.inside.knots c.mark_flowing.new.marks c.self.inside.kept c.unsettle_joints.new.self c.unsettle_moving.new.self
+    let flowed = stands.marks in
+    let unsettled = rw c.as_slice-joints.ensures at c.unsettle_joints.ensures standing.marks
+    (ends_marked net standing.colouring.rows c.known.ensures.wired stands.first.colouring.rows_fit standing.flowing stands.flowing standing.marks flowed) in
+    rw (← c.self.view_is, c.replace.ensures.after) (stay_settled net c.self.inside.knots standing.marks c.self.inside.kept c.unsettle_joints.new.self c.unsettle_moving.new.self
     unsettled c.unsettle_moving.ensures)

@@ -3,7 +3,8 @@ use Rattle.reo_net_base.specs.Net.{Net, net_of}
 use Rattle.reo_trace.specs.declared.line.RoundLine.{RoundLine}
 use Rattle.reo_cells.specs.Cells.{AreShown}
 use Rattle.reo_cells.specs.declared.cells.Cells.{Cells}
-use Rattle.reo_engine.proofs.FlowsLemmas.{flows_texted, told_of_all}
+use Rattle.reo_knots.specs.Knots.{knot_count}
+use Rattle.reo_engine.proofs.FlowsLemmas.{flows_texted, lists_moving, served_settled, told_of_all}
 use Rattle.reo_engine.proofs.engine.Engine.stand.Goals as goal
 
 pub invariant_of-self : goal.invariant_of-self
@@ -42,6 +43,14 @@ invariant_of-self-in_err-standing g c =
 pub stand_by-requires-clause-lists : goal.stand_by-requires-clause-lists
 stand_by-requires-clause-lists g c = rw c.flowing.ensures (told_of_all (net_of g.P.Primitive.behaviour c.self.inside.circuit) c.self.inside.knots c.renew_marked.new.kept c.args.budget c.in_ok-renew_marked.ensures.exact.serve
     c.renew_marked.new.lookups.flowing (c.renew_marked.ensures.lookups.flowing c.in_ok-renew_marked.ensures.told))
+
+pub stand_by-requires-clause-moving : goal.stand_by-requires-clause-moving
+stand_by-requires-clause-moving g c =
+    let net : Net = net_of g.P.Primitive.behaviour c.self.inside.circuit in
+    let exact = c.in_ok-renew_marked.ensures.exact in
+    let told = told_of_all net c.self.inside.knots c.renew_marked.new.kept c.args.budget exact.serve c.renew_marked.new.lookups.flowing (c.renew_marked.ensures.lookups.flowing c.in_ok-renew_marked.ensures.told) in
+    rw c.flowing.ensures (lists_moving net c.known.ensures.wired c.self.inside.knots c.self.invariant.3.are_knots _ c.renew_marked.new.kept c.renew_marked.ensures.kept exact.first.first.colouring.rows_fit
+    (served_settled c.renew_marked.new.kept c.args.budget (knot_count c.self.inside.knots) exact.serve) c.renew_marked.new.lookups.flowing told)
 
 pub stand_by-requires-clause-first : goal.stand_by-requires-clause-first
 stand_by-requires-clause-first g c = c.in_ok-renew_marked.ensures.exact.first
