@@ -1,15 +1,22 @@
 -- The offers and the components after a round.
-use Rattle.std.proofs.Common.{◌≡◌, ◌∙◌, ◌⊎◌, inl, inr, ℕ, zero, suc, ◌<◌, Bool, true, false, cond, List, [], ◌∷◌, length, map, refl, sym, ap, arith}
+use Rattle.std.proofs.Common.{◌≡◌, ◌∙◌, ◌⊎◌, inl, inr, ⊎_elim, ℕ, zero, suc, ◌<◌, Bool, true, false, cond, List, [], ◌∷◌, length, map, refl, sym, ap, subst, arith}
 use Rattle.std.specs.Prelude.{Option, Some, None, is_none, option_and_then, slice_get, slice_index_or}
 use Rattle.std.specs.Option.{option_map_or}
 use Rattle.std.proofs.lemmas.Option.{slice_get_within}
+use Rattle.reo_values.specs.declared.value.Value.{Value}
+use Rattle.reo_net_base.specs.declared.mark.Mark.{Mark}
+use Rattle.reo_net_base.specs.declared.mark.Mark.TheVariants.{F, G, R, J}
+use Rattle.reo_net_base.specs.declared.colouring.Move.{Move}
 use Rattle.reo_net_base.specs.declared.port.Offer.{Offer}
 use Rattle.reo_net_base.specs.declared.port.Offer.TheVariants.{Write, Take}
 use Rattle.reo_net_base.specs.declared.port.Port.{Port}
+use Rattle.reo_net_base.specs.Colouring.{IsColouring}
 use Rattle.reo_net_base.specs.Marks.{is_flow}
+use Rattle.reo_net_base.specs.Moves.{moves_of}
 use Rattle.reo_net_base.specs.Net.{Net, mark_at, end_of}
 use Rattle.reo_net_base.specs.PortState.{PortState}
 use Rattle.reo_net_base.specs.Shapes.{SameWays}
+use Rattle.reo_net_base.specs.Wired.{IsWired, ArePorts}
 use Rattle.reo_net_circuit.specs.Offers.{AreAfterRound}
 use Rattle.reo_players.specs.Written.{Task}
 use Rattle.reo_players.specs.Written.Task.{writes, takes, rests}
@@ -17,13 +24,14 @@ use Rattle.reo_players.specs.Players.{Player, player_of, no_player, present, por
 use Rattle.reo_players.specs.Offers.{offer_at}
 use Rattle.reo_trace.specs.declared.line.RoundLine.{RoundLine}
 use Rattle.reo_trace.specs.Entries.{line_for}
+use Rattle.reo_move_laws.specs.Moved.{Has, MovesAreFlows}
 use Rattle.reo_run_premises.specs.PortsOf.{HasPorts}
 use Rattle.reo_rounds.specs.declared.plan.Plan.{Plan}
 use Rattle.reo_rounds.specs.Plans.{ShowsItsOwn}
 use Rattle.reo_runs.specs.Round.{flowed, advanced}
 use Rattle.reo_runs.specs.Run.{over_after}
 use Rattle.reo_at_ports.specs.Pending.{pending_at}
-use Rattle.reo_at_ports.specs.Between.{AreStarted, AreStepped, is_gone, gone_on}
+use Rattle.reo_at_ports.specs.Between.{AreStarted, AreStepped, AreMoved, is_gone, gone_on}
 use Rattle.reo_at_ports.proofs.AtPorts.{in_range}
 use Rattle.reo_at_ports.proofs.Offered.{gives}
 
@@ -96,6 +104,51 @@ module _ (net : Net) (rows : List ℕ) (ports : List Port) (count : ℕ) (player
 
   pub gone_as_said : gone_on new players ≡ advanced net rows players
   gone_as_said = map_same (λ (p : Player). after (is_gone new p) p) (λ (p : Player). after (flowed net rows p) p) players (λ i p is. ap (λ b. after b p) (gone_is_flow i p is))
+
+-- The moves of the round are where offers are gone.
+has_at : (moves : List Move) (move : Move) → Has moves move → (k : ℕ) × (slice_get moves k ≡ Some move)
+has_at [] move has = absurd has
+has_at (m ∷ ms) move has =
+    ⊎_elim (λ same. (0, ap (λ (x : Move). Some x) same)) (λ later. let rest = has_at ms move later in (suc rest.0, rest.1)) has
+
+at_has : (moves : List Move) (k : ℕ) (move : Move) → slice_get moves k ≡ Some move → Has moves move
+at_has [] k move is = absurd (cc)
+at_has (m ∷ ms) zero move is = inl cc
+at_has (m ∷ ms) (suc k) move is = inr (at_has ms k move is)
+
+flows : (m : Mark) → is_flow m ≡ true → m ≡ F
+flows F is = refl
+flows G is = absurd (cc)
+flows R is = absurd (cc)
+flows J is = absurd (cc)
+
+gone_flows : (flowing : Bool) (o : Offer) → cond flowing None (Some o) ≡ None → flowing ≡ true
+gone_flows true o is = refl
+gone_flows false o is = absurd (cc)
+
+pub moved_at : MovesAreFlows → (net : Net) (rows : List ℕ) (items : List (Option Value)) (ports : List Port) (count : ℕ) (players : List Player) (old new : List PortState)
+    → IsWired net → ArePorts net.primitives count → IsColouring net rows items → AreStarted ports count players old → AreAfterRound net rows count old new
+    → (moves : List Move) → moves ≡ moves_of net count rows items → AreMoved moves players new
+moved_at are_flows net rows items ports count players old new wired are colouring started round moves moves_are =
+    let flow = are_flows net count rows items wired are colouring in
+    subst (λ (ms : List Move). AreMoved ms players new) (sym moves_are) record {
+      gone = λ k m is.
+          let has = at_has (moves_of net count rows items) k m is in
+          let lt = flow.at_ports_alone m.port m.item has in
+          let flowing = (flow.at_ports m.port lt).0 (m.item, has) in
+          (round.port m.port lt).pending_is ∙ ap (λ (x : Mark). cond (is_flow x) None (pending_at old m.port)) flowing;
+      each = λ port i o i_lt offers none.
+          let inside = in_range ports count players old i port o started.at_ports i_lt offers in
+          let lt : port < count = omega (arith, started.at_ports.count_is) in
+          let was = started.pending.named port i o inside i_lt offers in
+          let left = (round.port port lt).pending_is in
+          let is : cond (is_flow (mark_at net rows (end_of port 0))) None (Some o) ≡ None =
+          ap (λ (u : Option Offer). cond (is_flow (mark_at net rows (end_of port 0))) None u) (sym was) ∙ sym left ∙ none in
+          let flowing = flows (mark_at net rows (end_of port 0)) (gone_flows (is_flow (mark_at net rows (end_of port 0))) o is) in
+          let moved = (flow.at_ports port lt).1 flowing in
+          let at = has_at (moves_of net count rows items) _ moved.1 in
+          (at.0, _, at.1, refl);
+    }
 
 -- A plan and its line say alike whether it is idle.
 pub over_by : (net : Net) (turn ports : ℕ) (p : Plan) (line : RoundLine) (old new : List Player) → ShowsItsOwn net ports p → line ≡ line_for net turn p.colouring.rows p.moves

@@ -1,11 +1,12 @@
 -- Components that fit the ports, and circuits that have them.
-use Rattle.std.proofs.Common.{◌≡◌, ◌≢◌, ◌∙◌, ◌||◌, inl, inr, ℕ, suc, ◌<◌, Bool, true, false, cond, List, [], ◌∷◌, length, map, refl, sym, ap, subst, arith}
+use Rattle.std.proofs.Common.{◌≡◌, ◌≢◌, ◌∙◌, ◌||◌, inl, inr, ℕ, suc, ◌<◌, Bool, true, false, cond, List, [], ◌∷◌, length, map, sym, ap, subst, arith}
 use Rattle.std.specs.Prelude.{Option, Some, None, slice_index_or}
 use Rattle.std.specs.List.{All, list_any}
 use Rattle.std.proofs.lemmas.Bool.{cases_eq, true≢false}
 use Rattle.std.proofs.lemmas.List.{get_or-map, get_or_past, length-map}
 use Rattle.std.proofs.lemmas.List.Elements.{All-get_or, All-from_get_or}
 use Rattle.std.proofs.lemmas.Option.{slice_get_within}
+use Rattle.reo_values.proofs.Truths.{or_true}
 use Rattle.reo_net_base.specs.declared.port.Port.{Port}
 use Rattle.reo_net_base.specs.declared.port.Offer.{Offer}
 use Rattle.reo_net_base.specs.declared.port.Offer.TheVariants.{Write, Take}
@@ -28,7 +29,7 @@ use Rattle.reo_at_ports.proofs.Offered.{offers_of, named}
 abbrev pub rests_of : List Player → List (List Task)
 rests_of players = map (λ (p : Player). p.rest) players
 
-rest_at : (players : List Player) (i : ℕ) → i < length players → slice_index_or (rests_of players) i [] ≡ (player_of players i).rest
+pub rest_at : (players : List Player) (i : ℕ) → i < length players → slice_index_or (rests_of players) i [] ≡ (player_of players i).rest
 rest_at players i lt = get_or-map (λ (p : Player). p.rest) players i no_player [] lt
 
 -- Each action of each component fits the ports.
@@ -119,24 +120,20 @@ ports_stay ports old new port pending only has = record {
   ];
 }
 
-or_true : (b : Bool) → (b || true) ≡ true
-or_true true = refl
-or_true false = refl
-
 -- What a component has left to do gets shorter.
 module _ (flowed : Bool) (seen : ℕ) where
   rest_fits : (ports : List Port) (ts : List Task) → All (FitsPorts ports) ts → All (FitsPorts ports) (after_task flowed seen ts).rest
   rest_fits ports [] all = all
   rest_fits ports (t ∷ ts) all =
       let gone : Player = record { rest = ts; seen = 0 } in
-      let stays : Player = record { rest = t ∷ ts; seen = one_more_seen seen } in
+      let stays : Player = record { rest = t ∷ ts; seen = one_more_seen t seen } in
       elim (flowed || runs_out t seen) as (λ b. All (FitsPorts ports) (cond b gone stays).rest) [ true ↦ λ k d below. all (suc k) d (omega arith) | false ↦ all ]
 
   rest_names : (port : ℕ) (ts : List Task) → list_any (names port) (after_task flowed seen ts).rest ≡ true → list_any (names port) ts ≡ true
   rest_names port [] = λ any. any
   rest_names port (t ∷ ts) =
       let gone : Player = record { rest = ts; seen = 0 } in
-      let stays : Player = record { rest = t ∷ ts; seen = one_more_seen seen } in
+      let stays : Player = record { rest = t ∷ ts; seen = one_more_seen t seen } in
       elim (flowed || runs_out t seen) as (λ b. list_any (names port) (cond b gone stays).rest ≡ true → list_any (names port) (t ∷ ts) ≡ true) [
         | true ↦ λ any. ap (λ b. names port t || b) any ∙ or_true (names port t)
         | false ↦ λ any. any

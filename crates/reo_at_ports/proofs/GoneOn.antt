@@ -1,6 +1,6 @@
 -- A component that goes on after a round, and what it has left at the ports.
-use Rattle.std.proofs.Common.{◌≡◌, ◌∙◌, ◌||◌, inl, inr, ℕ, Bool, true, false, cond, List, [], ◌∷◌, refl, sym, ap, subst, arith}
-use Rattle.std.specs.Prelude.{Option, Some, None, is_none, nat_eq, option_and_then}
+use Rattle.std.proofs.Common.{◌≡◌, ◌∙◌, ◌+◌, ◌-◌, ◌^◌, ◌||◌, inl, inr, ℕ, Bool, true, false, cond, min, List, [], ◌∷◌, refl, sym, ap, subst, arith}
+use Rattle.std.specs.Prelude.{Option, Some, None, is_none, is_some, nat_eq, option_and_then}
 use Rattle.std.specs.Option.{option_map_or}
 use Rattle.std.proofs.lemmas.Bool.{cases_eq, true≢false}
 use Rattle.std.proofs.lemmas.Bool.Decides.{nat_tests}
@@ -12,7 +12,7 @@ use Rattle.reo_players.specs.declared.step.Step.{Step}
 use Rattle.reo_players.specs.declared.step.Step.TheVariants as steps
 use Rattle.reo_players.specs.Written.{Task}
 use Rattle.reo_players.specs.Written.Task.{writes, takes, rests}
-use Rattle.reo_players.specs.Players.{Player, port_of, offer_of, ended, runs_out, one_more_seen, after_task, after, step_task, step_of}
+use Rattle.reo_players.specs.Players.{Player, bound_of, first_port, port_of, offer_of, ended, runs_out, one_more_seen, after_task, after, step_task, step_of}
 use Rattle.reo_players.specs.Offers.{task_offer, offer_at}
 use Rattle.reo_at_ports.specs.Pending.{pending_at, held_at}
 use Rattle.reo_at_ports.specs.Between.{is_gone}
@@ -74,17 +74,18 @@ ran_out false seen q (t ∷ ts) e =
 held_over : (port : ℕ) (flowed : Bool) (seen : ℕ) (t : Task) (ts : List Task) → (flowed || runs_out t seen) ≡ true → held_at port (after_task flowed seen (t ∷ ts)) ≡ None
 held_over port flowed seen t ts over =
     let gone : Player = record { rest = ts; seen = 0 } in
-    let stays : Player = record { rest = t ∷ ts; seen = one_more_seen seen } in
+    let stays : Player = record { rest = t ∷ ts; seen = one_more_seen t seen } in
     ap (λ b. held_at port (cond b gone stays)) over
 
-was_seen : (seen : ℕ) → nat_eq (one_more_seen seen) 0 ≡ false
-was_seen seen = grind (arith, nat_tests)
+was_seen : (t : Task) (seen : ℕ) → nat_eq (one_more_seen t seen) 0 ≡ false
+was_seen t seen =
+    elim (is_some (bound_of t)) as (λ b. nat_eq (cond b (min (seen + 1) (2 ^ 32 - 1)) 1) 0 ≡ false) [ true ↦ grind (arith, nat_tests) | false ↦ refl ]
 
 held_on : (port : ℕ) (flowed : Bool) (seen : ℕ) (t : Task) (ts : List Task) → (flowed || runs_out t seen) ≡ false → held_at port (after_task flowed seen (t ∷ ts)) ≡ task_offer port t
 held_on port flowed seen t ts on =
     let gone : Player = record { rest = ts; seen = 0 } in
-    let stays : Player = record { rest = t ∷ ts; seen = one_more_seen seen } in
-    ap (λ b. held_at port (cond b gone stays)) on ∙ ap (λ b. cond b None (task_offer port t)) (was_seen seen)
+    let stays : Player = record { rest = t ∷ ts; seen = one_more_seen t seen } in
+    ap (λ b. held_at port (cond b gone stays)) on ∙ ap (λ b. cond b None (task_offer port t)) (was_seen t seen)
 
 held_nowhere : (port : ℕ) (flowed : Bool) (seen : ℕ) (rest : List Task) → option_and_then (task_offer port) (first_of rest) ≡ None → held_at port (after_task flowed seen rest) ≡ None
 held_nowhere port flowed seen [] none = none_either (nat_eq seen 0)
@@ -174,3 +175,19 @@ gone_rest before now (rests rounds ∷ ts) same = refl
 
 pub gone_alike : (before now : List PortState) (p : Player) → ((port : ℕ) (o : Offer) → offer_at port p ≡ Some o → pending_at now port ≡ pending_at before port) → is_gone now p ≡ is_gone before p
 gone_alike before now p same = gone_rest before now p.rest same
+
+-- An offer is gone where its port has none, and else not.
+pub names_gone : (states : List PortState) (p : Player) (port : ℕ) → first_port p.rest ≡ Some port → pending_at states port ≡ None → is_gone states p ≡ true
+names_gone states p port named none = ap (λ n. option_map_or (λ port. is_none (pending_at states port)) n false) named ∙ ap is_none none
+
+gone_by : (states : List PortState) (named : Option ℕ) → option_map_or (λ port. is_none (pending_at states port)) named false ≡ true → (port : ℕ) × (named ≡ Some port) × (pending_at states port ≡ None)
+gone_by states None gone = absurd cc
+gone_by states (Some port) gone = (port, refl, none_is (pending_at states port) gone)
+
+pub gone_names : (states : List PortState) (p : Player) → is_gone states p ≡ true → (port : ℕ) × (first_port p.rest ≡ Some port) × (pending_at states port ≡ None)
+gone_names states p gone = gone_by states (first_port p.rest) gone
+
+-- Where its offer flowed it does not matter how many rounds it had seen.
+pub flowed_alike : (rest : List Task) (seen other port : ℕ) → first_port rest ≡ Some port → after_task true seen rest ≡ after_task true other rest
+flowed_alike [] seen other port named = absurd cc
+flowed_alike (t ∷ ts) seen other port named = refl

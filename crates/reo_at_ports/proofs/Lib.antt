@@ -6,5 +6,6 @@ pub mod Kept
 pub mod GoneOn
 pub mod OffersMade
 pub mod AllGoOn
+pub mod Roused
 pub mod AfterRound
 pub mod Begun

@@ -1,10 +1,13 @@
 -- Components and the ports of a circuit.
-use Rattle.std.specs.Prelude.{ℕ, ◌≡◌, Bool, false, is_none, List, length, map, option_and_then}
+use Rattle.std.specs.Prelude.{ℕ, ◌≡◌, ◌<◌, Bool, true, false, is_none, Some, None, List, length, map, slice_get, option_and_then}
 use Rattle.std.specs.Option.{option_map_or}
+use Rattle.reo_net_base.specs.declared.colouring.Move.{Move}
+use Rattle.reo_net_base.specs.declared.port.Offer.{Offer}
 use Rattle.reo_net_base.specs.declared.port.Port.{Port}
 use Rattle.reo_net_base.specs.PortState.{PortState}
 use Rattle.reo_players.specs.Players.{Player, player_of, present, port_of, after}
 use Rattle.reo_players.specs.Offers.{offer_at}
+use Rattle.reo_players.specs.Idle.{is_idle}
 use Rattle.reo_run_premises.specs.Fitting.{FitPorts}
 use Rattle.reo_run_premises.specs.PortsOf.{HasPorts}
 use Rattle.reo_at_ports.specs.Pending.{pending_at, held_at, ArePending, ArePendingOrGone}
@@ -37,3 +40,13 @@ is_gone states p = option_map_or (λ port. is_none (pending_at states port)) (op
 -- The components after the round.
 abbrev pub gone_on : List PortState → List Player → List Player
 gone_on states players = map (λ (p : Player). after (is_gone states p) p) players
+
+-- The moves of the round are at the ports whose offers are gone: at none of them is an offer, and each port whose offer is gone has one.
+pub record AreMoved (moves : List Move) (players : List Player) (states : List PortState) : Type 0 where
+  pub gone : (k : ℕ) (m : Move) → slice_get moves k ≡ Some m → pending_at states m.port ≡ None
+  pub each : (port i : ℕ) (o : Offer) → i < length players → offer_at port (player_of players i) ≡ Some o → pending_at states port ≡ None
+      → (k : ℕ) × (m : Move) × (slice_get moves k ≡ Some m) × (m.port ≡ port)
+
+-- No component to which nothing is to be done has an offer that is gone.
+abbrev pub NoneIdleIsGone : List Player → List PortState → Type 0
+NoneIdleIsGone players states = (i : ℕ) → i < length players → is_idle (player_of players i) ≡ true → is_gone states (player_of players i) ≡ false

@@ -1,10 +1,12 @@
 -- The part of one component in what all do.
-use Rattle.std.specs.Prelude.{ℕ, ◌≡◌, ◌≢◌, ◌⊎◌, ◌==◌, nat_lt, true, cond, Option, Some, None, List, length}
+use Rattle.std.specs.Prelude.{ℕ, ◌≡◌, ◌≢◌, ◌⊎◌, ◌<◌, ◌==◌, nat_lt, true, cond, Option, Some, None, List, length, slice_get}
+use Rattle.reo_net_base.specs.declared.colouring.Move.{Move}
 use Rattle.reo_net_base.specs.declared.port.Port.{Port}
 use Rattle.reo_net_base.specs.declared.port.Offer.{Offer}
 use Rattle.reo_net_base.specs.PortState.{PortState}
 use Rattle.reo_players.specs.Players.{Player, player_of, after}
 use Rattle.reo_players.specs.Offers.{offer_at}
+use Rattle.reo_players.specs.Idle.{NamesPort}
 use Rattle.reo_at_ports.specs.Pending.{pending_at, held_at, ArePending}
 use Rattle.reo_at_ports.specs.Between.{AreAtPorts, is_gone}
 
@@ -42,3 +44,19 @@ pub record IsLeft (old new : Player) (before now : List PortState) : Type 0 wher
   pub elsewhere : (port : ℕ) → offer_at port old ≡ None → pending_at now port ≡ pending_at before port
   pub held : (port : ℕ) → offer_at port old ≡ None → held_at port new ≡ None
   pub were : (port : ℕ) (o : Offer) → pending_at now port ≡ Some o → pending_at before port ≡ Some o
+
+-- One of so many first moves is at the port that a component's present action names.
+pub record IsMoved (moves : List Move) (n : ℕ) (players : List Player) (component : ℕ) : Type 0 where
+  pub place : ℕ
+  pub move : Move
+  pub first : place < n
+  pub there : slice_get moves place ≡ Some move
+  pub names : NamesPort players move.port component
+
+-- At the port of each of so many first moves one whose action names it is as if no round had seen it, or none names it; all else is as it was.
+pub record AreRoused (moves : List Move) (n : ℕ) (old new : List Player) : Type 0 where
+  pub count : length new ≡ length old
+  pub rest : (i : ℕ) → (player_of new i).rest ≡ (player_of old i).rest
+  pub others : (i : ℕ) → (player_of new i ≡ player_of old i) ⊎ IsMoved moves n old i
+  pub roused : (k : ℕ) (m : Move) → k < n → slice_get moves k ≡ Some m
+      → ((i : ℕ) → NamesPort old m.port i → ⊥) ⊎ ((i : ℕ) × NamesPort old m.port i × ((player_of new i).seen ≡ 0))

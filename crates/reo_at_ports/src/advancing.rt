@@ -8,11 +8,11 @@ ghost use Rattle.reo_players.specs.Players.{player_of};
 ghost use Rattle.reo_rounds.specs.Offering.{IsPendingAt};
 ghost use Rattle.reo_rounds.specs.Rules.{rules_of};
 ghost use Rattle.reo_at_ports.specs.Pending.{IsButForOffers, pending_in};
-ghost use Rattle.reo_at_ports.specs.Between.{AreAtPorts, AreBetween, AreStepped, gone_on, is_gone as is_gone_at};
-ghost use Rattle.reo_at_ports.specs.Parts.{HasGoneOn, IsLeft, IsPendingOrGone};
+ghost use Rattle.reo_at_ports.specs.Between.{AreAtPorts, AreBetween, AreMoved, AreStepped, NoneIdleIsGone, gone_on, is_gone as is_gone_at};
+ghost use Rattle.reo_at_ports.specs.Parts.{AreRoused, HasGoneOn, IsLeft, IsPendingOrGone};
 
 use reo_engine::Engine;
-use reo_net_base::{Ported, Ports, Restoring};
+use reo_net_base::{Move, Ported, Ports, Restoring};
 use reo_players::{Players, Step};
 
 /// Whether what a component offered is gone, as it flowed in the round.
@@ -82,11 +82,22 @@ fn advance<P: Restoring>(
     }
 }
 
-/// Each component goes on after a round, in which its offer flowed where it is gone. An offer whose
-/// bound ran out is taken back. This takes no memory.
-pub fn advance_all<P: Restoring>(engine: &mut Engine<P>, ports: &Ports, players: &mut Players)
-    requires { let old = engine.old.circuit in
+/// Lets those at whose ports items moved be as if no round had seen their present actions, so that
+/// they are not idle.
+fn rouse_all(players: &mut Players, moves: &[Move])
+    ensures { AreRoused moves.now (length moves.now) players.old players.new }
+{
+    for flow in moves {
+        players.rouse_at(flow.port);
+    }
+}
+
+/// Each component that is not idle goes on after a round, in which its offer flowed where it is
+/// gone. An offer whose bound ran out is taken back. This takes no memory.
+fn advance_awake<P: Restoring>(engine: &mut Engine<P>, ports: &Ports, players: &mut Players)
+    requires stepped { let old = engine.old.circuit in
         AreStepped ports.now.list old.ports players.old (map P.port_state old.primitives) }
+    requires idle { NoneIdleIsGone players.old (map P.port_state engine.old.circuit.primitives) }
     ensures players { let states = map P.port_state engine.old.circuit.primitives in
         players.new ≡ gone_on states players.old }
     ensures between { let new = engine.new.circuit in
@@ -95,7 +106,34 @@ pub fn advance_all<P: Restoring>(engine: &mut Engine<P>, ports: &Ports, players:
         IsButForOffers r engine.old.circuit engine.new.circuit }
     ensures rounds { engine.new.rounds ≡ engine.old.rounds }
 {
-    for component in 0..players.count() {
+    let mut component = players.next_awake(0);
+    while component < players.count() {
         advance(engine, ports, players, component);
+        component = players.next_awake(component + 1);
     }
+}
+
+/// Each component goes on after a round, in which its offer flowed where it is gone, and its port
+/// has a move. An offer whose bound ran out is taken back. Only those are gone to that have a new
+/// action, or a bound or a pause, or a move at their port. This takes no memory.
+pub fn advance_all<P: Restoring>(
+    engine: &mut Engine<P>,
+    ports: &Ports,
+    players: &mut Players,
+    moves: &[Move],
+)
+    requires stepped { let old = engine.old.circuit in
+        AreStepped ports.now.list old.ports players.old (map P.port_state old.primitives) }
+    requires moved { let states = map P.port_state engine.old.circuit.primitives in
+        AreMoved moves.now players.old states }
+    ensures players { let states = map P.port_state engine.old.circuit.primitives in
+        players.new ≡ gone_on states players.old }
+    ensures between { let new = engine.new.circuit in
+        AreBetween ports.now.list new.ports players.new (map P.port_state new.primitives) }
+    ensures circuit { let r = rules_of P.behaviour P.settled P.port_state P.placed P.withdrawn in
+        IsButForOffers r engine.old.circuit engine.new.circuit }
+    ensures rounds { engine.new.rounds ≡ engine.old.rounds }
+{
+    rouse_all(players, moves);
+    advance_awake(engine, ports, players);
 }

@@ -2,6 +2,8 @@
 ghost use Rattle.std.specs.Prelude.{◌≡◌, ◌<◌, ◌+◌, ◌^◌, ◌&&◌, not, cond, Some, None, map};
 ghost use Rattle.reo_net_base.specs.Net.{net_of};
 ghost use Rattle.reo_net_base.specs.Step.{stepped};
+ghost use Rattle.reo_net_base.specs.Wired.{ArePorts, IsWired};
+ghost use Rattle.reo_move_laws.specs.Moved.{MovesAreFlows};
 ghost use Rattle.reo_players.specs.Players.{all_done};
 ghost use Rattle.reo_trace.specs.declared.line.Ending.TheVariants.{Done as IsDone, Stuck as IsStuck};
 ghost use Rattle.reo_rounds.specs.Plans.{Suits};
@@ -14,7 +16,8 @@ ghost use Rattle.reo_at_ports.specs.Between.{AreBetween, AreStarted};
 
 use crate::advancing::advance_all;
 use reo_engine::{Done, Engine, Plan, Standing};
-use reo_net_base::{Move, Ports, Restoring};
+use reo_move_laws::moves_are_flows;
+use reo_net_base::{Move, Ported, Ports, Restoring};
 use reo_players::Players;
 use reo_trace::{Ending, RoundLine};
 use reo_values::List;
@@ -39,6 +42,18 @@ fn over_after(turn: u64, idle: bool, counted: bool, players: &Players) -> Option
     } else {
         None
     }
+}
+
+/// What holds of the net of each engine, and of its moves.
+fn known<P: Ported>(engine: &Engine<P>)
+    ensures wired { IsWired (net_of P.behaviour engine.now.circuit) }
+    ensures ports { let now = engine.now.circuit in
+        ArePorts (net_of P.behaviour now).primitives now.ports }
+    ensures flows { MovesAreFlows }
+{
+    engine.circuit().known();
+    engine.circuit().known_ports();
+    moves_are_flows();
 }
 
 /// Makes a planned round: the circuit steps, and each component goes on. This takes no memory.
@@ -67,18 +82,20 @@ pub fn carry_out<P: Restoring>(
     ensures moves { result.moves ≡ plan.moves }
 {
     let counted = players.someone_counts();
+    known(engine);
     let Done {
         moves,
         idle,
         jammed,
     } = engine.commit(plan);
     let _ = jammed;
-    advance_all(engine, ports, players);
+    advance_all(engine, ports, players, moves.as_slice());
     let over = over_after(engine.rounds(), idle, counted, players);
     Carried { moves, over }
 }
 
-/// Makes the round that stands: the circuit steps, and each component goes on. This takes no memory.
+/// Makes the round that stands: the circuit steps, and each component goes on. This takes no
+/// memory.
 pub fn carry_on<P: Restoring>(
     engine: &mut Engine<P>,
     players: &mut Players,
@@ -106,6 +123,7 @@ pub fn carry_on<P: Restoring>(
     ensures moves { result.moves ≡ standing.line.moves }
 {
     let counted = players.someone_counts();
+    known(engine);
     let RoundLine {
         round,
         idle,
@@ -113,7 +131,7 @@ pub fn carry_on<P: Restoring>(
         entries,
     } = engine.go_on(standing);
     let _ = (round, entries);
-    advance_all(engine, ports, players);
+    advance_all(engine, ports, players, moves.as_slice());
     let over = over_after(engine.rounds(), idle, counted, players);
     Carried { moves, over }
 }

@@ -104,10 +104,12 @@ pub fn offer_all<P: Ported>(
     ensures rounds { engine.new.rounds ≡ engine.old.rounds }
 {
     offers_agree();
-    for component in 0..players.count() {
+    let mut component = players.next_awake(0);
+    while component < players.count() {
         if players.fresh(component) {
             offer_fresh(alloc, engine, ports, players, component)?;
         }
+        component = players.next_awake(component + 1);
     }
     Ok(())
 }

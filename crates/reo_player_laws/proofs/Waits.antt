@@ -1,5 +1,5 @@
 -- A component over rounds in which no offer of its flows.
-use Rattle.std.proofs.Common.{ℕ, zero, suc, ◌+◌, ◌-◌, ◌^◌, ◌<◌, ◌≤◌, ◌≡◌, ◌==◌, Bool, true, false, cond, Option, Some, None, is_some, List, ◌∷◌, refl, ap, ◌∙◌, arith}
+use Rattle.std.proofs.Common.{ℕ, zero, suc, ◌+◌, ◌-◌, ◌^◌, ◌<◌, ◌≤◌, ◌≡◌, ◌==◌, Bool, true, false, cond, min, Option, Some, None, is_some, List, ◌∷◌, refl, ap, ◌∙◌, arith}
 use Rattle.std.specs.Option.{option_map_or}
 use Rattle.std.proofs.lemmas.Bool.{eq-eqb, ne_eqb}
 use Rattle.std.proofs.Math.Nat.{min-eq_left}
@@ -20,12 +20,14 @@ module _ (task : Task) (tasks : List Task) (rounds : ℕ) (bounded : bound_of ta
   late : (seen : ℕ) → seen + 1 ≡ rounds → runs_out task seen ≡ true
   late seen h = ap (λ (b : Option ℕ). option_map_or (λ n. (seen + 1) == n) b false) bounded ∙ eq-eqb (seen + 1) rounds h
 
-  one_more : (seen : ℕ) → seen + 1 < rounds → one_more_seen seen ≡ suc seen
-  one_more seen h = let small : seen + 1 ≤ 2 ^ 32 - 1 = omega (arith, h, few) in min-eq_left small ∙ omega arith
+  one_more : (seen : ℕ) → seen + 1 < rounds → one_more_seen task seen ≡ suc seen
+  one_more seen h =
+      let small : seen + 1 ≤ 2 ^ 32 - 1 = omega (arith, h, few) in
+      ap (λ (b : Option ℕ). cond (is_some b) (min (seen + 1) (2 ^ 32 - 1)) 1) bounded ∙ min-eq_left small ∙ omega arith
 
   goes_on : (seen : ℕ) → seen + 1 < rounds → after false (at task tasks seen) ≡ at task tasks (suc seen)
   goes_on seen h =
-      ap (λ (t : Bool). cond t (before tasks) (at task tasks (one_more_seen seen))) (early seen h) ∙ ap (at task tasks) (one_more seen h)
+      ap (λ (t : Bool). cond t (before tasks) (at task tasks (one_more_seen task seen))) (early seen h) ∙ ap (at task tasks) (one_more seen h)
 
   stands : (seen : ℕ) → seen < rounds → waited seen (before (task ∷ tasks)) ≡ at task tasks seen
   stands zero h = refl
@@ -35,7 +37,7 @@ module _ (task : Task) (tasks : List Task) (rounds : ℕ) (bounded : bound_of ta
   passed zero is some = absurd (omega (arith, some))
   passed (suc seen) is some =
       ap (after false) (stands seen (omega (arith, is)))
-      ∙ ap (λ (t : Bool). cond t (before tasks) (at task tasks (one_more_seen seen))) (late seen (omega (arith, is)))
+      ∙ ap (λ (t : Bool). cond t (before tasks) (at task tasks (one_more_seen task seen))) (late seen (omega (arith, is)))
 
   lasts : 1 ≤ rounds → LastsExactly rounds (ended task) task tasks
   lasts some = record {
@@ -58,7 +60,7 @@ module _ (task : Task) (tasks : List Task) (unbounded : bound_of task ≡ None) 
   never seen = ap (λ (b : Option ℕ). option_map_or (λ n. (seen + 1) == n) b false) unbounded
 
   rests_as_it_is : (seen : ℕ) → (after false (at task tasks seen)).rest ≡ task ∷ tasks
-  rests_as_it_is seen = ap (λ (t : Bool). (cond t (before tasks) (at task tasks (one_more_seen seen))).rest) (never seen)
+  rests_as_it_is seen = ap (λ (t : Bool). (cond t (before tasks) (at task tasks (one_more_seen task seen))).rest) (never seen)
 
   -- Whatever it has seen.
   still : (p : Player) → p.rest ≡ task ∷ tasks → (after false p).rest ≡ task ∷ tasks

@@ -2,3 +2,5 @@ mod Bodies
 mod Stands
 mod Passed
 mod Present
+mod Marked
+pub mod Idling

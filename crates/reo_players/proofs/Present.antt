@@ -1,6 +1,6 @@
 -- The present action of a component, and how it goes on from it.
-use Rattle.std.proofs.Common.{◌≡◌, ◌∙◌, ◌+◌, ℕ, Bool, true, false, cond, List, [], ◌∷◌, drop, Option, refl, sym, ap, true≢false}
-use Rattle.std.specs.Prelude.{is_none, nat_eq}
+use Rattle.std.proofs.Common.{◌≡◌, ◌∙◌, ◌+◌, ◌-◌, ◌^◌, ◌||◌, ◌&&◌, ℕ, Bool, true, false, not, cond, min, List, [], ◌∷◌, drop, Option, Some, None, refl, sym, ap, true≢false}
+use Rattle.std.specs.Prelude.{is_none, is_some, nat_eq}
 use Rattle.std.specs.Option.{option_map_or}
 use Rattle.reo_scripts.specs.declared.action.Action.{Action}
 use Rattle.reo_rules.specs.Lists.{first_of}
@@ -9,6 +9,7 @@ use Rattle.reo_players.specs.declared.step.Step.TheVariants as steps
 use Rattle.reo_players.specs.Written.{Task}
 use Rattle.reo_players.specs.Counters.{rest_left, StandsUntil}
 use Rattle.reo_players.specs.Players.{Player, first_bound, one_more_seen, after_task, step_task}
+use Rattle.reo_players.specs.Idle.{is_idle}
 use Rattle.reo_players.proofs.Passed.{HasTask, some_task}
 
 -- There is one until the component is done.
@@ -19,6 +20,17 @@ present_task false xs cs stands not_done = some_task cs xs stands
 pub done_is : (done : Bool) (xs : List Action) (cs : List Counter) → StandsUntil done xs cs → done ≡ is_none (first_of (rest_left done xs cs))
 done_is true xs cs stands = refl
 done_is false xs cs stands = sym (ap (λ ts. is_none (first_of ts)) (some_task cs xs stands).2)
+
+-- Whether it is idle is seen by its bound.
+none_not_some : (o : Option ℕ) → is_none o ≡ not (is_some o)
+none_not_some None = refl
+none_not_some (Some n) = refl
+
+pub idle_is : (done : Bool) (xs : List Action) (cs : List Counter) (bound : Option ℕ) (seen : ℕ) → StandsUntil done xs cs → bound ≡ first_bound (rest_left done xs cs)
+    → (done || (is_none bound && nat_eq seen 1)) ≡ is_idle (record { rest = rest_left done xs cs; seen = seen })
+idle_is done xs cs bound seen stands is =
+    ap (λ d. d || (is_none bound && nat_eq seen 1)) (done_is done xs cs stands)
+    ∙ ap (λ n. is_none (first_of (rest_left done xs cs)) || (n && nat_eq seen 1)) (none_not_some bound ∙ ap (λ o. not (is_some o)) is)
 
 abbrev pub used_up : Option ℕ → ℕ → Bool
 used_up bound seen = option_map_or (λ n. nat_eq (seen + 1) n) bound false
@@ -34,12 +46,16 @@ flows_step [] has flowed seen is = let some = has.2 in absurd cc
 flows_step (t ∷ ts) has true seen is = refl
 flows_step (t ∷ ts) has false seen is = absurd (true≢false (sym is))
 
+abbrev pub more_seen : Option ℕ → ℕ → ℕ
+more_seen bound seen = cond (is_some bound) (min (seen + 1) (2 ^ 32 - 1)) 1
+
 -- Where it did not, and its bound is not used up, it stays there.
 pub stays : (rest : List Task) → HasTask rest → (flowed : Bool) (seen : ℕ) (bound : Option ℕ) → bound ≡ first_bound rest
-    → flowed ≡ false → used_up bound seen ≡ false → after_task flowed seen rest ≡ record { rest = rest; seen = one_more_seen seen }
+    → flowed ≡ false → used_up bound seen ≡ false → after_task flowed seen rest ≡ record { rest = rest; seen = more_seen bound seen }
 stays [] has flowed seen bound is still on = let some = has.2 in absurd cc
 stays (t ∷ ts) has true seen bound is still on = absurd (true≢false still)
 stays (t ∷ ts) has false seen bound is still on =
     let next : Player = record { rest = ts; seen = 0 } in
-    let here : Player = record { rest = t ∷ ts; seen = one_more_seen seen } in
+    let here : Player = record { rest = t ∷ ts; seen = one_more_seen t seen } in
     ap (λ b. cond b next here) (ap (λ o. used_up o seen) (sym is) ∙ on)
+    ∙ ap (λ (o : Option ℕ). record { rest = t ∷ ts; seen = more_seen o seen }) (sym is)

@@ -1,5 +1,6 @@
 pub mod Written
 pub mod Players
+pub mod Idle
 pub mod Codes
 pub mod Counters
 pub mod Offers

@@ -64,14 +64,14 @@ someone_counts ps = list_any counts ps
 abbrev pub runs_out : Task → ℕ → Bool
 runs_out t seen = option_map_or (λ n. (seen + 1) == n) (bound_of t) false
 
--- One more round seen. They are counted up to the greatest number of 32 bits, which no bound can pass.
-abbrev pub one_more_seen : ℕ → ℕ
-one_more_seen seen = min (seen + 1) (2 ^ 32 - 1)
+-- One more round seen. For an action with a bound they are counted, up to the greatest number of 32 bits, which no bound can pass; for another, one stands for all.
+abbrev pub one_more_seen : Task → ℕ → ℕ
+one_more_seen t seen = cond (is_some (bound_of t)) (min (seen + 1) (2 ^ 32 - 1)) 1
 
 -- The player after a round in which its offer flowed, or not.
 abbrev pub after_task : Bool → ℕ → List Task → Player
 after_task flowed seen [] = record { rest = []; seen = seen }
-after_task flowed seen (t ∷ ts) = cond (flowed || runs_out t seen) (record { rest = ts; seen = 0 }) (record { rest = t ∷ ts; seen = one_more_seen seen })
+after_task flowed seen (t ∷ ts) = cond (flowed || runs_out t seen) (record { rest = ts; seen = 0 }) (record { rest = t ∷ ts; seen = one_more_seen t seen })
 
 abbrev pub after : Bool → Player → Player
 after flowed p = after_task flowed p.seen p.rest

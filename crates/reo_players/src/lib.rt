@@ -3,8 +3,10 @@
 #![tactic(auto)]
 
 mod counter;
+mod latest;
 mod laws;
 mod live;
+mod marks;
 mod player;
 mod players;
 mod step;

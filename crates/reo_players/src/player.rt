@@ -1,10 +1,12 @@
 //! One component in a run.
-ghost use Rattle.std.specs.Prelude.{◌≡◌, ◌+◌, ◌==◌, IfOk, length, drop, MatchOption, None, IsSome, false, option_and_then};
+ghost use Rattle.std.specs.Prelude.{◌≡◌, ◌+◌, ◌-◌, ◌^◌, ◌==◌, min, cond, IfOk, length, drop, MatchOption, None, IsSome, is_some, false, option_and_then};
 ghost use Rattle.std.specs.Option.{option_map_or};
 ghost use Rattle.reo_players.specs.Counters.{rest_left, StandsUntil, task_of};
 ghost use Rattle.reo_players.specs.Players.{after, step_of, beginning_of, present, is_done as is_done_of, counts, bound_of, port_of as port_of_task, first_bound, first_port};
+ghost use Rattle.reo_players.specs.Idle.{is_idle as is_idle_of};
 
 use crate::counter::{Counter, levels, pass, stand_at, standing};
+use crate::latest::ports_of;
 use crate::live::live_of;
 use crate::step::Step;
 use reo_scripts::{Action, Component};
@@ -13,7 +15,8 @@ use std::alloc::Global;
 use std::marker::Model;
 
 /// A component in a run: its actions, where its counters stand in them, and of its present action
-/// how many rounds it has seen, how many it may see, and the port that it names.
+/// how many rounds it has seen, how many it may see, and the port that it names. Rounds are counted
+/// where it has a bound; without one, `seen` is 0 or 1.
 #[derive(Drop)]
 pub struct Player {
     actions: List<Action>,
@@ -93,7 +96,8 @@ impl Player {
         self.port
     }
 
-    /// How many rounds its present action has seen, counted up to the greatest number of 32 bits.
+    /// How many rounds its present action has seen: with a bound, counted up to the greatest number
+    /// of 32 bits; without one, 1 for any.
     pub fn seen(&self) -> u32
         ensures { result ≡ self.now.seen }
     {
@@ -105,6 +109,26 @@ impl Player {
         ensures { result ≡ counts self.now }
     {
         self.bound.is_some()
+    }
+
+    /// Whether nothing is to be done to it: it is done, or a round has seen its present action,
+    /// and that has no bound.
+    pub fn is_idle(&self) -> bool
+        ensures { result ≡ is_idle_of self.now }
+    {
+        self.done || (self.bound.is_none() && self.seen == 1)
+    }
+
+    /// One more than the greatest port that its actions name, or 0 if they name none.
+    pub fn ports(&self) -> usize {
+        ports_of(self.actions.as_slice())
+    }
+
+    /// Lets it be as if no round had seen its present action.
+    pub fn rouse(&mut self)
+        ensures { self.new ≡ record self.old { seen = 0 } }
+    {
+        self.seen = 0;
     }
 
     /// One round has passed, in which its offer flowed, or did not.
@@ -120,7 +144,7 @@ impl Player {
             return Step::Moved;
         }
         if !runs_out(self.bound, self.seen) {
-            self.seen = self.seen.saturating_add(1);
+            self.seen = one_more(self.bound, self.seen);
             return Step::Stays;
         }
         let port = self.port;
@@ -195,6 +219,17 @@ fn runs_out(bound: Option<u32>, seen: u32) -> bool
     match bound {
         Some(most) => seen < most && most - seen == 1,
         None => false,
+    }
+}
+
+/// How many rounds an action with this bound has seen after one more.
+fn one_more(bound: Option<u32>, seen: u32) -> u32
+    ensures { result ≡ cond (is_some bound) (min (seen + 1) (2 ^ 32 - 1)) 1 }
+{
+    if bound.is_some() {
+        seen.saturating_add(1)
+    } else {
+        1
     }
 }
 

@@ -25,5 +25,5 @@ returns-then-not-runs_out-clause-player c =
     let rest : List Task = rest_left p.done p.actions p.counters.items in
     let has = present_task p.done p.actions p.counters.items c.self.invariant.2 c.if-self.false in
     let on : c.runs_out.result ≡ false = search rules in
-    rw (← c.self.view_is) (ap (λ (n : ℕ). record { rest = rest; seen = n }) c.saturating_add-self-inside.ensures
+    rw (← c.self.view_is) (ap (λ (n : ℕ). record { rest = rest; seen = n }) c.one_more-self-inside.ensures
     ∙ sym (stays rest has c.args.flowed p.seen p.bound c.self.invariant.3 c.if-flowed.false (sym c.runs_out.ensures ∙ on)))

@@ -1,0 +1,48 @@
+-- Components to which nothing is to be done.
+use Rattle.std.specs.Prelude.{ℕ, ◌≡◌, ◌≢◌, ◌⊎◌, ◌<◌, ◌≤◌, ◌==◌, ◌&&◌, ◌||◌, min, not, Bool, true, false, List, length, map, Option, Some, MatchOption, option_and_then}
+use Rattle.reo_players.specs.declared.marks.Mark.{Mark}
+use Rattle.reo_players.specs.declared.marks.Marks.{Marks}
+use Rattle.reo_players.specs.Players.{Player, player_of, present, port_of, is_done, counts}
+
+-- It is done, or a round has seen its present action, and that has no bound: it offers nothing new, and a round in which its offer does not flow leaves it as it is.
+abbrev pub is_idle : Player → Bool
+is_idle p = is_done p || (not (counts p) && (p.seen == 1))
+
+-- What is marked: which components are not idle, which count, and which are not done.
+abbrev pub is_awake : Player → Bool
+is_awake p = not (is_idle p)
+
+abbrev pub is_left : Player → Bool
+is_left p = not (is_done p)
+
+abbrev pub mark_of : Player → Mark
+mark_of p = record { awake = is_awake p; counting = counts p; left = is_left p }
+
+abbrev pub marks_of : List Player → Marks
+marks_of ps = record { awake = map is_awake ps; counting = map counts ps; left = map is_left ps }
+
+-- The place is the least from another on whose component is not idle, or the number of components if there is none.
+pub record IsNextAwake (players : List Player) (from place : ℕ) : Type 0 where
+  pub from_on : min from (length players) ≤ place
+  pub in_range : place ≤ length players
+  pub idle_before : (i : ℕ) → from ≤ i → i < place → is_idle (player_of players i) ≡ true
+  pub here : place < length players → is_idle (player_of players place) ≡ false
+
+-- A component whose present action names the port; none only where none does.
+pub record NamesPort (players : List Player) (port component : ℕ) : Type 0 where
+  pub there : component < length players
+  pub named : option_and_then port_of (present (player_of players component)) ≡ Some port
+
+abbrev pub IsNamer : List Player → ℕ → Option ℕ → Type 0
+IsNamer players port found = MatchOption found ((i : ℕ) → NamesPort players port i → ⊥) (NamesPort players port)
+
+-- One player is as if no round had seen its present action, and the others stand as they stood.
+pub record IsRoused (component : ℕ) (old new : List Player) : Type 0 where
+  pub count : length new ≡ length old
+  pub rest : (player_of new component).rest ≡ (player_of old component).rest
+  pub seen : (player_of new component).seen ≡ 0
+  pub others : (i : ℕ) → i ≢ component → player_of new i ≡ player_of old i
+
+-- One whose present action names the port, or none where none does.
+abbrev pub HasRoused : ℕ → List Player → List Player → Type 0
+HasRoused port old new = (((i : ℕ) → NamesPort old port i → ⊥) × (new ≡ old)) ⊎ ((i : ℕ) × NamesPort old port i × IsRoused i old new)

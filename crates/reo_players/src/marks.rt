@@ -1,0 +1,89 @@
+//! Which components are awake, which count, and which are not done.
+ghost use Rattle.std.specs.Prelude.{◌≡◌, ◌<◌, false, true, IfOk, length, replicate, set};
+ghost use Rattle.reo_players.specs.Idle.{mark_of, marks_of as marks_of_all};
+
+use crate::player::Player;
+use reo_flags::Flags;
+use reo_values::NoMemory;
+use std::alloc::Global;
+
+/// Of one component, whether it is not idle, whether it counts, and whether it is not done.
+#[derive(Clone, Copy)]
+pub struct Mark {
+    pub awake: bool,
+    pub counting: bool,
+    pub left: bool,
+}
+
+impl Mark {
+    /// The mark of a component.
+    pub fn of(player: &Player) -> Mark
+        ensures { result ≡ mark_of player.now }
+    {
+        Mark {
+            awake: !player.is_idle(),
+            counting: player.counts(),
+            left: !player.is_done(),
+        }
+    }
+
+    /// Whether it is the same mark.
+    pub fn is(self, other: Mark) -> bool
+        ensures awake { result ≡ true → self.awake ≡ other.awake }
+        ensures counting { result ≡ true → self.counting ≡ other.counting }
+        ensures left { result ≡ true → self.left ≡ other.left }
+    {
+        self.awake == other.awake && self.counting == other.counting && self.left == other.left
+    }
+}
+
+/// Of each component, whether it is not idle, whether it counts, and whether it is not done.
+#[derive(Drop)]
+pub struct Marks {
+    pub awake: Flags,
+    pub counting: Flags,
+    pub left: Flags,
+}
+
+impl Marks {
+    /// Marks a component so.
+    pub fn put(&mut self, component: usize, mark: Mark)
+        requires awake { component < length self.old.awake }
+        requires counting { component < length self.old.counting }
+        requires left { component < length self.old.left }
+        ensures awake { self.new.awake ≡ set self.old.awake component mark.awake }
+        ensures counting { self.new.counting ≡ set self.old.counting component mark.counting }
+        ensures left { self.new.left ≡ set self.old.left component mark.left }
+    {
+        self.awake.put(component, mark.awake);
+        self.counting.put(component, mark.counting);
+        self.left.put(component, mark.left);
+    }
+}
+
+/// Marks of so many components, none of which is marked. `NoMemory` is out of memory.
+fn no_marks(alloc: Global, count: usize) -> Result<Marks, NoMemory>
+    ensures awake { IfOk result (λ made. made.awake ≡ replicate count false) }
+    ensures counting { IfOk result (λ made. made.counting ≡ replicate count false) }
+    ensures left { IfOk result (λ made. made.left ≡ replicate count false) }
+{
+    let awake = Flags::new(alloc, count, false)?;
+    let counting = Flags::new(alloc, count, false)?;
+    let left = Flags::new(alloc, count, false)?;
+    Ok(Marks {
+        awake,
+        counting,
+        left,
+    })
+}
+
+/// The marks of components. `NoMemory` is out of memory.
+pub fn marks_of(alloc: Global, players: &[Player]) -> Result<Marks, NoMemory>
+    ensures { IfOk result (λ made. made ≡ marks_of_all players.now) }
+{
+    let mut marks = no_marks(alloc, players.len())?;
+    for component in 0..players.len() {
+        marks.put(component, Mark::of(&players[component]));
+    }
+    Ok(marks)
+}
