@@ -1,6 +1,0 @@
--- No item has this text.
-use Rattle.std.proofs.Common.{refl, rules}
-use Rattle.reo_c.proofs.session.Session.write.Goals as goal
-
-pub returns-in-Err-NoItem : goal.returns-in-Err-NoItem
-returns-in-Err-NoItem c = (c.in-Err-NoItem.ensures.none (search rules), refl)

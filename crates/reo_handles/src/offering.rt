@@ -1,0 +1,93 @@
+//! Offers at ports.
+ghost use Rattle.reo_net_base.specs.declared.port.Offer.TheVariants.{Take as ToTake};
+ghost use Rattle.reo_handles.specs.Offers.{Offers, Withdraws, Writes};
+ghost use Rattle.reo_handles.specs.Statuses.{AtOpen};
+
+use crate::handle::{Handle, put, taken};
+use crate::session::Session;
+use crate::status::Status;
+use reo_connector::ItemFault;
+use reo_net_base::Offer;
+use reo_rounds::OfferFault;
+use std::alloc::Global;
+
+impl Session {
+    /// Makes an offer pending at a port.
+    fn offer(&mut self, port: usize, offer: Offer) -> Status
+        ensures { Offers port offer self.old self.new result }
+    {
+        match self.connector.offer(port, offer) {
+            Ok(()) => Status::Done,
+            Err(declined) => match declined.cause {
+                OfferFault::NoPort => Status::NoPort,
+                OfferFault::WrongWay => Status::WrongWay,
+                OfferFault::Pending => Status::Pending,
+                OfferFault::ItemOutside => Status::Outside,
+            },
+        }
+    }
+
+    /// Offers to write the item of a text.
+    fn write(&mut self, alloc: Global, port: usize, text: &[u8]) -> Status
+        ensures { Writes port text.now self.old self.new result }
+    {
+        match self.connector.item(alloc, port, text) {
+            Ok(item) => self.offer(port, Offer::Write(item)),
+            Err(ItemFault::NoItem) => Status::NoItem,
+            Err(ItemFault::NoMemory) => Status::NoMemory,
+        }
+    }
+
+    /// Takes an offer back.
+    fn withdraw(&mut self, port: usize) -> Status
+        ensures { Withdraws port self.old self.new result }
+    {
+        if self.connector.withdraw(port) {
+            Status::Done
+        } else {
+            Status::NotPending
+        }
+    }
+}
+
+/// Offers to write at a port the item of its type that has this text. `NoItem`: there is none, or
+/// no such port; `WrongWay`, `Pending`, `Outside`: the port does not take the offer. Nothing
+/// changes then.
+pub fn write_open(alloc: Global, handle: &mut Handle, port: usize, text: &[u8]) -> Status
+    ensures { AtOpen (Writes port text.now)
+        handle.old.place.session handle.new.place.session result }
+{
+    let Some(mut session) = taken(alloc, handle) else {
+        return Status::Closed;
+    };
+    let status = session.write(alloc, port, text);
+    put(handle, session);
+    status
+}
+
+/// Offers to take an item at a port. `NoPort`, `WrongWay`, `Pending`: it does not take the offer,
+/// and nothing changes.
+pub fn take_open(alloc: Global, handle: &mut Handle, port: usize) -> Status
+    ensures { AtOpen (Offers port ToTake)
+        handle.old.place.session handle.new.place.session result }
+{
+    let Some(mut session) = taken(alloc, handle) else {
+        return Status::Closed;
+    };
+    let status = session.offer(port, Offer::Take);
+    put(handle, session);
+    status
+}
+
+/// Takes the offer at a port back. `NotPending`: there is none.
+pub fn withdraw_open(alloc: Global, handle: &mut Handle, port: usize) -> Status
+    ensures { AtOpen (Withdraws port)
+        handle.old.place.session handle.new.place.session result }
+{
+    let Some(mut session) = taken(alloc, handle) else {
+        return Status::Closed;
+    };
+    let status = session.withdraw(port);
+    put(handle, session);
+    status
+}

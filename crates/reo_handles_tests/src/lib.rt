@@ -1,0 +1,5 @@
+//! Connectors behind handles, call by call: tests alone.
+#![tactic(auto)]
+
+#[cfg(test)]
+mod calls;
