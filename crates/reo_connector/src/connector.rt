@@ -88,4 +88,10 @@ impl Connector {
     {
         let _ = &self.ports;
     }
+
+    /// Lets it go, and gives its memory back. How its parts go is proved with this call, and not
+    /// again in a crate that lets connectors go by it.
+    pub fn close(self) {
+        drop(self);
+    }
 }

@@ -32,8 +32,8 @@ impl Connector {
     ///
     /// # Errors
     ///
-    /// `NoItem`: exactly where no item of the type has this text, or there is no port of the number.
-    /// `NoMemory` is out of memory.
+    /// `NoItem`: exactly where no item of the type has this text, or there is no port of the
+    /// number. `NoMemory` is out of memory.
     pub fn item(&self, alloc: Global, port: usize, text: &[u8]) -> Result<Value, ItemFault>
         ensures found { IfOk result (HasText self.now port text.now) }
         ensures none { IsErrOf result ItemFault.NoItem

@@ -10,7 +10,8 @@ use reo_net_base::Offer;
 use reo_rounds::Declined;
 
 impl Connector {
-    /// Makes an offer pending at a port: to write an item there, or to take one. It takes no memory.
+    /// Makes an offer pending at a port: to write an item there, or to take one. It takes no
+    /// memory.
     ///
     /// # Errors
     ///

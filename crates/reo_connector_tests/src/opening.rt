@@ -15,20 +15,34 @@ pub enum Want<'a> {
     TooLong,
 }
 
-/// Whether a text that was opened comes to this.
-fn comes_to(alloc: Global, opened: &mut Result<Connector, Stop>, want: Want<'_>) -> bool {
-    match (opened, want) {
-        (Ok(held), Want::Acts(acts)) => held.rounds() == 0 && are_right(alloc, held, acts),
-        (Err(Stop::Refused(Role::Circuit, refusal)), Want::Refused(line, words)) => {
+/// Whether a connector that was opened acts so.
+fn acts(alloc: Global, held: &mut Connector, want: Want<'_>) -> bool {
+    match want {
+        Want::Acts(acts) => held.rounds() == 0 && are_right(alloc, held, acts),
+        _ => false,
+    }
+}
+
+/// Whether a text that was not opened is refused so.
+fn is_refused(stop: &Stop, want: Want<'_>) -> bool {
+    match (stop, want) {
+        (Stop::Refused(Role::Circuit, refusal), Want::Refused(line, words)) => {
             refusal.line == line && refusal.words.as_slice() == words
         }
-        (Err(Stop::TooLong(Role::Circuit)), Want::TooLong) => true,
+        (Stop::TooLong(Role::Circuit), Want::TooLong) => true,
         _ => false,
     }
 }
 
 /// Whether a text comes to this.
 pub fn is_so(alloc: Global, text: &[u8], want: Want<'_>) -> bool {
-    let mut opened = Connector::open(alloc, text);
-    comes_to(alloc, &mut opened, want)
+    match Connector::open(alloc, text) {
+        Ok(held) => {
+            let mut held = held;
+            let answer = acts(alloc, &mut held, want);
+            held.close();
+            answer
+        }
+        Err(stop) => is_refused(&stop, want),
+    }
 }

@@ -101,7 +101,12 @@ fn run(rt: &HostRuntime, held: &mut Connector) -> io::Result<()> {
 
 fn main(rt: HostRuntime) -> io::Result<()> {
     match Connector::open(rt.alloc(), ROUTER) {
-        Ok(mut held) => run(&rt, &mut held),
+        Ok(held) => {
+            let mut held = held;
+            let ended = run(&rt, &mut held);
+            held.close();
+            ended
+        }
         Err(_) => println!(rt; "the circuit is refused"),
     }
 }

@@ -150,9 +150,9 @@ impl<P: Ported> Live<P> {
     pub fn finish<S: Sink>(&mut self, alloc: Global, out: &mut S) -> Result<(), LiveFault>
         requires unspent { self.old.live.stand.over ≡ false }
         requires few { self.old.live.stand.lines < 2 ^ 63 - 1 }
-        ensures finished { let r = rules_of P.behaviour P.settled P.port_state P.placed P.withdrawn in
-            IsFinished self.old.ports (S.told out.old) (S.told out.new) r self.old.budget
-            self.old.live result }
+        ensures finished { let old = self.old in
+            let r = rules_of P.behaviour P.settled P.port_state P.placed P.withdrawn in
+            IsFinished old.ports (S.told out.old) (S.told out.new) r old.budget old.live result }
         ensures spent { self.new.live.stand.over ≡ true }
         ensures ports { self.new.ports ≡ self.old.ports }
         ensures budget { self.new.budget ≡ self.old.budget }
@@ -172,5 +172,11 @@ impl<P: Ported> Live<P> {
             &self.line,
             out,
         )
+    }
+
+    /// Lets it go, and gives its memory back. How its parts go is proved with this call, and not
+    /// again in a crate that lets it go by it.
+    pub fn release(self) {
+        drop(self);
     }
 }

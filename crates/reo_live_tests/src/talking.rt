@@ -81,7 +81,9 @@ pub fn fed<S: Sink>(
         return None;
     }
     let mut live = live_of(alloc, talk.circuit, talk.budget)?;
-    Some(feed_cut(alloc, &mut live, bytes, cut, out))
+    let came = feed_cut(alloc, &mut live, bytes, cut, out);
+    live.release();
+    Some(came)
 }
 
 /// What a circuit that hears a source comes to.
@@ -92,5 +94,7 @@ pub fn heard<R: Source, S: Sink>(
     out: &mut S,
 ) -> Option<Heard> {
     let mut live = live_of(alloc, talk.circuit, talk.budget)?;
-    Some(hear(alloc, &mut live, source, out))
+    let came = hear(alloc, &mut live, source, out);
+    live.release();
+    Some(came)
 }

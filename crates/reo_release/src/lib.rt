@@ -13,6 +13,11 @@ pub fn release_run<P: Ported>(engine: Engine<P>, players: Players) {
     drop(players);
 }
 
+/// Lets an engine go.
+pub fn release_engine<P: Ported>(engine: Engine<P>) {
+    drop(engine);
+}
+
 /// Lets a circuit go of which no engine was made.
 pub fn release_circuit<P: Ported>(circuit: Circuit<P>) {
     drop(circuit);

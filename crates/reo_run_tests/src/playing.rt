@@ -8,6 +8,7 @@ use reo_checker::{Wrong, check};
 use reo_engine::{Done, Engine, OfferFault, Plan};
 use reo_kinds::Kind;
 use reo_net_base::Move;
+use reo_release::release_engine;
 use reo_steps::Steps;
 use std::alloc::Global;
 use std::marker::Brand;
@@ -38,7 +39,6 @@ pub enum Act {
 }
 
 /// An engine, and the plan that is kept.
-#[derive(Drop)]
 struct Play {
     engine: Engine<Kind>,
     kept: Option<Plan>,
@@ -186,7 +186,11 @@ fn plays<L: Ledger>(alloc: Global, text: &[u8], acts: &[Act], blank: Blank) -> b
     match engine_of(alloc, text) {
         Some(engine) => {
             let mut play = Play { engine, kept: None };
-            play.engine.rounds() == 0 && are_right(alloc, &mut play, &mut steps, acts)
+            let right = play.engine.rounds() == 0 && are_right(alloc, &mut play, &mut steps, acts);
+            let Play { engine, kept } = play;
+            release_engine(engine);
+            drop(kept);
+            right
         }
         None => false,
     }

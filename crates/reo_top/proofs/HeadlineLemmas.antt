@@ -1,7 +1,8 @@
 -- For an accepted circuit and script the trace of the run was written.
-use Rattle.std.proofs.Common.{◌≡◌, ◌∙◌, inl, inr, ℕ, ◌≤◌, ◌<◌, ◌^◌, Bool, true, false, cond, List, [], ◌∷◌, ◌++◌, length, sym, subst, ap, refl, arith}
+use Rattle.std.proofs.Common.{◌≡◌, ◌∙◌, inl, inr, ℕ, ◌≤◌, ◌<◌, ◌^◌, Bool, true, false, cond, List, [], ◌∷◌, length, sym, subst, ap, refl, arith}
 use Rattle.std.proofs.lemmas.Bool.{leb-true}
 use Rattle.std.specs.Prelude.{Option, Some, None, IfSome, nat_le}
+use Rattle.reo_values.proofs.Sequences.{append_same}
 use Rattle.reo_net_base.specs.Net.{net_of}
 use Rattle.reo_net_base.specs.Wired.{IsWired}
 use Rattle.reo_net_circuit.proofs.ReshapeLemmas.{lawful_at}
@@ -169,11 +170,6 @@ module _ (limits : Limits) (justified : RunsAreJustified kind_rules) (r : Runnab
   traced (inr (inl broke)) = absurd (fine (inr (inl broke.code_is)))
   traced (inr (inr ran_out)) = absurd (fine (inr (inr ran_out.code_is)))
 
--- Where the fetches gave two texts, these are their answers.
-same_list : {A : Type 0} (xs ys zs : List A) → xs ++ ys ≡ xs ++ zs → ys ≡ zs
-same_list [] ys zs e = e
-same_list (x ∷ xs) ys zs e = same_list xs ys zs (cc)
-
 at_most_one : (n : List ℕ) (cs : List Content) (p q : List ℕ × List ℕ) → texts_given (n ∷ []) cs ≡ p ∷ q ∷ [] → ⊥
 at_most_one n [] p q e = cc
 at_most_one n (gone ∷ cs) p q e = cc
@@ -228,7 +224,7 @@ module _ (justified : RunsAreJustified kind_rules) (made : CircuitsAreMade) (pla
   given_as r a fine =
       let run : IsAnswered (is_free Run) (owed_of Run words h.events) (roles_of Run) (a.circuit.0 ∷ a.script.0 ∷ []) files sink code = answered_with words files source sink code Run (a.circuit.0 ∷ a.script.0 ∷ []) a.run a.names h in
       let are : run.answers ≡ text a.circuit.1 ∷ text a.script.1 ∷ [] =
-      both_given a.circuit.0 a.script.0 run.answers a.circuit a.script run.fetched.few (same_list files.old.given (texts_given (a.circuit.0 ∷ a.script.0 ∷ []) run.answers) (a.circuit ∷ a.script ∷ []) (sym run.fetched.given ∙ a.given)) in
+      both_given a.circuit.0 a.script.0 run.answers a.circuit a.script run.fetched.few (append_same files.old.given (texts_given (a.circuit.0 ∷ a.script.0 ∷ []) run.answers) (a.circuit ∷ a.script ∷ []) (sym run.fetched.given ∙ a.given)) in
       let short : AreShort (text a.circuit.1 ∷ text a.script.1 ∷ []) = subst (λ (cs : List Content). AreShort cs) are run.fetched.short in
       let reads : ReadsRun run.answers r = subst (λ (cs : List Content). ReadsRun cs r) (sym are) a.reads in
       traced (limits_of words) justified r (wired made plain a.circuit.1 r.flat short.0 a.reads.0) sink code fine run.answers (λ stop stops. absurd (run_reading.apart run.answers r stop reads stops)) (λ x other. reads) run.cases

@@ -1,6 +1,7 @@
 -- From the words to the command that they are, and to what it has come to.
 use Rattle.std.proofs.Common.{◌≡◌, inl, inr, ℕ, true, false, List, [], ◌∷◌, sym, subst, refl, arith}
 use Rattle.std.specs.Prelude.{◌≢◌, ◌&&◌, Option, Some, None, IfSome, codes}
+use Rattle.reo_values.proofs.Truths.{no_both}
 use Rattle.reo_runner.specs.declared.outcome.Limits.{Limits}
 use Rattle.reo_command.specs.declared.command.Command.{Command}
 use Rattle.reo_command.specs.declared.command.Command.TheVariants.{Run, Bench, Live}
@@ -22,7 +23,7 @@ use Rattle.reo_command.specs.Readings.{ReadsRun, StopsRun, ReadsCircuit, StopsCh
 use Rattle.reo_command.specs.States.{SinkState, FilesState, Change}
 use Rattle.reo_command.specs.Statuses.{IsAmong, statuses_of, statuses_for}
 use Rattle.reo_command.proofs.FetchLemmas.{none_fetched}
-use Rattle.reo_top_base.proofs.CaseLemmas.{line_cases, line_written, line_code, line_not_three, true_is_false}
+use Rattle.reo_top_base.proofs.CaseLemmas.{line_cases, line_written, line_code, line_not_three}
 
 pub told_always : {X : Type 0} (o : Option X) (B : X → Type 0) → ((x : X) → B x) → IfSome o B
 told_always None B f = tt
@@ -81,7 +82,7 @@ module _ (words : List (List ℕ)) (files : Change FilesState) (source : SourceC
     fetched = none_fetched names files same;
     cases = cases;
     exact = exact;
-    blames = record { only = λ three. absurd (other three); told = λ gone. absurd (true_is_false false gone refl) };
+    blames = record { only = λ three. absurd (other three); told = λ gone. absurd (no_both false gone refl) };
   }
 
   -- And one line is owed.
@@ -93,7 +94,7 @@ module _ (words : List (List ℕ)) (files : Change FilesState) (source : SourceC
 
   -- Made work is measured.
   not_three : IsAmong (statuses_of Bench) code → code ≢ 3
-  not_three among three = true_is_false false (subst (λ (k : ℕ). IsAmong (statuses_of Bench) k) three among) refl
+  not_three among three = no_both false (subst (λ (k : ℕ). IsAmong (statuses_of Bench) k) three among) refl
 
   pub bench_answered : (events : Events) → AreTaken events source → TakesFew source code → (size : ℕ) → command_of words ≡ Some Bench → size ≡ size_of words → Cases (MeasuresMade size) sink code → IsExact (MeasuresMade size) sink code → IsAmong (statuses_of Bench) code → files.new ≡ files.old
       → Answered words files source sink code
@@ -112,4 +113,4 @@ module _ (words : List (List ℕ)) (files : Change FilesState) (source : SourceC
 
 -- Hearing takes events.
 pub live_takes : (o : Option Command) → o ≡ Some Live → takes_for o ≡ false → ⊥
-live_takes o is none = true_is_false (takes_for o) (subst (λ (p : Option Command). takes_for p ≡ true) (sym is) refl) none
+live_takes o is none = no_both (takes_for o) (subst (λ (p : Option Command). takes_for p ≡ true) (sym is) refl) none

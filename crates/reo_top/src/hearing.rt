@@ -63,6 +63,7 @@ fn hear_source<R: Source, S: Sink>(
         return no_memory(out);
     };
     let heard = hear(alloc, &mut live, source, out);
+    live.release();
     close(heard, out)
 }
 

@@ -1,25 +1,22 @@
 -- Sets within their bounds are what a search asks for.
-use Rattle.std.proofs.Common.{◌≡◌, ◌⊎◌, inl, inr, ℕ, ◌<◌, Bool, true, false, ◌||◌, List, [], ◌∷◌, ◌++◌, length, get_or, refl, sym, ◌∙◌, subst, arith}
+use Rattle.std.proofs.Common.{◌≡◌, inl, inr, ℕ, ◌<◌, true, false, List, [], ◌∷◌, ◌++◌, length, get_or, sym, ◌∙◌, subst, arith}
 use Rattle.std.specs.Prelude.{nat_lt}
 use Rattle.std.specs.Bool.{◌==◌}
 use Rattle.std.proofs.lemmas.Bool.{and_parts}
 use Rattle.std.proofs.lemmas.List.{get_or_default}
+use Rattle.reo_values.proofs.Naturals.{eq_same}
+use Rattle.reo_values.proofs.Truths.{either}
 use Rattle.reo_net_base.specs.declared.joint.Joint.{Joint}
 use Rattle.reo_net_base.specs.Net.{Net, side_at}
 use Rattle.reo_knots.specs.Knots.{Knotted, AreKnots, IsLoopOf, in_knot, knot_count}
 use Rattle.reo_joint_values.specs.declared.value.JointValue.{JointValue}
 use Rattle.reo_joint_values.specs.Values.{value_eq, no_joint, giver_side}
 use Rattle.reo_support.specs.Sets.{OneAtLoops}
-use Rattle.reo_joint_values.proofs.Equal.{eq_same}
 use Rattle.reo_joint_values.proofs.Narrowing.{same_value}
 use Rattle.reo_rows.specs.Sets.{code_of}
 use Rattle.reo_propagate.specs.ListedSets.{in_set, listed}
 use Rattle.reo_propagate.proofs.Listed.{set_more}
 use Rattle.reo_yardstick.specs.Bounds.{AreBelow, AreSingle}
-
-either : (a b : Bool) → (a || b) ≡ true → (a ≡ true) ⊎ (b ≡ true)
-either true b h = inl refl
-either false b h = inr h
 
 -- A value more is below the bound.
 pub below_more : (values : List JointValue) (w : JointValue) (bound : ℕ) → AreBelow values bound → code_of w < bound

@@ -22,6 +22,7 @@ use crate::rounds::rounds_agree;
 use crate::tally::{Tally, count, empty_tally};
 use crate::texts::text_of;
 use reo_engine::PlanFault;
+use reo_release::release_engine;
 use reo_steps::Steps;
 use std::alloc::Global;
 use std::io::{self, ErrorKind};
@@ -40,7 +41,9 @@ fn agree_on<L: Ledger>(
         Some(engine) => {
             let mut engine = engine;
             count(&mut tally.circuits, true);
-            rounds_agree(alloc, &mut engine, steps, chance, tally)
+            let agreed = rounds_agree(alloc, &mut engine, steps, chance, tally);
+            release_engine(engine);
+            agreed
         }
         None => {
             count(&mut tally.refused, true);
