@@ -5,7 +5,7 @@ use Rattle.std.specs.Fmt.{decimal}
 use Rattle.std.specs.List.{All, flat_map, range_with_len}
 use Rattle.std.proofs.lemmas.Bool.{eqb-false, ne_eqb}
 use Rattle.std.proofs.lemmas.List.{get_or-drop, length-append}
-use Rattle.std.proofs.lemmas.List.FromFn.{get_or-map-range_with_len, length-map-range_with_len}
+use Rattle.std.proofs.lemmas.List.FromFn.{get_or-map-range_with_len}
 use Rattle.std.proofs.lemmas.List.Elements.{All-append, All-from_get_or, All-get_or, All-nil}
 use Rattle.reo_net_base.specs.declared.joint.Joint.{Joint}
 use Rattle.reo_net_base.specs.declared.colouring.Chosen.{Chosen}
@@ -13,6 +13,7 @@ use Rattle.reo_net_base.specs.Behaviour.{Behaviour}
 use Rattle.reo_net_base.specs.Colouring.{AreRows}
 use Rattle.reo_net_base.specs.Net.{Net, Side, all_sides, behaviour_at, first_side, no_side, row_count, sides_of}
 use Rattle.reo_net_base.specs.Wired.{IsWired}
+use Rattle.reo_net_circuit.proofs.ReshapeLemmas.{side_count}
 use Rattle.reo_trace.specs.declared.line.Cell.TheVariants.{Row, Jam}
 use Rattle.reo_trace.specs.declared.line.Entry.{Entry}
 use Rattle.reo_trace.specs.declared.line.Entry.TheVariants.{One, Two}
@@ -37,9 +38,6 @@ abbrev by_list : List Behaviour → List ℕ → List Entry
 by_list [] rows = []
 by_list (b ∷ bs) rows = entry_of b (chosen_first b rows) ∷ by_list bs (drop b.sides rows)
 
-side_number : (b : Behaviour) → length (sides_of b) ≡ b.sides
-side_number b = length-map-range_with_len {X = Side} (λ k. record { of = b; number = k }) 0 b.sides
-
 entry-first : (b : Behaviour) (bs : List Behaviour) (js : List Joint) (rows : List ℕ) → entry_at (record { primitives = b ∷ bs; joints = js }) rows 0 ≡ entry_of b (chosen_first b rows)
 unfolding entry_at
 entry-first b bs js rows = refl
@@ -48,7 +46,7 @@ entry-later : (b : Behaviour) (bs : List Behaviour) (js : List Joint) (rows : Li
     → entry_at (record { primitives = b ∷ bs; joints = js }) rows (suc i) ≡ entry_at (record { primitives = bs; joints = js }) (drop b.sides rows) i
 unfolding entry_at
 entry-later b bs js rows i =
-    let at : first_side (b ∷ bs) (suc i) ≡ b.sides + first_side bs i = length-append (sides_of b) (flat_map sides_of (take i bs)) ∙ ap (λ n. n + first_side bs i) (side_number b) in
+    let at : first_side (b ∷ bs) (suc i) ≡ b.sides + first_side bs i = length-append (sides_of b) (flat_map sides_of (take i bs)) ∙ ap (λ n. n + first_side bs i) (side_count b) in
     let one : get_or rows (first_side (b ∷ bs) (suc i)) 0 ≡ get_or (drop b.sides rows) (first_side bs i) 0 = ap (λ n. get_or rows n 0) at ∙ sym (get_or-drop b.sides rows (first_side bs i) 0) in
     let next : first_side (b ∷ bs) (suc i) + 1 ≡ b.sides + (first_side bs i + 1) = omega (arith, at) in
     let two : get_or rows (first_side (b ∷ bs) (suc i) + 1) 0 ≡ get_or (drop b.sides rows) (first_side bs i + 1) 0 = ap (λ n. get_or rows n 0) next ∙ sym (get_or-drop b.sides rows (first_side bs i + 1) 0) in
@@ -184,7 +182,7 @@ few_rows : (bs : List Behaviour) → ((i : ℕ) → i < length bs → (s : ℕ) 
 few_rows [] each = All-nil HasFewRows
 few_rows (b ∷ bs) each =
     let own : (k : ℕ) → k < length (sides_of b) → HasFewRows (get_or (sides_of b) k no_side) = λ k lt.
-    let in_it : k < b.sides = omega (arith, side_number b) in
+    let in_it : k < b.sides = omega (arith, side_count b) in
     subst HasFewRows (sym (get_or-map-range_with_len {X = Side} (λ s. record { of = b; number = s }) 0 b.sides k k no_side in_it (omega arith))) (each zero (omega arith) k in_it) in
     All-append HasFewRows (sides_of b) (all_sides bs) (All-from_get_or HasFewRows (sides_of b) no_side own) (few_rows bs (λ i l. each (suc i) (omega arith)))
 
@@ -197,7 +195,7 @@ barred (b ∷ bs) rows false each none some = sym (spaced-led (entry_of b (chose
 barred (b ∷ bs) rows true each none some =
     let no = none refl in
     let one = each zero (omega arith) in
-    absurd (omega (arith, no, one, length-append (sides_of b) (all_sides bs), side_number b))
+    absurd (omega (arith, no, one, length-append (sides_of b) (all_sides bs), side_count b))
 
 -- What is written after the bar: a space where there is no side, and the cells.
 pub shown-entries : (net : Net) (rows cells : List ℕ) (empty : Bool) → IsWired net → AreRows (all_sides net.primitives) rows → length cells ≡ length (all_sides net.primitives)

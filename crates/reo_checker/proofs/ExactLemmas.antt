@@ -28,7 +28,7 @@ wrong_rows net rows (Joint j) h fit =
     absurd cc
 wrong_rows net rows (Item j) h fit = h
 
-fails_fits : (net : Net) (rows : List ℕ) (items : List (Option Value)) (j : JointEnds) (o : Option Value) → ItemFails net rows items j o → ItemFits net rows items j o → ⊥
+pub fails_fits : (net : Net) (rows : List ℕ) (items : List (Option Value)) (j : JointEnds) (o : Option Value) → ItemFails net rows items j o → ItemFits net rows items j o → ⊥
 fails_fits net rows items j None flows none = none flows
 fails_fits net rows items j (Some item) (inl dry) has = dry has.flows
 fails_fits net rows items j (Some item) (inr (inl other)) has = other has.given

@@ -9,6 +9,7 @@ use Rattle.std.proofs.lemmas.List.{get_or_append_left, get_or_default, get_or-ma
 use Rattle.std.proofs.lemmas.List.Elements.{filter-append}
 use Rattle.std.proofs.lemmas.List.Kept.{AllPairs-from_increasing}
 use Rattle.reo_values.specs.declared.value.Value.{Value}
+use Rattle.reo_values.proofs.Naturals.{range_more}
 use Rattle.reo_net_base.specs.Net.{Net}
 use Rattle.reo_knots.specs.Knots.{IsLoop, AreThose}
 use Rattle.reo_knots.proofs.GroupLemmas.{picked_those}
@@ -25,12 +26,6 @@ use Rattle.reo_rows.specs.Flags.{flag}
 use Rattle.reo_rows.specs.Sets.{code_of, value_of, family_of, names_of, IsReady}
 use Rattle.reo_rows.proofs.Codes.{code_value, value_code, flag_in}
 use Rattle.reo_choices.specs.Remaining.{AreLoopsIn, AllAreThere, IsLeftOfAll, HasOneAt, AreCodesAt, AreCodes, choices_of, CoverAll}
-
-range_more : (a n : ℕ) → range_with_len a (suc n) ≡ range_with_len a n ++ (a + n) ∷ []
-range_more a zero = ap (λ (x : ℕ). x ∷ []) (omega arith)
-range_more a (suc n) =
-    let shift : (a + 1) + n ≡ a + suc n = omega arith in
-    ap (λ (xs : List ℕ). a ∷ xs) (range_more (a + 1) n ∙ ap (λ (x : ℕ). range_with_len (a + 1) n ++ x ∷ []) shift)
 
 filter_more : (test : ℕ → Bool) (n : ℕ) → filter test (range_with_len 0 (n + 1)) ≡ filter test (range_with_len 0 n) ++ filter test (n ∷ [])
 filter_more test n =

@@ -1,9 +1,9 @@
 -- What began to be heard goes on to a closing.
-use Rattle.std.proofs.Common.{◌≡◌, ◌∙◌, inl, inr, ℕ, ◌≤◌, ◌<◌, Bool, true, false, cond, List, [], ◌∷◌, ◌++◌, length, take, sym, subst, ap, refl}
+use Rattle.std.proofs.Common.{◌≡◌, inl, inr, ℕ, ◌≤◌, Bool, true, false, cond, List, [], ◌∷◌, ◌++◌, length, take, sym, subst, refl}
 use Rattle.std.proofs.lemmas.List.{append-nil, append_assoc}
+use Rattle.reo_values.proofs.Naturals.{lt_cases}
 use Rattle.reo_net_base.specs.Net.{Wiring, net_of}
 use Rattle.reo_net_base.specs.declared.port.Port.{Port}
-use Rattle.reo_net_order.proofs.Cases.{lt_cases}
 use Rattle.reo_rounds.specs.Order.{HasOrder}
 use Rattle.reo_rounds.specs.Rules.{Rules}
 use Rattle.reo_rounds.proofs.OrderLemmas.{KeepsShape}

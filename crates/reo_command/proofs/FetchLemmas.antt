@@ -2,6 +2,7 @@
 use Rattle.std.proofs.Common.{◌≡◌, ◌∙◌, ℕ, ◌+◌, ◌≤◌, true, false, List, [], ◌∷◌, ◌++◌, length, sym, subst, ap, refl, append_assoc, arith}
 use Rattle.std.proofs.lemmas.List.{append-nil, length-append}
 use Rattle.std.specs.Prelude.{Option, Some, None, IfSome, Result, Ok, Err}
+use Rattle.reo_values.proofs.Sequences.{not_nil}
 use Rattle.reo_io.specs.Fetches.{Folder, fetches_after}
 use Rattle.reo_command.specs.declared.role.Role.{Role}
 use Rattle.reo_command.specs.declared.stop.Stop.{Stop}
@@ -172,9 +173,6 @@ module _ {W X : Type 0} (First : List Content → W → Type 0) (StopsFirst : Li
       read = reads next.answers next.read;
     }
 
-some_more : {A : Type 0} (x : A) (xs : List A) → x ∷ xs ≡ [] → ⊥
-some_more x xs e = cc
-
 no_gone : false ≡ true → ⊥
 no_gone e = cc
 
@@ -182,7 +180,7 @@ no_gone e = cc
 pub is_noted : (names : List (List ℕ)) (answers : List Content) → length answers ≤ length names → has_gone answers ≡ true → missed names answers ≡ [] → ⊥
 is_noted names [] few gone_is none = no_gone gone_is
 is_noted [] (c ∷ cs) few gone_is none = omega (arith, few)
-is_noted (n ∷ ns) (gone ∷ cs) few gone_is none = some_more n (missed ns cs) none
+is_noted (n ∷ ns) (gone ∷ cs) few gone_is none = not_nil n (missed ns cs) none
 is_noted (n ∷ ns) (long ∷ cs) few gone_is none = is_noted ns cs (omega (arith, few)) gone_is none
 is_noted (n ∷ ns) (text bytes ∷ cs) few gone_is none = is_noted ns cs (omega (arith, few)) gone_is none
 is_noted (n ∷ ns) (unknown ∷ cs) few gone_is none = is_noted ns cs (omega (arith, few)) gone_is none

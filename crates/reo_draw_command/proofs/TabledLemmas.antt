@@ -1,5 +1,5 @@
 -- The table of a trace, as what is owed.
-use Rattle.std.proofs.Common.{ℕ, List, refl, arith}
+use Rattle.std.proofs.Common.{ℕ, List, refl}
 use Rattle.std.specs.Prelude.{◌≢◌}
 use Rattle.reo_trace_texts.specs.declared.trace.Trace.{Trace}
 use Rattle.reo_verdicts.specs.declared.verdict.Verdict.{Verdict}
@@ -10,16 +10,13 @@ use Rattle.reo_top_base.proofs.ToldLemmas.{told_status, told_not_three}
 use Rattle.reo_top_verdicts.specs.Judged.{IsTraceJudged}
 use Rattle.reo_top_verdicts.specs.VerdictTexts.{verdict_status}
 use Rattle.reo_draw_rounds.specs.Tables.{table_text}
+use Rattle.reo_top_verdicts.proofs.VerdictLemmas.{not_three}
 use Rattle.reo_draw_command.specs.DrawStatuses.{statuses_of_table}
 use Rattle.reo_draw_command.specs.Tabled.{tabled_text, TablesTrace}
 
 status_in : (v : Verdict) → IsAmong statuses_of_table (verdict_status v)
 status_in (Verified rounds jammed) = refl
 status_in (Refused refusal) = refl
-
-not_three : (v : Verdict) → verdict_status v ≢ 3
-not_three (Verified rounds jammed) e = omega (arith, e)
-not_three (Refused refusal) e = omega (arith, e)
 
 module _ (c : Claimed Trace) where
   pub tabled_status : (bytes : List ℕ) (status : ℕ) → TablesTrace c bytes status → IsAmong statuses_of_table status

@@ -1,7 +1,8 @@
 -- Rounds that are drawn, one line after another.
-use Rattle.std.proofs.Common.{◌≡◌, ◌∙◌, ℕ, suc, ◌+◌, ◌<◌, ◌≤◌, Bool, true, false, cond, List, [], ◌∷◌, length, take, drop, refl, sym, ap, subst, arith}
+use Rattle.std.proofs.Common.{◌≡◌, ◌∙◌, ℕ, suc, ◌+◌, ◌≤◌, Bool, true, false, cond, List, length, take, drop, refl, sym, ap, subst, arith}
 use Rattle.std.specs.Prelude.{◌==◌, Option, Some, None, slice_get}
 use Rattle.std.proofs.lemmas.Bool.Decides.{nat_tests}
+use Rattle.reo_values.proofs.Sequences.{cut_at}
 use Rattle.reo_net_base.specs.declared.colouring.Colouring.{Colouring}
 use Rattle.reo_net_base.specs.declared.port.Port.{Port}
 use Rattle.reo_net_base.specs.Net.{Wiring, net_of}
@@ -15,7 +16,7 @@ use Rattle.reo_rounds.specs.Ready.{ready}
 use Rattle.reo_runs.specs.Run.{Place}
 use Rattle.reo_at_ports.specs.Kinds.{kind_rules}
 use Rattle.reo_judging.specs.Judged.{IsColouringSaid, IsPlanShown}
-use Rattle.reo_judging.proofs.Cuts.{cut_at, taken}
+use Rattle.reo_judging.proofs.Cuts.{taken}
 use Rattle.reo_verify.proofs.SoFar.{SoFar}
 use Rattle.reo_draw_rounds.specs.Rounds.{round_picture}
 use Rattle.reo_draw_replay.specs.Drawn.{IsDrawn}

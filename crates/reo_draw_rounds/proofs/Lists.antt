@@ -3,6 +3,7 @@ use Rattle.std.proofs.Common.{arith, ◌≡◌, ◌∙◌, ℕ, ◌+◌, ◌<◌
 use Rattle.std.specs.List.{flat_map, range_with_len}
 use Rattle.std.proofs.lemmas.Grind.{flat_map-append}
 use Rattle.std.proofs.lemmas.List.{append-nil, take_more}
+use Rattle.reo_values.proofs.Naturals.{range_more}
 use Rattle.reo_draw_rounds.specs.Mapped.{mapped}
 use Rattle.reo_draw_rounds.specs.Tables.{width_of, row_text, rows_text}
 
@@ -14,12 +15,6 @@ width_behind (c ∷ cells) cell = let rest = width_behind cells cell in omega (a
 pub width_more : (column : List (List ℕ)) (i : ℕ) (cell : List ℕ) → i < length column → cell ≡ get_or column i cell → max (length cell) (width_of (take i column)) ≡ width_of (take (i + 1) column)
 width_more column i cell below at =
     sym (ap width_of (take_more column i cell below) ∙ width_behind (take i column) (get_or column i cell) ∙ ap (λ (c : List ℕ). max (length c) (width_of (take i column))) (sym at))
-
-range_more : (a n : ℕ) → range_with_len a (suc n) ≡ range_with_len a n ++ (a + n) ∷ []
-range_more a zero = let same : a ≡ a + zero = omega arith in ap (λ m. m ∷ []) same
-range_more a (suc n) =
-    let same : a + 1 + n ≡ a + suc n = omega arith in
-    ap (λ xs. a ∷ xs) (range_more (a + 1) n ∙ ap (λ m. range_with_len (a + 1) n ++ m ∷ []) same)
 
 -- The lines of one more row.
 pub rows_more : (columns : List (List (List ℕ))) (n : ℕ) (before was now : List ℕ) → was ≡ before ++ rows_text columns n → now ≡ was ++ row_text columns n
@@ -49,10 +44,3 @@ mapped_more f xs i x below at =
     let long = length_taken xs i (omega arith) in
     let place : 0 + length (take i xs) ≡ i = omega (arith, long) in
     ap (mapped f 0) (take_more xs i x below ∙ ap (λ y. take i xs ++ y ∷ []) (sym at)) ∙ mapped_behind f 0 (take i xs) x ∙ ap (λ m. mapped f 0 (take i xs) ++ f m x ∷ []) place
-
--- All were taken.
-pub all_taken : {X : Type 0} (xs : List X) (i : ℕ) → length xs ≤ i → take i xs ≡ xs
-all_taken [] zero le = refl
-all_taken [] (suc i) le = refl
-all_taken (x ∷ xs) zero le = absurd (omega arith)
-all_taken (x ∷ xs) (suc i) le = ap (λ ys. x ∷ ys) (all_taken xs i (omega arith))

@@ -1,8 +1,9 @@
 -- The copies of a connector, without a number and with one.
-use Rattle.std.proofs.Common.{◌≡◌, ◌∙◌, ◌∷◌, [], ℕ, Some, None, List, map, refl, ap, sym}
+use Rattle.std.proofs.Common.{◌≡◌, ◌∙◌, ◌∷◌, [], ℕ, Some, None, List, map, ap, sym}
 use Rattle.std.specs.List.{flat_map}
 use Rattle.std.proofs.lemmas.List.{append-nil}
 use Rattle.std.proofs.lemmas.List.Folds.{flat_map-map}
+use Rattle.reo_values.proofs.Sequences.{map_map}
 use Rattle.reo_trees.specs.declared.programs.Declaration.{Declaration}
 use Rattle.reo_trees.specs.declared.programs.Declaration.TheVariants as declarations
 use Rattle.reo_trees.specs.declared.programs_two.ConnectorTwo.{ConnectorTwo}
@@ -11,10 +12,6 @@ use Rattle.reo_expand_base.specs.Expansion.{connector_for}
 use Rattle.reo_expand_base.specs.Steps.{Step, steps_in}
 use Rattle.reo_expand_uses.specs.Numbers.{numbers_below}
 use Rattle.reo_expand.specs.Noted.{bound_number, instance_for, instances_noted, made_noted, steps_made}
-
-map_map : {A B C : Type 0} (g : B → C) (f : A → B) (xs : List A) → map g (map f xs) ≡ map (λ x. g (f x)) xs
-map_map g f [] = refl
-map_map g f (x ∷ xs) = ap (λ l. g (f x) ∷ l) (map_map g f xs)
 
 module _ (before : List ConnectorTwo) (names : List (List ℕ)) (c : ConnectorTwo) where
   abbrev steps_for : Instance → List Step

@@ -6,6 +6,7 @@ use Rattle.std.proofs.lemmas.Bool.Decides.{nat_tests}
 use Rattle.std.proofs.lemmas.Slice.Eq.{bytes_eq-Decides}
 use Rattle.std.proofs.Math.Seq.{get_or-append_seam}
 use Rattle.std.proofs.lemmas.List.{get_or_append_left}
+use Rattle.reo_values.proofs.Naturals.{one_on, positive}
 use Rattle.reo_rules.specs.Lists.{has_name}
 use Rattle.reo_expand_tables.specs.Firsts.{or_else, place_at, place_in, is_before}
 
@@ -13,12 +14,6 @@ use Rattle.reo_expand_tables.specs.Firsts.{or_else, place_at, place_in, is_befor
 abbrev raised : Option ℕ → Option ℕ
 raised None = None
 raised (Some n) = Some (suc n)
-
-positive : (n : ℕ) → nat_lt 0 (suc n) ≡ true
-positive n = grind (arith, nat_tests)
-
-one_on : (n m : ℕ) → nat_lt (1 + n) (suc m) ≡ nat_lt n m
-one_on n m = grind (arith, nat_tests)
 
 further : (l : ℕ) (b : Bool) → cond b (Some (1 + l)) None ≡ raised (cond b (Some l) None)
 further l true = let e : 1 + l ≡ suc l = omega arith in ap Some e

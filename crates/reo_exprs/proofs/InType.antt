@@ -17,6 +17,7 @@ use Rattle.reo_values.specs.declared.operator.Binary.{Binary}
 use Rattle.reo_values.specs.Kind.{IsIn}
 use Rattle.reo_values.specs.Pair.{left_of, right_of}
 use Rattle.reo_values.proofs.Pairs.{left_of-Pair, right_of-Pair}
+use Rattle.reo_values.proofs.Truths.{and_both}
 use Rattle.reo_exprs.specs.declared.expr.Expr as expr
 use Rattle.reo_exprs.specs.declared.expr.Expr.{Expr}
 use Rattle.reo_exprs.specs.declared.expr.Expr.TheBlock.{hidden-the_row-Expr-0, hidden-the_row-ExprPair-1, hidden-the_row-ExprTriple-2}
@@ -28,7 +29,7 @@ use Rattle.reo_exprs.specs.Typing.{within, int_type, on_numbers, is_positive, ma
 use Rattle.reo_exprs.specs.Valued.{truth, same_value, number, bytes_of, unary_value, binary_value, value_of_expr}
 use Rattle.reo_exprs.proofs.Corners.{product_has, quotient_has, remainder_has}
 use Rattle.reo_exprs.proofs.Joined.{left_inside, right_inside}
-use Rattle.reo_exprs.proofs.Options.{some_same, from_and_then, from_map, from_provided, from_if, from_both, from_within}
+use Rattle.reo_exprs.proofs.Options.{some_same, from_and_then, from_map, from_provided, from_if, from_within}
 use Rattle.reo_exprs.proofs.Shapes.{is_number, is_text, is_pair, from_numbers}
 use Rattle.reo_exprs.proofs.Lies.{Lies, lies_in, in_lies, Lies-Pair, pair_lies, lies_inside}
 use Rattle.reo_exprs.proofs.NearType.{type_near, number_near}
@@ -73,7 +74,7 @@ module _ (S : Type 0) where
 
     -- a type of divisors has none below 1
     positive : (y : Interval) → b ≡ int_type y → is_positive b ≡ true → pos 1 ≤ℤ y.low
-    positive y e h = let g = from_both (int_le (pos 1) y.low) (int_le (pos 1) y.high) (sym (ap is_positive e) ∙ h) in grind (arith, ints)
+    positive y e h = let g = and_both (int_le (pos 1) y.low) (int_le (pos 1) y.high) (sym (ap is_positive e) ∙ h) in grind (arith, ints)
 
     -- the value of an operator with two operands is of its type
     binary_in : (op : Binary) (t : Kindred) → may_stand_right op b ≡ true → binary_type op a b ≡ Some t → Lies S (binary_value op v w) t
@@ -124,7 +125,7 @@ module _ (S : Type 0) where
   if_in : (c : Bool) (v w : Value) (k a b t : Kindred) → Lies S v a → Lies S w b → if_type k a b ≡ Some t → Lies S (if c then v else w) t
   if_in c v w k a b t p q e =
       let h = from_provided (is_bool k && joins a b) (join_of a b) t e in
-      let j = (from_both (is_bool k) (joins a b) h.0).1 in
+      let j = (and_both (is_bool k) (joins a b) h.0).1 in
       subst (λ u. Lies S (if c then v else w) u) h.1 (chosen c v w (join_of a b) (lies_inside S a (join_of a b) v (left_inside a b j) p) (lies_inside S b (join_of a b) w (right_inside a b j) q))
 
   -- a number is of the type of itself alone

@@ -9,15 +9,15 @@ use Rattle.reo_values.specs.declared.kindred.Kindred.{Kindred}
 use Rattle.reo_values.specs.declared.kindred.Kindred.TheVariants as kinds
 use Rattle.reo_values.specs.declared.kindred.Kindred.TheBlock.{hidden-the_row-Twins-0}
 use Rattle.reo_values.specs.declared.kindred.Twins.{Twins}
+use Rattle.reo_values.proofs.Truths.{and_both}
 use Rattle.reo_exprs.specs.Kinds.{joins}
-use Rattle.reo_exprs.proofs.Options.{from_both}
 
 -- lists of names that the test finds equal are the same
 pub names_same : (xs ys : List (List ℕ)) → pointwise bytes_eq xs ys ≡ true → xs ≡ ys
 names_same [] [] e = refl
 names_same [] (y ∷ ys) e = absurd (cc)
 names_same (x ∷ xs) [] e = absurd (cc)
-names_same (x ∷ xs) (y ∷ ys) e = let h = from_both (bytes_eq x y) (pointwise bytes_eq xs ys) e in let f = names_same xs ys h.1 in let d = bytes_eq-Decides x y in grind arith
+names_same (x ∷ xs) (y ∷ ys) e = let h = and_both (bytes_eq x y) (pointwise bytes_eq xs ys) e in let f = names_same xs ys h.1 in let d = bytes_eq-Decides x y in grind arith
 
 -- P holds of two types in each case in which they join; of pairs, where it holds of their parts
 pub record HoldsWhereJoined (P : Kindred → Kindred → Type 0) : Type 0 where
@@ -67,5 +67,5 @@ where_joined P h (kindred.Pair' i (kindred.more_of-Twins a b kindred.end_of-Twin
 where_joined P h (kindred.Pair' i (kindred.more_of-Twins a b kindred.end_of-Twins)) (kindred.Sym ys) e = absurd (cc)
 where_joined P h (kindred.Pair' i (kindred.more_of-Twins a b kindred.end_of-Twins)) (kindred.Text n) e = absurd (cc)
 where_joined P h (kindred.Pair' i (kindred.more_of-Twins a b kindred.end_of-Twins)) (kindred.Pair' j (kindred.more_of-Twins c d kindred.end_of-Twins)) e =
-    let g = from_both (joins a c) (joins b d) e in
+    let g = and_both (joins a c) (joins b d) e in
     h.pairs (record { left = a; right = b }) (record { left = c; right = d }) (where_joined P h a c g.0) (where_joined P h b d g.1)

@@ -10,6 +10,7 @@ use Rattle.reo_values.specs.declared.operator.Unary.TheVariants as unary
 use Rattle.reo_values.specs.declared.operator.Unary.{Unary}
 use Rattle.reo_values.specs.declared.operator.Binary.TheVariants as binary
 use Rattle.reo_values.specs.declared.operator.Binary.{Binary}
+use Rattle.reo_values.proofs.Truths.{and_both, one_truth}
 use Rattle.reo_exprs.specs.declared.expr.Expr as expr
 use Rattle.reo_exprs.specs.declared.expr.Expr.{Expr}
 use Rattle.reo_exprs.specs.declared.expr.Expr.TheBlock.{hidden-the_row-Expr-0, hidden-the_row-ExprPair-1, hidden-the_row-ExprTriple-2}
@@ -19,22 +20,16 @@ use Rattle.reo_exprs.specs.Kinds.{kind_of, joins, join_of, is_bool}
 use Rattle.reo_exprs.specs.Typing.{provided, within, int_type, on_numbers, may_stand_right, unary_type, binary_type, if_type, unary_kind, binary_kind, if_kind, unary_within, binary_within, if_within, kind_of_expr, type_of_expr}
 use Rattle.reo_exprs.proofs.Choices.{join_kind}
 use Rattle.reo_exprs.proofs.Kinded.{join_by_kind}
-use Rattle.reo_exprs.proofs.Options.{from_and_then, from_provided, from_if, from_both, from_within}
+use Rattle.reo_exprs.proofs.Options.{from_and_then, from_provided, from_if, from_within}
 use Rattle.reo_exprs.proofs.Steps.{kind_twice}
 use Rattle.reo_exprs.proofs.Twinned.{Twins_of-equal}
-
--- tests that are true together are equal
-same_tests : (a b : Bool) → (a ≡ true → b ≡ true) → (b ≡ true → a ≡ true) → a ≡ b
-same_tests true b f g = sym (f refl)
-same_tests false true f g = g refl
-same_tests false false f g = refl
 
 -- kinds join where the types do
 joins_kinds : (s t : Kindred) → joins (kind_of s) (kind_of t) ≡ joins s t
 joins_kinds s t =
     let kinds = join_by_kind (kind_of s) (kind_of t) in
     let types = join_by_kind s t in
-    same_tests (joins (kind_of s) (kind_of t)) (joins s t)
+    one_truth (joins (kind_of s) (kind_of t)) (joins s t)
     (λ e. types.1 (sym (kind_twice s) ∙ kinds.0 e ∙ kind_twice t))
     (λ e. kinds.1 (kind_twice s ∙ types.0 e ∙ sym (kind_twice t)))
 
@@ -121,7 +116,7 @@ if_kinds : (c k l : Kindred) → option_map kind_of (if_type (kind_of c) (kind_o
 if_kinds c k l =
     (λ i. option_map kind_of (provided (bool_kind c i && joins_kinds k l i) (join_of (kind_of k) (kind_of l))))
     ∙ chosen_kinds (is_bool c && joins k l) (join_of (kind_of k) (kind_of l)) (join_of k l)
-    (λ h. let j = (from_both (is_bool c) (joins k l) h).1 in join_kind (kind_of k) (kind_of l) (joins_kinds k l ∙ j) ∙ kind_twice k ∙ sym (join_kind k l j))
+    (λ h. let j = (and_both (is_bool c) (joins k l) h).1 in join_kind (kind_of k) (kind_of l) (joins_kinds k l ∙ j) ∙ kind_twice k ∙ sym (join_kind k l j))
 
 -- the kind of what a test of bounds let through
 kind_told : (o : Option Kindred) (k t : Kindred) → o ≡ Some k → within k ≡ Some t → option_map kind_of o ≡ Some (kind_of t)

@@ -1,5 +1,5 @@
 -- What the type of an expression came from.
-use Rattle.std.proofs.Common.{Bool, true, false, ◌&&◌, ◌≡◌, ◌∙◌, Option, Some, None, ap, sym, refl}
+use Rattle.std.proofs.Common.{Bool, true, false, ◌≡◌, ◌∙◌, Option, Some, None, ap, sym, refl}
 use Rattle.std.specs.Prelude.{option_and_then, option_map, unwrap_or, if◌then◌else◌}
 use Rattle.reo_values.specs.declared.kindred.Kindred.{Kindred}
 use Rattle.reo_exprs.specs.Kinds.{is_within}
@@ -29,11 +29,6 @@ from_provided false k t e = absurd (cc)
 pub from_if : {T : Type 0} (test : Bool) (o : Option T) (t : T) → (if test then o else None) ≡ Some t → (test ≡ true) × (o ≡ Some t)
 from_if true o t e = (refl, e)
 from_if false o t e = absurd (cc)
-
--- both sides of a true `&&` are true
-pub from_both : (a b : Bool) → (a && b) ≡ true → (a ≡ true) × (b ≡ true)
-from_both true b e = (refl, e)
-from_both false b e = absurd (cc)
 
 -- a type that `within` let through is as it was, and near
 pub from_within : (k t : Kindred) → within k ≡ Some t → (is_within t ≡ true) × (k ≡ t)

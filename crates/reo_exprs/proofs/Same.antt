@@ -1,37 +1,26 @@
 -- When the test of two items says that they are equal.
-use Rattle.std.proofs.Common.{ℕ, ℤ, Bool, true, false, ◌&&◌, ◌==◌, ◌≡◌, ◌∙◌, List, ap, sym, refl, arith}
-use Rattle.std.specs.Prelude.{IsTrue, ◌↔◌, bytes_eq}
+use Rattle.std.proofs.Common.{ℕ, ℤ, Bool, true, false, ◌&&◌, ◌==◌, ◌≡◌, ◌∙◌, ap, sym, refl, arith}
+use Rattle.std.specs.Prelude.{IsTrue, ◌↔◌}
 use Rattle.std.specs.Ordering.{int_eq}
 use Rattle.std.proofs.lemmas.Bool.Decides.{Decides-int_eq}
-use Rattle.std.proofs.lemmas.Slice.Eq.{bytes_eq-Decides}
 use denote.Hole.Carrier.{hidden}
 use Rattle.reo_values.specs.declared.value.Value as value
 use Rattle.reo_values.specs.declared.value.Value.{Value}
 use Rattle.reo_values.specs.declared.value.Value.TheVariants as values
 use Rattle.reo_values.specs.declared.value.Value.TheBlock.{hidden-the_row-Couple-0}
 use Rattle.reo_values.proofs.Pairs.{Pair_of-equal}
+use Rattle.reo_values.proofs.Sequences.{same_bytes, bytes_same}
+use Rattle.reo_values.proofs.Truths.{and_both}
+use Rattle.reo_values.proofs.Naturals.{eq_same}
 use Rattle.reo_exprs.specs.Valued.{same_value}
-use Rattle.reo_exprs.proofs.Options.{from_both}
-
--- bytes that the test finds equal are the same
-bytes_told : (xs ys : List ℕ) → bytes_eq xs ys ≡ true → xs ≡ ys
-bytes_told xs ys e = let d = bytes_eq-Decides xs ys in grind arith
-
--- and it finds the same ones equal
-bytes_same : (xs : List ℕ) → bytes_eq xs xs ≡ true
-bytes_same xs = let d = bytes_eq-Decides xs xs in grind arith
 
 -- integers that the test finds equal are the same
-int_told : (a c : ℤ) → int_eq a c ≡ true → a ≡ c
+pub int_told : (a c : ℤ) → int_eq a c ≡ true → a ≡ c
 int_told a c e = let d = Decides-int_eq a c in grind arith
 
 -- and it finds the same ones equal
 int_same : (a : ℤ) → int_eq a a ≡ true
 int_same a = let d = Decides-int_eq a a in grind arith
-
--- numbers from 0 that the test finds equal are the same
-nat_told : (a c : ℕ) → (a == c) ≡ true → a ≡ c
-nat_told a c e = grind arith
 
 -- and it finds the same ones equal
 nat_same : (a : ℕ) → (a == a) ≡ true
@@ -72,7 +61,7 @@ same_true (value.Sym a) value.Unit e = absurd (cc)
 same_true (value.Sym a) (value.Bool true) e = absurd (cc)
 same_true (value.Sym a) (value.Bool false) e = absurd (cc)
 same_true (value.Sym a) (value.Int c) e = absurd (cc)
-same_true (value.Sym a) (value.Sym c) e = ap values.Sym (nat_told a c e)
+same_true (value.Sym a) (value.Sym c) e = ap values.Sym (eq_same a c e)
 same_true (value.Sym a) (value.Text c) e = absurd (cc)
 same_true (value.Sym a) (value.Pair' n (value.more_of-Couple c d value.end_of-Couple)) e = absurd (cc)
 same_true (value.Text a) value.Unit e = absurd (cc)
@@ -80,7 +69,7 @@ same_true (value.Text a) (value.Bool true) e = absurd (cc)
 same_true (value.Text a) (value.Bool false) e = absurd (cc)
 same_true (value.Text a) (value.Int c) e = absurd (cc)
 same_true (value.Text a) (value.Sym c) e = absurd (cc)
-same_true (value.Text a) (value.Text c) e = ap values.Text (bytes_told a c e)
+same_true (value.Text a) (value.Text c) e = ap values.Text (same_bytes a c e)
 same_true (value.Text a) (value.Pair' n (value.more_of-Couple c d value.end_of-Couple)) e = absurd (cc)
 same_true (value.Pair' m (value.more_of-Couple a b value.end_of-Couple)) value.Unit e = absurd (cc)
 same_true (value.Pair' m (value.more_of-Couple a b value.end_of-Couple)) (value.Bool true) e = absurd (cc)
@@ -88,7 +77,7 @@ same_true (value.Pair' m (value.more_of-Couple a b value.end_of-Couple)) (value.
 same_true (value.Pair' m (value.more_of-Couple a b value.end_of-Couple)) (value.Int c) e = absurd (cc)
 same_true (value.Pair' m (value.more_of-Couple a b value.end_of-Couple)) (value.Sym c) e = absurd (cc)
 same_true (value.Pair' m (value.more_of-Couple a b value.end_of-Couple)) (value.Text c) e = absurd (cc)
-same_true (value.Pair' m (value.more_of-Couple a b value.end_of-Couple)) (value.Pair' n (value.more_of-Couple c d value.end_of-Couple)) e = let h = from_both (same_value a c) (same_value b d) e in Pair_of-equal (record { left = a; right = b }) (record { left = c; right = d }) (same_true a c h.0) (same_true b d h.1)
+same_true (value.Pair' m (value.more_of-Couple a b value.end_of-Couple)) (value.Pair' n (value.more_of-Couple c d value.end_of-Couple)) e = let h = and_both (same_value a c) (same_value b d) e in Pair_of-equal (record { left = a; right = b }) (record { left = c; right = d }) (same_true a c h.0) (same_true b d h.1)
 
 -- and it finds an item equal to itself
 pub same_self : (v : Value) → same_value v v ≡ true

@@ -16,6 +16,7 @@ use Rattle.reo_values.specs.declared.operator.Binary.{Binary}
 use Rattle.reo_values.specs.Kind.{IsIn}
 use Rattle.reo_values.specs.Pair.{left_of, right_of}
 use Rattle.reo_values.proofs.Pairs.{left_of-Pair, right_of-Pair}
+use Rattle.reo_values.proofs.Truths.{and_both}
 use Rattle.reo_exprs.specs.declared.expr.Expr.{Expr}
 use Rattle.reo_exprs.specs.declared.expr.Expr.TheVariants as exprs
 use Rattle.reo_exprs.specs.declared.expr.ExprPair.{ExprPair}
@@ -30,7 +31,7 @@ use Rattle.reo_exprs.specs.Views.{AreTyped, IsMade, value_of_view, work, work_of
 use Rattle.reo_exprs.proofs.Children.{near_value}
 use Rattle.reo_exprs.proofs.InType.{value_in, number_in}
 use Rattle.reo_exprs.proofs.Lies.{lies_in, Lies}
-use Rattle.reo_exprs.proofs.Options.{from_and_then, from_if, from_both}
+use Rattle.reo_exprs.proofs.Options.{from_and_then, from_if}
 use Rattle.reo_exprs.proofs.Shapes.{from_numbers}
 use Rattle.reo_exprs.proofs.Trees.{type-Two, value-Two, work-One, work-Two, work-If}
 use Rattle.reo_exprs.proofs.Twinned.{same-Pair, same_Pair-other}
@@ -65,15 +66,10 @@ by_numbers binary.Div x y a b c d e = refl
 by_numbers binary.Rem x y a b c d e = refl
 by_numbers binary.Pair x y a b c d e = absurd (e refl)
 
--- the test finds a truth value equal to itself
-same_is : (b : Bool) → same_value (values.Bool b) (values.Bool b) ≡ true
-same_is true = refl
-same_is false = refl
-
 -- a number of an interval of divisors may be a divisor
 positive_number : (low high n : ℤ) → is_positive (kinds.Int low high) ≡ true → low ≤ℤ n → is_positive (kinds.Int n n) ≡ true
 positive_number low high n h g =
-    let b = from_both (int_le (pos 1) low) (int_le (pos 1) high) h in
+    let b = and_both (int_le (pos 1) low) (int_le (pos 1) high) h in
     let c : int_le (pos 1) n ≡ true = grind (arith, ints) in
     (λ i. c i && c i)
 

@@ -9,6 +9,7 @@ use Rattle.reo_values.specs.declared.kindred.Kindred.TheBlock.{hidden-the_row-Tw
 use Rattle.reo_values.specs.declared.kindred.Twins.{Twins}
 use Rattle.reo_values.specs.declared.operator.Unary.{Unary}
 use Rattle.reo_values.specs.declared.operator.Binary.{Binary}
+use Rattle.reo_values.proofs.Truths.{and_both}
 use Rattle.reo_exprs.specs.declared.expr.Expr as expr
 use Rattle.reo_exprs.specs.declared.expr.Expr.{Expr}
 use Rattle.reo_exprs.specs.declared.expr.Expr.TheVariants as exprs
@@ -20,7 +21,7 @@ use Rattle.reo_exprs.specs.declared.interval.Interval.{Interval}
 use Rattle.reo_exprs.specs.Interval.{is_near_interval}
 use Rattle.reo_exprs.proofs.Shapes.{is_number}
 use Rattle.reo_exprs.specs.Typing.{within, kind_of_expr, type_of_expr, unary_kind, binary_kind, if_kind, unary_type, binary_type, if_type, unary_within, binary_within, if_within}
-use Rattle.reo_exprs.proofs.Options.{some_same, from_and_then, from_map, from_both}
+use Rattle.reo_exprs.proofs.Options.{some_same, from_and_then, from_map}
 use Rattle.reo_exprs.proofs.Trees.{kind-One, kind-Two, kind-If, type-One, type-Two, type-If}
 use Rattle.reo_exprs.proofs.Twinned.{join_of-Pair, join_of_Pair-other, twins_of-Pair, twins_of-other, kind_of-Pair, Twins_of-equal}
 
@@ -97,7 +98,7 @@ left_part kindred.Bool h = refl
 left_part (kindred.Int a b) h = refl
 left_part (kindred.Sym a) h = refl
 left_part (kindred.Text a) h = refl
-left_part (kindred.Pair' m (kindred.more_of-Twins a b kindred.end_of-Twins)) h = ap (λ c. if c then Some a else None) (from_both (is_within a) (is_within b) h).0
+left_part (kindred.Pair' m (kindred.more_of-Twins a b kindred.end_of-Twins)) h = ap (λ c. if c then Some a else None) (and_both (is_within a) (is_within b) h).0
 
 -- and so is the right one
 right_part : (k : Kindred) → is_within k ≡ true → option_and_then within (option_map (λ t. t.right) (twins_of k)) ≡ option_map (λ t. t.right) (twins_of k)
@@ -107,7 +108,7 @@ right_part kindred.Bool h = refl
 right_part (kindred.Int a b) h = refl
 right_part (kindred.Sym a) h = refl
 right_part (kindred.Text a) h = refl
-right_part (kindred.Pair' m (kindred.more_of-Twins a b kindred.end_of-Twins)) h = ap (λ c. if c then Some b else None) (from_both (is_within a) (is_within b) h).1
+right_part (kindred.Pair' m (kindred.more_of-Twins a b kindred.end_of-Twins)) h = ap (λ c. if c then Some b else None) (and_both (is_within a) (is_within b) h).1
 
 -- the same of a type that was found near
 pub left_within : (k : Kindred) → IsTrue (is_within k) → option_and_then within (option_map (λ t. t.left) (twins_of k)) ≡ option_map (λ t. t.left) (twins_of k)

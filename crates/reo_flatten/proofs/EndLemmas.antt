@@ -1,5 +1,5 @@
 -- Ends at nodes, one after another.
-use Rattle.std.proofs.Common.{arith, ◌≡◌, ◌≢◌, ◌∙◌, ℕ, zero, suc, ◌+◌, ◌<◌, ◌≤◌, ◌&&◌, ◌||◌, not, inl, inr, List, [], ◌∷◌, ◌++◌, length, take, get_or, set, Bool, true, false, Some, None, position, bytes_eq, cond, refl, sym, ap}
+use Rattle.std.proofs.Common.{arith, ◌≡◌, ◌≢◌, ◌∙◌, ℕ, zero, suc, ◌+◌, ◌<◌, ◌≤◌, ◌&&◌, not, inl, inr, List, [], ◌∷◌, ◌++◌, length, take, get_or, set, Bool, true, false, Some, None, position, bytes_eq, cond, refl, sym, ap}
 use Rattle.std.proofs.lemmas.List.{append-nil, append_assoc, length-take-le, length-set, get_or-set_other, get_or_default}
 use Rattle.std.proofs.lemmas.Grind.{get_or-set_at}
 use Rattle.std.proofs.lemmas.Bool.Decides.{eqb_tells}
@@ -14,7 +14,7 @@ use Rattle.reo_kinds.specs.Kinds.{behaviour_of}
 use Rattle.reo_flat.specs.Unfolding.{Placed}
 use Rattle.reo_flat.specs.Ends.{ends_in, ends_from}
 use Rattle.reo_flatten_unfold.proofs.ListLemmas.{take_next}
-use Rattle.reo_rules.specs.Lists.{where_true, has_name}
+use Rattle.reo_rules.specs.Lists.{where_true}
 use Rattle.reo_rules.specs.Touches.{bool_eq}
 use Rattle.reo_flatten_unfold.proofs.Positions.{before_first, place_none}
 use Rattle.reo_flatten.specs.NodeEnds.{placed_with, name_at, Grows, one_at}
@@ -150,16 +150,3 @@ placed_is [] es i k e even within k_is e_is d = absurd (omega arith)
 placed_is (x ∷ ks) [] i k e even within k_is e_is d = absurd (omega arith)
 placed_is (x ∷ ks) (y ∷ es) zero k e even within k_is e_is d = λ j. record { kind = k_is j; nodes = e_is j }
 placed_is (x ∷ ks) (y ∷ es) (suc i) k e even within k_is e_is d = placed_is ks es i k e (omega arith) (omega arith) k_is e_is d
-
--- A node is not among those before it.
-no_such : (xs : List (List ℕ)) (name : List ℕ) → ((k : ℕ) → k < length xs → name ≡ get_or xs k [] → ⊥) → has_name xs name ≡ false
-no_such [] name none = refl
-no_such (x ∷ xs) name none =
-    λ i. differ_false (bytes_eq name x) (λ same. none 0 (omega arith) ((bytes_eq-Decides name x).0 same)) i || no_such xs name (λ k within. none (suc k) (omega arith)) i
-
-in_front : {X : Type 0} (xs : List X) (i k : ℕ) (d : X) → k < i → get_or (take i xs) k d ≡ get_or xs k d
-in_front [] zero k d below = absurd (omega arith)
-in_front [] (suc i) k d below = refl
-in_front (x ∷ xs) zero k d below = absurd (omega arith)
-in_front (x ∷ xs) (suc i) zero d below = refl
-in_front (x ∷ xs) (suc i) (suc k) d below = in_front xs i k d (omega arith)

@@ -25,12 +25,13 @@ use Rattle.reo_rules.specs.Scopes.{scope_of}
 use Rattle.reo_rules.specs.Twice.{twice_among, twice_in, twice}
 use Rattle.reo_rules.specs.Ranges.{is_out, range_in_type, range_in_item, range_in_connector, range_in, out_of_range}
 use Rattle.reo_rules.specs.Scopes.{connector_names}
-use Rattle.reo_rules.proofs.AfterLemmas.{left_none, right_none, flat_map-append}
+use Rattle.reo_rules.proofs.AfterLemmas.{right_none, flat_map-append}
 use Rattle.reo_flatten_unfold.specs.Fits.{IsFew, FormFits, AreFit}
 use Rattle.reo_flatten_unfold.proofs.ListLemmas.{each_none, fails}
 use Rattle.reo_flatten_unfold.proofs.TypeLemmas.{few_pair}
 use Rattle.reo_flatten_unfold.proofs.GroundLemmas.{types_after-append}
 use Rattle.reo_values.specs.declared.kindred.Kindred.TheVariants as kinds
+use Rattle.reo_values.proofs.Sequences.{left_none}
 use Rattle.reo_trees_laws.proofs.Lists.{all-more as all_one}
 
 -- No break means that no written type in it has too many names.

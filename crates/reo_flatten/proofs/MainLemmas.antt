@@ -1,5 +1,5 @@
 -- The connector that is unfolded.
-use Rattle.std.proofs.Common.{arith, ◌≡◌, ◌∙◌, ℕ, ◌-◌, ◌<◌, List, [], ◌∷◌, ◌++◌, Bool, length, map, take, drop, suc, get_or, Option, Some, None, is_none, position, bytes_eq, codes, refl, sym, ap}
+use Rattle.std.proofs.Common.{arith, ◌≡◌, ◌∙◌, ℕ, ◌-◌, ◌<◌, List, [], ◌∷◌, ◌++◌, Bool, length, take, drop, suc, get_or, Option, Some, None, is_none, position, bytes_eq, codes, sym, ap}
 use Rattle.std.specs.Prelude.{slice_get, unwrap_or}
 use Rattle.std.specs.Option.{option_map_or}
 use Rattle.std.proofs.lemmas.Option.{unwrap_or-slice_get}
@@ -18,13 +18,10 @@ use Rattle.reo_flatten_unfold.specs.declared.ground.Stand.{Stand}
 use Rattle.reo_flatten_unfold.specs.Ground.{IsStand, IsGround}
 use Rattle.reo_flatten_unfold.specs.declared.ground.Ground.{Ground}
 use Rattle.std.proofs.lemmas.List.{length-map}
+use Rattle.reo_values.proofs.Sequences.{cut_at}
 use Rattle.reo_flatten_unfold.proofs.ListLemmas.{slice_get-right}
 use Rattle.reo_flatten_unfold.proofs.Positions.{found_at, found_within, found_nowhere}
-use Rattle.reo_flatten_unfold.proofs.GroundLemmas.{cut_at, names_of-meanings}
-
-pub map_map : {X Y Z : Type 0} (g : Y → Z) (f : X → Y) (xs : List X) → map g (map f xs) ≡ map (λ x. g (f x)) xs
-map_map g f [] = refl
-map_map g f (x ∷ xs) = ap (λ zs. g (f x) ∷ zs) (map_map g f xs)
+use Rattle.reo_flatten_unfold.proofs.GroundLemmas.{names_of-meanings}
 
 -- It has a stand.
 pub main_within : (ds : List Declaration) (g : Ground) (number : ℕ) → IsGround ds g → position (bytes_eq (codes "main")) g.connectors ≡ Some number → number < length g.stands

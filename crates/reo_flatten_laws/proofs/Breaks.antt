@@ -14,8 +14,9 @@ use Rattle.reo_rules.specs.Direction.{direction}
 use Rattle.reo_rules.specs.Rules.{rule_breaks, KeepsRules}
 use Rattle.reo_flat.specs.Sizes.{no_main, too_many}
 use Rattle.reo_flat.specs.Refusals.{breaks}
-pub use Rattle.reo_rules.proofs.AfterLemmas.{left_none, right_none}
+pub use Rattle.reo_rules.proofs.AfterLemmas.{right_none}
 pub use Rattle.std.proofs.lemmas.Grind.{flat_map-append}
+pub use Rattle.reo_values.proofs.Sequences.{left_none}
 
 -- No break means that the test fails.
 pub fails : (b : Bool) (f : FlatFault) → where_true b f ≡ [] → b ≡ false

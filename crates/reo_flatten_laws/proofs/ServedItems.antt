@@ -5,6 +5,8 @@ use Rattle.std.proofs.lemmas.Bool.{eqb-true}
 use Rattle.std.proofs.lemmas.List.{length-map}
 use Rattle.std.proofs.lemmas.List.Folds.{list_any-append}
 use Rattle.std.proofs.lemmas.Slice.Eq.{bytes_eq-Decides}
+pub use Rattle.reo_values.proofs.Truths.{and_both as each}
+use Rattle.reo_values.proofs.Truths.{either}
 use Rattle.reo_trees.specs.declared.items.Item.{Item}
 use Rattle.reo_trees.specs.declared.items.Form.{Form}
 use Rattle.reo_trees.specs.declared.items.Form.TheVariants as forms
@@ -24,11 +26,6 @@ use Rattle.reo_flatten_laws.proofs.Once.{Once}
 use Rattle.reo_flatten_laws.proofs.UseNames.{once_left}
 use Rattle.reo_flatten_laws.proofs.Served.{HasEnd, end_left, end_right, channel_ways, IsServing, AreServing, serving_named}
 use Rattle.reo_flatten_laws.proofs.Each.{all_to}
-pub use Rattle.reo_exprs.proofs.Options.{from_both as each}
-
-either : (a b : Bool) → (a || b) ≡ true → (a ≡ true) ⊎ (b ≡ true)
-either true b is = inl refl
-either false b is = inr is
 
 equal : (v t : Bool) → bool_eq v t ≡ true → v ≡ t
 equal true true is = refl
@@ -63,7 +60,7 @@ zipped P [] ys all = tt
 zipped P (x ∷ xs) [] all = tt
 zipped P (x ∷ xs) (y ∷ ys) all = (all.0, zipped P xs ys all.1)
 
-both_of : {X : Type 0} (P Q R : X → Type 0) → ((x : X) → P x → Q x → R x) → (xs : List X) → AllByRecursion P xs → AllByRecursion Q xs → AllByRecursion R xs
+pub both_of : {X : Type 0} (P Q R : X → Type 0) → ((x : X) → P x → Q x → R x) → (xs : List X) → AllByRecursion P xs → AllByRecursion Q xs → AllByRecursion R xs
 both_of P Q R f [] a b = tt
 both_of P Q R f (x ∷ xs) a b = (f x a.0 b.0, both_of P Q R f xs a.1 b.1)
 

@@ -9,6 +9,7 @@ use Rattle.std.proofs.lemmas.Slice.Eq.{bytes_eq-Decides}
 use Rattle.reo_values.specs.declared.kindred.Kindred.{Kindred}
 use Rattle.reo_values.specs.declared.kindred.Kindred.TheVariants as kinds
 use Rattle.reo_values.specs.Valid.{IsValid}
+use Rattle.reo_values.proofs.Truths.{not_false}
 use Rattle.reo_trees.specs.declared.items.Item.{Item}
 use Rattle.reo_trees.specs.declared.items.Form.{Form}
 use Rattle.reo_trees.specs.declared.items.Form.TheVariants as forms
@@ -33,7 +34,7 @@ use Rattle.reo_flatten_laws.specs.Fitting.{Fits}
 use Rattle.reo_flatten_laws.proofs.Breaks.{holds, fails, left_none, right_none, flat_map-append}
 use Rattle.reo_flatten_laws.proofs.Each.{both}
 use Rattle.reo_flatten_laws.proofs.Within.{In, in_left, in_right, in_either, known_name}
-use Rattle.reo_flatten_laws.proofs.Alike.{un_not, same_types}
+use Rattle.reo_flatten_laws.proofs.Alike.{same_types}
 use Rattle.reo_flatten_laws.proofs.RightKinds.{IsSound, channel_fits}
 use Rattle.reo_flatten_laws.proofs.TypesGrow.{Stays, stays_on}
 use Rattle.reo_flatten_laws.proofs.Validity.{AreValid, valid_type, well_formed}
@@ -222,7 +223,7 @@ module _ (cs : List Connector) (ms : List Meaning) (ts : List Typing) (types : L
     passed nodes mine line (n ∷ ns) (q ∷ qs) known fit =
         let one = any_none (λ (r : List ℕ × Parameter). not (is_same (type_named scope r.0) (resolved types r.1.term.shape))) (n, q) (zip ns qs) fit in
         let here = known_type nodes mine line n (left_none (missing (parameter_names ps ++ nodes) line n) _ known) in
-        (here ∙ same_types (type_named scope n) (resolved types q.term.shape) (un_not _ one.0), passed nodes mine line ns qs (right_none (missing (parameter_names ps ++ nodes) line n) _ known) one.1)
+        (here ∙ same_types (type_named scope n) (resolved types q.term.shape) (not_false _ one.0), passed nodes mine line ns qs (right_none (missing (parameter_names ps ++ nodes) line n) _ known) one.1)
 
     one_fits : (before : List Item) (line : ℕ) (f : Form) → ((n : List ℕ) → In (node_names before) n → In (names_of own) n) → IsSpelledForm f → unknown_in_item types connectors (parameter_names ps ++ node_names before) line f ≡ []
         → is_mistyped types cs scope f ≡ false → range_in_item types scope line f ≡ [] → arity_in_item cs line f ≡ [] → HasTypes T (typed_in ts types path before f)

@@ -1,6 +1,6 @@
 -- Types of texts that break no rule are valid, and expressions well formed.
 use denote.Hole.Carrier.{hidden}
-use Rattle.std.proofs.Common.{arith, ◌≡◌, ◌∙◌, ℕ, ℤ, ◌<◌, suc, ◌+◌, List, [], ◌∷◌, ◌++◌, length, Bool, true, false, not, cond, ◌||◌, nat_lt, Some, find, refl, sym, subst, bytes_eq}
+use Rattle.std.proofs.Common.{arith, ◌≡◌, ◌∙◌, ℕ, ℤ, ◌<◌, suc, ◌+◌, List, [], ◌∷◌, ◌++◌, length, Bool, true, false, not, cond, ◌||◌, nat_lt, Some, find, sym, subst, bytes_eq}
 use Rattle.std.specs.Prelude.{unwrap_or, option_map, option_and_then, FitsSigned}
 use Rattle.std.specs.Int.{w64}
 use Rattle.std.specs.Int.Signed.{le_z}
@@ -13,6 +13,7 @@ use Rattle.reo_values.specs.declared.kindred.Kindred.{Kindred}
 use Rattle.reo_values.specs.declared.kindred.Kindred.TheVariants as kinds
 use Rattle.reo_values.specs.declared.kindred.Kindred.TheBlock.{hidden-the_row-Twins-0}
 use Rattle.reo_values.specs.Valid.{IsValid}
+use Rattle.reo_values.proofs.Truths.{not_false, either_false}
 use Rattle.reo_exprs.specs.declared.expr.Expr.{Expr}
 use Rattle.reo_exprs.specs.declared.expr.Expr.TheVariants as exprs
 use Rattle.reo_exprs.specs.declared.expr.Expr.TheBlock.{hidden-the_row-Expr-0, hidden-the_row-ExprPair-1, hidden-the_row-ExprTriple-2}
@@ -35,7 +36,7 @@ use Rattle.reo_rules.specs.Ranges.{is_out, range_in_type}
 use Rattle.reo_flatten_laws.proofs.Breaks.{fails, left_none, right_none, flat_map-append}
 use Rattle.reo_flatten_laws.proofs.Once.{Once, distinct}
 use Rattle.reo_flatten_laws.proofs.OnceTwice.{new_name}
-use Rattle.reo_flatten_laws.proofs.Alike.{un_not, in_order}
+use Rattle.reo_flatten_laws.proofs.Alike.{in_order}
 
 -- The types that are known are valid.
 abbrev pub AreValid : List Typed → Type 0
@@ -54,10 +55,6 @@ names_once line before (n ∷ ns) once none =
     subst Once (append_assoc before (n ∷ []) ns)
     (names_once line (before ++ n ∷ []) ns (new_name before line n once (left_none (twice_among before line n) _ none)) (right_none (twice_among before line n) _ none))
 
-either_false : (a b : Bool) → (a || b) ≡ false → a ≡ false
-either_false true b h = absurd (cc)
-either_false false b h = refl
-
 abbrev twice_at : TypeTerm → List FlatFault
 twice_at part = twice_in_part part.line part.shape
 
@@ -73,7 +70,7 @@ valid_shape types valid line shape.Unit spelled once bound = tt
 valid_shape types valid line shape.Bool spelled once bound = tt
 valid_shape types valid line (shape.Int low high) spelled once bound =
     let within = either_false (not (le_z low high)) _ (fails _ _ (left_none (out_at types (record { line = line; shape = shape.Int low high })) _ bound)) in
-    (near_64 low spelled.0, near_64 high spelled.1, in_order low high (un_not _ within))
+    (near_64 low spelled.0, near_64 high spelled.1, in_order low high (not_false _ within))
 valid_shape types valid line (shape.Sym names) spelled once bound =
     let within = either_false (nat_lt 1024 (length names)) _ (fails _ _ (left_none (out_at types (record { line = line; shape = shape.Sym names })) _ bound)) in
     let few = leb-false (suc 1024) (length names) within in

@@ -1,10 +1,11 @@
 -- What a search by name finds, by the number of the name.
-use Rattle.std.proofs.Common.{arith, ◌≡◌, ◌∙◌, ℕ, ◌+◌, ◌<◌, ◌≤◌, suc, inl, inr, List, [], ◌∷◌, length, get_or, map, Bool, true, false, not, cond, Some, None, find, position, nat_lt, refl, sym, ap, bytes_eq}
+use Rattle.std.proofs.Common.{arith, ◌≡◌, ◌∙◌, ℕ, ◌+◌, ◌<◌, ◌≤◌, suc, List, [], ◌∷◌, length, get_or, map, Bool, true, false, not, cond, Some, None, find, position, refl, sym, ap, bytes_eq}
 use Rattle.std.specs.Prelude.{unwrap_or}
 use Rattle.std.specs.List.{prefix_len}
-use Rattle.std.proofs.lemmas.Bool.Decides.{leb_tells}
 use Rattle.std.proofs.lemmas.List.Sums.{prefix_len-le-length}
 use Rattle.std.proofs.lemmas.List.Quantifiers.{position-Some}
+use Rattle.reo_values.proofs.Sequences.{at_place, at_none}
+use Rattle.reo_values.proofs.Naturals.{not_below}
 use Rattle.reo_flat.specs.Unfolding.{Meaning, no_meaning, meaning_named}
 use Rattle.reo_rules.proofs.Mapped.{position-map}
 
@@ -29,17 +30,6 @@ module _ {X : Type 0} (p : X → Bool) (d : X) where
       let within = prefix_len-le-length (λ x. not (p x)) xs in
       let same : prefix_len (λ x. not (p x)) xs ≡ length xs = omega arith in
       found_at xs ∙ ap (λ k. get_or xs k d) same ∙ past xs
-
-at_place : (t : Bool) (a n : ℕ) → cond t (Some a) None ≡ Some n → a ≡ n
-at_place true a n is = cc
-at_place false a n is = absurd (cc)
-
-at_none : (t : Bool) (a : ℕ) → cond t (Some a) None ≡ None → t ≡ false
-at_none true a is = absurd (cc)
-at_none false a is = refl
-
-not_below : (a b : ℕ) → nat_lt a b ≡ false → b ≤ a
-not_below a b is = elim (leb_tells (suc a) b) [ inl w ↦ absurd (cc) | inr w ↦ omega arith ]
 
 module _ (known : List Meaning) (names : List (List ℕ)) (name : List ℕ) (are : names ≡ map (λ (m : Meaning). m.name) known) where
   number : position (bytes_eq name) names ≡ position (λ (m : Meaning). bytes_eq name m.name) known

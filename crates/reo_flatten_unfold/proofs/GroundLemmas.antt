@@ -1,8 +1,9 @@
 -- The ground of a program, declaration by declaration.
-use Rattle.std.proofs.Common.{arith, ◌≡◌, ◌∙◌, ℕ, zero, suc, ◌+◌, ◌-◌, ◌<◌, List, [], ◌∷◌, ◌++◌, length, map, take, drop, get_or, false, Some, refl, sym, ap, subst}
+use Rattle.std.proofs.Common.{arith, ◌≡◌, ◌∙◌, ℕ, zero, suc, ◌+◌, ◌-◌, ◌<◌, List, [], ◌∷◌, ◌++◌, length, map, take, drop, get_or, false, refl, sym, ap, subst}
 use Rattle.std.specs.Prelude.{slice_get}
 use Rattle.std.proofs.lemmas.List.{append-nil, append_assoc, length-append, length-map, map-append, take_all, take-append-le, get_or-append_right}
 use Rattle.std.proofs.lemmas.Option.{slice_get_within}
+use Rattle.reo_values.proofs.Sequences.{left_none, cut_at}
 use Rattle.reo_trees.specs.declared.types.TypeTerm.{TypeTerm}
 use Rattle.reo_trees.specs.declared.programs.Connector.{Connector}
 use Rattle.reo_trees.specs.declared.programs.Declaration.{Declaration}
@@ -10,7 +11,7 @@ use Rattle.reo_trees.specs.declared.programs.Declaration.TheVariants as declarat
 use Rattle.reo_rules.specs.Lists.{has_name}
 use Rattle.reo_rules.specs.Types.{Typed, types_after, types_of, resolved, names_of}
 use Rattle.reo_rules.specs.Scopes.{type_names, connectors_of, connector_names}
-use Rattle.reo_rules.proofs.AfterLemmas.{flat_map-append, left_none}
+use Rattle.reo_rules.proofs.AfterLemmas.{flat_map-append}
 use Rattle.reo_rules.specs.Twice.{twice_among, twice_in}
 use Rattle.reo_rules.specs.Scopes.{connectors_in}
 use Rattle.reo_flat.specs.declared.sizes.Sizes.{Sizes}
@@ -70,12 +71,6 @@ names_of-meanings ds = meant_after [] [] ds
 pub many_meanings : (ds : List Declaration) → length (meanings_of ds) ≡ length (connectors_of ds)
 many_meanings ds =
     sym (length-map (meanings_of ds) (λ (m : Meaning). m.name)) ∙ ap length (names_of-meanings ds) ∙ length-map (connectors_of ds) (λ (c : Connector). c.name)
-
--- A list is what stands before a place, what stands there, and what stands behind.
-pub cut_at : {X : Type 0} (xs : List X) (p : ℕ) (x : X) → slice_get xs p ≡ Some x → xs ≡ take p xs ++ x ∷ drop (suc p) xs
-cut_at [] p x is = absurd (cc)
-cut_at (y ∷ ys) zero x is = let same : y ≡ x = cc in ap (λ z. z ∷ ys) same
-cut_at (y ∷ ys) (suc p) x is = ap (λ zs. y ∷ zs) (cut_at ys p x is)
 
 module _ (ds : List Declaration) (number : ℕ) (c : Connector) (s : Stand) (stands : IsStand ds number c s) where
   abbrev front : List Declaration

@@ -1,20 +1,11 @@
 -- What a search by name finds in a front of a list.
-use Rattle.std.proofs.Common.{arith, ◌≡◌, ◌∙◌, ℕ, zero, suc, ◌+◌, ◌<◌, ◌≤◌, inl, inr, List, [], ◌∷◌, length, take, Bool, true, false, not, cond, Some, None, find, position, nat_lt, refl, ap}
+use Rattle.std.proofs.Common.{arith, ◌≡◌, ◌∙◌, ℕ, zero, suc, ◌+◌, ◌<◌, ◌≤◌, inl, inr, List, [], ◌∷◌, length, take, Bool, true, false, not, cond, Some, None, find, position, refl, ap}
 use Rattle.std.specs.Prelude.{slice_get}
 use Rattle.std.specs.List.{prefix_len}
 use Rattle.std.proofs.lemmas.Bool.{ltb-true}
 use Rattle.std.proofs.lemmas.Bool.Decides.{leb_tells}
-
-at_place : (t : Bool) (a n : ℕ) → cond t (Some a) None ≡ Some n → a ≡ n
-at_place true a n is = cc
-at_place false a n is = absurd (cc)
-
-at_none : (t : Bool) (a : ℕ) → cond t (Some a) None ≡ None → t ≡ false
-at_none true a is = absurd (cc)
-at_none false a is = refl
-
-not_below : (a b : ℕ) → nat_lt a b ≡ false → b ≤ a
-not_below a b is = elim (leb_tells (suc a) b) [ inl w ↦ absurd (cc) | inr w ↦ omega arith ]
+use Rattle.reo_values.proofs.Sequences.{at_place, at_none}
+use Rattle.reo_values.proofs.Naturals.{not_below}
 
 module _ {X : Type 0} (p : X → Bool) where
   -- How many there are before the first that passes.

@@ -10,8 +10,9 @@ use Rattle.std.proofs.lemmas.List.{length-append, length-map}
 use Rattle.std.proofs.lemmas.List.FromFn.{length-map-range_with_len}
 use Rattle.std.proofs.lemmas.Grind.{flat_map-append}
 use Rattle.reo_values.specs.Names.{is_digit}
+use Rattle.reo_values.proofs.Truths.{and_left}
+use Rattle.reo_values.proofs.Sequences.{bytes_same}
 use Rattle.reo_grammar.specs.Spelling.{is_digits}
-use Rattle.reo_grammar.proofs.Sound.{and-left}
 use Rattle.reo_lexer.proofs.Spelled.{digit-parts}
 use Rattle.reo_syntax.proofs.Decimals.{decimal-value}
 use Rattle.reo_net_base.specs.Behaviour.{Behaviour}
@@ -27,7 +28,7 @@ use Rattle.reo_flatten_laws.proofs.Cuts.{number_once, behind}
 use Rattle.reo_gen.specs.Names.{link, output}
 use Rattle.reo_gen.specs.Circuits.{source_of, sink_of}
 use Rattle.reo_gen_laws.proofs.Trees.{Places, declarations_of}
-use Rattle.reo_gen_laws.proofs.NameTests.{Small, same-name, other-name, other-outputs, other-links}
+use Rattle.reo_gen_laws.proofs.NameTests.{Small, other-name, other-outputs, other-links}
 use Rattle.reo_gen_laws.proofs.Rules.{source-one, sink-one, outputs_to, links_to, last-sink, link-sink, link-source}
 use Rattle.reo_gen_laws.proofs.ScriptChecks.{made_ports, in_port, out_port}
 use Rattle.reo_gen_laws.proofs.Placing.{stage_placed, stage_nodes, stage_at, path_of, made_placed, made_nodes, placed-are, nodes-are}
@@ -130,11 +131,11 @@ no-digit_back d h = let (l, u) = digit-parts d h in grind (arith, nat_tests)
 
 digits-other : (ds rest : List ℕ) → is_digits ds ≡ true → bytes_eq (115 ∷ ds) (115 ∷ 116 ∷ rest) ≡ false
 digits-other [] rest h = absurd (cc)
-digits-other (d ∷ ds) rest h = λ i. no-digit d (and-left (is_digit d) (list_all is_digit ds) h) i && bytes_eq ds rest
+digits-other (d ∷ ds) rest h = λ i. no-digit d (and_left (is_digit d) (list_all is_digit ds) h) i && bytes_eq ds rest
 
 other-digits : (ds rest : List ℕ) → is_digits ds ≡ true → bytes_eq (115 ∷ 116 ∷ rest) (115 ∷ ds) ≡ false
 other-digits [] rest h = absurd (cc)
-other-digits (d ∷ ds) rest h = λ i. no-digit_back d (and-left (is_digit d) (list_all is_digit ds) h) i && bytes_eq rest ds
+other-digits (d ∷ ds) rest h = λ i. no-digit_back d (and_left (is_digit d) (list_all is_digit ds) h) i && bytes_eq rest ds
 
 abbrev inner : ℕ → ℕ → List ℕ
 inner m l = path_of m ++ l ∷ []
@@ -197,11 +198,11 @@ input-taken n some =
 output-given : (n m : ℕ) → 1 ≤ n → n ≤ 256 → m < n + 1 → stages_hit n false (output m) ≡ 1
 output-given n zero some few u =
     hits-one n false (output 0) 1 n 1 n some (omega arith)
-    (apart-gives n n (output 0) true false (output-apart 0 n) (ap (bytes_eq (output 0)) (sym (last-sink n)) ∙ same-name (output 0)) (other-outputs 0 n (omega arith) (omega arith) (λ e. omega arith)))
+    (apart-gives n n (output 0) true false (output-apart 0 n) (ap (bytes_eq (output 0)) (sym (last-sink n)) ∙ bytes_same (output 0)) (other-outputs 0 n (omega arith) (omega arith) (λ e. omega arith)))
     (λ j l v z. apart-gives n j (output 0) false false (output-apart 0 j) (ap (bytes_eq (output 0)) (sym (link-sink n j z))) (other-outputs 0 j (omega arith) (omega arith) (λ e. omega arith)))
 output-given n (suc m) some few u =
     let sinks = λ (j : ℕ). sink-one (λ z. bytes_eq (output (suc m)) z ≡ false) n j (other-outputs (suc m) 0 (omega arith) (omega arith) (λ e. omega arith)) (λ e. refl) in
-    hits-one n false (output (suc m)) 1 (suc m) 1 n (omega arith) (omega arith) (apart-gives n (suc m) (output (suc m)) false true (output-apart (suc m) (suc m)) (sinks (suc m)) (same-name (output (suc m))))
+    hits-one n false (output (suc m)) 1 (suc m) 1 n (omega arith) (omega arith) (apart-gives n (suc m) (output (suc m)) false true (output-apart (suc m) (suc m)) (sinks (suc m)) (bytes_same (output (suc m))))
     (λ j l v z. apart-gives n j (output (suc m)) false false (output-apart (suc m) j) (sinks j) (other-outputs (suc m) j (omega arith) (omega arith) (λ e. z (sym e))))
 
 output-taken : (n m : ℕ) → stages_hit n true (output m) ≡ 0
@@ -209,20 +210,20 @@ output-taken n m = hits-none n true (output m) 1 n (λ j l u. apart-takes n j (o
 
 link-given : (n m : ℕ) → n ≤ 256 → 1 ≤ m → m < n → stages_hit n false (link m) ≡ 1
 link-given n m few l u =
-    hits-one n false (link m) 1 m 1 n l (omega arith) (apart-gives n m (link m) true false (link-apart m m (omega arith)) (ap (bytes_eq (link m)) (sym (link-sink n m (λ e. omega arith))) ∙ same-name (link m)) refl)
+    hits-one n false (link m) 1 m 1 n l (omega arith) (apart-gives n m (link m) true false (link-apart m m (omega arith)) (ap (bytes_eq (link m)) (sym (link-sink n m (λ e. omega arith))) ∙ bytes_same (link m)) refl)
     (λ j k v z. apart-gives n j (link m) false false (link-apart m j (omega arith)) (sink-one (λ w. bytes_eq (link m) w ≡ false) n j refl (λ e. other-links m j (omega arith) (omega arith) (λ w. z (sym w)))) refl)
 
 link-taken : (n m : ℕ) → n ≤ 256 → 1 ≤ m → m < n → stages_hit n true (link m) ≡ 3
 link-taken n m few l u =
     hits-one n true (link m) 3 (m + 1) 1 n (omega arith) (omega arith)
-    (apart-takes n (m + 1) (link m) true (link-apart m (m + 1) (omega arith)) (ap (bytes_eq (link m)) (sym (link-source (m + 1) (λ e. omega arith)) ∙ ap link (omega arith)) ∙ same-name (link m)))
+    (apart-takes n (m + 1) (link m) true (link-apart m (m + 1) (omega arith)) (ap (bytes_eq (link m)) (sym (link-source (m + 1) (λ e. omega arith)) ∙ ap link (omega arith)) ∙ bytes_same (link m)))
     (λ j k v z. apart-takes n j (link m) false (link-apart m j (omega arith)) (source-one (λ w. bytes_eq (link m) w ≡ false) j refl (λ e. other-links m (j - 1) (omega arith) (omega arith) (λ w. z (omega arith)))))
 
 inner-same : (m l r : ℕ) → bytes_eq (inner m l) (inner m r) ≡ (l == r)
 inner-same m l r = by (l == r) refl
   where
     by : (b : Bool) → (l == r) ≡ b → bytes_eq (inner m l) (inner m r) ≡ b
-    by true e = ap (λ z. bytes_eq (inner m l) (inner m z)) (sym ((Decides-eqb l r).0 e)) ∙ same-name (inner m l)
+    by true e = ap (λ z. bytes_eq (inner m l) (inner m z)) (sym ((Decides-eqb l r).0 e)) ∙ bytes_same (inner m l)
     by false e = inner-letter m l r (eqb-false l r e)
 
 inner-sink : (n m l j : ℕ) → Small j → bytes_eq (inner m l) (sink_of n j) ≡ false
@@ -258,7 +259,7 @@ outs-one : (m a k : ℕ) → a + k ≤ 300 → a ≤ m → m < a + k → hits tr
 outs-one m a zero few l u = absurd (omega arith)
 outs-one m a (suc k) few l u =
     elim (eq-or-lt_of_le l) [
-      | inl e ↦ (λ i. ((one_if ((ap (λ z. bytes_eq (output m) (output z)) e ∙ same-name (output m)) i && true)) + 0)
+      | inl e ↦ (λ i. ((one_if ((ap (λ z. bytes_eq (output m) (output z)) e ∙ bytes_same (output m)) i && true)) + 0)
           + outs-none (output m) (a + 1) k (λ j l' u'. other-outputs m j (omega arith) (omega arith) (λ w. omega arith)) i)
       | inr more ↦ (λ i. ((one_if (other-outputs m a (omega arith) (omega arith) (λ w. omega arith) i && true)) + 0) + outs-one m (a + 1) k (omega arith) (omega arith) (omega arith) i)
     ]

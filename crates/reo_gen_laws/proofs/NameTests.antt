@@ -10,9 +10,7 @@ use Rattle.reo_lexer.proofs.Spelled.{never}
 use Rattle.reo_rules.specs.Lists.{has_name}
 use Rattle.reo_gen.specs.Names.{link, output}
 pub use Rattle.std.proofs.lemmas.Bool.{or_left as or-left, or_right as or-right, or_from as or-neither}
-
-pub same-name : (a : List ℕ) → bytes_eq a a ≡ true
-same-name a = (bytes_eq-Decides a a).1 refl
+use Rattle.reo_values.proofs.Sequences.{bytes_same}
 
 pub other-name : (a b : List ℕ) → (a ≡ b → ⊥) → bytes_eq a b ≡ false
 other-name a b h = never (bytes_eq a b) (λ e. h ((bytes_eq-Decides a b).0 e))
@@ -41,7 +39,7 @@ pub has-one : (f : ℕ → List ℕ) (a n j : ℕ) → a ≤ j → j < a + n →
 has-one f a zero j l u = absurd (omega arith)
 has-one f a (suc n) j l u =
     elim (eq-or-lt_of_le l) [
-      | inl e ↦ or-left (bytes_eq (f j) (f a)) (has_name (map f (range_with_len (a + 1) n)) (f j)) (subst (λ k. bytes_eq (f k) (f a) ≡ true) e (same-name (f a)))
+      | inl e ↦ or-left (bytes_eq (f j) (f a)) (has_name (map f (range_with_len (a + 1) n)) (f j)) (subst (λ k. bytes_eq (f k) (f a) ≡ true) e (bytes_same (f a)))
       | inr k ↦ or-right (bytes_eq (f j) (f a)) (has_name (map f (range_with_len (a + 1) n)) (f j)) (has-one f (a + 1) n j (omega arith) (omega arith))
     ]
 

@@ -2,10 +2,10 @@
 use Rattle.std.proofs.Common.{◌≡◌, ℕ, ◌+◌, ◌≤◌, ◌<◌, zero, suc, Bool, true, false, List, [], ◌∷◌, ◌++◌, map, inl, inr, refl, sym, ◌∙◌, ap, subst, arith, append_assoc, append-nil}
 use Rattle.std.specs.List.{range_with_len, flat_map, list_any}
 use Rattle.std.proofs.Math.Nat.{eq-or-lt_of_le}
+pub use Rattle.reo_values.proofs.Sequences.{both_none as both-none}
 use Rattle.reo_rules.specs.Lists.{each_after}
 use Rattle.reo_gen_laws.proofs.Written.{Lines, made_by}
 use Rattle.reo_gen_laws.proofs.NameTests.{or-left, or-right, or-neither}
-pub use Rattle.reo_rules.proofs.AfterLemmas.{both_none as both-none}
 
 -- A pass that finds nothing in any of them finds nothing.
 pub pass-none : {X Y : Type 0} (f : X → List Y) (make : ℕ → Lines → X) (a n : ℕ) (at : ℕ → Lines)

@@ -2,6 +2,7 @@
 use Rattle.std.proofs.Common.{◌≡◌, ℕ, Bool, true, ◌&&◌, not, List, [], ◌∷◌, ◌++◌, refl, sym, ◌∙◌, ap, subst, append-nil, nat_le}
 use Rattle.std.specs.List.{list_all}
 use Rattle.reo_values.specs.Names.{is_name}
+use Rattle.reo_values.proofs.Truths.{and_left, and_right}
 use Rattle.reo_grammar.specs.declared.kind.TokenKind.TheVariants as kinds
 use Rattle.reo_grammar.specs.Bytes.{one_of}
 use Rattle.reo_grammar.specs.Spelling.{reserved}
@@ -10,26 +11,17 @@ use Rattle.reo_grammar.specs.Tokens.Class.{fixed, name, number}
 use Rattle.reo_grammar.specs.Conditions.{fixed_kind, fixed_token}
 use Rattle.reo_grammar.specs.Grammar.{Grammar, Says, line_of}
 use Rattle.reo_grammar.specs.Grammar.Grammar.{nothing, token, both, made, either, chain, lined, rule}
-use Rattle.reo_grammar.proofs.Lines.{matches-alike}
-use Rattle.reo_grammar.proofs.Sound.{and-left, and-right, and-both}
-use Rattle.reo_lexer.specs.Gaps.{IsGap, is_space}
-use Rattle.reo_lexer.specs.Gaps.IsGap.{no_gap, space}
+use Rattle.reo_grammar.proofs.Lines.{matches-alike, parts}
+use Rattle.reo_grammar.proofs.Sound.{and-both}
+use Rattle.reo_lexer.specs.Gaps.{is_space}
+use Rattle.reo_lexer.specs.Gaps.IsGap.{no_gap}
 use Rattle.reo_lexer.specs.Lexing.{IsTokens, lexemes_of}
 use Rattle.reo_lexer.specs.declared.token.Token.{Token}
 use Rattle.reo_lexer.proofs.Cut.{is_cut}
 use Rattle.reo_syntax.proofs.Row.{Row, row-append, gap-row, token-row, row-tokens}
 use Rattle.reo_syntax.proofs.Says.{says-nothing, says-token, says-both, says-made, says-left, says-right, says-first, says-more, says-lined, says-rule}
+use Rattle.reo_syntax.proofs.Again.{alike-none, blanks}
 use Rattle.reo_gen_laws.proofs.Heights.{Height, height, over, behind, is_low, AreLow, low-append, behind-append, low-alike}
-
--- Like two parts are two parts like them.
-alike-parts : (a b vs : List Lexeme) → Alike (a ++ b) vs → (c : List Lexeme) × (d : List Lexeme) × (vs ≡ c ++ d) × Alike a c × Alike b d
-alike-parts [] b vs h = ([], vs, refl, tt, h)
-alike-parts (t ∷ a) b [] h = absurd h
-alike-parts (t ∷ a) b (v ∷ vs) (k, w, h) = let (c, d, e, p, q) = alike-parts a b vs h in (v ∷ c, d, ap (λ l. v ∷ l) e, (k, w, p), q)
-
-alike-none : (vs : List Lexeme) → Alike [] vs → vs ≡ []
-alike-none [] h = refl
-alike-none (v ∷ vs) h = absurd h
 
 -- The tokens say something like this.
 abbrev pub Said : {Ref : Type 0} {tree : Ref → Type 0} {A : Type 0} (rules : (r : Ref) → Grammar Ref tree (tree r)) → Grammar Ref tree A → List Lexeme → (A → Type 0) → Type 0
@@ -42,11 +34,6 @@ pub record Reads {Ref : Type 0} {tree : Ref → Type 0} {A : Type 0} (rules : (r
   pub low : AreLow h us
   pub ends : behind h us ≡ k
   pub says : (vs : List Lexeme) → Alike us vs → Said rules g vs S
-
--- Spaces and LFs are a gap.
-blanks : (g : List ℕ) → list_all is_space g ≡ true → IsGap g
-blanks [] h = no_gap
-blanks (b ∷ g) h = space b g (and-left (is_space b) (list_all is_space g) h) (blanks g (and-right (is_space b) (list_all is_space g) h))
 
 alike-one : {Ref : Type 0} {tree : Ref → Type 0} (rules : (r : Ref) → Grammar Ref tree (tree r)) (c : Class) (u : Lexeme) (vs : List Lexeme) → matches c u ≡ true → Alike (u ∷ []) vs → Said rules (token c) vs (λ x. u.bytes ≡ x.bytes)
 alike-one rules c u [] m h = absurd h
@@ -82,7 +69,7 @@ module _ {Ref : Type 0} {tree : Ref → Type 0} {rules : (r : Ref) → Grammar R
     row = row-append a b x.us y.us r x.row y.row;
     low = low-append h x.us y.us x.low (subst (λ z. AreLow z y.us) (sym x.ends) y.low);
     ends = behind-append h x.us y.us ∙ ap (λ z. behind z y.us) x.ends ∙ y.ends;
-    says = λ vs i. let (c, d, w, p, q) = alike-parts x.us y.us vs i in subst (λ z. Said rules e z U) (sym w) (by c d (x.says c p) (y.says d q));
+    says = λ vs i. let (c, d, w, p, q) = parts x.us y.us vs i in subst (λ z. Said rules e z U) (sym w) (by c d (x.says c p) (y.says d q));
   }
 
   pub reads-both : {A B C : Type 0} {f : A → B → C} {g : Grammar Ref tree A} {e : Grammar Ref tree B} {a b r : List ℕ} {S : A → Type 0} {T : B → Type 0} {h k l : Height} (U : C → Type 0)
@@ -136,11 +123,11 @@ module _ {Ref : Type 0} {tree : Ref → Type 0} {rules : (r : Ref) → Grammar R
   pub reads-word : (b gap r : List ℕ) (h : Height) → is_fit h b gap ≡ true → is_cut (fixed_kind b) b (gap ++ r) ≡ true
       → Reads rules (made (λ t. tt {0}) (token (fixed b))) (b ++ gap) r (λ x. Unit {0}) h (over h (fixed_token b))
   reads-word b gap r h f i =
-      let p : is_real (fixed_token b) ≡ true = and-left _ _ f in
-      let f1 = and-right (is_real (fixed_token b)) _ f in
-      let q : matches (fixed b) (fixed_token b) ≡ true = and-left _ _ f1 in
-      let f2 = and-right (matches (fixed b) (fixed_token b)) _ f1 in
-      reads-made (λ x. Unit {0}) (reads-token (fixed b) (fixed_token b) gap r h q p (and-left _ _ f2) i (and-right (list_all is_space gap) _ f2)) (λ x e. tt {0})
+      let p : is_real (fixed_token b) ≡ true = and_left _ _ f in
+      let f1 = and_right (is_real (fixed_token b)) _ f in
+      let q : matches (fixed b) (fixed_token b) ≡ true = and_left _ _ f1 in
+      let f2 = and_right (matches (fixed b) (fixed_token b)) _ f1 in
+      reads-made (λ x. Unit {0}) (reads-token (fixed b) (fixed_token b) gap r h q p (and_left _ _ f2) i (and_right (list_all is_space gap) _ f2)) (λ x e. tt {0})
 
   pub reads-name : (b gap r : List ℕ) (h : Height) → IsNamed b → list_all is_space gap ≡ true → is_cut kinds.Name b (gap ++ r) ≡ true → (nat_le h.parentheses 64 && nat_le h.braces 16) ≡ true
       → Reads rules (made (λ t. t.bytes) (token name)) (b ++ gap) r (λ n. b ≡ n) h h

@@ -1,9 +1,8 @@
 -- Circuits in which items only rise.
 use Rattle.std.proofs.Common.{arith, ◌≡◌, ◌∙◌, ℕ, ◌+◌, ◌*◌, ◌<◌, ◌≤◌, zero, suc, List, [], ◌∷◌, ◌++◌, length, get_or, map, take, Bool, true, false, cond, ◌&&◌, refl, sym, ap, subst, append_assoc, zero-add, nat_le}
 use Rattle.std.specs.Prelude.{bytes_eq}
-use Rattle.std.specs.List.{AllByRecursion, flat_map, range_with_len}
+use Rattle.std.specs.List.{AllByRecursion, flat_map}
 use Rattle.std.proofs.lemmas.List.{length-append, length-map, map-append, get_or-append-add}
-use Rattle.std.proofs.lemmas.List.FromFn.{length-range_with_len}
 use Rattle.std.proofs.Math.ListN.{get_or-append}
 use Rattle.std.proofs.lemmas.Slice.Eq.{bytes_eq-Decides}
 use Rattle.reo_net_order.specs.Arrows.{Walk, NoCycle}
@@ -11,6 +10,7 @@ use Rattle.reo_net_base.specs.declared.joint.End.{End}
 use Rattle.reo_net_base.specs.declared.joint.Joint.{Joint}
 use Rattle.reo_net_base.specs.Behaviour.{Behaviour}
 use Rattle.reo_net_base.specs.Net.{Net, end_of, behaviour_at, sides_of, first_side, side_at, from_sides, to_sides}
+use Rattle.reo_net_circuit.proofs.ReshapeLemmas.{side_count}
 use Rattle.reo_kinds.specs.declared.kind.Kind.{Kind}
 use Rattle.reo_kinds.specs.declared.kind.Kind.TheVariants as primitives
 use Rattle.reo_kinds.specs.Kinds.{behaviour_of}
@@ -53,9 +53,6 @@ At us i u = (i < length us) × (get_or us i u ≡ u)
 abbrev all_ranks : List Piece → List ℕ
 all_ranks us = flat_map (λ (u : Piece). u.ranks) us
 
-length-sides : (b : Behaviour) → length (sides_of b) ≡ b.sides
-length-sides b = length-map (range_with_len 0 b.sides) _ ∙ length-range_with_len 0 b.sides
-
 -- The rank of a side by its number among all sides.
 rank-at : (us : List Piece) (i s : ℕ) (u : Piece) → AllByRecursion HasEach us → At us i u → s < length u.ranks → get_or (all_ranks us) (first_side (map behaviour_in us) i + s) 0 ≡ get_or u.ranks s 0
 rank-at [] i s u each at below = let h = at.0 in absurd (omega arith)
@@ -64,7 +61,7 @@ rank-at (v ∷ us) zero s u each at below =
     ap (λ k. get_or (v.ranks ++ all_ranks us) k 0) (zero-add s) ∙ get_or-append v.ranks (all_ranks us) 0 s near ∙ ap (λ (w : Piece). get_or w.ranks s 0) at.1
 rank-at (v ∷ us) (suc i) s u each at below =
     let f = first_side (map behaviour_in us) i in
-    let long : length (sides_of (behaviour_in v)) ≡ length v.ranks = length-sides (behaviour_in v) ∙ sym each.0 in
+    let long : length (sides_of (behaviour_in v)) ≡ length v.ranks = side_count (behaviour_in v) ∙ sym each.0 in
     let place : first_side (behaviour_in v ∷ map behaviour_in us) (suc i) + s ≡ length v.ranks + (f + s) = omega (arith, length-append (sides_of (behaviour_in v)) (flat_map sides_of (take i (map behaviour_in us))), long) in
     ap (λ k. get_or (v.ranks ++ all_ranks us) k 0) place ∙ get_or-append-add v.ranks (all_ranks us) (f + s) 0 ∙ rank-at us i s u each.1 (let h = at.0 in omega arith, at.1) below
 

@@ -4,8 +4,8 @@ use Rattle.std.specs.List.{AllByRecursion, flat_map, range_with_len, list_all}
 use Rattle.std.specs.Fmt.{decimal}
 use Rattle.std.proofs.lemmas.Bool.Decides.{nat_tests}
 use Rattle.reo_values.specs.Names.{is_digit}
+use Rattle.reo_values.proofs.Truths.{and_left, and_right}
 use Rattle.reo_grammar.specs.Spelling.{is_digits}
-use Rattle.reo_grammar.proofs.Sound.{and-left, and-right}
 use Rattle.reo_lexer.proofs.Spelled.{digit-parts}
 use Rattle.reo_syntax.proofs.Decimals.{decimal-value}
 use Rattle.reo_kinds.specs.declared.kind.Kind.{Kind}
@@ -46,8 +46,8 @@ inner-rank path b = ap byte_rank (last-one path b)
 
 last-digit : (b : ℕ) (ds : List ℕ) → is_digits ds ≡ true → is_digit (last_byte (b ∷ ds)) ≡ true
 last-digit b [] h = absurd (cc)
-last-digit b (d ∷ []) h = and-left (is_digit d) true h
-last-digit b (d ∷ e ∷ ds) h = last-digit d (e ∷ ds) (and-right (is_digit d) (list_all is_digit (e ∷ ds)) h)
+last-digit b (d ∷ []) h = and_left (is_digit d) true h
+last-digit b (d ∷ e ∷ ds) h = last-digit d (e ∷ ds) (and_right (is_digit d) (list_all is_digit (e ∷ ds)) h)
 
 digit-low : (d : ℕ) → is_digit d ≡ true → byte_rank d ≡ 0
 digit-low d h =

@@ -11,6 +11,7 @@ use Rattle.std.proofs.lemmas.List.FromFn.{map-range_with_len_more}
 use Rattle.std.proofs.lemmas.Grind.{flat_map-append}
 use Rattle.std.proofs.lemmas.Bool.Decides.{Decides-eqb}
 use Rattle.reo_values.specs.declared.kindred.Kindred.TheVariants as kinds
+use Rattle.reo_values.proofs.Truths.{and_false}
 use Rattle.reo_trees.specs.declared.items.Item.{Item}
 use Rattle.reo_trees.specs.declared.programs.Parameter.{Parameter}
 use Rattle.reo_rules.specs.declared.fault.FlatFault.{FlatFault}
@@ -58,13 +59,6 @@ names-of-parameters n at = ap (λ l. codes "i" ∷ l) (made-map (λ (p : Paramet
 
 pub names-of-links : (n : ℕ) (at : Places) → node_names (links_in n at) ≡ links_to (n - 1)
 names-of-links n at = made-flat (λ (i : Item). node_names_in i.form) link_by link 1 (n - 1) at.main_links (λ j l. refl)
-
-names-of-stages : (n : ℕ) (at : Places) → node_names (stages_in n at) ≡ []
-names-of-stages n at = pass-none (λ (i : Item). node_names_in i.form) (stage_by n) 1 n at.main_stages (λ j l h k. refl)
-
--- No output is the input or a link, and no link is one of the parameters.
-input-no-output : (j : ℕ) → bytes_eq (codes "i") (output j) ≡ false
-input-no-output j = refl
 
 none-twice : {X : Type 0} (b : Bool) (x : X) → b ≡ false → where_true b x ≡ []
 none-twice true x h = absurd (cc)
@@ -203,11 +197,6 @@ range-none n at = ap (λ l. l ++ []) (both-none _ _ (parameters-none n at (λ (p
 arity-none : (n : ℕ) (at : Places) → arity (declarations_of n at) ≡ []
 arity-none n at = ap (λ l. l ++ []) (items-none n at _ (λ j l. refl) (λ j l h u. refl))
 
--- No end goes against a parameter.
-and-false : (b : Bool) → (b && false) ≡ false
-and-false true = refl
-and-false false = refl
-
 and-true : (b : Bool) → b ≡ false → (b && true) ≡ false
 and-true true h = absurd (cc)
 and-true false h = refl
@@ -218,16 +207,16 @@ right-way n at x w h k = or-neither _ _ h (none-any (goes_against (touch x w)) o
 
 source-way : (n : ℕ) (at : Places) (j : ℕ) → list_any (goes_against (touch (source_of j) true)) (parameters_in n at) ≡ false
 source-way n at j =
-    right-way n at (source_of j) true (and-false (bytes_eq (source_of j) (codes "i")))
+    right-way n at (source_of j) true (and_false (bytes_eq (source_of j) (codes "i")))
     (λ k l. and-true (bytes_eq (source_of j) (output k)) (source-one (λ x. bytes_eq x (output k) ≡ false) j refl (λ e. refl)))
 
 sink-way : (n : ℕ) (at : Places) (j : ℕ) → list_any (goes_against (touch (sink_of n j) false)) (parameters_in n at) ≡ false
 sink-way n at j =
     right-way n at (sink_of n j) false (and-true (bytes_eq (sink_of n j) (codes "i")) (sink-one (λ x. bytes_eq x (codes "i") ≡ false) n j refl (λ e. refl)))
-    (λ k l. and-false (bytes_eq (sink_of n j) (output k)))
+    (λ k l. and_false (bytes_eq (sink_of n j) (output k)))
 
 output-way : (n : ℕ) (at : Places) (j : ℕ) → list_any (goes_against (touch (output j) false)) (parameters_in n at) ≡ false
-output-way n at j = right-way n at (output j) false refl (λ k l. and-false (bytes_eq (output j) (output k)))
+output-way n at j = right-way n at (output j) false refl (λ k l. and_false (bytes_eq (output j) (output k)))
 
 direction-none : (n : ℕ) (at : Places) → direction (declarations_of n at) ≡ []
 direction-none n at =

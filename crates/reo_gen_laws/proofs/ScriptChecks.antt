@@ -25,10 +25,11 @@ use Rattle.reo_scripts.specs.ScriptRules.{Naming, namings, namings_in, port_name
 use Rattle.reo_gen.specs.Names.{output}
 use Rattle.reo_gen_laws.proofs.Written.{Lines, made_by}
 use Rattle.reo_gen_laws.proofs.Trees.{output_by, Places, declarations_of}
-use Rattle.reo_gen_laws.proofs.NameTests.{same-name, other-outputs, or-neither, has-neither, has-none}
+use Rattle.reo_gen_laws.proofs.NameTests.{other-outputs, or-neither, has-neither, has-none}
 use Rattle.reo_gen_laws.proofs.Passes.{both-none, pass-none, after-none, made-map, made-flat}
 use Rattle.reo_gen_laws.proofs.ScriptTexts.{write_by, writer_by, taker_by, components_by}
 use Rattle.std.proofs.Math.Nat.{eq-or-lt_of_le}
+use Rattle.reo_values.proofs.Sequences.{bytes_same}
 
 abbrev pub item_type : Kindred
 item_type = kinds.Int (pos 0) (pos 999)
@@ -75,7 +76,7 @@ out-among : (a n j : ℕ) → a + n ≤ 300 → a ≤ j → j < a + n → port_n
 out-among a zero j few l u = absurd (omega arith)
 out-among a (suc n) j few l u =
     elim (eq-or-lt_of_le l) [
-      | inl e ↦ subst (λ k. port_named (map out_port (range_with_len a (suc n))) (output k) ≡ Some (out_port k)) e (port-first (out_port a) (map out_port (range_with_len (a + 1) n)) (output a) (same-name (output a)))
+      | inl e ↦ subst (λ k. port_named (map out_port (range_with_len a (suc n))) (output k) ≡ Some (out_port k)) e (port-first (out_port a) (map out_port (range_with_len (a + 1) n)) (output a) (bytes_same (output a)))
       | inr k ↦ port-other (out_port a) (map out_port (range_with_len (a + 1) n)) (output j) (other-outputs j a (omega arith) (omega arith) (λ e. omega arith)) ∙ out-among (a + 1) n j (omega arith) (omega arith) (omega arith)
     ]
 

@@ -3,10 +3,10 @@ use Rattle.std.proofs.Common.{arith, lit≤, ◌≡◌, ◌∙◌, ℕ, ◌+◌,
 use Rattle.std.specs.Prelude.{if◌then◌else◌}
 use Rattle.std.specs.List.{flat_map, range_with_len, sum_by, fold}
 use Rattle.std.specs.Fmt.{decimal}
-use Rattle.std.proofs.lemmas.Bool.Decides.{nat_tests}
 use Rattle.std.proofs.lemmas.Fmt.{length-decimal-le}
 use Rattle.std.proofs.lemmas.List.{length-append}
 use Rattle.std.proofs.lemmas.List.Sums.{fold-append, sum_by-append, sum_by-cons}
+use Rattle.reo_values.proofs.Naturals.{lt_false}
 use Rattle.reo_trees.specs.declared.items.Item.{Item}
 use Rattle.reo_rules.specs.declared.fault.FlatFault.TheVariants as faults
 use Rattle.reo_rules.specs.Lists.{where_true}
@@ -56,17 +56,14 @@ not-deep n at =
     subst (λ k. k ≤ 1) (sym (fold-append (depth_by at) 0 (links_in n at) (stages_in n at)))
     (deep-range at (stage_by n) 1 n (fold (depth_by at) 0 (links_in n at)) at.main_stages (deep-range at link_by 1 (n - 1) 0 at.main_links (lit≤ tt) (λ j l. lit≤ tt)) (λ j l. lit≤ tt))
 
-not-more : (m n : ℕ) → n ≤ m → nat_lt m n ≡ false
-not-more m n h = grind (arith, nat_tests)
-
 few-enough : (n : ℕ) (at : Places) → 1 ≤ n → n ≤ 256 → too_many (declarations_of n at) ≡ []
 few-enough n at some few =
     let count = primitives-count n at some few in
     let uses = few-uses n at in
-    let p : nat_lt 4096 (length (primitives_of (declarations_of n at))) ≡ false = not-more 4096 _ (omega arith) in
-    let u : nat_lt 65536 (sum_by (uses_by at) (links_in n at ++ stages_in n at)) ≡ false = not-more 65536 _ (omega arith) in
+    let p : nat_lt 4096 (length (primitives_of (declarations_of n at))) ≡ false = lt_false 4096 _ (omega arith) in
+    let u : nat_lt 65536 (sum_by (uses_by at) (links_in n at ++ stages_in n at)) ≡ false = lt_false 65536 _ (omega arith) in
     let deep = not-deep n at in
-    let d : nat_lt 64 (fold (depth_by at) 0 (links_in n at ++ stages_in n at)) ≡ false = not-more 64 _ (omega arith) in
+    let d : nat_lt 64 (fold (depth_by at) 0 (links_in n at ++ stages_in n at)) ≡ false = lt_false 64 _ (omega arith) in
     λ i. where_true ((p i || u i) || d i) faults.TooMany
 
 -- The program is accepted.

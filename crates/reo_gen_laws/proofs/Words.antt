@@ -5,17 +5,18 @@ use Rattle.std.specs.Fmt.{decimal}
 use Rattle.reo_values.specs.Names.{is_digit, is_letter, is_name_byte}
 use Rattle.reo_grammar.specs.Bytes.{one_of}
 use Rattle.reo_grammar.specs.Spelling.{is_digits, reserved}
-use Rattle.reo_grammar.proofs.Sound.{and-left, and-right, and-both}
+use Rattle.reo_grammar.proofs.Sound.{and-both}
 use Rattle.reo_lexer.proofs.Spelled.{one_of-passes, yes-not, never}
 use Rattle.reo_syntax.proofs.Decimals.{decimal-value}
 use Rattle.reo_gen.specs.Names.{numbered, link, output}
 use Rattle.reo_gen_laws.proofs.Pieces.{IsNamed}
 use Rattle.std.proofs.lemmas.Bool.{or_right as or-right}
+use Rattle.reo_values.proofs.Truths.{and_left, and_right}
 
 name_bytes : (ds : List ℕ) → list_all is_digit ds ≡ true → list_all is_name_byte ds ≡ true
 name_bytes [] h = refl
 name_bytes (d ∷ ds) h =
-    and-both (is_name_byte d) (list_all is_name_byte ds) (or-right (is_letter d) (is_digit d) (and-left (is_digit d) (list_all is_digit ds) h)) (name_bytes ds (and-right (is_digit d) (list_all is_digit ds) h))
+    and-both (is_name_byte d) (list_all is_name_byte ds) (or-right (is_letter d) (is_digit d) (and_left (is_digit d) (list_all is_digit ds) h)) (name_bytes ds (and_right (is_digit d) (list_all is_digit ds) h))
 
 -- No reserved word has a digit as its second byte.
 abbrev no_digit_second : List ℕ → Bool
@@ -33,7 +34,7 @@ named-digits b [] l h = absurd (cc)
 named-digits b (d ∷ ds) l h = record {
   spelled = and-both (is_letter b) (list_all is_name_byte (d ∷ ds)) l (name_bytes (d ∷ ds) h);
   free = yes-not (one_of (b ∷ d ∷ ds) reserved) (never (one_of (b ∷ d ∷ ds) reserved)
-      (λ e. contrary (is_digit d) (and-left (is_digit d) (list_all is_digit ds) h) (one_of-passes no_digit_second (b ∷ d ∷ ds) reserved refl e)));
+      (λ e. contrary (is_digit d) (and_left (is_digit d) (list_all is_digit ds) h) (one_of-passes no_digit_second (b ∷ d ∷ ds) reserved refl e)));
 }
 
 pub named-output : (j : ℕ) → j < 2 ^ 64 → IsNamed (output j)

@@ -1,8 +1,6 @@
 -- Laws of the classes of tokens.
-use Rattle.std.proofs.Common.{◌≡◌, ℕ, Bool, true, false, ◌&&◌, ◌||◌, not, List, [], ◌∷◌, ◌++◌, refl, sym, ◌∙◌, ap, arith, rules, nat_le}
-use Rattle.std.proofs.lemmas.Slice.Eq.{bytes_eq-Decides}
+use Rattle.std.proofs.Common.{◌≡◌, ℕ, Bool, true, false, ◌&&◌, ◌||◌, not, List, [], ◌∷◌, ◌++◌, refl, sym, ◌∙◌, ap, arith, nat_le}
 use Rattle.std.specs.Str.{bytes_eq}
-use Rattle.std.specs.Bool.{Decides}
 use Rattle.reo_grammar.specs.declared.kind.TokenKind.{TokenKind}
 use Rattle.reo_grammar.specs.declared.kind.TokenKind.TheVariants as kinds
 use Rattle.std.proofs.lemmas.Bool.Decides.{nat_tests}
@@ -11,27 +9,14 @@ use Rattle.reo_grammar.specs.Bytes.{one_of}
 use Rattle.reo_grammar.specs.Tokens.Class.{fixed, among, other, name, named, number, text}
 use Rattle.reo_grammar.specs.Grammar.{starts}
 use Rattle.reo_grammar.specs.Sight.{as_word, none_of, each_of, differ, apart, inside, apart_from, all_apart, all_inside}
-use Rattle.reo_grammar.proofs.Sound.{and-left, and-right, not-true, and-both}
+use Rattle.reo_grammar.proofs.Sound.{not-true, and-both}
 pub use Rattle.std.proofs.lemmas.Bool.{false_from_ne_true as false-not}
-
-pub not-false : (b : Bool) → not b ≡ true → b ≡ false
-not-false true h = absurd (cc)
-not-false false h = refl
-
-pub no-both : (b : Bool) → b ≡ true → b ≡ false → ⊥
-no-both true h k = cc
-no-both false h k = cc
+use Rattle.reo_values.proofs.Truths.{and_left, and_right, not_true, no_both}
+use Rattle.reo_values.proofs.Sequences.{same_bytes}
 
 pub or-cases : {P : Type 0} (a b : Bool) → (a || b) ≡ true → (a ≡ true → P) → (b ≡ true → P) → P
 or-cases true b h f g = f refl
 or-cases false b h f g = g h
-
-pub same_bytes : (a b : List ℕ) → bytes_eq a b ≡ true → a ≡ b
-same_bytes a b h = decided (bytes_eq a b) (bytes_eq-Decides a b) h
-  where
-    decided : {P : Type 0} (r : Bool) → Decides r P → r ≡ true → P
-    decided true d e = search rules
-    decided false d e = absurd (cc)
 
 -- A word or sign is of a class where the word of its bytes is.
 same_word : (k : TokenKind) (b : List ℕ) (l : ℕ) (d : Class) → is_fixed k ≡ true → matches d (record { kind = k; bytes = b; line = l }) ≡ matches d (as_word b)
@@ -55,28 +40,28 @@ same_word kinds.Text b l d h = absurd (cc)
 
 -- A class that a word or sign is of.
 of_word : (t : Lexeme) (b : List ℕ) (d : Class) → matches (fixed b) t ≡ true → matches d t ≡ matches d (as_word b)
-of_word t b d h = let e : t.bytes ≡ b = same_bytes t.bytes b (and-right _ _ h) in same_word t.kind t.bytes t.line d (and-left _ _ h) ∙ ap (λ x. matches d (as_word x)) e
+of_word t b d h = let e : t.bytes ≡ b = same_bytes t.bytes b (and_right _ _ h) in same_word t.kind t.bytes t.line d (and_left _ _ h) ∙ ap (λ x. matches d (as_word x)) e
 
 one_of-none : (t : Lexeme) (bs : List (List ℕ)) (d : Class) → is_fixed t.kind ≡ true → one_of t.bytes bs ≡ true → none_of d bs ≡ true → matches d t ≡ false
 one_of-none t [] d k h n = absurd (cc)
 one_of-none t (b ∷ bs) d k h n = or-cases (bytes_eq t.bytes b) (one_of t.bytes bs) h
-    (λ e. of_word t b d (and-both _ _ k e) ∙ not-false _ (and-left _ _ n))
-    (λ e. one_of-none t bs d k e (and-right _ _ n))
+    (λ e. of_word t b d (and-both _ _ k e) ∙ not_true _ (and_left _ _ n))
+    (λ e. one_of-none t bs d k e (and_right _ _ n))
 
 one_of-each : (t : Lexeme) (bs : List (List ℕ)) (d : Class) → is_fixed t.kind ≡ true → one_of t.bytes bs ≡ true → each_of d bs ≡ true → matches d t ≡ true
 one_of-each t [] d k h n = absurd (cc)
 one_of-each t (b ∷ bs) d k h n = or-cases (bytes_eq t.bytes b) (one_of t.bytes bs) h
-    (λ e. of_word t b d (and-both _ _ k e) ∙ and-left _ _ n)
-    (λ e. one_of-each t bs d k e (and-right _ _ n))
+    (λ e. of_word t b d (and-both _ _ k e) ∙ and_left _ _ n)
+    (λ e. one_of-each t bs d k e (and_right _ _ n))
 
-name-kind : (k : TokenKind) → is_name k ≡ true → k ≡ kinds.Name
+pub name-kind : (k : TokenKind) → is_name k ≡ true → k ≡ kinds.Name
 name-kind kinds.Name h = refl
 name-kind kinds.Word h = absurd (cc)
 name-kind kinds.Number h = absurd (cc)
 name-kind kinds.Text h = absurd (cc)
 name-kind kinds.Sign h = absurd (cc)
 
-number-kind : (k : TokenKind) → is_number k ≡ true → k ≡ kinds.Number
+pub number-kind : (k : TokenKind) → is_number k ≡ true → k ≡ kinds.Number
 number-kind kinds.Number h = refl
 number-kind kinds.Word h = absurd (cc)
 number-kind kinds.Name h = absurd (cc)
@@ -95,10 +80,10 @@ of_name : (t : Lexeme) → matches name t ≡ true → t.kind ≡ kinds.Name
 of_name t h = name-kind t.kind h
 
 of_named : (t : Lexeme) (b : List ℕ) → matches (named b) t ≡ true → t.kind ≡ kinds.Name
-of_named t b h = name-kind t.kind (and-left _ _ h)
+of_named t b h = name-kind t.kind (and_left _ _ h)
 
 of_number : (t : Lexeme) (l m : ℕ) → matches (number l m) t ≡ true → t.kind ≡ kinds.Number
-of_number t l m h = number-kind t.kind (and-left _ _ h)
+of_number t l m h = number-kind t.kind (and_left _ _ h)
 
 of_text : (t : Lexeme) → matches text t ≡ true → t.kind ≡ kinds.Text
 of_text t h = text-kind t.kind h
@@ -107,8 +92,8 @@ differ-no : (c d : Class) (t : Lexeme) → differ c d ≡ true → matches c t �
 differ-no name (number l m) t h p q = let a = of_name t p in let b = of_number t l m q in cc
 differ-no name text t h p q = let a = of_name t p in let b = of_text t q in cc
 differ-no (named b) (named d) t h p q =
-    let e : t.bytes ≡ b = same_bytes t.bytes b (and-right _ _ p) in
-    not-true (bytes_eq b d) h (rw e at (and-right (is_name t.kind) (bytes_eq t.bytes d) q))
+    let e : t.bytes ≡ b = same_bytes t.bytes b (and_right _ _ p) in
+    not-true (bytes_eq b d) h (rw e at (and_right (is_name t.kind) (bytes_eq t.bytes d) q))
 differ-no (named b) (number l m) t h p q = let a = of_named t b p in let c = of_number t l m q in cc
 differ-no (named b) text t h p q = let a = of_named t b p in let c = of_text t q in cc
 differ-no (number l m) (named b) t h p q = let a = of_named t b q in let c = of_number t l m p in cc
@@ -123,7 +108,7 @@ word-apart : (b : List ℕ) (d : Class) (t : Lexeme) → not (matches d (as_word
 word-apart b d t h p q = not-true (matches d (as_word b)) h (sym (of_word t b d p) ∙ q)
 
 words-apart : (bs : List (List ℕ)) (d : Class) (t : Lexeme) → none_of d bs ≡ true → matches (among bs) t ≡ true → matches d t ≡ true → ⊥
-words-apart bs d t h p q = let e : matches d t ≡ false = one_of-none t bs d (and-left _ _ p) (and-right _ _ p) h in no-both (matches d t) q e
+words-apart bs d t h p q = let e : matches d t ≡ false = one_of-none t bs d (and_left _ _ p) (and_right _ _ p) h in no_both (matches d t) q e
 
 pub apart-no : (c d : Class) (t : Lexeme) → apart c d ≡ true → matches c t ≡ true → matches d t ≡ true → ⊥
 apart-no (fixed b) d t h p q = word-apart b d t h p q
@@ -172,18 +157,18 @@ le_le : (a b c : ℕ) → nat_le a b ≡ true → nat_le b c ≡ true → nat_le
 le_le a b c h k = grind (arith, nat_tests)
 
 between : (a b c d x : ℕ) → (nat_le c a && nat_le b d) ≡ true → (nat_le a x && nat_le x b) ≡ true → (nat_le c x && nat_le x d) ≡ true
-between a b c d x h k = and-both _ _ (le_le c a x (and-left _ _ h) (and-left _ _ k)) (le_le x b d (and-right _ _ k) (and-right _ _ h))
+between a b c d x h k = and-both _ _ (le_le c a x (and_left _ _ h) (and_left _ _ k)) (le_le x b d (and_right _ _ k) (and_right _ _ h))
 
 pub inside-yes : (c d : Class) (t : Lexeme) → inside c d ≡ true → matches c t ≡ true → matches d t ≡ true
 inside-yes (fixed b) d t h p = of_word t b d p ∙ h
-inside-yes (among bs) d t h p = one_of-each t bs d (and-left _ _ p) (and-right _ _ p) h
+inside-yes (among bs) d t h p = one_of-each t bs d (and_left _ _ p) (and_right _ _ p) h
 inside-yes name name t h p = p
 inside-yes text text t h p = p
-inside-yes (number l m) (number x y) t h p = and-both _ _ (and-left _ _ p) (between l m x y _ h (and-right _ _ p))
-inside-yes (named b) name t h p = and-left _ _ p
+inside-yes (number l m) (number x y) t h p = and-both _ _ (and_left _ _ p) (between l m x y _ h (and_right _ _ p))
+inside-yes (named b) name t h p = and_left _ _ p
 inside-yes (named b) (named d) t h p =
-    let e : t.bytes ≡ b = same_bytes t.bytes b (and-right _ _ p) in
-    and-both (is_name t.kind) (bytes_eq t.bytes d) (and-left _ _ p) (rw e h)
+    let e : t.bytes ≡ b = same_bytes t.bytes b (and_right _ _ p) in
+    and-both (is_name t.kind) (bytes_eq t.bytes d) (and_left _ _ p) (rw e h)
 inside-yes (named d) (other b) t h p = of_kind t b (rw (of_named t d p) refl)
 inside-yes name (other b) t h p = of_kind t b (rw (of_name t p) refl)
 inside-yes text (other b) t h p = of_kind t b (rw (of_text t p) refl)
@@ -197,17 +182,17 @@ matches_any (c ∷ cs) t = matches c t || matches_any cs t
 
 pub starts_of : (cs : List Class) (d : Class) (t : Lexeme) → all_inside cs d ≡ true → matches_any cs t ≡ true → matches d t ≡ true
 starts_of [] d t h p = absurd (cc)
-starts_of (c ∷ cs) d t h p = or-cases (matches c t) (matches_any cs t) p (λ e. inside-yes c d t (and-left _ _ h) e) (λ e. starts_of cs d t (and-right _ _ h) e)
+starts_of (c ∷ cs) d t h p = or-cases (matches c t) (matches_any cs t) p (λ e. inside-yes c d t (and_left _ _ h) e) (λ e. starts_of cs d t (and_right _ _ h) e)
 
 pub apart_from-no : (c : Class) (ds : List Class) (t : Lexeme) → apart_from c ds ≡ true → matches c t ≡ true → matches_any ds t ≡ true → ⊥
 apart_from-no c [] t h p q = cc
-apart_from-no c (d ∷ ds) t h p q = or-cases (matches d t) (matches_any ds t) q (λ e. apart-no c d t (and-left _ _ h) p e) (λ e. apart_from-no c ds t (and-right _ _ h) p e)
+apart_from-no c (d ∷ ds) t h p q = or-cases (matches d t) (matches_any ds t) q (λ e. apart-no c d t (and_left _ _ h) p e) (λ e. apart_from-no c ds t (and_right _ _ h) p e)
 
 pub all_apart-no : (cs ds : List Class) (t : Lexeme) → all_apart cs ds ≡ true → matches_any cs t ≡ true → matches_any ds t ≡ true → ⊥
 all_apart-no [] ds t h p q = cc
-all_apart-no (c ∷ cs) ds t h p q = or-cases (matches c t) (matches_any cs t) p (λ e. apart_from-no c ds t (and-left _ _ h) e q) (λ e. all_apart-no cs ds t (and-right _ _ h) e q)
+all_apart-no (c ∷ cs) ds t h p q = or-cases (matches c t) (matches_any cs t) p (λ e. apart_from-no c ds t (and_left _ _ h) e q) (λ e. all_apart-no cs ds t (and_right _ _ h) e q)
 
-or_assoc : (a b c : Bool) → (a || (b || c)) ≡ ((a || b) || c)
+pub or_assoc : (a b c : Bool) → (a || (b || c)) ≡ ((a || b) || c)
 or_assoc true b c = refl
 or_assoc false b c = refl
 

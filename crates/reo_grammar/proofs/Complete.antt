@@ -1,12 +1,13 @@
 -- What is derived is read again, whatever follows that does not go on with it.
 use Rattle.std.proofs.Common.{◌≡◌, ℕ, zero, suc, ◌≤◌, ◌<◌, Bool, true, false, ◌&&◌, not, cond, List, [], ◌∷◌, ◌++◌, length, ◌⊎◌, inl, inr, refl, sym, ◌∙◌, ap, append_assoc, arith, length-append}
+use Rattle.reo_values.proofs.Truths.{and_left, and_right}
 use Rattle.reo_grammar.specs.Tokens.{Lexeme, Class, matches}
 use Rattle.reo_grammar.specs.Conditions.{is_nullable, is_productive}
 use Rattle.reo_grammar.specs.Sight.{apart_from, all_apart, all_inside, firsts, mores, is_sighted}
 use Rattle.reo_grammar.specs.Grammar.{Grammar, Outcome, Derives, Links, read, loop, then, starts, line_of}
 use Rattle.reo_grammar.specs.Grammar.Grammar.{nothing, token, both, made, either, chain, lined, rule}
 use Rattle.reo_grammar.specs.Grammar.Outcome.{got, bad, out}
-use Rattle.reo_grammar.proofs.Sound.{Good, Base, good, and-left, and-right, or-left, or-right, not-true, null, line_of-append}
+use Rattle.reo_grammar.proofs.Sound.{Good, Base, good, or-left, or-right, not-true, null, line_of-append}
 use Rattle.reo_grammar.proofs.Classes.{matches_any, false-not, starts_of, apart_from-no, all_apart-no, matches_any-append}
 
 -- Nothing of these classes stands next.
@@ -131,7 +132,7 @@ pub record Ready (Ref : Type 0) (tree : Ref → Type 0) : Type 1 where
   pub complete : (r : Ref) (ts s : List Lexeme) (x : tree r) → given r ts x → Stops (more r) s → base.reader r (ts ++ s) ≡ got x s
 
 five : (a b c d e : Bool) → (a && (b && (c && (d && e)))) ≡ true → (a ≡ true) × (b ≡ true) × (c ≡ true) × (d ≡ true) × (e ≡ true)
-five true true true d e h = (refl, refl, refl, and-left _ _ h, and-right _ _ h)
+five true true true d e h = (refl, refl, refl, and_left _ _ h, and_right _ _ h)
 five false b c d e h = absurd (cc)
 five true false c d e h = absurd (cc)
 five true true false d e h = absurd (cc)
@@ -176,35 +177,35 @@ module _ {Ref : Type 0} {tree : Ref → Type 0} (k : Ready Ref tree) where
   complete (nothing y) p i ts s x (e, w) st = rw (e, w) refl
   complete (token c) p i ts s x (e, m) st = rw (e, m) refl
   complete (both f g h) p i ts s x (a, b, y, z, w, d1, d2, v) st =
-      let st1 : Stops (mores k.more g) (b ++ s) = between k.first k.more k.given k.never k.begins g h b s z (and-left _ _ i) d2 (Stops-right (mores k.more h) (cond (is_nullable h) (mores k.more g) []) s st) in
+      let st1 : Stops (mores k.more g) (b ++ s) = between k.first k.more k.given k.never k.begins g h b s z (and_left _ _ i) d2 (Stops-right (mores k.more h) (cond (is_nullable h) (mores k.more g) []) s st) in
       let st2 : Stops (mores k.more h) s = Stops-left (mores k.more h) (cond (is_nullable h) (mores k.more g) []) s st in
-      let e1 : read k.base.reader g (a ++ (b ++ s)) ≡ got y (b ++ s) = complete g (and-left _ _ p) (and-left _ _ (and-right _ _ i)) a (b ++ s) y d1 st1 in
-      let e2 : read k.base.reader h (b ++ s) ≡ got z s = complete h (and-right _ _ p) (and-right _ _ (and-right _ _ i)) b s z d2 st2 in
+      let e1 : read k.base.reader g (a ++ (b ++ s)) ≡ got y (b ++ s) = complete g (and_left _ _ p) (and_left _ _ (and_right _ _ i)) a (b ++ s) y d1 st1 in
+      let e2 : read k.base.reader h (b ++ s) ≡ got z s = complete h (and_right _ _ p) (and_right _ _ (and_right _ _ i)) b s z d2 st2 in
       rw (w, append_assoc a b s, e1, e2, v) refl
   complete (made f g) p i ts s x (y, d, v) st = rw (complete g p i ts s y d st, v) refl
   complete (either c g h) p i ts s x (inl d) st =
       let q = five (not (is_nullable g)) (all_inside (firsts k.first g) c) (apart_from c (firsts k.first h)) (is_sighted k.first k.more g) (is_sighted k.first k.more h) i in
       let e : starts c (ts ++ s) ≡ true = starts-yes g c ts s x q.1 q.0 d in
-      let e2 : read k.base.reader g (ts ++ s) ≡ got x s = complete g (and-left _ _ p) q.3 ts s x d
+      let e2 : read k.base.reader g (ts ++ s) ≡ got x s = complete g (and_left _ _ p) q.3 ts s x d
       (Stops-left (mores k.more g) (mores k.more h) s (Stops-right (cond (is_nullable h) (c ∷ []) []) (mores k.more g ++ mores k.more h) s st)) in
       rw (e, e2) refl
   complete (either c g h) p i ts s x (inr d) st =
       let q = five (not (is_nullable g)) (all_inside (firsts k.first g) c) (apart_from c (firsts k.first h)) (is_sighted k.first k.more g) (is_sighted k.first k.more h) i in
       let e : starts c (ts ++ s) ≡ false = starts-no h c (mores k.more g ++ mores k.more h) ts s x q.2 d st in
-      let e2 : read k.base.reader h (ts ++ s) ≡ got x s = complete h (and-right _ _ p) q.4 ts s x d
+      let e2 : read k.base.reader h (ts ++ s) ≡ got x s = complete h (and_right _ _ p) q.4 ts s x d
       (Stops-right (mores k.more g) (mores k.more h) s (Stops-right (cond (is_nullable h) (c ∷ []) []) (mores k.more g ++ mores k.more h) s st)) in
       rw (e, e2) refl
   complete (chain f c g h) p i ts s x (n, l) st =
       let q = five (not (is_nullable h)) (all_inside (firsts k.first h) c) (apart_from c (mores k.more g ++ mores k.more h)) (is_sighted k.first k.more g) (is_sighted k.first k.more h) i in
       links f c g h
-      (λ a r y d t. complete g (and-left _ _ (and-right _ _ p)) q.3 a r y d t)
-      (λ a r y d t. complete h (and-right _ _ (and-right _ _ p)) q.4 a r y d t)
-      (shrinks k.base h (and-right _ _ (and-right _ _ p)) q.0) q.0 q.1 q.2
+      (λ a r y d t. complete g (and_left _ _ (and_right _ _ p)) q.3 a r y d t)
+      (λ a r y d t. complete h (and_right _ _ (and_right _ _ p)) q.4 a r y d t)
+      (shrinks k.base h (and_right _ _ (and_right _ _ p)) q.0) q.0 q.1 q.2
       n ts s x l (Stops-right (c ∷ []) (mores k.more g ++ mores k.more h) s st)
       ∙ loop-ends f c (read k.base.reader h) x s (Stops-starts c (mores k.more g ++ mores k.more h) s st)
   complete (lined f g) p i ts s x (y, d, v) st =
-      let e : read k.base.reader g (ts ++ s) ≡ got y s = complete g (and-right _ _ p) i ts s y d st in
-      let e2 : line_of (ts ++ s) ≡ line_of ts = line_of-append ts s (λ w. not-true (is_nullable g) (and-left _ _ p) (null k.given k.never g ts y w d)) in
+      let e : read k.base.reader g (ts ++ s) ≡ got y s = complete g (and_right _ _ p) i ts s y d st in
+      let e2 : line_of (ts ++ s) ≡ line_of ts = line_of-append ts s (λ w. not-true (is_nullable g) (and_left _ _ p) (null k.given k.never g ts y w d)) in
       rw (e, e2, v) refl
   complete (rule r) p i ts s x d st = k.complete r ts s x d st
 

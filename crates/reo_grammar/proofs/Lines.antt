@@ -16,7 +16,7 @@ matches-alike (number l m) t u k w = rw (k, w) refl
 matches-alike text t u k w = rw k refl
 
 -- What is like two parts has two parts like these.
-parts : (a b us : List Lexeme) → Alike (a ++ b) us → (c : List Lexeme) × (d : List Lexeme) × (us ≡ c ++ d) × Alike a c × Alike b d
+pub parts : (a b us : List Lexeme) → Alike (a ++ b) us → (c : List Lexeme) × (d : List Lexeme) × (us ≡ c ++ d) × Alike a c × Alike b d
 parts [] b us h = ([], us, refl, tt, h)
 parts (t ∷ a) b [] h = absurd h
 parts (t ∷ a) b (u ∷ us) (k, w, h) = let (c, d, e, p, q) = parts a b us h in (u ∷ c, d, ap (λ l. u ∷ l) e, (k, w, p), q)

@@ -66,8 +66,8 @@ fn hear_next<P: Ported, R: Source, S: Sink>(
 
 /// Hears all that a source gives to a circuit that has heard nothing, until the event `end` is
 /// judged, a round cannot be planned, there are too many bytes, the input ends, or something fails.
-/// All answers to a piece are put before the next is taken. A piece has at most 65,536 bytes, and at
-/// most 2^32 + 1 bytes are taken.
+/// All answers to a piece are put before the next is taken. A piece has at most 65,536 bytes, and
+/// at most 2^32 + 1 bytes are taken.
 ///
 /// `Missed` comes only where the source's count of faults rose, and it rises nowhere else; the
 /// same holds of `Broken` and the sink.

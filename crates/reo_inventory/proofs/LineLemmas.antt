@@ -1,6 +1,7 @@
 -- The lines of a circuit, one more.
-use Rattle.std.proofs.Common.{arith, ◌≡◌, ◌∙◌, ℕ, ◌+◌, ◌<◌, zero, suc, List, [], ◌∷◌, ◌++◌, length, get_or, take, refl, sym, ap}
+use Rattle.std.proofs.Common.{arith, ◌≡◌, ◌∙◌, ℕ, ◌+◌, ◌<◌, zero, suc, List, [], ◌∷◌, ◌++◌, length, get_or, take, sym, ap}
 use Rattle.std.proofs.lemmas.List.{append-nil, append_assoc}
+use Rattle.reo_values.proofs.Sequences.{any_default}
 use Rattle.reo_net_base.specs.declared.joint.Joint.{Joint}
 use Rattle.reo_kinds.specs.declared.kind.Kind.{Kind}
 use Rattle.reo_inventory.specs.Ends.{AreHomes}
@@ -20,18 +21,12 @@ lines_more joints homes names i (suc n) (k ∷ ks) kind below at =
     ∙ sym (append_assoc here (lines_from joints homes names (suc i) (take n ks)) _)
     ∙ ap (λ m. (here ++ lines_from joints homes names (suc i) (take n ks)) ++ line_of m kind (name_of joints homes names m 0) (name_of joints homes names m 1)) same
 
--- A read of an item has nothing to do with what is read past the end.
-read : {X : Type 0} (xs : List X) (i : ℕ) (d e : X) → i < length xs → get_or xs i d ≡ get_or xs i e
-read [] i d e below = absurd (omega arith)
-read (x ∷ xs) zero d e below = refl
-read (x ∷ xs) (suc i) d e below = read xs i d e (omega arith)
-
--- The name of the node that is read for an end.
+-- The name of the node that is any_default for an end.
 name_read : (joints : List Joint) (homes : List ℕ) (names : List (List ℕ)) (count number : ℕ) (found : List ℕ) (n f : ℕ) (a : List ℕ) → AreHomes joints homes count number found → n < count
     → f ≡ get_or found n f → a ≡ get_or names f [] → a ≡ name_of joints homes names n number
 name_read joints homes names count number found n f a are below is named =
     let long = are.one_each in
-    named ∙ ap (λ h. get_or names h []) (is ∙ read found n f 0 (omega arith) ∙ are.home n below)
+    named ∙ ap (λ h. get_or names h []) (is ∙ any_default found n f 0 (omega arith) ∙ are.home n below)
 
 pub line_added : (joints : List Joint) (homes : List ℕ) (names : List (List ℕ)) (kinds : List Kind) (first second : List ℕ) (n f s : ℕ) (kind : Kind) (a b before after : List ℕ)
     → AreHomes joints homes (length kinds) 0 first → AreHomes joints homes (length kinds) 1 second → n < length kinds → kind ≡ get_or kinds n kind

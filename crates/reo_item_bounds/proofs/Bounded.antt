@@ -1,7 +1,8 @@
 -- What is noted for a joint is a bound.
-use Rattle.std.proofs.Common.{◌≡◌, ℕ, zero, suc, ◌+◌, ◌*◌, ◌<◌, ◌≤◌, List, [], ◌∷◌, ◌++◌, true, length, get_or, take, refl, ap, sym, ◌∙◌, subst, arith}
+use Rattle.std.proofs.Common.{◌≡◌, ℕ, suc, ◌+◌, ◌*◌, ◌<◌, ◌≤◌, List, [], ◌∷◌, ◌++◌, true, length, get_or, take, refl, ap, sym, ◌∙◌, subst, arith}
 use Rattle.std.specs.Prelude.{Contains, map}
 use Rattle.std.proofs.lemmas.List.{get_or_default, map-append}
+use Rattle.reo_values.proofs.Sequences.{one_more}
 use Rattle.reo_net_base.specs.declared.form.Form.{Form}
 use Rattle.reo_net_base.specs.declared.joint.End.{End}
 use Rattle.reo_net_base.specs.declared.mark.Mark.TheVariants.{F}
@@ -89,11 +90,6 @@ of_each P xs h x is = subst P (get_or_default xs is.0 0 x is.1 ∙ is.2) (h is.0
 product_push : (ns : List ℕ) (n : ℕ) → product_of (ns ++ n ∷ []) ≡ product_of ns * n
 product_push [] n = omega arith
 product_push (m ∷ ns) n = ap (λ (k : ℕ). m * k) (product_push ns n) ∙ grind arith
-
-one_more : (xs : List ℕ) (m : ℕ) → m < length xs → take (suc m) xs ≡ take m xs ++ get_or xs m 0 ∷ []
-one_more [] m lt = absurd (omega arith)
-one_more (x ∷ xs) zero lt = refl
-one_more (x ∷ xs) (suc m) lt = ap (λ (ys : List ℕ). x ∷ ys) (one_more xs m (omega arith))
 
 -- The product with one more.
 pub product_next : (f : ℕ → ℕ) (xs : List ℕ) (m n : ℕ) → m < length xs → product_of (map f (take m xs)) ≡ n → product_of (map f (take (m + 1) xs)) ≡ n * f (get_or xs m 0)

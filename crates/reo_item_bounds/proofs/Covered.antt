@@ -1,5 +1,6 @@
 -- What covers rows.
 use Rattle.std.proofs.Common.{◌≡◌, ℕ, ◌+◌, ◌≤◌, inl, inr, true, List, get_or, sym, subst, arith}
+use Rattle.reo_values.proofs.Distinct.{below_or_last}
 use Rattle.reo_net_base.specs.declared.branches.Branches.{Branches}
 use Rattle.reo_net_base.specs.declared.form.Form.{Form}
 use Rattle.reo_net_base.specs.declared.form.Form.TheVariants.{Merging}
@@ -10,7 +11,7 @@ use Rattle.reo_net_base.specs.Forms.{mark_by}
 use Rattle.reo_net_base.specs.Net.{end_of}
 use Rattle.reo_net_ends.specs.Ends.{joint_at}
 use Rattle.reo_item_bounds.specs.Shares.{Covers, IsShare, AreShared}
-use Rattle.reo_item_bounds.proofs.Places.{merger_flows, before_or_here}
+use Rattle.reo_item_bounds.proofs.Places.{merger_flows}
 use Rattle.reo_item_bounds.proofs.Sums.{more, more_before, more_here, sum_more}
 
 module _ (b : Behaviour) (ends : List (List ℕ)) (bounds : List ℕ) where
@@ -34,7 +35,7 @@ module _ (b : Behaviour) (ends : List (List ℕ)) (bounds : List ℕ) where
   shared_more giver form row sum share are is = record {
     share = more row share are.share;
     together = let whole = sum_more row share are.share in let before = are.together in omega (arith, whole, before);
-    each = λ r lt flows. elim (before_or_here r row lt) [
+    each = λ r lt flows. elim (below_or_last r row lt) [
       | inl below ↦ subst (IsShare b giver.primitive (b.side_of giver.end) form ends bounds r) (sym (more_before row share are.share r below)) (are.each r below flows)
       | inr e ↦ subst (λ (k : ℕ). IsShare b giver.primitive (b.side_of giver.end) form ends bounds k (more row share are.share k)) (sym e)
           (subst (IsShare b giver.primitive (b.side_of giver.end) form ends bounds row) (sym (more_here row share are.share)) is)
@@ -46,7 +47,7 @@ module _ (b : Behaviour) (ends : List (List ℕ)) (bounds : List ℕ) where
   shared_skip giver form row sum are not = record {
     share = more row 0 are.share;
     together = let whole = sum_more row 0 are.share in let before = are.together in omega (arith, whole, before);
-    each = λ r lt flows. elim (before_or_here r row lt) [
+    each = λ r lt flows. elim (below_or_last r row lt) [
       | inl below ↦ subst (IsShare b giver.primitive (b.side_of giver.end) form ends bounds r) (sym (more_before row 0 are.share r below)) (are.each r below flows)
       | inr e ↦ absurd (not (subst (λ (k : ℕ). mark_by form k giver.end ≡ F) e flows))
     ];

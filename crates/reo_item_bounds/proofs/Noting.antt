@@ -2,6 +2,7 @@
 use Rattle.std.proofs.Common.{◌≡◌, ◌∙◌, inl, inr, ℕ, zero, suc, ◌+◌, ◌<◌, ◌≤◌, Bool, List, Option, Some, None, length, replicate, get_or, get_or-set_same, get_or-set_other, set, refl, ap, sym, subst, arith}
 use Rattle.std.specs.Prelude.{Contains, ◌↔◌}
 use Rattle.std.proofs.lemmas.List.{length-set, length-replicate}
+use Rattle.reo_values.proofs.Distinct.{below_or_last}
 use Rattle.reo_net_base.specs.declared.joint.End.{End}
 use Rattle.reo_net_base.specs.declared.joint.Joint.{Joint}
 use Rattle.reo_net_base.specs.Behaviour.{Behaviour}
@@ -22,10 +23,9 @@ use Rattle.reo_item_bounds.specs.declared.kept.Bounds.{Bounds}
 use Rattle.reo_item_bounds.specs.Bounds.{ComesIn, IsBoundAt}
 use Rattle.reo_item_bounds.specs.Kept.{HasNumber, with_states, IsBoundBy, AreKeptBounds, AreUnnumbered, HoldFed}
 use Rattle.reo_item_bounds.specs.Laws.{KeptBoundsStay}
-use Rattle.reo_item_bounds.proofs.Places.{before_or_here}
 use Rattle.reo_item_bounds.proofs.Tables.{bound_there, place_same}
 
-shape_twice : (b d e : Behaviour) → SameShape b d → SameShape d e → SameShape b e
+pub shape_twice : (b d e : Behaviour) → SameShape b d → SameShape d e → SameShape b e
 shape_twice b d e r s = record {
   ends = s.ends ∙ r.ends;
   sides = s.sides ∙ r.sides;
@@ -34,7 +34,7 @@ shape_twice b d e r s = record {
   leads = λ side. s.leads side ∙ r.leads side;
 }
 
-shapes_twice : (bs ds es : List Behaviour) → SameShapes bs ds → SameShapes ds es → SameShapes bs es
+pub shapes_twice : (bs ds es : List Behaviour) → SameShapes bs ds → SameShapes ds es → SameShapes bs es
 shapes_twice bs ds es r s = record {
   count = s.count ∙ r.count;
   same = λ i lt. shape_twice (behaviour_at bs i) (behaviour_at ds i) (behaviour_at es i) (r.same i lt) (s.same i (omega (arith, lt, r.count)));
@@ -137,6 +137,6 @@ pub unnumbered_more : (numbers : List (Option ℕ)) (joints : List ℕ) (index m
 unnumbered_more numbers joints index m in_range far lt = elim (eq_cases (get_or joints m 0) (get_or joints index 0)) [
   | inl e ↦ ap (λ (k : ℕ). get_or (set numbers (get_or joints index 0) None) k None) e ∙ get_or-set_same numbers (get_or joints index 0) None None in_range
   | inr ne ↦
-      let before : get_or numbers (get_or joints m 0) None ≡ None = elim (before_or_here m index lt) [ inl below ↦ far m below | inr same ↦ absurd (ne (ap (λ (k : ℕ). get_or joints k 0) same)) ] in
+      let before : get_or numbers (get_or joints m 0) None ≡ None = elim (below_or_last m index lt) [ inl below ↦ far m below | inr same ↦ absurd (ne (ap (λ (k : ℕ). get_or joints k 0) same)) ] in
       get_or-set_other numbers (get_or joints index 0) (get_or joints m 0) None None ne ∙ before
 ]

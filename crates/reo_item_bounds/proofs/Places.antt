@@ -13,7 +13,3 @@ end_below form b side end has is = ((has.ends end).1 is).0
 -- A merger flows at its output and at the input of its row alone.
 pub merger_flows : (m row end : ℕ) → end < m + 1 → merger_mark m row end ≡ F → (row < m) × ((end ≡ row) ⊎ (end ≡ m))
 merger_flows m row end lt flows = grind arith
-
--- A number below the next is below or the same.
-pub before_or_here : (r n : ℕ) → r < n + 1 → (r < n) ⊎ (r ≡ n)
-before_or_here r n lt = grind arith

@@ -10,6 +10,7 @@ use Rattle.reo_net_base.specs.Wired.{IsWired, IsEnd}
 use Rattle.reo_net_laws.specs.Ends.{mark_in}
 use Rattle.reo_net_laws.proofs.Assignments.{first_same}
 use Rattle.reo_net_laws.proofs.Sides.{side_at_place}
+use Rattle.reo_net_laws.proofs.Isolation.{same_net}
 use Rattle.reo_joint_values.specs.Standing.{no_joint, giver_of, taker_of, FlowsAt}
 use Rattle.reo_joint_values.specs.Many.{IsJointIn}
 use Rattle.reo_weights.specs.Bounds.{sum_below, giver_rows, AreLoopsIn}
@@ -136,9 +137,6 @@ module _ (turn later : ℕ) (bs ds : List Behaviour) (js : List Joint) (wired : 
     are_loops = loops_there has.loops has.are_loops;
     product = has.product;
   }
-
-same_net : (a b : Net) → b.joints ≡ a.joints → record { primitives = b.primitives; joints = a.joints } ≡ b
-same_net a b same i = record { primitives = b.primitives; joints = sym same i }
 
 pub stay : BoundsStay
 stay turn later net other wired inside tables choices has =

@@ -65,7 +65,8 @@ fn most_by<P: Primitive>(
     requires ends { AreEnds (net_of P.behaviour circuit.now) ends.now }
     requires one_each { length bounds.now ≡ length circuit.now.joints }
     requires giver { IsEnd (net_of P.behaviour circuit.now).primitives giver }
-    requires form { let b = behaviour_at (net_of P.behaviour circuit.now).primitives giver.primitive in
+    requires form { let net = net_of P.behaviour circuit.now in
+        let b = behaviour_at net.primitives giver.primitive in
         HasForm form b (b.side_of giver.end) }
     requires flows { mark_by form row giver.end ≡ F }
     ensures { let b = behaviour_at (net_of P.behaviour circuit.now).primitives giver.primitive in
@@ -105,7 +106,8 @@ fn share<P: Primitive>(
     requires ends { AreEnds (net_of P.behaviour circuit.now) ends.now }
     requires one_each { length bounds.now ≡ length circuit.now.joints }
     requires giver { IsEnd (net_of P.behaviour circuit.now).primitives giver }
-    requires form { let b = behaviour_at (net_of P.behaviour circuit.now).primitives giver.primitive in
+    requires form { let net = net_of P.behaviour circuit.now in
+        let b = behaviour_at net.primitives giver.primitive in
         HasForm form b (b.side_of giver.end) }
     requires flows { mark_by form row giver.end ≡ F }
     ensures { let b = behaviour_at (net_of P.behaviour circuit.now).primitives giver.primitive in

@@ -28,7 +28,7 @@ use Rattle.reo_joint_values.proofs.Fitting.{items_count, item_chosen}
 use Rattle.reo_joint_values.proofs.Inside.{at_inside}
 use Rattle.reo_joint_values.proofs.Assigning.{mark_by, given_by, lets_by, some_item, choices_are_assignments}
 
-true_or_false : (t : Bool) → (t ≡ true) ⊎ (t ≡ false)
+pub true_or_false : (t : Bool) → (t ≡ true) ⊎ (t ≡ false)
 true_or_false true = inl refl
 true_or_false false = inr refl
 

@@ -13,25 +13,18 @@ use Rattle.reo_net_base.specs.Colouring.{taken_at}
 use Rattle.reo_net_base.specs.Wired.{IsWired, IsEnd}
 use Rattle.reo_net_laws.specs.Ends.{mark_in, from_in, IsRowOf}
 use Rattle.reo_net_laws.proofs.Items.{end_is}
-use Rattle.reo_net_laws.proofs.Joined.{ends_joined, source_taken}
+use Rattle.reo_net_laws.proofs.Joined.{ends_joined, source_taken, end_same}
 use Rattle.reo_net_laws.proofs.Sides.{side_at_is}
 use Rattle.reo_joint_values.specs.declared.value.JointValue.{JointValue}
 use Rattle.reo_joint_values.specs.Values.{Names, Choice, item_named, items_of, no_joint, joint_of, giver_side, taker_side, AtSide}
 use Rattle.reo_joint_values.specs.Fitting.{given_for, given_in, GivesValue, TakesValue, Fits}
 use Rattle.reo_joint_values.specs.Works.{IsRowAt, Follows, IsDependent, IsGivenAs}
-use Rattle.reo_joint_values.proofs.Equal.{same_eq}
 
 pub items_count : (net : Net) (names : Names) (c : Choice) → length (items_of net names c) ≡ length net.joints
 items_count net names c = length-map-range_with_len {X = Option Value} (λ j. item_named names j (c j)) 0 (length net.joints)
 
 pub item_chosen : (net : Net) (names : Names) (c : Choice) (j : ℕ) → j < length net.joints → get_or (items_of net names c) j None ≡ item_named names j (c j)
 item_chosen net names c j lt = get_or-map-range_with_len {X = Option Value} (λ j. item_named names j (c j)) 0 (length net.joints) j j None lt (omega arith)
-
-end_same : (a b : End) → a ≡ b → end_eq a b ≡ true
-end_same a b e =
-    let p : a.primitive ≡ b.primitive = ap (λ (x : End). x.primitive) e in
-    let q : a.end ≡ b.end = ap (λ (x : End). x.end) e in
-    rw (same_eq a.primitive b.primitive p, same_eq a.end b.end q) refl
 
 -- The item that goes to an end is that of the one joint there.
 pub taken_one : (joints : List Joint) (items : List (Option Value)) (e : End) (j : ℕ) (d : Joint) → length items ≡ length joints → j < length joints → (get_or joints j d).taker ≡ e

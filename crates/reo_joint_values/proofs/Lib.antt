@@ -1,7 +1,6 @@
 pub mod Assigning
 pub mod Choosing
 pub mod Distinct
-pub mod Equal
 pub mod Fitting
 pub mod Inside
 pub mod Narrowing

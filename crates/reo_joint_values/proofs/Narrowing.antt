@@ -1,6 +1,7 @@
 -- What narrowing keeps.
 use Rattle.std.proofs.Common.{◌≡◌, ◌⊎◌, inl, inr, ◌↔◌, ℕ, ◌<◌, Bool, true, length, refl, ap, sym, ◌∙◌, subst}
 use Rattle.std.proofs.lemmas.Bool.{cases_eq}
+use Rattle.reo_values.proofs.Naturals.{eq_same, same_eq}
 use Rattle.reo_net_base.specs.Net.{Net}
 use Rattle.reo_net_base.specs.Wired.{IsWired}
 use Rattle.reo_joint_values.specs.declared.value.JointValue.{JointValue}
@@ -10,7 +11,6 @@ use Rattle.reo_joint_values.specs.Fitting.{Fits, IsFrom}
 use Rattle.reo_joint_values.specs.Supported.{IsUsed, IsSettledAt, IsSupported, IsWithin, IsInGreatest, IsNarrowed, IsThinned}
 use Rattle.reo_joint_values.specs.Chosen.{IsChosen}
 use Rattle.reo_joint_values.specs.Works.{RowWorks}
-use Rattle.reo_joint_values.proofs.Equal.{same_eq, eq_same}
 use Rattle.reo_joint_values.proofs.Works.{fits_works, works_possible}
 
 pub value_same : (v : JointValue) → value_eq v v ≡ true

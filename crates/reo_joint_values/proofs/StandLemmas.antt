@@ -33,7 +33,7 @@ pub possible_least : PossibleItemsAreLeast
 possible_least net test closed j item (alone i row x lt gives) = closed.alone i row x lt gives
 possible_least net test closed j item (passed i row k taken x lt gives before) = closed.passed i row k taken x lt gives (possible_least net test closed k taken before)
 
-end_self : (e : End) → end_eq e e ≡ true
+pub end_self : (e : End) → end_eq e e ≡ true
 end_self e = grind (arith, nat_tests)
 
 -- The item at an end is the item at the one joint that goes there.

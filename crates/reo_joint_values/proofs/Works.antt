@@ -3,6 +3,7 @@ use Rattle.std.proofs.Common.{◌≡◌, ◌≢◌, inl, inr, ℕ, ◌<◌, true
 use Rattle.std.specs.Bool.{◌==◌}
 use Rattle.std.proofs.lemmas.Bool.{cases_eq, cond-true, cond-false}
 use Rattle.reo_values.specs.declared.value.Value.{Value}
+use Rattle.reo_values.proofs.Naturals.{same_eq, other_eq}
 use Rattle.reo_net_base.specs.Net.{Net}
 use Rattle.reo_net_base.specs.Wired.{IsWired}
 use Rattle.reo_net_laws.specs.Ends.{IsRowOf}
@@ -13,7 +14,6 @@ use Rattle.reo_joint_values.specs.Values.{Names, Choice, Family, item_named, no_
 use Rattle.reo_joint_values.specs.Fitting.{given_for, GivesValue, TakesValue, Fits, IsFrom}
 use Rattle.reo_joint_values.specs.Supported.{IsUsed}
 use Rattle.reo_joint_values.specs.Works.{Follows, IsDependent, IsGivenAs, IsGivenIn, TakerWorks, RowWorks, ValueWorks}
-use Rattle.reo_joint_values.proofs.Equal.{same_eq, other_eq}
 use Rattle.reo_joint_values.proofs.Fitting.{decided, follows_dependent, given_by_state, given_by_joint, as_given, is_given}
 use Rattle.reo_joint_values.proofs.Fitting.Decided.{by_none, by_joint}
 

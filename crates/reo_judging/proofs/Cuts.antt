@@ -1,5 +1,5 @@
 -- Lists cut at a place.
-use Rattle.std.proofs.Common.{◌≡◌, ℕ, zero, suc, ◌<◌, ◌≤◌, List, [], ◌∷◌, ◌++◌, length, take, drop, refl, sym, ap, arith}
+use Rattle.std.proofs.Common.{◌≡◌, ℕ, zero, suc, ◌<◌, List, [], ◌∷◌, ◌++◌, length, take, refl, sym, ap, arith}
 use Rattle.std.specs.Prelude.{Some, slice_get, slice_index_or}
 
 pub got_by : {X : Type 0} (xs : List X) (i : ℕ) (x : X) → i < length xs → x ≡ slice_index_or xs i x → slice_get xs i ≡ Some x
@@ -12,12 +12,6 @@ got_or [] i d lt = absurd (omega arith)
 got_or (y ∷ ys) zero d lt = refl
 got_or (y ∷ ys) (suc i) d lt = got_or ys i d (omega arith)
 
--- Up to a place, there, and behind it.
-pub cut_at : {X : Type 0} (xs : List X) (i : ℕ) (x : X) → slice_get xs i ≡ Some x → xs ≡ take i xs ++ x ∷ drop (suc i) xs
-cut_at [] i x is = absurd (cc)
-cut_at (y ∷ ys) zero x is = let here : y ≡ x = cc in ap (λ z. z ∷ ys) here
-cut_at (y ∷ ys) (suc i) x is = ap (λ zs. y ∷ zs) (cut_at ys i x is)
-
 pub take_one_more : {X : Type 0} (xs : List X) (i : ℕ) (x : X) → slice_get xs i ≡ Some x → take (suc i) xs ≡ take i xs ++ x ∷ []
 take_one_more [] i x is = absurd (cc)
 take_one_more (y ∷ ys) zero x is = let here : y ≡ x = cc in ap (λ z. z ∷ []) here
@@ -27,9 +21,3 @@ pub taken : {X : Type 0} (xs : List X) (i : ℕ) (x : X) → slice_get xs i ≡ 
 taken [] i x is = absurd (cc)
 taken (y ∷ ys) zero x is = refl
 taken (y ∷ ys) (suc i) x is = ap suc (taken ys i x is)
-
-pub take_all : {X : Type 0} (xs : List X) (i : ℕ) → length xs ≤ i → take i xs ≡ xs
-take_all [] zero le = refl
-take_all [] (suc i) le = refl
-take_all (x ∷ xs) zero le = absurd (omega arith)
-take_all (x ∷ xs) (suc i) le = ap (λ zs. x ∷ zs) (take_all xs i (omega arith))

@@ -1,27 +1,18 @@
 -- The sides of a part, as a list and as a set.
-use Rattle.std.proofs.Common.{◌≡◌, ◌≢◌, ℕ, zero, suc, ◌+◌, ◌<◌, Bool, true, false, List, [], length, get_or, refl, ap, sym, ◌∙◌, subst, arith}
+use Rattle.std.proofs.Common.{◌≡◌, ◌≢◌, ℕ, zero, suc, ◌+◌, ◌<◌, Bool, true, List, [], length, get_or, ap, sym, ◌∙◌, subst, arith}
 use Rattle.std.specs.Prelude.{◌==◌, nat_lt}
 use Rattle.std.specs.List.{range_with_len}
-use Rattle.std.proofs.lemmas.Bool.Decides.{nat_tests}
+use Rattle.reo_values.proofs.Truths.{and_left, and_right, one_truth}
+use Rattle.reo_values.proofs.Naturals.{eq_same, same_eq, true_lt}
 use Rattle.reo_net_base.specs.Net.{Net}
 use Rattle.reo_net_base.specs.Sides.{side_count}
 use Rattle.reo_net_base.specs.Wired.{IsWired}
 use Rattle.reo_net_laws.specs.Sublists.{sides_in}
-use Rattle.reo_net_laws.proofs.Sets.{and_left, and_right}
 use Rattle.reo_knots.specs.Knots.{Knotted, AreKnots, in_knot, knot_count}
-use Rattle.reo_joint_values.proofs.Equal.{same_eq, eq_same}
 use Rattle.reo_propagate.specs.Queues.{among}
 use Rattle.reo_kept_tables.specs.Tables.{AreApart}
 use Rattle.reo_kept_tables.specs.Orders.{AreJointsOf, AreOrders}
 use Rattle.reo_kept_tables.proofs.Sorted.{later, sooner, not_other, out_of_filter, into_filter, orders_are_of_parts}
-
-below_true : (a b : ℕ) → nat_lt a b ≡ true → a < b
-below_true a b h = grind (arith, nat_tests)
-
-one_truth : (a b : Bool) → (a ≡ true → b ≡ true) → (b ≡ true → a ≡ true) → a ≡ b
-one_truth true b to back = sym (to refl)
-one_truth false true to back = back refl
-one_truth false false to back = refl
 
 among_range : (a n s : ℕ) → s < n → among (range_with_len a n) (a + s) ≡ true
 among_range a zero s lt = absurd (omega arith)
@@ -34,7 +25,7 @@ module _ (net : Net) (knots : Knotted) (are : AreKnots net knots) (part : ℕ) (
   -- A side of a part is one of the circuit.
   real : (s : ℕ) → in_knot knots.numbers part s ≡ true → s < side_count net
   real s h =
-      let under = below_true s (length knots.numbers) (and_left (nat_lt s (length knots.numbers)) (get_or knots.numbers s 0 == part) h) in
+      let under = true_lt s (length knots.numbers) (and_left (nat_lt s (length knots.numbers)) (get_or knots.numbers s 0 == part) h) in
       omega (arith, under, are.numbered.one_each)
 
   among_part : (s : ℕ) → among (sides_in net (in_knot knots.numbers part)) s ≡ in_knot knots.numbers part s

@@ -1,24 +1,20 @@
 -- Tables that are right on each part.
 use Rattle.std.proofs.Common.{◌≡◌, ℕ, ◌<◌, true, List, length, get_or, refl, arith}
 use Rattle.std.specs.Prelude.{◌==◌, nat_lt}
-use Rattle.std.proofs.lemmas.Bool.Decides.{nat_tests}
 use Rattle.reo_net_base.specs.Net.{Net, side_at}
 use Rattle.reo_net_base.specs.Sides.{side_count}
 use Rattle.reo_net_base.specs.Wired.{IsWired}
 use Rattle.reo_net_laws.proofs.Sides.{side_in_range}
 use Rattle.reo_knots.specs.Knots.{in_knot}
-use Rattle.reo_joint_values.proofs.Equal.{same_eq}
 use Rattle.reo_joint_values.specs.Standing.{no_joint, giver_of}
 use Rattle.reo_kept_tables.specs.Tables.{IsSideRight, IsJointRight}
 use Rattle.reo_kept_tables.specs.Laws.{ReadyTablesAreRight, RightPartsAreReady}
 use Rattle.std.proofs.lemmas.Bool.{and_from as both}
-
-true_below : (a b : ℕ) → a < b → nat_lt a b ≡ true
-true_below a b h = grind (arith, nat_tests)
+use Rattle.reo_values.proofs.Naturals.{lt_true, same_eq}
 
 -- A side has the number of its own part.
 pub in_own : (numbers : List ℕ) (s : ℕ) → s < length numbers → in_knot numbers (get_or numbers s 0) s ≡ true
-in_own numbers s lt = both (nat_lt s (length numbers)) (get_or numbers s 0 == get_or numbers s 0) (true_below s (length numbers) lt) (same_eq (get_or numbers s 0) (get_or numbers s 0) refl)
+in_own numbers s lt = both (nat_lt s (length numbers)) (get_or numbers s 0 == get_or numbers s 0) (lt_true s (length numbers) lt) (same_eq (get_or numbers s 0) (get_or numbers s 0) refl)
 
 -- A joint starts at a side of the circuit.
 pub starts : (net : Net) → IsWired net → (j : ℕ) → j < length net.joints → side_at net (giver_of net j) < side_count net

@@ -5,8 +5,8 @@ use Rattle.std.proofs.lemmas.Bool.{both_ways}
 use Rattle.reo_values.specs.declared.value.Value.{Value}
 use Rattle.reo_net_base.specs.Net.{Net, row_count, side_at}
 use Rattle.reo_net_base.specs.Wired.{IsWired}
-use Rattle.reo_net_laws.specs.Alike.{AreAlike}
 use Rattle.reo_net_laws.specs.Parts.{IsClosed}
+use Rattle.reo_net_laws.proofs.Assignments.{alike_self}
 use Rattle.reo_side_tables.specs.declared.board.Board.{Board}
 use Rattle.reo_side_tables.specs.Boards.{IsBoard}
 use Rattle.reo_side_tables.specs.Marks.{side_in, groups_in}
@@ -86,22 +86,6 @@ joints_right net joints tables reached alive seen j h =
       values = right_all joints (λ j row. length row ≡ length (items_at tables.supply j) + 4) tables.state.alive alive j [] at;
       marks = right_all joints (λ j row. length row ≡ length (items_at tables.supply j) + 4) tables.state.rows.seen seen j [] at;
     }
-
--- A circuit is alike to itself.
-alike_self : (net : Net) (inside : ℕ → Bool) → AreAlike net net inside
-alike_self net inside = record {
-  joints = refl;
-  count = refl;
-  shape = λ i lt. record { ends = refl; sides = refl; side_of = λ end. refl; takes_in = λ end. refl; leads = λ side. refl };
-  sides = λ i side lt side_in h. record {
-    rows = refl;
-    mark = λ row end r is. refl;
-    class = λ row turn r. refl;
-    from = λ row end gives. refl;
-    given = λ row end taken gives. refl;
-    passes = λ row end item r is takes. refl;
-  };
-}
 
 not_among : (xs : List ℕ) (k : ℕ) → (among xs k ≡ true → ⊥) → among xs k ≡ false
 not_among xs k h = not_true (among xs k) h

@@ -1,5 +1,5 @@
 -- The joints of parts, in an order of all joints.
-use Rattle.std.proofs.Common.{◌≡◌, ◌≢◌, ◌⊎◌, ◌↔◌, inl, inr, ℕ, zero, suc, ◌+◌, ◌<◌, Bool, true, false, cond, ◌||◌, List, [], ◌∷◌, ◌++◌, length, get_or, take, refl, ap, sym, ◌∙◌, subst, arith, append-nil}
+use Rattle.std.proofs.Common.{◌≡◌, ◌≢◌, ◌⊎◌, ◌↔◌, inl, inr, ℕ, ◌+◌, ◌<◌, Bool, true, false, cond, List, [], ◌∷◌, ◌++◌, length, get_or, take, refl, ap, sym, ◌∙◌, subst, arith, append-nil}
 use Rattle.std.specs.Prelude.{Contains, filter, nat_lt}
 use Rattle.std.specs.Bool.{◌==◌}
 use Rattle.std.proofs.lemmas.Bool.Decides.{eqb_tells}
@@ -13,9 +13,7 @@ use Rattle.reo_net_base.specs.Wired.{IsWired, IsOrder}
 use Rattle.reo_net_circuit.proofs.ReshapeLemmas.{side_same, order_same}
 use Rattle.reo_net_laws.specs.Parts.{IsClosed}
 use Rattle.reo_net_laws.proofs.Orders.{place_in, place_of}
-use Rattle.reo_net_laws.proofs.Sets.{and_right}
 use Rattle.reo_side_tables.specs.Listing.{AreEmpty, IsAdded}
-use Rattle.reo_joint_values.proofs.Equal.{eq_same}
 use Rattle.reo_knots.specs.Knots.{Knotted, in_knot, knot_count}
 use Rattle.reo_reach.specs.InOrder.{joints_in}
 use Rattle.reo_joint_values.specs.Standing.{no_joint, giver_of}
@@ -29,6 +27,9 @@ use Rattle.reo_kept_tables.proofs.Renewed.{contains_among, among_contains}
 use Rattle.reo_kept_tables.proofs.Readied.{in_own}
 pub use Rattle.std.proofs.lemmas.Bool.{or_left as sooner, or_right as later}
 use Rattle.std.proofs.lemmas.Bool.{false_from_ne_true as not_true}
+use Rattle.reo_values.proofs.Truths.{and_right, either}
+use Rattle.reo_values.proofs.Naturals.{eq_same}
+use Rattle.reo_values.proofs.Sequences.{filter_same}
 
 -- For each part those of the first n joints of an order that are its.
 pub record ArePicked (net : Net) (numbers order : List ℕ) (n count : ℕ) (orders : List (List ℕ)) : Type 0 where
@@ -77,10 +78,6 @@ all_picked net knots order n orders is all are = record {
   one_each = are.one_each;
   each = λ k lt. are.each k lt ∙ ap (joints_in net (in_knot knots.numbers k)) (take_all n order (omega (arith, all)));
 }
-
-either : (a b : Bool) → (a || b) ≡ true → (a ≡ true) ⊎ (b ≡ true)
-either true b h = inl refl
-either false b h = inr h
 
 out_for : (f : ℕ → Bool) (x : ℕ) (xs : List ℕ) (s : ℕ) (t : Bool) → f x ≡ t → (among (filter f xs) s ≡ true → (f s ≡ true) × (among xs s ≡ true)) → among (cond t (x ∷ filter f xs) (filter f xs)) s ≡ true
     → (f s ≡ true) × (among (x ∷ xs) s ≡ true)
@@ -133,13 +130,6 @@ pub orders_are_of_parts : OrdersAreOfParts
 orders_are_of_parts net wired knots are orders is k lt =
     subst (λ (xs : List ℕ). AreJointsOf net (in_knot knots.numbers k) xs) (sym (is.each k lt))
     (joints_of_set net wired is.all is.is_order (in_knot knots.numbers k) (are.are_knots k lt).closed)
-
-filter_same : (f g : ℕ → Bool) (xs : List ℕ) → ((m : ℕ) → m < length xs → f (get_or xs m 0) ≡ g (get_or xs m 0)) → filter f xs ≡ filter g xs
-filter_same f g [] same = refl
-filter_same f g (x ∷ xs) same =
-    let rest = filter_same f g xs (λ m lt. same (suc m) (omega arith)) in
-    let here = same zero (omega arith) in
-    λ i. cond (here i) (x ∷ rest i) (rest i)
 
 module _ (bs ds : List Behaviour) (js : List Joint) (wired : IsWired (record { primitives = bs; joints = js })) (shapes : SameShapes bs ds) where
   abbrev old : Net

@@ -1,16 +1,14 @@
 -- Tables that are right on a set stay so where the circuit changes elsewhere.
 use Rattle.std.proofs.Common.{◌≡◌, inl, inr, ℕ, ◌+◌, ◌*◌, ◌<◌, Bool, true, cond, List, [], length, get_or, refl, ap, sym, ◌∙◌, subst, arith}
 use Rattle.std.specs.Prelude.{◌==◌}
-use Rattle.std.specs.List.{flat_map}
-use Rattle.std.proofs.lemmas.List.{take_all}
 use Rattle.reo_net_base.specs.declared.joint.End.{End}
 use Rattle.reo_net_base.specs.declared.joint.Joint.{Joint}
 use Rattle.reo_net_base.specs.Behaviour.{Behaviour}
-use Rattle.reo_net_base.specs.Net.{Net, Side, all_sides, sides_of, no_side, first_side, row_count, behaviour_at, side_at}
+use Rattle.reo_net_base.specs.Net.{Net, Side, all_sides, no_side, first_side, row_count, behaviour_at, side_at}
 use Rattle.reo_net_base.specs.Shapes.{SameShapes}
 use Rattle.reo_net_base.specs.Sides.{side_count}
 use Rattle.reo_net_base.specs.Wired.{IsWired, IsEnd}
-use Rattle.reo_net_circuit.proofs.ReshapeLemmas.{first_same, side_same}
+use Rattle.reo_net_circuit.proofs.ReshapeLemmas.{first_same, side_same, all_is}
 use Rattle.reo_net_laws.specs.Alike.{SameSide, AreAlike}
 use Rattle.reo_net_laws.specs.Ends.{mark_in}
 use Rattle.reo_net_laws.specs.Parts.{IsClosed}
@@ -28,7 +26,7 @@ use Rattle.reo_kept_tables.specs.declared.tables.Tables.{Tables}
 use Rattle.reo_kept_tables.specs.Tables.{IsSideRight, AreRightOn}
 use Rattle.reo_kept_tables.specs.Laws.{RightTablesStay, RoomStays}
 
-same_side : (b d : Behaviour) (side : ℕ) → d ≡ b → SameSide b d side
+pub same_side : (b d : Behaviour) (side : ℕ) → d ≡ b → SameSide b d side
 same_side b d side e = subst (λ (x : Behaviour). SameSide b x side) (sym e) record {
   rows = refl;
   mark = λ row end lt of. refl;
@@ -37,9 +35,6 @@ same_side b d side e = subst (λ (x : Behaviour). SameSide b x side) (sym e) rec
   given = λ row end taken gives. refl;
   passes = λ row end item lt of takes. refl;
 }
-
-all_is : (bs : List Behaviour) → length (all_sides bs) ≡ first_side bs (length bs)
-all_is bs = ap (λ (xs : List Behaviour). length (flat_map sides_of xs)) (sym (take_all (length bs) bs (omega arith)))
 
 -- Circuits of one shape have as many sides.
 pub count_same : (bs ds : List Behaviour) → SameShapes bs ds → length (all_sides ds) ≡ length (all_sides bs)

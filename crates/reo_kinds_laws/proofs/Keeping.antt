@@ -4,6 +4,7 @@ use Rattle.std.specs.Prelude.{option_to_list}
 use Rattle.std.proofs.lemmas.Bool.Decides.{nat_tests}
 use Rattle.std.proofs.lemmas.List.{length-append}
 use Rattle.reo_values.specs.declared.value.Value.{Value}
+use Rattle.reo_values.proofs.Truths.{not_true}
 use Rattle.reo_net_base.specs.Marks.{is_flow}
 use Rattle.reo_net_base.specs.Rows.{mark_in}
 use Rattle.reo_net_base.specs.Tables.{rows_of}
@@ -29,10 +30,6 @@ record Goes (buffer : Stored) (given came : Option Value) (lost : List Value) (l
 came_while : (flows holds : Bool) (item : Option Value) → (flows ≡ true → holds ≡ true) → is_some (cond flows item None) ≡ true → holds ≡ true
 came_while true holds item only came = only refl
 came_while false holds item only came = absurd cc
-
-not_full : (full : Bool) → not full ≡ true → full ≡ false
-not_full true h = absurd cc
-not_full false h = refl
 
 -- There is room where a full buffer has given its front, and it goes on without it.
 room : (size : ℕ) (front : Value) (items : List Value) → IsBuffer (stored size (front ∷ items)) → is_full (stored size items) ≡ false
@@ -112,7 +109,7 @@ shift size (front ∷ items) false (Some item) false is some b = rw is record {
 pub buffers_kept : BuffersKeepOrder
 buffers_kept buffer rows item b =
     let kept = put buffer.size buffer.items (flows_at (Store buffer) rows 1) (came_in (Store buffer) rows item)
-    (λ came. not_full _ (came_while _ _ item (can_flow (not (is_full buffer)) rows.first) came)) (can_flow (is_some (front_of buffer)) rows.second) b in
+    (λ came. not_true _ (came_while _ _ item (can_flow (not (is_full buffer)) rows.first) came)) (can_flow (is_some (front_of buffer)) rows.second) b in
     record { later = _; is_left = refl; size_stays = kept.size_stays; in_order = kept.in_order; is_buffer = kept.is_buffer }
 
 pub shifts_kept : ShiftsLoseFronts

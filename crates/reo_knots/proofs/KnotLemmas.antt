@@ -2,8 +2,9 @@
 use Rattle.std.proofs.Common.{◌≡◌, ℕ, ◌<◌, ◌↔◌, List, Bool, true, false, IsTrue, length, get_or, ap, sym, ◌∙◌, arith}
 use Rattle.std.specs.Prelude.{◌==◌, ◌&&◌, nat_lt, filter}
 use Rattle.std.specs.List.{range_with_len}
-use Rattle.std.proofs.lemmas.Bool.Decides.{nat_tests}
 use Rattle.std.proofs.lemmas.List.{get_or_default}
+use Rattle.reo_values.proofs.Truths.{and_left, and_right}
+use Rattle.reo_values.proofs.Naturals.{eq_same, lt_true, same_eq, true_lt}
 use Rattle.reo_net_base.specs.declared.joint.Joint.{Joint}
 use Rattle.reo_net_base.specs.Net.{Net, side_at}
 use Rattle.reo_net_base.specs.Sides.{side_count}
@@ -11,18 +12,10 @@ use Rattle.reo_net_base.specs.Wired.{IsWired}
 use Rattle.reo_net_laws.specs.Parts.{SameKnot, IsKnot}
 use Rattle.reo_net_laws.specs.Sublists.{sides_in}
 use Rattle.reo_net_laws.proofs.Sides.{side_in_range}
-use Rattle.reo_net_laws.proofs.Sets.{and_left, and_right}
 use Rattle.reo_knots.specs.Knots.{knotted, AreNumbers, AreKnots, AreThose, IsLoopOf, in_knot}
 use Rattle.reo_knots.specs.Labels.{AreLabels, AreLoops, same_label}
 use Rattle.reo_knots.specs.Groups.{AreSidesBelow, AreLoopsBelow}
 use Rattle.reo_knots.proofs.GroupLemmas.{same_picked, picked_those}
-use Rattle.reo_knots.proofs.LinkLemmas.{eq_true, eq_self}
-
-below_true : (a b : ℕ) → nat_lt a b ≡ true → a < b
-below_true a b h = grind (arith, nat_tests)
-
-true_below : (a b : ℕ) → a < b → nat_lt a b ≡ true
-true_below a b h = grind (arith, nat_tests)
 
 -- Numbers of labels are numbers of knots.
 pub numbered : (net : Net) (labels numbers : List ℕ) (count : ℕ) → AreLabels net (length net.joints) labels → AreNumbers (same_label labels) (length labels) numbers count → AreNumbers (SameKnot net) (side_count net) numbers count
@@ -41,22 +34,22 @@ numbered net labels numbers count are numbers_are =
 
 module _ (net : Net) (wired : IsWired net) (numbers : List ℕ) (count : ℕ) (are : AreNumbers (SameKnot net) (side_count net) numbers count) where
   in_at : (k s : ℕ) → s < side_count net → in_knot numbers k s ≡ (get_or numbers s 0 == k)
-  in_at k s lt = ap (λ (t : Bool). t && (get_or numbers s 0 == k)) (true_below s (length numbers) (omega (arith, are.one_each)))
+  in_at k s lt = ap (λ (t : Bool). t && (get_or numbers s 0 == k)) (lt_true s (length numbers) (omega (arith, are.one_each)))
 
   below : (k s : ℕ) → in_knot numbers k s ≡ true → s < side_count net
   below k s h =
-      let lt = below_true s (length numbers) (and_left (nat_lt s (length numbers)) (get_or numbers s 0 == k) h) in
+      let lt = true_lt s (length numbers) (and_left (nat_lt s (length numbers)) (get_or numbers s 0 == k) h) in
       omega (arith, lt, are.one_each)
 
   number_is : (k s : ℕ) → in_knot numbers k s ≡ true → get_or numbers s 0 ≡ k
-  number_is k s h = eq_true (get_or numbers s 0) k (and_right (nat_lt s (length numbers)) (get_or numbers s 0 == k) h)
+  number_is k s h = eq_same (get_or numbers s 0) k (and_right (nat_lt s (length numbers)) (get_or numbers s 0 == k) h)
 
   -- The sides of a number are a knot.
   pub knot : (k : ℕ) → k < count → IsKnot net (in_knot numbers k)
   knot k lt =
       let it = are.each k lt in
       record {
-        some = (it.0, it.1, in_at k it.0 it.1 ∙ eq_self (get_or numbers it.0 0) k it.2);
+        some = (it.0, it.1, in_at k it.0 it.1 ∙ same_eq (get_or numbers it.0 0) k it.2);
         closed = record {
           along = λ j d j_in.
               let giver = side_in_range net wired (get_or net.joints j d).giver (wired.givers j d j_in) in
@@ -80,9 +73,9 @@ module _ (net : Net) (wired : IsWired net) (numbers : List ℕ) (count : ℕ) (a
         closes = (loops_are.exact j h.0).0 (and_left (get_or loops j false) (get_or numbers (side_at net (get_or net.joints j e).giver) 0 == k) h.1);
         here = λ d.
             ap (λ (x : Joint). get_or numbers (side_at net x.giver) 0) (get_or_default net.joints j d e h.0)
-            ∙ eq_true (get_or numbers (side_at net (get_or net.joints j e).giver) 0) k (and_right (get_or loops j false) (get_or numbers (side_at net (get_or net.joints j e).giver) 0 == k) h.1);
+            ∙ eq_same (get_or numbers (side_at net (get_or net.joints j e).giver) 0) k (and_right (get_or loops j false) (get_or numbers (side_at net (get_or net.joints j e).giver) 0 == k) h.1);
       },
-      λ is. (is.in_range, both (get_or loops j false) (get_or numbers (side_at net (get_or net.joints j e).giver) 0 == k) ((loops_are.exact j is.in_range).1 is.closes) (eq_self (get_or numbers (side_at net (get_or net.joints j e).giver) 0) k (is.here e))),
+      λ is. (is.in_range, both (get_or loops j false) (get_or numbers (side_at net (get_or net.joints j e).giver) 0 == k) ((loops_are.exact j is.in_range).1 is.closes) (same_eq (get_or numbers (side_at net (get_or net.joints j e).giver) 0) k (is.here e))),
     )
       where
         both : (a b : Bool) → IsTrue a → b ≡ true → (a && b) ≡ true

@@ -1,10 +1,11 @@
 -- Labels of linked sides.
-use Rattle.std.proofs.Common.{◌≡◌, ◌⊎◌, inl, inr, ℕ, ◌+◌, ◌<◌, ◌↔◌, List, [], ◌∷◌, ◌++◌, Bool, true, false, length, get_or, refl, ap, sym, ◌∙◌, arith, below_more, IsTrue, length-append}
+use Rattle.std.proofs.Common.{◌≡◌, ◌⊎◌, inl, inr, ℕ, ◌+◌, ◌<◌, ◌↔◌, List, [], ◌∷◌, ◌++◌, Bool, false, length, get_or, refl, ap, sym, ◌∙◌, arith, below_more, IsTrue, length-append}
 use Rattle.std.specs.Bool.{◌==◌}
 use Rattle.std.proofs.Math.Seq.{get_or-append_seam}
 use Rattle.std.proofs.lemmas.Bool.{cases_eq}
 use Rattle.std.proofs.lemmas.Bool.Decides.{nat_tests}
 use Rattle.std.proofs.lemmas.List.{get_or_append_left}
+use Rattle.reo_values.proofs.Naturals.{eq_same, same_eq}
 use Rattle.reo_net_base.specs.declared.joint.Joint.{Joint}
 use Rattle.reo_net_base.specs.Net.{Net, side_at}
 use Rattle.reo_net_base.specs.Sides.{side_count}
@@ -15,19 +16,13 @@ use Rattle.reo_knots.specs.Knots.{IsLoop}
 use Rattle.reo_knots.specs.Labels.{AreOwn, AreLabels, AreLoops, AreRelabelled, AreMerged, same_label, renamed}
 use Rattle.reo_knots.proofs.LabelLemmas.{renamed_same, renamed_other}
 
-pub eq_true : (a b : ℕ) → (a == b) ≡ true → a ≡ b
-eq_true a b h = grind (arith, nat_tests)
-
-pub eq_self : (a b : ℕ) → a ≡ b → (a == b) ≡ true
-eq_self a b h = grind (arith, nat_tests)
-
 -- Where labels are the same along the first n joints, they are the same wherever these link.
 same_from_linked : (net : Net) (n : ℕ) (labels : List ℕ) → ((j : ℕ) (d : Joint) → j < n → same_label labels (side_at net (get_or net.joints j d).giver) (side_at net (get_or net.joints j d).taker))
     → (s t : ℕ) → IsLinked net n s t → same_label labels s t
 same_from_linked net n labels along s t h =
     let label : ℕ = get_or labels s 0 in
     let same = h (λ x. get_or labels x 0 == label) (record { along = λ j d lt i. along j d lt i == label }) in
-    sym (eq_true (get_or labels t 0) label (sym same ∙ eq_self label label refl))
+    sym (eq_same (get_or labels t 0) label (sym same ∙ same_eq label label refl))
 
 -- No joint links a side to another one.
 pub own_labels : (net : Net) (labels : List ℕ) → AreOwn labels (side_count net) → AreLabels net 0 labels

@@ -1,12 +1,9 @@
 -- Lists of words in groups.
-use Rattle.std.proofs.Common.{◌≡◌, ℕ, Bool, true, false, ◌||◌, List, [], ◌∷◌, ◌++◌, refl, ◌∙◌, ap}
+use Rattle.std.proofs.Common.{◌≡◌, ℕ, ◌||◌, List, [], ◌∷◌, ◌++◌, refl, ◌∙◌, ap}
 use Rattle.std.specs.Str.{bytes_eq}
 use Rattle.reo_grammar.specs.Bytes.{one_of}
 use Rattle.reo_grammar.specs.Spelling.{frame_words, channel_words, item_words, term_words, script_words, reserved}
-
-or_assoc : (a b c : Bool) → (a || (b || c)) ≡ ((a || b) || c)
-or_assoc true b c = refl
-or_assoc false b c = refl
+use Rattle.reo_grammar.proofs.Classes.{or_assoc}
 
 pub one_of-append : (b : List ℕ) (xs ys : List (List ℕ)) → one_of b (xs ++ ys) ≡ (one_of b xs || one_of b ys)
 one_of-append b [] ys = refl

@@ -2,7 +2,8 @@
 use Rattle.std.proofs.Common.{◌≡◌, ℕ, Bool, true, false, cond, List, [], ◌∷◌, ◌++◌, refl, ◌∙◌, ap, append_assoc, append-nil, arith, ◌==◌}
 use Rattle.std.specs.List.{list_all}
 use Rattle.std.proofs.lemmas.Bool.Decides.{nat_tests}
-use Rattle.reo_grammar.proofs.Sound.{and-left, and-right, and-both}
+use Rattle.reo_values.proofs.Truths.{and_left, and_right}
+use Rattle.reo_grammar.proofs.Sound.{and-both}
 use Rattle.reo_lexer.specs.Gaps.{is_space, is_no_lf, IsGap}
 use Rattle.reo_lexer.specs.Gaps.IsGap.{no_gap, space, comment}
 use Rattle.reo_lexer.specs.Skipping.{behind}
@@ -10,8 +11,8 @@ use Rattle.reo_lexer.specs.Skipping.{behind}
 comment-skipped : (c g rest : List ℕ) → list_all is_no_lf c ≡ true → behind true ((c ++ (10 ∷ g)) ++ rest) ≡ behind false (g ++ rest)
 comment-skipped [] g rest e = refl
 comment-skipped (b ∷ c) g rest e =
-    let n : is_no_lf b ≡ true = and-left (is_no_lf b) (list_all is_no_lf c) e in
-    rw (n, behind) (comment-skipped c g rest (and-right (is_no_lf b) (list_all is_no_lf c) e))
+    let n : is_no_lf b ≡ true = and_left (is_no_lf b) (list_all is_no_lf c) e in
+    rw (n, behind) (comment-skipped c g rest (and_right (is_no_lf b) (list_all is_no_lf c) e))
 
 -- Behind a gap stands what no gap begins.
 pub gap-skipped : (g rest : List ℕ) → IsGap g → behind false (g ++ rest) ≡ behind false rest

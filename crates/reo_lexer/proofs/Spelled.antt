@@ -8,13 +8,15 @@ use Rattle.reo_grammar.specs.declared.kind.TokenKind.{TokenKind}
 use Rattle.reo_grammar.specs.declared.kind.TokenKind.TheVariants as kinds
 use Rattle.reo_grammar.specs.Bytes.{one_of}
 use Rattle.reo_grammar.specs.Spelling.{spells, is_digits, is_closed, reserved, signs}
-use Rattle.reo_grammar.proofs.Sound.{and-left, and-right, and-both}
-use Rattle.reo_grammar.proofs.Classes.{same_bytes, or-cases, no-both}
+use Rattle.reo_grammar.proofs.Sound.{and-both}
+use Rattle.reo_grammar.proofs.Classes.{or-cases}
 use Rattle.reo_lexer.specs.Faults.{ends}
 use Rattle.reo_lexer.specs.Gaps.{is_space}
 use Rattle.reo_lexer.proofs.Quotes.{closed-longest}
-pub use Rattle.reo_grammar.proofs.Classes.{not-false as not-yes}
 pub use Rattle.std.proofs.lemmas.Bool.{false_from_ne_true as never, not_from_false as yes-not}
+use Rattle.reo_values.proofs.Truths.{and_left, and_right, no_both}
+pub use Rattle.reo_values.proofs.Truths.{not_true as not-yes}
+use Rattle.reo_values.proofs.Sequences.{same_bytes}
 
 -- Each of some lists of bytes passes a test.
 abbrev pub all_pass : (List ℕ → Bool) → List (List ℕ) → Bool
@@ -24,8 +26,8 @@ all_pass p (x ∷ xs) = p x && all_pass p xs
 pub one_of-passes : (p : List ℕ → Bool) (b : List ℕ) (xs : List (List ℕ)) → all_pass p xs ≡ true → one_of b xs ≡ true → p b ≡ true
 one_of-passes p b [] h k = absurd (cc)
 one_of-passes p b (x ∷ xs) h k = or-cases (bytes_eq b x) (one_of b xs) k
-    (λ e. let w : b ≡ x = same_bytes b x e in rw w (and-left (p x) (all_pass p xs) h))
-    (λ e. one_of-passes p b xs (and-right (p x) (all_pass p xs) h) e)
+    (λ e. let w : b ≡ x = same_bytes b x e in rw w (and_left (p x) (all_pass p xs) h))
+    (λ e. one_of-passes p b xs (and_right (p x) (all_pass p xs) h) e)
 
 -- The first byte is no letter, no digit and no quote, and there is at most one more.
 abbrev pub sign_like : List ℕ → Bool
@@ -44,15 +46,15 @@ kind_of (b ∷ bs) = cond (is_letter b) (cond (one_of (b ∷ bs) reserved) kinds
 
 pub letter-parts : (b : ℕ) → is_letter b ≡ true → (65 ≤ b)
 letter-parts b h = or-cases (nat_le 65 b && nat_le b 90) ((nat_le 97 b && nat_le b 122) || b == 95) h
-    (λ e. let k : nat_le 65 b ≡ true = and-left _ _ e in grind (arith, nat_tests))
+    (λ e. let k : nat_le 65 b ≡ true = and_left _ _ e in grind (arith, nat_tests))
     (λ e. or-cases (nat_le 97 b && nat_le b 122) (b == 95) e
-    (λ f. let k : nat_le 97 b ≡ true = and-left _ _ f in grind (arith, nat_tests))
+    (λ f. let k : nat_le 97 b ≡ true = and_left _ _ f in grind (arith, nat_tests))
     (λ f. grind (arith, nat_tests)))
 
 pub digit-parts : (b : ℕ) → is_digit b ≡ true → (48 ≤ b) × (b ≤ 57)
 digit-parts b h =
-    let k : nat_le 48 b ≡ true = and-left (nat_le 48 b) (nat_le b 57) h in
-    let l : nat_le b 57 ≡ true = and-right (nat_le 48 b) (nat_le b 57) h in
+    let k : nat_le 48 b ≡ true = and_left (nat_le 48 b) (nat_le b 57) h in
+    let l : nat_le b 57 ≡ true = and_right (nat_le 48 b) (nat_le b 57) h in
     (grind (arith, nat_tests), grind (arith, nat_tests))
 
 pub quote-part : (b : ℕ) → (b == 34) ≡ true → b ≡ 34
@@ -65,9 +67,9 @@ digit-no-letter b h = never (is_letter b) (λ e. let k = letter-parts b e in let
 pub spells-kind : (k : TokenKind) (b : List ℕ) → spells k b ≡ true → kind_of b ≡ k
 spells-kind kinds.Name [] h = absurd (cc)
 spells-kind kinds.Name (b ∷ bs) h =
-    let s : is_name (b ∷ bs) ≡ true = and-left (is_name (b ∷ bs)) (not (one_of (b ∷ bs) reserved)) h in
-    let l : is_letter b ≡ true = and-left (is_letter b) (list_all is_name_byte bs) s in
-    let n : one_of (b ∷ bs) reserved ≡ false = not-yes _ (and-right (is_name (b ∷ bs)) (not (one_of (b ∷ bs) reserved)) h) in
+    let s : is_name (b ∷ bs) ≡ true = and_left (is_name (b ∷ bs)) (not (one_of (b ∷ bs) reserved)) h in
+    let l : is_letter b ≡ true = and_left (is_letter b) (list_all is_name_byte bs) s in
+    let n : one_of (b ∷ bs) reserved ≡ false = not-yes _ (and_right (is_name (b ∷ bs)) (not (one_of (b ∷ bs) reserved)) h) in
     by (is_letter b) (one_of (b ∷ bs) reserved) (cond (is_digit b) kinds.Number (cond (b == 34) kinds.Text kinds.Sign)) l n
   where
     by : (x y : Bool) (o : TokenKind) → x ≡ true → y ≡ false → cond x (cond y kinds.Word kinds.Name) o ≡ kinds.Name
@@ -76,7 +78,7 @@ spells-kind kinds.Name (b ∷ bs) h =
     by true true o h k = absurd (cc)
 spells-kind kinds.Word [] h = absurd (cc)
 spells-kind kinds.Word (b ∷ bs) h =
-    by (is_letter b) (one_of (b ∷ bs) reserved) (cond (is_digit b) kinds.Number (cond (b == 34) kinds.Text kinds.Sign)) (and-left (is_letter b) (list_all is_name_byte bs) (reserved-spelled (b ∷ bs) h)) h
+    by (is_letter b) (one_of (b ∷ bs) reserved) (cond (is_digit b) kinds.Number (cond (b == 34) kinds.Text kinds.Sign)) (and_left (is_letter b) (list_all is_name_byte bs) (reserved-spelled (b ∷ bs) h)) h
   where
     by : (x y : Bool) (o : TokenKind) → x ≡ true → y ≡ true → cond x (cond y kinds.Word kinds.Name) o ≡ kinds.Word
     by true true o h k = refl
@@ -84,7 +86,7 @@ spells-kind kinds.Word (b ∷ bs) h =
     by true false o h k = absurd (cc)
 spells-kind kinds.Number [] h = absurd (cc)
 spells-kind kinds.Number (b ∷ bs) h =
-    let d : is_digit b ≡ true = and-left (is_digit b) (list_all is_digit bs) h in
+    let d : is_digit b ≡ true = and_left (is_digit b) (list_all is_digit bs) h in
     by (is_letter b) (is_digit b) (cond (one_of (b ∷ bs) reserved) kinds.Word kinds.Name) (cond (b == 34) kinds.Text kinds.Sign) (digit-no-letter b d) d
   where
     by : (x y : Bool) (o p : TokenKind) → x ≡ false → y ≡ true → cond x o (cond y kinds.Number p) ≡ kinds.Number
@@ -92,15 +94,15 @@ spells-kind kinds.Number (b ∷ bs) h =
     by true y o p h k = absurd (cc)
     by false false o p h k = absurd (cc)
 spells-kind kinds.Text [] h = absurd (cc)
-spells-kind kinds.Text (b ∷ bs) h = let q : b ≡ 34 = quote-part b (and-left (b == 34) (is_closed false bs) h) in rw q refl
+spells-kind kinds.Text (b ∷ bs) h = let q : b ≡ 34 = quote-part b (and_left (b == 34) (is_closed false bs) h) in rw q refl
 spells-kind kinds.Sign [] h = refl
 spells-kind kinds.Sign (b ∷ bs) h =
-    let s = and-left (not (is_letter b) && (not (is_digit b) && not (b == 34))) (nat_le (length bs) 1) (sign-like (b ∷ bs) h) in
-    let t = and-right (not (is_letter b)) (not (is_digit b) && not (b == 34)) s in
+    let s = and_left (not (is_letter b) && (not (is_digit b) && not (b == 34))) (nat_le (length bs) 1) (sign-like (b ∷ bs) h) in
+    let t = and_right (not (is_letter b)) (not (is_digit b) && not (b == 34)) s in
     by (is_letter b) (is_digit b) (b == 34) (cond (one_of (b ∷ bs) reserved) kinds.Word kinds.Name)
-    (not-yes (is_letter b) (and-left (not (is_letter b)) (not (is_digit b) && not (b == 34)) s))
-    (not-yes (is_digit b) (and-left (not (is_digit b)) (not (b == 34)) t))
-    (not-yes (b == 34) (and-right (not (is_digit b)) (not (b == 34)) t))
+    (not-yes (is_letter b) (and_left (not (is_letter b)) (not (is_digit b) && not (b == 34)) s))
+    (not-yes (is_digit b) (and_left (not (is_digit b)) (not (b == 34)) t))
+    (not-yes (b == 34) (and_right (not (is_digit b)) (not (b == 34)) t))
   where
     by : (x y z : Bool) (o : TokenKind) → x ≡ false → y ≡ false → z ≡ false → cond x o (cond y kinds.Number (cond z kinds.Text kinds.Sign)) ≡ kinds.Sign
     by false false false o h k l = refl
@@ -121,23 +123,23 @@ no-empty kinds.Sign h = cc
 
 -- What begins with a letter is spelled as names are; with a digit, as numbers are; with a quote, as texts are; else it is a sign.
 pub by-letter : (k : TokenKind) (b : ℕ) (bs : List ℕ) → is_letter b ≡ true → spells k (b ∷ bs) ≡ true → is_name (b ∷ bs) ≡ true
-by-letter kinds.Name b bs l h = and-left (is_name (b ∷ bs)) (not (one_of (b ∷ bs) reserved)) h
+by-letter kinds.Name b bs l h = and_left (is_name (b ∷ bs)) (not (one_of (b ∷ bs) reserved)) h
 by-letter kinds.Word b bs l h = reserved-spelled (b ∷ bs) h
-by-letter kinds.Number b bs l h = absurd (let k = letter-parts b l in let d = digit-parts b (and-left (is_digit b) (list_all is_digit bs) h) in omega arith)
-by-letter kinds.Text b bs l h = absurd (let k = letter-parts b l in let q = quote-part b (and-left (b == 34) (is_closed false bs) h) in omega arith)
+by-letter kinds.Number b bs l h = absurd (let k = letter-parts b l in let d = digit-parts b (and_left (is_digit b) (list_all is_digit bs) h) in omega arith)
+by-letter kinds.Text b bs l h = absurd (let k = letter-parts b l in let q = quote-part b (and_left (b == 34) (is_closed false bs) h) in omega arith)
 by-letter kinds.Sign b bs l h =
-    absurd (no-both (is_letter b) l (not-yes (is_letter b) (and-left (not (is_letter b)) (not (is_digit b) && not (b == 34))
-    (and-left (not (is_letter b) && (not (is_digit b) && not (b == 34))) (nat_le (length bs) 1) (sign-like (b ∷ bs) h)))))
+    absurd (no_both (is_letter b) l (not-yes (is_letter b) (and_left (not (is_letter b)) (not (is_digit b) && not (b == 34))
+    (and_left (not (is_letter b) && (not (is_digit b) && not (b == 34))) (nat_le (length bs) 1) (sign-like (b ∷ bs) h)))))
 
 pub by-digit : (k : TokenKind) (b : ℕ) (bs : List ℕ) → is_digit b ≡ true → spells k (b ∷ bs) ≡ true → is_digits (b ∷ bs) ≡ true
-by-digit kinds.Name b bs l h = absurd (no-both (is_letter b) (and-left (is_letter b) (list_all is_name_byte bs) (and-left (is_name (b ∷ bs)) (not (one_of (b ∷ bs) reserved)) h)) (digit-no-letter b l))
-by-digit kinds.Word b bs l h = absurd (no-both (is_letter b) (and-left (is_letter b) (list_all is_name_byte bs) (reserved-spelled (b ∷ bs) h)) (digit-no-letter b l))
+by-digit kinds.Name b bs l h = absurd (no_both (is_letter b) (and_left (is_letter b) (list_all is_name_byte bs) (and_left (is_name (b ∷ bs)) (not (one_of (b ∷ bs) reserved)) h)) (digit-no-letter b l))
+by-digit kinds.Word b bs l h = absurd (no_both (is_letter b) (and_left (is_letter b) (list_all is_name_byte bs) (reserved-spelled (b ∷ bs) h)) (digit-no-letter b l))
 by-digit kinds.Number b bs l h = h
-by-digit kinds.Text b bs l h = absurd (let k = digit-parts b l in let q = quote-part b (and-left (b == 34) (is_closed false bs) h) in omega arith)
+by-digit kinds.Text b bs l h = absurd (let k = digit-parts b l in let q = quote-part b (and_left (b == 34) (is_closed false bs) h) in omega arith)
 by-digit kinds.Sign b bs l h =
-    absurd (no-both (is_digit b) l (not-yes (is_digit b) (and-left (not (is_digit b)) (not (b == 34))
-    (and-right (not (is_letter b)) (not (is_digit b) && not (b == 34))
-    (and-left (not (is_letter b) && (not (is_digit b) && not (b == 34))) (nat_le (length bs) 1) (sign-like (b ∷ bs) h))))))
+    absurd (no_both (is_digit b) l (not-yes (is_digit b) (and_left (not (is_digit b)) (not (b == 34))
+    (and_right (not (is_letter b)) (not (is_digit b) && not (b == 34))
+    (and_left (not (is_letter b) && (not (is_digit b) && not (b == 34))) (nat_le (length bs) 1) (sign-like (b ∷ bs) h))))))
 
 pub by-quote : (k : TokenKind) (bs : List ℕ) → spells k (34 ∷ bs) ≡ true → is_closed false bs ≡ true
 by-quote kinds.Name bs h = absurd (cc)
@@ -147,15 +149,15 @@ by-quote kinds.Text bs h = h
 by-quote kinds.Sign bs h = absurd (let k : false ≡ true = sign-like (34 ∷ bs) h in cc)
 
 pub by-other : (k : TokenKind) (b : ℕ) (bs : List ℕ) → is_letter b ≡ false → is_digit b ≡ false → (b == 34) ≡ false → spells k (b ∷ bs) ≡ true → one_of (b ∷ bs) signs ≡ true
-by-other kinds.Name b bs l d q h = absurd (no-both (is_letter b) (and-left (is_letter b) (list_all is_name_byte bs) (and-left (is_name (b ∷ bs)) (not (one_of (b ∷ bs) reserved)) h)) l)
-by-other kinds.Word b bs l d q h = absurd (no-both (is_letter b) (and-left (is_letter b) (list_all is_name_byte bs) (reserved-spelled (b ∷ bs) h)) l)
-by-other kinds.Number b bs l d q h = absurd (no-both (is_digit b) (and-left (is_digit b) (list_all is_digit bs) h) d)
-by-other kinds.Text b bs l d q h = absurd (no-both (b == 34) (and-left (b == 34) (is_closed false bs) h) q)
+by-other kinds.Name b bs l d q h = absurd (no_both (is_letter b) (and_left (is_letter b) (list_all is_name_byte bs) (and_left (is_name (b ∷ bs)) (not (one_of (b ∷ bs) reserved)) h)) l)
+by-other kinds.Word b bs l d q h = absurd (no_both (is_letter b) (and_left (is_letter b) (list_all is_name_byte bs) (reserved-spelled (b ∷ bs) h)) l)
+by-other kinds.Number b bs l d q h = absurd (no_both (is_digit b) (and_left (is_digit b) (list_all is_digit bs) h) d)
+by-other kinds.Text b bs l d q h = absurd (no_both (b == 34) (and_left (b == 34) (is_closed false bs) h) q)
 by-other kinds.Sign b bs l d q h = h
 
 pub each-next : (p : ℕ → Bool) (bs m : List ℕ) (c : ℕ) → list_all p (bs ++ (c ∷ m)) ≡ true → p c ≡ true
-each-next p [] m c h = and-left (p c) (list_all p m) h
-each-next p (b ∷ bs) m c h = each-next p bs m c (and-right (p b) (list_all p (bs ++ (c ∷ m))) h)
+each-next p [] m c h = and_left (p c) (list_all p m) h
+each-next p (b ∷ bs) m c h = each-next p bs m c (and_right (p b) (list_all p (bs ++ (c ∷ m))) h)
 
 pub ends-no : (p : ℕ → Bool) (rest m after : List ℕ) (c : ℕ) → ends p rest ≡ true → rest ≡ c ∷ (m ++ after) → p c ≡ false
 ends-no p [] m after c h w = absurd (cc)
@@ -168,15 +170,15 @@ pub name-longest : (b : ℕ) (bs rest : List ℕ) → is_letter b ≡ true → e
 name-longest b bs rest l e k [] after w h = refl
 name-longest b bs rest l e k (c ∷ m) after w h =
     let s : is_name (b ∷ (bs ++ (c ∷ m))) ≡ true = by-letter k b (bs ++ (c ∷ m)) l h in
-    let i : is_name_byte c ≡ true = each-next is_name_byte bs m c (and-right (is_letter b) (list_all is_name_byte (bs ++ (c ∷ m))) s) in
-    absurd (no-both (is_name_byte c) i (ends-no is_name_byte rest m after c e w))
+    let i : is_name_byte c ≡ true = each-next is_name_byte bs m c (and_right (is_letter b) (list_all is_name_byte (bs ++ (c ∷ m))) s) in
+    absurd (no_both (is_name_byte c) i (ends-no is_name_byte rest m after c e w))
 
 pub number-longest : (b : ℕ) (bs rest : List ℕ) → is_digit b ≡ true → ends is_digit rest ≡ true → Longest (b ∷ bs) rest
 number-longest b bs rest l e k [] after w h = refl
 number-longest b bs rest l e k (c ∷ m) after w h =
     let s : is_digits (b ∷ (bs ++ (c ∷ m))) ≡ true = by-digit k b (bs ++ (c ∷ m)) l h in
-    let i : is_digit c ≡ true = each-next is_digit bs m c (and-right (is_digit b) (list_all is_digit (bs ++ (c ∷ m))) s) in
-    absurd (no-both (is_digit c) i (ends-no is_digit rest m after c e w))
+    let i : is_digit c ≡ true = each-next is_digit bs m c (and_right (is_digit b) (list_all is_digit (bs ++ (c ∷ m))) s) in
+    absurd (no_both (is_digit c) i (ends-no is_digit rest m after c e w))
 
 pub text-longest : (bs rest : List ℕ) → is_closed false bs ≡ true → Longest (34 ∷ bs) rest
 text-longest bs rest e k more after w h = closed-longest bs more e (by-quote k (bs ++ more) h)
@@ -204,10 +206,10 @@ digit-head b bs h = let d = digit-parts b h in head-by-bounds b bs (omega arith)
 pub token-head : (k : TokenKind) (bytes : List ℕ) → spells k bytes ≡ true → no_gap_head bytes ≡ true
 token-head kinds.Name [] h = absurd (cc)
 token-head kinds.Name (b ∷ bs) h =
-    let l = letter-parts b (and-left (is_letter b) (list_all is_name_byte bs) (and-left (is_name (b ∷ bs)) (not (one_of (b ∷ bs) reserved)) h)) in head-by-bounds b bs (omega arith)
+    let l = letter-parts b (and_left (is_letter b) (list_all is_name_byte bs) (and_left (is_name (b ∷ bs)) (not (one_of (b ∷ bs) reserved)) h)) in head-by-bounds b bs (omega arith)
 token-head kinds.Word b h = one_of-passes no_gap_head b reserved refl h
 token-head kinds.Number [] h = absurd (cc)
-token-head kinds.Number (b ∷ bs) h = digit-head b bs (and-left (is_digit b) (list_all is_digit bs) h)
+token-head kinds.Number (b ∷ bs) h = digit-head b bs (and_left (is_digit b) (list_all is_digit bs) h)
 token-head kinds.Text [] h = absurd (cc)
-token-head kinds.Text (b ∷ bs) h = let q : b ≡ 34 = quote-part b (and-left (b == 34) (is_closed false bs) h) in rw q refl
+token-head kinds.Text (b ∷ bs) h = let q : b ≡ 34 = quote-part b (and_left (b == 34) (is_closed false bs) h) in rw q refl
 token-head kinds.Sign b h = one_of-passes no_gap_head b signs refl h

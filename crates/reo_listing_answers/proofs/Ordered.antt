@@ -1,6 +1,7 @@
 -- Lists that are strictly in some order.
 use Rattle.std.proofs.Common.{◌≡◌, inl, inr, ◌⊎◌, ℕ, zero, suc, ◌<◌, ◌≤◌, List, [], ◌∷◌, length, get_or, refl, sym, ap, ◌∙◌, subst, arith}
 use Rattle.std.specs.Prelude.{Contains}
+use Rattle.reo_values.proofs.Sequences.{any_default}
 
 pub here : {X : Type 0} (x : X) (xs : List X) → Contains (x ∷ xs) x
 here x xs = (0, omega arith, refl)
@@ -14,11 +15,6 @@ split x z xs (suc k, lt, is) = inr (k, omega (arith, lt), is)
 
 pub none_in : {X : Type 0} (z : X) → Contains [] z → ⊥
 none_in z (k, lt, is) = omega (arith, lt)
-
-pub any_default : {X : Type 0} (xs : List X) (k : ℕ) (d e : X) → k < length xs → get_or xs k d ≡ get_or xs k e
-any_default [] k d e lt = absurd (omega (arith, lt))
-any_default (x ∷ xs) zero d e lt = refl
-any_default (x ∷ xs) (suc k) d e lt = any_default xs k d e (omega (arith, lt))
 
 module _ {X : Type 0} (R : X → X → Type 0) (d : X) where
   abbrev pub AreInOrder : List X → Type 0

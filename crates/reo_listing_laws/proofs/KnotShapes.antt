@@ -1,21 +1,17 @@
 -- The knots of circuits of one shape.
 use Rattle.std.proofs.Common.{◌≡◌, ℕ, ◌<◌, ◌≤◌, List, Bool, length, get_or, ap, sym, ◌∙◌, subst, arith}
 use Rattle.std.specs.Prelude.{filter}
-use Rattle.std.specs.List.{flat_map, range_with_len}
-use Rattle.std.proofs.lemmas.List.{take_all}
+use Rattle.std.specs.List.{range_with_len}
 use Rattle.reo_net_base.specs.declared.joint.Joint.{Joint}
 use Rattle.reo_net_base.specs.Behaviour.{Behaviour}
-use Rattle.reo_net_base.specs.Net.{Net, all_sides, sides_of, first_side, side_at}
+use Rattle.reo_net_base.specs.Net.{Net, all_sides, first_side, side_at}
 use Rattle.reo_net_base.specs.Shapes.{SameShapes}
 use Rattle.reo_net_base.specs.Sides.{side_count}
 use Rattle.reo_net_base.specs.Wired.{IsWired}
-use Rattle.reo_net_circuit.proofs.ReshapeLemmas.{first_same, side_same}
+use Rattle.reo_net_circuit.proofs.ReshapeLemmas.{first_same, side_same, all_is}
 use Rattle.reo_net_laws.specs.Parts.{IsClosedBelow, IsLinked, SameKnot, IsKnot}
 use Rattle.reo_listing_laws.specs.Shapes.{KnotsStayWithShape}
 use Rattle.reo_knots.specs.Knots.{Knotted, AreNumbers, AreKnots, IsLoopOf, in_knot, knot_count}
-
-all_is : (bs : List Behaviour) → length (all_sides bs) ≡ first_side bs (length bs)
-all_is bs = ap (λ (xs : List Behaviour). length (flat_map sides_of xs)) (sym (take_all (length bs) bs (omega arith)))
 
 -- Circuits of one shape have as many sides.
 pub count_same : (bs ds : List Behaviour) → SameShapes bs ds → length (all_sides ds) ≡ length (all_sides bs)

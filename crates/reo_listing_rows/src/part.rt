@@ -43,7 +43,8 @@ fn begin<L: Ledger>(
         (in_knot knots.now.numbers part) → ⊥ }
     ensures { let net = net_of open_behaviour circuit.now in
         let inside = in_knot knots.now.numbers part in
-        MatchResult result (IsMeetingWithin budget net inside) (IsBeginFault budget net inside part) }
+        MatchResult result (IsMeetingWithin budget net inside)
+        (IsBeginFault budget net inside part) }
 {
     circuit.known();
     knot_jams_exactly();

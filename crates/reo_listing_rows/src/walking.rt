@@ -117,7 +117,8 @@ fn say<L: Ledger>(
     ensures rows { let port = slice_index ports.now (length front.old) in
         let inside = in_knot knots.now.numbers part in
         (takes : Bool) → IsGate circuit.old port takes All
-        → let net = net_of open_behaviour (put_at circuit.old port (gate_of takes (allowed_for mark)))
+        → let net = net_of open_behaviour
+        (put_at circuit.old port (gate_of takes (allowed_for mark)))
         in MatchResult result (λ _. Extends net inside ports.now rows.old rows.new)
         (IsExtendFault net inside ports.now rows.old part) }
 {

@@ -4,10 +4,11 @@ use Rattle.std.proofs.lemmas.List.Folds.{list_all-append}
 use Rattle.std.specs.Str.{bytes_eq}
 use Rattle.std.proofs.Math.Dec.{ltb}
 use Rattle.std.proofs.lemmas.Bool.{le-ltb, lt-ltb}
+use Rattle.reo_values.proofs.Truths.{no_both}
 use Rattle.reo_grammar.specs.Tokens.{Lexeme, Class, matches}
 use Rattle.reo_grammar.specs.Tokens.Class.{fixed, among, named}
-use Rattle.reo_grammar.specs.Sight.{firsts, all_apart, inside}
-use Rattle.reo_grammar.proofs.Classes.{inside-yes, apart-no, false-not, no-both}
+use Rattle.reo_grammar.specs.Sight.{inside}
+use Rattle.reo_grammar.proofs.Classes.{inside-yes, apart-no, false-not}
 use Rattle.reo_trees.specs.declared.indexes.Index.{Index}
 use Rattle.reo_trees.specs.declared.items_two.ItemTwo.{ItemTwo}
 use Rattle.reo_trees.specs.declared.items_two.FormTwo.{FormTwo}
@@ -40,7 +41,7 @@ braces = among (codes "{" ∷ codes "}" ∷ [])
 
 -- A token that lets no item begin is no brace.
 no-brace : (b : List ℕ) (t : Lexeme) → inside (fixed b) item_starts ≡ true → matches item_starts t ≡ false → matches (fixed b) t ≡ false
-no-brace b t i h = false-not (matches (fixed b) t) (λ e. no-both (matches item_starts t) (inside-yes (fixed b) item_starts t i e) h)
+no-brace b t i h = false-not (matches (fixed b) t) (λ e. no_both (matches item_starts t) (inside-yes (fixed b) item_starts t i e) h)
 
 pub calm-up : (b : List ℕ) (ts : List Lexeme) (a : ℕ) → inside (fixed b) item_starts ≡ true → Calm ts → up (fixed b) a ts ≡ a
 calm-up b [] a i h = refl
@@ -96,9 +97,6 @@ quiet-item n a b [] t h f = other-first n a b t [] (f t [] refl)
 quiet-item n a b (s ∷ c) t (e, h) f =
     other-first n a b s (c ++ t ∷ []) (f s (c ++ t ∷ []) refl)
     ∙ ap (λ z. no_loop n (add opening s a) (add closing s b) z (c ++ t ∷ [])) e ∙ calm-end n (add opening s a) (add closing s b) c t h
-
-semicolon : Class
-semicolon = fixed (codes ";")
 
 pub end-shallow : (t : Lexeme) → matches (fixed (codes ";")) t ≡ true → Shallow (t ∷ [])
 end-shallow t m = shallow-token t (one-no-other (codes ";") (codes "{") t refl refl m) (one-no-other (codes ";") (codes "}") t refl refl m)

@@ -1,11 +1,12 @@
 -- Where a loop begins, token by token.
-use Rattle.std.proofs.Common.{◌≡◌, ◌∙◌, ℕ, ◌+◌, ◌<◌, Bool, true, false, ◌&&◌, List, [], ◌∷◌, ◌++◌, refl, ap, codes}
+use Rattle.std.proofs.Common.{◌≡◌, ◌∙◌, ℕ, ◌+◌, ◌<◌, true, ◌&&◌, List, [], ◌∷◌, ◌++◌, refl, ap, codes}
 use Rattle.reo_grammar.specs.Tokens.{Lexeme, matches}
 use Rattle.reo_grammar.specs.Tokens.Class.{fixed}
 use Rattle.reo_grammar.specs.Levels.{count_of}
 use Rattle.reo_trees.specs.SaysTwo.{item_starts, IsLooped}
 use Rattle.reo_loops.specs.Places.{is_for, lets_item, begins_loop}
 use Rattle.std.proofs.lemmas.Bool.{and_from as and-true}
+use Rattle.reo_values.proofs.Truths.{and_both}
 
 -- With one more token.
 pub lets_next : (ts : List Lexeme) (t : Lexeme) → lets_item (ts ++ t ∷ []) ≡ matches item_starts t
@@ -23,16 +24,11 @@ begins_next (s ∷ u ∷ v ∷ ts) t = begins_next (u ∷ v ∷ ts) t
 abbrev Begins : List Lexeme → Type 0
 Begins ts = (a : List Lexeme) × (b : Lexeme) × (t : Lexeme) × (ts ≡ a ++ (b ∷ t ∷ [])) × (matches item_starts b ≡ true) × (is_for t ≡ true)
 
-both-true : (x y : Bool) → (x && y) ≡ true → (x ≡ true) × (y ≡ true)
-both-true true true h = (refl, refl)
-both-true true false h = absurd (cc)
-both-true false y h = absurd (cc)
-
 begins-so : (ts : List Lexeme) → begins_loop ts ≡ true → Begins ts
 begins-so [] h = absurd (cc)
 begins-so (t ∷ []) h = absurd (cc)
 begins-so (t ∷ u ∷ []) h =
-    let (m, n) = both-true (matches item_starts t) (is_for u) h in
+    let (m, n) = and_both (matches item_starts t) (is_for u) h in
     ([], t, u, refl, m, n)
 begins-so (t ∷ u ∷ v ∷ ts) h =
     let (a, b, s, e, m, n) = begins-so (u ∷ v ∷ ts) h in

@@ -1,13 +1,14 @@
 -- The tokens of items, connectors and programs, and their loops.
 use Rattle.std.proofs.Common.{◌≡◌, ◌∙◌, ℕ, zero, suc, Bool, true, false, ◌&&◌, List, [], ◌∷◌, ◌++◌, inl, inr, refl, sym, ap, subst, append_assoc, codes}
 use Rattle.std.specs.Str.{bytes_eq}
+use Rattle.reo_values.proofs.Truths.{and_left, and_right}
 use Rattle.reo_grammar.specs.Tokens.{Lexeme, Class, matches}
 use Rattle.reo_grammar.specs.Tokens.Class.{fixed, named}
 use Rattle.reo_grammar.specs.Grammar.{Derives, Links, Within}
 use Rattle.reo_grammar.specs.Grammar.Grammar.{nothing, token, both, made, either, chain, lined, rule}
 use Rattle.reo_grammar.specs.Sight.{firsts, all_apart}
 use Rattle.reo_grammar.proofs.Classes.{inside-yes, all_apart-no, false-not}
-use Rattle.reo_grammar.proofs.Sound.{and-left, and-right, never, or-left}
+use Rattle.reo_grammar.proofs.Sound.{never, or-left}
 use Rattle.reo_grammar.proofs.Complete.{begin}
 use Rattle.reo_grammar.proofs.Exact.{begins}
 use Rattle.reo_trees.specs.declared.items.Channel.{Channel}
@@ -72,12 +73,12 @@ module _ (k : ℕ) (claims : (r : Rule) (ts : List Lexeme) (x : tree_of r) → W
 
   ended : {A : Type 0} (g : FormOf A) → ends_calm g ≡ true → (ts : List Lexeme) (x : A) → Derives R g ts x → Ended ts
   ended (both f g h) e ts x (a, b, y, z, w, d1, d2, v) =
-      let (c, t, i, m, n) = ended h (and-right (avoids item_starts calm_rule g) _ e) b z d2 in
-      (a ++ c, t, w ∙ ap (λ l. a ++ l) i ∙ sym (append_assoc a c (t ∷ [])), calm-two a c (calm g (and-left _ _ e) a y d1) m, n)
+      let (c, t, i, m, n) = ended h (and_right (avoids item_starts calm_rule g) _ e) b z d2 in
+      (a ++ c, t, w ∙ ap (λ l. a ++ l) i ∙ sym (append_assoc a c (t ∷ [])), calm-two a c (calm g (and_left _ _ e) a y d1) m, n)
   ended (made f g) e ts x (y, d, v) = ended g e ts y d
   ended (lined f g) e ts x (y, d, v) = ended g e ts y d
   ended (token (fixed b)) e ts x d =
-      let s : b ≡ codes ";" = Rattle.reo_grammar.proofs.Classes.same_bytes b (codes ";") e in
+      let s : b ≡ codes ";" = Rattle.reo_values.proofs.Sequences.same_bytes b (codes ";") e in
       ([], x, d.0, tt, subst (λ z. matches (fixed z) x ≡ true) s d.1)
   ended (token (Rattle.reo_grammar.specs.Tokens.Class.among bs)) e ts x d = absurd (cc)
   ended (token (Rattle.reo_grammar.specs.Tokens.Class.other b)) e ts x d = absurd (cc)

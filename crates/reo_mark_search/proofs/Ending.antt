@@ -9,6 +9,7 @@ use Rattle.std.specs.declared.cmp.Ordering.TheVariants.{Less}
 use Rattle.std.specs.Ordering.{nat_cmp}
 use Rattle.std.specs.Cmp.Lexicographic.{slice_cmp}
 use Rattle.reo_values.specs.declared.value.Value.{Value}
+use Rattle.reo_values.proofs.Naturals.{other_eq}
 use Rattle.reo_net_base.specs.declared.joint.End.{End}
 use Rattle.reo_net_base.specs.declared.joint.Joint.{Joint}
 use Rattle.reo_net_base.specs.declared.mark.Mark.{Mark}
@@ -34,6 +35,7 @@ use Rattle.reo_net_laws.proofs.Sublists.{part_keys}
 use Rattle.reo_state_laws.specs.States.{IsOpen, AreFirstRows}
 use Rattle.reo_state_laws.specs.Walks.{number_of, IsWalk}
 use Rattle.reo_state_laws.proofs.Open.{open_items}
+use Rattle.reo_state_laws.proofs.Walking.{not_less}
 use Rattle.reo_mark_sets.specs.declared.marks.Marks.{Marks}
 use Rattle.reo_mark_sets.specs.Marks.{has, meets, met, marks_at, open_at}
 use Rattle.reo_mark_search.specs.Fitting.{Fits, IsRival, ArePinned, AreMet}
@@ -41,8 +43,7 @@ use Rattle.reo_mark_search.specs.Found.{HasFirstRows}
 use Rattle.reo_mark_search.specs.Places.{class_place, lead_places, class_places, row_places}
 use Rattle.reo_mark_search.specs.Spots.{spot_of, AreSpots}
 use Rattle.reo_mark_search.proofs.Placed.{partner_even}
-use Rattle.reo_mark_search.proofs.Steps.{none_before, not_before_less, same_not_less}
-use Rattle.reo_mark_sets.proofs.Starring.{other_eq}
+use Rattle.reo_mark_search.proofs.Steps.{not_before_less, same_not_less}
 
 -- The numbers at the places of sides are what their rows are compared by.
 module _ (net : Net) (turn : ℕ) (rows : List ℕ) where
@@ -275,7 +276,7 @@ module _ (net : Net) (wired : IsWired net) (inside : ℕ → Bool) (knot : IsKno
                       let h = head (sides_in net inside) inside_all (listed (knot.some.0) seed_in) in
                       not_before_less (class_place net turn h.0) h.3 rows others (jam_class others other_items is jam turn rows rival h.0 h.2 h.1)
                       (ap (λ (qs : List Position). order_by qs others rows) (sym h.4) ∙ less_by)
-                  | inr calm ↦ none_before (IsRival net inside) ps rows others walk (rival_of others other_items is calm) less_by
+                  | inr calm ↦ not_less (IsRival net inside) ps rows others walk (rival_of others other_items is calm) less_by
                 ];
           };
         }

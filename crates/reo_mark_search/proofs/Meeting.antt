@@ -1,8 +1,8 @@
 -- Marks that meet, and sides that are noted and pinned, one side more.
-use Rattle.std.proofs.Common.{◌≡◌, ◌≢◌, ◌⊎◌, inl, inr, ℕ, ◌+◌, ◌-◌, ◌<◌, ◌||◌, Bool, true, false, List, length, slice_index, slice_index_or, set, refl, sym, ap, ◌∙◌, subst, arith, get_or-set_same, get_or-set_other}
+use Rattle.std.proofs.Common.{◌≡◌, ◌≢◌, ◌⊎◌, inl, inr, ℕ, ◌+◌, ◌-◌, ◌<◌, Bool, true, false, List, length, slice_index, slice_index_or, set, refl, sym, ap, ◌∙◌, subst, arith, get_or-set_same, get_or-set_other}
 use Rattle.std.specs.Prelude.{Contains}
 use Rattle.std.specs.Bool.{◌==◌}
-use Rattle.std.proofs.lemmas.Bool.{cases_eq, cases_Bool}
+use Rattle.std.proofs.lemmas.Bool.{cases_eq}
 use Rattle.std.proofs.lemmas.Bool.Decides.{nat_tests}
 use Rattle.std.proofs.lemmas.List.{get_or_default, get_or-map}
 use Rattle.reo_net_base.specs.declared.form.Form.{Form}
@@ -27,15 +27,6 @@ use Rattle.reo_mark_search.specs.Fitting.{Fits, IsRival, AreNoted, LetsIn, form_
 use Rattle.reo_mark_search.specs.Spots.{spot_of, AreSpots, end_by, IsSeat}
 use Rattle.reo_mark_search.proofs.Parts.{side_one}
 use Rattle.reo_mark_search.proofs.Placed.{offset_of, mark_offset}
-
-pub some_mark : (marks : Marks) → (marks.flow || (marks.given || marks.required)) ≡ true → (m : Mark) × (has marks m ≡ true)
-some_mark marks h = elim (cases_Bool marks.flow) [
-  | inl x ↦ (F, x)
-  | inr not ↦ elim (cases_Bool marks.given) [
-    | inl x ↦ (G, x)
-    | inr nor ↦ (R, (λ i. sym not i || (sym nor i || marks.required)) ∙ h)
-  ]
-]
 
 -- One place more.
 pub met_next : (sets : List Marks) (places : List ℕ) (n : ℕ) → ((o : ℕ) → o < n → (mark : Mark) × (has (open_at sets (slice_index places o)) mark ≡ true)) → (mark : Mark) × (has (open_at sets (slice_index places n)) mark ≡ true)

@@ -2,9 +2,9 @@
 use Rattle.std.proofs.Common.{◌≡◌, inl, inr, ℕ, zero, suc, ◌+◌, ◌<◌, ◌≤◌, Bool, true, false, cond, List, [], ◌∷◌, length, slice_index, slice_index_or, refl, sym, ap, ◌∙◌, subst, arith, add-one}
 use Rattle.std.specs.Prelude.{Contains, filter, nat_lt}
 use Rattle.std.specs.Bool.{◌==◌}
-use Rattle.std.proofs.lemmas.Bool.Decides.{nat_tests}
 use Rattle.std.specs.List.{range_with_len}
 use Rattle.std.proofs.lemmas.Bool.{cases_eq, and_parts}
+use Rattle.reo_values.proofs.Naturals.{true_lt}
 use Rattle.reo_net_base.specs.Behaviour.{Behaviour}
 use Rattle.reo_net_base.specs.Net.{Net, behaviour_at, first_side}
 use Rattle.reo_net_base.specs.Sides.{side_count}
@@ -81,11 +81,8 @@ side_one bs i s j t i_in s_in j_in t_in same = elim (cases_eq i j) [
   ]
 ]
 
-lt_true : (a b : ℕ) → nat_lt a b ≡ true → a < b
-lt_true a b h = grind (arith, nat_tests)
-
 pub knot_below : (net : Net) (knots : Knotted) → AreKnots net knots → (part k : ℕ) → in_knot knots.numbers part k ≡ true → k < side_count net
 knot_below net knots are part k h =
-    let lt = lt_true k (length knots.numbers) (and_parts (nat_lt k (length knots.numbers)) (slice_index knots.numbers k == part) h).0 in
+    let lt = true_lt k (length knots.numbers) (and_parts (nat_lt k (length knots.numbers)) (slice_index knots.numbers k == part) h).0 in
     let count = are.numbered.one_each in
     omega (arith, lt, count)

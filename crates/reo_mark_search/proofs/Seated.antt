@@ -4,6 +4,7 @@ use Rattle.std.specs.Bool.{◌==◌}
 use Rattle.std.proofs.lemmas.Bool.{and_from}
 use Rattle.std.proofs.lemmas.Bool.Decides.{nat_tests}
 use Rattle.std.proofs.lemmas.List.{get_or_default}
+use Rattle.reo_values.proofs.Truths.{and_left}
 use Rattle.reo_net_base.specs.declared.form.Form.{Form}
 use Rattle.reo_net_base.specs.declared.joint.End.{End}
 use Rattle.reo_net_base.specs.declared.joint.Joint.{Joint}
@@ -27,7 +28,6 @@ use Rattle.reo_mark_search.specs.Places.{class_place, row_place}
 use Rattle.reo_mark_search.specs.Spots.{spot_of, AreSpots, end_by, AreEndsOf}
 use Rattle.reo_mark_search.specs.Walking.{IsTakenAt}
 use Rattle.reo_mark_search.proofs.Placed.{decide, spot_is, spot_once, end_is, end_in, end_side, mark_offset, offset_of, partner_even, partner_odd}
-use Rattle.reo_net_laws.proofs.Sets.{and_left as and_first}
 
 -- A mark meets those among which its match is.
 pub meets_there : (a b : Mark) (theirs : Marks) → marks_match a b ≡ true → has theirs b ≡ true → meets theirs a ≡ true
@@ -199,9 +199,9 @@ module _ (net : Net) (wired : IsWired net) (spots : List (List ℕ)) (are : AreS
   narrowed_stands old new is row w = record { plain = w.plain; each = λ o lt. (is.exact o (mark_by form row o) lt).1 (row, w, refl) }
 
   met_has : (own theirs : Marks) (m : Mark) → has (met own theirs) m ≡ true → has own m ≡ true
-  met_has own theirs F h = and_first own.flow theirs.flow h
-  met_has own theirs G h = and_first own.given (theirs.given || theirs.required) h
-  met_has own theirs R h = and_first own.required theirs.given h
+  met_has own theirs F h = and_left own.flow theirs.flow h
+  met_has own theirs G h = and_left own.given (theirs.given || theirs.required) h
+  met_has own theirs R h = and_left own.required theirs.given h
   met_has own theirs J h = cc
 
   narrowed_fewer : (old new : List Marks) → IsNarrowed form places old new → AreFewer old new

@@ -31,18 +31,6 @@ keys_split (q ∷ ps) p a b h =
     let rest = keys_split ps p a b tail in
     (λ i. head i ∷ rest.0 i, rest.1)
 
--- Nothing that is left stands before a walk.
-pub none_before : (Left : List ℕ → Type 0) (ps : List Position) (rows others : List ℕ) → IsWalk Left ps rows → Left others → order_by ps others rows ≡ Less → ⊥
-none_before Left [] rows others walk left less = cc
-none_before Left (p ∷ ps) rows others walk left less =
-    let a : ℕ = number_of p others in
-    let b : ℕ = number_of p rows in
-    elim (nat_cmp a b) as (λ o. nat_cmp a b ≡ o → ordering_then o (order_by ps others rows) ≡ Less → ⊥) [
-      | Less ↦ λ e g. let lt : a < b = ranked a b Less (sym e) in let le = walk.0 others left in absurd (omega (arith, lt, le))
-      | Equal ↦ λ e g. let same : a ≡ b = ranked a b Equal (sym e) in none_before (λ more. Left more × (number_of p more ≡ number_of p rows)) ps rows others walk.1 (left, same) g
-      | Greater ↦ λ e g. cc
-    ] refl less
-
 -- Rows with a smaller number at the first place stand before.
 pub not_before_less : (p : Position) (ps : List Position) (rows others : List ℕ) → number_of p rows < number_of p others → order_by (p ∷ ps) others rows ≡ Less → ⊥
 not_before_less p ps rows others lt less =

@@ -1,6 +1,7 @@
 -- The first row that stands.
 use Rattle.std.proofs.Common.{◌≡◌, inl, inr, ◌↔◌, ℕ, zero, suc, ◌+◌, ◌<◌, ◌≤◌, Bool, true, false, cond, List, [], ◌∷◌, length, slice_index, set, sym, ap, ◌∙◌, refl, subst, arith}
 use Rattle.std.proofs.lemmas.Bool.{cases_eq}
+use Rattle.reo_values.proofs.Naturals.{lt_cases}
 use Rattle.reo_net_base.specs.declared.mark.Mark.{Mark}
 use Rattle.reo_net_base.specs.declared.table.Table.{Table}
 use Rattle.reo_net_base.specs.declared.table.Table.TheVariants.{Ready, Resting, Together, Lossy, OneOfTwo, Filter, Spent}
@@ -15,7 +16,7 @@ use Rattle.reo_mark_sets.specs.Marks.{has, marks_at, just, both}
 use Rattle.reo_mark_sets.specs.Listed.{fits_one, fits_two, first_fit}
 use Rattle.reo_mark_sets.specs.Standing.{ArePlaces, Stands, AreElsewhere, IsLeastRow, IsChosen}
 use Rattle.reo_mark_sets.specs.Tallies.{IsFirstBetween}
-use Rattle.reo_mark_sets.proofs.Classed.{below_or, stands_one, stands_two, still_or, still_output, copy_or, restrict_exact, restrict_other, restrict_count, just_has, has_just}
+use Rattle.reo_mark_sets.proofs.Classed.{stands_one, stands_two, still_or, still_output, copy_or, restrict_exact, restrict_other, restrict_count, just_has, has_just}
 use Rattle.reo_mark_sets.proofs.Putting.{contains_at}
 use Rattle.reo_mark_sets.proofs.Rows.{row_in}
 
@@ -104,7 +105,7 @@ module _ (branches : Branches) (places : List ℕ) (width : length places ≡ br
     plain = omega (arith, found.in_range);
     least = λ r s. elim (still_or branches places width some sets r s) [
       | inl still ↦ omega (arith, found.in_range, still.0)
-      | inr f ↦ elim (below_or r i) [ inl early ↦ let fails = found.first r (omega arith) early in let holds = f.1 in absurd (cc) | inr le ↦ le ]
+      | inr f ↦ elim (lt_cases r i) [ inl early ↦ let fails = found.first r (omega arith) early in let holds = f.1 in absurd (cc) | inr le ↦ le ]
     ];
   }
 
@@ -117,7 +118,7 @@ output_first branches places width sets no_flow no_reason o found = record {
     | inl f ↦ let holds = f.1 in absurd (cc)
     | inr g ↦ elim g [
       | inl f ↦ let holds = f.1 in absurd (cc)
-      | inr f ↦ elim (below_or f.0 o) [ inl early ↦ let fails = found.first f.0 f.1 early in let holds = f.4 in absurd (cc) | inr le ↦ omega (arith, le, f.3) ]
+      | inr f ↦ elim (lt_cases f.0 o) [ inl early ↦ let fails = found.first f.0 f.1 early in let holds = f.4 in absurd (cc) | inr le ↦ omega (arith, le, f.3) ]
     ]
   ];
 }

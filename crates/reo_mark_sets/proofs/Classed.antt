@@ -8,6 +8,8 @@ use Rattle.std.proofs.lemmas.Bool.{cases_eq, and_parts, and_from}
 use Rattle.std.proofs.lemmas.Bool.Decides.{nat_tests}
 use Rattle.std.proofs.lemmas.List.{length-set, length-map}
 use Rattle.std.specs.List.{position_or_len}
+use Rattle.reo_values.proofs.Naturals.{eq_same, lt_cases, lt_true, lt_false, same_eq, other_eq}
+use Rattle.reo_values.proofs.Truths.{if_then}
 use Rattle.reo_net_base.specs.declared.mark.Mark.{Mark}
 use Rattle.reo_net_base.specs.declared.mark.Mark.TheVariants.{F, G, R, J}
 use Rattle.reo_net_base.specs.declared.table.Table.{Table}
@@ -26,10 +28,10 @@ use Rattle.reo_mark_sets.specs.Standing.{ArePlaces, Stands, AreElsewhere, AreFew
 use Rattle.reo_mark_sets.specs.Stars.{Kind, IsKind, kind_mark}
 use Rattle.reo_mark_sets.specs.Stars.Kind.{apart, rest, other}
 use Rattle.reo_mark_sets.specs.Tallies.{IsFirstBetween, IsFirstInTurn}
-use Rattle.reo_mark_sets.proofs.Formed.{lt_true, lt_false, HasKinds, merger_row, merger_kinds, replicator_row, replicator_kinds}
+use Rattle.reo_mark_sets.proofs.Formed.{HasKinds, merger_row, merger_kinds, replicator_row, replicator_kinds}
 use Rattle.reo_mark_sets.proofs.Putting.{marks_here, marks_other, contains_at}
 use Rattle.reo_mark_sets.proofs.Rows.{row_in}
-use Rattle.reo_mark_sets.proofs.Starring.{same_eq, other_eq, eq_same, center_of, center_is, spoke_is}
+use Rattle.reo_mark_sets.proofs.Starring.{center_of, center_is, spoke_is}
 
 -- Marks of both.
 both_has : (a b : Marks) (m : Mark) → has (both a b) m ≡ true → (has a m ≡ true) × (has b m ≡ true)
@@ -44,10 +46,6 @@ has_both a b G x y = and_from a.given b.given x y
 has_both a b R x y = and_from a.required b.required x y
 has_both a b J x y = cc
 
-within_one : (a b : Bool) → (not a || b) ≡ true → a ≡ true → b ≡ true
-within_one true b h e = h
-within_one false b h e = cc
-
 pub within_has : (a b : Marks) → are_within a b ≡ true → (m : Mark) → has a m ≡ true → has b m ≡ true
 within_has a b h m =
     let one = and_parts (not a.flow || b.flow) ((not a.given || b.given) && (not a.required || b.required)) h in
@@ -55,9 +53,9 @@ within_has a b h m =
     by_mark m one.0 two.0 two.1
   where
     by_mark : (m : Mark) → (not a.flow || b.flow) ≡ true → (not a.given || b.given) ≡ true → (not a.required || b.required) ≡ true → has a m ≡ true → has b m ≡ true
-    by_mark F f g r e = within_one a.flow b.flow f e
-    by_mark G f g r e = within_one a.given b.given g e
-    by_mark R f g r e = within_one a.required b.required r e
+    by_mark F f g r e = if_then a.flow b.flow f e
+    by_mark G f g r e = if_then a.given b.given g e
+    by_mark R f g r e = if_then a.required b.required r e
     by_mark J f g r e = cc
 
 -- One mark alone.
@@ -161,13 +159,13 @@ module _ (least number : ℕ) (old new : Bool) (h : is_taken least number old ne
   more = and_parts (not old || nat_le least number) (not new || (number == least)) parts.0
 
   pub taken_least : old ≡ true → least ≤ number
-  taken_least e = let le : nat_le least number ≡ true = within_one old (nat_le least number) more.0 e in grind (arith, nat_tests)
+  taken_least e = let le : nat_le least number ≡ true = if_then old (nat_le least number) more.0 e in grind (arith, nat_tests)
 
   pub taken_only : new ≡ true → number ≡ least
-  taken_only e = eq_same number least (within_one new (number == least) more.1 e)
+  taken_only e = eq_same number least (if_then new (number == least) more.1 e)
 
   pub taken_stay : old ≡ true → number ≡ least → new ≡ true
-  taken_stay e same = within_one (old && (number == least)) new parts.1 (and_from old (number == least) e (same_eq number least same))
+  taken_stay e same = if_then (old && (number == least)) new parts.1 (and_from old (number == least) e (same_eq number least same))
 
 classes_count : (rows : Rows) → length rows ≤ length (classes_of rows)
 classes_count rows =
@@ -290,9 +288,6 @@ module _ (table : Table) (places : List ℕ) (width : length places ≡ 2) where
           only = λ r s. let t = stands_two new r s in taken_only n (class_in (rows_of table) r) (fits_two a b (row_in (rows_of table) r)) (fits_two p q (row_in (rows_of table) r)) (at r t.0) (sym (fit_new r) ∙ t.1);
         }
 
-pub below_or : (x y : ℕ) → (x < y) ⊎ (y ≤ x)
-below_or x y = elim (nat_lt x y) as (λ t. nat_lt x y ≡ t → (x < y) ⊎ (y ≤ x)) [ true ↦ λ e. inl (grind (arith, nat_tests)) | false ↦ λ e. inr (grind (arith, nat_tests)) ] refl
-
 -- The classes of a merger: its inputs in turn.
 module _ (n turn : ℕ) (some : 0 < n) where
   abbrev begins : ℕ
@@ -319,12 +314,12 @@ module _ (n turn : ℕ) (some : 0 < n) where
   class_still x le lt = λ i. cond (lt_false x n le i) ((x + n - begins) % n) (cond (lt_true x (n + 2) lt i) n (n + 1))
 
   pub class_one : (x y : ℕ) → x < n → y < n → merger_class n x turn ≡ merger_class n y turn → x ≡ y
-  class_one x y x_in y_in same = elim (below_or x begins) [
-    | inl x_less ↦ elim (below_or y begins) [
+  class_one x y x_in y_in same = elim (lt_cases x begins) [
+    | inl x_less ↦ elim (lt_cases y begins) [
       | inl y_less ↦ omega (arith, class_before x x_in x_less, class_before y y_in y_less, same, begins_in)
       | inr y_le ↦ absurd (omega (arith, class_before x x_in x_less, class_after y y_in y_le, same, begins_in))
     ]
-    | inr x_le ↦ elim (below_or y begins) [
+    | inr x_le ↦ elim (lt_cases y begins) [
       | inl y_less ↦ absurd (omega (arith, class_after x x_in x_le, class_before y y_in y_less, same, begins_in))
       | inr y_le ↦ omega (arith, class_after x x_in x_le, class_after y y_in y_le, same)
     ]
@@ -335,9 +330,9 @@ module _ (n turn : ℕ) (some : 0 < n) where
     turn_after i found = record {
       in_range = found.in_range;
       here = found.here;
-      first = λ e e_in holds. elim (below_or e begins) [
+      first = λ e e_in holds. elim (lt_cases e begins) [
         | inl less ↦ omega (arith, class_after i found.in_range found.after, class_before e e_in less, found.in_range)
-        | inr le ↦ elim (below_or e i) [
+        | inr le ↦ elim (lt_cases e i) [
           | inl early ↦ let fails : test e ≡ false = found.first e le early in absurd (cc)
           | inr late ↦ omega (arith, class_after i found.in_range found.after, class_after e e_in le, late)
         ]
@@ -350,8 +345,8 @@ module _ (n turn : ℕ) (some : 0 < n) where
         record {
           in_range = i_in;
           here = found.here;
-          first = λ e e_in holds. elim (below_or e begins) [
-            | inl less ↦ elim (below_or e i) [
+          first = λ e e_in holds. elim (lt_cases e begins) [
+            | inl less ↦ elim (lt_cases e i) [
               | inl early ↦ let fails : test e ≡ false = found.first e (omega arith) early in absurd (cc)
               | inr late ↦ omega (arith, class_before i i_in found.in_range, class_before e e_in less, late)
             ]
@@ -361,7 +356,7 @@ module _ (n turn : ℕ) (some : 0 < n) where
 
     pub turn_either : (r : Option ℕ) → ((o : ℕ) → begins ≤ o → o < n → test o ≡ false) → MatchOption r ((o : ℕ) → 0 ≤ o → o < begins → test o ≡ false) (IsFirstBetween test 0 begins)
         → MatchOption r ((o : ℕ) → o < n → test o ≡ false) (IsFirstInTurn test n turn)
-    turn_either None none found = λ o lt. elim (below_or o begins) [ inl less ↦ found o (omega arith) less | inr le ↦ none o le lt ]
+    turn_either None none found = λ o lt. elim (lt_cases o begins) [ inl less ↦ found o (omega arith) less | inr le ↦ none o le lt ]
     turn_either (Some i) none found = turn_before none i found
 
 -- The rows of a merger that stand, by their kinds.
@@ -606,7 +601,3 @@ module _ (branches : Branches) (places : List ℕ) (width : length places ≡ br
           | inr f ↦ copy_class row turn (omega (arith, f.3)) s.plain
         ]
       ]
-
-pub not_is : (b : Bool) → not b ≡ true → b ≡ false
-not_is true h = cc
-not_is false h = refl

@@ -1,9 +1,8 @@
 -- The rows of mergers and replicators, by their kinds.
-use Rattle.std.proofs.Common.{◌≡◌, inl, inr, ◌↔◌, ℕ, zero, suc, ◌+◌, ◌<◌, ◌≤◌, Bool, true, false, cond, List, length, slice_index, refl, sym, ap, ◌∙◌, subst, arith}
-use Rattle.std.specs.Prelude.{nat_lt}
+use Rattle.std.proofs.Common.{◌≡◌, inl, inr, ◌↔◌, ℕ, zero, suc, ◌+◌, ◌<◌, Bool, true, false, cond, List, length, slice_index, refl, sym, ap, ◌∙◌, subst, arith}
 use Rattle.std.specs.Bool.{◌==◌}
 use Rattle.std.proofs.lemmas.Bool.{cases_eq}
-use Rattle.std.proofs.lemmas.Bool.Decides.{nat_tests}
+use Rattle.reo_values.proofs.Naturals.{lt_true, lt_false, same_eq, other_eq}
 use Rattle.reo_net_base.specs.declared.mark.Mark.{Mark}
 use Rattle.reo_net_base.specs.declared.mark.Mark.TheVariants.{F, G, R, J}
 use Rattle.reo_net_base.specs.declared.branches.Branches.{Branches}
@@ -18,13 +17,6 @@ use Rattle.reo_mark_sets.specs.Marks.{has, open_at}
 use Rattle.reo_mark_sets.specs.Standing.{Works, IsNarrowed, SomeWorks}
 use Rattle.reo_mark_sets.specs.Stars.{Kind, kind_mark, IsKind, IsStar, KindWorks, IsStarNarrowed}
 use Rattle.reo_mark_sets.specs.Stars.Kind.{apart, rest, other}
-use Rattle.reo_mark_sets.proofs.Starring.{same_eq, other_eq}
-
-pub lt_true : (a b : ℕ) → a < b → nat_lt a b ≡ true
-lt_true a b h = grind (arith, nat_tests)
-
-pub lt_false : (a b : ℕ) → b ≤ a → nat_lt a b ≡ false
-lt_false a b h = grind (arith, nat_tests)
 
 -- A form whose rows are the kinds of a star, each once.
 pub record HasKinds (form : Form) (star : Star) (center from to width : ℕ) (row_of : Kind → ℕ) : Type 0 where

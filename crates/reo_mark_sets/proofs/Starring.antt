@@ -2,7 +2,6 @@
 use Rattle.std.proofs.Common.{◌≡◌, ◌≢◌, ◌⊎◌, inl, inr, ◌↔◌, ℕ, ◌<◌, ◌≤◌, ◌||◌, not, Bool, true, false, IsTrue, cond, List, length, slice_index, refl, sym, ap, ◌∙◌, subst, arith}
 use Rattle.std.specs.Bool.{◌==◌}
 use Rattle.std.proofs.lemmas.Bool.{cases_eq, cases_Bool, and_parts, and_from}
-use Rattle.std.proofs.lemmas.Bool.Decides.{nat_tests}
 use Rattle.reo_net_base.specs.declared.mark.Mark.{Mark}
 use Rattle.reo_net_base.specs.declared.mark.Mark.TheVariants.{F, G, R, J}
 use Rattle.reo_net_base.specs.Rows.{alike}
@@ -18,18 +17,8 @@ use Rattle.reo_mark_sets.specs.Stars.Kind.{apart, rest, other}
 use Rattle.reo_mark_sets.specs.Stars.{Kind}
 use Rattle.reo_mark_sets.specs.Tallies.{IsTally, HoldsOften}
 pub use Rattle.std.proofs.lemmas.Bool.{or_left, or_right}
-
-pub same_eq : (a b : ℕ) → a ≡ b → (a == b) ≡ true
-same_eq a b h = grind (arith, nat_tests)
-
-pub other_eq : (a b : ℕ) → a ≢ b → (a == b) ≡ false
-other_eq a b h = grind (arith, nat_tests)
-
-pub eq_same : (a b : ℕ) → (a == b) ≡ true → a ≡ b
-eq_same a b h = grind (arith, nat_tests)
-
-pub eq_other : (a b : ℕ) → (a == b) ≡ false → a ≢ b
-eq_other a b h e = let yet : (a == b) ≡ true = same_eq a b e in cc
+use Rattle.reo_values.proofs.Naturals.{eq_same, same_eq, other_eq}
+use Rattle.reo_values.proofs.Truths.{either}
 
 not_false : (b : Bool) → alike false b ≡ false → b ≡ true
 not_false true h = refl
@@ -60,10 +49,6 @@ spoke_is star center (apart x) o e = ap (λ (t : Bool). cond t (center_apart sta
 spoke_is star center rest o e = ap (λ (t : Bool). cond t R G) (other_eq o center e)
 spoke_is star center other o e = ap (λ (t : Bool). cond t (center_other star) (other_mark star)) (other_eq o center e)
 
-pub or_cases : (a b : Bool) → (a || b) ≡ true → (a ≡ true) ⊎ (b ≡ true)
-or_cases true b h = inl refl
-or_cases false b h = inr h
-
 -- What is left at the center, mark by mark.
 center_left_has : (star : Star) (a : Tally) (r o : Bool) (mark : Mark) → has (center_left star a r o) mark ≡ true
     → ((may_some a ≡ true) × (center_apart star ≡ mark)) ⊎ (((r ≡ true) × (R ≡ mark)) ⊎ ((o ≡ true) × (center_other star ≡ mark)))
@@ -92,11 +77,11 @@ center_left_other Replicator a r o h = h
 spoke_left_has : (star : Star) (a : Tally) (r o : Bool) (marks : Marks) (e : ℕ) (mark : Mark) → has (spoke_left star a r o marks e) mark ≡ true
     → ((may_be a e ≡ true) × (has marks (apart_mark star) ≡ true) × (apart_mark star ≡ mark)) ⊎ (((r ≡ true) × (G ≡ mark)) ⊎ (((may_another a e ≡ true) × (G ≡ mark)) ⊎ ((o ≡ true) × (other_mark star ≡ mark))))
 spoke_left_has Merger a r o marks e F h = let both = and_parts (may_be a e) marks.flow h in inl (both.0, both.1, refl)
-spoke_left_has Merger a r o marks e G h = elim (or_cases r (may_another a e) h) [ inl x ↦ inr (inl (x, refl)) | inr y ↦ inr (inr (inl (y, refl))) ]
+spoke_left_has Merger a r o marks e G h = elim (either r (may_another a e) h) [ inl x ↦ inr (inl (x, refl)) | inr y ↦ inr (inr (inl (y, refl))) ]
 spoke_left_has Merger a r o marks e R h = inr (inr (inr (h, refl)))
 spoke_left_has Merger a r o marks e J h = cc
 spoke_left_has Replicator a r o marks e F h = inr (inr (inr (h, refl)))
-spoke_left_has Replicator a r o marks e G h = elim (or_cases r (may_another a e) h) [ inl x ↦ inr (inl (x, refl)) | inr y ↦ inr (inr (inl (y, refl))) ]
+spoke_left_has Replicator a r o marks e G h = elim (either r (may_another a e) h) [ inl x ↦ inr (inl (x, refl)) | inr y ↦ inr (inr (inl (y, refl))) ]
 spoke_left_has Replicator a r o marks e R h = let both = and_parts (may_be a e) marks.required h in inl (both.0, both.1, refl)
 spoke_left_has Replicator a r o marks e J h = cc
 
@@ -309,9 +294,9 @@ module _ (star : Star) (center from to : ℕ) (places : List ℕ) (sets : List M
     -- Some row works exactly where something is left.
     pub star_some : (b : Bool) → b ≡ (rests || (others || may_some aparts)) → IsTrue b ↔ ((kind : Kind) × Works kind)
     star_some b same = (
-      λ t. elim (or_cases rests (others || may_some aparts) (sym same ∙ t)) [
+      λ t. elim (either rests (others || may_some aparts) (sym same ∙ t)) [
         | inl x ↦ (rest, rest_is.0 x)
-        | inr y ↦ elim (or_cases others (may_some aparts) y) [
+        | inr y ↦ elim (either others (may_some aparts) y) [
           | inl x ↦ (other, other_is.0 x)
           | inr x ↦ let one = some_apart aparts are x in (apart one.0, one.1)
         ]

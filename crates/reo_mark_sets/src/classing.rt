@@ -97,9 +97,9 @@ impl Sets {
         }
     }
 
-    /// Leaves at the ends of a side, whose table is of this form, the marks of the rows of the least
-    /// class, in the round of a number, among those that stand: each mark is left of a row that
-    /// stood and has the class, and only rows of the class stand then.
+    /// Leaves at the ends of a side, whose table is of this form, the marks of the rows of the
+    /// least class, in the round of a number, among those that stand: each mark is left of a row
+    /// that stood and has the class, and only rows of the class stand then.
     pub fn take_class(&mut self, form: Form, places: &[usize], turn: u64)
         requires width { length places.now ≡ width_by form }
         requires places { ArePlaces (length self.old) places.now }

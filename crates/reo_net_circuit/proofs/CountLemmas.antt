@@ -4,17 +4,13 @@ use Rattle.std.specs.List.{count_by}
 use Rattle.std.proofs.lemmas.List.{length-map, length-replicate, get_or-map}
 use Rattle.std.proofs.lemmas.Bool.{false_from_ne_true}
 use Rattle.std.proofs.lemmas.List.Sums.{sum_by-cons, count_by_more_yes, count_by_more_no, count_by-le-length}
+use Rattle.reo_net_order.proofs.LinkLemmas.{zero_at}
 use Rattle.reo_net_base.specs.declared.joint.Joint.{Joint}
 use Rattle.reo_net_base.specs.declared.joint.End.{End}
 use Rattle.reo_net_base.specs.Behaviour.{Behaviour, nothing}
 use Rattle.reo_net_base.specs.Net.{behaviour_at, end_of, is_at}
 use Rattle.reo_net_base.specs.Wired.{IsJoined}
 use Rattle.reo_net_circuit.specs.Counts.{joints_at, count_at, AreCounts, SameRows}
-
-pub zero_at : (n k : ℕ) → ◌≡◌ {A = ℕ} (get_or (replicate n 0) k 0) 0
-zero_at zero k = refl
-zero_at (suc n) zero = refl
-zero_at (suc n) (suc k) = zero_at n k
 
 abbrev pub zero_counts : List Behaviour → List (List ℕ)
 zero_counts bs = map (λ (b : Behaviour). replicate {A = ℕ} b.ends 0) bs

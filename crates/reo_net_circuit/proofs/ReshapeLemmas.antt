@@ -47,7 +47,7 @@ map_same : (f g : Joint → ℕ) (js : List Joint) → ((k : ℕ) (d : Joint) �
 map_same f g [] h = refl
 map_same f g (j ∷ js) h = ap (λ (n : ℕ). n ∷ map f js) (h zero j (omega arith)) ∙ ap (λ (ns : List ℕ). g j ∷ ns) (map_same f g js (λ k d lt. h (suc k) d (omega arith)))
 
-side_count : (b : Behaviour) → length (sides_of b) ≡ b.sides
+pub side_count : (b : Behaviour) → length (sides_of b) ≡ b.sides
 side_count b = length-map-range_with_len {X = Side} (λ k. record { of = b; number = k }) 0 b.sides
 
 tail : (b d : Behaviour) (bs ds : List Behaviour) → SameShapes (b ∷ bs) (d ∷ ds) → SameShapes bs ds
@@ -69,7 +69,7 @@ first_same (b ∷ bs) (d ∷ ds) r (suc i) =
       first_same bs ds (tail b d bs ds r) i,
     )
 
-all_is : (bs : List Behaviour) → length (all_sides bs) ≡ first_side bs (length bs)
+pub all_is : (bs : List Behaviour) → length (all_sides bs) ≡ first_side bs (length bs)
 all_is bs = ap (λ (xs : List Behaviour). length (flat_map sides_of xs)) (sym (take_all (length bs) bs (omega arith)))
 
 module _ (bs ds : List Behaviour) (r : SameShapes bs ds) where

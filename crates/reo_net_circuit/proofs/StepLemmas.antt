@@ -10,7 +10,7 @@ use Rattle.reo_net_base.specs.Step.{is_mouth, mouth_of, taken_for}
 use Rattle.reo_net_circuit.proofs.Cases.{lt_cases}
 
 -- Two primitives have no joint at a mouth in common.
-mouth_test : (b : Behaviour) (i : ℕ) (j : Joint) → is_mouth b i j ≡ true → j.taker.primitive ≡ i
+pub mouth_test : (b : Behaviour) (i : ℕ) (j : Joint) → is_mouth b i j ≡ true → j.taker.primitive ≡ i
 mouth_test b i j is = grind (arith, nat_tests)
 
 pub mouths_apart : (net : Net) (i k : ℕ) → i ≢ k → mouth_of net i < length net.joints → mouth_of net i ≢ mouth_of net k

@@ -2,7 +2,6 @@
 use Rattle.std.proofs.Common.{◌≡◌, ◌≢◌, inl, inr, ℕ, zero, suc, ◌+◌, ◌<◌, List, [], ◌∷◌, Option, None, Some, Bool, true, false, length, get_or, set, drop, refl, ap, sym, ◌∙◌, arith, rules, cond, add-one, get_or-set_same, get_or-set_other}
 use Rattle.std.specs.Option.{option_and_then}
 use Rattle.std.proofs.Math.Seq.{drop-cons}
-use Rattle.std.proofs.lemmas.Bool.Decides.{nat_tests}
 use Rattle.std.proofs.lemmas.List.{get_or_default, same_lists, drop_all}
 use Rattle.reo_values.specs.declared.value.Value.{Value}
 use Rattle.reo_net_base.specs.declared.mark.Mark.{Mark}
@@ -22,6 +21,7 @@ use Rattle.reo_net_laws.proofs.Sides.{gives_at, row_in_table, row_below, side_in
 use Rattle.reo_net_laws.proofs.Orders.{no_joint, Feeds, place_in, place_of, fed_before}
 use Rattle.reo_net_colouring.proofs.FilledBefore.{AreFilledBefore}
 use Rattle.reo_net_circuit.proofs.Cases.{eq_cases}
+use Rattle.reo_net_laws.proofs.Joined.{end_same}
 
 -- The ends of a joint.
 module _ (net : Net) (wired : IsWired net) (j : ℕ) (d : Joint) (lt : j < length net.joints) where
@@ -40,12 +40,6 @@ taken_from joints items e i d lt same =
 
 pub taken_past : (joints : List Joint) (items : List (Option Value)) (e : End) (i : ℕ) → length joints ≡ i → taken_at (drop i joints) (drop i items) e ≡ None
 taken_past joints items e i n = rw (drop_all i joints (omega arith)) refl
-
-end_same : (a b : End) → a ≡ b → end_eq a b ≡ true
-end_same a b is =
-    let p : a.primitive ≡ b.primitive = ap (λ (e : End). e.primitive) is in
-    let q : a.end ≡ b.end = ap (λ (e : End). e.end) is in
-    grind (arith, nat_tests)
 
 -- The item at the only joint that goes to an end.
 taken_at_joint : (joints : List Joint) (items : List (Option Value)) (e : End) (k : ℕ) → length items ≡ length joints → k < length joints → ((d : Joint) → (get_or joints k d).taker ≡ e)
@@ -81,7 +75,7 @@ unfolding given_at
 given_some net rows items e from is =
     ap (λ (o : Option ℕ). (behaviour_at net.primitives e.primitive).given ((behaviour_at net.primitives e.primitive).side_of e.end) (row_at net rows e) e.end (option_and_then (λ from. taken_at net.joints items (end_of e.primitive from)) o)) is
 
-flow_cases : (m : Mark) (x y : Option Value) → (m ≡ F → x ≡ y) → cond (is_flow m) x None ≡ cond (is_flow m) y None
+pub flow_cases : (m : Mark) (x y : Option Value) → (m ≡ F → x ≡ y) → cond (is_flow m) x None ≡ cond (is_flow m) y None
 flow_cases F x y h = h refl
 flow_cases G x y h = refl
 flow_cases R x y h = refl
@@ -99,7 +93,7 @@ flow_gives G g item f h = cc
 flow_gives R g item f h = cc
 flow_gives J g item f h = cc
 
-fits_given : (net : Net) (rows : List ℕ) (items : List (Option Value)) (j : Joint) (o : Option Value) → ItemFits net rows items j o → o ≡ item_given net rows items j
+pub fits_given : (net : Net) (rows : List ℕ) (items : List (Option Value)) (j : Joint) (o : Option Value) → ItemFits net rows items j o → o ≡ item_given net rows items j
 unfolding item_given
 fits_given net rows items j None h = not_flow (mark_at net rows j.giver) (given_at net rows items j.giver) h
 fits_given net rows items j (Some item) h = flow_gives (mark_at net rows j.giver) (given_at net rows items j.giver) item h.flows h.given

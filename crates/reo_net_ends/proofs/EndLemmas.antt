@@ -1,6 +1,5 @@
 -- The joint of an end, by its giver and by its taker.
-use Rattle.std.proofs.Common.{◌≡◌, ◌⊎◌, inl, inr, ℕ, ◌<◌, Bool, true, false, List, length, get_or, refl, ap, sym, ◌∙◌, arith}
-use Rattle.std.specs.Prelude.{◌||◌}
+use Rattle.std.proofs.Common.{◌≡◌, inl, inr, ℕ, ◌<◌, Bool, true, false, List, length, get_or, ap, sym, ◌∙◌, arith}
 use Rattle.std.proofs.lemmas.Bool.Decides.{nat_tests}
 use Rattle.reo_net_base.specs.declared.joint.End.{End}
 use Rattle.reo_net_base.specs.declared.joint.Joint.{Joint}
@@ -10,10 +9,7 @@ use Rattle.reo_net_base.specs.Wired.{IsWired, IsEnd}
 use Rattle.reo_net_ends.specs.Ends.{joint_at, HasEnd, AreEnds}
 use Rattle.reo_net_ends.specs.Laws.{EndsFindJoints}
 use Rattle.std.proofs.lemmas.Bool.{or_left, or_right}
-
-one_of : (a b : Bool) → (a || b) ≡ true → (a ≡ true) ⊎ (b ≡ true)
-one_of true b h = inl refl
-one_of false b h = inr h
+use Rattle.reo_values.proofs.Truths.{either}
 
 end_is : (a b : End) → end_eq a b ≡ true → a ≡ b
 end_is a b h =
@@ -42,7 +38,7 @@ module _ (net : Net) (wired : IsWired net) (table : List (List ℕ)) (are : AreE
   unfolding takes
   giver_at e d is =
       let joint : Joint = get_or net.joints (joint_at table e) d in
-      elim (one_of (end_eq joint.giver e) (end_eq joint.taker e) (are.here e d is.is_end)) [
+      elim (either (end_eq joint.giver e) (end_eq joint.taker e) (are.here e d is.is_end)) [
         | inl here ↦ end_is joint.giver e here
         | inr other ↦
             let wrong : true ≡ false = sym (wired.takes (joint_at table e) d (are.in_range e is.is_end)) ∙ ap (takes net) (end_is joint.taker e other) ∙ is.gives in
@@ -53,7 +49,7 @@ module _ (net : Net) (wired : IsWired net) (table : List (List ℕ)) (are : AreE
   unfolding takes
   taker_at e d is =
       let joint : Joint = get_or net.joints (joint_at table e) d in
-      elim (one_of (end_eq joint.giver e) (end_eq joint.taker e) (are.here e d is.is_end)) [
+      elim (either (end_eq joint.giver e) (end_eq joint.taker e) (are.here e d is.is_end)) [
         | inl other ↦
             let wrong : false ≡ true = sym (wired.gives (joint_at table e) d (are.in_range e is.is_end)) ∙ ap (takes net) (end_is joint.giver e other) ∙ is.takes in
             cc

@@ -134,7 +134,7 @@ module _ (bs ds : List Behaviour) (js : List Joint) (wired : IsWired (record { p
     }
 
 -- A circuit is alike to itself.
-alike_self : (net : Net) (inside : ℕ → Bool) → AreAlike net net inside
+pub alike_self : (net : Net) (inside : ℕ → Bool) → AreAlike net net inside
 alike_self net inside = record {
   joints = refl;
   count = refl;

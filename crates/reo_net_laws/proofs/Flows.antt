@@ -3,6 +3,7 @@ use Rattle.std.proofs.Common.{◌≡◌, ◌≢◌, inl, inr, ℕ, ◌<◌, ◌�
 use Rattle.std.specs.Prelude.{◌&&◌}
 use Rattle.std.specs.declared.cmp.Ordering.TheVariants.{Less}
 use Rattle.reo_values.specs.declared.value.Value.{Value}
+use Rattle.reo_values.proofs.Truths.{and_left, and_right, not_true}
 use Rattle.reo_net_base.specs.declared.mark.Mark.TheVariants.{F}
 use Rattle.reo_net_base.specs.declared.joint.End.{End}
 use Rattle.reo_net_base.specs.Behaviour.{FlowsWithin}
@@ -15,7 +16,7 @@ use Rattle.reo_net_laws.specs.Keys.{IsLeastBy, ClassesLead, class_in}
 use Rattle.reo_net_laws.specs.Jams.{IsThreeColouring, jams}
 use Rattle.reo_net_laws.specs.FirstLaws.{FirstJamsForCause, PartJamsForCause, KnotJamsExactly, NoneFlowsMore, FirstFlows, FlowsToo, Flows}
 use Rattle.reo_net_laws.proofs.Sides.{Owner, owner_of, owner_side, owner_at, side_at_place, side_in_range, row_is}
-use Rattle.reo_net_laws.proofs.Sets.{everywhere, everywhere_closed, restricted, smaller, and_left, and_right, not_true, outside_closed}
+use Rattle.reo_net_laws.proofs.Sets.{everywhere, everywhere_closed, restricted, smaller, outside_closed}
 use Rattle.reo_net_laws.proofs.Mixing.{mix, mix_in, mixed_true, mixed_false}
 use Rattle.reo_net_laws.proofs.Places.{cmp_within, classes_lead}
 use Rattle.reo_net_laws.proofs.Jams.{is_jam, end_jams, jams_closed, row_of, plain_of, last_of}
@@ -24,7 +25,7 @@ use Rattle.reo_net_laws.proofs.Search.{Decided, any_below, flow_or}
 use Rattle.reo_net_laws.proofs.FirstInside.{first_inside}
 
 -- The mark of an end of a side.
-mark_of : (net : Net) (rows : List ℕ) (k : ℕ) (o : Owner net.primitives k) (end : ℕ) → (behaviour_at net.primitives o.primitive).side_of end ≡ o.number
+pub mark_of : (net : Net) (rows : List ℕ) (k : ℕ) (o : Owner net.primitives k) (end : ℕ) → (behaviour_at net.primitives o.primitive).side_of end ≡ o.number
     → mark_at net rows (end_of o.primitive end) ≡ (behaviour_at net.primitives o.primitive).mark o.number (get_or rows k 0) end
 unfolding mark_at
 mark_of net rows k o end is =

@@ -151,7 +151,7 @@ module _ (bs ds : List Behaviour) (js : List Joint) (wired : IsWired (record { p
   }
 
 -- The circuit that is alike, with the joints of the first.
-same_net : (net other : Net) → other.joints ≡ net.joints → record { primitives = other.primitives; joints = net.joints } ≡ other
+pub same_net : (net other : Net) → other.joints ≡ net.joints → record { primitives = other.primitives; joints = net.joints } ≡ other
 same_net net other same i = record { primitives = other.primitives; joints = sym same i }
 
 module _ (bs ds : List Behaviour) (js : List Joint) (wired : IsWired (record { primitives = bs; joints = js })) (wired_other : IsWired (record { primitives = ds; joints = js })) (inside : ℕ → Bool)

@@ -1,6 +1,5 @@
 -- Each end is in one joint.
 use Rattle.std.proofs.Common.{◌≡◌, ◌⊎◌, inl, inr, ℕ, ◌<◌, Bool, true, false, length, get_or, refl, ap, sym, ◌∙◌, arith}
-use Rattle.std.specs.Prelude.{◌||◌}
 use Rattle.std.proofs.lemmas.Bool.Decides.{nat_tests}
 use Rattle.reo_net_base.specs.declared.joint.End.{End}
 use Rattle.reo_net_base.specs.declared.joint.Joint.{Joint}
@@ -12,12 +11,9 @@ use Rattle.reo_net_laws.specs.Ends.{mark_in, from_in, EndsAreJoined, SourceIsTak
 use Rattle.reo_net_laws.proofs.Items.{end_is}
 use Rattle.reo_net_laws.proofs.Sides.{same_side_at}
 use Rattle.std.proofs.lemmas.Bool.{or_left, or_right}
+use Rattle.reo_values.proofs.Truths.{either}
 
-one_of : (a b : Bool) → (a || b) ≡ true → (a ≡ true) ⊎ (b ≡ true)
-one_of true b h = inl refl
-one_of false b h = inr h
-
-end_same : (a b : End) → a ≡ b → end_eq a b ≡ true
+pub end_same : (a b : End) → a ≡ b → end_eq a b ≡ true
 end_same a b e =
     let p : a.primitive ≡ b.primitive = ap (λ (x : End). x.primitive) e in
     let q : a.end ≡ b.end = ap (λ (x : End). x.end) e in
@@ -32,7 +28,7 @@ joint_of net wired e is =
       joined.in_range,
       λ d.
           let joint : Joint = get_or net.joints joined.joint d in
-          elim (one_of (end_eq joint.giver e) (end_eq joint.taker e) (joined.here d)) [
+          elim (either (end_eq joint.giver e) (end_eq joint.taker e) (joined.here d)) [
             | inl g ↦ inl (end_is joint.giver e g)
             | inr t ↦ inr (end_is joint.taker e t)
           ],

@@ -20,7 +20,7 @@ less_or Less = inl refl
 less_or Equal = inr (λ e. cc)
 less_or Greater = inr (λ e. cc)
 
-own_reverse : (o : Ordering) → o ≡ ordering_reverse o → o ≢ Less
+pub own_reverse : (o : Ordering) → o ≡ ordering_reverse o → o ≢ Less
 own_reverse Less e h = cc
 own_reverse Equal e h = cc
 own_reverse Greater e h = cc

@@ -2,13 +2,14 @@
 use Rattle.std.proofs.Common.{◌≡◌, ℕ, zero, suc, ◌<◌, List, [], ◌∷◌, Option, None, Bool, true, false, cond, length, get_or, refl, ap, sym, ◌∙◌, arith}
 use Rattle.std.specs.Prelude.{◌&&◌}
 use Rattle.reo_values.specs.declared.value.Value.{Value}
+use Rattle.reo_values.proofs.Truths.{and_right, not_true}
 use Rattle.reo_net_base.specs.declared.joint.Joint.{Joint}
 use Rattle.reo_net_base.specs.Net.{Net, all_sides, side_at}
 use Rattle.reo_net_base.specs.Wired.{IsWired}
 use Rattle.reo_net_laws.specs.Parts.{is_joint_inside, IsClosed, IsAssignment, outside, mixed, mixed_items}
 use Rattle.reo_net_laws.specs.PartLaws.{MixIsColouring}
 use Rattle.reo_net_laws.proofs.Assignments.{agreeing}
-use Rattle.reo_net_laws.proofs.Sets.{everywhere, everywhere_closed, outside_closed, both_closed, and_right, not_true, whole, halves}
+use Rattle.reo_net_laws.proofs.Sets.{everywhere, everywhere_closed, outside_closed, both_closed, whole, halves}
 
 pub mixed_count : {A : Type 0} (inside : ℕ → Bool) (xs ys : List A) → length xs ≡ length ys → length (mixed inside xs ys) ≡ length xs
 mixed_count inside [] ys n = refl

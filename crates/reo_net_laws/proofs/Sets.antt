@@ -23,18 +23,6 @@ outside_closed net inside closed = record { along = λ j d lt. ap not (closed.al
 pub both_closed : (net : Net) (p q : ℕ → Bool) → IsClosed net p → IsClosed net q → IsClosed net (λ k. p k && q k)
 both_closed net p q h g = record { along = λ j d lt i. h.along j d lt i && g.along j d lt i }
 
-pub and_left : (a b : Bool) → (a && b) ≡ true → a ≡ true
-and_left true b h = refl
-and_left false b h = h
-
-pub and_right : (a b : Bool) → (a && b) ≡ true → b ≡ true
-and_right true b h = h
-and_right false b h = cc
-
-pub not_true : (t : Bool) → not t ≡ true → t ≡ false
-not_true true h = cc
-not_true false h = refl
-
 pub same_test : (x : ℕ) → (x == x) ≡ true
 same_test x = grind (arith, nat_tests)
 

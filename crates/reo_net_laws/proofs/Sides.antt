@@ -4,6 +4,7 @@ use Rattle.std.specs.List.{flat_map}
 use Rattle.std.proofs.lemmas.List.Concat.{get_or-flat_map}
 use Rattle.std.proofs.lemmas.List.Folds.{length-flat_map-take}
 use Rattle.std.proofs.lemmas.List.FromFn.{get_or-map-range_with_len, length-map-range_with_len}
+pub use Rattle.reo_values.proofs.Naturals.{lt_cases as below_or}
 use Rattle.reo_net_base.specs.declared.joint.End.{End}
 use Rattle.reo_net_base.specs.declared.mark.Mark.TheVariants.{F}
 use Rattle.reo_net_base.specs.Behaviour.{Behaviour, nothing, IsEndOf}
@@ -11,7 +12,6 @@ use Rattle.reo_net_base.specs.Lawful.{GivesAt}
 use Rattle.reo_net_base.specs.Net.{Net, Side, all_sides, sides_of, first_side, behaviour_at, row_count, end_of, side_at, side_of_end, row_at, mark_at}
 use Rattle.reo_net_base.specs.Colouring.{AreRows}
 use Rattle.reo_net_base.specs.Wired.{IsWired, IsEnd}
-pub use Rattle.reo_net_order.proofs.Cases.{lt_cases as below_or}
 
 -- One row for each side, by the number of the side.
 pub rows_length : (ss : List Side) (rs : List ℕ) → AreRows ss rs → length rs ≡ length ss

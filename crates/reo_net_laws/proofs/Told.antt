@@ -13,7 +13,7 @@ use Rattle.reo_net_laws.proofs.Sides.{owner_of, owner_side, side_at_place, side_
 use Rattle.reo_net_laws.proofs.Search.{eq_or}
 use Rattle.reo_net_laws.proofs.Joined.{joint_of}
 
-mark_is : (m n : Mark) → same_mark m n ≡ true → m ≡ n
+pub mark_is : (m n : Mark) → same_mark m n ≡ true → m ≡ n
 mark_is F F h = refl
 mark_is F G h = cc
 mark_is F R h = cc
@@ -31,7 +31,7 @@ mark_is J G h = cc
 mark_is J R h = cc
 mark_is J J h = refl
 
-mark_self : (m : Mark) → same_mark m m ≡ true
+pub mark_self : (m : Mark) → same_mark m m ≡ true
 mark_self F = refl
 mark_self G = refl
 mark_self R = refl

@@ -3,15 +3,13 @@ use Rattle.std.proofs.Common.{◌≡◌, ◌⊎◌, inl, inr, ℕ, zero, suc, �
 use Rattle.std.proofs.Math.Seq.{get_or-append_seam}
 use Rattle.std.proofs.lemmas.List.{length-append, length-replicate, get_or-replicate, get_or_append_left, get_or_past}
 use Rattle.std.proofs.lemmas.List.Folds.{sum_by-replicate}
+use Rattle.reo_values.proofs.Truths.{not_true}
+use Rattle.reo_values.proofs.Naturals.{lt_cases}
 use Rattle.reo_net_order.specs.Arrows.{Leads, HasCycle, AreFed, IsTopological, OrderExists}
 use Rattle.reo_net_order.specs.Queue.{IsQueue}
-use Rattle.reo_net_order.proofs.Cases.{eq_cases, lt_cases}
+use Rattle.reo_net_order.proofs.Cases.{eq_cases}
 use Rattle.reo_net_order.proofs.QueueLemmas.{queue_push}
 use Rattle.reo_net_order.proofs.WalkLemmas.{leads_one, leads_on, stuck}
-
-not_true : (b : Bool) → not b ≡ true → b ≡ false
-not_true false e = refl
-not_true true e = absurd (cc e)
 
 module _ (from to : List ℕ) where
   -- An arrow that is not placed, and all that feed it are.

@@ -3,9 +3,10 @@ use Rattle.std.proofs.Common.{◌≡◌, ◌≢◌, inl, inr, ℕ, ◌+◌, ◌<
 use Rattle.std.proofs.Math.Seq.{get_or-append_seam}
 use Rattle.std.proofs.lemmas.List.{length-append, length-set, get_or_append_left}
 use Rattle.std.proofs.lemmas.List.Sums.{sum_by-set}
+use Rattle.reo_values.proofs.Naturals.{lt_cases}
 use Rattle.reo_net_order.specs.Links.{IsLast}
 use Rattle.reo_net_order.specs.Queue.{IsQueue, Grown, Pushed}
-use Rattle.reo_net_order.proofs.Cases.{eq_cases, lt_cases}
+use Rattle.reo_net_order.proofs.Cases.{eq_cases}
 
 pub grown_same : (xs : List ℕ) → Grown xs xs
 grown_same xs = record { longer = omega arith; kept = λ m lt. refl }

@@ -1,8 +1,8 @@
 -- The arrows to which a arrow leads.
 use Rattle.std.proofs.Common.{◌≡◌, inl, inr, ℕ, ◌+◌, ◌<◌, ◌≤◌, Bool, true, false, List, [], ◌∷◌, length, get_or, sym, arith, below_more}
+use Rattle.reo_values.proofs.Naturals.{lt_cases}
 use Rattle.reo_net_order.specs.Arrows.{Walk, Leads, OnCycle}
 use Rattle.reo_net_order.specs.Queue.{IsQueue, Pushed}
-use Rattle.reo_net_order.proofs.Cases.{lt_cases}
 use Rattle.reo_net_order.proofs.QueueLemmas.{placed_still}
 use Rattle.reo_net_order.proofs.WalkLemmas.{leads_one, leads_on}
 

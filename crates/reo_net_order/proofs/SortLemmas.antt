@@ -1,11 +1,12 @@
 -- Putting the arrows in order.
 use Rattle.std.proofs.Common.{◌≡◌, ◌≢◌, inl, inr, ℕ, zero, suc, ◌+◌, ◌<◌, ◌≤◌, Bool, true, false, not, List, length, get_or, set, refl, ap, sym, ◌∙◌, arith, get_or-set_same, get_or-set_other}
 use Rattle.std.proofs.lemmas.List.{length-set}
+use Rattle.reo_values.proofs.Naturals.{lt_cases}
 use Rattle.reo_net_order.specs.Arrows.{Leads, HasCycle, AreFed}
 use Rattle.reo_net_order.specs.Front.{IsFront}
 use Rattle.reo_net_order.specs.Links.{IsLast}
 use Rattle.reo_net_order.specs.Queue.{IsQueue, Pushed, IsSkipped}
-use Rattle.reo_net_order.proofs.Cases.{lt_cases, eq_cases}
+use Rattle.reo_net_order.proofs.Cases.{eq_cases}
 use Rattle.reo_net_order.proofs.QueueLemmas.{placed_still}
 use Rattle.reo_net_order.proofs.WalkLemmas.{leads_one, leads_on, stuck}
 

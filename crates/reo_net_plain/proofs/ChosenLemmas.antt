@@ -1,6 +1,6 @@
 -- Rows that agree at the chosen sides.
 use Rattle.std.proofs.Common.{◌≡◌, ◌≢◌, inl, inr, ℕ, suc, zero, ◌+◌, ◌<◌, Bool, not, cond, replicate, List, [], ◌∷◌, Option, true, false, length, get_or, set, refl, ap, sym, ◌∙◌, arith}
-use Rattle.std.specs.Ordering.{is_lt, ordering_reverse}
+use Rattle.std.specs.Ordering.{is_lt}
 use Rattle.std.specs.List.{count_by}
 use Rattle.std.specs.declared.cmp.Ordering.{Ordering}
 use Rattle.std.specs.declared.cmp.Ordering.TheVariants.{Less, Equal, Greater}
@@ -8,6 +8,7 @@ use Rattle.std.specs.Cmp.Lexicographic.{nat_list_cmp_total}
 use Rattle.std.proofs.lemmas.List.{length-set, length-replicate, ext_get_or, get_or_past, get_or-replicate, get_or-set_same, get_or-set_other}
 use Rattle.std.proofs.lemmas.List.Sums.{sum_by-cons}
 use Rattle.reo_values.specs.declared.value.Value.{Value}
+use Rattle.reo_values.proofs.Truths.{no_both}
 use Rattle.reo_net_base.specs.declared.joint.End.{End}
 use Rattle.reo_net_base.specs.declared.joint.Joint.{Joint}
 use Rattle.reo_net_base.specs.Net.{Net, Side, all_sides, row_count, side_at, row_at}
@@ -18,6 +19,7 @@ use Rattle.reo_net_laws.proofs.Sides.{are_rows, rows_length, row_below, row_is}
 use Rattle.reo_net_laws.proofs.Items.{mark_moved}
 use Rattle.reo_net_plain.specs.Chosen.{IsChosen, AllChosen, IsBetween, Agrees, Improves}
 use Rattle.reo_net_circuit.proofs.Cases.{lt_cases, eq_cases}
+use Rattle.reo_net_laws.proofs.Least.{own_reverse}
 
 -- A joint between chosen sides matches by these rows where it does by others that agree.
 pub match_agrees : (net : Net) (chosen : List Bool) (rows others : List ℕ) (joint : Joint) → Agrees chosen rows others → IsBetween net chosen joint → JointMatches net others joint → JointMatches net rows joint
@@ -37,9 +39,6 @@ module _ (sides : List Side) (rows : List ℕ) (are : AreRows sides rows) where
   pub rows_put : (side row : ℕ) → side < length sides → ((d : Side) → row < row_count (get_or sides side d)) → AreRows sides (set rows side row)
   rows_put side row in_range below = are_rows sides (set rows side row) (length-set rows side row ∙ rows_length sides rows are) (put_below side row in_range below)
 
-not_both : (b : Bool) → b ≡ true → b ≡ false → ⊥
-not_both b is left = cc
-
 -- Rows that agree at one side more.
 module _ (chosen : List Bool) (side : ℕ) where
   -- a side that is chosen then, and is another, was chosen before
@@ -58,7 +57,7 @@ module _ (chosen : List Bool) (side : ℕ) where
   pub agrees_less : (rows changed others : List ℕ) (row : ℕ) → get_or chosen side false ≡ false → side < length chosen → Agrees chosen rows changed → Agrees (set chosen side true) (set changed side row) others → Agrees chosen rows others
   agrees_less rows changed others row left lt kept agrees k is =
       elim (eq_cases k side) [
-        | inl here ↦ absurd (not_both (get_or chosen side false) (rw here at is) left)
+        | inl here ↦ absurd (no_both (get_or chosen side false) (rw here at is) left)
         | inr there ↦
             agrees k (get_or-set_other chosen side k true false there ∙ is) ∙ get_or-set_other changed side k row 0 there ∙ kept k is
       ]
@@ -86,11 +85,6 @@ agrees_whole net chosen rows others all n m agrees = ext_get_or 0 others rows (m
 -- The order of rows.
 pub before_trans : (net : Net) (turn : ℕ) (a b d : List ℕ) → order_of net turn a b ≡ Less → order_of net turn b d ≡ Less → order_of net turn a d ≡ Less
 before_trans net turn a b d = nat_list_cmp_total.trans (key_at (positions net turn) a) (key_at (positions net turn) b) (key_at (positions net turn) d)
-
-own_reverse : (o : Ordering) → o ≡ ordering_reverse o → o ≢ Less
-own_reverse Less e h = cc
-own_reverse Equal e h = cc
-own_reverse Greater e h = cc
 
 pub not_before_itself : (net : Net) (turn : ℕ) (a : List ℕ) → order_of net turn a a ≢ Less
 not_before_itself net turn a = own_reverse (order_of net turn a a) (nat_list_cmp_total.antisymm (key_at (positions net turn) a) (key_at (positions net turn) a))
@@ -153,4 +147,4 @@ none_is_chosen count k =
 
 -- Where no side is chosen, all rows agree.
 pub none_differs : (count : ℕ) (rows others : List ℕ) → Agrees (replicate count false) rows others
-none_differs count rows others k is = absurd (not_both (get_or (replicate count false) k false) is (none_is_chosen count k))
+none_differs count rows others k is = absurd (no_both (get_or (replicate count false) k false) is (none_is_chosen count k))

@@ -25,7 +25,7 @@ of_tokens text ts are (inl (p, (says, none))) = (Ok p, (ts, are, says, none))
 of_tokens text ts are (inr (inl (line, refused))) = (Err (faults.Syntax line), (ts, are, refused))
 of_tokens text ts are (inr (inr (line, deep))) = (Err (faults.TooDeep line), (ts, are, deep))
 
-by_tokens : (text : List ℕ) → ((ts : List Token) × IsTokens text ts) ⊎ ((f : LexFault) × IsFault text f) → HasAnswer text
+pub by_tokens : (text : List ℕ) → ((ts : List Token) × IsTokens text ts) ⊎ ((f : LexFault) × IsFault text f) → HasAnswer text
 by_tokens text (inl (ts, are)) =
     of_tokens text ts are (answered circuit_rules program_form (IsAbove most_levels) circuit_table refl refl (above-decided most_levels) (lexemes_of text ts) (tokens-real text ts are))
 by_tokens text (inr (f, is)) = (Err (faults.Lex f), is)

@@ -1,10 +1,9 @@
 -- A text has one answer.
-use Rattle.std.proofs.Common.{◌≡◌, ◌∙◌, ◌⊎◌, inl, inr, ℕ, suc, Bool, true, false, ◌&&◌, List, [], ◌∷◌, length, Result, Ok, Err, refl, sym, ap, subst, arith, codes}
+use Rattle.std.proofs.Common.{◌≡◌, ◌∙◌, ◌⊎◌, inl, inr, ℕ, suc, Bool, true, false, List, [], ◌∷◌, length, Result, Ok, Err, refl, sym, ap, subst, arith, codes}
 use Rattle.std.specs.Str.{bytes_eq}
-use Rattle.reo_grammar.specs.declared.kind.TokenKind.{TokenKind}
 use Rattle.reo_grammar.specs.declared.kind.TokenKind.TheVariants as kinds
 use Rattle.reo_grammar.specs.Bytes.{one_of}
-use Rattle.reo_grammar.specs.Tokens.{Lexeme, AreReal, is_name, is_fixed}
+use Rattle.reo_grammar.specs.Tokens.{Lexeme, AreReal}
 use Rattle.reo_grammar.specs.Tokens.{Class}
 use Rattle.reo_grammar.specs.Grammar.{Says, read, reads, starts}
 use Rattle.reo_grammar.specs.Grammar.Outcome.{got}
@@ -30,6 +29,7 @@ use Rattle.reo_trees.specs.Rules.{circuit_rules}
 use Rattle.reo_trees.specs.Table.{circuit_table}
 use Rattle.reo_trees.specs.Says.{most_levels}
 use Rattle.reo_trees.specs.SaysTwo.{IsDeepTwo}
+use Rattle.reo_trees.proofs.Versions.{no_word}
 use Rattle.reo_terms.specs.Refused.{IsRefusedAt, IsDeepAt}
 use Rattle.reo_terms.proofs.Only.{syntax-line, deep-line, not-both-faults, said-no-syntax, said-no-deep}
 use Rattle.reo_parser.specs.declared.fault.ParseFault.{ParseFault}
@@ -71,15 +71,8 @@ one-by false ts real r s h i = one-told program_form (IsAbove most_levels) (λ p
 second-of : (ts : List Lexeme) (q : ProgramTwo) → Says circuit_rules program_two ts q → is_second ts ≡ true
 second-of ts q (k, (a, b, x, y, w, (c, d, z, v, s, (t, (e, m), _), _, _), _, _)) = rw (w, s, e) m
 
-no-word : (kind : TokenKind) (x y : Bool) → (is_name kind && x) ≡ true → (is_fixed kind && y) ≡ false
-no-word kinds.Name x y h = refl
-no-word kinds.Word x y h = absurd (cc)
-no-word kinds.Number x y h = absurd (cc)
-no-word kinds.Text x y h = absurd (cc)
-no-word kinds.Sign x y h = absurd (cc)
-
 -- A list of parts has none where none begins.
-no-parts : {B C : Type 0} (g : List B → C) (c : Class) (h : FormOf B) (room : ℕ) (t : Lexeme) (u : List Lexeme)
+pub no-parts : {B C : Type 0} (g : List B → C) (c : Class) (h : FormOf B) (room : ℕ) (t : Lexeme) (u : List Lexeme)
     → starts c (t ∷ u) ≡ false → read (reads circuit_rules room) (made g (chain listed c (nothing []) h)) (t ∷ u) ≡ got (g []) (t ∷ u)
 no-parts g c h room t u e = rw e refl
 
@@ -87,7 +80,7 @@ none-second : (ts : List Lexeme) (p : Program) → Says circuit_rules program_fo
 none-second [] p d h = cc
 none-second (t ∷ u) p d m =
     let read_to : read (reads circuit_rules (suc (length (t ∷ u)))) program_form (t ∷ u) ≡ got p [] = read-said circuit_table program_form refl refl (suc (length (t ∷ u))) (t ∷ u) (omega arith) p d in
-    let word : starts declaration_words (t ∷ u) ≡ false = no-word t.kind (bytes_eq t.bytes (codes "reo")) (one_of t.bytes (codes "type" ∷ codes "connector" ∷ [])) m in
+    let word : starts declaration_words (t ∷ u) ≡ false = no_word t.kind (bytes_eq t.bytes (codes "reo")) (one_of t.bytes (codes "type" ∷ codes "connector" ∷ [])) m in
     let none : read (reads circuit_rules (suc (length (t ∷ u)))) program_form (t ∷ u) ≡ got (record { declarations = [] }) (t ∷ u) = no-parts (λ ds. record { declarations = ds }) declaration_words declaration_form (suc (length (t ∷ u))) t u word in
     let same : got (record { declarations = [] }) (t ∷ u) ≡ got p [] = sym none ∙ read_to in
     cc

@@ -86,7 +86,8 @@ fn declarations(
     alloc: Global,
     room: usize,
 ) -> Result<List<DeclarationTwo>, Halt>
-    ensures { Gives result cursor.new (read (reads circuit_rules room) declarations_two cursor.old) }
+    ensures { let reading = reads circuit_rules room in
+        Gives result cursor.new (read reading declarations_two cursor.old) }
 {
     let mut declarations = List::new(alloc);
     'declarations: while is_declaration(cursor) {

@@ -1,48 +1,35 @@
 -- What texts of one version are to the reader of version 1 and to that of both.
-use Rattle.std.proofs.Common.{◌≡◌, ◌∙◌, ℕ, suc, Bool, true, false, ◌&&◌, List, [], ◌∷◌, length, Result, Ok, Err, refl, sym, subst, arith, codes}
+use Rattle.std.proofs.Common.{◌≡◌, ◌∙◌, ℕ, suc, true, false, List, [], ◌∷◌, length, Result, Ok, Err, refl, sym, subst, arith, codes}
 use Rattle.std.specs.Str.{bytes_eq}
-use Rattle.reo_grammar.specs.declared.kind.TokenKind.{TokenKind}
 use Rattle.reo_grammar.specs.declared.kind.TokenKind.TheVariants as kinds
 use Rattle.reo_grammar.specs.Bytes.{one_of}
-use Rattle.reo_grammar.specs.Tokens.{Lexeme, Class, is_name, is_fixed}
+use Rattle.reo_grammar.specs.Tokens.{Lexeme}
 use Rattle.reo_grammar.specs.Grammar.{Says, Begins, read, reads, starts, line_of}
 use Rattle.reo_grammar.specs.Grammar.Outcome.{got}
-use Rattle.reo_grammar.specs.Grammar.Grammar.{nothing, made, chain}
 use Rattle.reo_grammar.specs.Levels.{IsAbove}
 use Rattle.reo_grammar.proofs.Exact.{read-said}
 use Rattle.reo_lexer.specs.declared.token.Token.{Token}
 use Rattle.reo_lexer.specs.Lexing.{IsTokens, lexemes_of}
 use Rattle.reo_trees.specs.declared.programs.Program.{Program}
-use Rattle.reo_trees.specs.Forms.{FormOf, listed}
 use Rattle.reo_trees.specs.Programs.{declaration_words, declaration_form, program_form}
 use Rattle.reo_trees.specs.Rules.{circuit_rules}
 use Rattle.reo_trees.specs.Table.{circuit_table}
 use Rattle.reo_trees.specs.Says.{most_levels}
+use Rattle.reo_trees.proofs.Versions.{no_word}
 use Rattle.reo_terms.proofs.Fronts.{nowhere-none}
 use Rattle.reo_parser.specs.declared.fault.ParseFault.{ParseFault}
 use Rattle.reo_parser.specs.declared.fault.ParseFault.TheVariants as faults
 use Rattle.reo_parser.specs.Parsed.{IsSyntax, Answers}
 use Rattle.reo_parser_two.specs.ParsedAny.{is_second, IsSyntaxBy, IsTooDeepBy, AnswersAny}
+use Rattle.reo_parser_two.proofs.Only.{no-parts}
 use Rattle.reo_parser_two_laws.specs.Versions.{IsFirst, as_any}
-
-no-word : (kind : TokenKind) (x y : Bool) → (is_name kind && x) ≡ true → (is_fixed kind && y) ≡ false
-no-word kinds.Name x y h = refl
-no-word kinds.Word x y h = absurd (cc)
-no-word kinds.Number x y h = absurd (cc)
-no-word kinds.Text x y h = absurd (cc)
-no-word kinds.Sign x y h = absurd (cc)
-
--- A list of parts has none where none begins.
-no-parts : {B C : Type 0} (g : List B → C) (c : Class) (h : FormOf B) (room : ℕ) (t : Lexeme) (u : List Lexeme)
-    → starts c (t ∷ u) ≡ false → read (reads circuit_rules room) (made g (chain listed c (nothing []) h)) (t ∷ u) ≡ got (g []) (t ∷ u)
-no-parts g c h room t u e = rw e refl
 
 -- No program of version 1 begins with the name `reo`.
 none-second : (t : Lexeme) (u : List Lexeme) (p : Program) → Says circuit_rules program_form (t ∷ u) p → is_second (t ∷ u) ≡ true → ⊥
 none-second t u p d m =
     let room : ℕ = suc (length (t ∷ u)) in
     let read_to : read (reads circuit_rules room) program_form (t ∷ u) ≡ got p [] = read-said circuit_table program_form refl refl room (t ∷ u) (omega arith) p d in
-    let word : starts declaration_words (t ∷ u) ≡ false = no-word t.kind (bytes_eq t.bytes (codes "reo")) (one_of t.bytes (codes "type" ∷ codes "connector" ∷ [])) m in
+    let word : starts declaration_words (t ∷ u) ≡ false = no_word t.kind (bytes_eq t.bytes (codes "reo")) (one_of t.bytes (codes "type" ∷ codes "connector" ∷ [])) m in
     let none : read (reads circuit_rules room) program_form (t ∷ u) ≡ got (record { declarations = [] }) (t ∷ u) = no-parts (λ ds. record { declarations = ds }) declaration_words declaration_form room t u word in
     let same : got (record { declarations = [] }) (t ∷ u) ≡ got p [] = sym none ∙ read_to in
     cc

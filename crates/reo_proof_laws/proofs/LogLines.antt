@@ -6,6 +6,7 @@ use Rattle.std.specs.Fmt.{decimal}
 use Rattle.std.proofs.lemmas.Bool.Decides.{nat_tests}
 use Rattle.std.proofs.lemmas.List.{append-nil}
 use Rattle.std.proofs.lemmas.List.Elements.{All-nil, All-cons, All-append, All-head, All-tail, All-weaker}
+use Rattle.reo_values.proofs.Truths.{and_right}
 use Rattle.reo_joint_values.specs.declared.value.JointValue.{JointValue}
 use Rattle.reo_joint_values.specs.declared.value.JointValue.TheVariants.{Flow, RG, GR, GG, Jam}
 use Rattle.reo_refute_base.specs.declared.line.LogLine.{LogLine}
@@ -43,12 +44,9 @@ has_none (b ∷ bs) = not (nat_eq b 10) && has_none bs
 head_apart : (b : ℕ) (rest : Bool) → not (nat_eq b 10) && rest ≡ true → IsInLine b
 head_apart b rest h e = grind (arith, nat_tests, h, e)
 
-tail_none : (a b : Bool) → a && b ≡ true → b ≡ true
-tail_none a b h = grind (arith, nat_tests)
-
 in_line : (bs : List ℕ) → has_none bs ≡ true → All IsInLine bs
 in_line [] h = All-nil IsInLine
-in_line (b ∷ bs) h = All-cons IsInLine b bs (head_apart b (has_none bs) h) (in_line bs (tail_none (not (nat_eq b 10)) (has_none bs) h))
+in_line (b ∷ bs) h = All-cons IsInLine b bs (head_apart b (has_none bs) h) (in_line bs (and_right (not (nat_eq b 10)) (has_none bs) h))
 
 both_in : (xs ys : List ℕ) → All IsInLine xs → All IsInLine ys → All IsInLine (xs ++ ys)
 both_in xs ys p q = All-append IsInLine xs ys p q

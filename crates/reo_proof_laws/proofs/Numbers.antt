@@ -1,35 +1,30 @@
 -- The numbers of the lines of a right log.
-use Rattle.std.proofs.Common.{◌≡◌, ℕ, zero, suc, ◌+◌, ◌*◌, ◌<◌, ◌≤◌, ◌^◌, ◌&&◌, ◌||◌, ◌==◌, not, Bool, true, false, cond, List, [], ◌∷◌, ◌++◌, length, get_or, refl, arith, length-append}
+use Rattle.std.proofs.Common.{◌≡◌, ℕ, zero, suc, ◌+◌, ◌*◌, ◌<◌, ◌≤◌, ◌^◌, ◌&&◌, ◌||◌, ◌==◌, not, true, false, cond, List, [], ◌∷◌, ◌++◌, length, get_or, refl, arith, length-append}
 use Rattle.std.specs.List.{All}
-use Rattle.std.proofs.lemmas.Bool.Decides.{nat_tests}
 use Rattle.std.proofs.lemmas.List.Elements.{All-nil, All-cons, All-append}
+use Rattle.reo_values.proofs.Truths.{and_left}
 use Rattle.reo_net_base.specs.Behaviour.{Behaviour}
 use Rattle.reo_net_base.specs.First.{is_leading, leading_positions, class_position, class_positions, row_positions, positions}
 use Rattle.reo_net_base.specs.Lawful.{IsLawful}
 use Rattle.reo_net_base.specs.Net.{Net, Side, sides_of, all_sides, behaviour_at}
 use Rattle.reo_net_base.specs.Sides.{side_count}
 use Rattle.reo_net_base.specs.Wired.{IsWired}
-use Rattle.reo_joint_values.specs.declared.value.JointValue.{JointValue}
-use Rattle.reo_joint_values.specs.declared.value.JointValue.TheVariants.{Flow, RG, GR, GG, Jam}
 use Rattle.reo_joint_values.specs.Values.{Family, value_eq}
 use Rattle.reo_refute_base.specs.declared.line.LogLine.{LogLine}
 use Rattle.reo_refute_base.specs.declared.line.LogLine.TheVariants.{At, Drop, Empty, Split}
-use Rattle.reo_refute_base.specs.Items.{Lists, items_at}
+use Rattle.reo_refute_base.specs.Items.{Lists}
 use Rattle.reo_refute_base.specs.Live.{all_live, without, alone}
 use Rattle.reo_refute_base.specs.Logs.{live_value, joined, IsBranch, AreParts}
 use Rattle.reo_refute_base.specs.Logs.IsBranch.{drop, empty, split}
 use Rattle.reo_refute_base.specs.Logs.AreParts.{done, part}
 use Rattle.reo_refute_base.specs.Places.{IsAllowed}
-use Rattle.reo_refute_base.specs.Texts.{IsNumbered, IsValueNumbered}
+use Rattle.reo_refute_base.specs.Texts.{IsNumbered}
 use Rattle.reo_refute_laws.specs.Singles.{IsPartOf}
 use Rattle.reo_refute_laws.proofs.Branches.{side_below}
-use Rattle.reo_refute_laws.proofs.Refuting.{true_lt}
 use Rattle.reo_refute_prove.specs.Making.{AreFew}
 use Rattle.reo_proof_laws.specs.Logs.{IsSized}
 use Rattle.reo_net_laws.proofs.Sides.{side_count as own_sides}
-
-and_first : (a b : Bool) → a && b ≡ true → a ≡ true
-and_first a b h = grind (arith, nat_tests)
+use Rattle.reo_refute_prove.proofs.Numbers.{value_numbered}
 
 -- There are at most two sides for each primitive.
 sides_few : (bs : List Behaviour) → ((i : ℕ) → i < length bs → IsLawful (behaviour_at bs i)) → length (all_sides bs) ≤ 2 * length bs
@@ -67,13 +62,6 @@ places_few net turn =
       length-append (class_positions turn ss 0) (row_positions ss 0),
     )
 
-value_numbered : (lists : Lists) → AreFew lists → (j : ℕ) (v : JointValue) → all_live lists j v ≡ true → IsValueNumbered v
-value_numbered lists few j (Flow n) h = omega (arith, true_lt n (length (items_at lists j)) h, few j)
-value_numbered lists few j RG h = tt
-value_numbered lists few j GR h = tt
-value_numbered lists few j GG h = tt
-value_numbered lists few j Jam h = tt
-
 all_joined : (pieces : List (List LogLine)) → ((m : ℕ) → m < length pieces → All IsNumbered (get_or pieces m [])) → All IsNumbered (joined pieces)
 all_joined [] each = All-nil IsNumbered
 all_joined (x ∷ xs) each = All-append IsNumbered x (joined xs) (each zero (omega arith)) (all_joined xs (λ m lt. each (suc m) (omega (arith, lt))))
@@ -88,13 +76,13 @@ module _ (net : Net) (wired : IsWired net) (sized : IsSized net) (lists : Lists)
         omega (arith, may.in_range, sized.joints),
         value_numbered lists few j v (within j v may.is_live),
         omega (arith, side_below net wired j side may.in_range may.at_side, sides),
-      ) (branch_numbered allowed (without now j v) rest (λ i w h. within i w (and_first (now i w) (not ((i == j) && value_eq w v)) h)) branch)
+      ) (branch_numbered allowed (without now j v) rest (λ i w h. within i w (and_left (now i w) (not ((i == j) && value_eq w v)) h)) branch)
   branch_numbered allowed f lines within (empty now j is) =
       All-cons IsNumbered (Empty j) [] (omega (arith, is.in_range, sized.joints)) (All-nil IsNumbered)
   branch_numbered allowed f lines within (split now j pieces may count branches) =
       All-cons IsNumbered (Split j) (joined pieces) (omega (arith, may.in_range, sized.joints))
       (all_joined pieces (λ m lt.
-      branch_numbered allowed (alone now j (live_value lists now j m)) (get_or pieces m []) (λ i w h. within i w (and_first (now i w) (not (i == j) || value_eq w (live_value lists now j m)) h)) (branches m lt)))
+      branch_numbered allowed (alone now j (live_value lists now j m)) (get_or pieces m []) (λ i w h. within i w (and_left (now i w) (not (i == j) || value_eq w (live_value lists now j m)) h)) (branches m lt)))
 
   pub parts_numbered : (turn : ℕ) (given : List ℕ) (from : ℕ) (lines : List LogLine) → AreParts net turn given lists from lines → All IsNumbered lines
   parts_numbered turn given from lines (done n none) = All-nil IsNumbered

@@ -2,8 +2,6 @@
 use Rattle.std.proofs.Common.{◌≡◌, ◌≢◌, ◌∙◌, ap, refl, sym, subst, ℕ, List, [], ◌∷◌, ◌++◌, length, drop, append_assoc, append-nil}
 use Rattle.std.specs.Prelude.{codes}
 use Rattle.std.specs.List.{All}
-use Rattle.std.proofs.lemmas.List.Elements.{All-head, All-tail}
-use Rattle.reo_values.proofs.Words.{first_or}
 use Rattle.reo_net_base.specs.declared.port.Port.{Port}
 use Rattle.reo_trace.specs.declared.line.RoundLine.{RoundLine}
 use Rattle.reo_trace.specs.declared.line.Ending.{Ending}
@@ -14,17 +12,12 @@ use Rattle.reo_trace_texts.specs.Texts.{IsRoundText, IsEndingText}
 use Rattle.reo_trace_texts.proofs.Answering.{one_round, round_no-end}
 use Rattle.reo_trace_texts.proofs.Fronts.{front_unique}
 use Rattle.reo_proof_texts.specs.Cuts.{IsInLine, HasNone}
+use Rattle.reo_proof_texts.proofs.CutLemmas.{no_feed}
 use Rattle.reo_proof_reader.specs.Reads.{IsLineTaken}
 use Rattle.reo_proof_reader.proofs.OneLine.{IsOneLine, round_in, ending_in}
 
 feed_ends : IsInLine 10 → ⊥
 feed_ends h = h refl
-
-no_feed : (x r s : List ℕ) → All IsInLine s → s ≡ x ++ (10 ∷ r) → ⊥
-no_feed [] r [] all e = absurd cc
-no_feed [] r (b ∷ s) all e = All-head IsInLine b s all (ap first_or e)
-no_feed (c ∷ x) r [] all e = absurd cc
-no_feed (c ∷ x) r (b ∷ s) all e = no_feed x r s (All-tail IsInLine b s all) (ap (λ (l : List ℕ). drop 1 l) e)
 
 -- One line, and what comes behind it.
 one_line : (t more : List ℕ) (one : IsOneLine t) → t ++ more ≡ one.line ++ (10 ∷ more)

@@ -43,7 +43,7 @@ first_line : (x : List ℕ) (xs : List (List ℕ)) (r : List ℕ) → lines_text
 first_line x xs r = append_assoc (x ++ codes "\n") (lines_text xs) r ∙ append_assoc x (codes "\n") (lines_text xs ++ r)
 
 -- What has no line feed has no whole line.
-no_feed : (x r s : List ℕ) → All IsInLine s → s ≡ x ++ (10 ∷ r) → ⊥
+pub no_feed : (x r s : List ℕ) → All IsInLine s → s ≡ x ++ (10 ∷ r) → ⊥
 no_feed [] r [] all e = absurd cc
 no_feed [] r (b ∷ s) all e = All-head IsInLine b s all (ap first_or e)
 no_feed (c ∷ x) r [] all e = absurd cc

@@ -4,8 +4,8 @@ use Rattle.std.specs.Bool.{◌==◌}
 use Rattle.std.proofs.Common.{◌&&◌}
 use Rattle.std.proofs.lemmas.Bool.Decides.{eqb_tells}
 use Rattle.std.proofs.lemmas.List.{length-set}
+use Rattle.reo_values.proofs.Naturals.{same_eq}
 use Rattle.reo_net_base.specs.Net.{Net}
-use Rattle.reo_joint_values.proofs.Equal.{same_eq}
 use Rattle.reo_side_tables.specs.Marks.{IsJointOf}
 use Rattle.reo_rows.specs.Flags.{flag, AreAlikeTables}
 use Rattle.reo_propagate.specs.declared.state.State.{State}

@@ -3,21 +3,11 @@ use Rattle.std.proofs.Common.{◌≡◌, ◌≢◌, ◌⊎◌, ◌↔◌, inl, i
 use Rattle.std.specs.Bool.{◌==◌}
 use Rattle.std.proofs.lemmas.Bool.{cases_eq, both_ways, and_parts}
 use Rattle.std.proofs.lemmas.List.{get_or_past}
-use Rattle.reo_joint_values.proofs.Equal.{same_eq, other_eq}
+use Rattle.reo_values.proofs.Naturals.{same_eq, other_eq}
 use Rattle.reo_rows.specs.Flags.{flag, AreAlikeTables}
+use Rattle.reo_rows.proofs.Clearing.{and_no, gone_of}
 use Rattle.reo_propagate.specs.declared.thinning.Loss.{Loss}
 use Rattle.reo_propagate.specs.Narrow.{IsCut}
-
-unless_both : (f a b : Bool) → (a ≡ false) ⊎ (b ≡ false) → (f && not (a && b)) ≡ f
-unless_both true true b (inl e) = absurd cc
-unless_both true true true (inr e) = absurd cc
-unless_both true true false (inr e) = refl
-unless_both true false b e = refl
-unless_both false a b e = refl
-
-never_both : (f : Bool) → (f && not (true && true)) ≡ false
-never_both true = refl
-never_both false = refl
 
 -- Of a table one flag was cleared.
 abbrev pub IsCleared : ℕ → ℕ → List (List Bool) → List (List Bool) → Type 0
@@ -28,13 +18,13 @@ module _ (i p : ℕ) (old new : List (List Bool)) (is : IsCleared i p old new) w
   was_set k q h = (and_parts (flag old k q) (not ((k == i) && (q == p))) (sym (is k q) ∙ h)).0
 
   pub other_row : (k q : ℕ) → k ≢ i → flag new k q ≡ flag old k q
-  other_row k q ne = is k q ∙ unless_both (flag old k q) (k == i) (q == p) (inl (other_eq k i ne))
+  other_row k q ne = is k q ∙ and_no (flag old k q) (k == i) (q == p) (inl (other_eq k i ne))
 
   pub other_place : (k q : ℕ) → q ≢ p → flag new k q ≡ flag old k q
-  other_place k q ne = is k q ∙ unless_both (flag old k q) (k == i) (q == p) (inr (other_eq q p ne))
+  other_place k q ne = is k q ∙ and_no (flag old k q) (k == i) (q == p) (inr (other_eq q p ne))
 
   pub cleared : flag new i p ≡ false
-  cleared = is i p ∙ rw (same_eq i i refl, same_eq p p refl) (never_both (flag old i p))
+  cleared = is i p ∙ rw (same_eq i i refl, same_eq p p refl) (gone_of (flag old i p))
 
 -- Past the last row no flag is set.
 pub no_flag : (table : List (List Bool)) (i p : ℕ) → length table ≤ i → flag table i p ≡ false

@@ -3,11 +3,11 @@ use Rattle.std.proofs.Common.{◌≡◌, ◌↔◌, ◌⊎◌, inl, inr, ℕ, �
 use Rattle.std.specs.Bool.{◌==◌}
 use Rattle.std.proofs.lemmas.Bool.{cases_eq, cases_Bool, and_parts, or_left, or_right}
 use Rattle.std.proofs.lemmas.List.{get_or_past, take_more, take_all}
+use Rattle.reo_values.proofs.Naturals.{eq_same, same_eq, other_eq}
 use Rattle.reo_net_base.specs.Net.{Net}
 use Rattle.reo_net_laws.proofs.Sides.{below_or}
 use Rattle.reo_joint_values.specs.declared.value.JointValue.{JointValue}
 use Rattle.reo_joint_values.specs.Values.{giver_side}
-use Rattle.reo_joint_values.proofs.Equal.{same_eq, eq_same, other_eq}
 use Rattle.reo_side_tables.specs.Listing.{Lists}
 use Rattle.reo_side_tables.specs.Marks.{IsJointOf}
 use Rattle.reo_side_tables.specs.Flowing.{gives_at}

@@ -3,9 +3,9 @@ use Rattle.std.proofs.Common.{◌≡◌, ◌≢◌, ◌↔◌, inl, inr, ℕ, ze
 use Rattle.std.specs.Bool.{◌==◌}
 use Rattle.std.proofs.lemmas.Bool.{cases_eq, cases_Bool, or_left, or_right}
 use Rattle.std.proofs.lemmas.List.{length-set, take_more, take_more_set}
+use Rattle.reo_values.proofs.Naturals.{same_eq, other_eq}
 use Rattle.reo_joint_values.specs.declared.value.JointValue.{JointValue}
 use Rattle.reo_joint_values.specs.Values.{value_eq}
-use Rattle.reo_joint_values.proofs.Equal.{same_eq, other_eq}
 use Rattle.reo_joint_values.proofs.Narrowing.{value_same, same_value}
 use Rattle.reo_rows.specs.Flags.{flag, AreAlikeTables}
 use Rattle.reo_rows.specs.Sets.{code_of, value_of, family_of}

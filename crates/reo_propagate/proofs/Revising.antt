@@ -17,6 +17,7 @@ use Rattle.reo_rows.specs.Flags.{flag, count_set, AreAlikeTables}
 use Rattle.reo_rows.specs.Sets.{code_of, value_of, family_of, names_of, IsReady}
 use Rattle.reo_rows.proofs.Codes.{flag_value}
 use Rattle.reo_rows.specs.Rows.{AreTables, IsSifted, IsSeen, OtherSidesStay}
+use Rattle.reo_rows.proofs.Union.{alike_twice}
 use Rattle.reo_propagate.specs.declared.queue.Queue.{Queue}
 use Rattle.reo_propagate.specs.declared.thinning.Loss.{Loss}
 use Rattle.reo_propagate.specs.declared.state.State.{State}
@@ -25,9 +26,6 @@ use Rattle.reo_propagate.proofs.Cutting.{no_flag}
 use Rattle.reo_propagate.proofs.Thinned.{joint_done}
 use Rattle.reo_propagate.proofs.Resting.{SideStays, stays_here, sifted_stays, seen_stays}
 use Rattle.reo_propagate.proofs.Tending.{tended_rows, tended_end, revised_rests}
-
-alike_twice : (a b c : List (List Bool)) → AreAlikeTables a b → AreAlikeTables b c → AreAlikeTables a c
-alike_twice a b c p q = record { rows = q.rows ∙ p.rows; width = λ r. q.width r ∙ p.width r }
 
 -- What a joint lost, and which rows went, says how it was tended.
 pub at_joint : (net : Net) (names : Names) (side joint : ℕ) (old new : State) (loss : Loss) → IsCut joint old.alive new.alive loss

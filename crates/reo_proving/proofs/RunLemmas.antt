@@ -44,10 +44,6 @@ pub passed_on : (Q : Result Ending WriteFault → Type 0) (r : Result Ending Wri
 passed_on Q (Ok v) d h cut kept = absurd h.1
 passed_on Q (Err e) d h cut kept = subst (λ (x : WriteFault). Q (Err x)) (sym h.1) (by_fault Q d cut kept)
 
-pub none_of : {X : Type 0} (o : Option X) → ((x : X) → o ≡ Some x → ⊥) → o ≡ None
-none_of None h = refl
-none_of (Some x) h = absurd (h x refl)
-
 module _ {P : Type 0} (r : Rules P) (ports : List Port) (budget limit : ℕ) (start : Place P) where
   -- The run ended, and its ending was written.
   pub proved_by : (before mid now : Option (List ℕ)) (ending : Ending) → Finished r ports budget limit start before mid ending → Appended mid now (ending_text ending) → HasProved (firsts budget limit) r ports start ending before now

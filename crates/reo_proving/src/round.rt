@@ -104,8 +104,9 @@ fn make_round<P: Restoring, S: Sink>(
     Ok(over)
 }
 
-/// Goes on with a run of which some component is not done: makes the round that stands next, written
-/// with its log, or makes none where the run stops. Answers the ending of the run, if it is over.
+/// Goes on with a run of which some component is not done: makes the round that stands next,
+/// written with its log, or makes none where the run stops. Answers the ending of the run, if it is
+/// over.
 ///
 /// # Errors
 ///

@@ -13,6 +13,7 @@ use Rattle.reo_net_laws.specs.Ends.{mark_in, from_in}
 use Rattle.reo_net_laws.specs.Parts.{IsClosed}
 use Rattle.reo_net_laws.specs.Alike.{SameSide, AreAlike}
 use Rattle.reo_net_laws.proofs.Sides.{side_at_place}
+use Rattle.reo_net_laws.proofs.Isolation.{same_net}
 use Rattle.reo_joint_values.specs.Standing.{no_joint, giver_of, taker_of, given_in, passes_in, FlowsAt, Brings, GivesAlone, GivesFor, CanStand}
 use Rattle.reo_joint_values.specs.Standing.CanStand.{alone, passed}
 use Rattle.reo_joint_values.specs.Many.{AreDistinct, IsJointIn}
@@ -160,9 +161,6 @@ module _ (bs ds : List Behaviour) (js : List Joint) (wired : IsWired (record { p
 
       clear_back : IsClear other new j → IsClear net old j
       clear_back clear k path = sym (agree.wide k (leads_inside net wired inside closed k j path is)) ∙ clear k (leads_there k j is path)
-
-same_net : (net other : Net) → other.joints ≡ net.joints → record { primitives = other.primitives; joints = net.joints } ≡ other
-same_net net other same i = record { primitives = other.primitives; joints = sym same i }
 
 pub reached_stays : ReachedStay
 reached_stays net other wired inside closed alike old new agree j is reached =

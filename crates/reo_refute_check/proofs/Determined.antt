@@ -1,5 +1,6 @@
 -- A reader of lines comes to one list of open branches.
 use Rattle.std.proofs.Common.{◌≡◌, ℕ, List, [], ◌∷◌, ◌++◌, refl, ap, sym, ◌∙◌, subst}
+use Rattle.reo_values.proofs.Sequences.{not_nil}
 use Rattle.reo_net_base.specs.Net.{Net}
 use Rattle.reo_joint_values.specs.Values.{Family}
 use Rattle.reo_refute_base.specs.declared.line.LogLine.{LogLine}
@@ -9,15 +10,7 @@ use Rattle.reo_refute_base.specs.Live.{without}
 use Rattle.reo_refute_base.specs.Steps.{branches, IsStep, AreSteps}
 use Rattle.reo_refute_base.specs.Steps.IsStep.{drop, empty, split}
 use Rattle.reo_refute_base.specs.Steps.AreSteps.{none, more}
-
-pub head_same : {X : Type 0} (x y : X) (xs ys : List X) → x ∷ xs ≡ y ∷ ys → x ≡ y
-head_same x y xs ys e = cc
-
-pub tail_same : {X : Type 0} (x y : X) (xs ys : List X) → x ∷ xs ≡ y ∷ ys → xs ≡ ys
-tail_same x y xs ys e = cc
-
-not_nil : {X : Type 0} (x : X) (xs : List X) → x ∷ xs ≡ [] → ⊥
-not_nil x xs e = cc
+use Rattle.reo_refute_laws.proofs.Prefixes.{heads_same, tails_same}
 
 -- What is open behind a line.
 abbrev behind : Lists → Family → List Family → LogLine → List Family
@@ -29,10 +22,10 @@ behind lists f o (Split j) = branches lists f j ++ o
 module _ (net : Net) (lists : Lists) (allowed : ℕ → ℕ → Type 0) where
   step_is : (before now : List Family) (line : LogLine) → IsStep net lists allowed before line now → (f : Family) (o : List Family) → before ≡ f ∷ o → now ≡ behind lists f o line
   step_is before now line (drop live open' j v side may) f o e =
-      ap (λ (x : Family). without x j v ∷ open') (head_same live f open' o e) ∙ ap (λ (l : List Family). without f j v ∷ l) (tail_same live f open' o e)
-  step_is before now line (empty live open' j is) f o e = tail_same live f open' o e
+      ap (λ (x : Family). without x j v ∷ open') (heads_same live f open' o e) ∙ ap (λ (l : List Family). without f j v ∷ l) (tails_same live f open' o e)
+  step_is before now line (empty live open' j is) f o e = tails_same live f open' o e
   step_is before now line (split live open' j may) f o e =
-      ap (λ (x : Family). branches lists x j ++ open') (head_same live f open' o e) ∙ ap (λ (l : List Family). branches lists f j ++ l) (tail_same live f open' o e)
+      ap (λ (x : Family). branches lists x j ++ open') (heads_same live f open' o e) ∙ ap (λ (l : List Family). branches lists f j ++ l) (tails_same live f open' o e)
 
   -- Where no branch is open no line goes on.
   pub step_open : (before now : List Family) (line : LogLine) → IsStep net lists allowed before line now → before ≡ [] → ⊥
@@ -68,10 +61,10 @@ module _ (net : Net) (lists : Lists) (allowed : ℕ → ℕ → Type 0) where
   steps_cut before after lines steps [] ys e = record { now = before; first = none before; rest = subst (λ (l : List LogLine). AreSteps net lists allowed before l after) e steps }
   steps_cut before after lines (none o) (x ∷ xs) ys e = absurd (not_nil x (xs ++ ys) (sym e))
   steps_cut before after lines (more f now a line rest is steps) (x ∷ xs) ys e =
-      let c = steps_cut now a rest steps xs ys (tail_same line x rest (xs ++ ys) e) in
+      let c = steps_cut now a rest steps xs ys (tails_same line x rest (xs ++ ys) e) in
       record {
         now = c.now;
-        first = more f now c.now x xs (subst (λ (l : LogLine). IsStep net lists allowed f l now) (head_same line x rest (xs ++ ys) e) is) c.first;
+        first = more f now c.now x xs (subst (λ (l : LogLine). IsStep net lists allowed f l now) (heads_same line x rest (xs ++ ys) e) is) c.first;
         rest = c.rest;
       }
 
@@ -82,8 +75,8 @@ module _ (net : Net) (lists : Lists) (allowed : ℕ → ℕ → Type 0) where
   one_step : (before other : List Family) (lines : List LogLine) → AreSteps net lists allowed before lines other → (line : LogLine) → lines ≡ line ∷ [] → IsStep net lists allowed before line other
   one_step before other lines (none o) line e = absurd (not_nil line [] (sym e))
   one_step before other lines (more f now a first rest is steps) line e =
-      subst (λ (l : LogLine). IsStep net lists allowed f l a) (head_same first line rest [] e)
-      (subst (λ (o : List Family). IsStep net lists allowed f first o) (steps_stay now a rest steps (tail_same first line rest [] e)) is)
+      subst (λ (l : LogLine). IsStep net lists allowed f l a) (heads_same first line rest [] e)
+      (subst (λ (o : List Family). IsStep net lists allowed f first o) (steps_stay now a rest steps (tails_same first line rest [] e)) is)
 
   pub steps_same : (before a : List Family) (xs : List LogLine) → AreSteps net lists allowed before xs a → (b : List Family) (ys : List LogLine) → AreSteps net lists allowed before ys b → xs ≡ ys → a ≡ b
   steps_same before a xs (none o) b ys t e = steps_stay o b ys t (sym e)

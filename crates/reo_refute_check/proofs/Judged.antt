@@ -28,7 +28,7 @@ use Rattle.reo_refute_check.specs.Judging.{AreAllRead, ArePartsTaken, IsColoured
 abbrev AreApart : Lists → Type 0
 AreApart lists = (j : ℕ) → AreDistinct (items_at lists j)
 
-visit_apart : (net : Net) (j : ℕ) (old new : Lists) → AreApart old → IsVisited net j old new → AreApart new
+pub visit_apart : (net : Net) (j : ℕ) (old new : Lists) → AreApart old → IsVisited net j old new → AreApart new
 visit_apart net j old new apart v i = subst (λ (l : Lists). AreDistinct (items_at l i)) (sym v.after) (elim (cases_eq i j) [
   | inr off ↦ subst AreDistinct (sym (get_or-set_other old j i v.items [] off)) (apart i)
   | inl same ↦ elim (cases_lt j (length old)) [
@@ -41,11 +41,11 @@ visit_apart net j old new apart v i = subst (λ (l : Lists). AreDistinct (items_
   ]
 ])
 
-visits_apart : (net : Net) (n : ℕ) (old new : Lists) → AreVisited net n old new → AreApart old → AreApart new
+pub visits_apart : (net : Net) (n : ℕ) (old new : Lists) → AreVisited net n old new → AreApart old → AreApart new
 visits_apart net n old new (begun lists) apart = apart
 visits_apart net n old new (next k first now last before visit) apart = visit_apart net k now last (visits_apart net k first now before apart) visit
 
-passed_apart : (net : Net) (lists : Lists) → ArePassed net lists → AreApart lists
+pub passed_apart : (net : Net) (lists : Lists) → ArePassed net lists → AreApart lists
 passed_apart net lists (empty) j =
     let none : items_at lists j ≡ [] = get_or-map (λ _. []) net.joints j no_joint in
     subst AreDistinct (sym none) (λ m n d lt n_lt. absurd (omega (arith, n_lt)))

@@ -2,6 +2,7 @@
 use Rattle.std.proofs.Common.{◌≡◌, ◌≢◌, inl, inr, ℕ, ◌+◌, ◌≤◌, List, [], ◌∷◌, ◌++◌, length, refl, ap, sym, ◌∙◌, subst, append_assoc, arith}
 use Rattle.std.proofs.lemmas.Bool.{cases_eq}
 use Rattle.std.proofs.lemmas.List.{append-nil}
+use Rattle.reo_values.proofs.Sequences.{left_none, append_same}
 use Rattle.reo_net_base.specs.Net.{Net}
 use Rattle.reo_net_base.specs.First.{positions}
 use Rattle.reo_joint_values.specs.Values.{Family}
@@ -15,22 +16,14 @@ use Rattle.reo_refute_base.specs.Fronts.{IsBranchFront, ArePartsFront}
 use Rattle.reo_refute_base.specs.Fronts.ArePartsFront.{begun, inside, past}
 use Rattle.reo_refute_base.specs.Places.{IsAllowed, IsLive}
 use Rattle.reo_refute_base.specs.Steps.{AreSteps}
-use Rattle.reo_refute_laws.proofs.Prefixes.{cut_or}
+use Rattle.reo_refute_laws.proofs.Prefixes.{cut_or, heads_same, tails_same}
 use Rattle.reo_refute_laws.proofs.Reading.{branches_are_read}
 use Rattle.reo_refute_laws.proofs.Fronts.{fronts_are_read}
 use Rattle.reo_refute_check.specs.Judging.{Passes}
-use Rattle.reo_refute_check.proofs.Determined.{head_same, tail_same, steps_none, steps_cut, steps_same, branch_same}
+use Rattle.reo_refute_check.proofs.Determined.{steps_none, steps_cut, steps_same, branch_same}
 
 at_same : (p q : ℕ) → At p ≡ At q → p ≡ q
 at_same p q e = cc
-
-nil_first : {X : Type 0} (xs ys : List X) → xs ++ ys ≡ [] → xs ≡ []
-nil_first [] ys e = refl
-nil_first (x ∷ xs) ys e = absurd cc
-
-append_same : {X : Type 0} (xs a b : List X) → xs ++ a ≡ xs ++ b → a ≡ b
-append_same [] a b e = e
-append_same (x ∷ xs) a b e = append_same xs a b (tail_same x x (xs ++ a) (xs ++ b) e)
 
 module _ (net : Net) (turn : ℕ) (given : List ℕ) (lists : Lists) where
   -- Nothing is read at a place that is not live.
@@ -119,21 +112,21 @@ module _ (net : Net) (turn : ℕ) (given : List ℕ) (lists : Lists) where
       parts_rest : (from : ℕ) → from ≡ n → (lines rest : List LogLine) → lines ≡ At n ∷ (branch ++ rest) → AreParts net turn given lists from lines → AreParts net turn given lists (n + 1) rest
       parts_rest from f_is lines rest e (done g none_live) = absurd (none_live n (omega (arith, f_is)) live)
       parts_rest from f_is lines rest e (part g p other after first other_is later) =
-          let p_is : p ≡ n = at_same p n (head_same (At p) (At n) (other ++ after) (branch ++ rest) e) in
-          let same : after ≡ rest = rest_same other branch after rest (steps_of p p_is other other_is) (steps_of n refl branch is) (tail_same (At p) (At n) (other ++ after) (branch ++ rest) e) in
+          let p_is : p ≡ n = at_same p n (heads_same (At p) (At n) (other ++ after) (branch ++ rest) e) in
+          let same : after ≡ rest = rest_same other branch after rest (steps_of p p_is other other_is) (steps_of n refl branch is) (tails_same (At p) (At n) (other ++ after) (branch ++ rest) e) in
           subst (λ (q : ℕ). AreParts net turn given lists (q + 1) rest) p_is (subst (AreParts net turn given lists (p + 1)) same later)
 
       fronts_rest : (from : ℕ) (lines rest : List LogLine) → lines ≡ At n ∷ (branch ++ rest) → ArePartsFront net turn given lists from lines → ArePartsFront net turn given lists (n + 1) rest
       fronts_rest from lines rest e (begun g) = absurd (let wrong : [] ≡ At n ∷ (branch ++ rest) = e in cc)
       fronts_rest from lines rest e (inside g p front first front_is) =
-          let p_is : p ≡ n = at_same p n (head_same (At p) (At n) front (branch ++ rest) e) in
+          let p_is : p ≡ n = at_same p n (heads_same (At p) (At n) front (branch ++ rest) e) in
           let s = front_steps p p_is front front_is in
-          let c = steps_cut net lists (IsAllowed net turn given n) (all_live lists ∷ []) s.0 front s.1 branch rest (tail_same (At p) (At n) front (branch ++ rest) e) in
+          let c = steps_cut net lists (IsAllowed net turn given n) (all_live lists ∷ []) s.0 front s.1 branch rest (tails_same (At p) (At n) front (branch ++ rest) e) in
           let closed : c.now ≡ [] = sym (steps_same net lists (IsAllowed net turn given n) (all_live lists ∷ []) [] branch (steps_of n refl branch is) c.now branch c.first refl) in
           subst (ArePartsFront net turn given lists (n + 1)) (sym (steps_none net lists (IsAllowed net turn given n) c.now s.0 rest c.rest closed)) (begun (n + 1))
       fronts_rest from lines rest e (past g p other after first other_is later) =
-          let p_is : p ≡ n = at_same p n (head_same (At p) (At n) (other ++ after) (branch ++ rest) e) in
-          let same : after ≡ rest = rest_same other branch after rest (steps_of p p_is other other_is) (steps_of n refl branch is) (tail_same (At p) (At n) (other ++ after) (branch ++ rest) e) in
+          let p_is : p ≡ n = at_same p n (heads_same (At p) (At n) (other ++ after) (branch ++ rest) e) in
+          let same : after ≡ rest = rest_same other branch after rest (steps_of p p_is other other_is) (steps_of n refl branch is) (tails_same (At p) (At n) (other ++ after) (branch ++ rest) e) in
           subst (λ (q : ℕ). ArePartsFront net turn given lists (q + 1) rest) p_is (subst (ArePartsFront net turn given lists (p + 1)) same later)
 
       pub pass_live : Passes net turn given lists n (n + 1) (At n ∷ branch)
@@ -146,9 +139,9 @@ module _ (net : Net) (turn : ℕ) (given : List ℕ) (lists : Lists) where
     pub at_begins : (next : LogLine) (from : ℕ) (lines : List LogLine) → lines ≡ next ∷ [] → from ≡ n → ArePartsFront net turn given lists from lines → next ≡ At n
     at_begins next from lines e f_is (begun g) = absurd (let wrong : [] ≡ next ∷ [] = e in cc)
     at_begins next from lines e f_is (inside g p front first is) =
-        sym (head_same (At p) next front [] e) ∙ ap At (place_is p (subst (λ (k : ℕ). IsNextLive net turn given k p) f_is first))
+        sym (heads_same (At p) next front [] e) ∙ ap At (place_is p (subst (λ (k : ℕ). IsNextLive net turn given k p) f_is first))
     at_begins next from lines e f_is (past g p branch rest first is later) =
-        sym (head_same (At p) next (branch ++ rest) [] e) ∙ ap At (place_is p (subst (λ (k : ℕ). IsNextLive net turn given k p) f_is first))
+        sym (heads_same (At p) next (branch ++ rest) [] e) ∙ ap At (place_is p (subst (λ (k : ℕ). IsNextLive net turn given k p) f_is first))
 
     pub not_done : (from : ℕ) → from ≡ n → (lines : List LogLine) → lines ≡ [] → AreParts net turn given lists from lines → ⊥
     not_done from f_is lines e (done g none_live) = none_live n (omega (arith, f_is)) live
@@ -170,8 +163,8 @@ module _ (net : Net) (turn : ℕ) (given : List ℕ) (lists : Lists) where
       pub unfinished_for : (from : ℕ) → from ≡ n → (lines : List LogLine) → lines ≡ At n ∷ front → AreParts net turn given lists from lines → ⊥
       unfinished_for from f_is lines e (done g none_live) = none_live n (omega (arith, f_is)) live
       unfinished_for from f_is lines e (part g p other after first other_is later) =
-          let p_is : p ≡ n = at_same p n (head_same (At p) (At n) (other ++ after) front e) in
-          not_whole other after (steps_of p p_is other other_is) (sym (tail_same (At p) (At n) (other ++ after) front e))
+          let p_is : p ≡ n = at_same p n (heads_same (At p) (At n) (other ++ after) front e) in
+          not_whole other after (steps_of p p_is other other_is) (sym (tails_same (At p) (At n) (other ++ after) front e))
 
       module _ (next : LogLine) (stuck : (after : List Family) → Reads (front ++ (next ∷ [])) after → ⊥) where
         read_past : (ys after m : List LogLine) → Reads ys [] → ys ≡ front ++ m → m ++ after ≡ next ∷ [] → ⊥
@@ -179,21 +172,21 @@ module _ (net : Net) (turn : ℕ) (given : List ℕ) (lists : Lists) where
             let same : ys ≡ front = e ∙ append-nil front in
             open_is (steps_same net lists (IsAllowed net turn given n) (all_live lists ∷ []) now front steps [] ys t (sym same))
         read_past ys after (x ∷ m) t e f =
-            let one : x ≡ next = head_same x next (m ++ after) [] f in
-            let none : m ≡ [] = nil_first m after (tail_same x next (m ++ after) [] f) in
+            let one : x ≡ next = heads_same x next (m ++ after) [] f in
+            let none : m ≡ [] = left_none m after (tails_same x next (m ++ after) [] f) in
             let same : ys ≡ front ++ (next ∷ []) = e ∙ ap (λ (l : List LogLine). front ++ (x ∷ l)) none ∙ ap (λ (l : LogLine). front ++ (l ∷ [])) one in
             stuck [] (subst (λ (l : List LogLine). Reads l []) same t)
 
         pub wrong_for : (from : ℕ) (lines : List LogLine) → lines ≡ At n ∷ (front ++ (next ∷ [])) → ArePartsFront net turn given lists from lines → ⊥
         wrong_for from lines e (begun g) = let wrong : [] ≡ At n ∷ (front ++ (next ∷ [])) = e in cc
         wrong_for from lines e (inside g p other first other_is) =
-            let p_is : p ≡ n = at_same p n (head_same (At p) (At n) other (front ++ (next ∷ [])) e) in
+            let p_is : p ≡ n = at_same p n (heads_same (At p) (At n) other (front ++ (next ∷ [])) e) in
             let s = front_steps p p_is other other_is in
-            stuck s.0 (subst (λ (l : List LogLine). Reads l s.0) (tail_same (At p) (At n) other (front ++ (next ∷ [])) e) s.1)
+            stuck s.0 (subst (λ (l : List LogLine). Reads l s.0) (tails_same (At p) (At n) other (front ++ (next ∷ [])) e) s.1)
         wrong_for from lines e (past g p other after first other_is later) =
-            let p_is : p ≡ n = at_same p n (head_same (At p) (At n) (other ++ after) (front ++ (next ∷ [])) e) in
+            let p_is : p ≡ n = at_same p n (heads_same (At p) (At n) (other ++ after) (front ++ (next ∷ [])) e) in
             let t : Reads other [] = steps_of p p_is other other_is in
-            let both : other ++ after ≡ front ++ (next ∷ []) = tail_same (At p) (At n) (other ++ after) (front ++ (next ∷ [])) e in
+            let both : other ++ after ≡ front ++ (next ∷ []) = tails_same (At p) (At n) (other ++ after) (front ++ (next ∷ [])) e in
             elim (cut_or other after front (next ∷ []) both) [
               | inl c ↦ read_past other after c.0 t c.1 (append_same front (c.0 ++ after) (next ∷ []) (sym (append_assoc front c.0 after) ∙ ap (λ (l : List LogLine). l ++ after) (sym c.1) ∙ both))
               | inr c ↦ not_whole other c.0 t c.1

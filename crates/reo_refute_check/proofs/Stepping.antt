@@ -1,5 +1,5 @@
 -- One line of a branch.
-use Rattle.std.proofs.Common.{◌≡◌, ◌≢◌, ℕ, Bool, cond, List, [], ◌∷◌, ◌++◌, Err, None, refl, ap, sym, ◌∙◌, subst}
+use Rattle.std.proofs.Common.{◌≡◌, ℕ, Bool, cond, List, [], ◌∷◌, ◌++◌, Err, None, refl, ap, sym, ◌∙◌, subst}
 use Rattle.reo_net_base.specs.Net.{Net}
 use Rattle.reo_joint_values.specs.declared.value.JointValue.{JointValue}
 use Rattle.reo_joint_values.specs.Values.{Family}
@@ -10,6 +10,7 @@ use Rattle.reo_refute_base.specs.Live.{without}
 use Rattle.reo_refute_base.specs.Logs.{MayGo, IsEmpty, MaySplit}
 use Rattle.reo_refute_base.specs.Steps.{branches, IsStep}
 use Rattle.reo_refute_base.specs.Steps.IsStep.{drop, empty, split}
+use Rattle.reo_refute_laws.proofs.Prefixes.{heads_same}
 use Rattle.reo_refute_support.specs.Families.{family_of}
 use Rattle.reo_refute_live.specs.declared.live.Live.{Live}
 use Rattle.reo_refute_live.specs.Open.{open_in, still_open}
@@ -18,13 +19,8 @@ use Rattle.reo_refute_check.specs.declared.stop.Stop.{Stop}
 use Rattle.reo_refute_check.specs.declared.stop.Stop.TheVariants.{Line}
 use Rattle.reo_refute_check.specs.Reading.{IsNext, Takes}
 use Rattle.reo_refute_check.specs.Judging.{IsStepRead, IsStepTaken}
-use Rattle.reo_refute_check.proofs.Determined.{head_same, step_at}
+use Rattle.reo_refute_check.proofs.Determined.{step_at}
 use Rattle.reo_refute_check.proofs.Taking.{only_line}
-
--- A list that cannot be other than empty.
-pub nil_of : {X : Type 0} (xs : List X) → (xs ≢ [] → ⊥) → xs ≡ []
-nil_of [] h = refl
-nil_of (x ∷ xs) h = absurd (h (λ e. cc))
 
 module _ (net : Net) (lists : Lists) (allowed : ℕ → ℕ → Type 0) where
   drop_joint : (a j : ℕ) (b v : JointValue) (c s : ℕ) → Drop a b c ≡ Drop j v s → a ≡ j
@@ -40,7 +36,7 @@ module _ (net : Net) (lists : Lists) (allowed : ℕ → ℕ → Type 0) where
   pub drop_asks : (before after : List Family) (line : LogLine) → IsStep net lists allowed before line after → (f : Family) (o : List Family) (j : ℕ) (v : JointValue) (side : ℕ)
       → before ≡ f ∷ o → line ≡ Drop j v side → MayGo net lists allowed f j v side
   drop_asks before after line (drop live open' a b c may) f o j v side e l =
-      subst (λ (x : Family). MayGo net lists allowed x j v side) (head_same live f open' o e)
+      subst (λ (x : Family). MayGo net lists allowed x j v side) (heads_same live f open' o e)
       (subst (λ (x : ℕ). MayGo net lists allowed live j v x) (drop_side a j b v c side l)
       (subst (λ (x : JointValue). MayGo net lists allowed live j x c) (drop_value a j b v c side l)
       (subst (λ (x : ℕ). MayGo net lists allowed live x b c) (drop_joint a j b v c side l) may)))
@@ -57,7 +53,7 @@ module _ (net : Net) (lists : Lists) (allowed : ℕ → ℕ → Type 0) where
       → before ≡ f ∷ o → line ≡ Empty j → IsEmpty net lists f j
   empty_asks before after line (drop live open' a b c may) f o j e l = absurd (let wrong : Drop a b c ≡ Empty j = l in cc)
   empty_asks before after line (empty live open' a is) f o j e l =
-      subst (λ (x : Family). IsEmpty net lists x j) (head_same live f open' o e) (subst (IsEmpty net lists live) (empty_joint a j l) is)
+      subst (λ (x : Family). IsEmpty net lists x j) (heads_same live f open' o e) (subst (IsEmpty net lists live) (empty_joint a j l) is)
   empty_asks before after line (split live open' a may) f o j e l = absurd (let wrong : Split a ≡ Empty j = l in cc)
 
   pub split_asks : (before after : List Family) (line : LogLine) → IsStep net lists allowed before line after → (f : Family) (o : List Family) (j : ℕ)
@@ -65,7 +61,7 @@ module _ (net : Net) (lists : Lists) (allowed : ℕ → ℕ → Type 0) where
   split_asks before after line (drop live open' a b c may) f o j e l = absurd (let wrong : Drop a b c ≡ Split j = l in cc)
   split_asks before after line (empty live open' a is) f o j e l = absurd (let wrong : Empty a ≡ Split j = l in cc)
   split_asks before after line (split live open' a may) f o j e l =
-      subst (λ (x : Family). MaySplit net lists x j) (head_same live f open' o e) (subst (MaySplit net lists live) (split_joint a j l) may)
+      subst (λ (x : Family). MaySplit net lists x j) (heads_same live f open' o e) (subst (MaySplit net lists live) (split_joint a j l) may)
 
   module _ (live after : Live) (old new : Lines) where
     -- A line was read that does not go on.

@@ -56,7 +56,7 @@ is_next old new line short numbered text count =
       less = omega (arith, long, line_some line);
     }
 
-all_one : (line : LogLine) → IsNumbered line → All IsNumbered (line ∷ [])
+pub all_one : (line : LogLine) → IsNumbered line → All IsNumbered (line ∷ [])
 all_one line is k d lt = one k d lt
   where
     one : (k : ℕ) (d : LogLine) → k < 1 → IsNumbered (get_or (line ∷ []) k d)

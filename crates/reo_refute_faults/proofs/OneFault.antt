@@ -1,11 +1,10 @@
 -- A log has one answer, unless memory ends.
-use Rattle.std.proofs.Common.{◌≡◌, inl, inr, ℕ, ◌+◌, ◌<◌, List, Option, None, Some, get_or, refl, ap, sym, ◌∙◌, subst, arith}
+use Rattle.std.proofs.Common.{◌≡◌, inl, inr, ℕ, ◌+◌, ◌<◌, List, Option, None, get_or, refl, ap, sym, ◌∙◌, subst, arith}
 use Rattle.std.proofs.lemmas.Bool.{cases_eq}
 use Rattle.reo_values.specs.declared.value.Value.{Value}
-use Rattle.reo_net_base.specs.declared.joint.Joint.{Joint as JointEnds}
 use Rattle.reo_net_base.specs.Net.{Net}
 use Rattle.reo_net_base.specs.Sides.{AreRowsOf}
-use Rattle.reo_net_base.specs.Colouring.{RowsFit, IsFilled, ItemFits}
+use Rattle.reo_net_base.specs.Colouring.{RowsFit, IsFilled}
 use Rattle.reo_net_base.specs.Wired.{IsWired, IsOrder}
 use Rattle.reo_net_laws.proofs.Orders.{no_joint}
 use Rattle.reo_net_laws.proofs.Sides.{below_or, rows_length, row_below, side_in, side_is}
@@ -13,11 +12,11 @@ use Rattle.reo_net_base.specs.Net.{no_side, all_sides, first_side, behaviour_at}
 use Rattle.reo_net_colouring.proofs.ItemLemmas.{filled_from, filled_one}
 use Rattle.reo_checker.specs.declared.wrong.Wrong.{Wrong}
 use Rattle.reo_checker.specs.declared.wrong.Wrong.TheVariants.{Count, Row, Joint, Item}
-use Rattle.reo_checker.specs.Faults.{side_row, ItemFails, AreWrongRows, IsWrong, IsRowFault, IsJointFault, IsItemFault}
+use Rattle.reo_checker.specs.Faults.{side_row, AreWrongRows, IsWrong, IsRowFault, IsJointFault, IsItemFault}
 use Rattle.reo_refute_laws.proofs.OneAnswer.{right_or_wrong, one_wrong_line}
 use Rattle.reo_refute_faults.specs.Faults.{HasColouring, AreWrongItems, AreNoColouring, ProofOrFault, OneFault}
 use Rattle.reo_refute_faults.specs.declared.fault.ProofFault.TheVariants.{Colouring, Wide, Line, NoMemory}
-use Rattle.reo_checker.proofs.ExactLemmas.{wrong_rows, wrong_colouring}
+use Rattle.reo_checker.proofs.ExactLemmas.{wrong_rows, wrong_colouring, fails_fits}
 
 -- Of two least places neither is below the other.
 leasts : (i k : ℕ) → (i < k → ⊥) → (k < i → ⊥) → i ≡ k
@@ -25,12 +24,6 @@ leasts i k below above = elim (below_or i k) [
   | inl lt ↦ absurd (below lt)
   | inr le ↦ elim (cases_eq i k) [ inl same ↦ same | inr other ↦ absurd (above (omega (arith, le, other))) ]
 ]
-
-fails_fits : (net : Net) (rows : List ℕ) (items : List (Option Value)) (j : JointEnds) (o : Option Value) → ItemFails net rows items j o → ItemFits net rows items j o → ⊥
-fails_fits net rows items j None flows none = none flows
-fails_fits net rows items j (Some item) (inl dry) has = dry has.flows
-fails_fits net rows items j (Some item) (inr (inl other)) has = other has.given
-fails_fits net rows items j (Some item) (inr (inr out)) has = let in_ = has.let_in in absurd cc
 
 row_earlier : (net : Net) (rows : List ℕ) (i k : ℕ) → IsRowFault net rows i → IsRowFault net rows k → i < k → ⊥
 row_earlier net rows i k a b lt =

@@ -1,8 +1,9 @@
 -- A branch leaves no choice of live values that allowed rows fit.
-use Rattle.std.proofs.Common.{◌≡◌, inl, inr, ℕ, suc, ◌<◌, ◌==◌, ◌&&◌, ◌||◌, not, List, [], ◌∷◌, Bool, true, false, cond, length, get_or, filter, Contains, ap, sym, ◌∙◌, subst, arith}
+use Rattle.std.proofs.Common.{◌≡◌, inl, inr, ℕ, suc, ◌<◌, ◌==◌, ◌&&◌, not, List, [], ◌∷◌, Bool, true, false, cond, length, get_or, filter, Contains, ap, sym, ◌∙◌, subst, arith}
 use Rattle.std.proofs.lemmas.List.{get_or_default}
 use Rattle.std.proofs.lemmas.Bool.{cases_Bool}
 use Rattle.std.proofs.lemmas.Bool.Decides.{nat_tests}
+use Rattle.reo_values.proofs.Truths.{and_both, and_or_left, and_or_right}
 use Rattle.reo_net_base.specs.Net.{Net}
 use Rattle.reo_net_base.specs.Sides.{side_count}
 use Rattle.reo_net_base.specs.Wired.{IsWired}
@@ -56,20 +57,11 @@ pub side_below : (net : Net) → IsWired net → (j side : ℕ) → j < length n
 side_below net wired j side lt (inl here) = subst (λ (s : ℕ). s < side_count net) here (side_in_range net wired (joint_of net j).giver (wired.givers j no_joint lt))
 side_below net wired j side lt (inr here) = subst (λ (s : ℕ). s < side_count net) here (side_in_range net wired (joint_of net j).taker (wired.takers j no_joint lt))
 
-and_parts : (a b : Bool) → a && b ≡ true → (a ≡ true) × (b ≡ true)
-and_parts a b h = grind (arith, nat_tests)
-
 eq_from : (i j : ℕ) → i == j ≡ true → i ≡ j
 eq_from i j h = grind (arith, nat_tests)
 
 and_not : (a b : Bool) → a ≡ true → b ≡ false → a && not b ≡ true
 and_not a b h e = grind (arith, nat_tests)
-
-and_or_left : (a b c : Bool) → a ≡ true → b ≡ false → a && (not b || c) ≡ true
-and_or_left a b c h e = grind (arith, nat_tests)
-
-and_or_right : (a b c : Bool) → a ≡ true → c ≡ true → a && (not b || c) ≡ true
-and_or_right a b c h e = grind (arith, nat_tests)
 
 module _ (net : Net) (wired : IsWired net) (lists : Lists) (allowed : ℕ → ℕ → Type 0) (rows : ℕ → ℕ) (choice : Choice) (fitting : IsFitting net lists allowed rows choice) where
   -- The values of the choice are live.
@@ -81,7 +73,7 @@ module _ (net : Net) (wired : IsWired net) (lists : Lists) (allowed : ℕ → �
   stay live j v side may are i lt =
       elim (cases_Bool ((i == j) && value_eq (choice i) v)) [
         | inl holds ↦
-            let parts = and_parts (i == j) (value_eq (choice i) v) holds in
+            let parts = and_both (i == j) (value_eq (choice i) v) holds in
             let here : i ≡ j = eq_from i j parts.0 in
             let chosen : choice j ≡ v = ap choice (sym here) ∙ same_value (choice i) v parts.1 in
             let below : side < side_count net = side_below net wired j side may.in_range may.at_side in

@@ -4,6 +4,7 @@ use Rattle.std.proofs.lemmas.List.{get_or_default}
 use Rattle.std.proofs.lemmas.List.FromFn.{get_or-map-range_with_len}
 use Rattle.std.proofs.lemmas.Bool.{cases_eq}
 use Rattle.reo_values.specs.declared.value.Value.{Value}
+use Rattle.reo_values.proofs.Naturals.{lt_true, true_lt}
 use Rattle.reo_net_base.specs.declared.joint.Joint.{Joint}
 use Rattle.reo_net_base.specs.Net.{Net, all_sides, side_at}
 use Rattle.reo_net_base.specs.Sides.{side_count, AreRowsOf}
@@ -31,7 +32,7 @@ use Rattle.reo_refute_laws.specs.Singles.{IsSingle, LogsExist}
 use Rattle.reo_refute_laws.proofs.Branches.{filter_has}
 use Rattle.reo_refute_laws.proofs.Deciding.{places_decide}
 use Rattle.reo_refute_laws.proofs.Growing.{first_below, filtered}
-use Rattle.reo_refute_laws.proofs.Refuting.{everywhere, lt_true, true_lt, closed, all_among}
+use Rattle.reo_refute_laws.proofs.Refuting.{everywhere, closed, all_among}
 use Rattle.reo_refute_laws.proofs.Supporting.{branch_or_single}
 use Rattle.reo_refute_laws.proofs.Telling.{live_places_are_told}
 

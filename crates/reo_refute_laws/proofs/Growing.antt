@@ -4,6 +4,7 @@ use Rattle.std.proofs.lemmas.List.{get_or_append_left, get_or_push, length_push}
 use Rattle.std.proofs.lemmas.List.Elements.{filter_passes, All-contains}
 use Rattle.std.proofs.lemmas.Bool.{cases_eq, cases_Bool}
 use Rattle.std.proofs.lemmas.Bool.Decides.{nat_tests}
+use Rattle.reo_values.proofs.Truths.{and_left}
 use Rattle.reo_net_base.specs.Net.{Net}
 use Rattle.reo_joint_values.specs.declared.value.JointValue.{JointValue}
 use Rattle.reo_joint_values.specs.Values.{Family, value_eq, giver_side, taker_side, AtSide}
@@ -50,7 +51,7 @@ pub filtered : {X : Type 0} (p : X → Bool) (xs : List X) (x : X) → Contains 
 filtered p xs x has = All-contains (λ y. p y ≡ true) (filter p xs) x (filter_passes p xs) has
 
 -- A test that holds less often keeps no more.
-kept_fewer : {X : Type 0} (p q : X → Bool) (xs : List X) → ((x : X) → p x ≡ true → q x ≡ true) → length (filter p xs) ≤ length (filter q xs)
+pub kept_fewer : {X : Type 0} (p q : X → Bool) (xs : List X) → ((x : X) → p x ≡ true → q x ≡ true) → length (filter p xs) ≤ length (filter q xs)
 kept_fewer p q [] sub = omega arith
 kept_fewer p q (y ∷ ys) sub =
     let rest = kept_fewer p q ys sub in
@@ -59,7 +60,7 @@ kept_fewer p q (y ∷ ys) sub =
       | inr off ↦ elim (cases_Bool (q y)) [ inl has ↦ rw (off, has) (omega (arith, rest)) | inr none ↦ rw (off, none) rest ]
     ]
 
-kept_less : {X : Type 0} (p q : X → Bool) (xs : List X) → ((x : X) → p x ≡ true → q x ≡ true) → (x : X) → Contains (filter q xs) x → p x ≡ false → length (filter p xs) < length (filter q xs)
+pub kept_less : {X : Type 0} (p q : X → Bool) (xs : List X) → ((x : X) → p x ≡ true → q x ≡ true) → (x : X) → Contains (filter q xs) x → p x ≡ false → length (filter p xs) < length (filter q xs)
 kept_less p q [] sub x has off = absurd (omega (arith, has.1))
 kept_less p q (y ∷ ys) sub x has off =
     let rest = kept_fewer p q ys sub in
@@ -96,13 +97,10 @@ count_less lists now live sub j less (suc n) lt =
       | inr other ↦ omega (arith, count_less lists now live sub j less n (omega (arith, lt, other)), kept_fewer (now n) (live n) (values_of lists n) (sub n))
     ]
 
-and_first : (a b : Bool) → a && b ≡ true → a ≡ true
-and_first a b h = grind (arith, nat_tests)
-
-off_at : (a : Bool) (j : ℕ) (e : Bool) → e ≡ true → a && not ((j == j) && e) ≡ false
+pub off_at : (a : Bool) (j : ℕ) (e : Bool) → e ≡ true → a && not ((j == j) && e) ≡ false
 off_at a j e h = grind (arith, nat_tests)
 
-off_beside : (a : Bool) (j : ℕ) (e : Bool) → e ≡ false → a && (not (j == j) || e) ≡ false
+pub off_beside : (a : Bool) (j : ℕ) (e : Bool) → e ≡ false → a && (not (j == j) || e) ≡ false
 off_beside a j e h = grind (arith, nat_tests)
 
 pieces_from : (n : ℕ) (P : ℕ → List LogLine → Type 0) → ((m : ℕ) → m < n → (lines : List LogLine) × P m lines)
@@ -175,10 +173,10 @@ module _ (net : Net) (lists : Lists) (allowed : ℕ → ℕ → Type 0) (told : 
       ]
 
   drop_part : (live : Family) (j : ℕ) (v : JointValue) → IsPartOf (without live j v) live
-  drop_part live j v i w h = and_first (live i w) (not ((i == j) && value_eq w v)) h
+  drop_part live j v i w h = and_left (live i w) (not ((i == j) && value_eq w v)) h
 
   alone_part : (live : Family) (j : ℕ) (v : JointValue) → IsPartOf (alone live j v) live
-  alone_part live j v i w h = and_first (live i w) (not (i == j) || value_eq w v) h
+  alone_part live j v i w h = and_left (live i w) (not (i == j) || value_eq w v) h
 
   drop_less : (live : Family) (j : ℕ) → j < length net.joints → (v : JointValue) → Contains (live_at lists live j) v
       → count_to lists (without live j v) (length net.joints) < count_to lists live (length net.joints)

@@ -6,7 +6,6 @@ use Rattle.std.proofs.lemmas.List.Elements.{Contains-append_left, Contains-appen
 use Rattle.std.proofs.lemmas.List.Sums.{position_or_len_is}
 use Rattle.std.proofs.lemmas.List.FromFn.{get_or-range_with_len, length-range_with_len}
 use Rattle.std.proofs.lemmas.Bool.{cases_eq, cases_Bool}
-use Rattle.std.proofs.lemmas.Bool.Decides.{nat_tests}
 use Rattle.reo_values.specs.declared.value.Value.{Value}
 use Rattle.reo_net_base.specs.declared.mark.Mark.{Mark}
 use Rattle.reo_net_base.specs.declared.joint.End.{End}
@@ -22,6 +21,7 @@ use Rattle.reo_joint_values.specs.Values.{no_joint}
 use Rattle.reo_joint_values.specs.Fitting.{given_for, passes_in}
 use Rattle.reo_joint_values.specs.Standing.{giver_of, taker_of, FlowsAt, CanStand, given_in as reach_given, passes_in as reach_passes}
 use Rattle.reo_joint_values.specs.Standing.CanStand.{alone, passed}
+use Rattle.reo_joint_values.proofs.StandLemmas.{end_self}
 use Rattle.reo_refute_base.specs.Items.{Lists, items_at, joint_into, listed, given_on, given_from, given_by, plain_rows, offered_at, IsAdded, IsVisited, AreVisited, ArePassed, AreItemLists}
 use Rattle.reo_refute_base.specs.Items.IsAdded.{none, known, fresh}
 use Rattle.reo_refute_base.specs.Items.AreVisited.{begun, next}
@@ -150,9 +150,6 @@ same_given net row e o = refl
 pub same_passes : (net : Net) (row : ℕ) (e : End) (x : Value) → reach_passes net row e x ≡ passes_in net row e x
 unfolding reach_passes passes_in
 same_passes net row e x = refl
-
-end_self : (e : End) → end_eq e e ≡ true
-end_self e = grind (arith, nat_tests)
 
 pub joint_is : (net : Net) → IsWired net → (e : End) (k : ℕ) → k < length net.joints → taker_of net k ≡ e → joint_into net e ≡ k
 joint_is net wired e k lt is =

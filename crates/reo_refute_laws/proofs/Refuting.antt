@@ -5,8 +5,8 @@ use Rattle.std.proofs.lemmas.List.{get_or-map, length-map}
 use Rattle.std.proofs.lemmas.List.Elements.{Contains-append_left, Contains-append_right}
 use Rattle.std.proofs.lemmas.Option.{slice_get-get_or, slice_get_past}
 use Rattle.std.proofs.lemmas.Bool.{cases_eq}
-use Rattle.std.proofs.lemmas.Bool.Decides.{nat_tests}
 use Rattle.reo_values.specs.declared.value.Value.{Value}
+use Rattle.reo_values.proofs.Naturals.{lt_true, true_lt}
 use Rattle.reo_net_order.specs.Arrows.{OrderHasNoCycle}
 use Rattle.reo_net_base.specs.Net.{Net, all_sides, side_at, from_sides, to_sides}
 use Rattle.reo_net_base.specs.Sides.{side_count}
@@ -48,12 +48,6 @@ branch_of net turn given lists from log (part f q branch rest next is parts) p l
 -- All sides, as a test.
 abbrev pub everywhere : Net → ℕ → Bool
 everywhere net s = nat_lt s (side_count net)
-
-pub lt_true : (a b : ℕ) → a < b → nat_lt a b ≡ true
-lt_true a b h = grind (arith, nat_tests)
-
-pub true_lt : (a b : ℕ) → nat_lt a b ≡ true → a < b
-true_lt a b h = grind (arith, nat_tests)
 
 map_has : {X Y : Type 0} (f : X → Y) (xs : List X) (x : X) → Contains xs x → Contains (map f xs) (f x)
 map_has f xs x has = (has.0, subst (λ (n : ℕ). has.0 < n) (sym (length-map xs f)) has.1, get_or-map f xs has.0 x (f x) has.1 ∙ ap f has.2)

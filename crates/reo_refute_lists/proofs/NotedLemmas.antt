@@ -1,11 +1,12 @@
 -- Noting items one after another.
-use Rattle.std.proofs.Common.{◌≡◌, inl, inr, ℕ, ◌+◌, ◌<◌, ◌≤◌, List, [], ◌∷◌, ◌++◌, length, get_or, take, map, refl, ap, sym, ◌∙◌, subst, append_assoc, arith}
+use Rattle.std.proofs.Common.{◌≡◌, inl, inr, ℕ, ◌+◌, ◌<◌, List, [], ◌∷◌, ◌++◌, length, get_or, take, ap, sym, ◌∙◌, subst, append_assoc, arith}
 use Rattle.std.specs.Prelude.{Contains}
 use Rattle.std.specs.List.{flat_map, range_with_len}
 use Rattle.std.proofs.lemmas.List.{take_more, flat_map_more}
 use Rattle.std.proofs.lemmas.List.FromFn.{map-range_with_len_more}
 use Rattle.std.proofs.lemmas.List.Elements.{Contains-append_left, Contains-append_right, Contains-append_cases}
 use Rattle.reo_values.specs.declared.value.Value.{Value}
+use Rattle.reo_values.proofs.Sequences.{map_same}
 use Rattle.reo_joint_values.specs.Many.{AreDistinct}
 use Rattle.reo_joint_values.proofs.Distinct.{distinct_push}
 use Rattle.reo_refute_base.specs.Items.{IsAdded}
@@ -47,10 +48,6 @@ pub noted_next : (f : Value → List Value) (xs : List Value) (i : ℕ) (d : Val
     → IsNoted old a (flat_map f (take (i + 1) xs)) c
 noted_next f xs i d lt old a b c first next =
     subst (λ (l : List Value). IsNoted old a (flat_map f l) c) (sym (take_more xs i d lt)) (noted_more f (take i xs) (get_or xs i d) old a b c first next)
-
-map_same : (xs : List ℕ) → map (λ (n : ℕ). n) xs ≡ xs
-map_same [] = refl
-map_same (x ∷ xs) = ap (λ (l : List ℕ). x ∷ l) (map_same xs)
 
 pub range_more : (n : ℕ) → range_with_len 0 (n + 1) ≡ range_with_len 0 n ++ n ∷ []
 range_more n =

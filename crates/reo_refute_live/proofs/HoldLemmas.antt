@@ -3,13 +3,14 @@ use Rattle.std.proofs.Common.{◌≡◌, inl, inr, ℕ, zero, suc, ◌+◌, ◌<
 use Rattle.std.specs.Prelude.{filter}
 use Rattle.std.specs.Bool.{◌==◌}
 use Rattle.std.specs.List.{range_with_len}
-use Rattle.std.proofs.lemmas.Bool.{cases_eq, cases_Bool}
+use Rattle.std.proofs.lemmas.Bool.{cases_eq, cases_Bool, or_left, or_right}
 use Rattle.std.proofs.lemmas.Bool.Decides.{nat_tests}
 use Rattle.std.proofs.lemmas.List.{take_more, take_all}
+use Rattle.reo_values.proofs.Naturals.{eq_same}
+use Rattle.reo_values.proofs.Truths.{not_false}
 use Rattle.reo_joint_values.specs.declared.value.JointValue.{JointValue}
 use Rattle.reo_joint_values.specs.declared.value.JointValue.TheVariants.{Flow, RG, GR, GG, Jam}
 use Rattle.reo_joint_values.specs.Values.{Family, value_eq}
-use Rattle.reo_joint_values.proofs.Equal.{eq_same}
 use Rattle.reo_joint_values.proofs.Narrowing.{same_value}
 use Rattle.reo_refute_base.specs.Items.{Lists, items_at}
 use Rattle.reo_refute_base.specs.Live.{all_live, live_at, values_of, without, alone}
@@ -35,12 +36,6 @@ or_none a = grind (arith, nat_tests)
 among_last : (w v : JointValue) (xs : List JointValue) → is_among w (xs ++ (v ∷ [])) ≡ is_among w xs || value_eq w v
 among_last w v xs = among_append w xs (v ∷ []) ∙ ap (λ (b : Bool). is_among w xs || b) (or_none (value_eq w v))
 
-or_here : (a b : Bool) → a ≡ true → a || b ≡ true
-or_here a b h = grind (arith, nat_tests)
-
-or_there : (a b : Bool) → b ≡ true → a || b ≡ true
-or_there a b h = grind (arith, nat_tests)
-
 or_rest : (a b : Bool) → a ≡ false → a || b ≡ true → b ≡ true
 or_rest a b h k = grind (arith, nat_tests)
 
@@ -50,11 +45,11 @@ among_filter p w [] h is = is
 among_filter p w (v ∷ vs) h is = elim (cases_Bool (value_eq w v)) [
   | inl same ↦
       let here : p v ≡ true = ap p (sym (same_value w v same)) ∙ h in
-      subst (λ (b : Bool). is_among w (cond b (v ∷ filter p vs) (filter p vs)) ≡ true) (sym here) (or_here (value_eq w v) (is_among w (filter p vs)) same)
+      subst (λ (b : Bool). is_among w (cond b (v ∷ filter p vs) (filter p vs)) ≡ true) (sym here) (or_left (value_eq w v) (is_among w (filter p vs)) same)
   | inr other ↦
       let rest = among_filter p w vs h (or_rest (value_eq w v) (is_among w vs) other is) in
       elim (p v) as (λ b. is_among w (cond b (v ∷ filter p vs) (filter p vs)) ≡ true) [
-        | true ↦ or_there (value_eq w v) (is_among w (filter p vs)) rest
+        | true ↦ or_right (value_eq w v) (is_among w (filter p vs)) rest
         | false ↦ rest
       ]
 ]
@@ -65,8 +60,8 @@ same_number n = grind (arith, nat_tests)
 among_flows : (n k count : ℕ) → k ≤ n → n < k + count → is_among (Flow n) (map Flow (range_with_len k count)) ≡ true
 among_flows n k zero le lt = absurd (omega (arith, le, lt))
 among_flows n k (suc count) le lt = elim (cases_eq n k) [
-  | inl e ↦ or_here (n == k) (is_among (Flow n) (map Flow (range_with_len (k + 1) count))) (subst (λ (m : ℕ). (n == m) ≡ true) e (same_number n))
-  | inr off ↦ or_there (n == k) (is_among (Flow n) (map Flow (range_with_len (k + 1) count))) (among_flows n (k + 1) count (omega (arith, le, off)) (omega (arith, lt)))
+  | inl e ↦ or_left (n == k) (is_among (Flow n) (map Flow (range_with_len (k + 1) count))) (subst (λ (m : ℕ). (n == m) ≡ true) e (same_number n))
+  | inr off ↦ or_right (n == k) (is_among (Flow n) (map Flow (range_with_len (k + 1) count))) (among_flows n (k + 1) count (omega (arith, le, off)) (omega (arith, lt)))
 ]
 
 below_from : (k n : ℕ) → nat_lt n k ≡ true → n < k
@@ -80,12 +75,12 @@ module _ (lists : Lists) (joint : ℕ) where
   marks = RG ∷ GR ∷ GG ∷ Jam ∷ []
 
   in_marks : (w : JointValue) → is_among w marks ≡ true → is_among w (values_of lists joint) ≡ true
-  in_marks w is = among_append w flows marks ∙ or_there (is_among w flows) (is_among w marks) is
+  in_marks w is = among_append w flows marks ∙ or_right (is_among w flows) (is_among w marks) is
 
   all_among : (w : JointValue) → all_live lists joint w ≡ true → is_among w (values_of lists joint) ≡ true
   all_among (Flow n) is =
       let lt : n < 0 + length (items_at lists joint) = omega (arith, below_from (length (items_at lists joint)) n is) in
-      among_append (Flow n) flows marks ∙ or_here (is_among (Flow n) flows) (is_among (Flow n) marks) (among_flows n 0 (length (items_at lists joint)) (omega arith) lt)
+      among_append (Flow n) flows marks ∙ or_left (is_among (Flow n) flows) (is_among (Flow n) marks) (among_flows n 0 (length (items_at lists joint)) (omega arith) lt)
   all_among RG is = in_marks RG refl
   all_among GR is = in_marks GR refl
   all_among GG is = in_marks GG refl
@@ -121,9 +116,6 @@ all_held a false m q h = grind (arith, nat_tests)
 
 and_left : (a b : Bool) → a && b ≡ false → a ≡ true → b ≡ false
 and_left a b h k = grind (arith, nat_tests)
-
-not_back : (a : Bool) → not a ≡ false → a ≡ true
-not_back a h = grind (arith, nat_tests)
 
 and_both : (a b : Bool) → a && not b ≡ true → (a ≡ true) × (b ≡ false)
 and_both true false h = (refl, refl)
@@ -164,7 +156,7 @@ module _ (live : Family) (joint : ℕ) (keep : JointValue) where
           at : (j : ℕ) (w : JointValue) → held live joint keep (take n vs) j w ≡ held live joint keep (take (n + 1) vs) j w
           at j w = elim (cases_Bool (now joint v)) [
             | inl on ↦
-                let kept : value_eq v keep ≡ true = not_back (value_eq v keep) (and_left (now joint v) (not (value_eq v keep)) stays on) in
+                let kept : value_eq v keep ≡ true = not_false (value_eq v keep) (and_left (now joint v) (not (value_eq v keep)) stays on) in
                 let yes : value_eq w v ≡ true → value_eq w keep ≡ true = λ same. ap (λ (x : JointValue). value_eq x keep) (same_value w v same) ∙ kept in
                 left_in (live j w) (j == joint) (is_among w (take n vs)) (value_eq w v) (value_eq w keep) yes ∙ by_among j w
             | inr dead ↦

@@ -5,10 +5,10 @@ use Rattle.std.proofs.lemmas.Bool.Decides.{nat_tests}
 use Rattle.std.proofs.lemmas.List.{length-replicate, length-set, length-map, get_or-replicate, get_or_past, get_or-set_same, get_or-set_other, map-append, take_more}
 use Rattle.std.proofs.Math.ListN.{get_or-map}
 use Rattle.reo_values.specs.declared.value.Value.{Value}
+use Rattle.reo_values.proofs.Naturals.{same_eq, other_eq}
 use Rattle.reo_joint_values.specs.declared.value.JointValue.{JointValue}
 use Rattle.reo_joint_values.specs.declared.value.JointValue.TheVariants.{Flow, RG, GR, GG, Jam}
 use Rattle.reo_joint_values.specs.Values.{value_eq}
-use Rattle.reo_joint_values.proofs.Equal.{same_eq, other_eq}
 use Rattle.reo_refute_base.specs.Items.{Lists, items_at}
 use Rattle.reo_refute_base.specs.Live.{all_live, without}
 use Rattle.reo_refute_support.specs.declared.live.LiveAt.{LiveAt}

@@ -6,11 +6,11 @@ use Rattle.std.proofs.lemmas.Bool.{cases_eq, cases_Bool}
 use Rattle.std.proofs.lemmas.Bool.Decides.{nat_tests}
 use Rattle.std.proofs.lemmas.List.{drop-append-le, drop_all, get_or_append_left}
 use Rattle.std.proofs.Math.Seq.{get_or-append_seam}
+use Rattle.reo_values.proofs.Naturals.{is_below, other_eq}
 use Rattle.reo_net_laws.proofs.Sides.{below_or}
 use Rattle.reo_joint_values.specs.declared.value.JointValue.{JointValue}
 use Rattle.reo_joint_values.specs.declared.value.JointValue.TheVariants.{Flow, RG, GR, GG, Jam}
 use Rattle.reo_joint_values.specs.Values.{Family, value_eq}
-use Rattle.reo_joint_values.proofs.Equal.{other_eq}
 use Rattle.reo_joint_values.proofs.Narrowing.{same_value}
 use Rattle.reo_refute_base.specs.Items.{Lists, items_at}
 use Rattle.reo_refute_base.specs.Live.{all_live, without}
@@ -101,14 +101,10 @@ all_more P xs x all last k d lt = elim (below_or k (length xs)) [
       subst (λ (m : ℕ). P (get_or (xs ++ (x ∷ [])) m d)) same (subst P (sym (get_or-append_seam xs x [] d)) last)
 ]
 
--- What is live in a table is a value of its joint.
-below_test : (k n : ℕ) → n < k → nat_lt n k ≡ true
-below_test k n lt = grind (arith, nat_tests)
-
 pub live_one : (lists : Lists) (table : List LiveAt) → AreLive lists table → (joint : ℕ) (value : JointValue) → family_of table joint value ≡ true → all_live lists joint value ≡ true
 live_one lists table are joint (Flow n) is =
     let lt : n < length (get_or table joint none_gone).flows = flag_in (get_or table joint none_gone).flows n is in
-    below_test (length (items_at lists joint)) n (omega (arith, lt, are.flags joint))
+    is_below (length (items_at lists joint)) n (omega (arith, lt, are.flags joint))
 live_one lists table are joint RG is = refl
 live_one lists table are joint GR is = refl
 live_one lists table are joint GG is = refl

@@ -5,6 +5,7 @@ use Rattle.std.specs.List.{range_with_len}
 use Rattle.std.proofs.lemmas.Bool.{cases_Bool}
 use Rattle.std.proofs.lemmas.List.Elements.{filter-append}
 use Rattle.std.proofs.lemmas.List.FromFn.{map-range_with_len_more}
+use Rattle.reo_values.proofs.Sequences.{both_none}
 use Rattle.reo_net_laws.proofs.Sides.{below_or}
 use Rattle.reo_joint_values.specs.declared.value.JointValue.{JointValue}
 use Rattle.reo_joint_values.specs.declared.value.JointValue.TheVariants.{Flow, RG, GR, GG, Jam}
@@ -70,9 +71,6 @@ nil_both : {X : Type 0} (xs ys : List X) → xs ++ ys ≡ [] → (xs ≡ []) × 
 nil_both [] ys e = (refl, e)
 nil_both (x ∷ xs) ys e = absurd cc
 
-both_nil : {X : Type 0} (xs ys : List X) → xs ≡ [] → ys ≡ [] → xs ++ ys ≡ []
-both_nil xs ys e f = ap (λ l. l ++ ys) e ∙ f
-
 one_nil : (b : Bool) (v : JointValue) → b ≡ false → one b v ≡ []
 one_nil b v e = ap (λ (c : Bool). one c v) e
 
@@ -85,7 +83,7 @@ flows_nil flags n none = go (range_with_len 0 n)
   where
     go : (ns : List ℕ) → filter (flow_set flags) (map Flow ns) ≡ []
     go [] = refl
-    go (k ∷ ns) = filter_more (flow_set flags) (Flow k) (map Flow ns) ∙ both_nil (one (get_or flags k false) (Flow k)) (filter (flow_set flags) (map Flow ns)) (one_nil (get_or flags k false) (Flow k) (none k)) (go ns)
+    go (k ∷ ns) = filter_more (flow_set flags) (Flow k) (map Flow ns) ∙ both_none (one (get_or flags k false) (Flow k)) (filter (flow_set flags) (map Flow ns)) (one_nil (get_or flags k false) (Flow k) (none k)) (go ns)
 
 nil_flows : (flags : List Bool) (n k : ℕ) → live_flows flags n ≡ [] → k < n → get_or flags k false ≡ false
 nil_flows flags zero k none lt = absurd (omega (arith, lt))
@@ -126,10 +124,10 @@ module _ (lists : Lists) (table : List LiveAt) (are : AreLive lists table) (join
   none_live : any at flow ≡ false → live_at lists (family_of table) joint ≡ []
   none_live h =
       let n = none_of at.rg at.gr at.gg at.jam flow h in
-      live_is lists table are joint ∙ both_nil (live_flows at.flows (length at.flows)) (one at.rg RG ++ (one at.gr GR ++ (one at.gg GG ++ one at.jam Jam))) (flows_nil at.flows (length at.flows) (unset n.4))
-      (both_nil (one at.rg RG) (one at.gr GR ++ (one at.gg GG ++ one at.jam Jam)) (one_nil at.rg RG n.0)
-      (both_nil (one at.gr GR) (one at.gg GG ++ one at.jam Jam) (one_nil at.gr GR n.1)
-      (both_nil (one at.gg GG) (one at.jam Jam) (one_nil at.gg GG n.2) (one_nil at.jam Jam n.3))))
+      live_is lists table are joint ∙ both_none (live_flows at.flows (length at.flows)) (one at.rg RG ++ (one at.gr GR ++ (one at.gg GG ++ one at.jam Jam))) (flows_nil at.flows (length at.flows) (unset n.4))
+      (both_none (one at.rg RG) (one at.gr GR ++ (one at.gg GG ++ one at.jam Jam)) (one_nil at.rg RG n.0)
+      (both_none (one at.gr GR) (one at.gg GG ++ one at.jam Jam) (one_nil at.gr GR n.1)
+      (both_none (one at.gg GG) (one at.jam Jam) (one_nil at.gg GG n.2) (one_nil at.jam Jam n.3))))
 
   live_none : live_at lists (family_of table) joint ≡ [] → any at flow ≡ false
   live_none e =

@@ -1,10 +1,10 @@
 -- Fewer live values, and what is owed for them.
-use Rattle.std.proofs.Common.{◌≡◌, inl, inr, ℕ, zero, suc, ◌+◌, ◌*◌, ◌^◌, ◌<◌, ◌≤◌, ◌==◌, ◌&&◌, ◌||◌, not, List, [], ◌∷◌, Bool, true, false, length, filter, map, Contains, ap, sym, ◌∙◌, subst, arith, mul-le-mul_right, lit<}
+use Rattle.std.proofs.Common.{◌≡◌, inl, inr, ℕ, zero, suc, ◌+◌, ◌*◌, ◌^◌, ◌<◌, ◌≤◌, ◌==◌, ◌&&◌, ◌||◌, not, List, [], ◌∷◌, false, length, map, Contains, ap, sym, ◌∙◌, subst, arith, mul-le-mul_right, lit<}
 use Rattle.std.specs.List.{sum_by}
 use Rattle.std.proofs.Math.Nat.{one-le-pow, pow-le-pow_right, pow-suc}
 use Rattle.std.proofs.lemmas.Bool.{cases_eq, cases_Bool}
 use Rattle.std.proofs.lemmas.List.Sums.{sum_by-cons}
-use Rattle.std.proofs.lemmas.Bool.Decides.{nat_tests}
+use Rattle.reo_values.proofs.Truths.{and_left}
 use Rattle.reo_net_base.specs.Net.{Net}
 use Rattle.reo_joint_values.specs.declared.value.JointValue.{JointValue}
 use Rattle.reo_joint_values.specs.Values.{Family, value_eq}
@@ -12,37 +12,8 @@ use Rattle.reo_joint_values.proofs.Narrowing.{value_same, same_value}
 use Rattle.reo_refute_base.specs.Items.{Lists}
 use Rattle.reo_refute_base.specs.Live.{values_of, live_at, without, alone}
 use Rattle.reo_refute_laws.specs.Singles.{IsPartOf}
-use Rattle.reo_refute_laws.proofs.Listing.{first_or}
+use Rattle.reo_refute_laws.proofs.Growing.{kept_fewer, kept_less, off_at, off_beside}
 use Rattle.reo_refute_measure.specs.Owed.{live_count, owed_for, AreTwo, DropsLessen, SplitsLessen}
-
--- A test that holds less often keeps no more.
-kept_fewer : {X : Type 0} (p q : X → Bool) (xs : List X) → ((x : X) → p x ≡ true → q x ≡ true) → length (filter p xs) ≤ length (filter q xs)
-kept_fewer p q [] sub = omega arith
-kept_fewer p q (y ∷ ys) sub =
-    let rest = kept_fewer p q ys sub in
-    elim (cases_Bool (p y)) [
-      | inl holds ↦ rw (holds, sub y holds) (omega (arith, rest))
-      | inr off ↦ elim (cases_Bool (q y)) [ inl has ↦ rw (off, has) (omega (arith, rest)) | inr none ↦ rw (off, none) rest ]
-    ]
-
-kept_less : {X : Type 0} (p q : X → Bool) (xs : List X) → ((x : X) → p x ≡ true → q x ≡ true) → (x : X) → Contains (filter q xs) x → p x ≡ false → length (filter p xs) < length (filter q xs)
-kept_less p q [] sub x has off = absurd (omega (arith, has.1))
-kept_less p q (y ∷ ys) sub x has off =
-    let rest = kept_fewer p q ys sub in
-    elim (cases_Bool (q y)) [
-      | inl here ↦ elim (first_or y (filter q ys) x (rw here at has)) [
-        | inl same ↦ let gone : p y ≡ false = ap p same ∙ off in rw (gone, here) (omega (arith, rest))
-        | inr more ↦
-            let less = kept_less p q ys sub x more off in
-            elim (cases_Bool (p y)) [ inl holds ↦ rw (holds, here) (omega (arith, less)) | inr gone ↦ rw (gone, here) (omega (arith, less)) ]
-      ]
-      | inr none ↦
-          let less = kept_less p q ys sub x (rw none at has) off in
-          elim (cases_Bool (p y)) [
-            | inl holds ↦ let wrong : true ≡ false = sym (sub y holds) ∙ none in absurd cc
-            | inr gone ↦ rw (gone, none) less
-          ]
-    ]
 
 count_fewer : (lists : Lists) (now live : Family) → IsPartOf now live → (n : ℕ) → live_count lists now n ≤ live_count lists live n
 count_fewer lists now live sub zero = omega arith
@@ -57,21 +28,12 @@ count_less lists now live sub j less (suc n) lt =
       | inr other ↦ omega (arith, count_less lists now live sub j less n (omega (arith, lt, other)), kept_fewer (now n) (live n) (values_of lists n) (sub n))
     ]
 
-and_first : (a b : Bool) → a && b ≡ true → a ≡ true
-and_first a b h = grind (arith, nat_tests)
-
-off_at : (a : Bool) (j : ℕ) (e : Bool) → e ≡ true → a && not ((j == j) && e) ≡ false
-off_at a j e h = grind (arith, nat_tests)
-
-off_beside : (a : Bool) (j : ℕ) (e : Bool) → e ≡ false → a && (not (j == j) || e) ≡ false
-off_beside a j e h = grind (arith, nat_tests)
-
 module _ (net : Net) (lists : Lists) where
   drop_part : (live : Family) (j : ℕ) (v : JointValue) → IsPartOf (without live j v) live
-  drop_part live j v i w h = and_first (live i w) (not ((i == j) && value_eq w v)) h
+  drop_part live j v i w h = and_left (live i w) (not ((i == j) && value_eq w v)) h
 
   alone_part : (live : Family) (j : ℕ) (v : JointValue) → IsPartOf (alone live j v) live
-  alone_part live j v i w h = and_first (live i w) (not (i == j) || value_eq w v) h
+  alone_part live j v i w h = and_left (live i w) (not (i == j) || value_eq w v) h
 
   drop_less : (live : Family) (j : ℕ) → j < length net.joints → (v : JointValue) → Contains (live_at lists live j) v
       → live_count lists (without live j v) (length net.joints) < live_count lists live (length net.joints)

@@ -1,15 +1,10 @@
 -- Joints that are kept.
-use Rattle.std.proofs.Common.{◌≡◌, ◌≢◌, inl, inr, ℕ, List, [], ◌∷◌, Option, Some, None, MatchOption, refl, ◌∙◌, sym, subst}
+use Rattle.std.proofs.Common.{◌≡◌, ◌≢◌, inl, inr, ℕ, [], Option, Some, None, MatchOption, ◌∙◌, sym, subst}
 use Rattle.reo_net_base.specs.Net.{Net}
 use Rattle.reo_joint_values.specs.Values.{Family, giver_side, taker_side}
 use Rattle.reo_refute_base.specs.Items.{Lists}
 use Rattle.reo_refute_base.specs.Live.{live_at}
 use Rattle.reo_refute_next.specs.Next.{AreSupported, IsKept}
-
--- A list that cannot be other than empty.
-pub nil_of : {X : Type 0} (xs : List X) → (xs ≢ [] → ⊥) → xs ≡ []
-nil_of [] h = refl
-nil_of (x ∷ xs) h = absurd (h (λ e. cc))
 
 pub matched_more : {X : Type 0} (A C : Type 0) (B : X → Type 0) (found : Option X) → MatchOption found A B → (A → C) → MatchOption found C B
 matched_more A C B None h f = f h

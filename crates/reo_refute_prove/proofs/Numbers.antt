@@ -1,5 +1,6 @@
 -- The numbers of a line that leads on.
 use Rattle.std.proofs.Common.{◌≡◌, ℕ, ◌<◌, ◌^◌, List, length, get_or, true, refl, arith}
+use Rattle.reo_values.proofs.Naturals.{lt_true, true_lt}
 use Rattle.reo_net_base.specs.Net.{Net}
 use Rattle.reo_net_base.specs.Sides.{side_count}
 use Rattle.reo_net_base.specs.Wired.{IsWired}
@@ -12,7 +13,6 @@ use Rattle.reo_refute_base.specs.Items.{Lists, items_at}
 use Rattle.reo_refute_base.specs.Live.{all_live}
 use Rattle.reo_refute_base.specs.Texts.{IsNumbered, IsValueNumbered}
 use Rattle.reo_refute_laws.specs.Singles.{IsPartOf}
-use Rattle.reo_refute_laws.proofs.Refuting.{lt_true, true_lt}
 use Rattle.reo_refute_support.specs.declared.live.LiveAt.{LiveAt}
 use Rattle.reo_refute_support.specs.Families.{family_of, none_gone, AreLive}
 use Rattle.reo_refute_support.proofs.LiveLemmas.{flag_in}
@@ -27,7 +27,7 @@ part_of lists table are j GR h = refl
 part_of lists table are j GG h = refl
 part_of lists table are j Jam h = refl
 
-value_numbered : (lists : Lists) → AreFew lists → (j : ℕ) (v : JointValue) → all_live lists j v ≡ true → IsValueNumbered v
+pub value_numbered : (lists : Lists) → AreFew lists → (j : ℕ) (v : JointValue) → all_live lists j v ≡ true → IsValueNumbered v
 value_numbered lists few j (Flow n) h = omega (arith, true_lt n (length (items_at lists j)) h, few j)
 value_numbered lists few j RG h = tt
 value_numbered lists few j GR h = tt

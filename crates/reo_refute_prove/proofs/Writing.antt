@@ -1,6 +1,5 @@
 -- Lines that are written one after another.
-use Rattle.std.proofs.Common.{◌≡◌, ℕ, zero, suc, ◌+◌, ◌<◌, List, [], ◌∷◌, ◌++◌, get_or, ap, sym, ◌∙◌, subst, append_assoc, arith}
-use Rattle.std.specs.List.{All}
+use Rattle.std.proofs.Common.{◌≡◌, ℕ, ◌+◌, List, [], ◌∷◌, ◌++◌, ap, sym, ◌∙◌, subst, append_assoc, arith}
 use Rattle.std.proofs.lemmas.List.{append-nil}
 use Rattle.std.proofs.lemmas.List.Concat.{flat_map-append}
 use Rattle.std.proofs.lemmas.List.Elements.{All-append}
@@ -17,14 +16,8 @@ use Rattle.reo_refute_base.specs.Texts.{IsNumbered, line_text, log_text}
 use Rattle.reo_refute_laws.proofs.Reading.{branches_are_read}
 use Rattle.reo_refute_check.proofs.Determined.{steps_join}
 use Rattle.reo_refute_check.proofs.Passing.{pass_live, pass_dead, pass_both, pass_none}
+use Rattle.reo_refute_check.proofs.Taking.{all_one}
 use Rattle.reo_refute_prove.specs.Making.{HasWritten, LeadsTo, IsLineMade, IsBranchMade, ArePartsMade}
-
-all_one : (line : LogLine) → IsNumbered line → All IsNumbered (line ∷ [])
-all_one line is k d lt = one k d lt
-  where
-    one : (k : ℕ) (d : LogLine) → k < 1 → IsNumbered (get_or (line ∷ []) k d)
-    one zero d lt = is
-    one (suc k) d lt = absurd (omega (arith, lt))
 
 pub written_none : (text : List ℕ) → HasWritten text text []
 written_none text = record { numbered = λ k d lt. absurd (omega (arith, lt)); text = sym (append-nil text) }

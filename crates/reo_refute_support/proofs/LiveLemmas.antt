@@ -1,16 +1,17 @@
 -- What is live at a joint, and the marks there.
-use Rattle.std.proofs.Common.{◌≡◌, ◌≢◌, ◌⊎◌, ◌↔◌, inl, inr, ℕ, ◌<◌, Bool, true, false, ◌||◌, ◌&&◌, not, List, length, get_or, refl, ap, sym, ◌∙◌, subst, arith}
+use Rattle.std.proofs.Common.{◌≡◌, ◌≢◌, ◌↔◌, inl, inr, ℕ, ◌<◌, Bool, true, false, ◌||◌, ◌&&◌, not, List, length, get_or, refl, ap, sym, ◌∙◌, subst, arith}
 use Rattle.std.specs.Prelude.{IsTrue}
 use Rattle.std.specs.Bool.{◌==◌}
-use Rattle.std.proofs.lemmas.Bool.{cases_lt}
+use Rattle.std.proofs.lemmas.Bool.{cases_lt, or_left, or_right}
 use Rattle.std.proofs.lemmas.Bool.Decides.{nat_tests}
 use Rattle.std.proofs.lemmas.List.{get_or_past}
+use Rattle.reo_values.proofs.Truths.{and_both, either}
+use Rattle.reo_values.proofs.Naturals.{same_eq, other_eq}
 use Rattle.reo_net_base.specs.declared.mark.Mark.{Mark}
 use Rattle.reo_net_base.specs.declared.mark.Mark.TheVariants.{F, G, R, J}
 use Rattle.reo_joint_values.specs.declared.value.JointValue.{JointValue}
 use Rattle.reo_joint_values.specs.declared.value.JointValue.TheVariants.{Flow, RG, GR, GG, Jam}
 use Rattle.reo_joint_values.specs.Values.{Family, value_eq}
-use Rattle.reo_joint_values.proofs.Equal.{same_eq, other_eq}
 use Rattle.reo_joint_values.proofs.Narrowing.{value_same, same_value}
 use Rattle.reo_refute_base.specs.Live.{alone}
 use Rattle.reo_refute_support.specs.declared.live.LiveAt.{LiveAt}
@@ -25,18 +26,6 @@ flag_in flags n h = elim (cases_lt n (length flags)) [
   | inr past ↦ let none : true ≡ false = sym h ∙ get_or_past flags n false past in absurd cc
 ]
 
-or_cases : (a b : Bool) → a || b ≡ true → (a ≡ true) ⊎ (b ≡ true)
-or_cases true b e = inl refl
-or_cases false b e = inr e
-
-or_left : (a b : Bool) → a ≡ true → a || b ≡ true
-or_left true b e = refl
-or_left false b e = absurd cc
-
-or_right : (a b : Bool) → b ≡ true → a || b ≡ true
-or_right true b e = refl
-or_right false b e = e
-
 -- The marks of what is live, at the giver and at the taker.
 abbrev pub giver_marks : LiveAt → Bool → Marks
 giver_marks live flow = record { flow = flow; given = live.gr || live.gg; required = live.rg; jam = live.jam }
@@ -50,7 +39,7 @@ module _ (live : LiveAt) (flow : Bool) (is_flow : IsTrue flow ↔ ((n : ℕ) × 
     where
       to : (m : Mark) → marks_has (giver_marks live flow) m ≡ true → IsMarkOf (has live) true m
       to F h = let f = is_flow.0 h in record { value = Flow f.0; has = f.1; marked = refl }
-      to G h = elim (or_cases live.gr live.gg h) [ inl a ↦ record { value = GR; has = a; marked = refl } | inr b ↦ record { value = GG; has = b; marked = refl } ]
+      to G h = elim (either live.gr live.gg h) [ inl a ↦ record { value = GR; has = a; marked = refl } | inr b ↦ record { value = GG; has = b; marked = refl } ]
       to R h = record { value = RG; has = h; marked = refl }
       to J h = record { value = Jam; has = h; marked = refl }
 
@@ -66,7 +55,7 @@ module _ (live : LiveAt) (flow : Bool) (is_flow : IsTrue flow ↔ ((n : ℕ) × 
     where
       to : (m : Mark) → marks_has (taker_marks live flow) m ≡ true → IsMarkOf (has live) false m
       to F h = let f = is_flow.0 h in record { value = Flow f.0; has = f.1; marked = refl }
-      to G h = elim (or_cases live.rg live.gg h) [ inl a ↦ record { value = RG; has = a; marked = refl } | inr b ↦ record { value = GG; has = b; marked = refl } ]
+      to G h = elim (either live.rg live.gg h) [ inl a ↦ record { value = RG; has = a; marked = refl } | inr b ↦ record { value = GG; has = b; marked = refl } ]
       to R h = record { value = GR; has = h; marked = refl }
       to J h = record { value = Jam; has = h; marked = refl }
 
@@ -82,10 +71,6 @@ alone_other a b c e = grind (arith, nat_tests)
 
 alone_here : (a b c : Bool) → b ≡ true → a && (not b || c) ≡ a && c
 alone_here a b c e = grind (arith, nat_tests)
-
-both_of : (a b : Bool) → a && b ≡ true → (a ≡ true) × (b ≡ true)
-both_of true b e = (refl, e)
-both_of false b e = absurd cc
 
 -- Besides the joint that is held all is as it was.
 pub others_stay : (live : Family) (held : ℕ) (v : JointValue) (j : ℕ) → j ≢ held → (w : JointValue) → alone live held v j w ≡ live j w
@@ -107,7 +92,7 @@ marks_held live held v j at is gives m = (
     marked = e;
   },
   λ x.
-      let pair = both_of (live j x.value) (value_eq x.value v) (sym (alone_here (live j x.value) (j == held) (value_eq x.value v) (same_eq j held at)) ∙ x.has) in
+      let pair = and_both (live j x.value) (value_eq x.value v) (sym (alone_here (live j x.value) (j == held) (value_eq x.value v) (same_eq j held at)) ∙ x.has) in
       ap (value_mark gives) (sym (same_value x.value v pair.1)) ∙ x.marked,
 )
   where

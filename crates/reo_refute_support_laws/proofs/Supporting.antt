@@ -1,25 +1,19 @@
 -- Support by rows alone.
-use Rattle.std.proofs.Common.{arith, ◌≡◌, inl, inr, ℕ, ◌<◌, ◌==◌, ◌&&◌, ◌||◌, not, Bool, true, false, length, refl, ap, ◌∙◌}
+use Rattle.std.proofs.Common.{arith, ◌≡◌, inl, inr, ℕ, ◌<◌, ◌==◌, ◌&&◌, ◌||◌, not, Bool, true, length, refl, ap, ◌∙◌}
 use Rattle.std.proofs.lemmas.Bool.{cases_Bool}
 use Rattle.std.proofs.lemmas.Bool.Decides.{nat_tests}
+use Rattle.reo_values.proofs.Naturals.{eq_same, same_eq}
+use Rattle.reo_values.proofs.Truths.{and_or_left, and_or_right}
 use Rattle.reo_net_base.specs.Net.{Net}
 use Rattle.reo_net_base.specs.Wired.{IsWired}
 use Rattle.reo_joint_values.specs.declared.value.JointValue.{JointValue}
 use Rattle.reo_joint_values.specs.Values.{Names, Choice, Family, value_eq, AtSide}
 use Rattle.reo_joint_values.specs.Fitting.{IsFrom}
-use Rattle.reo_joint_values.proofs.Equal.{same_eq}
 use Rattle.reo_joint_values.proofs.Narrowing.{value_same, same_value}
 use Rattle.reo_joint_values.proofs.Works.{Possible, fits_works, works_possible}
 use Rattle.reo_refute_base.specs.Live.{alone, HasSupport}
 use Rattle.reo_refute_base.specs.Places.{IsAllowed}
 use Rattle.reo_refute_support_laws.specs.Rows.{SupportingRow, SupportIsByRows}
-use Rattle.reo_joint_values.proofs.Equal.{eq_same as eq_from}
-
-alone_other : (a b c : Bool) → a ≡ true → b ≡ false → a && (not b || c) ≡ true
-alone_other a b c h e = grind (arith, nat_tests)
-
-alone_same : (a b c : Bool) → a ≡ true → c ≡ true → a && (not b || c) ≡ true
-alone_same a b c h e = grind (arith, nat_tests)
 
 live_of : (a b c : Bool) → a && (not b || c) ≡ true → a ≡ true
 live_of a b c h = grind (arith, nat_tests)
@@ -32,9 +26,9 @@ module _ (net : Net) (wired : IsWired net) (names : Names) (allowed : ℕ → �
   held choice is from i lt at =
       elim (cases_Bool (i == j)) [
         | inl holds ↦
-            let same : choice i ≡ v = ap choice (eq_from i j holds) ∙ is in
-            alone_same (live i (choice i)) (i == j) (value_eq (choice i) v) (from i lt at) (ap (λ (w : JointValue). value_eq w v) same ∙ value_same v)
-        | inr off ↦ alone_other (live i (choice i)) (i == j) (value_eq (choice i) v) (from i lt at) off
+            let same : choice i ≡ v = ap choice (eq_same i j holds) ∙ is in
+            and_or_right (live i (choice i)) (i == j) (value_eq (choice i) v) (from i lt at) (ap (λ (w : JointValue). value_eq w v) same ∙ value_same v)
+        | inr off ↦ and_or_left (live i (choice i)) (i == j) (value_eq (choice i) v) (from i lt at) off
       ]
 
   supporting : HasSupport net names allowed live side j v → SupportingRow net names allowed live side j v

@@ -2,17 +2,17 @@
 use Rattle.std.proofs.Common.{◌≡◌, ◌≢◌, ◌⊎◌, inl, inr, ℕ, Bool, true, false, not, ◌&&◌, List, refl, sym, ◌∙◌}
 use Rattle.std.specs.Bool.{◌==◌}
 use Rattle.std.proofs.lemmas.Bool.{and_parts}
-use Rattle.reo_joint_values.proofs.Equal.{same_eq, other_eq}
+use Rattle.reo_values.proofs.Naturals.{same_eq, other_eq}
 use Rattle.reo_rows.specs.Flags.{flag}
 
-and_no : (f a b : Bool) → (a ≡ false) ⊎ (b ≡ false) → (f && not (a && b)) ≡ f
+pub and_no : (f a b : Bool) → (a ≡ false) ⊎ (b ≡ false) → (f && not (a && b)) ≡ f
 and_no true true b (inl e) = absurd cc
 and_no true true true (inr e) = absurd cc
 and_no true true false (inr e) = refl
 and_no true false b e = refl
 and_no false a b e = refl
 
-gone_of : (f : Bool) → (f && not (true && true)) ≡ false
+pub gone_of : (f : Bool) → (f && not (true && true)) ≡ false
 gone_of true = refl
 gone_of false = refl
 

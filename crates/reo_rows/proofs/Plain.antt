@@ -3,6 +3,7 @@ use Rattle.std.proofs.Common.{◌≡◌, ◌≢◌, inl, inr, ℕ, ◌<◌, true
 use Rattle.std.specs.Bool.{◌==◌}
 use Rattle.std.proofs.lemmas.Bool.{cond-true, cond-false}
 use Rattle.reo_values.specs.declared.value.Value.{Value}
+use Rattle.reo_values.proofs.Naturals.{same_eq, other_eq}
 use Rattle.reo_net_base.specs.declared.mark.Mark.TheVariants.{F}
 use Rattle.reo_net_base.specs.Net.{Net}
 use Rattle.reo_net_base.specs.Wired.{IsWired}
@@ -11,7 +12,6 @@ use Rattle.reo_joint_values.specs.declared.value.JointValue.{JointValue}
 use Rattle.reo_joint_values.specs.declared.value.JointValue.TheVariants.{Flow, RG, GR, GG, Jam}
 use Rattle.reo_joint_values.specs.Values.{giver_mark, taker_mark, Names, Family, item_named, no_joint, joint_of, giver_side, taker_side}
 use Rattle.reo_joint_values.specs.Works.{Follows, IsGivenAs, TakerWorks, GiverUses, ValueWorks}
-use Rattle.reo_joint_values.proofs.Equal.{same_eq, other_eq}
 use Rattle.reo_joint_values.proofs.Fitting.{decided, follows_dependent}
 use Rattle.reo_joint_values.proofs.Fitting.Decided.{by_none, by_joint}
 use Rattle.reo_side_tables.specs.Marks.{end_at, mark_at_joint, IsJointOf}
@@ -58,13 +58,6 @@ no_item names j RG still = refl
 no_item names j GR still = refl
 no_item names j GG still = refl
 no_item names j Jam still = refl
-
-plain_sides : (v : JointValue) → taker_mark v ≢ F → giver_mark v ≢ F
-plain_sides (Flow n) still e = still refl
-plain_sides RG still e = cc
-plain_sides GR still e = cc
-plain_sides GG still e = cc
-plain_sides Jam still e = cc
 
 module _ (net : Net) (wired : IsWired net) (names : Names) (family : Family) (side row j : ℕ) (in_table : IsRowOf net side row) (j_in : j < length net.joints) (v : JointValue) (has : family j v ≡ true) where
   -- A value without flow is taken in by its mark alone.

@@ -3,13 +3,13 @@ use Rattle.std.proofs.Common.{◌≡◌, ◌≢◌, ◌⊎◌, inl, inr, ◌↔�
 use Rattle.std.specs.Bool.{◌==◌}
 use Rattle.std.proofs.lemmas.Bool.{both_ways, and_from}
 use Rattle.reo_values.specs.declared.value.Value.{Value}
+use Rattle.reo_values.proofs.Naturals.{same_eq}
 use Rattle.reo_net_base.specs.declared.mark.Mark.{Mark}
 use Rattle.reo_net_base.specs.Net.{Net}
 use Rattle.reo_net_base.specs.Sides.{side_count}
 use Rattle.reo_net_base.specs.Wired.{IsWired}
 use Rattle.reo_net_laws.specs.Ends.{IsRowOf}
 use Rattle.reo_joint_values.specs.Values.{Family}
-use Rattle.reo_joint_values.proofs.Equal.{same_eq}
 use Rattle.reo_side_tables.specs.Listing.{Lists}
 use Rattle.reo_side_tables.specs.Marks.{group_in, apart_in, end_at, mark_at_joint, common_at_joint, IsJointOf, IsApartAt}
 use Rattle.reo_side_tables.proofs.Sides.{group_below, whole_row}

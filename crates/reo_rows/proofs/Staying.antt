@@ -3,6 +3,7 @@ use Rattle.std.proofs.Common.{◌≡◌, ◌≢◌, ◌⊎◌, inl, inr, ℕ, �
 use Rattle.std.specs.Bool.{◌==◌}
 use Rattle.std.proofs.lemmas.Bool.{cases_eq, and_parts, and_from, false_from_ne_true}
 use Rattle.reo_values.specs.declared.value.Value.{Value}
+use Rattle.reo_values.proofs.Naturals.{eq_same, same_eq}
 use Rattle.reo_net_base.specs.declared.mark.Mark.TheVariants.{F}
 use Rattle.reo_net_base.specs.Net.{Net}
 use Rattle.reo_net_base.specs.Wired.{IsWired}
@@ -12,7 +13,6 @@ use Rattle.reo_joint_values.specs.declared.value.JointValue.TheVariants.{Flow}
 use Rattle.reo_joint_values.specs.Values.{giver_mark, taker_mark, Names, Family, item_named, joint_of, giver_side, taker_side, AtSide}
 use Rattle.reo_joint_values.specs.Supported.{IsUsed, IsSettledAt}
 use Rattle.reo_joint_values.specs.Works.{IsGivenIn, TakerWorks, RowWorks, ValueWorks}
-use Rattle.reo_joint_values.proofs.Equal.{eq_same, same_eq}
 use Rattle.reo_joint_values.proofs.Works.{works_more, used_row, used_value, value_used}
 use Rattle.reo_side_tables.specs.Marks.{groups_in, group_in, apart_in, common_in, end_at, mark_at_joint, IsJointOf}
 use Rattle.reo_side_tables.proofs.Sides.{mark_as_group, group_below}

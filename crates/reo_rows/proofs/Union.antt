@@ -4,7 +4,7 @@ use Rattle.std.proofs.lemmas.Bool.{cases_eq}
 use Rattle.reo_rows.specs.Flags.{flag, AreAlikeTables}
 use Rattle.reo_rows.specs.Seeing.{AreSeen, Below}
 
-alike_twice : (a b c : List (List Bool)) → AreAlikeTables a b → AreAlikeTables b c → AreAlikeTables a c
+pub alike_twice : (a b c : List (List Bool)) → AreAlikeTables a b → AreAlikeTables b c → AreAlikeTables a c
 alike_twice a b c p q = record { rows = q.rows ∙ p.rows; width = λ row. q.width row ∙ p.width row }
 
 pub seen_none : (uses : ℕ → ℕ → ℕ → Type 0) (table : List (List Bool)) → AreSeen (Below uses 0) table table

@@ -4,6 +4,7 @@ use Rattle.std.specs.Bool.{◌==◌}
 use Rattle.std.specs.Option.{is_some}
 use Rattle.std.proofs.lemmas.Bool.{cases_Bool, cond-true, cond-false, and_from, and_parts}
 use Rattle.reo_values.specs.declared.value.Value.{Value}
+use Rattle.reo_values.proofs.Naturals.{eq_same, same_eq}
 use Rattle.reo_net_base.specs.declared.mark.Mark.TheVariants.{F}
 use Rattle.reo_net_base.specs.Net.{Net}
 use Rattle.reo_net_base.specs.Wired.{IsWired}
@@ -11,7 +12,6 @@ use Rattle.reo_net_laws.specs.Ends.{mark_in, from_in, IsRowOf}
 use Rattle.reo_joint_values.specs.declared.value.JointValue.{JointValue}
 use Rattle.reo_joint_values.specs.Values.{giver_mark, taker_mark, Names, Family, item_named, no_joint, joint_of, giver_side, taker_side}
 use Rattle.reo_joint_values.specs.Works.{Follows, IsGivenAs, TakerWorks}
-use Rattle.reo_joint_values.proofs.Equal.{same_eq, eq_same}
 use Rattle.reo_joint_values.proofs.Fitting.{decided, follows_dependent}
 use Rattle.reo_joint_values.proofs.Fitting.Decided.{by_none, by_joint}
 use Rattle.reo_side_tables.specs.declared.board.Flow.{Flow as Flows}

@@ -5,15 +5,16 @@ use Rattle.std.specs.Option.{is_some}
 use Rattle.std.proofs.lemmas.Bool.{and_parts, and_from, or_cases, or_left, or_right, cases_eq}
 use Rattle.std.proofs.lemmas.List.{get_or_default}
 use Rattle.reo_values.specs.declared.value.Value.{Value}
+use Rattle.reo_values.proofs.Naturals.{eq_same, same_eq}
 use Rattle.reo_net_base.specs.declared.mark.Mark.{Mark}
-use Rattle.reo_net_base.specs.declared.mark.Mark.TheVariants.{F, G, R, J}
+use Rattle.reo_net_base.specs.declared.mark.Mark.TheVariants.{F}
 use Rattle.reo_net_base.specs.Net.{Net}
 use Rattle.reo_net_base.specs.Sides.{side_count}
 use Rattle.reo_net_base.specs.Wired.{IsWired}
 use Rattle.reo_net_laws.specs.Ends.{same_mark, IsRowOf}
+use Rattle.reo_net_laws.proofs.Told.{mark_is as mark_same, mark_self}
 use Rattle.reo_joint_values.specs.Values.{giver_side, Names, Family}
 use Rattle.reo_joint_values.specs.Supported.{IsUsed}
-use Rattle.reo_joint_values.proofs.Equal.{same_eq, eq_same}
 use Rattle.reo_joint_values.proofs.Works.{used_row, used_value, value_used}
 use Rattle.reo_side_tables.specs.Listing.{Lists}
 use Rattle.reo_side_tables.specs.Marks.{groups_in, group_in, apart_in, common_in, end_at, mark_at_joint, common_at_joint, IsJointOf, IsApartAt}
@@ -67,19 +68,6 @@ module _ (net : Net) (wired : IsWired net) (items : List (List Value)) (rows : R
   pub first_read : (row : ℕ) → noted.first ≡ Some row → IsRowOf net side row
   first_read row is = live_row net items rows tables side lt row (and_parts (flag rows.live side row) (group_in net side row == group) (noted_read.first row is)).0
 
-mark_same : (a b : Mark) → same_mark a b ≡ true → a ≡ b
-mark_same F F h = refl
-mark_same G G h = refl
-mark_same R R h = refl
-mark_same J J h = refl
-mark_same a b h = cc
-
-same_here : (a : Mark) → same_mark a a ≡ true
-same_here F = refl
-same_here G = refl
-same_here R = refl
-same_here J = refl
-
 -- One group more.
 module _ (net : Net) (live : List (List Bool)) (side j n : ℕ) where
   abbrev Before : Mark → Type 0
@@ -108,7 +96,7 @@ module _ (net : Net) (live : List (List Bool)) (side j n : ℕ) where
       | inr before ↦ keeps m ((was m).0 before)
     ],
     λ c. is m ∙ elim (parts mark says m c) [
-      | inl same ↦ or_left (same_mark mark m) (marks_has old m) (subst (λ (x : Mark). same_mark mark x ≡ true) same (same_here mark))
+      | inl same ↦ or_left (same_mark mark m) (marks_has old m) (subst (λ (x : Mark). same_mark mark x ≡ true) same (mark_self mark))
       | inr before ↦ or_right (same_mark mark m) (marks_has old m) ((was m).1 before)
     ],
   )

@@ -6,14 +6,7 @@ use Rattle.reo_rules.specs.declared.fault.FlatFault.{FlatFault}
 use Rattle.reo_rules.specs.Lists.{each_after, first_of}
 use Rattle.reo_rules.specs.Judged.{IsFirst, IsJudged}
 pub use Rattle.std.proofs.lemmas.Grind.{flat_map-append}
-
--- Two lists without a break have none together, and the other way round.
-pub both_none : {X : Type 0} (xs ys : List X) → xs ≡ [] → ys ≡ [] → xs ++ ys ≡ []
-both_none xs ys left right = ap (λ zs. zs ++ ys) left ∙ right
-
-pub left_none : {X : Type 0} (xs ys : List X) → xs ++ ys ≡ [] → xs ≡ []
-left_none [] ys none = refl
-left_none (x ∷ xs) ys none = absurd (cc)
+use Rattle.reo_values.proofs.Sequences.{both_none, left_none}
 
 pub right_none : {X : Type 0} (xs ys : List X) → xs ++ ys ≡ [] → ys ≡ []
 right_none [] ys none = none

@@ -7,12 +7,12 @@ use Rattle.reo_rules.specs.Lists.{has_name}
 use Rattle.std.proofs.lemmas.Bool.{false_from_ne_true as no_test}
 
 -- A name that stands at no place of a list is none of it.
-no_such : (xs : List (List ℕ)) (name : List ℕ) → ((k : ℕ) → k < length xs → name ≡ get_or xs k [] → ⊥) → has_name xs name ≡ false
+pub no_such : (xs : List (List ℕ)) (name : List ℕ) → ((k : ℕ) → k < length xs → name ≡ get_or xs k [] → ⊥) → has_name xs name ≡ false
 no_such [] name none = refl
 no_such (x ∷ xs) name none =
     λ i. no_test (bytes_eq name x) (λ same. none 0 (omega arith) ((bytes_eq-Decides name x).0 same)) i || no_such xs name (λ k within. none (suc k) (omega arith)) i
 
-in_front : {X : Type 0} (xs : List X) (i k : ℕ) (d : X) → k < i → get_or (take i xs) k d ≡ get_or xs k d
+pub in_front : {X : Type 0} (xs : List X) (i k : ℕ) (d : X) → k < i → get_or (take i xs) k d ≡ get_or xs k d
 in_front [] zero k d below = absurd (omega arith)
 in_front [] (suc i) k d below = refl
 in_front (x ∷ xs) zero k d below = absurd (omega arith)

@@ -1,27 +1,17 @@
 -- Values beside names that grow side by side.
-use Rattle.std.proofs.Common.{arith, ◌≡◌, ◌∙◌, ℕ, ◌+◌, ◌≤◌, ◌<◌, suc, List, [], ◌∷◌, ◌++◌, length, get_or, Bool, true, false, not, cond, ◌||◌, Some, None, refl, sym, ap, subst, inl, inr, bytes_eq, position, nat_lt}
+use Rattle.std.proofs.Common.{arith, ◌≡◌, ◌∙◌, ℕ, ◌+◌, ◌<◌, suc, List, [], ◌∷◌, ◌++◌, length, get_or, Bool, true, false, not, cond, ◌||◌, Some, None, refl, sym, ap, subst, bytes_eq, position}
 use Rattle.std.specs.List.{prefix_len}
-use Rattle.std.proofs.lemmas.Bool.Decides.{leb_tells}
 use Rattle.std.specs.Prelude.{slice_get, map}
 use Rattle.std.proofs.lemmas.List.{get_or_past, length-map, map-append}
 use Rattle.std.proofs.lemmas.Option.{get_or_from_slice_get, slice_get-get_or}
 use Rattle.std.proofs.lemmas.List.Quantifiers.{position-Some}
+use Rattle.reo_values.proofs.Sequences.{at_place, at_none}
+use Rattle.reo_values.proofs.Naturals.{not_below}
 use Rattle.reo_rules.specs.Lists.{has_name}
 use Rattle.reo_rules_names.specs.SameNames.{SameNames}
 use Rattle.reo_rules_names.specs.Values.{value_at}
 use Rattle.reo_rules.specs.Names.{with_name}
 use Rattle.reo_rules_names.proofs.SameLemmas.{has_same, same_noted}
-
-at_place : (t : Bool) (a n : ℕ) → cond t (Some a) None ≡ Some n → a ≡ n
-at_place true a n is = cc
-at_place false a n is = absurd (cc)
-
-at_none : (t : Bool) (a : ℕ) → cond t (Some a) None ≡ None → t ≡ false
-at_none true a is = absurd (cc)
-at_none false a is = refl
-
-not_below : (a b : ℕ) → nat_lt a b ≡ false → b ≤ a
-not_below a b is = elim (leb_tells (suc a) b) [ inl w ↦ absurd (cc) | inr w ↦ omega arith ]
 
 module _ {V : Type 0} (d : V) (name : List ℕ) where
   one_on : (v : V) (vs : List V) (n : ℕ) → get_or vs n d ≡ get_or (v ∷ vs) (1 + n) d

@@ -4,6 +4,7 @@ use Rattle.std.specs.List.{flat_map}
 use Rattle.std.specs.Map.{keys_of}
 use Rattle.std.proofs.lemmas.List.{append-nil, append_assoc, map-append}
 use Rattle.reo_values.specs.declared.kindred.Kindred.{Kindred}
+use Rattle.reo_values.proofs.Sequences.{left_none}
 use Rattle.reo_trees.specs.declared.types.TypeTerm.{TypeTerm}
 use Rattle.reo_trees.specs.declared.items.Item.{Item}
 use Rattle.reo_trees.specs.declared.items.Form.{Form}
@@ -13,7 +14,7 @@ use Rattle.reo_rules.specs.Lists.{each_after, where_true, has_name}
 use Rattle.reo_rules.specs.Types.{Typed, names_of}
 use Rattle.reo_rules.specs.Scopes.{parameter_names, parameter_type, node_names, node_names_in, node_types_in}
 use Rattle.reo_rules.specs.Twice.{twice_in_parameter, twice_in_item, twice_in_type}
-use Rattle.reo_rules.proofs.AfterLemmas.{left_none, right_none}
+use Rattle.reo_rules.proofs.AfterLemmas.{right_none}
 use Rattle.reo_rules_types.specs.Scoped.{typed}
 use Rattle.reo_rules_types.proofs.Scoped.{names_typed}
 

@@ -7,6 +7,7 @@ use Rattle.reo_exprs.specs.declared.expr.Expr.{Expr}
 use Rattle.reo_exprs.specs.Kinds.{kind_of, joins, is_bool}
 use Rattle.reo_values.specs.declared.operator.Binary.TheVariants as binary
 use Rattle.reo_values.specs.declared.operator.Binary.{Binary}
+use Rattle.reo_values.proofs.Truths.{one_truth}
 use Rattle.reo_exprs.specs.Typing.{binary_kind, if_kind, kind_of_expr}
 use Rattle.reo_exprs.proofs.Choices.{choice_kinded}
 use Rattle.reo_exprs.proofs.Kinded.{join_by_kind}
@@ -21,13 +22,13 @@ use Rattle.reo_rules_types.specs.Kinded.{fits_test, kind_of_form, IsMade}
 use Rattle.reo_rules_types.specs.Scoped.{typed, AreKnown}
 use Rattle.reo_rules_types.proofs.Scoped.{typed_kept}
 use Rattle.reo_rules_types.proofs.Kept.{at_told, at_within, kept_at, kept_below, keeps_both}
-use Rattle.reo_rules_types.proofs.Same.{same_told, same_self, same_tests}
+use Rattle.reo_rules_types.proofs.Same.{same_told, same_self}
 
 -- Kinds join where they are the same.
 pub join_kinds : (x y : Kindred) → kind_of x ≡ x → kind_of y ≡ y → joins x y ≡ is_same x y
 join_kinds x y f g =
     let told = join_by_kind x y in
-    same_tests (joins x y) (is_same x y)
+    one_truth (joins x y) (is_same x y)
     (λ e. ap (λ k. is_same k y) (sym f ∙ told.0 e ∙ g) ∙ same_self y)
     (λ e. told.1 (ap kind_of (same_told x y e)))
 
@@ -37,10 +38,6 @@ chosen c x y f g p q = sym (choice_kinded c x y f) ∙ (λ i. if p i && (join_ki
 
 pub not_chosen : (c x y : Kindred) → kind_of x ≡ x → kind_of y ≡ y → (is_bool c && is_same x y) ≡ false → if_kind c x y ≡ None
 not_chosen c x y f g p = sym (choice_kinded c x y f) ∙ (λ i. if is_bool c && join_kinds x y f g i then Some x else None) ∙ ap (λ b. if b then Some x else None) p
-
-pub and_false : (b : Bool) → (b && false) ≡ false
-and_false true = refl
-and_false false = refl
 
 -- A number that is made stays made.
 pub made_kept : (old new : List Kindred) → Keeps old new → (made : Option ℕ) (k : Option Kindred) → IsMade old made k → IsMade new made k
@@ -117,8 +114,3 @@ has_kind-form known f of want = by (expr_of known f)
     by : (o : Option Expr) → has_kind of want o ≡ is_that_kind want (option_and_then (λ (e : Expr). kind_of_expr e of) o)
     by None = refl
     by (Some e) = refl
-
--- What has no value is none.
-pub no_value : {X : Type 0} (o : Option X) → ((x : X) → o ≡ Some x → ⊥) → o ≡ None
-no_value None not = refl
-no_value (Some x) not = absurd (not x refl)

@@ -1,19 +1,13 @@
 -- Where something stands in a list.
-use Rattle.std.proofs.Common.{arith, ◌≡◌, ◌∙◌, ℕ, ◌+◌, suc, Bool, true, false, not, cond, Some, None, List, [], ◌∷◌, length, position, nat_lt, refl, sym, ap}
+use Rattle.std.proofs.Common.{◌≡◌, ◌∙◌, ℕ, ◌+◌, suc, Bool, true, false, not, cond, Some, None, List, [], ◌∷◌, length, position, nat_lt, refl, sym, ap}
 use Rattle.std.specs.Prelude.{is_some, ◌||◌}
 use Rattle.std.specs.List.{list_any, position_or_len, position_from}
 use Rattle.std.proofs.lemmas.Iterator.Adapters.{position_from-zero}
-use Rattle.std.proofs.lemmas.Bool.Decides.{nat_tests}
+use Rattle.reo_values.proofs.Naturals.{one_on, positive}
 
 some_if : (b : Bool) (n : ℕ) → is_some (cond b (Some n) None) ≡ b
 some_if true n = refl
 some_if false n = refl
-
-one_on : (n m : ℕ) → nat_lt (1 + n) (suc m) ≡ nat_lt n m
-one_on n m = grind (arith, nat_tests)
-
-positive : (m : ℕ) → nat_lt 0 (suc m) ≡ true
-positive m = grind (arith, nat_tests)
 
 or_true : (r : Bool) → (true || r) ≡ true
 or_true true = refl

@@ -1,5 +1,5 @@
 -- Types and expressions out of bounds.
-use Rattle.std.proofs.Common.{arith, ◌≡◌, ◌∙◌, ℕ, ◌+◌, ◌-◌, ◌≤ℤ◌, max, Bool, true, false, not, ◌&&◌, ◌||◌, Option, None, Some, List, [], ◌++◌, nat_lt, refl, sym, ap, inr, bytes_eq, map, position}
+use Rattle.std.proofs.Common.{arith, ◌≡◌, ◌∙◌, ℕ, ◌+◌, ◌-◌, ◌≤ℤ◌, max, Bool, true, false, not, ◌||◌, Option, None, Some, List, [], ◌++◌, nat_lt, refl, sym, ap, inr, bytes_eq, map, position}
 use Rattle.std.specs.Prelude.{IsTrue, ◌↔◌}
 use Rattle.std.specs.Bool.{Decides}
 use Rattle.std.specs.List.{flat_map, position_from}
@@ -36,9 +36,10 @@ use Rattle.reo_rules.proofs.Mapped.{position-map}
 use Rattle.reo_rules_types.specs.declared.cell.Cell.{Cell}
 use Rattle.reo_rules_types.specs.declared.cell.Cell.TheVariants as cells
 use Rattle.reo_rules_types.specs.Cells.{kindred_of}
-use Rattle.reo_rules_types.proofs.Same.{le_told, same_tests}
 use Rattle.reo_rules_types.proofs.Shaped.{resolved-Pair}
 use Rattle.std.proofs.lemmas.Bool.{or_right as or_true}
+use Rattle.reo_values.proofs.Tests.{le_z-is}
+use Rattle.reo_values.proofs.Truths.{one_truth, both_decided}
 
 -- An expression that has no kind has no type.
 pub untyped : (e : Expr) (of : Kindred) → kind_of_expr e of ≡ None → type_of_expr e of ≡ None
@@ -48,24 +49,19 @@ untyped e of none = by (type_of_expr e of) refl
     by None is = is
     by (Some t) is = let h = sym none ∙ kind_of_typed e of t is in absurd (cc)
 
--- The test of types that lie inside others.
-both : (a b : Bool) (P Q : Type 0) → Decides a P → Decides b Q → Decides (a && b) (P × Q)
-both true b P Q p q = (λ h. (p.0 refl, q.0 h), λ h. q.1 h.1)
-both false b P Q p q = (λ h. absurd (cc), λ h. let g = p.1 h.0 in absurd (cc))
-
 inside_told : (s t : Kindred) → Decides (is_inside s t) (LiesInside s t)
 unfolding hidden-the_row-Twins-0 hidden
 inside_told kindred.Unit kindred.Unit = (λ h. tt, λ h. refl)
 inside_told kindred.Bool kindred.Bool = (λ h. tt, λ h. refl)
-inside_told (kindred.Int a b) (kindred.Int c d) = both (le_z c a) (le_z b d) (c ≤ℤ a) (b ≤ℤ d) (le_told c a) (le_told b d)
+inside_told (kindred.Int a b) (kindred.Int c d) = both_decided (le_z c a) (le_z b d) (c ≤ℤ a) (b ≤ℤ d) (le_z-is c a) (le_z-is b d)
 inside_told (kindred.Sym xs) (kindred.Sym ys) = (names_same xs ys, λ h. ap (λ ns. pointwise bytes_eq ns ys) h ∙ names_match ys)
 inside_told (kindred.Text m) (kindred.Text n) = (λ h. grind (arith, nat_tests), λ h. grind (arith, nat_tests))
 inside_told (kindred.Pair' m (kindred.more_of-Twins a b kindred.end_of-Twins)) (kindred.Pair' n (kindred.more_of-Twins c d kindred.end_of-Twins)) =
-    both (is_inside a c) (is_inside b d) (LiesInside a c) (LiesInside b d) (inside_told a c) (inside_told b d)
+    both_decided (is_inside a c) (is_inside b d) (LiesInside a c) (LiesInside b d) (inside_told a c) (inside_told b d)
 inside_told _ _ = (λ h. absurd (cc), λ h. absurd h)
 
 pub inside_is : (r : Bool) (s t : Kindred) → IsTrue r ↔ LiesInside s t → r ≡ is_inside s t
-inside_is r s t is = let d = inside_told s t in same_tests r (is_inside s t) (λ e. d.1 (is.0 e)) (λ e. is.1 (d.0 e))
+inside_is r s t is = let d = inside_told s t in one_truth r (is_inside s t) (λ e. d.1 (is.0 e)) (λ e. is.1 (d.0 e))
 
 -- How deep a pair is.
 pub depth-Pair : (t : Twins) → depth_of (kinds.Pair t) ≡ 1 + max (depth_of t.left) (depth_of t.right)

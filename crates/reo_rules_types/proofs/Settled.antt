@@ -1,5 +1,5 @@
 -- Types that stay the same, whatever is declared behind.
-use Rattle.std.proofs.Common.{◌≡◌, ◌∙◌, ℕ, List, [], ◌∷◌, ◌++◌, Bool, true, false, not, cond, map, Option, None, Some, find, refl, sym, ap, bytes_eq}
+use Rattle.std.proofs.Common.{◌≡◌, ◌∙◌, ℕ, List, [], ◌∷◌, ◌++◌, Bool, true, false, cond, map, Option, None, Some, find, refl, sym, ap, bytes_eq}
 use Rattle.std.specs.Prelude.{option_map, unwrap_or, is_some, ◌||◌}
 use Rattle.std.specs.List.{flat_map}
 use Rattle.std.specs.Option.{option_or}
@@ -7,6 +7,8 @@ use Rattle.std.proofs.lemmas.List.{append_assoc}
 use Rattle.std.proofs.lemmas.List.Folds.{find-append}
 use denote.Hole.Carrier.{hidden}
 use Rattle.reo_values.specs.declared.kindred.Kindred.TheVariants as kinds
+use Rattle.reo_values.proofs.Sequences.{left_none}
+use Rattle.reo_values.proofs.Truths.{not_false}
 use Rattle.reo_trees.specs.declared.types.Shape as shape
 use Rattle.reo_trees.specs.declared.types.Shape.{Shape}
 use Rattle.reo_trees.specs.declared.types.Shape.TheBlock.{hidden-the_row-TypePair-0}
@@ -15,13 +17,9 @@ use Rattle.reo_trees.specs.declared.programs.Parameter.{Parameter}
 use Rattle.reo_rules.specs.Lists.{has_name}
 use Rattle.reo_rules.specs.Types.{Typed, names_of, type_named, resolved, parts_of}
 use Rattle.reo_rules.specs.Unknown.{missing, unknown_in_part, unknown_in_type}
-use Rattle.reo_rules.proofs.AfterLemmas.{left_none, right_none, flat_map-append}
+use Rattle.reo_rules.proofs.AfterLemmas.{right_none, flat_map-append}
 use Rattle.reo_rules_types.specs.Stands.{IsSettled, AreSettled}
 use Rattle.reo_rules_types.proofs.Names.{where_false}
-
-not_false : (b : Bool) → not b ≡ false → b ≡ true
-not_false true e = refl
-not_false false e = absurd (cc)
 
 -- A name that is there is found.
 found_name : (known : List Typed) (name : List ℕ) → has_name (names_of known) name ≡ true → is_some (find (λ (e : Typed). bytes_eq name e.name) known) ≡ true

@@ -2,6 +2,7 @@
 use Rattle.std.proofs.Common.{◌≡◌, ◌∙◌, ℕ, List, [], ◌∷◌, ◌++◌, false, cond, map, sym, ap, subst}
 use Rattle.std.proofs.lemmas.List.{map-append, append-nil, append_assoc}
 use Rattle.reo_values.specs.declared.kindred.Kindred.{Kindred}
+use Rattle.reo_values.proofs.Sequences.{left_none}
 use Rattle.reo_trees.specs.declared.types.TypeTerm.{TypeTerm}
 use Rattle.reo_trees.specs.declared.programs.Connector.{Connector}
 use Rattle.reo_trees.specs.declared.programs.Declaration.{Declaration}
@@ -12,7 +13,6 @@ use Rattle.reo_rules.specs.Names.{with_name}
 use Rattle.reo_rules.specs.Types.{Typed, names_of, resolved, types_after, types_of}
 use Rattle.reo_rules.specs.Scopes.{type_names, connectors_of, connector_names, parameter_names, node_names}
 use Rattle.reo_rules.specs.Unknown.{unknown_in_item, unknown_in_connector}
-use Rattle.reo_rules.proofs.AfterLemmas.{left_none}
 use Rattle.reo_rules_types.specs.declared.known.Known.{Known}
 use Rattle.reo_rules_types.specs.Cells.{Keeps}
 use Rattle.reo_rules_types.specs.Scoped.{typed, AreKnown}

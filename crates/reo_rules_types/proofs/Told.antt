@@ -8,10 +8,13 @@ use Rattle.std.proofs.lemmas.Option.{slice_get-get_or}
 use Rattle.reo_values.specs.declared.kindred.Kindred.{Kindred}
 use Rattle.reo_values.specs.declared.kindred.Kindred.TheVariants as kinds
 use Rattle.reo_values.specs.declared.kindred.Twins.{Twins}
+use Rattle.reo_values.proofs.Truths.{and_both}
+use Rattle.reo_values.proofs.Naturals.{eq_same, same_eq}
 use Rattle.reo_exprs.proofs.JoinCases.{names_same}
 use Rattle.reo_exprs.proofs.Joined.{names_match}
-use Rattle.reo_exprs.proofs.Options.{from_both, to_both}
+use Rattle.reo_exprs.proofs.Options.{to_both}
 use Rattle.reo_exprs.proofs.Steps.{kind_parts}
+use Rattle.reo_exprs.proofs.Same.{int_told}
 use Rattle.reo_rules_types.specs.declared.cell.Cell.{Cell}
 use Rattle.reo_rules_types.specs.declared.cell.Cell.TheVariants as cells
 use Rattle.reo_rules_types.specs.contracts.cell.CellPartialEq.TheImpl.{eq-value}
@@ -27,31 +30,22 @@ pointwise-map f p [] (y ∷ ys) = refl
 pointwise-map f p (x ∷ xs) [] = refl
 pointwise-map f p (x ∷ xs) (y ∷ ys) = ap (λ b. p (f x) (f y) && b) (pointwise-map f p xs ys)
 
-int_told : (a c : ℤ) → int_eq a c ≡ true → a ≡ c
-int_told a c e = let d = Decides-int_eq a c in grind arith
-
 int_same : (a c : ℤ) → a ≡ c → int_eq a c ≡ true
 int_same a c e = let d = Decides-int_eq a c in grind arith
-
-nat_told : (a c : ℕ) → (a == c) ≡ true → a ≡ c
-nat_told a c e = grind arith
-
-nat_same : (a c : ℕ) → a ≡ c → (a == c) ≡ true
-nat_same a c e = grind arith
 
 -- Cells that the test finds equal are of one type.
 pub alike : (types : List Kindred) (c d : Cell) → cell_eq c d ≡ true → kindred_of types c ≡ kindred_of types d
 alike types cells.Unit cells.Unit e = refl
 alike types cells.Bool cells.Bool e = refl
 alike types (cells.Int a b) (cells.Int c d) e =
-    let h = from_both (int_eq a c) (int_eq b d) e in
+    let h = and_both (int_eq a c) (int_eq b d) e in
     λ i. kinds.Int (int_told a c h.0 i) (int_told b d h.1 i)
 alike types (cells.Sym xs) (cells.Sym ys) e =
     ap kinds.Sym (names_same (map (λ v. v.items) xs.items) (map (λ v. v.items) ys.items) (pointwise-map (λ v. v.items) bytes_eq xs.items ys.items ∙ e))
-alike types (cells.Text m) (cells.Text n) e = ap kinds.Text (nat_told m n e)
+alike types (cells.Text m) (cells.Text n) e = ap kinds.Text (eq_same m n e)
 alike types (cells.Pair a b) (cells.Pair c d) e =
-    let h = from_both (a == c) (b == d) e in
-    λ i. kinds.Pair (record { left = type_at types (nat_told a c h.0 i); right = type_at types (nat_told b d h.1 i) })
+    let h = and_both (a == c) (b == d) e in
+    λ i. kinds.Pair (record { left = type_at types (eq_same a c h.0 i); right = type_at types (eq_same b d h.1 i) })
 alike types _ _ e = absurd (false≢true e)
 
 -- The parts of a type.
@@ -84,10 +78,10 @@ module _ (types : List Kindred) (once : (m n : ℕ) (k : Kindred) → slice_get 
       to_both (int_eq a c) (int_eq b d) (int_same a c (ap (λ k. low_of k a) e)) (int_same b d (ap (λ k. high_of k b) e))
   told (cells.Sym xs) (cells.Sym ys) p q e =
       sym (pointwise-map (λ v. v.items) bytes_eq xs.items ys.items) ∙ ap (λ ns. pointwise bytes_eq ns (map (λ v. v.items) ys.items)) (ap names_in e) ∙ names_match (map (λ v. v.items) ys.items)
-  told (cells.Text m) (cells.Text n) p q e = nat_same m n (ap most_in e)
+  told (cells.Text m) (cells.Text n) p q e = same_eq m n (ap most_in e)
   told (cells.Pair a b) (cells.Pair c d) p q e =
       let x : Twins = record { left = type_at types a; right = type_at types b } in
       let y : Twins = record { left = type_at types c; right = type_at types d } in
       let h = kind_parts x y e in
-      to_both (a == c) (b == d) (nat_same a c (same_at a c p.0 q.0 (ap (λ t. t.left) h))) (nat_same b d (same_at b d p.1 q.1 (ap (λ t. t.right) h)))
+      to_both (a == c) (b == d) (same_eq a c (same_at a c p.0 q.0 (ap (λ t. t.left) h))) (same_eq b d (same_at b d p.1 q.1 (ap (λ t. t.right) h)))
   told _ _ p q e = absurd (cc)

@@ -6,6 +6,7 @@ use Rattle.std.specs.List.{AllByRecursion, flat_map}
 use Rattle.reo_values.specs.declared.value.Value.{Value}
 use Rattle.reo_values.specs.declared.kindred.Kindred.{Kindred}
 use Rattle.reo_values.specs.Kind.{is_item}
+use Rattle.reo_values.proofs.Sequences.{left_none}
 use Rattle.reo_exprs.proofs.Options.{some_same, from_and_then}
 use Rattle.reo_net_base.specs.declared.port.Port.{Port}
 use Rattle.reo_net_base.specs.declared.port.Way.{Way}
@@ -13,7 +14,8 @@ use Rattle.reo_net_base.specs.declared.port.Way.TheVariants.{In, Out}
 use Rattle.reo_trees.specs.declared.literals.Literal.{Literal}
 use Rattle.reo_literals.specs.Items.{item_of, value_of}
 use Rattle.reo_rules.specs.Lists.{where_true}
-use Rattle.reo_rules.proofs.AfterLemmas.{left_none, right_none}
+use Rattle.reo_rules.proofs.AfterLemmas.{right_none}
+use Rattle.reo_flatten_laws.proofs.RightKinds.{some_of}
 use Rattle.reo_scripts.specs.ScriptRules.{Naming, same, goes_in, port_number, port_named, item_at, no_port, wrong_way, outside, goes_wrong, the_number, the_item}
 use Rattle.reo_players.specs.Written.Task.{writes, takes}
 use Rattle.reo_run_premises.specs.Fitting.{FitsPorts}
@@ -22,10 +24,6 @@ use Rattle.reo_run_premises.specs.Fitting.{FitsPorts}
 pub fails : {X : Type 0} (b : Bool) (x : X) → where_true b x ≡ [] → b ≡ false
 fails true x none = absurd (cc)
 fails false x none = refl
-
-something : {X : Type 0} (o : Option X) → is_none o ≡ false → (x : X) × (o ≡ Some x)
-something None some = absurd (cc)
-something (Some x) some = (x, refl)
 
 -- The place breaks no rule on ports.
 pub record IsKept (ports : List Port) (n : Naming) : Type 0 where
@@ -51,7 +49,7 @@ pub record HasPort (ports : List Port) (name : List ℕ) : Type 0 where
 
 pub has_port : (ports : List Port) (n : Naming) → IsKept ports n → HasPort ports n.port
 has_port ports n kept =
-    let there = something (port_named ports n.port) (fails _ _ kept.known) in
+    let there = some_of (port_named ports n.port) (fails _ _ kept.known) in
     let found = from_and_then (slice_get ports) (port_number ports n.port) there.0 there.1 in
     record { number = found.0; port = there.0; numbered = found.1; at = found.2; named = there.1 }
 
@@ -84,7 +82,7 @@ of_its_type k l v is =
 
 item_fits : (ports : List Port) (name : List ℕ) (l : Literal) (has : HasPort ports name) → is_none (item_at ports name l) ≡ false → is_item (the_item (item_at ports name l)) has.port.kindred ≡ true
 item_fits ports name l has some =
-    let found = something (item_at ports name l) some in
+    let found = some_of (item_at ports name l) some in
     let same_item = ap (option_and_then (λ (p : Port). item_of p.kindred l)) (sym has.named) ∙ found.1 in
     ap (λ o. is_item (the_item o) has.port.kindred) found.1 ∙ of_its_type has.port.kindred l found.0 same_item
 

@@ -6,13 +6,14 @@ use Rattle.std.proofs.lemmas.List.{append-nil, map-append}
 use Rattle.std.proofs.lemmas.List.Folds.{list_any-append}
 use Rattle.std.proofs.lemmas.Slice.Eq.{bytes_eq-Decides}
 use Rattle.reo_rules.specs.Lists.{each_after, has_name}
-use Rattle.reo_rules.proofs.AfterLemmas.{left_none, right_none, flat_map-append}
+use Rattle.reo_rules.proofs.AfterLemmas.{right_none, flat_map-append}
 use Rattle.reo_scripts.specs.declared.fault.ScriptFault.TheVariants as faults
 use Rattle.reo_scripts.specs.declared.forms.ComponentForm.{ComponentForm}
 use Rattle.reo_scripts.specs.ScriptRules.{Naming, namings_in, shared_in, ports_in}
 use Rattle.reo_run_premises.proofs.Places.{fails}
 use Rattle.std.proofs.lemmas.Bool.{or_left as in_first}
 pub use Rattle.std.proofs.lemmas.Bool.{or_right as in_second}
+use Rattle.reo_values.proofs.Sequences.{left_none}
 
 -- The names of ports in one component, and in that of a number.
 abbrev pub named_by : ComponentForm → List (List ℕ)

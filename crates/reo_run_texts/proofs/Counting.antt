@@ -1,8 +1,9 @@
 -- How many primitives there are, round by round and in a program.
-use Rattle.std.proofs.Common.{◌≡◌, ◌||◌, ℕ, suc, ◌≤◌, Bool, true, false, List, [], ◌∷◌, refl, ap, length, arith, codes}
+use Rattle.std.proofs.Common.{◌≡◌, ◌||◌, ℕ, suc, ◌≤◌, List, [], ◌∷◌, refl, ap, length, codes}
 use Rattle.std.specs.Prelude.{Option, nat_lt}
-use Rattle.std.proofs.lemmas.Bool.Decides.{nat_tests}
 use Rattle.reo_values.specs.declared.value.Value.{Value}
+use Rattle.reo_values.proofs.Naturals.{not_below}
+use Rattle.reo_values.proofs.Truths.{either_false}
 use Rattle.reo_net_base.specs.declared.colouring.Chosen.{Chosen}
 use Rattle.reo_net_base.specs.declared.port.Offer.{Offer}
 use Rattle.reo_net_base.specs.Net.{Wiring, net_of}
@@ -35,16 +36,9 @@ module _ {P : Type 0} (r : Rules P) where
   pub stepped_count : (w : Wiring P) (rows : List ℕ) (items : List (Option Value)) → length (stepped r.behaviour r.settled w rows items) ≡ length w.primitives
   stepped_count w rows items = settled_count w.primitives (all_chosen (net_of r.behaviour w) rows) (all_taken (net_of r.behaviour w) items)
 
-first_false : (a b : Bool) → (a || b) ≡ false → a ≡ false
-first_false true b h = h
-first_false false b h = refl
-
-not_below : (a b : ℕ) → nat_lt a b ≡ false → b ≤ a
-not_below a b h = grind (arith, nat_tests)
-
 -- A program that is accepted has few primitives.
 pub program_count : (ds : List Declaration) → too_many ds ≡ [] → length (primitives_of ds) ≤ 4096
 program_count ds none =
     let m = meaning_named (meanings_of ds) (codes "main") in
     let all = none_true (is_too_many ds m) faults.TooMany none in
-    not_below 4096 (length (primitives_of ds)) (first_false (nat_lt 4096 (length (primitives_of ds))) (nat_lt 65536 m.uses) (first_false (nat_lt 4096 (length (primitives_of ds)) || nat_lt 65536 m.uses) (nat_lt 64 m.depth) all))
+    not_below 4096 (length (primitives_of ds)) (either_false (nat_lt 4096 (length (primitives_of ds))) (nat_lt 65536 m.uses) (either_false (nat_lt 4096 (length (primitives_of ds)) || nat_lt 65536 m.uses) (nat_lt 64 m.depth) all))

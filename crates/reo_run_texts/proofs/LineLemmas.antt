@@ -23,9 +23,9 @@ use Rattle.reo_net_laws.proofs.Sides.{row_below, side_in, side_is}
 use Rattle.reo_trace.specs.declared.line.Cell.TheVariants.{Row, Jam}
 use Rattle.reo_trace.specs.declared.line.Entry.TheVariants.{One, Two}
 use Rattle.reo_trace.specs.Entries.{cell_of, entry_of, entry_at, entries_of, is_idle}
-use Rattle.reo_trace.proofs.Still.{idle_ends}
+use Rattle.reo_trace.proofs.Still.{idle_ends, at_joint}
 use Rattle.reo_trace_texts.specs.Lines.{IsCell, IsEntry, IsMove, AreRising}
-use Rattle.reo_run_texts.proofs.Lists.{first_passes, at_joint}
+use Rattle.reo_run_texts.proofs.Lists.{first_passes}
 
 cell_small : (b : Behaviour) (side row : ℕ) → row < 2 ^ 32 → IsCell (cell_of b side row)
 cell_small b side row small = elim ((row + 1) == b.rows side) as (λ t. IsCell (if t then Jam else Row row)) [ true ↦ tt | false ↦ small ]

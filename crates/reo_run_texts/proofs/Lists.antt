@@ -1,12 +1,12 @@
 -- What stands in lists of items and of joints.
-use Rattle.std.proofs.Common.{◌≡◌, ◌⊎◌, inl, inr, ℕ, zero, suc, ◌<◌, List, [], ◌∷◌, Bool, true, false, cond, ◌||◌, refl, length, get_or, arith}
+use Rattle.std.proofs.Common.{◌≡◌, ℕ, zero, suc, ◌<◌, List, [], ◌∷◌, Bool, true, false, cond, refl, length, get_or, arith}
 use Rattle.std.specs.Prelude.{Option, Some, None}
 use Rattle.std.specs.List.{position_or_len}
 use Rattle.std.proofs.lemmas.List.Sums.{passes_at_first}
 use Rattle.reo_values.specs.declared.value.Value.{Value}
 use Rattle.reo_net_base.specs.declared.joint.End.{End}
 use Rattle.reo_net_base.specs.declared.joint.Joint.{Joint}
-use Rattle.reo_net_base.specs.Net.{end_eq, is_at}
+use Rattle.reo_net_base.specs.Net.{end_eq}
 use Rattle.reo_net_base.specs.Colouring.{taken_at}
 use Rattle.reo_net_laws.proofs.Items.{end_is}
 
@@ -23,15 +23,6 @@ first_passes test joints items d v same is =
     let within = some_in items (position_or_len test joints) v is in
     let below : position_or_len test joints < length joints = omega (arith, within, same) in
     (below, passes_at_first test joints d below)
-
-either : (a b : Bool) → (a || b) ≡ true → (a ≡ true) ⊎ (b ≡ true)
-either true b e = inl refl
-either false b e = inr e
-
--- An end at a joint is its giver or its taker.
-pub at_joint : (e : End) (j : Joint) → is_at e j ≡ true → (j.giver ≡ e) ⊎ (j.taker ≡ e)
-at_joint e j h =
-    elim (either (end_eq j.giver e) (end_eq j.taker e) h) [ inl giver ↦ inl (end_is j.giver e giver) | inr taker ↦ inr (end_is j.taker e taker) ]
 
 -- The item that goes to an end stands at a joint that goes there.
 pub record IsTakenFrom (joints : List Joint) (items : List (Option Value)) (e : End) (v : Value) : Type 0 where

@@ -18,6 +18,7 @@ use Rattle.reo_flat.specs.Flat.{joints_at}
 use Rattle.reo_flatten_laws.specs.Homes.{IsAtNode}
 use Rattle.reo_flatten_laws.proofs.AtNodes.{incoming_at, outgoing_at}
 use Rattle.reo_flatten_laws.proofs.Each.{both, each_of, all_to}
+use Rattle.reo_flatten_laws.proofs.ServedItems.{both_of}
 use Rattle.reo_run_texts.proofs.Keeping.{EndTypes}
 use Rattle.reo_run_texts.proofs.TypedItems.{no_types, type_at, JointsAgree}
 use Rattle.reo_run_texts.proofs.ProgramKinds.{placed_types, own_types, all_types}
@@ -41,11 +42,6 @@ from_before limit takes node i [] within = tt
 from_before limit takes node i (p ∷ ps) within =
     both (IsBefore limit) (ends_in (behaviour_of p.kind) takes node i 0 p.nodes) (ends_from takes node (suc i) ps)
     (in_before limit (behaviour_of p.kind) takes node i 0 p.nodes (omega (arith, within))) (from_before limit takes node (suc i) ps (omega (arith, within)))
-
--- Both of two facts.
-and_all : {X : Type 0} (P Q S : X → Type 0) → ((x : X) → P x → Q x → S x) → (xs : List X) → AllByRecursion P xs → AllByRecursion Q xs → AllByRecursion S xs
-and_all P Q S f [] a b = tt
-and_all P Q S f (x ∷ xs) a b = (f x a.0 b.0, and_all P Q S f xs a.1 b.1)
 
 -- Both ends of a joint.
 abbrev HasBoth : (End → Type 0) → Joint → Type 0
@@ -124,10 +120,10 @@ module _ (T : List ℕ → Kindred) (placed : List Placed) (types : List EndType
 
   module _ (ends : (node : List ℕ) (e : End) → IsBefore (length placed) e → IsAtNode placed node e → type_at types e ≡ T node) where
     incoming_of : (node : List ℕ) → AllByRecursion (IsOfNode node) (incoming placed node)
-    incoming_of node = and_all (IsBefore (length placed)) (IsAtNode placed node) (IsOfNode node) (ends node) (incoming placed node) (from_before (length placed) false node 0 placed (omega arith)) (incoming_at placed node)
+    incoming_of node = both_of (IsBefore (length placed)) (IsAtNode placed node) (IsOfNode node) (ends node) (incoming placed node) (from_before (length placed) false node 0 placed (omega arith)) (incoming_at placed node)
 
     outgoing_of : (node : List ℕ) → AllByRecursion (IsOfNode node) (outgoing placed node)
-    outgoing_of node = and_all (IsBefore (length placed)) (IsAtNode placed node) (IsOfNode node) (ends node) (outgoing placed node) (from_before (length placed) true node 0 placed (omega arith)) (outgoing_at placed node)
+    outgoing_of node = both_of (IsBefore (length placed)) (IsAtNode placed node) (IsOfNode node) (ends node) (outgoing placed node) (from_before (length placed) true node 0 placed (omega arith)) (outgoing_at placed node)
 
     -- Both ends of a joint have one type.
     abbrev Agrees : Joint → Type 0

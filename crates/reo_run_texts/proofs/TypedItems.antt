@@ -18,9 +18,10 @@ use Rattle.reo_net_base.specs.Wired.{IsWired, IsOrder}
 use Rattle.reo_net_laws.proofs.Items.{along_order}
 use Rattle.reo_net_laws.proofs.Orders.{no_joint, Feeds}
 use Rattle.reo_net_laws.proofs.Sides.{gives_at, row_in_table, row_below, side_in_range, same_side_at}
+use Rattle.reo_trace.proofs.Still.{at_joint}
 use Rattle.reo_rounds.specs.Rules.{Rules}
 use Rattle.reo_run_texts.proofs.Keeping.{EndTypes, GivesRight, KeepsTypes}
-use Rattle.reo_run_texts.proofs.Lists.{taken_from, first_passes, at_joint}
+use Rattle.reo_run_texts.proofs.Lists.{taken_from, first_passes}
 
 -- The ends of what is none.
 abbrev pub no_types : EndTypes

@@ -83,10 +83,6 @@ so_far_none r ports budget limit w players before n t left none rounds written d
   counts = record { rounds = rounds; written = written; delivered = delivered };
 }
 
-pub none_of : {X : Type 0} (o : Option X) → ((x : X) → o ≡ Some x → ⊥) → o ≡ None
-none_of None h = refl
-none_of (Some x) h = absurd (h x refl)
-
 module _ {P : Type 0} (r : Rules P) (ports : List Port) (budget limit : ℕ) (start : Place P) where
   ran : (before mid now : Option (List ℕ)) (lines : List RoundLine) (ending : Ending) → IsRun (firsts budget limit) r start lines ending
       → Appended before mid (rounds_text ports lines) → Appended mid now (ending_text ending) → Ran (firsts budget limit) r ports start lines ending before now

@@ -2,6 +2,8 @@
 use Rattle.std.proofs.Common.{◌≡◌, inl, inr, ℕ, zero, suc, ◌+◌, ◌<◌, Bool, true, List, [], ◌∷◌, length, get_or, refl, ap, sym, ◌∙◌, subst, arith}
 use Rattle.std.specs.Bool.{◌==◌}
 use Rattle.std.specs.List.{filter, range_with_len}
+use Rattle.reo_values.proofs.Naturals.{eq_same}
+use Rattle.reo_values.proofs.Truths.{either}
 use Rattle.reo_net_base.specs.declared.joint.Joint.{Joint}
 use Rattle.reo_net_base.specs.Behaviour.{Behaviour}
 use Rattle.reo_net_base.specs.Net.{Net}
@@ -11,18 +13,17 @@ use Rattle.reo_net_laws.specs.Parts.{IsClosed}
 use Rattle.reo_net_laws.specs.Alike.{AreAlike}
 use Rattle.reo_net_laws.specs.Sublists.{sides_in, part_rows}
 use Rattle.reo_net_laws.proofs.Assignments.{sides_same, side_same}
-use Rattle.reo_net_laws.proofs.Isolation.{isolated}
+use Rattle.reo_net_laws.proofs.Isolation.{isolated, same_net}
 use Rattle.reo_net_laws.proofs.OneFirst.{one_inside}
-use Rattle.reo_joint_values.proofs.Equal.{eq_same}
 use Rattle.reo_propagate.specs.Queues.{among}
 use Rattle.reo_walk.specs.declared.part.Part.{Part}
 use Rattle.reo_search.specs.First.{AreFirstRows}
 use Rattle.reo_search.specs.Isolated.{FirstRowsAgree}
-use Rattle.reo_walk.proofs.Knotted.{either, among_filter}
+use Rattle.reo_walk.proofs.Knotted.{among_filter}
 use Rattle.reo_walk.proofs.Resting.{among_at}
 
 -- Rows that are the same at each of some sides.
-rows_same : (sides a b : List ℕ) → ((m : ℕ) → m < length sides → get_or a (get_or sides m 0) 0 ≡ get_or b (get_or sides m 0) 0) → part_rows sides a ≡ part_rows sides b
+pub rows_same : (sides a b : List ℕ) → ((m : ℕ) → m < length sides → get_or a (get_or sides m 0) 0 ≡ get_or b (get_or sides m 0) 0) → part_rows sides a ≡ part_rows sides b
 rows_same [] a b same = refl
 rows_same (s ∷ ss) a b same =
     let here = same zero (omega arith) in
@@ -70,9 +71,6 @@ module _ (bs ds : List Behaviour) (js : List Joint) (wired : IsWired (record { p
         p.sides ∙ sides_agree ∙ sym q.sides,
         p.rows_are ∙ ap (λ (xs : List ℕ). part_rows xs p.rows) sides_agree ∙ rows_same (sides_in other inside) p.rows q.rows at ∙ sym q.rows_are,
       )
-
-same_net : (a b : Net) → b.joints ≡ a.joints → record { primitives = b.primitives; joints = a.joints } ≡ b
-same_net a b same i = record { primitives = b.primitives; joints = sym same i }
 
 -- They have the same first rows.
 pub first_rows_agree : FirstRowsAgree

@@ -3,8 +3,8 @@ use Rattle.std.proofs.Common.{◌≡◌, inl, inr, ◌↔◌, ℕ, ◌+◌, ◌-
 use Rattle.std.specs.Prelude.{nat_lt}
 use Rattle.std.specs.Bool.{◌==◌}
 use Rattle.std.proofs.lemmas.Bool.{and_parts, and_from, cases_Bool}
-use Rattle.std.proofs.lemmas.Bool.Decides.{nat_tests}
 use Rattle.std.proofs.lemmas.List.{get_or_default, get_or-drop, get_or-map}
+use Rattle.reo_values.proofs.Naturals.{eq_same, lt_true, same_eq}
 use Rattle.reo_net_base.specs.declared.joint.Joint.{Joint}
 use Rattle.reo_net_order.specs.Arrows.{NoCycle}
 use Rattle.reo_net_base.specs.Net.{Net, row_count, no_side, from_sides, to_sides, side_at}
@@ -25,7 +25,6 @@ use Rattle.reo_weights.proofs.WeightLemmas.{one_weight}
 use Rattle.reo_joint_values.specs.Values.{Names, items_of, no_joint, giver_side}
 use Rattle.reo_joint_values.specs.Chosen.{IsChosen, rows_of}
 use Rattle.reo_joint_values.specs.Ties.{AreSides}
-use Rattle.reo_joint_values.proofs.Equal.{same_eq, eq_same}
 use Rattle.reo_side_tables.specs.Marks.{side_in}
 use Rattle.reo_propagate.specs.Queues.{among}
 use Rattle.reo_walk.specs.declared.part.Part.{Part}
@@ -39,9 +38,6 @@ use Rattle.reo_walk.proofs.Resting.{among_at}
 use Rattle.reo_choices.proofs.Counted.{capped_small}
 use Rattle.reo_search.proofs.Named.{first_in, last_are_rows, last_are_those}
 
-lt_test : (a b : ℕ) → a < b → nat_lt a b ≡ true
-lt_test a b h = grind (arith, nat_tests)
-
 -- The loop joints of a knot.
 module _ (net : Net) (wired : IsWired net) (knots : Knotted) (knot : ℕ) (are : AreKnots net knots) (lt : knot < knot_count knots) (loops : List ℕ) (is : loops ≡ get_or knots.loop_joints knot []) where
   those_of : AreThose (IsLoopOf net knots.numbers knot) loops
@@ -51,7 +47,7 @@ module _ (net : Net) (wired : IsWired net) (knots : Knotted) (knot : ℕ) (are :
   inside_of j j_lt number =
       let under = side_in_range net wired _ (wired.givers j no_joint j_lt) in
       and_from (nat_lt (giver_side net j) (length knots.numbers)) (get_or knots.numbers (giver_side net j) 0 == knot)
-      (lt_test (giver_side net j) (length knots.numbers) (omega (arith, under, are.numbered.one_each)))
+      (lt_true (giver_side net j) (length knots.numbers) (omega (arith, under, are.numbered.one_each)))
       (same_eq (get_or knots.numbers (giver_side net j) 0) knot number)
 
   loop_in : (j : ℕ) → IsLoopOf net knots.numbers knot j → IsJointIn net (in_knot knots.numbers knot) j × IsLoop net j

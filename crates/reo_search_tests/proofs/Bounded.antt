@@ -5,19 +5,19 @@ use Rattle.std.specs.Bool.{◌==◌}
 use Rattle.std.proofs.lemmas.Bool.{cases_lt, and_parts}
 use Rattle.std.proofs.lemmas.List.{get_or_past, get_or_default}
 use Rattle.reo_values.specs.declared.value.Value.{Value}
+use Rattle.reo_values.proofs.Naturals.{eq_same}
+use Rattle.reo_values.proofs.Truths.{either}
 use Rattle.reo_net_base.specs.declared.joint.Joint.{Joint}
 use Rattle.reo_net_base.specs.Net.{Net, side_at}
 use Rattle.reo_knots.specs.Knots.{Knotted, AreKnots, IsLoopOf, in_knot, knot_count}
 use Rattle.reo_joint_values.specs.declared.value.JointValue.{JointValue}
 use Rattle.reo_joint_values.specs.Values.{value_eq, no_joint, giver_side}
 use Rattle.reo_support.specs.Sets.{OneAtLoops}
-use Rattle.reo_joint_values.proofs.Equal.{eq_same}
 use Rattle.reo_joint_values.proofs.Narrowing.{same_value}
 use Rattle.reo_rows.specs.Sets.{code_of}
 use Rattle.reo_propagate.specs.ListedSets.{in_set, listed}
 use Rattle.reo_propagate.proofs.Listed.{set_more}
 use Rattle.reo_search_tests.specs.Bounds.{AreBelow, AreWithin, AreSingle}
-use Rattle.reo_walk.proofs.Knotted.{either}
 
 -- A value more is below the bound.
 pub below_more : (values : List JointValue) (w : JointValue) (bound : ℕ) → AreBelow values bound → code_of w < bound

@@ -3,7 +3,6 @@ use Rattle.std.proofs.Common.{◌≡◌, inl, inr, ℕ, zero, suc, ◌<◌, ◌�
 use Rattle.std.specs.Prelude.{IsSome}
 use Rattle.std.specs.Option.{option_and_then}
 use Rattle.std.proofs.lemmas.List.{get_or_default, length-map, length-set}
-use Rattle.std.proofs.lemmas.Bool.Decides.{nat_tests}
 use Rattle.reo_values.specs.declared.value.Value.{Value}
 use Rattle.reo_net_base.specs.declared.mark.Mark.{Mark}
 use Rattle.reo_net_base.specs.declared.mark.Mark.TheVariants.{F, G, R, J}
@@ -21,15 +20,9 @@ use Rattle.reo_net_laws.proofs.Sides.{side_at_place, row_is, same_side_at, side_
 use Rattle.reo_net_laws.proofs.Items.{end_is, given_fed}
 use Rattle.reo_net_laws.proofs.Orders.{no_joint, Feeds, place_in, place_of, fed_before}
 use Rattle.reo_net_laws.proofs.Assignments.{fits_same}
-use Rattle.reo_net_laws.proofs.Joined.{ends_joined}
+use Rattle.reo_net_laws.proofs.Joined.{ends_joined, end_same}
 use Rattle.reo_net_laws.proofs.Search.{flow_or, eq_or}
 use Rattle.reo_state_laws.specs.States.{IsOpen, AreFitting, OpenPartsNeedNoItems}
-
-end_same : (a b : End) → a ≡ b → end_eq a b ≡ true
-end_same a b e =
-    let p : a.primitive ≡ b.primitive = ap (λ (x : End). x.primitive) e in
-    let q : a.end ≡ b.end = ap (λ (x : End). x.end) e in
-    grind (arith, nat_tests)
 
 -- The item that goes to an end is that of the one joint there.
 taken_one : (joints : List Joint) (items : List (Option Value)) (e : End) (j : ℕ) (d : Joint) → length items ≡ length joints → j < length joints → (get_or joints j d).taker ≡ e
@@ -55,9 +48,6 @@ giver_flows J h = cc
 some_of : (o : Option Value) → IsSome o → (item : Value) × (o ≡ Some item)
 some_of None h = cc
 some_of (Some item) h = (item, refl)
-
-is_some : (o : Option Value) (item : Value) → o ≡ Some item → IsSome o
-is_some o item e = subst IsSome (sym e) refl
 
 module _ (net : Net) (wired : IsWired net) (rows : List ℕ) (items : List (Option Value)) (one_item : length items ≡ length net.joints) where
   -- Where something flows, an item is given, if items are at the joints that feed it.

@@ -15,6 +15,7 @@ use Rattle.reo_net_laws.specs.Alike.{AreAlike}
 use Rattle.reo_net_laws.proofs.Sides.{owner_of, owner_side, side_at_place, row_is, side_in_range, row_in_table}
 use Rattle.reo_net_laws.proofs.Assignments.{first_same_at, sides_same, side_same, side_other}
 use Rattle.reo_net_base.specs.SameTables.{SameTable}
+use Rattle.reo_net_laws.proofs.Isolation.{same_net}
 use Rattle.reo_state_laws.specs.States.{HaveSameTables, IsOpen, AreFitting, AreFirstRows, SameTablesSameRows}
 use Rattle.reo_state_laws.proofs.Open.{open_items}
 
@@ -213,9 +214,6 @@ module _ (turn later : ℕ) (bs ds : List Behaviour) (js : List Joint) (wired : 
               ((λ i. slice_cmp nat_cmp (same_key later turn ds bs js wired_other inside again closed_other others fit_other i) (sym (same_key turn later bs ds js wired inside same closed rows fit) i)) ∙ less);
         };
       }
-
-same_net : (net other : Net) → other.joints ≡ net.joints → record { primitives = other.primitives; joints = net.joints } ≡ other
-same_net net other same i = record { primitives = other.primitives; joints = sym same i }
 
 pub same_rows : SameTablesSameRows
 same_rows turn later net other wired wired_other order is_order is_order_other inside closed tables lets lets_other rows first =

@@ -1,7 +1,7 @@
 -- A circuit of which the first so many primitives have gone on.
 use Rattle.std.proofs.Common.{◌≡◌, ◌∙◌, ℕ, zero, suc, ◌+◌, ◌<◌, ◌≤◌, true, List, [], ◌∷◌, ◌++◌, length, map, get_or, set, take, drop, ap, sym, subst, refl, arith, append-nil}
 use Rattle.std.specs.Prelude.{Option, None, cond, ◌==◌}
-use Rattle.std.specs.List.{flat_map, position_or_len}
+use Rattle.std.specs.List.{position_or_len}
 use Rattle.std.proofs.lemmas.List.{length-map, length-set, get_or-map, take_all, drop_all}
 use Rattle.std.proofs.lemmas.List.FromFn.{get_or-map-range_with_len, length-map-range_with_len}
 use Rattle.reo_values.specs.declared.value.Value.{Value}
@@ -11,12 +11,12 @@ use Rattle.reo_net_base.specs.declared.joint.Joint.{Joint}
 use Rattle.reo_net_base.specs.Behaviour.{Behaviour, nothing}
 use Rattle.reo_net_base.specs.Colouring.{IsColouring}
 use Rattle.reo_net_base.specs.Lawful.{SameShape, IsQuiet}
-use Rattle.reo_net_base.specs.Net.{Net, Wiring, net_of, all_sides, behaviour_at, first_side, is_at, sides_of}
+use Rattle.reo_net_base.specs.Net.{Net, Wiring, net_of, all_sides, behaviour_at, first_side, is_at}
 use Rattle.reo_net_base.specs.Shapes.{SameShapes, SameNetShape}
 use Rattle.reo_net_base.specs.Step.{all_chosen, all_taken, change_at, chosen_for, mouth_of, settled_list, stepped, taken_for}
 use Rattle.reo_net_base.specs.Wired.{IsWired, IsEnd}
 use Rattle.reo_net_ends.specs.Ends.{AreEnds, joint_at}
-use Rattle.reo_net_circuit.proofs.ReshapeLemmas.{first_same}
+use Rattle.reo_net_circuit.proofs.ReshapeLemmas.{first_same, all_is}
 use Rattle.reo_net_circuit.proofs.SettleLemmas.{rest_same, same_at, settled_more}
 use Rattle.reo_net_circuit.proofs.ShapeLemmas.{mouth_same}
 use Rattle.reo_net_circuit.proofs.StepLemmas.{taken_kept}
@@ -41,7 +41,7 @@ shapes_twice xs ys zs f g = record {
 }
 
 -- An item that goes.
-none_at : (xs : List (Option Value)) (m j : ℕ) → get_or xs j None ≡ None → get_or (set xs m None) j None ≡ None
+pub none_at : (xs : List (Option Value)) (m j : ℕ) → get_or xs j None ≡ None → get_or (set xs m None) j None ≡ None
 none_at [] m j h = h
 none_at (x ∷ xs) zero zero h = refl
 none_at (x ∷ xs) zero (suc j) h = h
@@ -51,9 +51,6 @@ none_at (x ∷ xs) (suc m) (suc j) h = none_at xs m j h
 some_of : {X : Type 0} → (xs : List X) (i : ℕ) → i < length xs → X
 some_of [] i lt = absurd (omega arith)
 some_of (x ∷ xs) i lt = x
-
-all_is : (bs : List Behaviour) → length (all_sides bs) ≡ first_side bs (length bs)
-all_is bs = ap (λ (xs : List Behaviour). length (flat_map sides_of xs)) (sym (take_all (length bs) bs (omega arith)))
 
 -- Circuits of the same shape have as many sides.
 pub sides_same : (bs ds : List Behaviour) → SameShapes bs ds → length (all_sides ds) ≡ length (all_sides bs)

@@ -16,6 +16,7 @@ use Rattle.reo_net_ends.specs.Ends.{AreEnds, joint_at}
 use Rattle.reo_net_ends.proofs.EndLemmas.{taker_at, of_taker}
 use Rattle.reo_stepping.proofs.FlowLemmas.{no_joint}
 use Rattle.std.proofs.lemmas.Bool.{false_from_ne_true as not_true}
+use Rattle.reo_net_circuit.proofs.StepLemmas.{mouth_test}
 
 -- One of the two ends of a primitive with two sides is its mouth.
 one_end : (s : ℕ → ℕ) (f e : ℕ) → s 0 ≢ s 1 → f < 2 → e < 2 → s f ≡ 0 → s e ≡ 0 → f ≡ e
@@ -32,9 +33,6 @@ is_mouth_at b i j end two side is =
     let p : j.taker.primitive ≡ i = ap (λ (x : End). x.primitive) is in
     let s : b.side_of j.taker.end ≡ 0 = ap (λ (x : End). b.side_of x.end) is ∙ side in
     grind (arith, nat_tests)
-
-mouth_is_of : (b : Behaviour) (i : ℕ) (j : Joint) → is_mouth b i j ≡ true → j.taker.primitive ≡ i
-mouth_is_of b i j h = grind (arith, nat_tests)
 
 mouth_is_side : (b : Behaviour) (i : ℕ) (j : Joint) → is_mouth b i j ≡ true → b.side_of j.taker.end ≡ 0
 mouth_is_side b i j h = grind (arith, nat_tests)
@@ -55,7 +53,7 @@ module _ (net : Net) (wired : IsWired net) (table : List (List ℕ)) (are : AreE
       λ m lt. not_true (is_mouth b i (get_or net.joints m no_joint)) (λ passes.
       let m_in : m < length net.joints = omega arith in
       let j : Joint = get_or net.joints m no_joint in
-      let of : j.taker.primitive ≡ i = mouth_is_of b i j passes in
+      let of : j.taker.primitive ≡ i = mouth_test b i j passes in
       let there : j.taker.end < b.ends = rw of at (wired.takers m no_joint m_in).1 in
       let ends = sided.ends in
       let same : j.taker.end ≡ end = one_end b.side_of j.taker.end end sided.apart (omega (arith, there, ends)) (omega (arith, end_in, ends)) (mouth_is_side b i j passes) side in

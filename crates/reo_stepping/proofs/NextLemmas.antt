@@ -1,12 +1,9 @@
 -- Primitives between one that is marked and the next.
-use Rattle.std.proofs.Common.{◌≡◌, ℕ, ◌<◌, ◌≤◌, Bool, true, false, List, arith}
+use Rattle.std.proofs.Common.{ℕ, ◌<◌, ◌≤◌, Bool, true, List, arith}
+use Rattle.reo_values.proofs.Truths.{not_both}
 use Rattle.reo_flags.specs.Next.{IsNext}
 use Rattle.reo_net_base.specs.Net.{Net}
 use Rattle.reo_stepping.specs.Changes.{AreThoseThatFlowed, HasFlow, is_changed}
-
-not_both : (b : Bool) → b ≡ false → b ≡ true → ⊥
-not_both true h g = cc
-not_both false h g = cc
 
 -- No end flows of those before the next that is marked.
 pub none_flows : (net : Net) (rows : List ℕ) (marks : List Bool) → AreThoseThatFlowed net rows marks → (from next : ℕ) → IsNext true marks from next

@@ -22,7 +22,7 @@ still_no_items net wired inside rows items is still j d lt h =
     no_item net rows items joint (get_or items j None) (still joint.giver (wired.givers j d lt) h) (is.items_fit j d lt h)
 
 -- What goes to an end that flows, flows.
-flows_both : (m n : Mark) → marks_match m n ≡ true → n ≡ F → m ≡ F
+pub flows_both : (m n : Mark) → marks_match m n ≡ true → n ≡ F → m ≡ F
 flows_both F n h e = refl
 flows_both G F h e = cc
 flows_both G G h e = cc

@@ -5,12 +5,13 @@ use Rattle.std.specs.Ordering.{nat_cmp, ordering_then}
 use Rattle.reo_net_base.specs.declared.mark.Mark.TheVariants.{F}
 use Rattle.reo_net_base.specs.declared.joint.End.{End}
 use Rattle.reo_net_base.specs.Behaviour.{IsEndOf}
-use Rattle.reo_net_base.specs.Net.{Net, Side, all_sides, behaviour_at, row_count, end_of, side_at, mark_at}
+use Rattle.reo_net_base.specs.Net.{Net, Side, all_sides, behaviour_at, row_count, end_of, side_at}
 use Rattle.reo_net_base.specs.First.{Position, is_leading, class_position, leading_positions, class_positions, row_positions, positions, order_by}
 use Rattle.reo_net_base.specs.Wired.{IsWired}
 use Rattle.reo_net_laws.specs.Keys.{within}
-use Rattle.reo_net_laws.proofs.Sides.{Owner, owner_of, owner_side, row_is, side_at_place}
+use Rattle.reo_net_laws.proofs.Sides.{Owner, owner_of, owner_side, side_at_place}
 use Rattle.reo_net_laws.proofs.Places.{order-append}
+use Rattle.reo_net_laws.proofs.Flows.{mark_of}
 use Rattle.reo_still.specs.Still.{IsStill, StillPartsStayFirst}
 use Rattle.reo_still.proofs.Standing.{class_alike}
 
@@ -74,15 +75,6 @@ module _ (inside : ℕ → Bool) (x y : List ℕ) where
         ∙ (λ i. ordering_then (leading_alike ss 0 h i) (ordering_then (classes_alike ss 0 h i) (order_by (within inside rows) x y)))
         ∙ sym (order_split (leading_positions later ss 0) (class_positions later ss 0 ++ rows)
         ∙ ap (ordering_then (order_by (within inside (leading_positions later ss 0)) x y)) (order_split (class_positions later ss 0) rows))
-
--- The mark of an end of a side.
-mark_of : (net : Net) (rows : List ℕ) (k : ℕ) (o : Owner net.primitives k) (end : ℕ) → (behaviour_at net.primitives o.primitive).side_of end ≡ o.number
-    → mark_at net rows (end_of o.primitive end) ≡ (behaviour_at net.primitives o.primitive).mark o.number (get_or rows k 0) end
-unfolding mark_at
-mark_of net rows k o end is =
-    let e : End = end_of o.primitive end in
-    let place : side_at net e ≡ k = omega (arith, side_at_place net e, is, o.place) in
-    λ i. (behaviour_at net.primitives o.primitive).mark (is i) ((row_is net rows e ∙ ap (λ (s : ℕ). get_or rows s 0) place) i) end
 
 module _ (net : Net) (wired : IsWired net) (inside : ℕ → Bool) (rows : List ℕ) (still : IsStill net inside rows) where
   -- No end of a side of the set flows, by the side's primitive.

@@ -4,11 +4,12 @@ use Rattle.std.specs.Prelude.{◌==◌, ◌&&◌, nat_lt}
 use Rattle.std.specs.List.{range_with_len}
 use Rattle.std.specs.Ordering.{nat_cmp}
 use Rattle.std.specs.Cmp.Lexicographic.{slice_cmp}
-use Rattle.std.proofs.lemmas.Bool.Decides.{nat_tests}
 use Rattle.std.proofs.lemmas.List.{get_or_default}
 use Rattle.std.proofs.lemmas.List.FromFn.{get_or-map-range_with_len, length-map-range_with_len}
 use native.Mathlib.Bridge.{le_prop}
 use Rattle.reo_values.specs.declared.value.Value.{Value}
+use Rattle.reo_values.proofs.Truths.{and_left, and_right}
+use Rattle.reo_values.proofs.Naturals.{eq_same, lt_true, same_eq, true_lt}
 use Rattle.reo_net_base.specs.declared.joint.Joint.{Joint}
 use Rattle.reo_net_base.specs.Sides.{side_count}
 use Rattle.reo_net_base.specs.Net.{Net, all_sides, side_at}
@@ -18,7 +19,6 @@ use Rattle.reo_net_base.specs.Wired.{IsWired}
 use Rattle.reo_net_laws.specs.Parts.{SameKnot, IsAssignment, is_joint_inside}
 use Rattle.reo_net_laws.specs.Keys.{within, IsLeastIn}
 use Rattle.reo_net_laws.proofs.Sides.{below_or, are_rows, side_in_range}
-use Rattle.reo_net_laws.proofs.Sets.{and_left, and_right}
 use Rattle.reo_net_laws.proofs.Assignments.{agreeing}
 use Rattle.reo_net_laws.proofs.Places.{key_inside, positions_in_range}
 use Rattle.reo_net_laws.proofs.Orders.{no_joint}
@@ -27,28 +27,21 @@ use Rattle.reo_knots.specs.Knots.{AreNumbers, in_knot}
 use Rattle.reo_knots.proofs.KnotLemmas.{knot}
 use Rattle.reo_still.specs.Joining.{HaveFirsts, PartsMakeFirst}
 use Rattle.reo_still.proofs.PartSets.{fewer, same_places}
-use Rattle.reo_joint_values.proofs.Equal.{eq_same as test_equal, same_eq as equal_test}
-
-below_test : (a b : ℕ) → a < b → nat_lt a b ≡ true
-below_test a b h = grind (arith, nat_tests)
-
-test_below : (a b : ℕ) → nat_lt a b ≡ true → a < b
-test_below a b h = grind (arith, nat_tests)
 
 module _ (net : Net) (wired : IsWired net) (numbers : List ℕ) (count : ℕ) (are : AreNumbers (SameKnot net) (side_count net) numbers count) where
   -- The part of a side.
   part_is : (k s : ℕ) → s < side_count net → in_knot numbers k s ≡ (get_or numbers s 0 == k)
-  part_is k s lt = ap (λ (t : Bool). t && (get_or numbers s 0 == k)) (below_test s (length numbers) (omega (arith, are.one_each)))
+  part_is k s lt = ap (λ (t : Bool). t && (get_or numbers s 0 == k)) (lt_true s (length numbers) (omega (arith, are.one_each)))
 
   in_own : (s : ℕ) → s < side_count net → in_knot numbers (get_or numbers s 0) s ≡ true
-  in_own s lt = part_is (get_or numbers s 0) s lt ∙ equal_test (get_or numbers s 0) (get_or numbers s 0) refl
+  in_own s lt = part_is (get_or numbers s 0) s lt ∙ same_eq (get_or numbers s 0) (get_or numbers s 0) refl
 
   number_is : (k s : ℕ) → in_knot numbers k s ≡ true → get_or numbers s 0 ≡ k
-  number_is k s h = test_equal (get_or numbers s 0) k (and_right (nat_lt s (length numbers)) (get_or numbers s 0 == k) h)
+  number_is k s h = eq_same (get_or numbers s 0) k (and_right (nat_lt s (length numbers)) (get_or numbers s 0 == k) h)
 
   in_range : (k s : ℕ) → in_knot numbers k s ≡ true → s < side_count net
   in_range k s h =
-      let lt = test_below s (length numbers) (and_left (nat_lt s (length numbers)) (get_or numbers s 0 == k) h) in
+      let lt = true_lt s (length numbers) (and_left (nat_lt s (length numbers)) (get_or numbers s 0 == k) h) in
       omega (arith, lt, are.one_each)
 
   module _ (turn : ℕ) (rows : List ℕ) (one_row : length rows ≡ side_count net) (parts : HaveFirsts net numbers count turn rows) where

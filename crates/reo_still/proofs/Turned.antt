@@ -1,5 +1,5 @@
 -- Circuits that are alike, seen from the other.
-use Rattle.std.proofs.Common.{◌≡◌, ℕ, ◌+◌, ◌<◌, List, Bool, length, get_or, refl, ap, sym, ◌∙◌, arith}
+use Rattle.std.proofs.Common.{ℕ, ◌+◌, ◌<◌, List, Bool, length, get_or, refl, ap, sym, ◌∙◌, arith}
 use Rattle.reo_net_base.specs.declared.joint.Joint.{Joint}
 use Rattle.reo_net_base.specs.Behaviour.{Behaviour, IsEndOf}
 use Rattle.reo_net_base.specs.Lawful.{GivesAt}
@@ -52,7 +52,3 @@ module _ (bs ds : List Behaviour) (js : List Joint) (wired : IsWired (record { p
           passes = λ row end item r is takes. sym (same.passes row end item (rw same.rows at r) (end_back end is) (sym (shape.takes_in end) ∙ takes));
         };
   }
-
--- The circuit that is alike, with the joints of the first.
-pub same_net : (m n : Net) → n.joints ≡ m.joints → record { primitives = n.primitives; joints = m.joints } ≡ n
-same_net m n same i = record { primitives = n.primitives; joints = sym same i }

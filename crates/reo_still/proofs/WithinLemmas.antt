@@ -7,6 +7,7 @@ use Rattle.reo_net_base.specs.Wired.{IsWired}
 use Rattle.reo_net_laws.specs.Parts.{IsClosedBelow, IsClosed}
 use Rattle.reo_net_laws.specs.Alike.{AreAlike}
 use Rattle.reo_net_laws.proofs.Assignments.{side_same}
+use Rattle.reo_net_laws.proofs.Isolation.{same_net}
 use Rattle.reo_knots.specs.Knots.{IsLoop}
 use Rattle.reo_joint_values.specs.Standing.{no_joint, giver_of}
 use Rattle.reo_joint_values.specs.Many.{IsJointIn}
@@ -14,7 +15,7 @@ use Rattle.reo_weights.specs.Widths.{IsWide}
 use Rattle.reo_weights.specs.Weights.{all_values, IsWeight}
 use Rattle.reo_weights.specs.Over.{IsWithin}
 use Rattle.reo_still.specs.Weighing.{AlikePartsWeighAlike}
-use Rattle.reo_still.proofs.Turned.{closed_too, alike_back, same_net}
+use Rattle.reo_still.proofs.Turned.{closed_too, alike_back}
 use Rattle.reo_still.proofs.StandLemmas.{stands_there}
 use Rattle.reo_still.proofs.SupportLemmas.{greatest_there}
 

@@ -1,25 +1,19 @@
 -- Rows and values that grow along joints: from a side to all that joints link to it.
-use Rattle.std.proofs.Common.{◌≡◌, ◌≢◌, ◌⊎◌, inl, inr, ℕ, zero, suc, ◌<◌, ◌≤◌, Bool, true, false, cond, refl, ap, sym, ◌∙◌, subst, arith}
+use Rattle.std.proofs.Common.{◌≡◌, ◌≢◌, ◌⊎◌, inl, inr, ℕ, zero, suc, ◌<◌, ◌≤◌, Bool, true, cond, refl, ap, sym, ◌∙◌, subst, arith}
 use Rattle.std.specs.Bool.{◌==◌}
 use Rattle.std.specs.Prelude.{◌||◌}
 use Rattle.std.proofs.lemmas.Bool.{cases_eq, cond-true, cond-false}
 use Rattle.reo_net_laws.proofs.Sides.{below_or}
-use Rattle.reo_joint_values.proofs.Equal.{same_eq, eq_same, other_eq}
 use Rattle.reo_support.proofs.Labels.{label, label_joins, label_stays, label_along, label_before}
 use Rattle.reo_support.proofs.Labels.Before.{one, down, up}
 use Rattle.std.proofs.lemmas.Bool.{or_left as either_left, or_right as either_right}
+use Rattle.reo_values.proofs.Naturals.{eq_same, same_eq, other_eq}
+use Rattle.reo_values.proofs.Truths.{either}
+use Rattle.reo_joint_values.proofs.Choosing.{true_or_false}
 
 -- A joint comes from a side or goes there.
 abbrev pub At : (ℕ → ℕ) → (ℕ → ℕ) → ℕ → ℕ → Type 0
 At giver taker j k = (giver j ≡ k) ⊎ (taker j ≡ k)
-
-either : (a b : Bool) → (a || b) ≡ true → (a ≡ true) ⊎ (b ≡ true)
-either true b h = inl refl
-either false b h = inr h
-
-true_or_false : (t : Bool) → (t ≡ true) ⊎ (t ≡ false)
-true_or_false true = inl refl
-true_or_false false = inr refl
 
 -- Two numbers for the sides of a joint: both are the same, or they are those of its two sides.
 module _ (giver taker : ℕ → ℕ) (i b d : ℕ) where

@@ -3,10 +3,10 @@ use Rattle.std.proofs.Common.{◌≡◌, inl, inr, ℕ, zero, suc, ◌<◌, ◌�
 use Rattle.std.specs.Bool.{◌==◌}
 use Rattle.std.proofs.lemmas.Bool.{cases_eq}
 use Rattle.std.proofs.lemmas.List.{get_or_default}
+use Rattle.reo_values.proofs.Naturals.{eq_same, same_eq}
 use Rattle.reo_net_base.specs.Net.{Net}
 use Rattle.reo_net_laws.specs.Parts.{IsLinked}
 use Rattle.reo_joint_values.specs.Values.{giver_side, taker_side, no_joint}
-use Rattle.reo_joint_values.proofs.Equal.{same_eq, eq_same}
 use Rattle.reo_knots.specs.Labels.{renamed}
 use Rattle.reo_knots.proofs.LabelLemmas.{renamed_same, renamed_other}
 

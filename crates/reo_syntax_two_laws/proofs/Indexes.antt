@@ -1,12 +1,14 @@
 -- Indexes, and names of nodes with a place, are printed so that their text says them.
-use Rattle.std.proofs.Common.{◌≡◌, ℕ, zero, suc, ◌^◌, ◌<◌, Bool, true, false, Option, Some, None, List, [], ◌∷◌, ◌++◌, map, refl, sym, ◌∙◌, ap, subst, arith, append-nil, codes}
+use Rattle.std.proofs.Common.{◌≡◌, ℕ, zero, suc, ◌^◌, ◌<◌, Bool, true, false, Option, Some, None, List, [], ◌∷◌, ◌++◌, refl, sym, ◌∙◌, ap, subst, arith, append-nil, codes}
 use Rattle.std.specs.List.{flat_map}
 use Rattle.std.specs.Fmt.{decimal}
+use Rattle.reo_values.proofs.Truths.{and_left}
+use Rattle.reo_values.proofs.Sequences.{map_same}
 use Rattle.reo_grammar.specs.declared.kind.TokenKind.TheVariants as kinds
 use Rattle.reo_grammar.specs.Tokens.{Lexeme, matches, is_real, number_from}
 use Rattle.reo_grammar.specs.Tokens.Class.{fixed, number}
-use Rattle.reo_grammar.proofs.Sound.{and-left}
 use Rattle.reo_grammar.proofs.Numbers.{real-number-below}
+use Rattle.reo_grammar.proofs.Classes.{number-kind}
 use Rattle.reo_lexer.proofs.Cut.{is_cut}
 use Rattle.reo_trees.specs.declared.indexes.Index.{Index}
 use Rattle.reo_trees.specs.declared.indexes.SignedUnit.{SignedUnit}
@@ -18,7 +20,7 @@ use Rattle.reo_trees.specs.Indexes.{most_place, unit_form, unsigned, sign_form, 
 use Rattle.reo_syntax.specs.Spread.{spread}
 use Rattle.reo_syntax.proofs.Row.{is_apart}
 use Rattle.reo_syntax.proofs.Again.{Out, out-both, out-left, out-right, out-made, out-nothing, out-text, out-word, out-word-as, out-name, out-gap, out-weaker}
-use Rattle.reo_syntax.proofs.Decimals.{decimal-value, number-kind}
+use Rattle.reo_syntax.proofs.Decimals.{decimal-value}
 use Rattle.reo_syntax.proofs.Cuts.{open-cut, close-cut, apart-loose, name-cut}
 use Rattle.reo_syntax.proofs.Claims.{Again}
 use Rattle.reo_syntax.proofs.Seen.{World, See, see-then, see-both, see-made, see-either, see-word, see-word-as, see-token, see-nothing}
@@ -35,7 +37,7 @@ pub record UnitOut (ts : List Lexeme) (u : IndexUnit) : Type 0 where
 
 number-starts : (t : Lexeme) → matches (number 0 most_place) t ≡ true → is_real t ≡ true → starts_well (decimal (number_from 0 t.bytes)) ≡ true
 number-starts t m q =
-    let b : number_from 0 t.bytes < 10 ^ 18 = real-number-below t (number-kind t.kind (and-left _ _ m)) q in
+    let b : number_from 0 t.bytes < 10 ^ 18 = real-number-below t (number-kind t.kind (and_left _ _ m)) q in
     digits-start (decimal (number_from 0 t.bytes)) (decimal-value (number_from 0 t.bytes) (omega arith)).0
 
 see-unit : {w : World} → See w unit_form UnitOut
@@ -162,13 +164,9 @@ see-ref = see-both (see-made (see-token (λ t m q. see-then see-placed (λ a p o
     out-both (SameRef (placed_ref t.bytes p)) (out-text (append-nil t.bytes) (out-name t [] (placed_text p ++ r) m q refl (placed-cut t.bytes p r h))) (o r h)
     (λ y z e i. ap (λ n. placed_ref n p) e ∙ ap (placed_ref y) i)))))
 
-map-same : {A : Type 0} (xs : List A) → map (λ x. x) xs ≡ xs
-map-same [] = refl
-map-same (x ∷ xs) = ap (λ l. x ∷ l) (map-same xs)
-
 abbrev pub SameRefs : List Ref → List Ref → Type 0
 SameRefs x y = x ≡ y
 
 -- One or more, with commas between them.
 pub see-refs : {w : World} → See w (comma_form ref_form) (Again (comma_form ref_form) (spread ref_text) SameRefs)
-see-refs = see-then (see-comma see-ref) (λ ts xs p r h. out-weaker (SameRefs xs) (p.again r h) (λ ys e. sym (map-same xs) ∙ e ∙ map-same ys))
+see-refs = see-then (see-comma see-ref) (λ ts xs p r h. out-weaker (SameRefs xs) (p.again r h) (λ ys e. sym (map_same xs) ∙ e ∙ map_same ys))

@@ -1,10 +1,11 @@
 -- Items, loops among them, are printed so that their text says them.
 use Rattle.std.proofs.Common.{◌≡◌, ℕ, true, List, [], ◌∷◌, ◌++◌, map, refl, sym, ◌∙◌, ap, subst, append_assoc, codes}
 use Rattle.std.specs.List.{list_all}
+use Rattle.reo_values.proofs.Truths.{and_left, and_right}
 use Rattle.reo_grammar.specs.Tokens.{Lexeme}
 use Rattle.reo_grammar.specs.Grammar.{line_of}
 use Rattle.reo_grammar.specs.Grammar.Grammar.{rule}
-use Rattle.reo_grammar.proofs.Sound.{and-left, and-right, and-both}
+use Rattle.reo_grammar.proofs.Sound.{and-both}
 use Rattle.reo_lexer.specs.Gaps.{is_space}
 use Rattle.reo_trees.specs.declared.indexes.Index.{Index}
 use Rattle.reo_trees.specs.declared.items_two.ItemTwo.{ItemTwo}
@@ -30,8 +31,8 @@ use Rattle.reo_syntax_two_laws.proofs.Claims.{SameItem, PrintedItem, ClaimTwo, F
 
 spaces-more : (indent : List ℕ) → list_all is_space indent ≡ true → list_all is_space (indent ++ codes "  ") ≡ true
 spaces-more [] h = refl
-spaces-more (b ∷ indent) h = and-both (is_space b) (list_all is_space (indent ++ codes "  ")) (and-left (is_space b) (list_all is_space indent) h)
-    (spaces-more indent (and-right (is_space b) (list_all is_space indent) h))
+spaces-more (b ∷ indent) h = and-both (is_space b) (list_all is_space (indent ++ codes "  ")) (and_left (is_space b) (list_all is_space indent) h)
+    (spaces-more indent (and_right (is_space b) (list_all is_space indent) h))
 
 abbrev pub SameItems : List ItemTwo → List ItemTwo → Type 0
 SameItems x y = map bare_item x ≡ map bare_item y

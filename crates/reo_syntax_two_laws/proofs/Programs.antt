@@ -4,11 +4,11 @@ use Rattle.std.specs.List.{flat_map}
 use Rattle.std.specs.Fmt.{decimal}
 use Rattle.std.proofs.lemmas.Bool.Decides.{nat_tests}
 use Rattle.std.proofs.lemmas.Fmt.{decimal_digit}
+use Rattle.reo_values.proofs.Truths.{and_left, and_right}
 use Rattle.reo_grammar.specs.declared.kind.TokenKind.TheVariants as kinds
 use Rattle.reo_grammar.specs.Tokens.{Lexeme, AreReal, matches, is_number, is_real, number_from}
 use Rattle.reo_grammar.specs.Tokens.Class.{named, number}
 use Rattle.reo_grammar.specs.Grammar.{Within, Says}
-use Rattle.reo_grammar.proofs.Sound.{and-left, and-right}
 use Rattle.reo_lexer.proofs.Cut.{is_cut}
 use Rattle.reo_trees.specs.declared.types.TypeTerm.{TypeTerm}
 use Rattle.reo_trees.specs.declared.items_two.ItemTwo.{ItemTwo}
@@ -118,15 +118,15 @@ see-declarations f = see-chain (see-nothing (λ r. out-first (out-nothing [] r (
 -- The number of the version.
 is-two : (n : ℕ) → (nat_le 2 n && nat_le n 2) ≡ true → n ≡ 2
 is-two n h =
-    let a : nat_le 2 n ≡ true = and-left (nat_le 2 n) (nat_le n 2) h in
-    let b : nat_le n 2 ≡ true = and-right (nat_le 2 n) (nat_le n 2) h in
+    let a : nat_le 2 n ≡ true = and_left (nat_le 2 n) (nat_le n 2) h in
+    let b : nat_le n 2 ≡ true = and_right (nat_le 2 n) (nat_le n 2) h in
     let c : 2 ≤ n = grind (arith, nat_tests) in
     let d : n ≤ 2 = grind (arith, nat_tests) in
     omega arith
 
 two-out : (t : Lexeme) (r : List ℕ) → matches (number 2 2) t ≡ true → is_real t ≡ true → Out (number_form 2 2) (codes "2\n") (t ∷ []) r (λ n. number_from 0 t.bytes ≡ n)
 two-out t r m q =
-    let e : number_from 0 t.bytes ≡ 2 = is-two (number_from 0 t.bytes) (and-right (is_number t.kind) _ m) in
+    let e : number_from 0 t.bytes ≡ 2 = is-two (number_from 0 t.bytes) (and_right (is_number t.kind) _ m) in
     out-text (ap (λ n. decimal n ++ codes "\n") e ∙ ap (λ l. l ++ codes "\n") (decimal_digit 2 (omega arith))) (out-number 2 2 t (codes "\n") r m q refl refl)
 
 pub version-out : (t u : Lexeme) (r : List ℕ) → matches (named (codes "reo")) t ≡ true → is_real t ≡ true → matches (number 2 2) u ≡ true → is_real u ≡ true

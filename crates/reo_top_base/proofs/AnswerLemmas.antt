@@ -1,6 +1,7 @@
 -- From what was read and written to what the command has come to.
 use Rattle.std.proofs.Common.{◌≡◌, ◌∙◌, ◌⊎◌, inl, inr, ℕ, Bool, true, false, List, sym, subst, ap, refl, arith}
 use Rattle.std.specs.Prelude.{◌≢◌, ◌||◌, Err}
+use Rattle.reo_values.proofs.Truths.{no_both}
 use Rattle.reo_command.specs.declared.role.Role.{Role}
 use Rattle.reo_command.specs.declared.stop.Stop.{Stop}
 use Rattle.reo_command.specs.declared.stop.Stop.TheVariants.{Missed, TooLong, Refused, NoMemory}
@@ -14,7 +15,7 @@ use Rattle.reo_command.specs.States.{SinkState, FilesState, Change}
 use Rattle.reo_command.specs.Statuses.{IsAmong}
 use Rattle.reo_top_base.specs.Stopped.{IsRefusedAs}
 use Rattle.reo_command.specs.Stops.{stop_text, stop_status}
-use Rattle.reo_top_base.proofs.CaseLemmas.{exact_for, lifted, no_memory_cases, no_memory_exact, true_is_false}
+use Rattle.reo_top_base.proofs.CaseLemmas.{exact_for, lifted, no_memory_cases, no_memory_exact}
 use Rattle.reo_command.proofs.ReadLemmas.{IsReadingAt, is_missed}
 use Rattle.reo_top_base.proofs.StopLemmas.{stop_cases, stop_exact, stop_only, stop_told}
 
@@ -124,7 +125,7 @@ module _ {X : Type 0} (Reads : List Content → X → Type 0) (Stops : List Cont
       exact = made_exact free exact;
       blames = record {
         only = three;
-        told = λ gone. absurd (true_is_false (has_gone answers) gone (law.here x reads));
+        told = λ gone. absurd (no_both (has_gone answers) gone (law.here x reads));
       };
     }
 

@@ -8,9 +8,6 @@ use Rattle.reo_top_base.specs.Cases.{Adds, AreFirstLines, Cases, IsExact, IsExac
 use Rattle.reo_top_base.specs.Outputs.{Outputs, IsLine}
 use Rattle.reo_command.specs.States.{SinkState, Change}
 
-pub true_is_false : (b : Bool) → b ≡ true → b ≡ false → ⊥
-true_is_false b is_true is_false = cc
-
 module _ (sink : Change SinkState) (code : ℕ) where
   -- A line that is owed was written, or the sink failed on it.
   pub line_cases : (Owed : Outputs) (line : List ℕ) (status : ℕ) → Owed line status → Refuses line status sink code → Cases Owed sink code

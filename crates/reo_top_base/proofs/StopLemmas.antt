@@ -1,6 +1,7 @@
 -- What was written for what stopped a command, and for what it made.
 use Rattle.std.proofs.Common.{◌≡◌, ◌⊎◌, inl, inr, refl, ℕ, true, false, List, arith}
 use Rattle.std.specs.Prelude.{◌≢◌}
+use Rattle.reo_values.proofs.Truths.{no_both}
 use Rattle.reo_command.specs.declared.role.Role.{Role}
 use Rattle.reo_command.specs.declared.role.Role.TheVariants.{Circuit, Script, Trace, Proof}
 use Rattle.reo_command.specs.declared.stop.Stop.{Stop}
@@ -12,7 +13,7 @@ use Rattle.reo_command.specs.States.{SinkState, Change}
 use Rattle.reo_top_base.specs.Stopped.{IsRefusedAs}
 use Rattle.reo_command.specs.Stops.{stop_text, stop_status}
 use Rattle.reo_command.proofs.ReadLemmas.{is_missed}
-use Rattle.reo_top_base.proofs.CaseLemmas.{line_cases, no_memory_cases, no_memory_exact, line_written, line_code, line_not_three, true_is_false}
+use Rattle.reo_top_base.proofs.CaseLemmas.{line_cases, no_memory_cases, no_memory_exact, line_written, line_code, line_not_three}
 
 -- The line of the stop is owed.
 module _ (Owed : Outputs) (sink : Change SinkState) (code : ℕ) where
@@ -47,6 +48,6 @@ stop_only NoMemory sink code h three = absurd (omega (arith, h.0, three))
 
 pub stop_told : (stop : Stop) (sink : Change SinkState) (code : ℕ) → IsRefusedAs stop sink code → is_missed stop ≡ true → (code ≡ 3) ⊎ (code ≡ 9)
 stop_told (Missed role) sink code h is = line_code sink code _ _ h
-stop_told (TooLong role) sink code h is = absurd (true_is_false false is refl)
-stop_told (Refused role r) sink code h is = absurd (true_is_false false is refl)
-stop_told NoMemory sink code h is = absurd (true_is_false false is refl)
+stop_told (TooLong role) sink code h is = absurd (no_both false is refl)
+stop_told (Refused role r) sink code h is = absurd (no_both false is refl)
+stop_told NoMemory sink code h is = absurd (no_both false is refl)

@@ -6,8 +6,9 @@ use Rattle.std.specs.Str.{bytes_eq}
 use Rattle.std.proofs.lemmas.Bool.Decides.{nat_tests}
 use Rattle.std.proofs.lemmas.Slice.Eq.{bytes_eq-Decides}
 use Rattle.reo_values.specs.Names.{is_digit}
+use Rattle.reo_values.proofs.Truths.{and_left, and_right}
 use Rattle.reo_grammar.specs.Tokens.{number_from}
-use Rattle.reo_grammar.proofs.Sound.{and-left, and-right, and-both}
+use Rattle.reo_grammar.proofs.Sound.{and-both}
 use Rattle.reo_command.specs.declared.setting.Setting.TheVariants.{Budget, Rounds}
 use Rattle.reo_command.specs.Settings.{numbers_of, number_behind}
 use Rattle.reo_command.specs.Numbers.{is_number}
@@ -41,21 +42,21 @@ some_few n some few = and-both (not (n == 0)) (nat_le n 10) (grind (arith, nat_t
 number_is : (word : List ℕ) → list_all is_digit word ≡ true → 0 < length word → length word ≤ 10 → is_number word ≡ true
 number_is word digits some few =
     let both : (not (length word == 0) && nat_le (length word) 10) ≡ true = some_few (length word) some few in
-    and-both (not (length word == 0)) (nat_le (length word) 10 && list_all is_digit word) (and-left (not (length word == 0)) (nat_le (length word) 10) both)
-    (and-both (nat_le (length word) 10) (list_all is_digit word) (and-right (not (length word == 0)) (nat_le (length word) 10) both) digits)
+    and-both (not (length word == 0)) (nat_le (length word) 10 && list_all is_digit word) (and_left (not (length word == 0)) (nat_le (length word) 10) both)
+    (and-both (nat_le (length word) 10) (list_all is_digit word) (and_right (not (length word == 0)) (nat_le (length word) 10) both) digits)
 
 -- The number behind the option, and its digits.
 pub digits_said : (word : List ℕ) (n : ℕ) → number_behind Rounds word ≡ Some n → IsInDigits word n × (1 ≤ n) × (n ≤ 10 ^ 9)
 digits_said word n e =
     let v : ℕ = number_from 0 word in
     let told : ((is_number word && (nat_le 1 v && nat_le v 1000000000)) ≡ true) × (v ≡ n) = taken (is_number word && (nat_le 1 v && nat_le v 1000000000)) v n e in
-    let number : is_number word ≡ true = and-left (is_number word) (nat_le 1 v && nat_le v 1000000000) told.0 in
-    let range : (nat_le 1 v && nat_le v 1000000000) ≡ true = and-right (is_number word) (nat_le 1 v && nat_le v 1000000000) told.0 in
-    let formed : (nat_le (length word) 10 && list_all is_digit word) ≡ true = and-right (not (length word == 0)) (nat_le (length word) 10 && list_all is_digit word) number in
-    let low : 1 ≤ v = is_least v (and-left (nat_le 1 v) (nat_le v 1000000000) range) in
-    let high : v ≤ 1000000000 = is_most v (and-right (nat_le 1 v) (nat_le v 1000000000) range) in
-    let few : length word ≤ 10 = is_short (length word) (and-left (nat_le (length word) 10) (list_all is_digit word) formed) in
-    subst (λ (m : ℕ). IsInDigits word m × (1 ≤ m) × (m ≤ 10 ^ 9)) told.1 (in_digits word (and-right (nat_le (length word) 10) (list_all is_digit word) formed) few low high)
+    let number : is_number word ≡ true = and_left (is_number word) (nat_le 1 v && nat_le v 1000000000) told.0 in
+    let range : (nat_le 1 v && nat_le v 1000000000) ≡ true = and_right (is_number word) (nat_le 1 v && nat_le v 1000000000) told.0 in
+    let formed : (nat_le (length word) 10 && list_all is_digit word) ≡ true = and_right (not (length word == 0)) (nat_le (length word) 10 && list_all is_digit word) number in
+    let low : 1 ≤ v = is_least v (and_left (nat_le 1 v) (nat_le v 1000000000) range) in
+    let high : v ≤ 1000000000 = is_most v (and_right (nat_le 1 v) (nat_le v 1000000000) range) in
+    let few : length word ≤ 10 = is_short (length word) (and_left (nat_le (length word) 10) (list_all is_digit word) formed) in
+    subst (λ (m : ℕ). IsInDigits word m × (1 ≤ m) × (m ≤ 10 ^ 9)) told.1 (in_digits word (and_right (nat_le (length word) 10) (list_all is_digit word) formed) few low high)
   where
     in_digits : (word : List ℕ) → list_all is_digit word ≡ true → length word ≤ 10 → 1 ≤ number_from 0 word → number_from 0 word ≤ 1000000000
         → IsInDigits word (number_from 0 word) × (1 ≤ number_from 0 word) × (number_from 0 word ≤ 10 ^ 9)

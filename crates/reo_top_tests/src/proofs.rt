@@ -1,5 +1,5 @@
-//! Proofs that the command has written, and its verdicts on them. Which log stands behind a round is
-//! free; that it is accepted is not.
+//! Proofs that the command has written, and its verdicts on them. Which log stands behind a round
+//! is free; that it is accepted is not.
 use crate::checks::is;
 use crate::objects::{three_files, words_of};
 use reo_io::{SureFiles, SureSink, SureSource};

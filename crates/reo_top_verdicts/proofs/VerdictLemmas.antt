@@ -20,7 +20,7 @@ pub verdict_not_nine : (v : Verdict) → verdict_status v ≢ 9
 verdict_not_nine (Verified rounds jammed) e = omega (arith, e)
 verdict_not_nine (Refused refusal) e = omega (arith, e)
 
-not_three : (v : Verdict) → verdict_status v ≢ 3
+pub not_three : (v : Verdict) → verdict_status v ≢ 3
 not_three (Verified rounds jammed) e = omega (arith, e)
 not_three (Refused refusal) e = omega (arith, e)
 

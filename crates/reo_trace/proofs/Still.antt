@@ -3,6 +3,7 @@ use Rattle.std.proofs.Common.{◌≡◌, ◌≢◌, ◌∙◌, ◌⊎◌, ◌&&�
 use Rattle.std.specs.List.{list_all}
 use Rattle.std.proofs.lemmas.Bool.Decides.{nat_tests}
 use Rattle.std.proofs.lemmas.List.Folds.{list_all_at, list_all_more}
+use Rattle.reo_values.proofs.Truths.{and_both, either}
 use Rattle.reo_net_base.specs.declared.mark.Mark.{Mark}
 use Rattle.reo_net_base.specs.declared.mark.Mark.TheVariants.{F, G, R, J}
 use Rattle.reo_net_base.specs.declared.joint.End.{End}
@@ -32,15 +33,11 @@ neither true b e = absurd cc
 neither false true e = absurd cc
 neither false false e = (refl, refl)
 
-both : (a b : Bool) → (a && b) ≡ true → (a ≡ true) × (b ≡ true)
-both true b e = (refl, e)
-both false b e = absurd cc
-
 -- all elements pass exactly where each does
 all_at : {X : Type 0} (test : X → Bool) (xs : List X) (i : ℕ) (d : X) → list_all test xs ≡ true → i < length xs → test (get_or xs i d) ≡ true
 all_at test [] i d all lt = absurd (omega arith)
-all_at test (x ∷ xs) zero d all lt = (both (test x) (list_all test xs) all).0
-all_at test (x ∷ xs) (suc i) d all lt = all_at test xs i d (both (test x) (list_all test xs) all).1 (omega arith)
+all_at test (x ∷ xs) zero d all lt = (and_both (test x) (list_all test xs) all).0
+all_at test (x ∷ xs) (suc i) d all lt = all_at test xs i d (and_both (test x) (list_all test xs) all).1 (omega arith)
 
 all_from : {X : Type 0} (test : X → Bool) (xs : List X) → ((i : ℕ) (d : X) → i < length xs → test (get_or xs i d) ≡ true) → list_all test xs ≡ true
 all_from test [] each = refl
@@ -53,11 +50,7 @@ same_end a b h =
     let e : a.end ≡ b.end = grind (arith, nat_tests) in
     λ i. record { primitive = p i; end = e i }
 
-either : (a b : Bool) → (a || b) ≡ true → (a ≡ true) ⊎ (b ≡ true)
-either true b e = inl refl
-either false b e = inr e
-
-at_joint : (e : End) (j : Joint) → is_at e j ≡ true → (j.giver ≡ e) ⊎ (j.taker ≡ e)
+pub at_joint : (e : End) (j : Joint) → is_at e j ≡ true → (j.giver ≡ e) ⊎ (j.taker ≡ e)
 at_joint e j h =
     elim (either (end_eq j.giver e) (end_eq j.taker e) h) [ inl giver ↦ inl (same_end j.giver e giver) | inr taker ↦ inr (same_end j.taker e taker) ]
 

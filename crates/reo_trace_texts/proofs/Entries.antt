@@ -35,11 +35,11 @@ abbrev pub EndsEntry : List ℕ → Type 0
 EndsEntry [] = Unit {0}
 EndsEntry (byte ∷ bytes) = (byte ≡ 32) ⊎ (byte ≡ 10)
 
-end_no-digit : (r : List ℕ) → EndsEntry r → NoDigit r
+pub end_no-digit : (r : List ℕ) → EndsEntry r → NoDigit r
 end_no-digit [] h = tt
 end_no-digit (byte ∷ bytes) h = λ d. grind arith
 
-dot_no-end : (r s : List ℕ) → EndsEntry r → r ≡ 46 ∷ s → ⊥
+pub dot_no-end : (r s : List ℕ) → EndsEntry r → r ≡ 46 ∷ s → ⊥
 dot_no-end [] s h e = absurd (cc)
 dot_no-end (byte ∷ bytes) s h e = let same : byte ≡ 46 = ap first_or e in grind arith
 

@@ -27,7 +27,7 @@ use Rattle.reo_trees.specs.SaysTwo.{SaysTwo, SaysAny}
 begins_two : (ts : List Lexeme) (q : ProgramTwo) → Says circuit_rules program_two ts q → (t : Lexeme) × (u : List Lexeme) × (ts ≡ t ∷ u) × (matches (named (codes "reo")) t ≡ true)
 begins_two ts q (k, (a, b, x, y, w, (c, d, z, v, s, (t, (e, m), _), _, _), _, _)) = (t, d ++ b, w ∙ ap (λ l. l ++ b) (s ∙ ap (λ l. l ++ d) e), m)
 
-no_word : (kind : TokenKind) (x y : Bool) → (is_name kind && x) ≡ true → (is_fixed kind && y) ≡ false
+pub no_word : (kind : TokenKind) (x y : Bool) → (is_name kind && x) ≡ true → (is_fixed kind && y) ≡ false
 no_word kinds.Name x y h = refl
 no_word kinds.Word x y h = absurd (cc)
 no_word kinds.Number x y h = absurd (cc)

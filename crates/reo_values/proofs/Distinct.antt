@@ -9,7 +9,7 @@ use Rattle.std.proofs.lemmas.Grind.{common_steps}
 abbrev pub Apart : List (List ℕ) → ℕ → Type 0
 Apart names n = (i j : ℕ) → i < n → j < n → get_or names i [] ≡ get_or names j [] → i ≡ j
 
-below_or_last : (i n : ℕ) → i < n + 1 → (i < n) ⊎ (i ≡ n)
+pub below_or_last : (i n : ℕ) → i < n + 1 → (i < n) ⊎ (i ≡ n)
 below_or_last i n h = grind arith
 
 module _ (names : List (List ℕ)) (n : ℕ) (inside : n < length names) (apart : Apart names n) (fresh : Contains (take n names) (get_or names n []) → ⊥) where

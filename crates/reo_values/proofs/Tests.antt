@@ -32,7 +32,7 @@ T_is : (b : Bool) → Decides b (T b)
 T_is true = (λ h. tt, λ h. refl)
 T_is false = (λ h. absurd cc, λ h. absurd h)
 
-le_z-is : (a b : ℤ) → Decides (le_z a b) (a ≤ℤ b)
+pub le_z-is : (a b : ℤ) → Decides (le_z a b) (a ≤ℤ b)
 le_z-is a b = (λ h. le_z_yes ((T_is (le_z a b)).0 h), λ h. (T_is (le_z a b)).1 h.le)
 
 -- The bytes of a text.

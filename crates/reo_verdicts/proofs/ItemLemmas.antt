@@ -1,49 +1,19 @@
 -- Rows determine their items.
-use Rattle.std.proofs.Common.{◌≡◌, ◌≢◌, ◌∙◌, inl, inr, sym, refl, ℕ, ◌<◌, cond, List, length, get_or, arith}
+use Rattle.std.proofs.Common.{◌≡◌, ◌∙◌, inl, inr, sym, ℕ, ◌<◌, List, length, get_or, arith}
 use Rattle.std.specs.Prelude.{Option, Some, None}
 use Rattle.std.proofs.lemmas.List.{get_or_default, same_lists}
 use Rattle.reo_values.specs.declared.value.Value.{Value}
-use Rattle.reo_net_base.specs.declared.mark.Mark.{Mark}
-use Rattle.reo_net_base.specs.declared.mark.Mark.TheVariants.{F, G, R, J}
 use Rattle.reo_net_base.specs.declared.joint.End.{End}
 use Rattle.reo_net_base.specs.declared.joint.Joint.{Joint}
-use Rattle.reo_net_base.specs.Colouring.{ItemFits, IsColouring, IsFilled, item_given}
-use Rattle.reo_net_base.specs.Marks.{is_flow}
+use Rattle.reo_net_base.specs.Colouring.{ItemFits, IsFilled, item_given}
 use Rattle.reo_net_base.specs.Net.{Net, no_side, all_sides, behaviour_at, row_at, side_at, mark_at}
 use Rattle.reo_net_base.specs.Sides.{AreRowsOf}
 use Rattle.reo_net_laws.proofs.Items.{given_fed, along_order}
 use Rattle.reo_net_laws.proofs.Orders.{no_joint}
 use Rattle.reo_net_laws.proofs.Sides.{row_below, side_in_range, row_in_table}
+use Rattle.reo_net_colouring.proofs.ItemLemmas.{flow_cases}
 use Rattle.reo_rounds.specs.Order.{HasOrder}
 use Rattle.reo_checker.specs.Faults.{ItemFails}
-
-abbrev no_item : Option Value
-no_item = None
-
-dry_given : (m : Mark) (given : Option Value) → m ≢ F → no_item ≡ cond (is_flow m) given None
-dry_given F given dry = absurd (dry refl)
-dry_given G given dry = refl
-dry_given R given dry = refl
-dry_given J given dry = refl
-
-given_one : (m : Mark) (given other : Option Value) → (m ≡ F → given ≡ other) → cond (is_flow m) given None ≡ cond (is_flow m) other None
-given_one F given other same = same refl
-given_one G given other same = refl
-given_one R given other same = refl
-given_one J given other same = refl
-
--- What fits at a joint is what is given there.
-fits_given : (net : Net) (rows : List ℕ) (items : List (Option Value)) (j : Joint) (o : Option Value) → ItemFits net rows items j o → o ≡ item_given net rows items j
-unfolding item_given
-fits_given net rows items j None dry = dry_given (mark_at net rows j.giver) _ dry
-fits_given net rows items j (Some item) has = rw has.flows (sym has.given)
-
--- The items of a colouring are those that its rows determine.
-pub colouring_filled : (net : Net) (rows : List ℕ) (items : List (Option Value)) → IsColouring net rows items → IsFilled net rows items
-colouring_filled net rows items col = record {
-  one_each = col.one_each;
-  determined = λ j d lt. fits_given net rows items (get_or net.joints j d) (get_or items j None) (col.items_fit j d lt);
-}
 
 -- What fits does not fail.
 pub fails_fits : (net : Net) (rows : List ℕ) (items : List (Option Value)) (j : Joint) (o : Option Value) → ItemFails net rows items j o → ItemFits net rows items j o → ⊥
@@ -65,7 +35,7 @@ module _ (net : Net) (ordered : HasOrder net) (rows : List ℕ) (are : AreRowsOf
   item_one xs ys is_x is_y =
       along_order net ordered.order ordered.is_order (λ j. get_or xs j None ≡ get_or ys j None) (λ j lt fed.
       is_x.determined j no_joint lt
-      ∙ given_one (mark_at net rows (get_or net.joints j no_joint).giver) _ _
+      ∙ flow_cases (mark_at net rows (get_or net.joints j no_joint).giver) _ _
       (given_fed net ordered.wired rows xs ys j no_joint lt is_x.one_each is_y.one_each (below j no_joint lt) (λ k e k_in feeds. fed k no_joint e k_in feeds))
       ∙ sym (is_y.determined j no_joint lt))
 

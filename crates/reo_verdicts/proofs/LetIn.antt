@@ -1,8 +1,7 @@
 -- Where rows fit together, each joint that flows has an item.
-use Rattle.std.proofs.Common.{◌≡◌, ◌≢◌, ◌∙◌, ◌⊎◌, inl, inr, refl, sym, ap, ℕ, zero, suc, ◌<◌, Bool, true, false, cond, List, [], ◌∷◌, length, get_or, Option, Some, None, IsSome, arith}
+use Rattle.std.proofs.Common.{◌≡◌, ◌∙◌, inl, inr, refl, sym, ap, ℕ, zero, suc, ◌<◌, Bool, true, false, cond, List, [], ◌∷◌, length, get_or, Option, Some, None, IsSome, arith}
 use Rattle.std.specs.Prelude.{◌||◌}
 use Rattle.std.specs.Option.{option_and_then}
-use Rattle.std.proofs.lemmas.Bool.Decides.{nat_tests}
 use Rattle.reo_values.specs.declared.value.Value.{Value}
 use Rattle.reo_net_base.specs.declared.mark.Mark.{Mark}
 use Rattle.reo_net_base.specs.declared.mark.Mark.TheVariants.{F, G, R, J}
@@ -15,10 +14,10 @@ use Rattle.reo_net_base.specs.Net.{Net, no_side, all_sides, behaviour_at, end_of
 use Rattle.reo_net_base.specs.Colouring.{taken_at, given_at, item_given, lets_in, RowsFit, IsFilled}
 use Rattle.reo_net_base.specs.Wired.{IsWired, IsOrder, IsEnd}
 use Rattle.reo_net_laws.proofs.Items.{end_is, along_order}
-use Rattle.reo_net_laws.proofs.Orders.{Feeds}
 use Rattle.reo_net_laws.proofs.Sides.{row_below, side_in_range, row_in_table, row_is, same_side_at, gives_at}
+use Rattle.reo_net_laws.proofs.Joined.{end_same}
 use Rattle.reo_checker.specs.Faults.{ItemFails, IsItemFault}
-use Rattle.reo_verdicts.specs.Laws.{IsNotLetIn, RefusedItemsAreNotLetIn}
+use Rattle.reo_verdicts.specs.Laws.{RefusedItemsAreNotLetIn}
 
 -- The giver's row gives an item at a joint, and the taker's row does not let it in.
 record IsOut (net : Net) (rows : List ℕ) (items : List (Option Value)) (joint : Joint) (item : Value) : Type 0 where
@@ -36,12 +35,6 @@ one_of (Some x) h = (x, refl)
 
 ap_one : {A : Type 0} (f : A → Option Value) (a b : A) → a ≡ b → HasOne (f a) → HasOne (f b)
 ap_one f a b same has = (has.0, ap f (sym same) ∙ has.1)
-
-end_same : (a b : End) → a ≡ b → end_eq a b ≡ true
-end_same a b is =
-    let p : a.primitive ≡ b.primitive = ap (λ (e : End). e.primitive) is in
-    let q : a.end ≡ b.end = ap (λ (e : End). e.end) is in
-    grind (arith, nat_tests)
 
 abbrev or_bool : Bool → Bool → Bool
 or_bool x y = x || y

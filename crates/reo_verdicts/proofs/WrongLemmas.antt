@@ -7,6 +7,7 @@ use Rattle.reo_net_base.specs.Moves.{moves_of}
 use Rattle.reo_net_base.specs.Net.{Net}
 use Rattle.reo_net_laws.proofs.Orders.{no_joint}
 use Rattle.reo_net_laws.proofs.Sides.{below_or}
+use Rattle.reo_net_colouring.proofs.ItemLemmas.{filled_from}
 use Rattle.reo_checker.specs.declared.wrong.Wrong.{Wrong}
 use Rattle.reo_checker.specs.declared.wrong.Wrong.TheVariants.{Count, Row, Joint, Item}
 use Rattle.reo_checker.specs.Faults.{IsJointFault, IsItemFault}
@@ -20,7 +21,7 @@ use Rattle.reo_verdicts.specs.declared.verdict.Refusal.TheVariants as refusals
 use Rattle.reo_verdicts.specs.Said.{HasRows, HasNoRow, AreSaid}
 use Rattle.reo_verdicts.specs.Wrongs.{IsRowBreak, IsWrongWith, HasWrongMoves, node_of, IsWrongRound}
 use Rattle.reo_verdicts.proofs.SaidLemmas.{one_said, said_counted, said_rows}
-use Rattle.reo_verdicts.proofs.ItemLemmas.{colouring_filled, fails_fits, one_filled}
+use Rattle.reo_verdicts.proofs.ItemLemmas.{fails_fits, one_filled}
 
 -- Numbers of which neither is below the other are one.
 not_apart : (i k : ℕ) → (i < k → ⊥) → (k < i → ⊥) → i ≡ k
@@ -103,7 +104,7 @@ module _ (net : Net) (ordered : HasOrder net) (entries : List Entry) where
   one_colouring_said rows others items other_items said also col other =
       let same : rows ≡ others = one_said net ordered.wired entries rows others said also in
       let moved : IsColouring net others items = subst (λ (xs : List ℕ). IsColouring net xs items) same col in
-      (same, one_filled net ordered others other.rows_fit.in_tables items other_items (colouring_filled net others items moved) (colouring_filled net others other_items other))
+      (same, one_filled net ordered others other.rows_fit.in_tables items other_items (filled_from net others items moved) (filled_from net others other_items other))
 
   -- Nothing is wrong with the entries of a colouring.
   pub none_wrong : (rows : List ℕ) (items : List (Option Value)) → AreSaid net entries rows → IsColouring net rows items → (wrong : Wrong) → IsWrongWith net entries wrong → ⊥
@@ -114,7 +115,7 @@ module _ (net : Net) (ordered : HasOrder net) (entries : List Entry) where
       let same : p.0 ≡ rows = one_said net ordered.wired entries p.0 rows p.2 said in
       let filled : IsFilled net rows p.1 = subst (λ (xs : List ℕ). IsFilled net xs p.1) same p.4 in
       let fault : IsItemFault net rows p.1 j = subst (λ (xs : List ℕ). IsItemFault net xs p.1 j) same p.5 in
-      let items_same : p.1 ≡ items = one_filled net ordered rows col.rows_fit.in_tables p.1 items filled (colouring_filled net rows items col) in
+      let items_same : p.1 ≡ items = one_filled net ordered rows col.rows_fit.in_tables p.1 items filled (filled_from net rows items col) in
       let here : IsItemFault net rows items j = subst (λ (xs : List (Option Value)). IsItemFault net rows xs j) items_same fault in
       fails_fits net rows items (get_or net.joints j no_joint) (get_or items j None) (here.fails no_joint) (col.items_fit j no_joint here.in_range)
 

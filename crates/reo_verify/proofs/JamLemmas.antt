@@ -5,6 +5,7 @@ use Rattle.std.proofs.lemmas.List.Sums.{sum_by-append}
 use Rattle.std.specs.List.{count_by, flat_map}
 use Rattle.std.specs.Fmt.{decimal}
 use Rattle.std.specs.Prelude.{Some, slice_get, codes}
+use Rattle.reo_values.proofs.Sequences.{cut_at}
 use Rattle.reo_net_base.specs.declared.port.Port.{Port}
 use Rattle.reo_trace.specs.declared.line.Cell.{Cell}
 use Rattle.reo_trace.specs.declared.line.Cell.TheVariants.{Row, Jam}
@@ -18,7 +19,7 @@ use Rattle.reo_trace.specs.TraceText.{rounds_text}
 use Rattle.reo_trace_texts.specs.declared.trace.Trace.{Trace}
 use Rattle.reo_verdicts.specs.Said.{cells_of, is_jam, jammed}
 use Rattle.reo_verdicts.specs.Replays.{HasText}
-use Rattle.reo_judging.proofs.Cuts.{cut_at, take_one_more}
+use Rattle.reo_judging.proofs.Cuts.{take_one_more}
 
 abbrev pub jams_in : Entry → ℕ
 jams_in e = count_by is_jam (cells_of e)

@@ -1,6 +1,7 @@
 -- Rounds of a replay, one after another.
 use Rattle.std.proofs.Common.{◌≡◌, ◌≢◌, ◌∙◌, inl, inr, ℕ, zero, suc, ◌+◌, ◌≤◌, List, [], ◌∷◌, ◌++◌, length, take, drop, refl, sym, ap, subst, arith}
 use Rattle.std.specs.Prelude.{Option, Some, None, slice_get}
+use Rattle.reo_values.proofs.Sequences.{cut_at, take_all}
 use Rattle.reo_net_base.specs.declared.port.Port.{Port}
 use Rattle.reo_net_base.specs.Colouring.{IsColouring}
 use Rattle.reo_net_base.specs.Moves.{moves_of}
@@ -29,7 +30,7 @@ use Rattle.reo_judging.specs.Judged.{IsPlanShown}
 use Rattle.reo_judging.specs.Refused.{IsRefusalBy}
 use Rattle.reo_verify.specs.Replayed.{IsReplayed, IsNoRound, AreReplayed, IsCutOff}
 use Rattle.reo_judging.proofs.RefusalLemmas.{wrong_by}
-use Rattle.reo_judging.proofs.Cuts.{cut_at, take_one_more, taken, take_all}
+use Rattle.reo_judging.proofs.Cuts.{take_one_more, taken}
 use Rattle.reo_verify.proofs.SoFar.{SoFar}
 
 -- What a line shows, and was done, is a round.

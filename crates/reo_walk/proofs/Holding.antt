@@ -2,13 +2,14 @@
 use Rattle.std.proofs.Common.{◌≡◌, ◌≢◌, ◌⊎◌, inl, inr, ℕ, ◌+◌, ◌<◌, Bool, true, false, not, ◌&&◌, ◌||◌, List, [], length, get_or, refl, ap, sym, ◌∙◌, subst, arith, below_more}
 use Rattle.std.specs.Bool.{◌==◌}
 use Rattle.std.proofs.lemmas.Bool.{cases_eq}
+use Rattle.reo_values.proofs.Truths.{and_left, no_both}
+use Rattle.reo_values.proofs.Naturals.{same_eq, other_eq}
 use Rattle.reo_net_base.specs.declared.mark.Mark.{Mark}
 use Rattle.reo_net_base.specs.Net.{Net}
 use Rattle.reo_joint_values.specs.declared.value.JointValue.{JointValue}
 use Rattle.reo_joint_values.specs.Values.{Names, Family, AtSide}
 use Rattle.reo_joint_values.specs.Supported.{IsNarrowed}
 use Rattle.reo_joint_values.proofs.Narrowing.{at_cases}
-use Rattle.reo_joint_values.proofs.Equal.{same_eq, other_eq}
 use Rattle.reo_side_tables.specs.Listing.{Lists}
 use Rattle.reo_side_tables.specs.Marks.{mark_at_joint, IsJointOf}
 use Rattle.reo_rows.specs.Flags.{flag, AreAlikeTables}
@@ -20,10 +21,6 @@ use Rattle.reo_walk.specs.declared.place.Place.{Place}
 use Rattle.reo_walk.specs.Places.{side_of_place, suits, is_at_side, value_suits, held_to}
 use Rattle.reo_walk.specs.Holding.{IsHeldTo, IsHeldSoFar, AllSuit, IsHeld}
 use Rattle.reo_walk.proofs.Numbering.{both, first_of_both, second_of_both, then_if, at_test, test_at}
-use Rattle.reo_net_laws.proofs.Sets.{and_left as kept}
-
-pub clash : (b : Bool) → b ≡ true → b ≡ false → ⊥
-clash b yes_is no_is = let wrong : true ≡ false = sym yes_is ∙ no_is in cc
 
 away : (i j p n : ℕ) → (i ≢ j) ⊎ (p ≢ n) → ((i == j) && (p == n)) ≡ false
 away i j p n (inl apart) = ap (λ (t : Bool). t && (p == n)) (other_eq i j apart)
@@ -40,7 +37,7 @@ with_true false = refl
 -- What clearing one flag leaves.
 module _ (now new : List (List Bool)) (joint n : ℕ) (is : (k q : ℕ) → flag new k q ≡ (flag now k q && not ((k == joint) && (q == n)))) where
   pub kept_flag : (i c : ℕ) → flag new i c ≡ true → flag now i c ≡ true
-  kept_flag i c f = kept (flag now i c) (not ((i == joint) && (c == n))) (sym (is i c) ∙ f)
+  kept_flag i c f = and_left (flag now i c) (not ((i == joint) && (c == n))) (sym (is i c) ∙ f)
 
   pub other_flag : (i c : ℕ) → (i ≢ joint) ⊎ (c ≢ n) → flag new i c ≡ flag now i c
   other_flag i c apart = is i c ∙ ap (λ (t : Bool). flag now i c && not t) (away i joint c n apart) ∙ with_true (flag now i c)
@@ -49,7 +46,7 @@ module _ (now new : List (List Bool)) (joint n : ℕ) (is : (k q : ℕ) → flag
   gone_flag f =
       let here : ((joint == joint) && (n == n)) ≡ true = both (joint == joint) (n == n) (same_eq joint joint refl) (same_eq n n refl) in
       let left = second_of_both (flag now joint n) (not ((joint == joint) && (n == n))) (sym (is joint n) ∙ f) in
-      clash (not ((joint == joint) && (n == n))) left (ap not here)
+      no_both (not ((joint == joint) && (n == n))) left (ap not here)
 
 module _ (net : Net) (p : Place) (row joint n : ℕ) (old now : List (List Bool)) (loss : Loss) (h : IsHeldTo net p row joint n old now loss) where
   -- A value that suits stays, or is not there.
@@ -59,7 +56,7 @@ module _ (net : Net) (p : Place) (row joint n : ℕ) (old now : List (List Bool)
     elsewhere = h.elsewhere;
     less = h.less;
     keeps = h.keeps;
-    done = below_more (λ c. flag now joint c ≡ true → value_suits net p row joint (value_of c) ≡ true) n h.done (λ f. elim good [ inl s ↦ s | inr gone ↦ absurd (clash (flag now joint n) f gone) ]);
+    done = below_more (λ c. flag now joint c ≡ true → value_suits net p row joint (value_of c) ≡ true) n h.done (λ f. elim good [ inl s ↦ s | inr gone ↦ absurd (no_both (flag now joint n) f gone) ]);
     same = h.same;
     flows = h.flows;
   }
@@ -72,13 +69,13 @@ module _ (net : Net) (p : Place) (row joint n : ℕ) (old now : List (List Bool)
     elsewhere = λ i c apart. other_flag now new joint n is i c (inl apart) ∙ h.elsewhere i c apart;
     less = λ c f. h.less c (kept_flag now new joint n is joint c f);
     keeps = λ c f s. elim (cases_eq c n) [
-      | inl e ↦ absurd (clash (value_suits net p row joint (value_of n)) (ap (λ k. value_suits net p row joint (value_of k)) (sym e) ∙ s) bad)
+      | inl e ↦ absurd (no_both (value_suits net p row joint (value_of n)) (ap (λ k. value_suits net p row joint (value_of k)) (sym e) ∙ s) bad)
       | inr apart ↦ other_flag now new joint n is joint c (inr apart) ∙ h.keeps c f s
     ];
     done = below_more (λ c. flag new joint c ≡ true → value_suits net p row joint (value_of c) ≡ true) n
         (λ c lt f. h.done c lt (kept_flag now new joint n is joint c f))
         (λ f. absurd (gone_flag now new joint n is f));
-    same = λ e. absurd (clash more.some some e);
+    same = λ e. absurd (no_both more.some some e);
     flows = λ e c four.
         let parts = flow e in
         other_flag now new joint n is joint c (inr (λ same. omega (arith, parts.1))) ∙ h.flows parts.0 c four;

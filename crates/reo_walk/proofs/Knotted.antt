@@ -1,5 +1,5 @@
 -- The sides of a knot as a list, and the places of these sides.
-use Rattle.std.proofs.Common.{◌≡◌, ◌⊎◌, inl, inr, ℕ, zero, suc, ◌+◌, ◌<◌, Bool, true, false, cond, ◌||◌, List, [], ◌∷◌, ◌++◌, length, get_or, refl, ap, sym, ◌∙◌, subst, arith}
+use Rattle.std.proofs.Common.{◌≡◌, ◌⊎◌, inl, inr, ℕ, zero, suc, ◌+◌, ◌<◌, Bool, true, false, cond, List, [], ◌∷◌, ◌++◌, length, get_or, refl, ap, sym, ◌∙◌, subst, arith}
 use Rattle.std.specs.Prelude.{map, filter}
 use Rattle.std.specs.Bool.{◌==◌}
 use Rattle.std.specs.List.{range_with_len}
@@ -7,23 +7,14 @@ use Rattle.reo_net_base.specs.Net.{Net}
 use Rattle.reo_net_base.specs.Sides.{side_count}
 use Rattle.reo_net_laws.specs.Keys.{leads_at}
 use Rattle.reo_net_laws.specs.Sublists.{sides_in}
-use Rattle.reo_joint_values.proofs.Equal.{same_eq, eq_same}
 use Rattle.reo_propagate.specs.Queues.{among}
 use Rattle.reo_walk.specs.declared.place.Place.{Place}
 use Rattle.reo_walk.specs.declared.place.Place.TheVariants.{Class, Row}
 use Rattle.reo_walk.specs.Places.{side_of_place, places_in}
 use Rattle.reo_walk.proofs.Resting.{among_at}
 use Rattle.std.proofs.lemmas.Bool.{or_left as sooner, or_right as later}
-
--- One of two things is so.
-pub either : (a b : Bool) → (a || b) ≡ true → (a ≡ true) ⊎ (b ≡ true)
-either true b h = inl refl
-either false b h = inr h
-
-one_truth : (a b : Bool) → (a ≡ true → b ≡ true) → (b ≡ true → a ≡ true) → a ≡ b
-one_truth true b to back = sym (to refl)
-one_truth false true to back = back refl
-one_truth false false to back = refl
+use Rattle.reo_values.proofs.Truths.{one_truth, either}
+use Rattle.reo_values.proofs.Naturals.{eq_same, same_eq}
 
 -- What stands among those that pass a test.
 filter_for : (f : ℕ → Bool) (x : ℕ) (xs : List ℕ) (s : ℕ) (t : Bool) → f x ≡ t → ((among (filter f xs) s ≡ true) → (f s ≡ true) × (among xs s ≡ true)) → among (cond t (x ∷ filter f xs) (filter f xs)) s ≡ true → (f s ≡ true) × (among (x ∷ xs) s ≡ true)

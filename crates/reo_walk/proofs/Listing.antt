@@ -3,10 +3,11 @@ use Rattle.std.proofs.Common.{◌≡◌, ◌↔◌, inl, inr, ℕ, zero, suc, �
 use Rattle.std.specs.Prelude.{map, nat_lt}
 use Rattle.std.specs.Bool.{◌==◌}
 use Rattle.std.proofs.Math.ListN.{get_or-eq_default}
-use Rattle.std.proofs.lemmas.Bool.Decides.{nat_tests}
 use Rattle.std.proofs.lemmas.Bool.{cases_lt, and_parts}
 use Rattle.std.proofs.lemmas.List.{get_or-drop}
 use Rattle.reo_values.specs.declared.value.Value.{Value}
+use Rattle.reo_values.proofs.Truths.{no_both}
+use Rattle.reo_values.proofs.Naturals.{true_lt}
 use Rattle.reo_net_base.specs.Net.{Net, row_count, no_side}
 use Rattle.reo_net_base.specs.Sides.{side_count}
 use Rattle.reo_net_base.specs.Wired.{IsWired, IsOrder}
@@ -28,14 +29,10 @@ use Rattle.reo_walk.specs.Places.{places_in}
 use Rattle.reo_walk.specs.Settling.{HasNone, IsFirstWith}
 use Rattle.reo_walk.specs.Arranged.{HasNoAssignment, IsFirstPart, IsJamRow}
 use Rattle.reo_walk.proofs.Resting.{among_at}
-use Rattle.reo_walk.proofs.Holding.{clash}
 use Rattle.reo_walk.proofs.Knotted.{among_is, some_side}
 use Rattle.reo_walk.proofs.Firsts.{none_of_sets, assigned, none_before, last_are, last_rows_are}
 
-below_true : (a b : ℕ) → nat_lt a b ≡ true → a < b
-below_true a b h = grind (arith, nat_tests)
-
-mapped_at : (f : ℕ → ℕ) (xs : List ℕ) (m : ℕ) → m < length xs → get_or (map f xs) m 0 ≡ f (get_or xs m 0)
+pub mapped_at : (f : ℕ → ℕ) (xs : List ℕ) (m : ℕ) → m < length xs → get_or (map f xs) m 0 ≡ f (get_or xs m 0)
 mapped_at f [] m lt = absurd (omega arith)
 mapped_at f (x ∷ xs) zero lt = refl
 mapped_at f (x ∷ xs) (suc m) lt = mapped_at f xs m (omega arith)
@@ -47,7 +44,7 @@ module _ (net : Net) (knots : Knotted) (knot : ℕ) (sides : List ℕ) (are : Ar
 
   pub real : AreSides net (in_knot knots.numbers knot)
   real s h =
-      let under : s < length knots.numbers = below_true s (length knots.numbers) (and_parts (nat_lt s (length knots.numbers)) (get_or knots.numbers s 0 == knot) h).0 in
+      let under : s < length knots.numbers = true_lt s (length knots.numbers) (and_parts (nat_lt s (length knots.numbers)) (get_or knots.numbers s 0 == knot) h).0 in
       omega (arith, under, are.numbered.one_each)
 
   pub listed_sides : sides ≡ sides_in net (in_knot knots.numbers knot)
@@ -80,7 +77,7 @@ module _ (net : Net) (knots : Knotted) (knot : ℕ) (sides : List ℕ) (are : Ar
     in_row : (j : ℕ) (v : JointValue) → j < length net.joints → family_of alive j v ≡ true → code_of v < length (get_or items j []) + 4
     in_row j v j_lt h = elim (cases_lt (code_of v) (length (get_or alive j []))) [
       | inl under ↦ omega (arith, under, ready.width j j_lt)
-      | inr ge ↦ absurd (clash (family_of alive j v) h (get_or-eq_default (get_or alive j []) false ge))
+      | inr ge ↦ absurd (no_both (family_of alive j v) h (get_or-eq_default (get_or alive j []) false ge))
     ]
 
     same : (j : ℕ) (v : JointValue) → j < length net.joints → in_knot knots.numbers knot (giver_side net j) ≡ true → (family_of alive j v ≡ true) ↔ (sets j v ≡ true)

@@ -13,19 +13,16 @@ use Rattle.reo_joint_values.specs.Values.{Names, Choice, Family, giver_mark, tak
 use Rattle.reo_joint_values.specs.Fitting.{Fits}
 use Rattle.reo_joint_values.specs.Supported.{IsWithin}
 use Rattle.reo_joint_values.specs.Chosen.{IsChosen}
-use Rattle.reo_joint_values.proofs.Equal.{same_eq, eq_same, other_eq}
 use Rattle.reo_side_tables.specs.Marks.{mark_at_joint}
 use Rattle.reo_rows.specs.Stands.{value_mark}
 use Rattle.reo_walk.specs.declared.place.Place.{Place}
 use Rattle.reo_walk.specs.declared.place.Place.TheVariants.{Class, Row}
 use Rattle.reo_walk.specs.Places.{side_of_place, number_of, suits, is_at_side, value_suits, held_to}
-pub use Rattle.reo_net_laws.proofs.Sets.{and_left as first_of_both, and_right as second_of_both}
 use Rattle.std.proofs.lemmas.Bool.{or_left as one_or, or_right as or_other}
 pub use Rattle.std.proofs.lemmas.Bool.{and_from as both}
-
-pub if_then : (a b : Bool) → (not a || b) ≡ true → a ≡ true → b ≡ true
-if_then true b h is = h
-if_then false b h is = cc
+pub use Rattle.reo_values.proofs.Truths.{and_left as first_of_both, and_right as second_of_both}
+use Rattle.reo_values.proofs.Naturals.{eq_same, same_eq, other_eq}
+use Rattle.reo_values.proofs.Truths.{if_then}
 
 pub then_if : (a b : Bool) → (a ≡ true → b ≡ true) → (not a || b) ≡ true
 then_if true b h = h refl

@@ -2,11 +2,12 @@
 use Rattle.std.proofs.Common.{◌≡◌, ◌≢◌, ◌⊎◌, inl, inr, ℕ, ◌+◌, ◌<◌, Bool, true, false, not, ◌&&◌, List, [], length, get_or, refl, sym, ◌∙◌, subst, arith, below_more}
 use Rattle.std.specs.Bool.{◌==◌}
 use Rattle.std.proofs.lemmas.Bool.{cases_eq}
+use Rattle.reo_values.proofs.Truths.{no_both}
 use Rattle.reo_rows.specs.Flags.{flag, AreAlikeTables}
 use Rattle.reo_rows.proofs.Codes.{flag_in}
 use Rattle.reo_propagate.specs.declared.thinning.Loss.{Loss}
 use Rattle.reo_walk.specs.Pins.{IsPinnedBelow, IsPinned, ArePinned}
-use Rattle.reo_walk.proofs.Holding.{clash, kept_flag, other_flag, gone_flag}
+use Rattle.reo_walk.proofs.Holding.{kept_flag, other_flag, gone_flag}
 
 module _ (joint code n : ℕ) (old now : List (List Bool)) (loss : Loss) (h : IsPinnedBelow joint code n old now loss) where
   -- The one value stays, and what is not there.
@@ -16,7 +17,7 @@ module _ (joint code n : ℕ) (old now : List (List Bool)) (loss : Loss) (h : Is
     elsewhere = h.elsewhere;
     less = h.less;
     keeps = h.keeps;
-    only = below_more (λ c. flag now joint c ≡ true → c ≡ code) n h.only (λ f. elim good [ inl e ↦ e | inr gone ↦ absurd (clash (flag now joint n) f gone) ]);
+    only = below_more (λ c. flag now joint c ≡ true → c ≡ code) n h.only (λ f. elim good [ inl e ↦ e | inr gone ↦ absurd (no_both (flag now joint n) f gone) ]);
     same = h.same;
     flows = h.flows;
   }
@@ -32,7 +33,7 @@ module _ (joint code n : ℕ) (old now : List (List Bool)) (loss : Loss) (h : Is
     only = below_more (λ c. flag new joint c ≡ true → c ≡ code) n
         (λ c lt f. h.only c lt (kept_flag now new joint n is joint c f))
         (λ f. absurd (gone_flag now new joint n is f));
-    same = λ e. absurd (clash more.some some e);
+    same = λ e. absurd (no_both more.some some e);
     flows = λ e c four.
         let parts = flow e in
         other_flag now new joint n is joint c (inr (λ same. omega (arith, parts.1))) ∙ h.flows parts.0 c four;

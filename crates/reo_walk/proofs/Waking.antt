@@ -10,23 +10,21 @@ use Rattle.reo_joint_values.specs.declared.value.JointValue.{JointValue}
 use Rattle.reo_joint_values.specs.declared.value.JointValue.TheVariants.{Flow}
 use Rattle.reo_joint_values.specs.Values.{Names, Family, giver_side, taker_side, AtSide}
 use Rattle.reo_joint_values.specs.Works.{RowWorks}
-use Rattle.reo_joint_values.proofs.Works.{works_more}
-use Rattle.reo_joint_values.proofs.Narrowing.{settled_same}
-use Rattle.reo_joint_values.proofs.Equal.{same_eq, other_eq}
-use Rattle.reo_values.specs.declared.value.Value.{Value}
-use Rattle.reo_side_tables.specs.declared.board.Board.{Board}
+use Rattle.reo_values.proofs.Truths.{no_both}
+use Rattle.reo_values.proofs.Naturals.{same_eq, other_eq}
 use Rattle.reo_side_tables.specs.Listing.{StandsIn}
 use Rattle.reo_side_tables.specs.Marks.{IsJointOf, group_in}
 use Rattle.reo_rows.specs.declared.rows.Rows.{Rows}
 use Rattle.reo_rows.specs.declared.groups.Group.{Group}
-use Rattle.reo_rows.specs.Flags.{flag, AreAlikeTables}
-use Rattle.reo_rows.specs.Sets.{code_of, family_of, IsReady}
+use Rattle.reo_rows.specs.Flags.{flag}
+use Rattle.reo_rows.specs.Sets.{code_of, family_of}
 use Rattle.reo_rows.specs.Groups.{live_in, AreNoted, IsNoted}
 use Rattle.reo_rows.specs.Rows.{AreLive, IsSifted, IsSpared}
+use Rattle.reo_rows.proofs.Thinned.{live_less}
 use Rattle.reo_propagate.specs.declared.queue.Queue.{Queue}
 use Rattle.reo_propagate.specs.Queues.{IsWoken}
 use Rattle.reo_propagate.specs.Narrow.{IsAtRest, IsAwakeOrStays, IsTended, nobody}
-use Rattle.reo_walk.proofs.Holding.{clash}
+use Rattle.reo_propagate.proofs.Resting.{rests_same}
 use Rattle.reo_walk.proofs.Staying.{stays_at_rest}
 
 -- What is known of sides while a joint lost values: of some sides by what was there before, of the others by what is left.
@@ -56,20 +54,6 @@ sifted_same net names family old new side flags notes s = record {
   only = λ row f. s.only row (sym (flags row) ∙ f);
   noted = noted_same net old new side flags notes s.noted;
 }
-
--- A side at whose joints the values are the same stays as it was.
-sifted_by : (net : Net) (names : Names) (a b : Family) (side : ℕ) (rows : Rows) → ((j : ℕ) (v : JointValue) → j < length net.joints → AtSide net j side → b j v ≡ a j v) → IsSifted net names a side rows → IsSifted net names b side rows
-sifted_by net names a b side rows same s = record {
-  works = λ row w. s.works row (works_more net names b a side row (λ j v lt at h. sym (same j v lt at) ∙ h) w);
-  only = λ row f. works_more net names a b side row (λ j v lt at h. same j v lt at ∙ h) (s.only row f);
-  noted = s.noted;
-}
-
-pub rest_by : (net : Net) (names : Names) (a b : Family) (side : ℕ) (rows : Rows) → ((j : ℕ) (v : JointValue) → j < length net.joints → AtSide net j side → b j v ≡ a j v) → IsAtRest net names a side rows → IsAtRest net names b side rows
-rest_by net names a b side rows same r = record { sifted = sifted_by net names a b side rows same r.sifted; settled = settled_same net names side a b same r.settled }
-
-pub live_by : (net : Net) (names : Names) (a b : Family) (side : ℕ) (rows : Rows) → ((j : ℕ) (v : JointValue) → b j v ≡ true → a j v ≡ true) → AreLive net names a side rows → AreLive net names b side rows
-live_by net names a b side rows less live row w = live row (works_more net names b a side row (λ j v lt at h. less j v h) w)
 
 -- The sides that are still to be looked at, but for one.
 abbrev pub without : ℕ → (ℕ → Bool) → ℕ → Bool
@@ -109,11 +93,11 @@ module _ (net : Net) (names : Names) (inside : ℕ → Bool) (todo : ℕ → Boo
   woken w same = record {
     one_each = w.one_each ∙ kept.one_each;
     works = λ s s_in. subst (λ (r : Rows). AreLive net names (cond (without side todo s) old new) s r) (sym same) (elim (cases_eq s side) [
-      | inl e ↦ subst (λ (x : ℕ). AreLive net names (cond (without side todo x) old new) x rows_old) (sym e) (subst (λ (f : Family). AreLive net names f side rows_old) (sym family_here) (live_by net names old new side rows_old less live_here))
+      | inl e ↦ subst (λ (x : ℕ). AreLive net names (cond (without side todo x) old new) x rows_old) (sym e) (subst (λ (f : Family). AreLive net names f side rows_old) (sym family_here) (live_less net names old new side rows_old less live_here))
       | inr apart ↦ subst (λ (f : Family). AreLive net names f s rows_old) (sym (family_other s apart)) (kept.works s s_in)
     ]);
     at_rest = λ s s_in slept. subst (λ (r : Rows). IsAtRest net names (cond (without side todo s) old new) s r) (sym same) (elim (cases_eq s side) [
-      | inl e ↦ absurd (clash (get_or after.waits s true) (ap (λ (x : ℕ). get_or after.waits x true) e ∙ w.here) slept)
+      | inl e ↦ absurd (no_both (get_or after.waits s true) (ap (λ (x : ℕ). get_or after.waits x true) e ∙ w.here) slept)
       | inr apart ↦ subst (λ (f : Family). IsAtRest net names f s rows_old) (sym (family_other s apart)) (kept.at_rest s s_in (sym (w.other s apart) ∙ slept))
     ]);
     waiting = λ s s_in waits. elim (cases_eq s side) [
@@ -170,11 +154,11 @@ kept_first net names inside todo old new rows queue less same live rest one wait
   where
     live_for : (side : ℕ) (t : Bool) → AreLive net names old side rows → AreLive net names (cond t old new) side rows
     live_for side true l = l
-    live_for side false l = live_by net names old new side rows less l
+    live_for side false l = live_less net names old new side rows less l
 
     rest_for : (side : ℕ) (t : Bool) → todo side ≡ t → IsAtRest net names old side rows → IsAtRest net names (cond t old new) side rows
     rest_for side true is r = r
-    rest_for side false is r = rest_by net names old new side rows (λ j v lt at. same side is j v lt at) r
+    rest_for side false is r = rests_same net names old new side rows (λ j v lt at. same side is j v lt at) r
 
 -- In the end no side is to be looked at.
 pub kept_last : (net : Net) (names : Names) (inside todo : ℕ → Bool) (old : Family) (alive : List (List Bool)) (rows : Rows) (queue : Queue) → ((side : ℕ) → todo side ≡ false) → AreKept net names inside todo old (family_of alive) rows queue
@@ -200,7 +184,7 @@ two_first a b = or_for (a == a) (a == b) (inl (same_eq a a refl))
     or_for false y (inr h) = h
 
 neither : (a b s : ℕ) → two_sides a b s ≡ false → (s ≢ a) × (s ≢ b)
-neither a b s h = (λ e. clash (two_sides a b s) (or_one (s == a) (s == b) (same_eq s a e)) h, λ e. clash (two_sides a b s) (or_two (s == a) (s == b) (same_eq s b e)) h)
+neither a b s h = (λ e. no_both (two_sides a b s) (or_one (s == a) (s == b) (same_eq s a e)) h, λ e. no_both (two_sides a b s) (or_two (s == a) (s == b) (same_eq s b e)) h)
   where
     or_one : (x y : Bool) → x ≡ true → (x || y) ≡ true
     or_one true y h = refl
@@ -229,7 +213,7 @@ none_left a b s = none_for (s == a) (s == b)
 slept_in : (waits : List Bool) (side : ℕ) → get_or waits side true ≡ false → side < length waits
 slept_in waits side slept = elim (cases_lt side (length waits)) [
   | inl lt ↦ lt
-  | inr ge ↦ absurd (clash (get_or waits side true) (get_or-eq_default waits true ge) slept)
+  | inr ge ↦ absurd (no_both (get_or waits side true) (get_or-eq_default waits true ge) slept)
 ]
 
 -- A joint lost values that do not suit, and both its sides were woken.
@@ -274,8 +258,8 @@ module _ (net : Net) (wired : IsWired net) (names : Names) (inside : ℕ → Boo
   pub kept_same : (rows : Rows) (queue : Queue) → ((c : ℕ) → flag new joint c ≡ flag old joint c) → IsTended net names inside (nobody net) old rows queue → IsTended net names inside (nobody net) new rows queue
   kept_same rows queue same tended = record {
     one_each = tended.one_each;
-    works = λ side is_in. live_by net names (family_of old) (family_of new) side rows less_values (tended.works side is_in);
-    at_rest = λ side is_in ne slept. rest_by net names (family_of old) (family_of new) side rows (λ j v lt at. elim (cases_eq j joint) [
+    works = λ side is_in. live_less net names (family_of old) (family_of new) side rows less_values (tended.works side is_in);
+    at_rest = λ side is_in ne slept. rests_same net names (family_of old) (family_of new) side rows (λ j v lt at. elim (cases_eq j joint) [
       | inl e ↦ subst (λ (x : ℕ). flag new x (code_of v) ≡ flag old x (code_of v)) (sym e) (same (code_of v))
       | inr off ↦ elsewhere j (code_of v) off
     ]) (tended.at_rest side is_in ne slept);
@@ -286,12 +270,3 @@ module _ (net : Net) (wired : IsWired net) (names : Names) (inside : ℕ → Boo
 pub two_of : (net : Net) (joint a b : ℕ) → a ≡ giver_side net joint → b ≡ taker_side net joint → (t : ℕ) → AtSide net joint t → (t ≡ a) ⊎ (t ≡ b)
 two_of net joint a b a_is b_is t (inl at) = inl (sym at ∙ sym a_is)
 two_of net joint a b a_is b_is t (inr at) = inr (sym at ∙ sym b_is)
-
-pub ready_alike : (net : Net) (boards : List Board) (ends : List (List ℕ)) (items : List (List Value)) (old new : List (List Bool)) → AreAlikeTables old new → IsReady net boards ends items old → IsReady net boards ends items new
-ready_alike net boards ends items old new alike ready = record {
-  boards_are = ready.boards_are;
-  ends_are = ready.ends_are;
-  supply = ready.supply;
-  one_set = alike.rows ∙ ready.one_set;
-  width = λ j lt. alike.width j ∙ ready.width j lt;
-}

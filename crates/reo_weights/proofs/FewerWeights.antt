@@ -11,6 +11,7 @@ use Rattle.reo_net_base.specs.Net.{Net, side_at}
 use Rattle.reo_net_base.specs.Wired.{IsWired, IsOrder}
 use Rattle.reo_net_laws.specs.Parts.{IsClosedBelow, IsClosed}
 use Rattle.reo_net_laws.proofs.Assignments.{side_same}
+use Rattle.reo_net_laws.proofs.Isolation.{same_net}
 use Rattle.reo_knots.specs.Knots.{IsLoop}
 use Rattle.reo_joint_values.specs.Standing.{no_joint}
 use Rattle.reo_joint_values.specs.Many.{IsJointIn}
@@ -180,9 +181,6 @@ module _ (bs ds : List Behaviour) (js : List Joint) (wired : IsWired (record { p
         weighs = found.1;
         few = let le = weighs_no_more within.weight found.0 within.weighs found.1 in omega (arith, le, within.few);
       }
-
-same_net : (m n : Net) → n.joints ≡ m.joints → record { primitives = n.primitives; joints = m.joints } ≡ n
-same_net m n same i = record { primitives = n.primitives; joints = sym same i }
 
 pub fewer_weigh : FewerRowsWeighNoMore
 fewer_weigh net fewer wired wired_fewer order is_order inside closed has =

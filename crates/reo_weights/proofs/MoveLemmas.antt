@@ -6,13 +6,13 @@ use Rattle.std.proofs.lemmas.Bool.{cases_Bool, cases_lt, and_from}
 use Rattle.std.proofs.lemmas.List.{same_lists}
 use Rattle.std.proofs.lemmas.List.FromFn.{get_or-map-range_with_len}
 use Rattle.reo_values.specs.declared.value.Value.{Value}
+use Rattle.reo_values.proofs.Truths.{and_left, and_right}
 use Rattle.reo_net_base.specs.declared.joint.End.{End}
 use Rattle.reo_net_base.specs.Net.{Net, end_of, side_at}
 use Rattle.reo_net_base.specs.Colouring.{taken_at}
 use Rattle.reo_net_base.specs.Wired.{IsWired}
 use Rattle.reo_net_laws.specs.Ends.{from_in}
 use Rattle.reo_net_laws.specs.Parts.{IsClosed}
-use Rattle.reo_net_laws.proofs.Sets.{and_left, and_right}
 use Rattle.reo_joint_values.specs.Standing.{giver_of}
 use Rattle.reo_joint_values.specs.Many.{IsJointIn}
 use Rattle.reo_joint_values.specs.declared.value.JointValue.{JointValue}

@@ -1,6 +1,7 @@
 -- The ports, and then what the connector adds.
 use Rattle.std.proofs.Common.{arith, ◌≡◌, ◌∙◌, ◌<◌, ◌++◌, [], length, map, get_or, position, bytes_eq, codes, sym, ap, subst}
 use Rattle.std.proofs.lemmas.List.{map-append, length-map}
+use Rattle.reo_values.proofs.Sequences.{map_map}
 use Rattle.reo_net_base.specs.declared.port.Port.{Port}
 use Rattle.reo_rules.specs.Types.{types_of}
 use Rattle.reo_trees.specs.declared.programs.Connector.{Connector}
@@ -11,7 +12,7 @@ use Rattle.reo_flat.specs.Flat.{port_of, port_placed, ports_of, main_parameters}
 use Rattle.reo_flatten_unfold.specs.Ground.{IsStand, Stands}
 use Rattle.reo_flatten_unfold.specs.Adds.{Adds}
 use Rattle.reo_flatten_unfold.specs.declared.unfold.Unfolded.{Unfolded}
-use Rattle.reo_flatten.proofs.MainLemmas.{map_map, main_meaning, main_parameters_are}
+use Rattle.reo_flatten.proofs.MainLemmas.{main_meaning, main_parameters_are}
 use Rattle.reo_flatten.proofs.unfolded.begin.Goals as goal
 
 pub returns : goal.returns

@@ -1,12 +1,13 @@
 -- Rule by rule.
 use Rattle.std.proofs.Common.{◌∙◌, ◌++◌, sym, ap, subst}
+use Rattle.reo_values.proofs.Sequences.{left_none}
 use Rattle.reo_rules.specs.Lists.{first_of}
 use Rattle.reo_rules.specs.Rules.{rule_breaks}
 use Rattle.reo_rules.specs.Twice.{twice}
 use Rattle.reo_rules.specs.Unknown.{unknown}
 use Rattle.reo_rules.specs.Mistyped.{mistyped}
 use Rattle.reo_rules.specs.Ranges.{out_of_range}
-use Rattle.reo_rules.proofs.AfterLemmas.{left_none, right_none, first_left, first_right}
+use Rattle.reo_rules.proofs.AfterLemmas.{right_none, first_left, first_right}
 use Rattle.reo_flat.specs.Sizes.{no_main, too_many}
 use Rattle.reo_flat.specs.Refusals.{breaks}
 use Rattle.reo_rules.specs.Judged.{IsFirst}

@@ -1,9 +1,9 @@
 use Rattle.std.proofs.Common.{◌≡◌, ◌∙◌, ◌<◌, ℕ, List, [], get_or, length, ap, sym, arith}
 use Rattle.std.proofs.lemmas.List.{get_or_default}
+use Rattle.reo_values.proofs.Naturals.{same_eq}
 use Rattle.reo_net_base.specs.Net.{Net, net_of}
 use Rattle.reo_joint_values.specs.declared.value.JointValue.{JointValue}
 use Rattle.reo_joint_values.specs.Values.{giver_side}
-use Rattle.reo_joint_values.proofs.Equal.{same_eq}
 use Rattle.reo_propagate.specs.ListedSets.{in_set}
 use Rattle.reo_propagate.proofs.sets.keep_joint.Goals as goal
 

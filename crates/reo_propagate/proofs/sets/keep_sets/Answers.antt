@@ -1,10 +1,10 @@
 use Rattle.std.proofs.Common.{◌≡◌, ◌∙◌, ◌<◌, ◌+◌, ℕ, Bool, List, true, get_or, take, refl, ap, sym, subst, arith}
 use Rattle.std.proofs.lemmas.Bool.{both_ways}
+use Rattle.reo_values.proofs.Naturals.{eq_same}
 use Rattle.reo_net_base.specs.Net.{Net, net_of}
 use Rattle.reo_net_base.specs.Sides.{side_count}
 use Rattle.reo_joint_values.specs.declared.value.JointValue.{JointValue}
 use Rattle.reo_joint_values.specs.Values.{giver_side}
-use Rattle.reo_joint_values.proofs.Equal.{eq_same}
 use Rattle.reo_side_tables.specs.Boards.{IsBoard}
 use Rattle.reo_side_tables.specs.Flowing.{gives_at}
 use Rattle.reo_propagate.specs.Queues.{among}

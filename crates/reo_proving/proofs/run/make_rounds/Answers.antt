@@ -1,4 +1,5 @@
 use Rattle.std.proofs.Common.{◌≡◌, ◌∙◌, None, Err, refl, sym, ap, arith}
+use Rattle.reo_values.proofs.Sequences.{no_value}
 use Rattle.reo_io.proofs.Counts.{same_count}
 use Rattle.reo_trace.specs.declared.write.WriteFault.TheVariants.{Failed as SinkFailed}
 use Rattle.reo_rounds.specs.Rules.{rules_of}
@@ -6,7 +7,7 @@ use Rattle.reo_runs.specs.Run.{Place, firsts}
 use Rattle.reo_at_ports.proofs.Kept.{self_but}
 use Rattle.reo_proof_laws.specs.Proofs.{HasProofs}
 use Rattle.reo_proving.specs.Proving.{HasCome}
-use Rattle.reo_proving.proofs.RunLemmas.{so_far_none, so_far_more, finished, proved_by, cut_at_end, kept_at_end, cut_round, kept, passed_on, none_of}
+use Rattle.reo_proving.proofs.RunLemmas.{so_far_none, so_far_more, finished, proved_by, cut_at_end, kept_at_end, cut_round, kept, passed_on}
 use Rattle.reo_proving.proofs.run.make_rounds.Goals as goal
 
 pub loop-ending-init : goal.loop-ending-init
@@ -52,7 +53,7 @@ returns-in-Some-clause-came g c =
 
 pub loop-ending-smaller : goal.loop-ending-smaller
 loop-ending-smaller g c =
-    let more = c.in_ok-ending.ensures.rounds (none_of c.in_ok-ending.field-0 c.in_default.not-Some) in
+    let more = c.in_ok-ending.ensures.rounds (no_value c.in_ok-ending.field-0 c.in_default.not-Some) in
     omega (arith, more.0, more.1)
 
 pub loop-ending-preserved : goal.loop-ending-preserved
@@ -60,7 +61,7 @@ loop-ending-preserved g c =
     let r = rules_of g.P.Primitive.behaviour g.P.Primitive.settled g.P.Ported.port_state g.P.Ported.placed g.P.Ported.withdrawn in
     let start : Place g.row.P.Denot = record { state = record { circuit = c.args.engine.now.circuit; players = c.args.players.now }; over = None } in
     let so_far = c.loop-ending.invariant.so_far in
-    let none : c.in_ok-ending.field-0 ≡ None = none_of c.in_ok-ending.field-0 c.in_default.not-Some in
+    let none : c.in_ok-ending.field-0 ≡ None = no_value c.in_ok-ending.field-0 c.in_default.not-Some in
     let went = rw none at (c.in_ok-ending.ensures.went so_far.circuit so_far.left) in
     let rounds = c.in_ok-ending.ensures.rounds none in
     let more = so_far_more r c.args.ports.now.list c.args.limits.budget c.args.limits.rounds start _ _ c.loop-ending.engine.rounds c.loop-ending.engine.circuit c.loop-ending.players so_far _ _ _ went in

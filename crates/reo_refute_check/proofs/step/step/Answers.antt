@@ -1,11 +1,12 @@
 use Rattle.std.proofs.Common.{◌≡◌, ◌∙◌, ◌<◌, true, false, length, sym, arith}
+use Rattle.reo_values.proofs.Sequences.{nil_of}
 use Rattle.reo_net_base.specs.Net.{Net, net_of}
 use Rattle.reo_refute_base.specs.declared.line.LogLine.TheVariants.{At, Drop, Empty, Split}
 use Rattle.reo_refute_base.specs.Live.{live_at}
 use Rattle.reo_refute_base.specs.Places.{IsAllowed}
 use Rattle.reo_refute_support.specs.Families.{family_of}
 use Rattle.reo_refute_check.specs.Reading.{IsNext}
-use Rattle.reo_refute_check.proofs.Stepping.{nil_of, none_taken, at_taken, drop_stuck, empty_stuck, split_stuck, drop_read, empty_read, split_read}
+use Rattle.reo_refute_check.proofs.Stepping.{none_taken, at_taken, drop_stuck, empty_stuck, split_stuck, drop_read, empty_read, split_read}
 use Rattle.reo_refute_check.proofs.step.step.Goals as goal
 use Rattle.reo_refute_check.proofs.step.step.Goals.{then-joint-joint_count-via-then-joint-joint_count, then-joint-joint_count-via-else-joint-joint_count+then-has_live, then-joint-joint_count-2-via-then-joint-joint_count-2, then-joint-joint_count-2-via-else-joint-joint_count-2+then-not-has_live}
 

@@ -1,4 +1,5 @@
 use Rattle.std.proofs.Common.{◌≡◌, inl, inr, true, false, ap, sym, ◌∙◌, subst}
+use Rattle.reo_values.proofs.Sequences.{nil_of}
 use Rattle.reo_net_base.specs.declared.joint.Joint.{Joint}
 use Rattle.reo_net_base.specs.Net.{Net, net_of, side_at}
 use Rattle.reo_net_base.specs.Wired.{IsEnd}
@@ -7,7 +8,7 @@ use Rattle.reo_refute_base.specs.Live.{live_at}
 use Rattle.reo_refute_base.specs.Places.{IsAllowed}
 use Rattle.reo_refute_support.specs.Families.{family_of}
 use Rattle.reo_refute_next.specs.Next.{AreSupported, IsKept, LeadsOn}
-use Rattle.reo_refute_next.proofs.Keeping.{nil_of, matched_more, kept}
+use Rattle.reo_refute_next.proofs.Keeping.{matched_more, kept}
 use Rattle.reo_refute_next.proofs.joint.line_at.Goals as goal
 
 pub returns-then-not-has_live : goal.returns-then-not-has_live

@@ -1,6 +1,7 @@
 -- A node's name, and then its type. Other items declare nothing.
 use Rattle.std.proofs.Common.{ℕ, ◌+◌, ◌<◌, length, get_or, refl, ◌≡◌, ◌∙◌, List, [], ◌++◌, take, subst, sym, ap}
 use Rattle.std.proofs.lemmas.List.{append-nil, append_assoc}
+use Rattle.reo_values.proofs.Sequences.{both_none}
 use Rattle.reo_trees.specs.declared.types.TypeTerm.{TypeTerm}
 use Rattle.reo_trees.specs.declared.programs.Parameter.{Parameter}
 use Rattle.reo_trees.specs.declared.items.Item.{Item}
@@ -9,7 +10,7 @@ use Rattle.reo_trees.specs.declared.items.Form.TheVariants as forms
 use Rattle.reo_rules.specs.Scopes.{parameter_names, node_names, node_names_in}
 use Rattle.reo_rules.specs.Twice.{twice_among, twice_in_type, twice_in_item}
 use Rattle.reo_rules.specs.Judged.{IsFirst}
-use Rattle.reo_rules.proofs.AfterLemmas.{judged_err, after_first, after_more, first_left, first_right, both_none, more_flat}
+use Rattle.reo_rules.proofs.AfterLemmas.{judged_err, after_first, after_more, first_left, first_right, more_flat}
 use Rattle.reo_rules_names.proofs.twice.items_twice.Goals as goal
 use Rattle.reo_rules_names.proofs.twice.items_twice.Goals.{in-Node+in_ok-once+in_ok-type_twice, in_default}
 

@@ -1,12 +1,12 @@
 -- What the parts stand for, and then the whole.
 use Rattle.std.proofs.Common.{◌≡◌, ◌∙◌, ◌<◌, length, sym, ap, subst}
 use Rattle.std.specs.Prelude.{IfOk}
+use Rattle.reo_values.proofs.Sequences.{no_value}
 use Rattle.reo_trees.specs.declared.terms.TermForm.TheVariants as forms
 use Rattle.reo_rules.specs.Terms.{symbol_in, expr_of}
 use Rattle.reo_rules_types.specs.Cells.{type_at}
 use Rattle.reo_rules_types.specs.Scoped.{typed, number_named}
 use Rattle.reo_rules_types.proofs.Scoped.{named_is, named_below}
-use Rattle.reo_rules_types.proofs.OfKinds.{no_value}
 use Rattle.reo_rules_types.proofs.Sizes.{one_less, two_less, if_less}
 use Rattle.reo_rules_types.proofs.Formed.{one_expr_some, one_expr_none, two_expr_some, two_expr_none, if_expr_some, if_expr_none, if_expr_part}
 use Rattle.reo_rules_types.proofs.exprs.+resolving.Goals as goal

@@ -2,11 +2,11 @@
 use Rattle.std.proofs.Common.{◌∙◌, Some, map, sym, ap, bytes_eq}
 use Rattle.std.specs.Prelude.{option_map}
 use Rattle.std.specs.List.{position_from}
+use Rattle.reo_values.proofs.Sequences.{no_value}
 use Rattle.reo_exprs.specs.declared.expr.Expr.TheVariants as exprs
 use Rattle.reo_rules.specs.Terms.{symbol_in}
 use Rattle.reo_rules_types.specs.Cells.{kindred_of}
 use Rattle.reo_rules_types.proofs.Cells.{of_cell}
-use Rattle.reo_rules_types.proofs.OfKinds.{no_value}
 use Rattle.reo_rules_types.proofs.Ranged.{place_is}
 use Rattle.reo_rules_types.proofs.exprs.symbol_expr.Goals as goal
 

@@ -1,9 +1,10 @@
 -- A choice has a kind where its condition is of truth values and its parts are of one kind.
 use Rattle.std.proofs.Common.{◌∙◌, ap, sym, ◌&&◌}
+use Rattle.reo_values.proofs.Truths.{and_false}
 use Rattle.reo_exprs.specs.Kinds.{is_bool}
 use Rattle.reo_rules.specs.Types.{is_same}
 use Rattle.reo_rules_types.specs.Cells.{type_at}
-use Rattle.reo_rules_types.proofs.OfKinds.{chosen, not_chosen, and_false}
+use Rattle.reo_rules_types.proofs.OfKinds.{chosen, not_chosen}
 use Rattle.reo_rules_types.proofs.kinds.choice_kind.Goals as goal
 use Rattle.reo_rules_types.proofs.kinds.choice_kind.Goals.{else-is_bool-via-then-is_bool+else-same, else-is_bool-via-else-is_bool}
 

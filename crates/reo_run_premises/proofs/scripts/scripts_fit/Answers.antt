@@ -1,9 +1,10 @@
 -- The actions of a script that is read fit its ports.
 use Rattle.std.proofs.Common.{◌≡◌, true, List, [], ◌∷◌, map, Result, Ok, Err, refl, ap, subst}
 use Rattle.std.specs.List.{All, AllByRecursion, flat_map}
+use Rattle.reo_values.proofs.Sequences.{left_none}
 use Rattle.reo_net_base.specs.declared.port.Port.{Port}
 use Rattle.reo_rules.specs.Lists.{first_of, has_name}
-use Rattle.reo_rules.proofs.AfterLemmas.{left_none, right_none}
+use Rattle.reo_rules.proofs.AfterLemmas.{right_none}
 use Rattle.reo_scripts.specs.declared.fault.ScriptFault.{ScriptFault}
 use Rattle.reo_scripts.specs.declared.forms.ComponentForm.{ComponentForm}
 use Rattle.reo_scripts.specs.declared.action.Component.{Component}

@@ -1,10 +1,11 @@
 use Rattle.std.proofs.Common.{◌≡◌, ◌∙◌, ◌+◌, ℕ, None, refl, sym, ap, arith, rules}
+use Rattle.reo_values.proofs.Sequences.{no_value}
 use Rattle.reo_rounds.specs.Rules.{rules_of}
 use Rattle.reo_runs.specs.Run.{Place}
 use Rattle.reo_at_ports.proofs.Kept.{self_but}
 use Rattle.reo_io.proofs.Counts.{same_count}
 use Rattle.reo_runner.specs.declared.planning.RoundFault.TheVariants.{Failed as SinkFailed}
-use Rattle.reo_runner.proofs.RunLemmas.{so_far_none, at_limit, ended, so_far_more, stopped_by, none_of}
+use Rattle.reo_runner.proofs.RunLemmas.{so_far_none, at_limit, ended, so_far_more, stopped_by}
 use Rattle.reo_runner.proofs.runner.make_rounds.Goals as goal
 
 pub loop-limits-init : goal.loop-limits-init
@@ -47,7 +48,7 @@ loop-limits-preserved g c =
     let made = c.in-Ok.ensures.made so_far.circuit so_far.left in
     let rounds : c.make_round-round.new.engine.rounds ≡ c.loop-limits.engine.rounds + 1 = c.in-Ok.ensures.rounds in
     let more = so_far_more r c.args.ports.now.list c.args.limits.budget c.args.limits.rounds start _ _ c.loop-limits.engine.rounds c.loop-limits.engine.circuit c.loop-limits.players c.loop-limits.tally so_far
-    _ _ _ c.in-Ok.made made (none_of c.in-Ok.made.over c.in_default.not-Some) in
+    _ _ _ c.in-Ok.made made (no_value c.in-Ok.made.over c.in_default.not-Some) in
     record {
       so_far = rw (sym rounds) at more;
       between = c.in-Ok.ensures.between;

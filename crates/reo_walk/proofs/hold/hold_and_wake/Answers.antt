@@ -5,9 +5,10 @@ use Rattle.reo_joint_values.proofs.Inside.{at_inside}
 use Rattle.reo_rows.specs.Sets.{names_of}
 use Rattle.reo_side_tables.specs.Marks.{IsJointOf}
 use Rattle.reo_propagate.specs.Queues.{among}
+use Rattle.reo_propagate.proofs.Revising.{ready_alike}
 use Rattle.reo_walk.specs.Places.{side_of_place}
 use Rattle.reo_walk.proofs.Holding.{less_flags, all_done}
-use Rattle.reo_walk.proofs.Waking.{kept_begin, kept_one, kept_both, kept_same, two_of, ready_alike}
+use Rattle.reo_walk.proofs.Waking.{kept_begin, kept_one, kept_both, kept_same, two_of}
 use Rattle.reo_walk.proofs.hold.hold_and_wake.Goals as goal
 
 pub wake-requires-then-loss-clause-noted : goal.wake-requires-then-loss-clause-noted

@@ -3,7 +3,8 @@ use Rattle.std.proofs.Common.{arith, ◌≡◌, ◌∙◌, ℕ, List, true, ◌=
 use Rattle.reo_values.specs.declared.kindred.Kindred.{Kindred}
 use Rattle.reo_rules.specs.Types.{is_same}
 use Rattle.std.proofs.lemmas.Option.{same_Some}
-use Rattle.reo_rules_types.proofs.Same.{same_told, same_self, same_tests}
+use Rattle.reo_values.proofs.Truths.{one_truth}
+use Rattle.reo_rules_types.proofs.Same.{same_told, same_self}
 use Rattle.reo_rules_types.proofs.types.Types.alike.Goals as goal
 
 told : (a b : ℕ) → (a == b) ≡ true → a ≡ b
@@ -15,7 +16,7 @@ same a b e = grind arith
 by_number : (types : List Kindred) (once : (m n : ℕ) (k : Kindred) → slice_get types m ≡ Some k → slice_get types n ≡ Some k → m ≡ n) (a b : ℕ) (k l : Kindred) → slice_get types a ≡ Some k → slice_get types b ≡ Some l
     → (a == b) ≡ is_same k l
 by_number types once a b k l p q =
-    same_tests (a == b) (is_same k l)
+    one_truth (a == b) (is_same k l)
     (λ e. ap (is_same k) (sym (same_Some k l (sym p ∙ ap (slice_get types) (told a b e) ∙ q))) ∙ same_self k)
     (λ e. same a b (once a b l (p ∙ ap Some (same_told k l e)) q))
 
