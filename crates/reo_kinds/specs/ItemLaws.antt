@@ -38,6 +38,7 @@ pub record IsGiving (b : Behaviour) : Type 0 where
   pub from_end : (side row end from : ℕ) → GivesAt b side row end → b.from side row end ≡ Some from → IsEndOf b side from
   pub from_takes : (side row end from : ℕ) → GivesAt b side row end → b.from side row end ≡ Some from → b.takes_in from ≡ true
   pub from_flows : (side row end from : ℕ) → GivesAt b side row end → b.from side row end ≡ Some from → b.mark side row from ≡ F
+  pub from_none : (side row end other : ℕ) → GivesAt b side row end → b.from side row end ≡ None → IsEndOf b side other → b.takes_in other ≡ false
   pub given_alone : (side row end : ℕ) → GivesAt b side row end → b.from side row end ≡ None → IsSome (b.given side row end None)
   pub given_for : (side row end from : ℕ) (item : Value) → GivesAt b side row end → b.from side row end ≡ Some from → IsSome (b.given side row end (Some item))
   pub given_for_none : (side row end from : ℕ) → GivesAt b side row end → b.from side row end ≡ Some from → b.given side row end None ≡ None
@@ -74,6 +75,7 @@ module _ (ends : Ends) (form : ℕ → Form) (lets_in : ℕ → Value → Bool) 
     from_end = items.from_end;
     from_takes = items.from_takes;
     from_flows = items.from_flows;
+    from_none = items.from_none;
     given_alone = items.given_alone;
     given_for = items.given_for;
     given_for_none = items.given_for_none;
@@ -112,6 +114,7 @@ out_lawful offer = lawful_by Out (λ _. ready (is_some offer)) (λ _ _. true) (�
       from_end = λ side row end from at is. absurd cc;
       from_takes = λ side row end from at is. absurd cc;
       from_flows = λ side row end from at is. absurd cc;
+      from_none = λ side row end other at is of_side. refl;
       given_alone = λ side row end at is. ready_flow (is_some offer) row at.flows;
       given_for = λ side row end from item at is. absurd cc;
       given_for_none = λ side row end from at is. absurd cc;
@@ -126,6 +129,7 @@ takes_all b takes all = record {
   from_end = λ side row end from at is. absurd (no_giver end at.gives);
   from_takes = λ side row end from at is. absurd (no_giver end at.gives);
   from_flows = λ side row end from at is. absurd (no_giver end at.gives);
+  from_none = λ side row end other at is of_side. absurd (no_giver end at.gives);
   given_alone = λ side row end at is. absurd (no_giver end at.gives);
   given_for = λ side row end from item at is. absurd (no_giver end at.gives);
   given_for_none = λ side row end from at is. absurd (no_giver end at.gives);
@@ -169,6 +173,7 @@ channel_lawful table is passes lets_in given none some = lawful_by InOut (λ _. 
       from_end = λ side row end from at is. let zero : 0 ≡ from = cc in (omega (arith, zero), at.is_end.1);
       from_takes = λ side row end from at is. let zero : 0 ≡ from = cc in grind (arith, nat_tests);
       from_flows = λ side row end from at is. let zero : from ≡ 0 = cc in let second = second_end end at.is_end.0 at.gives in rw (zero) (passes row (rw (sym second) at.flows));
+      from_none = λ side row end other at is of_side. absurd cc;
       given_alone = λ side row end at is. absurd cc;
       given_for = λ side row end from item at is. some item;
       given_for_none = λ side row end from at is. none;
@@ -207,6 +212,7 @@ kept_lawful free front = lawful_by MouthTail (mouth_and_tail free front) (λ _ _
       from_end = λ side row end from at is. absurd cc;
       from_takes = λ side row end from at is. absurd cc;
       from_flows = λ side row end from at is. absurd cc;
+      from_none = λ side row end other at is of_side. let same : other ≡ end = of_side.1 ∙ sym at.is_end.1 in ap (λ e. e == 0) same ∙ at.gives;
       given_alone = λ side row end at is. tail_given free front side row end at.is_end.0 at.is_end.1 at.gives at.flows;
       given_for = λ side row end from item at is. absurd cc;
       given_for_none = λ side row end from at is. absurd cc;
@@ -226,6 +232,7 @@ merger_lawful branches = lawful_by (Inputs branches) (λ _. Merging branches) (�
       from_end = λ side row end from at is. let this : row ≡ from = cc in let flows : row < branches.count = merger_flow branches.count row end at.flows in (omega arith, at.is_end.1);
       from_takes = λ side row end from at is. let this : row ≡ from = cc in let flows : row < branches.count = merger_flow branches.count row end at.flows in grind (arith, nat_tests);
       from_flows = λ side row end from at is. let this : row ≡ from = cc in let flows : row < branches.count = merger_flow branches.count row end at.flows in grind (arith, nat_tests);
+      from_none = λ side row end other at is of_side. absurd cc;
       given_alone = λ side row end at is. absurd cc;
       given_for = λ side row end from item at is. refl;
       given_for_none = λ side row end from at is. refl;
@@ -246,6 +253,7 @@ replicator_lawful branches = lawful_by (Outputs branches) (λ _. Replicating bra
       from_end = λ side row end from at is. let zero : 0 ≡ from = cc in (omega (arith, zero), at.is_end.1);
       from_takes = λ side row end from at is. let zero : 0 ≡ from = cc in grind (arith, nat_tests);
       from_flows = λ side row end from at is. let zero : 0 ≡ from = cc in let flows = at.flows in grind (arith, nat_tests);
+      from_none = λ side row end other at is of_side. absurd cc;
       given_alone = λ side row end at is. absurd cc;
       given_for = λ side row end from item at is. refl;
       given_for_none = λ side row end from at is. refl;

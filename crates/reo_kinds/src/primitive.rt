@@ -8,7 +8,7 @@ use crate::ends::ends_of;
 use crate::form::form_of;
 use crate::given::{Given, given_by};
 use crate::kind::Kind;
-use crate::settle::{first_flows, go_on, second_flows, where_flow};
+use crate::settle::{go_on, settle, where_flow};
 use crate::{rule, telling};
 use reo_net_base::{Chosen, Form, Mark, Primitive};
 use reo_values::{Kindred, NoMemory, Value, copy, same_item};
@@ -112,9 +112,7 @@ impl Primitive for Kind {
     }
 
     fn settle(&mut self, rows: Chosen, taken: Option<Value>) {
-        let first = first_flows(self, rows);
-        let second = second_flows(self, rows);
-        go_on(self, first, second, where_flow(first, taken));
+        settle(self, rows, taken);
     }
 
     fn pass(&mut self, _rows: Chosen, first: bool, second: bool, taken: Option<Value>) {

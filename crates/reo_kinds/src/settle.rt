@@ -1,6 +1,8 @@
 //! What a round leaves of what a kind keeps.
 ghost use Rattle.std.specs.Prelude.{◌≡◌, ◌-◌, cond, None};
-ghost use Rattle.reo_kinds.specs.Kinds.{first_flows, second_flows, after, given_away, put_in, shift_in, replaced};
+ghost use Rattle.reo_net_base.specs.Forms.{mark_by};
+ghost use Rattle.reo_net_base.specs.Marks.{is_flow};
+ghost use Rattle.reo_kinds.specs.Kinds.{first_flows, second_flows, after, given_away, put_in, ready, shift_in, replaced, settled_kind};
 
 use crate::form::form_of;
 use crate::kind::Kind;
@@ -60,14 +62,14 @@ fn lower(left: &mut u32, flows: bool)
 }
 
 /// Whether end 0 flows by its row.
-pub fn first_flows(kind: &Kind, rows: Chosen) -> bool
+fn first_flows(kind: &Kind, rows: Chosen) -> bool
     ensures { result ≡ first_flows kind.now rows }
 {
     form_of(kind, 0).mark(rows.first, 0).is_flow()
 }
 
 /// Whether the tail flows by its row.
-pub fn second_flows(kind: &Kind, rows: Chosen) -> bool
+fn second_flows(kind: &Kind, rows: Chosen) -> bool
     ensures { result ≡ second_flows kind.now rows }
 {
     form_of(kind, 1).mark(rows.second, 1).is_flow()
@@ -107,5 +109,36 @@ pub fn go_on(kind: &mut Kind, first: bool, second: bool, item: Option<Value>)
         Kind::Variable(held) => replace(held, item),
         Kind::Quota(left) => lower(left, first),
         _ => {}
+    }
+}
+
+/// Whether the end of a port flows by a row, by whether it can flow.
+fn port_flows(can_flow: bool, row: usize) -> bool
+    ensures { result ≡ is_flow (mark_by (ready can_flow) row 0) }
+{
+    can_flow && row == 0
+}
+
+/// Goes on by the rows of its sides, where this item comes in at a mouth that flows. A port's row
+/// is not looked up in its table.
+pub fn settle(kind: &mut Kind, rows: Chosen, taken: Option<Value>)
+    ensures { kind.new ≡ settled_kind kind.old rows taken }
+{
+    match kind {
+        Kind::Writer(port) => {
+            if port_flows(port.offer.is_some(), rows.first) {
+                offer::withdraw(port);
+            }
+        }
+        Kind::Taker(port) => {
+            if port_flows(port.pending, rows.first) {
+                port.pending = false;
+            }
+        }
+        _ => {
+            let first = first_flows(kind, rows);
+            let second = second_flows(kind, rows);
+            go_on(kind, first, second, where_flow(first, taken));
+        }
     }
 }

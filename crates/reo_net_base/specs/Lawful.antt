@@ -77,6 +77,8 @@ pub record IsLawful (b : Behaviour) : Type 0 where
   pub from_end : (side row end from : ℕ) → GivesAt b side row end → b.from side row end ≡ Some from → IsEndOf b side from
   pub from_takes : (side row end from : ℕ) → GivesAt b side row end → b.from side row end ≡ Some from → b.takes_in from ≡ true
   pub from_flows : (side row end from : ℕ) → GivesAt b side row end → b.from side row end ≡ Some from → b.mark side row from ≡ F
+  -- the state alone decides only where no end of the side takes in
+  pub from_none : (side row end other : ℕ) → GivesAt b side row end → b.from side row end ≡ None → IsEndOf b side other → b.takes_in other ≡ false
   pub given_alone : (side row end : ℕ) → GivesAt b side row end → b.from side row end ≡ None → IsSome (b.given side row end None)
   pub given_for : (side row end from : ℕ) (item : Value) → GivesAt b side row end → b.from side row end ≡ Some from → IsSome (b.given side row end (Some item))
   pub given_for_none : (side row end from : ℕ) → GivesAt b side row end → b.from side row end ≡ Some from → b.given side row end None ≡ None

@@ -53,6 +53,7 @@ gate_lawful g =
       from_end = λ side row end from at is. absurd cc;
       from_takes = λ side row end from at is. absurd cc;
       from_flows = λ side row end from at is. absurd cc;
+      from_none = λ side row end other at is of_side. at.gives;
       given_alone = λ side row end at is. refl;
       given_for = λ side row end from item at is. absurd cc;
       given_for_none = λ side row end from at is. absurd cc;
