@@ -25,6 +25,9 @@ pub fn append_number(text: &mut Bytes, number: u64) -> Result<(), NoMemory>
 fn append_int(text: &mut Bytes, number: i64) -> Result<(), NoMemory>
     ensures { OnOk result (text.new ≡ text.old ++ signed_decimal number) }
 {
+    if 0 <= number && number < 10 {
+        return text.push(b'0' + number as u8);
+    }
     let mut buffer = Buffer::new();
     text.append(buffer.format(number).as_bytes())
 }
