@@ -1,5 +1,5 @@
 -- Cells as codes, and as the bytes that are kept of them.
-use Rattle.std.specs.Prelude.{ℕ, ◌+◌, ◌==◌, ◌&&◌, not, nat_le, Bool, List, [], ◌∷◌, ◌++◌, codes, if◌then◌else◌, map}
+use Rattle.std.specs.Prelude.{ℕ, ◌≡◌, ◌<◌, ◌≤◌, ◌+◌, ◌==◌, ◌&&◌, not, nat_le, Bool, true, false, List, [], ◌∷◌, ◌++◌, codes, if◌then◌else◌, length, map, min, slice_index}
 use Rattle.std.specs.Fmt.{decimal}
 use Rattle.reo_net_base.specs.Net.{Net, Side, all_sides}
 
@@ -18,6 +18,13 @@ befores net = map before_side (all_sides net.primitives)
 -- Whether the cell of a code takes more than one byte.
 abbrev pub is_wide : ℕ → Bool
 is_wide code = nat_le 10 code && not (code == jam_code)
+
+-- The place is the least from another on at which a cell is wide, or the number of cells if none is.
+pub record IsNextWide (cells : List ℕ) (from place : ℕ) : Type 0 where
+  pub from_on : min from (length cells) ≤ place
+  pub in_range : place ≤ length cells
+  pub narrow_before : (i : ℕ) → from ≤ i → i < place → is_wide (slice_index cells i) ≡ false
+  pub here : place < length cells → is_wide (slice_index cells place) ≡ true
 
 -- The byte that is kept of a cell: the cell itself, where it is one byte.
 abbrev pub cell_byte : ℕ → ℕ

@@ -1,5 +1,5 @@
 //! The line of a round, with the cells that are kept.
-ghost use Rattle.std.specs.Prelude.{◌≡◌, ◌<◌, ◌++◌, ℕ, [], IfOk, ◌==◌, OnOk, codes, length, List as Listed};
+ghost use Rattle.std.specs.Prelude.{◌≡◌, ◌<◌, ◌≤◌, ◌*◌, ◌++◌, ℕ, [], IfOk, ◌==◌, OnOk, codes, length, List as Listed};
 ghost use Rattle.std.specs.Fmt.{decimal};
 ghost use Rattle.reo_net_base.specs.Net.{Net};
 ghost use Rattle.reo_net_base.specs.Sides.{AreRowsOf};
@@ -7,10 +7,10 @@ ghost use Rattle.reo_net_base.specs.Wired.{IsWired};
 ghost use Rattle.reo_trace.specs.Entries.{is_idle, line_for};
 ghost use Rattle.reo_trace.specs.RoundText.{moves_text, round_text};
 ghost use Rattle.reo_cells.specs.Cells.{AreCells, AreShown};
-ghost use Rattle.reo_cells.specs.Texts.{bar, befores, cells_text};
+ghost use Rattle.reo_cells.specs.Texts.{IsNextWide, bar, befores, cells_text};
 
 use crate::Cells;
-use crate::code::append_code;
+use crate::code::{append_code, is_wide};
 use reo_net_base::{Move, Ports};
 use reo_trace::{append_moves, append_number};
 use reo_values::{Bytes, NoMemory};
@@ -47,19 +47,48 @@ impl Cells {
         }
     }
 
-    /// Adds the cells one by one, each with what stands before it.
+    /// The least place from another on at which a cell is wide, or the number of cells if none is.
+    fn next_wide(&self, from: usize) -> usize
+        ensures { IsNextWide self.now.shown from result }
+    {
+        let codes = self.shown.as_slice();
+        for place in from..codes.len() {
+            if is_wide(codes[place]) {
+                return place;
+            }
+        }
+        codes.len()
+    }
+
+    /// Adds the cells, each with what stands before it: from one wide cell to the next what is kept
+    /// is the text.
+    fn append_runs(&self, text: &mut Bytes) -> Result<(), NoMemory>
+        requires { 2 * length self.now.shown ≤ length self.now.text }
+        ensures { (net : Net) → AreCells net self.now →
+            OnOk result (text.new ≡ text.old ++ cells_text (befores net) self.now.shown) }
+    {
+        let kept = self.text.as_slice();
+        let mut from = 0;
+        let mut place = self.next_wide(0);
+        while place < self.shown.len() {
+            text.append(&kept[2 * from..2 * place + 1])?;
+            append_code(text, *self.shown.at(place))?;
+            from = place + 1;
+            place = self.next_wide(from);
+        }
+        text.append(&kept[2 * from..])
+    }
+
+    /// Adds the cells, of which some are wide, each with what stands before it.
     fn append_each(&self, text: &mut Bytes) -> Result<(), NoMemory>
         ensures { (net : Net) → AreCells net self.now →
             OnOk result (text.new ≡ text.old ++ cells_text (befores net) self.now.shown) }
     {
-        for index in 0..self.text.len() / 2 {
-            let Some(code) = self.shown.get(index) else {
-                return Ok(());
-            };
-            text.push(*self.text.at(2 * index))?;
-            append_code(text, *code)?;
+        if self.shown.len() <= self.text.len() / 2 {
+            self.append_runs(text)
+        } else {
+            Ok(())
         }
-        Ok(())
     }
 
     /// Adds the cells, each with what stands before it.
