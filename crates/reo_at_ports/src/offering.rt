@@ -1,5 +1,5 @@
 //! What the components offer at the start of a round.
-ghost use Rattle.std.specs.Prelude.{◌≡◌, ◌<◌, ◌+◌, ◌==◌, true, IfOk, OnOk, MatchOption, Some, length, map};
+ghost use Rattle.std.specs.Prelude.{◌≡◌, ◌<◌, ◌+◌, ◌==◌, true, OnOk, Some, length, map};
 ghost use Rattle.reo_net_base.specs.Net.{Wiring};
 ghost use Rattle.reo_net_base.specs.Step.{change_at};
 ghost use Rattle.reo_net_circuit.specs.Offers.{OnlyPort};
@@ -10,7 +10,7 @@ ghost use Rattle.reo_rounds.specs.Ready.{ready};
 ghost use Rattle.reo_rounds.specs.Rules.{rules_of};
 ghost use Rattle.reo_at_ports.specs.Pending.{IsButForOffers};
 ghost use Rattle.reo_at_ports.specs.Between.{AreBetween, AreStarted};
-ghost use Rattle.reo_at_ports.specs.Parts.{AreOffering, HasOffered, IsFresh};
+ghost use Rattle.reo_at_ports.specs.Parts.{AreOffering, IsFresh};
 
 use reo_engine::Engine;
 use reo_net_base::{Offer, Ported, Ports};
@@ -35,25 +35,32 @@ fn place<P: Ported>(engine: &mut Engine<P>, port: usize, offer: Offer)
     };
 }
 
-/// What a component offers whose present action no round has seen, and at which port. `NoMemory` is
-/// out of memory.
-fn fresh_offer(
-    alloc: Global,
+/// Makes an offer pending that a component makes and no round has seen.
+fn place_fresh<P: Ported>(
+    engine: &mut Engine<P>,
+    ports: &Ports,
     players: &Players,
     component: usize,
-) -> Result<Option<(usize, Offer)>, NoMemory>
+    port: usize,
+    offer: Offer,
+)
     requires there { component < length players.now }
-    requires unseen { ((player_of players.now component).seen == 0) ≡ true }
-    ensures { let player = player_of players.now component in
-        IfOk result (λ made. MatchOption made (HasOffered player)
-        (λ m. IsFresh player m.0 m.1)) }
+    requires fresh { IsFresh (player_of players.now component) port offer }
+    requires before { let old = engine.old.circuit in
+        let states = map P.port_state old.primitives in
+        AreOffering ports.now.list old.ports component players.now states }
+    ensures offers { let new = engine.new.circuit in
+        let states = map P.port_state new.primitives in
+        AreOffering ports.now.list new.ports (component + 1) players.now states }
+    ensures circuit { let r = rules_of P.behaviour P.settled P.port_state P.placed P.withdrawn in
+        (w : Wiring _) → IsButForOffers r w engine.old.circuit
+        → IsButForOffers r w engine.new.circuit }
+    ensures rounds { engine.new.rounds ≡ engine.old.rounds }
 {
-    match players.wants(component) {
-        Want::Write { port, item } => Ok(Some((port, Offer::Write(copy(alloc, item)?)))),
-        Want::Take { port } => Ok(Some((port, Offer::Take))),
-        Want::Rest => Ok(None),
-        Want::Done => Ok(None),
-    }
+    let _ = ports;
+    let _ = players;
+    let _ = component;
+    place(engine, port, offer);
 }
 
 /// Offers what a component wants whose present action no round has seen. `NoMemory` is out of
@@ -78,10 +85,13 @@ fn offer_fresh<P: Ported>(
         → IsButForOffers r w engine.new.circuit) }
     ensures rounds { engine.new.rounds ≡ engine.old.rounds }
 {
-    let _ = ports;
-    if let Some((port, offer)) = fresh_offer(alloc, players, component)? {
-        place(engine, port, offer);
-    }
+    let (port, offer) = match players.wants(component) {
+        Want::Write { port, item } => (port, Offer::Write(copy(alloc, item)?)),
+        Want::Take { port } => (port, Offer::Take),
+        Want::Rest => return Ok(()),
+        Want::Done => return Ok(()),
+    };
+    place_fresh(engine, ports, players, component, port, offer);
     Ok(())
 }
 

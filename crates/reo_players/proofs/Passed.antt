@@ -1,5 +1,6 @@
 -- Standing at the first task of a repeat, and going past a task in it.
-use Rattle.std.proofs.Common.{◌≡◌, ◌∙◌, ℕ, suc, true, false, ◌-◌, ◌<◌, List, [], ◌∷◌, ◌++◌, length, drop, flat_map, slice_get, Some, None, Option, refl, sym, ap, subst, ⊎_elim, IsSome, true≢false}
+use Rattle.std.proofs.Common.{◌≡◌, ◌∙◌, ℕ, zero, suc, true, false, ◌-◌, ◌<◌, List, [], ◌∷◌, ◌++◌, length, drop, flat_map, slice_get, Some, None, Option, refl, sym, ap, subst, ⊎_elim, IsSome, true≢false, arith}
+use Rattle.std.proofs.Math.ListN.{get_or}
 use Rattle.std.proofs.lemmas.List.{append_assoc}
 use Rattle.std.proofs.lemmas.Option.{slice_get_cases}
 use Rattle.reo_players.proofs.Stands.{rest_by, stands_by, stands_of}
@@ -9,7 +10,7 @@ use Rattle.reo_players.specs.declared.counter.Counter.{Counter}
 use Rattle.reo_rules.specs.Lists.{first_of}
 use Rattle.reo_players.specs.Written.{Task, times_over, written}
 use Rattle.reo_players.specs.Written.Task.{writes, takes, rests}
-use Rattle.reo_players.specs.Counters.{actions_in, levels_within, levels_of, IsLive, AreLive, rest_here, rest_of, rest_within, Stands, StandsHere, PassedOn, PassedWithin, task_of}
+use Rattle.reo_players.specs.Counters.{actions_in, levels_within, levels_of, IsLive, AreLive, IsOneTask, rest_here, rest_of, rest_within, Stands, StandsHere, PassedOn, PassedWithin, task_of}
 use Rattle.reo_players.proofs.Bodies.{written_repeat, levels_repeat, times_live, body_live, body_some, stands_in, stands_out, rest_repeat, once_more}
 
 -- What stands at a task has a first one, so that what follows is not touched where it goes.
@@ -167,3 +168,21 @@ first_of_task (action.Write port item within) here cs some = refl
 first_of_task (action.Take port within) here cs some = refl
 first_of_task (action.Pause rounds) here cs some = refl
 first_of_task (action.Repeat' times shape body) here cs some = absurd (true≢false (sym some))
+
+-- Behind a single action that is no repeat comes nothing.
+alone_at : (a : Action) (place left : ℕ) (inner : List Action → List Task) → IsSome (task_of a)
+    → drop 1 (rest_here (slice_get (a ∷ []) place) left inner ++ flat_map written (drop (suc place) (a ∷ []))) ≡ []
+alone_at (action.Write port item within) zero left inner some = refl
+alone_at (action.Take port within) zero left inner some = refl
+alone_at (action.Pause rounds) zero left inner some = refl
+alone_at (action.Repeat' times shape body) zero left inner some = absurd (true≢false (sym some))
+alone_at a (suc place) left inner some = refl
+
+pub one_alone : (xs : List Action) (a : Action) → xs ≡ a ∷ [] → IsSome (task_of a) → IsOneTask xs
+one_alone xs a is some [] = refl
+one_alone xs a is some (c ∷ cs) = ap (λ (ys : List Action). drop 1 (rest_of ys (c ∷ cs))) is ∙ alone_at a c.place c.left (λ body. rest_of body cs) some
+
+pub single : (xs : List Action) (a : Action) → length xs ≡ 1 → a ≡ get_or xs 0 a → xs ≡ a ∷ []
+single [] a n at = absurd (omega (arith, n))
+single (x ∷ []) a n at = ap (λ y. y ∷ []) (sym at)
+single (x ∷ y ∷ ys) a n at = absurd (omega (arith, n))

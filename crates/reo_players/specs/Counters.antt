@@ -74,6 +74,10 @@ abbrev pub Stands : List Action → List Counter → Type 0
 Stands actions [] = ⊥
 Stands actions (c ∷ cs) = StandsHere (slice_get actions c.place) (λ body. Stands body cs)
 
+-- Wherever counters stand in the list, no task comes behind theirs.
+abbrev pub IsOneTask : List Action → Type 0
+IsOneTask actions = (counters : List Counter) → drop 1 (rest_of actions counters) ≡ []
+
 -- The counters have gone past the first task of their list; false: it was the only one.
 abbrev pub PassedOn : Bool → List Action → List Counter → List Counter → Type 0
 PassedOn true actions old new = Stands actions new × (rest_of actions new ≡ drop 1 (rest_of actions old))

@@ -1,8 +1,8 @@
 //! Loop counters.
-ghost use Rattle.std.specs.Prelude.{◌≡◌, ◌+◌, ◌≤◌, ◌<◌, [], length, drop, IfOk, Some, IsSome};
+ghost use Rattle.std.specs.Prelude.{◌≡◌, ◌+◌, ◌≤◌, ◌<◌, true, [], length, drop, IfOk, Some, IsSome};
 ghost use Rattle.std.specs.List.{flat_map};
 ghost use Rattle.reo_players.specs.Written.{written};
-ghost use Rattle.reo_players.specs.Counters.{levels_of, levels_within, rest_of, rest_within, Stands, StandsHere, IsLive, AreLive, PassedOn, PassedWithin, task_of};
+ghost use Rattle.reo_players.specs.Counters.{levels_of, levels_within, rest_of, rest_within, Stands, StandsHere, IsLive, AreLive, PassedOn, PassedWithin, IsOneTask, task_of};
 ghost use Rattle.reo_rules.specs.Lists.{first_of};
 
 use reo_scripts::Action;
@@ -81,6 +81,37 @@ pub fn stand_at(actions: &[Action], counters: &mut [Counter], place: usize)
     stand_within(&actions[place], here, inner);
 }
 
+/// Whether a list of actions is a single one that is no repeat.
+#[inline(always)]
+fn is_one_task(actions: &[Action]) -> bool
+    ensures { result ≡ true → IsOneTask actions.now }
+{
+    if actions.len() != 1 {
+        return false;
+    }
+    match &actions[0] {
+        Action::Repeat { .. } => false,
+        Action::Write { .. } | Action::Take { .. } | Action::Pause { .. } => true,
+    }
+}
+
+/// Goes past the task that the counters stand at within the body of a repeat, to the next one in
+/// it, if there is one. Where the body is one task, that costs no more than a look.
+#[cycle(pass)]
+#[inline(always)]
+fn pass_body(body: &[Action], counters: &mut [Counter]) -> bool
+    requires stands { Stands body.now counters.old }
+    requires live { AreLive body.now }
+    requires room { levels_of body.now ≤ length counters.old }
+    ensures passed { PassedOn result body.now counters.old counters.new }
+    ensures same { length counters.new ≡ length counters.old }
+{
+    if is_one_task(body) {
+        return false;
+    }
+    pass(body, counters)
+}
+
 /// Goes past the task that the counters stand at within an action, to the next one within it.
 #[cycle(pass)]
 fn pass_within(action: &Action, here: &mut Counter, inner: &mut [Counter]) -> bool
@@ -93,7 +124,7 @@ fn pass_within(action: &Action, here: &mut Counter, inner: &mut [Counter]) -> bo
     match action {
         Action::Repeat { body, .. } => {
             let body = body.as_slice();
-            if pass(body, inner) {
+            if pass_body(body, inner) {
                 return true;
             }
             if here.left == 0 {

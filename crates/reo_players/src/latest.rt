@@ -1,6 +1,7 @@
 //! At which component a port is looked for first.
 
 use crate::player::Player;
+use crate::step::Step;
 use reo_scripts::Action;
 use reo_values::{List, NoMemory};
 use std::alloc::Global;
@@ -28,11 +29,19 @@ pub fn ports_of(actions: &[Action]) -> usize {
 
 /// Notes at a port that a component has come there. A port that has no place in the list is passed
 /// over.
-pub fn note(latest: &mut List<usize>, component: usize, port: Option<usize>) {
+fn note(latest: &mut List<usize>, component: usize, port: Option<usize>) {
     if let Some(port) = port {
         if port < latest.len() {
             *latest.at_mut(port) = component;
         }
+    }
+}
+
+/// Notes where a component has come by a step: it has come to a port only where it has gone on.
+pub fn note_step(latest: &mut List<usize>, component: usize, step: Step, player: &Player) {
+    match step {
+        Step::Stays => {}
+        Step::Moved | Step::GaveUp { .. } => note(latest, component, player.port()),
     }
 }
 

@@ -5,7 +5,7 @@ ghost use Rattle.reo_players.specs.Players.{beginning_of, present, player_of, po
 ghost use Rattle.reo_players.specs.Idle.{HasRoused, IsNamer, IsNextAwake, IsRoused, NamesPort};
 ghost use Rattle.reo_players.specs.Wants.{Wants};
 
-use crate::latest::{latest_of, note};
+use crate::latest::{latest_of, note_step};
 use crate::marks::{Mark, Marks, marks_of};
 use crate::player::Player;
 use crate::step::Step;
@@ -206,6 +206,7 @@ impl Players {
     }
 
     /// One round has passed for a component, in which its offer flowed, or did not.
+    #[inline(always)]
     pub fn advance(&mut self, component: usize, flowed: bool) -> Step
         requires { component < length self.old }
         ensures { IsAdvanced component flowed self.old self.new result }
@@ -214,7 +215,7 @@ impl Players {
         let step = self.players.at_mut(component).advance(flowed);
         let player = self.players.at(component);
         let mark = Mark::of(player);
-        note(&mut self.latest, component, player.port());
+        note_step(&mut self.latest, component, step, player);
         if !mark.is(before) {
             self.marks.put(component, mark);
         }

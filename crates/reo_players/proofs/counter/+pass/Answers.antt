@@ -31,8 +31,8 @@ pass-returns-then-pass_within-clause-passed t c =
     (subst (λ b. PassedWithin b a here c.pass_within.new.here c.in-Some.inner.now c.pass_within.new.inner) c.if-pass_within.true c.pass_within.ensures.passed)
 
 -- src/counter.rt:84:16
-pub pass_within-pass-requires : goal.pass_within-pass-requires
-pass_within-pass-requires t c =
+pub pass_within-pass_body-requires : goal.pass_within-pass_body-requires
+pass_within-pass_body-requires t c =
     let a = c.args.action.now in
     let xs = c.as_slice-body.result.now in
     let levels = within_levels a c.in-Repeat.times c.in-Repeat.body xs c.in-Repeat.is c.as_slice-body.ensures in (
@@ -47,13 +47,13 @@ pass_within-pass-requires t c =
     )
 
 -- src/counter.rt:85:17
-pub pass_within-returns-then-pass-clause-passed : goal.pass_within-returns-then-pass-clause-passed
-pass_within-returns-then-pass-clause-passed t c =
+pub pass_within-returns-then-pass_body-clause-passed : goal.pass_within-returns-then-pass_body-clause-passed
+pass_within-returns-then-pass_body-clause-passed t c =
     let a = c.args.action.now in
     let xs = c.as_slice-body.result.now in
-    went_on a c.in-Repeat.times c.in-Repeat.body xs c.in-Repeat.is c.as_slice-body.ensures c.args.here.now c.args.inner.now c.pass.new.counters
+    went_on a c.in-Repeat.times c.in-Repeat.body xs c.in-Repeat.is c.as_slice-body.ensures c.args.here.now c.args.inner.now c.pass_body.new.counters
     (stands_within a c.in-Repeat.times c.in-Repeat.body xs c.in-Repeat.is c.as_slice-body.ensures c.args.inner.now c.requires.stands)
-    (subst (λ b. PassedOn b xs c.args.inner.now c.pass.new.counters) c.if-pass.true c.pass.ensures.passed)
+    (subst (λ b. PassedOn b xs c.args.inner.now c.pass_body.new.counters) c.if-pass_body.true c.pass_body.ensures.passed)
 
 -- src/counter.rt:88:17
 pub pass_within-returns-then-here-eq0-clause-passed :
@@ -61,9 +61,9 @@ pub pass_within-returns-then-here-eq0-clause-passed :
 pass_within-returns-then-here-eq0-clause-passed t c =
     let a = c.args.action.now in
     let xs = c.as_slice-body.result.now in
-    ended a c.in-Repeat.times c.in-Repeat.body xs c.in-Repeat.is c.as_slice-body.ensures c.args.here.now c.args.inner.now c.pass.new.counters
+    ended a c.in-Repeat.times c.in-Repeat.body xs c.in-Repeat.is c.as_slice-body.ensures c.args.here.now c.args.inner.now c.pass_body.new.counters
     (stands_within a c.in-Repeat.times c.in-Repeat.body xs c.in-Repeat.is c.as_slice-body.ensures c.args.inner.now c.requires.stands)
-    (subst (λ b. PassedOn b xs c.args.inner.now c.pass.new.counters) c.if-pass.false c.pass.ensures.passed)
+    (subst (λ b. PassedOn b xs c.args.inner.now c.pass_body.new.counters) c.if-pass_body.false c.pass_body.ensures.passed)
     c.if-here-eq0.true
 
 -- src/counter.rt:91:13
@@ -79,7 +79,7 @@ pass_within-stand_at-requires-clause-live t c =
 -- src/counter.rt:91:13
 pub pass_within-stand_at-requires-clause-room : goal.pass_within-stand_at-requires-clause-room
 pass_within-stand_at-requires-clause-room t c =
-    omega (arith, within_levels c.args.action.now c.in-Repeat.times c.in-Repeat.body c.as_slice-body.result.now c.in-Repeat.is c.as_slice-body.ensures, c.requires.room, c.pass.ensures.same)
+    omega (arith, within_levels c.args.action.now c.in-Repeat.times c.in-Repeat.body c.as_slice-body.result.now c.in-Repeat.is c.as_slice-body.ensures, c.requires.room, c.pass_body.ensures.same)
 
 -- src/counter.rt:73:1
 pub pass_within-returns-else-here-eq0-clause-passed :
@@ -88,9 +88,9 @@ pass_within-returns-else-here-eq0-clause-passed t c =
     let a = c.args.action.now in
     let xs = c.as_slice-body.result.now in
     began_again a c.in-Repeat.times c.in-Repeat.body xs c.in-Repeat.is c.as_slice-body.ensures c.args.here.now
-    (record { place = c.args.here.now.place; left = c.args.here.now.left - 1 }) c.args.inner.now c.pass.new.counters c.stand_at.new.counters
+    (record { place = c.args.here.now.place; left = c.args.here.now.left - 1 }) c.args.inner.now c.pass_body.new.counters c.stand_at.new.counters
     (stands_within a c.in-Repeat.times c.in-Repeat.body xs c.in-Repeat.is c.as_slice-body.ensures c.args.inner.now c.requires.stands)
-    (subst (λ b. PassedOn b xs c.args.inner.now c.pass.new.counters) c.if-pass.false c.pass.ensures.passed)
+    (subst (λ b. PassedOn b xs c.args.inner.now c.pass_body.new.counters) c.if-pass_body.false c.pass_body.ensures.passed)
     (omega (arith, c.if-here-eq0.false)) refl refl c.stand_at.ensures.stands c.stand_at.ensures.rest
 
 -- src/counter.rt:116:9
