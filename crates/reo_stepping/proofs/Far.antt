@@ -1,5 +1,5 @@
 -- A circuit of which the first so many primitives have gone on.
-use Rattle.std.proofs.Common.{◌≡◌, ◌∙◌, ℕ, zero, suc, ◌+◌, ◌<◌, ◌≤◌, true, List, [], ◌∷◌, ◌++◌, length, map, get_or, set, take, drop, ap, sym, subst, refl, arith, append-nil}
+use Rattle.std.proofs.Common.{◌≡◌, ◌≢◌, ◌∙◌, inl, inr, ℕ, zero, suc, ◌+◌, ◌<◌, ◌≤◌, true, List, [], ◌∷◌, ◌++◌, length, map, get_or, set, take, drop, ap, sym, subst, refl, arith, append-nil}
 use Rattle.std.specs.Prelude.{Option, None, cond, ◌==◌}
 use Rattle.std.specs.List.{position_or_len}
 use Rattle.std.proofs.lemmas.List.{length-map, length-set, get_or-map, take_all, drop_all}
@@ -21,9 +21,9 @@ use Rattle.reo_net_circuit.proofs.SettleLemmas.{rest_same, same_at, settled_more
 use Rattle.reo_net_circuit.proofs.ShapeLemmas.{mouth_same}
 use Rattle.reo_net_circuit.proofs.StepLemmas.{taken_kept}
 use Rattle.reo_stepping.specs.Changes.{HasFlow}
-use Rattle.reo_stepping.specs.Clearing.{ComesNoItem}
+use Rattle.reo_stepping.specs.Clearing.{ComesNoItem, MayBeCleared}
 use Rattle.reo_stepping.proofs.QuietLemmas.{quiet_rows, nothing_taken}
-use Rattle.reo_stepping.proofs.StepLemmas.{change_is_set, change_none, set_same}
+use Rattle.reo_stepping.proofs.StepLemmas.{change_is_set, change_none}
 
 shape_twice : (a b c : Behaviour) → SameShape a b → SameShape b c → SameShape a c
 shape_twice a b c f g = record {
@@ -47,6 +47,20 @@ none_at (x ∷ xs) zero zero h = refl
 none_at (x ∷ xs) zero (suc j) h = h
 none_at (x ∷ xs) (suc m) zero h = h
 none_at (x ∷ xs) (suc m) (suc j) h = none_at xs m j h
+
+-- Where items may be cleared at one place there are as many, and where there was none there is none.
+cleared_count : (m : ℕ) (old new : List (Option Value)) → MayBeCleared m old new → length new ≡ length old
+cleared_count m old new (inl same) = ap (λ (xs : List (Option Value)). length xs) same
+cleared_count m old new (inr gone) = ap (λ (xs : List (Option Value)). length xs) gone ∙ length-set old m None
+
+cleared_none : (m : ℕ) (old new : List (Option Value)) → MayBeCleared m old new → (j : ℕ) → get_or old j None ≡ None → get_or new j None ≡ None
+cleared_none m old new (inl same) j h = ap (λ (xs : List (Option Value)). get_or xs j None) same ∙ h
+cleared_none m old new (inr gone) j h = ap (λ (xs : List (Option Value)). get_or xs j None) gone ∙ none_at old m j h
+
+-- Where an item may be taken out at the mouth of a primitive, another takes what it took.
+cleared_taken : (net : Net) (n i : ℕ) (old new : List (Option Value)) → length old ≡ length net.joints → n ≢ i → MayBeCleared (mouth_of net n) old new → taken_for net new i ≡ taken_for net old i
+cleared_taken net n i old new count apart (inl same) = ap (λ (xs : List (Option Value)). taken_for net xs i) same
+cleared_taken net n i old new count apart (inr gone) = ap (λ (xs : List (Option Value)). taken_for net xs i) gone ∙ taken_kept net old n i count apart
 
 some_of : {X : Type 0} → (xs : List X) (i : ℕ) → i < length xs → X
 some_of [] i lt = absurd (omega arith)
@@ -153,7 +167,7 @@ module _ {P : Type 0} (behaviour : P → Behaviour) where
     -- One more goes on.
     pub far_more : (n : ℕ) (w next : Wiring P) (items others : List (Option Value)) → n < length start.primitives → IsFar n w items
         → next ≡ record w { primitives = change_at (λ p. settled p (chosen_for (net_of behaviour w) rows n) (taken_for (net_of behaviour w) items n)) w.primitives n }
-        → SameNetShape behaviour w next → others ≡ set items (mouth_of (net_of behaviour w) n) None → IsFar (n + 1) next others
+        → SameNetShape behaviour w next → MayBeCleared (mouth_of (net_of behaviour w) n) items others → IsFar (n + 1) next others
     far_more n w next items others lt far is shape rest =
         let net : Net = net_of behaviour start in
         let bs = length-map start.primitives behaviour in
@@ -165,13 +179,12 @@ module _ {P : Type 0} (behaviour : P → Behaviour) where
         (λ t. settled (same_at w.primitives start.primitives n d far.unsettled t) (chosen_at n w items lt far t) (taken_there n w items lt far t)) in
         let made : next.primitives ≡ set w.primitives n (settled (get_or start.primitives n d) (get_or chosen n no_chosen) (get_or taken n None)) =
         ap (λ (v : Wiring P). v.primitives) is ∙ change_is_set f w.primitives n d ∙ ap (set w.primitives n) value in
-        let cleared : others ≡ set items (mouth_of net n) None = rest ∙ ap (λ (m : ℕ). set items m None) (mouth_stays start w far.shape n lt) in
+        let cleared : MayBeCleared (mouth_of net n) items others = subst (λ (m : ℕ). MayBeCleared m items others) (mouth_stays start w far.shape n lt) rest in
         let size = same_count w far.shape in
         record {
           shape = net_shape_twice start w next far.shape shape;
-          count = ap (λ (xs : List (Option Value)). length xs) cleared ∙ length-set items (mouth_of net n) None ∙ far.count;
-          untaken = λ i le i_in.
-              ap (λ (xs : List (Option Value)). taken_for net xs i) cleared ∙ taken_kept net items n i far.count (omega arith) ∙ far.untaken i (omega arith) i_in;
+          count = cleared_count (mouth_of net n) items others cleared ∙ far.count;
+          untaken = λ i le i_in. cleared_taken net n i items others far.count (omega arith) cleared ∙ far.untaken i (omega arith) i_in;
           unsettled = ap (drop (n + 1)) made ∙ rest_same w.primitives start.primitives n (settled (get_or start.primitives n d) (get_or chosen n no_chosen) (get_or taken n None)) far.unsettled;
           whole = ap (λ (ps : List P). take (n + 1) ps ++ settled_list settled (drop (n + 1) start.primitives) (drop (n + 1) chosen) (drop (n + 1) taken)) made
               ∙ settled_more settled w.primitives start.primitives chosen taken n d no_chosen None (omega (arith, size, lt)) lt
@@ -179,8 +192,8 @@ module _ {P : Type 0} (behaviour : P → Behaviour) where
               (omega (arith, bs, lt, length-map-range_with_len {X = Option Value} (taken_for net from) 0 (length net.primitives)))
               ∙ far.whole;
           none = record {
-            count = ap (λ (xs : List (Option Value)). length xs) cleared ∙ length-set items (mouth_of net n) None ∙ far.none.count;
-            none = λ j h. ap (λ (xs : List (Option Value)). get_or xs j None) cleared ∙ none_at items (mouth_of net n) j (far.none.none j h);
+            count = cleared_count (mouth_of net n) items others cleared ∙ far.none.count;
+            none = λ j h. cleared_none (mouth_of net n) items others cleared j (far.none.none j h);
           };
         }
 
@@ -217,14 +230,6 @@ module _ {P : Type 0} (behaviour : P → Behaviour) where
           change_none (λ q. settled q (chosen_for (net_of behaviour w) rows n) (taken_for (net_of behaviour w) items n)) w.primitives n d
           ((λ t. settled (same t) (chosen_same start w far.shape rows n lt t) (none t)) ∙ quiet p (chosen_for net rows n) rests ∙ sym same)
 
-      -- And nothing is taken from it.
-      pub still_takes_none : (n : ℕ) (w : Wiring P) (items : List (Option Value)) → n < length start.primitives → IsFar n w items → (HasFlow (net_of behaviour start) rows n → ⊥)
-          → set items (mouth_of (net_of behaviour w) n) None ≡ items
-      still_takes_none n w items lt far still =
-          let net : Net = net_of behaviour start in
-          let none : taken_for (net_of behaviour w) items n ≡ None = taken_is n w items lt far ∙ nothing_taken net rows from wired is n still in
-          ap (λ (o : Option Value). set items (mouth_of (net_of behaviour w) n) o) (sym none) ∙ set_same items (mouth_of (net_of behaviour w) n) None
-
       -- So those behind which none flows up to a place have gone on too.
       pub far_over : (gap n m : ℕ) (w : Wiring P) (items : List (Option Value)) → n + gap ≡ m → m ≤ length start.primitives
           → ((k : ℕ) → n ≤ k → k < m → HasFlow (net_of behaviour start) rows k → ⊥) → IsFar n w items → IsFar m w items
@@ -233,4 +238,4 @@ module _ {P : Type 0} (behaviour : P → Behaviour) where
           let lt : n < length start.primitives = omega arith in
           let stays = still_stays n w items lt far (still n (omega arith) (omega arith)) in
           far_over gap (n + 1) m w items (omega arith) le (λ k low high. still k (omega arith) high)
-          (far_more n w w items items lt far (ap (λ (ps : List P). record w { primitives = ps }) (sym stays)) (net_shape_same w) (sym (still_takes_none n w items lt far (still n (omega arith) (omega arith)))))
+          (far_more n w w items items lt far (ap (λ (ps : List P). record w { primitives = ps }) (sym stays)) (net_shape_same w) (inl refl))

@@ -14,9 +14,3 @@ module _ {X : Type 0} where
   change_none f [] i d h = refl
   change_none f (x ∷ xs) zero d h = ap (λ (y : X). y ∷ xs) h
   change_none f (x ∷ xs) (suc i) d h = ap (λ (ys : List X). x ∷ ys) (change_none f xs i d h)
-
-  -- A write of what stands there.
-  pub set_same : (xs : List X) (i : ℕ) (d : X) → set xs i (get_or xs i d) ≡ xs
-  set_same [] i d = refl
-  set_same (x ∷ xs) zero d = refl
-  set_same (x ∷ xs) (suc i) d = ap (λ (ys : List X). x ∷ ys) (set_same xs i d)

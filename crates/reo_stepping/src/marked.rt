@@ -1,5 +1,5 @@
 //! The primitives that are marked go on.
-ghost use Rattle.std.specs.Prelude.{◌≡◌, ◌<◌, None, length, set};
+ghost use Rattle.std.specs.Prelude.{◌≡◌, ◌<◌, length};
 ghost use Rattle.reo_net_base.specs.Colouring.{IsColouring};
 ghost use Rattle.reo_net_base.specs.Net.{net_of};
 ghost use Rattle.reo_net_base.specs.Shapes.{SameNetShape};
@@ -7,7 +7,7 @@ ghost use Rattle.reo_net_base.specs.Sides.{side_count};
 ghost use Rattle.reo_net_base.specs.Step.{change_at, chosen_for, mouth_of, stepped, taken_for};
 ghost use Rattle.reo_net_ends.specs.Ends.{AreEnds};
 ghost use Rattle.reo_stepping.specs.Changes.{AreThoseThatFlowed};
-ghost use Rattle.reo_stepping.specs.Clearing.{ComesNoItem};
+ghost use Rattle.reo_stepping.specs.Clearing.{ComesNoItem, MayBeCleared};
 
 use crate::mouths::take_at_mouth;
 use crate::one::go_on;
@@ -17,7 +17,9 @@ use reo_net_circuit::Circuit;
 use reo_net_ends::Ends;
 use reo_values::{List, Value};
 
-/// A primitive goes on by the rows of its sides and the item at its mouth, which is taken out.
+/// A primitive goes on by the rows of its sides and the item at its mouth, which is taken out. One
+/// that keeps nothing stays as it is, and its item too.
+#[inline(always)]
 fn step_one<P: Primitive>(
     circuit: &mut Circuit<P>,
     ends: &Ends,
@@ -36,15 +38,17 @@ fn step_one<P: Primitive>(
         circuit.new ≡ record old { primitives = primitives } }
     ensures shape { SameNetShape P.behaviour circuit.old circuit.new }
     ensures items { let mouth = mouth_of (net_of P.behaviour circuit.old) index in
-        items.new ≡ set items.old mouth None }
+        MayBeCleared mouth items.old items.new }
 {
-    let taken = take_at_mouth(circuit, ends, items, index);
-    go_on(circuit, rows, index, taken);
+    if circuit.primitive(index).keeps() {
+        let taken = take_at_mouth(circuit, ends, items, index);
+        go_on(circuit, rows, index, taken);
+    }
 }
 
 /// The round of a circuit with this colouring, where exactly those primitives are marked of which
-/// some end flows: they go on, each by the rows of its sides and the item at its mouth, which is
-/// taken out, and all others stay. The shape of the circuit stays. This takes no memory.
+/// some end flows: they go on, each by the rows of its sides and the item at its mouth, and all
+/// others stay. No item comes, and the shape of the circuit stays. This takes no memory.
 pub fn step_marked<P: Primitive>(
     circuit: &mut Circuit<P>,
     ends: &Ends,

@@ -31,6 +31,7 @@ fn mouth_of<P: Primitive>(circuit: &Circuit<P>, ends: &Ends, index: usize) -> us
 }
 
 /// Takes the item at the mouth of a primitive out, if it has a mouth and there is one.
+#[inline(always)]
 pub(crate) fn take_at_mouth<P: Primitive>(
     circuit: &Circuit<P>,
     ends: &Ends,

@@ -10,6 +10,7 @@ use reo_net_circuit::Circuit;
 use reo_values::Value;
 
 /// The rows of the one or two sides of a primitive, of which the first has this number.
+#[inline(always)]
 fn rows_for<P: Primitive>(primitive: &P, rows: &[u32], first: usize) -> Chosen
     requires first { first < length rows.now }
     requires second { (P.behaviour primitive.now).sides ≡ 2 → first + 1 < length rows.now }
@@ -31,6 +32,7 @@ fn rows_for<P: Primitive>(primitive: &P, rows: &[u32], first: usize) -> Chosen
 }
 
 /// The rows of the one or two sides of the primitive at a place.
+#[inline(always)]
 fn chosen_for<P: Primitive>(circuit: &Circuit<P>, rows: &[u32], index: usize) -> Chosen
     requires index { index < length circuit.now.primitives }
     requires rows { length rows.now ≡ side_count (net_of P.behaviour circuit.now) }
@@ -43,6 +45,7 @@ fn chosen_for<P: Primitive>(circuit: &Circuit<P>, rows: &[u32], index: usize) ->
 
 /// A primitive goes on by the rows of its sides and the item at its mouth. All others stay, and so
 /// does the shape of the circuit.
+#[inline(always)]
 pub(crate) fn go_on<P: Primitive>(
     circuit: &mut Circuit<P>,
     rows: &[u32],
@@ -58,8 +61,5 @@ pub(crate) fn go_on<P: Primitive>(
     ensures shape { SameNetShape P.behaviour circuit.old circuit.new }
 {
     let chosen = chosen_for(circuit, rows, index);
-    if !circuit.primitive(index).keeps() {
-        return;
-    }
     circuit.settle(index, chosen, taken);
 }
