@@ -106,8 +106,8 @@ impl PartPlans {
         self.misses = TRIES;
     }
 
-    /// The place of the entry that came after the one that came last, the last time, if there is any
-    /// entry.
+    /// The place of the entry that came after the one that came last, the last time, if there is
+    /// any entry.
     fn next(&self) -> Option<usize>
         ensures { IfSome result (λ place. place < length self.now.entries) }
     {
@@ -123,8 +123,8 @@ impl PartPlans {
     }
 
     /// The place of the entry with the key that some sides have in the round of a number, if there
-    /// is one. The one that is next is tried while the sides are looked at; for the others the key is
-    /// written down first.
+    /// is one. The one that is next is tried while the sides are looked at; for the others the key
+    /// is written down first.
     fn place_of<P: Primitive>(
         &self,
         circuit: &Circuit<P>,

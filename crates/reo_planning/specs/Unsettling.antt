@@ -1,9 +1,8 @@
 -- Parts that are not settled any more, and what is kept of the others.
-use Rattle.std.specs.Prelude.{ℕ, ◌+◌, ◌<◌, ◌≡◌, ◌≢◌, ◌⊎◌, ◌↔◌, true, false, Bool, IsTrue, List, length, slice_index, slice_index_or}
+use Rattle.std.specs.Prelude.{ℕ, ◌+◌, ◌<◌, ◌≡◌, ◌≢◌, true, false, Bool, List, length, slice_index, slice_index_or}
 use Rattle.reo_net_base.specs.Net.{Net, behaviour_at, first_side}
 use Rattle.reo_net_base.specs.Shapes.{SameShapes}
 use Rattle.reo_net_base.specs.Wired.{IsWired}
-use Rattle.reo_joint_values.specs.Standing.{giver_of, taker_of}
 use Rattle.reo_knots.specs.Knots.{Knotted, AreKnots}
 use Rattle.reo_planning.specs.declared.kept.Kept.{Kept}
 use Rattle.reo_planning.specs.Keeping.{is_settled, is_moving, IsKept}
@@ -40,33 +39,38 @@ pub record IsUnsettled (net : Net) (knots : Knotted) (primitive : ℕ) (old new 
   pub stay : (k : ℕ) → IsApart net knots primitive k → is_settled old k ≡ true
       → is_settled new k ≡ true
 
--- None of the first n primitives that is marked has a side of a part.
-abbrev pub AreApart : Net → Knotted → List Bool → ℕ → ℕ → Type 0
-AreApart net knots marks n k = (i : ℕ) → i < n → slice_index_or marks i false ≡ true
-    → IsApart net knots i k
-
--- The parts of the sides of the first n primitives that are marked are not settled any more, and
--- those that were settled and have none of their sides still are.
-pub record AreMarkedUnsettled (net : Net) (knots : Knotted) (marks : List Bool) (n : ℕ)
+-- The parts of the sides of those of the first n primitives of which something holds are not
+-- settled any more, and those that were settled and have none of their sides still are.
+pub record AreUnsettledWhere (net : Net) (knots : Knotted) (holds : ℕ → Type 0) (n : ℕ)
     (old new : Kept) : Type 0 where
   pub fewer : AreFewer old new
-  pub gone : (i : ℕ) → i < n → slice_index_or marks i false ≡ true
+  pub gone : (i : ℕ) → i < n → holds i
       → AreUnsettled net knots i (behaviour_at net.primitives i).sides new
-  pub stay : (k : ℕ) → AreApart net knots marks n k → is_settled old k ≡ true
-      → is_settled new k ≡ true
+  pub stay : (k : ℕ) → ((i : ℕ) → i < n → holds i → IsApart net knots i k)
+      → is_settled old k ≡ true → is_settled new k ≡ true
 
--- Some of the first n of some joints has an end at a primitive.
-pub record IsAtJoint (net : Net) (joints : List ℕ) (n i : ℕ) : Type 0 where
-  pub place : ℕ
-  pub before : place < n
-  pub here : ((giver_of net (slice_index joints place)).primitive ≡ i)
-      ⊎ ((taker_of net (slice_index joints place)).primitive ≡ i)
+-- A primitive is marked.
+abbrev pub IsMarked : List Bool → ℕ → Type 0
+IsMarked marks i = slice_index_or marks i false ≡ true
 
--- Exactly the primitives at the ends of some joints are marked.
-pub record AreEndsMarked (net : Net) (joints : List ℕ) (marks : List Bool) : Type 0 where
-  pub one_each : length marks ≡ length net.primitives
-  pub each : (i : ℕ) → i < length net.primitives
-      → IsTrue (slice_index_or marks i false) ↔ IsAtJoint net joints (length joints) i
+-- A primitive is marked and has two sides.
+abbrev pub IsMarkedBetween : Net → List Bool → ℕ → Type 0
+IsMarkedBetween net marks i = IsMarked marks i × ((behaviour_at net.primitives i).sides ≡ 2)
+
+-- None of the first n primitives that is marked has a side of a part.
+abbrev pub AreApart : Net → Knotted → List Bool → ℕ → ℕ → Type 0
+AreApart net knots marks n k = (i : ℕ) → i < n → IsMarked marks i → IsApart net knots i k
+
+-- Just the parts of the sides of the first n primitives that are marked are not settled any more.
+abbrev pub AreMarkedUnsettled : Net → Knotted → List Bool → ℕ → Kept → Kept → Type 0
+AreMarkedUnsettled net knots marks n old new =
+    AreUnsettledWhere net knots (IsMarked marks) n old new
+
+-- Just the parts of the sides of the first n primitives that are marked and have two sides are not
+-- settled any more.
+abbrev pub AreBetweenUnsettled : Net → Knotted → List Bool → ℕ → Kept → Kept → Type 0
+AreBetweenUnsettled net knots marks n old new =
+    AreUnsettledWhere net knots (IsMarkedBetween net marks) n old new
 
 -- The parts that may move are not settled any more, and the others that were settled still are.
 pub record AreMovingUnsettled (old new : Kept) : Type 0 where

@@ -1,5 +1,5 @@
 //! Keeping rows that were planned, and parts that are settled no longer.
-ghost use Rattle.std.specs.Prelude.{◌≡◌, ◌<◌, ℕ, Bool, List as Listed, length, slice_index};
+ghost use Rattle.std.specs.Prelude.{◌≡◌, ◌<◌, ℕ, length};
 ghost use Rattle.reo_net_base.specs.Net.{net_of};
 ghost use Rattle.reo_net_base.specs.Sides.{side_count};
 ghost use Rattle.reo_net_base.specs.Colouring.{RowsFit};
@@ -8,7 +8,7 @@ ghost use Rattle.reo_flowing.specs.Flowing.{AreFlowingIn};
 ghost use Rattle.reo_planning.specs.Keeping.{AllServe, HasSizes, IsKept, is_open};
 ghost use Rattle.reo_planning.specs.Marked.{AreMarked};
 ghost use Rattle.reo_planning.specs.Planned.{ArePlanned};
-ghost use Rattle.reo_planning.specs.Unsettling.{IsUnsettled, AreEndsMarked, AreMarkedUnsettled, AreMovingUnsettled};
+ghost use Rattle.reo_planning.specs.Unsettling.{IsUnsettled, AreBetweenUnsettled, AreMarkedUnsettled, AreMovingUnsettled};
 
 use crate::kept::Kept;
 use reo_flags::Flags;
@@ -115,27 +115,27 @@ impl Kept {
         }
     }
 
-    /// The parts of the sides of the primitives at both ends of these joints are not settled any
-    /// more. It goes through no other primitives. This takes no memory.
-    pub fn unsettle_joints<P: Primitive>(
+    /// The parts between which primitives stand that are marked, on both sides of those that have
+    /// two, are not settled any more. This takes no memory.
+    pub fn unsettle_between<P: Primitive>(
         &mut self,
         circuit: &Circuit<P>,
         knots: &Knots,
-        joints: &[usize],
+        marks: &Flags,
     )
         requires knots { AreKnots (net_of P.behaviour circuit.now) knots.now }
         requires one_each { length self.old.settled ≡ knot_count knots.now }
-        requires joints { (m : ℕ) → m < length joints.now
-            → slice_index joints.now m < length circuit.now.joints }
+        requires marks { length marks.now ≡ length circuit.now.primitives }
         ensures { let net = net_of P.behaviour circuit.now in
-            (marks : Listed Bool) → AreEndsMarked net joints.now marks
-            → AreMarkedUnsettled net knots.now marks (length marks) self.old self.new }
+            AreBetweenUnsettled net knots.now marks.now (length marks.now) self.old self.new }
     {
-        circuit.known();
-        for index in 0..joints.len() {
-            let joint = circuit.joint(joints[index]);
-            self.unsettle(circuit, knots, joint.giver.primitive);
-            self.unsettle(circuit, knots, joint.taker.primitive);
+        let mut primitive = marks.next_set(0);
+        while primitive < marks.len() {
+            let is_between = circuit.primitive(primitive).sides() == 2;
+            if is_between {
+                self.unsettle(circuit, knots, primitive);
+            }
+            primitive = marks.next_set(primitive + 1);
         }
     }
 
