@@ -1,2 +1,4 @@
+pub mod FeedLaws
+pub mod Feeds
 pub mod Filling
 pub mod Standing

@@ -8,8 +8,10 @@ ghost use Rattle.reo_net_ends.specs.Ends.{AreEnds};
 ghost use Rattle.reo_knots.specs.Knots.{AreKnots, in_knot, knot_count};
 ghost use Rattle.reo_flowing.specs.Flowing.{AreFlowingIn, AreFlowingOf};
 ghost use Rattle.reo_stepping.specs.Flowing.{GiverFlows};
+ghost use Rattle.reo_standing.specs.Feeds.{AreFeeds};
 ghost use Rattle.reo_standing.specs.Filling.{AreBlank, AreBlankOn, AreFilled, AreHeld, AreMoving, HaveColouring, IsPartFilled, IsPut};
 
+use crate::feeds::Feeds;
 use crate::giving::put_given;
 use reo_flags::Flags;
 use reo_knots::Knots;
@@ -24,12 +26,14 @@ fn put_item<P: Primitive>(
     alloc: Global,
     circuit: &Circuit<P>,
     ends: &Ends,
+    feeds: &Feeds,
     rows: &[u32],
     joint: usize,
     items: &mut List<Option<Value>>,
     flowing: &mut List<usize>,
 ) -> Result<(), NoMemory>
     requires ends { AreEnds (net_of P.behaviour circuit.now) ends.now }
+    requires feeds { AreFeeds (net_of P.behaviour circuit.now) feeds.now }
     requires rows { AreRowsOf (net_of P.behaviour circuit.now) rows.now }
     requires joint { joint < length circuit.now.joints }
     requires flows { GiverFlows (net_of P.behaviour circuit.now) rows.now joint }
@@ -37,9 +41,7 @@ fn put_item<P: Primitive>(
     ensures { let net = net_of P.behaviour circuit.now in
         OnOk result (IsPut net rows.now joint items.old items.new flowing.old flowing.new) }
 {
-    circuit.known();
-    let giver = circuit.joint(joint).giver;
-    put_given(alloc, circuit, ends, rows, giver, joint, items)?;
+    put_given(alloc, circuit, ends, feeds, rows, joint, items)?;
     flowing.push(joint)
 }
 
@@ -50,6 +52,7 @@ fn fill_part<P: Primitive>(
     circuit: &Circuit<P>,
     knots: &Knots,
     ends: &Ends,
+    feeds: &Feeds,
     rows: &[u32],
     part: usize,
     joints: &[usize],
@@ -58,6 +61,7 @@ fn fill_part<P: Primitive>(
 ) -> Result<(), NoMemory>
     requires knots { AreKnots (net_of P.behaviour circuit.now) knots.now }
     requires ends { AreEnds (net_of P.behaviour circuit.now) ends.now }
+    requires feeds { AreFeeds (net_of P.behaviour circuit.now) feeds.now }
     requires rows { AreRowsOf (net_of P.behaviour circuit.now) rows.now }
     requires part { part < knot_count knots.now }
     requires joints { AreFlowingOf
@@ -75,18 +79,29 @@ fn fill_part<P: Primitive>(
     let _ = knots;
     circuit.known();
     for index in 0..joints.len() {
-        put_item(alloc, circuit, ends, rows, joints[index], items, flowing)?;
+        put_item(
+            alloc,
+            circuit,
+            ends,
+            feeds,
+            rows,
+            joints[index],
+            items,
+            flowing,
+        )?;
     }
     Ok(())
 }
 
 /// Puts the items at the joints that flow, which are given for each part. Only the parts are gone to
 /// that are flagged, and those of no other flow.
+#[inline(never)]
 pub(crate) fn fill<P: Primitive>(
     alloc: Global,
     circuit: &Circuit<P>,
     knots: &Knots,
     ends: &Ends,
+    feeds: &Feeds,
     rows: &[u32],
     lists: &List<List<usize>>,
     moving: &Flags,
@@ -95,6 +110,7 @@ pub(crate) fn fill<P: Primitive>(
 ) -> Result<(), NoMemory>
     requires knots { AreKnots (net_of P.behaviour circuit.now) knots.now }
     requires ends { AreEnds (net_of P.behaviour circuit.now) ends.now }
+    requires feeds { AreFeeds (net_of P.behaviour circuit.now) feeds.now }
     requires rows { AreRowsOf (net_of P.behaviour circuit.now) rows.now }
     requires lists { AreFlowingIn
         (net_of P.behaviour circuit.now) knots.now rows.now (λ _. true) lists.now }
@@ -111,7 +127,7 @@ pub(crate) fn fill<P: Primitive>(
     while part < moving.len() {
         let joints = lists.at(part).as_slice();
         fill_part(
-            alloc, circuit, knots, ends, rows, part, joints, items, flowing,
+            alloc, circuit, knots, ends, feeds, rows, part, joints, items, flowing,
         )?;
         part = moving.next_set(part + 1);
     }

@@ -1,5 +1,5 @@
 //! The item that a row gives, put at its joint.
-ghost use Rattle.std.specs.Prelude.{◌≡◌, ◌<◌, Some, IfOk, OnOk, length, option_copied, set};
+ghost use Rattle.std.specs.Prelude.{◌≡◌, ◌<◌, ℕ, true, List as Listed, Some, IfOk, OnOk, length, option_copied, set};
 ghost use Rattle.reo_values.specs.declared.value.Value.{Value as Item};
 ghost use Rattle.reo_net_base.specs.declared.mark.Mark.TheVariants.{F};
 ghost use Rattle.reo_net_base.specs.Colouring.{given_at, taken_at};
@@ -7,7 +7,12 @@ ghost use Rattle.reo_net_base.specs.Ends.{IsGiver, IsTaker};
 ghost use Rattle.reo_net_base.specs.Net.{net_of, mark_at};
 ghost use Rattle.reo_net_base.specs.Sides.{AreRowsOf};
 ghost use Rattle.reo_net_ends.specs.Ends.{AreEnds};
+ghost use Rattle.reo_joint_values.specs.Standing.{giver_of};
+ghost use Rattle.reo_stepping.specs.Flowing.{GiverFlows};
+ghost use Rattle.reo_standing.specs.Feeds.{AreFeeds};
 
+use crate::copies::plain_copy;
+use crate::feeds::{BY_ROW, BY_STATE, Feeds};
 use reo_net_base::{End, Primitive};
 use reo_net_circuit::Circuit;
 use reo_net_ends::Ends;
@@ -72,23 +77,46 @@ fn given_at<P: Primitive>(
     }
 }
 
-/// An equal item, where it takes no memory.
+/// An equal item to one that is taken, where the primitive gives what it takes and the item takes no
+/// memory.
 #[inline(always)]
-fn plain_copy(item: &Value) -> Option<Value>
-    ensures { (made : Item) → result ≡ Some made → made ≡ item.now }
+fn carried<P: Primitive>(primitive: &P, taken: Option<&Value>) -> Option<Value>
+    ensures { (item : Item) → result ≡ Some item
+        → ((P.lasting primitive.now).carries ≡ true) × (option_copied taken.entry ≡ Some item) }
 {
-    match item {
-        Value::Unit => Some(Value::Unit),
-        Value::Bool(truth) => Some(Value::Bool(*truth)),
-        Value::Int(number) => Some(Value::Int(*number)),
-        Value::Sym(place) => Some(Value::Sym(*place)),
-        _ => None,
+    if !primitive.carries() {
+        return None;
+    }
+    plain_copy(taken?)
+}
+
+/// The item that a row of the giver of a joint gives there, whichever it flows by, if no row has to
+/// be looked at for it and it takes no memory.
+#[inline(always)]
+fn plain_fed<P: Primitive>(
+    circuit: &Circuit<P>,
+    feeds: &Feeds,
+    items: &[Option<Value>],
+    joint: usize,
+) -> Option<Value>
+    requires feeds { AreFeeds (net_of P.behaviour circuit.now) feeds.now }
+    requires items { length items.now ≡ length circuit.now.joints }
+    requires joint { joint < length circuit.now.joints }
+    ensures { let net = net_of P.behaviour circuit.now in (rows : Listed ℕ) (item : Item)
+        → AreRowsOf net rows → GiverFlows net rows joint → result ≡ Some item
+        → given_at net rows items.now (giver_of net joint) ≡ Some item }
+{
+    circuit.known();
+    let primitive = circuit.primitive(circuit.joint(joint).giver.primitive);
+    match feeds.of(joint) {
+        BY_STATE => plain_copy(primitive.front()?),
+        BY_ROW => None,
+        feed => carried(primitive, items[feed as usize].as_ref()),
     }
 }
 
 /// The item that the row of an end that flows gives there, if it is one that stands already, in the
 /// giver or at the joint that feeds it, and takes no memory.
-#[inline(always)]
 fn plain_at<P: Primitive>(
     circuit: &Circuit<P>,
     ends: &Ends,
@@ -109,69 +137,70 @@ fn plain_at<P: Primitive>(
     let primitive = circuit.primitive(giver.primitive);
     let side = primitive.side_of(giver.end);
     match primitive.from(side, row, giver.end) {
-        None => plain_copy(primitive.front()?),
+        None => None,
         Some(from) => {
-            if !primitive.carries() {
-                return None;
-            }
             let source = End {
                 primitive: giver.primitive,
                 end: from,
             };
-            plain_copy(taken_at(circuit, ends, items, source)?)
+            carried(primitive, taken_at(circuit, ends, items, source))
         }
     }
 }
 
-/// Puts the item that the row of an end that flows gives there, whatever it is, at a joint.
+/// Puts the item that the row of the giver of a joint gives there, whatever it is.
 #[inline(never)]
 fn put_made<P: Primitive>(
     alloc: Global,
     circuit: &Circuit<P>,
     ends: &Ends,
     rows: &[u32],
-    giver: End,
     joint: usize,
     items: &mut List<Option<Value>>,
 ) -> Result<(), NoMemory>
     requires ends { AreEnds (net_of P.behaviour circuit.now) ends.now }
     requires rows { AreRowsOf (net_of P.behaviour circuit.now) rows.now }
     requires items { length items.old ≡ length circuit.now.joints }
-    requires giver { IsGiver (net_of P.behaviour circuit.now) giver }
-    requires flows { mark_at (net_of P.behaviour circuit.now) rows.now giver ≡ F }
-    requires joint { joint < length items.old }
-    ensures { let net = net_of P.behaviour circuit.now in
-        OnOk result (items.new ≡ set items.old joint (given_at net rows.now items.old giver)) }
+    requires joint { joint < length circuit.now.joints }
+    requires flows { GiverFlows (net_of P.behaviour circuit.now) rows.now joint }
+    ensures { let net = net_of P.behaviour circuit.now in OnOk result
+        (items.new ≡ set items.old joint (given_at net rows.now items.old (giver_of net joint))) }
 {
-    let item = given_at(alloc, circuit, ends, rows, items.as_slice(), giver)?;
+    circuit.known();
+    let giver = circuit.joint(joint).giver;
+    let item = match plain_at(circuit, ends, rows, items.as_slice(), giver) {
+        Some(item) => Some(item),
+        None => given_at(alloc, circuit, ends, rows, items.as_slice(), giver)?,
+    };
     *items.at_mut(joint) = item;
     Ok(())
 }
 
-/// Puts the item that the row of an end that flows gives there at a joint.
+/// Puts the item that the row of the giver of a joint gives there.
+#[inline(always)]
 pub(crate) fn put_given<P: Primitive>(
     alloc: Global,
     circuit: &Circuit<P>,
     ends: &Ends,
+    feeds: &Feeds,
     rows: &[u32],
-    giver: End,
     joint: usize,
     items: &mut List<Option<Value>>,
 ) -> Result<(), NoMemory>
     requires ends { AreEnds (net_of P.behaviour circuit.now) ends.now }
+    requires feeds { AreFeeds (net_of P.behaviour circuit.now) feeds.now }
     requires rows { AreRowsOf (net_of P.behaviour circuit.now) rows.now }
     requires items { length items.old ≡ length circuit.now.joints }
-    requires giver { IsGiver (net_of P.behaviour circuit.now) giver }
-    requires flows { mark_at (net_of P.behaviour circuit.now) rows.now giver ≡ F }
-    requires joint { joint < length items.old }
-    ensures { let net = net_of P.behaviour circuit.now in
-        OnOk result (items.new ≡ set items.old joint (given_at net rows.now items.old giver)) }
+    requires joint { joint < length circuit.now.joints }
+    requires flows { GiverFlows (net_of P.behaviour circuit.now) rows.now joint }
+    ensures { let net = net_of P.behaviour circuit.now in OnOk result
+        (items.new ≡ set items.old joint (given_at net rows.now items.old (giver_of net joint))) }
 {
-    match plain_at(circuit, ends, rows, items.as_slice(), giver) {
+    match plain_fed(circuit, feeds, items.as_slice(), joint) {
         Some(item) => {
             *items.at_mut(joint) = Some(item);
             Ok(())
         }
-        None => put_made(alloc, circuit, ends, rows, giver, joint, items),
+        None => put_made(alloc, circuit, ends, rows, joint, items),
     }
 }

@@ -2,9 +2,14 @@
 //! ports.
 #![tactic(auto)]
 
+mod copies;
+mod feeds;
 mod filling;
 mod giving;
+mod laws;
 mod moving;
 mod standing;
 
+pub use feeds::Feeds;
+pub use laws::{feeds_are_one, feeds_stay};
 pub use standing::{Sheet, Standing, blank, cleared, stand};

@@ -5,10 +5,11 @@ ghost use Rattle.reo_net_base.specs.Moves.{moves_at, moves_of};
 ghost use Rattle.reo_net_base.specs.Net.{net_of};
 ghost use Rattle.reo_stepping.specs.Changes.{AreThoseThatFlowed};
 
+use crate::copies::copied;
 use reo_flags::Flags;
 use reo_net_base::{Move, Primitive};
 use reo_net_circuit::Circuit;
-use reo_values::{List, NoMemory, Value, copy};
+use reo_values::{List, NoMemory, Value};
 use std::alloc::Global;
 
 /// The item at a place, if there is one.
@@ -37,19 +38,20 @@ fn add_move<P: Primitive>(
     match item_of(items, joint) {
         None => Ok(()),
         Some(value) => {
-            let item = copy(alloc, value)?;
+            let item = copied(alloc, value)?;
             moves.push(Move { port, item })
         }
     }
 }
 
 /// The ports that flow, in order, with their items, where exactly those primitives are marked of
-/// which some end flows. `NoMemory` is out of memory.
+/// which some end flows. They are written over other moves. `NoMemory` is out of memory.
 pub(crate) fn moves_of_marked<P: Primitive>(
     alloc: Global,
     circuit: &Circuit<P>,
     items: &[Option<Value>],
     marks: &Flags,
+    over: List<Move>,
 ) -> Result<List<Move>, NoMemory>
     requires one_each { length marks.now ≡ length circuit.now.primitives }
     ensures { let net = net_of P.behaviour circuit.now in
@@ -58,7 +60,8 @@ pub(crate) fn moves_of_marked<P: Primitive>(
         → IfOk result (λ moves. moves ≡ moves_of net circuit.now.ports rows items.now) }
 {
     circuit.known_ports();
-    let mut moves = List::new(alloc);
+    let mut moves = over;
+    moves.clear();
     let mut port = marks.next_set(0);
     while port < circuit.ports() {
         add_move(alloc, &mut moves, circuit, items, port)?;

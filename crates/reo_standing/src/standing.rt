@@ -4,14 +4,16 @@ ghost use Rattle.reo_net_base.specs.Net.{net_of};
 ghost use Rattle.reo_net_ends.specs.Ends.{AreEnds};
 ghost use Rattle.reo_knots.specs.Knots.{AreKnots, knot_count};
 ghost use Rattle.reo_flowing.specs.Flowing.{AreFlowingIn};
+ghost use Rattle.reo_standing.specs.Feeds.{AreFeeds};
 ghost use Rattle.reo_standing.specs.Filling.{AreBlank, AreHeldAmong, AreMoving};
 ghost use Rattle.reo_standing.specs.Standing.{HaveFirstItems, Stands};
 
+use crate::feeds::Feeds;
 use crate::filling::fill;
 use crate::moving::moves_of_marked;
 use reo_flags::Flags;
 use reo_knots::Knots;
-use reo_net_base::{Colouring, Primitive};
+use reo_net_base::{Colouring, Move, Primitive};
 use reo_net_circuit::Circuit;
 use reo_net_ends::Ends;
 use reo_stepping::mark_flowing;
@@ -30,14 +32,15 @@ pub struct Standing {
 }
 
 /// What a round that stands is written into: the rows of the round, a list of no items at the
-/// joints, a list for the joints that flow, with any numbers, and a mark for each primitive, with
-/// any values.
+/// joints, a list for the joints that flow, with any numbers, a mark for each primitive, with any
+/// values, and a list of moves, any.
 #[derive(Drop)]
 pub struct Sheet {
     pub rows: List<u32>,
     pub items: List<Option<Value>>,
     pub flowing: List<usize>,
     pub marks: Flags,
+    pub moves: List<Move>,
 }
 
 /// No item at any of so many joints. `NoMemory` is out of memory.
@@ -59,6 +62,7 @@ pub fn stand<P: Primitive>(
     circuit: &Circuit<P>,
     knots: &Knots,
     ends: &Ends,
+    feeds: &Feeds,
     lists: &List<List<usize>>,
     moving: &Flags,
     turn: u64,
@@ -66,6 +70,7 @@ pub fn stand<P: Primitive>(
 ) -> Result<Standing, NoMemory>
     requires knots { AreKnots (net_of P.behaviour circuit.now) knots.now }
     requires ends { AreEnds (net_of P.behaviour circuit.now) ends.now }
+    requires feeds { AreFeeds (net_of P.behaviour circuit.now) feeds.now }
     requires first { HaveFirstItems (net_of P.behaviour circuit.now) turn sheet.rows }
     requires lists { AreFlowingIn
         (net_of P.behaviour circuit.now) knots.now sheet.rows (λ _. true) lists.now }
@@ -82,6 +87,7 @@ pub fn stand<P: Primitive>(
         mut items,
         mut flowing,
         mut marks,
+        moves,
     } = sheet;
     flowing.clear();
     fill(
@@ -89,6 +95,7 @@ pub fn stand<P: Primitive>(
         circuit,
         knots,
         ends,
+        feeds,
         rows.as_slice(),
         lists,
         moving,
@@ -96,7 +103,7 @@ pub fn stand<P: Primitive>(
         &mut flowing,
     )?;
     mark_flowing(circuit, rows.as_slice(), flowing.as_slice(), &mut marks);
-    let moves = moves_of_marked(alloc, circuit, items.as_slice(), &marks)?;
+    let moves = moves_of_marked(alloc, circuit, items.as_slice(), &marks, moves)?;
     let colouring = Colouring { rows, items };
     let idle = flowing.is_empty();
     Ok(Standing {

@@ -14,7 +14,7 @@ loop-port-init g c = λ rows is those.
     let last : ℕ = min next c.args.circuit.now.ports in
     moves_over net rows c.args.items.now _ last 0 last (omega arith)
     (λ k low high. none_flows net rows c.args.marks.now those 0 next c.next_set-port.ensures k low (omega (arith, high)))
-    (λ k low high. omega (arith, (c.known_ports.ensures.port k (omega (arith, high))).one_end)) c.new-moves.ensures
+    (λ k low high. omega (arith, (c.known_ports.ensures.port k (omega (arith, high))).one_end)) c.clear.ensures
 
 pub loop-port-smaller : goal.loop-port-smaller
 loop-port-smaller g c =
