@@ -31,7 +31,7 @@ use Rattle.reo_weights.proofs.CauseLemmas.{within_not_over}
 use Rattle.reo_planning.specs.declared.kept.Kept.{Kept}
 use Rattle.reo_planning.specs.Keeping.{AllServe, IsKept, is_settled}
 use Rattle.reo_planning.specs.Planned.{ArePlanned}
-use Rattle.reo_planning.specs.Unsettling.{AreEndsMarked, AreFewer, IsElsewhere, part_at}
+use Rattle.reo_planning.specs.Unsettling.{AreFewer, IsElsewhere, part_at}
 use Rattle.reo_planning.proofs.Flowing.{told_by_joints}
 use Rattle.reo_planning.proofs.KnotSets.{number_is}
 use Rattle.reo_planning.proofs.Parting.{all_served}
@@ -39,9 +39,9 @@ use Rattle.reo_planning.proofs.Shapes.{count_same}
 use Rattle.reo_joint_values.specs.Standing.{giver_of, no_joint}
 use Rattle.reo_rows.proofs.Working.{flow_cases}
 use Rattle.reo_stepping.specs.Clearing.{ComesNoItem}
-use Rattle.reo_stepping.specs.Changes.{AreThoseThatFlowed}
 use Rattle.reo_stepping.specs.Flowing.{AreFlowing}
-use Rattle.reo_stepping.proofs.Marking.{beside_flows, flows_beside}
+use Rattle.reo_standing.specs.Feeds.{AreFeeds}
+use Rattle.reo_standing.proofs.FeedLemmas.{feeds_same}
 use Rattle.reo_standing.specs.Filling.{AreHeldAmong, AreMoving, HaveColouring}
 use Rattle.reo_standing.proofs.Putting.{giver_flows, others_none}
 use Rattle.reo_standing.specs.Standing.{HaveFirstItems}
@@ -92,10 +92,11 @@ flows_stay net other knots old new fewer is flows are = record {
   one_each = are.one_each;
   cells = cells_same net other is.shapes flows.cells are.cells;
   shown = λ h. shown_stay net other knots old new fewer is flows.cells (are.shown h);
+  feeds = feeds_same net other is.joints is.shapes flows.feeds are.feeds;
 }
 
 -- A side is in its own part.
-in_own : (net : Net) (knots : Knotted) → AreKnots net knots → (s k : ℕ) → s < side_count net → part_of knots s ≡ k → in_knot knots.numbers k s ≡ true
+pub in_own : (net : Net) (knots : Knotted) → AreKnots net knots → (s k : ℕ) → s < side_count net → part_of knots s ≡ k → in_knot knots.numbers k s ≡ true
 in_own net knots are s k s_in is =
     let count = are.numbered.one_each in
     let below : s < length knots.numbers = omega (arith, count, s_in) in
@@ -202,6 +203,7 @@ flows_unshown net knots old new flows flags are count = record {
   one_each = count ∙ are.one_each;
   cells = are.cells;
   shown = λ e. absurd cc;
+  feeds = are.feeds;
 }
 
 -- And where all is shown.
@@ -213,6 +215,7 @@ flows_shown net knots old new flows flags now are count cells shown = record {
   one_each = count ∙ are.one_each;
   cells = cells;
   shown = λ e s s_in settled. shown s s_in;
+  feeds = are.feeds;
 }
 
 -- And without a sheet.
@@ -223,11 +226,12 @@ flows_taken net knots kept old new are none = record {
   one_each = ap (λ (xs : List Bool). length xs) none.shown_parts ∙ are.one_each;
   cells = subst (AreCells net) (sym none.cells) are.cells;
   shown = λ e. subst (AreKeptShown net knots kept) (sym none.cells) (are.shown (sym none.shown ∙ e));
+  feeds = subst (AreFeeds net) (sym none.feeds) are.feeds;
 }
 
 -- And with any text.
 pub flows_texted : (net : Net) (knots : Knotted) (kept : Kept) (flows : Flows) (text : List ℕ) → AreFlows net knots kept flows → AreFlows net knots kept (record flows { text = text })
-flows_texted net knots kept flows text are = record { blank = are.blank; marks = are.marks; one_each = are.one_each; cells = are.cells; shown = are.shown }
+flows_texted net knots kept flows text are = record { blank = are.blank; marks = are.marks; one_each = are.one_each; cells = are.cells; shown = are.shown; feeds = are.feeds }
 
 -- Before the first part nothing is shown.
 pub shown_none : (net : Net) (knots : Knotted) (rows : List ℕ) (flags : List Bool) (cells : Cells) → AreShownAt net knots rows flags 0 cells cells
@@ -266,16 +270,3 @@ jams_as_first net wired knots are rows coloured k lt sides is calm m m_in =
     jams_whole net wired rows coloured.items coloured.colouring (get_or sides m 0) (get_or sides 0 0)
     ((are.are_knots k lt).joined (get_or sides m 0) (get_or sides 0 0) (side_here net knots are k lt sides is m m_in) (side_here net knots are k lt sides is 0 (omega arith)))
     ∙ calm
-
--- The primitives at the ends of the joints that flow are those of which some end flows.
-pub ends_marked : (net : Net) (rows : List ℕ) → IsWired net → RowsFit net rows → (flowing : List ℕ) → AreFlowing net rows flowing → (marks : List Bool) → AreThoseThatFlowed net rows marks
-    → AreEndsMarked net flowing marks
-ends_marked net rows wired fit flowing are marks those = record {
-  one_each = those.one_each;
-  each = λ i lt. (
-    λ mark.
-        let at = flows_beside net rows wired fit flowing are i lt ((those.each i lt).0 mark) in
-        record { place = at.place; before = at.before; here = at.beside },
-    λ at. (those.each i lt).1 (beside_flows net rows wired fit flowing are i record { place = at.place; before = at.before; beside = at.here }),
-  );
-}

@@ -2,6 +2,7 @@ pub mod CountLemmas
 pub mod KeptLemmas
 pub mod Lookups
 pub mod FlowsLemmas
+pub mod Between
 pub mod Others
 pub mod Reached
 mod Fresh

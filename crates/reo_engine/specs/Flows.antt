@@ -8,6 +8,7 @@ use Rattle.reo_cells.specs.Cells.{AreCells, IsShown}
 use Rattle.reo_knots.specs.Knots.{Knotted, knot_count}
 use Rattle.reo_planning.specs.declared.kept.Kept.{Kept}
 use Rattle.reo_planning.specs.Keeping.{is_settled}
+use Rattle.reo_standing.specs.Feeds.{AreFeeds}
 use Rattle.reo_standing.specs.Filling.{AreBlank}
 use Rattle.reo_engine.specs.declared.flows.Flows.{Flows}
 
@@ -21,13 +22,14 @@ abbrev pub MayBeMarks : ℕ → Option (List Bool) → Type 0
 MayBeMarks count None = Unit {0}
 MayBeMarks count (Some marks) = length marks ≡ count
 
--- There is no list of no items, and all is as it was but for the two lists of any numbers and the marks, which may be gone.
+-- There is no list of no items, and all is as it was but for the two lists of any numbers, the moves and the marks, which may be gone.
 pub record HasNoSheet (old new : Flows) : Type 0 where
   pub blank : new.blank ≡ None
   pub marks : (count : ℕ) → MayBeMarks count old.marks → MayBeMarks count new.marks
   pub shown_parts : new.shown_parts ≡ old.shown_parts
   pub cells : new.cells ≡ old.cells
   pub shown : new.shown ≡ old.shown
+  pub feeds : new.feeds ≡ old.feeds
 
 -- Of so many parts those are flagged that are settled, or none where such are not shown.
 pub record AreFlaggedShown (shown : Bool) (kept : Kept) (parts : ℕ) (flags : List Bool) : Type 0 where
@@ -51,10 +53,12 @@ pub record AreShownAt (net : Net) (knots : Knotted) (rows : List ℕ) (flags : L
   pub others : (s : ℕ) → s < side_count net → slice_index_or flags (part_of knots s) false ≡ true
       → slice_index new.shown s ≡ slice_index old.shown s
 
--- A list of no items and marks of primitives, if there are such; a flag for each part; and cells, which may show the rows that are kept of settled parts.
+-- A list of no items and marks of primitives, if there are such; a flag for each part; cells, which may show the rows that are kept of settled parts;
+-- and what feeds the joints.
 pub record AreFlows (net : Net) (knots : Knotted) (kept : Kept) (flows : Flows) : Type 0 where
   pub blank : MayBeBlank (length net.joints) flows.blank
   pub marks : MayBeMarks (length net.primitives) flows.marks
   pub one_each : length flows.shown_parts ≡ knot_count knots
   pub cells : AreCells net flows.cells
   pub shown : flows.shown ≡ true → AreKeptShown net knots kept flows.cells
+  pub feeds : AreFeeds net flows.feeds

@@ -5,6 +5,7 @@ ghost use Rattle.reo_knots.specs.Knots.{AreKnots, knot_count};
 ghost use Rattle.reo_net_base.specs.Sides.{AreRowsOf, side_count};
 ghost use Rattle.reo_net_laws.specs.Jams.{jams};
 ghost use Rattle.reo_cells.specs.Cells.{AreBrought, AreCells};
+ghost use Rattle.reo_standing.specs.Feeds.{AreFeeds};
 ghost use Rattle.reo_standing.specs.Filling.{AreBlank, HaveColouring};
 ghost use Rattle.reo_engine.specs.Flows.{AreFlaggedShown, AreShownAt, HasNoSheet, MayBeBlank, MayBeMarks};
 
@@ -12,28 +13,30 @@ use crate::planning::is_jammed;
 use reo_cells::Cells;
 use reo_flags::Flags;
 use reo_knots::Knots;
-use reo_net_base::Primitive;
+use reo_net_base::{Move, Primitive};
 use reo_net_circuit::Circuit;
 use reo_planning::{Kept, written_over};
-use reo_standing::{Sheet, blank};
+use reo_standing::{Feeds, Sheet, blank};
 use reo_values::{Bytes, List, NoMemory, Value};
 use std::alloc::Global;
 use std::mem::replace;
 
 /// What a round that stands is made with: a list of no items at the joints and a mark for each
-/// primitive, if there are such, two lists of any numbers and a text of any bytes, so that a round
-/// takes no memory for them; a flag for each part; the cells of all sides; and whether they show the
-/// rows that are kept of settled parts.
+/// primitive, if there are such, two lists of any numbers, a list of any moves and a text of any
+/// bytes, so that a round takes no memory for them; a flag for each part; the cells of all sides;
+/// whether they show the rows that are kept of settled parts; and what feeds each joint.
 #[derive(Drop)]
 pub struct Flows {
     pub(crate) blank: Option<List<Option<Value>>>,
     pub(crate) rows: List<u32>,
     pub(crate) flowing: List<usize>,
     pub(crate) marks: Option<Flags>,
+    pub(crate) moves: List<Move>,
     pub(crate) shown_parts: Flags,
     pub(crate) cells: Cells,
     pub(crate) shown: bool,
     pub(crate) text: Bytes,
+    pub(crate) feeds: Feeds,
 }
 
 impl Flows {
@@ -49,18 +52,22 @@ impl Flows {
         ensures one_each { IfOk result (λ made. length made.shown_parts ≡ knot_count knots.now) }
         ensures cells { IfOk result (λ made. AreCells (net_of P.behaviour circuit.now) made.cells) }
         ensures shown { IfOk result (λ made. made.shown ≡ false) }
+        ensures feeds { IfOk result (λ made. AreFeeds (net_of P.behaviour circuit.now) made.feeds) }
     {
         let cells = Cells::new(alloc, circuit)?;
+        let feeds = Feeds::new(alloc, circuit)?;
         let shown_parts = Flags::new(alloc, knots.count(), false)?;
         Ok(Flows {
             blank: None,
             rows: List::new(alloc),
             flowing: List::new(alloc),
             marks: None,
+            moves: List::new(alloc),
             shown_parts,
             cells,
             shown: false,
             text: Bytes::new(alloc),
+            feeds,
         })
     }
 }
@@ -164,11 +171,13 @@ pub(crate) fn take_sheet(
     let items = take_blank(alloc, &mut flows.blank, joints)?;
     let marks = take_marks(alloc, &mut flows.marks, primitives)?;
     let rows = written_over(list, rows)?;
+    let moves = replace(&mut flows.moves, List::new(alloc));
     Ok(Sheet {
         rows,
         items,
         flowing,
         marks,
+        moves,
     })
 }
 

@@ -24,7 +24,7 @@ use crate::engine::Engine;
 use crate::flows::{Flows, take_sheet};
 use crate::renewing::renew_marked;
 use reo_knots::Knots;
-use reo_net_base::{Colouring, Ported, Ports, Primitive};
+use reo_net_base::{Colouring, Move, Ported, Ports, Primitive};
 use reo_net_circuit::Circuit;
 use reo_net_ends::Ends;
 use reo_planning::Kept;
@@ -67,7 +67,10 @@ fn stand_by<P: Primitive>(
     let primitives = circuit.primitives().len();
     let sheet = take_sheet(alloc, flows, kept.rows(), joints, primitives)?;
     let moving = kept.moving();
-    stand(alloc, circuit, knots, ends, lists, moving, turn, sheet)
+    let feeds = &flows.feeds;
+    stand(
+        alloc, circuit, knots, ends, feeds, lists, moving, turn, sheet,
+    )
 }
 
 impl<P: Ported> Engine<P> {
@@ -143,6 +146,13 @@ impl<P: Ported> Engine<P> {
     {
         self.flows.text = text;
     }
+
+    /// Hands moves back, any, so that no room is made for those of the round that comes next.
+    pub fn hand_back_moves(&mut self, moves: List<Move>)
+        ensures { self.new ≡ self.old }
+    {
+        self.flows.moves = moves;
+    }
 }
 
 impl<P: Ported> Engine<P> {
@@ -183,10 +193,11 @@ impl<P: Ported> Engine<P> {
         let mut items = items;
         self.circuit.known();
         self.circuit.known_offers();
+        let _order = self.circuit.order();
         let joints = flowing.as_slice();
         let by = rows.as_slice();
         self.kept
-            .unsettle_joints(&self.circuit, &self.knots, joints);
+            .unsettle_between(&self.circuit, &self.knots, &marks);
         self.kept.unsettle_moving();
         step_marked(&mut self.circuit, &self.ends, by, &mut items, &marks);
         self.circuit.known();

@@ -67,6 +67,7 @@ fn count_out<P: Restoring>(
     engine.circuit().known();
     let Carried { moves, over } = carry_on(engine, players, ports, standing);
     let tally = tally.after(ports, moves.as_slice());
+    engine.hand_back_moves(moves);
     Made { tally, over }
 }
 

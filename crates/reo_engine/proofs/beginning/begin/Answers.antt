@@ -14,4 +14,5 @@ returns-clause-flows g c = record {
   one_each = c.in_ok-flows.ensures.one_each;
   cells = c.in_ok-flows.ensures.cells;
   shown = λ e. absurd (let not : c.in_ok-flows.flows.shown ≡ false = c.in_ok-flows.ensures.shown in cc);
+  feeds = c.in_ok-flows.ensures.feeds;
 }

@@ -1,24 +1,24 @@
-use Rattle.std.proofs.Common.{◌≡◌, ◌∙◌, Bool, List, length, map, ap, sym, subst, rules, arith}
+use Rattle.std.proofs.Common.{◌≡◌, ◌∙◌, ◌+◌, Bool, List, length, map, ap, sym, subst, rules, arith}
 use Rattle.std.proofs.lemmas.List.{length-map}
 use Rattle.reo_net_base.specs.declared.joint.Joint.{Joint}
 use Rattle.reo_net_base.specs.Net.{Net, Wiring, net_of}
-use Rattle.reo_planning.proofs.Setting.{fewer_twice}
 use Rattle.reo_standing.specs.Filling.{AreBlank}
+use Rattle.reo_engine.proofs.Between.{marked_unsettled, moving_again}
 use Rattle.reo_engine.proofs.Others.{others_stay}
-use Rattle.reo_engine.proofs.FlowsLemmas.{ends_marked, flows_stay, held_among}
+use Rattle.reo_engine.proofs.FlowsLemmas.{flows_stay, held_among}
 use Rattle.reo_engine.proofs.Lookups.{round_elsewhere, round_held, round_made, stay_settled}
 use Rattle.reo_engine.proofs.engine.Engine.go_on.Goals as goal
 
+pub unsettle_between-requires-clause-marks : goal.unsettle_between-requires-clause-marks
+unsettle_between-requires-clause-marks g c =
+    let stands = rw (← c.self.view_is) at c.requires.stands in
+    stands.marks.one_each ∙ length-map c.self.inside.circuit.primitives g.P.Primitive.behaviour
+
 pub unsettle_moving-requires : goal.unsettle_moving-requires
 unsettle_moving-requires g c =
-    let net : Net = net_of g.P.Primitive.behaviour c.self.inside.circuit in
-    let stands = rw (← c.self.view_is) at c.requires.stands in
-    let standing = c.args.standing in
-    let flowed = stands.marks in
-    let unsettled = rw c.as_slice-joints.ensures at c.unsettle_joints.ensures standing.marks
-    (ends_marked net standing.colouring.rows c.known.ensures.wired stands.first.colouring.rows_fit standing.flowing stands.flowing standing.marks flowed) in
+    let fewer = c.unsettle_between.ensures.fewer in
     let sizes = c.self.invariant.3.is_kept.sizes in
-    unsettled.fewer.one_each ∙ sizes.one_each ∙ sym sizes.one_mark ∙ sym (ap (λ (xs : List Bool). length xs) unsettled.fewer.moving)
+    fewer.one_each ∙ sizes.one_each ∙ sym sizes.one_mark ∙ sym (ap (λ (xs : List Bool). length xs) fewer.moving)
 
 pub cleared-requires : goal.cleared-requires
 cleared-requires g c =
@@ -54,37 +54,40 @@ invariant_of-self g c =
     let after : length (map g.P.Primitive.behaviour c.step_marked.new.circuit.primitives) ≡ length c.step_marked.new.circuit.primitives = length-map c.step_marked.new.circuit.primitives g.P.Primitive.behaviour in
     let marks : length standing.marks ≡ length now.primitives = flowed.one_each ∙ before in
     let shape = c.step_marked.ensures.shape in
-    let unsettled = rw c.as_slice-joints.ensures at c.unsettle_joints.ensures standing.marks
-    (ends_marked net standing.colouring.rows c.known.ensures.wired stands.first.colouring.rows_fit standing.flowing stands.flowing standing.marks flowed) in
-    let fewer = fewer_twice c.self.inside.kept c.unsettle_joints.new.self c.unsettle_moving.new.self unsettled.fewer c.unsettle_moving.ensures.fewer in
-    let stay = flows_stay net other c.self.inside.knots c.self.inside.kept c.unsettle_moving.new.self fewer
-    (round_elsewhere g.P.Primitive.behaviour now c.step_marked.new.circuit standing.marks shape others marks c.self.inside.knots c.self.inside.kept c.unsettle_joints.new.self c.unsettle_moving.new.self
-    unsettled c.unsettle_moving.ensures) c.self.inside.flows old.5 in
+    let unsettled = marked_unsettled net c.known.ensures.wired c.order-order.result.now c.order-order.ensures c.self.inside.knots old.3.are_knots (c.self.inside.rounds + 1)
+    standing.colouring.rows standing.colouring.items stands.first c.self.inside.kept old.3.is_kept standing.marks flowed
+    c.unsettle_between.new.self c.unsettle_moving.new.self c.unsettle_between.ensures c.unsettle_moving.ensures in
+    let moving = moving_again c.unsettle_between.new.self c.unsettle_moving.new.self c.unsettle_moving.ensures in
+    let stay = flows_stay net other c.self.inside.knots c.self.inside.kept c.unsettle_moving.new.self unsettled.fewer
+    (round_elsewhere g.P.Primitive.behaviour now c.step_marked.new.circuit standing.marks shape others marks c.self.inside.knots c.self.inside.kept c.unsettle_moving.new.self c.unsettle_moving.new.self
+    unsettled moving) c.self.inside.flows old.5 in
     let count : length c.step_marked.new.items ≡ length c.step_marked.new.circuit.joints =
     c.step_marked.ensures.items.count ∙ stands.first.colouring.one_each ∙ ap (λ (js : List Joint). length js) (sym shape.joints) in (
       omega (arith, few),
       ap (λ (xs : List Bool). length xs) c.replace.ensures.after ∙ marks ∙ sym before ∙ sym shape.primitives.count ∙ after,
       search rules,
       round_made g.P.Primitive.behaviour now c.step_marked.new.circuit standing.marks c.known.ensures.wired c.known-2.ensures.wired shape others marks
-          c.self.inside.rounds c.self.inside.knots c.self.inside.ends c.self.inside.kept c.unsettle_joints.new.self c.unsettle_moving.new.self old.3 unsettled c.unsettle_moving.ensures,
+          c.self.inside.rounds c.self.inside.knots c.self.inside.ends c.self.inside.kept c.unsettle_moving.new.self c.unsettle_moving.new.self old.3 unsettled moving,
       round_held g.P.Primitive.behaviour now c.step_marked.new.circuit standing.marks c.known.ensures.wired shape others marks
-          c.self.inside.knots old.3.are_knots c.self.inside.kept c.unsettle_joints.new.self c.unsettle_moving.new.self c.self.inside.lookups old.4 unsettled c.unsettle_moving.ensures,
+          c.self.inside.knots old.3.are_knots c.self.inside.kept c.unsettle_moving.new.self c.unsettle_moving.new.self c.self.inside.lookups old.4 unsettled moving,
       record {
         blank = subst (λ n. AreBlank n c.cleared.result) count c.cleared.ensures;
         marks = ap (λ (xs : List Bool). length xs) c.replace.ensures.value ∙ old.1 ∙ sym before ∙ sym shape.primitives.count;
         one_each = old.5.one_each;
         cells = stay.cells;
         shown = stay.shown;
+        feeds = stay.feeds;
       },
     )
 
 pub returns-clause-settled : goal.returns-clause-settled
 returns-clause-settled g c =
+    let old = c.self.invariant in
     let net : Net = net_of g.P.Primitive.behaviour c.self.inside.circuit in
     let stands = rw (← c.self.view_is) at c.requires.stands in
     let standing = c.args.standing in
-    let flowed = stands.marks in
-    let unsettled = rw c.as_slice-joints.ensures at c.unsettle_joints.ensures standing.marks
-    (ends_marked net standing.colouring.rows c.known.ensures.wired stands.first.colouring.rows_fit standing.flowing stands.flowing standing.marks flowed) in
-    rw (← c.self.view_is, c.replace.ensures.after) (stay_settled net c.self.inside.knots standing.marks c.self.inside.kept c.unsettle_joints.new.self c.unsettle_moving.new.self
-    unsettled c.unsettle_moving.ensures)
+    let unsettled = marked_unsettled net c.known.ensures.wired c.order-order.result.now c.order-order.ensures c.self.inside.knots old.3.are_knots (c.self.inside.rounds + 1)
+    standing.colouring.rows standing.colouring.items stands.first c.self.inside.kept old.3.is_kept standing.marks stands.marks
+    c.unsettle_between.new.self c.unsettle_moving.new.self c.unsettle_between.ensures c.unsettle_moving.ensures in
+    rw (← c.self.view_is, c.replace.ensures.after) (stay_settled net c.self.inside.knots standing.marks c.self.inside.kept c.unsettle_moving.new.self c.unsettle_moving.new.self
+    unsettled (moving_again c.unsettle_between.new.self c.unsettle_moving.new.self c.unsettle_moving.ensures))

@@ -51,7 +51,7 @@ invariant_of-self-2 g c =
       old.2,
       record { are_knots = old.3.are_knots; are_ends = old.3.are_ends; is_kept = c.store-list.ensures.kept (c.self.inside.rounds + 1) old.3.is_kept c.in_ok-rows.ensures.exact },
       c.hand_back.ensures.lookups (net_of g.P.Primitive.behaviour c.self.inside.circuit) c.self.inside.knots c.store-list.new.self (c.in_ok-rows.ensures.lookups c.store-list.new.self c.store-list.ensures.rows),
-      record { blank = old.5.blank; marks = old.5.marks; one_each = old.5.one_each; cells = old.5.cells; shown = λ e. absurd cc },
+      record { blank = old.5.blank; marks = old.5.marks; one_each = old.5.one_each; cells = old.5.cells; shown = λ e. absurd cc; feeds = old.5.feeds },
     )
 
 pub returns-clause-exact : goal.returns-clause-exact
