@@ -1,3 +1,2 @@
 pub mod RuleLemmas
 pub mod RuleLaws
-pub mod Passing

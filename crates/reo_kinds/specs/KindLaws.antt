@@ -7,7 +7,7 @@ use Rattle.reo_net_base.specs.declared.mark.Mark.TheVariants.{F, G, R, J}
 use Rattle.reo_net_base.specs.declared.colouring.Chosen.{Chosen}
 use Rattle.reo_net_base.specs.Marks.{is_flow}
 use Rattle.reo_net_base.specs.Behaviour.{Behaviour}
-use Rattle.reo_net_base.specs.Lawful.{IsLawful, SameShape, IsQuiet}
+use Rattle.reo_net_base.specs.Lawful.{IsLawful, SameShape, TreatsAlike, IsQuiet}
 use Rattle.reo_buffers.specs.Stored.{is_full}
 use Rattle.reo_kinds.specs.declared.kind.Kind.{Kind}
 use Rattle.reo_kinds.specs.declared.kind.Kind.TheVariants.{Writer, Taker, Sync, Lossy, SyncDrain, AsyncDrain, Store, Shift, Variable, Quota, Filter, Map, Merger, Replicator}
@@ -104,6 +104,22 @@ after_shape first second item kind = let same = ends_stay first second item kind
 -- A round leaves the shape.
 pub kind_shape : (kind : Kind) (rows : Chosen) (taken : Option Value) → SameShape (behaviour_of kind) (behaviour_of (settled_kind kind rows taken))
 kind_shape kind rows taken = after_shape (first_flows kind rows) (second_flows kind rows) (cond (first_flows kind rows) taken None) kind
+
+pub same_treatment : (b : Behaviour) → TreatsAlike b b
+same_treatment b = record { passes = λ side row end item. refl; from = λ side row end. refl; given = λ side row end from taken is. refl }
+
+after_alike : (first second : Bool) (item : Option Value) (kind : Kind) → TreatsAlike (behaviour_of kind) (behaviour_of (after first second item kind))
+after_alike first second item (Writer port) = record { passes = λ side row end it. refl; from = λ side row end. refl; given = λ side row end from taken is. absurd cc }
+after_alike first second item (Taker port) = record { passes = λ side row end it. refl; from = λ side row end. refl; given = λ side row end from taken is. absurd cc }
+after_alike first second item (Store buffer) = record { passes = λ side row end it. refl; from = λ side row end. refl; given = λ side row end from taken is. absurd cc }
+after_alike first second item (Shift buffer) = record { passes = λ side row end it. refl; from = λ side row end. refl; given = λ side row end from taken is. absurd cc }
+after_alike first second item (Variable held) = record { passes = λ side row end it. refl; from = λ side row end. refl; given = λ side row end from taken is. absurd cc }
+after_alike first second item (Quota left) = record { passes = λ side row end it. refl; from = λ side row end. refl; given = λ side row end from taken is. refl }
+after_alike first second item _ = same_treatment _
+
+-- What is done with items hangs on no state.
+pub kind_alike : (kind : Kind) (rows : Chosen) (taken : Option Value) → TreatsAlike (behaviour_of kind) (behaviour_of (settled_kind kind rows taken))
+kind_alike kind rows taken = after_alike (first_flows kind rows) (second_flows kind rows) (cond (first_flows kind rows) taken None) kind
 
 no_flow : (mark : Mark) → mark ≢ F → is_flow mark ≡ false
 no_flow F rests = absurd (rests refl)

@@ -1,12 +1,12 @@
 -- The kinds keep the laws of a port.
-use Rattle.std.proofs.Common.{◌≡◌, Bool, true, false, cond, Option, Some, None, refl, sym, ap, subst, option_map}
+use Rattle.std.proofs.Common.{ℕ, ◌≡◌, Bool, true, false, cond, Option, Some, None, refl, sym, ap, subst, option_map}
 use Rattle.std.proofs.Math.Bool.{Bool-set}
 use Rattle.reo_values.specs.declared.value.Value.{Value}
 use Rattle.reo_net_base.specs.declared.colouring.Chosen.{Chosen}
 use Rattle.reo_net_base.specs.declared.port.Offer.{Offer}
 use Rattle.reo_net_base.specs.declared.port.Offer.TheVariants.{Write, Take}
 use Rattle.reo_net_base.specs.Marks.{is_flow}
-use Rattle.reo_net_base.specs.Lawful.{SameShape}
+use Rattle.reo_net_base.specs.Lawful.{SameShape, TreatsAlike}
 use Rattle.reo_net_base.specs.PortState.{no_port_state, CanPlace, IsPortWith}
 use Rattle.reo_kinds.specs.declared.kind.WriterPort.{WriterPort}
 use Rattle.reo_kinds.specs.declared.kind.TakerPort.{TakerPort}
@@ -16,7 +16,7 @@ use Rattle.reo_values.specs.Kind.{is_item}
 use Rattle.reo_values.specs.declared.kindred.Kindred.{Kindred}
 use Rattle.reo_kinds.specs.Items.{offer_fits}
 use Rattle.reo_kinds.specs.Kinds.{behaviour_of, settled_kind, port_state_of, placed_kind, withdrawn_kind, offering_if, unoffered, with_take}
-use Rattle.reo_kinds.specs.KindLaws.{same_shape}
+use Rattle.reo_kinds.specs.KindLaws.{same_shape, same_treatment}
 
 -- What is no port has no pending offer.
 pub no_port_kind : (kind : Kind) → (port_state_of kind).way ≡ None → (port_state_of kind).pending ≡ None
@@ -48,6 +48,13 @@ placed_kind_shape (Taker port) (Write item) = same_shape _
 placed_kind_shape (Taker port) Take = record { ends = refl; sides = refl; side_of = λ _. refl; takes_in = λ _. refl; leads = λ _. refl }
 placed_kind_shape _ offer = same_shape _
 
+pub placed_kind_alike : (kind : Kind) (offer : Offer) → TreatsAlike (behaviour_of kind) (behaviour_of (placed_kind kind offer))
+placed_kind_alike (Writer port) (Write item) = record { passes = λ side row end it. refl; from = λ side row end. refl; given = λ side row end from taken is. absurd cc }
+placed_kind_alike (Writer port) Take = same_treatment _
+placed_kind_alike (Taker port) (Write item) = same_treatment _
+placed_kind_alike (Taker port) Take = record { passes = λ side row end it. refl; from = λ side row end. refl; given = λ side row end from taken is. absurd cc }
+placed_kind_alike _ offer = same_treatment _
+
 -- After a withdrawal nothing is pending, and the rest stays.
 pub withdrawn_kind_port : (kind : Kind) → IsPortWith (port_state_of kind) (port_state_of (withdrawn_kind kind)) None
 withdrawn_kind_port (Writer port) = record { way = refl; accepts = λ _. refl; pending_is = refl }
@@ -58,6 +65,11 @@ pub withdrawn_kind_shape : (kind : Kind) → SameShape (behaviour_of kind) (beha
 withdrawn_kind_shape (Writer port) = record { ends = refl; sides = refl; side_of = λ _. refl; takes_in = λ _. refl; leads = λ _. refl }
 withdrawn_kind_shape (Taker port) = record { ends = refl; sides = refl; side_of = λ _. refl; takes_in = λ _. refl; leads = λ _. refl }
 withdrawn_kind_shape _ = same_shape _
+
+pub withdrawn_kind_alike : (kind : Kind) → TreatsAlike (behaviour_of kind) (behaviour_of (withdrawn_kind kind))
+withdrawn_kind_alike (Writer port) = record { passes = λ side row end it. refl; from = λ side row end. refl; given = λ side row end from taken is. absurd cc }
+withdrawn_kind_alike (Taker port) = record { passes = λ side row end it. refl; from = λ side row end. refl; given = λ side row end from taken is. absurd cc }
+withdrawn_kind_alike _ = same_treatment _
 
 abbrev writer_with : (kindred : Kindred) (offer : Option Value) → offer_fits offer kindred ≡ true → WriterPort
 writer_with kindred offer fits = record { kindred = kindred; offer = offer; fitting = fits }

@@ -78,11 +78,11 @@ kind_carries (Map rule) side row end from item carries gives is = cc
 kind_carries _ side row end from item carries gives is = refl
 
 pub kind_front : (kind : Kind) → GivesFront (front_item kind) (behaviour_of kind)
-kind_front (Writer port) side row end item is gives alone = is
-kind_front (Store buffer) side row end item is gives alone = is
-kind_front (Shift buffer) side row end item is gives alone = is
-kind_front (Variable held) side row end item is gives alone = is
-kind_front _ side row end item is gives alone = cc
+kind_front (Writer port) side row end item taken is gives alone = is
+kind_front (Store buffer) side row end item taken is gives alone = is
+kind_front (Shift buffer) side row end item taken is gives alone = is
+kind_front (Variable held) side row end item taken is gives alone = is
+kind_front _ side row end item taken is gives alone = cc
 
 fitting_item : (offer : Option Value) (kindred origin : Kindred) (item : Value) → offer_fits offer kindred ≡ true → Some kindred ≡ Some origin → offer ≡ Some item → is_item item origin ≡ true
 fitting_item None kindred origin item fits same is = cc

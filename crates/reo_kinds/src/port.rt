@@ -1,7 +1,7 @@
 //! The kinds as ports.
 ghost use Rattle.reo_kinds.specs.Kinds.{port_state_of, placed_kind, withdrawn_kind};
 ghost use Rattle.reo_kinds.specs.TellingLaws.{placed_kind_lasting, placed_kind_tables, withdrawn_kind_lasting, withdrawn_kind_tables};
-ghost use Rattle.reo_kinds.specs.PortStateLaws.{no_port_kind, placed_kind_port, placed_kind_shape, withdrawn_kind_port, withdrawn_kind_shape, placed_kind_again, settled_kind_port};
+ghost use Rattle.reo_kinds.specs.PortStateLaws.{no_port_kind, placed_kind_port, placed_kind_shape, placed_kind_alike, withdrawn_kind_port, withdrawn_kind_shape, withdrawn_kind_alike, placed_kind_again, settled_kind_port};
 
 use crate::kind::Kind;
 use crate::offer;
@@ -60,6 +60,8 @@ impl Ported for Kind {
 
     ghost placed_shape = { placed_kind_shape };
 
+    ghost placed_alike = { placed_kind_alike };
+
     ghost placed_lasting = { placed_kind_lasting };
 
     ghost placed_tables = { placed_kind_tables };
@@ -67,6 +69,8 @@ impl Ported for Kind {
     ghost withdrawn_port = { withdrawn_kind_port };
 
     ghost withdrawn_shape = { withdrawn_kind_shape };
+
+    ghost withdrawn_alike = { withdrawn_kind_alike };
 
     ghost withdrawn_lasting = { withdrawn_kind_lasting };
 

@@ -1,6 +1,6 @@
 //! The kinds as primitives.
 ghost use Rattle.reo_kinds.specs.Kinds.{behaviour_of, settled_kind};
-ghost use Rattle.reo_kinds.specs.KindLaws.{kind_lawful, kind_shape, kind_quiet};
+ghost use Rattle.reo_kinds.specs.KindLaws.{kind_lawful, kind_shape, kind_alike, kind_quiet};
 ghost use Rattle.reo_kinds.specs.Telling.{told_form, front_item, lasting_of};
 ghost use Rattle.reo_kinds.specs.TellingLaws.{kind_form, kind_lets_in, kind_carries, kind_front, kind_origin, kind_keeps_nothing, kind_lasting, kind_tables};
 
@@ -8,7 +8,7 @@ use crate::ends::ends_of;
 use crate::form::form_of;
 use crate::given::{Given, given_by};
 use crate::kind::Kind;
-use crate::settle::{go_on, settle, where_flow};
+use crate::settle::settle;
 use crate::{rule, telling};
 use reo_net_base::{Chosen, Form, Mark, Primitive};
 use reo_values::{Kindred, NoMemory, Value, copy, same_item};
@@ -115,10 +115,6 @@ impl Primitive for Kind {
         settle(self, rows, taken);
     }
 
-    fn pass(&mut self, _rows: Chosen, first: bool, second: bool, taken: Option<Value>) {
-        go_on(self, first, second, where_flow(first, taken));
-    }
-
     fn form(&self, side: usize) -> Option<Form> {
         Some(form_of(self, side))
     }
@@ -158,6 +154,8 @@ impl Primitive for Kind {
     ghost lawful = { kind_lawful };
 
     ghost settled_shape = { kind_shape };
+
+    ghost settled_alike = { kind_alike };
 
     ghost quiet = { kind_quiet };
 

@@ -76,7 +76,7 @@ fn second_flows(kind: &Kind, rows: Chosen) -> bool
 }
 
 /// The item, if its end flows.
-pub fn where_flow(flows: bool, item: Option<Value>) -> Option<Value>
+fn where_flow(flows: bool, item: Option<Value>) -> Option<Value>
     ensures { result ≡ cond flows item None }
 {
     if flows { item } else { None }
@@ -84,7 +84,7 @@ pub fn where_flow(flows: bool, item: Option<Value>) -> Option<Value>
 
 /// Goes on after flow at the first end, or at the mouth, and at the tail, where this item comes in
 /// at the mouth.
-pub fn go_on(kind: &mut Kind, first: bool, second: bool, item: Option<Value>)
+fn go_on(kind: &mut Kind, first: bool, second: bool, item: Option<Value>)
     ensures { kind.new ≡ after first second item kind.old }
 {
     match kind {

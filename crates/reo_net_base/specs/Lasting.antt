@@ -1,9 +1,8 @@
 -- What a primitive tells besides its behaviour, so that work can be left out.
-use Rattle.std.specs.Prelude.{ℕ, ◌<◌, ◌≡◌, ◌≢◌, Bool, true, false, Option, Some, None}
+use Rattle.std.specs.Prelude.{ℕ, ◌<◌, ◌≡◌, Bool, true, false, Option, Some, None}
 use Rattle.reo_values.specs.declared.value.Value.{Value}
 use Rattle.reo_values.specs.declared.kindred.Kindred.{Kindred}
 use Rattle.reo_values.specs.Kind.{is_item}
-use Rattle.reo_net_base.specs.declared.mark.Mark.TheVariants.{F}
 use Rattle.reo_net_base.specs.Behaviour.{Behaviour, IsEndOf}
 use Rattle.reo_net_base.specs.Lawful.{GivesAt}
 use Rattle.reo_net_base.specs.SameTables.{SameTable}
@@ -35,17 +34,12 @@ abbrev pub GivesWhatItTakes : Lasting → Behaviour → Type 0
 GivesWhatItTakes lasting b = (side row end from : ℕ) (item : Value) → lasting.carries ≡ true
     → GivesAt b side row end → b.from side row end ≡ Some from → b.given side row end (Some item) ≡ Some item
 
--- What is told of what the state gives: the item, and its type.
+-- What is told of what the state gives: the item, whatever is taken, and its type.
 abbrev pub GivesFront : Option Value → Behaviour → Type 0
-GivesFront front b = (side row end : ℕ) (item : Value) → front ≡ Some item
-    → GivesAt b side row end → b.from side row end ≡ None → b.given side row end None ≡ Some item
+GivesFront front b = (side row end : ℕ) (item : Value) (taken : Option Value) → front ≡ Some item
+    → GivesAt b side row end → b.from side row end ≡ None → b.given side row end taken ≡ Some item
 
 abbrev pub GivesOrigin : Lasting → Behaviour → Type 0
 GivesOrigin lasting b = (side row end : ℕ) (item : Value) (origin : Kindred) → lasting.origin ≡ Some origin
     → GivesAt b side row end → b.from side row end ≡ None → b.given side row end None ≡ Some item
     → is_item item origin ≡ true
-
--- Whether a side flows by its row: whether some end of it does.
-pub record SideFlows (b : Behaviour) (side row : ℕ) (flows : Bool) : Type 0 where
-  pub somewhere : flows ≡ true → (end : ℕ) × IsEndOf b side end × (b.mark side row end ≡ F)
-  pub nowhere : flows ≡ false → (end : ℕ) → IsEndOf b side end → b.mark side row end ≢ F

@@ -91,6 +91,14 @@ pub record SameShape (b d : Behaviour) : Type 0 where
   pub takes_in : (end : ℕ) → d.takes_in end ≡ b.takes_in end
   pub leads : (side : ℕ) → d.leads side ≡ b.leads side
 
+-- What stays of what a primitive does with items, whatever its state: which of them it lets in, and what it makes of
+-- those that are taken in.
+pub record TreatsAlike (b d : Behaviour) : Type 0 where
+  pub passes : (side row end : ℕ) (item : Value) → d.passes side row end item ≡ b.passes side row end item
+  pub from : (side row end : ℕ) → d.from side row end ≡ b.from side row end
+  pub given : (side row end from : ℕ) (taken : Option Value) → b.from side row end ≡ Some from
+      → d.given side row end taken ≡ b.given side row end taken
+
 -- Rows by which no end flows.
 pub record IsQuiet (b : Behaviour) (rows : Chosen) : Type 0 where
   pub first : (end : ℕ) → IsEndOf b 0 end → b.mark 0 rows.first end ≢ F

@@ -2,7 +2,7 @@
 use Rattle.std.specs.Prelude.{ℕ, ◌<◌, ◌≡◌, List, length, map}
 use Rattle.reo_values.specs.declared.value.Value.{Value}
 use Rattle.reo_net_base.specs.Behaviour.{Behaviour}
-use Rattle.reo_net_base.specs.Lawful.{SameShape}
+use Rattle.reo_net_base.specs.Lawful.{SameShape, TreatsAlike}
 use Rattle.reo_net_base.specs.Net.{Wiring, behaviour_at}
 use Rattle.reo_net_base.specs.PortState.{PortState, port_state_at}
 
@@ -10,6 +10,10 @@ use Rattle.reo_net_base.specs.PortState.{PortState, port_state_at}
 pub record SameShapes (old new : List Behaviour) : Type 0 where
   pub count : length new ≡ length old
   pub same : (i : ℕ) → i < length old → SameShape (behaviour_at old i) (behaviour_at new i)
+
+-- Primitives of which each does the same with items as the one in its place.
+abbrev pub TreatAlike : List Behaviour → List Behaviour → Type 0
+TreatAlike old new = (i : ℕ) → TreatsAlike (behaviour_at old i) (behaviour_at new i)
 
 -- Two circuits of the same shape: the same joints, as many ports, and primitives of the same shape.
 pub record SameNetShape {P : Type 0} (behaviour : P → Behaviour) (old new : Wiring P) : Type 0 where

@@ -5,7 +5,7 @@ ghost use Rattle.reo_net_base.specs.declared.colouring.Chosen.{Chosen as Rows};
 ghost use Rattle.reo_net_base.specs.declared.port.Offer.{Offer as Offered};
 ghost use Rattle.reo_net_base.specs.Marks.{is_flow};
 ghost use Rattle.reo_net_base.specs.Lasting.{KeepsTables};
-ghost use Rattle.reo_net_base.specs.Lawful.{SameShape};
+ghost use Rattle.reo_net_base.specs.Lawful.{SameShape, TreatsAlike};
 ghost use Rattle.reo_net_base.specs.PortState.{PortState, CanPlace, IsPortWith};
 
 use crate::primitive::Primitive;
@@ -82,6 +82,9 @@ pub trait Ported: Primitive {
     ghost placed_shape: { (p : Self) (offer : Offered)
         → SameShape (Self.behaviour p) (Self.behaviour (placed p offer)) };
 
+    ghost placed_alike: { (p : Self) (offer : Offered)
+        → TreatsAlike (Self.behaviour p) (Self.behaviour (placed p offer)) };
+
     ghost placed_lasting: { (p : Self) (offer : Offered)
         → Self.lasting (placed p offer) ≡ Self.lasting p };
 
@@ -94,6 +97,9 @@ pub trait Ported: Primitive {
 
     ghost withdrawn_shape: { (p : Self)
         → SameShape (Self.behaviour p) (Self.behaviour (withdrawn p)) };
+
+    ghost withdrawn_alike: { (p : Self)
+        → TreatsAlike (Self.behaviour p) (Self.behaviour (withdrawn p)) };
 
     ghost withdrawn_lasting: { (p : Self) → Self.lasting (withdrawn p) ≡ Self.lasting p };
 

@@ -7,8 +7,8 @@ ghost use Rattle.reo_net_base.specs.declared.mark.Mark.TheVariants.{F};
 ghost use Rattle.reo_net_base.specs.declared.form.Form.{Form as SideForm};
 ghost use Rattle.reo_net_base.specs.Behaviour.{Behaviour, IsEndOf};
 ghost use Rattle.reo_net_base.specs.Forms.{HasForm};
-ghost use Rattle.reo_net_base.specs.Lasting.{Lasting, KeepsTables, LetsAllIn, GivesWhatItTakes, GivesFront, GivesOrigin, SideFlows};
-ghost use Rattle.reo_net_base.specs.Lawful.{IsLawful, SameShape, IsQuiet};
+ghost use Rattle.reo_net_base.specs.Lasting.{Lasting, KeepsTables, LetsAllIn, GivesWhatItTakes, GivesFront, GivesOrigin};
+ghost use Rattle.reo_net_base.specs.Lawful.{IsLawful, SameShape, TreatsAlike, IsQuiet};
 
 use crate::colouring::Chosen;
 use crate::form::Form;
@@ -163,12 +163,6 @@ pub trait Primitive: Drop {
     fn settle(&mut self, rows: Chosen, taken: Option<Value>)
         ensures { self.new ≡ settled self.old rows taken };
 
-    /// The primitive goes on as by `settle`, where it is known which sides flow by the rows.
-    fn pass(&mut self, rows: Chosen, first: bool, second: bool, taken: Option<Value>)
-        requires first { SideFlows (behaviour self.old) 0 rows.first first }
-        requires second { SideFlows (behaviour self.old) 1 rows.second second }
-        ensures { self.new ≡ settled self.old rows taken };
-
     /// The form of a side in the present state, and `None` for a table of no form. Nothing is lost
     /// by `None` but speed.
     fn form(&self, side: usize) -> Option<Form>
@@ -207,6 +201,10 @@ pub trait Primitive: Drop {
     /// A round leaves the shape.
     ghost settled_shape: { (p : Self) (rows : Rows) (taken : Option Item)
         → SameShape (behaviour p) (behaviour (settled p rows taken)) };
+
+    /// A round leaves what is done with items.
+    ghost settled_alike: { (p : Self) (rows : Rows) (taken : Option Item)
+        → TreatsAlike (behaviour p) (behaviour (settled p rows taken)) };
 
     /// Rows without flow leave the state.
     ghost quiet: { (p : Self) (rows : Rows) → IsQuiet (behaviour p) rows

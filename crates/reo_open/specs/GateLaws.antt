@@ -3,7 +3,7 @@ use Rattle.std.proofs.Common.{ℕ, ◌≡◌, refl, ap, length, arith, slice_ind
 use Rattle.std.proofs.Math.ListN.{get_or-eq_default}
 use Rattle.reo_net_base.specs.declared.mark.Mark.{Mark}
 use Rattle.reo_net_base.specs.declared.mark.Mark.TheVariants.{J}
-use Rattle.reo_net_base.specs.Lawful.{IsLawful, SameShape}
+use Rattle.reo_net_base.specs.Lawful.{IsLawful, SameShape, TreatsAlike}
 use Rattle.reo_net_base.specs.Rows.{Rows, mark_in}
 use Rattle.reo_kinds.specs.TableTests.{TableFacts, table_facts}
 use Rattle.reo_kinds.specs.SideLaws.{only_zero}
@@ -62,3 +62,7 @@ gate_lawful g =
 -- Whatever rows are allowed, the shape is the same.
 pub gate_shape : (g : Gate) (allowed : Allowed) → SameShape (gate_behaviour g) (gate_behaviour (with_allowed allowed g))
 gate_shape g allowed = record { ends = refl; sides = refl; side_of = λ _. refl; takes_in = λ _. refl; leads = λ _. refl }
+
+-- And so is what is done with items.
+pub gate_alike : (g : Gate) (allowed : Allowed) → TreatsAlike (gate_behaviour g) (gate_behaviour (with_allowed allowed g))
+gate_alike g allowed = record { passes = λ side row end item. refl; from = λ side row end. refl; given = λ side row end from taken is. refl }

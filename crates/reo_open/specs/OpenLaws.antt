@@ -5,8 +5,8 @@ use Rattle.reo_net_base.specs.declared.colouring.Chosen.{Chosen}
 use Rattle.reo_net_base.specs.declared.form.Form.{Form}
 use Rattle.reo_net_base.specs.Forms.{HasForm}
 use Rattle.reo_net_base.specs.Lasting.{KeepsTables, LetsAllIn, GivesWhatItTakes, GivesFront, GivesOrigin}
-use Rattle.reo_net_base.specs.Lawful.{IsLawful, SameShape, IsQuiet}
-use Rattle.reo_kinds.specs.KindLaws.{kind_lawful, kind_shape, kind_quiet, same_shape}
+use Rattle.reo_net_base.specs.Lawful.{IsLawful, SameShape, TreatsAlike, IsQuiet}
+use Rattle.reo_kinds.specs.KindLaws.{kind_lawful, kind_shape, kind_alike, kind_quiet, same_shape, same_treatment}
 use Rattle.reo_kinds.specs.TellingLaws.{kind_form, kind_lets_in, kind_carries, kind_front, kind_origin, kind_keeps_nothing, kind_lasting, kind_tables, one_table}
 use Rattle.reo_open.specs.declared.opens.Open.{Open}
 use Rattle.reo_open.specs.declared.opens.Open.TheVariants.{Border, Inner}
@@ -21,6 +21,10 @@ open_lawful (Inner kind) = kind_lawful kind
 pub open_shape : (p : Open) (rows : Chosen) (taken : Option Value) → SameShape (open_behaviour p) (open_behaviour (open_settled p rows taken))
 open_shape (Border g) rows taken = same_shape (gate_behaviour g)
 open_shape (Inner kind) rows taken = kind_shape kind rows taken
+
+pub open_alike : (p : Open) (rows : Chosen) (taken : Option Value) → TreatsAlike (open_behaviour p) (open_behaviour (open_settled p rows taken))
+open_alike (Border g) rows taken = same_treatment (gate_behaviour g)
+open_alike (Inner kind) rows taken = kind_alike kind rows taken
 
 pub open_quiet : (p : Open) (rows : Chosen) → IsQuiet (open_behaviour p) rows → open_settled p rows None ≡ p
 open_quiet (Border g) rows quiet = refl
@@ -39,8 +43,8 @@ open_carries (Border g) side row end from item carries gives is = absurd cc
 open_carries (Inner kind) side row end from item carries gives is = kind_carries kind side row end from item carries gives is
 
 pub open_gives_front : (p : Open) → GivesFront (open_front p) (open_behaviour p)
-open_gives_front (Border g) side row end item is gives alone = absurd cc
-open_gives_front (Inner kind) side row end item is gives alone = kind_front kind side row end item is gives alone
+open_gives_front (Border g) side row end item taken is gives alone = absurd cc
+open_gives_front (Inner kind) side row end item taken is gives alone = kind_front kind side row end item taken is gives alone
 
 pub open_gives_origin : (p : Open) → GivesOrigin (open_lasting p) (open_behaviour p)
 open_gives_origin (Border g) side row end item origin same gives alone is = absurd cc

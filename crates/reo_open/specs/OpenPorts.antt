@@ -7,10 +7,10 @@ use Rattle.reo_net_base.specs.declared.port.Offer.TheVariants.{Write, Take}
 use Rattle.reo_net_base.specs.declared.port.Way.TheVariants.{Out}
 use Rattle.reo_net_base.specs.Marks.{is_flow}
 use Rattle.reo_net_base.specs.Lasting.{KeepsTables}
-use Rattle.reo_net_base.specs.Lawful.{SameShape}
+use Rattle.reo_net_base.specs.Lawful.{SameShape, TreatsAlike}
 use Rattle.reo_net_base.specs.PortState.{PortState, no_port_state, CanPlace, IsPortWith}
 use Rattle.reo_net_base.specs.Rows.{mark_in}
-use Rattle.reo_kinds.specs.KindLaws.{same_shape}
+use Rattle.reo_kinds.specs.KindLaws.{same_shape, same_treatment}
 use Rattle.reo_kinds.specs.TellingLaws.{one_table}
 use Rattle.reo_open.specs.declared.gate.Allowed.{Allowed}
 use Rattle.reo_open.specs.declared.gate.Allowed.TheVariants.{All, Flow, Given, Required}
@@ -18,7 +18,7 @@ use Rattle.reo_open.specs.declared.gate.Gate.{Gate}
 use Rattle.reo_open.specs.declared.opens.Open.{Open}
 use Rattle.reo_open.specs.declared.opens.Open.TheVariants.{Border, Inner}
 use Rattle.reo_open.specs.Gates.{gate_rows, with_allowed}
-use Rattle.reo_open.specs.GateLaws.{gate_shape}
+use Rattle.reo_open.specs.GateLaws.{gate_shape, gate_alike}
 use Rattle.reo_open.specs.Opens.{open_behaviour, open_settled, open_lasting}
 
 -- A gate that has that row alone has a take pending.
@@ -62,6 +62,10 @@ pub placed_open_shape : (p : Open) (offer : Offer) → SameShape (open_behaviour
 placed_open_shape (Border g) offer = gate_shape g Required
 placed_open_shape (Inner kind) offer = same_shape (open_behaviour (Inner kind))
 
+pub placed_open_alike : (p : Open) (offer : Offer) → TreatsAlike (open_behaviour p) (open_behaviour (open_placed p offer))
+placed_open_alike (Border g) offer = gate_alike g Required
+placed_open_alike (Inner kind) offer = same_treatment (open_behaviour (Inner kind))
+
 pub placed_open_lasting : (p : Open) (offer : Offer) → open_lasting (open_placed p offer) ≡ open_lasting p
 placed_open_lasting (Border g) offer = refl
 placed_open_lasting (Inner kind) offer = refl
@@ -77,6 +81,10 @@ withdrawn_open_port (Inner kind) = record { way = refl; accepts = λ _. refl; pe
 pub withdrawn_open_shape : (p : Open) → SameShape (open_behaviour p) (open_behaviour (open_withdrawn p))
 withdrawn_open_shape (Border g) = gate_shape g All
 withdrawn_open_shape (Inner kind) = same_shape (open_behaviour (Inner kind))
+
+pub withdrawn_open_alike : (p : Open) → TreatsAlike (open_behaviour p) (open_behaviour (open_withdrawn p))
+withdrawn_open_alike (Border g) = gate_alike g All
+withdrawn_open_alike (Inner kind) = same_treatment (open_behaviour (Inner kind))
 
 pub withdrawn_open_lasting : (p : Open) → open_lasting (open_withdrawn p) ≡ open_lasting p
 withdrawn_open_lasting (Border g) = refl

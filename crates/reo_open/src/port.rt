@@ -2,7 +2,7 @@
 //!
 //! At a gate one thing may be offered: that the surroundings require a reason, which stands for a
 //! take. It is pending where the gate has that row alone.
-ghost use Rattle.reo_open.specs.OpenPorts.{open_port_state, open_placed, open_withdrawn, no_port_open, placed_open_port, placed_open_shape, placed_open_lasting, placed_open_tables, withdrawn_open_port, withdrawn_open_shape, withdrawn_open_lasting, withdrawn_open_tables, settled_open_port};
+ghost use Rattle.reo_open.specs.OpenPorts.{open_port_state, open_placed, open_withdrawn, no_port_open, placed_open_port, placed_open_shape, placed_open_alike, placed_open_lasting, placed_open_tables, withdrawn_open_port, withdrawn_open_shape, withdrawn_open_alike, withdrawn_open_lasting, withdrawn_open_tables, settled_open_port};
 
 use crate::gate::Allowed;
 use crate::opens::Open;
@@ -52,6 +52,8 @@ impl Ported for Open {
 
     ghost placed_shape = { placed_open_shape };
 
+    ghost placed_alike = { placed_open_alike };
+
     ghost placed_lasting = { placed_open_lasting };
 
     ghost placed_tables = { placed_open_tables };
@@ -59,6 +61,8 @@ impl Ported for Open {
     ghost withdrawn_port = { withdrawn_open_port };
 
     ghost withdrawn_shape = { withdrawn_open_shape };
+
+    ghost withdrawn_alike = { withdrawn_open_alike };
 
     ghost withdrawn_lasting = { withdrawn_open_lasting };
 

@@ -1,6 +1,6 @@
 //! What stands in open circuits, as primitives.
 ghost use Rattle.reo_open.specs.Opens.{open_behaviour, open_settled, open_form, open_front, open_lasting};
-ghost use Rattle.reo_open.specs.OpenLaws.{open_lawful, open_shape, open_quiet, open_has_form, open_lets_all_in, open_carries, open_gives_front, open_gives_origin, open_keeps_nothing, open_lasts, open_tables};
+ghost use Rattle.reo_open.specs.OpenLaws.{open_lawful, open_shape, open_alike, open_quiet, open_has_form, open_lets_all_in, open_carries, open_gives_front, open_gives_origin, open_keeps_nothing, open_lasts, open_tables};
 
 use crate::opens::Open;
 use reo_net_base::{Chosen, Form, Mark, Primitive};
@@ -151,13 +151,6 @@ impl Primitive for Open {
         }
     }
 
-    fn pass(&mut self, rows: Chosen, first: bool, second: bool, taken: Option<Value>) {
-        match self {
-            Open::Border(_) => {}
-            Open::Inner(kind) => kind.pass(rows, first, second, taken),
-        }
-    }
-
     fn form(&self, side: usize) -> Option<Form> {
         match self {
             Open::Border(_) => None,
@@ -210,6 +203,8 @@ impl Primitive for Open {
     ghost lawful = { open_lawful };
 
     ghost settled_shape = { open_shape };
+
+    ghost settled_alike = { open_alike };
 
     ghost quiet = { open_quiet };
 
