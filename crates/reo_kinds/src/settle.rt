@@ -1,10 +1,10 @@
 //! What a round leaves of what a kind keeps.
-ghost use Rattle.std.specs.Prelude.{◌≡◌, ◌-◌, cond, None};
+ghost use Rattle.std.specs.Prelude.{◌≡◌, ◌-◌, ◌<◌, cond, nat_lt, None};
+ghost use Rattle.reo_net_base.specs.declared.form.Form.TheVariants.{Double};
 ghost use Rattle.reo_net_base.specs.Forms.{mark_by};
 ghost use Rattle.reo_net_base.specs.Marks.{is_flow};
-ghost use Rattle.reo_kinds.specs.Kinds.{first_flows, second_flows, after, given_away, put_in, ready, shift_in, replaced, settled_kind};
+ghost use Rattle.reo_kinds.specs.Kinds.{given_away, put_in, quota_table, ready, shift_in, replaced, settled_kind};
 
-use crate::form::form_of;
 use crate::kind::Kind;
 use crate::offer;
 use reo_buffers::Buffer;
@@ -61,18 +61,18 @@ fn lower(left: &mut u32, flows: bool)
     }
 }
 
-/// Whether end 0 flows by its row.
-fn first_flows(kind: &Kind, rows: Chosen) -> bool
-    ensures { result ≡ first_flows kind.now rows }
+/// Whether a side with one end flows by a row, by whether it can flow.
+fn flows(can_flow: bool, row: usize) -> bool
+    ensures { result ≡ is_flow (mark_by (ready can_flow) row 0) }
 {
-    form_of(kind, 0).mark(rows.first, 0).is_flow()
+    can_flow && row == 0
 }
 
-/// Whether the tail flows by its row.
-fn second_flows(kind: &Kind, rows: Chosen) -> bool
-    ensures { result ≡ second_flows kind.now rows }
+/// Whether the ends of a quota flow by a row, by whether any is left.
+fn quota_flows(some_left: bool, row: usize) -> bool
+    ensures { result ≡ is_flow (mark_by (Double (quota_table some_left)) row 0) }
 {
-    form_of(kind, 1).mark(rows.second, 1).is_flow()
+    some_left && row == 0
 }
 
 /// The item, if its end flows.
@@ -82,63 +82,42 @@ fn where_flow(flows: bool, item: Option<Value>) -> Option<Value>
     if flows { item } else { None }
 }
 
-/// Goes on after flow at the first end, or at the mouth, and at the tail, where this item comes in
-/// at the mouth.
-fn go_on(kind: &mut Kind, first: bool, second: bool, item: Option<Value>)
-    ensures { kind.new ≡ after first second item kind.old }
-{
-    match kind {
-        Kind::Writer(port) => {
-            if first {
-                offer::withdraw(port);
-            }
-        }
-        Kind::Taker(port) => {
-            if first {
-                port.pending = false;
-            }
-        }
-        Kind::Store(buffer) => {
-            give_away(buffer, second);
-            put_in(buffer, item);
-        }
-        Kind::Shift(buffer) => {
-            give_away(buffer, second);
-            shift_in(buffer, item);
-        }
-        Kind::Variable(held) => replace(held, item),
-        Kind::Quota(left) => lower(left, first),
-        _ => {}
-    }
-}
-
-/// Whether the end of a port flows by a row, by whether it can flow.
-fn port_flows(can_flow: bool, row: usize) -> bool
-    ensures { result ≡ is_flow (mark_by (ready can_flow) row 0) }
-{
-    can_flow && row == 0
-}
-
-/// Goes on by the rows of its sides, where this item comes in at a mouth that flows. A port's row
-/// is not looked up in its table.
+/// Goes on by the rows of its sides, where this item comes in at a mouth that flows. No row is
+/// looked up in a table.
 pub fn settle(kind: &mut Kind, rows: Chosen, taken: Option<Value>)
     ensures { kind.new ≡ settled_kind kind.old rows taken }
 {
     match kind {
         Kind::Writer(port) => {
-            if port_flows(port.offer.is_some(), rows.first) {
+            if flows(port.offer.is_some(), rows.first) {
                 offer::withdraw(port);
             }
         }
         Kind::Taker(port) => {
-            if port_flows(port.pending, rows.first) {
+            if flows(port.pending, rows.first) {
                 port.pending = false;
             }
         }
-        _ => {
-            let first = first_flows(kind, rows);
-            let second = second_flows(kind, rows);
-            go_on(kind, first, second, where_flow(first, taken));
+        Kind::Store(buffer) => {
+            let comes = flows(!buffer.is_full(), rows.first);
+            let goes = flows(buffer.front().is_some(), rows.second);
+            give_away(buffer, goes);
+            put_in(buffer, where_flow(comes, taken));
         }
+        Kind::Shift(buffer) => {
+            let comes = flows(true, rows.first);
+            let goes = flows(buffer.front().is_some(), rows.second);
+            give_away(buffer, goes);
+            shift_in(buffer, where_flow(comes, taken));
+        }
+        Kind::Variable(held) => {
+            let comes = flows(true, rows.first);
+            replace(held, where_flow(comes, taken));
+        }
+        Kind::Quota(left) => {
+            let flow = quota_flows(0 < *left, rows.first);
+            lower(left, flow);
+        }
+        _ => {}
     }
 }
