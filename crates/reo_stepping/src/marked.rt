@@ -10,7 +10,7 @@ ghost use Rattle.reo_stepping.specs.Changes.{AreThoseThatFlowed};
 ghost use Rattle.reo_stepping.specs.Clearing.{ComesNoItem, MayBeCleared};
 
 use crate::mouths::take_at_mouth;
-use crate::one::go_on;
+use crate::one::chosen_for;
 use reo_flags::Flags;
 use reo_net_base::Primitive;
 use reo_net_circuit::Circuit;
@@ -41,8 +41,13 @@ fn step_one<P: Primitive>(
         MayBeCleared mouth items.old items.new }
 {
     if circuit.primitive(index).keeps() {
-        let taken = take_at_mouth(circuit, ends, items, index);
-        go_on(circuit, rows, index, taken);
+        let chosen = chosen_for(circuit, rows, index);
+        if circuit.primitive(index).sides() == 2 {
+            let taken = take_at_mouth(circuit, ends, items, index);
+            circuit.settle(index, chosen, taken);
+        } else {
+            circuit.settle(index, chosen, None);
+        }
     }
 }
 

@@ -30,7 +30,7 @@ fn mouth_of<P: Primitive>(circuit: &Circuit<P>, ends: &Ends, index: usize) -> us
     })
 }
 
-/// Takes the item at the mouth of a primitive out, if it has a mouth and there is one.
+/// Takes the item at the mouth of a primitive with two sides out, if there is one.
 #[inline(always)]
 pub(crate) fn take_at_mouth<P: Primitive>(
     circuit: &Circuit<P>,
@@ -40,16 +40,14 @@ pub(crate) fn take_at_mouth<P: Primitive>(
 ) -> Option<Value>
     requires ends { AreEnds (net_of P.behaviour circuit.now) ends.now }
     requires index { index < length circuit.now.primitives }
+    requires two { let net = net_of P.behaviour circuit.now in
+        (behaviour_at net.primitives index).sides ≡ 2 }
     requires items { length items.old ≡ length circuit.now.joints }
     ensures item { result ≡ taken_for (net_of P.behaviour circuit.now) items.old index }
     ensures rest { let mouth = mouth_of (net_of P.behaviour circuit.now) index in
         items.new ≡ set items.old mouth None }
 {
     circuit.known();
-    if circuit.primitive(index).sides() == 2 {
-        let mouth = mouth_of(circuit, ends, index);
-        items.at_mut(mouth).take()
-    } else {
-        None
-    }
+    let mouth = mouth_of(circuit, ends, index);
+    items.at_mut(mouth).take()
 }

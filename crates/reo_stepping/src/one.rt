@@ -1,13 +1,11 @@
-//! One primitive goes on.
+//! The rows of the sides of a primitive.
 ghost use Rattle.std.specs.Prelude.{◌≡◌, ◌+◌, ◌<◌, ◌==◌, cond, length, slice_index};
 ghost use Rattle.reo_net_base.specs.Net.{net_of};
-ghost use Rattle.reo_net_base.specs.Shapes.{SameNetShape};
 ghost use Rattle.reo_net_base.specs.Sides.{side_count};
-ghost use Rattle.reo_net_base.specs.Step.{change_at, chosen_for};
+ghost use Rattle.reo_net_base.specs.Step.{chosen_for};
 
 use reo_net_base::{Chosen, Primitive};
 use reo_net_circuit::Circuit;
-use reo_values::Value;
 
 /// The rows of the one or two sides of a primitive, of which the first has this number.
 #[inline(always)]
@@ -33,7 +31,7 @@ fn rows_for<P: Primitive>(primitive: &P, rows: &[u32], first: usize) -> Chosen
 
 /// The rows of the one or two sides of the primitive at a place.
 #[inline(always)]
-fn chosen_for<P: Primitive>(circuit: &Circuit<P>, rows: &[u32], index: usize) -> Chosen
+pub(crate) fn chosen_for<P: Primitive>(circuit: &Circuit<P>, rows: &[u32], index: usize) -> Chosen
     requires index { index < length circuit.now.primitives }
     requires rows { length rows.now ≡ side_count (net_of P.behaviour circuit.now) }
     ensures { result ≡ chosen_for (net_of P.behaviour circuit.now) rows.now index }
@@ -41,25 +39,4 @@ fn chosen_for<P: Primitive>(circuit: &Circuit<P>, rows: &[u32], index: usize) ->
     circuit.known();
     let first = circuit.first_of(index);
     rows_for(circuit.primitive(index), rows, first)
-}
-
-/// A primitive goes on by the rows of its sides and the item at its mouth. All others stay, and so
-/// does the shape of the circuit.
-#[inline(always)]
-pub(crate) fn go_on<P: Primitive>(
-    circuit: &mut Circuit<P>,
-    rows: &[u32],
-    index: usize,
-    taken: Option<Value>,
-)
-    requires index { index < length circuit.old.primitives }
-    requires rows { length rows.now ≡ side_count (net_of P.behaviour circuit.old) }
-    ensures circuit { let old = circuit.old in
-        let chosen = chosen_for (net_of P.behaviour old) rows.now index in
-        let primitives = change_at (λ p. P.settled p chosen taken) old.primitives index in
-        circuit.new ≡ record old { primitives = primitives } }
-    ensures shape { SameNetShape P.behaviour circuit.old circuit.new }
-{
-    let chosen = chosen_for(circuit, rows, index);
-    circuit.settle(index, chosen, taken);
 }

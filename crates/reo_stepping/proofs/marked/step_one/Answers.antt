@@ -1,8 +1,10 @@
-use Rattle.std.proofs.Common.{◌≡◌, ◌∙◌, false, List, Option, get_or, ap, sym, arith}
+use Rattle.std.proofs.Common.{◌≡◌, ◌∙◌, false, List, Option, None, get_or, ap, sym, arith}
 use Rattle.reo_values.specs.declared.value.Value.{Value}
 use Rattle.reo_net_base.specs.declared.colouring.Chosen.{Chosen}
-use Rattle.reo_net_base.specs.Net.{Net, Wiring, net_of}
-use Rattle.reo_net_base.specs.Step.{chosen_for, taken_for}
+use Rattle.reo_net_base.specs.Behaviour.{Behaviour}
+use Rattle.reo_net_base.specs.Net.{Net, Wiring, behaviour_at, net_of}
+use Rattle.reo_net_base.specs.Step.{change_at, chosen_for, taken_for}
+use Rattle.reo_stepping.proofs.MouthLemmas.{no_mouth}
 use Rattle.reo_stepping.proofs.StepLemmas.{change_none}
 use Rattle.reo_stepping.proofs.marked.step_one.Goals as goal
 
@@ -18,3 +20,13 @@ returns-else-keeps-clause-circuit g c =
     let same : get_or w.primitives c.args.index p ≡ p = sym c.primitive.ensures.value in
     ap (λ (ps : List g.row.P.Denot). record w { primitives = ps })
     (sym (change_none f w.primitives c.args.index p (ap f same ∙ g.met.P.Primitive.keeps_nothing p chosen taken keeps ∙ sym same)))
+
+pub returns-else-sides-eq2-clause-circuit : goal.returns-else-sides-eq2-clause-circuit
+returns-else-sides-eq2-clause-circuit g c =
+    let w : Wiring g.row.P.Denot = c.args.circuit.now in
+    let net : Net = net_of g.P.Primitive.behaviour w in
+    let one : (behaviour_at net.primitives c.args.index).sides ≡ 2 → ⊥ =
+    λ two. c.if-sides-eq2.false (c.sides.ensures ∙ ap (λ (b : Behaviour). b.sides) c.primitive-then-keeps.ensures.behaviour ∙ two) in
+    let none : None ≡ taken_for net c.args.items.now c.args.index = sym (no_mouth net c.args.index c.args.items.now c.requires.items one) in
+    c.settle-else-sides-eq2.ensures.circuit
+    ∙ (λ t. record w { primitives = change_at (λ q. g.P.Primitive.settled q (c.chosen_for-chosen.ensures t) (none t)) w.primitives c.args.index })
