@@ -6,3 +6,4 @@ pub mod Between
 pub mod Others
 pub mod Reached
 mod Fresh
+pub mod Treating

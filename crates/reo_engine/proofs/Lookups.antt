@@ -5,7 +5,8 @@ use Rattle.std.proofs.lemmas.List.{length-map}
 use Rattle.reo_values.proofs.Truths.{not_both}
 use Rattle.reo_net_base.specs.Behaviour.{Behaviour, nothing}
 use Rattle.reo_net_base.specs.Net.{Net, Wiring, net_of, behaviour_at}
-use Rattle.reo_net_base.specs.Shapes.{SameNetShape}
+use Rattle.reo_net_base.specs.Lawful.{TreatsAlike}
+use Rattle.reo_net_base.specs.Shapes.{SameNetShape, TreatAlike}
 use Rattle.reo_net_base.specs.Step.{change_at}
 use Rattle.reo_net_base.specs.Wired.{IsWired}
 use Rattle.reo_net_circuit.proofs.Cases.{eq_cases}
@@ -25,6 +26,7 @@ use Rattle.reo_stepping.proofs.Far.{ends_kept}
 use Rattle.reo_engine.specs.Changes.{OthersStay}
 use Rattle.reo_engine.specs.Engine.{IsLookedUp}
 use Rattle.reo_engine.specs.Settled.{StaySettled}
+use Rattle.reo_engine.proofs.Treating.{one_treats}
 
 -- What is looked up stays right where nothing changes at a part that is still settled.
 looked_up_elsewhere : (net other : Net) → IsWired net → IsWired other → (later : ℕ) (knots : Knotted) (ends : List (List ℕ)) (old new : Kept)
@@ -83,10 +85,11 @@ module _ {P : Type 0} (behaviour : P → Behaviour) where
   -- And so does what is looked up beside.
   pub one_held : (old new : Wiring P) (f : P → P) (port : ℕ) → IsWired (net_of behaviour old) → SameNetShape behaviour old new
       → new ≡ record old { primitives = change_at f old.primitives port } → (knots : Knotted) → AreKnots (net_of behaviour old) knots → (kept now : Kept) (lookups : Lookups)
-      → AreLookups (net_of behaviour old) knots kept lookups → IsUnsettled (net_of behaviour old) knots port kept now → AreLookups (net_of behaviour new) knots now lookups
-  one_held old new f port wired shape is knots are_knots kept now lookups held unsettled =
+      → AreLookups (net_of behaviour old) knots kept lookups → IsUnsettled (net_of behaviour old) knots port kept now → ((p : P) → TreatsAlike (behaviour p) (behaviour (f p)))
+      → AreLookups (net_of behaviour new) knots now lookups
+  one_held old new f port wired shape is knots are_knots kept now lookups held unsettled alike =
       lookups_stay (net_of behaviour old) (net_of behaviour new) wired knots are_knots kept now unsettled.fewer
-      (one_elsewhere old new f port shape is knots kept now unsettled) lookups held
+      (one_elsewhere old new f port shape is knots kept now unsettled) (one_treats behaviour f alike old new port is) lookups held
 
   -- Over a round nothing changes at a part that is still settled, once the parts that it marks and those that move are unsettled.
   pub round_elsewhere : (old new : Wiring P) (marks : List Bool) → SameNetShape behaviour old new
@@ -124,10 +127,11 @@ module _ {P : Type 0} (behaviour : P → Behaviour) where
   pub round_held : (old new : Wiring P) (marks : List Bool) → IsWired (net_of behaviour old) → SameNetShape behaviour old new
       → OthersStay marks old.primitives new.primitives → length marks ≡ length old.primitives → (knots : Knotted) → AreKnots (net_of behaviour old) knots → (kept some now : Kept)
       → (lookups : Lookups) → AreLookups (net_of behaviour old) knots kept lookups
-      → AreMarkedUnsettled (net_of behaviour old) knots marks (length marks) kept some → AreMovingUnsettled some now → AreLookups (net_of behaviour new) knots now lookups
-  round_held old new marks wired shape stay one_each knots are_knots kept some now lookups held marked moving =
+      → AreMarkedUnsettled (net_of behaviour old) knots marks (length marks) kept some → AreMovingUnsettled some now → TreatAlike (map behaviour old.primitives) (map behaviour new.primitives)
+      → AreLookups (net_of behaviour new) knots now lookups
+  round_held old new marks wired shape stay one_each knots are_knots kept some now lookups held marked moving alike =
       lookups_stay (net_of behaviour old) (net_of behaviour new) wired knots are_knots kept now (fewer_twice kept some now marked.fewer moving.fewer)
-      (round_elsewhere old new marks shape stay one_each knots kept some now marked moving) lookups held
+      (round_elsewhere old new marks shape stay one_each knots kept some now marked moving) alike lookups held
 
 -- Over a round the parts that are not marked and do not move stay settled.
 pub stay_settled : (net : Net) (knots : Knotted) (marks : List Bool) (old some now : Kept) → AreMarkedUnsettled net knots marks (length marks) old some → AreMovingUnsettled some now → StaySettled net knots marks old now

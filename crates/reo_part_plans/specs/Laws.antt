@@ -1,12 +1,12 @@
 -- What is remembered stays right.
 use Rattle.std.specs.Prelude.{◌≡◌, List}
 use Rattle.reo_net_base.specs.Net.{Net}
-use Rattle.reo_net_base.specs.Shapes.{SameShapes}
+use Rattle.reo_net_base.specs.Shapes.{SameShapes, TreatAlike}
 use Rattle.reo_knots.specs.Knots.{Knotted}
 use Rattle.reo_part_plans.specs.declared.plans.PartPlans.{PartPlans}
 use Rattle.reo_part_plans.specs.Remembered.{ArePlans}
 
--- What is remembered of the parts of a circuit is right for each circuit of the same shape, whatever its state.
+-- What is remembered of the parts of a circuit is right for each circuit of the same shape that treats items alike, whatever its state.
 abbrev pub PlansStay : Type 0
-PlansStay = (net other : Net) → other.joints ≡ net.joints → SameShapes net.primitives other.primitives
+PlansStay = (net other : Net) → other.joints ≡ net.joints → SameShapes net.primitives other.primitives → TreatAlike net.primitives other.primitives
     → (knots : Knotted) (parts : List PartPlans) → ArePlans net knots parts → ArePlans other knots parts

@@ -1,3 +1,5 @@
+pub mod Alike
+pub mod Given
 pub mod Looks
 pub mod Remembered
 pub mod Laws

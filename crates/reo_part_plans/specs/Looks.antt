@@ -1,23 +1,16 @@
 -- What is looked at of the sides of a part.
-use Rattle.std.specs.Prelude.{ℕ, ◌-◌, ◌%◌, ◌<◌, ◌≡◌, true, List, length, slice_index, slice_index_or}
-use Rattle.reo_values.specs.declared.value.Value.{Value}
+use Rattle.std.specs.Prelude.{ℕ, ◌-◌, ◌%◌, ◌<◌, ◌≡◌, List, length, slice_index, slice_index_or}
 use Rattle.reo_net_base.specs.declared.form.Form.{Form}
-use Rattle.reo_net_base.specs.Behaviour.{Behaviour, IsEndOf}
+use Rattle.reo_net_base.specs.Behaviour.{Behaviour}
 use Rattle.reo_net_base.specs.Forms.{HasForm, number_in, period_in}
 use Rattle.reo_net_base.specs.Net.{Net, Side, all_sides}
 use Rattle.reo_part_plans.specs.declared.looks.Look.{Look}
 
--- Each row of a side lets each item in.
-abbrev pub LetsIn : Behaviour → ℕ → Type 0
-LetsIn b side = (row end : ℕ) (item : Value) → row < b.rows side → IsEndOf b side end → b.takes_in end ≡ true
-    → b.passes side row end item ≡ true
-
 -- What is looked at of a side in the round of a number: the number of its form, and after how many rounds since its
--- classes were as in the first one. The side lets each item in by each row.
+-- classes were as in the first one.
 pub record IsLookAt (b : Behaviour) (side turn : ℕ) (look : Look) : Type 0 where
   pub form : Form
   pub has : HasForm form b side
-  pub lets_in : LetsIn b side
   pub number : look.number ≡ number_in form
   pub rest : look.rest ≡ (turn - 1) % period_in form
 

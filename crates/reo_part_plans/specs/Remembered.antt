@@ -1,7 +1,7 @@
 -- Rows that are remembered.
 use Rattle.std.specs.Prelude.{ℕ, ◌<◌, ◌≤◌, ◌≡◌, Bool, List, [], length, slice_index_or}
 use Rattle.reo_net_base.specs.Net.{Net}
-use Rattle.reo_net_base.specs.Shapes.{SameShapes}
+use Rattle.reo_net_base.specs.Shapes.{SameShapes, TreatAlike}
 use Rattle.reo_net_base.specs.Wired.{IsWired}
 use Rattle.reo_net_laws.specs.Sublists.{part_rows}
 use Rattle.reo_knots.specs.Knots.{Knotted, in_knot, knot_count}
@@ -10,19 +10,23 @@ use Rattle.reo_state_laws.specs.States.{AreFirstRows}
 use Rattle.reo_item_bounds.specs.Bounds.{HasBounds}
 use Rattle.reo_part_plans.specs.declared.entry.Entry.{Entry}
 use Rattle.reo_planning.specs.Written.{AreWritten}
+use Rattle.reo_part_plans.specs.Given.{Decide, AreGiven}
 use Rattle.reo_part_plans.specs.Looks.{IsKey}
 use Rattle.reo_part_plans.specs.declared.plans.PartPlans.{PartPlans}
 
--- An entry is right for a set of sides of a circuit: in some circuit of the same shape, in some round, its key was that
--- of the sides, its rows were those of the first assignment, by which just its joints flowed, and by bounds that tables
--- tell there were at most so many choices of values at loop joints.
+-- An entry is right for a set of sides of a circuit: in some circuit of the same shape that treats items alike, in some
+-- round, its key was that of the sides, its items were what decided besides, its rows were those of the first
+-- assignment, by which just its joints flowed, and by bounds that tables tell there were at most so many choices of
+-- values at loop joints.
 pub record IsRemembered (net : Net) (inside : ℕ → Bool) (sides : List ℕ) (entry : Entry) : Type 0 where
   pub before : Net
   pub turn : ℕ
   pub wired : IsWired before
   pub joints : net.joints ≡ before.joints
   pub shapes : SameShapes before.primitives net.primitives
+  pub alike : TreatAlike before.primitives net.primitives
   pub key : IsKey before sides turn entry.key
+  pub items : Decide before sides entry.items
   pub from : List ℕ
   pub first : AreFirstRows before inside turn from
   pub rows : entry.rows ≡ part_rows sides from
@@ -51,10 +55,11 @@ pub record IsWrittenDown (entry : Entry) (sides : List ℕ) (budget : ℕ) (old 
   pub written : (from : List ℕ) → entry.rows ≡ part_rows sides from → AreWritten sides from old new
   pub flowing_is : flowing ≡ entry.flowing
 
--- An entry whose key is that of some sides in the round of a number.
+-- An entry whose key is that of some sides in the round of a number, at which the state gives its items.
 abbrev pub IsFoundAt : Net → List ℕ → ℕ → List Entry → ℕ → Type 0
 IsFoundAt net sides turn entries place = (place < length entries)
-    × ((d : Entry) → IsKey net sides turn (slice_index_or entries place d).key)
+    × ((d : Entry) → IsKey net sides turn (slice_index_or entries place d).key
+    × AreGiven net sides (slice_index_or entries place d).items)
 
 -- Such an entry was written down.
 pub record IsRecalled (net : Net) (sides : List ℕ) (turn budget : ℕ) (entries : List Entry) (old new flowing : List ℕ)

@@ -6,14 +6,16 @@ ghost use Rattle.reo_part_plans.specs.Remembered.{IsWrittenDown};
 use crate::looks::Look;
 use reo_flowing::copy_over;
 use reo_planning::put_rows;
-use reo_values::{List, NoMemory};
+use reo_values::{List, NoMemory, Value};
 use std::alloc::Global;
 
-/// The rows of a part, remembered by what was looked at of its sides, with the joints that flow by
-/// them, and how many choices of values its loop joints have at most.
+/// The rows of a part, remembered by what was looked at of its sides and the items that decide
+/// besides, with the joints that flow by them, and how many choices of values its loop joints have
+/// at most.
 #[derive(Drop)]
 pub struct Entry {
     pub key: List<Look>,
+    pub items: List<Option<Value>>,
     pub rows: List<u32>,
     pub flowing: List<usize>,
     pub choices: u64,

@@ -2,12 +2,13 @@
 #![tactic(auto)]
 
 mod entry;
+mod given;
 mod laws;
 mod looks;
 mod plans;
 mod searching;
 
 pub use entry::Entry;
-pub use laws::plans_stay;
+pub use laws::{alike_same_rows, plans_stay};
 pub use looks::Look;
 pub use plans::Plans;

@@ -29,8 +29,7 @@ fn rest(form: Form, turn: u64) -> u64
     }
 }
 
-/// What is looked at of a side in the round of a number: `None` where its table is of no form, or
-/// some row does not let each item in.
+/// What is looked at of a side in the round of a number: `None` where its table is of no form.
 fn look_at<P: Primitive>(circuit: &Circuit<P>, side: usize, turn: u64) -> Option<Look>
     requires side { side < side_count (net_of P.behaviour circuit.now) }
     requires turn { 1 ≤ turn }
@@ -41,9 +40,6 @@ fn look_at<P: Primitive>(circuit: &Circuit<P>, side: usize, turn: u64) -> Option
     circuit.known();
     let owner = circuit.owner(side);
     let primitive = circuit.primitive(owner.primitive);
-    if !primitive.is_open(owner.side) {
-        return None;
-    }
     match primitive.form(owner.side) {
         None => None,
         Some(form) => Some(Look {
@@ -64,9 +60,6 @@ fn is_look_at<P: Primitive>(circuit: &Circuit<P>, side: usize, turn: u64, look: 
     circuit.known();
     let owner = circuit.owner(side);
     let primitive = circuit.primitive(owner.primitive);
-    if !primitive.is_open(owner.side) {
-        return false;
-    }
     match primitive.form(owner.side) {
         None => false,
         Some(form) => form.number() == look.number && rest(form, turn) == look.rest,

@@ -10,6 +10,7 @@ ghost use Rattle.reo_planning.specs.Planned.{IsPartPlanned};
 ghost use Rattle.reo_part_plans.specs.Remembered.{AreNew, ArePlans, IsFoundAt, IsRecalled};
 
 use crate::entry::{Entry, rows_at};
+use crate::given::{are_given, deciding};
 use crate::looks::{Look, is_key, look_at_all};
 use crate::searching::find;
 use reo_flowing::copy_over;
@@ -23,7 +24,7 @@ use std::marker::Model;
 /// The most entries of a part.
 const MOST: usize = 256;
 
-/// The most looks that the entries of a part have together.
+/// The most looks and items that the entries of a part have together.
 const ROOM: usize = 65_536;
 
 /// How many entries more may be added in vain, before no more are.
@@ -51,8 +52,12 @@ pub struct Plans {
 impl Model for Plans {
     ghost use Rattle.std.specs.Prelude.{List};
     ghost use Rattle.reo_part_plans.specs.declared.plans.PartPlans.{PartPlans as OfPart};
+    ghost use Rattle.std.specs.Coded.{codes};
+    ghost use Rattle.reo_values.specs.contracts.value.Value as item;
 
     ghost Value = { List OfPart };
+
+    ghost coded = { Prim.hlevel (codes, item.the_row.coded) };
 
     ghost view = { λ p. p.parts };
 }
@@ -70,10 +75,10 @@ impl PartPlans {
         }
     }
 
-    /// Whether more is to be remembered of a part with so many sides.
-    fn has_room(&self, sides: usize) -> bool {
+    /// Whether more is to be remembered of a part with so many looks and items.
+    fn has_room(&self, size: usize) -> bool {
         let count = self.entries.len();
-        self.misses < TRIES && count < MOST && count.saturating_mul(sides) < ROOM
+        self.misses < TRIES && count < MOST && count.saturating_mul(size) < ROOM
     }
 
     /// Notes that the entry of this place came after the one that came last.
@@ -122,9 +127,9 @@ impl PartPlans {
         }
     }
 
-    /// The place of the entry with the key that some sides have in the round of a number, if there
-    /// is one. The one that is next is tried while the sides are looked at; for the others the key
-    /// is written down first.
+    /// The place of the entry with the key that some sides have in the round of a number, and whose
+    /// items the state gives there, if there is one. The one that is next is tried while the sides
+    /// are looked at; for the others the key is written down first.
     fn place_of<P: Primitive>(
         &self,
         circuit: &Circuit<P>,
@@ -141,13 +146,17 @@ impl PartPlans {
         let Some(next) = self.next() else {
             return Ok(None);
         };
-        if is_key(circuit, sides, turn, self.entries.at(next).key.as_slice()) {
+        let entry = self.entries.at(next);
+        let items = entry.items.as_slice();
+        if (items.len() == 0 || are_given(circuit, sides, items))
+            && is_key(circuit, sides, turn, entry.key.as_slice())
+        {
             return Ok(Some(next));
         }
         if !look_at_all(circuit, sides, turn, key)? {
             return Ok(None);
         }
-        Ok(find(&self.entries, key.as_slice(), next))
+        Ok(find(&self.entries, circuit, sides, key.as_slice(), next))
     }
 
     /// Writes the rows of the entry with the key that some sides have in the round of a number and
@@ -243,8 +252,9 @@ impl Plans {
 
     /// Remembers the rows of the first assignment of a part for each round in which the part is in
     /// the state in which it is now, with the joints of the part that flow by them, and how many
-    /// choices of values its loop joints have at most. Nothing is remembered where the items decide
-    /// too, or there is no room.
+    /// choices of values its loop joints have at most. Where some row does not let each item in,
+    /// the items that the state gives are part of it. Nothing is remembered where they are not
+    /// told, or there is no room.
     ///
     /// # Errors
     ///
@@ -278,6 +288,17 @@ impl Plans {
         if !self.parts.at(part).has_room(sides.len()) {
             return Ok(());
         }
+        let Some(items) = deciding(alloc, circuit, sides)? else {
+            self.parts.at_mut(part).give_up();
+            return Ok(());
+        };
+        if !self
+            .parts
+            .at(part)
+            .has_room(sides.len().saturating_add(items.len()))
+        {
+            return Ok(());
+        }
         let mut key = List::new(alloc);
         if !look_at_all(circuit, sides, turn, &mut key)? {
             self.parts.at_mut(part).give_up();
@@ -288,6 +309,7 @@ impl Plans {
         copy_over(&mut joints, flowing)?;
         let entry = Entry {
             key,
+            items,
             rows,
             flowing: joints,
             choices,

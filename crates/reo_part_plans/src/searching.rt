@@ -1,9 +1,15 @@
 //! Finding an entry by its key.
-ghost use Rattle.std.specs.Prelude.{◌≡◌, ◌<◌, ◌≤◌, IfSome, IsTrue, length, slice_index_or};
+ghost use Rattle.std.specs.Prelude.{◌≡◌, ◌<◌, ◌≤◌, ℕ, IfSome, IsTrue, length, slice_index, slice_index_or};
+ghost use Rattle.reo_net_base.specs.Net.{net_of};
+ghost use Rattle.reo_net_base.specs.Sides.{side_count};
+ghost use Rattle.reo_part_plans.specs.Given.{AreGiven};
 ghost use Rattle.reo_part_plans.specs.declared.entry.Entry.{Entry as Remembered};
 
 use crate::entry::Entry;
+use crate::given::are_given;
 use crate::looks::Look;
+use reo_net_base::Primitive;
+use reo_net_circuit::Circuit;
 use reo_values::List;
 
 /// Whether two keys are the same.
@@ -21,29 +27,53 @@ fn is_same(key: &[Look], other: &[Look]) -> bool
     true
 }
 
-/// The place of an entry with a key, looked for among so many, from a place on.
-fn find_among(entries: &List<Entry>, key: &[Look], from: usize, to: usize) -> Option<usize>
-    requires { to ≤ length entries.now }
+/// The place of an entry with a key whose items the state gives at some sides, looked for from a
+/// place on, up to another.
+fn find_among<P: Primitive>(
+    entries: &List<Entry>,
+    circuit: &Circuit<P>,
+    sides: &[usize],
+    key: &[Look],
+    from: usize,
+    to: usize,
+) -> Option<usize>
+    requires places { to ≤ length entries.now }
+    requires sides { (m : ℕ) → m < length sides.now
+        → slice_index sides.now m < side_count (net_of P.behaviour circuit.now) }
     ensures { IfSome result (λ place. (place < length entries.now)
-        × ((d : Remembered) → (slice_index_or entries.now place d).key ≡ key.now)) }
+        × ((d : Remembered) → ((slice_index_or entries.now place d).key ≡ key.now)
+        × AreGiven (net_of P.behaviour circuit.now) sides.now
+        (slice_index_or entries.now place d).items)) }
 {
     for place in from..to {
-        if is_same(entries.at(place).key.as_slice(), key) {
+        let entry = entries.at(place);
+        if are_given(circuit, sides, entry.items.as_slice()) && is_same(entry.key.as_slice(), key) {
             return Some(place);
         }
     }
     None
 }
 
-/// The place of an entry with a key, looked for from a place on, and then from the first on.
-pub(crate) fn find(entries: &List<Entry>, key: &[Look], from: usize) -> Option<usize>
+/// The place of an entry with a key whose items the state gives at some sides, looked for from a
+/// place on, and then from the first on.
+pub(crate) fn find<P: Primitive>(
+    entries: &List<Entry>,
+    circuit: &Circuit<P>,
+    sides: &[usize],
+    key: &[Look],
+    from: usize,
+) -> Option<usize>
+    requires { (m : ℕ) → m < length sides.now
+        → slice_index sides.now m < side_count (net_of P.behaviour circuit.now) }
     ensures { IfSome result (λ place. (place < length entries.now)
-        × ((d : Remembered) → (slice_index_or entries.now place d).key ≡ key.now)) }
+        × ((d : Remembered) → ((slice_index_or entries.now place d).key ≡ key.now)
+        × AreGiven (net_of P.behaviour circuit.now) sides.now
+        (slice_index_or entries.now place d).items)) }
 {
     let count = entries.len();
     let from = from.min(count);
-    match find_among(entries, key, from, count) {
+    match find_among(entries, circuit, sides, key, from, count) {
         Some(place) => Some(place),
-        None => find_among(entries, key, 0, from),
+        None => find_among(entries, circuit, sides, key, 0, from),
     }
 }

@@ -67,14 +67,14 @@ marks_stay net other joints shapes marks is = record {
 }
 
 pub lookups_stay : LookupsStay
-lookups_stay net other wired knots are old new fewer is lookups held = record {
+lookups_stay net other wired knots are old new fewer is alike lookups held = record {
   orders = orders_stay net other wired is.joints is.shapes knots lookups.orders held.orders;
   one_list = held.one_list;
   flowing = told_stays net other wired knots old new fewer is lookups held.flowing;
   one_each = held.one_each;
   tables = tables_elsewhere net other wired knots are old new fewer is lookups.fresh lookups.tables held.tables;
   bounds = kept_bounds_stay net other is.joints is.shapes lookups.bounds held.bounds;
-  plans = plans_stay net other is.joints is.shapes knots lookups.plans held.plans;
+  plans = plans_stay net other is.joints is.shapes alike knots lookups.plans held.plans;
   marks = marks_stay net other is.joints is.shapes lookups.marks held.marks;
 }
 

@@ -1,6 +1,7 @@
 -- What is looked up when parts are settled.
 use Rattle.std.specs.Prelude.{ℕ, ◌<◌, ◌≤◌, ◌≡◌, ◌≢◌, Bool, true, [], length, slice_index_or}
 use Rattle.reo_net_base.specs.Net.{Net}
+use Rattle.reo_net_base.specs.Shapes.{TreatAlike}
 use Rattle.reo_net_base.specs.Wired.{IsWired}
 use Rattle.reo_knots.specs.Knots.{Knotted, AreKnots, knot_count}
 use Rattle.reo_kept_tables.specs.Orders.{AreOrders}
@@ -41,10 +42,12 @@ pub record AreSteady (net : Net) (knots : Knotted) (lookups : Lookups) : Type 0 
   pub plans : ArePlans net knots lookups.plans
   pub marks : IsMarkSearch net lookups.marks
 
--- What is looked up stays right where a circuit changes at no primitive of a part that is still settled.
+-- What is looked up stays right where a circuit changes at no primitive of a part that is still settled, and nothing
+-- changes in what is done with items.
 abbrev pub LookupsStay : Type 0
 LookupsStay = (net other : Net) → IsWired net → (knots : Knotted) → AreKnots net knots
     → (old new : Kept) → AreFewer old new → IsElsewhere net other knots new
+    → TreatAlike net.primitives other.primitives
     → (lookups : Lookups) → AreLookups net knots old lookups → AreLookups other knots new lookups
 
 -- Of parts that are not settled the tables are not fresh any more, and all else stays.

@@ -5,6 +5,7 @@ use Rattle.reo_planning.proofs.Setting.{fewer_twice}
 use Rattle.reo_engine.proofs.FlowsLemmas.{flows_stay}
 use Rattle.reo_engine.proofs.Lookups.{round_elsewhere, round_held, round_made, stay_settled}
 use Rattle.reo_engine.proofs.Others.{others_stay}
+use Rattle.reo_engine.proofs.Treating.{round_treats}
 use Rattle.reo_engine.proofs.engine.Engine.commit.Goals as goal
 
 pub returns-clause-others : goal.returns-clause-others
@@ -34,7 +35,8 @@ invariant_of-self g c =
           c.self.inside.rounds c.self.inside.knots c.self.inside.ends c.self.inside.kept c.unsettle_marked.new.self c.unsettle_moving.new.self old.3 c.unsettle_marked.ensures c.unsettle_moving.ensures,
       round_held g.P.Primitive.behaviour now c.step.new.self c.mark_flowing.new.marks c.known.ensures.wired c.step.ensures.shape others marks
           c.self.inside.knots old.3.are_knots c.self.inside.kept c.unsettle_marked.new.self c.unsettle_moving.new.self c.self.inside.lookups old.4
-          c.unsettle_marked.ensures c.unsettle_moving.ensures,
+          c.unsettle_marked.ensures c.unsettle_moving.ensures
+          (round_treats g.P.Primitive.behaviour g.P.Primitive.settled g.met.P.Primitive.settled_alike now c.step.new.self c.args.plan.colouring.rows c.args.plan.colouring.items c.step.ensures.circuit),
       flows_stay (net_of g.P.Primitive.behaviour now) (net_of g.P.Primitive.behaviour c.step.new.self) c.self.inside.knots c.self.inside.kept c.unsettle_moving.new.self
           (fewer_twice c.self.inside.kept c.unsettle_marked.new.self c.unsettle_moving.new.self c.unsettle_marked.ensures.fewer c.unsettle_moving.ensures.fewer)
           (round_elsewhere g.P.Primitive.behaviour now c.step.new.self c.mark_flowing.new.marks c.step.ensures.shape others marks c.self.inside.knots c.self.inside.kept c.unsettle_marked.new.self c.unsettle_moving.new.self

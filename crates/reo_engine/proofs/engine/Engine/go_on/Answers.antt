@@ -7,6 +7,7 @@ use Rattle.reo_engine.proofs.Between.{marked_unsettled, moving_again}
 use Rattle.reo_engine.proofs.Others.{others_stay}
 use Rattle.reo_engine.proofs.FlowsLemmas.{flows_stay, held_among}
 use Rattle.reo_engine.proofs.Lookups.{round_elsewhere, round_held, round_made, stay_settled}
+use Rattle.reo_engine.proofs.Treating.{round_treats}
 use Rattle.reo_engine.proofs.engine.Engine.go_on.Goals as goal
 
 pub unsettle_between-requires-clause-marks : goal.unsettle_between-requires-clause-marks
@@ -69,7 +70,8 @@ invariant_of-self g c =
       round_made g.P.Primitive.behaviour now c.step_marked.new.circuit standing.marks c.known.ensures.wired c.known-2.ensures.wired shape others marks
           c.self.inside.rounds c.self.inside.knots c.self.inside.ends c.self.inside.kept c.unsettle_moving.new.self c.unsettle_moving.new.self old.3 unsettled moving,
       round_held g.P.Primitive.behaviour now c.step_marked.new.circuit standing.marks c.known.ensures.wired shape others marks
-          c.self.inside.knots old.3.are_knots c.self.inside.kept c.unsettle_moving.new.self c.unsettle_moving.new.self c.self.inside.lookups old.4 unsettled moving,
+          c.self.inside.knots old.3.are_knots c.self.inside.kept c.unsettle_moving.new.self c.unsettle_moving.new.self c.self.inside.lookups old.4 unsettled moving
+          (round_treats g.P.Primitive.behaviour g.P.Primitive.settled g.met.P.Primitive.settled_alike now c.step_marked.new.circuit standing.colouring.rows standing.colouring.items step),
       record {
         blank = subst (λ n. AreBlank n c.cleared.result) count c.cleared.ensures;
         marks = ap (λ (xs : List Bool). length xs) c.replace.ensures.value ∙ old.1 ∙ sym before ∙ sym shape.primitives.count;

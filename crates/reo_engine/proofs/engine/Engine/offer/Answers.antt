@@ -19,7 +19,7 @@ invariant_of-self g c =
       one_changes g.P.Primitive.behaviour c.self.inside.circuit c.place.new.self (λ p. g.P.Ported.placed p c.args.offer) c.args.port c.known.ensures.wired c.known-in-None.ensures.wired c.place.ensures.shape.net
           c.place.ensures.circuit c.self.inside.rounds c.self.inside.knots c.self.inside.ends c.self.inside.kept c.unsettle.new.self old.3 c.unsettle.ensures,
       one_held g.P.Primitive.behaviour c.self.inside.circuit c.place.new.self (λ p. g.P.Ported.placed p c.args.offer) c.args.port c.known.ensures.wired c.place.ensures.shape.net
-          c.place.ensures.circuit c.self.inside.knots old.3.are_knots c.self.inside.kept c.unsettle.new.self c.self.inside.lookups old.4 c.unsettle.ensures,
+          c.place.ensures.circuit c.self.inside.knots old.3.are_knots c.self.inside.kept c.unsettle.new.self c.self.inside.lookups old.4 c.unsettle.ensures (λ p. g.met.P.Ported.placed_alike p c.args.offer),
       flows_stay (net_of g.P.Primitive.behaviour c.self.inside.circuit) (net_of g.P.Primitive.behaviour c.place.new.self) c.self.inside.knots c.self.inside.kept c.unsettle.new.self c.unsettle.ensures.fewer
           (one_elsewhere g.P.Primitive.behaviour c.self.inside.circuit c.place.new.self (λ p. g.P.Ported.placed p c.args.offer) c.args.port c.place.ensures.shape.net
           c.place.ensures.circuit c.self.inside.knots c.self.inside.kept c.unsettle.new.self c.unsettle.ensures) c.self.inside.flows old.5,

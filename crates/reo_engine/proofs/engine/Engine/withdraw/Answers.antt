@@ -19,7 +19,7 @@ invariant_of-self g c =
       one_changes g.P.Primitive.behaviour c.self.inside.circuit c.withdraw.new.self g.P.Ported.withdrawn c.args.port c.known.ensures.wired c.known-2.ensures.wired c.withdraw.ensures.shape.net
           c.withdraw.ensures.circuit c.self.inside.rounds c.self.inside.knots c.self.inside.ends c.self.inside.kept c.unsettle.new.self old.3 c.unsettle.ensures,
       one_held g.P.Primitive.behaviour c.self.inside.circuit c.withdraw.new.self g.P.Ported.withdrawn c.args.port c.known.ensures.wired c.withdraw.ensures.shape.net
-          c.withdraw.ensures.circuit c.self.inside.knots old.3.are_knots c.self.inside.kept c.unsettle.new.self c.self.inside.lookups old.4 c.unsettle.ensures,
+          c.withdraw.ensures.circuit c.self.inside.knots old.3.are_knots c.self.inside.kept c.unsettle.new.self c.self.inside.lookups old.4 c.unsettle.ensures g.met.P.Ported.withdrawn_alike,
       flows_stay (net_of g.P.Primitive.behaviour c.self.inside.circuit) (net_of g.P.Primitive.behaviour c.withdraw.new.self) c.self.inside.knots c.self.inside.kept c.unsettle.new.self c.unsettle.ensures.fewer
           (one_elsewhere g.P.Primitive.behaviour c.self.inside.circuit c.withdraw.new.self g.P.Ported.withdrawn c.args.port c.withdraw.ensures.shape.net
           c.withdraw.ensures.circuit c.self.inside.knots c.self.inside.kept c.unsettle.new.self c.unsettle.ensures) c.self.inside.flows old.5,
