@@ -22,6 +22,7 @@ module _ (net : Net) (knots : Knotted) (rows : List ℕ) where
     pub marked_more : (flag : Bool) → is_settled now n ≡ false → n < length now.settled → n < length now.moving → TellsFlow net (in_knot knots.numbers n) rows flag
         → AreMarked net knots rows (n + 1) old (record now { settled = set now.settled n true; moving = set now.moving n flag })
     marked_more flag is settled_in moving_in tells = record {
+      kept = far.kept;
       one_each = length-set now.settled n true ∙ far.one_each;
       one_mark = length-set now.moving n flag ∙ far.one_mark;
       settled = λ k lt. elim (eq_cases k n) [
@@ -45,6 +46,7 @@ module _ (net : Net) (knots : Knotted) (rows : List ℕ) where
   -- No part is marked yet.
   pub marked_none : (old : Kept) → AreMarked net knots rows 0 old old
   marked_none old = record {
+    kept = refl;
     one_each = refl;
     one_mark = refl;
     settled = λ k lt. absurd (omega arith);
@@ -58,6 +60,7 @@ module _ (net : Net) (knots : Knotted) (rows : List ℕ) where
   marked_next n next old now in_range is far =
       let on = is.from_on in
       record {
+        kept = far.kept;
         one_each = far.one_each;
         one_mark = far.one_mark;
         settled = λ k lt. elim (cases_lt k n) [

@@ -12,9 +12,10 @@ pub record TellsFlow (net : Net) (inside : ℕ → Bool) (rows : List ℕ) (flag
   pub flows : flag ≡ true → FlowsIn net inside rows
 
 -- The first n parts are settled. Those that were settled have the flags that they had, and the
--- flags of the others among these tell whether something flows there by some rows.
+-- flags of the others among these tell whether something flows there by some rows. The rows that are kept stay.
 pub record AreMarked (net : Net) (knots : Knotted) (rows : List ℕ) (n : ℕ) (old new : Kept)
     : Type 0 where
+  pub kept : new.rows ≡ old.rows
   pub one_each : length new.settled ≡ length old.settled
   pub one_mark : length new.moving ≡ length old.moving
   pub settled : (k : ℕ) → k < n → is_settled new k ≡ true

@@ -69,6 +69,7 @@ impl Kept {
             → IsKept net knots.now turn self.new }
         ensures settled { AllServe (knot_count knots.now) budget self.new }
         ensures rows { self.new.rows ≡ rows }
+        ensures before { result ≡ self.old.rows }
     {
         circuit.known();
         let _order = circuit.order();

@@ -1,4 +1,4 @@
-use Rattle.std.proofs.Common.{ℕ, List, subst}
+use Rattle.std.proofs.Common.{ℕ, List, subst, ◌∙◌}
 use Rattle.reo_net_base.specs.Net.{Net, net_of}
 use Rattle.reo_knots.specs.Knots.{knot_count}
 use Rattle.reo_planning.specs.Marked.{AreMarked}
@@ -16,3 +16,6 @@ mark_rest-requires-clause-rows g c = rw c.as_slice.ensures c.requires.rows
 
 pub mark_rest-requires-clause-flowing : goal.mark_rest-requires-clause-flowing
 mark_rest-requires-clause-flowing g c = rw c.as_slice.ensures c.requires.flowing
+
+pub returns-clause-before : goal.returns-clause-before
+returns-clause-before g c = c.replace.ensures.value ∙ c.mark_rest.ensures.kept
