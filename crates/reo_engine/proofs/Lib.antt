@@ -7,3 +7,4 @@ pub mod Others
 pub mod Reached
 mod Fresh
 pub mod Treating
+pub mod Covering

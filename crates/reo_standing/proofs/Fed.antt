@@ -67,7 +67,7 @@ module _ (net : Net) (wired : IsWired net) (rows : List ℕ) (are : AreRowsOf ne
   pub given_front : (items : List (Option Value)) → NoneGoes net (length net.joints) (side_at net e) → (front : Option Value) → GivesFront front b → (item : Value) → front ≡ Some item → given_at net rows items e ≡ Some item
   given_front items nothing front law item is =
       elim (b.from side row e.end) as (λ o. b.from side row e.end ≡ o → given_at net rows items e ≡ Some item) [
-        | None ↦ λ none. given_none net rows items e none ∙ law side row e.end item is gives none
+        | None ↦ λ none. given_none net rows items e none ∙ law side row e.end item None is gives none
         | Some from ↦ λ some. let found = source from some in absurd (nothing found.0 (source_goes from found.0 found.1))
       ] refl
 

@@ -1,5 +1,5 @@
 -- A circuit of which the first so many primitives have gone on.
-use Rattle.std.proofs.Common.{◌≡◌, ◌≢◌, ◌∙◌, inl, inr, ℕ, zero, suc, ◌+◌, ◌<◌, ◌≤◌, true, List, [], ◌∷◌, ◌++◌, length, map, get_or, set, take, drop, ap, sym, subst, refl, arith, append-nil}
+use Rattle.std.proofs.Common.{◌≡◌, ◌≢◌, ◌∙◌, ◌⊎◌, inl, inr, ℕ, zero, suc, ◌+◌, ◌<◌, ◌≤◌, Bool, true, false, List, [], ◌∷◌, ◌++◌, length, map, get_or, set, take, drop, ap, sym, subst, refl, arith, append-nil}
 use Rattle.std.specs.Prelude.{Option, None, cond, ◌==◌}
 use Rattle.std.specs.List.{position_or_len}
 use Rattle.std.proofs.lemmas.List.{length-map, length-set, get_or-map, take_all, drop_all}
@@ -10,6 +10,7 @@ use Rattle.reo_net_base.specs.declared.joint.End.{End}
 use Rattle.reo_net_base.specs.declared.joint.Joint.{Joint}
 use Rattle.reo_net_base.specs.Behaviour.{Behaviour, nothing}
 use Rattle.reo_net_base.specs.Colouring.{IsColouring}
+use Rattle.reo_net_base.specs.Lasting.{Lasting}
 use Rattle.reo_net_base.specs.Lawful.{SameShape, IsQuiet}
 use Rattle.reo_net_base.specs.Net.{Net, Wiring, net_of, all_sides, behaviour_at, first_side, is_at}
 use Rattle.reo_net_base.specs.Shapes.{SameShapes, SameNetShape}
@@ -85,6 +86,10 @@ ends_kept old new joints shapes table are = record {
           p_in,
           subst (λ (n : ℕ). e.end < n) (shapes.same e.primitive p_in).ends e_in.1,
         )
+
+true_or_false : (t : Bool) → (t ≡ true) ⊎ (t ≡ false)
+true_or_false true = inl refl
+true_or_false false = inr refl
 
 no_chosen : Chosen
 no_chosen = record { first = 0; second = 0 }
@@ -213,9 +218,20 @@ module _ {P : Type 0} (behaviour : P → Behaviour) where
             sym (append-nil w.primitives) ∙ ap (λ (ps : List P). ps ++ []) (sym (take_all k w.primitives le))
             ∙ ap (λ (qs : List P). take k w.primitives ++ settled_list settled qs (drop k (all_chosen (net_of behaviour start) rows)) (drop k (all_taken (net_of behaviour start) from))) (sym rest)
 
-    module _ (quiet : (p : P) (r : Chosen) → IsQuiet (behaviour p) r → settled p r None ≡ p) (wired : IsWired (net_of behaviour start)) (is : IsColouring (net_of behaviour start) rows from) where
+    module _ (lasting : P → Lasting) (quiet : (p : P) (r : Chosen) → IsQuiet (behaviour p) r → settled p r None ≡ p)
+        (keeps_nothing : (p : P) (r : Chosen) (taken : Option Value) → (lasting p).keeps ≡ false → settled p r taken ≡ p)
+        (wired : IsWired (net_of behaviour start)) (is : IsColouring (net_of behaviour start) rows from) where
+      -- One that keeps nothing stays as it is.
+      bare_stays : (n : ℕ) (w : Wiring P) (items : List (Option Value)) (d : P) → IsFar n w items → (lasting (get_or start.primitives n d)).keeps ≡ false
+          → change_at (λ p. settled p (chosen_for (net_of behaviour w) rows n) (taken_for (net_of behaviour w) items n)) w.primitives n ≡ w.primitives
+      bare_stays n w items d far bare =
+          let f : P → P = λ q. settled q (chosen_for (net_of behaviour w) rows n) (taken_for (net_of behaviour w) items n) in
+          let same : get_or w.primitives n d ≡ get_or start.primitives n d = same_at w.primitives start.primitives n d far.unsettled in
+          change_none f w.primitives n d
+          (ap f same ∙ keeps_nothing (get_or start.primitives n d) (chosen_for (net_of behaviour w) rows n) (taken_for (net_of behaviour w) items n) bare ∙ sym same)
+
       -- One of which no end flows stays as it is.
-      pub still_stays : (n : ℕ) (w : Wiring P) (items : List (Option Value)) → n < length start.primitives → IsFar n w items → (HasFlow (net_of behaviour start) rows n → ⊥)
+      still_stays : (n : ℕ) (w : Wiring P) (items : List (Option Value)) → n < length start.primitives → IsFar n w items → (HasFlow (net_of behaviour start) rows n → ⊥)
           → change_at (λ p. settled p (chosen_for (net_of behaviour w) rows n) (taken_for (net_of behaviour w) items n)) w.primitives n ≡ w.primitives
       still_stays n w items lt far still =
           let net : Net = net_of behaviour start in
@@ -230,12 +246,22 @@ module _ {P : Type 0} (behaviour : P → Behaviour) where
           change_none (λ q. settled q (chosen_for (net_of behaviour w) rows n) (taken_for (net_of behaviour w) items n)) w.primitives n d
           ((λ t. settled (same t) (chosen_same start w far.shape rows n lt t) (none t)) ∙ quiet p (chosen_for net rows n) rests ∙ sym same)
 
-      -- So those behind which none flows up to a place have gone on too.
+      -- One stays that keeps nothing or of which no end flows.
+      stays_at : (n : ℕ) (w : Wiring P) (items : List (Option Value)) (d : P) → n < length start.primitives → IsFar n w items
+          → ((lasting (get_or start.primitives n d)).keeps ≡ true → HasFlow (net_of behaviour start) rows n → ⊥)
+          → change_at (λ p. settled p (chosen_for (net_of behaviour w) rows n) (taken_for (net_of behaviour w) items n)) w.primitives n ≡ w.primitives
+      stays_at n w items d lt far still = elim (true_or_false (lasting (get_or start.primitives n d)).keeps) [
+        | inl keeps ↦ still_stays n w items lt far (still keeps)
+        | inr bare ↦ bare_stays n w items d far bare
+      ]
+
+      -- So those have gone on too, up to a place, among which none that keeps something flows.
       pub far_over : (gap n m : ℕ) (w : Wiring P) (items : List (Option Value)) → n + gap ≡ m → m ≤ length start.primitives
-          → ((k : ℕ) → n ≤ k → k < m → HasFlow (net_of behaviour start) rows k → ⊥) → IsFar n w items → IsFar m w items
+          → ((k : ℕ) (d : P) → n ≤ k → k < m → (lasting (get_or start.primitives k d)).keeps ≡ true → HasFlow (net_of behaviour start) rows k → ⊥) → IsFar n w items → IsFar m w items
       far_over zero n m w items e le still far = let same : n ≡ m = omega arith in subst (λ (k : ℕ). IsFar k w items) same far
       far_over (suc gap) n m w items e le still far =
           let lt : n < length start.primitives = omega arith in
-          let stays = still_stays n w items lt far (still n (omega arith) (omega arith)) in
-          far_over gap (n + 1) m w items (omega arith) le (λ k low high. still k (omega arith) high)
+          let d : P = some_of start.primitives n lt in
+          let stays = stays_at n w items d lt far (still n d (omega arith) (omega arith)) in
+          far_over gap (n + 1) m w items (omega arith) le (λ k e low high. still k e (omega arith) high)
           (far_more n w w items items lt far (ap (λ (ps : List P). record w { primitives = ps }) (sym stays)) (net_shape_same w) (inl refl))

@@ -1,5 +1,5 @@
-//! A round of a circuit at the cost of what flows: the primitives of which some end flows go on,
-//! and all others stay.
+//! A round of a circuit at the cost of what flows: the primitives go on that keep something and of
+//! which some end flows, and all others stay.
 #![tactic(auto)]
 
 mod flowing;

@@ -6,7 +6,7 @@ ghost use Rattle.reo_net_base.specs.Shapes.{SameNetShape};
 ghost use Rattle.reo_net_base.specs.Sides.{side_count};
 ghost use Rattle.reo_net_base.specs.Step.{change_at, chosen_for, mouth_of, stepped, taken_for};
 ghost use Rattle.reo_net_ends.specs.Ends.{AreEnds};
-ghost use Rattle.reo_stepping.specs.Changes.{AreThoseThatFlowed};
+ghost use Rattle.reo_stepping.specs.Changes.{CoverChanges};
 ghost use Rattle.reo_stepping.specs.Clearing.{ComesNoItem, MayBeCleared};
 
 use crate::mouths::take_at_mouth;
@@ -51,9 +51,10 @@ fn step_one<P: Primitive>(
     }
 }
 
-/// The round of a circuit with this colouring, where exactly those primitives are marked of which
-/// some end flows: they go on, each by the rows of its sides and the item at its mouth, and all
-/// others stay. No item comes, and the shape of the circuit stays. This takes no memory.
+/// The round of a circuit with this colouring, where all primitives are marked that keep something
+/// and of which some end flows: the marked ones go on, each by the rows of its sides and the item
+/// at its mouth, and all others stay, as they do in the whole round. No item comes, and the shape
+/// of the circuit stays. This takes no memory.
 pub fn step_marked<P: Primitive>(
     circuit: &mut Circuit<P>,
     ends: &Ends,
@@ -63,7 +64,7 @@ pub fn step_marked<P: Primitive>(
 )
     requires ends { AreEnds (net_of P.behaviour circuit.old) ends.now }
     requires colouring { IsColouring (net_of P.behaviour circuit.old) rows.now items.old }
-    requires marks { AreThoseThatFlowed (net_of P.behaviour circuit.old) rows.now marks.now }
+    requires marks { CoverChanges P.behaviour P.lasting circuit.old rows.now marks.now }
     ensures circuit { let old = circuit.old in
         let primitives = stepped P.behaviour P.settled old rows.now items.old in
         circuit.new ≡ record old { primitives = primitives } }

@@ -5,6 +5,7 @@ use Rattle.reo_net_base.specs.Net.{Net, Wiring, net_of}
 use Rattle.reo_standing.specs.Filling.{AreBlank}
 use Rattle.reo_engine.proofs.Between.{marked_unsettled, moving_again}
 use Rattle.reo_engine.proofs.Others.{others_stay}
+use Rattle.reo_engine.proofs.Covering.{covering}
 use Rattle.reo_engine.proofs.FlowsLemmas.{flows_stay, held_among}
 use Rattle.reo_engine.proofs.Lookups.{round_elsewhere, round_held, round_made, stay_settled}
 use Rattle.reo_engine.proofs.Treating.{round_treats}
@@ -20,6 +21,11 @@ unsettle_moving-requires g c =
     let fewer = c.unsettle_between.ensures.fewer in
     let sizes = c.self.invariant.3.is_kept.sizes in
     fewer.one_each ∙ sizes.one_each ∙ sym sizes.one_mark ∙ sym (ap (λ (xs : List Bool). length xs) fewer.moving)
+
+pub step_marked-requires-clause-marks : goal.step_marked-requires-clause-marks
+step_marked-requires-clause-marks g c =
+    let stands = rw (← c.self.view_is) at c.requires.stands in
+    rw c.as_slice-by.ensures (covering g.P.Primitive.behaviour g.P.Primitive.lasting c.self.inside.circuit c.args.standing.colouring.rows c.args.standing.marks stands.marks)
 
 pub cleared-requires : goal.cleared-requires
 cleared-requires g c =
