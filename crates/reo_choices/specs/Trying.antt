@@ -11,6 +11,7 @@ use Rattle.reo_weights.specs.Weights.{all_values}
 use Rattle.reo_joint_values.specs.Values.{Names, Choice}
 use Rattle.reo_joint_values.specs.Chosen.{IsChosen}
 use Rattle.reo_side_tables.specs.declared.board.Board.{Board}
+use Rattle.reo_rows.specs.declared.basis.Basis.{Basis}
 use Rattle.reo_rows.specs.Rows.{AreTables}
 use Rattle.reo_rows.specs.Flags.{flag}
 use Rattle.reo_rows.specs.Sets.{code_of, family_of, IsReady}
@@ -25,6 +26,10 @@ pub record MayRestart (net : Net) (boards : List Board) (ends : List (List ℕ))
   pub ready : IsReady net boards ends items state.alive
   pub tables : AreTables net items state.rows
   pub waits : length state.queue.waits ≡ side_count net
+
+-- A search on this may begin anew with these tables.
+abbrev pub MayRestartOn : {P : Type 0} → Net → Basis P → State → Type 0
+MayRestartOn net basis = MayRestart net basis.boards.now basis.ends.now basis.items.now
 
 -- Some sides are a knot, and these are places there and its loop joints.
 pub record AreOfKnot (net : Net) (sides : List ℕ) (places : List Place) (loops : List ℕ) : Type 0 where

@@ -4,21 +4,19 @@ ghost use Rattle.reo_net_base.specs.Net.{net_of};
 ghost use Rattle.reo_joint_values.specs.Chosen.{IsChosen};
 ghost use Rattle.reo_weights.specs.Weights.{all_values};
 ghost use Rattle.reo_rows.specs.Sets.{names_of};
+ghost use Rattle.reo_propagate.specs.Basis.{IsSearchOn};
 ghost use Rattle.reo_propagate.specs.Queues.{among};
-ghost use Rattle.reo_propagate.specs.Beginning.{IsSearch};
 ghost use Rattle.reo_choices.specs.Remaining.{IsLeftOfAll, CoverAll, choices_of};
-ghost use Rattle.reo_choices.specs.Trying.{MayRestart, AreOfKnot, HasCodes, CoverWith, IsFirstOf, AreSingles};
+ghost use Rattle.reo_choices.specs.Trying.{AreOfKnot, HasCodes, CoverWith, IsFirstOf, AreSingles, MayRestartOn};
 ghost use Rattle.reo_choices.specs.Best.{IsBetter};
 
 use crate::best::keep;
 use crate::trying::{narrow_to, settles, try_front};
 use reo_net_base::Primitive;
-use reo_net_circuit::Circuit;
-use reo_net_ends::Ends;
 use reo_propagate::State;
-use reo_side_tables::Board;
+use reo_rows::Basis;
 use reo_steps::Steps;
-use reo_values::{List, NoMemory, Value};
+use reo_values::{List, NoMemory};
 use reo_walk::{Place, first_by};
 use std::alloc::Global;
 use std::sync::ledger::Ledger;
@@ -27,10 +25,7 @@ use std::sync::ledger::Ledger;
 /// is one and it stands before the best so far. It ticks at most once. `NoMemory` is out of memory.
 fn try_choice<P: Primitive, L: Ledger>(
     alloc: Global,
-    circuit: &Circuit<P>,
-    boards: &List<Board>,
-    ends: &Ends,
-    items: &[List<Value>],
+    basis: &Basis<'_, P>,
     sides: &[usize],
     state: &mut State,
     places: &[Place],
@@ -40,24 +35,21 @@ fn try_choice<P: Primitive, L: Ledger>(
     best: &mut Option<List<usize>>,
     steps: &mut Steps<L>,
 ) -> Result<(), NoMemory>
-    requires tables { let net = net_of P.behaviour circuit.now in
-        MayRestart net boards.now ends.now items.now state.old }
-    requires knot { AreOfKnot (net_of P.behaviour circuit.now) sides.now places.now loops.now }
+    requires tables { let net = net_of P.behaviour basis.now.circuit.now in
+        MayRestartOn net basis.now state.old }
+    requires knot { let net = net_of P.behaviour basis.now.circuit.now in
+        AreOfKnot net sides.now places.now loops.now }
     requires codes { length codes.now ≡ length loops.now }
-    ensures better { let net = net_of P.behaviour circuit.now in
-        OnOk result (IsBetter (HasCodes net (names_of items.now) (among sides.now) loops.now
-        codes.now) net turn places.now best.old best.new) }
-    ensures tables { let net = net_of P.behaviour circuit.now in
-        OnOk result (MayRestart net boards.now ends.now items.now state.new) }
+    ensures better { let net = net_of P.behaviour basis.now.circuit.now in
+        OnOk result (IsBetter (HasCodes net (names_of basis.now.items.now) (among sides.now)
+        loops.now codes.now) net turn places.now best.old best.new) }
+    ensures tables { let net = net_of P.behaviour basis.now.circuit.now in
+        OnOk result (MayRestartOn net basis.now state.new) }
     ensures ticks { steps.new ≤ steps.old + 1 }
 {
-    narrow_to(
-        alloc, circuit, boards, ends, items, sides, state, places, loops, codes,
-    )?;
+    narrow_to(alloc, basis, sides, state, places, loops, codes)?;
     steps.tick();
-    match first_by(
-        alloc, circuit, boards, ends, items, sides, state, places, turn,
-    )? {
+    match first_by(alloc, basis, sides, state, places, turn)? {
         None => {}
         Some(chosen) => keep(best, chosen),
     }
@@ -86,10 +78,7 @@ fn push_single(left: &List<List<usize>>, codes: &mut List<usize>) -> Result<(), 
 /// for each choice that there is. `NoMemory` is out of memory.
 fn improve<P: Primitive, L: Ledger>(
     alloc: Global,
-    circuit: &Circuit<P>,
-    boards: &List<Board>,
-    ends: &Ends,
-    items: &[List<Value>],
+    basis: &Basis<'_, P>,
     sides: &[usize],
     state: &mut State,
     places: &[Place],
@@ -100,19 +89,21 @@ fn improve<P: Primitive, L: Ledger>(
     best: &mut Option<List<usize>>,
     steps: &mut Steps<L>,
 ) -> Result<(), NoMemory>
-    requires tables { let net = net_of P.behaviour circuit.now in
-        MayRestart net boards.now ends.now items.now state.old }
-    requires knot { AreOfKnot (net_of P.behaviour circuit.now) sides.now places.now loops.now }
+    requires tables { let net = net_of P.behaviour basis.now.circuit.now in
+        MayRestartOn net basis.now state.old }
+    requires knot { let net = net_of P.behaviour basis.now.circuit.now in
+        AreOfKnot net sides.now places.now loops.now }
     requires left { length left.now ≡ length loops.now }
-    requires cover { let net = net_of P.behaviour circuit.now in
-        CoverWith net (names_of items.now) (among sides.now) loops.now codes.old left.now }
+    requires cover { let net = net_of P.behaviour basis.now.circuit.now in
+        CoverWith net (names_of basis.now.items.now) (among sides.now) loops.now codes.old
+        left.now }
     requires codes { length codes.old ≤ length loops.now }
-    ensures better { let net = net_of P.behaviour circuit.now in
-        OnOk result (IsBetter (HasCodes net (names_of items.now) (among sides.now) loops.now
-        codes.old) net turn places.now best.old best.new) }
+    ensures better { let net = net_of P.behaviour basis.now.circuit.now in
+        OnOk result (IsBetter (HasCodes net (names_of basis.now.items.now) (among sides.now)
+        loops.now codes.old) net turn places.now best.old best.new) }
     ensures codes { OnOk result (codes.new ≡ codes.old) }
-    ensures tables { let net = net_of P.behaviour circuit.now in
-        OnOk result (MayRestart net boards.now ends.now items.now state.new) }
+    ensures tables { let net = net_of P.behaviour basis.now.circuit.now in
+        OnOk result (MayRestartOn net basis.now state.new) }
     ensures ticks { steps.new ≤ steps.old + choices_of (drop (length codes.old) left.now) }
 {
     let held = codes.len();
@@ -121,10 +112,7 @@ fn improve<P: Primitive, L: Ledger>(
     if many == loops.len() {
         try_choice(
             alloc,
-            circuit,
-            boards,
-            ends,
-            items,
+            basis,
             sides,
             state,
             places,
@@ -142,10 +130,7 @@ fn improve<P: Primitive, L: Ledger>(
         codes.push(*next.at(index))?;
         let rest = try_front(
             alloc,
-            circuit,
-            boards,
-            ends,
-            items,
+            basis,
             sides,
             state,
             places,
@@ -159,8 +144,7 @@ fn improve<P: Primitive, L: Ledger>(
         match rest {
             None => {}
             Some(kept) => improve(
-                alloc, circuit, boards, ends, items, sides, state, places, turn, loops, &kept,
-                codes, best, steps,
+                alloc, basis, sides, state, places, turn, loops, &kept, codes, best, steps,
             )?,
         }
         codes.truncate(many);
@@ -173,10 +157,7 @@ fn improve<P: Primitive, L: Ledger>(
 /// once for each choice of what is left at the loop joints. `NoMemory` is out of memory.
 pub fn first_over<P: Primitive, L: Ledger>(
     alloc: Global,
-    circuit: &Circuit<P>,
-    boards: &List<Board>,
-    ends: &Ends,
-    items: &[List<Value>],
+    basis: &Basis<'_, P>,
     sides: &[usize],
     state: &mut State,
     places: &[Place],
@@ -185,33 +166,33 @@ pub fn first_over<P: Primitive, L: Ledger>(
     left: &List<List<usize>>,
     steps: &mut Steps<L>,
 ) -> Result<Option<List<usize>>, NoMemory>
-    requires search { let net = net_of P.behaviour circuit.now in
-        IsSearch net boards.now ends.now items.now (among sides.now) state.old }
-    requires knot { AreOfKnot (net_of P.behaviour circuit.now) sides.now places.now loops.now }
-    requires alive { let net = net_of P.behaviour circuit.now in
-        IsLeftOfAll net (names_of items.now) (among sides.now) state.old.alive }
+    requires search { let net = net_of P.behaviour basis.now.circuit.now in
+        IsSearchOn net basis.now (among sides.now) state.old }
+    requires knot { let net = net_of P.behaviour basis.now.circuit.now in
+        AreOfKnot net sides.now places.now loops.now }
+    requires alive { let net = net_of P.behaviour basis.now.circuit.now in
+        IsLeftOfAll net (names_of basis.now.items.now) (among sides.now) state.old.alive }
     requires left { length left.now ≡ length loops.now }
-    requires cover { let net = net_of P.behaviour circuit.now in
-        CoverAll net (names_of items.now) (among sides.now) loops.now left.now }
+    requires cover { let net = net_of P.behaviour basis.now.circuit.now in
+        CoverAll net (names_of basis.now.items.now) (among sides.now) loops.now left.now }
     requires some { 1 ≤ choices_of left.now }
-    ensures first { let net = net_of P.behaviour circuit.now in
-        IfOk result (IsFirstOf (IsChosen net (names_of items.now) (among sides.now)
-        (all_values (names_of items.now))) net turn places.now) }
-    ensures tables { let net = net_of P.behaviour circuit.now in
-        OnOk result (MayRestart net boards.now ends.now items.now state.new) }
+    ensures first { let net = net_of P.behaviour basis.now.circuit.now in
+        IfOk result (IsFirstOf (IsChosen net (names_of basis.now.items.now) (among sides.now)
+        (all_values (names_of basis.now.items.now))) net turn places.now) }
+    ensures tables { let net = net_of P.behaviour basis.now.circuit.now in
+        OnOk result (MayRestartOn net basis.now state.new) }
     ensures ticks { steps.new ≤ steps.old + choices_of left.now }
 {
     let mut best = None;
     let done = settles(
-        alloc, circuit, boards, ends, items, sides, state, places, turn, loops, &mut best, steps,
+        alloc, basis, sides, state, places, turn, loops, &mut best, steps,
     )?;
     if done {
         return Ok(best);
     }
     let mut codes = List::new(alloc);
     improve(
-        alloc, circuit, boards, ends, items, sides, state, places, turn, loops, left, &mut codes,
-        &mut best, steps,
+        alloc, basis, sides, state, places, turn, loops, left, &mut codes, &mut best, steps,
     )?;
     Ok(best)
 }

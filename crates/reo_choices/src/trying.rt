@@ -3,21 +3,19 @@ ghost use Rattle.std.specs.Prelude.{◌≡◌, ◌≤◌, ◌+◌, true, false, 
 ghost use Rattle.reo_net_base.specs.Net.{net_of};
 ghost use Rattle.reo_joint_values.specs.Chosen.{IsChosen};
 ghost use Rattle.reo_rows.specs.Sets.{family_of, names_of};
+ghost use Rattle.reo_propagate.specs.Basis.{IsSearchOn};
 ghost use Rattle.reo_propagate.specs.Queues.{among};
-ghost use Rattle.reo_propagate.specs.Beginning.{IsSearch};
 ghost use Rattle.reo_choices.specs.Remaining.{choices_of};
-ghost use Rattle.reo_choices.specs.Trying.{MayRestart, AreOfKnot, HasCodes, AreLeftWith, CoverWith, IsOpen};
+ghost use Rattle.reo_choices.specs.Trying.{AreOfKnot, HasCodes, AreLeftWith, CoverWith, IsOpen, MayRestartOn};
 ghost use Rattle.reo_choices.specs.Best.{IsBetter};
 
 use crate::best::{is_before, keep};
 use crate::kept::{have_one, kept_of};
 use reo_net_base::Primitive;
-use reo_net_circuit::Circuit;
-use reo_net_ends::Ends;
 use reo_propagate::{State, propagate, restart};
-use reo_side_tables::Board;
+use reo_rows::Basis;
 use reo_steps::Steps;
-use reo_values::{List, NoMemory, Value};
+use reo_values::{List, NoMemory};
 use reo_walk::{Place, pin, walk};
 use std::alloc::Global;
 use std::sync::ledger::Ledger;
@@ -26,31 +24,29 @@ use std::sync::ledger::Ledger;
 /// memory.
 pub(crate) fn narrow_to<P: Primitive>(
     alloc: Global,
-    circuit: &Circuit<P>,
-    boards: &List<Board>,
-    ends: &Ends,
-    items: &[List<Value>],
+    basis: &Basis<'_, P>,
     sides: &[usize],
     state: &mut State,
     places: &[Place],
     loops: &[usize],
     codes: &[usize],
 ) -> Result<(), NoMemory>
-    requires tables { let net = net_of P.behaviour circuit.now in
-        MayRestart net boards.now ends.now items.now state.old }
-    requires knot { AreOfKnot (net_of P.behaviour circuit.now) sides.now places.now loops.now }
+    requires tables { let net = net_of P.behaviour basis.now.circuit.now in
+        MayRestartOn net basis.now state.old }
+    requires knot { let net = net_of P.behaviour basis.now.circuit.now in
+        AreOfKnot net sides.now places.now loops.now }
     requires codes { length codes.now ≤ length loops.now }
-    ensures search { let net = net_of P.behaviour circuit.now in
-        OnOk result (IsSearch net boards.now ends.now items.now (among sides.now) state.new) }
-    ensures left { let net = net_of P.behaviour circuit.now in
-        OnOk result (AreLeftWith net (names_of items.now) (among sides.now) loops.now codes.now
-        state.new.alive) }
+    ensures search { let net = net_of P.behaviour basis.now.circuit.now in
+        OnOk result (IsSearchOn net basis.now (among sides.now) state.new) }
+    ensures left { let net = net_of P.behaviour basis.now.circuit.now in
+        OnOk result (AreLeftWith net (names_of basis.now.items.now) (among sides.now) loops.now
+        codes.now state.new.alive) }
 {
     let _ = places;
     let joints = &loops[..codes.len()];
-    restart(alloc, circuit, boards, ends, items, sides, state)?;
-    pin(circuit, boards, ends, items, sides, state, joints, codes)?;
-    propagate(circuit, boards, ends, items, sides, state)?;
+    restart(alloc, basis, sides, state)?;
+    pin(basis, sides, state, joints, codes)?;
+    propagate(basis, sides, state)?;
     Ok(())
 }
 
@@ -60,10 +56,7 @@ pub(crate) fn narrow_to<P: Primitive>(
 /// and where it answers `false` it has only looked. `NoMemory` is out of memory.
 pub(crate) fn settles<P: Primitive, L: Ledger>(
     alloc: Global,
-    circuit: &Circuit<P>,
-    boards: &List<Board>,
-    ends: &Ends,
-    items: &[List<Value>],
+    basis: &Basis<'_, P>,
     sides: &[usize],
     state: &mut State,
     places: &[Place],
@@ -72,21 +65,20 @@ pub(crate) fn settles<P: Primitive, L: Ledger>(
     best: &mut Option<List<usize>>,
     steps: &mut Steps<L>,
 ) -> Result<bool, NoMemory>
-    requires search { let net = net_of P.behaviour circuit.now in
-        IsSearch net boards.now ends.now items.now (among sides.now) state.old }
-    requires knot { AreOfKnot (net_of P.behaviour circuit.now) sides.now places.now loops.now }
-    ensures better { let net = net_of P.behaviour circuit.now in
-        IfOk result (λ done. done ≡ true → IsBetter (IsChosen net (names_of items.now)
+    requires search { let net = net_of P.behaviour basis.now.circuit.now in
+        IsSearchOn net basis.now (among sides.now) state.old }
+    requires knot { let net = net_of P.behaviour basis.now.circuit.now in
+        AreOfKnot net sides.now places.now loops.now }
+    ensures better { let net = net_of P.behaviour basis.now.circuit.now in
+        IfOk result (λ done. done ≡ true → IsBetter (IsChosen net (names_of basis.now.items.now)
         (among sides.now) (family_of state.old.alive)) net turn places.now best.old best.new) }
     ensures looked { IfOk result (λ done. done ≡ false
         → (best.new ≡ best.old) × (steps.new ≡ steps.old)) }
-    ensures tables { let net = net_of P.behaviour circuit.now in
-        OnOk result (MayRestart net boards.now ends.now items.now state.new) }
+    ensures tables { let net = net_of P.behaviour basis.now.circuit.now in
+        OnOk result (MayRestartOn net basis.now state.new) }
     ensures ticks { steps.new ≤ steps.old + 1 }
 {
-    match walk(
-        alloc, circuit, boards, ends, items, sides, state, places, turn,
-    )? {
+    match walk(alloc, basis, sides, state, places, turn)? {
         None => Ok(false),
         Some(chosen) => {
             if !is_before(&chosen, best) {
@@ -108,10 +100,7 @@ pub(crate) fn settles<P: Primitive, L: Ledger>(
 /// then. `NoMemory` is out of memory.
 pub(crate) fn try_front<P: Primitive, L: Ledger>(
     alloc: Global,
-    circuit: &Circuit<P>,
-    boards: &List<Board>,
-    ends: &Ends,
-    items: &[List<Value>],
+    basis: &Basis<'_, P>,
     sides: &[usize],
     state: &mut State,
     places: &[Place],
@@ -122,33 +111,30 @@ pub(crate) fn try_front<P: Primitive, L: Ledger>(
     best: &mut Option<List<usize>>,
     steps: &mut Steps<L>,
 ) -> Result<Option<List<List<usize>>>, NoMemory>
-    requires tables { let net = net_of P.behaviour circuit.now in
-        MayRestart net boards.now ends.now items.now state.old }
-    requires knot { AreOfKnot (net_of P.behaviour circuit.now) sides.now places.now loops.now }
+    requires tables { let net = net_of P.behaviour basis.now.circuit.now in
+        MayRestartOn net basis.now state.old }
+    requires knot { let net = net_of P.behaviour basis.now.circuit.now in
+        AreOfKnot net sides.now places.now loops.now }
     requires left { length left.now ≡ length loops.now }
-    requires cover { let net = net_of P.behaviour circuit.now in
-        CoverWith net (names_of items.now) (among sides.now) loops.now codes.now left.now }
+    requires cover { let net = net_of P.behaviour basis.now.circuit.now in
+        CoverWith net (names_of basis.now.items.now) (among sides.now) loops.now codes.now
+        left.now }
     requires codes { length codes.now ≤ length loops.now }
-    ensures found { let net = net_of P.behaviour circuit.now in
-        let names = names_of items.now in
-        IfOk result (λ rest. MatchOption rest
-        (IsBetter (HasCodes net names (among sides.now) loops.now codes.now) net turn places.now
-        best.old best.new)
-        (λ kept. (best.new ≡ best.old) × (steps.new ≡ steps.old)
+    ensures found { let net = net_of P.behaviour basis.now.circuit.now in
+        let names = names_of basis.now.items.now in
+        IfOk result (λ rest. MatchOption rest (IsBetter
+        (HasCodes net names (among sides.now) loops.now codes.now) net turn places.now best.old
+        best.new) (λ kept. (best.new ≡ best.old) × (steps.new ≡ steps.old)
         × IsOpen net names (among sides.now) loops.now codes.now left.now kept)) }
-    ensures tables { let net = net_of P.behaviour circuit.now in
-        OnOk result (MayRestart net boards.now ends.now items.now state.new) }
+    ensures tables { let net = net_of P.behaviour basis.now.circuit.now in
+        OnOk result (MayRestartOn net basis.now state.new) }
     ensures ticks { steps.new ≤ steps.old + choices_of (drop (length codes.now) left.now) }
 {
-    narrow_to(
-        alloc, circuit, boards, ends, items, sides, state, places, loops, codes,
-    )?;
+    narrow_to(alloc, basis, sides, state, places, loops, codes)?;
     match kept_of(alloc, &state.alive, loops, left)? {
         None => Ok(None),
         Some(kept) => {
-            let done = settles(
-                alloc, circuit, boards, ends, items, sides, state, places, turn, loops, best, steps,
-            )?;
+            let done = settles(alloc, basis, sides, state, places, turn, loops, best, steps)?;
             if done { Ok(None) } else { Ok(Some(kept)) }
         }
     }

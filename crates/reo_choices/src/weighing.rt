@@ -4,17 +4,14 @@ ghost use Rattle.reo_net_base.specs.Net.{net_of, all_sides};
 ghost use Rattle.reo_net_laws.specs.Parts.{IsClosed};
 ghost use Rattle.reo_weights.specs.Weights.{capped};
 ghost use Rattle.reo_rows.specs.Sets.{names_of};
+ghost use Rattle.reo_propagate.specs.Basis.{IsSearchOn};
 ghost use Rattle.reo_propagate.specs.Queues.{among};
-ghost use Rattle.reo_propagate.specs.Beginning.{IsSearch};
 ghost use Rattle.reo_choices.specs.Remaining.{AllAreThere, IsLeftOfAll, AreCodesAt, AreCodes, choices_of};
 
 use reo_net_base::Primitive;
-use reo_net_circuit::Circuit;
-use reo_net_ends::Ends;
 use reo_propagate::{State, propagate};
-use reo_rows::Flags;
-use reo_side_tables::Board;
-use reo_values::{List, NoMemory, Value};
+use reo_rows::{Basis, Flags};
+use reo_values::{List, NoMemory};
 use std::alloc::Global;
 
 /// The greatest weight: what would be more counts as this.
@@ -74,30 +71,28 @@ pub fn weight_of(left: &List<List<usize>>) -> u64
 /// memory.
 pub fn narrow_all<P: Primitive>(
     alloc: Global,
-    circuit: &Circuit<P>,
-    boards: &List<Board>,
-    ends: &Ends,
-    items: &[List<Value>],
+    basis: &Basis<'_, P>,
     sides: &[usize],
     state: &mut State,
     loops: &[usize],
 ) -> Result<List<List<usize>>, NoMemory>
-    requires search { let net = net_of P.behaviour circuit.now in
-        IsSearch net boards.now ends.now items.now (among sides.now) state.old }
-    requires closed { IsClosed (net_of P.behaviour circuit.now) (among sides.now) }
-    requires sides { let net = net_of P.behaviour circuit.now in
+    requires search { let net = net_of P.behaviour basis.now.circuit.now in
+        IsSearchOn net basis.now (among sides.now) state.old }
+    requires closed { IsClosed (net_of P.behaviour basis.now.circuit.now) (among sides.now) }
+    requires sides { let net = net_of P.behaviour basis.now.circuit.now in
         (s : ℕ) → among sides.now s ≡ true → s < length (all_sides net.primitives) }
-    requires whole { let net = net_of P.behaviour circuit.now in
-        AllAreThere net items.now (among sides.now) state.old.alive }
-    requires loops { (m : ℕ) → m < length loops.now
-        → slice_index loops.now m < length circuit.now.joints }
-    ensures search { let net = net_of P.behaviour circuit.now in
-        OnOk result (IsSearch net boards.now ends.now items.now (among sides.now) state.new) }
-    ensures left { let net = net_of P.behaviour circuit.now in
-        OnOk result (IsLeftOfAll net (names_of items.now) (among sides.now) state.new.alive) }
+    requires whole { let net = net_of P.behaviour basis.now.circuit.now in
+        AllAreThere net basis.now.items.now (among sides.now) state.old.alive }
+    requires loops { (m : ℕ) → m < length loops.now → slice_index loops.now m < length
+        basis.now.circuit.now.joints }
+    ensures search { let net = net_of P.behaviour basis.now.circuit.now in
+        OnOk result (IsSearchOn net basis.now (among sides.now) state.new) }
+    ensures left { let net = net_of P.behaviour basis.now.circuit.now in
+        OnOk result (IsLeftOfAll net (names_of basis.now.items.now) (among sides.now)
+        state.new.alive) }
     ensures codes { IfOk result (AreCodes state.new.alive loops.now (length loops.now)) }
 {
-    propagate(circuit, boards, ends, items, sides, state)?;
+    propagate(basis, sides, state)?;
     let left = codes_of(alloc, &state.alive, loops)?;
     Ok(left)
 }

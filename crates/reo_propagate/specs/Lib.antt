@@ -1,5 +1,6 @@
 pub mod Queues
 pub mod Narrow
 pub mod Beginning
+pub mod Basis
 pub mod ListedSets
 pub mod Setting

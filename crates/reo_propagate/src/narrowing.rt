@@ -6,20 +6,20 @@ ghost use Rattle.reo_joint_values.specs.Values.{Family, AtSide};
 ghost use Rattle.reo_side_tables.specs.Marks.{IsJointOf};
 ghost use Rattle.reo_rows.specs.Flags.{count_set};
 ghost use Rattle.reo_rows.specs.Rows.{AreTables, IsSifted};
-ghost use Rattle.reo_rows.specs.Sets.{names_of, IsReady};
+ghost use Rattle.reo_rows.specs.Basis.{IsReadyOn};
+ghost use Rattle.reo_rows.specs.Sets.{names_of};
 ghost use Rattle.reo_propagate.specs.Queues.{among};
+ghost use Rattle.reo_propagate.specs.Basis.{IsSearchOn};
 ghost use Rattle.reo_propagate.specs.Narrow.{IsTended, IsTendedAt, nobody, IsReduced, IsRevised, AreGreatest};
-ghost use Rattle.reo_propagate.specs.Beginning.{IsSearch};
 
 use crate::state::State;
 use crate::thinning::thin;
 use crate::waking::wake;
 use reo_net_base::Primitive;
 use reo_net_circuit::Circuit;
-use reo_net_ends::Ends;
-use reo_rows::{see, sift};
-use reo_side_tables::{Board, giver_side, taker_side};
-use reo_values::{List, NoMemory, Value};
+use reo_rows::{Basis, see, sift};
+use reo_side_tables::{giver_side, taker_side};
+use reo_values::NoMemory;
 
 /// The other side of a joint of a side. This takes no memory.
 pub fn other_side<P: Primitive>(circuit: &Circuit<P>, side: usize, joint: usize) -> usize
@@ -40,55 +40,43 @@ pub fn other_side<P: Primitive>(circuit: &Circuit<P>, side: usize, joint: usize)
 /// Takes what is not used at a side away from a joint there. Where it lost a value its other side
 /// waits, or can stay. `NoMemory` is out of memory.
 fn tend_joint<P: Primitive>(
-    circuit: &Circuit<P>,
-    boards: &List<Board>,
-    ends: &Ends,
-    items: &[List<Value>],
+    basis: &Basis<'_, P>,
     sides: &[usize],
     state: &mut State,
     side: usize,
     joint: usize,
 ) -> Result<(), NoMemory>
-    requires ready { let net = net_of P.behaviour circuit.now in
-        IsReady net boards.now ends.now items.now state.old.alive }
-    requires tables { AreTables (net_of P.behaviour circuit.now) items.now state.old.rows }
-    requires closed { IsClosed (net_of P.behaviour circuit.now) (among sides.now) }
-    requires side { side < length (all_sides (net_of P.behaviour circuit.now).primitives) }
+    requires ready { let net = net_of P.behaviour basis.now.circuit.now in
+        IsReadyOn net basis.now state.old.alive }
+    requires tables { let net = net_of P.behaviour basis.now.circuit.now in
+        AreTables net basis.now.items.now state.old.rows }
+    requires closed { IsClosed (net_of P.behaviour basis.now.circuit.now) (among sides.now) }
+    requires side { let net = net_of P.behaviour basis.now.circuit.now in
+        side < length (all_sides net.primitives) }
     requires inside { among sides.now side ≡ true }
-    requires joint { IsJointOf (net_of P.behaviour circuit.now) side joint }
-    requires sifted { let net = net_of P.behaviour circuit.now in
-        (start : Family) × IsSifted net (names_of items.now) start side state.old.rows }
-    requires tended { let net = net_of P.behaviour circuit.now in
-        IsTended net (names_of items.now) (among sides.now) side state.old.alive state.old.rows
-        state.old.queue }
-    ensures tended_at { let net = net_of P.behaviour circuit.now in
-        IsTendedAt net (names_of items.now) side joint state.old state.new }
-    ensures tables { AreTables (net_of P.behaviour circuit.now) items.now state.new.rows }
-    ensures tended { let net = net_of P.behaviour circuit.now in
-        OnOk result (IsTended net (names_of items.now) (among sides.now) side state.new.alive
-        state.new.rows state.new.queue) }
+    requires joint { IsJointOf (net_of P.behaviour basis.now.circuit.now) side joint }
+    requires sifted { let net = net_of P.behaviour basis.now.circuit.now in
+        (start : Family) × IsSifted net (names_of basis.now.items.now) start side state.old.rows }
+    requires tended { let net = net_of P.behaviour basis.now.circuit.now in
+        IsTended net (names_of basis.now.items.now) (among sides.now) side state.old.alive
+        state.old.rows state.old.queue }
+    ensures tended_at { let net = net_of P.behaviour basis.now.circuit.now in
+        IsTendedAt net (names_of basis.now.items.now) side joint state.old state.new }
+    ensures tables { let net = net_of P.behaviour basis.now.circuit.now in
+        AreTables net basis.now.items.now state.new.rows }
+    ensures tended { let net = net_of P.behaviour basis.now.circuit.now in
+        OnOk result (IsTended net (names_of basis.now.items.now) (among sides.now) side
+        state.new.alive state.new.rows state.new.queue) }
     ensures fewer { OnOk result (count_set state.new.alive + length state.new.queue.line
         ≤ count_set state.old.alive + length state.old.queue.line) }
 {
     let _ = sides;
-    circuit.known();
-    let other = other_side(circuit, side, joint);
-    let loss = thin(
-        circuit,
-        boards,
-        ends,
-        items,
-        &mut state.alive,
-        &state.rows,
-        side,
-        joint,
-    );
+    basis.circuit.known();
+    let other = other_side(basis.circuit, side, joint);
+    let loss = thin(basis, &mut state.alive, &state.rows, side, joint);
     if loss.some {
         wake(
-            circuit,
-            boards,
-            ends,
-            items,
+            basis,
             &state.alive,
             &mut state.rows,
             &mut state.queue,
@@ -102,55 +90,39 @@ fn tend_joint<P: Primitive>(
 
 /// Takes what is not used at a side away from all joints there. `NoMemory` is out of memory.
 fn revise<P: Primitive>(
-    circuit: &Circuit<P>,
-    boards: &List<Board>,
-    ends: &Ends,
-    items: &[List<Value>],
+    basis: &Basis<'_, P>,
     sides: &[usize],
     state: &mut State,
     side: usize,
 ) -> Result<(), NoMemory>
-    requires ready { let net = net_of P.behaviour circuit.now in
-        IsReady net boards.now ends.now items.now state.old.alive }
-    requires tables { AreTables (net_of P.behaviour circuit.now) items.now state.old.rows }
-    requires closed { IsClosed (net_of P.behaviour circuit.now) (among sides.now) }
-    requires side { side < length (all_sides (net_of P.behaviour circuit.now).primitives) }
+    requires ready { let net = net_of P.behaviour basis.now.circuit.now in
+        IsReadyOn net basis.now state.old.alive }
+    requires tables { let net = net_of P.behaviour basis.now.circuit.now in
+        AreTables net basis.now.items.now state.old.rows }
+    requires closed { IsClosed (net_of P.behaviour basis.now.circuit.now) (among sides.now) }
+    requires side { let net = net_of P.behaviour basis.now.circuit.now in
+        side < length (all_sides net.primitives) }
     requires inside { among sides.now side ≡ true }
-    requires tended { let net = net_of P.behaviour circuit.now in
-        IsTended net (names_of items.now) (among sides.now) side state.old.alive state.old.rows
-        state.old.queue }
-    ensures revised { let net = net_of P.behaviour circuit.now in
-        IsRevised net (names_of items.now) side state.old.alive state.new.alive }
-    ensures tables { AreTables (net_of P.behaviour circuit.now) items.now state.new.rows }
-    ensures tended { let net = net_of P.behaviour circuit.now in
-        OnOk result (IsTended net (names_of items.now) (among sides.now) (nobody net)
+    requires tended { let net = net_of P.behaviour basis.now.circuit.now in
+        IsTended net (names_of basis.now.items.now) (among sides.now) side state.old.alive
+        state.old.rows state.old.queue }
+    ensures revised { let net = net_of P.behaviour basis.now.circuit.now in
+        IsRevised net (names_of basis.now.items.now) side state.old.alive state.new.alive }
+    ensures tables { let net = net_of P.behaviour basis.now.circuit.now in
+        AreTables net basis.now.items.now state.new.rows }
+    ensures tended { let net = net_of P.behaviour basis.now.circuit.now in
+        OnOk result (IsTended net (names_of basis.now.items.now) (among sides.now) (nobody net)
         state.new.alive state.new.rows state.new.queue) }
     ensures fewer { OnOk result (count_set state.new.alive + length state.new.queue.line
         ≤ count_set state.old.alive + length state.old.queue.line) }
 {
-    circuit.known();
-    sift(
-        circuit,
-        boards,
-        ends,
-        items,
-        &state.alive,
-        &mut state.rows,
-        side,
-    )?;
-    see(
-        circuit,
-        boards,
-        ends,
-        items,
-        &state.alive,
-        &mut state.rows,
-        side,
-    );
-    let joints = &boards.at(side).joints;
+    basis.circuit.known();
+    sift(basis, &state.alive, &mut state.rows, side)?;
+    see(basis, &state.alive, &mut state.rows, side);
+    let joints = &basis.boards.at(side).joints;
     for index in 0..joints.len() {
         let joint = *joints.at(index);
-        tend_joint(circuit, boards, ends, items, sides, state, side, joint)?;
+        tend_joint(basis, sides, state, side, joint)?;
     }
     Ok(())
 }
@@ -165,30 +137,28 @@ fn revise<P: Primitive>(
 /// `NoMemory` is out of memory; some of what is not used may then still be there, and nothing else
 /// has gone.
 pub fn propagate<P: Primitive>(
-    circuit: &Circuit<P>,
-    boards: &List<Board>,
-    ends: &Ends,
-    items: &[List<Value>],
+    basis: &Basis<'_, P>,
     sides: &[usize],
     state: &mut State,
 ) -> Result<(), NoMemory>
-    requires search { let net = net_of P.behaviour circuit.now in
-        IsSearch net boards.now ends.now items.now (among sides.now) state.old }
-    requires closed { IsClosed (net_of P.behaviour circuit.now) (among sides.now) }
-    requires sides { let net = net_of P.behaviour circuit.now in
+    requires search { let net = net_of P.behaviour basis.now.circuit.now in
+        IsSearchOn net basis.now (among sides.now) state.old }
+    requires closed { IsClosed (net_of P.behaviour basis.now.circuit.now) (among sides.now) }
+    requires sides { let net = net_of P.behaviour basis.now.circuit.now in
         (s : ℕ) → among sides.now s ≡ true → s < length (all_sides net.primitives) }
-    ensures reduced { let net = net_of P.behaviour circuit.now in
-        IsReduced net (names_of items.now) (among sides.now) state.old.alive state.new.alive }
-    ensures search { let net = net_of P.behaviour circuit.now in
-        OnOk result (IsSearch net boards.now ends.now items.now (among sides.now) state.new) }
+    ensures reduced { let net = net_of P.behaviour basis.now.circuit.now in
+        IsReduced net (names_of basis.now.items.now) (among sides.now) state.old.alive
+        state.new.alive }
+    ensures search { let net = net_of P.behaviour basis.now.circuit.now in
+        OnOk result (IsSearchOn net basis.now (among sides.now) state.new) }
     ensures empty { OnOk result (state.new.queue.line ≡ []) }
-    ensures greatest { let net = net_of P.behaviour circuit.now in
-        OnOk result (AreGreatest net (names_of items.now) (among sides.now) state.old.alive
-        state.new.alive) }
+    ensures greatest { let net = net_of P.behaviour basis.now.circuit.now in
+        OnOk result (AreGreatest net (names_of basis.now.items.now) (among sides.now)
+        state.old.alive state.new.alive) }
 {
-    circuit.known();
+    basis.circuit.known();
     while let Some(side) = state.queue.next() {
-        revise(circuit, boards, ends, items, sides, state, side)?;
+        revise(basis, sides, state, side)?;
     }
     Ok(())
 }

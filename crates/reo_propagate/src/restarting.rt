@@ -5,19 +5,19 @@ ghost use Rattle.reo_joint_values.specs.declared.value.JointValue.{JointValue as
 ghost use Rattle.reo_side_tables.specs.Boards.{AreBoards};
 ghost use Rattle.reo_side_tables.specs.Marks.{IsJointOf};
 ghost use Rattle.reo_rows.specs.Rows.{AreTables};
-ghost use Rattle.reo_rows.specs.Sets.{code_of, family_of, IsReady};
+ghost use Rattle.reo_rows.specs.Basis.{IsReadyOn};
+ghost use Rattle.reo_rows.specs.Sets.{code_of, family_of};
 ghost use Rattle.reo_propagate.specs.Queues.{among};
-ghost use Rattle.reo_propagate.specs.Beginning.{IsSearch};
+ghost use Rattle.reo_propagate.specs.Basis.{IsSearchOn};
 ghost use Rattle.reo_propagate.specs.Setting.{AreSet, IsOfFirst, IsFresh, AreFresh};
 
 use crate::line::line_of;
 use crate::state::State;
 use reo_net_base::Primitive;
 use reo_net_circuit::Circuit;
-use reo_net_ends::Ends;
-use reo_rows::Flags;
+use reo_rows::{Basis, Flags};
 use reo_side_tables::Board;
-use reo_values::{List, NoMemory, Value};
+use reo_values::{List, NoMemory};
 use std::alloc::Global;
 
 /// Sets all flags of a row. This takes no memory.
@@ -90,32 +90,28 @@ fn freshen_all<P: Primitive>(
 /// `NoMemory` is out of memory; the search is then as it was.
 pub fn restart<P: Primitive>(
     alloc: Global,
-    circuit: &Circuit<P>,
-    boards: &List<Board>,
-    ends: &Ends,
-    items: &[List<Value>],
+    basis: &Basis<'_, P>,
     sides: &[usize],
     state: &mut State,
 ) -> Result<(), NoMemory>
-    requires ready { let net = net_of P.behaviour circuit.now in
-        IsReady net boards.now ends.now items.now state.old.alive }
-    requires tables { AreTables (net_of P.behaviour circuit.now) items.now state.old.rows }
-    requires waits { let net = net_of P.behaviour circuit.now in
+    requires ready { let net = net_of P.behaviour basis.now.circuit.now in
+        IsReadyOn net basis.now state.old.alive }
+    requires tables { let net = net_of P.behaviour basis.now.circuit.now in
+        AreTables net basis.now.items.now state.old.rows }
+    requires waits { let net = net_of P.behaviour basis.now.circuit.now in
         length state.old.queue.waits ≡ length (all_sides net.primitives) }
-    requires sides { let net = net_of P.behaviour circuit.now in
+    requires sides { let net = net_of P.behaviour basis.now.circuit.now in
         (s : ℕ) → among sides.now s ≡ true → s < length (all_sides net.primitives) }
-    ensures search { let net = net_of P.behaviour circuit.now in
-        OnOk result (IsSearch net boards.now ends.now items.now (among sides.now) state.new) }
-    ensures whole { let net = net_of P.behaviour circuit.now in
+    ensures search { let net = net_of P.behaviour basis.now.circuit.now in
+        OnOk result (IsSearchOn net basis.now (among sides.now) state.new) }
+    ensures whole { let net = net_of P.behaviour basis.now.circuit.now in
         OnOk result ((j side : ℕ) (v : Standing) → IsJointOf net side j
-        → among sides.now side ≡ true → code_of v < length (slice_index_or items.now j []) + 4
-        → family_of state.new.alive j v ≡ true) }
+        → among sides.now side ≡ true → code_of v < length
+        (slice_index_or basis.now.items.now j []) + 4 → family_of state.new.alive j v ≡ true) }
     ensures err { OnErr result (state.new ≡ state.old) }
 {
-    let _ = ends;
-    let _ = items;
     let line = line_of(alloc, sides)?;
-    freshen_all(circuit, boards, sides, state);
+    freshen_all(basis.circuit, basis.boards, sides, state);
     state.queue.line = line;
     Ok(())
 }

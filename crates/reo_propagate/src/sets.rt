@@ -11,7 +11,8 @@ ghost use Rattle.reo_side_tables.specs.Flowing.{gives_at};
 ghost use Rattle.reo_side_tables.specs.Marks.{IsJointOf};
 ghost use Rattle.reo_rows.specs.Sets.{code_of, family_of, names_of};
 ghost use Rattle.reo_propagate.specs.Queues.{among};
-ghost use Rattle.reo_propagate.specs.Beginning.{AreFlags, IsSearch};
+ghost use Rattle.reo_propagate.specs.Beginning.{AreFlags};
+ghost use Rattle.reo_propagate.specs.Basis.{IsSearchOn};
 ghost use Rattle.reo_propagate.specs.ListedSets.{in_set, listed, ArePut, AreKept, HaveSome, HaveFlags, AreLeft, AreInSupply, AreFullAt};
 
 use crate::narrowing::propagate;
@@ -19,9 +20,9 @@ use crate::state::{State, all_waiting};
 use reo_joint_values::JointValue;
 use reo_net_base::Primitive;
 use reo_net_circuit::Circuit;
-use reo_net_ends::{Ends, ends_of};
+use reo_net_ends::ends_of;
 use reo_reach::Supply;
-use reo_rows::{FLOWS, Flags, all_rows};
+use reo_rows::{Basis, FLOWS, Flags, all_rows};
 use reo_side_tables::{Board, boards_of, giver_side};
 use reo_values::{List, NoMemory, Value};
 use std::alloc::Global;
@@ -75,29 +76,25 @@ fn listed_values(alloc: Global, items: &[List<Value>], sets: &Sets) -> Result<Fl
 /// The values of lists and all rows, where these sides wait. `NoMemory` is out of memory.
 pub fn begin_with<P: Primitive>(
     alloc: Global,
-    circuit: &Circuit<P>,
-    boards: &List<Board>,
-    ends: &Ends,
-    items: &[List<Value>],
+    basis: &Basis<'_, P>,
     sides: &[usize],
     sets: &Sets,
 ) -> Result<State, NoMemory>
-    requires boards { AreBoards (net_of P.behaviour circuit.now) boards.now }
-    requires ends { AreEnds (net_of P.behaviour circuit.now) ends.now }
-    requires items { length items.now ≡ length circuit.now.joints }
-    requires few { (j : ℕ) → length (slice_index_or items.now j []) < 2 ^ 32 }
-    requires sets { length sets.now.values ≡ length circuit.now.joints }
-    ensures search { let net = net_of P.behaviour circuit.now in
-        IfOk result (IsSearch net boards.now ends.now items.now (among sides.now)) }
-    ensures values { IfOk result (λ state. (j : ℕ) (v : Standing) → j < length circuit.now.joints
-        → code_of v < length (slice_index_or items.now j []) + 4
-        → family_of state.alive j v ≡ listed sets.now.values j v) }
+    requires boards { AreBoards (net_of P.behaviour basis.now.circuit.now) basis.now.boards.now }
+    requires ends { AreEnds (net_of P.behaviour basis.now.circuit.now) basis.now.ends.now }
+    requires items { length basis.now.items.now ≡ length basis.now.circuit.now.joints }
+    requires few { (j : ℕ) → length (slice_index_or basis.now.items.now j []) < 2 ^ 32 }
+    requires sets { length sets.now.values ≡ length basis.now.circuit.now.joints }
+    ensures search { let net = net_of P.behaviour basis.now.circuit.now in
+        IfOk result (IsSearchOn net basis.now (among sides.now)) }
+    ensures values { IfOk result (λ state. (j : ℕ) (v : Standing)
+        → j < length basis.now.circuit.now.joints → code_of v < length
+        (slice_index_or basis.now.items.now j []) + 4 → family_of state.alive j v ≡ listed
+        sets.now.values j v) }
 {
-    let _ = boards;
-    let _ = ends;
-    let alive = listed_values(alloc, items, sets)?;
-    let rows = all_rows(alloc, circuit, items)?;
-    let queue = all_waiting(alloc, circuit.sides(), sides)?;
+    let alive = listed_values(alloc, basis.items, sets)?;
+    let rows = all_rows(alloc, basis.circuit, basis.items)?;
+    let queue = all_waiting(alloc, basis.circuit.sides(), sides)?;
     Ok(State { alive, rows, queue })
 }
 
@@ -212,32 +209,30 @@ fn keep_sets<P: Primitive>(
 /// is out of memory.
 fn left_of<P: Primitive>(
     alloc: Global,
-    circuit: &Circuit<P>,
-    boards: &List<Board>,
-    ends: &Ends,
-    items: &[List<Value>],
+    basis: &Basis<'_, P>,
     sides: &[usize],
     sets: &Sets,
 ) -> Result<Flags, NoMemory>
-    requires boards { AreBoards (net_of P.behaviour circuit.now) boards.now }
-    requires ends { AreEnds (net_of P.behaviour circuit.now) ends.now }
-    requires items { length items.now ≡ length circuit.now.joints }
-    requires few { (j : ℕ) → length (slice_index_or items.now j []) < 2 ^ 32 }
-    requires one_each { length sets.now.values ≡ length circuit.now.joints }
-    requires sides { let net = net_of P.behaviour circuit.now in
+    requires boards { AreBoards (net_of P.behaviour basis.now.circuit.now) basis.now.boards.now }
+    requires ends { AreEnds (net_of P.behaviour basis.now.circuit.now) basis.now.ends.now }
+    requires items { length basis.now.items.now ≡ length basis.now.circuit.now.joints }
+    requires few { (j : ℕ) → length (slice_index_or basis.now.items.now j []) < 2 ^ 32 }
+    requires one_each { length sets.now.values ≡ length basis.now.circuit.now.joints }
+    requires sides { let net = net_of P.behaviour basis.now.circuit.now in
         (s : ℕ) → among sides.now s ≡ true → s < length (all_sides net.primitives) }
-    requires closed { IsClosed (net_of P.behaviour circuit.now) (among sides.now) }
-    requires numbers { let net = net_of P.behaviour circuit.now in
-        AreInSupply net (among sides.now) items.now (listed sets.now.values) }
-    ensures one_set { IfOk result (λ alive. length alive ≡ length circuit.now.joints) }
-    ensures flags { let net = net_of P.behaviour circuit.now in
+    requires closed { IsClosed (net_of P.behaviour basis.now.circuit.now) (among sides.now) }
+    requires numbers { let net = net_of P.behaviour basis.now.circuit.now in
+        AreInSupply net (among sides.now) basis.now.items.now (listed sets.now.values) }
+    ensures one_set { IfOk result (λ alive. length alive ≡ length basis.now.circuit.now.joints) }
+    ensures flags { let net = net_of P.behaviour basis.now.circuit.now in
         IfOk result (λ alive. HaveFlags (λ j. among sides.now (giver_side net j)) alive
         sets.now.values) }
-    ensures left { let net = net_of P.behaviour circuit.now in
-        IfOk result (AreLeft net (names_of items.now) (among sides.now) (listed sets.now.values)) }
+    ensures left { let net = net_of P.behaviour basis.now.circuit.now in
+        IfOk result (AreLeft net (names_of basis.now.items.now) (among sides.now)
+        (listed sets.now.values)) }
 {
-    let mut state = begin_with(alloc, circuit, boards, ends, items, sides, sets)?;
-    propagate(circuit, boards, ends, items, sides, &mut state)?;
+    let mut state = begin_with(alloc, basis, sides, sets)?;
+    propagate(basis, sides, &mut state)?;
     Ok(state.alive)
 }
 
@@ -278,6 +273,12 @@ pub fn narrow<P: Primitive>(
 {
     let ends = ends_of(alloc, circuit)?;
     let boards = boards_of(alloc, circuit, &ends)?;
-    let alive = left_of(alloc, circuit, &boards, &ends, supply.lists(), sides, sets)?;
+    let basis = Basis {
+        circuit,
+        boards: &boards,
+        ends: &ends,
+        items: supply.lists(),
+    };
+    let alive = left_of(alloc, &basis, sides, sets)?;
     Ok(keep_sets(circuit, &boards, &alive, sides, sets))
 }

@@ -8,15 +8,12 @@ ghost use Rattle.reo_side_tables.specs.Marks.{IsJointOf};
 ghost use Rattle.reo_rows.specs.Flags.{count_set};
 ghost use Rattle.reo_rows.specs.Groups.{AreNoted};
 ghost use Rattle.reo_rows.specs.Rows.{AreTables, IsSifted, IsSeen};
-ghost use Rattle.reo_rows.specs.Sets.{family_of, names_of, IsReady};
+ghost use Rattle.reo_rows.specs.Basis.{IsReadyOn};
+ghost use Rattle.reo_rows.specs.Sets.{family_of, names_of};
 ghost use Rattle.reo_propagate.specs.Narrow.{IsCut, IsThinnedTo};
 
 use reo_net_base::Primitive;
-use reo_net_circuit::Circuit;
-use reo_net_ends::Ends;
-use reo_rows::{FLOWS, Flags, Rows, is_used, used_marks};
-use reo_side_tables::Board;
-use reo_values::{List, Value};
+use reo_rows::{Basis, FLOWS, Flags, Rows, is_used, used_marks};
 
 /// Whether a joint lost a value, and whether one with flow.
 #[derive(Clone, Copy, Debug, PartialEq, Eq)]
@@ -50,35 +47,36 @@ impl Loss {
 
 /// Takes the values of a joint away that are not used at a side. This takes no memory.
 pub fn thin<P: Primitive>(
-    circuit: &Circuit<P>,
-    boards: &List<Board>,
-    ends: &Ends,
-    items: &[List<Value>],
+    basis: &Basis<'_, P>,
     alive: &mut Flags,
     rows: &Rows,
     side: usize,
     joint: usize,
 ) -> Loss
-    requires ready { let net = net_of P.behaviour circuit.now in
-        IsReady net boards.now ends.now items.now alive.old }
-    requires tables { AreTables (net_of P.behaviour circuit.now) items.now rows.now }
-    requires side { side < length (all_sides (net_of P.behaviour circuit.now).primitives) }
-    requires joint { IsJointOf (net_of P.behaviour circuit.now) side joint }
-    requires noted { AreNoted (net_of P.behaviour circuit.now) rows.now.live side rows.now.notes }
+    requires ready { let net = net_of P.behaviour basis.now.circuit.now in
+        IsReadyOn net basis.now alive.old }
+    requires tables { let net = net_of P.behaviour basis.now.circuit.now in
+        AreTables net basis.now.items.now rows.now }
+    requires side { let net = net_of P.behaviour basis.now.circuit.now in
+        side < length (all_sides net.primitives) }
+    requires joint { IsJointOf (net_of P.behaviour basis.now.circuit.now) side joint }
+    requires noted { let net = net_of P.behaviour basis.now.circuit.now in
+        AreNoted net rows.now.live side rows.now.notes }
     ensures cut { IsCut joint alive.old alive.new result }
     ensures fewer { count_set alive.new + cond result.some 1 0 ≤ count_set alive.old }
-    ensures thinned { let net = net_of P.behaviour circuit.now in
-        (start : Family) → IsSifted net (names_of items.now) start side rows.now
-        → IsSeen net (names_of items.now) start side rows.now
-        → IsThinned net (names_of items.now) side start (family_of alive.old)
-        → IsThinnedTo net (names_of items.now) side joint
+    ensures thinned { let net = net_of P.behaviour basis.now.circuit.now in
+        (start : Family) → IsSifted net (names_of basis.now.items.now) start side rows.now
+        → IsSeen net (names_of basis.now.items.now) start side rows.now
+        → IsThinned net (names_of basis.now.items.now) side start (family_of alive.old)
+        → IsThinnedTo net (names_of basis.now.items.now) side joint
         (length (slice_index_or alive.old joint [])) start alive.new }
 {
-    let _ = ends;
-    let marks = used_marks(circuit, boards, items, rows, side, joint);
+    let marks = used_marks(basis.circuit, basis.boards, basis.items, rows, side, joint);
     let mut loss = Loss::none();
     for code in 0..alive.width(joint) {
-        if alive.is_set(joint, code) && !is_used(circuit, items, rows, side, joint, code, marks) {
+        if alive.is_set(joint, code)
+            && !is_used(basis.circuit, basis.items, rows, side, joint, code, marks)
+        {
             alive.clear(joint, code);
             loss = loss.with(code);
         }

@@ -4,25 +4,20 @@ ghost use Rattle.reo_net_base.specs.Net.{net_of, all_sides};
 ghost use Rattle.reo_side_tables.specs.Marks.{IsJointOf};
 ghost use Rattle.reo_rows.specs.Groups.{AreNoted};
 ghost use Rattle.reo_rows.specs.Rows.{AreTables};
-ghost use Rattle.reo_rows.specs.Sets.{family_of, IsReady};
+ghost use Rattle.reo_rows.specs.Basis.{IsReadyOn};
+ghost use Rattle.reo_rows.specs.Sets.{family_of};
 ghost use Rattle.reo_propagate.specs.Narrow.{IsAwakeOrStays};
 
 use crate::queue::Queue;
 use reo_net_base::Primitive;
-use reo_net_circuit::Circuit;
-use reo_net_ends::Ends;
-use reo_rows::{Flags, Rows, can_stay};
-use reo_side_tables::Board;
-use reo_values::{List, NoMemory, Value};
+use reo_rows::{Basis, Flags, Rows, can_stay};
+use reo_values::NoMemory;
 
 /// Lets a side wait where a joint of it lost values, unless it can stay at rest: no value with flow
 /// was lost there, and each of its rows has the mark of some value there, but for some that it can
 /// do without. `NoMemory` is out of memory.
 pub fn wake<P: Primitive>(
-    circuit: &Circuit<P>,
-    boards: &List<Board>,
-    ends: &Ends,
-    items: &[List<Value>],
+    basis: &Basis<'_, P>,
     alive: &Flags,
     rows: &mut Rows,
     queue: &mut Queue,
@@ -30,18 +25,21 @@ pub fn wake<P: Primitive>(
     joint: usize,
     lost_flow: bool,
 ) -> Result<(), NoMemory>
-    requires ready { let net = net_of P.behaviour circuit.now in
-        IsReady net boards.now ends.now items.now alive.now }
-    requires tables { AreTables (net_of P.behaviour circuit.now) items.now rows.old }
-    requires side { side < length (all_sides (net_of P.behaviour circuit.now).primitives) }
-    requires joint { IsJointOf (net_of P.behaviour circuit.now) side joint }
-    requires waits { let net = net_of P.behaviour circuit.now in
+    requires ready { let net = net_of P.behaviour basis.now.circuit.now in
+        IsReadyOn net basis.now alive.now }
+    requires tables { let net = net_of P.behaviour basis.now.circuit.now in
+        AreTables net basis.now.items.now rows.old }
+    requires side { let net = net_of P.behaviour basis.now.circuit.now in
+        side < length (all_sides net.primitives) }
+    requires joint { IsJointOf (net_of P.behaviour basis.now.circuit.now) side joint }
+    requires waits { let net = net_of P.behaviour basis.now.circuit.now in
         length queue.old.waits ≡ length (all_sides net.primitives) }
-    requires noted { let net = net_of P.behaviour circuit.now in
+    requires noted { let net = net_of P.behaviour basis.now.circuit.now in
         slice_index_or queue.old.waits side true ≡ false
         → AreNoted net rows.old.live side rows.old.notes }
-    ensures tables { AreTables (net_of P.behaviour circuit.now) items.now rows.new }
-    ensures awake { let net = net_of P.behaviour circuit.now in
+    ensures tables { let net = net_of P.behaviour basis.now.circuit.now in
+        AreTables net basis.now.items.now rows.new }
+    ensures awake { let net = net_of P.behaviour basis.now.circuit.now in
         OnOk result (IsAwakeOrStays net (family_of alive.now) rows.old rows.new queue.old queue.new
         side joint lost_flow) }
     ensures err { OnErr result (rows.new ≡ rows.old) }
@@ -49,7 +47,7 @@ pub fn wake<P: Primitive>(
     if *queue.waits.at(side) {
         return queue.wake(side);
     }
-    if !lost_flow && can_stay(circuit, boards, ends, items, alive, rows, side, joint) {
+    if !lost_flow && can_stay(basis, alive, rows, side, joint) {
         return Ok(());
     }
     queue.wake(side)

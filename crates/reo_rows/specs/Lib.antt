@@ -1,5 +1,6 @@
 pub mod Flags
 pub mod Sets
+pub mod Basis
 pub mod Stands
 pub mod Flows
 pub mod Groups

@@ -9,43 +9,41 @@ ghost use Rattle.reo_joint_values.specs.Works.{Follows, IsGivenIn, TakerWorks, T
 ghost use Rattle.reo_side_tables.specs.Boards.{IsFlow};
 ghost use Rattle.reo_side_tables.specs.Marks.{TakesFlow, GivesFlow};
 ghost use Rattle.reo_rows.specs.Flags.{flag};
-ghost use Rattle.reo_rows.specs.Sets.{family_of, names_of, IsReady};
+ghost use Rattle.reo_rows.specs.Sets.{family_of, names_of};
 ghost use Rattle.reo_rows.specs.Stands.{FlowsStand};
+ghost use Rattle.reo_rows.specs.Basis.{IsReadyOn};
 ghost use Rattle.reo_rows.specs.Flows.{IsPassedOn};
 
+use crate::basis::Basis;
 use crate::flags::Flags;
 use crate::items::{gives_value, lets_in, source_of};
 use crate::marks::FLOWS;
 use reo_net_base::Primitive;
 use reo_net_circuit::Circuit;
-use reo_net_ends::Ends;
-use reo_side_tables::{Board, Flow};
-use reo_values::{List, Value};
+use reo_side_tables::Flow;
+use reo_values::Value;
 
 /// Whether a joint has the item that a row gives there with flow for what it takes.
 fn is_flow_given<P: Primitive>(
-    circuit: &Circuit<P>,
-    boards: &List<Board>,
-    ends: &Ends,
-    items: &[List<Value>],
+    basis: &Basis<'_, P>,
     alive: &Flags,
     side: usize,
     row: usize,
     joint: usize,
     taken: Option<&Value>,
 ) -> bool
-    requires ready { let net = net_of P.behaviour circuit.now in
-        IsReady net boards.now ends.now items.now alive.now }
-    requires row { IsRowOf (net_of P.behaviour circuit.now) side row }
-    requires gives { GivesFlow (net_of P.behaviour circuit.now) side row joint }
-    ensures { let net = net_of P.behaviour circuit.now in
-        IsTrue result ↔ IsGivenIn net (names_of items.now) (family_of alive.now) row joint
+    requires ready { let net = net_of P.behaviour basis.now.circuit.now in
+        IsReadyOn net basis.now alive.now }
+    requires row { IsRowOf (net_of P.behaviour basis.now.circuit.now) side row }
+    requires gives { GivesFlow (net_of P.behaviour basis.now.circuit.now) side row joint }
+    ensures { let net = net_of P.behaviour basis.now.circuit.now in
+        IsTrue result ↔ IsGivenIn net (names_of basis.now.items.now) (family_of alive.now) row joint
         (option_copied taken.entry) }
 {
-    let _ = boards;
-    let _ = ends;
     for code in FLOWS..alive.width(joint) {
-        if alive.is_set(joint, code) && gives_value(circuit, items, side, row, joint, taken, code) {
+        if alive.is_set(joint, code)
+            && gives_value(basis.circuit, basis.items, side, row, joint, taken, code)
+        {
             return true;
         }
     }
@@ -73,10 +71,7 @@ pub(crate) fn follows<P: Primitive>(
 
 /// Whether each joint has what a row gives there for an item that it takes in at a joint.
 fn is_passed_on<P: Primitive>(
-    circuit: &Circuit<P>,
-    boards: &List<Board>,
-    ends: &Ends,
-    items: &[List<Value>],
+    basis: &Basis<'_, P>,
     alive: &Flags,
     side: usize,
     row: usize,
@@ -84,29 +79,19 @@ fn is_passed_on<P: Primitive>(
     joint: usize,
     item: &Value,
 ) -> bool
-    requires ready { let net = net_of P.behaviour circuit.now in
-        IsReady net boards.now ends.now items.now alive.now }
-    requires row { IsRowOf (net_of P.behaviour circuit.now) side row }
-    requires flow { IsFlow (net_of P.behaviour circuit.now) side row flow.now }
-    requires takes { TakesFlow (net_of P.behaviour circuit.now) side row joint }
-    ensures { let net = net_of P.behaviour circuit.now in
-        IsTrue result ↔ IsPassedOn net (names_of items.now) (family_of alive.now) side row joint
-        (Some item.now) }
+    requires ready { let net = net_of P.behaviour basis.now.circuit.now in
+        IsReadyOn net basis.now alive.now }
+    requires row { IsRowOf (net_of P.behaviour basis.now.circuit.now) side row }
+    requires flow { IsFlow (net_of P.behaviour basis.now.circuit.now) side row flow.now }
+    requires takes { TakesFlow (net_of P.behaviour basis.now.circuit.now) side row joint }
+    ensures { let net = net_of P.behaviour basis.now.circuit.now in
+        IsTrue result ↔ IsPassedOn net (names_of basis.now.items.now) (family_of alive.now) side row
+        joint (Some item.now) }
 {
     for index in 0..flow.giving.len() {
         let other = *flow.giving.at(index);
-        if follows(circuit, side, row, other, joint)
-            && !is_flow_given(
-                circuit,
-                boards,
-                ends,
-                items,
-                alive,
-                side,
-                row,
-                other,
-                Some(item),
-            )
+        if follows(basis.circuit, side, row, other, joint)
+            && !is_flow_given(basis, alive, side, row, other, Some(item))
         {
             return false;
         }
@@ -117,10 +102,7 @@ fn is_passed_on<P: Primitive>(
 /// Whether an item, by its place, may be taken in with flow at a joint, and what is given for it
 /// may stand.
 pub(crate) fn flow_works<P: Primitive>(
-    circuit: &Circuit<P>,
-    boards: &List<Board>,
-    ends: &Ends,
-    items: &[List<Value>],
+    basis: &Basis<'_, P>,
     alive: &Flags,
     side: usize,
     row: usize,
@@ -128,51 +110,43 @@ pub(crate) fn flow_works<P: Primitive>(
     joint: usize,
     code: usize,
 ) -> bool
-    requires ready { let net = net_of P.behaviour circuit.now in
-        IsReady net boards.now ends.now items.now alive.now }
-    requires row { IsRowOf (net_of P.behaviour circuit.now) side row }
-    requires flow { IsFlow (net_of P.behaviour circuit.now) side row flow.now }
-    requires takes { TakesFlow (net_of P.behaviour circuit.now) side row joint }
+    requires ready { let net = net_of P.behaviour basis.now.circuit.now in
+        IsReadyOn net basis.now alive.now }
+    requires row { IsRowOf (net_of P.behaviour basis.now.circuit.now) side row }
+    requires flow { IsFlow (net_of P.behaviour basis.now.circuit.now) side row flow.now }
+    requires takes { TakesFlow (net_of P.behaviour basis.now.circuit.now) side row joint }
     requires flows { 4 ≤ code }
     requires code { code < length (slice_index_or alive.now joint []) }
     requires has { flag alive.now joint code ≡ true }
-    ensures { let net = net_of P.behaviour circuit.now in
-        IsTrue result ↔ TakerWorks net (names_of items.now) (family_of alive.now) side row joint
-        (Flowing (code - 4)) }
+    ensures { let net = net_of P.behaviour basis.now.circuit.now in
+        IsTrue result ↔ TakerWorks net (names_of basis.now.items.now) (family_of alive.now) side row
+        joint (Flowing (code - 4)) }
 {
-    let item = items[joint].at(code - FLOWS);
-    lets_in(circuit, side, row, joint, item)
-        && is_passed_on(
-            circuit, boards, ends, items, alive, side, row, flow, joint, item,
-        )
+    let item = basis.items[joint].at(code - FLOWS);
+    lets_in(basis.circuit, side, row, joint, item)
+        && is_passed_on(basis, alive, side, row, flow, joint, item)
 }
 
 /// Whether some item may be taken in with flow at a joint.
 fn takes_flow<P: Primitive>(
-    circuit: &Circuit<P>,
-    boards: &List<Board>,
-    ends: &Ends,
-    items: &[List<Value>],
+    basis: &Basis<'_, P>,
     alive: &Flags,
     side: usize,
     row: usize,
     flow: &Flow,
     joint: usize,
 ) -> bool
-    requires ready { let net = net_of P.behaviour circuit.now in
-        IsReady net boards.now ends.now items.now alive.now }
-    requires row { IsRowOf (net_of P.behaviour circuit.now) side row }
-    requires flow { IsFlow (net_of P.behaviour circuit.now) side row flow.now }
-    requires takes { TakesFlow (net_of P.behaviour circuit.now) side row joint }
-    ensures { let net = net_of P.behaviour circuit.now in
-        IsTrue result ↔ TakerHas net (names_of items.now) (family_of alive.now) side row joint }
+    requires ready { let net = net_of P.behaviour basis.now.circuit.now in
+        IsReadyOn net basis.now alive.now }
+    requires row { IsRowOf (net_of P.behaviour basis.now.circuit.now) side row }
+    requires flow { IsFlow (net_of P.behaviour basis.now.circuit.now) side row flow.now }
+    requires takes { TakesFlow (net_of P.behaviour basis.now.circuit.now) side row joint }
+    ensures { let net = net_of P.behaviour basis.now.circuit.now in
+        IsTrue result ↔ TakerHas net (names_of basis.now.items.now) (family_of alive.now) side row
+        joint }
 {
     for code in FLOWS..alive.width(joint) {
-        if alive.is_set(joint, code)
-            && flow_works(
-                circuit, boards, ends, items, alive, side, row, flow, joint, code,
-            )
-        {
+        if alive.is_set(joint, code) && flow_works(basis, alive, side, row, flow, joint, code) {
             return true;
         }
     }
@@ -181,32 +155,30 @@ fn takes_flow<P: Primitive>(
 
 /// Whether what a row takes in and gives with flow can stand.
 pub(crate) fn flows_stand<P: Primitive>(
-    circuit: &Circuit<P>,
-    boards: &List<Board>,
-    ends: &Ends,
-    items: &[List<Value>],
+    basis: &Basis<'_, P>,
     alive: &Flags,
     side: usize,
     row: usize,
     flow: &Flow,
 ) -> bool
-    requires ready { let net = net_of P.behaviour circuit.now in
-        IsReady net boards.now ends.now items.now alive.now }
-    requires row { IsRowOf (net_of P.behaviour circuit.now) side row }
-    requires flow { IsFlow (net_of P.behaviour circuit.now) side row flow.now }
-    ensures { let net = net_of P.behaviour circuit.now in
-        IsTrue result ↔ FlowsStand net (names_of items.now) (family_of alive.now) side row }
+    requires ready { let net = net_of P.behaviour basis.now.circuit.now in
+        IsReadyOn net basis.now alive.now }
+    requires row { IsRowOf (net_of P.behaviour basis.now.circuit.now) side row }
+    requires flow { IsFlow (net_of P.behaviour basis.now.circuit.now) side row flow.now }
+    ensures { let net = net_of P.behaviour basis.now.circuit.now in
+        IsTrue result ↔ FlowsStand net (names_of basis.now.items.now) (family_of alive.now) side
+        row }
 {
     for index in 0..flow.taking.len() {
         let joint = *flow.taking.at(index);
-        if !takes_flow(circuit, boards, ends, items, alive, side, row, flow, joint) {
+        if !takes_flow(basis, alive, side, row, flow, joint) {
             return false;
         }
     }
     for index in 0..flow.giving.len() {
         let joint = *flow.giving.at(index);
-        if source_of(circuit, side, row, joint).is_none()
-            && !is_flow_given(circuit, boards, ends, items, alive, side, row, joint, None)
+        if source_of(basis.circuit, side, row, joint).is_none()
+            && !is_flow_given(basis, alive, side, row, joint, None)
         {
             return false;
         }

@@ -1,6 +1,7 @@
 //! Which rows of a side work, and which values they use.
 #![tactic(auto)]
 
+mod basis;
 mod flags;
 mod flows;
 mod groups;
@@ -13,6 +14,7 @@ mod sifting;
 mod standing;
 mod usage;
 
+pub use basis::Basis;
 pub use flags::Flags;
 pub use groups::{Group, Odd};
 pub use marks::{FLOWS, Marks, mark_seen, marks_left};

@@ -5,15 +5,15 @@ ghost use Rattle.reo_net_base.specs.Net.{net_of};
 ghost use Rattle.reo_net_laws.specs.Ends.{same_mark};
 ghost use Rattle.reo_joint_values.specs.declared.value.JointValue.TheVariants.{Flow};
 ghost use Rattle.reo_joint_values.specs.Values.{giver_mark, taker_mark};
-ghost use Rattle.reo_rows.specs.Sets.{value_of, family_of, IsReady};
+ghost use Rattle.reo_rows.specs.Sets.{value_of, family_of};
+ghost use Rattle.reo_rows.specs.Basis.{IsReadyOn};
 ghost use Rattle.reo_rows.specs.Stands.{value_mark, HasMark, marks_has, marks_byte};
 
+use crate::basis::Basis;
 use crate::flags::Flags;
 use reo_net_base::{Mark, Primitive};
 use reo_net_circuit::Circuit;
-use reo_net_ends::Ends;
-use reo_side_tables::{Board, giver_side};
-use reo_values::{List, Value};
+use reo_side_tables::giver_side;
 
 /// The places of the values of a joint: without flow, where the giver requires a reason, where the
 /// taker does, where neither does, and jam; from `FLOWS` on the values with flow.
@@ -166,24 +166,18 @@ fn marks_of(flow: bool, other: bool, neither: bool, required: bool, jam: bool) -
 
 /// The marks that the values of a joint have, as a side of the joint sees them.
 pub fn marks_left<P: Primitive>(
-    circuit: &Circuit<P>,
-    boards: &List<Board>,
-    ends: &Ends,
-    items: &[List<Value>],
+    basis: &Basis<'_, P>,
     alive: &Flags,
     side: usize,
     joint: usize,
 ) -> Marks
-    requires ready { let net = net_of P.behaviour circuit.now in
-        IsReady net boards.now ends.now items.now alive.now }
-    requires joint { joint < length circuit.now.joints }
-    ensures { let net = net_of P.behaviour circuit.now in
+    requires ready { let net = net_of P.behaviour basis.now.circuit.now in
+        IsReadyOn net basis.now alive.now }
+    requires joint { joint < length basis.now.circuit.now.joints }
+    ensures { let net = net_of P.behaviour basis.now.circuit.now in
         (m : Said) → (marks_has result m ≡ true) ↔ HasMark net (family_of alive.now) side joint m }
 {
-    let _ = boards;
-    let _ = ends;
-    let _ = items;
-    let gives = giver_side(circuit, joint) == side;
+    let gives = giver_side(basis.circuit, joint) == side;
     let giver_requires = alive.is_set(joint, GIVER_REQUIRES);
     let taker_requires = alive.is_set(joint, TAKER_REQUIRES);
     let neither = alive.is_set(joint, NEITHER_REQUIRES);

@@ -8,8 +8,10 @@ ghost use Rattle.reo_side_tables.specs.Marks.{side_in, TakesFlow, GivesFlow};
 ghost use Rattle.reo_rows.specs.Flags.{flag, AreAlikeTables};
 ghost use Rattle.reo_rows.specs.Rows.{AreTables, IsSeen};
 ghost use Rattle.reo_rows.specs.Seeing.{HasValuePlaces, AreSeen, IsGivenValue, GivenUse, FollowedUse, FollowUse, TakenUse, TakesUse, AloneUse, RowUse, LiveRowUse};
-ghost use Rattle.reo_rows.specs.Sets.{family_of, names_of, IsReady};
+ghost use Rattle.reo_rows.specs.Basis.{IsReadyOn};
+ghost use Rattle.reo_rows.specs.Sets.{family_of, names_of};
 
+use crate::basis::Basis;
 use crate::flags::Flags;
 use crate::flows::{flow_works, follows};
 use crate::items::{gives_value, source_of};
@@ -17,8 +19,7 @@ use crate::marks::FLOWS;
 use crate::rows::Rows;
 use reo_net_base::Primitive;
 use reo_net_circuit::Circuit;
-use reo_net_ends::Ends;
-use reo_side_tables::{Board, Flow};
+use reo_side_tables::Flow;
 use reo_values::{List, Value};
 
 /// No value with flow of a joint is seen.
@@ -160,10 +161,7 @@ fn see_followers<P: Primitive>(
 /// Sees a value of a joint, by its place, if a row takes it in there with flow, and what it gives
 /// for it.
 fn see_taken<P: Primitive>(
-    circuit: &Circuit<P>,
-    boards: &List<Board>,
-    ends: &Ends,
-    items: &[List<Value>],
+    basis: &Basis<'_, P>,
     alive: &Flags,
     seen: &mut Flags,
     side: usize,
@@ -172,35 +170,39 @@ fn see_taken<P: Primitive>(
     source: usize,
     code: usize,
 )
-    requires ready { let net = net_of P.behaviour circuit.now in
-        IsReady net boards.now ends.now items.now alive.now }
-    requires seen { HasValuePlaces (net_of P.behaviour circuit.now) items.now seen.old }
-    requires row { IsRowOf (net_of P.behaviour circuit.now) side row }
-    requires flow { IsFlow (net_of P.behaviour circuit.now) side row flow.now }
-    requires takes { TakesFlow (net_of P.behaviour circuit.now) side row source }
+    requires ready { let net = net_of P.behaviour basis.now.circuit.now in
+        IsReadyOn net basis.now alive.now }
+    requires seen { let net = net_of P.behaviour basis.now.circuit.now in
+        HasValuePlaces net basis.now.items.now seen.old }
+    requires row { IsRowOf (net_of P.behaviour basis.now.circuit.now) side row }
+    requires flow { IsFlow (net_of P.behaviour basis.now.circuit.now) side row flow.now }
+    requires takes { TakesFlow (net_of P.behaviour basis.now.circuit.now) side row source }
     requires flows { 4 ≤ code }
     requires code { code < length (slice_index_or alive.now source []) }
-    ensures { let net = net_of P.behaviour circuit.now in
-        AreSeen (TakenUse net (names_of items.now) (family_of alive.now) side row source code)
-        seen.old seen.new }
+    ensures { let net = net_of P.behaviour basis.now.circuit.now in
+        AreSeen (TakenUse net (names_of basis.now.items.now) (family_of alive.now) side row source
+        code) seen.old seen.new }
 {
-    if alive.is_set(source, code)
-        && flow_works(
-            circuit, boards, ends, items, alive, side, row, flow, source, code,
-        )
-    {
+    if alive.is_set(source, code) && flow_works(basis, alive, side, row, flow, source, code) {
         seen.put(source, code, true);
-        let item = items[source].at(code - FLOWS);
-        see_followers(circuit, items, alive, seen, side, row, flow, source, item);
+        let item = basis.items[source].at(code - FLOWS);
+        see_followers(
+            basis.circuit,
+            basis.items,
+            alive,
+            seen,
+            side,
+            row,
+            flow,
+            source,
+            item,
+        );
     }
 }
 
 /// Sees the values that a row takes in with flow at a joint, and what it gives for them.
 fn see_takes<P: Primitive>(
-    circuit: &Circuit<P>,
-    boards: &List<Board>,
-    ends: &Ends,
-    items: &[List<Value>],
+    basis: &Basis<'_, P>,
     alive: &Flags,
     seen: &mut Flags,
     side: usize,
@@ -208,20 +210,19 @@ fn see_takes<P: Primitive>(
     flow: &Flow,
     source: usize,
 )
-    requires ready { let net = net_of P.behaviour circuit.now in
-        IsReady net boards.now ends.now items.now alive.now }
-    requires seen { HasValuePlaces (net_of P.behaviour circuit.now) items.now seen.old }
-    requires row { IsRowOf (net_of P.behaviour circuit.now) side row }
-    requires flow { IsFlow (net_of P.behaviour circuit.now) side row flow.now }
-    requires takes { TakesFlow (net_of P.behaviour circuit.now) side row source }
-    ensures { let net = net_of P.behaviour circuit.now in
-        AreSeen (TakesUse net (names_of items.now) (family_of alive.now) side row source) seen.old
-        seen.new }
+    requires ready { let net = net_of P.behaviour basis.now.circuit.now in
+        IsReadyOn net basis.now alive.now }
+    requires seen { let net = net_of P.behaviour basis.now.circuit.now in
+        HasValuePlaces net basis.now.items.now seen.old }
+    requires row { IsRowOf (net_of P.behaviour basis.now.circuit.now) side row }
+    requires flow { IsFlow (net_of P.behaviour basis.now.circuit.now) side row flow.now }
+    requires takes { TakesFlow (net_of P.behaviour basis.now.circuit.now) side row source }
+    ensures { let net = net_of P.behaviour basis.now.circuit.now in
+        AreSeen (TakesUse net (names_of basis.now.items.now) (family_of alive.now) side row source)
+        seen.old seen.new }
 {
     for code in FLOWS..alive.width(source) {
-        see_taken(
-            circuit, boards, ends, items, alive, seen, side, row, flow, source, code,
-        );
+        see_taken(basis, alive, seen, side, row, flow, source, code);
     }
 }
 
@@ -251,100 +252,81 @@ fn see_alone<P: Primitive>(
 
 /// Sees the values with flow that go with a row.
 fn see_row<P: Primitive>(
-    circuit: &Circuit<P>,
-    boards: &List<Board>,
-    ends: &Ends,
-    items: &[List<Value>],
+    basis: &Basis<'_, P>,
     alive: &Flags,
     seen: &mut Flags,
     side: usize,
     row: usize,
     flow: &Flow,
 )
-    requires ready { let net = net_of P.behaviour circuit.now in
-        IsReady net boards.now ends.now items.now alive.now }
-    requires seen { HasValuePlaces (net_of P.behaviour circuit.now) items.now seen.old }
-    requires row { IsRowOf (net_of P.behaviour circuit.now) side row }
-    requires flow { IsFlow (net_of P.behaviour circuit.now) side row flow.now }
-    ensures { let net = net_of P.behaviour circuit.now in
-        AreSeen (RowUse net (names_of items.now) (family_of alive.now) side row) seen.old seen.new }
+    requires ready { let net = net_of P.behaviour basis.now.circuit.now in
+        IsReadyOn net basis.now alive.now }
+    requires seen { let net = net_of P.behaviour basis.now.circuit.now in
+        HasValuePlaces net basis.now.items.now seen.old }
+    requires row { IsRowOf (net_of P.behaviour basis.now.circuit.now) side row }
+    requires flow { IsFlow (net_of P.behaviour basis.now.circuit.now) side row flow.now }
+    ensures { let net = net_of P.behaviour basis.now.circuit.now in
+        AreSeen (RowUse net (names_of basis.now.items.now) (family_of alive.now) side row) seen.old
+        seen.new }
 {
-    circuit.known();
+    basis.circuit.known();
     for index in 0..flow.taking.len() {
         let source = *flow.taking.at(index);
-        see_takes(
-            circuit, boards, ends, items, alive, seen, side, row, flow, source,
-        );
+        see_takes(basis, alive, seen, side, row, flow, source);
     }
     for index in 0..flow.giving.len() {
         let joint = *flow.giving.at(index);
-        see_alone(circuit, items, alive, seen, side, row, joint);
+        see_alone(basis.circuit, basis.items, alive, seen, side, row, joint);
     }
 }
 
 /// Sees the values with flow that go with a row of a side, if it has its flag.
 fn see_live<P: Primitive>(
-    circuit: &Circuit<P>,
-    boards: &List<Board>,
-    ends: &Ends,
-    items: &[List<Value>],
+    basis: &Basis<'_, P>,
     alive: &Flags,
     live: &Flags,
     seen: &mut Flags,
     side: usize,
     row: usize,
 )
-    requires ready { let net = net_of P.behaviour circuit.now in
-        IsReady net boards.now ends.now items.now alive.now }
+    requires ready { let net = net_of P.behaviour basis.now.circuit.now in
+        IsReadyOn net basis.now alive.now }
     requires live { side < length live.now }
-    requires width { let net = net_of P.behaviour circuit.now in
+    requires width { let net = net_of P.behaviour basis.now.circuit.now in
         length (slice_index_or live.now side []) ≡ row_count (side_in net side) }
-    requires seen { HasValuePlaces (net_of P.behaviour circuit.now) items.now seen.old }
-    requires side { side < length (all_sides (net_of P.behaviour circuit.now).primitives) }
-    requires row { IsRowOf (net_of P.behaviour circuit.now) side row }
-    ensures { let net = net_of P.behaviour circuit.now in
-        AreSeen (LiveRowUse net (names_of items.now) (family_of alive.now) live.now side row)
-        seen.old seen.new }
+    requires seen { let net = net_of P.behaviour basis.now.circuit.now in
+        HasValuePlaces net basis.now.items.now seen.old }
+    requires side { let net = net_of P.behaviour basis.now.circuit.now in
+        side < length (all_sides net.primitives) }
+    requires row { IsRowOf (net_of P.behaviour basis.now.circuit.now) side row }
+    ensures { let net = net_of P.behaviour basis.now.circuit.now in
+        AreSeen (LiveRowUse net (names_of basis.now.items.now) (family_of alive.now) live.now side
+        row) seen.old seen.new }
 {
     if live.is_set(side, row) {
-        let flow = boards.at(side).flows.at(row);
-        see_row(circuit, boards, ends, items, alive, seen, side, row, flow);
+        let flow = basis.boards.at(side).flows.at(row);
+        see_row(basis, alive, seen, side, row, flow);
     }
 }
 
 /// Sees which values with flow at the joints of a side go with its rows that have their flags.
 /// Those that were seen there before are forgotten. This takes no memory.
-pub fn see<P: Primitive>(
-    circuit: &Circuit<P>,
-    boards: &List<Board>,
-    ends: &Ends,
-    items: &[List<Value>],
-    alive: &Flags,
-    rows: &mut Rows,
-    side: usize,
-)
-    requires ready { let net = net_of P.behaviour circuit.now in
-        IsReady net boards.now ends.now items.now alive.now }
-    requires tables { AreTables (net_of P.behaviour circuit.now) items.now rows.old }
-    requires side { side < length (all_sides (net_of P.behaviour circuit.now).primitives) }
-    ensures tables { AreTables (net_of P.behaviour circuit.now) items.now rows.new }
-    ensures seen { let net = net_of P.behaviour circuit.now in
-        IsSeen net (names_of items.now) (family_of alive.now) side rows.new }
+pub fn see<P: Primitive>(basis: &Basis<'_, P>, alive: &Flags, rows: &mut Rows, side: usize)
+    requires ready { let net = net_of P.behaviour basis.now.circuit.now in
+        IsReadyOn net basis.now alive.now }
+    requires tables { let net = net_of P.behaviour basis.now.circuit.now in
+        AreTables net basis.now.items.now rows.old }
+    requires side { let net = net_of P.behaviour basis.now.circuit.now in
+        side < length (all_sides net.primitives) }
+    ensures tables { let net = net_of P.behaviour basis.now.circuit.now in
+        AreTables net basis.now.items.now rows.new }
+    ensures seen { let net = net_of P.behaviour basis.now.circuit.now in
+        IsSeen net (names_of basis.now.items.now) (family_of alive.now) side rows.new }
     ensures live { rows.new.live ≡ rows.old.live }
     ensures notes { rows.new.notes ≡ rows.old.notes }
 {
-    unsee_all(&mut rows.seen, boards.at(side).joints.as_slice());
-    for row in 0..circuit.rows(side) {
-        see_live(
-            circuit,
-            boards,
-            ends,
-            items,
-            alive,
-            &rows.live,
-            &mut rows.seen,
-            side,
-            row,
-        );
+    unsee_all(&mut rows.seen, basis.boards.at(side).joints.as_slice());
+    for row in 0..basis.circuit.rows(side) {
+        see_live(basis, alive, &rows.live, &mut rows.seen, side, row);
     }
 }

@@ -9,10 +9,12 @@ ghost use Rattle.reo_rows.specs.Beginning.{nothing_noted};
 ghost use Rattle.reo_rows.specs.Flags.{flag};
 ghost use Rattle.reo_rows.specs.Groups.{IsNotedOf, IsOdd};
 ghost use Rattle.reo_rows.specs.Rows.{AreTables, AreLive, IsSifted, OtherSidesStay};
-ghost use Rattle.reo_rows.specs.Sets.{family_of, names_of, IsReady};
+ghost use Rattle.reo_rows.specs.Sets.{family_of, names_of};
 ghost use Rattle.reo_rows.specs.Stands.{GroupStands};
+ghost use Rattle.reo_rows.specs.Basis.{IsReadyOn};
 ghost use Rattle.reo_rows.specs.Sifting.{AreOdds, AreNotedFrom, AreRowsNoted, IsRowSifted};
 
+use crate::basis::Basis;
 use crate::flags::Flags;
 use crate::flows::flows_stand;
 use crate::groups::{Group, Odd};
@@ -20,67 +22,53 @@ use crate::rows::Rows;
 use crate::standing::{fit_groups, marks_stand, odd_of};
 use reo_net_base::Primitive;
 use reo_net_circuit::Circuit;
-use reo_net_ends::Ends;
-use reo_side_tables::Board;
-use reo_values::{List, NoMemory, Value};
+use reo_values::{List, NoMemory};
 
 /// Where a group of a side has the mark of no value, where this is not 0 exactly if that is
 /// nowhere.
 fn odd_where<P: Primitive>(
-    circuit: &Circuit<P>,
-    boards: &List<Board>,
-    ends: &Ends,
-    items: &[List<Value>],
+    basis: &Basis<'_, P>,
     alive: &Flags,
     side: usize,
     group: usize,
     fit: u8,
 ) -> Odd
-    requires ready { let net = net_of P.behaviour circuit.now in
-        IsReady net boards.now ends.now items.now alive.now }
-    requires side { side < length (all_sides (net_of P.behaviour circuit.now).primitives) }
-    requires group { group < groups_in (net_of P.behaviour circuit.now) side }
-    requires fit { let net = net_of P.behaviour circuit.now in
+    requires ready { let net = net_of P.behaviour basis.now.circuit.now in
+        IsReadyOn net basis.now alive.now }
+    requires side { let net = net_of P.behaviour basis.now.circuit.now in
+        side < length (all_sides net.primitives) }
+    requires group { group < groups_in (net_of P.behaviour basis.now.circuit.now) side }
+    requires fit { let net = net_of P.behaviour basis.now.circuit.now in
         (fit ≢ 0) ↔ GroupStands net (family_of alive.now) side group }
-    ensures { IsOdd (net_of P.behaviour circuit.now) (family_of alive.now) side group result }
+    ensures { let net = net_of P.behaviour basis.now.circuit.now in
+        IsOdd net (family_of alive.now) side group result }
 {
     if fit != 0 {
         Odd::Nowhere
     } else {
-        odd_of(circuit, boards, ends, items, alive, side, group)
+        odd_of(basis, alive, side, group)
     }
 }
 
 /// Where each group of a side has the mark of no value. `NoMemory` is out of memory.
 fn find_odds<P: Primitive>(
-    circuit: &Circuit<P>,
-    boards: &List<Board>,
-    ends: &Ends,
-    items: &[List<Value>],
+    basis: &Basis<'_, P>,
     alive: &Flags,
     side: usize,
     fits: &mut Vec<u8>,
     odds: &mut List<Odd>,
 ) -> Result<(), NoMemory>
-    requires ready { let net = net_of P.behaviour circuit.now in
-        IsReady net boards.now ends.now items.now alive.now }
-    requires side { side < length (all_sides (net_of P.behaviour circuit.now).primitives) }
-    ensures { let net = net_of P.behaviour circuit.now in
+    requires ready { let net = net_of P.behaviour basis.now.circuit.now in
+        IsReadyOn net basis.now alive.now }
+    requires side { let net = net_of P.behaviour basis.now.circuit.now in
+        side < length (all_sides net.primitives) }
+    ensures { let net = net_of P.behaviour basis.now.circuit.now in
         OnOk result (AreOdds net (family_of alive.now) side odds.new) }
 {
-    fit_groups(circuit, boards, ends, items, alive, side, fits)?;
+    fit_groups(basis, alive, side, fits)?;
     odds.clear();
-    for group in 0..circuit.groups(side) {
-        let odd = odd_where(
-            circuit,
-            boards,
-            ends,
-            items,
-            alive,
-            side,
-            group,
-            fits[group],
-        );
+    for group in 0..basis.circuit.groups(side) {
+        let odd = odd_where(basis, alive, side, group, fits[group]);
         odds.push(odd)?;
     }
     Ok(())
@@ -147,59 +135,55 @@ fn note<P: Primitive>(circuit: &Circuit<P>, notes: &mut List<Group>, side: usize
 
 /// Whether a row works, where its group is as said.
 fn works<P: Primitive>(
-    circuit: &Circuit<P>,
-    boards: &List<Board>,
-    ends: &Ends,
-    items: &[List<Value>],
+    basis: &Basis<'_, P>,
     alive: &Flags,
     side: usize,
     row: usize,
     odd: Odd,
 ) -> bool
-    requires ready { let net = net_of P.behaviour circuit.now in
-        IsReady net boards.now ends.now items.now alive.now }
-    requires side { side < length (all_sides (net_of P.behaviour circuit.now).primitives) }
-    requires row { IsRowOf (net_of P.behaviour circuit.now) side row }
-    requires odd { let net = net_of P.behaviour circuit.now in
+    requires ready { let net = net_of P.behaviour basis.now.circuit.now in
+        IsReadyOn net basis.now alive.now }
+    requires side { let net = net_of P.behaviour basis.now.circuit.now in
+        side < length (all_sides net.primitives) }
+    requires row { IsRowOf (net_of P.behaviour basis.now.circuit.now) side row }
+    requires odd { let net = net_of P.behaviour basis.now.circuit.now in
         IsOdd net (family_of alive.now) side (group_in net side row) odd }
-    ensures { let net = net_of P.behaviour circuit.now in
-        IsTrue result ↔ RowWorks net (names_of items.now) (family_of alive.now) side row }
+    ensures { let net = net_of P.behaviour basis.now.circuit.now in
+        IsTrue result ↔ RowWorks net (names_of basis.now.items.now) (family_of alive.now) side row }
 {
-    circuit.known();
-    let flow = boards.at(side).flows.at(row);
-    marks_stand(circuit, boards, ends, items, alive, side, row, odd)
-        && flows_stand(circuit, boards, ends, items, alive, side, row, flow)
+    basis.circuit.known();
+    let flow = basis.boards.at(side).flows.at(row);
+    marks_stand(basis, alive, side, row, odd) && flows_stand(basis, alive, side, row, flow)
 }
 
 /// Clears the flag of a row of a side if it does not work, and else notes it, where the rows behind
 /// it are noted.
 fn sift_row<P: Primitive>(
-    circuit: &Circuit<P>,
-    boards: &List<Board>,
-    ends: &Ends,
-    items: &[List<Value>],
+    basis: &Basis<'_, P>,
     alive: &Flags,
     rows: &mut Rows,
     side: usize,
     row: usize,
 )
-    requires ready { let net = net_of P.behaviour circuit.now in
-        IsReady net boards.now ends.now items.now alive.now }
-    requires tables { AreTables (net_of P.behaviour circuit.now) items.now rows.old }
-    requires side { side < length (all_sides (net_of P.behaviour circuit.now).primitives) }
-    requires row { IsRowOf (net_of P.behaviour circuit.now) side row }
-    requires odds { let net = net_of P.behaviour circuit.now in
+    requires ready { let net = net_of P.behaviour basis.now.circuit.now in
+        IsReadyOn net basis.now alive.now }
+    requires tables { let net = net_of P.behaviour basis.now.circuit.now in
+        AreTables net basis.now.items.now rows.old }
+    requires side { let net = net_of P.behaviour basis.now.circuit.now in
+        side < length (all_sides net.primitives) }
+    requires row { IsRowOf (net_of P.behaviour basis.now.circuit.now) side row }
+    requires odds { let net = net_of P.behaviour basis.now.circuit.now in
         AreOdds net (family_of alive.now) side rows.old.odds }
-    requires noted { let net = net_of P.behaviour circuit.now in
+    requires noted { let net = net_of P.behaviour basis.now.circuit.now in
         AreRowsNoted net side (slice_index_or rows.old.notes side []) }
-    ensures { let net = net_of P.behaviour circuit.now in
-        IsRowSifted net items.now (names_of items.now) (family_of alive.now) side row rows.old
-        rows.new }
+    ensures { let net = net_of P.behaviour basis.now.circuit.now in
+        IsRowSifted net basis.now.items.now (names_of basis.now.items.now) (family_of alive.now)
+        side row rows.old rows.new }
 {
     if rows.live.is_set(side, row) {
-        let odd = *rows.odds.at(circuit.group(side, row));
-        if works(circuit, boards, ends, items, alive, side, row, odd) {
-            note(circuit, rows.notes.at_mut(side), side, row);
+        let odd = *rows.odds.at(basis.circuit.group(side, row));
+        if works(basis, alive, side, row, odd) {
+            note(basis.circuit, rows.notes.at_mut(side), side, row);
         } else {
             rows.live.clear(side, row);
         }
@@ -211,51 +195,34 @@ fn sift_row<P: Primitive>(
 ///
 /// After `NoMemory`, which is out of memory, nothing has changed.
 pub fn sift<P: Primitive>(
-    circuit: &Circuit<P>,
-    boards: &List<Board>,
-    ends: &Ends,
-    items: &[List<Value>],
+    basis: &Basis<'_, P>,
     alive: &Flags,
     rows: &mut Rows,
     side: usize,
 ) -> Result<(), NoMemory>
-    requires ready { let net = net_of P.behaviour circuit.now in
-        IsReady net boards.now ends.now items.now alive.now }
-    requires tables { AreTables (net_of P.behaviour circuit.now) items.now rows.old }
-    requires side { side < length (all_sides (net_of P.behaviour circuit.now).primitives) }
-    requires works { let net = net_of P.behaviour circuit.now in
-        AreLive net (names_of items.now) (family_of alive.now) side rows.old }
-    ensures tables { AreTables (net_of P.behaviour circuit.now) items.now rows.new }
-    ensures sifted { let net = net_of P.behaviour circuit.now in
-        OnOk result (IsSifted net (names_of items.now) (family_of alive.now) side rows.new) }
+    requires ready { let net = net_of P.behaviour basis.now.circuit.now in
+        IsReadyOn net basis.now alive.now }
+    requires tables { let net = net_of P.behaviour basis.now.circuit.now in
+        AreTables net basis.now.items.now rows.old }
+    requires side { let net = net_of P.behaviour basis.now.circuit.now in
+        side < length (all_sides net.primitives) }
+    requires works { let net = net_of P.behaviour basis.now.circuit.now in
+        AreLive net (names_of basis.now.items.now) (family_of alive.now) side rows.old }
+    ensures tables { let net = net_of P.behaviour basis.now.circuit.now in
+        AreTables net basis.now.items.now rows.new }
+    ensures sifted { let net = net_of P.behaviour basis.now.circuit.now in
+        OnOk result (IsSifted net (names_of basis.now.items.now) (family_of alive.now) side
+        rows.new) }
     ensures others { OtherSidesStay side rows.old rows.new }
-    ensures works { let net = net_of P.behaviour circuit.now in
-        AreLive net (names_of items.now) (family_of alive.now) side rows.new }
+    ensures works { let net = net_of P.behaviour basis.now.circuit.now in
+        AreLive net (names_of basis.now.items.now) (family_of alive.now) side rows.new }
     ensures seen { rows.new.seen ≡ rows.old.seen }
 {
-    find_odds(
-        circuit,
-        boards,
-        ends,
-        items,
-        alive,
-        side,
-        &mut rows.fits,
-        &mut rows.odds,
-    )?;
+    find_odds(basis, alive, side, &mut rows.fits, &mut rows.odds)?;
     clear_notes(rows.notes.at_mut(side));
     let count = rows.live.width(side);
     for index in 0..count {
-        sift_row(
-            circuit,
-            boards,
-            ends,
-            items,
-            alive,
-            rows,
-            side,
-            count - 1 - index,
-        );
+        sift_row(basis, alive, rows, side, count - 1 - index);
     }
     Ok(())
 }

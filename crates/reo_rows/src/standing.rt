@@ -10,9 +10,11 @@ ghost use Rattle.reo_side_tables.specs.Boards.{IsBoard};
 ghost use Rattle.reo_rows.specs.Flags.{AreAlikeTables};
 ghost use Rattle.reo_rows.specs.Sparing.{IsIdle, IsLacking, CanSpare, AreCleared, GroupsHave};
 ghost use Rattle.reo_rows.specs.Rows.{AreTables, IsSpared};
-ghost use Rattle.reo_rows.specs.Sets.{family_of, IsReady};
+ghost use Rattle.reo_rows.specs.Sets.{family_of};
+ghost use Rattle.reo_rows.specs.Basis.{IsReadyOn};
 ghost use Rattle.reo_rows.specs.Stands.{HasMark, IsAtEnd, MarksStand, GroupStands, GroupStandsBesides, StandsAtEnd};
 
+use crate::basis::Basis;
 use crate::flags::Flags;
 use crate::groups::{Group, Odd};
 use crate::lists::apart_there;
@@ -23,7 +25,7 @@ use reo_net_base::{End, Primitive};
 use reo_net_circuit::Circuit;
 use reo_net_ends::Ends;
 use reo_side_tables::{Board, Flow, end_at, mark_at_joint};
-use reo_values::{List, NoMemory, Value};
+use reo_values::{List, NoMemory};
 
 /// So many ones in the place of all bytes. `NoMemory` is out of memory.
 fn all_ones(bytes: &mut Vec<u8>, count: usize) -> Result<(), NoMemory>
@@ -37,26 +39,21 @@ fn all_ones(bytes: &mut Vec<u8>, count: usize) -> Result<(), NoMemory>
 }
 
 /// Clears the bytes of the groups of a side that have the mark of no value at some joint.
-fn clear_unfit<P: Primitive>(
-    circuit: &Circuit<P>,
-    boards: &List<Board>,
-    ends: &Ends,
-    items: &[List<Value>],
-    alive: &Flags,
-    side: usize,
-    fits: &mut [u8],
-)
-    requires ready { let net = net_of P.behaviour circuit.now in
-        IsReady net boards.now ends.now items.now alive.now }
-    requires side { side < length (all_sides (net_of P.behaviour circuit.now).primitives) }
-    requires fits { fits.old ≡ replicate (groups_in (net_of P.behaviour circuit.now) side) 1 }
-    ensures { AreFit (net_of P.behaviour circuit.now) (family_of alive.now) side fits.new }
+fn clear_unfit<P: Primitive>(basis: &Basis<'_, P>, alive: &Flags, side: usize, fits: &mut [u8])
+    requires ready { let net = net_of P.behaviour basis.now.circuit.now in
+        IsReadyOn net basis.now alive.now }
+    requires side { let net = net_of P.behaviour basis.now.circuit.now in
+        side < length (all_sides net.primitives) }
+    requires fits { let net = net_of P.behaviour basis.now.circuit.now in
+        fits.old ≡ replicate (groups_in net side) 1 }
+    ensures { let net = net_of P.behaviour basis.now.circuit.now in
+        AreFit net (family_of alive.now) side fits.new }
 {
-    let groups = circuit.groups(side);
-    let board = boards.at(side);
+    let groups = basis.circuit.groups(side);
+    let board = basis.boards.at(side);
     for index in 0..board.joints.len() {
         let joint = *board.joints.at(index);
-        let marks = marks_left(circuit, boards, ends, items, alive, side, joint);
+        let marks = marks_left(basis, alive, side, joint);
         let column = &board.columns.as_slice()[index * groups..(index + 1) * groups];
         keep_rows(column, marks.byte(), fits);
     }
@@ -65,85 +62,69 @@ fn clear_unfit<P: Primitive>(
 /// Which groups of a side have the mark of some value at each joint: their bytes are not 0.
 /// `NoMemory` is out of memory.
 pub(crate) fn fit_groups<P: Primitive>(
-    circuit: &Circuit<P>,
-    boards: &List<Board>,
-    ends: &Ends,
-    items: &[List<Value>],
+    basis: &Basis<'_, P>,
     alive: &Flags,
     side: usize,
     fits: &mut Vec<u8>,
 ) -> Result<(), NoMemory>
-    requires ready { let net = net_of P.behaviour circuit.now in
-        IsReady net boards.now ends.now items.now alive.now }
-    requires side { side < length (all_sides (net_of P.behaviour circuit.now).primitives) }
-    ensures { let net = net_of P.behaviour circuit.now in
+    requires ready { let net = net_of P.behaviour basis.now.circuit.now in
+        IsReadyOn net basis.now alive.now }
+    requires side { let net = net_of P.behaviour basis.now.circuit.now in
+        side < length (all_sides net.primitives) }
+    ensures { let net = net_of P.behaviour basis.now.circuit.now in
         OnOk result (AreFit net (family_of alive.now) side fits.new.items) }
 {
-    all_ones(fits, circuit.groups(side))?;
-    clear_unfit(
-        circuit,
-        boards,
-        ends,
-        items,
-        alive,
-        side,
-        fits.as_mut_slice(),
-    );
+    all_ones(fits, basis.circuit.groups(side))?;
+    clear_unfit(basis, alive, side, fits.as_mut_slice());
     Ok(())
 }
 
 /// Whether a group has the mark of some value at a joint of its side.
 fn group_stands_at<P: Primitive>(
-    circuit: &Circuit<P>,
-    boards: &List<Board>,
-    ends: &Ends,
-    items: &[List<Value>],
+    basis: &Basis<'_, P>,
     alive: &Flags,
     side: usize,
     group: usize,
     joint: usize,
 ) -> bool
-    requires ready { let net = net_of P.behaviour circuit.now in
-        IsReady net boards.now ends.now items.now alive.now }
-    requires side { side < length (all_sides (net_of P.behaviour circuit.now).primitives) }
-    requires group { group < groups_in (net_of P.behaviour circuit.now) side }
-    requires joint { IsJointOf (net_of P.behaviour circuit.now) side joint }
-    ensures { let net = net_of P.behaviour circuit.now in
+    requires ready { let net = net_of P.behaviour basis.now.circuit.now in
+        IsReadyOn net basis.now alive.now }
+    requires side { let net = net_of P.behaviour basis.now.circuit.now in
+        side < length (all_sides net.primitives) }
+    requires group { group < groups_in (net_of P.behaviour basis.now.circuit.now) side }
+    requires joint { IsJointOf (net_of P.behaviour basis.now.circuit.now) side joint }
+    ensures { let net = net_of P.behaviour basis.now.circuit.now in
         IsTrue result ↔ HasMark net (family_of alive.now) side joint
         (common_at_joint net side group joint) }
 {
-    circuit.known();
-    let end = end_at(circuit, side, joint);
-    let marks = marks_left(circuit, boards, ends, items, alive, side, joint);
-    marks.has(circuit.common(side, group, end.end))
+    basis.circuit.known();
+    let end = end_at(basis.circuit, side, joint);
+    let marks = marks_left(basis, alive, side, joint);
+    marks.has(basis.circuit.common(side, group, end.end))
 }
 
 /// An end of a side at which a group has the mark of no value, if there is any but for one.
 fn fails_besides<P: Primitive>(
-    circuit: &Circuit<P>,
-    boards: &List<Board>,
-    ends: &Ends,
-    items: &[List<Value>],
+    basis: &Basis<'_, P>,
     alive: &Flags,
     side: usize,
     group: usize,
     besides: Option<usize>,
 ) -> Option<usize>
-    requires ready { let net = net_of P.behaviour circuit.now in
-        IsReady net boards.now ends.now items.now alive.now }
-    requires side { side < length (all_sides (net_of P.behaviour circuit.now).primitives) }
-    requires group { group < groups_in (net_of P.behaviour circuit.now) side }
-    ensures { let net = net_of P.behaviour circuit.now in
+    requires ready { let net = net_of P.behaviour basis.now.circuit.now in
+        IsReadyOn net basis.now alive.now }
+    requires side { let net = net_of P.behaviour basis.now.circuit.now in
+        side < length (all_sides net.primitives) }
+    requires group { group < groups_in (net_of P.behaviour basis.now.circuit.now) side }
+    ensures { let net = net_of P.behaviour basis.now.circuit.now in
         MatchOption result (GroupStandsBesides net (family_of alive.now) side group besides)
         (λ end. (besides ≢ Some end) × FailsAt net (family_of alive.now) side group end) }
 {
-    let board = boards.at(side);
+    let board = basis.boards.at(side);
     for index in 0..board.joints.len() {
         let joint = *board.joints.at(index);
-        let end = end_at(circuit, side, joint).end;
-        if besides != Some(end)
-            && !group_stands_at(circuit, boards, ends, items, alive, side, group, joint)
-        {
+        let end = end_at(basis.circuit, side, joint).end;
+        if besides != Some(end) && !group_stands_at(basis, alive, side, group, joint) {
             return Some(end);
         }
     }
@@ -152,24 +133,23 @@ fn fails_besides<P: Primitive>(
 
 /// Where a group has the mark of no value.
 pub(crate) fn odd_of<P: Primitive>(
-    circuit: &Circuit<P>,
-    boards: &List<Board>,
-    ends: &Ends,
-    items: &[List<Value>],
+    basis: &Basis<'_, P>,
     alive: &Flags,
     side: usize,
     group: usize,
 ) -> Odd
-    requires ready { let net = net_of P.behaviour circuit.now in
-        IsReady net boards.now ends.now items.now alive.now }
-    requires side { side < length (all_sides (net_of P.behaviour circuit.now).primitives) }
-    requires group { group < groups_in (net_of P.behaviour circuit.now) side }
-    ensures { IsOdd (net_of P.behaviour circuit.now) (family_of alive.now) side group result }
+    requires ready { let net = net_of P.behaviour basis.now.circuit.now in
+        IsReadyOn net basis.now alive.now }
+    requires side { let net = net_of P.behaviour basis.now.circuit.now in
+        side < length (all_sides net.primitives) }
+    requires group { group < groups_in (net_of P.behaviour basis.now.circuit.now) side }
+    ensures { let net = net_of P.behaviour basis.now.circuit.now in
+        IsOdd net (family_of alive.now) side group result }
 {
-    match fails_besides(circuit, boards, ends, items, alive, side, group, None) {
+    match fails_besides(basis, alive, side, group, None) {
         None => Odd::Nowhere,
         Some(end) => {
-            match fails_besides(circuit, boards, ends, items, alive, side, group, Some(end)) {
+            match fails_besides(basis, alive, side, group, Some(end)) {
                 None => Odd::At(end),
                 Some(_) => Odd::Several,
             }
@@ -195,28 +175,26 @@ fn joint_there<P: Primitive>(circuit: &Circuit<P>, ends: &Ends, side: usize, end
 
 /// Whether a row has the mark of some value at an end of its side.
 fn stands_at<P: Primitive>(
-    circuit: &Circuit<P>,
-    boards: &List<Board>,
-    ends: &Ends,
-    items: &[List<Value>],
+    basis: &Basis<'_, P>,
     alive: &Flags,
     side: usize,
     row: usize,
     end: usize,
 ) -> bool
-    requires ready { let net = net_of P.behaviour circuit.now in
-        IsReady net boards.now ends.now items.now alive.now }
-    requires side { side < length (all_sides (net_of P.behaviour circuit.now).primitives) }
-    requires row { IsRowOf (net_of P.behaviour circuit.now) side row }
-    requires end { let net = net_of P.behaviour circuit.now in
+    requires ready { let net = net_of P.behaviour basis.now.circuit.now in
+        IsReadyOn net basis.now alive.now }
+    requires side { let net = net_of P.behaviour basis.now.circuit.now in
+        side < length (all_sides net.primitives) }
+    requires row { IsRowOf (net_of P.behaviour basis.now.circuit.now) side row }
+    requires end { let net = net_of P.behaviour basis.now.circuit.now in
         IsEndOf (side_in net side).of (side_in net side).number end }
-    ensures { let net = net_of P.behaviour circuit.now in
+    ensures { let net = net_of P.behaviour basis.now.circuit.now in
         IsTrue result ↔ StandsAtEnd net (family_of alive.now) side row end }
 {
-    circuit.known();
-    let joint = joint_there(circuit, ends, side, end);
-    let marks = marks_left(circuit, boards, ends, items, alive, side, joint);
-    marks.has(mark_at_joint(circuit, side, row, joint))
+    basis.circuit.known();
+    let joint = joint_there(basis.circuit, basis.ends, side, end);
+    let marks = marks_left(basis, alive, side, joint);
+    marks.has(mark_at_joint(basis.circuit, side, row, joint))
 }
 
 /// Whether a row that is apart at such an end, or nowhere, can have the mark of some value where
@@ -233,32 +211,30 @@ fn excuses(odd: Odd, apart: Option<usize>) -> bool
 
 /// Whether a row has the mark of some value at each joint of its side, where its group is as said.
 pub(crate) fn marks_stand<P: Primitive>(
-    circuit: &Circuit<P>,
-    boards: &List<Board>,
-    ends: &Ends,
-    items: &[List<Value>],
+    basis: &Basis<'_, P>,
     alive: &Flags,
     side: usize,
     row: usize,
     odd: Odd,
 ) -> bool
-    requires ready { let net = net_of P.behaviour circuit.now in
-        IsReady net boards.now ends.now items.now alive.now }
-    requires side { side < length (all_sides (net_of P.behaviour circuit.now).primitives) }
-    requires row { IsRowOf (net_of P.behaviour circuit.now) side row }
-    requires odd { let net = net_of P.behaviour circuit.now in
+    requires ready { let net = net_of P.behaviour basis.now.circuit.now in
+        IsReadyOn net basis.now alive.now }
+    requires side { let net = net_of P.behaviour basis.now.circuit.now in
+        side < length (all_sides net.primitives) }
+    requires row { IsRowOf (net_of P.behaviour basis.now.circuit.now) side row }
+    requires odd { let net = net_of P.behaviour basis.now.circuit.now in
         IsOdd net (family_of alive.now) side (group_in net side row) odd }
-    ensures { let net = net_of P.behaviour circuit.now in
+    ensures { let net = net_of P.behaviour basis.now.circuit.now in
         IsTrue result ↔ MarksStand net (family_of alive.now) side row }
 {
-    circuit.known();
-    let apart = circuit.apart(side, row);
+    basis.circuit.known();
+    let apart = basis.circuit.apart(side, row);
     if !excuses(odd, apart) {
         return false;
     }
     match apart {
         None => true,
-        Some(end) => stands_at(circuit, boards, ends, items, alive, side, row, end),
+        Some(end) => stands_at(basis, alive, side, row, end),
     }
 }
 
@@ -406,35 +382,45 @@ fn groups_have<P: Primitive>(
 /// the rows with their flags have the marks of values there, but for some that are apart there and
 /// that the side can do without, which lose their flags. Else nothing changes.
 pub fn can_stay<P: Primitive>(
-    circuit: &Circuit<P>,
-    boards: &List<Board>,
-    ends: &Ends,
-    items: &[List<Value>],
+    basis: &Basis<'_, P>,
     alive: &Flags,
     rows: &mut Rows,
     side: usize,
     joint: usize,
 ) -> bool
-    requires ready { let net = net_of P.behaviour circuit.now in
-        IsReady net boards.now ends.now items.now alive.now }
-    requires tables { AreTables (net_of P.behaviour circuit.now) items.now rows.old }
-    requires side { side < length (all_sides (net_of P.behaviour circuit.now).primitives) }
-    requires noted { AreNoted (net_of P.behaviour circuit.now) rows.old.live side rows.old.notes }
-    requires joint { IsJointOf (net_of P.behaviour circuit.now) side joint }
-    ensures yes { let net = net_of P.behaviour circuit.now in
+    requires ready { let net = net_of P.behaviour basis.now.circuit.now in
+        IsReadyOn net basis.now alive.now }
+    requires tables { let net = net_of P.behaviour basis.now.circuit.now in
+        AreTables net basis.now.items.now rows.old }
+    requires side { let net = net_of P.behaviour basis.now.circuit.now in
+        side < length (all_sides net.primitives) }
+    requires noted { let net = net_of P.behaviour basis.now.circuit.now in
+        AreNoted net rows.old.live side rows.old.notes }
+    requires joint { IsJointOf (net_of P.behaviour basis.now.circuit.now) side joint }
+    ensures yes { let net = net_of P.behaviour basis.now.circuit.now in
         IsTrue result → IsSpared net (family_of alive.now) side joint rows.old rows.new }
     ensures no { result ≡ false → rows.new ≡ rows.old }
-    ensures tables { AreTables (net_of P.behaviour circuit.now) items.now rows.new }
+    ensures tables { let net = net_of P.behaviour basis.now.circuit.now in
+        AreTables net basis.now.items.now rows.new }
 {
-    circuit.known();
-    let board = boards.at(side);
-    let marks = marks_left(circuit, boards, ends, items, alive, side, joint);
-    let apart = apart_there(circuit, boards, side, joint);
+    basis.circuit.known();
+    let board = basis.boards.at(side);
+    let marks = marks_left(basis, alive, side, joint);
+    let apart = apart_there(basis.circuit, basis.boards, side, joint);
     let notes = rows.notes.at(side);
-    if groups_have(circuit, notes, side, joint, marks)
-        && can_spare(circuit, board, &rows.live, notes, side, apart, joint, marks)
+    if groups_have(basis.circuit, notes, side, joint, marks)
+        && can_spare(
+            basis.circuit,
+            board,
+            &rows.live,
+            notes,
+            side,
+            apart,
+            joint,
+            marks,
+        )
     {
-        clear_lacking(circuit, &mut rows.live, side, apart, joint, marks);
+        clear_lacking(basis.circuit, &mut rows.live, side, apart, joint, marks);
         return true;
     }
     false

@@ -8,10 +8,10 @@ ghost use Rattle.reo_joint_values.specs.Many.{IsJointIn};
 ghost use Rattle.reo_weights.specs.Weights.{IsWeight, all_values};
 ghost use Rattle.reo_rows.specs.Rows.{AreTables};
 ghost use Rattle.reo_rows.specs.Sets.{IsReady, names_of};
+ghost use Rattle.reo_propagate.specs.Basis.{IsSearchOn};
 ghost use Rattle.reo_propagate.specs.Queues.{among};
-ghost use Rattle.reo_propagate.specs.Beginning.{IsSearch};
 ghost use Rattle.reo_choices.specs.Remaining.{IsLeftOfAll, CoverAll, choices_of};
-ghost use Rattle.reo_choices.specs.Trying.{MayRestart, AreOfKnot, IsLeastOf};
+ghost use Rattle.reo_choices.specs.Trying.{AreOfKnot, IsLeastOf, MayRestartOn};
 ghost use Rattle.reo_search.specs.First.{IsFirstWithin, IsSearchFault, HasNoThreeColouring};
 
 use crate::fault::SearchFault;
@@ -23,9 +23,10 @@ use reo_net_circuit::Circuit;
 use reo_net_ends::{Ends, ends_of};
 use reo_propagate::{State, begin, restart};
 use reo_reach::Supply;
+use reo_rows::Basis;
 use reo_side_tables::{Board, boards_of};
 use reo_steps::Steps;
-use reo_values::{List, NoMemory, Value};
+use reo_values::{List, NoMemory};
 use reo_walk::{Part, Place, part_of, places_of};
 use std::alloc::Global;
 use std::sync::ledger::Ledger;
@@ -34,10 +35,7 @@ use std::sync::ledger::Ledger;
 /// the loop joints. `NoMemory` is out of memory.
 fn first_numbers<P: Primitive, L: Ledger>(
     alloc: Global,
-    circuit: &Circuit<P>,
-    boards: &List<Board>,
-    ends: &Ends,
-    items: &[List<Value>],
+    basis: &Basis<'_, P>,
     sides: &[usize],
     state: &mut State,
     places: &[Place],
@@ -46,25 +44,24 @@ fn first_numbers<P: Primitive, L: Ledger>(
     left: &List<List<usize>>,
     steps: &mut Steps<L>,
 ) -> Result<List<usize>, NoMemory>
-    requires search { let net = net_of P.behaviour circuit.now in
-        IsSearch net boards.now ends.now items.now (among sides.now) state.old }
-    requires knot { AreOfKnot (net_of P.behaviour circuit.now) sides.now places.now loops.now }
-    requires alive { let net = net_of P.behaviour circuit.now in
-        IsLeftOfAll net (names_of items.now) (among sides.now) state.old.alive }
+    requires search { let net = net_of P.behaviour basis.now.circuit.now in
+        IsSearchOn net basis.now (among sides.now) state.old }
+    requires knot { let net = net_of P.behaviour basis.now.circuit.now in
+        AreOfKnot net sides.now places.now loops.now }
+    requires alive { let net = net_of P.behaviour basis.now.circuit.now in
+        IsLeftOfAll net (names_of basis.now.items.now) (among sides.now) state.old.alive }
     requires left { length left.now ≡ length loops.now }
-    requires cover { let net = net_of P.behaviour circuit.now in
-        CoverAll net (names_of items.now) (among sides.now) loops.now left.now }
-    ensures first { let net = net_of P.behaviour circuit.now in
-        IfOk result (IsLeastOf (IsChosen net (names_of items.now) (among sides.now)
-        (all_values (names_of items.now))) net turn places.now) }
-    ensures tables { let net = net_of P.behaviour circuit.now in
-        OnOk result (MayRestart net boards.now ends.now items.now state.new) }
+    requires cover { let net = net_of P.behaviour basis.now.circuit.now in
+        CoverAll net (names_of basis.now.items.now) (among sides.now) loops.now left.now }
+    ensures first { let net = net_of P.behaviour basis.now.circuit.now in
+        IfOk result (IsLeastOf (IsChosen net (names_of basis.now.items.now) (among sides.now)
+        (all_values (names_of basis.now.items.now))) net turn places.now) }
+    ensures tables { let net = net_of P.behaviour basis.now.circuit.now in
+        OnOk result (MayRestartOn net basis.now state.new) }
     ensures ticks { steps.new ≤ steps.old + choices_of left.now }
 {
-    circuit.known();
-    match first_over(
-        alloc, circuit, boards, ends, items, sides, state, places, turn, loops, left, steps,
-    )? {
+    basis.circuit.known();
+    match first_over(alloc, basis, sides, state, places, turn, loops, left, steps)? {
         None => unreachable!(),
         Some(chosen) => Ok(chosen),
     }
@@ -95,9 +92,13 @@ pub fn weight<P: Primitive>(
     let sides = knots.sides(knot);
     let loops = knots.loop_joints(knot);
     let mut state = begin(alloc, circuit, &boards, &ends, items, sides)?;
-    let left = narrow_all(
-        alloc, circuit, &boards, &ends, items, sides, &mut state, loops,
-    )?;
+    let basis = Basis {
+        circuit,
+        boards: &boards,
+        ends: &ends,
+        items,
+    };
+    let left = narrow_all(alloc, &basis, sides, &mut state, loops)?;
     Ok(weight_of(&left))
 }
 
@@ -155,8 +156,14 @@ pub fn first_with<P: Primitive, L: Ledger>(
     }
     let items = supply.lists();
     let loops = knots.loop_joints(knot);
-    restart(alloc, circuit, boards, ends, items, sides, state)?;
-    let left = narrow_all(alloc, circuit, boards, ends, items, sides, state, loops)?;
+    let basis = Basis {
+        circuit,
+        boards,
+        ends,
+        items,
+    };
+    restart(alloc, &basis, sides, state)?;
+    let left = narrow_all(alloc, &basis, sides, state, loops)?;
     let weight = weight_of(&left);
     if weight > budget {
         return Err(SearchFault::Spent { knot, weight });
@@ -164,10 +171,7 @@ pub fn first_with<P: Primitive, L: Ledger>(
     let places = places_of(alloc, circuit, sides)?;
     let chosen = first_numbers(
         alloc,
-        circuit,
-        boards,
-        ends,
-        items,
+        &basis,
         sides,
         state,
         places.as_slice(),

@@ -6,18 +6,18 @@ ghost use Rattle.reo_net_laws.specs.Parts.{IsClosed};
 ghost use Rattle.reo_knots.specs.Knots.{AreKnots, knot_count};
 ghost use Rattle.reo_reach.specs.Supplied.{AreShort, IsSupply};
 ghost use Rattle.reo_side_tables.specs.Boards.{AreBoards};
+ghost use Rattle.reo_propagate.specs.Basis.{IsSearchOn};
 ghost use Rattle.reo_propagate.specs.Queues.{among};
-ghost use Rattle.reo_propagate.specs.Beginning.{IsSearch};
 
 use crate::sets::{Table, sets_of};
 use reo_knots::Knots;
 use reo_net_base::Primitive;
 use reo_net_circuit::Circuit;
-use reo_net_ends::{Ends, ends_of};
+use reo_net_ends::ends_of;
 use reo_propagate::{State, begin, begin_with, propagate, restart};
 use reo_reach::Supply;
-use reo_side_tables::{Board, boards_of};
-use reo_values::{List, Value};
+use reo_rows::Basis;
+use reo_side_tables::boards_of;
 use std::alloc::Global;
 
 /// For each joint which values are there: RG, GR, GG, the jam, and the flow of the only item.
@@ -45,30 +45,27 @@ fn are_left(state: &State, want: &Left) -> bool {
 /// search begins anew, and when they are narrowed again.
 fn goes_on<P: Primitive>(
     alloc: Global,
-    circuit: &Circuit<P>,
-    boards: &List<Board>,
-    ends: &Ends,
-    items: &[List<Value>],
+    basis: &Basis<'_, P>,
     sides: &[usize],
     state: &mut State,
     want: &[Left; 4],
 ) -> bool
-    requires search { let net = net_of P.behaviour circuit.now in
-        IsSearch net boards.now ends.now items.now (among sides.now) state.old }
-    requires closed { IsClosed (net_of P.behaviour circuit.now) (among sides.now) }
-    requires sides { let net = net_of P.behaviour circuit.now in
+    requires search { let net = net_of P.behaviour basis.now.circuit.now in
+        IsSearchOn net basis.now (among sides.now) state.old }
+    requires closed { IsClosed (net_of P.behaviour basis.now.circuit.now) (among sides.now) }
+    requires sides { let net = net_of P.behaviour basis.now.circuit.now in
         (s : ℕ) → among sides.now s ≡ true → s < length (all_sides net.primitives) }
 {
     let begun = are_left(state, &want[0]);
-    let Ok(()) = propagate(circuit, boards, ends, items, sides, state) else {
+    let Ok(()) = propagate(basis, sides, state) else {
         return false;
     };
     let narrowed = are_left(state, &want[1]);
-    let Ok(()) = restart(alloc, circuit, boards, ends, items, sides, state) else {
+    let Ok(()) = restart(alloc, basis, sides, state) else {
         return false;
     };
     let anew = are_left(state, &want[2]);
-    let Ok(()) = propagate(circuit, boards, ends, items, sides, state) else {
+    let Ok(()) = propagate(basis, sides, state) else {
         return false;
     };
     begun & narrowed & anew & are_left(state, &want[3])
@@ -78,26 +75,31 @@ fn goes_on<P: Primitive>(
 /// each joint.
 fn begun<P: Primitive>(
     alloc: Global,
-    circuit: &Circuit<P>,
-    boards: &List<Board>,
-    ends: &Ends,
-    items: &[List<Value>],
+    basis: &Basis<'_, P>,
     sides: &[usize],
     values: Option<Table>,
 ) -> Option<State>
-    requires boards { AreBoards (net_of P.behaviour circuit.now) boards.now }
-    requires ends { AreEnds (net_of P.behaviour circuit.now) ends.now }
-    requires items { length items.now ≡ length circuit.now.joints }
-    requires few { (j : ℕ) → length (slice_index_or items.now j []) < 2 ^ 32 }
-    ensures { let net = net_of P.behaviour circuit.now in
-        IfSome result (IsSearch net boards.now ends.now items.now (among sides.now)) }
+    requires boards { AreBoards (net_of P.behaviour basis.now.circuit.now) basis.now.boards.now }
+    requires ends { AreEnds (net_of P.behaviour basis.now.circuit.now) basis.now.ends.now }
+    requires items { length basis.now.items.now ≡ length basis.now.circuit.now.joints }
+    requires few { (j : ℕ) → length (slice_index_or basis.now.items.now j []) < 2 ^ 32 }
+    ensures { let net = net_of P.behaviour basis.now.circuit.now in
+        IfSome result (IsSearchOn net basis.now (among sides.now)) }
 {
     let Some(values) = values else {
-        return begin(alloc, circuit, boards, ends, items, sides).ok();
+        return begin(
+            alloc,
+            basis.circuit,
+            basis.boards,
+            basis.ends,
+            basis.items,
+            sides,
+        )
+        .ok();
     };
     match sets_of(alloc, values) {
-        Ok(sets) if sets.values.len() == circuit.joint_count() => {
-            begin_with(alloc, circuit, boards, ends, items, sides, &sets).ok()
+        Ok(sets) if sets.values.len() == basis.circuit.joint_count() => {
+            begin_with(alloc, basis, sides, &sets).ok()
         }
         _ => None,
     }
@@ -106,24 +108,21 @@ fn begun<P: Primitive>(
 /// Whether a search that begins so, over these tables, goes on so.
 fn goes<P: Primitive>(
     alloc: Global,
-    circuit: &Circuit<P>,
-    boards: &List<Board>,
-    ends: &Ends,
-    items: &[List<Value>],
+    basis: &Basis<'_, P>,
     sides: &[usize],
     values: Option<Table>,
     want: &[Left; 4],
 ) -> bool
-    requires boards { AreBoards (net_of P.behaviour circuit.now) boards.now }
-    requires ends { AreEnds (net_of P.behaviour circuit.now) ends.now }
-    requires items { length items.now ≡ length circuit.now.joints }
-    requires few { (j : ℕ) → length (slice_index_or items.now j []) < 2 ^ 32 }
-    requires closed { IsClosed (net_of P.behaviour circuit.now) (among sides.now) }
-    requires sides { let net = net_of P.behaviour circuit.now in
+    requires boards { AreBoards (net_of P.behaviour basis.now.circuit.now) basis.now.boards.now }
+    requires ends { AreEnds (net_of P.behaviour basis.now.circuit.now) basis.now.ends.now }
+    requires items { length basis.now.items.now ≡ length basis.now.circuit.now.joints }
+    requires few { (j : ℕ) → length (slice_index_or basis.now.items.now j []) < 2 ^ 32 }
+    requires closed { IsClosed (net_of P.behaviour basis.now.circuit.now) (among sides.now) }
+    requires sides { let net = net_of P.behaviour basis.now.circuit.now in
         (s : ℕ) → among sides.now s ≡ true → s < length (all_sides net.primitives) }
 {
-    match begun(alloc, circuit, boards, ends, items, sides, values) {
-        Some(mut state) => goes_on(alloc, circuit, boards, ends, items, sides, &mut state, want),
+    match begun(alloc, basis, sides, values) {
+        Some(mut state) => goes_on(alloc, basis, sides, &mut state, want),
         None => false,
     }
 }
@@ -148,7 +147,15 @@ pub fn is_begun<P: Primitive>(
         return false;
     };
     match boards_of(alloc, circuit, &ends) {
-        Ok(boards) => goes(alloc, circuit, &boards, &ends, items, sides, values, want),
+        Ok(boards) => {
+            let basis = Basis {
+                circuit,
+                boards: &boards,
+                ends: &ends,
+                items,
+            };
+            goes(alloc, &basis, sides, values, want)
+        }
         Err(_) => false,
     }
 }

@@ -6,7 +6,7 @@ ghost use Rattle.reo_knots.specs.Knots.{AreKnots, in_knot, knot_count};
 ghost use Rattle.reo_support.specs.Sets.{OneAtLoops};
 ghost use Rattle.reo_rows.specs.Sets.{family_of, names_of};
 ghost use Rattle.reo_propagate.specs.Queues.{among};
-ghost use Rattle.reo_propagate.specs.Beginning.{IsSearch};
+ghost use Rattle.reo_propagate.specs.Basis.{IsSearchOn};
 ghost use Rattle.reo_propagate.specs.ListedSets.{listed, AreInSupply};
 ghost use Rattle.reo_walk.specs.declared.place.Place.{Place as Spot};
 ghost use Rattle.reo_walk.specs.Places.{side_of_place};
@@ -20,12 +20,13 @@ use crate::walking::walk;
 use reo_knots::Knots;
 use reo_net_base::Primitive;
 use reo_net_circuit::Circuit;
-use reo_net_ends::{Ends, ends_of};
+use reo_net_ends::ends_of;
 use reo_propagate::{Sets, State, begin_with};
 use reo_reach::Supply;
-use reo_side_tables::{Board, boards_of};
+use reo_rows::Basis;
+use reo_side_tables::boards_of;
 use reo_steps::Steps;
-use reo_values::{List, NoMemory, Value};
+use reo_values::{List, NoMemory};
 use std::alloc::Global;
 use std::sync::ledger::Ledger;
 
@@ -33,35 +34,31 @@ use std::sync::ledger::Ledger;
 /// places: `None` exactly where there is none.
 pub fn first_by<P: Primitive>(
     alloc: Global,
-    circuit: &Circuit<P>,
-    boards: &List<Board>,
-    ends: &Ends,
-    items: &[List<Value>],
+    basis: &Basis<'_, P>,
     sides: &[usize],
     state: &mut State,
     places: &[Place],
     turn: u64,
 ) -> Result<Option<List<usize>>, NoMemory>
-    requires search { let net = net_of P.behaviour circuit.now in
-        IsSearch net boards.now ends.now items.now (among sides.now) state.old }
-    requires knot { IsKnot (net_of P.behaviour circuit.now) (among sides.now) }
-    requires sides { let net = net_of P.behaviour circuit.now in
+    requires search { let net = net_of P.behaviour basis.now.circuit.now in
+        IsSearchOn net basis.now (among sides.now) state.old }
+    requires knot { IsKnot (net_of P.behaviour basis.now.circuit.now) (among sides.now) }
+    requires sides { let net = net_of P.behaviour basis.now.circuit.now in
         (s : ℕ) → among sides.now s ≡ true → s < length (all_sides net.primitives) }
     requires some_side { 0 < length sides.now }
     requires places { (k : ℕ) (d : Spot) → k < length places.now
         → among sides.now (side_of_place (slice_index_or places.now k d)) ≡ true }
-    requires one { let net = net_of P.behaviour circuit.now in
+    requires one { let net = net_of P.behaviour basis.now.circuit.now in
         OneAtLoops net (among sides.now) (family_of state.old.alive) }
-    ensures first { let net = net_of P.behaviour circuit.now in
-        IfOk result (λ found. MatchOption found (HasNone net (names_of items.now) (among sides.now)
-        (family_of state.old.alive)) (IsFirstWith net (names_of items.now) (among sides.now) turn
+    ensures first { let net = net_of P.behaviour basis.now.circuit.now in
+        IfOk result (λ found. MatchOption found (HasNone net (names_of basis.now.items.now)
+        (among sides.now) (family_of state.old.alive))
+        (IsFirstWith net (names_of basis.now.items.now) (among sides.now) turn
         (family_of state.old.alive) places.now)) }
-    ensures search { let net = net_of P.behaviour circuit.now in
-        OnOk result (IsSearch net boards.now ends.now items.now (among sides.now) state.new) }
+    ensures search { let net = net_of P.behaviour basis.now.circuit.now in
+        OnOk result (IsSearchOn net basis.now (among sides.now) state.new) }
 {
-    match walk(
-        alloc, circuit, boards, ends, items, sides, state, places, turn,
-    )? {
+    match walk(alloc, basis, sides, state, places, turn)? {
         None => Ok(None),
         Some(chosen) => Ok(Some(chosen)),
     }
@@ -103,18 +100,14 @@ pub fn arrange<P: Primitive, L: Ledger>(
     let items = supply.lists();
     let sides = knots.sides(knot);
     let places = places_of(alloc, circuit, sides)?;
-    let mut state = begin_with(alloc, circuit, &boards, &ends, items, sides, sets)?;
-    match first_by(
-        alloc,
+    let basis = Basis {
         circuit,
-        &boards,
-        &ends,
+        boards: &boards,
+        ends: &ends,
         items,
-        sides,
-        &mut state,
-        places.as_slice(),
-        turn,
-    )? {
+    };
+    let mut state = begin_with(alloc, &basis, sides, sets)?;
+    match first_by(alloc, &basis, sides, &mut state, places.as_slice(), turn)? {
         None => Ok(None),
         Some(chosen) => Ok(Some(part_of(alloc, circuit, sides, chosen.as_slice())?)),
     }

@@ -6,19 +6,18 @@ ghost use Rattle.reo_net_laws.specs.Parts.{IsClosed};
 ghost use Rattle.reo_side_tables.specs.Marks.{IsJointOf};
 ghost use Rattle.reo_rows.specs.Flags.{flag};
 ghost use Rattle.reo_rows.specs.Sets.{value_of};
+ghost use Rattle.reo_propagate.specs.Basis.{IsSearchOn};
 ghost use Rattle.reo_propagate.specs.Queues.{among};
-ghost use Rattle.reo_propagate.specs.Beginning.{IsSearch};
 ghost use Rattle.reo_walk.specs.Holding.{IsHeldTo, IsHeldSoFar, IsHeld};
 ghost use Rattle.reo_walk.specs.Places.{side_of_place, value_suits};
 
 use crate::place::{Place, side_of_place, suits};
 use reo_net_base::Primitive;
 use reo_net_circuit::Circuit;
-use reo_net_ends::Ends;
 use reo_propagate::{Loss, State, wake};
-use reo_rows::{FLOWS, Flags, mark_seen};
-use reo_side_tables::{Board, giver_side, mark_at_joint, taker_side};
-use reo_values::{List, NoMemory, Value};
+use reo_rows::{Basis, FLOWS, Flags, mark_seen};
+use reo_side_tables::{giver_side, mark_at_joint, taker_side};
+use reo_values::NoMemory;
 
 /// What a joint lost, with a value more, by its place.
 pub(crate) fn one_more(loss: Loss, code: usize) -> Loss
@@ -64,41 +63,36 @@ fn hold_joint<P: Primitive>(
 /// Holds a joint to what suits a row at a place. Where it lost a value its two sides wait, or can
 /// stay.
 fn hold_and_wake<P: Primitive>(
-    circuit: &Circuit<P>,
-    boards: &List<Board>,
-    ends: &Ends,
-    items: &[List<Value>],
+    basis: &Basis<'_, P>,
     sides: &[usize],
     state: &mut State,
     place: Place,
     row: usize,
     joint: usize,
 ) -> Result<(), NoMemory>
-    requires search { let net = net_of P.behaviour circuit.now in
-        IsSearch net boards.now ends.now items.now (among sides.now) state.old }
-    requires closed { IsClosed (net_of P.behaviour circuit.now) (among sides.now) }
+    requires search { let net = net_of P.behaviour basis.now.circuit.now in
+        IsSearchOn net basis.now (among sides.now) state.old }
+    requires closed { IsClosed (net_of P.behaviour basis.now.circuit.now) (among sides.now) }
     requires inside { among sides.now (side_of_place place) ≡ true }
-    requires joint { IsJointOf (net_of P.behaviour circuit.now) (side_of_place place) joint }
-    requires row { IsRowOf (net_of P.behaviour circuit.now) (side_of_place place) row }
-    ensures held { let net = net_of P.behaviour circuit.now in
+    requires joint { let net = net_of P.behaviour basis.now.circuit.now in
+        IsJointOf net (side_of_place place) joint }
+    requires row { IsRowOf (net_of P.behaviour basis.now.circuit.now) (side_of_place place) row }
+    ensures held { let net = net_of P.behaviour basis.now.circuit.now in
         OnOk result (IsHeldSoFar net place row state.old.alive state.new.alive) }
-    ensures suits { let net = net_of P.behaviour circuit.now in
+    ensures suits { let net = net_of P.behaviour basis.now.circuit.now in
         OnOk result ((c : ℕ) → flag state.new.alive joint c ≡ true
         → value_suits net place row joint (value_of c) ≡ true) }
-    ensures search { let net = net_of P.behaviour circuit.now in
-        OnOk result (IsSearch net boards.now ends.now items.now (among sides.now) state.new) }
+    ensures search { let net = net_of P.behaviour basis.now.circuit.now in
+        OnOk result (IsSearchOn net basis.now (among sides.now) state.new) }
 {
     let _ = sides;
-    circuit.known();
-    let giver = giver_side(circuit, joint);
-    let taker = taker_side(circuit, joint);
-    let loss = hold_joint(circuit, &mut state.alive, place, row, joint);
+    basis.circuit.known();
+    let giver = giver_side(basis.circuit, joint);
+    let taker = taker_side(basis.circuit, joint);
+    let loss = hold_joint(basis.circuit, &mut state.alive, place, row, joint);
     if loss.some {
         wake(
-            circuit,
-            boards,
-            ends,
-            items,
+            basis,
             &state.alive,
             &mut state.rows,
             &mut state.queue,
@@ -107,10 +101,7 @@ fn hold_and_wake<P: Primitive>(
             loss.flow,
         )?;
         wake(
-            circuit,
-            boards,
-            ends,
-            items,
+            basis,
             &state.alive,
             &mut state.rows,
             &mut state.queue,
@@ -124,33 +115,28 @@ fn hold_and_wake<P: Primitive>(
 
 /// Holds a place to the number of a row. The sides where anything goes wait, or can stay.
 pub(crate) fn hold<P: Primitive>(
-    circuit: &Circuit<P>,
-    boards: &List<Board>,
-    ends: &Ends,
-    items: &[List<Value>],
+    basis: &Basis<'_, P>,
     sides: &[usize],
     state: &mut State,
     place: Place,
     row: usize,
 ) -> Result<(), NoMemory>
-    requires search { let net = net_of P.behaviour circuit.now in
-        IsSearch net boards.now ends.now items.now (among sides.now) state.old }
-    requires closed { IsClosed (net_of P.behaviour circuit.now) (among sides.now) }
-    requires side { let net = net_of P.behaviour circuit.now in
+    requires search { let net = net_of P.behaviour basis.now.circuit.now in
+        IsSearchOn net basis.now (among sides.now) state.old }
+    requires closed { IsClosed (net_of P.behaviour basis.now.circuit.now) (among sides.now) }
+    requires side { let net = net_of P.behaviour basis.now.circuit.now in
         side_of_place place < length (all_sides net.primitives) }
     requires inside { among sides.now (side_of_place place) ≡ true }
-    requires row { IsRowOf (net_of P.behaviour circuit.now) (side_of_place place) row }
-    ensures held { let net = net_of P.behaviour circuit.now in
+    requires row { IsRowOf (net_of P.behaviour basis.now.circuit.now) (side_of_place place) row }
+    ensures held { let net = net_of P.behaviour basis.now.circuit.now in
         OnOk result (IsHeld net place row state.old.alive state.new.alive) }
-    ensures search { let net = net_of P.behaviour circuit.now in
-        OnOk result (IsSearch net boards.now ends.now items.now (among sides.now) state.new) }
+    ensures search { let net = net_of P.behaviour basis.now.circuit.now in
+        OnOk result (IsSearchOn net basis.now (among sides.now) state.new) }
 {
-    let joints = &boards.at(side_of_place(place)).joints;
+    let joints = &basis.boards.at(side_of_place(place)).joints;
     for index in 0..joints.len() {
         let joint = *joints.at(index);
-        hold_and_wake(
-            circuit, boards, ends, items, sides, state, place, row, joint,
-        )?;
+        hold_and_wake(basis, sides, state, place, row, joint)?;
     }
     Ok(())
 }

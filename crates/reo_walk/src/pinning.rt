@@ -3,18 +3,16 @@ ghost use Rattle.std.specs.Prelude.{◌≡◌, ◌<◌, ◌≤◌, ℕ, true, On
 ghost use Rattle.reo_net_base.specs.Net.{net_of};
 ghost use Rattle.reo_net_laws.specs.Parts.{IsClosed};
 ghost use Rattle.reo_joint_values.specs.Values.{giver_side};
+ghost use Rattle.reo_propagate.specs.Basis.{IsSearchOn};
 ghost use Rattle.reo_propagate.specs.Queues.{among};
-ghost use Rattle.reo_propagate.specs.Beginning.{IsSearch};
 ghost use Rattle.reo_walk.specs.Pins.{IsPinnedBelow, IsPinned, ArePinned};
 
 use crate::hold::one_more;
 use reo_net_base::Primitive;
-use reo_net_circuit::Circuit;
-use reo_net_ends::Ends;
 use reo_propagate::{Loss, State, wake};
-use reo_rows::Flags;
-use reo_side_tables::{Board, giver_side, taker_side};
-use reo_values::{List, NoMemory, Value};
+use reo_rows::{Basis, Flags};
+use reo_side_tables::{giver_side, taker_side};
+use reo_values::NoMemory;
 
 /// Takes all values of a joint away but one.
 fn pin_joint(alive: &mut Flags, joint: usize, chosen: usize) -> Loss
@@ -37,35 +35,30 @@ fn pin_joint(alive: &mut Flags, joint: usize, chosen: usize) -> Loss
 
 /// Leaves one value alone at a joint. Where it lost a value its two sides wait, or can stay.
 fn pin_and_wake<P: Primitive>(
-    circuit: &Circuit<P>,
-    boards: &List<Board>,
-    ends: &Ends,
-    items: &[List<Value>],
+    basis: &Basis<'_, P>,
     sides: &[usize],
     state: &mut State,
     joint: usize,
     chosen: usize,
 ) -> Result<(), NoMemory>
-    requires search { let net = net_of P.behaviour circuit.now in
-        IsSearch net boards.now ends.now items.now (among sides.now) state.old }
-    requires closed { IsClosed (net_of P.behaviour circuit.now) (among sides.now) }
-    requires joint { joint < length circuit.now.joints }
-    requires inside { among sides.now (giver_side (net_of P.behaviour circuit.now) joint) ≡ true }
+    requires search { let net = net_of P.behaviour basis.now.circuit.now in
+        IsSearchOn net basis.now (among sides.now) state.old }
+    requires closed { IsClosed (net_of P.behaviour basis.now.circuit.now) (among sides.now) }
+    requires joint { joint < length basis.now.circuit.now.joints }
+    requires inside { let net = net_of P.behaviour basis.now.circuit.now in
+        among sides.now (giver_side net joint) ≡ true }
     ensures pinned { OnOk result (IsPinned joint chosen state.old.alive state.new.alive) }
-    ensures search { let net = net_of P.behaviour circuit.now in
-        OnOk result (IsSearch net boards.now ends.now items.now (among sides.now) state.new) }
+    ensures search { let net = net_of P.behaviour basis.now.circuit.now in
+        OnOk result (IsSearchOn net basis.now (among sides.now) state.new) }
 {
     let _ = sides;
-    circuit.known();
-    let giver = giver_side(circuit, joint);
-    let taker = taker_side(circuit, joint);
+    basis.circuit.known();
+    let giver = giver_side(basis.circuit, joint);
+    let taker = taker_side(basis.circuit, joint);
     let loss = pin_joint(&mut state.alive, joint, chosen);
     if loss.some {
         wake(
-            circuit,
-            boards,
-            ends,
-            items,
+            basis,
             &state.alive,
             &mut state.rows,
             &mut state.queue,
@@ -74,10 +67,7 @@ fn pin_and_wake<P: Primitive>(
             loss.flow,
         )?;
         wake(
-            circuit,
-            boards,
-            ends,
-            items,
+            basis,
             &state.alive,
             &mut state.rows,
             &mut state.queue,
@@ -92,33 +82,30 @@ fn pin_and_wake<P: Primitive>(
 /// Leaves one value alone at each of some joints, the one of its number. `NoMemory` is out of
 /// memory.
 pub fn pin<P: Primitive>(
-    circuit: &Circuit<P>,
-    boards: &List<Board>,
-    ends: &Ends,
-    items: &[List<Value>],
+    basis: &Basis<'_, P>,
     sides: &[usize],
     state: &mut State,
     joints: &[usize],
     codes: &[usize],
 ) -> Result<(), NoMemory>
-    requires search { let net = net_of P.behaviour circuit.now in
-        IsSearch net boards.now ends.now items.now (among sides.now) state.old }
-    requires closed { IsClosed (net_of P.behaviour circuit.now) (among sides.now) }
-    requires joints { (m : ℕ) → m < length joints.now
-        → slice_index joints.now m < length circuit.now.joints }
-    requires inside { let net = net_of P.behaviour circuit.now in
+    requires search { let net = net_of P.behaviour basis.now.circuit.now in
+        IsSearchOn net basis.now (among sides.now) state.old }
+    requires closed { IsClosed (net_of P.behaviour basis.now.circuit.now) (among sides.now) }
+    requires joints { (m : ℕ) → m < length joints.now → slice_index joints.now m < length
+        basis.now.circuit.now.joints }
+    requires inside { let net = net_of P.behaviour basis.now.circuit.now in
         (m : ℕ) → m < length joints.now → among sides.now
         (giver_side net (slice_index joints.now m)) ≡ true }
     requires one_each { length joints.now ≤ length codes.now }
     ensures pinned { OnOk result (ArePinned joints.now codes.now (length joints.now) state.old.alive
         state.new.alive) }
-    ensures search { let net = net_of P.behaviour circuit.now in
-        OnOk result (IsSearch net boards.now ends.now items.now (among sides.now) state.new) }
+    ensures search { let net = net_of P.behaviour basis.now.circuit.now in
+        OnOk result (IsSearchOn net basis.now (among sides.now) state.new) }
 {
     for index in 0..joints.len() {
         let joint = joints[index];
         let chosen = codes[index];
-        pin_and_wake(circuit, boards, ends, items, sides, state, joint, chosen)?;
+        pin_and_wake(basis, sides, state, joint, chosen)?;
     }
     Ok(())
 }

@@ -5,8 +5,8 @@ ghost use Rattle.reo_net_laws.specs.Parts.{IsClosed};
 ghost use Rattle.reo_side_tables.specs.Marks.{side_in};
 ghost use Rattle.reo_rows.specs.Flags.{flag, AreAlikeTables};
 ghost use Rattle.reo_rows.specs.Sets.{family_of, names_of};
+ghost use Rattle.reo_propagate.specs.Basis.{IsSearchOn};
 ghost use Rattle.reo_propagate.specs.Queues.{among};
-ghost use Rattle.reo_propagate.specs.Beginning.{IsSearch};
 ghost use Rattle.reo_walk.specs.declared.place.Place.{Place as Spot};
 ghost use Rattle.reo_walk.specs.Places.{side_of_place};
 ghost use Rattle.reo_walk.specs.Settling.{HasNone};
@@ -16,11 +16,9 @@ use crate::hold::hold;
 use crate::place::{Place, number_of, side_of_place};
 use reo_net_base::Primitive;
 use reo_net_circuit::Circuit;
-use reo_net_ends::Ends;
 use reo_propagate::{State, propagate};
-use reo_rows::Flags;
-use reo_side_tables::Board;
-use reo_values::{List, NoMemory, Value};
+use reo_rows::{Basis, Flags};
+use reo_values::{List, NoMemory};
 use std::alloc::Global;
 
 /// A row with the least number at a place, and whether another row has another number there.
@@ -104,38 +102,36 @@ pub(crate) fn least_row<P: Primitive>(
 /// Holds a place to the least number of a row that works there, if one does. Where all of them have
 /// that number, nothing is to be held.
 fn step<P: Primitive>(
-    circuit: &Circuit<P>,
-    boards: &List<Board>,
-    ends: &Ends,
-    items: &[List<Value>],
+    basis: &Basis<'_, P>,
     sides: &[usize],
     state: &mut State,
     place: Place,
     turn: u64,
 ) -> Result<Option<usize>, NoMemory>
-    requires search { let net = net_of P.behaviour circuit.now in
-        IsSearch net boards.now ends.now items.now (among sides.now) state.old }
-    requires closed { IsClosed (net_of P.behaviour circuit.now) (among sides.now) }
-    requires sides { let net = net_of P.behaviour circuit.now in
+    requires search { let net = net_of P.behaviour basis.now.circuit.now in
+        IsSearchOn net basis.now (among sides.now) state.old }
+    requires closed { IsClosed (net_of P.behaviour basis.now.circuit.now) (among sides.now) }
+    requires sides { let net = net_of P.behaviour basis.now.circuit.now in
         (s : ℕ) → among sides.now s ≡ true → s < length (all_sides net.primitives) }
     requires inside { among sides.now (side_of_place place) ≡ true }
     requires empty { state.old.queue.line ≡ [] }
-    ensures found { let net = net_of P.behaviour circuit.now in
-        IfOk result (λ found. MatchOption found (HasNone net (names_of items.now) (among sides.now)
-        (family_of state.old.alive)) (IsStepped net (names_of items.now) (among sides.now) turn
-        place (family_of state.old.alive) (family_of state.new.alive))) }
+    ensures found { let net = net_of P.behaviour basis.now.circuit.now in
+        IfOk result (λ found. MatchOption found (HasNone net (names_of basis.now.items.now)
+        (among sides.now) (family_of state.old.alive))
+        (IsStepped net (names_of basis.now.items.now) (among sides.now) turn place
+        (family_of state.old.alive) (family_of state.new.alive))) }
     ensures alike { OnOk result (AreAlikeTables state.old.alive state.new.alive) }
-    ensures search { let net = net_of P.behaviour circuit.now in
-        OnOk result (IsSearch net boards.now ends.now items.now (among sides.now) state.new) }
+    ensures search { let net = net_of P.behaviour basis.now.circuit.now in
+        OnOk result (IsSearchOn net basis.now (among sides.now) state.new) }
     ensures empty { OnOk result (state.new.queue.line ≡ []) }
 {
-    circuit.known();
-    match least_row(circuit, &state.rows.live, place, turn) {
+    basis.circuit.known();
+    match least_row(basis.circuit, &state.rows.live, place, turn) {
         None => Ok(None),
         Some(least) => {
             if !least.alone {
-                hold(circuit, boards, ends, items, sides, state, place, least.row)?;
-                propagate(circuit, boards, ends, items, sides, state)?;
+                hold(basis, sides, state, place, least.row)?;
+                propagate(basis, sides, state)?;
             }
             Ok(Some(least.number))
         }
@@ -149,50 +145,39 @@ fn step<P: Primitive>(
 /// start, that says that there was no assignment.
 pub fn walk<P: Primitive>(
     alloc: Global,
-    circuit: &Circuit<P>,
-    boards: &List<Board>,
-    ends: &Ends,
-    items: &[List<Value>],
+    basis: &Basis<'_, P>,
     sides: &[usize],
     state: &mut State,
     places: &[Place],
     turn: u64,
 ) -> Result<Option<List<usize>>, NoMemory>
-    requires search { let net = net_of P.behaviour circuit.now in
-        IsSearch net boards.now ends.now items.now (among sides.now) state.old }
-    requires closed { IsClosed (net_of P.behaviour circuit.now) (among sides.now) }
-    requires sides { let net = net_of P.behaviour circuit.now in
+    requires search { let net = net_of P.behaviour basis.now.circuit.now in
+        IsSearchOn net basis.now (among sides.now) state.old }
+    requires closed { IsClosed (net_of P.behaviour basis.now.circuit.now) (among sides.now) }
+    requires sides { let net = net_of P.behaviour basis.now.circuit.now in
         (s : ℕ) → among sides.now s ≡ true → s < length (all_sides net.primitives) }
     requires some_side { 0 < length sides.now }
     requires places { (k : ℕ) (d : Spot) → k < length places.now
         → among sides.now (side_of_place (slice_index_or places.now k d)) ≡ true }
-    ensures found { let net = net_of P.behaviour circuit.now in
-        IfOk result (λ found. MatchOption found (IsStuck net (names_of items.now) (among sides.now)
-        (family_of state.old.alive)) (IsWalked net (names_of items.now) (among sides.now) turn
+    ensures found { let net = net_of P.behaviour basis.now.circuit.now in
+        IfOk result (λ found. MatchOption found (IsStuck net (names_of basis.now.items.now)
+        (among sides.now) (family_of state.old.alive))
+        (IsWalked net (names_of basis.now.items.now) (among sides.now) turn
         (family_of state.old.alive) (family_of state.new.alive) places.now)) }
     ensures alike { OnOk result (AreAlikeTables state.old.alive state.new.alive) }
-    ensures search { let net = net_of P.behaviour circuit.now in
-        OnOk result (IsSearch net boards.now ends.now items.now (among sides.now) state.new) }
+    ensures search { let net = net_of P.behaviour basis.now.circuit.now in
+        OnOk result (IsSearchOn net basis.now (among sides.now) state.new) }
 {
-    circuit.known();
-    propagate(circuit, boards, ends, items, sides, state)?;
+    basis.circuit.known();
+    propagate(basis, sides, state)?;
     let mut chosen = List::new(alloc);
     for index in 0..places.len() {
-        match step(
-            circuit,
-            boards,
-            ends,
-            items,
-            sides,
-            state,
-            places[index],
-            turn,
-        )? {
+        match step(basis, sides, state, places[index], turn)? {
             None => return Ok(None),
             Some(number) => chosen.push(number)?,
         }
     }
-    match least_row(circuit, &state.rows.live, Place::Row(sides[0]), turn) {
+    match least_row(basis.circuit, &state.rows.live, Place::Row(sides[0]), turn) {
         None => Ok(None),
         Some(_) => Ok(Some(chosen)),
     }

@@ -7,7 +7,7 @@ use Rattle.reo_rows.specs.Sets.{names_of}
 use Rattle.reo_propagate.specs.Queues.{among}
 use Rattle.reo_choices.specs.Remaining.{choices_of}
 use Rattle.reo_propagate.specs.declared.state.State.{State}
-use Rattle.reo_choices.specs.Trying.{MayRestart, HasCodes, HasNextOf, CoverWith}
+use Rattle.reo_choices.specs.Trying.{MayRestartOn, HasCodes, HasNextOf, CoverWith}
 use Rattle.reo_choices.specs.Best.{IsBetter}
 use Rattle.reo_choices.proofs.Counted.{steps_more}
 use Rattle.reo_choices.proofs.Bettering.{better_same, better_of_two}
@@ -21,8 +21,8 @@ pushed_is before codes now x pushed is = pushed ∙ ap (λ (xs : List ℕ). xs +
 
 pub try_front-requires-clause-cover : goal.try_front-requires-clause-cover
 try_front-requires-clause-cover g t c =
-    let net : Net = net_of g.P.Primitive.behaviour c.args.circuit.now in
-    let names : Names = names_of c.args.items.now in
+    let net : Net = net_of g.P.Primitive.behaviour c.args.basis.now.circuit.now in
+    let names : Names = names_of c.args.basis.now.items.now in
     let inside : ℕ → Bool = among c.args.sides.now in
     let loops : List ℕ = c.args.loops.now in
     let left : List (List ℕ) = c.args.left.now in
@@ -35,8 +35,8 @@ try_front-requires-clause-cover g t c =
 
 pub improve-requires : goal.improve-requires
 improve-requires g t c =
-    let net : Net = net_of g.P.Primitive.behaviour c.args.circuit.now in
-    let names : Names = names_of c.args.items.now in
+    let net : Net = net_of g.P.Primitive.behaviour c.args.basis.now.circuit.now in
+    let names : Names = names_of c.args.basis.now.items.now in
     let inside : ℕ → Bool = among c.args.sides.now in
     let loops : List ℕ = c.args.loops.now in
     let codes : List ℕ = c.push_single.new.codes in
@@ -54,8 +54,8 @@ improve-requires g t c =
 
 pub loop-index-preserved : goal.loop-index-preserved
 loop-index-preserved g t c =
-    let net : Net = net_of g.P.Primitive.behaviour c.args.circuit.now in
-    let names : Names = names_of c.args.items.now in
+    let net : Net = net_of g.P.Primitive.behaviour c.args.basis.now.circuit.now in
+    let names : Names = names_of c.args.basis.now.items.now in
     let inside : ℕ → Bool = among c.args.sides.now in
     let loops : List ℕ = c.args.loops.now in
     let left : List (List ℕ) = c.args.left.now in
@@ -102,16 +102,16 @@ loop-index-preserved g t c =
           c.args.best.now c.loop-index.best c.match-rest.best c.loop-index.invariant.better here);
       codes_are = c.truncate-in-loop-index.ensures ∙ ap (take c.len-many.result) codes_are ∙ ap (λ (n : ℕ). take n (codes ++ x ∷ [])) c.len-many.ensures ∙ take-append_seam codes (x ∷ []);
       tables = elim c.match-rest.branch [
-        | in-None w ↦ subst (λ (s : State). MayRestart net c.args.boards.now c.args.ends.now c.args.items.now s) (sym w.state-is) c.in_ok-rest.ensures.tables
-        | in-Some+in_ok-improve-in-Some w ↦ subst (λ (s : State). MayRestart net c.args.boards.now c.args.ends.now c.args.items.now s) (sym w.state-is) w.in_ok-improve-in-Some.ensures.tables
+        | in-None w ↦ subst (λ (s : State). MayRestartOn net c.args.basis.now s) (sym w.state-is) c.in_ok-rest.ensures.tables
+        | in-Some+in_ok-improve-in-Some w ↦ subst (λ (s : State). MayRestartOn net c.args.basis.now s) (sym w.state-is) w.in_ok-improve-in-Some.ensures.tables
       ];
       ticks = steps_more c.args.steps.now c.loop-index.steps c.match-rest.steps i rest c.loop-index.invariant.ticks steps;
     }
 
 pub returns-then-many-loops-clause-better : goal.returns-then-many-loops-clause-better
 returns-then-many-loops-clause-better g t c =
-    let net : Net = net_of g.P.Primitive.behaviour c.args.circuit.now in
-    let names : Names = names_of c.args.items.now in
+    let net : Net = net_of g.P.Primitive.behaviour c.args.basis.now.circuit.now in
+    let names : Names = names_of c.args.basis.now.items.now in
     let inside : ℕ → Bool = among c.args.sides.now in
     let loops : List ℕ = c.args.loops.now in
     let singles = c.in_ok-push_single.ensures in
@@ -122,8 +122,8 @@ returns-then-many-loops-clause-better g t c =
 
 pub returns-clause-better : goal.returns-clause-better
 returns-clause-better g t c =
-    let net : Net = net_of g.P.Primitive.behaviour c.args.circuit.now in
-    let names : Names = names_of c.args.items.now in
+    let net : Net = net_of g.P.Primitive.behaviour c.args.basis.now.circuit.now in
+    let names : Names = names_of c.args.basis.now.items.now in
     let inside : ℕ → Bool = among c.args.sides.now in
     let loops : List ℕ = c.args.loops.now in
     let old : List ℕ = c.args.codes.now in

@@ -3,7 +3,7 @@ use Rattle.reo_net_base.specs.Net.{net_of}
 use Rattle.reo_rows.specs.Sets.{names_of}
 use Rattle.reo_propagate.specs.Queues.{among}
 use Rattle.reo_choices.specs.Remaining.{choices_of}
-use Rattle.reo_choices.specs.Trying.{MayRestart, HasNextOf}
+use Rattle.reo_choices.specs.Trying.{MayRestartOn, HasNextOf}
 use Rattle.reo_choices.specs.Best.{IsBetter}
 use Rattle.reo_choices.proofs.choices.+improve.Given as goal
 
@@ -12,8 +12,8 @@ decreases-improve g l = length l.loops.now - length l.codes.now
 
 abbrev pub invariant-loop-index : goal.invariant-loop-index
 invariant-loop-index g l = record {
-  better : IsBetter (HasNextOf (net_of g.P.Primitive.behaviour l.circuit) (names_of l.items) (among l.sides) l.loops l.initial.codes (take l.index l.next)) (net_of g.P.Primitive.behaviour l.circuit) l.turn l.places l.fn.best l.best;
+  better : IsBetter (HasNextOf (net_of g.P.Primitive.behaviour l.basis.circuit.now) (names_of l.basis.items.now) (among l.sides) l.loops l.initial.codes (take l.index l.next)) (net_of g.P.Primitive.behaviour l.basis.circuit.now) l.turn l.places l.fn.best l.best;
   codes_are : l.codes ≡ l.initial.codes;
-  tables : MayRestart (net_of g.P.Primitive.behaviour l.circuit) l.boards l.ends l.items l.state;
+  tables : MayRestartOn (net_of g.P.Primitive.behaviour l.basis.circuit.now) l.basis l.state;
   ticks : l.steps ≤ l.fn.steps + l.index * choices_of (drop (length l.initial.codes + 1) l.left);
 }

@@ -10,8 +10,8 @@ use Rattle.reo_choices.proofs.choices.first_over.Goals as goal
 
 pub returns-then-done-clause-first : goal.returns-then-done-clause-first
 returns-then-done-clause-first g c =
-    let net : Net = net_of g.P.Primitive.behaviour c.args.circuit.now in
-    let names : Names = names_of c.args.items.now in
+    let net : Net = net_of g.P.Primitive.behaviour c.args.basis.now.circuit.now in
+    let names : Names = names_of c.args.basis.now.items.now in
     let inside : ℕ → Bool = among c.args.sides.now in
     first_all net names inside c.args.turn c.args.state.now.alive c.args.places.now c.settles.new.best c.requires.alive (c.in_ok-done.ensures.better c.if-done.true)
 
@@ -20,8 +20,8 @@ improve-requires-clause-cover g c = λ rows choice h. c.requires.cover rows choi
 
 pub returns-clause-first : goal.returns-clause-first
 returns-clause-first g c =
-    let net : Net = net_of g.P.Primitive.behaviour c.args.circuit.now in
-    let names : Names = names_of c.args.items.now in
+    let net : Net = net_of g.P.Primitive.behaviour c.args.basis.now.circuit.now in
+    let names : Names = names_of c.args.basis.now.items.now in
     let inside : ℕ → Bool = among c.args.sides.now in
     let settled = (c.in_ok-done.ensures.looked c.if-done.false).0 in
     let better = subst (λ (o : Option (List ℕ)). IsBetter (HasCodes net names inside c.args.loops.now c.new-codes.result) net c.args.turn c.args.places.now o c.improve.new.best) settled c.in_ok-improve.ensures.better in

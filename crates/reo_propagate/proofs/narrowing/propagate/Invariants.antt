@@ -4,13 +4,13 @@ use Rattle.reo_rows.specs.Flags.{count_set}
 use Rattle.reo_rows.specs.Sets.{names_of}
 use Rattle.reo_propagate.specs.Queues.{among}
 use Rattle.reo_propagate.specs.Narrow.{IsReduced}
-use Rattle.reo_propagate.specs.Beginning.{IsSearch}
+use Rattle.reo_propagate.specs.Basis.{IsSearchOn}
 use Rattle.reo_propagate.proofs.narrowing.propagate.Given as goal
 
 abbrev pub invariant-loop-side : goal.invariant-loop-side
 invariant-loop-side g l = record {
-  reduced : IsReduced (net_of g.P.Primitive.behaviour l.circuit) (names_of l.items) (among l.sides) l.initial.state.alive l.state.alive;
-  search : IsSearch (net_of g.P.Primitive.behaviour l.circuit) l.boards l.ends l.items (among l.sides) l.state;
+  reduced : IsReduced (net_of g.P.Primitive.behaviour l.basis.circuit.now) (names_of l.basis.items.now) (among l.sides) l.initial.state.alive l.state.alive;
+  search : IsSearchOn (net_of g.P.Primitive.behaviour l.basis.circuit.now) l.basis (among l.sides) l.state;
 }
 
 abbrev pub decreases-loop-side : goal.decreases-loop-side

@@ -5,4 +5,4 @@ use Rattle.reo_propagate.proofs.narrowing.revise.Given as goal
 
 abbrev pub invariant-loop-index : goal.invariant-loop-index
 invariant-loop-index g l =
-    IsRevising (net_of g.P.Primitive.behaviour l.circuit) l.items (among l.sides) l.side l.joints l.index l.initial.state l.state
+    IsRevising (net_of g.P.Primitive.behaviour l.basis.circuit.now) l.basis.items.now (among l.sides) l.side l.joints l.index l.initial.state l.state

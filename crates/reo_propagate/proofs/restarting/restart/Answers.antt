@@ -9,10 +9,10 @@ freshen_all-requires-clause-sides g c m lt = c.requires.sides (get_or c.args.sid
 
 pub returns-clause-search : goal.returns-clause-search
 returns-clause-search g c =
-    let net : Net = net_of g.P.Primitive.behaviour c.args.circuit.now in
-    begun_anew net c.args.boards.now c.args.ends.now c.args.items.now c.args.sides.now c.args.state.now c.freshen_all.new.state c.requires.ready c.requires.tables c.requires.waits c.freshen_all.ensures c.in_ok-line.line c.in_ok-line.ensures
+    let net : Net = net_of g.P.Primitive.behaviour c.args.basis.now.circuit.now in
+    begun_anew net c.args.basis.now.boards.now c.args.basis.now.ends.now c.args.basis.now.items.now c.args.sides.now c.args.state.now c.freshen_all.new.state c.requires.ready c.requires.tables c.requires.waits c.freshen_all.ensures c.in_ok-line.line c.in_ok-line.ensures
 
 pub returns-clause-whole : goal.returns-clause-whole
 returns-clause-whole g c =
-    let net : Net = net_of g.P.Primitive.behaviour c.args.circuit.now in
-    values_there net c.args.boards.now c.args.ends.now c.args.items.now c.args.sides.now c.args.state.now c.freshen_all.new.state c.requires.ready c.requires.tables c.requires.waits c.freshen_all.ensures
+    let net : Net = net_of g.P.Primitive.behaviour c.args.basis.now.circuit.now in
+    values_there net c.args.basis.now.boards.now c.args.basis.now.ends.now c.args.basis.now.items.now c.args.sides.now c.args.state.now c.freshen_all.new.state c.requires.ready c.requires.tables c.requires.waits c.freshen_all.ensures

@@ -7,5 +7,5 @@ use Rattle.reo_propagate.proofs.sets.begin_with.Goals as goal
 pub returns-clause-search : goal.returns-clause-search
 returns-clause-search g c =
     let state : State = record { alive = c.in_ok-alive.alive; rows = c.in_ok-rows.rows; queue = c.in_ok-queue.queue } in
-    begun (net_of g.P.Primitive.behaviour c.args.circuit.now) c.args.boards.now c.args.ends.now c.args.items.now c.args.sides.now (listed c.args.sets.now.values) state c.sides.result
+    begun (net_of g.P.Primitive.behaviour c.args.basis.now.circuit.now) c.args.basis.now.boards.now c.args.basis.now.ends.now c.args.basis.now.items.now c.args.sides.now (listed c.args.sets.now.values) state c.sides.result
     c.requires.boards c.requires.ends c.requires.items c.in_ok-alive.ensures c.in_ok-rows.ensures.tables c.in_ok-rows.ensures.all c.sides.ensures c.in_ok-queue.ensures.waits c.in_ok-queue.ensures.line

@@ -12,8 +12,8 @@ use Rattle.reo_propagate.proofs.thinning.thin.Goals as goal
 
 pub loop-code-preserved : goal.loop-code-preserved
 loop-code-preserved g c =
-    let net : Net = net_of g.P.Primitive.behaviour c.args.circuit.now in
-    let names : Names = names_of c.args.items.now in
+    let net : Net = net_of g.P.Primitive.behaviour c.args.basis.now.circuit.now in
+    let names : Names = names_of c.args.basis.now.items.now in
     let side : ℕ = c.args.side in
     let joint : ℕ = c.args.joint in
     let code : ℕ = c.loop-code.code in

@@ -4,4 +4,4 @@ use Rattle.reo_propagate.proofs.Thinned.{IsThinning}
 use Rattle.reo_propagate.proofs.thinning.thin.Given as goal
 
 abbrev pub invariant-loop-code : goal.invariant-loop-code
-invariant-loop-code g l = IsThinning (net_of g.P.Primitive.behaviour l.circuit) (names_of l.items) l.side l.joint l.code l.rows l.initial.alive l.alive l.loss
+invariant-loop-code g l = IsThinning (net_of g.P.Primitive.behaviour l.basis.circuit.now) (names_of l.basis.items.now) l.side l.joint l.code l.rows l.initial.alive l.alive l.loss

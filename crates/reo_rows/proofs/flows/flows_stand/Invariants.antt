@@ -7,8 +7,8 @@ use Rattle.reo_rows.specs.Sets.{family_of, names_of}
 use Rattle.reo_rows.proofs.flows.flows_stand.Given as goal
 
 abbrev pub invariant-loop-index : goal.invariant-loop-index
-invariant-loop-index g l = (m : ℕ) → m < l.index → TakerHas (net_of g.P.Primitive.behaviour l.circuit) (names_of l.items) (family_of l.alive) l.side l.row (get_or l.flow.taking m 0)
+invariant-loop-index g l = (m : ℕ) → m < l.index → TakerHas (net_of g.P.Primitive.behaviour l.basis.circuit.now) (names_of l.basis.items.now) (family_of l.alive) l.side l.row (get_or l.flow.taking m 0)
 
 abbrev pub invariant-loop-index-2 : goal.invariant-loop-index-2
-invariant-loop-index-2 g l = (m : ℕ) → m < l.index → from_in (net_of g.P.Primitive.behaviour l.circuit) l.row (joint_of (net_of g.P.Primitive.behaviour l.circuit) (get_or l.flow.giving m 0)).giver ≡ None
-    → IsGivenIn (net_of g.P.Primitive.behaviour l.circuit) (names_of l.items) (family_of l.alive) l.row (get_or l.flow.giving m 0) None
+invariant-loop-index-2 g l = (m : ℕ) → m < l.index → from_in (net_of g.P.Primitive.behaviour l.basis.circuit.now) l.row (joint_of (net_of g.P.Primitive.behaviour l.basis.circuit.now) (get_or l.flow.giving m 0)).giver ≡ None
+    → IsGivenIn (net_of g.P.Primitive.behaviour l.basis.circuit.now) (names_of l.basis.items.now) (family_of l.alive) l.row (get_or l.flow.giving m 0) None

@@ -11,9 +11,9 @@ pub returns : goal.returns
 returns g c = (
   λ h. absurd cc,
   λ given.
-      let net : Net = net_of g.P.Primitive.behaviour c.args.circuit.now in
-      let p = given_placed net (names_of c.args.items.now) c.args.alive.now c.args.side c.args.row c.args.joint (option_copied c.args.taken) c.requires.gives given in
+      let net : Net = net_of g.P.Primitive.behaviour c.args.basis.now.circuit.now in
+      let p = given_placed net (names_of c.args.basis.now.items.now) c.args.alive.now c.args.side c.args.row c.args.joint (option_copied c.args.taken) c.requires.gives given in
       let place = flag_in c.args.alive.now c.args.joint p.code p.set in
       absurd (c.loop-code.invariant p.code p.flows (omega (arith, place)) p.set
-      (subst (λ (v : JointValue). IsGivenAs net (names_of c.args.items.now) c.args.row c.args.joint (option_copied c.args.taken) v) (sym p.is) given.given)),
+      (subst (λ (v : JointValue). IsGivenAs net (names_of c.args.basis.now.items.now) c.args.row c.args.joint (option_copied c.args.taken) v) (sym p.is) given.given)),
 )

@@ -7,4 +7,4 @@ use Rattle.reo_rows.proofs.flows.is_flow_given.Given as goal
 
 abbrev pub invariant-loop-code : goal.invariant-loop-code
 invariant-loop-code g l = (c : ℕ) → 4 ≤ c → c < l.code → flag l.alive l.joint c ≡ true
-    → IsGivenAs (net_of g.P.Primitive.behaviour l.circuit) (names_of l.items) l.row l.joint (option_copied l.taken) (value_of c) → ⊥
+    → IsGivenAs (net_of g.P.Primitive.behaviour l.basis.circuit.now) (names_of l.basis.items.now) l.row l.joint (option_copied l.taken) (value_of c) → ⊥

@@ -8,4 +8,4 @@ use Rattle.reo_rows.proofs.flows.takes_flow.Given as goal
 
 abbrev pub invariant-loop-code : goal.invariant-loop-code
 invariant-loop-code g l = (c : ℕ) → 4 ≤ c → c < l.code → flag l.alive l.joint c ≡ true
-    → TakerWorks (net_of g.P.Primitive.behaviour l.circuit) (names_of l.items) (family_of l.alive) l.side l.row l.joint (Flow (c - 4)) → ⊥
+    → TakerWorks (net_of g.P.Primitive.behaviour l.basis.circuit.now) (names_of l.basis.items.now) (family_of l.alive) l.side l.row l.joint (Flow (c - 4)) → ⊥

@@ -10,7 +10,7 @@ use Rattle.reo_rows.proofs.marks.marks_left.Goals as goal
 
 pub returns-then-gives : goal.returns-then-gives
 returns-then-gives g c = λ m.
-    let net : Net = net_of g.P.Primitive.behaviour c.args.circuit.now in
+    let net : Net = net_of g.P.Primitive.behaviour c.args.basis.now.circuit.now in
     let family : Family = family_of c.args.alive.now in
     let is : c.marks_of.result ≡ givers family c.args.joint c.has_flow-flow.result =
     rw (c.marks_of.ensures, c.is_set-taker_requires.ensures, c.is_set-neither.ensures, c.is_set-giver_requires.ensures, c.is_set-jam.ensures) refl in
@@ -19,7 +19,7 @@ returns-then-gives g c = λ m.
 
 pub returns-else-gives : goal.returns-else-gives
 returns-else-gives g c = λ m.
-    let net : Net = net_of g.P.Primitive.behaviour c.args.circuit.now in
+    let net : Net = net_of g.P.Primitive.behaviour c.args.basis.now.circuit.now in
     let family : Family = family_of c.args.alive.now in
     let is : c.marks_of-else-gives.result ≡ takers family c.args.joint c.has_flow-flow.result =
     rw (c.marks_of-else-gives.ensures, c.is_set-giver_requires.ensures, c.is_set-neither.ensures, c.is_set-taker_requires.ensures, c.is_set-jam.ensures) refl in

@@ -7,8 +7,8 @@ use Rattle.reo_rows.proofs.seeing.see.Given as goal
 
 abbrev pub invariant-loop-row : goal.invariant-loop-row
 invariant-loop-row g l = record {
-  tables : AreTables (net_of g.P.Primitive.behaviour l.circuit) l.items l.rows;
+  tables : AreTables (net_of g.P.Primitive.behaviour l.basis.circuit.now) l.basis.items.now l.rows;
   live : l.rows.live ≡ l.initial.rows.live;
   notes : l.rows.notes ≡ l.initial.rows.notes;
-  seen : AreSeen (Below (LiveRowUse (net_of g.P.Primitive.behaviour l.circuit) (names_of l.items) (family_of l.alive) l.rows.live l.side) l.row) l.initial.rows.seen l.rows.seen;
+  seen : AreSeen (Below (LiveRowUse (net_of g.P.Primitive.behaviour l.basis.circuit.now) (names_of l.basis.items.now) (family_of l.alive) l.rows.live l.side) l.row) l.initial.rows.seen l.rows.seen;
 }

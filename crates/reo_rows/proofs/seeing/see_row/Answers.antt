@@ -10,8 +10,8 @@ use Rattle.reo_rows.proofs.seeing.see_row.Goals as goal
 
 pub loop-index-preserved : goal.loop-index-preserved
 loop-index-preserved g c =
-    let net : Net = net_of g.P.Primitive.behaviour c.args.circuit.now in
-    let names : Names = names_of c.args.items.now in
+    let net : Net = net_of g.P.Primitive.behaviour c.args.basis.now.circuit.now in
+    let names : Names = names_of c.args.basis.now.items.now in
     let family : Family = family_of c.args.alive.now in
     let list : List ℕ = c.args.flow.now.taking in
     let is : c.at-source.result.now ≡ get_or list c.loop-index.index 0 = c.at-source.ensures ∙ get_or_default list c.loop-index.index c.at-source.result.now 0 (omega arith) in
@@ -20,8 +20,8 @@ loop-index-preserved g c =
 
 pub loop-index-2-preserved : goal.loop-index-2-preserved
 loop-index-2-preserved g c =
-    let net : Net = net_of g.P.Primitive.behaviour c.args.circuit.now in
-    let names : Names = names_of c.args.items.now in
+    let net : Net = net_of g.P.Primitive.behaviour c.args.basis.now.circuit.now in
+    let names : Names = names_of c.args.basis.now.items.now in
     let family : Family = family_of c.args.alive.now in
     let list : List ℕ = c.args.flow.now.giving in
     let is : c.at-joint.result.now ≡ get_or list c.loop-index-2.index 0 = c.at-joint.ensures ∙ get_or_default list c.loop-index-2.index c.at-joint.result.now 0 (omega arith) in
@@ -30,8 +30,8 @@ loop-index-2-preserved g c =
 
 pub returns : goal.returns
 returns g c =
-    let net : Net = net_of g.P.Primitive.behaviour c.args.circuit.now in
-    let names : Names = names_of c.args.items.now in
+    let net : Net = net_of g.P.Primitive.behaviour c.args.basis.now.circuit.now in
+    let names : Names = names_of c.args.basis.now.items.now in
     let family : Family = family_of c.args.alive.now in
     let taken : c.loop-index.index ≡ length c.args.flow.now.taking = omega arith in
     let given : c.loop-index-2.index ≡ length c.args.flow.now.giving = omega arith in

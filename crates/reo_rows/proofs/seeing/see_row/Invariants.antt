@@ -6,8 +6,8 @@ use Rattle.reo_rows.proofs.seeing.see_row.Given as goal
 
 abbrev pub invariant-loop-index : goal.invariant-loop-index
 invariant-loop-index g l =
-    AreSeen (Below (λ m. TakesUse (net_of g.P.Primitive.behaviour l.circuit) (names_of l.items) (family_of l.alive) l.side l.row (get_or l.flow.taking m 0)) l.index) l.initial.seen l.seen
+    AreSeen (Below (λ m. TakesUse (net_of g.P.Primitive.behaviour l.basis.circuit.now) (names_of l.basis.items.now) (family_of l.alive) l.side l.row (get_or l.flow.taking m 0)) l.index) l.initial.seen l.seen
 
 abbrev pub invariant-loop-index-2 : goal.invariant-loop-index-2
 invariant-loop-index-2 g l =
-    AreSeen (Below (λ m. AloneUse (net_of g.P.Primitive.behaviour l.circuit) (names_of l.items) (family_of l.alive) l.row (get_or l.flow.giving m 0)) l.index) l.initial.seen l.seen
+    AreSeen (Below (λ m. AloneUse (net_of g.P.Primitive.behaviour l.basis.circuit.now) (names_of l.basis.items.now) (family_of l.alive) l.row (get_or l.flow.giving m 0)) l.index) l.initial.seen l.seen

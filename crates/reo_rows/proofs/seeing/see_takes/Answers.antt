@@ -9,13 +9,13 @@ use Rattle.reo_rows.proofs.seeing.see_takes.Goals as goal
 
 pub loop-code-preserved : goal.loop-code-preserved
 loop-code-preserved g c =
-    let net : Net = net_of g.P.Primitive.behaviour c.args.circuit.now in
-    let names : Names = names_of c.args.items.now in
+    let net : Net = net_of g.P.Primitive.behaviour c.args.basis.now.circuit.now in
+    let names : Names = names_of c.args.basis.now.items.now in
     let family : Family = family_of c.args.alive.now in
     seen_more (TakenUse net names family c.args.side c.args.row c.args.source) c.loop-code.code c.args.seen.now c.loop-code.seen c.see_taken.new.seen c.loop-code.invariant c.see_taken.ensures
 
 pub returns : goal.returns
 returns g c =
-    let net : Net = net_of g.P.Primitive.behaviour c.args.circuit.now in
-    let names : Names = names_of c.args.items.now in
+    let net : Net = net_of g.P.Primitive.behaviour c.args.basis.now.circuit.now in
+    let names : Names = names_of c.args.basis.now.items.now in
     seen_takes net names c.args.alive.now c.args.side c.args.row c.args.source c.loop-code.code c.args.seen.now c.loop-code.seen (omega arith) c.loop-code.invariant

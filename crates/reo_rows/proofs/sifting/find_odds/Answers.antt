@@ -8,7 +8,7 @@ use Rattle.reo_rows.proofs.sifting.find_odds.Goals as goal
 
 pub loop-group-preserved : goal.loop-group-preserved
 loop-group-preserved g c =
-    let net : Net = net_of g.P.Primitive.behaviour c.args.circuit.now in
+    let net : Net = net_of g.P.Primitive.behaviour c.args.basis.now.circuit.now in
     let new : c.push.new.self ≡ c.loop-group.odds ++ c.odd_where-odd.result ∷ [] = c.in_ok-push.ensures.ok in
     record {
       one_each = omega (arith, ap (λ (l : List Odd). length l) new, length-append c.loop-group.odds (c.odd_where-odd.result ∷ []), c.loop-group.invariant.one_each);

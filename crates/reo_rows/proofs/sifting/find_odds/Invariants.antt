@@ -8,5 +8,5 @@ use Rattle.reo_rows.proofs.sifting.find_odds.Given as goal
 abbrev pub invariant-loop-group : goal.invariant-loop-group
 invariant-loop-group g l = record {
   one_each : length l.odds ≡ l.group;
-  odd : (k : ℕ) (d : Odd) → k < l.group → IsOdd (net_of g.P.Primitive.behaviour l.circuit) (family_of l.alive) l.side k (get_or l.odds k d);
+  odd : (k : ℕ) (d : Odd) → k < l.group → IsOdd (net_of g.P.Primitive.behaviour l.basis.circuit.now) (family_of l.alive) l.side k (get_or l.odds k d);
 }

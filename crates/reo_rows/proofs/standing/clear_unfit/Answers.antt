@@ -10,13 +10,13 @@ use Rattle.reo_rows.proofs.standing.clear_unfit.Goals as goal
 
 pub loop-index-preserved : goal.loop-index-preserved
 loop-index-preserved g c =
-    let net : Net = net_of g.P.Primitive.behaviour c.args.circuit.now in
+    let net : Net = net_of g.P.Primitive.behaviour c.args.basis.now.circuit.now in
     let family : Family = family_of c.args.alive.now in
     let side : ℕ = c.args.side in
     let joints : List ℕ = c.at-board.result.now.joints in
     let columns : List ℕ = c.at-board.result.now.columns in
     let n : ℕ = c.loop-index.index in
-    let board = board_is net c.args.boards.now c.requires.ready.boards_are side c.requires.side c.at-board.result.now c.at-board.ensures in
+    let board = board_is net c.args.basis.now.boards.now c.requires.ready.boards_are side c.requires.side c.at-board.result.now c.at-board.ensures in
     let lt : n < length joints = omega arith in
     let j = read net side c.at-board.result.now board n c.at-joint.result.now lt c.at-joint.ensures in
     let groups = c.groups-groups.ensures no_side in

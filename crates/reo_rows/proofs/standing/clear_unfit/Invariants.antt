@@ -4,4 +4,4 @@ use Rattle.reo_rows.proofs.Columns.{AreFitBelow}
 use Rattle.reo_rows.proofs.standing.clear_unfit.Given as goal
 
 abbrev pub invariant-loop-index : goal.invariant-loop-index
-invariant-loop-index g l = AreFitBelow (net_of g.P.Primitive.behaviour l.circuit) (family_of l.alive) l.side l.board.joints l.index l.fits
+invariant-loop-index g l = AreFitBelow (net_of g.P.Primitive.behaviour l.basis.circuit.now) (family_of l.alive) l.side l.board.joints l.index l.fits

@@ -12,11 +12,11 @@ use Rattle.reo_rows.proofs.standing.fails_besides.Goals as goal
 
 pub loop-index-preserved : goal.loop-index-preserved
 loop-index-preserved g c =
-    let net : Net = net_of g.P.Primitive.behaviour c.args.circuit.now in
+    let net : Net = net_of g.P.Primitive.behaviour c.args.basis.now.circuit.now in
     let family : Family = family_of c.args.alive.now in
     let side : ℕ = c.args.side in
     let joints : List ℕ = c.at-board.result.now.joints in
-    let board = board_is net c.args.boards.now c.requires.ready.boards_are side c.requires.side c.at-board.result.now c.at-board.ensures in
+    let board = board_is net c.args.basis.now.boards.now c.requires.ready.boards_are side c.requires.side c.at-board.result.now c.at-board.ensures in
     let lt : c.loop-index.index < length joints = omega arith in
     let j = read net side c.at-board.result.now board c.loop-index.index c.at-joint.result.now lt c.at-joint.ensures in
     let P : ℕ → Type 0 = λ k. c.args.besides ≢ Some (end_at net side k).end → HasMark net family side k (common_at_joint net side c.args.group k) in

@@ -12,7 +12,7 @@ use Rattle.reo_rows.proofs.standing.marks_stand.Goals as goal
 
 pub returns-then-not-excuses : goal.returns-then-not-excuses
 returns-then-not-excuses g c =
-    let net : Net = net_of g.P.Primitive.behaviour c.args.circuit.now in
+    let net : Net = net_of g.P.Primitive.behaviour c.args.basis.now.circuit.now in
     let family : Family = family_of c.args.alive.now in (
       λ h. absurd cc,
       λ stands.
@@ -23,12 +23,12 @@ returns-then-not-excuses g c =
 
 pub stands_at-requires-clause-end : goal.stands_at-requires-clause-end
 stands_at-requires-clause-end g c =
-    let net : Net = net_of g.P.Primitive.behaviour c.args.circuit.now in
+    let net : Net = net_of g.P.Primitive.behaviour c.args.basis.now.circuit.now in
     apart_at net c.known.ensures.wired c.args.side c.requires.side c.args.row c.in-Some.end c.requires.row (sym (c.apart-apart.ensures no_side) ∙ c.in-Some.is)
 
 pub returns-in-None : goal.returns-in-None
 returns-in-None g c =
-    let net : Net = net_of g.P.Primitive.behaviour c.args.circuit.now in
+    let net : Net = net_of g.P.Primitive.behaviour c.args.basis.now.circuit.now in
     let family : Family = family_of c.args.alive.now in
     let is : apart_in net c.args.side c.args.row ≡ None = sym (c.apart-apart.ensures no_side) ∙ c.in-None.is in
     let excuse : Excuses c.args.odd (apart_in net c.args.side c.args.row) = subst (λ (o : Option ℕ). Excuses c.args.odd o) (c.apart-apart.ensures no_side) (c.excuses.ensures.0 c.if-not-excuses.false) in (
@@ -38,7 +38,7 @@ returns-in-None g c =
 
 pub returns-in-Some : goal.returns-in-Some
 returns-in-Some g c =
-    let net : Net = net_of g.P.Primitive.behaviour c.args.circuit.now in
+    let net : Net = net_of g.P.Primitive.behaviour c.args.basis.now.circuit.now in
     let family : Family = family_of c.args.alive.now in
     let is : apart_in net c.args.side c.args.row ≡ Some c.in-Some.end = sym (c.apart-apart.ensures no_side) ∙ c.in-Some.is in
     let excuse : Excuses c.args.odd (apart_in net c.args.side c.args.row) = subst (λ (o : Option ℕ). Excuses c.args.odd o) (c.apart-apart.ensures no_side) (c.excuses.ensures.0 c.if-not-excuses.false) in (

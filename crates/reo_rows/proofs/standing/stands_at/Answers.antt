@@ -8,7 +8,7 @@ use Rattle.reo_rows.proofs.standing.stands_at.Goals as goal
 
 pub returns : goal.returns
 returns g c =
-    let net : Net = net_of g.P.Primitive.behaviour c.args.circuit.now in
+    let net : Net = net_of g.P.Primitive.behaviour c.args.basis.now.circuit.now in
     let family : Family = family_of c.args.alive.now in
     let test = left_test net family c.args.side c.joint_there-joint.result c.marks_left-marks.result c.has.result c.mark_at_joint.result (mark_at_joint net c.args.side c.args.row c.joint_there-joint.result) c.has.ensures c.mark_at_joint.ensures c.marks_left-marks.ensures in
     let both = stands_there net c.known.ensures.wired family c.args.side c.args.row c.args.end c.joint_there-joint.result c.joint_there-joint.ensures in

@@ -9,16 +9,16 @@ use Rattle.reo_search.proofs.searching.first_numbers.Goals as goal
 
 pub first_over-requires-clause-some : goal.first_over-requires-clause-some
 first_over-requires-clause-some g c =
-    let net : Net = net_of g.P.Primitive.behaviour c.args.circuit.now in
-    let names : Names = names_of c.args.items.now in
+    let net : Net = net_of g.P.Primitive.behaviour c.args.basis.now.circuit.now in
+    let names : Names = names_of c.args.basis.now.items.now in
     let inside : ℕ → Bool = among c.args.sides.now in
     let a = some_chosen net c.known.ensures.wired names inside c.requires.knot.knot.closed c.requires.knot.sides_are in
     some_covered net names inside c.args.loops.now c.args.left.now c.requires.cover c.requires.left a.rows a.choice a.chosen
 
 pub unreachable-requires : goal.unreachable-requires
 unreachable-requires g c =
-    let net : Net = net_of g.P.Primitive.behaviour c.args.circuit.now in
-    let names : Names = names_of c.args.items.now in
+    let net : Net = net_of g.P.Primitive.behaviour c.args.basis.now.circuit.now in
+    let names : Names = names_of c.args.basis.now.items.now in
     let inside : ℕ → Bool = among c.args.sides.now in
     let a = some_chosen net c.known.ensures.wired names inside c.requires.knot.knot.closed c.requires.knot.sides_are in
     let none = rw (c.in-None.is) at c.in_ok-first_over.ensures.first in

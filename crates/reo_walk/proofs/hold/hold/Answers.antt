@@ -11,7 +11,7 @@ use Rattle.reo_walk.proofs.hold.hold.Goals as goal
 
 pub loop-index-preserved : goal.loop-index-preserved
 loop-index-preserved g c =
-    let net : Net = net_of g.P.Primitive.behaviour c.args.circuit.now in
+    let net : Net = net_of g.P.Primitive.behaviour c.args.basis.now.circuit.now in
     let joint_is : c.at-joint.result.now ≡ get_or c.at.result.now.joints c.loop-index.index 0 = c.at-joint.ensures ∙ get_or_default c.at.result.now.joints c.loop-index.index c.at-joint.result.now 0 (omega (arith, c.len-index-end.ensures)) in
     record {
       held = so_far_twice net c.args.place c.args.row c.args.state.now.alive c.loop-index.state.alive c.hold_and_wake.new.state.alive c.loop-index.invariant.held c.in_ok-hold_and_wake.ensures.held;
@@ -21,10 +21,10 @@ loop-index-preserved g c =
 
 pub returns-clause-held : goal.returns-clause-held
 returns-clause-held g c =
-    let net : Net = net_of g.P.Primitive.behaviour c.args.circuit.now in
+    let net : Net = net_of g.P.Primitive.behaviour c.args.basis.now.circuit.now in
     let side : ℕ = side_of_place c.args.place in
     let last : c.loop-index.index ≡ length c.at.result.now.joints = omega (arith, c.len-index-end.ensures) in
-    let board : c.at.result.now ≡ get_or c.args.boards.now side c.at.result.now = subst (λ (s : ℕ). c.at.result.now ≡ get_or c.args.boards.now s c.at.result.now) c.side_of_place.ensures c.at.ensures in
+    let board : c.at.result.now ≡ get_or c.args.basis.now.boards.now side c.at.result.now = subst (λ (s : ℕ). c.at.result.now ≡ get_or c.args.basis.now.boards.now s c.at.result.now) c.side_of_place.ensures c.at.ensures in
     let all : Lists (IsJointOf net side) c.at.result.now.joints =
     subst (λ (b : Board). Lists (IsJointOf net side) b.joints) (sym board) (c.requires.search.ready.boards_are.each side c.at.result.now c.requires.side).joints in
     held_all net c.args.place c.args.row c.args.state.now.alive c.loop-index.state.alive c.at.result.now.joints all c.loop-index.invariant.held

@@ -13,8 +13,8 @@ use Rattle.reo_walk.proofs.hold.hold_and_wake.Goals as goal
 
 pub wake-requires-then-loss-clause-noted : goal.wake-requires-then-loss-clause-noted
 wake-requires-then-loss-clause-noted g c =
-    let net : Net = net_of g.P.Primitive.behaviour c.args.circuit.now in
-    let names : Names = names_of c.args.items.now in
+    let net : Net = net_of g.P.Primitive.behaviour c.args.basis.now.circuit.now in
+    let names : Names = names_of c.args.basis.now.items.now in
     let inside : ℕ → Bool = among c.args.sides.now in
     let joint : ℕ = c.args.joint in
     let a : ℕ = c.giver_side-giver.result in
@@ -37,12 +37,12 @@ wake-requires-then-loss-clause-noted g c =
 
 pub returns-in_ok-wake-2-clause-suits : goal.returns-in_ok-wake-2-clause-suits
 returns-in_ok-wake-2-clause-suits g c =
-    all_done (net_of g.P.Primitive.behaviour c.args.circuit.now) c.args.place c.args.row c.args.joint (length (get_or c.args.state.now.alive c.args.joint [])) c.args.state.now.alive c.hold_joint-loss.new.alive c.hold_joint-loss.result c.hold_joint-loss.ensures refl
+    all_done (net_of g.P.Primitive.behaviour c.args.basis.now.circuit.now) c.args.place c.args.row c.args.joint (length (get_or c.args.state.now.alive c.args.joint [])) c.args.state.now.alive c.hold_joint-loss.new.alive c.hold_joint-loss.result c.hold_joint-loss.ensures refl
 
 pub returns-in_ok-wake-2-clause-search : goal.returns-in_ok-wake-2-clause-search
 returns-in_ok-wake-2-clause-search g c =
-    let net : Net = net_of g.P.Primitive.behaviour c.args.circuit.now in
-    let names : Names = names_of c.args.items.now in
+    let net : Net = net_of g.P.Primitive.behaviour c.args.basis.now.circuit.now in
+    let names : Names = names_of c.args.basis.now.items.now in
     let inside : ℕ → Bool = among c.args.sides.now in
     let joint : ℕ = c.args.joint in
     let a : ℕ = c.giver_side-giver.result in
@@ -62,16 +62,16 @@ returns-in_ok-wake-2-clause-search g c =
     let first = kept_begin net wired names inside joint a b apart two of_a of_b a_in b_in old new c.hold_joint-loss.result.flow less held.elsewhere held.flows c.args.state.now.rows c.args.state.now.queue c.requires.search.tended in
     let one = kept_one net wired names inside joint a b apart two of_a of_b a_in b_in old new c.hold_joint-loss.result.flow less held.elsewhere held.flows c.args.state.now.rows c.wake.new.rows c.args.state.now.queue c.wake.new.queue first c.in_ok-wake.ensures.awake in
     let last = kept_both net wired names inside joint a b apart two of_a of_b a_in b_in old new c.hold_joint-loss.result.flow less held.elsewhere held.flows c.wake.new.rows c.wake-then-loss.new.rows c.wake.new.queue c.wake-then-loss.new.queue one c.in_ok-wake-2.ensures.awake in
-    record { ready = ready_alike net c.args.boards.now c.args.ends.now c.args.items.now old new held.alike c.requires.search.ready; tables = c.in_ok-wake-2.ensures.tables; tended = last }
+    record { ready = ready_alike net c.args.basis.now.boards.now c.args.basis.now.ends.now c.args.basis.now.items.now old new held.alike c.requires.search.ready; tables = c.in_ok-wake-2.ensures.tables; tended = last }
 
 pub returns-else-loss-clause-suits : goal.returns-else-loss-clause-suits
 returns-else-loss-clause-suits g c =
-    all_done (net_of g.P.Primitive.behaviour c.args.circuit.now) c.args.place c.args.row c.args.joint (length (get_or c.args.state.now.alive c.args.joint [])) c.args.state.now.alive c.hold_joint-loss.new.alive c.hold_joint-loss.result c.hold_joint-loss.ensures refl
+    all_done (net_of g.P.Primitive.behaviour c.args.basis.now.circuit.now) c.args.place c.args.row c.args.joint (length (get_or c.args.state.now.alive c.args.joint [])) c.args.state.now.alive c.hold_joint-loss.new.alive c.hold_joint-loss.result c.hold_joint-loss.ensures refl
 
 pub returns-else-loss-clause-search : goal.returns-else-loss-clause-search
 returns-else-loss-clause-search g c =
-    let net : Net = net_of g.P.Primitive.behaviour c.args.circuit.now in
-    let names : Names = names_of c.args.items.now in
+    let net : Net = net_of g.P.Primitive.behaviour c.args.basis.now.circuit.now in
+    let names : Names = names_of c.args.basis.now.items.now in
     let inside : ℕ → Bool = among c.args.sides.now in
     let joint : ℕ = c.args.joint in
     let a : ℕ = c.giver_side-giver.result in
@@ -89,7 +89,7 @@ returns-else-loss-clause-search g c =
     let b_in : inside b ≡ true = at_inside net inside c.requires.closed joint (side_of_place c.args.place) b in_range c.requires.joint.here (inr (sym c.taker_side-taker.ensures.side)) c.requires.inside in
     let less = less_flags net c.args.place c.args.row joint (length (get_or old joint [])) old new c.hold_joint-loss.result held in
     record {
-      ready = ready_alike net c.args.boards.now c.args.ends.now c.args.items.now old new held.alike c.requires.search.ready;
+      ready = ready_alike net c.args.basis.now.boards.now c.args.basis.now.ends.now c.args.basis.now.items.now old new held.alike c.requires.search.ready;
       tables = c.requires.search.tables;
       tended = kept_same net wired names inside joint a b apart two of_a of_b a_in b_in old new c.hold_joint-loss.result.flow less held.elsewhere held.flows c.args.state.now.rows c.args.state.now.queue (held.same c.if-loss.false) c.requires.search.tended;
     }

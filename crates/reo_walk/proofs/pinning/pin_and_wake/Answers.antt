@@ -12,8 +12,8 @@ use Rattle.reo_walk.proofs.pinning.pin_and_wake.Goals as goal
 
 pub wake-requires-then-loss-clause-noted : goal.wake-requires-then-loss-clause-noted
 wake-requires-then-loss-clause-noted g c =
-    let net : Net = net_of g.P.Primitive.behaviour c.args.circuit.now in
-    let names : Names = names_of c.args.items.now in
+    let net : Net = net_of g.P.Primitive.behaviour c.args.basis.now.circuit.now in
+    let names : Names = names_of c.args.basis.now.items.now in
     let inside : ℕ → Bool = among c.args.sides.now in
     let joint : ℕ = c.args.joint in
     let a : ℕ = c.giver_side-giver.result in
@@ -40,8 +40,8 @@ returns-in_ok-wake-2-clause-pinned g c =
 
 pub returns-in_ok-wake-2-clause-search : goal.returns-in_ok-wake-2-clause-search
 returns-in_ok-wake-2-clause-search g c =
-    let net : Net = net_of g.P.Primitive.behaviour c.args.circuit.now in
-    let names : Names = names_of c.args.items.now in
+    let net : Net = net_of g.P.Primitive.behaviour c.args.basis.now.circuit.now in
+    let names : Names = names_of c.args.basis.now.items.now in
     let inside : ℕ → Bool = among c.args.sides.now in
     let joint : ℕ = c.args.joint in
     let a : ℕ = c.giver_side-giver.result in
@@ -61,7 +61,7 @@ returns-in_ok-wake-2-clause-search g c =
     let first = kept_begin net wired names inside joint a b apart two of_a of_b a_in b_in old new c.pin_joint-loss.result.flow less pinned.elsewhere pinned.flows c.args.state.now.rows c.args.state.now.queue c.requires.search.tended in
     let one = kept_one net wired names inside joint a b apart two of_a of_b a_in b_in old new c.pin_joint-loss.result.flow less pinned.elsewhere pinned.flows c.args.state.now.rows c.wake.new.rows c.args.state.now.queue c.wake.new.queue first c.in_ok-wake.ensures.awake in
     let last = kept_both net wired names inside joint a b apart two of_a of_b a_in b_in old new c.pin_joint-loss.result.flow less pinned.elsewhere pinned.flows c.wake.new.rows c.wake-then-loss.new.rows c.wake.new.queue c.wake-then-loss.new.queue one c.in_ok-wake-2.ensures.awake in
-    record { ready = ready_alike net c.args.boards.now c.args.ends.now c.args.items.now old new pinned.alike c.requires.search.ready; tables = c.in_ok-wake-2.ensures.tables; tended = last }
+    record { ready = ready_alike net c.args.basis.now.boards.now c.args.basis.now.ends.now c.args.basis.now.items.now old new pinned.alike c.requires.search.ready; tables = c.in_ok-wake-2.ensures.tables; tended = last }
 
 pub returns-else-loss-clause-pinned : goal.returns-else-loss-clause-pinned
 returns-else-loss-clause-pinned g c =
@@ -69,8 +69,8 @@ returns-else-loss-clause-pinned g c =
 
 pub returns-else-loss-clause-search : goal.returns-else-loss-clause-search
 returns-else-loss-clause-search g c =
-    let net : Net = net_of g.P.Primitive.behaviour c.args.circuit.now in
-    let names : Names = names_of c.args.items.now in
+    let net : Net = net_of g.P.Primitive.behaviour c.args.basis.now.circuit.now in
+    let names : Names = names_of c.args.basis.now.items.now in
     let inside : ℕ → Bool = among c.args.sides.now in
     let joint : ℕ = c.args.joint in
     let a : ℕ = c.giver_side-giver.result in
@@ -88,7 +88,7 @@ returns-else-loss-clause-search g c =
     let b_in : inside b ≡ true = at_inside net inside c.requires.closed joint (giver_side net joint) b in_range (inl refl) (inr (sym c.taker_side-taker.ensures.side)) c.requires.inside in
     let less = pinned_less joint c.args.chosen (length (get_or old joint [])) old new c.pin_joint-loss.result pinned in
     record {
-      ready = ready_alike net c.args.boards.now c.args.ends.now c.args.items.now old new pinned.alike c.requires.search.ready;
+      ready = ready_alike net c.args.basis.now.boards.now c.args.basis.now.ends.now c.args.basis.now.items.now old new pinned.alike c.requires.search.ready;
       tables = c.requires.search.tables;
       tended = kept_same net wired names inside joint a b apart two of_a of_b a_in b_in old new c.pin_joint-loss.result.flow less pinned.elsewhere pinned.flows c.args.state.now.rows c.args.state.now.queue (pinned.same c.if-loss.false) c.requires.search.tended;
     }

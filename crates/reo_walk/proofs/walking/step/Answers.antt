@@ -14,14 +14,14 @@ not_false false h = cc
 
 pub returns-in-None-clause-found : goal.returns-in-None-clause-found
 returns-in-None-clause-found g c =
-    let net : Net = net_of g.P.Primitive.behaviour c.args.circuit.now in
-    none_of net c.known.ensures.wired (names_of c.args.items.now) (among c.args.sides.now) c.args.turn c.args.place (family_of c.args.state.now.alive) c.args.state.now.rows c.requires.inside
+    let net : Net = net_of g.P.Primitive.behaviour c.args.basis.now.circuit.now in
+    none_of net c.known.ensures.wired (names_of c.args.basis.now.items.now) (among c.args.sides.now) c.args.turn c.args.place (family_of c.args.state.now.alive) c.args.state.now.rows c.requires.inside
     (c.requires.search.tended.works (side_of_place c.args.place) c.requires.inside) c.in-None.ensures
 
 pub returns-in_ok-propagate-in-Some-clause-found : goal.returns-in_ok-propagate-in-Some-clause-found
 returns-in_ok-propagate-in-Some-clause-found g c =
-    let net : Net = net_of g.P.Primitive.behaviour c.args.circuit.now in
-    let names : Names = names_of c.args.items.now in
+    let net : Net = net_of g.P.Primitive.behaviour c.args.basis.now.circuit.now in
+    let names : Names = names_of c.args.basis.now.items.now in
     let inside : ℕ → Bool = among c.args.sides.now in
     let side : ℕ = side_of_place c.args.place in
     let side_lt = c.requires.sides side c.requires.inside in
@@ -35,8 +35,8 @@ returns-in_ok-propagate-in-Some-clause-found g c =
 
 pub returns-else-not-least-clause-found : goal.returns-else-not-least-clause-found
 returns-else-not-least-clause-found g c =
-    let net : Net = net_of g.P.Primitive.behaviour c.args.circuit.now in
-    let names : Names = names_of c.args.items.now in
+    let net : Net = net_of g.P.Primitive.behaviour c.args.basis.now.circuit.now in
+    let names : Names = names_of c.args.basis.now.items.now in
     let inside : ℕ → Bool = among c.args.sides.now in
     let side : ℕ = side_of_place c.args.place in
     let side_lt = c.requires.sides side c.requires.inside in

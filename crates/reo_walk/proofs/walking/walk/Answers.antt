@@ -14,8 +14,8 @@ use Rattle.reo_walk.proofs.walking.walk.Goals as goal
 
 pub loop-index-init : goal.loop-index-init
 loop-index-init g c =
-    let net : Net = net_of g.P.Primitive.behaviour c.args.circuit.now in
-    let names : Names = names_of c.args.items.now in
+    let net : Net = net_of g.P.Primitive.behaviour c.args.basis.now.circuit.now in
+    let names : Names = names_of c.args.basis.now.items.now in
     let inside : ℕ → Bool = among c.args.sides.now in
     let after = c.in_ok-propagate.ensures in
     let supported = supported_of net names inside c.propagate.new.state.alive c.propagate.new.state.rows c.propagate.new.state.queue after.search.tended after.empty c.requires.sides in
@@ -28,16 +28,16 @@ loop-index-init g c =
 
 pub returns-in-None-clause-found : goal.returns-in-None-clause-found
 returns-in-None-clause-found g c =
-    let net : Net = net_of g.P.Primitive.behaviour c.args.circuit.now in
-    let names : Names = names_of c.args.items.now in
+    let net : Net = net_of g.P.Primitive.behaviour c.args.basis.now.circuit.now in
+    let names : Names = names_of c.args.basis.now.items.now in
     let inside : ℕ → Bool = among c.args.sides.now in
     let none = rw (c.in-None.is) at c.in_ok-step.ensures.found in
     walk_stuck net c.known.ensures.wired names inside c.args.turn (family_of c.args.state.now.alive) (family_of c.loop-index.state.alive) (take c.loop-index.index c.args.places.now) c.loop-index.chosen c.loop-index.invariant.walking none
 
 pub loop-index-preserved : goal.loop-index-preserved
 loop-index-preserved g c =
-    let net : Net = net_of g.P.Primitive.behaviour c.args.circuit.now in
-    let names : Names = names_of c.args.items.now in
+    let net : Net = net_of g.P.Primitive.behaviour c.args.basis.now.circuit.now in
+    let names : Names = names_of c.args.basis.now.items.now in
     let inside : ℕ → Bool = among c.args.sides.now in
     let i : ℕ = c.loop-index.index in
     let lt : i < length c.args.places.now = omega arith in
@@ -61,8 +61,8 @@ least_row-requires-clause-side g c = c.requires.sides (get_or c.args.sides.now 0
 
 pub returns-in-None-least_row-clause-found : goal.returns-in-None-least_row-clause-found
 returns-in-None-least_row-clause-found g c =
-    let net : Net = net_of g.P.Primitive.behaviour c.args.circuit.now in
-    let names : Names = names_of c.args.items.now in
+    let net : Net = net_of g.P.Primitive.behaviour c.args.basis.now.circuit.now in
+    let names : Names = names_of c.args.basis.now.items.now in
     let inside : ℕ → Bool = among c.args.sides.now in
     let side : ℕ = get_or c.args.sides.now 0 0 in
     let is_in = among_at c.args.sides.now 0 c.requires.some_side in
@@ -71,8 +71,8 @@ returns-in-None-least_row-clause-found g c =
 
 pub returns-in-Some-least_row-clause-found : goal.returns-in-Some-least_row-clause-found
 returns-in-Some-least_row-clause-found g c =
-    let net : Net = net_of g.P.Primitive.behaviour c.args.circuit.now in
-    let names : Names = names_of c.args.items.now in
+    let net : Net = net_of g.P.Primitive.behaviour c.args.basis.now.circuit.now in
+    let names : Names = names_of c.args.basis.now.items.now in
     let inside : ℕ → Bool = among c.args.sides.now in
     let side : ℕ = get_or c.args.sides.now 0 0 in
     let is_in = among_at c.args.sides.now 0 c.requires.some_side in
