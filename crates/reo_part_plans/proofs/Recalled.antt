@@ -53,7 +53,7 @@ use Rattle.reo_part_plans.specs.Alike.{HaveSameClasses}
 use Rattle.reo_part_plans.specs.Given.{LetsIn, GivesAlone, LetAllIn, AreItems, Decide, AreGiven}
 use Rattle.reo_part_plans.specs.Laws.{PlansStay}
 use Rattle.reo_part_plans.specs.Looks.{IsLookAt, IsKey}
-use Rattle.reo_part_plans.specs.Remembered.{IsRemembered, AreRemembered, ArePlans, IsWrittenDown, IsRecalled}
+use Rattle.reo_part_plans.specs.Remembered.{IsRemembered, AreRemembered, StayOrGo, ArePlans, IsWrittenDown, IsRecalled}
 use Rattle.reo_part_plans.proofs.FirstRows.{alike_same_rows}
 
 shape_back : (b d : Behaviour) → SameShape b d → SameShape d b
@@ -359,6 +359,11 @@ one_more net inside sides [] entry all is (suc m) d lt = absurd (omega arith)
 one_more net inside sides (e ∷ es) entry all is zero d lt = all zero d (omega arith)
 one_more net inside sides (e ∷ es) entry all is (suc m) d lt = one_more net inside sides es entry (λ n x n_in. all (suc n) x (omega arith)) is m d (omega arith)
 
+-- Entries that are right are right where they stay, or all of them go.
+stay_or_go : (net : Net) (inside : ℕ → Bool) (sides : List ℕ) (old new : List Entry) → AreRemembered net inside sides old → StayOrGo old new → AreRemembered net inside sides new
+stay_or_go net inside sides old new all (inl same) = subst (AreRemembered net inside sides) (sym same) all
+stay_or_go net inside sides old new all (inr none) = subst (AreRemembered net inside sides) (sym none) (λ m d lt. absurd (omega (arith, lt)))
+
 -- What follows from both outcomes holds.
 pub either_way : {X E A B G : Type 0} (r : Result X E) → OnOk r A → OnErr r B → (A → G) → (B → G) → G
 either_way (Ok x) a b f h = f a
@@ -393,7 +398,7 @@ module _ (net : Net) (wired : IsWired net) (knots : Knotted) (are : AreKnots net
   recalled order is_order budget turn parts plans p here old new flowing one_row found =
       let inside : ℕ → Bool = in_knot knots.numbers k in
       let entry : Entry = get_or p.entries found.place no_entry in
-      let down : IsWrittenDown entry sides budget old new flowing = found.written no_entry in
+      let down : IsWrittenDown entry sides old new flowing = found.written no_entry in
       let remembered : IsRemembered net inside sides entry = right_here parts plans p here found.place no_entry found.found_at.0 in
       let closed : IsClosed net inside = (are.are_knots k lt).closed in
       let now : IsKey net sides turn entry.key × AreGiven net sides entry.items = found.found_at.1 no_entry in
@@ -403,7 +408,7 @@ module _ (net : Net) (wired : IsWired net) (knots : Knotted) (are : AreKnots net
       let flow = recalled_flowing net wired order is_order inside closed sides part_all entry remembered turn now.0 now.1 new same in (
         record {
           one_each = w.one_each;
-          within = recalled_within net wired order is_order inside closed sides part_all entry remembered turn now.0 now.1 budget down.few;
+          within = recalled_within net wired order is_order inside closed sides part_all entry remembered turn now.0 now.1 budget (found.few no_entry);
           first = record { others = remembered.from; items = first.items; first = first.first; same = same };
           others = λ s h. w.others s (in_part s ∙ h);
         },
@@ -445,14 +450,19 @@ module _ (net : Net) (wired : IsWired net) (knots : Knotted) (are : AreKnots net
         ];
       }
 
-  pub remembered : (turn : ℕ) (parts : List PartPlans) → ArePlans net knots parts → (key : List Look) → IsKey net sides turn key → (items : List (Option Value)) → Decide net sides items → (rows those : List ℕ) → HasFirst net knots.numbers turn rows k → those ≡ part_rows sides rows
-      → (choices : ℕ) → HasBounds net (in_knot knots.numbers k) choices → (flowing : List ℕ) → AreFlowingOf net (in_knot knots.numbers k) rows flowing → (p new : PartPlans) → p ≡ get_or parts k p → new.entries ≡ p.entries ++ record { key = key; items = items; rows = those; flowing = flowing; choices = choices } ∷ []
-      → ArePlans net knots (set parts k new)
-  remembered turn parts plans key is_key items decide rows those first told choices has flowing of p new here added =
-      let entry : Entry = record { key = key; items = items; rows = those; flowing = flowing; choices = choices } in
-      let more : AreRemembered net (in_knot knots.numbers k) sides (p.entries ++ entry ∷ []) =
-      one_more net (in_knot knots.numbers k) sides p.entries entry (right_here parts plans p here) (new_entry turn key is_key items decide rows those first told choices has flowing of) in
-      exchanged parts plans new (subst (AreRemembered net (in_knot knots.numbers k) sides) (sym added) more)
+  -- What is remembered of the part stays, or is forgotten.
+  pub kept_or_gone : (parts : List PartPlans) → ArePlans net knots parts → (p new : PartPlans) → p ≡ get_or parts k p → StayOrGo p.entries new.entries → ArePlans net knots (set parts k new)
+  kept_or_gone parts plans p new here stays =
+      exchanged parts plans new (stay_or_go net (in_knot knots.numbers k) sides p.entries new.entries (right_here parts plans p here) stays)
 
-  pub unchanged : (parts : List PartPlans) → ArePlans net knots parts → (p new : PartPlans) → p ≡ get_or parts k p → new.entries ≡ p.entries → ArePlans net knots (set parts k new)
-  unchanged parts plans p new here same = exchanged parts plans new (subst (AreRemembered net (in_knot knots.numbers k) sides) (sym same) (right_here parts plans p here))
+  -- An entry more is remembered of the part, besides the others or alone.
+  pub remembered : (turn : ℕ) (parts : List PartPlans) → ArePlans net knots parts → (key : List Look) → IsKey net sides turn key → (items : List (Option Value)) → Decide net sides items → (rows those : List ℕ) → HasFirst net knots.numbers turn rows k → those ≡ part_rows sides rows
+      → (choices : ℕ) → HasBounds net (in_knot knots.numbers k) choices → (flowing : List ℕ) → AreFlowingOf net (in_knot knots.numbers k) rows flowing → (p roomy new : PartPlans) → p ≡ get_or parts k p → StayOrGo p.entries roomy.entries
+      → new.entries ≡ roomy.entries ++ record { key = key; items = items; rows = those; flowing = flowing; choices = choices } ∷ []
+      → ArePlans net knots (set parts k new)
+  remembered turn parts plans key is_key items decide rows those first told choices has flowing of p roomy new here stays added =
+      let entry : Entry = record { key = key; items = items; rows = those; flowing = flowing; choices = choices } in
+      let others : AreRemembered net (in_knot knots.numbers k) sides roomy.entries = stay_or_go net (in_knot knots.numbers k) sides p.entries roomy.entries (right_here parts plans p here) stays in
+      let more : AreRemembered net (in_knot knots.numbers k) sides (roomy.entries ++ entry ∷ []) =
+      one_more net (in_knot knots.numbers k) sides roomy.entries entry others (new_entry turn key is_key items decide rows those first told choices has flowing of) in
+      exchanged parts plans new (subst (AreRemembered net (in_knot knots.numbers k) sides) (sym added) more)

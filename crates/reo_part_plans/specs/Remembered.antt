@@ -1,5 +1,5 @@
 -- Rows that are remembered.
-use Rattle.std.specs.Prelude.{ℕ, ◌<◌, ◌≤◌, ◌≡◌, Bool, List, [], length, slice_index_or}
+use Rattle.std.specs.Prelude.{ℕ, ◌<◌, ◌≤◌, ◌≡◌, ◌⊎◌, Bool, List, [], length, slice_index_or}
 use Rattle.reo_net_base.specs.Net.{Net}
 use Rattle.reo_net_base.specs.Shapes.{SameShapes, TreatAlike}
 use Rattle.reo_net_base.specs.Wired.{IsWired}
@@ -38,6 +38,10 @@ abbrev pub AreRemembered : Net → (ℕ → Bool) → List ℕ → List Entry �
 AreRemembered net inside sides entries = (m : ℕ) (d : Entry) → m < length entries
     → IsRemembered net inside sides (slice_index_or entries m d)
 
+-- Entries stay, or all of them go.
+abbrev pub StayOrGo : List Entry → List Entry → Type 0
+StayOrGo old new = (new ≡ old) ⊎ (new ≡ [])
+
 -- Entries for each part of a circuit, which are right.
 pub record ArePlans (net : Net) (knots : Knotted) (parts : List PartPlans) : Type 0 where
   pub one_each : length parts ≡ knot_count knots
@@ -49,9 +53,8 @@ pub record AreNew (count : ℕ) (parts : List PartPlans) : Type 0 where
   pub one_each : length parts ≡ count
   pub none : (k : ℕ) (d : PartPlans) → k < count → (slice_index_or parts k d).entries ≡ []
 
--- The rows of an entry that allows no more choices than a budget were written down at some sides, and its joints that flow.
-pub record IsWrittenDown (entry : Entry) (sides : List ℕ) (budget : ℕ) (old new flowing : List ℕ) : Type 0 where
-  pub few : entry.choices ≤ budget
+-- The rows of an entry were written down at some sides, and its joints that flow.
+pub record IsWrittenDown (entry : Entry) (sides old new flowing : List ℕ) : Type 0 where
   pub written : (from : List ℕ) → entry.rows ≡ part_rows sides from → AreWritten sides from old new
   pub flowing_is : flowing ≡ entry.flowing
 
@@ -61,9 +64,10 @@ IsFoundAt net sides turn entries place = (place < length entries)
     × ((d : Entry) → IsKey net sides turn (slice_index_or entries place d).key
     × AreGiven net sides (slice_index_or entries place d).items)
 
--- Such an entry was written down.
+-- Such an entry, which allows no more choices than a budget, was written down.
 pub record IsRecalled (net : Net) (sides : List ℕ) (turn budget : ℕ) (entries : List Entry) (old new flowing : List ℕ)
     : Type 0 where
   pub place : ℕ
   pub found_at : IsFoundAt net sides turn entries place
-  pub written : (d : Entry) → IsWrittenDown (slice_index_or entries place d) sides budget old new flowing
+  pub few : (d : Entry) → (slice_index_or entries place d).choices ≤ budget
+  pub written : (d : Entry) → IsWrittenDown (slice_index_or entries place d) sides old new flowing

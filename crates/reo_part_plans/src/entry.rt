@@ -1,5 +1,5 @@
 //! Rows that are remembered by a key.
-ghost use Rattle.std.specs.Prelude.{◌≡◌, ◌<◌, ℕ, true, false, Ok, IfOk, length, slice_index};
+ghost use Rattle.std.specs.Prelude.{◌≡◌, ◌<◌, ◌≤◌, ℕ, IfOk, IsTrue, OnOk, length, slice_index};
 ghost use Rattle.reo_net_laws.specs.Sublists.{part_rows};
 ghost use Rattle.reo_part_plans.specs.Remembered.{IsWrittenDown};
 
@@ -22,26 +22,31 @@ pub struct Entry {
 }
 
 impl Entry {
-    /// Writes its rows at some sides and its joints that flow down, if it allows no more choices
-    /// than the budget. The answer is whether it was done. `NoMemory` is out of memory.
+    /// Whether it serves at some sides: it allows no more choices than the budget, and has a row
+    /// for each of them.
+    pub(crate) fn serves(&self, sides: &[usize], budget: u64) -> bool
+        ensures few { IsTrue result → self.now.choices ≤ budget }
+        ensures one_each { IsTrue result → length self.now.rows ≡ length sides.now }
+    {
+        self.choices <= budget && self.rows.len() == sides.len()
+    }
+
+    /// Writes its rows at some sides and its joints that flow down. `NoMemory` is out of memory.
     pub(crate) fn write_down(
         &self,
         sides: &[usize],
-        budget: u64,
         rows: &mut List<u32>,
         flowing: &mut List<usize>,
-    ) -> Result<bool, NoMemory>
-        requires { (m : ℕ) → m < length sides.now → slice_index sides.now m < length rows.old }
-        ensures same { result ≡ Ok false → rows.new ≡ rows.old }
-        ensures written { result ≡ Ok true
-            → IsWrittenDown self.now sides.now budget rows.old rows.new flowing.new }
+    ) -> Result<(), NoMemory>
+        requires one_each { length self.now.rows ≡ length sides.now }
+        requires rows { (m : ℕ) → m < length sides.now
+            → slice_index sides.now m < length rows.old }
+        ensures { OnOk result
+            (IsWrittenDown self.now sides.now rows.old rows.new flowing.new) }
     {
-        if self.choices > budget || self.rows.len() != sides.len() {
-            return Ok(false);
-        }
         copy_over(flowing, self.flowing.as_slice())?;
         put_rows(rows, sides, self.rows.as_slice());
-        Ok(true)
+        Ok(())
     }
 }
 

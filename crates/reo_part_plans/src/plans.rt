@@ -7,7 +7,7 @@ ghost use Rattle.reo_flowing.specs.Flowing.{AreFlowingOf};
 ghost use Rattle.reo_item_bounds.specs.Bounds.{HasBounds};
 ghost use Rattle.reo_still.specs.Joining.{HasFirst};
 ghost use Rattle.reo_planning.specs.Planned.{IsPartPlanned};
-ghost use Rattle.reo_part_plans.specs.Remembered.{AreNew, ArePlans, IsFoundAt, IsRecalled};
+ghost use Rattle.reo_part_plans.specs.Remembered.{AreNew, ArePlans, IsFoundAt, IsRecalled, StayOrGo};
 
 use crate::entry::{Entry, rows_at};
 use crate::given::{are_given, deciding};
@@ -27,11 +27,15 @@ const MOST: usize = 256;
 /// The most looks and items that the entries of a part have together.
 const ROOM: usize = 65_536;
 
-/// How many entries more may be added in vain, before no more are.
+/// How many times more nothing may be found of a part than something, before it rests.
 const TRIES: u32 = 192;
 
+/// How many times a part that rests is asked for, before it begins again.
+const REST: u32 = 4_096;
+
 /// What is remembered of a part: entries, for each the one that came after it the last time, the
-/// one that came last, and how many were added more than were found.
+/// one that came last, and how many times more nothing was found than something. A part rests while
+/// these are too many: then it has no entries, and each time that it is asked for is counted too.
 #[derive(Drop)]
 pub struct PartPlans {
     pub(crate) entries: List<Entry>,
@@ -41,8 +45,8 @@ pub struct PartPlans {
 }
 
 /// The rows of the first assignments of parts, remembered by the states of the parts, each for as
-/// long as the circuit has its shape. Of a part whose states do not come again nothing more is
-/// remembered.
+/// long as the circuit has its shape. Of a part that is full all is forgotten, and a part whose
+/// states do not come again rests for a while.
 #[derive(Drop)]
 pub struct Plans {
     parts: List<PartPlans>,
@@ -75,10 +79,48 @@ impl PartPlans {
         }
     }
 
-    /// Whether more is to be remembered of a part with so many looks and items.
-    fn has_room(&self, size: usize) -> bool {
+    /// Whether nothing is remembered of it for now.
+    fn is_resting(&self) -> bool {
+        self.misses >= TRIES
+    }
+
+    /// Forgets all entries.
+    fn forget(&mut self)
+        ensures { self.new.entries ≡ [] }
+    {
+        self.entries.clear();
+        self.after.clear();
+    }
+
+    /// Forgets all entries, and rests from now on.
+    fn rest(&mut self)
+        ensures { self.new.entries ≡ [] }
+    {
+        self.forget();
+        self.misses = TRIES;
+    }
+
+    /// Notes that nothing was found. A part with too many of these rests, and one that has rested
+    /// begins again.
+    fn miss(&mut self)
+        ensures { StayOrGo self.old.entries self.new.entries }
+    {
+        self.misses = self.misses.saturating_add(1);
+        if self.misses == TRIES {
+            self.forget();
+        } else if self.misses >= TRIES + REST {
+            self.misses = 0;
+        }
+    }
+
+    /// Forgets all entries where one more of so many looks and items is too much.
+    fn make_room(&mut self, size: usize)
+        ensures { StayOrGo self.old.entries self.new.entries }
+    {
         let count = self.entries.len();
-        self.misses < TRIES && count < MOST && count.saturating_mul(size) < ROOM
+        if count >= MOST || count.saturating_mul(size) >= ROOM {
+            self.forget();
+        }
     }
 
     /// Notes that the entry of this place came after the one that came last.
@@ -97,18 +139,10 @@ impl PartPlans {
         ensures refused { OnErr result (self.new.entries ≡ self.old.entries) }
     {
         let place = self.entries.len();
-        self.misses = self.misses.saturating_add(1);
         self.after.push(0)?;
         self.entries.push(entry)?;
         self.follow(place);
         Ok(())
-    }
-
-    /// Nothing more is remembered of the part, and nothing is recalled.
-    fn give_up(&mut self)
-        ensures { self.new.entries ≡ self.old.entries }
-    {
-        self.misses = TRIES;
     }
 
     /// The place of the entry that came after the one that came last, the last time, if there is
@@ -176,21 +210,24 @@ impl PartPlans {
             → slice_index sides.now m < side_count (net_of P.behaviour circuit.now) }
         requires turn { 1 ≤ turn }
         requires rows { length rows.old ≡ side_count (net_of P.behaviour circuit.now) }
-        ensures entries { self.new.entries ≡ self.old.entries }
+        ensures entries { StayOrGo self.old.entries self.new.entries }
         ensures same { result ≡ Ok false → rows.new ≡ rows.old }
         ensures found { result ≡ Ok true → IsRecalled (net_of P.behaviour circuit.now) sides.now
             turn budget self.old.entries rows.old rows.new flowing.new }
     {
-        match self.place_of(circuit, sides, turn, key)? {
-            None => Ok(false),
-            Some(place) => {
-                self.follow(place);
-                self.misses = self.misses.saturating_sub(1);
-                self.entries
-                    .at(place)
-                    .write_down(sides, budget, rows, flowing)
-            }
+        let Some(place) = self.place_of(circuit, sides, turn, key)? else {
+            self.miss();
+            return Ok(false);
+        };
+        self.follow(place);
+        let entry = self.entries.at(place);
+        if !entry.serves(sides, budget) {
+            self.miss();
+            return Ok(false);
         }
+        self.misses = self.misses.saturating_sub(1);
+        entry.write_down(sides, rows, flowing)?;
+        Ok(true)
     }
 }
 
@@ -242,9 +279,6 @@ impl Plans {
         circuit.known();
         let _order = circuit.order();
         let sides = knots.sides(part);
-        if self.parts.at(part).misses >= TRIES {
-            return Ok(false);
-        }
         let key = &mut self.key;
         let plans = self.parts.at_mut(part);
         plans.recall(circuit, sides, turn, budget, key, rows, flowing)
@@ -254,7 +288,7 @@ impl Plans {
     /// the state in which it is now, with the joints of the part that flow by them, and how many
     /// choices of values its loop joints have at most. Where some row does not let each item in,
     /// the items that the state gives are part of it. Nothing is remembered where they are not
-    /// told, or there is no room.
+    /// told, or while the part rests.
     ///
     /// # Errors
     ///
@@ -285,23 +319,17 @@ impl Plans {
     {
         circuit.known();
         let sides = knots.sides(part);
-        if !self.parts.at(part).has_room(sides.len()) {
+        if self.parts.at(part).is_resting() {
             return Ok(());
         }
         let Some(items) = deciding(alloc, circuit, sides)? else {
-            self.parts.at_mut(part).give_up();
+            self.parts.at_mut(part).rest();
             return Ok(());
         };
-        if !self
-            .parts
-            .at(part)
-            .has_room(sides.len().saturating_add(items.len()))
-        {
-            return Ok(());
-        }
+        let size = sides.len().saturating_add(items.len());
         let mut key = List::new(alloc);
         if !look_at_all(circuit, sides, turn, &mut key)? {
-            self.parts.at_mut(part).give_up();
+            self.parts.at_mut(part).rest();
             return Ok(());
         }
         let rows = rows_at(alloc, sides, rows)?;
@@ -314,6 +342,8 @@ impl Plans {
             flowing: joints,
             choices,
         };
-        self.parts.at_mut(part).add(entry)
+        let plans = self.parts.at_mut(part);
+        plans.make_room(size);
+        plans.add(entry)
     }
 }

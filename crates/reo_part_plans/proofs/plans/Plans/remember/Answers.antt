@@ -1,8 +1,10 @@
-use Rattle.std.proofs.Common.{◌<◌, ℕ, get_or, subst, sym, arith}
+use Rattle.std.proofs.Common.{◌<◌, ℕ, List, get_or, subst, sym, arith}
 use Rattle.std.specs.Prelude.{IsTrue}
 use Rattle.reo_net_base.specs.Net.{Net, net_of}
+use Rattle.reo_part_plans.specs.declared.entry.Entry.{Entry}
 use Rattle.reo_part_plans.specs.Given.{Decide}
-use Rattle.reo_part_plans.proofs.Recalled.{part_below, remembered, unchanged, either_way}
+use Rattle.reo_part_plans.specs.Remembered.{StayOrGo}
+use Rattle.reo_part_plans.proofs.Recalled.{either_way, kept_or_gone, part_below, remembered}
 use Rattle.reo_part_plans.proofs.plans.Plans.remember.Goals as goal
 
 pub deciding-requires : goal.deciding-requires
@@ -27,7 +29,8 @@ returns g c =
       plans = either_way c.add.result c.add.ensures.added c.add.ensures.refused
           (remembered net c.known.ensures.wired c.args.knots.now c.requires.knots c.args.part c.requires.part c.sides-sides.result.now c.sides-sides.ensures
           c.args.turn c.self.inside.parts plans c.look_at_all.new.key (c.in_ok-look_at_all.ensures told) c.in-Some.items decide c.args.rows.now c.in_ok-rows.rows c.requires.first c.in_ok-rows.ensures
-          c.args.choices c.requires.choices c.copy_over.new.list (rw (c.in_ok-copy_over.ensures) c.requires.flowing) c.at_mut-2.result.now c.add.new.self c.at_mut-2.ensures.value)
-          (unchanged net c.known.ensures.wired c.args.knots.now c.requires.knots c.args.part c.requires.part c.sides-sides.result.now c.sides-sides.ensures
-          c.self.inside.parts plans c.at_mut-2.result.now c.add.new.self c.at_mut-2.ensures.value);
+          c.args.choices c.requires.choices c.copy_over.new.list (rw (c.in_ok-copy_over.ensures) c.requires.flowing) c.at_mut-plans.result.now c.make_room.new.self c.add.new.self c.at_mut-plans.ensures.value c.make_room.ensures)
+          (λ same. kept_or_gone net c.known.ensures.wired c.args.knots.now c.requires.knots c.args.part c.requires.part c.sides-sides.result.now c.sides-sides.ensures
+          c.self.inside.parts plans c.at_mut-plans.result.now c.add.new.self c.at_mut-plans.ensures.value
+          (subst (λ (xs : List Entry). StayOrGo c.at_mut-plans.result.now.entries xs) (sym same) c.make_room.ensures));
     }
