@@ -93,8 +93,8 @@ fn fill_part<P: Primitive>(
     Ok(())
 }
 
-/// Puts the items at the joints that flow, which are given for each part. Only the parts are gone to
-/// that are flagged, and those of no other flow.
+/// Puts the items at the joints that flow, which are given for each part. Only the parts are gone
+/// to that are flagged, and those of no other flow.
 #[inline(never)]
 pub(crate) fn fill<P: Primitive>(
     alloc: Global,

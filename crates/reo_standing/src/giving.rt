@@ -1,5 +1,5 @@
 //! The item that a row gives, put at its joint.
-ghost use Rattle.std.specs.Prelude.{◌≡◌, ◌<◌, ℕ, true, List as Listed, Some, IfOk, OnOk, length, option_copied, set};
+ghost use Rattle.std.specs.Prelude.{◌≡◌, ◌<◌, ℕ, true, false, List as Listed, None, Some, IfOk, OnOk, length, option_copied, set, slice_index_or};
 ghost use Rattle.reo_values.specs.declared.value.Value.{Value as Item};
 ghost use Rattle.reo_net_base.specs.declared.mark.Mark.TheVariants.{F};
 ghost use Rattle.reo_net_base.specs.Colouring.{given_at, taken_at};
@@ -11,7 +11,7 @@ ghost use Rattle.reo_joint_values.specs.Standing.{giver_of};
 ghost use Rattle.reo_stepping.specs.Flowing.{GiverFlows};
 ghost use Rattle.reo_standing.specs.Feeds.{AreFeeds};
 
-use crate::copies::plain_copy;
+use crate::copies::{clear, plain_copy, put_plain};
 use crate::feeds::{BY_ROW, BY_STATE, Feeds};
 use reo_net_base::{End, Primitive};
 use reo_net_circuit::Circuit;
@@ -77,8 +77,8 @@ fn given_at<P: Primitive>(
     }
 }
 
-/// An equal item to one that is taken, where the primitive gives what it takes and the item takes no
-/// memory.
+/// An equal item to one that is taken, where the primitive gives what it takes and the item takes
+/// no memory.
 #[inline(always)]
 fn carried<P: Primitive>(primitive: &P, taken: Option<&Value>) -> Option<Value>
     ensures { (item : Item) → result ≡ Some item
@@ -88,31 +88,6 @@ fn carried<P: Primitive>(primitive: &P, taken: Option<&Value>) -> Option<Value>
         return None;
     }
     plain_copy(taken?)
-}
-
-/// The item that a row of the giver of a joint gives there, whichever it flows by, if no row has to
-/// be looked at for it and it takes no memory.
-#[inline(always)]
-fn plain_fed<P: Primitive>(
-    circuit: &Circuit<P>,
-    feeds: &Feeds,
-    items: &[Option<Value>],
-    joint: usize,
-) -> Option<Value>
-    requires feeds { AreFeeds (net_of P.behaviour circuit.now) feeds.now }
-    requires items { length items.now ≡ length circuit.now.joints }
-    requires joint { joint < length circuit.now.joints }
-    ensures { let net = net_of P.behaviour circuit.now in (rows : Listed ℕ) (item : Item)
-        → AreRowsOf net rows → GiverFlows net rows joint → result ≡ Some item
-        → given_at net rows items.now (giver_of net joint) ≡ Some item }
-{
-    circuit.known();
-    let primitive = circuit.primitive(circuit.joint(joint).giver.primitive);
-    match feeds.of(joint) {
-        BY_STATE => plain_copy(primitive.front()?),
-        BY_ROW => None,
-        feed => carried(primitive, items[feed as usize].as_ref()),
-    }
 }
 
 /// The item that the row of an end that flows gives there, if it is one that stands already, in the
@@ -176,6 +151,75 @@ fn put_made<P: Primitive>(
     Ok(())
 }
 
+/// Puts the item at a joint at another as well, if it takes no memory. The answer is whether it
+/// does; where it does not, all stay.
+#[inline(always)]
+fn put_carried(items: &mut List<Option<Value>>, feed: usize, joint: usize) -> bool
+    requires feed { feed < length items.old }
+    requires joint { joint < length items.old }
+    ensures put { result ≡ true → (item : Item) × (slice_index_or items.old feed None ≡ Some item)
+        × (items.new ≡ set items.old joint (Some item)) }
+    ensures stays { result ≡ false → items.new ≡ items.old }
+{
+    match items.at(feed) {
+        Some(Value::Unit) => {
+            let place = items.at_mut(joint);
+            clear(place);
+            *place = Some(Value::Unit);
+        }
+        Some(Value::Bool(truth)) => {
+            let item = *truth;
+            let place = items.at_mut(joint);
+            clear(place);
+            *place = Some(Value::Bool(item));
+        }
+        Some(Value::Int(number)) => {
+            let item = *number;
+            let place = items.at_mut(joint);
+            clear(place);
+            *place = Some(Value::Int(item));
+        }
+        Some(Value::Sym(number)) => {
+            let item = *number;
+            let place = items.at_mut(joint);
+            clear(place);
+            *place = Some(Value::Sym(item));
+        }
+        _ => return false,
+    }
+    true
+}
+
+/// Puts the item that a row of the giver of a joint gives there, whichever it flows by, if no row
+/// has to be looked at for it and it takes no memory. The answer is whether it did; where it did
+/// not, all stay.
+#[inline(always)]
+fn put_fed<P: Primitive>(
+    circuit: &Circuit<P>,
+    feeds: &Feeds,
+    joint: usize,
+    items: &mut List<Option<Value>>,
+) -> bool
+    requires feeds { AreFeeds (net_of P.behaviour circuit.now) feeds.now }
+    requires items { length items.old ≡ length circuit.now.joints }
+    requires joint { joint < length circuit.now.joints }
+    ensures put { let net = net_of P.behaviour circuit.now in (rows : Listed ℕ)
+        → AreRowsOf net rows → GiverFlows net rows joint → result ≡ true
+        → items.new ≡ set items.old joint (given_at net rows items.old (giver_of net joint)) }
+    ensures stays { result ≡ false → items.new ≡ items.old }
+{
+    circuit.known();
+    let primitive = circuit.primitive(circuit.joint(joint).giver.primitive);
+    match feeds.of(joint) {
+        BY_STATE => match primitive.front() {
+            Some(front) => put_plain(items.at_mut(joint), front),
+            None => false,
+        },
+        BY_ROW => false,
+        feed => primitive.carries() && put_carried(items, feed as usize, joint),
+    }
+}
+
 /// Puts the item that the row of the giver of a joint gives there.
 #[inline(always)]
 pub(crate) fn put_given<P: Primitive>(
@@ -196,11 +240,8 @@ pub(crate) fn put_given<P: Primitive>(
     ensures { let net = net_of P.behaviour circuit.now in OnOk result
         (items.new ≡ set items.old joint (given_at net rows.now items.old (giver_of net joint))) }
 {
-    match plain_fed(circuit, feeds, items.as_slice(), joint) {
-        Some(item) => {
-            *items.at_mut(joint) = Some(item);
-            Ok(())
-        }
-        None => put_made(alloc, circuit, ends, rows, joint, items),
+    if put_fed(circuit, feeds, joint, items) {
+        return Ok(());
     }
+    put_made(alloc, circuit, ends, rows, joint, items)
 }

@@ -8,6 +8,7 @@ ghost use Rattle.reo_standing.specs.Feeds.{AreFeeds};
 ghost use Rattle.reo_standing.specs.Filling.{AreBlank, AreHeldAmong, AreMoving};
 ghost use Rattle.reo_standing.specs.Standing.{HaveFirstItems, Stands};
 
+use crate::copies::clear;
 use crate::feeds::Feeds;
 use crate::filling::fill;
 use crate::moving::moves_of_marked;
@@ -124,7 +125,7 @@ fn clear_at(items: &mut List<Option<Value>>, joint: usize)
     ensures { items.new ≡ set items.old joint None }
 {
     if joint < items.len() {
-        *items.at_mut(joint) = None;
+        clear(items.at_mut(joint));
     }
 }
 
