@@ -94,8 +94,8 @@ pub fn carry_out<P: Restoring>(
     Carried { moves, over }
 }
 
-/// Makes the round that stands: the circuit steps, and each component goes on. This takes no
-/// memory.
+/// Makes the round that stands, by the rows that are kept: the circuit steps, and each component
+/// goes on. This takes no memory.
 pub fn carry_on<P: Restoring>(
     engine: &mut Engine<P>,
     players: &mut Players,
@@ -107,6 +107,7 @@ pub fn carry_on<P: Restoring>(
     requires stands { let net = net_of P.behaviour engine.old.circuit in
         let turn = engine.old.rounds + 1 in
         Stands net engine.old.circuit.ports turn standing }
+    requires same { standing.colouring.rows ≡ engine.old.kept.rows }
     requires few { engine.old.rounds < 2 ^ 63 }
     ensures players { let net = net_of P.behaviour engine.old.circuit in
         players.new ≡ advanced net standing.colouring.rows players.old }

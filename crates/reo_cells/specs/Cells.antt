@@ -25,10 +25,18 @@ IsShown net rows s cells = slice_index cells.shown s ≡ code_at net rows s
 abbrev pub AreShown : Net → List ℕ → Cells → Type 0
 AreShown net rows cells = (s : ℕ) → s < side_count net → IsShown net rows s cells
 
--- The cells of these sides have become those of these rows, and no others have changed.
-pub record AreBrought (net : Net) (rows sides : List ℕ) (old new : Cells) : Type 0 where
-  pub brought : (m : ℕ) → m < length sides → IsShown net rows (slice_index sides m) new
+-- A list has become what is told at the first n of some places, and has not changed at any other.
+pub record IsBrought (told : ℕ → ℕ) (places : List ℕ) (n : ℕ) (old new : List ℕ) : Type 0 where
+  pub one_each : length new ≡ length old
+  pub brought : (m : ℕ) → m < n → slice_index new (slice_index places m) ≡ told (slice_index places m)
   -- what was so stays so
-  pub stay : (s : ℕ) → IsShown net rows s old → IsShown net rows s new
-  pub others : (s : ℕ) → ((m : ℕ) → m < length sides → slice_index sides m ≢ s)
-      → slice_index new.shown s ≡ slice_index old.shown s
+  pub stay : (s : ℕ) → slice_index old s ≡ told s → slice_index new s ≡ told s
+  pub others : (s : ℕ) → ((m : ℕ) → m < n → slice_index places m ≢ s) → slice_index new s ≡ slice_index old s
+
+-- The cells of these sides have become those of these rows, and no others have changed.
+abbrev pub AreBrought : Net → List ℕ → List ℕ → Cells → Cells → Type 0
+AreBrought net rows sides old new = IsBrought (code_at net rows) sides (length sides) old.shown new.shown
+
+-- A list has become these rows at these sides, and has not changed at any other.
+abbrev pub AreWritten : List ℕ → List ℕ → List ℕ → List ℕ → Type 0
+AreWritten rows sides old new = IsBrought (slice_index rows) sides (length sides) old new

@@ -23,7 +23,7 @@ use Rattle.reo_planning.proofs.Flowing.{mark_same}
 use Rattle.reo_planning.proofs.KnotSets.{number_is}
 use Rattle.reo_planning.proofs.Setting.{fewer_none, fewer_twice}
 use Rattle.reo_stepping.specs.Changes.{AreThoseThatFlowed, is_changed}
-use Rattle.reo_engine.proofs.FlowsLemmas.{in_own}
+use Rattle.reo_engine.proofs.Resting.{in_own}
 
 -- Parts that move are not settled any more: to unsettle them again changes nothing.
 pub moving_again : (old now : Kept) → AreMovingUnsettled old now → AreMovingUnsettled now now

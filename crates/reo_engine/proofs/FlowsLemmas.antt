@@ -1,8 +1,9 @@
 -- What a round that stands is made with, when a circuit changes.
 use Rattle.std.proofs.Common.{◌≡◌, ◌≢◌, ◌∙◌, inl, inr, ℕ, ◌+◌, ◌<◌, ◌≤◌, Bool, true, false, not, List, [], ◌∷◌, length, get_or, refl, ap, sym, subst, arith}
-use Rattle.std.specs.Prelude.{Option, None, nat_le, nat_lt, ◌==◌, ◌⊎◌, if◌then◌else◌}
+use Rattle.std.specs.Prelude.{Option, Some, None, nat_le, nat_lt, ◌==◌, ◌⊎◌, if◌then◌else◌}
 use Rattle.std.proofs.lemmas.Bool.{and_from}
 use Rattle.std.proofs.lemmas.Bool.Decides.{nat_tests}
+use Rattle.std.proofs.lemmas.Grind.{same_number_lists}
 use Rattle.std.proofs.lemmas.List.{get_or_default}
 use Rattle.reo_values.specs.declared.value.Value.{Value}
 use Rattle.reo_values.proofs.Truths.{and_right, not_both}
@@ -20,7 +21,7 @@ use Rattle.reo_net_laws.proofs.Jams.{jams_whole}
 use Rattle.reo_net_laws.proofs.OneFirst.{one_inside}
 use Rattle.reo_net_laws.proofs.Sides.{Owner, owner_of, owner_side}
 use Rattle.reo_cells.specs.declared.cells.Cells.{Cells}
-use Rattle.reo_cells.specs.Cells.{AreBrought, AreCells, AreShown, IsShown, code_at}
+use Rattle.reo_cells.specs.Cells.{AreCells, AreShown, IsShown, code_at}
 use Rattle.reo_cells.specs.Texts.{jam_code}
 use Rattle.reo_cells.proofs.Laid.{cells_same}
 use Rattle.reo_knots.specs.Knots.{Knotted, AreKnots, in_knot, knot_count}
@@ -47,8 +48,10 @@ use Rattle.reo_standing.proofs.Putting.{giver_flows, others_none}
 use Rattle.reo_standing.specs.Standing.{HaveFirstItems}
 use Rattle.reo_standing.proofs.Filled.{past_none}
 use Rattle.reo_engine.specs.declared.flows.Flows.{Flows}
-use Rattle.reo_engine.specs.Flows.{AreFlows, AreKeptShown, AreFlaggedShown, AreShownAt, HasNoSheet, MayBeBlank, MayBeMarks, part_of}
+use Rattle.reo_engine.specs.Flows.{AreFlows, AreKeptShown, AreFlaggedShown, AreShownAt, AreWrittenAt, HasNoSheet, MayBeBlank, MayBeMarks, MayBeRows}
+use Rattle.reo_engine.specs.Resting.{part_of}
 use Rattle.reo_engine.specs.Stood.{AreRenewed}
+use Rattle.reo_engine.proofs.Resting.{in_own}
 
 -- The code of a cell, by its row and how many rows its side has.
 abbrev code_by : ℕ → ℕ → ℕ
@@ -88,6 +91,7 @@ pub flows_stay : (net other : Net) (knots : Knotted) (old new : Kept) → AreFew
     → (flows : Flows) → AreFlows net knots old flows → AreFlows other knots new flows
 flows_stay net other knots old new fewer is flows are = record {
   blank = subst (λ (js : List Joint). MayBeBlank (length js) flows.blank) (sym is.joints) are.blank;
+  rows = subst (λ (rows : List ℕ). MayBeRows rows flows.rows) (sym fewer.rows) are.rows;
   marks = subst (λ (n : ℕ). MayBeMarks n flows.marks) (sym is.shapes.count) are.marks;
   one_each = are.one_each;
   cells = cells_same net other is.shapes flows.cells are.cells;
@@ -95,12 +99,9 @@ flows_stay net other knots old new fewer is flows are = record {
   feeds = feeds_same net other is.joints is.shapes flows.feeds are.feeds;
 }
 
--- A side is in its own part.
-pub in_own : (net : Net) (knots : Knotted) → AreKnots net knots → (s k : ℕ) → s < side_count net → part_of knots s ≡ k → in_knot knots.numbers k s ≡ true
-in_own net knots are s k s_in is =
-    let count = are.numbered.one_each in
-    let below : s < length knots.numbers = omega (arith, count, s_in) in
-    and_from (nat_lt s (length knots.numbers)) (part_of knots s == k) (grind (arith, nat_tests)) (grind (arith, nat_tests))
+yes_or_no : (b : Bool) → (b ≡ true) ⊎ (b ≡ false)
+yes_or_no true = inl (λ i. true)
+yes_or_no false = inr (λ i. false)
 
 -- Rows that come in place of those that were kept, all parts settled.
 module _ (net : Net) (wired : IsWired net) (order : List ℕ) (is_order : IsOrder net order) (knots : Knotted) (are : AreKnots net knots) (turn : ℕ) (old new : Kept)
@@ -126,10 +127,19 @@ module _ (net : Net) (wired : IsWired net) (order : List ℕ) (is_order : IsOrde
             code_kept net old.rows new.rows s (get_or flows.cells.shown s 0) (get_or now.shown s 0) row (at.others s s_in flag) (of.shown was_so.0 s s_in was_so.1)
         | inr clear ↦ at.here s s_in lt clear
       ]
-    where
-      yes_or_no : (b : Bool) → (b ≡ true) ⊎ (b ≡ false)
-      yes_or_no true = inl (λ i. true)
-      yes_or_no false = inr (λ i. false)
+
+  -- A list of those that were kept has those that are kept now, once it has them at the sides of the parts that are not flagged.
+  pub all_written : (list now : List ℕ) → list ≡ old.rows → AreWrittenAt net knots new.rows flags (knot_count knots) list now → now ≡ new.rows
+  all_written list now before written =
+      let count : length now ≡ side_count net = written.one_each ∙ ap (λ (xs : List ℕ). length xs) before ∙ was.sizes.one_row in
+      same_number_lists now new.rows (count ∙ sym is.sizes.one_row) (λ s lt.
+      let s_in : s < side_count net = omega (arith, lt, count) in
+      let k : ℕ = part_of knots s in
+      let k_in : k < knot_count knots = are.numbered.in_range s s_in in
+      elim (yes_or_no (get_or flags k false)) [
+        | inl flag ↦ written.at.others s s_in flag ∙ ap (λ (xs : List ℕ). get_or xs s 0) before ∙ sym (rows_same k k_in (flagged.each k flag).1 s s_in (in_own net knots are s k s_in refl))
+        | inr clear ↦ written.at.here s s_in k_in clear
+      ])
 
 -- Rows that are kept of all parts are those of a first colouring.
 pub first_items : (budget : ℕ) (net : Net) → IsWired net → (knots : Knotted) → AreKnots net knots → (turn : ℕ) (rows : List ℕ) → ArePlanned budget net knots turn (knot_count knots) rows → HaveFirstItems net turn rows
@@ -195,10 +205,11 @@ lists_moving net wired knots are turn kept is fit settled lists flowing = record
     some_long x xs = grind (arith, nat_tests)
 
 -- What a round is made with stays right where nothing is shown.
-pub flows_unshown : (net : Net) (knots : Knotted) (old new : Kept) (flows : Flows) (flags : List Bool) → AreFlows net knots old flows → length flags ≡ length flows.shown_parts
-    → AreFlows net knots new (record flows { shown_parts = flags; shown = false })
-flows_unshown net knots old new flows flags are count = record {
+pub flows_unshown : (net : Net) (knots : Knotted) (old new : Kept) (flows : Flows) (flags : List Bool) (list : Option (List ℕ)) → AreFlows net knots old flows → length flags ≡ length flows.shown_parts
+    → MayBeRows new.rows list → AreFlows net knots new (record flows { rows = list; shown_parts = flags; shown = false })
+flows_unshown net knots old new flows flags list are count rows = record {
   blank = are.blank;
+  rows = rows;
   marks = are.marks;
   one_each = count ∙ are.one_each;
   cells = are.cells;
@@ -207,10 +218,11 @@ flows_unshown net knots old new flows flags are count = record {
 }
 
 -- And where all is shown.
-pub flows_shown : (net : Net) (knots : Knotted) (old new : Kept) (flows : Flows) (flags : List Bool) (now : Cells) → AreFlows net knots old flows → length flags ≡ length flows.shown_parts
-    → AreCells net now → AreShown net new.rows now → AreFlows net knots new (record flows { shown_parts = flags; cells = now; shown = true })
-flows_shown net knots old new flows flags now are count cells shown = record {
+pub flows_shown : (net : Net) (knots : Knotted) (old new : Kept) (flows : Flows) (flags : List Bool) (list : Option (List ℕ)) (now : Cells) → AreFlows net knots old flows → length flags ≡ length flows.shown_parts
+    → MayBeRows new.rows list → AreCells net now → AreShown net new.rows now → AreFlows net knots new (record flows { rows = list; shown_parts = flags; cells = now; shown = true })
+flows_shown net knots old new flows flags list now are count rows cells shown = record {
   blank = are.blank;
+  rows = rows;
   marks = are.marks;
   one_each = count ∙ are.one_each;
   cells = cells;
@@ -222,6 +234,7 @@ flows_shown net knots old new flows flags now are count cells shown = record {
 pub flows_taken : (net : Net) (knots : Knotted) (kept : Kept) (old new : Flows) → AreFlows net knots kept old → HasNoSheet old new → AreFlows net knots kept new
 flows_taken net knots kept old new are none = record {
   blank = subst (MayBeBlank (length net.joints)) (sym none.blank) tt;
+  rows = none.rows kept.rows are.rows;
   marks = none.marks (length net.primitives) are.marks;
   one_each = ap (λ (xs : List Bool). length xs) none.shown_parts ∙ are.one_each;
   cells = subst (AreCells net) (sym none.cells) are.cells;
@@ -231,37 +244,7 @@ flows_taken net knots kept old new are none = record {
 
 -- And with any text.
 pub flows_texted : (net : Net) (knots : Knotted) (kept : Kept) (flows : Flows) (text : List ℕ) → AreFlows net knots kept flows → AreFlows net knots kept (record flows { text = text })
-flows_texted net knots kept flows text are = record { blank = are.blank; marks = are.marks; one_each = are.one_each; cells = are.cells; shown = are.shown; feeds = are.feeds }
-
--- Before the first part nothing is shown.
-pub shown_none : (net : Net) (knots : Knotted) (rows : List ℕ) (flags : List Bool) (cells : Cells) → AreShownAt net knots rows flags 0 cells cells
-shown_none net knots rows flags cells = record { here = λ s s_in lt clear. absurd (omega (arith, lt)); others = λ s s_in flag. refl }
-
--- Parts are passed over that are flagged.
-pub shown_over : (net : Net) (knots : Knotted) (rows : List ℕ) (flags : List Bool) (n next : ℕ) → ((k : ℕ) → n ≤ k → k < next → get_or flags k false ≡ true) → (old new : Cells) → AreShownAt net knots rows flags n old new
-    → AreShownAt net knots rows flags next old new
-shown_over net knots rows flags n next flagged old new at = record {
-  here = λ s s_in below clear. elim (lt_cases (part_of knots s) n) [
-    | inl lt ↦ at.here s s_in lt clear
-    | inr le ↦ absurd (not_both (get_or flags (part_of knots s) false) clear (flagged (part_of knots s) le below))
-  ];
-  others = at.others;
-}
-
--- One part more, which is not flagged, and was brought.
-pub shown_more : (net : Net) (knots : Knotted) → AreKnots net knots → (rows : List ℕ) (flags : List Bool) (n : ℕ) → n < knot_count knots → (old mid new : Cells) → AreShownAt net knots rows flags n old mid
-    → get_or flags n false ≡ false → (sides : List ℕ) → sides ≡ get_or knots.sides n [] → AreBrought net rows sides mid new → AreShownAt net knots rows flags (n + 1) old new
-shown_more net knots are rows flags n lt old mid new at clear sides is brought = record {
-  here = λ s s_in below not. elim (eq_cases (part_of knots s) n) [
-    | inl e ↦
-        let there = side_listed net knots are n lt sides is s s_in (in_own net knots are s n s_in e) in
-        subst (λ (k : ℕ). IsShown net rows k new) (get_or_default sides there.0 0 s there.1 ∙ there.2) (brought.brought there.0 there.1)
-    | inr ne ↦ brought.stay s (at.here s s_in (omega (arith, below, ne)) not)
-  ];
-  others = λ s s_in flag. brought.others s (λ m m_in e.
-      let here : part_of knots (get_or sides m 0) ≡ n = number_is knots.numbers n (get_or sides m 0) (side_here net knots are n lt sides is m m_in) in
-      not_both (get_or flags (part_of knots s) false) (ap (λ (k : ℕ). get_or flags k false) (ap (part_of knots) (sym e) ∙ here) ∙ clear) flag) ∙ at.others s s_in flag;
-}
+flows_texted net knots kept flows text are = record { blank = are.blank; rows = are.rows; marks = are.marks; one_each = are.one_each; cells = are.cells; shown = are.shown; feeds = are.feeds }
 
 -- Where the first side of a part has no jam row none has.
 pub jams_as_first : (net : Net) → IsWired net → (knots : Knotted) → AreKnots net knots → (rows : List ℕ) → HaveColouring net rows → (k : ℕ) → k < knot_count knots → (sides : List ℕ) → sides ≡ get_or knots.sides k []

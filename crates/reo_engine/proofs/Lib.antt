@@ -7,4 +7,5 @@ pub mod Others
 pub mod Reached
 mod Fresh
 pub mod Treating
-pub mod Covering
+pub mod Going
+pub mod Resting

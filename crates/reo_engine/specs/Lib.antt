@@ -5,3 +5,5 @@ pub mod Isolation
 pub mod Settled
 pub mod Stood
 pub mod Flows
+pub mod Goers
+pub mod Resting

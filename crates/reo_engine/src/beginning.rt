@@ -7,8 +7,10 @@ ghost use Rattle.reo_planning.specs.declared.kept.Kept.{Kept as KeptRows};
 ghost use Rattle.reo_planning.specs.Keeping.{IsKept};
 ghost use Rattle.reo_settling.specs.Lookups.{AreLookups};
 ghost use Rattle.reo_engine.specs.Flows.{AreFlows};
+ghost use Rattle.reo_engine.specs.Goers.{AreGoers};
 
 use crate::flows::Flows;
+use crate::goers::Goers;
 use reo_flags::Flags;
 use reo_knots::Knots;
 use reo_net_base::Primitive;
@@ -27,6 +29,7 @@ pub(crate) struct Begun {
     pub(crate) kept: Kept,
     pub(crate) lookups: Lookups,
     pub(crate) flows: Flows,
+    pub(crate) goers: Goers,
 }
 
 /// What an engine begins with: all primitives are marked, and nothing is kept. `NoMemory` is out of
@@ -46,17 +49,21 @@ pub(crate) fn begin<P: Primitive>(
         IfOk result (λ made. (kept : KeptRows) → AreLookups net knots.now kept made.lookups) }
     ensures flows { let net = net_of P.behaviour circuit.now in
         IfOk result (λ made. AreFlows net knots.now made.kept made.flows) }
+    ensures goers { let primitives = circuit.now.primitives in
+        IfOk result (λ made. AreGoers P.behaviour P.lasting primitives made.goers) }
 {
     let changed = Flags::new(alloc, circuit.primitives().len(), true)?;
     let ends = ends_of(alloc, circuit)?;
     let kept = Kept::new(alloc, circuit.sides(), knots.count())?;
     let lookups = Lookups::new(alloc, circuit, knots, &ends)?;
     let flows = Flows::new(alloc, circuit, knots)?;
+    let goers = Goers::new(alloc, circuit)?;
     Ok(Begun {
         changed,
         ends,
         kept,
         lookups,
         flows,
+        goers,
     })
 }

@@ -6,6 +6,7 @@ ghost use Rattle.reo_engine.specs.Engine.{net_now};
 
 use crate::beginning::begin;
 use crate::flows::Flows;
+use crate::goers::Goers;
 use reo_flags::Flags;
 use reo_knots::{Knots, find_knots};
 use reo_net_base::Ported;
@@ -38,6 +39,7 @@ pub struct Engine<P: Ported> {
     pub(crate) kept: Kept,
     pub(crate) lookups: Lookups,
     pub(crate) flows: Flows,
+    pub(crate) goers: Goers,
 }
 
 impl<P: Ported> Model for Engine<P> {
@@ -47,6 +49,7 @@ impl<P: Ported> Model for Engine<P> {
     ghost use Rattle.reo_settling.specs.Lookups.{AreLookups};
     ghost use Rattle.reo_engine.specs.Engine.{Running, IsLookedUp};
     ghost use Rattle.reo_engine.specs.Flows.{AreFlows};
+    ghost use Rattle.reo_engine.specs.Goers.{AreGoers};
 
     ghost Value = { Running P };
 
@@ -64,7 +67,8 @@ impl<P: Ported> Model for Engine<P> {
         × AreJustPorts (map P.port_state e.circuit.primitives) e.circuit.ports
         × IsLookedUp (net_of P.behaviour e.circuit) e.rounds e.knots e.ends e.kept
         × AreLookups (net_of P.behaviour e.circuit) e.knots e.kept e.lookups
-        × AreFlows (net_of P.behaviour e.circuit) e.knots e.kept e.flows };
+        × AreFlows (net_of P.behaviour e.circuit) e.knots e.kept e.flows
+        × AreGoers P.behaviour P.lasting e.circuit.primitives e.goers };
 }
 
 impl<P: Ported> Engine<P> {
@@ -88,6 +92,7 @@ impl<P: Ported> Engine<P> {
             kept: begun.kept,
             lookups: begun.lookups,
             flows: begun.flows,
+            goers: begun.goers,
         })
     }
 

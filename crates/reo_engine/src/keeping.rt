@@ -8,6 +8,7 @@ ghost use Rattle.reo_planning.specs.Planned.{AreWeights, sum_below, weight_left}
 ghost use Rattle.reo_engine.specs.Engine.{net_now};
 
 use crate::engine::Engine;
+use crate::flows::{rewritten, take_rows};
 use reo_net_base::Ported;
 use reo_rounds::PlanFault;
 use reo_steps::Steps;
@@ -54,6 +55,7 @@ impl<P: Ported> Engine<P> {
         if self.kept.all_serve(budget) {
             return Ok(());
         }
+        let over = take_rows(alloc, &mut self.flows.rows, self.kept.rows())?;
         let rows = self.lookups.settle(
             alloc,
             &self.circuit,
@@ -63,13 +65,14 @@ impl<P: Ported> Engine<P> {
             self.rounds + 1,
             budget,
             steps,
+            over,
         )?;
         self.flows.shown = false;
         let flowing = self.lookups.flowing();
         let list = self
             .kept
             .store(&self.circuit, &self.knots, flowing, rows, budget);
-        self.lookups.hand_back(list);
+        self.flows.rows = rewritten(list, self.kept.rows());
         Ok(())
     }
 }

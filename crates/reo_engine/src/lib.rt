@@ -9,6 +9,7 @@ mod beginning;
 mod changes;
 mod engine;
 mod flows;
+mod goers;
 mod keeping;
 mod laws;
 mod next;

@@ -1,5 +1,5 @@
 //! Rows that are kept, brought up to date.
-ghost use Rattle.std.specs.Prelude.{◌≡◌, ◌<◌, ◌≤◌, ◌+◌, ◌^◌, ℕ, true, OnOk, OnErr, MatchResult};
+ghost use Rattle.std.specs.Prelude.{◌≡◌, ◌<◌, ◌≤◌, ◌+◌, ◌^◌, ℕ, true, None, IfOk, OnOk, OnErr, MatchResult};
 ghost use Rattle.reo_net_base.specs.Net.{net_of};
 ghost use Rattle.reo_net_ends.specs.Ends.{AreEnds};
 ghost use Rattle.reo_knots.specs.Knots.{AreKnots, knot_count};
@@ -8,10 +8,10 @@ ghost use Rattle.reo_planning.specs.Keeping.{AllServe, IsKept};
 ghost use Rattle.reo_planning.specs.Planned.{AreWeights, sum_below, weight_left};
 ghost use Rattle.reo_settling.specs.Lookups.{AreLookups};
 ghost use Rattle.reo_cells.specs.Cells.{AreShown};
-ghost use Rattle.reo_engine.specs.Flows.{AreFlows};
+ghost use Rattle.reo_engine.specs.Flows.{AreFlows, MayBeRows};
 ghost use Rattle.reo_engine.specs.Stood.{AreRenewed};
 
-use crate::flows::{Flows, flag_shown, show_rest};
+use crate::flows::{Flows, flag_shown, show_rest, take_rows};
 use reo_knots::Knots;
 use reo_net_base::Primitive;
 use reo_net_circuit::Circuit;
@@ -20,12 +20,14 @@ use reo_planning::Kept;
 use reo_rounds::PlanFault;
 use reo_settling::Lookups;
 use reo_steps::Steps;
+use reo_values::List;
 use std::alloc::Global;
 use std::sync::ledger::Ledger;
 
 /// Has all parts settled, for the round of a number, and the joints told that flow in them: those
 /// that are not are looked at. It makes at most as many ticks as they weigh together. After a fault
-/// the rows are as they were.
+/// the rows are as they were. What is found is written into a list of the rows that are kept, if
+/// there is one. The answer is a list of those that were kept before.
 ///
 /// # Errors
 ///
@@ -41,7 +43,8 @@ fn renew<P: Primitive, L: Ledger>(
     turn: u64,
     budget: u64,
     steps: &mut Steps<L>,
-) -> Result<(), PlanFault>
+    list: &mut Option<List<u32>>,
+) -> Result<List<u32>, PlanFault>
     requires knots { AreKnots (net_of P.behaviour circuit.now) knots.now }
     requires ends { AreEnds (net_of P.behaviour circuit.now) ends.now }
     requires turn { 1 ≤ turn }
@@ -49,12 +52,15 @@ fn renew<P: Primitive, L: Ledger>(
     requires kept { IsKept (net_of P.behaviour circuit.now) knots.now turn kept.old }
     requires lookups { AreLookups
         (net_of P.behaviour circuit.now) knots.now kept.old lookups.old }
+    requires list { MayBeRows kept.old.rows list.old }
     ensures kept { IsKept (net_of P.behaviour circuit.now) knots.now turn kept.new }
     ensures lookups { AreLookups
         (net_of P.behaviour circuit.now) knots.now kept.new lookups.new }
     ensures exact { let net = net_of P.behaviour circuit.now in
         MatchResult result (λ _. AllServe (knot_count knots.now) budget kept.new)
         (IsPlanFault budget net) }
+    ensures before { IfOk result (λ before. before ≡ kept.old.rows) }
+    ensures list { list.new ≡ None }
     ensures told { OnOk result (lookups.new.told ≡ true) }
     ensures refused { OnErr result (kept.new ≡ kept.old) }
     ensures ticks { let count = knot_count knots.now in (weights : ℕ → ℕ)
@@ -62,13 +68,12 @@ fn renew<P: Primitive, L: Ledger>(
         → steps.new ≤ steps.old + sum_below count (weight_left kept.old budget weights) }
 {
     circuit.known();
+    let over = take_rows(alloc, list, kept.rows())?;
     if kept.all_serve(budget) && lookups.is_told() {
-        return Ok(());
+        return Ok(over);
     }
-    let rows = lookups.settle(alloc, circuit, knots, ends, kept, turn, budget, steps)?;
-    let list = kept.store(circuit, knots, lookups.flowing(), rows, budget);
-    lookups.hand_back(list);
-    Ok(())
+    let rows = lookups.settle(alloc, circuit, knots, ends, kept, turn, budget, steps, over)?;
+    Ok(kept.store(circuit, knots, lookups.flowing(), rows, budget))
 }
 
 /// Has all parts settled for the round of a number, and the joints told that flow in them, and
@@ -115,11 +120,14 @@ pub(crate) fn renew_marked<P: Primitive, L: Ledger>(
     let _order = circuit.order();
     flag_shown(kept, flows.shown, &mut flows.shown_parts);
     flows.shown = false;
-    renew(
-        alloc, circuit, knots, ends, kept, lookups, turn, budget, steps,
+    let list = &mut flows.rows;
+    let mut older = renew(
+        alloc, circuit, knots, ends, kept, lookups, turn, budget, steps, list,
     )?;
     let shown = &flows.shown_parts;
-    show_rest(circuit, knots, kept.rows(), shown, &mut flows.cells);
+    let cells = &mut flows.cells;
+    show_rest(circuit, knots, kept.rows(), shown, cells, &mut older);
+    flows.rows = Some(older);
     flows.shown = true;
     Ok(())
 }

@@ -103,6 +103,7 @@ impl<P: Ported> Engine<P> {
             let line = line_for net turn made.0.colouring.rows made.0.line.moves in
             made.1 ≡ round_text ports.now.list line) }
         ensures stays { self.new ≡ record self.old { kept = self.new.kept } }
+        ensures same { IfOk result (λ made. made.0.colouring.rows ≡ self.new.kept.rows) }
         ensures settled { let count = knot_count self.new.knots in
             OnOk result (AllServe count budget self.new.kept) }
         ensures ticks { let count = knot_count self.old.knots in (weights : ℕ → ℕ)
@@ -157,12 +158,13 @@ impl<P: Ported> Engine<P> {
 
 impl<P: Ported> Engine<P> {
     /// Makes the round that stands: the circuit steps, and one round more was made. It is the round
-    /// that `commit` makes by the same rows and items, but only primitives of which some end flows
-    /// are touched. This takes no memory.
+    /// that `commit` makes by the same rows and items, but only primitives that keep something and
+    /// of which some end flows are touched. Its rows are those that are kept. This takes no memory.
     pub fn go_on(&mut self, standing: Standing) -> RoundLine
         requires stands { let net = net_now P.behaviour self.old in
             let turn = self.old.rounds + 1 in
             Stands net self.old.circuit.ports turn standing }
+        requires same { standing.colouring.rows ≡ self.old.kept.rows }
         requires few { self.old.rounds < 2 ^ 63 }
         ensures circuit { let old = self.old.circuit in let rows = standing.colouring.rows in
             let items = standing.colouring.items in
@@ -196,13 +198,15 @@ impl<P: Ported> Engine<P> {
         let _order = self.circuit.order();
         let joints = flowing.as_slice();
         let by = rows.as_slice();
+        self.goers.note(&marks);
+        let going = &self.goers.going;
         self.kept
-            .unsettle_between(&self.circuit, &self.knots, &marks);
+            .unsettle_between(&self.circuit, &self.knots, going);
         self.kept.unsettle_moving();
-        step_marked(&mut self.circuit, &self.ends, by, &mut items, &marks);
+        step_marked(&mut self.circuit, &self.ends, by, &mut items, going);
         self.circuit.known();
         self.flows.blank = Some(cleared(items, joints));
-        self.flows.rows = rows;
+        self.flows.rows = Some(rows);
         self.flows.flowing = flowing;
         self.flows.marks = Some(replace(&mut self.changed, marks));
         self.rounds += 1;

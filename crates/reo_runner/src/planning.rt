@@ -72,6 +72,7 @@ pub(crate) fn stand_next<P: Ported, L: Ledger>(
         made.1 ≡ round_text ports.now.list line) }
     ensures circuit { engine.new.circuit ≡ engine.old.circuit }
     ensures rounds { engine.new.rounds ≡ engine.old.rounds }
+    ensures same { IfOk result (λ made. made.0.colouring.rows ≡ engine.new.kept.rows) }
 {
     match engine.stand(alloc, ports, budget, steps) {
         Ok(made) => Ok(made),

@@ -46,6 +46,7 @@ fn count_out<P: Restoring>(
     requires stands { let net = net_of P.behaviour engine.old.circuit in
         let turn = engine.old.rounds + 1 in
         Stands net engine.old.circuit.ports turn standing }
+    requires same { standing.colouring.rows ≡ engine.old.kept.rows }
     requires few { engine.old.rounds < 10 ^ 9 }
     requires small { IsSmall tally }
     requires fewer { tally.rounds < 10 ^ 9 }

@@ -1,10 +1,10 @@
 //! What is looked up when parts are settled.
 ghost use Rattle.std.specs.Prelude.{◌≡◌, IfOk, length};
-ghost use Rattle.reo_net_base.specs.Net.{Net as Network, net_of};
+ghost use Rattle.reo_net_base.specs.Net.{net_of};
 ghost use Rattle.reo_net_ends.specs.Ends.{AreEnds};
-ghost use Rattle.reo_knots.specs.Knots.{AreKnots, Knotted};
+ghost use Rattle.reo_knots.specs.Knots.{AreKnots};
 ghost use Rattle.reo_planning.specs.declared.kept.Kept.{Kept as KeptRows};
-ghost use Rattle.reo_settling.specs.Lookups.{AreListed, AreLookups};
+ghost use Rattle.reo_settling.specs.Lookups.{AreLookups};
 
 use reo_flags::Flags;
 use reo_item_bounds::Bounds;
@@ -19,9 +19,9 @@ use reo_values::{List, NoMemory};
 use std::alloc::Global;
 
 /// What is looked up when parts are settled: the joints of each part, in order, and those of them
-/// that flow, and whether these are told for the rows that are kept; bounds on the items
-/// of joints; the rows that are remembered; a list of rows, any; what the search by marks keeps;
-/// and the tables of the search by values, and of each part whether they were made for its state.
+/// that flow, and whether these are told for the rows that are kept; bounds on the items of joints;
+/// the rows that are remembered; what the search by marks keeps; and the tables of the search by
+/// values, and of each part whether they were made for its state.
 #[derive(Drop)]
 pub struct Lookups {
     pub(crate) orders: List<List<usize>>,
@@ -31,7 +31,6 @@ pub struct Lookups {
     pub(crate) tables: Option<Tables>,
     pub(crate) bounds: Bounds,
     pub(crate) plans: Plans,
-    pub(crate) spare: List<u32>,
     pub(crate) marks: MarkSearch,
 }
 
@@ -73,18 +72,8 @@ impl Lookups {
             tables: None,
             bounds,
             plans,
-            spare: List::new(alloc),
             marks,
         })
-    }
-
-    /// Hands a list of rows back, any, so that none is made for the rows of the next round.
-    pub fn hand_back(&mut self, rows: List<u32>)
-        ensures lookups { (net : Network) (knots : Knotted) (kept : KeptRows)
-            → AreLookups net knots kept self.old → AreLookups net knots kept self.new }
-        ensures listed { AreListed self.old self.new }
-    {
-        self.spare = rows;
     }
 
     /// For each part its joints that flow. They are those of the rows that are kept of a settled

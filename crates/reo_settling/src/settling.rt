@@ -16,7 +16,7 @@ use reo_knots::Knots;
 use reo_net_base::Primitive;
 use reo_net_circuit::Circuit;
 use reo_net_ends::Ends;
-use reo_planning::{Kept, written_over};
+use reo_planning::Kept;
 use reo_rounds::PlanFault;
 use reo_steps::Steps;
 use reo_values::List;
@@ -47,9 +47,9 @@ impl Lookups {
     }
 
     /// The rows of the first colouring of a circuit in the round of a number, where no part is
-    /// over, and for each part its joints that flow. The rows are those that are kept, where these
-    /// serve; of other parts they are remembered, or searched. It makes at most as many ticks as
-    /// the weights of those say together.
+    /// over, and for each part its joints that flow. They are written into a list of the rows that
+    /// are kept, which stand where they serve; of other parts they are remembered, or searched. It
+    /// makes at most as many ticks as the weights of those say together.
     ///
     /// # Errors
     ///
@@ -65,12 +65,14 @@ impl Lookups {
         turn: u64,
         budget: u64,
         steps: &mut Steps<L>,
+        list: List<u32>,
     ) -> Result<List<u32>, PlanFault>
         requires knots { AreKnots (net_of P.behaviour circuit.now) knots.now }
         requires ends { AreEnds (net_of P.behaviour circuit.now) ends.now }
         requires turn { 1 ≤ turn }
         requires budget { budget < 10 ^ 18 }
         requires kept { IsKept (net_of P.behaviour circuit.now) knots.now turn kept.now }
+        requires list { list ≡ kept.now.rows }
         requires lookups { AreLookups (net_of P.behaviour circuit.now) knots.now kept.now self.old }
         ensures lookups { let net = net_of P.behaviour circuit.now in
             IfOk result (λ rows. (later : KeptRows) → later.rows ≡ rows
@@ -91,8 +93,7 @@ impl Lookups {
         circuit.known();
         let told = replace(&mut self.told, false);
         self.forget(kept);
-        let list = replace(&mut self.spare, List::new(alloc));
-        let mut rows = written_over(list, kept.rows())?;
+        let mut rows = list;
         let mut part = next_to_settle(kept, budget, told, 0);
         while part < knots.count() {
             self.settle_part(

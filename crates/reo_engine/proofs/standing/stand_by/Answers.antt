@@ -8,6 +8,9 @@ use Rattle.reo_engine.proofs.standing.stand_by.Goals as goal
 pub take_sheet-requires-clause-blank : goal.take_sheet-requires-clause-blank
 take_sheet-requires-clause-blank g c = rw c.joint_count-joints.ensures c.requires.flows.blank
 
+pub take_sheet-requires-clause-rows : goal.take_sheet-requires-clause-rows
+take_sheet-requires-clause-rows g c = rw c.rows.ensures c.requires.flows.rows
+
 pub take_sheet-requires-clause-marks : goal.take_sheet-requires-clause-marks
 take_sheet-requires-clause-marks g c =
     subst (λ (n : ℕ). MayBeMarks n c.args.flows.now.marks)

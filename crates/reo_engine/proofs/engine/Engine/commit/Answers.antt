@@ -1,8 +1,10 @@
-use Rattle.std.proofs.Common.{◌≡◌, ◌∙◌, length, map, sym, rules, arith}
+use Rattle.std.proofs.Common.{◌≡◌, ◌∙◌, length, map, ap, refl, sym, rules, arith}
 use Rattle.std.proofs.lemmas.List.{length-map}
 use Rattle.reo_net_base.specs.Net.{Net, Wiring, net_of}
 use Rattle.reo_planning.proofs.Setting.{fewer_twice}
 use Rattle.reo_engine.proofs.FlowsLemmas.{flows_stay}
+use Rattle.reo_engine.specs.Goers.{is_keeper}
+use Rattle.reo_engine.proofs.Going.{goers_stay, keeper_stays, map_settled}
 use Rattle.reo_engine.proofs.Lookups.{round_elsewhere, round_held, round_made, stay_settled}
 use Rattle.reo_engine.proofs.Others.{others_stay}
 use Rattle.reo_engine.proofs.Treating.{round_treats}
@@ -41,6 +43,10 @@ invariant_of-self g c =
           (fewer_twice c.self.inside.kept c.unsettle_marked.new.self c.unsettle_moving.new.self c.unsettle_marked.ensures.fewer c.unsettle_moving.ensures.fewer)
           (round_elsewhere g.P.Primitive.behaviour now c.step.new.self c.mark_flowing.new.marks c.step.ensures.shape others marks c.self.inside.knots c.self.inside.kept c.unsettle_marked.new.self c.unsettle_moving.new.self
           c.unsettle_marked.ensures c.unsettle_moving.ensures) c.self.inside.flows old.5,
+      goers_stay g.P.Primitive.behaviour g.P.Primitive.lasting now.primitives c.step.new.self.primitives c.self.inside.goers c.self.inside.goers old.6
+          (ap (λ (w : Wiring g.row.P.Denot). map (is_keeper g.P.Primitive.behaviour g.P.Primitive.lasting) w.primitives) c.step.ensures.circuit
+          ∙ map_settled (is_keeper g.P.Primitive.behaviour g.P.Primitive.lasting) g.P.Primitive.settled (λ p r t. keeper_stays g.P.Primitive.behaviour g.P.Primitive.lasting p (g.P.Primitive.settled p r t) (g.met.P.Primitive.settled_shape p r t) (g.met.P.Primitive.settled_lasting p r t)) now.primitives _ _)
+          refl refl,
     )
 
 pub returns-clause-settled : goal.returns-clause-settled

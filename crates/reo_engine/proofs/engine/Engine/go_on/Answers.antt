@@ -5,8 +5,9 @@ use Rattle.reo_net_base.specs.Net.{Net, Wiring, net_of}
 use Rattle.reo_standing.specs.Filling.{AreBlank}
 use Rattle.reo_engine.proofs.Between.{marked_unsettled, moving_again}
 use Rattle.reo_engine.proofs.Others.{others_stay}
-use Rattle.reo_engine.proofs.Covering.{covering}
 use Rattle.reo_engine.proofs.FlowsLemmas.{flows_stay, held_among}
+use Rattle.reo_engine.specs.Goers.{is_keeper}
+use Rattle.reo_engine.proofs.Going.{between_going, cover_going, goers_stay, keeper_stays, map_settled}
 use Rattle.reo_engine.proofs.Lookups.{round_elsewhere, round_held, round_made, stay_settled}
 use Rattle.reo_engine.proofs.Treating.{round_treats}
 use Rattle.reo_engine.proofs.engine.Engine.go_on.Goals as goal
@@ -14,7 +15,18 @@ use Rattle.reo_engine.proofs.engine.Engine.go_on.Goals as goal
 pub unsettle_between-requires-clause-marks : goal.unsettle_between-requires-clause-marks
 unsettle_between-requires-clause-marks g c =
     let stands = rw (← c.self.view_is) at c.requires.stands in
-    stands.marks.one_each ∙ length-map c.self.inside.circuit.primitives g.P.Primitive.behaviour
+    c.note.ensures.going.one_each ∙ stands.marks.one_each ∙ length-map c.self.inside.circuit.primitives g.P.Primitive.behaviour
+
+pub note-requires-clause-keepers : goal.note-requires-clause-keepers
+note-requires-clause-keepers g c =
+    let stands = rw (← c.self.view_is) at c.requires.stands in
+    let ps = c.self.inside.circuit.primitives in
+    ap (λ (xs : List Bool). length xs) c.self.invariant.6.keepers ∙ length-map ps (is_keeper g.P.Primitive.behaviour g.P.Primitive.lasting) ∙ sym (stands.marks.one_each ∙ length-map ps g.P.Primitive.behaviour)
+
+pub note-requires-clause-going : goal.note-requires-clause-going
+note-requires-clause-going g c =
+    let stands = rw (← c.self.view_is) at c.requires.stands in
+    c.self.invariant.6.one_each ∙ sym (stands.marks.one_each ∙ length-map c.self.inside.circuit.primitives g.P.Primitive.behaviour)
 
 pub unsettle_moving-requires : goal.unsettle_moving-requires
 unsettle_moving-requires g c =
@@ -25,7 +37,8 @@ unsettle_moving-requires g c =
 pub step_marked-requires-clause-marks : goal.step_marked-requires-clause-marks
 step_marked-requires-clause-marks g c =
     let stands = rw (← c.self.view_is) at c.requires.stands in
-    rw c.as_slice-by.ensures (covering g.P.Primitive.behaviour g.P.Primitive.lasting c.self.inside.circuit c.args.standing.colouring.rows c.args.standing.marks stands.marks)
+    rw c.as_slice-by.ensures (cover_going g.P.Primitive.behaviour g.P.Primitive.lasting c.self.inside.circuit c.self.inside.goers c.self.invariant.6 c.args.standing.marks c.note.new.self.going c.note.ensures.going
+    c.args.standing.colouring.rows stands.marks)
 
 pub cleared-requires : goal.cleared-requires
 cleared-requires g c =
@@ -55,6 +68,7 @@ invariant_of-self g c =
     let flowed = stands.marks in
     let step = rw c.as_slice-by.ensures at c.step_marked.ensures.circuit in
     let few = rw (← c.self.view_is) at c.requires.few in
+    let same = rw (← c.self.view_is) at c.requires.same in
     let others = others_stay g.P.Primitive.behaviour g.P.Primitive.settled g.met.P.Primitive.quiet now c.step_marked.new.circuit standing.colouring.rows standing.colouring.items standing.marks
     c.known.ensures.wired stands.first.colouring flowed step in
     let before : length (map g.P.Primitive.behaviour now.primitives) ≡ length now.primitives = length-map now.primitives g.P.Primitive.behaviour in
@@ -63,7 +77,9 @@ invariant_of-self g c =
     let shape = c.step_marked.ensures.shape in
     let unsettled = marked_unsettled net c.known.ensures.wired c.order-order.result.now c.order-order.ensures c.self.inside.knots old.3.are_knots (c.self.inside.rounds + 1)
     standing.colouring.rows standing.colouring.items stands.first c.self.inside.kept old.3.is_kept standing.marks flowed
-    c.unsettle_between.new.self c.unsettle_moving.new.self c.unsettle_between.ensures c.unsettle_moving.ensures in
+    c.unsettle_between.new.self c.unsettle_moving.new.self
+    (between_going g.P.Primitive.behaviour g.P.Primitive.lasting c.self.inside.circuit c.self.inside.goers c.self.invariant.6 standing.marks c.note.new.self.going c.note.ensures.going
+    c.self.inside.knots c.self.inside.kept c.unsettle_between.new.self c.unsettle_between.ensures) c.unsettle_moving.ensures in
     let moving = moving_again c.unsettle_between.new.self c.unsettle_moving.new.self c.unsettle_moving.ensures in
     let stay = flows_stay net other c.self.inside.knots c.self.inside.kept c.unsettle_moving.new.self unsettled.fewer
     (round_elsewhere g.P.Primitive.behaviour now c.step_marked.new.circuit standing.marks shape others marks c.self.inside.knots c.self.inside.kept c.unsettle_moving.new.self c.unsettle_moving.new.self
@@ -80,12 +96,17 @@ invariant_of-self g c =
           (round_treats g.P.Primitive.behaviour g.P.Primitive.settled g.met.P.Primitive.settled_alike now c.step_marked.new.circuit standing.colouring.rows standing.colouring.items step),
       record {
         blank = subst (λ n. AreBlank n c.cleared.result) count c.cleared.ensures;
+        rows = same ∙ sym unsettled.fewer.rows;
         marks = ap (λ (xs : List Bool). length xs) c.replace.ensures.value ∙ old.1 ∙ sym before ∙ sym shape.primitives.count;
         one_each = old.5.one_each;
         cells = stay.cells;
         shown = stay.shown;
         feeds = stay.feeds;
       },
+      goers_stay g.P.Primitive.behaviour g.P.Primitive.lasting now.primitives c.step_marked.new.circuit.primitives c.self.inside.goers c.note.new.self old.6
+          (ap (λ (w : Wiring g.row.P.Denot). map (is_keeper g.P.Primitive.behaviour g.P.Primitive.lasting) w.primitives) step
+          ∙ map_settled (is_keeper g.P.Primitive.behaviour g.P.Primitive.lasting) g.P.Primitive.settled (λ p r t. keeper_stays g.P.Primitive.behaviour g.P.Primitive.lasting p (g.P.Primitive.settled p r t) (g.met.P.Primitive.settled_shape p r t) (g.met.P.Primitive.settled_lasting p r t)) now.primitives _ _)
+          c.note.ensures.keepers (c.note.ensures.going.one_each ∙ marks ∙ sym old.6.one_each),
     )
 
 pub returns-clause-settled : goal.returns-clause-settled
@@ -96,6 +117,8 @@ returns-clause-settled g c =
     let standing = c.args.standing in
     let unsettled = marked_unsettled net c.known.ensures.wired c.order-order.result.now c.order-order.ensures c.self.inside.knots old.3.are_knots (c.self.inside.rounds + 1)
     standing.colouring.rows standing.colouring.items stands.first c.self.inside.kept old.3.is_kept standing.marks stands.marks
-    c.unsettle_between.new.self c.unsettle_moving.new.self c.unsettle_between.ensures c.unsettle_moving.ensures in
+    c.unsettle_between.new.self c.unsettle_moving.new.self
+    (between_going g.P.Primitive.behaviour g.P.Primitive.lasting c.self.inside.circuit c.self.inside.goers c.self.invariant.6 standing.marks c.note.new.self.going c.note.ensures.going
+    c.self.inside.knots c.self.inside.kept c.unsettle_between.new.self c.unsettle_between.ensures) c.unsettle_moving.ensures in
     rw (← c.self.view_is, c.replace.ensures.after) (stay_settled net c.self.inside.knots standing.marks c.self.inside.kept c.unsettle_moving.new.self c.unsettle_moving.new.self
     unsettled (moving_again c.unsettle_between.new.self c.unsettle_moving.new.self c.unsettle_moving.ensures))

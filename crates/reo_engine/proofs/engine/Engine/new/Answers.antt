@@ -15,4 +15,5 @@ invariant_of-result g c = (
   },
   c.in_ok-begun.ensures.lookups c.in_ok-begun.begun.kept,
   c.in_ok-begun.ensures.flows,
+  c.in_ok-begun.ensures.goers,
 )

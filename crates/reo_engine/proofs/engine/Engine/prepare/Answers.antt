@@ -5,6 +5,7 @@ use Rattle.reo_weights.proofs.CauseLemmas.{within_not_over}
 use Rattle.reo_planning.specs.declared.kept.Kept.{Kept}
 use Rattle.reo_planning.specs.Keeping.{AllServe, is_open}
 use Rattle.reo_planning.proofs.Parting.{all_served}
+use Rattle.reo_engine.specs.Flows.{MayBeRows}
 use Rattle.reo_engine.proofs.FlowsLemmas.{told_by_test}
 use Rattle.reo_engine.proofs.engine.Engine.prepare.Goals as goal
 
@@ -25,12 +26,19 @@ returns-then-all_serve-clause-exact g c =
     (subst (λ (n : ℕ). AllServe n c.args.budget c.self.inside.kept) looked.is_kept.sizes.one_each all) c.self.inside.kept.rows refl in
     rw (← c.self.view_is) (within_not_over c.args.budget net c.known.ensures.wired c.self.inside.knots.numbers (knot_count c.self.inside.knots) looked.are_knots.numbered planned.within)
 
+pub returns-in_err-over-clause-none : goal.returns-in_err-over-clause-none
+returns-in_err-over-clause-none g c = rw (← c.self.view_is) (λ all.
+    absurd (not_all c.self.inside.kept c.args.budget (knot_count c.self.inside.knots) c.all_serve.result c.self.invariant.3.is_kept.sizes.one_each c.if-all_serve.false c.all_serve.ensures.1 all))
+
 pub returns-in_err-rows-clause-none : goal.returns-in_err-rows-clause-none
 returns-in_err-rows-clause-none g c = rw (← c.self.view_is) (λ all.
     absurd (not_all c.self.inside.kept c.args.budget (knot_count c.self.inside.knots) c.all_serve.result c.self.invariant.3.is_kept.sizes.one_each c.if-all_serve.false c.all_serve.ensures.1 all))
 
 pub store-list-requires-clause-flowing : goal.store-list-requires-clause-flowing
 store-list-requires-clause-flowing g c = rw c.flowing-flowing.ensures (told_by_test (net_of g.P.Primitive.behaviour c.self.inside.circuit) c.self.inside.knots c.in_ok-rows.rows c.settle.new.self.flowing c.in_ok-rows.ensures.flowing (is_open c.self.inside.kept))
+
+pub take_rows-requires : goal.take_rows-requires
+take_rows-requires g c = rw c.rows.ensures c.self.invariant.5.rows
 
 pub invariant_of-self : goal.invariant_of-self
 invariant_of-self g c =
@@ -39,8 +47,21 @@ invariant_of-self g c =
       old.1,
       old.2,
       old.3,
+      old.4,
+      record { blank = old.5.blank; rows = subst (MayBeRows c.self.inside.kept.rows) (sym c.take_rows.ensures.taken) tt; marks = old.5.marks; one_each = old.5.one_each; cells = old.5.cells; shown = old.5.shown; feeds = old.5.feeds },
+      old.6,
+    )
+
+pub invariant_of-self-in_err-rows : goal.invariant_of-self-in_err-rows
+invariant_of-self-in_err-rows g c =
+    let old = c.self.invariant in (
+      old.0,
+      old.1,
+      old.2,
+      old.3,
       c.in_err-rows.ensures.refused c.self.inside.kept,
-      old.5,
+      record { blank = old.5.blank; rows = subst (MayBeRows c.self.inside.kept.rows) (sym c.take_rows.ensures.taken) tt; marks = old.5.marks; one_each = old.5.one_each; cells = old.5.cells; shown = old.5.shown; feeds = old.5.feeds },
+      old.6,
     )
 
 pub invariant_of-self-2 : goal.invariant_of-self-2
@@ -50,8 +71,9 @@ invariant_of-self-2 g c =
       old.1,
       old.2,
       record { are_knots = old.3.are_knots; are_ends = old.3.are_ends; is_kept = c.store-list.ensures.kept (c.self.inside.rounds + 1) old.3.is_kept c.in_ok-rows.ensures.exact },
-      c.hand_back.ensures.lookups (net_of g.P.Primitive.behaviour c.self.inside.circuit) c.self.inside.knots c.store-list.new.self (c.in_ok-rows.ensures.lookups c.store-list.new.self c.store-list.ensures.rows),
-      record { blank = old.5.blank; marks = old.5.marks; one_each = old.5.one_each; cells = old.5.cells; shown = λ e. absurd cc; feeds = old.5.feeds },
+      c.in_ok-rows.ensures.lookups c.store-list.new.self c.store-list.ensures.rows,
+      record { blank = old.5.blank; rows = rw c.rows-2.ensures at c.rewritten.ensures; marks = old.5.marks; one_each = old.5.one_each; cells = old.5.cells; shown = λ e. absurd cc; feeds = old.5.feeds },
+      old.6,
     )
 
 pub returns-clause-exact : goal.returns-clause-exact

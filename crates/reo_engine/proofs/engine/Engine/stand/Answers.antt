@@ -16,6 +16,7 @@ invariant_of-self g c =
       record { are_knots = old.3.are_knots; are_ends = old.3.are_ends; is_kept = c.renew_marked.ensures.kept },
       c.renew_marked.ensures.lookups,
       c.renew_marked.ensures.flows,
+      old.6,
     )
 
 pub invariant_of-self-2 : goal.invariant_of-self-2
@@ -27,6 +28,7 @@ invariant_of-self-2 g c =
       record { are_knots = old.3.are_knots; are_ends = old.3.are_ends; is_kept = c.renew_marked.ensures.kept },
       c.renew_marked.ensures.lookups,
       flows_texted (net_of g.P.Primitive.behaviour c.self.inside.circuit) c.self.inside.knots c.renew_marked.new.kept c.stand_by.new.flows c.replace-over.new.dest c.stand_by.ensures.flows,
+      old.6,
     )
 
 pub invariant_of-self-in_err-standing : goal.invariant_of-self-in_err-standing
@@ -38,6 +40,7 @@ invariant_of-self-in_err-standing g c =
       record { are_knots = old.3.are_knots; are_ends = old.3.are_ends; is_kept = c.renew_marked.ensures.kept },
       c.renew_marked.ensures.lookups,
       c.stand_by.ensures.flows,
+      old.6,
     )
 
 pub stand_by-requires-clause-lists : goal.stand_by-requires-clause-lists

@@ -16,8 +16,8 @@ pub returns-in_err-settle_part-clause-exact : goal.returns-in_err-settle_part-cl
 returns-in_err-settle_part-clause-exact g c =
     let net : Net = net_of g.P.Primitive.behaviour c.args.circuit.now in
     let lt : c.loop-part.part < knot_count c.args.knots.now = omega arith in
-    passed_on c.from_residual-in_err-settle_part.result c.in_err-settle_part.field-0.0
-    (ArePlanned c.args.budget net c.args.knots.now c.args.turn (knot_count c.args.knots.now)) (IsPlanFault c.args.budget net) c.from_residual-in_err-settle_part.ensures
+    passed_on c.from_residual.result c.in_err-settle_part.field-0.0
+    (ArePlanned c.args.budget net c.args.knots.now c.args.turn (knot_count c.args.knots.now)) (IsPlanFault c.args.budget net) c.from_residual.ensures
     (least_over c.args.budget net c.args.knots.now c.requires.knots c.args.turn c.loop-part.part lt c.loop-part.rows c.loop-part.invariant.far.planned.planned c.in_err-settle_part.field-0.0 c.in_err-settle_part.ensures.exact)
 
 pub returns-in_err-settle_part-clause-ticks : goal.returns-in_err-settle_part-clause-ticks
@@ -33,16 +33,16 @@ loop-part-init g c =
     let to = c.next_to_settle-part.ensures in
     let next_in : next ≤ knot_count c.args.knots.now = omega (arith, to.in_range, c.requires.kept.sizes.one_each) in
     let forgotten = c.forget.ensures in
-    let first : AreSettledFar c.args.budget net c.args.knots.now c.args.turn c.args.kept.now c.replace-told.result 0 c.in_ok-rows.rows c.forget.new.self.flowing = record {
-      planned = planned_none c.args.budget net c.args.knots.now c.args.turn c.args.kept.now.rows c.in_ok-rows.rows (c.in_ok-rows.ensures ∙ c.rows.ensures) c.requires.kept.sizes.one_row;
-      listed = listed_none net c.args.knots.now c.args.kept.now c.replace-told.result c.in_ok-rows.rows c.args.self.now.flowing c.forget.new.self.flowing forgotten.flowing c.requires.lookups.one_list
+    let first : AreSettledFar c.args.budget net c.args.knots.now c.args.turn c.args.kept.now c.replace-told.result 0 c.args.list c.forget.new.self.flowing = record {
+      planned = planned_none c.args.budget net c.args.knots.now c.args.turn c.args.kept.now.rows c.args.list c.requires.list c.requires.kept.sizes.one_row;
+      listed = listed_none net c.args.knots.now c.args.kept.now c.replace-told.result c.args.list c.args.self.now.flowing c.forget.new.self.flowing forgotten.flowing c.requires.lookups.one_list
           (λ told. c.requires.lookups.flowing (sym c.replace-told.ensures.value ∙ told));
     } in
     let untold = forgotten.told ∙ c.replace-told.ensures.after in
     let steady = forgotten_steady net c.args.knots.now c.args.kept.now c.args.self.now c.replace-told.new.dest c.forget.new.self c.replace-told.ensures.after c.requires.lookups forgotten in
     record {
       in_range = next_in;
-      far = settled_next c.args.budget net c.known.ensures.wired c.args.knots.now c.requires.knots c.args.turn c.args.kept.now c.requires.kept c.replace-told.result c.in_ok-rows.rows c.forget.new.self.flowing 0 next next_in to first;
+      far = settled_next c.args.budget net c.known.ensures.wired c.args.knots.now c.requires.knots c.args.turn c.args.kept.now c.requires.kept c.replace-told.result c.args.list c.forget.new.self.flowing 0 next next_in to first;
       untold = untold;
       steady = record {
         orders = steady.orders;
@@ -96,7 +96,7 @@ settle_part-requires-clause-told g c = λ told settled.
     (c.loop-part.invariant.far.listed.rest told c.loop-part.part (omega arith) lt settled)
 
 pub returns-in_err-settle_part-clause-refused : goal.returns-in_err-settle_part-clause-refused
-returns-in_err-settle_part-clause-refused g c = refused_by c.from_residual-in_err-settle_part.result (λ later.
+returns-in_err-settle_part-clause-refused g c = refused_by c.from_residual.result (λ later.
     untold_is (net_of g.P.Primitive.behaviour c.args.circuit.now) c.args.knots.now later c.settle_part.new.self c.settle_part.ensures.steady (c.settle_part.ensures.listed.told ∙ c.loop-part.invariant.untold))
 
 pub returns-clause-lookups : goal.returns-clause-lookups

@@ -1,0 +1,5 @@
+use Rattle.std.proofs.Common.{◌∙◌, Bool, List, length, ap}
+use Rattle.reo_engine.proofs.goers.Goers.note.Goals as goal
+
+pub returns-clause-going : goal.returns-clause-going
+returns-clause-going c = rw c.copy_from.ensures at c.keep_where.ensures
