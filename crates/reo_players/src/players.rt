@@ -27,8 +27,8 @@ pub enum Want<'a> {
 }
 
 /// All components in a run, in the order of their script. Their marks are kept, so that those to
-/// which nothing is to be done are passed over; and of each port the component that came there last,
-/// which is looked at first.
+/// which nothing is to be done are passed over; and of each port the component that came there
+/// last, which is looked at first.
 #[derive(Drop)]
 pub struct Players {
     players: List<Player>,
@@ -124,8 +124,8 @@ impl Players {
     }
 
     /// The least place from `from` on whose component is not idle, or the number of components if
-    /// there is none. Idle is one that is done, or whose present action has no bound and a round has
-    /// seen it.
+    /// there is none. Idle is one that is done, or whose present action has no bound and a round
+    /// has seen it.
     pub fn next_awake(&self, from: usize) -> usize
         ensures { IsNextAwake self.now from result }
     {
@@ -135,7 +135,8 @@ impl Players {
     /// Whether a component's present action names a port.
     fn names(&self, component: usize, port: usize) -> bool
         requires { component < length self.now }
-        ensures { let named = option_and_then port_of_task (present (player_of self.now component)) in
+        ensures { let task = present (player_of self.now component) in
+            let named = option_and_then port_of_task task in
             result ≡ option_map_or (λ n. n == port) named false }
     {
         match self.players.at(component).port() {
@@ -195,8 +196,8 @@ impl Players {
         self.marks.put(component, mark);
     }
 
-    /// Lets a component whose present action names a port be as if no round had seen that action, so
-    /// that it is not idle. Where there is none, nothing happens.
+    /// Lets a component whose present action names a port be as if no round had seen that action,
+    /// so that it is not idle. Where there is none, nothing happens.
     pub fn rouse_at(&mut self, port: usize)
         ensures { HasRoused port self.old self.new }
     {
