@@ -1,7 +1,8 @@
 //! First colourings of circuits that grow: a line of the input names a kind of circuit and its
 //! size, which of its ports offer, and how many times the first colouring of its first part is
-//! made. Behind the line stand the rows of its sides. The time of a run, less that of one with
-//! fewer times, is that of first colourings alone.
+//! made, by values or, where the line ends with `marks`, by marks. Behind the line stand the rows
+//! of its sides. The time of a run, less that of one with fewer times, is that of first colourings
+//! alone.
 #![tactic(auto)]
 
 ghost use Rattle.std.specs.Prelude.{◌≡◌, ◌<◌};
@@ -9,22 +10,24 @@ ghost use Rattle.std.specs.Prelude.{◌≡◌, ◌<◌};
 mod circuits;
 mod colourings;
 mod lines;
+mod marks;
 mod offers;
 mod shown;
 mod texts;
 
 use crate::circuits::circuit_of;
 use crate::colourings::colour;
-use crate::lines::{Request, request_of};
+use crate::lines::{By, Request, request_of};
+use crate::marks::colour_by_marks;
 use crate::offers::offer_all;
 use crate::shown::show_rows;
 use crate::texts::text_of;
 use reo_kinds::Kind;
 use reo_knots::find_knots;
 use reo_net_circuit::Circuit;
-use reo_search::{Part, SearchFault};
+use reo_search::SearchFault;
 use reo_steps::Steps;
-use reo_values::NoMemory;
+use reo_values::{List, NoMemory};
 use std::alloc::Global;
 use std::io;
 use std::marker::Brand;
@@ -45,41 +48,52 @@ fn circuit_for(alloc: Global, request: Request<'_>) -> Result<Option<Circuit<Kin
     }
 }
 
-/// The first colouring of the first part, made so many times, if there is a part.
-fn first_part<L: Ledger>(
+/// The rows of the first colouring of the first part, made so many times by a search, if there is a
+/// part, and the search tells them.
+fn first_rows<L: Ledger>(
     alloc: Global,
     circuit: &Circuit<Kind>,
     times: u32,
+    by: By,
     steps: &mut Steps<L>,
-) -> Result<Option<Part>, SearchFault> {
+) -> Result<Option<List<u32>>, SearchFault> {
     let knots = find_knots(alloc, circuit)?;
     if knots.count() == 0 {
         return Ok(None);
     }
-    let part = colour(alloc, circuit, &knots, 0, times, steps)?;
-    Ok(Some(part))
+    match by {
+        By::Marks => Ok(colour_by_marks(alloc, circuit, &knots, 0, times)?),
+        By::Values => {
+            let part = colour(alloc, circuit, &knots, 0, times, steps)?;
+            Ok(Some(part.rows))
+        }
+    }
 }
 
-/// The first colouring that a line asks for, if it asks for one.
-fn part_for<L: Ledger>(
+/// The rows of the first colouring that a line asks for, if it asks for one.
+fn rows_for<L: Ledger>(
     alloc: Global,
     line: &str,
     steps: &mut Steps<L>,
-) -> Result<Option<Part>, SearchFault> {
+) -> Result<Option<List<u32>>, SearchFault> {
     let Some(request) = request_of(line) else {
         return Ok(None);
     };
     match circuit_for(alloc, request)? {
         None => Ok(None),
-        Some(circuit) => first_part(alloc, &circuit, request.times, steps),
+        Some(circuit) => first_rows(alloc, &circuit, request.times, request.by, steps),
     }
 }
 
 /// Shows what a line gives behind it.
-fn show(rt: &HostRuntime, line: &str, found: Result<Option<Part>, SearchFault>) -> io::Result<()> {
+fn show(
+    rt: &HostRuntime,
+    line: &str,
+    found: Result<Option<List<u32>>, SearchFault>,
+) -> io::Result<()> {
     print!(rt; "{line}:")?;
     match found {
-        Ok(Some(part)) => show_rows(rt, part.rows.as_slice()),
+        Ok(Some(rows)) => show_rows(rt, rows.as_slice()),
         Ok(None) => println!(rt; " nothing to colour"),
         Err(fault) => println!(rt; " {fault:?}"),
     }
@@ -94,7 +108,7 @@ fn answer_all<L: Ledger>(rt: &HostRuntime, blank: Blank) -> io::Result<()>
     let mut steps = Steps::<L>::new(blank);
     for line in rt.lines(rt.alloc()) {
         let line = line?;
-        let found = part_for(rt.alloc(), line.as_str(), &mut steps);
+        let found = rows_for(rt.alloc(), line.as_str(), &mut steps);
         show(rt, line.as_str(), found)?;
     }
     Ok(())
