@@ -30,7 +30,7 @@ abbrev pub IsDeclined : ℕ → Offer → Session → Session → OfferFault →
 IsDeclined port offer s t fault = IsOfferFault (states_of s.connector) s.connector.circuit.ports port offer fault × (t ≡ s)
 
 -- What offering does.
-abbrev pub Offers : ℕ → Offer → Session → Session → Status → Type 0
+unfoldable pub Offers : ℕ → Offer → Session → Session → Status → Type 0
 Offers port offer s t statuses.Done = IsTakenAt (states_of s.connector) s.connector.circuit.ports port offer × (t ≡ with_offer s port offer)
 Offers port offer s t statuses.NoPort = IsDeclined port offer s t faults.NoPort
 Offers port offer s t statuses.WrongWay = IsDeclined port offer s t faults.WrongWay
@@ -39,7 +39,7 @@ Offers port offer s t statuses.Outside = IsDeclined port offer s t faults.ItemOu
 Offers port offer s t _ = ⊥
 
 -- What offering to write the item of a text does.
-abbrev pub Writes : ℕ → List ℕ → Session → Session → Status → Type 0
+unfoldable pub Writes : ℕ → List ℕ → Session → Session → Status → Type 0
 Writes port text s t statuses.NoItem = ((item : Value) → HasText s.connector port text item → ⊥) × (t ≡ s)
 Writes port text s t statuses.NoMemory = t ≡ s
 Writes port text s t status = (item : Value) × HasText s.connector port text item × Offers port (Write item) s t status

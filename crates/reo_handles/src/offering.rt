@@ -13,6 +13,7 @@ use std::alloc::Global;
 
 impl Session {
     /// Makes an offer pending at a port.
+    #[tactic(auto, unfolding(crate::specs::Offers::Offers))]
     fn offer(&mut self, port: usize, offer: Offer) -> Status
         ensures { Offers port offer self.old self.new result }
     {
@@ -28,6 +29,7 @@ impl Session {
     }
 
     /// Offers to write the item of a text.
+    #[tactic(auto, unfolding(crate::specs::Offers::Offers, crate::specs::Offers::Writes))]
     fn write(&mut self, alloc: Global, port: usize, text: &[u8]) -> Status
         ensures { Writes port text.now self.old self.new result }
     {
