@@ -1,9 +1,9 @@
 -- The bytes that are kept, as cells come, are patched and are read.
 use Rattle.std.proofs.Common.{◌≡◌, ◌∙◌, ℕ, zero, suc, ◌+◌, ◌-◌, ◌*◌, ◌<◌, ◌≤◌, ◌&&◌, Bool, true, false, not, cond, List, [], ◌∷◌, ◌++◌, length, get_or, set, take, drop, replicate, ap, sym, refl, arith, add-one, append_assoc}
-use Rattle.std.specs.Prelude.{◌==◌, nat_le, codes}
+use Rattle.std.specs.Prelude.{◌==◌, if◌then◌else◌, nat_le, codes}
 use Rattle.std.specs.Fmt.{decimal}
 use Rattle.std.specs.List.{count_by}
-use Rattle.std.proofs.lemmas.Bool.{leb-false}
+use Rattle.std.proofs.lemmas.Bool.{leb-false, lt-leb, ne_eqb}
 use Rattle.std.proofs.lemmas.Fmt.{decimal_digit}
 use Rattle.std.proofs.lemmas.List.{drop-drop, get_or-drop, length-drop, take_all}
 use Rattle.std.proofs.lemmas.List.Sums.{sum_by-cons, sum_by-set}
@@ -50,6 +50,16 @@ one_byte code false false e h = decimal_digit code (leb-false 10 code e)
 
 pub narrow : (code : ℕ) → is_wide code ≡ false → code_text code ≡ cell_byte code ∷ []
 narrow code h = one_byte code (code == jam_code) (nat_le 10 code) refl h
+
+-- a code of one digit is not wide
+pub narrow_below : (code : ℕ) → code < 10 → is_wide code ≡ false
+narrow_below code lt = ap (λ (b : Bool). b && not (code == jam_code)) (lt-leb 10 code lt)
+
+-- the byte of such a code
+pub digit_byte : (code : ℕ) → code < 10 → 48 + code ≡ cell_byte code
+digit_byte code lt =
+    sym (ap (λ (b : Bool). if b then 106 else if nat_le 10 code then 0 else 48 + code) (ne_eqb code jam_code (λ same. omega (arith, same, lt)))
+    ∙ ap (λ (b : Bool). if b then 0 else 48 + code) (lt-leb 10 code lt))
 
 wide_one : (c : ℕ) (cs : List ℕ) (w : Bool) → is_wide c ≡ w → count_by is_wide (c ∷ cs) ≡ 0 → (is_wide c ≡ false) × (count_by is_wide cs ≡ 0)
 wide_one c cs true e h =

@@ -29,7 +29,7 @@ AreShown net rows cells = (s : ℕ) → s < side_count net → IsShown net rows 
 pub record IsBrought (told : ℕ → ℕ) (places : List ℕ) (n : ℕ) (old new : List ℕ) : Type 0 where
   pub one_each : length new ≡ length old
   pub brought : (m : ℕ) → m < n → slice_index new (slice_index places m) ≡ told (slice_index places m)
-  -- what was so stays so
+  -- where it was told already, it still is
   pub stay : (s : ℕ) → slice_index old s ≡ told s → slice_index new s ≡ told s
   pub others : (s : ℕ) → ((m : ℕ) → m < n → slice_index places m ≢ s) → slice_index new s ≡ slice_index old s
 
@@ -37,6 +37,6 @@ pub record IsBrought (told : ℕ → ℕ) (places : List ℕ) (n : ℕ) (old new
 abbrev pub AreBrought : Net → List ℕ → List ℕ → Cells → Cells → Type 0
 AreBrought net rows sides old new = IsBrought (code_at net rows) sides (length sides) old.shown new.shown
 
--- A list has become these rows at these sides, and has not changed at any other.
-abbrev pub AreWritten : List ℕ → List ℕ → List ℕ → List ℕ → Type 0
-AreWritten rows sides old new = IsBrought (slice_index rows) sides (length sides) old new
+-- A list has taken these rows at these sides, and has not changed at any other.
+abbrev pub HasTaken : List ℕ → List ℕ → List ℕ → List ℕ → Type 0
+HasTaken rows sides old new = IsBrought (slice_index rows) sides (length sides) old new

@@ -1,9 +1,10 @@
 //! Cells become those of other rows.
-ghost use Rattle.std.specs.Prelude.{◌≡◌, ◌<◌, ℕ, false, length, set, slice_index};
+ghost use Rattle.std.specs.Prelude.{◌≡◌, ◌+◌, ◌*◌, ◌<◌, ◌≤◌, ◌^◌, ℕ, true, false, cond, length, set, slice_index};
 ghost use Rattle.reo_net_base.specs.Net.{Net, net_of};
 ghost use Rattle.reo_net_base.specs.Sides.{AreRowsOf, side_count};
 ghost use Rattle.reo_net_laws.specs.Jams.{jams};
-ghost use Rattle.reo_cells.specs.Cells.{AreBrought, AreCells, AreWritten};
+ghost use Rattle.reo_cells.specs.Cells.{AreBrought, AreCells, HasTaken};
+ghost use Rattle.reo_cells.specs.Texts.{is_wide};
 
 use crate::Cells;
 use crate::code::{byte_of, code_of, is_wide};
@@ -12,6 +13,31 @@ use reo_net_circuit::Circuit;
 use reo_values::List;
 
 impl Cells {
+    /// Counts anew how many cells are wide, where one of a code becomes one of another.
+    fn recount(&mut self, was: u32, code: u32)
+        requires some { is_wide was ≡ true → 1 ≤ self.old.wide }
+        requires few { self.old.wide < 2 ^ 63 }
+        ensures counted { self.new.wide + cond (is_wide was) 1 0
+            ≡ self.old.wide + cond (is_wide code) 1 0 }
+        ensures stays { self.new ≡ record self.old { wide = self.new.wide } }
+    {
+        self.wide = self.wide + usize::from(is_wide(code)) - usize::from(is_wide(was));
+    }
+
+    /// Puts the code of a cell, and the byte that is kept of it, at a side.
+    fn put(&mut self, side: usize, code: u32, byte: u8)
+        requires side { side < length self.old.shown }
+        requires place { 2 * side + 1 < length self.old.text }
+        ensures { self.new ≡ record self.old {
+          shown = set self.old.shown side code;
+          text = set self.old.text (2 * side + 1) byte;
+        } }
+    {
+        let _bytes = self.text.len();
+        *self.shown.at_mut(side) = code;
+        *self.text.at_mut(2 * side + 1) = byte;
+    }
+
     /// Shows the cell of this code at a side.
     fn show(&mut self, side: usize, code: u32)
         requires cells { (net : Net) × AreCells net self.old }
@@ -23,14 +49,17 @@ impl Cells {
         if was == code {
             return;
         }
+        if code < 10 && was < 10 {
+            self.put(side, code, b'0' + code as u8);
+            return;
+        }
         let _bytes = self.text.len();
-        self.wide = self.wide + usize::from(is_wide(code)) - usize::from(is_wide(was));
-        *self.shown.at_mut(side) = code;
-        *self.text.at_mut(2 * side + 1) = byte_of(code);
+        self.recount(was, code);
+        self.put(side, code, byte_of(code));
     }
 
-    /// The cells of these sides become those of these rows, and a list gets these rows there. A cell
-    /// that is as it was costs no more than a look. This takes no memory.
+    /// The cells of these sides become those of these rows, and a list takes these rows there. A
+    /// cell that is as it was costs no more than a look. This takes no memory.
     pub fn bring<P: Primitive>(
         &mut self,
         circuit: &Circuit<P>,
@@ -46,7 +75,7 @@ impl Cells {
         ensures cells { AreCells (net_of P.behaviour circuit.now) self.new }
         ensures brought { AreBrought (net_of P.behaviour circuit.now) rows.now sides.now
             self.old self.new }
-        ensures written { AreWritten rows.now sides.now list.old list.new }
+        ensures written { HasTaken rows.now sides.now list.old list.new }
     {
         for index in 0..sides.len() {
             let side = sides[index];
@@ -56,8 +85,8 @@ impl Cells {
     }
 
     /// The cells of these sides, none of which has its jam row, become those of these rows, and a
-    /// list gets these rows there. A cell that is as it was costs no more than a look. This takes no
-    /// memory.
+    /// list takes these rows there. A cell that is as it was costs no more than a look. This takes
+    /// no memory.
     pub fn bring_plain<P: Primitive>(
         &mut self,
         circuit: &Circuit<P>,
@@ -75,7 +104,7 @@ impl Cells {
         ensures cells { AreCells (net_of P.behaviour circuit.now) self.new }
         ensures brought { AreBrought (net_of P.behaviour circuit.now) rows.now sides.now
             self.old self.new }
-        ensures written { AreWritten rows.now sides.now list.old list.new }
+        ensures written { HasTaken rows.now sides.now list.old list.new }
     {
         let _ = circuit;
         for index in 0..sides.len() {

@@ -4,7 +4,7 @@ ghost use Rattle.reo_net_base.specs.Net.{net_of};
 ghost use Rattle.reo_knots.specs.Knots.{AreKnots, knot_count};
 ghost use Rattle.reo_net_base.specs.Sides.{AreRowsOf, side_count};
 ghost use Rattle.reo_net_laws.specs.Jams.{jams};
-ghost use Rattle.reo_cells.specs.Cells.{AreBrought, AreCells, AreWritten};
+ghost use Rattle.reo_cells.specs.Cells.{AreBrought, AreCells, HasTaken};
 ghost use Rattle.reo_standing.specs.Feeds.{AreFeeds};
 ghost use Rattle.reo_standing.specs.Filling.{AreBlank, HaveColouring};
 ghost use Rattle.reo_engine.specs.Flows.{AreFlaggedShown, AreShownAt, AreWrittenAt, HasNoSheet, MayBeBlank, MayBeMarks, MayBeRows};
@@ -101,9 +101,9 @@ fn first_is_plain<P: Primitive>(circuit: &Circuit<P>, rows: &[u32], sides: &[usi
     !is_jammed(circuit, rows, sides[0])
 }
 
-/// Shows these rows at the sides of a part, and writes them there over those of a list. They jam the
-/// part as a whole, or no side of it, so one side is looked at for whether they do. This takes no
-/// memory.
+/// Shows these rows at the sides of a part, and writes them there over those of a list. They jam
+/// the part as a whole, or no side of it, so one side is looked at for whether they do. This takes
+/// no memory.
 fn show_part<P: Primitive>(
     circuit: &Circuit<P>,
     knots: &Knots,
@@ -122,7 +122,7 @@ fn show_part<P: Primitive>(
         let sides = slice_index_or knots.now.sides part [] in
         AreBrought net rows.now sides cells.old cells.new }
     ensures written { let sides = slice_index_or knots.now.sides part [] in
-        AreWritten rows.now sides list.old list.new }
+        HasTaken rows.now sides list.old list.new }
 {
     circuit.known();
     let sides = knots.sides(part);
@@ -133,8 +133,8 @@ fn show_part<P: Primitive>(
     }
 }
 
-/// Shows these rows at the sides of the parts that are not flagged, and writes them there over those
-/// of a list. This takes no memory.
+/// Shows these rows at the sides of the parts that are not flagged, and writes them there over
+/// those of a list. This takes no memory.
 pub(crate) fn show_rest<P: Primitive>(
     circuit: &Circuit<P>,
     knots: &Knots,

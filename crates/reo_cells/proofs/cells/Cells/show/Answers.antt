@@ -1,48 +1,55 @@
-use Rattle.std.proofs.Common.{◌≡◌, ◌∙◌, ◌+◌, ◌*◌, ◌≤◌, ℕ, Bool, true, false, List, ap, refl, arith, get_or, set, cond}
+use Rattle.std.proofs.Common.{◌≡◌, ◌∙◌, ◌+◌, ◌*◌, ◌<◌, ℕ, Bool, List, ap, refl, arith, sym, subst, get_or, set, cond, length}
 use Rattle.std.proofs.lemmas.List.{get_or_read, length-set}
 use Rattle.std.proofs.lemmas.List.Sums.{count_by-le-length}
-use Rattle.std.specs.Int.{from_bool}
+use Rattle.reo_net_base.specs.Net.{Net}
+use Rattle.reo_cells.specs.Cells.{AreCells}
+use Rattle.reo_cells.specs.declared.cells.Cells.{Cells}
 use Rattle.reo_cells.specs.Texts.{befores, cell_byte, is_wide}
-use Rattle.reo_cells.proofs.Kept.{kept-set, wide-set}
+use Rattle.reo_cells.proofs.Kept.{digit_byte, kept-set, narrow_below, wide-set}
 use Rattle.reo_cells.proofs.Laid.{bytes-length}
 use Rattle.reo_cells.proofs.cells.Cells.show.Goals as goal
 
-one-at-most : (b : Bool) → from_bool b ≤ 1
-one-at-most true = omega arith
-one-at-most false = omega arith
+-- Cells stay right where a code and its byte are put at a side, and the wide ones are counted as they are then.
+patched : (net : Net) (old : Cells) (side was code byte wide : ℕ) → side < length old.shown → was ≡ get_or old.shown side 0 → byte ≡ cell_byte code
+    → wide + cond (is_wide was) 1 0 ≡ old.wide + cond (is_wide code) 1 0 → AreCells net old
+    → AreCells net (record { shown = set old.shown side code; text = set old.text (2 * side + 1) byte; wide = wide })
+patched net old side was code byte wide lt read byte_is counted are =
+    let goes : cond {A = ℕ} (is_wide was) 1 0 ≡ cond {A = ℕ} (is_wide (get_or old.shown side 0)) 1 0 = ap (λ (n : ℕ). cond {A = ℕ} (is_wide n) 1 0) read in
+    let more = wide-set old.shown side code lt in
+    record {
+      one_each = length-set old.shown side code ∙ are.one_each;
+      bytes = ap (λ (b : ℕ). set old.text (2 * side + 1) b) byte_is ∙ ap (λ (xs : List ℕ). set xs (2 * side + 1) (cell_byte code)) are.bytes
+          ∙ kept-set (befores net) old.shown side (2 * side + 1) code (omega arith);
+      counted = omega (arith, more, goes, are.counted, counted);
+    }
 
-as_cond : (b : Bool) → from_bool b ≡ cond b 1 0
-as_cond true = refl
-as_cond false = refl
+pub put-requires-clause-place : goal.put-requires-clause-place
+put-requires-clause-place c = omega (arith, bytes-length c.requires.cells.0 c.args.self.now c.requires.cells.1, c.requires.side)
 
-pub overflow_add-self : goal.overflow_add-self
-overflow_add-self c =
+pub returns-then-was-lt10-clause-cells : goal.returns-then-was-lt10-clause-cells
+returns-then-was-lt10-clause-cells c = λ net are.
+    let now : Cells = c.args.self.now in
+    let narrow : is_wide c.args.code ≡ is_wide c.at-was.result.now = narrow_below c.args.code c.if-code-lt10.true ∙ sym (narrow_below c.at-was.result.now c.if-was-lt10.true) in
+    subst (AreCells net) (sym c.put.ensures)
+    (patched net now c.args.side c.at-was.result.now c.args.code (48 + c.args.code) now.wide c.requires.side
+    (get_or_read now.shown c.args.side c.at-was.result.now c.requires.side c.at-was.ensures 0)
+    (digit_byte c.args.code c.if-code-lt10.true) (ap (λ (b : Bool). now.wide + cond {A = ℕ} b 1 0) (sym narrow)) are)
+
+pub recount-requires-clause-few : goal.recount-requires-clause-few
+recount-requires-clause-few c =
     let now = c.args.self.now in
     let are = c.requires.cells.1 in
-    let len = bytes-length c.requires.cells.0 now are in
-    omega (arith, c.from.ensures, one-at-most c.is_wide.result, len, c.len-bytes.ensures, are.counted, count_by-le-length is_wide now.shown)
+    omega (arith, bytes-length c.requires.cells.0 now are, c.len-bytes.ensures, c.len-bytes.type_inv, are.counted, count_by-le-length is_wide now.shown)
 
-pub overflow_mul-side : goal.overflow_mul-side
-overflow_mul-side c = omega (arith, bytes-length c.requires.cells.0 c.args.self.now c.requires.cells.1, c.len-bytes.ensures, c.requires.side)
-
-pub overflow_add-side : goal.overflow_add-side
-overflow_add-side c = omega (arith, bytes-length c.requires.cells.0 c.args.self.now c.requires.cells.1, c.len-bytes.ensures, c.requires.side)
-
-pub at_mut-requires-2 : goal.at_mut-requires-2
-at_mut-requires-2 c = omega (arith, bytes-length c.requires.cells.0 c.args.self.now c.requires.cells.1, c.requires.side)
+pub put-requires-2-clause-place : goal.put-requires-2-clause-place
+put-requires-2-clause-place c = rw c.recount.ensures.stays (omega (arith, bytes-length c.requires.cells.0 c.args.self.now c.requires.cells.1, c.requires.side))
 
 pub returns-clause-cells : goal.returns-clause-cells
 returns-clause-cells c = λ net are.
-    let now = c.args.self.now in
-    let side : ℕ = c.args.side in
-    let read : c.at-was.result.now ≡ get_or now.shown side 0 = get_or_read now.shown side c.at-was.result.now c.requires.side c.at-was.ensures 0 in
-    let comes : c.from.result ≡ cond (is_wide c.args.code) 1 0 = c.from.ensures ∙ as_cond c.is_wide.result ∙ ap (λ (b : Bool). cond b 1 0) c.is_wide.ensures in
-    let goes : c.from-2.result ≡ cond (is_wide (get_or now.shown side 0)) 1 0 =
-    c.from-2.ensures ∙ as_cond c.is_wide-2.result ∙ ap (λ (b : Bool). cond b 1 0) (c.is_wide-2.ensures ∙ ap is_wide read) in
-    let counted = wide-set now.shown side c.args.code c.requires.side in
-    record {
-      one_each = length-set now.shown side c.args.code ∙ are.one_each;
-      bytes = ap (λ (byte : ℕ). set now.text (2 * side + 1) byte) c.byte_of.ensures ∙ ap (λ (xs : List ℕ). set xs (2 * side + 1) (cell_byte c.args.code)) are.bytes
-          ∙ kept-set (befores net) now.shown side (2 * side + 1) c.args.code (omega arith);
-      counted = omega (arith, counted, comes, goes, are.counted);
-    }
+    let now : Cells = c.args.self.now in
+    let put : c.put-2.new.self ≡ record { shown = set now.shown c.args.side c.args.code; text = set now.text (2 * c.args.side + 1) c.byte_of.result; wide = c.recount.new.self.wide } =
+    c.put-2.ensures ∙ ap (λ (x : Cells). record { shown = set x.shown c.args.side c.args.code; text = set x.text (2 * c.args.side + 1) c.byte_of.result; wide = x.wide }) c.recount.ensures.stays in
+    subst (AreCells net) (sym put)
+    (patched net now c.args.side c.at-was.result.now c.args.code c.byte_of.result c.recount.new.self.wide c.requires.side
+    (get_or_read now.shown c.args.side c.at-was.result.now c.requires.side c.at-was.ensures 0)
+    c.byte_of.ensures c.recount.ensures.counted are)
