@@ -53,7 +53,7 @@ pub record AreNew (count : ℕ) (parts : List PartPlans) : Type 0 where
   pub one_each : length parts ≡ count
   pub none : (k : ℕ) (d : PartPlans) → k < count → (slice_index_or parts k d).entries ≡ []
 
--- The rows of an entry were written down at some sides, and its joints that flow.
+-- The rows of an entry were written down at some sides, whatever rows these are of, and its joints that flow.
 pub record IsWrittenDown (entry : Entry) (sides old new flowing : List ℕ) : Type 0 where
   pub written : (from : List ℕ) → entry.rows ≡ part_rows sides from → AreWritten sides from old new
   pub flowing_is : flowing ≡ entry.flowing

@@ -1,5 +1,5 @@
 //! Rows that are remembered by a key.
-ghost use Rattle.std.specs.Prelude.{◌≡◌, ◌<◌, ◌≤◌, ℕ, IfOk, IsTrue, OnOk, length, slice_index};
+ghost use Rattle.std.specs.Prelude.{◌≡◌, ◌<◌, ◌≤◌, ℕ, [], IfOk, IsTrue, OnOk, length, slice_index};
 ghost use Rattle.reo_net_laws.specs.Sublists.{part_rows};
 ghost use Rattle.reo_part_plans.specs.Remembered.{IsWrittenDown};
 
@@ -50,12 +50,22 @@ impl Entry {
     }
 }
 
+/// An empty list with room for so many. `NoMemory` is out of memory.
+pub(crate) fn with_room<T>(alloc: Global, count: usize) -> Result<List<T>, NoMemory>
+    ensures { IfOk result (λ made. made ≡ []) }
+{
+    match Vec::with_capacity(alloc, count) {
+        Ok(made) => Ok(List::from_vec(made)),
+        Err(_) => Err(NoMemory),
+    }
+}
+
 /// The rows at some sides. `NoMemory` is out of memory.
 pub(crate) fn rows_at(alloc: Global, sides: &[usize], rows: &[u32]) -> Result<List<u32>, NoMemory>
     requires { (m : ℕ) → m < length sides.now → slice_index sides.now m < length rows.now }
     ensures { IfOk result (λ made. made ≡ part_rows sides.now rows.now) }
 {
-    let mut made = List::new(alloc);
+    let mut made = with_room(alloc, sides.len())?;
     for index in 0..sides.len() {
         made.push(rows[sides[index]])?;
     }

@@ -9,7 +9,7 @@ ghost use Rattle.reo_still.specs.Joining.{HasFirst};
 ghost use Rattle.reo_planning.specs.Planned.{IsPartPlanned};
 ghost use Rattle.reo_part_plans.specs.Remembered.{AreNew, ArePlans, IsFoundAt, IsRecalled, StayOrGo};
 
-use crate::entry::{Entry, rows_at};
+use crate::entry::{Entry, rows_at, with_room};
 use crate::given::{are_given, deciding};
 use crate::looks::{Look, is_key, look_at_all};
 use crate::searching::find;
@@ -28,7 +28,7 @@ const MOST: usize = 256;
 const ROOM: usize = 65_536;
 
 /// How many times more nothing may be found of a part than something, before it rests.
-const TRIES: u32 = 192;
+const TRIES: u32 = 176;
 
 /// How many times a part that rests is asked for, before it begins again.
 const REST: u32 = 4_096;
@@ -327,13 +327,13 @@ impl Plans {
             return Ok(());
         };
         let size = sides.len().saturating_add(items.len());
-        let mut key = List::new(alloc);
+        let mut key = with_room(alloc, sides.len())?;
         if !look_at_all(circuit, sides, turn, &mut key)? {
             self.parts.at_mut(part).rest();
             return Ok(());
         }
         let rows = rows_at(alloc, sides, rows)?;
-        let mut joints = List::new(alloc);
+        let mut joints = with_room(alloc, flowing.len())?;
         copy_over(&mut joints, flowing)?;
         let entry = Entry {
             key,

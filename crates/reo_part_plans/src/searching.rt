@@ -47,7 +47,10 @@ fn find_among<P: Primitive>(
 {
     for place in from..to {
         let entry = entries.at(place);
-        if are_given(circuit, sides, entry.items.as_slice()) && is_same(entry.key.as_slice(), key) {
+        let items = entry.items.as_slice();
+        if (items.len() == 0 || are_given(circuit, sides, items))
+            && is_same(entry.key.as_slice(), key)
+        {
             return Some(place);
         }
     }
