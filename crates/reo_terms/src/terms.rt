@@ -47,7 +47,8 @@ fn one(alloc: Global, start: u32, operator: Unary, inner: Term) -> Result<Opened
     ensures ok { IfOk result (λ r. r ≡ applied start operator inner) }
     ensures err { OnErr result (result ≡ Err halts.NoMemory) }
 {
-    let form = TermForm::One(operator, Boxed::new(alloc, inner)?);
+    let inner = Boxed::new(alloc, inner)?;
+    let form = TermForm::One(operator, inner);
     Ok(Opened {
         start,
         term: Term { line: start, form },
