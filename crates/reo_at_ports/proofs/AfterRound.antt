@@ -34,6 +34,7 @@ use Rattle.reo_at_ports.specs.Pending.{pending_at}
 use Rattle.reo_at_ports.specs.Between.{AreStarted, AreStepped, AreMoved, is_gone, gone_on}
 use Rattle.reo_at_ports.proofs.AtPorts.{in_range}
 use Rattle.reo_at_ports.proofs.Offered.{gives}
+use Rattle.reo_move_laws.proofs.Flows.{flow_is as flows}
 
 -- Lists by functions that agree on each item.
 map_same : {X Y : Type 0} (f g : X → Y) (xs : List X) → ((i : ℕ) (x : X) → slice_get xs i ≡ Some x → f x ≡ g x) → map f xs ≡ map g xs
@@ -115,12 +116,6 @@ at_has : (moves : List Move) (k : ℕ) (move : Move) → slice_get moves k ≡ S
 at_has [] k move is = absurd (cc)
 at_has (m ∷ ms) zero move is = inl cc
 at_has (m ∷ ms) (suc k) move is = inr (at_has ms k move is)
-
-flows : (m : Mark) → is_flow m ≡ true → m ≡ F
-flows F is = refl
-flows G is = absurd (cc)
-flows R is = absurd (cc)
-flows J is = absurd (cc)
 
 gone_flows : (flowing : Bool) (o : Offer) → cond flowing None (Some o) ≡ None → flowing ≡ true
 gone_flows true o is = refl

@@ -52,6 +52,7 @@ use Rattle.reo_engine.specs.Flows.{AreFlows, AreKeptShown, AreFlaggedShown, AreS
 use Rattle.reo_engine.specs.Resting.{part_of}
 use Rattle.reo_engine.specs.Stood.{AreRenewed}
 use Rattle.reo_engine.proofs.Resting.{in_own}
+use Rattle.reo_joint_values.proofs.Choosing.{true_or_false as yes_or_no}
 
 -- The code of a cell, by its row and how many rows its side has.
 abbrev code_by : ℕ → ℕ → ℕ
@@ -98,10 +99,6 @@ flows_stay net other knots old new fewer is flows are = record {
   shown = λ h. shown_stay net other knots old new fewer is flows.cells (are.shown h);
   feeds = feeds_same net other is.joints is.shapes flows.feeds are.feeds;
 }
-
-yes_or_no : (b : Bool) → (b ≡ true) ⊎ (b ≡ false)
-yes_or_no true = inl (λ i. true)
-yes_or_no false = inr (λ i. false)
 
 -- Rows that come in place of those that were kept, all parts settled.
 module _ (net : Net) (wired : IsWired net) (order : List ℕ) (is_order : IsOrder net order) (knots : Knotted) (are : AreKnots net knots) (turn : ℕ) (old new : Kept)

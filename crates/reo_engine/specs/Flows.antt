@@ -39,7 +39,7 @@ pub record HasNoSheet (old new : Flows) : Type 0 where
   pub shown : new.shown ≡ old.shown
   pub feeds : new.feeds ≡ old.feeds
 
--- Of so many parts those are flagged that are settled, or none where such are not shown.
+-- Of so many parts only those are flagged that are settled, and none where such are not shown.
 pub record AreFlaggedShown (shown : Bool) (kept : Kept) (parts : ℕ) (flags : List Bool) : Type 0 where
   pub one_each : length flags ≡ parts
   pub each : (k : ℕ) → slice_index_or flags k false ≡ true → (shown ≡ true) × (is_settled kept k ≡ true)
@@ -55,7 +55,7 @@ abbrev pub AreShownAt : Net → Knotted → List ℕ → List Bool → ℕ → C
 AreShownAt net knots rows flags n old new =
     AreDoneAt net knots flags n (λ s. IsShown net rows s new) (λ s. slice_index new.shown s ≡ slice_index old.shown s)
 
--- A list has some rows at each such side, and at all others what it had.
+-- A list has some rows at each such side, and what it had at the sides of parts that are flagged.
 pub record AreWrittenAt (net : Net) (knots : Knotted) (rows : List ℕ) (flags : List Bool) (n : ℕ) (old new : List ℕ) : Type 0 where
   pub one_each : length new ≡ length old
   pub at : AreDoneAt net knots flags n (λ s. slice_index new s ≡ slice_index rows s) (λ s. slice_index new s ≡ slice_index old s)

@@ -24,11 +24,12 @@ use std::marker::Model;
 /// something flowed in it, and the ports at which an offer came or went since. All others stand as
 /// they stood.
 ///
-/// And it keeps the rows of parts that `prepare` looked at, as long as nothing in them changes:
-/// such a part is settled, and is not looked at again. A knot of the circuit is a part. Where each
-/// row of a part lets each item in, its rows are remembered as well by its state, and serve again
-/// in each round in which it comes back to that state. The tables of the search are kept too: what
-/// they have of a part is made anew only where it is searched.
+/// And it keeps the rows of parts that were looked at, as long as nothing in them changes:
+/// such a part is settled, and is not looked at again. A knot of the circuit is a part. The rows of
+/// a part are remembered as well by its state, and, where some row does not let each item in, by
+/// the items that the state gives; they serve again in each round in which it comes back to these.
+/// The tables of the search are kept too: what they have of a part is made anew only where it is
+/// searched.
 #[derive(Drop)]
 pub struct Engine<P: Ported> {
     pub(crate) circuit: Circuit<P>,

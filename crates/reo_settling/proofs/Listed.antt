@@ -27,6 +27,7 @@ use Rattle.reo_planning.proofs.Elsewhere.{mark_is}
 use Rattle.reo_part_plans.proofs.Recalled.{same_shapes}
 use Rattle.reo_settling.specs.declared.lookups.Lookups.{Lookups}
 use Rattle.reo_settling.specs.Lookups.{AreListed, AreToldFor, IsListedAt}
+pub use Rattle.reo_kept_tables.proofs.Renewed.{on_ok as map_ok}
 
 -- The joints that flow in a part are the same by rows that are the same there.
 pub flowing_same : (net : Net) → IsWired net → (inside : ℕ → Bool) (rows others : List ℕ) → ((s : ℕ) → s < side_count net → inside s ≡ true → get_or others s 0 ≡ get_or rows s 0)
@@ -120,10 +121,6 @@ listed_after part old mid new first second = record {
   one_each = second.one_each ∙ first.one_each;
   others = λ k ne. second.others k ne ∙ first.others k ne;
 }
-
-pub map_ok : {X E A B : Type 0} (r : Result X E) → OnOk r A → (A → B) → OnOk r B
-map_ok (Ok x) a f = f a
-map_ok (Err e) a f = tt
 
 -- The joints of a part that flow, as its list says.
 pub flowing_listed : (net : Net) (knots : Knotted) (orders : List (List ℕ)) → AreOrders net knots orders → (k : ℕ) → k < knot_count knots → (rows joints list : List ℕ) → joints ≡ get_or orders k [] → list ≡ flowing_of net rows joints
