@@ -16,7 +16,6 @@ use reo_engine::Engine;
 use reo_net_base::{Offer, Ported, Ports};
 use reo_players::{Players, Want, offers_agree};
 use reo_values::{NoMemory, copy};
-use std::alloc::Global;
 
 /// Makes an offer pending that its port takes.
 fn place<P: Ported>(engine: &mut Engine<P>, port: usize, offer: Offer)
@@ -63,10 +62,9 @@ fn place_fresh<P: Ported>(
     place(engine, port, offer);
 }
 
-/// Offers what a component wants whose present action no round has seen. `NoMemory` is out of
-/// memory.
+/// Offers what a component wants whose present action no round has seen. This takes no memory:
+/// `NoMemory` means that more share its item than can be counted.
 fn offer_fresh<P: Ported>(
-    alloc: Global,
     engine: &mut Engine<P>,
     ports: &Ports,
     players: &Players,
@@ -86,7 +84,7 @@ fn offer_fresh<P: Ported>(
     ensures rounds { engine.new.rounds ≡ engine.old.rounds }
 {
     let (port, offer) = match players.wants(component) {
-        Want::Write { port, item } => (port, Offer::Write(copy(alloc, item)?)),
+        Want::Write { port, item } => (port, Offer::Write(copy(item)?)),
         Want::Take { port } => (port, Offer::Take),
         Want::Rest => return Ok(()),
         Want::Done => return Ok(()),
@@ -96,9 +94,9 @@ fn offer_fresh<P: Ported>(
 }
 
 /// Offers at the ports what the components want: those offers that no round has seen yet come to
-/// those that are pending. `NoMemory` is out of memory.
+/// those that are pending. This takes no memory: `NoMemory` means that more share an item than can
+/// be counted.
 pub fn offer_all<P: Ported>(
-    alloc: Global,
     engine: &mut Engine<P>,
     ports: &Ports,
     players: &Players,
@@ -117,7 +115,7 @@ pub fn offer_all<P: Ported>(
     let mut component = players.next_awake(0);
     while component < players.count() {
         if players.fresh(component) {
-            offer_fresh(alloc, engine, ports, players, component)?;
+            offer_fresh(engine, ports, players, component)?;
         }
         component = players.next_awake(component + 1);
     }

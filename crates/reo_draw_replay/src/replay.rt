@@ -115,7 +115,7 @@ fn replay_round(
         OnOk result (AreBetween ports.now.list new.ports players.new states) }
     ensures rounds { OnOk result (engine.new.rounds ≡ engine.old.rounds + 1) }
 {
-    offer_all(alloc, engine, ports, players)?;
+    offer_all(engine, ports, players)?;
     let circuit = engine.circuit();
     let plan = plan_of(alloc, circuit, line)?;
     let colouring = &plan.colouring;

@@ -20,7 +20,7 @@ pub fn append_item(alloc: Global, text: &mut Bytes, item: &Value) -> Result<(), 
             text.append(b"#")?;
             append_place(alloc, text, *place as usize)
         }
-        Value::Text(bytes) => append_quoted(text, bytes.as_slice()),
+        Value::Text(bytes) => append_quoted(text, bytes.get().as_slice()),
         Value::Pair(couple) => {
             let couple = couple.get();
             text.append(b"(")?;

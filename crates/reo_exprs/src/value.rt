@@ -6,7 +6,7 @@ ghost use Rattle.reo_exprs.specs.Valued.{truth, value_of_expr};
 
 use crate::Expr;
 use crate::view::{View, is_item, truth, view_of};
-use reo_values::{Boxed, Bytes, Couple, Kindred, NoMemory, Value, copy};
+use reo_values::{Bytes, Couple, Kindred, NoMemory, Shared, Value, copy};
 use std::alloc::Global;
 
 /// The value of an expression on an item. `NoMemory` means out of memory.
@@ -20,12 +20,16 @@ pub fn value_of(alloc: Global, expr: &Expr, of: &Kindred, item: &Value) -> Resul
         View::Bool(truth) => Ok(Value::Bool(truth)),
         View::Int(number) => Ok(Value::Int(number)),
         View::Sym(place) => Ok(Value::Sym(place)),
-        View::Text(bytes) => Ok(Value::Text(Bytes::from_slice(alloc, bytes)?)),
-        View::Item(part) => copy(alloc, part),
+        View::Text(bytes) => {
+            let text = Bytes::from_slice(alloc, bytes)?;
+            Ok(Value::Text(Shared::new(alloc, text)?))
+        }
+        View::Item(part) => copy(part),
         View::Pair(pair) => {
             let left = value_of(alloc, &pair.left, of, item)?;
             let right = value_of(alloc, &pair.right, of, item)?;
-            Ok(Value::Pair(Boxed::new(alloc, Couple { left, right })?))
+            let couple = Shared::new(alloc, Couple { left, right })?;
+            Ok(Value::Pair(couple))
         }
     }
 }

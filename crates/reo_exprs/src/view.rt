@@ -55,7 +55,7 @@ fn length(view: &View<'_>, item: &Value) -> i64
 {
     match view {
         View::Text(bytes) => bytes.len() as i64,
-        View::Item(Value::Text(bytes)) => bytes.as_slice().len() as i64,
+        View::Item(Value::Text(text)) => text.get().as_slice().len() as i64,
         _ => 0,
     }
 }
@@ -215,7 +215,7 @@ pub fn is_item(x: View<'_>, value: &Value, of: &Kindred, item: &Value) -> bool
         (View::Bool(a), Value::Bool(b)) => a == *b,
         (View::Int(a), Value::Int(b)) => a == *b,
         (View::Sym(a), Value::Sym(b)) => a == *b,
-        (View::Text(a), Value::Text(b)) => a == b.as_slice(),
+        (View::Text(a), Value::Text(b)) => a == b.get().as_slice(),
         (View::Pair(pair), Value::Pair(couple)) => {
             let couple = couple.get();
             is_item(view_of(&pair.left, of, item), &couple.left, of, item)

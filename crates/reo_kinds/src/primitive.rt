@@ -90,7 +90,7 @@ impl Primitive for Kind {
         taken: Option<&Value>,
     ) -> Result<Value, NoMemory> {
         match given_by(self, taken) {
-            Given::Same(item) => copy(alloc, item),
+            Given::Same(item) => copy(item),
             Given::Image(map, item) => rule::image(alloc, map, item),
             Given::Nothing => unreachable!(),
         }

@@ -5,7 +5,7 @@ ghost use Rattle.reo_values.specs.Kind.{is_plain};
 ghost use Rattle.reo_literals.specs.Items.{item_in, item_of, items_of, HasFewNames};
 
 use reo_trees::{Constant, Literal};
-use reo_values::{Boxed, Bytes, Couple, Kindred, List, NoMemory, Value};
+use reo_values::{Bytes, Couple, Kindred, List, NoMemory, Shared, Value};
 use std::alloc::Global;
 
 /// Whether all bytes are from the space to the tilde.
@@ -70,13 +70,17 @@ fn made_in(alloc: Global, kindred: &Kindred, constant: &Constant) -> Result<Valu
         Constant::Bool(truth) => Ok(Value::Bool(*truth)),
         Constant::Int(number) => Ok(Value::Int(*number)),
         Constant::Name(name) => Ok(symbol_in(kindred, name)),
-        Constant::Text(bytes) => Ok(Value::Text(bytes.copy(alloc)?)),
+        Constant::Text(bytes) => {
+            let text = bytes.copy(alloc)?;
+            Ok(Value::Text(Shared::new(alloc, text)?))
+        }
         Constant::Pair(x) => match kindred {
             Kindred::Pair(y) => {
                 let (x, y) = (x.get(), y.get());
                 let left = made_in(alloc, &y.left, &x.left.constant)?;
                 let right = made_in(alloc, &y.right, &x.right.constant)?;
-                Ok(Value::Pair(Boxed::new(alloc, Couple { left, right })?))
+                let couple = Shared::new(alloc, Couple { left, right })?;
+                Ok(Value::Pair(couple))
             }
             _ => unreachable!(),
         },

@@ -18,7 +18,6 @@ fn item_of(items: &[Option<Value>], place: usize) -> Option<&Value>
 
 /// Adds what flows at a port.
 fn add_move<P: Primitive>(
-    alloc: Global,
     moves: &mut List<Move>,
     circuit: &Circuit<P>,
     colouring: &Colouring,
@@ -40,7 +39,7 @@ fn add_move<P: Primitive>(
     if mark.is_flow() {
         let found = item_of(colouring.items.as_slice(), circuit.port_joint(port));
         if let Some(value) = found {
-            let item = copy(alloc, value)?;
+            let item = copy(value)?;
             moves.push(Move { port, item })?;
         }
     }
@@ -60,7 +59,7 @@ pub fn moves<P: Primitive>(
 {
     let mut moves = List::new(alloc);
     for port in 0..circuit.ports() {
-        add_move(alloc, &mut moves, circuit, colouring, port)?;
+        add_move(&mut moves, circuit, colouring, port)?;
     }
     Ok(moves)
 }

@@ -7,7 +7,7 @@ use reo_trace::{
     Cell, Ending, Entry, RoundLine, WriteFault, ending_line_text, round_line_text, write_ending,
     write_round,
 };
-use reo_values::{Bytes, Kindred, List, NoMemory, Value};
+use reo_values::{Bytes, Kindred, List, NoMemory, Shared, Value};
 use std::alloc::Global;
 use std::test::Fail;
 
@@ -37,7 +37,10 @@ enum Item {
 fn made(alloc: Global, item: Item) -> Result<Value, NoMemory> {
     match item {
         Item::Number(number) => Ok(Value::Int(number)),
-        Item::Text(text) => Ok(Value::Text(Bytes::from_slice(alloc, text.as_bytes())?)),
+        Item::Text(text) => {
+            let bytes = Bytes::from_slice(alloc, text.as_bytes())?;
+            Ok(Value::Text(Shared::new(alloc, bytes)?))
+        }
     }
 }
 

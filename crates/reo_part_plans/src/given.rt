@@ -40,11 +40,7 @@ fn gives_nothing<P: Primitive>(primitive: &P, side: usize) -> bool
 
 /// What the state alone gives at a side, an item or none. The outer `None` says that it is not
 /// told. `NoMemory` is out of memory.
-fn item_at<P: Primitive>(
-    alloc: Global,
-    primitive: &P,
-    side: usize,
-) -> Result<Option<Option<Value>>, NoMemory>
+fn item_at<P: Primitive>(primitive: &P, side: usize) -> Result<Option<Option<Value>>, NoMemory>
     requires { side < (P.behaviour primitive.now).sides }
     ensures { IfOk result (λ told. IfSome told (GivesAlone (P.behaviour primitive.now) side)) }
 {
@@ -53,7 +49,7 @@ fn item_at<P: Primitive>(
     }
     match primitive.front() {
         None => Ok(None),
-        Some(item) => Ok(Some(Some(copy(alloc, item)?))),
+        Some(item) => Ok(Some(Some(copy(item)?))),
     }
 }
 
@@ -73,7 +69,7 @@ fn items_at<P: Primitive>(
     for index in 0..sides.len() {
         let owner = circuit.owner(sides[index]);
         let primitive = circuit.primitive(owner.primitive);
-        match item_at(alloc, primitive, owner.side)? {
+        match item_at(primitive, owner.side)? {
             None => return Ok(None),
             Some(item) => items.push(item)?,
         }

@@ -52,7 +52,7 @@ pub fn prove_round<P: Restoring>(
         OnOk result (AreBetween ports.now.list new.ports players.new states) }
     ensures rounds { OnOk result (engine.new.rounds ≡ engine.old.rounds + 1) }
 {
-    offer_all(alloc, engine, ports, players)?;
+    offer_all(engine, ports, players)?;
     let turn = engine.rounds() + 1;
     let circuit = engine.circuit();
     match plan_of(alloc, circuit, line) {

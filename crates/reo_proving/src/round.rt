@@ -151,7 +151,7 @@ pub(crate) fn go_on<P: Restoring, L: Ledger, S: Sink>(
     if made == limits.rounds {
         return Ok(Some(Ending::Limit { rounds: made }));
     }
-    offer_all(alloc, engine, ports, players)?;
+    offer_all(engine, ports, players)?;
     match engine.plan_round(alloc, limits.budget, steps) {
         Ok(planned) => {
             let over = make_round(alloc, engine, players, ports, limits.budget, planned, out)?;

@@ -130,7 +130,7 @@ pub(crate) fn make_round<P: Restoring, L: Ledger, S: Sink>(
     ensures later { S.faults out.old ≤ S.faults out.new }
     ensures risen { S.faults out.old < S.faults out.new → IsErrOf result SinkFailed }
 {
-    offer_all(alloc, engine, ports, players)?;
+    offer_all(engine, ports, players)?;
     let made = stand_next(alloc, engine, ports, limits.budget, steps)?;
     let (standing, text) = made;
     match write_line(text.as_slice(), out) {

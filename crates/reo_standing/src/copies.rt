@@ -3,9 +3,8 @@ ghost use Rattle.std.specs.Prelude.{◌≡◌, true, false, None, Some, IfOk};
 ghost use Rattle.reo_values.specs.declared.value.Value.{Value as Item};
 
 use reo_values::{NoMemory, Value, copy};
-use std::alloc::Global;
 
-/// An equal item, where it takes no memory.
+/// An equal item, where nothing is shared for it.
 #[inline(always)]
 pub(crate) fn plain_copy(item: &Value) -> Option<Value>
     ensures { (made : Item) → result ≡ Some made → made ≡ item.now }
@@ -19,52 +18,47 @@ pub(crate) fn plain_copy(item: &Value) -> Option<Value>
     }
 }
 
-/// An equal item, made without a call where it takes no memory. `NoMemory` is out of memory.
+/// An equal item, made without a call where nothing is shared for it. `NoMemory` means that more
+/// share it than can be counted.
 #[inline(always)]
-pub(crate) fn copied(alloc: Global, item: &Value) -> Result<Value, NoMemory>
+pub(crate) fn copied(item: &Value) -> Result<Value, NoMemory>
     ensures { IfOk result (λ made. made ≡ item.now) }
 {
     match plain_copy(item) {
         Some(made) => Ok(made),
-        None => copy(alloc, item),
+        None => copy(item),
     }
 }
 
-/// Clears a place.
+/// Lets go of what stands at a place, out of line.
+#[inline(never)]
+fn let_go(place: &mut Option<Value>)
+    ensures { place.new ≡ None }
+{
+    *place = None;
+}
+
+/// Clears a place. Where nothing is shared for its item, nothing is to be let go.
 #[inline(always)]
 pub(crate) fn clear(place: &mut Option<Value>)
     ensures { place.new ≡ None }
 {
-    if place.is_some() {
-        *place = None;
+    match place {
+        Some(Value::Text(_) | Value::Pair(_)) => let_go(place),
+        _ => *place = None,
     }
 }
 
-/// Puts an equal item at a place, if it takes no memory. The answer is whether it does; where it
-/// does not, the place stays as it is. It is cleared before, so that nothing is dropped after.
+/// Puts an equal item at a place, if nothing is shared for it. The answer is whether it is put;
+/// where it is not, the place stays as it is.
 #[inline(always)]
 pub(crate) fn put_plain(place: &mut Option<Value>, item: &Value) -> bool
     ensures put { result ≡ true → place.new ≡ Some item.now }
     ensures stays { result ≡ false → place.new ≡ place.old }
 {
-    match item {
-        Value::Unit => {
-            clear(place);
-            *place = Some(Value::Unit);
-        }
-        Value::Bool(truth) => {
-            clear(place);
-            *place = Some(Value::Bool(*truth));
-        }
-        Value::Int(number) => {
-            clear(place);
-            *place = Some(Value::Int(*number));
-        }
-        Value::Sym(number) => {
-            clear(place);
-            *place = Some(Value::Sym(*number));
-        }
-        _ => return false,
+    match plain_copy(item) {
+        Some(item) => *place = Some(item),
+        None => return false,
     }
     true
 }

@@ -11,7 +11,7 @@ ghost use Rattle.reo_joint_values.specs.Standing.{giver_of};
 ghost use Rattle.reo_stepping.specs.Flowing.{GiverFlows};
 ghost use Rattle.reo_standing.specs.Feeds.{AreFeeds};
 
-use crate::copies::{clear, plain_copy, put_plain};
+use crate::copies::{plain_copy, put_plain};
 use crate::feeds::{BY_ROW, BY_STATE, Feeds};
 use reo_net_base::{End, Primitive};
 use reo_net_circuit::Circuit;
@@ -151,8 +151,8 @@ fn put_made<P: Primitive>(
     Ok(())
 }
 
-/// Puts the item at a joint at another as well, if it takes no memory. The answer is whether it
-/// does; where it does not, all stay.
+/// Puts the item at a joint at another as well, if nothing is shared for it. The answer is whether
+/// it does; where it does not, all stay.
 #[inline(always)]
 fn put_carried(items: &mut List<Option<Value>>, feed: usize, joint: usize) -> bool
     requires feed { feed < length items.old }
@@ -161,38 +161,20 @@ fn put_carried(items: &mut List<Option<Value>>, feed: usize, joint: usize) -> bo
         × (items.new ≡ set items.old joint (Some item)) }
     ensures stays { result ≡ false → items.new ≡ items.old }
 {
-    match items.at(feed) {
-        Some(Value::Unit) => {
-            let place = items.at_mut(joint);
-            clear(place);
-            *place = Some(Value::Unit);
-        }
-        Some(Value::Bool(truth)) => {
-            let item = *truth;
-            let place = items.at_mut(joint);
-            clear(place);
-            *place = Some(Value::Bool(item));
-        }
-        Some(Value::Int(number)) => {
-            let item = *number;
-            let place = items.at_mut(joint);
-            clear(place);
-            *place = Some(Value::Int(item));
-        }
-        Some(Value::Sym(number)) => {
-            let item = *number;
-            let place = items.at_mut(joint);
-            clear(place);
-            *place = Some(Value::Sym(item));
-        }
-        _ => return false,
+    let found = match items.at(feed) {
+        Some(item) => plain_copy(item),
+        None => None,
+    };
+    match found {
+        Some(item) => *items.at_mut(joint) = Some(item),
+        None => return false,
     }
     true
 }
 
-/// Puts the item that a row of the giver of a joint gives there, whichever it flows by, if no row
-/// has to be looked at for it and it takes no memory. The answer is whether it did; where it did
-/// not, all stay.
+/// Puts the item that a row of the giver of a joint gives there, whichever it flows by, if none
+/// stands there, no row has to be looked at for it, and nothing is shared for it. The answer is
+/// whether it did; where it did not, all stay.
 #[inline(always)]
 fn put_fed<P: Primitive>(
     circuit: &Circuit<P>,
@@ -209,6 +191,9 @@ fn put_fed<P: Primitive>(
     ensures stays { result ≡ false → items.new ≡ items.old }
 {
     circuit.known();
+    if items.at(joint).is_some() {
+        return false;
+    }
     let primitive = circuit.primitive(circuit.joint(joint).giver.primitive);
     match feeds.of(joint) {
         BY_STATE => match primitive.front() {

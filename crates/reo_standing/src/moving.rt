@@ -10,7 +10,6 @@ use reo_flags::Flags;
 use reo_net_base::{Move, Primitive};
 use reo_net_circuit::Circuit;
 use reo_values::{List, NoMemory, Value};
-use std::alloc::Global;
 
 /// The item at a place, if there is one.
 fn item_of(items: &[Option<Value>], place: usize) -> Option<&Value>
@@ -21,7 +20,6 @@ fn item_of(items: &[Option<Value>], place: usize) -> Option<&Value>
 
 /// Adds what flows at a port: the item at its joint, if there is one.
 fn add_move<P: Primitive>(
-    alloc: Global,
     moves: &mut List<Move>,
     circuit: &Circuit<P>,
     items: &[Option<Value>],
@@ -38,7 +36,7 @@ fn add_move<P: Primitive>(
     match item_of(items, joint) {
         None => Ok(()),
         Some(value) => {
-            let item = copied(alloc, value)?;
+            let item = copied(value)?;
             moves.push(Move { port, item })
         }
     }
@@ -47,7 +45,6 @@ fn add_move<P: Primitive>(
 /// The ports that flow, in order, with their items, where exactly those primitives are marked of
 /// which some end flows. They are written over other moves. `NoMemory` is out of memory.
 pub(crate) fn moves_of_marked<P: Primitive>(
-    alloc: Global,
     circuit: &Circuit<P>,
     items: &[Option<Value>],
     marks: &Flags,
@@ -64,7 +61,7 @@ pub(crate) fn moves_of_marked<P: Primitive>(
     moves.clear();
     let mut port = marks.next_set(0);
     while port < circuit.ports() {
-        add_move(alloc, &mut moves, circuit, items, port)?;
+        add_move(&mut moves, circuit, items, port)?;
         port = marks.next_set(port + 1);
     }
     Ok(moves)

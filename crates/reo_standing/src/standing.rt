@@ -104,7 +104,7 @@ pub fn stand<P: Primitive>(
         &mut flowing,
     )?;
     mark_flowing(circuit, rows.as_slice(), flowing.as_slice(), &mut marks);
-    let moves = moves_of_marked(alloc, circuit, items.as_slice(), &marks, moves)?;
+    let moves = moves_of_marked(circuit, items.as_slice(), &marks, moves)?;
     let colouring = Colouring { rows, items };
     let idle = flowing.is_empty();
     Ok(Standing {

@@ -107,7 +107,7 @@ fn copy_moves(alloc: Global, moves: &[Move]) -> Result<List<Move>, NoMemory>
 {
     let mut made = List::new(alloc);
     for one in moves {
-        let item = copy(alloc, &one.item)?;
+        let item = copy(&one.item)?;
         made.push(Move {
             port: one.port,
             item,

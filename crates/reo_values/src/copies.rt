@@ -48,8 +48,8 @@ impl Copies for Bytes {
 }
 
 impl Copies for Value {
-    fn copied(&self, alloc: Global) -> Result<Self, NoMemory> {
-        copy(alloc, self)
+    fn copied(&self, _alloc: Global) -> Result<Self, NoMemory> {
+        copy(self)
     }
 }
 

@@ -28,7 +28,7 @@ fn append_text(
             Some(name) => out.append(name.as_slice()),
             None => Ok(()),
         },
-        (Value::Text(bytes), Kindred::Text(_)) => append_quoted(out, bytes.as_slice()),
+        (Value::Text(text), Kindred::Text(_)) => append_quoted(out, text.get().as_slice()),
         (Value::Pair(x), Kindred::Pair(y)) => {
             let (x, y) = (x.get(), y.get());
             out.push(b'(')?;

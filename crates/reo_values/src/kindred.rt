@@ -48,7 +48,8 @@ pub fn is_in(item: &Value, kindred: &Kindred) -> bool
         (Value::Bool(_), Kindred::Bool) => true,
         (Value::Int(number), Kindred::Int(low, high)) => *low <= *number && *number <= *high,
         (Value::Sym(place), Kindred::Sym(names)) => (*place as usize) < names.len(),
-        (Value::Text(bytes), Kindred::Text(most)) => {
+        (Value::Text(text), Kindred::Text(most)) => {
+            let bytes = text.get();
             bytes.len() <= *most as usize && all_plain(bytes.as_slice())
         }
         (Value::Pair(x), Kindred::Pair(y)) => {

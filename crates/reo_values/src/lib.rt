@@ -1,8 +1,8 @@
 //! Items, the types that they are of, and the lists that hold them.
 //!
-//! Contracts see a [`List`] and [`Bytes`] as plain lists, a [`Boxed`] value as the value
-//! in it, and an item as plain data: so equality in a contract is equality of what the
-//! program can tell apart, and never of addresses.
+//! Contracts see a [`List`] and [`Bytes`] as plain lists, a [`Boxed`] or [`Shared`] value as the
+//! value in it, and an item as plain data: so equality in a contract is equality of what the
+//! program can tell apart, and never of addresses or owners.
 #![tactic(auto)]
 
 mod append;
@@ -19,6 +19,7 @@ mod number;
 mod operator;
 mod reader;
 mod reading;
+mod shared;
 mod valid;
 mod value;
 
@@ -35,6 +36,7 @@ pub use list::List;
 pub use number::{number_text, read_number};
 pub use operator::{Binary, Unary};
 pub use reading::read_value;
+pub use shared::Shared;
 pub use valid::{is_name, is_valid};
 pub use value::{Couple, Value, copy, same_item};
 

@@ -8,7 +8,7 @@ ghost use Rattle.reo_values.specs.Valid.{AreNames, IsValid};
 
 use crate::kindred::all_plain;
 use crate::reader::Reader;
-use crate::{Boxed, Bytes, Couple, Kindred, ReadFault, Value, read_number};
+use crate::{Bytes, Couple, Kindred, ReadFault, Shared, Value, read_number};
 use std::alloc::Global;
 
 // One byte of a text between quotes, without what escapes it, or None at the closing quote.
@@ -123,7 +123,8 @@ fn text_item(alloc: Global, reader: &mut Reader, most: u16) -> Result<Value, Rea
 {
     let bytes = quoted_bytes(alloc, reader)?;
     if bytes.len() <= most as usize && all_plain(bytes.as_slice()) {
-        Ok(Value::Text(bytes))
+        let text = Shared::new(alloc, bytes)?;
+        Ok(Value::Text(text))
     } else {
         Err(ReadFault::NotALiteral)
     }
@@ -145,7 +146,8 @@ fn item(alloc: Global, reader: &mut Reader, kindred: &Kindred) -> Result<Value, 
             reader.expect(b',')?;
             let right = item(alloc, reader, &twins.right)?;
             reader.expect(b')')?;
-            Ok(Value::Pair(Boxed::new(alloc, Couple { left, right })?))
+            let couple = Shared::new(alloc, Couple { left, right })?;
+            Ok(Value::Pair(couple))
         }
         _ => word_item(alloc, reader.word(), kindred),
     }

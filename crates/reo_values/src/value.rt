@@ -1,10 +1,11 @@
 //! Items.
 ghost use Rattle.std.specs.Prelude.{◌≡◌, ◌↔◌, IfOk, IsTrue};
 
-use crate::{Boxed, Bytes, NoMemory};
+use crate::{Bytes, NoMemory, Shared};
 use std::alloc::Global;
 
-/// An item that flows through a connector.
+/// An item that flows through a connector. Texts and pairs are shared: however many copies of one
+/// there are, its bytes and its two items lie in memory once.
 #[cycle(value)]
 #[derive(Drop)]
 pub enum Value {
@@ -17,9 +18,9 @@ pub enum Value {
     /// The name at this place, from 0, in its type's list of names.
     Sym(u16),
     /// A text of printable bytes.
-    Text(Bytes),
+    Text(Shared<Bytes>),
     /// Two items.
-    Pair(Boxed<Couple>),
+    Pair(Shared<Couple>),
 }
 
 /// The two items of a pair.
@@ -39,7 +40,7 @@ pub fn same_item(a: &Value, b: &Value) -> bool
         (Value::Bool(x), Value::Bool(y)) => *x == *y,
         (Value::Int(x), Value::Int(y)) => *x == *y,
         (Value::Sym(x), Value::Sym(y)) => *x == *y,
-        (Value::Text(x), Value::Text(y)) => x.as_slice() == y.as_slice(),
+        (Value::Text(x), Value::Text(y)) => x.get().as_slice() == y.get().as_slice(),
         (Value::Pair(x), Value::Pair(y)) => {
             let (x, y) = (x.get(), y.get());
             same_item(&x.left, &y.left) && same_item(&x.right, &y.right)
@@ -48,8 +49,9 @@ pub fn same_item(a: &Value, b: &Value) -> bool
     }
 }
 
-/// An equal item. `NoMemory` means out of memory.
-pub fn copy(alloc: Global, item: &Value) -> Result<Value, NoMemory>
+/// An equal item. Its text, or its two items, are shared with the first, so that this takes no
+/// memory: `NoMemory` means that more share them than can be counted.
+pub fn copy(item: &Value) -> Result<Value, NoMemory>
     ensures { IfOk result (λ made. made ≡ item.now) }
 {
     match item {
@@ -57,12 +59,7 @@ pub fn copy(alloc: Global, item: &Value) -> Result<Value, NoMemory>
         Value::Bool(truth) => Ok(Value::Bool(*truth)),
         Value::Int(number) => Ok(Value::Int(*number)),
         Value::Sym(place) => Ok(Value::Sym(*place)),
-        Value::Text(bytes) => Ok(Value::Text(bytes.copy(alloc)?)),
-        Value::Pair(couple) => {
-            let couple = couple.get();
-            let left = copy(alloc, &couple.left)?;
-            let right = copy(alloc, &couple.right)?;
-            Ok(Value::Pair(Boxed::new(alloc, Couple { left, right })?))
-        }
+        Value::Text(bytes) => Ok(Value::Text(bytes.share()?)),
+        Value::Pair(couple) => Ok(Value::Pair(couple.share()?)),
     }
 }

@@ -53,7 +53,7 @@ fn is_written(alloc: Global, text: &str, item: &Value, kindred: &Kindred) -> boo
 /// Whether the item, and a copy of it, are of a copy of the type.
 fn is_copied(alloc: Global, item: &Value, kindred: &Kindred) -> Result<bool, NoMemory> {
     let kindred = kindred.copied(alloc)?;
-    let again = copy(alloc, item)?;
+    let again = copy(item)?;
     Ok(same_item(&again, item) && is_in(&again, &kindred) && is_in(item, &kindred))
 }
 

@@ -1,6 +1,6 @@
 //! Lists, boxes and copies at types of their own.
 use crate::checks::is;
-use reo_values::{Boxed, Bytes, Copies, Filling, List, NoMemory, Value, same_item};
+use reo_values::{Boxed, Bytes, Copies, Filling, List, NoMemory, Shared, Value, same_item};
 use std::alloc::Global;
 
 fn add_three(alloc: Global, list: &mut List<u32>) -> Result<(), NoMemory> {
@@ -62,12 +62,25 @@ fn is_boxed(alloc: Global) -> bool {
     }
 }
 
+/// Whether a second owner has the value still when the first is gone.
+fn outlives_its_first_owner(alloc: Global) -> Result<bool, NoMemory> {
+    let first = Shared::new(alloc, 9u8)?;
+    let second = first.share()?;
+    drop(first);
+    Ok(*second.get() == 9)
+}
+
+fn is_shared(alloc: Global) -> bool {
+    matches!(outlives_its_first_owner(alloc), Ok(true))
+}
+
 #[test]
 fn lists_and_boxes(rt: HostRuntime) {
     let alloc = rt.alloc();
     is(&rt, grows_and_shrinks(alloc), "a list");
     is(&rt, is_filled(alloc), "reserved room");
     is(&rt, is_boxed(alloc), "a box");
+    is(&rt, is_shared(alloc), "a shared value");
 }
 
 fn is_cut(alloc: Global, bytes: &mut Bytes) -> Result<bool, NoMemory> {
@@ -82,7 +95,8 @@ fn cut_and_copied(alloc: Global) -> bool {
 }
 
 fn text(alloc: Global) -> Result<Value, NoMemory> {
-    Ok(Value::Text(Bytes::from_slice(alloc, b"x")?))
+    let text = Bytes::from_slice(alloc, b"x")?;
+    Ok(Value::Text(Shared::new(alloc, text)?))
 }
 
 fn add_some_and_none(alloc: Global, items: &mut List<Option<Value>>) -> Result<(), NoMemory> {

@@ -1,6 +1,8 @@
 //! Types and items as words: behind the words of a pair's left part and of its right part stands a
 //! comma. What words say is added to a list.
-use reo_values::{Boxed, Bytes, Couple, Kindred, List, NoMemory, Twins, Value, append_number};
+use reo_values::{
+    Boxed, Bytes, Couple, Kindred, List, NoMemory, Shared, Twins, Value, append_number,
+};
 use std::alloc::Global;
 
 /// The words say nothing, or memory ended.
@@ -111,7 +113,8 @@ pub fn read_type(alloc: Global, types: &mut List<Kindred>, words: &str) -> Resul
 /// `'a^b` for a text, `#5` for the name at a place, or a number.
 fn other_item(alloc: Global, word: &str) -> Result<Value, Unread> {
     if let Some(text) = word.strip_prefix('\'') {
-        Ok(Value::Text(spaced(alloc, text)?))
+        let text = spaced(alloc, text)?;
+        Ok(Value::Text(Shared::new(alloc, text)?))
     } else if let Some(place) = behind(word, "#") {
         Ok(Value::Sym(place))
     } else {
@@ -125,7 +128,7 @@ fn other_item(alloc: Global, word: &str) -> Result<Value, Unread> {
 fn pair_item(alloc: Global, items: &mut List<Value>) -> Result<Value, Unread> {
     let right = last(items)?;
     let left = last(items)?;
-    Ok(Value::Pair(Boxed::new(alloc, Couple { left, right })?))
+    Ok(Value::Pair(Shared::new(alloc, Couple { left, right })?))
 }
 
 fn next_item(alloc: Global, items: &mut List<Value>, word: &str) -> Result<Value, Unread> {

@@ -73,7 +73,7 @@ fn replay_round<P: Restoring>(
         OnOk result (AreBetween ports.now.list new.ports players.new states) }
     ensures rounds { OnOk result (engine.new.rounds ≡ engine.old.rounds + 1) }
 {
-    offer_all(alloc, engine, ports, players)?;
+    offer_all(engine, ports, players)?;
     let plan = plan_of(alloc, engine.circuit(), line)?;
     let carried = carry_out(engine, players, ports, plan);
     Ok(carried.over)

@@ -35,7 +35,7 @@ unreachable-requires t c =
     let there = rw none at c.requires.item in
     absurd (cc)
 
-pub returns-in_ok-new-in-Pair-kindred : goal.returns-in_ok-new-in-Pair-kindred
-returns-in_ok-new-in-Pair-kindred t c =
+pub returns-in_ok-couple-in-Pair-kindred : goal.returns-in_ok-couple-in-Pair-kindred
+returns-in_ok-couple-in-Pair-kindred t c =
     rw (c.in-Pair-kindred.is, c.in-Pair.is, item_in-Pair c.in-Pair.x c.in-Pair-kindred.y, ← c.get-x.ensures, ← c.get-y.ensures)
-    (both-made _ _ _ _ c.in_ok-left-in-Pair-kindred.ensures c.in_ok-right-in-Pair-kindred.ensures ∙ ap (λ p. Some (values.Pair p)) (sym c.in_ok-new-in-Pair-kindred.ensures))
+    (both-made _ _ _ _ c.in_ok-left-in-Pair-kindred.ensures c.in_ok-right-in-Pair-kindred.ensures ∙ ap (λ p. Some (values.Pair p)) (sym c.in_ok-couple-in-Pair-kindred.ensures))

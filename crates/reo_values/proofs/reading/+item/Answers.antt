@@ -66,18 +66,18 @@ returns-in_err-expect-in-Pair-3-clause-again t c item rest h ends e =
     reads_err c.from_residual-in_err-expect-in-Pair-3.result c.in_err-expect-in-Pair-3.field-0.0 _ item rest c.from_residual-in_err-expect-in-Pair-3.ensures
     (λ fault. c.in_err-expect-in-Pair-3.ensures.none (ap Err fault) _ right.1)
 
-pub returns-in_ok-new-in-Pair-clause-found : goal.returns-in_ok-new-in-Pair-clause-found
-returns-in_ok-new-in-Pair-clause-found t c =
+pub returns-in_ok-couple-in-Pair-clause-found : goal.returns-in_ok-couple-in-Pair-clause-found
+returns-in_ok-couple-in-Pair-clause-found t c =
     let is = c.in-Pair.is ∙ ap kinds.Pair (sym c.get-twins.ensures) in
-    pair_found c.args.kindred.now c.get-twins.result.now c.args.reader.now is c.in_ok-new-in-Pair.field-0 c.in_ok-left-in-Pair.left c.in_ok-right-in-Pair.right
+    pair_found c.args.kindred.now c.get-twins.result.now c.args.reader.now is c.in_ok-couple-in-Pair.couple c.in_ok-left-in-Pair.left c.in_ok-right-in-Pair.right
     c.expect.new.self c.item.new.reader c.expect-in-Pair.new.self c.item-in-Pair.new.reader c.expect-in-Pair-2.new.self
-    c.in_ok-new-in-Pair.ensures c.in_ok-left-in-Pair.ensures.found.0 c.in_ok-right-in-Pair.ensures.found.0
+    c.in_ok-couple-in-Pair.ensures c.in_ok-left-in-Pair.ensures.found.0 c.in_ok-right-in-Pair.ensures.found.0
     c.in_ok-expect-in-Pair.ensures.found c.in_ok-left-in-Pair.ensures.found.1 c.in_ok-expect-in-Pair-2.ensures.found c.in_ok-right-in-Pair.ensures.found.1 c.in_ok-expect-in-Pair-3.ensures.found
 
-pub returns-in_ok-new-in-Pair-clause-again : goal.returns-in_ok-new-in-Pair-clause-again
-returns-in_ok-new-in-Pair-clause-again t c item rest h ends e =
+pub returns-in_ok-couple-in-Pair-clause-again : goal.returns-in_ok-couple-in-Pair-clause-again
+returns-in_ok-couple-in-Pair-clause-again t c item rest h ends e =
     let is = c.in-Pair.is ∙ ap kinds.Pair (sym c.get-twins.ensures) in
-    pair_reads c.args.kindred.now c.get-twins.result.now c.args.reader.now is item rest h e c.in_ok-new-in-Pair.field-0 c.in_ok-left-in-Pair.left c.in_ok-right-in-Pair.right
+    pair_reads c.args.kindred.now c.get-twins.result.now c.args.reader.now is item rest h e c.in_ok-couple-in-Pair.couple c.in_ok-left-in-Pair.left c.in_ok-right-in-Pair.right
     c.expect.new.self c.item.new.reader c.expect-in-Pair.new.self c.item-in-Pair.new.reader c.expect-in-Pair-2.new.self
-    c.in_ok-new-in-Pair.ensures c.in_ok-expect-in-Pair.ensures.found c.in_ok-left-in-Pair.ensures.again c.in_ok-expect-in-Pair-2.ensures.found c.in_ok-right-in-Pair.ensures.again
+    c.in_ok-couple-in-Pair.ensures c.in_ok-expect-in-Pair.ensures.found c.in_ok-left-in-Pair.ensures.again c.in_ok-expect-in-Pair-2.ensures.found c.in_ok-right-in-Pair.ensures.again
     c.in_ok-expect-in-Pair-3.ensures.found
