@@ -55,9 +55,9 @@ pub(crate) fn begin<P: Primitive>(
     let changed = Flags::new(alloc, circuit.primitives().len(), true)?;
     let ends = ends_of(alloc, circuit)?;
     let kept = Kept::new(alloc, circuit.sides(), knots.count())?;
-    let lookups = Lookups::new(alloc, circuit, knots, &ends)?;
-    let flows = Flows::new(alloc, circuit, knots)?;
     let goers = Goers::new(alloc, circuit)?;
+    let flows = Flows::new(alloc, circuit, knots)?;
+    let lookups = Lookups::new(alloc, circuit, knots, &ends)?;
     Ok(Begun {
         changed,
         ends,
