@@ -5,7 +5,6 @@ use Rattle.std.specs.Option.{option_map_or}
 use Rattle.std.proofs.lemmas.Option.{slice_get_within}
 use Rattle.reo_values.specs.declared.value.Value.{Value}
 use Rattle.reo_net_base.specs.declared.mark.Mark.{Mark}
-use Rattle.reo_net_base.specs.declared.mark.Mark.TheVariants.{F, G, R, J}
 use Rattle.reo_net_base.specs.declared.colouring.Move.{Move}
 use Rattle.reo_net_base.specs.declared.port.Offer.{Offer}
 use Rattle.reo_net_base.specs.declared.port.Offer.TheVariants.{Write, Take}

@@ -1,5 +1,5 @@
 -- The components go on one by one.
-use Rattle.std.proofs.Common.{◌≡◌, ◌≢◌, ◌∙◌, inl, inr, ℕ, zero, suc, ◌+◌, ◌-◌, ◌<◌, ◌≤◌, Bool, true, false, cond, List, length, refl, sym, ap, subst, arith}
+use Rattle.std.proofs.Common.{◌≡◌, ◌≢◌, ◌∙◌, inl, inr, ℕ, ◌+◌, ◌<◌, ◌≤◌, Bool, true, false, cond, List, [], length, refl, sym, ap, subst, arith}
 use Rattle.std.specs.Prelude.{Option, Some, None, nat_lt, nat_eq}
 use Rattle.std.proofs.lemmas.Bool.{cases_eq}
 use Rattle.std.proofs.lemmas.Bool.Decides.{nat_tests}
@@ -9,15 +9,14 @@ use Rattle.reo_net_base.specs.declared.port.Offer.{Offer}
 use Rattle.reo_net_base.specs.PortState.{PortState}
 use Rattle.reo_players.specs.Players.{Player, no_player, player_of, after}
 use Rattle.reo_players.specs.Offers.{offer_at}
-use Rattle.reo_players.specs.Idle.{is_idle, IsNextAwake}
-use Rattle.reo_players.proofs.Idling.{idle_stays}
+use Rattle.reo_players.specs.Idle.{is_awake, ArePassed, HavePassed}
+use Rattle.reo_run_premises.specs.Fitting.{FitPorts}
 use Rattle.reo_at_ports.specs.Pending.{pending_at, held_at}
-use Rattle.reo_at_ports.specs.Between.{AreAtPorts, AreBetween, AreStepped, NoneIdleIsGone, is_gone, gone_on}
+use Rattle.reo_at_ports.specs.Between.{AreAtPorts, AreBetween, AreStepped, NoneAsleepIsGone, is_gone, gone_on}
 use Rattle.reo_at_ports.specs.Parts.{HasGoneOn, IsLeft, IsPendingOrGone}
 use Rattle.reo_at_ports.proofs.Cases.{lt_cases, option_cases}
-use Rattle.reo_at_ports.proofs.AtPorts.{alone, in_range}
-use Rattle.reo_at_ports.proofs.GoneOn.{gone_alike, still_there}
-use Rattle.reo_at_ports.proofs.OffersMade.{idle_offered}
+use Rattle.reo_at_ports.proofs.AtPorts.{alone, in_range, rests_of, rest_at}
+use Rattle.reo_at_ports.proofs.GoneOn.{gone_alike, still_there, held_passed, passed_rest}
 
 -- What a component has at a port, of which the first so many have gone on.
 abbrev pub has_at : List Player → ℕ → ℕ → ℕ → Option Offer
@@ -70,51 +69,6 @@ module _ (ports : List Port) (count done : ℕ) (old new : List Player) (before 
         | inl none ↦ inl (as_before port o is ∙ none)
         | inr some ↦ inr (as_before port o is ∙ some)
       ]
-
-  -- one to which nothing is to be done, and whose offer is not gone, is passed over
-  module _ (had : ℕ) (stepped : AreStepped ports had old before) (idle : is_idle (player_of new done) ≡ true) (stays : is_gone before (player_of old done) ≡ false) where
-    waits : player_of new done ≡ player_of old done
-    waits = are.waiting done (omega arith)
-
-    stays_now : is_gone now (player_of new done) ≡ false
-    stays_now = gone_alike before now (player_of new done) as_before ∙ ap (is_gone before) waits ∙ stays
-
-    as_gone_on : player_of new done ≡ after (is_gone before (player_of old done)) (player_of old done)
-    as_gone_on = sym (idle_stays (player_of new done) idle) ∙ ap (after false) waits ∙ ap (λ b. after b (player_of old done)) (sym stays)
-
-    holds_now : (port : ℕ) (o : Offer) → held_at port (player_of new done) ≡ Some o → pending_at now port ≡ Some o
-    holds_now port o is = still_there now (player_of new done) port o (may had stepped) (sym (idle_offered (player_of new done) idle port) ∙ is) stays_now
-
-    has_same : (port i : ℕ) → has_at new (done + 1) i port ≡ has_at new done i port
-    has_same port i =
-        elim (cases_eq i done) [
-          | inl same ↦
-              holds new (done + 1) i port (omega arith)
-              ∙ subst (λ k. held_at port (player_of new k) ≡ offer_at port (player_of new k)) (sym same) (idle_offered (player_of new done) idle port)
-              ∙ sym (offers new done i port (omega arith))
-          | inr ne ↦ elim (lt_cases i done) [
-            | inl less ↦ holds new (done + 1) i port (omega arith) ∙ sym (holds new done i port less)
-            | inr le ↦ offers new (done + 1) i port (omega arith) ∙ sym (offers new done i port le)
-          ]
-        ]
-
-    pub pass : Advancing ports count (done + 1) old new before now
-    pass = record {
-      at_ports = are.at_ports;
-      length_is = are.length_is;
-      gone = λ i less. elim (cases_eq i done) [
-        | inl same ↦ subst (λ k. player_of new k ≡ after (is_gone before (player_of old k)) (player_of old k)) (sym same) as_gone_on
-        | inr ne ↦ are.gone i (omega arith)
-      ];
-      waiting = λ i le. are.waiting i (omega arith);
-      held = λ port i o port_lt less i_lt is. elim (cases_eq i done) [
-        | inl same ↦ holds_now port o (subst (λ k. held_at port (player_of new k) ≡ Some o) same is)
-        | inr ne ↦ are.held port i o port_lt (omega arith) i_lt is
-      ];
-      offered = λ port i o port_lt le i_lt is. are.offered port i o port_lt (omega arith) i_lt is;
-      unnamed = λ port port_lt all. are.unnamed port port_lt (λ i i_lt. sym (has_same port i) ∙ all i i_lt);
-      were = are.were;
-    }
 
   module _ (counted : ℕ) (newer : List Player) (later : List PortState) (at : AreAtPorts ports counted newer later) (on : HasGoneOn done now new newer) (left : IsLeft (player_of new done) (player_of newer done) now later) where
     -- at a port of the component no other offers
@@ -191,29 +145,93 @@ module _ (ports : List Port) (count done : ℕ) (old new : List Player) (before 
       were = λ port o some. are.were port o (left.were port o some);
     }
 
--- So many in a row are passed over.
-module _ (ports : List Port) (count : ℕ) (old new : List Player) (before now : List PortState) (had : ℕ) (stepped : AreStepped ports had old before) (stay : NoneIdleIsGone old before) where
-  pass_idle : (more done : ℕ) → done + more ≤ length new → ((i : ℕ) → done ≤ i → i < done + more → is_idle (player_of new i) ≡ true)
-      → Advancing ports count done old new before now → Advancing ports count (done + more) old new before now
-  pass_idle zero done within idle are =
-      let same : done + zero ≡ done = omega arith in
-      subst (λ (k : ℕ). Advancing ports count k old new before now) (sym same) are
-  pass_idle (suc more) done within idle are =
-      let same : done + suc more ≡ done + 1 + more = omega arith in
-      let here : is_idle (player_of new done) ≡ true = idle done (omega arith) (omega arith) in
-      let was : is_idle (player_of old done) ≡ true = ap is_idle (sym (are.waiting done (omega arith))) ∙ here in
-      subst (λ (k : ℕ). Advancing ports count k old new before now) (sym same)
-      (pass_idle more (done + 1) (omega arith) (λ i le lt. idle i (omega arith) (omega arith))
-      (pass ports count done old new before now are (omega arith) had stepped here (stay done (omega (arith, are.length_is)) was)))
+-- Those that are idle or wait and whose bound does not run out have passed, all at once.
+module _ (ports : List Port) (count : ℕ) (old new newer : List Player) (before now : List PortState) (had : ℕ) (stepped : AreStepped ports had old before) (stay : NoneAsleepIsGone old before)
+    (done place : ℕ) (within : done ≤ length new) (are : Advancing ports count done old new before now) (have : HavePassed done place new newer) where
+  passed : ArePassed done place new newer
+  passed = have.are
 
-  -- Up to the next to which something is to be done.
-  pub pass_to : (done place : ℕ) → done ≤ length new → IsNextAwake new done place → Advancing ports count done old new before now → Advancing ports count place old new before now
-  pass_to done place within next are =
-      let on = next.from_on in
-      let inside = next.in_range in
-      let same : done + (place - done) ≡ place = omega arith in
-      subst (λ (k : ℕ). Advancing ports count k old new before now) same
-      (pass_idle (place - done) done (omega arith) (λ i low high. next.idle_before i low (omega arith)) are)
+  on : done ≤ place
+  on = let from = have.from_on in omega arith
+
+  module _ (i : ℕ) (low : done ≤ i) (high : i < place) where
+    i_lt : i < length new
+    i_lt = let inside = have.in_range in omega arith
+
+    as_was : player_of new i ≡ player_of old i
+    as_was = are.waiting i low
+
+    stays : is_gone before (player_of old i) ≡ false
+    stays = stay i (omega (arith, i_lt, are.length_is)) (ap is_awake (sym as_was) ∙ passed.asleep i low high)
+
+    stays_now : is_gone now (player_of new i) ≡ false
+    stays_now =
+        gone_alike before now (player_of new i) (λ port o is. are.offered port i o (in_range ports count new now i port o are.at_ports i_lt is) low i_lt is)
+        ∙ ap (is_gone before) as_was ∙ stays
+
+    has_gone : player_of newer i ≡ after (is_gone before (player_of old i)) (player_of old i)
+    has_gone = passed.passed i low high ∙ ap (after false) as_was ∙ sym (ap (λ b. after b (player_of old i)) stays)
+
+    held_is : (port : ℕ) → held_at port (player_of newer i) ≡ offer_at port (player_of new i)
+    held_is port = ap (held_at port) (passed.passed i low high) ∙ held_passed port (player_of new i) (passed.not_last i low high)
+
+    may_be : IsPendingOrGone (player_of new i) now
+    may_be port o is =
+        let was : offer_at port (player_of old i) ≡ Some o = ap (offer_at port) (sym as_was) ∙ is in
+        let port_lt = in_range ports count new now i port o are.at_ports i_lt is in
+        let same = are.offered port i o port_lt low i_lt is in
+        elim (stepped.pending.named port i o port_lt (omega (arith, i_lt, are.length_is)) was) [
+          | inl none ↦ inl (same ∙ none)
+          | inr some ↦ inr (same ∙ some)
+        ]
+
+    is_held : (port : ℕ) (o : Offer) → held_at port (player_of newer i) ≡ Some o → pending_at now port ≡ Some o
+    is_held port o is = still_there now (player_of new i) port o may_be (sym (held_is port) ∙ is) stays_now
+
+  rest_same : (i : ℕ) → (player_of newer i).rest ≡ (player_of new i).rest
+  rest_same i =
+      elim (lt_cases i done) [
+        | inl less ↦ ap (λ (p : Player). p.rest) (passed.before i less)
+        | inr low ↦ elim (lt_cases i place) [
+          | inl high ↦ ap (λ (p : Player). p.rest) (passed.passed i low high) ∙ passed_rest (player_of new i) (passed.not_last i low high)
+          | inr behind ↦ ap (λ (p : Player). p.rest) (passed.behind i behind)
+        ]
+      ]
+
+  rests_same : rests_of newer ≡ rests_of new
+  rests_same =
+      ext_get_or [] (rests_of newer) (rests_of new) (length-map newer (λ (p : Player). p.rest) ∙ passed.count ∙ sym (length-map new (λ (p : Player). p.rest)))
+      (λ i lt.
+      let lt_newer : i < length newer = omega (arith, length-map newer (λ (p : Player). p.rest)) in
+      rest_at newer i lt_newer ∙ rest_same i ∙ sym (rest_at new i (omega (arith, passed.count))))
+
+  has_same : (port i : ℕ) → has_at newer place i port ≡ has_at new done i port
+  has_same port i =
+      elim (lt_cases i done) [
+        | inl less ↦ holds newer place i port (omega (arith, on)) ∙ ap (held_at port) (passed.before i less) ∙ sym (holds new done i port less)
+        | inr low ↦ elim (lt_cases i place) [
+          | inl high ↦ holds newer place i port high ∙ held_is i low high port ∙ sym (offers new done i port low)
+          | inr behind ↦ offers newer place i port behind ∙ ap (offer_at port) (passed.behind i behind) ∙ sym (offers new done i port low)
+        ]
+      ]
+
+  pub pass_to : Advancing ports count place old newer before now
+  pass_to = record {
+    at_ports = record { count_is = are.at_ports.count_is; ports_are = are.at_ports.ports_are; fit = subst (FitPorts ports) (sym rests_same) are.at_ports.fit };
+    length_is = passed.count ∙ are.length_is;
+    gone = λ i less. elim (lt_cases i done) [
+      | inl first ↦ passed.before i first ∙ are.gone i first
+      | inr low ↦ has_gone i low less
+    ];
+    waiting = λ i le. passed.behind i le ∙ are.waiting i (omega (arith, on));
+    held = λ port i o port_lt less lt is. elim (lt_cases i done) [
+      | inl first ↦ are.held port i o port_lt first (omega (arith, passed.count)) (ap (held_at port) (sym (passed.before i first)) ∙ is)
+      | inr low ↦ is_held i low less port o is
+    ];
+    offered = λ port i o port_lt le lt is. are.offered port i o port_lt (omega (arith, on)) (omega (arith, passed.count)) (ap (offer_at port) (sym (passed.behind i le)) ∙ is);
+    unnamed = λ port port_lt all. are.unnamed port port_lt (λ i lt. sym (has_same port i) ∙ all i (omega (arith, passed.count)));
+    were = are.were;
+  }
 
 -- After the last.
 module _ (ports : List Port) (count done : ℕ) (old new : List Player) (before now : List PortState) (are : Advancing ports count done old new before now) (all : length new ≤ done) where

@@ -14,6 +14,7 @@ use Rattle.reo_players.specs.Written.{Task}
 use Rattle.reo_players.specs.Written.Task.{writes, takes, rests}
 use Rattle.reo_players.specs.Players.{Player, bound_of, first_port, port_of, offer_of, ended, runs_out, one_more_seen, after_task, after, step_task, step_of}
 use Rattle.reo_players.specs.Offers.{task_offer, offer_at}
+use Rattle.reo_players.specs.Idle.{is_last}
 use Rattle.reo_at_ports.specs.Pending.{pending_at, held_at}
 use Rattle.reo_at_ports.specs.Between.{is_gone}
 use Rattle.reo_at_ports.specs.Parts.{IsPendingOrGone, IsLeft}
@@ -94,6 +95,24 @@ held_nowhere port flowed seen (t ∷ ts) none =
       | true ↦ λ over. held_over port flowed seen t ts over
       | false ↦ λ on. held_on port flowed seen t ts on ∙ none
     ] refl
+
+-- A round in which nothing of it flows and its bound does not run out leaves it where it is.
+held_by : (port : ℕ) (rest : List Task) (seen : ℕ) → is_last (record { rest = rest; seen = seen }) ≡ false → held_at port (after_task false seen rest) ≡ option_and_then (task_offer port) (first_of rest)
+held_by port [] seen on = none_either (nat_eq seen 0)
+held_by port (t ∷ ts) seen on = held_on port false seen t ts on
+
+pub held_passed : (port : ℕ) (p : Player) → is_last p ≡ false → held_at port (after false p) ≡ offer_at port p
+held_passed port p on = held_by port p.rest p.seen on
+
+rest_by : (rest : List Task) (seen : ℕ) → is_last (record { rest = rest; seen = seen }) ≡ false → (after_task false seen rest).rest ≡ rest
+rest_by [] seen on = refl
+rest_by (t ∷ ts) seen on =
+    let gone : Player = record { rest = ts; seen = 0 } in
+    let stays : Player = record { rest = t ∷ ts; seen = one_more_seen t seen } in
+    ap (λ b. (cond b gone stays).rest) on
+
+pub passed_rest : (p : Player) → is_last p ≡ false → (after false p).rest ≡ p.rest
+passed_rest p on = rest_by p.rest p.seen on
 
 pub nothing_held : (port : ℕ) (flowed : Bool) (p : Player) → offer_at port p ≡ None → held_at port (after flowed p) ≡ None
 nothing_held port flowed p none = held_nowhere port flowed p.seen p.rest none

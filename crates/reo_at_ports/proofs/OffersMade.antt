@@ -1,17 +1,17 @@
 -- The components make their offers one by one.
-use Rattle.std.proofs.Common.{◌≡◌, ◌≢◌, ◌∙◌, inl, inr, ℕ, zero, suc, ◌+◌, ◌-◌, ◌<◌, ◌≤◌, Bool, true, false, cond, not, List, [], ◌∷◌, length, sym, ap, subst, arith}
+use Rattle.std.proofs.Common.{◌≡◌, ◌≢◌, ◌∙◌, inl, inr, ℕ, zero, suc, ◌+◌, ◌-◌, ◌<◌, ◌≤◌, ⊎_elim, ◌||◌, Bool, true, false, cond, not, List, [], ◌∷◌, length, sym, ap, subst, arith}
 use Rattle.std.specs.Prelude.{Option, Some, None, is_some, nat_eq, nat_lt, slice_get}
 use Rattle.std.proofs.lemmas.Bool.{cases_eq}
 use Rattle.std.proofs.lemmas.Bool.Decides.{nat_tests}
 use Rattle.std.proofs.lemmas.Option.{slice_get_within, get_or_from_slice_get, slice_get-get_or}
-use Rattle.reo_values.proofs.Truths.{and_right}
+use Rattle.reo_values.proofs.Truths.{either, not_true, not_false, and_right}
 use Rattle.reo_net_base.specs.declared.port.Port.{Port}
 use Rattle.reo_net_base.specs.declared.port.Offer.{Offer}
 use Rattle.reo_net_base.specs.PortState.{PortState}
 use Rattle.reo_net_circuit.specs.Offers.{OnlyPort}
 use Rattle.reo_players.specs.Written.{Task}
-use Rattle.reo_players.specs.Players.{Player, no_player, player_of, bound_of}
-use Rattle.reo_players.specs.Idle.{is_idle, IsNextAwake}
+use Rattle.reo_players.specs.Players.{Player, no_player, player_of, bound_of, counts}
+use Rattle.reo_players.specs.Idle.{is_idle, waits, is_awake, IsNextAwake}
 use Rattle.reo_players.specs.Offers.{offer_at, offer_for, OffersAgree}
 use Rattle.reo_at_ports.specs.Pending.{pending_at, held_at, ArePending}
 use Rattle.reo_at_ports.specs.Between.{AreBetween, AreStarted}
@@ -69,9 +69,12 @@ idle_rest port (t ∷ ts) seen idle =
     let not_none : nat_eq seen 0 ≡ false = grind (arith, nat_tests) in
     seen_offered (record { rest = t ∷ ts; seen = seen }) not_none port
 
--- Nor has one to which nothing is to be done an offer that no round has seen.
-pub idle_offered : (p : Player) → is_idle p ≡ true → (port : ℕ) → held_at port p ≡ offer_at port p
-idle_offered p idle port = idle_rest port p.rest p.seen idle
+-- Nor has one that is idle or waits an offer that no round has seen.
+pub asleep_offered : (p : Player) → is_awake p ≡ false → (port : ℕ) → held_at port p ≡ offer_at port p
+asleep_offered p asleep port =
+    ⊎_elim (λ idle. idle_rest port p.rest p.seen idle)
+    (λ waiting. seen_offered p (not_true (nat_eq p.seen 0) (and_right (counts p) (not (nat_eq p.seen 0)) waiting)) port)
+    (either (is_idle p) (waits p) (not_false (is_idle p || waits p) asleep))
 
 -- A component that has nothing to add, as a round has seen its offer or it makes none.
 pub pass_over : (ports : List Port) (count n : ℕ) (players : List Player) (states : List PortState) → ((port : ℕ) → held_at port (player_of players n) ≡ offer_at port (player_of players n))
@@ -88,8 +91,8 @@ pass_over ports count n players states same are = record {
       ]) are.pending;
 }
 
--- So many in a row to which nothing is to be done.
-pub pass_idle : (ports : List Port) (count : ℕ) (players : List Player) (states : List PortState) (more n : ℕ) → ((i : ℕ) → n ≤ i → i < n + more → is_idle (player_of players i) ≡ true)
+-- So many in a row that are idle or wait.
+pub pass_idle : (ports : List Port) (count : ℕ) (players : List Player) (states : List PortState) (more n : ℕ) → ((i : ℕ) → n ≤ i → i < n + more → is_awake (player_of players i) ≡ false)
     → AreOffering ports count n players states → AreOffering ports count (n + more) players states
 pass_idle ports count players states zero n idle are =
     let same : n + zero ≡ n = omega arith in
@@ -98,9 +101,9 @@ pass_idle ports count players states (suc more) n idle are =
     let same : n + suc more ≡ n + 1 + more = omega arith in
     subst (λ (k : ℕ). AreOffering ports count k players states) (sym same)
     (pass_idle ports count players states more (n + 1) (λ i le lt. idle i (omega arith) (omega arith))
-    (pass_over ports count n players states (idle_offered (player_of players n) (idle n (omega arith) (omega arith))) are))
+    (pass_over ports count n players states (asleep_offered (player_of players n) (idle n (omega arith) (omega arith))) are))
 
--- Up to the next to which something is to be done.
+-- Up to the next that is awake.
 pub pass_to : (ports : List Port) (count : ℕ) (players : List Player) (states : List PortState) (n place : ℕ) → n ≤ length players → IsNextAwake players n place
     → AreOffering ports count n players states → AreOffering ports count place players states
 pass_to ports count players states n place within next are =
@@ -108,7 +111,7 @@ pass_to ports count players states n place within next are =
     let le : n ≤ place = omega arith in
     let same : n + (place - n) ≡ place = omega arith in
     subst (λ (k : ℕ). AreOffering ports count k players states) same
-    (pass_idle ports count players states (place - n) n (λ i low high. next.idle_before i low (omega arith)) are)
+    (pass_idle ports count players states (place - n) n (λ i low high. next.none_before i low (omega arith)) are)
 
 -- A component makes its offer, at a port where nothing is pending.
 module _ (ports : List Port) (count n : ℕ) (players : List Player) (states : List PortState) (are : AreOffering ports count n players states) (lt : n < length players)

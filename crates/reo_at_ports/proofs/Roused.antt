@@ -1,23 +1,23 @@
 -- Those at whose ports items moved are as if no round had seen their present actions.
-use Rattle.std.proofs.Common.{◌≡◌, ◌≢◌, ◌∙◌, ◌⊎◌, inl, inr, ⊎_elim, ℕ, ◌+◌, ◌<◌, ◌≤◌, Bool, true, false, List, [], length, map, refl, sym, ap, subst, arith}
-use Rattle.std.specs.Prelude.{Option, Some, None, is_none, slice_get, option_and_then}
+use Rattle.std.proofs.Common.{◌≡◌, ◌∙◌, inl, inr, ⊎_elim, ℕ, ◌+◌, ◌<◌, true, false, not, ◌||◌, List, [], length, refl, sym, ap, subst, arith}
+use Rattle.std.specs.Prelude.{Some, None, is_none, nat_eq, slice_get, option_and_then}
 use Rattle.std.specs.Option.{option_map_or}
-use Rattle.std.proofs.lemmas.Bool.{cases_eq, true≢false}
+use Rattle.std.proofs.lemmas.Bool.{cases_eq}
 use Rattle.std.proofs.lemmas.List.{ext_get_or, get_or-map, length-map}
 use Rattle.std.proofs.lemmas.Option.{slice_get_within}
+use Rattle.reo_values.proofs.Truths.{either, no_both, not_true, not_false, and_right}
 use Rattle.reo_net_base.specs.declared.colouring.Move.{Move}
 use Rattle.reo_net_base.specs.declared.port.Port.{Port}
-use Rattle.reo_net_base.specs.declared.port.Offer.{Offer}
 use Rattle.reo_net_base.specs.PortState.{PortState}
 use Rattle.reo_rules.specs.Lists.{first_of}
 use Rattle.reo_players.specs.Written.{Task}
-use Rattle.reo_players.specs.Players.{Player, no_player, player_of, present, port_of, first_port, after, after_task}
+use Rattle.reo_players.specs.Players.{Player, no_player, player_of, port_of, first_port, counts, after, after_task}
 use Rattle.reo_players.specs.Offers.{task_offer, offer_at}
-use Rattle.reo_players.specs.Idle.{is_idle, NamesPort, IsRoused, HasRoused}
+use Rattle.reo_players.specs.Idle.{is_idle, waits, is_awake, NamesPort, IsRoused, HasRoused}
 use Rattle.reo_players.proofs.Idling.{idle_seen}
 use Rattle.reo_run_premises.specs.Fitting.{FitPorts}
 use Rattle.reo_at_ports.specs.Pending.{pending_at}
-use Rattle.reo_at_ports.specs.Between.{AreStepped, AreMoved, NoneIdleIsGone, is_gone, gone_on}
+use Rattle.reo_at_ports.specs.Between.{AreStepped, AreMoved, NoneAsleepIsGone, is_gone, gone_on}
 use Rattle.reo_at_ports.specs.Parts.{AreRoused, IsMoved}
 use Rattle.reo_at_ports.proofs.Offered.{offers_where}
 use Rattle.reo_at_ports.proofs.AtPorts.{rests_of, rest_at, apart}
@@ -150,18 +150,20 @@ module _ (moves : List Move) (old new : List Player) (states : List PortState) (
       subst (λ (k : ℕ). (player_of new k).seen ≡ 0) same some.2)
       (are.roused at.0 at.1 (slice_get_within moves at.0 at.1 at.2) at.2)
 
-  not_gone : (i : ℕ) → i < length new → is_idle (player_of new i) ≡ true → is_gone states (player_of new i) ≡ true → ⊥
-  not_gone i lt idle gone =
+  not_gone : (i : ℕ) → i < length new → is_awake (player_of new i) ≡ false → is_gone states (player_of new i) ≡ true → ⊥
+  not_gone i lt asleep gone =
       let named = gone_names states (player_of new i) gone in
       let was : first_port (player_of old i).rest ≡ Some named.0 = ap first_port (sym (are.rest i)) ∙ named.1 in
       let zeroth = roused_at i named.0 (omega (arith, are.count)) was named.2 in
-      let once = idle_seen (player_of new i) named.0 idle named.1 in
-      omega (arith, zeroth, once)
+      ⊎_elim
+      (λ idle. let once = idle_seen (player_of new i) named.0 idle named.1 in omega (arith, zeroth, once))
+      (λ waiting. no_both (nat_eq (player_of new i).seen 0) (ap (λ n. nat_eq n 0) zeroth) (not_true (nat_eq (player_of new i).seen 0) (and_right (counts (player_of new i)) (not (nat_eq (player_of new i).seen 0)) waiting)))
+      (either (is_idle (player_of new i)) (waits (player_of new i)) (not_false (is_idle (player_of new i) || waits (player_of new i)) asleep))
 
-  pub none_skipped : NoneIdleIsGone new states
-  none_skipped i lt idle =
+  pub none_skipped : NoneAsleepIsGone new states
+  none_skipped i lt asleep =
       elim (is_gone states (player_of new i)) as (λ b. is_gone states (player_of new i) ≡ b → is_gone states (player_of new i) ≡ false) [
-        | true ↦ λ gone. absurd (not_gone i lt idle gone)
+        | true ↦ λ gone. absurd (not_gone i lt asleep gone)
         | false ↦ λ stays. stays
       ] refl
 

@@ -1,5 +1,5 @@
 -- Components and the ports of a circuit.
-use Rattle.std.specs.Prelude.{ℕ, ◌≡◌, ◌<◌, Bool, true, false, is_none, Some, None, List, length, map, slice_get, option_and_then}
+use Rattle.std.specs.Prelude.{ℕ, ◌≡◌, ◌<◌, Bool, false, is_none, Some, None, List, length, map, slice_get, option_and_then}
 use Rattle.std.specs.Option.{option_map_or}
 use Rattle.reo_net_base.specs.declared.colouring.Move.{Move}
 use Rattle.reo_net_base.specs.declared.port.Offer.{Offer}
@@ -7,7 +7,7 @@ use Rattle.reo_net_base.specs.declared.port.Port.{Port}
 use Rattle.reo_net_base.specs.PortState.{PortState}
 use Rattle.reo_players.specs.Players.{Player, player_of, present, port_of, after}
 use Rattle.reo_players.specs.Offers.{offer_at}
-use Rattle.reo_players.specs.Idle.{is_idle}
+use Rattle.reo_players.specs.Idle.{is_awake}
 use Rattle.reo_run_premises.specs.Fitting.{FitPorts}
 use Rattle.reo_run_premises.specs.PortsOf.{HasPorts}
 use Rattle.reo_at_ports.specs.Pending.{pending_at, held_at, ArePending, ArePendingOrGone}
@@ -47,6 +47,6 @@ pub record AreMoved (moves : List Move) (players : List Player) (states : List P
   pub each : (port i : ℕ) (o : Offer) → i < length players → offer_at port (player_of players i) ≡ Some o → pending_at states port ≡ None
       → (k : ℕ) × (m : Move) × (slice_get moves k ≡ Some m) × (m.port ≡ port)
 
--- No component to which nothing is to be done has an offer that is gone.
-abbrev pub NoneIdleIsGone : List Player → List PortState → Type 0
-NoneIdleIsGone players states = (i : ℕ) → i < length players → is_idle (player_of players i) ≡ true → is_gone states (player_of players i) ≡ false
+-- No component that is idle or waits has an offer that is gone.
+abbrev pub NoneAsleepIsGone : List Player → List PortState → Type 0
+NoneAsleepIsGone players states = (i : ℕ) → i < length players → is_awake (player_of players i) ≡ false → is_gone states (player_of players i) ≡ false

@@ -8,7 +8,7 @@ ghost use Rattle.reo_players.specs.Players.{player_of};
 ghost use Rattle.reo_rounds.specs.Offering.{IsPendingAt};
 ghost use Rattle.reo_rounds.specs.Rules.{rules_of};
 ghost use Rattle.reo_at_ports.specs.Pending.{IsButForOffers, pending_in};
-ghost use Rattle.reo_at_ports.specs.Between.{AreAtPorts, AreBetween, AreMoved, AreStepped, NoneIdleIsGone, gone_on, is_gone as is_gone_at};
+ghost use Rattle.reo_at_ports.specs.Between.{AreAtPorts, AreBetween, AreMoved, AreStepped, NoneAsleepIsGone, gone_on, is_gone as is_gone_at};
 ghost use Rattle.reo_at_ports.specs.Parts.{AreRoused, HasGoneOn, IsLeft, IsPendingOrGone};
 
 use reo_engine::Engine;
@@ -83,7 +83,7 @@ fn advance<P: Restoring>(
 }
 
 /// Lets those at whose ports items moved be as if no round had seen their present actions, so that
-/// they are not idle.
+/// they are awake.
 fn rouse_all(players: &mut Players, moves: &[Move])
     ensures { AreRoused moves.now (length moves.now) players.old players.new }
 {
@@ -92,12 +92,12 @@ fn rouse_all(players: &mut Players, moves: &[Move])
     }
 }
 
-/// Each component that is not idle goes on after a round, in which its offer flowed where it is
-/// gone. An offer whose bound ran out is taken back. This takes no memory.
+/// Each component goes on after a round, in which its offer flowed where it is gone. An offer whose
+/// bound ran out is taken back. Those that are idle or wait are passed over. This takes no memory.
 fn advance_awake<P: Restoring>(engine: &mut Engine<P>, ports: &Ports, players: &mut Players)
     requires stepped { let old = engine.old.circuit in
         AreStepped ports.now.list old.ports players.old (map P.port_state old.primitives) }
-    requires idle { NoneIdleIsGone players.old (map P.port_state engine.old.circuit.primitives) }
+    requires asleep { NoneAsleepIsGone players.old (map P.port_state engine.old.circuit.primitives) }
     ensures players { let states = map P.port_state engine.old.circuit.primitives in
         players.new ≡ gone_on states players.old }
     ensures between { let new = engine.new.circuit in
@@ -106,16 +106,16 @@ fn advance_awake<P: Restoring>(engine: &mut Engine<P>, ports: &Ports, players: &
         IsButForOffers r engine.old.circuit engine.new.circuit }
     ensures rounds { engine.new.rounds ≡ engine.old.rounds }
 {
-    let mut component = players.next_awake(0);
+    let mut component = players.pass_on(0);
     while component < players.count() {
         advance(engine, ports, players, component);
-        component = players.next_awake(component + 1);
+        component = players.pass_on(component + 1);
     }
 }
 
 /// Each component goes on after a round, in which its offer flowed where it is gone, and its port
 /// has a move. An offer whose bound ran out is taken back. Only those are gone to that have a new
-/// action, or a bound or a pause, or a move at their port. This takes no memory.
+/// action, or a move at their port, or whose bound or pause runs out. This takes no memory.
 pub fn advance_all<P: Restoring>(
     engine: &mut Engine<P>,
     ports: &Ports,

@@ -8,7 +8,7 @@ use Rattle.reo_players.specs.Written.{Task}
 use Rattle.reo_players.specs.Players.{Player, after, after_task, bound_of, first_port, one_more_seen, runs_out}
 use Rattle.reo_players.specs.Idle.{is_idle}
 
-no_bound : (o : Option ℕ) → is_some o ≡ false → o ≡ None
+pub no_bound : (o : Option ℕ) → is_some o ≡ false → o ≡ None
 no_bound None e = refl
 no_bound (Some n) e = absurd cc
 

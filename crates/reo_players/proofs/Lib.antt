@@ -3,4 +3,6 @@ mod Stands
 mod Passed
 mod Present
 mod Marked
+mod Paces
+mod PacedLemmas
 pub mod Idling

@@ -5,13 +5,12 @@ use Rattle.std.specs.List.{list_any, list_all}
 use Rattle.std.proofs.lemmas.Bool.{cases_eq, cases_lt}
 use Rattle.std.proofs.lemmas.Bool.Decides.{nat_tests}
 use Rattle.std.proofs.lemmas.List.{ext_get_or, get_or-map, get_or-set_same, get_or-set_other, length-map, length-replicate, length-set, map-set}
-use Rattle.std.proofs.Math.Seq.{map-set_same}
 use Rattle.reo_values.proofs.Truths.{not_true, not_false, or_true, and_false}
 use Rattle.reo_flags.specs.Next.{IsNext}
 use Rattle.reo_players.specs.declared.marks.Mark.{Mark}
 use Rattle.reo_players.specs.declared.marks.Marks.{Marks}
 use Rattle.reo_players.specs.Players.{Player, no_player, player_of, is_done, all_done, counts, someone_counts}
-use Rattle.reo_players.specs.Idle.{is_idle, is_awake, is_left, mark_of, marks_of, IsNextAwake}
+use Rattle.reo_players.specs.Idle.{is_awake, is_left, mark_of, marks_of, IsNextAwake}
 
 -- The first so many are marked as they are.
 pub record AreMarked (f : Player → Bool) (ps : List Player) (n : ℕ) (flags : List Bool) : Type 0 where
@@ -100,8 +99,8 @@ module _ (ps : List Player) (flags : List Bool) (place : ℕ) where
       record {
         from_on = omega arith;
         in_range = next_in_range is_awake ps flags from place are next;
-        idle_before = λ i le lt. not_false (is_idle (player_of ps i)) (none_before is_awake ps flags from place are next i le lt);
-        here = λ lt. not_true (is_idle (player_of ps place)) (marked_here is_awake ps flags from place are next lt);
+        none_before = none_before is_awake ps flags from place are next;
+        here = marked_here is_awake ps flags from place are next;
       }
 
 -- All are marked.
@@ -129,14 +128,3 @@ module _ (ps : List Player) (i : ℕ) (p q : Player) (mark : Mark) (lt : i < len
       let c : new.left ≡ map is_left (set ps i p) =
       left ∙ ap (λ (m : Marks). set m.left i mark.left) is ∙ ap (λ (m : Mark). set (map is_left ps) i m.left) to ∙ sym (map-set is_left ps i p) in
       λ k. record { awake = a k; counting = b k; left = c k }
-
-  -- Where its mark is what it was, all marks are.
-  pub marks_stay : (before : Player) (was : Mark) (marks : Marks) → was ≡ mark_of before → before ≡ player_of ps i → mark.awake ≡ was.awake → mark.counting ≡ was.counting → mark.left ≡ was.left
-      → marks ≡ marks_of ps → marks ≡ marks_of (set ps i p)
-  marks_stay before was marks was_is before_is awake counting left is =
-      let now : mark_of p ≡ mark = ap mark_of (sym same) ∙ sym mark_is in
-      let then : was ≡ mark_of (player_of ps i) = was_is ∙ ap mark_of before_is in
-      let a = map-set_same is_awake ps i p no_player (ap (λ (m : Mark). m.awake) now ∙ awake ∙ ap (λ (m : Mark). m.awake) then) in
-      let b = map-set_same counts ps i p no_player (ap (λ (m : Mark). m.counting) now ∙ counting ∙ ap (λ (m : Mark). m.counting) then) in
-      let c = map-set_same is_left ps i p no_player (ap (λ (m : Mark). m.left) now ∙ left ∙ ap (λ (m : Mark). m.left) then) in
-      is ∙ sym (λ k. record { awake = a k; counting = b k; left = c k })

@@ -2,14 +2,15 @@
 use Rattle.std.proofs.Common.{◌≡◌, ◌∙◌, ◌+◌, ◌-◌, ◌^◌, ◌||◌, ◌&&◌, ℕ, Bool, true, false, not, cond, min, List, [], ◌∷◌, drop, Option, Some, None, refl, sym, ap, true≢false}
 use Rattle.std.specs.Prelude.{is_none, is_some, nat_eq}
 use Rattle.std.specs.Option.{option_map_or}
+use Rattle.reo_values.proofs.Truths.{or_false}
 use Rattle.reo_scripts.specs.declared.action.Action.{Action}
 use Rattle.reo_rules.specs.Lists.{first_of}
 use Rattle.reo_players.specs.declared.counter.Counter.{Counter}
 use Rattle.reo_players.specs.declared.step.Step.TheVariants as steps
 use Rattle.reo_players.specs.Written.{Task}
 use Rattle.reo_players.specs.Counters.{rest_left, StandsUntil}
-use Rattle.reo_players.specs.Players.{Player, first_bound, one_more_seen, after_task, step_task}
-use Rattle.reo_players.specs.Idle.{is_idle}
+use Rattle.reo_players.specs.Players.{Player, bound_of, first_bound, one_more_seen, after_task, step_task}
+use Rattle.reo_players.specs.Idle.{is_awake}
 use Rattle.reo_players.proofs.Passed.{HasTask, some_task}
 
 -- There is one until the component is done.
@@ -21,16 +22,22 @@ pub done_is : (done : Bool) (xs : List Action) (cs : List Counter) → StandsUnt
 done_is true xs cs stands = refl
 done_is false xs cs stands = sym (ap (λ ts. is_none (first_of ts)) (some_task cs xs stands).2)
 
--- Whether it is idle is seen by its bound.
-none_not_some : (o : Option ℕ) → is_none o ≡ not (is_some o)
-none_not_some None = refl
-none_not_some (Some n) = refl
+-- Whether it is awake is seen by its bound.
+pub done_asleep : (done : Bool) (xs : List Action) (cs : List Counter) (seen : ℕ) → done ≡ true → is_awake (record { rest = rest_left done xs cs; seen = seen }) ≡ false
+done_asleep true xs cs seen is = refl
+done_asleep false xs cs seen is = absurd (true≢false (sym is))
 
-pub idle_is : (done : Bool) (xs : List Action) (cs : List Counter) (bound : Option ℕ) (seen : ℕ) → StandsUntil done xs cs → bound ≡ first_bound (rest_left done xs cs)
-    → (done || (is_none bound && nat_eq seen 1)) ≡ is_idle (record { rest = rest_left done xs cs; seen = seen })
-idle_is done xs cs bound seen stands is =
-    ap (λ d. d || (is_none bound && nat_eq seen 1)) (done_is done xs cs stands)
-    ∙ ap (λ n. is_none (first_of (rest_left done xs cs)) || (n && nat_eq seen 1)) (none_not_some bound ∙ ap (λ o. not (is_some o)) is)
+abbrev pub awake_by : Option ℕ → ℕ → Bool
+awake_by None seen = not (nat_eq seen 1)
+awake_by (Some n) seen = nat_eq seen 0
+
+awake_at : (bound : Option ℕ) (seen : ℕ) → not ((not (is_some bound) && nat_eq seen 1) || (is_some bound && not (nat_eq seen 0))) ≡ awake_by bound seen
+awake_at None seen = ap not (or_false (nat_eq seen 1))
+awake_at (Some n) seen = elim (nat_eq seen 0) as (λ b. not (not b) ≡ b) [ true ↦ refl | false ↦ refl ]
+
+pub awake_is : (rest : List Task) → HasTask rest → (bound : Option ℕ) (seen : ℕ) → bound ≡ first_bound rest → is_awake (record { rest = rest; seen = seen }) ≡ awake_by bound seen
+awake_is [] has bound seen is = let some = has.2 in absurd cc
+awake_is (t ∷ ts) has bound seen is = awake_at (bound_of t) seen ∙ ap (λ o. awake_by o seen) (sym is)
 
 abbrev pub used_up : Option ℕ → ℕ → Bool
 used_up bound seen = option_map_or (λ n. nat_eq (seen + 1) n) bound false

@@ -1,17 +1,27 @@
--- Components to which nothing is to be done.
-use Rattle.std.specs.Prelude.{ℕ, ◌≡◌, ◌≢◌, ◌⊎◌, ◌<◌, ◌≤◌, ◌==◌, ◌&&◌, ◌||◌, min, not, Bool, true, false, List, length, map, Option, Some, MatchOption, option_and_then}
+-- Components to which nothing is to be done, or nothing but to count.
+use Rattle.std.specs.Prelude.{ℕ, ◌≡◌, ◌≢◌, ◌⊎◌, ◌<◌, ◌≤◌, ◌+◌, ◌==◌, ◌&&◌, ◌||◌, min, not, Bool, true, false, List, length, map, Option, Some, MatchOption, option_and_then}
+use Rattle.std.specs.Option.{option_map_or}
 use Rattle.reo_players.specs.declared.marks.Mark.{Mark}
 use Rattle.reo_players.specs.declared.marks.Marks.{Marks}
-use Rattle.reo_players.specs.Players.{Player, player_of, present, port_of, is_done, counts}
+use Rattle.reo_players.specs.Players.{Player, player_of, present, port_of, is_done, counts, first_bound, after}
 
 -- It is done, or a round has seen its present action, and that has no bound: it offers nothing new, and a round in which its offer does not flow leaves it as it is.
 abbrev pub is_idle : Player → Bool
 is_idle p = is_done p || (not (counts p) && (p.seen == 1))
 
--- What is marked: which components are not idle, which count, and which are not done.
-abbrev pub is_awake : Player → Bool
-is_awake p = not (is_idle p)
+-- Its rounds are counted: its present action is a pause or has a bound, and a round has seen it.
+abbrev pub waits : Player → Bool
+waits p = counts p && not (p.seen == 0)
 
+-- It is neither idle nor does it wait: no round has seen its present action.
+abbrev pub is_awake : Player → Bool
+is_awake p = not (is_idle p || waits p)
+
+-- One more round that sees its present action, and in which its offer does not flow, uses up its bound.
+abbrev pub is_last : Player → Bool
+is_last p = option_map_or (λ n. (p.seen + 1) == n) (first_bound p.rest) false
+
+-- What is marked: which components are awake, which count, and which are not done.
 abbrev pub is_left : Player → Bool
 is_left p = not (is_done p)
 
@@ -21,12 +31,28 @@ mark_of p = record { awake = is_awake p; counting = counts p; left = is_left p }
 abbrev pub marks_of : List Player → Marks
 marks_of ps = record { awake = map is_awake ps; counting = map counts ps; left = map is_left ps }
 
--- The place is the least from another on whose component is not idle, or the number of components if there is none.
+-- The place is the least from another on whose component is awake, or the number of components if there is none.
 pub record IsNextAwake (players : List Player) (from place : ℕ) : Type 0 where
   pub from_on : min from (length players) ≤ place
   pub in_range : place ≤ length players
-  pub idle_before : (i : ℕ) → from ≤ i → i < place → is_idle (player_of players i) ≡ true
-  pub here : place < length players → is_idle (player_of players place) ≡ false
+  pub none_before : (i : ℕ) → from ≤ i → i < place → is_awake (player_of players i) ≡ false
+  pub here : place < length players → is_awake (player_of players place) ≡ true
+
+-- One round has passed for the components from a place on, up to another: each of these is idle or waits, and its bound does not run out in the round. The others stand as they stood.
+pub record ArePassed (from place : ℕ) (old new : List Player) : Type 0 where
+  pub count : length new ≡ length old
+  pub asleep : (i : ℕ) → from ≤ i → i < place → is_awake (player_of old i) ≡ false
+  pub not_last : (i : ℕ) → from ≤ i → i < place → is_last (player_of old i) ≡ false
+  pub passed : (i : ℕ) → from ≤ i → i < place → player_of new i ≡ after false (player_of old i)
+  pub before : (i : ℕ) → i < from → player_of new i ≡ player_of old i
+  pub behind : (i : ℕ) → place ≤ i → player_of new i ≡ player_of old i
+
+-- So it has up to the place: there is one there that is awake or counts, or none is left.
+pub record HavePassed (from place : ℕ) (old new : List Player) : Type 0 where
+  pub from_on : min from (length old) ≤ place
+  pub in_range : place ≤ length old
+  pub are : ArePassed from place old new
+  pub here : place < length old → (is_awake (player_of old place) || counts (player_of old place)) ≡ true
 
 -- A component whose present action names the port; none only where none does.
 pub record NamesPort (players : List Player) (port component : ℕ) : Type 0 where

@@ -1,5 +1,6 @@
 //! At which component a port is looked for first.
 
+use crate::pacing::Paced;
 use crate::player::Player;
 use crate::step::Step;
 use reo_scripts::Action;
@@ -47,17 +48,17 @@ pub fn note_step(latest: &mut List<usize>, component: usize, step: Step, player:
 
 /// At each port that the components' actions name, a component that stands there, if one does. It
 /// is only where to look first. `NoMemory` is out of memory.
-pub fn latest_of(alloc: Global, players: &[Player]) -> Result<List<usize>, NoMemory> {
+pub fn latest_of(alloc: Global, players: &[Paced]) -> Result<List<usize>, NoMemory> {
     let mut room: usize = 0;
-    for player in players {
-        room = room.max(player.ports());
+    for paced in players {
+        room = room.max(paced.player.ports());
     }
     let mut latest = List::new(alloc);
     for _ in 0..room {
         latest.push(0)?;
     }
     for component in 0..players.len() {
-        note(&mut latest, component, players[component].port());
+        note(&mut latest, component, players[component].player.port());
     }
     Ok(latest)
 }

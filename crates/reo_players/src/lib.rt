@@ -7,6 +7,7 @@ mod latest;
 mod laws;
 mod live;
 mod marks;
+mod pacing;
 mod player;
 mod players;
 mod step;

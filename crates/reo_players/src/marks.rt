@@ -1,13 +1,15 @@
 //! Which components are awake, which count, and which are not done.
-ghost use Rattle.std.specs.Prelude.{◌≡◌, ◌<◌, false, true, IfOk, length, replicate, set};
+ghost use Rattle.std.specs.Prelude.{◌≡◌, ◌<◌, false, true, IfOk, length, map, replicate, set, slice_index_or};
 ghost use Rattle.reo_players.specs.Idle.{mark_of, marks_of as marks_of_all};
+ghost use Rattle.reo_players.specs.Pacing.{player_in};
 
+use crate::pacing::Paced;
 use crate::player::Player;
 use reo_flags::Flags;
 use reo_values::NoMemory;
 use std::alloc::Global;
 
-/// Of one component, whether it is not idle, whether it counts, and whether it is not done.
+/// Of one component, whether it is awake, whether it counts, and whether it is not done.
 #[derive(Clone, Copy)]
 pub struct Mark {
     pub awake: bool,
@@ -21,7 +23,7 @@ impl Mark {
         ensures { result ≡ mark_of player.now }
     {
         Mark {
-            awake: !player.is_idle(),
+            awake: player.is_awake(),
             counting: player.counts(),
             left: !player.is_done(),
         }
@@ -37,7 +39,7 @@ impl Mark {
     }
 }
 
-/// Of each component, whether it is not idle, whether it counts, and whether it is not done.
+/// Of each component, whether it is awake, whether it counts, and whether it is not done.
 #[derive(Drop)]
 pub struct Marks {
     pub awake: Flags,
@@ -59,6 +61,24 @@ impl Marks {
         self.counting.put(component, mark.counting);
         self.left.put(component, mark.left);
     }
+
+    /// Marks a component so, of which this was the mark.
+    #[inline(always)]
+    pub fn change(&mut self, component: usize, before: Mark, mark: Mark)
+        requires awake { component < length self.old.awake }
+        requires counting { component < length self.old.counting }
+        requires left { component < length self.old.left }
+        requires was_awake { slice_index_or self.old.awake component false ≡ before.awake }
+        requires was_counting { slice_index_or self.old.counting component false ≡ before.counting }
+        requires was_left { slice_index_or self.old.left component false ≡ before.left }
+        ensures awake { self.new.awake ≡ set self.old.awake component mark.awake }
+        ensures counting { self.new.counting ≡ set self.old.counting component mark.counting }
+        ensures left { self.new.left ≡ set self.old.left component mark.left }
+    {
+        if !mark.is(before) {
+            self.put(component, mark);
+        }
+    }
 }
 
 /// Marks of so many components, none of which is marked. `NoMemory` is out of memory.
@@ -78,12 +98,12 @@ fn no_marks(alloc: Global, count: usize) -> Result<Marks, NoMemory>
 }
 
 /// The marks of components. `NoMemory` is out of memory.
-pub fn marks_of(alloc: Global, players: &[Player]) -> Result<Marks, NoMemory>
-    ensures { IfOk result (λ made. made ≡ marks_of_all players.now) }
+pub fn marks_of(alloc: Global, players: &[Paced]) -> Result<Marks, NoMemory>
+    ensures { IfOk result (λ made. made ≡ marks_of_all (map player_in players.now)) }
 {
     let mut marks = no_marks(alloc, players.len())?;
     for component in 0..players.len() {
-        marks.put(component, Mark::of(&players[component]));
+        marks.put(component, Mark::of(&players[component].player));
     }
     Ok(marks)
 }

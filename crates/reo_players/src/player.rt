@@ -3,7 +3,8 @@ ghost use Rattle.std.specs.Prelude.{◌≡◌, ◌+◌, ◌-◌, ◌^◌, ◌==�
 ghost use Rattle.std.specs.Option.{option_map_or};
 ghost use Rattle.reo_players.specs.Counters.{rest_left, StandsUntil, task_of};
 ghost use Rattle.reo_players.specs.Players.{after, step_of, beginning_of, present, is_done as is_done_of, counts, bound_of, port_of as port_of_task, first_bound, first_port};
-ghost use Rattle.reo_players.specs.Idle.{is_idle as is_idle_of};
+ghost use Rattle.reo_players.specs.Idle.{is_awake as is_awake_of};
+ghost use Rattle.reo_players.specs.Pacing.{later, rounds_left};
 
 use crate::counter::{Counter, levels, pass, stand_at, standing};
 use crate::latest::ports_of;
@@ -111,12 +112,44 @@ impl Player {
         self.bound.is_some()
     }
 
-    /// Whether nothing is to be done to it: it is done, or a round has seen its present action,
-    /// and that has no bound.
-    pub fn is_idle(&self) -> bool
-        ensures { result ≡ is_idle_of self.now }
+    /// Whether it is neither idle nor does it wait: no round has seen its present action. Idle is
+    /// one that is done, or whose present action has no bound and a round has seen it.
+    #[inline(always)]
+    pub fn is_awake(&self) -> bool
+        ensures { result ≡ is_awake_of self.now }
     {
-        self.done || (self.bound.is_none() && self.seen == 1)
+        if self.done {
+            return false;
+        }
+        match self.bound {
+            None => self.seen != 1,
+            Some(_) => self.seen == 0,
+        }
+    }
+
+    /// In how many rounds its bound has run out, if its offer does not flow: where it has one, and
+    /// a round has seen its present action.
+    #[inline(always)]
+    pub fn left(&self) -> Option<u32>
+        ensures { result ≡ rounds_left self.now }
+    {
+        if self.seen == 0 {
+            return None;
+        }
+        match self.bound {
+            Some(most) => Some(most.saturating_sub(self.seen)),
+            None => None,
+        }
+    }
+
+    /// So many rounds have passed in which its offer did not flow, nor its bound run out.
+    #[inline(always)]
+    pub fn catch_up(&mut self, rounds: u64)
+        ensures { self.new ≡ later rounds self.old }
+    {
+        if self.bound.is_some() && self.seen != 0 {
+            self.seen = more_seen(self.seen, rounds);
+        }
     }
 
     /// One more than the greatest port that its actions name, or 0 if they name none.
@@ -231,6 +264,14 @@ fn one_more(bound: Option<u32>, seen: u32) -> u32
     } else {
         1
     }
+}
+
+/// How many rounds an action with a bound has seen after so many more.
+#[inline(always)]
+fn more_seen(seen: u32, rounds: u64) -> u32
+    ensures { result ≡ min (seen + rounds) (2 ^ 32 - 1) }
+{
+    (seen as u64).saturating_add(rounds).min(u32::MAX as u64) as u32
 }
 
 /// So many counters.

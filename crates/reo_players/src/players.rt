@@ -1,14 +1,17 @@
 //! All components in a run.
-ghost use Rattle.std.specs.Prelude.{◌≡◌, ◌<◌, ◌==◌, false, IfOk, IfSome, length, map, option_and_then};
+ghost use Rattle.std.specs.Prelude.{◌≡◌, ◌≢◌, ℕ, ◌<◌, ◌≤◌, ◌+◌, ◌-◌, ◌^◌, ◌==◌, ◌||◌, false, true, IfOk, IfSome, length, map, option_and_then, set, slice_index_or};
 ghost use Rattle.std.specs.Option.{option_map_or};
-ghost use Rattle.reo_players.specs.Players.{beginning_of, present, player_of, port_of as port_of_task, all_done, someone_counts, IsAdvanced};
-ghost use Rattle.reo_players.specs.Idle.{HasRoused, IsNamer, IsNextAwake, IsRoused, NamesPort};
+ghost use Rattle.reo_players.specs.Players.{beginning_of, present, player_of, port_of as port_of_task, all_done, counts, someone_counts, IsAdvanced};
+ghost use Rattle.reo_players.specs.Idle.{HasRoused, HavePassed, IsNamer, IsNextAwake, IsRoused, NamesPort, is_awake, is_last};
+ghost use Rattle.reo_players.specs.Pacing.{clock_at, due_of, paced_of};
 ghost use Rattle.reo_players.specs.Wants.{Wants};
 
 use crate::latest::{latest_of, note_step};
 use crate::marks::{Mark, Marks, marks_of};
+use crate::pacing::Paced;
 use crate::player::Player;
 use crate::step::Step;
+use reo_dues::{Dues, NEVER};
 use reo_scripts::{Action, Component, Script};
 use reo_values::{List, NoMemory, Value};
 use std::alloc::Global;
@@ -28,12 +31,17 @@ pub enum Want<'a> {
 
 /// All components in a run, in the order of their script. Their marks are kept, so that those to
 /// which nothing is to be done are passed over; and of each port the component that came there
-/// last, which is looked at first.
+/// last, which is looked at first. Rounds of a bound or a pause are not counted one by one: each
+/// component has the round of a clock in which it is due, and in a round a component that is not
+/// due is passed over. The components before `passed` have had the clock's present round.
 #[derive(Drop)]
 pub struct Players {
-    players: List<Player>,
+    players: List<Paced>,
     marks: Marks,
     latest: List<usize>,
+    dues: Dues,
+    clock: u64,
+    passed: usize,
 }
 
 impl Model for Players {
@@ -42,15 +50,83 @@ impl Model for Players {
     ghost use Rattle.reo_values.specs.contracts.value.Value as item;
     ghost use Rattle.reo_players.specs.Codes.{player_code};
     ghost use Rattle.reo_players.specs.Players.{Player as APlayer};
-    ghost use Rattle.reo_players.specs.Idle.{marks_of};
+    ghost use Rattle.reo_players.specs.Pacing.{ArePaced, clock_at, each_shown};
 
     ghost Value = { List APlayer };
 
     ghost coded = { coded_list (player_code item.the_row.coded) };
 
-    ghost view = { λ ps. ps.players };
+    ghost view = { λ ps. each_shown (clock_at ps.clock ps.passed) ps.players };
 
-    ghost invariant = { λ ps. ps.marks ≡ marks_of ps.players };
+    ghost invariant = { λ ps. ArePaced ps.clock ps.passed ps.players ps.marks ps.dues };
+}
+
+/// Each component at its first action, at the beginning of the clock. `NoMemory` is out of memory.
+fn first_paced(alloc: Global, components: List<Component>) -> Result<List<Paced>, NoMemory>
+    ensures { IfOk result (λ made. made ≡ map paced_of components) }
+{
+    let mut players = List::new(alloc);
+    for component in components.into_vec() {
+        let player = Player::new(alloc, component)?;
+        players.push(Paced { player, as_of: 0 })?;
+    }
+    Ok(players)
+}
+
+/// The clock of a component: in a round, that of those that it has passed is one ahead.
+#[inline(always)]
+fn clock_of(clock: u64, passed: usize, component: usize) -> u64
+    requires { clock < 2 ^ 64 - 1 }
+    ensures { result ≡ clock_at clock passed component }
+{
+    if component < passed { clock + 1 } else { clock }
+}
+
+/// Passes a component, if it is the next to be passed. The answer is its clock then.
+#[inline(always)]
+fn pass_one(clock: u64, passed: &mut usize, component: usize) -> u64
+    requires clock { clock < 2 ^ 64 - 1 }
+    requires component { component < 2 ^ 64 - 1 }
+    ensures here { result ≡ clock_at clock passed.new component }
+    ensures later { clock_at clock passed.old component ≤ result }
+    ensures others { (j : ℕ) → j ≢ component
+        → clock_at clock passed.new j ≡ clock_at clock passed.old j }
+{
+    if component == *passed {
+        *passed = component + 1;
+        clock + 1
+    } else {
+        clock_of(clock, *passed, component)
+    }
+}
+
+/// Notes when a component is due, where it counts or did before; else it was never due, nor is it.
+#[inline(always)]
+fn put_due(dues: &mut Dues, component: usize, counts: bool, paced: &Paced)
+    requires there { component < length dues.old }
+    requires same { counts ≡ false → slice_index_or dues.old component 0 ≡ due_of paced.now }
+    ensures { dues.new ≡ set dues.old component (due_of paced.now) }
+{
+    if counts {
+        dues.put(component, paced.due());
+    }
+}
+
+/// All before a place have passed, of so many. Once all have, a new round of the clock begins; at
+/// the clock's end none does, and they stay passed.
+#[inline(always)]
+fn pass_to(clock: &mut u64, passed: &mut usize, place: usize, count: usize)
+    requires { clock.old < 2 ^ 64 - 2 }
+    ensures fits { clock.new < 2 ^ 64 - 2 }
+    ensures before { (i : ℕ) → i < place → clock_at clock.new passed.new i ≡ clock.old + 1 }
+    ensures behind { (i : ℕ) → place ≤ i → i < count
+        → clock_at clock.new passed.new i ≡ clock.old }
+{
+    *passed = place;
+    if place == count && *clock < NEVER - 2 {
+        *clock += 1;
+        *passed = 0;
+    }
 }
 
 impl Players {
@@ -59,16 +135,17 @@ impl Players {
     pub fn new(alloc: Global, script: Script) -> Result<Self, NoMemory>
         ensures { IfOk result (λ made. made ≡ map beginning_of script.components) }
     {
-        let mut players = List::new(alloc);
-        for component in script.components.into_vec() {
-            players.push(Player::new(alloc, component)?)?;
-        }
+        let players = first_paced(alloc, script.components)?;
         let marks = marks_of(alloc, players.as_slice())?;
         let latest = latest_of(alloc, players.as_slice())?;
+        let dues = Dues::new(alloc, players.len())?;
         Ok(Players {
             players,
             marks,
             latest,
+            dues,
+            clock: 0,
+            passed: 0,
         })
     }
 
@@ -79,12 +156,22 @@ impl Players {
         self.players.len()
     }
 
+    /// A component, of whose rounds some may not be counted yet.
+    #[inline(always)]
+    fn player(&self, component: usize) -> &Player
+        requires { component < length self.now }
+        ensures rest { result.now.rest ≡ (player_of self.now component).rest }
+        ensures fresh { (result.now.seen == 0) ≡ ((player_of self.now component).seen == 0) }
+    {
+        &self.players.at(component).player
+    }
+
     /// What a component wants.
     pub fn wants(&self, component: usize) -> Want<'_>
         requires { component < length self.now }
         ensures { Wants result (present (player_of self.now component)) }
     {
-        match self.players.at(component).present() {
+        match self.player(component).present() {
             None => Want::Done,
             Some(Action::Write { port, item, .. }) => Want::Write { port: *port, item },
             Some(Action::Take { port, .. }) => Want::Take { port: *port },
@@ -98,7 +185,7 @@ impl Players {
         requires { component < length self.now }
         ensures { result ≡ option_and_then port_of_task (present (player_of self.now component)) }
     {
-        self.players.at(component).port()
+        self.player(component).port()
     }
 
     /// Whether a component's present action has not seen a round.
@@ -106,7 +193,7 @@ impl Players {
         requires { component < length self.now }
         ensures { result ≡ ((player_of self.now component).seen == 0) }
     {
-        self.players.at(component).seen() == 0
+        self.player(component).seen() == 0
     }
 
     /// Whether each component is done.
@@ -123,9 +210,8 @@ impl Players {
         self.marks.counting.next_set(0) < self.players.len()
     }
 
-    /// The least place from `from` on whose component is not idle, or the number of components if
-    /// there is none. Idle is one that is done, or whose present action has no bound and a round
-    /// has seen it.
+    /// The least place from `from` on whose component is awake, or the number of components if
+    /// there is none: no round has seen its present action.
     pub fn next_awake(&self, from: usize) -> usize
         ensures { IsNextAwake self.now from result }
     {
@@ -139,7 +225,7 @@ impl Players {
             let named = option_and_then port_of_task task in
             result ≡ option_map_or (λ n. n == port) named false }
     {
-        match self.players.at(component).port() {
+        match self.player(component).port() {
             Some(named) => named == port,
             None => false,
         }
@@ -191,9 +277,11 @@ impl Players {
         if self.fresh(component) {
             return;
         }
-        self.players.at_mut(component).rouse();
-        let mark = Mark::of(self.players.at(component));
+        let paced = self.players.at_mut(component);
+        paced.player.rouse();
+        let mark = Mark::of(&paced.player);
         self.marks.put(component, mark);
+        self.dues.put(component, NEVER);
     }
 
     /// Lets a component whose present action names a port be as if no round had seen that action,
@@ -212,14 +300,80 @@ impl Players {
         requires { component < length self.old }
         ensures { IsAdvanced component flowed self.old self.new result }
     {
-        let before = Mark::of(self.players.at(component));
-        let step = self.players.at_mut(component).advance(flowed);
-        let player = self.players.at(component);
-        let mark = Mark::of(player);
-        note_step(&mut self.latest, component, step, player);
-        if !mark.is(before) {
-            self.marks.put(component, mark);
-        }
+        let _count = self.players.len();
+        let clock = clock_of(self.clock, self.passed, component);
+        let next = pass_one(self.clock, &mut self.passed, component);
+        let paced = self.players.at_mut(component);
+        let before = Mark::of(&paced.player);
+        let step = paced.advance(clock, next, flowed);
+        let mark = Mark::of(&paced.player);
+        let counts = before.counting || mark.counting;
+        note_step(&mut self.latest, component, step, &paced.player);
+        put_due(&mut self.dues, component, counts, paced);
+        self.marks.change(component, before, mark);
         step
+    }
+
+    /// Whether a component is awake.
+    #[inline(always)]
+    fn is_awake(&self, component: usize) -> bool
+        requires { component < length self.now }
+        ensures { result ≡ is_awake (player_of self.now component) }
+    {
+        self.marks.awake.at(component)
+    }
+
+    /// Whether a component is awake, or its bound runs out in the round.
+    fn goes(&self, component: usize) -> bool
+        requires { component < length self.now }
+        ensures awake { result ≡ false → is_awake (player_of self.now component) ≡ false }
+        ensures last { result ≡ false → is_last (player_of self.now component) ≡ false }
+        ensures here { result ≡ true → (is_awake (player_of self.now component)
+            || counts (player_of self.now component)) ≡ true }
+    {
+        let clock = clock_of(self.clock, self.passed, component);
+        let due = self.dues.at(component);
+        self.marks.awake.at(component) || (due != NEVER && due <= clock.saturating_add(1))
+    }
+
+    /// As `pass_on`, one by one.
+    #[inline(never)]
+    fn pass_each(&mut self, from: usize) -> usize
+        ensures { HavePassed from result self.old self.new }
+    {
+        let mut place = from;
+        while place < self.count() && !self.goes(place) {
+            let _stays = self.advance(place, false);
+            place += 1;
+        }
+        place.min(self.count())
+    }
+
+    /// As `pass_on`, all at once where a round has passed for exactly those before `from`.
+    fn pass_more(&mut self, from: usize) -> usize
+        ensures { HavePassed from result self.old self.new }
+    {
+        if from != self.passed {
+            return self.pass_each(from);
+        }
+        let awake = self.marks.awake.next_set(from);
+        let place = self.dues.next(from, awake, self.clock + 1);
+        let count = self.players.len();
+        pass_to(&mut self.clock, &mut self.passed, place, count);
+        place
+    }
+
+    /// One round passes for the components from `from` on that are idle or wait and whose bound
+    /// does not run out in it, up to the first that is awake or whose bound runs out, which is
+    /// answered, or the number of components if there is none. All are passed at once where a
+    /// round has passed for exactly those before `from`, by this call and by `advance`.
+    #[inline(always)]
+    pub fn pass_on(&mut self, from: usize) -> usize
+        ensures { HavePassed from result self.old self.new }
+    {
+        if from < self.count() && self.is_awake(from) {
+            return from;
+        }
+        self.pass_more(from)
     }
 }

@@ -9,8 +9,8 @@ advance_awake-requires-clause-stepped g c =
     let states : List PortState = map g.P.Ported.port_state c.args.engine.now.circuit.primitives in
     roused_stepped c.args.moves.now c.args.players.now c.rouse_all.new.players states c.rouse_all.ensures c.requires.moved c.args.ports.now.list c.args.engine.now.circuit.ports c.requires.stepped
 
-pub advance_awake-requires-clause-idle : goal.advance_awake-requires-clause-idle
-advance_awake-requires-clause-idle g c =
+pub advance_awake-requires-clause-asleep : goal.advance_awake-requires-clause-asleep
+advance_awake-requires-clause-asleep g c =
     let states : List PortState = map g.P.Ported.port_state c.args.engine.now.circuit.primitives in
     none_skipped c.args.moves.now c.args.players.now c.rouse_all.new.players states c.rouse_all.ensures c.requires.moved c.args.ports.now.list c.args.engine.now.circuit.ports c.requires.stepped
 

@@ -1,5 +1,5 @@
 -- All components go on.
-use Rattle.std.proofs.Common.{◌∙◌, ◌+◌, ◌<◌, ◌≤◌, ◌≡◌, ℕ, List, length, map, refl, arith}
+use Rattle.std.proofs.Common.{◌∙◌, ◌+◌, ◌<◌, ◌≤◌, ℕ, List, length, map, refl, arith}
 use Rattle.reo_net_base.specs.PortState.{PortState}
 use Rattle.reo_rounds.specs.Rules.{Rules, rules_of}
 use Rattle.reo_players.specs.Players.{Player}
@@ -15,9 +15,9 @@ loop-component-init g c =
     let count : ℕ = c.args.engine.now.circuit.ports in
     let players : List Player = c.args.players.now in
     record {
-      in_range = c.next_awake-component.ensures.in_range;
-      on = pass_to ports count players players states states count c.requires.stepped c.requires.idle 0 c.next_awake-component.result (omega arith) c.next_awake-component.ensures
-          (first ports count players states c.requires.stepped);
+      in_range = let have = c.pass_on-component.ensures.in_range in omega (arith, c.pass_on-component.ensures.are.count);
+      on = pass_to ports count players players c.pass_on-component.new.self states states count c.requires.stepped c.requires.asleep 0 c.pass_on-component.result (omega arith)
+          (first ports count players states c.requires.stepped) c.pass_on-component.ensures;
       circuit = self_but r g.met.P.Restoring.placed_again c.args.engine.now.circuit;
       rounds = refl;
     }
@@ -44,9 +44,9 @@ loop-component-preserved g c =
     let more = next ports c.loop-component.engine.circuit.ports c.loop-component.component c.args.players.now c.loop-component.players states now on lt
     count newer later c.advance.ensures.at_ports c.advance.ensures.players c.advance.ensures.offers in
     record {
-      in_range = c.next_awake-component-in-loop-component.ensures.in_range;
-      on = pass_to ports count c.args.players.now newer states later c.args.engine.now.circuit.ports c.requires.stepped c.requires.idle
-          (c.loop-component.component + 1) c.next_awake-component-in-loop-component.result within c.next_awake-component-in-loop-component.ensures more;
+      in_range = let have = c.pass_on-component-in-loop-component.ensures.in_range in omega (arith, c.pass_on-component-in-loop-component.ensures.are.count);
+      on = pass_to ports count c.args.players.now newer c.pass_on-component-in-loop-component.new.self states later c.args.engine.now.circuit.ports c.requires.stepped c.requires.asleep
+          (c.loop-component.component + 1) c.pass_on-component-in-loop-component.result within more c.pass_on-component-in-loop-component.ensures;
       circuit = c.advance.ensures.circuit c.args.engine.now.circuit c.loop-component.invariant.circuit on.were;
       rounds = c.advance.ensures.rounds ∙ c.loop-component.invariant.rounds;
     }

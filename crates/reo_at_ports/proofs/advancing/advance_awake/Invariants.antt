@@ -10,7 +10,7 @@ invariant-loop-component g l =
     let r = rules_of g.P.Primitive.behaviour g.P.Primitive.settled g.P.Ported.port_state g.P.Ported.placed g.P.Ported.withdrawn in
     record {
       in_range : l.component ≤ length l.players;
-      on : Advancing l.ports.list l.engine.circuit.ports l.component l.initial.players l.players (map g.P.Ported.port_state l.initial.engine.circuit.primitives) (map g.P.Ported.port_state l.engine.circuit.primitives);
+      on : Advancing l.ports.list l.engine.circuit.ports l.component l.fn.players l.players (map g.P.Ported.port_state l.initial.engine.circuit.primitives) (map g.P.Ported.port_state l.engine.circuit.primitives);
       circuit : IsButForOffers r l.initial.engine.circuit l.engine.circuit;
       rounds : l.engine.rounds ≡ l.initial.engine.rounds;
     }
