@@ -1,9 +1,9 @@
 /* The engine for programs in C: the calls of the static library `reo_c`.
  *
  * A handle holds one connector, or nothing. One handle is one connector's: it is moved with `=`
- * only if the old copy is not used again, and it is used by one thread at a time. Before the first
- * call all of its bytes are zero, as `struct reo_handle router = {0};` makes them. Its fields are
- * the library's.
+ * only if the old copy is not used again, and it is used by the thread alone that opened it, as
+ * the items in it have owners that are counted. Before the first call all of its bytes are zero, as
+ * `struct reo_handle router = {0};` makes them. Its fields are the library's.
  *
  * No pointer is null, also where its length is 0, and what two pointers of one call point to does
  * not overlap. A text is bytes and their count; no byte ends it. No call aborts, blocks, or keeps a
