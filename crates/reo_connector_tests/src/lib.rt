@@ -1,4 +1,4 @@
-//! Connectors that programs hold, call by call: tests alone.
+//! Connectors that programs hold, and those behind handles, call by call: tests alone.
 #![tactic(auto)]
 
 #[cfg(test)]
@@ -7,6 +7,8 @@ mod acts;
 mod checks;
 #[cfg(test)]
 mod connectors;
+#[cfg(test)]
+mod handles;
 #[cfg(test)]
 mod large;
 #[cfg(test)]

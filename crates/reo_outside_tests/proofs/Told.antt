@@ -1,4 +1,4 @@
--- The ports of the tests are such as traces ask for.
+-- The ports of the tests are such as traces and proof texts ask for.
 use Rattle.std.proofs.Common.{arith, rules, ◌≡◌, inr, ℕ, zero, suc, ◌+◌, ◌<◌, ◌≤◌, List, [], ◌∷◌, get_or, map, refl, ap}
 use Rattle.std.specs.List.{All}
 use Rattle.reo_values.specs.Names.{IsName}

@@ -1,4 +1,4 @@
--- The ports of the tests that read traces.
+-- The ports of the tests that read traces and proof texts.
 use Rattle.std.specs.Prelude.{ℕ, pos, List, [], ◌∷◌}
 use Rattle.reo_values.specs.declared.kindred.Kindred.{Kindred}
 use Rattle.reo_values.specs.declared.kindred.Kindred.TheVariants.{Int, Text}

@@ -7,6 +7,8 @@ mod checks;
 #[cfg(test)]
 mod files;
 #[cfg(test)]
+mod proof_texts;
+#[cfg(test)]
 mod puts;
 #[cfg(test)]
 mod reading;

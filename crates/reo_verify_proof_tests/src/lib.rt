@@ -1,4 +1,5 @@
-//! Proof texts, whose verdicts were found by hand: tests alone.
+//! Proof texts whose verdicts were found by hand, and worked runs with their logs: tests alone.
+//! Where it is free which log stands behind a round, the text is verified.
 #![tactic(auto)]
 
 #[cfg(test)]
@@ -6,11 +7,19 @@ mod checks;
 #[cfg(test)]
 mod cutting;
 #[cfg(test)]
+mod failing;
+#[cfg(test)]
 mod judging;
+#[cfg(test)]
+mod proved;
+#[cfg(test)]
+mod shown;
 #[cfg(test)]
 mod splits;
 #[cfg(test)]
 mod verdicts;
+#[cfg(test)]
+mod whole;
 #[cfg(test)]
 mod wide;
 #[cfg(test)]

@@ -1,7 +1,7 @@
 use Rattle.std.proofs.Common.{sym, subst}
 use Rattle.reo_trace_texts.specs.Lines.{AreTold}
-use Rattle.reo_proof_tests.proofs.Told.{are_told}
-use Rattle.reo_proof_tests.proofs.reading.standing.Goals as goal
+use Rattle.reo_outside_tests.proofs.Told.{are_told}
+use Rattle.reo_outside_tests.proofs.proof_texts.standing.Goals as goal
 
 pub read_next-requires : goal.read_next-requires
 read_next-requires c = subst AreTold (sym c.in_ok-ports.ensures) are_told

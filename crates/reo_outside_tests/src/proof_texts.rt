@@ -1,7 +1,7 @@
 //! What stands next in proof texts.
 ghost use Rattle.std.specs.Prelude.{◌≡◌, ◌∷◌, [], IfOk, ℕ, List as Items};
 ghost use Rattle.reo_net_base.specs.declared.port.Port.{Port as APort};
-ghost use Rattle.reo_proof_tests.specs.Told.{told_port, all_told};
+ghost use Rattle.reo_outside_tests.specs.Told.{told_port, all_told};
 
 use crate::checks::is;
 use reo_net_base::{Port, Ports, Way};

@@ -1,5 +1,5 @@
 //! Texts with logs, of which the first lines and the last are told. Each is verified.
-use crate::works::{HALF, ONE, TURNS, Work, open_sink, prove_work, verified};
+use crate::proved::{HALF, ONE, TURNS, Work, open_sink, prove_work, verified};
 use reo_trace::Ending;
 use std::process::Abort;
 use std::test::Fail;

@@ -1,5 +1,5 @@
 //! Sinks that fail: each has got a front of the text.
-use crate::works::{HALF, ONE, Work, open_sink, prove_work};
+use crate::proved::{HALF, ONE, Work, open_sink, prove_work};
 use reo_io::MemorySink;
 use reo_trace::WriteFault;
 use reo_values::List;

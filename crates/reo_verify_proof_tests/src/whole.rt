@@ -1,5 +1,5 @@
 //! Texts that are told whole, since no place is live in their rounds.
-use crate::works::{ONE, Work, open_sink, prove_work};
+use crate::proved::{ONE, Work, open_sink, prove_work};
 use reo_trace::Ending;
 use std::process::Abort;
 use std::test::Fail;
