@@ -2,8 +2,10 @@
 ghost use Rattle.std.specs.Prelude.{◌≡◌, ◌<◌, ◌+◌, ◌^◌, ℕ, true, IfOk, OnOk, MatchOption, length, slice_index_or, []};
 ghost use Rattle.reo_net_base.specs.Net.{net_of, all_sides};
 ghost use Rattle.reo_net_laws.specs.Parts.{IsKnot};
+ghost use Rattle.reo_net_ends.specs.Ends.{AreEnds};
 ghost use Rattle.reo_knots.specs.Knots.{AreKnots, in_knot, knot_count};
 ghost use Rattle.reo_support.specs.Sets.{OneAtLoops};
+ghost use Rattle.reo_side_tables.specs.Boards.{AreBoards};
 ghost use Rattle.reo_rows.specs.Sets.{family_of, names_of};
 ghost use Rattle.reo_propagate.specs.Queues.{among};
 ghost use Rattle.reo_propagate.specs.Basis.{IsSearchOn};
@@ -64,6 +66,45 @@ pub fn first_by<P: Primitive>(
     }
 }
 
+/// The first assignment of a knot with values in these sets, by the tables that a search rests on:
+/// `None` exactly where there is none.
+fn arrange_by<P: Primitive>(
+    alloc: Global,
+    basis: &Basis<'_, P>,
+    knots: &Knots,
+    sets: &Sets,
+    knot: usize,
+    turn: u64,
+) -> Result<Option<Part>, NoMemory>
+    requires knots { AreKnots (net_of P.behaviour basis.now.circuit.now) knots.now }
+    requires knot { knot < knot_count knots.now }
+    requires boards { AreBoards (net_of P.behaviour basis.now.circuit.now) basis.now.boards.now }
+    requires ends { AreEnds (net_of P.behaviour basis.now.circuit.now) basis.now.ends.now }
+    requires items { length basis.now.items.now ≡ length basis.now.circuit.now.joints }
+    requires few { (j : ℕ) → length (slice_index_or basis.now.items.now j []) < 2 ^ 32 }
+    requires one_each { length sets.now.values ≡ length basis.now.circuit.now.joints }
+    requires numbers { let net = net_of P.behaviour basis.now.circuit.now in
+        AreInSupply net (in_knot knots.now.numbers knot) basis.now.items.now
+        (listed sets.now.values) }
+    requires one { let net = net_of P.behaviour basis.now.circuit.now in
+        OneAtLoops net (in_knot knots.now.numbers knot) (listed sets.now.values) }
+    ensures first { let net = net_of P.behaviour basis.now.circuit.now in
+        IfOk result (λ found. MatchOption found (HasNoAssignment net (names_of basis.now.items.now)
+        (in_knot knots.now.numbers knot) (listed sets.now.values))
+        (IsFirstPart net (names_of basis.now.items.now) (in_knot knots.now.numbers knot) turn
+        (listed sets.now.values))) }
+{
+    basis.circuit.known();
+    let _order = basis.circuit.order();
+    let sides = knots.sides(knot);
+    let places = places_of(alloc, basis.circuit, sides)?;
+    let mut state = begin_with(alloc, basis, sides, sets)?;
+    match first_by(alloc, basis, sides, &mut state, places.as_slice(), turn)? {
+        None => Ok(None),
+        Some(chosen) => Ok(Some(part_of(alloc, basis.circuit, sides, chosen.as_slice())?)),
+    }
+}
+
 /// The first assignment of a knot with values in these sets, or `None` exactly where there is none.
 /// It ticks once.
 pub fn arrange<P: Primitive, L: Ledger>(
@@ -93,22 +134,13 @@ pub fn arrange<P: Primitive, L: Ledger>(
     ensures ticks { steps.new ≡ steps.old + 1 }
 {
     steps.tick();
-    circuit.known();
-    let _order = circuit.order();
     let ends = ends_of(alloc, circuit)?;
     let boards = boards_of(alloc, circuit, &ends)?;
-    let items = supply.lists();
-    let sides = knots.sides(knot);
-    let places = places_of(alloc, circuit, sides)?;
     let basis = Basis {
         circuit,
         boards: &boards,
         ends: &ends,
-        items,
+        items: supply.lists(),
     };
-    let mut state = begin_with(alloc, &basis, sides, sets)?;
-    match first_by(alloc, &basis, sides, &mut state, places.as_slice(), turn)? {
-        None => Ok(None),
-        Some(chosen) => Ok(Some(part_of(alloc, circuit, sides, chosen.as_slice())?)),
-    }
+    arrange_by(alloc, &basis, knots, sets, knot, turn)
 }
