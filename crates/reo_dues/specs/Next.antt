@@ -1,7 +1,7 @@
 -- The next that is due.
 use Rattle.std.specs.Prelude.{ℕ, ◌<◌, ◌≤◌, min, List, slice_index_or}
 
--- The place is the least from another on, before a limit, whose time is this one or sooner, or the limit if there is none.
+-- The place is the least from another on, before a limit up to which there are times, whose time is this one or sooner, or the limit if there is none.
 pub record IsNextDue (times : List ℕ) (from limit by place : ℕ) : Type 0 where
   pub from_on : min from limit ≤ place
   pub in_range : place ≤ limit

@@ -13,7 +13,7 @@ is_idle p = is_done p || (not (counts p) && (p.seen == 1))
 abbrev pub waits : Player → Bool
 waits p = counts p && not (p.seen == 0)
 
--- It is neither idle nor does it wait: no round has seen its present action.
+-- It is neither idle nor does it wait: so is each whose present action no round has seen, and that is not done.
 abbrev pub is_awake : Player → Bool
 is_awake p = not (is_idle p || waits p)
 
@@ -47,7 +47,7 @@ pub record ArePassed (from place : ℕ) (old new : List Player) : Type 0 where
   pub before : (i : ℕ) → i < from → player_of new i ≡ player_of old i
   pub behind : (i : ℕ) → place ≤ i → player_of new i ≡ player_of old i
 
--- So it has up to the place: there is one there that is awake or counts, or none is left.
+-- So it has up to a place at which there is one that is awake or counts, or up to the end: at which of those that count it stops is not said.
 pub record HavePassed (from place : ℕ) (old new : List Player) : Type 0 where
   pub from_on : min from (length old) ≤ place
   pub in_range : place ≤ length old

@@ -7,7 +7,7 @@ use Rattle.reo_players.specs.declared.pacing.Paced.{Paced}
 use Rattle.reo_players.specs.Players.{Player, beginning_of, first_bound}
 use Rattle.reo_players.specs.Idle.{waits, marks_of}
 
--- The player so many rounds later, in none of which its offer flowed or its bound ran out.
+-- The player so many rounds later, if it is not awake, its offer flows in none of them and its bound does not run out: its rounds are counted, if it waits.
 abbrev pub later : ℕ → Player → Player
 later zero p = p
 later (suc n) p = record { rest = p.rest; seen = cond (waits p) (min (p.seen + suc n) (2 ^ 32 - 1)) p.seen }
@@ -16,15 +16,15 @@ later (suc n) p = record { rest = p.rest; seen = cond (waits p) (min (p.seen + s
 abbrev pub paced_of : Component → Paced
 paced_of c = record { player = beginning_of c; as_of = 0 }
 
--- In how many rounds its bound has run out, if its offer does not flow, where its rounds are counted.
+-- In how many rounds its bound has run out, if its offer does not flow; none where it has none, or no round has seen its present action.
 abbrev pub rounds_left : Player → Option ℕ
 rounds_left p = cond (p.seen == 0) None (option_map (λ n. n - p.seen) (first_bound p.rest))
 
--- The round of the clock in which it is to be gone to: that in which its bound runs out, and none where none does.
+-- The round of the clock in which it is to be gone to: that in which its bound runs out by what is left of it, or else 2 ^ 64 - 1, to which no clock comes. A bound that runs out behind all that a clock comes to is due in round 2 ^ 64 - 2.
 abbrev pub due_of : Paced → ℕ
 due_of x = option_map_or (λ n. min (x.as_of + n) (2 ^ 64 - 2)) (rounds_left x.player) (2 ^ 64 - 1)
 
--- The player at a round of the clock.
+-- The player at a round of the clock, if since it was gone to it was not awake and its bound has not run out.
 abbrev pub shown : ℕ → Paced → Player
 shown clock x = later (clock - x.as_of) x.player
 
