@@ -16,6 +16,7 @@ use Rattle.reo_net_base.specs.Net.{Net, mark_at, end_of}
 use Rattle.reo_net_base.specs.PortState.{PortState}
 use Rattle.reo_net_base.specs.Shapes.{SameWays}
 use Rattle.reo_net_base.specs.Wired.{IsWired, ArePorts}
+use Rattle.reo_net_base.proofs.Marks.{mark_flows as flows}
 use Rattle.reo_net_circuit.specs.Offers.{AreAfterRound}
 use Rattle.reo_players.specs.Written.{Task}
 use Rattle.reo_players.specs.Written.Task.{writes, takes, rests}
@@ -33,7 +34,6 @@ use Rattle.reo_at_ports.specs.Pending.{pending_at}
 use Rattle.reo_at_ports.specs.Between.{AreStarted, AreStepped, AreMoved, is_gone, gone_on}
 use Rattle.reo_at_ports.proofs.AtPorts.{in_range}
 use Rattle.reo_at_ports.proofs.Offered.{gives}
-use Rattle.reo_move_laws.proofs.Flows.{flow_is as flows}
 
 -- Lists by functions that agree on each item.
 map_same : {X Y : Type 0} (f g : X → Y) (xs : List X) → ((i : ℕ) (x : X) → slice_get xs i ≡ Some x → f x ≡ g x) → map f xs ≡ map g xs

@@ -1,5 +1,5 @@
 -- The components go on one by one.
-use Rattle.std.proofs.Common.{◌≡◌, ◌≢◌, ◌∙◌, inl, inr, ℕ, ◌+◌, ◌<◌, ◌≤◌, Bool, true, false, cond, List, [], length, refl, sym, ap, subst, arith}
+use Rattle.std.proofs.Common.{◌≡◌, ◌≢◌, ◌∙◌, inl, inr, ℕ, ◌+◌, ◌<◌, ◌≤◌, Bool, true, false, cond, List, length, refl, sym, ap, subst, arith}
 use Rattle.std.specs.Prelude.{Option, Some, None, nat_lt, nat_eq}
 use Rattle.std.proofs.lemmas.Bool.{cases_eq}
 use Rattle.std.proofs.lemmas.Bool.Decides.{nat_tests}
@@ -15,7 +15,7 @@ use Rattle.reo_at_ports.specs.Pending.{pending_at, held_at}
 use Rattle.reo_at_ports.specs.Between.{AreAtPorts, AreBetween, AreStepped, NoneAsleepIsGone, is_gone, gone_on}
 use Rattle.reo_at_ports.specs.Parts.{HasGoneOn, IsLeft, IsPendingOrGone}
 use Rattle.reo_at_ports.proofs.Cases.{lt_cases, option_cases}
-use Rattle.reo_at_ports.proofs.AtPorts.{alone, in_range, rests_of, rest_at}
+use Rattle.reo_at_ports.proofs.AtPorts.{alone, in_range, rests_same}
 use Rattle.reo_at_ports.proofs.GoneOn.{gone_alike, still_there, held_passed, passed_rest}
 
 -- What a component has at a port, of which the first so many have gone on.
@@ -198,13 +198,6 @@ module _ (ports : List Port) (count : ℕ) (old new newer : List Player) (before
         ]
       ]
 
-  rests_same : rests_of newer ≡ rests_of new
-  rests_same =
-      ext_get_or [] (rests_of newer) (rests_of new) (length-map newer (λ (p : Player). p.rest) ∙ passed.count ∙ sym (length-map new (λ (p : Player). p.rest)))
-      (λ i lt.
-      let lt_newer : i < length newer = omega (arith, length-map newer (λ (p : Player). p.rest)) in
-      rest_at newer i lt_newer ∙ rest_same i ∙ sym (rest_at new i (omega (arith, passed.count))))
-
   has_same : (port i : ℕ) → has_at newer place i port ≡ has_at new done i port
   has_same port i =
       elim (lt_cases i done) [
@@ -217,7 +210,7 @@ module _ (ports : List Port) (count : ℕ) (old new newer : List Player) (before
 
   pub pass_to : Advancing ports count place old newer before now
   pass_to = record {
-    at_ports = record { count_is = are.at_ports.count_is; ports_are = are.at_ports.ports_are; fit = subst (FitPorts ports) (sym rests_same) are.at_ports.fit };
+    at_ports = record { count_is = are.at_ports.count_is; ports_are = are.at_ports.ports_are; fit = subst (FitPorts ports) (sym (rests_same new newer passed.count rest_same)) are.at_ports.fit };
     length_is = passed.count ∙ are.length_is;
     gone = λ i less. elim (lt_cases i done) [
       | inl first ↦ passed.before i first ∙ are.gone i first

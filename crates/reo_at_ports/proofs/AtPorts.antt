@@ -3,7 +3,7 @@ use Rattle.std.proofs.Common.{◌≡◌, ◌≢◌, ◌∙◌, ◌||◌, inl, in
 use Rattle.std.specs.Prelude.{Option, Some, None, slice_index_or}
 use Rattle.std.specs.List.{All, list_any}
 use Rattle.std.proofs.lemmas.Bool.{cases_eq, true≢false}
-use Rattle.std.proofs.lemmas.List.{get_or-map, get_or_past, length-map}
+use Rattle.std.proofs.lemmas.List.{ext_get_or, get_or-map, get_or_past, length-map}
 use Rattle.std.proofs.lemmas.List.Elements.{All-get_or, All-from_get_or}
 use Rattle.std.proofs.lemmas.Option.{slice_get_within}
 use Rattle.reo_values.proofs.Truths.{or_true}
@@ -31,6 +31,14 @@ rests_of players = map (λ (p : Player). p.rest) players
 
 pub rest_at : (players : List Player) (i : ℕ) → i < length players → slice_index_or (rests_of players) i [] ≡ (player_of players i).rest
 rest_at players i lt = get_or-map (λ (p : Player). p.rest) players i no_player [] lt
+
+-- As many components, each of which has as much left to do, have the same left to do.
+pub rests_same : (old new : List Player) → length new ≡ length old → ((i : ℕ) → (player_of new i).rest ≡ (player_of old i).rest) → rests_of new ≡ rests_of old
+rests_same old new count rest =
+    ext_get_or [] (rests_of new) (rests_of old) (length-map new (λ (p : Player). p.rest) ∙ count ∙ sym (length-map old (λ (p : Player). p.rest)))
+    (λ i lt.
+    let lt_new : i < length new = omega (arith, length-map new (λ (p : Player). p.rest)) in
+    rest_at new i lt_new ∙ rest i ∙ sym (rest_at old i (omega (arith, count))))
 
 -- Each action of each component fits the ports.
 pub fits_at : (ports : List Port) (players : List Player) (i : ℕ) → FitPorts ports (rests_of players) → i < length players → All (FitsPorts ports) (player_of players i).rest

@@ -1,5 +1,5 @@
 -- Those at whose ports items moved are as if no round had seen their present actions.
-use Rattle.std.proofs.Common.{◌≡◌, ◌∙◌, inl, inr, ⊎_elim, ℕ, ◌+◌, ◌<◌, true, false, not, ◌||◌, List, [], length, refl, sym, ap, subst, arith}
+use Rattle.std.proofs.Common.{◌≡◌, ◌∙◌, inl, inr, ⊎_elim, ℕ, ◌+◌, ◌<◌, true, false, not, ◌||◌, List, length, refl, sym, ap, subst, arith}
 use Rattle.std.specs.Prelude.{Some, None, is_none, nat_eq, slice_get, option_and_then}
 use Rattle.std.specs.Option.{option_map_or}
 use Rattle.std.proofs.lemmas.Bool.{cases_eq}
@@ -20,7 +20,7 @@ use Rattle.reo_at_ports.specs.Pending.{pending_at}
 use Rattle.reo_at_ports.specs.Between.{AreStepped, AreMoved, NoneAsleepIsGone, is_gone, gone_on}
 use Rattle.reo_at_ports.specs.Parts.{AreRoused, IsMoved}
 use Rattle.reo_at_ports.proofs.Offered.{offers_where}
-use Rattle.reo_at_ports.proofs.AtPorts.{rests_of, rest_at, apart}
+use Rattle.reo_at_ports.proofs.AtPorts.{apart, rests_same}
 use Rattle.reo_at_ports.proofs.GoneOn.{names_gone, gone_names, flowed_alike}
 
 -- Before the first move.
@@ -119,16 +119,9 @@ module _ (moves : List Move) (old new : List Player) (states : List PortState) (
   gone_same : (i : ℕ) → is_gone states (player_of new i) ≡ is_gone states (player_of old i)
   gone_same i = ap (λ (ts : List Task). option_map_or (λ port. is_none (pending_at states port)) (option_and_then port_of (first_of ts)) false) (are.rest i)
 
-  rests_same : rests_of new ≡ rests_of old
-  rests_same =
-      ext_get_or [] (rests_of new) (rests_of old) (length-map new (λ (p : Player). p.rest) ∙ are.count ∙ sym (length-map old (λ (p : Player). p.rest)))
-      (λ i lt.
-      let lt_new : i < length new = omega (arith, length-map new (λ (p : Player). p.rest)) in
-      rest_at new i lt_new ∙ are.rest i ∙ sym (rest_at old i (omega (arith, are.count))))
-
   pub roused_stepped : AreStepped ports count new states
   roused_stepped = record {
-    at_ports = record { count_is = stepped.at_ports.count_is; ports_are = stepped.at_ports.ports_are; fit = subst (FitPorts ports) (sym rests_same) stepped.at_ports.fit };
+    at_ports = record { count_is = stepped.at_ports.count_is; ports_are = stepped.at_ports.ports_are; fit = subst (FitPorts ports) (sym (rests_same old new are.count are.rest)) stepped.at_ports.fit };
     pending = record {
       named = λ port i o lt i_lt has. stepped.pending.named port i o lt (omega (arith, are.count)) (sym (offer_same port i) ∙ has);
       unnamed = λ port lt all. stepped.pending.unnamed port lt (λ i i_lt. sym (offer_same port i) ∙ all i (omega (arith, are.count)));

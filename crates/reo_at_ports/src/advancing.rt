@@ -97,7 +97,8 @@ fn rouse_all(players: &mut Players, moves: &[Move])
 fn advance_awake<P: Restoring>(engine: &mut Engine<P>, ports: &Ports, players: &mut Players)
     requires stepped { let old = engine.old.circuit in
         AreStepped ports.now.list old.ports players.old (map P.port_state old.primitives) }
-    requires asleep { NoneAsleepIsGone players.old (map P.port_state engine.old.circuit.primitives) }
+    requires asleep { NoneAsleepIsGone players.old
+        (map P.port_state engine.old.circuit.primitives) }
     ensures players { let states = map P.port_state engine.old.circuit.primitives in
         players.new ≡ gone_on states players.old }
     ensures between { let new = engine.new.circuit in

@@ -13,7 +13,7 @@ use Rattle.reo_net_base.specs.Behaviour.{Behaviour}
 use Rattle.reo_net_base.specs.Colouring.{AreRows}
 use Rattle.reo_net_base.specs.Net.{Net, Side, all_sides, behaviour_at, first_side, no_side, row_count, sides_of}
 use Rattle.reo_net_base.specs.Wired.{IsWired}
-use Rattle.reo_net_circuit.proofs.ReshapeLemmas.{side_count}
+use Rattle.reo_net_laws.proofs.Sides.{side_count}
 use Rattle.reo_trace.specs.declared.line.Cell.TheVariants.{Row, Jam}
 use Rattle.reo_trace.specs.declared.line.Entry.{Entry}
 use Rattle.reo_trace.specs.declared.line.Entry.TheVariants.{One, Two}

@@ -6,22 +6,24 @@ use Rattle.reo_net_base.specs.declared.mark.Mark.TheVariants.{F, G, R, J}
 use Rattle.reo_net_base.specs.declared.joint.Joint.{Joint as JointEnds}
 use Rattle.reo_net_base.specs.Net.{Net, no_side, all_sides, first_side, behaviour_at, mark_at}
 use Rattle.reo_net_base.specs.Colouring.{ItemFits, RowsFit, IsColouring, given_at, lets_in}
+use Rattle.reo_net_base.specs.Sides.{AreRowsOf}
 use Rattle.reo_net_laws.proofs.Sides.{rows_length, row_below, side_in, side_is}
 use Rattle.reo_net_laws.proofs.Orders.{no_joint}
 use Rattle.reo_checker.specs.declared.wrong.Wrong.{Wrong}
 use Rattle.reo_checker.specs.declared.wrong.Wrong.TheVariants.{Count, Row, Joint, Item}
 use Rattle.reo_checker.specs.Faults.{ItemFails, AreWrongRows, IsWrong, side_row, IsRowFault}
 
-pub row_out : (net : Net) (rows : List ℕ) (i : ℕ) → IsRowFault net rows i → RowsFit net rows → ⊥
-row_out net rows i fault fit =
-    let below = row_below (all_sides net.primitives) rows fit.in_tables (first_side net.primitives i + fault.out.side) no_side (side_in net.primitives i fault.out.side fault.in_range fault.out.is_side) in
+-- Rows in their tables have no row out.
+pub row_out : (net : Net) (rows : List ℕ) (i : ℕ) → IsRowFault net rows i → AreRowsOf net rows → ⊥
+row_out net rows i fault are =
+    let below = row_below (all_sides net.primitives) rows are (first_side net.primitives i + fault.out.side) no_side (side_in net.primitives i fault.out.side fault.in_range fault.out.is_side) in
     let here : side_row net rows i fault.out.side < (behaviour_at net.primitives i).rows fault.out.side = rw (side_is net.primitives i fault.out.side no_side fault.in_range fault.out.is_side) at below in
     absurd (omega (arith, here, fault.out.out))
 
 -- Rows with something wrong do not fit.
 pub wrong_rows : (net : Net) (rows : List ℕ) (wrong : Wrong) → AreWrongRows net rows wrong → RowsFit net rows → ⊥
 wrong_rows net rows Count other fit = other (rows_length (all_sides net.primitives) rows fit.in_tables)
-wrong_rows net rows (Row i) h fit = row_out net rows i h.1 fit
+wrong_rows net rows (Row i) h fit = row_out net rows i h.1 fit.in_tables
 wrong_rows net rows (Joint j) h fit =
     let clash = h.1.clashes no_joint in
     let match = fit.matched j no_joint h.1.in_range in

@@ -1,3 +1,3 @@
 mod ChunkLemmas
 pub mod ExactLemmas
-mod RowLemmas
+pub mod FirstFaults

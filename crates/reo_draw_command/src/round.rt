@@ -21,7 +21,7 @@ use reo_io::{Files, Sink};
 use reo_run_texts::ports_are_told;
 use reo_top_base::{answer, no_memory, refuse};
 use reo_top_verdicts::verdict_line;
-use reo_trace_texts::one_answer;
+use reo_trace_texts::one_trace_answer;
 use reo_values::{Bytes, NoMemory, ReadFault, read_number};
 use reo_verify::Verdict;
 use std::alloc::Global;
@@ -117,7 +117,7 @@ pub(crate) fn draw_round<F: Files, S: Sink>(
     circuit_names_are_plain();
     circuits_are_spelled();
     ports_are_told();
-    one_answer();
+    one_trace_answer();
     match read_claim(alloc, circuit, script, trace, files) {
         Ok(claim) => write_round(alloc, claim, word, out),
         Err(stop) => refuse(alloc, stop, out),

@@ -21,7 +21,7 @@ use reo_io::{Files, Sink};
 use reo_run_texts::ports_are_told;
 use reo_top_base::{answer, no_memory, refuse};
 use reo_top_verdicts::{verdict_line, verdict_status};
-use reo_trace_texts::one_answer;
+use reo_trace_texts::one_trace_answer;
 use reo_values::{Bytes, NoMemory};
 use reo_verify::{Verdict, verify_trace};
 use std::alloc::Global;
@@ -87,7 +87,7 @@ pub(crate) fn draw_table<F: Files, S: Sink>(
     circuit_names_are_plain();
     circuits_are_spelled();
     ports_are_told();
-    one_answer();
+    one_trace_answer();
     match read_claim(alloc, circuit, script, trace, files) {
         Ok(claim) => write_table(alloc, claim, out),
         Err(stop) => refuse(alloc, stop, out),

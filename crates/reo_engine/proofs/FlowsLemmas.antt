@@ -14,6 +14,7 @@ use Rattle.reo_net_base.specs.Shapes.{SameShapes}
 use Rattle.reo_net_base.specs.Sides.{side_count}
 use Rattle.reo_net_base.specs.Wired.{IsWired, IsOrder}
 use Rattle.reo_net_base.specs.Colouring.{IsColouring, RowsFit}
+use Rattle.reo_net_base.proofs.Marks.{flow_cases}
 use Rattle.reo_net_circuit.proofs.Cases.{eq_cases, lt_cases}
 use Rattle.reo_net_circuit.proofs.ReshapeLemmas.{first_same}
 use Rattle.reo_net_laws.specs.Jams.{jams}
@@ -38,7 +39,6 @@ use Rattle.reo_planning.proofs.KnotSets.{number_is}
 use Rattle.reo_planning.proofs.Parting.{all_served}
 use Rattle.reo_planning.proofs.Shapes.{count_same}
 use Rattle.reo_joint_values.specs.Standing.{giver_of, no_joint}
-use Rattle.reo_rows.proofs.Working.{flow_cases}
 use Rattle.reo_stepping.specs.Clearing.{ComesNoItem}
 use Rattle.reo_stepping.specs.Flowing.{AreFlowing}
 use Rattle.reo_standing.specs.Feeds.{AreFeeds}

@@ -16,7 +16,7 @@ use crate::changes::mark_flowing;
 use crate::engine::Engine;
 use crate::planning::{plan_with, suits};
 use reo_net_base::Ported;
-use reo_planning::first_by_parts;
+use reo_planning::first_colouring;
 use reo_rounds::{Done, Plan, PlanFault};
 use reo_steps::Steps;
 use std::alloc::Global;
@@ -55,7 +55,7 @@ impl<P: Ported> Engine<P> {
             → steps.new ≡ steps.old }
     {
         self.circuit.known();
-        let colouring = first_by_parts(
+        let colouring = first_colouring(
             alloc,
             &self.circuit,
             &self.knots,

@@ -10,8 +10,8 @@ use Rattle.reo_expand_base.specs.declared.fault.ExpandFault.{ExpandFault}
 use Rattle.reo_expand_base.specs.Expansion.{connector_for}
 use Rattle.reo_expand_base.specs.Steps.{Step, steps_in, walked}
 use Rattle.reo_expand_base.proofs.Turning.{item_done, item_stopped, more_mapped}
+use Rattle.reo_expand_walk.proofs.TurnSteps.{IsStop}
 use Rattle.reo_expand.specs.Noted.{bound_number, instance_for}
-use Rattle.reo_expand.proofs.OneMore.{IsStop}
 
 module _ (before : List ConnectorTwo) (c : ConnectorTwo) (number : List ℕ) (values : List ℕ) where
   abbrev pub steps_with : ℕ → List Step

@@ -1,5 +1,5 @@
 -- One declaration more, from the last to the first.
-use Rattle.std.proofs.Common.{arith, ◌≡◌, ◌∙◌, ◌⊎◌, ◌<◌, ◌+◌, ◌++◌, ◌∷◌, [], ℕ, suc, Bool, Ok, Err, List, take, drop, length, get_or, ap, sym, subst, append_assoc}
+use Rattle.std.proofs.Common.{arith, ◌≡◌, ◌∙◌, ◌<◌, ◌+◌, ◌++◌, ◌∷◌, [], ℕ, suc, Bool, Ok, List, take, drop, length, get_or, ap, sym, subst, append_assoc}
 use Rattle.std.specs.Prelude.{◌||◌, reverse}
 use Rattle.std.specs.List.{flat_map}
 use Rattle.std.proofs.Math.Seq.{drop-cons}
@@ -9,18 +9,14 @@ use Rattle.reo_trees.specs.declared.programs.Declaration.{Declaration}
 use Rattle.reo_trees.specs.declared.programs_two.ConnectorTwo.{ConnectorTwo}
 use Rattle.reo_trees.specs.declared.programs_two.DeclarationTwo.{DeclarationTwo}
 use Rattle.reo_expand_base.specs.declared.fault.ExpandFault.{ExpandFault}
-use Rattle.reo_expand_base.specs.declared.fault.ExpandFault.TheVariants as faults
 use Rattle.reo_expand_base.specs.Expansion.{expanded, connectors_of, has_use, declared_by}
-use Rattle.reo_expand_base.specs.Steps.{Step, walked, steps_from, declaration_steps, two_in}
+use Rattle.reo_expand_base.specs.Steps.{walked, steps_from, declaration_steps, two_in}
 use Rattle.reo_expand_base.proofs.Turning.{next_of}
 use Rattle.reo_expand_base.proofs.Walking.{walked-then, stop-or-memory, then-or-memory}
+use Rattle.reo_expand_walk.proofs.TurnSteps.{IsStop}
 use Rattle.reo_expand.specs.Noted.{declared_noted, steps_noted}
 use Rattle.reo_expand.proofs.Uses.{or-swap, has_use-append, connectors-append}
 use Rattle.reo_expand.proofs.Later.{declared_known, steps_known}
-
--- The fault is that memory ran out, or what the steps lead to.
-abbrev pub IsStop : ℕ → List Step → ExpandFault → Type 0
-IsStop n steps f = (f ≡ faults.NoMemory) ⊎ (walked n steps ≡ Err f)
 
 -- What stops behind a front stops the whole.
 stopped_behind : (before : List ConnectorTwo) (front behind : List DeclarationTwo) (f : ExpandFault)

@@ -1,4 +1,4 @@
 mod LoopSteps
-mod TurnSteps
+pub mod TurnSteps
 mod Unfit
 mod Values

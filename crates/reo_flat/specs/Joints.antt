@@ -10,8 +10,8 @@ abbrev pub is_many : List End → Bool
 is_many ends = nat_le 2 (length ends)
 
 -- So many ends of one primitive, from this one on.
-abbrev pub ends_of : ℕ → ℕ → ℕ → List End
-ends_of i from count = map (λ e. end_of i e) (range_with_len from count)
+abbrev pub end_range : ℕ → ℕ → ℕ → List End
+end_range i from count = map (λ e. end_of i e) (range_with_len from count)
 
 -- Each giver with the taker of the same place.
 abbrev pub pairs : List End → List End → List Joint
@@ -29,9 +29,9 @@ takers outs replicator = cond (is_many outs) (end_of replicator 0 ∷ []) outs
 -- The joints of a node: into its merger, from there to its replicator or the one taker, and out of the replicator.
 abbrev pub joints_between : List End → List End → ℕ → ℕ → List Joint
 joints_between ins outs merger replicator =
-    cond (is_many ins) (pairs ins (ends_of merger 0 (length ins))) []
+    cond (is_many ins) (pairs ins (end_range merger 0 (length ins))) []
     ++ (pairs (givers ins merger) (takers outs replicator)
-    ++ cond (is_many outs) (pairs (ends_of replicator 1 (length outs)) outs) [])
+    ++ cond (is_many outs) (pairs (end_range replicator 1 (length outs)) outs) [])
 
 -- How many primitives of its own a node has, with these ends.
 abbrev pub many : List End → ℕ

@@ -16,7 +16,7 @@ use Rattle.reo_flatten_unfold.proofs.Positions.{found_within}
 use Rattle.reo_flatten.proofs.MainLemmas.{main_meaning}
 use Rattle.reo_flat.specs.declared.sizes.Sizes.{Sizes}
 use Rattle.reo_flat.specs.Unfolding.{Placed, Meaning, no_meaning, meaning_named, meanings_of}
-use Rattle.reo_flat.specs.Joints.{is_many, ends_of, pairs, givers, takers, joints_between, joints_of, many}
+use Rattle.reo_flat.specs.Joints.{is_many, end_range, pairs, givers, takers, joints_between, joints_of, many}
 use Rattle.reo_flat.specs.Ends.{incoming, outgoing}
 use Rattle.reo_flat.specs.Flat.{port_of, port_placed, ports_of, main_parameters, placed_of, primitives_of, own_kinds, nodes_of, joints_at}
 use Rattle.reo_flat.specs.Sizes.{is_too_many, too_many}
@@ -88,9 +88,9 @@ one_side false e es some = some
 
 middle : (ins outs : List End) (merger replicator : ℕ) → 0 < length ins → 0 < length outs → 0 < length (joints_between ins outs merger replicator)
 middle ins outs merger replicator some_in some_out =
-    let first = cond (is_many ins) (pairs ins (ends_of merger 0 (length ins))) [] in
+    let first = cond (is_many ins) (pairs ins (end_range merger 0 (length ins))) [] in
     let second = pairs (givers ins merger) (takers outs replicator) in
-    let third = cond (is_many outs) (pairs (ends_of replicator 1 (length outs)) outs) [] in
+    let third = cond (is_many outs) (pairs (end_range replicator 1 (length outs)) outs) [] in
     let some = pairs_some (givers ins merger) (takers outs replicator) (one_side (is_many ins) _ ins some_in) (one_side (is_many outs) _ outs some_out) in
     let behind = length-append second third in
     let all = length-append first (second ++ third) in

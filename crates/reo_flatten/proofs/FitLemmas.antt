@@ -25,11 +25,11 @@ use Rattle.reo_rules.specs.Scopes.{scope_of}
 use Rattle.reo_rules.specs.Twice.{twice_among, twice_in, twice}
 use Rattle.reo_rules.specs.Ranges.{is_out, range_in_type, range_in_item, range_in_connector, range_in, out_of_range}
 use Rattle.reo_rules.specs.Scopes.{connector_names}
-use Rattle.reo_rules.proofs.AfterLemmas.{right_none, flat_map-append}
+use Rattle.reo_rules.proofs.AfterLemmas.{right_none, flat_map-append, where_false}
+use Rattle.reo_rules.proofs.Declared.{types_after-append}
 use Rattle.reo_flatten_unfold.specs.Fits.{IsFew, FormFits, AreFit}
-use Rattle.reo_flatten_unfold.proofs.ListLemmas.{each_none, fails}
+use Rattle.reo_flatten_unfold.proofs.ListLemmas.{each_none}
 use Rattle.reo_flatten_unfold.proofs.TypeLemmas.{few_pair}
-use Rattle.reo_flatten_unfold.proofs.GroundLemmas.{types_after-append}
 use Rattle.reo_values.specs.declared.kindred.Kindred.TheVariants as kinds
 use Rattle.reo_values.proofs.Sequences.{left_none}
 use Rattle.reo_trees_laws.proofs.Lists.{all-more as all_one}
@@ -96,10 +96,10 @@ fits types scope line (forms.Joined channels.Lossy first second) none spelled = 
 fits types scope line (forms.Joined channels.SyncDrain first second) none spelled = tt
 fits types scope line (forms.Joined channels.AsyncDrain first second) none spelled = tt
 fits types scope line (forms.Joined (channels.Fifo1 held) first second) none spelled = tt
-fits types scope line (forms.Joined (channels.Fifo size held) first second) none spelled = (spelled.0.0, spelled.0.1, ltb-false size (length held) (fails (nat_lt size (length held)) (faults.Range line) none))
+fits types scope line (forms.Joined (channels.Fifo size held) first second) none spelled = (spelled.0.0, spelled.0.1, ltb-false size (length held) (where_false (nat_lt size (length held)) (faults.Range line) none))
 fits types scope line (forms.Joined (channels.Filter t) first second) none spelled = tt
 fits types scope line (forms.Joined (channels.Map t) first second) none spelled = tt
-fits types scope line (forms.Joined (channels.Shift size held) first second) none spelled = (spelled.0.0, spelled.0.1, ltb-false size (length held) (fails (nat_lt size (length held)) (faults.Range line) none))
+fits types scope line (forms.Joined (channels.Shift size held) first second) none spelled = (spelled.0.0, spelled.0.1, ltb-false size (length held) (where_false (nat_lt size (length held)) (faults.Range line) none))
 fits types scope line (forms.Joined (channels.Variable held) first second) none spelled = tt
 fits types scope line (forms.Joined (channels.Quota number) first second) none spelled = tt
 fits types scope line (forms.Used name arguments) none spelled = tt

@@ -86,7 +86,7 @@ impl NodeEnds {
 }
 
 /// The ends at each node of primitives that are placed at these nodes. `NoMemory`: out of memory.
-pub fn ends_of(
+pub fn ends_at_nodes(
     alloc: Global,
     nodes: &[Bytes],
     names: &Names,

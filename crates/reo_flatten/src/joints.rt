@@ -1,6 +1,6 @@
 //! The joints of a node.
 ghost use Rattle.std.specs.Prelude.{◌≡◌, ◌<◌, ◌+◌, ◌^◌, ◌++◌, [], cond, length, option_to_list, OnOk};
-ghost use Rattle.reo_flat.specs.Joints.{is_many, ends_of, pairs, givers, takers, joints_of};
+ghost use Rattle.reo_flat.specs.Joints.{is_many, end_range, pairs, givers, takers, joints_of};
 
 use crate::branches::many;
 use reo_net_base::{End, Joint};
@@ -9,7 +9,7 @@ use reo_values::{List, NoMemory};
 /// The joints into a merger, where there is one.
 fn into_merger(ins: &[End], merger: usize, joints: &mut List<Joint>) -> Result<(), NoMemory>
     ensures { OnOk result (joints.new ≡ joints.old ++ cond (is_many ins.now) (pairs ins.now
-        (ends_of merger 0 (length ins.now))) []) }
+        (end_range merger 0 (length ins.now))) []) }
 {
     if ins.len() < 2 {
         return Ok(());
@@ -34,7 +34,7 @@ fn out_of_replicator(
     joints: &mut List<Joint>,
 ) -> Result<(), NoMemory>
     ensures { OnOk result (joints.new ≡ joints.old ++ cond (is_many outs.now) (pairs
-        (ends_of replicator 1 (length outs.now)) outs.now) []) }
+        (end_range replicator 1 (length outs.now)) outs.now) []) }
 {
     if outs.len() < 2 {
         return Ok(());

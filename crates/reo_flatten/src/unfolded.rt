@@ -6,7 +6,7 @@ ghost use Rattle.reo_flatten_unfold.specs.Fits.{AreFit};
 ghost use Rattle.reo_flatten.specs.NodeEnds.{placed_with, AreEnds};
 ghost use Rattle.reo_flatten.specs.Parts.{IsBegun};
 
-use crate::ends::{NodeEnds, ends_of};
+use crate::ends::{NodeEnds, ends_at_nodes};
 use crate::main_ports::{names_of, port_ends, port_kinds, ports_of};
 use reo_flatten_unfold::{Ground, Unfolded, connector, connector_at};
 use reo_net_base::Port;
@@ -76,7 +76,7 @@ pub fn ends_at(alloc: Global, made: &Unfolded) -> Result<NodeEnds, NoMemory>
 {
     let nodes = made.nodes.as_slice();
     let names = numbers_of(alloc, nodes)?;
-    ends_of(
+    ends_at_nodes(
         alloc,
         nodes,
         &names,

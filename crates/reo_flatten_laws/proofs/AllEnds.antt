@@ -12,7 +12,7 @@ use Rattle.reo_rules.specs.Lists.{where_true}
 use Rattle.reo_kinds.specs.declared.kind.Kind.{Kind}
 use Rattle.reo_flat.specs.Unfolding.{Placed}
 use Rattle.reo_flat.specs.Ends.{incoming, outgoing}
-use Rattle.reo_flat.specs.Joints.{is_many, ends_of, many}
+use Rattle.reo_flat.specs.Joints.{is_many, end_range, many}
 use Rattle.reo_flat.specs.Flat.{branched, branched_with, own_kinds}
 use Rattle.reo_flatten_laws.proofs.Times.{one_if, times, own_in}
 use Rattle.reo_flatten_laws.proofs.NodeSums.{listed, all_listed, own_sum}
@@ -20,7 +20,7 @@ use Rattle.reo_flatten_laws.proofs.NodeSums.{listed, all_listed, own_sum}
 -- How often an end stands among all ends of primitives, from a number on.
 abbrev pub total : End → ℕ → List Behaviour → ℕ
 total e at [] = 0
-total e at (b ∷ bs) = times e (ends_of at 0 b.ends) + total e (suc at) bs
+total e at (b ∷ bs) = times e (end_range at 0 b.ends) + total e (suc at) bs
 
 pub total-append : (e : End) (at : ℕ) (xs ys : List Behaviour) → total e at (xs ++ ys) ≡ total e at xs + total e (at + length xs) ys
 total-append e at [] ys = let same : at ≡ at + 0 = omega arith in let is = ap (λ k. total e k ys) same in omega arith
@@ -31,14 +31,14 @@ total-append e at (x ∷ xs) ys =
     omega arith
 
 -- Ends of another primitive, and those of the same.
-other_number : (i j k from : ℕ) (n : ℕ) → (i ≡ j → ⊥) → times (end_of j k) (ends_of i from n) ≡ 0
+other_number : (i j k from : ℕ) (n : ℕ) → (i ≡ j → ⊥) → times (end_of j k) (end_range i from n) ≡ 0
 other_number i j k from zero apart = refl
 other_number i j k from (suc n) apart =
     let rest = other_number i j k (from + 1) n apart in
     let no' = ap (λ b. one_if (b && (from == k))) (ne_eqb i j apart) in
     omega arith
 
-before_end : (i k from n : ℕ) → k < from → times (end_of i k) (ends_of i from n) ≡ 0
+before_end : (i k from n : ℕ) → k < from → times (end_of i k) (end_range i from n) ≡ 0
 before_end i k from zero below = refl
 before_end i k from (suc n) below =
     let rest = before_end i k (from + 1) n (omega arith) in
@@ -49,10 +49,10 @@ before_end i k from (suc n) below =
       never true = refl
       never false = refl
 
-same_number : (i k from n : ℕ) → from ≤ k → k < from + n → times (end_of i k) (ends_of i from n) ≡ 1
+same_number : (i k from n : ℕ) → from ≤ k → k < from + n → times (end_of i k) (end_range i from n) ≡ 1
 same_number i k from zero low high = absurd (omega arith)
 same_number i k from (suc n) low high = step (from == k) refl (same_number i k (from + 1) n) where
-  step : (b : Bool) → (from == k) ≡ b → (from + 1 ≤ k → k < (from + 1) + n → times (end_of i k) (ends_of i (from + 1) n) ≡ 1) → one_if ((i == i) && (from == k)) + times (end_of i k) (ends_of i (from + 1) n) ≡ 1
+  step : (b : Bool) → (from == k) ≡ b → (from + 1 ≤ k → k < (from + 1) + n → times (end_of i k) (end_range i (from + 1) n) ≡ 1) → one_if ((i == i) && (from == k)) + times (end_of i k) (end_range i (from + 1) n) ≡ 1
   step true is onward =
       let at : from ≡ k = eqb-true from k is in
       let rest = before_end i k (from + 1) n (omega arith) in
@@ -91,12 +91,12 @@ once_in_total (suc i) k at (b ∷ bs) below is_end =
     omega arith
 
 -- The ends by nodes are those by numbers.
-listed-ends : (e : End) (i end : ℕ) (ns : List (List ℕ)) → listed (λ x. one_if (end_eq x e)) i end ns ≡ times e (ends_of i end (length ns))
+listed-ends : (e : End) (i end : ℕ) (ns : List (List ℕ)) → listed (λ x. one_if (end_eq x e)) i end ns ≡ times e (end_range i end (length ns))
 listed-ends e i end [] = refl
 listed-ends e i end (n ∷ ns) =
     let rest = listed-ends e i (suc end) ns in
     let same : suc end ≡ end + 1 = omega arith in
-    let is = ap (λ k. times e (ends_of i k (length ns))) same in
+    let is = ap (λ k. times e (end_range i k (length ns))) same in
     omega arith
 
 -- What is placed has as many nodes as ends.
@@ -107,7 +107,7 @@ pub listed-total : (e : End) (i : ℕ) (ps : List Placed) → AllByRecursion Fit
 listed-total e i [] fits = refl
 listed-total e i (p ∷ ps) fits =
     let here = listed-ends e i 0 p.nodes in
-    let is = ap (λ k. times e (ends_of i 0 k)) fits.0 in
+    let is = ap (λ k. times e (end_range i 0 k)) fits.0 in
     let rest = listed-total e (suc i) ps fits.1 in
     omega arith
 
@@ -141,8 +141,8 @@ replicator_outputs n some few = step (nat_le 2 n) (nat_le n 8192) refl refl (le-
 one_own : (e : End) (at : ℕ) (ends : List End) (g : Kind) → (is_many ends ≡ true → (behaviour_of g).ends ≡ suc (length ends))
     → total e at (map behaviour_of (where_true (is_many ends) g)) ≡ times e (own_in ends at)
 one_own e at ends g is = step (is_many ends) is where
-  step : (b : Bool) → (b ≡ true → (behaviour_of g).ends ≡ suc (length ends)) → total e at (map behaviour_of (where_true b g)) ≡ times e (cond b (ends_of at 0 (suc (length ends))) [])
-  step true is' = let same = ap (λ k. times e (ends_of at 0 k)) (is' refl) in omega arith
+  step : (b : Bool) → (b ≡ true → (behaviour_of g).ends ≡ suc (length ends)) → total e at (map behaviour_of (where_true b g)) ≡ times e (cond b (end_range at 0 (suc (length ends))) [])
+  step true is' = let same = ap (λ k. times e (end_range at 0 k)) (is' refl) in omega arith
   step false is' = refl
 
 pub length_own : (ends : List End) (g : Kind) → length (where_true (is_many ends) g) ≡ many ends

@@ -13,7 +13,7 @@ use Rattle.reo_rules.specs.Lists.{where_true}
 use Rattle.reo_rules.specs.Touches.{bool_eq}
 use Rattle.reo_flat.specs.Unfolding.{Placed}
 use Rattle.reo_flat.specs.Ends.{ends_in, ends_from, incoming, outgoing}
-use Rattle.reo_flat.specs.Joints.{is_many, ends_of, pairs, joints_between}
+use Rattle.reo_flat.specs.Joints.{is_many, end_range, pairs, joints_between}
 use Rattle.reo_flatten_laws.specs.Homes.{IsAtNode}
 use Rattle.reo_flatten_laws.proofs.Each.{both}
 
@@ -63,7 +63,7 @@ module _ (placed : List Placed) (node : List ℕ) where
   own_end : (i x : ℕ) → length placed ≤ i → At (end_of i x)
   own_end i x behind d below = absurd (omega arith)
 
-  own_ends : (i from count : ℕ) → length placed ≤ i → AllByRecursion (IsAtNode placed node) (ends_of i from count)
+  own_ends : (i from count : ℕ) → length placed ≤ i → AllByRecursion (IsAtNode placed node) (end_range i from count)
   own_ends i from zero behind = tt
   own_ends i from (suc count) behind = (own_end i from behind, own_ends i (from + 1) count behind)
 
@@ -76,10 +76,10 @@ module _ (placed : List Placed) (node : List ℕ) where
   pub joints_at_node : (ins outs : List End) (m r : ℕ) → length placed ≤ m → length placed ≤ r → AllByRecursion (IsAtNode placed node) ins → AllByRecursion (IsAtNode placed node) outs
       → AllByRecursion (IsAtBoth placed node) (joints_between ins outs m r)
   joints_at_node ins outs m r behind_m behind_r at_ins at_outs = step (is_many ins) (is_many outs) where
-    step : (a b : Bool) → AllByRecursion (IsAtBoth placed node) (cond a (pairs ins (ends_of m 0 (length ins))) [] ++ (pairs (cond a (end_of m (length ins) ∷ []) ins) (cond b (end_of r 0 ∷ []) outs) ++ cond b (pairs (ends_of r 1 (length outs)) outs) []))
+    step : (a b : Bool) → AllByRecursion (IsAtBoth placed node) (cond a (pairs ins (end_range m 0 (length ins))) [] ++ (pairs (cond a (end_of m (length ins) ∷ []) ins) (cond b (end_of r 0 ∷ []) outs) ++ cond b (pairs (end_range r 1 (length outs)) outs) []))
     step a b = both (IsAtBoth placed node) _ _ (first a) (both (IsAtBoth placed node) _ _ (pairs_at _ _ (middle a) (after b)) (last b)) where
-      first : (c : Bool) → AllByRecursion (IsAtBoth placed node) (cond c (pairs ins (ends_of m 0 (length ins))) [])
-      first true = pairs_at ins (ends_of m 0 (length ins)) at_ins (own_ends m 0 (length ins) behind_m)
+      first : (c : Bool) → AllByRecursion (IsAtBoth placed node) (cond c (pairs ins (end_range m 0 (length ins))) [])
+      first true = pairs_at ins (end_range m 0 (length ins)) at_ins (own_ends m 0 (length ins) behind_m)
       first false = tt
 
       middle : (c : Bool) → AllByRecursion (IsAtNode placed node) (cond c (end_of m (length ins) ∷ []) ins)
@@ -90,6 +90,6 @@ module _ (placed : List Placed) (node : List ℕ) where
       after true = (own_end r 0 behind_r, tt)
       after false = at_outs
 
-      last : (c : Bool) → AllByRecursion (IsAtBoth placed node) (cond c (pairs (ends_of r 1 (length outs)) outs) [])
-      last true = pairs_at (ends_of r 1 (length outs)) outs (own_ends r 1 (length outs) behind_r) at_outs
+      last : (c : Bool) → AllByRecursion (IsAtBoth placed node) (cond c (pairs (end_range r 1 (length outs)) outs) [])
+      last true = pairs_at (end_range r 1 (length outs)) outs (own_ends r 1 (length outs) behind_r) at_outs
       last false = tt

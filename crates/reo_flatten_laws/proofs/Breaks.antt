@@ -18,11 +18,6 @@ pub use Rattle.reo_rules.proofs.AfterLemmas.{right_none}
 pub use Rattle.std.proofs.lemmas.Grind.{flat_map-append}
 pub use Rattle.reo_values.proofs.Sequences.{left_none}
 
--- No break means that the test fails.
-pub fails : (b : Bool) (f : FlatFault) → where_true b f ≡ [] → b ≡ false
-fails true f is = absurd (cc)
-fails false f is = refl
-
 -- Or that it holds, where the break stands for its opposite.
 pub holds : (b : Bool) (f : FlatFault) → where_true (not b) f ≡ [] → b ≡ true
 holds true f is = refl

@@ -7,7 +7,7 @@ use Rattle.reo_net_base.specs.declared.joint.End.{End}
 use Rattle.reo_net_base.specs.Net.{end_of}
 use Rattle.reo_flat.specs.Unfolding.{Placed}
 use Rattle.reo_flat.specs.Ends.{incoming, outgoing}
-use Rattle.reo_flat.specs.Joints.{is_many, ends_of, pairs, joints_between, joints_of, many}
+use Rattle.reo_flat.specs.Joints.{is_many, end_range, pairs, joints_between, joints_of, many}
 use Rattle.reo_flat.specs.Flat.{joints_at}
 use Rattle.reo_flatten_laws.proofs.Times.{weigh}
 use Rattle.reo_flatten_laws.proofs.NodeSums.{over, listed, all_listed, IsServed}
@@ -31,27 +31,27 @@ by_takers (g ∷ gs) (t ∷ ts) = let rest = by_takers gs ts in omega arith
 few_at_node : (ins outs : List End) (m r : ℕ) → length (joints_between ins outs m r) ≤ (length ins + 1) + length outs
 few_at_node ins outs m r = step (is_many ins) (is_many outs) (λ few. leb-false 2 (length ins) few) where
   step : (a b : Bool) → (a ≡ false → length ins < 2)
-      → length (cond a (pairs ins (ends_of m 0 (length ins))) [] ++ (pairs (cond a (end_of m (length ins) ∷ []) ins) (cond b (end_of r 0 ∷ []) outs) ++ cond b (pairs (ends_of r 1 (length outs)) outs) [])) ≤ (length ins + 1) + length outs
+      → length (cond a (pairs ins (end_range m 0 (length ins))) [] ++ (pairs (cond a (end_of m (length ins) ∷ []) ins) (cond b (end_of r 0 ∷ []) outs) ++ cond b (pairs (end_range r 1 (length outs)) outs) [])) ≤ (length ins + 1) + length outs
   step a b less =
-      let x = cond a (pairs ins (ends_of m 0 (length ins))) [] in
+      let x = cond a (pairs ins (end_range m 0 (length ins))) [] in
       let y = pairs (cond a (end_of m (length ins) ∷ []) ins) (cond b (end_of r 0 ∷ []) outs) in
-      let z = cond b (pairs (ends_of r 1 (length outs)) outs) [] in
+      let z = cond b (pairs (end_range r 1 (length outs)) outs) [] in
       let l1 = length-append x (y ++ z) in
       let l2 = length-append y z in
       let fx = first a in
       let fy = middle a (cond b (end_of r 0 ∷ []) outs) less in
       let fz = last b in
       omega arith where
-        first : (c : Bool) → length (cond c (pairs ins (ends_of m 0 (length ins))) []) ≤ length ins
-        first true = by_givers ins (ends_of m 0 (length ins))
+        first : (c : Bool) → length (cond c (pairs ins (end_range m 0 (length ins))) []) ≤ length ins
+        first true = by_givers ins (end_range m 0 (length ins))
         first false = omega arith
 
         middle : (c : Bool) (ts : List End) → (c ≡ false → length ins < 2) → length (pairs (cond c (end_of m (length ins) ∷ []) ins) ts) ≤ 1
         middle true ts l = by_givers (end_of m (length ins) ∷ []) ts
         middle false ts l = let g = by_givers ins ts in let k = l refl in omega arith
 
-        last : (c : Bool) → length (cond c (pairs (ends_of r 1 (length outs)) outs) []) ≤ length outs
-        last true = by_takers (ends_of r 1 (length outs)) outs
+        last : (c : Bool) → length (cond c (pairs (end_range r 1 (length outs)) outs) []) ≤ length outs
+        last true = by_takers (end_range r 1 (length outs)) outs
         last false = omega arith
 
 -- Over nodes that are served.

@@ -15,7 +15,6 @@ pub mod ServedItems
 pub mod TwoEnds
 pub mod OnceTwice
 pub mod Alike
-pub mod Inside
 pub mod HeldItems
 pub mod RightKinds
 pub mod TypesGrow

@@ -31,12 +31,12 @@ use Rattle.reo_rules.specs.Terms.{expr_of}
 use Rattle.reo_rules.specs.Channels.{keeps_type, literals_of}
 use Rattle.reo_rules.specs.Mistyped.{is_kind, has_kind, misfits, is_channel_mistyped}
 use Rattle.reo_rules.specs.Ranges.{lies_in, leaves, leaves_by_filter, leaves_by_map}
+use Rattle.reo_rules.proofs.Same.{same_types, inside_told}
 use Rattle.reo_flat.specs.ChannelKinds.{filter_with, filter_kind, map_with, map_kind, channel_kind}
 use Rattle.reo_flatten_laws.specs.Channels.{IsFor}
 use Rattle.reo_flatten_laws.specs.Fitting.{Fits}
 use Rattle.reo_flatten_laws.proofs.Each.{each_of}
-use Rattle.reo_flatten_laws.proofs.Alike.{same_types, truth_kind}
-use Rattle.reo_flatten_laws.proofs.Inside.{inside_told}
+use Rattle.reo_flatten_laws.proofs.Alike.{truth_kind}
 use Rattle.reo_flatten_laws.proofs.HeldItems.{item_in, items_all, items_in, few_items}
 
 three : (x y z : Bool) → (x || y || z) ≡ false → (x ≡ false) × (y ≡ false) × (z ≡ false)

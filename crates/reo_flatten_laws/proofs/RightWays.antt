@@ -14,7 +14,7 @@ use Rattle.reo_kinds.specs.declared.kind.Kind.{Kind}
 use Rattle.reo_flat.specs.Unfolding.{Placed}
 use Rattle.reo_rules.specs.Touches.{bool_eq}
 use Rattle.reo_flat.specs.Ends.{ends_in, ends_from, incoming, outgoing}
-use Rattle.reo_flat.specs.Joints.{is_many, ends_of, pairs, joints_between, joints_of, many}
+use Rattle.reo_flat.specs.Joints.{is_many, end_range, pairs, joints_between, joints_of, many}
 use Rattle.reo_flat.specs.Flat.{branched, own_kinds, joints_at}
 use Rattle.reo_flatten_laws.proofs.AllEnds.{Fits, IsFew, length_own, HasInputs, HasOutputs, merger_inputs, replicator_outputs}
 use Rattle.reo_flatten_laws.proofs.Each.{both}
@@ -91,13 +91,13 @@ module _ (bs : List Behaviour) where
   abbrev HasReplicator : ℕ → ℕ → Type 0
   HasReplicator i n = (i < length bs) × HasOutputs (behaviour_at bs i) n
 
-  inputs_go : (i n : ℕ) → HasMerger i n → (from count : ℕ) → from + count ≤ n → AllByRecursion (Goes bs true) (ends_of i from count)
+  inputs_go : (i n : ℕ) → HasMerger i n → (from count : ℕ) → from + count ≤ n → AllByRecursion (Goes bs true) (end_range i from count)
   inputs_go i n there from zero within = tt
   inputs_go i n there from (suc count) within =
       let long = there.1.ends in
       ((there.0, omega arith, there.1.inputs from (omega arith)), inputs_go i n there (from + 1) count (omega arith))
 
-  outputs_go : (i n : ℕ) → HasReplicator i n → (from count : ℕ) → 1 ≤ from → from + count ≤ n + 1 → AllByRecursion (Goes bs false) (ends_of i from count)
+  outputs_go : (i n : ℕ) → HasReplicator i n → (from count : ℕ) → 1 ≤ from → from + count ≤ n + 1 → AllByRecursion (Goes bs false) (end_range i from count)
   outputs_go i n there from zero some within = tt
   outputs_go i n there from (suc count) some within =
       let long = there.1.ends in
@@ -107,10 +107,10 @@ module _ (bs : List Behaviour) where
       → AllByRecursion GoesOn (joints_between ins outs m r)
   node_goes ins outs m r gives takes at_m at_r = step (is_many ins) (is_many outs) at_m at_r where
     step : (a b : Bool) → (a ≡ true → HasMerger m (length ins)) → (b ≡ true → HasReplicator r (length outs))
-        → AllByRecursion GoesOn (cond a (pairs ins (ends_of m 0 (length ins))) [] ++ (pairs (cond a (end_of m (length ins) ∷ []) ins) (cond b (end_of r 0 ∷ []) outs) ++ cond b (pairs (ends_of r 1 (length outs)) outs) []))
+        → AllByRecursion GoesOn (cond a (pairs ins (end_range m 0 (length ins))) [] ++ (pairs (cond a (end_of m (length ins) ∷ []) ins) (cond b (end_of r 0 ∷ []) outs) ++ cond b (pairs (end_range r 1 (length outs)) outs) []))
     step a b am ar = both GoesOn _ _ (first a am) (both GoesOn _ _ (pairs_go _ _ (middle a am) (after b ar)) (last b ar)) where
-      first : (c : Bool) → (c ≡ true → HasMerger m (length ins)) → AllByRecursion GoesOn (cond c (pairs ins (ends_of m 0 (length ins))) [])
-      first true at = pairs_go ins (ends_of m 0 (length ins)) gives (inputs_go m (length ins) (at refl) 0 (length ins) (omega arith))
+      first : (c : Bool) → (c ≡ true → HasMerger m (length ins)) → AllByRecursion GoesOn (cond c (pairs ins (end_range m 0 (length ins))) [])
+      first true at = pairs_go ins (end_range m 0 (length ins)) gives (inputs_go m (length ins) (at refl) 0 (length ins) (omega arith))
       first false at = tt
 
       middle : (c : Bool) → (c ≡ true → HasMerger m (length ins)) → AllByRecursion (Goes bs false) (cond c (end_of m (length ins) ∷ []) ins)
@@ -121,8 +121,8 @@ module _ (bs : List Behaviour) where
       after true at = let there = at refl in let long = there.1.ends in ((there.0, omega arith, there.1.input), tt)
       after false at = takes
 
-      last : (c : Bool) → (c ≡ true → HasReplicator r (length outs)) → AllByRecursion GoesOn (cond c (pairs (ends_of r 1 (length outs)) outs) [])
-      last true at = pairs_go (ends_of r 1 (length outs)) outs (outputs_go r (length outs) (at refl) 1 (length outs) (omega arith) (omega arith)) takes
+      last : (c : Bool) → (c ≡ true → HasReplicator r (length outs)) → AllByRecursion GoesOn (cond c (pairs (end_range r 1 (length outs)) outs) [])
+      last true at = pairs_go (end_range r 1 (length outs)) outs (outputs_go r (length outs) (at refl) 1 (length outs) (omega arith) (omega arith)) takes
       last false at = tt
 
   hold_one : (at : ℕ) (b : Bool) (g : Kind) → Holds bs at (map behaviour_of (where_true b g)) → b ≡ true → At bs at (behaviour_of g)

@@ -8,7 +8,7 @@ use Rattle.reo_net_base.specs.declared.joint.End.{End}
 use Rattle.reo_net_base.specs.declared.joint.Joint.{Joint}
 use Rattle.reo_net_base.specs.Net.{end_of, end_eq, is_at}
 use Rattle.reo_net_circuit.specs.Counts.{joints_at}
-use Rattle.reo_flat.specs.Joints.{is_many, ends_of, pairs, joints_between}
+use Rattle.reo_flat.specs.Joints.{is_many, end_range, pairs, joints_between}
 use Rattle.std.proofs.lemmas.List.FromFn.{length-range_with_len as length-range}
 
 abbrev pub one_if : Bool → ℕ
@@ -64,24 +64,24 @@ times-pairs e [] (t ∷ ts) same = absurd (omega arith)
 times-pairs e (g ∷ gs) [] same = absurd (omega arith)
 times-pairs e (g ∷ gs) (t ∷ ts) same = let rest = times-pairs e gs ts (omega arith) in omega arith
 
-pub length-ends_of : (i from count : ℕ) → length (ends_of i from count) ≡ count
-length-ends_of i from count = length-map (range_with_len from count) (λ k. end_of i k) ∙ length-range from count
+pub length-end_range : (i from count : ℕ) → length (end_range i from count) ≡ count
+length-end_range i from count = length-map (range_with_len from count) (λ k. end_of i k) ∙ length-range from count
 
 -- One end more at the back.
-times-ends_of : (e : End) (i from count : ℕ) → times e (ends_of i from (suc count)) ≡ times e (ends_of i from count) + one_if (end_eq (end_of i (from + count)) e)
-times-ends_of e i from zero = let same : from ≡ from + 0 = omega arith in let at = ap (λ k. one_if (end_eq (end_of i k) e)) same in omega arith
-times-ends_of e i from (suc n) =
-    let rest = times-ends_of e i (from + 1) n in
+times-end_range : (e : End) (i from count : ℕ) → times e (end_range i from (suc count)) ≡ times e (end_range i from count) + one_if (end_eq (end_of i (from + count)) e)
+times-end_range e i from zero = let same : from ≡ from + 0 = omega arith in let at = ap (λ k. one_if (end_eq (end_of i k) e)) same in omega arith
+times-end_range e i from (suc n) =
+    let rest = times-end_range e i (from + 1) n in
     let same : (from + 1) + n ≡ from + suc n = omega arith in
     let at = ap (λ k. one_if (end_eq (end_of i k) e)) same in
     omega arith
 
 -- What a node has of its own, with its ends.
 abbrev pub own_in : List End → ℕ → List End
-own_in ins merger = cond (is_many ins) (ends_of merger 0 (suc (length ins))) []
+own_in ins merger = cond (is_many ins) (end_range merger 0 (suc (length ins))) []
 
 abbrev pub own_out : List End → ℕ → List End
-own_out outs replicator = cond (is_many outs) (ends_of replicator 0 (suc (length outs))) []
+own_out outs replicator = cond (is_many outs) (end_range replicator 0 (suc (length outs))) []
 
 one_end : (xs : List End) → 0 < length xs → is_many xs ≡ false → length xs ≡ 1
 one_end xs some few = let less = leb-false 2 (length xs) few in omega arith
@@ -97,26 +97,26 @@ pub node_ends : (e : End) (ins outs : List End) (merger replicator : ℕ) → 0 
     → times e (ends_in_joints (joints_between ins outs merger replicator)) ≡ (times e ins + times e outs) + (times e (own_in ins merger) + times e (own_out outs replicator))
 node_ends e ins outs merger replicator some_in some_out = step (is_many ins) (is_many outs) (one_end ins some_in) (one_end outs some_out) where
   step : (a b : Bool) → (a ≡ false → length ins ≡ 1) → (b ≡ false → length outs ≡ 1)
-      → times e (ends_in_joints (cond a (pairs ins (ends_of merger 0 (length ins))) [] ++ (pairs (cond a (end_of merger (length ins) ∷ []) ins) (cond b (end_of replicator 0 ∷ []) outs) ++ cond b (pairs (ends_of replicator 1 (length outs)) outs) [])))
-      ≡ (times e ins + times e outs) + (times e (cond a (ends_of merger 0 (suc (length ins))) []) + times e (cond b (ends_of replicator 0 (suc (length outs))) []))
+      → times e (ends_in_joints (cond a (pairs ins (end_range merger 0 (length ins))) [] ++ (pairs (cond a (end_of merger (length ins) ∷ []) ins) (cond b (end_of replicator 0 ∷ []) outs) ++ cond b (pairs (end_range replicator 1 (length outs)) outs) [])))
+      ≡ (times e ins + times e outs) + (times e (cond a (end_range merger 0 (suc (length ins))) []) + times e (cond b (end_range replicator 0 (suc (length outs))) []))
   step true true one_in one_out =
-      let all = times_three e (pairs ins (ends_of merger 0 (length ins))) (pairs (end_of merger (length ins) ∷ []) (end_of replicator 0 ∷ [])) (pairs (ends_of replicator 1 (length outs)) outs) in
-      let x = times-pairs e ins (ends_of merger 0 (length ins)) (sym (length-ends_of merger 0 (length ins))) in
-      let z = times-pairs e (ends_of replicator 1 (length outs)) outs (length-ends_of replicator 1 (length outs)) in
-      let more = times-ends_of e merger 0 (length ins) in
+      let all = times_three e (pairs ins (end_range merger 0 (length ins))) (pairs (end_of merger (length ins) ∷ []) (end_of replicator 0 ∷ [])) (pairs (end_range replicator 1 (length outs)) outs) in
+      let x = times-pairs e ins (end_range merger 0 (length ins)) (sym (length-end_range merger 0 (length ins))) in
+      let z = times-pairs e (end_range replicator 1 (length outs)) outs (length-end_range replicator 1 (length outs)) in
+      let more = times-end_range e merger 0 (length ins) in
       let at = ap (λ k. one_if (end_eq (end_of merger k) e)) (zero-add (length ins)) in
       omega arith
   step true false one_in one_out =
-      let all = times_three e (pairs ins (ends_of merger 0 (length ins))) (pairs (end_of merger (length ins) ∷ []) outs) [] in
-      let x = times-pairs e ins (ends_of merger 0 (length ins)) (sym (length-ends_of merger 0 (length ins))) in
+      let all = times_three e (pairs ins (end_range merger 0 (length ins))) (pairs (end_of merger (length ins) ∷ []) outs) [] in
+      let x = times-pairs e ins (end_range merger 0 (length ins)) (sym (length-end_range merger 0 (length ins))) in
       let y = times-pairs e (end_of merger (length ins) ∷ []) outs (sym (one_out refl)) in
-      let more = times-ends_of e merger 0 (length ins) in
+      let more = times-end_range e merger 0 (length ins) in
       let at = ap (λ k. one_if (end_eq (end_of merger k) e)) (zero-add (length ins)) in
       omega arith
   step false true one_in one_out =
-      let all = times_three e [] (pairs ins (end_of replicator 0 ∷ [])) (pairs (ends_of replicator 1 (length outs)) outs) in
+      let all = times_three e [] (pairs ins (end_of replicator 0 ∷ [])) (pairs (end_range replicator 1 (length outs)) outs) in
       let y = times-pairs e ins (end_of replicator 0 ∷ []) (one_in refl) in
-      let z = times-pairs e (ends_of replicator 1 (length outs)) outs (length-ends_of replicator 1 (length outs)) in
+      let z = times-pairs e (end_range replicator 1 (length outs)) outs (length-end_range replicator 1 (length outs)) in
       omega arith
   step false false one_in one_out =
       let all = times_three e [] (pairs ins outs) [] in

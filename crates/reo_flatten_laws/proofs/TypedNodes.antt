@@ -27,14 +27,15 @@ use Rattle.reo_rules.specs.Unknown.{missing, unknown_in_item}
 use Rattle.reo_rules.specs.Mistyped.{is_mistyped}
 use Rattle.reo_rules.specs.Ranges.{range_in_item}
 use Rattle.reo_rules.specs.Arity.{arity_in_item}
+use Rattle.reo_rules.proofs.AfterLemmas.{where_false}
+use Rattle.reo_rules.proofs.Same.{same_types}
 use Rattle.reo_flat.specs.ChannelKinds.{channel_kind}
 use Rattle.reo_flat.specs.Unfolding.{Placed, Meaning, no_meaning, meaning_named, flat_name, use_path, channels_in}
 use Rattle.reo_flatten_laws.specs.NodeTypes.{Typing, no_typing, typing_named, typed_in}
 use Rattle.reo_flatten_laws.specs.Fitting.{Fits}
-use Rattle.reo_flatten_laws.proofs.Breaks.{holds, fails, left_none, right_none, flat_map-append}
+use Rattle.reo_flatten_laws.proofs.Breaks.{holds, left_none, right_none, flat_map-append}
 use Rattle.reo_flatten_laws.proofs.Each.{both}
 use Rattle.reo_flatten_laws.proofs.Within.{In, in_left, in_right, in_either, known_name}
-use Rattle.reo_flatten_laws.proofs.Alike.{same_types}
 use Rattle.reo_flatten_laws.proofs.RightKinds.{IsSound, channel_fits}
 use Rattle.reo_flatten_laws.proofs.TypesGrow.{Stays, stays_on}
 use Rattle.reo_flatten_laws.proofs.Validity.{AreValid, valid_type, well_formed}
@@ -235,7 +236,7 @@ module _ (cs : List Connector) (ms : List Meaning) (ts : List Typing) (types : L
         let a = known_type (node_names before) mine line first (left_none (missing names line first) _ two) in
         let b = known_type (node_names before) mine line second (right_none (missing names line first) _ two) in
         let kind = channel_kind types (type_named scope first) channel in
-        (subst (λ (xs : List Kindred). Fits kind xs) (λ i. sym a i ∷ sym b i ∷ []) (channel_fits types (type_named scope first) (type_named scope second) channel typed (fails _ _ bound) (sound_of types valid channel spelled.0)), tt)
+        (subst (λ (xs : List Kindred). Fits kind xs) (λ i. sym a i ∷ sym b i ∷ []) (channel_fits types (type_named scope first) (type_named scope second) channel typed (where_false _ _ bound) (sound_of types valid channel spelled.0)), tt)
     one_fits before line (forms.Used name names) mine spelled known typed bound fit nodes =
         let count = eqb-true _ _ (holds _ _ fit) in
         (typed_named types cs ms ts all name).fits (use_path path before name) (map (flat_name path ps arguments) names) T (length-map names (flat_name path ps arguments) ∙ count)
@@ -250,7 +251,7 @@ module _ (cs : List Connector) (ms : List Meaning) (ts : List Typing) (types : L
     items_fit before (i ∷ is) mine spelled known typed bound fit nodes =
         both (FitsAt T) (channels_at before i) (each_after channels_at (before ++ i ∷ []) is)
         (one_fits before i.line i.form (λ n there. mine n (subst (λ ns. In ns n) (sym (flat_map-append (λ (j : Item). node_names_in j.form) before (i ∷ is))) (in_left (node_names before) (node_names (i ∷ is)) n there))) spelled.0
-        (left_none (unknown_in_item types connectors (parameter_names ps ++ node_names before) i.line i.form) _ known) (fails _ _ (left_none (where_true (is_mistyped types cs scope i.form) (faults.Mistyped i.line)) _ typed))
+        (left_none (unknown_in_item types connectors (parameter_names ps ++ node_names before) i.line i.form) _ known) (where_false _ _ (left_none (where_true (is_mistyped types cs scope i.form) (faults.Mistyped i.line)) _ typed))
         (left_none (range_in_item types scope i.line i.form) _ bound) (left_none (arity_in_item cs i.line i.form) _ fit) (all_left (λ (e : Typed). T e.name ≡ e.kindred) (typed_at before i) _ nodes))
         (items_fit (before ++ i ∷ []) is (λ n there. mine n (subst (λ (b : List Item). In (node_names b) n) (append_assoc before (i ∷ []) is) there)) spelled.1
         (right_none (unknown_in_item types connectors (parameter_names ps ++ node_names before) i.line i.form) _ known) (right_none (where_true (is_mistyped types cs scope i.form) (faults.Mistyped i.line)) _ typed)

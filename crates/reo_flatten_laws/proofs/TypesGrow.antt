@@ -1,6 +1,5 @@
 -- Types that are known mean the same when more are known.
-use Rattle.std.proofs.Common.{◌≡◌, ◌∙◌, ℕ, List, [], ◌∷◌, ◌++◌, Bool, true, false, cond, ◌||◌, Some, find, refl, sym, ap, bytes_eq}
-use Rattle.std.specs.Prelude.{unwrap_or, option_map}
+use Rattle.std.proofs.Common.{◌≡◌, ◌∙◌, ℕ, List, [], ◌∷◌, ◌++◌, Bool, refl, sym, ap}
 use Rattle.std.specs.List.{AllByRecursion, flat_map}
 use Rattle.std.proofs.lemmas.List.{append_assoc}
 use Rattle.reo_values.specs.declared.kindred.Kindred.TheVariants as kinds
@@ -9,21 +8,12 @@ use Rattle.reo_trees.specs.declared.types.Shape.{Shape}
 use Rattle.reo_trees.specs.declared.types.TypeTerm.{TypeTerm}
 use Rattle.reo_trees.specs.declared.programs.Parameter.{Parameter}
 use Rattle.reo_trees.specs.declared.programs.Declaration.{Declaration}
-use Rattle.reo_trees.specs.declared.programs.Declaration.TheVariants as declarations
 use Rattle.reo_rules.specs.declared.fault.FlatFault.{FlatFault}
 use Rattle.reo_rules.specs.Lists.{has_name}
-use Rattle.reo_rules.specs.Types.{Typed, names_of, type_named, resolved, parts_of, types_after, types_of}
+use Rattle.reo_rules.specs.Types.{Typed, names_of, resolved, parts_of, types_after, types_of}
 use Rattle.reo_rules.specs.Unknown.{missing, unknown_in_part, unknown_in_type}
+use Rattle.reo_rules.proofs.Declared.{types_after-append, type_named-append}
 use Rattle.reo_flatten_laws.proofs.Breaks.{holds, left_none, right_none, flat_map-append}
-
-named_stays : (types more : List Typed) (name : List ℕ) → has_name (names_of types) name ≡ true → type_named (types ++ more) name ≡ type_named types name
-named_stays [] more name has = absurd (cc)
-named_stays (e ∷ es) more name has = step (bytes_eq name e.name) has (named_stays es more name) where
-  step : (b : Bool) → (b || has_name (names_of es) name) ≡ true → (has_name (names_of es) name ≡ true → type_named (es ++ more) name ≡ type_named es name)
-      → unwrap_or (option_map (λ (t : Typed). t.kindred) (cond b (Some e) (find (λ (t : Typed). bytes_eq name t.name) (es ++ more)))) kinds.Unit
-      ≡ unwrap_or (option_map (λ (t : Typed). t.kindred) (cond b (Some e) (find (λ (t : Typed). bytes_eq name t.name) es))) kinds.Unit
-  step true h rest = refl
-  step false h rest = rest h
 
 abbrev missing_in : List Typed → TypeTerm → List FlatFault
 missing_in types part = unknown_in_part (names_of types) part.line part.shape
@@ -40,7 +30,7 @@ shape_stays types more line (shape.Pair' m (shape.more_of-TypePair k x l y shape
     let right = shape_stays types more l y (right_none (flat_map (missing_in types) (parts_of k x)) _ both) in
     λ i. kinds.Pair (record { left = left i; right = right i })
 shape_stays types more line (shape.Named name) none =
-    named_stays types more name (holds (has_name (names_of types) name) _ (left_none (missing (names_of types) line name) _ none))
+    type_named-append types more name (holds (has_name (names_of types) name) _ (left_none (missing (names_of types) line name) _ none))
 
 pub type_stays : (types more : List Typed) (t : TypeTerm) → unknown_in_type (names_of types) t ≡ [] → resolved (types ++ more) t.shape ≡ resolved types t.shape
 type_stays types more t none = shape_stays types more t.line t.shape none
@@ -66,10 +56,6 @@ stays_on types e ps stays more = step ps (stays (e ∷ [])) (stays (e ∷ more))
   step (q ∷ qs) one all = (ap (λ ts. resolved ts q.term.shape) (append_assoc types (e ∷ []) more) ∙ all.0 ∙ sym one.0, step qs one.1 all.1)
 
 -- The types behind one more declaration.
-types_behind : (known : List Typed) (xs ys : List Declaration) → types_after known (xs ++ ys) ≡ types_after (types_after known xs) ys
-types_behind known [] ys = refl
-types_behind known (declarations.Named line name term ∷ xs) ys = types_behind (known ++ record { name = name; kindred = resolved known term.shape } ∷ []) xs ys
-types_behind known (declarations.Made c ∷ xs) ys = types_behind known xs ys
 
 pub one_more_type : (before : List Declaration) (d : Declaration) → types_of (before ++ d ∷ []) ≡ types_after (types_of before) (d ∷ [])
-one_more_type before d = types_behind [] before (d ∷ [])
+one_more_type before d = types_after-append [] before (d ∷ [])

@@ -33,7 +33,8 @@ use Rattle.reo_rules.specs.Types.{Typed, type_named, resolved, parts_of, depth_o
 use Rattle.reo_rules.specs.Terms.{symbol_in, expr_of}
 use Rattle.reo_rules.specs.Twice.{twice_among, twice_in_part, twice_in_type}
 use Rattle.reo_rules.specs.Ranges.{is_out, range_in_type}
-use Rattle.reo_flatten_laws.proofs.Breaks.{fails, left_none, right_none, flat_map-append}
+use Rattle.reo_rules.proofs.AfterLemmas.{where_false}
+use Rattle.reo_flatten_laws.proofs.Breaks.{left_none, right_none, flat_map-append}
 use Rattle.reo_flatten_laws.proofs.Once.{Once, distinct}
 use Rattle.reo_flatten_laws.proofs.OnceTwice.{new_name}
 use Rattle.reo_flatten_laws.proofs.Alike.{in_order}
@@ -69,10 +70,10 @@ unfolding hidden-the_row-Twins-0 hidden
 valid_shape types valid line shape.Unit spelled once bound = tt
 valid_shape types valid line shape.Bool spelled once bound = tt
 valid_shape types valid line (shape.Int low high) spelled once bound =
-    let within = either_false (not (le_z low high)) _ (fails _ _ (left_none (out_at types (record { line = line; shape = shape.Int low high })) _ bound)) in
+    let within = either_false (not (le_z low high)) _ (where_false _ _ (left_none (out_at types (record { line = line; shape = shape.Int low high })) _ bound)) in
     (near_64 low spelled.0, near_64 high spelled.1, in_order low high (not_false _ within))
 valid_shape types valid line (shape.Sym names) spelled once bound =
-    let within = either_false (nat_lt 1024 (length names)) _ (fails _ _ (left_none (out_at types (record { line = line; shape = shape.Sym names })) _ bound)) in
+    let within = either_false (nat_lt 1024 (length names)) _ (where_false _ _ (left_none (out_at types (record { line = line; shape = shape.Sym names })) _ bound)) in
     let few = leb-false (suc 1024) (length names) within in
     let each = names_once line [] names tt (left_none (each_after (λ b name. twice_among b line name) [] names) _ once) in
     record { few = omega arith; words = λ k d below. (spelled k d below).0; distinct = distinct names each }

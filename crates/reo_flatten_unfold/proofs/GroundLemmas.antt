@@ -9,9 +9,10 @@ use Rattle.reo_trees.specs.declared.programs.Connector.{Connector}
 use Rattle.reo_trees.specs.declared.programs.Declaration.{Declaration}
 use Rattle.reo_trees.specs.declared.programs.Declaration.TheVariants as declarations
 use Rattle.reo_rules.specs.Lists.{has_name}
-use Rattle.reo_rules.specs.Types.{Typed, types_after, types_of, resolved, names_of}
+use Rattle.reo_rules.specs.Types.{Typed, types_after, types_of, resolved}
 use Rattle.reo_rules.specs.Scopes.{type_names, connectors_of, connector_names}
-use Rattle.reo_rules.proofs.AfterLemmas.{flat_map-append}
+use Rattle.reo_rules.proofs.AfterLemmas.{flat_map-append, where_false}
+use Rattle.reo_rules.proofs.Declared.{types_after-append}
 use Rattle.reo_rules.specs.Twice.{twice_among, twice_in}
 use Rattle.reo_rules.specs.Scopes.{connectors_in}
 use Rattle.reo_flat.specs.declared.sizes.Sizes.{Sizes}
@@ -21,13 +22,9 @@ use Rattle.reo_flatten_unfold.specs.declared.ground.Stand.{Stand}
 use Rattle.reo_flatten_unfold.specs.declared.ground.Ground.{Ground}
 use Rattle.reo_flatten_unfold.specs.Known.{AreTypes}
 use Rattle.reo_flatten_unfold.specs.Ground.{IsStand, Stands, IsGround, AddsSizes}
-use Rattle.reo_flatten_unfold.proofs.ListLemmas.{slice_get-left, slice_get-right, fails}
+use Rattle.reo_flatten_unfold.proofs.ListLemmas.{slice_get-left, slice_get-right}
 
 -- Types and meanings, in two parts.
-pub types_after-append : (known : List Typed) (xs ys : List Declaration) → types_after known (xs ++ ys) ≡ types_after (types_after known xs) ys
-types_after-append known [] ys = refl
-types_after-append known (declarations.Named line name term ∷ xs) ys = types_after-append (known ++ record { name = name; kindred = resolved known term.shape } ∷ []) xs ys
-types_after-append known (declarations.Made c ∷ xs) ys = types_after-append known xs ys
 
 pub meanings_after-append : (known : List Meaning) (types : List Typed) (xs ys : List Declaration) → meanings_after known types (xs ++ ys) ≡ meanings_after (meanings_after known types xs) (types_after types xs) ys
 meanings_after-append known types [] ys = refl
@@ -50,14 +47,6 @@ meanings_front known types (declarations.Made c ∷ ys) =
     (_, more.1 ∙ append_assoc known _ more.0)
 
 -- A type's name for each type, and a meaning of its name for each connector.
-named_after : (known : List Typed) (ds : List Declaration) → names_of (types_after known ds) ≡ names_of known ++ type_names ds
-named_after known [] = sym (append-nil (names_of known))
-named_after known (declarations.Named line name term ∷ ds) =
-    named_after (known ++ record { name = name; kindred = resolved known term.shape } ∷ []) ds ∙ ap (λ ns. ns ++ type_names ds) (map-append (λ (e : Typed). e.name) known _) ∙ append_assoc (names_of known) (name ∷ []) (type_names ds)
-named_after known (declarations.Made c ∷ ds) = named_after known ds
-
-pub names_of-types : (ds : List Declaration) → names_of (types_of ds) ≡ type_names ds
-names_of-types ds = named_after [] ds
 
 meant_after : (known : List Meaning) (types : List Typed) (ds : List Declaration) → map (λ (m : Meaning). m.name) (meanings_after known types ds) ≡ map (λ (m : Meaning). m.name) known ++ connector_names ds
 meant_after known types [] = sym (append-nil _)
@@ -204,7 +193,7 @@ ground_made xs c g h is types connectors stands sizes =
 
 -- A name that stands once is new.
 pub new_type : (before : List Declaration) (line : ℕ) (name : List ℕ) (term : TypeTerm) → twice_in before (declarations.Named line name term) ≡ [] → has_name (type_names before) name ≡ false
-new_type before line name term none = fails _ _ (left_none (twice_among (type_names before) line name) _ none)
+new_type before line name term none = where_false _ _ (left_none (twice_among (type_names before) line name) _ none)
 
 pub new_connector : (before : List Declaration) (c : Connector) → twice_in before (declarations.Made c) ≡ [] → has_name (connector_names before) c.name ≡ false
-new_connector before c none = fails _ _ (left_none (twice_among (connector_names before) c.line c.name) _ none)
+new_connector before c none = where_false _ _ (left_none (twice_among (connector_names before) c.line c.name) _ none)

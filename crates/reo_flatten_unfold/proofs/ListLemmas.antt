@@ -1,9 +1,9 @@
 -- Lists made item by item.
-use Rattle.std.proofs.Common.{arith, ◌≡◌, ◌∙◌, ℕ, zero, suc, ◌+◌, ◌-◌, ◌<◌, ◌≤◌, List, [], ◌∷◌, ◌++◌, length, take, get_or, Bool, true, false, refl, sym, ap}
+use Rattle.std.proofs.Common.{arith, ◌≡◌, ◌∙◌, ℕ, zero, suc, ◌+◌, ◌-◌, ◌<◌, ◌≤◌, List, [], ◌∷◌, ◌++◌, length, take, get_or, refl, sym, ap}
 use Rattle.std.specs.Prelude.{slice_get}
 use Rattle.std.proofs.lemmas.List.{append-nil, append_assoc, take_more}
 use Rattle.reo_values.proofs.Sequences.{left_none}
-use Rattle.reo_rules.specs.Lists.{each_after, where_true}
+use Rattle.reo_rules.specs.Lists.{each_after}
 use Rattle.reo_rules.proofs.AfterLemmas.{right_none}
 
 -- The next item of a list.
@@ -30,11 +30,6 @@ module _ {X Y : Type 0} (f : List X → X → List Y) where
 
   pub each_after-more : (xs : List X) (i : ℕ) (x : X) → i < length xs → x ≡ get_or xs i x → each_after f [] (take (i + 1) xs) ≡ each_after f [] (take i xs) ++ f (take i xs) x
   each_after-more xs i x within at = ap (each_after f []) (take_next xs i x within at) ∙ each_after-next (take i xs) x
-
--- A test whose break is not there fails.
-pub fails : {X : Type 0} (b : Bool) (x : X) → where_true b x ≡ [] → b ≡ false
-fails true x none = absurd (cc)
-fails false x none = refl
 
 -- What stands in two lists one behind the other.
 pub slice_get-left : {X : Type 0} (xs ys : List X) (n : ℕ) → n < length xs → slice_get (xs ++ ys) n ≡ slice_get xs n

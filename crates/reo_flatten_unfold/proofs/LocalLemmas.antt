@@ -1,5 +1,5 @@
 -- The names of a connector, and the types with which they are declared.
-use Rattle.std.proofs.Common.{arith, ◌≡◌, ◌∙◌, ℕ, zero, suc, ◌+◌, ◌-◌, ◌<◌, ◌≤◌, List, [], ◌∷◌, ◌++◌, length, map, get_or, Bool, false, cond, Option, Some, None, position, refl, sym, ap, bytes_eq}
+use Rattle.std.proofs.Common.{arith, ◌≡◌, ◌∙◌, ℕ, zero, suc, ◌+◌, ◌-◌, ◌<◌, ◌≤◌, List, [], ◌∷◌, ◌++◌, length, map, get_or, Bool, false, Option, Some, None, position, refl, sym, ap, bytes_eq}
 use Rattle.std.specs.Prelude.{slice_get, option_map, unwrap_or}
 use Rattle.std.specs.List.{flat_map}
 use Rattle.std.proofs.lemmas.List.{length-append, length-map, map-append}
@@ -12,47 +12,31 @@ use Rattle.reo_trees.specs.declared.items.Form.TheVariants as forms
 use Rattle.reo_trees.specs.declared.programs.Parameter.{Parameter}
 use Rattle.reo_trees.specs.declared.programs.Connector.{Connector}
 use Rattle.reo_rules.specs.Lists.{each_after, has_name}
-use Rattle.reo_rules.specs.Names.{with_name}
 use Rattle.reo_rules.specs.Types.{Typed, names_of, type_named, resolved}
-use Rattle.reo_rules.specs.Scopes.{parameter_names, node_names, node_names_in, parameter_type, node_types_in, scope_of}
+use Rattle.reo_rules.specs.Scopes.{parameter_names, node_names, parameter_type, node_types_in, scope_of}
 use Rattle.reo_rules.specs.Twice.{twice_among, twice_in_item, twice_in_parameter}
 use Rattle.reo_rules.proofs.Mapped.{position-map}
+use Rattle.reo_rules.proofs.AfterLemmas.{where_false}
+use Rattle.reo_rules.proofs.Declared.{names_of-nodes, names_of-parameters}
 use Rattle.reo_flatten_unfold.specs.Known.{shape_type}
 use Rattle.reo_flatten_unfold.specs.Local.{node_place, IsNew, shape_in}
-use Rattle.reo_flatten_unfold.proofs.ListLemmas.{fails, slice_get-left, slice_get-right}
+use Rattle.reo_flatten_unfold.proofs.ListLemmas.{slice_get-left, slice_get-right}
 use Rattle.reo_flatten_unfold.proofs.Positions.{found_at, found_nowhere, found_within}
 
--- A name that is not there comes at the end.
-pub noted : (names : List (List ℕ)) (name : List ℕ) → has_name names name ≡ false → with_name names name ≡ names ++ name ∷ []
-noted names name new = ap (λ b. cond b names (names ++ name ∷ [])) new
-
 pub new_parameter : (before : List Parameter) (p : Parameter) → twice_in_parameter before p ≡ [] → has_name (parameter_names before) p.name ≡ false
-new_parameter before p none = fails _ _ (left_none (twice_among (parameter_names before) p.line p.name) _ none)
+new_parameter before p none = where_false _ _ (left_none (twice_among (parameter_names before) p.line p.name) _ none)
 
 pub new_node : (ps : List Parameter) (before : List Item) (line : ℕ) (f : Form) → twice_in_item ps before line f ≡ [] → IsNew (parameter_names ps ++ node_names before) f
-new_node ps before line (forms.Node name term) none = fails _ _ (left_none (twice_among (parameter_names ps ++ node_names before) line name) _ none)
+new_node ps before line (forms.Node name term) none = where_false _ _ (left_none (twice_among (parameter_names ps ++ node_names before) line name) _ none)
 new_node ps before line (forms.Joined channel first second) none = tt
 new_node ps before line (forms.Used name arguments) none = tt
 
 -- Names and types of a connector go together.
-node_names-typed : (ts : List Typed) (is : List Item) → names_of (flat_map (λ (i : Item). node_types_in ts i.form) is) ≡ node_names is
-node_names-typed ts [] = refl
-node_names-typed ts (i ∷ is) =
-    map-append (λ (e : Typed). e.name) (node_types_in ts i.form) (flat_map (λ (i : Item). node_types_in ts i.form) is)
-    ∙ (λ k. here i.form k ++ node_names-typed ts is k) where
-      here : (f : Form) → names_of (node_types_in ts f) ≡ node_names_in f
-      here (forms.Node name term) = refl
-      here (forms.Joined channel first second) = refl
-      here (forms.Used name arguments) = refl
-
-parameter_names-typed : (ts : List Typed) (ps : List Parameter) → names_of (map (parameter_type ts) ps) ≡ parameter_names ps
-parameter_names-typed ts [] = refl
-parameter_names-typed ts (p ∷ ps) = ap (λ ns. p.name ∷ ns) (parameter_names-typed ts ps)
 
 scope_names : (ts : List Typed) (c : Connector) → names_of (scope_of ts c) ≡ parameter_names c.parameters ++ node_names c.items
 scope_names ts c =
     map-append (λ (e : Typed). e.name) (map (parameter_type ts) c.parameters) (flat_map (λ (i : Item). node_types_in ts i.form) c.items)
-    ∙ (λ k. parameter_names-typed ts c.parameters k ++ node_names-typed ts c.items k)
+    ∙ (λ k. names_of-parameters ts c.parameters k ++ names_of-nodes ts c.items k)
 
 -- A node by its number: the item that declares it.
 pub record NodeAt (ts : List Typed) (b is : List Item) (m : ℕ) : Type 0 where

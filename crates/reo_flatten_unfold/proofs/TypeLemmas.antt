@@ -10,7 +10,7 @@ use Rattle.reo_values.specs.declared.kindred.Kindred.TheVariants as kinds
 use Rattle.reo_trees.specs.declared.types.Shape.TheBlock.{hidden-the_row-TypePair-0}
 use Rattle.reo_trees.specs.declared.types.Shape.TheVariants as shapes
 use Rattle.reo_trees.specs.declared.types.TypePair.{TypePair}
-use Rattle.reo_rules.specs.Types.{Typed, type_named, resolved}
+use Rattle.reo_rules.specs.Types.{Typed, type_named}
 use Rattle.reo_values.specs.declared.kindred.Kindred.TheBlock.{hidden-the_row-Twins-0}
 use Rattle.reo_trees.specs.declared.types.Shape.{Shape}
 use Rattle.reo_flatten_unfold.specs.Fits.{IsFew}
@@ -35,11 +35,6 @@ module _ (ts : List Typed) (types : Types) (are : AreTypes ts types) (name : Lis
   pub named_none : (known : ℕ) → position (bytes_eq name) types.names ≡ None → type_named (take known ts) name ≡ kinds.Unit
   named_none known is =
       ap (λ (found : Option Typed). unwrap_or (option_map (λ (e : Typed). e.kindred) found) kinds.Unit) (found_none (λ (e : Typed). bytes_eq name e.name) ts known (sym number ∙ is))
-
--- What a written pair stands for.
-pub resolved-Pair : (ts : List Typed) (p : TypePair) → resolved ts (shapes.Pair p) ≡ kinds.Pair (record { left = resolved ts p.left.shape; right = resolved ts p.right.shape })
-unfolding hidden-the_row-TypePair-0 hidden
-resolved-Pair ts p = refl
 
 -- A type that was read is one of few names, where all are.
 pub few_at : (o : Option (Bor Kindred)) (ks : List Kindred) (n : ℕ) → option_copied o ≡ slice_get ks n → All HasFewNames ks → IfSome o (λ k. HasFewNames k.now)

@@ -10,7 +10,7 @@ use Rattle.reo_net_base.specs.declared.joint.End.{End}
 use Rattle.reo_net_base.specs.declared.joint.Joint.{Joint}
 use Rattle.reo_net_base.specs.Behaviour.{Behaviour}
 use Rattle.reo_net_base.specs.Net.{Net, end_of, behaviour_at, sides_of, first_side, side_at, from_sides, to_sides}
-use Rattle.reo_net_circuit.proofs.ReshapeLemmas.{side_count}
+use Rattle.reo_net_laws.proofs.Sides.{side_count}
 use Rattle.reo_kinds.specs.declared.kind.Kind.{Kind}
 use Rattle.reo_kinds.specs.declared.kind.Kind.TheVariants as primitives
 use Rattle.reo_kinds.specs.Kinds.{behaviour_of}
@@ -18,7 +18,7 @@ use Rattle.reo_rules.specs.Lists.{where_true}
 use Rattle.reo_rules.specs.Touches.{bool_eq}
 use Rattle.reo_flat.specs.Unfolding.{Placed}
 use Rattle.reo_flat.specs.Ends.{ends_in, ends_from, incoming, outgoing}
-use Rattle.reo_flat.specs.Joints.{is_many, ends_of, pairs, joints_between, joints_of, many}
+use Rattle.reo_flat.specs.Joints.{is_many, end_range, pairs, joints_between, joints_of, many}
 use Rattle.reo_flat.specs.Flat.{branched, branched_with, own_kinds, joints_at}
 use Rattle.reo_flatten_laws.proofs.Each.{both}
 
@@ -122,11 +122,11 @@ one-has : (us : List Piece) (i r x : ℕ) → IsOne us i r → Has us (end_of i 
 one-has us i r x (u, at, is, side) =
     (u, at, subst (λ (l : List ℕ). (behaviour_in u).side_of x < length l) (sym is) (subst (λ (k : ℕ). k < 1) (sym (side x)) (omega arith)), (λ j. get_or (is j) (side x j) 0))
 
-one-most : (us : List Piece) (i r from count : ℕ) → IsOne us i r → AllByRecursion (AtMost us r) (ends_of i from count)
+one-most : (us : List Piece) (i r from count : ℕ) → IsOne us i r → AllByRecursion (AtMost us r) (end_range i from count)
 one-most us i r from zero one = tt
 one-most us i r from (suc count) one = ((r, one-has us i r from one, omega arith), one-most us i r (from + 1) count one)
 
-one-least : (us : List Piece) (i r from count : ℕ) → IsOne us i r → AllByRecursion (AtLeast us r) (ends_of i from count)
+one-least : (us : List Piece) (i r from count : ℕ) → IsOne us i r → AllByRecursion (AtLeast us r) (end_range i from count)
 one-least us i r from zero one = tt
 one-least us i r from (suc count) one = ((r, one-has us i r from one, omega arith), one-least us i r (from + 1) count one)
 
@@ -173,11 +173,11 @@ node-rises : (us : List Piece) (r : ℕ) (ins outs : List End) (m p : ℕ) → A
 node-rises us r ins outs m p low high am ap = step (is_many ins) (is_many outs) am ap
   where
     step : (a b : Bool) → (a ≡ true → IsOne us m (3 * r + 1)) → (b ≡ true → IsOne us p (3 * r + 2))
-        → AllByRecursion (Rises us) (cond a (pairs ins (ends_of m 0 (length ins))) [] ++ (pairs (cond a (end_of m (length ins) ∷ []) ins) (cond b (end_of p 0 ∷ []) outs) ++ cond b (pairs (ends_of p 1 (length outs)) outs) []))
+        → AllByRecursion (Rises us) (cond a (pairs ins (end_range m 0 (length ins))) [] ++ (pairs (cond a (end_of m (length ins) ∷ []) ins) (cond b (end_of p 0 ∷ []) outs) ++ cond b (pairs (end_range p 1 (length outs)) outs) []))
     step a b am ap = both (Rises us) _ _ (first a am) (both (Rises us) _ _ (pairs-rise us (3 * r + 1) _ _ (middle a am) (after b ap)) (last b ap))
       where
-        first : (c : Bool) → (c ≡ true → IsOne us m (3 * r + 1)) → AllByRecursion (Rises us) (cond c (pairs ins (ends_of m 0 (length ins))) [])
-        first true at = pairs-rise us (3 * r) ins (ends_of m 0 (length ins)) low (one-least us m (3 * r + 1) 0 (length ins) (at refl))
+        first : (c : Bool) → (c ≡ true → IsOne us m (3 * r + 1)) → AllByRecursion (Rises us) (cond c (pairs ins (end_range m 0 (length ins))) [])
+        first true at = pairs-rise us (3 * r) ins (end_range m 0 (length ins)) low (one-least us m (3 * r + 1) 0 (length ins) (at refl))
         first false at = tt
 
         middle : (c : Bool) → (c ≡ true → IsOne us m (3 * r + 1)) → AllByRecursion (AtMost us (3 * r + 1)) (cond c (end_of m (length ins) ∷ []) ins)
@@ -188,8 +188,8 @@ node-rises us r ins outs m p low high am ap = step (is_many ins) (is_many outs) 
         after true at = ((3 * r + 2, one-has us p (3 * r + 2) 0 (at refl), omega arith), tt)
         after false at = least-less us (3 * r + 3) (3 * r + 1 + 1) outs (omega arith) high
 
-        last : (c : Bool) → (c ≡ true → IsOne us p (3 * r + 2)) → AllByRecursion (Rises us) (cond c (pairs (ends_of p 1 (length outs)) outs) [])
-        last true at = pairs-rise us (3 * r + 2) (ends_of p 1 (length outs)) outs (one-most us p (3 * r + 2) 1 (length outs) (at refl)) (least-less us (3 * r + 3) (3 * r + 2 + 1) outs (omega arith) high)
+        last : (c : Bool) → (c ≡ true → IsOne us p (3 * r + 2)) → AllByRecursion (Rises us) (cond c (pairs (end_range p 1 (length outs)) outs) [])
+        last true at = pairs-rise us (3 * r + 2) (end_range p 1 (length outs)) outs (one-most us p (3 * r + 2) 1 (length outs) (at refl)) (least-less us (3 * r + 3) (3 * r + 2 + 1) outs (omega arith) high)
         last false at = tt
 
 -- The rank of a side by an end of it, and a joint that rises as an arrow that does.

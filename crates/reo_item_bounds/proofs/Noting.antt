@@ -16,6 +16,7 @@ use Rattle.reo_net_base.proofs.Numbers.{one_table}
 use Rattle.reo_net_circuit.proofs.Cases.{eq_cases}
 use Rattle.reo_net_circuit.proofs.ReshapeLemmas.{same_shape}
 use Rattle.reo_net_laws.specs.Parts.{IsClosed}
+use Rattle.reo_net_laws.proofs.Shapes.{shapes_twice}
 use Rattle.reo_joint_values.specs.Standing.{no_joint, giver_of, taker_of}
 use Rattle.reo_joint_values.specs.Many.{IsJointIn}
 use Rattle.reo_weights.specs.Bounds.{sum_below, giver_rows}
@@ -24,21 +25,6 @@ use Rattle.reo_item_bounds.specs.Bounds.{ComesIn, IsBoundAt}
 use Rattle.reo_item_bounds.specs.Kept.{HasNumber, with_states, IsBoundBy, AreKeptBounds, AreUnnumbered, HoldFed}
 use Rattle.reo_item_bounds.specs.Laws.{KeptBoundsStay}
 use Rattle.reo_item_bounds.proofs.Tables.{bound_there, place_same}
-
-pub shape_twice : (b d e : Behaviour) → SameShape b d → SameShape d e → SameShape b e
-shape_twice b d e r s = record {
-  ends = s.ends ∙ r.ends;
-  sides = s.sides ∙ r.sides;
-  side_of = λ end. s.side_of end ∙ r.side_of end;
-  takes_in = λ end. s.takes_in end ∙ r.takes_in end;
-  leads = λ side. s.leads side ∙ r.leads side;
-}
-
-pub shapes_twice : (bs ds es : List Behaviour) → SameShapes bs ds → SameShapes ds es → SameShapes bs es
-shapes_twice bs ds es r s = record {
-  count = s.count ∙ r.count;
-  same = λ i lt. shape_twice (behaviour_at bs i) (behaviour_at ds i) (behaviour_at es i) (r.same i lt) (s.same i (omega (arith, lt, r.count)));
-}
 
 pub kept_bounds_stay : KeptBoundsStay
 kept_bounds_stay net other joints shapes kept are = record {

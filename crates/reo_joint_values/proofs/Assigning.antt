@@ -16,7 +16,7 @@ use Rattle.reo_net_base.specs.Colouring.{taken_at, given_at, lets_in, JointMatch
 use Rattle.reo_net_base.specs.Wired.{IsWired, IsEnd, IsOrder}
 use Rattle.reo_net_laws.specs.Ends.{mark_in, from_in}
 use Rattle.reo_net_laws.specs.Parts.{IsClosed, IsAssignment}
-use Rattle.reo_net_laws.proofs.Items.{along_order}
+use Rattle.reo_net_laws.proofs.Items.{along_order, some_item}
 use Rattle.reo_net_laws.proofs.Sides.{row_is, side_in_range}
 use Rattle.reo_joint_values.specs.declared.value.JointValue.{JointValue}
 use Rattle.reo_joint_values.specs.declared.value.JointValue.TheVariants.{Flow, RG, GR, GG, Jam}
@@ -65,10 +65,6 @@ item_flows names j RG item h = cc
 item_flows names j GR item h = cc
 item_flows names j GG item h = cc
 item_flows names j Jam item h = cc
-
-pub some_item : (o : Option Value) → IsSome o → (item : Value) × (o ≡ Some item)
-some_item None h = cc
-some_item (Some item) h = (item, refl)
 
 -- Items that a row gives.
 module _ (net : Net) (wired : IsWired net) (row k : ℕ) (lt : k < length net.joints) (in_table : IsRowAt net row (joint_of net k).giver) (flows : mark_in net row (joint_of net k).giver ≡ F) where

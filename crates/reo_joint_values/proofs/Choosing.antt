@@ -16,7 +16,7 @@ use Rattle.reo_net_base.specs.Colouring.{given_at, HasItem, ItemFits}
 use Rattle.reo_net_base.specs.Wired.{IsWired, IsEnd}
 use Rattle.reo_net_laws.specs.Parts.{IsClosed, IsAssignment}
 use Rattle.reo_net_laws.specs.Keys.{within}
-use Rattle.reo_net_laws.proofs.Items.{given_same}
+use Rattle.reo_net_laws.proofs.Items.{given_same, some_item}
 use Rattle.reo_net_laws.proofs.Sides.{below_or, row_is, same_side_at, row_in_table, gives_at}
 use Rattle.reo_joint_values.specs.declared.value.JointValue.{JointValue}
 use Rattle.reo_joint_values.specs.declared.value.JointValue.TheVariants.{Flow, RG, GR, GG, Jam}
@@ -26,7 +26,7 @@ use Rattle.reo_joint_values.specs.Chosen.{rows_of}
 use Rattle.reo_joint_values.specs.Ties.{AreSides, AreNamed, HasChoice, AssignmentsAreChoices, FirstByValues}
 use Rattle.reo_joint_values.proofs.Fitting.{items_count, item_chosen}
 use Rattle.reo_joint_values.proofs.Inside.{at_inside}
-use Rattle.reo_joint_values.proofs.Assigning.{mark_by, given_by, lets_by, some_item, choices_are_assignments}
+use Rattle.reo_joint_values.proofs.Assigning.{mark_by, given_by, lets_by, choices_are_assignments}
 
 pub true_or_false : (t : Bool) → (t ≡ true) ⊎ (t ≡ false)
 true_or_false true = inl refl

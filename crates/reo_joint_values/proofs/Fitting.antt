@@ -1,5 +1,5 @@
 -- Rows that fit values, and what the items that they give hang on.
-use Rattle.std.proofs.Common.{◌≡◌, inl, inr, ℕ, zero, suc, ◌<◌, List, [], ◌∷◌, Bool, true, false, cond, length, get_or, Option, None, Some, IsSome, refl, ap, sym, ◌∙◌, subst, arith}
+use Rattle.std.proofs.Common.{◌≡◌, inl, inr, ℕ, ◌<◌, length, get_or, Option, None, Some, IsSome, refl, ap, sym, ◌∙◌, subst, arith}
 use Rattle.std.specs.Option.{option_and_then, is_some}
 use Rattle.std.proofs.lemmas.List.{get_or_default}
 use Rattle.std.proofs.lemmas.List.FromFn.{get_or-map-range_with_len, length-map-range_with_len}
@@ -8,13 +8,13 @@ use Rattle.reo_net_base.specs.declared.mark.Mark.{Mark}
 use Rattle.reo_net_base.specs.declared.mark.Mark.TheVariants.{F, G, R, J}
 use Rattle.reo_net_base.specs.declared.joint.End.{End}
 use Rattle.reo_net_base.specs.declared.joint.Joint.{Joint}
-use Rattle.reo_net_base.specs.Net.{Net, end_of, end_eq, side_at, side_of_end}
+use Rattle.reo_net_base.specs.Net.{Net, end_of, side_at, side_of_end}
 use Rattle.reo_net_base.specs.Colouring.{taken_at}
 use Rattle.reo_net_base.specs.Wired.{IsWired, IsEnd}
 use Rattle.reo_net_laws.specs.Ends.{mark_in, from_in, IsRowOf}
-use Rattle.reo_net_laws.proofs.Items.{end_is}
-use Rattle.reo_net_laws.proofs.Joined.{ends_joined, source_taken, end_same}
+use Rattle.reo_net_laws.proofs.Joined.{ends_joined, source_taken}
 use Rattle.reo_net_laws.proofs.Sides.{side_at_is}
+use Rattle.reo_net_laws.proofs.Items.{taken_one}
 use Rattle.reo_joint_values.specs.declared.value.JointValue.{JointValue}
 use Rattle.reo_joint_values.specs.Values.{Names, Choice, item_named, items_of, no_joint, joint_of, giver_side, taker_side, AtSide}
 use Rattle.reo_joint_values.specs.Fitting.{given_for, given_in, GivesValue, TakesValue, Fits}
@@ -25,20 +25,6 @@ items_count net names c = length-map-range_with_len {X = Option Value} (λ j. it
 
 pub item_chosen : (net : Net) (names : Names) (c : Choice) (j : ℕ) → j < length net.joints → get_or (items_of net names c) j None ≡ item_named names j (c j)
 item_chosen net names c j lt = get_or-map-range_with_len {X = Option Value} (λ j. item_named names j (c j)) 0 (length net.joints) j j None lt (omega arith)
-
--- The item that goes to an end is that of the one joint there.
-pub taken_one : (joints : List Joint) (items : List (Option Value)) (e : End) (j : ℕ) (d : Joint) → length items ≡ length joints → j < length joints → (get_or joints j d).taker ≡ e
-    → ((k : ℕ) (z : Joint) → k < length joints → (get_or joints k z).taker ≡ e → k ≡ j) → taken_at joints items e ≡ get_or items j None
-taken_one [] items e j d n lt here only = absurd (omega arith)
-taken_one (x ∷ xs) [] e j d n lt here only = absurd (omega arith)
-taken_one (x ∷ xs) (y ∷ ys) e zero d n lt here only = ap (λ (t : Bool). cond t y (taken_at xs ys e)) (end_same x.taker e here)
-taken_one (x ∷ xs) (y ∷ ys) e (suc j) d n lt here only =
-    let rest : taken_at xs ys e ≡ get_or ys j None = taken_one xs ys e j d (omega arith) (omega arith) here (λ k z k_in k_here.
-    let same : suc k ≡ suc j = only (suc k) z (omega arith) k_here in omega (arith, same)) in
-    elim (end_eq x.taker e) as (λ t. end_eq x.taker e ≡ t → cond t y (taken_at xs ys e) ≡ get_or ys j None) [
-      | true ↦ λ is. let same : zero ≡ suc j = only zero x (omega arith) (end_is x.taker e is) in absurd (omega (arith, same))
-      | false ↦ λ is. rest
-    ] refl
 
 -- A row of a side is one of the table of each end of the side.
 row_at_end : (net : Net) → IsWired net → (e : End) → IsEnd net.primitives e → (side row : ℕ) → side_at net e ≡ side → IsRowOf net side row → IsRowAt net row e

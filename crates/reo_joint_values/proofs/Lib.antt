@@ -1,8 +1,10 @@
 pub mod Assigning
+pub mod Changing
 pub mod Choosing
 pub mod Distinct
 pub mod Fitting
 pub mod Inside
+pub mod Marks
 pub mod Narrowing
 pub mod StandLemmas
 pub mod Works

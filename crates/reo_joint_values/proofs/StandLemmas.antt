@@ -2,7 +2,6 @@
 use Rattle.std.proofs.Common.{◌≡◌, inl, inr, ℕ, zero, suc, ◌+◌, ◌<◌, List, [], ◌∷◌, Bool, true, false, cond, Option, None, Some, length, get_or, refl, ap, sym, ◌∙◌, subst, arith}
 use Rattle.std.specs.Option.{option_and_then}
 use Rattle.std.proofs.lemmas.Bool.{cases_eq}
-use Rattle.std.proofs.lemmas.Bool.Decides.{nat_tests}
 use Rattle.std.proofs.lemmas.List.{get_or_default}
 use Rattle.reo_values.specs.declared.value.Value.{Value}
 use Rattle.reo_net_order.specs.Arrows.{OrderExists}
@@ -10,10 +9,12 @@ use Rattle.reo_net_base.specs.declared.mark.Mark.TheVariants.{F, J}
 use Rattle.reo_net_base.specs.declared.joint.End.{End}
 use Rattle.reo_net_base.specs.declared.joint.Joint.{Joint}
 use Rattle.reo_net_base.specs.Behaviour.{Behaviour, IsPlainRow}
+use Rattle.reo_net_base.specs.Ends.{IsGiver}
 use Rattle.reo_net_base.specs.Lawful.{GivesAt}
 use Rattle.reo_net_base.specs.Net.{Net, behaviour_at, end_of, end_eq, side_at, side_of_end, row_at, from_sides, to_sides}
 use Rattle.reo_net_base.specs.Colouring.{taken_at, given_at, lets_in, HasItem, ItemFits}
 use Rattle.reo_net_base.specs.Wired.{IsWired, IsOrder}
+use Rattle.reo_net_base.proofs.Ends.{end_self}
 use Rattle.reo_net_laws.specs.Ends.{mark_in, from_in, IsSource}
 use Rattle.reo_net_laws.specs.Parts.{IsClosed, IsAssignment, is_joint_inside}
 use Rattle.reo_net_laws.proofs.Items.{end_is, along_order}
@@ -22,6 +23,10 @@ use Rattle.reo_net_laws.proofs.Sides.{row_is, side_in_range, row_in_table, gives
 use Rattle.reo_joint_values.specs.Standing.{no_joint, giver_of, taker_of, given_in, passes_in, FlowsAt, CanStand}
 use Rattle.reo_joint_values.specs.Standing.CanStand.{alone, passed}
 use Rattle.reo_joint_values.specs.StandingLaws.{PossibleItemsAreClosed, PossibleItemsAreLeast, ItemsCanStand}
+
+-- The giver of a joint gives.
+pub giver_gives : (net : Net) → IsWired net → (j : ℕ) → j < length net.joints → IsGiver net (giver_of net j)
+giver_gives net wired j lt = record { is_end = wired.givers j no_joint lt; gives = wired.gives j no_joint lt }
 
 pub possible_closed : PossibleItemsAreClosed
 possible_closed net = record {
@@ -32,9 +37,6 @@ possible_closed net = record {
 pub possible_least : PossibleItemsAreLeast
 possible_least net test closed j item (alone i row x lt gives) = closed.alone i row x lt gives
 possible_least net test closed j item (passed i row k taken x lt gives before) = closed.passed i row k taken x lt gives (possible_least net test closed k taken before)
-
-pub end_self : (e : End) → end_eq e e ≡ true
-end_self e = grind (arith, nat_tests)
 
 -- The item at an end is the item at the one joint that goes there.
 taken_is : (joints : List Joint) (items : List (Option Value)) (e : End) (k : ℕ) → k < length joints → length items ≡ length joints → ((d : Joint) → (get_or joints k d).taker ≡ e)

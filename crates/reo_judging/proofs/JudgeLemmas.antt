@@ -1,29 +1,23 @@
 -- What is wrong with the rows of entries is wrong with the entries.
-use Rattle.std.proofs.Common.{◌≡◌, ℕ, ◌+◌, ◌<◌, List, sym, subst, arith}
+use Rattle.std.proofs.Common.{◌≡◌, ℕ, List, sym, subst}
 use Rattle.reo_net_base.specs.declared.colouring.Colouring.{Colouring}
-use Rattle.reo_net_base.specs.Net.{Net, all_sides, first_side, behaviour_at, no_side}
-use Rattle.reo_net_base.specs.Sides.{AreRowsOf}
+use Rattle.reo_net_base.specs.Net.{Net, all_sides}
 use Rattle.reo_net_base.specs.Colouring.{RowsFit, IsFilled}
-use Rattle.reo_net_laws.proofs.Sides.{rows_length, row_below, side_in, side_is}
+use Rattle.reo_net_laws.proofs.Sides.{rows_length}
 use Rattle.reo_net_colouring.specs.Filled.{AllFit}
 use Rattle.reo_checker.specs.declared.wrong.Wrong.{Wrong}
 use Rattle.reo_checker.specs.declared.wrong.Wrong.TheVariants.{Count, Row, Joint, Item}
-use Rattle.reo_checker.specs.Faults.{AreWrongRows, IsRowFault, side_row}
+use Rattle.reo_checker.specs.Faults.{AreWrongRows}
+use Rattle.reo_checker.proofs.ExactLemmas.{row_out}
 use Rattle.reo_trace.specs.declared.line.Entry.{Entry}
 use Rattle.reo_verdicts.specs.Said.{AreSaid}
 use Rattle.reo_verdicts.specs.Wrongs.{IsWrongWith}
 use Rattle.reo_judging.specs.Judged.{IsColouringSaid}
 
-none_out : (net : Net) (rows : List ℕ) (i : ℕ) → IsRowFault net rows i → AreRowsOf net rows → ⊥
-none_out net rows i fault tables =
-    let below = row_below (all_sides net.primitives) rows tables (first_side net.primitives i + fault.out.side) no_side (side_in net.primitives i fault.out.side fault.in_range fault.out.is_side) in
-    let here : side_row net rows i fault.out.side < (behaviour_at net.primitives i).rows fault.out.side = rw (side_is net.primitives i fault.out.side no_side fault.in_range fault.out.is_side) at below in
-    absurd (omega (arith, here, fault.out.out))
-
 -- Rows that entries say can only be wrong at a joint.
 pub marks_wrong : (net : Net) (entries : List Entry) (rows : List ℕ) (wrong : Wrong) → AreSaid net entries rows → AreWrongRows net rows wrong → IsWrongWith net entries wrong
 marks_wrong net entries rows Count said wrong = absurd (wrong (rows_length (all_sides net.primitives) rows said.in_tables))
-marks_wrong net entries rows (Row i) said wrong = absurd (none_out net rows i wrong.1 said.in_tables)
+marks_wrong net entries rows (Row i) said wrong = absurd (row_out net rows i wrong.1 said.in_tables)
 marks_wrong net entries rows (Joint j) said wrong = (rows, said, wrong.1)
 marks_wrong net entries rows (Item j) said wrong = absurd wrong
 

@@ -1,25 +1,19 @@
 -- The sides of a part, as a list and as a set.
-use Rattle.std.proofs.Common.{◌≡◌, ◌≢◌, ℕ, zero, suc, ◌+◌, ◌<◌, Bool, true, List, [], length, get_or, ap, sym, ◌∙◌, subst, arith}
+use Rattle.std.proofs.Common.{◌≡◌, ◌≢◌, ℕ, ◌+◌, ◌<◌, Bool, true, List, [], length, get_or, ap, sym, ◌∙◌, subst, arith}
 use Rattle.std.specs.Prelude.{◌==◌, nat_lt}
 use Rattle.std.specs.List.{range_with_len}
 use Rattle.reo_values.proofs.Truths.{and_left, and_right, one_truth}
-use Rattle.reo_values.proofs.Naturals.{eq_same, same_eq, true_lt}
+use Rattle.reo_values.proofs.Naturals.{eq_same, true_lt}
 use Rattle.reo_net_base.specs.Net.{Net}
 use Rattle.reo_net_base.specs.Sides.{side_count}
 use Rattle.reo_net_base.specs.Wired.{IsWired}
 use Rattle.reo_net_laws.specs.Sublists.{sides_in}
 use Rattle.reo_knots.specs.Knots.{Knotted, AreKnots, in_knot, knot_count}
 use Rattle.reo_propagate.specs.Queues.{among}
+use Rattle.reo_propagate.proofs.Among.{among_filter, into_filter, among_range}
 use Rattle.reo_kept_tables.specs.Tables.{AreApart}
 use Rattle.reo_kept_tables.specs.Orders.{AreJointsOf, AreOrders}
-use Rattle.reo_kept_tables.proofs.Sorted.{later, sooner, not_other, out_of_filter, into_filter, orders_are_of_parts}
-
-among_range : (a n s : ℕ) → s < n → among (range_with_len a n) (a + s) ≡ true
-among_range a zero s lt = absurd (omega arith)
-among_range a (suc n) zero lt = sooner (a == (a + zero)) (among (range_with_len (a + 1) n) (a + zero)) (same_eq a (a + zero) (omega arith))
-among_range a (suc n) (suc s) lt =
-    let shift : (a + 1) + s ≡ a + suc s = omega arith in
-    later (a == (a + suc s)) (among (range_with_len (a + 1) n) (a + suc s)) (subst (λ (k : ℕ). among (range_with_len (a + 1) n) k ≡ true) shift (among_range (a + 1) n s (omega arith)))
+use Rattle.reo_kept_tables.proofs.Sorted.{not_other, orders_are_of_parts}
 
 module _ (net : Net) (knots : Knotted) (are : AreKnots net knots) (part : ℕ) (lt : part < knot_count knots) where
   -- A side of a part is one of the circuit.
@@ -30,7 +24,7 @@ module _ (net : Net) (knots : Knotted) (are : AreKnots net knots) (part : ℕ) (
 
   among_part : (s : ℕ) → among (sides_in net (in_knot knots.numbers part)) s ≡ in_knot knots.numbers part s
   among_part s = one_truth (among (sides_in net (in_knot knots.numbers part)) s) (in_knot knots.numbers part s)
-      (λ h. (out_of_filter (in_knot knots.numbers part) (range_with_len 0 (side_count net)) s h).0)
+      (λ h. (among_filter (in_knot knots.numbers part) (range_with_len 0 (side_count net)) s h).0)
       (λ h. into_filter (in_knot knots.numbers part) (range_with_len 0 (side_count net)) s h
       (subst (λ (k : ℕ). among (range_with_len 0 (side_count net)) k ≡ true) (let z : 0 + s ≡ s = omega arith in z) (among_range 0 (side_count net) s (real s h))))
 

@@ -1,6 +1,6 @@
 -- The joints of parts, in an order of all joints.
-use Rattle.std.proofs.Common.{◌≡◌, ◌≢◌, ◌⊎◌, ◌↔◌, inl, inr, ℕ, ◌+◌, ◌<◌, Bool, true, false, cond, List, [], ◌∷◌, ◌++◌, length, get_or, take, refl, ap, sym, ◌∙◌, subst, arith, append-nil}
-use Rattle.std.specs.Prelude.{Contains, filter, nat_lt}
+use Rattle.std.proofs.Common.{◌≡◌, ◌≢◌, ◌↔◌, inl, inr, ℕ, ◌+◌, ◌<◌, Bool, true, false, cond, List, [], ◌∷◌, ◌++◌, length, get_or, take, ap, sym, ◌∙◌, subst, arith, append-nil}
+use Rattle.std.specs.Prelude.{Contains, nat_lt}
 use Rattle.std.specs.Bool.{◌==◌}
 use Rattle.std.proofs.lemmas.Bool.Decides.{eqb_tells}
 use Rattle.std.proofs.lemmas.List.{get_or_default, take_all}
@@ -20,14 +20,13 @@ use Rattle.reo_joint_values.specs.Standing.{no_joint, giver_of}
 use Rattle.reo_joint_values.specs.Many.{IsJointIn}
 use Rattle.reo_reach.proofs.PartLemmas.{parts_in_order}
 use Rattle.reo_propagate.specs.Queues.{among}
-use Rattle.reo_propagate.proofs.Among.{among_at}
+use Rattle.reo_propagate.proofs.Among.{among_at, among_filter, into_filter}
 use Rattle.reo_kept_tables.specs.Orders.{AreJointsOf, AreOrders}
 use Rattle.reo_kept_tables.specs.Laws.{OrdersAreOfParts, OrdersStay}
 use Rattle.reo_kept_tables.proofs.Renewed.{contains_among, among_contains}
 use Rattle.reo_kept_tables.proofs.Readied.{in_own}
-pub use Rattle.std.proofs.lemmas.Bool.{or_left as sooner, or_right as later}
 use Rattle.std.proofs.lemmas.Bool.{false_from_ne_true as not_true}
-use Rattle.reo_values.proofs.Truths.{and_right, either}
+use Rattle.reo_values.proofs.Truths.{and_right}
 use Rattle.reo_values.proofs.Naturals.{eq_same}
 use Rattle.reo_values.proofs.Sequences.{filter_same}
 
@@ -79,31 +78,6 @@ all_picked net knots order n orders is all are = record {
   each = λ k lt. are.each k lt ∙ ap (joints_in net (in_knot knots.numbers k)) (take_all n order (omega (arith, all)));
 }
 
-out_for : (f : ℕ → Bool) (x : ℕ) (xs : List ℕ) (s : ℕ) (t : Bool) → f x ≡ t → (among (filter f xs) s ≡ true → (f s ≡ true) × (among xs s ≡ true)) → among (cond t (x ∷ filter f xs) (filter f xs)) s ≡ true
-    → (f s ≡ true) × (among (x ∷ xs) s ≡ true)
-out_for f x xs s true is rest h = elim (either (x == s) (among (filter f xs) s) h) [
-  | inl here ↦ (subst (λ (k : ℕ). f k ≡ true) (eq_same x s here) is, sooner (x == s) (among xs s) here)
-  | inr there ↦ let r = rest there in (r.0, later (x == s) (among xs s) r.1)
-]
-out_for f x xs s false is rest h = let r = rest h in (r.0, later (x == s) (among xs s) r.1)
-
--- What passes a test among a list is among it.
-pub out_of_filter : (f : ℕ → Bool) (xs : List ℕ) (s : ℕ) → among (filter f xs) s ≡ true → (f s ≡ true) × (among xs s ≡ true)
-out_of_filter f [] s h = cc
-out_of_filter f (x ∷ xs) s h = out_for f x xs s (f x) refl (out_of_filter f xs s) h
-
-into_for : (f : ℕ → Bool) (x : ℕ) (xs : List ℕ) (s : ℕ) (t : Bool) → f x ≡ t → f s ≡ true → (among xs s ≡ true → among (filter f xs) s ≡ true) → (x == s) ≡ true ⊎ (among xs s ≡ true)
-    → among (cond t (x ∷ filter f xs) (filter f xs)) s ≡ true
-into_for f x xs s true is good rest (inl here) = sooner (x == s) (among (filter f xs) s) here
-into_for f x xs s true is good rest (inr there) = later (x == s) (among (filter f xs) s) (rest there)
-into_for f x xs s false is good rest (inl here) = let wrong : false ≡ true = sym is ∙ ap f (eq_same x s here) ∙ good in cc
-into_for f x xs s false is good rest (inr there) = rest there
-
--- What is among a list and passes the test.
-pub into_filter : (f : ℕ → Bool) (xs : List ℕ) (s : ℕ) → f s ≡ true → among xs s ≡ true → among (filter f xs) s ≡ true
-into_filter f [] s good h = h
-into_filter f (x ∷ xs) s good h = into_for f x xs s (f x) refl good (into_filter f xs s good) (either (x == s) (among xs s) h)
-
 module _ (net : Net) (wired : IsWired net) (order : List ℕ) (is : IsOrder net order) (inside : ℕ → Bool) where
   abbrev starts_in : ℕ → Bool
   starts_in j = inside (side_at net (giver_of net j))
@@ -111,7 +85,7 @@ module _ (net : Net) (wired : IsWired net) (order : List ℕ) (is : IsOrder net 
   exact : (j : ℕ) → Contains (joints_in net inside order) j ↔ IsJointIn net inside j
   exact j = (
     (λ h.
-        let it = out_of_filter (λ (j : ℕ). inside (side_at net (giver_of net j))) order j (contains_among (joints_in net inside order) j h) in
+        let it = among_filter (λ (j : ℕ). inside (side_at net (giver_of net j))) order j (contains_among (joints_in net inside order) j h) in
         let place = among_contains order j it.1 in
         (subst (λ (k : ℕ). k < length net.joints) (at_place j place) (place_in net order is place.0 place.1), it.0)),
     (λ h.

@@ -8,11 +8,12 @@ use Rattle.reo_net_base.specs.Net.{Net, Side, all_sides, no_side, first_side, ro
 use Rattle.reo_net_base.specs.Shapes.{SameShapes}
 use Rattle.reo_net_base.specs.Sides.{side_count}
 use Rattle.reo_net_base.specs.Wired.{IsWired, IsEnd}
-use Rattle.reo_net_circuit.proofs.ReshapeLemmas.{first_same, side_same, all_is}
+use Rattle.reo_net_circuit.proofs.ReshapeLemmas.{first_same, side_same}
 use Rattle.reo_net_laws.specs.Alike.{SameSide, AreAlike}
 use Rattle.reo_net_laws.specs.Ends.{mark_in}
 use Rattle.reo_net_laws.specs.Parts.{IsClosed}
 use Rattle.reo_net_laws.proofs.Sides.{side_is, owner_of, owner_side, side_at_place}
+use Rattle.reo_net_laws.proofs.Shapes.{count_same}
 use Rattle.reo_joint_values.specs.Values.{joint_of, giver_side, taker_side}
 use Rattle.reo_side_tables.specs.declared.board.Board.{Board}
 use Rattle.reo_side_tables.specs.declared.board.Flow.{Flow}
@@ -35,10 +36,6 @@ same_side b d side e = subst (λ (x : Behaviour). SameSide b x side) (sym e) rec
   given = λ row end taken gives. refl;
   passes = λ row end item lt of takes. refl;
 }
-
--- Circuits of one shape have as many sides.
-pub count_same : (bs ds : List Behaviour) → SameShapes bs ds → length (all_sides ds) ≡ length (all_sides bs)
-count_same bs ds r = all_is ds ∙ ap (first_side ds) r.count ∙ first_same bs ds r (length bs) ∙ sym (all_is bs)
 
 -- A list of what can be said in other words.
 lists_as : (holds also : ℕ → Type 0) (list : List ℕ) → ((k : ℕ) → holds k → also k) → ((k : ℕ) → also k → holds k) → Lists holds list → Lists also list

@@ -19,7 +19,7 @@ use Rattle.reo_kinds.specs.declared.ends.Ends.{Ends}
 use Rattle.reo_kinds.specs.declared.ends.Ends.TheVariants as ends
 use Rattle.reo_net_base.specs.Forms.{leads_by}
 use Rattle.reo_kinds.specs.Forms.{end_count, side_count, side_in, takes_at}
-use Rattle.reo_kinds.specs.Kinds.{behaviour_of, settled_kind, mouth_and_tail, put_in, shift_in, given_away, replaced, ready, ends_of, form_of, after, first_flows, second_flows, quota_table, front_of, lets_in, given_of}
+use Rattle.reo_kinds.specs.Kinds.{behaviour_of, settled_kind, mouth_and_tail, put_in, shift_in, given_away, replaced, ready, kind_ends, form_of, after, first_flows, second_flows, quota_table, front_of, lets_in, given_of}
 
 sync_passes : Passes (rows_of tables.Together)
 sync_passes zero flows = refl
@@ -69,7 +69,7 @@ pub same_shape : (b : Behaviour) → SameShape b b
 same_shape b = record { ends = refl; sides = refl; side_of = λ _. refl; takes_in = λ _. refl; leads = λ _. refl }
 
 -- The ends lie as before.
-ends_stay : (first second : Bool) (item : Option Value) (kind : Kind) → ends_of (after first second item kind) ≡ ends_of kind
+ends_stay : (first second : Bool) (item : Option Value) (kind : Kind) → kind_ends (after first second item kind) ≡ kind_ends kind
 ends_stay first second item (Writer port) = refl
 ends_stay first second item _ = refl
 
@@ -128,7 +128,7 @@ no_flow R rests = refl
 no_flow J rests = refl
 
 -- Where nothing flows and nothing comes in, all stays.
-after_nothing : (second : Bool) (kind : Kind) → (ends_of kind ≡ ends.MouthTail → second ≡ false) → after false second None kind ≡ kind
+after_nothing : (second : Bool) (kind : Kind) → (kind_ends kind ≡ ends.MouthTail → second ≡ false) → after false second None kind ≡ kind
 after_nothing second (Store buffer) rests = rw (rests refl) refl
 after_nothing second (Shift buffer) rests = rw (rests refl) refl
 after_nothing second _ rests = refl
@@ -149,5 +149,5 @@ tail_end e is = rw (is) (omega arith, refl)
 -- Rows without flow leave the state.
 pub kind_quiet : (kind : Kind) (rows : Chosen) → IsQuiet (behaviour_of kind) rows → settled_kind kind rows None ≡ kind
 kind_quiet kind rows quiet =
-    let first : first_flows kind rows ≡ false = no_flow _ (quiet.first 0 (first_end (ends_of kind))) in
-    rw (first) (after_nothing (second_flows kind rows) kind (λ is. no_flow _ (quiet.second 1 (tail_end (ends_of kind) is))))
+    let first : first_flows kind rows ≡ false = no_flow _ (quiet.first 0 (first_end (kind_ends kind))) in
+    rw (first) (after_nothing (second_flows kind rows) kind (λ is. no_flow _ (quiet.second 1 (tail_end (kind_ends kind) is))))

@@ -26,17 +26,17 @@ use Rattle.reo_net_base.specs.declared.form.Form.TheVariants.{Single, Double, Me
 use Rattle.reo_kinds.specs.Forms.{behaviour_by}
 
 -- How the ends of a kind lie.
-abbrev pub ends_of : Kind → Ends
-ends_of (Writer port) = ends.Out
-ends_of (Taker port) = ends.In
-ends_of SyncDrain = ends.InIn
-ends_of AsyncDrain = ends.InIn
-ends_of (Store buffer) = ends.MouthTail
-ends_of (Shift buffer) = ends.MouthTail
-ends_of (Variable held) = ends.MouthTail
-ends_of (Merger branches) = ends.Inputs branches
-ends_of (Replicator branches) = ends.Outputs branches
-ends_of _ = ends.InOut
+abbrev pub kind_ends : Kind → Ends
+kind_ends (Writer port) = ends.Out
+kind_ends (Taker port) = ends.In
+kind_ends SyncDrain = ends.InIn
+kind_ends AsyncDrain = ends.InIn
+kind_ends (Store buffer) = ends.MouthTail
+kind_ends (Shift buffer) = ends.MouthTail
+kind_ends (Variable held) = ends.MouthTail
+kind_ends (Merger branches) = ends.Inputs branches
+kind_ends (Replicator branches) = ends.Outputs branches
+kind_ends _ = ends.InOut
 
 -- The table of a side with one end, by whether it can flow.
 abbrev pub ready_table : Bool → Table
@@ -99,7 +99,7 @@ given_of _ taken = taken
 
 -- The table of a kind in its present state.
 abbrev pub behaviour_of : Kind → Behaviour
-behaviour_of kind = behaviour_by (ends_of kind) (form_of kind) (lets_in kind) (given_of kind)
+behaviour_of kind = behaviour_by (kind_ends kind) (form_of kind) (lets_in kind) (given_of kind)
 
 -- A writer with nothing offered, and a taker with no take pending or with one.
 abbrev pub unoffered : WriterPort → WriterPort

@@ -1,7 +1,7 @@
 //! How the ends of the kinds lie.
 ghost use Rattle.std.specs.Prelude.{◌≡◌};
 ghost use Rattle.reo_kinds.specs.Forms.{end_count, side_count, side_in, takes_at, decides_in};
-ghost use Rattle.reo_kinds.specs.Kinds.{ends_of};
+ghost use Rattle.reo_kinds.specs.Kinds.{kind_ends};
 
 use crate::kind::Kind;
 use reo_net_base::Branches;
@@ -26,8 +26,8 @@ pub enum Ends {
 }
 
 /// How the ends of a kind lie.
-pub fn ends_of(kind: &Kind) -> Ends
-    ensures { result ≡ ends_of kind.now }
+pub fn kind_ends(kind: &Kind) -> Ends
+    ensures { result ≡ kind_ends kind.now }
 {
     match kind {
         Kind::Writer(_) => Ends::Out,

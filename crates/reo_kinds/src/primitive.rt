@@ -4,7 +4,7 @@ ghost use Rattle.reo_kinds.specs.KindLaws.{kind_lawful, kind_shape, kind_alike, 
 ghost use Rattle.reo_kinds.specs.Telling.{told_form, front_item, lasting_of};
 ghost use Rattle.reo_kinds.specs.TellingLaws.{kind_form, kind_lets_in, kind_carries, kind_front, kind_origin, kind_keeps_nothing, kind_lasting, kind_tables};
 
-use crate::ends::ends_of;
+use crate::ends::kind_ends;
 use crate::form::form_of;
 use crate::given::{Given, given_by};
 use crate::kind::Kind;
@@ -26,19 +26,19 @@ impl Primitive for Kind {
     ghost lasting = { lasting_of };
 
     fn ends(&self) -> usize {
-        ends_of(self).count()
+        kind_ends(self).count()
     }
 
     fn sides(&self) -> usize {
-        ends_of(self).sides()
+        kind_ends(self).sides()
     }
 
     fn side_of(&self, end: usize) -> usize {
-        ends_of(self).side_of(end)
+        kind_ends(self).side_of(end)
     }
 
     fn takes_in(&self, end: usize) -> bool {
-        ends_of(self).takes_in(end)
+        kind_ends(self).takes_in(end)
     }
 
     fn leads(&self, side: usize) -> bool {
@@ -74,7 +74,7 @@ impl Primitive for Kind {
     }
 
     fn from(&self, _side: usize, row: usize, _end: usize) -> Option<usize> {
-        ends_of(self).from(row)
+        kind_ends(self).from(row)
     }
 
     fn passes(&self, _side: usize, row: usize, _end: usize, item: &Value) -> bool {

@@ -21,6 +21,7 @@ use Rattle.reo_net_circuit.proofs.PortLemmas.{replaced, change_length}
 use Rattle.reo_net_laws.specs.Jams.{IsThreeColouring}
 use Rattle.reo_net_laws.specs.Parts.{IsClosed}
 use Rattle.reo_net_laws.proofs.Sides.{side_at_is, side_at_place, side_in, side_in_range, row_is}
+use Rattle.reo_net_laws.proofs.Shapes.{shapes_back}
 use Rattle.reo_open.specs.declared.gate.Allowed.{Allowed}
 use Rattle.reo_open.specs.declared.gate.Allowed.TheVariants.{All}
 use Rattle.reo_open.specs.declared.gate.Gate.{Gate}
@@ -147,18 +148,6 @@ marks_same x y [] a b same = refl
 marks_same x y (q ∷ ports) a b same =
     ap (λ (m : Mark). m ∷ marks_at y ports b) (same q (0, omega arith, refl))
     ∙ ap (λ (ms : List Mark). mark_at x a (end_of q 0) ∷ ms) (marks_same x y ports a b (λ k h. same k (suc h.0, omega (arith, h.1), h.2)))
-
-pub shapes_back : (bs ds : List Behaviour) → SameShapes bs ds → SameShapes ds bs
-shapes_back bs ds r = record {
-  count = sym r.count;
-  same = λ i lt. let s = r.same i (omega (arith, lt, r.count)) in record {
-    ends = sym s.ends;
-    sides = sym s.sides;
-    side_of = λ end. sym (s.side_of end);
-    takes_in = λ end. sym (s.takes_in end);
-    leads = λ side. sym (s.leads side);
-  };
-}
 
 end_on : (bs ds : List Behaviour) → SameShapes bs ds → (e : End) → IsEnd bs e → IsEnd ds e
 end_on bs ds r e is = (omega (arith, r.count, is.0), rw ((r.same e.primitive is.0).ends) is.1)

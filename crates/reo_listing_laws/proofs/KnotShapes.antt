@@ -4,18 +4,15 @@ use Rattle.std.specs.Prelude.{filter}
 use Rattle.std.specs.List.{range_with_len}
 use Rattle.reo_net_base.specs.declared.joint.Joint.{Joint}
 use Rattle.reo_net_base.specs.Behaviour.{Behaviour}
-use Rattle.reo_net_base.specs.Net.{Net, all_sides, first_side, side_at}
+use Rattle.reo_net_base.specs.Net.{Net, all_sides, side_at}
 use Rattle.reo_net_base.specs.Shapes.{SameShapes}
 use Rattle.reo_net_base.specs.Sides.{side_count}
 use Rattle.reo_net_base.specs.Wired.{IsWired}
-use Rattle.reo_net_circuit.proofs.ReshapeLemmas.{first_same, side_same, all_is}
+use Rattle.reo_net_circuit.proofs.ReshapeLemmas.{side_same}
 use Rattle.reo_net_laws.specs.Parts.{IsClosedBelow, IsLinked, SameKnot, IsKnot}
+use Rattle.reo_net_laws.proofs.Shapes.{count_same}
 use Rattle.reo_listing_laws.specs.Shapes.{KnotsStayWithShape}
 use Rattle.reo_knots.specs.Knots.{Knotted, AreNumbers, AreKnots, IsLoopOf, in_knot, knot_count}
-
--- Circuits of one shape have as many sides.
-pub count_same : (bs ds : List Behaviour) → SameShapes bs ds → length (all_sides ds) ≡ length (all_sides bs)
-count_same bs ds r = all_is ds ∙ ap (first_side ds) r.count ∙ first_same bs ds r (length bs) ∙ sym (all_is bs)
 
 module _ (bs ds : List Behaviour) (js : List Joint) (wired : IsWired (record { primitives = bs; joints = js })) (r : SameShapes bs ds) where
   abbrev net : Net

@@ -23,9 +23,9 @@ use Rattle.reo_net_laws.specs.Jams.{IsThreeColouring, jams}
 use Rattle.reo_net_laws.specs.Parts.{IsClosed, IsAssignment}
 use Rattle.reo_net_laws.proofs.Assignments.{fits_same}
 use Rattle.reo_net_laws.proofs.Sides.{Owner, owner_of, owner_side, side_is, side_at_place, row_is}
+use Rattle.reo_net_laws.proofs.Shapes.{count_same}
 use Rattle.reo_open.specs.declared.gate.Gate.{Gate}
 use Rattle.reo_open.specs.Gates.{gate_rows, gate_behaviour}
-use Rattle.reo_listing_laws.proofs.KnotShapes.{count_same}
 
 -- No side of another primitive has the number of the first side of this one.
 pub sides_apart : (bs : List Behaviour) (i n p : ℕ) → i < length bs → n < (behaviour_at bs i).sides → p < length bs → 0 < (behaviour_at bs p).sides

@@ -119,10 +119,6 @@ pub parts_in : (k : Kindred) (c : Constant) (x : LiteralPair) (y : Twins) → c 
 parts_in k c x y at is there = both-parts _ _ (rw (is, at, item_in-Pair x y) at there)
 
 -- Items one after another, as far as a place.
-joined : {Y : Type 0} (o : Option Y) (xs ys : List Y) → cons_option o (xs ++ ys) ≡ cons_option o xs ++ ys
-joined None xs ys = refl
-joined (Some y) xs ys = refl
-
 pub filter_map-more : {X Y : Type 0} (f : X → Option Y) (xs : List X) (i : ℕ) (x : X) → i < length xs → x ≡ get_or xs i x → filter_map f (take (i + 1) xs) ≡ filter_map f (take i xs) ++ cons_option (f x) []
 filter_map-more f xs i x within is =
     ap (filter_map f) (take_more xs i x within ∙ ap (λ y. take i xs ++ y ∷ []) (sym is)) ∙ filter_map-append f (take i xs) (x ∷ [])

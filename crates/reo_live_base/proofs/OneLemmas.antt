@@ -25,13 +25,13 @@ use Rattle.reo_rounds.specs.Order.{HasOrder}
 use Rattle.reo_live_base.proofs.OrderLemmas.{judges_order}
 
 -- A line has one answer.
-pub one_answer : (line : List ℕ) (ports : List Port) (a b : Result Event EventFault) → AnswersEvent line ports a → AnswersEvent line ports b → a ≡ b
-one_answer line ports (Ok v) b h i = only-event line ports (Ok v) b h i
-one_answer line ports (Err wrongs.Form) b h i = only-event line ports (Err wrongs.Form) b h i
-one_answer line ports (Err wrongs.NoPort) b h i = only-event line ports (Err wrongs.NoPort) b h i
-one_answer line ports (Err wrongs.WrongWay) b h i = only-event line ports (Err wrongs.WrongWay) b h i
-one_answer line ports (Err (wrongs.ItemOutside p)) b h i = only-event line ports (Err (wrongs.ItemOutside p)) b h i
-one_answer line ports (Err wrongs.NoMemory) b h i = elim h [ ]
+pub one_event_answer : (line : List ℕ) (ports : List Port) (a b : Result Event EventFault) → AnswersEvent line ports a → AnswersEvent line ports b → a ≡ b
+one_event_answer line ports (Ok v) b h i = only-event line ports (Ok v) b h i
+one_event_answer line ports (Err wrongs.Form) b h i = only-event line ports (Err wrongs.Form) b h i
+one_event_answer line ports (Err wrongs.NoPort) b h i = only-event line ports (Err wrongs.NoPort) b h i
+one_event_answer line ports (Err wrongs.WrongWay) b h i = only-event line ports (Err wrongs.WrongWay) b h i
+one_event_answer line ports (Err (wrongs.ItemOutside p)) b h i = only-event line ports (Err (wrongs.ItemOutside p)) b h i
+one_event_answer line ports (Err wrongs.NoMemory) b h i = elim h [ ]
 
 module _ {P : Type 0} (r : Rules P) (budget : ℕ) (one : FirstIsOne) (one_cause : CauseIsOne) where
   both_plain : (a : Stand P) (answer : Result Event EventFault) (x y : Told P) → x ≡ effect r a answer → y ≡ effect r a answer → x ≡ y
@@ -61,7 +61,7 @@ module _ {P : Type 0} (r : Rules P) (budget : ℕ) (one : FirstIsOne) (one_cause
     pub judges_one : (a : Stand P) (k : Held) (x y : Told P) → HasOrder (net_of r.behaviour a.circuit) → Judges r ports budget a k x → Judges r ports budget a k y → x ≡ y
     judges_one a long x y old h g = h ∙ sym g
     judges_one a (short bytes) x y old h g =
-        let same = one_answer bytes ports h.0 g.0 h.1 g.1 in
+        let same = one_event_answer bytes ports h.0 g.0 h.1 g.1 in
         does_one a g.0 x y old (subst (λ (answer : Result Event EventFault). Does r budget a answer x) same h.2) g.2
 
     module _ (k : KeepsShape r) where

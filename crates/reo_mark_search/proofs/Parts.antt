@@ -1,5 +1,5 @@
 -- The sides of a part, as a list.
-use Rattle.std.proofs.Common.{◌≡◌, inl, inr, ℕ, zero, suc, ◌+◌, ◌<◌, ◌≤◌, Bool, true, false, cond, List, [], ◌∷◌, length, slice_index, slice_index_or, refl, sym, ap, ◌∙◌, subst, arith, add-one}
+use Rattle.std.proofs.Common.{◌≡◌, inl, inr, ℕ, zero, suc, ◌+◌, ◌<◌, ◌≤◌, Bool, true, false, cond, List, [], ◌∷◌, length, slice_index, slice_index_or, refl, sym, ap, ◌∙◌, subst, arith}
 use Rattle.std.specs.Prelude.{Contains, filter, nat_lt}
 use Rattle.std.specs.Bool.{◌==◌}
 use Rattle.std.specs.List.{range_with_len}
@@ -8,9 +8,8 @@ use Rattle.reo_values.proofs.Naturals.{true_lt}
 use Rattle.reo_net_base.specs.Behaviour.{Behaviour}
 use Rattle.reo_net_base.specs.Net.{Net, behaviour_at, first_side}
 use Rattle.reo_net_base.specs.Sides.{side_count}
-use Rattle.reo_net_circuit.proofs.LayoutLemmas.{first_more}
 use Rattle.reo_net_laws.specs.Sublists.{sides_in}
-use Rattle.reo_net_laws.proofs.Sides.{below_or}
+use Rattle.reo_net_laws.proofs.Sides.{below_or, first_before}
 use Rattle.reo_knots.specs.Knots.{Knotted, AreKnots, in_knot, knot_count}
 
 filter_at : (f : ℕ → Bool) (n a q : ℕ) → q < length (filter f (range_with_len a n)) → (f (slice_index (filter f (range_with_len a n)) q) ≡ true) × (slice_index (filter f (range_with_len a n)) q < a + n)
@@ -58,18 +57,6 @@ module _ (net : Net) (knots : Knotted) (are : AreKnots net knots) (part : ℕ) (
 
   pub side_listed : (k : ℕ) → k < side_count net → in_knot knots.numbers part k ≡ true → Contains sides k
   side_listed k lt h = subst (λ (xs : List ℕ). Contains xs k) (sym sides_are) (filter_has (in_knot knots.numbers part) (side_count net) 0 k (omega arith) (omega (arith, lt)) h)
-
--- Where the sides of primitives stand.
-first_before : (bs : List Behaviour) (k n : ℕ) → k < n → n ≤ length bs → first_side bs k + (behaviour_at bs k).sides ≤ first_side bs n
-first_before bs k zero lt le = absurd (omega arith)
-first_before bs k (suc n) lt le =
-    let more : first_side bs (suc n) ≡ first_side bs n + (behaviour_at bs n).sides = rw add-one at (first_more bs n (omega (arith, le))) in
-    elim (below_or k n) [
-      | inl earlier ↦ omega (arith, more, first_before bs k n earlier (omega (arith, le)))
-      | inr late ↦
-          let same : k ≡ n = omega (arith, lt, late) in
-          subst (λ (m : ℕ). first_side bs m + (behaviour_at bs m).sides ≤ first_side bs (suc n)) (sym same) (omega (arith, more))
-    ]
 
 -- A number is that of one side of one primitive.
 pub side_one : (bs : List Behaviour) (i s j t : ℕ) → i < length bs → s < (behaviour_at bs i).sides → j < length bs → t < (behaviour_at bs j).sides → first_side bs i + s ≡ first_side bs j + t → (i ≡ j) × (s ≡ t)

@@ -13,16 +13,11 @@ use Rattle.reo_net_base.specs.Sides.{side_count}
 use Rattle.reo_net_laws.specs.Jams.{jams}
 use Rattle.reo_net_laws.specs.Parts.{is_joint_inside}
 use Rattle.reo_state_laws.specs.Keys.{HaveForms}
-use Rattle.reo_state_laws.specs.States.{AreFitting}
+use Rattle.reo_state_laws.specs.States.{LetsIn, AreFitting}
 use Rattle.reo_mark_sets.specs.declared.marks.Marks.{Marks}
 use Rattle.reo_mark_sets.specs.Marks.{has, marks_at, open_at, all_marks}
 use Rattle.reo_mark_sets.specs.Standing.{AreFewer, is_usual}
 use Rattle.reo_mark_search.specs.Spots.{spot_of}
-
--- Each row of a side lets each item in.
-abbrev pub LetsIn : Behaviour → ℕ → Type 0
-LetsIn b side = (row end : ℕ) (item : Value) → row < b.rows side → IsEndOf b side end → b.takes_in end ≡ true
-    → b.passes side row end item ≡ true
 
 -- At each joint of a set the marks of its two ends are among those that are left there.
 pub record Fits (net : Net) (inside : ℕ → Bool) (sets : List Marks) (rows : List ℕ) : Type 0 where

@@ -2,31 +2,18 @@
 use Rattle.std.proofs.Common.{◌≡◌, inl, ⊎_elim, ℕ, ◌<◌, Bool, true, cond, Option, Some, None, List, [], length, get_or, refl, sym, subst, ap, ◌∙◌, arith}
 use Rattle.std.specs.List.{position_or_len}
 use Rattle.reo_values.specs.declared.value.Value.{Value}
-use Rattle.reo_net_base.specs.declared.mark.Mark.{Mark}
-use Rattle.reo_net_base.specs.declared.mark.Mark.TheVariants.{F, G, R, J}
+use Rattle.reo_net_base.specs.declared.mark.Mark.TheVariants.{F}
 use Rattle.reo_net_base.specs.declared.joint.End.{End}
 use Rattle.reo_net_base.specs.declared.joint.Joint.{Joint}
-use Rattle.reo_net_base.specs.Marks.{marks_match, is_flow}
+use Rattle.reo_net_base.specs.Marks.{is_flow}
 use Rattle.reo_net_base.specs.Net.{Net, end_of, is_at, mark_at}
 use Rattle.reo_net_base.specs.Colouring.{IsColouring, ItemFits}
 use Rattle.reo_net_base.specs.Wired.{IsWired, IsEnd}
 use Rattle.reo_net_base.specs.Moves.{item_at, move_with, moves_at}
+use Rattle.reo_net_base.proofs.Marks.{mark_flows, giver_flows}
 use Rattle.reo_move_laws.specs.Moved.{Moves, MovesAreFlows}
 use Rattle.reo_move_laws.proofs.Lists.{from_place, at_place, of_place}
 use Rattle.reo_move_laws.proofs.Joints.{at_joint, first_below, passes}
-
-pub flow_is : (m : Mark) → is_flow m ≡ true → m ≡ F
-flow_is F h = refl
-flow_is G h = absurd cc
-flow_is R h = absurd cc
-flow_is J h = absurd cc
-
--- What matches flow flows.
-giver_flows : (m n : Mark) → marks_match m n ≡ true → n ≡ F → m ≡ F
-giver_flows F n h e = refl
-giver_flows G n h e = let k : marks_match G F ≡ true = subst (λ x. marks_match G x ≡ true) e h in absurd cc
-giver_flows R n h e = let k : marks_match R F ≡ true = subst (λ x. marks_match R x ≡ true) e h in absurd cc
-giver_flows J n h e = let k : marks_match J F ≡ true = subst (λ x. marks_match J x ≡ true) e h in absurd cc
 
 made : (flows : Bool) (found : Option Value) (port : ℕ) (item : Value) → flows ≡ true → found ≡ Some item → Moves (cond flows (move_with port found) []) port item
 made flows found port item h k = rw (h, k) (inl refl)
@@ -57,7 +44,7 @@ are_flows net ports rows items wired are colouring = record {
     λ moved.
         let from = from_place (moves_at net rows items) 0 ports _ moved.1 in
         let of = of_place (is_flow (mark_at net rows (end_of from.place 0))) (item_at net.joints items (end_of from.place 0)) from.place port moved.0 from.has in
-        subst (λ (p : ℕ). mark_at net rows (end_of p 0) ≡ F) (sym of.0) (flow_is (mark_at net rows (end_of from.place 0)) of.1),
+        subst (λ (p : ℕ). mark_at net rows (end_of p 0) ≡ F) (sym of.0) (mark_flows (mark_at net rows (end_of from.place 0)) of.1),
     λ flows.
         let within = are.within in
         let one = (are.port port port_in).one_end in

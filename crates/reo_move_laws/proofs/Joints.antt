@@ -1,20 +1,13 @@
 -- Ends at joints.
 use Rattle.std.proofs.Common.{◌≡◌, ◌⊎◌, inl, inr, ⊎_elim, ℕ, zero, suc, ◌<◌, Bool, true, false, Option, Some, None, List, [], ◌∷◌, length, get_or, refl, arith}
 use Rattle.std.specs.List.{position_or_len}
-use Rattle.std.proofs.lemmas.Bool.Decides.{nat_tests}
 use Rattle.std.proofs.lemmas.List.Sums.{passes_at_first}
 use Rattle.reo_values.specs.declared.value.Value.{Value}
 use Rattle.reo_values.proofs.Truths.{either}
 use Rattle.reo_net_base.specs.declared.joint.End.{End}
 use Rattle.reo_net_base.specs.declared.joint.Joint.{Joint}
 use Rattle.reo_net_base.specs.Net.{end_eq, is_at}
-
--- Ends that the test takes for one are one.
-end_is : (a b : End) → end_eq a b ≡ true → a ≡ b
-end_is a b h =
-    let p : a.primitive ≡ b.primitive = grind (arith, nat_tests) in
-    let e : a.end ≡ b.end = grind (arith, nat_tests) in
-    λ i. record { primitive = p i; end = e i }
+use Rattle.reo_net_base.proofs.Ends.{end_is}
 
 -- An end at a joint is its giver or its taker.
 pub at_joint : (e : End) (j : Joint) → is_at e j ≡ true → (j.giver ≡ e) ⊎ (j.taker ≡ e)

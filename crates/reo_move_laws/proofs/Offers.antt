@@ -15,6 +15,7 @@ use Rattle.reo_net_base.specs.Tables.{rows_of}
 use Rattle.reo_net_base.specs.Colouring.{IsColouring, ItemFits, HasItem, given_at}
 use Rattle.reo_net_base.specs.Wired.{IsWired}
 use Rattle.reo_net_base.specs.Moves.{item_at, moves_at}
+use Rattle.reo_net_base.proofs.Marks.{mark_flows}
 use Rattle.reo_kinds.specs.declared.kind.WriterPort.{WriterPort}
 use Rattle.reo_kinds.specs.declared.kind.TakerPort.{TakerPort}
 use Rattle.reo_kinds.specs.declared.kind.Kind.{Kind}
@@ -23,7 +24,6 @@ use Rattle.reo_kinds.specs.Kinds.{behaviour_of, ready_table}
 use Rattle.reo_move_laws.specs.Offered.{net_in, IsOfOffer, MovesAreOffers}
 use Rattle.reo_move_laws.proofs.Lists.{from_place, of_place}
 use Rattle.reo_move_laws.proofs.Joints.{at_joint, passes, some_in}
-use Rattle.reo_move_laws.proofs.Flows.{flow_is}
 
 behaviour_is : (kinds : List Kind) (port : ℕ) (kind : Kind) → slice_get kinds port ≡ Some kind → behaviour_at (map behaviour_of kinds) port ≡ behaviour_of kind
 behaviour_is [] port kind is = absurd cc
@@ -90,6 +90,6 @@ are_offers w rows items wired colouring port item kind is moved =
     let net : Net = net_in w in
     let from = from_place (moves_at net rows items) 0 w.ports _ moved in
     let of = of_place (is_flow (mark_at net rows (end_of from.place 0))) (item_at w.joints items (end_of from.place 0)) from.place port item from.has in
-    let flows : mark_at net rows (end_of port 0) ≡ F = subst (λ (p : ℕ). mark_at net rows (end_of p 0) ≡ F) (sym of.0) (flow_is (mark_at net rows (end_of from.place 0)) of.1) in
+    let flows : mark_at net rows (end_of port 0) ≡ F = subst (λ (p : ℕ). mark_at net rows (end_of p 0) ≡ F) (sym of.0) (mark_flows (mark_at net rows (end_of from.place 0)) of.1) in
     let found : item_at w.joints items (end_of port 0) ≡ Some item = subst (λ (p : ℕ). item_at w.joints items (end_of p 0) ≡ Some item) (sym of.0) of.2 in
     of_kind w rows items wired colouring port item flows found kind is

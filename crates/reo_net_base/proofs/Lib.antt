@@ -1,2 +1,4 @@
 pub mod Numbers
 pub mod OwnGroups
+pub mod Marks
+pub mod Ends

@@ -1,25 +1,15 @@
 -- The tables of a circuit, a primitive at a time.
-use Rattle.std.proofs.Common.{◌≡◌, inl, inr, ℕ, ◌+◌, ◌-◌, ◌<◌, List, [], ◌∷◌, ◌++◌, length, map, get_or, take, refl, sym, ◌∙◌, arith, below_more}
-use Rattle.std.specs.List.{flat_map, range_with_len}
+use Rattle.std.proofs.Common.{◌≡◌, inl, inr, ℕ, ◌+◌, ◌-◌, ◌<◌, List, [], ◌∷◌, ◌++◌, length, map, get_or, refl, sym, ◌∙◌, arith, below_more}
+use Rattle.std.specs.List.{range_with_len}
 use Rattle.std.proofs.Math.Seq.{get_or-append_seam}
-use Rattle.std.proofs.lemmas.Grind.{flat_map-append}
-use Rattle.std.proofs.lemmas.List.{take_more, length-append, get_or_append_left, get_or-append_right, get_or_default}
+use Rattle.std.proofs.lemmas.List.{length-append, get_or_append_left, get_or-append_right, get_or_default}
 use Rattle.std.proofs.lemmas.List.FromFn.{get_or-map-range_with_len, length-map-range_with_len}
 use Rattle.reo_net_circuit.specs.declared.layout.SideOwner.{SideOwner}
-use Rattle.reo_net_base.specs.Behaviour.{Behaviour, nothing}
-use Rattle.reo_net_base.specs.Net.{Side, sides_of, first_side, behaviour_at}
+use Rattle.reo_net_base.specs.Behaviour.{Behaviour}
+use Rattle.reo_net_base.specs.Net.{first_side, behaviour_at}
 use Rattle.reo_net_circuit.proofs.Cases.{lt_cases}
 use Rattle.reo_net_circuit.specs.Layout.{AreOwners, AreFirsts, side_owner_at}
-
-pub first_more : (bs : List Behaviour) (p : ℕ) → p < length bs → first_side bs (p + 1) ≡ first_side bs p + (behaviour_at bs p).sides
-first_more bs p lt =
-    rw (take_more bs p nothing lt, flat_map-append sides_of (take p bs) (get_or bs p nothing ∷ []))
-    (omega (
-      arith,
-      length-append (flat_map sides_of (take p bs)) (flat_map sides_of (get_or bs p nothing ∷ [])),
-      length-append (sides_of (get_or bs p nothing)) [],
-      length-map-range_with_len {X = Side} (λ k. record { of = behaviour_at bs p; number = k }) 0 (behaviour_at bs p).sides,
-    ))
+use Rattle.reo_net_laws.proofs.Sides.{first_more}
 
 -- An owner that was there, or a new one.
 data Found (owners : List SideOwner) (p n k : ℕ) (there : SideOwner) : Type 0 where

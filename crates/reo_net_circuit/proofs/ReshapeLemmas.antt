@@ -1,8 +1,6 @@
 -- What holds of a circuit's shape stays when its primitives go on.
 use Rattle.std.proofs.Common.{◌≡◌, ℕ, zero, suc, ◌+◌, ◌<◌, List, [], ◌∷◌, ◌++◌, Option, length, map, get_or, take, drop, refl, ap, sym, subst, ◌∙◌, arith, append-nil}
-use Rattle.std.specs.List.{flat_map}
-use Rattle.std.proofs.lemmas.List.{length-append, take_all, drop_all}
-use Rattle.std.proofs.lemmas.List.FromFn.{length-map-range_with_len}
+use Rattle.std.proofs.lemmas.List.{take_all, drop_all}
 use Rattle.reo_values.specs.declared.value.Value.{Value}
 use Rattle.reo_net_base.specs.declared.colouring.Chosen.{Chosen}
 use Rattle.reo_net_base.specs.declared.joint.Joint.{Joint}
@@ -12,10 +10,11 @@ use Rattle.reo_net_base.specs.Behaviour.{Behaviour}
 use Rattle.reo_net_base.specs.Lawful.{SameShape, IsLawful}
 use Rattle.reo_net_base.specs.Shapes.{SameShapes}
 use Rattle.reo_net_order.specs.Arrows.{IsTopological}
-use Rattle.reo_net_base.specs.Net.{Side, sides_of, all_sides, first_side, behaviour_at, side_at, from_sides, to_sides}
+use Rattle.reo_net_base.specs.Net.{first_side, behaviour_at, side_at, from_sides, to_sides}
 use Rattle.reo_net_base.specs.Wired.{IsWired, IsEnd, IsOrder}
 use Rattle.reo_net_circuit.specs.Layout.{IsLaidOut}
 use Rattle.reo_net_base.specs.Step.{settled_list}
+use Rattle.reo_net_laws.proofs.Assignments.{all_is, first_same as first_by_shapes}
 
 pub same_shape : (b : Behaviour) → SameShape b b
 same_shape b = record { ends = refl; sides = refl; side_of = λ _. refl; takes_in = λ _. refl; leads = λ _. refl }
@@ -47,30 +46,8 @@ map_same : (f g : Joint → ℕ) (js : List Joint) → ((k : ℕ) (d : Joint) �
 map_same f g [] h = refl
 map_same f g (j ∷ js) h = ap (λ (n : ℕ). n ∷ map f js) (h zero j (omega arith)) ∙ ap (λ (ns : List ℕ). g j ∷ ns) (map_same f g js (λ k d lt. h (suc k) d (omega arith)))
 
-pub side_count : (b : Behaviour) → length (sides_of b) ≡ b.sides
-side_count b = length-map-range_with_len {X = Side} (λ k. record { of = b; number = k }) 0 b.sides
-
-tail : (b d : Behaviour) (bs ds : List Behaviour) → SameShapes (b ∷ bs) (d ∷ ds) → SameShapes bs ds
-tail b d bs ds r = let n = r.count in record { count = omega (arith, n); same = λ i lt. r.same (suc i) (omega arith) }
-
 pub first_same : (bs ds : List Behaviour) → SameShapes bs ds → (i : ℕ) → first_side ds i ≡ first_side bs i
-first_same bs ds r zero = refl
-first_same [] [] r (suc i) = refl
-first_same [] (d ∷ ds) r (suc i) = let n = r.count in absurd (omega (arith, n))
-first_same (b ∷ bs) [] r (suc i) = let n = r.count in absurd (omega (arith, n))
-first_same (b ∷ bs) (d ∷ ds) r (suc i) =
-    omega (
-      arith,
-      length-append (sides_of d) (flat_map sides_of (take i ds)),
-      length-append (sides_of b) (flat_map sides_of (take i bs)),
-      side_count b,
-      side_count d,
-      (r.same zero (omega arith)).sides,
-      first_same bs ds (tail b d bs ds r) i,
-    )
-
-pub all_is : (bs : List Behaviour) → length (all_sides bs) ≡ first_side bs (length bs)
-all_is bs = ap (λ (xs : List Behaviour). length (flat_map sides_of xs)) (sym (take_all (length bs) bs (omega arith)))
+first_same bs ds r = first_by_shapes bs ds r.count r.same
 
 module _ (bs ds : List Behaviour) (r : SameShapes bs ds) where
   end_same : (e : End) → IsEnd bs e → IsEnd ds e

@@ -16,12 +16,11 @@ use Rattle.reo_net_base.specs.Ends.{IsGiver, IsTaker}
 use Rattle.reo_net_base.specs.Wired.{IsWired, IsOrder}
 use Rattle.reo_net_ends.specs.Ends.{joint_at, AreEnds}
 use Rattle.reo_net_ends.proofs.EndLemmas.{taker_at, of_taker}
-use Rattle.reo_net_laws.proofs.Items.{end_is, given_same}
+use Rattle.reo_net_laws.proofs.Items.{end_is, given_same, end_same}
 use Rattle.reo_net_laws.proofs.Sides.{gives_at, row_in_table, row_below, side_in_range, same_side_at}
 use Rattle.reo_net_laws.proofs.Orders.{no_joint, Feeds, place_in, place_of, fed_before}
 use Rattle.reo_net_colouring.proofs.FilledBefore.{AreFilledBefore}
 use Rattle.reo_net_circuit.proofs.Cases.{eq_cases}
-use Rattle.reo_net_laws.proofs.Joined.{end_same}
 
 -- The ends of a joint.
 module _ (net : Net) (wired : IsWired net) (j : ℕ) (d : Joint) (lt : j < length net.joints) where

@@ -1,6 +1,5 @@
 -- The joint of an end, by its giver and by its taker.
 use Rattle.std.proofs.Common.{◌≡◌, inl, inr, ℕ, ◌<◌, Bool, true, false, List, length, get_or, ap, sym, ◌∙◌, arith}
-use Rattle.std.proofs.lemmas.Bool.Decides.{nat_tests}
 use Rattle.reo_net_base.specs.declared.joint.End.{End}
 use Rattle.reo_net_base.specs.declared.joint.Joint.{Joint}
 use Rattle.reo_net_base.specs.Net.{Net, behaviour_at, end_eq, is_at}
@@ -10,15 +9,7 @@ use Rattle.reo_net_ends.specs.Ends.{joint_at, HasEnd, AreEnds}
 use Rattle.reo_net_ends.specs.Laws.{EndsFindJoints}
 use Rattle.std.proofs.lemmas.Bool.{or_left, or_right}
 use Rattle.reo_values.proofs.Truths.{either}
-
-end_is : (a b : End) → end_eq a b ≡ true → a ≡ b
-end_is a b h =
-    let p : a.primitive ≡ b.primitive = grind (arith, nat_tests) in
-    let e : a.end ≡ b.end = grind (arith, nat_tests) in
-    λ i. record { primitive = p i; end = e i }
-
-end_self : (e : End) → end_eq e e ≡ true
-end_self e = grind (arith, nat_tests)
+use Rattle.reo_net_base.proofs.Ends.{end_is, end_self}
 
 takes : Net → End → Bool
 takes net e = (behaviour_at net.primitives e.primitive).takes_in e.end

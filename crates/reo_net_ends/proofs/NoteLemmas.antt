@@ -7,6 +7,7 @@ use Rattle.reo_net_base.specs.declared.joint.Joint.{Joint}
 use Rattle.reo_net_base.specs.Behaviour.{Behaviour}
 use Rattle.reo_net_base.specs.Net.{Net, behaviour_at, is_at}
 use Rattle.reo_net_base.specs.Wired.{IsWired, IsEnd}
+use Rattle.reo_net_laws.proofs.Joined.{one_at}
 use Rattle.reo_net_ends.specs.Ends.{HasEnd, joint_at, AreEnds}
 use Rattle.reo_net_ends.specs.Noted.{HasPlaces, AreSamePlaces, AreNoted}
 
@@ -32,13 +33,6 @@ same_places bs n old new same are = record {
 -- A table of all ends has each end.
 pub has_end : (bs : List Behaviour) (table : List (List ℕ)) → HasPlaces bs (length bs) table → (e : End) → IsEnd bs e → HasEnd table e
 has_end bs table are e is = (omega (arith, are.one_list, is.0), omega (arith, are.one_each e.primitive is.0, is.1))
-
--- Only one joint is at an end.
-one_at : (net : Net) → IsWired net → (e : End) → IsEnd net.primitives e → (j k : ℕ) (d : Joint) → j < length net.joints → k < length net.joints
-    → is_at e (get_or net.joints j d) ≡ true → is_at e (get_or net.joints k d) ≡ true → j ≡ k
-one_at net wired e is j k d j_in k_in h g =
-    let joined = wired.each_end e.primitive e.end is.0 is.1 in
-    joined.only j d j_in h ∙ sym (joined.only k d k_in g)
 
 -- One joint more is noted.
 pub more_noted : (net : Net) → IsWired net → (n : ℕ) (joint : Joint) (old new : List (List ℕ)) → n < length net.joints → ((d : Joint) → get_or net.joints n d ≡ joint)

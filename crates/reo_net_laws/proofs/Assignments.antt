@@ -37,7 +37,7 @@ first_same (b ∷ bs) (d ∷ ds) n h (suc i) =
       first_same bs ds (omega arith) (tail b d bs ds h) i,
     )
 
-all_is : (bs : List Behaviour) → length (all_sides bs) ≡ first_side bs (length bs)
+pub all_is : (bs : List Behaviour) → length (all_sides bs) ≡ first_side bs (length bs)
 all_is bs = ap (λ (xs : List Behaviour). length (flat_map sides_of xs)) (sym (take_all (length bs) bs (omega arith)))
 
 pub fits_same : (net other : Net) (a b : List ℕ) (xs ys : List (Option Value)) (j : Joint) (o : Option Value) → mark_at other b j.giver ≡ mark_at net a j.giver

@@ -1,5 +1,5 @@
 -- What an item hangs on.
-use Rattle.std.proofs.Common.{◌≡◌, ℕ, zero, suc, ◌<◌, List, [], ◌∷◌, Option, None, Some, true, false, cond, length, get_or, refl, ap, sym, ◌∙◌, arith}
+use Rattle.std.proofs.Common.{◌≡◌, ℕ, zero, suc, ◌<◌, List, [], ◌∷◌, Bool, Option, None, Some, IsSome, true, false, cond, length, get_or, refl, ap, sym, ◌∙◌, arith}
 use Rattle.std.specs.Option.{option_and_then}
 use Rattle.std.proofs.lemmas.Bool.Decides.{nat_tests}
 use Rattle.reo_values.specs.declared.value.Value.{Value}
@@ -11,15 +11,29 @@ use Rattle.reo_net_base.specs.Lawful.{GivesAt}
 use Rattle.reo_net_base.specs.Net.{Net, behaviour_at, end_of, end_eq, side_at, row_at, mark_at}
 use Rattle.reo_net_base.specs.Colouring.{taken_at, given_at, ItemFits}
 use Rattle.reo_net_base.specs.Wired.{IsWired, IsEnd, IsOrder}
+pub use Rattle.reo_net_base.proofs.Ends.{end_is}
 use Rattle.reo_net_laws.proofs.Sides.{gives_at, same_side_at}
 use Rattle.reo_net_laws.proofs.Orders.{Feeds, place_in, place_of, fed_before}
 
--- Ends that the test takes for one are one.
-pub end_is : (a b : End) → end_eq a b ≡ true → a ≡ b
-end_is a b h =
-    let p : a.primitive ≡ b.primitive = grind (arith, nat_tests) in
-    let e : a.end ≡ b.end = grind (arith, nat_tests) in
-    λ i. record { primitive = p i; end = e i }
+pub end_same : (a b : End) → a ≡ b → end_eq a b ≡ true
+end_same a b e =
+    let p : a.primitive ≡ b.primitive = ap (λ (x : End). x.primitive) e in
+    let q : a.end ≡ b.end = ap (λ (x : End). x.end) e in
+    grind (arith, nat_tests)
+
+-- The item that goes to an end is that of the one joint there.
+pub taken_one : (joints : List Joint) (items : List (Option Value)) (e : End) (j : ℕ) (d : Joint) → length items ≡ length joints → j < length joints → (get_or joints j d).taker ≡ e
+    → ((k : ℕ) (z : Joint) → k < length joints → (get_or joints k z).taker ≡ e → k ≡ j) → taken_at joints items e ≡ get_or items j None
+taken_one [] items e j d n lt here only = absurd (omega arith)
+taken_one (x ∷ xs) [] e j d n lt here only = absurd (omega arith)
+taken_one (x ∷ xs) (y ∷ ys) e zero d n lt here only = ap (λ (t : Bool). cond t y (taken_at xs ys e)) (end_same x.taker e here)
+taken_one (x ∷ xs) (y ∷ ys) e (suc j) d n lt here only =
+    let rest : taken_at xs ys e ≡ get_or ys j None = taken_one xs ys e j d (omega arith) (omega arith) here (λ k z k_in k_here.
+    let same : suc k ≡ suc j = only (suc k) z (omega arith) k_here in omega (arith, same)) in
+    elim (end_eq x.taker e) as (λ t. end_eq x.taker e ≡ t → cond t y (taken_at xs ys e) ≡ get_or ys j None) [
+      | true ↦ λ is. let same : zero ≡ suc j = only zero x (omega arith) (end_is x.taker e is) in absurd (omega (arith, same))
+      | false ↦ λ is. rest
+    ] refl
 
 taken_same : (joints : List Joint) (xs ys : List (Option Value)) (e : End) → length xs ≡ length joints → length ys ≡ length joints
     → ((k : ℕ) (d : Joint) → k < length joints → (get_or joints k d).taker ≡ e → get_or xs k None ≡ get_or ys k None) → taken_at joints xs e ≡ taken_at joints ys e
@@ -91,3 +105,8 @@ module _ (net : Net) (order : List ℕ) (is : IsOrder net order) (P : ℕ → Ty
 
   pub along_order : (j : ℕ) → j < length net.joints → P j
   along_order j lt = let place = place_of net order is j lt in rw place.2 at (up_to (length order) place.0 place.1 place.1)
+
+-- An option that is some has an item.
+pub some_item : (o : Option Value) → IsSome o → (item : Value) × (o ≡ Some item)
+some_item None h = cc
+some_item (Some item) h = (item, refl)

@@ -1,6 +1,5 @@
 -- Each end is in one joint.
-use Rattle.std.proofs.Common.{◌≡◌, ◌⊎◌, inl, inr, ℕ, ◌<◌, Bool, true, false, length, get_or, refl, ap, sym, ◌∙◌, arith}
-use Rattle.std.proofs.lemmas.Bool.Decides.{nat_tests}
+use Rattle.std.proofs.Common.{◌≡◌, ◌⊎◌, inl, inr, ℕ, ◌<◌, Bool, true, false, length, get_or, refl, ap, sym, ◌∙◌}
 use Rattle.reo_net_base.specs.declared.joint.End.{End}
 use Rattle.reo_net_base.specs.declared.joint.Joint.{Joint}
 use Rattle.reo_net_base.specs.Behaviour.{Behaviour}
@@ -8,16 +7,10 @@ use Rattle.reo_net_base.specs.Lawful.{GivesAt}
 use Rattle.reo_net_base.specs.Net.{Net, behaviour_at, end_of, end_eq, is_at}
 use Rattle.reo_net_base.specs.Wired.{IsWired, IsEnd}
 use Rattle.reo_net_laws.specs.Ends.{mark_in, from_in, EndsAreJoined, SourceIsTaken}
-use Rattle.reo_net_laws.proofs.Items.{end_is}
+use Rattle.reo_net_laws.proofs.Items.{end_is, end_same}
 use Rattle.reo_net_laws.proofs.Sides.{same_side_at}
 use Rattle.std.proofs.lemmas.Bool.{or_left, or_right}
 use Rattle.reo_values.proofs.Truths.{either}
-
-pub end_same : (a b : End) → a ≡ b → end_eq a b ≡ true
-end_same a b e =
-    let p : a.primitive ≡ b.primitive = ap (λ (x : End). x.primitive) e in
-    let q : a.end ≡ b.end = ap (λ (x : End). x.end) e in
-    grind (arith, nat_tests)
 
 -- The joint of an end, which is its giver or its taker.
 pub joint_of : (net : Net) → IsWired net → (e : End) → IsEnd net.primitives e
@@ -34,7 +27,8 @@ joint_of net wired e is =
           ],
     )
 
-one_at : (net : Net) → IsWired net → (e : End) → IsEnd net.primitives e → (j k : ℕ) (d : Joint) → j < length net.joints → k < length net.joints
+-- Only one joint is at an end.
+pub one_at : (net : Net) → IsWired net → (e : End) → IsEnd net.primitives e → (j k : ℕ) (d : Joint) → j < length net.joints → k < length net.joints
     → is_at e (get_or net.joints j d) ≡ true → is_at e (get_or net.joints k d) ≡ true → j ≡ k
 one_at net wired e is j k d j_in k_in h g =
     let joined = wired.each_end e.primitive e.end is.0 is.1 in

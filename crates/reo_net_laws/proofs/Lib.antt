@@ -19,6 +19,7 @@ pub mod Places
 pub mod Reasons
 pub mod Search
 pub mod Sets
+pub mod Shapes
 pub mod Sides
 pub mod Sublists
 pub mod Told

@@ -1,6 +1,8 @@
 -- Where sides and their rows stand.
-use Rattle.std.proofs.Common.{◌≡◌, inl, inr, ℕ, zero, suc, ◌+◌, ◌-◌, ◌<◌, List, [], ◌∷◌, ◌++◌, false, length, get_or, take, refl, ap, ◌∙◌, arith, length-append}
+use Rattle.std.proofs.Common.{◌≡◌, inl, inr, ℕ, zero, suc, ◌+◌, ◌-◌, ◌*◌, ◌<◌, ◌≤◌, List, [], ◌∷◌, ◌++◌, false, length, get_or, take, refl, ap, ◌∙◌, arith, add-one, length-append}
 use Rattle.std.specs.List.{flat_map}
+use Rattle.std.proofs.lemmas.Grind.{flat_map-append}
+use Rattle.std.proofs.lemmas.List.{take_more}
 use Rattle.std.proofs.lemmas.List.Concat.{get_or-flat_map}
 use Rattle.std.proofs.lemmas.List.Folds.{length-flat_map-take}
 use Rattle.std.proofs.lemmas.List.FromFn.{get_or-map-range_with_len, length-map-range_with_len}
@@ -8,7 +10,7 @@ pub use Rattle.reo_values.proofs.Naturals.{lt_cases as below_or}
 use Rattle.reo_net_base.specs.declared.joint.End.{End}
 use Rattle.reo_net_base.specs.declared.mark.Mark.TheVariants.{F}
 use Rattle.reo_net_base.specs.Behaviour.{Behaviour, nothing, IsEndOf}
-use Rattle.reo_net_base.specs.Lawful.{GivesAt}
+use Rattle.reo_net_base.specs.Lawful.{GivesAt, IsLawful}
 use Rattle.reo_net_base.specs.Net.{Net, Side, all_sides, sides_of, first_side, behaviour_at, row_count, end_of, side_at, side_of_end, row_at, mark_at}
 use Rattle.reo_net_base.specs.Colouring.{AreRows}
 use Rattle.reo_net_base.specs.Wired.{IsWired, IsEnd}
@@ -43,6 +45,36 @@ pub side_is : (bs : List Behaviour) (i s : ℕ) (d : Side) → i < length bs →
 side_is bs i s d i_in s_in =
     get_or-flat_map sides_of bs i s nothing d i_in (omega (arith, side_count (behaviour_at bs i)))
     ∙ get_or-map-range_with_len {X = Side} (λ k. record { of = behaviour_at bs i; number = k }) 0 (behaviour_at bs i).sides s s d s_in (omega arith)
+
+-- The sides of a primitive stand before those of a later one.
+pub first_more : (bs : List Behaviour) (p : ℕ) → p < length bs → first_side bs (p + 1) ≡ first_side bs p + (behaviour_at bs p).sides
+first_more bs p lt =
+    rw (take_more bs p nothing lt, flat_map-append sides_of (take p bs) (get_or bs p nothing ∷ []))
+    (omega (
+      arith,
+      length-append (flat_map sides_of (take p bs)) (flat_map sides_of (get_or bs p nothing ∷ [])),
+      length-append (sides_of (get_or bs p nothing)) [],
+      side_count (behaviour_at bs p),
+    ))
+
+pub first_before : (bs : List Behaviour) (k n : ℕ) → k < n → n ≤ length bs → first_side bs k + (behaviour_at bs k).sides ≤ first_side bs n
+first_before bs k zero lt le = absurd (omega arith)
+first_before bs k (suc n) lt le =
+    let more : first_side bs (suc n) ≡ first_side bs n + (behaviour_at bs n).sides = rw add-one at (first_more bs n (omega (arith, le))) in
+    elim (below_or k n) [
+      | inl earlier ↦ omega (arith, more, first_before bs k n earlier (omega (arith, le)))
+      | inr late ↦
+          let same : k ≡ n = omega (arith, lt, late) in
+          rw same (omega (arith, more))
+    ]
+
+-- A primitive has at most two.
+pub sides_few : (bs : List Behaviour) → ((i : ℕ) → i < length bs → IsLawful (behaviour_at bs i)) → length (all_sides bs) ≤ 2 * length bs
+sides_few [] law = omega arith
+sides_few (b ∷ bs) law =
+    let rest = sides_few bs (λ i lt. law (suc i) (omega (arith, lt))) in
+    let own = (law zero (omega arith)).few_sides in
+    omega (arith, rest, own, side_count b, length-append (sides_of b) (all_sides bs))
 
 -- Each side is a side of a primitive.
 pub record Owner (bs : List Behaviour) (k : ℕ) : Type 0 where

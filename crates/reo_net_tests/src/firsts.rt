@@ -244,7 +244,8 @@ const FIRSTS: &[(u64, Shape, &[&str])] = &[
         1,
         ROUTER,
         &[
-            "w3 t+ t+ lossy lossy sync sync sync sync drain r3 r2 r2 m2 | 0 0 1 0 1 0 0 1 2 0 0 0 3 0",
+            "w3 t+ t+ lossy lossy sync sync sync sync drain r3 r2 r2 m2 \
+            | 0 0 1 0 1 0 0 1 2 0 0 0 3 0",
         ],
     ),
 ];

@@ -11,7 +11,7 @@ use Rattle.reo_net_base.specs.declared.joint.Joint.{Joint}
 use Rattle.reo_net_base.specs.declared.table.Table.{Table}
 use Rattle.reo_net_base.specs.declared.table.Table.TheVariants.{Ready, Resting, Together, Lossy, OneOfTwo, Filter, Spent}
 use Rattle.reo_net_base.specs.Behaviour.{Behaviour}
-use Rattle.reo_net_base.specs.Lawful.{SameShape, GivesAt}
+use Rattle.reo_net_base.specs.Lawful.{GivesAt}
 use Rattle.reo_net_base.specs.Net.{Net, Side, all_sides, no_side, behaviour_at, first_side, mark_at, row_at, side_at, side_of_end}
 use Rattle.reo_net_base.specs.Forms.{number_in, period_in}
 use Rattle.reo_net_base.specs.Tables.{place_in}
@@ -26,6 +26,7 @@ use Rattle.reo_net_laws.specs.Alike.{AreAlike}
 use Rattle.reo_net_laws.specs.Parts.{IsClosed, IsClosedBelow}
 use Rattle.reo_net_laws.specs.Sublists.{sides_in, part_rows}
 use Rattle.reo_net_laws.proofs.Sides.{row_in_table, row_is, side_at_place, side_in_range, side_is}
+use Rattle.reo_net_laws.proofs.Shapes.{shapes_twice, shapes_back}
 use Rattle.reo_knots.specs.Knots.{Knotted, AreKnots, in_knot, knot_count}
 use Rattle.reo_still.specs.Joining.{HasFirst}
 use Rattle.reo_propagate.specs.Queues.{among}
@@ -44,32 +45,17 @@ use Rattle.reo_item_bounds.specs.Bounds.{HasBounds}
 use Rattle.reo_item_bounds.proofs.Linked.{closed_on}
 use Rattle.reo_item_bounds.proofs.Tables.{stay}
 use Rattle.reo_item_bounds.proofs.Within.{within}
-use Rattle.reo_item_bounds.proofs.Noting.{shapes_twice}
 use Rattle.reo_search.proofs.Isolating.{rows_same}
 use Rattle.reo_part_plans.specs.declared.entry.Entry.{Entry}
 use Rattle.reo_part_plans.specs.declared.looks.Look.{Look}
 use Rattle.reo_part_plans.specs.declared.plans.PartPlans.{PartPlans}
 use Rattle.reo_part_plans.specs.Alike.{HaveSameClasses}
-use Rattle.reo_part_plans.specs.Given.{LetsIn, GivesAlone, LetAllIn, AreItems, Decide, AreGiven}
+use Rattle.reo_state_laws.specs.States.{LetsIn}
+use Rattle.reo_part_plans.specs.Given.{GivesOnly, LetAllIn, AreItems, Decide, AreGiven}
 use Rattle.reo_part_plans.specs.Laws.{PlansStay}
 use Rattle.reo_part_plans.specs.Looks.{IsLookAt, IsKey}
 use Rattle.reo_part_plans.specs.Remembered.{IsRemembered, AreRemembered, StayOrGo, ArePlans, IsWrittenDown, IsRecalled}
 use Rattle.reo_part_plans.proofs.FirstRows.{alike_same_rows}
-
-shape_back : (b d : Behaviour) → SameShape b d → SameShape d b
-shape_back b d r = record {
-  ends = sym r.ends;
-  sides = sym r.sides;
-  side_of = λ end. sym (r.side_of end);
-  takes_in = λ end. sym (r.takes_in end);
-  leads = λ side. sym (r.leads side);
-}
-
-shapes_back : (bs ds : List Behaviour) → SameShapes bs ds → SameShapes ds bs
-shapes_back bs ds r = record {
-  count = sym r.count;
-  same = λ i lt. shape_back (behaviour_at bs i) (behaviour_at ds i) (r.same i (omega (arith, r.count)));
-}
 
 alike_twice : (bs ds es : List Behaviour) → TreatAlike bs ds → TreatAlike ds es → TreatAlike bs es
 alike_twice bs ds es first second i = record {
@@ -224,12 +210,12 @@ module _ (inside : ℕ → Bool) (sides : List ℕ) (all : (s : ℕ) → inside 
           m_in : m < length sides
           m_in = (all (first_side net.primitives i + side) h).1
 
-          noted : GivesAlone b_here side (get_or items m None)
-          noted = subst (λ (x : Side). GivesAlone x.of x.number (get_or items m None)) (side_here net i side m i_in side_in (place_is (first_side net.primitives i + side) h)) (are.each m None no_side m_in)
+          noted : GivesOnly b_here side (get_or items m None)
+          noted = subst (λ (x : Side). GivesOnly x.of x.number (get_or items m None)) (side_here net i side m i_in side_in (place_is (first_side net.primitives i + side) h)) (are.each m None no_side m_in)
 
-          noted_there : (item : Value) → get_or items m None ≡ Some item → GivesAlone b_there side (Some item)
+          noted_there : (item : Value) → get_or items m None ≡ Some item → GivesOnly b_there side (Some item)
           noted_there item is =
-              subst (λ (x : Side). GivesAlone x.of x.number (Some item)) (side_here other i side m (omega (arith, shapes.count)) (side_there i side i_in side_in h) (place_there i side h))
+              subst (λ (x : Side). GivesOnly x.of x.number (Some item)) (side_here other i side m (omega (arith, shapes.count)) (side_there i side i_in side_in h) (place_there i side h))
               (given m item no_side (omega (arith, are.one_each, m_in)) is)
 
           gives_there : (row end : ℕ) → GivesAt b_here side row end → GivesAt b_there side row end

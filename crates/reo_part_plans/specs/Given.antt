@@ -4,15 +4,11 @@ use Rattle.reo_values.specs.declared.value.Value.{Value}
 use Rattle.reo_net_base.specs.Behaviour.{Behaviour, IsEndOf}
 use Rattle.reo_net_base.specs.Lawful.{GivesAt}
 use Rattle.reo_net_base.specs.Net.{Net, Side, all_sides}
-
--- Each row of a side lets each item in.
-abbrev pub LetsIn : Behaviour → ℕ → Type 0
-LetsIn b side = (row end : ℕ) (item : Value) → row < b.rows side → IsEndOf b side end → b.takes_in end ≡ true
-    → b.passes side row end item ≡ true
+use Rattle.reo_state_laws.specs.States.{LetsIn}
 
 -- What the state alone gives at a side, by whatever row: this item, or none.
-abbrev pub GivesAlone : Behaviour → ℕ → Option Value → Type 0
-GivesAlone b side item = (row end : ℕ) (taken : Option Value) → GivesAt b side row end → b.from side row end ≡ None
+abbrev pub GivesOnly : Behaviour → ℕ → Option Value → Type 0
+GivesOnly b side item = (row end : ℕ) (taken : Option Value) → GivesAt b side row end → b.from side row end ≡ None
     → b.given side row end taken ≡ item
 
 -- Each row of each of some sides lets each item in.
@@ -25,7 +21,7 @@ LetAllIn net sides = (m : ℕ) (s : Side) → m < length sides
 pub record AreItems (net : Net) (sides : List ℕ) (items : List (Option Value)) : Type 0 where
   pub one_each : length items ≡ length sides
   pub each : (m : ℕ) (d : Option Value) (s : Side) → m < length sides
-      → GivesAlone (slice_index_or (all_sides net.primitives) (slice_index sides m) s).of
+      → GivesOnly (slice_index_or (all_sides net.primitives) (slice_index sides m) s).of
       (slice_index_or (all_sides net.primitives) (slice_index sides m) s).number (slice_index_or items m d)
 
 -- What decides at some sides besides their tables: nothing where each row lets each item in, and else the items that
@@ -37,5 +33,5 @@ Decide net sides items = LetAllIn net sides ⊎ AreItems net sides items
 abbrev pub AreGiven : Net → List ℕ → List (Option Value) → Type 0
 AreGiven net sides items = (m : ℕ) (item : Value) (s : Side) → m < length items
     → slice_index_or items m None ≡ Some item
-    → GivesAlone (slice_index_or (all_sides net.primitives) (slice_index sides m) s).of
+    → GivesOnly (slice_index_or (all_sides net.primitives) (slice_index sides m) s).of
     (slice_index_or (all_sides net.primitives) (slice_index sides m) s).number (Some item)

@@ -3,7 +3,7 @@ ghost use Rattle.std.specs.Prelude.{◌≡◌, ◌<◌, ℕ, true, Some, None, I
 ghost use Rattle.reo_net_base.specs.Behaviour.{IsEndOf};
 ghost use Rattle.reo_net_base.specs.Net.{Side, all_sides, net_of};
 ghost use Rattle.reo_net_base.specs.Sides.{side_count};
-ghost use Rattle.reo_part_plans.specs.Given.{AreGiven, AreItems, Decide, GivesAlone, LetAllIn};
+ghost use Rattle.reo_part_plans.specs.Given.{AreGiven, AreItems, Decide, GivesOnly, LetAllIn};
 
 use reo_net_base::{Form, Primitive, Table};
 use reo_net_circuit::Circuit;
@@ -27,7 +27,7 @@ fn takes_in<P: Primitive>(primitive: &P, side: usize) -> bool
 /// end cannot flow.
 fn gives_nothing<P: Primitive>(primitive: &P, side: usize) -> bool
     requires { side < (P.behaviour primitive.now).sides }
-    ensures { IsTrue result → GivesAlone (P.behaviour primitive.now) side None }
+    ensures { IsTrue result → GivesOnly (P.behaviour primitive.now) side None }
 {
     if takes_in(primitive, side) {
         return true;
@@ -42,7 +42,7 @@ fn gives_nothing<P: Primitive>(primitive: &P, side: usize) -> bool
 /// told. `NoMemory` is out of memory.
 fn item_at<P: Primitive>(primitive: &P, side: usize) -> Result<Option<Option<Value>>, NoMemory>
     requires { side < (P.behaviour primitive.now).sides }
-    ensures { IfOk result (λ told. IfSome told (GivesAlone (P.behaviour primitive.now) side)) }
+    ensures { IfOk result (λ told. IfSome told (GivesOnly (P.behaviour primitive.now) side)) }
 {
     if gives_nothing(primitive, side) {
         return Ok(Some(None));
@@ -119,7 +119,7 @@ fn gives<P: Primitive>(circuit: &Circuit<P>, side: usize, item: &Value) -> bool
     requires { side < side_count (net_of P.behaviour circuit.now) }
     ensures { IsTrue result → (s : Side) →
         let at = slice_index_or (all_sides (net_of P.behaviour circuit.now).primitives) side s in
-        GivesAlone at.of at.number (Some item.now) }
+        GivesOnly at.of at.number (Some item.now) }
 {
     let owner = circuit.owner(side);
     match circuit.primitive(owner.primitive).front() {

@@ -12,6 +12,7 @@ use Rattle.reo_net_base.specs.Net.{Net, behaviour_at, mark_at, row_at, side_at}
 use Rattle.reo_net_base.specs.Colouring.{RowsFit}
 use Rattle.reo_net_base.specs.Sides.{side_count}
 use Rattle.reo_net_base.specs.Wired.{IsWired, IsEnd}
+use Rattle.reo_net_base.proofs.Marks.{giver_flows, mark_flows, mark_still}
 use Rattle.reo_net_laws.specs.Parts.{IsClosed}
 use Rattle.reo_net_laws.proofs.Joined.{joint_of}
 use Rattle.reo_net_laws.proofs.Sides.{side_in_range}
@@ -22,8 +23,6 @@ use Rattle.reo_flowing.proofs.Passing.{next_from, nothing_there}
 use Rattle.reo_kept_tables.specs.Orders.{AreJointsOf}
 use Rattle.reo_kept_tables.proofs.Sorted.{joints_of_set}
 use Rattle.reo_still.specs.Still.{IsStill}
-use Rattle.reo_still.proofs.Quiet.{flows_both}
-use Rattle.reo_side_tables.proofs.Adding.{flows_F, still_F}
 use Rattle.reo_planning.specs.Keeping.{FlowsIn}
 use Rattle.reo_planning.specs.Marked.{TellsFlow}
 
@@ -51,7 +50,7 @@ module _ (net : Net) (wired : IsWired net) (inside : ℕ → Bool) (joints : Lis
       giver_not j lt here =
           let place = (are.exact j).1 (lt, here) in
           let is : get_or joints place.0 0 ≡ j = get_or_default joints place.0 0 j place.1 ∙ place.2 in
-          still_F (mark_at net rows (giver_of net j)) (subst (λ (i : ℕ). flows_by net rows i ≡ false) is (none place.0 place.1))
+          mark_still (mark_at net rows (giver_of net j)) (subst (λ (i : ℕ). flows_by net rows i ≡ false) is (none place.0 place.1))
 
       still : IsStill net inside rows
       still e e_in h flows =
@@ -61,7 +60,7 @@ module _ (net : Net) (wired : IsWired net) (inside : ℕ → Bool) (joints : Lis
           elim (at.2 no_joint) [
             | inl g ↦ giver_not j at.1 (ap inside_of g ∙ h) (ap (mark_at net rows) g ∙ flows)
             | inr t ↦ giver_not j at.1 (closed.along j no_joint at.1 ∙ ap inside_of t ∙ h)
-                (flows_both (mark_at net rows (giver_of net j)) (mark_at net rows (taker_of net j)) (fit.matched j no_joint at.1) (ap (mark_at net rows) t ∙ flows))
+                (giver_flows (mark_at net rows (giver_of net j)) (mark_at net rows (taker_of net j)) (fit.matched j no_joint at.1) (ap (mark_at net rows) t ∙ flows))
           ]
 
   -- Something flows where some of them does.
@@ -70,7 +69,7 @@ module _ (net : Net) (wired : IsWired net) (inside : ℕ → Bool) (joints : Lis
     still = λ e. absurd (not_both true e refl);
     flows = λ _.
         let is = (are.exact (get_or joints m 0)).0 (Contains-get_or joints m 0 lt) in
-        record { end = giver_of net (get_or joints m 0); is_end = wired.givers (get_or joints m 0) no_joint is.0; here = is.1; flows = flows_F (mark_at net rows (giver_of net (get_or joints m 0))) flows };
+        record { end = giver_of net (get_or joints m 0); is_end = wired.givers (get_or joints m 0) no_joint is.0; here = is.1; flows = mark_flows (mark_at net rows (giver_of net (get_or joints m 0))) flows };
   }
 
 -- Whether something flows in a set is told by whether a joint of it flows.

@@ -10,9 +10,9 @@ use Rattle.reo_net_base.specs.Sides.{side_count}
 use Rattle.reo_net_base.specs.Wired.{IsWired}
 use Rattle.reo_net_circuit.proofs.ReshapeLemmas.{side_same}
 use Rattle.reo_net_laws.specs.Parts.{IsClosedBelow, IsLinked, SameKnot, IsKnot}
+pub use Rattle.reo_net_laws.proofs.Shapes.{count_same}
 use Rattle.reo_knots.specs.Knots.{Knotted, AreNumbers, AreKnots, IsLoopOf, in_knot, knot_count}
 use Rattle.reo_planning.specs.Unsettling.{KnotsStay}
-pub use Rattle.reo_kept_tables.proofs.Staying.{count_same}
 
 module _ (bs ds : List Behaviour) (js : List Joint) (wired : IsWired (record { primitives = bs; joints = js })) (r : SameShapes bs ds) where
   abbrev net : Net

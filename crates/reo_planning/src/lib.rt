@@ -13,6 +13,6 @@ mod tables;
 pub use kept::Kept;
 pub use laws::{kept_elsewhere, kept_later, knots_stay, left_weighs_no_more};
 pub use parts::search_part;
-pub use planning::first_by_parts;
+pub use planning::first_colouring;
 pub use rows::{put_rows, written_over};
 pub use tables::tables_of;

@@ -112,7 +112,7 @@ fn rows_by_parts<P: Primitive, L: Ledger>(
 ///
 /// `Wide` and `Spent` come exactly where a part is over, for the least such part. `NoMemory` is out
 /// of memory.
-pub fn first_by_parts<P: Primitive, L: Ledger>(
+pub fn first_colouring<P: Primitive, L: Ledger>(
     alloc: Global,
     circuit: &Circuit<P>,
     knots: &Knots,

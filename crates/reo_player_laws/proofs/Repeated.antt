@@ -1,24 +1,9 @@
 -- What a repeat comes to.
 use Rattle.std.proofs.Common.{◌≡◌, ◌∙◌, ℕ, zero, suc, ◌+◌, ◌*◌, ◌<◌, List, [], ◌∷◌, ◌++◌, length, slice_get, flat_map, refl, sym, ap, arith}
 use Rattle.std.proofs.lemmas.List.{length-append}
-use mathlib.Core.Former.{Count}
-use Rattle.reo_scripts.specs.declared.action.Action.{Action, Repeat, Repeat', Row_of-Action, end_of-Action, more_of-Action, items-the_row-Action, items_hidden-the_row-Action-0}
-use Rattle.reo_players.specs.Written.{Task, times_over, written, written_row}
+use Rattle.reo_players.specs.Written.{Task, times_over, written}
+use Rattle.reo_players.proofs.Bodies.{written_repeat}
 use Rattle.reo_player_laws.specs.Repeats.{RepeatsAreWrittenOut}
-
--- The body of a repeat as a list of actions.
-abbrev row_of : Action → (n : Count) × Row_of-Action n
-row_of (Repeat' times shape row) = (_, row)
-row_of a = (_, end_of-Action)
-
-in_row : (n : _) (row : Row_of-Action n) → written_row row ≡ flat_map written (items-the_row-Action n row)
-in_row n end_of-Action = refl
-in_row n (more_of-Action a rest) = ap (λ ts. written a ++ ts) (in_row _ rest)
-
-written_repeat : (times : ℕ) (body : List Action) → written (Repeat times body) ≡ times_over times (flat_map written body)
-written_repeat times body =
-    let row = row_of (Repeat times body) in
-    ap (times_over times) (in_row row.0 row.1 ∙ ap (flat_map written) (items_hidden-the_row-Action-0 body))
 
 -- Places in lists joined end to end.
 get_first : (xs ys : List Task) (i : ℕ) → i < length xs → slice_get (xs ++ ys) i ≡ slice_get xs i

@@ -1,4 +1,4 @@
-mod Bodies
+pub mod Bodies
 mod Stands
 mod Passed
 mod Present

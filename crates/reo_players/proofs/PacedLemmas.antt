@@ -1,7 +1,7 @@
 -- What a run keeps of its components stays right.
-use Rattle.std.proofs.Common.{◌≡◌, ◌≢◌, ◌∙◌, ◌||◌, ◌⊎◌, inl, inr, ⊎_elim, ℕ, zero, suc, ◌+◌, ◌-◌, ◌^◌, ◌<◌, ◌≤◌, Bool, true, false, min, List, [], ◌∷◌, length, map, set, get_or, refl, sym, ap, subst, arith}
+use Rattle.std.proofs.Common.{◌≡◌, ◌≢◌, ◌∙◌, ◌||◌, ◌⊎◌, inl, inr, ⊎_elim, ℕ, suc, ◌+◌, ◌-◌, ◌^◌, ◌<◌, ◌≤◌, Bool, true, false, min, List, length, map, set, get_or, refl, sym, ap, subst, arith}
 use Rattle.std.proofs.lemmas.Bool.{cases_eq, cases_lt}
-use Rattle.std.proofs.lemmas.List.{get_or-map, get_or_default, get_or-set_same, get_or-set_other, length-map, length-set, map-set}
+use Rattle.std.proofs.lemmas.List.{get_or-map, get_or_default, get_or-set_same, get_or-set_other, length-map, length-set, map-set, get_or_past}
 use Rattle.reo_values.proofs.Truths.{or_true}
 use Rattle.reo_flags.specs.Next.{IsNext}
 use Rattle.reo_dues.specs.Next.{IsNextDue}
@@ -14,11 +14,6 @@ use Rattle.reo_players.specs.Idle.{is_awake, is_last, is_left, mark_of, marks_of
 use Rattle.reo_players.specs.Pacing.{later, due_of, shown, clock_at, each_shown, player_in, ArePaced}
 use Rattle.reo_players.proofs.Marked.{marks_set}
 use Rattle.reo_players.proofs.Paces.{later_rest, later_awake, later_counts, later_one, goes_on, not_last, due_counts, length-shown, at-shown, set-shown, ahead, not_ahead, at_most_one}
-
-past : (ps : List Player) (i : ℕ) → length ps ≤ i → player_of ps i ≡ no_player
-past [] i le = refl
-past (p ∷ ps) zero le = absurd (omega arith)
-past (p ∷ ps) (suc i) le = past ps i (omega arith)
 
 module _ (clock passed : ℕ) (xs : List Paced) (marks : Marks) (dues : List ℕ) (are : ArePaced clock passed xs marks dues) where
   pub awake_long : length marks.awake ≡ length xs
@@ -205,7 +200,7 @@ module _ (clock passed : ℕ) (xs : List Paced) (marks : Marks) (dues : List ℕ
                 let first : Paced = record { player = no_player; as_of = 0 } in
                 at-shown ahead_of xs i no_player first lt ∙ ap (λ (k : ℕ). shown k (get_or xs i first)) (stands i where_is lt) ∙ sym (at-shown (clock_at clock passed) xs i no_player first lt)
             | inr ge ↦
-                past (each_shown ahead_of xs) i (omega (arith, length-shown ahead_of xs)) ∙ sym (past (each_shown (clock_at clock passed) xs) i (omega (arith, shown_long)))
+                get_or_past (each_shown ahead_of xs) i no_player (omega (arith, length-shown ahead_of xs)) ∙ sym (get_or_past (each_shown (clock_at clock passed) xs) i no_player (omega (arith, shown_long)))
           ]
 
       pub have_passed : clock + 1 < 2 ^ 64 - 1 → HavePassed passed place (each_shown (clock_at clock passed) xs) (each_shown ahead_of xs)

@@ -3,12 +3,11 @@ use Rattle.std.proofs.Common.{◌≡◌, ℕ, zero, suc, ◌+◌, ◌*◌, ◌<�
 use Rattle.std.specs.List.{All}
 use Rattle.std.proofs.lemmas.List.Elements.{All-nil, All-cons, All-append}
 use Rattle.reo_values.proofs.Truths.{and_left}
-use Rattle.reo_net_base.specs.Behaviour.{Behaviour}
 use Rattle.reo_net_base.specs.First.{is_leading, leading_positions, class_position, class_positions, row_positions, positions}
-use Rattle.reo_net_base.specs.Lawful.{IsLawful}
-use Rattle.reo_net_base.specs.Net.{Net, Side, sides_of, all_sides, behaviour_at}
+use Rattle.reo_net_base.specs.Net.{Net, Side, all_sides}
 use Rattle.reo_net_base.specs.Sides.{side_count}
 use Rattle.reo_net_base.specs.Wired.{IsWired}
+use Rattle.reo_net_laws.proofs.Sides.{sides_few}
 use Rattle.reo_joint_values.specs.Values.{Family, value_eq}
 use Rattle.reo_refute_base.specs.declared.line.LogLine.{LogLine}
 use Rattle.reo_refute_base.specs.declared.line.LogLine.TheVariants.{At, Drop, Empty, Split}
@@ -20,19 +19,10 @@ use Rattle.reo_refute_base.specs.Logs.AreParts.{done, part}
 use Rattle.reo_refute_base.specs.Places.{IsAllowed}
 use Rattle.reo_refute_base.specs.Texts.{IsNumbered}
 use Rattle.reo_refute_laws.specs.Singles.{IsPartOf}
-use Rattle.reo_refute_laws.proofs.Branches.{side_below}
 use Rattle.reo_refute_prove.specs.Making.{AreFew}
 use Rattle.reo_proof_laws.specs.Logs.{IsSized}
-use Rattle.reo_net_laws.proofs.Sides.{side_count as own_sides}
+use Rattle.reo_joint_values.proofs.Inside.{side_below}
 use Rattle.reo_refute_prove.proofs.Numbers.{value_numbered}
-
--- There are at most two sides for each primitive.
-sides_few : (bs : List Behaviour) → ((i : ℕ) → i < length bs → IsLawful (behaviour_at bs i)) → length (all_sides bs) ≤ 2 * length bs
-sides_few [] law = omega arith
-sides_few (b ∷ bs) law =
-    let rest = sides_few bs (λ i lt. law (suc i) (omega (arith, lt))) in
-    let own = (law zero (omega arith)).few_sides in
-    omega (arith, rest, own, own_sides b, length-append (sides_of b) (all_sides bs))
 
 leading_few : (turn : ℕ) (ss : List Side) (k : ℕ) → length (leading_positions turn ss k) ≤ length ss
 leading_few turn [] k = omega arith

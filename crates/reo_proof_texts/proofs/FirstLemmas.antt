@@ -9,14 +9,12 @@ use Rattle.reo_trace.specs.declared.line.Ending.{Ending}
 use Rattle.reo_rounds.specs.Order.{HasOrder}
 use Rattle.reo_rounds.specs.Ready.{ready}
 use Rattle.reo_rounds.specs.Rules.{Rules}
-use Rattle.reo_rounds.specs.Stopping.{ending_by}
 use Rattle.reo_rounds.proofs.OrderLemmas.{KeepsShape, ready_order, round_order}
 use Rattle.reo_rounds.proofs.RoundLemmas.{suits_also}
-use Rattle.reo_weights.specs.Over.{Cause}
-use Rattle.reo_weights.specs.Over.Cause.{spent, wide}
 use Rattle.reo_runs.specs.Round.{State, Choosing, RoundOf, net_ready}
 use Rattle.reo_runs.specs.Run.{Place, Leads, EndsAs, IsRun, place_after, firsts}
 use Rattle.reo_verdicts.specs.Replays.{MayStop, colourings}
+use Rattle.reo_verdicts.proofs.VerifiedLemmas.{may_stop}
 use Rattle.reo_refute_base.specs.Logs.{RightLogsRefute}
 use Rattle.reo_proof_texts.specs.Cuts.{LoggedRound}
 use Rattle.reo_proof_texts.specs.Proven.{IsProven, AreProven, IsProved}
@@ -56,10 +54,6 @@ module _ {P : Type 0} (r : Rules P) (k : KeepsShape r) (refute : RightLogsRefute
         rounds = leads_first 1 start rounds proved.last old proved.proven;
         ends = subst (λ (n : ℕ). EndsAs first_colourings r (n + 1) proved.last ending) count proved.ends;
       }
-
-may_stop : (turn : ℕ) (cause : Cause) → MayStop turn (ending_by turn cause)
-may_stop turn (spent knot weight budget) = refl
-may_stop turn (wide knot) = refl
 
 module _ {P : Type 0} (r : Rules P) (budget limit : ℕ) where
   round_kept : (turn : ℕ) (a : State P) (x : LoggedRound) (b : State P) → IsProven (firsts budget limit) r turn a x b → IsProven colourings r turn a x b

@@ -1,7 +1,10 @@
 -- Numbers of a list.
-use Rattle.std.proofs.Common.{◌≡◌, inl, inr, ℕ, zero, suc, ◌<◌, Bool, true, false, ◌||◌, List, [], ◌∷◌, ◌++◌, length, get_or, refl, ap, ◌∙◌, arith}
+use Rattle.std.proofs.Common.{◌≡◌, ◌⊎◌, inl, inr, ℕ, zero, suc, ◌+◌, ◌<◌, Bool, true, false, ◌||◌, cond, List, [], ◌∷◌, ◌++◌, length, get_or, refl, ap, sym, ◌∙◌, subst, arith}
+use Rattle.std.specs.Prelude.{filter}
 use Rattle.std.specs.Bool.{◌==◌}
+use Rattle.std.specs.List.{range_with_len}
 use Rattle.std.proofs.lemmas.Bool.{or_cases, or_left, or_right}
+use Rattle.reo_values.proofs.Truths.{either}
 use Rattle.reo_values.proofs.Naturals.{eq_same, same_eq}
 use Rattle.reo_side_tables.specs.Listing.{StandsIn}
 use Rattle.reo_propagate.specs.Queues.{among}
@@ -29,3 +32,32 @@ among_more (y ∷ ys) x k = ap (λ (b : Bool). (y == k) || b) (among_more ys x k
     or_moves : (a b c : Bool) → (a || (b || c)) ≡ ((a || b) || c)
     or_moves true b c = refl
     or_moves false b c = refl
+
+pub among_range : (a n s : ℕ) → s < n → among (range_with_len a n) (a + s) ≡ true
+among_range a zero s lt = absurd (omega arith)
+among_range a (suc n) zero lt = or_left (a == (a + zero)) (among (range_with_len (a + 1) n) (a + zero)) (same_eq a (a + zero) (omega arith))
+among_range a (suc n) (suc s) lt =
+    let shift : (a + 1) + s ≡ a + suc s = omega arith in
+    or_right (a == (a + suc s)) (among (range_with_len (a + 1) n) (a + suc s)) (subst (λ (k : ℕ). among (range_with_len (a + 1) n) k ≡ true) shift (among_range (a + 1) n s (omega arith)))
+
+-- What a filter keeps.
+filter_for : (f : ℕ → Bool) (x : ℕ) (xs : List ℕ) (s : ℕ) (t : Bool) → f x ≡ t → ((among (filter f xs) s ≡ true) → (f s ≡ true) × (among xs s ≡ true)) → among (cond t (x ∷ filter f xs) (filter f xs)) s ≡ true → (f s ≡ true) × (among (x ∷ xs) s ≡ true)
+filter_for f x xs s true is rest h = elim (either (x == s) (among (filter f xs) s) h) [
+  | inl here ↦ (subst (λ (k : ℕ). f k ≡ true) (eq_same x s here) is, or_left (x == s) (among xs s) here)
+  | inr there ↦ let r = rest there in (r.0, or_right (x == s) (among xs s) r.1)
+]
+filter_for f x xs s false is rest h = let r = rest h in (r.0, or_right (x == s) (among xs s) r.1)
+
+pub among_filter : (f : ℕ → Bool) (xs : List ℕ) (s : ℕ) → among (filter f xs) s ≡ true → (f s ≡ true) × (among xs s ≡ true)
+among_filter f [] s h = cc
+among_filter f (x ∷ xs) s h = filter_for f x xs s (f x) refl (among_filter f xs s) h
+
+into_for : (f : ℕ → Bool) (x : ℕ) (xs : List ℕ) (s : ℕ) (t : Bool) → f x ≡ t → f s ≡ true → (among xs s ≡ true → among (filter f xs) s ≡ true) → (x == s) ≡ true ⊎ (among xs s ≡ true) → among (cond t (x ∷ filter f xs) (filter f xs)) s ≡ true
+into_for f x xs s true is good rest (inl here) = or_left (x == s) (among (filter f xs) s) here
+into_for f x xs s true is good rest (inr there) = or_right (x == s) (among (filter f xs) s) (rest there)
+into_for f x xs s false is good rest (inl here) = let wrong : false ≡ true = sym is ∙ ap f (eq_same x s here) ∙ good in cc
+into_for f x xs s false is good rest (inr there) = rest there
+
+pub into_filter : (f : ℕ → Bool) (xs : List ℕ) (s : ℕ) → f s ≡ true → among xs s ≡ true → among (filter f xs) s ≡ true
+into_filter f [] s good h = h
+into_filter f (x ∷ xs) s good h = into_for f x xs s (f x) refl good (into_filter f xs s good) (either (x == s) (among xs s) h)

@@ -1,50 +1,25 @@
 -- A log has one answer, unless memory ends.
-use Rattle.std.proofs.Common.{◌≡◌, inl, inr, ℕ, ◌+◌, ◌<◌, List, Option, None, get_or, refl, ap, sym, ◌∙◌, subst, arith}
-use Rattle.std.proofs.lemmas.Bool.{cases_eq}
+use Rattle.std.proofs.Common.{◌≡◌, inl, inr, ℕ, ◌<◌, List, Option, refl, ap, sym, ◌∙◌, subst, arith}
 use Rattle.reo_values.specs.declared.value.Value.{Value}
 use Rattle.reo_net_base.specs.Net.{Net}
-use Rattle.reo_net_base.specs.Sides.{AreRowsOf}
 use Rattle.reo_net_base.specs.Colouring.{RowsFit, IsFilled}
 use Rattle.reo_net_base.specs.Wired.{IsWired, IsOrder}
-use Rattle.reo_net_laws.proofs.Orders.{no_joint}
-use Rattle.reo_net_laws.proofs.Sides.{below_or, rows_length, row_below, side_in, side_is}
-use Rattle.reo_net_base.specs.Net.{no_side, all_sides, first_side, behaviour_at}
+use Rattle.reo_net_laws.proofs.Sides.{rows_length}
+use Rattle.reo_net_base.specs.Net.{all_sides}
 use Rattle.reo_net_colouring.proofs.ItemLemmas.{filled_from, filled_one}
 use Rattle.reo_checker.specs.declared.wrong.Wrong.{Wrong}
 use Rattle.reo_checker.specs.declared.wrong.Wrong.TheVariants.{Count, Row, Joint, Item}
-use Rattle.reo_checker.specs.Faults.{side_row, AreWrongRows, IsWrong, IsRowFault, IsJointFault, IsItemFault}
+use Rattle.reo_checker.specs.Faults.{AreWrongRows, IsWrong, IsRowFault, IsItemFault}
 use Rattle.reo_refute_laws.proofs.OneAnswer.{right_or_wrong, one_wrong_line}
 use Rattle.reo_refute_faults.specs.Faults.{HasColouring, AreWrongItems, AreNoColouring, ProofOrFault, OneFault}
 use Rattle.reo_refute_faults.specs.declared.fault.ProofFault.TheVariants.{Colouring, Wide, Line, NoMemory}
-use Rattle.reo_checker.proofs.ExactLemmas.{wrong_rows, wrong_colouring, fails_fits}
-
--- Of two least places neither is below the other.
-leasts : (i k : ℕ) → (i < k → ⊥) → (k < i → ⊥) → i ≡ k
-leasts i k below above = elim (below_or i k) [
-  | inl lt ↦ absurd (below lt)
-  | inr le ↦ elim (cases_eq i k) [ inl same ↦ same | inr other ↦ absurd (above (omega (arith, le, other))) ]
-]
+use Rattle.reo_checker.proofs.ExactLemmas.{wrong_rows, wrong_colouring, row_out}
+use Rattle.reo_checker.proofs.FirstFaults.{not_apart, joint_earlier, item_earlier}
 
 row_earlier : (net : Net) (rows : List ℕ) (i k : ℕ) → IsRowFault net rows i → IsRowFault net rows k → i < k → ⊥
 row_earlier net rows i k a b lt =
     let has = b.before i lt a.out.side a.out.is_side in
     omega (arith, has, a.out.out)
-
-joint_earlier : (net : Net) (rows : List ℕ) (i k : ℕ) → IsJointFault net rows i → IsJointFault net rows k → i < k → ⊥
-joint_earlier net rows i k a b lt =
-    let match = b.before i no_joint lt in
-    let clash = a.clashes no_joint in
-    cc
-
-item_earlier : (net : Net) (rows : List ℕ) (items : List (Option Value)) (i k : ℕ) → IsItemFault net rows items i → IsItemFault net rows items k → i < k → ⊥
-item_earlier net rows items i k a b lt = fails_fits net rows items (get_or net.joints i no_joint) (get_or items i None) (a.fails no_joint) (b.before i no_joint lt)
-
--- Rows in their tables have no row out.
-row_out : (net : Net) (rows : List ℕ) (i : ℕ) → IsRowFault net rows i → AreRowsOf net rows → ⊥
-row_out net rows i fault are =
-    let below = row_below (all_sides net.primitives) rows are (first_side net.primitives i + fault.out.side) no_side (side_in net.primitives i fault.out.side fault.in_range fault.out.is_side) in
-    let here : side_row net rows i fault.out.side < (behaviour_at net.primitives i).rows fault.out.side = rw (side_is net.primitives i fault.out.side no_side fault.in_range fault.out.is_side) at below in
-    omega (arith, here, fault.out.out)
 
 -- What is wrong first with rows is one.
 one_of_rows : (net : Net) (rows : List ℕ) (a b : Wrong) → AreWrongRows net rows a → AreWrongRows net rows b → a ≡ b
@@ -53,12 +28,12 @@ one_of_rows net rows Count (Row k) x y = absurd (x y.0)
 one_of_rows net rows Count (Joint k) x y = absurd (x (rows_length (all_sides net.primitives) rows y.0))
 one_of_rows net rows Count (Item k) x y = absurd y
 one_of_rows net rows (Row i) Count x y = absurd (y x.0)
-one_of_rows net rows (Row i) (Row k) x y = ap Row (leasts i k (row_earlier net rows i k x.1 y.1) (row_earlier net rows k i y.1 x.1))
+one_of_rows net rows (Row i) (Row k) x y = ap Row (not_apart i k (row_earlier net rows i k x.1 y.1) (row_earlier net rows k i y.1 x.1))
 one_of_rows net rows (Row i) (Joint k) x y = absurd (row_out net rows i x.1 y.0)
 one_of_rows net rows (Row i) (Item k) x y = absurd y
 one_of_rows net rows (Joint i) Count x y = absurd (y (rows_length (all_sides net.primitives) rows x.0))
 one_of_rows net rows (Joint i) (Row k) x y = absurd (row_out net rows k y.1 x.0)
-one_of_rows net rows (Joint i) (Joint k) x y = ap Joint (leasts i k (joint_earlier net rows i k x.1 y.1) (joint_earlier net rows k i y.1 x.1))
+one_of_rows net rows (Joint i) (Joint k) x y = ap Joint (not_apart i k (joint_earlier net rows i k x.1 y.1) (joint_earlier net rows k i y.1 x.1))
 one_of_rows net rows (Joint i) (Item k) x y = absurd y
 one_of_rows net rows (Item i) b x y = absurd x
 
@@ -77,7 +52,7 @@ module _ (net : Net) (wired : IsWired net) (order : List ℕ) (is_order : IsOrde
       let same : y.items ≡ x.items = filled_one net wired rows x.rows_fit.in_tables order is_order y.items x.items y.filled x.filled in
       let p = item_of net rows x.items a x.rows_fit x.filled x.is_wrong in
       let q = item_of net rows x.items b x.rows_fit x.filled (subst (λ (l : List (Option Value)). IsWrong net rows l b) same y.is_wrong) in
-      p.1 ∙ ap Item (leasts p.0 q.0 (item_earlier net rows x.items p.0 q.0 p.2 q.2) (item_earlier net rows x.items q.0 p.0 q.2 p.2)) ∙ sym q.1
+      p.1 ∙ ap Item (not_apart p.0 q.0 (item_earlier net rows x.items p.0 q.0 p.2 q.2) (item_earlier net rows x.items q.0 p.0 q.2 p.2)) ∙ sym q.1
 
   one_wrong : (a b : Wrong) → AreNoColouring net rows a → AreNoColouring net rows b → a ≡ b
   one_wrong a b (inl x) (inl y) = one_of_rows net rows a b x y

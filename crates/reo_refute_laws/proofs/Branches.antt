@@ -7,13 +7,13 @@ use Rattle.reo_values.proofs.Truths.{and_both, and_or_left, and_or_right}
 use Rattle.reo_net_base.specs.Net.{Net}
 use Rattle.reo_net_base.specs.Sides.{side_count}
 use Rattle.reo_net_base.specs.Wired.{IsWired}
-use Rattle.reo_net_laws.proofs.Sides.{side_in_range}
 use Rattle.reo_refute_laws.proofs.Listing.{first_or}
 use Rattle.reo_joint_values.specs.declared.value.JointValue.{JointValue}
 use Rattle.reo_joint_values.specs.declared.value.JointValue.TheVariants.{Jam}
-use Rattle.reo_joint_values.specs.Values.{Choice, Family, value_eq, no_joint, joint_of, AtSide}
+use Rattle.reo_joint_values.specs.Values.{Choice, Family, value_eq}
 use Rattle.reo_joint_values.specs.Fitting.{Fits}
 use Rattle.reo_joint_values.proofs.Narrowing.{value_same, same_value}
+use Rattle.reo_joint_values.proofs.Inside.{side_below}
 use Rattle.reo_refute_base.specs.declared.line.LogLine.{LogLine}
 use Rattle.reo_refute_base.specs.Items.{Lists, numbered}
 use Rattle.reo_refute_base.specs.Live.{values_of, live_at, without, alone}
@@ -52,10 +52,6 @@ pub record IsFitting (net : Net) (lists : Lists) (allowed : ℕ → ℕ → Type
   pub fits : (side : ℕ) → side < side_count net → Fits net (numbered lists) choice side (rows side)
   pub are : (side : ℕ) → side < side_count net → allowed side (rows side)
   pub among : (j : ℕ) → j < length net.joints → Contains (values_of lists j) (choice j)
-
-pub side_below : (net : Net) → IsWired net → (j side : ℕ) → j < length net.joints → AtSide net j side → side < side_count net
-side_below net wired j side lt (inl here) = subst (λ (s : ℕ). s < side_count net) here (side_in_range net wired (joint_of net j).giver (wired.givers j no_joint lt))
-side_below net wired j side lt (inr here) = subst (λ (s : ℕ). s < side_count net) here (side_in_range net wired (joint_of net j).taker (wired.takers j no_joint lt))
 
 eq_from : (i j : ℕ) → i == j ≡ true → i ≡ j
 eq_from i j h = grind (arith, nat_tests)

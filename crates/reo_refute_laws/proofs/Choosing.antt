@@ -1,27 +1,12 @@
 -- Whether some choice from lists has what can be told of each.
-use Rattle.std.proofs.Common.{◌≡◌, ◌≢◌, inl, inr, ℕ, zero, suc, ◌<◌, List, Bool, true, false, cond, Contains, ap, sym, ◌∙◌, subst, arith}
-use Rattle.std.specs.Prelude.{◌==◌}
+use Rattle.std.proofs.Common.{◌≡◌, inl, inr, ℕ, zero, suc, ◌<◌, List, Contains, ap, sym, ◌∙◌, subst, arith}
 use Rattle.std.proofs.lemmas.Bool.{cases_eq}
-use Rattle.std.proofs.lemmas.Bool.Decides.{nat_tests}
 use Rattle.reo_net_laws.proofs.Search.{Decided}
 use Rattle.reo_joint_values.specs.declared.value.JointValue.{JointValue}
 use Rattle.reo_joint_values.specs.declared.value.JointValue.TheVariants.{RG}
 use Rattle.reo_joint_values.specs.Values.{Choice}
+use Rattle.reo_joint_values.proofs.Changing.{chosen_at, chosen_here, chosen_other, HasChoice}
 use Rattle.reo_refute_laws.proofs.Growing.{first_in}
-
--- A choice with another value at a joint.
-abbrev chosen_at : Choice → ℕ → JointValue → Choice
-chosen_at c n w i = cond (i == n) w (c i)
-
-chosen_here : (c : Choice) (n : ℕ) (w : JointValue) (i : ℕ) → i ≡ n → chosen_at c n w i ≡ w
-chosen_here c n w i e =
-    let test : (i == n) ≡ true = grind (arith, nat_tests) in
-    ap (λ (t : Bool). cond t w (c i)) test
-
-chosen_other : (c : Choice) (n : ℕ) (w : JointValue) (i : ℕ) → i ≢ n → chosen_at c n w i ≡ c i
-chosen_other c n w i other =
-    let test : (i == n) ≡ false = grind (arith, nat_tests) in
-    ap (λ (t : Bool). cond t w (c i)) test
 
 -- Choices that agree before a joint, with one value there, agree up to it.
 agree_more : (c e : Choice) (n : ℕ) (w : JointValue) → ((i : ℕ) → i < n → c i ≡ e i) → (i : ℕ) → i < suc n → chosen_at c n w i ≡ chosen_at e n w i
@@ -29,10 +14,6 @@ agree_more c e n w agree i lt = elim (cases_eq i n) [
   | inl here ↦ chosen_here c n w i here ∙ sym (chosen_here e n w i here)
   | inr other ↦ chosen_other c n w i other ∙ agree i (omega (arith, lt, other)) ∙ sym (chosen_other e n w i other)
 ]
-
--- A choice of which something holds, with values from lists at the first n joints.
-abbrev pub HasChoice : (ℕ → List JointValue) → ℕ → (Choice → Type 0) → Type 0
-HasChoice values n holds = (c : Choice) × ((i : ℕ) → i < n → Contains (values i) (c i)) × holds c
 
 -- Whether there is one can be told, if it can of each, and the values at these joints alone tell.
 pub choice_told : (values : ℕ → List JointValue) (n : ℕ) (holds : Choice → Type 0) → ((c : Choice) → Decided (holds c)) → ((c e : Choice) → ((i : ℕ) → i < n → c i ≡ e i) → holds c → holds e) → Decided (HasChoice values n holds)

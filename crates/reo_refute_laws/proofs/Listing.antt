@@ -13,6 +13,7 @@ use Rattle.reo_net_base.specs.declared.joint.Joint.{Joint}
 use Rattle.reo_net_base.specs.Marks.{is_flow}
 use Rattle.reo_net_base.specs.Net.{Net, end_of, end_eq}
 use Rattle.reo_net_base.specs.Wired.{IsWired}
+use Rattle.reo_net_base.proofs.Ends.{end_self}
 use Rattle.reo_net_laws.specs.Ends.{from_in}
 use Rattle.reo_net_laws.proofs.Joined.{ends_joined}
 use Rattle.reo_net_laws.proofs.Items.{end_is}
@@ -21,7 +22,6 @@ use Rattle.reo_joint_values.specs.Values.{no_joint}
 use Rattle.reo_joint_values.specs.Fitting.{given_for, passes_in}
 use Rattle.reo_joint_values.specs.Standing.{giver_of, taker_of, FlowsAt, CanStand, given_in as reach_given, passes_in as reach_passes}
 use Rattle.reo_joint_values.specs.Standing.CanStand.{alone, passed}
-use Rattle.reo_joint_values.proofs.StandLemmas.{end_self}
 use Rattle.reo_refute_base.specs.Items.{Lists, items_at, joint_into, listed, given_on, given_from, given_by, plain_rows, offered_at, IsAdded, IsVisited, AreVisited, ArePassed, AreItemLists}
 use Rattle.reo_refute_base.specs.Items.IsAdded.{none, known, fresh}
 use Rattle.reo_refute_base.specs.Items.AreVisited.{begun, next}

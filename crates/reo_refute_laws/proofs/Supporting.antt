@@ -17,12 +17,13 @@ use Rattle.reo_joint_values.specs.Fitting.{given_in, passes_in, GivesValue, Take
 use Rattle.reo_joint_values.specs.Supported.{IsUsed}
 use Rattle.reo_joint_values.proofs.Fitting.{fits_local}
 use Rattle.reo_joint_values.proofs.Narrowing.{at_cases}
+use Rattle.reo_joint_values.proofs.Changing.{HasChoice}
+use Rattle.reo_joint_values.proofs.Inside.{side_below}
 use Rattle.reo_refute_base.specs.Items.{Lists, numbered}
 use Rattle.reo_refute_base.specs.Live.{values_of, all_live, HasSupport}
 use Rattle.reo_refute_base.specs.Places.{IsAllowed}
 use Rattle.reo_refute_laws.specs.Singles.{IsPartOf, SupportIsTold, BranchOrSingle}
-use Rattle.reo_refute_laws.proofs.Branches.{side_below}
-use Rattle.reo_refute_laws.proofs.Choosing.{HasChoice, choice_told}
+use Rattle.reo_refute_laws.proofs.Choosing.{choice_told}
 use Rattle.reo_refute_laws.proofs.Growing.{count_to, grow}
 use Rattle.reo_refute_laws.proofs.Refuting.{all_among}
 use Rattle.reo_refute_laws.proofs.Telling.{allowed_or}

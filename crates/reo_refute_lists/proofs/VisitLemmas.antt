@@ -7,10 +7,8 @@ use Rattle.std.proofs.lemmas.List.Elements.{Contains-append_left}
 use Rattle.std.proofs.lemmas.List.Sums.{sum_by-set}
 use Rattle.std.proofs.lemmas.Bool.{cases_eq}
 use Rattle.reo_values.specs.declared.value.Value.{Value}
-use Rattle.reo_net_base.specs.Ends.{IsGiver}
 use Rattle.reo_net_base.specs.Net.{Net}
-use Rattle.reo_net_base.specs.Wired.{IsWired}
-use Rattle.reo_joint_values.specs.Standing.{no_joint, giver_of, CanStand}
+use Rattle.reo_joint_values.specs.Standing.{giver_of, CanStand}
 use Rattle.reo_joint_values.specs.Many.{AreDistinct, HasMany}
 use Rattle.reo_refute_base.specs.Items.{Lists, items_at, given_by, plain_rows, offered_at, IsAdded, IsVisited}
 use Rattle.reo_refute_laws.proofs.Standing.{added_from, offered_stand, visit_sound}
@@ -18,9 +16,6 @@ use Rattle.reo_refute_lists.specs.Noted.{IsNoted}
 use Rattle.reo_refute_lists.specs.declared.visits.Found.TheVariants.{Nothing, Items}
 use Rattle.reo_refute_lists.specs.Visits.{AreGood, IsNew, Comes, total}
 use Rattle.reo_refute_lists.proofs.NotedLemmas.{added_distinct, range_more}
-
-pub giver_at : (net : Net) → IsWired net → (j : ℕ) → j < length net.joints → IsGiver net (giver_of net j)
-giver_at net wired j lt = record { is_end = wired.givers j no_joint lt; gives = wired.gives j no_joint lt }
 
 -- What the first rows offer, more rows offer too.
 more_rows : (f : ℕ → List Value) (n k m : ℕ) → n + k ≡ m → (y : Value) → Contains (flat_map f (range_with_len 0 n)) y → Contains (flat_map f (range_with_len 0 m)) y

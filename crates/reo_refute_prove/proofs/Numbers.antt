@@ -7,6 +7,7 @@ use Rattle.reo_net_base.specs.Wired.{IsWired}
 use Rattle.reo_joint_values.specs.declared.value.JointValue.{JointValue}
 use Rattle.reo_joint_values.specs.declared.value.JointValue.TheVariants.{Flow, RG, GR, GG, Jam}
 use Rattle.reo_joint_values.specs.Values.{Family}
+use Rattle.reo_joint_values.proofs.Inside.{side_below}
 use Rattle.reo_refute_base.specs.declared.line.LogLine.{LogLine}
 use Rattle.reo_refute_base.specs.declared.line.LogLine.TheVariants.{At, Drop, Empty, Split}
 use Rattle.reo_refute_base.specs.Items.{Lists, items_at}
@@ -16,7 +17,6 @@ use Rattle.reo_refute_laws.specs.Singles.{IsPartOf}
 use Rattle.reo_refute_support.specs.declared.live.LiveAt.{LiveAt}
 use Rattle.reo_refute_support.specs.Families.{family_of, none_gone, AreLive}
 use Rattle.reo_refute_support.proofs.LiveLemmas.{flag_in}
-use Rattle.reo_refute_support.proofs.Reading.{at_side_in}
 use Rattle.reo_refute_next.specs.Next.{LeadsOn}
 use Rattle.reo_refute_prove.specs.Making.{AreFew}
 
@@ -40,7 +40,7 @@ line_numbered net wired lists few joints sides allowed f part (At p) leads = abs
 line_numbered net wired lists few joints sides allowed f part (Drop j v side) leads = (
   omega (arith, leads.0.in_range, joints),
   value_numbered lists few j v (part j v leads.0.is_live),
-  omega (arith, at_side_in net wired j side leads.0.in_range leads.0.at_side, sides),
+  omega (arith, side_below net wired j side leads.0.in_range leads.0.at_side, sides),
 )
 line_numbered net wired lists few joints sides allowed f part (Empty j) leads = omega (arith, leads.in_range, joints)
 line_numbered net wired lists few joints sides allowed f part (Split j) leads = omega (arith, leads.0, joints)

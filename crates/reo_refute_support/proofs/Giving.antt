@@ -1,30 +1,18 @@
 -- Values with flow that a row gives or takes in.
-use Rattle.std.proofs.Common.{◌≡◌, ◌⊎◌, inl, inr, ℕ, ◌<◌, true, List, [], length, get_or, Option, Some, refl, sym, ◌∙◌, subst, ap}
+use Rattle.std.proofs.Common.{◌≡◌, inl, inr, ℕ, ◌<◌, true, List, [], length, get_or, Option, Some, refl, sym, ◌∙◌, subst, ap}
 use Rattle.std.specs.Prelude.{slice_get}
 use Rattle.std.proofs.lemmas.Option.{slice_get_read}
 use Rattle.std.proofs.lemmas.List.{get_or_default}
 use Rattle.reo_values.specs.declared.value.Value.{Value}
-use Rattle.reo_net_base.specs.declared.mark.Mark.TheVariants.{F}
 use Rattle.reo_net_base.specs.Net.{Net}
 use Rattle.reo_joint_values.specs.declared.value.JointValue.{JointValue}
-use Rattle.reo_joint_values.specs.declared.value.JointValue.TheVariants.{Flow, RG, GR, GG, Jam}
-use Rattle.reo_joint_values.specs.Values.{giver_mark, taker_mark, Names, Family, item_named, joint_of}
+use Rattle.reo_joint_values.specs.declared.value.JointValue.TheVariants.{Flow}
+use Rattle.reo_joint_values.specs.Values.{Names, Family, item_named, joint_of}
 use Rattle.reo_joint_values.specs.Fitting.{given_for, passes_in}
 use Rattle.reo_joint_values.specs.Works.{IsGivenIn, TakerWorks, TakerHas}
+use Rattle.reo_joint_values.proofs.Marks.{flow_number}
 use Rattle.reo_refute_base.specs.Items.{Lists, numbered}
 use Rattle.reo_refute_support.specs.Flows.{TakesFlow, GivesFlow, IsPassedOn}
-
--- A value whose mark is flow has a number.
-pub flow_number : (v : JointValue) → (giver_mark v ≡ F) ⊎ (taker_mark v ≡ F) → (n : ℕ) × (v ≡ Flow n)
-flow_number (Flow n) e = (n, refl)
-flow_number RG (inl e) = absurd cc
-flow_number RG (inr e) = absurd cc
-flow_number GR (inl e) = absurd cc
-flow_number GR (inr e) = absurd cc
-flow_number GG (inl e) = absurd cc
-flow_number GG (inr e) = absurd cc
-flow_number Jam (inl e) = absurd cc
-flow_number Jam (inr e) = absurd cc
 
 -- The item of a number.
 pub item_at : (lists : Lists) (j n : ℕ) (list : List Value) (item : Value) → j < length lists → list ≡ get_or lists j list → n < length list → item ≡ get_or list n item

@@ -7,11 +7,10 @@ use Rattle.reo_net_base.specs.declared.mark.Mark.TheVariants.{F, G, R, J}
 use Rattle.reo_net_base.specs.declared.joint.End.{End}
 use Rattle.reo_net_base.specs.Behaviour.{Behaviour}
 use Rattle.reo_net_base.specs.Net.{Net, no_side, behaviour_at, side_at}
-use Rattle.reo_net_base.specs.Sides.{side_count}
 use Rattle.reo_net_base.specs.Wired.{IsWired}
 use Rattle.reo_net_laws.specs.Ends.{mark_in, IsRowOf}
-use Rattle.reo_net_laws.proofs.Sides.{below_or, side_in_range}
-use Rattle.reo_joint_values.specs.Values.{AtSide, no_joint, joint_of}
+use Rattle.reo_net_laws.proofs.Sides.{below_or}
+use Rattle.reo_joint_values.specs.Values.{joint_of}
 use Rattle.reo_refute_support.specs.declared.columns.Column.{Column}
 use Rattle.reo_refute_support.specs.Columns.{IsColumn, joint_end, no_column, AreColumns}
 use Rattle.reo_refute_support.specs.Flows.{TakesFlow, GivesFlow}
@@ -82,8 +81,3 @@ module _ (net : Net) (wired : IsWired net) (side row : ℕ) (in_table : IsRowOf 
 
   pub flow_taken : column.gives ≡ false → mark_in net row (joint_of net column.joint).taker ≡ F → get_or column.marks row 0 ≡ 1
   flow_taken gives flows = mark_byte ∙ ap byte_of (ap (λ (b : Bool). mark_in net row (joint_end net column.joint b)) gives ∙ flows)
-
--- A side at a joint is one of the circuit.
-pub at_side_in : (net : Net) → IsWired net → (j side : ℕ) → j < length net.joints → AtSide net j side → side < side_count net
-at_side_in net wired j side lt (inl at) = subst (λ (s : ℕ). s < side_count net) at (side_in_range net wired (joint_of net j).giver (wired.givers j no_joint lt))
-at_side_in net wired j side lt (inr at) = subst (λ (s : ℕ). s < side_count net) at (side_in_range net wired (joint_of net j).taker (wired.takers j no_joint lt))

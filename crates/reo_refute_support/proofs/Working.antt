@@ -1,35 +1,21 @@
 -- A row works exactly where its marks and its flows stand at the columns of its side.
-use Rattle.std.proofs.Common.{◌≡◌, ◌≢◌, ◌⊎◌, inl, inr, ◌↔◌, ℕ, ◌<◌, Bool, true, false, List, length, get_or, Option, Some, None, refl, ap, sym, ◌∙◌, subst}
+use Rattle.std.proofs.Common.{◌≡◌, ◌≢◌, inl, inr, ◌↔◌, ℕ, ◌<◌, Bool, true, false, List, length, get_or, Option, Some, None, refl, ap, sym, ◌∙◌, subst}
 use Rattle.std.specs.Option.{is_some, IsSome}
-use Rattle.reo_net_base.specs.declared.mark.Mark.{Mark}
-use Rattle.reo_net_base.specs.declared.mark.Mark.TheVariants.{F, G, R, J}
+use Rattle.reo_net_base.specs.declared.mark.Mark.TheVariants.{F}
 use Rattle.reo_net_base.specs.Net.{Net, side_at}
 use Rattle.reo_net_base.specs.Wired.{IsWired}
+use Rattle.reo_net_base.proofs.Marks.{flow_cases}
 use Rattle.reo_net_laws.specs.Ends.{mark_in, from_in, IsRowOf}
 use Rattle.reo_joint_values.specs.declared.value.JointValue.{JointValue}
-use Rattle.reo_joint_values.specs.declared.value.JointValue.TheVariants.{Flow, RG, GR, GG, Jam}
-use Rattle.reo_joint_values.specs.Values.{taker_mark, Names, Family, item_named, joint_of, giver_side, taker_side}
+use Rattle.reo_joint_values.specs.Values.{taker_mark, Names, Family, joint_of, giver_side, taker_side}
 use Rattle.reo_joint_values.specs.Works.{IsDependent, IsGivenIn, Follows, TakerWorks, TakerHas, RowWorks}
 use Rattle.reo_joint_values.proofs.Fitting.{decided, follows_dependent}
 use Rattle.reo_joint_values.proofs.Fitting.Decided.{by_none, by_joint}
+use Rattle.reo_joint_values.proofs.Marks.{no_item}
 use Rattle.reo_refute_support.specs.declared.columns.Column.{Column}
 use Rattle.reo_refute_support.specs.Columns.{IsColumn, HasColumn, AreColumns, joint_end, no_column}
 use Rattle.reo_refute_support.specs.Flows.{FlowStands, FlowsStand, MarkStands, MarksStand, TakesFlow, GivesFlow}
 use Rattle.reo_refute_support.specs.Marks.{value_mark}
-
--- A mark is flow or not.
-pub flow_cases : (m : Mark) → (m ≡ F) ⊎ (m ≢ F)
-flow_cases F = inl refl
-flow_cases G = inr (λ e. cc)
-flow_cases R = inr (λ e. cc)
-flow_cases J = inr (λ e. cc)
-
-no_item : (names : Names) (j : ℕ) (v : JointValue) → taker_mark v ≢ F → item_named names j v ≡ None
-no_item names j (Flow n) still = absurd (still refl)
-no_item names j RG still = refl
-no_item names j GR still = refl
-no_item names j GG still = refl
-no_item names j Jam still = refl
 
 module _ (net : Net) (wired : IsWired net) (names : Names) (family : Family) (side row : ℕ) where
   -- Only where a row takes in with flow something follows.

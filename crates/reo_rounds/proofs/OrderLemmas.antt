@@ -1,17 +1,17 @@
 -- The joints of a circuit stay in order through a round.
-use Rattle.std.proofs.Common.{◌≡◌, ◌∙◌, ℕ, zero, suc, cond, true, false, List, [], ◌∷◌, ap, sym, refl, subst, length, map, arith}
+use Rattle.std.proofs.Common.{◌≡◌, ℕ, zero, suc, cond, true, false, List, [], ◌∷◌, ap, sym, refl, subst, length, map, arith}
 use Rattle.std.specs.Prelude.{Option, Some, None, nat_lt, is_some}
 use Rattle.std.proofs.lemmas.List.{length-map}
 use Rattle.reo_values.specs.declared.value.Value.{Value}
 use Rattle.reo_net_base.specs.declared.colouring.Chosen.{Chosen}
 use Rattle.reo_net_base.specs.declared.joint.Joint.{Joint}
 use Rattle.reo_net_base.specs.declared.port.Offer.{Offer}
-use Rattle.reo_net_base.specs.Behaviour.{Behaviour}
 use Rattle.reo_net_base.specs.Lawful.{IsLawful, SameShape}
 use Rattle.reo_net_base.specs.Net.{Wiring, net_of, behaviour_at}
 use Rattle.reo_net_base.specs.Step.{stepped, all_chosen, all_taken}
 use Rattle.reo_net_base.specs.Wired.{IsWired}
 use Rattle.reo_net_base.specs.Shapes.{SameShapes}
+use Rattle.reo_net_laws.proofs.Shapes.{shape_twice}
 use Rattle.reo_net_circuit.proofs.ReshapeLemmas.{same_shape, reshaped, lawful_at, wired_same, order_same}
 use Rattle.reo_trace.specs.declared.line.RoundLine.{RoundLine}
 use Rattle.reo_rounds.specs.Rules.{Rules}
@@ -27,15 +27,6 @@ pub record KeepsShape {P : Type 0} (r : Rules P) : Type 0 where
   pub placed : (p : P) (offer : Offer) → SameShape (r.behaviour p) (r.behaviour (r.placed p offer))
   pub withdrawn : (p : P) → SameShape (r.behaviour p) (r.behaviour (r.withdrawn p))
 
-shape_then : (a b d : Behaviour) → SameShape a b → SameShape b d → SameShape a d
-shape_then a b d p q = record {
-  ends = q.ends ∙ p.ends;
-  sides = q.sides ∙ p.sides;
-  side_of = λ e. q.side_of e ∙ p.side_of e;
-  takes_in = λ e. q.takes_in e ∙ p.takes_in e;
-  leads = λ s. q.leads s ∙ p.leads s;
-}
-
 module _ {P : Type 0} (r : Rules P) (offers : ℕ → Option Offer) where
   ready_length : (ps : List P) (limit n : ℕ) → length (ports_ready r offers limit n ps) ≡ length ps
   ready_length [] limit n = refl
@@ -50,7 +41,7 @@ module _ {P : Type 0} (r : Rules P) (k : KeepsShape r) where
   pending_shape : (o : Option Offer) (p : P) → SameShape (r.behaviour p) (r.behaviour (with_pending r o p))
   pending_shape None p = cleared_shape p
   pending_shape (Some offer) p =
-      shape_then (r.behaviour p) (r.behaviour (cleared r p)) (r.behaviour (with_pending r (Some offer) p)) (cleared_shape p) (k.placed (cleared r p) offer)
+      shape_twice (r.behaviour p) (r.behaviour (cleared r p)) (r.behaviour (with_pending r (Some offer) p)) (cleared_shape p) (k.placed (cleared r p) offer)
 
   -- What holds of a circuit stays where its primitives keep their shapes.
   kept_wired : (ps qs : List P) (joints : List Joint) → SameShapes (map r.behaviour ps) (map r.behaviour qs) → IsWired (record { primitives = map r.behaviour ps; joints = joints })

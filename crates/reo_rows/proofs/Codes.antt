@@ -1,5 +1,5 @@
 -- Values by their places among the flags of their joint.
-use Rattle.std.proofs.Common.{◌≡◌, ◌≢◌, ◌⊎◌, inl, inr, ℕ, zero, suc, ◌+◌, ◌-◌, ◌<◌, ◌≤◌, Bool, true, false, List, [], length, get_or, Some, refl, ap, sym, ◌∙◌, arith}
+use Rattle.std.proofs.Common.{◌≡◌, ◌≢◌, inl, inr, ℕ, zero, suc, ◌+◌, ◌-◌, ◌<◌, ◌≤◌, Bool, true, false, List, [], length, get_or, Some, refl, ap, sym, ◌∙◌, arith}
 use Rattle.std.specs.Prelude.{slice_get}
 use Rattle.std.proofs.lemmas.Option.{slice_get_read}
 use Rattle.std.proofs.lemmas.Bool.{cases_lt}
@@ -53,18 +53,6 @@ flag_in table i p h = elim (cases_lt p (length (get_or table i []))) [
   | inl lt ↦ lt
   | inr past ↦ let none : true ≡ false = sym h ∙ get_or_past (get_or table i []) p false past in absurd cc
 ]
-
--- A value whose mark is flow has a number.
-pub flow_number : (v : JointValue) → (giver_mark v ≡ F) ⊎ (taker_mark v ≡ F) → (n : ℕ) × (v ≡ Flow n)
-flow_number (Flow n) e = (n, refl)
-flow_number RG (inl e) = absurd cc
-flow_number RG (inr e) = absurd cc
-flow_number GR (inl e) = absurd cc
-flow_number GR (inr e) = absurd cc
-flow_number GG (inl e) = absurd cc
-flow_number GG (inr e) = absurd cc
-flow_number Jam (inl e) = absurd cc
-flow_number Jam (inr e) = absurd cc
 
 -- The item of a number.
 pub item_at : (items : List (List Value)) (j n : ℕ) (list : List Value) (item : Value) → j < length items → list ≡ get_or items j list → n < length list → item ≡ get_or list n item

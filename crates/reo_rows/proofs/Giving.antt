@@ -9,10 +9,11 @@ use Rattle.reo_joint_values.specs.declared.value.JointValue.TheVariants.{Flow}
 use Rattle.reo_joint_values.specs.Values.{Names, joint_of}
 use Rattle.reo_joint_values.specs.Fitting.{given_for}
 use Rattle.reo_joint_values.specs.Works.{IsGivenAs, IsGivenIn, TakerWorks}
+use Rattle.reo_joint_values.proofs.Marks.{flow_number}
 use Rattle.reo_side_tables.specs.Marks.{TakesFlow, GivesFlow}
 use Rattle.reo_rows.specs.Flags.{flag}
 use Rattle.reo_rows.specs.Sets.{value_of, code_of, family_of}
-use Rattle.reo_rows.proofs.Codes.{flow_code, flow_number, value_code}
+use Rattle.reo_rows.proofs.Codes.{flow_code, value_code}
 
 -- The item of a place is given where the value of the place is.
 pub given_code : (net : Net) (names : Names) (row k : ℕ) (taken : Option Value) (code : ℕ) (item : Value) → mark_in net row (joint_of net k).giver ≡ F → 4 ≤ code → names k (code - 4) ≡ Some item

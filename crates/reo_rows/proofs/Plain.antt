@@ -1,5 +1,5 @@
 -- Marks without flow say all that there is to say of a value.
-use Rattle.std.proofs.Common.{◌≡◌, ◌≢◌, inl, inr, ℕ, ◌<◌, true, length, Option, Some, None, refl, ap, sym, ◌∙◌, subst}
+use Rattle.std.proofs.Common.{◌≡◌, ◌≢◌, inl, inr, ℕ, ◌<◌, true, length, Option, Some, None, ap, sym, ◌∙◌, subst}
 use Rattle.std.specs.Bool.{◌==◌}
 use Rattle.std.proofs.lemmas.Bool.{cond-true, cond-false}
 use Rattle.reo_values.specs.declared.value.Value.{Value}
@@ -9,11 +9,11 @@ use Rattle.reo_net_base.specs.Net.{Net}
 use Rattle.reo_net_base.specs.Wired.{IsWired}
 use Rattle.reo_net_laws.specs.Ends.{mark_in, IsRowOf}
 use Rattle.reo_joint_values.specs.declared.value.JointValue.{JointValue}
-use Rattle.reo_joint_values.specs.declared.value.JointValue.TheVariants.{Flow, RG, GR, GG, Jam}
-use Rattle.reo_joint_values.specs.Values.{giver_mark, taker_mark, Names, Family, item_named, no_joint, joint_of, giver_side, taker_side}
+use Rattle.reo_joint_values.specs.Values.{giver_mark, taker_mark, Names, Family, no_joint, joint_of, giver_side, taker_side}
 use Rattle.reo_joint_values.specs.Works.{Follows, IsGivenAs, TakerWorks, GiverUses, ValueWorks}
 use Rattle.reo_joint_values.proofs.Fitting.{decided, follows_dependent}
 use Rattle.reo_joint_values.proofs.Fitting.Decided.{by_none, by_joint}
+use Rattle.reo_joint_values.proofs.Marks.{no_item}
 use Rattle.reo_side_tables.specs.Marks.{end_at, mark_at_joint, IsJointOf}
 use Rattle.reo_rows.specs.Stands.{value_mark}
 
@@ -51,13 +51,6 @@ none_follows net wired side row j k in_table j_in k_in at still f = elim (decide
   | by_none never ↦ never (follows_dependent net row k j f)
   | by_joint i i_in i_at follows flows only ↦ still (subst (λ (m : ℕ). mark_in net row (joint_of net m).taker ≡ F) (sym (only j j_in f)) flows)
 ]
-
-no_item : (names : Names) (j : ℕ) (v : JointValue) → taker_mark v ≢ F → item_named names j v ≡ None
-no_item names j (Flow n) still = absurd (still refl)
-no_item names j RG still = refl
-no_item names j GR still = refl
-no_item names j GG still = refl
-no_item names j Jam still = refl
 
 module _ (net : Net) (wired : IsWired net) (names : Names) (family : Family) (side row j : ℕ) (in_table : IsRowOf net side row) (j_in : j < length net.joints) (v : JointValue) (has : family j v ≡ true) where
   -- A value without flow is taken in by its mark alone.

@@ -7,6 +7,7 @@ use Rattle.reo_values.proofs.Naturals.{eq_same, same_eq}
 use Rattle.reo_net_base.specs.declared.mark.Mark.TheVariants.{F}
 use Rattle.reo_net_base.specs.Net.{Net}
 use Rattle.reo_net_base.specs.Wired.{IsWired}
+use Rattle.reo_net_base.proofs.Marks.{flow_cases}
 use Rattle.reo_net_laws.specs.Ends.{mark_in, IsRowOf}
 use Rattle.reo_joint_values.specs.declared.value.JointValue.{JointValue}
 use Rattle.reo_joint_values.specs.declared.value.JointValue.TheVariants.{Flow}
@@ -14,6 +15,7 @@ use Rattle.reo_joint_values.specs.Values.{giver_mark, taker_mark, Names, Family,
 use Rattle.reo_joint_values.specs.Supported.{IsUsed, IsSettledAt}
 use Rattle.reo_joint_values.specs.Works.{IsGivenIn, TakerWorks, RowWorks, ValueWorks}
 use Rattle.reo_joint_values.proofs.Works.{works_more, used_row, used_value, value_used}
+use Rattle.reo_joint_values.proofs.Marks.{flow_number}
 use Rattle.reo_side_tables.specs.Marks.{groups_in, group_in, apart_in, common_in, end_at, mark_at_joint, IsJointOf}
 use Rattle.reo_side_tables.proofs.Sides.{mark_as_group, group_below}
 use Rattle.reo_rows.specs.declared.groups.Group.{Group}
@@ -23,10 +25,9 @@ use Rattle.reo_rows.specs.Stands.{value_mark, HasMark, MarksStand, FlowsStand}
 use Rattle.reo_rows.specs.Groups.{live_in, IsNotedOf, AreNoted}
 use Rattle.reo_rows.specs.Rows.{IsSifted, IsSpare, IsSpared}
 use Rattle.reo_rows.specs.Beginning.{nothing_noted}
-use Rattle.reo_rows.proofs.Codes.{flow_number}
 use Rattle.reo_rows.proofs.Optional.{is_some_or_not, some_same}
 use Rattle.reo_rows.proofs.Plain.{none_follows, goes_plain, goes_mark}
-use Rattle.reo_rows.proofs.Working.{flow_cases, works_stands}
+use Rattle.reo_rows.proofs.Working.{works_stands}
 use Rattle.reo_rows.proofs.Apart.{same_joint}
 
 -- Where the values with flow are the same, so is what a row takes in and gives.

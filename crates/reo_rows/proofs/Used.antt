@@ -14,6 +14,7 @@ use Rattle.reo_joint_values.specs.Values.{giver_mark, taker_mark, Names, Family,
 use Rattle.reo_joint_values.specs.Works.{Follows, IsGivenAs, TakerWorks}
 use Rattle.reo_joint_values.proofs.Fitting.{decided, follows_dependent}
 use Rattle.reo_joint_values.proofs.Fitting.Decided.{by_none, by_joint}
+use Rattle.reo_joint_values.proofs.Marks.{flow_number}
 use Rattle.reo_side_tables.specs.declared.board.Flow.{Flow as Flows}
 use Rattle.reo_side_tables.specs.Boards.{IsFlow}
 use Rattle.reo_side_tables.specs.Marks.{IsJointOf, TakesFlow, GivesFlow}
@@ -23,7 +24,7 @@ use Rattle.reo_rows.specs.declared.groups.Group.{Group}
 use Rattle.reo_rows.specs.declared.rows.Rows.{Rows}
 use Rattle.reo_rows.specs.Rows.{AreTables, IsSeen}
 use Rattle.reo_rows.specs.Sets.{value_of, code_of, family_of}
-use Rattle.reo_rows.proofs.Codes.{flow_code, flow_number, value_code, flag_value, flag_in}
+use Rattle.reo_rows.proofs.Codes.{flow_code, value_code, flag_value, flag_in}
 use Rattle.reo_rows.proofs.Union.{seen_both, seen_same}
 
 -- A value is put in the table.

@@ -1,10 +1,9 @@
 -- A row works exactly where its marks and its flows stand.
-use Rattle.std.proofs.Common.{◌≡◌, ◌≢◌, ◌⊎◌, inl, inr, ◌↔◌, ℕ, ◌<◌, true, length, Option, Some, None, refl, ap, sym, ◌∙◌, subst}
+use Rattle.std.proofs.Common.{◌≡◌, inl, inr, ◌↔◌, ℕ, ◌<◌, true, length, Option, Some, None, refl, ap, sym, ◌∙◌, subst}
 use Rattle.std.specs.Option.{is_some, IsSome}
-use Rattle.reo_net_base.specs.declared.mark.Mark.{Mark}
-use Rattle.reo_net_base.specs.declared.mark.Mark.TheVariants.{F, G, R, J}
 use Rattle.reo_net_base.specs.Net.{Net}
 use Rattle.reo_net_base.specs.Wired.{IsWired}
+use Rattle.reo_net_base.proofs.Marks.{flow_cases}
 use Rattle.reo_net_laws.specs.Ends.{mark_in, from_in, IsRowOf}
 use Rattle.reo_joint_values.specs.declared.value.JointValue.{JointValue}
 use Rattle.reo_joint_values.specs.Values.{giver_mark, taker_mark, Names, Family, joint_of, giver_side, taker_side}
@@ -14,13 +13,6 @@ use Rattle.reo_joint_values.proofs.Fitting.Decided.{by_none, by_joint}
 use Rattle.reo_side_tables.specs.Marks.{mark_at_joint}
 use Rattle.reo_rows.specs.Stands.{HasMark, MarksStand, FlowsStand}
 use Rattle.reo_rows.proofs.Plain.{giver_seen, giver_says, taker_seen, taker_says, taken_plain}
-
--- A mark is flow or not.
-pub flow_cases : (m : Mark) → (m ≡ F) ⊎ (m ≢ F)
-flow_cases F = inl refl
-flow_cases G = inr (λ e. cc)
-flow_cases R = inr (λ e. cc)
-flow_cases J = inr (λ e. cc)
 
 module _ (net : Net) (wired : IsWired net) (names : Names) (family : Family) (side row : ℕ) where
   module _ (works : RowWorks net names family side row) where

@@ -1,12 +1,17 @@
 -- Breaks found one after another.
-use Rattle.std.proofs.Common.{arith, map, ◌≡◌, ◌∙◌, ℕ, ◌+◌, ◌<◌, ◌≤◌, length, get_or, zero, suc, List, [], ◌∷◌, ◌++◌, take, Some, Result, Ok, Err, IsErr, IsErrAnd, refl, sym, ap, subst, inl, inr}
+use Rattle.std.proofs.Common.{arith, map, ◌≡◌, ◌∙◌, ℕ, ◌+◌, ◌<◌, ◌≤◌, length, get_or, zero, suc, List, [], ◌∷◌, ◌++◌, take, Bool, true, false, Some, Result, Ok, Err, IsErr, IsErrAnd, refl, sym, ap, subst, inl, inr}
 use Rattle.std.proofs.lemmas.List.{append-nil, append_assoc, take_more, take_all, map-append}
 use Rattle.std.specs.List.{flat_map}
 use Rattle.reo_rules.specs.declared.fault.FlatFault.{FlatFault}
-use Rattle.reo_rules.specs.Lists.{each_after, first_of}
+use Rattle.reo_rules.specs.Lists.{each_after, first_of, where_true}
 use Rattle.reo_rules.specs.Judged.{IsFirst, IsJudged}
 pub use Rattle.std.proofs.lemmas.Grind.{flat_map-append}
 use Rattle.reo_values.proofs.Sequences.{both_none, left_none}
+
+-- A test that broke nothing failed.
+pub where_false : {X : Type 0} (b : Bool) (x : X) → where_true b x ≡ [] → b ≡ false
+where_false true x none = absurd (cc)
+where_false false x none = refl
 
 pub right_none : {X : Type 0} (xs ys : List X) → xs ++ ys ≡ [] → ys ≡ []
 right_none [] ys none = none

@@ -1,9 +1,10 @@
 -- Names that stand once.
-use Rattle.std.proofs.Common.{arith, ◌≡◌, ◌∙◌, ℕ, zero, suc, ◌<◌, ◌||◌, List, [], ◌∷◌, length, take, get_or, false, bytes_eq, refl, sym}
+use Rattle.std.proofs.Common.{arith, ◌≡◌, ◌∙◌, ℕ, zero, suc, ◌<◌, ◌||◌, List, [], ◌∷◌, length, take, get_or, false, bytes_eq, refl, sym, ◌++◌, ap, cond}
 use Rattle.std.proofs.lemmas.List.{length-take-le, get_or_default}
 use Rattle.std.proofs.lemmas.Slice.Eq.{bytes_eq-Decides}
 use Rattle.reo_values.specs.Valid.{AreDistinct}
 use Rattle.reo_rules.specs.Lists.{has_name}
+use Rattle.reo_rules.specs.Names.{with_name}
 use Rattle.std.proofs.lemmas.Bool.{false_from_ne_true as no_test}
 
 -- A name that stands at no place of a list is none of it.
@@ -27,3 +28,7 @@ new_name names i name distinct within is =
     let before : k < i = omega arith in
     let twice = distinct k i (omega arith) within (sym (in_front names i k [] before) ∙ sym same ∙ is ∙ get_or_default names i name [] within) in
     absurd (omega arith))
+
+-- A new name comes at the end.
+pub noted_new : (names : List (List ℕ)) (name : List ℕ) → has_name names name ≡ false → with_name names name ≡ names ++ name ∷ []
+noted_new names name new = ap (λ b. cond b names (names ++ name ∷ [])) new

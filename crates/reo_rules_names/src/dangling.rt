@@ -63,7 +63,7 @@ fn note_item(
 }
 
 /// The ends of all items.
-fn ends_of(alloc: Global, connectors: &Connectors, items: &[Item]) -> Result<Ends, NoMemory>
+fn item_ends(alloc: Global, connectors: &Connectors, items: &[Item]) -> Result<Ends, NoMemory>
     ensures { IfOk result (λ ends. (known : List AConnector) → AreConnectors known connectors.now
         → AreEnds (flat_map (λ (i : AnItem). touches_in known i.form) items.now) ends) }
 {
@@ -152,7 +152,7 @@ fn connector_dangling(
     ensures { (known : List AConnector) → AreConnectors known connectors.now
         → IsJudged (lacking_ends (touches_of known connector.now) connector.now) result }
 {
-    let ends = ends_of(alloc, connectors, connector.items.as_slice())?;
+    let ends = item_ends(alloc, connectors, connector.items.as_slice())?;
     ends_dangling(alloc, &ends, connector)
 }
 

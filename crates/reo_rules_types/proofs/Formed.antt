@@ -2,7 +2,6 @@
 use Rattle.std.proofs.Common.{◌≡◌, ◌∙◌, ℕ, List, true, false, Option, None, Some, refl, sym, ap, bytes_eq}
 use Rattle.std.specs.Prelude.{option_map, option_and_then, is_some}
 use Rattle.std.specs.List.{position_from}
-use denote.Hole.Carrier.{hidden}
 use Rattle.reo_values.specs.declared.kindred.Kindred as kindred
 use Rattle.reo_values.specs.declared.kindred.Kindred.{Kindred}
 use Rattle.reo_values.specs.declared.kindred.Kindred.TheVariants as kinds
@@ -14,31 +13,17 @@ use Rattle.reo_exprs.specs.Typing.{kind_of_expr, unary_kind, binary_kind, if_kin
 use Rattle.reo_exprs.proofs.Trees.{kind-One, kind-Two, kind-If}
 use Rattle.reo_trees.specs.declared.terms.TermForm.{TermForm}
 use Rattle.reo_trees.specs.declared.terms.TermForm.TheVariants as forms
-use Rattle.reo_trees.specs.declared.terms.TermForm.TheBlock.{hidden-the_row-Term-0, hidden-the_row-TermPair-1, hidden-the_row-TermTriple-2}
 use Rattle.reo_trees.specs.declared.terms.Term.{Term}
 use Rattle.reo_trees.specs.declared.terms.TermPair.{TermPair}
 use Rattle.reo_trees.specs.declared.terms.TermTriple.{TermTriple}
 use Rattle.reo_rules.specs.Types.{Typed, type_named}
 use Rattle.reo_rules.specs.Terms.{symbol_in, expr_of}
+use Rattle.reo_rules.proofs.Forms.{expr_of-One, expr_of-Two, expr_of-If}
 use Rattle.reo_rules_types.specs.Cells.{is_symbol}
 use Rattle.reo_rules_types.specs.Kinded.{kind_of_form, kind_of_symbol}
 use Rattle.reo_exprs.specs.declared.expr.ExprPair.{ExprPair}
 use Rattle.reo_rules_types.specs.Resolved.{pair_of}
 use Rattle.reo_rules_types.proofs.Places.{from_some}
-
--- What definitions by cases say of the parts of a written expression.
-pub expr-One : (known : List Typed) (op : Unary) (x : Term) → expr_of known (forms.One op x) ≡ option_map (λ a. exprs.One op a) (expr_of known x.form)
-unfolding hidden-the_row-Term-0 hidden
-expr-One known op x = refl
-
-pub expr-Two : (known : List Typed) (op : Binary) (p : TermPair) → expr_of known (forms.Two op p) ≡ option_and_then (λ a. option_map (λ b. exprs.Two op (record { left = a; right = b })) (expr_of known p.right.form)) (expr_of known p.left.form)
-unfolding hidden-the_row-TermPair-1 hidden
-expr-Two known op p = refl
-
-pub expr-If : (known : List Typed) (p : TermTriple) → expr_of known (forms.If p)
-    ≡ option_and_then (λ a. option_and_then (λ b. option_map (λ d. exprs.If (record { condition = a; yes = b; no = d })) (expr_of known p.no.form)) (expr_of known p.yes.form)) (expr_of known p.condition.form)
-unfolding hidden-the_row-TermTriple-2 hidden
-expr-If known p = refl
 
 module _ (of : Kindred) where
   abbrev kinded : Option Expr → Option Kindred
@@ -74,13 +59,13 @@ module _ (of : Kindred) where
     kf f = kind_of_form known f of
 
     pub form-One : (op : Unary) (x : Term) → kf (forms.One op x) ≡ option_and_then (λ a. unary_kind op a) (kf x.form)
-    form-One op x = ap kinded (expr-One known op x) ∙ one op (expr_of known x.form)
+    form-One op x = ap kinded (expr_of-One known op x) ∙ one op (expr_of known x.form)
 
     pub form-Two : (op : Binary) (p : TermPair) → kf (forms.Two op p) ≡ option_and_then (λ a. option_and_then (λ b. binary_kind op a b) (kf p.right.form)) (kf p.left.form)
-    form-Two op p = ap kinded (expr-Two known op p) ∙ two op (expr_of known p.left.form) (expr_of known p.right.form)
+    form-Two op p = ap kinded (expr_of-Two known op p) ∙ two op (expr_of known p.left.form) (expr_of known p.right.form)
 
     pub form-If : (p : TermTriple) → kf (forms.If p) ≡ option_and_then (λ a. option_and_then (λ b. option_and_then (λ d. if_kind a b d) (kf p.no.form)) (kf p.yes.form)) (kf p.condition.form)
-    form-If p = ap kinded (expr-If known p) ∙ three (expr_of known p.condition.form) (expr_of known p.yes.form) (expr_of known p.no.form)
+    form-If p = ap kinded (expr_of-If known p) ∙ three (expr_of known p.condition.form) (expr_of known p.yes.form) (expr_of known p.no.form)
 
     -- The kind of an operator on kinds that are there, and none where a part has none.
     pub one_some : (f : TermForm) (op : Unary) (x : Term) (a : Kindred) → f ≡ forms.One op x → kf x.form ≡ Some a → unary_kind op a ≡ kf f
@@ -161,20 +146,20 @@ if_paired (Some a) (Some b) (Some d) = refl
 
 module _ (known : List Typed) where
   pub one_expr_some : (f : TermForm) (op : Unary) (x : Term) (a : Expr) → f ≡ forms.One op x → Some a ≡ expr_of known x.form → Some (exprs.One op a) ≡ expr_of known f
-  one_expr_some f op x a is p = ap (option_map (λ e. exprs.One op e)) p ∙ sym (expr-One known op x) ∙ sym (ap (expr_of known) is)
+  one_expr_some f op x a is p = ap (option_map (λ e. exprs.One op e)) p ∙ sym (expr_of-One known op x) ∙ sym (ap (expr_of known) is)
 
   pub one_expr_none : (f : TermForm) (op : Unary) (x : Term) → f ≡ forms.One op x → None ≡ expr_of known x.form → None ≡ expr_of known f
-  one_expr_none f op x is p = ap (option_map (λ e. exprs.One op e)) p ∙ sym (expr-One known op x) ∙ sym (ap (expr_of known) is)
+  one_expr_none f op x is p = ap (option_map (λ e. exprs.One op e)) p ∙ sym (expr_of-One known op x) ∙ sym (ap (expr_of known) is)
 
   pub two_expr_some : (f : TermForm) (op : Binary) (p : TermPair) (q : ExprPair) → f ≡ forms.Two op p → Some q ≡ pair_of (expr_of known p.left.form) (expr_of known p.right.form) → Some (exprs.Two op q) ≡ expr_of known f
-  two_expr_some f op p q is e = ap (option_map (λ (r : ExprPair). exprs.Two op r)) e ∙ sym (two_paired op (expr_of known p.left.form) (expr_of known p.right.form)) ∙ sym (expr-Two known op p) ∙ sym (ap (expr_of known) is)
+  two_expr_some f op p q is e = ap (option_map (λ (r : ExprPair). exprs.Two op r)) e ∙ sym (two_paired op (expr_of known p.left.form) (expr_of known p.right.form)) ∙ sym (expr_of-Two known op p) ∙ sym (ap (expr_of known) is)
 
   pub two_expr_none : (f : TermForm) (op : Binary) (p : TermPair) → f ≡ forms.Two op p → None ≡ pair_of (expr_of known p.left.form) (expr_of known p.right.form) → None ≡ expr_of known f
-  two_expr_none f op p is e = ap (option_map (λ (r : ExprPair). exprs.Two op r)) e ∙ sym (two_paired op (expr_of known p.left.form) (expr_of known p.right.form)) ∙ sym (expr-Two known op p) ∙ sym (ap (expr_of known) is)
+  two_expr_none f op p is e = ap (option_map (λ (r : ExprPair). exprs.Two op r)) e ∙ sym (two_paired op (expr_of known p.left.form) (expr_of known p.right.form)) ∙ sym (expr_of-Two known op p) ∙ sym (ap (expr_of known) is)
 
   if_whole : (f : TermForm) (p : TermTriple) → f ≡ forms.If p
       → option_and_then (λ a. option_map (λ (q : ExprPair). exprs.If (record { condition = a; yes = q.left; no = q.right })) (pair_of (expr_of known p.yes.form) (expr_of known p.no.form))) (expr_of known p.condition.form) ≡ expr_of known f
-  if_whole f p is = sym (if_paired (expr_of known p.condition.form) (expr_of known p.yes.form) (expr_of known p.no.form)) ∙ sym (expr-If known p) ∙ sym (ap (expr_of known) is)
+  if_whole f p is = sym (if_paired (expr_of known p.condition.form) (expr_of known p.yes.form) (expr_of known p.no.form)) ∙ sym (expr_of-If known p) ∙ sym (ap (expr_of known) is)
 
   pub if_expr_some : (f : TermForm) (p : TermTriple) (c : Expr) (q : ExprPair) → f ≡ forms.If p → Some c ≡ expr_of known p.condition.form → Some q ≡ pair_of (expr_of known p.yes.form) (expr_of known p.no.form)
       → Some (exprs.If (record { condition = c; yes = q.left; no = q.right })) ≡ expr_of known f

@@ -1,20 +1,18 @@
 -- Names that are new where they stand.
-use Rattle.std.proofs.Common.{arith, ◌≡◌, ◌∙◌, ℕ, ◌<◌, zero, suc, Bool, true, false, List, [], ◌∷◌, ◌++◌, length, take, map, get_or, refl, sym, ap}
-use Rattle.std.specs.List.{flat_map}
+use Rattle.std.proofs.Common.{arith, ◌≡◌, ◌∙◌, ℕ, ◌<◌, zero, suc, false, List, [], ◌∷◌, ◌++◌, length, take, get_or, sym, ap}
 use Rattle.std.specs.Map.{keys_of}
 use Rattle.std.proofs.lemmas.List.{append-nil, append_assoc, map-append}
 use Rattle.reo_values.specs.declared.kindred.Kindred.{Kindred}
 use Rattle.reo_values.proofs.Sequences.{left_none}
 use Rattle.reo_trees.specs.declared.types.TypeTerm.{TypeTerm}
 use Rattle.reo_trees.specs.declared.items.Item.{Item}
-use Rattle.reo_trees.specs.declared.items.Form.{Form}
 use Rattle.reo_trees.specs.declared.items.Form.TheVariants as forms
 use Rattle.reo_trees.specs.declared.programs.Parameter.{Parameter}
-use Rattle.reo_rules.specs.Lists.{each_after, where_true, has_name}
+use Rattle.reo_rules.specs.Lists.{each_after, has_name}
 use Rattle.reo_rules.specs.Types.{Typed, names_of}
-use Rattle.reo_rules.specs.Scopes.{parameter_names, parameter_type, node_names, node_names_in, node_types_in}
+use Rattle.reo_rules.specs.Scopes.{parameter_names, node_names}
 use Rattle.reo_rules.specs.Twice.{twice_in_parameter, twice_in_item, twice_in_type}
-use Rattle.reo_rules.proofs.AfterLemmas.{right_none}
+use Rattle.reo_rules.proofs.AfterLemmas.{right_none, where_false}
 use Rattle.reo_rules_types.specs.Scoped.{typed}
 use Rattle.reo_rules_types.proofs.Scoped.{names_typed}
 
@@ -26,11 +24,6 @@ module _ {X Y : Type 0} (f : List X → X → List Y) where
   after_at b (y ∷ ys) (suc i) x below is none =
       ap (λ c. f c x) (sym (append_assoc b (y ∷ []) (take i ys))) ∙ after_at (b ++ y ∷ []) ys i x (omega arith) is (right_none (f b y) (each_after f (b ++ y ∷ []) ys) none)
 
--- A test that broke nothing failed.
-pub where_false : {X : Type 0} (t : Bool) (x : X) → where_true t x ≡ [] → t ≡ false
-where_false true x none = absurd (cc)
-where_false false x none = refl
-
 -- A parameter's name is new.
 pub new_parameter : (ps : List Parameter) (i : ℕ) (p : Parameter) → i < length ps → p ≡ get_or ps i p → each_after twice_in_parameter [] ps ≡ [] → has_name (parameter_names (take i ps)) p.name ≡ false
 new_parameter ps i p below is none = where_false _ _ (left_none _ (twice_in_type p.term) (after_at twice_in_parameter [] ps i p below is none))
@@ -40,22 +33,6 @@ pub new_node : (ps : List Parameter) (items : List Item) (i : ℕ) (x : Item) (n
     → each_after (λ before (j : Item). twice_in_item ps before j.line j.form) [] items ≡ [] → has_name (parameter_names ps ++ node_names (take i items)) name ≡ false
 new_node ps items i x name term below is form none =
     where_false _ _ (left_none _ (twice_in_type term) (ap (twice_in_item ps (take i items) x.line) (sym form) ∙ after_at (λ before (j : Item). twice_in_item ps before j.line j.form) [] items i x below is none))
-
--- The names of typed parameters and nodes.
-pub names_parameters : (known : List Typed) (ps : List Parameter) → names_of (map (parameter_type known) ps) ≡ parameter_names ps
-names_parameters known [] = refl
-names_parameters known (p ∷ ps) = ap (λ ns. p.name ∷ ns) (names_parameters known ps)
-
-names_in : (known : List Typed) (f : Form) → names_of (node_types_in known f) ≡ node_names_in f
-names_in known (forms.Node name term) = refl
-names_in known (forms.Joined channel first second) = refl
-names_in known (forms.Used name arguments) = refl
-
-pub names_nodes : (known : List Typed) (items : List Item) → names_of (flat_map (λ (i : Item). node_types_in known i.form) items) ≡ node_names items
-names_nodes known [] = refl
-names_nodes known (i ∷ is) =
-    map-append (λ (e : Typed). e.name) (node_types_in known i.form) (flat_map (λ (j : Item). node_types_in known j.form) is)
-    ∙ (λ k. names_in known i.form k ++ names_nodes known is k)
 
 -- The names of a scope, by its types.
 pub keys_are : (types : List Kindred) (es : List (List ℕ × ℕ)) (known : List Typed) → typed types es ≡ known → keys_of es ≡ names_of known

@@ -17,12 +17,13 @@ use Rattle.reo_trees.specs.declared.terms.TermForm.{TermForm}
 use Rattle.reo_rules.specs.Types.{Typed, is_same}
 use Rattle.reo_rules.specs.Terms.{expr_of}
 use Rattle.reo_rules.specs.Mistyped.{is_kind as is_that_kind, has_kind}
+use Rattle.reo_rules.proofs.Same.{same_types}
 use Rattle.reo_rules_types.specs.Cells.{type_at, Keeps}
 use Rattle.reo_rules_types.specs.Kinded.{fits_test, kind_of_form, IsMade}
 use Rattle.reo_rules_types.specs.Scoped.{typed, AreKnown}
 use Rattle.reo_rules_types.proofs.Scoped.{typed_kept}
 use Rattle.reo_rules_types.proofs.Kept.{at_told, at_within, kept_at, kept_below, keeps_both}
-use Rattle.reo_rules_types.proofs.Same.{same_told, same_self}
+use Rattle.reo_rules_types.proofs.Same.{same_self}
 
 -- Kinds join where they are the same.
 pub join_kinds : (x y : Kindred) → kind_of x ≡ x → kind_of y ≡ y → joins x y ≡ is_same x y
@@ -30,7 +31,7 @@ join_kinds x y f g =
     let told = join_by_kind x y in
     one_truth (joins x y) (is_same x y)
     (λ e. ap (λ k. is_same k y) (sym f ∙ told.0 e ∙ g) ∙ same_self y)
-    (λ e. told.1 (ap kind_of (same_told x y e)))
+    (λ e. told.1 (ap kind_of (same_types x y e)))
 
 -- A choice of two kinds.
 pub chosen : (c x y : Kindred) → kind_of x ≡ x → kind_of y ≡ y → is_bool c ≡ true → is_same x y ≡ true → if_kind c x y ≡ Some x

@@ -1,24 +1,15 @@
 -- Types and expressions out of bounds.
-use Rattle.std.proofs.Common.{arith, ◌≡◌, ◌∙◌, ℕ, ◌+◌, ◌-◌, ◌≤ℤ◌, max, Bool, true, false, not, ◌||◌, Option, None, Some, List, [], ◌++◌, nat_lt, refl, sym, ap, inr, bytes_eq, map, position}
+use Rattle.std.proofs.Common.{arith, ◌≡◌, ◌∙◌, ℕ, ◌+◌, ◌-◌, max, Bool, true, false, not, ◌||◌, Some, List, [], ◌++◌, nat_lt, refl, sym, ap, inr, bytes_eq, map, position, Option, None}
 use Rattle.std.specs.Prelude.{IsTrue, ◌↔◌}
-use Rattle.std.specs.Bool.{Decides}
 use Rattle.std.specs.List.{flat_map, position_from}
-use Rattle.std.specs.Cmp.Lexicographic.{pointwise}
-use Rattle.std.specs.Int.Signed.{le_z}
 use Rattle.std.proofs.lemmas.Bool.Decides.{nat_tests}
 use Rattle.std.proofs.lemmas.Iterator.Adapters.{position_from-zero}
 use denote.Hole.Carrier.{hidden}
-use Rattle.reo_values.specs.declared.kindred.Kindred as kindred
 use Rattle.reo_values.specs.declared.kindred.Kindred.{Kindred}
 use Rattle.reo_values.specs.declared.kindred.Kindred.TheVariants as kinds
 use Rattle.reo_values.specs.declared.kindred.Kindred.TheBlock.{hidden-the_row-Twins-0}
 use Rattle.reo_values.specs.declared.kindred.Twins.{Twins}
-use Rattle.reo_exprs.specs.declared.expr.Expr.{Expr}
 use Rattle.reo_exprs.specs.Kinds.{LiesInside}
-use Rattle.reo_exprs.specs.Typing.{kind_of_expr, type_of_expr}
-use Rattle.reo_exprs.proofs.JoinCases.{names_same}
-use Rattle.reo_exprs.proofs.Joined.{names_match}
-use Rattle.reo_exprs.proofs.KindOfType.{kind_of_typed}
 use Rattle.reo_trees.specs.declared.types.Shape as shape
 use Rattle.reo_trees.specs.declared.types.Shape.{Shape}
 use Rattle.reo_trees.specs.declared.types.Shape.TheVariants as shapes
@@ -31,15 +22,17 @@ use Rattle.reo_rules.specs.Lists.{where_true, first_of}
 use Rattle.reo_rules.specs.Types.{Typed, resolved, parts_of, depth_of}
 use Rattle.reo_rules.specs.Ranges.{is_out, is_inside, range_in_type}
 use Rattle.reo_rules.specs.Judged.{IsFirst}
-use Rattle.reo_rules.proofs.Parts.{over_parts-Pair}
+use Rattle.reo_rules.proofs.Parts.{over_parts-Pair, resolved-Pair}
 use Rattle.reo_rules.proofs.Mapped.{position-map}
+use Rattle.reo_rules.proofs.Same.{inside_told}
 use Rattle.reo_rules_types.specs.declared.cell.Cell.{Cell}
 use Rattle.reo_rules_types.specs.declared.cell.Cell.TheVariants as cells
 use Rattle.reo_rules_types.specs.Cells.{kindred_of}
-use Rattle.reo_rules_types.proofs.Shaped.{resolved-Pair}
 use Rattle.std.proofs.lemmas.Bool.{or_right as or_true}
-use Rattle.reo_values.proofs.Tests.{le_z-is}
-use Rattle.reo_values.proofs.Truths.{one_truth, both_decided}
+use Rattle.reo_values.proofs.Truths.{one_truth}
+use Rattle.reo_exprs.specs.declared.expr.Expr.{Expr}
+use Rattle.reo_exprs.specs.Typing.{kind_of_expr, type_of_expr}
+use Rattle.reo_exprs.proofs.KindOfType.{kind_of_typed}
 
 -- An expression that has no kind has no type.
 pub untyped : (e : Expr) (of : Kindred) → kind_of_expr e of ≡ None → type_of_expr e of ≡ None
@@ -48,17 +41,6 @@ untyped e of none = by (type_of_expr e of) refl
     by : (o : Option Kindred) → type_of_expr e of ≡ o → type_of_expr e of ≡ None
     by None is = is
     by (Some t) is = let h = sym none ∙ kind_of_typed e of t is in absurd (cc)
-
-inside_told : (s t : Kindred) → Decides (is_inside s t) (LiesInside s t)
-unfolding hidden-the_row-Twins-0 hidden
-inside_told kindred.Unit kindred.Unit = (λ h. tt, λ h. refl)
-inside_told kindred.Bool kindred.Bool = (λ h. tt, λ h. refl)
-inside_told (kindred.Int a b) (kindred.Int c d) = both_decided (le_z c a) (le_z b d) (c ≤ℤ a) (b ≤ℤ d) (le_z-is c a) (le_z-is b d)
-inside_told (kindred.Sym xs) (kindred.Sym ys) = (names_same xs ys, λ h. ap (λ ns. pointwise bytes_eq ns ys) h ∙ names_match ys)
-inside_told (kindred.Text m) (kindred.Text n) = (λ h. grind (arith, nat_tests), λ h. grind (arith, nat_tests))
-inside_told (kindred.Pair' m (kindred.more_of-Twins a b kindred.end_of-Twins)) (kindred.Pair' n (kindred.more_of-Twins c d kindred.end_of-Twins)) =
-    both_decided (is_inside a c) (is_inside b d) (LiesInside a c) (LiesInside b d) (inside_told a c) (inside_told b d)
-inside_told _ _ = (λ h. absurd (cc), λ h. absurd h)
 
 pub inside_is : (r : Bool) (s t : Kindred) → IsTrue r ↔ LiesInside s t → r ≡ is_inside s t
 inside_is r s t is = let d = inside_told s t in one_truth r (is_inside s t) (λ e. d.1 (is.0 e)) (λ e. is.1 (d.0 e))

@@ -1,10 +1,7 @@
 -- Types that stay the same, whatever is declared behind.
-use Rattle.std.proofs.Common.{◌≡◌, ◌∙◌, ℕ, List, [], ◌∷◌, ◌++◌, Bool, true, false, cond, map, Option, None, Some, find, refl, sym, ap, bytes_eq}
-use Rattle.std.specs.Prelude.{option_map, unwrap_or, is_some, ◌||◌}
+use Rattle.std.proofs.Common.{◌≡◌, ◌∙◌, ℕ, List, [], ◌∷◌, ◌++◌, Bool, map, refl, sym, ap}
 use Rattle.std.specs.List.{flat_map}
-use Rattle.std.specs.Option.{option_or}
 use Rattle.std.proofs.lemmas.List.{append_assoc}
-use Rattle.std.proofs.lemmas.List.Folds.{find-append}
 use denote.Hole.Carrier.{hidden}
 use Rattle.reo_values.specs.declared.kindred.Kindred.TheVariants as kinds
 use Rattle.reo_values.proofs.Sequences.{left_none}
@@ -14,31 +11,11 @@ use Rattle.reo_trees.specs.declared.types.Shape.{Shape}
 use Rattle.reo_trees.specs.declared.types.Shape.TheBlock.{hidden-the_row-TypePair-0}
 use Rattle.reo_trees.specs.declared.types.TypeTerm.{TypeTerm}
 use Rattle.reo_trees.specs.declared.programs.Parameter.{Parameter}
-use Rattle.reo_rules.specs.Lists.{has_name}
-use Rattle.reo_rules.specs.Types.{Typed, names_of, type_named, resolved, parts_of}
+use Rattle.reo_rules.specs.Types.{Typed, names_of, resolved, parts_of}
 use Rattle.reo_rules.specs.Unknown.{missing, unknown_in_part, unknown_in_type}
-use Rattle.reo_rules.proofs.AfterLemmas.{right_none, flat_map-append}
+use Rattle.reo_rules.proofs.AfterLemmas.{right_none, flat_map-append, where_false}
+use Rattle.reo_rules.proofs.Declared.{type_named-append}
 use Rattle.reo_rules_types.specs.Stands.{IsSettled, AreSettled}
-use Rattle.reo_rules_types.proofs.Names.{where_false}
-
--- A name that is there is found.
-found_name : (known : List Typed) (name : List ℕ) → has_name (names_of known) name ≡ true → is_some (find (λ (e : Typed). bytes_eq name e.name) known) ≡ true
-found_name [] name is = absurd (cc)
-found_name (e ∷ es) name is = by (bytes_eq name e.name) (found_name es name) is
-  where
-    by : (b : Bool) → (has_name (names_of es) name ≡ true → is_some (find (λ (t : Typed). bytes_eq name t.name) es) ≡ true) → (b || has_name (names_of es) name) ≡ true
-        → is_some (cond b (Some e) (find (λ (t : Typed). bytes_eq name t.name) es)) ≡ true
-    by true next h = refl
-    by false next h = next h
-
-first_found : (o p : Option Typed) → is_some o ≡ true → option_or o p ≡ o
-first_found None p is = absurd (cc)
-first_found (Some e) p is = refl
-
-named_settled : (known more : List Typed) (name : List ℕ) → has_name (names_of known) name ≡ true → type_named (known ++ more) name ≡ type_named known name
-named_settled known more name is =
-    let test = λ (e : Typed). bytes_eq name e.name in
-    ap (λ o. unwrap_or (option_map (λ (e : Typed). e.kindred) o) kinds.Unit) (find-append test known more ∙ first_found (find test known) (find test more) (found_name known name is))
 
 -- A written type without an unknown name is settled.
 pub shape_settled : (known : List Typed) (line : ℕ) (s : Shape) → flat_map (λ (part : TypeTerm). unknown_in_part (names_of known) part.line part.shape) (parts_of line s) ≡ [] → IsSettled known s
@@ -56,7 +33,7 @@ shape_settled known line (shape.Pair' m (shape.more_of-TypePair k x l y shape.en
       right = shape_settled known l y (right_none (flat_map f (parts_of k x)) (flat_map f (parts_of l y)) parts) more i;
     })
 shape_settled known line (shape.Named name) none more =
-    named_settled known more name (not_false _ (where_false _ _ (left_none (missing (names_of known) line name) [] none)))
+    type_named-append known more name (not_false _ (where_false _ _ (left_none (missing (names_of known) line name) [] none)))
 
 -- And so are the parameters of a connector.
 pub all_settled : (known : List Typed) (ps : List Parameter) → flat_map (λ (p : Parameter). unknown_in_type (names_of known) p.term) ps ≡ [] → AreSettled known ps

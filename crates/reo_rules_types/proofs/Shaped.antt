@@ -1,21 +1,16 @@
 -- What a written type of pairs stands for.
-use Rattle.std.proofs.Common.{◌≡◌, ◌∙◌, ℕ, List, Some, slice_get, refl, sym, ap}
-use denote.Hole.Carrier.{hidden}
+use Rattle.std.proofs.Common.{◌≡◌, ◌∙◌, ℕ, List, Some, slice_get, sym, ap}
 use Rattle.reo_values.specs.declared.kindred.Kindred.{Kindred}
 use Rattle.reo_values.specs.declared.kindred.Kindred.TheVariants as kinds
 use Rattle.reo_trees.specs.declared.types.Shape.TheVariants as shapes
-use Rattle.reo_trees.specs.declared.types.Shape.TheBlock.{hidden-the_row-TypePair-0}
 use Rattle.reo_trees.specs.declared.types.TypePair.{TypePair}
-use Rattle.reo_rules.specs.Types.{Typed, resolved}
+use Rattle.reo_rules.specs.Types.{resolved}
+use Rattle.reo_rules.proofs.Parts.{resolved-Pair}
 use Rattle.reo_rules_types.specs.declared.cell.Cell.TheVariants as cells
 use Rattle.reo_rules_types.specs.Cells.{kindred_of, Keeps}
 use Rattle.reo_rules_types.specs.Scoped.{typed, AreKnown}
 use Rattle.reo_rules_types.proofs.Kept.{at_told, at_within, kept_at}
 use Rattle.reo_rules_types.proofs.Scoped.{typed_kept}
-
-pub resolved-Pair : (known : List Typed) (p : TypePair) → resolved known (shapes.Pair p) ≡ kinds.Pair (record { left = resolved known p.left.shape; right = resolved known p.right.shape })
-unfolding hidden-the_row-TypePair-0 hidden
-resolved-Pair known p = refl
 
 -- The pair of the numbers of its parts.
 pub pair_resolved : (old mid new : List Kindred) (es : List (List ℕ × ℕ)) → AreKnown old es → Keeps old mid → Keeps mid new → (p : TypePair) (l r : ℕ)

@@ -12,10 +12,11 @@ use Rattle.reo_trees.specs.declared.types.TypeTerm.{TypeTerm}
 use Rattle.reo_trees.specs.declared.programs.Connector.{Connector}
 use Rattle.reo_trees.specs.declared.programs.Declaration.{Declaration}
 use Rattle.reo_trees.specs.declared.programs.Declaration.TheVariants as declarations
-use Rattle.reo_rules.specs.Types.{Typed, resolved, types_after, types_of}
+use Rattle.reo_rules.specs.Types.{Typed, resolved, types_of}
 use Rattle.reo_rules.specs.Scopes.{connectors_of, connectors_in, parameters_named}
 use Rattle.reo_rules.proofs.AfterLemmas.{flat_map-append}
 use Rattle.reo_rules.proofs.Mapped.{position-map}
+use Rattle.reo_rules.proofs.Declared.{types_after-append}
 use Rattle.reo_rules_types.specs.Cells.{Keeps}
 use Rattle.reo_rules_types.specs.Signed.{AreOf, parameter_types}
 use Rattle.reo_rules_types.specs.Stands.{AreSettled, AreSigned}
@@ -97,16 +98,12 @@ signed_push types known (t ∷ ts) [] s c are here settled = absurd are
 signed_push types known (t ∷ ts) (d ∷ ds) s c are here settled = (are.0, are.1, signed_push types known ts ds s c are.2 here settled)
 
 -- The types and connectors behind one more declaration.
-types_append : (known : List Typed) (xs ys : List Declaration) → types_after known (xs ++ ys) ≡ types_after (types_after known xs) ys
-types_append known [] ys = refl
-types_append known (declarations.Named line name term ∷ xs) ys = types_append (known ++ record { name = name; kindred = resolved known term.shape } ∷ []) xs ys
-types_append known (declarations.Made c ∷ xs) ys = types_append known xs ys
 
 pub types_named : (ds : List Declaration) (line : ℕ) (name : List ℕ) (term : TypeTerm) → types_of (ds ++ declarations.Named line name term ∷ []) ≡ types_of ds ++ record { name = name; kindred = resolved (types_of ds) term.shape } ∷ []
-types_named ds line name term = types_append [] ds (declarations.Named line name term ∷ [])
+types_named ds line name term = types_after-append [] ds (declarations.Named line name term ∷ [])
 
 pub types_made : (ds : List Declaration) (c : Connector) → types_of (ds ++ declarations.Made c ∷ []) ≡ types_of ds
-types_made ds c = types_append [] ds (declarations.Made c ∷ [])
+types_made ds c = types_after-append [] ds (declarations.Made c ∷ [])
 
 pub connectors_named : (ds : List Declaration) (line : ℕ) (name : List ℕ) (term : TypeTerm) → connectors_of (ds ++ declarations.Named line name term ∷ []) ≡ connectors_of ds
 connectors_named ds line name term = flat_map-append connectors_in ds (declarations.Named line name term ∷ []) ∙ append-nil (connectors_of ds)

@@ -1,6 +1,6 @@
 -- What is known of the declarations before a place, and of one more.
-use Rattle.std.proofs.Common.{◌≡◌, ◌∙◌, ℕ, List, [], ◌∷◌, ◌++◌, false, cond, map, sym, ap, subst}
-use Rattle.std.proofs.lemmas.List.{map-append, append-nil, append_assoc}
+use Rattle.std.proofs.Common.{◌≡◌, ◌∙◌, ℕ, List, [], ◌∷◌, ◌++◌, false, map, sym, ap, subst}
+use Rattle.std.proofs.lemmas.List.{map-append}
 use Rattle.reo_values.specs.declared.kindred.Kindred.{Kindred}
 use Rattle.reo_values.proofs.Sequences.{left_none}
 use Rattle.reo_trees.specs.declared.types.TypeTerm.{TypeTerm}
@@ -10,15 +10,15 @@ use Rattle.reo_trees.specs.declared.programs.Declaration.TheVariants as declarat
 use Rattle.reo_trees.specs.declared.items.Item.{Item}
 use Rattle.reo_rules.specs.Lists.{each_after, has_name}
 use Rattle.reo_rules.specs.Names.{with_name}
-use Rattle.reo_rules.specs.Types.{Typed, names_of, resolved, types_after, types_of}
-use Rattle.reo_rules.specs.Scopes.{type_names, connectors_of, connector_names, parameter_names, node_names}
+use Rattle.reo_rules.specs.Types.{Typed, resolved, types_of}
+use Rattle.reo_rules.specs.Scopes.{connectors_of, connector_names, parameter_names, node_names}
 use Rattle.reo_rules.specs.Unknown.{unknown_in_item, unknown_in_connector}
+use Rattle.reo_rules.proofs.Distinct.{noted_new}
 use Rattle.reo_rules_types.specs.declared.known.Known.{Known}
 use Rattle.reo_rules_types.specs.Cells.{Keeps}
 use Rattle.reo_rules_types.specs.Scoped.{typed, AreKnown}
 use Rattle.reo_rules_types.specs.Signed.{AreOf, parameter_types}
 use Rattle.reo_rules_types.specs.Stands.{AreSigned, Stands}
-use Rattle.reo_rules_types.proofs.Names.{names_append}
 use Rattle.reo_rules_types.proofs.Scoped.{typed_kept}
 use Rattle.reo_rules_types.proofs.Settled.{all_settled}
 use Rattle.reo_rules_types.proofs.Signed.{of_kept}
@@ -44,9 +44,6 @@ stands_named ds old new known declared line name term keeps stands more = record
       (signed_more new (types_of ds) (record { name = name; kindred = resolved (types_of ds) term.shape } ∷ []) known.signatures (connectors_of ds) (signed_kept old new keeps (types_of ds) known.signatures (connectors_of ds) stands.signed));
 }
 
-noted : (names : List (List ℕ)) (name : List ℕ) → has_name names name ≡ false → with_name names name ≡ names ++ name ∷ []
-noted names name new = ap (λ b. cond b names (names ++ name ∷ [])) new
-
 -- With one more connector.
 pub stands_made : (ds : List Declaration) (old mid new : List Kindred) (known : Known) (c : Connector) (names : List (List ℕ)) (signatures : List (List ℕ)) (numbers : List ℕ) (name : List ℕ)
     → AreKnown old known.declared → Keeps old mid → Keeps mid new → Keeps old new → Stands ds old known → AreOf mid numbers (parameter_types (typed old known.declared) c)
@@ -55,7 +52,7 @@ pub stands_made : (ds : List Declaration) (old mid new : List Kindred) (known : 
 stands_made ds old mid new known c names signatures numbers name are first second both stands here fresh none same noting pushing = record {
   types_are = typed_kept old new both known.declared are ∙ stands.types_are ∙ sym (types_made ds c);
   names_are =
-      noting ∙ ap (with_name known.connectors) same ∙ noted known.connectors c.name (ap (λ ns. has_name ns c.name) stands.names_are ∙ fresh)
+      noting ∙ ap (with_name known.connectors) same ∙ noted_new known.connectors c.name (ap (λ ns. has_name ns c.name) stands.names_are ∙ fresh)
       ∙ ap (λ ns. ns ++ c.name ∷ []) stands.names_are ∙ sym (map-append (λ (d : Connector). d.name) (connectors_of ds) (c ∷ [])) ∙ ap (map (λ (d : Connector). d.name)) (sym (connectors_made ds c));
   signed =
       subst (λ (p : List Typed × List Connector). AreSigned new p.0 signatures p.1) (λ i. (sym (types_made ds c) i, sym (connectors_made ds c) i))
@@ -67,13 +64,3 @@ stands_made ds old mid new known c names signatures numbers name are first secon
   where
     of_types : (k : List Typed) → k ≡ typed old known.declared → AreOf new numbers (parameter_types k c)
     of_types k is = of_kept mid new second numbers (parameter_types k c) (subst (λ t. AreOf mid numbers (parameter_types t c)) (sym is) here)
-
--- The names of the declared types.
-names_after : (known : List Typed) (ds : List Declaration) → names_of (types_after known ds) ≡ names_of known ++ type_names ds
-names_after known [] = sym (append-nil (names_of known))
-names_after known (declarations.Named line name term ∷ ds) = names_after (known ++ record { name = name; kindred = resolved known term.shape } ∷ []) ds
-    ∙ ap (λ ns. ns ++ type_names ds) (names_append known (record { name = name; kindred = resolved known term.shape } ∷ [])) ∙ append_assoc (names_of known) (name ∷ []) (type_names ds)
-names_after known (declarations.Made c ∷ ds) = names_after known ds
-
-pub names_types : (ds : List Declaration) → names_of (types_of ds) ≡ type_names ds
-names_types ds = names_after [] ds

@@ -4,7 +4,6 @@ pub mod States
 pub mod FewNames
 pub mod Each
 pub mod Places
-pub mod Bodies
 pub mod WrittenOut
 pub mod Sharing
 pub mod Apart

@@ -13,17 +13,11 @@ use Rattle.reo_net_base.specs.declared.port.Way.{Way}
 use Rattle.reo_net_base.specs.declared.port.Way.TheVariants.{In, Out}
 use Rattle.reo_trees.specs.declared.literals.Literal.{Literal}
 use Rattle.reo_literals.specs.Items.{item_of, value_of}
-use Rattle.reo_rules.specs.Lists.{where_true}
-use Rattle.reo_rules.proofs.AfterLemmas.{right_none}
+use Rattle.reo_rules.proofs.AfterLemmas.{right_none, where_false}
 use Rattle.reo_flatten_laws.proofs.RightKinds.{some_of}
 use Rattle.reo_scripts.specs.ScriptRules.{Naming, same, goes_in, port_number, port_named, item_at, no_port, wrong_way, outside, goes_wrong, the_number, the_item}
 use Rattle.reo_players.specs.Written.Task.{writes, takes}
 use Rattle.reo_run_premises.specs.Fitting.{FitsPorts}
-
--- No break means that the test fails.
-pub fails : {X : Type 0} (b : Bool) (x : X) → where_true b x ≡ [] → b ≡ false
-fails true x none = absurd (cc)
-fails false x none = refl
 
 -- The place breaks no rule on ports.
 pub record IsKept (ports : List Port) (n : Naming) : Type 0 where
@@ -49,7 +43,7 @@ pub record HasPort (ports : List Port) (name : List ℕ) : Type 0 where
 
 pub has_port : (ports : List Port) (n : Naming) → IsKept ports n → HasPort ports n.port
 has_port ports n kept =
-    let there = some_of (port_named ports n.port) (fails _ _ kept.known) in
+    let there = some_of (port_named ports n.port) (where_false _ _ kept.known) in
     let found = from_and_then (slice_get ports) (port_number ports n.port) there.0 there.1 in
     record { number = found.0; port = there.0; numbered = found.1; at = found.2; named = there.1 }
 
@@ -59,7 +53,7 @@ port_at ports name has = ap (λ o. slice_get ports (the_number ports o)) has.num
 
 way_at : (ports : List Port) (n : Naming) (has : HasPort ports n.port) → wrong_way ports n ≡ [] → not (same (goes_in has.port.way) (is_some n.literal)) ≡ false
 way_at ports n has none =
-    ap (λ o. option_map_or (λ (p : Port). not (same (goes_in p.way) (is_some n.literal))) o false) (sym has.named) ∙ fails (goes_wrong ports n) _ none
+    ap (λ o. option_map_or (λ (p : Port). not (same (goes_in p.way) (is_some n.literal))) o false) (sym has.named) ∙ where_false (goes_wrong ports n) _ none
 
 goes_inward : (w : Way) → not (same (goes_in w) true) ≡ false → w ≡ In
 goes_inward In right = refl
@@ -92,7 +86,7 @@ pub fits_write : (ports : List Port) (line : ℕ) (name : List ℕ) (l : Literal
 fits_write ports line name l within kept =
     let n : Naming = record { line = line; port = name; literal = Some l } in
     let has = has_port ports n kept in
-    (has.port, port_at ports name has, goes_inward has.port.way (way_at ports n has kept.way), item_fits ports name l has (fails _ _ kept.item))
+    (has.port, port_at ports name has, goes_inward has.port.way (way_at ports n has kept.way), item_fits ports name l has (where_false _ _ kept.item))
 
 pub fits_take : (ports : List Port) (line : ℕ) (name : List ℕ) (within : Option ℕ) → IsKept ports (record { line = line; port = name; literal = None })
     → FitsPorts ports (takes (the_number ports (port_number ports name)) within)

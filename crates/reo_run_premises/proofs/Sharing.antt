@@ -6,11 +6,10 @@ use Rattle.std.proofs.lemmas.List.{append-nil, map-append}
 use Rattle.std.proofs.lemmas.List.Folds.{list_any-append}
 use Rattle.std.proofs.lemmas.Slice.Eq.{bytes_eq-Decides}
 use Rattle.reo_rules.specs.Lists.{each_after, has_name}
-use Rattle.reo_rules.proofs.AfterLemmas.{right_none, flat_map-append}
+use Rattle.reo_rules.proofs.AfterLemmas.{right_none, flat_map-append, where_false}
 use Rattle.reo_scripts.specs.declared.fault.ScriptFault.TheVariants as faults
 use Rattle.reo_scripts.specs.declared.forms.ComponentForm.{ComponentForm}
 use Rattle.reo_scripts.specs.ScriptRules.{Naming, namings_in, shared_in, ports_in}
-use Rattle.reo_run_premises.proofs.Places.{fails}
 use Rattle.std.proofs.lemmas.Bool.{or_left as in_first}
 pub use Rattle.std.proofs.lemmas.Bool.{or_right as in_second}
 use Rattle.reo_values.proofs.Sequences.{left_none}
@@ -50,7 +49,7 @@ not_again seen [] none name there here = absurd (cc)
 not_again seen (n ∷ ns) none name there here = step (bytes_eq name n.port) refl here (not_again seen ns (right_none (shared_in seen n) _ none) name there) where
   step : (b : Bool) → bytes_eq name n.port ≡ b → (b || has_name (map (λ (m : Naming). m.port) ns) name) ≡ true → (has_name (map (λ (m : Naming). m.port) ns) name ≡ true → ⊥) → ⊥
   step true is in' later =
-      let free = fails (has_name seen n.port) (faults.Shared n.line n.port) (left_none (shared_in seen n) _ none) in
+      let free = where_false (has_name seen n.port) (faults.Shared n.line n.port) (left_none (shared_in seen n) _ none) in
       let taken = ap (has_name seen) (sym ((bytes_eq-Decides name n.port).0 is)) ∙ there in
       absurd (cc)
   step false is in' later = later in'

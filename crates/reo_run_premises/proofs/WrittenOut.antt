@@ -9,8 +9,8 @@ use Rattle.reo_scripts.specs.declared.forms.ComponentForm.{ComponentForm}
 use Rattle.reo_scripts.specs.ScriptRules.{Naming, namings, namings_row, namings_in, port_number, item_at, the_number, the_item, scripted, scripted_row, component_for}
 use Rattle.reo_players.specs.Written.{Task, times_over, written, written_out}
 use Rattle.reo_players.specs.Written.Task.{writes, takes, rests}
+use Rattle.reo_players.proofs.Bodies.{written_repeat}
 use Rattle.reo_run_premises.proofs.Each.{both, left, right}
-use Rattle.reo_run_premises.proofs.Bodies.{written_repeat}
 
 module _ (ports : List Port) (Q : Naming → Type 0) (P : Task → Type 0)
     (of_write : (line : ℕ) (name : List ℕ) (l : Literal) (within : Option ℕ) → Q (record { line = line; port = name; literal = Some l }) → P (writes (the_number ports (port_number ports name)) (the_item (item_at ports name l)) within))

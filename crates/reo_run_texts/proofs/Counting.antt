@@ -10,12 +10,12 @@ use Rattle.reo_net_base.specs.Net.{Wiring, net_of}
 use Rattle.reo_net_base.specs.Step.{stepped, settled_list, all_chosen, all_taken}
 use Rattle.reo_trees.specs.declared.programs.Declaration.{Declaration}
 use Rattle.reo_rules.specs.declared.fault.FlatFault.TheVariants as faults
+use Rattle.reo_rules.proofs.AfterLemmas.{where_false as none_true}
 use Rattle.reo_flat.specs.Unfolding.{meaning_named, meanings_of}
 use Rattle.reo_flat.specs.Flat.{primitives_of}
 use Rattle.reo_flat.specs.Sizes.{is_too_many, too_many}
 use Rattle.reo_rounds.specs.Rules.{Rules}
 use Rattle.reo_rounds.specs.Ready.{ready, ports_ready}
-use Rattle.reo_flatten_laws.proofs.Breaks.{fails as none_true}
 
 module _ {P : Type 0} (r : Rules P) where
   ports_count : (offers : ℕ → Option Offer) (ps : List P) (limit n : ℕ) → length (ports_ready r offers limit n ps) ≡ length ps

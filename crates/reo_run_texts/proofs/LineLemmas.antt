@@ -5,8 +5,6 @@ use Rattle.std.specs.List.{AllByRecursion, flat_map, range_with_len}
 use Rattle.std.proofs.lemmas.Bool.Decides.{nat_tests}
 use Rattle.reo_values.specs.declared.value.Value.{Value}
 use Rattle.reo_values.specs.Kind.{IsIn}
-use Rattle.reo_net_base.specs.declared.mark.Mark.{Mark}
-use Rattle.reo_net_base.specs.declared.mark.Mark.TheVariants.{F, G, R, J}
 use Rattle.reo_net_base.specs.declared.colouring.Chosen.{Chosen}
 use Rattle.reo_net_base.specs.declared.colouring.Move.{Move}
 use Rattle.reo_net_base.specs.declared.joint.End.{End}
@@ -18,6 +16,7 @@ use Rattle.reo_net_base.specs.Net.{Net, Side, all_sides, behaviour_at, end_of, f
 use Rattle.reo_net_base.specs.Colouring.{AreRows}
 use Rattle.reo_net_base.specs.Step.{chosen_for}
 use Rattle.reo_net_base.specs.Wired.{IsWired, IsEnd}
+use Rattle.reo_net_base.proofs.Marks.{mark_flows}
 use Rattle.reo_net_laws.proofs.Orders.{no_joint}
 use Rattle.reo_net_laws.proofs.Sides.{row_below, side_in, side_is}
 use Rattle.reo_trace.specs.declared.line.Cell.TheVariants.{Row, Jam}
@@ -129,12 +128,6 @@ module _ (net : Net) (rows : List ℕ) (items : List (Option Value)) (ports : Li
   pub moves_rise : (n : ℕ) → n ≡ length ports → AreRising (moves_of net n rows items)
   moves_rise n same = (moves_in_order n same).rising
 
-flows_then : (m : Mark) → is_flow m ≡ true → m ≡ F
-flows_then F is = refl
-flows_then G is = absurd (cc)
-flows_then R is = absurd (cc)
-flows_then J is = absurd (cc)
-
 -- Where a round is idle nothing moves.
 module _ (net : Net) (wired : IsWired net) (rows : List ℕ) (items : List (Option Value)) (same : length items ≡ length net.joints) (idle : is_idle net rows ≡ true) where
   is_end : (e : End) (v : Value) → item_at net.joints items e ≡ Some v → IsEnd net.primitives e
@@ -146,7 +139,7 @@ module _ (net : Net) (wired : IsWired net) (rows : List ℕ) (items : List (Opti
       ]
 
   nothing_at : (port : ℕ) → moves_at net rows items port ≡ []
-  nothing_at port = none (moves_at net rows items port) (one_or_none net rows items port (λ _. ⊥) (λ v flows is. idle_ends net rows wired idle (end_of port 0) (is_end (end_of port 0) v is) (flows_then (mark_at net rows (end_of port 0)) flows))) where
+  nothing_at port = none (moves_at net rows items port) (one_or_none net rows items port (λ _. ⊥) (λ v flows is. idle_ends net rows wired idle (end_of port 0) (is_end (end_of port 0) v is) (mark_flows (mark_at net rows (end_of port 0)) flows))) where
     none : (ms : List Move) → OneOrNone port (λ _. ⊥) ms → ms ≡ []
     none [] one = refl
     none (m ∷ []) one = absurd one.1

@@ -1,23 +1,13 @@
 -- The numbers of rounds that cannot be planned.
-use Rattle.std.proofs.Common.{ℕ, zero, suc, ◌*◌, ◌<◌, ◌≤◌, ◌^◌, List, [], ◌∷◌, length, arith, length-append}
-use Rattle.reo_net_base.specs.Behaviour.{Behaviour}
-use Rattle.reo_net_base.specs.Lawful.{IsLawful}
-use Rattle.reo_net_base.specs.Net.{Net, sides_of, all_sides, behaviour_at}
+use Rattle.std.proofs.Common.{ℕ, ◌≤◌, ◌^◌, length, arith}
+use Rattle.reo_net_base.specs.Net.{Net}
 use Rattle.reo_net_base.specs.Wired.{IsWired}
+use Rattle.reo_net_laws.proofs.Sides.{sides_few}
 use Rattle.reo_trace_texts.specs.Lines.{IsEnding}
 use Rattle.reo_weights.specs.Over.{Cause, IsOver}
 use Rattle.reo_weights.specs.Over.Cause.{spent, wide}
 use Rattle.reo_weights.specs.Laws.{CausesAreSmall}
 use Rattle.reo_rounds.specs.Stopping.{ending_by}
-use Rattle.reo_net_laws.proofs.Sides.{side_count}
-
--- There are at most two sides for each primitive.
-sides_few : (bs : List Behaviour) → ((i : ℕ) → i < length bs → IsLawful (behaviour_at bs i)) → length (all_sides bs) ≤ 2 * length bs
-sides_few [] law = omega arith
-sides_few (b ∷ bs) law =
-    let rest = sides_few bs (λ i lt. law (suc i) (omega arith)) in
-    let own = (law zero (omega arith)).few_sides in
-    omega (arith, rest, own, side_count b, length-append (sides_of b) (all_sides bs))
 
 -- They are small where the budget, the number of the round and the circuit are.
 pub over_small : CausesAreSmall → (budget : ℕ) (net : Net) → IsWired net → length net.primitives ≤ 2 ^ 31 → (turn : ℕ) (cause : Cause) → budget ≤ 10 ^ 9 → turn ≤ 10 ^ 9

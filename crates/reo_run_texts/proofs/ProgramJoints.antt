@@ -13,7 +13,7 @@ use Rattle.reo_rules.specs.Lists.{where_true}
 use Rattle.reo_rules.specs.Touches.{bool_eq}
 use Rattle.reo_flat.specs.Unfolding.{Placed}
 use Rattle.reo_flat.specs.Ends.{ends_in, ends_from, incoming, outgoing}
-use Rattle.reo_flat.specs.Joints.{is_many, many, ends_of, pairs, joints_between, joints_of}
+use Rattle.reo_flat.specs.Joints.{is_many, many, end_range, pairs, joints_between, joints_of}
 use Rattle.reo_flat.specs.Flat.{joints_at}
 use Rattle.reo_flatten_laws.specs.Homes.{IsAtNode}
 use Rattle.reo_flatten_laws.proofs.AtNodes.{incoming_at, outgoing_at}
@@ -48,7 +48,7 @@ abbrev HasBoth : (End → Type 0) → Joint → Type 0
 HasBoth At j = At j.giver × At j.taker
 
 module _ (At : End → Type 0) where
-  all_ends : (i from count : ℕ) → ((x : ℕ) → At (end_of i x)) → AllByRecursion At (ends_of i from count)
+  all_ends : (i from count : ℕ) → ((x : ℕ) → At (end_of i x)) → AllByRecursion At (end_range i from count)
   all_ends i from zero here = tt
   all_ends i from (suc count) here = (here from, all_ends i (from + 1) count here)
 
@@ -62,10 +62,10 @@ module _ (At : End → Type 0) where
       → AllByRecursion (HasBoth At) (joints_between ins outs m r)
   all_between ins outs m r all_in all_out merger replicator = step (is_many ins) (is_many outs) merger replicator where
     step : (a b : Bool) → (a ≡ true → (x : ℕ) → At (end_of m x)) → (b ≡ true → (x : ℕ) → At (end_of r x))
-        → AllByRecursion (HasBoth At) (cond a (pairs ins (ends_of m 0 (length ins))) [] ++ (pairs (cond a (end_of m (length ins) ∷ []) ins) (cond b (end_of r 0 ∷ []) outs) ++ cond b (pairs (ends_of r 1 (length outs)) outs) []))
+        → AllByRecursion (HasBoth At) (cond a (pairs ins (end_range m 0 (length ins))) [] ++ (pairs (cond a (end_of m (length ins) ∷ []) ins) (cond b (end_of r 0 ∷ []) outs) ++ cond b (pairs (end_range r 1 (length outs)) outs) []))
     step a b own_m own_r = both (HasBoth At) _ _ (first a own_m) (both (HasBoth At) _ _ (all_pairs _ _ (middle a own_m) (after b own_r)) (last b own_r)) where
-      first : (c : Bool) → (c ≡ true → (x : ℕ) → At (end_of m x)) → AllByRecursion (HasBoth At) (cond c (pairs ins (ends_of m 0 (length ins))) [])
-      first true own = all_pairs ins (ends_of m 0 (length ins)) all_in (all_ends m 0 (length ins) (own refl))
+      first : (c : Bool) → (c ≡ true → (x : ℕ) → At (end_of m x)) → AllByRecursion (HasBoth At) (cond c (pairs ins (end_range m 0 (length ins))) [])
+      first true own = all_pairs ins (end_range m 0 (length ins)) all_in (all_ends m 0 (length ins) (own refl))
       first false own = tt
 
       middle : (c : Bool) → (c ≡ true → (x : ℕ) → At (end_of m x)) → AllByRecursion At (cond c (end_of m (length ins) ∷ []) ins)
@@ -76,8 +76,8 @@ module _ (At : End → Type 0) where
       after true own = (own refl 0, tt)
       after false own = all_out
 
-      last : (c : Bool) → (c ≡ true → (x : ℕ) → At (end_of r x)) → AllByRecursion (HasBoth At) (cond c (pairs (ends_of r 1 (length outs)) outs) [])
-      last true own = all_pairs (ends_of r 1 (length outs)) outs (all_ends r 1 (length outs) (own refl)) all_out
+      last : (c : Bool) → (c ≡ true → (x : ℕ) → At (end_of r x)) → AllByRecursion (HasBoth At) (cond c (pairs (end_range r 1 (length outs)) outs) [])
+      last true own = all_pairs (end_range r 1 (length outs)) outs (all_ends r 1 (length outs) (own refl)) all_out
       last false own = tt
 
 -- What stands behind a front.

@@ -107,16 +107,16 @@ read_refused text ports (faults.Shared l n) h = elim h [ ]
 read_refused text ports faults.NoMemory h = tt
 
 -- A text has one answer for ports.
-one_answer : (text : List ℕ) (ports : List Port) (r s : Result Script ScriptFault) → Answers text ports r → Answers text ports s → r ≡ s
-one_answer text ports r s (x, h, e) (y, i, f) = sym e ∙ (ap (answer_for ports) (same text x y h i) ∙ f)
+one_script_answer : (text : List ℕ) (ports : List Port) (r s : Result Script ScriptFault) → Answers text ports r → Answers text ports s → r ≡ s
+one_script_answer text ports r s (x, h, e) (y, i, f) = sym e ∙ (ap (answer_for ports) (same text x y h i) ∙ f)
 
 pub only : (text : List ℕ) (ports : List Port) (r s : Result Script ScriptFault) → IsRead text ports r → Answers text ports s → IsThis s r
-only text ports (Ok a) s h i = one_answer text ports (Ok a) s h i
-only text ports (Err (faults.Lex f)) s h i = one_answer text ports (Err (faults.Lex f)) s h i
-only text ports (Err (faults.Syntax l)) s h i = one_answer text ports (Err (faults.Syntax l)) s h i
-only text ports (Err (faults.TooDeep l)) s h i = one_answer text ports (Err (faults.TooDeep l)) s h i
-only text ports (Err (faults.NoPort l n)) s h i = one_answer text ports (Err (faults.NoPort l n)) s h i
-only text ports (Err (faults.WrongWay l n)) s h i = one_answer text ports (Err (faults.WrongWay l n)) s h i
-only text ports (Err (faults.ItemOutside l)) s h i = one_answer text ports (Err (faults.ItemOutside l)) s h i
-only text ports (Err (faults.Shared l n)) s h i = one_answer text ports (Err (faults.Shared l n)) s h i
+only text ports (Ok a) s h i = one_script_answer text ports (Ok a) s h i
+only text ports (Err (faults.Lex f)) s h i = one_script_answer text ports (Err (faults.Lex f)) s h i
+only text ports (Err (faults.Syntax l)) s h i = one_script_answer text ports (Err (faults.Syntax l)) s h i
+only text ports (Err (faults.TooDeep l)) s h i = one_script_answer text ports (Err (faults.TooDeep l)) s h i
+only text ports (Err (faults.NoPort l n)) s h i = one_script_answer text ports (Err (faults.NoPort l n)) s h i
+only text ports (Err (faults.WrongWay l n)) s h i = one_script_answer text ports (Err (faults.WrongWay l n)) s h i
+only text ports (Err (faults.ItemOutside l)) s h i = one_script_answer text ports (Err (faults.ItemOutside l)) s h i
+only text ports (Err (faults.Shared l n)) s h i = one_script_answer text ports (Err (faults.Shared l n)) s h i
 only text ports (Err faults.NoMemory) s h i = tt

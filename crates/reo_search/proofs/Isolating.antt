@@ -16,10 +16,10 @@ use Rattle.reo_net_laws.proofs.Assignments.{sides_same, side_same}
 use Rattle.reo_net_laws.proofs.Isolation.{isolated, same_net}
 use Rattle.reo_net_laws.proofs.OneFirst.{one_inside}
 use Rattle.reo_propagate.specs.Queues.{among}
+use Rattle.reo_propagate.proofs.Among.{among_filter}
 use Rattle.reo_walk.specs.declared.part.Part.{Part}
 use Rattle.reo_search.specs.First.{AreFirstRows}
 use Rattle.reo_search.specs.Isolated.{FirstRowsAgree}
-use Rattle.reo_walk.proofs.Knotted.{among_filter}
 use Rattle.reo_walk.proofs.Resting.{among_at}
 
 -- Rows that are the same at each of some sides.

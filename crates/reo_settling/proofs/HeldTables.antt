@@ -16,7 +16,7 @@ use Rattle.reo_kept_tables.specs.Laws.{IsSameOn}
 use Rattle.reo_kept_tables.specs.Orders.{AreOrders}
 use Rattle.reo_kept_tables.proofs.Readied.{ready_tables_are_right, right_parts_are_ready}
 use Rattle.reo_kept_tables.proofs.Sorted.{orders_stay}
-use Rattle.reo_kept_tables.proofs.Staying.{count_same, right_tables_stay, room_stays}
+use Rattle.reo_kept_tables.proofs.Staying.{right_tables_stay, room_stays}
 use Rattle.reo_flowing.specs.Flowing.{AreFlowingIn}
 use Rattle.reo_planning.specs.declared.kept.Kept.{Kept}
 use Rattle.reo_planning.specs.Keeping.{is_settled}
@@ -24,6 +24,7 @@ use Rattle.reo_planning.specs.Unsettling.{AreFewer, IsElsewhere}
 use Rattle.reo_planning.proofs.KnotSets.{number_is}
 use Rattle.reo_net_base.specs.Shapes.{SameShapes}
 use Rattle.reo_net_base.specs.declared.joint.Joint.{Joint}
+use Rattle.reo_net_laws.proofs.Shapes.{count_same}
 use Rattle.reo_mark_search.specs.Found.{IsMarkSearch}
 use Rattle.reo_mark_search.specs.Spots.{spot_of}
 use Rattle.reo_mark_search.specs.declared.search.MarkSearch.{MarkSearch}

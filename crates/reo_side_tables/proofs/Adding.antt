@@ -3,9 +3,8 @@ use Rattle.std.proofs.Common.{◌≡◌, ◌≢◌, ◌⊎◌, inl, inr, ℕ, �
 use Rattle.std.specs.Bool.{◌==◌}
 use Rattle.std.proofs.lemmas.Bool.{cases_eq}
 use Rattle.std.proofs.lemmas.Bool.Decides.{nat_tests}
-use Rattle.reo_net_base.specs.declared.mark.Mark.TheVariants.{F, G, R, J}
+use Rattle.reo_net_base.specs.declared.mark.Mark.TheVariants.{F}
 use Rattle.reo_net_base.specs.Net.{Net, row_count}
-use Rattle.reo_net_base.specs.Marks.{is_flow}
 use Rattle.reo_net_base.specs.Wired.{IsWired}
 use Rattle.reo_net_base.specs.declared.mark.Mark.{Mark}
 use Rattle.reo_net_laws.specs.Ends.{mark_in, IsRowOf}
@@ -161,15 +160,6 @@ below_cases list n k (m, lt, is) = elim (cases_eq m n) [
   | inl same ↦ inr (sym is ∙ ap (λ (x : ℕ). get_or list x 0) same)
   | inr other ↦ inl (m, omega arith, is)
 ]
-
-pub flows_F : (m : Mark) → is_flow m ≡ true → m ≡ F
-flows_F F h = refl
-flows_F G h = cc
-flows_F R h = cc
-flows_F J h = cc
-
-pub still_F : (m : Mark) → is_flow m ≡ false → m ≢ F
-still_F m h is = let wrong : false ≡ true = sym h ∙ ap is_flow is in cc
 
 abbrev same_end : Option ℕ → ℕ → Bool
 same_end None e = false

@@ -8,7 +8,6 @@ use Rattle.reo_net_base.specs.declared.joint.End.{End}
 use Rattle.reo_net_base.specs.declared.joint.Joint.{Joint}
 use Rattle.reo_net_base.specs.Behaviour.{Behaviour, IsEndOf}
 use Rattle.reo_net_base.specs.Colouring.{given_at, taken_at}
-use Rattle.reo_net_base.specs.Ends.{IsGiver}
 use Rattle.reo_net_base.specs.Lasting.{Lasting, GivesFront, GivesWhatItTakes}
 use Rattle.reo_net_base.specs.Lawful.{GivesAt}
 use Rattle.reo_net_base.specs.Net.{Net, Side, all_sides, behaviour_at, end_of, mark_at, no_side, row_at, side_at, side_of_end}
@@ -17,15 +16,11 @@ use Rattle.reo_net_base.specs.Wired.{IsWired}
 use Rattle.reo_net_laws.specs.Ends.{mark_in, from_in, IsSource}
 use Rattle.reo_net_laws.proofs.Joined.{source_taken}
 use Rattle.reo_net_laws.proofs.Sides.{gives_at, row_below, row_in_table, side_at_is, side_in_range}
+use Rattle.reo_net_laws.proofs.Items.{taken_one}
 use Rattle.reo_net_colouring.proofs.ItemLemmas.{given_none, given_some}
 use Rattle.reo_joint_values.specs.Standing.{giver_of, no_joint, taker_of}
-use Rattle.reo_joint_values.proofs.Fitting.{taken_one}
 use Rattle.reo_standing.specs.Feeds.{GoesAlone, GoesTo, NoneGoes}
 use Rattle.reo_standing.specs.Filling.{IsPut}
-
--- The giver of a joint gives.
-pub giver_gives : (net : Net) → IsWired net → (j : ℕ) → j < length net.joints → IsGiver net (giver_of net j)
-giver_gives net wired j lt = record { is_end = wired.givers j no_joint lt; gives = wired.gives j no_joint lt }
 
 module _ (net : Net) (wired : IsWired net) (rows : List ℕ) (are : AreRowsOf net rows) (j : ℕ) (j_in : j < length net.joints) (flows : mark_at net rows (giver_of net j) ≡ F) where
   abbrev e : End

@@ -27,7 +27,7 @@ use Rattle.reo_standing.proofs.Putting.{far_all, far_none, giver_flows, others_n
 use Rattle.std.proofs.lemmas.Bool.{and_from as both}
 use Rattle.reo_values.proofs.Truths.{and_right}
 use Rattle.reo_values.proofs.Naturals.{eq_same, lt_true, same_eq}
-use Rattle.reo_rows.proofs.Working.{flow_cases}
+use Rattle.reo_net_base.proofs.Marks.{flow_cases}
 use Rattle.reo_stepping.proofs.Far.{none_at}
 
 in_own : (numbers : List ℕ) (s k : ℕ) → s < length numbers → get_or numbers s 0 ≡ k → in_knot numbers k s ≡ true

@@ -15,9 +15,9 @@ use Rattle.reo_net_base.specs.Marks.{is_flow}
 use Rattle.reo_net_base.specs.Moves.{item_at, move_with, moves_at, moves_of}
 use Rattle.reo_net_base.specs.Net.{Net, behaviour_at, end_eq, end_of, is_at, mark_at}
 use Rattle.reo_net_base.specs.Wired.{IsWired, IsEnd}
+use Rattle.reo_net_base.proofs.Ends.{end_self}
 use Rattle.reo_net_laws.proofs.Joined.{joint_of}
 use Rattle.reo_net_colouring.proofs.MoveLemmas.{range_more}
-use Rattle.reo_joint_values.proofs.StandLemmas.{end_self}
 use Rattle.reo_stepping.specs.Changes.{HasFlow}
 use Rattle.reo_standing.proofs.Filled.{not_flow}
 use Rattle.reo_stepping.proofs.FlowLemmas.{no_joint, with_item}

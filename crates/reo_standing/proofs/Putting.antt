@@ -14,6 +14,7 @@ use Rattle.reo_net_base.specs.Colouring.{IsColouring, ItemFits, given_at}
 use Rattle.reo_net_base.specs.Ends.{IsTaker}
 use Rattle.reo_net_base.specs.Net.{Net, all_sides, behaviour_at, end_of, mark_at, row_at, side_at}
 use Rattle.reo_net_base.specs.Wired.{IsWired}
+use Rattle.reo_net_base.proofs.Marks.{mark_flows, mark_still}
 use Rattle.reo_net_circuit.proofs.Cases.{eq_cases, lt_cases}
 use Rattle.reo_net_ends.specs.Ends.{AreEnds, joint_at}
 use Rattle.reo_net_ends.proofs.EndLemmas.{taker_at}
@@ -25,7 +26,6 @@ use Rattle.reo_joint_values.specs.Many.{IsJointIn}
 use Rattle.reo_reach.specs.InOrder.{AreInOrder, joints_in}
 use Rattle.reo_net_laws.specs.Parts.{IsClosed}
 use Rattle.reo_net_laws.proofs.Orders.{place_in}
-use Rattle.reo_side_tables.proofs.Adding.{flows_F, still_F}
 use Rattle.reo_kept_tables.specs.Orders.{AreJointsOf}
 use Rattle.reo_kept_tables.proofs.Sorted.{joints_of_set}
 use Rattle.reo_flowing.specs.Flowing.{AreFlowingOf, flows_by}
@@ -232,7 +232,7 @@ module _ (net : Net) (wired : IsWired net) (rows : List ℕ) (others : List (Opt
   passed_over : (joints : List ℕ) (are : AreJointsOf net inside joints) (new : List (Option Value)) (noted : List ℕ) (n : ℕ) → n < length joints → flows_by net rows (get_or joints n 0) ≡ false
       → IsFilledTo joints others n old new noted → IsFilledTo joints others (n + 1) old new noted
   passed_over joints are new noted n lt not far =
-      still_more net wired rows others is table ends joints are.in_order inside are.exact n lt old new noted blank far (still_F (mark_at net rows (giver_of net (get_or joints n 0))) not)
+      still_more net wired rows others is table ends joints are.in_order inside are.exact n lt old new noted blank far (mark_still (mark_at net rows (giver_of net (get_or joints n 0))) not)
 
   -- One more of them.
   pub far_more : (n : ℕ) → n < length those → (new next : List (Option Value)) (noted more : List ℕ) → IsFilledFar net inside rows those n others old new noted
@@ -243,7 +243,7 @@ module _ (net : Net) (wired : IsWired net) (rows : List ℕ) (others : List (Opt
       (length so.joints - so.place) so.place (omega (arith, so.within)) x (drop (suc n) those) (so.left ∙ drop-cons those n 0 lt) so.far in
       let one_more : suc n ≡ n + 1 = omega arith in
       let here : IsPut net rows (get_or so.joints at.place 0) new next noted more = subst (λ (j : ℕ). IsPut net rows j new next noted more) (sym at.here) put in
-      let flows = flows_F (mark_at net rows (giver_of net (get_or so.joints at.place 0))) (ap (flows_by net rows) at.here ∙ at.passes) in
+      let flows = mark_flows (mark_at net rows (giver_of net (get_or so.joints at.place 0))) (ap (flows_by net rows) at.here ∙ at.passes) in
       record {
         joints = so.joints;
         are = so.are;
@@ -273,4 +273,4 @@ module _ (net : Net) (inside : ℕ → Bool) (rows those : List ℕ) (of : AreFl
       all_in = All-from_get_or (λ (j : ℕ). j < length net.joints) of.all 0 (place_in net of.all of.is_order)
 
   pub those_flow : (m : ℕ) → m < length those → GiverFlows net rows (get_or those m 0)
-  those_flow m lt = giver_flows net rows (get_or those m 0) (those_in m lt) (flows_F (mark_at net rows (giver_of net (get_or those m 0))) (passes m lt))
+  those_flow m lt = giver_flows net rows (get_or those m 0) (those_in m lt) (mark_flows (mark_at net rows (giver_of net (get_or those m 0))) (passes m lt))

@@ -1,5 +1,5 @@
 -- Rows that let every item in have items.
-use Rattle.std.proofs.Common.{◌≡◌, inl, inr, ℕ, zero, suc, ◌<◌, ◌≤◌, List, [], ◌∷◌, Option, None, Some, Bool, true, false, cond, length, get_or, set, refl, ap, sym, ◌∙◌, subst, arith, get_or-set_same, get_or-set_other}
+use Rattle.std.proofs.Common.{◌≡◌, inl, inr, ℕ, zero, suc, ◌<◌, ◌≤◌, List, Option, None, Some, Bool, true, false, length, get_or, set, refl, ap, sym, ◌∙◌, subst, arith, get_or-set_same, get_or-set_other}
 use Rattle.std.specs.Prelude.{IsSome}
 use Rattle.std.specs.Option.{option_and_then}
 use Rattle.std.proofs.lemmas.List.{get_or_default, length-map, length-set}
@@ -11,32 +11,18 @@ use Rattle.reo_net_base.specs.declared.joint.Joint.{Joint}
 use Rattle.reo_net_base.specs.Marks.{marks_match}
 use Rattle.reo_net_base.specs.Behaviour.{Behaviour}
 use Rattle.reo_net_base.specs.Lawful.{GivesAt}
-use Rattle.reo_net_base.specs.Net.{Net, behaviour_at, end_of, end_eq, side_at, side_of_end, row_at, mark_at}
+use Rattle.reo_net_base.specs.Net.{Net, behaviour_at, end_of, side_at, side_of_end, row_at, mark_at}
 use Rattle.reo_net_base.specs.Colouring.{taken_at, given_at, lets_in, ItemFits}
 use Rattle.reo_net_base.specs.Wired.{IsWired, IsEnd, IsOrder}
 use Rattle.reo_net_laws.specs.Parts.{IsClosed, IsAssignment, is_joint_inside}
 use Rattle.reo_net_laws.specs.JamRows.{no_items}
 use Rattle.reo_net_laws.proofs.Sides.{side_at_place, row_is, same_side_at, side_in_range, row_in_table, gives_at}
-use Rattle.reo_net_laws.proofs.Items.{end_is, given_fed}
+use Rattle.reo_net_laws.proofs.Items.{given_fed, taken_one, some_item}
 use Rattle.reo_net_laws.proofs.Orders.{no_joint, Feeds, place_in, place_of, fed_before}
 use Rattle.reo_net_laws.proofs.Assignments.{fits_same}
-use Rattle.reo_net_laws.proofs.Joined.{ends_joined, end_same}
+use Rattle.reo_net_laws.proofs.Joined.{ends_joined}
 use Rattle.reo_net_laws.proofs.Search.{flow_or, eq_or}
 use Rattle.reo_state_laws.specs.States.{IsOpen, AreFitting, OpenPartsNeedNoItems}
-
--- The item that goes to an end is that of the one joint there.
-taken_one : (joints : List Joint) (items : List (Option Value)) (e : End) (j : ℕ) (d : Joint) → length items ≡ length joints → j < length joints → (get_or joints j d).taker ≡ e
-    → ((k : ℕ) (z : Joint) → k < length joints → (get_or joints k z).taker ≡ e → k ≡ j) → taken_at joints items e ≡ get_or items j None
-taken_one [] items e j d n lt here only = absurd (omega arith)
-taken_one (x ∷ xs) [] e j d n lt here only = absurd (omega arith)
-taken_one (x ∷ xs) (y ∷ ys) e zero d n lt here only = ap (λ (t : Bool). cond t y (taken_at xs ys e)) (end_same x.taker e here)
-taken_one (x ∷ xs) (y ∷ ys) e (suc j) d n lt here only =
-    let rest : taken_at xs ys e ≡ get_or ys j None = taken_one xs ys e j d (omega arith) (omega arith) here (λ k z k_in k_here.
-    let same : suc k ≡ suc j = only (suc k) z (omega arith) k_here in omega (arith, same)) in
-    elim (end_eq x.taker e) as (λ t. end_eq x.taker e ≡ t → cond t y (taken_at xs ys e) ≡ get_or ys j None) [
-      | true ↦ λ is. let same : zero ≡ suc j = only zero x (omega arith) (end_is x.taker e is) in absurd (omega (arith, same))
-      | false ↦ λ is. rest
-    ] refl
 
 -- What flows into a taker flows out of the giver.
 giver_flows : (a : Mark) → marks_match a F ≡ true → a ≡ F
@@ -44,10 +30,6 @@ giver_flows F h = refl
 giver_flows G h = cc
 giver_flows R h = cc
 giver_flows J h = cc
-
-some_of : (o : Option Value) → IsSome o → (item : Value) × (o ≡ Some item)
-some_of None h = cc
-some_of (Some item) h = (item, refl)
 
 module _ (net : Net) (wired : IsWired net) (rows : List ℕ) (items : List (Option Value)) (one_item : length items ≡ length net.joints) where
   -- Where something flows, an item is given, if items are at the joints that feed it.
@@ -73,7 +55,7 @@ module _ (net : Net) (wired : IsWired net) (rows : List ℕ) (items : List (Opti
             let flows : b.mark (b.side_of from) (row_at net rows source) from ≡ F =
             (λ i. b.mark (is_end.1 i) (same_row i) from) ∙ lawful.from_flows side row e.end from gives some in
             let there = fed found.0 no_joint found.1 (ap (side_at net) (found.2 no_joint) ∙ here) (subst (λ (x : End). (behaviour_at net.primitives x.primitive).mark ((behaviour_at net.primitives x.primitive).side_of x.end) (row_at net rows x) x.end ≡ F) (sym (found.2 no_joint)) flows) in
-            let item = some_of (get_or items found.0 None) there in
+            let item = some_item (get_or items found.0 None) there in
             subst (λ (o : Option Value). IsSome (b.given side row e.end o)) (sym (one ∙ item.1)) (lawful.given_for side row e.end from item.0 gives some)
       ] refl
 
@@ -175,7 +157,7 @@ module _ (net : Net) (wired : IsWired net) (order : List ℕ) (is_order : IsOrde
           | false ↦ λ out. (set items here None, with_item None (λ h. let wrong : false ≡ true = sym out ∙ h in cc))
           | true ↦ λ h. elim (flow_or (mark_at net rows joint.giver)) [
             | inl flows ↦
-                let item = some_of (given_at net rows items joint.giver) (given_here h flows) in
+                let item = some_item (given_at net rows items joint.giver) (given_here h flows) in
                 (set items here (Some item.0), with_item (Some item.0) (λ again. record { flows = flows; given = item.1; let_in = let_in here here_in h item.0 }))
             | inr not_flows ↦ (set items here None, with_item None (λ again. not_flows))
           ]

@@ -2,7 +2,7 @@
 use Rattle.std.specs.Prelude.{ℕ, ◌+◌, ◌<◌, ◌≡◌, Bool, true, List, Option, length, slice_index, slice_index_or}
 use Rattle.reo_values.specs.declared.value.Value.{Value}
 use Rattle.reo_net_base.specs.declared.joint.Joint.{Joint}
-use Rattle.reo_net_base.specs.Behaviour.{IsEndOf}
+use Rattle.reo_net_base.specs.Behaviour.{Behaviour, IsEndOf}
 use Rattle.reo_net_base.specs.Lawful.{SameShape}
 use Rattle.reo_net_base.specs.SameTables.{SameTable}
 use Rattle.reo_net_base.specs.Net.{Net, Side, all_sides, row_count, first_side, behaviour_at}
@@ -23,6 +23,11 @@ pub record HaveSameTables (turn later : ℕ) (net other : Net) (inside : ℕ →
       → side < (behaviour_at net.primitives i).sides
       → inside (first_side net.primitives i + side) ≡ true
       → SameTable turn later (behaviour_at net.primitives i) (behaviour_at other.primitives i) side
+
+-- Each row of a side lets each item in.
+abbrev pub LetsIn : Behaviour → ℕ → Type 0
+LetsIn b side = (row end : ℕ) (item : Value) → row < b.rows side → IsEndOf b side end → b.takes_in end ≡ true
+    → b.passes side row end item ≡ true
 
 -- Each row of each side of a set lets each item in.
 abbrev pub IsOpen : Net → (ℕ → Bool) → Type 0

@@ -11,13 +11,14 @@ use Rattle.reo_net_base.specs.declared.joint.Joint.{Joint}
 use Rattle.reo_net_base.specs.Behaviour.{Behaviour, nothing}
 use Rattle.reo_net_base.specs.Colouring.{IsColouring}
 use Rattle.reo_net_base.specs.Lasting.{Lasting}
-use Rattle.reo_net_base.specs.Lawful.{SameShape, IsQuiet}
-use Rattle.reo_net_base.specs.Net.{Net, Wiring, net_of, all_sides, behaviour_at, first_side, is_at}
+use Rattle.reo_net_base.specs.Lawful.{IsQuiet}
+use Rattle.reo_net_base.specs.Net.{Net, Wiring, net_of, behaviour_at, first_side, is_at}
 use Rattle.reo_net_base.specs.Shapes.{SameShapes, SameNetShape}
 use Rattle.reo_net_base.specs.Step.{all_chosen, all_taken, change_at, chosen_for, mouth_of, settled_list, stepped, taken_for}
 use Rattle.reo_net_base.specs.Wired.{IsWired, IsEnd}
+use Rattle.reo_net_laws.proofs.Shapes.{shapes_twice}
 use Rattle.reo_net_ends.specs.Ends.{AreEnds, joint_at}
-use Rattle.reo_net_circuit.proofs.ReshapeLemmas.{first_same, all_is}
+use Rattle.reo_net_circuit.proofs.ReshapeLemmas.{first_same}
 use Rattle.reo_net_circuit.proofs.SettleLemmas.{rest_same, same_at, settled_more}
 use Rattle.reo_net_circuit.proofs.ShapeLemmas.{mouth_same}
 use Rattle.reo_net_circuit.proofs.StepLemmas.{taken_kept}
@@ -25,21 +26,6 @@ use Rattle.reo_stepping.specs.Changes.{HasFlow}
 use Rattle.reo_stepping.specs.Clearing.{ComesNoItem, MayBeCleared}
 use Rattle.reo_stepping.proofs.QuietLemmas.{quiet_rows, nothing_taken}
 use Rattle.reo_stepping.proofs.StepLemmas.{change_is_set, change_none}
-
-shape_twice : (a b c : Behaviour) → SameShape a b → SameShape b c → SameShape a c
-shape_twice a b c f g = record {
-  ends = g.ends ∙ f.ends;
-  sides = g.sides ∙ f.sides;
-  side_of = λ end. g.side_of end ∙ f.side_of end;
-  takes_in = λ end. g.takes_in end ∙ f.takes_in end;
-  leads = λ side. g.leads side ∙ f.leads side;
-}
-
-shapes_twice : (xs ys zs : List Behaviour) → SameShapes xs ys → SameShapes ys zs → SameShapes xs zs
-shapes_twice xs ys zs f g = record {
-  count = g.count ∙ f.count;
-  same = λ i lt. let n = f.count in shape_twice (behaviour_at xs i) (behaviour_at ys i) (behaviour_at zs i) (f.same i lt) (g.same i (omega (arith, n, lt)));
-}
 
 -- An item that goes.
 pub none_at : (xs : List (Option Value)) (m j : ℕ) → get_or xs j None ≡ None → get_or (set xs m None) j None ≡ None
@@ -66,10 +52,6 @@ cleared_taken net n i old new count apart (inr gone) = ap (λ (xs : List (Option
 some_of : {X : Type 0} → (xs : List X) (i : ℕ) → i < length xs → X
 some_of [] i lt = absurd (omega arith)
 some_of (x ∷ xs) i lt = x
-
--- Circuits of the same shape have as many sides.
-pub sides_same : (bs ds : List Behaviour) → SameShapes bs ds → length (all_sides ds) ≡ length (all_sides bs)
-sides_same bs ds r = all_is ds ∙ ap (first_side ds) r.count ∙ first_same bs ds r (length bs) ∙ sym (all_is bs)
 
 -- The joints at the ends are those of each circuit of the same shape.
 pub ends_kept : (old new : Net) → new.joints ≡ old.joints → SameShapes old.primitives new.primitives → (table : List (List ℕ)) → AreEnds old table → AreEnds new table

@@ -55,21 +55,6 @@ taker_flows G taker m e = absurd cc
 taker_flows R taker m e = absurd cc
 taker_flows J taker m e = absurd cc
 
-pub giver_flows : (giver taker : Mark) → marks_match giver taker ≡ true → taker ≡ F → giver ≡ F
-giver_flows F taker m e = refl
-giver_flows G F m e = absurd cc
-giver_flows G G m e = absurd cc
-giver_flows G R m e = absurd cc
-giver_flows G J m e = absurd cc
-giver_flows R F m e = absurd cc
-giver_flows R G m e = absurd cc
-giver_flows R R m e = absurd cc
-giver_flows R J m e = absurd cc
-giver_flows J F m e = absurd cc
-giver_flows J G m e = absurd cc
-giver_flows J R m e = absurd cc
-giver_flows J J m e = absurd cc
-
 -- A joint flows where it has an item, and nowhere else.
 item_flows : (net : Net) (rows : List ℕ) (items : List (Option Value)) (j : Joint) (item : Option Value) → ItemFits net rows items j item → is_some item ≡ true → mark_at net rows j.giver ≡ F
 item_flows net rows items j None fits some = absurd cc

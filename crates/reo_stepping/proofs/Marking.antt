@@ -7,11 +7,12 @@ use Rattle.reo_net_base.specs.declared.joint.Joint.{Joint}
 use Rattle.reo_net_base.specs.Colouring.{RowsFit}
 use Rattle.reo_net_base.specs.Net.{Net, end_of, mark_at}
 use Rattle.reo_net_base.specs.Wired.{IsWired}
+use Rattle.reo_net_base.proofs.Marks.{giver_flows}
 use Rattle.reo_net_circuit.proofs.Cases.{eq_cases}
 use Rattle.reo_net_laws.proofs.Joined.{joint_of}
 use Rattle.reo_stepping.specs.Changes.{AreThoseThatFlowed, HasFlow, is_changed}
 use Rattle.reo_stepping.specs.Flowing.{AreFlowing}
-use Rattle.reo_stepping.proofs.FlowLemmas.{no_joint, IsBeside, set_both, taker_flows, giver_flows}
+use Rattle.reo_stepping.proofs.FlowLemmas.{no_joint, IsBeside, set_both, taker_flows}
 
 -- One of the first so many of these joints has an end at a primitive.
 pub record IsBesideOne (joints : List Joint) (flowing : List ℕ) (count i : ℕ) : Type 0 where

@@ -1,13 +1,12 @@
 -- Items and flow of a set.
 use Rattle.std.proofs.Common.{◌≡◌, ◌≢◌, inl, inr, ℕ, List, Option, None, Some, true, get_or, refl, ap, subst, ◌∙◌}
 use Rattle.reo_values.specs.declared.value.Value.{Value}
-use Rattle.reo_net_base.specs.declared.mark.Mark.{Mark}
-use Rattle.reo_net_base.specs.declared.mark.Mark.TheVariants.{F, G, R, J}
+use Rattle.reo_net_base.specs.declared.mark.Mark.TheVariants.{F}
 use Rattle.reo_net_base.specs.declared.joint.End.{End}
 use Rattle.reo_net_base.specs.declared.joint.Joint.{Joint}
-use Rattle.reo_net_base.specs.Marks.{marks_match}
 use Rattle.reo_net_base.specs.Net.{Net, side_at, mark_at}
 use Rattle.reo_net_base.specs.Colouring.{ItemFits}
+use Rattle.reo_net_base.proofs.Marks.{giver_flows}
 use Rattle.reo_net_laws.proofs.Joined.{joint_of}
 use Rattle.reo_still.specs.Still.{StillPartsHaveNoItems, PartsWithoutItemsAreStill}
 
@@ -20,22 +19,6 @@ pub still_no_items : StillPartsHaveNoItems
 still_no_items net wired inside rows items is still j d lt h =
     let joint : Joint = get_or net.joints j d in
     no_item net rows items joint (get_or items j None) (still joint.giver (wired.givers j d lt) h) (is.items_fit j d lt h)
-
--- What goes to an end that flows, flows.
-pub flows_both : (m n : Mark) → marks_match m n ≡ true → n ≡ F → m ≡ F
-flows_both F n h e = refl
-flows_both G F h e = cc
-flows_both G G h e = cc
-flows_both G R h e = cc
-flows_both G J h e = cc
-flows_both R F h e = cc
-flows_both R G h e = cc
-flows_both R R h e = cc
-flows_both R J h e = cc
-flows_both J F h e = cc
-flows_both J G h e = cc
-flows_both J R h e = cc
-flows_both J J h e = cc
 
 -- Where no joint has an item, neither of its ends flows.
 pub no_items_still : PartsWithoutItemsAreStill
@@ -50,5 +33,5 @@ no_items_still net wired inside closed rows items is without e e_in h flows =
       | inl giver ↦ calm (ap (λ (x : End). inside (side_at net x)) giver ∙ h) (ap (mark_at net rows) giver ∙ flows)
       | inr taker ↦
           let g : inside (side_at net joint.giver) ≡ true = closed.along j d found.1 ∙ ap (λ (x : End). inside (side_at net x)) taker ∙ h in
-          calm g (flows_both (mark_at net rows joint.giver) (mark_at net rows joint.taker) (is.matched j d found.1 g) (ap (mark_at net rows) taker ∙ flows))
+          calm g (giver_flows (mark_at net rows joint.giver) (mark_at net rows joint.taker) (is.matched j d found.1 g) (ap (mark_at net rows) taker ∙ flows))
     ]

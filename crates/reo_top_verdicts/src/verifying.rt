@@ -21,7 +21,7 @@ use reo_command::{Claim, Status, Work, read_claim};
 use reo_io::{Files, Sink};
 use reo_run_texts::ports_are_told;
 use reo_top_base::{answer, no_memory, refuse};
-use reo_trace_texts::one_answer;
+use reo_trace_texts::one_trace_answer;
 use reo_verify::verify_trace;
 use std::alloc::Global;
 
@@ -72,7 +72,7 @@ pub fn verify_claim<F: Files, S: Sink>(
     circuit_names_are_plain();
     circuits_are_spelled();
     ports_are_told();
-    one_answer();
+    one_trace_answer();
     match read_claim(alloc, circuit, script, trace, files) {
         Ok(claim) => write_verdict(alloc, claim, out),
         Err(stop) => refuse(alloc, stop, out),

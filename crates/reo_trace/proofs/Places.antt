@@ -4,7 +4,7 @@ use Rattle.std.specs.List.{range_with_len}
 use Rattle.std.proofs.lemmas.List.FromFn.{map-range_with_len_more}
 use Rattle.reo_net_base.specs.Colouring.{AreRows}
 use Rattle.reo_net_base.specs.Net.{Net, all_sides, behaviour_at, first_side}
-use Rattle.reo_net_circuit.proofs.NetLemmas.{rows_length, side_in}
+use Rattle.reo_net_laws.proofs.Sides.{rows_length, side_in}
 
 -- there is a row for each side of each primitive
 pub row_in : (net : Net) (rows : List ℕ) → AreRows (all_sides net.primitives) rows → (i side : ℕ) → i < length net.primitives → side < (behaviour_at net.primitives i).sides

@@ -1,7 +1,6 @@
 -- Joints and ends that do not flow.
 use Rattle.std.proofs.Common.{◌≡◌, ◌≢◌, ◌∙◌, ◌⊎◌, ◌&&◌, ◌||◌, inl, inr, ℕ, zero, suc, ◌<◌, Bool, true, false, not, List, [], ◌∷◌, length, get_or, take, ◌+◌, ap, sym, refl, arith}
 use Rattle.std.specs.List.{list_all}
-use Rattle.std.proofs.lemmas.Bool.Decides.{nat_tests}
 use Rattle.std.proofs.lemmas.List.Folds.{list_all_at, list_all_more}
 use Rattle.reo_values.proofs.Truths.{and_both, either}
 use Rattle.reo_net_base.specs.declared.mark.Mark.{Mark}
@@ -11,15 +10,10 @@ use Rattle.reo_net_base.specs.declared.joint.Joint.{Joint}
 use Rattle.reo_net_base.specs.Marks.{is_flow}
 use Rattle.reo_net_base.specs.Net.{Net, end_eq, end_of, is_at, mark_at}
 use Rattle.reo_net_base.specs.Wired.{IsWired}
+use Rattle.reo_net_base.proofs.Marks.{mark_still}
+use Rattle.reo_net_base.proofs.Ends.{end_is}
 use Rattle.reo_trace.specs.Entries.{is_idle, is_still}
 use Rattle.reo_trace.specs.Idle.{NoEndFlows}
-
--- a mark that is no flow
-no_flow : (m : Mark) → is_flow m ≡ false → m ≢ F
-no_flow F e = λ same. absurd cc
-no_flow G e = λ same. absurd cc
-no_flow R e = λ same. absurd cc
-no_flow J e = λ same. absurd cc
 
 tests_no_flow : (m : Mark) → m ≢ F → is_flow m ≡ false
 tests_no_flow F other = absurd (other refl)
@@ -44,22 +38,16 @@ all_from test [] each = refl
 all_from test (x ∷ xs) each = ap (λ t. t && list_all test xs) (each zero x (omega arith)) ∙ all_from test xs (λ i d lt. each (suc i) d (omega arith))
 
 -- an end at a joint is its giver or its taker
-same_end : (a b : End) → end_eq a b ≡ true → a ≡ b
-same_end a b h =
-    let p : a.primitive ≡ b.primitive = grind (arith, nat_tests) in
-    let e : a.end ≡ b.end = grind (arith, nat_tests) in
-    λ i. record { primitive = p i; end = e i }
-
 pub at_joint : (e : End) (j : Joint) → is_at e j ≡ true → (j.giver ≡ e) ⊎ (j.taker ≡ e)
 at_joint e j h =
-    elim (either (end_eq j.giver e) (end_eq j.taker e) h) [ inl giver ↦ inl (same_end j.giver e giver) | inr taker ↦ inr (same_end j.taker e taker) ]
+    elim (either (end_eq j.giver e) (end_eq j.taker e) h) [ inl giver ↦ inl (end_is j.giver e giver) | inr taker ↦ inr (end_is j.taker e taker) ]
 
 -- the two ends of a still joint do not flow
 still_ends : (net : Net) (rows : List ℕ) (j : Joint) → is_still net rows j ≡ true → (mark_at net rows j.giver ≢ F) × (mark_at net rows j.taker ≢ F)
 unfolding is_still
 still_ends net rows j still =
     let tests = neither (is_flow (mark_at net rows j.giver)) (is_flow (mark_at net rows j.taker)) still in
-    (no_flow (mark_at net rows j.giver) tests.0, no_flow (mark_at net rows j.taker) tests.1)
+    (mark_still (mark_at net rows j.giver) tests.0, mark_still (mark_at net rows j.taker) tests.1)
 
 still_from : (net : Net) (rows : List ℕ) (j : Joint) → mark_at net rows j.giver ≢ F → mark_at net rows j.taker ≢ F → is_still net rows j ≡ true
 unfolding is_still

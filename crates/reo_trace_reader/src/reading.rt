@@ -19,7 +19,7 @@ use crate::lines::{ending, round};
 use crate::reader::Reader;
 use reo_net_base::Ports;
 use reo_trace::{Ending, RoundLine};
-use reo_trace_texts::{LineFault, Trace, TraceFault, TraceLine, one_answer, one_line_answer};
+use reo_trace_texts::{LineFault, Trace, TraceFault, TraceLine, one_line_answer, one_trace_answer};
 use reo_values::{List, NoMemory};
 use std::alloc::Global;
 
@@ -138,7 +138,7 @@ pub fn read_trace(alloc: Global, text: &[u8], ports: &Ports) -> Result<Trace, Tr
     ensures only { (answer : Result ATrace AFault) → Answers ports.now.list text.now answer
         → IsThis answer result }
 {
-    one_answer();
+    one_trace_answer();
     let mut rounds = List::new(alloc);
     let mut reader = Reader::new(text);
     let mut number = 1;

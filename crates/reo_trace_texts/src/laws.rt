@@ -17,7 +17,7 @@ pub fn one_wrong_line()
 {}
 
 /// A text is answered in one way: it is one trace, or has one first wrong line.
-pub fn one_answer()
+pub fn one_trace_answer()
     ensures { OneAnswer }
 {}
 

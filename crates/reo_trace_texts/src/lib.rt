@@ -8,6 +8,6 @@ mod trace;
 
 pub use fault::{LineFault, TraceFault};
 pub use laws::{
-    one_answer, one_line_answer, one_trace_of_text, one_wrong_line, trace_has_no_wrong_line,
+    one_line_answer, one_trace_answer, one_trace_of_text, one_wrong_line, trace_has_no_wrong_line,
 };
 pub use trace::{Trace, TraceLine};

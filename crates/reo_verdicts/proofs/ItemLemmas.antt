@@ -1,11 +1,11 @@
 -- Rows determine their items.
-use Rattle.std.proofs.Common.{◌≡◌, ◌∙◌, inl, inr, sym, ℕ, ◌<◌, List, length, get_or, arith}
-use Rattle.std.specs.Prelude.{Option, Some, None}
+use Rattle.std.proofs.Common.{◌≡◌, ◌∙◌, sym, ℕ, ◌<◌, List, length, get_or, arith}
+use Rattle.std.specs.Prelude.{Option, None}
 use Rattle.std.proofs.lemmas.List.{get_or_default, same_lists}
 use Rattle.reo_values.specs.declared.value.Value.{Value}
 use Rattle.reo_net_base.specs.declared.joint.End.{End}
 use Rattle.reo_net_base.specs.declared.joint.Joint.{Joint}
-use Rattle.reo_net_base.specs.Colouring.{ItemFits, IsFilled, item_given}
+use Rattle.reo_net_base.specs.Colouring.{IsFilled, item_given}
 use Rattle.reo_net_base.specs.Net.{Net, no_side, all_sides, behaviour_at, row_at, side_at, mark_at}
 use Rattle.reo_net_base.specs.Sides.{AreRowsOf}
 use Rattle.reo_net_laws.proofs.Items.{given_fed, along_order}
@@ -13,14 +13,6 @@ use Rattle.reo_net_laws.proofs.Orders.{no_joint}
 use Rattle.reo_net_laws.proofs.Sides.{row_below, side_in_range, row_in_table}
 use Rattle.reo_net_colouring.proofs.ItemLemmas.{flow_cases}
 use Rattle.reo_rounds.specs.Order.{HasOrder}
-use Rattle.reo_checker.specs.Faults.{ItemFails}
-
--- What fits does not fail.
-pub fails_fits : (net : Net) (rows : List ℕ) (items : List (Option Value)) (j : Joint) (o : Option Value) → ItemFails net rows items j o → ItemFits net rows items j o → ⊥
-fails_fits net rows items j None flows none = none flows
-fails_fits net rows items j (Some item) (inl dry) has = dry has.flows
-fails_fits net rows items j (Some item) (inr (inl other)) has = other has.given
-fails_fits net rows items j (Some item) (inr (inr out)) has = let in_ = has.let_in in absurd cc
 
 module _ (net : Net) (ordered : HasOrder net) (rows : List ℕ) (are : AreRowsOf net rows) where
   below : (j : ℕ) (d : Joint) → j < length net.joints

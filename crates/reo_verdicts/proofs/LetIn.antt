@@ -7,15 +7,15 @@ use Rattle.reo_net_base.specs.declared.mark.Mark.{Mark}
 use Rattle.reo_net_base.specs.declared.mark.Mark.TheVariants.{F, G, R, J}
 use Rattle.reo_net_base.specs.declared.joint.End.{End}
 use Rattle.reo_net_base.specs.declared.joint.Joint.{Joint}
-use Rattle.reo_net_base.specs.Marks.{marks_match, is_flow}
+use Rattle.reo_net_base.specs.Marks.{is_flow}
 use Rattle.reo_net_base.specs.Behaviour.{Behaviour, IsEndOf}
 use Rattle.reo_net_base.specs.Lawful.{GivesAt}
 use Rattle.reo_net_base.specs.Net.{Net, no_side, all_sides, behaviour_at, end_of, end_eq, is_at, row_at, side_at, mark_at}
 use Rattle.reo_net_base.specs.Colouring.{taken_at, given_at, item_given, lets_in, RowsFit, IsFilled}
 use Rattle.reo_net_base.specs.Wired.{IsWired, IsOrder, IsEnd}
-use Rattle.reo_net_laws.proofs.Items.{end_is, along_order}
+use Rattle.reo_net_base.proofs.Marks.{giver_flows}
+use Rattle.reo_net_laws.proofs.Items.{end_is, along_order, end_same}
 use Rattle.reo_net_laws.proofs.Sides.{row_below, side_in_range, row_in_table, row_is, same_side_at, gives_at}
-use Rattle.reo_net_laws.proofs.Joined.{end_same}
 use Rattle.reo_checker.specs.Faults.{ItemFails, IsItemFault}
 use Rattle.reo_verdicts.specs.Laws.{RefusedItemsAreNotLetIn}
 
@@ -38,22 +38,6 @@ ap_one f a b same has = (has.0, ap f (sym same) ∙ has.1)
 
 abbrev or_bool : Bool → Bool → Bool
 or_bool x y = x || y
-
--- What flows into a joint flows out of it.
-flows_back : (g t : Mark) → marks_match g t ≡ true → t ≡ F → g ≡ F
-flows_back F t h e = refl
-flows_back G F h e = cc
-flows_back G G h e = cc
-flows_back G R h e = cc
-flows_back G J h e = cc
-flows_back R F h e = cc
-flows_back R G h e = cc
-flows_back R R h e = cc
-flows_back R J h e = cc
-flows_back J F h e = cc
-flows_back J G h e = cc
-flows_back J R h e = cc
-flows_back J J h e = cc
 
 -- An item that is given there flows.
 given_flows : (m : Mark) (g : Option Value) (x : Value) → Some x ≡ cond (is_flow m) g None → (m ≡ F) × (g ≡ Some x)
@@ -144,7 +128,7 @@ module _ (net : Net) (wired : IsWired net) where
           let joined = wired.each_end giver.primitive from e_in.0 from_in.0 in
           taken_some net.joints items e filled.one_each (λ m at m_lt to.
           fed m d at m_lt (ap (side_at net) to ∙ same_side_at net giver from from_in) at
-          (flows_back _ _ (fit.matched m at m_lt) (ap (λ (z : End). mark_at net rows z) to ∙ mark_beside giver from from_in ∙ from_flows)))
+          (giver_flows _ _ (fit.matched m at m_lt) (ap (λ (z : End). mark_at net rows z) to ∙ mark_beside giver from from_in ∙ from_flows)))
           joined.joint joined.in_range (λ at. goes_there e takes joined.joint at joined.in_range (joined.here at)))))
 
       -- An item that does not fit is one that is not let in.

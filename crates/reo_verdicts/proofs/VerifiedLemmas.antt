@@ -14,7 +14,7 @@ use Rattle.reo_runs.specs.Round.{State, RoundOf, net_ready}
 use Rattle.reo_runs.specs.Run.{Place, Leads, EndsAs, IsRun, place_after, firsts}
 use Rattle.reo_verdicts.specs.Replays.{MayStop, colourings}
 
-may_stop : (turn : ℕ) (cause : Cause) → MayStop turn (ending_by turn cause)
+pub may_stop : (turn : ℕ) (cause : Cause) → MayStop turn (ending_by turn cause)
 may_stop turn (spent knot weight budget) = refl
 may_stop turn (wide knot) = refl
 

@@ -1,16 +1,17 @@
 -- One thing is wrong first with a line, and nothing with the line of a round.
-use Rattle.std.proofs.Common.{◌≡◌, ◌∙◌, inl, inr, ap, sym, subst, refl, ℕ, ◌<◌, List, get_or, arith}
+use Rattle.std.proofs.Common.{◌≡◌, ◌∙◌, ap, sym, subst, refl, ℕ, List, get_or, arith}
 use Rattle.std.specs.Prelude.{Option, None}
 use Rattle.reo_values.specs.declared.value.Value.{Value}
 use Rattle.reo_net_base.specs.Colouring.{RowsFit, IsColouring, IsFilled}
 use Rattle.reo_net_base.specs.Moves.{moves_of}
 use Rattle.reo_net_base.specs.Net.{Net}
 use Rattle.reo_net_laws.proofs.Orders.{no_joint}
-use Rattle.reo_net_laws.proofs.Sides.{below_or}
 use Rattle.reo_net_colouring.proofs.ItemLemmas.{filled_from}
 use Rattle.reo_checker.specs.declared.wrong.Wrong.{Wrong}
 use Rattle.reo_checker.specs.declared.wrong.Wrong.TheVariants.{Count, Row, Joint, Item}
 use Rattle.reo_checker.specs.Faults.{IsJointFault, IsItemFault}
+use Rattle.reo_checker.proofs.FirstFaults.{not_apart, joint_earlier, item_earlier}
+use Rattle.reo_checker.proofs.ExactLemmas.{fails_fits}
 use Rattle.reo_trace.specs.declared.line.Cell.TheVariants as cells
 use Rattle.reo_trace.specs.declared.line.Entry.{Entry}
 use Rattle.reo_trace.specs.declared.line.RoundLine.{RoundLine}
@@ -21,15 +22,7 @@ use Rattle.reo_verdicts.specs.declared.verdict.Refusal.TheVariants as refusals
 use Rattle.reo_verdicts.specs.Said.{HasRows, HasNoRow, AreSaid}
 use Rattle.reo_verdicts.specs.Wrongs.{IsRowBreak, IsWrongWith, HasWrongMoves, node_of, IsWrongRound}
 use Rattle.reo_verdicts.proofs.SaidLemmas.{one_said, said_counted, said_rows}
-use Rattle.reo_verdicts.proofs.ItemLemmas.{fails_fits, one_filled}
-
--- Numbers of which neither is below the other are one.
-not_apart : (i k : ℕ) → (i < k → ⊥) → (k < i → ⊥) → i ≡ k
-not_apart i k below above =
-    elim (below_or i k) [
-      | inl lt ↦ absurd (below lt)
-      | inr le ↦ elim (below_or k i) [ inl lt ↦ absurd (above lt) | inr ge ↦ omega (arith, le, ge) ]
-    ]
+use Rattle.reo_verdicts.proofs.ItemLemmas.{one_filled}
 
 not_out : (net : Net) (entries : List Entry) (i : ℕ) → HasNoRow net entries i → HasRows net entries i → ⊥
 not_out net entries i out are =
@@ -39,20 +32,11 @@ not_out net entries i out are =
 one_row : (net : Net) (entries : List Entry) (i k : ℕ) → IsRowBreak net entries i → IsRowBreak net entries k → i ≡ k
 one_row net entries i k p q = not_apart i k (λ lt. not_out net entries i p.out (q.before i lt)) (λ lt. not_out net entries k q.out (p.before k lt))
 
-joint_matches : (net : Net) (rows : List ℕ) (i k : ℕ) → IsJointFault net rows i → IsJointFault net rows k → i < k → ⊥
-joint_matches net rows i k p q lt =
-    let clash = p.clashes no_joint in
-    let match = q.before i no_joint lt in
-    absurd cc
-
 one_joint : (net : Net) (rows : List ℕ) (i k : ℕ) → IsJointFault net rows i → IsJointFault net rows k → i ≡ k
-one_joint net rows i k p q = not_apart i k (joint_matches net rows i k p q) (joint_matches net rows k i q p)
-
-item_fits : (net : Net) (rows : List ℕ) (items : List (Option Value)) (i k : ℕ) → IsItemFault net rows items i → IsItemFault net rows items k → i < k → ⊥
-item_fits net rows items i k p q lt = fails_fits net rows items (get_or net.joints i no_joint) (get_or items i None) (p.fails no_joint) (q.before i no_joint lt)
+one_joint net rows i k p q = not_apart i k (joint_earlier net rows i k p q) (joint_earlier net rows k i q p)
 
 one_item : (net : Net) (rows : List ℕ) (items : List (Option Value)) (i k : ℕ) → IsItemFault net rows items i → IsItemFault net rows items k → i ≡ k
-one_item net rows items i k p q = not_apart i k (item_fits net rows items i k p q) (item_fits net rows items k i q p)
+one_item net rows items i k p q = not_apart i k (item_earlier net rows items i k p q) (item_earlier net rows items k i q p)
 
 no_joint_fault : (net : Net) (rows : List ℕ) (j : ℕ) → RowsFit net rows → IsJointFault net rows j → ⊥
 no_joint_fault net rows j fit fault =

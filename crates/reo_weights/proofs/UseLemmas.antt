@@ -1,8 +1,7 @@
 -- Whether a value is used at a side is decided.
-use Rattle.std.proofs.Common.{◌≡◌, ◌≢◌, ◌⊎◌, inl, inr, ℕ, zero, suc, ◌<◌, List, Bool, true, false, cond, Option, Some, None, length, get_or, refl, ap, sym, ◌∙◌, subst, arith}
-use Rattle.std.specs.Prelude.{◌==◌, Contains}
+use Rattle.std.proofs.Common.{◌≡◌, ◌⊎◌, inl, inr, ℕ, zero, suc, ◌<◌, List, true, false, Option, Some, None, length, get_or, refl, ap, sym, ◌∙◌, subst, arith}
+use Rattle.std.specs.Prelude.{Contains}
 use Rattle.std.proofs.lemmas.Bool.{cases_eq, cases_lt, cases_Bool}
-use Rattle.std.proofs.lemmas.Bool.Decides.{nat_tests}
 use Rattle.std.proofs.lemmas.List.{get_or_default}
 use Rattle.reo_values.specs.declared.value.Value.{Value}
 use Rattle.reo_net_base.specs.declared.mark.Mark.TheVariants.{F}
@@ -18,6 +17,7 @@ use Rattle.reo_joint_values.specs.Fitting.{given_in, passes_in, GivesValue, Take
 use Rattle.reo_joint_values.specs.Supported.{IsUsed}
 use Rattle.reo_joint_values.proofs.Fitting.{fits_local}
 use Rattle.reo_joint_values.proofs.Narrowing.{value_same, same_value, at_cases}
+use Rattle.reo_joint_values.proofs.Changing.{chosen_at, chosen_here, chosen_other, HasChoice}
 use Rattle.reo_weights.specs.Weights.{all_values}
 use Rattle.reo_weights.proofs.Decisions.{IsDecided, both_decided, given_decided, same_decided, true_decided, each_decided, some_decided, some_in, marks_decided, options_decided}
 use Rattle.reo_weights.proofs.EqualItems.{items_decided}
@@ -31,30 +31,12 @@ values_decided v w = elim (cases_Bool (value_eq v w)) [
   | inr other ↦ inr (λ e. let wrong : true ≡ false = sym (value_same v) ∙ ap (value_eq v) e ∙ other in cc)
 ]
 
--- A choice with another value at a joint.
-abbrev chosen_at : Choice → ℕ → JointValue → Choice
-chosen_at c n w i = cond (i == n) w (c i)
-
-chosen_here : (c : Choice) (n : ℕ) (w : JointValue) (i : ℕ) → i ≡ n → chosen_at c n w i ≡ w
-chosen_here c n w i e =
-    let test : (i == n) ≡ true = grind (arith, nat_tests) in
-    ap (λ (t : Bool). cond t w (c i)) test
-
-chosen_other : (c : Choice) (n : ℕ) (w : JointValue) (i : ℕ) → i ≢ n → chosen_at c n w i ≡ c i
-chosen_other c n w i other =
-    let test : (i == n) ≡ false = grind (arith, nat_tests) in
-    ap (λ (t : Bool). cond t w (c i)) test
-
 -- Choices that agree before a joint, with one value there, agree up to it.
 agree_more : (c e : Choice) (n : ℕ) (v w : JointValue) → ((i : ℕ) → i < n → c i ≡ e i) → v ≡ w → (i : ℕ) → i < suc n → chosen_at c n v i ≡ chosen_at e n w i
 agree_more c e n v w agree same i lt = elim (cases_eq i n) [
   | inl here ↦ chosen_here c n v i here ∙ same ∙ sym (chosen_here e n w i here)
   | inr other ↦ chosen_other c n v i other ∙ agree i (omega (arith, lt, other)) ∙ sym (chosen_other e n w i other)
 ]
-
--- A choice of which something holds, with values from lists at the first n joints.
-abbrev HasChoice : (ℕ → List JointValue) → ℕ → (Choice → Type 0) → Type 0
-HasChoice values n holds = (c : Choice) × ((i : ℕ) → i < n → Contains (values i) (c i)) × holds c
 
 -- Whether there is one is decided, if it is of each, and only the values at these joints tell.
 choice_decided : (values : ℕ → List JointValue) (n : ℕ) (holds : Choice → Type 0) → ((c : Choice) → IsDecided (holds c)) → ((c e : Choice) → ((i : ℕ) → i < n → c i ≡ e i) → holds c → holds e) → IsDecided (HasChoice values n holds)

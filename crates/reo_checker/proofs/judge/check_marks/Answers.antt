@@ -20,7 +20,7 @@ returns-in-Some-clause-exact g c = (
   λ h. absurd cc,
   λ fit.
       let net : Net = net_of g.P.Primitive.behaviour c.args.circuit.now in
-      absurd (row_out net c.args.rows.now c.in-Some.primitive c.in-Some.ensures fit),
+      absurd (row_out net c.args.rows.now c.in-Some.primitive c.in-Some.ensures fit.in_tables),
 )
 
 pub returns-in-Some-joint_fault-clause-exact : goal.returns-in-Some-joint_fault-clause-exact

@@ -2,8 +2,7 @@ use Rattle.std.proofs.Common.{◌∙◌, ◌+◌, List, map, ap, arith}
 use Rattle.std.proofs.lemmas.List.{length-map}
 use Rattle.reo_net_base.specs.Behaviour.{Behaviour}
 use Rattle.reo_net_base.specs.Net.{Side, no_side, all_sides, row_count, net_of, first_side}
-use Rattle.reo_net_laws.proofs.Sides.{are_rows, side_is}
-use Rattle.reo_checker.proofs.RowLemmas.{first_before}
+use Rattle.reo_net_laws.proofs.Sides.{are_rows, side_is, first_before}
 use Rattle.reo_checker.proofs.rows.row_fault.Goals as goal
 
 pub returns-then-rows-side : goal.returns-then-rows-side

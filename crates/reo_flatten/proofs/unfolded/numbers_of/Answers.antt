@@ -3,7 +3,7 @@ use Rattle.std.proofs.Common.{◌≡◌, ◌∙◌, ap, false}
 use Rattle.reo_rules.specs.Lists.{has_name}
 use Rattle.reo_rules.specs.Names.{with_name}
 use Rattle.reo_rules.proofs.AfterLemmas.{more_seen}
-use Rattle.reo_flatten_unfold.proofs.LocalLemmas.{noted}
+use Rattle.reo_rules.proofs.Distinct.{noted_new}
 use Rattle.reo_flatten.proofs.EndLemmas.{new_name}
 use Rattle.reo_flatten.proofs.unfolded.numbers_of.Goals as goal
 
@@ -13,4 +13,4 @@ loop-node-preserved c =
     let node = c.node-item.result in
     let new : has_name c.loop-node.names node ≡ false = ap (λ ns. has_name ns node) c.loop-node.invariant ∙ new_name c.args.nodes.now i node c.requires c.loop-node-test.true c.node-item.is in
     more_seen c.args.nodes.now i node c.loop-node-test.true c.node-item.is c.loop-node.invariant
-    (c.in_ok-note.ensures.names ∙ ap (with_name c.loop-node.names) c.as_slice.ensures ∙ noted c.loop-node.names node new)
+    (c.in_ok-note.ensures.names ∙ ap (with_name c.loop-node.names) c.as_slice.ensures ∙ noted_new c.loop-node.names node new)

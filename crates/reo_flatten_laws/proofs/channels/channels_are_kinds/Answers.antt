@@ -1,5 +1,5 @@
 -- Connector by connector, item by item.
-use Rattle.std.proofs.Common.{◌≡◌, ◌∙◌, List, [], ◌∷◌, ◌++◌, sym, ap, subst}
+use Rattle.std.proofs.Common.{◌≡◌, ◌∙◌, List, [], ◌∷◌, sym, ap}
 use Rattle.std.specs.List.{AllByRecursion, flat_map}
 use Rattle.reo_trees.specs.declared.items.Item.{Item}
 use Rattle.reo_trees.specs.declared.items.Form.{Form}
@@ -13,17 +13,18 @@ use Rattle.reo_rules.specs.Types.{Typed, types_of, type_named}
 use Rattle.reo_rules.specs.Scopes.{connectors_of, scope_of}
 use Rattle.reo_rules.specs.Mistyped.{is_mistyped, mistyped_in}
 use Rattle.reo_rules.specs.Ranges.{range_in_type, range_in_item, range_in}
+use Rattle.reo_rules.proofs.AfterLemmas.{where_false}
 use Rattle.reo_flatten_laws.specs.Channels.{IsForItem}
 use Rattle.reo_flatten_laws.proofs.Each.{each_of}
-use Rattle.reo_flatten_laws.proofs.Breaks.{left_none, right_none, fails, after_at}
+use Rattle.reo_flatten_laws.proofs.Breaks.{left_none, right_none, after_at}
 use Rattle.reo_flatten_laws.proofs.RightKinds.{channel_is}
 use Rattle.reo_flatten_laws.proofs.channels.channels_are_kinds.Goals as goal
 
 one : (types : List Typed) (cs : List Connector) (scope : List Typed) (i : Item) → where_true (is_mistyped types cs scope i.form) (faults.Mistyped i.line) ≡ [] → range_in_item types scope i.line i.form ≡ [] → IsForItem types scope i.form
-one types cs scope i typed bound = step i.form (fails _ _ typed) bound where
+one types cs scope i typed bound = step i.form (where_false _ _ typed) bound where
   step : (f : Form) → is_mistyped types cs scope f ≡ Rattle.std.proofs.Common.false → range_in_item types scope i.line f ≡ [] → IsForItem types scope f
   step (forms.Node name term) t b = tt
-  step (forms.Joined channel first second) t b = channel_is types (type_named scope first) (type_named scope second) channel t (fails _ _ b)
+  step (forms.Joined channel first second) t b = channel_is types (type_named scope first) (type_named scope second) channel t (where_false _ _ b)
   step (forms.Used name arguments) t b = tt
 
 all : (types : List Typed) (cs : List Connector) (scope : List Typed) (is : List Item) → flat_map (λ (i : Item). where_true (is_mistyped types cs scope i.form) (faults.Mistyped i.line)) is ≡ []

@@ -3,10 +3,11 @@ use Rattle.std.proofs.Common.{arith, ◌≡◌, ◌<◌, suc, length, map, Bool,
 use Rattle.std.specs.List.{AllByRecursion, flat_map}
 use Rattle.std.proofs.lemmas.Bool.{leb-false}
 use Rattle.std.proofs.lemmas.List.{length-append, length-map}
+use Rattle.reo_rules.proofs.AfterLemmas.{where_false}
 use Rattle.reo_flat.specs.Unfolding.{Placed, meaning_named, meanings_of}
 use Rattle.reo_flat.specs.Ends.{incoming, outgoing}
 use Rattle.reo_flat.specs.Flat.{nodes_of, placed_of, own_kinds, primitives_of}
-use Rattle.reo_flatten_laws.proofs.Breaks.{fails, unbroken}
+use Rattle.reo_flatten_laws.proofs.Breaks.{unbroken}
 use Rattle.reo_flatten_laws.proofs.Within.{In, has-in}
 use Rattle.reo_flatten_laws.proofs.NodeSums.{all_ends_at_nodes}
 use Rattle.reo_flatten_laws.proofs.TwoEnds.{once_of, placed_narrow}
@@ -32,7 +33,7 @@ returns c ds plain none =
     let joints = few_joints placed (length placed) nodes some in
     let ends = all_ends_at_nodes nodes once (λ x. 1) 0 placed inside in
     let listed = few_listed 0 placed (placed_narrow ds) in
-    let small = leb-false (suc 4096) (length (primitives_of ds)) (first_false (nat_lt 4096 (length (primitives_of ds))) (nat_lt 65536 main.uses) (nat_lt 64 main.depth) (fails _ _ kept.few)) in
+    let small = leb-false (suc 4096) (length (primitives_of ds)) (first_false (nat_lt 4096 (length (primitives_of ds))) (nat_lt 65536 main.uses) (nat_lt 64 main.depth) (where_false _ _ kept.few)) in
     let parts = length-append (map (λ (p : Placed). p.kind) placed) (flat_map (own_kinds placed) nodes) in
     let same = length-map placed (λ (p : Placed). p.kind) in
     (omega arith, omega arith)

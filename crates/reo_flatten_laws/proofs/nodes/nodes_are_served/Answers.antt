@@ -16,7 +16,8 @@ use Rattle.reo_flat.specs.Flat.{main_parameters, nodes_of, placed_of, primitives
 use Rattle.reo_rules.specs.Twice.{twice_in, twice_in_connector}
 use Rattle.reo_rules.specs.Arity.{arity_in}
 use Rattle.reo_rules.specs.Dangling.{dangling_in}
-use Rattle.reo_flatten_laws.proofs.Breaks.{fails, left_none, right_none, one_more, unbroken}
+use Rattle.reo_rules.proofs.AfterLemmas.{where_false}
+use Rattle.reo_flatten_laws.proofs.Breaks.{left_none, right_none, one_more, unbroken}
 use Rattle.reo_flatten_laws.proofs.Within.{In, in_either}
 use Rattle.reo_flatten_laws.proofs.OnceTwice.{names_once}
 use Rattle.reo_flatten_laws.proofs.TwoEnds.{placed_narrow}
@@ -86,7 +87,7 @@ returns c ds none k d below =
       | inl given ↦ ports_serve (types_of ds) ps channels serves.given node given
       | inr own ↦ let two = serves.own node own in (end_right true node ports channels two.0, end_right false node ports channels two.1)
     ] in
-    let small = leb-false (suc 4096) (length (primitives_of ds)) (first_false (nat_lt 4096 (length (primitives_of ds))) (nat_lt 65536 main.uses) (nat_lt 64 main.depth) (fails _ _ kept.few)) in
+    let small = leb-false (suc 4096) (length (primitives_of ds)) (first_false (nat_lt 4096 (length (primitives_of ds))) (nat_lt 65536 main.uses) (nat_lt 64 main.depth) (where_false _ _ kept.few)) in
     let parts = length-append (map (λ (p : Placed). p.kind) (placed_of ds)) (flat_map (own_kinds (placed_of ds)) (nodes_of ds)) in
     let same = length-map (placed_of ds) (λ (p : Placed). p.kind) in
     let ins = few_ends false node 0 (placed_of ds) (placed_narrow ds) in

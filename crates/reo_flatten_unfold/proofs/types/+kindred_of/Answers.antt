@@ -3,7 +3,8 @@ use Rattle.std.proofs.Common.{◌∙◌, sym, ap, subst, take}
 use Rattle.reo_values.specs.declared.kindred.Kindred.TheVariants as kinds
 use Rattle.reo_trees.specs.declared.types.Shape.TheVariants as shapes
 use Rattle.reo_literals.specs.Items.{HasFewNames}
-use Rattle.reo_flatten_unfold.proofs.TypeLemmas.{resolved-Pair, few_shapes, few_pair}
+use Rattle.reo_rules.proofs.Parts.{resolved-Pair}
+use Rattle.reo_flatten_unfold.proofs.TypeLemmas.{few_shapes, few_pair}
 use Rattle.reo_flatten_unfold.proofs.types.+kindred_of.Goals as goal
 
 pub returns-in_ok-new-in-Pair-clause-is : goal.returns-in_ok-new-in-Pair-clause-is

@@ -6,11 +6,11 @@ use Rattle.reo_net_base.specs.declared.colouring.Chosen.{Chosen}
 use Rattle.reo_net_base.specs.Behaviour.{Behaviour, nothing}
 use Rattle.reo_net_base.specs.Net.{Net, behaviour_at, all_sides}
 use Rattle.reo_net_base.specs.Step.{mouth_of, taken_for, chosen_for, all_chosen, all_taken}
-use Rattle.reo_net_circuit.proofs.NetLemmas.{rows_length, side_in}
 use Rattle.reo_net_circuit.proofs.ReshapeLemmas.{lawful_at, whole_slice}
 use Rattle.reo_net_circuit.proofs.SettleLemmas.{rest_same, same_at, settled_more}
 use Rattle.reo_net_circuit.proofs.StepLemmas.{taken_kept}
 use Rattle.reo_net_circuit.proofs.step.step_all.Goals as goal
+use Rattle.reo_net_laws.proofs.Sides.{rows_length, side_in}
 
 pub chosen-rows-requires-clause-first : goal.chosen-rows-requires-clause-first
 chosen-rows-requires-clause-first g c =

@@ -7,17 +7,18 @@ use Rattle.reo_net_base.specs.declared.joint.End.{End}
 use Rattle.reo_net_base.specs.declared.joint.Joint.{Joint}
 use Rattle.reo_net_base.specs.Net.{Net, net_of}
 use Rattle.reo_joint_values.specs.Standing.{no_joint, giver_of}
+use Rattle.reo_joint_values.proofs.StandLemmas.{giver_gives}
 use Rattle.reo_refute_base.specs.Items.{Lists, items_at, given_by, plain_rows}
 use Rattle.reo_refute_lists.specs.Given.{given_at}
 use Rattle.reo_refute_lists.specs.Noted.{IsNoted}
 use Rattle.reo_refute_lists.proofs.NotedLemmas.{noted_none_yet, noted_row}
-use Rattle.reo_refute_lists.proofs.VisitLemmas.{giver_at, many_found, new_found}
+use Rattle.reo_refute_lists.proofs.VisitLemmas.{many_found, new_found}
 use Rattle.reo_refute_lists.proofs.visits.new_items.Goals as goal
 
 pub plain_rows-row-end-requires : goal.plain_rows-row-end-requires
 plain_rows-row-end-requires g c =
     let net : Net = net_of g.P.Primitive.behaviour c.args.circuit.now in
-    subst (λ (e : End). IsGiver net e) (ap (λ (j : Joint). j.giver) (c.joint.ensures no_joint)) (giver_at net c.known.ensures.wired c.args.joint c.requires.joint)
+    subst (λ (e : End). IsGiver net e) (ap (λ (j : Joint). j.giver) (c.joint.ensures no_joint)) (giver_gives net c.known.ensures.wired c.args.joint c.requires.joint)
 
 pub loop-row-init : goal.loop-row-init
 loop-row-init g c =
@@ -35,7 +36,7 @@ loop-row-init g c =
 pub note_row-requires-clause-giver : goal.note_row-requires-clause-giver
 note_row-requires-clause-giver g c =
     let net : Net = net_of g.P.Primitive.behaviour c.args.circuit.now in
-    subst (λ (e : End). IsGiver net e) (ap (λ (j : Joint). j.giver) (c.joint.ensures no_joint)) (giver_at net c.known.ensures.wired c.args.joint c.requires.joint)
+    subst (λ (e : End). IsGiver net e) (ap (λ (j : Joint). j.giver) (c.joint.ensures no_joint)) (giver_gives net c.known.ensures.wired c.args.joint c.requires.joint)
 
 pub loop-row-preserved : goal.loop-row-preserved
 loop-row-preserved g c =

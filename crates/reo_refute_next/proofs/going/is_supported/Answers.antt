@@ -1,18 +1,18 @@
 use Rattle.std.proofs.Common.{◌≡◌, ◌↔◌, true, false, sym, subst, ◌∙◌, arith}
 use Rattle.std.specs.Prelude.{IsTrue}
 use Rattle.reo_net_base.specs.Net.{Net, net_of}
+use Rattle.reo_joint_values.proofs.Inside.{side_below}
 use Rattle.reo_refute_base.specs.Items.{numbered}
 use Rattle.reo_refute_base.specs.Live.{HasSupport}
 use Rattle.reo_refute_base.specs.Places.{IsAllowed}
 use Rattle.reo_refute_places.specs.AllowedRows.{AreBytes}
 use Rattle.reo_refute_support.specs.Families.{family_of}
-use Rattle.reo_refute_support.proofs.Reading.{at_side_in}
 use Rattle.reo_refute_next.proofs.going.is_supported.Goals as goal
 
 pub rows-requires : goal.rows-requires
 rows-requires g c =
     let net : Net = net_of g.P.Primitive.behaviour c.args.circuit.now in
-    omega (arith, at_side_in net c.known.ensures.wired c.args.joint c.args.side c.requires.joint c.requires.at, c.requires.allowed.agreeing.one_each)
+    omega (arith, side_below net c.known.ensures.wired c.args.joint c.args.side c.requires.joint c.requires.at, c.requires.allowed.agreeing.one_each)
 
 pub has_support-requires-clause-allowed : goal.has_support-requires-clause-allowed
 has_support-requires-clause-allowed g c =

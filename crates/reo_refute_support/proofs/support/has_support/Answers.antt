@@ -3,6 +3,7 @@ use Rattle.std.proofs.lemmas.List.{get_or_default}
 use Rattle.reo_net_base.specs.Net.{Net, net_of}
 use Rattle.reo_net_base.specs.Sides.{side_count}
 use Rattle.std.specs.Prelude.{IsTrue}
+use Rattle.reo_joint_values.proofs.Inside.{side_below}
 use Rattle.reo_refute_base.specs.Items.{numbered}
 use Rattle.reo_refute_base.specs.Live.{alone, HasSupport}
 use Rattle.reo_refute_base.specs.Places.{IsAllowed}
@@ -10,33 +11,33 @@ use Rattle.reo_refute_places.specs.AllowedRows.{AreMarked}
 use Rattle.reo_refute_support.specs.Families.{family_of}
 use Rattle.reo_refute_support.specs.Flows.{MarksStand, StandingRow}
 use Rattle.reo_refute_support.specs.Columns.{AreColumns}
-use Rattle.reo_refute_support.proofs.Reading.{at_side_in, front_is}
+use Rattle.reo_refute_support.proofs.Reading.{front_is}
 use Rattle.reo_refute_support.proofs.Supporting.{support_by_bytes}
 use Rattle.reo_refute_support.proofs.support.has_support.Goals as goal
 
 pub at-requires : goal.at-requires
 at-requires g c =
     let net : Net = net_of g.P.Primitive.behaviour c.args.circuit.now in
-    omega (arith, at_side_in net c.known.ensures.wired c.args.joint c.args.side c.requires.joint c.requires.at, c.requires.tables.one_each)
+    omega (arith, side_below net c.known.ensures.wired c.args.joint c.args.side c.requires.joint c.requires.at, c.requires.tables.one_each)
 
 pub keep_fitting-requires-clause-ready : goal.keep_fitting-requires-clause-ready
 keep_fitting-requires-clause-ready g c =
     let net : Net = net_of g.P.Primitive.behaviour c.args.circuit.now in
-    let lt : c.args.side < side_count net = at_side_in net c.known.ensures.wired c.args.joint c.args.side c.requires.joint c.requires.at in
+    let lt : c.args.side < side_count net = side_below net c.known.ensures.wired c.args.joint c.args.side c.requires.joint c.requires.at in
     let is : c.as_slice-columns.result.now ≡ get_or c.args.tables.now c.args.side [] = c.as_slice-columns.ensures ∙ c.at.ensures ∙ get_or_default c.args.tables.now c.args.side c.at.result.now [] (omega (arith, lt, c.requires.tables.one_each)) in
     record { supply = c.requires.lists; columns_are = subst (AreColumns net c.args.side) (sym is) (c.requires.tables.columns c.args.side lt); live_are = c.requires.live }
 
 pub some_stands-requires-clause-ready : goal.some_stands-requires-clause-ready
 some_stands-requires-clause-ready g c =
     let net : Net = net_of g.P.Primitive.behaviour c.args.circuit.now in
-    let lt : c.args.side < side_count net = at_side_in net c.known.ensures.wired c.args.joint c.args.side c.requires.joint c.requires.at in
+    let lt : c.args.side < side_count net = side_below net c.known.ensures.wired c.args.joint c.args.side c.requires.joint c.requires.at in
     let is : c.as_slice-columns.result.now ≡ get_or c.args.tables.now c.args.side [] = c.as_slice-columns.ensures ∙ c.at.ensures ∙ get_or_default c.args.tables.now c.args.side c.at.result.now [] (omega (arith, lt, c.requires.tables.one_each)) in
     record { supply = c.requires.lists; columns_are = subst (AreColumns net c.args.side) (sym is) (c.requires.tables.columns c.args.side lt); live_are = c.requires.live }
 
 pub returns : goal.returns
 returns g c =
     let net : Net = net_of g.P.Primitive.behaviour c.args.circuit.now in
-    let lt : c.args.side < side_count net = at_side_in net c.known.ensures.wired c.args.joint c.args.side c.requires.joint c.requires.at in
+    let lt : c.args.side < side_count net = side_below net c.known.ensures.wired c.args.joint c.args.side c.requires.joint c.requires.at in
     let is : c.as_slice-columns.result.now ≡ get_or c.args.tables.now c.args.side [] = c.as_slice-columns.ensures ∙ c.at.ensures ∙ get_or_default c.args.tables.now c.args.side c.at.result.now [] (omega (arith, lt, c.requires.tables.one_each)) in
     let are : AreColumns net c.args.side c.as_slice-columns.result.now = subst (AreColumns net c.args.side) (sym is) (c.requires.tables.columns c.args.side lt) in
     let copy : c.deref_mut.result.now ≡ c.args.allowed.now = c.deref_mut.ensures.value ∙ c.in_ok-copy_bytes.ensures in

@@ -6,9 +6,10 @@ use Rattle.reo_rules.specs.Twice.{twice_in, twice_in_type, twice_in_connector}
 use Rattle.reo_rules.specs.Unknown.{unknown_in}
 use Rattle.reo_rules.specs.Mistyped.{mistyped_in}
 use Rattle.reo_rules.specs.Judged.{IsFirst}
-use Rattle.reo_rules.proofs.AfterLemmas.{judged_err, after_first, after_more, more_seen, right_none}
-use Rattle.reo_rules_types.proofs.Names.{after_at, where_false, keys_are}
-use Rattle.reo_rules_types.proofs.Standing.{stands_named, names_types}
+use Rattle.reo_rules.proofs.AfterLemmas.{judged_err, after_first, after_more, more_seen, right_none, where_false}
+use Rattle.reo_rules.proofs.Declared.{names_of-types}
+use Rattle.reo_rules_types.proofs.Names.{after_at, keys_are}
+use Rattle.reo_rules_types.proofs.Standing.{stands_named}
 use Rattle.reo_values.specs.declared.kindred.Kindred.{Kindred}
 use Rattle.reo_values.proofs.Sequences.{left_none}
 use Rattle.reo_rules_types.specs.declared.known.Known.{Known}
@@ -23,7 +24,7 @@ declare_type-requires-clause-new c =
     let i = c.loop-declaration.declaration-index in
     let none = after_at twice_in [] ds i c.declaration-item.result c.loop-declaration-test.true c.declaration-item.is c.requires.names.no_twice in
     let here = ap (twice_in (take i ds)) (sym c.in-Named.is) ∙ none in
-    ap (λ ns. has_name ns c.in-Named.name) (keys_are c.loop-declaration.types c.loop-declaration.known.declared _ c.loop-declaration.invariant.1.types_are ∙ names_types (take i ds))
+    ap (λ ns. has_name ns c.in-Named.name) (keys_are c.loop-declaration.types c.loop-declaration.known.declared _ c.loop-declaration.invariant.1.types_are ∙ names_of-types (take i ds))
     ∙ where_false _ _ (left_none _ (twice_in_type c.in-Named.term) here)
 
 pub connector_mistyped-requires-clause-distinct : goal.connector_mistyped-requires-clause-distinct

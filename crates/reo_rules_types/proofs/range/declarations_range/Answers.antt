@@ -7,12 +7,12 @@ use Rattle.reo_rules.specs.Types.{types_of, resolved}
 use Rattle.reo_rules.specs.Twice.{twice_in, twice_in_type, twice_in_connector}
 use Rattle.reo_rules.specs.Ranges.{range_in_type, range_in_connector, range_in}
 use Rattle.reo_rules.specs.Judged.{IsFirst}
-use Rattle.reo_rules.proofs.AfterLemmas.{judged_err, after_first, after_more, more_seen, right_none}
+use Rattle.reo_rules.proofs.AfterLemmas.{judged_err, after_first, after_more, more_seen, right_none, where_false}
+use Rattle.reo_rules.proofs.Declared.{names_of-types}
 use Rattle.reo_rules_types.specs.Scoped.{typed, AreKnown}
 use Rattle.reo_rules_types.proofs.Scoped.{known_kept, typed_kept}
-use Rattle.reo_rules_types.proofs.Names.{after_at, where_false, keys_are}
+use Rattle.reo_rules_types.proofs.Names.{after_at, keys_are}
 use Rattle.reo_rules_types.proofs.Signatures.{types_named, types_made}
-use Rattle.reo_rules_types.proofs.Standing.{names_types}
 use Rattle.reo_rules_types.proofs.range.declarations_range.Goals as goal
 use Rattle.reo_rules_types.proofs.range.declarations_range.Goals.{in-Named+in_ok-type_range-in-Named+in_ok-declare_type-in-Named, in-Made+in_ok-connector_range-in-Made}
 
@@ -25,7 +25,7 @@ declare_type-requires-clause-new c =
     let i = c.loop-declaration.declaration-index in
     let none = after_at twice_in [] ds i c.declaration-item.result c.loop-declaration-test.true c.declaration-item.is c.requires.names.no_twice in
     let here = ap (twice_in (take i ds)) (sym c.in-Named.is) ∙ none in
-    ap (λ ns. has_name ns c.in-Named.name) (keys_are c.loop-declaration.types c.loop-declaration.declared _ c.loop-declaration.invariant.1 ∙ names_types (take i ds))
+    ap (λ ns. has_name ns c.in-Named.name) (keys_are c.loop-declaration.types c.loop-declaration.declared _ c.loop-declaration.invariant.1 ∙ names_of-types (take i ds))
     ∙ where_false _ _ (left_none _ (twice_in_type c.in-Named.term) here)
 
 pub connector_range-requires-clause-distinct : goal.connector_range-requires-clause-distinct

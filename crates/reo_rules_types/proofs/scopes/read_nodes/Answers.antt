@@ -9,10 +9,11 @@ use Rattle.reo_rules.specs.Lists.{has_name}
 use Rattle.reo_rules.specs.Types.{Typed}
 use Rattle.reo_rules.specs.Scopes.{node_types_in}
 use Rattle.reo_rules.proofs.AfterLemmas.{more_flat}
+use Rattle.reo_rules.proofs.Declared.{names_of-nodes}
 use Rattle.reo_rules_types.specs.Scoped.{typed, AreKnown}
 use Rattle.reo_rules_types.proofs.Kept.{keeps_both}
 use Rattle.reo_rules_types.proofs.Scoped.{known_kept, typed_kept, names_typed}
-use Rattle.reo_rules_types.proofs.Names.{new_node, keys_are, names_nodes, names_append}
+use Rattle.reo_rules_types.proofs.Names.{new_node, keys_are, names_append}
 use Rattle.reo_values.specs.declared.kindred.Kindred.{Kindred}
 use Rattle.reo_trees.specs.declared.types.TypeTerm.{TypeTerm}
 use Rattle.reo_rules_types.specs.Cells.{Keeps}
@@ -28,7 +29,7 @@ declare-requires-clause-new c =
     let before = flat_map (λ (j : Item). node_types_in known j.form) (take i items) in
     ap (λ ns. has_name ns c.in-Node.name)
     (keys_are c.loop-item.types c.loop-item.scope _ c.loop-item.invariant.2 ∙ names_append (typed old c.args.scope.now) before
-    ∙ (λ k. (names_typed old c.args.scope.now ∙ c.requires.names) k ++ names_nodes known (take i items) k))
+    ∙ (λ k. (names_typed old c.args.scope.now ∙ c.requires.names) k ++ names_of-nodes known (take i items) k))
     ∙ new_node c.args.parameters.now items i c.item-item.result c.in-Node.name c.in-Node.term c.loop-item-test.true c.item-item.is c.in-Node.is c.requires.distinct
 
 pub declare-requires-clause-known : goal.declare-requires-clause-known

@@ -6,12 +6,13 @@ use Rattle.reo_rules.specs.Lists.{has_name}
 use Rattle.reo_rules.specs.Types.{resolved}
 use Rattle.reo_rules.specs.Scopes.{parameter_type}
 use Rattle.reo_rules.proofs.AfterLemmas.{more_mapped}
+use Rattle.reo_rules.proofs.Declared.{names_of-parameters}
 use Rattle.reo_rules_types.specs.Scoped.{typed, AreKnown}
 use Rattle.reo_rules_types.specs.Signed.{AreOf}
 use Rattle.reo_rules_types.proofs.Kept.{keeps_both}
 use Rattle.reo_rules_types.proofs.Scoped.{known_kept, typed_kept}
 use Rattle.reo_rules_types.proofs.Signed.{of_push, of_kept}
-use Rattle.reo_rules_types.proofs.Names.{new_parameter, keys_are, names_parameters}
+use Rattle.reo_rules_types.proofs.Names.{new_parameter, keys_are}
 use Rattle.reo_rules_types.proofs.scopes.read_parameters.Goals as goal
 
 pub declare-requires-clause-known : goal.declare-requires-clause-known
@@ -26,7 +27,7 @@ declare-requires-clause-new c =
     let ps = c.args.parameters.now in
     let i = c.loop-parameter.parameter-index in
     let p = c.parameter-item.result in
-    ap (λ ns. has_name ns p.name) (keys_are c.loop-parameter.types c.loop-parameter.scope _ c.loop-parameter.invariant.2 ∙ names_parameters known (take i ps))
+    ap (λ ns. has_name ns p.name) (keys_are c.loop-parameter.types c.loop-parameter.scope _ c.loop-parameter.invariant.2 ∙ names_of-parameters known (take i ps))
     ∙ new_parameter ps i p c.loop-parameter-test.true c.parameter-item.is c.requires.distinct
 
 pub loop-parameter-init : goal.loop-parameter-init

@@ -9,11 +9,12 @@ use Rattle.reo_rules.specs.Types.{resolved}
 use Rattle.reo_rules.specs.Scopes.{node_types_in, parameter_type}
 use Rattle.reo_rules.specs.Twice.{twice_in_parameter, twice_in_item}
 use Rattle.reo_rules.proofs.AfterLemmas.{right_none}
+use Rattle.reo_rules.proofs.Declared.{names_of-parameters}
 use Rattle.reo_rules_types.specs.Scoped.{typed}
 use Rattle.reo_rules_types.specs.Signed.{AreOf}
 use Rattle.reo_rules_types.proofs.Scoped.{known_kept, typed_kept}
 use Rattle.reo_rules_types.proofs.Signed.{of_kept}
-use Rattle.reo_rules_types.proofs.Names.{keys_are, names_parameters}
+use Rattle.reo_rules_types.proofs.Names.{keys_are}
 use Rattle.reo_rules_types.proofs.scopes.read_scope.Goals as goal
 
 pub read_parameters-requires-clause-distinct : goal.read_parameters-requires-clause-distinct
@@ -26,7 +27,7 @@ read_nodes-requires-clause-known c = known_kept c.args.types.now c.read_paramete
 
 pub read_nodes-requires-clause-names : goal.read_nodes-requires-clause-names
 read_nodes-requires-clause-names c =
-    keys_are c.read_parameters.new.types c.read_parameters.new.scope _ c.in_ok-numbers.ensures.scope ∙ names_parameters (typed c.args.types.now c.args.declared.now) c.as_slice-parameters.result.now
+    keys_are c.read_parameters.new.types c.read_parameters.new.scope _ c.in_ok-numbers.ensures.scope ∙ names_of-parameters (typed c.args.types.now c.args.declared.now) c.as_slice-parameters.result.now
 
 pub read_nodes-requires-clause-distinct : goal.read_nodes-requires-clause-distinct
 read_nodes-requires-clause-distinct c =

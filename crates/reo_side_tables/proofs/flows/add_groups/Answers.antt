@@ -6,9 +6,10 @@ use Rattle.reo_net_base.specs.Net.{Net, net_of, no_side}
 use Rattle.reo_side_tables.specs.Marks.{groups_in, group_in, common_in, end_at}
 use Rattle.reo_side_tables.specs.Flowing.{AreAdded}
 use Rattle.reo_side_tables.specs.Grouping.{IsAsGroup, IsAsSomeGroup}
-use Rattle.reo_side_tables.proofs.Adding.{added_none, added_both, still_F}
+use Rattle.reo_side_tables.proofs.Adding.{added_none, added_both}
 use Rattle.reo_side_tables.proofs.Sides.{end_of_side, group_below}
 use Rattle.reo_net_base.specs.Marks.{is_flow}
+use Rattle.reo_net_base.proofs.Marks.{mark_still}
 use Rattle.reo_side_tables.proofs.flows.add_groups.Goals as goal
 use Rattle.reo_side_tables.proofs.flows.add_groups.Goals.{then-is_flow+in_ok-add_group, else-is_flow}
 
@@ -33,7 +34,7 @@ loop-group-preserved g c =
             | inr other ↦ inl (omega arith, member)
           ]))
       | else-is_flow w ↦
-          let still : common_in net c.args.side c.loop-group.group end ≢ F = still_F (common_in net c.args.side c.loop-group.group end) (ap is_flow (sym common_is) ∙ sym c.is_flow.ensures ∙ w.if-is_flow.false) in
+          let still : common_in net c.args.side c.loop-group.group end ≢ F = mark_still (common_in net c.args.side c.loop-group.group end) (ap is_flow (sym common_is) ∙ sym c.is_flow.ensures ∙ w.if-is_flow.false) in
           subst (AreAdded net c.args.side c.args.joint (λ r. (group_in net c.args.side r < c.loop-group.group + 1) × IsAsSomeGroup net c.args.side c.args.joint r) c.args.flows.now) (sym w.flows-is)
           (added_both net c.args.side c.args.joint (λ r. (group_in net c.args.side r < c.loop-group.group) × IsAsSomeGroup net c.args.side c.args.joint r) (λ r. ⊥) (λ r. (group_in net c.args.side r < c.loop-group.group + 1) × IsAsSomeGroup net c.args.side c.args.joint r)
           c.args.flows.now c.loop-group.flows c.loop-group.flows kept (added_none net c.args.side c.args.joint (λ r. ⊥) c.loop-group.flows (λ r p. p))

@@ -4,7 +4,7 @@ use Rattle.reo_net_base.specs.declared.mark.Mark.TheVariants.{F}
 use Rattle.reo_net_base.specs.Ends.{IsGiver}
 use Rattle.reo_net_base.specs.Net.{Net, net_of, mark_at}
 use Rattle.reo_joint_values.specs.Standing.{no_joint}
-use Rattle.reo_standing.proofs.Fed.{giver_gives}
+use Rattle.reo_joint_values.proofs.StandLemmas.{giver_gives}
 use Rattle.reo_standing.proofs.giving.put_made.Goals as goal
 
 pub plain_at-requires-clause-giver : goal.plain_at-requires-clause-giver

@@ -1,7 +1,8 @@
 use Rattle.std.proofs.Common.{ℕ, ◌+◌, ◌-◌, ◌≤◌, ◌∙◌, List, length, map, ap, sym, arith}
 use Rattle.reo_net_base.specs.Net.{all_sides, net_of}
-use Rattle.reo_net_circuit.proofs.NetLemmas.{rows_length}
-use Rattle.reo_stepping.proofs.Far.{ends_kept, far_all, far_more, far_none, far_over, same_count, sides_same}
+use Rattle.reo_net_laws.proofs.Sides.{rows_length}
+use Rattle.reo_net_laws.proofs.Shapes.{count_same}
+use Rattle.reo_stepping.proofs.Far.{ends_kept, far_all, far_more, far_none, far_over, same_count}
 use Rattle.reo_stepping.proofs.NextLemmas.{none_changes}
 use Rattle.reo_stepping.proofs.marked.step_marked.Goals as goal
 
@@ -38,7 +39,7 @@ step_one-requires-clause-rows g c =
     let far = c.loop-index.invariant.far in
     let bs = map g.P.Primitive.behaviour c.args.circuit.now.primitives in
     rows_length (all_sides bs) c.args.rows.now c.requires.colouring.rows_fit.in_tables
-    ∙ sym (sides_same bs (map g.P.Primitive.behaviour c.loop-index.circuit.primitives) far.shape.primitives)
+    ∙ sym (count_same bs (map g.P.Primitive.behaviour c.loop-index.circuit.primitives) far.shape.primitives)
 
 pub step_one-requires-clause-items : goal.step_one-requires-clause-items
 step_one-requires-clause-items g c =

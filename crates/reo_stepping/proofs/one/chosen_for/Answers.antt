@@ -2,7 +2,7 @@ use Rattle.std.proofs.Common.{◌∙◌, ◌<◌, ◌+◌, List, length, map, ap
 use Rattle.std.specs.Prelude.{◌==◌}
 use Rattle.std.proofs.lemmas.List.{length-map}
 use Rattle.reo_net_base.specs.Behaviour.{Behaviour}
-use Rattle.reo_net_circuit.proofs.NetLemmas.{side_in}
+use Rattle.reo_net_laws.proofs.Sides.{side_in}
 use Rattle.reo_stepping.proofs.one.chosen_for.Goals as goal
 
 pub rows_for-requires-clause-first : goal.rows_for-requires-clause-first

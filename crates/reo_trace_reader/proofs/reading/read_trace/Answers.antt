@@ -17,13 +17,13 @@ loop-rounds-preserved c =
 pub returns-in-Some-last_line-clause-only : goal.returns-in-Some-last_line-clause-only
 returns-in-Some-last_line-clause-only c answer h =
     let none = rw c.in_default.is at c.in_ok-line.ensures in
-    c.one_answer.ensures c.args.ports.now.list c.args.text.now _ answer c.requires
+    c.one_trace_answer.ensures c.args.ports.now.list c.args.text.now _ answer c.requires
     (trace_is c.args.ports.now.list c.args.text.now c.loop-rounds.rounds c.loop-rounds.number c.loop-rounds.reader c.in-Some-last_line.ending c.loop-rounds.invariant
     c.in-Some-last_line.ensures.0 (sym (c.left.ensures ∙ none.1) ∙ c.in-Some-last_line.ensures.1)) h
 
 pub returns-in-None-clause-only : goal.returns-in-None-clause-only
 returns-in-None-clause-only c answer h =
     let none = rw c.in_default.is at c.in_ok-line.ensures in
-    c.one_answer.ensures c.args.ports.now.list c.args.text.now _ answer c.requires
+    c.one_trace_answer.ensures c.args.ports.now.list c.args.text.now _ answer c.requires
     (wrong_is c.args.ports.now.list c.args.text.now c.loop-rounds.rounds c.loop-rounds.number c.loop-rounds.reader c.loop-rounds.invariant none.0
     (subst NoEnding (c.left.ensures ∙ none.1) c.in-None.ensures)) h

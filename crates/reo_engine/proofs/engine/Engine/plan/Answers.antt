@@ -6,13 +6,13 @@ use Rattle.reo_net_laws.proofs.FirstInside.{first_inside}
 use Rattle.reo_engine.proofs.engine.Engine.plan.Goals as goal
 
 pub returns-in_err-colouring-clause-none : goal.returns-in_err-colouring-clause-none
-returns-in_err-colouring-clause-none g c = rw (← c.self.view_is) c.first_by_parts.ensures.none
+returns-in_err-colouring-clause-none g c = rw (← c.self.view_is) c.first_colouring.ensures.none
 
 pub returns-in_err-plan_with-clause-none : goal.returns-in_err-plan_with-clause-none
-returns-in_err-plan_with-clause-none g c = rw (← c.self.view_is) c.first_by_parts.ensures.none
+returns-in_err-plan_with-clause-none g c = rw (← c.self.view_is) c.first_colouring.ensures.none
 
 pub returns-clause-none : goal.returns-clause-none
-returns-clause-none g c = rw (← c.self.view_is) c.first_by_parts.ensures.none
+returns-clause-none g c = rw (← c.self.view_is) c.first_colouring.ensures.none
 
 pub returns-clause-exact : goal.returns-clause-exact
 returns-clause-exact g c =

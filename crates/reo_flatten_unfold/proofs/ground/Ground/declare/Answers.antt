@@ -4,11 +4,12 @@ use Rattle.std.proofs.lemmas.List.{length-take-le, length-map}
 use Rattle.reo_rules.specs.Lists.{has_name}
 use Rattle.reo_rules.specs.Types.{types_of}
 use Rattle.reo_rules.specs.Twice.{twice_in}
+use Rattle.reo_rules.proofs.Declared.{names_of-types}
 use Rattle.reo_flat.specs.Unfolding.{Meaning, meanings_of}
 use Rattle.reo_flatten_unfold.specs.declared.ground.Ground.{Ground}
 use Rattle.reo_flatten_unfold.specs.Ground.{IsGround}
 use Rattle.reo_flatten_unfold.proofs.ListLemmas.{each_none, take_next}
-use Rattle.reo_flatten_unfold.proofs.GroundLemmas.{new_type, new_connector, names_of-types, ground_named, ground_made}
+use Rattle.reo_flatten_unfold.proofs.GroundLemmas.{new_type, new_connector, ground_named, ground_made}
 use Rattle.reo_flatten_unfold.proofs.ground.Ground.declare.Goals as goal
 
 pub declare-requires : goal.declare-requires

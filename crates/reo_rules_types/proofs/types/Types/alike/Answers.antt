@@ -2,9 +2,10 @@
 use Rattle.std.proofs.Common.{arith, ◌≡◌, ◌∙◌, ℕ, List, true, ◌==◌, sym, ap, subst, slice_get, Some}
 use Rattle.reo_values.specs.declared.kindred.Kindred.{Kindred}
 use Rattle.reo_rules.specs.Types.{is_same}
+use Rattle.reo_rules.proofs.Same.{same_types}
 use Rattle.std.proofs.lemmas.Option.{same_Some}
 use Rattle.reo_values.proofs.Truths.{one_truth}
-use Rattle.reo_rules_types.proofs.Same.{same_told, same_self}
+use Rattle.reo_rules_types.proofs.Same.{same_self}
 use Rattle.reo_rules_types.proofs.types.Types.alike.Goals as goal
 
 told : (a b : ℕ) → (a == b) ≡ true → a ≡ b
@@ -18,7 +19,7 @@ by_number : (types : List Kindred) (once : (m n : ℕ) (k : Kindred) → slice_g
 by_number types once a b k l p q =
     one_truth (a == b) (is_same k l)
     (λ e. ap (is_same k) (sym (same_Some k l (sym p ∙ ap (slice_get types) (told a b e) ∙ q))) ∙ same_self k)
-    (λ e. same a b (once a b l (p ∙ ap Some (same_told k l e)) q))
+    (λ e. same a b (once a b l (p ∙ ap Some (same_types k l e)) q))
 
 pub returns : goal.returns
 returns c k l p q =

@@ -1,6 +1,6 @@
 use Rattle.reo_net_base.specs.Net.{Net, net_of}
 use Rattle.reo_planning.proofs.Firsts.{first_by}
-use Rattle.reo_planning.proofs.planning.first_by_parts.Goals as goal
+use Rattle.reo_planning.proofs.planning.first_colouring.Goals as goal
 
 pub returns-clause-exact : goal.returns-clause-exact
 returns-clause-exact g c =

@@ -6,7 +6,7 @@ use Rattle.reo_flat.specs.Unfolding.{Placed}
 use Rattle.reo_flat.specs.Ends.{ends_in}
 use Rattle.reo_flatten.specs.NodeEnds.{placed_with, name_at, AreEnds}
 use Rattle.reo_flatten.proofs.EndLemmas.{ends_from-more, placed_is, many_placed}
-use Rattle.reo_flatten.proofs.ends.ends_of.Goals as goal
+use Rattle.reo_flatten.proofs.ends.ends_at_nodes.Goals as goal
 
 pub loop-primitive-preserved : goal.loop-primitive-preserved
 loop-primitive-preserved c =

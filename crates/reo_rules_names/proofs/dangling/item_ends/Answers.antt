@@ -6,7 +6,7 @@ use Rattle.reo_trees.specs.declared.items.Item.{Item}
 use Rattle.reo_rules.specs.Touches.{touches_in}
 use Rattle.reo_rules.proofs.AfterLemmas.{more_flat}
 use Rattle.reo_rules_names.specs.Ends.{AreEnds}
-use Rattle.reo_rules_names.proofs.dangling.ends_of.Goals as goal
+use Rattle.reo_rules_names.proofs.dangling.item_ends.Goals as goal
 
 pub loop-item-preserved : goal.loop-item-preserved
 loop-item-preserved c known are =
