@@ -1,7 +1,7 @@
 -- How far a run may go, by the words.
 use Rattle.std.specs.Prelude.{ℕ, List, option_and_then, slice_get}
 use Rattle.std.specs.Option.{unwrap_or}
-use Rattle.reo_runner.specs.declared.outcome.Limits.{Limits}
+pub use Rattle.reo_runner.specs.declared.outcome.Limits.{Limits}
 use Rattle.reo_runs.specs.Round.{Choosing}
 use Rattle.reo_runs.specs.Run.{firsts}
 use Rattle.reo_command.specs.declared.command.Command.{Command}

@@ -2,7 +2,7 @@
 //! to be of.
 ghost use Rattle.std.specs.Prelude.{[], ◌∷◌, IfOk, map};
 ghost use Rattle.reo_kinds.specs.Kinds.{port_state_of};
-ghost use Rattle.reo_at_ports.specs.Runnable.{CanRun};
+ghost use Rattle.reo_runner.specs.Runs.{CanRun};
 ghost use Rattle.reo_trace_texts.specs.Lines.{AreTold};
 ghost use Rattle.reo_verdicts.specs.Replays.{HasText};
 ghost use Rattle.reo_command.specs.declared.role.Role.TheVariants as roles;

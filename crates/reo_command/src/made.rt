@@ -1,7 +1,7 @@
 //! Made work, which is read as files are.
 ghost use Rattle.std.specs.Prelude.{◌<◌, ◌≤◌, ◌^◌, IfOk, IfErr, length, map};
 ghost use Rattle.reo_kinds.specs.Kinds.{port_state_of};
-ghost use Rattle.reo_at_ports.specs.Runnable.{CanRun};
+ghost use Rattle.reo_runner.specs.Runs.{CanRun};
 ghost use Rattle.reo_command.specs.Made.{ReadsTexts, TextsStop, ReadsMade};
 ghost use Rattle.reo_command.specs.ReadSteps.{IsStoppedBy, runnable_in};
 

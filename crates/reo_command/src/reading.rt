@@ -2,7 +2,7 @@
 ghost use Rattle.std.specs.Prelude.{◌≡◌, [], ◌∷◌, IfOk, length, map};
 ghost use Rattle.reo_kinds.specs.Kinds.{port_state_of};
 ghost use Rattle.reo_players.specs.Written.{written_out};
-ghost use Rattle.reo_at_ports.specs.Runnable.{CanRun};
+ghost use Rattle.reo_runner.specs.Runs.{CanRun};
 ghost use Rattle.reo_script.specs.Places.{ArePortsOf};
 ghost use Rattle.reo_run_premises.specs.Fitting.{FitPorts};
 ghost use Rattle.reo_trace_texts.specs.Lines.{AreTold};

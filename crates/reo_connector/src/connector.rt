@@ -5,7 +5,7 @@ ghost use Rattle.reo_net_base.specs.declared.port.Port.{Port as APort};
 ghost use Rattle.reo_scripts.specs.ScriptRules.{port_number};
 ghost use Rattle.reo_trace_texts.specs.Lines.{AreTold};
 
-use reo_engine::Engine;
+use reo_at_ports::Engine;
 use reo_kinds::Kind;
 use reo_net_base::{Port, Ports};
 use std::marker::Model;

@@ -10,8 +10,8 @@ ghost use Rattle.reo_command.specs.ReadSteps.{circuit_in};
 ghost use Rattle.reo_connector.specs.Opening.{IsFlatRead, IsOpened, alone, begun};
 
 use crate::connector::{Connector, MOST_BYTES};
+use reo_at_ports::Engine;
 use reo_command::{Role, Stop, read_flat};
-use reo_engine::Engine;
 use reo_flatten::Flat;
 use reo_io::{Named, SureFiles};
 use reo_values::{Bytes, List, NoMemory};

@@ -16,15 +16,13 @@ ghost use Rattle.reo_verify.specs.Replayed.{IsReplayed, IsNoRound, AreReplayed};
 ghost use Rattle.reo_draw_rounds.specs.Rounds.{round_picture};
 ghost use Rattle.reo_draw_replay.specs.Steps.{IsHalted, IsDrawnIf, IsDrawnWithin};
 
-use reo_at_ports::{carry_out, offer_all};
+use reo_at_ports::{Engine, carry_out, offer_all, release_run};
 use reo_draw_rounds::round_picture;
-use reo_engine::Engine;
 use reo_judging::{Stop, begins, plan_of, refusal_of};
 use reo_kinds::Kind;
 use reo_net_base::{Colouring, Ports};
 use reo_net_circuit::Circuit;
 use reo_players::Players;
-use reo_release::release_run;
 use reo_scripts::Script;
 use reo_trace::{Ending, RoundLine};
 use reo_values::{Bytes, NoMemory};

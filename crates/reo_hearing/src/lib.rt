@@ -6,4 +6,5 @@ mod hearing;
 mod taking;
 
 pub use heard::Heard;
+pub use reo_live::Live;
 pub use taking::hear;

@@ -4,7 +4,7 @@ use Rattle.std.specs.Option.{option_and_then}
 use Rattle.std.proofs.lemmas.Bool.{cases_eq}
 use Rattle.std.proofs.lemmas.List.{get_or_default}
 use Rattle.reo_values.specs.declared.value.Value.{Value}
-use Rattle.reo_net_order.specs.Arrows.{OrderExists}
+use Rattle.reo_net_base.specs.Wired.{OrderExists}
 use Rattle.reo_net_base.specs.declared.mark.Mark.TheVariants.{F, J}
 use Rattle.reo_net_base.specs.declared.joint.End.{End}
 use Rattle.reo_net_base.specs.declared.joint.Joint.{Joint}

@@ -1,7 +1,7 @@
 -- What the items that can stand at joints are.
 use Rattle.std.specs.Prelude.{ℕ, ◌<◌, ◌≡◌, Bool, true, List, Option, Some, None, length, slice_index_or}
 use Rattle.reo_values.specs.declared.value.Value.{Value}
-use Rattle.reo_net_order.specs.Arrows.{NoCycle}
+use Rattle.reo_net_base.specs.Wired.{NoCycle}
 use Rattle.reo_net_base.specs.declared.joint.Joint.{Joint}
 use Rattle.reo_net_base.specs.Net.{Net, from_sides, to_sides}
 use Rattle.reo_net_base.specs.Wired.{IsWired}

@@ -2,7 +2,7 @@
 ghost use Rattle.reo_joint_values.specs.StandingLaws.{ItemsCanStand};
 ghost use Rattle.reo_joint_values.specs.StandingLaws.{PossibleItemsAreClosed, PossibleItemsAreLeast};
 
-use reo_net_order::order_exists;
+use reo_net_base::order_exists;
 
 /// With the items that rows take in, those that they give can stand too.
 pub fn possible_items_are_closed()

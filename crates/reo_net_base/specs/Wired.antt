@@ -1,6 +1,6 @@
 -- What holds of every circuit.
 use Rattle.std.specs.Prelude.{ℕ, ◌<◌, ◌≤◌, ◌≡◌, ◌≢◌, true, false, List, length, slice_index_or}
-use Rattle.reo_net_order.specs.Arrows.{IsTopological}
+pub use Rattle.reo_net_order.specs.Arrows.{IsTopological, NoCycle, OrderExists, OrderHasNoCycle}
 use Rattle.reo_net_base.specs.declared.joint.End.{End}
 use Rattle.reo_net_base.specs.declared.joint.Joint.{Joint}
 use Rattle.reo_net_base.specs.Behaviour.{Behaviour}

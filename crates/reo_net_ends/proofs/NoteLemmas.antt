@@ -7,7 +7,7 @@ use Rattle.reo_net_base.specs.declared.joint.Joint.{Joint}
 use Rattle.reo_net_base.specs.Behaviour.{Behaviour}
 use Rattle.reo_net_base.specs.Net.{Net, behaviour_at, is_at}
 use Rattle.reo_net_base.specs.Wired.{IsWired, IsEnd}
-use Rattle.reo_net_laws.proofs.Joined.{one_at}
+use Rattle.reo_net_circuit.proofs.NetLemmas.{one_at}
 use Rattle.reo_net_ends.specs.Ends.{HasEnd, joint_at, AreEnds}
 use Rattle.reo_net_ends.specs.Noted.{HasPlaces, AreSamePlaces, AreNoted}
 

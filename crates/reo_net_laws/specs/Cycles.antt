@@ -1,6 +1,6 @@
 -- Directed cycles of sides.
 use Rattle.std.specs.Prelude.{ℕ, ◌↔◌, List}
-use Rattle.reo_net_order.specs.Arrows.{NoCycle}
+use Rattle.reo_net_base.specs.Wired.{NoCycle}
 use Rattle.reo_net_base.specs.Net.{Net, from_sides, to_sides}
 use Rattle.reo_net_base.specs.Wired.{IsOrder}
 

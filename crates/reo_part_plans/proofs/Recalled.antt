@@ -29,15 +29,13 @@ use Rattle.reo_net_laws.proofs.Sides.{row_in_table, row_is, side_at_place, side_
 use Rattle.reo_net_laws.proofs.Shapes.{shapes_twice, shapes_back}
 use Rattle.reo_knots.specs.Knots.{Knotted, AreKnots, in_knot, knot_count}
 use Rattle.reo_still.specs.Joining.{HasFirst}
-use Rattle.reo_propagate.specs.Queues.{among}
-use Rattle.reo_kept_tables.proofs.Renewed.{among_contains, contains_among}
-use Rattle.reo_walk.proofs.Knotted.{among_sides, sides_below}
 use Rattle.reo_planning.specs.Planned.{IsPartPlanned}
 use Rattle.reo_planning.specs.Written.{AreWritten}
 use Rattle.reo_flowing.specs.Flowing.{AreFlowingOf}
 use Rattle.reo_flowing.proofs.Staying.{flowing_stay}
 use Rattle.reo_planning.proofs.Flowing.{mark_same}
 use Rattle.reo_planning.proofs.KnotSets.{below}
+use Rattle.reo_planning.proofs.Searched.{among, among_contains, contains_among, among_sides, sides_below, rows_same}
 use Rattle.reo_weights.specs.Over.{IsWithin}
 use Rattle.reo_state_laws.specs.States.{HaveSameTables, IsOpen, AreFirstRows}
 use Rattle.reo_state_laws.proofs.Same.{same_rows}
@@ -45,7 +43,6 @@ use Rattle.reo_item_bounds.specs.Bounds.{HasBounds}
 use Rattle.reo_item_bounds.proofs.Linked.{closed_on}
 use Rattle.reo_item_bounds.proofs.Tables.{stay}
 use Rattle.reo_item_bounds.proofs.Within.{within}
-use Rattle.reo_search.proofs.Isolating.{rows_same}
 use Rattle.reo_part_plans.specs.declared.entry.Entry.{Entry}
 use Rattle.reo_part_plans.specs.declared.looks.Look.{Look}
 use Rattle.reo_part_plans.specs.declared.plans.PartPlans.{PartPlans}

@@ -5,6 +5,7 @@ pub mod Parting
 pub mod Firsts
 pub mod Flowing
 pub mod Passing
+pub mod Searched
 pub mod Setting
 pub mod Storing
 pub mod Summing

@@ -14,11 +14,10 @@ use Rattle.reo_rounds.specs.declared.plan.PlanFault.{PlanFault}
 use Rattle.reo_rounds.specs.declared.plan.PlanFault.TheVariants as plans
 use Rattle.reo_rounds.specs.Plans.{IsPlanFault}
 use Rattle.reo_propagate.specs.Queues.{among}
-use Rattle.reo_walk.specs.declared.part.Part.{Part}
 use Rattle.reo_search.specs.declared.fault.SearchFault.{SearchFault}
 use Rattle.reo_search.specs.declared.fault.SearchFault.TheVariants as searches
-use Rattle.reo_search.specs.First.{IsFirstWithin, IsSearchFault}
-use Rattle.reo_walk.proofs.Knotted.{among_sides, sides_below}
+use Rattle.reo_search.specs.First.{Part, IsFirstWithin, IsSearchFault}
+use Rattle.reo_search.proofs.Walked.{among_sides, sides_below}
 use Rattle.reo_planning.specs.declared.kept.Kept.{Kept}
 use Rattle.reo_planning.specs.Faults.{SaysSame, IsPartFault}
 use Rattle.reo_planning.specs.Keeping.{is_settled, serves, AllServe, IsKept}

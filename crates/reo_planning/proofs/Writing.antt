@@ -7,7 +7,7 @@ use Rattle.reo_values.proofs.Sequences.{one_more}
 use Rattle.reo_net_laws.specs.Sublists.{part_rows}
 use Rattle.reo_propagate.specs.Queues.{among}
 use Rattle.reo_propagate.proofs.Among.{among_more}
-use Rattle.reo_walk.proofs.Listing.{mapped_at}
+use Rattle.reo_search.proofs.Walked.{mapped_at}
 use Rattle.reo_planning.specs.Written.{AreWritten}
 
 -- Nothing is written down yet.

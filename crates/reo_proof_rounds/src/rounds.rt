@@ -8,8 +8,7 @@ ghost use Rattle.reo_at_ports.specs.Pending.{IsButForOffers};
 ghost use Rattle.reo_proof_rounds.specs.Rounds.{IsRoundProven, IsNoProof};
 
 use crate::stop::RoundStop;
-use reo_at_ports::{carry_out, offer_all};
-use reo_engine::Engine;
+use reo_at_ports::{Engine, carry_out, offer_all};
 use reo_judging::plan_of;
 use reo_net_base::{Ports, Restoring};
 use reo_players::Players;

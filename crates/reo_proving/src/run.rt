@@ -12,6 +12,7 @@ ghost use Rattle.reo_at_ports.specs.Runnable.{CanRun};
 ghost use Rattle.reo_proving.specs.Proving.{HasCome, HaveProofs};
 
 use crate::round::go_on;
+use reo_at_ports::release_run;
 use reo_engine::Engine;
 use reo_flatten::Flat;
 use reo_io::Sink;
@@ -19,7 +20,6 @@ use reo_net_base::{Ported, Ports, Restoring};
 use reo_net_circuit::Circuit;
 use reo_players::Players;
 use reo_proof_laws::proofs_exist;
-use reo_release::release_run;
 use reo_runner::Limits;
 use reo_runs::known_order;
 use reo_scripts::Script;

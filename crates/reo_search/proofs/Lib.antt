@@ -1,3 +1,4 @@
 pub mod Named
 pub mod Searched
 pub mod Isolating
+pub mod Walked

@@ -7,7 +7,7 @@ use Rattle.reo_net_laws.specs.Keys.{IsFirstIn}
 use Rattle.reo_net_laws.specs.Sublists.{sides_in, part_rows}
 use Rattle.reo_weights.specs.Over.{IsWithin, IsOverBy}
 use Rattle.reo_weights.specs.Over.Cause.{spent, wide}
-use Rattle.reo_walk.specs.declared.part.Part.{Part}
+pub use Rattle.reo_walk.specs.declared.part.Part.{Part}
 use Rattle.reo_search.specs.declared.fault.SearchFault.{SearchFault}
 use Rattle.reo_search.specs.declared.fault.SearchFault.TheVariants as faults
 use Rattle.reo_walk.specs.Arranged.{IsJamRow}

@@ -8,6 +8,5 @@ mod printing;
 mod top;
 
 pub use reo_command::{Command, Setting, Status, command_of};
-pub use reo_verify::{Refusal, Verdict, verify_trace};
-pub use reo_verify_proof::{ProofRefusal, verify_proof};
+pub use reo_top_verdicts::{ProofRefusal, Refusal, Verdict, verify_proof, verify_trace};
 pub use top::reo;

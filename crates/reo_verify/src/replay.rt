@@ -9,13 +9,11 @@ ghost use Rattle.reo_at_ports.specs.Between.{AreBetween};
 ghost use Rattle.reo_at_ports.specs.Runnable.{CanRun};
 ghost use Rattle.reo_verify.specs.Replayed.{IsReplayed, IsNoRound, AreReplayed, IsHalted};
 
-use reo_at_ports::{carry_out, offer_all};
-use reo_engine::Engine;
+use reo_at_ports::{Engine, carry_out, offer_all, release_run};
 use reo_judging::{Stop, begins, plan_of, refusal_of};
 use reo_net_base::{Ports, Restoring};
 use reo_net_circuit::Circuit;
 use reo_players::Players;
-use reo_release::release_run;
 use reo_scripts::Script;
 use reo_trace::{Ending, RoundLine};
 use reo_values::{Bytes, NoMemory};

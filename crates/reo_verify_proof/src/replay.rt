@@ -11,7 +11,7 @@ ghost use Rattle.reo_verify_proof.specs.Answered.{IfVerdict};
 ghost use Rattle.reo_verify_proof.specs.Ended.{IsVerdictAt};
 
 use crate::refusing::refuse_round;
-use reo_engine::Engine;
+use reo_at_ports::{Engine, release_run};
 use reo_judging::{begins, ends_as};
 use reo_net_base::{Ports, Restoring};
 use reo_net_circuit::Circuit;
@@ -19,7 +19,6 @@ use reo_players::Players;
 use reo_proof_reader::{Next, Reader, read_next};
 use reo_proof_rounds::prove_round;
 use reo_proof_texts::ProofRefusal;
-use reo_release::release_run;
 use reo_runs::known_order;
 use reo_scripts::Script;
 use reo_trace::Ending;

@@ -2,9 +2,8 @@ use Rattle.std.proofs.Common.{List, [], ◌∷◌, false, refl, subst}
 use Rattle.reo_command.specs.declared.command.Command.TheVariants.{Tables}
 use Rattle.reo_command.specs.declared.role.Role.TheVariants.{Circuit}
 use Rattle.reo_flatten.specs.declared.last.Flat.{Flat}
-use Rattle.reo_runner.specs.declared.outcome.Limits.{Limits}
 use Rattle.reo_command.specs.Fetched.{Content}
-use Rattle.reo_command.specs.Limits.{usual_limits}
+use Rattle.reo_command.specs.Limits.{Limits, usual_limits}
 use Rattle.reo_command.specs.Readings.{ReadsCircuit, StopsCheck}
 use Rattle.reo_command.specs.ReadSteps.{circuit_in}
 use Rattle.reo_command.specs.States.{files_change, sink_change}

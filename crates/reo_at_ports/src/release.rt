@@ -1,6 +1,5 @@
 //! Letting go what runs are made with. How the parts of an engine go is proved here, once, and not
 //! in each crate that makes one.
-#![tactic(auto)]
 
 use reo_engine::Engine;
 use reo_net_base::Ported;
