@@ -3,3 +3,4 @@ pub mod Between
 pub mod Parts
 pub mod Kinds
 pub mod Runnable
+pub mod Engines

@@ -8,7 +8,7 @@ ghost use Rattle.reo_players.specs.Players.{all_done};
 ghost use Rattle.reo_trace.specs.declared.line.Ending.TheVariants.{Done as IsDone, Stuck as IsStuck};
 ghost use Rattle.reo_rounds.specs.Plans.{Suits};
 ghost use Rattle.reo_rounds.specs.Rules.{rules_of};
-ghost use Rattle.reo_standing.specs.Standing.{Stands};
+ghost use Rattle.reo_engine.specs.Stood.{Stands};
 ghost use Rattle.reo_runs.specs.Round.{advanced};
 ghost use Rattle.reo_runs.specs.Run.{over_after};
 ghost use Rattle.reo_at_ports.specs.Pending.{IsButForOffers};

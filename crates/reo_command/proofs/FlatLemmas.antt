@@ -2,7 +2,7 @@
 use Rattle.std.proofs.Common.{◌≡◌, ◌∙◌, ◌⊎◌, inl, inr, ℕ, List, [], sym, subst, ap, refl}
 use Rattle.std.specs.Prelude.{Some, slice_index, slice_index_or}
 use Rattle.std.proofs.lemmas.Bool.{cases_order}
-use Rattle.reo_net_order.specs.Arrows.{IsLeastOnCycle}
+use Rattle.reo_net_base.specs.Wired.{IsLeastOnCycle}
 use Rattle.reo_trees.specs.declared.programs.Program.{Program}
 use Rattle.reo_trees.specs.declared.programs.Declaration.{Declaration}
 use Rattle.reo_rules.specs.declared.fault.FlatFault.{FlatFault}
@@ -10,6 +10,7 @@ use Rattle.reo_rules.specs.declared.fault.FlatFault.TheVariants as rules
 use Rattle.reo_rules.specs.Lists.{first_of}
 use Rattle.reo_flat.specs.Flat.{nodes_of, homes_in}
 use Rattle.reo_flat.specs.Refusals.{breaks, IsOnCycleFirst, IsRefused, IsAccepted}
+pub use Rattle.reo_runner.proofs.RoundLemmas.{just_ports}
 use Rattle.reo_command.specs.declared.command.Command.TheVariants.{Check}
 use Rattle.reo_command.specs.declared.refusal.Refusal.{Refusal}
 use Rattle.reo_command.specs.declared.role.Role.TheVariants.{Circuit}

@@ -1,12 +1,11 @@
 //! Connectors that are opened from texts.
 ghost use Rattle.std.specs.Prelude.{◌≡◌, ◌≤◌, length, map, IfOk};
 ghost use Rattle.reo_command.specs.declared.role.Role.TheVariants as roles;
-ghost use Rattle.reo_command.specs.ReadSteps.{HasItsPorts};
+ghost use Rattle.reo_command.specs.ReadSteps.{HasItsPorts, circuit_in};
 ghost use Rattle.reo_command.specs.Roles.{most_bytes};
 ghost use Rattle.reo_io.specs.Sure.{sure_files};
 ghost use Rattle.reo_kinds.specs.Kinds.{port_state_of};
 ghost use Rattle.reo_rounds.specs.Offering.{AreJustPorts};
-ghost use Rattle.reo_command.specs.ReadSteps.{circuit_in};
 ghost use Rattle.reo_connector.specs.Opening.{IsFlatRead, IsOpened, alone, begun};
 
 use crate::connector::{Connector, MOST_BYTES};

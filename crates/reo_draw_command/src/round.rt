@@ -1,7 +1,7 @@
 //! The picture of a round of a trace that is fetched and read.
 ghost use Rattle.std.specs.Prelude.{◌≡◌, [], ◌∷◌, false, map, IfOk};
 ghost use Rattle.reo_kinds.specs.Kinds.{port_state_of};
-ghost use Rattle.reo_at_ports.specs.Runnable.{CanRun};
+ghost use Rattle.reo_command.specs.Readings.{CanRun};
 ghost use Rattle.reo_verdicts.specs.Replays.{HasText};
 ghost use Rattle.reo_command.specs.declared.role.Role.TheVariants as roles;
 ghost use Rattle.reo_command.specs.Claims.{ReadsClaim, StopsVerify};
@@ -20,10 +20,9 @@ use reo_draw_replay::{Shown, show_round};
 use reo_io::{Files, Sink};
 use reo_run_texts::ports_are_told;
 use reo_top_base::{answer, no_memory, refuse};
-use reo_top_verdicts::verdict_line;
+use reo_top_verdicts::{Verdict, verdict_line};
 use reo_trace_texts::one_trace_answer;
 use reo_values::{Bytes, NoMemory, ReadFault, read_number};
-use reo_verify::Verdict;
 use std::alloc::Global;
 
 /// The trace has no round of that number.

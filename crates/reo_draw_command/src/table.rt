@@ -1,7 +1,7 @@
 //! The table of a trace that is fetched and read.
 ghost use Rattle.std.specs.Prelude.{◌≡◌, [], ◌∷◌, false, map, IfOk};
 ghost use Rattle.reo_kinds.specs.Kinds.{port_state_of};
-ghost use Rattle.reo_at_ports.specs.Runnable.{CanRun};
+ghost use Rattle.reo_command.specs.Readings.{CanRun};
 ghost use Rattle.reo_verdicts.specs.Replays.{HasText};
 ghost use Rattle.reo_command.specs.declared.role.Role.TheVariants as roles;
 ghost use Rattle.reo_command.specs.Claims.{ReadsClaim, StopsVerify};
@@ -20,10 +20,9 @@ use reo_draw_rounds::table_text;
 use reo_io::{Files, Sink};
 use reo_run_texts::ports_are_told;
 use reo_top_base::{answer, no_memory, refuse};
-use reo_top_verdicts::{verdict_line, verdict_status};
+use reo_top_verdicts::{Verdict, verdict_line, verdict_status, verify_trace};
 use reo_trace_texts::one_trace_answer;
 use reo_values::{Bytes, NoMemory};
-use reo_verify::{Verdict, verify_trace};
 use std::alloc::Global;
 
 /// What is written for a verdict: the table of a trace that is verified, and else the line of the

@@ -5,8 +5,9 @@ use Rattle.reo_knots.specs.Knots.{Knotted, knot_count}
 use Rattle.reo_weights.specs.Over.{Cause, IsOver}
 use Rattle.reo_planning.specs.declared.kept.Kept.{Kept}
 use Rattle.reo_planning.specs.Keeping.{AllServe}
-use Rattle.reo_standing.specs.declared.standing.Standing.{Standing}
-use Rattle.reo_standing.specs.Standing.{HaveFirstItems, Stands}
+pub use Rattle.reo_standing.specs.declared.standing.Standing.{Standing}
+use Rattle.reo_standing.specs.Standing.{HaveFirstItems}
+pub use Rattle.reo_standing.specs.Standing.{Stands}
 
 -- No part is over, and what stands is the first colouring.
 pub record IsStood (budget : ℕ) (net : Net) (ports turn : ℕ) (s : Standing) : Type 0 where

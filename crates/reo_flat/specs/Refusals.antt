@@ -1,6 +1,6 @@
 -- Why a program has no circuit.
 use Rattle.std.specs.Prelude.{ℕ, ◌≡◌, Some, List, [], ◌++◌, slice_index, slice_index_or}
-use Rattle.reo_net_order.specs.Arrows.{IsLeastOnCycle, NoCycle}
+use Rattle.reo_net_base.specs.Wired.{IsLeastOnCycle, NoCycle}
 use Rattle.reo_net_base.specs.Net.{from_sides, to_sides}
 use Rattle.reo_trees.specs.declared.programs.Declaration.{Declaration}
 use Rattle.reo_trees.specs.declared.programs.Program.{Program}

@@ -6,7 +6,7 @@ use Rattle.reo_net_base.specs.declared.joint.Joint.{Joint}
 use Rattle.reo_trees.specs.declared.programs.Declaration.{Declaration}
 use Rattle.reo_flat.specs.Unfolding.{Placed}
 use Rattle.reo_net_base.specs.Net.{from_sides, to_sides}
-use Rattle.reo_net_order.specs.Arrows.{OnCycle}
+use Rattle.reo_net_base.specs.Wired.{OnCycle}
 use Rattle.reo_flat.specs.Flat.{nodes_of, placed_of, joints_in, homes_in, net_of_program}
 use Rattle.reo_flat.specs.Refusals.{IsOnCycleFirst}
 

@@ -10,7 +10,7 @@ use Rattle.reo_lexer.proofs.Spelled.{digit-parts}
 use Rattle.reo_syntax.proofs.Decimals.{decimal-value}
 use Rattle.reo_kinds.specs.declared.kind.Kind.{Kind}
 use Rattle.reo_kinds.specs.declared.kind.Kind.TheVariants.{Writer, Taker, Sync, Lossy, SyncDrain, Store}
-use Rattle.reo_net_order.specs.Arrows.{NoCycle}
+use Rattle.reo_net_base.specs.Wired.{NoCycle}
 use Rattle.reo_net_base.specs.Net.{from_sides, to_sides}
 use Rattle.reo_flat.specs.Unfolding.{Placed}
 use Rattle.reo_flat.specs.Flat.{net_of_program, port_placed, placed_of, nodes_of}

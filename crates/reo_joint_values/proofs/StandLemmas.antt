@@ -4,7 +4,7 @@ use Rattle.std.specs.Option.{option_and_then}
 use Rattle.std.proofs.lemmas.Bool.{cases_eq}
 use Rattle.std.proofs.lemmas.List.{get_or_default}
 use Rattle.reo_values.specs.declared.value.Value.{Value}
-use Rattle.reo_net_base.specs.Wired.{OrderExists}
+use Rattle.reo_net_base.specs.Wired.{OrderExists, IsWired, IsOrder}
 use Rattle.reo_net_base.specs.declared.mark.Mark.TheVariants.{F, J}
 use Rattle.reo_net_base.specs.declared.joint.End.{End}
 use Rattle.reo_net_base.specs.declared.joint.Joint.{Joint}
@@ -13,7 +13,6 @@ use Rattle.reo_net_base.specs.Ends.{IsGiver}
 use Rattle.reo_net_base.specs.Lawful.{GivesAt}
 use Rattle.reo_net_base.specs.Net.{Net, behaviour_at, end_of, end_eq, side_at, side_of_end, row_at, from_sides, to_sides}
 use Rattle.reo_net_base.specs.Colouring.{taken_at, given_at, lets_in, HasItem, ItemFits}
-use Rattle.reo_net_base.specs.Wired.{IsWired, IsOrder}
 use Rattle.reo_net_base.proofs.Ends.{end_self}
 use Rattle.reo_net_laws.specs.Ends.{mark_in, from_in, IsSource}
 use Rattle.reo_net_laws.specs.Parts.{IsClosed, IsAssignment, is_joint_inside}

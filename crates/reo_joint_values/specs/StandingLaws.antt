@@ -1,10 +1,9 @@
 -- What the items that can stand at joints are.
 use Rattle.std.specs.Prelude.{ℕ, ◌<◌, ◌≡◌, Bool, true, List, Option, Some, None, length, slice_index_or}
 use Rattle.reo_values.specs.declared.value.Value.{Value}
-use Rattle.reo_net_base.specs.Wired.{NoCycle}
+use Rattle.reo_net_base.specs.Wired.{NoCycle, IsWired}
 use Rattle.reo_net_base.specs.declared.joint.Joint.{Joint}
 use Rattle.reo_net_base.specs.Net.{Net, from_sides, to_sides}
-use Rattle.reo_net_base.specs.Wired.{IsWired}
 use Rattle.reo_net_laws.specs.Parts.{IsClosed, IsAssignment, is_joint_inside}
 use Rattle.reo_joint_values.specs.Standing.{giver_of, GivesAlone, GivesFor, CanStand}
 

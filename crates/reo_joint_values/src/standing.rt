@@ -1,6 +1,5 @@
 //! What the items that can stand at joints are.
-ghost use Rattle.reo_joint_values.specs.StandingLaws.{ItemsCanStand};
-ghost use Rattle.reo_joint_values.specs.StandingLaws.{PossibleItemsAreClosed, PossibleItemsAreLeast};
+ghost use Rattle.reo_joint_values.specs.StandingLaws.{ItemsCanStand, PossibleItemsAreClosed, PossibleItemsAreLeast};
 
 use reo_net_base::order_exists;
 

@@ -2,3 +2,4 @@ pub mod Numbers
 pub mod OwnGroups
 pub mod Marks
 pub mod Ends
+pub mod Orders

@@ -21,5 +21,5 @@ pub use laws::{one_number_one_table, own_groups_are_groups};
 pub use mark::{Mark, marks_match};
 pub use port::{Offer, Port, Ported, Ports, Restoring, Way};
 pub use primitive::Primitive;
-pub use reo_net_order::{order_exists, order_has_no_cycle};
+pub use reo_net_order::{Sorted, order_exists, order_has_no_cycle, order_or_cycle};
 pub use table::Table;

@@ -9,9 +9,8 @@ use Rattle.reo_net_circuit.specs.declared.layout.SideOwner.{SideOwner}
 use Rattle.reo_net_base.specs.Behaviour.{Behaviour}
 use Rattle.reo_net_base.specs.Lawful.{SameShape, IsLawful}
 use Rattle.reo_net_base.specs.Shapes.{SameShapes}
-use Rattle.reo_net_order.specs.Arrows.{IsTopological}
+use Rattle.reo_net_base.specs.Wired.{IsTopological, IsWired, IsEnd, IsOrder}
 use Rattle.reo_net_base.specs.Net.{first_side, behaviour_at, side_at, from_sides, to_sides}
-use Rattle.reo_net_base.specs.Wired.{IsWired, IsEnd, IsOrder}
 use Rattle.reo_net_circuit.specs.Layout.{IsLaidOut}
 use Rattle.reo_net_base.specs.Step.{settled_list}
 use Rattle.reo_net_laws.proofs.Assignments.{all_is, first_same as first_by_shapes}

@@ -2,11 +2,10 @@
 use Rattle.std.proofs.Common.{◌≡◌, ◌≢◌, ℕ, ◌+◌, ◌<◌, List, [], ◌∷◌, ◌++◌, length, map, get_or, take, ap, sym, ◌∙◌, arith, below_more}
 use Rattle.std.proofs.Math.Seq.{get_or-append_seam}
 use Rattle.std.proofs.lemmas.List.{length-map, get_or-map, length-append, get_or_append_left, take_more, map-append}
-use Rattle.reo_net_order.specs.Arrows.{NoCycle}
+use Rattle.reo_net_base.specs.Wired.{NoCycle, IsWired}
 use Rattle.reo_net_base.specs.declared.joint.Joint.{Joint}
 use Rattle.reo_net_base.specs.Lawful.{IsLawful}
 use Rattle.reo_net_base.specs.Net.{Net, behaviour_at, side_at, from_sides, to_sides}
-use Rattle.reo_net_base.specs.Wired.{IsWired}
 use Rattle.reo_net_circuit.specs.Parts.{AreJoints}
 use Rattle.reo_net_circuit.specs.Fault.{AllJoined, AllRight, HasNoFault}
 

@@ -1,9 +1,8 @@
 -- What may be wrong with primitives and joints.
 use Rattle.std.specs.Prelude.{ℕ, ◌<◌, ◌≡◌, ◌⊎◌, true, false, length, slice_index_or}
-use Rattle.reo_net_order.specs.Arrows.{IsLeastOnCycle, NoCycle}
+use Rattle.reo_net_base.specs.Wired.{IsLeastOnCycle, NoCycle, IsJoined}
 use Rattle.reo_net_base.specs.declared.joint.Joint.{Joint}
 use Rattle.reo_net_base.specs.Net.{Net, behaviour_at, end_of, from_sides, to_sides}
-use Rattle.reo_net_base.specs.Wired.{IsJoined}
 use Rattle.reo_net_circuit.specs.declared.fault.NetFault.{NetFault}
 use Rattle.reo_net_circuit.specs.declared.fault.NetFault.TheVariants.{Ends, Way, Cycle, NoMemory}
 

@@ -13,8 +13,7 @@ use crate::layout::{Layout, SideOwner, lay_out};
 use crate::tables::{mouth_table, port_table};
 use crate::turn::joint_order;
 use crate::way::way_fault;
-use reo_net_base::{Joint, Primitive};
-use reo_net_order::{Sorted, order_has_no_cycle};
+use reo_net_base::{Joint, Primitive, Sorted, order_has_no_cycle};
 use reo_values::List;
 use std::alloc::Global;
 

@@ -1,12 +1,11 @@
 //! Circuits.
 ghost use Rattle.std.specs.Prelude.{◌≡◌, ℕ, ◌+◌, ◌<◌, ◌≤◌, ◌^◌, ◌*◌, IfOk, IsSome, Some, None, MatchResult, map, length, slice_index_or};
 ghost use Rattle.std.specs.List.{position_or_len};
-ghost use Rattle.reo_net_order.specs.Arrows.{NoCycle};
+ghost use Rattle.reo_net_base.specs.Wired.{NoCycle, IsWired, IsEnd, IsOrder, ArePorts};
 ghost use Rattle.reo_net_base.specs.declared.joint.Joint.{Joint as JointEnds};
 ghost use Rattle.reo_net_base.specs.Net.{net_of, all_sides, behaviour_at, first_side, side_at, side_of_end, Side, end_of, is_at, from_sides, to_sides};
 ghost use Rattle.reo_net_base.specs.Lawful.{SameShape};
 ghost use Rattle.reo_net_base.specs.Colouring.{IsColouring};
-ghost use Rattle.reo_net_base.specs.Wired.{IsWired, IsEnd, IsOrder, ArePorts};
 ghost use Rattle.reo_net_base.specs.Step.{stepped, change_at};
 ghost use Rattle.reo_net_base.specs.Shapes.{SameNetShape, SamePortedShape};
 ghost use Rattle.reo_net_base.specs.PortState.{CanPlace, port_state_at};
@@ -20,8 +19,7 @@ use crate::fault::NetFault;
 use crate::layout::SideOwner;
 use crate::ports::{place_at, put_at, withdraw_at};
 use crate::step::{settle_at, step_all};
-use reo_net_base::{Chosen, Colouring, End, Joint, Offer, Ported, Primitive};
-use reo_net_order::order_has_no_cycle;
+use reo_net_base::{Chosen, Colouring, End, Joint, Offer, Ported, Primitive, order_has_no_cycle};
 use reo_values::{List, Value};
 use std::alloc::Global;
 use std::marker::Model;

@@ -1,15 +1,12 @@
 //! No joints are to make a directed cycle of sides.
 ghost use Rattle.std.specs.Prelude.{◌≡◌, ℕ, ◌+◌, ◌<◌, IfOk, EachIndex, map, length, slice_index, slice_index_or};
-ghost use Rattle.reo_net_base.specs.Net.{net_of, behaviour_at, first_side, all_sides, side_at};
-ghost use Rattle.reo_net_base.specs.Wired.{IsEnd};
-ghost use Rattle.reo_net_order.specs.Sorted.{IsSorted};
+ghost use Rattle.reo_net_base.specs.Net.{net_of, behaviour_at, first_side, all_sides, side_at, from_sides, to_sides};
+ghost use Rattle.reo_net_base.specs.Wired.{IsEnd, IsSorted};
 ghost use Rattle.reo_net_circuit.specs.Parts.{wiring_of, AreJoints};
 ghost use Rattle.reo_net_circuit.specs.Layout.{AreFirsts};
-ghost use Rattle.reo_net_base.specs.Net.{from_sides, to_sides};
 
 use crate::parts::{joint_at, primitive_at};
-use reo_net_base::{End, Joint, Primitive};
-use reo_net_order::{Sorted, order_or_cycle};
+use reo_net_base::{End, Joint, Primitive, Sorted, order_or_cycle};
 use reo_values::{List, NoMemory};
 use std::alloc::Global;
 

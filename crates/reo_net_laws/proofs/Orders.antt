@@ -1,10 +1,9 @@
 -- Orders of joints.
 use Rattle.std.proofs.Common.{◌≡◌, inl, inr, ℕ, ◌<◌, List, length, get_or, sym, ◌∙◌, arith}
 use Rattle.std.proofs.lemmas.List.{get_or-map, length-map}
-use Rattle.reo_net_base.specs.Wired.{OrderExists, OrderHasNoCycle}
+use Rattle.reo_net_base.specs.Wired.{OrderExists, OrderHasNoCycle, IsOrder}
 use Rattle.reo_net_base.specs.declared.joint.Joint.{Joint}
 use Rattle.reo_net_base.specs.Net.{Net, side_at, end_of, from_sides, to_sides}
-use Rattle.reo_net_base.specs.Wired.{IsOrder}
 use Rattle.reo_net_laws.specs.Cycles.{OrderWithoutCycle}
 
 abbrev pub no_joint : Joint

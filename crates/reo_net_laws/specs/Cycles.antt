@@ -1,8 +1,7 @@
 -- Directed cycles of sides.
 use Rattle.std.specs.Prelude.{ℕ, ◌↔◌, List}
-use Rattle.reo_net_base.specs.Wired.{NoCycle}
+use Rattle.reo_net_base.specs.Wired.{NoCycle, IsOrder}
 use Rattle.reo_net_base.specs.Net.{Net, from_sides, to_sides}
-use Rattle.reo_net_base.specs.Wired.{IsOrder}
 
 -- No directed cycle of sides exists exactly where the joints have an order.
 abbrev pub OrderWithoutCycle : Type 0

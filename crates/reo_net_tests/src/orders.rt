@@ -3,7 +3,7 @@ ghost use Rattle.std.specs.Prelude.{◌<◌, ◌↔◌, EachIndex, IsTrue, slice
 
 use crate::checks::{MEMORY, is};
 use crate::orders::Want::{Cycle, Order};
-use reo_net_order::{Sorted, order_or_cycle};
+use reo_net_base::{Sorted, order_or_cycle};
 use std::alloc::Global;
 use std::process::Abort;
 

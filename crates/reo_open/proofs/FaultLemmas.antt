@@ -1,10 +1,9 @@
 -- An open circuit has no fault.
 use Rattle.std.proofs.Common.{ℕ, ◌<◌, ◌≡◌, inl, inr, List, length, map, slice_index_or, refl, sym, subst}
-use Rattle.reo_net_order.specs.Arrows.{NoCycle}
+use Rattle.reo_net_base.specs.Wired.{NoCycle, IsWired, ArePorts}
 use Rattle.reo_net_base.specs.declared.joint.Joint.{Joint}
 use Rattle.reo_net_base.specs.Behaviour.{Behaviour}
 use Rattle.reo_net_base.specs.Net.{Net, Wiring, net_of, from_sides, to_sides, end_of}
-use Rattle.reo_net_base.specs.Wired.{IsWired, ArePorts}
 use Rattle.reo_net_circuit.specs.declared.fault.NetFault.{NetFault}
 use Rattle.reo_net_circuit.specs.declared.fault.NetFault.TheVariants.{Ends, Way, Cycle, NoMemory}
 use Rattle.reo_net_circuit.specs.Fault.{IsNetFault, GoesWrong}

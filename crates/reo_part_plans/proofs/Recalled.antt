@@ -37,7 +37,7 @@ use Rattle.reo_planning.proofs.Flowing.{mark_same}
 use Rattle.reo_planning.proofs.KnotSets.{below}
 use Rattle.reo_planning.proofs.Searched.{among, among_contains, contains_among, among_sides, sides_below, rows_same}
 use Rattle.reo_weights.specs.Over.{IsWithin}
-use Rattle.reo_state_laws.specs.States.{HaveSameTables, IsOpen, AreFirstRows}
+use Rattle.reo_state_laws.specs.States.{HaveSameTables, IsOpen, AreFirstRows, LetsIn}
 use Rattle.reo_state_laws.proofs.Same.{same_rows}
 use Rattle.reo_item_bounds.specs.Bounds.{HasBounds}
 use Rattle.reo_item_bounds.proofs.Linked.{closed_on}
@@ -47,7 +47,6 @@ use Rattle.reo_part_plans.specs.declared.entry.Entry.{Entry}
 use Rattle.reo_part_plans.specs.declared.looks.Look.{Look}
 use Rattle.reo_part_plans.specs.declared.plans.PartPlans.{PartPlans}
 use Rattle.reo_part_plans.specs.Alike.{HaveSameClasses}
-use Rattle.reo_state_laws.specs.States.{LetsIn}
 use Rattle.reo_part_plans.specs.Given.{GivesOnly, LetAllIn, AreItems, Decide, AreGiven}
 use Rattle.reo_part_plans.specs.Laws.{PlansStay}
 use Rattle.reo_part_plans.specs.Looks.{IsLookAt, IsKey}

@@ -7,7 +7,7 @@ use Rattle.reo_net_base.specs.First.{IsFirst}
 use Rattle.reo_net_base.specs.Moves.{moves_of}
 use Rattle.reo_net_base.specs.Net.{Net, Wiring, net_of}
 use Rattle.reo_net_base.specs.Step.{stepped}
-use Rattle.reo_engine.specs.Engine.{Running}
+use Rattle.reo_at_ports.specs.Engines.{Running}
 use Rattle.reo_players.specs.Players.{Player}
 use Rattle.reo_players.specs.Offers.{offer_for}
 use Rattle.reo_trace.specs.declared.line.Ending.{Ending}

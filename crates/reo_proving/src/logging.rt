@@ -9,7 +9,7 @@ ghost use Rattle.reo_refute_base.specs.Wide.{IsWide};
 ghost use Rattle.reo_refute_check.specs.Judging.{IsFirstRows};
 ghost use Rattle.reo_proving.specs.Rounds.{HasLogged, HasLoggedPart, IsEndedLog};
 
-use reo_engine::PlannedRound;
+use reo_at_ports::PlannedRound;
 use reo_io::{Sink, put_all};
 use reo_net_base::{Ports, Primitive};
 use reo_net_circuit::Circuit;

@@ -13,8 +13,7 @@ ghost use Rattle.reo_at_ports.specs.Pending.{IsButForOffers};
 ghost use Rattle.reo_proving.specs.Rounds.{CutRound, HasLogged, HasLoggedPart, Went, ending_for};
 
 use crate::logging::write_logged;
-use reo_at_ports::{Carried, carry_out, offer_all};
-use reo_engine::{Engine, PlanFault, PlannedRound};
+use reo_at_ports::{Carried, Engine, PlanFault, PlannedRound, carry_out, offer_all};
 use reo_io::Sink;
 use reo_net_base::{Ports, Restoring};
 use reo_players::Players;

@@ -12,8 +12,7 @@ ghost use Rattle.reo_at_ports.specs.Runnable.{CanRun};
 ghost use Rattle.reo_proving.specs.Proving.{HasCome, HaveProofs};
 
 use crate::round::go_on;
-use reo_at_ports::release_run;
-use reo_engine::Engine;
+use reo_at_ports::{Engine, release_run};
 use reo_flatten::Flat;
 use reo_io::Sink;
 use reo_net_base::{Ported, Ports, Restoring};

@@ -7,11 +7,10 @@ use Rattle.std.proofs.lemmas.Option.{slice_get-get_or, slice_get_past}
 use Rattle.std.proofs.lemmas.Bool.{cases_eq}
 use Rattle.reo_values.specs.declared.value.Value.{Value}
 use Rattle.reo_values.proofs.Naturals.{lt_true, true_lt}
-use Rattle.reo_net_order.specs.Arrows.{OrderHasNoCycle}
+use Rattle.reo_net_base.specs.Wired.{OrderHasNoCycle, IsWired}
 use Rattle.reo_net_base.specs.Net.{Net, all_sides, side_at, from_sides, to_sides}
 use Rattle.reo_net_base.specs.Sides.{side_count}
 use Rattle.reo_net_base.specs.Colouring.{IsColouring}
-use Rattle.reo_net_base.specs.Wired.{IsWired}
 use Rattle.reo_net_laws.specs.Parts.{IsClosed, IsAssignment}
 use Rattle.reo_net_laws.proofs.Sides.{rows_length, row_below, below_or, side_in_range}
 use Rattle.reo_joint_values.specs.declared.value.JointValue.{JointValue}

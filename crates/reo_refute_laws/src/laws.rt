@@ -6,8 +6,8 @@ ghost use Rattle.reo_refute_laws.specs.Laws.{ItemsAreListed};
 ghost use Rattle.reo_refute_laws.specs.Singles.{BranchOrSingle, LivePlacesAreTold, LogsExist, SupportIsTold};
 
 use reo_joint_values::{assignments_are_choices, choices_are_assignments, items_can_stand};
+use reo_net_base::order_has_no_cycle;
 use reo_net_laws::rows_differ;
-use reo_net_order::order_has_no_cycle;
 
 /// No colouring stands before the given rows exactly where at each live place no colouring has
 /// allowed rows alone.

@@ -1,8 +1,7 @@
 -- The joints of a program without a directed cycle have an order.
 use Rattle.std.proofs.Common.{inl, inr, List}
-use Rattle.reo_net_order.specs.Arrows.{NoCycle, OrderExists}
+use Rattle.reo_net_base.specs.Wired.{NoCycle, OrderExists, IsWired}
 use Rattle.reo_net_base.specs.Net.{Net, from_sides, to_sides}
-use Rattle.reo_net_base.specs.Wired.{IsWired}
 use Rattle.reo_net_circuit.proofs.ReshapeLemmas.{lawful_at}
 use Rattle.reo_net_circuit.proofs.WireLemmas.{wired_is}
 use Rattle.reo_kinds.specs.Kinds.{behaviour_of}

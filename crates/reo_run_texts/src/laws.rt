@@ -5,7 +5,7 @@ use reo_flatten_laws::{
     circuits_are_made, nodes_are_distinct, nodes_have_types, ports_differ, primitives_fit,
     types_are_valid,
 };
-use reo_net_order::order_exists;
+use reo_net_base::order_exists;
 use reo_values::item_test_is_exact;
 use reo_weights::causes_are_small;
 

@@ -5,7 +5,7 @@ ghost use Rattle.reo_io.specs.Sinks.{Appended, TookPart};
 ghost use Rattle.reo_net_base.specs.Net.{Wiring, net_of};
 ghost use Rattle.reo_net_base.specs.Step.{stepped};
 ghost use Rattle.reo_players.specs.Players.{someone_counts};
-ghost use Rattle.reo_standing.specs.Standing.{Stands};
+ghost use Rattle.reo_at_ports.specs.Engines.{Stands};
 ghost use Rattle.reo_rounds.specs.Rules.{rules_of};
 ghost use Rattle.reo_runs.specs.Round.{State, advanced};
 ghost use Rattle.reo_runs.specs.Run.{over_after};
@@ -16,8 +16,7 @@ ghost use Rattle.reo_runner.specs.declared.planning.RoundFault.TheVariants.{Fail
 
 use crate::outcome::{Limits, Tally};
 use crate::planning::{RoundFault, stand_next};
-use reo_at_ports::{Carried, carry_on, offer_all};
-use reo_engine::{Engine, Standing};
+use reo_at_ports::{Carried, Engine, Standing, carry_on, offer_all};
 use reo_io::{Sink, SinkFault, put_all};
 use reo_net_base::{Ports, Restoring};
 use reo_players::Players;

@@ -8,10 +8,9 @@ use Rattle.std.proofs.lemmas.Bool.{cases_eq, cases_lt}
 use Rattle.std.proofs.lemmas.Option.{slice_get_within, slice_get_read, get_or_from_slice_get}
 use Rattle.reo_values.specs.declared.value.Value.{Value}
 use Rattle.reo_net_base.specs.declared.joint.Joint.{Joint}
-use Rattle.reo_net_order.specs.Arrows.{NoCycle}
+use Rattle.reo_net_base.specs.Wired.{NoCycle, IsWired, IsOrder}
 use Rattle.reo_net_base.specs.Net.{Net, from_sides, to_sides}
 use Rattle.reo_net_base.specs.Sides.{side_count}
-use Rattle.reo_net_base.specs.Wired.{IsWired, IsOrder}
 use Rattle.reo_net_laws.specs.Parts.{IsClosed, IsAssignment}
 use Rattle.reo_net_laws.specs.Keys.{IsFirstIn}
 use Rattle.reo_net_laws.specs.Sublists.{sides_in, part_rows}
@@ -22,7 +21,7 @@ use Rattle.reo_joint_values.specs.Many.{AreDistinct, IsJointIn}
 use Rattle.reo_reach.specs.Supplied.{Supplied, items_at, is_wide}
 use Rattle.reo_reach.specs.Width.{TellsItems}
 use Rattle.reo_joint_values.proofs.StandLemmas.{items_stand}
-use Rattle.reo_net_order.proofs.ExistLemmas.{order_or_cycle}
+use Rattle.reo_net_base.proofs.Orders.{order_or_cycle}
 use Rattle.reo_weights.specs.Weights.{AreNamed, all_values}
 use Rattle.reo_joint_values.specs.declared.value.JointValue.{JointValue}
 use Rattle.reo_joint_values.specs.declared.value.JointValue.TheVariants.{Flow, RG, GR, GG, Jam}

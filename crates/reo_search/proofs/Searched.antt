@@ -6,10 +6,9 @@ use Rattle.std.proofs.lemmas.Bool.{and_parts, and_from, cases_Bool}
 use Rattle.std.proofs.lemmas.List.{get_or_default, get_or-drop, get_or-map}
 use Rattle.reo_values.proofs.Naturals.{eq_same, lt_true, same_eq}
 use Rattle.reo_net_base.specs.declared.joint.Joint.{Joint}
-use Rattle.reo_net_order.specs.Arrows.{NoCycle}
+use Rattle.reo_net_base.specs.Wired.{NoCycle, IsWired, IsOrder}
 use Rattle.reo_net_base.specs.Net.{Net, row_count, no_side, from_sides, to_sides, side_at}
 use Rattle.reo_net_base.specs.Sides.{side_count}
-use Rattle.reo_net_base.specs.Wired.{IsWired, IsOrder}
 use Rattle.reo_net_laws.specs.Parts.{IsKnot}
 use Rattle.reo_net_laws.specs.Jams.{jams}
 use Rattle.reo_net_laws.specs.Sublists.{sides_in}

@@ -14,7 +14,7 @@ use Rattle.reo_flat.specs.Flat.{primitives_of, net_of_program}
 use Rattle.reo_flatten_laws.specs.Circuits.{CircuitsAreMade}
 use Rattle.reo_circuit_texts.specs.Laws.{CircuitNamesArePlain}
 use Rattle.reo_runner.specs.declared.outcome.Limits.{Limits}
-use Rattle.reo_at_ports.specs.Kinds.{kind_rules}
+use Rattle.reo_command.specs.Readings.{kind_rules, FlatCircuit, Runnable, IsCircuitText, CircuitStops, ReadsRun, StopsRun}
 use Rattle.reo_runs.specs.Justified.{RunsAreJustified}
 use Rattle.reo_command.specs.declared.command.Command.TheVariants.{Run}
 use Rattle.reo_command.specs.declared.role.Role.{Role}
@@ -32,7 +32,6 @@ use Rattle.reo_command.specs.Limits.{limits_of}
 use Rattle.reo_top.specs.Owed.{owed_of}
 use Rattle.reo_top_base.specs.Owed.{owed_by}
 use Rattle.reo_top_runs.specs.Traces.{TracesRun}
-use Rattle.reo_command.specs.Readings.{FlatCircuit, Runnable, IsCircuitText, CircuitStops, ReadsRun, StopsRun}
 use Rattle.reo_command.specs.Roles.{most_bytes}
 use Rattle.reo_command.specs.States.{SinkState, FilesState, Change}
 use Rattle.reo_command.specs.Stops.{stop_status}

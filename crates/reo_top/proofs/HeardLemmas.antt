@@ -13,7 +13,7 @@ use Rattle.reo_net_base.specs.declared.port.Port.{Port}
 use Rattle.reo_kinds.specs.declared.kind.Kind.{Kind}
 use Rattle.reo_kinds.specs.Kinds.{behaviour_of}
 use Rattle.reo_rounds.specs.Order.{HasOrder}
-use Rattle.reo_at_ports.specs.Kinds.{kind_rules}
+use Rattle.reo_command.specs.Readings.{kind_rules, FlatCircuit}
 use Rattle.reo_live_base.specs.declared.answer.Answer.{Answer}
 use Rattle.reo_live_base.specs.Live.{Live, beginning}
 use Rattle.reo_live_base.specs.Answers.{answer_text, answers_text}
@@ -23,7 +23,6 @@ use Rattle.reo_closings.specs.Laws.{ClosingIsOne}
 use Rattle.reo_hearing.specs.declared.heard.Heard.{Heard}
 use Rattle.reo_hearing.specs.declared.heard.Heard.TheVariants as heards
 use Rattle.reo_hearing.specs.Heard.{IsHeard, HeardFrom, TookFew, HeardAll, HeardLast, HeardPart, HeardLines}
-use Rattle.reo_command.specs.Readings.{FlatCircuit}
 use Rattle.reo_command.specs.States.{SinkState, Change}
 use Rattle.reo_top_base.specs.Cases.{AreFirstLines, Cases, IsExact, IsFair, TellsFaults, Refuses, SaysNoMemory}
 use Rattle.reo_top.specs.Closed.{Says, IsClosedAs}

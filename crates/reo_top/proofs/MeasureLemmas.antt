@@ -11,7 +11,7 @@ use Rattle.reo_runner.specs.declared.outcome.End2.{End2}
 use Rattle.reo_runner.specs.declared.outcome.End2.TheVariants as ends
 use Rattle.reo_runner.specs.declared.outcome.Outcome.{Outcome}
 use Rattle.reo_runner.specs.Outcome.{CameTo, Wrote}
-use Rattle.reo_at_ports.specs.Kinds.{kind_rules}
+use Rattle.reo_command.specs.Readings.{kind_rules, Runnable}
 use Rattle.reo_runs.specs.Run.{Place, Leads, IsRun, firsts, place_after}
 use Rattle.reo_runs.specs.Whole.{HasOneRun}
 use Rattle.reo_runs.specs.Written.{moved, is_in, is_out}
@@ -21,7 +21,6 @@ use Rattle.reo_gen.specs.Scripts.{script_text}
 use Rattle.reo_command.specs.Fetched.{text}
 use Rattle.reo_command.specs.Limits.{usual_limits, firsts_for}
 use Rattle.reo_command.specs.Made.{ReadsMade}
-use Rattle.reo_command.specs.Readings.{Runnable}
 use Rattle.reo_command.specs.States.{SinkState, Change}
 use Rattle.reo_command.specs.Statuses.{IsAmong, statuses_of}
 use Rattle.reo_command.proofs.WorkLemmas.{run_reading}

@@ -1,12 +1,11 @@
 -- What hearing a source owes.
 use Rattle.std.specs.Prelude.{ℕ, ◌≡◌, ◌⊎◌, ◌≤◌, ◌+◌, ◌++◌, Bool, false, cond, List, [], ◌∷◌, length, codes}
-use Rattle.reo_at_ports.specs.Kinds.{kind_rules}
+use Rattle.reo_command.specs.Readings.{kind_rules, FlatCircuit}
 use Rattle.reo_live_base.specs.declared.answer.Answer.{Answer}
 use Rattle.reo_live_base.specs.Answers.{answers_text}
 use Rattle.reo_closings.specs.Sources.{SourceChange, Events, AreTaken, AreTakenSoFar, most_events}
 use Rattle.reo_closings.specs.Closings.{Closing, over, many, missed, ends, Closes}
 use Rattle.reo_hearing.specs.Heard.{is_stop}
-use Rattle.reo_command.specs.Readings.{FlatCircuit}
 use Rattle.reo_command.specs.States.{SinkState, Change}
 use Rattle.reo_command.specs.Statuses.{done, part_over, read_fault, too_long}
 use Rattle.reo_top_base.specs.Cases.{Cases, IsExact}

@@ -8,12 +8,11 @@ use Rattle.reo_trace.specs.EndingText.{ending_text}
 use Rattle.reo_runner.specs.declared.outcome.Limits.{Limits}
 use Rattle.reo_runner.specs.declared.outcome.End2.{End2}
 use Rattle.reo_runner.specs.declared.outcome.End2.TheVariants as ends
-use Rattle.reo_at_ports.specs.Kinds.{kind_rules}
+use Rattle.reo_command.specs.Readings.{kind_rules, Runnable}
 use Rattle.reo_runs.specs.Run.{IsRun, start_of}
 use Rattle.reo_runs.specs.Written.{moved, is_in, is_out}
 use Rattle.reo_command.specs.Limits.{usual_limits, firsts_for}
 use Rattle.reo_command.specs.Made.{ReadsMade}
-use Rattle.reo_command.specs.Readings.{Runnable}
 use Rattle.reo_command.specs.Statuses.{done, part_over}
 use Rattle.reo_top_base.specs.Outputs.{Outputs, IsLine}
 

@@ -2,8 +2,7 @@
 ghost use Rattle.std.specs.Prelude.{◌≡◌, ◌++◌, ◌≤◌, ◌<◌, ◌^◌, IfOk, OnOk, None, map};
 ghost use Rattle.reo_kinds.specs.Kinds.{port_state_of};
 ghost use Rattle.reo_runner.specs.Outcome.{CameTo};
-ghost use Rattle.reo_at_ports.specs.Kinds.{kind_rules};
-ghost use Rattle.reo_at_ports.specs.Runnable.{CanRun};
+ghost use Rattle.reo_command.specs.Readings.{kind_rules, CanRun};
 ghost use Rattle.reo_runs.specs.Run.{start_of};
 ghost use Rattle.reo_command.specs.declared.command.Command.TheVariants as commands;
 ghost use Rattle.reo_command.specs.Limits.{usual_limits};

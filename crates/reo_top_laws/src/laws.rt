@@ -7,7 +7,7 @@ ghost use Rattle.reo_top_laws.specs.Proofs.{VerifiedProofsAreFirst, WrittenProof
 use reo_circuit_texts::{circuit_names_are_plain, circuits_are_spelled};
 use reo_flatten_laws::circuits_are_made;
 use reo_kinds::Kind;
-use reo_net_order::order_exists;
+use reo_net_base::order_exists;
 use reo_proof_texts::verified_rounds_are_first;
 use reo_run_proofs::run_proofs_are_verified;
 use reo_run_texts::runs_are_trace_texts;

@@ -12,7 +12,7 @@ use Rattle.reo_trace.specs.declared.write.WriteFault.{WriteFault}
 use Rattle.reo_trace.specs.EndingText.{ending_text}
 use Rattle.reo_trace.specs.RoundText.{round_text}
 use Rattle.reo_runner.specs.declared.outcome.Limits.{Limits}
-use Rattle.reo_at_ports.specs.Kinds.{kind_rules}
+use Rattle.reo_command.specs.Readings.{kind_rules, Runnable}
 use Rattle.reo_runs.specs.Whole.{HasOneRun}
 use Rattle.reo_proof_texts.specs.Cuts.{LoggedRound, lines_text, logged_text, all_logged}
 use Rattle.reo_proof_texts.specs.Laws.{ProvedTextsAreOfRuns}
@@ -20,7 +20,6 @@ use Rattle.reo_proof_texts.specs.Proven.{IsProved}
 use Rattle.reo_proving.specs.Proving.{HasProved, HasCut, HasKept, HasCome}
 use Rattle.reo_command.specs.declared.command.Command.TheVariants.{Prove}
 use Rattle.reo_command.specs.Limits.{firsts_for}
-use Rattle.reo_command.specs.Readings.{Runnable}
 use Rattle.reo_command.specs.States.{SinkState, Change}
 use Rattle.reo_command.specs.Statuses.{IsAmong, statuses_of}
 use Rattle.reo_top_base.specs.Cases.{AreFirstLines, Cases, IsExactFor, IsFair, EndsWithNoMemory}

@@ -16,7 +16,7 @@ use Rattle.reo_kinds.specs.declared.kind.Kind.{Kind}
 use Rattle.reo_runner.specs.declared.outcome.Limits.{Limits}
 use Rattle.reo_runner.specs.declared.outcome.End2.{End2}
 use Rattle.reo_runner.specs.declared.outcome.Outcome.{Outcome}
-use Rattle.reo_at_ports.specs.Kinds.{kind_rules}
+use Rattle.reo_command.specs.Readings.{kind_rules, Runnable}
 use Rattle.reo_runner.specs.Outcome.{CameTo, Wrote}
 use Rattle.reo_runs.specs.Run.{Place, IsRun, start_of}
 use Rattle.reo_runs.specs.Whole.{HasOneRun}
@@ -24,7 +24,6 @@ use Rattle.reo_runs.specs.Written.{Ran, Cut, Kept}
 use Rattle.reo_command.specs.declared.command.Command.TheVariants.{Run}
 use Rattle.reo_top_base.specs.Cases.{AreFirstLines, Cases, IsExact, IsFair, EndsWithNoMemory}
 use Rattle.reo_command.specs.Limits.{firsts_for}
-use Rattle.reo_command.specs.Readings.{Runnable}
 use Rattle.reo_command.specs.States.{SinkState, Change}
 use Rattle.reo_command.specs.Statuses.{IsAmong, statuses_of}
 use Rattle.reo_top_runs.specs.Traces.{TracesRun, ending_status}

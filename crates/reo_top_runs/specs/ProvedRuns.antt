@@ -3,11 +3,10 @@ use Rattle.std.specs.Prelude.{ℕ, ◌≡◌, List}
 use Rattle.reo_trace.specs.declared.line.Ending.{Ending}
 use Rattle.reo_runner.specs.declared.outcome.Limits.{Limits}
 use Rattle.reo_runs.specs.Run.{start_of}
-use Rattle.reo_at_ports.specs.Kinds.{kind_rules}
+use Rattle.reo_command.specs.Readings.{kind_rules, Runnable}
 use Rattle.reo_proof_texts.specs.Cuts.{LoggedRound}
 use Rattle.reo_proof_texts.specs.Proven.{IsProved}
 use Rattle.reo_command.specs.Limits.{firsts_for}
-use Rattle.reo_command.specs.Readings.{Runnable}
 use Rattle.reo_top_runs.specs.Traces.{ending_status}
 
 -- A proved text of the run by first colourings, which goes no further than this, with the status of its ending: the trace, in

@@ -6,10 +6,9 @@ use Rattle.reo_trace.specs.declared.line.Ending.TheVariants.{Done, Stuck, Limit,
 use Rattle.reo_trace.specs.TraceText.{trace_text}
 use Rattle.reo_runs.specs.Round.{Choosing}
 use Rattle.reo_runs.specs.Run.{IsRun, start_of}
-use Rattle.reo_at_ports.specs.Kinds.{kind_rules}
+use Rattle.reo_command.specs.Readings.{kind_rules, Runnable}
 use Rattle.reo_runner.specs.declared.outcome.Limits.{Limits}
 use Rattle.reo_command.specs.Limits.{firsts_for}
-use Rattle.reo_command.specs.Readings.{Runnable}
 use Rattle.reo_command.specs.Statuses.{done, stuck, part_over, limit_reached}
 use Rattle.reo_top_base.specs.Outputs.{Outputs}
 

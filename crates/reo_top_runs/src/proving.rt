@@ -1,12 +1,11 @@
 //! A circuit and a script that are fetched and read, and the proved text of their run.
 ghost use Rattle.std.specs.Prelude.{◌≡◌, [], ◌∷◌, ◌≤◌, ◌^◌, map, true};
 ghost use Rattle.reo_kinds.specs.Kinds.{port_state_of};
-ghost use Rattle.reo_at_ports.specs.Runnable.{CanRun};
+ghost use Rattle.reo_command.specs.Readings.{CanRun, ReadsRun, StopsRun};
 ghost use Rattle.reo_command.specs.declared.command.Command.TheVariants as commands;
 ghost use Rattle.reo_command.specs.declared.role.Role.TheVariants as roles;
 ghost use Rattle.reo_command.specs.Commands.{is_free};
 ghost use Rattle.reo_command.specs.Limits.{usual_limits};
-ghost use Rattle.reo_command.specs.Readings.{ReadsRun, StopsRun};
 ghost use Rattle.reo_command.specs.ReadSteps.{runnable_in};
 ghost use Rattle.reo_command.specs.States.{files_change, sink_change};
 ghost use Rattle.reo_command.specs.Statuses.{IsAmong, statuses_of};

@@ -1,7 +1,7 @@
 //! A circuit and a script that are fetched and read, and their run.
 ghost use Rattle.std.specs.Prelude.{[], ◌∷◌, ◌≤◌, ◌^◌, map};
 ghost use Rattle.reo_kinds.specs.Kinds.{port_state_of};
-ghost use Rattle.reo_at_ports.specs.Runnable.{CanRun};
+ghost use Rattle.reo_command.specs.Readings.{CanRun, ReadsRun, StopsRun};
 ghost use Rattle.reo_command.specs.declared.command.Command.TheVariants as commands;
 ghost use Rattle.reo_command.specs.declared.role.Role.TheVariants as roles;
 ghost use Rattle.reo_top_base.specs.Answered.{IsAnswered};
@@ -9,7 +9,6 @@ ghost use Rattle.reo_top_base.specs.Cases.{Cases, IsExact, IsFair, TellsFaults};
 ghost use Rattle.reo_command.specs.Commands.{is_free};
 ghost use Rattle.reo_top_runs.specs.Traces.{TracesRun};
 ghost use Rattle.reo_top_base.specs.Owed.{owed_by};
-ghost use Rattle.reo_command.specs.Readings.{ReadsRun, StopsRun};
 ghost use Rattle.reo_command.specs.ReadSteps.{runnable_in};
 ghost use Rattle.reo_command.specs.States.{files_change, sink_change};
 ghost use Rattle.reo_command.specs.Statuses.{IsAmong, statuses_of};

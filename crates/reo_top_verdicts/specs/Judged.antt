@@ -1,7 +1,7 @@
 -- The verdict on a trace, and on a proof, of a script on a circuit.
 use Rattle.std.specs.Prelude.{ℕ, List, Result}
 use Rattle.reo_runs.specs.Run.{start_of}
-use Rattle.reo_at_ports.specs.Kinds.{kind_rules}
+use Rattle.reo_command.specs.Readings.{kind_rules}
 use Rattle.reo_trace_texts.specs.declared.trace.Trace.{Trace}
 use Rattle.reo_verdicts.specs.declared.verdict.Verdict.{Verdict}
 use Rattle.reo_verdicts.specs.Verdicts.{IsVerdict}

@@ -3,8 +3,7 @@ use Rattle.std.proofs.Common.{arith, zero, suc, ◌<◌, Bool, ◌≡◌, ◌∙
 use Rattle.std.proofs.lemmas.List.{length-map}
 use Rattle.reo_net_base.specs.declared.joint.Joint.{Joint}
 use Rattle.reo_net_base.specs.Net.{Net, net_of, end_of, side_at, from_sides, to_sides}
-use Rattle.reo_net_base.specs.Wired.{ArePorts}
-use Rattle.reo_net_order.specs.Arrows.{IsLeastOnCycle, NoCycle}
+use Rattle.reo_net_base.specs.Wired.{ArePorts, IsLeastOnCycle, NoCycle}
 use Rattle.reo_net_circuit.specs.Parts.{wiring_of, AreJoints}
 use Rattle.reo_net_circuit.specs.Fault.{AllJoined, AllRight, IsEndsFault, IsWayFault, IsNetFault}
 use Rattle.reo_kinds.specs.declared.kind.Kind.{Kind}

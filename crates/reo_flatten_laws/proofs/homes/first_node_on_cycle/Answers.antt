@@ -1,7 +1,7 @@
 use Rattle.std.proofs.Common.{arith, ◌≡◌, ◌⊎◌, inl, inr, ℕ, ◌<◌, ◌≤◌, List, length}
 use Rattle.std.proofs.lemmas.List.{length-map}
 use Rattle.reo_values.proofs.Naturals.{lt_cases}
-use Rattle.reo_net_order.specs.Arrows.{IsLeastOnCycle, OnCycle}
+use Rattle.reo_net_base.specs.Wired.{IsLeastOnCycle, OnCycle}
 use Rattle.reo_net_base.specs.declared.joint.Joint.{Joint}
 use Rattle.reo_net_base.specs.Net.{side_at}
 use Rattle.reo_flat.specs.Flat.{joints_in, homes_in, net_of_program}

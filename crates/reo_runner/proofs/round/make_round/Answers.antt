@@ -7,7 +7,7 @@ use Rattle.reo_trace.specs.Entries.{line_for}
 use Rattle.reo_trace.specs.RoundText.{round_text}
 use Rattle.reo_rounds.specs.Rules.{rules_of}
 use Rattle.reo_rounds.specs.declared.plan.Plan.{Plan}
-use Rattle.reo_standing.specs.declared.standing.Standing.{Standing}
+use Rattle.reo_at_ports.specs.Engines.{Standing}
 use Rattle.reo_runs.specs.Round.{State, advanced}
 use Rattle.reo_at_ports.proofs.AfterRound.{over_by}
 use Rattle.reo_runner.proofs.RoundLemmas.{plan_of, round_planned, stood_plan, tallied_by}
