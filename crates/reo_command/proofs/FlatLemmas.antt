@@ -10,7 +10,6 @@ use Rattle.reo_rules.specs.declared.fault.FlatFault.TheVariants as rules
 use Rattle.reo_rules.specs.Lists.{first_of}
 use Rattle.reo_flat.specs.Flat.{nodes_of, homes_in}
 use Rattle.reo_flat.specs.Refusals.{breaks, IsOnCycleFirst, IsRefused, IsAccepted}
-pub use Rattle.reo_runner.proofs.RoundLemmas.{just_ports}
 use Rattle.reo_command.specs.declared.command.Command.TheVariants.{Check}
 use Rattle.reo_command.specs.declared.refusal.Refusal.{Refusal}
 use Rattle.reo_command.specs.declared.role.Role.TheVariants.{Circuit}

@@ -1,4 +1,4 @@
-use Rattle.reo_command.proofs.FlatLemmas.{just_ports}
+use Rattle.reo_at_ports.proofs.Begun.{just_ports}
 use Rattle.reo_closings.specs.Sources.{state_of, untaken, source_change}
 use Rattle.reo_command.specs.ReadSteps.{circuit_in}
 use Rattle.reo_command.specs.States.{SinkState}
