@@ -71,13 +71,21 @@ fn rows_of(alloc: Global, count: usize) -> Result<Vec<u32>, Fail>
     Ok(rows)
 }
 
+/// Whether a log without lines for so many writers is refused with this fault.
+fn is_refused(rt: &impl Abort, alloc: Global, count: usize, fault: ProofFault) -> Result<bool, Fail>
+    requires some { 2 ≤ count }
+    requires few { count ≤ 257 }
+{
+    let circuit = merged(rt, alloc, count)?;
+    let rows = rows_of(alloc, count)?;
+    Ok(check_proof(alloc, &circuit, 1, &rows, b"") == Err(fault))
+}
+
 #[test]
 fn more_than_256_items_are_too_many(rt: HostRuntime) -> Result<(), Fail> {
-    let most = merged(&rt, rt.alloc(), 256)?;
-    let rows = rows_of(rt.alloc(), 256)?;
-    assert!(rt; check_proof(rt.alloc(), &most, 1, &rows, b"") == Err(ProofFault::Line { line: 1 }));
-    let many = merged(&rt, rt.alloc(), 257)?;
-    let rows = rows_of(rt.alloc(), 257)?;
-    assert!(rt; check_proof(rt.alloc(), &many, 1, &rows, b"") == Err(ProofFault::Wide));
+    let most = is_refused(&rt, rt.alloc(), 256, ProofFault::Line { line: 1 })?;
+    assert!(rt; most);
+    let many = is_refused(&rt, rt.alloc(), 257, ProofFault::Wide)?;
+    assert!(rt; many);
     Ok(())
 }

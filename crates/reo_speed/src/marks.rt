@@ -57,6 +57,29 @@ fn search<P: Primitive>(
     found
 }
 
+/// What a search by marks keeps of a circuit. `NoMemory` is out of memory.
+fn marks_of<P: Primitive>(alloc: Global, circuit: &Circuit<P>) -> Result<MarkSearch, NoMemory>
+    ensures { IfOk result (IsMarkSearch (net_of P.behaviour circuit.now)) }
+{
+    let ends = ends_of(alloc, circuit)?;
+    MarkSearch::new(alloc, circuit, &ends)
+}
+
+/// The rows of the sides of a part, where marks tell them. `NoMemory` is out of memory.
+fn told_rows(
+    alloc: Global,
+    found: Found,
+    rows: &[u32],
+    sides: &[usize],
+) -> Result<Option<List<u32>>, NoMemory>
+    requires { (m : ℕ) → m < length sides.now → slice_index sides.now m < length rows.now }
+{
+    match found {
+        Found::Unknown => Ok(None),
+        _ => Ok(Some(rows_at(alloc, rows, sides)?)),
+    }
+}
+
 /// The rows of the first colouring of a part in the first round, found by marks so many times, and
 /// once at least, after what a search keeps was made once; none where marks do not tell them.
 pub fn colour_by_marks<P: Primitive>(
@@ -70,14 +93,8 @@ pub fn colour_by_marks<P: Primitive>(
     requires knot { knot < knot_count knots.now }
 {
     circuit.known();
-    let ends = ends_of(alloc, circuit)?;
-    let mut marks = MarkSearch::new(alloc, circuit, &ends)?;
+    let mut marks = marks_of(alloc, circuit)?;
     let mut rows = some_rows(alloc, circuit.sides())?;
-    match search(circuit, knots, knot, times, &mut marks, &mut rows) {
-        Found::Unknown => Ok(None),
-        _ => {
-            let made = rows_at(alloc, rows.as_slice(), knots.sides(knot))?;
-            Ok(Some(made))
-        }
-    }
+    let found = search(circuit, knots, knot, times, &mut marks, &mut rows);
+    told_rows(alloc, found, rows.as_slice(), knots.sides(knot))
 }
