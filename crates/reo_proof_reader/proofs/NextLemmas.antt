@@ -1,7 +1,8 @@
 -- What stands next, by its first line.
-use Rattle.std.proofs.Common.{◌≡◌, ◌≢◌, ◌∙◌, ap, refl, sym, subst, ℕ, List, [], ◌∷◌, ◌++◌, length, drop, append_assoc, append-nil}
+use Rattle.std.proofs.Common.{◌≡◌, ◌≢◌, ◌∙◌, ap, sym, subst, ℕ, List, [], ◌∷◌, ◌++◌, length, drop, append_assoc, append-nil}
 use Rattle.std.specs.Prelude.{codes}
 use Rattle.std.specs.List.{All}
+use Rattle.reo_numbers.proofs.Fronts.{front_unique}
 use Rattle.reo_net_base.specs.declared.port.Port.{Port}
 use Rattle.reo_trace.specs.declared.line.RoundLine.{RoundLine}
 use Rattle.reo_trace.specs.declared.line.Ending.{Ending}
@@ -10,14 +11,10 @@ use Rattle.reo_trace.specs.RoundText.{round_text}
 use Rattle.reo_trace_texts.specs.Lines.{AreTold, IsLine, IsEnding}
 use Rattle.reo_trace_texts.specs.Texts.{IsRoundText, IsEndingText}
 use Rattle.reo_trace_texts.proofs.Answering.{one_round, round_no-end}
-use Rattle.reo_trace_texts.proofs.Fronts.{front_unique}
 use Rattle.reo_proof_texts.specs.Cuts.{IsInLine, HasNone}
-use Rattle.reo_proof_texts.proofs.CutLemmas.{no_feed}
+use Rattle.reo_proof_texts.proofs.CutLemmas.{feed_ends, no_feed}
 use Rattle.reo_proof_reader.specs.Reads.{IsLineTaken}
 use Rattle.reo_proof_reader.proofs.OneLine.{IsOneLine, round_in, ending_in}
-
-feed_ends : IsInLine 10 → ⊥
-feed_ends h = h refl
 
 -- One line, and what comes behind it.
 one_line : (t more : List ℕ) (one : IsOneLine t) → t ++ more ≡ one.line ++ (10 ∷ more)

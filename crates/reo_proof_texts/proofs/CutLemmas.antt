@@ -5,16 +5,17 @@ use Rattle.std.specs.List.{All}
 use Rattle.std.proofs.lemmas.List.{append_cancel_left}
 use Rattle.std.proofs.lemmas.List.Elements.{All-nil, All-cons, All-head, All-tail}
 use Rattle.reo_values.proofs.Words.{first_or}
+use Rattle.reo_numbers.proofs.Fronts.{front_unique}
 use Rattle.reo_net_base.specs.declared.port.Port.{Port}
 use Rattle.reo_trace.specs.declared.line.Ending.{Ending}
 use Rattle.reo_trace.specs.RoundText.{round_text}
 use Rattle.reo_trace_texts.specs.Lines.{AreTold}
 use Rattle.reo_trace_texts.proofs.Endings.{ending_unique, line_no-ending}
-use Rattle.reo_trace_texts.proofs.Fronts.{front_unique}
 use Rattle.reo_trace_texts.proofs.RoundLines.{line_unique}
 use Rattle.reo_proof_texts.specs.Cuts.{IsInLine, IsLogLine, lines_text, LoggedRound, logged_text, IsLogged, Next, IsNext}
 
-feed_ends : IsInLine 10 → ⊥
+-- A line feed is in no line.
+pub feed_ends : IsInLine 10 → ⊥
 feed_ends h = h refl
 
 in_line : (byte : ℕ) (bytes : List ℕ) → IsInLine byte → All IsInLine bytes → All IsInLine (byte ∷ bytes)

@@ -1,12 +1,11 @@
 -- A line, and what follows it, are told from the text.
-use Rattle.std.proofs.Common.{◌≡◌, ◌<◌, ◌≤◌, ◌+◌, ◌%◌, ◌^◌, ℕ, List, [], ◌∷◌, ◌++◌, nat_eq, false, refl, ap, sym, ◌∙◌, subst, drop, append_assoc, arith}
+use Rattle.std.proofs.Common.{◌≡◌, ◌<◌, ◌^◌, ℕ, List, [], ◌∷◌, ◌++◌, nat_eq, false, refl, ap, sym, ◌∙◌, drop, append_assoc, arith}
 use Rattle.std.specs.Prelude.{codes}
-use Rattle.std.specs.List.{All}
 use Rattle.std.specs.Fmt.{decimal}
 use Rattle.std.proofs.lemmas.Bool.{eqb-false}
-use Rattle.std.proofs.lemmas.Fmt.{decimal_by_steps, decimal_injective}
-use Rattle.std.proofs.lemmas.List.Elements.{All-nil, All-cons, All-push, All-head, All-tail}
 use Rattle.reo_values.proofs.Words.{first_or}
+use Rattle.reo_numbers.proofs.Digits.{feed_no_digit, small_unique, space_no_digit}
+use Rattle.reo_numbers.proofs.Fronts.{heads_apart}
 use Rattle.reo_joint_values.specs.declared.value.JointValue.{JointValue}
 use Rattle.reo_joint_values.specs.declared.value.JointValue.TheVariants.{Flow, RG, GR, GG, Jam}
 use Rattle.reo_refute_base.specs.declared.line.LogLine.{LogLine}
@@ -14,56 +13,15 @@ use Rattle.reo_refute_base.specs.declared.line.LogLine.TheVariants.{At, Drop, Em
 use Rattle.reo_refute_base.specs.Texts.{value_words, line_text, IsValueNumbered, IsNumbered}
 use Rattle.reo_refute_laws.specs.Answers.{LinesAreTold}
 
--- Lists with other first bytes are no equal lists.
-pub heads_apart : (x y : ℕ) (xs ys : List ℕ) → nat_eq x y ≡ false → x ∷ xs ≡ y ∷ ys → ⊥
-heads_apart x y xs ys apart e = eqb-false x y apart (ap first_or e)
-
--- `0` to `9`.
-abbrev pub IsDigit : ℕ → Type 0
-IsDigit byte = (48 ≤ byte) × (byte ≤ 57)
-
--- What begins with no digit.
-abbrev pub NoDigit : List ℕ → Type 0
-NoDigit [] = Unit {0}
-NoDigit (byte ∷ bytes) = IsDigit byte → ⊥
-
-pub digits_told : (w v r s : List ℕ) → All IsDigit w → All IsDigit v → NoDigit r → NoDigit s → w ++ r ≡ v ++ s → (w ≡ v) × (r ≡ s)
-digits_told [] [] r s a b p q e = (refl, e)
-digits_told [] (c ∷ cs) [] s a b p q e = absurd (cc)
-digits_told [] (c ∷ cs) (d ∷ ds) s a b p q e = absurd (p (subst IsDigit (sym (ap first_or e)) (All-head IsDigit c cs b)))
-digits_told (c ∷ cs) [] r [] a b p q e = absurd (cc)
-digits_told (c ∷ cs) [] r (d ∷ ds) a b p q e = absurd (q (subst IsDigit (ap first_or e) (All-head IsDigit c cs a)))
-digits_told (c ∷ cs) (d ∷ ds) r s a b p q e =
-    let more = digits_told cs ds r s (All-tail IsDigit c cs a) (All-tail IsDigit d ds b) p q (ap (λ l. drop 1 l) e) in
-    ((λ i. first_or (e i) ∷ more.0 i), more.1)
-
-digit_small : (m : ℕ) → m < 10 → IsDigit (48 + m)
-digit_small m l = (omega (arith, l), omega (arith, l))
-
-last_digit : (m : ℕ) → IsDigit (48 + m % 10)
-last_digit m = (omega arith, omega arith)
-
-pub digits_of_decimal : (n : ℕ) → n < 2 ^ 64 → All IsDigit (decimal n)
-digits_of_decimal n h =
-    decimal_by_steps (λ m ds. All IsDigit ds)
-    (λ m l. All-cons IsDigit (48 + m) [] (digit_small m l) (All-nil IsDigit))
-    (λ m ds l w. All-push IsDigit ds (48 + m % 10) w (last_digit m))
-    n h
-
--- A number and what follows it, if that begins with no digit, are told from the text.
-pub number_told : (m n : ℕ) (r s : List ℕ) → m < 2 ^ 63 → n < 2 ^ 63 → NoDigit r → NoDigit s → decimal m ++ r ≡ decimal n ++ s → (m ≡ n) × (r ≡ s)
-number_told m n r s a b p q e =
-    let parts = digits_told (decimal m) (decimal n) r s (digits_of_decimal m (omega (arith, a))) (digits_of_decimal n (omega (arith, b))) p q e in
-    (decimal_injective m n (omega (arith, a)) (omega (arith, b)) parts.0, parts.1)
-
+-- A number and what follows the byte behind it are told from the text.
 pub space_told : (m n : ℕ) (r s : List ℕ) → m < 2 ^ 63 → n < 2 ^ 63 → decimal m ++ (32 ∷ r) ≡ decimal n ++ (32 ∷ s) → (m ≡ n) × (r ≡ s)
 space_told m n r s a b e =
-    let parts = number_told m n (32 ∷ r) (32 ∷ s) a b (λ d. omega (arith, d.0)) (λ d. omega (arith, d.0)) e in
+    let parts = small_unique m n (32 ∷ r) (32 ∷ s) a b space_no_digit space_no_digit e in
     (parts.0, ap (λ l. drop 1 l) parts.1)
 
 pub feed_told : (m n : ℕ) (r s : List ℕ) → m < 2 ^ 63 → n < 2 ^ 63 → decimal m ++ (10 ∷ r) ≡ decimal n ++ (10 ∷ s) → (m ≡ n) × (r ≡ s)
 feed_told m n r s a b e =
-    let parts = number_told m n (10 ∷ r) (10 ∷ s) a b (λ d. omega (arith, d.0)) (λ d. omega (arith, d.0)) e in
+    let parts = small_unique m n (10 ∷ r) (10 ∷ s) a b feed_no_digit feed_no_digit e in
     (parts.0, ap (λ l. drop 1 l) parts.1)
 
 -- The texts, with what follows them, in pieces.

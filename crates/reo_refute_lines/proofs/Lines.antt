@@ -4,19 +4,22 @@ use Rattle.std.specs.Prelude.{codes}
 use Rattle.std.specs.Fmt.{decimal}
 use Rattle.std.proofs.lemmas.Bool.{eqb-false}
 use Rattle.reo_values.proofs.Words.{first_or}
+use Rattle.reo_numbers.specs.Digits.{IsDigit, IsSmall, NoDigit}
+use Rattle.reo_numbers.proofs.Digits.{small_unique}
+use Rattle.reo_numbers.proofs.Fronts.{heads_apart}
 use Rattle.reo_joint_values.specs.declared.value.JointValue.{JointValue}
 use Rattle.reo_joint_values.specs.declared.value.JointValue.TheVariants.{Flow, RG, GR, GG, Jam}
 use Rattle.reo_refute_base.specs.declared.line.LogLine.{LogLine}
 use Rattle.reo_refute_base.specs.declared.line.LogLine.TheVariants.{At, Drop, Empty, Split}
 use Rattle.reo_refute_base.specs.Texts.{value_words, line_text, IsValueNumbered, IsNumbered}
-use Rattle.reo_refute_laws.proofs.LineTexts.{heads_apart, number_told, space_told, value_told, drop_text, first_byte, begins}
-use Rattle.reo_refute_lines.specs.Finds.{Finds, FindsNumber, FindsDrop, IsSmall, IsDigit, NoDigit, dropped_text}
+use Rattle.reo_refute_laws.proofs.LineTexts.{space_told, value_told, drop_text, first_byte, begins}
+use Rattle.reo_refute_lines.specs.Finds.{Finds, FindsNumber, FindsDrop, dropped_text}
 
 -- Behind a number that stands in front stands what follows it.
 pub byte_follows : (byte n x : ℕ) (old now rest : List ℕ) → (IsDigit byte → ⊥) → IsSmall n → NoDigit now → old ≡ decimal n ++ now → IsSmall x → old ≡ (decimal x ++ (byte ∷ [])) ++ rest
     → (n ≡ x) × (now ≡ byte ∷ rest)
 byte_follows byte n x old now rest no_digit h ends is g e =
-    number_told n x now (byte ∷ rest) h g ends no_digit (sym is ∙ e ∙ append_assoc (decimal x) (byte ∷ []) rest)
+    small_unique n x now (byte ∷ rest) h g ends no_digit (sym is ∙ e ∙ append_assoc (decimal x) (byte ∷ []) rest)
 
 -- No number stands in front where none is found.
 pub no_number : (byte x : ℕ) (old now rest : List ℕ) → (IsDigit byte → ⊥) → FindsNumber None old now → IsSmall x → old ≡ (decimal x ++ (byte ∷ [])) ++ rest → ⊥

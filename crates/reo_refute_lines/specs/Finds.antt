@@ -1,6 +1,7 @@
 -- What a reader of a part of a line owes.
-use Rattle.std.specs.Prelude.{ℕ, ◌≡◌, ◌<◌, ◌≤◌, ◌^◌, List, [], ◌∷◌, ◌++◌, length, slice_index_or, Option, Some, None, codes}
+use Rattle.std.specs.Prelude.{ℕ, ◌≡◌, List, ◌∷◌, ◌++◌, Option, Some, None, codes}
 use Rattle.std.specs.Fmt.{decimal}
+use Rattle.reo_numbers.specs.Digits.{IsSmall, NoDigit}
 use Rattle.reo_joint_values.specs.declared.value.JointValue.{JointValue}
 use Rattle.reo_refute_base.specs.declared.line.LogLine.{LogLine}
 use Rattle.reo_refute_base.specs.declared.line.LogLine.TheVariants.{Drop}
@@ -10,23 +11,6 @@ use Rattle.reo_refute_base.specs.Texts.{IsNumbered, line_text, value_words}
 abbrev pub Finds : {X : Type 0} → (X → Type 0) → (X → List ℕ) → Option X → List ℕ → List ℕ → Type 0
 Finds {X = X} Is text None old new = (x : X) (rest : List ℕ) → Is x → old ≡ text x ++ rest → ⊥
 Finds Is text (Some x) old new = Is x × (old ≡ text x ++ new)
-
--- Numbers of lines are below 2^63.
-abbrev pub IsSmall : ℕ → Type 0
-IsSmall n = n < 2 ^ 63
-
--- `0` to `9`.
-abbrev pub IsDigit : ℕ → Type 0
-IsDigit byte = (48 ≤ byte) × (byte ≤ 57)
-
--- What begins with no digit.
-abbrev pub NoDigit : List ℕ → Type 0
-NoDigit [] = Unit {0}
-NoDigit (byte ∷ bytes) = IsDigit byte → ⊥
-
--- Some digits, at most 19, and more than one only where the first is no `0`.
-abbrev pub HasFewDigits : List ℕ → Type 0
-HasFewDigits digits = (0 < length digits) × (length digits ≤ 19) × (slice_index_or digits 0 0 ≡ 48 → length digits ≡ 1)
 
 -- The number that stood in front, as far as there are digits; or none stood there.
 abbrev pub FindsNumber : Option ℕ → List ℕ → List ℕ → Type 0

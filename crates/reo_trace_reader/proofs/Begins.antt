@@ -1,6 +1,7 @@
 -- What begins with no digit.
 use Rattle.std.proofs.Common.{ℕ, List, [], ◌∷◌, ◌++◌}
-use Rattle.reo_trace_reader.specs.Ends.{BeginsNoDigit, NoDigit}
+use Rattle.reo_numbers.specs.Digits.{NoDigit}
+use Rattle.reo_trace_reader.specs.Ends.{BeginsNoDigit}
 
 -- still begins with none where more follows
 pub begins_no_digit : (word rest : List ℕ) → BeginsNoDigit word → NoDigit (word ++ rest)

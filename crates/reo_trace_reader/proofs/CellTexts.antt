@@ -1,18 +1,18 @@
 -- Cells and entries at the front of a text.
-use Rattle.std.proofs.Common.{◌≡◌, ◌∙◌, ◌<◌, ◌^◌, ◌⊎◌, ℕ, List, [], ◌∷◌, ◌++◌, Result, inl, inr, ap, refl, sym, drop, append_assoc, arith}
+use Rattle.std.proofs.Common.{◌≡◌, ◌∙◌, ◌<◌, ◌^◌, ◌⊎◌, ℕ, List, ◌∷◌, ◌++◌, Result, inl, inr, ap, refl, sym, drop, append_assoc, arith}
 use Rattle.std.specs.Prelude.{codes}
 use Rattle.reo_trace.specs.declared.line.Cell.{Cell}
 use Rattle.reo_trace.specs.declared.line.Cell.TheVariants.{Row, Jam}
 use Rattle.reo_trace.specs.declared.line.Entry.{Entry}
 use Rattle.reo_trace.specs.declared.line.Entry.TheVariants.{One, Two}
 use Rattle.reo_trace.specs.RoundText.{cell_text, entry_text}
-use Rattle.reo_trace_texts.specs.Lines.{IsCell, IsEntry, IsSmall}
+use Rattle.reo_numbers.specs.Digits.{IsSmall, NoDigit}
+use Rattle.reo_numbers.proofs.Digits.{decimal_first, dot_no_digit}
+use Rattle.reo_trace_texts.specs.Lines.{EndsEntry, IsCell, IsEntry}
+use Rattle.reo_trace_texts.proofs.Entries.{dot_no_end, end_no_digit}
 use Rattle.reo_trace_texts.specs.declared.fault.LineFault.{LineFault}
 use Rattle.std.specs.Fmt.{decimal}
-use Rattle.reo_trace_reader.specs.Ends.{NoDigit, EndsEntry}
 use Rattle.reo_trace_reader.specs.Reads.{Reads, ReadsAgain}
-use Rattle.reo_values.proofs.Words.{first_or}
-use Rattle.reo_trace_reader.proofs.Digits.{decimal_first}
 
 -- no number begins as the jam row does
 pub jam_no_row : (n : ℕ) (new rest : List ℕ) → IsSmall n → codes "j" ++ new ≡ decimal n ++ rest → ⊥
@@ -30,27 +30,16 @@ pub record AreParts (x : Entry) (rest : List ℕ) (mouth : Cell) (after : List �
   pub ends : NoDigit after
   pub tells : ((x ≡ One mouth) × (after ≡ rest)) ⊎ ((tail : Cell) × (x ≡ Two mouth tail) × IsCell tail × (after ≡ 46 ∷ (cell_text tail ++ rest)))
 
-pub no_digit : (rest : List ℕ) → EndsEntry rest → NoDigit rest
-no_digit [] h = tt
-no_digit (byte ∷ bytes) (inl e) = inl (omega arith)
-no_digit (byte ∷ bytes) (inr e) = inl (omega arith)
-
 pub entry_parts : (old : List ℕ) (x : Entry) (rest : List ℕ) → IsEntry x → EndsEntry rest → old ≡ entry_text x ++ rest
     → (mouth : Cell) × (after : List ℕ) × (old ≡ cell_text mouth ++ after) × AreParts x rest mouth after
 unfolding entry_text
-entry_parts old (One cell) rest h ends e = (cell, rest, e, record { cell = h; ends = no_digit rest ends; tells = inl (refl, refl) })
+entry_parts old (One cell) rest h ends e = (cell, rest, e, record { cell = h; ends = end_no_digit rest ends; tells = inl (refl, refl) })
 entry_parts old (Two mouth tail) rest h ends e = (
   mouth,
   46 ∷ (cell_text tail ++ rest),
   e ∙ append_assoc (cell_text mouth) (46 ∷ cell_text tail) rest,
-  record { cell = h.0; ends = inl (omega arith); tells = inr (tail, refl, h.1, refl) },
+  record { cell = h.0; ends = dot_no_digit; tells = inr (tail, refl, h.1, refl) },
 )
-
--- no end of an entry is a dot
-pub ends_no_dot : (rest more : List ℕ) → EndsEntry rest → rest ≡ 46 ∷ more → ⊥
-ends_no_dot [] more h e = absurd (cc)
-ends_no_dot (byte ∷ bytes) more (inl h) e = let f : byte ≡ 46 = ap (λ (l : List ℕ). first_or l) e in omega arith
-ends_no_dot (byte ∷ bytes) more (inr h) e = let f : byte ≡ 46 = ap (λ (l : List ℕ). first_or l) e in omega arith
 
 -- where a dot is next, the entry has a second cell
 pub two_reads : (x : Entry) (rest : List ℕ) (mouth : Cell) (after left : List ℕ) → AreParts x rest mouth after → EndsEntry rest → after ≡ codes "." ++ left
@@ -59,7 +48,7 @@ two_reads x rest mouth after left parts ends e = by parts.tells
   where
     by : ((x ≡ One mouth) × (after ≡ rest)) ⊎ ((tail : Cell) × (x ≡ Two mouth tail) × IsCell tail × (after ≡ 46 ∷ (cell_text tail ++ rest)))
         → (tail : Cell) × (x ≡ Two mouth tail) × IsCell tail × (left ≡ cell_text tail ++ rest)
-    by (inl one) = absurd (ends_no_dot rest left ends (sym one.1 ∙ e))
+    by (inl one) = absurd (dot_no_end rest left ends (sym one.1 ∙ e))
     by (inr two) = (two.0, two.1, two.2, ap (λ l. drop 1 l) (sym e ∙ two.3))
 
 -- and where none is, it has none

@@ -1,26 +1,28 @@
 -- Endings at the front of a text.
-use Rattle.std.proofs.Common.{◌≡◌, ◌∙◌, ℕ, List, [], ◌∷◌, ◌++◌, Result, Ok, Err, inl, ap, refl, sym, drop, append_assoc, arith}
+use Rattle.std.proofs.Common.{◌≡◌, ◌∙◌, ℕ, List, [], ◌∷◌, ◌++◌, Result, Ok, Err, ap, refl, sym, drop, append_assoc, arith}
 use Rattle.std.specs.Prelude.{codes}
 use Rattle.std.specs.Fmt.{decimal}
 use Rattle.std.proofs.lemmas.List.{append_cancel_left}
 use Rattle.reo_trace.specs.declared.line.Ending.{Ending}
 use Rattle.reo_trace.specs.declared.line.Ending.TheVariants.{Done, Stuck, Limit, Spent, Wide}
-use Rattle.reo_trace_texts.specs.Lines.{IsEnding, IsSmall}
+use Rattle.reo_numbers.specs.Digits.{IsSmall, NoDigit}
+use Rattle.reo_numbers.proofs.Digits.{space_no_digit}
+use Rattle.reo_numbers.proofs.Fronts.{heads_apart}
+use Rattle.reo_trace_texts.specs.Lines.{IsEnding}
 use Rattle.reo_trace_texts.specs.declared.fault.LineFault.{LineFault}
 use Rattle.reo_trace_reader.specs.Reads.{Stood}
-use Rattle.reo_trace_texts.proofs.Fronts.{heads_apart}
 use Rattle.reo_trace_reader.specs.declared.lines.Part.{Part}
 use Rattle.reo_trace_reader.specs.declared.lines.Load.{Load}
-use Rattle.reo_trace_reader.specs.Ends.{NoDigit, EndsLine}
+use Rattle.reo_trace_reader.specs.Ends.{EndsLine}
 use Rattle.reo_trace_reader.specs.Fronts.{IsPart, IsLoad, IsSpent, part_text, load_text, spent_text, ending_front}
 
 -- no digit begins the end of a line
 pub ends_no_digit : (rest : List ℕ) → EndsLine rest → NoDigit rest
 ends_no_digit [] h = tt
-ends_no_digit (byte ∷ bytes) h = inl (omega arith)
+ends_no_digit (byte ∷ bytes) h = λ d. omega arith
 
 pub load_no_digit : (load : Load) (rest : List ℕ) → NoDigit (load_text load ++ rest)
-load_no_digit load rest = inl (omega arith)
+load_no_digit load rest = space_no_digit
 
 -- the parts of the ending of a part that is too heavy
 pub spent_parts : (old : List ℕ) (e : Ending) (rest : List ℕ) → IsSpent e → old ≡ spent_text e ++ rest

@@ -11,9 +11,10 @@ use Rattle.reo_trace.specs.declared.line.Entry.{Entry}
 use Rattle.reo_trace.specs.declared.line.Entry.TheVariants.{One, Two}
 use Rattle.reo_trace.specs.RoundText.{cell_text, entry_text}
 use Rattle.reo_trace.specs.Spaced.{spaced}
-use Rattle.reo_trace_texts.specs.Lines.{IsCell, IsEntry, IsSmall}
-use Rattle.reo_trace_reader.specs.Ends.{EndsEntry, EndsLine}
-use Rattle.reo_trace_reader.proofs.Digits.{decimal_first}
+use Rattle.reo_numbers.specs.Digits.{IsSmall}
+use Rattle.reo_numbers.proofs.Digits.{decimal_first}
+use Rattle.reo_trace_texts.specs.Lines.{EndsEntry, IsCell, IsEntry}
+use Rattle.reo_trace_reader.specs.Ends.{EndsLine}
 use Rattle.reo_trace_reader.proofs.RowTexts.{tails, left_first, left_more, left_less, row_stood, IsLeft}
 use Rattle.reo_trace_reader.specs.Reads.{ReadsAgain}
 

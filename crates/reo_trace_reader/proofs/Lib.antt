@@ -1,6 +1,5 @@
 pub mod Begins
 pub mod CellTexts
-pub mod Digits
 pub mod EndingTexts
 pub mod EntryRows
 pub mod FlowTexts

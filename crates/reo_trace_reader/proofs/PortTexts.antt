@@ -11,7 +11,7 @@ use Rattle.reo_net_base.specs.declared.colouring.Move.{Move}
 use Rattle.reo_net_base.specs.declared.port.Port.{Port}
 use Rattle.reo_trace.specs.RoundText.{sign_of, move_text}
 use Rattle.reo_trace_texts.specs.Lines.{AreTold}
-use Rattle.reo_trace_texts.proofs.Fronts.{front_unique}
+use Rattle.reo_numbers.proofs.Fronts.{front_unique}
 use Rattle.reo_trace_texts.proofs.Moves.{bytes_of-name, sign_no-name, move_at, name_at, number_of}
 use Rattle.reo_trace_reader.specs.Fronts.{port_text, IsPortFrom, IsMoveFrom}
 

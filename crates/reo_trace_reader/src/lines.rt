@@ -1,8 +1,9 @@
 //! Lines of traces, without their line feeds.
 ghost use Rattle.std.specs.Prelude.{◌≡◌, ◌++◌, IfErr};
 ghost use Rattle.std.specs.Fmt.{decimal};
-ghost use Rattle.reo_trace_texts.specs.Lines.{AreTold, IsEnding, IsSmall};
-ghost use Rattle.reo_trace_reader.specs.Ends.{Anything, BeginsNoDigit, EndsLine, NoDigit};
+ghost use Rattle.reo_numbers.specs.Digits.{IsSmall, NoDigit};
+ghost use Rattle.reo_trace_texts.specs.Lines.{AreTold, IsEnding};
+ghost use Rattle.reo_trace_reader.specs.Ends.{Anything, BeginsNoDigit, EndsLine};
 ghost use Rattle.reo_trace_reader.specs.Fronts.{IsAnyLine, IsPart, IsLoad, IsSpent, heading_text, round_front, part_text, load_text, spent_text, ending_front};
 ghost use Rattle.reo_trace_reader.specs.Reads.{Stood, ReadsAgain};
 

@@ -1,5 +1,5 @@
 -- An ending is told from its text.
-use Rattle.std.proofs.Common.{◌≡◌, ◌∙◌, ◌<◌, ◌^◌, ℕ, List, [], ◌∷◌, ◌++◌, get_or, nat_eq, false, ap, refl, sym, arith}
+use Rattle.std.proofs.Common.{◌≡◌, ◌∙◌, ℕ, List, [], ◌∷◌, ◌++◌, get_or, nat_eq, false, ap, refl, sym}
 use Rattle.std.specs.Prelude.{codes}
 use Rattle.std.specs.Fmt.{decimal}
 use Rattle.std.proofs.lemmas.Bool.{eqb-false}
@@ -10,36 +10,25 @@ use Rattle.reo_trace.specs.declared.line.Ending.TheVariants.{Done, Stuck, Limit,
 use Rattle.reo_trace.specs.declared.line.RoundLine.{RoundLine}
 use Rattle.reo_trace.specs.EndingText.{ending_text}
 use Rattle.reo_trace.specs.RoundText.{round_text}
-use Rattle.reo_trace_texts.specs.Lines.{IsSmall, IsEnding}
+use Rattle.reo_numbers.specs.Digits.{IsSmall}
+use Rattle.reo_numbers.proofs.Digits.{colon_no_digit, feed_no_digit, small_unique, space_no_digit}
+use Rattle.reo_trace_texts.specs.Lines.{IsEnding}
 use Rattle.reo_values.proofs.Words.{first_or}
-use Rattle.reo_trace_texts.proofs.Numbers.{IsDigit, decimal_unique}
 use Rattle.reo_trace_texts.proofs.RoundLines.{line_text}
-
-space_no-digit : IsDigit 32 → ⊥
-space_no-digit h = omega arith
-
-colon_no-digit : IsDigit 58 → ⊥
-colon_no-digit h = omega arith
-
-feed_no-digit : IsDigit 10 → ⊥
-feed_no-digit h = omega arith
-
-small_fits : (n : ℕ) → IsSmall n → n < 2 ^ 64
-small_fits n h = omega arith
 
 -- a count of rounds in its sentence
 rounds_told : (m n : ℕ) → IsSmall m → IsSmall n → decimal m ++ codes " rounds\n" ≡ decimal n ++ codes " rounds\n" → m ≡ n
-rounds_told m n h g e = (decimal_unique m n (codes " rounds\n") (codes " rounds\n") (small_fits m h) (small_fits n g) space_no-digit space_no-digit e).0
+rounds_told m n h g e = (small_unique m n (codes " rounds\n") (codes " rounds\n") h g space_no_digit space_no_digit e).0
 
 -- a number and then the same words in both
 colon_told : (m n : ℕ) (r s : List ℕ) → IsSmall m → IsSmall n → decimal m ++ (58 ∷ r) ≡ decimal n ++ (58 ∷ s) → (m ≡ n) × (58 ∷ r ≡ 58 ∷ s)
-colon_told m n r s h g e = decimal_unique m n (58 ∷ r) (58 ∷ s) (small_fits m h) (small_fits n g) colon_no-digit colon_no-digit e
+colon_told m n r s h g e = small_unique m n (58 ∷ r) (58 ∷ s) h g colon_no_digit colon_no_digit e
 
 space_told : (m n : ℕ) (r s : List ℕ) → IsSmall m → IsSmall n → decimal m ++ (32 ∷ r) ≡ decimal n ++ (32 ∷ s) → (m ≡ n) × (32 ∷ r ≡ 32 ∷ s)
-space_told m n r s h g e = decimal_unique m n (32 ∷ r) (32 ∷ s) (small_fits m h) (small_fits n g) space_no-digit space_no-digit e
+space_told m n r s h g e = small_unique m n (32 ∷ r) (32 ∷ s) h g space_no_digit space_no_digit e
 
 feed_told : (m n : ℕ) → IsSmall m → IsSmall n → decimal m ++ codes "\n" ≡ decimal n ++ codes "\n" → m ≡ n
-feed_told m n h g e = (decimal_unique m n (10 ∷ []) (10 ∷ []) (small_fits m h) (small_fits n g) feed_no-digit feed_no-digit e).0
+feed_told m n h g e = (small_unique m n (10 ∷ []) (10 ∷ []) h g feed_no_digit feed_no_digit e).0
 
 -- the third letters of the five kinds of endings
 abbrev kind_of : Ending → ℕ

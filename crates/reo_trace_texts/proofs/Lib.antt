@@ -1,10 +1,8 @@
 pub mod Answering
 pub mod Endings
 pub mod Entries
-pub mod Fronts
 pub mod ItemEnds
 pub mod Moves
-pub mod Numbers
 pub mod RoundLines
 pub mod Rows
 pub mod Tight

@@ -18,7 +18,7 @@ use Rattle.reo_net_base.specs.declared.port.Way.TheVariants.{In, Out}
 use Rattle.reo_trace.specs.RoundText.{sign_of, flow_text, move_text, moves_text}
 use Rattle.reo_trace.specs.Spaced.{spaced}
 use Rattle.reo_trace_texts.specs.Lines.{AreTold, IsMove}
-use Rattle.reo_trace_texts.proofs.Fronts.{heads_apart, NotFirst, front_unique}
+use Rattle.reo_numbers.proofs.Fronts.{heads_apart, NotFirst, front_unique}
 use Rattle.reo_trace_texts.proofs.ItemEnds.{Stops, item_unique}
 use Rattle.reo_trace_texts.proofs.Rows.{AreToldApart, row_head, row_unique}
 

@@ -7,8 +7,8 @@ use Rattle.reo_net_base.specs.declared.port.Port.{Port}
 use Rattle.reo_trace.specs.declared.line.RoundLine.{RoundLine}
 use Rattle.reo_trace.specs.RoundText.{moves_text, entry_text, round_text}
 use Rattle.reo_trace.specs.Spaced.{spaced}
+use Rattle.reo_numbers.proofs.Digits.{colon_no_digit, decimal_unique}
 use Rattle.reo_trace_texts.specs.Lines.{AreTold, IsLine}
-use Rattle.reo_trace_texts.proofs.Numbers.{IsDigit, decimal_unique}
 use Rattle.reo_trace_texts.proofs.Moves.{AreMoves, moves_unique}
 use Rattle.reo_trace_texts.proofs.Entries.{entries_unique}
 
@@ -20,9 +20,6 @@ after_number ports line more = codes ": " ++ (moves_text ports line.idle line.mo
 pub line_text : (ports : List Port) (line : RoundLine) (more : List ℕ) → round_text ports line ++ more ≡ codes "round " ++ (decimal line.round ++ after_number ports line more)
 unfolding round_text
 line_text ports line more = simp append_assoc
-
-colon_no-digit : IsDigit 58 → ⊥
-colon_no-digit h = omega arith
 
 -- rounds of a trace have numbers of 64 bits
 pub number_fits : (ports : List Port) (n : ℕ) (line : RoundLine) → IsLine ports n line → line.round < 2 ^ 64
@@ -36,7 +33,7 @@ module _ (ports : List Port) (told : AreTold ports) where
   pub line_unique : (m n : ℕ) (a b : RoundLine) (r s : List ℕ) → IsLine ports m a → IsLine ports n b → round_text ports a ++ r ≡ round_text ports b ++ s → (a ≡ b) × (r ≡ s)
   line_unique m n a b r s h g e =
       let whole = append_cancel_left (codes "round ") _ _ (sym (line_text ports a r) ∙ e ∙ line_text ports b s) in
-      let number = decimal_unique a.round b.round (after_number ports a r) (after_number ports b s) (number_fits ports m a h) (number_fits ports n b g) colon_no-digit colon_no-digit whole in
+      let number = decimal_unique a.round b.round (after_number ports a r) (after_number ports b s) (number_fits ports m a h) (number_fits ports n b g) colon_no_digit colon_no_digit whole in
       let moves = moves_unique ports told a.idle b.idle a.moves b.moves (spaced entry_text a.entries ++ (10 ∷ r)) (spaced entry_text b.entries ++ (10 ∷ s))
       (moves_of m a h) (moves_of n b g) (ap (λ l. drop 2 l) number.1) in
       let entries = entries_unique a.entries b.entries r s h.entries g.entries moves.2 in

@@ -1,9 +1,10 @@
 -- What the lines of a trace may say.
-use Rattle.std.specs.Prelude.{ℕ, ◌+◌, ◌<◌, ◌^◌, ◌≡◌, true, List, [], ◌∷◌, Some, map, slice_get}
+use Rattle.std.specs.Prelude.{ℕ, ◌+◌, ◌<◌, ◌^◌, ◌≡◌, ◌⊎◌, true, List, [], ◌∷◌, Some, map, slice_get}
 use Rattle.std.specs.List.{All}
 use Rattle.reo_values.specs.Kind.{IsIn}
 use Rattle.reo_values.specs.Names.{IsName}
 use Rattle.reo_values.specs.Valid.{AreDistinct, IsValid}
+use Rattle.reo_numbers.specs.Digits.{IsSmall}
 use Rattle.reo_net_base.specs.declared.colouring.Move.{Move}
 use Rattle.reo_net_base.specs.declared.port.Port.{Port}
 use Rattle.reo_trace.specs.declared.line.Cell.{Cell}
@@ -20,10 +21,6 @@ pub record AreTold (ports : List Port) : Type 0 where
   pub distinct : AreDistinct (map (λ (p : Port). p.name) ports)
   pub types : All (λ (p : Port). IsValid p.kindred) ports
 
--- Numbers of a trace are below 2^63.
-abbrev pub IsSmall : ℕ → Type 0
-IsSmall n = n < 2 ^ 63
-
 -- Rows are below 2^32.
 abbrev pub IsCell : Cell → Type 0
 IsCell (Row row) = row < 2 ^ 32
@@ -32,6 +29,11 @@ IsCell Jam = Unit {0}
 abbrev pub IsEntry : Entry → Type 0
 IsEntry (One cell) = IsCell cell
 IsEntry (Two mouth tail) = IsCell mouth × IsCell tail
+
+-- After an entry: nothing, a space or a line feed.
+abbrev pub EndsEntry : List ℕ → Type 0
+EndsEntry [] = Unit {0}
+EndsEntry (byte ∷ bytes) = (byte ≡ 32) ⊎ (byte ≡ 10)
 
 -- A move is at a port, with an item of the port's type.
 abbrev pub IsMove : List Port → Move → Type 0

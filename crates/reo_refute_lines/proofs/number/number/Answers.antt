@@ -1,7 +1,7 @@
 use Rattle.std.proofs.Common.{◌++◌, ◌∙◌, ℕ, List, ap, sym, subst, drop}
 use Rattle.std.specs.Fmt.{decimal}
-use Rattle.reo_refute_lines.specs.Finds.{NoDigit}
-use Rattle.reo_refute_lines.proofs.Digits.{number_front, number_back}
+use Rattle.reo_numbers.specs.Digits.{NoDigit}
+use Rattle.reo_numbers.proofs.Digits.{number_front, number_back}
 use Rattle.reo_refute_lines.proofs.number.number.Goals as goal
 
 pub returns-in-Some : goal.returns-in-Some

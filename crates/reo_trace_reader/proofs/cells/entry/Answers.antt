@@ -1,7 +1,8 @@
 use Rattle.std.proofs.Common.{◌∙◌, ◌++◌, ap, sym}
 use Rattle.reo_trace.specs.declared.line.Entry.TheVariants.{One, Two}
 use Rattle.reo_trace.specs.RoundText.{cell_text}
-use Rattle.reo_trace_reader.proofs.CellTexts.{entry_parts, no_digit, two_reads, one_reads, two_stood, one_stood}
+use Rattle.reo_trace_texts.proofs.Entries.{end_no_digit}
+use Rattle.reo_trace_reader.proofs.CellTexts.{entry_parts, two_reads, one_reads, two_stood, one_stood}
 use Rattle.reo_trace_reader.proofs.Steps.{passes}
 use Rattle.reo_trace_reader.proofs.cells.entry.Goals as goal
 
@@ -17,7 +18,7 @@ returns-in_err-tail-clause-again c x rest h ends e =
     let first = c.in_ok-mouth.ensures.again parts.0 parts.1 parts.3.cell parts.3.ends parts.2 in
     let second = two_reads x rest parts.0 parts.1 c.word.new.self parts.3 ends (sym first.1 ∙ c.word.ensures.taken c.if-word.true) in
     passes c.from_residual-in_err-tail.result c.in_err-tail.field-0.0 _ second.0 rest _ x rest
-    (c.in_err-tail.ensures.again second.0 rest second.2 (no_digit rest ends) second.3) c.from_residual-in_err-tail.ensures
+    (c.in_err-tail.ensures.again second.0 rest second.2 (end_no_digit rest ends) second.3) c.from_residual-in_err-tail.ensures
 
 pub returns-in_ok-tail-clause-stood : goal.returns-in_ok-tail-clause-stood
 returns-in_ok-tail-clause-stood c = (
@@ -31,7 +32,7 @@ returns-in_ok-tail-clause-again c x rest h ends e =
     let parts = entry_parts c.args.reader.now x rest h ends e in
     let first = c.in_ok-mouth.ensures.again parts.0 parts.1 parts.3.cell parts.3.ends parts.2 in
     let second = two_reads x rest parts.0 parts.1 c.word.new.self parts.3 ends (sym first.1 ∙ c.word.ensures.taken c.if-word.true) in
-    let last = c.in_ok-tail.ensures.again second.0 rest second.2 (no_digit rest ends) second.3 in
+    let last = c.in_ok-tail.ensures.again second.0 rest second.2 (end_no_digit rest ends) second.3 in
     ((λ i. Two (first.0 i) (last.0 i)) ∙ sym second.1, last.1)
 
 pub returns-else-word-clause-stood : goal.returns-else-word-clause-stood

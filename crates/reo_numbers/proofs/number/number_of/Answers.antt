@@ -1,8 +1,8 @@
 use Rattle.std.proofs.Common.{arith, subst, sym, ap, ◌∙◌}
 use Rattle.std.specs.Str.Parse.{digits_value}
-use Rattle.reo_trace_reader.specs.Ends.{HasFewDigits}
-use Rattle.reo_trace_reader.proofs.Digits.{decimal_few, few_decimal, decimal_value}
-use Rattle.reo_trace_reader.proofs.number.number_of.Goals as goal
+use Rattle.reo_numbers.specs.Digits.{HasFewDigits}
+use Rattle.reo_numbers.proofs.Digits.{decimal_few, few_decimal, decimal_value}
+use Rattle.reo_numbers.proofs.number.number_of.Goals as goal
 
 pub returns-then-not-has_few_digits : goal.returns-then-not-has_few_digits
 returns-then-not-has_few_digits c n h e = c.has_few_digits.ensures.no c.if-not-has_few_digits.true (subst HasFewDigits (sym e) (decimal_few n h))

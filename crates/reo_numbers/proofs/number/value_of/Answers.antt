@@ -1,6 +1,6 @@
 use Rattle.std.proofs.Common.{arith, ◌∙◌, ap, ◌+◌, ◌*◌, ℕ}
-use Rattle.reo_trace_reader.proofs.Digits.{value_more}
-use Rattle.reo_trace_reader.proofs.number.value_of.Goals as goal
+use Rattle.reo_numbers.proofs.Digits.{value_more}
+use Rattle.reo_numbers.proofs.number.value_of.Goals as goal
 
 pub overflow_mul-value : goal.overflow_mul-value
 overflow_mul-value c =

@@ -1,6 +1,6 @@
 use Rattle.std.proofs.Common.{◌≡◌, take}
 use Rattle.std.specs.Str.Parse.{digits_value}
-use Rattle.reo_trace_reader.proofs.number.value_of.Given as goal
+use Rattle.reo_numbers.proofs.number.value_of.Given as goal
 
 abbrev pub invariant-loop-digit : goal.invariant-loop-digit
 invariant-loop-digit l = l.value ≡ digits_value 10 (take l.digit-index l.digits)
