@@ -1,25 +1,22 @@
 -- How many choices there are.
-use Rattle.std.proofs.Common.{◌≡◌, inl, inr, ℕ, zero, suc, ◌+◌, ◌*◌, ◌<◌, ◌≤◌, List, [], ◌∷◌, ◌++◌, Bool, length, get_or, take, drop, ap, sym, ◌∙◌, subst, arith, length-drop}
+use Rattle.std.proofs.Common.{◌≡◌, inl, inr, ℕ, zero, suc, ◌+◌, ◌*◌, ◌<◌, ◌≤◌, List, [], ◌∷◌, Bool, length, get_or, take, drop, ap, sym, ◌∙◌, subst, arith, length-drop}
 use Rattle.std.specs.Prelude.{min, map}
 use Rattle.std.proofs.lemmas.Bool.{cases_lt}
 use Rattle.std.proofs.lemmas.Nat.{mul-le}
 use Rattle.std.proofs.lemmas.List.{take_more, map-append, get_or-drop}
 use Rattle.reo_net_base.specs.Net.{Net}
 use Rattle.reo_weights.specs.Weights.{all_values, product_of, capped}
+use Rattle.reo_weights.proofs.Products.{product_push}
 use Rattle.reo_joint_values.specs.Values.{Names, Choice}
 use Rattle.reo_joint_values.specs.Chosen.{IsChosen}
 use Rattle.reo_choices.specs.Remaining.{CoverAll, choices_of}
-
-product_snoc : (xs : List ℕ) (n : ℕ) → product_of (xs ++ n ∷ []) ≡ product_of xs * n
-product_snoc [] n = omega arith
-product_snoc (x ∷ xs) n = omega (arith, ap (λ (k : ℕ). x * k) (product_snoc xs n))
 
 -- With one list more.
 pub choices_more : (left : List (List ℕ)) (i : ℕ) → i < length left → choices_of (take (i + 1) left) ≡ choices_of (take i left) * length (get_or left i [])
 choices_more left i lt =
     ap choices_of (take_more left i [] lt)
     ∙ ap product_of (map-append length (take i left) (get_or left i [] ∷ []))
-    ∙ product_snoc (map length (take i left)) (length (get_or left i []))
+    ∙ product_push (map length (take i left)) (length (get_or left i []))
 
 min_small : (m n : ℕ) → m ≤ n → min m n ≡ m
 min_small m n h = omega arith

@@ -1,11 +1,12 @@
 -- What is left at joints of lists of values there.
-use Rattle.std.proofs.Common.{◌≡◌, inl, inr, ℕ, zero, suc, ◌+◌, ◌<◌, ◌≤◌, Bool, true, false, cond, List, [], ◌∷◌, ◌++◌, length, get_or, drop, Option, refl, ap, sym, ◌∙◌, subst, arith, length-append, below_more}
+use Rattle.std.proofs.Common.{◌≡◌, inl, inr, ℕ, ◌+◌, ◌<◌, ◌≤◌, Bool, true, false, cond, List, [], ◌∷◌, ◌++◌, length, get_or, drop, Option, refl, ap, sym, ◌∙◌, subst, arith, length-append, below_more}
 use Rattle.std.specs.Prelude.{Contains, filter}
 use Rattle.std.proofs.Math.Seq.{get_or-append_seam}
 use Rattle.std.proofs.lemmas.Bool.{cases_Bool}
 use Rattle.std.proofs.lemmas.List.{get_or_append_left, get_or_past}
 use Rattle.reo_net_base.specs.Net.{Net}
 use Rattle.reo_joint_values.specs.Values.{Names, Choice, giver_side}
+use Rattle.reo_weights.proofs.Listings.{in_filter}
 use Rattle.reo_rows.specs.Flags.{flag}
 use Rattle.reo_rows.specs.Sets.{code_of}
 use Rattle.reo_walk.specs.declared.place.Place.{Place}
@@ -64,26 +65,6 @@ filter_shorter test (x ∷ xs) = elim (cases_Bool (test x)) [
       omega (arith, ap length is, rest)
 ]
 
-contains_tail : (x : ℕ) (xs : List ℕ) (y : ℕ) → Contains xs y → Contains (x ∷ xs) y
-contains_tail x xs y (m, lt, is) = (suc m, omega (arith, lt), is)
-
-contains_kept : (test : ℕ → Bool) (xs : List ℕ) (y : ℕ) → Contains xs y → test y ≡ true → Contains (filter test xs) y
-contains_kept test [] y (m, lt, is) h = absurd (omega arith)
-contains_kept test (x ∷ xs) y (zero, lt, is) h =
-    let on : test x ≡ true = ap test is ∙ h in
-    let all : filter test (x ∷ xs) ≡ x ∷ filter test xs = ap (λ (t : Bool). cond t (x ∷ filter test xs) (filter test xs)) on in
-    subst (λ (zs : List ℕ). Contains zs y) (sym all) (0, omega arith, is)
-contains_kept test (x ∷ xs) y (suc m, lt, is) h =
-    let rest : Contains (filter test xs) y = contains_kept test xs y (m, omega (arith, lt), is) h in
-    elim (cases_Bool (test x)) [
-      | inl on ↦
-          let all : filter test (x ∷ xs) ≡ x ∷ filter test xs = ap (λ (t : Bool). cond t (x ∷ filter test xs) (filter test xs)) on in
-          subst (λ (zs : List ℕ). Contains zs y) (sym all) (contains_tail x (filter test xs) y rest)
-      | inr off ↦
-          let all : filter test (x ∷ xs) ≡ filter test xs = ap (λ (t : Bool). cond t (x ∷ filter test xs) (filter test xs)) off in
-          subst (λ (zs : List ℕ). Contains zs y) (sym all) rest
-    ]
-
 -- From no list yet.
 pub kept_none : (alive : List (List Bool)) (joints : List ℕ) (left : List (List ℕ)) → AreKept alive joints left 0 []
 kept_none alive joints left = record { one_each = refl; each = λ m lt. absurd (omega arith); some = λ m lt. absurd (omega arith) }
@@ -110,8 +91,10 @@ module _ (net : Net) (names : Names) (inside : ℕ → Bool) (loops codes : List
   stays : (rows : ℕ → ℕ) (choice : Choice) → HasCodes net names inside loops codes rows choice → (m : ℕ) → m < length loops → Contains (kept_from alive loops left m) (code_of (choice (get_or loops m 0)))
   stays rows choice h m lt =
       let j : ℕ = get_or loops m 0 in
-      contains_kept (λ c. flag alive j c) (get_or left m []) (code_of (choice j)) (cover rows choice h m lt)
-      ((with.kept rows choice h).from (giver_side net j) (are.here m lt) j (are.in_range m lt) (inl refl))
+      (in_filter (λ c. flag alive j c) (get_or left m []) (code_of (choice j))).1 (
+        cover rows choice h m lt,
+        (with.kept rows choice h).from (giver_side net j) (are.here m lt) j (are.in_range m lt) (inl refl),
+      )
 
   -- Where none stays at a joint, there is no assignment with these values.
   pub none_kept : HasEmpty alive loops left → (turn : ℕ) (places : List Place) (best : Option (List ℕ)) → IsBetter (HasCodes net names inside loops codes) net turn places best best

@@ -2,6 +2,7 @@
 use Rattle.std.proofs.Common.{◌≡◌, ◌∙◌, ℕ, ◌≤◌, Bool, true, false, List, [], ◌∷◌, ◌++◌, take, sym, subst, ap, refl, arith, Result, Ok, Err}
 use Rattle.std.specs.Prelude.{Option, Some, None, IfSome}
 use Rattle.std.specs.Option.{unwrap_or}
+use Rattle.std.proofs.lemmas.Bool.{true≢false, false≢true}
 use Rattle.std.proofs.lemmas.List.{append-nil, append_assoc}
 use Rattle.reo_io.specs.Causes.{Rose}
 use Rattle.reo_io.specs.Sources.{Takes}
@@ -63,17 +64,12 @@ whole_told : (told now : Option (List ℕ)) (bytes : List ℕ) → Left told now
 whole_told None now bytes h = tt
 whole_told (Some all) now bytes h = (h.0, h.1, h.2, λ e. refl)
 
-no_fault : {A : Type 0} → false ≡ true → A
-no_fault e = absurd (never e) where
-  never : false ≡ true → ⊥
-  never f = cc
-
 pub whole_taken : (old new : SourceState) (bytes : List ℕ) → AreTakenSoFar old new bytes → AreTaken (all_of old.told bytes) (record { old = old; new = new })
 whole_taken old new bytes h = let found = rest_of old.told new.told bytes h.told in record {
   taken = bytes;
   rest = found.0;
   front = found.1;
-  fault = λ e. no_fault e;
+  fault = λ e. absurd (false≢true e);
   later = h.later;
   given = h.given;
   told = whole_told old.told new.told bytes h.told;
@@ -82,7 +78,7 @@ whole_taken old new bytes h = let found = rest_of old.told new.told bytes h.told
 missed_told : (told now : Option (List ℕ)) (bytes : List ℕ) → Left told now bytes
     → IfSome told (λ all. (left : List ℕ) × (all ≡ bytes ++ left) × (now ≡ Some left) × (true ≡ false → bytes ≡ all))
 missed_told None now bytes h = tt
-missed_told (Some all) now bytes h = (h.0, h.1, h.2, λ e. no_fault (sym e))
+missed_told (Some all) now bytes h = (h.0, h.1, h.2, λ e. absurd (true≢false e))
 
 pub missed_taken : (old new : SourceState) (bytes : List ℕ) → AreTakenSoFar old new bytes → Rose old.faults new.faults
     → AreTaken (record { bytes = bytes; failed = true }) (record { old = old; new = new })
@@ -111,7 +107,7 @@ ended_taken old mid new bytes room h takes more = let was = h.later in record {
   taken = bytes;
   rest = [];
   front = sym (append-nil bytes);
-  fault = λ e. no_fault e;
+  fault = λ e. absurd (false≢true e);
   later = omega (arith, was, more);
   given = takes.1 ∙ (append-nil mid.given ∙ h.given);
   told = ended_told old.told mid.told new.told bytes room h.told takes.0;

@@ -198,7 +198,8 @@ given_none : (names : List (List ℕ)) → texts_given names [] ≡ []
 given_none [] = refl
 given_none (n ∷ ns) = refl
 
-if_any : {X : Type 0} (o : Option X) (B : X → Type 0) → ((x : X) → B x) → IfSome o B
+-- What holds of each holds of what there may be.
+pub if_any : {X : Type 0} (o : Option X) (B : X → Type 0) → ((x : X) → B x) → IfSome o B
 if_any None B f = tt
 if_any (Some x) B f = f x
 

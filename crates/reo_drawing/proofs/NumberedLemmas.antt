@@ -1,6 +1,5 @@
 -- One more text in a row.
 use Rattle.std.proofs.Common.{arith, ◌≡◌, ◌∙◌, ℕ, ◌+◌, ◌<◌, zero, suc, List, [], ◌∷◌, ◌++◌, length, get_or, take, refl, sym, ap, append_assoc}
-use Rattle.std.specs.Prelude.{Result, Ok, Err, OnOk}
 use Rattle.std.proofs.lemmas.List.{append-nil}
 use Rattle.reo_drawing.specs.Numbered.{numbered}
 
@@ -31,10 +30,6 @@ three t a b c = ap (λ bytes. bytes ++ c) (append_assoc t a b) ∙ append_assoc 
 
 pub four : (t a b c d : List ℕ) → (((t ++ a) ++ b) ++ c) ++ d ≡ t ++ (((a ++ b) ++ c) ++ d)
 four t a b c d = ap (λ bytes. bytes ++ d) (three t a b c) ∙ append_assoc t ((a ++ b) ++ c) d
-
-pub then : {A E : Type 0} (r : Result A E) (P Q : Type 0) → (P → Q) → OnOk r P → OnOk r Q
-then (Ok x) P Q f h = f h
-then (Err e) P Q f h = tt
 
 -- What is read at a place does not hang on what is read past the end.
 pub read : {X : Type 0} (xs : List X) (i : ℕ) (d : X) → i < length xs → get_or xs i d ≡ get_or xs i (get_or xs i d)

@@ -6,6 +6,7 @@ use Rattle.std.proofs.lemmas.Bool.Decides.{nat_tests}
 use Rattle.std.proofs.lemmas.List.Elements.{All-head, All-tail}
 use Rattle.reo_values.specs.Names.{is_digit}
 use Rattle.std.proofs.lemmas.Fmt.{decimal_by_steps}
+use Rattle.std.proofs.lemmas.Nat.{mod_below}
 use Rattle.reo_drawing_labels.specs.Escape.{escape, is_sign, is_plain, code_text, stays_shut}
 
 -- A plain byte that is no quote and no backslash is passed.
@@ -26,14 +27,11 @@ digit_passed k rest h =
     let digit : is_digit (48 + k) ≡ true = grind (arith, nat_tests) in
     passed (48 + k) rest (digit_plain (48 + k) digit) (digit_no_quote (48 + k) digit) (digit_no_backslash (48 + k) digit)
 
-below_ten : (n : ℕ) → n % 10 < 10
-below_ten n = omega arith
-
 number_passed : (n : ℕ) → n < 2 ^ 64 → (rest : List ℕ) → stays_shut false (decimal n ++ rest) ≡ stays_shut false rest
 number_passed n small =
     decimal_by_steps (λ m ds. (rest : List ℕ) → stays_shut false (ds ++ rest) ≡ stays_shut false rest)
     (λ m l rest. digit_passed m rest l)
-    (λ m ds l before rest. ap (λ bytes. stays_shut false bytes) (append_assoc ds ((48 + m % 10) ∷ []) rest) ∙ before ((48 + m % 10) ∷ rest) ∙ digit_passed (m % 10) rest (below_ten m))
+    (λ m ds l before rest. ap (λ bytes. stays_shut false bytes) (append_assoc ds ((48 + m % 10) ∷ []) rest) ∙ before ((48 + m % 10) ∷ rest) ∙ digit_passed (m % 10) rest (mod_below m 10 (omega arith)))
     n small
 
 code_passed : (b : ℕ) (rest : List ℕ) → b < 256 → stays_shut false (code_text b ++ rest) ≡ stays_shut false rest

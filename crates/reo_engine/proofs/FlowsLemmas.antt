@@ -1,7 +1,7 @@
 -- What a round that stands is made with, when a circuit changes.
 use Rattle.std.proofs.Common.{◌≡◌, ◌≢◌, ◌∙◌, inl, inr, ℕ, ◌+◌, ◌<◌, ◌≤◌, Bool, true, false, not, List, [], ◌∷◌, length, get_or, refl, ap, sym, subst, arith}
 use Rattle.std.specs.Prelude.{Option, Some, None, nat_le, nat_lt, ◌==◌, ◌⊎◌, if◌then◌else◌}
-use Rattle.std.proofs.lemmas.Bool.{and_from}
+use Rattle.std.proofs.lemmas.Bool.{and_from, cases_Bool}
 use Rattle.std.proofs.lemmas.Bool.Decides.{nat_tests}
 use Rattle.std.proofs.lemmas.Grind.{same_number_lists}
 use Rattle.std.proofs.lemmas.List.{get_or_default}
@@ -52,7 +52,6 @@ use Rattle.reo_engine.specs.Flows.{AreFlows, AreKeptShown, AreFlaggedShown, AreS
 use Rattle.reo_engine.specs.Resting.{part_of}
 use Rattle.reo_engine.specs.Stood.{AreRenewed}
 use Rattle.reo_engine.proofs.Resting.{in_own}
-use Rattle.reo_joint_values.proofs.Choosing.{true_or_false as yes_or_no}
 
 -- The code of a cell, by its row and how many rows its side has.
 abbrev code_by : ℕ → ℕ → ℕ
@@ -117,7 +116,7 @@ module _ (net : Net) (wired : IsWired net) (order : List ℕ) (is_order : IsOrde
   all_shown now at s s_in =
       let k : ℕ = part_of knots s in
       let lt : k < knot_count knots = are.numbered.in_range s s_in in
-      elim (yes_or_no (get_or flags k false)) [
+      elim (cases_Bool (get_or flags k false)) [
         | inl flag ↦
             let was_so = flagged.each k flag in
             let row = rows_same k lt was_so.1 s s_in (in_own net knots are s k s_in refl) in
@@ -133,7 +132,7 @@ module _ (net : Net) (wired : IsWired net) (order : List ℕ) (is_order : IsOrde
       let s_in : s < side_count net = omega (arith, lt, count) in
       let k : ℕ = part_of knots s in
       let k_in : k < knot_count knots = are.numbered.in_range s s_in in
-      elim (yes_or_no (get_or flags k false)) [
+      elim (cases_Bool (get_or flags k false)) [
         | inl flag ↦ written.at.others s s_in flag ∙ ap (λ (xs : List ℕ). get_or xs s 0) before ∙ sym (rows_same k k_in (flagged.each k flag).1 s s_in (in_own net knots are s k s_in refl))
         | inr clear ↦ written.at.here s s_in k_in clear
       ])

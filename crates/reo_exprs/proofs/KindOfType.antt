@@ -1,5 +1,5 @@
 -- The kind of an expression is the kind of its type, where it has one.
-use Rattle.std.proofs.Common.{Bool, true, false, ◌&&◌, ◌≡◌, ◌∙◌, length, Option, Some, ap, sym, refl}
+use Rattle.std.proofs.Common.{Bool, true, false, ◌&&◌, ◌≡◌, ◌∙◌, length, Option, None, Some, ap, sym, refl}
 use Rattle.std.specs.Prelude.{option_and_then, option_map}
 use denote.Hole.Carrier.{hidden}
 use Rattle.reo_values.specs.declared.kindred.Kindred as kindred
@@ -152,3 +152,11 @@ kind_of_typed (expr.If' m (expr.more_of-ExprTriple c x y _)) of t e =
     let p = kind_of_typed x of h.0 h.1 in
     let q = kind_of_typed y of g.0 g.1 in
     (λ i. option_and_then (λ a. option_and_then (λ b. option_and_then (λ d. if_kind a b d) (q i)) (p i)) (o i)) ∙ if_kinds f.0 h.0 g.0 ∙ kind_told (if_type f.0 h.0 g.0) j.0 t j.1 j.2
+
+-- An expression that has no kind has no type.
+pub untyped : (e : Expr) (of : Kindred) → kind_of_expr e of ≡ None → type_of_expr e of ≡ None
+untyped e of none = by (type_of_expr e of) refl
+  where
+    by : (o : Option Kindred) → type_of_expr e of ≡ o → type_of_expr e of ≡ None
+    by None is = is
+    by (Some t) is = let h = sym none ∙ kind_of_typed e of t is in absurd (cc)

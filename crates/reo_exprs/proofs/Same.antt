@@ -1,5 +1,5 @@
 -- When the test of two items says that they are equal.
-use Rattle.std.proofs.Common.{ℕ, ℤ, Bool, true, false, ◌&&◌, ◌==◌, ◌≡◌, ◌∙◌, ap, sym, refl, arith}
+use Rattle.std.proofs.Common.{ℤ, Bool, true, false, ◌&&◌, ◌≡◌, ◌∙◌, ap, sym, refl, arith}
 use Rattle.std.specs.Prelude.{IsTrue, ◌↔◌}
 use Rattle.std.specs.Ordering.{int_eq}
 use Rattle.std.proofs.lemmas.Bool.Decides.{Decides-int_eq}
@@ -11,7 +11,7 @@ use Rattle.reo_values.specs.declared.value.Value.TheBlock.{hidden-the_row-Couple
 use Rattle.reo_values.proofs.Pairs.{Pair_of-equal}
 use Rattle.reo_values.proofs.Sequences.{same_bytes, bytes_same}
 use Rattle.reo_values.proofs.Truths.{and_both}
-use Rattle.reo_values.proofs.Naturals.{eq_same}
+use Rattle.reo_values.proofs.Naturals.{eq_same, same_eq}
 use Rattle.reo_exprs.specs.Valued.{same_value}
 
 -- integers that the test finds equal are the same
@@ -21,10 +21,6 @@ int_told a c e = let d = Decides-int_eq a c in grind arith
 -- and it finds the same ones equal
 int_same : (a : ℤ) → int_eq a a ≡ true
 int_same a = let d = Decides-int_eq a a in grind arith
-
--- and it finds the same ones equal
-nat_same : (a : ℕ) → (a == a) ≡ true
-nat_same a = grind arith
 
 -- items that the test finds equal are the same
 pub same_true : (v w : Value) → same_value v w ≡ true → v ≡ w
@@ -86,7 +82,7 @@ same_self value.Unit = refl
 same_self (value.Bool true) = refl
 same_self (value.Bool false) = refl
 same_self (value.Int a) = int_same a
-same_self (value.Sym a) = nat_same a
+same_self (value.Sym a) = same_eq a a refl
 same_self (value.Text a) = bytes_same a
 same_self (value.Pair' m (value.more_of-Couple a b value.end_of-Couple)) = (λ i. same_self a i && same_self b i)
 

@@ -6,8 +6,7 @@ use Rattle.reo_values.specs.declared.kindred.Kindred.{Kindred}
 use Rattle.reo_values.specs.declared.kindred.Kindred.TheVariants as kinds
 use Rattle.reo_values.specs.contracts.kindred.Kindred as rows
 use Rattle.reo_exprs.specs.declared.expr.Expr.{Expr}
-use Rattle.reo_exprs.specs.Typing.{kind_of_expr, type_of_expr, IsTyped}
-use Rattle.reo_exprs.proofs.KindOfType.{kind_of_typed}
+use Rattle.reo_exprs.specs.Typing.{type_of_expr, IsTyped}
 use Rattle.reo_kinds.specs.declared.kind.Kind.TheVariants as primitives
 use Rattle.reo_kinds.specs.declared.kind.FilterRule.{FilterRule}
 use Rattle.reo_kinds.specs.declared.kind.MapRule.{MapRule}
@@ -68,11 +67,3 @@ typed_with None there = absurd (cc)
 
 pub typed_by : (e : Expr) (of : Kindred) → is_some (type_of_expr e of) ≡ true → IsTyped e of
 typed_by e of there = typed_with (type_of_expr e of) there
-
--- An expression without a kind has no type.
-no_type : (t : Option Kindred) (e : Expr) (of : Kindred) → type_of_expr e of ≡ t → kind_of_expr e of ≡ None → t ≡ None
-no_type None e of is none = refl
-no_type (Some k) e of is none = let kind = kind_of_typed e of k is in absurd (cc)
-
-pub untyped : (e : Expr) (of : Kindred) → kind_of_expr e of ≡ None → type_of_expr e of ≡ None
-untyped e of none = no_type (type_of_expr e of) e of refl none

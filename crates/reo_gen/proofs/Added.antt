@@ -1,9 +1,5 @@
 -- Texts that are added one by one.
-use Rattle.std.proofs.Common.{◌≡◌, ◌∙◌, ℕ, List, ◌++◌, Result, Ok, Err, OnOk, ap, append_assoc}
-
-pub on_added : {A E : Type 0} (r : Result A E) (P Q : Type 0) → (P → Q) → OnOk r P → OnOk r Q
-on_added (Ok x) P Q f h = f h
-on_added (Err e) P Q f h = tt
+use Rattle.std.proofs.Common.{◌≡◌, ◌∙◌, ℕ, List, ◌++◌, ap, append_assoc}
 
 pub three : (t u v w a b c : List ℕ) → u ≡ t ++ a → v ≡ u ++ b → w ≡ v ++ c → w ≡ t ++ (a ++ (b ++ c))
 three t u v w a b c p q r = r ∙ ap (λ l. l ++ c) q ∙ append_assoc u b c ∙ ap (λ l. l ++ (b ++ c)) p ∙ append_assoc t a (b ++ c)

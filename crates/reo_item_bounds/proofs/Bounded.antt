@@ -1,5 +1,5 @@
 -- What is noted for a joint is a bound.
-use Rattle.std.proofs.Common.{◌≡◌, ℕ, suc, ◌+◌, ◌*◌, ◌<◌, ◌≤◌, List, [], ◌∷◌, ◌++◌, true, length, get_or, take, refl, ap, sym, ◌∙◌, subst, arith}
+use Rattle.std.proofs.Common.{◌≡◌, ℕ, suc, ◌+◌, ◌*◌, ◌<◌, ◌≤◌, List, [], ◌∷◌, true, length, get_or, take, refl, ap, sym, ◌∙◌, subst, arith}
 use Rattle.std.specs.Prelude.{Contains, map}
 use Rattle.std.proofs.lemmas.List.{get_or_default, map-append}
 use Rattle.reo_values.proofs.Sequences.{one_more}
@@ -16,6 +16,7 @@ use Rattle.reo_net_laws.specs.Ends.{mark_in}
 use Rattle.reo_joint_values.specs.Standing.{no_joint, giver_of, taker_of, FlowsAt}
 use Rattle.reo_weights.specs.Bounds.{sum_below, giver_rows}
 use Rattle.reo_weights.specs.Weights.{product_of}
+use Rattle.reo_weights.proofs.Products.{product_push}
 use Rattle.reo_item_bounds.specs.Bounds.{ComesIn, IsBoundAt}
 use Rattle.reo_item_bounds.specs.Shares.{AreShared}
 
@@ -86,10 +87,6 @@ module _ (net : Net) (wired : IsWired net) (ends : List (List ℕ)) (are : AreEn
 -- What holds at each place holds of each element.
 pub of_each : (P : ℕ → Type 0) (xs : List ℕ) → ((m : ℕ) → m < length xs → P (get_or xs m 0)) → (x : ℕ) → Contains xs x → P x
 of_each P xs h x is = subst P (get_or_default xs is.0 0 x is.1 ∙ is.2) (h is.0 is.1)
-
-product_push : (ns : List ℕ) (n : ℕ) → product_of (ns ++ n ∷ []) ≡ product_of ns * n
-product_push [] n = omega arith
-product_push (m ∷ ns) n = ap (λ (k : ℕ). m * k) (product_push ns n) ∙ grind arith
 
 -- The product with one more.
 pub product_next : (f : ℕ → ℕ) (xs : List ℕ) (m n : ℕ) → m < length xs → product_of (map f (take m xs)) ≡ n → product_of (map f (take (m + 1) xs)) ≡ n * f (get_or xs m 0)

@@ -1,5 +1,6 @@
 -- Each assignment by rows and items whose items have numbers is one by values, and the first is the first.
-use Rattle.std.proofs.Common.{◌≡◌, ◌≢◌, ◌⊎◌, inl, inr, ℕ, ◌<◌, List, Bool, true, false, length, get_or, Option, None, Some, IsSome, refl, ap, sym, ◌∙◌, subst, arith}
+use Rattle.std.proofs.Common.{◌≡◌, ◌≢◌, inl, inr, ℕ, ◌<◌, List, Bool, true, length, get_or, Option, None, Some, IsSome, refl, ap, sym, ◌∙◌, subst, arith}
+use Rattle.std.proofs.lemmas.Bool.{cases_Bool}
 use Rattle.std.proofs.lemmas.List.{ext_get_or, get_or_default}
 use Rattle.std.proofs.lemmas.List.FromFn.{get_or-map-range_with_len, length-map-range_with_len}
 use Rattle.std.specs.declared.cmp.Ordering.TheVariants.{Less}
@@ -27,10 +28,6 @@ use Rattle.reo_joint_values.specs.Ties.{AreSides, AreNamed, HasChoice, Assignmen
 use Rattle.reo_joint_values.proofs.Fitting.{items_count, item_chosen}
 use Rattle.reo_joint_values.proofs.Inside.{at_inside}
 use Rattle.reo_joint_values.proofs.Assigning.{mark_by, given_by, lets_by, choices_are_assignments}
-
-pub true_or_false : (t : Bool) → (t ≡ true) ⊎ (t ≡ false)
-true_or_false true = inl refl
-true_or_false false = inr refl
 
 -- A value with these marks and this item.
 pub record Valued (names : Names) (j : ℕ) (giver taker : Mark) (item : Option Value) : Type 0 where
@@ -105,7 +102,7 @@ module _ (net : Net) (wired : IsWired net) (names : Names) (inside : ℕ → Boo
 
   pick : (j : ℕ) → Pick j
   pick j = elim (below_or j (length net.joints)) [
-    | inl lt ↦ elim (true_or_false (inside (giver_side net j))) [
+    | inl lt ↦ elim (cases_Bool (inside (giver_side net j))) [
       | inl is ↦ record { value = (value_at j lt is).0.value; good = λ x y. (value_at j lt is, refl) }
       | inr off ↦ record { value = Jam; good = λ x y. cc (off, y) }
     ]

@@ -13,3 +13,4 @@ pub mod Spans
 pub mod Cut
 pub mod Onward
 pub mod Begun
+pub mod Counts

@@ -1,6 +1,6 @@
 -- A part has one table, or is stopped for one reason.
-use Rattle.std.proofs.Common.{◌≡◌, inl, inr, ℕ, zero, suc, ◌+◌, ◌<◌, ◌≤◌, Bool, true, false, cond, List, [], ◌∷◌, length, map, drop, get_or, refl, sym, ap, ◌∙◌, subst, arith}
-use Rattle.std.specs.Prelude.{Contains, filter}
+use Rattle.std.proofs.Common.{◌≡◌, inl, inr, ℕ, zero, suc, ◌+◌, ◌<◌, ◌≤◌, true, List, [], ◌∷◌, length, map, drop, get_or, refl, sym, ap, ◌∙◌, subst, arith}
+use Rattle.std.specs.Prelude.{Contains}
 use Rattle.std.specs.List.{range_with_len}
 use Rattle.std.proofs.lemmas.Bool.{cases_lt}
 use Rattle.std.proofs.lemmas.List.{length-map, get_or-map}
@@ -11,29 +11,15 @@ use Rattle.reo_net_laws.specs.Parts.{IsClosed, SameKnot}
 use Rattle.reo_knots.specs.Knots.{AreNumbers, in_knot}
 use Rattle.reo_knots.proofs.KnotLemmas.{knot}
 use Rattle.reo_weights.specs.Over.{IsWithin, IsSpent}
+use Rattle.reo_weights.proofs.Listings.{in_filter}
 use Rattle.reo_weights.proofs.WeightLemmas.{one_weight}
 use Rattle.reo_listing_base.specs.declared.table.Table.{Table}
 use Rattle.reo_listing_base.specs.declared.fault.ListFault.{ListFault}
 use Rattle.reo_listing_base.specs.declared.fault.ListFault.TheVariants.{Filter, Spent, Rows, NoMemory}
 use Rattle.reo_listing_base.specs.Tables.{IsTable, HasMany}
 use Rattle.reo_listing_base.specs.Listed.{ports_of, has_ports, IsTableOf, AreTables, IsNextPart}
-use Rattle.reo_listing_answers.proofs.Ordered.{here, there, split}
+use Rattle.reo_listing_answers.proofs.Ordered.{here, there}
 use Rattle.reo_listing_answers.proofs.OneTable.{one_table, not_many}
-
-kept_here : (b : Bool) (x : ℕ) (xs : List ℕ) → b ≡ true → Contains (cond b (x ∷ xs) xs) x
-kept_here true x xs is = here x xs
-kept_here false x xs is = absurd cc
-
-kept_there : (b : Bool) (x z : ℕ) (xs : List ℕ) → Contains xs z → Contains (cond b (x ∷ xs) xs) z
-kept_there true x z xs it = there x z xs it
-kept_there false x z xs it = it
-
-in_filter : (p : ℕ → Bool) (xs : List ℕ) (z : ℕ) → Contains xs z → p z ≡ true → Contains (filter p xs) z
-in_filter p [] z it passes = it
-in_filter p (x ∷ xs) z it passes = elim (split x z xs it) [
-  | inl is ↦ subst (Contains (filter p (x ∷ xs))) (sym is) (kept_here (p x) x (filter p xs) (subst (λ y. p y ≡ true) is passes))
-  | inr later ↦ kept_there (p x) x z (filter p xs) (in_filter p xs z later passes)
-]
 
 in_range : (from n k : ℕ) → from ≤ k → k < from + n → Contains (range_with_len from n) k
 in_range from zero k le lt = absurd (omega (arith, le, lt))
@@ -81,7 +67,7 @@ module _ (net : Net) (wired : IsWired net) (ports budget : ℕ) (numbers : List 
       → (t : Table) × (t.part ≡ part) × IsPartsTable t
   found n tables they part lt has =
       let among : Contains (map part_of tables) part =
-      subst (λ (ns : List ℕ). Contains ns part) (sym they.parts) (in_filter (has_ports net ports budget numbers) (range_with_len 0 n) part (in_range 0 n part (omega arith) (omega (arith, lt))) has) in
+      subst (λ (ns : List ℕ). Contains ns part) (sym they.parts) ((in_filter (has_ports net ports budget numbers) (range_with_len 0 n) part).1 (in_range 0 n part (omega arith) (omega (arith, lt)), has)) in
       let k_in : among.0 < length tables = let long = length-map tables part_of in let within = among.1 in omega (arith, long, within) in
       (get_or tables among.0 no_table, sym (get_or-map part_of tables among.0 no_table part k_in) ∙ among.2, they.each among.0 no_table k_in)
 

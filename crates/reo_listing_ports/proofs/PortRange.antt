@@ -1,14 +1,9 @@
 -- One number more that is kept or not.
-use Rattle.std.proofs.Common.{◌≡◌, ℕ, ◌+◌, List, [], ◌∷◌, ◌++◌, Bool, cond, sym, ap, ◌∙◌, arith}
+use Rattle.std.proofs.Common.{◌≡◌, ℕ, ◌+◌, List, [], ◌∷◌, ◌++◌, Bool, cond, sym, ap, ◌∙◌}
 use Rattle.std.specs.Prelude.{filter}
 use Rattle.std.specs.List.{range_with_len}
 use Rattle.std.proofs.lemmas.List.Elements.{filter-append}
-use Rattle.std.proofs.lemmas.List.FromFn.{map-range_with_len_more}
-use Rattle.reo_values.proofs.Sequences.{map_same}
-
-range_more : (n : ℕ) → range_with_len 0 (n + 1) ≡ range_with_len 0 n ++ n ∷ []
-range_more n =
-    sym (map_same (range_with_len 0 (n + 1))) ∙ map-range_with_len_more (λ (x : ℕ). x) 0 n n (omega arith) ∙ ap (λ (xs : List ℕ). xs ++ n ∷ []) (map_same (range_with_len 0 n))
+use Rattle.reo_net_laws.proofs.Ranges.{range_plus_one}
 
 pub kept_more : (p : ℕ → Bool) (n : ℕ) (old new : List ℕ) (wanted : Bool) → old ≡ filter p (range_with_len 0 n) → wanted ≡ p n → new ≡ old ++ cond wanted (n ∷ []) []
     → new ≡ filter p (range_with_len 0 (n + 1))
@@ -17,4 +12,4 @@ kept_more p n old new wanted old_is wanted_is new_is =
     ∙ ap (λ (xs : List ℕ). xs ++ cond wanted (n ∷ []) []) old_is
     ∙ ap (λ (b : Bool). filter p (range_with_len 0 n) ++ cond b (n ∷ []) []) wanted_is
     ∙ sym (filter-append p (range_with_len 0 n) (n ∷ []))
-    ∙ ap (filter p) (sym (range_more n))
+    ∙ ap (filter p) (sym (range_plus_one n))

@@ -10,10 +10,11 @@ use Rattle.reo_net_base.specs.Net.{Net, end_of, is_at, mark_at}
 use Rattle.reo_net_base.specs.Colouring.{IsColouring, ItemFits}
 use Rattle.reo_net_base.specs.Wired.{IsWired, IsEnd}
 use Rattle.reo_net_base.specs.Moves.{item_at, move_with, moves_at}
+use Rattle.reo_net_base.proofs.Ends.{at_joint}
 use Rattle.reo_net_base.proofs.Marks.{mark_flows, giver_flows}
 use Rattle.reo_move_laws.specs.Moved.{Moves, MovesAreFlows}
 use Rattle.reo_move_laws.proofs.Lists.{from_place, at_place, of_place}
-use Rattle.reo_move_laws.proofs.Joints.{at_joint, first_below, passes}
+use Rattle.reo_move_laws.proofs.Joints.{first_below, passes}
 
 made : (flows : Bool) (found : Option Value) (port : ℕ) (item : Value) → flows ≡ true → found ≡ Some item → Moves (cond flows (move_with port found) []) port item
 made flows found port item h k = rw (h, k) (inl refl)

@@ -15,6 +15,8 @@ use Rattle.reo_net_base.specs.Tables.{rows_of}
 use Rattle.reo_net_base.specs.Colouring.{IsColouring, ItemFits, HasItem, given_at}
 use Rattle.reo_net_base.specs.Wired.{IsWired}
 use Rattle.reo_net_base.specs.Moves.{item_at, moves_at}
+use Rattle.reo_net_base.proofs.Ends.{at_joint}
+use Rattle.reo_net_base.proofs.Items.{some_in}
 use Rattle.reo_net_base.proofs.Marks.{mark_flows}
 use Rattle.reo_kinds.specs.declared.kind.WriterPort.{WriterPort}
 use Rattle.reo_kinds.specs.declared.kind.TakerPort.{TakerPort}
@@ -23,7 +25,7 @@ use Rattle.reo_kinds.specs.declared.kind.Kind.TheVariants.{Writer, Taker}
 use Rattle.reo_kinds.specs.Kinds.{behaviour_of, ready_table}
 use Rattle.reo_move_laws.specs.Offered.{net_in, IsOfOffer, MovesAreOffers}
 use Rattle.reo_move_laws.proofs.Lists.{from_place, of_place}
-use Rattle.reo_move_laws.proofs.Joints.{at_joint, passes, some_in}
+use Rattle.reo_move_laws.proofs.Joints.{passes}
 
 behaviour_is : (kinds : List Kind) (port : ℕ) (kind : Kind) → slice_get kinds port ≡ Some kind → behaviour_at (map behaviour_of kinds) port ≡ behaviour_of kind
 behaviour_is [] port kind is = absurd cc

@@ -1,8 +1,10 @@
 -- What the test of two ends says.
-use Rattle.std.proofs.Common.{◌≡◌, true, arith}
+use Rattle.std.proofs.Common.{◌≡◌, ◌⊎◌, inl, inr, true, arith}
 use Rattle.std.proofs.lemmas.Bool.Decides.{nat_tests}
+use Rattle.reo_values.proofs.Truths.{either}
 use Rattle.reo_net_base.specs.declared.joint.End.{End}
-use Rattle.reo_net_base.specs.Net.{end_eq}
+use Rattle.reo_net_base.specs.declared.joint.Joint.{Joint}
+use Rattle.reo_net_base.specs.Net.{end_eq, is_at}
 
 -- Ends that the test takes for one are one.
 pub end_is : (a b : End) → end_eq a b ≡ true → a ≡ b
@@ -13,3 +15,8 @@ end_is a b h =
 
 pub end_self : (e : End) → end_eq e e ≡ true
 end_self e = grind (arith, nat_tests)
+
+-- An end at a joint is its giver or its taker.
+pub at_joint : (e : End) (j : Joint) → is_at e j ≡ true → (j.giver ≡ e) ⊎ (j.taker ≡ e)
+at_joint e j h =
+    elim (either (end_eq j.giver e) (end_eq j.taker e) h) [ inl giver ↦ inl (end_is j.giver e giver) | inr taker ↦ inr (end_is j.taker e taker) ]

@@ -10,7 +10,8 @@ use Rattle.reo_net_base.specs.Tables.{place_in}
 use Rattle.reo_net_base.specs.Forms.{rows_by, mark_by, class_by, number_in, IsPlaceOf}
 use Rattle.reo_net_base.specs.SameTables.{HaveOneRest, OneNumberOneTable}
 
-few_places : (t : Table) → place_in t ≤ 6
+-- The places of tables are numbers up to 6.
+pub few_places : (t : Table) → place_in t ≤ 6
 few_places Ready = omega arith
 few_places Resting = omega arith
 few_places Together = omega arith

@@ -4,21 +4,17 @@ use Rattle.std.specs.List.{range_with_len}
 use Rattle.std.proofs.Math.Seq.{get_or-append_seam}
 use Rattle.std.proofs.lemmas.List.{take_more, length-take}
 use Rattle.std.proofs.lemmas.Grind.{flat_map-append}
-use Rattle.std.proofs.lemmas.List.FromFn.{map-range_with_len_more}
 use Rattle.reo_values.specs.declared.value.Value.{Value}
-use Rattle.reo_values.proofs.Sequences.{map_same}
 use Rattle.reo_net_base.specs.declared.colouring.Move.{Move}
 use Rattle.reo_net_base.specs.Net.{Net}
 use Rattle.reo_net_base.specs.Moves.{moves_at, moves_of}
+use Rattle.reo_net_laws.proofs.Ranges.{range_plus_one}
 use Rattle.reo_net_laws.proofs.Search.{eq_or}
-
-pub range_more : (k : ℕ) → range_with_len 0 (k + 1) ≡ range_with_len 0 k ++ k ∷ []
-range_more k = sym (map_same (range_with_len 0 (k + 1))) ∙ map-range_with_len_more (λ x. x) 0 k k (omega arith) ∙ ap (λ (xs : List ℕ). xs ++ k ∷ []) (map_same (range_with_len 0 k))
 
 module _ (net : Net) (rows : List ℕ) (items : List (Option Value)) where
   -- One port more.
   more : (k : ℕ) → moves_of net (k + 1) rows items ≡ moves_of net k rows items ++ moves_at net rows items k
-  more k = rw (range_more k, flat_map-append (moves_at net rows items) (range_with_len 0 k) (k ∷ []), append-nil) refl
+  more k = rw (range_plus_one k, flat_map-append (moves_at net rows items) (range_with_len 0 k) (k ∷ []), append-nil) refl
 
   begins : (k n : ℕ) → k ≤ n → (rest : List Move) × (moves_of net n rows items ≡ moves_of net k rows items ++ rest)
   begins k zero le = let same : k ≡ zero = omega arith in ([], rw (same, append-nil) refl)

@@ -16,6 +16,7 @@ pub mod OneFirst
 pub mod OneItems
 pub mod Orders
 pub mod Places
+pub mod Ranges
 pub mod Reasons
 pub mod Search
 pub mod Sets

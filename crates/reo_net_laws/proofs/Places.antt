@@ -8,10 +8,10 @@ use Rattle.std.specs.declared.cmp.Ordering.{Ordering}
 use Rattle.std.specs.declared.cmp.Ordering.TheVariants.{Less, Equal, Greater}
 use Rattle.std.specs.Ordering.{nat_cmp, ordering_then}
 use Rattle.std.specs.Cmp.{nat_cmp_is}
+use Rattle.reo_values.proofs.Naturals.{same_eq}
 use Rattle.reo_net_base.specs.Net.{Net, Side, all_sides, no_side}
 use Rattle.reo_net_base.specs.First.{Position, key_at, is_leading, class_position, leading_positions, class_positions, row_positions, positions, order_by}
 use Rattle.reo_net_laws.specs.Keys.{within, AreInRange, ClassesAlwaysLead}
-use Rattle.reo_net_laws.proofs.Sets.{same_test}
 
 pub equal_numbers : (x y : ℕ) → x ≡ y → nat_cmp x y ≡ Equal
 equal_numbers x y e = sym (nat_cmp_is x y Equal e)
@@ -68,7 +68,7 @@ module _ (part : ℕ → ℕ) where
         | Less ↦ λ e g. (
           p.side,
           r.0,
-          ap (λ (t : Bool). order_by (cond t (p ∷ within (same_part (part p.side)) ps) (within (same_part (part p.side)) ps)) x y) (same_test (part p.side))
+          ap (λ (t : Bool). order_by (cond t (p ∷ within (same_part (part p.side)) ps) (within (same_part (part p.side)) ps)) x y) (same_eq (part p.side) (part p.side) refl)
               ∙ ap (λ (o : Ordering). ordering_then o (order_by (within (same_part (part p.side)) ps) x y)) e,
         )
         | Equal ↦ λ e g.

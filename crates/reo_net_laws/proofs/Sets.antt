@@ -1,9 +1,9 @@
 -- Assignments of several sets.
-use Rattle.std.proofs.Common.{◌≡◌, ℕ, List, Option, Bool, true, false, not, length, get_or, refl, ap, arith}
+use Rattle.std.proofs.Common.{◌≡◌, ℕ, List, Option, Bool, true, false, not, length, get_or, refl, ap}
 use Rattle.std.specs.Bool.{◌==◌}
 use Rattle.std.specs.Prelude.{◌&&◌}
-use Rattle.std.proofs.lemmas.Bool.Decides.{nat_tests}
 use Rattle.reo_values.specs.declared.value.Value.{Value}
+use Rattle.reo_values.proofs.Naturals.{same_eq}
 use Rattle.reo_net_base.specs.Net.{Net, all_sides, side_at}
 use Rattle.reo_net_base.specs.Colouring.{IsColouring}
 use Rattle.reo_net_laws.specs.Parts.{IsClosed, IsAssignment, outside}
@@ -22,9 +22,6 @@ outside_closed net inside closed = record { along = λ j d lt. ap not (closed.al
 
 pub both_closed : (net : Net) (p q : ℕ → Bool) → IsClosed net p → IsClosed net q → IsClosed net (λ k. p k && q k)
 both_closed net p q h g = record { along = λ j d lt i. h.along j d lt i && g.along j d lt i }
-
-pub same_test : (x : ℕ) → (x == x) ≡ true
-same_test x = grind (arith, nat_tests)
 
 -- An assignment of a set is one of each smaller set.
 pub smaller : (net : Net) (p q : ℕ → Bool) (rows : List ℕ) (items : List (Option Value)) → ((k : ℕ) → q k ≡ true → p k ≡ true) → IsAssignment net p rows items → IsAssignment net q rows items
@@ -81,6 +78,6 @@ parts_colouring net inside rows items is rest = whole net rows items (halves net
 
 pub each_part : EachPart
 each_part net part rows items = (
-  λ each. whole net rows items (gathered net everywhere rows items (each 0).one_row (each 0).one_item (λ s h. (λ t. part t == part s, same_test (part s), each (part s)))),
+  λ each. whole net rows items (gathered net everywhere rows items (each 0).one_row (each 0).one_item (λ s h. (λ t. part t == part s, same_eq (part s) (part s) refl, each (part s)))),
   λ col k. restricted net (λ s. part s == k) rows items col,
 )

@@ -8,18 +8,15 @@ use Rattle.reo_net_base.specs.declared.form.Form.{Form}
 use Rattle.reo_net_base.specs.declared.form.Form.TheVariants.{Single, Double, Merging, Replicating}
 use Rattle.reo_net_base.specs.declared.joint.End.{End}
 use Rattle.reo_net_base.specs.declared.joint.Joint.{Joint}
-use Rattle.reo_net_base.specs.declared.table.Table.{Table}
-use Rattle.reo_net_base.specs.declared.table.Table.TheVariants.{Ready, Resting, Together, Lossy, OneOfTwo, Filter, Spent}
 use Rattle.reo_net_base.specs.Behaviour.{Behaviour}
 use Rattle.reo_net_base.specs.Lawful.{GivesAt}
 use Rattle.reo_net_base.specs.Net.{Net, Side, all_sides, no_side, behaviour_at, first_side, mark_at, row_at, side_at, side_of_end}
 use Rattle.reo_net_base.specs.Forms.{number_in, period_in}
-use Rattle.reo_net_base.specs.Tables.{place_in}
 use Rattle.reo_net_base.specs.SameTables.{SameTable, HaveOneRest}
 use Rattle.reo_net_base.specs.Shapes.{SameShapes, TreatAlike}
 use Rattle.reo_net_base.specs.Sides.{side_count}
 use Rattle.reo_net_base.specs.Wired.{IsWired, IsEnd, IsOrder}
-use Rattle.reo_net_base.proofs.Numbers.{one_table}
+use Rattle.reo_net_base.proofs.Numbers.{few_places, one_table}
 use Rattle.reo_net_circuit.proofs.Cases.{eq_cases}
 use Rattle.reo_net_circuit.proofs.ReshapeLemmas.{first_same, side_same, order_same}
 use Rattle.reo_net_laws.specs.Alike.{AreAlike}
@@ -77,15 +74,6 @@ remembered_stays net other joints shapes alike inside sides entry is = record {
   flowing = is.flowing;
   bounds = is.bounds;
 }
-
-few_places : (t : Table) → place_in t ≤ 6
-few_places Ready = omega arith
-few_places Resting = omega arith
-few_places Together = omega arith
-few_places Lossy = omega arith
-few_places OneOfTwo = omega arith
-few_places Filter = omega arith
-few_places Spent = omega arith
 
 -- Forms of one number have one period.
 one_period : (form other : Form) → number_in form ≡ number_in other → period_in form ≡ period_in other

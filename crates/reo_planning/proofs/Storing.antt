@@ -1,6 +1,6 @@
 -- Parts that are marked when rows are stored.
 use Rattle.std.proofs.Common.{◌≡◌, ◌≢◌, ◌∙◌, inl, inr, ℕ, ◌+◌, ◌<◌, ◌≤◌, Bool, true, false, List, length, get_or, set, refl, ap, sym, subst, arith, get_or-set_same, get_or-set_other}
-use Rattle.std.proofs.lemmas.Bool.{cases_lt}
+use Rattle.std.proofs.lemmas.Bool.{cases_Bool, cases_lt}
 use Rattle.std.proofs.lemmas.List.{length-set}
 use Rattle.reo_values.proofs.Truths.{not_both}
 use Rattle.reo_flags.specs.Next.{IsNext}
@@ -8,7 +8,6 @@ use Rattle.reo_net_base.specs.Net.{Net}
 use Rattle.reo_net_base.specs.Wired.{IsWired, IsOrder}
 use Rattle.reo_net_circuit.proofs.Cases.{eq_cases}
 use Rattle.reo_net_laws.proofs.OneFirst.{one_inside}
-use Rattle.reo_joint_values.proofs.Choosing.{true_or_false}
 use Rattle.reo_knots.specs.Knots.{Knotted, AreKnots, in_knot, knot_count}
 use Rattle.reo_planning.specs.declared.kept.Kept.{Kept}
 use Rattle.reo_planning.specs.Keeping.{IsKept, is_settled, is_moving}
@@ -98,7 +97,7 @@ kept_stored budget net wired order is_order knots are turn rows old new was plan
         (record { still = known.still; flows = known.flows })
 
     told : (k : ℕ) → k < knot_count knots → TellsFlow net (in_knot knots.numbers k) rows (is_moving new k)
-    told k lt = elim (true_or_false (is_settled old k)) [
+    told k lt = elim (cases_Bool (is_settled old k)) [
       | inl yes_ ↦ subst (TellsFlow net (in_knot knots.numbers k) rows) (sym (marked.stay k yes_)) (told_before k lt yes_)
       | inr not ↦ marked.told k lt not
     ]

@@ -4,6 +4,7 @@ use Rattle.std.specs.Bool.{◌==◌}
 use Rattle.std.proofs.lemmas.Bool.{cases_eq, cases_Bool, or_left, or_right}
 use Rattle.std.proofs.lemmas.List.{length-set, take_more, take_more_set}
 use Rattle.reo_values.proofs.Naturals.{same_eq, other_eq}
+use Rattle.reo_values.proofs.Truths.{either}
 use Rattle.reo_joint_values.specs.declared.value.JointValue.{JointValue}
 use Rattle.reo_joint_values.specs.Values.{value_eq}
 use Rattle.reo_joint_values.proofs.Narrowing.{value_same, same_value}
@@ -33,6 +34,18 @@ in_set_at (x ∷ xs) (suc m) d lt = or_right (value_eq x (get_or xs m d)) (in_se
 pub some_in : (values : List JointValue) → (0 < length values) ↔ ((v : JointValue) × (in_set values v ≡ true))
 some_in [] = (λ lt. absurd (omega arith), λ s. absurd cc)
 some_in (x ∷ xs) = (λ lt. (x, or_left (value_eq x x) (in_set xs x) (value_same x)), λ s. omega arith)
+
+one_of : (x v : JointValue) → in_set (x ∷ []) v ≡ true → x ≡ v
+one_of x v h = elim (either (value_eq x v) false h) [
+  | inl here ↦ same_value x v here
+  | inr none ↦ absurd cc
+]
+
+-- A list shorter than two has at most one value.
+pub at_most_one : (values : List JointValue) (v w : JointValue) → length values < 2 → in_set values v ≡ true → in_set values w ≡ true → v ≡ w
+at_most_one [] v w lt h k = absurd cc
+at_most_one (x ∷ []) v w lt h k = sym (one_of x v h) ∙ one_of x w k
+at_most_one (x ∷ y ∷ xs) v w lt h k = absurd (omega arith)
 
 or_false : (b : Bool) → b ≡ (b || false)
 or_false true = refl

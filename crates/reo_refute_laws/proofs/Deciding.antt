@@ -1,20 +1,15 @@
 -- No colouring stands before, by places.
-use Rattle.std.proofs.Common.{◌≡◌, ℕ, zero, suc, ◌<◌, List, [], ◌∷◌, length, get_or, refl, subst, arith}
+use Rattle.std.proofs.Common.{◌≡◌, ℕ, ◌<◌, List, [], length, get_or, refl, subst, arith}
 use Rattle.std.proofs.lemmas.List.{get_or_default}
 use Rattle.reo_net_base.specs.Net.{Net, all_sides}
 use Rattle.reo_net_base.specs.Sides.{side_count, AreRowsOf}
 use Rattle.reo_net_base.specs.First.{Position, positions}
-use Rattle.reo_net_laws.specs.Keys.{AreInRange}
 use Rattle.reo_net_laws.specs.Differences.{number_at, DiffersFirst}
 use Rattle.reo_net_laws.proofs.Differences.{first_difference}
 use Rattle.reo_net_laws.proofs.Places.{positions_in_range}
 use Rattle.reo_net_laws.proofs.Sides.{row_below}
 use Rattle.reo_refute_base.specs.Places.{no_place, place_at, IsLive, AreAllowed, PlacesDecide}
-
-place_in_range : (n : ℕ) (ps : List Position) (p : ℕ) → AreInRange n ps → p < length ps → (get_or ps p no_place).side < n
-place_in_range n [] p are lt = absurd (omega (arith, lt))
-place_in_range n (x ∷ ps) zero are lt = are.0
-place_in_range n (x ∷ ps) (suc p) are lt = place_in_range n ps p are.1 (omega (arith, lt))
+use Rattle.reo_refute_base.proofs.Places.{place_in_range}
 
 module _ (net : Net) (turn : ℕ) (given : List ℕ) where
   pub side_in : (p : ℕ) → p < length (positions net turn) → (place_at net turn p).side < side_count net

@@ -1,12 +1,11 @@
 -- Noting items one after another.
-use Rattle.std.proofs.Common.{◌≡◌, inl, inr, ℕ, ◌+◌, ◌<◌, List, [], ◌∷◌, ◌++◌, length, get_or, take, ap, sym, ◌∙◌, subst, append_assoc, arith}
+use Rattle.std.proofs.Common.{inl, inr, ℕ, ◌+◌, ◌<◌, List, [], ◌∷◌, ◌++◌, length, get_or, take, sym, subst, append_assoc}
 use Rattle.std.specs.Prelude.{Contains}
 use Rattle.std.specs.List.{flat_map, range_with_len}
 use Rattle.std.proofs.lemmas.List.{take_more, flat_map_more}
-use Rattle.std.proofs.lemmas.List.FromFn.{map-range_with_len_more}
 use Rattle.std.proofs.lemmas.List.Elements.{Contains-append_left, Contains-append_right, Contains-append_cases}
 use Rattle.reo_values.specs.declared.value.Value.{Value}
-use Rattle.reo_values.proofs.Sequences.{map_same}
+use Rattle.reo_net_laws.proofs.Ranges.{range_plus_one}
 use Rattle.reo_joint_values.specs.Many.{AreDistinct}
 use Rattle.reo_joint_values.proofs.Distinct.{distinct_push}
 use Rattle.reo_refute_base.specs.Items.{IsAdded}
@@ -49,12 +48,7 @@ pub noted_next : (f : Value → List Value) (xs : List Value) (i : ℕ) (d : Val
 noted_next f xs i d lt old a b c first next =
     subst (λ (l : List Value). IsNoted old a (flat_map f l) c) (sym (take_more xs i d lt)) (noted_more f (take i xs) (get_or xs i d) old a b c first next)
 
-pub range_more : (n : ℕ) → range_with_len 0 (n + 1) ≡ range_with_len 0 n ++ n ∷ []
-range_more n =
-    sym (map_same (range_with_len 0 (n + 1))) ∙ map-range_with_len_more (λ (k : ℕ). k) 0 n n (omega arith)
-    ∙ ap (λ (l : List ℕ). l ++ n ∷ []) (map_same (range_with_len 0 n))
-
 -- What comes for one row more.
 pub noted_row : (f : ℕ → List Value) (n : ℕ) (old a b c : List Value) → IsNoted old a (flat_map f (range_with_len 0 n)) b → IsNoted old b (f n) c → IsNoted old a (flat_map f (range_with_len 0 (n + 1))) c
 noted_row f n old a b c first next =
-    subst (λ (l : List ℕ). IsNoted old a (flat_map f l) c) (sym (range_more n)) (noted_more f (range_with_len 0 n) n old a b c first next)
+    subst (λ (l : List ℕ). IsNoted old a (flat_map f l) c) (sym (range_plus_one n)) (noted_more f (range_with_len 0 n) n old a b c first next)

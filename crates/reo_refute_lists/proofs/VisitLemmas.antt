@@ -8,6 +8,7 @@ use Rattle.std.proofs.lemmas.List.Sums.{sum_by-set}
 use Rattle.std.proofs.lemmas.Bool.{cases_eq}
 use Rattle.reo_values.specs.declared.value.Value.{Value}
 use Rattle.reo_net_base.specs.Net.{Net}
+use Rattle.reo_net_laws.proofs.Ranges.{range_plus_one}
 use Rattle.reo_joint_values.specs.Standing.{giver_of, CanStand}
 use Rattle.reo_joint_values.specs.Many.{AreDistinct, HasMany}
 use Rattle.reo_refute_base.specs.Items.{Lists, items_at, given_by, plain_rows, offered_at, IsAdded, IsVisited}
@@ -15,14 +16,14 @@ use Rattle.reo_refute_laws.proofs.Standing.{added_from, offered_stand, visit_sou
 use Rattle.reo_refute_lists.specs.Noted.{IsNoted}
 use Rattle.reo_refute_lists.specs.declared.visits.Found.TheVariants.{Nothing, Items}
 use Rattle.reo_refute_lists.specs.Visits.{AreGood, IsNew, Comes, total}
-use Rattle.reo_refute_lists.proofs.NotedLemmas.{added_distinct, range_more}
+use Rattle.reo_refute_lists.proofs.NotedLemmas.{added_distinct}
 
 -- What the first rows offer, more rows offer too.
 more_rows : (f : ℕ → List Value) (n k m : ℕ) → n + k ≡ m → (y : Value) → Contains (flat_map f (range_with_len 0 n)) y → Contains (flat_map f (range_with_len 0 m)) y
 more_rows f n zero m is y has = let same : n ≡ m = omega (arith, is) in subst (λ (i : ℕ). Contains (flat_map f (range_with_len 0 i)) y) same has
 more_rows f n (suc k) m is y has =
     let before = more_rows f n k (n + k) refl y has in
-    let one : flat_map f (range_with_len 0 (n + k)) ++ f (n + k) ≡ flat_map f (range_with_len 0 ((n + k) + 1)) = flat_map_more f [] (range_with_len 0 (n + k)) (n + k) ∙ ap (flat_map f) (sym (range_more (n + k))) in
+    let one : flat_map f (range_with_len 0 (n + k)) ++ f (n + k) ≡ flat_map f (range_with_len 0 ((n + k) + 1)) = flat_map_more f [] (range_with_len 0 (n + k)) (n + k) ∙ ap (flat_map f) (sym (range_plus_one (n + k))) in
     let last : (n + k) + 1 ≡ m = omega (arith, is) in
     subst (λ (i : ℕ). Contains (flat_map f (range_with_len 0 i)) y) last (subst (λ (l : List Value). Contains l y) one (Contains-append_left (flat_map f (range_with_len 0 (n + k))) (f (n + k)) y before))
 

@@ -6,7 +6,7 @@ use Rattle.std.specs.List.{range_with_len}
 use Rattle.std.proofs.lemmas.Bool.{cases_eq, cases_Bool, or_left, or_right}
 use Rattle.std.proofs.lemmas.Bool.Decides.{nat_tests}
 use Rattle.std.proofs.lemmas.List.{take_more, take_all}
-use Rattle.reo_values.proofs.Naturals.{eq_same}
+use Rattle.reo_values.proofs.Naturals.{eq_same, same_eq}
 use Rattle.reo_values.proofs.Truths.{not_false}
 use Rattle.reo_joint_values.specs.declared.value.JointValue.{JointValue}
 use Rattle.reo_joint_values.specs.declared.value.JointValue.TheVariants.{Flow, RG, GR, GG, Jam}
@@ -54,13 +54,10 @@ among_filter p w (v ∷ vs) h is = elim (cases_Bool (value_eq w v)) [
       ]
 ]
 
-same_number : (n : ℕ) → (n == n) ≡ true
-same_number n = grind (arith, nat_tests)
-
 among_flows : (n k count : ℕ) → k ≤ n → n < k + count → is_among (Flow n) (map Flow (range_with_len k count)) ≡ true
 among_flows n k zero le lt = absurd (omega (arith, le, lt))
 among_flows n k (suc count) le lt = elim (cases_eq n k) [
-  | inl e ↦ or_left (n == k) (is_among (Flow n) (map Flow (range_with_len (k + 1) count))) (subst (λ (m : ℕ). (n == m) ≡ true) e (same_number n))
+  | inl e ↦ or_left (n == k) (is_among (Flow n) (map Flow (range_with_len (k + 1) count))) (same_eq n k e)
   | inr off ↦ or_right (n == k) (is_among (Flow n) (map Flow (range_with_len (k + 1) count))) (among_flows n (k + 1) count (omega (arith, le, off)) (omega (arith, lt)))
 ]
 

@@ -6,7 +6,7 @@ use Rattle.std.proofs.lemmas.Bool.{cases_eq, cases_Bool}
 use Rattle.std.proofs.lemmas.Bool.Decides.{nat_tests}
 use Rattle.std.proofs.lemmas.List.{drop-append-le, drop_all, get_or_append_left}
 use Rattle.std.proofs.Math.Seq.{get_or-append_seam}
-use Rattle.reo_values.proofs.Naturals.{is_below, other_eq}
+use Rattle.reo_values.proofs.Naturals.{is_below, same_eq, other_eq}
 use Rattle.reo_net_laws.proofs.Sides.{below_or}
 use Rattle.reo_joint_values.specs.declared.value.JointValue.{JointValue}
 use Rattle.reo_joint_values.specs.declared.value.JointValue.TheVariants.{Flow, RG, GR, GG, Jam}
@@ -34,9 +34,6 @@ back_off a e s h = grind (arith, nat_tests)
 back_here : (a e s : Bool) → e ≡ true → s ≡ true → a ≡ true → (a && not (e && s)) || (e && s) ≡ a
 back_here a e s h k l = grind (arith, nat_tests)
 
-same_eq_here : (i : ℕ) → (i == i) ≡ true
-same_eq_here i = grind (arith, nat_tests)
-
 pub gone_back : (live : Family) (joint : ℕ) (value : JointValue) → live joint value ≡ true → with_back (without live joint value) (record { joint = joint; value = value }) ≡ live
 gone_back live joint value is i j w = at j w i
   where
@@ -45,7 +42,7 @@ gone_back live joint value is i j w = at j w i
       | inl e ↦ elim (cases_Bool (value_eq w value)) [
         | inl same ↦
             let here : live j w ≡ true = ap (live j) (same_value w value same) ∙ ap (λ (k : ℕ). live k value) e ∙ is in
-            let yes : (j == joint) ≡ true = subst (λ (k : ℕ). (j == k) ≡ true) e (same_eq_here j) in
+            let yes : (j == joint) ≡ true = same_eq j joint e in
             back_here (live j w) (j == joint) (value_eq w value) yes same here
         | inr other ↦ back_other (live j w) (j == joint) (value_eq w value) other
       ]

@@ -1,22 +1,17 @@
 -- Rows that are allowed, place after place.
-use Rattle.std.proofs.Common.{◌≡◌, ◌≢◌, ◌↔◌, inl, inr, ℕ, zero, suc, ◌+◌, ◌<◌, List, [], ◌∷◌, length, get_or, set, replicate, ap, sym, ◌∙◌, subst, arith}
+use Rattle.std.proofs.Common.{◌≡◌, ◌≢◌, ◌↔◌, inl, inr, ℕ, ◌+◌, ◌<◌, List, [], length, get_or, set, replicate, ap, sym, ◌∙◌, subst, arith}
 use Rattle.std.proofs.lemmas.Bool.{cases_eq}
 use Rattle.std.proofs.lemmas.List.{get_or_default, length-replicate, get_or-replicate, length-set, get_or-set_same, get_or-set_other}
 use Rattle.reo_net_base.specs.Net.{Net, Side, all_sides, no_side, row_count}
 use Rattle.reo_net_base.specs.Sides.{side_count}
 use Rattle.reo_net_base.specs.First.{Position, positions}
-use Rattle.reo_net_laws.specs.Keys.{AreInRange}
 use Rattle.reo_net_laws.proofs.Places.{positions_in_range}
 use Rattle.reo_net_laws.proofs.Sides.{below_or}
-use Rattle.reo_refute_base.specs.Places.{no_place, place_at, IsAllowed, IsLive}
+use Rattle.reo_refute_base.specs.Places.{place_at, IsAllowed, IsLive}
+use Rattle.reo_refute_base.proofs.Places.{place_in_range}
 use Rattle.reo_refute_places.specs.declared.place.KeyPlace.{KeyPlace}
 use Rattle.reo_refute_places.specs.KeyPlaces.{position_of, IsPlace}
 use Rattle.reo_refute_places.specs.AllowedRows.{AreMarked, AreBytes, Agrees, AreAgreeing}
-
-place_in_range : (n : ℕ) (ps : List Position) (p : ℕ) → AreInRange n ps → p < length ps → (get_or ps p no_place).side < n
-place_in_range n [] p are lt = absurd (omega (arith, lt))
-place_in_range n (x ∷ ps) zero are lt = are.0
-place_in_range n (x ∷ ps) (suc p) are lt = place_in_range n ps p are.1 (omega (arith, lt))
 
 -- So many rows, all marked, for each of the sides so far.
 pub record AreAll (net : Net) (n : ℕ) (bytes : List (List ℕ)) : Type 0 where

@@ -1,5 +1,5 @@
 -- Types and expressions out of bounds.
-use Rattle.std.proofs.Common.{arith, ◌≡◌, ◌∙◌, ℕ, ◌+◌, ◌-◌, max, Bool, true, false, not, ◌||◌, Some, List, [], ◌++◌, nat_lt, refl, sym, ap, inr, bytes_eq, map, position, Option, None}
+use Rattle.std.proofs.Common.{arith, ◌≡◌, ◌∙◌, ℕ, ◌+◌, ◌-◌, max, Bool, true, false, not, ◌||◌, Some, List, [], ◌++◌, nat_lt, refl, sym, ap, inr, bytes_eq, map, position}
 use Rattle.std.specs.Prelude.{IsTrue, ◌↔◌}
 use Rattle.std.specs.List.{flat_map, position_from}
 use Rattle.std.proofs.lemmas.Bool.Decides.{nat_tests}
@@ -30,17 +30,6 @@ use Rattle.reo_rules_types.specs.declared.cell.Cell.TheVariants as cells
 use Rattle.reo_rules_types.specs.Cells.{kindred_of}
 use Rattle.std.proofs.lemmas.Bool.{or_right as or_true}
 use Rattle.reo_values.proofs.Truths.{one_truth}
-use Rattle.reo_exprs.specs.declared.expr.Expr.{Expr}
-use Rattle.reo_exprs.specs.Typing.{kind_of_expr, type_of_expr}
-use Rattle.reo_exprs.proofs.KindOfType.{kind_of_typed}
-
--- An expression that has no kind has no type.
-pub untyped : (e : Expr) (of : Kindred) → kind_of_expr e of ≡ None → type_of_expr e of ≡ None
-untyped e of none = by (type_of_expr e of) refl
-  where
-    by : (o : Option Kindred) → type_of_expr e of ≡ o → type_of_expr e of ≡ None
-    by None is = is
-    by (Some t) is = let h = sym none ∙ kind_of_typed e of t is in absurd (cc)
 
 pub inside_is : (r : Bool) (s t : Kindred) → IsTrue r ↔ LiesInside s t → r ≡ is_inside s t
 inside_is r s t is = let d = inside_told s t in one_truth r (is_inside s t) (λ e. d.1 (is.0 e)) (λ e. is.1 (d.0 e))

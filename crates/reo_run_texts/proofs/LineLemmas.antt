@@ -17,12 +17,13 @@ use Rattle.reo_net_base.specs.Colouring.{AreRows}
 use Rattle.reo_net_base.specs.Step.{chosen_for}
 use Rattle.reo_net_base.specs.Wired.{IsWired, IsEnd}
 use Rattle.reo_net_base.proofs.Marks.{mark_flows}
+use Rattle.reo_net_base.proofs.Ends.{at_joint}
 use Rattle.reo_net_laws.proofs.Orders.{no_joint}
 use Rattle.reo_net_laws.proofs.Sides.{row_below, side_in, side_is}
 use Rattle.reo_trace.specs.declared.line.Cell.TheVariants.{Row, Jam}
 use Rattle.reo_trace.specs.declared.line.Entry.TheVariants.{One, Two}
 use Rattle.reo_trace.specs.Entries.{cell_of, entry_of, entry_at, entries_of, is_idle}
-use Rattle.reo_trace.proofs.Still.{idle_ends, at_joint}
+use Rattle.reo_trace.proofs.Still.{idle_ends}
 use Rattle.reo_trace_texts.specs.Lines.{IsCell, IsEntry, IsMove, AreRising}
 use Rattle.reo_run_texts.proofs.Lists.{first_passes}
 

@@ -8,13 +8,8 @@ use Rattle.reo_net_base.specs.declared.joint.End.{End}
 use Rattle.reo_net_base.specs.declared.joint.Joint.{Joint}
 use Rattle.reo_net_base.specs.Net.{end_eq}
 use Rattle.reo_net_base.specs.Colouring.{taken_at}
+use Rattle.reo_net_base.proofs.Items.{some_in}
 use Rattle.reo_net_laws.proofs.Items.{end_is}
-
--- Where there is an item there is a place.
-pub some_in : (items : List (Option Value)) (i : ℕ) (v : Value) → get_or items i None ≡ Some v → i < length items
-some_in [] i v is = absurd (cc)
-some_in (x ∷ xs) zero v is = omega arith
-some_in (x ∷ xs) (suc i) v is = let rest = some_in xs i v is in omega (arith, rest)
 
 -- The item at the first joint that passes is at a joint that passes.
 pub first_passes : (test : Joint → Bool) (joints : List Joint) (items : List (Option Value)) (d : Joint) (v : Value) → length items ≡ length joints

@@ -15,10 +15,10 @@ use Rattle.reo_net_base.specs.Net.{Net, Side, Wiring, is_at, net_of, all_sides, 
 use Rattle.reo_net_base.specs.Moves.{item_at}
 use Rattle.reo_net_base.specs.Colouring.{IsColouring, HasItem, ItemFits, taken_at, given_at}
 use Rattle.reo_net_base.specs.Wired.{IsWired, IsOrder}
+use Rattle.reo_net_base.proofs.Ends.{at_joint}
 use Rattle.reo_net_laws.proofs.Items.{along_order}
 use Rattle.reo_net_laws.proofs.Orders.{no_joint, Feeds}
 use Rattle.reo_net_laws.proofs.Sides.{gives_at, row_in_table, row_below, side_in_range, same_side_at}
-use Rattle.reo_trace.proofs.Still.{at_joint}
 use Rattle.reo_rounds.specs.Rules.{Rules}
 use Rattle.reo_run_texts.proofs.Keeping.{EndTypes, GivesRight, KeepsTypes}
 use Rattle.reo_run_texts.proofs.Lists.{taken_from, first_passes}

@@ -16,7 +16,7 @@ use Rattle.reo_support.specs.Sets.{OneAtLoops}
 use Rattle.reo_joint_values.proofs.Narrowing.{same_value}
 use Rattle.reo_rows.specs.Sets.{code_of}
 use Rattle.reo_propagate.specs.ListedSets.{in_set, listed}
-use Rattle.reo_propagate.proofs.Listed.{set_more}
+use Rattle.reo_propagate.proofs.Listed.{at_most_one, set_more}
 use Rattle.reo_search_tests.specs.Bounds.{AreBelow, AreWithin, AreSingle}
 
 -- A value more is below the bound.
@@ -26,18 +26,6 @@ below_more values w bound below lt v h = elim (either (in_set values v) (value_e
   | inl old ↦ below v old
   | inr here ↦ subst (λ (x : JointValue). code_of x < bound) (same_value w v here) lt
 ]
-
-one_of : (x v : JointValue) → in_set (x ∷ []) v ≡ true → x ≡ v
-one_of x v h = elim (either (value_eq x v) false h) [
-  | inl here ↦ same_value x v here
-  | inr none ↦ absurd cc
-]
-
--- A list shorter than two has at most one value.
-pub at_most_one : (values : List JointValue) (v w : JointValue) → length values < 2 → in_set values v ≡ true → in_set values w ≡ true → v ≡ w
-at_most_one [] v w lt h k = absurd cc
-at_most_one (x ∷ []) v w lt h k = sym (one_of x v h) ∙ one_of x w k
-at_most_one (x ∷ y ∷ xs) v w lt h k = absurd (omega arith)
 
 module _ (items : List (List Value)) (sets : List (List JointValue)) (within : AreWithin items sets) where
   -- Each list of items is short, and what is read past the last is empty.

@@ -17,14 +17,14 @@ use Rattle.reo_net_base.specs.Net.{Net, behaviour_at, end_eq, end_of, is_at, mar
 use Rattle.reo_net_base.specs.Wired.{IsWired, IsEnd}
 use Rattle.reo_net_base.proofs.Ends.{end_self}
 use Rattle.reo_net_laws.proofs.Joined.{joint_of}
-use Rattle.reo_net_colouring.proofs.MoveLemmas.{range_more}
+use Rattle.reo_net_laws.proofs.Ranges.{range_plus_one}
 use Rattle.reo_stepping.specs.Changes.{HasFlow}
 use Rattle.reo_standing.proofs.Filled.{not_flow}
 use Rattle.reo_stepping.proofs.FlowLemmas.{no_joint, with_item}
 
 -- The moves of one port more come at the end.
 pub flat_more : (f : ℕ → List Move) (k : ℕ) → flat_map f (range_with_len 0 (k + 1)) ≡ flat_map f (range_with_len 0 k) ++ f k
-flat_more f k = rw (range_more k, flat_map-append f (range_with_len 0 k) (k ∷ []), append-nil) refl
+flat_more f k = rw (range_plus_one k, flat_map-append f (range_with_len 0 k) (k ∷ []), append-nil) refl
 
 -- Ports of which no end flows move nothing.
 pub moves_over : (net : Net) (rows : List ℕ) (items : List (Option Value)) (moves : List Move) (steps from to : ℕ) → from + steps ≡ to → ((k : ℕ) → from ≤ k → k < to → HasFlow net rows k → ⊥)

@@ -1,7 +1,8 @@
 -- A circuit of which the first so many primitives have gone on.
-use Rattle.std.proofs.Common.{◌≡◌, ◌≢◌, ◌∙◌, ◌⊎◌, inl, inr, ℕ, zero, suc, ◌+◌, ◌<◌, ◌≤◌, Bool, true, false, List, [], ◌∷◌, ◌++◌, length, map, get_or, set, take, drop, ap, sym, subst, refl, arith, append-nil}
+use Rattle.std.proofs.Common.{◌≡◌, ◌≢◌, ◌∙◌, inl, inr, ℕ, zero, suc, ◌+◌, ◌<◌, ◌≤◌, true, false, List, [], ◌∷◌, ◌++◌, length, map, get_or, set, take, drop, ap, sym, subst, refl, arith, append-nil}
 use Rattle.std.specs.Prelude.{Option, None, cond, ◌==◌}
 use Rattle.std.specs.List.{position_or_len}
+use Rattle.std.proofs.lemmas.Bool.{cases_Bool}
 use Rattle.std.proofs.lemmas.List.{length-map, length-set, get_or-map, take_all, drop_all}
 use Rattle.std.proofs.lemmas.List.FromFn.{get_or-map-range_with_len, length-map-range_with_len}
 use Rattle.reo_values.specs.declared.value.Value.{Value}
@@ -68,10 +69,6 @@ ends_kept old new joints shapes table are = record {
           p_in,
           subst (λ (n : ℕ). e.end < n) (shapes.same e.primitive p_in).ends e_in.1,
         )
-
-true_or_false : (t : Bool) → (t ≡ true) ⊎ (t ≡ false)
-true_or_false true = inl refl
-true_or_false false = inr refl
 
 no_chosen : Chosen
 no_chosen = record { first = 0; second = 0 }
@@ -232,7 +229,7 @@ module _ {P : Type 0} (behaviour : P → Behaviour) where
       stays_at : (n : ℕ) (w : Wiring P) (items : List (Option Value)) (d : P) → n < length start.primitives → IsFar n w items
           → ((lasting (get_or start.primitives n d)).keeps ≡ true → HasFlow (net_of behaviour start) rows n → ⊥)
           → change_at (λ p. settled p (chosen_for (net_of behaviour w) rows n) (taken_for (net_of behaviour w) items n)) w.primitives n ≡ w.primitives
-      stays_at n w items d lt far still = elim (true_or_false (lasting (get_or start.primitives n d)).keeps) [
+      stays_at n w items d lt far still = elim (cases_Bool (lasting (get_or start.primitives n d)).keeps) [
         | inl keeps ↦ still_stays n w items lt far (still keeps)
         | inr bare ↦ bare_stays n w items d far bare
       ]

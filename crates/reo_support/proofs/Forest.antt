@@ -2,14 +2,13 @@
 use Rattle.std.proofs.Common.{◌≡◌, ◌≢◌, ◌⊎◌, inl, inr, ℕ, zero, suc, ◌<◌, ◌≤◌, Bool, true, cond, refl, ap, sym, ◌∙◌, subst, arith}
 use Rattle.std.specs.Bool.{◌==◌}
 use Rattle.std.specs.Prelude.{◌||◌}
-use Rattle.std.proofs.lemmas.Bool.{cases_eq, cond-true, cond-false}
+use Rattle.std.proofs.lemmas.Bool.{cases_eq, cases_Bool, cond-true, cond-false}
 use Rattle.reo_net_laws.proofs.Sides.{below_or}
 use Rattle.reo_support.proofs.Labels.{label, label_joins, label_stays, label_along, label_before}
 use Rattle.reo_support.proofs.Labels.Before.{one, down, up}
 use Rattle.std.proofs.lemmas.Bool.{or_left as either_left, or_right as either_right}
 use Rattle.reo_values.proofs.Naturals.{eq_same, same_eq, other_eq}
 use Rattle.reo_values.proofs.Truths.{either}
-use Rattle.reo_joint_values.proofs.Choosing.{true_or_false}
 
 -- A joint comes from a side or goes there.
 abbrev pub At : (ℕ → ℕ) → (ℕ → ℕ) → ℕ → ℕ → Type 0
@@ -134,7 +133,7 @@ module _ (V : Type 0) (count : ℕ) (giver taker : ℕ → ℕ) (Fits : (ℕ →
 
     both_near : (i b : ℕ) → i < count → At giver taker i b → label giver taker n b ≡ label giver taker n a → both i ≡ g.choice i
     unfolding both
-    both_near i b i_in at b_is = elim (true_or_false (touches i)) [
+    both_near i b i_in at b_is = elim (cases_Bool (touches i)) [
       | inl there ↦
           let t = touched i there in
           cond-true (touches i) (f.choice i) (g.choice i) there ∙ agree i b t.0 i_in at b_is t.1 t.2

@@ -1,32 +1,18 @@
 -- A text is refused at one place.
-use Rattle.std.proofs.Common.{◌≡◌, ℕ, ◌≤◌, ◌+◌, true, List, [], ◌∷◌, ◌++◌, length, inl, inr, ◌⊎◌, refl, sym, ◌∙◌, ap, arith, append_assoc, append-nil, length-append}
-use Rattle.reo_grammar.specs.declared.kind.TokenKind.{TokenKind}
+use Rattle.std.proofs.Common.{◌≡◌, ℕ, ◌≤◌, ◌+◌, List, [], ◌∷◌, ◌++◌, length, inl, inr, ◌⊎◌, refl, sym, ◌∙◌, ap, arith, append_assoc, append-nil, length-append}
 use Rattle.reo_grammar.specs.declared.kind.TokenKind.TheVariants as kinds
-use Rattle.reo_grammar.specs.Spelling.{spells}
 use Rattle.reo_grammar.specs.Tokens.{Lexeme, AreReal}
 use Rattle.reo_grammar.specs.Grammar.{Grammar, Says, Begins, Refused}
 use Rattle.reo_grammar.specs.Levels.{Nowhere}
 use Rattle.reo_grammar.proofs.Refusals.{real-front, real-back, refused-silent, one-refusal, begins-front}
 use Rattle.reo_lexer.specs.declared.token.Token.{Token}
-use Rattle.reo_lexer.specs.Lexing.{IsTokens, Runs, AtEnd}
+use Rattle.reo_lexer.specs.Lexing.{IsTokens, AtEnd}
 use Rattle.reo_terms.specs.Refused.{refused_line, IsRefusedAt, IsDeepAt}
-use Rattle.reo_lexer.proofs.Spelled.{no-empty as spelled-some}
-
-long : (k : TokenKind) (b : List ℕ) → spells k b ≡ true → 1 ≤ length b
-long k [] h = absurd (spelled-some k h)
-long k (x ∷ b) h = omega arith
-
-runs-few : (End : ℕ → List ℕ → Type 0) (at line : ℕ) (left : List ℕ) (ts : List Token) → Runs End at line left ts → length ts ≤ length left
-runs-few End at line left [] r = omega arith
-runs-few End at line left (t ∷ ts) (after, l, r) =
-    let i : length ts ≤ length after = runs-few End t.end t.line after ts r in
-    let n : 1 ≤ length l.bytes = long t.kind l.bytes l.token.spelled in
-    let e : length left ≡ length l.gap + (length l.bytes + length after) = ap length l.cut ∙ length-append l.gap (l.bytes ++ after) ∙ ap (λ z. length l.gap + z) (length-append l.bytes after) in
-    omega arith
+use Rattle.reo_lexer.proofs.Counts.{runs_few}
 
 -- A text has no more tokens than bytes.
 pub tokens-few : (text : List ℕ) (ts : List Token) → IsTokens text ts → length ts ≤ length text
-tokens-few text ts h = runs-few AtEnd 0 1 text ts h
+tokens-few text ts h = runs_few AtEnd 0 1 text ts h
 
 -- Two cuts of a list, the first before a token: that token stands before the second cut, or the second cut is no later.
 pub cuts : (a b u v : List Lexeme) (t : Lexeme) → a ++ (t ∷ u) ≡ b ++ v → ((w : List Lexeme) × (b ≡ a ++ (t ∷ w)) × (u ≡ w ++ v)) ⊎ ((w : List Lexeme) × (a ≡ b ++ w) × (v ≡ w ++ (t ∷ u)))

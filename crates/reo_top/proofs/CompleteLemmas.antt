@@ -21,7 +21,8 @@ use Rattle.reo_command.specs.States.{SinkState, FilesState, Change}
 use Rattle.reo_command.specs.Statuses.{IsAmong}
 use Rattle.reo_top_runs.specs.Traces.{ending_status}
 use Rattle.reo_command.proofs.FetchLemmas.{is_noted}
-use Rattle.reo_top.proofs.TopLemmas.{answered_with, told_always}
+use Rattle.reo_command.proofs.FetchLemmas.{if_any}
+use Rattle.reo_top.proofs.TopLemmas.{answered_with}
 
 same_rest : {A : Type 0} (x : A) (xs ys : List A) → x ∷ xs ≡ x ∷ ys → xs ≡ ys
 same_rest x xs ys e = cc
@@ -86,6 +87,6 @@ module _ (words : List (List ℕ)) (files : Change FilesState) (sink : Change Si
 pub complete_else : (words : List (List ℕ)) (files : Change FilesState) (sink : Change SinkState) (code : ℕ) → (command_of words ≡ Some Run → ⊥) → Complete words files sink code
 complete_else words files sink code other =
     record {
-      told = told_always files.old.told (λ folder. (r : Runnable) → Accepted words folder r → NothingFailed files sink → (code ≡ 10) ⊎ IsWhole words r sink code) (λ folder r a nothing. absurd (other a.run));
+      told = if_any files.old.told (λ folder. (r : Runnable) → Accepted words folder r → NothingFailed files sink → (code ≡ 10) ⊎ IsWhole words r sink code) (λ folder r a nothing. absurd (other a.run));
       given = λ r a nothing. absurd (other a.run);
     }

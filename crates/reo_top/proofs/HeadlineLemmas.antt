@@ -37,7 +37,8 @@ use Rattle.reo_command.specs.States.{SinkState, FilesState, Change}
 use Rattle.reo_command.specs.Stops.{stop_status}
 use Rattle.reo_command.proofs.FlatLemmas.{circuit_apart}
 use Rattle.reo_top_runs.proofs.RunLemmas.{start_for}
-use Rattle.reo_top.proofs.TopLemmas.{answered_with, told_always}
+use Rattle.reo_command.proofs.FetchLemmas.{if_any}
+use Rattle.reo_top.proofs.TopLemmas.{answered_with}
 use Rattle.reo_command.proofs.WorkLemmas.{run_reading}
 
 -- A circuit that is accepted is put together well.
@@ -235,6 +236,6 @@ module _ (justified : RunsAreJustified kind_rules) (made : CircuitsAreMade) (pla
 pub headline_else : (words : List (List ℕ)) (files : Change FilesState) (sink : Change SinkState) (code : ℕ) → (command_of words ≡ Some Run → ⊥) → Headline words files sink code
 headline_else words files sink code other =
     record {
-      told = told_always files.old.told (λ folder. (r : Runnable) → Accepted words folder r → (IsFailure code → ⊥) → IsTraced (limits_of words) r sink code) (λ folder r a fine. absurd (other a.run));
+      told = if_any files.old.told (λ folder. (r : Runnable) → Accepted words folder r → (IsFailure code → ⊥) → IsTraced (limits_of words) r sink code) (λ folder r a fine. absurd (other a.run));
       given = λ r a fine. absurd (other a.run);
     }

@@ -1,6 +1,6 @@
 -- From the words to the command that they are, and to what it has come to.
 use Rattle.std.proofs.Common.{◌≡◌, inl, inr, ℕ, true, false, List, [], ◌∷◌, sym, subst, refl, arith}
-use Rattle.std.specs.Prelude.{◌≢◌, ◌&&◌, Option, Some, None, IfSome, codes}
+use Rattle.std.specs.Prelude.{◌≢◌, ◌&&◌, Option, Some, None, codes}
 use Rattle.reo_values.proofs.Truths.{no_both}
 use Rattle.reo_runner.specs.declared.outcome.Limits.{Limits}
 use Rattle.reo_command.specs.declared.command.Command.{Command}
@@ -24,10 +24,6 @@ use Rattle.reo_command.specs.States.{SinkState, FilesState, Change}
 use Rattle.reo_command.specs.Statuses.{IsAmong, statuses_of, statuses_for}
 use Rattle.reo_command.proofs.FetchLemmas.{none_fetched}
 use Rattle.reo_top_base.proofs.CaseLemmas.{line_cases, line_written, line_code, line_not_three}
-
-pub told_always : {X : Type 0} (o : Option X) (B : X → Type 0) → ((x : X) → B x) → IfSome o B
-told_always None B f = tt
-told_always (Some x) B f = f x
 
 -- The status of one line, or of a sink that failed on it.
 pub line_among : (sink : Change SinkState) (code : ℕ) (statuses : List ℕ) (line : List ℕ) (status : ℕ) → IsAmong statuses status → IsAmong statuses 9 → Refuses line status sink code → IsAmong statuses code

@@ -1,7 +1,8 @@
 -- Nothing was taken from a source.
 use Rattle.std.proofs.Common.{◌≡◌, inl, ℕ, false, List, [], sym, refl, arith}
+use Rattle.std.proofs.lemmas.Bool.{false≢true}
 use Rattle.std.proofs.lemmas.List.{append-nil}
-use Rattle.std.specs.Prelude.{Option, Some, None, IfSome, ◌++◌, true}
+use Rattle.std.specs.Prelude.{Option, Some, None, IfSome, ◌++◌}
 use Rattle.std.specs.Option.{unwrap_or}
 use Rattle.reo_closings.specs.Sources.{AreTaken, source_change, state_of, untaken}
 use Rattle.reo_top.specs.Heard.{TakesFew}
@@ -14,16 +15,13 @@ still_left : (o : Option (List ℕ)) → IfSome o (λ (bytes : List ℕ). (left 
 still_left None = tt
 still_left (Some bytes) = (bytes, refl, refl)
 
-none_failed : {A : Type 0} → false ≡ true → A
-none_failed e = absurd cc
-
 module _ {R : Type 0} (told : R → Option (List ℕ)) (given : R → List ℕ) (faults : R → ℕ) (source : R) where
   pub none_taken : AreTaken (untaken (state_of told given faults source)) (source_change told given faults source source)
   none_taken = record {
     taken = [];
     rest = unwrap_or (told source) [];
     front = refl;
-    fault = λ e. none_failed e;
+    fault = λ e. absurd (false≢true e);
     later = omega arith;
     given = sym (append-nil (given source));
     told = still_told (told source);

@@ -1,17 +1,16 @@
 -- Joints and ends that do not flow.
-use Rattle.std.proofs.Common.{◌≡◌, ◌≢◌, ◌∙◌, ◌⊎◌, ◌&&◌, ◌||◌, inl, inr, ℕ, zero, suc, ◌<◌, Bool, true, false, not, List, [], ◌∷◌, length, get_or, take, ◌+◌, ap, sym, refl, arith}
+use Rattle.std.proofs.Common.{◌≡◌, ◌≢◌, ◌∙◌, ◌&&◌, ◌||◌, inl, inr, ℕ, zero, suc, ◌<◌, Bool, true, false, not, List, [], ◌∷◌, length, get_or, take, ◌+◌, ap, sym, refl, arith}
 use Rattle.std.specs.List.{list_all}
 use Rattle.std.proofs.lemmas.List.Folds.{list_all_at, list_all_more}
-use Rattle.reo_values.proofs.Truths.{and_both, either}
+use Rattle.reo_values.proofs.Truths.{and_both}
 use Rattle.reo_net_base.specs.declared.mark.Mark.{Mark}
 use Rattle.reo_net_base.specs.declared.mark.Mark.TheVariants.{F, G, R, J}
-use Rattle.reo_net_base.specs.declared.joint.End.{End}
 use Rattle.reo_net_base.specs.declared.joint.Joint.{Joint}
 use Rattle.reo_net_base.specs.Marks.{is_flow}
-use Rattle.reo_net_base.specs.Net.{Net, end_eq, end_of, is_at, mark_at}
+use Rattle.reo_net_base.specs.Net.{Net, end_of, mark_at}
 use Rattle.reo_net_base.specs.Wired.{IsWired}
 use Rattle.reo_net_base.proofs.Marks.{mark_still}
-use Rattle.reo_net_base.proofs.Ends.{end_is}
+use Rattle.reo_net_base.proofs.Ends.{at_joint}
 use Rattle.reo_trace.specs.Entries.{is_idle, is_still}
 use Rattle.reo_trace.specs.Idle.{NoEndFlows}
 
@@ -36,11 +35,6 @@ all_at test (x ∷ xs) (suc i) d all lt = all_at test xs i d (and_both (test x) 
 all_from : {X : Type 0} (test : X → Bool) (xs : List X) → ((i : ℕ) (d : X) → i < length xs → test (get_or xs i d) ≡ true) → list_all test xs ≡ true
 all_from test [] each = refl
 all_from test (x ∷ xs) each = ap (λ t. t && list_all test xs) (each zero x (omega arith)) ∙ all_from test xs (λ i d lt. each (suc i) d (omega arith))
-
--- an end at a joint is its giver or its taker
-pub at_joint : (e : End) (j : Joint) → is_at e j ≡ true → (j.giver ≡ e) ⊎ (j.taker ≡ e)
-at_joint e j h =
-    elim (either (end_eq j.giver e) (end_eq j.taker e) h) [ inl giver ↦ inl (end_is j.giver e giver) | inr taker ↦ inr (end_is j.taker e taker) ]
 
 -- the two ends of a still joint do not flow
 still_ends : (net : Net) (rows : List ℕ) (j : Joint) → is_still net rows j ≡ true → (mark_at net rows j.giver ≢ F) × (mark_at net rows j.taker ≢ F)

@@ -9,6 +9,7 @@ pub mod MoveLemmas
 pub mod NameLemmas
 pub mod NumberLemmas
 pub mod PartLists
+pub mod Products
 pub mod StandLists
 pub mod UseLemmas
 pub mod WeightLemmas

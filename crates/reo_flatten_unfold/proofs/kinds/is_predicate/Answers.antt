@@ -1,7 +1,7 @@
 -- An expression without a kind has no type.
 use Rattle.std.proofs.Common.{Err, sym, ap}
 use Rattle.reo_flatten_unfold.specs.Known.{is_truth}
-use Rattle.reo_flatten_unfold.proofs.KindLemmas.{untyped}
+use Rattle.reo_exprs.proofs.KindOfType.{untyped}
 use Rattle.reo_flatten_unfold.proofs.kinds.is_predicate.Goals as goal
 
 pub returns-in-Err-Mistyped : goal.returns-in-Err-Mistyped

@@ -1,7 +1,7 @@
 -- By what is answered.
 use Rattle.std.proofs.Common.{Err, IfOk, is_some, ◌≡◌, sym, ap, subst}
 use Rattle.reo_exprs.specs.Typing.{type_of_expr}
-use Rattle.reo_flatten_unfold.proofs.KindLemmas.{untyped}
+use Rattle.reo_exprs.proofs.KindOfType.{untyped}
 use Rattle.reo_flatten_unfold.proofs.kinds.is_typed.Goals as goal
 use Rattle.reo_flatten_unfold.proofs.kinds.is_typed.Goals.{in-Ok, in-Err-NoMemory, in-Err-Mistyped, in-Err-Range}
 

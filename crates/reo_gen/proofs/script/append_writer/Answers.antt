@@ -1,9 +1,10 @@
+use Rattle.std.proofs.lemmas.Result.{on_ok_weaker}
 use Rattle.reo_gen.specs.Scripts.{writer_line}
-use Rattle.reo_gen.proofs.Added.{on_added, three}
+use Rattle.reo_gen.proofs.Added.{three}
 use Rattle.reo_gen.proofs.script.append_writer.Goals as goal
 
 pub returns : goal.returns
 unfolding writer_line
 returns c =
-    on_added c.append-2.result _ _ (three c.args.text.now c.append.new.self c.append_writes.new.text c.append-2.new.self _ _ _ c.in_ok-append.ensures.ok c.in_ok-append_writes.ensures)
+    on_ok_weaker c.append-2.result (three c.args.text.now c.append.new.self c.append_writes.new.text c.append-2.new.self _ _ _ c.in_ok-append.ensures.ok c.in_ok-append_writes.ensures)
     c.append-2.ensures.ok

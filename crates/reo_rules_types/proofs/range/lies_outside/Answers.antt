@@ -2,7 +2,8 @@
 use Rattle.std.proofs.Common.{◌∙◌, Err, sym, ap}
 use Rattle.std.specs.Prelude.{not}
 use Rattle.reo_rules.specs.Ranges.{lies_in}
-use Rattle.reo_rules_types.proofs.Ranged.{untyped, inside_is}
+use Rattle.reo_exprs.proofs.KindOfType.{untyped}
+use Rattle.reo_rules_types.proofs.Ranged.{inside_is}
 use Rattle.reo_rules_types.proofs.range.lies_outside.Goals as goal
 
 pub returns-in-Ok : goal.returns-in-Ok
