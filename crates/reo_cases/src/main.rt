@@ -76,22 +76,28 @@ fn show(rt: &HostRuntime, line: &str) -> io::Result<()> {
     }
 }
 
+/// Shows one line of the input. Of a case that writes much, what it has written takes the place of
+/// `above`.
+fn show_line(rt: &HostRuntime, line: &str, above: &mut Bytes) -> io::Result<()> {
+    if line.starts_with('#') {
+        println!(rt; "{line}")
+    } else if let Some(case) = line.strip_prefix("~ ") {
+        println!(rt; "> {line}")?;
+        *above = show_whole(rt, case, above.as_slice())?;
+        Ok(())
+    } else if let Some(case) = line.strip_prefix("/ ") {
+        println!(rt; "> {line}")?;
+        show_cuts(rt, case)
+    } else {
+        show(rt, line)
+    }
+}
+
 fn main(rt: HostRuntime) -> io::Result<()> {
     let mut above = Bytes::new(rt.alloc());
     for line in rt.lines(rt.alloc()) {
         let line = line?;
-        let line = line.as_str();
-        if line.starts_with('#') {
-            println!(rt; "{line}")?;
-        } else if let Some(case) = line.strip_prefix("~ ") {
-            println!(rt; "> {line}")?;
-            above = show_whole(&rt, case, above.as_slice())?;
-        } else if let Some(case) = line.strip_prefix("/ ") {
-            println!(rt; "> {line}")?;
-            show_cuts(&rt, case)?;
-        } else {
-            show(&rt, line)?;
-        }
+        show_line(&rt, line.as_str(), &mut above)?;
     }
     Ok(())
 }

@@ -18,6 +18,19 @@ pub(crate) struct Whole {
     pub(crate) status: u8,
 }
 
+/// What the command has written over these objects, and its status.
+fn written_over(
+    alloc: Global,
+    words: &List<Bytes>,
+    files: &mut MemoryFiles,
+    source: &mut SureSource,
+    sink: &mut SureSink,
+) -> Result<Whole, NoMemory> {
+    let status = reo(alloc, words, files, source, sink).code;
+    let text = Bytes::from_slice(alloc, sink.bytes())?;
+    Ok(Whole { text, status })
+}
+
 /// The command over files, events and output in memory, with room for so many bytes.
 pub(crate) fn answer_of(
     alloc: Global,
@@ -28,9 +41,7 @@ pub(crate) fn answer_of(
 ) -> Result<Whole, NoMemory> {
     let mut source = SureSource::new(alloc, events)?;
     let mut sink = SureSink::new(alloc, room)?;
-    let status = reo(alloc, words, &mut files, &mut source, &mut sink).code;
-    let text = Bytes::from_slice(alloc, sink.bytes())?;
-    Ok(Whole { text, status })
+    written_over(alloc, words, &mut files, &mut source, &mut sink)
 }
 
 /// The command on a case with nothing to hear, whose file `above` has these bytes.

@@ -16,12 +16,8 @@ use Rattle.reo_net_laws.proofs.OneFirst.{one_inside}
 use Rattle.reo_net_laws.proofs.Sides.{side_at_place, side_in_range}
 use Rattle.reo_knots.specs.Knots.{Knotted, AreKnots, in_knot, knot_count}
 use Rattle.reo_still.specs.Still.{IsStill}
-use Rattle.reo_planning.specs.declared.kept.Kept.{Kept}
-use Rattle.reo_planning.specs.Keeping.{IsKept, is_moving, is_settled}
-use Rattle.reo_planning.specs.Unsettling.{AreApart, AreBetweenUnsettled, AreFewer, AreMarkedUnsettled, AreMovingUnsettled, AreUnsettled, IsMarked, part_at}
-use Rattle.reo_planning.proofs.Flowing.{mark_same}
-use Rattle.reo_planning.proofs.KnotSets.{number_is}
-use Rattle.reo_planning.proofs.Setting.{fewer_none, fewer_twice}
+use Rattle.reo_settling.specs.Plannings.{Kept, IsKept, is_moving, is_settled, AreApart, AreBetweenUnsettled, AreFewer, AreMarkedUnsettled, AreMovingUnsettled, AreUnsettled, IsMarked, part_at}
+use Rattle.reo_settling.proofs.Plannings.{mark_same, number_is, fewer_none, fewer_twice}
 use Rattle.reo_stepping.specs.Changes.{AreThoseThatFlowed, is_changed}
 use Rattle.reo_engine.proofs.Resting.{in_own}
 

@@ -30,14 +30,8 @@ use Rattle.reo_flowing.specs.Flowing.{AreFlowingIn, AreFlowingOf}
 use Rattle.reo_still.proofs.Together.{parts_make_first}
 use Rattle.reo_mark_search.proofs.Parts.{side_here, side_listed}
 use Rattle.reo_weights.proofs.CauseLemmas.{within_not_over}
-use Rattle.reo_planning.specs.declared.kept.Kept.{Kept}
-use Rattle.reo_planning.specs.Keeping.{AllServe, IsKept, is_settled}
-use Rattle.reo_planning.specs.Planned.{ArePlanned}
-use Rattle.reo_planning.specs.Unsettling.{AreFewer, IsElsewhere, part_at}
-use Rattle.reo_planning.proofs.Flowing.{told_by_joints}
-use Rattle.reo_planning.proofs.KnotSets.{number_is}
-use Rattle.reo_planning.proofs.Parting.{all_served}
-use Rattle.reo_planning.proofs.Shapes.{count_same}
+use Rattle.reo_settling.specs.Plannings.{Kept, AllServe, IsKept, is_settled, ArePlanned, AreFewer, IsElsewhere, part_at}
+use Rattle.reo_settling.proofs.Plannings.{told_by_joints, number_is, all_served, count_same}
 use Rattle.reo_joint_values.specs.Standing.{giver_of, no_joint}
 use Rattle.reo_stepping.specs.Clearing.{ComesNoItem}
 use Rattle.reo_stepping.specs.Flowing.{AreFlowing}

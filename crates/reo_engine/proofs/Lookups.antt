@@ -12,12 +12,8 @@ use Rattle.reo_net_base.specs.Wired.{IsWired}
 use Rattle.reo_net_circuit.proofs.Cases.{eq_cases}
 use Rattle.reo_net_ends.specs.Ends.{AreEnds}
 use Rattle.reo_knots.specs.Knots.{Knotted, AreKnots}
-use Rattle.reo_planning.specs.declared.kept.Kept.{Kept}
-use Rattle.reo_planning.specs.Keeping.{is_settled, IsKept}
-use Rattle.reo_planning.specs.Unsettling.{AreFewer, AreMarkedUnsettled, AreMovingUnsettled, IsElsewhere, IsUnsettled, part_at}
-use Rattle.reo_planning.proofs.Elsewhere.{kept_elsewhere, kept_fewer, kept_later}
-use Rattle.reo_planning.proofs.Setting.{fewer_none, fewer_twice}
-use Rattle.reo_planning.proofs.Shapes.{knots_stay}
+use Rattle.reo_settling.specs.Plannings.{Kept, is_settled, IsKept, AreFewer, AreMarkedUnsettled, AreMovingUnsettled, IsElsewhere, IsUnsettled, part_at}
+use Rattle.reo_settling.proofs.Plannings.{kept_elsewhere, kept_fewer, kept_later, fewer_none, fewer_twice, knots_stay}
 use Rattle.reo_settling.specs.declared.lookups.Lookups.{Lookups}
 use Rattle.reo_settling.specs.Lookups.{AreLookups}
 use Rattle.reo_settling.proofs.HeldTables.{lookups_stay}

@@ -10,7 +10,7 @@ use Rattle.reo_net_base.specs.Sides.{side_count}
 use Rattle.reo_net_circuit.proofs.Cases.{eq_cases, lt_cases}
 use Rattle.reo_knots.specs.Knots.{Knotted, AreKnots, in_knot, knot_count}
 use Rattle.reo_mark_search.proofs.Parts.{side_here, side_listed}
-use Rattle.reo_planning.proofs.KnotSets.{number_is}
+use Rattle.reo_settling.proofs.Plannings.{number_is}
 use Rattle.reo_engine.specs.Resting.{AreDoneAt, part_of}
 
 -- A side is in its own part.

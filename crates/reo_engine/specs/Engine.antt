@@ -4,8 +4,7 @@ use Rattle.reo_net_base.specs.Behaviour.{Behaviour}
 use Rattle.reo_net_base.specs.Net.{Net, Wiring, net_of}
 use Rattle.reo_net_ends.specs.Ends.{AreEnds}
 use Rattle.reo_knots.specs.Knots.{Knotted, AreKnots}
-use Rattle.reo_planning.specs.declared.kept.Kept.{Kept}
-use Rattle.reo_planning.specs.Keeping.{IsKept}
+use Rattle.reo_settling.specs.Plannings.{Kept, IsKept}
 
 -- A circuit, how many rounds were made, and which primitives may have changed since the last of
 -- them began; the circuit's knots, the joints at its ends, and what is kept of its parts.

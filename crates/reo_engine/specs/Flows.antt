@@ -6,8 +6,7 @@ use Rattle.reo_net_base.specs.Sides.{side_count}
 use Rattle.reo_cells.specs.declared.cells.Cells.{Cells}
 use Rattle.reo_cells.specs.Cells.{AreCells, IsShown}
 use Rattle.reo_knots.specs.Knots.{Knotted, knot_count}
-use Rattle.reo_planning.specs.declared.kept.Kept.{Kept}
-use Rattle.reo_planning.specs.Keeping.{is_settled}
+use Rattle.reo_settling.specs.Plannings.{Kept, is_settled}
 use Rattle.reo_standing.specs.Feeds.{AreFeeds}
 use Rattle.reo_standing.specs.Filling.{AreBlank}
 use Rattle.reo_engine.specs.declared.flows.Flows.{Flows}

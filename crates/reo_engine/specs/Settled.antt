@@ -2,9 +2,7 @@
 use Rattle.std.specs.Prelude.{ℕ, ◌≡◌, Bool, true, false, List, length}
 use Rattle.reo_net_base.specs.Net.{Net}
 use Rattle.reo_knots.specs.Knots.{Knotted}
-use Rattle.reo_planning.specs.declared.kept.Kept.{Kept}
-use Rattle.reo_planning.specs.Keeping.{is_settled, is_moving}
-use Rattle.reo_planning.specs.Unsettling.{AreFewer, AreApart}
+use Rattle.reo_settling.specs.Plannings.{Kept, is_settled, is_moving, AreFewer, AreApart}
 
 -- Over a round the parts that were settled stay so where they do not move and no primitive that is
 -- marked has a side of them.

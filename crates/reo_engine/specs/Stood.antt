@@ -3,8 +3,7 @@ use Rattle.std.specs.Prelude.{ℕ}
 use Rattle.reo_net_base.specs.Net.{Net}
 use Rattle.reo_knots.specs.Knots.{Knotted, knot_count}
 use Rattle.reo_weights.specs.Over.{Cause, IsOver}
-use Rattle.reo_planning.specs.declared.kept.Kept.{Kept}
-use Rattle.reo_planning.specs.Keeping.{AllServe}
+use Rattle.reo_settling.specs.Plannings.{Kept, AllServe}
 pub use Rattle.reo_standing.specs.declared.standing.Standing.{Standing}
 use Rattle.reo_standing.specs.Standing.{HaveFirstItems}
 pub use Rattle.reo_standing.specs.Standing.{Stands}

@@ -15,7 +15,7 @@ use reo_flags::Flags;
 use reo_knots::Knots;
 use reo_net_base::{Move, Primitive};
 use reo_net_circuit::Circuit;
-use reo_planning::{Kept, written_over};
+use reo_settling::{Kept, written_over};
 use reo_standing::{Feeds, Sheet, blank};
 use reo_values::{Bytes, List, NoMemory, Value};
 use std::alloc::Global;

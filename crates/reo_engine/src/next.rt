@@ -2,8 +2,7 @@
 ghost use Rattle.std.specs.Prelude.{◌≡◌, ◌+◌, ◌<◌, ◌≤◌, ◌^◌, ℕ, OnOk, MatchResult};
 ghost use Rattle.reo_rounds.specs.Plans.{IsPlannedRound, IsPlanFault};
 ghost use Rattle.reo_knots.specs.Knots.{knot_count};
-ghost use Rattle.reo_planning.specs.Keeping.{AllServe};
-ghost use Rattle.reo_planning.specs.Planned.{AreWeights, sum_below, weight_left};
+ghost use Rattle.reo_settling.specs.Plannings.{AllServe, AreWeights, sum_below, weight_left};
 ghost use Rattle.reo_engine.specs.Engine.{net_now};
 
 use crate::engine::Engine;

@@ -3,7 +3,7 @@ ghost use Rattle.std.specs.Prelude.{◌≡◌, ◌↔◌, IsTrue, true, false, S
 ghost use Rattle.reo_net_circuit.specs.Offers.{OnlyPort};
 ghost use Rattle.reo_net_base.specs.Step.{change_at};
 ghost use Rattle.reo_rounds.specs.Offering.{IsOfferFault, IsPendingAt, IsTakenAt};
-ghost use Rattle.reo_planning.specs.Unsettling.{IsUnsettled};
+ghost use Rattle.reo_settling.specs.Plannings.{IsUnsettled};
 ghost use Rattle.reo_engine.specs.Engine.{net_now};
 
 use crate::changes::mark;

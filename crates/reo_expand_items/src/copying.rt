@@ -8,7 +8,7 @@ use reo_values::{Copies, List, NoMemory};
 use std::alloc::Global;
 
 /// An equal channel. `NoMemory` means out of memory, or of room.
-pub fn copied_channel(
+pub(crate) fn copied_channel(
     alloc: Global,
     room: &mut Room,
     channel: &Channel,

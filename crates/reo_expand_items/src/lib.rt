@@ -7,5 +7,5 @@ mod plain;
 mod walk;
 mod weights;
 
-pub use copying::{copied_channel, copied_parameters, copied_type};
+pub use copying::{copied_parameters, copied_type};
 pub use walk::Walk;

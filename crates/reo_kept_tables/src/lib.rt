@@ -16,5 +16,4 @@ pub use laws::{
 };
 pub use orders::orders_of;
 pub use parts::refresh_part;
-pub use refreshing::refresh;
 pub use tables::Tables;

@@ -74,21 +74,32 @@ fn buffered(rt: &HostRuntime, path: &str) -> Result<bool, Fail> {
     Ok(written && all && unwritten)
 }
 
+/// Whether a file is fetched within limits as they say.
+fn are_fetched(rt: &HostRuntime, path: &str) -> Result<bool, NoMemory> {
+    for (limit, said) in LIMITS {
+        if !disk_says(rt, path.as_bytes(), *limit, said)? {
+            return Ok(false);
+        }
+    }
+    Ok(true)
+}
+
+/// Whether nothing is fetched where there is no file, or where its path is no text.
+fn is_none(rt: &HostRuntime, path: &str) -> Result<bool, NoMemory> {
+    Ok(disk_says(rt, path.as_bytes(), 9, "!")? && disk_says(rt, b"\xff", 9, "!")?)
+}
+
+/// Whether all is as told of a file of this path, which is made, written and read, and taken away.
+fn are_right(rt: &HostRuntime, path: &str) -> Result<bool, Fail> {
+    let read = written_and_read(rt, path)? && are_fetched(rt, path)?;
+    let turned = the_wrong_way_round(rt, path)? && buffered(rt, path)?;
+    fs::remove_file(rt, path)?;
+    Ok(read && turned && is_none(rt, path)?)
+}
+
 #[test]
 fn the_real_ones_write_and_read_a_file(rt: HostRuntime) -> Result<(), Fail> {
     let path = path_of(&rt)?;
-    is(&rt, written_and_read(&rt, path.as_str())?, "written");
-    for (limit, said) in LIMITS {
-        is(&rt, disk_says(&rt, path.as_bytes(), *limit, said)?, said);
-    }
-    is(
-        &rt,
-        the_wrong_way_round(&rt, path.as_str())?,
-        "the wrong way round",
-    );
-    is(&rt, buffered(&rt, path.as_str())?, "buffered");
-    fs::remove_file(&rt, path.as_str())?;
-    is(&rt, disk_says(&rt, path.as_bytes(), 9, "!")?, "no file");
-    is(&rt, disk_says(&rt, b"\xff", 9, "!")?, "no text");
+    is(&rt, are_right(&rt, path.as_str())?, path.as_str());
     Ok(())
 }

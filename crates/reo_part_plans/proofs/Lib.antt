@@ -1,2 +1,3 @@
 pub mod FirstRows
 pub mod Recalled
+pub mod Plannings

@@ -3,3 +3,4 @@ pub mod Given
 pub mod Looks
 pub mod Remembered
 pub mod Laws
+pub mod Plannings

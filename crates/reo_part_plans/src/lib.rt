@@ -12,3 +12,4 @@ pub use entry::Entry;
 pub use laws::{alike_same_rows, plans_stay};
 pub use looks::Look;
 pub use plans::Plans;
+pub use reo_planning::{Kept, first_colouring, search_part, tables_of, written_over};

@@ -11,7 +11,7 @@ mod thinning;
 mod waking;
 
 pub use line::Line;
-pub use narrowing::{other_side, propagate};
+pub use narrowing::propagate;
 pub use queue::Queue;
 pub use reo_joint_values::JointValue;
 pub use restarting::restart;

@@ -22,7 +22,7 @@ use reo_side_tables::{giver_side, taker_side};
 use reo_values::NoMemory;
 
 /// The other side of a joint of a side. This takes no memory.
-pub fn other_side<P: Primitive>(circuit: &Circuit<P>, side: usize, joint: usize) -> usize
+fn other_side<P: Primitive>(circuit: &Circuit<P>, side: usize, joint: usize) -> usize
     requires { IsJointOf (net_of P.behaviour circuit.now) side joint }
     ensures at { IsJointOf (net_of P.behaviour circuit.now) result joint }
     ensures two { let net = net_of P.behaviour circuit.now in

@@ -7,7 +7,7 @@ use Rattle.reo_knots.specs.Knots.{Knotted, AreKnots, in_knot, knot_count}
 use Rattle.reo_mark_search.specs.Found.{AreRowsElsewhere, HasFirstRows}
 use Rattle.reo_item_bounds.specs.Bounds.{HasBounds}
 use Rattle.reo_item_bounds.proofs.Within.{within}
-use Rattle.reo_planning.specs.Planned.{IsPartPlanned}
+use Rattle.reo_part_plans.specs.Plannings.{IsPartPlanned}
 
 -- Rows that were found of a part within its bounds are planned.
 pub found_planned : (net : Net) → IsWired net → (order : List ℕ) → IsOrder net order → (knots : Knotted) → AreKnots net knots → (k : ℕ) → k < knot_count knots

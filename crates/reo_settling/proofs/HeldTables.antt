@@ -18,10 +18,8 @@ use Rattle.reo_kept_tables.proofs.Readied.{ready_tables_are_right, right_parts_a
 use Rattle.reo_kept_tables.proofs.Sorted.{orders_stay}
 use Rattle.reo_kept_tables.proofs.Staying.{right_tables_stay, room_stays}
 use Rattle.reo_flowing.specs.Flowing.{AreFlowingIn}
-use Rattle.reo_planning.specs.declared.kept.Kept.{Kept}
-use Rattle.reo_planning.specs.Keeping.{is_settled}
-use Rattle.reo_planning.specs.Unsettling.{AreFewer, IsElsewhere}
-use Rattle.reo_planning.proofs.KnotSets.{number_is}
+use Rattle.reo_part_plans.specs.Plannings.{Kept, is_settled, AreFewer, IsElsewhere}
+use Rattle.reo_part_plans.proofs.Plannings.{number_is}
 use Rattle.reo_net_base.specs.Shapes.{SameShapes}
 use Rattle.reo_net_base.specs.declared.joint.Joint.{Joint}
 use Rattle.reo_net_laws.proofs.Shapes.{count_same}

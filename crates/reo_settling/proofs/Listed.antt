@@ -17,13 +17,8 @@ use Rattle.reo_kept_tables.specs.Orders.{AreJointsOf, AreOrders}
 use Rattle.reo_kept_tables.proofs.Sorted.{orders_are_of_parts}
 use Rattle.reo_flowing.specs.Flowing.{AreFlowingIn, AreFlowingOf, AreJointsIn, AreRowsIn, flowing_of}
 use Rattle.reo_flowing.proofs.Staying.{flowing_stay}
-use Rattle.reo_planning.specs.declared.kept.Kept.{Kept}
-use Rattle.reo_planning.specs.Keeping.{is_settled}
-use Rattle.reo_planning.specs.Planned.{IsPartPlanned}
-use Rattle.reo_planning.specs.Unsettling.{AreFewer, IsElsewhere}
-use Rattle.reo_planning.proofs.Flowing.{mark_same}
-use Rattle.reo_planning.proofs.KnotSets.{elsewhere, number_is}
-use Rattle.reo_planning.proofs.Elsewhere.{mark_is}
+use Rattle.reo_part_plans.specs.Plannings.{Kept, is_settled, IsPartPlanned, AreFewer, IsElsewhere}
+use Rattle.reo_part_plans.proofs.Plannings.{mark_same, elsewhere, number_is, mark_is}
 use Rattle.reo_part_plans.proofs.Recalled.{same_shapes}
 use Rattle.reo_settling.specs.declared.lookups.Lookups.{Lookups}
 use Rattle.reo_settling.specs.Lookups.{AreListed, AreToldFor, IsListedAt}

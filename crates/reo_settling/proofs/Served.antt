@@ -7,9 +7,8 @@ use Rattle.reo_net_base.specs.Wired.{IsWired}
 use Rattle.reo_net_circuit.proofs.Cases.{eq_cases}
 use Rattle.reo_knots.specs.Knots.{Knotted, AreKnots, in_knot, knot_count}
 use Rattle.reo_flowing.specs.Flowing.{AreFlowingOf}
-use Rattle.reo_planning.specs.declared.kept.Kept.{Kept}
-use Rattle.reo_planning.specs.Keeping.{IsKept, is_settled, serves}
-use Rattle.reo_planning.proofs.Parting.{ArePlannedSoFar, planned_more, served}
+use Rattle.reo_part_plans.specs.Plannings.{Kept, IsKept, is_settled, serves}
+use Rattle.reo_part_plans.proofs.Plannings.{ArePlannedSoFar, planned_more, served}
 use Rattle.reo_settling.specs.Lookups.{IsNextToSettle}
 use Rattle.reo_settling.proofs.Listed.{IsListedFar, flowing_same}
 

@@ -4,8 +4,7 @@ use Rattle.reo_net_base.specs.Net.{Net}
 use Rattle.reo_knots.specs.Knots.{Knotted, in_knot, knot_count}
 use Rattle.reo_kept_tables.specs.declared.tables.Tables.{Tables}
 use Rattle.reo_kept_tables.specs.Tables.{AreRightOn, HasRoom}
-use Rattle.reo_planning.specs.declared.kept.Kept.{Kept}
-use Rattle.reo_planning.specs.Keeping.{is_settled}
+use Rattle.reo_part_plans.specs.Plannings.{Kept, is_settled}
 
 -- Whether the tables were made for the state of a part.
 abbrev pub is_fresh : List Bool → ℕ → Bool

@@ -6,13 +6,11 @@ use Rattle.reo_net_base.specs.Wired.{IsWired}
 use Rattle.reo_knots.specs.Knots.{Knotted, AreKnots, knot_count}
 use Rattle.reo_kept_tables.specs.Orders.{AreOrders}
 use Rattle.reo_flowing.specs.Flowing.{AreFlowingIn}
-use Rattle.reo_planning.specs.declared.kept.Kept.{Kept}
-use Rattle.reo_planning.specs.Unsettling.{AreFewer, IsElsewhere}
+use Rattle.reo_part_plans.specs.Plannings.{Kept, AreFewer, IsElsewhere, is_settled, serves}
 use Rattle.reo_mark_search.specs.Found.{IsMarkSearch}
 use Rattle.reo_item_bounds.specs.Kept.{AreKeptBounds}
 use Rattle.reo_part_plans.specs.Remembered.{ArePlans}
 use Rattle.reo_settling.specs.declared.lookups.Lookups.{Lookups}
-use Rattle.reo_planning.specs.Keeping.{is_settled, serves}
 use Rattle.reo_settling.specs.Held.{is_fresh, MayBeFresh, MayBeKept}
 
 -- Where the joints that flow are told, they are those of each settled part by the rows that are kept.

@@ -9,3 +9,4 @@ mod settling;
 
 pub use laws::lookups_stay;
 pub use lookups::Lookups;
+pub use reo_part_plans::{Kept, first_colouring, written_over};

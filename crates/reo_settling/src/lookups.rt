@@ -3,7 +3,7 @@ ghost use Rattle.std.specs.Prelude.{◌≡◌, IfOk, length};
 ghost use Rattle.reo_net_base.specs.Net.{net_of};
 ghost use Rattle.reo_net_ends.specs.Ends.{AreEnds};
 ghost use Rattle.reo_knots.specs.Knots.{AreKnots};
-ghost use Rattle.reo_planning.specs.declared.kept.Kept.{Kept as KeptRows};
+ghost use Rattle.reo_part_plans.specs.Plannings.{Kept as KeptRows};
 ghost use Rattle.reo_settling.specs.Lookups.{AreLookups};
 
 use reo_flags::Flags;

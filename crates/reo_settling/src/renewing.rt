@@ -13,7 +13,7 @@ use reo_knots::Knots;
 use reo_net_base::Primitive;
 use reo_net_circuit::Circuit;
 use reo_net_ends::Ends;
-use reo_planning::tables_of;
+use reo_part_plans::tables_of;
 use reo_values::{List, NoMemory};
 use std::alloc::Global;
 

@@ -4,7 +4,7 @@ use crate::checks::is;
 use crate::objects::{three_files, words_of};
 use reo_io::{SureFiles, SureSink, SureSource};
 use reo_top::reo;
-use reo_values::{Bytes, NoMemory};
+use reo_values::{Bytes, List, NoMemory};
 use std::alloc::Global;
 use std::str;
 use std::test::Fail;
@@ -67,15 +67,25 @@ struct Whole {
     status: u8,
 }
 
-/// The command on a circuit, a script and a proof.
-fn whole_of(alloc: Global, words: &str, case: &Case, proof: &str) -> Result<Whole, NoMemory> {
-    let words = words_of(alloc, words)?;
-    let mut files = SureFiles::new(alloc, three_files(alloc, case.circuit, case.script, proof)?)?;
-    let mut source = SureSource::new(alloc, Bytes::new(alloc))?;
+/// What the command has written of these files, and its status.
+fn written_of(
+    alloc: Global,
+    words: &List<Bytes>,
+    files: &mut SureFiles,
+    source: &mut SureSource,
+) -> Result<Whole, NoMemory> {
     let mut sink = SureSink::new(alloc, MOST_WRITTEN)?;
-    let status = reo(alloc, &words, &mut files, &mut source, &mut sink).code;
+    let status = reo(alloc, words, files, source, &mut sink).code;
     let text = Bytes::from_slice(alloc, sink.bytes())?;
     Ok(Whole { text, status })
+}
+
+/// The command on a circuit, a script and a proof.
+fn whole_of(alloc: Global, words: &str, case: &Case, proof: &str) -> Result<Whole, NoMemory> {
+    let given = three_files(alloc, case.circuit, case.script, proof)?;
+    let mut files = SureFiles::new(alloc, given)?;
+    let mut source = SureSource::new(alloc, Bytes::new(alloc))?;
+    written_of(alloc, &words_of(alloc, words)?, &mut files, &mut source)
 }
 
 /// Whether what `prove` writes of a case has its status, and `verify-proof` the verdict on it.

@@ -1,10 +1,10 @@
 use Rattle.std.proofs.Common.{refl}
 use Rattle.reo_flat.specs.Flat.{ports_of}
-use Rattle.reo_live_tests.proofs.Ports.{just_ports}
+use Rattle.reo_at_ports.proofs.Begun.{just_ports}
 use Rattle.reo_live_tests.proofs.circuits.live_of.Goals as goal
 
 pub new-requires-clause-just : goal.new-requires-clause-just
 new-requires-clause-just c =
     let program = c.in_ok-program.program in
     let fit = c.flat_ports_fit.ensures program c.in_ok-program.ensures.spelled c.in-Ok.ensures.exact.no_break in
-    rw c.in-Ok.ensures.circuit (just_ports _ (ports_of program.declarations) _ fit.ports refl)
+    rw c.in-Ok.ensures.circuit (just_ports _ _ (ports_of program.declarations) refl fit.ports)

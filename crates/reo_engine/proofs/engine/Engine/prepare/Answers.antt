@@ -2,9 +2,8 @@ use Rattle.std.proofs.Common.{◌≡◌, ◌+◌, ℕ, Bool, true, false, length
 use Rattle.reo_net_base.specs.Net.{Net, net_of}
 use Rattle.reo_knots.specs.Knots.{knot_count}
 use Rattle.reo_weights.proofs.CauseLemmas.{within_not_over}
-use Rattle.reo_planning.specs.declared.kept.Kept.{Kept}
-use Rattle.reo_planning.specs.Keeping.{AllServe, is_open}
-use Rattle.reo_planning.proofs.Parting.{all_served}
+use Rattle.reo_settling.specs.Plannings.{Kept, AllServe, is_open}
+use Rattle.reo_settling.proofs.Plannings.{all_served}
 use Rattle.reo_engine.specs.Flows.{MayBeRows}
 use Rattle.reo_engine.proofs.FlowsLemmas.{told_by_test}
 use Rattle.reo_engine.proofs.engine.Engine.prepare.Goals as goal

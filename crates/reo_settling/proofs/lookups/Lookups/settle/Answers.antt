@@ -2,11 +2,8 @@ use Rattle.std.proofs.Common.{◌≡◌, ◌∙◌, ◌+◌, ◌<◌, ◌≤◌,
 use Rattle.reo_net_base.specs.Net.{Net, net_of}
 use Rattle.reo_knots.specs.Knots.{in_knot, knot_count}
 use Rattle.reo_rounds.specs.Plans.{IsPlanFault}
-use Rattle.reo_planning.specs.Planned.{ArePlanned, weight_left}
-use Rattle.reo_planning.proofs.Parting.{least_over, planned_more, planned_none}
-use Rattle.reo_planning.proofs.Firsts.{planned_fit}
-use Rattle.reo_planning.proofs.Passing.{passed_on}
-use Rattle.reo_planning.proofs.Summing.{ticked_all, ticked_more, ticked_over}
+use Rattle.reo_part_plans.specs.Plannings.{ArePlanned, weight_left}
+use Rattle.reo_part_plans.proofs.Plannings.{least_over, planned_more, planned_none, planned_fit, passed_on, ticked_all, ticked_more, ticked_over}
 use Rattle.reo_settling.proofs.HeldTables.{forgotten_steady, refused_by, told_is, untold_is}
 use Rattle.reo_settling.proofs.Listed.{flowing_same, listed_all, listed_more, listed_none, told_of_some}
 use Rattle.reo_settling.proofs.Served.{AreSettledFar, settled_next}

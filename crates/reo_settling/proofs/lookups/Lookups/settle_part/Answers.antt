@@ -1,6 +1,6 @@
 use Rattle.std.proofs.Common.{◌∙◌, ◌+◌, ◌≤◌, Bool, cond, sym, subst}
 use Rattle.reo_net_base.specs.Net.{Net, net_of}
-use Rattle.reo_planning.proofs.Parting.{served}
+use Rattle.reo_part_plans.proofs.Plannings.{served}
 use Rattle.reo_settling.proofs.Listed.{first_in_tables}
 use Rattle.reo_settling.proofs.lookups.Lookups.settle_part.Goals as goal
 
