@@ -64,7 +64,6 @@ impl Connector {
     /// `TooLong`: exactly where the text has more than `MOST_BYTES` bytes. `Refused`, with the line
     /// and the words of the cause: exactly where it says no circuit that is accepted. `NoMemory` is
     /// out of memory. `Missed` never comes.
-    #[tactic(auto, using(crate::proofs::OpenedLemmas::opened_ok, crate::proofs::OpenedLemmas::opened_err, crate::proofs::OpenedLemmas::opened_long, crate::proofs::OpenedLemmas::opened_none))]
     pub fn open(alloc: Global, text: &[u8]) -> Result<Connector, Stop>
         ensures { IsOpened text.now result }
     {

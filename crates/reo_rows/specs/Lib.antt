@@ -10,3 +10,4 @@ pub mod Beginning
 pub mod Sifting
 pub mod Usage
 pub mod Seeing
+pub mod Ends

@@ -60,7 +60,7 @@ pub(crate) fn lets_in<P: Primitive>(
 }
 
 /// Whether an item is what a row gives with flow at a joint for what it takes.
-#[tactic(auto, unfolding(reo_joint_values::specs::Fitting::given_for, reo_net_laws::specs::Ends::mark_in))]
+#[tactic(auto, unfolding(crate::specs::Ends::given_for, crate::specs::Ends::mark_in))]
 pub(crate) fn gives_item<P: Primitive>(
     circuit: &Circuit<P>,
     side: usize,
