@@ -2,12 +2,12 @@
 ghost use Rattle.std.specs.Prelude.{◌≡◌, ◌<◌, MatchOption, length};
 ghost use Rattle.reo_net_base.specs.Sides.{AreRowsOf};
 ghost use Rattle.reo_net_base.specs.Net.{net_of};
-ghost use Rattle.reo_net_colouring.specs.Filled.{AllFit};
+ghost use Rattle.reo_net.specs.colouring.Filled.{AllFit};
 ghost use Rattle.reo_checker.specs.Faults.{IsItemFault};
 
+use reo_net::fits;
 use reo_net_base::Primitive;
 use reo_net_circuit::Circuit;
-use reo_net_colouring::fits;
 use reo_values::Value;
 
 /// The least joint that lacks its item, has one without flow, or has an item that the giver's row

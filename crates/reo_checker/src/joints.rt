@@ -2,7 +2,7 @@
 ghost use Rattle.std.specs.Prelude.{◌≡◌, ◌+◌, ◌<◌, ◌≤◌, MatchOption, length};
 ghost use Rattle.reo_net_base.specs.Sides.{AreRowsOf};
 ghost use Rattle.reo_net_base.specs.Net.{net_of};
-ghost use Rattle.reo_net_colouring.specs.Filled.{AllMatch};
+ghost use Rattle.reo_net.specs.colouring.Filled.{AllMatch};
 ghost use Rattle.reo_checker.specs.Faults.{IsJointFault};
 ghost use Rattle.reo_checker.specs.Chunks.{MatchWithin, IsClashWithin, mark_byte};
 

@@ -8,8 +8,8 @@ use Rattle.reo_trees.specs.declared.programs_two.AnyProgram.TheVariants.{One, Tw
 use Rattle.reo_trees.specs.Says.{SaysProgram}
 use Rattle.reo_trees.specs.SaysTwo.{SaysTwo, SaysAny}
 use Rattle.reo_parser.specs.declared.fault.ParseFault.{ParseFault}
-use Rattle.reo_parser_two.proofs.Only.{same}
-use Rattle.reo_expand_base.specs.Expansion.{expansion}
+use Rattle.reo_parser.proofs.two.Only.{same}
+use Rattle.reo_expand.specs.base.Expansion.{expansion}
 use Rattle.reo_circuit_texts.specs.Circuits.{SaysCircuit}
 
 ok_is : (a b : AnyProgram) → ◌≡◌ {A = Result AnyProgram ParseFault} (Ok a) (Ok b) → a ≡ b

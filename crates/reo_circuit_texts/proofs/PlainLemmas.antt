@@ -7,12 +7,12 @@ use Rattle.reo_trees.specs.declared.programs.Connector.{Connector}
 use Rattle.reo_trees.specs.declared.programs.Declaration.{Declaration}
 use Rattle.reo_trees.specs.declared.programs.Declaration.TheVariants as declarations
 use Rattle.reo_trees.specs.declared.programs.Program.{Program}
-use Rattle.reo_trees_laws.specs.Spelled.{IsSpelledForm, IsSpelledConnector, IsSpelledDeclaration, IsSpelled}
-use Rattle.reo_trees_laws.specs.Few.{HasAtMost, HasItemsWithin}
-use Rattle.reo_trees_laws.proofs.Loose.{name_plain}
+use Rattle.reo_syntax_laws.specs.trees_laws.Spelled.{IsSpelledForm, IsSpelledConnector, IsSpelledDeclaration, IsSpelled}
+use Rattle.reo_syntax_laws.specs.trees_laws.Few.{HasAtMost, HasItemsWithin}
+use Rattle.reo_syntax_laws.proofs.trees_laws.Loose.{name_plain}
 use Rattle.reo_rules.specs.Scopes.{connectors_of}
-use Rattle.reo_flatten_laws.specs.Plain.{HasPlainName, HasPlainNames}
-use Rattle.reo_flatten_laws.proofs.Each.{by_recursion, each_of}
+use Rattle.reo_flat.specs.flatten_laws.Plain.{HasPlainName, HasPlainNames}
+use Rattle.reo_flat.proofs.flatten_laws.Each.{by_recursion, each_of}
 
 form_plain : (f : Form) → IsSpelledForm f → HasPlainName f
 form_plain (forms.Node name term) spelled = spelled.0

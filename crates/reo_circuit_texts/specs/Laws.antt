@@ -2,9 +2,9 @@
 use Rattle.std.specs.Prelude.{◌≡◌, ◌<◌, ◌^◌, ℕ, List, length}
 use Rattle.std.specs.List.{All}
 use Rattle.reo_trees.specs.declared.programs.Program.{Program}
-use Rattle.reo_trees_laws.specs.Spelled.{IsSpelled}
+use Rattle.reo_syntax_laws.specs.trees_laws.Spelled.{IsSpelled}
 use Rattle.reo_rules.specs.Scopes.{connectors_of}
-use Rattle.reo_flatten_laws.specs.Plain.{HasPlainNames}
+use Rattle.reo_flat.specs.flatten_laws.Plain.{HasPlainNames}
 use Rattle.reo_circuit_texts.specs.Circuits.{SaysCircuit}
 
 -- The program is spelled as a text or an expansion has it.

@@ -1,10 +1,9 @@
 //! Laws of what the texts of circuits say. Each function calls laws alone: its contract is a law.
 ghost use Rattle.reo_circuit_texts.specs.Laws.{CircuitNamesArePlain, CircuitsAreSpelled, OneCircuitProgram};
 
-use reo_expand_laws::{expansions_are_few, expansions_are_spelled};
-use reo_flatten_laws::names_are_plain;
-use reo_trees_laws::programs_are_spelled;
-use reo_trees_two_laws::programs_two_are_spelled;
+use reo_expand::{expansions_are_few, expansions_are_spelled};
+use reo_flat::names_are_plain;
+use reo_syntax_laws::{programs_are_spelled, programs_two_are_spelled};
 
 /// The program that a text says, or stands for, is spelled as such programs are.
 pub fn circuits_are_spelled()

@@ -4,8 +4,8 @@ use Rattle.std.specs.Prelude.{Some, Ok, Err}
 use Rattle.reo_trees.specs.declared.programs_two.AnyProgram.{AnyProgram}
 use Rattle.reo_trees.specs.SaysTwo.{SaysAny}
 use Rattle.reo_parser.specs.declared.fault.ParseFault.{ParseFault}
-use Rattle.reo_parser_two.specs.ParsedAny.{AnswersAny}
-use Rattle.reo_parser_two.proofs.Only.{same}
+use Rattle.reo_parser.specs.two.ParsedAny.{AnswersAny}
+use Rattle.reo_parser.proofs.two.Only.{same}
 use Rattle.reo_circuit_texts.proofs.OneLemmas.{one_any}
 use Rattle.reo_command.specs.declared.refusal.Refusal.{Refusal}
 use Rattle.reo_command.specs.declared.role.Role.TheVariants.{Circuit}

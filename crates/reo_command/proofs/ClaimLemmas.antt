@@ -3,10 +3,10 @@ use Rattle.std.proofs.Common.{◌≡◌, ◌∙◌, ℕ, ◌<◌, ◌^◌, false
 use Rattle.std.specs.Prelude.{Result, Ok, Err}
 use Rattle.reo_circuit_texts.specs.Laws.{CircuitsAreSpelled, CircuitNamesArePlain}
 use Rattle.reo_net_base.specs.declared.port.Port.{Port}
-use Rattle.reo_run_texts.specs.Laws.{PortsAreTold}
-use Rattle.reo_trace_texts.specs.Laws.{OneAnswer}
-use Rattle.reo_trace_texts.specs.Lines.{AreTold}
-use Rattle.reo_trace_texts.specs.Texts.{IsTraceText}
+use Rattle.reo_runs.specs.run_texts.Laws.{PortsAreTold}
+use Rattle.reo_trace_reader.specs.texts.Laws.{OneAnswer}
+use Rattle.reo_trace_reader.specs.texts.Lines.{AreTold}
+use Rattle.reo_trace_reader.specs.texts.Texts.{IsTraceText}
 use Rattle.reo_command.specs.declared.command.Command.TheVariants.{Verify, VerifyProof}
 use Rattle.reo_command.specs.declared.role.Role.{Role}
 use Rattle.reo_command.specs.declared.role.Role.TheVariants.{Trace, Proof}

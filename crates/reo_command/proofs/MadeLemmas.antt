@@ -2,7 +2,7 @@
 use Rattle.std.proofs.Common.{◌≡◌, inl, inr, ℕ, List, [], ◌∷◌, refl}
 use Rattle.reo_gen.specs.Circuits.{circuit_text}
 use Rattle.reo_gen.specs.Scripts.{script_text}
-use Rattle.reo_gen_laws.specs.Accepted.{IsAcceptedWork}
+use Rattle.reo_gen.specs.laws.Accepted.{IsAcceptedWork}
 use Rattle.reo_command.specs.declared.stop.Stop.{Stop}
 use Rattle.reo_command.specs.declared.stop.Stop.TheVariants.{Missed, TooLong, Refused, NoMemory}
 use Rattle.reo_command.specs.Fetched.{text}

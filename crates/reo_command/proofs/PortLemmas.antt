@@ -5,8 +5,8 @@ use Rattle.reo_net_base.specs.declared.port.Port.{Port}
 use Rattle.reo_kinds.specs.declared.kind.Kind.{Kind}
 use Rattle.reo_trees.specs.declared.programs.Program.{Program}
 use Rattle.reo_flat.specs.Flat.{wiring_of_program, ports_of}
-use Rattle.reo_run_premises.specs.FlatPorts.{ArePorts}
-use Rattle.reo_trace_texts.specs.Lines.{AreTold}
+use Rattle.reo_runs.specs.run_premises.FlatPorts.{ArePorts}
+use Rattle.reo_trace_reader.specs.texts.Lines.{AreTold}
 use Rattle.reo_command.specs.ReadSteps.{HasItsPorts}
 
 -- They are those of its program.

@@ -2,10 +2,10 @@
 use Rattle.std.proofs.Common.{◌≡◌, ◌∙◌, ℕ, List, sym, ap, refl}
 use Rattle.std.specs.Prelude.{Some, Ok, Err}
 use Rattle.reo_net_base.specs.declared.port.Port.{Port}
-use Rattle.reo_scripts.specs.declared.action.Script.{Script as Said}
-use Rattle.reo_scripts.specs.declared.fault.ScriptFault.{ScriptFault}
-use Rattle.reo_scripts.specs.declared.fault.ScriptFault.TheVariants as faults
-use Rattle.reo_scripts.specs.ScriptAnswers.{Answers}
+use Rattle.reo_script.specs.declared.scripts.action.Script.{Script as Said}
+use Rattle.reo_script.specs.declared.scripts.fault.ScriptFault.{ScriptFault}
+use Rattle.reo_script.specs.declared.scripts.fault.ScriptFault.TheVariants as faults
+use Rattle.reo_script.specs.scripts.ScriptAnswers.{Answers}
 use Rattle.reo_script.proofs.Only.{only}
 use Rattle.reo_command.specs.declared.refusal.Refusal.{Refusal}
 use Rattle.reo_command.specs.declared.role.Role.TheVariants.{Script}

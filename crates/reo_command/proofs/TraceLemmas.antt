@@ -2,10 +2,10 @@
 use Rattle.std.proofs.Common.{◌≡◌, ◌∙◌, ℕ, List, sym, ap, refl}
 use Rattle.std.specs.Prelude.{Some, Ok, Err}
 use Rattle.reo_net_base.specs.declared.port.Port.{Port}
-use Rattle.reo_trace_texts.specs.declared.trace.Trace.{Trace as Told}
-use Rattle.reo_trace_texts.specs.Laws.{OneAnswer}
-use Rattle.reo_trace_texts.specs.Lines.{AreTold}
-use Rattle.reo_trace_texts.specs.Texts.{IsTraceText}
+use Rattle.reo_trace_reader.specs.declared.texts.trace.Trace.{Trace as Told}
+use Rattle.reo_trace_reader.specs.texts.Laws.{OneAnswer}
+use Rattle.reo_trace_reader.specs.texts.Lines.{AreTold}
+use Rattle.reo_trace_reader.specs.texts.Texts.{IsTraceText}
 use Rattle.reo_command.specs.declared.refusal.Refusal.{Refusal}
 use Rattle.reo_command.specs.declared.role.Role.TheVariants.{Trace}
 use Rattle.reo_command.specs.declared.stop.Stop.{Stop}

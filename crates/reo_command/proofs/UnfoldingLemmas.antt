@@ -4,8 +4,8 @@ use Rattle.std.specs.Prelude.{Result, Ok, Err, Some, IfOk}
 use Rattle.reo_trees.specs.declared.programs.Program.{Program}
 use Rattle.reo_trees.specs.declared.programs_two.ProgramTwo.{ProgramTwo}
 use Rattle.reo_trees.specs.declared.programs_two.AnyProgram.TheVariants.{One, Two}
-use Rattle.reo_expand_base.specs.declared.fault.ExpandFault.{ExpandFault}
-use Rattle.reo_expand_base.specs.Steps.{walk_of, IsExpanded}
+use Rattle.reo_expand.specs.declared.base.fault.ExpandFault.{ExpandFault}
+use Rattle.reo_expand.specs.base.Steps.{walk_of, IsExpanded}
 use Rattle.reo_command.specs.ReadSteps.{IsExpandedAs}
 use Rattle.reo_circuit_texts.specs.Circuits.{SaysCircuit}
 use Rattle.reo_circuit_texts.proofs.OneLemmas.{one_of_two, not_both}

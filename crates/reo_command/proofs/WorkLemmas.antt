@@ -1,8 +1,8 @@
 -- What a run reads in its files, and what stops it.
 use Rattle.std.proofs.Common.{◌≡◌, ℕ, false, List, [], ◌∷◌, ◌++◌, length, sym, subst, ap, refl}
 use Rattle.std.specs.Prelude.{Ok}
-use Rattle.reo_scripts.specs.declared.action.Script.{Script as Said}
-use Rattle.reo_scripts.specs.ScriptAnswers.{Answers}
+use Rattle.reo_script.specs.declared.scripts.action.Script.{Script as Said}
+use Rattle.reo_script.specs.scripts.ScriptAnswers.{Answers}
 use Rattle.reo_command.specs.declared.command.Command.TheVariants.{Run}
 use Rattle.reo_command.specs.declared.role.Role.TheVariants.{Circuit, Script}
 use Rattle.reo_command.specs.declared.stop.Stop.{Stop}

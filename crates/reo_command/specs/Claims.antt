@@ -1,8 +1,8 @@
 -- Texts that are said to be of a run: traces, and proofs.
 use Rattle.std.specs.Prelude.{ℕ, ◌≡◌, List, [], ◌∷◌}
 use Rattle.reo_net_base.specs.declared.port.Port.{Port}
-use Rattle.reo_trace_texts.specs.declared.trace.Trace.{Trace}
-use Rattle.reo_trace_texts.specs.Texts.{IsTraceText}
+use Rattle.reo_trace_reader.specs.declared.texts.trace.Trace.{Trace}
+use Rattle.reo_trace_reader.specs.texts.Texts.{IsTraceText}
 use Rattle.reo_command.specs.declared.role.Role.{Role}
 use Rattle.reo_command.specs.declared.role.Role.TheVariants as roles
 use Rattle.reo_command.specs.declared.refusal.Refusal.{Refusal}

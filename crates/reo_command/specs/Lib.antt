@@ -13,3 +13,4 @@ pub mod Settings
 pub mod States
 pub mod Statuses
 pub mod Stops
+pub mod top_base

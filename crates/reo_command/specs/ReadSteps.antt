@@ -5,13 +5,13 @@ use Rattle.reo_net_base.specs.declared.port.Port.{Port}
 use Rattle.reo_kinds.specs.declared.kind.Kind.{Kind}
 use Rattle.reo_kinds.specs.Kinds.{port_state_of}
 use Rattle.reo_flatten.specs.declared.last.Flat.{Flat}
-use Rattle.reo_run_premises.specs.PortsOf.{HasPorts, AreFree}
+use Rattle.reo_runs.specs.run_premises.PortsOf.{HasPorts, AreFree}
 use Rattle.reo_script.specs.Places.{ArePortsOf}
-use Rattle.reo_scripts.specs.declared.action.Script.{Script}
-use Rattle.reo_scripts.specs.ScriptAnswers.{Answers}
-use Rattle.reo_trace_texts.specs.declared.trace.Trace.{Trace}
-use Rattle.reo_trace_texts.specs.Lines.{AreTold}
-use Rattle.reo_trace_texts.specs.Texts.{IsTraceText}
+use Rattle.reo_script.specs.declared.scripts.action.Script.{Script}
+use Rattle.reo_script.specs.scripts.ScriptAnswers.{Answers}
+use Rattle.reo_trace_reader.specs.declared.texts.trace.Trace.{Trace}
+use Rattle.reo_trace_reader.specs.texts.Lines.{AreTold}
+use Rattle.reo_trace_reader.specs.texts.Texts.{IsTraceText}
 use Rattle.reo_command.specs.declared.refusal.Refusal.{Refusal}
 use Rattle.reo_command.specs.declared.role.Role.{Role}
 use Rattle.reo_command.specs.declared.role.Role.TheVariants as roles
@@ -19,8 +19,8 @@ use Rattle.reo_command.specs.declared.stop.Stop.{Stop}
 use Rattle.reo_command.specs.declared.stop.Stop.TheVariants.{Missed, TooLong, Refused, NoMemory}
 use Rattle.reo_trees.specs.declared.programs.Program.{Program}
 use Rattle.reo_trees.specs.declared.programs_two.ProgramTwo.{ProgramTwo}
-use Rattle.reo_expand_base.specs.declared.fault.ExpandFault.{ExpandFault}
-use Rattle.reo_expand_base.specs.Steps.{IsExpanded, walk_of}
+use Rattle.reo_expand.specs.declared.base.fault.ExpandFault.{ExpandFault}
+use Rattle.reo_expand.specs.base.Steps.{IsExpanded, walk_of}
 use Rattle.reo_command.specs.Refusals.{expand_refusal}
 use Rattle.reo_command.specs.Claims.{Claimed, IsProofText, NoTextStops, TraceStops}
 use Rattle.reo_command.specs.Fetched.{Content}

@@ -9,8 +9,8 @@ use Rattle.reo_trees.specs.SaysTwo.{SaysAny}
 use Rattle.reo_circuit_texts.specs.Circuits.{SaysCircuit}
 use Rattle.reo_flat.specs.Flat.{wiring_of_program, ports_of, nodes_of, homes_in}
 use Rattle.reo_flat.specs.Refusals.{IsAccepted}
-use Rattle.reo_scripts.specs.declared.action.Script.{Script}
-use Rattle.reo_scripts.specs.ScriptAnswers.{Answers}
+use Rattle.reo_script.specs.declared.scripts.action.Script.{Script}
+use Rattle.reo_script.specs.scripts.ScriptAnswers.{Answers}
 pub use Rattle.reo_runner.specs.Runs.{CanRun, kind_rules}
 use Rattle.reo_command.specs.declared.role.Role.{Role}
 use Rattle.reo_command.specs.declared.role.Role.TheVariants as roles

@@ -5,24 +5,24 @@ use Rattle.reo_lexer.specs.declared.token.LexFault.{LexFault}
 use Rattle.reo_lexer.specs.declared.token.LexFault.TheVariants as lexing
 use Rattle.reo_parser.specs.declared.fault.ParseFault.{ParseFault}
 use Rattle.reo_parser.specs.declared.fault.ParseFault.TheVariants as faults
-use Rattle.reo_parser_two.specs.ParsedAny.{AnswersAny}
+use Rattle.reo_parser.specs.two.ParsedAny.{AnswersAny}
 use Rattle.reo_trees.specs.declared.programs.Program.{Program}
 use Rattle.reo_trees.specs.declared.programs_two.ProgramTwo.{ProgramTwo}
 use Rattle.reo_trees.specs.SaysTwo.{SaysTwo}
-use Rattle.reo_expand_base.specs.declared.fault.ExpandFault.{ExpandFault}
-use Rattle.reo_expand_base.specs.declared.fault.ExpandFault.TheVariants as expansions
-use Rattle.reo_expand_base.specs.Steps.{walk_of}
+use Rattle.reo_expand.specs.declared.base.fault.ExpandFault.{ExpandFault}
+use Rattle.reo_expand.specs.declared.base.fault.ExpandFault.TheVariants as expansions
+use Rattle.reo_expand.specs.base.Steps.{walk_of}
 use Rattle.reo_circuit_texts.specs.Circuits.{SaysCircuit}
 use Rattle.reo_rules.specs.declared.fault.FlatFault.{FlatFault}
 use Rattle.reo_rules.specs.declared.fault.FlatFault.TheVariants as rules
 use Rattle.reo_flat.specs.Refusals.{IsRefused}
 use Rattle.reo_net_base.specs.declared.port.Port.{Port}
-use Rattle.reo_scripts.specs.declared.fault.ScriptFault.{ScriptFault}
-use Rattle.reo_scripts.specs.declared.fault.ScriptFault.TheVariants as scripts
-use Rattle.reo_scripts.specs.ScriptAnswers.{Answers as ScriptAnswers}
-use Rattle.reo_trace_texts.specs.declared.fault.TraceFault.{TraceFault}
-use Rattle.reo_trace_texts.specs.declared.fault.TraceFault.TheVariants as traces
-use Rattle.reo_trace_texts.specs.Answers.{Answers as TraceAnswers}
+use Rattle.reo_script.specs.declared.scripts.fault.ScriptFault.{ScriptFault}
+use Rattle.reo_script.specs.declared.scripts.fault.ScriptFault.TheVariants as scripts
+use Rattle.reo_script.specs.scripts.ScriptAnswers.{Answers as ScriptAnswers}
+use Rattle.reo_trace_reader.specs.declared.texts.fault.TraceFault.{TraceFault}
+use Rattle.reo_trace_reader.specs.declared.texts.fault.TraceFault.TheVariants as traces
+use Rattle.reo_trace_reader.specs.texts.Answers.{Answers as TraceAnswers}
 use Rattle.reo_command.specs.declared.refusal.Refusal.{Refusal}
 
 -- A cause on a line.

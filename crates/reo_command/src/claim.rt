@@ -3,8 +3,8 @@
 ghost use Rattle.std.specs.Prelude.{[], ◌∷◌, IfOk, map};
 ghost use Rattle.reo_kinds.specs.Kinds.{port_state_of};
 ghost use Rattle.reo_runner.specs.Runs.{CanRun};
-ghost use Rattle.reo_trace_texts.specs.Lines.{AreTold};
-ghost use Rattle.reo_verdicts.specs.Replays.{HasText};
+ghost use Rattle.reo_trace_reader.specs.texts.Lines.{AreTold};
+ghost use Rattle.reo_runs.specs.verdicts.Replays.{HasText};
 ghost use Rattle.reo_command.specs.declared.role.Role.TheVariants as roles;
 ghost use Rattle.reo_command.specs.Claims.{ReadsClaim, ReadsProof, StopsProof, StopsVerify};
 ghost use Rattle.reo_command.specs.Readings.{IsReadFrom};

@@ -16,6 +16,7 @@ mod setting;
 mod status;
 mod stop;
 mod texts;
+mod top_base;
 
 pub use amount::{Amount, size_of};
 pub use claim::{Claim, ProofClaim, read_claim, read_proof};
@@ -32,3 +33,4 @@ pub use status::{
     WRITE_FAULT,
 };
 pub use stop::Stop;
+pub use top_base::{answer, no_memory, refuse};

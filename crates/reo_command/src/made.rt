@@ -8,8 +8,7 @@ ghost use Rattle.reo_command.specs.ReadSteps.{IsStoppedBy, runnable_in};
 use crate::reading::Work;
 use crate::stop::Stop;
 use crate::texts::{circuit_of, script_of};
-use reo_gen::make;
-use reo_gen_laws::work_is_accepted;
+use reo_gen::{make, work_is_accepted};
 use reo_values::NoMemory;
 use std::alloc::Global;
 

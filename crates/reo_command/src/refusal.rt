@@ -2,12 +2,12 @@
 ghost use Rattle.std.specs.Prelude.{◌≡◌, ◌++◌, IfOk, OnOk, Some};
 ghost use Rattle.reo_command.specs.Refusals.{on_line, on_no_line, lex_refusal, parse_refusal, expand_refusal, flat_refusal, script_refusal, trace_refusal, line_text, refusal_text};
 
-use reo_expand_base::ExpandFault;
+use reo_expand::ExpandFault;
 use reo_lexer::LexFault;
 use reo_parser::ParseFault;
 use reo_rules::FlatFault;
-use reo_scripts::ScriptFault;
-use reo_trace_texts::TraceFault;
+use reo_script::ScriptFault;
+use reo_trace_reader::TraceFault;
 use reo_values::{Bytes, NoMemory};
 use std::alloc::Global;
 

@@ -5,7 +5,7 @@ use Rattle.std.specs.List.{position_from}
 use Rattle.std.proofs.lemmas.Iterator.Adapters.{position_from-zero}
 use Rattle.reo_net_base.specs.declared.port.Port.{Port}
 use Rattle.reo_rules.proofs.Mapped.{position-map}
-use Rattle.reo_scripts.specs.ScriptRules.{port_number}
+use Rattle.reo_script.specs.scripts.ScriptRules.{port_number}
 
 pub number_is : (ports : List Port) (name : List ℕ) (found : Option ℕ)
     → found ≡ position_from (λ (p : Port). bytes_eq name p.name) 0 ports → found ≡ port_number ports name

@@ -2,12 +2,12 @@
 ghost use Rattle.std.specs.Prelude.{◌≡◌, ◌≤◌, ◌^◌, length, bytes_eq};
 ghost use Rattle.std.specs.List.{position_from};
 ghost use Rattle.reo_net_base.specs.declared.port.Port.{Port as APort};
-ghost use Rattle.reo_scripts.specs.ScriptRules.{port_number};
-ghost use Rattle.reo_trace_texts.specs.Lines.{AreTold};
+ghost use Rattle.reo_script.specs.scripts.ScriptRules.{port_number};
+ghost use Rattle.reo_trace_reader.specs.texts.Lines.{AreTold};
 
-use reo_at_ports::Engine;
 use reo_kinds::Kind;
 use reo_net_base::{Port, Ports};
+use reo_runner::Engine;
 use std::marker::Model;
 
 /// A circuit text has at most so many bytes.
@@ -23,7 +23,7 @@ pub struct Connector {
 impl Model for Connector {
     ghost use Rattle.std.specs.Prelude.{◌≡◌, ◌≤◌, ◌^◌, length};
     ghost use Rattle.std.specs.Coded.{codes};
-    ghost use Rattle.reo_trace_texts.specs.Lines.{AreTold};
+    ghost use Rattle.reo_trace_reader.specs.texts.Lines.{AreTold};
     ghost use Rattle.reo_connector.specs.Held.{Held};
     ghost use Rattle.reo_values.specs.contracts.kindred.Kindred as kindred;
     ghost use Rattle.reo_kinds.specs.contracts.kind.Kind as kind;

@@ -9,10 +9,10 @@ ghost use Rattle.reo_rounds.specs.Offering.{AreJustPorts};
 ghost use Rattle.reo_connector.specs.Opening.{IsFlatRead, IsOpened, alone, begun};
 
 use crate::connector::{Connector, MOST_BYTES};
-use reo_at_ports::Engine;
 use reo_command::{Role, Stop, read_flat};
 use reo_flatten::Flat;
 use reo_io::{Named, SureFiles};
+use reo_runner::Engine;
 use reo_values::{Bytes, List, NoMemory};
 use std::alloc::Global;
 

@@ -7,10 +7,10 @@ use Rattle.reo_command.specs.Commands.{none_empty}
 use Rattle.reo_command.specs.States.{SinkState, FilesState, Change}
 use Rattle.reo_command.specs.Statuses.{IsAmong}
 use Rattle.reo_command.proofs.FetchLemmas.{none_fetched}
-use Rattle.reo_top_base.specs.Answered.{IsAnswered}
-use Rattle.reo_top_base.specs.Cases.{Refuses}
-use Rattle.reo_top_base.specs.Owed.{owed_by}
-use Rattle.reo_top_base.proofs.CaseLemmas.{line_cases, line_written, line_code, line_not_three}
+use Rattle.reo_command.specs.top_base.Answered.{IsAnswered}
+use Rattle.reo_command.specs.top_base.Cases.{Refuses}
+use Rattle.reo_command.specs.top_base.Owed.{owed_by}
+use Rattle.reo_command.proofs.top_base.CaseLemmas.{line_cases, line_written, line_code, line_not_three}
 use Rattle.reo_draw_command.specs.declared.words.Drawing.{Drawing}
 use Rattle.reo_draw_command.specs.declared.words.Drawing.TheVariants.{Circuit, Table, Round}
 use Rattle.reo_draw_command.specs.Answers.{owed_of, owed_for, AnsweredFor, Answered}

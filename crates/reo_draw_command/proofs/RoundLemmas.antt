@@ -2,7 +2,7 @@
 use Rattle.std.proofs.Common.{◌≡◌, ℕ, List, ◌∷◌, refl, subst, arith}
 use Rattle.std.specs.Prelude.{◌==◌, ◌||◌, ◌≢◌, true, false, IsTrue}
 use Rattle.std.specs.List.{list_any}
-use Rattle.reo_trace_texts.specs.declared.trace.Trace.{Trace}
+use Rattle.reo_trace_reader.specs.declared.texts.trace.Trace.{Trace}
 use Rattle.reo_runs.specs.Run.{start_of}
 use Rattle.reo_draw_replay.specs.declared.showing.Shown.{Shown}
 use Rattle.reo_draw_replay.specs.declared.showing.Shown.TheVariants.{Picture, NoRound, Refused}
@@ -13,7 +13,7 @@ use Rattle.reo_command.specs.Fetched.{Content}
 use Rattle.reo_command.specs.Stops.{stop_status}
 use Rattle.reo_command.specs.Statuses.{IsAmong}
 use Rattle.reo_command.proofs.ReadLemmas.{IsReadingAt}
-use Rattle.reo_top_base.proofs.ToldLemmas.{told_status, told_not_three}
+use Rattle.reo_command.proofs.top_base.ToldLemmas.{told_status, told_not_three}
 use Rattle.reo_draw_command.specs.DrawStatuses.{statuses_of_round, statuses_of_table}
 use Rattle.reo_draw_command.specs.Rounds.{IsNumberOf, IsShownFor, DrawsRound, shown_text, shown_status}
 use Rattle.reo_draw_command.proofs.NumberLemmas.{one_number}

@@ -1,16 +1,16 @@
 -- The table of a trace, as what is owed.
 use Rattle.std.proofs.Common.{ℕ, List, refl}
 use Rattle.std.specs.Prelude.{◌≢◌}
-use Rattle.reo_trace_texts.specs.declared.trace.Trace.{Trace}
-use Rattle.reo_verdicts.specs.declared.verdict.Verdict.{Verdict}
-use Rattle.reo_verdicts.specs.declared.verdict.Verdict.TheVariants.{Verified, Refused}
+use Rattle.reo_trace_reader.specs.declared.texts.trace.Trace.{Trace}
+use Rattle.reo_runs.specs.declared.verdicts.verdict.Verdict.{Verdict}
+use Rattle.reo_runs.specs.declared.verdicts.verdict.Verdict.TheVariants.{Verified, Refused}
 use Rattle.reo_command.specs.Claims.{Claimed}
 use Rattle.reo_command.specs.Statuses.{IsAmong}
-use Rattle.reo_top_base.proofs.ToldLemmas.{told_status, told_not_three}
-use Rattle.reo_top_verdicts.specs.Judged.{IsTraceJudged}
-use Rattle.reo_top_verdicts.specs.VerdictTexts.{verdict_status}
+use Rattle.reo_command.proofs.top_base.ToldLemmas.{told_status, told_not_three}
+use Rattle.reo_top.specs.verdicts.Judged.{IsTraceJudged}
+use Rattle.reo_top.specs.verdicts.VerdictTexts.{verdict_status}
 use Rattle.reo_draw_rounds.specs.Tables.{table_text}
-use Rattle.reo_top_verdicts.proofs.VerdictLemmas.{not_three}
+use Rattle.reo_top.proofs.verdicts.VerdictLemmas.{not_three}
 use Rattle.reo_draw_command.specs.DrawStatuses.{statuses_of_table}
 use Rattle.reo_draw_command.specs.Tabled.{tabled_text, TablesTrace}
 

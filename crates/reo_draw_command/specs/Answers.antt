@@ -6,9 +6,9 @@ use Rattle.reo_command.specs.Fetched.{Content}
 use Rattle.reo_command.specs.Readings.{ReadsCircuit, StopsCheck}
 use Rattle.reo_command.specs.States.{SinkState, FilesState, Change}
 use Rattle.reo_command.specs.Statuses.{words_refused}
-use Rattle.reo_top_base.specs.Answered.{IsAnswered}
-use Rattle.reo_top_base.specs.Outputs.{Outputs, IsLine}
-use Rattle.reo_top_base.specs.Owed.{owed_by}
+use Rattle.reo_command.specs.top_base.Answered.{IsAnswered}
+use Rattle.reo_command.specs.top_base.Outputs.{Outputs, IsLine}
+use Rattle.reo_command.specs.top_base.Owed.{owed_by}
 use Rattle.reo_draw_command.specs.declared.words.Drawing.{Drawing}
 use Rattle.reo_draw_command.specs.declared.words.Drawing.TheVariants.{Circuit, Table, Round}
 use Rattle.reo_draw_command.specs.Drawn.{DrawsCircuit}

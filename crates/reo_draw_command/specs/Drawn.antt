@@ -4,7 +4,7 @@ use Rattle.reo_drawing.specs.declared.picture.Scene.{Scene}
 use Rattle.reo_drawing.specs.Pictures.{picture_text}
 use Rattle.reo_command.specs.Readings.{FlatCircuit}
 use Rattle.reo_command.specs.Statuses.{done}
-use Rattle.reo_top_base.specs.Outputs.{Outputs, IsLine}
+use Rattle.reo_command.specs.top_base.Outputs.{Outputs, IsLine}
 
 -- What is shown where no round is.
 abbrev pub no_scene : Scene

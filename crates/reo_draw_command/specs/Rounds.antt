@@ -1,16 +1,16 @@
 -- What is owed of the picture of a round.
 use Rattle.std.specs.Prelude.{ℕ, ◌≡◌, ◌≢◌, ◌≤◌, ◌<◌, ◌^◌, ◌⊎◌, List, codes}
 use Rattle.std.specs.Fmt.{decimal}
-use Rattle.reo_trace_texts.specs.declared.trace.Trace.{Trace}
+use Rattle.reo_trace_reader.specs.declared.texts.trace.Trace.{Trace}
 use Rattle.reo_runs.specs.Run.{start_of}
-use Rattle.reo_verdicts.specs.declared.verdict.Verdict.TheVariants as verdicts
+use Rattle.reo_runs.specs.declared.verdicts.verdict.Verdict.TheVariants as verdicts
 use Rattle.reo_draw_replay.specs.declared.showing.Shown.{Shown}
 use Rattle.reo_draw_replay.specs.declared.showing.Shown.TheVariants.{Picture, NoRound, Refused}
 use Rattle.reo_draw_replay.specs.Shown.{IsShown}
 use Rattle.reo_command.specs.Claims.{Claimed}
 use Rattle.reo_command.specs.Statuses.{done, trace_refused}
-use Rattle.reo_top_base.specs.Outputs.{Outputs, IsLine}
-use Rattle.reo_top_verdicts.specs.VerdictTexts.{verdict_line}
+use Rattle.reo_command.specs.top_base.Outputs.{Outputs, IsLine}
+use Rattle.reo_top.specs.verdicts.VerdictTexts.{verdict_line}
 use Rattle.reo_draw_command.specs.DrawStatuses.{no_round}
 
 -- The number from 1 whose decimal text a word is, or 0 where it is that of none.

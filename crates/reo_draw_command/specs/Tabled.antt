@@ -1,12 +1,12 @@
 -- What is owed of the table of a trace.
 use Rattle.std.specs.Prelude.{ℕ, List}
-use Rattle.reo_trace_texts.specs.declared.trace.Trace.{Trace}
-use Rattle.reo_verdicts.specs.declared.verdict.Verdict.{Verdict}
-use Rattle.reo_verdicts.specs.declared.verdict.Verdict.TheVariants.{Verified, Refused}
+use Rattle.reo_trace_reader.specs.declared.texts.trace.Trace.{Trace}
+use Rattle.reo_runs.specs.declared.verdicts.verdict.Verdict.{Verdict}
+use Rattle.reo_runs.specs.declared.verdicts.verdict.Verdict.TheVariants.{Verified, Refused}
 use Rattle.reo_command.specs.Claims.{Claimed}
-use Rattle.reo_top_base.specs.Outputs.{Outputs, IsLine}
-use Rattle.reo_top_verdicts.specs.Judged.{IsTraceJudged}
-use Rattle.reo_top_verdicts.specs.VerdictTexts.{verdict_line, verdict_status}
+use Rattle.reo_command.specs.top_base.Outputs.{Outputs, IsLine}
+use Rattle.reo_top.specs.verdicts.Judged.{IsTraceJudged}
+use Rattle.reo_top.specs.verdicts.VerdictTexts.{verdict_line, verdict_status}
 use Rattle.reo_draw_rounds.specs.Tables.{table_text}
 
 -- The table of a trace that is verified, and else the line of the verdict.

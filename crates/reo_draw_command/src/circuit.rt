@@ -5,17 +5,16 @@ ghost use Rattle.reo_command.specs.Readings.{ReadsCircuit, StopsCheck};
 ghost use Rattle.reo_command.specs.ReadSteps.{circuit_in};
 ghost use Rattle.reo_command.specs.States.{files_change, sink_change};
 ghost use Rattle.reo_command.specs.Statuses.{IsAmong};
-ghost use Rattle.reo_top_base.specs.Answered.{IsAnswered};
-ghost use Rattle.reo_top_base.specs.Cases.{Cases, IsExact, IsFair, TellsFaults};
-ghost use Rattle.reo_top_base.specs.Owed.{owed_by};
+ghost use Rattle.reo_command.specs.top_base.Answered.{IsAnswered};
+ghost use Rattle.reo_command.specs.top_base.Cases.{Cases, IsExact, IsFair, TellsFaults};
+ghost use Rattle.reo_command.specs.top_base.Owed.{owed_by};
 ghost use Rattle.reo_draw_command.specs.Drawn.{DrawsCircuit, no_scene};
 ghost use Rattle.reo_draw_command.specs.DrawStatuses.{statuses_of_circuit};
 
-use reo_command::{DONE, Status, read_flat};
+use reo_command::{DONE, Status, answer, no_memory, read_flat, refuse};
 use reo_drawing::{Scene, picture_text};
 use reo_flatten::Flat;
 use reo_io::{Files, Sink};
-use reo_top_base::{answer, no_memory, refuse};
 use reo_values::{Bytes, List};
 use std::alloc::Global;
 

@@ -2,7 +2,7 @@
 ghost use Rattle.std.specs.Prelude.{◌≡◌, [], slice_index_or};
 ghost use Rattle.reo_command.specs.States.{files_change, sink_change};
 ghost use Rattle.reo_command.specs.Statuses.{IsAmong};
-ghost use Rattle.reo_top_base.specs.Cases.{IsFair, TellsFaults};
+ghost use Rattle.reo_command.specs.top_base.Cases.{IsFair, TellsFaults};
 ghost use Rattle.reo_draw_command.specs.Answers.{Answered};
 ghost use Rattle.reo_draw_command.specs.DrawStatuses.{statuses_for};
 ghost use Rattle.reo_draw_command.specs.Words.{drawing_of};
@@ -11,9 +11,8 @@ use crate::circuit::draw_circuit;
 use crate::round::draw_round;
 use crate::table::draw_table;
 use crate::words::{Drawing, drawing_of};
-use reo_command::{Status, WORDS_REFUSED};
+use reo_command::{Status, WORDS_REFUSED, answer};
 use reo_io::{Files, Sink};
-use reo_top_base::answer;
 use reo_values::{Bytes, List};
 use std::alloc::Global;
 

@@ -2,26 +2,25 @@
 ghost use Rattle.std.specs.Prelude.{◌≡◌, [], ◌∷◌, false, map, IfOk};
 ghost use Rattle.reo_kinds.specs.Kinds.{port_state_of};
 ghost use Rattle.reo_command.specs.Readings.{CanRun};
-ghost use Rattle.reo_verdicts.specs.Replays.{HasText};
+ghost use Rattle.reo_runs.specs.verdicts.Replays.{HasText};
 ghost use Rattle.reo_command.specs.declared.role.Role.TheVariants as roles;
 ghost use Rattle.reo_command.specs.Claims.{ReadsClaim, StopsVerify};
 ghost use Rattle.reo_command.specs.ReadSteps.{claimed_in};
 ghost use Rattle.reo_command.specs.States.{files_change, sink_change};
 ghost use Rattle.reo_command.specs.Statuses.{IsAmong};
-ghost use Rattle.reo_top_base.specs.Answered.{IsAnswered};
-ghost use Rattle.reo_top_base.specs.Cases.{Cases, IsExact, IsFair, TellsFaults};
-ghost use Rattle.reo_top_base.specs.Owed.{owed_by};
+ghost use Rattle.reo_command.specs.top_base.Answered.{IsAnswered};
+ghost use Rattle.reo_command.specs.top_base.Cases.{Cases, IsExact, IsFair, TellsFaults};
+ghost use Rattle.reo_command.specs.top_base.Owed.{owed_by};
 ghost use Rattle.reo_draw_command.specs.Tabled.{tabled_text, TablesTrace};
 ghost use Rattle.reo_draw_command.specs.DrawStatuses.{statuses_of_table};
 
 use reo_circuit_texts::{circuit_names_are_plain, circuits_are_spelled};
-use reo_command::{Claim, Status, Work, read_claim};
+use reo_command::{Claim, Status, Work, answer, no_memory, read_claim, refuse};
 use reo_draw_rounds::table_text;
 use reo_io::{Files, Sink};
-use reo_run_texts::ports_are_told;
-use reo_top_base::{answer, no_memory, refuse};
-use reo_top_verdicts::{Verdict, verdict_line, verdict_status, verify_trace};
-use reo_trace_texts::one_trace_answer;
+use reo_runs::ports_are_told;
+use reo_top::{Verdict, verdict_line, verdict_status, verify_trace};
+use reo_trace_reader::one_trace_answer;
 use reo_values::{Bytes, NoMemory};
 use std::alloc::Global;
 

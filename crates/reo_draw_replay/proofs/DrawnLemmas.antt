@@ -14,9 +14,9 @@ use Rattle.reo_trace.specs.declared.line.Ending.{Ending}
 use Rattle.reo_rounds.specs.declared.plan.Plan.{Plan}
 use Rattle.reo_rounds.specs.Ready.{ready}
 use Rattle.reo_runs.specs.Run.{Place}
-use Rattle.reo_at_ports.specs.Kinds.{kind_rules}
-use Rattle.reo_judging.specs.Judged.{IsColouringSaid, IsPlanShown}
-use Rattle.reo_judging.proofs.Cuts.{taken}
+use Rattle.reo_runner.specs.at_ports.Kinds.{kind_rules}
+use Rattle.reo_verify.specs.judging.Judged.{IsColouringSaid, IsPlanShown}
+use Rattle.reo_verify.proofs.judging.Cuts.{taken}
 use Rattle.reo_verify.proofs.SoFar.{SoFar}
 use Rattle.reo_draw_rounds.specs.Rounds.{round_picture}
 use Rattle.reo_draw_replay.specs.Drawn.{IsDrawn}

@@ -11,10 +11,10 @@ use Rattle.reo_rounds.specs.Order.{HasOrder}
 use Rattle.reo_rounds.proofs.OrderLemmas.{KeepsShape, ready_order, round_order}
 use Rattle.reo_runs.specs.Round.{State, RoundOf, net_ready, advanced}
 use Rattle.reo_runs.specs.Run.{Place, Leads, place_after}
-use Rattle.reo_verdicts.specs.Replays.{colourings}
-use Rattle.reo_verdicts.specs.Said.{AreSaid}
-use Rattle.reo_verdicts.proofs.WrongLemmas.{one_colouring_said}
-use Rattle.reo_judging.specs.Judged.{IsColouringSaid}
+use Rattle.reo_runs.specs.verdicts.Replays.{colourings}
+use Rattle.reo_runs.specs.verdicts.Said.{AreSaid}
+use Rattle.reo_runs.proofs.verdicts.WrongLemmas.{one_colouring_said}
+use Rattle.reo_verify.specs.judging.Judged.{IsColouringSaid}
 use Rattle.reo_draw_replay.specs.Rounds.{IsRound}
 
 -- Two places that are one, before the same lines.

@@ -6,17 +6,17 @@ use Rattle.reo_net_base.specs.Net.{net_of}
 use Rattle.reo_kinds.specs.declared.kind.Kind.{Kind}
 use Rattle.reo_trace.specs.declared.line.RoundLine.{RoundLine}
 use Rattle.reo_trace.specs.declared.line.Ending.{Ending}
-use Rattle.reo_trace_texts.specs.declared.trace.Trace.{Trace}
+use Rattle.reo_trace_reader.specs.declared.texts.trace.Trace.{Trace}
 use Rattle.reo_rounds.specs.Order.{HasOrder}
 use Rattle.reo_runs.specs.Run.{Place, IsRun}
-use Rattle.reo_at_ports.specs.Kinds.{kind_rules}
-use Rattle.reo_verdicts.specs.declared.verdict.Refusal.{Refusal}
-use Rattle.reo_verdicts.specs.declared.verdict.Verdict.{Verdict}
-use Rattle.reo_verdicts.specs.declared.verdict.Verdict.TheVariants as verdicts
-use Rattle.reo_verdicts.specs.Laws.{OneVerdict}
-use Rattle.reo_verdicts.specs.Replays.{colourings}
-use Rattle.reo_verdicts.specs.Said.{jammed}
-use Rattle.reo_verdicts.specs.Verdicts.{IsRefused, IsVerdict}
+use Rattle.reo_runner.specs.at_ports.Kinds.{kind_rules}
+use Rattle.reo_runs.specs.declared.verdicts.verdict.Refusal.{Refusal}
+use Rattle.reo_runs.specs.declared.verdicts.verdict.Verdict.{Verdict}
+use Rattle.reo_runs.specs.declared.verdicts.verdict.Verdict.TheVariants as verdicts
+use Rattle.reo_runs.specs.verdicts.Laws.{OneVerdict}
+use Rattle.reo_runs.specs.verdicts.Replays.{colourings}
+use Rattle.reo_runs.specs.verdicts.Said.{jammed}
+use Rattle.reo_runs.specs.verdicts.Verdicts.{IsRefused, IsVerdict}
 use Rattle.reo_verify.specs.Replayed.{AreReplayed}
 use Rattle.reo_verify.proofs.VerdictLemmas.{verdict_by}
 use Rattle.reo_draw_rounds.specs.Rounds.{round_picture}

@@ -7,8 +7,8 @@ use Rattle.reo_trace.specs.declared.line.RoundLine.{RoundLine}
 use Rattle.reo_rounds.specs.Rules.{Rules}
 use Rattle.reo_rounds.specs.Ready.{ready}
 use Rattle.reo_runs.specs.Run.{Place, Leads}
-use Rattle.reo_verdicts.specs.Replays.{colourings}
-use Rattle.reo_judging.specs.Judged.{IsColouringSaid}
+use Rattle.reo_runs.specs.verdicts.Replays.{colourings}
+use Rattle.reo_verify.specs.judging.Judged.{IsColouringSaid}
 
 -- The round of a number: the lines before it are rounds of a run from the start, this is the circuit that they have left, with
 -- the offers of the components, and the line says this colouring of it.

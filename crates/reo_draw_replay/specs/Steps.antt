@@ -6,12 +6,12 @@ use Rattle.reo_net_base.specs.Net.{Wiring, net_of}
 use Rattle.reo_kinds.specs.declared.kind.Kind.{Kind}
 use Rattle.reo_trace.specs.declared.line.RoundLine.{RoundLine}
 use Rattle.reo_trace.specs.declared.line.Ending.{Ending}
-use Rattle.reo_trace_texts.specs.declared.trace.Trace.{Trace}
+use Rattle.reo_trace_reader.specs.declared.texts.trace.Trace.{Trace}
 use Rattle.reo_runs.specs.Run.{Place}
-use Rattle.reo_at_ports.specs.Kinds.{kind_rules}
-use Rattle.reo_verdicts.specs.declared.verdict.Refusal.TheVariants as refusals
-use Rattle.reo_judging.specs.Ends.{IsEndOf}
-use Rattle.reo_judging.specs.Judged.{IsColouringSaid}
+use Rattle.reo_runner.specs.at_ports.Kinds.{kind_rules}
+use Rattle.reo_runs.specs.declared.verdicts.verdict.Refusal.TheVariants as refusals
+use Rattle.reo_verify.specs.judging.Ends.{IsEndOf}
+use Rattle.reo_verify.specs.judging.Judged.{IsColouringSaid}
 use Rattle.reo_verify.specs.Replayed.{IsCutOff}
 use Rattle.reo_draw_rounds.specs.Rounds.{round_picture}
 use Rattle.reo_draw_replay.specs.declared.replay.Halt.{Halt}

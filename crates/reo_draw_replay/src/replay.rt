@@ -5,28 +5,28 @@ ghost use Rattle.reo_net_base.specs.Net.{Wiring, all_sides, net_of};
 ghost use Rattle.reo_kinds.specs.declared.kind.Kind.{Kind as AKind};
 ghost use Rattle.reo_kinds.specs.Kinds.{behaviour_of, port_state_of};
 ghost use Rattle.reo_players.specs.Offers.{offer_for};
-ghost use Rattle.reo_trace_texts.specs.Lines.{AreLines};
+ghost use Rattle.reo_trace_reader.specs.texts.Lines.{AreLines};
 ghost use Rattle.reo_rounds.specs.Ready.{ready};
 ghost use Rattle.reo_runs.specs.Run.{Place, start_of};
-ghost use Rattle.reo_at_ports.specs.Kinds.{kind_rules};
-ghost use Rattle.reo_at_ports.specs.Pending.{IsButForOffers};
-ghost use Rattle.reo_at_ports.specs.Between.{AreBetween};
-ghost use Rattle.reo_at_ports.specs.Runnable.{CanRun};
+ghost use Rattle.reo_runner.specs.at_ports.Kinds.{kind_rules};
+ghost use Rattle.reo_runner.specs.at_ports.Pending.{IsButForOffers};
+ghost use Rattle.reo_runner.specs.at_ports.Between.{AreBetween};
+ghost use Rattle.reo_runner.specs.at_ports.Runnable.{CanRun};
 ghost use Rattle.reo_verify.specs.Replayed.{IsReplayed, IsNoRound, AreReplayed};
 ghost use Rattle.reo_draw_rounds.specs.Rounds.{round_picture};
 ghost use Rattle.reo_draw_replay.specs.Steps.{IsHalted, IsDrawnIf, IsDrawnWithin};
 
-use reo_at_ports::{Engine, carry_out, offer_all, release_run};
 use reo_draw_rounds::round_picture;
-use reo_judging::{Stop, begins, plan_of, refusal_of};
 use reo_kinds::Kind;
 use reo_net_base::{Colouring, Ports};
 use reo_net_circuit::Circuit;
 use reo_players::Players;
-use reo_scripts::Script;
+use reo_runner::{Engine, carry_out, offer_all, release_run};
+use reo_runs::Refusal;
+use reo_script::Script;
 use reo_trace::{Ending, RoundLine};
 use reo_values::{Bytes, NoMemory};
-use reo_verdicts::Refusal;
+use reo_verify::{Stop, begins, plan_of, refusal_of};
 use std::alloc::Global;
 
 /// Why a replay did not come to its last line.

@@ -2,8 +2,8 @@
 ghost use Rattle.std.specs.Prelude.{◌≡◌, IfOk, map};
 ghost use Rattle.reo_kinds.specs.Kinds.{port_state_of};
 ghost use Rattle.reo_runs.specs.Run.{start_of};
-ghost use Rattle.reo_at_ports.specs.Runnable.{CanRun};
-ghost use Rattle.reo_verdicts.specs.Replays.{HasText};
+ghost use Rattle.reo_runner.specs.at_ports.Runnable.{CanRun};
+ghost use Rattle.reo_runs.specs.verdicts.Replays.{HasText};
 ghost use Rattle.reo_draw_replay.specs.declared.showing.Shown.{Shown as AShown};
 ghost use Rattle.reo_draw_replay.specs.Shown.{IsShown};
 ghost use Rattle.reo_draw_replay.specs.Steps.{IsShownAt};
@@ -11,16 +11,15 @@ ghost use Rattle.reo_draw_replay.specs.Steps.{IsShownAt};
 use crate::laws::one_round;
 use crate::replay::{Halt, replay};
 use reo_flatten::Flat;
-use reo_judging::ends_as;
 use reo_kinds::Kind;
 use reo_net_base::Ports;
 use reo_net_circuit::Circuit;
-use reo_runs::known_order;
-use reo_scripts::Script;
+use reo_runs::{Refusal, known_order, one_verdict};
+use reo_script::Script;
 use reo_trace::Ending;
-use reo_trace_texts::Trace;
+use reo_trace_reader::Trace;
 use reo_values::{Bytes, NoMemory};
-use reo_verdicts::{Refusal, one_verdict};
+use reo_verify::ends_as;
 use std::alloc::Global;
 
 /// What there is to show of a trace.

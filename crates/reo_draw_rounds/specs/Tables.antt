@@ -4,7 +4,7 @@ use Rattle.std.specs.List.{flat_map, range_with_len}
 use Rattle.reo_net_base.specs.declared.port.Port.{Port}
 use Rattle.reo_trace.specs.Spaced.{spaced}
 use Rattle.reo_trace.specs.EndingText.{ending_text}
-use Rattle.reo_trace_texts.specs.declared.trace.Trace.{Trace}
+use Rattle.reo_trace_reader.specs.declared.texts.trace.Trace.{Trace}
 use Rattle.reo_draw_rounds.specs.Columns.{columns_of}
 
 -- A column is as wide as its longest cell.

@@ -6,7 +6,7 @@ ghost use Rattle.reo_draw_rounds.specs.Tables.{width_of, cell_at, padded, cells_
 use crate::columns::columns_of;
 use reo_net_base::Port;
 use reo_trace::ending_line_text;
-use reo_trace_texts::Trace;
+use reo_trace_reader::Trace;
 use reo_values::{Bytes, List, NoMemory};
 use std::alloc::Global;
 

@@ -6,8 +6,8 @@ use Rattle.reo_net_base.specs.declared.joint.End.{End}
 use Rattle.reo_net_base.specs.declared.joint.Joint.{Joint}
 use Rattle.reo_net_base.specs.declared.mark.Mark.{Mark}
 use Rattle.reo_net_base.specs.declared.mark.Mark.TheVariants.{F, G, J}
-use Rattle.reo_drawing_labels.specs.Escape.{label}
-use Rattle.reo_drawing_labels.specs.Items.{item_text}
+use Rattle.reo_drawing.specs.label_texts.Escape.{label}
+use Rattle.reo_drawing.specs.label_texts.Items.{item_text}
 use Rattle.reo_drawing.specs.declared.marks.JointMarks.{JointMarks}
 use Rattle.reo_drawing.specs.declared.strand.Strand.{Strand}
 use Rattle.reo_drawing.specs.Strands.{style_text, sink_arrow, source_arrow, is_inside, is_back}

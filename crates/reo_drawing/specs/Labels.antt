@@ -9,8 +9,8 @@ use Rattle.reo_buffers.specs.Stored.{Stored}
 use Rattle.reo_kinds.specs.declared.kind.WriterPort.{WriterPort}
 use Rattle.reo_kinds.specs.declared.kind.Kind.{Kind}
 use Rattle.reo_kinds.specs.declared.kind.Kind.TheVariants.{Writer, Taker, AsyncDrain, Store, Shift, Variable, Quota, Filter, Map}
-use Rattle.reo_drawing_labels.specs.Items.{item_text}
-use Rattle.reo_drawing_labels.specs.Exprs.{expr_text}
+use Rattle.reo_drawing.specs.label_texts.Items.{item_text}
+use Rattle.reo_drawing.specs.label_texts.Exprs.{expr_text}
 
 -- The item that is offered at a port, if one is.
 abbrev pub offered_text : Kindred → Option Value → List ℕ

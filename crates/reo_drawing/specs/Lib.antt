@@ -4,3 +4,4 @@ pub mod Labels
 pub mod Vertices
 pub mod Joints
 pub mod Pictures
+pub mod label_texts

@@ -5,7 +5,7 @@ use Rattle.reo_values.specs.declared.value.Value.{Value}
 use Rattle.reo_net_base.specs.declared.joint.Joint.{Joint}
 use Rattle.reo_net_base.specs.declared.port.Port.{Port}
 use Rattle.reo_kinds.specs.declared.kind.Kind.{Kind}
-use Rattle.reo_drawing_labels.specs.Escape.{label}
+use Rattle.reo_drawing.specs.label_texts.Escape.{label}
 use Rattle.reo_drawing.specs.declared.marks.JointMarks.{JointMarks}
 use Rattle.reo_drawing.specs.declared.picture.Scene.{Scene}
 use Rattle.reo_drawing.specs.Joints.{joint_line}

@@ -3,7 +3,7 @@ use Rattle.std.specs.Prelude.{ℕ, ◌++◌, cond, Bool, List, [], codes}
 use Rattle.std.specs.Fmt.{decimal}
 use Rattle.reo_kinds.specs.declared.kind.Kind.{Kind}
 use Rattle.reo_kinds.specs.declared.kind.Kind.TheVariants.{Writer, Taker, Sync, Lossy, SyncDrain, AsyncDrain, Store, Shift, Variable, Quota, Filter, Map, Merger, Replicator}
-use Rattle.reo_drawing_labels.specs.Escape.{label}
+use Rattle.reo_drawing.specs.label_texts.Escape.{label}
 use Rattle.reo_drawing.specs.Labels.{kind_text}
 
 -- The shape of a primitive.

@@ -3,9 +3,9 @@ ghost use Rattle.std.specs.Prelude.{◌≡◌, ◌++◌, OnOk, [], option_copied
 ghost use Rattle.reo_drawing.specs.Joints.{giver_mark, taker_mark, arrow_text, mark_arrow, mark_width, attributes_text, link_text, member_text, giver_text, onward_text, backward_text, taker_text, item_point, still_point, marked_point, point_text, place_text, spot_text, sides_text, joint_line};
 ghost use Rattle.reo_drawing.specs.Strands.{source_arrow};
 
+use crate::label_texts::{append_item, append_label, append_number};
 use crate::marks::JointMarks;
 use crate::strand::Strand;
-use reo_drawing_labels::{append_item, append_label, append_number};
 use reo_net_base::{End, Joint, Mark};
 use reo_values::{Bytes, NoMemory, Value};
 use std::alloc::Global;

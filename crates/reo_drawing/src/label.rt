@@ -3,8 +3,8 @@ ghost use Rattle.std.specs.Prelude.{◌≡◌, ◌++◌, OnOk};
 ghost use Rattle.std.specs.List.{flat_map};
 ghost use Rattle.reo_drawing.specs.Labels.{offer_text, take_text, line_text, lines_text, size_text, buffer_text, variable_text, kind_text};
 
+use crate::label_texts::{append_expr, append_item, append_number};
 use reo_buffers::Buffer;
-use reo_drawing_labels::{append_expr, append_item, append_number};
 use reo_kinds::{Kind, WriterPort};
 use reo_values::{Bytes, NoMemory, Value, value_text};
 use std::alloc::Global;

@@ -5,10 +5,12 @@
 
 mod joint;
 mod label;
+mod label_texts;
 mod marks;
 mod picture;
 mod strand;
 mod vertex;
 
+pub use label_texts::{append_expr, append_item, append_label, append_number, labels_stay_shut};
 pub use marks::JointMarks;
 pub use picture::{Scene, picture_text};

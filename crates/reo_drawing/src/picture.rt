@@ -3,10 +3,10 @@ ghost use Rattle.std.specs.Prelude.{◌≡◌, ◌++◌, IfOk, OnOk, slice_get, 
 ghost use Rattle.reo_drawing.specs.Pictures.{node_line, node_lines, name_of, primitive_lines, item_at, joint_lines, head_text, picture_text};
 
 use crate::joint::append_joint;
+use crate::label_texts::{append_label, append_number};
 use crate::marks::JointMarks;
 use crate::strand::strand_of;
 use crate::vertex::append_vertex;
-use reo_drawing_labels::{append_label, append_number};
 use reo_kinds::Kind;
 use reo_net_base::{Joint, Port};
 use reo_values::{Bytes, List, NoMemory, Value};

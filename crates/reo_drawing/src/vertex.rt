@@ -3,7 +3,7 @@ ghost use Rattle.std.specs.Prelude.{◌≡◌, ◌++◌, OnOk};
 ghost use Rattle.reo_drawing.specs.Vertices.{shape_text, lost_text, vertex_line};
 
 use crate::label::append_kind;
-use reo_drawing_labels::{append_label, append_number};
+use crate::label_texts::{append_label, append_number};
 use reo_kinds::Kind;
 use reo_values::{Bytes, NoMemory};
 use std::alloc::Global;

@@ -15,10 +15,10 @@ use Rattle.reo_net_laws.proofs.FirstInside.{first_inside}
 use Rattle.reo_net_laws.proofs.OneFirst.{one_inside}
 use Rattle.reo_net_laws.proofs.Sides.{side_at_place, side_in_range}
 use Rattle.reo_knots.specs.Knots.{Knotted, AreKnots, in_knot, knot_count}
-use Rattle.reo_still.specs.Still.{IsStill}
+use Rattle.reo_weights.specs.still.Still.{IsStill}
 use Rattle.reo_settling.specs.Plannings.{Kept, IsKept, is_moving, is_settled, AreApart, AreBetweenUnsettled, AreFewer, AreMarkedUnsettled, AreMovingUnsettled, AreUnsettled, IsMarked, part_at}
 use Rattle.reo_settling.proofs.Plannings.{mark_same, number_is, fewer_none, fewer_twice}
-use Rattle.reo_stepping.specs.Changes.{AreThoseThatFlowed, is_changed}
+use Rattle.reo_flows.specs.stepping.Changes.{AreThoseThatFlowed, is_changed}
 use Rattle.reo_engine.proofs.Resting.{in_own}
 
 -- Parts that move are not settled any more: to unsettle them again changes nothing.

@@ -21,20 +21,20 @@ use Rattle.reo_net_laws.specs.Jams.{jams}
 use Rattle.reo_net_laws.proofs.Jams.{jams_whole}
 use Rattle.reo_net_laws.proofs.OneFirst.{one_inside}
 use Rattle.reo_net_laws.proofs.Sides.{Owner, owner_of, owner_side}
-use Rattle.reo_cells.specs.declared.cells.Cells.{Cells}
-use Rattle.reo_cells.specs.Cells.{AreCells, AreShown, IsShown, code_at}
-use Rattle.reo_cells.specs.Texts.{jam_code}
-use Rattle.reo_cells.proofs.Laid.{cells_same}
+use Rattle.reo_trace.specs.declared.cells.cells.Cells.{Cells}
+use Rattle.reo_trace.specs.cells.Cells.{AreCells, AreShown, IsShown, code_at}
+use Rattle.reo_trace.specs.cells.Texts.{jam_code}
+use Rattle.reo_trace.proofs.cells.Laid.{cells_same}
 use Rattle.reo_knots.specs.Knots.{Knotted, AreKnots, in_knot, knot_count}
-use Rattle.reo_flowing.specs.Flowing.{AreFlowingIn, AreFlowingOf}
-use Rattle.reo_still.proofs.Together.{parts_make_first}
+use Rattle.reo_flows.specs.flowing.Flowing.{AreFlowingIn, AreFlowingOf}
+use Rattle.reo_weights.proofs.still.Together.{parts_make_first}
 use Rattle.reo_mark_search.proofs.Parts.{side_here, side_listed}
 use Rattle.reo_weights.proofs.CauseLemmas.{within_not_over}
 use Rattle.reo_settling.specs.Plannings.{Kept, AllServe, IsKept, is_settled, ArePlanned, AreFewer, IsElsewhere, part_at}
 use Rattle.reo_settling.proofs.Plannings.{told_by_joints, number_is, all_served, count_same}
 use Rattle.reo_joint_values.specs.Standing.{giver_of, no_joint}
-use Rattle.reo_stepping.specs.Clearing.{ComesNoItem}
-use Rattle.reo_stepping.specs.Flowing.{AreFlowing}
+use Rattle.reo_flows.specs.stepping.Clearing.{ComesNoItem}
+use Rattle.reo_flows.specs.stepping.Flowing.{AreFlowing}
 use Rattle.reo_standing.specs.Feeds.{AreFeeds}
 use Rattle.reo_standing.proofs.FeedLemmas.{feeds_same}
 use Rattle.reo_standing.specs.Filling.{AreHeldAmong, AreMoving, HaveColouring}

@@ -10,15 +10,15 @@ use Rattle.reo_net_base.specs.Shapes.{SameNetShape, TreatAlike}
 use Rattle.reo_net_base.specs.Step.{change_at}
 use Rattle.reo_net_base.specs.Wired.{IsWired}
 use Rattle.reo_net_circuit.proofs.Cases.{eq_cases}
-use Rattle.reo_net_ends.specs.Ends.{AreEnds}
+use Rattle.reo_net_circuit.specs.found_ends.Ends.{AreEnds}
 use Rattle.reo_knots.specs.Knots.{Knotted, AreKnots}
 use Rattle.reo_settling.specs.Plannings.{Kept, is_settled, IsKept, AreFewer, AreMarkedUnsettled, AreMovingUnsettled, IsElsewhere, IsUnsettled, part_at}
 use Rattle.reo_settling.proofs.Plannings.{kept_elsewhere, kept_fewer, kept_later, fewer_none, fewer_twice, knots_stay}
 use Rattle.reo_settling.specs.declared.lookups.Lookups.{Lookups}
 use Rattle.reo_settling.specs.Lookups.{AreLookups}
 use Rattle.reo_settling.proofs.HeldTables.{lookups_stay}
-use Rattle.reo_stepping.specs.Changes.{is_changed}
-use Rattle.reo_stepping.proofs.Far.{ends_kept}
+use Rattle.reo_flows.specs.stepping.Changes.{is_changed}
+use Rattle.reo_flows.proofs.stepping.Far.{ends_kept}
 use Rattle.reo_engine.specs.Changes.{OthersStay}
 use Rattle.reo_engine.specs.Engine.{IsLookedUp}
 use Rattle.reo_engine.specs.Settled.{StaySettled}

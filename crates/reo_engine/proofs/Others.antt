@@ -13,8 +13,8 @@ use Rattle.reo_net_base.specs.Net.{Net, Wiring, net_of, behaviour_at}
 use Rattle.reo_net_base.specs.Step.{all_chosen, all_taken, chosen_for, settled_list, stepped, taken_for}
 use Rattle.reo_net_base.specs.Wired.{IsWired}
 use Rattle.reo_net_circuit.proofs.Cases.{lt_cases}
-use Rattle.reo_stepping.specs.Changes.{AreThoseThatFlowed}
-use Rattle.reo_stepping.proofs.QuietLemmas.{IsStill, nothing_taken, quiet_rows}
+use Rattle.reo_flows.specs.stepping.Changes.{AreThoseThatFlowed}
+use Rattle.reo_flows.proofs.stepping.QuietLemmas.{IsStill, nothing_taken, quiet_rows}
 use Rattle.reo_engine.specs.Changes.{OthersStay}
 
 -- What settles to itself stays.

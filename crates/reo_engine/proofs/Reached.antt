@@ -12,8 +12,8 @@ use Rattle.reo_net_base.specs.Wired.{IsWired}
 use Rattle.reo_net_base.proofs.Marks.{giver_flows}
 use Rattle.reo_net_circuit.proofs.Cases.{eq_cases}
 use Rattle.reo_net_laws.proofs.Joined.{joint_of}
-use Rattle.reo_stepping.specs.Changes.{AreThoseThatFlowed, HasFlow, is_changed}
-use Rattle.reo_stepping.proofs.FlowLemmas.{no_joint, IsBeside, set_both, with_item}
+use Rattle.reo_flows.specs.stepping.Changes.{AreThoseThatFlowed, HasFlow, is_changed}
+use Rattle.reo_flows.proofs.stepping.FlowLemmas.{no_joint, IsBeside, set_both, with_item}
 
 -- One of the first so many joints has an item, and an end at a primitive.
 pub record IsReached (joints : List Joint) (items : List (Option Value)) (count i : ℕ) : Type 0 where

@@ -2,7 +2,7 @@
 use Rattle.std.specs.Prelude.{ℕ, ◌+◌, Bool, List}
 use Rattle.reo_net_base.specs.Behaviour.{Behaviour}
 use Rattle.reo_net_base.specs.Net.{Net, Wiring, net_of}
-use Rattle.reo_net_ends.specs.Ends.{AreEnds}
+use Rattle.reo_net_circuit.specs.found_ends.Ends.{AreEnds}
 use Rattle.reo_knots.specs.Knots.{Knotted, AreKnots}
 use Rattle.reo_settling.specs.Plannings.{Kept, IsKept}
 

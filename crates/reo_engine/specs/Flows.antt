@@ -3,8 +3,8 @@ use Rattle.std.specs.Prelude.{ℕ, ◌<◌, ◌≡◌, ◌&&◌, Bool, not, true
 use Rattle.reo_values.specs.declared.value.Value.{Value}
 use Rattle.reo_net_base.specs.Net.{Net}
 use Rattle.reo_net_base.specs.Sides.{side_count}
-use Rattle.reo_cells.specs.declared.cells.Cells.{Cells}
-use Rattle.reo_cells.specs.Cells.{AreCells, IsShown}
+use Rattle.reo_trace.specs.declared.cells.cells.Cells.{Cells}
+use Rattle.reo_trace.specs.cells.Cells.{AreCells, IsShown}
 use Rattle.reo_knots.specs.Knots.{Knotted, knot_count}
 use Rattle.reo_settling.specs.Plannings.{Kept, is_settled}
 use Rattle.reo_standing.specs.Feeds.{AreFeeds}

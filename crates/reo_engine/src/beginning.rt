@@ -1,7 +1,7 @@
 //! What an engine begins with.
 ghost use Rattle.std.specs.Prelude.{◌≡◌, true, IfOk, length, replicate};
 ghost use Rattle.reo_net_base.specs.Net.{net_of};
-ghost use Rattle.reo_net_ends.specs.Ends.{AreEnds};
+ghost use Rattle.reo_net_circuit.specs.found_ends.Ends.{AreEnds};
 ghost use Rattle.reo_knots.specs.Knots.{AreKnots};
 ghost use Rattle.reo_settling.specs.Plannings.{Kept as KeptRows, IsKept};
 ghost use Rattle.reo_settling.specs.Lookups.{AreLookups};
@@ -13,8 +13,7 @@ use crate::goers::Goers;
 use reo_flags::Flags;
 use reo_knots::Knots;
 use reo_net_base::Primitive;
-use reo_net_circuit::Circuit;
-use reo_net_ends::{Ends, ends_of};
+use reo_net_circuit::{Circuit, Ends, ends_of};
 use reo_settling::{Kept, Lookups};
 use reo_values::NoMemory;
 use std::alloc::Global;

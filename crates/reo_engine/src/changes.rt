@@ -3,7 +3,7 @@ ghost use Rattle.std.specs.Prelude.{◌≡◌, ◌<◌, true, length, set};
 ghost use Rattle.reo_net_base.specs.Net.{net_of};
 ghost use Rattle.reo_net_base.specs.Step.{change_at};
 ghost use Rattle.reo_net_base.specs.Colouring.{IsColouring};
-ghost use Rattle.reo_stepping.specs.Changes.{AreThoseThatFlowed};
+ghost use Rattle.reo_flows.specs.stepping.Changes.{AreThoseThatFlowed};
 
 use reo_flags::Flags;
 use reo_net_base::{Joint, Primitive};

@@ -6,9 +6,9 @@ ghost use Rattle.reo_net_laws.specs.Jams.{jams};
 ghost use Rattle.reo_net_base.specs.Colouring.{IsColouring};
 ghost use Rattle.reo_rounds.specs.Plans.{jammed_sides, ShowsItsOwn, Suits};
 
+use reo_net::{are_moves, is_colouring};
 use reo_net_base::{Colouring, Primitive};
 use reo_net_circuit::{Circuit, moves};
-use reo_net_colouring::{are_moves, is_colouring};
 use reo_rounds::Plan;
 use reo_trace::is_idle;
 use reo_values::NoMemory;

@@ -1,20 +1,19 @@
 //! Rows that are kept, brought up to date.
 ghost use Rattle.std.specs.Prelude.{◌≡◌, ◌<◌, ◌≤◌, ◌+◌, ◌^◌, ℕ, true, None, IfOk, OnOk, OnErr, MatchResult};
 ghost use Rattle.reo_net_base.specs.Net.{net_of};
-ghost use Rattle.reo_net_ends.specs.Ends.{AreEnds};
+ghost use Rattle.reo_net_circuit.specs.found_ends.Ends.{AreEnds};
 ghost use Rattle.reo_knots.specs.Knots.{AreKnots, knot_count};
 ghost use Rattle.reo_rounds.specs.Plans.{IsPlanFault};
 ghost use Rattle.reo_settling.specs.Plannings.{AllServe, IsKept, AreWeights, sum_below, weight_left};
 ghost use Rattle.reo_settling.specs.Lookups.{AreLookups};
-ghost use Rattle.reo_cells.specs.Cells.{AreShown};
+ghost use Rattle.reo_trace.specs.cells.Cells.{AreShown};
 ghost use Rattle.reo_engine.specs.Flows.{AreFlows, MayBeRows};
 ghost use Rattle.reo_engine.specs.Stood.{AreRenewed};
 
 use crate::flows::{Flows, flag_shown, show_rest, take_rows};
 use reo_knots::Knots;
 use reo_net_base::Primitive;
-use reo_net_circuit::Circuit;
-use reo_net_ends::Ends;
+use reo_net_circuit::{Circuit, Ends};
 use reo_rounds::PlanFault;
 use reo_settling::{Kept, Lookups};
 use reo_steps::Steps;

@@ -6,7 +6,7 @@ ghost use Rattle.reo_rounds.specs.Plans.{IsPlan, IsPlanFault, Suits};
 ghost use Rattle.reo_knots.specs.Knots.{knot_count};
 ghost use Rattle.reo_settling.specs.Plannings.{AllServe, AreWeights, sum_below, weight_left};
 ghost use Rattle.reo_engine.specs.Engine.{net_now};
-ghost use Rattle.reo_stepping.specs.Changes.{AreThoseThatFlowed};
+ghost use Rattle.reo_flows.specs.stepping.Changes.{AreThoseThatFlowed};
 ghost use Rattle.reo_engine.specs.Changes.{OthersStay};
 ghost use Rattle.reo_engine.specs.Isolation.{AreFirstInParts};
 ghost use Rattle.reo_engine.specs.Settled.{StaySettled};

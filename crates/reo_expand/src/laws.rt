@@ -1,12 +1,6 @@
-//! Laws of the expansion. Each function is empty: its contract is a law.
-ghost use Rattle.reo_expand.specs.Laws.{OneExpansion, ExpandedOrRefused};
+//! Laws of the programs that programs of the second version stand for. Each function is empty: its
+//! contract is a law.
 
-/// No program stands for two, and none that stands for one is refused, but for want of memory.
-pub fn one_expansion()
-    ensures { OneExpansion }
-{}
+mod laws;
 
-/// Each program stands for a program, or has one first refusal.
-pub fn expanded_or_refused()
-    ensures { ExpandedOrRefused }
-{}
+pub use laws::{expansions_are_few, expansions_are_spelled};

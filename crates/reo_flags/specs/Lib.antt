@@ -1,3 +1,4 @@
 pub mod Bits
 pub mod Next
 pub mod Where
+pub mod dues

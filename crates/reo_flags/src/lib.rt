@@ -2,7 +2,9 @@
 //! call but `new` takes memory.
 #![tactic(auto)]
 
+mod dues;
 mod flags;
 mod words;
 
+pub use dues::{Dues, NEVER};
 pub use flags::Flags;

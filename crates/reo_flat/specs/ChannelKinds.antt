@@ -9,7 +9,7 @@ use Rattle.reo_kinds.specs.declared.kind.Kind.{Kind}
 use Rattle.reo_kinds.specs.declared.kind.Kind.TheVariants as primitives
 use Rattle.reo_trees.specs.declared.items.Channel.{Channel}
 use Rattle.reo_trees.specs.declared.items.Channel.TheVariants as channels
-use Rattle.reo_literals.specs.Items.{item_of, items_of}
+use Rattle.reo_rules.specs.literals.Items.{item_of, items_of}
 use Rattle.reo_rules.specs.Types.{Typed}
 use Rattle.reo_rules.specs.Terms.{expr_of}
 use Rattle.reo_rules.specs.Channels.{literals_of}

@@ -6,3 +6,4 @@ pub mod Flat
 pub mod Sizes
 pub mod Counts
 pub mod Refusals
+pub mod flatten_laws

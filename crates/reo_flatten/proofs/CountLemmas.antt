@@ -12,7 +12,7 @@ use Rattle.reo_rules.specs.Judged.{IsFirst}
 use Rattle.reo_rules.specs.Scopes.{connector_names, parameter_names}
 use Rattle.reo_rules.specs.Types.{types_of}
 use Rattle.reo_flat.specs.Counts.{IsSizesOf, AreSizes}
-use Rattle.reo_flatten_unfold.proofs.Positions.{found_within}
+use Rattle.reo_unfold.proofs.Positions.{found_within}
 use Rattle.reo_flatten.proofs.MainLemmas.{main_meaning}
 use Rattle.reo_flat.specs.declared.sizes.Sizes.{Sizes}
 use Rattle.reo_flat.specs.Unfolding.{Placed, Meaning, no_meaning, meaning_named, meanings_of}

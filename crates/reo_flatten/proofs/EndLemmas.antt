@@ -13,10 +13,10 @@ use Rattle.reo_kinds.specs.declared.kind.Kind.{Kind}
 use Rattle.reo_kinds.specs.Kinds.{behaviour_of}
 use Rattle.reo_flat.specs.Unfolding.{Placed}
 use Rattle.reo_flat.specs.Ends.{ends_in, ends_from}
-use Rattle.reo_flatten_unfold.proofs.ListLemmas.{take_next}
+use Rattle.reo_unfold.proofs.ListLemmas.{take_next}
 use Rattle.reo_rules.specs.Lists.{where_true}
 use Rattle.reo_rules.specs.Touches.{bool_eq}
-use Rattle.reo_flatten_unfold.proofs.Positions.{before_first, place_none}
+use Rattle.reo_unfold.proofs.Positions.{before_first, place_none}
 use Rattle.reo_flatten.specs.NodeEnds.{placed_with, name_at, Grows, one_at}
 use Rattle.std.proofs.lemmas.Bool.{false_from_ne_true as differ_false}
 pub use Rattle.reo_rules.proofs.Distinct.{new_name}

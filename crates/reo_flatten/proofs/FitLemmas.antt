@@ -4,7 +4,7 @@ use Rattle.std.specs.Prelude.{option_map, unwrap_or}
 use Rattle.std.specs.List.{All, flat_map}
 use Rattle.std.proofs.lemmas.Bool.{ltb-false}
 use Rattle.std.proofs.lemmas.Option.{slice_get_within, get_or_from_slice_get}
-use Rattle.reo_trees_laws.specs.Spelled.{IsSpelled, IsSpelledForm, IsSpelledConnector, IsSpelledDeclaration}
+use Rattle.reo_syntax_laws.specs.trees_laws.Spelled.{IsSpelled, IsSpelledForm, IsSpelledConnector, IsSpelledDeclaration}
 use Rattle.reo_trees.specs.declared.types.Shape as shape
 use Rattle.reo_trees.specs.declared.types.Shape.{Shape}
 use Rattle.reo_trees.specs.declared.types.TypeTerm.{TypeTerm}
@@ -16,7 +16,7 @@ use Rattle.reo_trees.specs.declared.programs.Parameter.{Parameter}
 use Rattle.reo_trees.specs.declared.programs.Declaration.{Declaration}
 use Rattle.reo_trees.specs.declared.programs.Declaration.TheVariants as declarations
 use Rattle.reo_trees.specs.declared.programs.Program.{Program}
-use Rattle.reo_literals.specs.Items.{HasFewNames}
+use Rattle.reo_rules.specs.literals.Items.{HasFewNames}
 use Rattle.reo_rules.specs.declared.fault.FlatFault.{FlatFault}
 use Rattle.reo_rules.specs.declared.fault.FlatFault.TheVariants as faults
 use Rattle.reo_rules.specs.Lists.{each_after, where_true}
@@ -27,12 +27,12 @@ use Rattle.reo_rules.specs.Ranges.{is_out, range_in_type, range_in_item, range_i
 use Rattle.reo_rules.specs.Scopes.{connector_names}
 use Rattle.reo_rules.proofs.AfterLemmas.{right_none, flat_map-append, where_false}
 use Rattle.reo_rules.proofs.Declared.{types_after-append}
-use Rattle.reo_flatten_unfold.specs.Fits.{IsFew, FormFits, AreFit}
-use Rattle.reo_flatten_unfold.proofs.ListLemmas.{each_none}
-use Rattle.reo_flatten_unfold.proofs.TypeLemmas.{few_pair}
+use Rattle.reo_unfold.specs.Fits.{IsFew, FormFits, AreFit}
+use Rattle.reo_unfold.proofs.ListLemmas.{each_none}
+use Rattle.reo_unfold.proofs.TypeLemmas.{few_pair}
 use Rattle.reo_values.specs.declared.kindred.Kindred.TheVariants as kinds
 use Rattle.reo_values.proofs.Sequences.{left_none}
-use Rattle.reo_trees_laws.proofs.Lists.{all-more as all_one}
+use Rattle.reo_syntax_laws.proofs.trees_laws.Lists.{all-more as all_one}
 
 -- No break means that no written type in it has too many names.
 abbrev range_part : List Typed → TypeTerm → List FlatFault

@@ -14,14 +14,14 @@ use Rattle.reo_rules.specs.declared.fault.FlatFault.TheVariants as faults
 use Rattle.reo_rules.specs.Lists.{where_true}
 use Rattle.reo_flat.specs.Flat.{main_of, main_parameters}
 use Rattle.reo_flat.specs.Sizes.{no_main}
-use Rattle.reo_flatten_unfold.specs.declared.ground.Stand.{Stand}
-use Rattle.reo_flatten_unfold.specs.Ground.{IsStand, IsGround}
-use Rattle.reo_flatten_unfold.specs.declared.ground.Ground.{Ground}
+use Rattle.reo_unfold.specs.declared.ground.Stand.{Stand}
+use Rattle.reo_unfold.specs.Ground.{IsStand, IsGround}
+use Rattle.reo_unfold.specs.declared.ground.Ground.{Ground}
 use Rattle.std.proofs.lemmas.List.{length-map}
 use Rattle.reo_values.proofs.Sequences.{cut_at}
-use Rattle.reo_flatten_unfold.proofs.ListLemmas.{slice_get-right}
-use Rattle.reo_flatten_unfold.proofs.Positions.{found_at, found_within, found_nowhere}
-use Rattle.reo_flatten_unfold.proofs.GroundLemmas.{names_of-meanings}
+use Rattle.reo_unfold.proofs.ListLemmas.{slice_get-right}
+use Rattle.reo_unfold.proofs.Positions.{found_at, found_within, found_nowhere}
+use Rattle.reo_unfold.proofs.GroundLemmas.{names_of-meanings}
 
 -- It has a stand.
 pub main_within : (ds : List Declaration) (g : Ground) (number : ℕ) → IsGround ds g → position (bytes_eq (codes "main")) g.connectors ≡ Some number → number < length g.stands

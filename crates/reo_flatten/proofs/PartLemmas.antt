@@ -12,7 +12,7 @@ use Rattle.reo_flat.specs.Unfolding.{Placed}
 use Rattle.reo_flat.specs.Flat.{own_kinds, placed_of, nodes_of, primitives_of, joints_in}
 use Rattle.reo_flat.specs.Sizes.{no_main, too_many}
 use Rattle.reo_flat.specs.Refusals.{breaks, IsAccepted, IsRefused}
-use Rattle.reo_flatten_laws.specs.Nodes.{IsServed}
+use Rattle.reo_flat.specs.flatten_laws.Nodes.{IsServed}
 use Rattle.reo_flatten.specs.declared.ends.NodeEnds.{NodeEnds}
 use Rattle.reo_flatten.specs.declared.last.Flat.{Flat}
 use Rattle.reo_flatten.specs.declared.unfolded.Begun.{Begun}

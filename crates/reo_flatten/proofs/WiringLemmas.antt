@@ -5,7 +5,7 @@ use Rattle.reo_flat.specs.Unfolding.{Placed}
 use Rattle.reo_flat.specs.Ends.{incoming, outgoing}
 use Rattle.reo_flat.specs.Joints.{joints_of, many}
 use Rattle.reo_flat.specs.Flat.{joints_at, homes_at}
-use Rattle.reo_flatten_unfold.proofs.ListLemmas.{take_next}
+use Rattle.reo_unfold.proofs.ListLemmas.{take_next}
 
 -- Where the own primitives of the nodes behind these begin.
 abbrev pub after : List Placed → ℕ → List (List ℕ) → ℕ

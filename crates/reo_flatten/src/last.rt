@@ -4,10 +4,10 @@ ghost use Rattle.std.specs.List.{All};
 ghost use Rattle.reo_rules.specs.Scopes.{connectors_of};
 ghost use Rattle.reo_flat.specs.Flat.{wiring_of_program, homes_in, nodes_of, ports_of};
 ghost use Rattle.reo_flat.specs.Refusals.{breaks, IsAccepted, IsRefused};
-ghost use Rattle.reo_flatten_laws.specs.Plain.{HasPlainNames};
+ghost use Rattle.reo_flat.specs.flatten_laws.Plain.{HasPlainNames};
 ghost use Rattle.reo_flatten.specs.Parts.{IsParts};
 
-use reo_flatten_laws::{circuits_are_made, circuits_are_small, homes_are_nodes, homes_fit};
+use reo_flat::{circuits_are_made, circuits_are_small, homes_are_nodes, homes_fit};
 use reo_kinds::Kind;
 use reo_net_base::{Joint, Port, Ports};
 use reo_net_circuit::{Circuit, NetFault};

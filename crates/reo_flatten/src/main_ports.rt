@@ -4,12 +4,12 @@ ghost use Rattle.reo_net_base.specs.declared.port.Port.{Port as APort};
 ghost use Rattle.reo_rules.specs.Types.{Typed};
 ghost use Rattle.reo_rules.specs.Scopes.{parameter_names};
 ghost use Rattle.reo_flat.specs.Flat.{way_of, port_of, port_kind, port_placed};
-ghost use Rattle.reo_flatten_unfold.specs.Known.{AreTypes};
+ghost use Rattle.reo_unfold.specs.Known.{AreTypes};
 
-use reo_flatten_unfold::{Types, kindred_of};
 use reo_kinds::{Kind, TakerPort, WriterPort};
 use reo_net_base::{Port, Way};
 use reo_trees::Parameter;
+use reo_unfold::{Types, kindred_of};
 use reo_values::{Bytes, List, NoMemory, copy_kindred};
 use std::alloc::Global;
 

@@ -1,17 +1,17 @@
 //! The unfolding of `main`.
 ghost use Rattle.std.specs.Prelude.{◌≡◌, ◌<◌, IfOk, Some, length, position, bytes_eq, codes};
 ghost use Rattle.reo_values.specs.Valid.{AreDistinct};
-ghost use Rattle.reo_flatten_unfold.specs.Ground.{IsGround};
-ghost use Rattle.reo_flatten_unfold.specs.Fits.{AreFit};
+ghost use Rattle.reo_unfold.specs.Ground.{IsGround};
+ghost use Rattle.reo_unfold.specs.Fits.{AreFit};
 ghost use Rattle.reo_flatten.specs.NodeEnds.{placed_with, AreEnds};
 ghost use Rattle.reo_flatten.specs.Parts.{IsBegun};
 
 use crate::ends::{NodeEnds, ends_at_nodes};
 use crate::main_ports::{names_of, port_ends, port_kinds, ports_of};
-use reo_flatten_unfold::{Ground, Unfolded, connector, connector_at};
 use reo_net_base::Port;
 use reo_rules::Names;
 use reo_trees::Declaration;
+use reo_unfold::{Ground, Unfolded, connector, connector_at};
 use reo_values::{Bytes, List, NoMemory};
 use std::alloc::Global;
 

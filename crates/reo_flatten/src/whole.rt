@@ -1,7 +1,7 @@
 //! The flat circuit of a program.
 ghost use Rattle.std.specs.Prelude.{◌≡◌, ◌≤◌, [], true, false, IfOk, MatchResult, Some, length, position, bytes_eq, codes};
 ghost use Rattle.std.specs.List.{All};
-ghost use Rattle.reo_trees_laws.specs.Spelled.{IsSpelled};
+ghost use Rattle.reo_syntax_laws.specs.trees_laws.Spelled.{IsSpelled};
 ghost use Rattle.reo_rules.specs.Scopes.{connectors_of};
 ghost use Rattle.reo_rules.specs.Rules.{rule_breaks};
 ghost use Rattle.reo_rules.specs.Judged.{IsJudged};
@@ -9,21 +9,19 @@ ghost use Rattle.reo_flat.specs.Unfolding.{meaning_named, meanings_of};
 ghost use Rattle.reo_flat.specs.Flat.{wiring_of_program, homes_in, nodes_of, ports_of};
 ghost use Rattle.reo_flat.specs.Sizes.{is_too_many, too_many};
 ghost use Rattle.reo_flat.specs.Refusals.{breaks, IsAccepted, IsRefused};
-ghost use Rattle.reo_flatten_laws.specs.Plain.{HasPlainNames};
-ghost use Rattle.reo_flatten_unfold.specs.Ground.{IsGround};
-ghost use Rattle.reo_flatten_unfold.specs.Fits.{AreFit};
+ghost use Rattle.reo_flat.specs.flatten_laws.Plain.{HasPlainNames};
+ghost use Rattle.reo_unfold.specs.Ground.{IsGround};
+ghost use Rattle.reo_unfold.specs.Fits.{AreFit};
 ghost use Rattle.reo_flatten.specs.Parts.{IsParts};
 
 use crate::judging::judge;
 use crate::last::{Flat, Parts, close};
 use crate::nodes::{Wired, all_joints, all_own};
 use crate::unfolded::{Begun, begin, ends_at};
-use reo_flatten_laws::{
-    circuits_are_small, counts_are_channels, nodes_are_distinct, nodes_are_served,
-};
-use reo_flatten_unfold::{Ground, Unfolded, connector_at, ground_of};
+use reo_flat::{circuits_are_small, counts_are_channels, nodes_are_distinct, nodes_are_served};
 use reo_rules::FlatFault;
 use reo_trees::{Declaration, Program};
+use reo_unfold::{Ground, Unfolded, connector_at, ground_of};
 use std::alloc::Global;
 
 /// The most uses to which a program may unfold.

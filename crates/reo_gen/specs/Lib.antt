@@ -1,3 +1,4 @@
 pub mod Names
 pub mod Circuits
 pub mod Scripts
+pub mod laws

@@ -2,8 +2,10 @@
 #![tactic(auto)]
 
 mod circuit;
+mod laws;
 mod name;
 mod script;
 mod work;
 
+pub use laws::{accepted_is_not_refused, work_is_accepted};
 pub use work::{Work, make};

@@ -1,6 +1,6 @@
 -- Ports that are found by their names.
 use Rattle.std.specs.Prelude.{ℕ, ◌≡◌, List, None, Some}
-use Rattle.reo_scripts.specs.ScriptRules.{port_number}
+use Rattle.reo_script.specs.scripts.ScriptRules.{port_number}
 use Rattle.reo_handles.specs.declared.session.Session.{Session}
 use Rattle.reo_handles.specs.declared.status.Status.{Status}
 use Rattle.reo_handles.specs.declared.status.Status.TheVariants as statuses

@@ -10,8 +10,8 @@ use Rattle.reo_net_base.specs.Behaviour.{Behaviour, IsEndOf}
 use Rattle.reo_net_base.specs.Forms.{HasForm, mark_by, rows_by}
 use Rattle.reo_net_base.specs.Net.{Net, behaviour_at, end_of}
 use Rattle.reo_net_base.specs.Wired.{IsWired}
-use Rattle.reo_net_ends.specs.Ends.{AreEnds, joint_at}
-use Rattle.reo_net_ends.proofs.EndLemmas.{find_joints}
+use Rattle.reo_net_circuit.specs.found_ends.Ends.{AreEnds, joint_at}
+use Rattle.reo_net_circuit.proofs.found_ends.EndLemmas.{find_joints}
 use Rattle.reo_net_laws.specs.Ends.{mark_in}
 use Rattle.reo_joint_values.specs.Standing.{no_joint, giver_of, taker_of, FlowsAt}
 use Rattle.reo_weights.specs.Bounds.{sum_below, giver_rows}

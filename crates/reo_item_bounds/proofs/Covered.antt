@@ -9,7 +9,7 @@ use Rattle.reo_net_base.specs.declared.mark.Mark.TheVariants.{F}
 use Rattle.reo_net_base.specs.Behaviour.{Behaviour}
 use Rattle.reo_net_base.specs.Forms.{mark_by}
 use Rattle.reo_net_base.specs.Net.{end_of}
-use Rattle.reo_net_ends.specs.Ends.{joint_at}
+use Rattle.reo_net_circuit.specs.found_ends.Ends.{joint_at}
 use Rattle.reo_item_bounds.specs.Shares.{Covers, IsShare, AreShared}
 use Rattle.reo_item_bounds.proofs.Places.{merger_flows}
 use Rattle.reo_item_bounds.proofs.Sums.{more, more_before, more_here, sum_more}

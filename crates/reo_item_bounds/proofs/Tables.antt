@@ -14,7 +14,7 @@ use Rattle.reo_net_laws.proofs.Isolation.{same_net}
 use Rattle.reo_joint_values.specs.Standing.{no_joint, giver_of, taker_of, FlowsAt}
 use Rattle.reo_joint_values.specs.Many.{IsJointIn}
 use Rattle.reo_weights.specs.Bounds.{sum_below, giver_rows, AreLoopsIn}
-use Rattle.reo_state_laws.specs.States.{HaveSameTables}
+use Rattle.reo_net_laws.specs.state_laws.States.{HaveSameTables}
 use Rattle.reo_item_bounds.specs.Bounds.{ComesIn, IsBoundAt, HasBounds}
 use Rattle.reo_item_bounds.specs.Laws.{BoundsStay}
 use Rattle.reo_item_bounds.proofs.Linked.{loop_on, loop_back}

@@ -5,7 +5,7 @@ use Rattle.reo_net_base.specs.Shapes.{SameShapes}
 use Rattle.reo_net_base.specs.Wired.{IsWired, IsOrder}
 use Rattle.reo_net_laws.specs.Parts.{IsClosed}
 use Rattle.reo_weights.specs.Over.{IsWithin}
-use Rattle.reo_state_laws.specs.States.{HaveSameTables}
+use Rattle.reo_net_laws.specs.state_laws.States.{HaveSameTables}
 use Rattle.reo_item_bounds.specs.declared.kept.Bounds.{Bounds}
 use Rattle.reo_item_bounds.specs.Bounds.{HasBounds}
 use Rattle.reo_item_bounds.specs.Kept.{AreKeptBounds}

@@ -6,7 +6,7 @@ use Rattle.reo_net_base.specs.declared.mark.Mark.TheVariants.{F}
 use Rattle.reo_net_base.specs.Behaviour.{Behaviour}
 use Rattle.reo_net_base.specs.Net.{end_of}
 use Rattle.reo_net_base.specs.Forms.{IsPlaceOf, mark_by}
-use Rattle.reo_net_ends.specs.Ends.{joint_at}
+use Rattle.reo_net_circuit.specs.found_ends.Ends.{joint_at}
 use Rattle.reo_weights.specs.Bounds.{sum_below}
 
 -- At least the number that is noted for each joint at which a row of a form takes in.

@@ -1,14 +1,13 @@
 //! What is noted for one joint.
 ghost use Rattle.std.specs.Prelude.{◌≡◌, ◌<◌, ◌≤◌, IsTrue, IfSome, length, slice_index};
 ghost use Rattle.reo_net_base.specs.Net.{net_of};
-ghost use Rattle.reo_net_ends.specs.Ends.{AreEnds};
+ghost use Rattle.reo_net_circuit.specs.found_ends.Ends.{AreEnds};
 ghost use Rattle.reo_item_bounds.specs.Bounds.{IsBoundAt};
 ghost use Rattle.reo_item_bounds.specs.Kept.{HasNumber};
 
 use crate::shares::shared;
 use reo_net_base::Primitive;
-use reo_net_circuit::Circuit;
-use reo_net_ends::Ends;
+use reo_net_circuit::{Circuit, Ends};
 
 /// What is noted for a joint of which no bound is known.
 pub(crate) const MANY: u64 = 257;

@@ -1,7 +1,7 @@
 //! How many choices of values the loop joints of a part have at most.
 ghost use Rattle.std.specs.Prelude.{◌≡◌, ◌<◌, ◌+◌, ◌↔◌, ℕ, IfSome, Contains, length, slice_index, map};
 ghost use Rattle.reo_net_base.specs.Net.{net_of};
-ghost use Rattle.reo_net_ends.specs.Ends.{AreEnds};
+ghost use Rattle.reo_net_circuit.specs.found_ends.Ends.{AreEnds};
 ghost use Rattle.reo_knots.specs.Knots.{AreKnots, in_knot, knot_count};
 ghost use Rattle.reo_joint_values.specs.Many.{IsJointIn};
 ghost use Rattle.reo_weights.specs.Weights.{product_of};
@@ -11,8 +11,7 @@ ghost use Rattle.reo_item_bounds.specs.Kept.{AreKeptBounds};
 use crate::kept::Bounds;
 use reo_knots::Knots;
 use reo_net_base::Primitive;
-use reo_net_circuit::Circuit;
-use reo_net_ends::Ends;
+use reo_net_circuit::{Circuit, Ends};
 
 /// The greatest product that is gone on with.
 const MOST: u64 = 1_000_000_000_000_000;

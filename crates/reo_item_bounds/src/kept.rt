@@ -1,14 +1,13 @@
 //! Bounds that are kept from search to search.
 ghost use Rattle.std.specs.Prelude.{◌≡◌, ◌<◌, ◌≤◌, ℕ, true, Some, None, IfOk, IsTrue, Contains, length, replicate, slice_index, slice_index_or};
 ghost use Rattle.reo_net_base.specs.Net.{Net as Network, net_of};
-ghost use Rattle.reo_net_ends.specs.Ends.{AreEnds};
+ghost use Rattle.reo_net_circuit.specs.found_ends.Ends.{AreEnds};
 ghost use Rattle.reo_item_bounds.specs.Bounds.{IsBoundAt};
 ghost use Rattle.reo_item_bounds.specs.Kept.{AreKeptBounds, AreUnnumbered, HoldFed};
 
 use crate::checking::{MANY, brought, is_bound, number_at};
 use reo_net_base::Primitive;
-use reo_net_circuit::Circuit;
-use reo_net_ends::Ends;
+use reo_net_circuit::{Circuit, Ends};
 use reo_values::{List, NoMemory};
 use std::alloc::Global;
 

@@ -5,12 +5,11 @@ ghost use Rattle.reo_net_base.specs.declared.mark.Mark.TheVariants.{F};
 ghost use Rattle.reo_net_base.specs.Forms.{HasForm, mark_by, rows_by};
 ghost use Rattle.reo_net_base.specs.Net.{net_of, behaviour_at, end_of};
 ghost use Rattle.reo_net_base.specs.Wired.{IsEnd};
-ghost use Rattle.reo_net_ends.specs.Ends.{AreEnds, joint_at};
+ghost use Rattle.reo_net_circuit.specs.found_ends.Ends.{AreEnds, joint_at};
 ghost use Rattle.reo_item_bounds.specs.Shares.{Covers, IsShare, AreShared};
 
 use reo_net_base::{End, Form, Mark, Primitive};
-use reo_net_circuit::Circuit;
-use reo_net_ends::Ends;
+use reo_net_circuit::{Circuit, Ends};
 
 /// The number that is noted for the joint of an end that takes in, and 0 for one that gives.
 fn noted<P: Primitive>(circuit: &Circuit<P>, ends: &Ends, bounds: &[u64], end: End) -> u64

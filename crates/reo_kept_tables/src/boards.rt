@@ -1,14 +1,13 @@
 //! Boards that are made anew.
 ghost use Rattle.std.specs.Prelude.{◌≡◌, ◌<◌, ℕ, true, OnOk, length};
 ghost use Rattle.reo_net_base.specs.Net.{net_of, all_sides};
-ghost use Rattle.reo_net_ends.specs.Ends.{AreEnds};
+ghost use Rattle.reo_net_circuit.specs.found_ends.Ends.{AreEnds};
 ghost use Rattle.reo_side_tables.specs.Boards.{IsBoard};
 ghost use Rattle.reo_propagate.specs.Queues.{among};
 ghost use Rattle.reo_kept_tables.specs.Renewing.{AreRightAt, StaysBesides};
 
 use reo_net_base::Primitive;
-use reo_net_circuit::Circuit;
-use reo_net_ends::Ends;
+use reo_net_circuit::{Circuit, Ends};
 use reo_side_tables::{Board, board_of};
 use reo_values::{List, NoMemory};
 use std::alloc::Global;

@@ -1,7 +1,7 @@
 //! The tables of one part.
 ghost use Rattle.std.specs.Prelude.{◌≡◌, ◌≢◌, ◌<◌, ℕ, OnOk};
 ghost use Rattle.reo_net_base.specs.Net.{net_of};
-ghost use Rattle.reo_net_ends.specs.Ends.{AreEnds};
+ghost use Rattle.reo_net_circuit.specs.found_ends.Ends.{AreEnds};
 ghost use Rattle.reo_knots.specs.Knots.{AreKnots, in_knot, knot_count};
 ghost use Rattle.reo_kept_tables.specs.Tables.{HasRoom, AreRightOn};
 ghost use Rattle.reo_kept_tables.specs.Orders.{AreOrders};
@@ -10,8 +10,7 @@ use crate::refreshing::refresh;
 use crate::tables::Tables;
 use reo_knots::Knots;
 use reo_net_base::Primitive;
-use reo_net_circuit::Circuit;
-use reo_net_ends::Ends;
+use reo_net_circuit::{Circuit, Ends};
 use reo_values::{List, NoMemory};
 use std::alloc::Global;
 

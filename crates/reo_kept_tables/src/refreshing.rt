@@ -2,7 +2,7 @@
 ghost use Rattle.std.specs.Prelude.{◌≡◌, ◌<◌, ℕ, Bool, true, OnOk, Contains, length};
 ghost use Rattle.reo_net_base.specs.Net.{net_of, all_sides};
 ghost use Rattle.reo_net_laws.specs.Parts.{IsClosed};
-ghost use Rattle.reo_net_ends.specs.Ends.{AreEnds};
+ghost use Rattle.reo_net_circuit.specs.found_ends.Ends.{AreEnds};
 ghost use Rattle.reo_reach.specs.InOrder.{AreInOrder};
 ghost use Rattle.reo_propagate.specs.Queues.{among};
 ghost use Rattle.reo_kept_tables.specs.Tables.{HasRoom, IsSideRight, IsJointRight, AreRightOn, AreApart};
@@ -14,8 +14,7 @@ use crate::notes::{renew_live, renew_notes};
 use crate::tables::Tables;
 use crate::values::renew_values;
 use reo_net_base::Primitive;
-use reo_net_circuit::Circuit;
-use reo_net_ends::Ends;
+use reo_net_circuit::{Circuit, Ends};
 use reo_reach::reach_at;
 use reo_values::NoMemory;
 use std::alloc::Global;

@@ -6,3 +6,4 @@ pub mod CanFlow
 pub mod Turns
 pub mod Filters
 pub mod Maps
+pub mod move_laws

@@ -12,12 +12,12 @@ use Rattle.reo_open.specs.declared.opens.Open.{Open}
 use Rattle.reo_open.specs.Opens.{open_behaviour}
 use Rattle.reo_open.specs.Opened.{open_wiring, open_net, HasNoFilter}
 use Rattle.reo_weights.specs.Laws.{NumbersAreOne}
-use Rattle.reo_listing_base.specs.declared.table.Table.{Table}
-use Rattle.reo_listing_base.specs.declared.fault.ListFault.{ListFault}
-use Rattle.reo_listing_base.specs.declared.fault.ListFault.TheVariants as faults
-use Rattle.reo_listing_base.specs.Listed.{ListsParts, ListsOpen, Lists}
-use Rattle.reo_listing_base.specs.Laws.{OpenPartsAreNarrow}
-use Rattle.reo_listing_gates.specs.OpenPorts.{OpenPortsAreGates}
+use Rattle.reo_listing.specs.declared.base.table.Table.{Table}
+use Rattle.reo_listing.specs.declared.base.fault.ListFault.{ListFault}
+use Rattle.reo_listing.specs.declared.base.fault.ListFault.TheVariants as faults
+use Rattle.reo_listing.specs.base.Listed.{ListsParts, ListsOpen, Lists}
+use Rattle.reo_listing.specs.base.Laws.{OpenPartsAreNarrow}
+use Rattle.reo_listing.specs.gates.OpenPorts.{OpenPortsAreGates}
 use Rattle.reo_listing.specs.Listable.{IsListable}
 
 -- What is listed by one numbering of the parts is listed by each.

@@ -5,14 +5,14 @@ use Rattle.std.proofs.lemmas.Bool.Decides.{nat_tests}
 use Rattle.std.proofs.lemmas.List.{append-nil, map-append}
 use Rattle.reo_net_base.specs.Net.{Net}
 use Rattle.reo_knots.specs.Knots.{in_knot}
-use Rattle.reo_listing_base.specs.declared.table.Table.{Table}
-use Rattle.reo_listing_base.specs.declared.fault.ListFault.{ListFault}
-use Rattle.reo_listing_base.specs.declared.fault.ListFault.TheVariants as faults
+use Rattle.reo_listing.specs.declared.base.table.Table.{Table}
+use Rattle.reo_listing.specs.declared.base.fault.ListFault.{ListFault}
+use Rattle.reo_listing.specs.declared.base.fault.ListFault.TheVariants as faults
 use Rattle.reo_weights.specs.Over.{IsWithin, IsSpent}
-use Rattle.reo_listing_base.specs.Tables.{HasMany}
-use Rattle.reo_listing_base.specs.Listed.{ports_of, has_ports, IsTableOf, AreTables, IsNextPart}
-use Rattle.reo_listing_ports.proofs.PortRange.{kept_more}
-use Rattle.reo_listing_rows.specs.PartTables.{IsPartFault}
+use Rattle.reo_listing.specs.base.Tables.{HasMany}
+use Rattle.reo_listing.specs.base.Listed.{ports_of, has_ports, IsTableOf, AreTables, IsNextPart}
+use Rattle.reo_listing.proofs.ports.PortRange.{kept_more}
+use Rattle.reo_listing.specs.rows.PartTables.{IsPartFault}
 use Rattle.reo_listing.specs.Parts.{IsPartsTable, StopsAt}
 
 -- What is so of each of a list and of one more is so of all.

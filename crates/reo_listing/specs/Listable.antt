@@ -5,8 +5,8 @@ use Rattle.reo_knots.specs.Knots.{Knotted, AreKnots}
 use Rattle.reo_open.specs.declared.opens.Open.{Open}
 use Rattle.reo_open.specs.Opens.{open_behaviour}
 use Rattle.reo_weights.specs.Widths.{IsWide}
-use Rattle.reo_listing_base.specs.Tables.{ports_in}
-use Rattle.reo_listing_laws.specs.Gated.{AreHeld}
+use Rattle.reo_listing.specs.base.Tables.{ports_in}
+use Rattle.reo_listing.specs.laws.Gated.{AreHeld}
 
 -- These are its knots, no set of its sides is wide, and at the ports of each set stand gates with all rows.
 pub record IsListable (w : Wiring Open) (knots : Knotted) : Type 0 where

@@ -1,8 +1,21 @@
 //! Listing boundary tables: how a circuit can meet its surroundings.
 #![tactic(auto)]
 
+mod answers;
+mod base;
+mod gates;
+mod laws;
 mod listing;
 mod parts;
+mod ports;
+mod rows;
+mod texts;
 
+pub use answers::one_listing;
+pub use base::{ListFault, Table, open_parts_are_narrow};
+pub use gates::open_ports_are_gates;
+pub use laws::knots_stay_with_shape;
 pub use listing::list;
-pub use reo_listing_base::{ListFault, Table};
+pub use ports::{first_filter, ports_of};
+pub use rows::rows_of;
+pub use texts::{fault_line, tables_text};

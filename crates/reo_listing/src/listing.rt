@@ -1,15 +1,15 @@
 //! The boundary tables of a circuit.
 ghost use Rattle.std.specs.Prelude.{◌<◌, ◌^◌};
 ghost use Rattle.reo_open.specs.Opened.{HasNoFilter};
-ghost use Rattle.reo_listing_base.specs.Listed.{Lists};
+ghost use Rattle.reo_listing.specs.base.Listed.{Lists};
 
+use crate::base::{ListFault, Table, open_parts_are_narrow};
+use crate::gates::open_ports_are_gates;
 use crate::parts::list_parts;
+use crate::ports::first_filter;
 use reo_flatten::Flat;
 use reo_kinds::Kind;
 use reo_knots::find_knots;
-use reo_listing_base::{ListFault, Table, open_parts_are_narrow};
-use reo_listing_gates::open_ports_are_gates;
-use reo_listing_ports::first_filter;
 use reo_net_circuit::Circuit;
 use reo_open::open_circuit;
 use reo_steps::Steps;

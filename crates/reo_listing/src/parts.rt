@@ -3,16 +3,16 @@ ghost use Rattle.std.specs.Prelude.{◌≡◌, ◌+◌, ◌<◌, ◌^◌, OnOk, 
 ghost use Rattle.reo_net_base.specs.Net.{net_of};
 ghost use Rattle.reo_knots.specs.Knots.{in_knot, knot_count};
 ghost use Rattle.reo_open.specs.Opens.{open_behaviour};
-ghost use Rattle.reo_listing_base.specs.Tables.{ports_in};
-ghost use Rattle.reo_listing_base.specs.Listed.{AreTables, ListsParts};
-ghost use Rattle.reo_listing_rows.specs.PartTables.{IsPartFault};
+ghost use Rattle.reo_listing.specs.base.Tables.{ports_in};
+ghost use Rattle.reo_listing.specs.base.Listed.{AreTables, ListsParts};
+ghost use Rattle.reo_listing.specs.rows.PartTables.{IsPartFault};
 ghost use Rattle.reo_listing.specs.Listable.{IsListable};
 ghost use Rattle.reo_listing.specs.Parts.{IsPartsTable, StopsAt};
 
+use crate::base::{ListFault, Table};
+use crate::ports::ports_of;
+use crate::rows::rows_of;
 use reo_knots::Knots;
-use reo_listing_base::{ListFault, Table};
-use reo_listing_ports::ports_of;
-use reo_listing_rows::rows_of;
 use reo_net_circuit::Circuit;
 use reo_open::Open;
 use reo_steps::Steps;

@@ -1,6 +1,4 @@
-pub mod Outcomes
-pub mod Talks
-pub mod Offers
-pub mod Rounds
-pub mod Feeds
-pub mod Fed
+pub mod base
+pub mod talk
+pub mod closings
+pub mod hearing

@@ -1,18 +1,14 @@
 //! A circuit that is talked to line by line, in pieces of any sizes.
 #![tactic(auto)]
 
-mod answering;
-mod closing;
-mod fault;
-mod flats;
+mod base;
+mod closings;
 mod hearing;
-mod judging;
-mod lines;
-mod live;
-mod offers;
-mod open_line;
-mod rounds;
-mod texts;
+mod talk;
 
-pub use fault::{Going, LiveFault};
-pub use live::Live;
+pub use base::{
+    Answer, LineFault, cuts_change_nothing, ending_exists, hearing_exists, hearing_is_one,
+};
+pub use closings::{closing_exists, closing_is_one};
+pub use hearing::{Heard, hear};
+pub use talk::{Going, Live, LiveFault};

@@ -32,10 +32,10 @@ use Rattle.reo_net_laws.proofs.Places.{key_inside, key-append}
 use Rattle.reo_net_laws.proofs.Sets.{restricted}
 use Rattle.reo_net_laws.proofs.Sides.{Owner, owner_of, owner_side, side_at_place, row_is}
 use Rattle.reo_net_laws.proofs.Sublists.{part_keys}
-use Rattle.reo_state_laws.specs.States.{IsOpen, AreFirstRows}
-use Rattle.reo_state_laws.specs.Walks.{number_of, IsWalk}
-use Rattle.reo_state_laws.proofs.Open.{open_items}
-use Rattle.reo_state_laws.proofs.Walking.{not_less}
+use Rattle.reo_net_laws.specs.state_laws.States.{IsOpen, AreFirstRows}
+use Rattle.reo_net_laws.specs.state_laws.Walks.{number_of, IsWalk}
+use Rattle.reo_net_laws.proofs.state_laws.Open.{open_items}
+use Rattle.reo_net_laws.proofs.state_laws.Walking.{not_less}
 use Rattle.reo_mark_sets.specs.declared.marks.Marks.{Marks}
 use Rattle.reo_mark_sets.specs.Marks.{has, meets, met, marks_at, open_at}
 use Rattle.reo_mark_search.specs.Fitting.{Fits, IsRival, ArePinned, AreMet}

@@ -22,7 +22,7 @@ use Rattle.reo_mark_sets.specs.Standing.{AreFewer, IsChosen, is_usual}
 use Rattle.reo_net_laws.specs.JamRows.{jam_rows}
 use Rattle.reo_net_laws.specs.Parts.{IsClosed}
 use Rattle.reo_net_laws.proofs.Sides.{side_at_is, side_at_place, row_is}
-use Rattle.reo_state_laws.specs.States.{LetsIn, IsOpen}
+use Rattle.reo_net_laws.specs.state_laws.States.{LetsIn, IsOpen}
 use Rattle.reo_mark_search.specs.Fitting.{Fits, IsRival, AreNoted, form_at, AreOpenSides, AreReset, ArePinned, AreMet}
 use Rattle.reo_mark_search.specs.Spots.{spot_of, AreSpots, end_by, IsSeat}
 use Rattle.reo_mark_search.proofs.Parts.{side_one}

@@ -19,7 +19,7 @@ use Rattle.reo_net_base.specs.Wired.{IsWired, IsEnd}
 use Rattle.reo_net_laws.specs.Parts.{IsClosed, is_joint_inside}
 use Rattle.reo_net_laws.proofs.Orders.{no_joint}
 use Rattle.reo_net_laws.proofs.Sides.{side_is, side_in, row_is}
-use Rattle.reo_state_laws.specs.Walks.{number_of}
+use Rattle.reo_net_laws.specs.state_laws.Walks.{number_of}
 use Rattle.reo_mark_sets.specs.declared.marks.Marks.{Marks}
 use Rattle.reo_mark_sets.specs.Marks.{has, meets, met, marks_at, open_at, partner}
 use Rattle.reo_mark_sets.specs.Standing.{Stands, Works, AreElsewhere, AreFewer, IsNarrowed, IsClassed, IsChosen, SomeWorks, width_by}

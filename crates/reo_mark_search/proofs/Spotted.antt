@@ -3,8 +3,8 @@ use Rattle.std.proofs.Common.{◌≡◌, ◌∙◌, ℕ, ◌+◌, ◌*◌, ◌<�
 use Rattle.reo_net_base.specs.declared.joint.End.{End}
 use Rattle.reo_net_base.specs.Net.{Net, behaviour_at, end_of}
 use Rattle.reo_net_base.specs.Wired.{IsWired}
-use Rattle.reo_net_ends.specs.Ends.{AreEnds, joint_at}
-use Rattle.reo_net_ends.proofs.EndLemmas.{find_joints}
+use Rattle.reo_net_circuit.specs.found_ends.Ends.{AreEnds, joint_at}
+use Rattle.reo_net_circuit.proofs.found_ends.EndLemmas.{find_joints}
 use Rattle.reo_mark_search.specs.Spots.{AreSpots}
 
 pub noted_spots : (net : Net) → IsWired net → (ends : List (List ℕ)) → AreEnds net ends → (spots : List (List ℕ)) → length spots ≡ length net.primitives

@@ -12,8 +12,8 @@ use Rattle.reo_net_base.specs.Net.{Net, mark_at, behaviour_at, end_of, first_sid
 use Rattle.reo_net_base.specs.Sides.{side_count}
 use Rattle.reo_net_laws.specs.Jams.{jams}
 use Rattle.reo_net_laws.specs.Parts.{is_joint_inside}
-use Rattle.reo_state_laws.specs.Keys.{HaveForms}
-use Rattle.reo_state_laws.specs.States.{LetsIn, AreFitting}
+use Rattle.reo_net_laws.specs.state_laws.Keys.{HaveForms}
+use Rattle.reo_net_laws.specs.state_laws.States.{LetsIn, AreFitting}
 use Rattle.reo_mark_sets.specs.declared.marks.Marks.{Marks}
 use Rattle.reo_mark_sets.specs.Marks.{has, marks_at, open_at, all_marks}
 use Rattle.reo_mark_sets.specs.Standing.{AreFewer, is_usual}

@@ -4,7 +4,7 @@ use Rattle.reo_values.specs.declared.value.Value.{Value}
 use Rattle.reo_net_base.specs.Net.{Net}
 use Rattle.reo_net_base.specs.Sides.{side_count}
 use Rattle.reo_net_laws.specs.Jams.{jams, IsThreeColouring}
-use Rattle.reo_state_laws.specs.States.{AreFirstRows}
+use Rattle.reo_net_laws.specs.state_laws.States.{AreFirstRows}
 use Rattle.reo_mark_search.specs.Spots.{AreSpots}
 use Rattle.reo_mark_search.specs.declared.found.Found.{Found}
 use Rattle.reo_mark_search.specs.declared.found.Found.TheVariants.{Rows, Jam, Unknown}

@@ -2,7 +2,7 @@
 use Rattle.std.specs.Prelude.{ℕ, ◌≤◌, ◌≡◌, Bool, List, ◌++◌, length, take}
 use Rattle.reo_net_base.specs.First.{Position, key_at}
 use Rattle.reo_net_base.specs.Net.{Net}
-use Rattle.reo_state_laws.specs.Walks.{number_of, IsWalk}
+use Rattle.reo_net_laws.specs.state_laws.Walks.{number_of, IsWalk}
 use Rattle.reo_mark_sets.specs.declared.marks.Marks.{Marks}
 use Rattle.reo_mark_sets.specs.Standing.{AreFewer}
 use Rattle.reo_mark_search.specs.Fitting.{Fits, IsRival, ArePinned, AreMet}

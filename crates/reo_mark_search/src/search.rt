@@ -2,7 +2,7 @@
 ghost use Rattle.std.specs.Prelude.{◌≡◌, ◌*◌, ◌<◌, ◌≤◌, IfOk, length};
 ghost use Rattle.reo_net_base.specs.Net.{net_of};
 ghost use Rattle.reo_net_base.specs.Sides.{side_count};
-ghost use Rattle.reo_net_ends.specs.Ends.{AreEnds};
+ghost use Rattle.reo_net_circuit.specs.found_ends.Ends.{AreEnds};
 ghost use Rattle.reo_knots.specs.Knots.{AreKnots, in_knot, knot_count};
 ghost use Rattle.reo_mark_search.specs.Found.{IsMarkSearch, AreRowsElsewhere, IsFound};
 ghost use Rattle.reo_mark_search.specs.Spots.{AreSpots};
@@ -16,8 +16,7 @@ use crate::walking::{class_all, jam_all, lead_all, meets_all, row_all};
 use reo_knots::Knots;
 use reo_mark_sets::Sets;
 use reo_net_base::{Form, Primitive, Table};
-use reo_net_circuit::Circuit;
-use reo_net_ends::Ends;
+use reo_net_circuit::{Circuit, Ends};
 use reo_values::{List, NoMemory};
 use std::alloc::Global;
 

@@ -2,12 +2,11 @@
 ghost use Rattle.std.specs.Prelude.{◌≡◌, ◌+◌, ◌*◌, ◌<◌, ◌≤◌, ℕ, cond, IfOk, length, slice_index};
 ghost use Rattle.reo_net_base.specs.Forms.{HasForm};
 ghost use Rattle.reo_net_base.specs.Net.{net_of, behaviour_at, end_of};
-ghost use Rattle.reo_net_ends.specs.Ends.{AreEnds, joint_at};
+ghost use Rattle.reo_net_circuit.specs.found_ends.Ends.{AreEnds, joint_at};
 ghost use Rattle.reo_mark_search.specs.Spots.{AreSpots, AreEndsOf};
 
 use reo_net_base::{End, Form, Primitive};
-use reo_net_circuit::{Circuit, SideOwner};
-use reo_net_ends::Ends;
+use reo_net_circuit::{Circuit, Ends, SideOwner};
 use reo_values::{List, NoMemory};
 use std::alloc::Global;
 

@@ -26,4 +26,6 @@ pub use Rattle.reo_net_circuit.specs.Offers
 pub use Rattle.reo_net_circuit.specs.Parts
 pub use Rattle.reo_net_circuit.specs.declared.fault.NetFault
 pub use Rattle.reo_net_circuit.specs.declared.layout.SideOwner
-pub use Rattle.reo_net_order.specs.Arrows
+pub use Rattle.reo_net_base.specs.order.Arrows
+pub mod colouring
+pub mod plain

@@ -6,11 +6,14 @@
 //! [`Supply`] has the items that can stand at its joints.
 #![tactic(auto)]
 
+mod colouring;
+mod plain;
+
+pub use colouring::{are_moves, colour, compare, fill, fill_with, fits, is_colouring};
+pub use plain::plain_first;
 pub use reo_net_base::{
     Chosen, Colouring, End, Joint, Mark, Move, Offer, Port, Ported, Ports, Primitive, Way,
     marks_match,
 };
 pub use reo_net_circuit::{Circuit, NetFault, SideOwner, are_parts, moves};
-pub use reo_net_colouring::{are_moves, colour, compare, fill, is_colouring};
-pub use reo_net_plain::plain_first;
 pub use reo_reach::Supply;

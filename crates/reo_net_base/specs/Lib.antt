@@ -18,3 +18,4 @@ pub mod Sides
 pub mod Step
 pub mod Tables
 pub mod Wired
+pub mod order

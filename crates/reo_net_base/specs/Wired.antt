@@ -1,7 +1,7 @@
 -- What holds of every circuit.
 use Rattle.std.specs.Prelude.{ℕ, ◌<◌, ◌≤◌, ◌≡◌, ◌≢◌, true, false, List, length, slice_index_or}
-pub use Rattle.reo_net_order.specs.Arrows.{IsTopological, Walk, OnCycle, IsLeastOnCycle, NoCycle, OrderExists, OrderHasNoCycle}
-pub use Rattle.reo_net_order.specs.Sorted.{IsSorted}
+pub use Rattle.reo_net_base.specs.order.Arrows.{IsTopological, Walk, OnCycle, IsLeastOnCycle, NoCycle, OrderExists, OrderHasNoCycle}
+pub use Rattle.reo_net_base.specs.order.Sorted.{IsSorted}
 use Rattle.reo_net_base.specs.declared.joint.End.{End}
 use Rattle.reo_net_base.specs.declared.joint.Joint.{Joint}
 use Rattle.reo_net_base.specs.Behaviour.{Behaviour}

@@ -5,3 +5,4 @@ pub mod Layout
 pub mod Offers
 pub mod Parts
 pub mod Tables
+pub mod found_ends

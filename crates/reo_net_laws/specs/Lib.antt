@@ -11,3 +11,4 @@ pub mod PartLaws
 pub mod Parts
 pub mod Reasons
 pub mod Sublists
+pub mod state_laws

@@ -6,6 +6,7 @@ mod cycles;
 mod ends;
 mod first;
 mod keys;
+mod state_laws;
 
 pub use colourings::{
     each_part, jam_is_colouring, jams_whole, mix_is_colouring, one_colouring_for_rows,
@@ -21,4 +22,8 @@ pub use first::{
 pub use keys::{
     all_sides_come_next, classes_always_lead, first_difference_decides, leading_come_first,
     part_keys,
+};
+pub use state_laws::{
+    more_flow_is_no_later, one_class_stays_one, one_key_same_tables, open_parts_need_no_items,
+    same_tables_same_rows, walks_are_first,
 };

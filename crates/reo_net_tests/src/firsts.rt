@@ -8,10 +8,9 @@ use crate::shapes::{
 };
 use crate::texts::{Wanted, all_of, digit, is_found, write};
 use reo_kinds::Kind;
+use reo_net::{fill, plain_first};
 use reo_net_base::Colouring;
 use reo_net_circuit::Circuit;
-use reo_net_colouring::fill;
-use reo_net_plain::plain_first;
 use reo_values::Value;
 use std::alloc::Global;
 use std::process::Abort;

@@ -4,7 +4,7 @@ use Rattle.std.specs.List.{All}
 use Rattle.reo_values.specs.Names.{IsName}
 use Rattle.reo_values.specs.Valid.{AreDistinct, IsValid}
 use Rattle.reo_net_base.specs.declared.port.Port.{Port}
-use Rattle.reo_trace_texts.specs.Lines.{AreTold}
+use Rattle.reo_trace_reader.specs.texts.Lines.{AreTold}
 use Rattle.reo_outside_tests.specs.Told.{all_told}
 
 abbrev names : List (List ℕ)

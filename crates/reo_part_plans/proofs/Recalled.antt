@@ -25,17 +25,17 @@ use Rattle.reo_net_laws.specs.Sublists.{sides_in, part_rows}
 use Rattle.reo_net_laws.proofs.Sides.{row_in_table, row_is, side_at_place, side_in_range, side_is}
 use Rattle.reo_net_laws.proofs.Shapes.{shapes_twice, shapes_back}
 use Rattle.reo_knots.specs.Knots.{Knotted, AreKnots, in_knot, knot_count}
-use Rattle.reo_still.specs.Joining.{HasFirst}
+use Rattle.reo_weights.specs.still.Joining.{HasFirst}
 use Rattle.reo_planning.specs.Planned.{IsPartPlanned}
 use Rattle.reo_planning.specs.Written.{AreWritten}
-use Rattle.reo_flowing.specs.Flowing.{AreFlowingOf}
-use Rattle.reo_flowing.proofs.Staying.{flowing_stay}
+use Rattle.reo_flows.specs.flowing.Flowing.{AreFlowingOf}
+use Rattle.reo_flows.proofs.flowing.Staying.{flowing_stay}
 use Rattle.reo_planning.proofs.Flowing.{mark_same}
 use Rattle.reo_planning.proofs.KnotSets.{below}
 use Rattle.reo_planning.proofs.Searched.{among, among_contains, contains_among, among_sides, sides_below, rows_same}
 use Rattle.reo_weights.specs.Over.{IsWithin}
-use Rattle.reo_state_laws.specs.States.{HaveSameTables, IsOpen, AreFirstRows, LetsIn}
-use Rattle.reo_state_laws.proofs.Same.{same_rows}
+use Rattle.reo_net_laws.specs.state_laws.States.{HaveSameTables, IsOpen, AreFirstRows, LetsIn}
+use Rattle.reo_net_laws.proofs.state_laws.Same.{same_rows}
 use Rattle.reo_item_bounds.specs.Bounds.{HasBounds}
 use Rattle.reo_item_bounds.proofs.Linked.{closed_on}
 use Rattle.reo_item_bounds.proofs.Tables.{stay}

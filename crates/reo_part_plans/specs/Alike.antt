@@ -4,7 +4,7 @@ use Rattle.reo_net_base.specs.Net.{Net, behaviour_at, first_side}
 use Rattle.reo_net_base.specs.Wired.{IsWired}
 use Rattle.reo_net_laws.specs.Alike.{AreAlike}
 use Rattle.reo_net_laws.specs.Parts.{IsClosed}
-use Rattle.reo_state_laws.specs.States.{AreFirstRows}
+use Rattle.reo_net_laws.specs.state_laws.States.{AreFirstRows}
 
 -- The rows at the sides of a set have the same classes in the rounds of two numbers.
 abbrev pub HaveSameClasses : Net → (ℕ → Bool) → ℕ → ℕ → Type 0

@@ -4,7 +4,7 @@ use Rattle.reo_values.specs.declared.value.Value.{Value}
 use Rattle.reo_net_base.specs.Behaviour.{Behaviour, IsEndOf}
 use Rattle.reo_net_base.specs.Lawful.{GivesAt}
 use Rattle.reo_net_base.specs.Net.{Net, Side, all_sides}
-use Rattle.reo_state_laws.specs.States.{LetsIn}
+use Rattle.reo_net_laws.specs.state_laws.States.{LetsIn}
 
 -- What the state alone gives at a side, by whatever row: this item, or none.
 abbrev pub GivesOnly : Behaviour → ℕ → Option Value → Type 0

@@ -5,8 +5,8 @@ use Rattle.reo_net_base.specs.Shapes.{SameShapes, TreatAlike}
 use Rattle.reo_net_base.specs.Wired.{IsWired}
 use Rattle.reo_net_laws.specs.Sublists.{part_rows}
 use Rattle.reo_knots.specs.Knots.{Knotted, in_knot, knot_count}
-use Rattle.reo_flowing.specs.Flowing.{AreFlowingOf}
-use Rattle.reo_state_laws.specs.States.{AreFirstRows}
+use Rattle.reo_flows.specs.flowing.Flowing.{AreFlowingOf}
+use Rattle.reo_net_laws.specs.state_laws.States.{AreFirstRows}
 use Rattle.reo_item_bounds.specs.Bounds.{HasBounds}
 use Rattle.reo_part_plans.specs.declared.entry.Entry.{Entry}
 use Rattle.reo_planning.specs.Written.{AreWritten}

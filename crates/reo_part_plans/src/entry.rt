@@ -4,7 +4,7 @@ ghost use Rattle.reo_net_laws.specs.Sublists.{part_rows};
 ghost use Rattle.reo_part_plans.specs.Remembered.{IsWrittenDown};
 
 use crate::looks::Look;
-use reo_flowing::copy_over;
+use reo_flows::copy_over;
 use reo_planning::put_rows;
 use reo_values::{List, NoMemory, Value};
 use std::alloc::Global;

@@ -3,9 +3,9 @@ ghost use Rattle.std.specs.Prelude.{◌≡◌, ◌<◌, ◌≤◌, ◌++◌, ◌
 ghost use Rattle.reo_net_base.specs.Net.{net_of};
 ghost use Rattle.reo_net_base.specs.Sides.{side_count};
 ghost use Rattle.reo_knots.specs.Knots.{AreKnots, in_knot, knot_count};
-ghost use Rattle.reo_flowing.specs.Flowing.{AreFlowingOf};
+ghost use Rattle.reo_flows.specs.flowing.Flowing.{AreFlowingOf};
 ghost use Rattle.reo_item_bounds.specs.Bounds.{HasBounds};
-ghost use Rattle.reo_still.specs.Joining.{HasFirst};
+ghost use Rattle.reo_weights.specs.still.Joining.{HasFirst};
 ghost use Rattle.reo_planning.specs.Planned.{IsPartPlanned};
 ghost use Rattle.reo_part_plans.specs.Remembered.{AreNew, ArePlans, IsFoundAt, IsRecalled, StayOrGo};
 
@@ -13,7 +13,7 @@ use crate::entry::{Entry, rows_at, with_room};
 use crate::given::{are_given, deciding};
 use crate::looks::{Look, is_key, look_at_all};
 use crate::searching::find;
-use reo_flowing::copy_over;
+use reo_flows::copy_over;
 use reo_knots::Knots;
 use reo_net_base::Primitive;
 use reo_net_circuit::Circuit;

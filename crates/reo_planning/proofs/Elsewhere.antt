@@ -10,9 +10,9 @@ use Rattle.reo_net_laws.specs.Alike.{AreAlike}
 use Rattle.reo_net_laws.proofs.Isolation.{isolated}
 use Rattle.reo_net_laws.proofs.Sides.{side_at_place}
 use Rattle.reo_knots.specs.Knots.{Knotted, AreKnots, in_knot, knot_count}
-use Rattle.reo_still.specs.Still.{IsStill}
-use Rattle.reo_still.proofs.Rounds.{still_stay_first}
-use Rattle.reo_still.proofs.WithinLemmas.{alike_weigh}
+use Rattle.reo_weights.specs.still.Still.{IsStill}
+use Rattle.reo_weights.proofs.still.Rounds.{still_stay_first}
+use Rattle.reo_weights.proofs.still.WithinLemmas.{alike_weigh}
 use Rattle.reo_kept_tables.proofs.Staying.{same_side}
 use Rattle.reo_planning.specs.declared.kept.Kept.{Kept}
 use Rattle.reo_planning.specs.Keeping.{is_settled, is_moving, FlowsIn, HasSizes, IsKnown, IsKept}

@@ -5,7 +5,7 @@ use Rattle.reo_net_base.specs.Net.{Net}
 use Rattle.reo_net_base.specs.Sides.{side_count}
 use Rattle.reo_net_base.specs.First.{IsFirst}
 use Rattle.reo_knots.specs.Knots.{Knotted, in_knot, knot_count}
-use Rattle.reo_still.specs.Joining.{HasFirst, HaveFirsts}
+use Rattle.reo_weights.specs.still.Joining.{HasFirst, HaveFirsts}
 use Rattle.reo_weights.specs.Weights.{IsWeight}
 use Rattle.reo_weights.specs.Over.{Cause, IsWithin, IsOver}
 use Rattle.reo_planning.specs.declared.kept.Kept.{Kept}

@@ -1,13 +1,12 @@
 //! The tables of a whole circuit.
 ghost use Rattle.std.specs.Prelude.{◌≡◌, ◌<◌, IfOk, length};
 ghost use Rattle.reo_net_base.specs.Net.{net_of};
-ghost use Rattle.reo_net_ends.specs.Ends.{AreEnds};
+ghost use Rattle.reo_net_circuit.specs.found_ends.Ends.{AreEnds};
 ghost use Rattle.reo_kept_tables.specs.Tables.{AreReady};
 
 use reo_kept_tables::Tables;
 use reo_net_base::Primitive;
-use reo_net_circuit::Circuit;
-use reo_net_ends::Ends;
+use reo_net_circuit::{Circuit, Ends};
 use reo_propagate::begin;
 use reo_reach::reach;
 use reo_side_tables::boards_of;

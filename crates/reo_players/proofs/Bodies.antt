@@ -2,7 +2,7 @@
 use Rattle.std.proofs.Common.{◌≡◌, ◌∙◌, ℕ, zero, suc, max, ◌-◌, ◌<◌, List, [], ◌∷◌, ◌++◌, length, flat_map, refl, sym, ap, subst, arith, Some}
 use Rattle.std.proofs.lemmas.List.{append_assoc, append-nil}
 use mathlib.Core.Former.{Count}
-use Rattle.reo_scripts.specs.declared.action.Action.{Action, Repeat, Repeat', Row_of-Action, end_of-Action, more_of-Action, items-the_row-Action, items_hidden-the_row-Action-0}
+use Rattle.reo_script.specs.declared.scripts.action.Action.{Action, Repeat, Repeat', Row_of-Action, end_of-Action, more_of-Action, items-the_row-Action, items_hidden-the_row-Action-0}
 use Rattle.reo_players.specs.Written.{Task, times_over, written, written_row}
 use Rattle.reo_players.specs.Counters.{actions_in, levels_within, levels_row, levels_of, IsLive, IsLiveBody, AreLiveRow, AreLive, StandsHere, rest_here}
 

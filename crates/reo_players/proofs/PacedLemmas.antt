@@ -4,7 +4,7 @@ use Rattle.std.proofs.lemmas.Bool.{cases_eq, cases_lt}
 use Rattle.std.proofs.lemmas.List.{get_or-map, get_or_default, get_or-set_same, get_or-set_other, length-map, length-set, map-set, get_or_past}
 use Rattle.reo_values.proofs.Truths.{or_true}
 use Rattle.reo_flags.specs.Next.{IsNext}
-use Rattle.reo_dues.specs.Next.{IsNextDue}
+use Rattle.reo_flags.specs.dues.Next.{IsNextDue}
 use Rattle.reo_players.specs.declared.marks.Mark.{Mark}
 use Rattle.reo_players.specs.declared.marks.Marks.{Marks}
 use Rattle.reo_players.specs.declared.pacing.Paced.{Paced}

@@ -6,7 +6,7 @@ use Rattle.std.proofs.lemmas.Bool.{cases_eq}
 use Rattle.std.proofs.lemmas.Bool.Decides.{nat_tests}
 use Rattle.std.proofs.lemmas.List.{ext_get_or, get_or-set_same, get_or-set_other, length-set}
 use Rattle.reo_values.proofs.Truths.{either, not_true, not_false, and_left, and_right, and_false, or_true}
-use Rattle.reo_scripts.specs.declared.action.Component.{Component}
+use Rattle.reo_script.specs.declared.scripts.action.Component.{Component}
 use Rattle.reo_players.specs.declared.pacing.Paced.{Paced}
 use Rattle.reo_players.specs.Written.{Task}
 use Rattle.reo_players.specs.Players.{Player, no_player, beginning_of, after, after_task, bound_of, counts, first_bound, one_more_seen}

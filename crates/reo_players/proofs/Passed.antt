@@ -4,8 +4,8 @@ use Rattle.std.proofs.Math.ListN.{get_or}
 use Rattle.std.proofs.lemmas.List.{append_assoc}
 use Rattle.std.proofs.lemmas.Option.{slice_get_cases}
 use Rattle.reo_players.proofs.Stands.{rest_by, stands_by, stands_of}
-use Rattle.reo_scripts.specs.declared.action.Action as action
-use Rattle.reo_scripts.specs.declared.action.Action.{Action, Repeat}
+use Rattle.reo_script.specs.declared.scripts.action.Action as action
+use Rattle.reo_script.specs.declared.scripts.action.Action.{Action, Repeat}
 use Rattle.reo_players.specs.declared.counter.Counter.{Counter}
 use Rattle.reo_rules.specs.Lists.{first_of}
 use Rattle.reo_players.specs.Written.{Task, times_over, written}

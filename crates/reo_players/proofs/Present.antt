@@ -3,7 +3,7 @@ use Rattle.std.proofs.Common.{◌≡◌, ◌∙◌, ◌+◌, ◌-◌, ◌^◌, �
 use Rattle.std.specs.Prelude.{is_none, is_some, nat_eq}
 use Rattle.std.specs.Option.{option_map_or}
 use Rattle.reo_values.proofs.Truths.{or_false}
-use Rattle.reo_scripts.specs.declared.action.Action.{Action}
+use Rattle.reo_script.specs.declared.scripts.action.Action.{Action}
 use Rattle.reo_rules.specs.Lists.{first_of}
 use Rattle.reo_players.specs.declared.counter.Counter.{Counter}
 use Rattle.reo_players.specs.declared.step.Step.TheVariants as steps

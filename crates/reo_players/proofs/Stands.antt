@@ -2,7 +2,7 @@
 use Rattle.std.proofs.Common.{◌≡◌, ◌∙◌, ℕ, zero, suc, max, ◌+◌, ◌≤◌, ◌<◌, List, [], ◌∷◌, ◌++◌, length, drop, flat_map, slice_get, Some, refl, sym, ap, subst, arith}
 use Rattle.std.proofs.Math.ListN.{get_or}
 use Rattle.std.proofs.lemmas.Option.{slice_get_read}
-use Rattle.reo_scripts.specs.declared.action.Action.{Action}
+use Rattle.reo_script.specs.declared.scripts.action.Action.{Action}
 use Rattle.reo_players.specs.declared.counter.Counter.{Counter}
 use Rattle.reo_players.specs.Written.{written}
 use Rattle.reo_players.specs.Counters.{levels_within, levels_of, IsLive, AreLive, rest_here, rest_of, rest_within, Stands, StandsHere}

@@ -1,8 +1,8 @@
 -- Loop counters, and the list of tasks that they stand for.
 use Rattle.std.specs.Prelude.{ℕ, suc, ◌≡◌, ◌<◌, max, Bool, true, false, Option, Some, None, List, [], ◌∷◌, ◌++◌, drop, slice_get}
 use Rattle.std.specs.List.{flat_map}
-use Rattle.reo_scripts.specs.declared.action.Action as action
-use Rattle.reo_scripts.specs.declared.action.Action.{Action}
+use Rattle.reo_script.specs.declared.scripts.action.Action as action
+use Rattle.reo_script.specs.declared.scripts.action.Action.{Action}
 use Rattle.reo_players.specs.declared.counter.Counter.{Counter}
 use Rattle.reo_players.specs.Written.{Task, times_over, written}
 use Rattle.reo_players.specs.Written.Task.{writes, takes, rests}

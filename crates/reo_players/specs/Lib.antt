@@ -6,3 +6,4 @@ pub mod Codes
 pub mod Counters
 pub mod Offers
 pub mod Wants
+pub mod player_laws

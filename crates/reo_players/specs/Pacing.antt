@@ -1,7 +1,7 @@
 -- Components whose rounds are counted only when they are gone to.
 use Rattle.std.specs.Prelude.{ℕ, zero, suc, ◌≡◌, ◌+◌, ◌-◌, ◌^◌, ◌<◌, ◌≤◌, ◌==◌, min, cond, Option, None, List, [], ◌∷◌, length, map, nat_lt, slice_index_or}
 use Rattle.std.specs.Option.{option_map, option_map_or}
-use Rattle.reo_scripts.specs.declared.action.Component.{Component}
+use Rattle.reo_script.specs.declared.scripts.action.Component.{Component}
 use Rattle.reo_players.specs.declared.marks.Marks.{Marks}
 use Rattle.reo_players.specs.declared.pacing.Paced.{Paced}
 use Rattle.reo_players.specs.Players.{Player, beginning_of, first_bound}

@@ -4,7 +4,7 @@ use Rattle.std.specs.Option.{option_map_or}
 use Rattle.std.specs.List.{list_any, list_all}
 use Rattle.reo_net_base.specs.declared.port.Offer.{Offer}
 use Rattle.reo_net_base.specs.declared.port.Offer.TheVariants as offers
-use Rattle.reo_scripts.specs.declared.action.Component.{Component}
+use Rattle.reo_script.specs.declared.scripts.action.Component.{Component}
 use Rattle.reo_players.specs.declared.step.Step.{Step}
 use Rattle.reo_players.specs.declared.step.Step.TheVariants as steps
 use Rattle.reo_rules.specs.Lists.{first_of}

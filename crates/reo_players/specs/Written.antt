@@ -2,9 +2,9 @@
 use Rattle.std.specs.Prelude.{ℕ, zero, suc, Option, List, [], ◌∷◌, ◌++◌}
 use Rattle.std.specs.List.{flat_map}
 use Rattle.reo_values.specs.declared.value.Value.{Value}
-use Rattle.reo_scripts.specs.declared.action.Action as action
-use Rattle.reo_scripts.specs.declared.action.Action.{Action}
-use Rattle.reo_scripts.specs.declared.action.Component.{Component}
+use Rattle.reo_script.specs.declared.scripts.action.Action as action
+use Rattle.reo_script.specs.declared.scripts.action.Action.{Action}
+use Rattle.reo_script.specs.declared.scripts.action.Component.{Component}
 
 -- What stands in a written-out list: a write or a take at a port, with a bound or none, or a pause of so many rounds.
 pub data Task : Type 0 where

@@ -5,7 +5,7 @@ ghost use Rattle.reo_players.specs.Written.{written};
 ghost use Rattle.reo_players.specs.Counters.{levels_of, levels_within, rest_of, rest_within, Stands, StandsHere, IsLive, AreLive, PassedOn, PassedWithin, IsOneTask, task_of};
 ghost use Rattle.reo_rules.specs.Lists.{first_of};
 
-use reo_scripts::Action;
+use reo_script::Action;
 use reo_values::NoMemory;
 
 /// A place in a list of actions. Where a repeat stands there, `left` is how many times its body is

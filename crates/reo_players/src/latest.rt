@@ -3,7 +3,7 @@
 use crate::pacing::Paced;
 use crate::player::Player;
 use crate::step::Step;
-use reo_scripts::Action;
+use reo_script::Action;
 use reo_values::{List, NoMemory};
 use std::alloc::Global;
 

@@ -9,9 +9,14 @@ mod live;
 mod marks;
 mod pacing;
 mod player;
+mod player_laws;
 mod players;
 mod step;
 
 pub use laws::{offers_agree, stuck_is_not_done};
+pub use player_laws::{
+    bounds_are_exact, done_stays_done, flow_moves_on, repeats_are_written_out,
+    without_bound_it_waits,
+};
 pub use players::{Players, Want};
 pub use step::Step;

@@ -4,7 +4,7 @@ ghost use Rattle.std.specs.List.{flat_map};
 ghost use Rattle.reo_players.specs.Written.{written};
 ghost use Rattle.reo_players.specs.Counters.{IsLive, AreLive};
 
-use reo_scripts::Action;
+use reo_script::Action;
 use reo_values::{List, NoMemory};
 use std::alloc::Global;
 

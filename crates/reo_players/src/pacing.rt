@@ -5,7 +5,7 @@ ghost use Rattle.reo_players.specs.Pacing.{due_of, shown};
 
 use crate::player::Player;
 use crate::step::Step;
-use reo_dues::NEVER;
+use reo_flags::NEVER;
 
 /// A component as it was at a round of a clock: the rounds since then, in which nothing of it
 /// flowed and its bound did not run out, are not counted yet.

@@ -10,7 +10,7 @@ use crate::counter::{Counter, levels, pass, stand_at, standing};
 use crate::latest::ports_of;
 use crate::live::live_of;
 use crate::step::Step;
-use reo_scripts::{Action, Component};
+use reo_script::{Action, Component};
 use reo_values::{List, NoMemory};
 use std::alloc::Global;
 use std::marker::Model;

@@ -12,7 +12,7 @@ use Rattle.reo_trace.specs.RoundText.{round_text}
 use Rattle.reo_rounds.specs.Rules.{Rules}
 use Rattle.reo_runs.specs.Round.{Choosing, net_ready}
 use Rattle.reo_runs.specs.Run.{Place, EndsAs, place_after, firsts}
-use Rattle.reo_refute_faults.specs.Faults.{IsProof}
+use Rattle.reo_refute_base.specs.faults.Faults.{IsProof}
 use Rattle.reo_proof_texts.specs.Cuts.{LoggedRound, lines_text, all_logged}
 use Rattle.reo_proof_texts.specs.Proven.{IsProven, AreProven, IsProved}
 use Rattle.reo_proof_laws.specs.Logs.{LogsAreLines}

@@ -3,10 +3,10 @@ use Rattle.std.proofs.Common.{ℕ, List, sym, subst}
 use Rattle.std.proofs.lemmas.List.{append-nil}
 use Rattle.reo_refute_base.specs.Items.{Lists}
 use Rattle.reo_refute_base.specs.Texts.{log_text}
-use Rattle.reo_refute_faults.specs.Faults.{IsProof}
-use Rattle.reo_refute_laws.specs.Laws.{ItemsAreListed}
-use Rattle.reo_refute_laws.specs.Singles.{LogsExist}
-use Rattle.reo_refute_prove.proofs.FewItems.{lists_few}
+use Rattle.reo_refute_base.specs.faults.Faults.{IsProof}
+use Rattle.reo_refute_base.specs.laws.Laws.{ItemsAreListed}
+use Rattle.reo_refute_base.specs.laws.Singles.{LogsExist}
+use Rattle.reo_refute.proofs.proving.FewItems.{lists_few}
 use Rattle.reo_proof_laws.specs.Logs.{FirstsHaveLogs}
 use Rattle.reo_proof_laws.proofs.ItemLists.{item_lists}
 use Rattle.reo_proof_laws.proofs.LogLines.{logs_are_lines}

@@ -12,12 +12,12 @@ use Rattle.reo_refute_base.specs.Items.IsAdded.{none, known, fresh}
 use Rattle.reo_refute_base.specs.Items.AreVisited.{begun, next}
 use Rattle.reo_refute_base.specs.Items.ArePassed.{pass}
 use Rattle.reo_refute_base.specs.Wide.{IsWide}
-use Rattle.reo_refute_laws.proofs.Growing.{first_in}
-use Rattle.reo_refute_laws.proofs.Listing.{added_begins}
-use Rattle.reo_refute_laws.proofs.Told.{items_told}
-use Rattle.reo_refute_lists.specs.Visits.{AreGood, IsNew, total}
-use Rattle.reo_refute_lists.proofs.PassLemmas.{begun_passed, begun_good, fewer_missing, whole}
-use Rattle.reo_refute_lists.proofs.VisitLemmas.{many_found, nothing_comes, items_come}
+use Rattle.reo_refute_base.proofs.laws.Growing.{first_in}
+use Rattle.reo_refute_base.proofs.laws.Listing.{added_begins}
+use Rattle.reo_refute_base.proofs.laws.Told.{items_told}
+use Rattle.reo_refute_parts.specs.lists.Visits.{AreGood, IsNew, total}
+use Rattle.reo_refute_parts.proofs.lists.PassLemmas.{begun_passed, begun_good, fewer_missing, whole}
+use Rattle.reo_refute_parts.proofs.lists.VisitLemmas.{many_found, nothing_comes, items_come}
 
 -- Whether an item is in a list can be told.
 contains_told : (items : List Value) (x : Value) → Decided (Contains items x)

@@ -7,9 +7,9 @@ use Rattle.std.proofs.lemmas.Bool.Decides.{nat_tests}
 use Rattle.std.proofs.lemmas.List.{append-nil}
 use Rattle.std.proofs.lemmas.List.Elements.{All-nil, All-cons, All-append, All-head, All-tail, All-weaker}
 use Rattle.reo_values.proofs.Truths.{and_right}
-use Rattle.reo_numbers.specs.Digits.{IsDigit}
-use Rattle.reo_numbers.proofs.Digits.{digits_of_decimal}
-use Rattle.reo_numbers.proofs.Fronts.{heads_apart}
+use Rattle.reo_values.specs.decimals.Digits.{IsDigit}
+use Rattle.reo_values.proofs.decimals.Digits.{digits_of_decimal}
+use Rattle.reo_values.proofs.decimals.Fronts.{heads_apart}
 use Rattle.reo_joint_values.specs.declared.value.JointValue.{JointValue}
 use Rattle.reo_joint_values.specs.declared.value.JointValue.TheVariants.{Flow, RG, GR, GG, Jam}
 use Rattle.reo_refute_base.specs.declared.line.LogLine.{LogLine}

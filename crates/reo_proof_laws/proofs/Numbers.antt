@@ -18,11 +18,11 @@ use Rattle.reo_refute_base.specs.Logs.IsBranch.{drop, empty, split}
 use Rattle.reo_refute_base.specs.Logs.AreParts.{done, part}
 use Rattle.reo_refute_base.specs.Places.{IsAllowed}
 use Rattle.reo_refute_base.specs.Texts.{IsNumbered}
-use Rattle.reo_refute_laws.specs.Singles.{IsPartOf}
-use Rattle.reo_refute_prove.specs.Making.{AreFew}
+use Rattle.reo_refute_base.specs.laws.Singles.{IsPartOf}
+use Rattle.reo_refute.specs.proving.Making.{AreFew}
 use Rattle.reo_proof_laws.specs.Logs.{IsSized}
 use Rattle.reo_joint_values.proofs.Inside.{side_below}
-use Rattle.reo_refute_prove.proofs.Numbers.{value_numbered}
+use Rattle.reo_refute.proofs.proving.Numbers.{value_numbered}
 
 leading_few : (turn : ℕ) (ss : List Side) (k : ℕ) → length (leading_positions turn ss k) ≤ length ss
 leading_few turn [] k = omega arith

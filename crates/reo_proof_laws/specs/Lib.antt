@@ -1,2 +1,3 @@
 pub mod Logs
 pub mod Proofs
+pub mod run_proofs

@@ -8,7 +8,7 @@ use Rattle.reo_net_base.specs.Wired.{IsWired, IsOrder}
 use Rattle.reo_weights.specs.Over.{Cause, IsOver}
 use Rattle.reo_refute_base.specs.RightTexts.{IsRightText}
 use Rattle.reo_refute_base.specs.Wide.{IsWide}
-use Rattle.reo_refute_faults.specs.Faults.{IsProof}
+use Rattle.reo_refute_base.specs.faults.Faults.{IsProof}
 use Rattle.reo_proof_texts.specs.Cuts.{IsLogLine, lines_text}
 
 -- Fewer than 2^31 primitives, and fewer than 2^31 joints.

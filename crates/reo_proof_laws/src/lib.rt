@@ -4,6 +4,8 @@
 
 mod logs;
 mod proofs;
+mod run_proofs;
 
 pub use logs::{firsts_have_logs, logs_are_lines, within_is_narrow};
 pub use proofs::{proofs_exist, proved_texts_are_cut};
+pub use run_proofs::{run_proofs_are_verified, runs_are_proof_texts};

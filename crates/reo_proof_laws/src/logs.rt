@@ -1,7 +1,7 @@
 //! Laws of logs.
 ghost use Rattle.reo_proof_laws.specs.Logs.{FirstsHaveLogs, LogsAreLines, WithinIsNarrow};
 
-use reo_refute_laws::{items_are_listed, logs_exist};
+use reo_refute_base::{items_are_listed, logs_exist};
 
 /// Where no part of a circuit is over a budget, at no joint can more than 256 items stand.
 pub fn within_is_narrow()

@@ -2,15 +2,15 @@
 use Rattle.std.proofs.Common.{◌≡◌, ◌≢◌, ◌∙◌, ap, sym, subst, ℕ, List, [], ◌∷◌, ◌++◌, length, drop, append_assoc, append-nil}
 use Rattle.std.specs.Prelude.{codes}
 use Rattle.std.specs.List.{All}
-use Rattle.reo_numbers.proofs.Fronts.{front_unique}
+use Rattle.reo_values.proofs.decimals.Fronts.{front_unique}
 use Rattle.reo_net_base.specs.declared.port.Port.{Port}
 use Rattle.reo_trace.specs.declared.line.RoundLine.{RoundLine}
 use Rattle.reo_trace.specs.declared.line.Ending.{Ending}
 use Rattle.reo_trace.specs.EndingText.{ending_text}
 use Rattle.reo_trace.specs.RoundText.{round_text}
-use Rattle.reo_trace_texts.specs.Lines.{AreTold, IsLine, IsEnding}
-use Rattle.reo_trace_texts.specs.Texts.{IsRoundText, IsEndingText}
-use Rattle.reo_trace_texts.proofs.Answering.{one_round, round_no-end}
+use Rattle.reo_trace_reader.specs.texts.Lines.{AreTold, IsLine, IsEnding}
+use Rattle.reo_trace_reader.specs.texts.Texts.{IsRoundText, IsEndingText}
+use Rattle.reo_trace_reader.proofs.texts.Answering.{one_round, round_no-end}
 use Rattle.reo_proof_texts.specs.Cuts.{IsInLine, HasNone}
 use Rattle.reo_proof_texts.proofs.CutLemmas.{feed_ends, no_feed}
 use Rattle.reo_proof_reader.specs.Reads.{IsLineTaken}

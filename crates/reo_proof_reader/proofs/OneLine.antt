@@ -22,7 +22,7 @@ use Rattle.reo_values.specs.Valid.{IsValid}
 use Rattle.reo_values.proofs.Members.{in_unit, in_bool, in_int, in_sym, in_text, in_pair}
 use Rattle.reo_values.proofs.Numbers.{mag_small, fits_between}
 use Rattle.reo_values.proofs.Pairs.{text_of-Pair}
-use Rattle.reo_numbers.specs.Digits.{IsSmall}
+use Rattle.reo_values.specs.decimals.Digits.{IsSmall}
 use Rattle.reo_net_base.specs.declared.colouring.Move.{Move}
 use Rattle.reo_net_base.specs.declared.port.Port.{Port}
 use Rattle.reo_net_base.specs.declared.port.Way.{Way}
@@ -37,8 +37,8 @@ use Rattle.reo_trace.specs.declared.line.Ending.TheVariants.{Done, Stuck, Limit,
 use Rattle.reo_trace.specs.EndingText.{ending_text}
 use Rattle.reo_trace.specs.RoundText.{sign_of, flow_text, move_text, moves_text, cell_text, entry_text, round_text}
 use Rattle.reo_trace.specs.Spaced.{spaced}
-use Rattle.reo_trace_texts.specs.Lines.{AreTold, IsCell, IsEntry, IsMove, IsLine, IsEnding}
-use Rattle.reo_trace_texts.proofs.Moves.{bytes_of-name, name_at, kindred_at}
+use Rattle.reo_trace_reader.specs.texts.Lines.{AreTold, IsCell, IsEntry, IsMove, IsLine, IsEnding}
+use Rattle.reo_trace_reader.proofs.texts.Moves.{bytes_of-name, name_at, kindred_at}
 use Rattle.reo_proof_texts.specs.Cuts.{IsInLine}
 
 abbrev pub AreInLine : List ℕ → Type 0

@@ -1,6 +1,6 @@
 //! What stands next in a proof text.
 ghost use Rattle.std.specs.Prelude.{◌≡◌, ℕ, IfOk};
-ghost use Rattle.reo_trace_texts.specs.Lines.{AreTold};
+ghost use Rattle.reo_trace_reader.specs.texts.Lines.{AreTold};
 ghost use Rattle.reo_proof_reader.specs.Found.{IsFound};
 
 use crate::log::{Log, take_log};

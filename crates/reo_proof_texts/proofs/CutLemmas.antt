@@ -5,13 +5,13 @@ use Rattle.std.specs.List.{All}
 use Rattle.std.proofs.lemmas.List.{append_cancel_left}
 use Rattle.std.proofs.lemmas.List.Elements.{All-nil, All-cons, All-head, All-tail}
 use Rattle.reo_values.proofs.Words.{first_or}
-use Rattle.reo_numbers.proofs.Fronts.{front_unique}
+use Rattle.reo_values.proofs.decimals.Fronts.{front_unique}
 use Rattle.reo_net_base.specs.declared.port.Port.{Port}
 use Rattle.reo_trace.specs.declared.line.Ending.{Ending}
 use Rattle.reo_trace.specs.RoundText.{round_text}
-use Rattle.reo_trace_texts.specs.Lines.{AreTold}
-use Rattle.reo_trace_texts.proofs.Endings.{ending_unique, line_no-ending}
-use Rattle.reo_trace_texts.proofs.RoundLines.{line_unique}
+use Rattle.reo_trace_reader.specs.texts.Lines.{AreTold}
+use Rattle.reo_trace_reader.proofs.texts.Endings.{ending_unique, line_no-ending}
+use Rattle.reo_trace_reader.proofs.texts.RoundLines.{line_unique}
 use Rattle.reo_proof_texts.specs.Cuts.{IsInLine, IsLogLine, lines_text, LoggedRound, logged_text, IsLogged, Next, IsNext}
 
 -- A line feed is in no line.

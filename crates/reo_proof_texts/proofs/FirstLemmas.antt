@@ -13,8 +13,8 @@ use Rattle.reo_rounds.proofs.OrderLemmas.{KeepsShape, ready_order, round_order}
 use Rattle.reo_rounds.proofs.RoundLemmas.{suits_also}
 use Rattle.reo_runs.specs.Round.{State, Choosing, RoundOf, net_ready}
 use Rattle.reo_runs.specs.Run.{Place, Leads, EndsAs, IsRun, place_after, firsts}
-use Rattle.reo_verdicts.specs.Replays.{MayStop, colourings}
-use Rattle.reo_verdicts.proofs.VerifiedLemmas.{may_stop}
+use Rattle.reo_runs.specs.verdicts.Replays.{MayStop, colourings}
+use Rattle.reo_runs.proofs.verdicts.VerifiedLemmas.{may_stop}
 use Rattle.reo_refute_base.specs.Logs.{RightLogsRefute}
 use Rattle.reo_proof_texts.specs.Cuts.{LoggedRound}
 use Rattle.reo_proof_texts.specs.Proven.{IsProven, AreProven, IsProved}

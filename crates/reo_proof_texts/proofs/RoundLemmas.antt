@@ -10,16 +10,16 @@ use Rattle.reo_rounds.specs.Order.{HasOrder}
 use Rattle.reo_rounds.proofs.OrderLemmas.{KeepsShape, ready_order}
 use Rattle.reo_runs.specs.Round.{State, RoundOf, net_ready, advanced}
 use Rattle.reo_net_base.specs.declared.port.Port.{Port}
-use Rattle.reo_verdicts.specs.declared.verdict.Refusal.{Refusal}
-use Rattle.reo_verdicts.specs.declared.verdict.Refusal.TheVariants as causes
-use Rattle.reo_verdicts.specs.Replays.{colourings}
-use Rattle.reo_verdicts.specs.Said.{AreSaid}
-use Rattle.reo_verdicts.specs.Wrongs.{IsWrongRound}
-use Rattle.reo_verdicts.proofs.WrongLemmas.{one_colouring_said, one_wrong_round, none_wrong_round}
-use Rattle.reo_refute_faults.specs.declared.fault.ProofFault.{ProofFault}
-use Rattle.reo_refute_faults.specs.declared.fault.ProofFault.TheVariants as faults
-use Rattle.reo_refute_faults.specs.Faults.{IsProofFault}
-use Rattle.reo_refute_faults.proofs.OneFault.{one_fault, proof_or_fault}
+use Rattle.reo_runs.specs.declared.verdicts.verdict.Refusal.{Refusal}
+use Rattle.reo_runs.specs.declared.verdicts.verdict.Refusal.TheVariants as causes
+use Rattle.reo_runs.specs.verdicts.Replays.{colourings}
+use Rattle.reo_runs.specs.verdicts.Said.{AreSaid}
+use Rattle.reo_runs.specs.verdicts.Wrongs.{IsWrongRound}
+use Rattle.reo_runs.proofs.verdicts.WrongLemmas.{one_colouring_said, one_wrong_round, none_wrong_round}
+use Rattle.reo_refute_base.specs.declared.faults.fault.ProofFault.{ProofFault}
+use Rattle.reo_refute_base.specs.declared.faults.fault.ProofFault.TheVariants as faults
+use Rattle.reo_refute_base.specs.faults.Faults.{IsProofFault}
+use Rattle.reo_refute_base.proofs.faults.OneFault.{one_fault, proof_or_fault}
 use Rattle.reo_proof_texts.specs.declared.refusal.ProofRefusal.{ProofRefusal}
 use Rattle.reo_proof_texts.specs.declared.refusal.ProofRefusal.TheVariants as refusals
 use Rattle.reo_proof_texts.specs.Cuts.{LoggedRound, lines_text}

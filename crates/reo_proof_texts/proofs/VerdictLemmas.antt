@@ -4,13 +4,13 @@ use Rattle.std.specs.Prelude.{None, Result, Ok, Err}
 use Rattle.reo_net_base.specs.declared.port.Port.{Port}
 use Rattle.reo_net_base.specs.Net.{net_of}
 use Rattle.reo_players.specs.Offers.{offer_for}
-use Rattle.reo_trace_texts.specs.Lines.{AreTold}
+use Rattle.reo_trace_reader.specs.texts.Lines.{AreTold}
 use Rattle.reo_rounds.specs.Order.{HasOrder}
 use Rattle.reo_rounds.specs.Rules.{Rules}
 use Rattle.reo_rounds.proofs.OrderLemmas.{KeepsShape, round_order}
 use Rattle.reo_runs.specs.Round.{State}
 use Rattle.reo_runs.specs.Run.{Place, EndsAs, place_after}
-use Rattle.reo_verdicts.specs.Replays.{colourings}
+use Rattle.reo_runs.specs.verdicts.Replays.{colourings}
 use Rattle.reo_proof_texts.specs.declared.refusal.ProofRefusal.{ProofRefusal}
 use Rattle.reo_proof_texts.specs.Cuts.{LoggedRound, logged_text, all_logged, lines_in, AreLogged, Next, IsNext}
 use Rattle.reo_proof_texts.specs.Proven.{IsProven, AreProven}

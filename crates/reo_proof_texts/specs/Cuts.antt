@@ -6,7 +6,7 @@ use Rattle.reo_trace.specs.declared.line.RoundLine.{RoundLine}
 use Rattle.reo_trace.specs.declared.line.Ending.{Ending}
 use Rattle.reo_trace.specs.EndingText.{ending_text}
 use Rattle.reo_trace.specs.RoundText.{round_text}
-use Rattle.reo_trace_texts.specs.Lines.{IsLine, IsEnding}
+use Rattle.reo_trace_reader.specs.texts.Lines.{IsLine, IsEnding}
 
 -- No line feed.
 abbrev pub IsInLine : ℕ → Type 0

@@ -4,12 +4,12 @@ use Rattle.reo_net_base.specs.declared.port.Port.{Port}
 use Rattle.reo_net_base.specs.First.{IsFirst}
 use Rattle.reo_net_base.specs.Net.{net_of}
 use Rattle.reo_trace.specs.declared.line.Ending.{Ending}
-use Rattle.reo_trace_texts.specs.Lines.{AreTold, IsEnding}
+use Rattle.reo_trace_reader.specs.texts.Lines.{AreTold, IsEnding}
 use Rattle.reo_rounds.specs.Order.{HasOrder}
 use Rattle.reo_rounds.specs.Rules.{Rules}
 use Rattle.reo_runs.specs.Round.{Choosing}
 use Rattle.reo_runs.specs.Run.{Place, IsRun, firsts}
-use Rattle.reo_verdicts.specs.Replays.{colourings}
+use Rattle.reo_runs.specs.verdicts.Replays.{colourings}
 use Rattle.reo_proof_texts.specs.declared.refusal.ProofRefusal.{ProofRefusal}
 use Rattle.reo_proof_texts.specs.Cuts.{LoggedRound, AreLogged}
 use Rattle.reo_proof_texts.specs.Proven.{IsProved}

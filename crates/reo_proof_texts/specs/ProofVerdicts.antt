@@ -2,16 +2,16 @@
 use Rattle.std.specs.Prelude.{ℕ, ◌+◌, ◌≡◌, ◌≢◌, ◌⊎◌, None, List, ◌++◌, length, Result, Ok, Err}
 use Rattle.reo_net_base.specs.declared.port.Port.{Port}
 use Rattle.reo_trace.specs.declared.line.Ending.{Ending}
-use Rattle.reo_trace_texts.specs.Lines.{IsEnding}
+use Rattle.reo_trace_reader.specs.texts.Lines.{IsEnding}
 use Rattle.reo_rounds.specs.Rules.{Rules}
 use Rattle.reo_runs.specs.Round.{State, RoundOf, net_ready}
 use Rattle.reo_runs.specs.Run.{Place, EndsAs}
-use Rattle.reo_verdicts.specs.declared.verdict.Refusal.TheVariants as causes
-use Rattle.reo_verdicts.specs.Replays.{colourings}
-use Rattle.reo_verdicts.specs.Wrongs.{IsWrongRound}
-use Rattle.reo_refute_faults.specs.declared.fault.ProofFault.{ProofFault}
-use Rattle.reo_refute_faults.specs.declared.fault.ProofFault.TheVariants as faults
-use Rattle.reo_refute_faults.specs.Faults.{IsProofFault}
+use Rattle.reo_runs.specs.declared.verdicts.verdict.Refusal.TheVariants as causes
+use Rattle.reo_runs.specs.verdicts.Replays.{colourings}
+use Rattle.reo_runs.specs.verdicts.Wrongs.{IsWrongRound}
+use Rattle.reo_refute_base.specs.declared.faults.fault.ProofFault.{ProofFault}
+use Rattle.reo_refute_base.specs.declared.faults.fault.ProofFault.TheVariants as faults
+use Rattle.reo_refute_base.specs.faults.Faults.{IsProofFault}
 use Rattle.reo_proof_texts.specs.declared.refusal.ProofRefusal.{ProofRefusal}
 use Rattle.reo_proof_texts.specs.declared.refusal.ProofRefusal.TheVariants as refusals
 use Rattle.reo_proof_texts.specs.Cuts.{LoggedRound, lines_text, all_logged, lines_in, AreLogged, Next, IsNext}

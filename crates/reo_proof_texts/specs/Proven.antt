@@ -6,7 +6,7 @@ use Rattle.reo_trace.specs.EndingText.{ending_text}
 use Rattle.reo_rounds.specs.Rules.{Rules}
 use Rattle.reo_runs.specs.Round.{State, Choosing, RoundOf, net_ready}
 use Rattle.reo_runs.specs.Run.{Place, EndsAs, place_after}
-use Rattle.reo_refute_faults.specs.Faults.{IsProof}
+use Rattle.reo_refute_base.specs.faults.Faults.{IsProof}
 use Rattle.reo_proof_texts.specs.Cuts.{LoggedRound, lines_text, all_logged}
 
 module _ {P : Type 0} (C : Choosing) (r : Rules P) where

@@ -3,7 +3,7 @@ ghost use Rattle.reo_rounds.specs.Rules.{rules_of};
 ghost use Rattle.reo_proof_texts.specs.Laws.{OneProofVerdict, ProvedTextsAreOfRuns, ProvedTextsAreVerified, VerifiedRoundsAreFirst};
 
 use reo_net_base::Ported;
-use reo_refute_laws::right_logs_refute;
+use reo_refute_base::right_logs_refute;
 
 /// Where the joints have an order, a proof text has at most one verdict.
 pub fn one_proof_verdict<P: Ported>()

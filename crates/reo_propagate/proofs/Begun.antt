@@ -6,7 +6,7 @@ use Rattle.reo_values.specs.declared.value.Value.{Value}
 use Rattle.reo_net_base.specs.Net.{Net, all_sides, no_side, row_count}
 use Rattle.reo_net_base.specs.Sides.{side_count}
 use Rattle.reo_net_laws.proofs.Sides.{below_or}
-use Rattle.reo_net_ends.specs.Ends.{AreEnds}
+use Rattle.reo_net_circuit.specs.found_ends.Ends.{AreEnds}
 use Rattle.reo_joint_values.specs.declared.value.JointValue.{JointValue}
 use Rattle.reo_joint_values.specs.Values.{Names, Family}
 use Rattle.reo_side_tables.specs.declared.board.Board.{Board}

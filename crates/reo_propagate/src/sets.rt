@@ -1,7 +1,7 @@
 //! Narrowing sets that are given as lists.
 ghost use Rattle.std.specs.Prelude.{◌≡◌, ◌↔◌, ◌<◌, ◌+◌, ◌^◌, ◌==◌, ◌&&◌, ℕ, true, [], IsTrue, IfOk, OnOk, OnErr, length, slice_index_or};
 ghost use Rattle.reo_net_base.specs.Net.{net_of, all_sides};
-ghost use Rattle.reo_net_ends.specs.Ends.{AreEnds};
+ghost use Rattle.reo_net_circuit.specs.found_ends.Ends.{AreEnds};
 ghost use Rattle.reo_net_laws.specs.Parts.{IsClosed};
 ghost use Rattle.reo_joint_values.specs.declared.value.JointValue.{JointValue as Standing};
 ghost use Rattle.reo_joint_values.specs.Values.{giver_side};
@@ -19,8 +19,7 @@ use crate::narrowing::propagate;
 use crate::state::{State, all_waiting};
 use reo_joint_values::JointValue;
 use reo_net_base::Primitive;
-use reo_net_circuit::Circuit;
-use reo_net_ends::ends_of;
+use reo_net_circuit::{Circuit, ends_of};
 use reo_reach::Supply;
 use reo_rows::{Basis, FLOWS, Flags, all_rows};
 use reo_side_tables::{Board, boards_of, giver_side};

@@ -1,7 +1,7 @@
 //! What a search keeps: the values and the rows that are left, and the sides that wait.
 ghost use Rattle.std.specs.Prelude.{◌≡◌, ◌<◌, ◌^◌, ℕ, true, [], IfOk, length, replicate, slice_index_or};
 ghost use Rattle.reo_net_base.specs.Net.{net_of, all_sides};
-ghost use Rattle.reo_net_ends.specs.Ends.{AreEnds};
+ghost use Rattle.reo_net_circuit.specs.found_ends.Ends.{AreEnds};
 ghost use Rattle.reo_side_tables.specs.Boards.{AreBoards};
 ghost use Rattle.reo_propagate.specs.Queues.{among};
 ghost use Rattle.reo_propagate.specs.Beginning.{AreFlags, IsSearch, IsWhole};
@@ -9,8 +9,7 @@ ghost use Rattle.reo_propagate.specs.Beginning.{AreFlags, IsSearch, IsWhole};
 use crate::line::line_of;
 use crate::queue::Queue;
 use reo_net_base::Primitive;
-use reo_net_circuit::Circuit;
-use reo_net_ends::Ends;
+use reo_net_circuit::{Circuit, Ends};
 use reo_rows::{FLOWS, Flags, Rows, all_rows};
 use reo_side_tables::Board;
 use reo_values::{List, NoMemory, Value};

@@ -7,7 +7,7 @@ use Rattle.reo_net_base.specs.First.{IsFirst}
 use Rattle.reo_net_base.specs.Moves.{moves_of}
 use Rattle.reo_net_base.specs.Net.{Net, Wiring, net_of}
 use Rattle.reo_net_base.specs.Step.{stepped}
-use Rattle.reo_at_ports.specs.Engines.{Running}
+use Rattle.reo_runner.specs.at_ports.Engines.{Running}
 use Rattle.reo_players.specs.Players.{Player}
 use Rattle.reo_players.specs.Offers.{offer_for}
 use Rattle.reo_trace.specs.declared.line.Ending.{Ending}
@@ -25,9 +25,9 @@ use Rattle.reo_weights.specs.Over.{IsOver}
 use Rattle.reo_weights.specs.Over.Cause.{spent, wide}
 use Rattle.reo_runs.specs.Round.{State, net_ready, advanced}
 use Rattle.reo_runs.specs.Run.{firsts, over_after}
-use Rattle.reo_at_ports.specs.Pending.{IsButForOffers}
-use Rattle.reo_at_ports.proofs.AfterRound.{over_by}
-use Rattle.reo_refute_faults.specs.Faults.{IsProof}
+use Rattle.reo_runner.specs.at_ports.Pending.{IsButForOffers}
+use Rattle.reo_runner.proofs.at_ports.AfterRound.{over_by}
+use Rattle.reo_refute_base.specs.faults.Faults.{IsProof}
 use Rattle.reo_proof_texts.specs.Cuts.{LoggedRound, lines_text}
 use Rattle.reo_proof_texts.specs.Proven.{IsProven}
 use Rattle.reo_proof_laws.specs.Logs.{LogsAreLines}

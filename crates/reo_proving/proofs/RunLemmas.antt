@@ -7,7 +7,7 @@ use Rattle.reo_io.specs.Sinks.{Appended, TookPart}
 use Rattle.reo_io.proofs.Taken.{Appended-none, Appended-append, TookPart-after, TookPart-more}
 use Rattle.reo_net_base.specs.declared.port.Port.{Port}
 use Rattle.reo_net_base.specs.Net.{Wiring}
-use Rattle.reo_scripts.specs.declared.action.Component.{Component}
+use Rattle.reo_script.specs.declared.scripts.action.Component.{Component}
 use Rattle.reo_players.specs.Players.{Player, all_done, beginning_of}
 use Rattle.reo_trace.specs.declared.line.Ending.{Ending}
 use Rattle.reo_trace.specs.declared.line.Ending.TheVariants as endings
@@ -17,7 +17,7 @@ use Rattle.reo_trace.specs.EndingText.{ending_text}
 use Rattle.reo_rounds.specs.Rules.{Rules}
 use Rattle.reo_runs.specs.Round.{State}
 use Rattle.reo_runs.specs.Run.{Place, EndsAs, place_after, over_after, start_of, firsts}
-use Rattle.reo_at_ports.specs.Pending.{IsButForOffers}
+use Rattle.reo_runner.specs.at_ports.Pending.{IsButForOffers}
 use Rattle.reo_proof_texts.specs.Cuts.{LoggedRound, logged_text, all_logged}
 use Rattle.reo_proof_texts.specs.Proven.{IsProven, AreProven, IsProved}
 use Rattle.reo_proof_laws.specs.Proofs.{HasProofs}

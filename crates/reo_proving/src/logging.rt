@@ -6,14 +6,14 @@ ghost use Rattle.reo_net_base.specs.Net.{net_of};
 ghost use Rattle.reo_trace.specs.RoundText.{round_text};
 ghost use Rattle.reo_trace.specs.declared.write.WriteFault.TheVariants.{Failed as SinkFailed, NoMemory as OutOfMemory};
 ghost use Rattle.reo_refute_base.specs.Wide.{IsWide};
-ghost use Rattle.reo_refute_check.specs.Judging.{IsFirstRows};
+ghost use Rattle.reo_refute.specs.check.Judging.{IsFirstRows};
 ghost use Rattle.reo_proving.specs.Rounds.{HasLogged, HasLoggedPart, IsEndedLog};
 
-use reo_at_ports::PlannedRound;
 use reo_io::{Sink, put_all};
 use reo_net_base::{Ports, Primitive};
 use reo_net_circuit::Circuit;
-use reo_refute_prove::prove;
+use reo_refute::prove;
+use reo_runner::PlannedRound;
 use reo_trace::{RoundLine, WriteFault, write_round};
 use reo_values::{Bytes, NoMemory};
 use std::alloc::Global;

@@ -12,8 +12,8 @@ use Rattle.reo_net_base.specs.Net.{Net, behaviour_at, end_of}
 use Rattle.reo_net_base.specs.Ends.{IsGiver, IsTaker}
 use Rattle.reo_net_base.specs.Wired.{IsWired}
 use Rattle.reo_net_laws.specs.Ends.{mark_in, from_in}
-use Rattle.reo_net_ends.specs.Ends.{joint_at, AreEnds}
-use Rattle.reo_net_ends.proofs.EndLemmas.{taker_at, of_taker}
+use Rattle.reo_net_circuit.specs.found_ends.Ends.{joint_at, AreEnds}
+use Rattle.reo_net_circuit.proofs.found_ends.EndLemmas.{taker_at, of_taker}
 use Rattle.reo_joint_values.specs.Standing.{no_joint, giver_of, taker_of, given_in, passes_in, FlowsAt, IsGivenFor, GivesAlone}
 use Rattle.reo_reach.specs.Supplied.{Supplied, items_at}
 use Rattle.reo_reach.specs.Added.{AreAdded, IsProduced, IsMade}

@@ -5,7 +5,7 @@ ghost use Rattle.reo_net_base.specs.Behaviour.{IsPlainRow};
 ghost use Rattle.reo_net_base.specs.Ends.{IsGiver};
 ghost use Rattle.reo_net_base.specs.Net.{net_of, behaviour_at, end_of};
 ghost use Rattle.reo_net_laws.specs.Ends.{from_in};
-ghost use Rattle.reo_net_ends.specs.Ends.{AreEnds};
+ghost use Rattle.reo_net_circuit.specs.found_ends.Ends.{AreEnds};
 ghost use Rattle.reo_joint_values.specs.Standing.{FlowsAt, GivesAlone, IsGivenFor};
 ghost use Rattle.reo_reach.specs.Supplied.{HasPlaces};
 ghost use Rattle.reo_reach.specs.Added.{AreAdded, IsProduced};
@@ -13,8 +13,7 @@ ghost use Rattle.reo_reach.specs.Added.{AreAdded, IsProduced};
 use crate::stock::{add, is_full};
 use crate::supply::Supply;
 use reo_net_base::{End, Mark, Primitive};
-use reo_net_circuit::Circuit;
-use reo_net_ends::Ends;
+use reo_net_circuit::{Circuit, Ends};
 use reo_values::{List, NoMemory, Value};
 use std::alloc::Global;
 

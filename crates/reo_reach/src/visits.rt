@@ -3,7 +3,7 @@ ghost use Rattle.std.specs.Prelude.{◌≡◌, ◌<◌, ◌+◌, ℕ, IfOk, OnOk
 ghost use Rattle.reo_net_base.specs.Behaviour.{IsPlainRow};
 ghost use Rattle.reo_net_base.specs.Ends.{IsGiver};
 ghost use Rattle.reo_net_base.specs.Net.{net_of, behaviour_at};
-ghost use Rattle.reo_net_ends.specs.Ends.{AreEnds};
+ghost use Rattle.reo_net_circuit.specs.found_ends.Ends.{AreEnds};
 ghost use Rattle.reo_reach.specs.Added.{IsMade, IsRenewed};
 ghost use Rattle.reo_reach.specs.InOrder.{AreInOrder};
 ghost use Rattle.reo_reach.specs.Supplied.{AreShort, HasPlaces, IsReached, IsSupply, OthersStay};
@@ -11,8 +11,7 @@ ghost use Rattle.reo_reach.specs.Supplied.{AreShort, HasPlaces, IsReached, IsSup
 use crate::rows::add_row;
 use crate::supply::Supply;
 use reo_net_base::{End, Primitive};
-use reo_net_circuit::Circuit;
-use reo_net_ends::{Ends, ends_of};
+use reo_net_circuit::{Circuit, Ends, ends_of};
 use reo_values::{List, NoMemory, Value};
 use std::alloc::Global;
 

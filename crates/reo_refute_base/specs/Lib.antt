@@ -7,3 +7,7 @@ pub mod RightTexts
 pub mod Steps
 pub mod Texts
 pub mod Wide
+pub mod laws
+pub mod faults
+pub mod support_laws
+pub mod measure

@@ -14,8 +14,8 @@ use Rattle.reo_joint_values.specs.Values.{Family, value_eq}
 use Rattle.reo_joint_values.proofs.Narrowing.{same_value}
 use Rattle.reo_refute_base.specs.Items.{Lists, items_at}
 use Rattle.reo_refute_base.specs.Live.{all_live, live_at, values_of, without, alone}
-use Rattle.reo_refute_support.specs.declared.live.LiveAt.{LiveAt}
-use Rattle.reo_refute_support.specs.Families.{family_of, AreLive}
+use Rattle.reo_refute_live.specs.declared.support.live.LiveAt.{LiveAt}
+use Rattle.reo_refute_live.specs.support.Families.{family_of, AreLive}
 use Rattle.reo_refute_live.proofs.TrailLemmas.{live_one}
 
 -- Whether a value is among some.

@@ -11,8 +11,8 @@ use Rattle.reo_joint_values.specs.declared.value.JointValue.TheVariants.{Flow, R
 use Rattle.reo_joint_values.specs.Values.{value_eq}
 use Rattle.reo_refute_base.specs.Items.{Lists, items_at}
 use Rattle.reo_refute_base.specs.Live.{all_live, without}
-use Rattle.reo_refute_support.specs.declared.live.LiveAt.{LiveAt}
-use Rattle.reo_refute_support.specs.Families.{has, family_of, none_gone, AreLive}
+use Rattle.reo_refute_live.specs.declared.support.live.LiveAt.{LiveAt}
+use Rattle.reo_refute_live.specs.support.Families.{has, family_of, none_gone, AreLive}
 use Rattle.reo_refute_live.specs.Trail.{with_back}
 
 -- The entry of a joint with these items, in which all is live.

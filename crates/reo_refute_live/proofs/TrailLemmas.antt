@@ -14,9 +14,9 @@ use Rattle.reo_joint_values.specs.Values.{Family, value_eq}
 use Rattle.reo_joint_values.proofs.Narrowing.{same_value}
 use Rattle.reo_refute_base.specs.Items.{Lists, items_at}
 use Rattle.reo_refute_base.specs.Live.{all_live, without}
-use Rattle.reo_refute_support.specs.declared.live.LiveAt.{LiveAt}
-use Rattle.reo_refute_support.specs.Families.{family_of, none_gone, AreLive}
-use Rattle.reo_refute_support.proofs.LiveLemmas.{flag_in}
+use Rattle.reo_refute_live.specs.declared.support.live.LiveAt.{LiveAt}
+use Rattle.reo_refute_live.specs.support.Families.{family_of, none_gone, AreLive}
+use Rattle.reo_refute_live.proofs.support.LiveLemmas.{flag_in}
 use Rattle.reo_refute_live.specs.declared.trail.Gone.{Gone}
 use Rattle.reo_refute_live.specs.Trail.{with_back, revived, HasLost, IsOne, AreKept}
 

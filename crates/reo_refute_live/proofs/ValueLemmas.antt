@@ -11,9 +11,9 @@ use Rattle.reo_joint_values.specs.declared.value.JointValue.{JointValue}
 use Rattle.reo_joint_values.specs.declared.value.JointValue.TheVariants.{Flow, RG, GR, GG, Jam}
 use Rattle.reo_refute_base.specs.Items.{Lists, items_at}
 use Rattle.reo_refute_base.specs.Live.{live_at}
-use Rattle.reo_refute_support.specs.declared.live.LiveAt.{LiveAt}
-use Rattle.reo_refute_support.specs.Families.{has, family_of, none_gone, AreLive}
-use Rattle.reo_refute_support.proofs.LiveLemmas.{flag_in}
+use Rattle.reo_refute_live.specs.declared.support.live.LiveAt.{LiveAt}
+use Rattle.reo_refute_live.specs.support.Families.{has, family_of, none_gone, AreLive}
+use Rattle.reo_refute_live.proofs.support.LiveLemmas.{flag_in}
 use Rattle.reo_refute_live.specs.Tables.{flow_set, live_flows}
 
 -- A value, if it is live, as a list.

@@ -1,3 +1,4 @@
 pub mod Trail
 pub mod Open
 pub mod Tables
+pub mod support

@@ -4,7 +4,7 @@ use Rattle.std.specs.List.{All}
 use Rattle.reo_joint_values.specs.Values.{Family}
 use Rattle.reo_refute_base.specs.Items.{Lists, items_at}
 use Rattle.reo_refute_base.specs.Live.{alone, live_at}
-use Rattle.reo_refute_support.specs.Families.{family_of}
+use Rattle.reo_refute_live.specs.support.Families.{family_of}
 use Rattle.reo_refute_live.specs.declared.live.Split.{Split}
 use Rattle.reo_refute_live.specs.declared.live.Live.{Live}
 use Rattle.reo_refute_live.specs.declared.trail.Gone.{Gone}

@@ -4,8 +4,8 @@ use Rattle.std.specs.List.{All}
 use Rattle.reo_joint_values.specs.Values.{Family, value_eq}
 use Rattle.reo_refute_base.specs.Items.{Lists}
 use Rattle.reo_refute_base.specs.Live.{all_live}
-use Rattle.reo_refute_support.specs.declared.live.LiveAt.{LiveAt}
-use Rattle.reo_refute_support.specs.Families.{family_of, AreLive}
+use Rattle.reo_refute_live.specs.declared.support.live.LiveAt.{LiveAt}
+use Rattle.reo_refute_live.specs.support.Families.{family_of, AreLive}
 use Rattle.reo_refute_live.specs.declared.trail.Gone.{Gone}
 
 -- What is live when a value that went comes back.

@@ -2,9 +2,11 @@
 #![tactic(auto)]
 
 mod live;
+mod support;
 mod table;
 mod trail;
 mod values;
 
 pub use live::{Live, Split};
+pub use support::{Column, LiveAt, has_support, is_flow_of, tables_of};
 pub use trail::Gone;

@@ -2,14 +2,14 @@
 ghost use Rattle.std.specs.Prelude.{◌≡◌, ◌≢◌, ◌<◌, ◌↔◌, ◌∷◌, ◌++◌, [], true, false, IfOk, OnOk, IsTrue, length, cond};
 ghost use Rattle.reo_refute_base.specs.Live.{all_live, live_at, without};
 ghost use Rattle.reo_refute_base.specs.Steps.{branches};
-ghost use Rattle.reo_refute_support.specs.Families.{family_of};
+ghost use Rattle.reo_refute_live.specs.support.Families.{family_of};
 ghost use Rattle.reo_refute_live.specs.Open.{open_in, still_open, IsOpen, IsClosed, AreSmall};
 
+use crate::support::LiveAt;
 use crate::table::{all_values, is_live};
 use crate::trail::{Gone, come_back, hold, let_go};
 use crate::values::{has_live, live_values};
 use reo_joint_values::JointValue;
-use reo_refute_support::LiveAt;
 use reo_values::{List, NoMemory, Value};
 use std::alloc::Global;
 

@@ -5,11 +5,11 @@ ghost use Rattle.reo_joint_values.specs.declared.value.JointValue.TheVariants.{F
 ghost use Rattle.reo_joint_values.specs.Values.{value_eq};
 ghost use Rattle.reo_refute_base.specs.Items.{Lists};
 ghost use Rattle.reo_refute_base.specs.Live.{all_live, without};
-ghost use Rattle.reo_refute_support.specs.Families.{family_of, has, none_gone, AreLive};
+ghost use Rattle.reo_refute_live.specs.support.Families.{family_of, has, none_gone, AreLive};
 ghost use Rattle.reo_refute_live.specs.Trail.{with_back};
 
+use crate::support::LiveAt;
 use reo_joint_values::JointValue;
-use reo_refute_support::LiveAt;
 use reo_values::{List, NoMemory, Value};
 use std::alloc::Global;
 

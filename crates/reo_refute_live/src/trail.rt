@@ -2,12 +2,12 @@
 ghost use Rattle.std.specs.Prelude.{◌≡◌, ◌≤◌, ◌<◌, ◌&&◌, not, true, false, OnOk, length};
 ghost use Rattle.reo_joint_values.specs.Values.{value_eq};
 ghost use Rattle.reo_refute_base.specs.Live.{alone, live_at, without};
-ghost use Rattle.reo_refute_support.specs.Families.{family_of};
+ghost use Rattle.reo_refute_live.specs.support.Families.{family_of};
 ghost use Rattle.reo_refute_live.specs.Trail.{AreKept, HasLost};
 
+use crate::support::LiveAt;
 use crate::table::{bring_back, clear, is_live};
 use reo_joint_values::JointValue;
-use reo_refute_support::LiveAt;
 use reo_values::{List, NoMemory, Value};
 
 /// A value that is live no longer, at its joint.

@@ -2,11 +2,11 @@
 ghost use Rattle.std.specs.Prelude.{◌||◌, ◌≡◌, ◌≢◌, ◌<◌, ◌^◌, ◌++◌, ◌∷◌, ◌↔◌, [], ℕ, true, false, IfOk, OnOk, IsTrue, length, slice_index_or, cond};
 ghost use Rattle.reo_refute_base.specs.Items.{Lists};
 ghost use Rattle.reo_refute_base.specs.Live.{live_at};
-ghost use Rattle.reo_refute_support.specs.Families.{family_of, none_gone, AreLive};
+ghost use Rattle.reo_refute_live.specs.support.Families.{family_of, none_gone, AreLive};
 ghost use Rattle.reo_refute_live.specs.Tables.{live_flows};
 
+use crate::support::LiveAt;
 use reo_joint_values::JointValue;
-use reo_refute_support::LiveAt;
 use reo_values::{List, NoMemory};
 use std::alloc::Global;
 

@@ -9,5 +9,6 @@ mod drain;
 mod lines;
 #[cfg(test)]
 mod lists;
+mod prove_tests;
 #[cfg(test)]
 mod writers;

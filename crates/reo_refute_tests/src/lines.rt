@@ -1,7 +1,7 @@
 //! Lines of logs, read and written.
 use reo_joint_values::JointValue;
 use reo_refute_base::LogLine;
-use reo_refute_lines::{Reader, line, put_line};
+use reo_refute_parts::{Reader, line, put_line};
 use reo_values::Bytes;
 use std::test::Fail;
 

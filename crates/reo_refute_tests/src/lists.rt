@@ -1,7 +1,7 @@
 //! The items that can stand at joints, in their order.
 use crate::writers::merged;
-use reo_net_ends::ends_of;
-use reo_refute_lists::item_lists;
+use reo_net_circuit::ends_of;
+use reo_refute_parts::item_lists;
 use reo_values::{List, Value};
 use std::test::Fail;
 

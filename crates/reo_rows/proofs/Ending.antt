@@ -4,8 +4,8 @@ use Rattle.reo_net_base.specs.declared.joint.End.{End}
 use Rattle.reo_net_base.specs.Behaviour.{IsEndOf}
 use Rattle.reo_net_base.specs.Net.{Net, Side, behaviour_at, first_side, end_of, side_at}
 use Rattle.reo_net_base.specs.Wired.{IsWired, IsEnd}
-use Rattle.reo_net_ends.specs.Ends.{joint_at, AreEnds}
-use Rattle.reo_net_ends.proofs.EndLemmas.{find_joints}
+use Rattle.reo_net_circuit.specs.found_ends.Ends.{joint_at, AreEnds}
+use Rattle.reo_net_circuit.proofs.found_ends.EndLemmas.{find_joints}
 use Rattle.reo_net_laws.proofs.Sides.{side_at_place}
 use Rattle.reo_joint_values.specs.Values.{Family, no_joint, joint_of, giver_side, taker_side}
 use Rattle.reo_side_tables.specs.Marks.{side_in, mark_at_joint}

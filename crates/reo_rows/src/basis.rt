@@ -1,7 +1,6 @@
 //! What a search rests on.
 use reo_net_base::Primitive;
-use reo_net_circuit::Circuit;
-use reo_net_ends::Ends;
+use reo_net_circuit::{Circuit, Ends};
 use reo_side_tables::Board;
 use reo_values::{List, Value};
 

@@ -3,7 +3,7 @@ ghost use Rattle.std.specs.Prelude.{◌≡◌, ◌≢◌, ◌⊎◌, ◌↔◌, 
 ghost use Rattle.reo_net_base.specs.Behaviour.{IsEndOf};
 ghost use Rattle.reo_net_base.specs.Net.{net_of, all_sides, row_count};
 ghost use Rattle.reo_net_laws.specs.Ends.{IsRowOf};
-ghost use Rattle.reo_net_ends.specs.Ends.{AreEnds};
+ghost use Rattle.reo_net_circuit.specs.found_ends.Ends.{AreEnds};
 ghost use Rattle.reo_side_tables.specs.Marks.{side_in, groups_in, group_in, common_at_joint, IsJointOf};
 ghost use Rattle.reo_rows.specs.Groups.{AreFit, FailsAt, IsOdd, Excuses, AreNoted};
 ghost use Rattle.reo_side_tables.specs.Boards.{IsBoard};
@@ -22,8 +22,7 @@ use crate::marks::{Marks, marks_left};
 use crate::rows::Rows;
 use reo_lanes::keep_rows;
 use reo_net_base::{End, Primitive};
-use reo_net_circuit::Circuit;
-use reo_net_ends::Ends;
+use reo_net_circuit::{Circuit, Ends};
 use reo_side_tables::{Board, Flow, end_at, mark_at_joint};
 use reo_values::{List, NoMemory};
 

@@ -14,3 +14,4 @@ pub mod Touches
 pub mod Direction
 pub mod Dangling
 pub mod Rules
+pub mod literals

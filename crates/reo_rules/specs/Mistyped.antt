@@ -21,7 +21,7 @@ use Rattle.reo_rules.specs.declared.fault.FlatFault.TheVariants as faults
 use Rattle.reo_rules.specs.Lists.{each_after, where_true}
 use Rattle.reo_rules.specs.Types.{Typed, types_of, type_named, resolved, is_same}
 use Rattle.reo_rules.specs.Terms.{expr_of}
-use Rattle.reo_literals.specs.Items.{item_of}
+use Rattle.reo_rules.specs.literals.Items.{item_of}
 use Rattle.reo_rules.specs.Scopes.{connectors_of, parameters_named, scope_of}
 use Rattle.reo_rules.specs.Channels.{keeps_type, literals_of}
 

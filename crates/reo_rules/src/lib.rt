@@ -2,7 +2,9 @@
 #![tactic(auto)]
 
 mod fault;
+mod literals;
 mod names;
 
 pub use fault::FlatFault;
+pub use literals::{is_item_of, item_of, items_of, place_of};
 pub use names::Names;

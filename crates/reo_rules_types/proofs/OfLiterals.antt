@@ -16,7 +16,7 @@ use Rattle.reo_trees.specs.declared.literals.Constant.TheVariants as constants
 use Rattle.reo_trees.specs.declared.literals.Constant.TheBlock.{hidden-the_row-LiteralPair-0}
 use Rattle.reo_trees.specs.declared.literals.LiteralPair.{LiteralPair}
 use Rattle.reo_trees.specs.declared.literals.Literal.{Literal}
-use Rattle.reo_literals.specs.Items.{value_of, item_of}
+use Rattle.reo_rules.specs.literals.Items.{value_of, item_of}
 use Rattle.reo_rules.specs.Lists.{has_name}
 use Rattle.reo_rules_types.specs.declared.cell.Cell.{Cell}
 use Rattle.reo_rules_types.specs.declared.cell.Cell.TheVariants as cells

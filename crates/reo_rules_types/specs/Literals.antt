@@ -3,7 +3,7 @@ use Rattle.std.specs.Prelude.{Bool, Some, None, cond, option_and_then, is_some}
 use Rattle.reo_values.specs.declared.kindred.Kindred.{Kindred}
 use Rattle.reo_values.specs.Kind.{is_item}
 use Rattle.reo_trees.specs.declared.literals.Constant.{Constant}
-use Rattle.reo_literals.specs.Items.{value_of}
+use Rattle.reo_rules.specs.literals.Items.{value_of}
 
 -- The literal is an item of the type.
 abbrev pub is_literal : Kindred → Constant → Bool

@@ -3,7 +3,7 @@ ghost use Rattle.std.specs.Prelude.{◌≡◌, ◌<◌, length, not, is_none, �
 ghost use Rattle.std.specs.List.{list_any, zip};
 ghost use Rattle.reo_values.specs.declared.kindred.Kindred.{Kindred as AType};
 ghost use Rattle.reo_trees.specs.declared.literals.Literal.{Literal as ALiteral};
-ghost use Rattle.reo_literals.specs.Items.{item_of};
+ghost use Rattle.reo_rules.specs.literals.Items.{item_of};
 ghost use Rattle.reo_rules.specs.Types.{type_named, is_same};
 ghost use Rattle.reo_rules.specs.Terms.{expr_of};
 ghost use Rattle.reo_rules.specs.Channels.{keeps_type, literals_of};

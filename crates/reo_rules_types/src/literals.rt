@@ -3,7 +3,7 @@ ghost use Rattle.std.specs.Prelude.{◌≡◌, ◌<◌, ◌&&◌, nat_le, length
 ghost use Rattle.std.specs.List.{list_any, list_all};
 ghost use Rattle.reo_values.specs.Kind.{is_plain};
 ghost use Rattle.reo_trees.specs.declared.literals.Literal.{Literal as ALiteral};
-ghost use Rattle.reo_literals.specs.Items.{item_of};
+ghost use Rattle.reo_rules.specs.literals.Items.{item_of};
 ghost use Rattle.reo_rules_types.specs.Cells.{type_at};
 ghost use Rattle.reo_rules_types.specs.Literals.{is_literal};
 

@@ -9,6 +9,8 @@ mod checks;
 mod circuits;
 #[cfg(test)]
 mod engines;
+mod listing_tests;
+mod live_tests;
 #[cfg(test)]
 mod offers;
 #[cfg(test)]

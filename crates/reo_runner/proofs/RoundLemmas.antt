@@ -12,7 +12,7 @@ use Rattle.reo_trace.specs.Entries.{line_for}
 use Rattle.reo_rounds.specs.declared.plan.Plan.{Plan}
 use Rattle.reo_weights.specs.Over.{IsOver}
 use Rattle.reo_rounds.specs.Plans.{IsPlan, jammed_sides}
-use Rattle.reo_at_ports.specs.Engines.{IsStood, Standing}
+use Rattle.reo_runner.specs.at_ports.Engines.{IsStood, Standing}
 use Rattle.reo_rounds.specs.Ready.{ready}
 use Rattle.reo_rounds.specs.Rules.{Rules}
 use Rattle.reo_runs.specs.Round.{State, RoundOf, advanced}

@@ -4,7 +4,7 @@ use Rattle.std.specs.Prelude.{Option, Some, None}
 use Rattle.reo_io.proofs.Taken.{Appended-none}
 use Rattle.reo_net_base.specs.declared.port.Port.{Port}
 use Rattle.reo_net_base.specs.Net.{Wiring}
-use Rattle.reo_scripts.specs.declared.action.Component.{Component}
+use Rattle.reo_script.specs.declared.scripts.action.Component.{Component}
 use Rattle.reo_players.specs.Players.{Player, beginning_of, all_done}
 use Rattle.reo_trace.specs.declared.line.Ending.TheVariants as endings
 use Rattle.reo_rounds.specs.Rules.{Rules}

@@ -1,11 +1,16 @@
 //! A run of a script on a circuit, and its trace.
 #![tactic(auto)]
 
+mod at_ports;
 mod ending;
 mod outcome;
 mod planning;
 mod round;
 mod runner;
 
+pub use at_ports::{
+    Carried, Engine, PlanFault, PlannedRound, Standing, advance_all, carry_on, carry_out,
+    offer_all, release_circuit, release_engine, release_players, release_run,
+};
 pub use outcome::{End2, Limits, Outcome};
 pub use runner::run;

@@ -3,11 +3,11 @@ ghost use Rattle.std.specs.Prelude.{◌≡◌, ◌<◌, ◌+◌, ◌^◌, IfOk, 
 ghost use Rattle.reo_net_base.specs.Net.{net_of};
 ghost use Rattle.reo_trace.specs.Entries.{line_for};
 ghost use Rattle.reo_trace.specs.RoundText.{round_text};
-ghost use Rattle.reo_at_ports.specs.Engines.{IsStood};
+ghost use Rattle.reo_runner.specs.at_ports.Engines.{IsStood};
 ghost use Rattle.reo_runner.specs.Rounds.{IsUnplanned, fault_of_plan};
 ghost use Rattle.reo_runner.specs.declared.planning.RoundFault.TheVariants.{NoMemory as OutOfMemory};
 
-use reo_at_ports::{Engine, PlanFault, Standing};
+use crate::at_ports::{Engine, PlanFault, Standing};
 use reo_net_base::{Ported, Ports};
 use reo_steps::Steps;
 use reo_values::{Bytes, NoMemory};

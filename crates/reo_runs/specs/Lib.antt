@@ -4,3 +4,6 @@ pub mod Whole
 pub mod Justified
 pub mod Started
 pub mod Written
+pub mod verdicts
+pub mod run_texts
+pub mod run_premises

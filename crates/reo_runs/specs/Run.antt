@@ -1,7 +1,7 @@
 -- Whole runs.
 use Rattle.std.specs.Prelude.{ℕ, ◌+◌, ◌≤◌, ◌≡◌, ◌&&◌, ◌⊎◌, Bool, not, cond, Option, Some, None, List, [], ◌∷◌, length, map}
 use Rattle.reo_net_base.specs.Net.{Wiring}
-use Rattle.reo_scripts.specs.declared.action.Component.{Component}
+use Rattle.reo_script.specs.declared.scripts.action.Component.{Component}
 use Rattle.reo_players.specs.Players.{Player, beginning_of, all_done, someone_counts}
 use Rattle.reo_trace.specs.declared.line.RoundLine.{RoundLine}
 use Rattle.reo_trace.specs.declared.line.Ending.{Ending}

@@ -1,10 +1,10 @@
 -- The places in the body of a repeat.
 use Rattle.std.proofs.Common.{◌≡◌, ◌∙◌, ℕ, List, ◌∷◌, ◌++◌, flat_map, map, refl, ap}
 use mathlib.Core.Former.{Count}
-use Rattle.reo_scripts.specs.declared.forms.ActionForm.{ActionForm, Repeat, Repeat', Row_of-ActionForm, end_of-ActionForm, more_of-ActionForm, items-the_row-ActionForm, items_hidden-the_row-ActionForm-0}
+use Rattle.reo_script.specs.declared.scripts.forms.ActionForm.{ActionForm, Repeat, Repeat', Row_of-ActionForm, end_of-ActionForm, more_of-ActionForm, items-the_row-ActionForm, items_hidden-the_row-ActionForm-0}
 use Rattle.reo_net_base.specs.declared.port.Port.{Port}
-use Rattle.reo_scripts.specs.declared.action.Action.TheVariants as actions
-use Rattle.reo_scripts.specs.ScriptRules.{namings, namings_row, scripted, scripted_row}
+use Rattle.reo_script.specs.declared.scripts.action.Action.TheVariants as actions
+use Rattle.reo_script.specs.scripts.ScriptRules.{namings, namings_row, scripted, scripted_row}
 
 abbrev row_of : ActionForm → (n : Count) × Row_of-ActionForm n
 row_of (Repeat' times shape row) = (_, row)

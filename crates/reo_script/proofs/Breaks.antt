@@ -3,11 +3,11 @@ use Rattle.std.proofs.Common.{Bool, true, false, ◌||◌, ◌⊎◌, Result, Ok
 use Rattle.std.proofs.lemmas.List.{take_all, append-nil, append_assoc}
 use Rattle.reo_values.proofs.Sequences.{both_none, left_none}
 use Rattle.reo_rules.specs.Lists.{first_of, each_after, where_true, has_name}
-use Rattle.reo_scripts.specs.declared.fault.ScriptFault.TheVariants as faults
-use Rattle.reo_scripts.specs.ScriptRules.{Naming, shared_in}
+use Rattle.reo_script.specs.declared.scripts.fault.ScriptFault.TheVariants as faults
+use Rattle.reo_script.specs.scripts.ScriptRules.{Naming, shared_in}
 use Rattle.reo_script.specs.Places.{IsFirstBreak, IsJudgedBy}
 use Rattle.reo_rules.proofs.AfterLemmas.{right_none}
-use Rattle.reo_scripts.specs.declared.fault.ScriptFault.{ScriptFault}
+use Rattle.reo_script.specs.declared.scripts.fault.ScriptFault.{ScriptFault}
 
 module _ {X Y : Type 0} (g : X → Y) (f : Y → List ScriptFault) where
   -- None up to an item and none there: none up to the next.

@@ -13,14 +13,14 @@ use Rattle.reo_trees.specs.declared.literals.Literal.{Literal}
 use Rattle.reo_trees.specs.Rules.{circuit_rules}
 use Rattle.reo_trees.specs.Table.{circuit_table}
 use Rattle.reo_terms.specs.Refused.{IsFirstDeep}
-use Rattle.reo_scripts.specs.declared.event.Event.{Event}
-use Rattle.reo_scripts.specs.declared.event.EventForm.{EventForm}
-use Rattle.reo_scripts.specs.declared.event.EventForm.TheVariants as forms
-use Rattle.reo_scripts.specs.declared.event.EventFault.{EventFault}
-use Rattle.reo_scripts.specs.declared.event.EventFault.TheVariants as faults
-use Rattle.reo_scripts.specs.ScriptAnswers.{IsDeep}
-use Rattle.reo_scripts.specs.ScriptRules.{goes_wrong, item_at, port_number}
-use Rattle.reo_scripts.specs.Events.{event_form, SaysEvent, event_at, written_at, withdrawn_at, event_for, AnswersEvent, IsReadEvent, IsThisEvent}
+use Rattle.reo_script.specs.declared.scripts.event.Event.{Event}
+use Rattle.reo_script.specs.declared.scripts.event.EventForm.{EventForm}
+use Rattle.reo_script.specs.declared.scripts.event.EventForm.TheVariants as forms
+use Rattle.reo_script.specs.declared.scripts.event.EventFault.{EventFault}
+use Rattle.reo_script.specs.declared.scripts.event.EventFault.TheVariants as faults
+use Rattle.reo_script.specs.scripts.ScriptAnswers.{IsDeep}
+use Rattle.reo_script.specs.scripts.ScriptRules.{goes_wrong, item_at, port_number}
+use Rattle.reo_script.specs.scripts.Events.{event_form, SaysEvent, event_at, written_at, withdrawn_at, event_for, AnswersEvent, IsReadEvent, IsThisEvent}
 
 -- A list up to a place, and with what stands there.
 cut : (ls : List Lexeme) (n : ℕ) → n < length ls → (t : Lexeme) × (u : List Lexeme) × (ls ≡ take n ls ++ (t ∷ u)) × (take (suc n) ls ≡ take n ls ++ (t ∷ []))

@@ -11,14 +11,14 @@ use Rattle.reo_lexer.proofs.Spans.{tokens-real}
 use Rattle.reo_net_base.specs.declared.port.Port.{Port}
 use Rattle.reo_rules.specs.Lists.{first_of}
 use Rattle.reo_terms.proofs.Only.{syntax-line, deep-line, not-both-faults, said-no-syntax, said-no-deep}
-use Rattle.reo_scripts.specs.declared.fault.ScriptFault.{ScriptFault}
-use Rattle.reo_scripts.specs.declared.fault.ScriptFault.TheVariants as faults
-use Rattle.reo_scripts.specs.declared.forms.ComponentForm.{ComponentForm}
-use Rattle.reo_scripts.specs.declared.action.Script.{Script}
-use Rattle.reo_scripts.specs.ScriptForms.{script_rules, script_form}
-use Rattle.reo_scripts.specs.Table.{script_table}
-use Rattle.reo_scripts.specs.ScriptRules.{breaks}
-use Rattle.reo_scripts.specs.ScriptAnswers.{IsDeep, IsSyntax, IsTooDeep, Says, IsSaid, Answers, IsRead, IsThis, answer_by, answer_for}
+use Rattle.reo_script.specs.declared.scripts.fault.ScriptFault.{ScriptFault}
+use Rattle.reo_script.specs.declared.scripts.fault.ScriptFault.TheVariants as faults
+use Rattle.reo_script.specs.declared.scripts.forms.ComponentForm.{ComponentForm}
+use Rattle.reo_script.specs.declared.scripts.action.Script.{Script}
+use Rattle.reo_script.specs.scripts.ScriptForms.{script_rules, script_form}
+use Rattle.reo_script.specs.scripts.Table.{script_table}
+use Rattle.reo_script.specs.scripts.ScriptRules.{breaks}
+use Rattle.reo_script.specs.scripts.ScriptAnswers.{IsDeep, IsSyntax, IsTooDeep, Says, IsSaid, Answers, IsRead, IsThis, answer_by, answer_for}
 use Rattle.reo_script.specs.Places.{IsFirstBreak}
 
 module _ (text : List ℕ) where

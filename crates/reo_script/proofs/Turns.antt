@@ -6,8 +6,8 @@ use Rattle.reo_grammar.specs.Grammar.Outcome.{got}
 use Rattle.reo_grammar.specs.Conditions.{is_productive, is_nullable}
 use Rattle.reo_grammar.proofs.Sound.{base}
 use Rattle.reo_grammar.proofs.Complete.{shrinks, turn}
-use Rattle.reo_scripts.specs.ScriptForms.{ScriptFormOf, script_rules}
-use Rattle.reo_scripts.specs.Table.{script_sound}
+use Rattle.reo_script.specs.scripts.ScriptForms.{ScriptFormOf, script_rules}
+use Rattle.reo_script.specs.scripts.Table.{script_sound}
 
 -- Going on with further parts behind a first one.
 abbrev pub goes_on : {A B : Type 0} → (A → B → A) → Class → ScriptFormOf B → ℕ → A → List Lexeme → Outcome A

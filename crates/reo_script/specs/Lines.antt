@@ -3,10 +3,10 @@ use Rattle.std.specs.Prelude.{Option, Some, None, List, ℕ, Result, Ok, Err}
 use Rattle.reo_grammar.specs.Tokens.{Lexeme}
 use Rattle.reo_grammar.specs.Grammar.{Says as TokensSay}
 use Rattle.reo_trees.specs.Rules.{circuit_rules}
-use Rattle.reo_scripts.specs.declared.event.EventForm.{EventForm}
-use Rattle.reo_scripts.specs.declared.event.EventFault.{EventFault}
-use Rattle.reo_scripts.specs.declared.event.EventFault.TheVariants as faults
-use Rattle.reo_scripts.specs.Events.{event_form, SaysEvent}
+use Rattle.reo_script.specs.declared.scripts.event.EventForm.{EventForm}
+use Rattle.reo_script.specs.declared.scripts.event.EventFault.{EventFault}
+use Rattle.reo_script.specs.declared.scripts.event.EventFault.TheVariants as faults
+use Rattle.reo_script.specs.scripts.Events.{event_form, SaysEvent}
 
 -- The tokens say the event, or none.
 abbrev pub IsEventOf : List Lexeme → Option EventForm → Type 0

@@ -3,11 +3,11 @@ use Rattle.std.specs.Prelude.{◌≡◌, ◌⊎◌, Some, List, [], map, Result,
 use Rattle.std.specs.List.{All}
 use Rattle.reo_values.specs.Valid.{AreDistinct}
 use Rattle.reo_net_base.specs.declared.port.Port.{Port}
-use Rattle.reo_literals.specs.Items.{HasFewNames}
+use Rattle.reo_rules.specs.literals.Items.{HasFewNames}
 use Rattle.reo_rules.specs.Lists.{first_of}
-use Rattle.reo_scripts.specs.declared.fault.ScriptFault.{ScriptFault}
-use Rattle.reo_scripts.specs.declared.fault.ScriptFault.TheVariants as faults
-use Rattle.reo_scripts.specs.ScriptRules.{Naming}
+use Rattle.reo_script.specs.declared.scripts.fault.ScriptFault.{ScriptFault}
+use Rattle.reo_script.specs.declared.scripts.fault.ScriptFault.TheVariants as faults
+use Rattle.reo_script.specs.scripts.ScriptRules.{Naming}
 use Rattle.reo_script.specs.declared.places.Place.{Place as APlace}
 
 -- What a borrowed place says.

@@ -2,7 +2,7 @@
 use Rattle.std.specs.Prelude.{◌≤◌, List, length, drop}
 use Rattle.reo_grammar.specs.Tokens.{Lexeme}
 use Rattle.reo_grammar.specs.Grammar.{Says, Refused}
-use Rattle.reo_scripts.specs.ScriptForms.{script_rules, script_form}
+use Rattle.reo_script.specs.scripts.ScriptForms.{script_rules, script_form}
 use Rattle.reo_script.specs.declared.texts.Outcome.{Outcome as Answer}
 use Rattle.reo_script.specs.declared.texts.Outcome.TheVariants as outcomes
 

@@ -6,11 +6,11 @@ ghost use Rattle.reo_cursor.specs.Reading.{Gives};
 ghost use Rattle.reo_trees.specs.Forms.{word, ◌◂◌};
 ghost use Rattle.reo_trees.specs.Rules.{circuit_rules};
 ghost use Rattle.reo_terms.specs.Reading.{read_plain};
-ghost use Rattle.reo_scripts.specs.ScriptForms.{within_form, write_form, take_form, pause_form, times_form, action_list, actions_form, repeat_form, action_form, script_rules};
-ghost use Rattle.reo_scripts.specs.ScriptForms.ScriptRule.{action_rule};
+ghost use Rattle.reo_script.specs.scripts.ScriptForms.{within_form, write_form, take_form, pause_form, times_form, action_list, actions_form, repeat_form, action_form, script_rules};
+ghost use Rattle.reo_script.specs.scripts.ScriptForms.ScriptRule.{action_rule};
 
+use crate::scripts::ActionForm;
 use reo_cursor::{Cursor, Halt};
-use reo_scripts::ActionForm;
 use reo_terms::literal;
 use reo_values::List;
 use std::alloc::Global;

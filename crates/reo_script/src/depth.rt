@@ -5,7 +5,7 @@ ghost use Rattle.reo_grammar.specs.Levels.{Nowhere};
 ghost use Rattle.reo_lexer.specs.Lexing.{Lies, lexemes_of};
 ghost use Rattle.reo_cursor.specs.Reading.{lexeme_seen};
 ghost use Rattle.reo_terms.specs.Refused.{IsFirstDeep};
-ghost use Rattle.reo_scripts.specs.ScriptAnswers.{IsDeep, IsNested};
+ghost use Rattle.reo_script.specs.scripts.ScriptAnswers.{IsDeep, IsNested};
 ghost use Rattle.reo_script.specs.Depth.{Deepens};
 
 use reo_cursor::{Seen, seen_of};

@@ -6,11 +6,11 @@ ghost use Rattle.reo_lexer.specs.Lexing.{IsTokens, Lies, lexemes_of};
 ghost use Rattle.reo_cursor.specs.Reading.{Gives};
 ghost use Rattle.reo_trees.specs.Rules.{circuit_rules};
 ghost use Rattle.reo_terms.specs.Reading.{read_plain};
-ghost use Rattle.reo_scripts.specs.Events.{called, write_event, take_event, withdraw_event, event_form};
+ghost use Rattle.reo_script.specs.scripts.Events.{called, write_event, take_event, withdraw_event, event_form};
 
+use crate::scripts::EventForm;
 use reo_cursor::{Cursor, Halt};
 use reo_lexer::TokenKind;
-use reo_scripts::EventForm;
 use reo_terms::literal;
 use std::alloc::Global;
 

@@ -2,14 +2,13 @@
 ghost use Rattle.std.specs.Prelude.{◌≡◌, map, is_none, option_copied, IsErrOf};
 ghost use Rattle.std.specs.List.{flat_map};
 ghost use Rattle.reo_net_base.specs.declared.port.Port.{Port as APort};
-ghost use Rattle.reo_scripts.specs.ScriptRules.{port_named as port_named_in, no_port as no_port_at, wrong_way as wrong_way_at, outside as outside_at, goes_wrong, goes_outside};
+ghost use Rattle.reo_script.specs.scripts.ScriptRules.{port_named as port_named_in, no_port as no_port_at, wrong_way as wrong_way_at, outside as outside_at, goes_wrong, goes_outside};
 ghost use Rattle.reo_script.specs.Places.{naming_of, IsJudgedBy};
 
 use crate::places::Place;
-use reo_literals::is_item_of;
+use crate::scripts::ScriptFault;
 use reo_net_base::{Port, Way};
-use reo_rules::Names;
-use reo_scripts::ScriptFault;
+use reo_rules::{Names, is_item_of};
 use std::alloc::Global;
 
 /// The port of a name, if there is one.

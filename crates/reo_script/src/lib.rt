@@ -11,9 +11,14 @@ mod making;
 mod places;
 mod reading;
 mod script;
+mod scripts;
 mod sharing;
 mod texts;
 
 pub use lines::read_event;
-pub use reo_scripts::{Action, Component, Event, EventFault, Script, ScriptFault};
 pub use script::read_script;
+pub use scripts::{
+    Action, ActionForm, Component, ComponentForm, Event, EventFault, EventForm, Events, Script,
+    ScriptFault, Scripts, circuits_are_read_alike, circuits_say_alike, each_line_is_answered,
+    each_script_is_answered,
+};

@@ -2,14 +2,13 @@
 ghost use Rattle.std.specs.Prelude.{◌≡◌, map, IfOk};
 ghost use Rattle.std.specs.List.{All};
 ghost use Rattle.reo_net_base.specs.declared.port.Port.{Port as APort};
-ghost use Rattle.reo_literals.specs.Items.{HasFewNames};
-ghost use Rattle.reo_scripts.specs.ScriptRules.{port_number, item_at, the_number, the_item, scripted, component_for};
+ghost use Rattle.reo_rules.specs.literals.Items.{HasFewNames};
+ghost use Rattle.reo_script.specs.scripts.ScriptRules.{port_number, item_at, the_number, the_item, scripted, component_for};
 
 use crate::judging::port_named;
-use reo_literals::item_of;
+use crate::scripts::{Action, ActionForm, Component, ComponentForm};
 use reo_net_base::Port;
-use reo_rules::Names;
-use reo_scripts::{Action, ActionForm, Component, ComponentForm};
+use reo_rules::{Names, item_of};
 use reo_trees::Literal;
 use reo_values::{Bytes, List, NoMemory, Value};
 use std::alloc::Global;

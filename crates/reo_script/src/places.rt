@@ -1,10 +1,10 @@
 //! The places of a script that name a port.
 ghost use Rattle.std.specs.Prelude.{◌≡◌, ◌++◌, IfOk, OnOk, map};
 ghost use Rattle.std.specs.List.{flat_map};
-ghost use Rattle.reo_scripts.specs.ScriptRules.{namings, namings_in};
+ghost use Rattle.reo_script.specs.scripts.ScriptRules.{namings, namings_in};
 ghost use Rattle.reo_script.specs.Places.{naming_of};
 
-use reo_scripts::{ActionForm, ComponentForm};
+use crate::scripts::{ActionForm, ComponentForm};
 use reo_trees::Literal;
 use reo_values::{Bytes, List, NoMemory};
 use std::alloc::Global;

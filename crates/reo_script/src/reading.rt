@@ -3,11 +3,11 @@ ghost use Rattle.std.specs.Prelude.{◌≡◌, List};
 ghost use Rattle.reo_grammar.specs.Grammar.{read, reads};
 ghost use Rattle.reo_cursor.specs.Reading.{Gives};
 ghost use Rattle.reo_terms.specs.Reading.{read_plain};
-ghost use Rattle.reo_scripts.specs.ScriptForms.{label_form, component_form, script_form, script_rules};
+ghost use Rattle.reo_script.specs.scripts.ScriptForms.{label_form, component_form, script_form, script_rules};
 
 use crate::actions::actions;
+use crate::scripts::ComponentForm;
 use reo_cursor::{Cursor, Halt};
-use reo_scripts::ComponentForm;
 use reo_terms::name_before;
 use reo_values::{Bytes, List};
 use std::alloc::Global;

@@ -1,20 +1,20 @@
 //! Reading scripts.
 ghost use Rattle.std.specs.Prelude.{◌≡◌, ◌<◌, ◌^◌, length, map, IfOk, Result};
 ghost use Rattle.reo_net_base.specs.declared.port.Port.{Port as APort};
-ghost use Rattle.reo_scripts.specs.declared.action.Script.{Script as AScript};
-ghost use Rattle.reo_scripts.specs.declared.fault.ScriptFault.{ScriptFault as AFault};
-ghost use Rattle.reo_scripts.specs.ScriptAnswers.{Answers, IsRead, IsThis};
-ghost use Rattle.reo_scripts.specs.ScriptRules.{breaks};
+ghost use Rattle.reo_script.specs.declared.scripts.action.Script.{Script as AScript};
+ghost use Rattle.reo_script.specs.declared.scripts.fault.ScriptFault.{ScriptFault as AFault};
+ghost use Rattle.reo_script.specs.scripts.ScriptAnswers.{Answers, IsRead, IsThis};
+ghost use Rattle.reo_script.specs.scripts.ScriptRules.{breaks};
 ghost use Rattle.reo_script.specs.Places.{ArePortsOf, IsJudgedBy};
 
 use crate::judging::{judge_items, judge_names, judge_ways};
 use crate::making::components_for;
 use crate::places::places_of;
+use crate::scripts::{ComponentForm, Script, ScriptFault};
 use crate::sharing::judge_sharing;
 use crate::texts::said;
 use reo_net_base::{Port, Ports};
 use reo_rules::Names;
-use reo_scripts::{ComponentForm, Script, ScriptFault};
 use reo_values::NoMemory;
 use std::alloc::Global;
 

@@ -2,12 +2,12 @@
 ghost use Rattle.std.specs.Prelude.{◌≡◌, [], ◌++◌, map, OnOk, IfOk, List};
 ghost use Rattle.std.specs.List.{flat_map};
 ghost use Rattle.reo_rules.specs.Lists.{has_name};
-ghost use Rattle.reo_scripts.specs.ScriptRules.{Naming as ANaming, namings_in, shared, shared_in};
+ghost use Rattle.reo_script.specs.scripts.ScriptRules.{Naming as ANaming, namings_in, shared, shared_in};
 ghost use Rattle.reo_script.specs.Places.{naming_of, IsJudgedBy};
 
 use crate::places::{Place, places_in};
+use crate::scripts::{ComponentForm, ScriptFault};
 use reo_rules::Names;
-use reo_scripts::{ComponentForm, ScriptFault};
 use reo_values::NoMemory;
 use std::alloc::Global;
 

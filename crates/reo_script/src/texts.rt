@@ -4,14 +4,14 @@ ghost use Rattle.reo_grammar.specs.Tokens.{AreReal};
 ghost use Rattle.reo_grammar.specs.Levels.{Nowhere};
 ghost use Rattle.reo_lexer.specs.Lexing.{IsTokens, Lies, lexemes_of};
 ghost use Rattle.reo_terms.specs.Refused.{IsFirstDeep};
-ghost use Rattle.reo_scripts.specs.ScriptAnswers.{IsDeep, IsSaid};
+ghost use Rattle.reo_script.specs.scripts.ScriptAnswers.{IsDeep, IsSaid};
 ghost use Rattle.reo_script.specs.Reading.{IsRead};
 
 use crate::depth::first_deep;
 use crate::reading::components;
+use crate::scripts::{ComponentForm, ScriptFault};
 use reo_cursor::{Cursor, Halt};
 use reo_lexer::{Token, lex};
-use reo_scripts::{ComponentForm, ScriptFault};
 use reo_terms::line_of_refusal;
 use reo_values::{List, NoMemory};
 use std::alloc::Global;

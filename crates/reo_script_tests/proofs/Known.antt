@@ -3,7 +3,7 @@ use Rattle.std.proofs.Common.{arith, ◌≡◌, ℕ, zero, suc, ◌+◌, ◌<◌
 use Rattle.std.specs.List.{All}
 use Rattle.reo_values.specs.Valid.{AreDistinct}
 use Rattle.reo_net_base.specs.declared.port.Port.{Port}
-use Rattle.reo_literals.specs.Items.{HasFewNames}
+use Rattle.reo_rules.specs.literals.Items.{HasFewNames}
 use Rattle.reo_script.specs.Places.{ArePortsOf}
 use Rattle.reo_script_tests.specs.Known.{all_known}
 

@@ -2,7 +2,7 @@
 use crate::checks::is;
 use crate::reading::script_of;
 use reo_lexer::{Token, lex};
-use reo_scripts::ScriptFault;
+use reo_script::ScriptFault;
 use std::alloc::Global;
 
 /// A script with each kind of action, of 34 tokens.

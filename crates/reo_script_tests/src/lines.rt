@@ -1,7 +1,7 @@
 //! Which event lines are read, and the first fault of each.
 use crate::checks::is;
 use crate::reading::{deep_line, event_of};
-use reo_scripts::{Event, EventFault};
+use reo_script::{Event, EventFault};
 use reo_values::Value;
 use std::alloc::Global;
 

@@ -3,8 +3,7 @@ ghost use Rattle.std.specs.Prelude.{◌≡◌, IfOk};
 ghost use Rattle.reo_script_tests.specs.Known.{known, all_known};
 
 use reo_net_base::{Port, Ports, Way};
-use reo_script::{read_event, read_script};
-use reo_scripts::{Event, EventFault, Script, ScriptFault};
+use reo_script::{Event, EventFault, Script, ScriptFault, read_event, read_script};
 use reo_values::{Bytes, Kindred, List, NoMemory};
 use std::alloc::Global;
 

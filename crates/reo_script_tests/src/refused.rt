@@ -2,7 +2,7 @@
 use crate::checks::is;
 use crate::reading::{deep_script, nested, opened, script_of};
 use reo_lexer::LexFault;
-use reo_scripts::ScriptFault;
+use reo_script::ScriptFault;
 use reo_values::Bytes;
 use std::alloc::Global;
 

@@ -3,7 +3,7 @@ use crate::checks::is;
 use crate::reading::{nested, script_of};
 use Step::{GaveUp, Moved, Stays};
 use reo_players::{Players, Step, Want};
-use reo_scripts::ScriptFault;
+use reo_script::ScriptFault;
 use reo_values::Value;
 use std::alloc::Global;
 

@@ -3,7 +3,7 @@ use crate::checks::is;
 use crate::reading::script_of;
 use Step::{GaveUp, Moved, Stays};
 use reo_players::{Players, Step};
-use reo_scripts::ScriptFault;
+use reo_script::ScriptFault;
 use std::alloc::Global;
 
 /// The number of a component, whether its offer flows, and what that makes; and then whether a

@@ -33,7 +33,7 @@ use Rattle.reo_joint_values.proofs.Choosing.{assignments_are_choices, first_by_v
 use Rattle.reo_rows.specs.Sets.{names_of}
 use Rattle.reo_walk.specs.Places.{places_in}
 use Rattle.reo_walk.specs.Settling.{HasChosen, IsFirstWith}
-use Rattle.reo_choices.specs.Trying.{IsLeastOf}
+use Rattle.reo_search.specs.choices.Trying.{IsLeastOf}
 use Rattle.reo_walk.proofs.Firsts.{key_is, last_are, last_rows_are}
 
 -- Where lists have just the items that can stand, each once, their places are the numbers.

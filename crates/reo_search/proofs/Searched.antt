@@ -29,12 +29,12 @@ use Rattle.reo_propagate.specs.Queues.{among}
 use Rattle.reo_walk.specs.declared.part.Part.{Part}
 use Rattle.reo_walk.specs.Places.{places_in}
 use Rattle.reo_walk.specs.Arranged.{IsJamRow}
-use Rattle.reo_choices.specs.Remaining.{AreLoopsIn, choices_of}
-use Rattle.reo_choices.specs.Trying.{IsLeastOf}
+use Rattle.reo_search.specs.choices.Remaining.{AreLoopsIn, choices_of}
+use Rattle.reo_search.specs.choices.Trying.{IsLeastOf}
 use Rattle.reo_search.specs.First.{AreFirstRows, HasNoThreeColouring}
 use Rattle.reo_walk.proofs.Knotted.{among_sides}
 use Rattle.reo_walk.proofs.Resting.{among_at}
-use Rattle.reo_choices.proofs.Counted.{capped_small}
+use Rattle.reo_search.proofs.choices.Counted.{capped_small}
 use Rattle.reo_search.proofs.Named.{first_in, last_are_rows, last_are_those}
 
 -- The loop joints of a knot.

@@ -1,11 +1,13 @@
 //! The first assignment of a knot.
 #![tactic(auto)]
 
+mod choices;
 mod fault;
 mod laws;
 mod searching;
 mod widths;
 
+pub use choices::{first_over, narrow_all, weight_of};
 pub use fault::SearchFault;
 pub use laws::first_rows_agree;
 pub use reo_walk::{Part, arrange};

@@ -1,7 +1,7 @@
 //! What is left at the joints of the drain after a search begins, and after it begins anew.
 ghost use Rattle.std.specs.Prelude.{◌≡◌, ◌<◌, ◌^◌, ℕ, true, [], IfSome, length, slice_index_or};
 ghost use Rattle.reo_net_base.specs.Net.{net_of, all_sides};
-ghost use Rattle.reo_net_ends.specs.Ends.{AreEnds};
+ghost use Rattle.reo_net_circuit.specs.found_ends.Ends.{AreEnds};
 ghost use Rattle.reo_net_laws.specs.Parts.{IsClosed};
 ghost use Rattle.reo_knots.specs.Knots.{AreKnots, knot_count};
 ghost use Rattle.reo_reach.specs.Supplied.{AreShort, IsSupply};
@@ -12,8 +12,7 @@ ghost use Rattle.reo_propagate.specs.Queues.{among};
 use crate::sets::{Table, sets_of};
 use reo_knots::Knots;
 use reo_net_base::Primitive;
-use reo_net_circuit::Circuit;
-use reo_net_ends::ends_of;
+use reo_net_circuit::{Circuit, ends_of};
 use reo_propagate::{State, begin, begin_with, propagate, restart};
 use reo_reach::Supply;
 use reo_rows::Basis;

@@ -13,6 +13,7 @@ mod circuits;
 mod facts;
 #[cfg(test)]
 mod looks;
+mod mark_search_tests;
 #[cfg(test)]
 mod searches;
 #[cfg(test)]

@@ -12,11 +12,11 @@ use Rattle.reo_net_circuit.proofs.Cases.{eq_cases}
 use Rattle.reo_net_circuit.proofs.ReshapeLemmas.{first_same}
 use Rattle.reo_net_laws.proofs.Sides.{side_at_place}
 use Rattle.reo_knots.specs.Knots.{Knotted, AreKnots, in_knot, knot_count}
-use Rattle.reo_still.specs.Joining.{HasFirst}
+use Rattle.reo_weights.specs.still.Joining.{HasFirst}
 use Rattle.reo_kept_tables.specs.Orders.{AreJointsOf, AreOrders}
 use Rattle.reo_kept_tables.proofs.Sorted.{orders_are_of_parts}
-use Rattle.reo_flowing.specs.Flowing.{AreFlowingIn, AreFlowingOf, AreJointsIn, AreRowsIn, flowing_of}
-use Rattle.reo_flowing.proofs.Staying.{flowing_stay}
+use Rattle.reo_flows.specs.flowing.Flowing.{AreFlowingIn, AreFlowingOf, AreJointsIn, AreRowsIn, flowing_of}
+use Rattle.reo_flows.proofs.flowing.Staying.{flowing_stay}
 use Rattle.reo_part_plans.specs.Plannings.{Kept, is_settled, IsPartPlanned, AreFewer, IsElsewhere}
 use Rattle.reo_part_plans.proofs.Plannings.{mark_same, elsewhere, number_is, mark_is}
 use Rattle.reo_part_plans.proofs.Recalled.{same_shapes}

@@ -5,7 +5,7 @@ use Rattle.reo_net_base.specs.Shapes.{TreatAlike}
 use Rattle.reo_net_base.specs.Wired.{IsWired}
 use Rattle.reo_knots.specs.Knots.{Knotted, AreKnots, knot_count}
 use Rattle.reo_kept_tables.specs.Orders.{AreOrders}
-use Rattle.reo_flowing.specs.Flowing.{AreFlowingIn}
+use Rattle.reo_flows.specs.flowing.Flowing.{AreFlowingIn}
 use Rattle.reo_part_plans.specs.Plannings.{Kept, AreFewer, IsElsewhere, is_settled, serves}
 use Rattle.reo_mark_search.specs.Found.{IsMarkSearch}
 use Rattle.reo_item_bounds.specs.Kept.{AreKeptBounds}

@@ -1,7 +1,7 @@
 //! What is looked up when parts are settled.
 ghost use Rattle.std.specs.Prelude.{◌≡◌, IfOk, length};
 ghost use Rattle.reo_net_base.specs.Net.{net_of};
-ghost use Rattle.reo_net_ends.specs.Ends.{AreEnds};
+ghost use Rattle.reo_net_circuit.specs.found_ends.Ends.{AreEnds};
 ghost use Rattle.reo_knots.specs.Knots.{AreKnots};
 ghost use Rattle.reo_part_plans.specs.Plannings.{Kept as KeptRows};
 ghost use Rattle.reo_settling.specs.Lookups.{AreLookups};
@@ -12,8 +12,7 @@ use reo_kept_tables::{Tables, orders_of};
 use reo_knots::Knots;
 use reo_mark_search::MarkSearch;
 use reo_net_base::Primitive;
-use reo_net_circuit::Circuit;
-use reo_net_ends::Ends;
+use reo_net_circuit::{Circuit, Ends};
 use reo_part_plans::Plans;
 use reo_values::{List, NoMemory};
 use std::alloc::Global;

@@ -1,7 +1,7 @@
 //! Tables that are kept, made ready for a search.
 ghost use Rattle.std.specs.Prelude.{◌≡◌, IfOk, OnOk, length};
 ghost use Rattle.reo_net_base.specs.Net.{net_of};
-ghost use Rattle.reo_net_ends.specs.Ends.{AreEnds};
+ghost use Rattle.reo_net_circuit.specs.found_ends.Ends.{AreEnds};
 ghost use Rattle.reo_knots.specs.Knots.{AreKnots, knot_count};
 ghost use Rattle.reo_kept_tables.specs.Orders.{AreOrders};
 ghost use Rattle.reo_kept_tables.specs.Tables.{AreReady};
@@ -11,8 +11,7 @@ use reo_flags::Flags;
 use reo_kept_tables::{Tables, refresh_part};
 use reo_knots::Knots;
 use reo_net_base::Primitive;
-use reo_net_circuit::Circuit;
-use reo_net_ends::Ends;
+use reo_net_circuit::{Circuit, Ends};
 use reo_part_plans::tables_of;
 use reo_values::{List, NoMemory};
 use std::alloc::Global;

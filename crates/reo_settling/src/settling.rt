@@ -2,9 +2,9 @@
 ghost use Rattle.std.specs.Prelude.{◌≡◌, ◌<◌, ◌≤◌, ◌+◌, ◌^◌, ℕ, true, false, IfOk, OnErr, OnOk, MatchResult, length};
 ghost use Rattle.reo_net_base.specs.Net.{net_of};
 ghost use Rattle.reo_net_base.specs.Colouring.{RowsFit};
-ghost use Rattle.reo_net_ends.specs.Ends.{AreEnds};
+ghost use Rattle.reo_net_circuit.specs.found_ends.Ends.{AreEnds};
 ghost use Rattle.reo_knots.specs.Knots.{AreKnots, knot_count};
-ghost use Rattle.reo_flowing.specs.Flowing.{AreFlowingIn};
+ghost use Rattle.reo_flows.specs.flowing.Flowing.{AreFlowingIn};
 ghost use Rattle.reo_rounds.specs.Plans.{IsPlanFault};
 ghost use Rattle.reo_part_plans.specs.Plannings.{Kept as KeptRows, IsKept, ArePlanned, AreWeights, sum_below, weight_left};
 ghost use Rattle.reo_settling.specs.Lookups.{AreLookups, IsForgotten, IsNextToSettle};
@@ -12,8 +12,7 @@ ghost use Rattle.reo_settling.specs.Lookups.{AreLookups, IsForgotten, IsNextToSe
 use crate::lookups::Lookups;
 use reo_knots::Knots;
 use reo_net_base::Primitive;
-use reo_net_circuit::Circuit;
-use reo_net_ends::Ends;
+use reo_net_circuit::{Circuit, Ends};
 use reo_part_plans::Kept;
 use reo_rounds::PlanFault;
 use reo_steps::Steps;

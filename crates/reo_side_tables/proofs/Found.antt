@@ -6,8 +6,8 @@ use Rattle.reo_values.proofs.Naturals.{same_eq, other_eq}
 use Rattle.reo_net_base.specs.declared.joint.End.{End}
 use Rattle.reo_net_base.specs.Net.{Net, behaviour_at, first_side, end_of, side_at}
 use Rattle.reo_net_base.specs.Wired.{IsWired}
-use Rattle.reo_net_ends.specs.Ends.{joint_at, AreEnds}
-use Rattle.reo_net_ends.proofs.EndLemmas.{giver_at, taker_at, of_giver, of_taker}
+use Rattle.reo_net_circuit.specs.found_ends.Ends.{joint_at, AreEnds}
+use Rattle.reo_net_circuit.proofs.found_ends.EndLemmas.{giver_at, taker_at, of_giver, of_taker}
 use Rattle.reo_joint_values.specs.Values.{no_joint, joint_of, giver_side}
 use Rattle.reo_side_tables.specs.Listing.{StandsIn, Lists, AreOnce}
 use Rattle.reo_side_tables.specs.Marks.{end_at, IsJointOf}

@@ -1,15 +1,14 @@
 //! Boards: what a search looks up of a side.
 ghost use Rattle.std.specs.Prelude.{◌≡◌, ◌<◌, IfOk, length};
 ghost use Rattle.reo_net_base.specs.Net.{net_of, all_sides};
-ghost use Rattle.reo_net_ends.specs.Ends.{AreEnds};
+ghost use Rattle.reo_net_circuit.specs.found_ends.Ends.{AreEnds};
 ghost use Rattle.reo_side_tables.specs.Boards.{IsBoard, AreBoards};
 
 use crate::columns::columns_of;
 use crate::flows::flows_of;
 use crate::joints::{apart_of, joints_of};
 use reo_net_base::Primitive;
-use reo_net_circuit::Circuit;
-use reo_net_ends::Ends;
+use reo_net_circuit::{Circuit, Ends};
 use reo_values::{List, NoMemory};
 use std::alloc::Global;
 

@@ -1,13 +1,12 @@
 //! The joints of a side, and the rows that are not as their groups.
 ghost use Rattle.std.specs.Prelude.{◌≡◌, ◌<◌, ℕ, [], ◌∷◌, ◌++◌, IfOk, OnOk, length, slice_index_or};
 ghost use Rattle.reo_net_base.specs.Net.{net_of, all_sides};
-ghost use Rattle.reo_net_ends.specs.Ends.{AreEnds};
+ghost use Rattle.reo_net_circuit.specs.found_ends.Ends.{AreEnds};
 ghost use Rattle.reo_side_tables.specs.Listing.{Lists, AreOnce, AreEmpty, IsAdded};
 ghost use Rattle.reo_side_tables.specs.Marks.{side_in, IsJointOf, IsApartAt};
 
 use reo_net_base::{End, Primitive};
-use reo_net_circuit::Circuit;
-use reo_net_ends::Ends;
+use reo_net_circuit::{Circuit, Ends};
 use reo_values::{List, NoMemory};
 use std::alloc::Global;
 

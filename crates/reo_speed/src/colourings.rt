@@ -8,8 +8,7 @@ ghost use Rattle.reo_reach.specs.Supplied.{AreShort, IsSupply};
 
 use reo_knots::Knots;
 use reo_net_base::Primitive;
-use reo_net_circuit::Circuit;
-use reo_net_ends::{Ends, ends_of};
+use reo_net_circuit::{Circuit, Ends, ends_of};
 use reo_propagate::{State, begin};
 use reo_reach::{Supply, reach};
 use reo_search::{Part, SearchFault, first_with};

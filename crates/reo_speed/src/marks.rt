@@ -8,8 +8,7 @@ ghost use Rattle.reo_mark_search.specs.Found.{IsMarkSearch};
 use reo_knots::Knots;
 use reo_mark_search::{Found, MarkSearch};
 use reo_net_base::Primitive;
-use reo_net_circuit::Circuit;
-use reo_net_ends::ends_of;
+use reo_net_circuit::{Circuit, ends_of};
 use reo_values::{List, NoMemory};
 use std::alloc::Global;
 

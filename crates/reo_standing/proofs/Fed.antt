@@ -17,7 +17,7 @@ use Rattle.reo_net_laws.specs.Ends.{mark_in, from_in, IsSource}
 use Rattle.reo_net_laws.proofs.Joined.{source_taken}
 use Rattle.reo_net_laws.proofs.Sides.{gives_at, row_below, row_in_table, side_at_is, side_in_range}
 use Rattle.reo_net_laws.proofs.Items.{taken_one}
-use Rattle.reo_net_colouring.proofs.ItemLemmas.{given_none, given_some}
+use Rattle.reo_net.proofs.colouring.ItemLemmas.{given_none, given_some}
 use Rattle.reo_joint_values.specs.Standing.{giver_of, no_joint, taker_of}
 use Rattle.reo_standing.specs.Feeds.{GoesAlone, GoesTo, NoneGoes}
 use Rattle.reo_standing.specs.Filling.{IsPut}

@@ -14,21 +14,21 @@ use Rattle.reo_net_base.specs.Marks.{is_flow, marks_match}
 use Rattle.reo_net_base.specs.Net.{Net, mark_at, side_at}
 use Rattle.reo_net_base.specs.Wired.{IsWired}
 use Rattle.reo_net_circuit.proofs.Cases.{eq_cases, lt_cases}
-use Rattle.reo_net_ends.specs.Ends.{AreEnds}
+use Rattle.reo_net_circuit.specs.found_ends.Ends.{AreEnds}
 use Rattle.reo_net_laws.proofs.Sides.{side_in_range}
 use Rattle.reo_knots.specs.Knots.{Knotted, AreKnots, in_knot, knot_count}
-use Rattle.reo_flowing.specs.Flowing.{AreFlowingIn}
+use Rattle.reo_flows.specs.flowing.Flowing.{AreFlowingIn}
 use Rattle.reo_joint_values.specs.Standing.{giver_of, no_joint}
 use Rattle.reo_joint_values.specs.Many.{IsJointIn}
 use Rattle.reo_trace.specs.Entries.{is_idle, is_still}
-use Rattle.reo_stepping.specs.Flowing.{AreFlowing}
+use Rattle.reo_flows.specs.stepping.Flowing.{AreFlowing}
 use Rattle.reo_standing.specs.Filling.{AreBlank, AreBlankOn, AreFilled, AreHeld, AreHeldAmong, AreMoving, IsPartFilled}
 use Rattle.reo_standing.proofs.Putting.{far_all, far_none, giver_flows, others_none, others_some}
 use Rattle.std.proofs.lemmas.Bool.{and_from as both}
 use Rattle.reo_values.proofs.Truths.{and_right}
 use Rattle.reo_values.proofs.Naturals.{eq_same, lt_true, same_eq}
 use Rattle.reo_net_base.proofs.Marks.{flow_cases}
-use Rattle.reo_stepping.proofs.Far.{none_at}
+use Rattle.reo_flows.proofs.stepping.Far.{none_at}
 
 in_own : (numbers : List ℕ) (s k : ℕ) → s < length numbers → get_or numbers s 0 ≡ k → in_knot numbers k s ≡ true
 in_own numbers s k lt is = both (nat_lt s (length numbers)) (get_or numbers s 0 == k) (lt_true s (length numbers) lt) (same_eq (get_or numbers s 0) k is)

@@ -18,9 +18,9 @@ use Rattle.reo_net_base.specs.Wired.{IsWired, IsEnd}
 use Rattle.reo_net_base.proofs.Ends.{end_self}
 use Rattle.reo_net_laws.proofs.Joined.{joint_of}
 use Rattle.reo_net_laws.proofs.Ranges.{range_plus_one}
-use Rattle.reo_stepping.specs.Changes.{HasFlow}
+use Rattle.reo_flows.specs.stepping.Changes.{HasFlow}
 use Rattle.reo_standing.proofs.Filled.{not_flow}
-use Rattle.reo_stepping.proofs.FlowLemmas.{no_joint, with_item}
+use Rattle.reo_flows.proofs.stepping.FlowLemmas.{no_joint, with_item}
 
 -- The moves of one port more come at the end.
 pub flat_more : (f : ℕ → List Move) (k : ℕ) → flat_map f (range_with_len 0 (k + 1)) ≡ flat_map f (range_with_len 0 k) ++ f k

@@ -16,11 +16,11 @@ use Rattle.reo_net_base.specs.Net.{Net, all_sides, behaviour_at, end_of, mark_at
 use Rattle.reo_net_base.specs.Wired.{IsWired}
 use Rattle.reo_net_base.proofs.Marks.{mark_flows, mark_still}
 use Rattle.reo_net_circuit.proofs.Cases.{eq_cases, lt_cases}
-use Rattle.reo_net_ends.specs.Ends.{AreEnds, joint_at}
-use Rattle.reo_net_ends.proofs.EndLemmas.{taker_at}
+use Rattle.reo_net_circuit.specs.found_ends.Ends.{AreEnds, joint_at}
+use Rattle.reo_net_circuit.proofs.found_ends.EndLemmas.{taker_at}
 use Rattle.reo_net_laws.specs.Ends.{mark_in, from_in}
 use Rattle.reo_net_laws.proofs.Sides.{gives_at, row_in_table, row_below, side_in_range}
-use Rattle.reo_net_colouring.proofs.ItemLemmas.{given_none, given_some, taken_by_ends}
+use Rattle.reo_net.proofs.colouring.ItemLemmas.{given_none, given_some, taken_by_ends}
 use Rattle.reo_joint_values.specs.Standing.{Brings, FlowsAt, giver_of, no_joint}
 use Rattle.reo_joint_values.specs.Many.{IsJointIn}
 use Rattle.reo_reach.specs.InOrder.{AreInOrder, joints_in}
@@ -28,9 +28,9 @@ use Rattle.reo_net_laws.specs.Parts.{IsClosed}
 use Rattle.reo_net_laws.proofs.Orders.{place_in}
 use Rattle.reo_kept_tables.specs.Orders.{AreJointsOf}
 use Rattle.reo_kept_tables.proofs.Sorted.{joints_of_set}
-use Rattle.reo_flowing.specs.Flowing.{AreFlowingOf, flows_by}
-use Rattle.reo_flowing.proofs.Passing.{end_from, next_from}
-use Rattle.reo_stepping.specs.Flowing.{GiverFlows}
+use Rattle.reo_flows.specs.flowing.Flowing.{AreFlowingOf, flows_by}
+use Rattle.reo_flows.proofs.flowing.Passing.{end_from, next_from}
+use Rattle.reo_flows.specs.stepping.Flowing.{GiverFlows}
 use Rattle.reo_standing.specs.Filling.{AreBlankOn, AreHeld, IsPartFilled, IsPut}
 
 before_end : (xs ys : List ℕ) (m : ℕ) → m < length xs → get_or (xs ++ ys) m 0 ≡ get_or xs m 0

@@ -6,8 +6,8 @@ use Rattle.reo_net_base.specs.Moves.{moves_of}
 use Rattle.reo_net_base.specs.Net.{Net}
 use Rattle.reo_trace.specs.declared.line.RoundLine.{RoundLine}
 use Rattle.reo_trace.specs.Entries.{is_idle}
-use Rattle.reo_stepping.specs.Changes.{AreThoseThatFlowed}
-use Rattle.reo_stepping.specs.Flowing.{AreFlowing}
+use Rattle.reo_flows.specs.stepping.Changes.{AreThoseThatFlowed}
+use Rattle.reo_flows.specs.stepping.Flowing.{AreFlowing}
 use Rattle.reo_standing.specs.declared.standing.Standing.{Standing}
 
 -- The line of a round without its entries.

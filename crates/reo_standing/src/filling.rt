@@ -4,10 +4,10 @@ ghost use Rattle.reo_values.specs.declared.value.Value.{Value as Item};
 ghost use Rattle.reo_net_base.specs.Colouring.{IsColouring};
 ghost use Rattle.reo_net_base.specs.Net.{net_of};
 ghost use Rattle.reo_net_base.specs.Sides.{AreRowsOf};
-ghost use Rattle.reo_net_ends.specs.Ends.{AreEnds};
+ghost use Rattle.reo_net_circuit.specs.found_ends.Ends.{AreEnds};
 ghost use Rattle.reo_knots.specs.Knots.{AreKnots, in_knot, knot_count};
-ghost use Rattle.reo_flowing.specs.Flowing.{AreFlowingIn, AreFlowingOf};
-ghost use Rattle.reo_stepping.specs.Flowing.{GiverFlows};
+ghost use Rattle.reo_flows.specs.flowing.Flowing.{AreFlowingIn, AreFlowingOf};
+ghost use Rattle.reo_flows.specs.stepping.Flowing.{GiverFlows};
 ghost use Rattle.reo_standing.specs.Feeds.{AreFeeds};
 ghost use Rattle.reo_standing.specs.Filling.{AreBlank, AreBlankOn, AreFilled, AreHeld, AreMoving, HaveColouring, IsPartFilled, IsPut};
 
@@ -16,8 +16,7 @@ use crate::giving::put_given;
 use reo_flags::Flags;
 use reo_knots::Knots;
 use reo_net_base::Primitive;
-use reo_net_circuit::Circuit;
-use reo_net_ends::Ends;
+use reo_net_circuit::{Circuit, Ends};
 use reo_values::{List, NoMemory, Value};
 use std::alloc::Global;
 

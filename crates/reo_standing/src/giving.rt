@@ -6,16 +6,15 @@ ghost use Rattle.reo_net_base.specs.Colouring.{given_at, taken_at};
 ghost use Rattle.reo_net_base.specs.Ends.{IsGiver, IsTaker};
 ghost use Rattle.reo_net_base.specs.Net.{net_of, mark_at};
 ghost use Rattle.reo_net_base.specs.Sides.{AreRowsOf};
-ghost use Rattle.reo_net_ends.specs.Ends.{AreEnds};
+ghost use Rattle.reo_net_circuit.specs.found_ends.Ends.{AreEnds};
 ghost use Rattle.reo_joint_values.specs.Standing.{giver_of};
-ghost use Rattle.reo_stepping.specs.Flowing.{GiverFlows};
+ghost use Rattle.reo_flows.specs.stepping.Flowing.{GiverFlows};
 ghost use Rattle.reo_standing.specs.Feeds.{AreFeeds};
 
 use crate::copies::{plain_copy, put_plain};
 use crate::feeds::{BY_ROW, BY_STATE, Feeds};
 use reo_net_base::{End, Primitive};
-use reo_net_circuit::Circuit;
-use reo_net_ends::Ends;
+use reo_net_circuit::{Circuit, Ends};
 use reo_values::{List, NoMemory, Value};
 use std::alloc::Global;
 

@@ -3,7 +3,7 @@ ghost use Rattle.std.specs.Prelude.{◌≡◌, ◌<◌, ◌++◌, ℕ, List as L
 ghost use Rattle.reo_net_base.specs.Colouring.{IsColouring};
 ghost use Rattle.reo_net_base.specs.Moves.{moves_at, moves_of};
 ghost use Rattle.reo_net_base.specs.Net.{net_of};
-ghost use Rattle.reo_stepping.specs.Changes.{AreThoseThatFlowed};
+ghost use Rattle.reo_flows.specs.stepping.Changes.{AreThoseThatFlowed};
 
 use crate::copies::copied;
 use reo_flags::Flags;

@@ -1,9 +1,9 @@
 //! What stands for a round.
 ghost use Rattle.std.specs.Prelude.{◌≡◌, None, true, IfOk, length, set};
 ghost use Rattle.reo_net_base.specs.Net.{net_of};
-ghost use Rattle.reo_net_ends.specs.Ends.{AreEnds};
+ghost use Rattle.reo_net_circuit.specs.found_ends.Ends.{AreEnds};
 ghost use Rattle.reo_knots.specs.Knots.{AreKnots, knot_count};
-ghost use Rattle.reo_flowing.specs.Flowing.{AreFlowingIn};
+ghost use Rattle.reo_flows.specs.flowing.Flowing.{AreFlowingIn};
 ghost use Rattle.reo_standing.specs.Feeds.{AreFeeds};
 ghost use Rattle.reo_standing.specs.Filling.{AreBlank, AreHeldAmong, AreMoving};
 ghost use Rattle.reo_standing.specs.Standing.{HaveFirstItems, Stands};
@@ -13,11 +13,10 @@ use crate::feeds::Feeds;
 use crate::filling::fill;
 use crate::moving::moves_of_marked;
 use reo_flags::Flags;
+use reo_flows::mark_flowing;
 use reo_knots::Knots;
 use reo_net_base::{Colouring, Move, Primitive};
-use reo_net_circuit::Circuit;
-use reo_net_ends::Ends;
-use reo_stepping::mark_flowing;
+use reo_net_circuit::{Circuit, Ends};
 use reo_trace::RoundLine;
 use reo_values::{List, NoMemory, Value};
 use std::alloc::Global;

@@ -6,3 +6,4 @@ pub mod ItemText
 pub mod Canonical
 pub mod Unlined
 pub mod Written
+pub mod two

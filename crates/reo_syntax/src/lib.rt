@@ -8,6 +8,7 @@ mod literal;
 mod program;
 mod spread;
 mod term;
+mod two;
 mod type_term;
 
 pub use item::{append_head, append_tail};
@@ -19,4 +20,5 @@ pub use reo_trees::{
     Unary, one_program,
 };
 pub use spread::append_comma;
+pub use two::print_two;
 pub use type_term::append_type;

@@ -1,11 +1,10 @@
 //! The laws of texts of version 2.
-use reo_expand_base::{lifted_is_walked, lifted_stands_for_itself};
-use reo_loops::{loops_by_last_tokens, loops_by_trees};
-use reo_parser_two::each_text_of_any_is_answered;
-use reo_parser_two_laws::{first_texts_mean_what_they_meant, second_texts_are_refused};
-use reo_syntax_two_laws::canonical_text_two_says_the_program;
-use reo_trees::one_program_of_any;
-use reo_trees_two_laws::programs_two_are_spelled;
+use reo_expand::{lifted_is_walked, lifted_stands_for_itself};
+use reo_parser::{
+    each_text_of_any_is_answered, first_texts_mean_what_they_meant, second_texts_are_refused,
+};
+use reo_syntax_laws::{canonical_text_two_says_the_program, programs_two_are_spelled};
+use reo_trees::{loops_by_last_tokens, loops_by_trees, one_program_of_any};
 use reo_upgrade::{
     canonical_texts_of_any, lifted_programs_are_spelled, lifted_text_says_the_lifted,
 };

@@ -10,6 +10,7 @@ mod canonical;
 mod checks;
 #[cfg(test)]
 mod cursors;
+mod expand_tests;
 #[cfg(test)]
 mod laws;
 #[cfg(test)]

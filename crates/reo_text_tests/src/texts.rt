@@ -1,6 +1,5 @@
 //! What short texts are read as.
-use reo_parser::{ParseFault, parse};
-use reo_parser_two::parse_any;
+use reo_parser::{ParseFault, parse, parse_any};
 use reo_trees::{AnyProgram, Program};
 use std::alloc::Global;
 

@@ -5,10 +5,10 @@ use Rattle.std.specs.Prelude.{codes}
 use Rattle.std.specs.Fmt.{decimal}
 use Rattle.reo_net_base.specs.declared.port.Port.{Port}
 use Rattle.reo_trace.specs.EndingText.{ending_text}
-use Rattle.reo_live_base.specs.declared.answer.Answer.{Answer}
-use Rattle.reo_live_base.specs.declared.answer.Answer.TheVariants as answers
-use Rattle.reo_live_base.specs.Answers.{fault_text, refusal_text, end_text, answer_text, answers_text}
-use Rattle.reo_top_base.proofs.LineLemmas.{Ends, after, round_ends}
+use Rattle.reo_live.specs.declared.base.answer.Answer.{Answer}
+use Rattle.reo_live.specs.declared.base.answer.Answer.TheVariants as answers
+use Rattle.reo_live.specs.base.Answers.{fault_text, refusal_text, end_text, answer_text, answers_text}
+use Rattle.reo_command.proofs.top_base.LineLemmas.{Ends, after, round_ends}
 
 answer_ends : (ports : List Port) (answer : Answer) → Ends (answer_text ports answer)
 unfolding answer_text refusal_text end_text ending_text

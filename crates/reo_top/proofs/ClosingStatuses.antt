@@ -1,10 +1,10 @@
 -- The statuses and the last lines of what was heard.
 use Rattle.std.proofs.Common.{◌≡◌, ◌∙◌, ℕ, Bool, true, false, cond, List, [], ◌∷◌, ◌++◌, ap, sym, subst, refl, arith}
 use Rattle.std.specs.Prelude.{◌≢◌}
-use Rattle.reo_live_base.specs.declared.answer.Answer.{Answer}
-use Rattle.reo_closings.specs.Sources.{Events}
-use Rattle.reo_closings.specs.Closings.{Closing, over, many, missed, ends}
-use Rattle.reo_hearing.specs.Heard.{is_stop, IsLast}
+use Rattle.reo_live.specs.declared.base.answer.Answer.{Answer}
+use Rattle.reo_live.specs.closings.Sources.{Events}
+use Rattle.reo_live.specs.closings.Closings.{Closing, over, many, missed, ends}
+use Rattle.reo_live.specs.hearing.Heard.{is_stop, IsLast}
 use Rattle.reo_command.specs.declared.command.Command.TheVariants.{Live}
 use Rattle.reo_command.specs.declared.role.Role.TheVariants.{Circuit}
 use Rattle.reo_command.specs.Readings.{FlatCircuit, IsCircuitText, CircuitStops, ReadsCircuit, StopsCheck}

@@ -7,9 +7,9 @@ use Rattle.reo_trace.specs.declared.line.Ending.{Ending}
 use Rattle.reo_trace.specs.declared.line.Ending.TheVariants.{Done, Stuck, Limit, Spent, Wide}
 use Rattle.reo_command.specs.declared.command.Command.TheVariants.{Run}
 use Rattle.reo_top.specs.Answers.{Answered}
-use Rattle.reo_top_base.specs.Answered.{IsAnswered}
-use Rattle.reo_top_base.specs.Cases.{IsFailure, IsFair}
-use Rattle.reo_closings.specs.Sources.{SourceChange, Events}
+use Rattle.reo_command.specs.top_base.Answered.{IsAnswered}
+use Rattle.reo_command.specs.top_base.Cases.{IsFailure, IsFair}
+use Rattle.reo_live.specs.closings.Sources.{SourceChange, Events}
 use Rattle.reo_command.specs.Commands.{command_of, is_free, roles_of}
 use Rattle.reo_top.specs.Complete.{NothingFailed, IsWhole, Complete, ending_statuses}
 use Rattle.reo_command.specs.Fetched.{Content, has_gone, missed, AreFetched}
@@ -19,7 +19,7 @@ use Rattle.reo_top.specs.Owed.{owed_of}
 use Rattle.reo_command.specs.Readings.{Runnable}
 use Rattle.reo_command.specs.States.{SinkState, FilesState, Change}
 use Rattle.reo_command.specs.Statuses.{IsAmong}
-use Rattle.reo_top_runs.specs.Traces.{ending_status}
+use Rattle.reo_top.specs.runs.Traces.{ending_status}
 use Rattle.reo_command.proofs.FetchLemmas.{is_noted}
 use Rattle.reo_command.proofs.FetchLemmas.{if_any}
 use Rattle.reo_top.proofs.TopLemmas.{answered_with}

@@ -11,7 +11,7 @@ use Rattle.reo_io.specs.Fetches.{Folder, file_of}
 use Rattle.reo_kinds.specs.Kinds.{behaviour_of}
 use Rattle.reo_kinds.specs.KindLaws.{kind_lawful}
 use Rattle.reo_flat.specs.Flat.{primitives_of, net_of_program}
-use Rattle.reo_flatten_laws.specs.Circuits.{CircuitsAreMade}
+use Rattle.reo_flat.specs.flatten_laws.Circuits.{CircuitsAreMade}
 use Rattle.reo_circuit_texts.specs.Laws.{CircuitNamesArePlain}
 use Rattle.reo_runner.specs.declared.outcome.Limits.{Limits}
 use Rattle.reo_command.specs.Readings.{kind_rules, FlatCircuit, Runnable, IsCircuitText, CircuitStops, ReadsRun, StopsRun}
@@ -22,21 +22,21 @@ use Rattle.reo_command.specs.declared.role.Role.TheVariants.{Circuit, Script}
 use Rattle.reo_command.specs.declared.stop.Stop.{Stop}
 use Rattle.reo_command.specs.declared.stop.Stop.TheVariants.{Missed}
 use Rattle.reo_top.specs.Answers.{Answered}
-use Rattle.reo_top_base.specs.Answered.{IsAnswered}
-use Rattle.reo_top_base.specs.Cases.{Cases, IsFailure}
-use Rattle.reo_closings.specs.Sources.{SourceChange}
+use Rattle.reo_command.specs.top_base.Answered.{IsAnswered}
+use Rattle.reo_command.specs.top_base.Cases.{Cases, IsFailure}
+use Rattle.reo_live.specs.closings.Sources.{SourceChange}
 use Rattle.reo_command.specs.Commands.{command_of, is_free, roles_of}
 use Rattle.reo_command.specs.Fetched.{Content, gone, long, text, unknown, content_of, texts_given, AreShort, AreTold}
 use Rattle.reo_top.specs.Headline.{Accepted, GaveAccepted, IsTraced, Headline}
 use Rattle.reo_command.specs.Limits.{limits_of}
 use Rattle.reo_top.specs.Owed.{owed_of}
-use Rattle.reo_top_base.specs.Owed.{owed_by}
-use Rattle.reo_top_runs.specs.Traces.{TracesRun}
+use Rattle.reo_command.specs.top_base.Owed.{owed_by}
+use Rattle.reo_top.specs.runs.Traces.{TracesRun}
 use Rattle.reo_command.specs.Roles.{most_bytes}
 use Rattle.reo_command.specs.States.{SinkState, FilesState, Change}
 use Rattle.reo_command.specs.Stops.{stop_status}
 use Rattle.reo_command.proofs.FlatLemmas.{circuit_apart}
-use Rattle.reo_top_runs.proofs.RunLemmas.{start_for}
+use Rattle.reo_top.proofs.runs.RunLemmas.{start_for}
 use Rattle.reo_command.proofs.FetchLemmas.{if_any}
 use Rattle.reo_top.proofs.TopLemmas.{answered_with}
 use Rattle.reo_command.proofs.WorkLemmas.{run_reading}

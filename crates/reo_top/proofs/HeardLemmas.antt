@@ -14,24 +14,24 @@ use Rattle.reo_kinds.specs.declared.kind.Kind.{Kind}
 use Rattle.reo_kinds.specs.Kinds.{behaviour_of}
 use Rattle.reo_rounds.specs.Order.{HasOrder}
 use Rattle.reo_command.specs.Readings.{kind_rules, FlatCircuit}
-use Rattle.reo_live_base.specs.declared.answer.Answer.{Answer}
-use Rattle.reo_live_base.specs.Live.{Live, beginning}
-use Rattle.reo_live_base.specs.Answers.{answer_text, answers_text}
-use Rattle.reo_closings.specs.Sources.{SourceChange, Events, most_events}
-use Rattle.reo_closings.specs.Closings.{Closing, many, missed, Closes}
-use Rattle.reo_closings.specs.Laws.{ClosingIsOne}
-use Rattle.reo_hearing.specs.declared.heard.Heard.{Heard}
-use Rattle.reo_hearing.specs.declared.heard.Heard.TheVariants as heards
-use Rattle.reo_hearing.specs.Heard.{IsHeard, HeardFrom, TookFew, HeardAll, HeardLast, HeardPart, HeardLines}
+use Rattle.reo_live.specs.declared.base.answer.Answer.{Answer}
+use Rattle.reo_live.specs.base.Live.{Live, beginning}
+use Rattle.reo_live.specs.base.Answers.{answer_text, answers_text}
+use Rattle.reo_live.specs.closings.Sources.{SourceChange, Events, most_events}
+use Rattle.reo_live.specs.closings.Closings.{Closing, many, missed, Closes}
+use Rattle.reo_live.specs.closings.Laws.{ClosingIsOne}
+use Rattle.reo_live.specs.declared.hearing.heard.Heard.{Heard}
+use Rattle.reo_live.specs.declared.hearing.heard.Heard.TheVariants as heards
+use Rattle.reo_live.specs.hearing.Heard.{IsHeard, HeardFrom, TookFew, HeardAll, HeardLast, HeardPart, HeardLines}
 use Rattle.reo_command.specs.States.{SinkState, Change}
-use Rattle.reo_top_base.specs.Cases.{AreFirstLines, Cases, IsExact, IsFair, TellsFaults, Refuses, SaysNoMemory}
+use Rattle.reo_command.specs.top_base.Cases.{AreFirstLines, Cases, IsExact, IsFair, TellsFaults, Refuses, SaysNoMemory}
 use Rattle.reo_top.specs.Closed.{Says, IsClosedAs}
-use Rattle.reo_top_base.specs.Outputs.{IsLine}
+use Rattle.reo_command.specs.top_base.Outputs.{IsLine}
 use Rattle.reo_top.specs.Heard.{closing_text, closing_status, HearsCircuit, IsHeardOn, TakesFew}
 use Rattle.reo_top.proofs.AnswerTexts.{answers_end}
-use Rattle.reo_top_base.proofs.CaseLemmas.{line_cases, line_written, lines_cases}
+use Rattle.reo_command.proofs.top_base.CaseLemmas.{line_cases, line_written, lines_cases}
 use Rattle.reo_top.proofs.ClosingStatuses.{last_is, status_last, text_last}
-use Rattle.reo_top_base.proofs.LineLemmas.{Ends}
+use Rattle.reo_command.proofs.top_base.LineLemmas.{Ends}
 
 -- A line behind what came, and a sink that failed on it.
 line_behind : (old mid new : SinkState) (code status : ℕ) (first line : List ℕ) → old.faults ≤ mid.faults → Appended old.told mid.told first

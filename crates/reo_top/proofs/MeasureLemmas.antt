@@ -25,11 +25,11 @@ use Rattle.reo_command.specs.States.{SinkState, Change}
 use Rattle.reo_command.specs.Statuses.{IsAmong, statuses_of}
 use Rattle.reo_command.proofs.WorkLemmas.{run_reading}
 use Rattle.reo_command.proofs.ResultLemmas.{some_is, none_is_some}
-use Rattle.reo_top_base.specs.Cases.{Cases, IsExact, IsFair, Refuses}
+use Rattle.reo_command.specs.top_base.Cases.{Cases, IsExact, IsFair, Refuses}
 use Rattle.reo_top.specs.Measures.{measure_line, measure_status, MeasuresRun, MeasuresMade, ending_for}
-use Rattle.reo_top_base.specs.Outputs.{IsLine}
-use Rattle.reo_top_base.proofs.CaseLemmas.{lifted, line_cases, line_written}
-use Rattle.reo_top_runs.proofs.RunLemmas.{start_for}
+use Rattle.reo_command.specs.top_base.Outputs.{IsLine}
+use Rattle.reo_command.proofs.top_base.CaseLemmas.{lifted, line_cases, line_written}
+use Rattle.reo_top.proofs.runs.RunLemmas.{start_for}
 
 -- The pieces of the line, one after another.
 joined : (l a sa b sb c sc d sd e se f g h : List ℕ)

@@ -2,7 +2,7 @@
 use Rattle.std.proofs.Common.{◌≡◌, ℕ, List, [], ◌∷◌}
 use Rattle.std.specs.Prelude.{◌&&◌, Option, Some, None, codes}
 use Rattle.reo_runner.specs.declared.outcome.Limits.{Limits}
-use Rattle.reo_closings.specs.Sources.{SourceChange, Events, source_change, state_of, untaken}
+use Rattle.reo_live.specs.closings.Sources.{SourceChange, Events, source_change, state_of, untaken}
 use Rattle.reo_command.specs.declared.command.Command.{Command}
 use Rattle.reo_command.specs.declared.command.Command.TheVariants.{Run, Bench}
 use Rattle.reo_command.specs.Amounts.{size_of}
@@ -12,12 +12,12 @@ use Rattle.reo_command.specs.Readings.{ReadsRun, StopsRun}
 use Rattle.reo_command.specs.States.{SinkState, FilesState, Change}
 use Rattle.reo_command.specs.Statuses.{IsAmong, statuses_of}
 use Rattle.reo_top.specs.Answers.{Answered}
-use Rattle.reo_top_base.specs.Answered.{IsAnswered, IsAnsweredWith}
-use Rattle.reo_top_base.specs.Cases.{Cases, IsExact, Refuses}
+use Rattle.reo_command.specs.top_base.Answered.{IsAnswered, IsAnsweredWith}
+use Rattle.reo_command.specs.top_base.Cases.{Cases, IsExact, Refuses}
 use Rattle.reo_top.specs.Measures.{MeasuresMade}
 use Rattle.reo_top.specs.Owed.{owed_of}
-use Rattle.reo_top_base.specs.Owed.{owed_by}
-use Rattle.reo_top_runs.specs.Traces.{TracesRun}
+use Rattle.reo_command.specs.top_base.Owed.{owed_by}
+use Rattle.reo_top.specs.runs.Traces.{TracesRun}
 use Rattle.reo_top.proofs.TopLemmas.{answered_as, answered_none, bench_answered, run_answered}
 use Rattle.reo_top.proofs.UntakenLemmas.{none_taken, none_taken_few}
 

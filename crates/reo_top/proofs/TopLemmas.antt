@@ -6,24 +6,24 @@ use Rattle.reo_runner.specs.declared.outcome.Limits.{Limits}
 use Rattle.reo_command.specs.declared.command.Command.{Command}
 use Rattle.reo_command.specs.declared.command.Command.TheVariants.{Run, Bench, Live}
 use Rattle.reo_top.specs.Answers.{IsHeardAs, Answered, AnsweredFor, takes_for}
-use Rattle.reo_top_base.specs.Answered.{IsAnswered, IsAnsweredWith}
-use Rattle.reo_top_base.specs.Cases.{Cases, IsExact, Refuses}
-use Rattle.reo_closings.specs.Sources.{SourceChange, Events, AreTaken}
+use Rattle.reo_command.specs.top_base.Answered.{IsAnswered, IsAnsweredWith}
+use Rattle.reo_command.specs.top_base.Cases.{Cases, IsExact, Refuses}
+use Rattle.reo_live.specs.closings.Sources.{SourceChange, Events, AreTaken}
 use Rattle.reo_command.specs.Amounts.{size_of}
 use Rattle.reo_top.specs.Heard.{HearsCircuit, TakesFew}
 use Rattle.reo_top.specs.Measures.{MeasuresMade}
 use Rattle.reo_command.specs.Commands.{command_of, names_of, is_free, takes_events, roles_of}
 use Rattle.reo_command.specs.Fetched.{Content}
-use Rattle.reo_top_base.specs.Outputs.{Outputs, IsLine}
+use Rattle.reo_command.specs.top_base.Outputs.{Outputs, IsLine}
 use Rattle.reo_command.specs.Limits.{limits_of, budget_of}
 use Rattle.reo_top.specs.Owed.{owed_of, owed_for}
-use Rattle.reo_top_base.specs.Owed.{owed_by}
-use Rattle.reo_top_runs.specs.Traces.{TracesRun}
+use Rattle.reo_command.specs.top_base.Owed.{owed_by}
+use Rattle.reo_top.specs.runs.Traces.{TracesRun}
 use Rattle.reo_command.specs.Readings.{ReadsRun, StopsRun, ReadsCircuit, StopsCheck}
 use Rattle.reo_command.specs.States.{SinkState, FilesState, Change}
 use Rattle.reo_command.specs.Statuses.{IsAmong, statuses_of, statuses_for}
 use Rattle.reo_command.proofs.FetchLemmas.{none_fetched}
-use Rattle.reo_top_base.proofs.CaseLemmas.{line_cases, line_written, line_code, line_not_three}
+use Rattle.reo_command.proofs.top_base.CaseLemmas.{line_cases, line_written, line_code, line_not_three}
 
 -- The status of one line, or of a sink that failed on it.
 pub line_among : (sink : Change SinkState) (code : ℕ) (statuses : List ℕ) (line : List ℕ) (status : ℕ) → IsAmong statuses status → IsAmong statuses 9 → Refuses line status sink code → IsAmong statuses code

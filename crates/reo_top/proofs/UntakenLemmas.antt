@@ -4,7 +4,7 @@ use Rattle.std.proofs.lemmas.Bool.{false≢true}
 use Rattle.std.proofs.lemmas.List.{append-nil}
 use Rattle.std.specs.Prelude.{Option, Some, None, IfSome, ◌++◌}
 use Rattle.std.specs.Option.{unwrap_or}
-use Rattle.reo_closings.specs.Sources.{AreTaken, source_change, state_of, untaken}
+use Rattle.reo_live.specs.closings.Sources.{AreTaken, source_change, state_of, untaken}
 use Rattle.reo_top.specs.Heard.{TakesFew}
 
 still_told : (o : Option (List ℕ)) → IfSome o (λ (bytes : List ℕ). (left : List ℕ) × (bytes ≡ [] ++ left) × (o ≡ Some left) × (false ≡ false → unwrap_or o [] ≡ bytes))

@@ -2,12 +2,12 @@
 use Rattle.std.specs.Prelude.{ℕ, ◌≡◌, ◌&&◌, Bool, false, List, [], Option, Some, None}
 use Rattle.reo_command.specs.declared.command.Command.{Command}
 use Rattle.reo_command.specs.declared.role.Role.{Role}
-use Rattle.reo_top_base.specs.Answered.{IsAnsweredWith}
-use Rattle.reo_top_base.specs.Cases.{IsFair, TellsFaults}
-use Rattle.reo_closings.specs.Sources.{SourceChange, Events, AreTaken}
+use Rattle.reo_command.specs.top_base.Answered.{IsAnsweredWith}
+use Rattle.reo_command.specs.top_base.Cases.{IsFair, TellsFaults}
+use Rattle.reo_live.specs.closings.Sources.{SourceChange, Events, AreTaken}
 use Rattle.reo_command.specs.Commands.{command_of, roles_of, is_free, takes_events, names_of}
 use Rattle.reo_command.specs.Fetched.{Content}
-use Rattle.reo_top_base.specs.Outputs.{Outputs}
+use Rattle.reo_command.specs.top_base.Outputs.{Outputs}
 use Rattle.reo_top.specs.Heard.{TakesFew}
 use Rattle.reo_top.specs.Owed.{owed_for}
 use Rattle.reo_command.specs.States.{SinkState, FilesState, Change}

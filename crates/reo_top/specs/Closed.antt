@@ -1,10 +1,10 @@
 -- What was written behind the answers of what was heard.
 use Rattle.std.specs.Prelude.{ℕ, ◌≡◌, codes}
-use Rattle.reo_hearing.specs.declared.heard.Heard.{Heard}
-use Rattle.reo_hearing.specs.declared.heard.Heard.TheVariants as heards
+use Rattle.reo_live.specs.declared.hearing.heard.Heard.{Heard}
+use Rattle.reo_live.specs.declared.hearing.heard.Heard.TheVariants as heards
 use Rattle.reo_command.specs.States.{SinkState, Change}
 use Rattle.reo_command.specs.Statuses.{done, part_over, read_fault, too_long, write_fault}
-use Rattle.reo_top_base.specs.Cases.{Refuses, EndsWithNoMemory}
+use Rattle.reo_command.specs.top_base.Cases.{Refuses, EndsWithNoMemory}
 
 -- Nothing was written, and this is the status.
 abbrev pub Says : ℕ → Change SinkState → ℕ → Type 0

@@ -5,13 +5,13 @@ use Rattle.reo_runner.specs.declared.outcome.Limits.{Limits}
 use Rattle.reo_runs.specs.Justified.{justified}
 use Rattle.reo_command.specs.declared.command.Command.TheVariants.{Run}
 use Rattle.reo_command.specs.declared.role.Role.TheVariants.{Circuit, Script}
-use Rattle.reo_top_base.specs.Cases.{Adds, IsFailure}
+use Rattle.reo_command.specs.top_base.Cases.{Adds, IsFailure}
 use Rattle.reo_command.specs.Commands.{command_of, names_of}
 use Rattle.reo_command.specs.Fetched.{content_of, text}
 use Rattle.reo_command.specs.Limits.{limits_of, firsts_for}
 use Rattle.reo_command.specs.Readings.{Runnable, ReadsRun}
 use Rattle.reo_command.specs.States.{SinkState, FilesState, Change}
-use Rattle.reo_top_runs.specs.Traces.{IsTraceOf}
+use Rattle.reo_top.specs.runs.Traces.{IsTraceOf}
 
 -- The words are those of a run, and the files that they name are a circuit text and a script text that are accepted: as what
 -- a program unfolds to that breaks no rule, and as a script for its ports.

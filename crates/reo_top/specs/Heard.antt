@@ -1,15 +1,15 @@
 -- What hearing a source owes.
 use Rattle.std.specs.Prelude.{ℕ, ◌≡◌, ◌⊎◌, ◌≤◌, ◌+◌, ◌++◌, Bool, false, cond, List, [], ◌∷◌, length, codes}
 use Rattle.reo_command.specs.Readings.{kind_rules, FlatCircuit}
-use Rattle.reo_live_base.specs.declared.answer.Answer.{Answer}
-use Rattle.reo_live_base.specs.Answers.{answers_text}
-use Rattle.reo_closings.specs.Sources.{SourceChange, Events, AreTaken, AreTakenSoFar, most_events}
-use Rattle.reo_closings.specs.Closings.{Closing, over, many, missed, ends, Closes}
-use Rattle.reo_hearing.specs.Heard.{is_stop}
+use Rattle.reo_live.specs.declared.base.answer.Answer.{Answer}
+use Rattle.reo_live.specs.base.Answers.{answers_text}
+use Rattle.reo_live.specs.closings.Sources.{SourceChange, Events, AreTaken, AreTakenSoFar, most_events}
+use Rattle.reo_live.specs.closings.Closings.{Closing, over, many, missed, ends, Closes}
+use Rattle.reo_live.specs.hearing.Heard.{is_stop}
 use Rattle.reo_command.specs.States.{SinkState, Change}
 use Rattle.reo_command.specs.Statuses.{done, part_over, read_fault, too_long}
-use Rattle.reo_top_base.specs.Cases.{Cases, IsExact}
-use Rattle.reo_top_base.specs.Outputs.{Outputs, IsLine}
+use Rattle.reo_command.specs.top_base.Cases.{Cases, IsExact}
+use Rattle.reo_command.specs.top_base.Outputs.{Outputs, IsLine}
 
 -- The line behind the answers.
 abbrev pub closing_text : Closing → List ℕ

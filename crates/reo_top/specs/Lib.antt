@@ -5,3 +5,7 @@ pub mod Measures
 pub mod Heard
 pub mod Closed
 pub mod Owed
+pub mod runs
+pub mod verdicts
+pub mod tables
+pub mod inventory

@@ -14,7 +14,7 @@ use Rattle.reo_runs.specs.Written.{moved, is_in, is_out}
 use Rattle.reo_command.specs.Limits.{usual_limits, firsts_for}
 use Rattle.reo_command.specs.Made.{ReadsMade}
 use Rattle.reo_command.specs.Statuses.{done, part_over}
-use Rattle.reo_top_base.specs.Outputs.{Outputs, IsLine}
+use Rattle.reo_command.specs.top_base.Outputs.{Outputs, IsLine}
 
 -- The line of a run: the size of its work, its primitives and rounds, what moved in and out in them, and how it ended.
 abbrev pub measure_text : (size primitives rounds written delivered : ℕ) → List ℕ → List ℕ

@@ -1,24 +1,24 @@
 -- What a command owes, by what its fetches answered.
 use Rattle.std.specs.Prelude.{ℕ, ◌≡◌, List, [], Option, Some, None, codes}
 use Rattle.reo_trees.specs.declared.programs_two.AnyProgram.{AnyProgram}
-use Rattle.reo_syntax_two.specs.Canonical.{canonical_text_two}
+use Rattle.reo_syntax.specs.two.Canonical.{canonical_text_two}
 use Rattle.reo_upgrade.specs.Upgraded.{upgraded, canonical_text_any}
-use Rattle.reo_inventory.specs.Parts.{parts_text}
+use Rattle.reo_top.specs.inventory.Parts.{parts_text}
 use Rattle.reo_command.specs.declared.command.Command.{Command}
 use Rattle.reo_command.specs.declared.command.Command.TheVariants.{Run, Check, Print, Upgrade, Verify, Bench, Live, Tables, Prove, VerifyProof}
 use Rattle.reo_command.specs.Claims.{ReadsClaim, StopsVerify, ReadsProof, StopsProof}
 use Rattle.reo_command.specs.Fetched.{Content}
 use Rattle.reo_command.specs.Limits.{limits_of, budget_of, usual_limits}
 use Rattle.reo_command.specs.Amounts.{size_of}
-use Rattle.reo_closings.specs.Sources.{Events}
+use Rattle.reo_live.specs.closings.Sources.{Events}
 use Rattle.reo_top.specs.Heard.{HearsCircuit}
 use Rattle.reo_top.specs.Measures.{MeasuresMade}
-use Rattle.reo_top_base.specs.Outputs.{Outputs, IsLine}
-use Rattle.reo_top_base.specs.Owed.{owed_by}
-use Rattle.reo_top_runs.specs.ProvedRuns.{ProvesRun}
-use Rattle.reo_top_runs.specs.Traces.{TracesRun}
-use Rattle.reo_top_tables.specs.Listings.{ListsTables}
-use Rattle.reo_top_verdicts.specs.Judged.{JudgesTrace, JudgesProof}
+use Rattle.reo_command.specs.top_base.Outputs.{Outputs, IsLine}
+use Rattle.reo_command.specs.top_base.Owed.{owed_by}
+use Rattle.reo_top.specs.runs.ProvedRuns.{ProvesRun}
+use Rattle.reo_top.specs.runs.Traces.{TracesRun}
+use Rattle.reo_top.specs.tables.Listings.{ListsTables}
+use Rattle.reo_top.specs.verdicts.Judged.{JudgesTrace, JudgesProof}
 use Rattle.reo_command.specs.Readings.{FlatCircuit, ReadsProgram, StopsPrint, ReadsCircuit, StopsCheck, ReadsRun, StopsRun}
 use Rattle.reo_command.specs.Statuses.{done, words_refused}
 

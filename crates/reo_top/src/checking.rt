@@ -2,21 +2,20 @@
 ghost use Rattle.std.specs.Prelude.{◌≡◌, [], ◌∷◌, length};
 ghost use Rattle.reo_command.specs.declared.command.Command.TheVariants as commands;
 ghost use Rattle.reo_command.specs.declared.role.Role.TheVariants as roles;
-ghost use Rattle.reo_top_base.specs.Answered.{IsAnswered};
-ghost use Rattle.reo_top_base.specs.Cases.{Cases, IsExact, IsFair, TellsFaults};
+ghost use Rattle.reo_command.specs.top_base.Answered.{IsAnswered};
+ghost use Rattle.reo_command.specs.top_base.Cases.{Cases, IsExact, IsFair, TellsFaults};
 ghost use Rattle.reo_command.specs.Commands.{is_free};
 ghost use Rattle.reo_top.specs.Owed.{ListsParts};
-ghost use Rattle.reo_top_base.specs.Owed.{owed_by};
+ghost use Rattle.reo_command.specs.top_base.Owed.{owed_by};
 ghost use Rattle.reo_command.specs.Readings.{ReadsCircuit, StopsCheck};
 ghost use Rattle.reo_command.specs.ReadSteps.{circuit_in};
 ghost use Rattle.reo_command.specs.States.{files_change, sink_change};
 ghost use Rattle.reo_command.specs.Statuses.{IsAmong, statuses_of};
 
-use reo_command::{DONE, Status, read_flat};
+use crate::inventory::parts_text;
+use reo_command::{DONE, Status, answer, no_memory, read_flat, refuse};
 use reo_flatten::Flat;
-use reo_inventory::parts_text;
 use reo_io::{Files, Sink};
-use reo_top_base::{answer, no_memory, refuse};
 use std::alloc::Global;
 
 /// Writes the parts of a circuit.

@@ -1,6 +1,6 @@
 //! Events of the source that are heard on a circuit.
 ghost use Rattle.std.specs.Prelude.{◌≡◌, ◌≤◌, ◌^◌, [], ◌∷◌};
-ghost use Rattle.reo_closings.specs.Sources.{source_change};
+ghost use Rattle.reo_live.specs.closings.Sources.{source_change};
 ghost use Rattle.reo_command.specs.declared.command.Command.TheVariants as commands;
 ghost use Rattle.reo_command.specs.declared.role.Role.TheVariants as roles;
 ghost use Rattle.reo_command.specs.Commands.{is_free};
@@ -9,19 +9,20 @@ ghost use Rattle.reo_command.specs.ReadSteps.{HasItsPorts, circuit_in};
 ghost use Rattle.reo_command.specs.States.{files_change, sink_change};
 ghost use Rattle.reo_command.specs.Statuses.{IsAmong, statuses_of};
 ghost use Rattle.reo_top.specs.Answers.{IsHeardAs};
-ghost use Rattle.reo_top_base.specs.Cases.{IsFair, TellsFaults};
+ghost use Rattle.reo_command.specs.top_base.Cases.{IsFair, TellsFaults};
 ghost use Rattle.reo_top.specs.Closed.{IsClosedAs};
 ghost use Rattle.reo_top.specs.Heard.{HearsCircuit, IsHeardOn};
-ghost use Rattle.reo_top_base.specs.Owed.{owed_by};
+ghost use Rattle.reo_command.specs.top_base.Owed.{owed_by};
 
-use reo_closings::{closing_exists, closing_is_one};
-use reo_command::{DONE, PART_OVER, READ_FAULT, Status, TOO_LONG, WRITE_FAULT, read_flat};
+use reo_command::{
+    DONE, PART_OVER, READ_FAULT, Status, TOO_LONG, WRITE_FAULT, answer, no_memory, read_flat,
+    refuse,
+};
 use reo_flatten::Flat;
-use reo_hearing::{Heard, Live, hear};
 use reo_io::{Files, Sink, Source};
 use reo_kinds::Kind;
+use reo_live::{Heard, Live, closing_exists, closing_is_one, hear};
 use reo_runs::known_order;
-use reo_top_base::{answer, no_memory, refuse};
 use std::alloc::Global;
 
 /// Writes the line behind the answers, if one is owed, and answers the status.

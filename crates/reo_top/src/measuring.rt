@@ -9,18 +9,17 @@ ghost use Rattle.reo_command.specs.Limits.{usual_limits};
 ghost use Rattle.reo_command.specs.ReadSteps.{runnable_in};
 ghost use Rattle.reo_command.specs.States.{sink_change};
 ghost use Rattle.reo_command.specs.Statuses.{IsAmong, statuses_of};
-ghost use Rattle.reo_top_base.specs.Cases.{Cases, IsExact, IsFair, TellsFaults};
+ghost use Rattle.reo_command.specs.top_base.Cases.{Cases, IsExact, IsFair, TellsFaults};
 ghost use Rattle.reo_top.specs.Measures.{measure_text, measure_line, measure_status, MeasuresRun, MeasuresMade, ending_for};
 
-use reo_command::{DONE, PART_OVER, Status, Work, make_run, usual_limits};
+use reo_command::{DONE, PART_OVER, Status, Work, answer, make_run, no_memory, usual_limits};
 use reo_io::{NullSink, Sink};
 use reo_kinds::Kind;
+use reo_proof_texts::append_numbered;
 use reo_runner::{End2, Limits, Outcome, run};
 use reo_runs::{known_order, one_trace};
-use reo_top_base::{answer, no_memory};
 use reo_trace::{Ending, ending_line_text};
 use reo_values::{Bytes, NoMemory};
-use reo_verdict_words::append_numbered;
 use std::alloc::Global;
 
 /// Adds the line of a run, its line feed included. `NoMemory` is out of memory.

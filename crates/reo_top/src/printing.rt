@@ -2,18 +2,17 @@
 ghost use Rattle.std.specs.Prelude.{[], ◌∷◌};
 ghost use Rattle.reo_command.specs.declared.command.Command.TheVariants as commands;
 ghost use Rattle.reo_command.specs.declared.role.Role.TheVariants as roles;
-ghost use Rattle.reo_top_base.specs.Answered.{IsAnswered};
-ghost use Rattle.reo_top_base.specs.Cases.{Cases, IsExact, IsFair, TellsFaults};
+ghost use Rattle.reo_command.specs.top_base.Answered.{IsAnswered};
+ghost use Rattle.reo_command.specs.top_base.Cases.{Cases, IsExact, IsFair, TellsFaults};
 ghost use Rattle.reo_command.specs.Commands.{is_free};
 ghost use Rattle.reo_top.specs.Owed.{PrintsProgram, UpgradesProgram};
-ghost use Rattle.reo_top_base.specs.Owed.{owed_by};
+ghost use Rattle.reo_command.specs.top_base.Owed.{owed_by};
 ghost use Rattle.reo_command.specs.Readings.{ReadsProgram, StopsPrint};
 ghost use Rattle.reo_command.specs.States.{files_change, sink_change};
 ghost use Rattle.reo_command.specs.Statuses.{IsAmong, statuses_of};
 
-use reo_command::{DONE, Status, read_program};
+use reo_command::{DONE, Status, answer, no_memory, read_program, refuse};
 use reo_io::{Files, Sink};
-use reo_top_base::{answer, no_memory, refuse};
 use reo_trees::AnyProgram;
 use reo_upgrade::{print_any, upgrade};
 use std::alloc::Global;

@@ -3,23 +3,24 @@ ghost use Rattle.std.specs.Prelude.{◌≡◌, [], slice_index_or};
 ghost use Rattle.reo_top.specs.Answers.{Answered, IsHonest, KeepsInputs};
 ghost use Rattle.reo_top.specs.Complete.{Complete};
 ghost use Rattle.reo_top.specs.Headline.{Headline};
-ghost use Rattle.reo_closings.specs.Sources.{source_change};
+ghost use Rattle.reo_live.specs.closings.Sources.{source_change};
 ghost use Rattle.reo_command.specs.States.{files_change, sink_change};
 
 use crate::checking::check_circuit;
 use crate::hearing::hear_events;
 use crate::measuring::measure_work;
 use crate::printing::{print_circuit, upgrade_circuit};
+use crate::runs::{prove_circuit, run_circuit};
+use crate::tables::list_circuit;
+use crate::verdicts::{verify_claim, verify_proof_claim};
 use reo_circuit_texts::circuit_names_are_plain;
-use reo_command::{Command, Status, WORDS_REFUSED, budget_of, command_of, limits_of, size_of};
-use reo_flatten_laws::circuits_are_made;
+use reo_command::{
+    Command, Status, WORDS_REFUSED, answer, budget_of, command_of, limits_of, size_of,
+};
+use reo_flat::circuits_are_made;
 use reo_io::{Files, Sink, Source};
 use reo_kinds::Kind;
 use reo_runs::runs_are_justified;
-use reo_top_base::answer;
-use reo_top_runs::{prove_circuit, run_circuit};
-use reo_top_tables::list_circuit;
-use reo_top_verdicts::{verify_claim, verify_proof_claim};
 use reo_values::{Bytes, List};
 use std::alloc::Global;
 

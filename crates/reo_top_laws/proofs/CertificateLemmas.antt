@@ -2,15 +2,15 @@
 use Rattle.std.proofs.Common.{◌≡◌, ℕ, ◌^◌, ◌≤◌, ◌<◌, List, length, sym, subst}
 use Rattle.reo_trees.specs.declared.programs.Program.{Program}
 use Rattle.reo_circuit_texts.specs.Laws.{CircuitsAreSpelled, CircuitNamesArePlain}
-use Rattle.reo_scripts.specs.declared.action.Component.{Component}
+use Rattle.reo_script.specs.declared.scripts.action.Component.{Component}
 use Rattle.reo_trace.specs.declared.line.RoundLine.{RoundLine}
 use Rattle.reo_trace.specs.declared.line.Ending.{Ending}
 use Rattle.reo_trace.specs.TraceText.{trace_text}
-use Rattle.reo_trace_texts.specs.declared.trace.Trace.{Trace}
-use Rattle.reo_trace_texts.specs.Texts.{IsTraceText}
+use Rattle.reo_trace_reader.specs.declared.texts.trace.Trace.{Trace}
+use Rattle.reo_trace_reader.specs.texts.Texts.{IsTraceText}
 use Rattle.reo_runs.specs.Run.{start_of, firsts, IsRun}
-use Rattle.reo_at_ports.specs.Kinds.{kind_rules}
-use Rattle.reo_run_texts.specs.Laws.{IsTold, RunsAreTraceTexts}
+use Rattle.reo_runner.specs.at_ports.Kinds.{kind_rules}
+use Rattle.reo_runs.specs.run_texts.Laws.{IsTold, RunsAreTraceTexts}
 use Rattle.reo_command.specs.Readings.{FlatCircuit, IsCircuitText, flat_of}
 
 -- The trace with these rounds and this ending.

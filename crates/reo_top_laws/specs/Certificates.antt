@@ -1,17 +1,17 @@
 -- Traces that a run has written.
 use Rattle.std.specs.Prelude.{ℕ, ◌<◌, ◌^◌, List, [], ◌∷◌, length}
 use Rattle.reo_trace.specs.declared.line.RoundLine.{RoundLine}
-use Rattle.reo_verdicts.specs.declared.verdict.Verdict.TheVariants.{Verified}
-use Rattle.reo_verdicts.specs.Said.{jammed}
-use Rattle.reo_trace_texts.specs.declared.trace.Trace.{Trace}
+use Rattle.reo_runs.specs.declared.verdicts.verdict.Verdict.TheVariants.{Verified}
+use Rattle.reo_runs.specs.verdicts.Said.{jammed}
+use Rattle.reo_trace_reader.specs.declared.texts.trace.Trace.{Trace}
 use Rattle.reo_command.specs.Claims.{Claimed, ReadsClaim}
 use Rattle.reo_command.specs.Fetched.{text}
 use Rattle.reo_command.specs.Limits.{limits_of, firsts_for}
 use Rattle.reo_command.specs.Readings.{Runnable, ReadsRun}
-use Rattle.reo_top_verdicts.specs.Judged.{JudgesTrace}
+use Rattle.reo_top.specs.verdicts.Judged.{JudgesTrace}
 use Rattle.reo_command.specs.Statuses.{done}
-use Rattle.reo_top_runs.specs.Traces.{IsTraceOf}
-use Rattle.reo_top_verdicts.specs.VerdictTexts.{verdict_line}
+use Rattle.reo_top.specs.runs.Traces.{IsTraceOf}
+use Rattle.reo_top.specs.verdicts.VerdictTexts.{verdict_line}
 
 -- The files of a circuit, a script and a trace are read together, and the verdict is that the trace is verified.
 pub record IsVerified (circuit script trace : List ℕ) (lines : List RoundLine) : Type 0 where

@@ -4,7 +4,7 @@ use Rattle.reo_runner.specs.declared.outcome.Limits.{Limits}
 use Rattle.reo_command.specs.Fetched.{text}
 use Rattle.reo_command.specs.Limits.{firsts_for}
 use Rattle.reo_command.specs.Readings.{Runnable, ReadsRun}
-use Rattle.reo_top_runs.specs.Traces.{IsTraceOf}
+use Rattle.reo_top.specs.runs.Traces.{IsTraceOf}
 
 -- The text of the trace of a run, with its status, and that there is no other.
 pub record HasOneTrace (limits : Limits) (r : Runnable) : Type 0 where

@@ -3,17 +3,17 @@ use Rattle.std.specs.Prelude.{ℕ, ◌≡◌, ◌<◌, ◌^◌, ◌++◌, List, 
 use Rattle.reo_trace.specs.declared.line.Ending.{Ending}
 use Rattle.reo_trace.specs.EndingText.{ending_text}
 use Rattle.reo_runs.specs.Run.{IsRun, start_of}
-use Rattle.reo_at_ports.specs.Kinds.{kind_rules}
+use Rattle.reo_runner.specs.at_ports.Kinds.{kind_rules}
 use Rattle.reo_proof_texts.specs.Cuts.{LoggedRound, all_logged}
 use Rattle.reo_proof_texts.specs.Laws.{first_colourings}
-use Rattle.reo_proof_verdict_texts.specs.VerdictTexts.{proof_verdict_line}
+use Rattle.reo_proof_texts.specs.proof_verdict_texts.VerdictTexts.{proof_verdict_line}
 use Rattle.reo_command.specs.Claims.{Claimed, ReadsProof}
 use Rattle.reo_command.specs.Fetched.{text}
 use Rattle.reo_command.specs.Limits.{usual_limits}
 use Rattle.reo_command.specs.Readings.{Runnable, ReadsRun}
 use Rattle.reo_command.specs.Statuses.{done}
-use Rattle.reo_top_runs.specs.ProvedRuns.{ProvesRun}
-use Rattle.reo_top_verdicts.specs.Judged.{IsProofJudged, JudgesProof}
+use Rattle.reo_top.specs.runs.ProvedRuns.{ProvesRun}
+use Rattle.reo_top.specs.verdicts.Judged.{IsProofJudged, JudgesProof}
 
 -- The files of a circuit, a script and a proof are read together, and the verdict is that the proof is verified.
 pub record IsProofVerified (circuit script proof : List ℕ) (count : ℕ) : Type 0 where

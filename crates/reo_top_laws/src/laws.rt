@@ -5,14 +5,12 @@ ghost use Rattle.reo_top_laws.specs.OneTrace.{ThereIsOneTrace};
 ghost use Rattle.reo_top_laws.specs.Proofs.{VerifiedProofsAreFirst, WrittenProofsAreVerified};
 
 use reo_circuit_texts::{circuit_names_are_plain, circuits_are_spelled};
-use reo_flatten_laws::circuits_are_made;
+use reo_flat::circuits_are_made;
 use reo_kinds::Kind;
 use reo_net_base::order_exists;
+use reo_proof_laws::run_proofs_are_verified;
 use reo_proof_texts::verified_rounds_are_first;
-use reo_run_proofs::run_proofs_are_verified;
-use reo_run_texts::runs_are_trace_texts;
-use reo_runs::{one_trace, trace_exists};
-use reo_verdicts::runs_are_verified;
+use reo_runs::{one_trace, runs_are_trace_texts, runs_are_verified, trace_exists};
 
 /// The words behind the names of a run say a budget and a number of rounds exactly where they are,
 /// in this order, `--budget` and that budget, or nothing and it is 100,000, and `--rounds` and that

@@ -11,6 +11,7 @@ mod failing;
 mod objects;
 #[cfg(test)]
 mod proofs;
+mod proving_tests;
 #[cfg(test)]
 mod sure;
 #[cfg(test)]

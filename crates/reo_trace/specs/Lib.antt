@@ -4,3 +4,4 @@ pub mod Idle
 pub mod RoundText
 pub mod Spaced
 pub mod TraceText
+pub mod cells

@@ -5,12 +5,14 @@
 //! then one line that says how the run ended.
 #![tactic(auto)]
 
+mod cells;
 mod entries;
 mod idle;
 mod line;
 mod text;
 mod write;
 
+pub use cells::{Cells, cells_stay};
 pub use entries::{is_idle, line_of};
 pub use idle::idle_means_no_flow;
 pub use line::{Cell, Ending, Entry, RoundLine};

@@ -1,6 +1,6 @@
 -- What begins with no digit.
 use Rattle.std.proofs.Common.{ℕ, List, [], ◌∷◌, ◌++◌}
-use Rattle.reo_numbers.specs.Digits.{NoDigit}
+use Rattle.reo_values.specs.decimals.Digits.{NoDigit}
 use Rattle.reo_trace_reader.specs.Ends.{BeginsNoDigit}
 
 -- still begins with none where more follows

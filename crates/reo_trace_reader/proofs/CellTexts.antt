@@ -6,11 +6,11 @@ use Rattle.reo_trace.specs.declared.line.Cell.TheVariants.{Row, Jam}
 use Rattle.reo_trace.specs.declared.line.Entry.{Entry}
 use Rattle.reo_trace.specs.declared.line.Entry.TheVariants.{One, Two}
 use Rattle.reo_trace.specs.RoundText.{cell_text, entry_text}
-use Rattle.reo_numbers.specs.Digits.{IsSmall, NoDigit}
-use Rattle.reo_numbers.proofs.Digits.{decimal_first, dot_no_digit}
-use Rattle.reo_trace_texts.specs.Lines.{EndsEntry, IsCell, IsEntry}
-use Rattle.reo_trace_texts.proofs.Entries.{dot_no_end, end_no_digit}
-use Rattle.reo_trace_texts.specs.declared.fault.LineFault.{LineFault}
+use Rattle.reo_values.specs.decimals.Digits.{IsSmall, NoDigit}
+use Rattle.reo_values.proofs.decimals.Digits.{decimal_first, dot_no_digit}
+use Rattle.reo_trace_reader.specs.texts.Lines.{EndsEntry, IsCell, IsEntry}
+use Rattle.reo_trace_reader.proofs.texts.Entries.{dot_no_end, end_no_digit}
+use Rattle.reo_trace_reader.specs.declared.texts.fault.LineFault.{LineFault}
 use Rattle.std.specs.Fmt.{decimal}
 use Rattle.reo_trace_reader.specs.Reads.{Reads, ReadsAgain}
 

@@ -5,11 +5,11 @@ use Rattle.std.specs.Fmt.{decimal}
 use Rattle.std.proofs.lemmas.List.{append_cancel_left}
 use Rattle.reo_trace.specs.declared.line.Ending.{Ending}
 use Rattle.reo_trace.specs.declared.line.Ending.TheVariants.{Done, Stuck, Limit, Spent, Wide}
-use Rattle.reo_numbers.specs.Digits.{IsSmall, NoDigit}
-use Rattle.reo_numbers.proofs.Digits.{space_no_digit}
-use Rattle.reo_numbers.proofs.Fronts.{heads_apart}
-use Rattle.reo_trace_texts.specs.Lines.{IsEnding}
-use Rattle.reo_trace_texts.specs.declared.fault.LineFault.{LineFault}
+use Rattle.reo_values.specs.decimals.Digits.{IsSmall, NoDigit}
+use Rattle.reo_values.proofs.decimals.Digits.{space_no_digit}
+use Rattle.reo_values.proofs.decimals.Fronts.{heads_apart}
+use Rattle.reo_trace_reader.specs.texts.Lines.{IsEnding}
+use Rattle.reo_trace_reader.specs.declared.texts.fault.LineFault.{LineFault}
 use Rattle.reo_trace_reader.specs.Reads.{Stood}
 use Rattle.reo_trace_reader.specs.declared.lines.Part.{Part}
 use Rattle.reo_trace_reader.specs.declared.lines.Load.{Load}

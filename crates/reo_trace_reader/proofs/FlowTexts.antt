@@ -5,8 +5,8 @@ use Rattle.std.proofs.lemmas.List.Elements.{All-nil}
 use Rattle.reo_net_base.specs.declared.colouring.Move.{Move}
 use Rattle.reo_net_base.specs.declared.port.Port.{Port}
 use Rattle.reo_trace.specs.RoundText.{moves_text}
-use Rattle.reo_trace_texts.specs.Lines.{AreTold, IsMove}
-use Rattle.reo_trace_texts.proofs.Moves as laws
+use Rattle.reo_trace_reader.specs.texts.Lines.{AreTold, IsMove}
+use Rattle.reo_trace_reader.proofs.texts.Moves as laws
 use Rattle.reo_trace_reader.specs.declared.moves.Flows.{Flows}
 use Rattle.reo_trace_reader.specs.Fronts.{AreFlows, AreMoves, flows_text, moves_front}
 

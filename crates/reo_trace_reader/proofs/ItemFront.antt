@@ -7,7 +7,7 @@ use Rattle.reo_values.specs.declared.kindred.Kindred.{Kindred}
 use Rattle.reo_values.specs.ItemText.{text_of}
 use Rattle.reo_values.specs.Kind.{IsIn}
 use Rattle.reo_values.specs.Valid.{IsValid}
-use Rattle.reo_trace_texts.proofs.ItemEnds.{Stops, item_length, length_of-item}
+use Rattle.reo_trace_reader.proofs.texts.ItemEnds.{Stops, item_length, length_of-item}
 use Rattle.reo_trace_reader.specs.Ends.{EndsMove}
 use Rattle.reo_trace_reader.specs.ItemEnd.{bytes_of_item}
 use Rattle.reo_trace_reader.specs.declared.item.Spot.TheVariants.{Outside, Inside, Escaped}

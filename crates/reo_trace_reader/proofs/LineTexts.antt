@@ -7,9 +7,9 @@ use Rattle.reo_trace.specs.declared.line.Ending.{Ending}
 use Rattle.reo_trace.specs.declared.line.Ending.TheVariants.{Done, Stuck, Limit, Spent, Wide}
 use Rattle.reo_trace.specs.EndingText.{ending_text}
 use Rattle.reo_trace.specs.RoundText.{round_text}
-use Rattle.reo_numbers.specs.Digits.{IsSmall}
-use Rattle.reo_trace_texts.specs.Lines.{IsLine, IsEnding}
-use Rattle.reo_trace_texts.specs.Texts.{IsEndingText, IsRoundText}
+use Rattle.reo_values.specs.decimals.Digits.{IsSmall}
+use Rattle.reo_trace_reader.specs.texts.Lines.{IsLine, IsEnding}
+use Rattle.reo_trace_reader.specs.texts.Texts.{IsEndingText, IsRoundText}
 use Rattle.std.proofs.lemmas.List.{append_cancel_right}
 use Rattle.reo_trace_reader.specs.Fronts.{IsAnyLine, round_front, ending_front}
 

@@ -9,8 +9,8 @@ use Rattle.reo_net_base.specs.declared.colouring.Move.{Move}
 use Rattle.reo_net_base.specs.declared.port.Port.{Port}
 use Rattle.reo_trace.specs.RoundText.{move_text}
 use Rattle.reo_trace.specs.Spaced.{spaced}
-use Rattle.reo_trace_texts.specs.Lines.{AreTold, AreRising, IsMove}
-use Rattle.reo_trace_texts.proofs.Moves.{move_no-other}
+use Rattle.reo_trace_reader.specs.texts.Lines.{AreTold, AreRising, IsMove}
+use Rattle.reo_trace_reader.proofs.texts.Moves.{move_no-other}
 use Rattle.reo_trace_reader.specs.Ends.{EndsMove}
 use Rattle.reo_trace_reader.specs.Fronts.{AreMoves, IsMoveFrom, moves_front}
 use Rattle.reo_trace_reader.specs.Reads.{ReadsAgain}

@@ -10,9 +10,9 @@ use Rattle.reo_values.specs.Names.{IsNameByte}
 use Rattle.reo_net_base.specs.declared.colouring.Move.{Move}
 use Rattle.reo_net_base.specs.declared.port.Port.{Port}
 use Rattle.reo_trace.specs.RoundText.{sign_of, move_text}
-use Rattle.reo_trace_texts.specs.Lines.{AreTold}
-use Rattle.reo_numbers.proofs.Fronts.{front_unique}
-use Rattle.reo_trace_texts.proofs.Moves.{bytes_of-name, sign_no-name, move_at, name_at, number_of}
+use Rattle.reo_trace_reader.specs.texts.Lines.{AreTold}
+use Rattle.reo_values.proofs.decimals.Fronts.{front_unique}
+use Rattle.reo_trace_reader.proofs.texts.Moves.{bytes_of-name, sign_no-name, move_at, name_at, number_of}
 use Rattle.reo_trace_reader.specs.Fronts.{port_text, IsPortFrom, IsMoveFrom}
 
 -- no port from one number to below another is next

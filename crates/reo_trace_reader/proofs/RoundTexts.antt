@@ -4,8 +4,8 @@ use Rattle.reo_net_base.specs.declared.port.Port.{Port}
 use Rattle.reo_trace.specs.declared.line.RoundLine.{RoundLine}
 use Rattle.reo_trace.specs.RoundText.{entry_text}
 use Rattle.reo_trace.specs.Spaced.{spaced}
-use Rattle.reo_numbers.specs.Digits.{IsSmall}
-use Rattle.reo_trace_texts.specs.Lines.{IsEntry}
+use Rattle.reo_values.specs.decimals.Digits.{IsSmall}
+use Rattle.reo_trace_reader.specs.texts.Lines.{IsEntry}
 use Rattle.std.specs.List.{All}
 use Rattle.reo_trace_reader.specs.declared.moves.Flows.{Flows}
 use Rattle.reo_trace_reader.specs.Fronts.{AreFlows, IsAnyLine, flows_text, heading_text, round_front}

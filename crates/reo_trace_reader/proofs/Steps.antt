@@ -1,8 +1,8 @@
 -- One step after another.
 use Rattle.std.proofs.Common.{◌≡◌, ℕ, List, Result, Ok, Err}
 use Rattle.std.specs.Result.{IsErr, IsErrAnd}
-use Rattle.reo_trace_texts.specs.declared.fault.LineFault.{LineFault}
-use Rattle.reo_trace_texts.specs.declared.fault.LineFault.TheVariants as forms
+use Rattle.reo_trace_reader.specs.declared.texts.fault.LineFault.{LineFault}
+use Rattle.reo_trace_reader.specs.declared.texts.fault.LineFault.TheVariants as forms
 use Rattle.reo_trace_reader.specs.Reads.{Reads}
 
 -- `?` passes on what a part found

@@ -5,8 +5,8 @@ use Rattle.reo_net_base.specs.declared.port.Port.{Port}
 use Rattle.reo_trace.specs.declared.line.RoundLine.{RoundLine}
 use Rattle.reo_trace.specs.RoundText.{round_text}
 use Rattle.reo_trace.specs.TraceText.{rounds_text}
-use Rattle.reo_trace_texts.specs.Lines.{IsLine, AreLines, IsEnding}
-use Rattle.reo_trace_texts.specs.Texts.{IsTraceText, IsWrongLine}
+use Rattle.reo_trace_reader.specs.texts.Lines.{IsLine, AreLines, IsEnding}
+use Rattle.reo_trace_reader.specs.texts.Texts.{IsTraceText, IsWrongLine}
 use Rattle.reo_trace.specs.declared.line.Ending.{Ending}
 use Rattle.reo_trace.specs.EndingText.{ending_text}
 use Rattle.reo_trace_reader.specs.Fronts.{NoRound, NoEnding}

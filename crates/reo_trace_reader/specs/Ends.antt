@@ -1,6 +1,6 @@
 -- What may come after the parts of a line.
 use Rattle.std.specs.Prelude.{ℕ, ◌≡◌, List, [], ◌∷◌}
-use Rattle.reo_numbers.specs.Digits.{IsDigit}
+use Rattle.reo_values.specs.decimals.Digits.{IsDigit}
 
 -- After a number, where something comes after it: a byte that is no digit, and what follows it.
 abbrev pub BeginsNoDigit : List ℕ → Type 0

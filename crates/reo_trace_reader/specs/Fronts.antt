@@ -14,8 +14,8 @@ use Rattle.reo_trace.specs.declared.line.Ending.TheVariants.{Done, Stuck, Limit,
 use Rattle.reo_trace.specs.RoundText.{round_text, sign_of, move_text, moves_text, entry_text}
 use Rattle.reo_trace.specs.EndingText.{ending_text}
 use Rattle.reo_trace.specs.Spaced.{spaced}
-use Rattle.reo_numbers.specs.Digits.{IsSmall}
-use Rattle.reo_trace_texts.specs.Lines.{IsMove, AreRising, IsLine, IsEnding}
+use Rattle.reo_values.specs.decimals.Digits.{IsSmall}
+use Rattle.reo_trace_reader.specs.texts.Lines.{IsMove, AreRising, IsLine, IsEnding}
 use Rattle.reo_trace_reader.specs.declared.moves.Flows.{Flows}
 use Rattle.reo_trace_reader.specs.declared.lines.Part.{Part}
 use Rattle.reo_trace_reader.specs.declared.lines.Load.{Load}

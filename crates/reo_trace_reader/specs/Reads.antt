@@ -1,7 +1,7 @@
 -- What a reader of a part of a line owes.
 use Rattle.std.specs.Prelude.{ℕ, ◌≡◌, List, ◌++◌, Result, Ok, Err}
-use Rattle.reo_trace_texts.specs.declared.fault.LineFault.{LineFault}
-use Rattle.reo_trace_texts.specs.declared.fault.LineFault.TheVariants as forms
+use Rattle.reo_trace_reader.specs.declared.texts.fault.LineFault.{LineFault}
+use Rattle.reo_trace_reader.specs.declared.texts.fault.LineFault.TheVariants as forms
 
 -- The reader answered x and left this rest, or found no memory.
 abbrev pub Reads : {X : Type 0} → Result X LineFault → List ℕ → X → List ℕ → Type 0

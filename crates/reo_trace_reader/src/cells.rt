@@ -3,15 +3,15 @@ ghost use Rattle.std.specs.Prelude.{◌≡◌};
 ghost use Rattle.std.specs.List.{All};
 ghost use Rattle.reo_trace.specs.RoundText.{cell_text, entry_text};
 ghost use Rattle.reo_trace.specs.Spaced.{spaced};
-ghost use Rattle.reo_numbers.specs.Digits.{NoDigit};
-ghost use Rattle.reo_trace_texts.specs.Lines.{EndsEntry, IsCell, IsEntry};
+ghost use Rattle.reo_values.specs.decimals.Digits.{NoDigit};
+ghost use Rattle.reo_trace_reader.specs.texts.Lines.{EndsEntry, IsCell, IsEntry};
 ghost use Rattle.reo_trace_reader.specs.Ends.{EndsLine};
 ghost use Rattle.reo_trace_reader.specs.Reads.{Stood, ReadsAgain};
 
 use crate::number::number;
 use crate::reader::Reader;
+use crate::texts::LineFault;
 use reo_trace::{Cell, Entry};
-use reo_trace_texts::LineFault;
 use reo_values::List;
 use std::alloc::Global;
 

@@ -8,7 +8,7 @@ ghost use Rattle.reo_trace_reader.specs.ItemEnd.{after as spot_after, is_outside
 ghost use Rattle.reo_trace_reader.specs.Reads.{Stood, ReadsAgain};
 
 use crate::reader::Reader;
-use reo_trace_texts::LineFault;
+use crate::texts::LineFault;
 use reo_values::{Kindred, ReadFault, Value, read_value};
 use std::alloc::Global;
 

@@ -9,9 +9,13 @@ mod moves;
 mod number;
 mod reader;
 mod reading;
+mod texts;
 
 pub use reading::{read_line, read_trace};
 pub use reo_trace::{
     Cell, Ending, Entry, RoundLine, WriteFault, line_of, write_ending, write_round,
 };
-pub use reo_trace_texts::{LineFault, Trace, TraceFault, TraceLine};
+pub use texts::{
+    LineFault, Trace, TraceFault, TraceLine, one_line_answer, one_trace_answer, one_trace_of_text,
+    one_wrong_line, trace_has_no_wrong_line,
+};

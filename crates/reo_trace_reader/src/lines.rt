@@ -1,8 +1,8 @@
 //! Lines of traces, without their line feeds.
 ghost use Rattle.std.specs.Prelude.{◌≡◌, ◌++◌, IfErr};
 ghost use Rattle.std.specs.Fmt.{decimal};
-ghost use Rattle.reo_numbers.specs.Digits.{IsSmall, NoDigit};
-ghost use Rattle.reo_trace_texts.specs.Lines.{AreTold, IsEnding};
+ghost use Rattle.reo_values.specs.decimals.Digits.{IsSmall, NoDigit};
+ghost use Rattle.reo_trace_reader.specs.texts.Lines.{AreTold, IsEnding};
 ghost use Rattle.reo_trace_reader.specs.Ends.{Anything, BeginsNoDigit, EndsLine};
 ghost use Rattle.reo_trace_reader.specs.Fronts.{IsAnyLine, IsPart, IsLoad, IsSpent, heading_text, round_front, part_text, load_text, spent_text, ending_front};
 ghost use Rattle.reo_trace_reader.specs.Reads.{Stood, ReadsAgain};
@@ -11,9 +11,9 @@ use crate::cells::entries;
 use crate::moves::read_flows;
 use crate::number::number;
 use crate::reader::Reader;
+use crate::texts::LineFault;
 use reo_net_base::Ports;
 use reo_trace::{Ending, RoundLine};
-use reo_trace_texts::LineFault;
 use std::alloc::Global;
 
 /// A number behind this word.

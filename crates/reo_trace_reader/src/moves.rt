@@ -2,15 +2,15 @@
 ghost use Rattle.std.specs.Prelude.{◌≡◌, ◌≢◌, ◌++◌, ◌+◌, ℕ, List, Some, true, false};
 ghost use Rattle.reo_net_base.specs.declared.colouring.Move.{Move as AMove};
 ghost use Rattle.reo_trace.specs.RoundText.{move_text};
-ghost use Rattle.reo_trace_texts.specs.Lines.{AreTold, IsMove};
+ghost use Rattle.reo_trace_reader.specs.texts.Lines.{AreTold, IsMove};
 ghost use Rattle.reo_trace_reader.specs.Ends.{Anything, EndsMove};
 ghost use Rattle.reo_trace_reader.specs.Fronts.{AreFlows, AreMoves, IsMoveFrom, IsPortFrom, flows_text, moves_front, port_text, text_at};
 ghost use Rattle.reo_trace_reader.specs.Reads.{Stood, ReadsAgain};
 
 use crate::item::item;
 use crate::reader::Reader;
+use crate::texts::LineFault;
 use reo_net_base::{Move, Port, Ports, Way};
-use reo_trace_texts::LineFault;
 use reo_values::List;
 use std::alloc::Global;
 

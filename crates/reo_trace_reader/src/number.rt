@@ -1,12 +1,12 @@
 //! Numbers of a trace.
 ghost use Rattle.std.specs.Prelude.{◌≡◌, IfErr};
 ghost use Rattle.std.specs.Fmt.{decimal};
-ghost use Rattle.reo_numbers.specs.Digits.{IsSmall, NoDigit};
+ghost use Rattle.reo_values.specs.decimals.Digits.{IsSmall, NoDigit};
 ghost use Rattle.reo_trace_reader.specs.Reads.{Stood, ReadsAgain};
 
 use crate::reader::Reader;
-use reo_numbers::{digits_length, number_of};
-use reo_trace_texts::LineFault;
+use crate::texts::LineFault;
+use reo_values::{digits_length, number_of};
 
 /// A number below 2^63.
 pub(crate) fn number(reader: &mut Reader) -> Result<u64, LineFault>

@@ -1,11 +1,11 @@
 //! Reading whole traces, and single lines.
 ghost use Rattle.std.specs.Prelude.{◌≡◌, Result, IfOk, IfErr, IsErrOf, MatchOption};
-ghost use Rattle.reo_trace_texts.specs.declared.trace.Trace.{Trace as ATrace};
-ghost use Rattle.reo_trace_texts.specs.declared.trace.TraceLine.{TraceLine as ALine};
-ghost use Rattle.reo_trace_texts.specs.declared.fault.TraceFault.{TraceFault as AFault};
-ghost use Rattle.reo_trace_texts.specs.declared.fault.LineFault.{LineFault as ALineFault};
-ghost use Rattle.reo_trace_texts.specs.Lines.{AreTold, IsEnding, IsLine};
-ghost use Rattle.reo_trace_texts.specs.Texts.{IsEndingText, IsRoundText};
+ghost use Rattle.reo_trace_reader.specs.declared.texts.trace.Trace.{Trace as ATrace};
+ghost use Rattle.reo_trace_reader.specs.declared.texts.trace.TraceLine.{TraceLine as ALine};
+ghost use Rattle.reo_trace_reader.specs.declared.texts.fault.TraceFault.{TraceFault as AFault};
+ghost use Rattle.reo_trace_reader.specs.declared.texts.fault.LineFault.{LineFault as ALineFault};
+ghost use Rattle.reo_trace_reader.specs.texts.Lines.{AreTold, IsEnding, IsLine};
+ghost use Rattle.reo_trace_reader.specs.texts.Texts.{IsEndingText, IsRoundText};
 ghost use Rattle.reo_trace.specs.declared.line.Ending.{Ending as AnEnding};
 ghost use Rattle.reo_trace.specs.declared.line.RoundLine.{RoundLine as ARound};
 ghost use Rattle.reo_trace.specs.EndingText.{ending_text};
@@ -13,13 +13,13 @@ ghost use Rattle.reo_trace.specs.RoundText.{round_text};
 ghost use Rattle.reo_trace_reader.specs.Ends.{Anything};
 ghost use Rattle.reo_trace_reader.specs.Fronts.{IsNext, NoEnding};
 ghost use Rattle.reo_trace_reader.specs.Reads.{Stood, ReadsAgain};
-ghost use Rattle.reo_trace_texts.specs.Answers.{Answers, IsRead, IsThis, LineAnswers, IsLineRead, IsThisLine};
+ghost use Rattle.reo_trace_reader.specs.texts.Answers.{Answers, IsRead, IsThis, LineAnswers, IsLineRead, IsThisLine};
 
 use crate::lines::{ending, round};
 use crate::reader::Reader;
+use crate::texts::{LineFault, Trace, TraceFault, TraceLine, one_line_answer, one_trace_answer};
 use reo_net_base::Ports;
 use reo_trace::{Ending, RoundLine};
-use reo_trace_texts::{LineFault, Trace, TraceFault, TraceLine, one_line_answer, one_trace_answer};
 use reo_values::{List, NoMemory};
 use std::alloc::Global;
 

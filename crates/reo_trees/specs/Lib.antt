@@ -14,3 +14,4 @@ pub mod Rules
 pub mod Table
 pub mod Says
 pub mod SaysTwo
+pub mod loops

@@ -21,7 +21,7 @@ use Rattle.reo_trees.specs.Items.{node_form, arguments_form, use_form, item_form
 use Rattle.reo_trees.specs.ItemsTwo.{join_two, size_form, node_two, number_two, arguments_two, use_two, item_two, items_two}
 use Rattle.reo_trees.specs.Rules.{circuit_rules}
 use Rattle.reo_syntax.proofs.Says.{says-both}
-use Rattle.reo_expand_base.specs.Lifted.{lifted_ref, lifted_form, lifted_item}
+use Rattle.reo_expand.specs.base.Lifted.{lifted_ref, lifted_form, lifted_item}
 use Rattle.reo_upgrade.proofs.Turned.{Turned, turned-same, turned-nothing, turned-both, turned-left, turned-right, turned-made, turned-lined, turned-either, turned-first, turned-chain, turned-behind}
 
 abbrev IsRef : List ℕ → Ref → Type 0

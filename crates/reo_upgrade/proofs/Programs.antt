@@ -20,7 +20,7 @@ use Rattle.reo_trees.specs.ItemsTwo.{items_two}
 use Rattle.reo_trees.specs.Programs.{parameters_form, connector_form, named_form, declaration_form, declarations_form, program_form}
 use Rattle.reo_trees.specs.ProgramsTwo.{numbered_form, connector_two, named_two, declaration_two, declarations_two}
 use Rattle.reo_trees.specs.Rules.{circuit_rules}
-use Rattle.reo_expand_base.specs.Lifted.{lifted_item, lifted_connector, lifted_declaration, lifted}
+use Rattle.reo_expand.specs.base.Lifted.{lifted_item, lifted_connector, lifted_declaration, lifted}
 use Rattle.reo_upgrade.proofs.Turned.{Turned, turned-same, turned-nothing, turned-both, turned-left, turned-right, turned-made, turned-lined, turned-either, turned-chain, turned-behind}
 use Rattle.reo_upgrade.proofs.Items.{turned-items}
 

@@ -8,11 +8,11 @@ use Rattle.reo_trees.specs.declared.programs.Declaration.{Declaration}
 use Rattle.reo_trees.specs.declared.programs.Declaration.TheVariants as declarations
 use Rattle.reo_trees.specs.declared.programs.Program.{Program}
 use Rattle.reo_trees.specs.Says.{SaysProgram}
-use Rattle.reo_trees_laws.specs.Spelled.{IsFreeName, IsFormBy, IsItemBy, IsConnectorBy, IsDeclarationBy}
-use Rattle.reo_trees_laws.specs.SpelledTwo.{IsSpelledRef, IsSpelledFormTwo, IsSpelledItemTwo, IsSpelledConnectorTwo, IsSpelledDeclarationTwo, IsSpelledTwo}
-use Rattle.reo_trees_laws.proofs.Lists.{all-none, all-cons}
-use Rattle.reo_trees_laws.proofs.Programs.{written}
-use Rattle.reo_expand_base.specs.Lifted.{lifted_ref, lifted_form, lifted_item, lifted_connector, lifted_declaration, lifted}
+use Rattle.reo_syntax_laws.specs.trees_laws.Spelled.{IsFreeName, IsFormBy, IsItemBy, IsConnectorBy, IsDeclarationBy}
+use Rattle.reo_syntax_laws.specs.trees_laws.SpelledTwo.{IsSpelledRef, IsSpelledFormTwo, IsSpelledItemTwo, IsSpelledConnectorTwo, IsSpelledDeclarationTwo, IsSpelledTwo}
+use Rattle.reo_syntax_laws.proofs.trees_laws.Lists.{all-none, all-cons}
+use Rattle.reo_syntax_laws.proofs.trees_laws.Programs.{written}
+use Rattle.reo_expand.specs.base.Lifted.{lifted_ref, lifted_form, lifted_item, lifted_connector, lifted_declaration, lifted}
 
 all-mapped : {X Y : Type 0} (P : X → Type 0) (Q : Y → Type 0) (f : X → Y) → ((x : X) → P x → Q (f x)) → (xs : List X) → All P xs → All Q (map f xs)
 all-mapped P Q f each [] all = all-none Q

@@ -13,11 +13,11 @@ use Rattle.reo_syntax.specs.TypeText.{type_text}
 use Rattle.reo_syntax.specs.ItemText.{channel_head, channel_tail, form_of_item_text}
 use Rattle.reo_syntax.specs.Canonical.{parameter_text, item_line, connector_text, declaration_text, canonical_text}
 use Rattle.reo_syntax.proofs.Bare.{two-parts}
-use Rattle.reo_syntax_two.specs.IndexText.{ref_text}
-use Rattle.reo_syntax_two.specs.ItemText.{form_text, line_text, lines_text}
-use Rattle.reo_syntax_two.specs.Canonical as two
-use Rattle.reo_syntax_two.specs.Canonical.{canonical_text_two}
-use Rattle.reo_expand_base.specs.Lifted.{lifted_ref, lifted_form, lifted_item, lifted_connector, lifted_declaration, lifted}
+use Rattle.reo_syntax.specs.two.IndexText.{ref_text}
+use Rattle.reo_syntax.specs.two.ItemText.{form_text, line_text, lines_text}
+use Rattle.reo_syntax.specs.two.Canonical as two
+use Rattle.reo_syntax.specs.two.Canonical.{canonical_text_two}
+use Rattle.reo_expand.specs.base.Lifted.{lifted_ref, lifted_form, lifted_item, lifted_connector, lifted_declaration, lifted}
 
 flat-mapped : {A B : Type 0} (f : B → List ℕ) (h : A → List ℕ) (g : A → B) → ((x : A) → f (g x) ≡ h x) → (xs : List A) → flat_map f (map g xs) ≡ flat_map h xs
 flat-mapped f h g e [] = refl

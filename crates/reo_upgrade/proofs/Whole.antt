@@ -5,7 +5,7 @@ use Rattle.reo_grammar.specs.Tokens.{Lexeme}
 use Rattle.reo_grammar.specs.Grammar.Grammar.{made}
 use Rattle.reo_lexer.specs.Lexing.{lexemes_of}
 use Rattle.reo_lexer.proofs.Spans.{tokens-real}
-use Rattle.reo_loops.specs.Few.{few_loops, few_declared, few_in_program}
+use Rattle.reo_trees.specs.loops.Few.{few_loops, few_declared, few_in_program}
 use Rattle.reo_trees.specs.declared.items.Form.{Form}
 use Rattle.reo_trees.specs.declared.items.Form.TheVariants as plain
 use Rattle.reo_trees.specs.declared.programs.Declaration.{Declaration}
@@ -28,15 +28,15 @@ use Rattle.reo_syntax.proofs.Again.{Out, Said, out-both, out-else}
 use Rattle.reo_syntax.proofs.Programs.{program-out}
 use Rattle.reo_syntax.proofs.Bare.{lines-aside}
 use Rattle.reo_syntax.proofs.Whole.{says-program}
-use Rattle.reo_syntax_two.specs.Canonical.{canonical_text_two}
-use Rattle.reo_syntax_two_laws.specs.Unlined as two
-use Rattle.reo_syntax_two_laws.specs.Unlined.{SameTwo}
-use Rattle.reo_syntax_two_laws.specs.Written.{SaysSameTwo}
-use Rattle.reo_syntax_two_laws.proofs.Programs.{version-out}
-use Rattle.reo_syntax_two_laws.proofs.Bare as bare_two
-use Rattle.reo_syntax_two_laws.proofs.Whole as whole_two
-use Rattle.reo_syntax_two_laws.proofs.Whole.{out-says}
-use Rattle.reo_expand_base.specs.Lifted.{lifted_form, lifted_item, lifted_declaration, lifted}
+use Rattle.reo_syntax.specs.two.Canonical.{canonical_text_two}
+use Rattle.reo_syntax_laws.specs.syntax_two_laws.Unlined as two
+use Rattle.reo_syntax_laws.specs.syntax_two_laws.Unlined.{SameTwo}
+use Rattle.reo_syntax_laws.specs.syntax_two_laws.Written.{SaysSameTwo}
+use Rattle.reo_syntax_laws.proofs.syntax_two_laws.Programs.{version-out}
+use Rattle.reo_syntax_laws.proofs.syntax_two_laws.Bare as bare_two
+use Rattle.reo_syntax_laws.proofs.syntax_two_laws.Whole as whole_two
+use Rattle.reo_syntax_laws.proofs.syntax_two_laws.Whole.{out-says}
+use Rattle.reo_expand.specs.base.Lifted.{lifted_form, lifted_item, lifted_declaration, lifted}
 use Rattle.reo_upgrade.specs.Upgraded.{upgraded, canonical_text_any, SameAny, SaysSameAny}
 use Rattle.reo_upgrade.proofs.Texts.{lifted-text}
 use Rattle.reo_upgrade.proofs.Programs.{lifted-said}

@@ -6,9 +6,9 @@ use Rattle.reo_trees.specs.declared.programs_two.AnyProgram.TheVariants.{One, Tw
 use Rattle.reo_trees.specs.SaysTwo.{SaysAny}
 use Rattle.reo_syntax.specs.Canonical.{canonical_text}
 use Rattle.reo_syntax.specs.Unlined.{Same}
-use Rattle.reo_syntax_two.specs.Canonical.{canonical_text_two}
-use Rattle.reo_syntax_two_laws.specs.Unlined.{SameTwo}
-use Rattle.reo_expand_base.specs.Lifted.{lifted}
+use Rattle.reo_syntax.specs.two.Canonical.{canonical_text_two}
+use Rattle.reo_syntax_laws.specs.syntax_two_laws.Unlined.{SameTwo}
+use Rattle.reo_expand.specs.base.Lifted.{lifted}
 
 -- The program as one of version 2.
 abbrev pub upgraded : AnyProgram → ProgramTwo

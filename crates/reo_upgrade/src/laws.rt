@@ -6,10 +6,10 @@ ghost use Rattle.reo_trees.specs.Says.{SaysProgram};
 ghost use Rattle.reo_trees.specs.SaysTwo.{SaysAny};
 ghost use Rattle.reo_syntax.specs.Canonical.{canonical_text};
 ghost use Rattle.reo_syntax.specs.Written.{IsWritten};
-ghost use Rattle.reo_trees_laws.specs.SpelledTwo.{IsSpelledTwo};
-ghost use Rattle.reo_syntax_two.specs.Canonical.{canonical_text_two};
-ghost use Rattle.reo_syntax_two_laws.specs.Written.{SaysSameTwo};
-ghost use Rattle.reo_expand_base.specs.Lifted.{lifted};
+ghost use Rattle.reo_syntax_laws.specs.trees_laws.SpelledTwo.{IsSpelledTwo};
+ghost use Rattle.reo_syntax.specs.two.Canonical.{canonical_text_two};
+ghost use Rattle.reo_syntax_laws.specs.syntax_two_laws.Written.{SaysSameTwo};
+ghost use Rattle.reo_expand.specs.base.Lifted.{lifted};
 ghost use Rattle.reo_upgrade.specs.Upgraded.{upgraded, canonical_text_any, SameAny, SaysSameAny};
 
 /// The canonical text of a lifted program is the line `reo 2` and the canonical text of the

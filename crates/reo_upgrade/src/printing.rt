@@ -1,12 +1,11 @@
 //! The canonical text of a program of either version.
 ghost use Rattle.std.specs.Prelude.{◌≡◌, IfOk};
-ghost use Rattle.reo_syntax_two.specs.Canonical.{canonical_text_two};
-ghost use Rattle.reo_expand_base.specs.Lifted.{lifted};
+ghost use Rattle.reo_syntax.specs.two.Canonical.{canonical_text_two};
+ghost use Rattle.reo_expand.specs.base.Lifted.{lifted};
 ghost use Rattle.reo_upgrade.specs.Upgraded.{upgraded, canonical_text_any};
 
-use reo_expand_base::lift;
-use reo_syntax::print;
-use reo_syntax_two::print_two;
+use reo_expand::lift;
+use reo_syntax::{print, print_two};
 use reo_trees::{AnyProgram, Program};
 use reo_values::{Bytes, NoMemory};
 use std::alloc::Global;

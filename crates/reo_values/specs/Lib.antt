@@ -8,3 +8,4 @@ pub mod Pair
 pub mod Reading
 pub mod Valid
 pub mod formers
+pub mod decimals

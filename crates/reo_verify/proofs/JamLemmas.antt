@@ -16,10 +16,10 @@ use Rattle.reo_trace.specs.EndingText.{ending_text}
 use Rattle.reo_trace.specs.RoundText.{round_text, entry_text, cell_text, moves_text}
 use Rattle.reo_trace.specs.Spaced.{spaced}
 use Rattle.reo_trace.specs.TraceText.{rounds_text}
-use Rattle.reo_trace_texts.specs.declared.trace.Trace.{Trace}
-use Rattle.reo_verdicts.specs.Said.{cells_of, is_jam, jammed}
-use Rattle.reo_verdicts.specs.Replays.{HasText}
-use Rattle.reo_judging.proofs.Cuts.{take_one_more}
+use Rattle.reo_trace_reader.specs.declared.texts.trace.Trace.{Trace}
+use Rattle.reo_runs.specs.verdicts.Said.{cells_of, is_jam, jammed}
+use Rattle.reo_runs.specs.verdicts.Replays.{HasText}
+use Rattle.reo_verify.proofs.judging.Cuts.{take_one_more}
 
 abbrev pub jams_in : Entry → ℕ
 jams_in e = count_by is_jam (cells_of e)

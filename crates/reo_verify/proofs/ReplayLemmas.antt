@@ -12,25 +12,25 @@ use Rattle.reo_players.specs.Offers.{offer_for}
 use Rattle.reo_trace.specs.declared.line.RoundLine.{RoundLine}
 use Rattle.reo_trace.specs.declared.line.Ending.{Ending}
 use Rattle.reo_trace.specs.Entries.{line_for}
-use Rattle.reo_trace_texts.specs.Lines.{IsLine, AreLines}
+use Rattle.reo_trace_reader.specs.texts.Lines.{IsLine, AreLines}
 use Rattle.reo_rounds.specs.declared.plan.Plan.{Plan}
 use Rattle.reo_rounds.specs.Ready.{ready}
 use Rattle.reo_rounds.specs.Rules.{Rules}
 use Rattle.reo_runs.specs.Round.{State, advanced, net_ready}
 use Rattle.reo_runs.specs.Run.{Place, Leads, place_after, over_after}
 use Rattle.reo_runs.proofs.WholeLemmas.{leads_on}
-use Rattle.reo_at_ports.specs.Pending.{IsButForOffers}
-use Rattle.reo_at_ports.proofs.AfterRound.{over_by}
-use Rattle.reo_verdicts.specs.declared.verdict.Refusal.{Refusal}
-use Rattle.reo_verdicts.specs.declared.verdict.Refusal.TheVariants as refusals
-use Rattle.reo_verdicts.specs.Replays.{colourings}
-use Rattle.reo_verdicts.specs.Wrongs.{IsWrongRound}
-use Rattle.reo_judging.specs.declared.judging.Stop.{Stop}
-use Rattle.reo_judging.specs.Judged.{IsPlanShown}
-use Rattle.reo_judging.specs.Refused.{IsRefusalBy}
+use Rattle.reo_runner.specs.at_ports.Pending.{IsButForOffers}
+use Rattle.reo_runner.proofs.at_ports.AfterRound.{over_by}
+use Rattle.reo_runs.specs.declared.verdicts.verdict.Refusal.{Refusal}
+use Rattle.reo_runs.specs.declared.verdicts.verdict.Refusal.TheVariants as refusals
+use Rattle.reo_runs.specs.verdicts.Replays.{colourings}
+use Rattle.reo_runs.specs.verdicts.Wrongs.{IsWrongRound}
+use Rattle.reo_verify.specs.declared.judging.judging.Stop.{Stop}
+use Rattle.reo_verify.specs.judging.Judged.{IsPlanShown}
+use Rattle.reo_verify.specs.judging.Refused.{IsRefusalBy}
 use Rattle.reo_verify.specs.Replayed.{IsReplayed, IsNoRound, AreReplayed, IsCutOff}
-use Rattle.reo_judging.proofs.RefusalLemmas.{wrong_by}
-use Rattle.reo_judging.proofs.Cuts.{take_one_more, taken}
+use Rattle.reo_verify.proofs.judging.RefusalLemmas.{wrong_by}
+use Rattle.reo_verify.proofs.judging.Cuts.{take_one_more, taken}
 use Rattle.reo_verify.proofs.SoFar.{SoFar}
 
 -- What a line shows, and was done, is a round.

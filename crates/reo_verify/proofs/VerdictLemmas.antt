@@ -3,14 +3,14 @@ use Rattle.std.proofs.Common.{◌≡◌, ◌+◌, ℕ, List, [], ◌∷◌, leng
 use Rattle.std.proofs.lemmas.List.{append-nil}
 use Rattle.std.specs.Prelude.{Option, Result, Ok, Err, IfOk}
 use Rattle.reo_trace.specs.declared.line.Ending.{Ending}
-use Rattle.reo_trace_texts.specs.declared.trace.Trace.{Trace}
+use Rattle.reo_trace_reader.specs.declared.texts.trace.Trace.{Trace}
 use Rattle.reo_rounds.specs.Rules.{Rules}
 use Rattle.reo_runs.specs.Run.{Place}
-use Rattle.reo_verdicts.specs.declared.verdict.Refusal.{Refusal}
-use Rattle.reo_verdicts.specs.declared.verdict.Verdict.{Verdict}
-use Rattle.reo_verdicts.specs.declared.verdict.Verdict.TheVariants.{Verified, Refused}
-use Rattle.reo_verdicts.specs.Verdicts.{IsRefused, IsVerdict}
-use Rattle.reo_judging.specs.Ends.{IsEndOf}
+use Rattle.reo_runs.specs.declared.verdicts.verdict.Refusal.{Refusal}
+use Rattle.reo_runs.specs.declared.verdicts.verdict.Verdict.{Verdict}
+use Rattle.reo_runs.specs.declared.verdicts.verdict.Verdict.TheVariants.{Verified, Refused}
+use Rattle.reo_runs.specs.verdicts.Verdicts.{IsRefused, IsVerdict}
+use Rattle.reo_verify.specs.judging.Ends.{IsEndOf}
 use Rattle.reo_verify.specs.Replayed.{IsVerdictAt, AreReplayed, IsCutOff}
 
 module _ {P : Type 0} (r : Rules P) (nodes : List (List ℕ)) (homes : List ℕ) (start : Place P) (t : Trace) where

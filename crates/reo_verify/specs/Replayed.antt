@@ -4,23 +4,23 @@ use Rattle.reo_net_base.specs.Net.{Wiring}
 use Rattle.reo_players.specs.Players.{Player}
 use Rattle.reo_trace.specs.declared.line.RoundLine.{RoundLine}
 use Rattle.reo_trace.specs.declared.line.Ending.{Ending}
-use Rattle.reo_trace_texts.specs.declared.trace.Trace.{Trace}
+use Rattle.reo_trace_reader.specs.declared.texts.trace.Trace.{Trace}
 use Rattle.reo_rounds.specs.Rules.{Rules}
 use Rattle.reo_runs.specs.Round.{State, RoundOf, net_ready}
 use Rattle.reo_runs.specs.Run.{Place, Leads, over_after}
-use Rattle.reo_at_ports.specs.Pending.{IsButForOffers}
-use Rattle.reo_verdicts.specs.declared.verdict.Refusal.{Refusal}
-use Rattle.reo_verdicts.specs.declared.verdict.Refusal.TheVariants as refusals
-use Rattle.reo_verdicts.specs.declared.verdict.Verdict.{Verdict}
-use Rattle.reo_verdicts.specs.declared.verdict.Verdict.TheVariants as verdicts
-use Rattle.reo_verdicts.specs.Replays.{colourings}
-use Rattle.reo_verdicts.specs.Said.{jammed}
-use Rattle.reo_verdicts.specs.Verdicts.{IsWrongAt}
-use Rattle.reo_judging.specs.declared.judging.Stop.{Stop}
+use Rattle.reo_runner.specs.at_ports.Pending.{IsButForOffers}
+use Rattle.reo_runs.specs.declared.verdicts.verdict.Refusal.{Refusal}
+use Rattle.reo_runs.specs.declared.verdicts.verdict.Refusal.TheVariants as refusals
+use Rattle.reo_runs.specs.declared.verdicts.verdict.Verdict.{Verdict}
+use Rattle.reo_runs.specs.declared.verdicts.verdict.Verdict.TheVariants as verdicts
+use Rattle.reo_runs.specs.verdicts.Replays.{colourings}
+use Rattle.reo_runs.specs.verdicts.Said.{jammed}
+use Rattle.reo_runs.specs.verdicts.Verdicts.{IsWrongAt}
+use Rattle.reo_verify.specs.declared.judging.judging.Stop.{Stop}
 use Rattle.reo_verify.specs.declared.replay.Halt.{Halt}
 use Rattle.reo_verify.specs.declared.replay.Halt.TheVariants as halts
-use Rattle.reo_judging.specs.Ends.{IsEndOf}
-use Rattle.reo_judging.specs.Judged.{IsLineStop}
+use Rattle.reo_verify.specs.judging.Ends.{IsEndOf}
+use Rattle.reo_verify.specs.judging.Judged.{IsLineStop}
 
 -- The round that a line shows was made of a state: the circuit is as it left it, but for offers, and the components too.
 pub record IsReplayed {P : Type 0} (r : Rules P) (turn : ℕ) (a : State P) (line : RoundLine) (w : Wiring P) (players : List Player) (over : Option Ending) : Type 0 where

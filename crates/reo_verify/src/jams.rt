@@ -1,7 +1,7 @@
 //! How many cells of a trace are the jam row.
 ghost use Rattle.std.specs.Prelude.{◌≡◌, ◌<◌, ◌^◌, [], ◌∷◌};
 ghost use Rattle.std.specs.List.{count_by, flat_map};
-ghost use Rattle.reo_verdicts.specs.Said.{cells_of, is_jam, jammed};
+ghost use Rattle.reo_runs.specs.verdicts.Said.{cells_of, is_jam, jammed};
 
 use reo_trace::{Cell, Entry, RoundLine};
 

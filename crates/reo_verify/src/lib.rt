@@ -3,8 +3,10 @@
 #![tactic(auto)]
 
 mod jams;
+mod judging;
 mod replay;
 mod verifying;
 
-pub use reo_verdicts::{Refusal, Verdict};
+pub use judging::{Stop, begins, ends_as, plan_of, refusal_of};
+pub use reo_runs::{Refusal, Verdict};
 pub use verifying::verify_trace;

@@ -1,23 +1,23 @@
 //! The replay of a trace.
 ghost use Rattle.std.specs.Prelude.{◌≡◌, ◌<◌, ◌+◌, ◌^◌, IfOk, OnOk, IfErr, MatchResult, map};
 ghost use Rattle.reo_net_base.specs.Net.{Wiring};
-ghost use Rattle.reo_trace_texts.specs.Lines.{AreLines};
+ghost use Rattle.reo_trace_reader.specs.texts.Lines.{AreLines};
 ghost use Rattle.reo_rounds.specs.Rules.{rules_of};
 ghost use Rattle.reo_runs.specs.Run.{Place, start_of};
-ghost use Rattle.reo_at_ports.specs.Pending.{IsButForOffers};
-ghost use Rattle.reo_at_ports.specs.Between.{AreBetween};
-ghost use Rattle.reo_at_ports.specs.Runnable.{CanRun};
+ghost use Rattle.reo_runner.specs.at_ports.Pending.{IsButForOffers};
+ghost use Rattle.reo_runner.specs.at_ports.Between.{AreBetween};
+ghost use Rattle.reo_runner.specs.at_ports.Runnable.{CanRun};
 ghost use Rattle.reo_verify.specs.Replayed.{IsReplayed, IsNoRound, AreReplayed, IsHalted};
 
-use reo_at_ports::{Engine, carry_out, offer_all, release_run};
-use reo_judging::{Stop, begins, plan_of, refusal_of};
+use crate::judging::{Stop, begins, plan_of, refusal_of};
 use reo_net_base::{Ports, Restoring};
 use reo_net_circuit::Circuit;
 use reo_players::Players;
-use reo_scripts::Script;
+use reo_runner::{Engine, carry_out, offer_all, release_run};
+use reo_runs::Refusal;
+use reo_script::Script;
 use reo_trace::{Ending, RoundLine};
 use reo_values::{Bytes, NoMemory};
-use reo_verdicts::Refusal;
 use std::alloc::Global;
 
 /// Why a replay did not come to its last line.

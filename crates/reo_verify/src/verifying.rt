@@ -3,27 +3,26 @@ ghost use Rattle.std.specs.Prelude.{◌≡◌, ◌<◌, ◌^◌, IfOk, map};
 ghost use Rattle.reo_kinds.specs.Kinds.{port_state_of};
 ghost use Rattle.reo_rounds.specs.Rules.{rules_of};
 ghost use Rattle.reo_runs.specs.Run.{start_of};
-ghost use Rattle.reo_at_ports.specs.Kinds.{kind_rules};
-ghost use Rattle.reo_at_ports.specs.Runnable.{CanRun};
-ghost use Rattle.reo_verdicts.specs.declared.verdict.Verdict.{Verdict as AVerdict};
-ghost use Rattle.reo_verdicts.specs.Said.{jammed};
-ghost use Rattle.reo_verdicts.specs.Replays.{HasText};
-ghost use Rattle.reo_verdicts.specs.Verdicts.{IsVerdict};
+ghost use Rattle.reo_runner.specs.at_ports.Kinds.{kind_rules};
+ghost use Rattle.reo_runner.specs.at_ports.Runnable.{CanRun};
+ghost use Rattle.reo_runs.specs.declared.verdicts.verdict.Verdict.{Verdict as AVerdict};
+ghost use Rattle.reo_runs.specs.verdicts.Said.{jammed};
+ghost use Rattle.reo_runs.specs.verdicts.Replays.{HasText};
+ghost use Rattle.reo_runs.specs.verdicts.Verdicts.{IsVerdict};
 ghost use Rattle.reo_verify.specs.Replayed.{IsVerdictAt};
 
 use crate::jams::jammed;
+use crate::judging::ends_as;
 use crate::replay::{Halt, replay};
 use reo_flatten::Flat;
-use reo_judging::ends_as;
 use reo_kinds::Kind;
 use reo_net_base::{Ports, Restoring};
 use reo_net_circuit::Circuit;
-use reo_runs::known_order;
-use reo_scripts::Script;
+use reo_runs::{Refusal, Verdict, known_order, one_verdict};
+use reo_script::Script;
 use reo_trace::Ending;
-use reo_trace_texts::Trace;
+use reo_trace_reader::Trace;
 use reo_values::{Bytes, NoMemory};
-use reo_verdicts::{Refusal, Verdict, one_verdict};
 use std::alloc::Global;
 
 /// The verdict on a trace whose lines are all rounds of a run that is over so, or not over.

@@ -7,14 +7,14 @@ use Rattle.reo_checker.specs.declared.wrong.Wrong.{Wrong}
 use Rattle.reo_checker.specs.declared.wrong.Wrong.TheVariants.{Count, Row, Joint, Item}
 use Rattle.reo_trace.specs.declared.line.Entry.{Entry}
 use Rattle.reo_rounds.specs.Order.{HasOrder}
-use Rattle.reo_verdicts.specs.Said.{AreSaid}
-use Rattle.reo_verdicts.proofs.WrongLemmas.{none_wrong}
-use Rattle.reo_judging.proofs.JudgeLemmas.{marks_wrong}
+use Rattle.reo_runs.specs.verdicts.Said.{AreSaid}
+use Rattle.reo_runs.proofs.verdicts.WrongLemmas.{none_wrong}
+use Rattle.reo_verify.proofs.judging.JudgeLemmas.{marks_wrong}
 use Rattle.reo_refute_base.specs.declared.line.LogLine.{LogLine}
 use Rattle.reo_refute_base.specs.RightTexts.{IsWrongLine}
 use Rattle.reo_refute_base.specs.Texts.{line_text, log_text}
-use Rattle.reo_refute_check.proofs.Taking.{line_some}
-use Rattle.reo_refute_faults.specs.Faults.{AreWrongItems, AreNoColouring}
+use Rattle.reo_refute.proofs.check.Taking.{line_some}
+use Rattle.reo_refute_base.specs.faults.Faults.{AreWrongItems, AreNoColouring}
 
 -- Nothing is wrong with the rows of a colouring, as entries say them.
 module _ (net : Net) (ordered : HasOrder net) (entries : List Entry) (rows : List ℕ) (items : List (Option Value)) (said : AreSaid net entries rows) (col : IsColouring net rows items) where

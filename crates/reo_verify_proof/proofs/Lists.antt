@@ -8,7 +8,7 @@ use Rattle.reo_trace.specs.RoundText.{round_text}
 use Rattle.reo_rounds.specs.Rules.{Rules}
 use Rattle.reo_runs.specs.Round.{State}
 use Rattle.reo_runs.specs.Run.{Place, place_after}
-use Rattle.reo_verdicts.specs.Replays.{colourings}
+use Rattle.reo_runs.specs.verdicts.Replays.{colourings}
 use Rattle.reo_proof_texts.specs.Cuts.{LoggedRound, lines_text, logged_text, all_logged, lines_in, IsLogged, AreLogged, Next, IsNext}
 use Rattle.reo_proof_texts.specs.Proven.{IsProven, AreProven}
 use Rattle.reo_proof_reader.specs.Found.{IsRoundFound}

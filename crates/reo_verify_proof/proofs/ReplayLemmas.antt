@@ -12,17 +12,17 @@ use Rattle.reo_rounds.specs.Rules.{Rules}
 use Rattle.reo_rounds.proofs.OrderLemmas.{KeepsShape, ready_order, round_order}
 use Rattle.reo_runs.specs.Round.{State, net_ready}
 use Rattle.reo_runs.specs.Run.{Place, place_after}
-use Rattle.reo_at_ports.specs.Pending.{IsButForOffers}
-use Rattle.reo_verdicts.specs.Replays.{colourings}
-use Rattle.reo_verdicts.specs.Said.{AreSaid}
-use Rattle.reo_refute_faults.specs.declared.fault.ProofFault.TheVariants as faults
-use Rattle.reo_refute_faults.specs.Faults.{IsProof}
+use Rattle.reo_runner.specs.at_ports.Pending.{IsButForOffers}
+use Rattle.reo_runs.specs.verdicts.Replays.{colourings}
+use Rattle.reo_runs.specs.verdicts.Said.{AreSaid}
+use Rattle.reo_refute_base.specs.declared.faults.fault.ProofFault.TheVariants as faults
+use Rattle.reo_refute_base.specs.faults.Faults.{IsProof}
 use Rattle.reo_proof_texts.specs.Cuts.{LoggedRound, logged_text, all_logged, IsLogged}
 use Rattle.reo_proof_texts.specs.Proven.{IsProven, AreProven}
 use Rattle.reo_proof_reader.specs.Found.{IsRoundFound}
-use Rattle.reo_proof_rounds.specs.declared.stop.RoundStop.{RoundStop}
-use Rattle.reo_proof_rounds.specs.declared.stop.RoundStop.TheVariants as stops
-use Rattle.reo_proof_rounds.specs.Rounds.{IsRoundProven, IsNoProof}
+use Rattle.reo_verify_proof.specs.declared.proof_rounds.stop.RoundStop.{RoundStop}
+use Rattle.reo_verify_proof.specs.declared.proof_rounds.stop.RoundStop.TheVariants as stops
+use Rattle.reo_verify_proof.specs.proof_rounds.Rounds.{IsRoundProven, IsNoProof}
 use Rattle.reo_verify_proof.specs.Refusing.{IsOfRound}
 use Rattle.reo_verify_proof.proofs.FaultLemmas.{none_wrong_by, wrong_line_le}
 use Rattle.reo_verify_proof.proofs.Lists.{lines_more, text_more, logged_more, proven_more, lines_le, rounds_le, Found, found_le}

@@ -9,23 +9,23 @@ use Rattle.reo_trace.specs.declared.line.Ending.{Ending}
 use Rattle.reo_rounds.specs.Rules.{Rules}
 use Rattle.reo_runs.specs.Round.{net_ready}
 use Rattle.reo_runs.specs.Run.{Place, EndsAs}
-use Rattle.reo_verdicts.specs.declared.verdict.Refusal.{Refusal}
-use Rattle.reo_verdicts.specs.declared.verdict.Refusal.TheVariants as causes
-use Rattle.reo_verdicts.specs.Replays.{colourings}
-use Rattle.reo_verdicts.specs.Wrongs.{IsWrongRound}
-use Rattle.reo_judging.proofs.RefusalLemmas.{wrong_by}
-use Rattle.reo_judging.specs.Ends.{IsEndOf}
-use Rattle.reo_refute_faults.specs.declared.fault.ProofFault.{ProofFault}
-use Rattle.reo_refute_faults.specs.declared.fault.ProofFault.TheVariants as faults
-use Rattle.reo_refute_faults.specs.Faults.{IsProofFault}
+use Rattle.reo_runs.specs.declared.verdicts.verdict.Refusal.{Refusal}
+use Rattle.reo_runs.specs.declared.verdicts.verdict.Refusal.TheVariants as causes
+use Rattle.reo_runs.specs.verdicts.Replays.{colourings}
+use Rattle.reo_runs.specs.verdicts.Wrongs.{IsWrongRound}
+use Rattle.reo_verify.proofs.judging.RefusalLemmas.{wrong_by}
+use Rattle.reo_verify.specs.judging.Ends.{IsEndOf}
+use Rattle.reo_refute_base.specs.declared.faults.fault.ProofFault.{ProofFault}
+use Rattle.reo_refute_base.specs.declared.faults.fault.ProofFault.TheVariants as faults
+use Rattle.reo_refute_base.specs.faults.Faults.{IsProofFault}
 use Rattle.reo_proof_texts.specs.declared.refusal.ProofRefusal.{ProofRefusal}
 use Rattle.reo_proof_texts.specs.declared.refusal.ProofRefusal.TheVariants as refusals
 use Rattle.reo_proof_texts.specs.Cuts.{LoggedRound, all_logged, Next, IsNext}
 use Rattle.reo_proof_texts.specs.ProofVerdicts.{FailsBy, IsWrongRoundBy, IsWrongNext, IsProofRefused, IsVerified, IsProofVerdict}
 use Rattle.reo_proof_reader.specs.Found.{IsRoundFound}
-use Rattle.reo_proof_rounds.specs.declared.stop.RoundStop.{RoundStop}
-use Rattle.reo_proof_rounds.specs.declared.stop.RoundStop.TheVariants as stops
-use Rattle.reo_proof_rounds.specs.Rounds.{IsLogRefused, IsNoProof}
+use Rattle.reo_verify_proof.specs.declared.proof_rounds.stop.RoundStop.{RoundStop}
+use Rattle.reo_verify_proof.specs.declared.proof_rounds.stop.RoundStop.TheVariants as stops
+use Rattle.reo_verify_proof.specs.proof_rounds.Rounds.{IsLogRefused, IsNoProof}
 use Rattle.reo_verify_proof.specs.Answered.{IfVerdict}
 use Rattle.reo_verify_proof.specs.Ended.{IsVerdictAt}
 use Rattle.reo_verify_proof.specs.Refusing.{of_cause, IsRoundRefusal}

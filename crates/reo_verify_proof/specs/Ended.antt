@@ -1,7 +1,7 @@
 -- The end of a proof text.
 use Rattle.std.specs.Prelude.{ℕ, ◌+◌, ◌≡◌, Option, Result, Ok, Err}
 use Rattle.reo_trace.specs.declared.line.Ending.{Ending}
-use Rattle.reo_judging.specs.Ends.{IsEndOf}
+use Rattle.reo_verify.specs.judging.Ends.{IsEndOf}
 use Rattle.reo_proof_texts.specs.declared.refusal.ProofRefusal.{ProofRefusal}
 use Rattle.reo_proof_texts.specs.declared.refusal.ProofRefusal.TheVariants as refusals
 

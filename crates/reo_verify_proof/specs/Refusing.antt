@@ -1,15 +1,15 @@
 -- Refusals of the rounds of proof texts.
 use Rattle.std.specs.Prelude.{ℕ, ◌+◌, ◌<◌, ◌^◌, ◌≡◌, ◌⊎◌, List}
-use Rattle.reo_verdicts.specs.declared.verdict.Refusal.{Refusal}
-use Rattle.reo_verdicts.specs.declared.verdict.Refusal.TheVariants as causes
-use Rattle.reo_judging.specs.declared.judging.Stop.{Stop}
-use Rattle.reo_judging.specs.Refused.{IsRefusalBy}
-use Rattle.reo_refute_faults.specs.declared.fault.ProofFault.{ProofFault}
-use Rattle.reo_refute_faults.specs.declared.fault.ProofFault.TheVariants as faults
+use Rattle.reo_runs.specs.declared.verdicts.verdict.Refusal.{Refusal}
+use Rattle.reo_runs.specs.declared.verdicts.verdict.Refusal.TheVariants as causes
+use Rattle.reo_verify.specs.declared.judging.judging.Stop.{Stop}
+use Rattle.reo_verify.specs.judging.Refused.{IsRefusalBy}
+use Rattle.reo_refute_base.specs.declared.faults.fault.ProofFault.{ProofFault}
+use Rattle.reo_refute_base.specs.declared.faults.fault.ProofFault.TheVariants as faults
 use Rattle.reo_proof_texts.specs.declared.refusal.ProofRefusal.{ProofRefusal}
 use Rattle.reo_proof_texts.specs.declared.refusal.ProofRefusal.TheVariants as refusals
-use Rattle.reo_proof_rounds.specs.declared.stop.RoundStop.{RoundStop}
-use Rattle.reo_proof_rounds.specs.declared.stop.RoundStop.TheVariants as stops
+use Rattle.reo_verify_proof.specs.declared.proof_rounds.stop.RoundStop.{RoundStop}
+use Rattle.reo_verify_proof.specs.declared.proof_rounds.stop.RoundStop.TheVariants as stops
 
 -- The refusal for the cause for which a trace is refused.
 abbrev pub of_cause : Refusal → ProofRefusal

@@ -2,12 +2,12 @@
 ghost use Rattle.std.specs.Prelude.{◌≡◌};
 ghost use Rattle.reo_verify_proof.specs.Refusing.{of_cause, IsLineRefusal, IsLogRefusal, IsRoundRefusal, IsOfLog, IsOfRound};
 
-use reo_judging::{Stop, refusal_of};
-use reo_proof_rounds::RoundStop;
+use crate::proof_rounds::RoundStop;
 use reo_proof_texts::ProofRefusal;
-use reo_refute_faults::ProofFault;
+use reo_refute_base::ProofFault;
+use reo_runs::Refusal;
 use reo_values::Bytes;
-use reo_verdicts::Refusal;
+use reo_verify::{Stop, refusal_of};
 use std::alloc::Global;
 
 /// The refusal for the cause for which a trace is refused.

@@ -1,28 +1,28 @@
 //! The replay of a proof text.
 ghost use Rattle.std.specs.Prelude.{◌≡◌, ◌<◌, ◌^◌, map};
-ghost use Rattle.reo_trace_texts.specs.Lines.{AreTold};
+ghost use Rattle.reo_trace_reader.specs.texts.Lines.{AreTold};
 ghost use Rattle.reo_rounds.specs.Rules.{rules_of};
 ghost use Rattle.reo_runs.specs.Run.{Place, start_of};
-ghost use Rattle.reo_at_ports.specs.Between.{AreBetween};
-ghost use Rattle.reo_at_ports.specs.Runnable.{CanRun};
-ghost use Rattle.reo_judging.specs.Ends.{IsEndOf};
+ghost use Rattle.reo_runner.specs.at_ports.Between.{AreBetween};
+ghost use Rattle.reo_runner.specs.at_ports.Runnable.{CanRun};
+ghost use Rattle.reo_verify.specs.judging.Ends.{IsEndOf};
 ghost use Rattle.reo_proof_texts.specs.ProofVerdicts.{IsProofVerdict};
 ghost use Rattle.reo_verify_proof.specs.Answered.{IfVerdict};
 ghost use Rattle.reo_verify_proof.specs.Ended.{IsVerdictAt};
 
+use crate::proof_rounds::prove_round;
 use crate::refusing::refuse_round;
-use reo_at_ports::{Engine, release_run};
-use reo_judging::{begins, ends_as};
 use reo_net_base::{Ports, Restoring};
 use reo_net_circuit::Circuit;
 use reo_players::Players;
 use reo_proof_reader::{Next, Reader, read_next};
-use reo_proof_rounds::prove_round;
 use reo_proof_texts::ProofRefusal;
+use reo_runner::{Engine, release_run};
 use reo_runs::known_order;
-use reo_scripts::Script;
+use reo_script::Script;
 use reo_trace::Ending;
 use reo_values::Bytes;
+use reo_verify::{begins, ends_as};
 use std::alloc::Global;
 
 /// The verdict on a proof text all of whose rounds were accepted, of a run that is over so, or not

@@ -1,10 +1,10 @@
 //! The verdict on a proof text.
 ghost use Rattle.std.specs.Prelude.{◌≡◌, ℕ, Result, IfOk, map};
 ghost use Rattle.reo_kinds.specs.Kinds.{port_state_of};
-ghost use Rattle.reo_trace_texts.specs.Lines.{AreTold};
+ghost use Rattle.reo_trace_reader.specs.texts.Lines.{AreTold};
 ghost use Rattle.reo_runs.specs.Run.{start_of};
-ghost use Rattle.reo_at_ports.specs.Kinds.{kind_rules};
-ghost use Rattle.reo_at_ports.specs.Runnable.{CanRun};
+ghost use Rattle.reo_runner.specs.at_ports.Kinds.{kind_rules};
+ghost use Rattle.reo_runner.specs.at_ports.Runnable.{CanRun};
 ghost use Rattle.reo_proof_texts.specs.declared.refusal.ProofRefusal.{ProofRefusal as ARefusal};
 ghost use Rattle.reo_proof_texts.specs.ProofVerdicts.{IsProofVerdict};
 ghost use Rattle.reo_verify_proof.specs.Answered.{IfVerdict};
@@ -15,7 +15,7 @@ use reo_flatten::Flat;
 use reo_kinds::Kind;
 use reo_proof_texts::{ProofRefusal, one_proof_verdict, verified_rounds_are_first};
 use reo_runs::known_order;
-use reo_scripts::Script;
+use reo_script::Script;
 use std::alloc::Global;
 
 /// The verdict on a proof text of a script on a circuit: how many rounds it has, where it is the

@@ -2,7 +2,7 @@
 ghost use Rattle.std.specs.Prelude.{◌≡◌, ◌<◌, ◌+◌, ◌^◌, ℕ, true, IfOk, OnOk, MatchOption, length, slice_index_or, []};
 ghost use Rattle.reo_net_base.specs.Net.{net_of, all_sides};
 ghost use Rattle.reo_net_laws.specs.Parts.{IsKnot};
-ghost use Rattle.reo_net_ends.specs.Ends.{AreEnds};
+ghost use Rattle.reo_net_circuit.specs.found_ends.Ends.{AreEnds};
 ghost use Rattle.reo_knots.specs.Knots.{AreKnots, in_knot, knot_count};
 ghost use Rattle.reo_support.specs.Sets.{OneAtLoops};
 ghost use Rattle.reo_side_tables.specs.Boards.{AreBoards};
@@ -21,8 +21,7 @@ use crate::places::places_of;
 use crate::walking::walk;
 use reo_knots::Knots;
 use reo_net_base::Primitive;
-use reo_net_circuit::Circuit;
-use reo_net_ends::ends_of;
+use reo_net_circuit::{Circuit, ends_of};
 use reo_propagate::{Sets, State, begin_with};
 use reo_reach::Supply;
 use reo_rows::Basis;

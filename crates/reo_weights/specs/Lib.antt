@@ -4,3 +4,4 @@ pub mod Over
 pub mod Fewer
 pub mod Bounds
 pub mod Laws
+pub mod still

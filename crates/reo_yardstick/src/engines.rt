@@ -1,21 +1,21 @@
 //! The engine of a circuit text.
 ghost use Rattle.std.specs.Prelude.{IfSome, map};
 ghost use Rattle.std.specs.List.{All};
-ghost use Rattle.reo_trees_laws.specs.Spelled.{IsSpelled};
+ghost use Rattle.reo_syntax_laws.specs.trees_laws.Spelled.{IsSpelled};
 ghost use Rattle.reo_rules.specs.Scopes.{connectors_of};
-ghost use Rattle.reo_flatten_laws.specs.Plain.{HasPlainNames};
+ghost use Rattle.reo_flat.specs.flatten_laws.Plain.{HasPlainNames};
 ghost use Rattle.reo_kinds.specs.Kinds.{port_state_of};
 ghost use Rattle.reo_rounds.specs.Offering.{AreJustPorts};
 
 use reo_engine::Engine;
+use reo_flat::names_are_plain;
 use reo_flatten::flatten;
-use reo_flatten_laws::names_are_plain;
 use reo_kinds::Kind;
 use reo_net_circuit::Circuit;
 use reo_parser::parse;
-use reo_run_premises::flat_ports_fit;
+use reo_runs::flat_ports_fit;
+use reo_syntax_laws::programs_are_spelled;
 use reo_trees::Program;
-use reo_trees_laws::programs_are_spelled;
 use std::alloc::Global;
 
 /// The program of a short text.

@@ -3,7 +3,7 @@ use Rattle.std.proofs.lemmas.List.{get_or_default}
 use Rattle.reo_net_base.specs.declared.joint.Joint.{Joint}
 use Rattle.reo_net_base.specs.Net.{Net, net_of}
 use Rattle.reo_net_base.specs.Colouring.{ItemFits}
-use Rattle.reo_net_colouring.proofs.ItemLemmas.{joint_giver, joint_taker}
+use Rattle.reo_net.proofs.colouring.ItemLemmas.{joint_giver, joint_taker}
 use Rattle.reo_checker.proofs.ExactLemmas.{not_fits}
 use Rattle.reo_checker.proofs.items.item_fault.Goals as goal
 

@@ -2,7 +2,7 @@
 use Rattle.std.proofs.Common.{◌≡◌, length, arith, refl}
 use Rattle.reo_net_base.specs.Net.{Net, net_of}
 use Rattle.reo_net_base.specs.Colouring.{IsColouring}
-use Rattle.reo_net_colouring.specs.Filled.{AllFit}
+use Rattle.reo_net.specs.colouring.Filled.{AllFit}
 use Rattle.reo_checker.specs.declared.wrong.Wrong.TheVariants.{Item}
 use Rattle.reo_checker.specs.Faults.{IsItemFault}
 use Rattle.reo_checker.proofs.ExactLemmas.{wrong_colouring}

@@ -1,6 +1,6 @@
 use Rattle.std.proofs.Common.{inl, inr, sym, subst}
 use Rattle.reo_trees.specs.declared.programs.Program.{Program}
-use Rattle.reo_trees_laws.specs.Spelled.{IsSpelled}
+use Rattle.reo_syntax_laws.specs.trees_laws.Spelled.{IsSpelled}
 use Rattle.reo_circuit_texts.proofs.laws.circuits_are_spelled.Goals as goal
 
 pub returns : goal.returns

@@ -1,5 +1,5 @@
 use Rattle.std.proofs.Common.{List, [], ◌∷◌, refl}
-use Rattle.reo_trace_texts.specs.Texts.{IsTraceText}
+use Rattle.reo_trace_reader.specs.texts.Texts.{IsTraceText}
 use Rattle.reo_command.specs.declared.claim.Claim.{Claim}
 use Rattle.reo_command.specs.declared.reading.Work.{Work}
 use Rattle.reo_command.specs.declared.role.Role.TheVariants.{Circuit, Script, Trace}

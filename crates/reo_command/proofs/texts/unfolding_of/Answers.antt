@@ -2,9 +2,9 @@ use Rattle.std.proofs.Common.{◌<◌, ◌^◌, length, subst, arith, inl, inr}
 use Rattle.std.specs.List.{All}
 use Rattle.reo_trees.specs.declared.programs_two.AnyProgram.{AnyProgram}
 use Rattle.reo_trees.specs.SaysTwo.{SaysAny}
-use Rattle.reo_trees_laws.specs.Spelled.{IsSpelled}
+use Rattle.reo_syntax_laws.specs.trees_laws.Spelled.{IsSpelled}
 use Rattle.reo_rules.specs.Scopes.{connectors_of}
-use Rattle.reo_flatten_laws.specs.Plain.{HasPlainNames}
+use Rattle.reo_flat.specs.flatten_laws.Plain.{HasPlainNames}
 use Rattle.reo_command.proofs.UnfoldingLemmas.{on_expanded}
 use Rattle.reo_command.proofs.texts.unfolding_of.Goals as goal
 

@@ -6,8 +6,8 @@ use Rattle.reo_command.specs.Readings.{ReadsCircuit, StopsCheck}
 use Rattle.reo_command.specs.ReadSteps.{circuit_in}
 use Rattle.reo_command.proofs.FlatLemmas.{check_reading}
 use Rattle.reo_command.proofs.ReadLemmas.{reading_at, same_stops}
-use Rattle.reo_top_base.proofs.AnswerLemmas.{refused_answered, refused_status_in, made_answered, made_status_in}
-use Rattle.reo_top_base.proofs.DoneLemmas.{done_status, done_not_three}
+use Rattle.reo_command.proofs.top_base.AnswerLemmas.{refused_answered, refused_status_in, made_answered, made_status_in}
+use Rattle.reo_command.proofs.top_base.DoneLemmas.{done_status, done_not_three}
 use Rattle.reo_draw_command.specs.DrawStatuses.{statuses_of_circuit}
 use Rattle.reo_draw_command.specs.Drawn.{DrawsCircuit, circuit_picture}
 use Rattle.reo_draw_command.proofs.circuit.draw_circuit.Goals as goal

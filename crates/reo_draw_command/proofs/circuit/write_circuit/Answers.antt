@@ -1,5 +1,5 @@
 use Rattle.reo_command.specs.ReadSteps.{circuit_in}
-use Rattle.reo_top_base.proofs.CaseLemmas.{no_memory_cases}
+use Rattle.reo_command.proofs.top_base.CaseLemmas.{no_memory_cases}
 use Rattle.reo_draw_command.specs.Drawn.{DrawsCircuit}
 use Rattle.reo_draw_command.proofs.circuit.write_circuit.Goals as goal
 

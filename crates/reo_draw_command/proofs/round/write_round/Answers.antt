@@ -1,9 +1,9 @@
 use Rattle.std.proofs.Common.{◌∙◌}
-use Rattle.reo_trace_texts.specs.declared.trace.Trace.{Trace}
+use Rattle.reo_trace_reader.specs.declared.texts.trace.Trace.{Trace}
 use Rattle.reo_command.specs.Claims.{Claimed}
 use Rattle.reo_command.specs.ReadSteps.{claimed_in}
-use Rattle.reo_top_base.proofs.CaseLemmas.{no_memory_cases}
-use Rattle.reo_top_base.proofs.ToldLemmas.{told_cases, told_exact, told_fair}
+use Rattle.reo_command.proofs.top_base.CaseLemmas.{no_memory_cases}
+use Rattle.reo_command.proofs.top_base.ToldLemmas.{told_cases, told_exact, told_fair}
 use Rattle.reo_draw_command.specs.Rounds.{IsShownFor, DrawsRound, shown_text, shown_status}
 use Rattle.reo_draw_command.proofs.RoundLemmas.{shown_not_nine, only_for}
 use Rattle.reo_draw_command.proofs.round.write_round.Goals as goal

@@ -4,7 +4,7 @@ use Rattle.reo_command.specs.Claims.{ReadsClaim, StopsVerify}
 use Rattle.reo_draw_command.specs.DrawStatuses.{statuses_of_table}
 use Rattle.reo_draw_command.specs.Tabled.{TablesTrace}
 use Rattle.reo_command.specs.ReadSteps.{claimed_in}
-use Rattle.reo_top_base.proofs.AnswerLemmas.{refused_answered, refused_status_in, made_answered, made_status_in}
+use Rattle.reo_command.proofs.top_base.AnswerLemmas.{refused_answered, refused_status_in, made_answered, made_status_in}
 use Rattle.reo_command.specs.declared.claim.Claim.{Claim}
 use Rattle.reo_command.specs.Fetched.{Content}
 use Rattle.reo_command.proofs.ClaimLemmas.{claim_reading}

@@ -1,13 +1,13 @@
 use Rattle.std.proofs.Common.{◌≡◌, ◌∙◌, ℕ, List, ap}
 use Rattle.reo_net_base.specs.declared.port.Port.{Port}
-use Rattle.reo_trace_texts.specs.declared.trace.Trace.{Trace}
+use Rattle.reo_trace_reader.specs.declared.texts.trace.Trace.{Trace}
 use Rattle.reo_command.specs.Claims.{Claimed}
 use Rattle.reo_command.specs.ReadSteps.{claimed_in}
-use Rattle.reo_top_base.proofs.CaseLemmas.{no_memory_cases}
-use Rattle.reo_top_base.proofs.ToldLemmas.{told_cases, told_exact, told_fair}
-use Rattle.reo_top_verdicts.specs.Judged.{IsTraceJudged}
-use Rattle.reo_top_verdicts.specs.VerdictTexts.{verdict_status}
-use Rattle.reo_top_verdicts.proofs.VerdictLemmas.{verdict_not_nine}
+use Rattle.reo_command.proofs.top_base.CaseLemmas.{no_memory_cases}
+use Rattle.reo_command.proofs.top_base.ToldLemmas.{told_cases, told_exact, told_fair}
+use Rattle.reo_top.specs.verdicts.Judged.{IsTraceJudged}
+use Rattle.reo_top.specs.verdicts.VerdictTexts.{verdict_status}
+use Rattle.reo_top.proofs.verdicts.VerdictLemmas.{verdict_not_nine}
 use Rattle.reo_draw_rounds.specs.Tables.{table_text}
 use Rattle.reo_draw_command.specs.Tabled.{tabled_text, TablesTrace}
 use Rattle.reo_draw_command.proofs.table.write_table.Goals as goal

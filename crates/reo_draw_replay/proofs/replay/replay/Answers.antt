@@ -5,10 +5,10 @@ use Rattle.reo_kinds.specs.declared.kind.Kind.{Kind}
 use Rattle.reo_kinds.specs.Kinds.{port_state_of}
 use Rattle.reo_players.specs.Players.{Player, all_done}
 use Rattle.reo_trace.specs.declared.line.Ending.TheVariants.{Done}
-use Rattle.reo_at_ports.specs.Kinds.{kind_rules}
+use Rattle.reo_runner.specs.at_ports.Kinds.{kind_rules}
 use Rattle.reo_runs.specs.Run.{Place, start_of}
-use Rattle.reo_at_ports.specs.Between.{AreBetween}
-use Rattle.reo_at_ports.proofs.Begun.{just_ports, between_first}
+use Rattle.reo_runner.specs.at_ports.Between.{AreBetween}
+use Rattle.reo_runner.proofs.at_ports.Begun.{just_ports, between_first}
 use Rattle.reo_verify.specs.Replayed.{AreReplayed}
 use Rattle.reo_draw_replay.specs.Steps.{IsHalted, IsDrawnWithin}
 use Rattle.reo_draw_replay.proofs.replay.replay.Goals as goal

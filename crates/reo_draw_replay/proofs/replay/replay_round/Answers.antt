@@ -5,7 +5,7 @@ use Rattle.reo_players.specs.Offers.{offer_for}
 use Rattle.reo_rounds.specs.declared.plan.Plan.{Plan}
 use Rattle.reo_rounds.specs.Ready.{ready}
 use Rattle.reo_runs.specs.Round.{State}
-use Rattle.reo_at_ports.specs.Kinds.{kind_rules}
+use Rattle.reo_runner.specs.at_ports.Kinds.{kind_rules}
 use Rattle.reo_verify.proofs.ReplayLemmas.{round_replayed}
 use Rattle.reo_draw_replay.proofs.DrawnLemmas.{drawn_if}
 use Rattle.reo_draw_replay.proofs.replay.replay_round.Goals as goal

@@ -2,11 +2,11 @@ use Rattle.std.proofs.Common.{◌≡◌, ◌∙◌, ◌+◌, ℕ, suc, take, ap,
 use Rattle.std.specs.Prelude.{◌==◌}
 use Rattle.reo_kinds.specs.declared.kind.Kind.{Kind}
 use Rattle.reo_kinds.specs.PortStateLaws.{placed_kind_again}
-use Rattle.reo_at_ports.specs.Kinds.{kind_rules}
+use Rattle.reo_runner.specs.at_ports.Kinds.{kind_rules}
 use Rattle.reo_runs.specs.Run.{Place}
-use Rattle.reo_at_ports.proofs.Kept.{self_but}
-use Rattle.reo_judging.proofs.Cuts.{got_by}
-use Rattle.reo_judging.proofs.EndLemmas.{ended_by, on_by}
+use Rattle.reo_runner.proofs.at_ports.Kept.{self_but}
+use Rattle.reo_verify.proofs.judging.Cuts.{got_by}
+use Rattle.reo_verify.proofs.judging.EndLemmas.{ended_by, on_by}
 use Rattle.reo_verify.proofs.SoFar.{SoFar}
 use Rattle.reo_verify.proofs.ReplayLemmas.{line_at, so_far_none, so_far_more, ended_before, stopped_at, all_replayed}
 use Rattle.reo_draw_replay.proofs.DrawnLemmas.{drawn_none, drawn_more, drawn_all}

@@ -1,7 +1,7 @@
 use Rattle.std.proofs.Common.{◌≡◌, take, map}
 use Rattle.reo_kinds.specs.Kinds.{port_state_of}
-use Rattle.reo_at_ports.specs.Kinds.{kind_rules}
-use Rattle.reo_at_ports.specs.Between.{AreBetween}
+use Rattle.reo_runner.specs.at_ports.Kinds.{kind_rules}
+use Rattle.reo_runner.specs.at_ports.Between.{AreBetween}
 use Rattle.reo_verify.proofs.SoFar.{SoFar}
 use Rattle.reo_draw_replay.specs.Steps.{IsDrawnWithin}
 use Rattle.reo_draw_replay.proofs.replay.replay_rounds.Given as goal

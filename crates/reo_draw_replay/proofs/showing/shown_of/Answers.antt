@@ -1,7 +1,7 @@
 use Rattle.std.proofs.Common.{List, length, subst}
 use Rattle.reo_trace.specs.declared.line.RoundLine.{RoundLine}
 use Rattle.reo_runs.specs.Run.{start_of}
-use Rattle.reo_at_ports.specs.Kinds.{kind_rules}
+use Rattle.reo_runner.specs.at_ports.Kinds.{kind_rules}
 use Rattle.reo_verify.specs.Replayed.{AreReplayed}
 use Rattle.reo_verify.proofs.VerdictLemmas.{refused_by}
 use Rattle.reo_draw_replay.specs.declared.replay.Halt.{Halt}

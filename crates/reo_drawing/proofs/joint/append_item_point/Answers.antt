@@ -1,7 +1,7 @@
 use Rattle.std.proofs.Common.{◌≡◌, ◌∙◌, ◌++◌, ap, codes}
 use Rattle.std.proofs.lemmas.Result.{on_ok_weaker}
-use Rattle.reo_drawing_labels.specs.Escape.{label}
-use Rattle.reo_drawing_labels.specs.Items.{item_text}
+use Rattle.reo_drawing.specs.label_texts.Escape.{label}
+use Rattle.reo_drawing.specs.label_texts.Items.{item_text}
 use Rattle.reo_drawing.specs.Joints.{item_point}
 use Rattle.reo_drawing.proofs.NumberedLemmas.{three}
 use Rattle.reo_drawing.proofs.joint.append_item_point.Goals as goal

@@ -4,7 +4,7 @@ use Rattle.std.proofs.lemmas.List.{get_or_default, length-map, length-replicate}
 use Rattle.reo_values.specs.declared.value.Value.{Value}
 use Rattle.reo_net_base.specs.declared.joint.Joint.{Joint}
 use Rattle.reo_net_base.specs.Net.{Net, net_of}
-use Rattle.reo_stepping.proofs.FlowLemmas.{no_joint}
+use Rattle.reo_flows.proofs.stepping.FlowLemmas.{no_joint}
 use Rattle.reo_engine.proofs.Reached.{none_reached, reached_more, reached_still, set_count, those_that_flowed}
 use Rattle.reo_engine.proofs.changes.mark_flowing.Goals as goal
 use Rattle.reo_engine.proofs.changes.mark_flowing.Goals.{then-is_some, else-is_some}

@@ -1,5 +1,5 @@
 use Rattle.std.proofs.Common.{◌≡◌, ◌<◌, ◌↔◌, ℕ, IsTrue, length}
-use Rattle.reo_stepping.specs.Changes.{is_changed}
+use Rattle.reo_flows.specs.stepping.Changes.{is_changed}
 use Rattle.reo_engine.proofs.Reached.{IsReached}
 use Rattle.reo_engine.proofs.changes.mark_flowing.Given as goal
 

@@ -1,6 +1,6 @@
 use Rattle.std.proofs.Common.{◌≡◌, ◌<◌, ◌≤◌, ◌-◌, false, length, get_or}
 use Rattle.reo_net_base.specs.Net.{net_of}
-use Rattle.reo_cells.specs.Cells.{AreCells}
+use Rattle.reo_trace.specs.cells.Cells.{AreCells}
 use Rattle.reo_engine.specs.Flows.{AreShownAt, AreWrittenAt}
 use Rattle.reo_engine.proofs.flows.show_rest.Given as goal
 

@@ -6,12 +6,12 @@ use Rattle.reo_net_base.specs.declared.port.Port.{Port}
 use Rattle.reo_rules.specs.Types.{types_of}
 use Rattle.reo_trees.specs.declared.programs.Connector.{Connector}
 use Rattle.reo_rules.specs.Scopes.{parameter_names, connector_names, connectors_of}
-use Rattle.reo_flatten_unfold.proofs.Positions.{found_within}
+use Rattle.reo_unfold.proofs.Positions.{found_within}
 use Rattle.reo_flat.specs.Unfolding.{Placed, Meaning, no_meaning, meanings_of, meaning_named}
 use Rattle.reo_flat.specs.Flat.{port_of, port_placed, ports_of, main_parameters}
-use Rattle.reo_flatten_unfold.specs.Ground.{IsStand, Stands}
-use Rattle.reo_flatten_unfold.specs.Adds.{Adds}
-use Rattle.reo_flatten_unfold.specs.declared.unfold.Unfolded.{Unfolded}
+use Rattle.reo_unfold.specs.Ground.{IsStand, Stands}
+use Rattle.reo_unfold.specs.Adds.{Adds}
+use Rattle.reo_unfold.specs.declared.unfold.Unfolded.{Unfolded}
 use Rattle.reo_flatten.proofs.MainLemmas.{main_meaning, main_parameters_are}
 use Rattle.reo_flatten.proofs.unfolded.begin.Goals as goal
 

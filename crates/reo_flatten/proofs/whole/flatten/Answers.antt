@@ -11,7 +11,7 @@ use Rattle.reo_rules.proofs.AfterLemmas.{right_none, first_left, first_right}
 use Rattle.reo_flat.specs.Sizes.{no_main, too_many}
 use Rattle.reo_flat.specs.Refusals.{breaks}
 use Rattle.reo_rules.specs.Judged.{IsFirst}
-use Rattle.reo_flatten_unfold.specs.Fits.{AreFit}
+use Rattle.reo_unfold.specs.Fits.{AreFit}
 use Rattle.reo_flatten.proofs.NoCycles.{refused_by}
 use Rattle.reo_flatten.proofs.MainLemmas.{main_there, main_missing}
 use Rattle.reo_flatten.proofs.CountLemmas.{too_many_is}

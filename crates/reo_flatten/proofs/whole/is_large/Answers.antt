@@ -2,7 +2,7 @@
 use Rattle.std.proofs.Common.{arith, ◌∙◌, ◌+◌, length, position, bytes_eq, codes, sym, ap, subst}
 use Rattle.std.proofs.lemmas.Bool.{ltb-true}
 use Rattle.reo_flat.specs.Unfolding.{meaning_named, meanings_of}
-use Rattle.reo_flatten_unfold.specs.Ground.{IsStand, Stands}
+use Rattle.reo_unfold.specs.Ground.{IsStand, Stands}
 use Rattle.reo_flatten.proofs.MainLemmas.{main_parameters_are, main_within}
 use Rattle.reo_flatten.proofs.CountLemmas.{many_uses, many_deep, many_primitives, placed_within, placed_count, main_sizes}
 use Rattle.reo_flatten.proofs.whole.is_large.Goals as goal

@@ -1,6 +1,6 @@
 use Rattle.std.proofs.Common.{◌≡◌, ◌<◌, ◌≤◌, ℕ, true, slice_index}
 use Rattle.reo_net_base.specs.Net.{net_of, behaviour_at, end_of}
-use Rattle.reo_net_ends.specs.Ends.{joint_at}
+use Rattle.reo_net_circuit.specs.found_ends.Ends.{joint_at}
 use Rattle.reo_item_bounds.proofs.shares.most_noted.Given as goal
 
 -- The greatest of those so far.

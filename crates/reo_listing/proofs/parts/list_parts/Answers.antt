@@ -4,7 +4,7 @@ use Rattle.reo_net_base.specs.Net.{Wiring, net_of}
 use Rattle.reo_knots.specs.Knots.{knot_count}
 use Rattle.reo_open.specs.declared.opens.Open.{Open}
 use Rattle.reo_open.specs.Opens.{open_behaviour}
-use Rattle.reo_listing_base.specs.Listed.{ListsParts}
+use Rattle.reo_listing.specs.base.Listed.{ListsParts}
 use Rattle.reo_listing.proofs.parts.list_parts.Goals as goal
 
 pub returns-in-Err : goal.returns-in-Err

@@ -1,7 +1,7 @@
 use Rattle.std.proofs.Common.{◌≡◌}
 use Rattle.reo_net_base.specs.Net.{net_of}
 use Rattle.reo_open.specs.Opens.{open_behaviour}
-use Rattle.reo_listing_base.specs.Listed.{AreTables}
+use Rattle.reo_listing.specs.base.Listed.{AreTables}
 use Rattle.reo_listing.proofs.parts.list_parts.Given as goal
 
 abbrev pub invariant-loop-part : goal.invariant-loop-part

@@ -3,7 +3,7 @@ use Rattle.std.proofs.lemmas.List.{length-map}
 use Rattle.reo_net_base.specs.Behaviour.{Behaviour}
 use Rattle.reo_net_base.specs.Forms.{HasForm}
 use Rattle.reo_net_base.specs.Net.{Net, net_of, behaviour_at}
-use Rattle.reo_state_laws.specs.States.{LetsIn}
+use Rattle.reo_net_laws.specs.state_laws.States.{LetsIn}
 use Rattle.reo_mark_search.specs.Spots.{IsSeat}
 use Rattle.reo_mark_search.proofs.Meeting.{open_next, reset_next}
 use Rattle.reo_mark_search.proofs.noting.note_at.Goals as goal

@@ -1,7 +1,7 @@
 use Rattle.std.proofs.Common.{◌≡◌, ◌<◌, length, arith}
 use Rattle.std.proofs.lemmas.List.{length-map}
 use Rattle.reo_net_base.specs.Net.{Net, net_of, end_of}
-use Rattle.reo_net_ends.specs.Ends.{joint_at}
+use Rattle.reo_net_circuit.specs.found_ends.Ends.{joint_at}
 use Rattle.reo_mark_search.proofs.spots.spot.Goals as goal
 
 pub overflow_mul-result : goal.overflow_mul-result

@@ -1,6 +1,6 @@
 use Rattle.std.proofs.Common.{◌≡◌, ◌<◌, ◌+◌, ◌*◌, ℕ, [], cond, length, slice_index, slice_index_or}
 use Rattle.reo_net_base.specs.Net.{net_of, behaviour_at, end_of}
-use Rattle.reo_net_ends.specs.Ends.{joint_at}
+use Rattle.reo_net_circuit.specs.found_ends.Ends.{joint_at}
 use Rattle.reo_mark_search.proofs.spots.spots_of.Given as goal
 
 -- The places of the ends of the primitives so far.

@@ -1,5 +1,5 @@
 use Rattle.std.proofs.Common.{sym, subst}
-use Rattle.reo_trace_texts.specs.Lines.{AreTold}
+use Rattle.reo_trace_reader.specs.texts.Lines.{AreTold}
 use Rattle.reo_outside_tests.proofs.Told.{are_told}
 use Rattle.reo_outside_tests.proofs.proof_texts.standing.Goals as goal
 

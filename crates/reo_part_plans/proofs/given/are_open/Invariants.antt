@@ -1,6 +1,6 @@
 use Rattle.std.proofs.Common.{◌<◌, ℕ, slice_index, slice_index_or}
 use Rattle.reo_net_base.specs.Net.{Side, all_sides, net_of}
-use Rattle.reo_state_laws.specs.States.{LetsIn}
+use Rattle.reo_net_laws.specs.state_laws.States.{LetsIn}
 use Rattle.reo_part_plans.proofs.given.are_open.Given as goal
 
 -- The sides so far let each item in.

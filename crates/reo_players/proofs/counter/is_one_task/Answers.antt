@@ -1,6 +1,6 @@
 -- One action that is no repeat.
 use Rattle.std.proofs.Common.{rules, ◌≡◌, IsSome, List, arith, length}
-use Rattle.reo_scripts.specs.declared.action.Action.{Action}
+use Rattle.reo_script.specs.declared.scripts.action.Action.{Action}
 use Rattle.reo_players.specs.Counters.{task_of}
 use Rattle.reo_players.proofs.Passed.{one_alone, single}
 use Rattle.reo_players.proofs.counter.is_one_task.Goals as goal

@@ -1,10 +1,10 @@
 use Rattle.std.proofs.Common.{◌≢◌, ◌∙◌, inl, refl, sym, subst, length}
 use Rattle.std.specs.Prelude.{Ok, Err}
 use Rattle.std.proofs.lemmas.Bool.{eqb-false}
-use Rattle.reo_trace_texts.specs.Answers.{IsLineRead}
-use Rattle.reo_trace_texts.specs.Texts.{IsRoundText, IsEndingText}
-use Rattle.reo_trace_texts.specs.declared.trace.TraceLine.{TraceLine}
-use Rattle.reo_trace_texts.specs.declared.fault.LineFault.{LineFault}
+use Rattle.reo_trace_reader.specs.texts.Answers.{IsLineRead}
+use Rattle.reo_trace_reader.specs.texts.Texts.{IsRoundText, IsEndingText}
+use Rattle.reo_trace_reader.specs.declared.texts.trace.TraceLine.{TraceLine}
+use Rattle.reo_trace_reader.specs.declared.texts.fault.LineFault.{LineFault}
 use Rattle.reo_proof_reader.proofs.NextLemmas.{none_wrong, form_wrong, other_wrong, not_last}
 use Rattle.reo_proof_reader.proofs.next.read_next.Goals as goal
 

@@ -3,8 +3,8 @@ use Rattle.std.proofs.lemmas.Result.{on_ok_weaker}
 use Rattle.reo_net_base.specs.Ends.{IsTaker}
 use Rattle.reo_net_base.specs.Net.{Net, net_of, end_of}
 use Rattle.reo_net_laws.specs.Ends.{from_in}
-use Rattle.reo_net_ends.specs.Ends.{joint_at}
-use Rattle.reo_net_ends.proofs.EndLemmas.{has_joint}
+use Rattle.reo_net_circuit.specs.found_ends.Ends.{joint_at}
+use Rattle.reo_net_circuit.proofs.found_ends.EndLemmas.{has_joint}
 use Rattle.reo_reach.specs.Supplied.{items_at}
 use Rattle.reo_reach.proofs.RowLemmas.{flows_by, source_taker, produced_alone, produced_for}
 use Rattle.reo_reach.proofs.rows.add_given.Goals as goal

@@ -1,8 +1,8 @@
 use Rattle.std.proofs.Common.{◌≡◌, ◌∙◌, ◌&&◌, not, List, get_or, ap}
 use Rattle.std.proofs.lemmas.List.{get_or_default}
 use Rattle.reo_joint_values.specs.Values.{value_eq}
-use Rattle.reo_refute_support.specs.declared.live.LiveAt.{LiveAt}
-use Rattle.reo_refute_support.specs.Families.{has, none_gone}
+use Rattle.reo_refute_live.specs.declared.support.live.LiveAt.{LiveAt}
+use Rattle.reo_refute_live.specs.support.Families.{has, none_gone}
 use Rattle.reo_refute_live.proofs.TableLemmas.{cleared}
 use Rattle.reo_refute_live.proofs.table.clear.Goals as goal
 

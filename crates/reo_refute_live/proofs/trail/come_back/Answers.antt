@@ -1,5 +1,5 @@
 use Rattle.std.proofs.Common.{length, List, [], ◌∷◌, ap, length-append, arith}
-use Rattle.reo_refute_support.specs.Families.{family_of}
+use Rattle.reo_refute_live.specs.support.Families.{family_of}
 use Rattle.reo_refute_live.specs.declared.trail.Gone.{Gone}
 use Rattle.reo_refute_live.proofs.TrailLemmas.{back_lost, kept_back, lost_more}
 use Rattle.reo_refute_live.proofs.trail.come_back.Goals as goal

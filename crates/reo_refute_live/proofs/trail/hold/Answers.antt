@@ -1,7 +1,7 @@
 use Rattle.std.proofs.Common.{◌≡◌, ◌∙◌, ◌<◌, ◌≤◌, ◌&&◌, not, true, length, inl, inr, sym, subst, arith}
 use Rattle.std.proofs.lemmas.Bool.{cases_Bool}
 use Rattle.reo_joint_values.specs.Values.{value_eq}
-use Rattle.reo_refute_support.specs.Families.{family_of}
+use Rattle.reo_refute_live.specs.support.Families.{family_of}
 use Rattle.reo_refute_live.proofs.HoldLemmas.{is_among, live_among, held_gone, held_stays, held_all}
 use Rattle.reo_refute_live.proofs.TrailLemmas.{lost_more}
 use Rattle.reo_refute_live.proofs.trail.hold.Goals as goal

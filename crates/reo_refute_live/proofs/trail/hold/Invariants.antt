@@ -1,5 +1,5 @@
 use Rattle.std.proofs.Common.{◌≡◌, take}
-use Rattle.reo_refute_support.specs.Families.{family_of}
+use Rattle.reo_refute_live.specs.support.Families.{family_of}
 use Rattle.reo_refute_live.specs.Trail.{AreKept, HasLost}
 use Rattle.reo_refute_live.proofs.HoldLemmas.{held}
 use Rattle.reo_refute_live.proofs.trail.hold.Given as goal

@@ -1,4 +1,4 @@
-use Rattle.reo_refute_support.specs.Families.{family_of}
+use Rattle.reo_refute_live.specs.support.Families.{family_of}
 use Rattle.reo_refute_live.proofs.TrailLemmas.{lost_one, kept_gone}
 use Rattle.reo_refute_live.proofs.trail.let_go.Goals as goal
 

@@ -2,8 +2,8 @@ use Rattle.std.proofs.Common.{◌≡◌, ◌≢◌, ◌↔◌, ◌∙◌, ℕ, B
 use Rattle.std.specs.Prelude.{IsTrue}
 use Rattle.std.proofs.lemmas.List.{get_or_default}
 use Rattle.reo_refute_base.specs.Live.{live_at}
-use Rattle.reo_refute_support.specs.declared.live.LiveAt.{LiveAt}
-use Rattle.reo_refute_support.specs.Families.{family_of, none_gone}
+use Rattle.reo_refute_live.specs.declared.support.live.LiveAt.{LiveAt}
+use Rattle.reo_refute_live.specs.support.Families.{family_of, none_gone}
 use Rattle.reo_refute_live.proofs.ValueLemmas.{any, some_live}
 use Rattle.reo_refute_live.proofs.values.has_live.Goals as goal
 

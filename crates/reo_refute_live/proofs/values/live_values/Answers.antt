@@ -1,8 +1,8 @@
 use Rattle.std.proofs.Common.{◌≡◌, ◌∙◌, Bool, List, ◌++◌, length, get_or, ap, sym}
 use Rattle.std.proofs.lemmas.List.{get_or_default}
 use Rattle.reo_joint_values.specs.declared.value.JointValue.{JointValue}
-use Rattle.reo_refute_support.specs.declared.live.LiveAt.{LiveAt}
-use Rattle.reo_refute_support.specs.Families.{none_gone}
+use Rattle.reo_refute_live.specs.declared.support.live.LiveAt.{LiveAt}
+use Rattle.reo_refute_live.specs.support.Families.{none_gone}
 use Rattle.reo_refute_live.specs.Tables.{live_flows}
 use Rattle.reo_refute_live.proofs.ValueLemmas.{live_is, in_order}
 use Rattle.reo_refute_live.proofs.values.live_values.Goals as goal

@@ -2,7 +2,7 @@
 use Rattle.std.proofs.Common.{◌∙◌, sym}
 use Rattle.std.specs.Prelude.{is_none}
 use Rattle.reo_trees.specs.declared.literals.Literal.{Literal}
-use Rattle.reo_literals.specs.Items.{item_of}
+use Rattle.reo_rules.specs.literals.Items.{item_of}
 use Rattle.reo_rules_types.specs.Cells.{type_at}
 use Rattle.reo_rules_types.proofs.Lists.{any_more, any_hit}
 use Rattle.reo_rules_types.proofs.OfLiterals.{misfit, fit}

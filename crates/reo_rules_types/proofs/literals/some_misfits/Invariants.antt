@@ -3,7 +3,7 @@ use Rattle.std.proofs.Common.{◌≡◌, false, take}
 use Rattle.std.specs.Prelude.{is_none}
 use Rattle.std.specs.List.{list_any}
 use Rattle.reo_trees.specs.declared.literals.Literal.{Literal}
-use Rattle.reo_literals.specs.Items.{item_of}
+use Rattle.reo_rules.specs.literals.Items.{item_of}
 use Rattle.reo_rules_types.specs.Cells.{type_at}
 use Rattle.reo_rules_types.proofs.literals.some_misfits.Given as goal
 

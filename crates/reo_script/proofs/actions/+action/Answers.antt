@@ -5,9 +5,9 @@ use Rattle.reo_grammar.specs.Grammar.Grammar.{rule}
 use Rattle.reo_cursor.specs.Reading.{Gives}
 use Rattle.reo_trees.specs.Forms.{listed}
 use Rattle.reo_trees.specs.Rules.{circuit_rules}
-use Rattle.reo_scripts.specs.Alike.{read_alike, reads_alike}
-use Rattle.reo_scripts.specs.ScriptForms.{write_form, script_rules}
-use Rattle.reo_scripts.specs.ScriptForms.ScriptRule.{action_rule}
+use Rattle.reo_script.specs.scripts.Alike.{read_alike, reads_alike}
+use Rattle.reo_script.specs.scripts.ScriptForms.{write_form, script_rules}
+use Rattle.reo_script.specs.scripts.ScriptForms.ScriptRule.{action_rule}
 use Rattle.reo_script.proofs.Turns.{one_turn}
 use Rattle.reo_script.proofs.actions.+action.Goals as goal
 

@@ -2,7 +2,7 @@ use Rattle.std.proofs.Common.{◌≡◌, ◌+◌, ◌*◌, [], length, codes}
 use Rattle.reo_grammar.specs.Tokens.Class.{other}
 use Rattle.reo_grammar.specs.Grammar.Grammar.{rule}
 use Rattle.reo_trees.specs.Forms.{listed}
-use Rattle.reo_scripts.specs.ScriptForms.ScriptRule.{action_rule}
+use Rattle.reo_script.specs.scripts.ScriptForms.ScriptRule.{action_rule}
 use Rattle.reo_script.proofs.Turns.{goes_on}
 use Rattle.reo_script.proofs.actions.+action.Given as goal
 

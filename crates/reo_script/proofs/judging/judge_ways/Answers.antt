@@ -1,7 +1,7 @@
 use Rattle.std.proofs.Common.{◌∙◌, sym, ap, inr, Some, cond, [], ◌∷◌}
 use Rattle.reo_rules.specs.Lists.{first_of}
-use Rattle.reo_scripts.specs.declared.fault.ScriptFault.TheVariants as faults
-use Rattle.reo_scripts.specs.ScriptRules.{wrong_way}
+use Rattle.reo_script.specs.declared.scripts.fault.ScriptFault.TheVariants as faults
+use Rattle.reo_script.specs.scripts.ScriptRules.{wrong_way}
 use Rattle.reo_script.specs.Places.{naming_of}
 use Rattle.reo_script.proofs.Breaks.{pass_first}
 use Rattle.reo_script.proofs.judging.judge_ways.Goals as goal

@@ -1,6 +1,6 @@
 use Rattle.std.proofs.Common.{◌≡◌, [], map, take}
 use Rattle.std.specs.List.{flat_map}
-use Rattle.reo_scripts.specs.ScriptRules.{wrong_way}
+use Rattle.reo_script.specs.scripts.ScriptRules.{wrong_way}
 use Rattle.reo_script.specs.Places.{naming_of}
 use Rattle.reo_script.proofs.judging.judge_ways.Given as goal
 

@@ -1,5 +1,5 @@
 use Rattle.std.proofs.Common.{sym, subst}
-use Rattle.reo_scripts.specs.Events.{written_event, event_for, IsThisEvent}
+use Rattle.reo_script.specs.scripts.Events.{written_event, event_for, IsThisEvent}
 use Rattle.reo_script.proofs.lines.event_at.Goals as goal
 
 pub returns-in-Write : goal.returns-in-Write

@@ -7,7 +7,7 @@ use Rattle.reo_trees.specs.Rules.{circuit_rules}
 use Rattle.reo_trees.specs.Table.{circuit_table}
 use Rattle.reo_terms.proofs.Fronts.{lexemes-length}
 use Rattle.reo_terms.proofs.Whole.{all-said, rest-refused, never-out}
-use Rattle.reo_scripts.specs.Events.{event_form}
+use Rattle.reo_script.specs.scripts.Events.{event_form}
 use Rattle.reo_script.proofs.lines.event_of.Goals as goal
 
 enough : (text : List ℕ) (ts : List Token) → length (lexemes_of text ts) < length ts + 1

@@ -1,5 +1,5 @@
 use Rattle.std.proofs.Common.{subst}
-use Rattle.reo_scripts.specs.Events.{IsReadEvent}
+use Rattle.reo_script.specs.scripts.Events.{IsReadEvent}
 use Rattle.reo_script.proofs.OneEvent.{only-event}
 use Rattle.reo_script.proofs.lines.read_event.Goals as goal
 

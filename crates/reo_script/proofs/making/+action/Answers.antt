@@ -1,6 +1,6 @@
 use Rattle.std.proofs.Common.{◌∙◌, sym, ap, map}
-use Rattle.reo_scripts.specs.declared.action.Action.TheVariants as actions
-use Rattle.reo_scripts.specs.ScriptRules.{scripted}
+use Rattle.reo_script.specs.declared.scripts.action.Action.TheVariants as actions
+use Rattle.reo_script.specs.scripts.ScriptRules.{scripted}
 use Rattle.reo_script.proofs.Bodies.{scripted_repeat}
 use Rattle.reo_script.proofs.making.+action.Goals as goal
 

@@ -1,5 +1,5 @@
 use Rattle.std.proofs.Common.{◌≡◌, map, take}
-use Rattle.reo_scripts.specs.ScriptRules.{scripted}
+use Rattle.reo_script.specs.scripts.ScriptRules.{scripted}
 use Rattle.reo_script.proofs.making.+action.Given as goal
 
 abbrev pub invariant-actions-loop-form : goal.invariant-actions-loop-form

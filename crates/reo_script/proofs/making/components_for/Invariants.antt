@@ -1,5 +1,5 @@
 use Rattle.std.proofs.Common.{◌≡◌, map, take}
-use Rattle.reo_scripts.specs.ScriptRules.{component_for}
+use Rattle.reo_script.specs.scripts.ScriptRules.{component_for}
 use Rattle.reo_script.proofs.making.components_for.Given as goal
 
 abbrev pub invariant-loop-form : goal.invariant-loop-form

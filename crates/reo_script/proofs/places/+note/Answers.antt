@@ -1,5 +1,5 @@
 use Rattle.std.proofs.Common.{◌≡◌, ◌++◌, ◌∙◌, sym, ap, subst, OnOk, map, flat_map}
-use Rattle.reo_scripts.specs.ScriptRules.{namings}
+use Rattle.reo_script.specs.scripts.ScriptRules.{namings}
 use Rattle.reo_script.specs.Places.{naming_of}
 use Rattle.reo_script.proofs.Bodies.{namings_repeat}
 use Rattle.reo_script.proofs.places.+note.Goals as goal

@@ -1,6 +1,6 @@
 use Rattle.std.proofs.Common.{◌≡◌, map, take}
 use Rattle.std.specs.List.{flat_map}
-use Rattle.reo_scripts.specs.ScriptRules.{namings_in}
+use Rattle.reo_script.specs.scripts.ScriptRules.{namings_in}
 use Rattle.reo_script.specs.Places.{naming_of}
 use Rattle.reo_script.proofs.places.places_of.Given as goal
 

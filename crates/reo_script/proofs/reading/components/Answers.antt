@@ -1,7 +1,7 @@
 use Rattle.std.proofs.Common.{refl, sym, ◌∙◌, codes}
 use Rattle.reo_grammar.specs.Tokens.Class.{fixed}
 use Rattle.reo_trees.specs.Forms.{listed}
-use Rattle.reo_scripts.specs.ScriptForms.{component_form}
+use Rattle.reo_script.specs.scripts.ScriptForms.{component_form}
 use Rattle.reo_script.proofs.Turns.{one_turn}
 use Rattle.reo_script.proofs.reading.components.Goals as goal
 

@@ -1,7 +1,7 @@
 use Rattle.std.proofs.Common.{◌≡◌, [], length, codes}
 use Rattle.reo_grammar.specs.Tokens.Class.{fixed}
 use Rattle.reo_trees.specs.Forms.{listed}
-use Rattle.reo_scripts.specs.ScriptForms.{component_form}
+use Rattle.reo_script.specs.scripts.ScriptForms.{component_form}
 use Rattle.reo_script.proofs.Turns.{goes_on}
 use Rattle.reo_script.proofs.reading.components.Given as goal
 

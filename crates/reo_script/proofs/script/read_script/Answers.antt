@@ -1,5 +1,5 @@
 use Rattle.std.proofs.Common.{subst}
-use Rattle.reo_scripts.specs.ScriptAnswers.{IsRead}
+use Rattle.reo_script.specs.scripts.ScriptAnswers.{IsRead}
 use Rattle.reo_script.proofs.Only.{only}
 use Rattle.reo_script.proofs.script.read_script.Goals as goal
 

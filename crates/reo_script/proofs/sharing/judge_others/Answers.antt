@@ -1,7 +1,7 @@
 use Rattle.std.proofs.Common.{◌∙◌, sym, ap, inr, Some, cond, [], ◌∷◌}
 use Rattle.reo_rules.specs.Lists.{first_of, has_name}
-use Rattle.reo_scripts.specs.declared.fault.ScriptFault.TheVariants as faults
-use Rattle.reo_scripts.specs.ScriptRules.{shared_in}
+use Rattle.reo_script.specs.declared.scripts.fault.ScriptFault.TheVariants as faults
+use Rattle.reo_script.specs.scripts.ScriptRules.{shared_in}
 use Rattle.reo_script.specs.Places.{naming_of}
 use Rattle.reo_script.proofs.Breaks.{pass_first}
 use Rattle.reo_script.proofs.sharing.judge_others.Goals as goal

@@ -2,10 +2,10 @@ use Rattle.std.proofs.Common.{◌≡◌, ◌∙◌, ℕ, List, [], ◌++◌, sym
 use Rattle.std.proofs.lemmas.List.{map-append}
 use Rattle.reo_rules.specs.Lists.{first_of, has_name}
 use Rattle.reo_rules.proofs.AfterLemmas.{more_flat}
-use Rattle.reo_scripts.specs.declared.forms.ComponentForm.{ComponentForm}
-use Rattle.reo_scripts.specs.ScriptRules.{Naming, namings_in, ports_in, shared_in, shared}
-use Rattle.reo_scripts.specs.declared.fault.ScriptFault.{ScriptFault}
-use Rattle.reo_scripts.specs.declared.fault.ScriptFault.TheVariants as faults
+use Rattle.reo_script.specs.declared.scripts.forms.ComponentForm.{ComponentForm}
+use Rattle.reo_script.specs.scripts.ScriptRules.{Naming, namings_in, ports_in, shared_in, shared}
+use Rattle.reo_script.specs.declared.scripts.fault.ScriptFault.{ScriptFault}
+use Rattle.reo_script.specs.declared.scripts.fault.ScriptFault.TheVariants as faults
 use Rattle.reo_script.specs.Places.{naming_of, IsFirstBreak}
 use Rattle.reo_script.proofs.Breaks.{each_more, each_first, passed_on, shared_alike, first_alike, seen_more}
 use Rattle.reo_script.proofs.sharing.judge_sharing.Goals as goal

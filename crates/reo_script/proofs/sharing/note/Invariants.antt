@@ -1,6 +1,6 @@
 use Rattle.std.proofs.Common.{◌≡◌, ◌++◌, List, ℕ, map, take}
 use Rattle.reo_rules.specs.Lists.{has_name}
-use Rattle.reo_scripts.specs.ScriptRules.{Naming}
+use Rattle.reo_script.specs.scripts.ScriptRules.{Naming}
 use Rattle.reo_script.specs.Places.{naming_of}
 use Rattle.reo_script.proofs.sharing.note.Given as goal
 

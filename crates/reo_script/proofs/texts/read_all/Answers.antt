@@ -2,8 +2,8 @@ use Rattle.std.proofs.Common.{ℕ, ◌+◌, ◌<◌, List, length, refl, sym, �
 use Rattle.reo_lexer.specs.declared.token.Token.{Token}
 use Rattle.reo_lexer.specs.Lexing.{lexemes_of}
 use Rattle.reo_terms.proofs.Fronts.{lexemes-length}
-use Rattle.reo_scripts.specs.ScriptForms.{script_rules, script_form}
-use Rattle.reo_scripts.specs.Table.{script_table}
+use Rattle.reo_script.specs.scripts.ScriptForms.{script_rules, script_form}
+use Rattle.reo_script.specs.scripts.Table.{script_table}
 use Rattle.reo_terms.proofs.Whole.{all-said, rest-refused, stop-refused, never-out}
 use Rattle.reo_script.proofs.texts.read_all.Goals as goal
 

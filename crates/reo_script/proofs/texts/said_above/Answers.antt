@@ -1,6 +1,6 @@
 use Rattle.reo_grammar.specs.declared.kind.TokenKind.TheVariants as kinds
-use Rattle.reo_scripts.specs.ScriptForms.{script_rules, script_form}
-use Rattle.reo_scripts.specs.ScriptAnswers.{IsDeep}
+use Rattle.reo_script.specs.scripts.ScriptForms.{script_rules, script_form}
+use Rattle.reo_script.specs.scripts.ScriptAnswers.{IsDeep}
 use Rattle.reo_terms.proofs.Answering.{cut-real, deep-said, deep-begun, syntax-above}
 use Rattle.reo_script.proofs.texts.said_above.Goals as goal
 

@@ -1,6 +1,6 @@
 use Rattle.std.proofs.Common.{arith, []}
-use Rattle.reo_scripts.specs.ScriptForms.{script_rules, script_form}
-use Rattle.reo_scripts.specs.ScriptAnswers.{IsDeep}
+use Rattle.reo_script.specs.scripts.ScriptForms.{script_rules, script_form}
+use Rattle.reo_script.specs.scripts.ScriptAnswers.{IsDeep}
 use Rattle.reo_script.proofs.Empty.{no-components}
 use Rattle.reo_terms.proofs.Answering.{some-tokens, syntax-within}
 use Rattle.reo_terms.proofs.Fronts.{lexemes-length}

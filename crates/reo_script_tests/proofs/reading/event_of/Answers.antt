@@ -1,7 +1,7 @@
 use Rattle.std.proofs.Common.{sym, subst}
 use Rattle.std.specs.List.{All}
 use Rattle.reo_net_base.specs.declared.port.Port.{Port}
-use Rattle.reo_literals.specs.Items.{HasFewNames}
+use Rattle.reo_rules.specs.literals.Items.{HasFewNames}
 use Rattle.reo_script_tests.proofs.Known.{are_ports}
 use Rattle.reo_script_tests.proofs.reading.event_of.Goals as goal
 

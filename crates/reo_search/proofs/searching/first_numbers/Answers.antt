@@ -3,7 +3,7 @@ use Rattle.reo_net_base.specs.Net.{Net, net_of}
 use Rattle.reo_joint_values.specs.Values.{Names}
 use Rattle.reo_rows.specs.Sets.{names_of}
 use Rattle.reo_propagate.specs.Queues.{among}
-use Rattle.reo_choices.proofs.Counted.{some_covered}
+use Rattle.reo_search.proofs.choices.Counted.{some_covered}
 use Rattle.reo_search.proofs.Named.{some_chosen}
 use Rattle.reo_search.proofs.searching.first_numbers.Goals as goal
 

@@ -14,11 +14,11 @@ use Rattle.reo_rows.specs.Sets.{names_of}
 use Rattle.reo_propagate.specs.Queues.{among}
 use Rattle.reo_walk.specs.declared.place.Place.{Place}
 use Rattle.reo_walk.specs.Places.{places_in}
-use Rattle.reo_choices.specs.Remaining.{AreLoopsIn, IsLeftOfAll, CoverAll, choices_of}
-use Rattle.reo_choices.specs.Trying.{IsLeastOf}
+use Rattle.reo_search.specs.choices.Remaining.{AreLoopsIn, IsLeftOfAll, CoverAll, choices_of}
+use Rattle.reo_search.specs.choices.Trying.{IsLeastOf}
 use Rattle.reo_walk.proofs.Knotted.{AllOf, all_places}
 use Rattle.reo_walk.proofs.Listing.{real, listed_sides, among_same, knot_among, among_real, each_real, some}
-use Rattle.reo_choices.proofs.Remains.{covers, weight_left}
+use Rattle.reo_search.proofs.choices.Remains.{covers, weight_left}
 use Rattle.reo_search.proofs.Named.{are_named}
 use Rattle.reo_search.proofs.Searched.{loops_those, loops_are_in, wide_set, narrow_set, narrow_joints, ticks_below, rows_in_tables, part_first, jam_exact}
 use Rattle.reo_search.proofs.searching.first_with.Goals as goal

@@ -10,9 +10,9 @@ use Rattle.reo_weights.specs.Weights.{AreNamed, IsWeight}
 use Rattle.reo_joint_values.specs.Values.{Names}
 use Rattle.reo_rows.specs.Sets.{names_of}
 use Rattle.reo_propagate.specs.Queues.{among}
-use Rattle.reo_choices.specs.Remaining.{AreLoopsIn, IsLeftOfAll}
+use Rattle.reo_search.specs.choices.Remaining.{AreLoopsIn, IsLeftOfAll}
 use Rattle.reo_walk.proofs.Listing.{among_same, knot_among, among_real}
-use Rattle.reo_choices.proofs.Remains.{weight_left}
+use Rattle.reo_search.proofs.choices.Remains.{weight_left}
 use Rattle.reo_search.proofs.Named.{are_named}
 use Rattle.reo_search.proofs.Searched.{loops_those, loops_are_in}
 use Rattle.reo_search.proofs.searching.weight.Goals as goal

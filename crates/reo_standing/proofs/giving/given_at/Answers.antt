@@ -2,7 +2,7 @@ use Rattle.std.proofs.Common.{◌∙◌, ℕ, sym}
 use Rattle.reo_net_base.specs.Behaviour.{Behaviour}
 use Rattle.reo_net_base.specs.Net.{Net, net_of, behaviour_at, row_at, mark_at}
 use Rattle.reo_net_laws.proofs.Sides.{gives_at}
-use Rattle.reo_net_colouring.proofs.ItemLemmas.{given_none, given_some}
+use Rattle.reo_net.proofs.colouring.ItemLemmas.{given_none, given_some}
 use Rattle.reo_standing.proofs.giving.given_at.Goals as goal
 
 pub from-requires-clause-flows : goal.from-requires-clause-flows

@@ -4,7 +4,7 @@ use Rattle.reo_net_base.specs.Behaviour.{Behaviour}
 use Rattle.reo_net_base.specs.Colouring.{taken_at}
 use Rattle.reo_net_base.specs.Net.{Net, net_of, behaviour_at, end_of, row_at, mark_at}
 use Rattle.reo_net_laws.proofs.Sides.{gives_at}
-use Rattle.reo_net_colouring.proofs.ItemLemmas.{given_some}
+use Rattle.reo_net.proofs.colouring.ItemLemmas.{given_some}
 use Rattle.reo_standing.proofs.giving.plain_at.Goals as goal
 
 pub from-requires-clause-flows : goal.from-requires-clause-flows

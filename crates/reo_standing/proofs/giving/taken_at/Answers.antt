@@ -2,8 +2,8 @@ use Rattle.std.proofs.Common.{◌∙◌, ◌<◌, ℕ, List, Option, None, lengt
 use Rattle.std.proofs.lemmas.List.{get_or_default}
 use Rattle.reo_values.specs.declared.value.Value.{Value}
 use Rattle.reo_net_base.specs.Net.{Net, net_of}
-use Rattle.reo_net_ends.proofs.EndLemmas.{has_joint}
-use Rattle.reo_net_colouring.proofs.ItemLemmas.{taken_by_ends}
+use Rattle.reo_net_circuit.proofs.found_ends.EndLemmas.{has_joint}
+use Rattle.reo_net.proofs.colouring.ItemLemmas.{taken_by_ends}
 use Rattle.reo_standing.proofs.giving.taken_at.Goals as goal
 
 pub joint_at-requires : goal.joint_at-requires

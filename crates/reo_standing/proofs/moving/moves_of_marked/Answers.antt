@@ -3,7 +3,7 @@ use Rattle.std.proofs.lemmas.List.{length-map}
 use Rattle.reo_net_base.specs.declared.colouring.Move.{Move}
 use Rattle.reo_net_base.specs.Net.{Net, net_of}
 use Rattle.reo_net_base.specs.Moves.{moves_at, moves_of}
-use Rattle.reo_stepping.proofs.NextLemmas.{none_flows}
+use Rattle.reo_flows.proofs.stepping.NextLemmas.{none_flows}
 use Rattle.reo_standing.proofs.PortMoves.{flat_more, moves_over}
 use Rattle.reo_standing.proofs.moving.moves_of_marked.Goals as goal
 

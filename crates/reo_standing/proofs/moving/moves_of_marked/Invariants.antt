@@ -2,7 +2,7 @@ use Rattle.std.proofs.Common.{◌≡◌, ◌-◌, ℕ, List, min}
 use Rattle.reo_net_base.specs.Colouring.{IsColouring}
 use Rattle.reo_net_base.specs.Net.{net_of}
 use Rattle.reo_net_base.specs.Moves.{moves_of}
-use Rattle.reo_stepping.specs.Changes.{AreThoseThatFlowed}
+use Rattle.reo_flows.specs.stepping.Changes.{AreThoseThatFlowed}
 use Rattle.reo_standing.proofs.moving.moves_of_marked.Given as goal
 
 -- The ports so far have moved.

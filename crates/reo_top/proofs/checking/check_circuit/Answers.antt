@@ -2,14 +2,14 @@ use Rattle.std.proofs.Common.{ℕ, List, [], ◌∷◌, refl}
 use Rattle.reo_command.specs.declared.command.Command.TheVariants.{Check}
 use Rattle.reo_command.specs.declared.role.Role.TheVariants.{Circuit}
 use Rattle.reo_top.specs.Owed.{ListsParts}
-use Rattle.reo_inventory.specs.Parts.{parts_text}
+use Rattle.reo_top.specs.inventory.Parts.{parts_text}
 use Rattle.reo_flatten.specs.declared.last.Flat.{Flat}
 use Rattle.reo_command.specs.Fetched.{Content}
 use Rattle.reo_command.specs.Readings.{ReadsCircuit, StopsCheck}
 use Rattle.reo_command.specs.ReadSteps.{circuit_in}
 use Rattle.reo_command.specs.Statuses.{statuses_of}
-use Rattle.reo_top_base.proofs.AnswerLemmas.{refused_answered, refused_status_in, made_answered, made_status_in}
-use Rattle.reo_top_base.proofs.DoneLemmas.{done_status, done_not_three}
+use Rattle.reo_command.proofs.top_base.AnswerLemmas.{refused_answered, refused_status_in, made_answered, made_status_in}
+use Rattle.reo_command.proofs.top_base.DoneLemmas.{done_status, done_not_three}
 use Rattle.reo_command.proofs.FlatLemmas.{check_reading}
 use Rattle.reo_command.proofs.ReadLemmas.{reading_at, same_stops}
 use Rattle.reo_top.proofs.checking.check_circuit.Goals as goal

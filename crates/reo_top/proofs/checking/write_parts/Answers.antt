@@ -1,6 +1,6 @@
 use Rattle.reo_top.specs.Owed.{ListsParts}
 use Rattle.reo_command.specs.ReadSteps.{circuit_in}
-use Rattle.reo_top_base.proofs.CaseLemmas.{no_memory_cases}
+use Rattle.reo_command.proofs.top_base.CaseLemmas.{no_memory_cases}
 use Rattle.reo_top.proofs.checking.write_parts.Goals as goal
 
 pub returns-in-Err-clause-cases : goal.returns-in-Err-clause-cases

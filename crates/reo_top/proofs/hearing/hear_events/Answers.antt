@@ -2,14 +2,14 @@ use Rattle.std.proofs.Common.{List, [], ◌∷◌, refl}
 use Rattle.reo_command.specs.declared.command.Command.TheVariants.{Live}
 use Rattle.reo_command.specs.declared.role.Role.TheVariants.{Circuit}
 use Rattle.reo_flatten.specs.declared.last.Flat.{Flat}
-use Rattle.reo_closings.specs.Sources.{state_of, untaken}
+use Rattle.reo_live.specs.closings.Sources.{state_of, untaken}
 use Rattle.reo_command.specs.Fetched.{Content}
 use Rattle.reo_command.specs.Readings.{ReadsCircuit, StopsCheck}
 use Rattle.reo_command.specs.ReadSteps.{circuit_in}
 use Rattle.reo_command.specs.Statuses.{statuses_of}
 use Rattle.reo_command.proofs.ReadLemmas.{reading_at, same_stops}
 use Rattle.reo_top.specs.Heard.{HearsCircuit}
-use Rattle.reo_top_base.proofs.AnswerLemmas.{refused_answered, refused_status_in, heard_answered, made_status_in}
+use Rattle.reo_command.proofs.top_base.AnswerLemmas.{refused_answered, refused_status_in, heard_answered, made_status_in}
 use Rattle.reo_top.proofs.ClosingStatuses.{heard_status, heard_three, live_reading}
 use Rattle.reo_top.proofs.UntakenLemmas.{none_taken, none_taken_few}
 use Rattle.reo_top.proofs.hearing.hear_events.Goals as goal

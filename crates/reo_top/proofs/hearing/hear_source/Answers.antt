@@ -1,9 +1,9 @@
-use Rattle.reo_at_ports.proofs.Begun.{just_ports}
-use Rattle.reo_closings.specs.Sources.{state_of, untaken, source_change}
+use Rattle.reo_runner.proofs.at_ports.Begun.{just_ports}
+use Rattle.reo_live.specs.closings.Sources.{state_of, untaken, source_change}
 use Rattle.reo_command.specs.ReadSteps.{circuit_in}
 use Rattle.reo_command.specs.States.{SinkState}
 use Rattle.reo_top.specs.Heard.{HearsCircuit}
-use Rattle.reo_top_base.proofs.CaseLemmas.{no_memory_cases, no_memory_exact}
+use Rattle.reo_command.proofs.top_base.CaseLemmas.{no_memory_cases, no_memory_exact}
 use Rattle.reo_top.proofs.HeardLemmas.{heard_on, heard_fair, heard_tells, heard_there}
 use Rattle.reo_top.proofs.UntakenLemmas.{none_taken, none_taken_few}
 use Rattle.reo_top.proofs.hearing.hear_source.Goals as goal

@@ -1,7 +1,7 @@
 use Rattle.reo_command.specs.ReadSteps.{runnable_in}
 use Rattle.reo_command.specs.States.{sink_change}
 use Rattle.reo_top.specs.Measures.{MeasuresMade}
-use Rattle.reo_top_base.proofs.CaseLemmas.{no_memory_cases}
+use Rattle.reo_command.proofs.top_base.CaseLemmas.{no_memory_cases}
 use Rattle.reo_top.proofs.MeasureLemmas.{made_cases, made_exact, made_status}
 use Rattle.reo_top.proofs.measuring.measure_work.Goals as goal
 

@@ -5,11 +5,11 @@ use Rattle.reo_command.specs.Limits.{usual_limits}
 use Rattle.reo_command.specs.Readings.{Runnable}
 use Rattle.reo_command.specs.ReadSteps.{runnable_in}
 use Rattle.reo_command.specs.States.{sink_change}
-use Rattle.reo_top_base.specs.Cases.{Cases, IsExact}
+use Rattle.reo_command.specs.top_base.Cases.{Cases, IsExact}
 use Rattle.reo_top.specs.Measures.{MeasuresRun}
-use Rattle.reo_top_base.proofs.CaseLemmas.{no_memory_cases}
+use Rattle.reo_command.proofs.top_base.CaseLemmas.{no_memory_cases}
 use Rattle.reo_top.proofs.MeasureLemmas.{measure_cases, measure_exact}
-use Rattle.reo_top_runs.proofs.RunLemmas.{start_for}
+use Rattle.reo_top.proofs.runs.RunLemmas.{start_for}
 use Rattle.reo_top.proofs.measuring.write_measure.Goals as goal
 
 pub returns-in_default-clause-cases : goal.returns-in_default-clause-cases

@@ -5,8 +5,8 @@ use Rattle.reo_top.specs.Owed.{PrintsProgram}
 use Rattle.reo_command.specs.Readings.{ReadsProgram, StopsPrint}
 use Rattle.reo_command.specs.Statuses.{statuses_of}
 use Rattle.reo_upgrade.specs.Upgraded.{canonical_text_any}
-use Rattle.reo_top_base.proofs.AnswerLemmas.{refused_answered, refused_status_in, made_answered, made_status_in}
-use Rattle.reo_top_base.proofs.DoneLemmas.{done_status, done_not_three}
+use Rattle.reo_command.proofs.top_base.AnswerLemmas.{refused_answered, refused_status_in, made_answered, made_status_in}
+use Rattle.reo_command.proofs.top_base.DoneLemmas.{done_status, done_not_three}
 use Rattle.reo_command.proofs.CircuitLemmas.{print_reading}
 use Rattle.reo_command.proofs.ReadLemmas.{reading_at}
 use Rattle.reo_top.proofs.printing.print_circuit.Goals as goal

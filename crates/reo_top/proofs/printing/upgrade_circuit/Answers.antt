@@ -4,10 +4,10 @@ use Rattle.reo_command.specs.declared.role.Role.TheVariants.{Circuit}
 use Rattle.reo_top.specs.Owed.{UpgradesProgram}
 use Rattle.reo_command.specs.Readings.{ReadsProgram, StopsPrint}
 use Rattle.reo_command.specs.Statuses.{statuses_of}
-use Rattle.reo_syntax_two.specs.Canonical.{canonical_text_two}
+use Rattle.reo_syntax.specs.two.Canonical.{canonical_text_two}
 use Rattle.reo_upgrade.specs.Upgraded.{upgraded}
-use Rattle.reo_top_base.proofs.AnswerLemmas.{refused_answered, refused_status_in, made_answered, made_status_in}
-use Rattle.reo_top_base.proofs.DoneLemmas.{done_status, done_not_three}
+use Rattle.reo_command.proofs.top_base.AnswerLemmas.{refused_answered, refused_status_in, made_answered, made_status_in}
+use Rattle.reo_command.proofs.top_base.DoneLemmas.{done_status, done_not_three}
 use Rattle.reo_command.proofs.CircuitLemmas.{upgrade_reading}
 use Rattle.reo_command.proofs.ReadLemmas.{reading_at}
 use Rattle.reo_top.proofs.printing.upgrade_circuit.Goals as goal

@@ -2,7 +2,7 @@ use Rattle.std.proofs.Common.{◌∙◌, sym, subst}
 use Rattle.reo_net_base.specs.Net.{net_of}
 use Rattle.reo_kinds.specs.Kinds.{behaviour_of}
 use Rattle.reo_rounds.specs.Order.{HasOrder}
-use Rattle.reo_run_texts.proofs.ProgramOrder.{program_order}
+use Rattle.reo_runs.proofs.run_texts.ProgramOrder.{program_order}
 use Rattle.reo_runs.specs.Run.{start_of}
 use Rattle.reo_command.specs.Readings.{FlatCircuit, Runnable}
 use Rattle.reo_top_laws.proofs.laws.verified_proofs_are_first.Goals as goal

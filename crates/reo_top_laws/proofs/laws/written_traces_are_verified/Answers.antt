@@ -1,6 +1,6 @@
 use Rattle.std.proofs.Common.{refl, length}
-use Rattle.reo_verdicts.specs.declared.verdict.Verdict.TheVariants.{Verified}
-use Rattle.reo_verdicts.specs.Said.{jammed}
+use Rattle.reo_runs.specs.declared.verdicts.verdict.Verdict.TheVariants.{Verified}
+use Rattle.reo_runs.specs.verdicts.Said.{jammed}
 use Rattle.reo_runs.specs.Run.{start_of}
 use Rattle.reo_command.specs.Limits.{limits_of}
 use Rattle.reo_top_laws.proofs.CertificateLemmas.{trace_with, program_told, is_trace}

@@ -1,6 +1,6 @@
 use Rattle.std.proofs.Common.{◌∙◌, ◌++◌, ◌∷◌, [], ap, sym}
 use Rattle.reo_trace.specs.RoundText.{entry_text}
-use Rattle.reo_trace_texts.specs.Lines.{IsEntry}
+use Rattle.reo_trace_reader.specs.texts.Lines.{IsEntry}
 use Rattle.reo_trace_reader.proofs.EntryRows.{none_reads, some_reads, ends_entry, ends_no_space, first_read, next_read}
 use Rattle.reo_trace_reader.proofs.RowTexts.{left_more, left_none}
 use Rattle.reo_trace_reader.proofs.Steps.{passes}

@@ -1,7 +1,7 @@
 use Rattle.std.proofs.Common.{◌∙◌, ◌++◌, ap, sym}
 use Rattle.reo_trace.specs.declared.line.Entry.TheVariants.{One, Two}
 use Rattle.reo_trace.specs.RoundText.{cell_text}
-use Rattle.reo_trace_texts.proofs.Entries.{end_no_digit}
+use Rattle.reo_trace_reader.proofs.texts.Entries.{end_no_digit}
 use Rattle.reo_trace_reader.proofs.CellTexts.{entry_parts, two_reads, one_reads, two_stood, one_stood}
 use Rattle.reo_trace_reader.proofs.Steps.{passes}
 use Rattle.reo_trace_reader.proofs.cells.entry.Goals as goal

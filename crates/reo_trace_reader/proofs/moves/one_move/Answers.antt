@@ -1,5 +1,5 @@
 use Rattle.std.proofs.lemmas.Option.{slice_get_within}
-use Rattle.reo_trace_texts.proofs.Moves.{kindred_at}
+use Rattle.reo_trace_reader.proofs.texts.Moves.{kindred_at}
 use Rattle.reo_trace_reader.proofs.PortTexts.{port_there, move_stood, move_parts, move_item}
 use Rattle.reo_trace_reader.proofs.Steps.{passes}
 use Rattle.reo_trace_reader.proofs.moves.one_move.Goals as goal

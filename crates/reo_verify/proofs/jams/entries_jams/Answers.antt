@@ -1,7 +1,7 @@
 use Rattle.std.proofs.Common.{arith}
 use Rattle.reo_trace.specs.declared.line.Cell.TheVariants.{Row}
 use Rattle.reo_trace.specs.declared.line.Entry.TheVariants.{One}
-use Rattle.reo_judging.proofs.Cuts.{got_or}
+use Rattle.reo_verify.proofs.judging.Cuts.{got_or}
 use Rattle.reo_verify.proofs.JamLemmas.{jams_cut}
 use Rattle.reo_verify.proofs.jams.entries_jams.Goals as goal
 

@@ -1,5 +1,5 @@
 use Rattle.std.proofs.Common.{◌≡◌, ap, arith}
-use Rattle.reo_judging.proofs.Cuts.{got_by}
+use Rattle.reo_verify.proofs.judging.Cuts.{got_by}
 use Rattle.reo_verify.proofs.JamLemmas.{jammed_cut, jams_of}
 use Rattle.reo_verify.proofs.jams.jammed.Goals as goal
 

@@ -1,5 +1,5 @@
 use Rattle.std.proofs.Common.{◌≡◌, take}
-use Rattle.reo_verdicts.specs.Said.{jammed}
+use Rattle.reo_runs.specs.verdicts.Said.{jammed}
 use Rattle.reo_verify.proofs.jams.jammed.Given as goal
 
 abbrev pub invariant-loop-line : goal.invariant-loop-line

@@ -5,8 +5,8 @@ use Rattle.reo_players.specs.Players.{Player, all_done}
 use Rattle.reo_trace.specs.declared.line.Ending.TheVariants.{Done}
 use Rattle.reo_rounds.specs.Rules.{rules_of}
 use Rattle.reo_runs.specs.Run.{Place, start_of}
-use Rattle.reo_at_ports.specs.Between.{AreBetween}
-use Rattle.reo_at_ports.proofs.Begun.{just_ports, between_first}
+use Rattle.reo_runner.specs.at_ports.Between.{AreBetween}
+use Rattle.reo_runner.proofs.at_ports.Begun.{just_ports, between_first}
 use Rattle.reo_verify.specs.Replayed.{AreReplayed, IsHalted}
 use Rattle.reo_verify.proofs.replay.replay.Goals as goal
 

@@ -1,9 +1,9 @@
 use Rattle.std.proofs.Common.{◌≡◌, ◌∙◌, ◌+◌, ℕ, suc, take, ap, sym, subst, arith}
 use Rattle.reo_rounds.specs.Rules.{rules_of}
 use Rattle.reo_runs.specs.Run.{Place}
-use Rattle.reo_at_ports.proofs.Kept.{self_but}
-use Rattle.reo_judging.proofs.Cuts.{got_by}
-use Rattle.reo_judging.proofs.EndLemmas.{ended_by, on_by}
+use Rattle.reo_runner.proofs.at_ports.Kept.{self_but}
+use Rattle.reo_verify.proofs.judging.Cuts.{got_by}
+use Rattle.reo_verify.proofs.judging.EndLemmas.{ended_by, on_by}
 use Rattle.reo_verify.proofs.SoFar.{SoFar}
 use Rattle.reo_verify.proofs.ReplayLemmas.{line_at, so_far_none, so_far_more, ended_before, stopped_at, all_replayed}
 use Rattle.reo_verify.proofs.replay.replay_rounds.Goals as goal

@@ -1,6 +1,6 @@
 use Rattle.std.proofs.Common.{◌≡◌, take, map}
 use Rattle.reo_rounds.specs.Rules.{rules_of}
-use Rattle.reo_at_ports.specs.Between.{AreBetween}
+use Rattle.reo_runner.specs.at_ports.Between.{AreBetween}
 use Rattle.reo_verify.proofs.SoFar.{SoFar}
 use Rattle.reo_verify.proofs.replay.replay_rounds.Given as goal
 

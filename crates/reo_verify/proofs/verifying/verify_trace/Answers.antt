@@ -1,9 +1,9 @@
 use Rattle.std.proofs.Common.{rules}
 use Rattle.std.specs.Prelude.{IfOk}
 use Rattle.reo_runs.specs.Run.{start_of}
-use Rattle.reo_at_ports.specs.Kinds.{kind_rules}
-use Rattle.reo_verdicts.specs.declared.verdict.Verdict.{Verdict}
-use Rattle.reo_verdicts.specs.Verdicts.{IsVerdict}
+use Rattle.reo_runner.specs.at_ports.Kinds.{kind_rules}
+use Rattle.reo_runs.specs.declared.verdicts.verdict.Verdict.{Verdict}
+use Rattle.reo_runs.specs.verdicts.Verdicts.{IsVerdict}
 use Rattle.reo_verify.proofs.VerdictLemmas.{only_by}
 use Rattle.reo_verify.proofs.verifying.verify_trace.Goals as goal
 

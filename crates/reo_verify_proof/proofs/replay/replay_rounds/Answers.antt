@@ -3,11 +3,11 @@ use Rattle.reo_rounds.specs.Rules.{rules_of}
 use Rattle.reo_rounds.proofs.OrderLemmas.{KeepsShape}
 use Rattle.reo_runs.specs.Round.{State}
 use Rattle.reo_runs.specs.Run.{Place}
-use Rattle.reo_at_ports.proofs.Kept.{self_but}
-use Rattle.reo_judging.proofs.EndLemmas.{ended_by, on_by}
+use Rattle.reo_runner.proofs.at_ports.Kept.{self_but}
+use Rattle.reo_verify.proofs.judging.EndLemmas.{ended_by, on_by}
 use Rattle.reo_proof_reader.specs.declared.next.Next.{Next}
 use Rattle.reo_proof_reader.specs.Found.{IsFound, IsRoundFound}
-use Rattle.reo_proof_rounds.specs.Rounds.{IsNoProof}
+use Rattle.reo_verify_proof.specs.proof_rounds.Rounds.{IsNoProof}
 use Rattle.reo_verify_proof.proofs.Lists.{wrong_le}
 use Rattle.reo_verify_proof.proofs.ReplayLemmas.{so_far_none, so_far_more, made_le, before_le, lines_few, is_of_round}
 use Rattle.reo_verify_proof.proofs.VerdictLemmas.{by_ending, by_line, by_ended, by_round}

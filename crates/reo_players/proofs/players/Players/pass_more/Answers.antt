@@ -1,7 +1,7 @@
 -- All at once.
 use Rattle.std.proofs.Common.{◌≡◌, ◌<◌, ◌+◌, ◌^◌, ◌-◌, ℕ, List, true, refl, sym, subst, arith}
 use Rattle.reo_flags.specs.Next.{IsNext}
-use Rattle.reo_dues.specs.Next.{IsNextDue}
+use Rattle.reo_flags.specs.dues.Next.{IsNextDue}
 use Rattle.reo_players.specs.Idle.{HavePassed}
 use Rattle.reo_players.specs.Pacing.{clock_at, each_shown, ArePaced}
 use Rattle.reo_players.proofs.PacedLemmas.{have_passed, kept_on}

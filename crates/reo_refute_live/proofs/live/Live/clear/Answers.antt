@@ -1,4 +1,4 @@
-use Rattle.reo_refute_support.specs.Families.{family_of}
+use Rattle.reo_refute_live.specs.support.Families.{family_of}
 use Rattle.reo_refute_live.proofs.OpenLemmas.{same_open, splits_after, all_since}
 use Rattle.reo_refute_live.proofs.live.Live.clear.Goals as goal
 

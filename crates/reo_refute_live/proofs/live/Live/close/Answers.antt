@@ -2,7 +2,7 @@ use Rattle.std.proofs.Common.{◌∙◌, ◌+◌, ◌<◌, ◌≤◌, List, [], 
 use Rattle.std.specs.List.{All}
 use Rattle.reo_joint_values.specs.Values.{Family}
 use Rattle.reo_refute_base.specs.Live.{live_at}
-use Rattle.reo_refute_support.specs.Families.{family_of}
+use Rattle.reo_refute_live.specs.support.Families.{family_of}
 use Rattle.reo_refute_live.specs.declared.live.Split.{Split}
 use Rattle.reo_refute_live.specs.declared.trail.Gone.{Gone}
 use Rattle.reo_refute_live.specs.Open.{all_to_come, IsSplit, AreNested}

@@ -1,6 +1,6 @@
 use Rattle.std.proofs.Common.{◌≡◌, length}
 use Rattle.std.specs.List.{All}
-use Rattle.reo_refute_support.specs.Families.{family_of}
+use Rattle.reo_refute_live.specs.support.Families.{family_of}
 use Rattle.reo_refute_live.specs.Trail.{AreKept}
 use Rattle.reo_refute_live.specs.Open.{still_open, IsSplit, AreNested}
 use Rattle.reo_refute_live.proofs.live.Live.close.Given as goal

@@ -1,8 +1,0 @@
-use Rattle.std.proofs.Common.{arith}
-use Rattle.reo_cells.proofs.Laid.{bytes-length}
-use Rattle.reo_cells.proofs.cells.Cells.append_each.Goals as goal
-
-pub returns-else-len : goal.returns-else-len
-returns-else-len c = λ net are.
-    let long = bytes-length net c.args.self.now are in
-    absurd (omega (arith, long))

@@ -1,7 +1,0 @@
-use Rattle.std.proofs.Common.{◌≡◌, ◌<◌, ◌≤◌, ℕ, false, get_or}
-use Rattle.reo_cells.specs.Texts.{is_wide}
-use Rattle.reo_cells.proofs.cells.Cells.next_wide.Given as goal
-
--- No cell so far is wide.
-abbrev pub invariant-loop-place : goal.invariant-loop-place
-invariant-loop-place l = (i : ℕ) → l.from ≤ i → i < l.place → is_wide (get_or l.self.shown i 0) ≡ false

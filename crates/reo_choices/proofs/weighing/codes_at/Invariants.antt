@@ -1,7 +1,0 @@
-use Rattle.std.proofs.Common.{◌≡◌, ℕ}
-use Rattle.std.specs.List.{filter, range_with_len}
-use Rattle.reo_rows.specs.Flags.{flag}
-use Rattle.reo_choices.proofs.weighing.codes_at.Given as goal
-
-abbrev pub invariant-loop-code : goal.invariant-loop-code
-invariant-loop-code l = l.codes ≡ filter (λ (c : ℕ). flag l.alive l.joint c) (range_with_len 0 l.code)

@@ -1,5 +1,0 @@
-use Rattle.reo_choices.specs.Remaining.{AreCodes}
-use Rattle.reo_choices.proofs.weighing.codes_of.Given as goal
-
-abbrev pub invariant-loop-index : goal.invariant-loop-index
-invariant-loop-index l = AreCodes l.alive l.joints l.index l.left

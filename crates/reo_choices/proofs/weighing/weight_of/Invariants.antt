@@ -1,7 +1,0 @@
-use Rattle.std.proofs.Common.{◌≡◌, take}
-use Rattle.reo_weights.specs.Weights.{capped}
-use Rattle.reo_choices.specs.Remaining.{choices_of}
-use Rattle.reo_choices.proofs.weighing.weight_of.Given as goal
-
-abbrev pub invariant-loop-index : goal.invariant-loop-index
-invariant-loop-index l = l.weight ≡ capped (choices_of (take l.index l.left))

@@ -1,7 +1,0 @@
-use Rattle.std.proofs.Common.{◌≡◌, ◌++◌, take}
-use Rattle.std.specs.List.{flat_map}
-use Rattle.reo_drawing_labels.specs.Escape.{escape}
-use Rattle.reo_drawing_labels.proofs.escape.append_all.Given as goal
-
-abbrev pub invariant-loop-byte : goal.invariant-loop-byte
-invariant-loop-byte l = l.text ≡ l.initial.text ++ flat_map escape (take l.byte-index l.bytes)

@@ -1,7 +1,0 @@
-use Rattle.std.proofs.Common.{arith}
-use Rattle.std.proofs.lemmas.Grind.{common_steps}
-use Rattle.reo_drawing_labels.proofs.Unfold.{item-pair}
-use Rattle.reo_drawing_labels.proofs.item.+append_item.Goals as goal
-
-pub returns-in_ok-append_item-in-Pair-2 : goal.returns-in_ok-append_item-in-Pair-2
-returns-in_ok-append_item-in-Pair-2 t c = rw (c.in-Pair.is, item-pair c.in-Pair.couple, ← c.get-couple.ensures) (grind (arith, common_steps))

@@ -1,8 +1,0 @@
-//! Many due times in a row, in which those that are due are found a block at a time. No call but
-//! `new` takes memory.
-#![tactic(auto)]
-
-mod dues;
-mod search;
-
-pub use dues::{Dues, NEVER};

@@ -1,6 +1,0 @@
-use Rattle.std.proofs.Common.{ap}
-use Rattle.reo_expand_base.proofs.Lifts.{expanded-lifted}
-use Rattle.reo_expand_base.proofs.laws.lifted_stands_for_itself.Goals as goal
-
-pub returns : goal.returns
-returns c = λ p. ap (λ ds. record { declarations = ds }) (expanded-lifted p.declarations)

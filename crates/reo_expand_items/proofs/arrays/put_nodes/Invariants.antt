@@ -1,7 +1,0 @@
-use Rattle.std.proofs.Common.{◌≡◌, ◌++◌, map, take}
-use Rattle.reo_trees.specs.declared.items.Form.TheVariants as forms
-use Rattle.reo_expand_base.specs.Expansion.{on_line}
-use Rattle.reo_expand_items.proofs.arrays.put_nodes.Given as goal
-
-abbrev pub invariant-loop-name : goal.invariant-loop-name
-invariant-loop-name l = l.out ≡ l.initial.out ++ map (λ n. on_line l.line (forms.Node n l.term)) (take l.name-index l.names)

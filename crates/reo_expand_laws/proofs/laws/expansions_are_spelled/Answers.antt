@@ -1,5 +1,0 @@
-use Rattle.reo_expand_laws.proofs.ProgramLemmas.{expanded_spelled}
-use Rattle.reo_expand_laws.proofs.laws.expansions_are_spelled.Goals as goal
-
-pub returns : goal.returns
-returns c = λ p spelled. expanded_spelled p.declarations spelled

@@ -1,6 +1,0 @@
-//! The walk of items of version 2, as they are expanded.
-#![tactic(auto)]
-
-mod walk;
-
-pub use walk::items;

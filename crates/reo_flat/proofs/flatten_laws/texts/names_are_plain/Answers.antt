@@ -1,0 +1,38 @@
+-- A name has no byte but letters, digits and `_`.
+use Rattle.std.proofs.Common.{arith, ℕ, ◌<◌, ◌≤◌, ◌^◌, List, [], ◌∷◌, length}
+use Rattle.std.specs.List.{AllByRecursion}
+use Rattle.reo_trees.specs.declared.items.Form.{Form}
+use Rattle.reo_trees.specs.declared.items.Form.TheVariants as forms
+use Rattle.reo_trees.specs.declared.programs.Connector.{Connector}
+use Rattle.reo_trees.specs.declared.programs.Declaration.{Declaration}
+use Rattle.reo_trees.specs.declared.programs.Declaration.TheVariants as declarations
+use Rattle.reo_syntax_laws.specs.trees_laws.Spelled.{IsSpelledForm, IsSpelledConnector, IsSpelledDeclaration}
+use Rattle.reo_syntax_laws.specs.trees_laws.Few.{HasAtMost}
+use Rattle.reo_syntax_laws.proofs.trees_laws.Loose.{name_plain}
+use Rattle.reo_rules.specs.Scopes.{connectors_of}
+use Rattle.reo_flat.specs.flatten_laws.Plain.{HasPlainName, HasPlainNames}
+use Rattle.reo_flat.proofs.flatten_laws.Each.{by_recursion, each_of}
+use Rattle.reo_flat.proofs.flatten_laws.texts.names_are_plain.Goals as goal
+
+form_plain : (f : Form) → IsSpelledForm f → HasPlainName f
+form_plain (forms.Node name term) spelled = spelled.0
+form_plain (forms.Joined channel first second) spelled = tt
+form_plain (forms.Used name arguments) spelled = spelled.0
+
+connector_plain : (most : ℕ) (c : Connector) → most < 2 ^ 64 → IsSpelledConnector c → length c.items ≤ most → HasPlainNames c
+connector_plain most c fits spelled few = record {
+  parameters = λ k d below. name_plain _ (spelled.parameters k d below).0.0;
+  items = λ k d below. form_plain _ (spelled.items k d below);
+  few = omega arith;
+}
+
+all : (most : ℕ) (ds : List Declaration) → most < 2 ^ 64 → AllByRecursion IsSpelledDeclaration ds → AllByRecursion (HasAtMost most) ds → AllByRecursion HasPlainNames (connectors_of ds)
+all most [] fits spelled few = tt
+all most (declarations.Named line name term ∷ ds) fits spelled few = all most ds fits spelled.1 few.1
+all most (declarations.Made c ∷ ds) fits spelled few = (connector_plain most c fits spelled.0 few.0, all most ds fits spelled.1 few.1)
+
+pub returns : goal.returns
+returns c text p short says =
+    let spelled = by_recursion IsSpelledDeclaration p.declarations (c.programs_are_spelled.ensures text p says) in
+    let few = by_recursion (HasAtMost (length text)) p.declarations (c.items_are_few.ensures text p says) in
+    each_of HasPlainNames (connectors_of p.declarations) (all (length text) p.declarations short spelled few)

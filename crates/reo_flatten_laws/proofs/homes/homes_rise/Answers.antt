@@ -1,7 +1,0 @@
-use Rattle.std.proofs.Common.{length}
-use Rattle.reo_flat.specs.Flat.{placed_of, nodes_of}
-use Rattle.reo_flatten_laws.proofs.Rising.{homes_rise}
-use Rattle.reo_flatten_laws.proofs.homes.homes_rise.Goals as goal
-
-pub returns : goal.returns
-returns c ds j k le lt = homes_rise (placed_of ds) 0 (length (placed_of ds)) (nodes_of ds) j k le lt

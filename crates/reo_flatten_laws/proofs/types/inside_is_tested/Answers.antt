@@ -1,5 +1,0 @@
-use Rattle.reo_flatten_laws.proofs.types.inside_is_tested.Goals as goal
-use Rattle.reo_rules.proofs.Same.{inside_told}
-
-pub returns : goal.returns
-returns c = inside_told

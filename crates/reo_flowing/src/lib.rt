@@ -1,8 +1,0 @@
-//! Of some joints those that flow.
-#![tactic(auto)]
-
-mod copying;
-mod flowing;
-
-pub use copying::copy_over;
-pub use flowing::put_flowing;

@@ -1,0 +1,2 @@
+pub mod stepping
+pub mod flowing

@@ -1,6 +1,0 @@
-//! Laws of made work.
-#![tactic(auto)]
-
-mod laws;
-
-pub use laws::{accepted_is_not_refused, work_is_accepted};

@@ -1,9 +1,0 @@
-//! A circuit's parts as a text: a line for each primitive with the names of its nodes, and how many
-//! parts there are.
-#![tactic(auto)]
-
-mod ends;
-mod kind;
-mod text;
-
-pub use text::parts_text;

@@ -1,0 +1,5 @@
+//! Laws of what listing boundary tables answers.
+
+mod laws;
+
+pub use laws::one_listing;

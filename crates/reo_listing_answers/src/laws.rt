@@ -1,7 +1,0 @@
-//! Laws of what listing boundary tables answers.
-ghost use Rattle.reo_listing_answers.specs.Laws.{ListingIsOne};
-
-/// A circuit is listed in one way, where memory does not run out.
-pub fn one_listing()
-    ensures { ListingIsOne }
-{}

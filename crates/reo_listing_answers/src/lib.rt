@@ -1,6 +1,0 @@
-//! Laws of what listing boundary tables answers.
-#![tactic(auto)]
-
-mod laws;
-
-pub use laws::one_listing;

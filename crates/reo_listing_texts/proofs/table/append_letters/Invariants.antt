@@ -1,6 +1,0 @@
-use Rattle.std.proofs.Common.{◌≡◌, ◌++◌, take}
-use Rattle.reo_listing_texts.specs.TableTexts.{letters}
-use Rattle.reo_listing_texts.proofs.table.append_letters.Given as goal
-
-abbrev pub invariant-loop-mark : goal.invariant-loop-mark
-invariant-loop-mark l = l.text ≡ l.initial.text ++ letters (take l.mark-index l.marks)

@@ -1,6 +1,0 @@
-use Rattle.std.proofs.Common.{◌≡◌, ◌++◌, take}
-use Rattle.reo_listing_texts.specs.TableTexts.{names_text}
-use Rattle.reo_listing_texts.proofs.table.append_names.Given as goal
-
-abbrev pub invariant-loop-place : goal.invariant-loop-place
-invariant-loop-place l = l.text ≡ l.initial.text ++ names_text l.ports (take l.place l.numbers)

@@ -1,0 +1,10 @@
+use Rattle.reo_rounds.specs.Rules.{rules_of}
+use Rattle.reo_rounds.proofs.OrderLemmas.{KeepsShape}
+use Rattle.reo_live.proofs.base.ExistsLemmas.{last_exists}
+use Rattle.reo_live.proofs.base.laws.ending_exists.Goals as goal
+
+pub returns : goal.returns
+returns g c =
+    let r = rules_of g.P.Primitive.behaviour g.P.Primitive.settled g.P.Ported.port_state g.P.Ported.placed g.P.Ported.withdrawn in
+    let shape : KeepsShape r = record { lawful = g.met.P.Primitive.lawful; settled = g.met.P.Primitive.settled_shape; placed = g.met.P.Ported.placed_shape; withdrawn = g.met.P.Ported.withdrawn_shape } in
+    λ ports budget s old. last_exists r budget c.first_exists.ensures c.over_is_decided.ensures ports c.each_line_is_answered.ensures shape s old

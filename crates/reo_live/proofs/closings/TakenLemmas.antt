@@ -1,0 +1,114 @@
+-- Bytes that were taken, piece by piece, and all that a source had.
+use Rattle.std.proofs.Common.{◌≡◌, ◌∙◌, ℕ, ◌≤◌, Bool, true, false, List, [], ◌∷◌, ◌++◌, take, sym, subst, ap, refl, arith, Result, Ok, Err}
+use Rattle.std.specs.Prelude.{Option, Some, None, IfSome}
+use Rattle.std.specs.Option.{unwrap_or}
+use Rattle.std.proofs.lemmas.Bool.{true≢false, false≢true}
+use Rattle.std.proofs.lemmas.List.{append-nil, append_assoc}
+use Rattle.reo_io.specs.Causes.{Rose}
+use Rattle.reo_io.specs.Sources.{Takes}
+use Rattle.reo_io.specs.declared.source.SourceFault.{SourceFault}
+use Rattle.reo_live.specs.closings.Sources.{SourceState, SourceChange, Events, AreTaken, AreTakenSoFar, IsTake}
+
+-- What a source told and tells.
+abbrev Left : Option (List ℕ) → Option (List ℕ) → List ℕ → Type 0
+Left told now bytes = IfSome told (λ all. (left : List ℕ) × (all ≡ bytes ++ left) × (now ≡ Some left))
+
+some_more : (all bytes room left : List ℕ) (mid now : Option (List ℕ)) (count : ℕ) → all ≡ bytes ++ left → mid ≡ Some left → Takes {E = SourceFault} mid now room (Ok count)
+    → (more : List ℕ) × (all ≡ (bytes ++ take count room) ++ more) × (now ≡ Some more)
+some_more all bytes room left mid now count is mid_is takes =
+    let took : Takes {E = SourceFault} (Some left) now room (Ok count) = subst (λ (o : Option (List ℕ)). Takes {E = SourceFault} o now room (Ok count)) mid_is takes in
+    (took.0, is ∙ (ap (λ (l : List ℕ). bytes ++ l) took.2 ∙ sym (append_assoc bytes (take count room) took.0)), took.1)
+
+left_more : (told mid now : Option (List ℕ)) (bytes room : List ℕ) (count : ℕ) → Left told mid bytes → Takes {E = SourceFault} mid now room (Ok count) → Left told now (bytes ++ take count room)
+left_more None mid now bytes room count h takes = tt
+left_more (Some all) mid now bytes room count h takes = some_more all bytes room h.0 mid now count h.1 h.2 takes
+
+some_same : (fault : SourceFault) (left : List ℕ) (mid now : Option (List ℕ)) (room : List ℕ) → mid ≡ Some left → Takes {E = SourceFault} mid now room (Err fault) → now ≡ Some left
+some_same fault left mid now room mid_is takes = subst (λ (o : Option (List ℕ)). Takes {E = SourceFault} o now room (Err fault)) mid_is takes
+
+left_same : (fault : SourceFault) (told mid now : Option (List ℕ)) (bytes room : List ℕ) → Left told mid bytes → Takes {E = SourceFault} mid now room (Err fault) → Left told now bytes
+left_same fault None mid now bytes room h takes = tt
+left_same fault (Some all) mid now bytes room h takes = (h.0, h.1, some_same fault h.0 mid now room h.2 takes)
+
+-- Nothing was left where no byte came.
+some_end : (left : List ℕ) (mid now : Option (List ℕ)) (room : List ℕ) → mid ≡ Some left → Takes {E = SourceFault} mid now room (Ok 0) → left ≡ []
+some_end left mid now room mid_is takes = (subst (λ (o : Option (List ℕ)). Takes {E = SourceFault} o now room (Ok 0)) mid_is takes).3 refl
+
+-- A source after a take, by what it told before.
+pub taken_more : (old mid new : SourceState) (bytes room : List ℕ) (count : ℕ) → AreTakenSoFar old mid bytes → IsTake {E = SourceFault} mid new room (Ok count) → mid.faults ≤ new.faults
+    → AreTakenSoFar old new (bytes ++ take count room)
+taken_more old mid new bytes room count h takes more = let was = h.later in record {
+  later = omega (arith, was, more);
+  given = takes.1 ∙ (ap (λ (g : List ℕ). g ++ take count room) h.given ∙ append_assoc old.given bytes (take count room));
+  told = left_more old.told mid.told new.told bytes room count h.told takes.0;
+}
+
+pub taken_same : (fault : SourceFault) (old mid new : SourceState) (bytes room : List ℕ) → AreTakenSoFar old mid bytes → IsTake {E = SourceFault} mid new room (Err fault) → mid.faults ≤ new.faults
+    → AreTakenSoFar old new bytes
+taken_same fault old mid new bytes room h takes more = let was = h.later in record {
+  later = omega (arith, was, more);
+  given = takes.1 ∙ h.given;
+  told = left_same fault old.told mid.told new.told bytes room h.told takes.0;
+}
+
+-- All bytes that a source had, or those that were taken.
+abbrev pub all_of : Option (List ℕ) → List ℕ → Events
+all_of told bytes = record { bytes = unwrap_or told bytes; failed = false }
+
+pub rest_of : (told now : Option (List ℕ)) (bytes : List ℕ) → Left told now bytes → (rest : List ℕ) × (unwrap_or told bytes ≡ bytes ++ rest)
+rest_of None now bytes h = ([], sym (append-nil bytes))
+rest_of (Some all) now bytes h = (h.0, h.1)
+
+whole_told : (told now : Option (List ℕ)) (bytes : List ℕ) → Left told now bytes
+    → IfSome told (λ all. (left : List ℕ) × (all ≡ bytes ++ left) × (now ≡ Some left) × (false ≡ false → unwrap_or told bytes ≡ all))
+whole_told None now bytes h = tt
+whole_told (Some all) now bytes h = (h.0, h.1, h.2, λ e. refl)
+
+pub whole_taken : (old new : SourceState) (bytes : List ℕ) → AreTakenSoFar old new bytes → AreTaken (all_of old.told bytes) (record { old = old; new = new })
+whole_taken old new bytes h = let found = rest_of old.told new.told bytes h.told in record {
+  taken = bytes;
+  rest = found.0;
+  front = found.1;
+  fault = λ e. absurd (false≢true e);
+  later = h.later;
+  given = h.given;
+  told = whole_told old.told new.told bytes h.told;
+}
+
+missed_told : (told now : Option (List ℕ)) (bytes : List ℕ) → Left told now bytes
+    → IfSome told (λ all. (left : List ℕ) × (all ≡ bytes ++ left) × (now ≡ Some left) × (true ≡ false → bytes ≡ all))
+missed_told None now bytes h = tt
+missed_told (Some all) now bytes h = (h.0, h.1, h.2, λ e. absurd (true≢false e))
+
+pub missed_taken : (old new : SourceState) (bytes : List ℕ) → AreTakenSoFar old new bytes → Rose old.faults new.faults
+    → AreTaken (record { bytes = bytes; failed = true }) (record { old = old; new = new })
+missed_taken old new bytes h rose = record {
+  taken = bytes;
+  rest = [];
+  front = sym (append-nil bytes);
+  fault = λ e. (refl, rose);
+  later = h.later;
+  given = h.given;
+  told = missed_told old.told new.told bytes h.told;
+}
+
+ended_told : (told mid now : Option (List ℕ)) (bytes room : List ℕ) → Left told mid bytes → Takes {E = SourceFault} mid now room (Ok 0)
+    → IfSome told (λ all. (left : List ℕ) × (all ≡ bytes ++ left) × (now ≡ Some left) × (false ≡ false → bytes ≡ all))
+ended_told None mid now bytes room h takes = tt
+ended_told (Some all) mid now bytes room h takes =
+    let none : h.0 ≡ [] = some_end h.0 mid now room h.2 takes in
+    let is : all ≡ bytes = h.1 ∙ (ap (λ (l : List ℕ). bytes ++ l) none ∙ append-nil bytes) in
+    let more = some_more all bytes room h.0 mid now 0 h.1 h.2 takes in
+    (more.0, more.1 ∙ ap (λ (l : List ℕ). l ++ more.0) (append-nil bytes), more.2, λ e. sym is)
+
+pub ended_taken : (old mid new : SourceState) (bytes room : List ℕ) → AreTakenSoFar old mid bytes → IsTake {E = SourceFault} mid new room (Ok 0) → mid.faults ≤ new.faults
+    → AreTaken (record { bytes = bytes; failed = false }) (record { old = old; new = new })
+ended_taken old mid new bytes room h takes more = let was = h.later in record {
+  taken = bytes;
+  rest = [];
+  front = sym (append-nil bytes);
+  fault = λ e. absurd (false≢true e);
+  later = omega (arith, was, more);
+  given = takes.1 ∙ (append-nil mid.given ∙ h.given);
+  told = ended_told old.told mid.told new.told bytes room h.told takes.0;
+}

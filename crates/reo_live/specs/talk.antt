@@ -1,0 +1,6 @@
+pub mod Outcomes
+pub mod Talks
+pub mod Offers
+pub mod Rounds
+pub mod Feeds
+pub mod Fed

@@ -1,0 +1,143 @@
+//! Lines that are judged.
+ghost use Rattle.std.specs.Prelude.{◌≡◌, ◌<◌, ◌≤◌, ◌+◌, ◌^◌, length, All, cond, IfOk, Ok, Some, None, false};
+ghost use Rattle.reo_rules.specs.literals.Items.{HasFewNames};
+ghost use Rattle.reo_net_base.specs.declared.port.Port.{Port as APort};
+ghost use Rattle.reo_rounds.specs.Rules.{rules_of};
+ghost use Rattle.reo_live.specs.base.Events.{Does};
+ghost use Rattle.reo_live.specs.base.Held.{short};
+ghost use Rattle.reo_live.specs.base.Hearing.{Judges};
+ghost use Rattle.reo_live.specs.declared.base.fault.LineFault.TheVariants as wrongs;
+ghost use Rattle.reo_live.specs.talk.Offers.{IsCauseOf, refusal_if};
+ghost use Rattle.reo_live.specs.talk.Talks.{stand_of, told_by};
+
+use crate::base::{Answer, LineFault};
+use crate::talk::offers::{is_pending, make_offer, take_back};
+use crate::talk::rounds::make_round;
+use reo_engine::Engine;
+use reo_net_base::{Offer, Ported, Ports};
+use reo_script::{Event, EventFault, read_event};
+use reo_values::NoMemory;
+use std::alloc::Global;
+
+/// The refusal of a line that is too long.
+pub(crate) fn too_long(line: u64) -> Answer
+    ensures { result ≡ Answer.Refused line wrongs.Long }
+{
+    let fault = LineFault::Long;
+    Answer::Refused { line, fault }
+}
+
+/// The refusal of a line, where there is a cause.
+fn refusal_if(line: u64, cause: Option<LineFault>) -> Option<Answer>
+    ensures { result ≡ refusal_if line cause }
+{
+    match cause {
+        None => None,
+        Some(fault) => Some(Answer::Refused { line, fault }),
+    }
+}
+
+/// The cause of a withdraw at whose port nothing was pending.
+fn cause_unless(was_pending: bool) -> Option<LineFault>
+    ensures { result ≡ cond was_pending None (Some wrongs.Nothing) }
+{
+    if was_pending {
+        None
+    } else {
+        Some(LineFault::Nothing)
+    }
+}
+
+/// The cause of a write whose literal is outside the port's type.
+fn cause_outside<P: Ported>(engine: &Engine<P>, port: usize) -> LineFault
+    ensures { let r = rules_of P.behaviour P.settled P.port_state P.placed P.withdrawn in
+        IsCauseOf r engine.now.circuit (EventFault.ItemOutside port) result }
+{
+    if is_pending(engine, port) {
+        LineFault::Pending
+    } else {
+        LineFault::Outside
+    }
+}
+
+/// The cause of a line that is no event for the ports. `NoMemory` is out of memory.
+fn cause_of<P: Ported>(engine: &Engine<P>, fault: EventFault) -> Result<LineFault, NoMemory>
+    ensures { let r = rules_of P.behaviour P.settled P.port_state P.placed P.withdrawn in
+        IfOk result (IsCauseOf r engine.now.circuit fault) }
+{
+    match fault {
+        EventFault::Form => Ok(LineFault::Form),
+        EventFault::NoPort => Ok(LineFault::Port),
+        EventFault::WrongWay => Ok(LineFault::Way),
+        EventFault::ItemOutside { port } => Ok(cause_outside(engine, port)),
+        EventFault::NoMemory => Err(NoMemory),
+    }
+}
+
+/// Lets an event happen that stands behind so many lines, and answers its line.
+fn happen<P: Ported>(
+    alloc: Global,
+    engine: &mut Engine<P>,
+    budget: u64,
+    lines: u64,
+    event: Event,
+) -> Result<Option<Answer>, NoMemory>
+    requires small { budget < 10 ^ 18 }
+    requires few { engine.old.rounds < 2 ^ 63 }
+    requires fewer { lines + 1 < 2 ^ 63 }
+    ensures does { let r = rules_of P.behaviour P.settled P.port_state P.placed P.withdrawn in
+        IfOk result (λ answer. Does r budget (stand_of engine.old lines false) (Ok event)
+        (told_by engine.new (lines + 1) answer)) }
+    ensures rounds { engine.new.rounds ≤ engine.old.rounds + 1 }
+{
+    match event {
+        Event::Nothing => Ok(None),
+        Event::Write { port, item } => {
+            let cause = make_offer(engine, port, Offer::Write(item));
+            Ok(refusal_if(lines + 1, cause))
+        }
+        Event::Take { port } => {
+            let cause = make_offer(engine, port, Offer::Take);
+            Ok(refusal_if(lines + 1, cause))
+        }
+        Event::Withdraw { port } => {
+            let cause = cause_unless(take_back(engine, port));
+            Ok(refusal_if(lines + 1, cause))
+        }
+        Event::Round => Ok(Some(make_round(alloc, engine, budget)?)),
+        Event::End => {
+            let rounds = engine.rounds();
+            Ok(Some(Answer::Ended { rounds }))
+        }
+    }
+}
+
+/// Judges a line of these bytes that stands behind so many lines. `NoMemory` is out of memory.
+pub(crate) fn judge<P: Ported>(
+    alloc: Global,
+    engine: &mut Engine<P>,
+    ports: &Ports,
+    budget: u64,
+    lines: u64,
+    line: &[u8],
+) -> Result<Option<Answer>, NoMemory>
+    requires small { budget < 10 ^ 18 }
+    requires few { engine.old.rounds < 2 ^ 63 }
+    requires fewer { lines + 1 < 2 ^ 63 }
+    requires short { length line.now ≤ 65536 }
+    requires names { All (λ (p : APort). HasFewNames p.kindred) ports.now.list }
+    ensures judges { let r = rules_of P.behaviour P.settled P.port_state P.placed P.withdrawn in
+        let stand = stand_of engine.old lines false in
+        IfOk result (λ answer. Judges r ports.now.list budget stand (short line.now)
+        (told_by engine.new (lines + 1) answer)) }
+    ensures rounds { engine.new.rounds ≤ engine.old.rounds + 1 }
+{
+    match read_event(alloc, line, ports) {
+        Ok(event) => happen(alloc, engine, budget, lines, event),
+        Err(fault) => {
+            let fault = cause_of(engine, fault)?;
+            let line = lines + 1;
+            Ok(Some(Answer::Refused { line, fault }))
+        }
+    }
+}

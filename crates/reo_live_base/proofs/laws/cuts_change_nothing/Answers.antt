@@ -1,8 +1,0 @@
-use Rattle.reo_rounds.specs.Rules.{rules_of}
-use Rattle.reo_live_base.proofs.SumLemmas.{after-sum}
-use Rattle.reo_live_base.proofs.laws.cuts_change_nothing.Goals as goal
-
-pub returns : goal.returns
-returns g c =
-    let r = rules_of g.P.Primitive.behaviour g.P.Primitive.settled g.P.Ported.port_state g.P.Ported.placed g.P.Ported.withdrawn in
-    λ ports budget s t u a b x y h k. after-sum r ports budget s t u a b x y h k

@@ -1,5 +1,0 @@
-use Rattle.reo_loops.proofs.Places.{looped-so, looped-only}
-use Rattle.reo_loops.proofs.laws.loops_by_last_tokens.Goals as goal
-
-pub returns : goal.returns
-returns c limit ts = (looped-only limit ts, looped-so limit ts)

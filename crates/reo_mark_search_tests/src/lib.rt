@@ -1,9 +1,0 @@
-//! Searches by marks, beside the search that goes through all: tests alone.
-#![tactic(auto)]
-
-#[cfg(test)]
-mod building;
-#[cfg(test)]
-mod cases;
-#[cfg(test)]
-mod tests;

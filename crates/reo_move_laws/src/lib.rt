@@ -1,6 +1,0 @@
-//! Laws of the moves of a round. Each function is empty: its contract is a law.
-#![tactic(auto)]
-
-mod laws;
-
-pub use laws::{moves_are_flows, moves_are_offers};

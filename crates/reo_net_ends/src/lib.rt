@@ -1,9 +1,0 @@
-//! The joint at each end of a circuit, found once for all.
-#![tactic(auto)]
-
-mod ends;
-mod laws;
-mod noted;
-
-pub use ends::{Ends, ends_of};
-pub use laws::{ends_find_joints, ends_stay};

@@ -1,5 +1,0 @@
-use Rattle.reo_net_order.proofs.WalkLemmas.{order_no_cycle}
-use Rattle.reo_net_order.proofs.laws.order_has_no_cycle.Goals as goal
-
-pub returns : goal.returns
-returns c = order_no_cycle

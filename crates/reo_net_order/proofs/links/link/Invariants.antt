@@ -1,5 +1,0 @@
-use Rattle.reo_net_order.proofs.LinkLemmas.{Linking}
-use Rattle.reo_net_order.proofs.links.link.Given as goal
-
-abbrev pub invariant-loop-arrow : goal.invariant-loop-arrow
-invariant-loop-arrow l = Linking l.ends l.first.items l.next.items l.sides l.arrow

@@ -1,7 +1,0 @@
-use Rattle.std.proofs.Common.{ℕ, ◌<◌}
-use Rattle.reo_net_plain.specs.Chosen.{IsChosen}
-use Rattle.reo_net_plain.proofs.next.first_left.Given as goal
-
--- Each side so far is chosen.
-abbrev pub invariant-loop-side : goal.invariant-loop-side
-invariant-loop-side g l = (k : ℕ) → k < l.side → IsChosen l.chosen k

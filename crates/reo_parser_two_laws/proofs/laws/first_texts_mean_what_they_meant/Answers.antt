@@ -1,5 +1,0 @@
-use Rattle.reo_parser_two_laws.proofs.Versions.{first-meant}
-use Rattle.reo_parser_two_laws.proofs.laws.first_texts_mean_what_they_meant.Goals as goal
-
-pub returns : goal.returns
-returns c text r first h = first-meant text r first h

@@ -1,8 +1,0 @@
-//! One round of a proof text, judged and made on its circuit.
-#![tactic(auto)]
-
-mod rounds;
-mod stop;
-
-pub use rounds::prove_round;
-pub use stop::RoundStop;

@@ -1,0 +1,18 @@
+use Rattle.std.proofs.Common.{◌≡◌, false, cond, length, []}
+use Rattle.std.specs.Prelude.{IsTrue}
+use Rattle.reo_net_base.specs.Net.{net_of}
+use Rattle.reo_refute_base.specs.Places.{IsAllowed}
+use Rattle.reo_refute_live.specs.Open.{open_in, IsOpen, IsClosed}
+use Rattle.reo_refute.proofs.check.Taking.{Leads}
+use Rattle.reo_refute.proofs.check.part.check_part.Given as goal
+
+-- The lines so far lead a reader from one branch to those that are open.
+abbrev pub invariant-loop-open : goal.invariant-loop-open
+invariant-loop-open g l = record {
+  open_is : IsTrue l.open → IsOpen l.lists l.live;
+  closed_is : l.open ≡ false → IsClosed l.lists l.live;
+  leads : Leads (net_of g.P.Primitive.behaviour l.circuit) l.lists (IsAllowed (net_of g.P.Primitive.behaviour l.circuit) l.turn l.given l.number) l.initial.lines l.lines (cond l.open (open_in l.live) []);
+}
+
+abbrev pub decreases-loop-open : goal.decreases-loop-open
+decreases-loop-open g l = length l.lines.left

@@ -1,0 +1,13 @@
+use Rattle.reo_net_base.specs.Net.{net_of}
+use Rattle.reo_refute_parts.specs.places.AllowedRows.{AreAgreeing}
+use Rattle.reo_refute_live.specs.Open.{IsClosed}
+use Rattle.reo_refute.specs.check.Judging.{ArePassed}
+use Rattle.reo_refute.proofs.check.parts.check_parts.Given as goal
+
+-- The lines so far go past the places so far.
+abbrev pub invariant-loop-number : goal.invariant-loop-number
+invariant-loop-number g l = record {
+  agreeing : AreAgreeing (net_of g.P.Primitive.behaviour l.circuit) l.turn l.given l.number l.allowed.agreeing;
+  closed : IsClosed l.lists l.live;
+  passed : ArePassed (net_of g.P.Primitive.behaviour l.circuit) l.turn l.given l.lists 0 l.number l.initial.lines l.lines;
+}

@@ -1,0 +1,18 @@
+use Rattle.std.proofs.Common.{cond, []}
+use Rattle.std.specs.Prelude.{IsTrue}
+use Rattle.reo_net_base.specs.Net.{net_of}
+use Rattle.reo_refute_base.specs.Places.{IsAllowed}
+use Rattle.reo_refute_base.specs.measure.Owed.{owed}
+use Rattle.reo_refute_live.specs.Open.{open_in, IsOpen}
+use Rattle.reo_refute.proofs.proving.Writing.{Leads}
+use Rattle.reo_refute.proofs.proving.branch.put_branch.Given as goal
+
+-- The lines so far lead a reader from one branch to those that are open.
+abbrev pub invariant-loop-open : goal.invariant-loop-open
+invariant-loop-open g l = record {
+  open_is : IsTrue l.open → IsOpen l.lists l.live;
+  leads : Leads (net_of g.P.Primitive.behaviour l.circuit) l.lists (IsAllowed (net_of g.P.Primitive.behaviour l.circuit) l.turn l.given l.number) l.initial.out l.out (cond l.open (open_in l.live) []);
+}
+
+abbrev pub decreases-loop-open : goal.decreases-loop-open
+decreases-loop-open g l = owed (net_of g.P.Primitive.behaviour l.circuit) l.lists (cond l.open (open_in l.live) [])

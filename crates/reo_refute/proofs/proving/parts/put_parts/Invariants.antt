@@ -1,0 +1,11 @@
+use Rattle.reo_net_base.specs.Net.{net_of}
+use Rattle.reo_refute_parts.specs.places.AllowedRows.{AreAgreeing}
+use Rattle.reo_refute.specs.proving.Making.{ArePartsMade}
+use Rattle.reo_refute.proofs.proving.parts.put_parts.Given as goal
+
+-- The lines so far go past the places so far.
+abbrev pub invariant-loop-number : goal.invariant-loop-number
+invariant-loop-number g l = record {
+  agreeing : AreAgreeing (net_of g.P.Primitive.behaviour l.circuit) l.turn l.given l.number l.allowed.agreeing;
+  made : ArePartsMade (net_of g.P.Primitive.behaviour l.circuit) l.turn l.given l.lists 0 l.number l.initial.out l.out;
+}

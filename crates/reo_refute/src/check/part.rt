@@ -1,0 +1,90 @@
+//! One part of a log.
+ghost use Rattle.reo_refute_base.specs.declared.line.LogLine.TheVariants.{At as AtPlace};
+ghost use Rattle.std.specs.Prelude.{◌≢◌, true, false, ◌≡◌, ◌<◌, ℕ, List, OnOk, length};
+ghost use Rattle.reo_net_base.specs.Net.{net_of};
+ghost use Rattle.reo_refute_base.specs.Places.{IsAllowed};
+ghost use Rattle.reo_refute_parts.specs.places.AllowedRows.{AreAllowedRows};
+ghost use Rattle.reo_refute_live.specs.support.Columns.{AreTables};
+ghost use Rattle.reo_refute_live.specs.Open.{AreSmall, IsClosed};
+ghost use Rattle.reo_refute.specs.check.Judging.{IsPartTaken};
+ghost use Rattle.reo_refute.specs.check.Reading.{IsShort, IsAtTaken};
+
+use crate::check::lines::Lines;
+use crate::check::step::step;
+use crate::check::stop::Stop;
+use reo_net_base::Primitive;
+use reo_net_circuit::Circuit;
+use reo_refute_base::LogLine;
+use reo_refute_live::{Column, Live};
+use reo_refute_parts::Allowed;
+use reo_values::{List, Value};
+use std::alloc::Global;
+
+/// Whether a line begins the part of a place.
+fn is_at(line: LogLine, number: usize) -> bool
+    ensures yes { result ≡ true → line ≡ AtPlace number }
+    ensures no { result ≡ false → line ≢ AtPlace number }
+{
+    match line {
+        LogLine::At(place) => place == number,
+        LogLine::Drop(_, _, _) => false,
+        LogLine::Empty(_) => false,
+        LogLine::Split(_) => false,
+    }
+}
+
+/// Takes the line that begins the part of a place.
+pub(crate) fn take_at(lines: &mut Lines, number: usize) -> Result<(), Stop>
+    requires { IsShort lines.old }
+    ensures { IsAtTaken number lines.old lines.new result }
+{
+    match lines.next() {
+        None => Err(lines.wrong()),
+        Some(line) => {
+            if is_at(line, number) {
+                Ok(())
+            } else {
+                Err(lines.wrong())
+            }
+        }
+    }
+}
+
+/// Takes the lines of a branch in which all values are live first, and those of the branches of its
+/// splits, to the last of them.
+pub(crate) fn check_part<P: Primitive>(
+    alloc: Global,
+    circuit: &Circuit<P>,
+    turn: u64,
+    given: &[u32],
+    number: usize,
+    lists: &[List<Value>],
+    tables: &List<List<Column>>,
+    allowed: &Allowed,
+    live: &mut Live,
+    lines: &mut Lines,
+    rows: &mut Vec<u8>,
+) -> Result<(), Stop>
+    requires tables { AreTables (net_of P.behaviour circuit.now) tables.now }
+    requires lists { length lists.now ≡ length circuit.now.joints }
+    requires small { AreSmall lists.now }
+    requires allowed { AreAllowedRows (net_of P.behaviour circuit.now) turn given.now number
+        allowed.now }
+    requires closed { IsClosed lists.now live.old }
+    requires short { IsShort lines.old }
+    ensures part { let net = net_of P.behaviour circuit.now in
+        IsPartTaken net lists.now (IsAllowed net turn given.now number) lines.old lines.new result }
+    ensures closed { OnOk result (IsClosed lists.now live.new) }
+{
+    live.restart(lists);
+    let mut open = true;
+    while open {
+        match step(
+            alloc, circuit, turn, given, number, lists, tables, allowed, live, lines, rows,
+        ) {
+            Ok(more) => open = more,
+            Err(stop) => return Err(stop),
+        }
+    }
+    Ok(())
+}

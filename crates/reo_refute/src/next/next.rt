@@ -1,0 +1,122 @@
+//! The next line of a branch.
+ghost use Rattle.std.specs.Prelude.{◌≡◌, ◌≢◌, ◌<◌, ◌≤◌, ◌^◌, ℕ, List, [], IfOk, MatchOption, length};
+ghost use Rattle.reo_net_base.specs.Net.{net_of};
+ghost use Rattle.reo_refute_base.specs.Live.{live_at};
+ghost use Rattle.reo_refute_base.specs.Places.{IsAllowed};
+ghost use Rattle.reo_refute_base.specs.measure.Owed.{AreTwo};
+ghost use Rattle.reo_refute_parts.specs.places.AllowedRows.{AreAllowedRows};
+ghost use Rattle.reo_refute_live.specs.support.Columns.{AreTables};
+ghost use Rattle.reo_refute_live.specs.support.Families.{family_of};
+ghost use Rattle.reo_refute_live.specs.Open.{IsOpen, AreSmall};
+ghost use Rattle.reo_refute.specs.next.Next.{HasOne, IsKept, IsNextLine, LeadsOn};
+
+use crate::next::joint::line_at;
+use crate::next::looking::has_two;
+use reo_net_base::Primitive;
+use reo_net_circuit::Circuit;
+use reo_refute_base::LogLine;
+use reo_refute_live::{Column, Live};
+use reo_refute_parts::Allowed;
+use reo_values::{List, NoMemory, Value};
+
+/// The line of the first joint of some in a row at which no value is live, or one may go, if there
+/// is such a joint.
+fn kept_or_line<P: Primitive>(
+    circuit: &Circuit<P>,
+    turn: u64,
+    given: &[u32],
+    number: usize,
+    lists: &[List<Value>],
+    tables: &List<List<Column>>,
+    allowed: &Allowed,
+    live: &Live,
+    from: usize,
+    to: usize,
+    rows: &mut Vec<u8>,
+) -> Result<Option<LogLine>, NoMemory>
+    requires tables { AreTables (net_of P.behaviour circuit.now) tables.now }
+    requires lists { length lists.now ≡ length circuit.now.joints }
+    requires open { IsOpen lists.now live.now }
+    requires allowed { AreAllowedRows (net_of P.behaviour circuit.now) turn given.now number
+        allowed.now }
+    requires small { AreSmall lists.now }
+    requires to { to ≤ length circuit.now.joints }
+    ensures { let net = net_of P.behaviour circuit.now in
+        let family = family_of live.now.table in
+        IfOk result (λ found. MatchOption found
+        ((j : ℕ) → from ≤ j → j < to
+        → IsKept net lists.now (IsAllowed net turn given.now number) family j)
+        (LeadsOn net lists.now (IsAllowed net turn given.now number) family)) }
+{
+    for joint in from..to {
+        match line_at(
+            circuit, turn, given, number, lists, tables, allowed, live, joint, rows,
+        )? {
+            Some(line) => return Ok(Some(line)),
+            None => {}
+        }
+    }
+    Ok(None)
+}
+
+/// The first joint at which two values are live, if there is one.
+fn first_double(lists: &[List<Value>], live: &Live) -> Option<usize>
+    requires open { IsOpen lists.now live.now }
+    requires small { AreSmall lists.now }
+    ensures { let family = family_of live.now.table in MatchOption result
+        ((j : ℕ) → j < length lists.now → live_at lists.now family j ≢ []
+        → HasOne lists.now family j)
+        (λ j. (j < length lists.now) × AreTwo lists.now family j) }
+{
+    for joint in 0..lists.len() {
+        if has_two(lists, live, joint) {
+            return Some(joint);
+        }
+    }
+    None
+}
+
+/// The next line of a branch at a place: `Drop` of a live value that has no support, or `Empty` of
+/// a joint at which no value is live, or `Split` of one at which two are; or `None` where at each
+/// joint one value is live, with support at both its sides. Joints are looked at from the one of a
+/// number on, which may be any, and then those before it. What the buffer held does not matter.
+/// `NoMemory` is out of memory.
+pub fn next_line<P: Primitive>(
+    circuit: &Circuit<P>,
+    turn: u64,
+    given: &[u32],
+    number: usize,
+    lists: &[List<Value>],
+    tables: &List<List<Column>>,
+    allowed: &Allowed,
+    live: &Live,
+    from: usize,
+    rows: &mut Vec<u8>,
+) -> Result<Option<LogLine>, NoMemory>
+    requires tables { AreTables (net_of P.behaviour circuit.now) tables.now }
+    requires lists { length lists.now ≡ length circuit.now.joints }
+    requires open { IsOpen lists.now live.now }
+    requires allowed { AreAllowedRows (net_of P.behaviour circuit.now) turn given.now number
+        allowed.now }
+    requires small { AreSmall lists.now }
+    ensures { let net = net_of P.behaviour circuit.now in
+        IfOk result (IsNextLine net lists.now (IsAllowed net turn given.now number)
+        (family_of live.now.table)) }
+{
+    let count = circuit.joint_count();
+    let from = from.min(count);
+    match kept_or_line(
+        circuit, turn, given, number, lists, tables, allowed, live, from, count, rows,
+    )? {
+        Some(line) => Ok(Some(line)),
+        None => match kept_or_line(
+            circuit, turn, given, number, lists, tables, allowed, live, 0, from, rows,
+        )? {
+            Some(line) => Ok(Some(line)),
+            None => match first_double(lists, live) {
+                Some(joint) => Ok(Some(LogLine::Split(joint))),
+                None => Ok(None),
+            },
+        },
+    }
+}

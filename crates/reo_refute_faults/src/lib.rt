@@ -1,9 +1,0 @@
-//! What is answered for a log: that it shows that rows are first, or why it does not. Each law is
-//! an empty function.
-#![tactic(auto)]
-
-mod fault;
-mod laws;
-
-pub use fault::ProofFault;
-pub use laws::{one_fault, proof_or_fault};

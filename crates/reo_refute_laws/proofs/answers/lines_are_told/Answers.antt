@@ -1,5 +1,0 @@
-use Rattle.reo_refute_laws.proofs.LineTexts.{lines_are_told}
-use Rattle.reo_refute_laws.proofs.answers.lines_are_told.Goals as goal
-
-pub returns : goal.returns
-returns c = lines_are_told

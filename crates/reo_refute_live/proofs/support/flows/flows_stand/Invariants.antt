@@ -1,0 +1,13 @@
+use Rattle.std.proofs.Common.{◌<◌, ℕ, get_or}
+use Rattle.reo_net_base.specs.Net.{net_of}
+use Rattle.reo_refute_base.specs.Items.{numbered}
+use Rattle.reo_refute_base.specs.Live.{alone}
+use Rattle.reo_refute_live.specs.support.Columns.{no_column}
+use Rattle.reo_refute_live.specs.support.Families.{family_of}
+use Rattle.reo_refute_live.specs.support.Flows.{FlowStands}
+use Rattle.reo_refute_live.proofs.support.flows.flows_stand.Given as goal
+
+-- What flows by the columns so far may stand.
+abbrev pub invariant-loop-index : goal.invariant-loop-index
+invariant-loop-index g l = (m : ℕ) → m < l.index
+    → FlowStands (net_of g.P.Primitive.behaviour l.circuit) (numbered l.lists) (alone (family_of l.live) l.held l.value) l.side l.row (get_or l.columns m no_column)

@@ -1,0 +1,9 @@
+use Rattle.reo_net_base.specs.Net.{net_of}
+use Rattle.reo_refute_base.specs.Live.{alone}
+use Rattle.reo_refute_live.specs.support.Families.{family_of}
+use Rattle.reo_refute_live.proofs.support.Keeping.{AreLeft}
+use Rattle.reo_refute_live.proofs.support.support.keep_fitting.Given as goal
+
+-- The bytes that are left behind the columns so far.
+abbrev pub invariant-loop-index : goal.invariant-loop-index
+invariant-loop-index g l = AreLeft (net_of g.P.Primitive.behaviour l.circuit) (alone (family_of l.live) l.held l.value) l.columns l.index l.initial.rows l.rows

@@ -1,0 +1,226 @@
+//! Whether what a row takes in and gives with flow may stand.
+ghost use Rattle.std.specs.Prelude.{◌≡◌, ◌↔◌, ◌<◌, IsTrue, Some, None, true, false, length, option_copied, slice_index};
+ghost use Rattle.reo_net_base.specs.Net.{net_of};
+ghost use Rattle.reo_net_laws.specs.Ends.{IsRowOf};
+ghost use Rattle.reo_joint_values.specs.Works.{Follows, IsGivenIn, TakerHas};
+ghost use Rattle.reo_refute_base.specs.Items.{numbered};
+ghost use Rattle.reo_refute_base.specs.Live.{alone};
+ghost use Rattle.reo_refute_live.specs.support.Columns.{IsColumn};
+ghost use Rattle.reo_refute_live.specs.support.Families.{family_of};
+ghost use Rattle.reo_refute_live.specs.support.Flows.{AreReady, GivesFlow, TakesFlow, IsPassedOn, FlowStands, FlowsStand};
+
+use crate::support::columns::Column;
+use crate::support::items::{gives_item, lets_in, source_of};
+use crate::support::live::{LiveAt, may_flow};
+use reo_joint_values::JointValue;
+use reo_net_base::Primitive;
+use reo_net_circuit::Circuit;
+use reo_values::{List, Value};
+
+/// The byte of flow.
+const FLOW: u8 = 1;
+
+/// Whether at a joint some item that may flow is what a row gives there for what it takes.
+fn gives_some<P: Primitive>(
+    circuit: &Circuit<P>,
+    lists: &[List<Value>],
+    columns: &[Column],
+    live: &[LiveAt],
+    held: usize,
+    value: JointValue,
+    side: usize,
+    row: usize,
+    joint: usize,
+    taken: Option<&Value>,
+) -> bool
+    requires ready { let net = net_of P.behaviour circuit.now in
+        AreReady net side lists.now columns.now live.now }
+    requires row { IsRowOf (net_of P.behaviour circuit.now) side row }
+    requires gives { GivesFlow (net_of P.behaviour circuit.now) side row joint }
+    ensures { let net = net_of P.behaviour circuit.now in
+        IsTrue result ↔ IsGivenIn net (numbered lists.now) (alone (family_of live.now) held value)
+        row joint (option_copied taken.entry) }
+{
+    let _ = columns;
+    let items = &lists[joint];
+    for number in 0..items.len() {
+        if may_flow(live, held, value, joint, number)
+            && gives_item(circuit, side, row, joint, taken, items.at(number))
+        {
+            return true;
+        }
+    }
+    false
+}
+
+/// Whether what a row gives with flow at the one joint hangs on what it takes in at the other.
+fn follows<P: Primitive>(
+    circuit: &Circuit<P>,
+    side: usize,
+    row: usize,
+    joint: usize,
+    source: usize,
+) -> bool
+    requires row { IsRowOf (net_of P.behaviour circuit.now) side row }
+    requires gives { GivesFlow (net_of P.behaviour circuit.now) side row joint }
+    requires source { source < length circuit.now.joints }
+    ensures { IsTrue result ↔ Follows (net_of P.behaviour circuit.now) row joint source }
+{
+    let taker = circuit.joint(source).taker;
+    circuit.joint(joint).giver.primitive == taker.primitive
+        && source_of(circuit, side, row, joint) == Some(taker.end)
+}
+
+/// Whether a row flows at a column.
+fn flows_at(column: &Column, row: usize) -> bool
+    requires { row < length column.now.marks }
+    ensures { IsTrue result ↔ (slice_index column.now.marks row ≡ 1) }
+{
+    *column.marks.at(row) == FLOW
+}
+
+/// Whether some item may flow at each joint where a row gives for an item that it takes in.
+fn passes_on<P: Primitive>(
+    circuit: &Circuit<P>,
+    lists: &[List<Value>],
+    columns: &[Column],
+    live: &[LiveAt],
+    held: usize,
+    value: JointValue,
+    side: usize,
+    row: usize,
+    joint: usize,
+    item: &Value,
+) -> bool
+    requires ready { let net = net_of P.behaviour circuit.now in
+        AreReady net side lists.now columns.now live.now }
+    requires row { IsRowOf (net_of P.behaviour circuit.now) side row }
+    requires takes { TakesFlow (net_of P.behaviour circuit.now) side row joint }
+    ensures { let net = net_of P.behaviour circuit.now in
+        IsTrue result ↔ IsPassedOn net (numbered lists.now) (alone (family_of live.now) held value)
+        side row joint (Some item.now) }
+{
+    circuit.known();
+    for index in 0..columns.len() {
+        let other = &columns[index];
+        if other.gives
+            && flows_at(other, row)
+            && follows(circuit, side, row, other.joint, joint)
+            && !gives_some(
+                circuit,
+                lists,
+                columns,
+                live,
+                held,
+                value,
+                side,
+                row,
+                other.joint,
+                Some(item),
+            )
+        {
+            return false;
+        }
+    }
+    true
+}
+
+/// Whether at a joint a row lets in some item that may flow and for which it gives items that may.
+fn takes_some<P: Primitive>(
+    circuit: &Circuit<P>,
+    lists: &[List<Value>],
+    columns: &[Column],
+    live: &[LiveAt],
+    held: usize,
+    value: JointValue,
+    side: usize,
+    row: usize,
+    joint: usize,
+) -> bool
+    requires ready { let net = net_of P.behaviour circuit.now in
+        AreReady net side lists.now columns.now live.now }
+    requires row { IsRowOf (net_of P.behaviour circuit.now) side row }
+    requires takes { TakesFlow (net_of P.behaviour circuit.now) side row joint }
+    ensures { let net = net_of P.behaviour circuit.now in
+        IsTrue result ↔ TakerHas net (numbered lists.now) (alone (family_of live.now) held value)
+        side row joint }
+{
+    let items = &lists[joint];
+    for number in 0..items.len() {
+        let item = items.at(number);
+        if may_flow(live, held, value, joint, number)
+            && lets_in(circuit, side, row, joint, item)
+            && passes_on(
+                circuit, lists, columns, live, held, value, side, row, joint, item,
+            )
+        {
+            return true;
+        }
+    }
+    false
+}
+
+/// Whether what a row takes in or gives by a column, where it flows there, may stand.
+fn flow_stands<P: Primitive>(
+    circuit: &Circuit<P>,
+    lists: &[List<Value>],
+    columns: &[Column],
+    live: &[LiveAt],
+    held: usize,
+    value: JointValue,
+    side: usize,
+    row: usize,
+    column: &Column,
+) -> bool
+    requires ready { let net = net_of P.behaviour circuit.now in
+        AreReady net side lists.now columns.now live.now }
+    requires row { IsRowOf (net_of P.behaviour circuit.now) side row }
+    requires column { IsColumn (net_of P.behaviour circuit.now) side column.now }
+    ensures { let net = net_of P.behaviour circuit.now in
+        IsTrue result ↔ FlowStands net (numbered lists.now) (alone (family_of live.now) held value)
+        side row column.now }
+{
+    circuit.known();
+    if !flows_at(column, row) {
+        return true;
+    }
+    let joint = column.joint;
+    if !column.gives {
+        return takes_some(circuit, lists, columns, live, held, value, side, row, joint);
+    }
+    match source_of(circuit, side, row, joint) {
+        Some(_) => true,
+        None => gives_some(
+            circuit, lists, columns, live, held, value, side, row, joint, None,
+        ),
+    }
+}
+
+/// Whether what a row takes in and gives with flow may stand at each column.
+pub(crate) fn flows_stand<P: Primitive>(
+    circuit: &Circuit<P>,
+    lists: &[List<Value>],
+    columns: &[Column],
+    live: &[LiveAt],
+    held: usize,
+    value: JointValue,
+    side: usize,
+    row: usize,
+) -> bool
+    requires ready { let net = net_of P.behaviour circuit.now in
+        AreReady net side lists.now columns.now live.now }
+    requires row { IsRowOf (net_of P.behaviour circuit.now) side row }
+    ensures { let net = net_of P.behaviour circuit.now in
+        IsTrue result ↔ FlowsStand net (numbered lists.now) (alone (family_of live.now) held value)
+        side row columns.now }
+{
+    for index in 0..columns.len() {
+        let column = &columns[index];
+        if !flow_stands(
+            circuit, lists, columns, live, held, value, side, row, column,
+        ) {
+            return false;
+        }
+    }
+    true
+}

@@ -1,9 +1,0 @@
-use Rattle.std.proofs.Common.{◌<◌, ◌≢◌, ℕ, []}
-use Rattle.reo_refute_base.specs.Live.{live_at}
-use Rattle.reo_refute_support.specs.Families.{family_of}
-use Rattle.reo_refute_next.specs.Next.{HasOne}
-use Rattle.reo_refute_next.proofs.next.first_double.Given as goal
-
--- At none of the joints so far two values are live.
-abbrev pub invariant-loop-joint : goal.invariant-loop-joint
-invariant-loop-joint l = (j : ℕ) → j < l.joint → live_at l.lists (family_of l.live.table) j ≢ [] → HasOne l.lists (family_of l.live.table) j

@@ -1,0 +1,3 @@
+pub mod lines
+pub mod lists
+pub mod places

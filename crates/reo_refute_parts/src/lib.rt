@@ -1,0 +1,10 @@
+//! Parts of the judge of logs: lines, lists of items, and places of keys.
+#![tactic(auto)]
+
+mod lines;
+mod lists;
+mod places;
+
+pub use lines::{Reader, line, put_line};
+pub use lists::item_lists;
+pub use places::{Allowed, KeyPlace, Number, key_places};

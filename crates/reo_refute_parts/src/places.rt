@@ -1,0 +1,10 @@
+//! The places of a key, and the rows of sides that are allowed there.
+
+mod allowed;
+mod marking;
+mod place;
+mod places;
+
+pub use allowed::Allowed;
+pub use place::{KeyPlace, Number};
+pub use places::key_places;

@@ -1,6 +1,0 @@
-//! Support of values by rows alone, as mathematics. The function is empty: its contract is a law.
-#![tactic(auto)]
-
-mod laws;
-
-pub use laws::support_is_by_rows;

@@ -1,9 +1,0 @@
-//! What runs ask for: the ports of flat circuits, and the actions of scripts that were read. Each
-//! function is empty: its contract is a law.
-#![tactic(auto)]
-
-mod ports;
-mod scripts;
-
-pub use ports::flat_ports_fit;
-pub use scripts::scripts_fit;

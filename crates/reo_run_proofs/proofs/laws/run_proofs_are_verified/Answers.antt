@@ -1,5 +1,0 @@
-use Rattle.reo_run_proofs.proofs.Joining.{run_proofs_are_verified}
-use Rattle.reo_run_proofs.proofs.laws.run_proofs_are_verified.Goals as goal
-
-pub returns : goal.returns
-returns c = run_proofs_are_verified c.runs_are_proof_texts.ensures c.proved_texts_are_verified.ensures

@@ -1,6 +1,0 @@
--- Reading a rule of circuits in scripts.
-use Rattle.reo_scripts.specs.Alike.{reads_alike}
-use Rattle.reo_scripts.proofs.laws.circuits_are_read_alike.Goals as goal
-
-pub returns : goal.returns
-returns c = reads_alike

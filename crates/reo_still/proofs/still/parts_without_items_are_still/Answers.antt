@@ -1,5 +1,0 @@
-use Rattle.reo_still.proofs.Quiet.{no_items_still}
-use Rattle.reo_still.proofs.still.parts_without_items_are_still.Goals as goal
-
-pub returns : goal.returns
-returns c = no_items_still

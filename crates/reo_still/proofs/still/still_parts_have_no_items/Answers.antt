@@ -1,5 +1,0 @@
-use Rattle.reo_still.proofs.Quiet.{still_no_items}
-use Rattle.reo_still.proofs.still.still_parts_have_no_items.Goals as goal
-
-pub returns : goal.returns
-returns c = still_no_items

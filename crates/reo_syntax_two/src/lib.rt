@@ -1,8 +1,0 @@
-//! The canonical text of a circuit program of version 2.
-#![tactic(auto)]
-
-mod indexes;
-mod items;
-mod program;
-
-pub use program::print_two;

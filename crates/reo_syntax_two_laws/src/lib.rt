@@ -1,6 +1,0 @@
-//! Laws of canonical texts of version 2. Each function is empty: its contract is a law.
-#![tactic(auto)]
-
-mod laws;
-
-pub use laws::canonical_text_two_says_the_program;

@@ -1,4 +1,0 @@
-use Rattle.reo_top_tables.proofs.tables.list_tables.Given as goal
-
-abbrev pub ghosts-list_counted : goal.ghosts-list_counted
-ghosts-list_counted a = record { name = a.blank.name; parts = a.blank.parts }

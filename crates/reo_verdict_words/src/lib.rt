@@ -1,8 +1,0 @@
-//! The words of verdicts on rounds: numbers, the round, and what is wrong with its entries.
-#![tactic(auto)]
-
-mod numbers;
-mod words;
-
-pub use numbers::append_numbered;
-pub use words::{append_round, append_wrong};
