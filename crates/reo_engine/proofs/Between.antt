@@ -14,7 +14,7 @@ use Rattle.reo_net_circuit.proofs.Cases.{eq_cases, lt_cases}
 use Rattle.reo_net_laws.proofs.FirstInside.{first_inside}
 use Rattle.reo_net_laws.proofs.OneFirst.{one_inside}
 use Rattle.reo_net_laws.proofs.Sides.{side_at_place, side_in_range}
-use Rattle.reo_knots.specs.Knots.{Knotted, AreKnots, in_knot, knot_count}
+use Rattle.reo_net_laws.specs.Knots.{Knotted, AreKnots, in_knot, knot_count}
 use Rattle.reo_weights.specs.still.Still.{IsStill}
 use Rattle.reo_settling.specs.Plannings.{Kept, IsKept, is_moving, is_settled, AreApart, AreBetweenUnsettled, AreFewer, AreMarkedUnsettled, AreMovingUnsettled, AreUnsettled, IsMarked, part_at}
 use Rattle.reo_settling.proofs.Plannings.{mark_same, number_is, fewer_none, fewer_twice}

@@ -25,7 +25,7 @@ use Rattle.reo_trace.specs.declared.cells.cells.Cells.{Cells}
 use Rattle.reo_trace.specs.cells.Cells.{AreCells, AreShown, IsShown, code_at}
 use Rattle.reo_trace.specs.cells.Texts.{jam_code}
 use Rattle.reo_trace.proofs.cells.Laid.{cells_same}
-use Rattle.reo_knots.specs.Knots.{Knotted, AreKnots, in_knot, knot_count}
+use Rattle.reo_net_laws.specs.Knots.{Knotted, AreKnots, in_knot, knot_count}
 use Rattle.reo_flows.specs.flowing.Flowing.{AreFlowingIn, AreFlowingOf}
 use Rattle.reo_weights.proofs.still.Together.{parts_make_first}
 use Rattle.reo_mark_search.proofs.Parts.{side_here, side_listed}

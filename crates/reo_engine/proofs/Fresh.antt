@@ -2,7 +2,7 @@
 use Rattle.std.proofs.Common.{◌≡◌, ◌∙◌, ℕ, zero, suc, Bool, true, false, List, get_or, replicate, refl, ap, sym, subst}
 use Rattle.reo_net_base.specs.Net.{Net}
 use Rattle.reo_net_base.specs.Sides.{side_count}
-use Rattle.reo_knots.specs.Knots.{Knotted, knot_count}
+use Rattle.reo_net_laws.specs.Knots.{Knotted, knot_count}
 use Rattle.reo_settling.specs.Plannings.{Kept, IsFresh, IsKept, HasSizes}
 
 pub fresh_kept : (net : Net) (knots : Knotted) (turn sides parts : ℕ) (kept : Kept) → sides ≡ side_count net → parts ≡ knot_count knots → IsFresh sides parts kept → IsKept net knots turn kept

@@ -12,7 +12,7 @@ use Rattle.reo_net_base.specs.Lasting.{Lasting}
 use Rattle.reo_net_base.specs.Lawful.{SameShape}
 use Rattle.reo_net_base.specs.Net.{Net, Wiring, net_of, behaviour_at}
 use Rattle.reo_net_base.specs.Step.{change_at, settled_list}
-use Rattle.reo_knots.specs.Knots.{Knotted}
+use Rattle.reo_net_laws.specs.Knots.{Knotted}
 use Rattle.reo_settling.specs.Plannings.{Kept, AreBetweenUnsettled}
 use Rattle.reo_flows.specs.stepping.Changes.{AreThoseThatFlowed, CoverChanges}
 use Rattle.reo_engine.specs.declared.goers.Goers.{Goers}

@@ -11,7 +11,7 @@ use Rattle.reo_net_base.specs.Step.{change_at}
 use Rattle.reo_net_base.specs.Wired.{IsWired}
 use Rattle.reo_net_circuit.proofs.Cases.{eq_cases}
 use Rattle.reo_net_circuit.specs.found_ends.Ends.{AreEnds}
-use Rattle.reo_knots.specs.Knots.{Knotted, AreKnots}
+use Rattle.reo_net_laws.specs.Knots.{Knotted, AreKnots}
 use Rattle.reo_settling.specs.Plannings.{Kept, is_settled, IsKept, AreFewer, AreMarkedUnsettled, AreMovingUnsettled, IsElsewhere, IsUnsettled, part_at}
 use Rattle.reo_settling.proofs.Plannings.{kept_elsewhere, kept_fewer, kept_later, fewer_none, fewer_twice, knots_stay}
 use Rattle.reo_settling.specs.declared.lookups.Lookups.{Lookups}

@@ -8,7 +8,7 @@ use Rattle.reo_values.proofs.Truths.{not_both}
 use Rattle.reo_net_base.specs.Net.{Net}
 use Rattle.reo_net_base.specs.Sides.{side_count}
 use Rattle.reo_net_circuit.proofs.Cases.{eq_cases, lt_cases}
-use Rattle.reo_knots.specs.Knots.{Knotted, AreKnots, in_knot, knot_count}
+use Rattle.reo_net_laws.specs.Knots.{Knotted, AreKnots, in_knot, knot_count}
 use Rattle.reo_mark_search.proofs.Parts.{side_here, side_listed}
 use Rattle.reo_settling.proofs.Plannings.{number_is}
 use Rattle.reo_engine.specs.Resting.{AreDoneAt, part_of}

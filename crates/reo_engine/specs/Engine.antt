@@ -3,7 +3,7 @@ use Rattle.std.specs.Prelude.{ℕ, ◌+◌, Bool, List}
 use Rattle.reo_net_base.specs.Behaviour.{Behaviour}
 use Rattle.reo_net_base.specs.Net.{Net, Wiring, net_of}
 use Rattle.reo_net_circuit.specs.found_ends.Ends.{AreEnds}
-use Rattle.reo_knots.specs.Knots.{Knotted, AreKnots}
+use Rattle.reo_net_laws.specs.Knots.{Knotted, AreKnots}
 use Rattle.reo_settling.specs.Plannings.{Kept, IsKept}
 
 -- A circuit, how many rounds were made, and which primitives may have changed since the last of

@@ -5,7 +5,7 @@ use Rattle.reo_net_base.specs.Net.{Net}
 use Rattle.reo_net_base.specs.Sides.{side_count}
 use Rattle.reo_trace.specs.declared.cells.cells.Cells.{Cells}
 use Rattle.reo_trace.specs.cells.Cells.{AreCells, IsShown}
-use Rattle.reo_knots.specs.Knots.{Knotted, knot_count}
+use Rattle.reo_net_laws.specs.Knots.{Knotted, knot_count}
 use Rattle.reo_settling.specs.Plannings.{Kept, is_settled}
 use Rattle.reo_standing.specs.Feeds.{AreFeeds}
 use Rattle.reo_standing.specs.Filling.{AreBlank}

@@ -2,7 +2,7 @@
 use Rattle.std.specs.Prelude.{ℕ, ◌<◌, ◌≡◌, Bool, true, false, List, slice_index, slice_index_or}
 use Rattle.reo_net_base.specs.Net.{Net}
 use Rattle.reo_net_base.specs.Sides.{side_count}
-use Rattle.reo_knots.specs.Knots.{Knotted}
+use Rattle.reo_net_laws.specs.Knots.{Knotted}
 
 -- The part of a side.
 abbrev pub part_of : Knotted → ℕ → ℕ

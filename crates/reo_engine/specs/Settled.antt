@@ -1,7 +1,7 @@
 -- Parts that stay settled.
 use Rattle.std.specs.Prelude.{ℕ, ◌≡◌, Bool, true, false, List, length}
 use Rattle.reo_net_base.specs.Net.{Net}
-use Rattle.reo_knots.specs.Knots.{Knotted}
+use Rattle.reo_net_laws.specs.Knots.{Knotted}
 use Rattle.reo_settling.specs.Plannings.{Kept, is_settled, is_moving, AreFewer, AreApart}
 
 -- Over a round the parts that were settled stay so where they do not move and no primitive that is

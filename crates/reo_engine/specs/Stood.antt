@@ -1,7 +1,7 @@
 -- A round that stands.
 use Rattle.std.specs.Prelude.{ℕ}
 use Rattle.reo_net_base.specs.Net.{Net}
-use Rattle.reo_knots.specs.Knots.{Knotted, knot_count}
+use Rattle.reo_net_laws.specs.Knots.{Knotted, knot_count}
 use Rattle.reo_weights.specs.Over.{Cause, IsOver}
 use Rattle.reo_settling.specs.Plannings.{Kept, AllServe}
 pub use Rattle.reo_standing.specs.declared.standing.Standing.{Standing}

@@ -2,7 +2,7 @@
 ghost use Rattle.std.specs.Prelude.{◌≡◌, true, IfOk, length, replicate};
 ghost use Rattle.reo_net_base.specs.Net.{net_of};
 ghost use Rattle.reo_net_circuit.specs.found_ends.Ends.{AreEnds};
-ghost use Rattle.reo_knots.specs.Knots.{AreKnots};
+ghost use Rattle.reo_net_laws.specs.Knots.{AreKnots};
 ghost use Rattle.reo_settling.specs.Plannings.{Kept as KeptRows, IsKept};
 ghost use Rattle.reo_settling.specs.Lookups.{AreLookups};
 ghost use Rattle.reo_engine.specs.Flows.{AreFlows};

@@ -1,6 +1,6 @@
 //! Engines.
 ghost use Rattle.std.specs.Prelude.{◌≡◌, ◌≤◌, ◌^◌, true, IfOk, map, length, replicate};
-ghost use Rattle.reo_knots.specs.Knots.{AreKnots};
+ghost use Rattle.reo_net_laws.specs.Knots.{AreKnots};
 ghost use Rattle.reo_rounds.specs.Offering.{AreJustPorts};
 ghost use Rattle.reo_engine.specs.Engine.{net_now};
 

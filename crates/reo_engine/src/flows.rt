@@ -1,7 +1,7 @@
 //! What a round that stands is made with.
 ghost use Rattle.std.specs.Prelude.{◌≡◌, ◌<◌, ℕ, None, true, false, [], IfOk, length, slice_index, slice_index_or};
 ghost use Rattle.reo_net_base.specs.Net.{net_of};
-ghost use Rattle.reo_knots.specs.Knots.{AreKnots, knot_count};
+ghost use Rattle.reo_net_laws.specs.Knots.{AreKnots, knot_count};
 ghost use Rattle.reo_net_base.specs.Sides.{AreRowsOf, side_count};
 ghost use Rattle.reo_net_laws.specs.Jams.{jams};
 ghost use Rattle.reo_trace.specs.cells.Cells.{AreBrought, AreCells, HasTaken};

@@ -1,7 +1,7 @@
 //! Rounds that are planned with the lines that show them.
 ghost use Rattle.std.specs.Prelude.{◌≡◌, ◌+◌, ◌<◌, ◌≤◌, ◌^◌, ℕ, OnOk, MatchResult};
 ghost use Rattle.reo_rounds.specs.Plans.{IsPlannedRound, IsPlanFault};
-ghost use Rattle.reo_knots.specs.Knots.{knot_count};
+ghost use Rattle.reo_net_laws.specs.Knots.{knot_count};
 ghost use Rattle.reo_settling.specs.Plannings.{AllServe, AreWeights, sum_below, weight_left};
 ghost use Rattle.reo_engine.specs.Engine.{net_now};
 

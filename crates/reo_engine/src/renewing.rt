@@ -2,7 +2,7 @@
 ghost use Rattle.std.specs.Prelude.{◌≡◌, ◌<◌, ◌≤◌, ◌+◌, ◌^◌, ℕ, true, None, IfOk, OnOk, OnErr, MatchResult};
 ghost use Rattle.reo_net_base.specs.Net.{net_of};
 ghost use Rattle.reo_net_circuit.specs.found_ends.Ends.{AreEnds};
-ghost use Rattle.reo_knots.specs.Knots.{AreKnots, knot_count};
+ghost use Rattle.reo_net_laws.specs.Knots.{AreKnots, knot_count};
 ghost use Rattle.reo_rounds.specs.Plans.{IsPlanFault};
 ghost use Rattle.reo_settling.specs.Plannings.{AllServe, IsKept, AreWeights, sum_below, weight_left};
 ghost use Rattle.reo_settling.specs.Lookups.{AreLookups};

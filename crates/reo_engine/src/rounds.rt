@@ -3,7 +3,7 @@ ghost use Rattle.std.specs.Prelude.{◌≡◌, ◌+◌, ◌<◌, ◌≤◌, ◌^
 ghost use Rattle.reo_net_circuit.specs.Offers.{AreAfterRound};
 ghost use Rattle.reo_net_base.specs.Step.{stepped};
 ghost use Rattle.reo_rounds.specs.Plans.{IsPlan, IsPlanFault, Suits};
-ghost use Rattle.reo_knots.specs.Knots.{knot_count};
+ghost use Rattle.reo_net_laws.specs.Knots.{knot_count};
 ghost use Rattle.reo_settling.specs.Plannings.{AllServe, AreWeights, sum_below, weight_left};
 ghost use Rattle.reo_engine.specs.Engine.{net_now};
 ghost use Rattle.reo_flows.specs.stepping.Changes.{AreThoseThatFlowed};

@@ -7,7 +7,7 @@ ghost use Rattle.reo_net_base.specs.Step.{stepped};
 ghost use Rattle.reo_trace.specs.Entries.{line_for};
 ghost use Rattle.reo_trace.specs.RoundText.{round_text};
 ghost use Rattle.reo_rounds.specs.Plans.{IsPlanFault};
-ghost use Rattle.reo_knots.specs.Knots.{AreKnots, knot_count};
+ghost use Rattle.reo_net_laws.specs.Knots.{AreKnots, knot_count};
 ghost use Rattle.reo_flows.specs.flowing.Flowing.{AreFlowingIn};
 ghost use Rattle.reo_settling.specs.Plannings.{AllServe, AreWeights, sum_below, weight_left};
 ghost use Rattle.reo_flows.specs.stepping.Changes.{AreThoseThatFlowed};

@@ -3,7 +3,7 @@ use Rattle.std.proofs.Common.{◌≡◌, ℕ, ◌<◌, ◌≤◌, List, Bool, le
 use Rattle.reo_net_base.specs.declared.joint.Joint.{Joint}
 use Rattle.reo_net_base.specs.Net.{Net, side_at}
 use Rattle.reo_net_laws.specs.Parts.{IsClosedBelow}
-use Rattle.reo_knots.specs.Knots.{IsLoop}
+use Rattle.reo_net_laws.specs.Knots.{IsLoop}
 
 -- Circuits with the same joints, at each of which the ends have the same sides.
 module _ (net other : Net) (joints : other.joints ≡ net.joints)

@@ -3,8 +3,10 @@ pub mod Changing
 pub mod Choosing
 pub mod Distinct
 pub mod Fitting
+pub mod InOrder
 pub mod Inside
 pub mod Marks
 pub mod Narrowing
+pub mod Sources
 pub mod StandLemmas
 pub mod Works

@@ -1,5 +1,6 @@
 pub mod Chosen
 pub mod Fitting
+pub mod InOrder
 pub mod Many
 pub mod Standing
 pub mod StandingLaws

@@ -5,7 +5,7 @@ use Rattle.reo_net_base.specs.Net.{Net, side_at}
 use Rattle.reo_net_base.specs.Sides.{side_count}
 use Rattle.reo_net_base.specs.Wired.{IsWired}
 use Rattle.reo_net_laws.proofs.Sides.{side_in_range}
-use Rattle.reo_knots.specs.Knots.{in_knot}
+use Rattle.reo_net_laws.specs.Knots.{in_knot}
 use Rattle.reo_joint_values.specs.Standing.{no_joint, giver_of}
 use Rattle.reo_kept_tables.specs.Tables.{IsSideRight, IsJointRight}
 use Rattle.reo_kept_tables.specs.Laws.{ReadyTablesAreRight, RightPartsAreReady}

@@ -10,7 +10,7 @@ use Rattle.reo_net_laws.proofs.Assignments.{alike_self}
 use Rattle.reo_side_tables.specs.declared.board.Board.{Board}
 use Rattle.reo_side_tables.specs.Boards.{IsBoard}
 use Rattle.reo_side_tables.specs.Marks.{side_in, groups_in}
-use Rattle.reo_reach.specs.InOrder.{AreInOrder}
+use Rattle.reo_joint_values.specs.InOrder.{AreInOrder}
 use Rattle.reo_joint_values.specs.Standing.{giver_of}
 use Rattle.reo_reach.specs.Stays.{AgreeAt}
 use Rattle.reo_reach.specs.Supplied.{Supplied, items_at, AreShort, HasPlaces, IsReached}

@@ -14,8 +14,8 @@ use Rattle.reo_net_circuit.proofs.ReshapeLemmas.{side_same, order_same}
 use Rattle.reo_net_laws.specs.Parts.{IsClosed}
 use Rattle.reo_net_laws.proofs.Orders.{place_in, place_of}
 use Rattle.reo_side_tables.specs.Listing.{AreEmpty, IsAdded}
-use Rattle.reo_knots.specs.Knots.{Knotted, in_knot, knot_count}
-use Rattle.reo_reach.specs.InOrder.{joints_in}
+use Rattle.reo_net_laws.specs.Knots.{Knotted, in_knot, knot_count}
+use Rattle.reo_joint_values.specs.InOrder.{joints_in}
 use Rattle.reo_joint_values.specs.Standing.{no_joint, giver_of}
 use Rattle.reo_joint_values.specs.Many.{IsJointIn}
 use Rattle.reo_reach.proofs.PartLemmas.{parts_in_order}

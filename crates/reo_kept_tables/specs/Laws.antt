@@ -5,7 +5,7 @@ use Rattle.reo_net_base.specs.Shapes.{SameShapes}
 use Rattle.reo_net_base.specs.Wired.{IsWired}
 use Rattle.reo_net_laws.specs.Parts.{IsClosed}
 use Rattle.reo_net_circuit.specs.found_ends.Ends.{AreEnds}
-use Rattle.reo_knots.specs.Knots.{Knotted, AreKnots, in_knot, knot_count}
+use Rattle.reo_net_laws.specs.Knots.{Knotted, AreKnots, in_knot, knot_count}
 use Rattle.reo_kept_tables.specs.declared.tables.Tables.{Tables}
 use Rattle.reo_kept_tables.specs.Tables.{HasRoom, AreRightOn, AreReady}
 use Rattle.reo_kept_tables.specs.Orders.{AreJointsOf, AreOrders}

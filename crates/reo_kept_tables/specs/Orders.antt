@@ -2,8 +2,8 @@
 use Rattle.std.specs.Prelude.{ℕ, ◌<◌, ◌≡◌, ◌↔◌, Bool, List, [], Contains, length, slice_index_or}
 use Rattle.reo_net_base.specs.Net.{Net}
 use Rattle.reo_net_base.specs.Wired.{IsOrder}
-use Rattle.reo_knots.specs.Knots.{Knotted, in_knot, knot_count}
-use Rattle.reo_reach.specs.InOrder.{AreInOrder, joints_in}
+use Rattle.reo_net_laws.specs.Knots.{Knotted, in_knot, knot_count}
+use Rattle.reo_joint_values.specs.InOrder.{AreInOrder, joints_in}
 use Rattle.reo_joint_values.specs.Many.{IsJointIn}
 
 -- The joints of a set, each once, so that they can be gone through.

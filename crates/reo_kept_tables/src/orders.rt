@@ -2,7 +2,7 @@
 ghost use Rattle.std.specs.Prelude.{◌≡◌, ◌<◌, IfOk, OnOk, length};
 ghost use Rattle.reo_net_base.specs.Net.{net_of};
 ghost use Rattle.reo_side_tables.specs.Listing.{AreEmpty, IsAdded};
-ghost use Rattle.reo_knots.specs.Knots.{AreKnots};
+ghost use Rattle.reo_net_laws.specs.Knots.{AreKnots};
 ghost use Rattle.reo_kept_tables.specs.Orders.{AreOrders};
 
 use reo_knots::Knots;

@@ -3,7 +3,7 @@ ghost use Rattle.std.specs.Prelude.{◌≡◌, ◌<◌, ℕ, Bool, true, OnOk, C
 ghost use Rattle.reo_net_base.specs.Net.{net_of, all_sides};
 ghost use Rattle.reo_net_laws.specs.Parts.{IsClosed};
 ghost use Rattle.reo_net_circuit.specs.found_ends.Ends.{AreEnds};
-ghost use Rattle.reo_reach.specs.InOrder.{AreInOrder};
+ghost use Rattle.reo_joint_values.specs.InOrder.{AreInOrder};
 ghost use Rattle.reo_propagate.specs.Queues.{among};
 ghost use Rattle.reo_kept_tables.specs.Tables.{HasRoom, IsSideRight, IsJointRight, AreRightOn, AreApart};
 ghost use Rattle.reo_kept_tables.specs.Renewing.{OnlySides, OnlyJoints};

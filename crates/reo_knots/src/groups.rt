@@ -2,7 +2,7 @@
 ghost use Rattle.std.specs.Prelude.{◌≡◌, ◌<◌, IfOk, OnOk, length};
 ghost use Rattle.reo_net_base.specs.Net.{net_of};
 ghost use Rattle.reo_net_base.specs.Sides.{side_count};
-ghost use Rattle.reo_knots.specs.Groups.{AreEmpty, IsAdded, AreSidesBelow, AreLoopsBelow, AreBelow};
+ghost use Rattle.reo_net_laws.specs.KnotGroups.{AreEmpty, IsAdded, AreSidesBelow, AreLoopsBelow, AreBelow};
 
 use reo_net_base::Primitive;
 use reo_net_circuit::Circuit;

@@ -1,7 +1,7 @@
 //! Knots, and finding them.
 ghost use Rattle.std.specs.Prelude.{◌≡◌, ◌<◌, [], IfOk, length, slice_index, slice_index_or};
 ghost use Rattle.reo_net_base.specs.Net.{net_of};
-ghost use Rattle.reo_knots.specs.Knots.{AreKnots, knot_count};
+ghost use Rattle.reo_net_laws.specs.Knots.{AreKnots, knot_count};
 
 use crate::groups::{group_loops, group_sides};
 use crate::links::{Links, find_links};
@@ -26,7 +26,7 @@ pub struct Knots {
 
 impl Model for Knots {
     ghost use Rattle.std.specs.Prelude.{◌≡◌, length};
-    ghost use Rattle.reo_knots.specs.Knots.{Knotted, knotted};
+    ghost use Rattle.reo_net_laws.specs.Knots.{Knotted, knotted};
 
     ghost Value = { Knotted };
 

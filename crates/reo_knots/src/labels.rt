@@ -1,6 +1,6 @@
 //! Labels of sides, and the sides of each label.
 ghost use Rattle.std.specs.Prelude.{◌≡◌, ◌≢◌, ◌↔◌, ◌<◌, ◌++◌, [], ℕ, IsTrue, IfOk, OnOk, Contains, length, slice_index, slice_index_or, slice_set};
-ghost use Rattle.reo_knots.specs.Labels.{AreOwn, AreOwnMembers, AreMembers, AreRelabelled, AreMerged, IsWritten};
+ghost use Rattle.reo_net_laws.specs.KnotLabels.{AreOwn, AreOwnMembers, AreMembers, AreRelabelled, AreMerged, IsWritten};
 
 use reo_values::{List, NoMemory};
 use std::alloc::Global;

@@ -1,8 +1,8 @@
 //! What joints link.
 ghost use Rattle.std.specs.Prelude.{◌≡◌, ◌+◌, ◌<◌, ◌↔◌, IsTrue, IfOk, OnOk, length};
 ghost use Rattle.reo_net_base.specs.Net.{net_of};
-ghost use Rattle.reo_knots.specs.Knots.{IsLoop};
-ghost use Rattle.reo_knots.specs.Labels.{AreLabels, AreInRange, AreMembers, AreLoops};
+ghost use Rattle.reo_net_laws.specs.Knots.{IsLoop};
+ghost use Rattle.reo_net_laws.specs.KnotLabels.{AreLabels, AreInRange, AreMembers, AreLoops};
 
 use crate::labels::{Labels, apart, join};
 use reo_net_base::Primitive;

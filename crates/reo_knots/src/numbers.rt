@@ -1,7 +1,7 @@
 //! Numbers for labels, in the order in which sides have them.
 ghost use Rattle.std.specs.Prelude.{◌≡◌, ◌<◌, Some, None, IfOk, length, slice_index_or, slice_set, unwrap_or, replicate};
-ghost use Rattle.reo_knots.specs.Knots.{AreNumbers};
-ghost use Rattle.reo_knots.specs.Labels.{AreInRange, same_label};
+ghost use Rattle.reo_net_laws.specs.Knots.{AreNumbers};
+ghost use Rattle.reo_net_laws.specs.KnotLabels.{AreInRange, same_label};
 
 use reo_values::{List, NoMemory};
 use std::alloc::Global;

@@ -5,7 +5,7 @@ use Rattle.reo_net_base.specs.Net.{Net, Wiring, net_of}
 use Rattle.reo_net_base.specs.Wired.{IsWired, ArePorts}
 use Rattle.reo_net_base.specs.Sides.{side_count}
 use Rattle.reo_net_laws.specs.Parts.{SameKnot}
-use Rattle.reo_knots.specs.Knots.{AreNumbers, Knotted, AreKnots, knot_count}
+use Rattle.reo_net_laws.specs.Knots.{AreNumbers, Knotted, AreKnots, knot_count}
 use Rattle.reo_kinds.specs.declared.kind.Kind.{Kind}
 use Rattle.reo_kinds.specs.Kinds.{behaviour_of}
 use Rattle.reo_open.specs.declared.opens.Open.{Open}

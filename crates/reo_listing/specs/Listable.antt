@@ -1,7 +1,7 @@
 -- A circuit whose boundary tables are listed part by part.
 use Rattle.std.specs.Prelude.{ℕ, [], Bool}
 use Rattle.reo_net_base.specs.Net.{Wiring, net_of}
-use Rattle.reo_knots.specs.Knots.{Knotted, AreKnots}
+use Rattle.reo_net_laws.specs.Knots.{Knotted, AreKnots}
 use Rattle.reo_open.specs.declared.opens.Open.{Open}
 use Rattle.reo_open.specs.Opens.{open_behaviour}
 use Rattle.reo_weights.specs.Widths.{IsWide}

@@ -1,7 +1,7 @@
 //! The tables of the parts of an open circuit.
 ghost use Rattle.std.specs.Prelude.{◌≡◌, ◌+◌, ◌<◌, ◌^◌, OnOk, MatchResult};
 ghost use Rattle.reo_net_base.specs.Net.{net_of};
-ghost use Rattle.reo_knots.specs.Knots.{in_knot, knot_count};
+ghost use Rattle.reo_net_laws.specs.Knots.{in_knot, knot_count};
 ghost use Rattle.reo_open.specs.Opens.{open_behaviour};
 ghost use Rattle.reo_listing.specs.base.Tables.{ports_in};
 ghost use Rattle.reo_listing.specs.base.Listed.{AreTables, ListsParts};

@@ -7,7 +7,7 @@ use Rattle.reo_net_base.specs.Net.{Net}
 use Rattle.reo_net_base.specs.Sides.{side_count}
 use Rattle.reo_net_base.specs.Wired.{IsWired, IsOrder}
 use Rattle.reo_net_laws.specs.Sublists.{sides_in}
-use Rattle.reo_knots.specs.Knots.{Knotted, AreKnots, in_knot, knot_count}
+use Rattle.reo_net_laws.specs.Knots.{Knotted, AreKnots, in_knot, knot_count}
 use Rattle.reo_net_laws.specs.state_laws.States.{IsOpen}
 use Rattle.reo_net_laws.specs.state_laws.Walks.{IsWalk}
 use Rattle.reo_mark_sets.specs.declared.marks.Marks.{Marks}

@@ -10,7 +10,7 @@ use Rattle.reo_net_base.specs.Net.{Net, behaviour_at, first_side}
 use Rattle.reo_net_base.specs.Sides.{side_count}
 use Rattle.reo_net_laws.specs.Sublists.{sides_in}
 use Rattle.reo_net_laws.proofs.Sides.{below_or, first_before}
-use Rattle.reo_knots.specs.Knots.{Knotted, AreKnots, in_knot, knot_count}
+use Rattle.reo_net_laws.specs.Knots.{Knotted, AreKnots, in_knot, knot_count}
 
 filter_at : (f : ℕ → Bool) (n a q : ℕ) → q < length (filter f (range_with_len a n)) → (f (slice_index (filter f (range_with_len a n)) q) ≡ true) × (slice_index (filter f (range_with_len a n)) q < a + n)
 filter_at f zero a q lt = absurd (omega arith)

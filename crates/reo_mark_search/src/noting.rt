@@ -2,7 +2,7 @@
 ghost use Rattle.std.specs.Prelude.{◌≡◌, ◌+◌, ◌*◌, ◌<◌, ℕ, List as Listed, [], length, slice_index, slice_index_or, true};
 ghost use Rattle.reo_net_base.specs.Net.{net_of};
 ghost use Rattle.reo_net_base.specs.Sides.{side_count};
-ghost use Rattle.reo_knots.specs.Knots.{AreKnots, in_knot, knot_count};
+ghost use Rattle.reo_net_laws.specs.Knots.{AreKnots, in_knot, knot_count};
 ghost use Rattle.reo_net_laws.specs.state_laws.States.{IsOpen};
 ghost use Rattle.reo_mark_sets.specs.Marks.{marks_at, all_marks};
 ghost use Rattle.reo_mark_search.specs.Fitting.{Fits, IsRival, AreNoted, AreOpenSides, AreReset};

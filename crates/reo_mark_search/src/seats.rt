@@ -2,7 +2,7 @@
 ghost use Rattle.std.specs.Prelude.{◌≡◌, ◌<◌, true};
 ghost use Rattle.reo_net_base.specs.Net.{net_of};
 ghost use Rattle.reo_net_base.specs.Sides.{side_count};
-ghost use Rattle.reo_knots.specs.Knots.{in_knot};
+ghost use Rattle.reo_net_laws.specs.Knots.{in_knot};
 ghost use Rattle.reo_mark_search.specs.Fitting.{AreNoted};
 ghost use Rattle.reo_mark_search.specs.Spots.{AreSpots, IsSeat};
 

@@ -3,7 +3,7 @@ ghost use Rattle.std.specs.Prelude.{◌≡◌, ◌*◌, ◌<◌, ◌-◌, ℕ, L
 ghost use Rattle.reo_net_base.specs.declared.mark.Mark.{Mark as EndMark};
 ghost use Rattle.reo_net_base.specs.Net.{net_of};
 ghost use Rattle.reo_net_base.specs.Sides.{side_count};
-ghost use Rattle.reo_knots.specs.Knots.{AreKnots, in_knot, knot_count};
+ghost use Rattle.reo_net_laws.specs.Knots.{AreKnots, in_knot, knot_count};
 ghost use Rattle.reo_net_laws.specs.JamRows.{jam_rows};
 ghost use Rattle.reo_mark_sets.specs.Marks.{has, open_at, partner};
 ghost use Rattle.reo_mark_search.specs.Fitting.{AreNoted, AreMet, ArePinned};

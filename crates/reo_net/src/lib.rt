@@ -2,8 +2,7 @@
 //! place.
 //!
 //! A [`Circuit`] is made from primitives and joints, or refused with a [`NetFault`]. Its colourings
-//! are compared and filled, the first one is found, it steps by it, and its ports take offers. A
-//! [`Supply`] has the items that can stand at its joints.
+//! are compared and filled, the first one is found, it steps by it, and its ports take offers.
 #![tactic(auto)]
 
 mod colouring;
@@ -16,4 +15,3 @@ pub use reo_net_base::{
     marks_match,
 };
 pub use reo_net_circuit::{Circuit, NetFault, SideOwner, are_parts, moves};
-pub use reo_reach::Supply;

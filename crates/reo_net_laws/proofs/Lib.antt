@@ -8,8 +8,13 @@ pub mod Isolation
 pub mod Items
 pub mod JamRows
 pub mod Jams
-pub mod Leading
 pub mod Joined
+pub mod KnotGroups
+pub mod KnotLabels
+pub mod KnotLinks
+pub mod KnotNumbers
+pub mod Knots
+pub mod Leading
 pub mod Least
 pub mod Mixing
 pub mod OneFirst

@@ -6,6 +6,9 @@ pub mod FirstLaws
 pub mod JamRows
 pub mod Jams
 pub mod Keys
+pub mod KnotGroups
+pub mod KnotLabels
+pub mod Knots
 pub mod Leading
 pub mod PartLaws
 pub mod Parts

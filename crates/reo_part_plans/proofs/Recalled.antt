@@ -24,7 +24,7 @@ use Rattle.reo_net_laws.specs.Parts.{IsClosed, IsClosedBelow}
 use Rattle.reo_net_laws.specs.Sublists.{sides_in, part_rows}
 use Rattle.reo_net_laws.proofs.Sides.{row_in_table, row_is, side_at_place, side_in_range, side_is}
 use Rattle.reo_net_laws.proofs.Shapes.{shapes_twice, shapes_back}
-use Rattle.reo_knots.specs.Knots.{Knotted, AreKnots, in_knot, knot_count}
+use Rattle.reo_net_laws.specs.Knots.{Knotted, AreKnots, in_knot, knot_count}
 use Rattle.reo_weights.specs.still.Joining.{HasFirst}
 use Rattle.reo_planning.specs.Planned.{IsPartPlanned}
 use Rattle.reo_planning.specs.Written.{AreWritten}

@@ -2,7 +2,7 @@
 use Rattle.std.specs.Prelude.{◌≡◌, List}
 use Rattle.reo_net_base.specs.Net.{Net}
 use Rattle.reo_net_base.specs.Shapes.{SameShapes, TreatAlike}
-use Rattle.reo_knots.specs.Knots.{Knotted}
+use Rattle.reo_net_laws.specs.Knots.{Knotted}
 use Rattle.reo_part_plans.specs.declared.plans.PartPlans.{PartPlans}
 use Rattle.reo_part_plans.specs.Remembered.{ArePlans}
 

@@ -4,7 +4,7 @@ use Rattle.reo_net_base.specs.Net.{Net}
 use Rattle.reo_net_base.specs.Shapes.{SameShapes, TreatAlike}
 use Rattle.reo_net_base.specs.Wired.{IsWired}
 use Rattle.reo_net_laws.specs.Sublists.{part_rows}
-use Rattle.reo_knots.specs.Knots.{Knotted, in_knot, knot_count}
+use Rattle.reo_net_laws.specs.Knots.{Knotted, in_knot, knot_count}
 use Rattle.reo_flows.specs.flowing.Flowing.{AreFlowingOf}
 use Rattle.reo_net_laws.specs.state_laws.States.{AreFirstRows}
 use Rattle.reo_item_bounds.specs.Bounds.{HasBounds}

@@ -9,7 +9,7 @@ use Rattle.reo_net_circuit.proofs.ReshapeLemmas.{first_same}
 use Rattle.reo_net_laws.specs.Alike.{AreAlike}
 use Rattle.reo_net_laws.proofs.Isolation.{isolated}
 use Rattle.reo_net_laws.proofs.Sides.{side_at_place}
-use Rattle.reo_knots.specs.Knots.{Knotted, AreKnots, in_knot, knot_count}
+use Rattle.reo_net_laws.specs.Knots.{Knotted, AreKnots, in_knot, knot_count}
 use Rattle.reo_weights.specs.still.Still.{IsStill}
 use Rattle.reo_weights.proofs.still.Rounds.{still_stay_first}
 use Rattle.reo_weights.proofs.still.WithinLemmas.{alike_weigh}

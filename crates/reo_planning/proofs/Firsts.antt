@@ -7,7 +7,7 @@ use Rattle.reo_net_base.specs.First.{IsFirst}
 use Rattle.reo_net_base.specs.Wired.{IsWired}
 use Rattle.reo_net_base.specs.Colouring.{RowsFit, IsFilled}
 use Rattle.reo_net.proofs.colouring.ItemLemmas.{filled_from}
-use Rattle.reo_knots.specs.Knots.{Knotted, AreKnots, knot_count}
+use Rattle.reo_net_laws.specs.Knots.{Knotted, AreKnots, knot_count}
 use Rattle.reo_weights.proofs.still.Together.{parts_make_first}
 use Rattle.reo_weights.proofs.CauseLemmas.{within_not_over}
 use Rattle.reo_planning.specs.Planned.{ArePlanned, IsFirstBy}

@@ -17,7 +17,7 @@ use Rattle.reo_net_laws.specs.Parts.{IsClosed}
 use Rattle.reo_net_laws.proofs.Joined.{joint_of}
 use Rattle.reo_net_laws.proofs.Sides.{side_in_range}
 use Rattle.reo_joint_values.specs.Standing.{no_joint, giver_of, taker_of}
-use Rattle.reo_reach.specs.InOrder.{joints_in}
+use Rattle.reo_joint_values.specs.InOrder.{joints_in}
 use Rattle.reo_flows.specs.flowing.Flowing.{AreFlowingOf, flowing_of, flows_by}
 use Rattle.reo_flows.proofs.flowing.Passing.{next_from, nothing_there}
 use Rattle.reo_kept_tables.specs.Orders.{AreJointsOf}

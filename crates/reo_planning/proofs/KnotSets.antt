@@ -4,7 +4,7 @@ use Rattle.std.specs.Prelude.{◌==◌, nat_lt}
 use Rattle.reo_net_base.specs.Net.{Net}
 use Rattle.reo_net_base.specs.Sides.{side_count}
 use Rattle.reo_net_laws.specs.Parts.{SameKnot}
-use Rattle.reo_knots.specs.Knots.{AreNumbers, in_knot}
+use Rattle.reo_net_laws.specs.Knots.{AreNumbers, in_knot}
 use Rattle.std.proofs.lemmas.Bool.{false_from_ne_true as not_true}
 use Rattle.reo_values.proofs.Truths.{and_left, and_right}
 use Rattle.reo_values.proofs.Naturals.{eq_same, true_lt}

@@ -5,7 +5,7 @@ use Rattle.reo_values.proofs.Truths.{not_both}
 use Rattle.reo_flags.specs.Next.{IsNext}
 use Rattle.reo_net_base.specs.Net.{Net, behaviour_at}
 use Rattle.reo_net_circuit.proofs.Cases.{eq_cases}
-use Rattle.reo_knots.specs.Knots.{Knotted}
+use Rattle.reo_net_laws.specs.Knots.{Knotted}
 use Rattle.reo_planning.specs.declared.kept.Kept.{Kept}
 use Rattle.reo_planning.specs.Keeping.{is_settled}
 use Rattle.reo_planning.specs.Unsettling.{AreUnsettled, AreUnsettledWhere, IsMarked, IsUnsettled, part_at}

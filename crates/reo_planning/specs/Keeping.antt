@@ -5,7 +5,7 @@ use Rattle.reo_net_base.specs.declared.mark.Mark.TheVariants.{F}
 use Rattle.reo_net_base.specs.Net.{Net, side_at, mark_at}
 use Rattle.reo_net_base.specs.Sides.{side_count}
 use Rattle.reo_net_base.specs.Wired.{IsEnd}
-use Rattle.reo_knots.specs.Knots.{Knotted, in_knot, knot_count}
+use Rattle.reo_net_laws.specs.Knots.{Knotted, in_knot, knot_count}
 use Rattle.reo_weights.specs.still.Joining.{HasFirst}
 use Rattle.reo_weights.specs.still.Still.{IsStill}
 use Rattle.reo_weights.specs.Over.{IsWithin}

@@ -1,7 +1,7 @@
 -- Flags that tell in which parts something flows.
 use Rattle.std.specs.Prelude.{ℕ, ◌<◌, ◌≤◌, ◌≡◌, Bool, true, false, List, length}
 use Rattle.reo_net_base.specs.Net.{Net}
-use Rattle.reo_knots.specs.Knots.{Knotted, in_knot}
+use Rattle.reo_net_laws.specs.Knots.{Knotted, in_knot}
 use Rattle.reo_weights.specs.still.Still.{IsStill}
 use Rattle.reo_planning.specs.declared.kept.Kept.{Kept}
 use Rattle.reo_planning.specs.Keeping.{FlowsIn, is_settled, is_moving}

@@ -4,7 +4,7 @@ use Rattle.reo_net_base.specs.declared.colouring.Colouring.{Colouring}
 use Rattle.reo_net_base.specs.Net.{Net}
 use Rattle.reo_net_base.specs.Sides.{side_count}
 use Rattle.reo_net_base.specs.First.{IsFirst}
-use Rattle.reo_knots.specs.Knots.{Knotted, in_knot, knot_count}
+use Rattle.reo_net_laws.specs.Knots.{Knotted, in_knot, knot_count}
 use Rattle.reo_weights.specs.still.Joining.{HasFirst, HaveFirsts}
 use Rattle.reo_weights.specs.Weights.{IsWeight}
 use Rattle.reo_weights.specs.Over.{Cause, IsWithin, IsOver}

@@ -3,7 +3,7 @@ use Rattle.std.specs.Prelude.{ℕ, ◌+◌, ◌<◌, ◌≡◌, ◌≢◌, true,
 use Rattle.reo_net_base.specs.Net.{Net, behaviour_at, first_side}
 use Rattle.reo_net_base.specs.Shapes.{SameShapes}
 use Rattle.reo_net_base.specs.Wired.{IsWired}
-use Rattle.reo_knots.specs.Knots.{Knotted, AreKnots}
+use Rattle.reo_net_laws.specs.Knots.{Knotted, AreKnots}
 use Rattle.reo_planning.specs.declared.kept.Kept.{Kept}
 use Rattle.reo_planning.specs.Keeping.{is_settled, is_moving, IsKept}
 

@@ -8,7 +8,7 @@ use Rattle.reo_net_base.specs.Wired.{IsWired, IsOrder}
 use Rattle.reo_net_laws.specs.Parts.{SameKnot}
 use Rattle.reo_net_laws.proofs.Sides.{side_in_range}
 use Rattle.reo_joint_values.specs.Standing.{no_joint, giver_of}
-use Rattle.reo_knots.specs.Knots.{AreNumbers, in_knot}
+use Rattle.reo_net_laws.specs.Knots.{AreNumbers, in_knot}
 use Rattle.reo_weights.specs.Weights.{IsWeight}
 use Rattle.reo_weights.specs.Over.{Cause, IsWithin, IsOverBy, IsOver}
 use Rattle.reo_weights.specs.Over.Cause.{spent, wide}

@@ -11,7 +11,7 @@ use Rattle.reo_joint_values.specs.Standing.CanStand.{alone, passed}
 use Rattle.reo_joint_values.specs.Many.{AreDistinct}
 use Rattle.reo_reach.specs.Supplied.{Supplied, items_at, is_wide, HasPlaces, IsClear, IsReached, AreShort, OthersStay}
 use Rattle.reo_reach.specs.Supplied.Leads.{here, on}
-use Rattle.reo_reach.specs.InOrder.{AreInOrder}
+use Rattle.reo_joint_values.specs.InOrder.{AreInOrder}
 use Rattle.reo_reach.specs.Added.{IsProduced, IsMade, renewed}
 use Rattle.reo_reach.specs.Added.IsProduced.{by_state, by_item}
 

@@ -1,6 +1,5 @@
 pub mod AddedLemmas
 pub mod FilledLemmas
-pub mod OrderLemmas
 pub mod PartLemmas
 pub mod RowLemmas
 pub mod StayLemmas

@@ -7,8 +7,8 @@ use Rattle.std.proofs.lemmas.List.{get_or_append_left, take_all}
 use Rattle.std.proofs.lemmas.List.Elements.{filter_more}
 use Rattle.reo_net_base.specs.Net.{Net, side_at}
 use Rattle.reo_joint_values.specs.Standing.{no_joint, giver_of, Brings}
-use Rattle.reo_reach.specs.InOrder.{AreInOrder, PartsAreInOrder}
-use Rattle.reo_reach.proofs.OrderLemmas.{brings_feeds, order_in_order}
+use Rattle.reo_joint_values.specs.InOrder.{AreInOrder, PartsAreInOrder}
+use Rattle.reo_joint_values.proofs.InOrder.{brings_feeds, order_in_order}
 
 module _ (net : Net) (order : List ℕ) (is : AreInOrder net order) (test : ℕ → Bool)
     (closed : (j row k : ℕ) → j < length net.joints → test j ≡ true → Brings net (giver_of net j) row k → test k ≡ true) where

@@ -15,6 +15,7 @@ use Rattle.reo_net_laws.specs.Ends.{mark_in, from_in}
 use Rattle.reo_net_circuit.specs.found_ends.Ends.{joint_at, AreEnds}
 use Rattle.reo_net_circuit.proofs.found_ends.EndLemmas.{taker_at, of_taker}
 use Rattle.reo_joint_values.specs.Standing.{no_joint, giver_of, taker_of, given_in, passes_in, FlowsAt, IsGivenFor, GivesAlone}
+use Rattle.reo_joint_values.proofs.Sources.{gives_by, source_is, source_taker}
 use Rattle.reo_reach.specs.Supplied.{Supplied, items_at}
 use Rattle.reo_reach.specs.Added.{AreAdded, IsProduced, IsMade}
 use Rattle.reo_reach.specs.Added.IsProduced.{by_state, by_item}
@@ -29,23 +30,10 @@ module _ (net : Net) (wired : IsWired net) (giver : End) (is : IsGiver net giver
   at : Behaviour
   at = behaviour_at net.primitives giver.primitive
 
-  pub gives_by : GivesAt (behaviour_at net.primitives giver.primitive) ((behaviour_at net.primitives giver.primitive).side_of giver.end) row giver.end
-  unfolding mark_in
-  gives_by = record {
-    of_side = (wired.lawful giver.primitive is.is_end.0).sides_in giver.end is.is_end.1;
-    in_table = omega (arith, flows.plain);
-    is_end = (is.is_end.1, refl);
-    gives = is.gives;
-    flows = flows.flows;
-  }
-
-  pub flows_by : (behaviour_at net.primitives giver.primitive).mark ((behaviour_at net.primitives giver.primitive).side_of giver.end) row giver.end ≡ F
-  flows_by = gives_by.flows
-
   -- Where the state alone decides, something is given.
   pub some_alone : from_in net row giver ≡ None → IsSome ((behaviour_at net.primitives giver.primitive).given ((behaviour_at net.primitives giver.primitive).side_of giver.end) row giver.end None)
   unfolding from_in
-  some_alone alone = (wired.lawful giver.primitive is.is_end.0).given_alone ((behaviour_at net.primitives giver.primitive).side_of giver.end) row giver.end gives_by alone
+  some_alone alone = (wired.lawful giver.primitive is.is_end.0).given_alone ((behaviour_at net.primitives giver.primitive).side_of giver.end) row giver.end (gives_by net wired giver is row flows) alone
 
   pub added_alone : from_in net row giver ≡ None → (item : Value) → (behaviour_at net.primitives giver.primitive).given ((behaviour_at net.primitives giver.primitive).side_of giver.end) row giver.end None ≡ Some item
       → (old new : List Value) → AreAdded old new (λ x. x ≡ item) → AreAdded old new (GivesAlone net giver row)
@@ -66,25 +54,14 @@ module _ (net : Net) (wired : IsWired net) (giver : End) (is : IsGiver net giver
       back x (by_item k taken gives has) = let wrong : None ≡ Some gives.brings.from = sym alone ∙ gives.brings.decides in cc
 
   module _ (from : ℕ) (decides : from_in net row giver ≡ Some from) where
-    pub source_is : IsEndOf (behaviour_at net.primitives giver.primitive) ((behaviour_at net.primitives giver.primitive).side_of giver.end) from
-    unfolding from_in
-    source_is = (wired.lawful giver.primitive is.is_end.0).from_end ((behaviour_at net.primitives giver.primitive).side_of giver.end) row giver.end from gives_by decides
-
-    pub source_takes : (behaviour_at net.primitives giver.primitive).takes_in from ≡ true
-    unfolding from_in
-    source_takes = (wired.lawful giver.primitive is.is_end.0).from_takes ((behaviour_at net.primitives giver.primitive).side_of giver.end) row giver.end from gives_by decides
-
-    pub source_taker : IsTaker net (end_of giver.primitive from)
-    source_taker = record { is_end = (is.is_end.0, source_is.0); takes = source_takes }
-
     -- Where an item decides, something is given for each.
     pub some_for : (item : Value) → IsSome ((behaviour_at net.primitives giver.primitive).given ((behaviour_at net.primitives giver.primitive).side_of giver.end) row giver.end (Some item))
     unfolding from_in
-    some_for item = (wired.lawful giver.primitive is.is_end.0).given_for ((behaviour_at net.primitives giver.primitive).side_of giver.end) row giver.end from item gives_by decides
+    some_for item = (wired.lawful giver.primitive is.is_end.0).given_for ((behaviour_at net.primitives giver.primitive).side_of giver.end) row giver.end from item (gives_by net wired giver is row flows) decides
 
     passes_at : (taken : Value) → passes_in net row (end_of giver.primitive from) taken ≡ (behaviour_at net.primitives giver.primitive).passes ((behaviour_at net.primitives giver.primitive).side_of giver.end) row from taken
     unfolding passes_in
-    passes_at taken = ap (λ (s : ℕ). (behaviour_at net.primitives giver.primitive).passes s row from taken) source_is.1
+    passes_at taken = ap (λ (s : ℕ). (behaviour_at net.primitives giver.primitive).passes s row from taken) (source_is net wired giver is row flows from decides).1
 
     -- Nothing is given for an item that is not let in.
     pub added_not : (taken : Value) → (behaviour_at net.primitives giver.primitive).passes ((behaviour_at net.primitives giver.primitive).side_of giver.end) row from taken ≡ false
@@ -118,13 +95,13 @@ module _ (net : Net) (wired : IsWired net) (giver : End) (is : IsGiver net giver
         k = joint_at table source
 
         takes_k : taker_of net k ≡ source
-        takes_k = taker_at net wired table ends source no_joint source_taker
+        takes_k = taker_at net wired table ends source no_joint (source_taker net wired giver is row flows from decides)
 
         there : (x : Value) → (u : Value) × Contains taken u × IsGivenFor net giver row source u x → IsProduced net supplied giver row x
         there x h =
             by_item k h.0
             (record {
-              brings = record { flows = flows; in_range = ends.in_range source source_taker.is_end; from = from; decides = decides; taker = takes_k };
+              brings = record { flows = flows; in_range = ends.in_range source (source_taker net wired giver is row flows from decides).is_end; from = from; decides = decides; taker = takes_k };
               given = subst (λ (e : End). IsGivenFor net giver row e h.0 x) (sym takes_k) h.2;
             })
             (subst (λ (xs : List Value). Contains xs h.0) same h.1)

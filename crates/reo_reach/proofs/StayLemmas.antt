@@ -20,8 +20,8 @@ use Rattle.reo_joint_values.specs.Many.{AreDistinct, IsJointIn}
 use Rattle.reo_reach.specs.Supplied.{Supplied, items_at, Leads, IsClear, IsReached}
 use Rattle.reo_reach.specs.Supplied.Leads.{here, on}
 use Rattle.reo_reach.specs.Stays.{AgreeAt, ReachedStay}
-use Rattle.reo_reach.proofs.OrderLemmas.{giver_at, brings_feeds}
-use Rattle.reo_reach.proofs.RowLemmas.{gives_by, source_is, source_takes}
+use Rattle.reo_joint_values.proofs.InOrder.{giver_at, brings_feeds}
+use Rattle.reo_joint_values.proofs.Sources.{gives_by, source_is, source_takes}
 use Rattle.reo_reach.proofs.WidthLemmas.{leads_inside}
 
 module _ (bs ds : List Behaviour) (js : List Joint) (wired : IsWired (record { primitives = bs; joints = js })) (inside : ℕ → Bool)

@@ -11,7 +11,7 @@ use Rattle.reo_joint_values.proofs.Distinct.{distinct_fewer}
 use Rattle.reo_reach.specs.Supplied.{Supplied, items_at, is_wide, Leads, IsClear, IsReached}
 use Rattle.reo_reach.specs.Supplied.Leads.{here, on}
 use Rattle.reo_reach.specs.Width.{ManyAreNotClear, PartsAreTold}
-use Rattle.reo_reach.proofs.OrderLemmas.{brings_feeds}
+use Rattle.reo_joint_values.proofs.InOrder.{brings_feeds}
 
 pub many_not_clear : ManyAreNotClear
 many_not_clear net supplied j is has clear =

@@ -1,5 +1,5 @@
 //! Laws of the items that can stand at joints.
-ghost use Rattle.reo_reach.specs.InOrder.{PartsAreInOrder};
+ghost use Rattle.reo_joint_values.specs.InOrder.{PartsAreInOrder};
 ghost use Rattle.reo_reach.specs.Stays.{ReachedStay};
 ghost use Rattle.reo_reach.specs.Width.{ManyAreNotClear, PartsAreTold};
 

@@ -5,7 +5,7 @@ ghost use Rattle.reo_net_base.specs.Ends.{IsGiver};
 ghost use Rattle.reo_net_base.specs.Net.{net_of, behaviour_at};
 ghost use Rattle.reo_net_circuit.specs.found_ends.Ends.{AreEnds};
 ghost use Rattle.reo_reach.specs.Added.{IsMade, IsRenewed};
-ghost use Rattle.reo_reach.specs.InOrder.{AreInOrder};
+ghost use Rattle.reo_joint_values.specs.InOrder.{AreInOrder};
 ghost use Rattle.reo_reach.specs.Supplied.{AreShort, HasPlaces, IsReached, IsSupply, OthersStay};
 
 use crate::rows::add_row;

@@ -14,7 +14,7 @@ use Rattle.reo_net_laws.specs.Jams.{jams}
 use Rattle.reo_net_laws.specs.Sublists.{sides_in}
 use Rattle.reo_net_laws.proofs.Sides.{side_in_range}
 use Rattle.reo_net_laws.proofs.Flows.{knot_jams_exactly}
-use Rattle.reo_knots.specs.Knots.{Knotted, AreKnots, AreThose, IsLoop, IsLoopOf, in_knot, knot_count}
+use Rattle.reo_net_laws.specs.Knots.{Knotted, AreKnots, AreThose, IsLoop, IsLoopOf, in_knot, knot_count}
 use Rattle.reo_reach.specs.Supplied.{Supplied, is_wide}
 use Rattle.reo_joint_values.specs.Many.{IsJointIn}
 use Rattle.reo_reach.specs.Width.{TellsItems}

@@ -1,7 +1,7 @@
 //! The first assignment of a knot, over all values that its joints can have.
 ghost use Rattle.std.specs.Prelude.{◌≡◌, ◌↔◌, ◌<◌, ◌≤◌, ◌+◌, ◌^◌, ℕ, false, IsTrue, IfOk, OnOk, MatchResult, length};
 ghost use Rattle.reo_net_base.specs.Net.{net_of, all_sides};
-ghost use Rattle.reo_knots.specs.Knots.{AreKnots, in_knot, knot_count};
+ghost use Rattle.reo_net_laws.specs.Knots.{AreKnots, in_knot, knot_count};
 ghost use Rattle.reo_joint_values.specs.Chosen.{IsChosen};
 ghost use Rattle.reo_reach.specs.Supplied.{AreShort, IsReached, IsSupply, is_wide};
 ghost use Rattle.reo_joint_values.specs.Many.{IsJointIn};

@@ -9,7 +9,7 @@ use Rattle.reo_values.proofs.Naturals.{eq_same}
 use Rattle.reo_values.proofs.Truths.{either}
 use Rattle.reo_net_base.specs.declared.joint.Joint.{Joint}
 use Rattle.reo_net_base.specs.Net.{Net, side_at}
-use Rattle.reo_knots.specs.Knots.{Knotted, AreKnots, IsLoopOf, in_knot, knot_count}
+use Rattle.reo_net_laws.specs.Knots.{Knotted, AreKnots, IsLoopOf, in_knot, knot_count}
 use Rattle.reo_joint_values.specs.declared.value.JointValue.{JointValue}
 use Rattle.reo_joint_values.specs.Values.{value_eq, no_joint, giver_side}
 use Rattle.reo_support.specs.Sets.{OneAtLoops}

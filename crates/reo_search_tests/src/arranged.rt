@@ -1,7 +1,7 @@
 //! The first knot with sets of values that are given.
 ghost use Rattle.std.specs.Prelude.{◌≡◌, ◌<◌, ◌+◌, IsTrue};
 ghost use Rattle.reo_net_base.specs.Net.{net_of};
-ghost use Rattle.reo_knots.specs.Knots.{AreKnots, knot_count};
+ghost use Rattle.reo_net_laws.specs.Knots.{AreKnots, knot_count};
 
 use crate::bounds::{are_single, are_within};
 use crate::looks::is_part;

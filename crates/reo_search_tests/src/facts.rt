@@ -1,7 +1,7 @@
 //! What is found of the first knot of a circuit.
 ghost use Rattle.std.specs.Prelude.{◌≡◌, ◌<◌};
 ghost use Rattle.reo_net_base.specs.Net.{net_of};
-ghost use Rattle.reo_knots.specs.Knots.{AreKnots, knot_count};
+ghost use Rattle.reo_net_laws.specs.Knots.{AreKnots, knot_count};
 ghost use Rattle.reo_reach.specs.Supplied.{AreShort, IsSupply};
 
 use crate::arranged::{Want, is_arranged, is_narrowed};

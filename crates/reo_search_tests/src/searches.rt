@@ -1,7 +1,7 @@
 //! The weight of a first knot, and its first assignment over all values.
 ghost use Rattle.std.specs.Prelude.{◌≡◌, ◌<◌, ◌≤◌, ◌+◌, ℕ, IsTrue};
 ghost use Rattle.reo_net_base.specs.Net.{net_of};
-ghost use Rattle.reo_knots.specs.Knots.{AreKnots, in_knot, knot_count};
+ghost use Rattle.reo_net_laws.specs.Knots.{AreKnots, in_knot, knot_count};
 ghost use Rattle.reo_reach.specs.Supplied.{AreShort, IsSupply};
 ghost use Rattle.reo_weights.specs.Weights.{IsWeight};
 

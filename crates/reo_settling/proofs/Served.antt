@@ -5,7 +5,7 @@ use Rattle.reo_values.proofs.Truths.{and_right}
 use Rattle.reo_net_base.specs.Net.{Net}
 use Rattle.reo_net_base.specs.Wired.{IsWired}
 use Rattle.reo_net_circuit.proofs.Cases.{eq_cases}
-use Rattle.reo_knots.specs.Knots.{Knotted, AreKnots, in_knot, knot_count}
+use Rattle.reo_net_laws.specs.Knots.{Knotted, AreKnots, in_knot, knot_count}
 use Rattle.reo_flows.specs.flowing.Flowing.{AreFlowingOf}
 use Rattle.reo_part_plans.specs.Plannings.{Kept, IsKept, is_settled, serves}
 use Rattle.reo_part_plans.proofs.Plannings.{ArePlannedSoFar, planned_more, served}

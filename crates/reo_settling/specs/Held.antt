@@ -1,7 +1,7 @@
 -- Tables that are kept.
 use Rattle.std.specs.Prelude.{ℕ, ◌<◌, ◌≡◌, Bool, true, false, List, Option, Some, None, slice_index_or}
 use Rattle.reo_net_base.specs.Net.{Net}
-use Rattle.reo_knots.specs.Knots.{Knotted, in_knot, knot_count}
+use Rattle.reo_net_laws.specs.Knots.{Knotted, in_knot, knot_count}
 use Rattle.reo_kept_tables.specs.declared.tables.Tables.{Tables}
 use Rattle.reo_kept_tables.specs.Tables.{AreRightOn, HasRoom}
 use Rattle.reo_part_plans.specs.Plannings.{Kept, is_settled}

@@ -2,7 +2,7 @@
 ghost use Rattle.std.specs.Prelude.{◌≡◌, IfOk, OnOk, length};
 ghost use Rattle.reo_net_base.specs.Net.{net_of};
 ghost use Rattle.reo_net_circuit.specs.found_ends.Ends.{AreEnds};
-ghost use Rattle.reo_knots.specs.Knots.{AreKnots, knot_count};
+ghost use Rattle.reo_net_laws.specs.Knots.{AreKnots, knot_count};
 ghost use Rattle.reo_kept_tables.specs.Orders.{AreOrders};
 ghost use Rattle.reo_kept_tables.specs.Tables.{AreReady};
 ghost use Rattle.reo_settling.specs.Held.{AreFreshTables, MayBeFresh};

@@ -1,7 +1,7 @@
 //! First colourings, made over and over.
 ghost use Rattle.std.specs.Prelude.{◌≡◌, ◌<◌, ℕ, length};
 ghost use Rattle.reo_net_base.specs.Net.{net_of, all_sides};
-ghost use Rattle.reo_knots.specs.Knots.{AreKnots, knot_count};
+ghost use Rattle.reo_net_laws.specs.Knots.{AreKnots, knot_count};
 ghost use Rattle.reo_rows.specs.Rows.{AreTables};
 ghost use Rattle.reo_rows.specs.Sets.{IsReady};
 ghost use Rattle.reo_reach.specs.Supplied.{AreShort, IsSupply};

@@ -23,7 +23,7 @@ use Rattle.reo_net_laws.proofs.Sides.{gives_at, row_in_table, row_below, side_in
 use Rattle.reo_net.proofs.colouring.ItemLemmas.{given_none, given_some, taken_by_ends}
 use Rattle.reo_joint_values.specs.Standing.{Brings, FlowsAt, giver_of, no_joint}
 use Rattle.reo_joint_values.specs.Many.{IsJointIn}
-use Rattle.reo_reach.specs.InOrder.{AreInOrder, joints_in}
+use Rattle.reo_joint_values.specs.InOrder.{AreInOrder, joints_in}
 use Rattle.reo_net_laws.specs.Parts.{IsClosed}
 use Rattle.reo_net_laws.proofs.Orders.{place_in}
 use Rattle.reo_kept_tables.specs.Orders.{AreJointsOf}

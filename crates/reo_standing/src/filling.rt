@@ -5,7 +5,7 @@ ghost use Rattle.reo_net_base.specs.Colouring.{IsColouring};
 ghost use Rattle.reo_net_base.specs.Net.{net_of};
 ghost use Rattle.reo_net_base.specs.Sides.{AreRowsOf};
 ghost use Rattle.reo_net_circuit.specs.found_ends.Ends.{AreEnds};
-ghost use Rattle.reo_knots.specs.Knots.{AreKnots, in_knot, knot_count};
+ghost use Rattle.reo_net_laws.specs.Knots.{AreKnots, in_knot, knot_count};
 ghost use Rattle.reo_flows.specs.flowing.Flowing.{AreFlowingIn, AreFlowingOf};
 ghost use Rattle.reo_flows.specs.stepping.Flowing.{GiverFlows};
 ghost use Rattle.reo_standing.specs.Feeds.{AreFeeds};

@@ -2,7 +2,7 @@
 ghost use Rattle.std.specs.Prelude.{◌≡◌, None, true, IfOk, length, set};
 ghost use Rattle.reo_net_base.specs.Net.{net_of};
 ghost use Rattle.reo_net_circuit.specs.found_ends.Ends.{AreEnds};
-ghost use Rattle.reo_knots.specs.Knots.{AreKnots, knot_count};
+ghost use Rattle.reo_net_laws.specs.Knots.{AreKnots, knot_count};
 ghost use Rattle.reo_flows.specs.flowing.Flowing.{AreFlowingIn};
 ghost use Rattle.reo_standing.specs.Feeds.{AreFeeds};
 ghost use Rattle.reo_standing.specs.Filling.{AreBlank, AreHeldAmong, AreMoving};

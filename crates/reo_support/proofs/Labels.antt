@@ -7,8 +7,8 @@ use Rattle.reo_values.proofs.Naturals.{eq_same, same_eq}
 use Rattle.reo_net_base.specs.Net.{Net}
 use Rattle.reo_net_laws.specs.Parts.{IsLinked}
 use Rattle.reo_joint_values.specs.Values.{giver_side, taker_side, no_joint}
-use Rattle.reo_knots.specs.Labels.{renamed}
-use Rattle.reo_knots.proofs.LabelLemmas.{renamed_same, renamed_other}
+use Rattle.reo_net_laws.specs.KnotLabels.{renamed}
+use Rattle.reo_net_laws.proofs.KnotLabels.{renamed_same, renamed_other}
 
 -- The label of a side where the first n joints link: the taker's label becomes the giver's.
 abbrev pub label : (ℕ → ℕ) → (ℕ → ℕ) → ℕ → ℕ → ℕ

@@ -5,7 +5,7 @@ use Rattle.reo_net_base.specs.declared.joint.Joint.{Joint}
 use Rattle.reo_net_base.specs.Net.{Net, side_at}
 use Rattle.reo_net_base.specs.Wired.{IsWired}
 use Rattle.reo_net_laws.specs.Parts.{IsLinked, IsKnot}
-use Rattle.reo_knots.specs.Knots.{IsLoop}
+use Rattle.reo_net_laws.specs.Knots.{IsLoop}
 use Rattle.reo_joint_values.specs.declared.value.JointValue.{JointValue}
 use Rattle.reo_joint_values.specs.Values.{Names, Choice, Family, no_joint, giver_side, taker_side, AtSide}
 use Rattle.reo_joint_values.specs.Fitting.{Fits, IsFrom}

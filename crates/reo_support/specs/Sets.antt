@@ -3,7 +3,7 @@ use Rattle.std.specs.Prelude.{ℕ, ◌<◌, ◌≡◌, Bool, true, length}
 use Rattle.reo_net_base.specs.Net.{Net}
 use Rattle.reo_joint_values.specs.declared.value.JointValue.{JointValue}
 use Rattle.reo_joint_values.specs.Values.{Family, giver_side}
-use Rattle.reo_knots.specs.Knots.{IsLoop}
+use Rattle.reo_net_laws.specs.Knots.{IsLoop}
 
 -- Each loop joint of a set of sides has at most one value.
 abbrev pub OneAtLoops : Net → (ℕ → Bool) → Family → Type 0

@@ -15,7 +15,7 @@ use Rattle.reo_net_laws.proofs.Search.{flow_or}
 use Rattle.reo_joint_values.specs.Standing.{no_joint, giver_of, taker_of, given_in, FlowsAt, Brings, GivesAlone, GivesFor, CanStand}
 use Rattle.reo_joint_values.specs.Standing.CanStand.{alone, passed}
 use Rattle.reo_joint_values.specs.Many.{IsJointIn}
-use Rattle.reo_reach.proofs.OrderLemmas.{order_in_order, brings_feeds}
+use Rattle.reo_joint_values.proofs.InOrder.{order_in_order, brings_feeds}
 use Rattle.reo_weights.specs.Bounds.{HasAtMost, sum_below, giver_rows, AreBounds, FewItemsStand}
 use Rattle.reo_weights.proofs.Listings.{at_head, behind_head, head_or_behind, not_in_none}
 

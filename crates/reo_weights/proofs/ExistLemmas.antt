@@ -9,8 +9,8 @@ use Rattle.reo_net_base.specs.Net.{Net}
 use Rattle.reo_net_base.specs.Sides.{side_count}
 use Rattle.reo_net_base.specs.Wired.{IsWired, IsOrder}
 use Rattle.reo_net_laws.specs.Parts.{SameKnot}
-use Rattle.reo_knots.specs.Knots.{AreNumbers, AreThose, IsLoop, in_knot}
-use Rattle.reo_knots.proofs.GroupLemmas.{picked_those}
+use Rattle.reo_net_laws.specs.Knots.{AreNumbers, AreThose, IsLoop, in_knot}
+use Rattle.reo_net_laws.proofs.KnotGroups.{picked_those}
 use Rattle.reo_joint_values.specs.Many.{IsJointIn}
 use Rattle.reo_joint_values.specs.declared.value.JointValue.{JointValue}
 use Rattle.reo_weights.specs.Weights.{all_values, AreSupported, IsWeight, product_of, capped}

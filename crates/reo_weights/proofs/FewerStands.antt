@@ -12,7 +12,7 @@ use Rattle.reo_net_laws.specs.Parts.{IsClosed}
 use Rattle.reo_joint_values.specs.Standing.{no_joint, giver_of, taker_of, given_in, passes_in, FlowsAt, Brings, GivesAlone, GivesFor, CanStand}
 use Rattle.reo_joint_values.specs.Standing.CanStand.{alone, passed}
 use Rattle.reo_joint_values.specs.Many.{IsJointIn}
-use Rattle.reo_reach.proofs.OrderLemmas.{brings_feeds}
+use Rattle.reo_joint_values.proofs.InOrder.{brings_feeds}
 use Rattle.reo_weights.specs.Fewer.{HasFewerRows}
 use Rattle.reo_weights.proofs.FewerEnds.{StandsAt, stands_here, old_mark, old_passes, old_plain, old_from, old_given}
 

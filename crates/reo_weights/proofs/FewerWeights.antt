@@ -12,7 +12,7 @@ use Rattle.reo_net_base.specs.Wired.{IsWired, IsOrder}
 use Rattle.reo_net_laws.specs.Parts.{IsClosedBelow, IsClosed}
 use Rattle.reo_net_laws.proofs.Assignments.{side_same}
 use Rattle.reo_net_laws.proofs.Isolation.{same_net}
-use Rattle.reo_knots.specs.Knots.{IsLoop}
+use Rattle.reo_net_laws.specs.Knots.{IsLoop}
 use Rattle.reo_joint_values.specs.Standing.{no_joint}
 use Rattle.reo_joint_values.specs.Many.{IsJointIn}
 use Rattle.reo_joint_values.specs.declared.value.JointValue.{JointValue}

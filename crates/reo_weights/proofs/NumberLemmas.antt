@@ -4,7 +4,7 @@ use Rattle.std.proofs.lemmas.Bool.{cases_lt}
 use Rattle.std.proofs.lemmas.Grind.{same_number_lists}
 use Rattle.reo_net_base.specs.Sides.{side_count}
 use Rattle.reo_net_laws.specs.Parts.{SameKnot}
-use Rattle.reo_knots.specs.Knots.{AreNumbers}
+use Rattle.reo_net_laws.specs.Knots.{AreNumbers}
 use Rattle.reo_weights.specs.Laws.{NumbersAreOne}
 
 module _ (are_same : ℕ → ℕ → Type 0) (n : ℕ) where

@@ -11,11 +11,11 @@ use Rattle.reo_net_base.specs.Sides.{side_count}
 use Rattle.reo_net_base.specs.Wired.{IsWired}
 use Rattle.reo_net_laws.specs.Parts.{SameKnot, IsLinked}
 use Rattle.reo_net_laws.proofs.Sides.{side_in_range}
-use Rattle.reo_knots.specs.Knots.{AreNumbers, IsLoop}
-use Rattle.reo_knots.specs.Labels.{AreLabels, same_label, renamed}
-use Rattle.reo_knots.proofs.KnotLemmas.{numbered}
-use Rattle.reo_knots.proofs.LinkLemmas.{own_labels, linked_labels}
-use Rattle.reo_knots.proofs.NumberLemmas.{more_numbered}
+use Rattle.reo_net_laws.specs.Knots.{AreNumbers, IsLoop}
+use Rattle.reo_net_laws.specs.KnotLabels.{AreLabels, same_label, renamed}
+use Rattle.reo_net_laws.proofs.Knots.{numbered}
+use Rattle.reo_net_laws.proofs.KnotLinks.{own_labels, linked_labels}
+use Rattle.reo_net_laws.proofs.KnotNumbers.{more_numbered}
 use Rattle.reo_joint_values.specs.Values.{joint_of, no_joint}
 use Rattle.reo_weights.proofs.Decisions.{IsDecided, same_decided, some_decided}
 

@@ -10,7 +10,7 @@ use Rattle.reo_net_laws.specs.Ends.{mark_in, from_in}
 use Rattle.reo_net_laws.proofs.Orders.{place_in, place_of}
 use Rattle.reo_joint_values.specs.Standing.{giver_of, taker_of, given_in, passes_in, FlowsAt, Brings, GivesAlone, GivesFor, CanStand}
 use Rattle.reo_joint_values.specs.Standing.CanStand.{alone, passed}
-use Rattle.reo_reach.proofs.OrderLemmas.{order_in_order}
+use Rattle.reo_joint_values.proofs.InOrder.{order_in_order}
 use Rattle.reo_weights.proofs.Decisions.{IsDecided, both_decided, same_decided, true_decided, marks_decided, options_decided}
 use Rattle.reo_weights.proofs.EqualItems.{items_decided}
 use Rattle.reo_weights.proofs.ListLemmas.{AreOnce}

@@ -7,7 +7,7 @@ use Rattle.std.proofs.lemmas.Grind.{same_number_lists}
 use Rattle.reo_net_base.specs.Net.{Net}
 use Rattle.reo_net_base.specs.Wired.{IsWired}
 use Rattle.reo_net_laws.specs.Parts.{IsClosed}
-use Rattle.reo_knots.specs.Knots.{IsLoop}
+use Rattle.reo_net_laws.specs.Knots.{IsLoop}
 use Rattle.reo_joint_values.specs.Many.{IsJointIn}
 use Rattle.reo_joint_values.specs.declared.value.JointValue.{JointValue}
 use Rattle.reo_joint_values.specs.Values.{Names, giver_side}

@@ -5,7 +5,7 @@ use Rattle.reo_net_base.specs.Net.{Net, behaviour_at}
 use Rattle.reo_net_base.specs.Wired.{IsWired, IsOrder}
 use Rattle.reo_net_laws.specs.Ends.{from_in}
 use Rattle.reo_net_laws.specs.Parts.{IsClosed}
-use Rattle.reo_knots.specs.Knots.{IsLoop, AreThose}
+use Rattle.reo_net_laws.specs.Knots.{IsLoop, AreThose}
 use Rattle.reo_joint_values.specs.Standing.{giver_of, FlowsAt, Brings, CanStand}
 use Rattle.reo_joint_values.specs.Many.{IsJointIn}
 use Rattle.reo_weights.specs.Weights.{IsWeight, product_of, capped}

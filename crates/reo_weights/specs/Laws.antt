@@ -4,7 +4,7 @@ use Rattle.reo_net_base.specs.Net.{Net}
 use Rattle.reo_net_base.specs.Sides.{side_count}
 use Rattle.reo_net_base.specs.Wired.{IsWired, IsOrder}
 use Rattle.reo_net_laws.specs.Parts.{IsClosed, SameKnot}
-use Rattle.reo_knots.specs.Knots.{AreNumbers, IsLoop, in_knot}
+use Rattle.reo_net_laws.specs.Knots.{AreNumbers, IsLoop, in_knot}
 use Rattle.reo_joint_values.specs.Many.{IsJointIn}
 use Rattle.reo_weights.specs.Weights.{IsWeight}
 use Rattle.reo_weights.specs.Over.{Cause, IsWithin, IsOver}

@@ -2,7 +2,7 @@
 use Rattle.std.specs.Prelude.{ℕ, ◌*◌, ◌<◌, ◌≡◌, ◌≢◌, ◌↔◌, Bool, true, Some, is_some, List, [], ◌∷◌, Contains, length, map, min, slice_index, slice_index_or}
 use Rattle.reo_values.specs.declared.value.Value.{Value}
 use Rattle.reo_net_base.specs.Net.{Net}
-use Rattle.reo_knots.specs.Knots.{IsLoop, AreThose}
+use Rattle.reo_net_laws.specs.Knots.{IsLoop, AreThose}
 use Rattle.reo_joint_values.specs.Standing.{CanStand}
 use Rattle.reo_joint_values.specs.Many.{IsJointIn}
 use Rattle.reo_joint_values.specs.declared.value.JointValue.{JointValue}

@@ -1,6 +1,6 @@
 //! What a search asks of its sets, looked at before it.
 ghost use Rattle.std.specs.Prelude.{◌≡◌, ◌<◌, ◌+◌, [], IsTrue, length, slice_index_or};
-ghost use Rattle.reo_knots.specs.Knots.{knot_count};
+ghost use Rattle.reo_net_laws.specs.Knots.{knot_count};
 ghost use Rattle.reo_rows.specs.Sets.{code_of};
 ghost use Rattle.reo_yardstick.specs.Bounds.{AreBelow, AreWithin, AreSingle};
 

@@ -12,7 +12,7 @@ use Rattle.reo_net_base.specs.Wired.{IsWired, IsEnd, IsOrder}
 use Rattle.reo_net_circuit.proofs.ReshapeLemmas.{side_same, order_same}
 use Rattle.reo_net_laws.proofs.Orders.{place_in}
 use Rattle.reo_joint_values.specs.Standing.{giver_of, no_joint}
-use Rattle.reo_reach.specs.InOrder.{joints_in}
+use Rattle.reo_joint_values.specs.InOrder.{joints_in}
 use Rattle.reo_flows.specs.flowing.Flowing.{AreFlowingOf, flowing_of, flows_by}
 
 -- What passes one test among what passes another.

@@ -6,8 +6,8 @@ use Rattle.reo_net_base.specs.Sides.{side_count}
 use Rattle.reo_net_base.specs.Wired.{IsOrder}
 use Rattle.reo_joint_values.specs.Standing.{giver_of}
 use Rattle.reo_joint_values.specs.Many.{IsJointIn}
-use Rattle.reo_reach.specs.InOrder.{joints_in}
-use Rattle.reo_knots.specs.Knots.{Knotted, in_knot, knot_count}
+use Rattle.reo_joint_values.specs.InOrder.{joints_in}
+use Rattle.reo_net_laws.specs.Knots.{Knotted, in_knot, knot_count}
 
 -- Whether a joint flows by some rows: its giver does.
 abbrev pub flows_by : Net → List ℕ → ℕ → Bool

@@ -6,7 +6,7 @@ use Rattle.reo_net_base.specs.Net.{Net, Wiring}
 use Rattle.reo_net_base.specs.Sides.{side_count}
 use Rattle.reo_net_base.specs.Wired.{IsWired}
 use Rattle.reo_net_laws.specs.Parts.{SameKnot}
-use Rattle.reo_knots.specs.Knots.{AreNumbers}
+use Rattle.reo_net_laws.specs.Knots.{AreNumbers}
 use Rattle.reo_kinds.specs.declared.kind.Kind.{Kind}
 use Rattle.reo_kinds.specs.declared.kind.Kind.TheVariants as kinds
 use Rattle.reo_open.specs.Opened.{open_net, HasNoFilter}

@@ -8,8 +8,8 @@ use Rattle.reo_net_base.specs.Net.{Net}
 use Rattle.reo_net_base.specs.Sides.{side_count}
 use Rattle.reo_net_base.specs.Wired.{IsWired}
 use Rattle.reo_net_laws.specs.Parts.{IsClosed, SameKnot}
-use Rattle.reo_knots.specs.Knots.{AreNumbers, in_knot}
-use Rattle.reo_knots.proofs.KnotLemmas.{knot}
+use Rattle.reo_net_laws.specs.Knots.{AreNumbers, in_knot}
+use Rattle.reo_net_laws.proofs.Knots.{knot}
 use Rattle.reo_weights.specs.Over.{IsWithin, IsSpent}
 use Rattle.reo_weights.proofs.Listings.{in_filter}
 use Rattle.reo_weights.proofs.WeightLemmas.{one_weight}

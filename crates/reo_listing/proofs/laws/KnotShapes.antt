@@ -12,7 +12,7 @@ use Rattle.reo_net_circuit.proofs.ReshapeLemmas.{side_same}
 use Rattle.reo_net_laws.specs.Parts.{IsClosedBelow, IsLinked, SameKnot, IsKnot}
 use Rattle.reo_net_laws.proofs.Shapes.{count_same}
 use Rattle.reo_listing.specs.laws.Shapes.{KnotsStayWithShape}
-use Rattle.reo_knots.specs.Knots.{Knotted, AreNumbers, AreKnots, IsLoopOf, in_knot, knot_count}
+use Rattle.reo_net_laws.specs.Knots.{Knotted, AreNumbers, AreKnots, IsLoopOf, in_knot, knot_count}
 
 module _ (bs ds : List Behaviour) (js : List Joint) (wired : IsWired (record { primitives = bs; joints = js })) (r : SameShapes bs ds) where
   abbrev net : Net

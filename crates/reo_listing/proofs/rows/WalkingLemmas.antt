@@ -6,7 +6,7 @@ use Rattle.reo_net_base.specs.declared.mark.Mark.TheVariants.{F, G, R}
 use Rattle.reo_net_base.specs.Net.{Net, Wiring, net_of}
 use Rattle.reo_net_base.specs.Step.{change_at}
 use Rattle.reo_net_circuit.proofs.Cases.{lt_cases}
-use Rattle.reo_knots.specs.Knots.{Knotted, in_knot}
+use Rattle.reo_net_laws.specs.Knots.{Knotted, in_knot}
 use Rattle.reo_open.specs.declared.gate.Allowed.{Allowed}
 use Rattle.reo_open.specs.declared.gate.Allowed.TheVariants.{All}
 use Rattle.reo_open.specs.declared.opens.Open.{Open}

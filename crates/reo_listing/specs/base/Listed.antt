@@ -4,7 +4,7 @@ use Rattle.std.specs.List.{range_with_len}
 use Rattle.reo_net_base.specs.Net.{Net, Wiring}
 use Rattle.reo_net_base.specs.Sides.{side_count}
 use Rattle.reo_net_laws.specs.Parts.{SameKnot}
-use Rattle.reo_knots.specs.Knots.{AreNumbers, in_knot}
+use Rattle.reo_net_laws.specs.Knots.{AreNumbers, in_knot}
 use Rattle.reo_kinds.specs.declared.kind.Kind.{Kind}
 use Rattle.reo_open.specs.Opened.{open_net, is_filter, HasNoFilter}
 use Rattle.reo_weights.specs.Over.{IsWithin, IsSpent}

@@ -3,7 +3,7 @@ use Rattle.std.specs.Prelude.{◌≡◌}
 use Rattle.reo_net_base.specs.Net.{Net}
 use Rattle.reo_net_base.specs.Shapes.{SameShapes}
 use Rattle.reo_net_base.specs.Wired.{IsWired}
-use Rattle.reo_knots.specs.Knots.{Knotted, AreKnots}
+use Rattle.reo_net_laws.specs.Knots.{Knotted, AreKnots}
 
 -- The knots of a circuit are those of each circuit of its shape.
 abbrev pub KnotsStayWithShape : Type 0

@@ -1,7 +1,7 @@
 //! The ports of a part.
 ghost use Rattle.std.specs.Prelude.{◌≡◌, ◌<◌, ◌++◌, [], ◌∷◌, cond, IfOk, OnOk, length};
 ghost use Rattle.reo_net_base.specs.Net.{net_of, end_of, side_at};
-ghost use Rattle.reo_knots.specs.Knots.{AreKnots, in_knot, knot_count};
+ghost use Rattle.reo_net_laws.specs.Knots.{AreKnots, in_knot, knot_count};
 ghost use Rattle.reo_open.specs.Opens.{open_behaviour};
 ghost use Rattle.reo_listing.specs.base.Tables.{ports_in};
 

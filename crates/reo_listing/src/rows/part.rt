@@ -1,7 +1,7 @@
 //! The table of one part.
 ghost use Rattle.std.specs.Prelude.{◌≡◌, ◌<◌, ◌≤◌, ◌^◌, [], IfOk, OnOk, MatchResult, length};
 ghost use Rattle.reo_net_base.specs.Net.{net_of};
-ghost use Rattle.reo_knots.specs.Knots.{in_knot, AreKnots, knot_count};
+ghost use Rattle.reo_net_laws.specs.Knots.{in_knot, AreKnots, knot_count};
 ghost use Rattle.reo_open.specs.Opens.{open_behaviour};
 ghost use Rattle.reo_weights.specs.Widths.{IsWide};
 ghost use Rattle.reo_listing.specs.laws.Gated.{AreHeld};

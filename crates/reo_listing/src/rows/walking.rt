@@ -1,7 +1,7 @@
 //! The lists that the ports of a part have, from port to port.
 ghost use Rattle.std.specs.Prelude.{◌≡◌, ◌≢◌, ◌<◌, ◌≤◌, ◌-◌, ◌^◌, Bool, OnOk, MatchResult, length, slice_index};
 ghost use Rattle.reo_net_base.specs.Net.{net_of};
-ghost use Rattle.reo_knots.specs.Knots.{in_knot};
+ghost use Rattle.reo_net_laws.specs.Knots.{in_knot};
 ghost use Rattle.reo_open.specs.declared.gate.Allowed.TheVariants.{All};
 ghost use Rattle.reo_open.specs.Opens.{open_behaviour};
 ghost use Rattle.reo_listing.specs.laws.Extended.{Extends, IsExtendFault};

@@ -11,8 +11,8 @@ use Rattle.std.proofs.lemmas.List.Kept.{AllPairs-from_increasing}
 use Rattle.reo_values.specs.declared.value.Value.{Value}
 use Rattle.reo_values.proofs.Naturals.{range_more}
 use Rattle.reo_net_base.specs.Net.{Net}
-use Rattle.reo_knots.specs.Knots.{IsLoop, AreThose}
-use Rattle.reo_knots.proofs.GroupLemmas.{picked_those}
+use Rattle.reo_net_laws.specs.Knots.{IsLoop, AreThose}
+use Rattle.reo_net_laws.proofs.KnotGroups.{picked_those}
 use Rattle.reo_joint_values.specs.Many.{IsJointIn}
 use Rattle.reo_weights.specs.Weights.{AreNamed, all_values, AreSupported, product_of, capped, IsWeight}
 use Rattle.reo_joint_values.specs.declared.value.JointValue.{JointValue}

@@ -12,8 +12,8 @@ use Rattle.reo_net_laws.specs.Alike.{AreAlike}
 use Rattle.reo_joint_values.specs.Standing.{no_joint, giver_of, taker_of, given_in, passes_in, FlowsAt, Brings, GivesAlone, GivesFor, CanStand}
 use Rattle.reo_joint_values.specs.Standing.CanStand.{alone, passed}
 use Rattle.reo_joint_values.specs.Many.{IsJointIn}
-use Rattle.reo_reach.proofs.OrderLemmas.{giver_at, brings_feeds}
-use Rattle.reo_reach.proofs.RowLemmas.{source_is}
+use Rattle.reo_joint_values.proofs.InOrder.{giver_at, brings_feeds}
+use Rattle.reo_joint_values.proofs.Sources.{source_is}
 use Rattle.reo_weights.proofs.still.EndLemmas.{rows_alike, mark_alike, passes_alike, from_alike, given_alike}
 
 module _ (bs ds : List Behaviour) (js : List Joint) (wired : IsWired (record { primitives = bs; joints = js })) (inside : ℕ → Bool)

@@ -23,8 +23,8 @@ use Rattle.reo_net_laws.proofs.Assignments.{agreeing}
 use Rattle.reo_net_laws.proofs.Places.{key_inside, positions_in_range}
 use Rattle.reo_net_laws.proofs.Orders.{no_joint}
 use Rattle.reo_net_laws.proofs.FirstInside.{first_by_parts}
-use Rattle.reo_knots.specs.Knots.{AreNumbers, in_knot}
-use Rattle.reo_knots.proofs.KnotLemmas.{knot}
+use Rattle.reo_net_laws.specs.Knots.{AreNumbers, in_knot}
+use Rattle.reo_net_laws.proofs.Knots.{knot}
 use Rattle.reo_weights.specs.still.Joining.{HaveFirsts, PartsMakeFirst}
 use Rattle.reo_weights.proofs.still.PartSets.{fewer, same_places}
 

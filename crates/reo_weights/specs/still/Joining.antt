@@ -8,7 +8,7 @@ use Rattle.reo_net_base.specs.First.{IsFirst}
 use Rattle.reo_net_base.specs.Wired.{IsWired}
 use Rattle.reo_net_laws.specs.Parts.{SameKnot, is_joint_inside}
 use Rattle.reo_net_laws.specs.Keys.{IsFirstIn}
-use Rattle.reo_knots.specs.Knots.{AreNumbers, in_knot}
+use Rattle.reo_net_laws.specs.Knots.{AreNumbers, in_knot}
 
 -- The first assignment of the part of this number, with the same rows there as a list.
 pub record HasFirst (net : Net) (numbers : List ℕ) (turn : ℕ) (rows : List ℕ) (k : ℕ) : Type 0 where

@@ -1,6 +1,6 @@
 use Rattle.std.proofs.Common.{◌≡◌, ◌∙◌, ◌<◌, ◌≤◌, ◌+◌, ℕ, Bool, false, List, [], length, get_or, refl, subst, arith}
 use Rattle.reo_net_base.specs.Net.{Net, net_of}
-use Rattle.reo_knots.specs.Knots.{knot_count}
+use Rattle.reo_net_laws.specs.Knots.{knot_count}
 use Rattle.reo_trace.specs.declared.cells.cells.Cells.{Cells}
 use Rattle.reo_trace.specs.cells.Cells.{IsShown}
 use Rattle.reo_engine.specs.Flows.{AreShownAt, AreWrittenAt}

@@ -1,5 +1,5 @@
 use Rattle.reo_net_base.specs.Net.{net_of}
-use Rattle.reo_knots.specs.Knots.{knot_count}
+use Rattle.reo_net_laws.specs.Knots.{knot_count}
 use Rattle.reo_kept_tables.proofs.Sorted.{ArePicked}
 use Rattle.reo_kept_tables.proofs.orders.orders_of.Given as goal
 

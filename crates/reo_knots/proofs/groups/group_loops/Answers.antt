@@ -2,7 +2,7 @@ use Rattle.std.proofs.Common.{◌≡◌, ◌<◌, ℕ, false, get_or, length, ap
 use Rattle.std.specs.Prelude.{◌==◌, ◌&&◌}
 use Rattle.reo_net_base.specs.declared.joint.Joint.{Joint}
 use Rattle.reo_net_base.specs.Net.{Net, net_of, side_at}
-use Rattle.reo_knots.proofs.GroupLemmas.{more_picked}
+use Rattle.reo_net_laws.proofs.KnotGroups.{more_picked}
 use Rattle.reo_knots.proofs.groups.group_loops.Goals as goal
 
 pub side_of-side-requires : goal.side_of-side-requires

@@ -1,5 +1,5 @@
 use Rattle.reo_net_base.specs.Net.{net_of}
-use Rattle.reo_knots.specs.Groups.{AreLoopsBelow}
+use Rattle.reo_net_laws.specs.KnotGroups.{AreLoopsBelow}
 use Rattle.reo_knots.proofs.groups.group_loops.Given as goal
 
 abbrev pub invariant-loop-index : goal.invariant-loop-index

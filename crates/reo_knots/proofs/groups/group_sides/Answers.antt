@@ -1,6 +1,6 @@
 use Rattle.std.proofs.Common.{refl, true, get_or}
 use Rattle.std.specs.Prelude.{◌==◌}
-use Rattle.reo_knots.proofs.GroupLemmas.{more_picked}
+use Rattle.reo_net_laws.proofs.KnotGroups.{more_picked}
 use Rattle.reo_knots.proofs.groups.group_sides.Goals as goal
 
 pub loop-side-preserved : goal.loop-side-preserved

@@ -1,4 +1,4 @@
-use Rattle.reo_knots.specs.Groups.{AreSidesBelow}
+use Rattle.reo_net_laws.specs.KnotGroups.{AreSidesBelow}
 use Rattle.reo_knots.proofs.groups.group_sides.Given as goal
 
 abbrev pub invariant-loop-side : goal.invariant-loop-side

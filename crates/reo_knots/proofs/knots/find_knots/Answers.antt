@@ -3,8 +3,8 @@ use Rattle.reo_net_base.specs.declared.joint.Joint.{Joint}
 use Rattle.reo_net_base.specs.Net.{Net, net_of}
 use Rattle.reo_net_base.specs.Sides.{side_count}
 use Rattle.reo_net_laws.specs.Parts.{SameKnot}
-use Rattle.reo_knots.specs.Knots.{AreNumbers}
-use Rattle.reo_knots.proofs.KnotLemmas.{numbered, knots}
+use Rattle.reo_net_laws.specs.Knots.{AreNumbers}
+use Rattle.reo_net_laws.proofs.Knots.{numbered, knots}
 use Rattle.reo_knots.proofs.knots.find_knots.Goals as goal
 
 pub invariant_of-result : goal.invariant_of-result

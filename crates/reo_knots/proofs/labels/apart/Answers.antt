@@ -1,4 +1,4 @@
-use Rattle.reo_knots.proofs.LabelLemmas.{own_members}
+use Rattle.reo_net_laws.proofs.KnotLabels.{own_members}
 use Rattle.reo_knots.proofs.labels.apart.Goals as goal
 
 pub returns-clause-members : goal.returns-clause-members

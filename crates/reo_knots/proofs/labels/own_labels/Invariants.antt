@@ -1,4 +1,4 @@
-use Rattle.reo_knots.specs.Labels.{AreOwn}
+use Rattle.reo_net_laws.specs.KnotLabels.{AreOwn}
 use Rattle.reo_knots.proofs.labels.own_labels.Given as goal
 
 abbrev pub invariant-loop-side : goal.invariant-loop-side

@@ -1,4 +1,4 @@
-use Rattle.reo_knots.proofs.LabelLemmas.{more_alone}
+use Rattle.reo_net_laws.proofs.KnotLabels.{more_alone}
 use Rattle.reo_knots.proofs.labels.own_members.Goals as goal
 
 pub loop-side-preserved : goal.loop-side-preserved

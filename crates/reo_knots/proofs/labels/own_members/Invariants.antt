@@ -1,4 +1,4 @@
-use Rattle.reo_knots.specs.Labels.{AreOwnMembers}
+use Rattle.reo_net_laws.specs.KnotLabels.{AreOwnMembers}
 use Rattle.reo_knots.proofs.labels.own_members.Given as goal
 
 abbrev pub invariant-loop-side : goal.invariant-loop-side

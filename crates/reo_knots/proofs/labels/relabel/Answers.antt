@@ -1,6 +1,6 @@
 use Rattle.std.proofs.Common.{◌<◌, get_or, length, arith, rules}
 use Rattle.std.proofs.lemmas.List.Elements.{Contains-get_or}
-use Rattle.reo_knots.proofs.LabelLemmas.{more_written}
+use Rattle.reo_net_laws.proofs.KnotLabels.{more_written}
 use Rattle.reo_knots.proofs.labels.relabel.Goals as goal
 
 pub index_mut-requires : goal.index_mut-requires

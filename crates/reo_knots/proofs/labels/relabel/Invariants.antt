@@ -1,5 +1,5 @@
 use Rattle.std.proofs.Common.{take}
-use Rattle.reo_knots.specs.Labels.{IsWritten}
+use Rattle.reo_net_laws.specs.KnotLabels.{IsWritten}
 use Rattle.reo_knots.proofs.labels.relabel.Given as goal
 
 -- The sides so far have the label.

@@ -1,7 +1,7 @@
 use Rattle.std.proofs.Common.{◌≡◌, ◌<◌, ℕ, List, [], get_or, length, ◌∙◌, arith}
 use Rattle.std.proofs.lemmas.List.{get_or_default}
 use Rattle.std.proofs.lemmas.Result.{on_ok_weaker}
-use Rattle.reo_knots.proofs.LabelLemmas.{renames, still_members}
+use Rattle.reo_net_laws.proofs.KnotLabels.{renames, still_members}
 use Rattle.reo_knots.proofs.labels.rename.Goals as goal
 
 read : (xs : List (List ℕ)) (i : ℕ) (x : List ℕ) → x ≡ get_or xs i x → i < length xs → x ≡ get_or xs i []

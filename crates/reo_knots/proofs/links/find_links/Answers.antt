@@ -1,6 +1,6 @@
 use Rattle.std.proofs.Common.{refl, arith}
 use Rattle.reo_net_base.specs.Net.{Net, net_of}
-use Rattle.reo_knots.proofs.LinkLemmas.{own_labels, more_loops}
+use Rattle.reo_net_laws.proofs.KnotLinks.{own_labels, more_loops}
 use Rattle.reo_knots.proofs.links.find_links.Goals as goal
 
 pub loop-index-init : goal.loop-index-init

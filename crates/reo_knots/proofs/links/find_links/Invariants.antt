@@ -1,5 +1,5 @@
 use Rattle.reo_net_base.specs.Net.{net_of}
-use Rattle.reo_knots.specs.Labels.{AreLabels, AreMembers, AreLoops}
+use Rattle.reo_net_laws.specs.KnotLabels.{AreLabels, AreMembers, AreLoops}
 use Rattle.reo_knots.proofs.links.find_links.Given as goal
 
 -- The joints so far are linked.

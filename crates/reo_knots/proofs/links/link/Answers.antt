@@ -2,8 +2,8 @@ use Rattle.std.proofs.Common.{◌≡◌, ◌↔◌, IsTrue, get_or, sym, ◌∙�
 use Rattle.std.proofs.lemmas.Result.{on_ok_weaker, IfOk-weaker}
 use Rattle.reo_net_base.specs.declared.joint.Joint.{Joint}
 use Rattle.reo_net_base.specs.Net.{Net, net_of, side_at}
-use Rattle.reo_knots.specs.Knots.{IsLoop}
-use Rattle.reo_knots.proofs.LinkLemmas.{linked_labels, closes_loop}
+use Rattle.reo_net_laws.specs.Knots.{IsLoop}
+use Rattle.reo_net_laws.proofs.KnotLinks.{linked_labels, closes_loop}
 use Rattle.reo_knots.proofs.links.link.Goals as goal
 
 pub side_of-giver-requires : goal.side_of-giver-requires

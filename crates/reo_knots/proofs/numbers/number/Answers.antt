@@ -1,5 +1,5 @@
 use Rattle.std.proofs.Common.{◌≡◌, length, arith}
-use Rattle.reo_knots.proofs.NumberLemmas.{IsNumbered, next_number, more_numbered, more_known}
+use Rattle.reo_net_laws.proofs.KnotNumbers.{IsNumbered, next_number, more_numbered, more_known}
 use Rattle.reo_knots.proofs.numbers.number.Goals as goal
 
 pub loop-side-preserved : goal.loop-side-preserved

@@ -1,7 +1,7 @@
 use Rattle.std.proofs.Common.{◌≤◌}
-use Rattle.reo_knots.specs.Knots.{AreNumbers}
-use Rattle.reo_knots.specs.Labels.{same_label}
-use Rattle.reo_knots.proofs.NumberLemmas.{AreKnown}
+use Rattle.reo_net_laws.specs.Knots.{AreNumbers}
+use Rattle.reo_net_laws.specs.KnotLabels.{same_label}
+use Rattle.reo_net_laws.proofs.KnotNumbers.{AreKnown}
 use Rattle.reo_knots.proofs.numbers.number.Given as goal
 
 -- The sides so far are numbered, and what is known of labels are these numbers.

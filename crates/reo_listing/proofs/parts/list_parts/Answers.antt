@@ -1,7 +1,7 @@
 use Rattle.std.proofs.Common.{arith, subst, ◌<◌}
 use Rattle.std.specs.Prelude.{Err}
 use Rattle.reo_net_base.specs.Net.{Wiring, net_of}
-use Rattle.reo_knots.specs.Knots.{knot_count}
+use Rattle.reo_net_laws.specs.Knots.{knot_count}
 use Rattle.reo_open.specs.declared.opens.Open.{Open}
 use Rattle.reo_open.specs.Opens.{open_behaviour}
 use Rattle.reo_listing.specs.base.Listed.{ListsParts}

@@ -1,4 +1,4 @@
-use Rattle.reo_knots.specs.Knots.{in_knot}
+use Rattle.reo_net_laws.specs.Knots.{in_knot}
 use Rattle.reo_listing.proofs.parts.table_of.Goals as goal
 
 pub rows_of-requires-clause-narrow : goal.rows_of-requires-clause-narrow

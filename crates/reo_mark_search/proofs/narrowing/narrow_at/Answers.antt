@@ -1,6 +1,6 @@
 use Rattle.std.proofs.Common.{◌≡◌, true}
 use Rattle.reo_net_base.specs.Net.{Net, net_of}
-use Rattle.reo_knots.specs.Knots.{in_knot}
+use Rattle.reo_net_laws.specs.Knots.{in_knot}
 use Rattle.reo_mark_search.proofs.Seated.{narrowed_reduced, narrowed_none}
 use Rattle.reo_mark_search.proofs.narrowing.narrow_at.Goals as goal
 

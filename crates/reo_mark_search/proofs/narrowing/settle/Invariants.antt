@@ -1,5 +1,5 @@
 use Rattle.reo_net_base.specs.Net.{net_of}
-use Rattle.reo_knots.specs.Knots.{in_knot}
+use Rattle.reo_net_laws.specs.Knots.{in_knot}
 use Rattle.reo_mark_search.specs.Fitting.{AreReduced}
 use Rattle.reo_mark_search.proofs.narrowing.settle.Given as goal
 

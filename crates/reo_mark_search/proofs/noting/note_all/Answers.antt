@@ -1,6 +1,6 @@
 use Rattle.std.proofs.Common.{◌≡◌, ◌∙◌, ℕ, Bool, List, length, subst, arith}
 use Rattle.reo_net_base.specs.Net.{Net, net_of}
-use Rattle.reo_knots.specs.Knots.{in_knot}
+use Rattle.reo_net_laws.specs.Knots.{in_knot}
 use Rattle.reo_mark_search.specs.Fitting.{AreOpenSides, AreReset}
 use Rattle.reo_mark_search.proofs.Meeting.{noted_all, open_all, all_fits}
 use Rattle.reo_mark_search.proofs.Parts.{side_below, side_listed, knot_below}

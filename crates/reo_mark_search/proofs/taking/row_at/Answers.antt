@@ -1,6 +1,6 @@
 use Rattle.std.proofs.Common.{◌≡◌, ◌∙◌, ◌<◌, ◌+◌, ℕ, Bool, true, List, [], ◌∷◌, length, slice_index, set, sym, ap, subst, arith, get_or-set_other}
 use Rattle.reo_net_base.specs.Net.{Net, net_of}
-use Rattle.reo_knots.specs.Knots.{in_knot}
+use Rattle.reo_net_laws.specs.Knots.{in_knot}
 use Rattle.reo_mark_search.specs.Fitting.{ArePinned}
 use Rattle.reo_mark_search.specs.Places.{row_place}
 use Rattle.reo_mark_search.specs.Walking.{GoesOn}

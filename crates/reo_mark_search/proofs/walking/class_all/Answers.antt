@@ -1,6 +1,6 @@
 use Rattle.std.proofs.Common.{◌∙◌, arith}
 use Rattle.reo_net_base.specs.Net.{Net, net_of}
-use Rattle.reo_knots.specs.Knots.{in_knot}
+use Rattle.reo_net_laws.specs.Knots.{in_knot}
 use Rattle.reo_mark_search.proofs.Parts.{side_here, side_below}
 use Rattle.reo_mark_search.proofs.Steps.{class_next}
 use Rattle.reo_mark_search.proofs.walking.class_all.Goals as goal

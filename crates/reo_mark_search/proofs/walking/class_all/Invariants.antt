@@ -1,6 +1,6 @@
 use Rattle.std.proofs.Common.{◌≡◌, length, take}
 use Rattle.reo_net_base.specs.Net.{net_of}
-use Rattle.reo_knots.specs.Knots.{in_knot}
+use Rattle.reo_net_laws.specs.Knots.{in_knot}
 use Rattle.reo_mark_search.specs.Places.{class_places}
 use Rattle.reo_mark_search.specs.Walking.{GoesOn}
 use Rattle.reo_mark_search.proofs.walking.class_all.Given as goal

@@ -3,7 +3,7 @@ use Rattle.std.proofs.lemmas.List.{length-set, get_or_default}
 use Rattle.reo_net_base.specs.Behaviour.{Behaviour}
 use Rattle.reo_net_base.specs.Net.{Net, Side, net_of, no_side, row_count}
 use Rattle.reo_net_laws.specs.JamRows.{jam_rows}
-use Rattle.reo_knots.specs.Knots.{in_knot}
+use Rattle.reo_net_laws.specs.Knots.{in_knot}
 use Rattle.reo_mark_search.proofs.Meeting.{jam_next, jam_row_at}
 use Rattle.reo_mark_search.proofs.Parts.{side_here, side_below, side_listed}
 use Rattle.reo_mark_search.proofs.walking.jam_all.Goals as goal

@@ -3,7 +3,7 @@ use Rattle.reo_net_base.specs.Behaviour.{Behaviour}
 use Rattle.reo_net_base.specs.First.{is_leading}
 use Rattle.reo_net_base.specs.Net.{Net, net_of, no_side}
 use Rattle.reo_net_laws.specs.Keys.{leads_at}
-use Rattle.reo_knots.specs.Knots.{in_knot}
+use Rattle.reo_net_laws.specs.Knots.{in_knot}
 use Rattle.reo_mark_sets.specs.declared.marks.Marks.{Marks}
 use Rattle.reo_mark_search.specs.Places.{lead_places}
 use Rattle.reo_mark_search.specs.Walking.{GoesOn}

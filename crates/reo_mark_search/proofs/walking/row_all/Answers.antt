@@ -1,6 +1,6 @@
 use Rattle.std.proofs.Common.{◌∙◌, ◌<◌, ℕ, List, [], length, slice_index_or, ap, arith}
 use Rattle.reo_net_base.specs.Net.{Net, net_of}
-use Rattle.reo_knots.specs.Knots.{in_knot}
+use Rattle.reo_net_laws.specs.Knots.{in_knot}
 use Rattle.reo_mark_search.proofs.Steps.{row_next}
 use Rattle.reo_mark_search.proofs.walking.row_all.Goals as goal
 

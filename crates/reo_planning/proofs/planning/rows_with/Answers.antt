@@ -1,6 +1,6 @@
 use Rattle.std.proofs.Common.{◌≡◌, ◌+◌, ◌<◌, ◌≤◌, ℕ, subst, arith}
 use Rattle.reo_net_base.specs.Net.{Net, net_of}
-use Rattle.reo_knots.specs.Knots.{knot_count}
+use Rattle.reo_net_laws.specs.Knots.{knot_count}
 use Rattle.reo_rounds.specs.Plans.{IsPlanFault}
 use Rattle.reo_planning.specs.Planned.{ArePlanned, sum_below, weight_left}
 use Rattle.reo_planning.proofs.Parting.{planned_more, least_over}

@@ -1,6 +1,7 @@
 use Rattle.std.proofs.lemmas.Result.{on_ok_weaker}
 use Rattle.reo_net_base.specs.Net.{Net, net_of}
-use Rattle.reo_reach.proofs.RowLemmas.{flows_by, some_alone, added_alone}
+use Rattle.reo_joint_values.proofs.Sources.{flows_by}
+use Rattle.reo_reach.proofs.RowLemmas.{some_alone, added_alone}
 use Rattle.reo_reach.proofs.rows.add_alone.Goals as goal
 
 pub gives-requires-clause-flows : goal.gives-requires-clause-flows

@@ -5,7 +5,8 @@ use Rattle.reo_values.specs.declared.value.Value.{Value}
 use Rattle.reo_net_base.specs.Net.{Net, net_of, end_of}
 use Rattle.reo_joint_values.specs.Standing.{IsGivenFor}
 use Rattle.reo_reach.proofs.AddedLemmas.{added_full}
-use Rattle.reo_reach.proofs.RowLemmas.{flows_by, source_is, source_takes, some_for, added_not, added_for}
+use Rattle.reo_joint_values.proofs.Sources.{flows_by, source_is, source_takes}
+use Rattle.reo_reach.proofs.RowLemmas.{some_for, added_not, added_for}
 use Rattle.reo_reach.proofs.rows.add_for.Goals as goal
 
 pub passes-requires-clause-end : goal.passes-requires-clause-end

@@ -6,7 +6,8 @@ use Rattle.reo_net_laws.specs.Ends.{from_in}
 use Rattle.reo_net_circuit.specs.found_ends.Ends.{joint_at}
 use Rattle.reo_net_circuit.proofs.found_ends.EndLemmas.{has_joint}
 use Rattle.reo_reach.specs.Supplied.{items_at}
-use Rattle.reo_reach.proofs.RowLemmas.{flows_by, source_taker, produced_alone, produced_for}
+use Rattle.reo_joint_values.proofs.Sources.{flows_by, source_taker}
+use Rattle.reo_reach.proofs.RowLemmas.{produced_alone, produced_for}
 use Rattle.reo_reach.proofs.rows.add_given.Goals as goal
 
 pub from-requires-clause-flows : goal.from-requires-clause-flows

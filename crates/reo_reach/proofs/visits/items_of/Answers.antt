@@ -8,7 +8,7 @@ use Rattle.reo_joint_values.specs.Standing.{no_joint}
 use Rattle.reo_reach.specs.Added.{AreAdded, IsProduced}
 use Rattle.reo_reach.proofs.AddedLemmas.{Below, added_none, added_more}
 use Rattle.reo_reach.proofs.RowLemmas.{all_made}
-use Rattle.reo_reach.proofs.OrderLemmas.{giver_at}
+use Rattle.reo_joint_values.proofs.InOrder.{giver_at}
 use Rattle.reo_reach.proofs.visits.items_of.Goals as goal
 
 pub plain_rows-row-end-requires : goal.plain_rows-row-end-requires

@@ -2,7 +2,7 @@ use Rattle.std.proofs.Common.{ℕ, List, ◌∙◌}
 use Rattle.std.proofs.lemmas.List.{get_or_default}
 use Rattle.reo_net_base.specs.Net.{Net, net_of}
 use Rattle.reo_net_laws.proofs.Orders.{place_of}
-use Rattle.reo_reach.proofs.OrderLemmas.{order_in_order}
+use Rattle.reo_joint_values.proofs.InOrder.{order_in_order}
 use Rattle.reo_reach.proofs.visits.reach.Goals as goal
 
 pub reach_at-requires-clause-joints : goal.reach_at-requires-clause-joints

@@ -2,7 +2,7 @@ use Rattle.std.proofs.Common.{◌≡◌, ℕ, Bool, true, false, List, refl, sym
 use Rattle.reo_values.specs.declared.value.Value.{Value}
 use Rattle.reo_net_base.specs.Net.{Net, net_of}
 use Rattle.reo_net_laws.specs.Parts.{IsKnot}
-use Rattle.reo_knots.specs.Knots.{Knotted, in_knot}
+use Rattle.reo_net_laws.specs.Knots.{Knotted, in_knot}
 use Rattle.reo_reach.specs.Supplied.{Supplied, is_wide}
 use Rattle.reo_joint_values.specs.Many.{IsJointIn}
 use Rattle.reo_reach.specs.Width.{TellsItems}

@@ -2,7 +2,7 @@ use Rattle.std.proofs.Common.{◌≡◌, ℕ, Bool, List, sym, subst}
 use Rattle.reo_values.specs.declared.value.Value.{Value}
 use Rattle.reo_net_base.specs.Net.{Net, net_of}
 use Rattle.reo_net_laws.specs.Parts.{IsKnot}
-use Rattle.reo_knots.specs.Knots.{Knotted, in_knot}
+use Rattle.reo_net_laws.specs.Knots.{Knotted, in_knot}
 use Rattle.reo_reach.specs.Supplied.{Supplied}
 use Rattle.reo_reach.specs.Width.{TellsItems}
 use Rattle.reo_reach.proofs.WidthLemmas.{parts_told}

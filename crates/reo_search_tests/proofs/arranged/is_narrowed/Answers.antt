@@ -1,6 +1,6 @@
 use Rattle.std.proofs.Common.{◌<◌}
 use Rattle.reo_net_base.specs.Net.{net_of}
-use Rattle.reo_knots.specs.Knots.{knot_count}
+use Rattle.reo_net_laws.specs.Knots.{knot_count}
 use Rattle.reo_walk.proofs.Listing.{knot_among, among_real}
 use Rattle.reo_search_tests.proofs.arranged.is_narrowed.Goals as goal
 

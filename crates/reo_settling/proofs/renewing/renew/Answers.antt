@@ -1,6 +1,6 @@
 use Rattle.std.proofs.Common.{◌≡◌, ◌<◌, ◌≤◌, ◌+◌, ℕ, subst, arith}
 use Rattle.reo_net_base.specs.Net.{Net, net_of}
-use Rattle.reo_knots.specs.Knots.{knot_count}
+use Rattle.reo_net_laws.specs.Knots.{knot_count}
 use Rattle.reo_settling.proofs.HeldTables.{AreRenewed, renewed_all, renewed_more, renewed_next, renewed_none}
 use Rattle.reo_settling.proofs.renewing.renew.Goals as goal
 

@@ -1,7 +1,7 @@
 use Rattle.std.proofs.Common.{◌≡◌, ◌∙◌, ℕ, ◌+◌, ◌-◌, ◌<◌, ◌≤◌, [], length, get_or, refl, subst, sym, arith}
 use Rattle.std.proofs.lemmas.List.{get_or_default}
 use Rattle.reo_net_base.specs.Net.{Net, net_of}
-use Rattle.reo_knots.specs.Knots.{in_knot, knot_count}
+use Rattle.reo_net_laws.specs.Knots.{in_knot, knot_count}
 use Rattle.reo_flows.specs.flowing.Flowing.{AreFlowingOf}
 use Rattle.reo_standing.proofs.Filled.{below_all, below_more, below_none, part_blank, parts_over}
 use Rattle.reo_standing.proofs.filling.fill.Goals as goal

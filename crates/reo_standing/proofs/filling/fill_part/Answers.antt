@@ -1,6 +1,6 @@
 use Rattle.std.proofs.Common.{◌∙◌, arith}
 use Rattle.reo_net_base.specs.Net.{net_of}
-use Rattle.reo_knots.specs.Knots.{in_knot}
+use Rattle.reo_net_laws.specs.Knots.{in_knot}
 use Rattle.reo_standing.proofs.Putting.{far_all, far_more, far_none, those_flow, those_in}
 use Rattle.reo_standing.proofs.filling.fill_part.Goals as goal
 

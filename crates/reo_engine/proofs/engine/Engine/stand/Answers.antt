@@ -3,7 +3,7 @@ use Rattle.reo_net_base.specs.Net.{Net, net_of}
 use Rattle.reo_trace.specs.declared.line.RoundLine.{RoundLine}
 use Rattle.reo_trace.specs.cells.Cells.{AreShown}
 use Rattle.reo_trace.specs.declared.cells.cells.Cells.{Cells}
-use Rattle.reo_knots.specs.Knots.{knot_count}
+use Rattle.reo_net_laws.specs.Knots.{knot_count}
 use Rattle.reo_engine.proofs.FlowsLemmas.{flows_texted, lists_moving, served_settled, told_of_all}
 use Rattle.reo_engine.proofs.engine.Engine.stand.Goals as goal
 

@@ -1,6 +1,6 @@
 use Rattle.std.proofs.Common.{◌≡◌, ◌∙◌, ℕ, ◌+◌, ◌<◌, List, [], length, get_or, arith, subst, sym, ap}
 use Rattle.std.specs.Prelude.{IsTrue, map}
-use Rattle.reo_knots.specs.Knots.{in_knot}
+use Rattle.reo_net_laws.specs.Knots.{in_knot}
 use Rattle.reo_joint_values.specs.Many.{IsJointIn}
 use Rattle.reo_weights.specs.Weights.{product_of}
 use Rattle.reo_item_bounds.specs.Bounds.{IsBoundAt}

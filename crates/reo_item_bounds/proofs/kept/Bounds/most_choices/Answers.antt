@@ -1,4 +1,4 @@
-use Rattle.reo_knots.specs.Knots.{in_knot}
+use Rattle.reo_net_laws.specs.Knots.{in_knot}
 use Rattle.reo_net_base.specs.Net.{net_of}
 use Rattle.reo_item_bounds.proofs.Noting.{part_holds}
 use Rattle.reo_item_bounds.proofs.kept.Bounds.most_choices.Goals as goal

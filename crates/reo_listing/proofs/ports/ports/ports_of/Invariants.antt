@@ -1,6 +1,6 @@
 use Rattle.std.proofs.Common.{◌≡◌}
 use Rattle.reo_net_base.specs.Net.{net_of}
-use Rattle.reo_knots.specs.Knots.{in_knot}
+use Rattle.reo_net_laws.specs.Knots.{in_knot}
 use Rattle.reo_open.specs.Opens.{open_behaviour}
 use Rattle.reo_listing.specs.base.Tables.{ports_in}
 use Rattle.reo_listing.proofs.ports.ports.ports_of.Given as goal

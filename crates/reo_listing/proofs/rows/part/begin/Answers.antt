@@ -1,5 +1,5 @@
 use Rattle.reo_net_base.specs.Net.{net_of}
-use Rattle.reo_knots.specs.Knots.{in_knot}
+use Rattle.reo_net_laws.specs.Knots.{in_knot}
 use Rattle.reo_open.specs.Opens.{open_behaviour}
 use Rattle.reo_listing.proofs.rows.MeetingLemmas.{meeting}
 use Rattle.reo_listing.proofs.rows.part.begin.Goals as goal

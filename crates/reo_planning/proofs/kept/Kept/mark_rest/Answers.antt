@@ -1,7 +1,7 @@
 use Rattle.std.proofs.Common.{◌≡◌, ◌∙◌, ℕ, ◌+◌, ◌<◌, [], Bool, List, true, not, length, ap, arith, subst, subst₂, sym}
 use Rattle.std.proofs.lemmas.List.{get_or_default, length-set}
 use Rattle.reo_net_base.specs.Net.{Net, net_of}
-use Rattle.reo_knots.specs.Knots.{in_knot, knot_count}
+use Rattle.reo_net_laws.specs.Knots.{in_knot, knot_count}
 use Rattle.reo_flows.specs.flowing.Flowing.{AreFlowingOf}
 use Rattle.reo_planning.specs.declared.kept.Kept.{Kept}
 use Rattle.reo_planning.specs.Keeping.{is_open}

@@ -1,6 +1,6 @@
 use Rattle.std.proofs.Common.{ℕ, List, subst, ◌∙◌}
 use Rattle.reo_net_base.specs.Net.{Net, net_of}
-use Rattle.reo_knots.specs.Knots.{knot_count}
+use Rattle.reo_net_laws.specs.Knots.{knot_count}
 use Rattle.reo_planning.specs.Marked.{AreMarked}
 use Rattle.reo_planning.proofs.Storing.{kept_stored}
 use Rattle.reo_planning.proofs.kept.Kept.store.Goals as goal

@@ -4,7 +4,7 @@ use Rattle.reo_net_base.specs.Behaviour.{Behaviour}
 use Rattle.reo_net_base.specs.Net.{Net, net_of, all_sides, behaviour_at, first_side}
 use Rattle.reo_net_circuit.proofs.Cases.{eq_cases}
 use Rattle.reo_net_laws.proofs.Sides.{side_in}
-use Rattle.reo_knots.specs.Knots.{Knotted}
+use Rattle.reo_net_laws.specs.Knots.{Knotted}
 use Rattle.reo_planning.specs.Unsettling.{part_at}
 use Rattle.reo_planning.proofs.Setting.{fewer_more, fewer_none, clear_still, cleared_here}
 use Rattle.reo_planning.proofs.kept.Kept.unsettle.Goals as goal

@@ -1,6 +1,6 @@
 use Rattle.std.proofs.Common.{◌≤◌, arith}
 use Rattle.reo_net_base.specs.Net.{Net, net_of}
-use Rattle.reo_knots.specs.Knots.{in_knot}
+use Rattle.reo_net_laws.specs.Knots.{in_knot}
 use Rattle.reo_part_plans.specs.Plannings.{IsPartFault}
 use Rattle.reo_settling.proofs.Found.{found_planned, searched_after}
 use Rattle.reo_settling.proofs.lookups.Lookups.search_bounded.Goals as goal

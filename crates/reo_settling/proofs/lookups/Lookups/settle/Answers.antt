@@ -1,6 +1,6 @@
 use Rattle.std.proofs.Common.{◌≡◌, ◌∙◌, ◌+◌, ◌<◌, ◌≤◌, ℕ, [], get_or, subst, sym, arith}
 use Rattle.reo_net_base.specs.Net.{Net, net_of}
-use Rattle.reo_knots.specs.Knots.{in_knot, knot_count}
+use Rattle.reo_net_laws.specs.Knots.{in_knot, knot_count}
 use Rattle.reo_rounds.specs.Plans.{IsPlanFault}
 use Rattle.reo_part_plans.specs.Plannings.{ArePlanned, weight_left}
 use Rattle.reo_part_plans.proofs.Plannings.{least_over, planned_more, planned_none, planned_fit, passed_on, ticked_all, ticked_more, ticked_over}

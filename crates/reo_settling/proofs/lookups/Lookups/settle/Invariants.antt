@@ -1,6 +1,6 @@
 use Rattle.std.proofs.Common.{◌≡◌, ◌+◌, ◌-◌, ◌≤◌, ℕ, false}
 use Rattle.reo_net_base.specs.Net.{net_of}
-use Rattle.reo_knots.specs.Knots.{knot_count}
+use Rattle.reo_net_laws.specs.Knots.{knot_count}
 use Rattle.reo_part_plans.specs.Plannings.{AreWeights, sum_below, weight_left}
 use Rattle.reo_settling.specs.Lookups.{AreSteady}
 use Rattle.reo_settling.proofs.Served.{AreSettledFar}

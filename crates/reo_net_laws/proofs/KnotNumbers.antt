@@ -4,8 +4,8 @@ use Rattle.std.specs.Prelude.{unwrap_or, max}
 use Rattle.std.proofs.Math.Seq.{get_or-append_seam}
 use Rattle.std.proofs.lemmas.Bool.{cases_eq, cases_lt}
 use Rattle.std.proofs.lemmas.List.{get_or_append_left}
-use Rattle.reo_knots.specs.Knots.{AreNumbers}
-use Rattle.reo_knots.specs.Labels.{AreInRange, same_label}
+use Rattle.reo_net_laws.specs.Knots.{AreNumbers}
+use Rattle.reo_net_laws.specs.KnotLabels.{AreInRange, same_label}
 
 -- The labels of the first n sides have these numbers, and no other label has one.
 pub record AreKnown (labels numbers : List ℕ) (n : ℕ) (known : List (Option ℕ)) : Type 0 where

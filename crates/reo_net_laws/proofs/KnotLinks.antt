@@ -12,9 +12,9 @@ use Rattle.reo_net_base.specs.Sides.{side_count}
 use Rattle.reo_net_base.specs.Wired.{IsWired}
 use Rattle.reo_net_laws.specs.Parts.{IsClosedBelow, IsLinked}
 use Rattle.reo_net_laws.proofs.Sides.{side_in_range}
-use Rattle.reo_knots.specs.Knots.{IsLoop}
-use Rattle.reo_knots.specs.Labels.{AreOwn, AreLabels, AreLoops, AreRelabelled, AreMerged, same_label, renamed}
-use Rattle.reo_knots.proofs.LabelLemmas.{renamed_same, renamed_other}
+use Rattle.reo_net_laws.specs.Knots.{IsLoop}
+use Rattle.reo_net_laws.specs.KnotLabels.{AreOwn, AreLabels, AreLoops, AreRelabelled, AreMerged, same_label, renamed}
+use Rattle.reo_net_laws.proofs.KnotLabels.{renamed_same, renamed_other}
 
 -- Where labels are the same along the first n joints, they are the same wherever these link.
 same_from_linked : (net : Net) (n : ℕ) (labels : List ℕ) → ((j : ℕ) (d : Joint) → j < n → same_label labels (side_at net (get_or net.joints j d).giver) (side_at net (get_or net.joints j d).taker))

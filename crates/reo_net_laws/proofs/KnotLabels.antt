@@ -6,7 +6,7 @@ use Rattle.std.proofs.lemmas.Bool.{cases_eq}
 use Rattle.std.proofs.lemmas.Bool.Decides.{nat_tests}
 use Rattle.std.proofs.lemmas.List.{get_or_append_left, take_more}
 use Rattle.std.proofs.lemmas.List.Elements.{Contains-push, Contains-push_cases, Contains-append_left, Contains-append_right, Contains-append_cases}
-use Rattle.reo_knots.specs.Labels.{AreOwn, AreOwnMembers, AreMembers, AreRelabelled, IsWritten, renamed}
+use Rattle.reo_net_laws.specs.KnotLabels.{AreOwn, AreOwnMembers, AreMembers, AreRelabelled, IsWritten, renamed}
 
 -- One more side alone.
 pub more_alone : (members : List (List ℕ)) (n : ℕ) (last : List ℕ) → AreOwnMembers members n → ((s : ℕ) → Contains last s ↔ (s ≡ n)) → AreOwnMembers (members ++ last ∷ []) (n + 1)

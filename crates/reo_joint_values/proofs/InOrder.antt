@@ -6,8 +6,8 @@ use Rattle.reo_net_base.specs.Wired.{IsWired, IsOrder}
 use Rattle.reo_net_laws.proofs.Sides.{same_side_at}
 use Rattle.reo_net_laws.proofs.Orders.{place_in, fed_before}
 use Rattle.reo_joint_values.specs.Standing.{no_joint, giver_of, taker_of, Brings}
-use Rattle.reo_reach.specs.InOrder.{AreInOrder}
-use Rattle.reo_reach.proofs.RowLemmas.{source_is}
+use Rattle.reo_joint_values.specs.InOrder.{AreInOrder}
+use Rattle.reo_joint_values.proofs.Sources.{source_is}
 
 module _ (net : Net) (wired : IsWired net) where
   pub giver_at : (j : ℕ) → j < length net.joints → IsGiver net (giver_of net j)

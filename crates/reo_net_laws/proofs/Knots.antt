@@ -12,10 +12,10 @@ use Rattle.reo_net_base.specs.Wired.{IsWired}
 use Rattle.reo_net_laws.specs.Parts.{SameKnot, IsKnot}
 use Rattle.reo_net_laws.specs.Sublists.{sides_in}
 use Rattle.reo_net_laws.proofs.Sides.{side_in_range}
-use Rattle.reo_knots.specs.Knots.{knotted, AreNumbers, AreKnots, AreThose, IsLoopOf, in_knot}
-use Rattle.reo_knots.specs.Labels.{AreLabels, AreLoops, same_label}
-use Rattle.reo_knots.specs.Groups.{AreSidesBelow, AreLoopsBelow}
-use Rattle.reo_knots.proofs.GroupLemmas.{same_picked, picked_those}
+use Rattle.reo_net_laws.specs.Knots.{knotted, AreNumbers, AreKnots, AreThose, IsLoopOf, in_knot}
+use Rattle.reo_net_laws.specs.KnotLabels.{AreLabels, AreLoops, same_label}
+use Rattle.reo_net_laws.specs.KnotGroups.{AreSidesBelow, AreLoopsBelow}
+use Rattle.reo_net_laws.proofs.KnotGroups.{same_picked, picked_those}
 
 -- Numbers of labels are numbers of knots.
 pub numbered : (net : Net) (labels numbers : List ℕ) (count : ℕ) → AreLabels net (length net.joints) labels → AreNumbers (same_label labels) (length labels) numbers count → AreNumbers (SameKnot net) (side_count net) numbers count

@@ -9,8 +9,8 @@ use Rattle.std.proofs.lemmas.Bool.{cases_eq, cases_Bool}
 use Rattle.std.proofs.lemmas.List.{get_or_default, get_or_append_left}
 use Rattle.std.proofs.lemmas.List.Elements.{filter-append, Contains-push, Contains-push_cases, Contains-append_left}
 use Rattle.reo_values.proofs.Naturals.{range_more}
-use Rattle.reo_knots.specs.Groups.{AreEmpty, IsAdded, ArePicked}
-use Rattle.reo_knots.specs.Knots.{AreThose}
+use Rattle.reo_net_laws.specs.KnotGroups.{AreEmpty, IsAdded, ArePicked}
+use Rattle.reo_net_laws.specs.Knots.{AreThose}
 
 -- What is picked of one number more.
 filter_suc : (test : ℕ → Bool) (n : ℕ) → filter test (range_with_len 0 (suc n)) ≡ filter test (range_with_len 0 n) ++ cond (test n) (n ∷ []) []

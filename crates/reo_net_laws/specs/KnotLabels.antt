@@ -3,7 +3,7 @@ use Rattle.std.specs.Prelude.{ℕ, ◌<◌, ◌≡◌, ◌↔◌, ◌==◌, ◌�
 use Rattle.reo_net_base.specs.Net.{Net}
 use Rattle.reo_net_base.specs.Sides.{side_count}
 use Rattle.reo_net_laws.specs.Parts.{IsLinked}
-use Rattle.reo_knots.specs.Knots.{IsLoop}
+use Rattle.reo_net_laws.specs.Knots.{IsLoop}
 
 -- Two sides have one label.
 abbrev pub same_label : List ℕ → ℕ → ℕ → Type 0

@@ -1,5 +1,0 @@
-pub mod GroupLemmas
-pub mod KnotLemmas
-pub mod LabelLemmas
-pub mod LinkLemmas
-pub mod NumberLemmas
