@@ -8,7 +8,7 @@ ghost use Rattle.reo_handles.specs.Ports.{Finds};
 ghost use Rattle.reo_handles.specs.Rounds.{Rounds};
 ghost use Rattle.reo_handles.specs.Statuses.{Answers, AtOpen, number_of, words_of};
 ghost use Rattle.reo_handles.specs.Texts.{laid};
-ghost use Rattle.reo_handles.specs.declared.status.Status.{Status as AStatus};
+ghost use Rattle.reo_handles.specs.declared.status.CallStatus.{CallStatus as AStatus};
 
 use reo_handles::{
     Handle, Round, close, find_open, item_open, lay_words, moved_open, open, round_open, take_open,

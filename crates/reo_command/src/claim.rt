@@ -12,7 +12,7 @@ ghost use Rattle.reo_command.specs.ReadSteps.{IsProofRead, IsTraceRead, claimed_
 ghost use Rattle.reo_command.specs.States.{files_change};
 
 use crate::fetching::fetch;
-use crate::reading::{Work, read_run};
+use crate::reading::{CircuitAndScript, read_run};
 use crate::role::Role;
 use crate::stop::Stop;
 use crate::texts::trace_of;
@@ -41,7 +41,7 @@ fn read_lines<F: Files>(
 /// A circuit, a script for its ports, and a trace that is said to be that of their run.
 #[derive(Drop)]
 pub struct Claim {
-    pub work: Work,
+    pub work: CircuitAndScript,
     pub trace: Trace,
 }
 
@@ -86,7 +86,7 @@ fn read_bytes<F: Files>(alloc: Global, name: &[u8], files: &mut F) -> Result<Byt
 /// A circuit, a script for its ports, and a text that is said to be the proved text of their run.
 #[derive(Drop)]
 pub struct ProofClaim {
-    pub work: Work,
+    pub work: CircuitAndScript,
     pub proof: Bytes,
 }
 

@@ -23,7 +23,7 @@ pub use claim::{Claim, ProofClaim, read_claim, read_proof};
 pub use command::{Command, command_of};
 pub use limit::{budget_of, limits_of, usual_limits};
 pub use made::make_run;
-pub use reading::{Work, read_flat, read_program, read_run};
+pub use reading::{CircuitAndScript, read_flat, read_program, read_run};
 pub use refusal::{Refusal, append_refusal};
 pub use role::Role;
 pub use setting::Setting;

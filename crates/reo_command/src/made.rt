@@ -5,7 +5,7 @@ ghost use Rattle.reo_runner.specs.Runs.{CanRun};
 ghost use Rattle.reo_command.specs.Made.{ReadsTexts, TextsStop, ReadsMade};
 ghost use Rattle.reo_command.specs.ReadSteps.{IsStoppedBy, runnable_in};
 
-use crate::reading::Work;
+use crate::reading::CircuitAndScript;
 use crate::stop::Stop;
 use crate::texts::{circuit_of, script_of};
 use reo_gen::{make, work_is_accepted};
@@ -13,7 +13,7 @@ use reo_values::NoMemory;
 use std::alloc::Global;
 
 /// The circuit and the script that two texts say, or what stops their run.
-fn read_texts(alloc: Global, circuit: &[u8], script: &[u8]) -> Result<Work, Stop>
+fn read_texts(alloc: Global, circuit: &[u8], script: &[u8]) -> Result<CircuitAndScript, Stop>
     requires circuit { length circuit.now < 2 ^ 32 }
     requires script { length script.now < 2 ^ 32 }
     ensures read { IfOk result (λ work.
@@ -27,13 +27,13 @@ fn read_texts(alloc: Global, circuit: &[u8], script: &[u8]) -> Result<Work, Stop
         Err(stop) => return Err(stop),
     };
     match script_of(alloc, script, &flat.ports) {
-        Ok(script) => Ok(Work { flat, script }),
+        Ok(script) => Ok(CircuitAndScript { flat, script }),
         Err(stop) => Err(stop),
     }
 }
 
 /// The circuit and the script of made work. `NoMemory` is out of memory.
-pub fn make_run(alloc: Global, size: u32) -> Result<Work, NoMemory>
+pub fn make_run(alloc: Global, size: u32) -> Result<CircuitAndScript, NoMemory>
     requires some { 1 ≤ size }
     requires few { size ≤ 256 }
     ensures read { IfOk result (λ work. ReadsMade size (runnable_in work.flat work.script)) }

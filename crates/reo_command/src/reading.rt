@@ -63,7 +63,7 @@ fn read_components<F: Files>(
 
 /// A circuit, and a script for its ports.
 #[derive(Drop)]
-pub struct Work {
+pub struct CircuitAndScript {
     pub flat: Flat,
     pub script: Script,
 }
@@ -75,7 +75,7 @@ pub fn read_run<F: Files>(
     circuit: &[u8],
     script: &[u8],
     files: &mut F,
-) -> Result<Work, Stop>
+) -> Result<CircuitAndScript, Stop>
     ensures read { IsReadFrom (λ answers work. ReadsRun answers (runnable_in work.flat work.script))
         StopsRun (roles.Circuit ∷ roles.Script ∷ []) (circuit.now ∷ script.now ∷ [])
         (files_change F.told F.failed F.given F.fetches files.old files.new) result }
@@ -88,7 +88,7 @@ pub fn read_run<F: Files>(
         Err(stop) => return Err(stop),
     };
     match read_components(alloc, &flat.ports, script, files) {
-        Ok(script) => Ok(Work { flat, script }),
+        Ok(script) => Ok(CircuitAndScript { flat, script }),
         Err(stop) => Err(stop),
     }
 }

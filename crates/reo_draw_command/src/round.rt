@@ -16,7 +16,7 @@ ghost use Rattle.reo_draw_command.specs.Rounds.{IsNumberOf, DrawsRound, shown_te
 
 use reo_circuit_texts::{circuit_names_are_plain, circuits_are_spelled};
 use reo_command::{
-    Claim, DONE, Status, TRACE_REFUSED, Work, answer, no_memory, read_claim, refuse,
+    Claim, DONE, Status, TRACE_REFUSED, CircuitAndScript, answer, no_memory, read_claim, refuse,
 };
 use reo_draw_replay::{Shown, show_round};
 use reo_io::{Files, Sink};
@@ -78,7 +78,7 @@ fn write_round<S: Sink>(alloc: Global, claim: Claim, word: &[u8], out: &mut S) -
     ensures tells { TellsFaults (sink_change S.told S.faults out.old out.new) result.code }
 {
     let Claim {
-        work: Work { flat, script },
+        work: CircuitAndScript { flat, script },
         trace,
     } = claim;
     let Ok(number) = number_of(alloc, word) else {

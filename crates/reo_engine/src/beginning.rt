@@ -20,7 +20,7 @@ use std::alloc::Global;
 
 /// What an engine begins with beside its circuit and the circuit's knots.
 #[derive(Drop)]
-pub(crate) struct Begun {
+pub(crate) struct EngineStart {
     pub(crate) changed: Flags,
     pub(crate) ends: Ends,
     pub(crate) kept: Kept,
@@ -35,7 +35,7 @@ pub(crate) fn begin<P: Primitive>(
     alloc: Global,
     circuit: &Circuit<P>,
     knots: &Knots,
-) -> Result<Begun, NoMemory>
+) -> Result<EngineStart, NoMemory>
     requires { AreKnots (net_of P.behaviour circuit.now) knots.now }
     ensures changed { let all = replicate (length circuit.now.primitives) true in
         IfOk result (λ made. made.changed ≡ all) }
@@ -55,7 +55,7 @@ pub(crate) fn begin<P: Primitive>(
     let goers = Goers::new(alloc, circuit)?;
     let flows = Flows::new(alloc, circuit, knots)?;
     let lookups = Lookups::new(alloc, circuit, knots, &ends)?;
-    Ok(Begun {
+    Ok(EngineStart {
         changed,
         ends,
         kept,

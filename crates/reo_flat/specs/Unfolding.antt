@@ -3,8 +3,8 @@ use Rattle.std.specs.Prelude.{ℕ, ◌+◌, max, Bool, true, false, cond, List, 
 use Rattle.std.specs.List.{find, fold, sum_by, count_by}
 use Rattle.std.specs.Fmt.{decimal}
 use Rattle.reo_trees.specs.declared.items.Item.{Item}
-use Rattle.reo_trees.specs.declared.items.Form.{Form}
-use Rattle.reo_trees.specs.declared.items.Form.TheVariants as forms
+use Rattle.reo_trees.specs.declared.items.ItemForm.{ItemForm}
+use Rattle.reo_trees.specs.declared.items.ItemForm.TheVariants as forms
 use Rattle.reo_trees.specs.declared.programs.Parameter.{Parameter}
 use Rattle.reo_trees.specs.declared.programs.Connector.{Connector}
 use Rattle.reo_trees.specs.declared.programs.Declaration.{Declaration}
@@ -41,7 +41,7 @@ abbrev pub flat_name : List ℕ → List Parameter → List (List ℕ) → List 
 flat_name path (p ∷ ps) (a ∷ arguments) name = cond (bytes_eq name p.name) a (flat_name path ps arguments name)
 flat_name path ps arguments name = path ++ name
 
-abbrev pub is_use : Form → Bool
+abbrev pub is_use : ItemForm → Bool
 is_use (forms.Used name arguments) = true
 is_use f = false
 
@@ -50,13 +50,13 @@ abbrev pub use_path : List ℕ → List Item → List ℕ → List ℕ
 use_path path before name = path ++ name ++ codes "@" ++ decimal (count_by (λ (i : Item). is_use i.form) before + 1) ++ codes "."
 
 -- The nodes that an item declares behind these, by the path.
-abbrev pub nodes_in : List Meaning → List ℕ → List Item → Form → List (List ℕ)
+abbrev pub nodes_in : List Meaning → List ℕ → List Item → ItemForm → List (List ℕ)
 nodes_in known path before (forms.Node name term) = (path ++ name) ∷ []
 nodes_in known path before (forms.Joined channel first second) = []
 nodes_in known path before (forms.Used name arguments) = (meaning_named known name).nodes (use_path path before name)
 
 -- The channels that an item places behind these, where names stand for flat names.
-abbrev pub channels_in : List Meaning → List Typed → List Typed → List ℕ → (List ℕ → List ℕ) → List Item → Form → List Placed
+abbrev pub channels_in : List Meaning → List Typed → List Typed → List ℕ → (List ℕ → List ℕ) → List Item → ItemForm → List Placed
 channels_in known types scope path flat before (forms.Node name term) = []
 channels_in known types scope path flat before (forms.Joined channel first second) =
     record { kind = channel_kind types (type_named scope first) channel; nodes = flat first ∷ flat second ∷ [] } ∷ []
@@ -64,17 +64,17 @@ channels_in known types scope path flat before (forms.Used name arguments) =
     (meaning_named known name).channels (use_path path before name) (map flat arguments)
 
 -- The uses that an item unfolds to, itself among them, and how deep it nests them.
-abbrev pub uses_in : List Meaning → Form → ℕ
+abbrev pub uses_in : List Meaning → ItemForm → ℕ
 uses_in known (forms.Used name arguments) = 1 + (meaning_named known name).uses
 uses_in known f = 0
 
 -- The channels that an item unfolds to.
-abbrev pub placed_in : List Meaning → Form → ℕ
+abbrev pub placed_in : List Meaning → ItemForm → ℕ
 placed_in known (forms.Node name term) = 0
 placed_in known (forms.Joined channel first second) = 1
 placed_in known (forms.Used name arguments) = (meaning_named known name).placed
 
-abbrev pub depth_in : List Meaning → Form → ℕ
+abbrev pub depth_in : List Meaning → ItemForm → ℕ
 depth_in known (forms.Used name arguments) = 1 + (meaning_named known name).depth
 depth_in known f = 0
 

@@ -9,8 +9,8 @@ use Rattle.reo_trees.specs.declared.types.Shape as shape
 use Rattle.reo_trees.specs.declared.types.Shape.{Shape}
 use Rattle.reo_trees.specs.declared.types.TypeTerm.{TypeTerm}
 use Rattle.reo_trees.specs.declared.items.Item.{Item}
-use Rattle.reo_trees.specs.declared.items.Form.{Form}
-use Rattle.reo_trees.specs.declared.items.Form.TheVariants as forms
+use Rattle.reo_trees.specs.declared.items.ItemForm.{ItemForm}
+use Rattle.reo_trees.specs.declared.items.ItemForm.TheVariants as forms
 use Rattle.reo_trees.specs.declared.items.Channel.TheVariants as channels
 use Rattle.reo_trees.specs.declared.programs.Parameter.{Parameter}
 use Rattle.reo_trees.specs.declared.programs.Declaration.{Declaration}
@@ -89,7 +89,7 @@ flat_none f [] k d none within = absurd (omega arith)
 flat_none f (x ∷ xs) zero d none within = left_none (f x) _ none
 flat_none f (x ∷ xs) (suc k) d none within = flat_none f xs k d (right_none (f x) _ none) (omega arith)
 
-fits : (types scope : List Typed) (line : ℕ) (f : Form) → range_in_item types scope line f ≡ [] → IsSpelledForm f → FormFits f
+fits : (types scope : List Typed) (line : ℕ) (f : ItemForm) → range_in_item types scope line f ≡ [] → IsSpelledForm f → FormFits f
 fits types scope line (forms.Node name term) none spelled = few_shape types term.line term.shape none
 fits types scope line (forms.Joined channels.Sync first second) none spelled = tt
 fits types scope line (forms.Joined channels.Lossy first second) none spelled = tt

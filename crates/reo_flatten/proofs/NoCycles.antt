@@ -8,8 +8,8 @@ use Rattle.reo_trees.specs.declared.types.Shape.{Shape}
 use Rattle.reo_trees.specs.declared.types.TypeTerm.{TypeTerm}
 use Rattle.reo_trees.specs.declared.terms.Term.{Term}
 use Rattle.reo_trees.specs.declared.items.Item.{Item}
-use Rattle.reo_trees.specs.declared.items.Form.{Form}
-use Rattle.reo_trees.specs.declared.items.Form.TheVariants as forms
+use Rattle.reo_trees.specs.declared.items.ItemForm.{ItemForm}
+use Rattle.reo_trees.specs.declared.items.ItemForm.TheVariants as forms
 use Rattle.reo_trees.specs.declared.items.Channel.{Channel}
 use Rattle.reo_trees.specs.declared.items.Channel.TheVariants as channels
 use Rattle.reo_trees.specs.declared.programs.Parameter.{Parameter}
@@ -71,7 +71,7 @@ twice_part line (shape.Named a) = tt
 twice_type : (t : TypeTerm) → AllNo (twice_in_type t)
 twice_type t = all_flat (λ (part : TypeTerm). twice_in_part part.line part.shape) (λ part. twice_part part.line part.shape) (parts_of t.line t.shape)
 
-twice_item : (ps : List Parameter) (before : List Item) (line : ℕ) (f : Form) → AllNo (twice_in_item ps before line f)
+twice_item : (ps : List Parameter) (before : List Item) (line : ℕ) (f : ItemForm) → AllNo (twice_in_item ps before line f)
 twice_item ps before line (forms.Node name term) = both (twice_among (parameter_names ps ++ node_names before) line name) _ (all_where _ _ tt) (twice_type term)
 twice_item ps before line (forms.Joined channel first second) = tt
 twice_item ps before line (forms.Used name arguments) = tt
@@ -124,7 +124,7 @@ unknown_channel types (channels.Shift size held) = tt
 unknown_channel types (channels.Variable held) = tt
 unknown_channel types (channels.Quota number) = tt
 
-unknown_item : (types : List Typed) (connectors nodes : List (List ℕ)) (line : ℕ) (f : Form) → AllNo (unknown_in_item types connectors nodes line f)
+unknown_item : (types : List Typed) (connectors nodes : List (List ℕ)) (line : ℕ) (f : ItemForm) → AllNo (unknown_in_item types connectors nodes line f)
 unknown_item types connectors nodes line (forms.Node name term) = unknown_type (names_of types) term
 unknown_item types connectors nodes line (forms.Joined channel first second) =
     both (missing nodes line first ++ missing nodes line second) _ (both (missing nodes line first) _ (all_where _ _ tt) (all_where _ _ tt)) (unknown_channel types channel)
@@ -144,7 +144,7 @@ mistyped_each before (declarations.Made c) = all_flat _ (λ i. all_where _ _ tt)
 range_type : (types : List Typed) (t : TypeTerm) → AllNo (range_in_type types t)
 range_type types t = all_flat _ (λ part. all_where _ _ tt) (parts_of t.line t.shape)
 
-range_item : (types scope : List Typed) (line : ℕ) (f : Form) → AllNo (range_in_item types scope line f)
+range_item : (types scope : List Typed) (line : ℕ) (f : ItemForm) → AllNo (range_in_item types scope line f)
 range_item types scope line (forms.Node name term) = range_type types term
 range_item types scope line (forms.Joined channel first second) = all_where _ _ tt
 range_item types scope line (forms.Used name arguments) = tt
@@ -156,7 +156,7 @@ range_each before (declarations.Made c) =
     (all_flat (λ (p : Parameter). range_in_type (types_of before) p.term) (λ p. range_type (types_of before) p.term) c.parameters)
     (all_flat (λ (i : Item). range_in_item (types_of before) (scope_of (types_of before) c) i.line i.form) (λ i. range_item (types_of before) (scope_of (types_of before) c) i.line i.form) c.items)
 
-arity_item : (known : List Connector) (line : ℕ) (f : Form) → AllNo (arity_in_item known line f)
+arity_item : (known : List Connector) (line : ℕ) (f : ItemForm) → AllNo (arity_in_item known line f)
 arity_item known line (forms.Node name term) = tt
 arity_item known line (forms.Joined channel first second) = tt
 arity_item known line (forms.Used name arguments) = all_where _ _ tt
@@ -170,7 +170,7 @@ direction_each before (declarations.Named line name term) = tt
 direction_each before (declarations.Made c) =
     all_flat (λ (i : Item). direction_in_item (connectors_of before) c.parameters i.line i.form) (λ i. all_flat _ (λ t. all_where _ _ tt) (touches_in (connectors_of before) i.form)) c.items
 
-dangling_item : (ts : List Touch) (line : ℕ) (f : Form) → AllNo (dangling_in_item ts line f)
+dangling_item : (ts : List Touch) (line : ℕ) (f : ItemForm) → AllNo (dangling_in_item ts line f)
 dangling_item ts line (forms.Node name term) = all_where _ _ tt
 dangling_item ts line (forms.Joined channel first second) = tt
 dangling_item ts line (forms.Used name arguments) = tt

@@ -15,7 +15,7 @@ use Rattle.reo_flat.specs.Refusals.{breaks, IsAccepted, IsRefused}
 use Rattle.reo_flat.specs.flatten_laws.Nodes.{IsServed}
 use Rattle.reo_flatten.specs.declared.ends.NodeEnds.{NodeEnds}
 use Rattle.reo_flatten.specs.declared.last.Flat.{Flat}
-use Rattle.reo_flatten.specs.declared.unfolded.Begun.{Begun}
+use Rattle.reo_flatten.specs.declared.unfolded.UnfoldedMain.{UnfoldedMain}
 use Rattle.reo_flatten.specs.NodeEnds.{placed_with, AreEnds}
 use Rattle.reo_flatten.specs.Parts.{IsBegun}
 use Rattle.reo_flatten.proofs.CountLemmas.{nodes_within, placed_within}
@@ -24,7 +24,7 @@ placed_with-maps : (ps : List Placed) → placed_with (map (λ (p : Placed). p.k
 placed_with-maps [] = refl
 placed_with-maps (p ∷ ps) = ap (λ qs. p ∷ qs) (placed_with-maps ps)
 
-module _ (ds : List Declaration) (b : Begun) (is : IsBegun ds b) where
+module _ (ds : List Declaration) (b : UnfoldedMain) (is : IsBegun ds b) where
   placed_is : placed_with b.made.kinds b.made.ends ≡ placed_of ds
   placed_is = (λ i. placed_with (is.kinds i) (is.ends i)) ∙ placed_with-maps (placed_of ds)
 

@@ -4,7 +4,7 @@ use Rattle.reo_trees.specs.declared.programs.Declaration.{Declaration}
 use Rattle.reo_flat.specs.Unfolding.{Placed}
 use Rattle.reo_flat.specs.Flat.{primitives_of, placed_of, ports_of, joints_in, nodes_of, homes_in}
 use Rattle.reo_flatten.specs.declared.last.Parts.{Parts}
-use Rattle.reo_flatten.specs.declared.unfolded.Begun.{Begun}
+use Rattle.reo_flatten.specs.declared.unfolded.UnfoldedMain.{UnfoldedMain}
 
 pub record IsParts (ds : List Declaration) (parts : Parts) : Type 0 where
   pub kinds : parts.kinds ≡ primitives_of ds
@@ -14,7 +14,7 @@ pub record IsParts (ds : List Declaration) (parts : Parts) : Type 0 where
   pub homes : parts.homes ≡ homes_in ds
 
 -- Its ports, its nodes, and what is placed between nodes.
-pub record IsBegun (ds : List Declaration) (b : Begun) : Type 0 where
+pub record IsBegun (ds : List Declaration) (b : UnfoldedMain) : Type 0 where
   pub ports : b.ports ≡ ports_of ds
   pub nodes : b.made.nodes ≡ nodes_of ds
   pub kinds : b.made.kinds ≡ map (λ (p : Placed). p.kind) (placed_of ds)

@@ -9,7 +9,7 @@ ghost use Rattle.reo_unfold.specs.Known.{AreTypes};
 use reo_kinds::{Kind, TakerPort, WriterPort};
 use reo_net_base::{Port, Way};
 use reo_trees::Parameter;
-use reo_unfold::{Types, kindred_of};
+use reo_unfold::{NamedTypes, kindred_of};
 use reo_values::{Bytes, List, NoMemory, copy_kindred};
 use std::alloc::Global;
 
@@ -21,7 +21,7 @@ fn way_of(inward: bool) -> Way
 }
 
 /// The port of a parameter.
-fn port_of(alloc: Global, types: &Types, parameter: &Parameter) -> Result<Port, NoMemory>
+fn port_of(alloc: Global, types: &NamedTypes, parameter: &Parameter) -> Result<Port, NoMemory>
     ensures { (ts : List Typed) → AreTypes ts types.now → IfOk result (λ port. port
         ≡ port_of ts parameter.now) }
 {
@@ -38,7 +38,7 @@ fn port_of(alloc: Global, types: &Types, parameter: &Parameter) -> Result<Port, 
 /// The ports of parameters. `NoMemory`: out of memory.
 pub fn ports_of(
     alloc: Global,
-    types: &Types,
+    types: &NamedTypes,
     parameters: &[Parameter],
 ) -> Result<List<Port>, NoMemory>
     ensures { (ts : List Typed) → AreTypes ts types.now → IfOk result (λ ports. ports ≡ map

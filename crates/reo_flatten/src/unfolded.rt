@@ -17,7 +17,7 @@ use std::alloc::Global;
 
 /// The ports of `main`, and what it unfolds to.
 #[derive(Drop)]
-pub struct Begun {
+pub struct UnfoldedMain {
     pub ports: List<Port>,
     pub made: Unfolded,
 }
@@ -28,7 +28,7 @@ pub fn begin(
     declarations: &[Declaration],
     ground: &Ground,
     number: usize,
-) -> Result<Begun, NoMemory>
+) -> Result<UnfoldedMain, NoMemory>
     requires ground { IsGround declarations.now ground.now }
     requires fit { AreFit declarations.now }
     requires main { position (bytes_eq (codes "main")) ground.now.connectors ≡ Some number }
@@ -53,7 +53,7 @@ pub fn begin(
         &mut path,
         &mut made,
     )?;
-    Ok(Begun { ports, made })
+    Ok(UnfoldedMain { ports, made })
 }
 
 /// Nodes by name, of which no two have one name.

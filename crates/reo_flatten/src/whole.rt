@@ -17,7 +17,7 @@ ghost use Rattle.reo_flatten.specs.Parts.{IsParts};
 use crate::judging::judge;
 use crate::last::{Flat, Parts, close};
 use crate::nodes::{Wired, all_joints, all_own};
-use crate::unfolded::{Begun, begin, ends_at};
+use crate::unfolded::{UnfoldedMain, begin, ends_at};
 use reo_flat::{circuits_are_small, counts_are_channels, nodes_are_distinct, nodes_are_served};
 use reo_rules::FlatFault;
 use reo_trees::{Declaration, Program};
@@ -80,7 +80,7 @@ fn parts_of(
     nodes_are_distinct();
     nodes_are_served();
     circuits_are_small();
-    let Begun { ports, made } = begin(alloc, declarations, ground, number)?;
+    let UnfoldedMain { ports, made } = begin(alloc, declarations, ground, number)?;
     let ends = ends_at(alloc, &made)?;
     let Unfolded {
         nodes,

@@ -3,9 +3,9 @@ use Rattle.std.proofs.Common.{◌≡◌, sym, subst}
 use Rattle.std.specs.Prelude.{Option, Some}
 use Rattle.reo_handles.specs.Statuses.{AtOpen}
 use Rattle.reo_handles.specs.declared.session.Session.{Session}
-use Rattle.reo_handles.specs.declared.status.Status.{Status}
+use Rattle.reo_handles.specs.declared.status.CallStatus.{CallStatus}
 
-module _ (Does : Session → Session → Status → Type 0) (a b : Option Session) (s : Session) (status : Status) where
+module _ (Does : Session → Session → CallStatus → Type 0) (a b : Option Session) (s : Session) (status : CallStatus) where
   -- The session was read, and put back as it was.
   pub at_read : (read : Session) → a ≡ Some s → b ≡ Some s → read ≡ s → Does read read status → AtOpen Does a b status
   at_read read was is same does =

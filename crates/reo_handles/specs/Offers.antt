@@ -11,8 +11,8 @@ use Rattle.reo_values.specs.declared.value.Value.{Value}
 use Rattle.reo_connector.specs.Held.{Held, states_of, with_primitives}
 use Rattle.reo_connector.specs.Items.{HasText}
 use Rattle.reo_handles.specs.declared.session.Session.{Session}
-use Rattle.reo_handles.specs.declared.status.Status.{Status}
-use Rattle.reo_handles.specs.declared.status.Status.TheVariants as statuses
+use Rattle.reo_handles.specs.declared.status.CallStatus.{CallStatus}
+use Rattle.reo_handles.specs.declared.status.CallStatus.TheVariants as statuses
 
 -- The session of another connector.
 abbrev pub with_connector : Session → Held → Session
@@ -30,7 +30,7 @@ abbrev pub IsDeclined : ℕ → Offer → Session → Session → OfferFault →
 IsDeclined port offer s t fault = IsOfferFault (states_of s.connector) s.connector.circuit.ports port offer fault × (t ≡ s)
 
 -- What offering does.
-unfoldable pub Offers : ℕ → Offer → Session → Session → Status → Type 0
+unfoldable pub Offers : ℕ → Offer → Session → Session → CallStatus → Type 0
 Offers port offer s t statuses.Done = IsTakenAt (states_of s.connector) s.connector.circuit.ports port offer × (t ≡ with_offer s port offer)
 Offers port offer s t statuses.NoPort = IsDeclined port offer s t faults.NoPort
 Offers port offer s t statuses.WrongWay = IsDeclined port offer s t faults.WrongWay
@@ -39,13 +39,13 @@ Offers port offer s t statuses.Outside = IsDeclined port offer s t faults.ItemOu
 Offers port offer s t _ = ⊥
 
 -- What offering to write the item of a text does.
-unfoldable pub Writes : ℕ → List ℕ → Session → Session → Status → Type 0
+unfoldable pub Writes : ℕ → List ℕ → Session → Session → CallStatus → Type 0
 Writes port text s t statuses.NoItem = ((item : Value) → HasText s.connector port text item → ⊥) × (t ≡ s)
 Writes port text s t statuses.NoMemory = t ≡ s
 Writes port text s t status = (item : Value) × HasText s.connector port text item × Offers port (Write item) s t status
 
 -- What taking an offer back does.
-abbrev pub Withdraws : ℕ → Session → Session → Status → Type 0
+abbrev pub Withdraws : ℕ → Session → Session → CallStatus → Type 0
 Withdraws port s t statuses.Done = IsPendingAt (states_of s.connector) s.connector.circuit.ports port × (t ≡ without_offer s port)
 Withdraws port s t statuses.NotPending = (IsPendingAt (states_of s.connector) s.connector.circuit.ports port → ⊥) × (t ≡ s)
 Withdraws port s t _ = ⊥

@@ -8,15 +8,15 @@ use Rattle.reo_connector.specs.Held.{net_in}
 use Rattle.reo_connector.specs.Rounds.{IsMade}
 use Rattle.reo_handles.specs.declared.rounds.Round.{Round}
 use Rattle.reo_handles.specs.declared.session.Session.{Session}
-use Rattle.reo_handles.specs.declared.status.Status.{Status}
-use Rattle.reo_handles.specs.declared.status.Status.TheVariants as statuses
+use Rattle.reo_handles.specs.declared.status.CallStatus.{CallStatus}
+use Rattle.reo_handles.specs.declared.status.CallStatus.TheVariants as statuses
 
 -- What is told of a round.
 abbrev pub summary : ℕ → Done → Round
 summary number done = record { number = number; moves = length done.moves; jammed = done.jammed; idle = done.idle }
 
 -- What a round that cannot be planned answers.
-abbrev pub refused : PlanFault → Status
+abbrev pub refused : PlanFault → CallStatus
 refused (faults.Wide knot) = statuses.Wide
 refused (faults.Spent knot weight) = statuses.Spent
 refused faults.NoMemory = statuses.NoMemory
@@ -34,7 +34,7 @@ pub record IsNoRound (old new : Round) (s t : Session) : Type 0 where
   pub untold : new ≡ old
 
 -- What making a round does.
-abbrev pub Rounds : ℕ → Round → Round → Session → Session → Status → Type 0
+abbrev pub Rounds : ℕ → Round → Round → Session → Session → CallStatus → Type 0
 Rounds budget old new s t statuses.Done = IsRound budget new s t
 Rounds budget old new s t statuses.Wide = (knot : ℕ) × IsPlanFault budget (net_in s.connector) (faults.Wide knot) × IsNoRound old new s t
 Rounds budget old new s t statuses.Spent = (knot : ℕ) × (weight : ℕ) × IsPlanFault budget (net_in s.connector) (faults.Spent knot weight) × IsNoRound old new s t

@@ -1,11 +1,11 @@
 -- What calls answer, by number and by words.
 use Rattle.std.specs.Prelude.{ℕ, ◌≡◌, List, Option, Some, None, codes}
 use Rattle.reo_handles.specs.declared.session.Session.{Session}
-use Rattle.reo_handles.specs.declared.status.Status.{Status}
-use Rattle.reo_handles.specs.declared.status.Status.TheVariants as statuses
+use Rattle.reo_handles.specs.declared.status.CallStatus.{CallStatus}
+use Rattle.reo_handles.specs.declared.status.CallStatus.TheVariants as statuses
 
 -- The number of a status.
-abbrev pub number_of : Status → ℕ
+abbrev pub number_of : CallStatus → ℕ
 number_of statuses.Done = 0
 number_of statuses.Closed = 1
 number_of statuses.Refused = 2
@@ -24,7 +24,7 @@ number_of statuses.NoMove = 14
 number_of statuses.NoMemory = 15
 
 -- Its words.
-abbrev pub words_of : Status → List ℕ
+abbrev pub words_of : CallStatus → List ℕ
 words_of statuses.Done = codes "done"
 words_of statuses.Closed = codes "nothing is open"
 words_of statuses.Refused = codes "no circuit"
@@ -43,13 +43,13 @@ words_of statuses.NoMove = codes "no move"
 words_of statuses.NoMemory = codes "no memory"
 
 -- A number that is answered: that of a status of which this holds.
-pub record Answers (Holds : Status → Type 0) (number : ℕ) : Type 0 where
-  pub status : Status
+pub record Answers (Holds : CallStatus → Type 0) (number : ℕ) : Type 0 where
+  pub status : CallStatus
   pub number_is : number ≡ number_of status
   pub holds : Holds status
 
 -- What a call does where a session is open; where none is, it says so, and none is open after it.
-abbrev pub AtOpen : (Session → Session → Status → Type 0) → Option Session → Option Session → Status → Type 0
+abbrev pub AtOpen : (Session → Session → CallStatus → Type 0) → Option Session → Option Session → CallStatus → Type 0
 AtOpen Does (Some s) (Some t) status = Does s t status
 AtOpen Does (Some s) None status = ⊥
 AtOpen Does None (Some t) status = ⊥

@@ -1,7 +1,7 @@
 //! Handles: what C holds of a connector.
 ghost use Rattle.std.specs.Prelude.{◌≡◌, ◌↔◌, IfSome, IsSome, IsTrue, None, Some};
 
-use crate::place::Place;
+use crate::place::SessionPlace;
 use crate::session::Session;
 use std::alloc::Global;
 use std::mem::replace;
@@ -11,7 +11,7 @@ use std::mem::replace;
 #[derive(Drop)]
 pub struct Handle {
     full: bool,
-    place: Place,
+    place: SessionPlace,
     ghost fits: { IsTrue full ↔ IsSome place.session },
 }
 
@@ -21,7 +21,7 @@ pub fn nothing() -> Handle
 {
     Handle {
         full: false,
-        place: Place::nowhere(),
+        place: SessionPlace::nowhere(),
     }
 }
 
@@ -31,7 +31,7 @@ fn held(session: Box<Session>) -> Handle
 {
     Handle {
         full: true,
-        place: Place::of(session),
+        place: SessionPlace::of(session),
     }
 }
 

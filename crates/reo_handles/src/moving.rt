@@ -5,7 +5,7 @@ ghost use Rattle.reo_handles.specs.Statuses.{AtOpen};
 
 use crate::handle::{Handle, put, taken};
 use crate::session::Session;
-use crate::status::Status;
+use crate::status::CallStatus;
 use crate::texts::lay;
 use reo_net_base::Move;
 use std::alloc::Global;
@@ -21,27 +21,27 @@ fn move_of(session: &Session, index: usize) -> Option<&Move>
 }
 
 /// Tells at which port a move was.
-fn moved(session: &Session, index: usize, port: &mut usize) -> Status
+fn moved(session: &Session, index: usize, port: &mut usize) -> CallStatus
     ensures { Moved index port.old port.new session.now session.now result }
 {
     match move_of(session, index) {
         Some(one) => {
             *port = one.port;
-            Status::Done
+            CallStatus::Done
         }
-        None => Status::NoMove,
+        None => CallStatus::NoMove,
     }
 }
 
 /// Tells at which port the move of an index was, in the round that was made last: `port` becomes
 /// its number. Moves count from 0, in the order of their ports. `NoMove`: there is none of this
 /// index.
-pub fn moved_open(alloc: Global, handle: &mut Handle, index: usize, port: &mut usize) -> Status
+pub fn moved_open(alloc: Global, handle: &mut Handle, index: usize, port: &mut usize) -> CallStatus
     ensures { AtOpen (Moved index port.old port.new)
         handle.old.place.session handle.new.place.session result }
 {
     let Some(session) = taken(alloc, handle) else {
-        return Status::Closed;
+        return CallStatus::Closed;
     };
     let status = moved(&session, index, port);
     put(handle, session);
@@ -55,19 +55,19 @@ fn item(
     index: usize,
     room: &mut [u8],
     length: &mut usize,
-) -> Status
+) -> CallStatus
     ensures { TellsItem index (record { bytes = room.old; length = length.old })
         (record { bytes = room.new; length = length.new }) session.now session.now result }
 {
     let Some(one) = move_of(session, index) else {
-        return Status::NoMove;
+        return CallStatus::NoMove;
     };
     match session.connector.text(alloc, one.port, &one.item) {
         Ok(text) => {
             *length = lay(room, text.as_slice());
-            Status::Done
+            CallStatus::Done
         }
-        Err(_) => Status::NoMemory,
+        Err(_) => CallStatus::NoMemory,
     }
 }
 
@@ -79,13 +79,13 @@ pub fn item_open(
     index: usize,
     room: &mut [u8],
     length: &mut usize,
-) -> Status
+) -> CallStatus
     ensures { AtOpen (TellsItem index (record { bytes = room.old; length = length.old })
         (record { bytes = room.new; length = length.new }))
         handle.old.place.session handle.new.place.session result }
 {
     let Some(session) = taken(alloc, handle) else {
-        return Status::Closed;
+        return CallStatus::Closed;
     };
     let status = item(&session, alloc, index, room, length);
     put(handle, session);

@@ -5,7 +5,7 @@ ghost use Rattle.reo_handles.specs.Statuses.{AtOpen};
 
 use crate::handle::{Handle, put, taken};
 use crate::session::Session;
-use crate::status::Status;
+use crate::status::CallStatus;
 use reo_connector::ItemFault;
 use reo_net_base::Offer;
 use reo_rounds::OfferFault;
@@ -14,40 +14,40 @@ use std::alloc::Global;
 impl Session {
     /// Makes an offer pending at a port.
     #[tactic(auto, unfolding(crate::specs::Offers::Offers))]
-    fn offer(&mut self, port: usize, offer: Offer) -> Status
+    fn offer(&mut self, port: usize, offer: Offer) -> CallStatus
         ensures { Offers port offer self.old self.new result }
     {
         match self.connector.offer(port, offer) {
-            Ok(()) => Status::Done,
+            Ok(()) => CallStatus::Done,
             Err(declined) => match declined.cause {
-                OfferFault::NoPort => Status::NoPort,
-                OfferFault::WrongWay => Status::WrongWay,
-                OfferFault::Pending => Status::Pending,
-                OfferFault::ItemOutside => Status::Outside,
+                OfferFault::NoPort => CallStatus::NoPort,
+                OfferFault::WrongWay => CallStatus::WrongWay,
+                OfferFault::Pending => CallStatus::Pending,
+                OfferFault::ItemOutside => CallStatus::Outside,
             },
         }
     }
 
     /// Offers to write the item of a text.
     #[tactic(auto, unfolding(crate::specs::Offers::Offers, crate::specs::Offers::Writes))]
-    fn write(&mut self, alloc: Global, port: usize, text: &[u8]) -> Status
+    fn write(&mut self, alloc: Global, port: usize, text: &[u8]) -> CallStatus
         ensures { Writes port text.now self.old self.new result }
     {
         match self.connector.item(alloc, port, text) {
             Ok(item) => self.offer(port, Offer::Write(item)),
-            Err(ItemFault::NoItem) => Status::NoItem,
-            Err(ItemFault::NoMemory) => Status::NoMemory,
+            Err(ItemFault::NoItem) => CallStatus::NoItem,
+            Err(ItemFault::NoMemory) => CallStatus::NoMemory,
         }
     }
 
     /// Takes an offer back.
-    fn withdraw(&mut self, port: usize) -> Status
+    fn withdraw(&mut self, port: usize) -> CallStatus
         ensures { Withdraws port self.old self.new result }
     {
         if self.connector.withdraw(port) {
-            Status::Done
+            CallStatus::Done
         } else {
-            Status::NotPending
+            CallStatus::NotPending
         }
     }
 }
@@ -55,12 +55,12 @@ impl Session {
 /// Offers to write at a port the item of its type that has this text. `NoItem`: there is none, or
 /// no such port; `WrongWay`, `Pending`, `Outside`: the port does not take the offer. Nothing
 /// changes then.
-pub fn write_open(alloc: Global, handle: &mut Handle, port: usize, text: &[u8]) -> Status
+pub fn write_open(alloc: Global, handle: &mut Handle, port: usize, text: &[u8]) -> CallStatus
     ensures { AtOpen (Writes port text.now)
         handle.old.place.session handle.new.place.session result }
 {
     let Some(mut session) = taken(alloc, handle) else {
-        return Status::Closed;
+        return CallStatus::Closed;
     };
     let status = session.write(alloc, port, text);
     put(handle, session);
@@ -69,12 +69,12 @@ pub fn write_open(alloc: Global, handle: &mut Handle, port: usize, text: &[u8]) 
 
 /// Offers to take an item at a port. `NoPort`, `WrongWay`, `Pending`: it does not take the offer,
 /// and nothing changes.
-pub fn take_open(alloc: Global, handle: &mut Handle, port: usize) -> Status
+pub fn take_open(alloc: Global, handle: &mut Handle, port: usize) -> CallStatus
     ensures { AtOpen (Offers port ToTake)
         handle.old.place.session handle.new.place.session result }
 {
     let Some(mut session) = taken(alloc, handle) else {
-        return Status::Closed;
+        return CallStatus::Closed;
     };
     let status = session.offer(port, Offer::Take);
     put(handle, session);
@@ -82,12 +82,12 @@ pub fn take_open(alloc: Global, handle: &mut Handle, port: usize) -> Status
 }
 
 /// Takes the offer at a port back. `NotPending`: there is none.
-pub fn withdraw_open(alloc: Global, handle: &mut Handle, port: usize) -> Status
+pub fn withdraw_open(alloc: Global, handle: &mut Handle, port: usize) -> CallStatus
     ensures { AtOpen (Withdraws port)
         handle.old.place.session handle.new.place.session result }
 {
     let Some(mut session) = taken(alloc, handle) else {
-        return Status::Closed;
+        return CallStatus::Closed;
     };
     let status = session.withdraw(port);
     put(handle, session);

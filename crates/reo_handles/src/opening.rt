@@ -6,7 +6,7 @@ ghost use Rattle.reo_handles.specs.Opening.{IsHeld, IsRefusalLaid, IsStopped, Op
 use crate::closing::close;
 use crate::handle::{Handle, put};
 use crate::session::Session;
-use crate::status::Status;
+use crate::status::CallStatus;
 use crate::texts::lay;
 use reo_command::{Refusal, Stop, append_refusal};
 use reo_connector::Connector;
@@ -34,42 +34,42 @@ fn begun(alloc: Global, connector: Connector) -> Option<Box<Session>>
 }
 
 /// Holds a connector in a handle that has none.
-fn hold(alloc: Global, handle: &mut Handle, connector: Connector) -> Status
+fn hold(alloc: Global, handle: &mut Handle, connector: Connector) -> CallStatus
     requires { handle.old.place.session ≡ None }
     ensures { IsHeld connector handle.new.place.session result }
 {
     match begun(alloc, connector) {
         Some(session) => {
             put(handle, session);
-            Status::Done
+            CallStatus::Done
         }
-        None => Status::NoMemory,
+        None => CallStatus::NoMemory,
     }
 }
 
 /// Lays the line and the words of a refusal into a room, as far as they fit.
-fn lay_refusal(alloc: Global, refusal: &Refusal, room: &mut [u8], length: &mut usize) -> Status
+fn lay_refusal(alloc: Global, refusal: &Refusal, room: &mut [u8], length: &mut usize) -> CallStatus
     ensures { IsRefusalLaid refusal.now (record { bytes = room.old; length = length.old })
         (record { bytes = room.new; length = length.new }) result }
 {
     match refusal_text(alloc, refusal) {
         Ok(words) => {
             *length = lay(room, words.as_slice());
-            Status::Refused
+            CallStatus::Refused
         }
-        Err(_) => Status::NoMemory,
+        Err(_) => CallStatus::NoMemory,
     }
 }
 
 /// Why a circuit text says no circuit.
-fn stopped(alloc: Global, stop: Stop, room: &mut [u8], length: &mut usize) -> Status
+fn stopped(alloc: Global, stop: Stop, room: &mut [u8], length: &mut usize) -> CallStatus
     ensures { IsStopped stop (record { bytes = room.old; length = length.old })
         (record { bytes = room.new; length = length.new }) result }
 {
     match stop {
         Stop::Refused(_, refusal) => lay_refusal(alloc, &refusal, room, length),
-        Stop::TooLong(_) => Status::TooLong,
-        _ => Status::NoMemory,
+        Stop::TooLong(_) => CallStatus::TooLong,
+        _ => CallStatus::NoMemory,
     }
 }
 
@@ -83,7 +83,7 @@ pub fn open(
     text: &[u8],
     room: &mut [u8],
     length: &mut usize,
-) -> Status
+) -> CallStatus
     ensures { Opens text.now (record { bytes = room.old; length = length.old })
         (record { bytes = room.new; length = length.new }) handle.new.place.session result }
 {

@@ -12,31 +12,31 @@ use std::marker::Model;
 /// Where a session lies, or nowhere.
 #[repr(C)]
 #[derive(Drop)]
-pub struct Place {
+pub struct SessionPlace {
     at: *mut u8,
     pub ghost session: { Option Session } by { coded_option session_row.coded },
 }
 
-impl Model for Place {
+impl Model for SessionPlace {
     ghost also_owns = { λ p. owned p.at p.session };
 }
 
-impl Place {
+impl SessionPlace {
     /// No place.
-    pub fn nowhere() -> Place
+    pub fn nowhere() -> SessionPlace
         ensures { result.session ≡ None }
     {
-        Place {
+        SessionPlace {
             at: std::ptr::null_mut(),
         }
     }
 
     /// The place of a session.
-    pub fn of(session: Box<Session>) -> Place
+    pub fn of(session: Box<Session>) -> SessionPlace
         ensures { result.session ≡ Some session.value }
     {
         let at = Box::into_raw(session);
-        Place { at: at as *mut u8 }
+        SessionPlace { at: at as *mut u8 }
     }
 
     /// The session again.
@@ -44,7 +44,7 @@ impl Place {
         requires { IsSome self.session }
         ensures { Some result.value ≡ self.session }
     {
-        let Place { at } = self;
+        let SessionPlace { at } = self;
         unsafe { Box::from_raw(alloc, at as *mut Session) }
     }
 }

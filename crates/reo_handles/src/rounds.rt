@@ -5,7 +5,7 @@ ghost use Rattle.reo_handles.specs.Statuses.{AtOpen};
 
 use crate::handle::{Handle, put, taken};
 use crate::session::Session;
-use crate::status::Status;
+use crate::status::CallStatus;
 use reo_rounds::{Done, PlanFault};
 use std::alloc::Global;
 
@@ -42,32 +42,32 @@ fn summary(number: u64, done: &Done) -> Round
 }
 
 /// What a round that cannot be planned answers.
-fn refused(fault: PlanFault) -> Status
+fn refused(fault: PlanFault) -> CallStatus
     ensures { result ≡ refused fault }
 {
     match fault {
-        PlanFault::Wide { .. } => Status::Wide,
-        PlanFault::Spent { .. } => Status::Spent,
-        PlanFault::NoMemory => Status::NoMemory,
+        PlanFault::Wide { .. } => CallStatus::Wide,
+        PlanFault::Spent { .. } => CallStatus::Spent,
+        PlanFault::NoMemory => CallStatus::NoMemory,
     }
 }
 
 impl Session {
     /// Makes the round that comes next.
-    fn round(&mut self, alloc: Global, budget: u64, round: &mut Round) -> Status
+    fn round(&mut self, alloc: Global, budget: u64, round: &mut Round) -> CallStatus
         ensures { Rounds budget round.old round.new self.old self.new result }
     {
         if BUDGETS <= budget {
-            return Status::LargeBudget;
+            return CallStatus::LargeBudget;
         }
         if MOST_ROUNDS <= self.connector.rounds() {
-            return Status::NoRound;
+            return CallStatus::NoRound;
         }
         match self.connector.round(alloc, budget) {
             Ok(done) => {
                 *round = summary(self.connector.rounds(), &done);
                 self.done = Some(done);
-                Status::Done
+                CallStatus::Done
             }
             Err(fault) => refused(fault),
         }
@@ -77,12 +77,12 @@ impl Session {
 /// Makes the round that comes next, that of the first colouring, and tells what it was. `Wide`,
 /// `Spent`: a part of the circuit is over the budget; `LargeBudget`: the budget is 10^18 or more;
 /// `NoRound`: 2^63 rounds were made. Nothing changes then.
-pub fn round_open(alloc: Global, handle: &mut Handle, budget: u64, round: &mut Round) -> Status
+pub fn round_open(alloc: Global, handle: &mut Handle, budget: u64, round: &mut Round) -> CallStatus
     ensures { AtOpen (Rounds budget round.old round.new)
         handle.old.place.session handle.new.place.session result }
 {
     let Some(mut session) = taken(alloc, handle) else {
-        return Status::Closed;
+        return CallStatus::Closed;
     };
     let status = session.round(alloc, budget, round);
     put(handle, session);

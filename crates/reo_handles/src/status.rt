@@ -4,7 +4,7 @@ ghost use Rattle.reo_handles.specs.Statuses.{number_of};
 
 /// What a call answers: that it was done, or why not.
 #[derive(Clone, Copy, Debug, PartialEq, Eq)]
-pub enum Status {
+pub enum CallStatus {
     /// It was done.
     Done,
     /// Nothing is open in the handle.
@@ -39,28 +39,28 @@ pub enum Status {
     NoMemory,
 }
 
-impl Status {
+impl CallStatus {
     /// Its number.
     pub fn number(self) -> u32
         ensures { result ≡ number_of self }
     {
         match self {
-            Status::Done => 0,
-            Status::Closed => 1,
-            Status::Refused => 2,
-            Status::TooLong => 3,
-            Status::NoPort => 4,
-            Status::WrongWay => 5,
-            Status::Pending => 6,
-            Status::Outside => 7,
-            Status::NoItem => 8,
-            Status::NotPending => 9,
-            Status::Wide => 10,
-            Status::Spent => 11,
-            Status::LargeBudget => 12,
-            Status::NoRound => 13,
-            Status::NoMove => 14,
-            Status::NoMemory => 15,
+            CallStatus::Done => 0,
+            CallStatus::Closed => 1,
+            CallStatus::Refused => 2,
+            CallStatus::TooLong => 3,
+            CallStatus::NoPort => 4,
+            CallStatus::WrongWay => 5,
+            CallStatus::Pending => 6,
+            CallStatus::Outside => 7,
+            CallStatus::NoItem => 8,
+            CallStatus::NotPending => 9,
+            CallStatus::Wide => 10,
+            CallStatus::Spent => 11,
+            CallStatus::LargeBudget => 12,
+            CallStatus::NoRound => 13,
+            CallStatus::NoMove => 14,
+            CallStatus::NoMemory => 15,
         }
     }
 }

@@ -2,7 +2,7 @@
 ghost use Rattle.std.specs.Prelude.{◌≡◌, length};
 ghost use Rattle.reo_handles.specs.Statuses.{number_of, words_of};
 ghost use Rattle.reo_handles.specs.Texts.{laid};
-ghost use Rattle.reo_handles.specs.declared.status.Status.{Status as AStatus};
+ghost use Rattle.reo_handles.specs.declared.status.CallStatus.{CallStatus as AStatus};
 
 use crate::texts::lay;
 

@@ -11,7 +11,7 @@ use Rattle.reo_net_laws.specs.Sublists.{sides_in}
 use Rattle.reo_net_laws.specs.Knots.{Knotted, AreKnots, in_knot, knot_count}
 use Rattle.reo_propagate.specs.Queues.{among}
 use Rattle.reo_propagate.proofs.Among.{among_filter, into_filter, among_range}
-use Rattle.reo_kept_tables.specs.Tables.{AreApart}
+use Rattle.reo_kept_tables.specs.SearchTables.{AreApart}
 use Rattle.reo_kept_tables.specs.Orders.{AreJointsOf, AreOrders}
 use Rattle.reo_kept_tables.proofs.Sorted.{not_other, orders_are_of_parts}
 

@@ -7,7 +7,7 @@ use Rattle.reo_net_base.specs.Wired.{IsWired}
 use Rattle.reo_net_laws.proofs.Sides.{side_in_range}
 use Rattle.reo_net_laws.specs.Knots.{in_knot}
 use Rattle.reo_joint_values.specs.Standing.{no_joint, giver_of}
-use Rattle.reo_kept_tables.specs.Tables.{IsSideRight, IsJointRight}
+use Rattle.reo_kept_tables.specs.SearchTables.{IsSideRight, IsJointRight}
 use Rattle.reo_kept_tables.specs.Laws.{ReadyTablesAreRight, RightPartsAreReady}
 use Rattle.std.proofs.lemmas.Bool.{and_from as both}
 use Rattle.reo_values.proofs.Naturals.{lt_true, same_eq}

@@ -19,8 +19,8 @@ use Rattle.reo_reach.proofs.StayLemmas.{reached_stays}
 use Rattle.reo_propagate.specs.Queues.{among}
 use Rattle.reo_propagate.proofs.Among.{among_stands}
 use Rattle.reo_rows.specs.declared.groups.Group.{Group}
-use Rattle.reo_kept_tables.specs.declared.tables.Tables.{Tables}
-use Rattle.reo_kept_tables.specs.Tables.{HasRoom, IsSideRight, IsJointRight, AreRightOn, AreApart}
+use Rattle.reo_kept_tables.specs.declared.tables.SearchTables.{SearchTables}
+use Rattle.reo_kept_tables.specs.SearchTables.{HasRoom, IsSideRight, IsJointRight, AreRightOn, AreApart}
 use Rattle.reo_kept_tables.specs.Renewing.{AreRightAt, OnlySides, OnlyJoints}
 use Rattle.reo_kept_tables.specs.Orders.{AreJointsOf}
 use Rattle.reo_kept_tables.proofs.Renewed.{contains_among, among_contains, right_all}
@@ -30,7 +30,7 @@ pub joint_in : (net : Net) (joints : List ℕ) → AreInOrder net joints → (j 
 joint_in net joints in_order j h = let s = among_stands joints j h in subst (λ (i : ℕ). i < length net.joints) s.2 (in_order.in_range s.0 s.1)
 
 -- Room stays where only joints are made anew.
-pub room_joints : (net : Net) (joints : List ℕ) (old new : Tables) → HasRoom net old → HasPlaces net new.supply → AreShort new.supply → OnlyJoints joints old new → HasRoom net new
+pub room_joints : (net : Net) (joints : List ℕ) (old new : SearchTables) → HasRoom net old → HasPlaces net new.supply → AreShort new.supply → OnlyJoints joints old new → HasRoom net new
 room_joints net joints old new room places short only = record {
   boards = ap length only.boards ∙ room.boards;
   places = places;
@@ -43,7 +43,7 @@ room_joints net joints old new room places short only = record {
 }
 
 -- Room stays where only sides are made anew.
-pub room_sides : (net : Net) (sides : List ℕ) (old new : Tables) → HasRoom net old → OnlySides sides old new → HasRoom net new
+pub room_sides : (net : Net) (sides : List ℕ) (old new : SearchTables) → HasRoom net old → OnlySides sides old new → HasRoom net new
 room_sides net sides old new room only = record {
   boards = only.boards.one_each ∙ room.boards;
   places = subst (λ (s : Supplied). HasPlaces net s) (sym only.supply) room.places;
@@ -56,7 +56,7 @@ room_sides net sides old new room only = record {
 }
 
 -- A joint stays right where nothing of it changes.
-pub joint_same : (net : Net) (old new : Tables) (j : ℕ) → new.supply ≡ old.supply → new.state.alive ≡ old.state.alive → new.state.rows.seen ≡ old.state.rows.seen → IsJointRight net old j → IsJointRight net new j
+pub joint_same : (net : Net) (old new : SearchTables) (j : ℕ) → new.supply ≡ old.supply → new.state.alive ≡ old.state.alive → new.state.rows.seen ≡ old.state.rows.seen → IsJointRight net old j → IsJointRight net new j
 joint_same net old new j supply alive seen is = record {
   reached = subst (λ (s : Supplied). IsReached net s j) (sym supply) is.reached;
   values = ap (λ (t : List (List Bool)). length (get_or t j [])) alive ∙ is.values ∙ ap (λ (s : Supplied). length (items_at s j) + 4) (sym supply);
@@ -64,7 +64,7 @@ joint_same net old new j supply alive seen is = record {
 }
 
 -- The sides that are made anew are right.
-pub sides_right : (net : Net) (sides : List ℕ) (tables : Tables) → AreRightAt sides (length sides) (IsBoard net) tables.boards
+pub sides_right : (net : Net) (sides : List ℕ) (tables : SearchTables) → AreRightAt sides (length sides) (IsBoard net) tables.boards
     → AreRightAt sides (length sides) (λ s row. length row ≡ row_count (side_in net s)) tables.state.rows.live
     → AreRightAt sides (length sides) (λ s list. length list ≡ groups_in net s) tables.state.rows.notes
     → (s : ℕ) → among sides s ≡ true → IsSideRight net tables s
@@ -75,7 +75,7 @@ sides_right net sides tables boards live notes s h = record {
 }
 
 -- The joints that are made anew are right.
-pub joints_right : (net : Net) (joints : List ℕ) (tables : Tables) → ((j : ℕ) → Contains joints j → IsReached net tables.supply j)
+pub joints_right : (net : Net) (joints : List ℕ) (tables : SearchTables) → ((j : ℕ) → Contains joints j → IsReached net tables.supply j)
     → AreRightAt joints (length joints) (λ j row. length row ≡ length (items_at tables.supply j) + 4) tables.state.alive
     → AreRightAt joints (length joints) (λ j row. length row ≡ length (items_at tables.supply j) + 4) tables.state.rows.seen
     → (j : ℕ) → Contains joints j → IsJointRight net tables j
@@ -96,7 +96,7 @@ not_among xs k h = not_true (among xs k) h
 
 -- Another set, which has none of these sides and joints.
 module _ (net : Net) (other : ℕ → Bool) where
-  pub sides_stay : (sides : List ℕ) (old new : Tables) → HasRoom net old → OnlySides sides old new → ((s : ℕ) → other s ≡ true → among sides s ≡ false) → AreRightOn net other old → AreRightOn net other new
+  pub sides_stay : (sides : List ℕ) (old new : SearchTables) → HasRoom net old → OnlySides sides old new → ((s : ℕ) → other s ≡ true → among sides s ≡ false) → AreRightOn net other old → AreRightOn net other new
   sides_stay sides old new room only apart right = record {
     sides = λ s lt h.
         let was = right.sides s lt h in
@@ -109,7 +109,7 @@ module _ (net : Net) (other : ℕ → Bool) where
     joints = λ j is. joint_same net old new j only.supply only.alive only.seen (right.joints j is);
   }
 
-  pub joints_stay : IsWired net → IsClosed net other → (joints : List ℕ) (old new : Tables) → HasRoom net old → OnlyJoints joints old new → ((j : ℕ) → IsJointIn net other j → Contains joints j → ⊥) → AreRightOn net other old
+  pub joints_stay : IsWired net → IsClosed net other → (joints : List ℕ) (old new : SearchTables) → HasRoom net old → OnlyJoints joints old new → ((j : ℕ) → IsJointIn net other j → Contains joints j → ⊥) → AreRightOn net other old
       → AreRightOn net other new
   joints_stay wired closed joints old new room only apart right = record {
     sides = λ s lt h.
@@ -142,7 +142,7 @@ pub apart_sides : (sides : List ℕ) (other : ℕ → Bool) → AreApart (among 
 apart_sides sides other apart s h = not_among sides s (λ g. both_ways (other s) (apart s g) h)
 
 -- All is right on the set.
-pub all_right : (net : Net) (sides joints : List ℕ) (mid new : Tables) → AreJointsOf net (among sides) joints → ((j : ℕ) → Contains joints j → IsJointRight net mid j) → OnlySides sides mid new
+pub all_right : (net : Net) (sides joints : List ℕ) (mid new : SearchTables) → AreJointsOf net (among sides) joints → ((j : ℕ) → Contains joints j → IsJointRight net mid j) → OnlySides sides mid new
     → ((s : ℕ) → among sides s ≡ true → IsSideRight net new s) → AreRightOn net (among sides) new
 all_right net sides joints mid new are joints_are only sides_are = record {
   sides = λ s lt h. sides_are s h;

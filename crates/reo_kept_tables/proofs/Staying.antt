@@ -23,8 +23,8 @@ use Rattle.reo_side_tables.specs.Marks.{byte_of, side_in, groups_in, end_at, com
 use Rattle.reo_joint_values.specs.Standing.{no_joint}
 use Rattle.reo_joint_values.specs.Many.{IsJointIn}
 use Rattle.reo_reach.proofs.StayLemmas.{reached_stays}
-use Rattle.reo_kept_tables.specs.declared.tables.Tables.{Tables}
-use Rattle.reo_kept_tables.specs.Tables.{IsSideRight, AreRightOn}
+use Rattle.reo_kept_tables.specs.declared.tables.SearchTables.{SearchTables}
+use Rattle.reo_kept_tables.specs.SearchTables.{IsSideRight, AreRightOn}
 use Rattle.reo_kept_tables.specs.Laws.{RightTablesStay, RoomStays}
 
 pub same_side : (b d : Behaviour) (side : ℕ) → d ≡ b → SameSide b d side
@@ -158,14 +158,14 @@ module _ (bs ds : List Behaviour) (js : List Joint) (wired : IsWired (record { p
       apart = λ end. lists_as (IsApartAt net side end) (IsApartAt other side end) (get_or board.apart end []) (apart_on end) (apart_back end) (is.apart end);
     }
 
-    side_on : (tables : Tables) → IsSideRight net tables side → IsSideRight other tables side
+    side_on : (tables : SearchTables) → IsSideRight net tables side → IsSideRight other tables side
     side_on tables is = record {
       board = λ d. board_on (get_or tables.boards side d) (is.board d);
       rows = is.rows ∙ ap row_count (sym it_is);
       groups = is.groups ∙ sym groups_are;
     }
 
-  pub right_on : IsClosed net inside → (tables : Tables) → AreRightOn net inside tables → AreRightOn other inside tables
+  pub right_on : IsClosed net inside → (tables : SearchTables) → AreRightOn net inside tables → AreRightOn other inside tables
   right_on closed tables right = record {
     sides = λ side lt h. let side_lt : side < length (all_sides bs) = omega (arith, lt, count_same bs ds shapes) in side_on side side_lt h tables (right.sides side side_lt h);
     joints = λ j is.

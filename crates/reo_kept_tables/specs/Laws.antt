@@ -6,20 +6,20 @@ use Rattle.reo_net_base.specs.Wired.{IsWired}
 use Rattle.reo_net_laws.specs.Parts.{IsClosed}
 use Rattle.reo_net_circuit.specs.found_ends.Ends.{AreEnds}
 use Rattle.reo_net_laws.specs.Knots.{Knotted, AreKnots, in_knot, knot_count}
-use Rattle.reo_kept_tables.specs.declared.tables.Tables.{Tables}
-use Rattle.reo_kept_tables.specs.Tables.{HasRoom, AreRightOn, AreReady}
+use Rattle.reo_kept_tables.specs.declared.tables.SearchTables.{SearchTables}
+use Rattle.reo_kept_tables.specs.SearchTables.{HasRoom, AreRightOn, AreReady}
 use Rattle.reo_kept_tables.specs.Orders.{AreJointsOf, AreOrders}
 
 -- Tables that are right on each part are those of the circuit.
 abbrev pub RightPartsAreReady : Type 0
 RightPartsAreReady = (net : Net) → IsWired net → (ends : List (List ℕ)) → AreEnds net ends
-    → (knots : Knotted) → AreKnots net knots → (tables : Tables) → HasRoom net tables
+    → (knots : Knotted) → AreKnots net knots → (tables : SearchTables) → HasRoom net tables
     → ((k : ℕ) → k < knot_count knots → AreRightOn net (in_knot knots.numbers k) tables)
     → AreReady net ends tables
 
 -- The tables of a circuit have room for it, and are right on each set of sides.
 abbrev pub ReadyTablesAreRight : Type 0
-ReadyTablesAreRight = (net : Net) (ends : List (List ℕ)) (tables : Tables)
+ReadyTablesAreRight = (net : Net) (ends : List (List ℕ)) (tables : SearchTables)
     → AreReady net ends tables
     → HasRoom net tables × ((inside : ℕ → Bool) → AreRightOn net inside tables)
 
@@ -35,13 +35,13 @@ pub record IsSameOn (net other : Net) (inside : ℕ → Bool) : Type 0 where
 -- Tables that are right on a set stay so where the circuit changes at no primitive of it.
 abbrev pub RightTablesStay : Type 0
 RightTablesStay = (net other : Net) → IsWired net → (inside : ℕ → Bool) → IsClosed net inside
-    → IsSameOn net other inside → (tables : Tables)
+    → IsSameOn net other inside → (tables : SearchTables)
     → AreRightOn net inside tables → AreRightOn other inside tables
 
 -- Tables have room for each circuit of the same shape.
 abbrev pub RoomStays : Type 0
 RoomStays = (net other : Net) → other.joints ≡ net.joints
-    → SameShapes net.primitives other.primitives → (tables : Tables)
+    → SameShapes net.primitives other.primitives → (tables : SearchTables)
     → HasRoom net tables → HasRoom other tables
 
 -- The joints of a part are just those of its list, which can be gone through.

@@ -1,4 +1,4 @@
-pub mod Tables
+pub mod SearchTables
 pub mod Renewing
 pub mod Orders
 pub mod Laws

@@ -2,7 +2,7 @@
 use Rattle.std.specs.Prelude.{ℕ, ◌<◌, ◌≡◌, false, List, length, slice_index, slice_index_or}
 use Rattle.reo_reach.specs.Supplied.{OthersStay}
 use Rattle.reo_propagate.specs.Queues.{among}
-use Rattle.reo_kept_tables.specs.declared.tables.Tables.{Tables}
+use Rattle.reo_kept_tables.specs.declared.tables.SearchTables.{SearchTables}
 
 -- A list stays but at some places, and keeps its length.
 pub record StaysBesides {A : Type 0} (places : List ℕ) (old new : List A) : Type 0 where
@@ -16,7 +16,7 @@ AreRightAt {A} places n right list = (m : ℕ) (d : A) → m < n
     → right (slice_index places m) (slice_index_or list (slice_index places m) d)
 
 -- Tables stay but for what they have of some sides.
-pub record OnlySides (sides : List ℕ) (old new : Tables) : Type 0 where
+pub record OnlySides (sides : List ℕ) (old new : SearchTables) : Type 0 where
   pub supply : new.supply ≡ old.supply
   pub alive : new.state.alive ≡ old.state.alive
   pub seen : new.state.rows.seen ≡ old.state.rows.seen
@@ -26,7 +26,7 @@ pub record OnlySides (sides : List ℕ) (old new : Tables) : Type 0 where
   pub notes : StaysBesides sides old.state.rows.notes new.state.rows.notes
 
 -- Tables stay but for what they have of some joints.
-pub record OnlyJoints (joints : List ℕ) (old new : Tables) : Type 0 where
+pub record OnlyJoints (joints : List ℕ) (old new : SearchTables) : Type 0 where
   pub boards : new.boards ≡ old.boards
   pub live : new.state.rows.live ≡ old.state.rows.live
   pub notes : new.state.rows.notes ≡ old.state.rows.notes

@@ -16,4 +16,4 @@ pub use laws::{
 };
 pub use orders::orders_of;
 pub use parts::refresh_part;
-pub use tables::Tables;
+pub use tables::SearchTables;

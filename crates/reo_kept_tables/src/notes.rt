@@ -7,7 +7,7 @@ ghost use Rattle.reo_kept_tables.specs.Renewing.{AreRightAt, StaysBesides};
 
 use reo_net_base::Primitive;
 use reo_net_circuit::Circuit;
-use reo_rows::{Flags, Group};
+use reo_rows::{RowFlags, Group};
 use reo_values::{List, NoMemory};
 use std::alloc::Global;
 
@@ -17,7 +17,7 @@ pub(crate) fn renew_live<P: Primitive>(
     alloc: Global,
     circuit: &Circuit<P>,
     sides: &[usize],
-    live: &mut Flags,
+    live: &mut RowFlags,
 ) -> Result<(), NoMemory>
     requires sides { (s : ℕ) → among sides.now s ≡ true
         → s < length (all_sides (net_of P.behaviour circuit.now).primitives) }

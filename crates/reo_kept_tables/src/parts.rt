@@ -3,11 +3,11 @@ ghost use Rattle.std.specs.Prelude.{◌≡◌, ◌≢◌, ◌<◌, ℕ, OnOk};
 ghost use Rattle.reo_net_base.specs.Net.{net_of};
 ghost use Rattle.reo_net_circuit.specs.found_ends.Ends.{AreEnds};
 ghost use Rattle.reo_net_laws.specs.Knots.{AreKnots, in_knot, knot_count};
-ghost use Rattle.reo_kept_tables.specs.Tables.{HasRoom, AreRightOn};
+ghost use Rattle.reo_kept_tables.specs.SearchTables.{HasRoom, AreRightOn};
 ghost use Rattle.reo_kept_tables.specs.Orders.{AreOrders};
 
 use crate::refreshing::refresh;
-use crate::tables::Tables;
+use crate::tables::SearchTables;
 use reo_knots::Knots;
 use reo_net_base::Primitive;
 use reo_net_circuit::{Circuit, Ends};
@@ -23,7 +23,7 @@ pub fn refresh_part<P: Primitive>(
     knots: &Knots,
     orders: &List<List<usize>>,
     part: usize,
-    tables: &mut Tables,
+    tables: &mut SearchTables,
 ) -> Result<(), NoMemory>
     requires ends { AreEnds (net_of P.behaviour circuit.now) ends.now }
     requires knots { AreKnots (net_of P.behaviour circuit.now) knots.now }

@@ -5,13 +5,13 @@ ghost use Rattle.reo_net_laws.specs.Parts.{IsClosed};
 ghost use Rattle.reo_net_circuit.specs.found_ends.Ends.{AreEnds};
 ghost use Rattle.reo_joint_values.specs.InOrder.{AreInOrder};
 ghost use Rattle.reo_propagate.specs.Queues.{among};
-ghost use Rattle.reo_kept_tables.specs.Tables.{HasRoom, IsSideRight, IsJointRight, AreRightOn, AreApart};
+ghost use Rattle.reo_kept_tables.specs.SearchTables.{HasRoom, IsSideRight, IsJointRight, AreRightOn, AreApart};
 ghost use Rattle.reo_kept_tables.specs.Renewing.{OnlySides, OnlyJoints};
 ghost use Rattle.reo_kept_tables.specs.Orders.{AreJointsOf};
 
 use crate::boards::renew_boards;
 use crate::notes::{renew_live, renew_notes};
-use crate::tables::Tables;
+use crate::tables::SearchTables;
 use crate::values::renew_values;
 use reo_net_base::Primitive;
 use reo_net_circuit::{Circuit, Ends};
@@ -25,7 +25,7 @@ fn renew_joints<P: Primitive>(
     circuit: &Circuit<P>,
     ends: &Ends,
     joints: &[usize],
-    tables: &mut Tables,
+    tables: &mut SearchTables,
 ) -> Result<(), NoMemory>
     requires ends { AreEnds (net_of P.behaviour circuit.now) ends.now }
     requires room { HasRoom (net_of P.behaviour circuit.now) tables.old }
@@ -47,7 +47,7 @@ fn renew_sides<P: Primitive>(
     circuit: &Circuit<P>,
     ends: &Ends,
     sides: &[usize],
-    tables: &mut Tables,
+    tables: &mut SearchTables,
 ) -> Result<(), NoMemory>
     requires ends { AreEnds (net_of P.behaviour circuit.now) ends.now }
     requires room { HasRoom (net_of P.behaviour circuit.now) tables.old }
@@ -74,7 +74,7 @@ pub(crate) fn refresh<P: Primitive>(
     ends: &Ends,
     sides: &[usize],
     joints: &[usize],
-    tables: &mut Tables,
+    tables: &mut SearchTables,
 ) -> Result<(), NoMemory>
     requires ends { AreEnds (net_of P.behaviour circuit.now) ends.now }
     requires room { HasRoom (net_of P.behaviour circuit.now) tables.old }

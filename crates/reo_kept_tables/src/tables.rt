@@ -6,7 +6,7 @@ use reo_values::List;
 
 /// The items that can stand at joints, what is looked up of sides, and a search that was begun.
 #[derive(Drop)]
-pub struct Tables {
+pub struct SearchTables {
     pub supply: Supply,
     pub boards: List<Board>,
     pub state: State,

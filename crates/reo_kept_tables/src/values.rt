@@ -5,7 +5,7 @@ ghost use Rattle.reo_propagate.specs.Queues.{among};
 ghost use Rattle.reo_kept_tables.specs.Renewing.{AreRightAt, StaysBesides};
 
 use reo_reach::Supply;
-use reo_rows::{FLOWS, Flags};
+use reo_rows::{FLOWS, RowFlags};
 use reo_values::NoMemory;
 use std::alloc::Global;
 
@@ -16,7 +16,7 @@ pub(crate) fn renew_values(
     supply: &Supply,
     joints: &[usize],
     value: bool,
-    flags: &mut Flags,
+    flags: &mut RowFlags,
 ) -> Result<(), NoMemory>
     requires short { AreShort supply.now }
     requires joints { (j : ℕ) → among joints.now j ≡ true → j < length supply.now.items }

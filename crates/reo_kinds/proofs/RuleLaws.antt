@@ -4,8 +4,8 @@ use Rattle.std.proofs.lemmas.Bool.Decides.{nat_tests}
 use Rattle.reo_values.specs.declared.value.Value.{Value}
 use Rattle.reo_net_base.specs.Behaviour.{IsEndOf}
 use Rattle.reo_buffers.specs.Stored.{is_full}
-use Rattle.reo_kinds.specs.declared.ends.Ends.{Ends}
-use Rattle.reo_kinds.specs.declared.ends.Ends.TheVariants.{Out, In, InOut, InIn, MouthTail, Outputs}
+use Rattle.reo_kinds.specs.declared.ends.EndLayout.{EndLayout}
+use Rattle.reo_kinds.specs.declared.ends.EndLayout.TheVariants.{Out, In, InOut, InIn, MouthTail, Outputs}
 use Rattle.reo_net_base.specs.declared.branches.Branches.{Branches}
 use Rattle.reo_kinds.specs.declared.kind.Kind.{Kind}
 use Rattle.reo_kinds.specs.declared.kind.Kind.TheVariants.{Writer, Taker, Sync, Lossy, SyncDrain, AsyncDrain, Store, Shift, Variable, Quota, Filter, Map, Merger, Replicator}
@@ -34,7 +34,7 @@ record IsRuled (form : Form) (IsIn : ℕ → Type 0) (turn : ℕ) : Type 0 where
   of_set : (row : ℕ) → row + 1 < rows_by form → FlowsBy form IsIn (first (class_by form row turn)) row × FlowsBy form IsIn row (first (class_by form row turn))
   jam : (row : ℕ) → row + 1 ≡ rows_by form → class_by form row turn ≡ sets
 
-by_rule : (ends : Ends) (form : ℕ → Form) (lets_in : ℕ → Value → Bool) (given : Option Value → Option Value) (side turn : ℕ)
+by_rule : (ends : EndLayout) (form : ℕ → Form) (lets_in : ℕ → Value → Bool) (given : Option Value → Option Value) (side turn : ℕ)
     → IsRuled (form side) (IsEndOf (behaviour_by ends form lets_in given) side) turn → IsByRule (behaviour_by ends form lets_in given) side turn
 by_rule ends form lets_in given side turn is = record {
   sets = is.sets;

@@ -5,8 +5,8 @@ use Rattle.reo_values.specs.declared.value.Value.{Value}
 use Rattle.reo_net_base.specs.declared.mark.Mark.TheVariants.{F}
 use Rattle.reo_net_base.specs.Behaviour.{Behaviour, IsEndOf}
 use Rattle.reo_net_base.specs.Lawful.{IsLawful, IsTwoSided, GivesAt, AreAsTheirGroup}
-use Rattle.reo_kinds.specs.declared.ends.Ends.{Ends}
-use Rattle.reo_kinds.specs.declared.ends.Ends.TheVariants.{Out, In, InOut, InIn, MouthTail, Inputs, Outputs}
+use Rattle.reo_kinds.specs.declared.ends.EndLayout.{EndLayout}
+use Rattle.reo_kinds.specs.declared.ends.EndLayout.TheVariants.{Out, In, InOut, InIn, MouthTail, Inputs, Outputs}
 use Rattle.reo_net_base.specs.declared.branches.Branches.{Branches}
 use Rattle.reo_net_base.specs.Rows.{Rows, mark_in}
 use Rattle.reo_net_base.specs.declared.table.Table.{Table}
@@ -43,7 +43,7 @@ pub record IsGiving (b : Behaviour) : Type 0 where
   pub given_for : (side row end from : ℕ) (item : Value) → GivesAt b side row end → b.from side row end ≡ Some from → IsSome (b.given side row end (Some item))
   pub given_for_none : (side row end from : ℕ) → GivesAt b side row end → b.from side row end ≡ Some from → b.given side row end None ≡ None
 
-module _ (ends : Ends) (form : ℕ → Form) (lets_in : ℕ → Value → Bool) (given : Option Value → Option Value) where
+module _ (ends : EndLayout) (form : ℕ → Form) (lets_in : ℕ → Value → Bool) (given : Option Value → Option Value) where
   -- A primitive keeps the laws where its ends, its sides and its items do.
   pub lawful_by : AreEnds (behaviour_by ends form lets_in given)
       → ((side : ℕ) → side < side_count ends → IsSide (form side) (IsEndOf (behaviour_by ends form lets_in given) side))

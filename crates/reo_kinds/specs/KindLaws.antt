@@ -15,8 +15,8 @@ use Rattle.reo_net_base.specs.declared.table.Table.TheVariants as tables
 use Rattle.reo_net_base.specs.Tables.{rows_of}
 use Rattle.reo_kinds.specs.TableTests.{is_table}
 use Rattle.reo_kinds.specs.ItemLaws.{Passes, out_lawful, in_lawful, drain_lawful, channel_lawful, kept_lawful, merger_lawful, replicator_lawful}
-use Rattle.reo_kinds.specs.declared.ends.Ends.{Ends}
-use Rattle.reo_kinds.specs.declared.ends.Ends.TheVariants as ends
+use Rattle.reo_kinds.specs.declared.ends.EndLayout.{EndLayout}
+use Rattle.reo_kinds.specs.declared.ends.EndLayout.TheVariants as ends
 use Rattle.reo_net_base.specs.Forms.{leads_by}
 use Rattle.reo_kinds.specs.Forms.{end_count, side_count, side_in, takes_at}
 use Rattle.reo_kinds.specs.Kinds.{behaviour_of, settled_kind, mouth_and_tail, put_in, shift_in, given_away, replaced, ready, kind_ends, form_of, after, first_flows, second_flows, quota_table, front_of, lets_in, given_of}
@@ -134,7 +134,7 @@ after_nothing second (Shift buffer) rests = rw (rests refl) refl
 after_nothing second _ rests = refl
 
 -- The first end, at side 0, and the tail.
-first_end : (e : Ends) → (0 < end_count e) × (side_in e 0 ≡ 0)
+first_end : (e : EndLayout) → (0 < end_count e) × (side_in e 0 ≡ 0)
 first_end ends.Out = (omega arith, refl)
 first_end ends.In = (omega arith, refl)
 first_end ends.InOut = (omega arith, refl)
@@ -143,7 +143,7 @@ first_end ends.MouthTail = (omega arith, refl)
 first_end (ends.Inputs branches) = (omega arith, refl)
 first_end (ends.Outputs branches) = (omega arith, refl)
 
-tail_end : (e : Ends) → e ≡ ends.MouthTail → (1 < end_count e) × (side_in e 1 ≡ 1)
+tail_end : (e : EndLayout) → e ≡ ends.MouthTail → (1 < end_count e) × (side_in e 1 ≡ 1)
 tail_end e is = rw (is) (omega arith, refl)
 
 -- Rows without flow leave the state.

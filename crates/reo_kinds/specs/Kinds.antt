@@ -11,8 +11,8 @@ use Rattle.reo_net_base.specs.Marks.{is_flow}
 use Rattle.reo_net_base.specs.Behaviour.{Behaviour}
 use Rattle.reo_net_base.specs.PortState.{PortState, no_port_state}
 use Rattle.reo_buffers.specs.Stored.{Stored, is_full, with_back, without_front}
-use Rattle.reo_kinds.specs.declared.ends.Ends.{Ends}
-use Rattle.reo_kinds.specs.declared.ends.Ends.TheVariants as ends
+use Rattle.reo_kinds.specs.declared.ends.EndLayout.{EndLayout}
+use Rattle.reo_kinds.specs.declared.ends.EndLayout.TheVariants as ends
 use Rattle.reo_kinds.specs.declared.kind.WriterPort.{WriterPort}
 use Rattle.reo_kinds.specs.declared.kind.TakerPort.{TakerPort}
 use Rattle.reo_kinds.specs.declared.kind.Kind.{Kind}
@@ -26,7 +26,7 @@ use Rattle.reo_net_base.specs.declared.form.Form.TheVariants.{Single, Double, Me
 use Rattle.reo_kinds.specs.Forms.{behaviour_by}
 
 -- How the ends of a kind lie.
-abbrev pub kind_ends : Kind → Ends
+abbrev pub kind_ends : Kind → EndLayout
 kind_ends (Writer port) = ends.Out
 kind_ends (Taker port) = ends.In
 kind_ends SyncDrain = ends.InIn

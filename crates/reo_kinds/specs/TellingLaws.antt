@@ -13,8 +13,8 @@ use Rattle.reo_net_base.specs.Behaviour.{Behaviour, IsEndOf}
 use Rattle.reo_net_base.specs.Forms.{HasForm, IsPlaceOf, rows_by, mark_by, class_by}
 use Rattle.reo_net_base.specs.SameTables.{SameTable}
 use Rattle.reo_net_base.specs.Lasting.{KeepsTables, LetsAllIn, GivesWhatItTakes, GivesFront, GivesOrigin}
-use Rattle.reo_kinds.specs.declared.ends.Ends.{Ends}
-use Rattle.reo_kinds.specs.declared.ends.Ends.TheVariants.{MouthTail}
+use Rattle.reo_kinds.specs.declared.ends.EndLayout.{EndLayout}
+use Rattle.reo_kinds.specs.declared.ends.EndLayout.TheVariants.{MouthTail}
 use Rattle.reo_kinds.specs.declared.kind.WriterPort.{WriterPort}
 use Rattle.reo_kinds.specs.declared.kind.Kind.{Kind}
 use Rattle.reo_kinds.specs.declared.kind.Kind.TheVariants.{Writer, Taker, Sync, Lossy, SyncDrain, AsyncDrain, Store, Shift, Variable, Quota, Filter, Map, Merger, Replicator}
@@ -119,7 +119,7 @@ module _ (side turn : ℕ) where
   one_table b = record { rows = refl; mark = λ row end row_in is. refl; class = λ row row_in. refl }
 
   -- Sides of one form.
-  form_table : (e : Ends) (f g : ℕ → Form) (lets_in lets_in_now : ℕ → Value → Bool) (given given_now : Option Value → Option Value) → g side ≡ f side
+  form_table : (e : EndLayout) (f g : ℕ → Form) (lets_in lets_in_now : ℕ → Value → Bool) (given given_now : Option Value → Option Value) → g side ≡ f side
       → SameTable turn turn (behaviour_by e f lets_in given) (behaviour_by e g lets_in_now given_now) side
   form_table e f g lets_in lets_in_now given given_now same = record {
     rows = ap rows_by same;

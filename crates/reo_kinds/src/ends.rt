@@ -8,7 +8,7 @@ use reo_net_base::Branches;
 
 /// How the ends of a kind lie.
 #[derive(Clone, Copy)]
-pub enum Ends {
+pub enum EndLayout {
     /// One end, which gives.
     Out,
     /// One end, which takes in.
@@ -26,29 +26,29 @@ pub enum Ends {
 }
 
 /// How the ends of a kind lie.
-pub fn kind_ends(kind: &Kind) -> Ends
+pub fn kind_ends(kind: &Kind) -> EndLayout
     ensures { result ≡ kind_ends kind.now }
 {
     match kind {
-        Kind::Writer(_) => Ends::Out,
-        Kind::Taker(_) => Ends::In,
-        Kind::SyncDrain | Kind::AsyncDrain => Ends::InIn,
-        Kind::Store(_) | Kind::Shift(_) | Kind::Variable(_) => Ends::MouthTail,
-        Kind::Merger(branches) => Ends::Inputs(*branches),
-        Kind::Replicator(branches) => Ends::Outputs(*branches),
-        _ => Ends::InOut,
+        Kind::Writer(_) => EndLayout::Out,
+        Kind::Taker(_) => EndLayout::In,
+        Kind::SyncDrain | Kind::AsyncDrain => EndLayout::InIn,
+        Kind::Store(_) | Kind::Shift(_) | Kind::Variable(_) => EndLayout::MouthTail,
+        Kind::Merger(branches) => EndLayout::Inputs(*branches),
+        Kind::Replicator(branches) => EndLayout::Outputs(*branches),
+        _ => EndLayout::InOut,
     }
 }
 
-impl Ends {
+impl EndLayout {
     /// How many ends there are.
     pub fn count(self) -> usize
         ensures { result ≡ end_count self }
     {
         match self {
-            Ends::Out | Ends::In => 1,
-            Ends::InOut | Ends::InIn | Ends::MouthTail => 2,
-            Ends::Inputs(branches) | Ends::Outputs(branches) => branches.count + 1,
+            EndLayout::Out | EndLayout::In => 1,
+            EndLayout::InOut | EndLayout::InIn | EndLayout::MouthTail => 2,
+            EndLayout::Inputs(branches) | EndLayout::Outputs(branches) => branches.count + 1,
         }
     }
 
@@ -56,7 +56,7 @@ impl Ends {
     pub fn sides(self) -> usize
         ensures { result ≡ side_count self }
     {
-        if matches!(self, Ends::MouthTail) {
+        if matches!(self, EndLayout::MouthTail) {
             2
         } else {
             1
@@ -67,7 +67,7 @@ impl Ends {
     pub fn side_of(self, end: usize) -> usize
         ensures { result ≡ side_in self end }
     {
-        if matches!(self, Ends::MouthTail) {
+        if matches!(self, EndLayout::MouthTail) {
             end
         } else {
             0
@@ -79,10 +79,10 @@ impl Ends {
         ensures { result ≡ takes_at self end }
     {
         match self {
-            Ends::Out => false,
-            Ends::In | Ends::InIn => true,
-            Ends::InOut | Ends::MouthTail | Ends::Outputs(_) => end == 0,
-            Ends::Inputs(branches) => end < branches.count,
+            EndLayout::Out => false,
+            EndLayout::In | EndLayout::InIn => true,
+            EndLayout::InOut | EndLayout::MouthTail | EndLayout::Outputs(_) => end == 0,
+            EndLayout::Inputs(branches) => end < branches.count,
         }
     }
 
@@ -91,9 +91,9 @@ impl Ends {
         ensures { result ≡ decides_in self row }
     {
         match self {
-            Ends::Out | Ends::In | Ends::InIn | Ends::MouthTail => None,
-            Ends::InOut | Ends::Outputs(_) => Some(0),
-            Ends::Inputs(_) => Some(row),
+            EndLayout::Out | EndLayout::In | EndLayout::InIn | EndLayout::MouthTail => None,
+            EndLayout::InOut | EndLayout::Outputs(_) => Some(0),
+            EndLayout::Inputs(_) => Some(row),
         }
     }
 }

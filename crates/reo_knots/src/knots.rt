@@ -4,7 +4,7 @@ ghost use Rattle.reo_net_base.specs.Net.{net_of};
 ghost use Rattle.reo_net_laws.specs.Knots.{AreKnots, knot_count};
 
 use crate::groups::{group_loops, group_sides};
-use crate::links::{Links, find_links};
+use crate::links::{LinkedSides, find_links};
 use crate::numbers::{Numbers, number};
 use reo_net_base::Primitive;
 use reo_net_circuit::Circuit;
@@ -77,7 +77,7 @@ pub fn find_knots<P: Primitive>(alloc: Global, circuit: &Circuit<P>) -> Result<K
     ensures { IfOk result (AreKnots (net_of P.behaviour circuit.now)) }
 {
     circuit.known();
-    let Links { labels, loops } = find_links(alloc, circuit)?;
+    let LinkedSides { labels, loops } = find_links(alloc, circuit)?;
     let Numbers { numbers, count } = number(alloc, labels.as_slice())?;
     let sides = group_sides(alloc, numbers.as_slice(), count)?;
     let loop_joints = group_loops(alloc, circuit, numbers.as_slice(), loops.as_slice(), count)?;

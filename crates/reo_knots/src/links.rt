@@ -12,7 +12,7 @@ use std::alloc::Global;
 
 /// A label for each side, and whether each joint closes a loop.
 #[derive(Drop)]
-pub(crate) struct Links {
+pub(crate) struct LinkedSides {
     /// The label of each side: two sides have one exactly where they are in one knot.
     pub(crate) labels: Vec<usize>,
     /// Whether each joint is a loop joint.
@@ -46,7 +46,7 @@ fn link<P: Primitive>(
 pub(crate) fn find_links<P: Primitive>(
     alloc: Global,
     circuit: &Circuit<P>,
-) -> Result<Links, NoMemory>
+) -> Result<LinkedSides, NoMemory>
     ensures labels { let net = net_of P.behaviour circuit.now in
         IfOk result (λ found. AreLabels net (length net.joints) found.labels.items) }
     ensures in_range { IfOk result (λ found. AreInRange found.labels.items) }
@@ -59,7 +59,7 @@ pub(crate) fn find_links<P: Primitive>(
         let closes = link(alloc, circuit, &mut all, index)?;
         loops.push(closes)?;
     }
-    Ok(Links {
+    Ok(LinkedSides {
         labels: all.labels,
         loops: loops.into_vec(),
     })

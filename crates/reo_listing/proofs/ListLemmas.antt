@@ -12,7 +12,7 @@ use Rattle.reo_open.specs.declared.opens.Open.{Open}
 use Rattle.reo_open.specs.Opens.{open_behaviour}
 use Rattle.reo_open.specs.Opened.{open_wiring, open_net, HasNoFilter}
 use Rattle.reo_weights.specs.Laws.{NumbersAreOne}
-use Rattle.reo_listing.specs.declared.base.table.Table.{Table}
+use Rattle.reo_listing.specs.declared.base.table.BoundaryTable.{BoundaryTable}
 use Rattle.reo_listing.specs.declared.base.fault.ListFault.{ListFault}
 use Rattle.reo_listing.specs.declared.base.fault.ListFault.TheVariants as faults
 use Rattle.reo_listing.specs.base.Listed.{ListsParts, ListsOpen, Lists}
@@ -22,13 +22,13 @@ use Rattle.reo_listing.specs.Listable.{IsListable}
 
 -- What is listed by one numbering of the parts is listed by each.
 by_each : NumbersAreOne → (net : Net) (ports budget : ℕ) (numbers : List ℕ) (count : ℕ) → AreNumbers (SameKnot net) (side_count net) numbers count
-    → (result : Result (List Table) ListFault) → ListsParts net ports budget numbers count result → ListsOpen net ports budget result
+    → (result : Result (List BoundaryTable) ListFault) → ListsParts net ports budget numbers count result → ListsOpen net ports budget result
 by_each one net ports budget numbers count are result lists others n others_are =
     let same = one net numbers others count n are others_are in
     subst (λ (ns : List ℕ). ListsParts net ports budget ns n result) same.0 (subst (λ k. ListsParts net ports budget numbers k result) same.1 lists)
 
 lists_by_parts : NumbersAreOne → (w : Wiring Kind) (budget : ℕ) → HasNoFilter w.primitives → (numbers : List ℕ) (count : ℕ)
-    → AreNumbers (SameKnot (open_net w)) (side_count (open_net w)) numbers count → (result : Result (List Table) ListFault)
+    → AreNumbers (SameKnot (open_net w)) (side_count (open_net w)) numbers count → (result : Result (List BoundaryTable) ListFault)
     → ListsParts (open_net w) w.ports budget numbers count result → Lists w budget result
 lists_by_parts one w budget none numbers count are (Ok tables) lists = (none, by_each one (open_net w) w.ports budget numbers count are (Ok tables) lists)
 lists_by_parts one w budget none numbers count are (Err (faults.Filter i)) lists = absurd lists
@@ -45,7 +45,7 @@ module _ (w : Wiring Kind) (o : Wiring Open) (is : o ≡ open_wiring w) (knots :
   listable narrow gates wired ports =
       subst (λ (x : Wiring Open). IsListable x knots) (sym is) (record { are_knots = are_open_knots; narrow = λ inside. narrow w wired inside; gates = λ inside. gates w ports inside })
 
-  pub listed : NumbersAreOne → (budget : ℕ) → HasNoFilter w.primitives → (result : Result (List Table) ListFault)
+  pub listed : NumbersAreOne → (budget : ℕ) → HasNoFilter w.primitives → (result : Result (List BoundaryTable) ListFault)
       → ListsParts (net_of open_behaviour o) o.ports budget knots.numbers (knot_count knots) result → Lists w budget result
   listed one budget none result lists =
       lists_by_parts one w budget none knots.numbers (knot_count knots) are_open_knots.numbered result

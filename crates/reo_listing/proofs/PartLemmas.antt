@@ -5,7 +5,7 @@ use Rattle.std.proofs.lemmas.Bool.Decides.{nat_tests}
 use Rattle.std.proofs.lemmas.List.{append-nil, map-append}
 use Rattle.reo_net_base.specs.Net.{Net}
 use Rattle.reo_net_laws.specs.Knots.{in_knot}
-use Rattle.reo_listing.specs.declared.base.table.Table.{Table}
+use Rattle.reo_listing.specs.declared.base.table.BoundaryTable.{BoundaryTable}
 use Rattle.reo_listing.specs.declared.base.fault.ListFault.{ListFault}
 use Rattle.reo_listing.specs.declared.base.fault.ListFault.TheVariants as faults
 use Rattle.reo_weights.specs.Over.{IsWithin, IsSpent}
@@ -39,23 +39,23 @@ pub with_ports : (net : Net) (ports budget : ℕ) (numbers : List ℕ) (part : �
     → has_ports net ports budget numbers part ≡ true
 with_ports net ports budget numbers part xs are some = subst (λ (ys : List ℕ). nat_lt 0 (length ys) ≡ true) are (some_number xs some)
 
-module _ (net : Net) (ports budget : ℕ) (numbers : List ℕ) (part : ℕ) (tables : List Table) (before : AreTables net ports budget numbers part tables) where
+module _ (net : Net) (ports budget : ℕ) (numbers : List ℕ) (part : ℕ) (tables : List BoundaryTable) (before : AreTables net ports budget numbers part tables) where
   -- A part without ports has no table.
   pub none_more : has_ports net ports budget numbers part ≡ false → AreTables net ports budget numbers (part + 1) tables
   none_more none = record {
-    parts = kept_more (has_ports net ports budget numbers) part (map (λ (t : Table). t.part) tables) (map (λ (t : Table). t.part) tables) false before.parts (sym none)
-        (sym (append-nil (map (λ (t : Table). t.part) tables)));
+    parts = kept_more (has_ports net ports budget numbers) part (map (λ (t : BoundaryTable). t.part) tables) (map (λ (t : BoundaryTable). t.part) tables) false before.parts (sym none)
+        (sym (append-nil (map (λ (t : BoundaryTable). t.part) tables)));
     each = before.each;
   }
 
   -- The table of a part with ports comes last.
-  pub table_more : has_ports net ports budget numbers part ≡ true → (t : Table) → IsPartsTable net ports budget numbers part t → (new : List Table) → new ≡ tables ++ t ∷ []
+  pub table_more : has_ports net ports budget numbers part ≡ true → (t : BoundaryTable) → IsPartsTable net ports budget numbers part t → (new : List BoundaryTable) → new ≡ tables ++ t ∷ []
       → AreTables net ports budget numbers (part + 1) new
   table_more has t is new new_is =
-      let parts : map (λ (s : Table). s.part) (tables ++ t ∷ []) ≡ map (λ (s : Table). s.part) tables ++ part ∷ [] =
-      map-append (λ (s : Table). s.part) tables (t ∷ []) ∙ ap (λ n. map (λ (s : Table). s.part) tables ++ n ∷ []) is.part_is in
+      let parts : map (λ (s : BoundaryTable). s.part) (tables ++ t ∷ []) ≡ map (λ (s : BoundaryTable). s.part) tables ++ part ∷ [] =
+      map-append (λ (s : BoundaryTable). s.part) tables (t ∷ []) ∙ ap (λ n. map (λ (s : BoundaryTable). s.part) tables ++ n ∷ []) is.part_is in
       subst (AreTables net ports budget numbers (part + 1)) (sym new_is) (record {
-        parts = kept_more (has_ports net ports budget numbers) part (map (λ (s : Table). s.part) tables) (map (λ (s : Table). s.part) (tables ++ t ∷ [])) true before.parts (sym has) parts;
+        parts = kept_more (has_ports net ports budget numbers) part (map (λ (s : BoundaryTable). s.part) tables) (map (λ (s : BoundaryTable). s.part) (tables ++ t ∷ [])) true before.parts (sym has) parts;
         each = each_more (IsTableOf net ports budget numbers) tables t before.each is.table;
       })
 

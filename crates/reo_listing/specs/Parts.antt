@@ -1,12 +1,12 @@
 -- The table of one part among those of all.
 use Rattle.std.specs.Prelude.{ℕ, ◌<◌, ◌≡◌, List, Err}
 use Rattle.reo_net_base.specs.Net.{Net}
-use Rattle.reo_listing.specs.declared.base.table.Table.{Table}
+use Rattle.reo_listing.specs.declared.base.table.BoundaryTable.{BoundaryTable}
 use Rattle.reo_listing.specs.declared.base.fault.ListFault.{ListFault}
 use Rattle.reo_listing.specs.base.Listed.{IsTableOf, ListsParts}
 
 -- The table of this part.
-pub record IsPartsTable (net : Net) (ports budget : ℕ) (numbers : List ℕ) (part : ℕ) (t : Table) : Type 0 where
+pub record IsPartsTable (net : Net) (ports budget : ℕ) (numbers : List ℕ) (part : ℕ) (t : BoundaryTable) : Type 0 where
   pub part_is : t.part ≡ part
   pub table : IsTableOf net ports budget numbers t
 

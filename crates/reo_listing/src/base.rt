@@ -6,4 +6,4 @@ mod table;
 
 pub use fault::ListFault;
 pub use laws::open_parts_are_narrow;
-pub use table::Table;
+pub use table::BoundaryTable;

@@ -3,7 +3,7 @@ ghost use Rattle.std.specs.Prelude.{◌<◌, ◌^◌};
 ghost use Rattle.reo_open.specs.Opened.{HasNoFilter};
 ghost use Rattle.reo_listing.specs.base.Listed.{Lists};
 
-use crate::base::{ListFault, Table, open_parts_are_narrow};
+use crate::base::{ListFault, BoundaryTable, open_parts_are_narrow};
 use crate::gates::open_ports_are_gates;
 use crate::parts::list_parts;
 use crate::ports::first_filter;
@@ -28,7 +28,7 @@ fn list_open<L: Ledger>(
     circuit: &Circuit<Kind>,
     budget: u64,
     steps: &mut Steps<L>,
-) -> Result<List<Table>, ListFault>
+) -> Result<List<BoundaryTable>, ListFault>
     requires budget { budget < 10 ^ 18 }
     requires none { HasNoFilter circuit.now.primitives }
     ensures { Lists circuit.now budget result }
@@ -55,7 +55,7 @@ pub fn list<L: Ledger>(
     flat: &Flat,
     budget: u64,
     steps: &mut Steps<L>,
-) -> Result<List<Table>, ListFault>
+) -> Result<List<BoundaryTable>, ListFault>
     requires { budget < 10 ^ 18 }
     ensures { Lists flat.now.circuit budget result }
 {

@@ -9,7 +9,7 @@ ghost use Rattle.reo_listing.specs.rows.PartTables.{IsPartFault};
 ghost use Rattle.reo_listing.specs.Listable.{IsListable};
 ghost use Rattle.reo_listing.specs.Parts.{IsPartsTable, StopsAt};
 
-use crate::base::{ListFault, Table};
+use crate::base::{ListFault, BoundaryTable};
 use crate::ports::ports_of;
 use crate::rows::rows_of;
 use reo_knots::Knots;
@@ -34,7 +34,7 @@ fn table_of<L: Ledger>(
     ports: List<usize>,
     budget: u64,
     steps: &mut Steps<L>,
-) -> Result<Table, ListFault>
+) -> Result<BoundaryTable, ListFault>
     requires budget { budget < 10 ^ 18 }
     requires listable { IsListable circuit.old knots.now }
     requires part { part < knot_count knots.now }
@@ -48,7 +48,7 @@ fn table_of<L: Ledger>(
 {
     match rows_of(alloc, circuit, knots, part, ports.as_slice(), budget, steps) {
         Err(fault) => Err(fault),
-        Ok(rows) => Ok(Table { part, ports, rows }),
+        Ok(rows) => Ok(BoundaryTable { part, ports, rows }),
     }
 }
 
@@ -63,7 +63,7 @@ fn add_part<L: Ledger>(
     knots: &Knots,
     part: usize,
     budget: u64,
-    tables: &mut List<Table>,
+    tables: &mut List<BoundaryTable>,
     steps: &mut Steps<L>,
 ) -> Result<(), ListFault>
     requires budget { budget < 10 ^ 18 }
@@ -102,7 +102,7 @@ pub(crate) fn list_parts<L: Ledger>(
     knots: &Knots,
     budget: u64,
     steps: &mut Steps<L>,
-) -> Result<List<Table>, ListFault>
+) -> Result<List<BoundaryTable>, ListFault>
     requires budget { budget < 10 ^ 18 }
     requires listable { IsListable circuit knots.now }
     ensures { let net = net_of open_behaviour circuit in

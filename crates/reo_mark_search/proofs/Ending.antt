@@ -36,10 +36,10 @@ use Rattle.reo_net_laws.specs.state_laws.States.{IsOpen, AreFirstRows}
 use Rattle.reo_net_laws.specs.state_laws.Walks.{number_of, IsWalk}
 use Rattle.reo_net_laws.proofs.state_laws.Open.{open_items}
 use Rattle.reo_net_laws.proofs.state_laws.Walking.{not_less}
-use Rattle.reo_mark_sets.specs.declared.marks.Marks.{Marks}
-use Rattle.reo_mark_sets.specs.Marks.{has, meets, met, marks_at, open_at}
+use Rattle.reo_mark_sets.specs.declared.marks.PlainMarks.{PlainMarks}
+use Rattle.reo_mark_sets.specs.PlainMarks.{has, meets, met, marks_at, open_at}
 use Rattle.reo_mark_search.specs.Fitting.{Fits, IsRival, ArePinned, AreMet}
-use Rattle.reo_mark_search.specs.Found.{HasFirstRows}
+use Rattle.reo_mark_search.specs.MarkFinding.{HasFirstRows}
 use Rattle.reo_mark_search.specs.Places.{class_place, lead_places, class_places, row_places}
 use Rattle.reo_mark_search.specs.Spots.{spot_of, AreSpots}
 use Rattle.reo_mark_search.proofs.Placed.{partner_even}
@@ -85,7 +85,7 @@ first_place net turn (x ∷ ks) k rest inside here all =
     ]
 
 -- What meets a mark is there.
-meets_found : (theirs : Marks) (m : Mark) → meets theirs m ≡ true → (n : Mark) × (has theirs n ≡ true) × (marks_match m n ≡ true)
+meets_found : (theirs : PlainMarks) (m : Mark) → meets theirs m ≡ true → (n : Mark) × (has theirs n ≡ true) × (marks_match m n ≡ true)
 meets_found theirs F h = (F, h, refl)
 meets_found theirs G h = elim (cases_Bool theirs.given) [
   | inl given ↦ (G, given, refl)
@@ -94,7 +94,7 @@ meets_found theirs G h = elim (cases_Bool theirs.given) [
 meets_found theirs R h = (G, h, refl)
 meets_found theirs J h = cc
 
-met_parts : (own theirs : Marks) (m : Mark) → has (met own theirs) m ≡ true → (has own m ≡ true) × (meets theirs m ≡ true)
+met_parts : (own theirs : PlainMarks) (m : Mark) → has (met own theirs) m ≡ true → (has own m ≡ true) × (meets theirs m ≡ true)
 met_parts own theirs F h = and_parts own.flow theirs.flow h
 met_parts own theirs G h = and_parts own.given (theirs.given || theirs.required) h
 met_parts own theirs R h = and_parts own.required theirs.given h
@@ -105,7 +105,7 @@ module _ (net : Net) (wired : IsWired net) (inside : ℕ → Bool) (knot : IsKno
   closed = knot.closed
 
   -- Rows by which each side is pinned, and each mark met, fit together.
-  module _ (spots : List (List ℕ)) (are : AreSpots net spots) (sets : List Marks) (rows : List ℕ) (one_row : length rows ≡ side_count net) (pinned : ArePinned net spots sides (length sides) sets rows)
+  module _ (spots : List (List ℕ)) (are : AreSpots net spots) (sets : List PlainMarks) (rows : List ℕ) (one_row : length rows ≡ side_count net) (pinned : ArePinned net spots sides (length sides) sets rows)
       (met_all : AreMet net spots sides (length sides) sets) where
     place : (k : ℕ) (h : inside k ≡ true) → slice_index sides (all k h).0 ≡ k
     place k h = let c = all k h in get_or_default sides c.0 0 k c.1 ∙ c.2

@@ -10,10 +10,10 @@ use Rattle.reo_net_laws.specs.Sublists.{sides_in}
 use Rattle.reo_net_laws.specs.Knots.{Knotted, AreKnots, in_knot, knot_count}
 use Rattle.reo_net_laws.specs.state_laws.States.{IsOpen}
 use Rattle.reo_net_laws.specs.state_laws.Walks.{IsWalk}
-use Rattle.reo_mark_sets.specs.declared.marks.Marks.{Marks}
+use Rattle.reo_mark_sets.specs.declared.marks.PlainMarks.{PlainMarks}
 use Rattle.reo_mark_search.specs.Fitting.{IsRival, Fits, AreReduced, ArePinned, AreMet}
-use Rattle.reo_mark_search.specs.Found.{IsFound}
-use Rattle.reo_mark_search.specs.declared.found.Found.TheVariants.{Rows}
+use Rattle.reo_mark_search.specs.MarkFinding.{IsFound}
+use Rattle.reo_mark_search.specs.declared.found.MarkFinding.TheVariants.{Rows}
 use Rattle.reo_mark_search.specs.Places.{lead_places, class_places, row_places}
 use Rattle.reo_mark_search.specs.Spots.{AreSpots}
 use Rattle.reo_mark_search.specs.Walking.{IsWalked}
@@ -22,12 +22,12 @@ use Rattle.reo_mark_search.proofs.Parts.{sides_are, side_here, side_listed, knot
 use Rattle.reo_mark_search.proofs.Steps.{walked_reduced}
 
 -- A walk begins where each rival fits.
-pub noted_walked : (net : Net) (inside : ℕ → Bool) (noted settled : List Marks) → ((rows : List ℕ) → IsRival net inside rows → Fits net inside noted rows) → AreReduced net inside noted settled → IsWalked net inside [] settled
+pub noted_walked : (net : Net) (inside : ℕ → Bool) (noted settled : List PlainMarks) → ((rows : List ℕ) → IsRival net inside rows → Fits net inside noted rows) → AreReduced net inside noted settled → IsWalked net inside [] settled
 noted_walked net inside noted settled all reduced =
     walked_reduced net inside [] noted settled (record { walk = λ r rv ft. tt; remain = λ r others rv ft left same. all others left }) reduced
 
 pub rows_found : (net : Net) → IsWired net → (knots : Knotted) → AreKnots net knots → (part : ℕ) → part < knot_count knots → (spots : List (List ℕ)) → AreSpots net spots → (order : List ℕ) → IsOrder net order
-    → IsOpen net (in_knot knots.numbers part) → (turn : ℕ) (last : List Marks) (rows : List ℕ) → length rows ≡ side_count net
+    → IsOpen net (in_knot knots.numbers part) → (turn : ℕ) (last : List PlainMarks) (rows : List ℕ) → length rows ≡ side_count net
     → ArePinned net spots (slice_index_or knots.sides part []) (length (slice_index_or knots.sides part [])) last rows
     → AreMet net spots (slice_index_or knots.sides part []) (length (slice_index_or knots.sides part [])) last
     → IsWalked net (in_knot knots.numbers part) ((lead_places net turn (slice_index_or knots.sides part []) ++ class_places net turn (slice_index_or knots.sides part [])) ++ row_places (slice_index_or knots.sides part [])) last

@@ -4,7 +4,7 @@ use Rattle.reo_net_base.specs.declared.form.Form.{Form}
 use Rattle.reo_net_base.specs.Net.{Net}
 use Rattle.reo_net_base.specs.Wired.{IsWired}
 use Rattle.reo_net_laws.specs.Parts.{IsClosed}
-use Rattle.reo_mark_sets.specs.declared.marks.Marks.{Marks}
+use Rattle.reo_mark_sets.specs.declared.marks.PlainMarks.{PlainMarks}
 use Rattle.reo_mark_sets.specs.Standing.{IsFixed}
 use Rattle.reo_mark_search.specs.Places.{class_place, row_place}
 use Rattle.reo_mark_search.specs.Spots.{AreSpots, IsSeat}
@@ -15,7 +15,7 @@ use Rattle.reo_mark_search.proofs.Steps.{class_next, row_next, taken_goes_on, sa
 
 pub fixed_next : (net : Net) (wired : IsWired net) (spots : List (List ℕ)) (are : AreSpots net spots) (inside : ℕ → Bool) → IsClosed net inside
     → (sides : List ℕ) (n : ℕ) → n < length sides → inside (slice_index sides n) ≡ true → (form : Form) (places : List ℕ) → IsSeat net spots (slice_index sides n) form places
-    → (sets : List Marks) (rows : List ℕ) (row : ℕ) → slice_index sides n < length rows → IsFixed form places row sets
+    → (sets : List PlainMarks) (rows : List ℕ) (row : ℕ) → slice_index sides n < length rows → IsFixed form places row sets
     → AreFixed net inside spots sides n sets rows → AreFixed net inside spots sides (n + 1) sets (set rows (slice_index sides n) row)
 fixed_next net wired spots are inside closed sides n lt here form places seat sets rows row row_in fixed before =
     let k : ℕ = slice_index sides n in

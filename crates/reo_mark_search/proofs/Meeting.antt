@@ -16,8 +16,8 @@ use Rattle.reo_net_base.specs.Forms.{HasForm, mark_by}
 use Rattle.reo_net_base.specs.Net.{Net, Side, all_sides, no_side, behaviour_at, end_of, first_side, row_count, side_at, row_at, mark_at}
 use Rattle.reo_net_base.specs.Sides.{side_count}
 use Rattle.reo_net_base.specs.Wired.{IsWired, IsEnd}
-use Rattle.reo_mark_sets.specs.declared.marks.Marks.{Marks}
-use Rattle.reo_mark_sets.specs.Marks.{has, marks_at, open_at, all_marks}
+use Rattle.reo_mark_sets.specs.declared.marks.PlainMarks.{PlainMarks}
+use Rattle.reo_mark_sets.specs.PlainMarks.{has, marks_at, open_at, all_marks}
 use Rattle.reo_mark_sets.specs.Standing.{AreFewer, IsChosen, is_usual}
 use Rattle.reo_net_laws.specs.JamRows.{jam_rows}
 use Rattle.reo_net_laws.specs.Parts.{IsClosed}
@@ -29,7 +29,7 @@ use Rattle.reo_mark_search.proofs.Parts.{side_one}
 use Rattle.reo_mark_search.proofs.Placed.{offset_of, mark_offset}
 
 -- One place more.
-pub met_next : (sets : List Marks) (places : List ℕ) (n : ℕ) → ((o : ℕ) → o < n → (mark : Mark) × (has (open_at sets (slice_index places o)) mark ≡ true)) → (mark : Mark) × (has (open_at sets (slice_index places n)) mark ≡ true)
+pub met_next : (sets : List PlainMarks) (places : List ℕ) (n : ℕ) → ((o : ℕ) → o < n → (mark : Mark) × (has (open_at sets (slice_index places o)) mark ≡ true)) → (mark : Mark) × (has (open_at sets (slice_index places n)) mark ≡ true)
     → (o : ℕ) → o < n + 1 → (mark : Mark) × (has (open_at sets (slice_index places o)) mark ≡ true)
 met_next sets places n before here o lt = elim (cases_eq o n) [
   | inl e ↦ subst (λ (p : ℕ). (mark : Mark) × (has (open_at sets (slice_index places p)) mark ≡ true)) (sym e) here
@@ -58,7 +58,7 @@ module _ (net : Net) (wired : IsWired net) (spots : List (List ℕ)) (are : AreS
   last_or : (q : ℕ) → q < n + 1 → (q < n) ⊎ (q ≡ n)
   last_or q lt = elim (cases_eq q n) [ inl e ↦ inr e | inr ne ↦ inl (omega (arith, lt, ne)) ]
 
-  pub met_side : (sets : List Marks) (form : Form) (places : List ℕ) → IsSeat net spots (slice_index sides n) form places → AreMet net spots sides n sets
+  pub met_side : (sets : List PlainMarks) (form : Form) (places : List ℕ) → IsSeat net spots (slice_index sides n) form places → AreMet net spots sides n sets
       → ((o : ℕ) → o < length places → (mark : Mark) × (has (open_at sets (slice_index places o)) mark ≡ true)) → AreMet net spots sides (n + 1) sets
   met_side sets form places seat before here = record {
     meet = λ q i side end lt i_in side_in number is. elim (last_or q lt) [
@@ -70,7 +70,7 @@ module _ (net : Net) (wired : IsWired net) (spots : List (List ℕ)) (are : AreS
   }
 
   -- A row is taken at a side.
-  module _ (old mid new : List Marks) (rows : List ℕ) (row : ℕ) (form : Form) (places : List ℕ) (seat : IsSeat net spots (slice_index sides n) form places) (chosen : IsChosen form places row old mid) (fewer : AreFewer mid new) (mid_fewer : AreFewer old mid)
+  module _ (old mid new : List PlainMarks) (rows : List ℕ) (row : ℕ) (form : Form) (places : List ℕ) (seat : IsSeat net spots (slice_index sides n) form places) (chosen : IsChosen form places row old mid) (fewer : AreFewer mid new) (mid_fewer : AreFewer old mid)
       (lt_rows : slice_index sides n < length rows) (before : ArePinned net spots sides n old rows) where
     abbrev side_now : ℕ
     side_now = slice_index sides n
@@ -158,7 +158,7 @@ module _ (net : Net) (spots : List (List ℕ)) (sides : List ℕ) (n k : ℕ) (a
     ];
   }
 
-  pub reset_next : (wired : IsWired net) (are : AreSpots net spots) (old new : List Marks) → ((x : ℕ) → marks_at old x ≡ all_marks → marks_at new x ≡ all_marks) → ((o : ℕ) → o < length places → marks_at new (slice_index places o) ≡ all_marks)
+  pub reset_next : (wired : IsWired net) (are : AreSpots net spots) (old new : List PlainMarks) → ((x : ℕ) → marks_at old x ≡ all_marks → marks_at new x ≡ all_marks) → ((o : ℕ) → o < length places → marks_at new (slice_index places o) ≡ all_marks)
       → AreReset net spots sides n old → AreReset net spots sides (n + 1) new
   reset_next wired are old new stays here before = record {
     all = λ q i side end q_lt i_in side_in number is. elim (same_or q q_lt) [
@@ -191,7 +191,7 @@ module _ (net : Net) (wired : IsWired net) (spots : List (List ℕ)) (are : AreS
       let c = listed k (below k h) h in
       noted.lets_in c.0 i side c.1 i_in side_in (place k h) row end item row_in is_end takes
 
-  module _ (sets : List Marks) (reset : AreReset net spots sides (length sides) sets) (rows : List ℕ) (rival : IsRival net inside rows) where
+  module _ (sets : List PlainMarks) (reset : AreReset net spots sides (length sides) sets) (rows : List ℕ) (rival : IsRival net inside rows) where
     mark_there : (e : End) → IsEnd net.primitives e → inside (side_at net e) ≡ true → has (marks_at sets (spot_of spots e)) (mark_at net rows e) ≡ true
     unfolding mark_at
     mark_there e e_in h =
@@ -206,7 +206,7 @@ module _ (net : Net) (wired : IsWired net) (spots : List (List ℕ)) (are : AreS
         let in_table : slice_index rows k < b.rows side = subst (λ (s : Side). slice_index rows k < row_count s) there (rival.fitting.in_tables k no_side k_in h) in
         let plain : slice_index rows k + 1 < b.rows side = not_last (slice_index rows k) (b.rows side) in_table (subst (λ (s : Side). (slice_index rows k + 1 == row_count s) ≡ false) there (rival.no_jam k k_in h)) in
         let all : marks_at sets (spot_of spots e) ≡ all_marks = reset.all c.0 e.primitive side e.end c.1 e_in.0 side_in (place k h ∙ side_at_place net e) (e_in.1, refl) in
-        subst (λ (m : Marks). has m (b.mark side (row_at net rows e) e.end) ≡ true) (sym all)
+        subst (λ (m : PlainMarks). has m (b.mark side (row_at net rows e) e.end) ≡ true) (sym all)
         (all_but_jam (b.mark side (row_at net rows e) e.end) (subst (λ (r : ℕ). b.mark side r e.end ≢ J) (sym (row_is net rows e)) (lawful.no_other_jam side (slice_index rows k) e.end side_in (e_in.1, refl) plain)))
 
     pub all_fits : Fits net inside sets rows

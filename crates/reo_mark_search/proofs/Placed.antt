@@ -14,7 +14,7 @@ use Rattle.reo_net_base.specs.Wired.{IsWired, IsEnd}
 use Rattle.reo_net_laws.proofs.Joined.{joint_of}
 use Rattle.reo_net_laws.proofs.Orders.{no_joint}
 use Rattle.reo_net_laws.proofs.Sides.{side_at_place}
-use Rattle.reo_mark_sets.specs.Marks.{partner}
+use Rattle.reo_mark_sets.specs.PlainMarks.{partner}
 use Rattle.reo_mark_sets.specs.Standing.{width_by}
 use Rattle.reo_mark_search.specs.Spots.{spot_of, AreSpots, end_by, AreEndsOf}
 

@@ -20,8 +20,8 @@ use Rattle.reo_net_laws.specs.Parts.{IsClosed, is_joint_inside}
 use Rattle.reo_net_laws.proofs.Orders.{no_joint}
 use Rattle.reo_net_laws.proofs.Sides.{side_is, side_in, row_is}
 use Rattle.reo_net_laws.specs.state_laws.Walks.{number_of}
-use Rattle.reo_mark_sets.specs.declared.marks.Marks.{Marks}
-use Rattle.reo_mark_sets.specs.Marks.{has, meets, met, marks_at, open_at, partner}
+use Rattle.reo_mark_sets.specs.declared.marks.PlainMarks.{PlainMarks}
+use Rattle.reo_mark_sets.specs.PlainMarks.{has, meets, met, marks_at, open_at, partner}
 use Rattle.reo_mark_sets.specs.Standing.{Stands, Works, AreElsewhere, AreFewer, IsNarrowed, IsClassed, IsChosen, SomeWorks, width_by}
 use Rattle.reo_mark_search.specs.Fitting.{Fits, IsRival, AreReduced, HasNoRival}
 use Rattle.reo_mark_search.specs.Places.{class_place, row_place}
@@ -30,7 +30,7 @@ use Rattle.reo_mark_search.specs.Walking.{IsTakenAt}
 use Rattle.reo_mark_search.proofs.Placed.{decide, spot_is, spot_once, end_is, end_in, end_side, mark_offset, offset_of, partner_even, partner_odd}
 
 -- A mark meets those among which its match is.
-pub meets_there : (a b : Mark) (theirs : Marks) → marks_match a b ≡ true → has theirs b ≡ true → meets theirs a ≡ true
+pub meets_there : (a b : Mark) (theirs : PlainMarks) → marks_match a b ≡ true → has theirs b ≡ true → meets theirs a ≡ true
 meets_there F F theirs match h = h
 meets_there F G theirs match h = cc
 meets_there F R theirs match h = cc
@@ -74,7 +74,7 @@ match_back J G h = cc
 match_back J R h = cc
 match_back J J h = refl
 
-has_met : (own theirs : Marks) (m : Mark) → has own m ≡ true → meets theirs m ≡ true → has (met own theirs) m ≡ true
+has_met : (own theirs : PlainMarks) (m : Mark) → has own m ≡ true → meets theirs m ≡ true → has (met own theirs) m ≡ true
 has_met own theirs F x y = and_from own.flow theirs.flow x y
 has_met own theirs G x y = and_from own.given (theirs.given || theirs.required) x y
 has_met own theirs R x y = and_from own.required theirs.given x y
@@ -122,7 +122,7 @@ module _ (net : Net) (wired : IsWired net) (spots : List (List ℕ)) (are : AreS
       (λ n. b.mark (is.1 n) (row n) (end_by form side o)) ∙ has_form.mark (slice_index rows k) (end_by form side o) (in_table rows rival) is ∙ mark_offset form (slice_index rows k) side o
 
   -- The two ends of the joint of an end fit, and match.
-  module _ (sets : List Marks) (rows : List ℕ) (rival : IsRival net inside rows) (fits : Fits net inside sets rows) where
+  module _ (sets : List PlainMarks) (rows : List ℕ) (rival : IsRival net inside rows) (fits : Fits net inside sets rows) where
     fits_end : (o : ℕ) → o < length places → has (marks_at sets (slice_index places o)) (mark_at net rows (end_at o)) ≡ true
     fits_end o lt =
         let s = spot_is net wired spots are (end_at o) (end_in net wired spots are i side i_in form has_form o (inner o lt)) in
@@ -172,7 +172,7 @@ module _ (net : Net) (wired : IsWired net) (spots : List (List ℕ)) (are : AreS
     }
 
     -- Rows that stand at the side, and fitted before, still fit.
-    pub stands_fits : (new : List Marks) → AreElsewhere places sets new → Stands form places new (slice_index rows k) → Fits net inside new rows
+    pub stands_fits : (new : List PlainMarks) → AreElsewhere places sets new → Stands form places new (slice_index rows k) → Fits net inside new rows
     stands_fits new elsewhere stands = record {
       giver = λ j d lt inside_j.
           let d_is : slice_index_or net.joints j d ≡ joint j = get_or_default net.joints j d no_joint lt in
@@ -191,43 +191,43 @@ module _ (net : Net) (wired : IsWired net) (spots : List (List ℕ)) (are : AreS
               subst (λ (f : End). has (marks_at new x) (mark_at net rows f) ≡ true) same
               (subst (λ (y : ℕ). has (marks_at new y) (mark_at net rows (end_at found.0)) ≡ true) found.2
               (subst (λ (m : Mark). has (marks_at new (slice_index places found.0)) m ≡ true) (sym (mark_here rows rival found.0 found.1)) (stands.each found.0 found.1)))
-          | inr none ↦ subst (λ (m : Marks). has m (mark_at net rows e) ≡ true) (sym (elsewhere.others x none)) old
+          | inr none ↦ subst (λ (m : PlainMarks). has m (mark_at net rows e) ≡ true) (sym (elsewhere.others x none)) old
         ]
 
   -- Narrowing takes no marks that such rows have.
-  narrowed_stands : (old new : List Marks) → IsNarrowed form places old new → (row : ℕ) → Works form places old row → Stands form places new row
+  narrowed_stands : (old new : List PlainMarks) → IsNarrowed form places old new → (row : ℕ) → Works form places old row → Stands form places new row
   narrowed_stands old new is row w = record { plain = w.plain; each = λ o lt. (is.exact o (mark_by form row o) lt).1 (row, w, refl) }
 
-  met_has : (own theirs : Marks) (m : Mark) → has (met own theirs) m ≡ true → has own m ≡ true
+  met_has : (own theirs : PlainMarks) (m : Mark) → has (met own theirs) m ≡ true → has own m ≡ true
   met_has own theirs F h = and_left own.flow theirs.flow h
   met_has own theirs G h = and_left own.given (theirs.given || theirs.required) h
   met_has own theirs R h = and_left own.required theirs.given h
   met_has own theirs J h = cc
 
-  narrowed_fewer : (old new : List Marks) → IsNarrowed form places old new → AreFewer old new
+  narrowed_fewer : (old new : List PlainMarks) → IsNarrowed form places old new → AreFewer old new
   narrowed_fewer old new is x m h = elim (decide places x) [
     | inl found ↦
         let w = (is.exact found.0 m found.1).0 (subst (λ (y : ℕ). has (marks_at new y) m ≡ true) (sym found.2) h) in
         let had = met_has (marks_at old (slice_index places found.0)) (marks_at old (partner (slice_index places found.0))) m (subst (λ (n : Mark). has (open_at old (slice_index places found.0)) n ≡ true) w.2 (w.1.each found.0 found.1)) in
         subst (λ (y : ℕ). has (marks_at old y) m ≡ true) found.2 had
-    | inr none ↦ subst (λ (s : Marks). has s m ≡ true) (is.elsewhere.others x none) h
+    | inr none ↦ subst (λ (s : PlainMarks). has s m ≡ true) (is.elsewhere.others x none) h
   ]
 
-  pub narrowed_reduced : (old new : List Marks) → IsNarrowed form places old new → AreReduced net inside old new
+  pub narrowed_reduced : (old new : List PlainMarks) → IsNarrowed form places old new → AreReduced net inside old new
   narrowed_reduced old new is = record {
     one_each = is.elsewhere.one_each;
     fewer = narrowed_fewer old new is;
     keeps = λ rows rival fits. stands_fits old rows rival fits new is.elsewhere (narrowed_stands old new is (slice_index rows k) (fits_works old rows rival fits));
   }
 
-  pub narrowed_none : (old : List Marks) → (SomeWorks form places old → ⊥) → HasNoRival net inside old
+  pub narrowed_none : (old : List PlainMarks) → (SomeWorks form places old → ⊥) → HasNoRival net inside old
   narrowed_none old none rows rival fits = none (slice_index rows k, fits_works old rows rival fits)
 
   class_here : (turn : ℕ) (rows : List ℕ) → IsRival net inside rows → number_of (class_place net turn k) rows ≡ class_by form (slice_index rows k) turn
   class_here turn rows rival =
       ap (λ (s : Side). s.of.class s.number (slice_index rows k) turn) (side_there no_side) ∙ has_form.class (slice_index rows k) turn (in_table rows rival)
 
-  pub classed_taken : (turn : ℕ) (old new : List Marks) → IsClassed form places turn old new → IsTakenAt net inside (class_place net turn k) old new
+  pub classed_taken : (turn : ℕ) (old new : List PlainMarks) → IsClassed form places turn old new → IsTakenAt net inside (class_place net turn k) old new
   classed_taken turn old new is = record {
     one_each = is.elsewhere.one_each;
     fewer = is.fewer;
@@ -245,15 +245,15 @@ module _ (net : Net) (wired : IsWired net) (spots : List (List ℕ)) (are : AreS
       let o_in : at.0 < length places = omega (arith, at.1, ends.width) in
       has_form.mark row end row_in is ∙ ap (mark_by form row) (sym at.2) ∙ mark_offset form row side at.0 ∙ same at.0 o_in ∙ sym (mark_offset form other side at.0) ∙ ap (mark_by form other) at.2 ∙ sym (has_form.mark other end other_in is))
 
-  pub chosen_fewer : (row : ℕ) (old new : List Marks) → IsChosen form places row old new → AreFewer old new
+  pub chosen_fewer : (row : ℕ) (old new : List PlainMarks) → IsChosen form places row old new → AreFewer old new
   chosen_fewer row old new is x m h = elim (decide places x) [
     | inl found ↦
         let w = (is.exact found.0 m found.1).0 (subst (λ (y : ℕ). has (marks_at new y) m ≡ true) (sym found.2) h) in
         subst (λ (y : ℕ). has (marks_at old y) m ≡ true) found.2 w.0
-    | inr none ↦ subst (λ (s : Marks). has s m ≡ true) (is.elsewhere.others x none) h
+    | inr none ↦ subst (λ (s : PlainMarks). has s m ≡ true) (is.elsewhere.others x none) h
   ]
 
-  pub chosen_taken : (row : ℕ) (old new : List Marks) → IsChosen form places row old new → IsTakenAt net inside (row_place k) old new
+  pub chosen_taken : (row : ℕ) (old new : List PlainMarks) → IsChosen form places row old new → IsTakenAt net inside (row_place k) old new
   chosen_taken row old new is = record {
     one_each = is.elsewhere.one_each;
     fewer = chosen_fewer row old new is;
@@ -269,7 +269,7 @@ module _ (net : Net) (wired : IsWired net) (spots : List (List ℕ)) (are : AreS
   }
 
   -- A row that is left alone is that of each rival, and has its class.
-  pub fixed_taken : (turn row : ℕ) (sets : List Marks) → IsChosen form places row sets sets → IsTakenAt net inside (class_place net turn k) sets sets
+  pub fixed_taken : (turn row : ℕ) (sets : List PlainMarks) → IsChosen form places row sets sets → IsTakenAt net inside (class_place net turn k) sets sets
   unfolding chosen_taken
   fixed_taken turn row sets is = record {
     one_each = refl;

@@ -8,7 +8,7 @@ use Rattle.reo_net_base.specs.First.{Position, key_at, order_by}
 use Rattle.reo_net_base.specs.Net.{Net}
 use Rattle.reo_net_laws.specs.Keys.{leads_at}
 use Rattle.reo_net_laws.specs.state_laws.Walks.{number_of, IsWalk}
-use Rattle.reo_mark_sets.specs.declared.marks.Marks.{Marks}
+use Rattle.reo_mark_sets.specs.declared.marks.PlainMarks.{PlainMarks}
 use Rattle.reo_mark_sets.specs.Standing.{AreFewer}
 use Rattle.reo_mark_search.specs.Fitting.{Fits, IsRival, AreReduced, HasNoRival}
 use Rattle.reo_mark_search.specs.Places.{class_place, row_place, lead_places, class_places, row_places}
@@ -57,32 +57,32 @@ same_not_less (p ∷ ps) a b same less =
     ] refl less
 
 module _ (net : Net) (inside : ℕ → Bool) where
-  pub fewer_fits : (old new : List Marks) (rows : List ℕ) → AreFewer old new → Fits net inside new rows → Fits net inside old rows
+  pub fewer_fits : (old new : List PlainMarks) (rows : List ℕ) → AreFewer old new → Fits net inside new rows → Fits net inside old rows
   fewer_fits old new rows fewer fits = record {
     giver = λ j d lt h. fewer (2 * j) _ (fits.giver j d lt h);
     taker = λ j d lt h. fewer (2 * j + 1) _ (fits.taker j d lt h);
   }
 
-  pub same_reduced : (sets : List Marks) → AreReduced net inside sets sets
+  pub same_reduced : (sets : List PlainMarks) → AreReduced net inside sets sets
   same_reduced sets = record { one_each = refl; fewer = λ x m h. h; keeps = λ rows rival fits. fits }
 
-  pub reduced_after : (a b c : List Marks) → AreReduced net inside a b → AreReduced net inside b c → AreReduced net inside a c
+  pub reduced_after : (a b c : List PlainMarks) → AreReduced net inside a b → AreReduced net inside b c → AreReduced net inside a c
   reduced_after a b c x y = record {
     one_each = y.one_each ∙ x.one_each;
     fewer = λ p m h. x.fewer p m (y.fewer p m h);
     keeps = λ rows rival fits. y.keeps rows rival (x.keeps rows rival fits);
   }
 
-  pub no_rival_before : (a b : List Marks) → AreReduced net inside a b → HasNoRival net inside b → HasNoRival net inside a
+  pub no_rival_before : (a b : List PlainMarks) → AreReduced net inside a b → HasNoRival net inside b → HasNoRival net inside a
   no_rival_before a b x none rows rival fits = none rows rival (x.keeps rows rival fits)
 
-  pub walked_reduced : (ps : List Position) (old new : List Marks) → IsWalked net inside ps old → AreReduced net inside old new → IsWalked net inside ps new
+  pub walked_reduced : (ps : List Position) (old new : List PlainMarks) → IsWalked net inside ps old → AreReduced net inside old new → IsWalked net inside ps new
   walked_reduced ps old new w r = record {
     walk = λ rows rival fits. w.walk rows rival (fewer_fits old new rows r.fewer fits);
     remain = λ rows others rival fits left same. r.keeps others left (w.remain rows others rival (fewer_fits old new rows r.fewer fits) left same);
   }
 
-  walked_taken : (ps : List Position) (p : Position) (old new : List Marks) → IsWalked net inside ps old → IsTakenAt net inside p old new → IsWalked net inside (ps ++ p ∷ []) new
+  walked_taken : (ps : List Position) (p : Position) (old new : List PlainMarks) → IsWalked net inside ps old → IsTakenAt net inside p old new → IsWalked net inside (ps ++ p ∷ []) new
   walked_taken ps p old new w t = record {
     walk = λ rows rival fits.
         let before = fewer_fits old new rows t.fewer fits in
@@ -96,17 +96,17 @@ module _ (net : Net) (inside : ℕ → Bool) where
         t.stay others left (w.remain rows others rival before left split.0) (split.1 ∙ t.only rows rival fits);
   }
 
-  pub taken_goes_on : (p : Position) (a b c : List Marks) → IsTakenAt net inside p a b → AreReduced net inside b c → GoesOn net inside (p ∷ []) a c
+  pub taken_goes_on : (p : Position) (a b c : List PlainMarks) → IsTakenAt net inside p a b → AreReduced net inside b c → GoesOn net inside (p ∷ []) a c
   taken_goes_on p a b c t r ps w = walked_reduced (ps ++ p ∷ []) b c (walked_taken ps p a b w t) r
 
-  pub goes_nowhere : (a : List Marks) → GoesOn net inside [] a a
+  pub goes_nowhere : (a : List PlainMarks) → GoesOn net inside [] a a
   goes_nowhere a ps w = subst (λ (qs : List Position). IsWalked net inside qs a) (sym (append_nil ps)) w
     where
       append_nil : (qs : List Position) → qs ++ [] ≡ qs
       append_nil [] = refl
       append_nil (q ∷ qs) = ap (λ (rs : List Position). q ∷ rs) (append_nil qs)
 
-  pub goes_after : (qs rs : List Position) (a b c : List Marks) → GoesOn net inside qs a b → GoesOn net inside rs b c → GoesOn net inside (qs ++ rs) a c
+  pub goes_after : (qs rs : List Position) (a b c : List PlainMarks) → GoesOn net inside qs a b → GoesOn net inside rs b c → GoesOn net inside (qs ++ rs) a c
   goes_after qs rs a b c x y ps w = subst (λ (ts : List Position). IsWalked net inside ts c) (append_assoc ps qs rs) (y (ps ++ qs) (x ps w))
 
 -- One side more.
@@ -132,7 +132,7 @@ lead_snoc net turn (x ∷ ks) k =
 one_more : (sides : List ℕ) (n : ℕ) → n < length sides → take (n + 1) sides ≡ take n sides ++ slice_index sides n ∷ []
 one_more sides n lt = rw add-one (take-suc sides n 0 lt)
 
-module _ (net : Net) (turn : ℕ) (inside : ℕ → Bool) (sides : List ℕ) (n : ℕ) (lt : n < length sides) (a b c : List Marks) where
+module _ (net : Net) (turn : ℕ) (inside : ℕ → Bool) (sides : List ℕ) (n : ℕ) (lt : n < length sides) (a b c : List PlainMarks) where
   pub class_next : GoesOn net inside (class_places net turn (take n sides)) a b → GoesOn net inside (class_place net turn (slice_index sides n) ∷ []) b c → GoesOn net inside (class_places net turn (take (n + 1) sides)) a c
   class_next x y =
       subst (λ (ps : List Position). GoesOn net inside ps a c) (sym (ap (class_places net turn) (one_more sides n lt) ∙ class_snoc net turn (take n sides) (slice_index sides n)))

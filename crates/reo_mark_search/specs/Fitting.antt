@@ -14,13 +14,13 @@ use Rattle.reo_net_laws.specs.Jams.{jams}
 use Rattle.reo_net_laws.specs.Parts.{is_joint_inside}
 use Rattle.reo_net_laws.specs.state_laws.Keys.{HaveForms}
 use Rattle.reo_net_laws.specs.state_laws.States.{LetsIn, AreFitting}
-use Rattle.reo_mark_sets.specs.declared.marks.Marks.{Marks}
-use Rattle.reo_mark_sets.specs.Marks.{has, marks_at, open_at, all_marks}
+use Rattle.reo_mark_sets.specs.declared.marks.PlainMarks.{PlainMarks}
+use Rattle.reo_mark_sets.specs.PlainMarks.{has, marks_at, open_at, all_marks}
 use Rattle.reo_mark_sets.specs.Standing.{AreFewer, is_usual}
 use Rattle.reo_mark_search.specs.Spots.{spot_of}
 
 -- At each joint of a set the marks of its two ends are among those that are left there.
-pub record Fits (net : Net) (inside : ℕ → Bool) (sets : List Marks) (rows : List ℕ) : Type 0 where
+pub record Fits (net : Net) (inside : ℕ → Bool) (sets : List PlainMarks) (rows : List ℕ) : Type 0 where
   pub giver : (j : ℕ) (d : Joint) → j < length net.joints
       → is_joint_inside net inside (slice_index_or net.joints j d) ≡ true
       → has (marks_at sets (2 * j)) (mark_at net rows (slice_index_or net.joints j d).giver) ≡ true
@@ -34,13 +34,13 @@ pub record IsRival (net : Net) (inside : ℕ → Bool) (rows : List ℕ) : Type 
   pub no_jam : (k : ℕ) → k < side_count net → inside k ≡ true → jams net rows k ≡ false
 
 -- Marks went, but none that such rows have.
-pub record AreReduced (net : Net) (inside : ℕ → Bool) (old new : List Marks) : Type 0 where
+pub record AreReduced (net : Net) (inside : ℕ → Bool) (old new : List PlainMarks) : Type 0 where
   pub one_each : length new ≡ length old
   pub fewer : AreFewer old new
   pub keeps : (rows : List ℕ) → IsRival net inside rows → Fits net inside old rows → Fits net inside new rows
 
 -- No such rows have marks that are left.
-abbrev pub HasNoRival : Net → (ℕ → Bool) → List Marks → Type 0
+abbrev pub HasNoRival : Net → (ℕ → Bool) → List PlainMarks → Type 0
 HasNoRival net inside sets = (rows : List ℕ) → IsRival net inside rows → Fits net inside sets rows → ⊥
 
 -- The forms of sides, by a list of all sides.
@@ -53,7 +53,7 @@ pub record AreNoted (net : Net) (inside : ℕ → Bool) (forms : List Form) : Ty
   pub usual : (k : ℕ) → inside k ≡ true → is_usual (form_at forms k) ≡ true
 
 -- Each end of the first sides of a list has all marks.
-pub record AreReset (net : Net) (spots : List (List ℕ)) (sides : List ℕ) (n : ℕ) (sets : List Marks) : Type 0 where
+pub record AreReset (net : Net) (spots : List (List ℕ)) (sides : List ℕ) (n : ℕ) (sets : List PlainMarks) : Type 0 where
   pub all : (q i side end : ℕ) → q < n → i < length net.primitives → side < (behaviour_at net.primitives i).sides
       → slice_index sides q ≡ first_side net.primitives i + side
       → IsEndOf (behaviour_at net.primitives i) side end → marks_at sets (spot_of spots (end_of i end)) ≡ all_marks
@@ -68,7 +68,7 @@ pub record AreOpenSides (net : Net) (sides : List ℕ) (n : ℕ) (forms : List F
       → slice_index sides q ≡ first_side net.primitives i + side → LetsIn (behaviour_at net.primitives i) side
 
 -- The marks of the first sides of a list are just those of some rows, of which none is a jam row.
-pub record ArePinned (net : Net) (spots : List (List ℕ)) (sides : List ℕ) (n : ℕ) (sets : List Marks) (rows : List ℕ) : Type 0 where
+pub record ArePinned (net : Net) (spots : List (List ℕ)) (sides : List ℕ) (n : ℕ) (sets : List PlainMarks) (rows : List ℕ) : Type 0 where
   pub plain : (q i side : ℕ) → q < n → i < length net.primitives → side < (behaviour_at net.primitives i).sides
       → slice_index sides q ≡ first_side net.primitives i + side
       → slice_index rows (slice_index sides q) + 1 < (behaviour_at net.primitives i).rows side
@@ -80,7 +80,7 @@ pub record ArePinned (net : Net) (spots : List (List ℕ)) (sides : List ℕ) (n
       → (behaviour_at net.primitives i).mark side (slice_index rows (slice_index sides q)) end ≡ mark
 
 -- Each end of the first sides of a list has a mark that meets one at the other end of its joint.
-pub record AreMet (net : Net) (spots : List (List ℕ)) (sides : List ℕ) (n : ℕ) (sets : List Marks) : Type 0 where
+pub record AreMet (net : Net) (spots : List (List ℕ)) (sides : List ℕ) (n : ℕ) (sets : List PlainMarks) : Type 0 where
   pub meet : (q i side end : ℕ) → q < n → i < length net.primitives → side < (behaviour_at net.primitives i).sides
       → slice_index sides q ≡ first_side net.primitives i + side
       → IsEndOf (behaviour_at net.primitives i) side end

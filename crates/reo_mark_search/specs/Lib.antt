@@ -1,5 +1,5 @@
 pub mod Fitting
-pub mod Found
+pub mod MarkFinding
 pub mod Places
 pub mod Spots
 pub mod Walking

@@ -4,13 +4,13 @@ ghost use Rattle.reo_net_base.specs.Net.{net_of};
 ghost use Rattle.reo_net_base.specs.Sides.{side_count};
 ghost use Rattle.reo_net_laws.specs.Knots.{AreKnots, in_knot, knot_count};
 ghost use Rattle.reo_mark_search.specs.Fitting.{AreNoted};
-ghost use Rattle.reo_mark_search.specs.Found.{AreRowsElsewhere};
+ghost use Rattle.reo_mark_search.specs.MarkFinding.{AreRowsElsewhere};
 ghost use Rattle.reo_mark_search.specs.Spots.{AreSpots};
 ghost use Rattle.reo_mark_search.specs.Walking.{AreFixed};
 
 use crate::seats::seat_at;
 use reo_knots::Knots;
-use reo_mark_sets::Sets;
+use reo_mark_sets::MarkSets;
 use reo_net_base::{Form, Primitive};
 use reo_net_circuit::Circuit;
 use reo_values::List;
@@ -21,7 +21,7 @@ fn fixed_at<P: Primitive>(
     knots: &Knots,
     spots: &List<List<usize>>,
     forms: &List<Form>,
-    sets: &Sets,
+    sets: &MarkSets,
     part: usize,
     index: usize,
     rows: &mut List<u32>,
@@ -59,7 +59,7 @@ pub(crate) fn fixed_all<P: Primitive>(
     knots: &Knots,
     spots: &List<List<usize>>,
     forms: &List<Form>,
-    sets: &Sets,
+    sets: &MarkSets,
     part: usize,
     rows: &mut List<u32>,
 ) -> bool

@@ -2,7 +2,7 @@
 
 /// What a search by marks comes to.
 #[derive(Clone, Copy, Debug, PartialEq, Eq)]
-pub enum Found {
+pub enum MarkFinding {
     /// The rows of the first assignment, none of which jams.
     Rows,
     /// The rows of the first assignment, all of which jam: nothing does without.

@@ -15,5 +15,5 @@ mod spots;
 mod taking;
 mod walking;
 
-pub use found::Found;
+pub use found::MarkFinding;
 pub use search::MarkSearch;

@@ -8,7 +8,7 @@ ghost use Rattle.reo_mark_search.specs.Spots.{AreSpots};
 
 use crate::seats::seat_at;
 use reo_knots::Knots;
-use reo_mark_sets::Sets;
+use reo_mark_sets::MarkSets;
 use reo_net_base::{Form, Primitive};
 use reo_net_circuit::Circuit;
 use reo_values::List;
@@ -19,7 +19,7 @@ fn narrow_at<P: Primitive>(
     knots: &Knots,
     spots: &List<List<usize>>,
     forms: &List<Form>,
-    sets: &mut Sets,
+    sets: &mut MarkSets,
     part: usize,
     side: usize,
 ) -> bool
@@ -47,7 +47,7 @@ fn turn_to<P: Primitive>(
     knots: &Knots,
     spots: &List<List<usize>>,
     forms: &List<Form>,
-    sets: &mut Sets,
+    sets: &mut MarkSets,
     part: usize,
     side: usize,
 ) -> bool
@@ -78,7 +78,7 @@ pub(crate) fn settle<P: Primitive>(
     knots: &Knots,
     spots: &List<List<usize>>,
     forms: &List<Form>,
-    sets: &mut Sets,
+    sets: &mut MarkSets,
     part: usize,
 ) -> bool
     requires knots { AreKnots (net_of P.behaviour circuit.now) knots.now }

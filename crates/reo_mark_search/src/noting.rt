@@ -4,13 +4,13 @@ ghost use Rattle.reo_net_base.specs.Net.{net_of};
 ghost use Rattle.reo_net_base.specs.Sides.{side_count};
 ghost use Rattle.reo_net_laws.specs.Knots.{AreKnots, in_knot, knot_count};
 ghost use Rattle.reo_net_laws.specs.state_laws.States.{IsOpen};
-ghost use Rattle.reo_mark_sets.specs.Marks.{marks_at, all_marks};
+ghost use Rattle.reo_mark_sets.specs.PlainMarks.{marks_at, all_marks};
 ghost use Rattle.reo_mark_search.specs.Fitting.{Fits, IsRival, AreNoted, AreOpenSides, AreReset};
 ghost use Rattle.reo_mark_search.specs.Spots.{AreSpots};
 
 use crate::spots::places_at;
 use reo_knots::Knots;
-use reo_mark_sets::{Sets, is_usual};
+use reo_mark_sets::{MarkSets, is_usual};
 use reo_net_base::{Form, Primitive};
 use reo_net_circuit::Circuit;
 use reo_values::List;
@@ -21,7 +21,7 @@ fn note_at<P: Primitive>(
     circuit: &Circuit<P>,
     spots: &List<List<usize>>,
     forms: &mut List<Form>,
-    sets: &mut Sets,
+    sets: &mut MarkSets,
     side: usize,
 ) -> bool
     requires spots { AreSpots (net_of P.behaviour circuit.now) spots.now }
@@ -63,7 +63,7 @@ pub(crate) fn note_all<P: Primitive>(
     knots: &Knots,
     spots: &List<List<usize>>,
     forms: &mut List<Form>,
-    sets: &mut Sets,
+    sets: &mut MarkSets,
     part: usize,
 ) -> bool
     requires knots { AreKnots (net_of P.behaviour circuit.now) knots.now }

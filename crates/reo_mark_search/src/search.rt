@@ -4,17 +4,17 @@ ghost use Rattle.reo_net_base.specs.Net.{net_of};
 ghost use Rattle.reo_net_base.specs.Sides.{side_count};
 ghost use Rattle.reo_net_circuit.specs.found_ends.Ends.{AreEnds};
 ghost use Rattle.reo_net_laws.specs.Knots.{AreKnots, in_knot, knot_count};
-ghost use Rattle.reo_mark_search.specs.Found.{IsMarkSearch, AreRowsElsewhere, IsFound};
+ghost use Rattle.reo_mark_search.specs.MarkFinding.{IsMarkSearch, AreRowsElsewhere, IsFound};
 ghost use Rattle.reo_mark_search.specs.Spots.{AreSpots};
 
 use crate::fixing::fixed_all;
-use crate::found::Found;
+use crate::found::MarkFinding;
 use crate::narrowing::settle;
 use crate::noting::note_all;
 use crate::spots::{keepers_of, spots_of};
 use crate::walking::{class_all, jam_all, lead_all, meets_all, row_all};
 use reo_knots::Knots;
-use reo_mark_sets::Sets;
+use reo_mark_sets::MarkSets;
 use reo_net_base::{Form, Primitive, Table};
 use reo_net_circuit::{Circuit, Ends};
 use reo_values::{List, NoMemory};
@@ -26,7 +26,7 @@ use std::alloc::Global;
 pub struct MarkSearch {
     pub(crate) spots: List<List<usize>>,
     pub(crate) forms: List<Form>,
-    pub(crate) sets: Sets,
+    pub(crate) sets: MarkSets,
 }
 
 /// So many forms, any. `NoMemory` is out of memory.
@@ -45,11 +45,11 @@ fn search_part<P: Primitive>(
     knots: &Knots,
     spots: &List<List<usize>>,
     forms: &mut List<Form>,
-    sets: &mut Sets,
+    sets: &mut MarkSets,
     part: usize,
     turn: u64,
     rows: &mut List<u32>,
-) -> Found
+) -> MarkFinding
     requires knots { AreKnots (net_of P.behaviour circuit.now) knots.now }
     requires part { part < knot_count knots.now }
     requires spots { AreSpots (net_of P.behaviour circuit.now) spots.now }
@@ -66,28 +66,28 @@ fn search_part<P: Primitive>(
     let _order = circuit.order();
     if !note_all(circuit, knots, spots, forms, sets, part) {
         sets.calm();
-        return Found::Unknown;
+        return MarkFinding::Unknown;
     }
     if !settle(circuit, knots, spots, forms, sets, part) {
         jam_all(circuit, knots, part, rows);
-        return Found::Jam;
+        return MarkFinding::Jam;
     }
     if !lead_all(circuit, knots, spots, forms, sets, part, turn) {
-        return Found::Unknown;
+        return MarkFinding::Unknown;
     }
     if fixed_all(circuit, knots, spots, forms, sets, part, rows) {
-        return Found::Rows;
+        return MarkFinding::Rows;
     }
     if !class_all(circuit, knots, spots, forms, sets, part, turn) {
-        return Found::Unknown;
+        return MarkFinding::Unknown;
     }
     if !row_all(circuit, knots, spots, forms, sets, part, rows) {
-        return Found::Unknown;
+        return MarkFinding::Unknown;
     }
     if !meets_all(circuit, knots, spots, forms, sets, part) {
-        return Found::Unknown;
+        return MarkFinding::Unknown;
     }
-    Found::Rows
+    MarkFinding::Rows
 }
 
 impl MarkSearch {
@@ -103,7 +103,7 @@ impl MarkSearch {
         let spots = spots_of(alloc, circuit, ends)?;
         let forms = some_forms(alloc, circuit.sides())?;
         let keepers = keepers_of(alloc, circuit)?;
-        let sets = Sets::new(alloc, keepers, circuit.sides())?;
+        let sets = MarkSets::new(alloc, keepers, circuit.sides())?;
         Ok(MarkSearch { spots, forms, sets })
     }
 
@@ -119,7 +119,7 @@ impl MarkSearch {
         part: usize,
         turn: u64,
         rows: &mut List<u32>,
-    ) -> Found
+    ) -> MarkFinding
         requires knots { AreKnots (net_of P.behaviour circuit.now) knots.now }
         requires part { part < knot_count knots.now }
         requires search { IsMarkSearch (net_of P.behaviour circuit.now) self.old }

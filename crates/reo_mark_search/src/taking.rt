@@ -12,7 +12,7 @@ ghost use Rattle.reo_mark_search.specs.Walking.{GoesOn};
 use crate::narrowing::settle;
 use crate::seats::seat_at;
 use reo_knots::Knots;
-use reo_mark_sets::Sets;
+use reo_mark_sets::MarkSets;
 use reo_net_base::{Form, Primitive};
 use reo_net_circuit::Circuit;
 use reo_values::List;
@@ -29,7 +29,7 @@ pub(crate) fn class_at<P: Primitive>(
     knots: &Knots,
     spots: &List<List<usize>>,
     forms: &List<Form>,
-    sets: &mut Sets,
+    sets: &mut MarkSets,
     part: usize,
     turn: u64,
     side: usize,
@@ -64,7 +64,7 @@ pub(crate) fn row_at<P: Primitive>(
     knots: &Knots,
     spots: &List<List<usize>>,
     forms: &List<Form>,
-    sets: &mut Sets,
+    sets: &mut MarkSets,
     part: usize,
     index: usize,
     rows: &mut List<u32>,

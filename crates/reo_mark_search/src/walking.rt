@@ -5,9 +5,9 @@ ghost use Rattle.reo_net_base.specs.Net.{net_of};
 ghost use Rattle.reo_net_base.specs.Sides.{side_count};
 ghost use Rattle.reo_net_laws.specs.Knots.{AreKnots, in_knot, knot_count};
 ghost use Rattle.reo_net_laws.specs.JamRows.{jam_rows};
-ghost use Rattle.reo_mark_sets.specs.Marks.{has, open_at, partner};
+ghost use Rattle.reo_mark_sets.specs.PlainMarks.{has, open_at, partner};
 ghost use Rattle.reo_mark_search.specs.Fitting.{AreNoted, AreMet, ArePinned};
-ghost use Rattle.reo_mark_search.specs.Found.{AreRowsElsewhere};
+ghost use Rattle.reo_mark_search.specs.MarkFinding.{AreRowsElsewhere};
 ghost use Rattle.reo_mark_search.specs.Places.{lead_places, class_places, row_places};
 ghost use Rattle.reo_mark_search.specs.Spots.{AreSpots};
 ghost use Rattle.reo_mark_search.specs.Walking.{GoesOn};
@@ -15,7 +15,7 @@ ghost use Rattle.reo_mark_search.specs.Walking.{GoesOn};
 use crate::seats::seat_at;
 use crate::taking::{class_at, row_at};
 use reo_knots::Knots;
-use reo_mark_sets::Sets;
+use reo_mark_sets::MarkSets;
 use reo_net_base::{Form, Primitive};
 use reo_net_circuit::Circuit;
 use reo_values::List;
@@ -27,7 +27,7 @@ pub(crate) fn lead_all<P: Primitive>(
     knots: &Knots,
     spots: &List<List<usize>>,
     forms: &List<Form>,
-    sets: &mut Sets,
+    sets: &mut MarkSets,
     part: usize,
     turn: u64,
 ) -> bool
@@ -63,7 +63,7 @@ pub(crate) fn class_all<P: Primitive>(
     knots: &Knots,
     spots: &List<List<usize>>,
     forms: &List<Form>,
-    sets: &mut Sets,
+    sets: &mut MarkSets,
     part: usize,
     turn: u64,
 ) -> bool
@@ -94,7 +94,7 @@ pub(crate) fn row_all<P: Primitive>(
     knots: &Knots,
     spots: &List<List<usize>>,
     forms: &List<Form>,
-    sets: &mut Sets,
+    sets: &mut MarkSets,
     part: usize,
     rows: &mut List<u32>,
 ) -> bool
@@ -123,7 +123,7 @@ pub(crate) fn row_all<P: Primitive>(
 }
 
 /// Whether some mark at each of some places meets one at the other end of its joint.
-fn meets_at(sets: &Sets, places: &[usize]) -> bool
+fn meets_at(sets: &MarkSets, places: &[usize]) -> bool
     requires places { (o : ℕ) → o < length places.now
         → slice_index places.now o < length sets.now }
     requires partners { (o : ℕ) → o < length places.now
@@ -145,7 +145,7 @@ pub(crate) fn meets_all<P: Primitive>(
     knots: &Knots,
     spots: &List<List<usize>>,
     forms: &List<Form>,
-    sets: &Sets,
+    sets: &MarkSets,
     part: usize,
 ) -> bool
     requires knots { AreKnots (net_of P.behaviour circuit.now) knots.now }

@@ -11,8 +11,8 @@ use Rattle.reo_net_base.specs.declared.form.Form.TheVariants.{Single, Double, Me
 use Rattle.reo_net_base.specs.Forms.{mark_by}
 use Rattle.reo_net_base.specs.Rows.{Rows}
 use Rattle.reo_net_base.specs.Tables.{rows_of}
-use Rattle.reo_mark_sets.specs.declared.marks.Marks.{Marks}
-use Rattle.reo_mark_sets.specs.Marks.{has, marks_at, just, both}
+use Rattle.reo_mark_sets.specs.declared.marks.PlainMarks.{PlainMarks}
+use Rattle.reo_mark_sets.specs.PlainMarks.{has, marks_at, just, both}
 use Rattle.reo_mark_sets.specs.Listed.{fits_one, fits_two, first_fit}
 use Rattle.reo_mark_sets.specs.Standing.{ArePlaces, Stands, AreElsewhere, IsLeastRow, IsChosen}
 use Rattle.reo_mark_sets.specs.Tallies.{IsFirstBetween}
@@ -54,7 +54,7 @@ module _ (fits : List Mark → Bool) where
       some Filter = omega arith
       some Spent = omega arith
 
-pub single_first : (table : Table) (places : List ℕ) (sets : List Marks) → length places ≡ 1 → (a : Marks) → a ≡ marks_at sets (slice_index places 0)
+pub single_first : (table : Table) (places : List ℕ) (sets : List PlainMarks) → length places ≡ 1 → (a : PlainMarks) → a ≡ marks_at sets (slice_index places 0)
     → (row : ℕ) → row ≡ first_fit (rows_of table) (fits_one a) → IsLeastRow (Single table) places sets row
 single_first table places sets width a a_is row is = record {
   plain = let below = fit_in (fits_one a) table in omega (arith, below, is);
@@ -64,7 +64,7 @@ single_first table places sets width a a_is row is = record {
       omega (arith, le, is);
 }
 
-pub double_first : (table : Table) (places : List ℕ) (sets : List Marks) → length places ≡ 2 → (a b : Marks) → a ≡ marks_at sets (slice_index places 0) → b ≡ marks_at sets (slice_index places 1)
+pub double_first : (table : Table) (places : List ℕ) (sets : List PlainMarks) → length places ≡ 2 → (a b : PlainMarks) → a ≡ marks_at sets (slice_index places 0) → b ≡ marks_at sets (slice_index places 1)
     → (row : ℕ) → row ≡ first_fit (rows_of table) (fits_two a b) → IsLeastRow (Double table) places sets row
 double_first table places sets width a b a_is b_is row is = record {
   plain = let below = fit_in (fits_two a b) table in omega (arith, below, is);
@@ -75,11 +75,11 @@ double_first table places sets width a b a_is b_is row is = record {
 }
 
 -- Mergers.
-module _ (branches : Branches) (places : List ℕ) (width : length places ≡ branches.count + 1) (some : 0 < branches.count) (sets : List Marks) where
+module _ (branches : Branches) (places : List ℕ) (width : length places ≡ branches.count + 1) (some : 0 < branches.count) (sets : List PlainMarks) where
   abbrev n : ℕ
   n = branches.count
 
-  abbrev output : Marks
+  abbrev output : PlainMarks
   output = marks_at sets (slice_index places n)
 
   still_first : ((row : ℕ) → Stands (Merging branches) places sets row → (n ≤ row) × (row < n + 2)) → (t : Bool) → t ≡ output.required → (row : ℕ) → row ≡ cond t n (n + 1) → IsLeastRow (Merging branches) places sets row
@@ -92,13 +92,13 @@ module _ (branches : Branches) (places : List ℕ) (width : length places ≡ br
     ];
   }
 
-  pub no_output_first : output.flow ≡ false → (o : Marks) → o ≡ output → (row : ℕ) → row ≡ cond o.required n (n + 1) → IsLeastRow (Merging branches) places sets row
+  pub no_output_first : output.flow ≡ false → (o : PlainMarks) → o ≡ output → (row : ℕ) → row ≡ cond o.required n (n + 1) → IsLeastRow (Merging branches) places sets row
   no_output_first fails o o_is row is =
-      still_first (λ r s. elim (still_or branches places width some sets r s) [ inl still ↦ still | inr f ↦ let holds = f.2 in absurd (cc) ]) o.required (ap (λ (m : Marks). m.required) o_is) row is
+      still_first (λ r s. elim (still_or branches places width some sets r s) [ inl still ↦ still | inr f ↦ let holds = f.2 in absurd (cc) ]) o.required (ap (λ (m : PlainMarks). m.required) o_is) row is
 
-  pub no_input_first : ((o : ℕ) → 0 ≤ o → o < n → (marks_at sets (slice_index places o)).flow ≡ false) → (o : Marks) → o ≡ output → (row : ℕ) → row ≡ cond o.required n (n + 1) → IsLeastRow (Merging branches) places sets row
+  pub no_input_first : ((o : ℕ) → 0 ≤ o → o < n → (marks_at sets (slice_index places o)).flow ≡ false) → (o : PlainMarks) → o ≡ output → (row : ℕ) → row ≡ cond o.required n (n + 1) → IsLeastRow (Merging branches) places sets row
   no_input_first none o o_is row is =
-      still_first (λ r s. elim (still_or branches places width some sets r s) [ inl still ↦ still | inr f ↦ let fails = none r (omega arith) f.0 in let holds = f.1 in absurd (cc) ]) o.required (ap (λ (m : Marks). m.required) o_is) row is
+      still_first (λ r s. elim (still_or branches places width some sets r s) [ inl still ↦ still | inr f ↦ let fails = none r (omega arith) f.0 in let holds = f.1 in absurd (cc) ]) o.required (ap (λ (m : PlainMarks). m.required) o_is) row is
 
   pub input_first : (i : ℕ) → IsFirstBetween (λ o. (marks_at sets (slice_index places o)).flow) 0 n i → IsLeastRow (Merging branches) places sets i
   input_first i found = record {
@@ -110,7 +110,7 @@ module _ (branches : Branches) (places : List ℕ) (width : length places ≡ br
   }
 
 -- Replicators, where the input neither flows nor asks for a reason.
-pub output_first : (branches : Branches) (places : List ℕ) → length places ≡ branches.count + 1 → (sets : List Marks) → (marks_at sets (slice_index places 0)).flow ≡ false → (marks_at sets (slice_index places 0)).required ≡ false
+pub output_first : (branches : Branches) (places : List ℕ) → length places ≡ branches.count + 1 → (sets : List PlainMarks) → (marks_at sets (slice_index places 0)).flow ≡ false → (marks_at sets (slice_index places 0)).required ≡ false
     → (o : ℕ) → IsFirstBetween (λ e. (marks_at sets (slice_index places e)).required) 1 (branches.count + 1) o → IsLeastRow (Replicating branches) places sets (o + 1)
 output_first branches places width sets no_flow no_reason o found = record {
   plain = omega (arith, found.in_range);
@@ -124,7 +124,7 @@ output_first branches places width sets no_flow no_reason o found = record {
 }
 
 -- One place after another is pinned to the mark of a row.
-module _ (form : Form) (places : List ℕ) (initial now new : List Marks) (row end : ℕ) (are : ArePlaces (length initial) places) (in_range : end < length places) (one_each : length now ≡ length initial)
+module _ (form : Form) (places : List ℕ) (initial now new : List PlainMarks) (row end : ℕ) (are : ArePlaces (length initial) places) (in_range : end < length places) (one_each : length now ≡ length initial)
     (others : (x : ℕ) → ((o : ℕ) → o < end → slice_index places o ≡ x → ⊥) → marks_at now x ≡ marks_at initial x)
     (is : new ≡ set now (slice_index places end) (both (marks_at now (slice_index places end)) (just (mark_by form row end)))) where
   place_in : slice_index places end < length now
@@ -148,17 +148,17 @@ module _ (form : Form) (places : List ℕ) (initial now new : List Marks) (row e
     | inr ne ↦
         let o_lt : o < end = omega (arith, lt, ne) in
         let same = restrict_other now new (slice_index places end) (just (mark_by form row end)) place_in is (slice_index places o) (λ f. ne (are.once o end (omega (arith, o_lt, in_range)) in_range f)) in
-        subst (λ (x : Marks). (has x m ≡ true) ↔ ((has (marks_at initial (slice_index places o)) m ≡ true) × (mark_by form row o ≡ m))) (sym same) (before o m o_lt)
+        subst (λ (x : PlainMarks). (has x m ≡ true) ↔ ((has (marks_at initial (slice_index places o)) m ≡ true) × (mark_by form row o ≡ m))) (sym same) (before o m o_lt)
   ]
     where
       here : (has (marks_at new (slice_index places end)) m ≡ true) ↔ ((has (marks_at initial (slice_index places end)) m ≡ true) × (mark_by form row end ≡ m))
       here =
           let exact = restrict_exact now new (slice_index places end) (just (mark_by form row end)) place_in is m in (
-            λ h. let pair = exact.0 h in (subst (λ (x : Marks). has x m ≡ true) here_same pair.0, just_has (mark_by form row end) m pair.1),
-            λ h. exact.1 (subst (λ (x : Marks). has x m ≡ true) (sym here_same) h.0, has_just (marks_at initial (slice_index places end)) (mark_by form row end) m h.0 h.1),
+            λ h. let pair = exact.0 h in (subst (λ (x : PlainMarks). has x m ≡ true) here_same pair.0, just_has (mark_by form row end) m pair.1),
+            λ h. exact.1 (subst (λ (x : PlainMarks). has x m ≡ true) (sym here_same) h.0, has_just (marks_at initial (slice_index places end)) (mark_by form row end) m h.0 h.1),
           )
 
-pub chosen_elsewhere : (places : List ℕ) (initial now : List Marks) (end : ℕ) → end ≡ length places → length now ≡ length initial
+pub chosen_elsewhere : (places : List ℕ) (initial now : List PlainMarks) (end : ℕ) → end ≡ length places → length now ≡ length initial
     → ((x : ℕ) → ((o : ℕ) → o < end → slice_index places o ≡ x → ⊥) → marks_at now x ≡ marks_at initial x) → AreElsewhere places initial now
 chosen_elsewhere places initial now end all count others = record {
   one_each = count;
@@ -166,17 +166,17 @@ chosen_elsewhere places initial now end all count others = record {
 }
 
 -- One place or two are pinned.
-module _ (form : Form) (places : List ℕ) (row : ℕ) (initial : List Marks) (are : ArePlaces (length initial) places) (first : IsLeastRow form places initial row) where
-  abbrev Pinned : ℕ → List Marks → List Marks → Type 0
+module _ (form : Form) (places : List ℕ) (row : ℕ) (initial : List PlainMarks) (are : ArePlaces (length initial) places) (first : IsLeastRow form places initial row) where
+  abbrev Pinned : ℕ → List PlainMarks → List PlainMarks → Type 0
   Pinned end now new = new ≡ set now (slice_index places end) (both (marks_at now (slice_index places end)) (just (mark_by form row end)))
 
-  abbrev Others : ℕ → List Marks → Type 0
+  abbrev Others : ℕ → List PlainMarks → Type 0
   Others end now = (x : ℕ) → ((o : ℕ) → o < end → slice_index places o ≡ x → ⊥) → marks_at now x ≡ marks_at initial x
 
-  abbrev Done : ℕ → List Marks → Type 0
+  abbrev Done : ℕ → List PlainMarks → Type 0
   Done end now = (o : ℕ) (m : Mark) → o < end → (has (marks_at now (slice_index places o)) m ≡ true) ↔ ((has (marks_at initial (slice_index places o)) m ≡ true) × (mark_by form row o ≡ m))
 
-  all_pinned : (now : List Marks) (end : ℕ) → end ≡ length places → length now ≡ length initial → Others end now → Done end now → IsChosen form places row initial now
+  all_pinned : (now : List PlainMarks) (end : ℕ) → end ≡ length places → length now ≡ length initial → Others end now → Done end now → IsChosen form places row initial now
   all_pinned now end all count others done = record {
     elsewhere = chosen_elsewhere places initial now end all count others;
     first = first;
@@ -186,7 +186,7 @@ module _ (form : Form) (places : List ℕ) (row : ℕ) (initial : List Marks) (a
   none_before : Done 0 initial
   none_before o m lt = absurd (omega arith)
 
-  pub one_pinned : (new : List Marks) → length places ≡ 1 → Pinned 0 initial new → IsChosen form places row initial new
+  pub one_pinned : (new : List PlainMarks) → length places ≡ 1 → Pinned 0 initial new → IsChosen form places row initial new
   one_pinned new width is =
       let lt : 0 < length places = omega (arith, width) in
       all_pinned new 1 (sym width)
@@ -194,7 +194,7 @@ module _ (form : Form) (places : List ℕ) (row : ℕ) (initial : List Marks) (a
       (pin_others form places initial initial new row 0 are lt refl (λ x none. refl) is)
       (pin_done form places initial initial new row 0 are lt refl (λ x none. refl) is none_before)
 
-  pub two_pinned : (now new : List Marks) → length places ≡ 2 → Pinned 0 initial now → Pinned 1 now new → IsChosen form places row initial new
+  pub two_pinned : (now new : List PlainMarks) → length places ≡ 2 → Pinned 0 initial now → Pinned 1 now new → IsChosen form places row initial new
   two_pinned now new width before is =
       let zero_in : 0 < length places = omega (arith, width) in
       let one_in : 1 < length places = omega (arith, width) in

@@ -20,9 +20,9 @@ use Rattle.reo_net_base.specs.Branching.{beginning, merger_class, replicator_cla
 use Rattle.reo_net_base.specs.Forms.{mark_by}
 use Rattle.reo_net_base.specs.Rows.{Rows, mark_in, class_in, classes_of, distinct_rows, same_flow}
 use Rattle.reo_net_base.specs.Tables.{rows_of}
-use Rattle.reo_mark_sets.specs.declared.marks.Marks.{Marks}
+use Rattle.reo_mark_sets.specs.declared.marks.PlainMarks.{PlainMarks}
 use Rattle.reo_mark_sets.specs.declared.stars.Star.TheVariants.{Merger, Replicator}
-use Rattle.reo_mark_sets.specs.Marks.{has, marks_at, both, just, are_within}
+use Rattle.reo_mark_sets.specs.PlainMarks.{has, marks_at, both, just, are_within}
 use Rattle.reo_mark_sets.specs.Listed.{fits_one, fits_two, is_taken, are_taken}
 use Rattle.reo_mark_sets.specs.Standing.{ArePlaces, Stands, AreElsewhere, AreFewer, IsClassed}
 use Rattle.reo_mark_sets.specs.Stars.{Kind, IsKind, kind_mark}
@@ -34,19 +34,19 @@ use Rattle.reo_mark_sets.proofs.Rows.{row_in}
 use Rattle.reo_mark_sets.proofs.Starring.{center_of, center_is, spoke_is}
 
 -- Marks of both.
-both_has : (a b : Marks) (m : Mark) → has (both a b) m ≡ true → (has a m ≡ true) × (has b m ≡ true)
+both_has : (a b : PlainMarks) (m : Mark) → has (both a b) m ≡ true → (has a m ≡ true) × (has b m ≡ true)
 both_has a b F h = and_parts a.flow b.flow h
 both_has a b G h = and_parts a.given b.given h
 both_has a b R h = and_parts a.required b.required h
 both_has a b J h = cc
 
-has_both : (a b : Marks) (m : Mark) → has a m ≡ true → has b m ≡ true → has (both a b) m ≡ true
+has_both : (a b : PlainMarks) (m : Mark) → has a m ≡ true → has b m ≡ true → has (both a b) m ≡ true
 has_both a b F x y = and_from a.flow b.flow x y
 has_both a b G x y = and_from a.given b.given x y
 has_both a b R x y = and_from a.required b.required x y
 has_both a b J x y = cc
 
-pub within_has : (a b : Marks) → are_within a b ≡ true → (m : Mark) → has a m ≡ true → has b m ≡ true
+pub within_has : (a b : PlainMarks) → are_within a b ≡ true → (m : Mark) → has a m ≡ true → has b m ≡ true
 within_has a b h m =
     let one = and_parts (not a.flow || b.flow) ((not a.given || b.given) && (not a.required || b.required)) h in
     let two = and_parts (not a.given || b.given) (not a.required || b.required) one.1 in
@@ -77,7 +77,7 @@ just_has J G h = cc
 just_has J R h = cc
 just_has J J h = cc
 
-pub has_just : (marks : Marks) (mark m : Mark) → has marks m ≡ true → mark ≡ m → has (just mark) m ≡ true
+pub has_just : (marks : PlainMarks) (mark m : Mark) → has marks m ≡ true → mark ≡ m → has (just mark) m ≡ true
 has_just marks mark m real e = subst (λ (x : Mark). has (just mark) x ≡ true) e (itself mark (subst (λ (x : Mark). has marks x ≡ true) (sym e) real))
   where
     itself : (x : Mark) → has marks x ≡ true → has (just x) x ≡ true
@@ -87,26 +87,26 @@ has_just marks mark m real e = subst (λ (x : Mark). has (just mark) x ≡ true)
     itself J h = cc
 
 -- A place is restricted.
-module _ (sets new : List Marks) (place : ℕ) (allowed : Marks) (lt : place < length sets) (is : new ≡ set sets place (both (marks_at sets place) allowed)) where
+module _ (sets new : List PlainMarks) (place : ℕ) (allowed : PlainMarks) (lt : place < length sets) (is : new ≡ set sets place (both (marks_at sets place) allowed)) where
   pub restrict_here : marks_at new place ≡ both (marks_at sets place) allowed
-  restrict_here = ap (λ (s : List Marks). marks_at s place) is ∙ marks_here sets place (both (marks_at sets place) allowed) lt
+  restrict_here = ap (λ (s : List PlainMarks). marks_at s place) is ∙ marks_here sets place (both (marks_at sets place) allowed) lt
 
   pub restrict_other : (x : ℕ) → x ≢ place → marks_at new x ≡ marks_at sets x
-  restrict_other x ne = ap (λ (s : List Marks). marks_at s x) is ∙ marks_other sets place x (both (marks_at sets place) allowed) ne
+  restrict_other x ne = ap (λ (s : List PlainMarks). marks_at s x) is ∙ marks_other sets place x (both (marks_at sets place) allowed) ne
 
   pub restrict_count : length new ≡ length sets
-  restrict_count = ap (λ (s : List Marks). length s) is ∙ length-set sets place (both (marks_at sets place) allowed)
+  restrict_count = ap (λ (s : List PlainMarks). length s) is ∙ length-set sets place (both (marks_at sets place) allowed)
 
   pub restrict_exact : (m : Mark) → (has (marks_at new place) m ≡ true) ↔ ((has (marks_at sets place) m ≡ true) × (has allowed m ≡ true))
   restrict_exact m = (
-    λ h. both_has (marks_at sets place) allowed m (subst (λ (x : Marks). has x m ≡ true) restrict_here h),
-    λ h. subst (λ (x : Marks). has x m ≡ true) (sym restrict_here) (has_both (marks_at sets place) allowed m h.0 h.1),
+    λ h. both_has (marks_at sets place) allowed m (subst (λ (x : PlainMarks). has x m ≡ true) restrict_here h),
+    λ h. subst (λ (x : PlainMarks). has x m ≡ true) (sym restrict_here) (has_both (marks_at sets place) allowed m h.0 h.1),
   )
 
   pub restrict_fewer : AreFewer sets new
   restrict_fewer x m h = elim (cases_eq x place) [
     | inl e ↦ subst (λ (y : ℕ). has (marks_at sets y) m ≡ true) (sym e) ((restrict_exact m).0 (subst (λ (y : ℕ). has (marks_at new y) m ≡ true) e h)).0
-    | inr ne ↦ subst (λ (y : Marks). has y m ≡ true) (restrict_other x ne) h
+    | inr ne ↦ subst (λ (y : PlainMarks). has y m ≡ true) (restrict_other x ne) h
   ]
 
   module _ (form : Form) (places : List ℕ) (o : ℕ) (o_in : o < length places) (here : slice_index places o ≡ place)
@@ -132,14 +132,14 @@ module _ (sets new : List Marks) (place : ℕ) (allowed : Marks) (lt : place < l
             subst (λ (y : ℕ). has (marks_at new y) (mark_by form row p) ≡ true) (sym at)
             ((restrict_exact (mark_by form row p)).1 (subst (λ (y : ℕ). has (marks_at sets y) (mark_by form row p) ≡ true) at (s.each p p_in), subst (λ (q : ℕ). has allowed (mark_by form row q) ≡ true) (sym e) h))
         | inr ne ↦
-            subst (λ (y : Marks). has y (mark_by form row p) ≡ true) (sym (restrict_other (slice_index places p) (λ same. ne (once p o p_in o_in (same ∙ sym here))))) (s.each p p_in)
+            subst (λ (y : PlainMarks). has y (mark_by form row p) ≡ true) (sym (restrict_other (slice_index places p) (λ same. ne (once p o p_in o_in (same ∙ sym here))))) (s.each p p_in)
       ];
     }
 
-pub elsewhere_after : (places : List ℕ) (a b c : List Marks) → AreElsewhere places a b → AreElsewhere places b c → AreElsewhere places a c
+pub elsewhere_after : (places : List ℕ) (a b c : List PlainMarks) → AreElsewhere places a b → AreElsewhere places b c → AreElsewhere places a c
 elsewhere_after places a b c x y = record { one_each = y.one_each ∙ x.one_each; others = λ p none. y.others p none ∙ x.others p none }
 
-pub fewer_after : (a b c : List Marks) → AreFewer a b → AreFewer b c → AreFewer a c
+pub fewer_after : (a b c : List PlainMarks) → AreFewer a b → AreFewer b c → AreFewer a c
 fewer_after a b c x y = λ p m h. x p m (y p m h)
 
 -- Listed rows, by the test that each passes.
@@ -174,55 +174,55 @@ classes_count rows =
 
 -- A side with one end.
 module _ (table : Table) (places : List ℕ) (width : length places ≡ 1) where
-  pub stands_one : (sets : List Marks) (r : ℕ) → Stands (Single table) places sets r → (r < length (rows_of table)) × (fits_one (marks_at sets (slice_index places 0)) (row_in (rows_of table) r) ≡ true)
+  pub stands_one : (sets : List PlainMarks) (r : ℕ) → Stands (Single table) places sets r → (r < length (rows_of table)) × (fits_one (marks_at sets (slice_index places 0)) (row_in (rows_of table) r) ≡ true)
   stands_one sets r s = (omega (arith, s.plain), s.each 0 (omega (arith, width)))
 
-  one_stands : (sets : List Marks) (r : ℕ) → r < length (rows_of table) → fits_one (marks_at sets (slice_index places 0)) (row_in (rows_of table) r) ≡ true → Stands (Single table) places sets r
+  one_stands : (sets : List PlainMarks) (r : ℕ) → r < length (rows_of table) → fits_one (marks_at sets (slice_index places 0)) (row_in (rows_of table) r) ≡ true → Stands (Single table) places sets r
   one_stands sets r lt fit = record {
     plain = omega arith;
     each = λ o o_in. let e : o ≡ 0 = omega (arith, width, o_in) in subst (λ (p : ℕ). has (marks_at sets (slice_index places p)) (mark_in (rows_of table) r 0) ≡ true) (sym e) fit;
   }
 
-  pub single_classed : (sets new : List Marks) (a marks : Marks) (n : ℕ) → ArePlaces (length sets) places → a ≡ marks_at sets (slice_index places 0) → new ≡ set sets (slice_index places 0) marks
+  pub single_classed : (sets new : List PlainMarks) (a marks : PlainMarks) (n : ℕ) → ArePlaces (length sets) places → a ≡ marks_at sets (slice_index places 0) → new ≡ set sets (slice_index places 0) marks
       → are_taken n (rows_of table) (classes_of (rows_of table)) (fits_one a) (fits_one marks) ≡ true → are_within marks a ≡ true → (turn : ℕ) → IsClassed (Single table) places turn sets new
   single_classed sets new a marks n are a_is is taken within turn =
       let place : ℕ = slice_index places 0 in
-      let here : marks_at new place ≡ marks = ap (λ (s : List Marks). marks_at s place) is ∙ marks_here sets place marks (are.in_range 0 (omega (arith, width))) in
-      let there : (x : ℕ) → x ≢ place → marks_at new x ≡ marks_at sets x = λ x ne. ap (λ (s : List Marks). marks_at s x) is ∙ marks_other sets place x marks ne in
+      let here : marks_at new place ≡ marks = ap (λ (s : List PlainMarks). marks_at s place) is ∙ marks_here sets place marks (are.in_range 0 (omega (arith, width))) in
+      let there : (x : ℕ) → x ≢ place → marks_at new x ≡ marks_at sets x = λ x ne. ap (λ (s : List PlainMarks). marks_at s x) is ∙ marks_other sets place x marks ne in
       let at = λ (r : ℕ) (lt : r < length (rows_of table)). taken_at n (fits_one a) (fits_one marks) (rows_of table) (classes_of (rows_of table)) taken (classes_count (rows_of table)) r lt in
-      let fits_old = λ (r : ℕ) (h : fits_one (marks_at sets place) (row_in (rows_of table) r) ≡ true). subst (λ (m : Marks). fits_one m (row_in (rows_of table) r) ≡ true) (sym a_is) h in
-      let fits_new = λ (r : ℕ) (h : fits_one (marks_at new place) (row_in (rows_of table) r) ≡ true). subst (λ (m : Marks). fits_one m (row_in (rows_of table) r) ≡ true) here h in
+      let fits_old = λ (r : ℕ) (h : fits_one (marks_at sets place) (row_in (rows_of table) r) ≡ true). subst (λ (m : PlainMarks). fits_one m (row_in (rows_of table) r) ≡ true) (sym a_is) h in
+      let fits_new = λ (r : ℕ) (h : fits_one (marks_at new place) (row_in (rows_of table) r) ≡ true). subst (λ (m : PlainMarks). fits_one m (row_in (rows_of table) r) ≡ true) here h in
       record {
         elsewhere = record {
-          one_each = ap (λ (s : List Marks). length s) is ∙ length-set sets place marks;
+          one_each = ap (λ (s : List PlainMarks). length s) is ∙ length-set sets place marks;
           others = λ x none. there x (λ e. none (contains_at places 0 x (omega (arith, width)) (sym e)));
         };
         fewer = λ x m h. elim (cases_eq x place) [
           | inl e ↦ subst (λ (y : ℕ). has (marks_at sets y) m ≡ true) (sym e)
-              (subst (λ (y : Marks). has y m ≡ true) a_is (within_has marks a within m (subst (λ (y : Marks). has y m ≡ true) (ap (marks_at new) e ∙ here) h)))
-          | inr ne ↦ subst (λ (y : Marks). has y m ≡ true) (there x ne) h
+              (subst (λ (y : PlainMarks). has y m ≡ true) a_is (within_has marks a within m (subst (λ (y : PlainMarks). has y m ≡ true) (ap (marks_at new) e ∙ here) h)))
+          | inr ne ↦ subst (λ (y : PlainMarks). has y m ≡ true) (there x ne) h
         ];
         class = n;
         least = λ r s. let t = stands_one sets r s in taken_least n (class_in (rows_of table) r) (fits_one a (row_in (rows_of table) r)) (fits_one marks (row_in (rows_of table) r)) (at r t.0) (fits_old r t.1);
         stay = λ r s same.
             let t = stands_one sets r s in
-            one_stands new r t.0 (subst (λ (m : Marks). fits_one m (row_in (rows_of table) r) ≡ true) (sym here)
+            one_stands new r t.0 (subst (λ (m : PlainMarks). fits_one m (row_in (rows_of table) r) ≡ true) (sym here)
             (taken_stay n (class_in (rows_of table) r) (fits_one a (row_in (rows_of table) r)) (fits_one marks (row_in (rows_of table) r)) (at r t.0) (fits_old r t.1) same));
         only = λ r s. let t = stands_one new r s in taken_only n (class_in (rows_of table) r) (fits_one a (row_in (rows_of table) r)) (fits_one marks (row_in (rows_of table) r)) (at r t.0) (fits_new r t.1);
       }
 
 -- A side with two.
 module _ (table : Table) (places : List ℕ) (width : length places ≡ 2) where
-  abbrev fit : List Marks → ℕ → Bool
+  abbrev fit : List PlainMarks → ℕ → Bool
   fit sets r = fits_two (marks_at sets (slice_index places 0)) (marks_at sets (slice_index places 1)) (row_in (rows_of table) r)
 
-  pub stands_two : (sets : List Marks) (r : ℕ) → Stands (Double table) places sets r → (r < length (rows_of table)) × (fit sets r ≡ true)
+  pub stands_two : (sets : List PlainMarks) (r : ℕ) → Stands (Double table) places sets r → (r < length (rows_of table)) × (fit sets r ≡ true)
   stands_two sets r s = (
     omega (arith, s.plain),
     and_from (has (marks_at sets (slice_index places 0)) (mark_in (rows_of table) r 0)) (has (marks_at sets (slice_index places 1)) (mark_in (rows_of table) r 1)) (s.each 0 (omega (arith, width))) (s.each 1 (omega (arith, width))),
   )
 
-  two_stands : (sets : List Marks) (r : ℕ) → r < length (rows_of table) → fit sets r ≡ true → Stands (Double table) places sets r
+  two_stands : (sets : List PlainMarks) (r : ℕ) → r < length (rows_of table) → fit sets r ≡ true → Stands (Double table) places sets r
   two_stands sets r lt h =
       let pair = and_parts (has (marks_at sets (slice_index places 0)) (mark_in (rows_of table) r 0)) (has (marks_at sets (slice_index places 1)) (mark_in (rows_of table) r 1)) h in
       record { plain = omega arith; each = λ o o_in. at o (omega (arith, width, o_in)) pair.0 pair.1 }
@@ -233,7 +233,7 @@ module _ (table : Table) (places : List ℕ) (width : length places ≡ 2) where
       at (suc zero) o_in x y = y
       at (suc (suc o)) o_in x y = absurd (omega arith)
 
-  module _ (sets new : List Marks) (are : ArePlaces (length sets) places) (a b p q : Marks) (a_is : a ≡ marks_at sets (slice_index places 0)) (b_is : b ≡ marks_at sets (slice_index places 1))
+  module _ (sets new : List PlainMarks) (are : ArePlaces (length sets) places) (a b p q : PlainMarks) (a_is : a ≡ marks_at sets (slice_index places 0)) (b_is : b ≡ marks_at sets (slice_index places 1))
       (is : new ≡ set (set sets (slice_index places 0) p) (slice_index places 1) q) where
     one : ℕ
     one = slice_index places 0
@@ -243,18 +243,18 @@ module _ (table : Table) (places : List ℕ) (width : length places ≡ 2) where
 
     at_one : marks_at new (slice_index places 0) ≡ p
     at_one =
-        ap (λ (s : List Marks). marks_at s (slice_index places 0)) is
+        ap (λ (s : List PlainMarks). marks_at s (slice_index places 0)) is
         ∙ marks_other (set sets (slice_index places 0) p) (slice_index places 1) (slice_index places 0) q (λ same. let e : 0 ≡ 1 = are.once 0 1 (omega (arith, width)) (omega (arith, width)) same in omega (arith, e))
         ∙ marks_here sets (slice_index places 0) p (are.in_range 0 (omega (arith, width)))
 
     at_two : marks_at new (slice_index places 1) ≡ q
     at_two =
-        ap (λ (s : List Marks). marks_at s (slice_index places 1)) is
+        ap (λ (s : List PlainMarks). marks_at s (slice_index places 1)) is
         ∙ marks_here (set sets (slice_index places 0) p) (slice_index places 1) q (omega (arith, length-set sets (slice_index places 0) p, are.in_range 1 (omega (arith, width))))
 
     at_other : (x : ℕ) → x ≢ slice_index places 0 → x ≢ slice_index places 1 → marks_at new x ≡ marks_at sets x
     at_other x ne nf =
-        ap (λ (s : List Marks). marks_at s x) is ∙ marks_other (set sets (slice_index places 0) p) (slice_index places 1) x q nf ∙ marks_other sets (slice_index places 0) x p ne
+        ap (λ (s : List PlainMarks). marks_at s x) is ∙ marks_other (set sets (slice_index places 0) p) (slice_index places 1) x q nf ∙ marks_other sets (slice_index places 0) x p ne
 
     fit_old : (r : ℕ) → fit sets r ≡ fits_two a b (row_in (rows_of table) r)
     fit_old r i = fits_two (sym a_is i) (sym b_is i) (row_in (rows_of table) r)
@@ -268,16 +268,16 @@ module _ (table : Table) (places : List ℕ) (width : length places ≡ 2) where
         let at = λ (r : ℕ) (lt : r < length (rows_of table)). taken_at n (fits_two a b) (fits_two p q) (rows_of table) (classes_of (rows_of table)) taken (classes_count (rows_of table)) r lt in
         record {
           elsewhere = record {
-            one_each = ap (λ (s : List Marks). length s) is ∙ length-set (set sets (slice_index places 0) p) (slice_index places 1) q ∙ length-set sets (slice_index places 0) p;
+            one_each = ap (λ (s : List PlainMarks). length s) is ∙ length-set (set sets (slice_index places 0) p) (slice_index places 1) q ∙ length-set sets (slice_index places 0) p;
             others = λ x none. at_other x (λ e. none (contains_at places 0 x (omega (arith, width)) (sym e))) (λ e. none (contains_at places 1 x (omega (arith, width)) (sym e)));
           };
           fewer = λ x m h. elim (cases_eq x (slice_index places 0)) [
             | inl e ↦ subst (λ (y : ℕ). has (marks_at sets y) m ≡ true) (sym e)
-                (subst (λ (y : Marks). has y m ≡ true) a_is (within_has p a p_in m (subst (λ (y : Marks). has y m ≡ true) (ap (marks_at new) e ∙ at_one) h)))
+                (subst (λ (y : PlainMarks). has y m ≡ true) a_is (within_has p a p_in m (subst (λ (y : PlainMarks). has y m ≡ true) (ap (marks_at new) e ∙ at_one) h)))
             | inr ne ↦ elim (cases_eq x (slice_index places 1)) [
               | inl e ↦ subst (λ (y : ℕ). has (marks_at sets y) m ≡ true) (sym e)
-                  (subst (λ (y : Marks). has y m ≡ true) b_is (within_has q b q_in m (subst (λ (y : Marks). has y m ≡ true) (ap (marks_at new) e ∙ at_two) h)))
-              | inr nf ↦ subst (λ (y : Marks). has y m ≡ true) (at_other x ne nf) h
+                  (subst (λ (y : PlainMarks). has y m ≡ true) b_is (within_has q b q_in m (subst (λ (y : PlainMarks). has y m ≡ true) (ap (marks_at new) e ∙ at_two) h)))
+              | inr nf ↦ subst (λ (y : PlainMarks). has y m ≡ true) (at_other x ne nf) h
             ]
           ];
           class = n;
@@ -367,7 +367,7 @@ module _ (branches : Branches) (places : List ℕ) (width : length places ≡ br
   kinds : HasKinds (Merging branches) Merger n 0 n (length places) (merger_row n)
   kinds = merger_kinds branches (length places) width
 
-  module _ (sets : List Marks) (row : ℕ) (stands : Stands (Merging branches) places sets row) where
+  module _ (sets : List PlainMarks) (row : ℕ) (stands : Stands (Merging branches) places sets row) where
     kind_of : (kind : Kind) × IsKind 0 n kind × (merger_row n kind ≡ row)
     kind_of = kinds.each row stands.plain
 
@@ -409,13 +409,13 @@ module _ (branches : Branches) (places : List ℕ) (width : length places ≡ br
     still_class turn still = class_still n turn some row still.0 still.1
 
   -- Where the output cannot flow, no input flows.
-  pub no_output : (sets : List Marks) → (marks_at sets (slice_index places n)).flow ≡ false → (turn row : ℕ) → Stands (Merging branches) places sets row → merger_class n row turn ≡ n
+  pub no_output : (sets : List PlainMarks) → (marks_at sets (slice_index places n)).flow ≡ false → (turn row : ℕ) → Stands (Merging branches) places sets row → merger_class n row turn ≡ n
   no_output sets fails turn row s = elim (still_or sets row s) [ inl still ↦ still_class sets row s turn still | inr f ↦ let holds = f.2 in absurd (cc) ]
 
-  pub no_input : (sets : List Marks) → ((o : ℕ) → o < n → (marks_at sets (slice_index places o)).flow ≡ false) → (turn row : ℕ) → Stands (Merging branches) places sets row → merger_class n row turn ≡ n
+  pub no_input : (sets : List PlainMarks) → ((o : ℕ) → o < n → (marks_at sets (slice_index places o)).flow ≡ false) → (turn row : ℕ) → Stands (Merging branches) places sets row → merger_class n row turn ≡ n
   no_input sets none turn row s = elim (still_or sets row s) [ inl still ↦ still_class sets row s turn still | inr f ↦ let fails = none row f.0 in let holds = f.1 in absurd (cc) ]
 
-  pub unchanged : (sets : List Marks) → (marks_at sets (slice_index places n)).flow ≡ false → (turn : ℕ) → IsClassed (Merging branches) places turn sets sets
+  pub unchanged : (sets : List PlainMarks) → (marks_at sets (slice_index places n)).flow ≡ false → (turn : ℕ) → IsClassed (Merging branches) places turn sets sets
   unchanged sets fails turn = record {
     elsewhere = record { one_each = refl; others = λ x none. refl };
     fewer = λ x m h. h;
@@ -452,7 +452,7 @@ module _ (branches : Branches) (places : List ℕ) (width : length places ≡ br
   flow_out i lt = mark_of_kind (apart i) (omega arith, lt) i refl n (omega arith) ∙ center_is Merger n (apart i) n refl
 
   -- The input whose turn it is flows, and the output.
-  pub flowing : (turn : ℕ) (sets mid new : List Marks) (i : ℕ) → ArePlaces (length sets) places → IsFirstInTurn (λ o. (marks_at sets (slice_index places o)).flow) n turn i
+  pub flowing : (turn : ℕ) (sets mid new : List PlainMarks) (i : ℕ) → ArePlaces (length sets) places → IsFirstInTurn (λ o. (marks_at sets (slice_index places o)).flow) n turn i
       → mid ≡ set sets (slice_index places i) (both (marks_at sets (slice_index places i)) (just F)) → new ≡ set mid (slice_index places n) (both (marks_at mid (slice_index places n)) (just F))
       → IsClassed (Merging branches) places turn sets new
   flowing turn sets mid new i are found mid_is new_is =
@@ -488,7 +488,7 @@ module _ (branches : Branches) (places : List ℕ) (width : length places ≡ br
       }
 
   -- No input can flow, and so the output does not.
-  pub stopping : (turn : ℕ) (sets new : List Marks) (allowed : Marks) → ArePlaces (length sets) places → ((o : ℕ) → o < n → (marks_at sets (slice_index places o)).flow ≡ false)
+  pub stopping : (turn : ℕ) (sets new : List PlainMarks) (allowed : PlainMarks) → ArePlaces (length sets) places → ((o : ℕ) → o < n → (marks_at sets (slice_index places o)).flow ≡ false)
       → allowed.flow ≡ false → allowed.given ≡ true → allowed.required ≡ true → new ≡ set sets (slice_index places n) (both (marks_at sets (slice_index places n)) allowed)
       → IsClassed (Merging branches) places turn sets new
   stopping turn sets new allowed are none no_flow given required is =
@@ -533,7 +533,7 @@ module _ (branches : Branches) (places : List ℕ) (width : length places ≡ br
   input_mark kind is row e = copy_mark kind is row e 0 (omega arith) ∙ center_is Replicator 0 kind 0 refl
 
   -- By row 0 the input flows, by row 1 it gives no reason, and by each other an output gives none.
-  pub copy_or : (sets : List Marks) (row : ℕ) → Stands (Replicating branches) places sets row
+  pub copy_or : (sets : List PlainMarks) (row : ℕ) → Stands (Replicating branches) places sets row
       → ((row ≡ 0) × ((marks_at sets (slice_index places 0)).flow ≡ true))
       ⊎ (((row ≡ 1) × ((marks_at sets (slice_index places 0)).required ≡ true))
       ⊎ ((x : ℕ) × (1 ≤ x) × (x < outputs + 1) × (x + 1 ≡ row) × ((marks_at sets (slice_index places x)).required ≡ true)))
@@ -569,7 +569,7 @@ module _ (branches : Branches) (places : List ℕ) (width : length places ≡ br
   class_zero : (row : ℕ) → row + 1 < outputs + 3 → replicator_class outputs row ≡ 0 → row ≡ 0
   class_zero row plain none = elim (cases_eq row 0) [ inl e ↦ e | inr ne ↦ let one = copy_class row 0 (omega (arith, ne)) plain in absurd (omega (arith, one, none)) ]
 
-  pub copying : (turn : ℕ) (sets new : List Marks) → ArePlaces (length sets) places → new ≡ set sets (slice_index places 0) (both (marks_at sets (slice_index places 0)) (just F)) → IsClassed (Replicating branches) places turn sets new
+  pub copying : (turn : ℕ) (sets new : List PlainMarks) → ArePlaces (length sets) places → new ≡ set sets (slice_index places 0) (both (marks_at sets (slice_index places 0)) (just F)) → IsClassed (Replicating branches) places turn sets new
   copying turn sets new are is =
       let form : Form = Replicating branches in
       let lt : slice_index places 0 < length sets = are.in_range 0 first_in in
@@ -583,7 +583,7 @@ module _ (branches : Branches) (places : List ℕ) (width : length places ≡ br
         only = λ row s. ap (λ (r : ℕ). replicator_class outputs r) (flow_zero row s.plain (just_has F (mark_by form row 0) (restrict_stands sets new (slice_index places 0) (just F) lt is form places 0 first_in refl are.once row s).1));
       }
 
-  pub not_copying : (turn : ℕ) (sets : List Marks) → (marks_at sets (slice_index places 0)).flow ≡ false → IsClassed (Replicating branches) places turn sets sets
+  pub not_copying : (turn : ℕ) (sets : List PlainMarks) → (marks_at sets (slice_index places 0)).flow ≡ false → IsClassed (Replicating branches) places turn sets sets
   not_copying turn sets fails = record {
     elsewhere = record { one_each = refl; others = λ x none. refl };
     fewer = λ x m h. h;

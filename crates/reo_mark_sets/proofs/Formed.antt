@@ -10,10 +10,10 @@ use Rattle.reo_net_base.specs.declared.form.Form.{Form}
 use Rattle.reo_net_base.specs.declared.form.Form.TheVariants.{Merging, Replicating}
 use Rattle.reo_net_base.specs.Branching.{merger_mark, replicator_mark, inputs_and_output, input_and_outputs}
 use Rattle.reo_net_base.specs.Forms.{rows_by, mark_by}
-use Rattle.reo_mark_sets.specs.declared.marks.Marks.{Marks}
+use Rattle.reo_mark_sets.specs.declared.marks.PlainMarks.{PlainMarks}
 use Rattle.reo_mark_sets.specs.declared.stars.Star.{Star}
 use Rattle.reo_mark_sets.specs.declared.stars.Star.TheVariants.{Merger, Replicator}
-use Rattle.reo_mark_sets.specs.Marks.{has, open_at}
+use Rattle.reo_mark_sets.specs.PlainMarks.{has, open_at}
 use Rattle.reo_mark_sets.specs.Standing.{Works, IsNarrowed, SomeWorks}
 use Rattle.reo_mark_sets.specs.Stars.{Kind, kind_mark, IsKind, IsStar, KindWorks, IsStarNarrowed}
 use Rattle.reo_mark_sets.specs.Stars.Kind.{apart, rest, other}
@@ -24,7 +24,7 @@ pub record HasKinds (form : Form) (star : Star) (center from to width : ℕ) (ro
   pub mark : (kind : Kind) (o : ℕ) → IsKind from to kind → o < width → mark_by form (row_of kind) o ≡ kind_mark star center kind o
   pub each : (row : ℕ) → row + 1 < rows_by form → (kind : Kind) × IsKind from to kind × (row_of kind ≡ row)
 
-module _ (form : Form) (star : Star) (center from to : ℕ) (row_of : Kind → ℕ) (places : List ℕ) (sets : List Marks) (kinds : HasKinds form star center from to (length places) row_of) where
+module _ (form : Form) (star : Star) (center from to : ℕ) (row_of : Kind → ℕ) (places : List ℕ) (sets : List PlainMarks) (kinds : HasKinds form star center from to (length places) row_of) where
   works_kind : (kind : Kind) → KindWorks star center from to places sets kind → Works form places sets (row_of kind)
   works_kind kind w = record {
     plain = kinds.plain kind w.is_kind;
@@ -42,7 +42,7 @@ module _ (form : Form) (star : Star) (center from to : ℕ) (row_of : Kind → �
         k.2,
       )
 
-  pub narrowed_by_kind : (new : List Marks) → IsStarNarrowed star center from to places sets new → IsNarrowed form places sets new
+  pub narrowed_by_kind : (new : List PlainMarks) → IsStarNarrowed star center from to places sets new → IsNarrowed form places sets new
   narrowed_by_kind new is = record {
     elsewhere = is.elsewhere;
     exact = λ o mark lt. (

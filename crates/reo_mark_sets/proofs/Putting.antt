@@ -5,8 +5,8 @@ use Rattle.std.proofs.Math.Bool.{beq}
 use Rattle.std.proofs.lemmas.Bool.{and_parts, cases_eq}
 use Rattle.std.proofs.lemmas.List.Elements.{Contains-get_or}
 use Rattle.std.proofs.lemmas.List.{set-get_or, length-set}
-use Rattle.reo_mark_sets.specs.declared.marks.Marks.{Marks}
-use Rattle.reo_mark_sets.specs.Marks.{marks_at, no_marks, open_at, met, partner}
+use Rattle.reo_mark_sets.specs.declared.marks.PlainMarks.{PlainMarks}
+use Rattle.reo_mark_sets.specs.PlainMarks.{marks_at, no_marks, open_at, met, partner}
 use Rattle.reo_mark_sets.specs.Standing.{ArePlaces, AreElsewhere}
 use Rattle.reo_mark_sets.specs.Stars.{IsStar}
 
@@ -16,7 +16,7 @@ same_bool true false h = cc
 same_bool false true h = cc
 same_bool false false h = refl
 
-pub same_marks : (a b : Marks) → (beq a.flow b.flow && (beq a.given b.given && beq a.required b.required)) ≡ true → a ≡ b
+pub same_marks : (a b : PlainMarks) → (beq a.flow b.flow && (beq a.given b.given && beq a.required b.required)) ≡ true → a ≡ b
 same_marks a b h =
     let one = and_parts (beq a.flow b.flow) (beq a.given b.given && beq a.required b.required) h in
     let two = and_parts (beq a.given b.given) (beq a.required b.required) one.1 in
@@ -26,18 +26,18 @@ same_marks a b h =
     λ i. record { flow = f i; given = g i; required = r i }
 
 -- Marks that are there already change nothing.
-pub put_same : (sets : List Marks) (place : ℕ) (there marks : Marks) → there ≡ marks_at sets place → (beq there.flow marks.flow && (beq there.given marks.given && beq there.required marks.required)) ≡ true
+pub put_same : (sets : List PlainMarks) (place : ℕ) (there marks : PlainMarks) → there ≡ marks_at sets place → (beq there.flow marks.flow && (beq there.given marks.given && beq there.required marks.required)) ≡ true
     → sets ≡ set sets place marks
 put_same sets place there marks is same = sym (ap (set sets place) (sym (same_marks there marks same) ∙ is) ∙ set-get_or sets place no_marks)
 
-pub marks_here : (sets : List Marks) (place : ℕ) (marks : Marks) → place < length sets → marks_at (set sets place marks) place ≡ marks
+pub marks_here : (sets : List PlainMarks) (place : ℕ) (marks : PlainMarks) → place < length sets → marks_at (set sets place marks) place ≡ marks
 marks_here sets place marks lt = get_or-set_same sets place marks no_marks lt
 
-pub marks_other : (sets : List Marks) (place x : ℕ) (marks : Marks) → x ≢ place → marks_at (set sets place marks) x ≡ marks_at sets x
+pub marks_other : (sets : List PlainMarks) (place x : ℕ) (marks : PlainMarks) → x ≢ place → marks_at (set sets place marks) x ≡ marks_at sets x
 marks_other sets place x marks ne = get_or-set_other sets place x marks no_marks ne
 
 -- Marks put at one place after another.
-module _ (places : List ℕ) (initial now : List Marks) (are : ArePlaces (length initial) places) (from end : ℕ) (in_range : end < length places) (one_each : length now ≡ length initial)
+module _ (places : List ℕ) (initial now : List PlainMarks) (are : ArePlaces (length initial) places) (from end : ℕ) (in_range : end < length places) (one_each : length now ≡ length initial)
     (others : (x : ℕ) → ((o : ℕ) → from ≤ o → o < end → slice_index places o ≡ x → ⊥) → marks_at now x ≡ marks_at initial x) where
   here_same : marks_at now (slice_index places end) ≡ marks_at initial (slice_index places end)
   here_same = others (slice_index places end) (λ o le lt same. let e : o ≡ end = are.once o end (omega (arith, lt, in_range)) in_range same in omega (arith, lt, e))
@@ -48,8 +48,8 @@ module _ (places : List ℕ) (initial now : List Marks) (are : ArePlaces (length
   pub open_same : open_at now (slice_index places end) ≡ open_at initial (slice_index places end)
   open_same i = met (here_same i) (there_same i)
 
-  module _ (marks : Marks) where
-    abbrev new : List Marks
+  module _ (marks : PlainMarks) where
+    abbrev new : List PlainMarks
     new = set now (slice_index places end) marks
 
     pub one_each_put : length new ≡ length initial
@@ -66,7 +66,7 @@ module _ (places : List ℕ) (initial now : List Marks) (are : ArePlaces (length
     pub done_before : (o : ℕ) → o < end → marks_at new (slice_index places o) ≡ marks_at now (slice_index places o)
     done_before o lt = marks_other now (slice_index places end) (slice_index places o) marks (λ same. let e : o ≡ end = are.once o end (omega (arith, lt, in_range)) in_range same in omega (arith, lt, e))
 
-    pub done_put : (f : Marks → ℕ → Marks) → marks ≡ f (open_at initial (slice_index places end)) end
+    pub done_put : (f : PlainMarks → ℕ → PlainMarks) → marks ≡ f (open_at initial (slice_index places end)) end
         → ((o : ℕ) → from ≤ o → o < end → marks_at now (slice_index places o) ≡ f (open_at initial (slice_index places o)) o)
         → (o : ℕ) → from ≤ o → o < end + 1 → marks_at new (slice_index places o) ≡ f (open_at initial (slice_index places o)) o
     done_put f here before o le lt = elim (cases_eq o end) [
@@ -78,9 +78,9 @@ pub contains_at : (places : List ℕ) (o x : ℕ) → o < length places → slic
 contains_at places o x lt same = subst (λ (y : ℕ). Contains places y) same (Contains-get_or places o 0 lt)
 
 -- Marks put at the center behind all others.
-module _ (places : List ℕ) (initial now : List Marks) (are : ArePlaces (length initial) places) (center from to : ℕ) (is : IsStar (length places) center from to) (one_each : length now ≡ length initial)
-    (others : (x : ℕ) → ((o : ℕ) → from ≤ o → o < to → slice_index places o ≡ x → ⊥) → marks_at now x ≡ marks_at initial x) (marks : Marks) where
-  abbrev whole : List Marks
+module _ (places : List ℕ) (initial now : List PlainMarks) (are : ArePlaces (length initial) places) (center from to : ℕ) (is : IsStar (length places) center from to) (one_each : length now ≡ length initial)
+    (others : (x : ℕ) → ((o : ℕ) → from ≤ o → o < to → slice_index places o ≡ x → ⊥) → marks_at now x ≡ marks_at initial x) (marks : PlainMarks) where
+  abbrev whole : List PlainMarks
   whole = set now (slice_index places center) marks
 
   pub star_elsewhere : AreElsewhere places initial whole

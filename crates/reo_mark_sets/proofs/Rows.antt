@@ -5,8 +5,8 @@ use Rattle.reo_values.proofs.Truths.{either}
 use Rattle.reo_net_base.specs.declared.mark.Mark.{Mark}
 use Rattle.reo_net_base.specs.declared.mark.Mark.TheVariants.{F, G, R, J}
 use Rattle.reo_net_base.specs.Rows.{Rows, mark_in}
-use Rattle.reo_mark_sets.specs.declared.marks.Marks.{Marks}
-use Rattle.reo_mark_sets.specs.Marks.{has, is_mark, marks_where}
+use Rattle.reo_mark_sets.specs.declared.marks.PlainMarks.{PlainMarks}
+use Rattle.reo_mark_sets.specs.PlainMarks.{has, is_mark, marks_where}
 use Rattle.reo_mark_sets.specs.Listed.{mark_of, is_used, used_at}
 use Rattle.reo_mark_sets.proofs.Starring.{or_left, or_right}
 
@@ -44,7 +44,7 @@ where_has test R h = h
 where_has test J h = cc
 
 -- No end has jam.
-pub has_where : (test : Mark → Bool) (marks : Marks) (m : Mark) → has marks m ≡ true → test m ≡ true → has (marks_where test) m ≡ true
+pub has_where : (test : Mark → Bool) (marks : PlainMarks) (m : Mark) → has marks m ≡ true → test m ≡ true → has (marks_where test) m ≡ true
 has_where test marks F real h = h
 has_where test marks G real h = h
 has_where test marks R real h = h
@@ -70,7 +70,7 @@ uses (row ∷ rows) fits end m zero lt fit is = or_left (fits row && is_mark m (
 uses (row ∷ rows) fits end m (suc r) lt fit is = or_right (fits row && is_mark m (mark_of row end)) (is_used rows fits end m) (uses rows fits end m r (omega arith) fit is)
 
 -- The marks at an end are just those of the rows that pass the test, where these have no jam there.
-pub used_exact : (rows : Rows) (fits : List Mark → Bool) (end : ℕ) (marks : Marks) → ((r : ℕ) → fits (row_in rows r) ≡ true → has marks (mark_in rows r end) ≡ true) → (m : Mark)
+pub used_exact : (rows : Rows) (fits : List Mark → Bool) (end : ℕ) (marks : PlainMarks) → ((r : ℕ) → fits (row_in rows r) ≡ true → has marks (mark_in rows r end) ≡ true) → (m : Mark)
     → (has (used_at rows fits end) m ≡ true) ↔ Uses rows fits end m
 used_exact rows fits end marks real m = (
   λ h. used_by rows fits end m (where_has (is_used rows fits end) m h),
@@ -78,13 +78,13 @@ used_exact rows fits end marks real m = (
 )
 
 -- Some marks.
-pub some_has : (marks : Marks) → (marks.flow || (marks.given || marks.required)) ≡ true → (m : Mark) × (has marks m ≡ true)
+pub some_has : (marks : PlainMarks) → (marks.flow || (marks.given || marks.required)) ≡ true → (m : Mark) × (has marks m ≡ true)
 some_has marks h = elim (either marks.flow (marks.given || marks.required) h) [
   | inl x ↦ (F, x)
   | inr y ↦ elim (either marks.given marks.required y) [ inl x ↦ (G, x) | inr x ↦ (R, x) ]
 ]
 
-pub has_some : (marks : Marks) (m : Mark) → has marks m ≡ true → (marks.flow || (marks.given || marks.required)) ≡ true
+pub has_some : (marks : PlainMarks) (m : Mark) → has marks m ≡ true → (marks.flow || (marks.given || marks.required)) ≡ true
 has_some marks F h = or_left marks.flow (marks.given || marks.required) h
 has_some marks G h = or_right marks.flow (marks.given || marks.required) (or_left marks.given marks.required h)
 has_some marks R h = or_right marks.flow (marks.given || marks.required) (or_right marks.given marks.required h)

@@ -5,12 +5,12 @@ use Rattle.std.proofs.lemmas.Bool.{cases_eq, cases_Bool, and_parts, and_from}
 use Rattle.reo_net_base.specs.declared.mark.Mark.{Mark}
 use Rattle.reo_net_base.specs.declared.mark.Mark.TheVariants.{F, G, R, J}
 use Rattle.reo_net_base.specs.Rows.{alike}
-use Rattle.reo_mark_sets.specs.declared.marks.Marks.{Marks}
-use Rattle.reo_mark_sets.specs.declared.tallies.Tally.{Tally}
-use Rattle.reo_mark_sets.specs.declared.tallies.Tally.TheVariants.{Nowhere, Once, Often}
+use Rattle.reo_mark_sets.specs.declared.marks.PlainMarks.{PlainMarks}
+use Rattle.reo_mark_sets.specs.declared.tallies.Multiplicity.{Multiplicity}
+use Rattle.reo_mark_sets.specs.declared.tallies.Multiplicity.TheVariants.{Nowhere, Once, Often}
 use Rattle.reo_mark_sets.specs.declared.stars.Star.{Star}
 use Rattle.reo_mark_sets.specs.declared.stars.Star.TheVariants.{Merger, Replicator}
-use Rattle.reo_mark_sets.specs.Marks.{has, marks_at, open_at}
+use Rattle.reo_mark_sets.specs.PlainMarks.{has, marks_at, open_at}
 use Rattle.reo_mark_sets.specs.Standing.{AreElsewhere}
 use Rattle.reo_mark_sets.specs.Stars.{apart_mark, center_apart, other_mark, center_other, kind_mark, IsKind, IsStar, KindWorks, AreAparts, IsStarNarrowed, may_be, may_another, may_some, center_left, spoke_left}
 use Rattle.reo_mark_sets.specs.Stars.Kind.{apart, rest, other}
@@ -50,7 +50,7 @@ spoke_is star center rest o e = ap (λ (t : Bool). cond t R G) (other_eq o cente
 spoke_is star center other o e = ap (λ (t : Bool). cond t (center_other star) (other_mark star)) (other_eq o center e)
 
 -- What is left at the center, mark by mark.
-center_left_has : (star : Star) (a : Tally) (r o : Bool) (mark : Mark) → has (center_left star a r o) mark ≡ true
+center_left_has : (star : Star) (a : Multiplicity) (r o : Bool) (mark : Mark) → has (center_left star a r o) mark ≡ true
     → ((may_some a ≡ true) × (center_apart star ≡ mark)) ⊎ (((r ≡ true) × (R ≡ mark)) ⊎ ((o ≡ true) × (center_other star ≡ mark)))
 center_left_has Merger a r o F h = inl (h, refl)
 center_left_has Merger a r o G h = inr (inr (h, refl))
@@ -61,20 +61,20 @@ center_left_has Replicator a r o G h = inl (h, refl)
 center_left_has Replicator a r o R h = inr (inl (h, refl))
 center_left_has Replicator a r o J h = cc
 
-center_left_apart : (star : Star) (a : Tally) (r o : Bool) → may_some a ≡ true → has (center_left star a r o) (center_apart star) ≡ true
+center_left_apart : (star : Star) (a : Multiplicity) (r o : Bool) → may_some a ≡ true → has (center_left star a r o) (center_apart star) ≡ true
 center_left_apart Merger a r o h = h
 center_left_apart Replicator a r o h = h
 
-center_left_rest : (star : Star) (a : Tally) (r o : Bool) → r ≡ true → has (center_left star a r o) R ≡ true
+center_left_rest : (star : Star) (a : Multiplicity) (r o : Bool) → r ≡ true → has (center_left star a r o) R ≡ true
 center_left_rest Merger a r o h = h
 center_left_rest Replicator a r o h = h
 
-center_left_other : (star : Star) (a : Tally) (r o : Bool) → o ≡ true → has (center_left star a r o) (center_other star) ≡ true
+center_left_other : (star : Star) (a : Multiplicity) (r o : Bool) → o ≡ true → has (center_left star a r o) (center_other star) ≡ true
 center_left_other Merger a r o h = h
 center_left_other Replicator a r o h = h
 
 -- And at another end.
-spoke_left_has : (star : Star) (a : Tally) (r o : Bool) (marks : Marks) (e : ℕ) (mark : Mark) → has (spoke_left star a r o marks e) mark ≡ true
+spoke_left_has : (star : Star) (a : Multiplicity) (r o : Bool) (marks : PlainMarks) (e : ℕ) (mark : Mark) → has (spoke_left star a r o marks e) mark ≡ true
     → ((may_be a e ≡ true) × (has marks (apart_mark star) ≡ true) × (apart_mark star ≡ mark)) ⊎ (((r ≡ true) × (G ≡ mark)) ⊎ (((may_another a e ≡ true) × (G ≡ mark)) ⊎ ((o ≡ true) × (other_mark star ≡ mark))))
 spoke_left_has Merger a r o marks e F h = let both = and_parts (may_be a e) marks.flow h in inl (both.0, both.1, refl)
 spoke_left_has Merger a r o marks e G h = elim (either r (may_another a e) h) [ inl x ↦ inr (inl (x, refl)) | inr y ↦ inr (inr (inl (y, refl))) ]
@@ -85,20 +85,20 @@ spoke_left_has Replicator a r o marks e G h = elim (either r (may_another a e) h
 spoke_left_has Replicator a r o marks e R h = let both = and_parts (may_be a e) marks.required h in inl (both.0, both.1, refl)
 spoke_left_has Replicator a r o marks e J h = cc
 
-spoke_left_apart : (star : Star) (a : Tally) (r o : Bool) (marks : Marks) (e : ℕ) → may_be a e ≡ true → has marks (apart_mark star) ≡ true → has (spoke_left star a r o marks e) (apart_mark star) ≡ true
+spoke_left_apart : (star : Star) (a : Multiplicity) (r o : Bool) (marks : PlainMarks) (e : ℕ) → may_be a e ≡ true → has marks (apart_mark star) ≡ true → has (spoke_left star a r o marks e) (apart_mark star) ≡ true
 spoke_left_apart Merger a r o marks e x y = and_from (may_be a e) marks.flow x y
 spoke_left_apart Replicator a r o marks e x y = and_from (may_be a e) marks.required x y
 
-spoke_left_beside : (star : Star) (a : Tally) (r o : Bool) (marks : Marks) (e : ℕ) → (r || may_another a e) ≡ true → has (spoke_left star a r o marks e) G ≡ true
+spoke_left_beside : (star : Star) (a : Multiplicity) (r o : Bool) (marks : PlainMarks) (e : ℕ) → (r || may_another a e) ≡ true → has (spoke_left star a r o marks e) G ≡ true
 spoke_left_beside Merger a r o marks e h = h
 spoke_left_beside Replicator a r o marks e h = h
 
-spoke_left_other : (star : Star) (a : Tally) (r o : Bool) (marks : Marks) (e : ℕ) → o ≡ true → has (spoke_left star a r o marks e) (other_mark star) ≡ true
+spoke_left_other : (star : Star) (a : Multiplicity) (r o : Bool) (marks : PlainMarks) (e : ℕ) → o ≡ true → has (spoke_left star a r o marks e) (other_mark star) ≡ true
 spoke_left_other Merger a r o marks e h = h
 spoke_left_other Replicator a r o marks e h = h
 
-module _ (star : Star) (center from to : ℕ) (places : List ℕ) (sets : List Marks) (is : IsStar (length places) center from to) where
-  abbrev left : ℕ → Marks
+module _ (star : Star) (center from to : ℕ) (places : List ℕ) (sets : List PlainMarks) (is : IsStar (length places) center from to) where
+  abbrev left : ℕ → PlainMarks
   left o = open_at sets (slice_index places o)
 
   abbrev Works : Kind → Type 0
@@ -147,7 +147,7 @@ module _ (star : Star) (center from to : ℕ) (places : List ℕ) (sets : List M
   ])
 
   module _ (here : has (left center) (center_apart star) ≡ true) where
-    pub aparts_all : (t : Tally) → ((o : ℕ) → from ≤ o → o < to → alike false (has (left o) G) ≡ false) → IsTally (λ o. alike true (has (left o) (apart_mark star))) from to t → AreAparts star center from to places sets t
+    pub aparts_all : (t : Multiplicity) → ((o : ℕ) → from ≤ o → o < to → alike false (has (left o) G) ≡ false) → IsTally (λ o. alike true (has (left o) (apart_mark star))) from to t → AreAparts star center from to places sets t
     aparts_all Nowhere all tally = λ x w. let there : has (left x) (apart_mark star) ≡ false = tally x w.is_kind.0 w.is_kind.1 in let yet = apart_has x w in cc
     aparts_all (Once i) all tally = (
       apart_from i tally.after tally.in_range here tally.here (λ o le lt ne. not_false (has (left o) G) (all o le lt)),
@@ -196,28 +196,28 @@ module _ (star : Star) (center from to : ℕ) (places : List ℕ) (sets : List M
     ]
 
   -- What is left, and which rows work.
-  module _ (aparts : Tally) (rests others : Bool) (are : AreAparts star center from to places sets aparts) (rest_is : IsTrue rests ↔ Works rest) (other_is : IsTrue others ↔ Works other) where
-    some_apart : (t : Tally) → AreAparts star center from to places sets t → may_some t ≡ true → (x : ℕ) × Works (apart x)
+  module _ (aparts : Multiplicity) (rests others : Bool) (are : AreAparts star center from to places sets aparts) (rest_is : IsTrue rests ↔ Works rest) (other_is : IsTrue others ↔ Works other) where
+    some_apart : (t : Multiplicity) → AreAparts star center from to places sets t → may_some t ≡ true → (x : ℕ) × Works (apart x)
     some_apart Nowhere a h = cc
     some_apart (Once i) a h = (i, a.0)
     some_apart Often a h = (a.1.one, a.0 a.1.one a.1.after (omega (arith, a.1.before, a.1.in_range)) a.1.here)
 
-    apart_some : (t : Tally) → AreAparts star center from to places sets t → (x : ℕ) → Works (apart x) → may_some t ≡ true
+    apart_some : (t : Multiplicity) → AreAparts star center from to places sets t → (x : ℕ) → Works (apart x) → may_some t ≡ true
     apart_some Nowhere a x w = absurd (a x w)
     apart_some (Once i) a x w = refl
     apart_some Often a x w = refl
 
-    here_apart : (t : Tally) → AreAparts star center from to places sets t → (o : ℕ) → from ≤ o → o < to → may_be t o ≡ true → has (left o) (apart_mark star) ≡ true → Works (apart o)
+    here_apart : (t : Multiplicity) → AreAparts star center from to places sets t → (o : ℕ) → from ≤ o → o < to → may_be t o ≡ true → has (left o) (apart_mark star) ≡ true → Works (apart o)
     here_apart Nowhere a o le lt h there = cc
     here_apart (Once i) a o le lt h there = subst (λ (x : ℕ). Works (apart x)) (eq_same i o h) a.0
     here_apart Often a o le lt h there = a.0 o le lt there
 
-    apart_here : (t : Tally) → AreAparts star center from to places sets t → (o : ℕ) → Works (apart o) → may_be t o ≡ true
+    apart_here : (t : Multiplicity) → AreAparts star center from to places sets t → (o : ℕ) → Works (apart o) → may_be t o ≡ true
     apart_here Nowhere a o w = absurd (a o w)
     apart_here (Once i) a o w = same_eq i o (sym (a.1 o w))
     apart_here Often a o w = refl
 
-    another_apart : (t : Tally) → AreAparts star center from to places sets t → (o : ℕ) → may_another t o ≡ true → (x : ℕ) × Works (apart x) × (o ≢ x)
+    another_apart : (t : Multiplicity) → AreAparts star center from to places sets t → (o : ℕ) → may_another t o ≡ true → (x : ℕ) × Works (apart x) × (o ≢ x)
     another_apart Nowhere a o h = cc
     another_apart (Once i) a o h = (i, a.0, λ e. let same : (i == o) ≡ true = same_eq i o (sym e) in let not_same : not true ≡ true = subst (λ (t : Bool). not t ≡ true) same h in cc)
     another_apart Often a o h = elim (cases_eq a.1.one o) [
@@ -225,7 +225,7 @@ module _ (star : Star) (center from to : ℕ) (places : List ℕ) (sets : List M
       | inr ne ↦ (a.1.one, a.0 a.1.one a.1.after (omega (arith, a.1.before, a.1.in_range)) a.1.here, λ f. ne (sym f))
     ]
 
-    apart_another : (t : Tally) → AreAparts star center from to places sets t → (x o : ℕ) → Works (apart x) → o ≢ x → may_another t o ≡ true
+    apart_another : (t : Multiplicity) → AreAparts star center from to places sets t → (x o : ℕ) → Works (apart x) → o ≢ x → may_another t o ≡ true
     apart_another Nowhere a x o w ne = absurd (a x w)
     apart_another (Once i) a x o w ne = ap not (other_eq i o (λ e. ne (sym (a.1 x w ∙ e))))
     apart_another Often a x o w ne = refl
@@ -271,7 +271,7 @@ module _ (star : Star) (center from to : ℕ) (places : List ℕ) (sets : List M
       has_spoke other w = spoke_left_other star aparts rests others (left o) o (other_is.1 w)
 
     -- Just the marks of rows that work are left.
-    pub star_exact : (new : List Marks) → AreElsewhere places sets new → marks_at new (slice_index places center) ≡ center_left star aparts rests others
+    pub star_exact : (new : List PlainMarks) → AreElsewhere places sets new → marks_at new (slice_index places center) ≡ center_left star aparts rests others
         → ((o : ℕ) → from ≤ o → o < to → marks_at new (slice_index places o) ≡ spoke_left star aparts rests others (left o) o)
         → IsStarNarrowed star center from to places sets new
     star_exact new elsewhere at_center at_spokes = record {
@@ -279,14 +279,14 @@ module _ (star : Star) (center from to : ℕ) (places : List ℕ) (sets : List M
       exact = λ o mark o_in. elim (is.all o o_in) [
         | inl e ↦
             let here : marks_at new (slice_index places o) ≡ center_left star aparts rests others = ap (λ (c : ℕ). marks_at new (slice_index places c)) e ∙ at_center in (
-              λ h. let found = center_has mark (subst (λ (m : Marks). has m mark ≡ true) here h) in (found.0, found.1, center_is star center found.0 o e ∙ found.2),
-              λ found. subst (λ (m : Marks). has m mark ≡ true) (sym here) (subst (λ (x : Mark). has (center_left star aparts rests others) x ≡ true) (sym (center_is star center found.0 o e) ∙ found.2) (has_center found.0 found.1)),
+              λ h. let found = center_has mark (subst (λ (m : PlainMarks). has m mark ≡ true) here h) in (found.0, found.1, center_is star center found.0 o e ∙ found.2),
+              λ found. subst (λ (m : PlainMarks). has m mark ≡ true) (sym here) (subst (λ (x : Mark). has (center_left star aparts rests others) x ≡ true) (sym (center_is star center found.0 o e) ∙ found.2) (has_center found.0 found.1)),
             )
         | inr r ↦
             let here = at_spokes o r.0 r.1 in
             let ne = away o r.0 r.1 in (
-              λ h. let found = spoke_has o r.0 r.1 mark (subst (λ (m : Marks). has m mark ≡ true) here h) in (found.0, found.1, spoke_is star center found.0 o ne ∙ found.2),
-              λ found. subst (λ (m : Marks). has m mark ≡ true) (sym here) (subst (λ (x : Mark). has (spoke_left star aparts rests others (left o) o) x ≡ true) (sym (spoke_is star center found.0 o ne) ∙ found.2) (has_spoke o r.0 r.1 found.0 found.1)),
+              λ h. let found = spoke_has o r.0 r.1 mark (subst (λ (m : PlainMarks). has m mark ≡ true) here h) in (found.0, found.1, spoke_is star center found.0 o ne ∙ found.2),
+              λ found. subst (λ (m : PlainMarks). has m mark ≡ true) (sym here) (subst (λ (x : Mark). has (spoke_left star aparts rests others (left o) o) x ≡ true) (sym (spoke_is star center found.0 o ne) ∙ found.2) (has_spoke o r.0 r.1 found.0 found.1)),
             )
       ];
     }
@@ -310,5 +310,5 @@ module _ (star : Star) (center from to : ℕ) (places : List ℕ) (sets : List M
         some_true other w = or_right rests (others || may_some aparts) (or_left others (may_some aparts) (other_is.1 w))
 
 -- A test of marks that were read.
-pub has_told : (m n : Marks) (a b : Mark) (r t : Bool) → m ≡ n → a ≡ b → r ≡ has m a → r ≡ t → has n b ≡ t
+pub has_told : (m n : PlainMarks) (a b : Mark) (r t : Bool) → m ≡ n → a ≡ b → r ≡ has m a → r ≡ t → has n b ≡ t
 has_told m n a b r t same mark is answer = (λ i. has (sym same i) (sym mark i)) ∙ sym is ∙ answer

@@ -1,5 +1,5 @@
 pub mod Listed
-pub mod Marks
+pub mod PlainMarks
 pub mod Standing
 pub mod Stars
 pub mod Tallies

@@ -5,18 +5,18 @@ use Rattle.reo_net_base.specs.declared.mark.Mark.TheVariants.{J}
 use Rattle.reo_net_base.specs.declared.table.Table.{Table}
 use Rattle.reo_net_base.specs.declared.table.Table.TheVariants.{Ready, Resting, Together, Lossy, OneOfTwo, Filter, Spent}
 use Rattle.reo_net_base.specs.Rows.{Rows}
-use Rattle.reo_mark_sets.specs.declared.marks.Marks.{Marks}
+use Rattle.reo_mark_sets.specs.declared.marks.PlainMarks.{PlainMarks}
 use Rattle.reo_mark_sets.specs.declared.listed.Pair.{Pair}
-use Rattle.reo_mark_sets.specs.Marks.{has, is_mark, marks_where}
+use Rattle.reo_mark_sets.specs.PlainMarks.{has, is_mark, marks_where}
 
 abbrev pub mark_of : List Mark → ℕ → Mark
 mark_of row end = slice_index_or row end J
 
 -- Whether a row has one of some marks at its one end, or at each of its two ends.
-abbrev pub fits_one : Marks → List Mark → Bool
+abbrev pub fits_one : PlainMarks → List Mark → Bool
 fits_one a row = has a (mark_of row 0)
 
-abbrev pub fits_two : Marks → Marks → List Mark → Bool
+abbrev pub fits_two : PlainMarks → PlainMarks → List Mark → Bool
 fits_two a b row = has a (mark_of row 0) && has b (mark_of row 1)
 
 -- Whether some row that passes a test has a mark at an end.
@@ -25,11 +25,11 @@ is_used [] fits end mark = false
 is_used (row ∷ rows) fits end mark = (fits row && is_mark mark (mark_of row end)) || is_used rows fits end mark
 
 -- The marks at an end of the rows that pass a test.
-abbrev pub used_at : Rows → (List Mark → Bool) → ℕ → Marks
+abbrev pub used_at : Rows → (List Mark → Bool) → ℕ → PlainMarks
 used_at rows fits end = marks_where (is_used rows fits end)
 
 -- The marks of the rows that fit two ends.
-abbrev pub used_pair : Rows → Marks → Marks → Pair
+abbrev pub used_pair : Rows → PlainMarks → PlainMarks → Pair
 used_pair rows a b = record { first = used_at rows (fits_two a b) 0; second = used_at rows (fits_two a b) 1 }
 
 -- The first row that passes a test, or else the last.

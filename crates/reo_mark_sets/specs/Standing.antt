@@ -5,9 +5,9 @@ use Rattle.reo_net_base.specs.declared.mark.Mark.{Mark}
 use Rattle.reo_net_base.specs.declared.form.Form.{Form}
 use Rattle.reo_net_base.specs.declared.form.Form.TheVariants.{Single, Double, Merging, Replicating}
 use Rattle.reo_net_base.specs.Forms.{rows_by, mark_by, class_by}
-use Rattle.reo_mark_sets.specs.declared.marks.Marks.{Marks}
+use Rattle.reo_mark_sets.specs.declared.marks.PlainMarks.{PlainMarks}
 use Rattle.reo_mark_sets.specs.Listed.{is_single}
-use Rattle.reo_mark_sets.specs.Marks.{has, just, partner, marks_at, open_at, all_marks}
+use Rattle.reo_mark_sets.specs.PlainMarks.{has, just, partner, marks_at, open_at, all_marks}
 
 -- How many ends a side of a form has.
 abbrev pub width_by : Form → ℕ
@@ -33,39 +33,39 @@ pub record ArePlaces (count : ℕ) (places : List ℕ) : Type 0 where
       → partner (slice_index places o) ≢ slice_index places p
 
 -- A row, not the jam row, whose marks are among those of the places.
-pub record Stands (form : Form) (places : List ℕ) (sets : List Marks) (row : ℕ) : Type 0 where
+pub record Stands (form : Form) (places : List ℕ) (sets : List PlainMarks) (row : ℕ) : Type 0 where
   pub plain : row + 1 < rows_by form
   pub each : (o : ℕ) → o < length places
       → has (marks_at sets (slice_index places o)) (mark_by form row o) ≡ true
 
 -- A row that stands, each of whose marks meets one at the other end of its joint.
-pub record Works (form : Form) (places : List ℕ) (sets : List Marks) (row : ℕ) : Type 0 where
+pub record Works (form : Form) (places : List ℕ) (sets : List PlainMarks) (row : ℕ) : Type 0 where
   pub plain : row + 1 < rows_by form
   pub each : (o : ℕ) → o < length places
       → has (open_at sets (slice_index places o)) (mark_by form row o) ≡ true
 
 -- All that is not at the places stays.
-pub record AreElsewhere (places : List ℕ) (old new : List Marks) : Type 0 where
+pub record AreElsewhere (places : List ℕ) (old new : List PlainMarks) : Type 0 where
   pub one_each : length new ≡ length old
   pub others : (x : ℕ) → (Contains places x → ⊥) → marks_at new x ≡ marks_at old x
 
 -- At the places just the marks stay that a row has which works.
-pub record IsNarrowed (form : Form) (places : List ℕ) (old new : List Marks) : Type 0 where
+pub record IsNarrowed (form : Form) (places : List ℕ) (old new : List PlainMarks) : Type 0 where
   pub elsewhere : AreElsewhere places old new
   pub exact : (o : ℕ) (mark : Mark) → o < length places
       → (has (marks_at new (slice_index places o)) mark ≡ true)
       ↔ ((row : ℕ) × Works form places old row × (mark_by form row o ≡ mark))
 
 -- A row works.
-abbrev pub SomeWorks : Form → List ℕ → List Marks → Type 0
+abbrev pub SomeWorks : Form → List ℕ → List PlainMarks → Type 0
 SomeWorks form places sets = (row : ℕ) × Works form places sets row
 
 -- Each mark is one of those that were there.
-abbrev pub AreFewer : List Marks → List Marks → Type 0
+abbrev pub AreFewer : List PlainMarks → List PlainMarks → Type 0
 AreFewer old new = (x : ℕ) (mark : Mark) → has (marks_at new x) mark ≡ true → has (marks_at old x) mark ≡ true
 
 -- Of the rows that stand just those of the least class stay.
-pub record IsClassed (form : Form) (places : List ℕ) (turn : ℕ) (old new : List Marks) : Type 0 where
+pub record IsClassed (form : Form) (places : List ℕ) (turn : ℕ) (old new : List PlainMarks) : Type 0 where
   pub elsewhere : AreElsewhere places old new
   pub fewer : AreFewer old new
   pub class : ℕ
@@ -74,12 +74,12 @@ pub record IsClassed (form : Form) (places : List ℕ) (turn : ℕ) (old new : L
   pub only : (row : ℕ) → Stands form places new row → class_by form row turn ≡ class
 
 -- A row, not the jam row, before which none stands.
-pub record IsLeastRow (form : Form) (places : List ℕ) (sets : List Marks) (row : ℕ) : Type 0 where
+pub record IsLeastRow (form : Form) (places : List ℕ) (sets : List PlainMarks) (row : ℕ) : Type 0 where
   pub plain : row + 1 < rows_by form
   pub least : (other : ℕ) → Stands form places sets other → row ≤ other
 
 -- Just the marks of that row stay.
-pub record IsChosen (form : Form) (places : List ℕ) (row : ℕ) (old new : List Marks) : Type 0 where
+pub record IsChosen (form : Form) (places : List ℕ) (row : ℕ) (old new : List PlainMarks) : Type 0 where
   pub elsewhere : AreElsewhere places old new
   pub first : IsLeastRow form places old row
   pub exact : (o : ℕ) (mark : Mark) → o < length places
@@ -87,16 +87,16 @@ pub record IsChosen (form : Form) (places : List ℕ) (row : ℕ) (old new : Lis
       ↔ ((has (marks_at old (slice_index places o)) mark ≡ true) × (mark_by form row o ≡ mark))
 
 -- A mark that stands at a place stands there alone, and meets one.
-abbrev pub IsSole : List Marks → ℕ → Type 0
+abbrev pub IsSole : List PlainMarks → ℕ → Type 0
 IsSole sets place = (mark : Mark) → has (marks_at sets place) mark ≡ true → (marks_at sets place ≡ just mark) × (has (open_at sets place) mark ≡ true)
 
 -- The marks of that row alone stand already, and some mark at each place meets one.
-pub record IsFixed (form : Form) (places : List ℕ) (row : ℕ) (sets : List Marks) : Type 0 where
+pub record IsFixed (form : Form) (places : List ℕ) (row : ℕ) (sets : List PlainMarks) : Type 0 where
   pub chosen : IsChosen form places row sets sets
   pub meets : (o : ℕ) → o < length places → (mark : Mark) × (has (open_at sets (slice_index places o)) mark ≡ true)
 
 -- All marks stand at the places, and wherever they stood.
-pub record AreAll (places : List ℕ) (old new : List Marks) : Type 0 where
+pub record AreAll (places : List ℕ) (old new : List PlainMarks) : Type 0 where
   pub one_each : length new ≡ length old
   pub here : (o : ℕ) → o < length places → marks_at new (slice_index places o) ≡ all_marks
   pub stays : (x : ℕ) → marks_at old x ≡ all_marks → marks_at new x ≡ all_marks

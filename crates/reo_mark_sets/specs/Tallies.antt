@@ -1,8 +1,8 @@
 -- How often a test holds.
 use Rattle.std.specs.Prelude.{ℕ, ◌<◌, ◌≤◌, ◌≡◌, Bool, true, false}
 use Rattle.reo_net_base.specs.Branching.{merger_class}
-use Rattle.reo_mark_sets.specs.declared.tallies.Tally.{Tally}
-use Rattle.reo_mark_sets.specs.declared.tallies.Tally.TheVariants.{Nowhere, Once, Often}
+use Rattle.reo_mark_sets.specs.declared.tallies.Multiplicity.{Multiplicity}
+use Rattle.reo_mark_sets.specs.declared.tallies.Multiplicity.TheVariants.{Nowhere, Once, Often}
 
 -- The test holds of one number alone, from one on and below another.
 pub record HoldsOnce (test : ℕ → Bool) (from to i : ℕ) : Type 0 where
@@ -22,7 +22,7 @@ pub record HoldsOften (test : ℕ → Bool) (from to : ℕ) : Type 0 where
   pub there : test other ≡ true
 
 -- Of none of those numbers, of one, or of more.
-abbrev pub IsTally : (ℕ → Bool) → ℕ → ℕ → Tally → Type 0
+abbrev pub IsTally : (ℕ → Bool) → ℕ → ℕ → Multiplicity → Type 0
 IsTally test from to Nowhere = (e : ℕ) → from ≤ e → e < to → test e ≡ false
 IsTally test from to (Once i) = HoldsOnce test from to i
 IsTally test from to Often = HoldsOften test from to

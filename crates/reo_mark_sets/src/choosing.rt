@@ -7,20 +7,20 @@ ghost use Rattle.reo_mark_sets.specs.Listed.{is_single};
 ghost use Rattle.reo_mark_sets.specs.Standing.{ArePlaces, Stands, IsLeastRow, IsChosen, is_usual, width_by};
 
 use crate::listed::{first_one, first_two};
-use crate::marks::Marks;
-use crate::sets::Sets;
+use crate::marks::PlainMarks;
+use crate::sets::MarkSets;
 use reo_net_base::{Branches, Form, Mark, Table};
 
 /// The first row of a merger with so many inputs by which nothing flows, where its output has some
 /// marks.
-fn still_row(inputs: usize, output: Marks) -> usize
+fn still_row(inputs: usize, output: PlainMarks) -> usize
     requires { inputs ≤ 8192 }
     ensures { result ≡ cond output.required inputs (inputs + 1) }
 {
     if output.required { inputs } else { inputs + 1 }
 }
 
-impl Sets {
+impl MarkSets {
     /// At a merger.
     pub(crate) fn first_merging(&self, branches: Branches, places: &[usize]) -> usize
         requires width { length places.now ≡ branches.count + 1 }
@@ -64,7 +64,7 @@ impl Sets {
         ensures { IsChosen form places.now row self.old self.new }
     {
         for end in 0..places.len() {
-            self.restrict(places[end], Marks::just(form.mark(row, end)));
+            self.restrict(places[end], PlainMarks::just(form.mark(row, end)));
         }
     }
 
@@ -77,7 +77,7 @@ impl Sets {
         ensures { IsChosen (Single table) places.now result self.old self.new }
     {
         let row = first_one(table, self.at(places[0])).row;
-        self.restrict(places[0], Marks::just(table.mark(row, 0)));
+        self.restrict(places[0], PlainMarks::just(table.mark(row, 0)));
         row
     }
 
@@ -89,8 +89,8 @@ impl Sets {
         ensures { IsChosen (Double table) places.now result self.old self.new }
     {
         let row = first_two(table, self.at(places[0]), self.at(places[1])).row;
-        self.restrict(places[0], Marks::just(table.mark(row, 0)));
-        self.restrict(places[1], Marks::just(table.mark(row, 1)));
+        self.restrict(places[0], PlainMarks::just(table.mark(row, 0)));
+        self.restrict(places[1], PlainMarks::just(table.mark(row, 1)));
         row
     }
 

@@ -3,17 +3,17 @@ ghost use Rattle.std.specs.Prelude.{◌≡◌, ◌+◌, ◌<◌, ◌≤◌, ℕ,
 ghost use Rattle.reo_net_base.specs.Branching.{beginning};
 ghost use Rattle.reo_net_base.specs.declared.form.Form.TheVariants.{Single, Double, Merging, Replicating};
 ghost use Rattle.reo_mark_sets.specs.Listed.{is_single};
-ghost use Rattle.reo_mark_sets.specs.Marks.{marks_at};
+ghost use Rattle.reo_mark_sets.specs.PlainMarks.{marks_at};
 ghost use Rattle.reo_mark_sets.specs.Standing.{ArePlaces, IsClassed, is_usual, width_by};
 ghost use Rattle.reo_mark_sets.specs.Tallies.{IsFirstInTurn};
 
 use crate::listed::{classed_one, classed_two};
-use crate::marks::Marks;
-use crate::sets::Sets;
+use crate::marks::PlainMarks;
+use crate::sets::MarkSets;
 use reo_net_base::{Branches, Form, Mark, Table};
 
 /// All marks without flow.
-const STILL: Marks = Marks {
+const STILL: PlainMarks = PlainMarks {
     flow: false,
     given: true,
     required: true,
@@ -26,7 +26,7 @@ fn beginning(branches: Branches, turn: u64) -> usize
     (turn.saturating_sub(1) % (branches.count as u64)) as usize
 }
 
-impl Sets {
+impl MarkSets {
     /// At a side with one end.
     fn class_single(&mut self, table: Table, places: &[usize])
         requires width { length places.now ≡ 1 }
@@ -79,8 +79,8 @@ impl Sets {
         }
         match self.first_in_turn(branches, places, turn) {
             Some(input) => {
-                self.restrict(places[input], Marks::just(Mark::F));
-                self.restrict(places[output], Marks::just(Mark::F));
+                self.restrict(places[input], PlainMarks::just(Mark::F));
+                self.restrict(places[output], PlainMarks::just(Mark::F));
             }
             None => self.restrict(places[output], STILL),
         }
@@ -93,7 +93,7 @@ impl Sets {
         ensures { (turn : ℕ) → IsClassed (Replicating branches) places.now turn self.old self.new }
     {
         if self.at(places[0]).flow {
-            self.restrict(places[0], Marks::just(Mark::F));
+            self.restrict(places[0], PlainMarks::just(Mark::F));
         }
     }
 

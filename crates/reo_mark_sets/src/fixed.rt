@@ -2,14 +2,14 @@
 ghost use Rattle.std.specs.Prelude.{◌≡◌, ◌+◌, ◌<◌, IfSome, length, true, false};
 ghost use Rattle.reo_net_base.specs.declared.form.Form.TheVariants.{Single, Double, Replicating};
 ghost use Rattle.reo_mark_sets.specs.Listed.{is_single};
-ghost use Rattle.reo_mark_sets.specs.Marks.{marks_at, partner};
+ghost use Rattle.reo_mark_sets.specs.PlainMarks.{marks_at, partner};
 ghost use Rattle.reo_mark_sets.specs.Standing.{ArePlaces, IsFixed, IsLeastRow, IsSole, is_usual, width_by};
 
 use crate::listed::{first_one, first_two};
-use crate::sets::{Sets, partner};
+use crate::sets::{MarkSets, partner};
 use reo_net_base::{Branches, Form, Table};
 
-impl Sets {
+impl MarkSets {
     /// Whether no two marks are at a place, and one meets one at the other end of the joint.
     fn is_sole(&self, place: usize) -> bool
         requires place { place < length self.now }

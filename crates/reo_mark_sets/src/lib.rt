@@ -14,5 +14,5 @@ mod stars;
 mod tallies;
 
 pub use forms::is_usual;
-pub use marks::Marks;
-pub use sets::Sets;
+pub use marks::PlainMarks;
+pub use sets::MarkSets;

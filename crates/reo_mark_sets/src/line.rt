@@ -48,7 +48,7 @@ impl Stack {
 
 /// When a side is narrowed, and whether it waits.
 #[derive(Clone, Copy)]
-struct Entry {
+struct Waiting {
     rank: Rank,
     waits: bool,
 }
@@ -56,21 +56,21 @@ struct Entry {
 /// Sides that wait: each once, by their ranks. What waits decides how much is narrowed, and never
 /// what is right: no contract speaks of it.
 #[derive(Drop)]
-pub(crate) struct Line {
-    entries: List<Entry>,
+pub(crate) struct WaitingLine {
+    entries: List<Waiting>,
     soon: Stack,
     later: Stack,
     last: Stack,
 }
 
-impl Line {
+impl WaitingLine {
     /// For so many sides, none of which waits. `NoMemory` is out of memory.
-    pub(crate) fn new(alloc: Global, sides: usize) -> Result<Line, NoMemory> {
-        let entry = Entry {
+    pub(crate) fn new(alloc: Global, sides: usize) -> Result<WaitingLine, NoMemory> {
+        let entry = Waiting {
             rank: Rank::Soon,
             waits: false,
         };
-        Ok(Line {
+        Ok(WaitingLine {
             entries: filled(alloc, entry, sides)?,
             soon: Stack::new(alloc, sides)?,
             later: Stack::new(alloc, sides)?,
@@ -92,7 +92,7 @@ impl Line {
         if side >= self.entries.len() {
             return;
         }
-        *self.entries.at_mut(side) = Entry { rank, waits };
+        *self.entries.at_mut(side) = Waiting { rank, waits };
         if waits {
             self.put(side, rank);
         }
@@ -107,7 +107,7 @@ impl Line {
         if entry.waits {
             return;
         }
-        *self.entries.at_mut(side) = Entry {
+        *self.entries.at_mut(side) = Waiting {
             rank: entry.rank,
             waits: true,
         };
@@ -130,7 +130,7 @@ impl Line {
         let side = self.take()?;
         if side < self.entries.len() {
             let rank = self.entries.at(side).rank;
-            *self.entries.at_mut(side) = Entry { rank, waits: false };
+            *self.entries.at_mut(side) = Waiting { rank, waits: false };
         }
         Some(side)
     }

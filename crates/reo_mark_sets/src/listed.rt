@@ -3,23 +3,23 @@ ghost use Rattle.std.specs.Prelude.{◌≡◌, ◌&&◌, true, false};
 ghost use Rattle.reo_net_base.specs.Rows.{classes_of, mark_in};
 ghost use Rattle.reo_net_base.specs.Tables.{rows_of};
 ghost use Rattle.reo_mark_sets.specs.Listed.{used_at, used_pair, fits_one, fits_two, first_fit, are_taken, is_single};
-ghost use Rattle.reo_mark_sets.specs.Marks.{has, only, are_within};
+ghost use Rattle.reo_mark_sets.specs.PlainMarks.{has, only, are_within};
 
-use crate::marks::Marks;
+use crate::marks::PlainMarks;
 use reo_net_base::{Mark, Table};
 
 /// Marks of two ends.
 #[derive(Clone, Copy)]
 pub(crate) struct Pair {
-    pub first: Marks,
-    pub second: Marks,
+    pub first: PlainMarks,
+    pub second: PlainMarks,
 }
 
 /// The marks of an end of some rows, and their class.
 #[derive(Clone, Copy)]
 pub(crate) struct OfClass {
     pub class: usize,
-    pub marks: Marks,
+    pub marks: PlainMarks,
 }
 
 /// The marks of two ends of some rows, and their class.
@@ -37,16 +37,16 @@ pub(crate) struct Fit {
 }
 
 /// The marks that the rows with one of some marks have at their one end.
-pub(crate) fn narrowed_one(table: Table, a: Marks) -> Marks
+pub(crate) fn narrowed_one(table: Table, a: PlainMarks) -> PlainMarks
     ensures { result ≡ used_at (rows_of table) (fits_one a) 0 }
 {
     match table {
-        Table::Ready | Table::Lossy => Marks {
+        Table::Ready | Table::Lossy => PlainMarks {
             flow: a.flow,
             given: false,
             required: a.required,
         },
-        Table::Resting | Table::Spent => Marks {
+        Table::Resting | Table::Spent => PlainMarks {
             flow: false,
             given: a.given,
             required: false,
@@ -56,7 +56,7 @@ pub(crate) fn narrowed_one(table: Table, a: Marks) -> Marks
 }
 
 /// The marks that the rows with one of some marks at each of their two ends have there.
-pub(crate) fn narrowed_two(table: Table, a: Marks, b: Marks) -> Pair
+pub(crate) fn narrowed_two(table: Table, a: PlainMarks, b: PlainMarks) -> Pair
     ensures { result ≡ used_pair (rows_of table) a b }
 {
     let flow = a.flow & b.flow;
@@ -64,52 +64,52 @@ pub(crate) fn narrowed_two(table: Table, a: Marks, b: Marks) -> Pair
     let second = a.given & b.required;
     match table {
         Table::Ready | Table::Resting => Pair {
-            first: Marks::none(),
-            second: Marks::none(),
+            first: PlainMarks::none(),
+            second: PlainMarks::none(),
         },
         Table::Together => Pair {
-            first: Marks {
+            first: PlainMarks {
                 flow,
                 given: second,
                 required: first,
             },
-            second: Marks {
+            second: PlainMarks {
                 flow,
                 given: first,
                 required: second,
             },
         },
         Table::Lossy => Pair {
-            first: Marks {
+            first: PlainMarks {
                 flow: a.flow & (b.flow | b.required),
                 given: false,
                 required: first,
             },
-            second: Marks {
+            second: PlainMarks {
                 flow,
                 given: first,
                 required: a.flow & b.required,
             },
         },
         Table::OneOfTwo => Pair {
-            first: Marks {
+            first: PlainMarks {
                 flow: a.flow & b.given,
                 given: a.given & b.flow,
                 required: a.required & b.required,
             },
-            second: Marks {
+            second: PlainMarks {
                 flow: a.given & b.flow,
                 given: a.flow & b.given,
                 required: a.required & b.required,
             },
         },
         Table::Filter => Pair {
-            first: Marks {
+            first: PlainMarks {
                 flow: a.flow & (b.flow | b.given),
                 given: second,
                 required: first,
             },
-            second: Marks {
+            second: PlainMarks {
                 flow,
                 given: (a.flow | a.required) & b.given,
                 required: second,
@@ -118,12 +118,12 @@ pub(crate) fn narrowed_two(table: Table, a: Marks, b: Marks) -> Pair
         Table::Spent => {
             let given = a.given & b.given;
             Pair {
-                first: Marks {
+                first: PlainMarks {
                     flow: false,
                     given,
                     required: false,
                 },
-                second: Marks {
+                second: PlainMarks {
                     flow: false,
                     given,
                     required: false,
@@ -134,7 +134,7 @@ pub(crate) fn narrowed_two(table: Table, a: Marks, b: Marks) -> Pair
 }
 
 /// Of the rows of one end with one of some marks those of the least class.
-pub(crate) fn classed_one(table: Table, a: Marks) -> OfClass
+pub(crate) fn classed_one(table: Table, a: PlainMarks) -> OfClass
     requires { is_single table ≡ true }
     ensures taken { let rows = rows_of table in
         are_taken result.class rows (classes_of rows) (fits_one a) (fits_one result.marks) ≡ true }
@@ -153,7 +153,7 @@ pub(crate) fn classed_one(table: Table, a: Marks) -> OfClass
 }
 
 /// Marks of two ends, one mark for each.
-fn chosen(a: Marks, first: Mark, b: Marks, second: Mark) -> Pair
+fn chosen(a: PlainMarks, first: Mark, b: PlainMarks, second: Mark) -> Pair
     ensures { result ≡ record { first = only a first; second = only b second } }
 {
     Pair {
@@ -163,7 +163,7 @@ fn chosen(a: Marks, first: Mark, b: Marks, second: Mark) -> Pair
 }
 
 /// Of the rows of two ends with one of some marks at each those of the least class.
-pub(crate) fn classed_two(table: Table, a: Marks, b: Marks) -> PairOfClass
+pub(crate) fn classed_two(table: Table, a: PlainMarks, b: PlainMarks) -> PairOfClass
     ensures taken { let rows = rows_of table in
         are_taken result.class rows (classes_of rows) (fits_two a b)
         (fits_two result.pair.first result.pair.second) ≡ true }
@@ -253,7 +253,7 @@ pub(crate) fn classed_two(table: Table, a: Marks, b: Marks) -> PairOfClass
 }
 
 /// The first row of one end with one of some marks, or else the last.
-pub(crate) fn first_one(table: Table, a: Marks) -> Fit
+pub(crate) fn first_one(table: Table, a: PlainMarks) -> Fit
     requires { is_single table ≡ true }
     ensures row { result.row ≡ first_fit (rows_of table) (fits_one a) }
     ensures fits { result.fits ≡ has a (mark_in (rows_of table) result.row 0) }
@@ -275,7 +275,7 @@ fn fitting(row: usize, fits: bool) -> Fit
 }
 
 /// The first row of two ends with one of some marks at each, or else the last.
-pub(crate) fn first_two(table: Table, a: Marks, b: Marks) -> Fit
+pub(crate) fn first_two(table: Table, a: PlainMarks, b: PlainMarks) -> Fit
     requires { is_single table ≡ false }
     ensures row { result.row ≡ first_fit (rows_of table) (fits_two a b) }
     ensures fits { let rows = rows_of table in

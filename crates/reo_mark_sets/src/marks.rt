@@ -1,24 +1,24 @@
 //! Sets of marks.
 ghost use Rattle.std.specs.Prelude.{◌≡◌, ◌||◌, true};
 ghost use Rattle.reo_net_base.specs.declared.mark.Mark.{Mark as EndMark};
-ghost use Rattle.reo_mark_sets.specs.Marks.{has, met, only, just, both, no_marks, all_marks};
+ghost use Rattle.reo_mark_sets.specs.PlainMarks.{has, met, only, just, both, no_marks, all_marks};
 
 use reo_net_base::Mark;
 
 /// The marks that an end may still have, jam left out.
 #[derive(Clone, Copy, Debug, PartialEq, Eq)]
-pub struct Marks {
+pub struct PlainMarks {
     pub flow: bool,
     pub given: bool,
     pub required: bool,
 }
 
-impl Marks {
+impl PlainMarks {
     /// None.
-    pub fn none() -> Marks
+    pub fn none() -> PlainMarks
         ensures { result ≡ no_marks }
     {
-        Marks {
+        PlainMarks {
             flow: false,
             given: false,
             required: false,
@@ -26,10 +26,10 @@ impl Marks {
     }
 
     /// All.
-    pub fn all() -> Marks
+    pub fn all() -> PlainMarks
         ensures { result ≡ all_marks }
     {
-        Marks {
+        PlainMarks {
             flow: true,
             given: true,
             required: true,
@@ -64,17 +64,17 @@ impl Marks {
     }
 
     /// Whether one of these meets none of some marks at a joint.
-    pub(crate) fn lose(self, theirs: Marks) -> bool {
+    pub(crate) fn lose(self, theirs: PlainMarks) -> bool {
         let flow = self.flow & !theirs.flow;
         let given = self.given & !(theirs.given | theirs.required);
         flow | given | (self.required & !theirs.given)
     }
 
     /// Those of these marks that meet one of some marks at a joint.
-    pub fn met(self, theirs: Marks) -> Marks
+    pub fn met(self, theirs: PlainMarks) -> PlainMarks
         ensures { result ≡ met self theirs }
     {
-        Marks {
+        PlainMarks {
             flow: self.flow & theirs.flow,
             given: self.given & (theirs.given | theirs.required),
             required: self.required & theirs.given,
@@ -82,10 +82,10 @@ impl Marks {
     }
 
     /// One mark alone.
-    pub fn just(mark: Mark) -> Marks
+    pub fn just(mark: Mark) -> PlainMarks
         ensures { result ≡ just mark }
     {
-        Marks {
+        PlainMarks {
             flow: matches!(mark, Mark::F),
             given: matches!(mark, Mark::G),
             required: matches!(mark, Mark::R),
@@ -93,10 +93,10 @@ impl Marks {
     }
 
     /// The marks that are of both.
-    pub fn both(self, other: Marks) -> Marks
+    pub fn both(self, other: PlainMarks) -> PlainMarks
         ensures { result ≡ both self other }
     {
-        Marks {
+        PlainMarks {
             flow: self.flow & other.flow,
             given: self.given & other.given,
             required: self.required & other.required,
@@ -104,10 +104,10 @@ impl Marks {
     }
 
     /// That mark alone, if it is one of these.
-    pub fn only(self, mark: Mark) -> Marks
+    pub fn only(self, mark: Mark) -> PlainMarks
         ensures { result ≡ only self mark }
     {
-        Marks {
+        PlainMarks {
             flow: self.flow & matches!(mark, Mark::F),
             given: self.given & matches!(mark, Mark::G),
             required: self.required & matches!(mark, Mark::R),

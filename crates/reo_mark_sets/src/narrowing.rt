@@ -5,11 +5,11 @@ ghost use Rattle.reo_net_base.specs.declared.form.Form.TheVariants.{Single, Doub
 ghost use Rattle.reo_mark_sets.specs.Standing.{ArePlaces, IsNarrowed, SomeWorks, width_by};
 
 use crate::listed::{narrowed_one, narrowed_two};
-use crate::sets::Sets;
+use crate::sets::MarkSets;
 use crate::stars::Star;
 use reo_net_base::{Branches, Form, Table};
 
-impl Sets {
+impl MarkSets {
     /// Narrows a side with one end.
     fn narrow_single(&mut self, table: Table, places: &[usize]) -> bool
         requires width { length places.now ≡ 1 }

@@ -1,10 +1,10 @@
 //! The marks of all ends.
 ghost use Rattle.std.specs.Prelude.{◌≡◌, ◌<◌, ◌+◌, ◌*◌, ℕ, IfOk, length, replicate, slice_index, slice_set};
-ghost use Rattle.reo_mark_sets.specs.Marks.{marks_at, open_at, partner, both, all_marks};
+ghost use Rattle.reo_mark_sets.specs.PlainMarks.{marks_at, open_at, partner, both, all_marks};
 ghost use Rattle.reo_mark_sets.specs.Standing.{AreAll, width_by};
 
-use crate::line::{Line, Rank};
-use crate::marks::Marks;
+use crate::line::{WaitingLine, Rank};
+use crate::marks::PlainMarks;
 use reo_net_base::{Form, Table};
 use reo_values::{List, NoMemory};
 use std::alloc::Global;
@@ -16,15 +16,15 @@ use std::marker::Model;
 /// Contracts see the marks by their places. The sides some of whose marks met one and meet none any
 /// more wait to be narrowed.
 #[derive(Drop)]
-pub struct Sets {
-    marks: List<Marks>,
+pub struct MarkSets {
+    marks: List<PlainMarks>,
     keepers: List<usize>,
-    line: Line,
+    line: WaitingLine,
 }
 
-impl Model for Sets {
+impl Model for MarkSets {
     ghost use Rattle.std.specs.Prelude.{List};
-    ghost use Rattle.reo_mark_sets.specs.declared.marks.Marks.{Marks as OfEnd};
+    ghost use Rattle.reo_mark_sets.specs.declared.marks.PlainMarks.{PlainMarks as OfEnd};
 
     ghost Value = { List OfEnd };
 
@@ -52,14 +52,14 @@ pub(crate) fn filled<T: Copy + Drop>(
     }
 }
 
-impl Sets {
+impl MarkSets {
     /// For joints at whose places these sides are, of so many. `NoMemory` is out of memory.
-    pub fn new(alloc: Global, keepers: List<usize>, sides: usize) -> Result<Sets, NoMemory>
+    pub fn new(alloc: Global, keepers: List<usize>, sides: usize) -> Result<MarkSets, NoMemory>
         ensures { IfOk result (λ made. length made ≡ length keepers) }
     {
-        let marks = filled(alloc, Marks::all(), keepers.len())?;
-        let line = Line::new(alloc, sides)?;
-        Ok(Sets {
+        let marks = filled(alloc, PlainMarks::all(), keepers.len())?;
+        let line = WaitingLine::new(alloc, sides)?;
+        Ok(MarkSets {
             marks,
             keepers,
             line,
@@ -71,7 +71,7 @@ impl Sets {
         requires { place < length self.old }
         ensures { self.new ≡ slice_set self.old place all_marks }
     {
-        *self.marks.at_mut(place) = Marks::all();
+        *self.marks.at_mut(place) = PlainMarks::all();
     }
 
     /// All marks may stand at some places.
@@ -155,7 +155,7 @@ impl Sets {
     }
 
     /// The marks at a place.
-    pub fn at(&self, place: usize) -> Marks
+    pub fn at(&self, place: usize) -> PlainMarks
         requires { place < length self.now }
         ensures { result ≡ marks_at self.now place }
     {
@@ -163,7 +163,7 @@ impl Sets {
     }
 
     /// Those at a place that meet one at the other end of the joint.
-    pub fn open_at(&self, place: usize) -> Marks
+    pub fn open_at(&self, place: usize) -> PlainMarks
         requires place { place < length self.now }
         requires partner { partner place < length self.now }
         ensures { result ≡ open_at self.now place }
@@ -173,7 +173,7 @@ impl Sets {
 
     /// Lets the side at a place wait, where the other end of the joint has these marks, and some of
     /// those at the place meet none of them.
-    fn wake(&mut self, place: usize, theirs: Marks)
+    fn wake(&mut self, place: usize, theirs: PlainMarks)
         ensures { self.new ≡ self.old }
     {
         if place >= self.keepers.len() || place >= self.marks.len() {
@@ -185,7 +185,7 @@ impl Sets {
     }
 
     /// Puts other marks at a place.
-    fn change(&mut self, place: usize, marks: Marks)
+    fn change(&mut self, place: usize, marks: PlainMarks)
         requires { place < length self.old }
         ensures { self.new ≡ slice_set self.old place marks }
     {
@@ -195,7 +195,7 @@ impl Sets {
 
     /// Puts marks at a place. Where they are others, the side at the other end of the joint may
     /// wait.
-    pub(crate) fn put(&mut self, place: usize, marks: Marks)
+    pub(crate) fn put(&mut self, place: usize, marks: PlainMarks)
         requires { place < length self.old }
         ensures { self.new ≡ slice_set self.old place marks }
     {
@@ -207,7 +207,7 @@ impl Sets {
 
     /// Leaves at a place these of the marks that were open there. Where some go, the side at the
     /// other end of the joint may wait.
-    pub(crate) fn leave(&mut self, place: usize, open: Marks, marks: Marks)
+    pub(crate) fn leave(&mut self, place: usize, open: PlainMarks, marks: PlainMarks)
         requires { place < length self.old }
         ensures { self.new ≡ slice_set self.old place marks }
     {
@@ -218,7 +218,7 @@ impl Sets {
     }
 
     /// Leaves at a place just those of its marks that are allowed.
-    pub(crate) fn restrict(&mut self, place: usize, allowed: Marks)
+    pub(crate) fn restrict(&mut self, place: usize, allowed: PlainMarks)
         requires { place < length self.old }
         ensures { self.new ≡ slice_set self.old place (both (marks_at self.old place) allowed) }
     {

@@ -1,13 +1,13 @@
 //! Mergers and replicators.
 ghost use Rattle.std.specs.Prelude.{◌≡◌, ◌||◌, ◌<◌, ◌≤◌, ◌↔◌, ℕ, IsTrue, true, false, length, slice_index};
-ghost use Rattle.reo_mark_sets.specs.Marks.{has, open_at};
+ghost use Rattle.reo_mark_sets.specs.PlainMarks.{has, open_at};
 ghost use Rattle.reo_mark_sets.specs.Standing.{ArePlaces};
 ghost use Rattle.reo_mark_sets.specs.Stars.{apart_mark, center_apart, other_mark, center_other, center_left, spoke_left, may_some, IsStar, Kind, KindWorks, AreAparts, IsStarNarrowed};
 ghost use Rattle.reo_mark_sets.specs.Stars.Kind.{rest, other};
 
-use crate::marks::Marks;
-use crate::sets::Sets;
-use crate::tallies::Tally;
+use crate::marks::PlainMarks;
+use crate::sets::MarkSets;
+use crate::tallies::Multiplicity;
 use reo_net_base::Mark;
 
 /// A side one of whose ends is the center of all others: the output of a merger, or the input of a
@@ -60,17 +60,17 @@ impl Star {
     }
 
     /// What is left at the center.
-    fn center_left(self, aparts: Tally, rests: bool, others: bool) -> Marks
+    fn center_left(self, aparts: Multiplicity, rests: bool, others: bool) -> PlainMarks
         ensures { result ≡ center_left self aparts rests others }
     {
-        let some = !matches!(aparts, Tally::Nowhere);
+        let some = !matches!(aparts, Multiplicity::Nowhere);
         match self {
-            Star::Merger => Marks {
+            Star::Merger => PlainMarks {
                 flow: some,
                 given: others,
                 required: rests,
             },
-            Star::Replicator => Marks {
+            Star::Replicator => PlainMarks {
                 flow: others,
                 given: some,
                 required: rests,
@@ -79,22 +79,22 @@ impl Star {
     }
 
     /// What is left at another end.
-    fn spoke_left(self, aparts: Tally, rests: bool, others: bool, marks: Marks, end: usize) -> Marks
+    fn spoke_left(self, aparts: Multiplicity, rests: bool, others: bool, marks: PlainMarks, end: usize) -> PlainMarks
         ensures { result ≡ spoke_left self aparts rests others marks end }
     {
         let (here, another) = match aparts {
-            Tally::Nowhere => (false, false),
-            Tally::Once(only) => (only == end, only != end),
-            Tally::Often => (true, true),
+            Multiplicity::Nowhere => (false, false),
+            Multiplicity::Once(only) => (only == end, only != end),
+            Multiplicity::Often => (true, true),
         };
         let given = rests || another;
         match self {
-            Star::Merger => Marks {
+            Star::Merger => PlainMarks {
                 flow: here && marks.flow,
                 given,
                 required: others,
             },
-            Star::Replicator => Marks {
+            Star::Replicator => PlainMarks {
                 flow: others,
                 given,
                 required: here && marks.required,
@@ -104,13 +104,13 @@ impl Star {
 }
 
 /// Whether some row works.
-fn some_left(aparts: Tally, rests: bool, others: bool) -> bool
+fn some_left(aparts: Multiplicity, rests: bool, others: bool) -> bool
     ensures { result ≡ (rests || (others || may_some aparts)) }
 {
-    rests || others || !matches!(aparts, Tally::Nowhere)
+    rests || others || !matches!(aparts, Multiplicity::Nowhere)
 }
 
-impl Sets {
+impl MarkSets {
     /// Whether all ends but the center can have a mark.
     fn all_open(&self, places: &[usize], mark: Mark, from: usize, to: usize) -> bool
         requires places { ArePlaces (length self.now) places.now }
@@ -119,26 +119,26 @@ impl Sets {
         ensures { IsTrue result ↔ ((o : ℕ) → from ≤ o → o < to
             → has (open_at self.now (slice_index places.now o)) mark ≡ true) }
     {
-        matches!(self.tally(places, mark, false, from, to), Tally::Nowhere)
+        matches!(self.tally(places, mark, false, from, to), Multiplicity::Nowhere)
     }
 
     /// The ends that may be apart, where all ends give reasons but those of a tally.
-    fn aparts(&self, star: Star, places: &[usize], center: usize, from: usize, to: usize) -> Tally
+    fn aparts(&self, star: Star, places: &[usize], center: usize, from: usize, to: usize) -> Multiplicity
         requires places { ArePlaces (length self.now) places.now }
         requires star { IsStar (length places.now) center from to }
         ensures { AreAparts star center from to places.now self.now result }
     {
         if !self.open_at(places[center]).has(star.center_apart()) {
-            return Tally::Nowhere;
+            return Multiplicity::Nowhere;
         }
         match self.tally(places, Mark::G, false, from, to) {
-            Tally::Nowhere => self.tally(places, star.apart_mark(), true, from, to),
-            Tally::Once(only) => if self.open_at(places[only]).has(star.apart_mark()) {
-                Tally::Once(only)
+            Multiplicity::Nowhere => self.tally(places, star.apart_mark(), true, from, to),
+            Multiplicity::Once(only) => if self.open_at(places[only]).has(star.apart_mark()) {
+                Multiplicity::Once(only)
             } else {
-                Tally::Nowhere
+                Multiplicity::Nowhere
             },
-            Tally::Often => Tally::Nowhere,
+            Multiplicity::Often => Multiplicity::Nowhere,
         }
     }
 

@@ -1,21 +1,21 @@
 //! How often an end may or may not have a mark.
 ghost use Rattle.std.specs.Prelude.{◌≡◌, ◌<◌, ◌≤◌, ℕ, MatchOption, length, slice_index, false};
 ghost use Rattle.reo_net_base.specs.Rows.{alike};
-ghost use Rattle.reo_mark_sets.specs.Marks.{has, marks_at, open_at, partner};
+ghost use Rattle.reo_mark_sets.specs.PlainMarks.{has, marks_at, open_at, partner};
 ghost use Rattle.reo_mark_sets.specs.Tallies.{IsTally, IsFirstBetween};
 
-use crate::sets::Sets;
+use crate::sets::MarkSets;
 use reo_net_base::Mark;
 
 /// How often something holds of some ends: of none, of one alone, or of two at least.
 #[derive(Clone, Copy)]
-pub(crate) enum Tally {
+pub(crate) enum Multiplicity {
     Nowhere,
     Once(usize),
     Often,
 }
 
-impl Sets {
+impl MarkSets {
     /// At how many of some places, from one on and before another, a mark is open, or is not.
     pub(crate) fn tally(
         &self,
@@ -24,7 +24,7 @@ impl Sets {
         wanted: bool,
         from: usize,
         to: usize,
-    ) -> Tally
+    ) -> Multiplicity
         requires places { (o : ℕ) → o < length places.now
             → slice_index places.now o < length self.now }
         requires partners { (o : ℕ) → o < length places.now
@@ -35,12 +35,12 @@ impl Sets {
             (λ o. alike wanted (has (open_at self.now (slice_index places.now o)) mark))
             from to result }
     {
-        let mut tally = Tally::Nowhere;
+        let mut tally = Multiplicity::Nowhere;
         for index in from..to {
             if self.open_at(places[index]).has(mark) == wanted {
                 match tally {
-                    Tally::Nowhere => tally = Tally::Once(index),
-                    _ => return Tally::Often,
+                    Multiplicity::Nowhere => tally = Multiplicity::Once(index),
+                    _ => return Multiplicity::Often,
                 }
             }
         }

@@ -8,8 +8,8 @@ use Rattle.reo_net_base.specs.Lawful.{SameShape, IsLawful}
 use Rattle.reo_net_base.specs.Net.{behaviour_at}
 use Rattle.reo_net_base.specs.Wired.{ArePorts}
 use Rattle.reo_net_base.specs.Step.{is_mouth}
-use Rattle.reo_net_circuit.specs.Tables.{AreMouths, ArePortJoints}
-use Rattle.reo_net_circuit.specs.declared.checked.Tables.{Tables}
+use Rattle.reo_net_circuit.specs.CircuitTables.{AreMouths, ArePortJoints}
+use Rattle.reo_net_circuit.specs.declared.checked.CircuitTables.{CircuitTables}
 use Rattle.reo_net_circuit.specs.Circuit.{IsCircuit}
 use Rattle.reo_net_circuit.specs.Parts.{wiring_of}
 use Rattle.reo_net_base.specs.Shapes.{SameShapes}
@@ -44,7 +44,7 @@ ports_reshaped bs ds ports r are = record {
 }
 
 -- What holds of a circuit stays where the shape of its primitives stays.
-pub circuit_same : {P : Type 0} (behaviour : P → Behaviour) → ((p : P) → IsLawful (behaviour p)) → (old new : List P) (ports : ℕ) (joints : List Joint) (tables : Tables)
+pub circuit_same : {P : Type 0} (behaviour : P → Behaviour) → ((p : P) → IsLawful (behaviour p)) → (old new : List P) (ports : ℕ) (joints : List Joint) (tables : CircuitTables)
     → SameShapes (map behaviour old) (map behaviour new) → IsCircuit behaviour (wiring_of old ports joints) tables → IsCircuit behaviour (wiring_of new ports joints) tables
 circuit_same behaviour law old new ports joints tables r is =
     let bs : List Behaviour = map behaviour old in

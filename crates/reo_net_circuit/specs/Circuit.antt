@@ -3,13 +3,13 @@ use Rattle.std.specs.Prelude.{◌<◌, ◌^◌, length, map}
 use Rattle.reo_net_base.specs.Behaviour.{Behaviour}
 use Rattle.reo_net_base.specs.Net.{Wiring, net_of}
 use Rattle.reo_net_base.specs.Wired.{IsWired, IsOrder, ArePorts}
-use Rattle.reo_net_circuit.specs.declared.checked.Tables.{Tables}
+use Rattle.reo_net_circuit.specs.declared.checked.CircuitTables.{CircuitTables}
 use Rattle.reo_net_circuit.specs.Layout.{IsLaidOut}
-use Rattle.reo_net_circuit.specs.Tables.{AreMouths, ArePortJoints}
+use Rattle.reo_net_circuit.specs.CircuitTables.{AreMouths, ArePortJoints}
 
 -- A circuit of fewer than 2^31 primitives and fewer than 2^31 joints, with its tables. The order of its joints tells
 -- that it has no directed cycle of sides.
-pub record IsCircuit {P : Type 0} (behaviour : P → Behaviour) (w : Wiring P) (tables : Tables)
+pub record IsCircuit {P : Type 0} (behaviour : P → Behaviour) (w : Wiring P) (tables : CircuitTables)
     : Type 0 where
   pub few_primitives : length w.primitives < 2 ^ 31
   pub few_joints : length w.joints < 2 ^ 31

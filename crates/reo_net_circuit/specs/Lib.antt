@@ -4,5 +4,5 @@ pub mod Fault
 pub mod Layout
 pub mod Offers
 pub mod Parts
-pub mod Tables
+pub mod CircuitTables
 pub mod found_ends

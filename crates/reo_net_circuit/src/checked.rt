@@ -19,7 +19,7 @@ use std::alloc::Global;
 
 /// What a circuit finds its sides and joints by.
 #[derive(Drop)]
-pub struct Tables {
+pub struct CircuitTables {
     /// The first side of each primitive.
     pub firsts: List<usize>,
     /// The primitive of each side.
@@ -81,7 +81,7 @@ pub fn tables_of<P: Primitive>(
     primitives: &[P],
     ports: usize,
     joints: &[Joint],
-) -> Result<Tables, NetFault>
+) -> Result<CircuitTables, NetFault>
     requires few_primitives { length primitives.now < 2 ^ 31 }
     requires few_joints { length joints.now < 2 ^ 31 }
     requires ports { ArePorts (map P.behaviour primitives.now) ports }
@@ -97,7 +97,7 @@ pub fn tables_of<P: Primitive>(
     let port_joints = port_table(alloc, primitives, joints)?;
     order_has_no_cycle();
     let Layout { firsts, owners } = layout;
-    Ok(Tables {
+    Ok(CircuitTables {
         firsts,
         owners,
         order,

@@ -14,7 +14,7 @@ ghost use Rattle.reo_net_circuit.specs.Layout.{IsLaidOut};
 ghost use Rattle.reo_net_circuit.specs.Offers.{OnlyPort, OnlyState};
 ghost use Rattle.reo_net_circuit.specs.Fault.{HasNoFault, IsNetFault};
 
-use crate::checked::{Tables, tables_of};
+use crate::checked::{CircuitTables, tables_of};
 use crate::fault::NetFault;
 use crate::layout::SideOwner;
 use crate::ports::{place_at, put_at, withdraw_at};
@@ -34,7 +34,7 @@ pub struct Circuit<P: Primitive> {
     primitives: Vec<P>,
     ports: usize,
     joints: List<Joint>,
-    tables: Tables,
+    tables: CircuitTables,
 }
 
 impl<P: Primitive> Model for Circuit<P> {

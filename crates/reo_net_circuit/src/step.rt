@@ -5,7 +5,7 @@ ghost use Rattle.reo_net_base.specs.Colouring.{AreRows};
 ghost use Rattle.reo_net_base.specs.Step.{change_at, settled_list, all_chosen, all_taken};
 ghost use Rattle.reo_net_circuit.specs.Parts.{wiring_of};
 ghost use Rattle.reo_net_circuit.specs.Layout.{AreFirsts};
-ghost use Rattle.reo_net_circuit.specs.Tables.{AreMouths};
+ghost use Rattle.reo_net_circuit.specs.CircuitTables.{AreMouths};
 
 use reo_net_base::{Chosen, Joint, Primitive};
 use reo_values::Value;

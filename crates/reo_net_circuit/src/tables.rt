@@ -4,7 +4,7 @@ ghost use Rattle.reo_net_base.specs.Net.{net_of, behaviour_at, end_eq, end_of, i
 ghost use Rattle.reo_net_base.specs.Wired.{IsEnd};
 ghost use Rattle.reo_net_base.specs.Step.{is_mouth};
 ghost use Rattle.reo_net_circuit.specs.Parts.{wiring_of, AreJoints};
-ghost use Rattle.reo_net_circuit.specs.Tables.{AreMouths, ArePortJoints};
+ghost use Rattle.reo_net_circuit.specs.CircuitTables.{AreMouths, ArePortJoints};
 
 use crate::parts::{joint_at, primitive_at, repeated};
 use reo_net_base::{End, Joint, Primitive};

@@ -7,13 +7,13 @@ use Rattle.reo_net_base.specs.Lawful.{IsLawful, SameShape, TreatsAlike}
 use Rattle.reo_net_base.specs.Rows.{Rows, mark_in}
 use Rattle.reo_kinds.specs.TableTests.{TableFacts, table_facts}
 use Rattle.reo_kinds.specs.SideLaws.{only_zero}
-use Rattle.reo_open.specs.declared.gate.Allowed.{Allowed}
-use Rattle.reo_open.specs.declared.gate.Allowed.TheVariants.{All, Flow, Given, Required}
+use Rattle.reo_open.specs.declared.gate.GateRows.{GateRows}
+use Rattle.reo_open.specs.declared.gate.GateRows.TheVariants.{All, Flow, Given, Required}
 use Rattle.reo_open.specs.declared.gate.Gate.{Gate}
 use Rattle.reo_open.specs.Gates.{gate_rows, gate_behaviour, with_allowed}
 
 -- The tables of gates pass the test of tables.
-pub gate_facts : (allowed : Allowed) → TableFacts 1 (gate_rows allowed)
+pub gate_facts : (allowed : GateRows) → TableFacts 1 (gate_rows allowed)
 gate_facts All = table_facts 1 (gate_rows All) refl
 gate_facts Flow = table_facts 1 (gate_rows Flow) refl
 gate_facts Given = table_facts 1 (gate_rows Given) refl
@@ -60,9 +60,9 @@ gate_lawful g =
     }
 
 -- Whatever rows are allowed, the shape is the same.
-pub gate_shape : (g : Gate) (allowed : Allowed) → SameShape (gate_behaviour g) (gate_behaviour (with_allowed allowed g))
+pub gate_shape : (g : Gate) (allowed : GateRows) → SameShape (gate_behaviour g) (gate_behaviour (with_allowed allowed g))
 gate_shape g allowed = record { ends = refl; sides = refl; side_of = λ _. refl; takes_in = λ _. refl; leads = λ _. refl }
 
 -- And so is what is done with items.
-pub gate_alike : (g : Gate) (allowed : Allowed) → TreatsAlike (gate_behaviour g) (gate_behaviour (with_allowed allowed g))
+pub gate_alike : (g : Gate) (allowed : GateRows) → TreatsAlike (gate_behaviour g) (gate_behaviour (with_allowed allowed g))
 gate_alike g allowed = record { passes = λ side row end item. refl; from = λ side row end. refl; given = λ side row end from taken is. refl }

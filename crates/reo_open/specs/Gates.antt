@@ -5,12 +5,12 @@ use Rattle.reo_net_base.specs.declared.mark.Mark.TheVariants.{F, G, R}
 use Rattle.reo_net_base.specs.Behaviour.{Behaviour}
 use Rattle.reo_net_base.specs.Lasting.{Lasting}
 use Rattle.reo_net_base.specs.Rows.{Rows, row_count, mark_in, class_in}
-use Rattle.reo_open.specs.declared.gate.Allowed.{Allowed}
-use Rattle.reo_open.specs.declared.gate.Allowed.TheVariants.{All, Flow, Given, Required}
+use Rattle.reo_open.specs.declared.gate.GateRows.{GateRows}
+use Rattle.reo_open.specs.declared.gate.GateRows.TheVariants.{All, Flow, Given, Required}
 use Rattle.reo_open.specs.declared.gate.Gate.{Gate}
 
 -- The rows of a gate: flow, the surroundings give a reason, they require one.
-abbrev pub gate_rows : Allowed → Rows
+abbrev pub gate_rows : GateRows → Rows
 gate_rows All = (F ∷ []) ∷ (G ∷ []) ∷ (R ∷ []) ∷ []
 gate_rows Flow = (F ∷ []) ∷ []
 gate_rows Given = (G ∷ []) ∷ []
@@ -41,5 +41,5 @@ abbrev pub gate_lasting : Lasting
 gate_lasting = record { varies = λ _. true; is_open = λ _. true; keeps = false; carries = true; origin = None }
 
 -- The gate with these rows alone.
-abbrev pub with_allowed : Allowed → Gate → Gate
+abbrev pub with_allowed : GateRows → Gate → Gate
 with_allowed allowed g = record g { allowed = allowed }

@@ -12,8 +12,8 @@ use Rattle.reo_net_base.specs.PortState.{PortState, no_port_state, CanPlace, IsP
 use Rattle.reo_net_base.specs.Rows.{mark_in}
 use Rattle.reo_kinds.specs.KindLaws.{same_shape, same_treatment}
 use Rattle.reo_kinds.specs.TellingLaws.{one_table}
-use Rattle.reo_open.specs.declared.gate.Allowed.{Allowed}
-use Rattle.reo_open.specs.declared.gate.Allowed.TheVariants.{All, Flow, Given, Required}
+use Rattle.reo_open.specs.declared.gate.GateRows.{GateRows}
+use Rattle.reo_open.specs.declared.gate.GateRows.TheVariants.{All, Flow, Given, Required}
 use Rattle.reo_open.specs.declared.gate.Gate.{Gate}
 use Rattle.reo_open.specs.declared.opens.Open.{Open}
 use Rattle.reo_open.specs.declared.opens.Open.TheVariants.{Border, Inner}
@@ -22,7 +22,7 @@ use Rattle.reo_open.specs.GateLaws.{gate_shape, gate_alike}
 use Rattle.reo_open.specs.Opens.{open_behaviour, open_settled, open_lasting}
 
 -- A gate that has that row alone has a take pending.
-abbrev pub required_of : Allowed → Option Offer
+abbrev pub required_of : GateRows → Option Offer
 required_of All = None
 required_of Flow = None
 required_of Given = None
@@ -107,7 +107,7 @@ stays : (flows : Bool) → flows ≡ false → ◌≡◌ {A = Option Offer} (Som
 stays true is = absurd cc
 stays false is = refl
 
-gate_stays : (allowed : Allowed) (row : ℕ) → required_of allowed ≡ cond (is_flow (mark_in (gate_rows allowed) row 0)) None (required_of allowed)
+gate_stays : (allowed : GateRows) (row : ℕ) → required_of allowed ≡ cond (is_flow (mark_in (gate_rows allowed) row 0)) None (required_of allowed)
 gate_stays All row = none_goes (is_flow (mark_in (gate_rows All) row 0))
 gate_stays Flow row = none_goes (is_flow (mark_in (gate_rows Flow) row 0))
 gate_stays Given row = none_goes (is_flow (mark_in (gate_rows Given) row 0))

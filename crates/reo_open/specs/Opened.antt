@@ -6,7 +6,7 @@ use Rattle.reo_net_base.specs.Net.{Net, Wiring, net_of}
 use Rattle.reo_buffers.specs.Stored.{Stored}
 use Rattle.reo_kinds.specs.declared.kind.Kind.{Kind}
 use Rattle.reo_kinds.specs.declared.kind.Kind.TheVariants.{Writer, Taker, Sync, Store, Shift, Variable, Filter, Map}
-use Rattle.reo_open.specs.declared.gate.Allowed.TheVariants.{All}
+use Rattle.reo_open.specs.declared.gate.GateRows.TheVariants.{All}
 use Rattle.reo_open.specs.declared.opens.Open.{Open}
 use Rattle.reo_open.specs.declared.opens.Open.TheVariants.{Border, Inner}
 use Rattle.reo_open.specs.Opens.{open_behaviour}

@@ -7,7 +7,7 @@ use reo_net_base::Mark;
 
 /// Which rows a gate has, beside its jam row.
 #[derive(Clone, Copy, Debug, PartialEq, Eq)]
-pub enum Allowed {
+pub enum GateRows {
     /// The next three, in this order.
     All,
     /// Flow.
@@ -23,16 +23,16 @@ pub enum Allowed {
 pub struct Gate {
     /// Whether items go out of the circuit here: at its end they enter the gate.
     pub takes: bool,
-    pub allowed: Allowed,
+    pub allowed: GateRows,
 }
 
-impl Allowed {
+impl GateRows {
     /// How many rows there are, the jam row counted.
     pub(crate) fn count(self) -> usize
         ensures { result ≡ row_count (gate_rows self) }
     {
         match self {
-            Allowed::All => 4,
+            GateRows::All => 4,
             _ => 2,
         }
     }
@@ -42,9 +42,9 @@ impl Allowed {
         ensures { result ≡ mark_in (gate_rows self) row 0 }
     {
         match (self, row) {
-            (Allowed::All, 0) | (Allowed::Flow, 0) => Mark::F,
-            (Allowed::All, 1) | (Allowed::Given, 0) => Mark::G,
-            (Allowed::All, 2) | (Allowed::Required, 0) => Mark::R,
+            (GateRows::All, 0) | (GateRows::Flow, 0) => Mark::F,
+            (GateRows::All, 1) | (GateRows::Given, 0) => Mark::G,
+            (GateRows::All, 2) | (GateRows::Required, 0) => Mark::R,
             _ => Mark::J,
         }
     }
@@ -56,7 +56,7 @@ impl Allowed {
     {
         match (self, row) {
             (_, 0) => 0,
-            (Allowed::All, 3) => 2,
+            (GateRows::All, 3) => 2,
             _ => 1,
         }
     }

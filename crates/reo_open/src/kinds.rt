@@ -2,7 +2,7 @@
 ghost use Rattle.std.specs.Prelude.{◌≡◌, false, IfOk, map, replicate};
 ghost use Rattle.reo_open.specs.Opened.{opened, is_filter, unit_held, unit_stored, HasNoFilter};
 
-use crate::gate::{Allowed, Gate};
+use crate::gate::{GateRows, Gate};
 use crate::opens::Open;
 use reo_buffers::Buffer;
 use reo_kinds::Kind;
@@ -41,11 +41,11 @@ fn unit_held(held: &Option<Value>) -> Option<Value>
 
 /// A gate with all rows.
 fn gate(takes: bool) -> Open
-    ensures { result ≡ Open.Border (record { takes = takes; allowed = Allowed.All }) }
+    ensures { result ≡ Open.Border (record { takes = takes; allowed = GateRows.All }) }
 {
     Open::Border(Gate {
         takes,
-        allowed: Allowed::All,
+        allowed: GateRows::All,
     })
 }
 

@@ -9,5 +9,5 @@ mod port;
 mod primitive;
 
 pub use circuit::open_circuit;
-pub use gate::{Allowed, Gate};
+pub use gate::{GateRows, Gate};
 pub use opens::Open;

@@ -4,7 +4,7 @@
 //! take. It is pending where the gate has that row alone.
 ghost use Rattle.reo_open.specs.OpenPorts.{open_port_state, open_placed, open_withdrawn, no_port_open, placed_open_port, placed_open_shape, placed_open_alike, placed_open_lasting, placed_open_tables, withdrawn_open_port, withdrawn_open_shape, withdrawn_open_alike, withdrawn_open_lasting, withdrawn_open_tables, settled_open_port};
 
-use crate::gate::Allowed;
+use crate::gate::GateRows;
 use crate::opens::Open;
 use reo_net_base::{Offer, Ported, Way};
 use reo_values::Value;
@@ -29,20 +29,20 @@ impl Ported for Open {
 
     fn pending(&self) -> bool {
         match self {
-            Open::Border(gate) => gate.allowed == Allowed::Required,
+            Open::Border(gate) => gate.allowed == GateRows::Required,
             Open::Inner(_) => false,
         }
     }
 
     fn place(&mut self, _offer: Offer) {
         if let Open::Border(gate) = self {
-            gate.allowed = Allowed::Required;
+            gate.allowed = GateRows::Required;
         }
     }
 
     fn withdraw(&mut self) {
         if let Open::Border(gate) = self {
-            gate.allowed = Allowed::All;
+            gate.allowed = GateRows::All;
         }
     }
 

@@ -5,7 +5,7 @@ ghost use Rattle.reo_outside_tests.specs.Told.{told_port, all_told};
 
 use crate::checks::is;
 use reo_net_base::{Port, Ports, Way};
-use reo_proof_reader::{Next, Reader, read_next};
+use reo_proof_reader::{Next, ProofReader, read_next};
 use reo_values::{Bytes, Kindred, List, NoMemory};
 use std::alloc::Global;
 use std::test::Fail;
@@ -49,7 +49,7 @@ enum Stands {
 /// What stands first in a text, where the round of a number should.
 fn standing(alloc: Global, text: &str, number: u64) -> Result<Stands, NoMemory> {
     let ports = ports(alloc)?;
-    let mut reader = Reader::new(text.as_bytes());
+    let mut reader = ProofReader::new(text.as_bytes());
     match read_next(alloc, &mut reader, &ports, number)? {
         Next::Round {
             line: _,

@@ -8,7 +8,7 @@ ghost use Rattle.reo_terms.specs.Reading.{read_plain};
 
 use reo_cursor::{Cursor, Halt};
 use reo_terms::{literal, names_before, term_before};
-use reo_trees::{Channel, Form, Literal};
+use reo_trees::{Channel, ItemForm, Literal};
 use reo_values::List;
 use std::alloc::Global;
 
@@ -43,12 +43,12 @@ pub fn plain_channel(cursor: &mut Cursor) -> Result<Channel, Halt>
 }
 
 /// A channel that is a word and two nodes.
-pub fn plain(cursor: &mut Cursor, alloc: Global) -> Result<Form, Halt>
+pub fn plain(cursor: &mut Cursor, alloc: Global) -> Result<ItemForm, Halt>
     ensures { Gives result cursor.new (read_plain plain_form cursor.old) }
 {
     let channel = plain_channel(cursor)?;
     let (first, second) = names_before(cursor, alloc, b";")?;
-    Ok(Form::Joined {
+    Ok(ItemForm::Joined {
         channel,
         first,
         second,
@@ -69,7 +69,7 @@ pub fn held(cursor: &mut Cursor, alloc: Global, room: usize) -> Result<Option<Li
 }
 
 /// A buffer with one place and what it holds at first, with rules nested at most `room` deep.
-pub fn fifo1(cursor: &mut Cursor, alloc: Global, room: usize) -> Result<Form, Halt>
+pub fn fifo1(cursor: &mut Cursor, alloc: Global, room: usize) -> Result<ItemForm, Halt>
     ensures { Gives result cursor.new (read (reads circuit_rules room) fifo1_form cursor.old) }
 {
     cursor.expect(b"fifo1")?;
@@ -77,7 +77,7 @@ pub fn fifo1(cursor: &mut Cursor, alloc: Global, room: usize) -> Result<Form, Ha
     let second = cursor.name(alloc)?;
     let held = held(cursor, alloc, room)?;
     cursor.expect(b";")?;
-    Ok(Form::Joined {
+    Ok(ItemForm::Joined {
         channel: Channel::Fifo1(held),
         first,
         second,
@@ -111,7 +111,7 @@ pub fn held_list(cursor: &mut Cursor, alloc: Global, room: usize) -> Result<List
 }
 
 /// A buffer with a size and what it holds at first, with rules nested at most `room` deep.
-pub fn fifo(cursor: &mut Cursor, alloc: Global, room: usize) -> Result<Form, Halt>
+pub fn fifo(cursor: &mut Cursor, alloc: Global, room: usize) -> Result<ItemForm, Halt>
     ensures { Gives result cursor.new (read (reads circuit_rules room) fifo_form cursor.old) }
 {
     cursor.expect(b"fifo")?;
@@ -120,7 +120,7 @@ pub fn fifo(cursor: &mut Cursor, alloc: Global, room: usize) -> Result<Form, Hal
     let second = cursor.name(alloc)?;
     let held = held_list(cursor, alloc, room)?;
     cursor.expect(b";")?;
-    Ok(Form::Joined {
+    Ok(ItemForm::Joined {
         channel: Channel::Fifo(size as u16, held),
         first,
         second,
@@ -128,13 +128,13 @@ pub fn fifo(cursor: &mut Cursor, alloc: Global, room: usize) -> Result<Form, Hal
 }
 
 /// A filter with its test, with rules nested at most `room` deep.
-pub fn filter(cursor: &mut Cursor, alloc: Global, room: usize) -> Result<Form, Halt>
+pub fn filter(cursor: &mut Cursor, alloc: Global, room: usize) -> Result<ItemForm, Halt>
     ensures { Gives result cursor.new (read (reads circuit_rules room) filter_form cursor.old) }
 {
     cursor.expect(b"filter")?;
     let (first, second) = names_before(cursor, alloc, b"when")?;
     let test = term_before(cursor, alloc, room, b";")?;
-    Ok(Form::Joined {
+    Ok(ItemForm::Joined {
         channel: Channel::Filter(test),
         first,
         second,
@@ -142,13 +142,13 @@ pub fn filter(cursor: &mut Cursor, alloc: Global, room: usize) -> Result<Form, H
 }
 
 /// A map with its value, with rules nested at most `room` deep.
-pub fn map(cursor: &mut Cursor, alloc: Global, room: usize) -> Result<Form, Halt>
+pub fn map(cursor: &mut Cursor, alloc: Global, room: usize) -> Result<ItemForm, Halt>
     ensures { Gives result cursor.new (read (reads circuit_rules room) map_form cursor.old) }
 {
     cursor.expect(b"map")?;
     let (first, second) = names_before(cursor, alloc, b"to")?;
     let value = term_before(cursor, alloc, room, b";")?;
-    Ok(Form::Joined {
+    Ok(ItemForm::Joined {
         channel: Channel::Map(value),
         first,
         second,

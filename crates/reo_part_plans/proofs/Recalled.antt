@@ -40,14 +40,14 @@ use Rattle.reo_item_bounds.specs.Bounds.{HasBounds}
 use Rattle.reo_item_bounds.proofs.Linked.{closed_on}
 use Rattle.reo_item_bounds.proofs.Tables.{stay}
 use Rattle.reo_item_bounds.proofs.Within.{within}
-use Rattle.reo_part_plans.specs.declared.entry.Entry.{Entry}
+use Rattle.reo_part_plans.specs.declared.entry.RememberedRows.{RememberedRows}
 use Rattle.reo_part_plans.specs.declared.looks.Look.{Look}
-use Rattle.reo_part_plans.specs.declared.plans.PartPlans.{PartPlans}
+use Rattle.reo_part_plans.specs.declared.plans.RememberedPart.{RememberedPart}
 use Rattle.reo_part_plans.specs.Alike.{HaveSameClasses}
 use Rattle.reo_part_plans.specs.Given.{GivesOnly, LetAllIn, AreItems, Decide, AreGiven}
 use Rattle.reo_part_plans.specs.Laws.{PlansStay}
 use Rattle.reo_part_plans.specs.Looks.{IsLookAt, IsKey}
-use Rattle.reo_part_plans.specs.Remembered.{IsRemembered, AreRemembered, StayOrGo, ArePlans, IsWrittenDown, IsRecalled}
+use Rattle.reo_part_plans.specs.Remembered.{IsRemembered, AreRemembered, StayOrGo, AreAllRemembered, IsWrittenDown, IsRecalled}
 use Rattle.reo_part_plans.proofs.FirstRows.{alike_same_rows}
 
 alike_twice : (bs ds es : List Behaviour) → TreatAlike bs ds → TreatAlike ds es → TreatAlike bs es
@@ -57,7 +57,7 @@ alike_twice bs ds es first second i = record {
   given = λ side row end from taken is. (second i).given side row end from taken ((first i).from side row end ∙ is) ∙ (first i).given side row end from taken is;
 }
 
-remembered_stays : (net other : Net) → other.joints ≡ net.joints → SameShapes net.primitives other.primitives → TreatAlike net.primitives other.primitives → (inside : ℕ → Bool) (sides : List ℕ) (entry : Entry)
+remembered_stays : (net other : Net) → other.joints ≡ net.joints → SameShapes net.primitives other.primitives → TreatAlike net.primitives other.primitives → (inside : ℕ → Bool) (sides : List ℕ) (entry : RememberedRows)
     → IsRemembered net inside sides entry → IsRemembered other inside sides entry
 remembered_stays net other joints shapes alike inside sides entry is = record {
   before = is.before;
@@ -248,7 +248,7 @@ module _ (inside : ℕ → Bool) (sides : List ℕ) (all : (s : ℕ) → inside 
 
 -- What is remembered by the key that a part has now, and the items that its state gives.
 module _ (net : Net) (wired : IsWired net) (order : List ℕ) (is_order : IsOrder net order) (inside : ℕ → Bool) (closed : IsClosed net inside)
-    (sides : List ℕ) (all : (s : ℕ) → inside s ≡ true → Contains sides s) (entry : Entry) (is : IsRemembered net inside sides entry) (turn : ℕ) (key : IsKey net sides turn entry.key) (given : AreGiven net sides entry.items) where
+    (sides : List ℕ) (all : (s : ℕ) → inside s ≡ true → Contains sides s) (entry : RememberedRows) (is : IsRemembered net inside sides entry) (turn : ℕ) (key : IsKey net sides turn entry.key) (given : AreGiven net sides entry.items) where
   back : SameShapes net.primitives is.before.primitives
   back = shapes_back is.before.primitives net.primitives is.shapes
 
@@ -315,14 +315,14 @@ module _ (net : Net) (wired : IsWired net) (order : List ℕ) (is_order : IsOrde
     pub recalled_flowing : AreFlowingOf net inside rows entry.flowing
     recalled_flowing = flowing_stay is.before net is.wired is.joints is.shapes inside is.from rows marks_there entry.flowing is.flowing
 
-abbrev no_entry : Entry
+abbrev no_entry : RememberedRows
 no_entry = record { key = []; items = []; rows = []; flowing = []; choices = 0 }
 
 pub same_shapes : (bs : List Behaviour) → SameShapes bs bs
 same_shapes bs = record { count = refl; same = λ i lt. record { ends = refl; sides = refl; side_of = λ _. refl; takes_in = λ _. refl; leads = λ _. refl } }
 
 -- One entry more that is right.
-one_more : (net : Net) (inside : ℕ → Bool) (sides : List ℕ) (entries : List Entry) (entry : Entry) → AreRemembered net inside sides entries → IsRemembered net inside sides entry
+one_more : (net : Net) (inside : ℕ → Bool) (sides : List ℕ) (entries : List RememberedRows) (entry : RememberedRows) → AreRemembered net inside sides entries → IsRemembered net inside sides entry
     → AreRemembered net inside sides (entries ++ entry ∷ [])
 one_more net inside sides [] entry all is zero d lt = is
 one_more net inside sides [] entry all is (suc m) d lt = absurd (omega arith)
@@ -330,7 +330,7 @@ one_more net inside sides (e ∷ es) entry all is zero d lt = all zero d (omega 
 one_more net inside sides (e ∷ es) entry all is (suc m) d lt = one_more net inside sides es entry (λ n x n_in. all (suc n) x (omega arith)) is m d (omega arith)
 
 -- Entries that are right are right where they stay, or all of them go.
-stay_or_go : (net : Net) (inside : ℕ → Bool) (sides : List ℕ) (old new : List Entry) → AreRemembered net inside sides old → StayOrGo old new → AreRemembered net inside sides new
+stay_or_go : (net : Net) (inside : ℕ → Bool) (sides : List ℕ) (old new : List RememberedRows) → AreRemembered net inside sides old → StayOrGo old new → AreRemembered net inside sides new
 stay_or_go net inside sides old new all (inl same) = subst (AreRemembered net inside sides) (sym same) all
 stay_or_go net inside sides old new all (inr none) = subst (AreRemembered net inside sides) (sym none) (λ m d lt. absurd (omega (arith, lt)))
 
@@ -356,18 +356,18 @@ module _ (net : Net) (wired : IsWired net) (knots : Knotted) (are : AreKnots net
   pub part_all : (s : ℕ) → in_knot knots.numbers k s ≡ true → Contains sides s
   part_all s h = among_contains sides s (in_part s ∙ h)
 
-  right_here : (parts : List PartPlans) → ArePlans net knots parts → (p : PartPlans) → p ≡ get_or parts k p → AreRemembered net (in_knot knots.numbers k) sides p.entries
+  right_here : (parts : List RememberedPart) → AreAllRemembered net knots parts → (p : RememberedPart) → p ≡ get_or parts k p → AreRemembered net (in_knot knots.numbers k) sides p.entries
   right_here parts plans p here =
       subst (λ (xs : List ℕ). AreRemembered net (in_knot knots.numbers k) xs p.entries) (sym is)
-      (subst (λ (x : PartPlans). AreRemembered net (in_knot knots.numbers k) (get_or knots.sides k []) x.entries) (sym here) (plans.right k p lt))
+      (subst (λ (x : RememberedPart). AreRemembered net (in_knot knots.numbers k) (get_or knots.sides k []) x.entries) (sym here) (plans.right k p lt))
 
   -- The rows of an entry with the key of the part are those of its first assignment.
-  pub recalled : (order : List ℕ) → IsOrder net order → (budget turn : ℕ) (parts : List PartPlans) → ArePlans net knots parts → (p : PartPlans) → p ≡ get_or parts k p
+  pub recalled : (order : List ℕ) → IsOrder net order → (budget turn : ℕ) (parts : List RememberedPart) → AreAllRemembered net knots parts → (p : RememberedPart) → p ≡ get_or parts k p
       → (old new flowing : List ℕ) → length old ≡ side_count net → IsRecalled net sides turn budget p.entries old new flowing
       → IsPartPlanned budget net knots turn k old new × AreFlowingOf net (in_knot knots.numbers k) new flowing
   recalled order is_order budget turn parts plans p here old new flowing one_row found =
       let inside : ℕ → Bool = in_knot knots.numbers k in
-      let entry : Entry = get_or p.entries found.place no_entry in
+      let entry : RememberedRows = get_or p.entries found.place no_entry in
       let down : IsWrittenDown entry sides old new flowing = found.written no_entry in
       let remembered : IsRemembered net inside sides entry = right_here parts plans p here found.place no_entry found.found_at.0 in
       let closed : IsClosed net inside = (are.are_knots k lt).closed in
@@ -407,7 +407,7 @@ module _ (net : Net) (wired : IsWired net) (knots : Knotted) (are : AreKnots net
   }
 
   -- What is remembered of one part is exchanged for what is right.
-  exchanged : (parts : List PartPlans) → ArePlans net knots parts → (new : PartPlans) → AreRemembered net (in_knot knots.numbers k) sides new.entries → ArePlans net knots (set parts k new)
+  exchanged : (parts : List RememberedPart) → AreAllRemembered net knots parts → (new : RememberedPart) → AreRemembered net (in_knot knots.numbers k) sides new.entries → AreAllRemembered net knots (set parts k new)
   exchanged parts plans new right =
       let inside : ℕ → Bool = in_knot knots.numbers k in
       let here : AreRemembered net inside (get_or knots.sides k []) new.entries = subst (λ (xs : List ℕ). AreRemembered net inside xs new.entries) is right in
@@ -415,23 +415,23 @@ module _ (net : Net) (wired : IsWired net) (knots : Knotted) (are : AreKnots net
         one_each = length-set parts k new ∙ plans.one_each;
         right = λ n d n_in. elim (eq_cases n k) [
           | inl e ↦ subst (λ (n : ℕ). AreRemembered net (in_knot knots.numbers n) (get_or knots.sides n []) (get_or (set parts k new) n d).entries) (sym e)
-              (subst (λ (x : PartPlans). AreRemembered net inside (get_or knots.sides k []) x.entries) (sym (get_or-set_same parts k new d (omega (arith, lt, plans.one_each)))) here)
-          | inr ne ↦ subst (λ (x : PartPlans). AreRemembered net (in_knot knots.numbers n) (get_or knots.sides n []) x.entries) (sym (get_or-set_other parts k n new d ne)) (plans.right n d n_in)
+              (subst (λ (x : RememberedPart). AreRemembered net inside (get_or knots.sides k []) x.entries) (sym (get_or-set_same parts k new d (omega (arith, lt, plans.one_each)))) here)
+          | inr ne ↦ subst (λ (x : RememberedPart). AreRemembered net (in_knot knots.numbers n) (get_or knots.sides n []) x.entries) (sym (get_or-set_other parts k n new d ne)) (plans.right n d n_in)
         ];
       }
 
   -- What is remembered of the part stays, or is forgotten.
-  pub kept_or_gone : (parts : List PartPlans) → ArePlans net knots parts → (p new : PartPlans) → p ≡ get_or parts k p → StayOrGo p.entries new.entries → ArePlans net knots (set parts k new)
+  pub kept_or_gone : (parts : List RememberedPart) → AreAllRemembered net knots parts → (p new : RememberedPart) → p ≡ get_or parts k p → StayOrGo p.entries new.entries → AreAllRemembered net knots (set parts k new)
   kept_or_gone parts plans p new here stays =
       exchanged parts plans new (stay_or_go net (in_knot knots.numbers k) sides p.entries new.entries (right_here parts plans p here) stays)
 
   -- An entry more is remembered of the part, besides the others or alone.
-  pub remembered : (turn : ℕ) (parts : List PartPlans) → ArePlans net knots parts → (key : List Look) → IsKey net sides turn key → (items : List (Option Value)) → Decide net sides items → (rows those : List ℕ) → HasFirst net knots.numbers turn rows k → those ≡ part_rows sides rows
-      → (choices : ℕ) → HasBounds net (in_knot knots.numbers k) choices → (flowing : List ℕ) → AreFlowingOf net (in_knot knots.numbers k) rows flowing → (p roomy new : PartPlans) → p ≡ get_or parts k p → StayOrGo p.entries roomy.entries
+  pub remembered : (turn : ℕ) (parts : List RememberedPart) → AreAllRemembered net knots parts → (key : List Look) → IsKey net sides turn key → (items : List (Option Value)) → Decide net sides items → (rows those : List ℕ) → HasFirst net knots.numbers turn rows k → those ≡ part_rows sides rows
+      → (choices : ℕ) → HasBounds net (in_knot knots.numbers k) choices → (flowing : List ℕ) → AreFlowingOf net (in_knot knots.numbers k) rows flowing → (p roomy new : RememberedPart) → p ≡ get_or parts k p → StayOrGo p.entries roomy.entries
       → new.entries ≡ roomy.entries ++ record { key = key; items = items; rows = those; flowing = flowing; choices = choices } ∷ []
-      → ArePlans net knots (set parts k new)
+      → AreAllRemembered net knots (set parts k new)
   remembered turn parts plans key is_key items decide rows those first told choices has flowing of p roomy new here stays added =
-      let entry : Entry = record { key = key; items = items; rows = those; flowing = flowing; choices = choices } in
+      let entry : RememberedRows = record { key = key; items = items; rows = those; flowing = flowing; choices = choices } in
       let others : AreRemembered net (in_knot knots.numbers k) sides roomy.entries = stay_or_go net (in_knot knots.numbers k) sides p.entries roomy.entries (right_here parts plans p here) stays in
       let more : AreRemembered net (in_knot knots.numbers k) sides (roomy.entries ++ entry ∷ []) =
       one_more net (in_knot knots.numbers k) sides roomy.entries entry others (new_entry turn key is_key items decide rows those first told choices has flowing of) in

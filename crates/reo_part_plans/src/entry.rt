@@ -13,7 +13,7 @@ use std::alloc::Global;
 /// besides, with the joints that flow by them, and how many choices of values its loop joints have
 /// at most.
 #[derive(Drop)]
-pub struct Entry {
+pub struct RememberedRows {
     pub key: List<Look>,
     pub items: List<Option<Value>>,
     pub rows: List<u32>,
@@ -21,7 +21,7 @@ pub struct Entry {
     pub choices: u64,
 }
 
-impl Entry {
+impl RememberedRows {
     /// Whether it serves at some sides: it allows no more choices than the budget, and has a row
     /// for each of them.
     pub(crate) fn serves(&self, sides: &[usize], budget: u64) -> bool

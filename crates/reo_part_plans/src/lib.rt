@@ -8,8 +8,8 @@ mod looks;
 mod plans;
 mod searching;
 
-pub use entry::Entry;
+pub use entry::RememberedRows;
 pub use laws::{alike_same_rows, plans_stay};
 pub use looks::Look;
-pub use plans::Plans;
+pub use plans::Remembered;
 pub use reo_planning::{Kept, first_colouring, search_part, tables_of, written_over};

@@ -7,9 +7,9 @@ ghost use Rattle.reo_flows.specs.flowing.Flowing.{AreFlowingOf};
 ghost use Rattle.reo_item_bounds.specs.Bounds.{HasBounds};
 ghost use Rattle.reo_weights.specs.still.Joining.{HasFirst};
 ghost use Rattle.reo_planning.specs.Planned.{IsPartPlanned};
-ghost use Rattle.reo_part_plans.specs.Remembered.{AreNew, ArePlans, IsFoundAt, IsRecalled, StayOrGo};
+ghost use Rattle.reo_part_plans.specs.Remembered.{AreNew, AreAllRemembered, IsFoundAt, IsRecalled, StayOrGo};
 
-use crate::entry::{Entry, rows_at, with_room};
+use crate::entry::{RememberedRows, rows_at, with_room};
 use crate::given::{are_given, deciding};
 use crate::looks::{Look, is_key, look_at_all};
 use crate::searching::find;
@@ -37,8 +37,8 @@ const REST: u32 = 4_096;
 /// one that came last, and how many times more nothing was found than something. A part rests while
 /// these are too many: then it has no entries, and each time that it is asked for is counted too.
 #[derive(Drop)]
-pub struct PartPlans {
-    pub(crate) entries: List<Entry>,
+pub struct RememberedPart {
+    pub(crate) entries: List<RememberedRows>,
     pub(crate) after: List<usize>,
     pub(crate) last: usize,
     pub(crate) misses: u32,
@@ -48,14 +48,14 @@ pub struct PartPlans {
 /// long as the circuit has its shape. Of a part that is full all is forgotten, and a part whose
 /// states do not come again rests for a while.
 #[derive(Drop)]
-pub struct Plans {
-    parts: List<PartPlans>,
+pub struct Remembered {
+    parts: List<RememberedPart>,
     key: List<Look>,
 }
 
-impl Model for Plans {
+impl Model for Remembered {
     ghost use Rattle.std.specs.Prelude.{List};
-    ghost use Rattle.reo_part_plans.specs.declared.plans.PartPlans.{PartPlans as OfPart};
+    ghost use Rattle.reo_part_plans.specs.declared.plans.RememberedPart.{RememberedPart as OfPart};
     ghost use Rattle.std.specs.Coded.{codes};
     ghost use Rattle.reo_values.specs.contracts.value.Value as item;
 
@@ -66,12 +66,12 @@ impl Model for Plans {
     ghost view = { λ p. p.parts };
 }
 
-impl PartPlans {
+impl RememberedPart {
     /// Of which nothing is remembered yet.
-    fn new(alloc: Global) -> PartPlans
+    fn new(alloc: Global) -> RememberedPart
         ensures { result.entries ≡ [] }
     {
-        PartPlans {
+        RememberedPart {
             entries: List::new(alloc),
             after: List::new(alloc),
             last: 0,
@@ -134,7 +134,7 @@ impl PartPlans {
     }
 
     /// Adds an entry, which comes after the one that came last.
-    fn add(&mut self, entry: Entry) -> Result<(), NoMemory>
+    fn add(&mut self, entry: RememberedRows) -> Result<(), NoMemory>
         ensures added { OnOk result (self.new.entries ≡ self.old.entries ++ entry ∷ []) }
         ensures refused { OnErr result (self.new.entries ≡ self.old.entries) }
     {
@@ -231,16 +231,16 @@ impl PartPlans {
     }
 }
 
-impl Plans {
+impl Remembered {
     /// For so many parts, of which nothing is remembered yet. `NoMemory` is out of memory.
-    pub fn new(alloc: Global, parts: usize) -> Result<Plans, NoMemory>
+    pub fn new(alloc: Global, parts: usize) -> Result<Remembered, NoMemory>
         ensures { IfOk result (AreNew parts) }
     {
         let mut made = List::new(alloc);
         for _ in 0..parts {
-            made.push(PartPlans::new(alloc))?;
+            made.push(RememberedPart::new(alloc))?;
         }
-        Ok(Plans {
+        Ok(Remembered {
             parts: made,
             key: List::new(alloc),
         })
@@ -266,9 +266,9 @@ impl Plans {
         requires knots { AreKnots (net_of P.behaviour circuit.now) knots.now }
         requires part { part < knot_count knots.now }
         requires turn { 1 ≤ turn }
-        requires plans { ArePlans (net_of P.behaviour circuit.now) knots.now self.old }
+        requires plans { AreAllRemembered (net_of P.behaviour circuit.now) knots.now self.old }
         requires rows { length rows.old ≡ side_count (net_of P.behaviour circuit.now) }
-        ensures plans { ArePlans (net_of P.behaviour circuit.now) knots.now self.new }
+        ensures plans { AreAllRemembered (net_of P.behaviour circuit.now) knots.now self.new }
         ensures recalled { let net = net_of P.behaviour circuit.now in
             result ≡ Ok true → IsPartPlanned budget net knots.now turn part rows.old rows.new }
         ensures flowing { let net = net_of P.behaviour circuit.now in
@@ -309,13 +309,13 @@ impl Plans {
         requires turn { 1 ≤ turn }
         requires choices { HasBounds
             (net_of P.behaviour circuit.now) (in_knot knots.now.numbers part) choices }
-        requires plans { ArePlans (net_of P.behaviour circuit.now) knots.now self.old }
+        requires plans { AreAllRemembered (net_of P.behaviour circuit.now) knots.now self.old }
         requires one_row { length rows.now ≡ side_count (net_of P.behaviour circuit.now) }
         requires first { HasFirst
             (net_of P.behaviour circuit.now) knots.now.numbers turn rows.now part }
         requires flowing { AreFlowingOf (net_of P.behaviour circuit.now)
             (in_knot knots.now.numbers part) rows.now flowing.now }
-        ensures plans { ArePlans (net_of P.behaviour circuit.now) knots.now self.new }
+        ensures plans { AreAllRemembered (net_of P.behaviour circuit.now) knots.now self.new }
     {
         circuit.known();
         let sides = knots.sides(part);
@@ -335,7 +335,7 @@ impl Plans {
         let rows = rows_at(alloc, sides, rows)?;
         let mut joints = with_room(alloc, flowing.len())?;
         copy_over(&mut joints, flowing)?;
-        let entry = Entry {
+        let entry = RememberedRows {
             key,
             items,
             rows,

@@ -3,9 +3,9 @@ ghost use Rattle.std.specs.Prelude.{◌≡◌, ◌<◌, ◌≤◌, ℕ, IfSome, 
 ghost use Rattle.reo_net_base.specs.Net.{net_of};
 ghost use Rattle.reo_net_base.specs.Sides.{side_count};
 ghost use Rattle.reo_part_plans.specs.Given.{AreGiven};
-ghost use Rattle.reo_part_plans.specs.declared.entry.Entry.{Entry as Remembered};
+ghost use Rattle.reo_part_plans.specs.declared.entry.RememberedRows.{RememberedRows as Remembered};
 
-use crate::entry::Entry;
+use crate::entry::RememberedRows;
 use crate::given::are_given;
 use crate::looks::Look;
 use reo_net_base::Primitive;
@@ -30,7 +30,7 @@ fn is_same(key: &[Look], other: &[Look]) -> bool
 /// The place of an entry with a key whose items the state gives at some sides, looked for from a
 /// place on, up to another.
 fn find_among<P: Primitive>(
-    entries: &List<Entry>,
+    entries: &List<RememberedRows>,
     circuit: &Circuit<P>,
     sides: &[usize],
     key: &[Look],
@@ -60,7 +60,7 @@ fn find_among<P: Primitive>(
 /// The place of an entry with a key whose items the state gives at some sides, looked for from a
 /// place on, and then from the first on.
 pub(crate) fn find<P: Primitive>(
-    entries: &List<Entry>,
+    entries: &List<RememberedRows>,
     circuit: &Circuit<P>,
     sides: &[usize],
     key: &[Look],

@@ -4,7 +4,7 @@ ghost use Rattle.reo_net_base.specs.Net.{net_of};
 ghost use Rattle.reo_net_base.specs.Sides.{side_count};
 ghost use Rattle.reo_net_laws.specs.Knots.{AreKnots, in_knot, knot_count};
 ghost use Rattle.reo_weights.specs.Weights.{IsWeight};
-ghost use Rattle.reo_kept_tables.specs.Tables.{AreReady};
+ghost use Rattle.reo_kept_tables.specs.SearchTables.{AreReady};
 ghost use Rattle.reo_planning.specs.Faults.{IsPartFault};
 ghost use Rattle.reo_planning.specs.Keeping.{IsKept, serves};
 ghost use Rattle.reo_planning.specs.Planned.{IsPartPlanned};
@@ -12,7 +12,7 @@ ghost use Rattle.reo_planning.specs.Planned.{IsPartPlanned};
 use crate::faults::plan_fault;
 use crate::kept::Kept;
 use crate::rows::put_rows;
-use reo_kept_tables::Tables;
+use reo_kept_tables::SearchTables;
 use reo_knots::Knots;
 use reo_net_base::Primitive;
 use reo_net_circuit::{Circuit, Ends};
@@ -34,7 +34,7 @@ pub fn search_part<P: Primitive, L: Ledger>(
     circuit: &Circuit<P>,
     knots: &Knots,
     ends: &Ends,
-    tables: &mut Tables,
+    tables: &mut SearchTables,
     knot: usize,
     turn: u64,
     budget: u64,
@@ -82,7 +82,7 @@ pub(crate) fn plan_part<P: Primitive, L: Ledger>(
     knots: &Knots,
     ends: &Ends,
     kept: &Kept,
-    tables: &mut Tables,
+    tables: &mut SearchTables,
     knot: usize,
     turn: u64,
     budget: u64,

@@ -2,9 +2,9 @@
 ghost use Rattle.std.specs.Prelude.{◌≡◌, ◌<◌, IfOk, length};
 ghost use Rattle.reo_net_base.specs.Net.{net_of};
 ghost use Rattle.reo_net_circuit.specs.found_ends.Ends.{AreEnds};
-ghost use Rattle.reo_kept_tables.specs.Tables.{AreReady};
+ghost use Rattle.reo_kept_tables.specs.SearchTables.{AreReady};
 
-use reo_kept_tables::Tables;
+use reo_kept_tables::SearchTables;
 use reo_net_base::Primitive;
 use reo_net_circuit::{Circuit, Ends};
 use reo_propagate::begin;
@@ -18,14 +18,14 @@ pub fn tables_of<P: Primitive>(
     alloc: Global,
     circuit: &Circuit<P>,
     ends: &Ends,
-) -> Result<Tables, NoMemory>
+) -> Result<SearchTables, NoMemory>
     requires ends { AreEnds (net_of P.behaviour circuit.now) ends.now }
     ensures { IfOk result (AreReady (net_of P.behaviour circuit.now) ends.now) }
 {
     let supply = reach(alloc, circuit)?;
     let boards = boards_of(alloc, circuit, ends)?;
     let state = begin(alloc, circuit, &boards, ends, supply.lists(), &[])?;
-    Ok(Tables {
+    Ok(SearchTables {
         supply,
         boards,
         state,

@@ -7,8 +7,8 @@ use Rattle.std.proofs.lemmas.Bool.Decides.{nat_tests}
 use Rattle.std.proofs.lemmas.List.{ext_get_or, get_or-map, get_or-set_same, get_or-set_other, length-map, length-replicate, length-set, map-set}
 use Rattle.reo_values.proofs.Truths.{not_true, not_false, or_true, and_false}
 use Rattle.reo_flags.specs.Next.{IsNext}
-use Rattle.reo_players.specs.declared.marks.Mark.{Mark}
-use Rattle.reo_players.specs.declared.marks.Marks.{Marks}
+use Rattle.reo_players.specs.declared.marks.Pace.{Pace}
+use Rattle.reo_players.specs.declared.marks.Paces.{Paces}
 use Rattle.reo_players.specs.Players.{Player, no_player, player_of, is_done, all_done, counts, someone_counts}
 use Rattle.reo_players.specs.Idle.{is_awake, is_left, mark_of, marks_of, IsNextAwake}
 
@@ -104,7 +104,7 @@ module _ (ps : List Player) (flags : List Bool) (place : ℕ) where
       }
 
 -- All are marked.
-pub marks_all : (ps : List Player) (n : ℕ) (marks : Marks) → length ps ≤ n → AreMarked is_awake ps n marks.awake → AreMarked counts ps n marks.counting → AreMarked is_left ps n marks.left
+pub marks_all : (ps : List Player) (n : ℕ) (marks : Paces) → length ps ≤ n → AreMarked is_awake ps n marks.awake → AreMarked counts ps n marks.counting → AreMarked is_left ps n marks.left
     → marks ≡ marks_of ps
 marks_all ps n marks le awake counting left =
     let a = all_marked is_awake ps n marks.awake le awake in
@@ -113,18 +113,18 @@ marks_all ps n marks le awake counting left =
     λ k. record { awake = a k; counting = b k; left = c k }
 
 -- One component, which has become another, is marked anew.
-module _ (ps : List Player) (i : ℕ) (p q : Player) (mark : Mark) (lt : i < length ps) (at : q ≡ get_or (set ps i p) i q) (mark_is : mark ≡ mark_of q) where
+module _ (ps : List Player) (i : ℕ) (p q : Player) (mark : Pace) (lt : i < length ps) (at : q ≡ get_or (set ps i p) i q) (mark_is : mark ≡ mark_of q) where
   same : q ≡ p
   same = at ∙ get_or-set_same ps i p q lt
 
-  pub marks_set : (old new : Marks) → old ≡ marks_of ps → new.awake ≡ set old.awake i mark.awake → new.counting ≡ set old.counting i mark.counting → new.left ≡ set old.left i mark.left
+  pub marks_set : (old new : Paces) → old ≡ marks_of ps → new.awake ≡ set old.awake i mark.awake → new.counting ≡ set old.counting i mark.counting → new.left ≡ set old.left i mark.left
       → new ≡ marks_of (set ps i p)
   marks_set old new is awake counting left =
       let to : mark ≡ mark_of p = mark_is ∙ ap mark_of same in
       let a : new.awake ≡ map is_awake (set ps i p) =
-      awake ∙ ap (λ (m : Marks). set m.awake i mark.awake) is ∙ ap (λ (m : Mark). set (map is_awake ps) i m.awake) to ∙ sym (map-set is_awake ps i p) in
+      awake ∙ ap (λ (m : Paces). set m.awake i mark.awake) is ∙ ap (λ (m : Pace). set (map is_awake ps) i m.awake) to ∙ sym (map-set is_awake ps i p) in
       let b : new.counting ≡ map counts (set ps i p) =
-      counting ∙ ap (λ (m : Marks). set m.counting i mark.counting) is ∙ ap (λ (m : Mark). set (map counts ps) i m.counting) to ∙ sym (map-set counts ps i p) in
+      counting ∙ ap (λ (m : Paces). set m.counting i mark.counting) is ∙ ap (λ (m : Pace). set (map counts ps) i m.counting) to ∙ sym (map-set counts ps i p) in
       let c : new.left ≡ map is_left (set ps i p) =
-      left ∙ ap (λ (m : Marks). set m.left i mark.left) is ∙ ap (λ (m : Mark). set (map is_left ps) i m.left) to ∙ sym (map-set is_left ps i p) in
+      left ∙ ap (λ (m : Paces). set m.left i mark.left) is ∙ ap (λ (m : Pace). set (map is_left ps) i m.left) to ∙ sym (map-set is_left ps i p) in
       λ k. record { awake = a k; counting = b k; left = c k }

@@ -5,8 +5,8 @@ use Rattle.std.proofs.lemmas.List.{get_or-map, get_or_default, get_or-set_same, 
 use Rattle.reo_values.proofs.Truths.{or_true}
 use Rattle.reo_flags.specs.Next.{IsNext}
 use Rattle.reo_flags.specs.dues.Next.{IsNextDue}
-use Rattle.reo_players.specs.declared.marks.Mark.{Mark}
-use Rattle.reo_players.specs.declared.marks.Marks.{Marks}
+use Rattle.reo_players.specs.declared.marks.Pace.{Pace}
+use Rattle.reo_players.specs.declared.marks.Paces.{Paces}
 use Rattle.reo_players.specs.declared.pacing.Paced.{Paced}
 use Rattle.reo_players.specs.declared.step.Step.{Step}
 use Rattle.reo_players.specs.Players.{Player, no_player, player_of, after, step_of, counts, IsAdvanced}
@@ -15,15 +15,15 @@ use Rattle.reo_players.specs.Pacing.{later, due_of, shown, clock_at, each_shown,
 use Rattle.reo_players.proofs.Marked.{marks_set}
 use Rattle.reo_players.proofs.Paces.{later_rest, later_awake, later_counts, later_one, goes_on, not_last, due_counts, length-shown, at-shown, set-shown, ahead, not_ahead, at_most_one}
 
-module _ (clock passed : ℕ) (xs : List Paced) (marks : Marks) (dues : List ℕ) (are : ArePaced clock passed xs marks dues) where
+module _ (clock passed : ℕ) (xs : List Paced) (marks : Paces) (dues : List ℕ) (are : ArePaced clock passed xs marks dues) where
   pub awake_long : length marks.awake ≡ length xs
-  awake_long = ap (λ (m : Marks). length m.awake) are.marks_are ∙ length-map (map player_in xs) is_awake ∙ length-map xs player_in
+  awake_long = ap (λ (m : Paces). length m.awake) are.marks_are ∙ length-map (map player_in xs) is_awake ∙ length-map xs player_in
 
   pub counting_long : length marks.counting ≡ length xs
-  counting_long = ap (λ (m : Marks). length m.counting) are.marks_are ∙ length-map (map player_in xs) counts ∙ length-map xs player_in
+  counting_long = ap (λ (m : Paces). length m.counting) are.marks_are ∙ length-map (map player_in xs) counts ∙ length-map xs player_in
 
   pub left_long : length marks.left ≡ length xs
-  left_long = ap (λ (m : Marks). length m.left) are.marks_are ∙ length-map (map player_in xs) is_left ∙ length-map xs player_in
+  left_long = ap (λ (m : Paces). length m.left) are.marks_are ∙ length-map (map player_in xs) is_left ∙ length-map xs player_in
 
   pub dues_long : length dues ≡ length xs
   dues_long = ap length are.dues_are ∙ length-map xs due_of
@@ -40,13 +40,13 @@ module _ (clock passed : ℕ) (xs : List Paced) (marks : Marks) (dues : List ℕ
         ap (λ (fs : List _). get_or fs i d) is ∙ get_or-map f (map player_in xs) i no_player d (omega (arith, lt, length-map xs player_in)) ∙ ap f (sym in_map)
 
     pub was_awake : get_or marks.awake i false ≡ is_awake x.player
-    was_awake = marked is_awake marks.awake false (ap (λ (m : Marks). m.awake) are.marks_are)
+    was_awake = marked is_awake marks.awake false (ap (λ (m : Paces). m.awake) are.marks_are)
 
     pub was_counting : get_or marks.counting i false ≡ counts x.player
-    was_counting = marked counts marks.counting false (ap (λ (m : Marks). m.counting) are.marks_are)
+    was_counting = marked counts marks.counting false (ap (λ (m : Paces). m.counting) are.marks_are)
 
     pub was_left : get_or marks.left i false ≡ is_left x.player
-    was_left = marked is_left marks.left false (ap (λ (m : Marks). m.left) are.marks_are)
+    was_left = marked is_left marks.left false (ap (λ (m : Paces). m.left) are.marks_are)
 
     pub due_at : get_or dues i 0 ≡ due_of x
     due_at = ap (λ (ts : List ℕ). get_or ts i 0) are.dues_are ∙ get_or-map due_of xs i x 0 lt ∙ ap due_of (sym x_is)
@@ -62,7 +62,7 @@ module _ (clock passed : ℕ) (xs : List Paced) (marks : Marks) (dues : List ℕ
       new_shown : each_shown (clock_at clock further) (set xs i y) ≡ set (each_shown (clock_at clock passed) xs) i (shown (clock_at clock further i) y)
       new_shown = set-shown (clock_at clock passed) (clock_at clock further) xs i y lt others
 
-      pub kept : y.as_of ≤ clock_at clock further i → (mark : Mark) → mark ≡ mark_of y.player → (new : Marks) → new.awake ≡ set marks.awake i mark.awake → new.counting ≡ set marks.counting i mark.counting → new.left ≡ set marks.left i mark.left
+      pub kept : y.as_of ≤ clock_at clock further i → (mark : Pace) → mark ≡ mark_of y.player → (new : Paces) → new.awake ≡ set marks.awake i mark.awake → new.counting ≡ set marks.counting i mark.counting → new.left ≡ set marks.left i mark.left
           → (due : ℕ) → due ≡ due_of y → (later_dues : List ℕ) → later_dues ≡ set dues i due → ArePaced clock further (set xs i y) new later_dues
       kept time mark mark_is new awake counting left due due_is later_dues put = record {
         marks_are =

@@ -1,8 +1,8 @@
 -- Components to which nothing is to be done, or nothing but to count.
 use Rattle.std.specs.Prelude.{ℕ, ◌≡◌, ◌≢◌, ◌⊎◌, ◌<◌, ◌≤◌, ◌+◌, ◌==◌, ◌&&◌, ◌||◌, min, not, Bool, true, false, List, length, map, Option, Some, MatchOption, option_and_then}
 use Rattle.std.specs.Option.{option_map_or}
-use Rattle.reo_players.specs.declared.marks.Mark.{Mark}
-use Rattle.reo_players.specs.declared.marks.Marks.{Marks}
+use Rattle.reo_players.specs.declared.marks.Pace.{Pace}
+use Rattle.reo_players.specs.declared.marks.Paces.{Paces}
 use Rattle.reo_players.specs.Players.{Player, player_of, present, port_of, is_done, counts, first_bound, after}
 
 -- It is done, or a round has seen its present action, and that has no bound: it offers nothing new, and a round in which its offer does not flow leaves it as it is.
@@ -25,10 +25,10 @@ is_last p = option_map_or (λ n. (p.seen + 1) == n) (first_bound p.rest) false
 abbrev pub is_left : Player → Bool
 is_left p = not (is_done p)
 
-abbrev pub mark_of : Player → Mark
+abbrev pub mark_of : Player → Pace
 mark_of p = record { awake = is_awake p; counting = counts p; left = is_left p }
 
-abbrev pub marks_of : List Player → Marks
+abbrev pub marks_of : List Player → Paces
 marks_of ps = record { awake = map is_awake ps; counting = map counts ps; left = map is_left ps }
 
 -- The place is the least from another on whose component is awake, or the number of components if there is none.

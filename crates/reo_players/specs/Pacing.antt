@@ -2,7 +2,7 @@
 use Rattle.std.specs.Prelude.{ℕ, zero, suc, ◌≡◌, ◌+◌, ◌-◌, ◌^◌, ◌<◌, ◌≤◌, ◌==◌, min, cond, Option, None, List, [], ◌∷◌, length, map, nat_lt, slice_index_or}
 use Rattle.std.specs.Option.{option_map, option_map_or}
 use Rattle.reo_script.specs.declared.scripts.action.Component.{Component}
-use Rattle.reo_players.specs.declared.marks.Marks.{Marks}
+use Rattle.reo_players.specs.declared.marks.Paces.{Paces}
 use Rattle.reo_players.specs.declared.pacing.Paced.{Paced}
 use Rattle.reo_players.specs.Players.{Player, beginning_of, first_bound}
 use Rattle.reo_players.specs.Idle.{waits, marks_of}
@@ -41,7 +41,7 @@ abbrev pub player_in : Paced → Player
 player_in x = x.player
 
 -- What a run keeps of its components: what is marked of them, in which round each is due, and no component is ahead of its clock, which does not come to its end.
-pub record ArePaced (clock passed : ℕ) (players : List Paced) (marks : Marks) (dues : List ℕ) : Type 0 where
+pub record ArePaced (clock passed : ℕ) (players : List Paced) (marks : Paces) (dues : List ℕ) : Type 0 where
   pub marks_are : marks ≡ marks_of (map player_in players)
   pub dues_are : dues ≡ map due_of players
   pub behind : (i : ℕ) (d : Paced) → i < length players → (slice_index_or players i d).as_of ≤ clock_at clock passed i

@@ -11,18 +11,18 @@ use std::alloc::Global;
 
 /// Of one component, whether it is awake, whether it counts, and whether it is not done.
 #[derive(Clone, Copy)]
-pub struct Mark {
+pub struct Pace {
     pub awake: bool,
     pub counting: bool,
     pub left: bool,
 }
 
-impl Mark {
+impl Pace {
     /// The mark of a component.
-    pub fn of(player: &Player) -> Mark
+    pub fn of(player: &Player) -> Pace
         ensures { result ≡ mark_of player.now }
     {
-        Mark {
+        Pace {
             awake: player.is_awake(),
             counting: player.counts(),
             left: !player.is_done(),
@@ -30,7 +30,7 @@ impl Mark {
     }
 
     /// Whether it is the same mark.
-    pub fn is(self, other: Mark) -> bool
+    pub fn is(self, other: Pace) -> bool
         ensures awake { result ≡ true → self.awake ≡ other.awake }
         ensures counting { result ≡ true → self.counting ≡ other.counting }
         ensures left { result ≡ true → self.left ≡ other.left }
@@ -41,15 +41,15 @@ impl Mark {
 
 /// Of each component, whether it is awake, whether it counts, and whether it is not done.
 #[derive(Drop)]
-pub struct Marks {
+pub struct Paces {
     pub awake: Flags,
     pub counting: Flags,
     pub left: Flags,
 }
 
-impl Marks {
+impl Paces {
     /// Marks a component so.
-    pub fn put(&mut self, component: usize, mark: Mark)
+    pub fn put(&mut self, component: usize, mark: Pace)
         requires awake { component < length self.old.awake }
         requires counting { component < length self.old.counting }
         requires left { component < length self.old.left }
@@ -64,7 +64,7 @@ impl Marks {
 
     /// Marks a component so, of which this was the mark.
     #[inline(always)]
-    pub fn change(&mut self, component: usize, before: Mark, mark: Mark)
+    pub fn change(&mut self, component: usize, before: Pace, mark: Pace)
         requires awake { component < length self.old.awake }
         requires counting { component < length self.old.counting }
         requires left { component < length self.old.left }
@@ -82,7 +82,7 @@ impl Marks {
 }
 
 /// Marks of so many components, none of which is marked. `NoMemory` is out of memory.
-fn no_marks(alloc: Global, count: usize) -> Result<Marks, NoMemory>
+fn no_marks(alloc: Global, count: usize) -> Result<Paces, NoMemory>
     ensures awake { IfOk result (λ made. made.awake ≡ replicate count false) }
     ensures counting { IfOk result (λ made. made.counting ≡ replicate count false) }
     ensures left { IfOk result (λ made. made.left ≡ replicate count false) }
@@ -90,7 +90,7 @@ fn no_marks(alloc: Global, count: usize) -> Result<Marks, NoMemory>
     let awake = Flags::new(alloc, count, false)?;
     let counting = Flags::new(alloc, count, false)?;
     let left = Flags::new(alloc, count, false)?;
-    Ok(Marks {
+    Ok(Paces {
         awake,
         counting,
         left,
@@ -98,12 +98,12 @@ fn no_marks(alloc: Global, count: usize) -> Result<Marks, NoMemory>
 }
 
 /// The marks of components. `NoMemory` is out of memory.
-pub fn marks_of(alloc: Global, players: &[Paced]) -> Result<Marks, NoMemory>
+pub fn marks_of(alloc: Global, players: &[Paced]) -> Result<Paces, NoMemory>
     ensures { IfOk result (λ made. made ≡ marks_of_all (map player_in players.now)) }
 {
     let mut marks = no_marks(alloc, players.len())?;
     for component in 0..players.len() {
-        marks.put(component, Mark::of(&players[component].player));
+        marks.put(component, Pace::of(&players[component].player));
     }
     Ok(marks)
 }

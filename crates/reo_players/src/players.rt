@@ -7,7 +7,7 @@ ghost use Rattle.reo_players.specs.Pacing.{clock_at, due_of, paced_of};
 ghost use Rattle.reo_players.specs.Wants.{Wants};
 
 use crate::latest::{latest_of, note_step};
-use crate::marks::{Mark, Marks, marks_of};
+use crate::marks::{Pace, Paces, marks_of};
 use crate::pacing::Paced;
 use crate::player::Player;
 use crate::step::Step;
@@ -37,7 +37,7 @@ pub enum Want<'a> {
 #[derive(Drop)]
 pub struct Players {
     players: List<Paced>,
-    marks: Marks,
+    marks: Paces,
     latest: List<usize>,
     dues: Dues,
     clock: u64,
@@ -279,7 +279,7 @@ impl Players {
         }
         let paced = self.players.at_mut(component);
         paced.player.rouse();
-        let mark = Mark::of(&paced.player);
+        let mark = Pace::of(&paced.player);
         self.marks.put(component, mark);
         self.dues.put(component, NEVER);
     }
@@ -304,9 +304,9 @@ impl Players {
         let clock = clock_of(self.clock, self.passed, component);
         let next = pass_one(self.clock, &mut self.passed, component);
         let paced = self.players.at_mut(component);
-        let before = Mark::of(&paced.player);
+        let before = Pace::of(&paced.player);
         let step = paced.advance(clock, next, flowed);
-        let mark = Mark::of(&paced.player);
+        let mark = Pace::of(&paced.player);
         let counts = before.counting || mark.counting;
         note_step(&mut self.latest, component, step, &paced.player);
         put_due(&mut self.dues, component, counts, paced);

@@ -6,4 +6,4 @@ mod next;
 mod reader;
 
 pub use next::{Next, read_next};
-pub use reader::Reader;
+pub use reader::ProofReader;

@@ -2,7 +2,7 @@
 ghost use Rattle.std.specs.Prelude.{◌≡◌, ◌<◌, ◌^◌, ℕ, List, length, MatchResult};
 ghost use Rattle.reo_proof_reader.specs.Reads.{IsLogTaken, IsUnfinished};
 
-use crate::reader::Reader;
+use crate::reader::ProofReader;
 
 /// A log, and how many lines it has.
 #[derive(Drop)]
@@ -16,7 +16,7 @@ pub(crate) struct Log<'a> {
 /// # Errors
 ///
 /// No such line follows: how many lines there are that end with a line feed.
-pub(crate) fn take_log<'a>(reader: &mut Reader<'a>) -> Result<Log<'a>, u64>
+pub(crate) fn take_log<'a>(reader: &mut ProofReader<'a>) -> Result<Log<'a>, u64>
     ensures { MatchResult result
         (λ log. IsLogTaken reader.old reader.new log.text.now log.lines)
         (IsUnfinished reader.old) }

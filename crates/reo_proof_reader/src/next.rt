@@ -4,7 +4,7 @@ ghost use Rattle.reo_trace_reader.specs.texts.Lines.{AreTold};
 ghost use Rattle.reo_proof_reader.specs.Found.{IsFound};
 
 use crate::log::{Log, take_log};
-use crate::reader::Reader;
+use crate::reader::ProofReader;
 use reo_net_base::Ports;
 use reo_trace_reader::{Ending, LineFault, RoundLine, TraceLine, read_line};
 use reo_values::NoMemory;
@@ -31,7 +31,7 @@ pub enum Next<'a> {
 /// its log and the line `proved`. `NoMemory` is out of memory.
 pub fn read_next<'a>(
     alloc: Global,
-    reader: &mut Reader<'a>,
+    reader: &mut ProofReader<'a>,
     ports: &Ports,
     number: u64,
 ) -> Result<Next<'a>, NoMemory>

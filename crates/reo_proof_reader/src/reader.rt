@@ -8,11 +8,11 @@ use std::marker::Model;
 
 /// What is left of a proof text. Contracts see its bytes.
 #[derive(Drop)]
-pub struct Reader<'a> {
+pub struct ProofReader<'a> {
     left: &'a [u8],
 }
 
-impl<'a> Model for Reader<'a> {
+impl<'a> Model for ProofReader<'a> {
     ghost use Rattle.std.specs.Prelude.{List, ℕ};
 
     ghost Value = { List ℕ };
@@ -32,12 +32,12 @@ fn feed_at(text: &[u8]) -> Option<usize>
     None
 }
 
-impl<'a> Reader<'a> {
+impl<'a> ProofReader<'a> {
     /// The whole text is left.
-    pub fn new(text: &'a [u8]) -> Reader<'a>
+    pub fn new(text: &'a [u8]) -> ProofReader<'a>
         ensures { result ≡ text.now }
     {
-        Reader { left: text }
+        ProofReader { left: text }
     }
 
     /// The bytes that are left.

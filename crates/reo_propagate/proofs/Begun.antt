@@ -14,7 +14,7 @@ use Rattle.reo_side_tables.specs.Boards.{AreBoards}
 use Rattle.reo_side_tables.specs.Listing.{StandsIn}
 use Rattle.reo_side_tables.specs.Marks.{IsJointOf}
 use Rattle.reo_rows.specs.declared.rows.Rows.{Rows}
-use Rattle.reo_rows.specs.Flags.{flag}
+use Rattle.reo_rows.specs.RowFlags.{flag}
 use Rattle.reo_rows.specs.Sets.{code_of, family_of, names_of, IsReady}
 use Rattle.reo_rows.specs.Rows.{AreTables, AreLive}
 use Rattle.reo_propagate.specs.declared.state.State.{State}

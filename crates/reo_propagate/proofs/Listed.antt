@@ -8,7 +8,7 @@ use Rattle.reo_values.proofs.Truths.{either}
 use Rattle.reo_joint_values.specs.declared.value.JointValue.{JointValue}
 use Rattle.reo_joint_values.specs.Values.{value_eq}
 use Rattle.reo_joint_values.proofs.Narrowing.{value_same, same_value}
-use Rattle.reo_rows.specs.Flags.{flag, AreAlikeTables}
+use Rattle.reo_rows.specs.RowFlags.{flag, AreAlikeTables}
 use Rattle.reo_rows.specs.Sets.{code_of, value_of, family_of}
 use Rattle.reo_rows.proofs.Codes.{value_code}
 use Rattle.reo_propagate.specs.ListedSets.{in_set, ArePut}

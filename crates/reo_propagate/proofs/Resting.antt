@@ -12,12 +12,12 @@ use Rattle.reo_joint_values.proofs.Narrowing.{settled_same}
 use Rattle.reo_side_tables.specs.Marks.{group_in, IsJointOf}
 use Rattle.reo_rows.specs.declared.rows.Rows.{Rows}
 use Rattle.reo_rows.specs.declared.groups.Group.{Group}
-use Rattle.reo_rows.specs.Flags.{flag}
+use Rattle.reo_rows.specs.RowFlags.{flag}
 use Rattle.reo_rows.specs.Sets.{code_of, family_of}
 use Rattle.reo_rows.specs.Groups.{live_in, IsNoted, AreNoted}
 use Rattle.reo_rows.specs.Rows.{AreLive, IsSifted, IsSeen, IsLiveUse, OtherSidesStay, IsSpared}
 use Rattle.reo_rows.proofs.Staying.{stays_sifted, stays_settled}
-use Rattle.reo_propagate.specs.declared.queue.Queue.{Queue}
+use Rattle.reo_propagate.specs.declared.queue.WaitingSides.{WaitingSides}
 use Rattle.reo_propagate.specs.declared.thinning.Loss.{Loss}
 use Rattle.reo_propagate.specs.Narrow.{IsAtRest, IsAwakeOrStays, IsCut, OtherRowsMayGo}
 
@@ -109,7 +109,7 @@ rests_spared net wired names joint side old now loss before after of cut still s
     elsewhere i v lt at ne = cut.elsewhere i (code_of v) ne
 
 -- Waking a side leaves another as it was.
-pub rows_woken : (net : Net) (family : Family) (before after : Rows) (waiting then : Queue) (side other joint : ℕ) (lost : Bool) → IsAwakeOrStays net family before after waiting then other joint lost
+pub rows_woken : (net : Net) (family : Family) (before after : Rows) (waiting then : WaitingSides) (side other joint : ℕ) (lost : Bool) → IsAwakeOrStays net family before after waiting then other joint lost
     → other ≢ side → OtherRowsMayGo side before after
 rows_woken net family before after waiting then side other joint lost (inl woken) apart = subst (λ (r : Rows). OtherRowsMayGo side before r) (sym woken.1)
     (record { here = λ row. refl; less = λ s row h. h; notes = refl; seen = refl })

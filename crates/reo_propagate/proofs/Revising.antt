@@ -13,12 +13,12 @@ use Rattle.reo_side_tables.specs.Listing.{Lists}
 use Rattle.reo_side_tables.specs.Marks.{IsJointOf}
 use Rattle.reo_rows.specs.declared.groups.Group.{Group}
 use Rattle.reo_rows.specs.declared.rows.Rows.{Rows}
-use Rattle.reo_rows.specs.Flags.{flag, count_set, AreAlikeTables}
+use Rattle.reo_rows.specs.RowFlags.{flag, count_set, AreAlikeTables}
 use Rattle.reo_rows.specs.Sets.{code_of, value_of, family_of, names_of, IsReady}
 use Rattle.reo_rows.proofs.Codes.{flag_value}
 use Rattle.reo_rows.specs.Rows.{AreTables, IsSifted, IsSeen, OtherSidesStay}
 use Rattle.reo_rows.proofs.Union.{alike_twice}
-use Rattle.reo_propagate.specs.declared.queue.Queue.{Queue}
+use Rattle.reo_propagate.specs.declared.queue.WaitingSides.{WaitingSides}
 use Rattle.reo_propagate.specs.declared.thinning.Loss.{Loss}
 use Rattle.reo_propagate.specs.declared.state.State.{State}
 use Rattle.reo_propagate.specs.Narrow.{IsTended, nobody, IsReduced, IsRevised, IsTendedAt, IsCut, IsThinnedTo, OtherRowsMayGo}
@@ -60,7 +60,7 @@ pub revised_none : (net : Net) (names : Names) (side : ℕ) (table : List (List 
 revised_none net names side table = record { thinned = thinned_none net names side (family_of table); elsewhere = λ i p off. refl; alike = record { rows = refl; width = λ r. refl } }
 
 -- At first the side has been sifted and seen.
-pub revising_none : (net : Net) (items : List (List Value)) (inside : ℕ → Bool) (side : ℕ) (joints : List ℕ) (alive : List (List Bool)) (before sifted rows : Rows) (queue : Queue)
+pub revising_none : (net : Net) (items : List (List Value)) (inside : ℕ → Bool) (side : ℕ) (joints : List ℕ) (alive : List (List Bool)) (before sifted rows : Rows) (queue : WaitingSides)
     → AreTables net items rows → OtherSidesStay side before sifted → IsSifted net (names_of items) (family_of alive) side sifted → rows.live ≡ sifted.live → rows.notes ≡ sifted.notes
     → IsSeen net (names_of items) (family_of alive) side rows → IsTended net (names_of items) inside side alive before queue
     → IsRevising net items inside side joints 0 (record { alive = alive; rows = rows; queue = queue }) (record { alive = alive; rows = rows; queue = queue })

@@ -12,12 +12,12 @@ use Rattle.reo_joint_values.proofs.Narrowing.{at_cases, used_still}
 use Rattle.reo_side_tables.specs.Listing.{StandsIn, Lists}
 use Rattle.reo_side_tables.specs.Marks.{IsJointOf}
 use Rattle.reo_rows.specs.declared.rows.Rows.{Rows}
-use Rattle.reo_rows.specs.Flags.{flag}
+use Rattle.reo_rows.specs.RowFlags.{flag}
 use Rattle.reo_rows.specs.Sets.{code_of, family_of}
 use Rattle.reo_rows.specs.Groups.{AreNoted}
 use Rattle.reo_rows.specs.Rows.{AreLive, IsSifted, OtherSidesStay, IsSpared}
 use Rattle.reo_rows.proofs.Thinned.{live_less, sifted_thinned}
-use Rattle.reo_propagate.specs.declared.queue.Queue.{Queue}
+use Rattle.reo_propagate.specs.declared.queue.WaitingSides.{WaitingSides}
 use Rattle.reo_propagate.specs.declared.thinning.Loss.{Loss}
 use Rattle.reo_propagate.specs.Queues.{IsWoken, IsNext}
 use Rattle.reo_propagate.specs.Narrow.{IsAtRest, IsAwakeOrStays, IsCut, IsTended, nobody}
@@ -25,7 +25,7 @@ use Rattle.reo_propagate.proofs.Cutting.{cut_none}
 use Rattle.reo_propagate.proofs.Resting.{SideStays, stays_others, works_stays, rests_stays, rests_same, rests_spared}
 
 -- A joint lost values, and some of its sides are still to be woken: those may be at rest with the old values alone.
-pub record IsLosing (net : Net) (names : Names) (inside : ℕ → Bool) (revised : ℕ) (asleep : ℕ → Type 0) (old now : List (List Bool)) (rows : Rows) (queue : Queue)
+pub record IsLosing (net : Net) (names : Names) (inside : ℕ → Bool) (revised : ℕ) (asleep : ℕ → Type 0) (old now : List (List Bool)) (rows : Rows) (queue : WaitingSides)
     : Type 0 where
   pub one_each : length queue.waits ≡ side_count net
   pub works : (side : ℕ) → inside side ≡ true → AreLive net names (family_of now) side rows
@@ -36,7 +36,7 @@ pub record IsLosing (net : Net) (names : Names) (inside : ℕ → Bool) (revised
 
 module _ (net : Net) (names : Names) (inside : ℕ → Bool) (revised joint : ℕ) (old now : List (List Bool)) (loss : Loss) where
   -- At first both sides of the joint are to be woken.
-  pub losing_begins : (rows : Rows) (queue : Queue) → IsCut joint old now loss → IsTended net names inside revised old rows queue
+  pub losing_begins : (rows : Rows) (queue : WaitingSides) → IsCut joint old now loss → IsTended net names inside revised old rows queue
       → IsLosing net names inside revised (λ side. AtSide net joint side) old now rows queue
   losing_begins rows queue cut t = record {
     one_each = t.one_each;
@@ -50,7 +50,7 @@ module _ (net : Net) (names : Names) (inside : ℕ → Bool) (revised joint : �
     within = t.within;
   }
 
-  module _ (asleep : ℕ → Type 0) (before after : Rows) (waiting then : Queue) (losing : IsLosing net names inside revised asleep old now before waiting) where
+  module _ (asleep : ℕ → Type 0) (before after : Rows) (waiting then : WaitingSides) (losing : IsLosing net names inside revised asleep old now before waiting) where
     -- What waking a side asks for.
     pub losing_noted : (side : ℕ) → inside side ≡ true → side ≢ revised → get_or waiting.waits side true ≡ false → AreNoted net before.live side before.notes
     losing_noted side is ne sleeps = elim (losing.at_rest side is ne sleeps) [ inl r ↦ r.sifted.noted | inr r ↦ r.1.sifted.noted ]
@@ -108,7 +108,7 @@ module _ (net : Net) (names : Names) (inside : ℕ → Bool) (revised joint : �
       losing_woken wired cut (inl woken) =
           subst (λ (r : Rows). IsLosing net names inside revised (λ s. asleep s × (s ≢ side)) old now r then) (sym woken.1) (woken_now woken.0)
       losing_woken wired cut (inr stays) =
-          subst (λ (q : Queue). IsLosing net names inside revised (λ s. asleep s × (s ≢ side)) old now after q) (sym stays.0) (spared_now wired cut stays.1 stays.2 stays.3)
+          subst (λ (q : WaitingSides). IsLosing net names inside revised (λ s. asleep s × (s ≢ side)) old now after q) (sym stays.0) (spared_now wired cut stays.1 stays.2 stays.3)
 
     -- All are woken but the side that is revised.
     pub losing_ends : ((side : ℕ) → inside side ≡ true → asleep side → side ≡ revised) → IsTended net names inside revised now before waiting
@@ -121,7 +121,7 @@ module _ (net : Net) (names : Names) (inside : ℕ → Bool) (revised joint : �
     }
 
 -- A joint of a side that is revised lost values, and its other side was woken.
-pub tended_woken : (net : Net) → IsWired net → (names : Names) (inside : ℕ → Bool) (side other joint : ℕ) (old now : List (List Bool)) (loss : Loss) (before after : Rows) (waiting then : Queue)
+pub tended_woken : (net : Net) → IsWired net → (names : Names) (inside : ℕ → Bool) (side other joint : ℕ) (old now : List (List Bool)) (loss : Loss) (before after : Rows) (waiting then : WaitingSides)
     → IsJointOf net other joint → inside other ≡ true → other ≢ side → ((t : ℕ) → AtSide net joint t → (t ≡ side) ⊎ (t ≡ other))
     → IsCut joint old now loss → IsAwakeOrStays net (family_of now) before after waiting then other joint loss.flow
     → IsTended net names inside side old before waiting → IsTended net names inside side now after then
@@ -133,7 +133,7 @@ tended_woken net wired names inside side other joint old now loss before after w
 
 -- A joint lost values while no side is revised, and both its sides were woken.
 pub tended_woken_twice : (net : Net) → IsWired net → (names : Names) (inside : ℕ → Bool) (revised giver taker joint : ℕ) (old now : List (List Bool)) (loss : Loss)
-    (before between after : Rows) (waiting next then : Queue)
+    (before between after : Rows) (waiting next then : WaitingSides)
     → IsJointOf net giver joint → IsJointOf net taker joint → inside giver ≡ true → inside taker ≡ true → giver ≢ revised → taker ≢ revised
     → ((t : ℕ) → AtSide net joint t → (t ≡ giver) ⊎ (t ≡ taker)) → IsCut joint old now loss
     → IsAwakeOrStays net (family_of now) before between waiting next giver joint loss.flow → IsAwakeOrStays net (family_of now) between after next then taker joint loss.flow
@@ -146,7 +146,7 @@ tended_woken_twice net wired names inside revised giver taker joint old now loss
     (λ s is asleep. elim (two s asleep.0.0) [ inl e ↦ absurd (asleep.0.1 e) | inr e ↦ absurd (asleep.1 e) ])
 
 -- No value went.
-pub tended_same : (net : Net) (names : Names) (inside : ℕ → Bool) (revised : ℕ) (old now : List (List Bool)) (rows : Rows) (queue : Queue)
+pub tended_same : (net : Net) (names : Names) (inside : ℕ → Bool) (revised : ℕ) (old now : List (List Bool)) (rows : Rows) (queue : WaitingSides)
     → ((i p : ℕ) → flag now i p ≡ flag old i p) → IsTended net names inside revised old rows queue → IsTended net names inside revised now rows queue
 tended_same net names inside revised old now rows queue same t = record {
   one_each = t.one_each;
@@ -157,7 +157,7 @@ tended_same net names inside revised old now rows queue same t = record {
 }
 
 -- Only at the side that is revised rows lost their flags.
-pub tended_rows : (net : Net) (names : Names) (inside : ℕ → Bool) (side : ℕ) (alive : List (List Bool)) (before after : Rows) (queue : Queue)
+pub tended_rows : (net : Net) (names : Names) (inside : ℕ → Bool) (side : ℕ) (alive : List (List Bool)) (before after : Rows) (queue : WaitingSides)
     → OtherSidesStay side before after → AreLive net names (family_of alive) side after → IsTended net names inside side alive before queue → IsTended net names inside side alive after queue
 tended_rows net names inside side alive before after queue others here t = record {
   one_each = t.one_each;
@@ -174,7 +174,7 @@ behind : (side : ℕ) (line : List ℕ) (t : ℕ) → StandsIn (side ∷ line) t
 behind side line t (zero, lt, is) ne = absurd (ne (sym is))
 behind side line t (suc m, lt, is) ne = (m, omega (arith, lt), is)
 
-module _ (net : Net) (names : Names) (inside : ℕ → Bool) (alive : List (List Bool)) (rows : Rows) (before after : Queue) (side : ℕ) (next : IsNext before after side)
+module _ (net : Net) (names : Names) (inside : ℕ → Bool) (alive : List (List Bool)) (rows : Rows) (before after : WaitingSides) (side : ℕ) (next : IsNext before after side)
     (t : IsTended net names inside (nobody net) alive rows before) where
   -- The side that is taken out of the line is one of those that are tended.
   pub next_inside : inside side ≡ true
@@ -208,7 +208,7 @@ module _ (net : Net) (names : Names) (inside : ℕ → Bool) (alive : List (List
       }
 
 -- The side that was revised is at rest.
-pub tended_end : (net : Net) (names : Names) (inside : ℕ → Bool) (side : ℕ) (alive : List (List Bool)) (rows : Rows) (queue : Queue)
+pub tended_end : (net : Net) (names : Names) (inside : ℕ → Bool) (side : ℕ) (alive : List (List Bool)) (rows : Rows) (queue : WaitingSides)
     → IsAtRest net names (family_of alive) side rows → IsTended net names inside side alive rows queue → IsTended net names inside (nobody net) alive rows queue
 tended_end net names inside side alive rows queue here t = record {
   one_each = t.one_each;
@@ -235,7 +235,7 @@ revised_rests net wired names side joints start now rows lists thinned sifted do
 }
 
 -- Where no side stands in the line, all are settled.
-pub tended_supported : (net : Net) (names : Names) (inside : ℕ → Bool) (alive : List (List Bool)) (rows : Rows) (queue : Queue) → ((s : ℕ) → inside s ≡ true → s < side_count net)
+pub tended_supported : (net : Net) (names : Names) (inside : ℕ → Bool) (alive : List (List Bool)) (rows : Rows) (queue : WaitingSides) → ((s : ℕ) → inside s ≡ true → s < side_count net)
     → queue.line ≡ [] → IsTended net names inside (nobody net) alive rows queue → IsSupported net names inside (family_of alive)
 tended_supported net names inside alive rows queue sides_in empty t s is = elim (cases_Bool (get_or queue.waits s true)) [
   | inl waits ↦ let stands = subst (λ (l : List ℕ). StandsIn l s) empty (t.waiting s is waits) in absurd (omega (arith, stands.1))

@@ -5,7 +5,7 @@ use Rattle.reo_net_base.specs.Net.{Net}
 use Rattle.reo_joint_values.specs.declared.value.JointValue.{JointValue}
 use Rattle.reo_joint_values.specs.Values.{Names, Family}
 use Rattle.reo_joint_values.specs.Supported.{IsUsed, IsThinned}
-use Rattle.reo_rows.specs.Flags.{flag, count_set, AreAlikeTables}
+use Rattle.reo_rows.specs.RowFlags.{flag, count_set, AreAlikeTables}
 use Rattle.reo_rows.specs.declared.rows.Rows.{Rows}
 use Rattle.reo_rows.specs.Rows.{IsSifted, IsSeen}
 use Rattle.reo_rows.specs.Sets.{value_of, code_of, family_of}

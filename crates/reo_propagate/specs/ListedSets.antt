@@ -6,7 +6,7 @@ use Rattle.reo_joint_values.specs.declared.value.JointValue.{JointValue}
 use Rattle.reo_joint_values.specs.Values.{value_eq, Names, Family}
 use Rattle.reo_joint_values.specs.Supported.{IsInGreatest}
 use Rattle.reo_side_tables.specs.Marks.{IsJointOf}
-use Rattle.reo_rows.specs.Flags.{flag, AreAlikeTables}
+use Rattle.reo_rows.specs.RowFlags.{flag, AreAlikeTables}
 use Rattle.reo_rows.specs.Sets.{code_of, family_of}
 
 -- Whether a list has a value.

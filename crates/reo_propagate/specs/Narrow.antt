@@ -8,10 +8,10 @@ use Rattle.reo_joint_values.specs.Supported.{IsUsed, IsSettledAt, IsThinned, IsN
 use Rattle.reo_side_tables.specs.Listing.{StandsIn}
 use Rattle.reo_side_tables.specs.Marks.{IsJointOf}
 use Rattle.reo_rows.specs.declared.rows.Rows.{Rows}
-use Rattle.reo_rows.specs.Flags.{flag, AreAlikeTables}
+use Rattle.reo_rows.specs.RowFlags.{flag, AreAlikeTables}
 use Rattle.reo_rows.specs.Sets.{value_of, family_of}
 use Rattle.reo_rows.specs.Rows.{AreLive, IsSifted, IsSeen, IsSpared}
-use Rattle.reo_propagate.specs.declared.queue.Queue.{Queue}
+use Rattle.reo_propagate.specs.declared.queue.WaitingSides.{WaitingSides}
 use Rattle.reo_propagate.specs.declared.state.State.{State}
 use Rattle.reo_propagate.specs.declared.thinning.Loss.{Loss}
 use Rattle.reo_propagate.specs.Queues.{IsWoken}
@@ -25,7 +25,7 @@ pub record IsAtRest (net : Net) (names : Names) (family : Family) (side : ℕ) (
 
 -- A side waits, or can stay at rest: it lost no value with flow at a joint, and its rows have the
 -- marks of values there, but for some that it can do without.
-abbrev pub IsAwakeOrStays : Net → Family → Rows → Rows → Queue → Queue → ℕ → ℕ → Bool → Type 0
+abbrev pub IsAwakeOrStays : Net → Family → Rows → Rows → WaitingSides → WaitingSides → ℕ → ℕ → Bool → Type 0
 IsAwakeOrStays net family rows_old rows_new old new side j lost =
     (IsWoken old new side × (rows_new ≡ rows_old))
     ⊎ ((new ≡ old) × (lost ≡ false) × (slice_index_or old.waits side true ≡ false)
@@ -57,7 +57,7 @@ pub record IsThinnedTo (net : Net) (names : Names) (side joint n : ℕ) (start :
 -- What narrowing keeps up among some sides: each is at rest, waits in the line, or is the one that is
 -- being revised.
 pub record IsTended (net : Net) (names : Names) (inside : ℕ → Bool) (revised : ℕ)
-    (alive : List (List Bool)) (rows : Rows) (queue : Queue) : Type 0 where
+    (alive : List (List Bool)) (rows : Rows) (queue : WaitingSides) : Type 0 where
   pub one_each : length queue.waits ≡ side_count net
   pub works : (side : ℕ) → inside side ≡ true → AreLive net names (family_of alive) side rows
   pub at_rest : (side : ℕ) → inside side ≡ true → side ≢ revised

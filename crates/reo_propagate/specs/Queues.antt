@@ -1,7 +1,7 @@
 -- Sides that wait in a line.
 use Rattle.std.specs.Prelude.{ℕ, ◌+◌, ◌<◌, ◌≤◌, ◌≡◌, ◌≢◌, ◌⊎◌, ◌==◌, ◌||◌, Bool, true, false, List, [], ◌∷◌, length, slice_set, slice_index, slice_index_or}
 use Rattle.reo_side_tables.specs.Listing.{StandsIn}
-use Rattle.reo_propagate.specs.declared.queue.Queue.{Queue}
+use Rattle.reo_propagate.specs.declared.queue.WaitingSides.{WaitingSides}
 
 -- Whether a list has a number.
 abbrev pub among : List ℕ → ℕ → Bool
@@ -9,7 +9,7 @@ among [] k = false
 among (s ∷ ss) k = (s == k) || among ss k
 
 -- A side waits, and stands in the line.
-pub record IsWoken (old new : Queue) (side : ℕ) : Type 0 where
+pub record IsWoken (old new : WaitingSides) (side : ℕ) : Type 0 where
   pub one_each : length new.waits ≡ length old.waits
   pub here : slice_index_or new.waits side true ≡ true
   pub other : (t : ℕ) → t ≢ side → slice_index_or new.waits t true ≡ slice_index_or old.waits t true
@@ -20,6 +20,6 @@ pub record IsWoken (old new : Queue) (side : ℕ) : Type 0 where
   pub longer : length new.line ≤ length old.line + 1
 
 -- A side that stood first in the line waits no longer.
-pub record IsNext (old new : Queue) (side : ℕ) : Type 0 where
+pub record IsNext (old new : WaitingSides) (side : ℕ) : Type 0 where
   pub waits : new.waits ≡ slice_set old.waits side false
   pub line : old.line ≡ side ∷ new.line

@@ -12,7 +12,7 @@ mod waking;
 
 pub use line::Line;
 pub use narrowing::propagate;
-pub use queue::Queue;
+pub use queue::WaitingSides;
 pub use reo_joint_values::JointValue;
 pub use restarting::restart;
 pub use sets::{Sets, begin_with, narrow};

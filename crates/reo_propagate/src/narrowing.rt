@@ -4,7 +4,7 @@ ghost use Rattle.reo_net_base.specs.Net.{net_of, all_sides};
 ghost use Rattle.reo_net_laws.specs.Parts.{IsClosed};
 ghost use Rattle.reo_joint_values.specs.Values.{Family, AtSide};
 ghost use Rattle.reo_side_tables.specs.Marks.{IsJointOf};
-ghost use Rattle.reo_rows.specs.Flags.{count_set};
+ghost use Rattle.reo_rows.specs.RowFlags.{count_set};
 ghost use Rattle.reo_rows.specs.Rows.{AreTables, IsSifted};
 ghost use Rattle.reo_rows.specs.Basis.{IsReadyOn};
 ghost use Rattle.reo_rows.specs.Sets.{names_of};

@@ -7,12 +7,12 @@ use reo_values::{List, NoMemory};
 
 /// Which sides wait, and a line of them.
 #[derive(Drop)]
-pub struct Queue {
+pub struct WaitingSides {
     pub waits: List<bool>,
     pub line: Line,
 }
 
-impl Queue {
+impl WaitingSides {
     /// Lets a side wait. `NoMemory` is out of memory.
     pub fn wake(&mut self, side: usize) -> Result<(), NoMemory>
         requires { side < length self.old.waits }

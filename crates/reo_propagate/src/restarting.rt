@@ -15,13 +15,13 @@ use crate::line::line_of;
 use crate::state::State;
 use reo_net_base::Primitive;
 use reo_net_circuit::Circuit;
-use reo_rows::{Basis, Flags};
+use reo_rows::{Basis, RowFlags};
 use reo_side_tables::Board;
 use reo_values::{List, NoMemory};
 use std::alloc::Global;
 
 /// Sets all flags of a row. This takes no memory.
-fn set_row(table: &mut Flags, row: usize)
+fn set_row(table: &mut RowFlags, row: usize)
     requires { row < length table.old }
     ensures { AreSet (λ r. r ≡ row) table.old table.new }
 {
@@ -31,7 +31,7 @@ fn set_row(table: &mut Flags, row: usize)
 }
 
 /// Sets all flags of some rows. This takes no memory.
-fn set_rows(table: &mut Flags, rows: &[usize])
+fn set_rows(table: &mut RowFlags, rows: &[usize])
     requires { (m : ℕ) → m < length rows.now → slice_index rows.now m < length table.old }
     ensures { AreSet (IsOfFirst rows.now (length rows.now)) table.old table.new }
 {

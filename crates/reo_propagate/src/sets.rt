@@ -21,7 +21,7 @@ use reo_joint_values::JointValue;
 use reo_net_base::Primitive;
 use reo_net_circuit::{Circuit, ends_of};
 use reo_reach::Supply;
-use reo_rows::{Basis, FLOWS, Flags, all_rows};
+use reo_rows::{Basis, FLOWS, RowFlags, all_rows};
 use reo_side_tables::{Board, boards_of, giver_side};
 use reo_values::{List, NoMemory, Value};
 use std::alloc::Global;
@@ -46,7 +46,7 @@ pub fn code_of(value: JointValue) -> usize
 }
 
 /// Sets the flags of the values of a list, but of those that have no flag. This takes no memory.
-fn put_values(alive: &mut Flags, joint: usize, values: &[JointValue])
+fn put_values(alive: &mut RowFlags, joint: usize, values: &[JointValue])
     requires { joint < length alive.old }
     ensures { ArePut joint values.now alive.old alive.new }
 {
@@ -59,12 +59,12 @@ fn put_values(alive: &mut Flags, joint: usize, values: &[JointValue])
 }
 
 /// The flags of the values of lists. `NoMemory` is out of memory.
-fn listed_values(alloc: Global, items: &[List<Value>], sets: &Sets) -> Result<Flags, NoMemory>
+fn listed_values(alloc: Global, items: &[List<Value>], sets: &Sets) -> Result<RowFlags, NoMemory>
     requires few { (j : ℕ) → length (slice_index_or items.now j []) < 2 ^ 32 }
     requires sets { length sets.now.values ≡ length items.now }
     ensures { IfOk result (AreFlags items.now (length items.now) (listed sets.now.values)) }
 {
-    let mut alive = Flags::new(alloc);
+    let mut alive = RowFlags::new(alloc);
     for joint in 0..items.len() {
         alive.push_row(alloc, items[joint].len() + FLOWS, false)?;
         put_values(&mut alive, joint, sets.values.at(joint).as_slice());
@@ -99,7 +99,7 @@ pub fn begin_with<P: Primitive>(
 
 /// Keeps the values of a list that have their flags at a joint, and says whether there are any.
 /// This takes no memory.
-fn keep_values(values: &mut List<JointValue>, alive: &Flags, joint: usize) -> bool
+fn keep_values(values: &mut List<JointValue>, alive: &RowFlags, joint: usize) -> bool
     requires joint { joint < length alive.now }
     requires flags { (v : Standing) → in_set values.old v ≡ true
         → code_of v < length (slice_index_or alive.now joint []) }
@@ -123,7 +123,7 @@ fn keep_values(values: &mut List<JointValue>, alive: &Flags, joint: usize) -> bo
 /// are any then. This takes no memory.
 fn keep_joint<P: Primitive>(
     circuit: &Circuit<P>,
-    alive: &Flags,
+    alive: &RowFlags,
     side: usize,
     joint: usize,
     sets: &mut Sets,
@@ -150,7 +150,7 @@ fn keep_joint<P: Primitive>(
 fn keep_given<P: Primitive>(
     circuit: &Circuit<P>,
     board: &Board,
-    alive: &Flags,
+    alive: &RowFlags,
     side: usize,
     sets: &mut Sets,
 ) -> bool
@@ -178,7 +178,7 @@ fn keep_given<P: Primitive>(
 fn keep_sets<P: Primitive>(
     circuit: &Circuit<P>,
     boards: &List<Board>,
-    alive: &Flags,
+    alive: &RowFlags,
     sides: &[usize],
     sets: &mut Sets,
 ) -> bool
@@ -211,7 +211,7 @@ fn left_of<P: Primitive>(
     basis: &Basis<'_, P>,
     sides: &[usize],
     sets: &Sets,
-) -> Result<Flags, NoMemory>
+) -> Result<RowFlags, NoMemory>
     requires boards { AreBoards (net_of P.behaviour basis.now.circuit.now) basis.now.boards.now }
     requires ends { AreEnds (net_of P.behaviour basis.now.circuit.now) basis.now.ends.now }
     requires items { length basis.now.items.now ≡ length basis.now.circuit.now.joints }

@@ -7,10 +7,10 @@ ghost use Rattle.reo_propagate.specs.Queues.{among};
 ghost use Rattle.reo_propagate.specs.Beginning.{AreFlags, IsSearch, IsWhole};
 
 use crate::line::line_of;
-use crate::queue::Queue;
+use crate::queue::WaitingSides;
 use reo_net_base::Primitive;
 use reo_net_circuit::{Circuit, Ends};
-use reo_rows::{FLOWS, Flags, Rows, all_rows};
+use reo_rows::{FLOWS, RowFlags, Rows, all_rows};
 use reo_side_tables::Board;
 use reo_values::{List, NoMemory, Value};
 use std::alloc::Global;
@@ -18,17 +18,17 @@ use std::alloc::Global;
 /// The values and the rows that are left, and the sides that wait.
 #[derive(Drop)]
 pub struct State {
-    pub alive: Flags,
+    pub alive: RowFlags,
     pub rows: Rows,
-    pub queue: Queue,
+    pub queue: WaitingSides,
 }
 
 /// A flag for each value of each joint, all set. `NoMemory` is out of memory.
-fn all_values(alloc: Global, items: &[List<Value>]) -> Result<Flags, NoMemory>
+fn all_values(alloc: Global, items: &[List<Value>]) -> Result<RowFlags, NoMemory>
     requires few { (j : ℕ) → length (slice_index_or items.now j []) < 2 ^ 32 }
     ensures { IfOk result (AreFlags items.now (length items.now) (λ j v. true)) }
 {
-    let mut alive = Flags::new(alloc);
+    let mut alive = RowFlags::new(alloc);
     for joint in 0..items.len() {
         alive.push_row(alloc, items[joint].len() + FLOWS, true)?;
     }
@@ -36,7 +36,7 @@ fn all_values(alloc: Global, items: &[List<Value>]) -> Result<Flags, NoMemory>
 }
 
 /// So many sides wait, and these stand in the line. `NoMemory` is out of memory.
-pub(crate) fn all_waiting(alloc: Global, count: usize, sides: &[usize]) -> Result<Queue, NoMemory>
+pub(crate) fn all_waiting(alloc: Global, count: usize, sides: &[usize]) -> Result<WaitingSides, NoMemory>
     ensures waits { IfOk result (λ queue. queue.waits ≡ replicate count true) }
     ensures line { IfOk result (λ queue. queue.line ≡ sides.now) }
 {
@@ -45,7 +45,7 @@ pub(crate) fn all_waiting(alloc: Global, count: usize, sides: &[usize]) -> Resul
         waits.push(true)?;
     }
     let line = line_of(alloc, sides)?;
-    Ok(Queue { waits, line })
+    Ok(WaitingSides { waits, line })
 }
 
 /// All values and all rows, where these sides wait. `NoMemory` is out of memory.

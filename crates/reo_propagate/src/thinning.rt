@@ -5,7 +5,7 @@ ghost use Rattle.reo_joint_values.specs.Values.{Family};
 ghost use Rattle.reo_joint_values.specs.Supported.{IsThinned};
 ghost use Rattle.reo_side_tables.specs.Boards.{AreBoards};
 ghost use Rattle.reo_side_tables.specs.Marks.{IsJointOf};
-ghost use Rattle.reo_rows.specs.Flags.{count_set};
+ghost use Rattle.reo_rows.specs.RowFlags.{count_set};
 ghost use Rattle.reo_rows.specs.Groups.{AreNoted};
 ghost use Rattle.reo_rows.specs.Rows.{AreTables, IsSifted, IsSeen};
 ghost use Rattle.reo_rows.specs.Basis.{IsReadyOn};
@@ -13,7 +13,7 @@ ghost use Rattle.reo_rows.specs.Sets.{family_of, names_of};
 ghost use Rattle.reo_propagate.specs.Narrow.{IsCut, IsThinnedTo};
 
 use reo_net_base::Primitive;
-use reo_rows::{Basis, FLOWS, Flags, Rows, is_used, used_marks};
+use reo_rows::{Basis, FLOWS, RowFlags, Rows, is_used, used_marks};
 
 /// Whether a joint lost a value, and whether one with flow.
 #[derive(Clone, Copy, Debug, PartialEq, Eq)]
@@ -48,7 +48,7 @@ impl Loss {
 /// Takes the values of a joint away that are not used at a side. This takes no memory.
 pub fn thin<P: Primitive>(
     basis: &Basis<'_, P>,
-    alive: &mut Flags,
+    alive: &mut RowFlags,
     rows: &Rows,
     side: usize,
     joint: usize,

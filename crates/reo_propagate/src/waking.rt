@@ -8,9 +8,9 @@ ghost use Rattle.reo_rows.specs.Basis.{IsReadyOn};
 ghost use Rattle.reo_rows.specs.Sets.{family_of};
 ghost use Rattle.reo_propagate.specs.Narrow.{IsAwakeOrStays};
 
-use crate::queue::Queue;
+use crate::queue::WaitingSides;
 use reo_net_base::Primitive;
-use reo_rows::{Basis, Flags, Rows, can_stay};
+use reo_rows::{Basis, RowFlags, Rows, can_stay};
 use reo_values::NoMemory;
 
 /// Lets a side wait where a joint of it lost values, unless it can stay at rest: no value with flow
@@ -18,9 +18,9 @@ use reo_values::NoMemory;
 /// do without. `NoMemory` is out of memory.
 pub fn wake<P: Primitive>(
     basis: &Basis<'_, P>,
-    alive: &Flags,
+    alive: &RowFlags,
     rows: &mut Rows,
-    queue: &mut Queue,
+    queue: &mut WaitingSides,
     side: usize,
     joint: usize,
     lost_flow: bool,

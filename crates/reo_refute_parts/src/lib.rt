@@ -7,4 +7,4 @@ mod places;
 
 pub use lines::{Reader, line, put_line};
 pub use lists::item_lists;
-pub use places::{Allowed, KeyPlace, Number, key_places};
+pub use places::{AllowedRows, KeyPlace, Number, key_places};

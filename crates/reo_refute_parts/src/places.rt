@@ -5,6 +5,6 @@ mod marking;
 mod place;
 mod places;
 
-pub use allowed::Allowed;
+pub use allowed::AllowedRows;
 pub use place::{KeyPlace, Number};
 pub use places::key_places;

@@ -3,7 +3,7 @@ use Rattle.std.proofs.Common.{◌≡◌, ◌≢◌, ◌⊎◌, inl, inr, ℕ, Bo
 use Rattle.std.specs.Bool.{◌==◌}
 use Rattle.std.proofs.lemmas.Bool.{and_parts}
 use Rattle.reo_values.proofs.Naturals.{same_eq, other_eq}
-use Rattle.reo_rows.specs.Flags.{flag}
+use Rattle.reo_rows.specs.RowFlags.{flag}
 
 pub and_no : (f a b : Bool) → (a ≡ false) ⊎ (b ≡ false) → (f && not (a && b)) ≡ f
 and_no true true b (inl e) = absurd cc

@@ -1,7 +1,7 @@
 -- How many flags of a table are set, when one is cleared.
 use Rattle.std.proofs.Common.{◌≡◌, ℕ, zero, suc, ◌+◌, ◌<◌, Bool, true, false, cond, List, [], ◌∷◌, length, get_or, set, ap, ◌∙◌, arith}
 use Rattle.std.proofs.lemmas.List.{get_or_default}
-use Rattle.reo_rows.specs.Flags.{flag, row_set, count_set}
+use Rattle.reo_rows.specs.RowFlags.{flag, row_set, count_set}
 
 cleared_row : (row : List Bool) (p : ℕ) → p < length row → get_or row p false ≡ true → row_set (set row p false) + 1 ≡ row_set row
 cleared_row [] p lt was = absurd (omega arith)

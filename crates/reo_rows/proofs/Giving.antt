@@ -11,7 +11,7 @@ use Rattle.reo_joint_values.specs.Fitting.{given_for}
 use Rattle.reo_joint_values.specs.Works.{IsGivenAs, IsGivenIn, TakerWorks}
 use Rattle.reo_joint_values.proofs.Marks.{flow_number}
 use Rattle.reo_side_tables.specs.Marks.{TakesFlow, GivesFlow}
-use Rattle.reo_rows.specs.Flags.{flag}
+use Rattle.reo_rows.specs.RowFlags.{flag}
 use Rattle.reo_rows.specs.Sets.{value_of, code_of, family_of}
 use Rattle.reo_rows.proofs.Codes.{flow_code, value_code}
 

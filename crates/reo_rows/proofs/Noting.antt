@@ -9,7 +9,7 @@ use Rattle.reo_values.proofs.Naturals.{same_eq, other_eq}
 use Rattle.reo_net_base.specs.Net.{Net}
 use Rattle.reo_side_tables.specs.Marks.{groups_in, group_in}
 use Rattle.reo_rows.specs.declared.groups.Group.{Group}
-use Rattle.reo_rows.specs.Flags.{flag}
+use Rattle.reo_rows.specs.RowFlags.{flag}
 use Rattle.reo_rows.specs.Groups.{live_in, IsNotedOf}
 use Rattle.reo_rows.specs.Sifting.{live_from, AreNotedFrom}
 

@@ -13,7 +13,7 @@ use Rattle.reo_joint_values.specs.Works.{RowWorks}
 use Rattle.reo_side_tables.specs.Marks.{side_in, group_in}
 use Rattle.reo_rows.specs.declared.groups.Group.{Group}
 use Rattle.reo_rows.specs.declared.rows.Rows.{Rows}
-use Rattle.reo_rows.specs.Flags.{flag}
+use Rattle.reo_rows.specs.RowFlags.{flag}
 use Rattle.reo_rows.specs.Groups.{live_in}
 use Rattle.reo_rows.specs.Rows.{AreTables}
 use Rattle.reo_rows.specs.Sifting.{AreOdds, AreNotedFrom, AreRowsNoted, IsRowSifted, AreSiftedFrom}

@@ -16,7 +16,7 @@ use Rattle.reo_side_tables.proofs.Sides.{group_below, whole_row}
 use Rattle.reo_rows.specs.declared.groups.Group.{Group}
 use Rattle.reo_rows.specs.declared.marks.Marks.{Marks}
 use Rattle.reo_rows.specs.declared.rows.Rows.{Rows}
-use Rattle.reo_rows.specs.Flags.{flag}
+use Rattle.reo_rows.specs.RowFlags.{flag}
 use Rattle.reo_rows.specs.Stands.{HasMark, marks_has}
 use Rattle.reo_rows.specs.Groups.{live_in, AreNoted}
 use Rattle.reo_rows.specs.Sparing.{IsIdle, IsLacking, CanSpare, AreCleared, GroupsHave}

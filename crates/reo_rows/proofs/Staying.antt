@@ -20,7 +20,7 @@ use Rattle.reo_side_tables.specs.Marks.{groups_in, group_in, apart_in, common_in
 use Rattle.reo_side_tables.proofs.Sides.{mark_as_group, group_below}
 use Rattle.reo_rows.specs.declared.groups.Group.{Group}
 use Rattle.reo_rows.specs.declared.rows.Rows.{Rows}
-use Rattle.reo_rows.specs.Flags.{flag}
+use Rattle.reo_rows.specs.RowFlags.{flag}
 use Rattle.reo_rows.specs.Stands.{value_mark, HasMark, MarksStand, FlowsStand}
 use Rattle.reo_rows.specs.Groups.{live_in, IsNotedOf, AreNoted}
 use Rattle.reo_rows.specs.Rows.{IsSifted, IsSpare, IsSpared}

@@ -1,7 +1,7 @@
 -- What is seen, one thing after another.
 use Rattle.std.proofs.Common.{◌≡◌, ◌⊎◌, inl, inr, ℕ, ◌+◌, Bool, true, List, refl, ◌∙◌, subst, arith}
 use Rattle.std.proofs.lemmas.Bool.{cases_eq}
-use Rattle.reo_rows.specs.Flags.{flag, AreAlikeTables}
+use Rattle.reo_rows.specs.RowFlags.{flag, AreAlikeTables}
 use Rattle.reo_rows.specs.Seeing.{AreSeen, Below}
 
 pub alike_twice : (a b c : List (List Bool)) → AreAlikeTables a b → AreAlikeTables b c → AreAlikeTables a c

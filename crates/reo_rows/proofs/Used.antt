@@ -18,7 +18,7 @@ use Rattle.reo_joint_values.proofs.Marks.{flow_number}
 use Rattle.reo_side_tables.specs.declared.board.Flow.{Flow as Flows}
 use Rattle.reo_side_tables.specs.Boards.{IsFlow}
 use Rattle.reo_side_tables.specs.Marks.{IsJointOf, TakesFlow, GivesFlow}
-use Rattle.reo_rows.specs.Flags.{flag, AreAlikeTables}
+use Rattle.reo_rows.specs.RowFlags.{flag, AreAlikeTables}
 use Rattle.reo_rows.specs.Seeing.{AreSeen, Below, FollowUse, TakenUse, TakesUse, AloneUse, RowUse, LiveRowUse}
 use Rattle.reo_rows.specs.declared.groups.Group.{Group}
 use Rattle.reo_rows.specs.declared.rows.Rows.{Rows}

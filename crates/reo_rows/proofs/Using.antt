@@ -22,7 +22,7 @@ use Rattle.reo_side_tables.proofs.Sides.{mark_as_group, group_below}
 use Rattle.reo_rows.specs.declared.groups.Group.{Group}
 use Rattle.reo_rows.specs.declared.marks.Marks.{Marks}
 use Rattle.reo_rows.specs.declared.rows.Rows.{Rows}
-use Rattle.reo_rows.specs.Flags.{flag}
+use Rattle.reo_rows.specs.RowFlags.{flag}
 use Rattle.reo_rows.specs.Groups.{live_in, IsNotedOf, AreNoted}
 use Rattle.reo_rows.specs.Rows.{AreTables, IsSifted, IsSeen}
 use Rattle.reo_rows.specs.Sets.{value_of}

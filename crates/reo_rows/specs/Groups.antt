@@ -6,7 +6,7 @@ use Rattle.reo_side_tables.specs.Marks.{groups_in, group_in, apart_in, end_at, c
 use Rattle.reo_rows.specs.declared.groups.Group.{Group}
 use Rattle.reo_rows.specs.declared.groups.Odd.{Odd}
 use Rattle.reo_rows.specs.declared.groups.Odd.TheVariants as odds
-use Rattle.reo_rows.specs.Flags.{flag}
+use Rattle.reo_rows.specs.RowFlags.{flag}
 use Rattle.reo_rows.specs.Stands.{HasMark, GroupStands}
 
 -- The rows of a group of a side that have their flags.

@@ -1,4 +1,4 @@
-pub mod Flags
+pub mod RowFlags
 pub mod Sets
 pub mod Basis
 pub mod Stands

@@ -7,7 +7,7 @@ use Rattle.reo_joint_values.specs.Values.{Names, Family}
 use Rattle.reo_joint_values.specs.Works.{RowWorks, ValueWorks}
 use Rattle.reo_side_tables.specs.Marks.{side_in, groups_in, apart_in, end_at, mark_at_joint, IsJointOf}
 use Rattle.reo_rows.specs.declared.rows.Rows.{Rows}
-use Rattle.reo_rows.specs.Flags.{flag}
+use Rattle.reo_rows.specs.RowFlags.{flag}
 use Rattle.reo_rows.specs.Sets.{value_of}
 use Rattle.reo_rows.specs.Stands.{HasMark}
 use Rattle.reo_rows.specs.Groups.{AreNoted}

@@ -6,7 +6,7 @@ use Rattle.reo_net_laws.specs.Ends.{from_in}
 use Rattle.reo_joint_values.specs.Values.{Names, Family, item_named, joint_of, giver_side}
 use Rattle.reo_joint_values.specs.Works.{Follows, IsGivenAs, TakerWorks, ValueWorks}
 use Rattle.reo_side_tables.specs.Marks.{IsJointOf}
-use Rattle.reo_rows.specs.Flags.{flag, AreAlikeTables}
+use Rattle.reo_rows.specs.RowFlags.{flag, AreAlikeTables}
 use Rattle.reo_rows.specs.Sets.{value_of}
 
 -- A flag for each value of each joint.

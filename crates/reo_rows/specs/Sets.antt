@@ -8,7 +8,7 @@ use Rattle.reo_joint_values.specs.declared.value.JointValue.TheVariants.{Flow, R
 use Rattle.reo_joint_values.specs.Values.{Names, Family}
 use Rattle.reo_side_tables.specs.declared.board.Board.{Board}
 use Rattle.reo_side_tables.specs.Boards.{AreBoards}
-use Rattle.reo_rows.specs.Flags.{flag}
+use Rattle.reo_rows.specs.RowFlags.{flag}
 
 -- The place of a value among the flags of its joint.
 abbrev pub code_of : JointValue → ℕ

@@ -9,7 +9,7 @@ use Rattle.reo_side_tables.specs.Marks.{groups_in}
 use Rattle.reo_rows.specs.declared.groups.Group.{Group}
 use Rattle.reo_rows.specs.declared.groups.Odd.{Odd}
 use Rattle.reo_rows.specs.declared.rows.Rows.{Rows}
-use Rattle.reo_rows.specs.Flags.{flag}
+use Rattle.reo_rows.specs.RowFlags.{flag}
 use Rattle.reo_rows.specs.Groups.{live_in, IsNotedOf, IsOdd}
 use Rattle.reo_rows.specs.Rows.{AreTables, AreLive, OtherSidesStay}
 

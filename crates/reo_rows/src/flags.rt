@@ -1,6 +1,6 @@
 //! Tables of flags.
 ghost use Rattle.std.specs.Prelude.{◌≡◌, ◌==◌, ◌&&◌, ◌<◌, ◌+◌, ℕ, cond, not, true, false, [], ◌∷◌, ◌++◌, IfOk, OnOk, OnErr, length, replicate, slice_index_or};
-ghost use Rattle.reo_rows.specs.Flags.{flag, count_set, AreAlikeTables};
+ghost use Rattle.reo_rows.specs.RowFlags.{flag, count_set, AreAlikeTables};
 
 use reo_values::{List, NoMemory};
 use std::alloc::Global;
@@ -8,11 +8,11 @@ use std::marker::Model;
 
 /// Rows of flags. Contracts see a list of lists.
 #[derive(Drop)]
-pub struct Flags {
+pub struct RowFlags {
     rows: List<List<bool>>,
 }
 
-impl Model for Flags {
+impl Model for RowFlags {
     ghost use Rattle.std.specs.Prelude.{List, Bool};
 
     ghost Value = { List (List Bool) };
@@ -40,25 +40,25 @@ fn copy_of(alloc: Global, row: &List<bool>) -> Result<List<bool>, NoMemory>
     }
 }
 
-impl Flags {
+impl RowFlags {
     /// No rows. This takes no memory.
-    pub fn new(alloc: Global) -> Flags
+    pub fn new(alloc: Global) -> RowFlags
         ensures { result ≡ [] }
     {
-        Flags {
+        RowFlags {
             rows: List::new(alloc),
         }
     }
 
     /// The same flags once more. `NoMemory` is out of memory.
-    pub fn copied(&self, alloc: Global) -> Result<Flags, NoMemory>
+    pub fn copied(&self, alloc: Global) -> Result<RowFlags, NoMemory>
         ensures { IfOk result (λ copy. copy ≡ self.now) }
     {
         let mut rows = List::new(alloc);
         for row in self.rows.as_slice() {
             rows.push(copy_of(alloc, row)?)?;
         }
-        Ok(Flags { rows })
+        Ok(RowFlags { rows })
     }
 
     /// One more row of so many flags, all alike. After `NoMemory`, which is out of memory, the rows

@@ -8,14 +8,14 @@ ghost use Rattle.reo_joint_values.specs.declared.value.JointValue.TheVariants.{F
 ghost use Rattle.reo_joint_values.specs.Works.{Follows, IsGivenIn, TakerWorks, TakerHas};
 ghost use Rattle.reo_side_tables.specs.Boards.{IsFlow};
 ghost use Rattle.reo_side_tables.specs.Marks.{TakesFlow, GivesFlow};
-ghost use Rattle.reo_rows.specs.Flags.{flag};
+ghost use Rattle.reo_rows.specs.RowFlags.{flag};
 ghost use Rattle.reo_rows.specs.Sets.{family_of, names_of};
 ghost use Rattle.reo_rows.specs.Stands.{FlowsStand};
 ghost use Rattle.reo_rows.specs.Basis.{IsReadyOn};
 ghost use Rattle.reo_rows.specs.Flows.{IsPassedOn};
 
 use crate::basis::Basis;
-use crate::flags::Flags;
+use crate::flags::RowFlags;
 use crate::items::{gives_value, lets_in, source_of};
 use crate::marks::FLOWS;
 use reo_net_base::Primitive;
@@ -26,7 +26,7 @@ use reo_values::Value;
 /// Whether a joint has the item that a row gives there with flow for what it takes.
 fn is_flow_given<P: Primitive>(
     basis: &Basis<'_, P>,
-    alive: &Flags,
+    alive: &RowFlags,
     side: usize,
     row: usize,
     joint: usize,
@@ -72,7 +72,7 @@ pub(crate) fn follows<P: Primitive>(
 /// Whether each joint has what a row gives there for an item that it takes in at a joint.
 fn is_passed_on<P: Primitive>(
     basis: &Basis<'_, P>,
-    alive: &Flags,
+    alive: &RowFlags,
     side: usize,
     row: usize,
     flow: &Flow,
@@ -103,7 +103,7 @@ fn is_passed_on<P: Primitive>(
 /// may stand.
 pub(crate) fn flow_works<P: Primitive>(
     basis: &Basis<'_, P>,
-    alive: &Flags,
+    alive: &RowFlags,
     side: usize,
     row: usize,
     flow: &Flow,
@@ -130,7 +130,7 @@ pub(crate) fn flow_works<P: Primitive>(
 /// Whether some item may be taken in with flow at a joint.
 fn takes_flow<P: Primitive>(
     basis: &Basis<'_, P>,
-    alive: &Flags,
+    alive: &RowFlags,
     side: usize,
     row: usize,
     flow: &Flow,
@@ -156,7 +156,7 @@ fn takes_flow<P: Primitive>(
 /// Whether what a row takes in and gives with flow can stand.
 pub(crate) fn flows_stand<P: Primitive>(
     basis: &Basis<'_, P>,
-    alive: &Flags,
+    alive: &RowFlags,
     side: usize,
     row: usize,
     flow: &Flow,

@@ -15,7 +15,7 @@ mod standing;
 mod usage;
 
 pub use basis::Basis;
-pub use flags::Flags;
+pub use flags::RowFlags;
 pub use groups::{Group, Odd};
 pub use marks::{FLOWS, Marks, mark_seen, marks_left};
 pub use rows::{Rows, all_rows};

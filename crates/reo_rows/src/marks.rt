@@ -10,7 +10,7 @@ ghost use Rattle.reo_rows.specs.Basis.{IsReadyOn};
 ghost use Rattle.reo_rows.specs.Stands.{value_mark, HasMark, marks_has, marks_byte};
 
 use crate::basis::Basis;
-use crate::flags::Flags;
+use crate::flags::RowFlags;
 use reo_net_base::{Mark, Primitive};
 use reo_net_circuit::Circuit;
 use reo_side_tables::giver_side;
@@ -133,7 +133,7 @@ pub fn mark_seen<P: Primitive>(circuit: &Circuit<P>, side: usize, joint: usize, 
 }
 
 /// Whether a joint has a value with flow.
-fn has_flow(alive: &Flags, joint: usize) -> bool
+fn has_flow(alive: &RowFlags, joint: usize) -> bool
     requires { joint < length alive.now }
     ensures { IsTrue result ↔ ((n : ℕ) × (family_of alive.now joint (Flow n) ≡ true)) }
 {
@@ -167,7 +167,7 @@ fn marks_of(flow: bool, other: bool, neither: bool, required: bool, jam: bool) -
 /// The marks that the values of a joint have, as a side of the joint sees them.
 pub fn marks_left<P: Primitive>(
     basis: &Basis<'_, P>,
-    alive: &Flags,
+    alive: &RowFlags,
     side: usize,
     joint: usize,
 ) -> Marks

@@ -1,11 +1,11 @@
 //! The rows of the sides of a circuit, as a search sees them.
 ghost use Rattle.std.specs.Prelude.{◌≡◌, ◌<◌, ◌^◌, ℕ, true, [], IfOk, length, replicate, slice_index_or};
 ghost use Rattle.reo_net_base.specs.Net.{net_of, all_sides};
-ghost use Rattle.reo_rows.specs.Flags.{flag};
+ghost use Rattle.reo_rows.specs.RowFlags.{flag};
 ghost use Rattle.reo_rows.specs.Beginning.{nothing_noted, AreRowFlags, AreGroupNotes, AreValueFlags};
 ghost use Rattle.reo_rows.specs.Rows.{AreTables};
 
-use crate::flags::Flags;
+use crate::flags::RowFlags;
 use crate::groups::{Group, Odd};
 use crate::marks::FLOWS;
 use reo_net_base::Primitive;
@@ -18,9 +18,9 @@ use std::alloc::Global;
 /// marks of one side's groups.
 #[derive(Drop)]
 pub struct Rows {
-    pub live: Flags,
+    pub live: RowFlags,
     pub notes: List<List<Group>>,
-    pub seen: Flags,
+    pub seen: RowFlags,
     pub odds: List<Odd>,
     pub fits: Vec<u8>,
 }
@@ -40,11 +40,11 @@ fn empty_notes(alloc: Global, count: usize) -> Result<List<Group>, NoMemory>
 }
 
 /// The flags of the rows of all sides: each row has its flag. `NoMemory` is out of memory.
-fn row_flags<P: Primitive>(alloc: Global, circuit: &Circuit<P>) -> Result<Flags, NoMemory>
+fn row_flags<P: Primitive>(alloc: Global, circuit: &Circuit<P>) -> Result<RowFlags, NoMemory>
     ensures { let net = net_of P.behaviour circuit.now in
         IfOk result (AreRowFlags net (length (all_sides net.primitives))) }
 {
-    let mut live = Flags::new(alloc);
+    let mut live = RowFlags::new(alloc);
     for side in 0..circuit.sides() {
         live.push_row(alloc, circuit.rows(side), true)?;
     }
@@ -67,11 +67,11 @@ fn group_notes<P: Primitive>(
 }
 
 /// The flags of the values of all joints: none is seen. `NoMemory` is out of memory.
-fn value_flags(alloc: Global, items: &[List<Value>]) -> Result<Flags, NoMemory>
+fn value_flags(alloc: Global, items: &[List<Value>]) -> Result<RowFlags, NoMemory>
     requires few { (j : ℕ) → length (slice_index_or items.now j []) < 2 ^ 32 }
     ensures { IfOk result (AreValueFlags items.now (length items.now)) }
 {
-    let mut seen = Flags::new(alloc);
+    let mut seen = RowFlags::new(alloc);
     for joint in 0..items.len() {
         seen.push_row(alloc, items[joint].len() + FLOWS, false)?;
     }

@@ -5,14 +5,14 @@ ghost use Rattle.reo_net_laws.specs.Ends.{IsRowOf};
 ghost use Rattle.reo_joint_values.specs.Values.{taker_side};
 ghost use Rattle.reo_side_tables.specs.Boards.{IsFlow};
 ghost use Rattle.reo_side_tables.specs.Marks.{side_in, TakesFlow, GivesFlow};
-ghost use Rattle.reo_rows.specs.Flags.{flag, AreAlikeTables};
+ghost use Rattle.reo_rows.specs.RowFlags.{flag, AreAlikeTables};
 ghost use Rattle.reo_rows.specs.Rows.{AreTables, IsSeen};
 ghost use Rattle.reo_rows.specs.Seeing.{HasValuePlaces, AreSeen, IsGivenValue, GivenUse, FollowedUse, FollowUse, TakenUse, TakesUse, AloneUse, RowUse, LiveRowUse};
 ghost use Rattle.reo_rows.specs.Basis.{IsReadyOn};
 ghost use Rattle.reo_rows.specs.Sets.{family_of, names_of};
 
 use crate::basis::Basis;
-use crate::flags::Flags;
+use crate::flags::RowFlags;
 use crate::flows::{flow_works, follows};
 use crate::items::{gives_value, source_of};
 use crate::marks::FLOWS;
@@ -23,7 +23,7 @@ use reo_side_tables::Flow;
 use reo_values::{List, Value};
 
 /// No value with flow of a joint is seen.
-fn unsee(seen: &mut Flags, joint: usize)
+fn unsee(seen: &mut RowFlags, joint: usize)
     requires { joint < length seen.old }
     ensures alike { AreAlikeTables seen.old seen.new }
     ensures here { (code : ℕ) → 4 ≤ code → flag seen.new joint code ≡ false }
@@ -35,7 +35,7 @@ fn unsee(seen: &mut Flags, joint: usize)
 }
 
 /// No value with flow of these joints is seen.
-fn unsee_all(seen: &mut Flags, joints: &[usize])
+fn unsee_all(seen: &mut RowFlags, joints: &[usize])
     requires { (m : ℕ) → m < length joints.now → slice_index joints.now m < length seen.old }
     ensures alike { AreAlikeTables seen.old seen.new }
     ensures here { (m code : ℕ) → m < length joints.now → 4 ≤ code
@@ -50,8 +50,8 @@ fn unsee_all(seen: &mut Flags, joints: &[usize])
 fn see_value<P: Primitive>(
     circuit: &Circuit<P>,
     items: &[List<Value>],
-    alive: &Flags,
-    seen: &mut Flags,
+    alive: &RowFlags,
+    seen: &mut RowFlags,
     side: usize,
     row: usize,
     joint: usize,
@@ -81,8 +81,8 @@ fn see_value<P: Primitive>(
 fn see_given<P: Primitive>(
     circuit: &Circuit<P>,
     items: &[List<Value>],
-    alive: &Flags,
-    seen: &mut Flags,
+    alive: &RowFlags,
+    seen: &mut RowFlags,
     side: usize,
     row: usize,
     joint: usize,
@@ -107,8 +107,8 @@ fn see_given<P: Primitive>(
 fn see_followed<P: Primitive>(
     circuit: &Circuit<P>,
     items: &[List<Value>],
-    alive: &Flags,
-    seen: &mut Flags,
+    alive: &RowFlags,
+    seen: &mut RowFlags,
     side: usize,
     row: usize,
     source: usize,
@@ -134,8 +134,8 @@ fn see_followed<P: Primitive>(
 fn see_followers<P: Primitive>(
     circuit: &Circuit<P>,
     items: &[List<Value>],
-    alive: &Flags,
-    seen: &mut Flags,
+    alive: &RowFlags,
+    seen: &mut RowFlags,
     side: usize,
     row: usize,
     flow: &Flow,
@@ -162,8 +162,8 @@ fn see_followers<P: Primitive>(
 /// for it.
 fn see_taken<P: Primitive>(
     basis: &Basis<'_, P>,
-    alive: &Flags,
-    seen: &mut Flags,
+    alive: &RowFlags,
+    seen: &mut RowFlags,
     side: usize,
     row: usize,
     flow: &Flow,
@@ -203,8 +203,8 @@ fn see_taken<P: Primitive>(
 /// Sees the values that a row takes in with flow at a joint, and what it gives for them.
 fn see_takes<P: Primitive>(
     basis: &Basis<'_, P>,
-    alive: &Flags,
-    seen: &mut Flags,
+    alive: &RowFlags,
+    seen: &mut RowFlags,
     side: usize,
     row: usize,
     flow: &Flow,
@@ -230,8 +230,8 @@ fn see_takes<P: Primitive>(
 fn see_alone<P: Primitive>(
     circuit: &Circuit<P>,
     items: &[List<Value>],
-    alive: &Flags,
-    seen: &mut Flags,
+    alive: &RowFlags,
+    seen: &mut RowFlags,
     side: usize,
     row: usize,
     joint: usize,
@@ -253,8 +253,8 @@ fn see_alone<P: Primitive>(
 /// Sees the values with flow that go with a row.
 fn see_row<P: Primitive>(
     basis: &Basis<'_, P>,
-    alive: &Flags,
-    seen: &mut Flags,
+    alive: &RowFlags,
+    seen: &mut RowFlags,
     side: usize,
     row: usize,
     flow: &Flow,
@@ -283,9 +283,9 @@ fn see_row<P: Primitive>(
 /// Sees the values with flow that go with a row of a side, if it has its flag.
 fn see_live<P: Primitive>(
     basis: &Basis<'_, P>,
-    alive: &Flags,
-    live: &Flags,
-    seen: &mut Flags,
+    alive: &RowFlags,
+    live: &RowFlags,
+    seen: &mut RowFlags,
     side: usize,
     row: usize,
 )
@@ -311,7 +311,7 @@ fn see_live<P: Primitive>(
 
 /// Sees which values with flow at the joints of a side go with its rows that have their flags.
 /// Those that were seen there before are forgotten. This takes no memory.
-pub fn see<P: Primitive>(basis: &Basis<'_, P>, alive: &Flags, rows: &mut Rows, side: usize)
+pub fn see<P: Primitive>(basis: &Basis<'_, P>, alive: &RowFlags, rows: &mut Rows, side: usize)
     requires ready { let net = net_of P.behaviour basis.now.circuit.now in
         IsReadyOn net basis.now alive.now }
     requires tables { let net = net_of P.behaviour basis.now.circuit.now in

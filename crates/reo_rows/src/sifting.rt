@@ -6,7 +6,7 @@ ghost use Rattle.reo_joint_values.specs.Works.{RowWorks};
 ghost use Rattle.reo_side_tables.specs.Marks.{groups_in, group_in};
 ghost use Rattle.reo_rows.specs.declared.groups.Group.{Group as Noted};
 ghost use Rattle.reo_rows.specs.Beginning.{nothing_noted};
-ghost use Rattle.reo_rows.specs.Flags.{flag};
+ghost use Rattle.reo_rows.specs.RowFlags.{flag};
 ghost use Rattle.reo_rows.specs.Groups.{IsNotedOf, IsOdd};
 ghost use Rattle.reo_rows.specs.Rows.{AreTables, AreLive, IsSifted, OtherSidesStay};
 ghost use Rattle.reo_rows.specs.Sets.{family_of, names_of};
@@ -15,7 +15,7 @@ ghost use Rattle.reo_rows.specs.Basis.{IsReadyOn};
 ghost use Rattle.reo_rows.specs.Sifting.{AreOdds, AreNotedFrom, AreRowsNoted, IsRowSifted};
 
 use crate::basis::Basis;
-use crate::flags::Flags;
+use crate::flags::RowFlags;
 use crate::flows::flows_stand;
 use crate::groups::{Group, Odd};
 use crate::rows::Rows;
@@ -28,7 +28,7 @@ use reo_values::{List, NoMemory};
 /// nowhere.
 fn odd_where<P: Primitive>(
     basis: &Basis<'_, P>,
-    alive: &Flags,
+    alive: &RowFlags,
     side: usize,
     group: usize,
     fit: u8,
@@ -53,7 +53,7 @@ fn odd_where<P: Primitive>(
 /// Where each group of a side has the mark of no value. `NoMemory` is out of memory.
 fn find_odds<P: Primitive>(
     basis: &Basis<'_, P>,
-    alive: &Flags,
+    alive: &RowFlags,
     side: usize,
     fits: &mut Vec<u8>,
     odds: &mut List<Odd>,
@@ -136,7 +136,7 @@ fn note<P: Primitive>(circuit: &Circuit<P>, notes: &mut List<Group>, side: usize
 /// Whether a row works, where its group is as said.
 fn works<P: Primitive>(
     basis: &Basis<'_, P>,
-    alive: &Flags,
+    alive: &RowFlags,
     side: usize,
     row: usize,
     odd: Odd,
@@ -160,7 +160,7 @@ fn works<P: Primitive>(
 /// it are noted.
 fn sift_row<P: Primitive>(
     basis: &Basis<'_, P>,
-    alive: &Flags,
+    alive: &RowFlags,
     rows: &mut Rows,
     side: usize,
     row: usize,
@@ -196,7 +196,7 @@ fn sift_row<P: Primitive>(
 /// After `NoMemory`, which is out of memory, nothing has changed.
 pub fn sift<P: Primitive>(
     basis: &Basis<'_, P>,
-    alive: &Flags,
+    alive: &RowFlags,
     rows: &mut Rows,
     side: usize,
 ) -> Result<(), NoMemory>

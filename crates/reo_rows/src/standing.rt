@@ -7,7 +7,7 @@ ghost use Rattle.reo_net_circuit.specs.found_ends.Ends.{AreEnds};
 ghost use Rattle.reo_side_tables.specs.Marks.{side_in, groups_in, group_in, common_at_joint, IsJointOf};
 ghost use Rattle.reo_rows.specs.Groups.{AreFit, FailsAt, IsOdd, Excuses, AreNoted};
 ghost use Rattle.reo_side_tables.specs.Boards.{IsBoard};
-ghost use Rattle.reo_rows.specs.Flags.{AreAlikeTables};
+ghost use Rattle.reo_rows.specs.RowFlags.{AreAlikeTables};
 ghost use Rattle.reo_rows.specs.Sparing.{IsIdle, IsLacking, CanSpare, AreCleared, GroupsHave};
 ghost use Rattle.reo_rows.specs.Rows.{AreTables, IsSpared};
 ghost use Rattle.reo_rows.specs.Sets.{family_of};
@@ -15,7 +15,7 @@ ghost use Rattle.reo_rows.specs.Basis.{IsReadyOn};
 ghost use Rattle.reo_rows.specs.Stands.{HasMark, IsAtEnd, MarksStand, GroupStands, GroupStandsBesides, StandsAtEnd};
 
 use crate::basis::Basis;
-use crate::flags::Flags;
+use crate::flags::RowFlags;
 use crate::groups::{Group, Odd};
 use crate::lists::apart_there;
 use crate::marks::{Marks, marks_left};
@@ -38,7 +38,7 @@ fn all_ones(bytes: &mut Vec<u8>, count: usize) -> Result<(), NoMemory>
 }
 
 /// Clears the bytes of the groups of a side that have the mark of no value at some joint.
-fn clear_unfit<P: Primitive>(basis: &Basis<'_, P>, alive: &Flags, side: usize, fits: &mut [u8])
+fn clear_unfit<P: Primitive>(basis: &Basis<'_, P>, alive: &RowFlags, side: usize, fits: &mut [u8])
     requires ready { let net = net_of P.behaviour basis.now.circuit.now in
         IsReadyOn net basis.now alive.now }
     requires side { let net = net_of P.behaviour basis.now.circuit.now in
@@ -62,7 +62,7 @@ fn clear_unfit<P: Primitive>(basis: &Basis<'_, P>, alive: &Flags, side: usize, f
 /// `NoMemory` is out of memory.
 pub(crate) fn fit_groups<P: Primitive>(
     basis: &Basis<'_, P>,
-    alive: &Flags,
+    alive: &RowFlags,
     side: usize,
     fits: &mut Vec<u8>,
 ) -> Result<(), NoMemory>
@@ -81,7 +81,7 @@ pub(crate) fn fit_groups<P: Primitive>(
 /// Whether a group has the mark of some value at a joint of its side.
 fn group_stands_at<P: Primitive>(
     basis: &Basis<'_, P>,
-    alive: &Flags,
+    alive: &RowFlags,
     side: usize,
     group: usize,
     joint: usize,
@@ -105,7 +105,7 @@ fn group_stands_at<P: Primitive>(
 /// An end of a side at which a group has the mark of no value, if there is any but for one.
 fn fails_besides<P: Primitive>(
     basis: &Basis<'_, P>,
-    alive: &Flags,
+    alive: &RowFlags,
     side: usize,
     group: usize,
     besides: Option<usize>,
@@ -133,7 +133,7 @@ fn fails_besides<P: Primitive>(
 /// Where a group has the mark of no value.
 pub(crate) fn odd_of<P: Primitive>(
     basis: &Basis<'_, P>,
-    alive: &Flags,
+    alive: &RowFlags,
     side: usize,
     group: usize,
 ) -> Odd
@@ -175,7 +175,7 @@ fn joint_there<P: Primitive>(circuit: &Circuit<P>, ends: &Ends, side: usize, end
 /// Whether a row has the mark of some value at an end of its side.
 fn stands_at<P: Primitive>(
     basis: &Basis<'_, P>,
-    alive: &Flags,
+    alive: &RowFlags,
     side: usize,
     row: usize,
     end: usize,
@@ -211,7 +211,7 @@ fn excuses(odd: Odd, apart: Option<usize>) -> bool
 /// Whether a row has the mark of some value at each joint of its side, where its group is as said.
 pub(crate) fn marks_stand<P: Primitive>(
     basis: &Basis<'_, P>,
-    alive: &Flags,
+    alive: &RowFlags,
     side: usize,
     row: usize,
     odd: Odd,
@@ -247,7 +247,7 @@ fn notes_row(noted: Group, row: usize) -> bool
 /// Whether a row with its flag lacks a mark at a joint: it does not have one of these there.
 fn lacks_mark<P: Primitive>(
     circuit: &Circuit<P>,
-    live: &Flags,
+    live: &RowFlags,
     side: usize,
     row: usize,
     joint: usize,
@@ -296,7 +296,7 @@ fn is_idle<P: Primitive>(
 fn can_spare<P: Primitive>(
     circuit: &Circuit<P>,
     board: &Board,
-    live: &Flags,
+    live: &RowFlags,
     notes: &List<Group>,
     side: usize,
     list: &[usize],
@@ -329,7 +329,7 @@ fn can_spare<P: Primitive>(
 /// Clears the flags of the rows of a list that lack a mark at a joint of their side.
 fn clear_lacking<P: Primitive>(
     circuit: &Circuit<P>,
-    live: &mut Flags,
+    live: &mut RowFlags,
     side: usize,
     list: &[usize],
     joint: usize,
@@ -382,7 +382,7 @@ fn groups_have<P: Primitive>(
 /// that the side can do without, which lose their flags. Else nothing changes.
 pub fn can_stay<P: Primitive>(
     basis: &Basis<'_, P>,
-    alive: &Flags,
+    alive: &RowFlags,
     rows: &mut Rows,
     side: usize,
     joint: usize,

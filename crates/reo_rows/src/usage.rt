@@ -7,14 +7,14 @@ ghost use Rattle.reo_joint_values.specs.Values.{Family};
 ghost use Rattle.reo_joint_values.specs.Supported.{IsUsed};
 ghost use Rattle.reo_side_tables.specs.Boards.{AreBoards};
 ghost use Rattle.reo_side_tables.specs.Marks.{side_in, groups_in, mark_at_joint, IsJointOf};
-ghost use Rattle.reo_rows.specs.Flags.{flag};
+ghost use Rattle.reo_rows.specs.RowFlags.{flag};
 ghost use Rattle.reo_rows.specs.Groups.{IsNotedOf, AreNoted};
 ghost use Rattle.reo_rows.specs.Rows.{AreTables, IsSifted, IsSeen};
 ghost use Rattle.reo_rows.specs.Sets.{value_of, names_of};
 ghost use Rattle.reo_rows.specs.Stands.{marks_has};
 ghost use Rattle.reo_rows.specs.Usage.{HasCommonRow, IsCommonMark, IsListedMark};
 
-use crate::flags::Flags;
+use crate::flags::RowFlags;
 use crate::groups::Group;
 use crate::lists::apart_there;
 use crate::marks::{FLOWS, Marks, mark_seen};
@@ -72,7 +72,7 @@ fn common_marks<P: Primitive>(
 /// The marks that the rows of a list with their flags have at a joint of their side.
 fn listed_marks<P: Primitive>(
     circuit: &Circuit<P>,
-    live: &Flags,
+    live: &RowFlags,
     side: usize,
     joint: usize,
     list: &[usize],

@@ -5,8 +5,8 @@ use Rattle.std.specs.List.{flat_map}
 use Rattle.std.proofs.lemmas.List.{append-nil, append_assoc, map-append}
 use Rattle.reo_values.specs.declared.kindred.Kindred.TheVariants as kinds
 use Rattle.reo_trees.specs.declared.items.Item.{Item}
-use Rattle.reo_trees.specs.declared.items.Form.{Form}
-use Rattle.reo_trees.specs.declared.items.Form.TheVariants as forms
+use Rattle.reo_trees.specs.declared.items.ItemForm.{ItemForm}
+use Rattle.reo_trees.specs.declared.items.ItemForm.TheVariants as forms
 use Rattle.reo_trees.specs.declared.programs.Parameter.{Parameter}
 use Rattle.reo_trees.specs.declared.programs.Declaration.{Declaration}
 use Rattle.reo_trees.specs.declared.programs.Declaration.TheVariants as declarations
@@ -35,7 +35,7 @@ pub names_of-parameters : (known : List Typed) (ps : List Parameter) → names_o
 names_of-parameters known [] = refl
 names_of-parameters known (p ∷ ps) = ap (λ ns. p.name ∷ ns) (names_of-parameters known ps)
 
-names_in : (known : List Typed) (f : Form) → names_of (node_types_in known f) ≡ node_names_in f
+names_in : (known : List Typed) (f : ItemForm) → names_of (node_types_in known f) ≡ node_names_in f
 names_in known (forms.Node name term) = refl
 names_in known (forms.Joined channel first second) = refl
 names_in known (forms.Used name arguments) = refl

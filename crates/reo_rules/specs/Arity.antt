@@ -2,8 +2,8 @@
 use Rattle.std.specs.Prelude.{ℕ, ◌==◌, not, List, [], length}
 use Rattle.std.specs.List.{flat_map}
 use Rattle.reo_trees.specs.declared.items.Item.{Item}
-use Rattle.reo_trees.specs.declared.items.Form.{Form}
-use Rattle.reo_trees.specs.declared.items.Form.TheVariants as forms
+use Rattle.reo_trees.specs.declared.items.ItemForm.{ItemForm}
+use Rattle.reo_trees.specs.declared.items.ItemForm.TheVariants as forms
 use Rattle.reo_trees.specs.declared.programs.Connector.{Connector}
 use Rattle.reo_trees.specs.declared.programs.Declaration.{Declaration}
 use Rattle.reo_trees.specs.declared.programs.Declaration.TheVariants as declarations
@@ -13,7 +13,7 @@ use Rattle.reo_rules.specs.Lists.{each_after, where_true}
 use Rattle.reo_rules.specs.Scopes.{connectors_of, parameters_named}
 
 -- The break where an item is such a use.
-abbrev pub arity_in_item : List Connector → ℕ → Form → List FlatFault
+abbrev pub arity_in_item : List Connector → ℕ → ItemForm → List FlatFault
 arity_in_item known line (forms.Used name arguments) = where_true (not (length arguments == length (parameters_named known name))) (faults.Arity line)
 arity_in_item known line f = []
 

@@ -2,8 +2,8 @@
 use Rattle.std.specs.Prelude.{ℕ, true, false, not, ◌&&◌, List, [], ◌++◌}
 use Rattle.std.specs.List.{flat_map}
 use Rattle.reo_trees.specs.declared.items.Item.{Item}
-use Rattle.reo_trees.specs.declared.items.Form.{Form}
-use Rattle.reo_trees.specs.declared.items.Form.TheVariants as forms
+use Rattle.reo_trees.specs.declared.items.ItemForm.{ItemForm}
+use Rattle.reo_trees.specs.declared.items.ItemForm.TheVariants as forms
 use Rattle.reo_trees.specs.declared.programs.Parameter.{Parameter}
 use Rattle.reo_trees.specs.declared.programs.Declaration.{Declaration}
 use Rattle.reo_trees.specs.declared.programs.Declaration.TheVariants as declarations
@@ -18,7 +18,7 @@ abbrev pub dangling_parameter : List Touch → Parameter → List FlatFault
 dangling_parameter ts p = where_true (not (is_touched ts p.name p.inward)) (faults.Dangling p.line p.name)
 
 -- The break where a node lacks an incoming or an outgoing end.
-abbrev pub dangling_in_item : List Touch → ℕ → Form → List FlatFault
+abbrev pub dangling_in_item : List Touch → ℕ → ItemForm → List FlatFault
 dangling_in_item ts line (forms.Node name term) = where_true (not (is_touched ts name true && is_touched ts name false)) (faults.Dangling line name)
 dangling_in_item ts line f = []
 

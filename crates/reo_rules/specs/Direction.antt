@@ -2,7 +2,7 @@
 use Rattle.std.specs.Prelude.{ℕ, Bool, not, ◌&&◌, List, [], bytes_eq}
 use Rattle.std.specs.List.{list_any, flat_map}
 use Rattle.reo_trees.specs.declared.items.Item.{Item}
-use Rattle.reo_trees.specs.declared.items.Form.{Form}
+use Rattle.reo_trees.specs.declared.items.ItemForm.{ItemForm}
 use Rattle.reo_trees.specs.declared.programs.Parameter.{Parameter}
 use Rattle.reo_trees.specs.declared.programs.Connector.{Connector}
 use Rattle.reo_trees.specs.declared.programs.Declaration.{Declaration}
@@ -18,7 +18,7 @@ abbrev pub goes_against : Touch → Parameter → Bool
 goes_against t p = bytes_eq t.name p.name && not (bool_eq p.inward t.is_source)
 
 -- The breaks in an item, end by end.
-abbrev pub direction_in_item : List Connector → List Parameter → ℕ → Form → List FlatFault
+abbrev pub direction_in_item : List Connector → List Parameter → ℕ → ItemForm → List FlatFault
 direction_in_item known ps line f = flat_map (λ (t : Touch). where_true (list_any (goes_against t) ps) (faults.Direction line t.name)) (touches_in known f)
 
 abbrev pub direction_in : List Declaration → Declaration → List FlatFault

@@ -8,8 +8,8 @@ use Rattle.reo_exprs.specs.Kinds.{kind_of}
 use Rattle.reo_exprs.specs.Typing.{kind_of_expr}
 use Rattle.reo_trees.specs.declared.literals.Literal.{Literal}
 use Rattle.reo_trees.specs.declared.items.Item.{Item}
-use Rattle.reo_trees.specs.declared.items.Form.{Form}
-use Rattle.reo_trees.specs.declared.items.Form.TheVariants as forms
+use Rattle.reo_trees.specs.declared.items.ItemForm.{ItemForm}
+use Rattle.reo_trees.specs.declared.items.ItemForm.TheVariants as forms
 use Rattle.reo_trees.specs.declared.items.Channel.{Channel}
 use Rattle.reo_trees.specs.declared.items.Channel.TheVariants as channels
 use Rattle.reo_trees.specs.declared.programs.Parameter.{Parameter}
@@ -47,7 +47,7 @@ is_channel_mistyped types a b c = (keeps_type c && not (is_same a b)) || list_an
 abbrev pub is_use_mistyped : List Typed → List Typed → List (List ℕ) → List Parameter → Bool
 is_use_mistyped types scope arguments ps = list_any (λ (q : List ℕ × Parameter). not (is_same (type_named scope q.0) (resolved types q.1.term.shape))) (zip arguments ps)
 
-abbrev pub is_mistyped : List Typed → List Connector → List Typed → Form → Bool
+abbrev pub is_mistyped : List Typed → List Connector → List Typed → ItemForm → Bool
 is_mistyped types known scope (forms.Node name term) = false
 is_mistyped types known scope (forms.Joined channel first second) = is_channel_mistyped types (type_named scope first) (type_named scope second) channel
 is_mistyped types known scope (forms.Used name arguments) = is_use_mistyped types scope arguments (parameters_named known name)

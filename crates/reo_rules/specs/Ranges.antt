@@ -12,8 +12,8 @@ use Rattle.reo_trees.specs.declared.types.Shape as shape
 use Rattle.reo_trees.specs.declared.types.Shape.{Shape}
 use Rattle.reo_trees.specs.declared.types.TypeTerm.{TypeTerm}
 use Rattle.reo_trees.specs.declared.items.Item.{Item}
-use Rattle.reo_trees.specs.declared.items.Form.{Form}
-use Rattle.reo_trees.specs.declared.items.Form.TheVariants as forms
+use Rattle.reo_trees.specs.declared.items.ItemForm.{ItemForm}
+use Rattle.reo_trees.specs.declared.items.ItemForm.TheVariants as forms
 use Rattle.reo_trees.specs.declared.items.Channel.{Channel}
 use Rattle.reo_trees.specs.declared.items.Channel.TheVariants as channels
 use Rattle.reo_trees.specs.declared.programs.Parameter.{Parameter}
@@ -68,7 +68,7 @@ leaves types a b (channels.Filter t) = leaves_by_filter a (expr_of types t.form)
 leaves types a b (channels.Map t) = leaves_by_map a b (expr_of types t.form)
 leaves types a b c = false
 
-abbrev pub range_in_item : List Typed → List Typed → ℕ → Form → List FlatFault
+abbrev pub range_in_item : List Typed → List Typed → ℕ → ItemForm → List FlatFault
 range_in_item types scope line (forms.Node name term) = range_in_type types term
 range_in_item types scope line (forms.Joined channel first second) = where_true (leaves types (type_named scope first) (type_named scope second) channel) (faults.Range line)
 range_in_item types scope line (forms.Used name arguments) = []

@@ -3,8 +3,8 @@ use Rattle.std.specs.Prelude.{ℕ, List, [], ◌∷◌, ◌++◌, Option, map, b
 use Rattle.std.specs.Option.{option_map_or}
 use Rattle.std.specs.List.{flat_map, find}
 use Rattle.reo_trees.specs.declared.items.Item.{Item}
-use Rattle.reo_trees.specs.declared.items.Form.{Form}
-use Rattle.reo_trees.specs.declared.items.Form.TheVariants as forms
+use Rattle.reo_trees.specs.declared.items.ItemForm.{ItemForm}
+use Rattle.reo_trees.specs.declared.items.ItemForm.TheVariants as forms
 use Rattle.reo_trees.specs.declared.programs.Parameter.{Parameter}
 use Rattle.reo_trees.specs.declared.programs.Connector.{Connector}
 use Rattle.reo_trees.specs.declared.programs.Declaration.{Declaration}
@@ -41,7 +41,7 @@ parameters_named known name = option_map_or (λ (c : Connector). c.parameters) (
 abbrev pub parameter_names : List Parameter → List (List ℕ)
 parameter_names ps = map (λ (p : Parameter). p.name) ps
 
-abbrev pub node_names_in : Form → List (List ℕ)
+abbrev pub node_names_in : ItemForm → List (List ℕ)
 node_names_in (forms.Node name term) = name ∷ []
 node_names_in f = []
 
@@ -52,7 +52,7 @@ node_names is = flat_map (λ (i : Item). node_names_in i.form) is
 abbrev pub parameter_type : List Typed → Parameter → Typed
 parameter_type types p = record { name = p.name; kindred = resolved types p.term.shape }
 
-abbrev pub node_types_in : List Typed → Form → List Typed
+abbrev pub node_types_in : List Typed → ItemForm → List Typed
 node_types_in types (forms.Node name term) = record { name = name; kindred = resolved types term.shape } ∷ []
 node_types_in types f = []
 

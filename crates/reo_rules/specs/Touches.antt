@@ -2,8 +2,8 @@
 use Rattle.std.specs.Prelude.{ℕ, Bool, true, not, ◌&&◌, cond, List, [], ◌∷◌, map, bytes_eq}
 use Rattle.std.specs.List.{list_any, flat_map, zip}
 use Rattle.reo_trees.specs.declared.items.Item.{Item}
-use Rattle.reo_trees.specs.declared.items.Form.{Form}
-use Rattle.reo_trees.specs.declared.items.Form.TheVariants as forms
+use Rattle.reo_trees.specs.declared.items.ItemForm.{ItemForm}
+use Rattle.reo_trees.specs.declared.items.ItemForm.TheVariants as forms
 use Rattle.reo_trees.specs.declared.programs.Parameter.{Parameter}
 use Rattle.reo_trees.specs.declared.programs.Connector.{Connector}
 use Rattle.reo_rules.specs.Scopes.{parameters_named}
@@ -22,7 +22,7 @@ abbrev pub touch : List ℕ → Bool → Touch
 touch name is_source = record { name = name; is_source = is_source }
 
 -- The ends that an item puts at names, in text order. An argument for an `in` parameter counts as a source end, one for `out` as a sink end.
-abbrev pub touches_in : List Connector → Form → List Touch
+abbrev pub touches_in : List Connector → ItemForm → List Touch
 touches_in known (forms.Node name term) = []
 touches_in known (forms.Joined channel first second) = touch first true ∷ touch second (is_drain channel) ∷ []
 touches_in known (forms.Used name arguments) = map (λ (q : List ℕ × Parameter). touch q.0 q.1.inward) (zip arguments (parameters_named known name))

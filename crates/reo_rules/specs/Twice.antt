@@ -5,8 +5,8 @@ use Rattle.reo_trees.specs.declared.types.Shape as shape
 use Rattle.reo_trees.specs.declared.types.Shape.{Shape}
 use Rattle.reo_trees.specs.declared.types.TypeTerm.{TypeTerm}
 use Rattle.reo_trees.specs.declared.items.Item.{Item}
-use Rattle.reo_trees.specs.declared.items.Form.{Form}
-use Rattle.reo_trees.specs.declared.items.Form.TheVariants as forms
+use Rattle.reo_trees.specs.declared.items.ItemForm.{ItemForm}
+use Rattle.reo_trees.specs.declared.items.ItemForm.TheVariants as forms
 use Rattle.reo_trees.specs.declared.programs.Parameter.{Parameter}
 use Rattle.reo_trees.specs.declared.programs.Connector.{Connector}
 use Rattle.reo_trees.specs.declared.programs.Declaration.{Declaration}
@@ -33,7 +33,7 @@ twice_in_type t = flat_map (λ (part : TypeTerm). twice_in_part part.line part.s
 abbrev pub twice_in_parameter : List Parameter → Parameter → List FlatFault
 twice_in_parameter before p = twice_among (parameter_names before) p.line p.name ++ twice_in_type p.term
 
-abbrev pub twice_in_item : List Parameter → List Item → ℕ → Form → List FlatFault
+abbrev pub twice_in_item : List Parameter → List Item → ℕ → ItemForm → List FlatFault
 twice_in_item ps before line (forms.Node name term) = twice_among (parameter_names ps ++ node_names before) line name ++ twice_in_type term
 twice_in_item ps before line f = []
 

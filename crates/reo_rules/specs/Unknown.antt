@@ -8,8 +8,8 @@ use Rattle.reo_trees.specs.declared.types.Shape.{Shape}
 use Rattle.reo_trees.specs.declared.types.TypeTerm.{TypeTerm}
 use Rattle.reo_trees.specs.declared.terms.Term.{Term}
 use Rattle.reo_trees.specs.declared.items.Item.{Item}
-use Rattle.reo_trees.specs.declared.items.Form.{Form}
-use Rattle.reo_trees.specs.declared.items.Form.TheVariants as forms
+use Rattle.reo_trees.specs.declared.items.ItemForm.{ItemForm}
+use Rattle.reo_trees.specs.declared.items.ItemForm.TheVariants as forms
 use Rattle.reo_trees.specs.declared.items.Channel.{Channel}
 use Rattle.reo_trees.specs.declared.items.Channel.TheVariants as channels
 use Rattle.reo_trees.specs.declared.programs.Parameter.{Parameter}
@@ -53,7 +53,7 @@ unknown_in_channel types (channels.Map t) = unknown_in_term types t
 unknown_in_channel types c = []
 
 -- In an item, by the types, connectors and nodes that are known there.
-abbrev pub unknown_in_item : List Typed → List (List ℕ) → List (List ℕ) → ℕ → Form → List FlatFault
+abbrev pub unknown_in_item : List Typed → List (List ℕ) → List (List ℕ) → ℕ → ItemForm → List FlatFault
 unknown_in_item types connectors nodes line (forms.Node name term) = unknown_in_type (names_of types) term
 unknown_in_item types connectors nodes line (forms.Joined channel first second) = missing nodes line first ++ missing nodes line second ++ unknown_in_channel types channel
 unknown_in_item types connectors nodes line (forms.Used name arguments) = missing connectors line name ++ flat_map (missing nodes line) arguments

@@ -6,14 +6,14 @@ use Rattle.reo_values.proofs.Truths.{or_false}
 use Rattle.reo_trees.specs.declared.programs.Parameter.{Parameter}
 use Rattle.reo_rules.specs.Lists.{has_name}
 use Rattle.reo_rules.specs.Names.{with_name}
-use Rattle.reo_trees.specs.declared.items.Form.TheVariants as forms
+use Rattle.reo_trees.specs.declared.items.ItemForm.TheVariants as forms
 use Rattle.reo_trees.specs.declared.programs.Connector.{Connector}
 use Rattle.reo_rules.specs.Scopes.{parameters_named}
 use Rattle.reo_rules.specs.Touches.{Touch, touch, touches_in, is_touched, bool_eq}
 use Rattle.reo_rules.specs.Direction.{goes_against}
 use Rattle.reo_rules.proofs.Mapped.{list_any-map}
-use Rattle.reo_rules_names.specs.declared.ends.Ends.{Ends}
-use Rattle.reo_rules_names.specs.Ends.{AreEnds}
+use Rattle.reo_rules_names.specs.declared.ends.EndsAtNames.{EndsAtNames}
+use Rattle.reo_rules_names.specs.EndsAtNames.{AreEnds}
 use Rattle.reo_rules_names.proofs.SameLemmas.{has_name-with}
 
 -- Whether there is an end of a way at a name, after one more end.
@@ -44,11 +44,11 @@ kept ts at name is_source =
       other_way false false = refl
 
 -- A table after one more source end, and after one more sink end.
-pub source_noted : (t : Ends) (ts : List Touch) (at : List ℕ) (names : List (List ℕ)) → AreEnds ts t → names ≡ with_name t.sources at → AreEnds (ts ++ touch at true ∷ []) (record { sources = names; sinks = t.sinks })
+pub source_noted : (t : EndsAtNames) (ts : List Touch) (at : List ℕ) (names : List (List ℕ)) → AreEnds ts t → names ≡ with_name t.sources at → AreEnds (ts ++ touch at true ∷ []) (record { sources = names; sinks = t.sinks })
 source_noted t ts at names are is name true = ap (λ xs. has_name xs name) is ∙ noted t.sources ts at name true (are name true)
 source_noted t ts at names are is name false = are name false ∙ sym (kept ts at name false)
 
-pub sink_noted : (t : Ends) (ts : List Touch) (at : List ℕ) (names : List (List ℕ)) → AreEnds ts t → names ≡ with_name t.sinks at → AreEnds (ts ++ touch at false ∷ []) (record { sources = t.sources; sinks = names })
+pub sink_noted : (t : EndsAtNames) (ts : List Touch) (at : List ℕ) (names : List (List ℕ)) → AreEnds ts t → names ≡ with_name t.sinks at → AreEnds (ts ++ touch at false ∷ []) (record { sources = t.sources; sinks = names })
 sink_noted t ts at names are is name true = are name true ∙ sym (kept ts at name true)
 sink_noted t ts at names are is name false = ap (λ xs. has_name xs name) is ∙ noted t.sinks ts at name false (are name false)
 

@@ -15,7 +15,7 @@ use Rattle.reo_rules.specs.Lists.{has_name, where_true}
 use Rattle.reo_rules.specs.Names.{with_name}
 use Rattle.reo_rules.specs.Types.{Typed, type_named, resolved}
 use Rattle.reo_rules.specs.Unknown.{missing, lacking}
-use Rattle.reo_rules_names.specs.declared.types.Types.{Types}
+use Rattle.reo_rules_names.specs.declared.types.DeclaredTypes.{DeclaredTypes}
 use Rattle.reo_rules_names.specs.SameNames.{SameNames}
 use Rattle.reo_rules_names.specs.Values.{value_at}
 use Rattle.reo_rules_names.specs.Symbols.{AreTypes, IsSetOf}
@@ -34,7 +34,7 @@ set_kept sets more (Some n) k is = (
   (λ line s. is.1 line s ∙ ap (λ ns. missing ns line s) (sym (get_or_append_left sets (more ∷ []) [] n is.0))),
 )
 
-pub types_kept : (known : List Typed) (t : Types) (more : List (List ℕ)) (sets : List (List (List ℕ))) → sets ≡ t.sets ++ more ∷ [] → AreTypes known t → AreTypes known (record { names = t.names; numbers = t.numbers; sets = sets })
+pub types_kept : (known : List Typed) (t : DeclaredTypes) (more : List (List ℕ)) (sets : List (List (List ℕ))) → sets ≡ t.sets ++ more ∷ [] → AreTypes known t → AreTypes known (record { names = t.names; numbers = t.numbers; sets = sets })
 types_kept known t more sets is are =
     record {
       names = are.names;
@@ -63,7 +63,7 @@ set_found (Some b) x P Q is here =
     let same : x ≡ b.now = ap (λ o. unwrap_or o x) (sym is) in
     subst Q same here
 
-module _ (known : List Typed) (e : Typed) (t : Types) (are : AreTypes known t) where
+module _ (known : List Typed) (e : Typed) (t : DeclaredTypes) (are : AreTypes known t) where
   before : (n : List ℕ) → IsSetOf t.sets (value_at None t.names t.numbers n) (value_at kinds.Unit (map (λ (x : Typed). x.name) known) (map (λ (x : Typed). x.kindred) known) n)
   before n = subst (λ k. IsSetOf t.sets (value_at None t.names t.numbers n) k) (type_named-is known n) (are.symbols n)
 

@@ -6,8 +6,8 @@ use Rattle.std.proofs.lemmas.List.{append-nil, map-append, take_more}
 use Rattle.reo_trees.specs.declared.types.Shape as shape
 use Rattle.reo_trees.specs.declared.types.Shape.{Shape}
 use Rattle.reo_trees.specs.declared.types.TypeTerm.{TypeTerm}
-use Rattle.reo_trees.specs.declared.items.Form.{Form}
-use Rattle.reo_trees.specs.declared.items.Form.TheVariants as forms
+use Rattle.reo_trees.specs.declared.items.ItemForm.{ItemForm}
+use Rattle.reo_trees.specs.declared.items.ItemForm.TheVariants as forms
 use Rattle.reo_trees.specs.declared.programs.Parameter.{Parameter}
 use Rattle.reo_trees.specs.declared.programs.Connector.{Connector}
 use Rattle.reo_trees.specs.declared.programs.Declaration.{Declaration}
@@ -20,7 +20,7 @@ use Rattle.reo_rules.specs.Names.{with_name}
 use Rattle.reo_rules.specs.Scopes.{connectors_of, connectors_in, connector_names}
 use Rattle.reo_rules.specs.Judged.{IsFirst}
 use Rattle.reo_rules.proofs.AfterLemmas.{after_more, after_first, more_flat}
-use Rattle.reo_rules_names.specs.declared.types.Types.{Types}
+use Rattle.reo_rules_names.specs.declared.types.DeclaredTypes.{DeclaredTypes}
 use Rattle.reo_rules_names.specs.SameNames.{SameNames}
 use Rattle.reo_rules_names.specs.Symbols.{AreTypes}
 use Rattle.reo_rules_names.proofs.SameLemmas.{same_noted}
@@ -43,7 +43,7 @@ module _ (xs ys : List (List ℕ)) (same : SameNames xs ys) where
   pub types_same : (ps : List Parameter) → flat_map (λ (p : Parameter). unknown_parts xs p.term.line p.term.shape) ps ≡ flat_map (λ (p : Parameter). unknown_parts ys p.term.line p.term.shape) ps
   types_same ps = λ i. flat_map (λ (p : Parameter). unknown_parts-same p.term.line p.term.shape i) ps
 
-pub item_same : (known : List Typed) (cs ds ns ms : List (List ℕ)) (line : ℕ) (f : Form) → SameNames cs ds → SameNames ns ms → unknown_in_item known cs ns line f ≡ unknown_in_item known ds ms line f
+pub item_same : (known : List Typed) (cs ds ns ms : List (List ℕ)) (line : ℕ) (f : ItemForm) → SameNames cs ds → SameNames ns ms → unknown_in_item known cs ns line f ≡ unknown_in_item known ds ms line f
 item_same known cs ds ns ms line (forms.Node name term) connectors nodes = refl
 item_same known cs ds ns ms line (forms.Joined channel first second) connectors nodes =
     λ i. missing-same ns ms line first nodes i ++ missing-same ns ms line second nodes i ++ unknown_in_channel known channel
@@ -65,12 +65,12 @@ pub types_of-push : (ds : List Declaration) (d : Declaration) → types_of (ds +
 types_of-push ds d = types_after-push [] ds d
 
 -- The tables have the types and the names of the connectors of these declarations, and none of them breaks the rule.
-pub record Knows (ds : List Declaration) (types : Types) (connectors : List (List ℕ)) : Type 0 where
+pub record Knows (ds : List Declaration) (types : DeclaredTypes) (connectors : List (List ℕ)) : Type 0 where
   pub types_are : AreTypes (types_of ds) types
   pub connectors_are : SameNames connectors (connector_names ds)
   pub unbroken : each_after unknown_in [] ds ≡ []
 
-module _ (ds : List Declaration) (i : ℕ) (d : Declaration) (below : i < length ds) (is : d ≡ get_or ds i d) (types : Types) (connectors : List (List ℕ)) (knows : Knows (take i ds) types connectors) where
+module _ (ds : List Declaration) (i : ℕ) (d : Declaration) (below : i < length ds) (is : d ≡ get_or ds i d) (types : DeclaredTypes) (connectors : List (List ℕ)) (knows : Knows (take i ds) types connectors) where
   one_more : take i ds ++ d ∷ [] ≡ take (i + 1) ds
   one_more = ap (λ x. take i ds ++ x ∷ []) is ∙ sym (take_more ds i d below)
 
@@ -79,7 +79,7 @@ module _ (ds : List Declaration) (i : ℕ) (d : Declaration) (below : i < length
       ap (λ ns. connector_names (take i ds) ++ ns) (sym here) ∙ sym (map-append (λ (k : Connector). k.name) (connectors_of (take i ds)) (connectors_in d)) ∙ ap (map (λ (k : Connector). k.name)) (more_flat connectors_in ds i d below is)
 
   -- After a type that names nothing unknown and was put into the table.
-  pub type_known : (line : ℕ) (name : List ℕ) (term : TypeTerm) (next : Types) → d ≡ declarations.Named line name term → unknown_in (take i ds) (declarations.Named line name term) ≡ []
+  pub type_known : (line : ℕ) (name : List ℕ) (term : TypeTerm) (next : DeclaredTypes) → d ≡ declarations.Named line name term → unknown_in (take i ds) (declarations.Named line name term) ≡ []
       → ((known : List Typed) → AreTypes known types → AreTypes (known ++ record { name = name; kindred = resolved known term.shape } ∷ []) next) → Knows (take (i + 1) ds) next connectors
   type_known line name term next made none put =
       record {

@@ -1,7 +1,7 @@
 pub mod SameNames
 pub mod Values
 pub mod Connectors
-pub mod Ends
+pub mod EndsAtNames
 pub mod Closed
 pub mod Loose
 pub mod Symbols

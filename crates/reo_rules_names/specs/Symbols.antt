@@ -3,7 +3,7 @@ use Rattle.std.specs.Prelude.{◌≡◌, ◌<◌, ℕ, Option, Some, None, List,
 use Rattle.reo_values.specs.declared.kindred.Kindred.{Kindred}
 use Rattle.reo_rules.specs.Types.{Typed, type_named, names_of}
 use Rattle.reo_rules.specs.Unknown.{missing, lacking}
-use Rattle.reo_rules_names.specs.declared.types.Types.{Types}
+use Rattle.reo_rules_names.specs.declared.types.DeclaredTypes.{DeclaredTypes}
 use Rattle.reo_rules_names.specs.SameNames.{SameNames}
 use Rattle.reo_rules_names.specs.Values.{value_at}
 
@@ -21,7 +21,7 @@ IsSetOf sets None kindred = LacksNone kindred
 IsSetOf sets (Some number) kindred = (number < length sets) × LacksOthers kindred (slice_index_or sets number [])
 
 -- The table has the names of these types, and beside each the number of the symbols of the first that is called so.
-pub record AreTypes (known : List Typed) (table : Types) : Type 0 where
+pub record AreTypes (known : List Typed) (table : DeclaredTypes) : Type 0 where
   pub names : SameNames table.names (names_of known)
   pub paired : length table.names ≡ length table.numbers
   pub symbols : (name : List ℕ) → IsSetOf table.sets (value_at None table.names table.numbers name) (type_named known name)

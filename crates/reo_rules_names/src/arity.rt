@@ -9,24 +9,24 @@ ghost use Rattle.reo_rules_names.specs.Connectors.{AreConnectors};
 
 use crate::connectors::Connectors;
 use reo_rules::FlatFault;
-use reo_trees::{Declaration, Form, Item, Program};
+use reo_trees::{Declaration, ItemForm, Item, Program};
 use std::alloc::Global;
 
 /// An item.
-fn item_arity(connectors: &Connectors, line: u32, form: &Form) -> Result<(), FlatFault>
+fn item_arity(connectors: &Connectors, line: u32, form: &ItemForm) -> Result<(), FlatFault>
     ensures judged { (known : List AConnector) → AreConnectors known connectors.now
         → IsJudged (arity_in_item known line form.now) result }
     ensures sure { IsErrOf result FlatFault.NoMemory → ⊥ }
 {
     match form {
-        Form::Used { name, arguments } => {
+        ItemForm::Used { name, arguments } => {
             if arguments.len() == connectors.ways(name.as_slice()).len() {
                 Ok(())
             } else {
                 Err(FlatFault::Arity { line })
             }
         }
-        Form::Node { .. } | Form::Joined { .. } => Ok(()),
+        ItemForm::Node { .. } | ItemForm::Joined { .. } => Ok(()),
     }
 }
 

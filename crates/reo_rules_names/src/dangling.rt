@@ -7,20 +7,20 @@ ghost use Rattle.reo_rules.specs.Touches.{Touch, touch, touches_in, touches_of};
 ghost use Rattle.reo_rules.specs.Dangling.{dangling_parameter, dangling_in_item, dangling};
 ghost use Rattle.reo_rules.specs.Judged.{IsJudged};
 ghost use Rattle.reo_rules_names.specs.Connectors.{AreConnectors};
-ghost use Rattle.reo_rules_names.specs.Ends.{AreEnds};
+ghost use Rattle.reo_rules_names.specs.EndsAtNames.{AreEnds};
 ghost use Rattle.reo_rules_names.specs.Loose.{lacking_ends};
 
 use crate::connectors::Connectors;
-use crate::ends::{Ends, is_drain};
+use crate::ends::{EndsAtNames, is_drain};
 use reo_rules::FlatFault;
-use reo_trees::{Connector, Declaration, Form, Item, Parameter, Program};
+use reo_trees::{Connector, Declaration, ItemForm, Item, Parameter, Program};
 use reo_values::{Bytes, NoMemory};
 use std::alloc::Global;
 
 /// Notes the ends of arguments of a use of a connector whose parameters have these ways.
 fn note_arguments(
     alloc: Global,
-    ends: &mut Ends,
+    ends: &mut EndsAtNames,
     arguments: &[Bytes],
     ways: &[bool],
 ) -> Result<(), NoMemory>
@@ -38,16 +38,16 @@ fn note_arguments(
 fn note_item(
     alloc: Global,
     connectors: &Connectors,
-    ends: &mut Ends,
-    form: &Form,
+    ends: &mut EndsAtNames,
+    form: &ItemForm,
 ) -> Result<(), NoMemory>
     ensures { OnOk result ((known : List AConnector) (touches : List Touch)
         → AreConnectors known connectors.now → AreEnds touches ends.old
         → AreEnds (touches ++ touches_in known form.now) ends.new) }
 {
     match form {
-        Form::Node { .. } => Ok(()),
-        Form::Joined {
+        ItemForm::Node { .. } => Ok(()),
+        ItemForm::Joined {
             channel,
             first,
             second,
@@ -55,7 +55,7 @@ fn note_item(
             ends.note(alloc, first.as_slice(), true)?;
             ends.note(alloc, second.as_slice(), is_drain(channel))
         }
-        Form::Used { name, arguments } => {
+        ItemForm::Used { name, arguments } => {
             let ways = connectors.ways(name.as_slice());
             note_arguments(alloc, ends, arguments.as_slice(), ways)
         }
@@ -63,11 +63,11 @@ fn note_item(
 }
 
 /// The ends of all items.
-fn item_ends(alloc: Global, connectors: &Connectors, items: &[Item]) -> Result<Ends, NoMemory>
+fn item_ends(alloc: Global, connectors: &Connectors, items: &[Item]) -> Result<EndsAtNames, NoMemory>
     ensures { IfOk result (λ ends. (known : List AConnector) → AreConnectors known connectors.now
         → AreEnds (flat_map (λ (i : AnItem). touches_in known i.form) items.now) ends) }
 {
-    let mut ends = Ends::new(alloc);
+    let mut ends = EndsAtNames::new(alloc);
     for item in items {
         note_item(alloc, connectors, &mut ends, &item.form)?;
     }
@@ -75,7 +75,7 @@ fn item_ends(alloc: Global, connectors: &Connectors, items: &[Item]) -> Result<E
 }
 
 /// A parameter.
-fn parameter_dangling(alloc: Global, ends: &Ends, parameter: &Parameter) -> Result<(), FlatFault>
+fn parameter_dangling(alloc: Global, ends: &EndsAtNames, parameter: &Parameter) -> Result<(), FlatFault>
     ensures { (touches : List Touch) → AreEnds touches ends.now
         → IsJudged (dangling_parameter touches parameter.now) result }
 {
@@ -91,7 +91,7 @@ fn parameter_dangling(alloc: Global, ends: &Ends, parameter: &Parameter) -> Resu
 /// Parameters one after another.
 fn parameters_dangling(
     alloc: Global,
-    ends: &Ends,
+    ends: &EndsAtNames,
     parameters: &[Parameter],
 ) -> Result<(), FlatFault>
     ensures { (touches : List Touch) → AreEnds touches ends.now
@@ -104,12 +104,12 @@ fn parameters_dangling(
 }
 
 /// An item: only nodes have to have ends.
-fn item_dangling(alloc: Global, ends: &Ends, line: u32, form: &Form) -> Result<(), FlatFault>
+fn item_dangling(alloc: Global, ends: &EndsAtNames, line: u32, form: &ItemForm) -> Result<(), FlatFault>
     ensures { (touches : List Touch) → AreEnds touches ends.now
         → IsJudged (dangling_in_item touches line form.now) result }
 {
     match form {
-        Form::Node { name, .. } => {
+        ItemForm::Node { name, .. } => {
             if ends.has(name.as_slice(), true) && ends.has(name.as_slice(), false) {
                 return Ok(());
             }
@@ -118,12 +118,12 @@ fn item_dangling(alloc: Global, ends: &Ends, line: u32, form: &Form) -> Result<(
                 node: name.copy(alloc)?,
             })
         }
-        Form::Joined { .. } | Form::Used { .. } => Ok(()),
+        ItemForm::Joined { .. } | ItemForm::Used { .. } => Ok(()),
     }
 }
 
 /// Items one after another.
-fn items_dangling(alloc: Global, ends: &Ends, items: &[Item]) -> Result<(), FlatFault>
+fn items_dangling(alloc: Global, ends: &EndsAtNames, items: &[Item]) -> Result<(), FlatFault>
     ensures { (touches : List Touch) → AreEnds touches ends.now
         → IsJudged (flat_map (λ (i : AnItem). dangling_in_item touches i.line i.form) items.now)
         result }
@@ -135,7 +135,7 @@ fn items_dangling(alloc: Global, ends: &Ends, items: &[Item]) -> Result<(), Flat
 }
 
 /// A connector that has these ends: its parameters, and then its nodes.
-fn ends_dangling(alloc: Global, ends: &Ends, connector: &Connector) -> Result<(), FlatFault>
+fn ends_dangling(alloc: Global, ends: &EndsAtNames, connector: &Connector) -> Result<(), FlatFault>
     ensures { (touches : List Touch) → AreEnds touches ends.now
         → IsJudged (lacking_ends touches connector.now) result }
 {

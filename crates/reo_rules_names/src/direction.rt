@@ -11,17 +11,17 @@ ghost use Rattle.reo_rules_names.specs.Connectors.{AreConnectors};
 ghost use Rattle.reo_rules_names.specs.Closed.{AreClosed, against};
 
 use crate::connectors::Connectors;
-use crate::ends::{Ends, is_drain};
+use crate::ends::{EndsAtNames, is_drain};
 use reo_rules::FlatFault;
-use reo_trees::{Connector, Declaration, Form, Item, Parameter, Program};
+use reo_trees::{Connector, Declaration, ItemForm, Item, Parameter, Program};
 use reo_values::{Bytes, NoMemory};
 use std::alloc::Global;
 
 /// The ends that may not stand at parameters: sink ends at an `in`, source ends at an `out`.
-fn closed_by(alloc: Global, parameters: &[Parameter]) -> Result<Ends, NoMemory>
+fn closed_by(alloc: Global, parameters: &[Parameter]) -> Result<EndsAtNames, NoMemory>
     ensures { IfOk result (AreClosed parameters.now) }
 {
-    let mut closed = Ends::new(alloc);
+    let mut closed = EndsAtNames::new(alloc);
     for parameter in parameters {
         closed.note(alloc, parameter.name.as_slice(), !parameter.inward)?;
     }
@@ -31,7 +31,7 @@ fn closed_by(alloc: Global, parameters: &[Parameter]) -> Result<Ends, NoMemory>
 /// An end at a name.
 fn end_direction(
     alloc: Global,
-    closed: &Ends,
+    closed: &EndsAtNames,
     line: u32,
     name: &Bytes,
     is_source: bool,
@@ -51,7 +51,7 @@ fn end_direction(
 /// The arguments of a use of a connector whose parameters have these ways.
 fn use_direction(
     alloc: Global,
-    closed: &Ends,
+    closed: &EndsAtNames,
     line: u32,
     arguments: &[Bytes],
     ways: &[bool],
@@ -70,17 +70,17 @@ fn use_direction(
 fn item_direction(
     alloc: Global,
     connectors: &Connectors,
-    closed: &Ends,
+    closed: &EndsAtNames,
     line: u32,
-    form: &Form,
+    form: &ItemForm,
 ) -> Result<(), FlatFault>
     ensures { (known : List AConnector) (ps : List AParameter)
         → AreConnectors known connectors.now → AreClosed ps closed.now
         → IsJudged (direction_in_item known ps line form.now) result }
 {
     match form {
-        Form::Node { .. } => Ok(()),
-        Form::Joined {
+        ItemForm::Node { .. } => Ok(()),
+        ItemForm::Joined {
             channel,
             first,
             second,
@@ -88,7 +88,7 @@ fn item_direction(
             end_direction(alloc, closed, line, first, true)?;
             end_direction(alloc, closed, line, second, is_drain(channel))
         }
-        Form::Used { name, arguments } => {
+        ItemForm::Used { name, arguments } => {
             let ways = connectors.ways(name.as_slice());
             use_direction(alloc, closed, line, arguments.as_slice(), ways)
         }
@@ -99,7 +99,7 @@ fn item_direction(
 fn items_direction(
     alloc: Global,
     connectors: &Connectors,
-    closed: &Ends,
+    closed: &EndsAtNames,
     items: &[Item],
 ) -> Result<(), FlatFault>
     ensures { (known : List AConnector) (ps : List AParameter)

@@ -10,19 +10,19 @@ use std::alloc::Global;
 
 /// Ends at names: which names have a source end, and which have a sink end.
 #[derive(Drop)]
-pub(crate) struct Ends {
+pub(crate) struct EndsAtNames {
     sources: Names,
     sinks: Names,
 }
 
-impl Ends {
-    ghost use Rattle.reo_rules_names.specs.Ends.{AreEnds};
+impl EndsAtNames {
+    ghost use Rattle.reo_rules_names.specs.EndsAtNames.{AreEnds};
 
     /// No ends.
     pub(crate) fn new(alloc: Global) -> Self
         ensures { AreEnds [] result }
     {
-        Ends {
+        EndsAtNames {
             sources: Names::new(alloc),
             sinks: Names::new(alloc),
         }

@@ -10,7 +10,7 @@ ghost use Rattle.reo_rules.specs.Twice.{twice_among, twice_in_part, twice_in_par
 ghost use Rattle.reo_rules.specs.Judged.{IsJudged};
 
 use reo_rules::{FlatFault, Names};
-use reo_trees::{Connector, Declaration, Form, Item, Parameter, Program, Shape};
+use reo_trees::{Connector, Declaration, ItemForm, Item, Parameter, Program, Shape};
 use reo_values::Bytes;
 use std::alloc::Global;
 
@@ -86,7 +86,7 @@ fn items_twice(
         [] items.now) result }
 {
     for item in items {
-        if let Form::Node { name, term } = &item.form {
+        if let ItemForm::Node { name, term } = &item.form {
             once(alloc, seen, item.line, name)?;
             type_twice(alloc, term.line, &term.shape)?;
         }

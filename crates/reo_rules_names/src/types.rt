@@ -12,20 +12,20 @@ use std::alloc::Global;
 /// The types that were declared so far: the name of each, and the number of its set of symbols
 /// where it is a sym type. A type that names another shares the set of that one.
 #[derive(Drop)]
-pub(crate) struct Types {
+pub(crate) struct DeclaredTypes {
     pub(crate) names: Names,
     numbers: List<Option<usize>>,
     sets: List<Names>,
 }
 
-impl Types {
+impl DeclaredTypes {
     ghost use Rattle.reo_rules_names.specs.Symbols.{AreTypes, IsSetOf, LacksNone, LacksOthers};
 
     /// No types.
     pub(crate) fn new(alloc: Global) -> Self
         ensures { AreTypes [] result }
     {
-        Types {
+        DeclaredTypes {
             names: Names::new(alloc),
             numbers: List::new(alloc),
             sets: List::new(alloc),

@@ -13,9 +13,9 @@ ghost use Rattle.reo_rules.specs.Judged.{IsJudged};
 ghost use Rattle.reo_rules_names.specs.SameNames.{SameNames};
 ghost use Rattle.reo_rules_names.specs.Symbols.{AreTypes};
 
-use crate::types::Types;
+use crate::types::DeclaredTypes;
 use reo_rules::{FlatFault, Names};
-use reo_trees::{Channel, Connector, Declaration, Form, Item, Parameter, Program, Shape, TermForm};
+use reo_trees::{Channel, Connector, Declaration, ItemForm, Item, Parameter, Program, Shape, TermForm};
 use reo_values::{Bytes, NoMemory};
 use std::alloc::Global;
 
@@ -61,7 +61,7 @@ fn type_unknown(alloc: Global, types: &Names, line: u32, shape: &Shape) -> Resul
 /// A symbol of a type: the type, and then the symbol.
 fn symbol_unknown(
     alloc: Global,
-    types: &Types,
+    types: &DeclaredTypes,
     line: u32,
     of: &Bytes,
     symbol: &Bytes,
@@ -78,7 +78,7 @@ fn symbol_unknown(
 }
 
 /// An expression: the symbols that it names, from left to right.
-fn term_unknown(alloc: Global, types: &Types, line: u32, form: &TermForm) -> Result<(), FlatFault>
+fn term_unknown(alloc: Global, types: &DeclaredTypes, line: u32, form: &TermForm) -> Result<(), FlatFault>
     ensures { (known : List Typed) → AreTypes known types.now
         → IsJudged (flat_map (unknown_symbol known) (symbols_in line form.now)) result }
 {
@@ -105,7 +105,7 @@ fn term_unknown(alloc: Global, types: &Types, line: u32, form: &TermForm) -> Res
 }
 
 /// A channel: its expression.
-fn channel_unknown(alloc: Global, types: &Types, channel: &Channel) -> Result<(), FlatFault>
+fn channel_unknown(alloc: Global, types: &DeclaredTypes, channel: &Channel) -> Result<(), FlatFault>
     ensures { (known : List Typed) → AreTypes known types.now
         → IsJudged (unknown_in_channel known channel.now) result }
 {
@@ -127,18 +127,18 @@ fn channel_unknown(alloc: Global, types: &Types, channel: &Channel) -> Result<()
 /// An item, by the types, the connectors and the nodes before it.
 fn item_unknown(
     alloc: Global,
-    types: &Types,
+    types: &DeclaredTypes,
     connectors: &Names,
     nodes: &Names,
     line: u32,
-    form: &Form,
+    form: &ItemForm,
 ) -> Result<(), FlatFault>
     ensures { (known : List Typed) → AreTypes known types.now
         → IsJudged (unknown_in_item known connectors.now nodes.now line form.now) result }
 {
     match form {
-        Form::Node { term, .. } => type_unknown(alloc, &types.names, term.line, &term.shape),
-        Form::Joined {
+        ItemForm::Node { term, .. } => type_unknown(alloc, &types.names, term.line, &term.shape),
+        ItemForm::Joined {
             channel,
             first,
             second,
@@ -147,7 +147,7 @@ fn item_unknown(
             one_of(alloc, nodes, line, second)?;
             channel_unknown(alloc, types, channel)
         }
-        Form::Used { name, arguments } => {
+        ItemForm::Used { name, arguments } => {
             one_of(alloc, connectors, line, name)?;
             all_of(alloc, nodes, line, arguments.as_slice())
         }
@@ -155,11 +155,11 @@ fn item_unknown(
 }
 
 /// Notes the node that an item declares, if it is one. `NoMemory` is out of memory.
-fn note_node(alloc: Global, nodes: &mut Names, form: &Form) -> Result<(), NoMemory>
+fn note_node(alloc: Global, nodes: &mut Names, form: &ItemForm) -> Result<(), NoMemory>
     ensures { OnOk result ((names : List (List ℕ)) → SameNames nodes.old names
         → SameNames nodes.new (names ++ node_names_in form.now)) }
 {
-    if let Form::Node { name, .. } = form {
+    if let ItemForm::Node { name, .. } = form {
         nodes.note(alloc, name.as_slice())?;
     }
     Ok(())
@@ -168,7 +168,7 @@ fn note_node(alloc: Global, nodes: &mut Names, form: &Form) -> Result<(), NoMemo
 /// The items of a connector whose parameters were noted.
 fn items_unknown(
     alloc: Global,
-    types: &Types,
+    types: &DeclaredTypes,
     connectors: &Names,
     nodes: &mut Names,
     items: &[Item],
@@ -215,7 +215,7 @@ fn parameter_names(alloc: Global, parameters: &[Parameter]) -> Result<Names, NoM
 /// A connector, by the types and the connectors before it.
 fn connector_unknown(
     alloc: Global,
-    types: &Types,
+    types: &DeclaredTypes,
     connectors: &Names,
     connector: &Connector,
 ) -> Result<(), FlatFault>
@@ -233,7 +233,7 @@ fn connector_unknown(
 /// Declarations one after another; each counts once it is complete.
 fn declarations_unknown(
     alloc: Global,
-    types: &mut Types,
+    types: &mut DeclaredTypes,
     connectors: &mut Names,
     declarations: &[Declaration],
 ) -> Result<(), FlatFault>
@@ -263,7 +263,7 @@ fn declarations_unknown(
 pub fn judge_unknown(alloc: Global, program: &Program) -> Result<(), FlatFault>
     ensures { IsJudged (unknown program.now.declarations) result }
 {
-    let mut types = Types::new(alloc);
+    let mut types = DeclaredTypes::new(alloc);
     let mut connectors = Names::new(alloc);
     let declarations = program.declarations.as_slice();
     declarations_unknown(alloc, &mut types, &mut connectors, declarations)

@@ -4,12 +4,12 @@ use Rattle.reo_values.specs.declared.kindred.Kindred.{Kindred}
 use Rattle.reo_values.specs.declared.kindred.Twins.{Twins}
 use Rattle.reo_exprs.specs.Kinds.{twins_of}
 use Rattle.reo_exprs.proofs.Twinned.{twins_of-Pair}
-use Rattle.reo_rules_types.specs.declared.cell.Cell.{Cell}
-use Rattle.reo_rules_types.specs.declared.cell.Cell.TheVariants as cells
+use Rattle.reo_rules_types.specs.declared.cell.TypeParts.{TypeParts}
+use Rattle.reo_rules_types.specs.declared.cell.TypeParts.TheVariants as cells
 use Rattle.reo_rules_types.specs.Cells.{type_at, kindred_of, Fits}
 use Rattle.reo_rules_types.proofs.Kept.{at_told, at_within}
 
-module _ (types : List Kindred) (n : ℕ) (c : Cell) (is : slice_get types n ≡ Some (kindred_of types c)) where
+module _ (types : List Kindred) (n : ℕ) (c : TypeParts) (is : slice_get types n ≡ Some (kindred_of types c)) where
   -- The type with a number is that of its cell.
   pub of_cell : type_at types n ≡ kindred_of types c
   of_cell = at_told types n (kindred_of types c) is
@@ -30,7 +30,7 @@ module _ (types : List Kindred) (n : ℕ) (c : Cell) (is : slice_get types n ≡
   pub of_no_pair : ((l r : ℕ) → c ≡ cells.Pair l r → ⊥) → twins_of (type_at types n) ≡ None
   of_no_pair other = ap twins_of of_cell ∙ none c other
     where
-      none : (d : Cell) → ((l r : ℕ) → d ≡ cells.Pair l r → ⊥) → twins_of (kindred_of types d) ≡ None
+      none : (d : TypeParts) → ((l r : ℕ) → d ≡ cells.Pair l r → ⊥) → twins_of (kindred_of types d) ≡ None
       none cells.Unit not = refl
       none cells.Bool not = refl
       none (cells.Int a b) not = refl

@@ -3,8 +3,8 @@ use Rattle.std.proofs.Common.{◌≡◌, ℕ, ◌<◌, List, length, Some, slice
 use Rattle.std.proofs.lemmas.Option.{slice_get_within, slice_get-get_or, get_or_from_slice_get}
 use Rattle.reo_values.specs.declared.kindred.Kindred.{Kindred}
 use Rattle.reo_values.specs.declared.kindred.Kindred.TheVariants as kinds
-use Rattle.reo_rules_types.specs.declared.cell.Cell.{Cell}
-use Rattle.reo_rules_types.specs.declared.cell.Cell.TheVariants as cells
+use Rattle.reo_rules_types.specs.declared.cell.TypeParts.{TypeParts}
+use Rattle.reo_rules_types.specs.declared.cell.TypeParts.TheVariants as cells
 use Rattle.reo_rules_types.specs.Cells.{type_at, kindred_of, Fits, Keeps}
 
 -- The type with a number, told in two ways.
@@ -24,7 +24,7 @@ module _ (old new : List Kindred) (keeps : Keeps old new) where
   pub kept_below : (n : ℕ) → n < length old → n < length new
   kept_below n below = at_within new n (type_at old n) (keeps n (type_at old n) (at_there old n below))
 
-  pub kept_cell : (c : Cell) → Fits (length old) c → kindred_of new c ≡ kindred_of old c
+  pub kept_cell : (c : TypeParts) → Fits (length old) c → kindred_of new c ≡ kindred_of old c
   kept_cell cells.Unit p = refl
   kept_cell cells.Bool p = refl
   kept_cell (cells.Int a b) p = refl
@@ -32,7 +32,7 @@ module _ (old new : List Kindred) (keeps : Keeps old new) where
   kept_cell (cells.Text m) p = refl
   kept_cell (cells.Pair a b) p = λ i. kinds.Pair (record { left = kept_at a p.0 i; right = kept_at b p.1 i })
 
-  pub kept_fits : (c : Cell) → Fits (length old) c → Fits (length new) c
+  pub kept_fits : (c : TypeParts) → Fits (length old) c → Fits (length new) c
   kept_fits cells.Unit p = p
   kept_fits cells.Bool p = p
   kept_fits (cells.Int a b) p = p

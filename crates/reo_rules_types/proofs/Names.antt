@@ -6,7 +6,7 @@ use Rattle.reo_values.specs.declared.kindred.Kindred.{Kindred}
 use Rattle.reo_values.proofs.Sequences.{left_none}
 use Rattle.reo_trees.specs.declared.types.TypeTerm.{TypeTerm}
 use Rattle.reo_trees.specs.declared.items.Item.{Item}
-use Rattle.reo_trees.specs.declared.items.Form.TheVariants as forms
+use Rattle.reo_trees.specs.declared.items.ItemForm.TheVariants as forms
 use Rattle.reo_trees.specs.declared.programs.Parameter.{Parameter}
 use Rattle.reo_rules.specs.Lists.{each_after, has_name}
 use Rattle.reo_rules.specs.Types.{Typed, names_of}

@@ -18,8 +18,8 @@ use Rattle.reo_trees.specs.declared.literals.LiteralPair.{LiteralPair}
 use Rattle.reo_trees.specs.declared.literals.Literal.{Literal}
 use Rattle.reo_rules.specs.literals.Items.{value_of, item_of}
 use Rattle.reo_rules.specs.Lists.{has_name}
-use Rattle.reo_rules_types.specs.declared.cell.Cell.{Cell}
-use Rattle.reo_rules_types.specs.declared.cell.Cell.TheVariants as cells
+use Rattle.reo_rules_types.specs.declared.cell.TypeParts.{TypeParts}
+use Rattle.reo_rules_types.specs.declared.cell.TypeParts.TheVariants as cells
 use Rattle.reo_rules_types.specs.Cells.{kindred_of}
 use Rattle.reo_rules_types.specs.Literals.{is_literal}
 use Rattle.reo_rules_types.proofs.Places.{below}
@@ -82,7 +82,7 @@ text_literal bytes most = if_some _ (values.Text bytes)
 
 module _ (types : List Kindred) where
   -- No other item is one of the type.
-  pub no_unit : (c : Cell) → (c ≡ cells.Unit → ⊥) → false ≡ is_literal (kindred_of types c) constants.Unit
+  pub no_unit : (c : TypeParts) → (c ≡ cells.Unit → ⊥) → false ≡ is_literal (kindred_of types c) constants.Unit
   unfolding hidden-the_row-Twins-0 hidden
   no_unit cells.Unit not = absurd (not refl)
   no_unit cells.Bool not = refl
@@ -91,7 +91,7 @@ module _ (types : List Kindred) where
   no_unit (cells.Text m) not = refl
   no_unit (cells.Pair a b) not = refl
 
-  pub no_bool : (c : Cell) (b : Bool) → (c ≡ cells.Bool → ⊥) → false ≡ is_literal (kindred_of types c) (constants.Bool b)
+  pub no_bool : (c : TypeParts) (b : Bool) → (c ≡ cells.Bool → ⊥) → false ≡ is_literal (kindred_of types c) (constants.Bool b)
   unfolding hidden-the_row-Twins-0 hidden
   no_bool cells.Unit b not = refl
   no_bool cells.Bool b not = absurd (not refl)
@@ -100,7 +100,7 @@ module _ (types : List Kindred) where
   no_bool (cells.Text m) b not = refl
   no_bool (cells.Pair x y) b not = refl
 
-  pub no_int : (c : Cell) (n : ℤ) → ((x y : ℤ) → c ≡ cells.Int x y → ⊥) → false ≡ is_literal (kindred_of types c) (constants.Int n)
+  pub no_int : (c : TypeParts) (n : ℤ) → ((x y : ℤ) → c ≡ cells.Int x y → ⊥) → false ≡ is_literal (kindred_of types c) (constants.Int n)
   unfolding hidden-the_row-Twins-0 hidden
   no_int cells.Unit n not = refl
   no_int cells.Bool n not = refl
@@ -109,7 +109,7 @@ module _ (types : List Kindred) where
   no_int (cells.Text m) n not = refl
   no_int (cells.Pair x y) n not = refl
 
-  pub no_name : (c : Cell) (name : List ℕ) → ((names : _) → c ≡ cells.Sym names → ⊥) → false ≡ is_literal (kindred_of types c) (constants.Name name)
+  pub no_name : (c : TypeParts) (name : List ℕ) → ((names : _) → c ≡ cells.Sym names → ⊥) → false ≡ is_literal (kindred_of types c) (constants.Name name)
   unfolding hidden-the_row-Twins-0 hidden
   no_name cells.Unit n not = refl
   no_name cells.Bool n not = refl
@@ -118,7 +118,7 @@ module _ (types : List Kindred) where
   no_name (cells.Text m) n not = refl
   no_name (cells.Pair x y) n not = refl
 
-  pub no_text : (c : Cell) (bytes : List ℕ) → ((m : ℕ) → c ≡ cells.Text m → ⊥) → false ≡ is_literal (kindred_of types c) (constants.Text bytes)
+  pub no_text : (c : TypeParts) (bytes : List ℕ) → ((m : ℕ) → c ≡ cells.Text m → ⊥) → false ≡ is_literal (kindred_of types c) (constants.Text bytes)
   unfolding hidden-the_row-Twins-0 hidden
   no_text cells.Unit n not = refl
   no_text cells.Bool n not = refl
@@ -127,7 +127,7 @@ module _ (types : List Kindred) where
   no_text (cells.Text m) n not = absurd (not m refl)
   no_text (cells.Pair x y) n not = refl
 
-  pub no_pair : (c : Cell) (p : LiteralPair) → ((x y : ℕ) → c ≡ cells.Pair x y → ⊥) → false ≡ is_literal (kindred_of types c) (constants.Pair p)
+  pub no_pair : (c : TypeParts) (p : LiteralPair) → ((x y : ℕ) → c ≡ cells.Pair x y → ⊥) → false ≡ is_literal (kindred_of types c) (constants.Pair p)
   unfolding hidden-the_row-LiteralPair-0 hidden
   no_pair cells.Unit n not = refl
   no_pair cells.Bool n not = refl

@@ -25,8 +25,8 @@ use Rattle.reo_rules.specs.Judged.{IsFirst}
 use Rattle.reo_rules.proofs.Parts.{over_parts-Pair, resolved-Pair}
 use Rattle.reo_rules.proofs.Mapped.{position-map}
 use Rattle.reo_rules.proofs.Same.{inside_told}
-use Rattle.reo_rules_types.specs.declared.cell.Cell.{Cell}
-use Rattle.reo_rules_types.specs.declared.cell.Cell.TheVariants as cells
+use Rattle.reo_rules_types.specs.declared.cell.TypeParts.{TypeParts}
+use Rattle.reo_rules_types.specs.declared.cell.TypeParts.TheVariants as cells
 use Rattle.reo_rules_types.specs.Cells.{kindred_of}
 use Rattle.std.proofs.lemmas.Bool.{or_right as or_true}
 use Rattle.reo_values.proofs.Truths.{one_truth}
@@ -104,7 +104,7 @@ none : (n : ℕ) → nat_lt n 0 ≡ false
 none n = grind (arith, nat_tests)
 
 -- A type that is no pair has no depth.
-pub no_depth : (types : List Kindred) (n : ℕ) (c : Cell) → ((l r : ℕ) → c ≡ cells.Pair l r → ⊥) → nat_lt n (depth_of (kindred_of types c)) ≡ false
+pub no_depth : (types : List Kindred) (n : ℕ) (c : TypeParts) → ((l r : ℕ) → c ≡ cells.Pair l r → ⊥) → nat_lt n (depth_of (kindred_of types c)) ≡ false
 no_depth types n cells.Unit not = none n
 no_depth types n cells.Bool not = none n
 no_depth types n (cells.Int a b) not = none n

@@ -6,7 +6,7 @@ use Rattle.reo_trees.specs.declared.types.Shape.TheVariants as shapes
 use Rattle.reo_trees.specs.declared.types.TypePair.{TypePair}
 use Rattle.reo_rules.specs.Types.{resolved}
 use Rattle.reo_rules.proofs.Parts.{resolved-Pair}
-use Rattle.reo_rules_types.specs.declared.cell.Cell.TheVariants as cells
+use Rattle.reo_rules_types.specs.declared.cell.TypeParts.TheVariants as cells
 use Rattle.reo_rules_types.specs.Cells.{kindred_of, Keeps}
 use Rattle.reo_rules_types.specs.Scoped.{typed, AreKnown}
 use Rattle.reo_rules_types.proofs.Kept.{at_told, at_within, kept_at}

@@ -9,8 +9,8 @@ use Rattle.reo_values.specs.declared.kindred.Kindred.{Kindred}
 use Rattle.reo_values.specs.declared.kindred.Kindred.TheVariants as kinds
 use Rattle.reo_exprs.specs.Kinds.{kind_of}
 use Rattle.reo_rules.specs.Lists.{has_name}
-use Rattle.reo_rules_types.specs.declared.cell.Cell.{Cell}
-use Rattle.reo_rules_types.specs.declared.cell.Cell.TheVariants as cells
+use Rattle.reo_rules_types.specs.declared.cell.TypeParts.{TypeParts}
+use Rattle.reo_rules_types.specs.declared.cell.TypeParts.TheVariants as cells
 use Rattle.reo_rules_types.specs.declared.types.Facts.{Facts}
 use Rattle.reo_rules_types.specs.Cells.{kindred_of, kindreds_of, is_symbol, Fits}
 use Rattle.reo_rules_types.specs.Table.{IsCell, AreCells}
@@ -18,12 +18,12 @@ use Rattle.reo_rules_types.proofs.Lists.{more_keeps, last_is, old_or_last, fold_
 use Rattle.reo_rules_types.proofs.Told.{cell_eq, alike, told}
 
 -- One more type.
-pub types_push : (es : List (Cell × Facts)) (c : Cell) (f : Facts) → kindreds_of (keys_of (es ++ (c, f) ∷ [])) ≡ kindreds_of (keys_of es) ++ kindred_of (kindreds_of (keys_of es)) c ∷ []
+pub types_push : (es : List (TypeParts × Facts)) (c : TypeParts) (f : Facts) → kindreds_of (keys_of (es ++ (c, f) ∷ [])) ≡ kindreds_of (keys_of es) ++ kindred_of (kindreds_of (keys_of es)) c ∷ []
 types_push es c f =
-    ap kindreds_of (map-append (λ (e : Cell × Facts). e.0) es ((c, f) ∷ [])) ∙ fold_push (λ types d. types ++ kindred_of types d ∷ []) [] (keys_of es) c
+    ap kindreds_of (map-append (λ (e : TypeParts × Facts). e.0) es ((c, f) ∷ [])) ∙ fold_push (λ types d. types ++ kindred_of types d ∷ []) [] (keys_of es) c
 
 -- A cell means the same where there are more types.
-kindred_kept : (xs ys : List Kindred) (c : Cell) → Fits (length xs) c → kindred_of (xs ++ ys) c ≡ kindred_of xs c
+kindred_kept : (xs ys : List Kindred) (c : TypeParts) → Fits (length xs) c → kindred_of (xs ++ ys) c ≡ kindred_of xs c
 kindred_kept xs ys cells.Unit p = refl
 kindred_kept xs ys cells.Bool p = refl
 kindred_kept xs ys (cells.Int a b) p = refl
@@ -32,7 +32,7 @@ kindred_kept xs ys (cells.Text m) p = refl
 kindred_kept xs ys (cells.Pair a b) p =
     λ i. kinds.Pair (record { left = get_or_append_left xs ys kinds.Unit a p.0 i; right = get_or_append_left xs ys kinds.Unit b p.1 i })
 
-fits_more : (m n : ℕ) (c : Cell) → m ≤ n → Fits m c → Fits n c
+fits_more : (m n : ℕ) (c : TypeParts) → m ≤ n → Fits m c → Fits n c
 fits_more m n cells.Unit le p = p
 fits_more m n cells.Bool le p = p
 fits_more m n (cells.Int a b) le p = p
@@ -53,27 +53,27 @@ none_at t (e ∷ es) none (suc n) k x at = none_at t es (missed (t e.0) e.1 (loo
 no_facts : Facts
 no_facts = record { kind = 0; symbols = [] }
 
-module _ (types : List Kindred) (es : List (Cell × Facts)) (are : AreCells types es) where
+module _ (types : List Kindred) (es : List (TypeParts × Facts)) (are : AreCells types es) where
   -- The cell with a number.
-  pub some_cell : (n : ℕ) → n < length types → (c : Cell) × (f : Facts) × (slice_get es n ≡ Some (c, f)) × IsCell types n c f
+  pub some_cell : (n : ℕ) → n < length types → (c : TypeParts) × (f : Facts) × (slice_get es n ≡ Some (c, f)) × IsCell types n c f
   some_cell n below =
       let e = get_or es n (cells.Unit, no_facts) in
       let at = slice_get-get_or es n (cells.Unit, no_facts) (omega (arith, are.as_many)) in
       (e.0, e.1, at, are.each n e.0 e.1 at)
 
   -- The number of a cell that was found is that of its type.
-  pub found : (c : Cell) (n : ℕ) → position (cell_eq c) (keys_of es) ≡ Some n → slice_get types n ≡ Some (kindred_of types c)
+  pub found : (c : TypeParts) (n : ℕ) → position (cell_eq c) (keys_of es) ≡ Some n → slice_get types n ≡ Some (kindred_of types c)
   found c n is =
       let at = position-Some (cell_eq c) (keys_of es) n c is in
-      let d : Cell × Facts = (c, no_facts) in
+      let d : TypeParts × Facts = (c, no_facts) in
       let e = get_or es n d in
-      let below : n < length es = omega (arith, at.0, length-map es (λ (p : Cell × Facts). p.0)) in
+      let below : n < length es = omega (arith, at.0, length-map es (λ (p : TypeParts × Facts). p.0)) in
       let here = are.each n e.0 e.1 (slice_get-get_or es n d below) in
-      let same : cell_eq c e.0 ≡ true = ap (cell_eq c) (sym (get_or-map (λ (p : Cell × Facts). p.0) es n d c below)) ∙ at.1 in
+      let same : cell_eq c e.0 ≡ true = ap (cell_eq c) (sym (get_or-map (λ (p : TypeParts × Facts). p.0) es n d c below)) ∙ at.1 in
       here.is ∙ ap Some (sym (alike types c e.0 same))
 
   -- The type of a cell that was not found is not there.
-  pub not_there : (c : Cell) → Fits (length types) c → false ≡ is_some (lookup (cell_eq c) es) → (n : ℕ) → slice_get types n ≡ Some (kindred_of types c) → ⊥
+  pub not_there : (c : TypeParts) → Fits (length types) c → false ≡ is_some (lookup (cell_eq c) es) → (n : ℕ) → slice_get types n ≡ Some (kindred_of types c) → ⊥
   not_there c fits none n is =
       let below = slice_get_within types n (kindred_of types c) is in
       let cell = some_cell n below in
@@ -83,7 +83,7 @@ module _ (types : List Kindred) (es : List (Cell × Facts)) (are : AreCells type
       let equal = told types are.once c cell.0 fits within same in
       absurd (cc)
 
-  module _ (c : Cell) (f : Facts) (fits : Fits (length types) c) where
+  module _ (c : TypeParts) (f : Facts) (fits : Fits (length types) c) where
     abbrev k : Kindred
     k = kindred_of types c
 
@@ -102,7 +102,7 @@ module _ (types : List Kindred) (es : List (Cell × Facts)) (are : AreCells type
           symbols = λ name. symbols name ∙ ap (λ t. is_symbol t name) (sym same);
         }
 
-        earlier : (n : ℕ) (d : Cell) (g : Facts) → n < length es → IsCell types n d g → IsCell (types ++ k ∷ []) n d g
+        earlier : (n : ℕ) (d : TypeParts) (g : Facts) → n < length es → IsCell types n d g → IsCell (types ++ k ∷ []) n d g
         earlier n d g below is =
             let kept = kindred_kept types (k ∷ []) d (fits_more n (length types) d (omega (arith, are.as_many)) is.fits) in
             record {
@@ -112,10 +112,10 @@ module _ (types : List Kindred) (es : List (Cell × Facts)) (are : AreCells type
               symbols = λ name. is.symbols name ∙ ap (λ t. is_symbol t name) (sym kept);
             }
 
-        each : (n : ℕ) (d : Cell) (g : Facts) → slice_get (es ++ (c, f) ∷ []) n ≡ Some (d, g) → IsCell (types ++ k ∷ []) n d g
+        each : (n : ℕ) (d : TypeParts) (g : Facts) → slice_get (es ++ (c, f) ∷ []) n ≡ Some (d, g) → IsCell (types ++ k ∷ []) n d g
         each n d g at = elim (old_or_last es (c, f) n (d, g) at) [
           | inl w ↦ earlier n d g (slice_get_within es n (d, g) w) (are.each n d g w)
-          | inr w ↦ subst (λ (p : ℕ × (Cell × Facts)). IsCell (types ++ k ∷ []) p.0 p.1.0 p.1.1) (λ i. (sym w.0 i, sym w.1 i)) last
+          | inr w ↦ subst (λ (p : ℕ × (TypeParts × Facts)). IsCell (types ++ k ∷ []) p.0 p.1.0 p.1.1) (λ i. (sym w.0 i, sym w.1 i)) last
         ]
 
         once : (m n : ℕ) (t : Kindred) → slice_get (types ++ k ∷ []) m ≡ Some t → slice_get (types ++ k ∷ []) n ≡ Some t → m ≡ n

@@ -15,12 +15,12 @@ use Rattle.reo_exprs.proofs.Joined.{names_match}
 use Rattle.reo_exprs.proofs.Options.{to_both}
 use Rattle.reo_exprs.proofs.Steps.{kind_parts}
 use Rattle.reo_exprs.proofs.Same.{int_told}
-use Rattle.reo_rules_types.specs.declared.cell.Cell.{Cell}
-use Rattle.reo_rules_types.specs.declared.cell.Cell.TheVariants as cells
-use Rattle.reo_rules_types.specs.contracts.cell.CellPartialEq.TheImpl.{eq-value}
+use Rattle.reo_rules_types.specs.declared.cell.TypeParts.{TypeParts}
+use Rattle.reo_rules_types.specs.declared.cell.TypeParts.TheVariants as cells
+use Rattle.reo_rules_types.specs.contracts.cell.TypePartsPartialEq.TheImpl.{eq-value}
 use Rattle.reo_rules_types.specs.Cells.{type_at, kindred_of, Fits}
 
-abbrev pub cell_eq : Cell → Cell → Bool
+abbrev pub cell_eq : TypeParts → TypeParts → Bool
 cell_eq c d = (eq-value).it c d
 
 -- Lists that are seen through a function.
@@ -34,7 +34,7 @@ int_same : (a c : ℤ) → a ≡ c → int_eq a c ≡ true
 int_same a c e = let d = Decides-int_eq a c in grind arith
 
 -- Cells that the test finds equal are of one type.
-pub alike : (types : List Kindred) (c d : Cell) → cell_eq c d ≡ true → kindred_of types c ≡ kindred_of types d
+pub alike : (types : List Kindred) (c d : TypeParts) → cell_eq c d ≡ true → kindred_of types c ≡ kindred_of types d
 alike types cells.Unit cells.Unit e = refl
 alike types cells.Bool cells.Bool e = refl
 alike types (cells.Int a b) (cells.Int c d) e =
@@ -71,7 +71,7 @@ module _ (types : List Kindred) (once : (m n : ℕ) (k : Kindred) → slice_get 
   same_at m n p q e = once m n (type_at types n) (slice_get-get_or types m kinds.Unit p ∙ ap Some e) (slice_get-get_or types n kinds.Unit q)
 
   -- Cells of one type are equal.
-  pub told : (c d : Cell) → Fits (length types) c → Fits (length types) d → kindred_of types c ≡ kindred_of types d → cell_eq c d ≡ true
+  pub told : (c d : TypeParts) → Fits (length types) c → Fits (length types) d → kindred_of types c ≡ kindred_of types d → cell_eq c d ≡ true
   told cells.Unit cells.Unit p q e = refl
   told cells.Bool cells.Bool p q e = refl
   told (cells.Int a b) (cells.Int c d) p q e =

@@ -3,15 +3,15 @@ use Rattle.std.specs.Prelude.{◌≡◌, ℕ, ◌<◌, Bool, false, List, [], �
 use Rattle.reo_values.specs.declared.kindred.Kindred.{Kindred}
 use Rattle.reo_values.specs.declared.kindred.Kindred.TheVariants as kinds
 use Rattle.reo_rules.specs.Lists.{has_name}
-use Rattle.reo_rules_types.specs.declared.cell.Cell.{Cell}
-use Rattle.reo_rules_types.specs.declared.cell.Cell.TheVariants as cells
+use Rattle.reo_rules_types.specs.declared.cell.TypeParts.{TypeParts}
+use Rattle.reo_rules_types.specs.declared.cell.TypeParts.TheVariants as cells
 
 -- The type with a number; `unit` where there is none.
 abbrev pub type_at : List Kindred → ℕ → Kindred
 type_at types n = slice_index_or types n kinds.Unit
 
 -- The type that a cell is, by the types that its numbers name.
-abbrev pub kindred_of : List Kindred → Cell → Kindred
+abbrev pub kindred_of : List Kindred → TypeParts → Kindred
 kindred_of types cells.Unit = kinds.Unit
 kindred_of types cells.Bool = kinds.Bool
 kindred_of types (cells.Int low high) = kinds.Int low high
@@ -20,11 +20,11 @@ kindred_of types (cells.Text most) = kinds.Text most
 kindred_of types (cells.Pair left right) = kinds.Pair (record { left = type_at types left; right = type_at types right })
 
 -- The types of cells, each by those before it.
-abbrev pub kindreds_of : List Cell → List Kindred
+abbrev pub kindreds_of : List TypeParts → List Kindred
 kindreds_of cs = fold (λ types c. types ++ kindred_of types c ∷ []) [] cs
 
 -- The numbers in a cell are below this one.
-abbrev pub Fits : ℕ → Cell → Type 0
+abbrev pub Fits : ℕ → TypeParts → Type 0
 Fits n (cells.Pair left right) = (left < n) × (right < n)
 Fits n c = Unit {0}
 

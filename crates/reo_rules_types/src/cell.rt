@@ -3,7 +3,7 @@ use std::hash::Hash;
 
 /// A type, whose parts are numbers of other types.
 #[derive(Drop, PartialEq, Eq, Hash)]
-pub(crate) enum Cell {
+pub(crate) enum TypeParts {
     /// The type with one item.
     Unit,
     /// The two truth values.

@@ -12,11 +12,11 @@ ghost use Rattle.reo_rules_types.specs.Cells.{type_at, Keeps};
 ghost use Rattle.reo_rules_types.specs.Scoped.{typed, AreKnown};
 ghost use Rattle.reo_rules_types.specs.Signed.{AreOf};
 
-use crate::cell::Cell;
+use crate::cell::TypeParts;
 use crate::kinds::kind_of_term;
 use crate::literals::{is_literal, some_misfits};
 use crate::scope::Scope;
-use crate::types::Types;
+use crate::types::TypeStore;
 use reo_trees::{Channel, TermForm};
 use reo_values::{Bytes, NoMemory};
 use std::alloc::Global;
@@ -33,7 +33,7 @@ fn keeps_type(channel: &Channel) -> bool
 }
 
 // Whether some literal of a channel is no item of a type.
-fn literal_misfits(types: &Types, number: usize, channel: &Channel) -> bool
+fn literal_misfits(types: &TypeStore, number: usize, channel: &Channel) -> bool
     requires { number < length types.now }
     ensures { result ≡ list_any (λ (l : ALiteral). is_none (item_of (type_at types.now number) l))
         (literals_of channel.now) }
@@ -54,7 +54,7 @@ fn literal_misfits(types: &Types, number: usize, channel: &Channel) -> bool
 // Whether an expression has no kind, or another than the one that is wanted.
 fn lacks_kind(
     alloc: Global,
-    types: &mut Types,
+    types: &mut TypeStore,
     declared: &Scope,
     form: &TermForm,
     of: usize,
@@ -78,7 +78,7 @@ fn lacks_kind(
 // Whether the expression of a channel does not fit between two nodes.
 fn misfits(
     alloc: Global,
-    types: &mut Types,
+    types: &mut TypeStore,
     declared: &Scope,
     a: usize,
     b: usize,
@@ -94,7 +94,7 @@ fn misfits(
 {
     match channel {
         Channel::Filter(term) => {
-            let want = types.put(alloc, Cell::Bool)?;
+            let want = types.put(alloc, TypeParts::Bool)?;
             lacks_kind(alloc, types, declared, &term.form, a, want)
         }
         Channel::Map(term) => {
@@ -111,7 +111,7 @@ fn misfits(
 /// `NoMemory` means out of memory.
 pub(crate) fn channel_mistyped(
     alloc: Global,
-    types: &mut Types,
+    types: &mut TypeStore,
     declared: &Scope,
     a: usize,
     b: usize,
@@ -137,7 +137,7 @@ pub(crate) fn channel_mistyped(
 /// Whether some argument has another type than the parameter of its place, by the numbers of the
 /// parameters' types.
 pub(crate) fn use_mistyped(
-    types: &Types,
+    types: &TypeStore,
     scope: &Scope,
     arguments: &[Bytes],
     numbers: &[usize],

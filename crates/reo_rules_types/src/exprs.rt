@@ -5,10 +5,10 @@ ghost use Rattle.reo_rules_types.specs.Cells.{type_at};
 ghost use Rattle.reo_rules_types.specs.Resolved.{pair_of};
 ghost use Rattle.reo_rules_types.specs.Scoped.{typed, AreKnown};
 
-use crate::cell::Cell;
+use crate::cell::TypeParts;
 use crate::scope::Scope;
 use crate::trees::names_of;
-use crate::types::Types;
+use crate::types::TypeStore;
 use reo_exprs::{Expr, ExprPair, ExprTriple};
 use reo_trees::{Binary, Term, TermForm, Unary};
 use reo_values::{Boxed, NoMemory};
@@ -23,14 +23,14 @@ fn place_of(names: &[Vec<u8>], name: &[u8]) -> Option<usize>
 // The symbol of a type of this name. Out of memory also where its place is above 65,535.
 fn symbol_expr(
     alloc: Global,
-    types: &Types,
+    types: &TypeStore,
     number: usize,
     name: &[u8],
 ) -> Result<Option<Expr>, NoMemory>
     requires { number < length types.now }
     ensures { IfOk result (λ made. made ≡ symbol_in (type_at types.now number) name.now) }
 {
-    let Cell::Sym(names) = types.cell(number) else {
+    let TypeParts::Sym(names) = types.cell(number) else {
         return Ok(None);
     };
     let Some(place) = place_of(names, name) else {
@@ -71,7 +71,7 @@ fn if_expr(alloc: Global, condition: Expr, pair: ExprPair) -> Result<Option<Expr
 #[cycle(resolving)]
 fn two_of(
     alloc: Global,
-    types: &Types,
+    types: &TypeStore,
     declared: &Scope,
     left: &Term,
     right: &Term,
@@ -96,7 +96,7 @@ fn two_of(
 #[cycle(resolving)]
 pub(crate) fn expr_of_term(
     alloc: Global,
-    types: &Types,
+    types: &TypeStore,
     declared: &Scope,
     form: &TermForm,
 ) -> Result<Option<Expr>, NoMemory>

@@ -8,80 +8,80 @@ ghost use Rattle.reo_rules_types.specs.Cells.{type_at, Keeps};
 ghost use Rattle.reo_rules_types.specs.Scoped.{typed, AreKnown};
 ghost use Rattle.reo_rules_types.specs.Kinded.{fits_test, kind_of_symbol, kind_of_form, IsMade};
 
-use crate::cell::Cell;
+use crate::cell::TypeParts;
 use crate::scope::Scope;
-use crate::types::Types;
+use crate::types::TypeStore;
 use reo_trees::{Binary, TermForm, Unary};
 use reo_values::{Bytes, NoMemory};
 use std::alloc::Global;
 
-fn is_bool(types: &Types, number: usize) -> bool
+fn is_bool(types: &TypeStore, number: usize) -> bool
     requires { number < length types.now }
     ensures { result ≡ is_bool (type_at types.now number) }
 {
-    matches!(types.cell(number), Cell::Bool)
+    matches!(types.cell(number), TypeParts::Bool)
 }
 
-fn is_number(types: &Types, number: usize) -> bool
+fn is_number(types: &TypeStore, number: usize) -> bool
     requires { number < length types.now }
     ensures { result ≡ is_some (interval_of (type_at types.now number)) }
 {
-    matches!(types.cell(number), Cell::Int(_, _))
+    matches!(types.cell(number), TypeParts::Int(_, _))
 }
 
-fn is_text(types: &Types, number: usize) -> bool
+fn is_text(types: &TypeStore, number: usize) -> bool
     requires { number < length types.now }
     ensures { result ≡ is_some (most_of (type_at types.now number)) }
 {
-    matches!(types.cell(number), Cell::Text(_))
+    matches!(types.cell(number), TypeParts::Text(_))
 }
 
 // The type of the left parts, of a type of pairs.
-fn left(types: &Types, number: usize) -> Option<usize>
+fn left(types: &TypeStore, number: usize) -> Option<usize>
     requires { number < length types.now }
     ensures { IsMade types.now result
         (option_map (λ t. t.left) (twins_of (type_at types.now number))) }
 {
     match types.cell(number) {
-        Cell::Pair(left, _) => Some(*left),
+        TypeParts::Pair(left, _) => Some(*left),
         _ => None,
     }
 }
 
 // The type of the right parts, of a type of pairs.
-fn right(types: &Types, number: usize) -> Option<usize>
+fn right(types: &TypeStore, number: usize) -> Option<usize>
     requires { number < length types.now }
     ensures { IsMade types.now result
         (option_map (λ t. t.right) (twins_of (type_at types.now number))) }
 {
     match types.cell(number) {
-        Cell::Pair(_, right) => Some(*right),
+        TypeParts::Pair(_, right) => Some(*right),
         _ => None,
     }
 }
 
 // The type of truth values, where a test holds.
-fn truth(alloc: Global, types: &mut Types, test: bool) -> Result<Option<usize>, NoMemory>
+fn truth(alloc: Global, types: &mut TypeStore, test: bool) -> Result<Option<usize>, NoMemory>
     ensures keeps { OnOk result (Keeps types.old types.new) }
     ensures kind { IfOk result
         (λ made. IsMade types.new made (if test then Some type_variants.Bool else None)) }
 {
     if test {
-        Ok(Some(types.put(alloc, Cell::Bool)?))
+        Ok(Some(types.put(alloc, TypeParts::Bool)?))
     } else {
         Ok(None)
     }
 }
 
 // The kind of numbers, where a test holds.
-fn whole(alloc: Global, types: &mut Types, test: bool) -> Result<Option<usize>, NoMemory>
+fn whole(alloc: Global, types: &mut TypeStore, test: bool) -> Result<Option<usize>, NoMemory>
     ensures keeps { OnOk result (Keeps types.old types.new) }
     ensures kind { IfOk result
         (λ made. IsMade types.new made
         (if test then Some (type_variants.Int (pos 0) (pos 0)) else None)) }
 {
     if test {
-        Ok(Some(types.put(alloc, Cell::Int(0, 0))?))
+        Ok(Some(types.put(alloc, TypeParts::Int(0, 0))?))
     } else {
         Ok(None)
     }
@@ -89,7 +89,7 @@ fn whole(alloc: Global, types: &mut Types, test: bool) -> Result<Option<usize>, 
 
 fn one_kind(
     alloc: Global,
-    types: &mut Types,
+    types: &mut TypeStore,
     op: Unary,
     x: usize,
 ) -> Result<Option<usize>, NoMemory>
@@ -118,7 +118,7 @@ fn one_kind(
 }
 
 // Whether both operands are of a kind that an operator on truth values or a comparison takes.
-fn fits_test(types: &Types, op: Binary, x: usize, y: usize) -> bool
+fn fits_test(types: &TypeStore, op: Binary, x: usize, y: usize) -> bool
     requires left { x < length types.now }
     requires right { y < length types.now }
     ensures { result ≡ fits_test op (type_at types.now x) (type_at types.now y) }
@@ -132,7 +132,7 @@ fn fits_test(types: &Types, op: Binary, x: usize, y: usize) -> bool
 
 fn two_kind(
     alloc: Global,
-    types: &mut Types,
+    types: &mut TypeStore,
     op: Binary,
     x: usize,
     y: usize,
@@ -148,7 +148,7 @@ fn two_kind(
 {
     let fits = fits_test(types, op, x, y);
     match op {
-        Binary::Pair => Ok(Some(types.put(alloc, Cell::Pair(x, y))?)),
+        Binary::Pair => Ok(Some(types.put(alloc, TypeParts::Pair(x, y))?)),
         Binary::Add | Binary::Sub | Binary::Mul | Binary::Div | Binary::Rem => {
             whole(alloc, types, fits)
         }
@@ -157,7 +157,7 @@ fn two_kind(
     }
 }
 
-fn choice_kind(types: &Types, condition: usize, yes: usize, no: usize) -> Option<usize>
+fn choice_kind(types: &TypeStore, condition: usize, yes: usize, no: usize) -> Option<usize>
     requires condition { condition < length types.now }
     requires yes { yes < length types.now }
     requires no { no < length types.now }
@@ -174,7 +174,7 @@ fn choice_kind(types: &Types, condition: usize, yes: usize, no: usize) -> Option
 }
 
 // The type of a symbol, where the type of this name has it.
-fn symbol_kind(types: &Types, declared: &Scope, name: &Bytes, symbol: &Bytes) -> Option<usize>
+fn symbol_kind(types: &TypeStore, declared: &Scope, name: &Bytes, symbol: &Bytes) -> Option<usize>
     requires { AreKnown types.now declared.now }
     ensures { (of : AType)
         → IsMade types.now result
@@ -193,7 +193,7 @@ fn symbol_kind(types: &Types, declared: &Scope, name: &Bytes, symbol: &Bytes) ->
 /// All types keep their numbers. `NoMemory` means out of memory.
 pub(crate) fn kind_of_term(
     alloc: Global,
-    types: &mut Types,
+    types: &mut TypeStore,
     declared: &Scope,
     form: &TermForm,
     of: usize,
@@ -207,10 +207,10 @@ pub(crate) fn kind_of_term(
 {
     match form {
         TermForm::It => Ok(Some(types.kind(of))),
-        TermForm::Unit => Ok(Some(types.put(alloc, Cell::Unit)?)),
-        TermForm::Bool(_) => Ok(Some(types.put(alloc, Cell::Bool)?)),
-        TermForm::Int(_) => Ok(Some(types.put(alloc, Cell::Int(0, 0))?)),
-        TermForm::Text(_) => Ok(Some(types.put(alloc, Cell::Text(0))?)),
+        TermForm::Unit => Ok(Some(types.put(alloc, TypeParts::Unit)?)),
+        TermForm::Bool(_) => Ok(Some(types.put(alloc, TypeParts::Bool)?)),
+        TermForm::Int(_) => Ok(Some(types.put(alloc, TypeParts::Int(0, 0))?)),
+        TermForm::Text(_) => Ok(Some(types.put(alloc, TypeParts::Text(0))?)),
         TermForm::Sym(name, symbol) => Ok(symbol_kind(types, declared, name, symbol)),
         TermForm::One(op, operand) => {
             match kind_of_term(alloc, types, declared, &operand.get().form, of)? {

@@ -7,8 +7,8 @@ ghost use Rattle.reo_rules.specs.literals.Items.{item_of};
 ghost use Rattle.reo_rules_types.specs.Cells.{type_at};
 ghost use Rattle.reo_rules_types.specs.Literals.{is_literal};
 
-use crate::cell::Cell;
-use crate::types::Types;
+use crate::cell::TypeParts;
+use crate::types::TypeStore;
 use reo_trees::{Constant, Literal};
 
 // Whether all bytes are from the space to the tilde.
@@ -26,17 +26,17 @@ fn is_text_of(bytes: &[u8], most: u16) -> bool
 }
 
 /// Whether a literal is an item of a type.
-pub(crate) fn is_literal(types: &Types, number: usize, constant: &Constant) -> bool
+pub(crate) fn is_literal(types: &TypeStore, number: usize, constant: &Constant) -> bool
     requires { number < length types.now }
     ensures { result ≡ is_literal (type_at types.now number) constant.now }
 {
     match (constant, types.cell(number)) {
-        (Constant::Unit, Cell::Unit) => true,
-        (Constant::Bool(_), Cell::Bool) => true,
-        (Constant::Int(n), Cell::Int(low, high)) => *low <= *n && *n <= *high,
-        (Constant::Name(name), Cell::Sym(_)) => types.has_symbol(number, name.as_slice()),
-        (Constant::Text(bytes), Cell::Text(most)) => is_text_of(bytes.as_slice(), *most),
-        (Constant::Pair(pair), Cell::Pair(left, right)) => {
+        (Constant::Unit, TypeParts::Unit) => true,
+        (Constant::Bool(_), TypeParts::Bool) => true,
+        (Constant::Int(n), TypeParts::Int(low, high)) => *low <= *n && *n <= *high,
+        (Constant::Name(name), TypeParts::Sym(_)) => types.has_symbol(number, name.as_slice()),
+        (Constant::Text(bytes), TypeParts::Text(most)) => is_text_of(bytes.as_slice(), *most),
+        (Constant::Pair(pair), TypeParts::Pair(left, right)) => {
             let pair = pair.get();
             is_literal(types, *left, &pair.left.constant)
                 && is_literal(types, *right, &pair.right.constant)
@@ -46,7 +46,7 @@ pub(crate) fn is_literal(types: &Types, number: usize, constant: &Constant) -> b
 }
 
 /// Whether some literal is no item of a type.
-pub(crate) fn some_misfits(types: &Types, number: usize, literals: &[Literal]) -> bool
+pub(crate) fn some_misfits(types: &TypeStore, number: usize, literals: &[Literal]) -> bool
     requires { number < length types.now }
     ensures { result ≡ list_any
         (λ (l : ALiteral). is_none (item_of (type_at types.now number) l)) literals.now }

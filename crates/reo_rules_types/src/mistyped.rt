@@ -21,15 +21,15 @@ use crate::channels::{channel_mistyped, use_mistyped};
 use crate::known::Known;
 use crate::scope::Scope;
 use crate::scopes::{declare_type, read_scope};
-use crate::types::Types;
+use crate::types::TypeStore;
 use reo_rules::{FlatFault, Names};
-use reo_trees::{Connector, Declaration, Form, Item, Program};
+use reo_trees::{Connector, Declaration, ItemForm, Item, Program};
 use reo_values::{Bytes, List, NoMemory};
 use std::alloc::Global;
 
 // Whether some argument of a use does not fit its parameter.
 fn used_mistyped(
-    types: &Types,
+    types: &TypeStore,
     known: &Known,
     scope: &Scope,
     name: &Bytes,
@@ -52,10 +52,10 @@ fn used_mistyped(
 // Whether an item does not fit.
 fn item_mistyped(
     alloc: Global,
-    types: &mut Types,
+    types: &mut TypeStore,
     known: &Known,
     scope: &Scope,
-    form: &Form,
+    form: &ItemForm,
 ) -> Result<bool, NoMemory>
     requires known { AreKnown types.old known.now.declared }
     requires scope { AreKnown types.old scope.now }
@@ -65,8 +65,8 @@ fn item_mistyped(
         (typed types.old scope.now) form.now) }
 {
     match form {
-        Form::Node { .. } => Ok(false),
-        Form::Joined {
+        ItemForm::Node { .. } => Ok(false),
+        ItemForm::Joined {
             channel,
             first,
             second,
@@ -74,7 +74,7 @@ fn item_mistyped(
             let (a, b) = (scope.find(first.as_slice()), scope.find(second.as_slice()));
             channel_mistyped(alloc, types, &known.declared, a, b, channel)
         }
-        Form::Used { name, arguments } => {
+        ItemForm::Used { name, arguments } => {
             Ok(used_mistyped(types, known, scope, name, arguments.as_slice()))
         }
     }
@@ -83,7 +83,7 @@ fn item_mistyped(
 // The first item of a connector that does not fit.
 fn items_mistyped(
     alloc: Global,
-    types: &mut Types,
+    types: &mut TypeStore,
     known: &Known,
     scope: &Scope,
     items: &[Item],
@@ -108,7 +108,7 @@ fn items_mistyped(
 // A connector: its items are judged, and then it is known.
 fn connector_mistyped(
     alloc: Global,
-    types: &mut Types,
+    types: &mut TypeStore,
     known: &mut Known,
     connector: &Connector,
 ) -> Result<(), FlatFault>
@@ -134,7 +134,7 @@ fn connector_mistyped(
 // The first item of a program that does not fit, once nothing is known.
 fn declarations_mistyped(
     alloc: Global,
-    types: &mut Types,
+    types: &mut TypeStore,
     known: &mut Known,
     declarations: &[Declaration],
 ) -> Result<(), FlatFault>
@@ -163,7 +163,7 @@ pub fn judge_mistyped(alloc: Global, program: &Program) -> Result<(), FlatFault>
     requires { KeepsNames program.now.declarations }
     ensures { IsJudged (mistyped program.now.declarations) result }
 {
-    let mut types = Types::new(alloc)?;
+    let mut types = TypeStore::new(alloc)?;
     let mut known = Known {
         declared: Scope::new(alloc),
         connectors: Names::new(alloc),

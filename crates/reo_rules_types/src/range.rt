@@ -20,11 +20,11 @@ use crate::scope::Scope;
 use crate::scopes::{declare_type, read_scope};
 use crate::shapes::number_of;
 use crate::trees::{is_deeper, tree_of};
-use crate::types::Types;
+use crate::types::TypeStore;
 use reo_exprs::{Expr, TypeFault, lies_inside, type_of};
 use reo_rules::FlatFault;
 use reo_trees::{
-    Channel, Connector, Declaration, Form, Item, Parameter, Program, Shape, TermForm, TypeTerm,
+    Channel, Connector, Declaration, ItemForm, Item, Parameter, Program, Shape, TermForm, TypeTerm,
 };
 use reo_values::{Kindred, NoMemory};
 use std::alloc::Global;
@@ -66,7 +66,7 @@ fn shape_range(line: u32, shape: &Shape) -> Result<(), FlatFault>
 // The first part of a written type that leaves its bounds.
 fn type_range(
     alloc: Global,
-    types: &mut Types,
+    types: &mut TypeStore,
     declared: &Scope,
     term: &TypeTerm,
 ) -> Result<(), FlatFault>
@@ -111,7 +111,7 @@ fn lies_outside(
 }
 
 // Whether an expression has no type, over items of a type.
-fn filter_untyped(alloc: Global, types: &Types, expr: &Expr, of: usize) -> Result<bool, NoMemory>
+fn filter_untyped(alloc: Global, types: &TypeStore, expr: &Expr, of: usize) -> Result<bool, NoMemory>
     requires { of < length types.now }
     ensures { IfOk result (λ r. r ≡ is_none (type_of_expr expr.now (type_at types.now of))) }
 {
@@ -121,7 +121,7 @@ fn filter_untyped(alloc: Global, types: &Types, expr: &Expr, of: usize) -> Resul
 
 fn filter_leaves(
     alloc: Global,
-    types: &Types,
+    types: &TypeStore,
     declared: &Scope,
     of: usize,
     form: &TermForm,
@@ -141,7 +141,7 @@ fn filter_leaves(
 // Whether an expression over items of a type has no type, or one that does not lie inside another.
 fn map_outside(
     alloc: Global,
-    types: &Types,
+    types: &TypeStore,
     expr: &Expr,
     of: usize,
     target: &Kindred,
@@ -157,7 +157,7 @@ fn map_outside(
 // The same, by the number of the other type.
 fn map_misses(
     alloc: Global,
-    types: &Types,
+    types: &TypeStore,
     expr: &Expr,
     of: usize,
     target: usize,
@@ -174,7 +174,7 @@ fn map_misses(
 
 fn map_leaves(
     alloc: Global,
-    types: &Types,
+    types: &TypeStore,
     declared: &Scope,
     of: usize,
     target: usize,
@@ -196,7 +196,7 @@ fn map_leaves(
 // Whether a channel between nodes of two types leaves its bounds.
 fn channel_leaves(
     alloc: Global,
-    types: &Types,
+    types: &TypeStore,
     declared: &Scope,
     a: usize,
     b: usize,
@@ -223,11 +223,11 @@ fn channel_leaves(
 // An item: a written type in it, or itself.
 fn item_range(
     alloc: Global,
-    types: &mut Types,
+    types: &mut TypeStore,
     declared: &Scope,
     scope: &Scope,
     line: u32,
-    form: &Form,
+    form: &ItemForm,
 ) -> Result<(), FlatFault>
     requires known { AreKnown types.old declared.now }
     requires scope { AreKnown types.old scope.now }
@@ -237,8 +237,8 @@ fn item_range(
         (typed types.old scope.now) line form.now) result }
 {
     match form {
-        Form::Node { term, .. } => type_range(alloc, types, declared, term),
-        Form::Joined {
+        ItemForm::Node { term, .. } => type_range(alloc, types, declared, term),
+        ItemForm::Joined {
             channel,
             first,
             second,
@@ -246,13 +246,13 @@ fn item_range(
             let (a, b) = (scope.find(first.as_slice()), scope.find(second.as_slice()));
             range_where(channel_leaves(alloc, types, declared, a, b, channel)?, line)
         }
-        Form::Used { .. } => Ok(()),
+        ItemForm::Used { .. } => Ok(()),
     }
 }
 
 fn parameters_range(
     alloc: Global,
-    types: &mut Types,
+    types: &mut TypeStore,
     declared: &Scope,
     parameters: &[Parameter],
 ) -> Result<(), FlatFault>
@@ -270,7 +270,7 @@ fn parameters_range(
 
 fn items_range(
     alloc: Global,
-    types: &mut Types,
+    types: &mut TypeStore,
     declared: &Scope,
     scope: &Scope,
     items: &[Item],
@@ -291,7 +291,7 @@ fn items_range(
 // A connector: the types of its parameters, and then its items.
 fn connector_range(
     alloc: Global,
-    types: &mut Types,
+    types: &mut TypeStore,
     declared: &Scope,
     connector: &Connector,
 ) -> Result<(), FlatFault>
@@ -310,7 +310,7 @@ fn connector_range(
 // The first type or item of a program that leaves its bounds, once nothing is declared.
 fn declarations_range(
     alloc: Global,
-    types: &mut Types,
+    types: &mut TypeStore,
     declared: &mut Scope,
     declarations: &[Declaration],
 ) -> Result<(), FlatFault>
@@ -340,7 +340,7 @@ pub fn judge_range(alloc: Global, program: &Program) -> Result<(), FlatFault>
     requires { KeepsNames program.now.declarations }
     ensures { IsJudged (out_of_range program.now.declarations) result }
 {
-    let mut types = Types::new(alloc)?;
+    let mut types = TypeStore::new(alloc)?;
     let mut declared = Scope::new(alloc);
     declarations_range(
         alloc,

@@ -14,8 +14,8 @@ ghost use Rattle.reo_rules_types.specs.Signed.{AreOf, parameter_types};
 
 use crate::scope::Scope;
 use crate::shapes::number_of;
-use crate::types::Types;
-use reo_trees::{Connector, Form, Item, Parameter, Shape};
+use crate::types::TypeStore;
+use reo_trees::{Connector, ItemForm, Item, Parameter, Shape};
 use reo_values::{Bytes, List, NoMemory};
 use std::alloc::Global;
 
@@ -23,7 +23,7 @@ use std::alloc::Global;
 /// of memory.
 pub(crate) fn declare_type(
     alloc: Global,
-    types: &mut Types,
+    types: &mut TypeStore,
     declared: &mut Scope,
     name: &Bytes,
     shape: &Shape,
@@ -44,7 +44,7 @@ pub(crate) fn declare_type(
 // Adds a name with a written type, and answers the number of the type.
 fn declare(
     alloc: Global,
-    types: &mut Types,
+    types: &mut TypeStore,
     declared: &Scope,
     scope: &mut Scope,
     name: &Bytes,
@@ -70,7 +70,7 @@ fn declare(
 // Adds the parameters of a connector, and answers the numbers of their types.
 fn read_parameters(
     alloc: Global,
-    types: &mut Types,
+    types: &mut TypeStore,
     declared: &Scope,
     scope: &mut Scope,
     parameters: &[Parameter],
@@ -100,7 +100,7 @@ fn read_parameters(
 // Adds the nodes of a connector behind its parameters.
 fn read_nodes(
     alloc: Global,
-    types: &mut Types,
+    types: &mut TypeStore,
     declared: &Scope,
     scope: &mut Scope,
     parameters: &[Parameter],
@@ -118,7 +118,7 @@ fn read_nodes(
         (λ (i : AnItem). node_types_in (typed types.old declared.now) i.form) items.now) }
 {
     for item in items {
-        if let Form::Node { name, term } = &item.form {
+        if let ItemForm::Node { name, term } = &item.form {
             declare(alloc, types, declared, scope, name, &term.shape)?;
         }
     }
@@ -129,7 +129,7 @@ fn read_nodes(
 /// parameters' types. All types keep their numbers. `NoMemory` means out of memory.
 pub(crate) fn read_scope(
     alloc: Global,
-    types: &mut Types,
+    types: &mut TypeStore,
     declared: &Scope,
     scope: &mut Scope,
     connector: &Connector,

@@ -4,9 +4,9 @@ ghost use Rattle.reo_rules.specs.Types.{resolved};
 ghost use Rattle.reo_rules_types.specs.Cells.{Keeps};
 ghost use Rattle.reo_rules_types.specs.Scoped.{typed, AreKnown};
 
-use crate::cell::Cell;
+use crate::cell::TypeParts;
 use crate::scope::Scope;
-use crate::types::Types;
+use crate::types::TypeStore;
 use reo_trees::Shape;
 use reo_values::NoMemory;
 use std::alloc::Global;
@@ -15,7 +15,7 @@ use std::alloc::Global;
 /// other types keep their numbers. `NoMemory` means out of memory.
 pub(crate) fn number_of(
     alloc: Global,
-    types: &mut Types,
+    types: &mut TypeStore,
     declared: &Scope,
     shape: &Shape,
 ) -> Result<usize, NoMemory>
@@ -25,17 +25,17 @@ pub(crate) fn number_of(
         (λ n. slice_get types.new n ≡ Some (resolved (typed types.old declared.now) shape.now)) }
 {
     match shape {
-        Shape::Unit => types.put(alloc, Cell::Unit),
-        Shape::Bool => types.put(alloc, Cell::Bool),
-        Shape::Int(low, high) => types.put(alloc, Cell::Int(*low, *high)),
+        Shape::Unit => types.put(alloc, TypeParts::Unit),
+        Shape::Bool => types.put(alloc, TypeParts::Bool),
+        Shape::Int(low, high) => types.put(alloc, TypeParts::Int(*low, *high)),
         Shape::Sym(names) => types.put_names(alloc, names.as_slice()),
-        Shape::Text(most) => types.put(alloc, Cell::Text(*most)),
+        Shape::Text(most) => types.put(alloc, TypeParts::Text(*most)),
         Shape::Named(name) => Ok(declared.find(name.as_slice())),
         Shape::Pair(pair) => {
             let pair = pair.get();
             let left = number_of(alloc, types, declared, &pair.left.shape)?;
             let right = number_of(alloc, types, declared, &pair.right.shape)?;
-            types.put(alloc, Cell::Pair(left, right))
+            types.put(alloc, TypeParts::Pair(left, right))
         }
     }
 }

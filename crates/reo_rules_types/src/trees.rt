@@ -3,18 +3,18 @@ ghost use Rattle.std.specs.Prelude.{◌≡◌, ◌<◌, length, slice_get, map, 
 ghost use Rattle.reo_rules.specs.Types.{depth_of};
 ghost use Rattle.reo_rules_types.specs.Cells.{type_at};
 
-use crate::cell::Cell;
-use crate::types::Types;
+use crate::cell::TypeParts;
+use crate::types::TypeStore;
 use reo_values::{Boxed, Bytes, Kindred, List, NoMemory, Twins};
 use std::alloc::Global;
 
 /// Whether pairs are nested more than so many deep in a type.
-pub(crate) fn is_deeper(types: &Types, number: usize, levels: usize) -> bool
+pub(crate) fn is_deeper(types: &TypeStore, number: usize, levels: usize) -> bool
     requires { number < length types.now }
     ensures { result ≡ nat_lt levels (depth_of (type_at types.now number)) }
 {
     match types.cell(number) {
-        Cell::Pair(left, right) => {
+        TypeParts::Pair(left, right) => {
             if levels == 0 {
                 return true;
             }
@@ -36,17 +36,17 @@ pub(crate) fn names_of(alloc: Global, names: &[Vec<u8>]) -> Result<List<Bytes>, 
 }
 
 /// A type as a tree. `NoMemory` means out of memory.
-pub(crate) fn tree_of(alloc: Global, types: &Types, number: usize) -> Result<Kindred, NoMemory>
+pub(crate) fn tree_of(alloc: Global, types: &TypeStore, number: usize) -> Result<Kindred, NoMemory>
     requires { number < length types.now }
     ensures { IfOk result (λ made. made ≡ type_at types.now number) }
 {
     match types.cell(number) {
-        Cell::Unit => Ok(Kindred::Unit),
-        Cell::Bool => Ok(Kindred::Bool),
-        Cell::Int(low, high) => Ok(Kindred::Int(*low, *high)),
-        Cell::Sym(names) => Ok(Kindred::Sym(names_of(alloc, names)?)),
-        Cell::Text(most) => Ok(Kindred::Text(*most)),
-        Cell::Pair(left, right) => {
+        TypeParts::Unit => Ok(Kindred::Unit),
+        TypeParts::Bool => Ok(Kindred::Bool),
+        TypeParts::Int(low, high) => Ok(Kindred::Int(*low, *high)),
+        TypeParts::Sym(names) => Ok(Kindred::Sym(names_of(alloc, names)?)),
+        TypeParts::Text(most) => Ok(Kindred::Text(*most)),
+        TypeParts::Pair(left, right) => {
             let left = tree_of(alloc, types, *left)?;
             let right = tree_of(alloc, types, *right)?;
             Ok(Kindred::Pair(Boxed::new(alloc, Twins { left, right })?))

@@ -6,7 +6,7 @@ ghost use Rattle.reo_rules.specs.Types.{is_same};
 ghost use Rattle.reo_values.specs.declared.kindred.Kindred.{Kindred as AType};
 ghost use Rattle.reo_rules_types.specs.Cells.{type_at, kindred_of, is_symbol, Fits, Keeps};
 
-use crate::cell::Cell;
+use crate::cell::TypeParts;
 use indexmap::IndexMap;
 use reo_rules::Names;
 use reo_values::{Bytes, NoMemory};
@@ -22,11 +22,11 @@ pub(crate) struct Facts {
 
 /// Types, each once: two are the same exactly where their numbers are equal.
 #[derive(Drop)]
-pub(crate) struct Types {
-    map: IndexMap<Cell, Facts>,
+pub(crate) struct TypeStore {
+    map: IndexMap<TypeParts, Facts>,
 }
 
-impl Model for Types {
+impl Model for TypeStore {
     ghost use Rattle.std.specs.Prelude.{List};
     ghost use Rattle.reo_values.specs.declared.kindred.Kindred.{Kindred as OfItems};
     ghost use Rattle.reo_values.specs.contracts.kindred.Kindred as kindred;
@@ -62,13 +62,13 @@ fn copied(alloc: Global, names: &[Bytes]) -> Result<Vec<Vec<u8>>, NoMemory>
 }
 
 /// The symbols of a type of names, and none of another.
-fn symbols_of(alloc: Global, cell: &Cell) -> Result<Names, NoMemory>
+fn symbols_of(alloc: Global, cell: &TypeParts) -> Result<Names, NoMemory>
     ensures { IfOk result
         (λ symbols. (types : List AType) (name : List ℕ)
         → has_name symbols name ≡ is_symbol (kindred_of types cell.now) name) }
 {
     let mut symbols = Names::new(alloc);
-    if let Cell::Sym(names) = cell {
+    if let TypeParts::Sym(names) = cell {
         for name in names {
             symbols.note(alloc, name.as_slice())?;
         }
@@ -76,21 +76,21 @@ fn symbols_of(alloc: Global, cell: &Cell) -> Result<Names, NoMemory>
     Ok(symbols)
 }
 
-impl Types {
+impl TypeStore {
     /// The type `unit`, with the number 0. `NoMemory` means out of memory.
     pub(crate) fn new(alloc: Global) -> Result<Self, NoMemory>
         ensures { IfOk result (λ types. slice_get types 0 ≡ Some AType.Unit) }
     {
-        let mut types = Types {
+        let mut types = TypeStore {
             map: IndexMap::new(alloc),
         };
-        types.keep(alloc, Cell::Unit, None)?;
+        types.keep(alloc, TypeParts::Unit, None)?;
         Ok(types)
     }
 
     /// The number of the type of a cell, which is added where it is not there. Its kind is there
     /// already, or it is its own kind.
-    fn keep(&mut self, alloc: Global, cell: Cell, kind: Option<usize>) -> Result<usize, NoMemory>
+    fn keep(&mut self, alloc: Global, cell: TypeParts, kind: Option<usize>) -> Result<usize, NoMemory>
         requires fits { Fits (length self.old) cell }
         requires kind { let of = kindred_of self.old cell in MatchOption kind (kind_of of ≡ of)
             (λ n. slice_get self.old n ≡ Some (kind_of of)) }
@@ -114,22 +114,22 @@ impl Types {
     }
 
     /// The cell of a type's kind, where the type may have another kind than itself.
-    fn kind_cell(&self, cell: &Cell) -> Option<Cell>
+    fn kind_cell(&self, cell: &TypeParts) -> Option<TypeParts>
         requires { Fits (length self.now) cell.now }
         ensures { let of = kindred_of self.now cell.now in MatchOption result (kind_of of ≡ of)
             (λ kind. Fits (length self.now) kind × (kindred_of self.now kind ≡ kind_of of)) }
     {
         match cell {
-            Cell::Unit | Cell::Bool | Cell::Sym(_) => None,
-            Cell::Int(_, _) => Some(Cell::Int(0, 0)),
-            Cell::Text(_) => Some(Cell::Text(0)),
-            Cell::Pair(left, right) => Some(Cell::Pair(self.kind(*left), self.kind(*right))),
+            TypeParts::Unit | TypeParts::Bool | TypeParts::Sym(_) => None,
+            TypeParts::Int(_, _) => Some(TypeParts::Int(0, 0)),
+            TypeParts::Text(_) => Some(TypeParts::Text(0)),
+            TypeParts::Pair(left, right) => Some(TypeParts::Pair(self.kind(*left), self.kind(*right))),
         }
     }
 
     /// The number of the type of a cell, which is added where it is not there. All others keep
     /// theirs. `NoMemory` means out of memory.
-    pub(crate) fn put(&mut self, alloc: Global, cell: Cell) -> Result<usize, NoMemory>
+    pub(crate) fn put(&mut self, alloc: Global, cell: TypeParts) -> Result<usize, NoMemory>
         requires { Fits (length self.old) cell }
         ensures keeps { OnOk result (Keeps self.old self.new) }
         ensures number { IfOk result (λ n. slice_get self.new n ≡ Some (kindred_of self.old cell)) }
@@ -149,11 +149,11 @@ impl Types {
         ensures number { IfOk result (λ n. slice_get self.new n ≡ Some (AType.Sym names.now)) }
     {
         let names = copied(alloc, names)?;
-        self.put(alloc, Cell::Sym(names))
+        self.put(alloc, TypeParts::Sym(names))
     }
 
     /// The cell of a type.
-    pub(crate) fn cell(&self, number: usize) -> &Cell
+    pub(crate) fn cell(&self, number: usize) -> &TypeParts
         requires { number < length self.now }
         ensures fits { Fits number result.now }
         ensures is { slice_get self.now number ≡ Some (kindred_of self.now result.now) }

@@ -8,7 +8,7 @@ use Rattle.reo_rules.specs.Lists.{first_of}
 use Rattle.reo_script.specs.declared.scripts.fault.ScriptFault.{ScriptFault}
 use Rattle.reo_script.specs.declared.scripts.fault.ScriptFault.TheVariants as faults
 use Rattle.reo_script.specs.scripts.ScriptRules.{Naming}
-use Rattle.reo_script.specs.declared.places.Place.{Place as APlace}
+use Rattle.reo_script.specs.declared.places.PortPlace.{PortPlace as APlace}
 
 -- What a borrowed place says.
 abbrev pub naming_of : APlace → Naming

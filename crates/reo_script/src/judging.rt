@@ -5,7 +5,7 @@ ghost use Rattle.reo_net_base.specs.declared.port.Port.{Port as APort};
 ghost use Rattle.reo_script.specs.scripts.ScriptRules.{port_named as port_named_in, no_port as no_port_at, wrong_way as wrong_way_at, outside as outside_at, goes_wrong, goes_outside};
 ghost use Rattle.reo_script.specs.Places.{naming_of, IsJudgedBy};
 
-use crate::places::Place;
+use crate::places::PortPlace;
 use crate::scripts::ScriptFault;
 use reo_net_base::{Port, Way};
 use reo_rules::{Names, is_item_of};
@@ -20,7 +20,7 @@ pub(crate) fn port_named<'a>(names: &Names, ports: &'a [Port], name: &[u8]) -> O
 }
 
 /// Whether a place names no port.
-fn is_missing(names: &Names, ports: &[Port], place: &Place) -> bool
+fn is_missing(names: &Names, ports: &[Port], place: &PortPlace) -> bool
     requires { names.now ≡ map (λ (p : APort). p.name) ports.now }
     ensures { result ≡ is_none (port_named_in ports.now place.now.port.now) }
 {
@@ -28,7 +28,7 @@ fn is_missing(names: &Names, ports: &[Port], place: &Place) -> bool
 }
 
 /// Whether a place names a port that goes the other way.
-fn is_wrong(names: &Names, ports: &[Port], place: &Place) -> bool
+fn is_wrong(names: &Names, ports: &[Port], place: &PortPlace) -> bool
     requires { names.now ≡ map (λ (p : APort). p.name) ports.now }
     ensures { result ≡ goes_wrong ports.now (naming_of place.now) }
 {
@@ -39,7 +39,7 @@ fn is_wrong(names: &Names, ports: &[Port], place: &Place) -> bool
 }
 
 /// Whether a place has a literal that is no item of its port's type.
-fn is_outside(names: &Names, ports: &[Port], place: &Place) -> bool
+fn is_outside(names: &Names, ports: &[Port], place: &PortPlace) -> bool
     requires { names.now ≡ map (λ (p : APort). p.name) ports.now }
     ensures { result ≡ goes_outside ports.now (naming_of place.now) }
 {
@@ -57,7 +57,7 @@ pub(crate) fn judge_names(
     alloc: Global,
     names: &Names,
     ports: &[Port],
-    places: &[Place],
+    places: &[PortPlace],
 ) -> Result<(), ScriptFault>
     requires { names.now ≡ map (λ (p : APort). p.name) ports.now }
     ensures { IsJudgedBy (flat_map (no_port_at ports.now) (map naming_of places.now)) result }
@@ -78,7 +78,7 @@ pub(crate) fn judge_ways(
     alloc: Global,
     names: &Names,
     ports: &[Port],
-    places: &[Place],
+    places: &[PortPlace],
 ) -> Result<(), ScriptFault>
     requires { names.now ≡ map (λ (p : APort). p.name) ports.now }
     ensures { IsJudgedBy (flat_map (wrong_way_at ports.now) (map naming_of places.now)) result }
@@ -98,7 +98,7 @@ pub(crate) fn judge_ways(
 pub(crate) fn judge_items(
     names: &Names,
     ports: &[Port],
-    places: &[Place],
+    places: &[PortPlace],
 ) -> Result<(), ScriptFault>
     requires { names.now ≡ map (λ (p : APort). p.name) ports.now }
     ensures judged { let names = map naming_of places.now in

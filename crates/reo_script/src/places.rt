@@ -11,7 +11,7 @@ use std::alloc::Global;
 
 /// A place that names a port: of a write with its literal, of a take without.
 #[derive(Clone, Copy)]
-pub struct Place<'a> {
+pub struct PortPlace<'a> {
     pub line: u32,
     pub port: &'a Bytes,
     pub literal: Option<&'a Literal>,
@@ -19,7 +19,7 @@ pub struct Place<'a> {
 
 /// Adds the places of an action.
 #[cycle(note)]
-fn note<'a>(action: &'a ActionForm, places: &mut List<Place<'a>>) -> Result<(), NoMemory>
+fn note<'a>(action: &'a ActionForm, places: &mut List<PortPlace<'a>>) -> Result<(), NoMemory>
     ensures { OnOk result
         (map naming_of places.new ≡ map naming_of places.old ++ namings action.now) }
 {
@@ -29,12 +29,12 @@ fn note<'a>(action: &'a ActionForm, places: &mut List<Place<'a>>) -> Result<(), 
             port,
             literal,
             ..
-        } => places.push(Place {
+        } => places.push(PortPlace {
             line: *line,
             port,
             literal: Some(literal),
         }),
-        ActionForm::Take { line, port, .. } => places.push(Place {
+        ActionForm::Take { line, port, .. } => places.push(PortPlace {
             line: *line,
             port,
             literal: None,
@@ -46,7 +46,7 @@ fn note<'a>(action: &'a ActionForm, places: &mut List<Place<'a>>) -> Result<(), 
 
 /// Adds the places of actions.
 #[cycle(note)]
-fn note_all<'a>(actions: &'a [ActionForm], places: &mut List<Place<'a>>) -> Result<(), NoMemory>
+fn note_all<'a>(actions: &'a [ActionForm], places: &mut List<PortPlace<'a>>) -> Result<(), NoMemory>
     ensures { OnOk result
         (map naming_of places.new ≡ map naming_of places.old ++ flat_map namings actions.now) }
 {
@@ -60,7 +60,7 @@ fn note_all<'a>(actions: &'a [ActionForm], places: &mut List<Place<'a>>) -> Resu
 pub fn places_in<'a>(
     alloc: Global,
     component: &'a ComponentForm,
-) -> Result<List<Place<'a>>, NoMemory>
+) -> Result<List<PortPlace<'a>>, NoMemory>
     ensures { IfOk result (λ places. map naming_of places ≡ namings_in component.now) }
 {
     let mut places = List::new(alloc);
@@ -72,7 +72,7 @@ pub fn places_in<'a>(
 pub fn places_of<'a>(
     alloc: Global,
     components: &'a [ComponentForm],
-) -> Result<List<Place<'a>>, NoMemory>
+) -> Result<List<PortPlace<'a>>, NoMemory>
     ensures { IfOk result (λ places. map naming_of places ≡ flat_map namings_in components.now) }
 {
     let mut places = List::new(alloc);

@@ -5,14 +5,14 @@ ghost use Rattle.reo_rules.specs.Lists.{has_name};
 ghost use Rattle.reo_script.specs.scripts.ScriptRules.{Naming as ANaming, namings_in, shared, shared_in};
 ghost use Rattle.reo_script.specs.Places.{naming_of, IsJudgedBy};
 
-use crate::places::{Place, places_in};
+use crate::places::{PortPlace, places_in};
 use crate::scripts::{ComponentForm, ScriptFault};
 use reo_rules::Names;
 use reo_values::NoMemory;
 use std::alloc::Global;
 
 /// No place names a port of these.
-fn judge_others(alloc: Global, seen: &Names, places: &[Place]) -> Result<(), ScriptFault>
+fn judge_others(alloc: Global, seen: &Names, places: &[PortPlace]) -> Result<(), ScriptFault>
     ensures { IsJudgedBy (flat_map (shared_in seen.now) (map naming_of places.now)) result }
 {
     for place in places {
@@ -27,7 +27,7 @@ fn judge_others(alloc: Global, seen: &Names, places: &[Place]) -> Result<(), Scr
 }
 
 /// Adds the ports that places name.
-fn note(alloc: Global, seen: &mut Names, places: &[Place]) -> Result<(), NoMemory>
+fn note(alloc: Global, seen: &mut Names, places: &[PortPlace]) -> Result<(), NoMemory>
     ensures { OnOk result
         ((name : List _)
         → has_name seen.new name

@@ -26,7 +26,7 @@ use reo_rows::Basis;
 use reo_side_tables::{Board, boards_of};
 use reo_steps::Steps;
 use reo_values::{List, NoMemory};
-use reo_walk::{Part, Place, part_of, places_of};
+use reo_walk::{Part, KeyPlace, part_of, places_of};
 use std::alloc::Global;
 use std::sync::ledger::Ledger;
 
@@ -37,7 +37,7 @@ fn first_numbers<P: Primitive, L: Ledger>(
     basis: &Basis<'_, P>,
     sides: &[usize],
     state: &mut State,
-    places: &[Place],
+    places: &[KeyPlace],
     turn: u64,
     loops: &[usize],
     left: &List<List<usize>>,

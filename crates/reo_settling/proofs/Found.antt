@@ -4,7 +4,7 @@ use Rattle.std.specs.Prelude.{Result, Ok, Err, MatchResult}
 use Rattle.reo_net_base.specs.Net.{Net}
 use Rattle.reo_net_base.specs.Wired.{IsWired, IsOrder}
 use Rattle.reo_net_laws.specs.Knots.{Knotted, AreKnots, in_knot, knot_count}
-use Rattle.reo_mark_search.specs.Found.{AreRowsElsewhere, HasFirstRows}
+use Rattle.reo_mark_search.specs.MarkFinding.{AreRowsElsewhere, HasFirstRows}
 use Rattle.reo_item_bounds.specs.Bounds.{HasBounds}
 use Rattle.reo_item_bounds.proofs.Within.{within}
 use Rattle.reo_part_plans.specs.Plannings.{IsPartPlanned}

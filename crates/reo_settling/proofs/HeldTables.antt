@@ -10,8 +10,8 @@ use Rattle.reo_net_base.specs.Wired.{IsWired}
 use Rattle.reo_net_circuit.proofs.Cases.{eq_cases}
 use Rattle.reo_net_circuit.specs.found_ends.Ends.{AreEnds}
 use Rattle.reo_net_laws.specs.Knots.{Knotted, AreKnots, in_knot, knot_count}
-use Rattle.reo_kept_tables.specs.declared.tables.Tables.{Tables}
-use Rattle.reo_kept_tables.specs.Tables.{HasRoom, AreReady, AreRightOn}
+use Rattle.reo_kept_tables.specs.declared.tables.SearchTables.{SearchTables}
+use Rattle.reo_kept_tables.specs.SearchTables.{HasRoom, AreReady, AreRightOn}
 use Rattle.reo_kept_tables.specs.Laws.{IsSameOn}
 use Rattle.reo_kept_tables.specs.Orders.{AreOrders}
 use Rattle.reo_kept_tables.proofs.Readied.{ready_tables_are_right, right_parts_are_ready}
@@ -23,12 +23,12 @@ use Rattle.reo_part_plans.proofs.Plannings.{number_is}
 use Rattle.reo_net_base.specs.Shapes.{SameShapes}
 use Rattle.reo_net_base.specs.declared.joint.Joint.{Joint}
 use Rattle.reo_net_laws.proofs.Shapes.{count_same}
-use Rattle.reo_mark_search.specs.Found.{IsMarkSearch}
+use Rattle.reo_mark_search.specs.MarkFinding.{IsMarkSearch}
 use Rattle.reo_mark_search.specs.Spots.{spot_of}
 use Rattle.reo_mark_search.specs.declared.search.MarkSearch.{MarkSearch}
 use Rattle.reo_item_bounds.specs.Kept.{AreKeptBounds}
 use Rattle.reo_item_bounds.proofs.Noting.{kept_bounds_stay}
-use Rattle.reo_part_plans.specs.Remembered.{ArePlans}
+use Rattle.reo_part_plans.specs.Remembered.{AreAllRemembered}
 use Rattle.reo_part_plans.proofs.Recalled.{plans_stay}
 use Rattle.reo_settling.specs.declared.lookups.Lookups.{Lookups}
 use Rattle.reo_settling.specs.Held.{is_fresh, AreFreshTables, MayBeFresh, MayBeKept}
@@ -44,7 +44,7 @@ same_on net other knots kept is k settled = record {
 }
 
 tables_elsewhere : (net other : Net) → IsWired net → (knots : Knotted) → AreKnots net knots → (old new : Kept) → AreFewer old new → IsElsewhere net other knots new
-    → (fresh : List Bool) (tables : Option Tables) → MayBeKept net knots old fresh tables → MayBeKept other knots new fresh tables
+    → (fresh : List Bool) (tables : Option SearchTables) → MayBeKept net knots old fresh tables → MayBeKept other knots new fresh tables
 tables_elsewhere net other wired knots are old new fewer is fresh None kept = tt
 tables_elsewhere net other wired knots are old new fewer is fresh (Some tables) kept = record {
   room = room_stays net other is.joints is.shapes tables kept.room;
@@ -77,7 +77,7 @@ lookups_stay net other wired knots are old new fewer is alike lookups held = rec
   marks = marks_stay net other is.joints is.shapes lookups.marks held.marks;
 }
 
-kept_tables : (net : Net) (knots : Knotted) (kept : Kept) (fresh : List Bool) (tables : Option Tables) → MayBeFresh net knots fresh tables → MayBeKept net knots kept fresh tables
+kept_tables : (net : Net) (knots : Knotted) (kept : Kept) (fresh : List Bool) (tables : Option SearchTables) → MayBeFresh net knots fresh tables → MayBeKept net knots kept fresh tables
 kept_tables net knots kept fresh None may = tt
 kept_tables net knots kept fresh (Some tables) may = record { room = may.room; right = λ k lt marked settled. may.right k lt marked }
 
@@ -116,7 +116,7 @@ refused_by (Ok x) h = tt
 refused_by (Err e) h = h
 
 fresh_tables : (net : Net) (knots : Knotted) (kept : Kept) (old new : List Bool) → length new ≡ knot_count knots → ((k : ℕ) → k < length new → is_fresh new k ≡ true → (is_fresh old k ≡ true) × (is_settled kept k ≡ true))
-    → (tables : Option Tables) → MayBeKept net knots kept old tables → MayBeFresh net knots new tables
+    → (tables : Option SearchTables) → MayBeKept net knots kept old tables → MayBeFresh net knots new tables
 fresh_tables net knots kept old new one_each fewer None may = tt
 fresh_tables net knots kept old new one_each fewer (Some tables) may = record {
   room = may.room;
@@ -138,7 +138,7 @@ forgotten_is net knots kept old new are is = record {
   one_each = is.one_each ∙ are.one_each;
   tables = subst (MayBeFresh net knots new.fresh) (sym is.tables) (fresh_tables net knots kept old.fresh new.fresh (is.one_each ∙ are.one_each) is.fewer old.tables are.tables);
   bounds = subst (AreKeptBounds net) (sym is.bounds) are.bounds;
-  plans = subst (ArePlans net knots) (sym is.plans) are.plans;
+  plans = subst (AreAllRemembered net knots) (sym is.plans) are.plans;
   marks = subst (IsMarkSearch net) (sym is.marks) are.marks;
 }
 
@@ -158,23 +158,23 @@ forgotten_steady net knots kept old told new untold are is =
     forgotten_is net knots kept (record old { told = told }) new now is
 
 -- Tables that are ready are right wherever a part is marked.
-pub ready_may_stay : (net : Net) (knots : Knotted) (ends : List (List ℕ)) (fresh : List Bool) (tables : Tables) → AreReady net ends tables → AreFreshTables net knots fresh tables
+pub ready_may_stay : (net : Net) (knots : Knotted) (ends : List (List ℕ)) (fresh : List Bool) (tables : SearchTables) → AreReady net ends tables → AreFreshTables net knots fresh tables
 ready_may_stay net knots ends fresh tables ready =
     let right = ready_tables_are_right net ends tables ready in
     record { room = right.0; right = λ k lt marked. right.1 (in_knot knots.numbers k) }
 
 -- There is room, and the tables are right on the first n parts and on those that are fresh.
-pub record AreRenewed (net : Net) (knots : Knotted) (fresh : List Bool) (n : ℕ) (tables : Tables) : Type 0 where
+pub record AreRenewed (net : Net) (knots : Knotted) (fresh : List Bool) (n : ℕ) (tables : SearchTables) : Type 0 where
   pub room : HasRoom net tables
   pub done : (k : ℕ) → k < n → AreRightOn net (in_knot knots.numbers k) tables
   pub rest : (k : ℕ) → k < knot_count knots → is_fresh fresh k ≡ true → AreRightOn net (in_knot knots.numbers k) tables
 
 -- None is made anew yet.
-pub renewed_none : (net : Net) (knots : Knotted) (fresh : List Bool) (tables : Tables) → AreFreshTables net knots fresh tables → AreRenewed net knots fresh 0 tables
+pub renewed_none : (net : Net) (knots : Knotted) (fresh : List Bool) (tables : SearchTables) → AreFreshTables net knots fresh tables → AreRenewed net knots fresh 0 tables
 renewed_none net knots fresh tables are = record { room = are.room; done = λ k lt. absurd (omega arith); rest = are.right }
 
 -- One part more is right.
-pub renewed_more : (net : Net) (knots : Knotted) (fresh : List Bool) (n : ℕ) (old new : Tables) → n < knot_count knots → AreRenewed net knots fresh n old → HasRoom net new → AreRightOn net (in_knot knots.numbers n) new
+pub renewed_more : (net : Net) (knots : Knotted) (fresh : List Bool) (n : ℕ) (old new : SearchTables) → n < knot_count knots → AreRenewed net knots fresh n old → HasRoom net new → AreRightOn net (in_knot knots.numbers n) new
     → ((k : ℕ) → k < knot_count knots → k ≢ n → AreRightOn net (in_knot knots.numbers k) old → AreRightOn net (in_knot knots.numbers k) new)
     → AreRenewed net knots fresh (n + 1) new
 renewed_more net knots fresh n old new n_in far room right others = record {
@@ -187,7 +187,7 @@ renewed_more net knots fresh n old new n_in far room right others = record {
     by k other = elim (eq_cases k n) [ inl e ↦ subst (λ (m : ℕ). AreRightOn net (in_knot knots.numbers m) new) (sym e) right | inr ne ↦ other ne ]
 
 -- What is right up to a part is right up to the next that is not fresh.
-pub renewed_next : (net : Net) (knots : Knotted) (fresh : List Bool) (n next : ℕ) (tables : Tables) → next ≤ knot_count knots → IsNext false fresh n next → AreRenewed net knots fresh n tables → AreRenewed net knots fresh next tables
+pub renewed_next : (net : Net) (knots : Knotted) (fresh : List Bool) (n next : ℕ) (tables : SearchTables) → next ≤ knot_count knots → IsNext false fresh n next → AreRenewed net knots fresh n tables → AreRenewed net knots fresh next tables
 renewed_next net knots fresh n next tables in_range is far = record {
   room = far.room;
   done = λ k lt. elim (cases_lt k n) [
@@ -198,6 +198,6 @@ renewed_next net knots fresh n next tables in_range is far = record {
 }
 
 -- All parts are right, so the tables are ready.
-pub renewed_all : (net : Net) → IsWired net → (ends : List (List ℕ)) → AreEnds net ends → (knots : Knotted) → AreKnots net knots → (fresh : List Bool) (tables : Tables) → AreRenewed net knots fresh (knot_count knots) tables
+pub renewed_all : (net : Net) → IsWired net → (ends : List (List ℕ)) → AreEnds net ends → (knots : Knotted) → AreKnots net knots → (fresh : List Bool) (tables : SearchTables) → AreRenewed net knots fresh (knot_count knots) tables
     → AreReady net ends tables
 renewed_all net wired ends are_ends knots are fresh tables far = right_parts_are_ready net wired ends are_ends knots are tables far.room far.done

@@ -7,9 +7,9 @@ use Rattle.reo_net_laws.specs.Knots.{Knotted, AreKnots, knot_count}
 use Rattle.reo_kept_tables.specs.Orders.{AreOrders}
 use Rattle.reo_flows.specs.flowing.Flowing.{AreFlowingIn}
 use Rattle.reo_part_plans.specs.Plannings.{Kept, AreFewer, IsElsewhere, is_settled, serves}
-use Rattle.reo_mark_search.specs.Found.{IsMarkSearch}
+use Rattle.reo_mark_search.specs.MarkFinding.{IsMarkSearch}
 use Rattle.reo_item_bounds.specs.Kept.{AreKeptBounds}
-use Rattle.reo_part_plans.specs.Remembered.{ArePlans}
+use Rattle.reo_part_plans.specs.Remembered.{AreAllRemembered}
 use Rattle.reo_settling.specs.declared.lookups.Lookups.{Lookups}
 use Rattle.reo_settling.specs.Held.{is_fresh, MayBeFresh, MayBeKept}
 
@@ -27,7 +27,7 @@ pub record AreLookups (net : Net) (knots : Knotted) (kept : Kept) (lookups : Loo
   pub one_each : length lookups.fresh ≡ knot_count knots
   pub tables : MayBeKept net knots kept lookups.fresh lookups.tables
   pub bounds : AreKeptBounds net lookups.bounds
-  pub plans : ArePlans net knots lookups.plans
+  pub plans : AreAllRemembered net knots lookups.plans
   pub marks : IsMarkSearch net lookups.marks
 
 -- The same but for the joints that flow, with tables that are right wherever a part is marked.
@@ -37,7 +37,7 @@ pub record AreSteady (net : Net) (knots : Knotted) (lookups : Lookups) : Type 0 
   pub one_each : length lookups.fresh ≡ knot_count knots
   pub tables : MayBeFresh net knots lookups.fresh lookups.tables
   pub bounds : AreKeptBounds net lookups.bounds
-  pub plans : ArePlans net knots lookups.plans
+  pub plans : AreAllRemembered net knots lookups.plans
   pub marks : IsMarkSearch net lookups.marks
 
 -- What is looked up stays right where a circuit changes at no primitive of a part that is still settled, and nothing

@@ -8,12 +8,12 @@ ghost use Rattle.reo_settling.specs.Lookups.{AreLookups};
 
 use reo_flags::Flags;
 use reo_item_bounds::Bounds;
-use reo_kept_tables::{Tables, orders_of};
+use reo_kept_tables::{SearchTables, orders_of};
 use reo_knots::Knots;
 use reo_mark_search::MarkSearch;
 use reo_net_base::Primitive;
 use reo_net_circuit::{Circuit, Ends};
-use reo_part_plans::Plans;
+use reo_part_plans::Remembered;
 use reo_values::{List, NoMemory};
 use std::alloc::Global;
 
@@ -27,9 +27,9 @@ pub struct Lookups {
     pub(crate) flowing: List<List<usize>>,
     pub(crate) told: bool,
     pub(crate) fresh: Flags,
-    pub(crate) tables: Option<Tables>,
+    pub(crate) tables: Option<SearchTables>,
     pub(crate) bounds: Bounds,
-    pub(crate) plans: Plans,
+    pub(crate) plans: Remembered,
     pub(crate) marks: MarkSearch,
 }
 
@@ -61,7 +61,7 @@ impl Lookups {
         let flowing = none_flowing(alloc, knots.count())?;
         let fresh = Flags::new(alloc, knots.count(), false)?;
         let bounds = Bounds::new(alloc, circuit)?;
-        let plans = Plans::new(alloc, knots.count())?;
+        let plans = Remembered::new(alloc, knots.count())?;
         let marks = MarkSearch::new(alloc, circuit, ends)?;
         Ok(Lookups {
             orders,

@@ -5,7 +5,7 @@ ghost use Rattle.reo_net_base.specs.Sides.{side_count};
 ghost use Rattle.reo_net_circuit.specs.found_ends.Ends.{AreEnds};
 ghost use Rattle.reo_net_laws.specs.Knots.{AreKnots, in_knot, knot_count};
 ghost use Rattle.reo_weights.specs.Weights.{IsWeight};
-ghost use Rattle.reo_mark_search.specs.Found.{AreRowsElsewhere, HasFirstRows};
+ghost use Rattle.reo_mark_search.specs.MarkFinding.{AreRowsElsewhere, HasFirstRows};
 ghost use Rattle.reo_item_bounds.specs.Bounds.{HasBounds};
 ghost use Rattle.reo_part_plans.specs.Plannings.{IsPartFault, IsKept, is_settled, serves, IsPartPlanned};
 ghost use Rattle.reo_weights.specs.still.Joining.{HasFirst};
@@ -16,7 +16,7 @@ use crate::lookups::Lookups;
 use crate::renewing::renewed;
 use reo_flows::put_flowing;
 use reo_knots::Knots;
-use reo_mark_search::Found;
+use reo_mark_search::MarkFinding;
 use reo_net_base::Primitive;
 use reo_net_circuit::{Circuit, Ends};
 use reo_part_plans::{Kept, search_part};
@@ -89,9 +89,9 @@ impl Lookups {
         ensures elsewhere { AreRowsElsewhere (in_knot knots.now.numbers part) rows.old rows.new }
     {
         match self.marks.search(circuit, knots, part, turn, rows) {
-            Found::Rows => true,
-            Found::Jam => true,
-            Found::Unknown => false,
+            MarkFinding::Rows => true,
+            MarkFinding::Jam => true,
+            MarkFinding::Unknown => false,
         }
     }
 

@@ -4,11 +4,11 @@ ghost use Rattle.reo_net_base.specs.Net.{net_of};
 ghost use Rattle.reo_net_circuit.specs.found_ends.Ends.{AreEnds};
 ghost use Rattle.reo_net_laws.specs.Knots.{AreKnots, knot_count};
 ghost use Rattle.reo_kept_tables.specs.Orders.{AreOrders};
-ghost use Rattle.reo_kept_tables.specs.Tables.{AreReady};
+ghost use Rattle.reo_kept_tables.specs.SearchTables.{AreReady};
 ghost use Rattle.reo_settling.specs.Held.{AreFreshTables, MayBeFresh};
 
 use reo_flags::Flags;
-use reo_kept_tables::{Tables, refresh_part};
+use reo_kept_tables::{SearchTables, refresh_part};
 use reo_knots::Knots;
 use reo_net_base::Primitive;
 use reo_net_circuit::{Circuit, Ends};
@@ -24,7 +24,7 @@ fn renew<P: Primitive>(
     ends: &Ends,
     orders: &List<List<usize>>,
     fresh: &Flags,
-    tables: &mut Tables,
+    tables: &mut SearchTables,
 ) -> Result<(), NoMemory>
     requires knots { AreKnots (net_of P.behaviour circuit.now) knots.now }
     requires ends { AreEnds (net_of P.behaviour circuit.now) ends.now }
@@ -52,8 +52,8 @@ pub(crate) fn renewed<P: Primitive>(
     ends: &Ends,
     orders: &List<List<usize>>,
     fresh: &Flags,
-    tables: Option<Tables>,
-) -> Result<Tables, NoMemory>
+    tables: Option<SearchTables>,
+) -> Result<SearchTables, NoMemory>
     requires knots { AreKnots (net_of P.behaviour circuit.now) knots.now }
     requires ends { AreEnds (net_of P.behaviour circuit.now) ends.now }
     requires orders { AreOrders (net_of P.behaviour circuit.now) knots.now orders.now }

@@ -3,10 +3,10 @@ ghost use Rattle.std.specs.Prelude.{◌≡◌, ◌<◌, ℕ, IfOk, length, slice
 ghost use Rattle.reo_net_base.specs.Net.{net_of};
 ghost use Rattle.reo_net_base.specs.Sides.{side_count};
 ghost use Rattle.reo_net_laws.specs.Knots.{AreKnots, knot_count};
-ghost use Rattle.reo_mark_search.specs.Found.{IsMarkSearch};
+ghost use Rattle.reo_mark_search.specs.MarkFinding.{IsMarkSearch};
 
 use reo_knots::Knots;
-use reo_mark_search::{Found, MarkSearch};
+use reo_mark_search::{MarkFinding, MarkSearch};
 use reo_net_base::Primitive;
 use reo_net_circuit::{Circuit, ends_of};
 use reo_values::{List, NoMemory};
@@ -42,7 +42,7 @@ fn search<P: Primitive>(
     times: u32,
     marks: &mut MarkSearch,
     rows: &mut List<u32>,
-) -> Found
+) -> MarkFinding
     requires knots { AreKnots (net_of P.behaviour circuit.now) knots.now }
     requires knot { knot < knot_count knots.now }
     requires marks { IsMarkSearch (net_of P.behaviour circuit.now) marks.old }
@@ -67,14 +67,14 @@ fn marks_of<P: Primitive>(alloc: Global, circuit: &Circuit<P>) -> Result<MarkSea
 /// The rows of the sides of a part, where marks tell them. `NoMemory` is out of memory.
 fn told_rows(
     alloc: Global,
-    found: Found,
+    found: MarkFinding,
     rows: &[u32],
     sides: &[usize],
 ) -> Result<Option<List<u32>>, NoMemory>
     requires { (m : ℕ) → m < length sides.now → slice_index sides.now m < length rows.now }
 {
     match found {
-        Found::Unknown => Ok(None),
+        MarkFinding::Unknown => Ok(None),
         _ => Ok(Some(rows_at(alloc, rows, sides)?)),
     }
 }

@@ -7,7 +7,7 @@ use crate::literal::{append_literal, append_literals};
 use crate::spread::append_names;
 use crate::term::append_term;
 use crate::type_term::append_type;
-use reo_trees::{Channel, Form, Item, Literal};
+use reo_trees::{Channel, ItemForm, Item, Literal};
 use reo_values::{Bytes, NoMemory, append_number};
 use std::alloc::Global;
 
@@ -78,14 +78,14 @@ pub fn append_item(alloc: Global, out: &mut Bytes, item: &Item) -> Result<(), No
     ensures { OnOk result (out.new ≡ out.old ++ item_text item.now) }
 {
     match &item.form {
-        Form::Node { name, term } => {
+        ItemForm::Node { name, term } => {
             out.append(b"node ")?;
             out.append(name.as_slice())?;
             out.append(b": ")?;
             append_type(alloc, out, term)?;
             out.append(b";")
         }
-        Form::Joined {
+        ItemForm::Joined {
             channel,
             first,
             second,
@@ -97,7 +97,7 @@ pub fn append_item(alloc: Global, out: &mut Bytes, item: &Item) -> Result<(), No
             append_tail(alloc, out, channel)?;
             out.append(b";")
         }
-        Form::Used { name, arguments } => {
+        ItemForm::Used { name, arguments } => {
             out.append(b"use ")?;
             out.append(name.as_slice())?;
             out.append(b"(")?;

@@ -1,7 +1,7 @@
 //! The lines of trees.
 use crate::checks::is;
 use reo_parser::{ParseFault, parse};
-use reo_trees::{Binary, Channel, Connector, Declaration, Form, Item, Program, Term, TermForm};
+use reo_trees::{Binary, Channel, Connector, Declaration, ItemForm, Item, Program, Term, TermForm};
 use std::alloc::Global;
 
 /// The program of a short text.
@@ -28,7 +28,7 @@ fn first_item(program: &Program) -> Option<&Item> {
 /// The expression of the first item, where that is a map.
 fn term_of(program: &Program) -> Option<&Term> {
     match &first_item(program)?.form {
-        Form::Joined {
+        ItemForm::Joined {
             channel: Channel::Map(term),
             ..
         } => Some(term),
@@ -116,7 +116,7 @@ fn parameter_lines(connector: &Connector, place: usize) -> Option<(u32, u32)> {
 /// The line of the item that a buffer holds at first.
 fn held_line(item: &Item) -> Option<u32> {
     match &item.form {
-        Form::Joined {
+        ItemForm::Joined {
             channel: Channel::Fifo1(held),
             ..
         } => Some(held.as_ref()?.line),

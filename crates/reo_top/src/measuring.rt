@@ -12,7 +12,7 @@ ghost use Rattle.reo_command.specs.Statuses.{IsAmong, statuses_of};
 ghost use Rattle.reo_command.specs.top_base.Cases.{Cases, IsExact, IsFair, TellsFaults};
 ghost use Rattle.reo_top.specs.Measures.{measure_text, measure_line, measure_status, MeasuresRun, MeasuresMade, ending_for};
 
-use reo_command::{DONE, PART_OVER, Status, Work, answer, make_run, no_memory, usual_limits};
+use reo_command::{DONE, PART_OVER, Status, CircuitAndScript, answer, make_run, no_memory, usual_limits};
 use reo_io::{NullSink, Sink};
 use reo_kinds::Kind;
 use reo_proof_texts::append_numbered;
@@ -115,7 +115,7 @@ fn ending_for(budget: u64, outcome: Outcome) -> Option<Ending>
 }
 
 /// What the run of a script on a circuit has come to; its trace is not kept.
-fn outcome_of(alloc: Global, work: Work, limits: Limits) -> Outcome
+fn outcome_of(alloc: Global, work: CircuitAndScript, limits: Limits) -> Outcome
     requires some_budget { 1 ≤ limits.budget }
     requires small_budget { limits.budget ≤ 10 ^ 9 }
     requires some_round { 1 ≤ limits.rounds }
@@ -127,12 +127,12 @@ fn outcome_of(alloc: Global, work: Work, limits: Limits) -> Outcome
         None None result }
     ensures few { result.rounds ≤ limits.rounds }
 {
-    let Work { flat, script } = work;
+    let CircuitAndScript { flat, script } = work;
     run(alloc, flat, script, limits, &mut NullSink::new())
 }
 
 /// Runs a script on a circuit, and writes what came of it in one line.
-fn write_measure<S: Sink>(alloc: Global, size: u32, work: Work, out: &mut S) -> Status
+fn write_measure<S: Sink>(alloc: Global, size: u32, work: CircuitAndScript, out: &mut S) -> Status
     requires fit { CanRun (map port_state_of work.flat.circuit.primitives)
         work.flat.circuit.ports work.flat.ports.list work.script.components }
     ensures cases { Cases (MeasuresRun size usual_limits (runnable_in work.flat work.script))

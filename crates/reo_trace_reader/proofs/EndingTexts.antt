@@ -11,7 +11,7 @@ use Rattle.reo_values.proofs.decimals.Fronts.{heads_apart}
 use Rattle.reo_trace_reader.specs.texts.Lines.{IsEnding}
 use Rattle.reo_trace_reader.specs.declared.texts.fault.LineFault.{LineFault}
 use Rattle.reo_trace_reader.specs.Reads.{Stood}
-use Rattle.reo_trace_reader.specs.declared.lines.Part.{Part}
+use Rattle.reo_trace_reader.specs.declared.lines.PartNumbers.{PartNumbers}
 use Rattle.reo_trace_reader.specs.declared.lines.Load.{Load}
 use Rattle.reo_trace_reader.specs.Ends.{EndsLine}
 use Rattle.reo_trace_reader.specs.Fronts.{IsPart, IsLoad, IsSpent, part_text, load_text, spent_text, ending_front}
@@ -26,13 +26,13 @@ load_no_digit load rest = space_no_digit
 
 -- the parts of the ending of a part that is too heavy
 pub spent_parts : (old : List ℕ) (e : Ending) (rest : List ℕ) → IsSpent e → old ≡ spent_text e ++ rest
-    → (p : Part) × (l : Load) × (e ≡ Spent p.round p.knot l.weight l.budget) × IsPart p × IsLoad l × (old ≡ part_text p ++ (load_text l ++ rest))
+    → (p : PartNumbers) × (l : Load) × (e ≡ Spent p.round p.knot l.weight l.budget) × IsPart p × IsLoad l × (old ≡ part_text p ++ (load_text l ++ rest))
 spent_parts old (Done n) rest h e = absurd h
 spent_parts old (Stuck n) rest h e = absurd h
 spent_parts old (Limit n) rest h e = absurd h
 spent_parts old (Wide r k) rest h e = absurd h
 spent_parts old (Spent r k w b) rest h e =
-    let p : Part = record { round = r; knot = k } in
+    let p : PartNumbers = record { round = r; knot = k } in
     let l : Load = record { weight = w; budget = b } in
     (p, l, refl, (h.0, h.1), (h.2, h.3), e ∙ append_assoc (part_text p) (load_text l) rest)
 
@@ -75,12 +75,12 @@ module _ (old left : List ℕ) (x : Ending) (rest : List ℕ) where
       by (Wide r k) h f = absurd (heads_apart 108 119 _ _ refl f)
 
   pub wide_reads : old ≡ codes "wide in round " ++ left → IsEnding x → old ≡ ending_front x ++ rest
-      → (p : Part) × (x ≡ Wide p.round p.knot) × IsPart p × (left ≡ part_text p ++ rest)
+      → (p : PartNumbers) × (x ≡ Wide p.round p.knot) × IsPart p × (left ≡ part_text p ++ rest)
   unfolding ending_front
   wide_reads taken h e = by x h (sym taken ∙ e)
     where
-      by : (y : Ending) → IsEnding y → codes "wide in round " ++ left ≡ ending_front y ++ rest → (p : Part) × (y ≡ Wide p.round p.knot) × IsPart p × (left ≡ part_text p ++ rest)
-      by (Wide r k) h f = let p : Part = record { round = r; knot = k } in (p, refl, h, append_cancel_left (codes "wide in round ") left (part_text p ++ rest) f)
+      by : (y : Ending) → IsEnding y → codes "wide in round " ++ left ≡ ending_front y ++ rest → (p : PartNumbers) × (y ≡ Wide p.round p.knot) × IsPart p × (left ≡ part_text p ++ rest)
+      by (Wide r k) h f = let p : PartNumbers = record { round = r; knot = k } in (p, refl, h, append_cancel_left (codes "wide in round ") left (part_text p ++ rest) f)
       by (Done n) h f = absurd (heads_apart 119 100 _ _ refl f)
       by (Stuck n) h f = absurd (heads_apart 119 115 _ _ refl f)
       by (Limit n) h f = absurd (heads_apart 119 108 _ _ refl f)
@@ -121,7 +121,7 @@ module _ (old left new : List ℕ) where
   unfolding ending_front
   limit_stood n e f = e ∙ ap (λ l. codes "limit after " ++ l) f
 
-  pub wide_stood : (p : Part) → old ≡ codes "wide in round " ++ left → left ≡ part_text p ++ new → old ≡ ending_front (Wide p.round p.knot) ++ new
+  pub wide_stood : (p : PartNumbers) → old ≡ codes "wide in round " ++ left → left ≡ part_text p ++ new → old ≡ ending_front (Wide p.round p.knot) ++ new
   unfolding ending_front
   wide_stood p e f = e ∙ ap (λ l. codes "wide in round " ++ l) f
 

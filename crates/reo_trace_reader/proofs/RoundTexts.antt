@@ -7,10 +7,10 @@ use Rattle.reo_trace.specs.Spaced.{spaced}
 use Rattle.reo_values.specs.decimals.Digits.{IsSmall}
 use Rattle.reo_trace_reader.specs.texts.Lines.{IsEntry}
 use Rattle.std.specs.List.{All}
-use Rattle.reo_trace_reader.specs.declared.moves.Flows.{Flows}
+use Rattle.reo_trace_reader.specs.declared.moves.PortFlows.{PortFlows}
 use Rattle.reo_trace_reader.specs.Fronts.{AreFlows, IsAnyLine, flows_text, heading_text, round_front}
 
-abbrev pub flows_of : RoundLine → Flows
+abbrev pub flows_of : RoundLine → PortFlows
 flows_of line = record { idle = line.idle; moves = line.moves }
 
 -- the parts of a round line

@@ -16,8 +16,8 @@ use Rattle.reo_trace.specs.EndingText.{ending_text}
 use Rattle.reo_trace.specs.Spaced.{spaced}
 use Rattle.reo_values.specs.decimals.Digits.{IsSmall}
 use Rattle.reo_trace_reader.specs.texts.Lines.{IsMove, AreRising, IsLine, IsEnding}
-use Rattle.reo_trace_reader.specs.declared.moves.Flows.{Flows}
-use Rattle.reo_trace_reader.specs.declared.lines.Part.{Part}
+use Rattle.reo_trace_reader.specs.declared.moves.PortFlows.{PortFlows}
+use Rattle.reo_trace_reader.specs.declared.lines.PartNumbers.{PartNumbers}
 use Rattle.reo_trace_reader.specs.declared.lines.Load.{Load}
 
 -- A port's name and the sign of its way.
@@ -51,13 +51,13 @@ pub record AreMoves (ports : List Port) (ms : List Move) : Type 0 where
   pub rising : AreRising ms
 
 -- The moves of any round.
-pub record AreFlows (ports : List Port) (flows : Flows) : Type 0 where
+pub record AreFlows (ports : List Port) (flows : PortFlows) : Type 0 where
   pub moves : All (IsMove ports) flows.moves
   pub rising : AreRising flows.moves
   pub still : flows.idle ≡ true → flows.moves ≡ []
 
 -- Their text up to the entries.
-abbrev pub flows_text : List Port → Flows → List ℕ
+abbrev pub flows_text : List Port → PortFlows → List ℕ
 flows_text ports flows = moves_text ports flows.idle flows.moves ++ codes " | "
 
 -- Moves up to the entries.
@@ -71,14 +71,14 @@ heading_text round = codes "round " ++ (decimal round ++ codes ": ")
 -- A round line without its line feed.
 unfoldable pub round_front : List Port → RoundLine → List ℕ
 round_front ports line =
-    let flows : Flows = record { idle = line.idle; moves = line.moves } in
+    let flows : PortFlows = record { idle = line.idle; moves = line.moves } in
     heading_text line.round ++ (flows_text ports flows ++ spaced entry_text line.entries)
 
 -- The numbers of a round and of a part.
-abbrev pub IsPart : Part → Type 0
+abbrev pub IsPart : PartNumbers → Type 0
 IsPart part = IsSmall part.round × IsSmall part.knot
 
-abbrev pub part_text : Part → List ℕ
+abbrev pub part_text : PartNumbers → List ℕ
 part_text part = (decimal part.round ++ codes ": knot ") ++ decimal part.knot
 
 -- A weight and a budget.
@@ -95,7 +95,7 @@ IsSpent _ = ⊥
 
 abbrev pub spent_text : Ending → List ℕ
 spent_text (Spent round knot weight budget) =
-    let part : Part = record { round = round; knot = knot } in
+    let part : PartNumbers = record { round = round; knot = knot } in
     let load : Load = record { weight = weight; budget = budget } in
     part_text part ++ load_text load
 spent_text _ = []
@@ -106,7 +106,7 @@ ending_front (Done rounds) = codes "done after " ++ (decimal rounds ++ codes " r
 ending_front (Stuck rounds) = codes "stuck after " ++ (decimal rounds ++ codes " rounds")
 ending_front (Limit rounds) = codes "limit after " ++ (decimal rounds ++ codes " rounds")
 ending_front (Spent round knot weight budget) = codes "spent in round " ++ spent_text (Spent round knot weight budget)
-ending_front (Wide round knot) = let part : Part = record { round = round; knot = knot } in codes "wide in round " ++ part_text part
+ending_front (Wide round knot) = let part : PartNumbers = record { round = round; knot = knot } in codes "wide in round " ++ part_text part
 
 -- The line of a round, of any number.
 abbrev pub IsAnyLine : List Port → RoundLine → Type 0

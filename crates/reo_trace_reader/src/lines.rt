@@ -83,20 +83,20 @@ pub(crate) fn round(
 
 /// The numbers of a round and of a part.
 #[derive(Clone, Copy)]
-pub(crate) struct Part {
+pub(crate) struct PartNumbers {
     pub round: u64,
     pub knot: u64,
 }
 
 /// The numbers of a round and of a part, with the words between.
-fn read_part(reader: &mut Reader) -> Result<Part, LineFault>
+fn read_part(reader: &mut Reader) -> Result<PartNumbers, LineFault>
     ensures stood { Stood IsPart part_text result reader.old reader.new }
     ensures again { ReadsAgain IsPart part_text NoDigit result reader.old reader.new }
     ensures fault { IfErr result (λ fault. fault ≡ LineFault.Form) }
 {
     let round = number_before(reader, b": knot ")?;
     let knot = number(reader)?;
-    Ok(Part { round, knot })
+    Ok(PartNumbers { round, knot })
 }
 
 /// The weight of a part, and the budget.

@@ -16,7 +16,7 @@ use std::alloc::Global;
 
 /// What flowed at the ports in a round.
 #[derive(Drop)]
-pub(crate) struct Flows {
+pub(crate) struct PortFlows {
     pub idle: bool,
     pub moves: List<Move>,
 }
@@ -108,7 +108,7 @@ pub(crate) fn read_flows(
     alloc: Global,
     reader: &mut Reader,
     ports: &Ports,
-) -> Result<Flows, LineFault>
+) -> Result<PortFlows, LineFault>
     requires { AreTold ports.now.list }
     ensures stood { Stood (AreFlows ports.now.list) (flows_text ports.now.list)
         result reader.old reader.new }
@@ -116,17 +116,17 @@ pub(crate) fn read_flows(
         result reader.old reader.new }
 {
     if reader.word(b"idle | ") {
-        return Ok(Flows {
+        return Ok(PortFlows {
             idle: true,
             moves: List::new(alloc),
         });
     }
     if reader.word(b"- | ") {
-        return Ok(Flows {
+        return Ok(PortFlows {
             idle: false,
             moves: List::new(alloc),
         });
     }
     let moves = moves(alloc, reader, ports)?;
-    Ok(Flows { idle: false, moves })
+    Ok(PortFlows { idle: false, moves })
 }

@@ -7,8 +7,8 @@ use Rattle.std.proofs.lemmas.Option.{slice_get-map, slice_get-get_or}
 use Rattle.reo_values.specs.declared.kindred.Kindred.TheVariants as kinds
 use Rattle.reo_values.proofs.Sequences.{left_none}
 use Rattle.reo_trees.specs.declared.items.Item.{Item}
-use Rattle.reo_trees.specs.declared.items.Form.{Form}
-use Rattle.reo_trees.specs.declared.items.Form.TheVariants as forms
+use Rattle.reo_trees.specs.declared.items.ItemForm.{ItemForm}
+use Rattle.reo_trees.specs.declared.items.ItemForm.TheVariants as forms
 use Rattle.reo_trees.specs.declared.programs.Parameter.{Parameter}
 use Rattle.reo_trees.specs.declared.programs.Connector.{Connector}
 use Rattle.reo_rules.specs.Lists.{each_after, has_name}
@@ -26,7 +26,7 @@ use Rattle.reo_unfold.proofs.Positions.{found_at, found_nowhere, found_within}
 pub new_parameter : (before : List Parameter) (p : Parameter) → twice_in_parameter before p ≡ [] → has_name (parameter_names before) p.name ≡ false
 new_parameter before p none = where_false _ _ (left_none (twice_among (parameter_names before) p.line p.name) _ none)
 
-pub new_node : (ps : List Parameter) (before : List Item) (line : ℕ) (f : Form) → twice_in_item ps before line f ≡ [] → IsNew (parameter_names ps ++ node_names before) f
+pub new_node : (ps : List Parameter) (before : List Item) (line : ℕ) (f : ItemForm) → twice_in_item ps before line f ≡ [] → IsNew (parameter_names ps ++ node_names before) f
 new_node ps before line (forms.Node name term) none = where_false _ _ (left_none (twice_among (parameter_names ps ++ node_names before) line name) _ none)
 new_node ps before line (forms.Joined channel first second) none = tt
 new_node ps before line (forms.Used name arguments) none = tt
@@ -52,12 +52,12 @@ behind ts b is i m node =
     let within = node.within in
     (suc node.place, node.at ∙ ap Some same, omega arith, node.type)
 
-abbrev Claim : (ts : List Typed) (b : List Item) (i : Item) (is : List Item) (f : Form) (m : ℕ) → Type 0
+abbrev Claim : (ts : List Typed) (b : List Item) (i : Item) (is : List Item) (f : ItemForm) (m : ℕ) → Type 0
 Claim ts b i is f m =
     (q : ℕ) × (slice_get (node_place (length b) f ++ each_after (λ before (i : Item). node_place (length before) i.form) (b ++ i ∷ []) is) m ≡ Some (length b + q)) × (q < length (i ∷ is))
     × ((d : Item) → option_map (λ (e : Typed). e.kindred) (slice_get (node_types_in ts f ++ flat_map (λ (i : Item). node_types_in ts i.form) is) m) ≡ Some (shape_type ts (shape_in (get_or (i ∷ is) q d).form)))
 
-claimed : (ts : List Typed) (b : List Item) (i : Item) (is : List Item) (f : Form) → i.form ≡ f → (m : ℕ) → m < length (node_types_in ts f ++ flat_map (λ (i : Item). node_types_in ts i.form) is) → ((n : ℕ) → n < length (flat_map (λ (i : Item). node_types_in ts i.form) is) → NodeAt ts (b ++ i ∷ []) is n) → Claim ts b i is f m
+claimed : (ts : List Typed) (b : List Item) (i : Item) (is : List Item) (f : ItemForm) → i.form ≡ f → (m : ℕ) → m < length (node_types_in ts f ++ flat_map (λ (i : Item). node_types_in ts i.form) is) → ((n : ℕ) → n < length (flat_map (λ (i : Item). node_types_in ts i.form) is) → NodeAt ts (b ++ i ∷ []) is n) → Claim ts b i is f m
 claimed ts b i is (forms.Node name term) at zero within more =
     let same : length b ≡ length b + 0 = omega arith in
     (0, ap Some same, omega arith, λ d. ap (λ g. Some (shape_type ts (shape_in g))) (sym at))

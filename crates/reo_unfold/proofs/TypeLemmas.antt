@@ -15,11 +15,11 @@ use Rattle.reo_values.specs.declared.kindred.Kindred.TheBlock.{hidden-the_row-Tw
 use Rattle.reo_trees.specs.declared.types.Shape.{Shape}
 use Rattle.reo_unfold.specs.Fits.{IsFew}
 use Rattle.reo_rules.proofs.Mapped.{position-map}
-use Rattle.reo_unfold.specs.declared.types.Types.{Types}
+use Rattle.reo_unfold.specs.declared.types.NamedTypes.{NamedTypes}
 use Rattle.reo_unfold.specs.Known.{AreTypes}
 use Rattle.reo_unfold.proofs.Positions.{found_before, found_late, found_none}
 
-module _ (ts : List Typed) (types : Types) (are : AreTypes ts types) (name : List ℕ) where
+module _ (ts : List Typed) (types : NamedTypes) (are : AreTypes ts types) (name : List ℕ) where
   number : position (bytes_eq name) types.names ≡ position (λ (e : Typed). bytes_eq name e.name) ts
   number = ap (position (bytes_eq name)) are.names ∙ position-map (λ (e : Typed). e.name) (bytes_eq name) ts
 

@@ -8,7 +8,7 @@ use Rattle.reo_rules.specs.Types.{Typed}
 use Rattle.std.proofs.lemmas.List.Sums.{sum_by-append, sum_by-cons}
 use Rattle.std.proofs.lemmas.Option.{unwrap_or-slice_get}
 use Rattle.reo_trees.specs.declared.items.Item.{Item}
-use Rattle.reo_trees.specs.declared.items.Form.TheVariants as forms
+use Rattle.reo_trees.specs.declared.items.ItemForm.TheVariants as forms
 use Rattle.reo_rules.specs.Lists.{each_after}
 use Rattle.reo_rules.proofs.Mapped.{position-map}
 use Rattle.reo_flat.specs.Unfolding.{Placed, Meaning, no_meaning, meaning_named, meanings_of, use_path, is_use}

@@ -4,8 +4,8 @@ use Rattle.std.specs.List.{All}
 use Rattle.reo_trees.specs.declared.types.Shape as shape
 use Rattle.reo_trees.specs.declared.types.Shape.{Shape}
 use Rattle.reo_trees.specs.declared.items.Item.{Item}
-use Rattle.reo_trees.specs.declared.items.Form.{Form}
-use Rattle.reo_trees.specs.declared.items.Form.TheVariants as forms
+use Rattle.reo_trees.specs.declared.items.ItemForm.{ItemForm}
+use Rattle.reo_trees.specs.declared.items.ItemForm.TheVariants as forms
 use Rattle.reo_trees.specs.declared.items.Channel.{Channel}
 use Rattle.reo_trees.specs.declared.items.Channel.TheVariants as channels
 use Rattle.reo_trees.specs.declared.programs.Parameter.{Parameter}
@@ -28,7 +28,7 @@ ChannelFits (channels.Fifo size held) = (1 ≤ size) × (size ≤ 1024) × (leng
 ChannelFits (channels.Shift size held) = (1 ≤ size) × (size ≤ 1024) × (length held ≤ size)
 ChannelFits c = Unit {0}
 
-abbrev pub FormFits : Form → Type 0
+abbrev pub FormFits : ItemForm → Type 0
 FormFits (forms.Node name term) = IsFew term.shape
 FormFits (forms.Joined channel first second) = ChannelFits channel
 FormFits (forms.Used name arguments) = Unit {0}

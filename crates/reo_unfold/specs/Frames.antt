@@ -1,7 +1,7 @@
 -- A connector where it is used.
 use Rattle.std.specs.Prelude.{ℕ, List, [], ◌∷◌, take}
 use Rattle.reo_trees.specs.declared.items.Item.{Item}
-use Rattle.reo_trees.specs.declared.items.Form.{Form}
+use Rattle.reo_trees.specs.declared.items.ItemForm.{ItemForm}
 use Rattle.reo_trees.specs.declared.items.Channel.{Channel}
 use Rattle.reo_rules.specs.Lists.{each_after}
 use Rattle.reo_rules.specs.Types.{Typed, types_of, type_named}
@@ -39,14 +39,14 @@ placed_at f path channel first second =
     record { kind = channel_kind (types_at f) (type_named (scope_of (types_at f) f.connector.now) first) channel; nodes = flat_at f path first ∷ flat_at f path second ∷ [] } ∷ []
 
 -- The nodes and channels of an item behind others.
-abbrev pub nodes_at : Frame → List ℕ → List Item → Form → List (List ℕ)
+abbrev pub nodes_at : Frame → List ℕ → List Item → ItemForm → List (List ℕ)
 nodes_at f path before form = nodes_in (known_at f) path before form
 
-abbrev pub channels_at : Frame → List ℕ → List Item → Form → List Placed
+abbrev pub channels_at : Frame → List ℕ → List Item → ItemForm → List Placed
 channels_at f path before form = channels_in (known_at f) (types_at f) (scope_of (types_at f) f.connector.now) path (flat_at f path) before form
 
 -- These came at the end, of one item, and of all.
-abbrev pub AddsForm : Frame → List ℕ → List Item → Form → Unfolded → Unfolded → Type 0
+abbrev pub AddsForm : Frame → List ℕ → List Item → ItemForm → Unfolded → Unfolded → Type 0
 AddsForm f path before form old new = Adds old new (nodes_at f path before form) (channels_at f path before form)
 
 abbrev pub AddsItems : Frame → List ℕ → List Item → Unfolded → Unfolded → Type 0

@@ -4,10 +4,10 @@ use Rattle.reo_values.specs.declared.kindred.Kindred.{Kindred}
 use Rattle.reo_values.specs.declared.kindred.Kindred.TheVariants as kinds
 use Rattle.reo_trees.specs.declared.types.Shape.{Shape}
 use Rattle.reo_rules.specs.Types.{Typed, names_of, resolved}
-use Rattle.reo_unfold.specs.declared.types.Types.{Types}
+use Rattle.reo_unfold.specs.declared.types.NamedTypes.{NamedTypes}
 
 -- The types are these, in their order.
-pub record AreTypes (ts : List Typed) (types : Types) : Type 0 where
+pub record AreTypes (ts : List Typed) (types : NamedTypes) : Type 0 where
   pub names : types.names ≡ names_of ts
   pub kindreds : types.kindreds ≡ map (λ (e : Typed). e.kindred) ts
 

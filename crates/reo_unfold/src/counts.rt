@@ -7,26 +7,26 @@ ghost use Rattle.reo_flat.specs.Counts.{IsSizeOf, AreSizes};
 
 use reo_flat::Sizes;
 use reo_rules::Names;
-use reo_trees::{Form, Item};
+use reo_trees::{ItemForm, Item};
 
 /// What an item unfolds to, by the sizes of the connectors before.
-fn item_sizes(names: &Names, table: &[Sizes], form: &Form) -> Sizes
+fn item_sizes(names: &Names, table: &[Sizes], form: &ItemForm) -> Sizes
     requires { length table.now ≡ length names.now }
     ensures { (known : List Meaning) → AreSizes known names.now table.now → IsSizeOf
         (uses_in known form.now) (depth_in known form.now) (placed_in known form.now) result }
 {
     match form {
-        Form::Node { .. } => Sizes {
+        ItemForm::Node { .. } => Sizes {
             uses: 0,
             depth: 0,
             placed: 0,
         },
-        Form::Joined { .. } => Sizes {
+        ItemForm::Joined { .. } => Sizes {
             uses: 0,
             depth: 0,
             placed: 1,
         },
-        Form::Used { name, .. } => match names.find(name.as_slice()) {
+        ItemForm::Used { name, .. } => match names.find(name.as_slice()) {
             Some(number) => {
                 let used = table[number];
                 Sizes {

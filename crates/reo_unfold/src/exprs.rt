@@ -6,7 +6,7 @@ ghost use Rattle.reo_rules.specs.Types.{Typed};
 ghost use Rattle.reo_rules.specs.Terms.{symbol_in, expr_of};
 ghost use Rattle.reo_unfold.specs.Known.{AreTypes};
 
-use crate::types::Types;
+use crate::types::NamedTypes;
 use reo_exprs::{Expr, ExprPair, ExprTriple};
 use reo_rules::place_of;
 use reo_trees::TermForm;
@@ -31,7 +31,7 @@ fn symbol_of(alloc: Global, kindred: &Kindred, symbol: &Bytes) -> Result<Option<
 /// `T.s` in it is no symbol. `NoMemory`: out of memory.
 pub(crate) fn expr_of(
     alloc: Global,
-    types: &Types,
+    types: &NamedTypes,
     known: usize,
     form: &TermForm,
 ) -> Result<Option<Expr>, NoMemory>

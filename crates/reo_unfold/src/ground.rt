@@ -7,7 +7,7 @@ ghost use Rattle.reo_flat.specs.Counts.{AreSizes};
 ghost use Rattle.reo_unfold.specs.Ground.{IsGround, AddsSizes};
 
 use crate::counts::connector_sizes;
-use crate::types::Types;
+use crate::types::NamedTypes;
 use reo_flat::Sizes;
 use reo_rules::Names;
 use reo_trees::{Connector, Declaration};
@@ -24,7 +24,7 @@ pub struct Stand {
 /// Types and connectors by name, with the stand of each connector and what it unfolds to.
 #[derive(Drop)]
 pub struct Ground {
-    pub types: Types,
+    pub types: NamedTypes,
     pub connectors: Names,
     pub stands: List<Stand>,
     pub sizes: List<Sizes>,
@@ -87,7 +87,7 @@ pub fn ground_of(alloc: Global, declarations: &[Declaration]) -> Result<Ground, 
     ensures { IfOk result (IsGround declarations.now) }
 {
     let mut ground = Ground {
-        types: Types::new(alloc),
+        types: NamedTypes::new(alloc),
         connectors: Names::new(alloc),
         stands: List::new(alloc),
         sizes: List::new(alloc),

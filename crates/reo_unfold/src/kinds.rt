@@ -11,7 +11,7 @@ ghost use Rattle.reo_exprs.specs.Typing.{type_of_expr};
 ghost use Rattle.reo_unfold.specs.Fits.{IsFew, ChannelFits};
 
 use crate::exprs::expr_of;
-use crate::types::{Types, kindred_of};
+use crate::types::{NamedTypes, kindred_of};
 use reo_buffers::Buffer;
 use reo_exprs::{Expr, TypeFault, type_of};
 use reo_kinds::{FilterRule, Kind, MapRule};
@@ -24,7 +24,7 @@ use std::slice;
 /// The type of a node that is declared with this type, or `unit` where it is not declared.
 fn node_type(
     alloc: Global,
-    types: &Types,
+    types: &NamedTypes,
     known: usize,
     of: Option<&Shape>,
 ) -> Result<Kindred, NoMemory>
@@ -102,7 +102,7 @@ fn map(alloc: Global, of: Kindred, expr: Expr) -> Result<Kind, NoMemory>
 /// types. `NoMemory`: out of memory.
 pub(crate) fn channel_kind(
     alloc: Global,
-    types: &Types,
+    types: &NamedTypes,
     known: usize,
     of: Option<&Shape>,
     channel: &Channel,

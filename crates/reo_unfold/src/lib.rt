@@ -11,5 +11,5 @@ mod types;
 mod unfold;
 
 pub use ground::{Ground, Stand, ground_of};
-pub use types::{Types, kindred_of};
+pub use types::{NamedTypes, kindred_of};
 pub use unfold::{Unfolded, connector, connector_at};

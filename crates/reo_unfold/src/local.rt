@@ -10,7 +10,7 @@ ghost use Rattle.reo_unfold.specs.Fits.{IsFew, FormFits, IsFit};
 ghost use Rattle.reo_unfold.specs.Local.{IsNew, IsLocal, node_place, shape_in};
 
 use reo_rules::Names;
-use reo_trees::{Connector, Form, Item, Parameter, Shape};
+use reo_trees::{Connector, ItemForm, Item, Parameter, Shape};
 use reo_values::{Bytes, List, NoMemory};
 use std::alloc::Global;
 
@@ -35,13 +35,13 @@ fn parameter_names(alloc: Global, parameters: &[Parameter]) -> Result<Names, NoM
 
 impl Local {
     /// Notes the node that an item declares, which is not there yet.
-    fn note(&mut self, alloc: Global, place: usize, form: &Form) -> Result<(), NoMemory>
+    fn note(&mut self, alloc: Global, place: usize, form: &ItemForm) -> Result<(), NoMemory>
         requires { IsNew self.old.names form.now }
         ensures names { OnOk result (self.new.names ≡ self.old.names ++ node_names_in form.now) }
         ensures nodes { OnOk result (self.new.nodes ≡ self.old.nodes ++ node_place place form.now) }
     {
         match form {
-            Form::Node { name, .. } => {
+            ItemForm::Node { name, .. } => {
                 self.names.note(alloc, name.as_slice())?;
                 self.nodes.push(place)
             }
@@ -71,7 +71,7 @@ fn node_shape(item: &Item) -> Option<&Shape>
     ensures few { FormFits item.now.form → IfSome result (λ shape. IsFew shape.now) }
 {
     match &item.form {
-        Form::Node { term, .. } => Some(&term.shape),
+        ItemForm::Node { term, .. } => Some(&term.shape),
         _ => None,
     }
 }

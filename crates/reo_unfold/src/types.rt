@@ -15,17 +15,17 @@ use std::alloc::Global;
 
 /// Types by name, in the order in which they are declared.
 #[derive(Drop)]
-pub struct Types {
+pub struct NamedTypes {
     pub names: Names,
     pub kindreds: List<Kindred>,
 }
 
-impl Types {
+impl NamedTypes {
     /// No types.
     pub fn new(alloc: Global) -> Self
         ensures { AreTypes [] result }
     {
-        Types {
+        NamedTypes {
             names: Names::new(alloc),
             kindreds: List::new(alloc),
         }
@@ -66,7 +66,7 @@ impl Types {
 /// The type that a written type stands for, by the first so many types. `NoMemory`: out of memory.
 pub fn kindred_of(
     alloc: Global,
-    types: &Types,
+    types: &NamedTypes,
     known: usize,
     shape: &Shape,
 ) -> Result<Kindred, NoMemory>

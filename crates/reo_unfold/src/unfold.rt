@@ -14,7 +14,7 @@ use crate::kinds::channel_kind;
 use crate::local::{Local, local_of};
 use crate::names::{append_use, flat_name, flat_names, node_name};
 use reo_kinds::Kind;
-use reo_trees::{Channel, Connector, Declaration, Form};
+use reo_trees::{Channel, Connector, Declaration, ItemForm};
 use reo_values::{Bytes, List, NoMemory};
 use std::alloc::Global;
 
@@ -101,7 +101,7 @@ fn used(
     requires few { uses + 1 < 2 ^ 63 }
     ensures made { (before : List AnItem) → count_by (λ (i : AnItem). is_use i.form) before ≡ uses
         → OnOk result (AddsForm frame.now path.old before
-        (Form.Used name.now arguments.now) made.old made.new) }
+        (ItemForm.Used name.now arguments.now) made.old made.new) }
     ensures path { OnOk result (path.new ≡ path.old) }
 {
     match frame.ground.connectors.find(name.as_slice()) {
@@ -136,7 +136,7 @@ fn used(
 fn item(
     alloc: Global,
     frame: &Frame,
-    form: &Form,
+    form: &ItemForm,
     uses: usize,
     path: &mut Bytes,
     made: &mut Unfolded,
@@ -149,26 +149,26 @@ fn item(
     ensures path { OnOk result (path.new ≡ path.old) }
 {
     match form {
-        Form::Node { name, .. } => {
+        ItemForm::Node { name, .. } => {
             made.nodes.push(node_name(alloc, path, name)?)?;
             Ok(())
         }
-        Form::Joined {
+        ItemForm::Joined {
             channel,
             first,
             second,
         } => place(alloc, frame, channel, first, second, path, made),
-        Form::Used { name, arguments } => used(alloc, frame, name, arguments, uses, path, made),
+        ItemForm::Used { name, arguments } => used(alloc, frame, name, arguments, uses, path, made),
     }
 }
 
 /// The count of uses, with one more where the item is one.
-fn counted(uses: usize, form: &Form) -> usize
+fn counted(uses: usize, form: &ItemForm) -> usize
     requires { uses + 1 < 2 ^ 63 }
     ensures { result ≡ uses + cond (is_use form.now) 1 0 }
 {
     match form {
-        Form::Used { .. } => uses + 1,
+        ItemForm::Used { .. } => uses + 1,
         _ => uses,
     }
 }

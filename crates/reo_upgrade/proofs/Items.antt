@@ -6,7 +6,7 @@ use Rattle.reo_grammar.specs.Grammar.Grammar.{both, rule}
 use Rattle.reo_trees.specs.declared.literals.Literal.{Literal}
 use Rattle.reo_trees.specs.declared.terms.Term.{Term}
 use Rattle.reo_trees.specs.declared.items.Item.{Item}
-use Rattle.reo_trees.specs.declared.items.Form.{Form}
+use Rattle.reo_trees.specs.declared.items.ItemForm.{ItemForm}
 use Rattle.reo_trees.specs.declared.items.Channel.{Channel}
 use Rattle.reo_trees.specs.declared.items.Channel.TheVariants as channels
 use Rattle.reo_trees.specs.declared.indexes.Ref.{Ref}
@@ -30,20 +30,20 @@ IsRef n r = lifted_ref n ≡ r
 abbrev IsRefs : List (List ℕ) → List Ref → Type 0
 IsRefs ns rs = map lifted_ref ns ≡ rs
 
-abbrev pub IsForm : Form → FormTwo → Type 0
+abbrev pub IsForm : ItemForm → FormTwo → Type 0
 IsForm f g = lifted_form f ≡ g
 
 -- What becomes an item of a name, of a number, of a channel.
-abbrev OfName : (List ℕ → Form) → (Ref → FormTwo) → Type 0
+abbrev OfName : (List ℕ → ItemForm) → (Ref → FormTwo) → Type 0
 OfName f g = (n : List ℕ) → lifted_form (f n) ≡ g (lifted_ref n)
 
-abbrev OfNumber : (ℕ → Form) → (ℕ → FormTwo) → Type 0
+abbrev OfNumber : (ℕ → ItemForm) → (ℕ → FormTwo) → Type 0
 OfNumber f g = (n : ℕ) → lifted_form (f n) ≡ g n
 
-abbrev OfBoth : (List ℕ → ℕ → Form) → (Ref → ℕ → FormTwo) → Type 0
+abbrev OfBoth : (List ℕ → ℕ → ItemForm) → (Ref → ℕ → FormTwo) → Type 0
 OfBoth f g = (x : List ℕ) (n : ℕ) → lifted_form (f x n) ≡ g (lifted_ref x) n
 
-abbrev OfChannel : (Channel → Form) → (Channel → FormTwo) → Type 0
+abbrev OfChannel : (Channel → ItemForm) → (Channel → FormTwo) → Type 0
 OfChannel f g = (c : Channel) → lifted_form (f c) ≡ g c
 
 joined : (c : Channel) (x y : List ℕ) (u v : Ref) → lifted_ref x ≡ u → lifted_ref y ≡ v → join_two c (lifted_ref x) (lifted_ref y) ≡ join_two c u v
@@ -74,7 +74,7 @@ module _ (k : ℕ) where
       (λ n m f g e i. i n ∙ ap g e)
 
   turned-told : (C : Term → Channel) (b : List ℕ)
-      → Turned k (both (λ x (f : List ℕ → Form). f x) name_form (both (λ y t (x : List ℕ). joined_names (C t) x y) (name_form ◂ word b) (rule term_rule ◂ word (codes ";"))))
+      → Turned k (both (λ x (f : List ℕ → ItemForm). f x) name_form (both (λ y t (x : List ℕ). joined_names (C t) x y) (name_form ◂ word b) (rule term_rule ◂ word (codes ";"))))
       (both (λ x (f : Ref → FormTwo). f x) ref_form (both (λ y t (x : Ref). join_two (C t) x y) (ref_form ◂ word b) (rule term_rule ◂ word (codes ";")))) IsForm
   turned-told C b = turned-both k IsForm turned-name
       (turned-both k OfName (turned-left k IsRef turned-name) (turned-left k (λ x y. x ≡ y) (turned-same k)) (λ y v h l e i x. ap (join_two (C h) (lifted_ref x)) e ∙ ap (λ z. join_two (C z) (lifted_ref x) v) i))

@@ -1,8 +1,8 @@
 -- Lifted programs are spelled.
 use Rattle.std.proofs.Common.{arith, ℕ, zero, suc, List, [], ◌∷◌, map}
 use Rattle.std.specs.List.{All}
-use Rattle.reo_trees.specs.declared.items.Form.{Form}
-use Rattle.reo_trees.specs.declared.items.Form.TheVariants as plain
+use Rattle.reo_trees.specs.declared.items.ItemForm.{ItemForm}
+use Rattle.reo_trees.specs.declared.items.ItemForm.TheVariants as plain
 use Rattle.reo_trees.specs.declared.programs.Connector.{Connector}
 use Rattle.reo_trees.specs.declared.programs.Declaration.{Declaration}
 use Rattle.reo_trees.specs.declared.programs.Declaration.TheVariants as declarations
@@ -18,7 +18,7 @@ all-mapped : {X Y : Type 0} (P : X → Type 0) (Q : Y → Type 0) (f : X → Y) 
 all-mapped P Q f each [] all = all-none Q
 all-mapped P Q f each (x ∷ xs) all = all-cons Q (f x) (map f xs) (each x (all zero x (omega arith))) (all-mapped P Q f each xs (λ k d below. all (suc k) d (omega arith)))
 
-form-spelled : (f : Form) → IsFormBy IsFreeName f → IsSpelledFormTwo (lifted_form f)
+form-spelled : (f : ItemForm) → IsFormBy IsFreeName f → IsSpelledFormTwo (lifted_form f)
 form-spelled (plain.Node name term) p = (p.0, tt, p.1)
 form-spelled (plain.Joined channel first second) p = (p.0, (p.1, tt), (p.2, tt))
 form-spelled (plain.Used name arguments) p = (p.0, tt, all-mapped IsFreeName IsSpelledRef lifted_ref (λ n q. (q, tt)) arguments p.1)

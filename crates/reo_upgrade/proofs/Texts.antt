@@ -2,8 +2,8 @@
 use Rattle.std.proofs.Common.{◌≡◌, ◌∙◌, ℕ, List, [], ◌∷◌, ◌++◌, map, refl, sym, ap, append_assoc, append-nil, codes}
 use Rattle.std.specs.List.{flat_map}
 use Rattle.reo_trees.specs.declared.items.Item.{Item}
-use Rattle.reo_trees.specs.declared.items.Form.{Form}
-use Rattle.reo_trees.specs.declared.items.Form.TheVariants as plain
+use Rattle.reo_trees.specs.declared.items.ItemForm.{ItemForm}
+use Rattle.reo_trees.specs.declared.items.ItemForm.TheVariants as plain
 use Rattle.reo_trees.specs.declared.programs.Connector.{Connector}
 use Rattle.reo_trees.specs.declared.programs.Declaration.{Declaration}
 use Rattle.reo_trees.specs.declared.programs.Declaration.TheVariants as declarations
@@ -29,7 +29,7 @@ names-text (n ∷ ns) =
     two-parts (λ a b. a ++ b) (n ++ []) (flat_map (λ y. codes ", " ++ ref_text y) (map lifted_ref ns)) n (flat_map (λ y. codes ", " ++ y) ns) (append-nil n)
     (flat-mapped (λ y. codes ", " ++ ref_text y) (λ y. codes ", " ++ y) lifted_ref (λ y. ap (λ l. codes ", " ++ l) (append-nil y)) ns)
 
-form-text : (indent : List ℕ) (f : Form) → form_text indent (lifted_form f) ≡ form_of_item_text f
+form-text : (indent : List ℕ) (f : ItemForm) → form_text indent (lifted_form f) ≡ form_of_item_text f
 form-text indent (plain.Node name term) = ap (λ l. codes "node " ++ l) (sym (append_assoc name (codes ": ") (type_text term ++ codes ";")))
 form-text indent (plain.Joined c x y) =
     two-parts (λ a b. channel_head c ++ ((a ++ codes " ") ++ (b ++ (channel_tail c ++ codes ";")))) (x ++ []) (y ++ []) x y (append-nil x) (append-nil y)

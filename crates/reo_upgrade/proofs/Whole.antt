@@ -6,8 +6,8 @@ use Rattle.reo_grammar.specs.Grammar.Grammar.{made}
 use Rattle.reo_lexer.specs.Lexing.{lexemes_of}
 use Rattle.reo_lexer.proofs.Spans.{tokens-real}
 use Rattle.reo_trees.specs.loops.Few.{few_loops, few_declared, few_in_program}
-use Rattle.reo_trees.specs.declared.items.Form.{Form}
-use Rattle.reo_trees.specs.declared.items.Form.TheVariants as plain
+use Rattle.reo_trees.specs.declared.items.ItemForm.{ItemForm}
+use Rattle.reo_trees.specs.declared.items.ItemForm.TheVariants as plain
 use Rattle.reo_trees.specs.declared.programs.Declaration.{Declaration}
 use Rattle.reo_trees.specs.declared.programs.Declaration.TheVariants as declarations
 use Rattle.reo_trees.specs.declared.programs.Program.{Program}
@@ -43,7 +43,7 @@ use Rattle.reo_upgrade.proofs.Programs.{lifted-said}
 use Rattle.reo_upgrade.proofs.Fronts.{the_reo, the_two, nowhere-version}
 
 -- No loops stand in it.
-few-form : (n : ℕ) (f : Form) → few_loops n (lifted_form f) ≡ true
+few-form : (n : ℕ) (f : ItemForm) → few_loops n (lifted_form f) ≡ true
 few-form zero (plain.Node name term) = refl
 few-form zero (plain.Joined channel first second) = refl
 few-form zero (plain.Used name arguments) = refl
@@ -67,7 +67,7 @@ map-twice : {A B C D : Type 0} (f : B → D) (g : A → B) (h : C → D) (i : A 
 map-twice f g h i e [] = refl
 map-twice f g h i e (x ∷ xs) = ap (λ y. y ∷ map f (map g xs)) (e x) ∙ ap (λ l. h (i x) ∷ l) (map-twice f g h i e xs)
 
-form-bare : (f : Form) → two.bare_form (lifted_form f) ≡ lifted_form (bare_item_form f)
+form-bare : (f : ItemForm) → two.bare_form (lifted_form f) ≡ lifted_form (bare_item_form f)
 form-bare (plain.Node name term) = refl
 form-bare (plain.Joined channel first second) = refl
 form-bare (plain.Used name arguments) = refl

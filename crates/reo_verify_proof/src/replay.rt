@@ -15,7 +15,7 @@ use crate::refusing::refuse_round;
 use reo_net_base::{Ports, Restoring};
 use reo_net_circuit::Circuit;
 use reo_players::Players;
-use reo_proof_reader::{Next, Reader, read_next};
+use reo_proof_reader::{Next, ProofReader, read_next};
 use reo_proof_texts::ProofRefusal;
 use reo_runner::{Engine, release_run};
 use reo_runs::known_order;
@@ -62,7 +62,7 @@ fn replay_rounds<P: Restoring>(
 {
     known_order(engine.circuit());
     let _length = proof.len();
-    let mut reader = Reader::new(proof);
+    let mut reader = ProofReader::new(proof);
     let mut over = begins;
     let mut before = 0;
     loop {

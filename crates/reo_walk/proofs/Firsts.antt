@@ -23,15 +23,15 @@ use Rattle.reo_joint_values.specs.Ties.{AreSides, HasChoice}
 use Rattle.reo_joint_values.proofs.Fitting.{item_chosen}
 use Rattle.reo_joint_values.proofs.Assigning.{mark_by, choices_are_assignments}
 use Rattle.reo_joint_values.proofs.Choosing.{has_chosen, same_rows}
-use Rattle.reo_walk.specs.declared.place.Place.{Place}
-use Rattle.reo_walk.specs.declared.place.Place.TheVariants.{Class, Row}
+use Rattle.reo_walk.specs.declared.place.KeyPlace.{KeyPlace}
+use Rattle.reo_walk.specs.declared.place.KeyPlace.TheVariants.{Class, Row}
 use Rattle.reo_walk.specs.Places.{side_of_place, number_of, numbers, places_in}
 use Rattle.reo_walk.specs.Settling.{HasNone, IsFirstWith}
 use Rattle.reo_walk.specs.Arranged.{IsOfSet, IsAssignmentOf, HasNoAssignment}
 
 -- The numbers at the places of some sides are what their rows are compared by.
 module _ (net : Net) (turn : ℕ) (rows : ℕ → ℕ) where
-  abbrev number_at : Place → ℕ
+  abbrev number_at : KeyPlace → ℕ
   number_at p = number_of net turn p (rows (side_of_place p))
 
   leading_for : (s : ℕ) (ss : List ℕ) (t : Bool) → map number_at (map Class (filter (leads_at net) ss)) ≡ part_leading net turn ss (map rows ss)

@@ -12,12 +12,12 @@ use Rattle.reo_joint_values.specs.Supported.{IsNarrowed}
 use Rattle.reo_joint_values.proofs.Narrowing.{at_cases}
 use Rattle.reo_side_tables.specs.Listing.{Lists}
 use Rattle.reo_side_tables.specs.Marks.{mark_at_joint, IsJointOf}
-use Rattle.reo_rows.specs.Flags.{flag, AreAlikeTables}
+use Rattle.reo_rows.specs.RowFlags.{flag, AreAlikeTables}
 use Rattle.reo_rows.specs.Sets.{value_of, code_of, family_of}
 use Rattle.reo_rows.specs.Stands.{value_mark}
 use Rattle.reo_rows.proofs.Codes.{value_code, flag_in}
 use Rattle.reo_propagate.specs.declared.thinning.Loss.{Loss}
-use Rattle.reo_walk.specs.declared.place.Place.{Place}
+use Rattle.reo_walk.specs.declared.place.KeyPlace.{KeyPlace}
 use Rattle.reo_walk.specs.Places.{side_of_place, suits, is_at_side, value_suits, held_to}
 use Rattle.reo_walk.specs.Holding.{IsHeldTo, IsHeldSoFar, AllSuit, IsHeld}
 use Rattle.reo_walk.proofs.Numbering.{both, first_of_both, second_of_both, then_if, at_test, test_at}
@@ -48,7 +48,7 @@ module _ (now new : List (List Bool)) (joint n : ℕ) (is : (k q : ℕ) → flag
       let left = second_of_both (flag now joint n) (not ((joint == joint) && (n == n))) (sym (is joint n) ∙ f) in
       no_both (not ((joint == joint) && (n == n))) left (ap not here)
 
-module _ (net : Net) (p : Place) (row joint n : ℕ) (old now : List (List Bool)) (loss : Loss) (h : IsHeldTo net p row joint n old now loss) where
+module _ (net : Net) (p : KeyPlace) (row joint n : ℕ) (old now : List (List Bool)) (loss : Loss) (h : IsHeldTo net p row joint n old now loss) where
   -- A value that suits stays, or is not there.
   pub hold_keep : (value_suits net p row joint (value_of n) ≡ true) ⊎ (flag now joint n ≡ false) → IsHeldTo net p row joint (n + 1) old now loss
   hold_keep good = record {
@@ -96,17 +96,17 @@ module _ (net : Net) (p : Place) (row joint n : ℕ) (old now : List (List Bool)
     ];
   }
 
-pub so_far_none : (net : Net) (p : Place) (row : ℕ) (old : List (List Bool)) → IsHeldSoFar net p row old old
+pub so_far_none : (net : Net) (p : KeyPlace) (row : ℕ) (old : List (List Bool)) → IsHeldSoFar net p row old old
 so_far_none net p row old = record { alike = record { rows = refl; width = λ r. refl }; less = λ j v f. f; keeps = λ j v f s. f }
 
-pub so_far_twice : (net : Net) (p : Place) (row : ℕ) (a b c : List (List Bool)) → IsHeldSoFar net p row a b → IsHeldSoFar net p row b c → IsHeldSoFar net p row a c
+pub so_far_twice : (net : Net) (p : KeyPlace) (row : ℕ) (a b c : List (List Bool)) → IsHeldSoFar net p row a b → IsHeldSoFar net p row b c → IsHeldSoFar net p row a c
 so_far_twice net p row a b c x y = record {
   alike = record { rows = y.alike.rows ∙ x.alike.rows; width = λ r. y.alike.width r ∙ x.alike.width r };
   less = λ j v f. x.less j v (y.less j v f);
   keeps = λ j v f s. y.keeps j v (x.keeps j v f s) s;
 }
 
-pub suit_more : (net : Net) (p : Place) (row : ℕ) (list : List ℕ) (n j : ℕ) (mid now : List (List Bool)) → j ≡ get_or list n 0 → IsHeldSoFar net p row mid now → AllSuit net p row list n mid
+pub suit_more : (net : Net) (p : KeyPlace) (row : ℕ) (list : List ℕ) (n j : ℕ) (mid now : List (List Bool)) → j ≡ get_or list n 0 → IsHeldSoFar net p row mid now → AllSuit net p row list n mid
     → ((c : ℕ) → flag now j c ≡ true → value_suits net p row j (value_of c) ≡ true) → AllSuit net p row list (n + 1) now
 suit_more net p row list n j mid now is held before here =
     below_more (λ m. (v : JointValue) → family_of now (get_or list m 0) v ≡ true → value_suits net p row (get_or list m 0) v ≡ true) n
@@ -114,7 +114,7 @@ suit_more net p row list n j mid now is held before here =
     (λ v f. subst (λ k. value_suits net p row k v ≡ true) is (ap (value_suits net p row j) (sym (value_code v)) ∙ here (code_of v) (subst (λ k. family_of now k v ≡ true) (sym is) f)))
 
 -- After all joints of its side the place is held.
-pub held_all : (net : Net) (p : Place) (row : ℕ) (old now : List (List Bool)) (joints : List ℕ) → Lists (IsJointOf net (side_of_place p)) joints → IsHeldSoFar net p row old now → AllSuit net p row joints (length joints) now → IsHeld net p row old now
+pub held_all : (net : Net) (p : KeyPlace) (row : ℕ) (old now : List (List Bool)) (joints : List ℕ) → Lists (IsJointOf net (side_of_place p)) joints → IsHeldSoFar net p row old now → AllSuit net p row joints (length joints) now → IsHeld net p row old now
 held_all net p row old now joints all held suit = record {
   alike = held.alike;
   within = held.less;
@@ -128,7 +128,7 @@ held_all net p row old now joints all held suit = record {
 }
 
 -- Narrowed from what is held.
-pub narrowed_held : (net : Net) (names : Names) (inside : ℕ → Bool) (p : Place) (row : ℕ) (old held : List (List Bool)) (next : Family) → IsHeld net p row old held → IsNarrowed net names inside (family_of held) next
+pub narrowed_held : (net : Net) (names : Names) (inside : ℕ → Bool) (p : KeyPlace) (row : ℕ) (old held : List (List Bool)) (next : Family) → IsHeld net p row old held → IsNarrowed net names inside (family_of held) next
     → IsNarrowed net names inside (held_to net p row (family_of old)) next
 narrowed_held net names inside p row old held next h narrowed = record {
   smaller = λ j s v lt at is f. h.less j v lt (narrowed.smaller j s v lt at is f);
@@ -140,19 +140,19 @@ test_for true b is = refl
 test_for false b is = cc
 
 -- Whether a value suits a row, by the marks that are looked at.
-pub suits_is : (net : Net) (p : Place) (row joint side : ℕ) (v : JointValue) (seen mark : Mark) → side ≡ side_of_place p → AtSide net joint (side_of_place p) → seen ≡ value_mark net side joint v → mark ≡ mark_at_joint net side row joint
+pub suits_is : (net : Net) (p : KeyPlace) (row joint side : ℕ) (v : JointValue) (seen mark : Mark) → side ≡ side_of_place p → AtSide net joint (side_of_place p) → seen ≡ value_mark net side joint v → mark ≡ mark_at_joint net side row joint
     → value_suits net p row joint v ≡ suits p seen mark
 suits_is net p row joint side v seen mark is at seen_is mark_is =
     test_for (is_at_side net (side_of_place p) joint) (suits p (value_mark net (side_of_place p) joint v) (mark_at_joint net (side_of_place p) row joint)) (at_test net (side_of_place p) joint at)
     ∙ ap (λ (s : ℕ). suits p (value_mark net s joint v) (mark_at_joint net s row joint)) (sym is)
     ∙ (λ i. suits p (sym seen_is i) (sym mark_is i))
 
-pub less_flags : (net : Net) (p : Place) (row joint n : ℕ) (old now : List (List Bool)) (loss : Loss) → IsHeldTo net p row joint n old now loss → (i c : ℕ) → flag now i c ≡ true → flag old i c ≡ true
+pub less_flags : (net : Net) (p : KeyPlace) (row joint n : ℕ) (old now : List (List Bool)) (loss : Loss) → IsHeldTo net p row joint n old now loss → (i c : ℕ) → flag now i c ≡ true → flag old i c ≡ true
 less_flags net p row joint n old now loss h i c f = elim (cases_eq i joint) [
   | inl e ↦ subst (λ (x : ℕ). flag old x c ≡ true) (sym e) (h.less c (subst (λ (x : ℕ). flag now x c ≡ true) e f))
   | inr apart ↦ sym (h.elsewhere i c apart) ∙ f
 ]
 
 -- At its end each value that is left suits.
-pub all_done : (net : Net) (p : Place) (row joint n : ℕ) (old now : List (List Bool)) (loss : Loss) → IsHeldTo net p row joint n old now loss → n ≡ length (get_or old joint []) → (c : ℕ) → flag now joint c ≡ true → value_suits net p row joint (value_of c) ≡ true
+pub all_done : (net : Net) (p : KeyPlace) (row joint n : ℕ) (old now : List (List Bool)) (loss : Loss) → IsHeldTo net p row joint n old now loss → n ≡ length (get_or old joint []) → (c : ℕ) → flag now joint c ≡ true → value_suits net p row joint (value_of c) ≡ true
 all_done net p row joint n old now loss h last c f = let there = flag_in now joint c f in h.done c (omega (arith, last, there, h.alike.width joint)) f

@@ -8,8 +8,8 @@ use Rattle.reo_net_base.specs.Sides.{side_count}
 use Rattle.reo_net_laws.specs.Keys.{leads_at}
 use Rattle.reo_net_laws.specs.Sublists.{sides_in}
 use Rattle.reo_propagate.specs.Queues.{among}
-use Rattle.reo_walk.specs.declared.place.Place.{Place}
-use Rattle.reo_walk.specs.declared.place.Place.TheVariants.{Class, Row}
+use Rattle.reo_walk.specs.declared.place.KeyPlace.{KeyPlace}
+use Rattle.reo_walk.specs.declared.place.KeyPlace.TheVariants.{Class, Row}
 use Rattle.reo_walk.specs.Places.{side_of_place, places_in}
 use Rattle.reo_walk.proofs.Resting.{among_at}
 use Rattle.std.proofs.lemmas.Bool.{or_left as sooner, or_right as later}
@@ -38,8 +38,8 @@ module _ (net : Net) (inside : ℕ → Bool) (real : (s : ℕ) → inside s ≡ 
   some_side s h = none_for (sides_in net inside) s (among_sides s ∙ h)
 
 -- Each place of a list is of a side among some.
-abbrev pub AllOf : List ℕ → List Place → Type 0
-AllOf sides places = (k : ℕ) (d : Place) → k < length places → among sides (side_of_place (get_or places k d)) ≡ true
+abbrev pub AllOf : List ℕ → List KeyPlace → Type 0
+AllOf sides places = (k : ℕ) (d : KeyPlace) → k < length places → among sides (side_of_place (get_or places k d)) ≡ true
 
 all_classes : (sides xs : List ℕ) → ((s : ℕ) → among xs s ≡ true → among sides s ≡ true) → AllOf sides (map Class xs)
 all_classes sides [] in_all k d lt = absurd (omega arith)
@@ -51,7 +51,7 @@ all_rows sides [] in_all k d lt = absurd (omega arith)
 all_rows sides (x ∷ xs) in_all zero d lt = in_all x (sooner (x == x) (among xs x) (same_eq x x refl))
 all_rows sides (x ∷ xs) in_all (suc k) d lt = all_rows sides xs (λ s h. in_all s (later (x == s) (among xs s) h)) k d (omega arith)
 
-all_both : (sides : List ℕ) (ps qs : List Place) → AllOf sides ps → AllOf sides qs → AllOf sides (ps ++ qs)
+all_both : (sides : List ℕ) (ps qs : List KeyPlace) → AllOf sides ps → AllOf sides qs → AllOf sides (ps ++ qs)
 all_both sides [] qs first second k d lt = second k d lt
 all_both sides (p ∷ ps) qs first second zero d lt = first zero d (omega arith)
 all_both sides (p ∷ ps) qs first second (suc k) d lt = all_both sides ps qs (λ n e n_lt. first (suc n) e (omega arith)) second k d (omega arith)

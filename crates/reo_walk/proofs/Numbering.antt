@@ -15,8 +15,8 @@ use Rattle.reo_joint_values.specs.Supported.{IsWithin}
 use Rattle.reo_joint_values.specs.Chosen.{IsChosen}
 use Rattle.reo_side_tables.specs.Marks.{mark_at_joint}
 use Rattle.reo_rows.specs.Stands.{value_mark}
-use Rattle.reo_walk.specs.declared.place.Place.{Place}
-use Rattle.reo_walk.specs.declared.place.Place.TheVariants.{Class, Row}
+use Rattle.reo_walk.specs.declared.place.KeyPlace.{KeyPlace}
+use Rattle.reo_walk.specs.declared.place.KeyPlace.TheVariants.{Class, Row}
 use Rattle.reo_walk.specs.Places.{side_of_place, number_of, suits, is_at_side, value_suits, held_to}
 use Rattle.std.proofs.lemmas.Bool.{or_left as one_or, or_right as or_other}
 pub use Rattle.std.proofs.lemmas.Bool.{and_from as both}
@@ -66,12 +66,12 @@ fit_mark net wired names choice side row j fits lt (inl here) = giver_value net 
 fit_mark net wired names choice side row j fits lt (inr here) = taker_value net wired side j lt here (choice j) ∙ (fits.takes j lt here).mark ∙ sym (taker_row_mark net wired side j lt here row)
 
 -- Rows have one number at a place exactly where their marks suit each other at each joint there.
-pub told : (net : Net) → IsWired net → (turn : ℕ) (p : Place) (row other : ℕ) → side_of_place p < length (all_sides net.primitives) → IsRowOf net (side_of_place p) row → IsRowOf net (side_of_place p) other
+pub told : (net : Net) → IsWired net → (turn : ℕ) (p : KeyPlace) (row other : ℕ) → side_of_place p < length (all_sides net.primitives) → IsRowOf net (side_of_place p) row → IsRowOf net (side_of_place p) other
     → MarksAgree net (side_of_place p) (suits p) row other ↔ (number_of net turn p row ≡ number_of net turn p other)
 told net wired turn (Class side) row other lt r o = classes_told net wired turn side row other lt r o
 told net wired turn (Row side) row other lt r o = rows_told net wired side row other lt r o
 
-module _ (net : Net) (wired : IsWired net) (turn : ℕ) (p : Place) (side_in : side_of_place p < length (all_sides net.primitives)) where
+module _ (net : Net) (wired : IsWired net) (turn : ℕ) (p : KeyPlace) (side_in : side_of_place p < length (all_sides net.primitives)) where
   abbrev here : ℕ
   here = side_of_place p
 
@@ -127,5 +127,5 @@ module _ (net : Net) (wired : IsWired net) (turn : ℕ) (p : Place) (side_in : s
               (all_suit (rows here) row fits.in_table in_table equal j lt there)));
         }
 
-pub held_within : (net : Net) (inside : ℕ → Bool) (p : Place) (row : ℕ) (sets : Family) → IsWithin net inside (held_to net p row sets) sets
+pub held_within : (net : Net) (inside : ℕ → Bool) (p : KeyPlace) (row : ℕ) (sets : Family) → IsWithin net inside (held_to net p row sets) sets
 held_within net inside p row sets j side v lt at is h = first_of_both (sets j v) (value_suits net p row j v) h

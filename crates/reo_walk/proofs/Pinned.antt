@@ -3,7 +3,7 @@ use Rattle.std.proofs.Common.{◌≡◌, ◌≢◌, ◌⊎◌, inl, inr, ℕ, �
 use Rattle.std.specs.Bool.{◌==◌}
 use Rattle.std.proofs.lemmas.Bool.{cases_eq}
 use Rattle.reo_values.proofs.Truths.{no_both}
-use Rattle.reo_rows.specs.Flags.{flag, AreAlikeTables}
+use Rattle.reo_rows.specs.RowFlags.{flag, AreAlikeTables}
 use Rattle.reo_rows.proofs.Codes.{flag_in}
 use Rattle.reo_propagate.specs.declared.thinning.Loss.{Loss}
 use Rattle.reo_walk.specs.Pins.{IsPinnedBelow, IsPinned, ArePinned}

@@ -11,12 +11,12 @@ use Rattle.reo_joint_values.specs.Supported.{IsSupported, IsNarrowed}
 use Rattle.reo_joint_values.specs.Works.{RowWorks}
 use Rattle.reo_side_tables.specs.Marks.{side_in}
 use Rattle.reo_rows.specs.declared.rows.Rows.{Rows}
-use Rattle.reo_rows.specs.Flags.{flag}
+use Rattle.reo_rows.specs.RowFlags.{flag}
 use Rattle.reo_rows.specs.Sets.{family_of}
 use Rattle.reo_rows.proofs.Codes.{flag_in}
-use Rattle.reo_propagate.specs.declared.queue.Queue.{Queue}
+use Rattle.reo_propagate.specs.declared.queue.WaitingSides.{WaitingSides}
 use Rattle.reo_propagate.specs.Narrow.{IsAtRest, IsTended, nobody}
-use Rattle.reo_walk.specs.declared.place.Place.{Place}
+use Rattle.reo_walk.specs.declared.place.KeyPlace.{KeyPlace}
 use Rattle.reo_walk.specs.declared.walking.Least.{Least}
 use Rattle.reo_walk.specs.Places.{side_of_place, number_of, held_to}
 use Rattle.reo_walk.specs.Settling.{HasNone}
@@ -25,7 +25,7 @@ use Rattle.reo_walk.proofs.Settling.{none_left}
 use Rattle.reo_walk.proofs.Stepping.{held_already}
 pub use Rattle.reo_propagate.proofs.Among.{among_at}
 
-module _ (net : Net) (names : Names) (inside : ℕ → Bool) (alive : List (List Bool)) (rows : Rows) (queue : Queue) (tended : IsTended net names inside (nobody net) alive rows queue) (empty : queue.line ≡ []) where
+module _ (net : Net) (names : Names) (inside : ℕ → Bool) (alive : List (List Bool)) (rows : Rows) (queue : WaitingSides) (tended : IsTended net names inside (nobody net) alive rows queue) (empty : queue.line ≡ []) where
   rest_for : (side : ℕ) → inside side ≡ true → side < side_count net → (t : Bool) → get_or queue.waits side true ≡ t → IsAtRest net names (family_of alive) side rows
   rest_for side is lt true waits =
       let stands = tended.waiting side is waits in
@@ -46,7 +46,7 @@ live_row net live side row side_lt width f = λ d.
     let here : get_or (all_sides net.primitives) side no_side ≡ get_or (all_sides net.primitives) side d = get_or_default (all_sides net.primitives) side no_side d side_lt in
     subst (λ (s : Side). row < row_count s) here (omega (arith, lt, width))
 
-module _ (net : Net) (wired : IsWired net) (names : Names) (inside : ℕ → Bool) (turn : ℕ) (p : Place) (family : Family) (rows : Rows) (is_in : inside (side_of_place p) ≡ true) where
+module _ (net : Net) (wired : IsWired net) (names : Names) (inside : ℕ → Bool) (turn : ℕ) (p : KeyPlace) (family : Family) (rows : Rows) (is_in : inside (side_of_place p) ≡ true) where
   abbrev width : ℕ
   width = length (get_or rows.live (side_of_place p) [])
 

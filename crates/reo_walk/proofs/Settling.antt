@@ -20,7 +20,7 @@ use Rattle.reo_joint_values.specs.Works.{RowWorks}
 use Rattle.reo_joint_values.proofs.Works.{fits_works}
 use Rattle.reo_joint_values.proofs.Narrowing.{chosen_stays, chosen_was}
 use Rattle.reo_support.proofs.Rows.{row_stands}
-use Rattle.reo_walk.specs.declared.place.Place.{Place}
+use Rattle.reo_walk.specs.declared.place.KeyPlace.{KeyPlace}
 use Rattle.reo_walk.specs.Places.{side_of_place, number_of, numbers, held_to}
 use Rattle.reo_walk.specs.Settling.{HasChosen, HasNone, Settling, IsFirstWith}
 use Rattle.reo_walk.specs.Walking.{IsWalked}
@@ -70,7 +70,7 @@ snoc_parts (x ∷ xs) (k ∷ ns) y m n e =
     ((λ i. head i ∷ rest.0 i), rest.1)
 
 -- One place more is settled.
-settle_more : (Old Now Next : (ℕ → ℕ) → Choice → Type 0) (net : Net) (turn : ℕ) (places : List Place) (chosen : List ℕ) (p : Place) (m : ℕ) → length chosen ≡ length places → Settling Old Now net turn places chosen
+settle_more : (Old Now Next : (ℕ → ℕ) → Choice → Type 0) (net : Net) (turn : ℕ) (places : List KeyPlace) (chosen : List ℕ) (p : KeyPlace) (m : ℕ) → length chosen ≡ length places → Settling Old Now net turn places chosen
     → ((rows : ℕ → ℕ) (choice : Choice) → Next rows choice → Now rows choice)
     → ((rows : ℕ → ℕ) (choice : Choice) → Next rows choice → number_of net turn p (rows (side_of_place p)) ≡ m)
     → ((rows : ℕ → ℕ) (choice : Choice) → Now rows choice → number_of net turn p (rows (side_of_place p)) ≡ m → Next rows choice)
@@ -78,9 +78,9 @@ settle_more : (Old Now Next : (ℕ → ℕ) → Choice → Type 0) (net : Net) (
     → Settling Old Next net turn (places ++ p ∷ []) (chosen ++ m ∷ [])
 settle_more Old Now Next net turn places chosen p m len s was has keeps least =
     let split : (rows : ℕ → ℕ) → numbers net turn (places ++ p ∷ []) rows ≡ numbers net turn places rows ++ number_of net turn p (rows (side_of_place p)) ∷ [] =
-    λ rows. map-append (λ (q : Place). number_of net turn q (rows (side_of_place q))) places (p ∷ []) in
+    λ rows. map-append (λ (q : KeyPlace). number_of net turn q (rows (side_of_place q))) places (p ∷ []) in
     let count : (rows : ℕ → ℕ) → length (numbers net turn places rows) ≡ length chosen =
-    λ rows. length-map places (λ (q : Place). number_of net turn q (rows (side_of_place q))) ∙ sym len in
+    λ rows. length-map places (λ (q : KeyPlace). number_of net turn q (rows (side_of_place q))) ∙ sym len in
     record {
       old = λ rows choice a. s.old rows choice (was rows choice a);
       has = λ rows choice a. split rows ∙ ap (λ (ns : List ℕ). ns ++ number_of net turn p (rows (side_of_place p)) ∷ []) (s.has rows choice (was rows choice a)) ∙ ap (λ (k : ℕ). chosen ++ k ∷ []) (has rows choice a);
@@ -93,7 +93,7 @@ settle_more Old Now Next net turn places chosen p m len s was has keeps least =
     }
 
 -- One more place, held to the least number of a row that works there, and narrowed.
-module _ (net : Net) (wired : IsWired net) (names : Names) (inside : ℕ → Bool) (turn : ℕ) (start now next : Family) (places : List Place) (chosen : List ℕ) (p : Place) (row : ℕ)
+module _ (net : Net) (wired : IsWired net) (names : Names) (inside : ℕ → Bool) (turn : ℕ) (start now next : Family) (places : List KeyPlace) (chosen : List ℕ) (p : KeyPlace) (row : ℕ)
     (side_in : side_of_place p < length (all_sides net.primitives)) (is_in : inside (side_of_place p) ≡ true) (in_table : IsRowOf net (side_of_place p) row)
     (narrowed : IsNarrowed net names inside (held_to net p row now) next) where
   next_was : (rows : ℕ → ℕ) (choice : Choice) → IsChosen net names inside next rows choice → IsChosen net names inside (held_to net p row now) rows choice
@@ -133,7 +133,7 @@ pub none_left : (net : Net) → IsWired net → (names : Names) (inside : ℕ �
 none_left net wired names inside sets side is none rows choice a = none (rows side) (fits_works net wired names sets side (rows side) choice (a.fits side is) (a.from side is))
 
 -- The end of a walk that is settled is first, where one value is left at each loop joint.
-pub walked_first : (net : Net) (names : Names) (inside : ℕ → Bool) (turn : ℕ) (start now : Family) (places : List Place) (chosen : List ℕ)
+pub walked_first : (net : Net) (names : Names) (inside : ℕ → Bool) (turn : ℕ) (start now : Family) (places : List KeyPlace) (chosen : List ℕ)
     → IsKnot net inside → IsWalked net names inside turn start now places chosen → OneAtLoops net inside now → IsFirstWith net names inside turn start places chosen
 walked_first net names inside turn start now places chosen knot walked one =
     let a = walked.some knot one in

@@ -15,14 +15,14 @@ use Rattle.reo_support.proofs.Rows.{row_stands}
 use Rattle.reo_net_base.specs.declared.mark.Mark.{Mark}
 use Rattle.reo_side_tables.specs.Marks.{mark_at_joint}
 use Rattle.reo_rows.specs.Stands.{value_mark}
-use Rattle.reo_walk.specs.declared.place.Place.{Place}
+use Rattle.reo_walk.specs.declared.place.KeyPlace.{KeyPlace}
 use Rattle.reo_walk.specs.Places.{side_of_place, number_of, numbers, suits, is_at_side, value_suits, held_to}
 use Rattle.reo_walk.specs.Settling.{HasNone, Settling}
 use Rattle.reo_walk.specs.Walking.{IsWalked, IsWalking, IsStuck, IsStepped}
 use Rattle.reo_walk.proofs.Numbering.{both, first_of_both, then_if, test_at, fit_mark, all_suit}
 use Rattle.reo_walk.proofs.Settling.{walk_more, next_some, one_less}
 
-empty_numbers : (net : Net) (turn : ℕ) (places : List Place) (chosen : List ℕ) (rows : ℕ → ℕ) → 0 ≡ length places → length chosen ≡ length places → numbers net turn places rows ≡ chosen
+empty_numbers : (net : Net) (turn : ℕ) (places : List KeyPlace) (chosen : List ℕ) (rows : ℕ → ℕ) → 0 ≡ length places → length chosen ≡ length places → numbers net turn places rows ≡ chosen
 empty_numbers net turn [] [] rows e n = refl
 empty_numbers net turn [] (c ∷ cs) rows e n = absurd (omega arith)
 empty_numbers net turn (p ∷ ps) chosen rows e n = absurd (omega arith)
@@ -43,9 +43,9 @@ walk_begin net names inside turn start now narrowed less supported = record {
   some = λ lt knot one. absurd (omega arith);
 }
 
-module _ (net : Net) (wired : IsWired net) (names : Names) (inside : ℕ → Bool) (turn : ℕ) (start now : Family) (places : List Place) (chosen : List ℕ) (w : IsWalking net names inside turn start now places chosen) where
+module _ (net : Net) (wired : IsWired net) (names : Names) (inside : ℕ → Bool) (turn : ℕ) (start now : Family) (places : List KeyPlace) (chosen : List ℕ) (w : IsWalking net names inside turn start now places chosen) where
   -- One more place.
-  pub walking_more : (next : Family) (p : Place) (number : ℕ) → side_of_place p < length (all_sides net.primitives) → inside (side_of_place p) ≡ true → IsStepped net names inside turn p now next number
+  pub walking_more : (next : Family) (p : KeyPlace) (number : ℕ) → side_of_place p < length (all_sides net.primitives) → inside (side_of_place p) ≡ true → IsStepped net names inside turn p now next number
       → IsWalking net names inside turn start next (places ++ p ∷ []) (chosen ++ number ∷ [])
   walking_more next p number side_in is_in s = record {
     settling = subst (λ (n : ℕ). Settling (IsChosen net names inside start) (IsChosen net names inside next) net turn (places ++ p ∷ []) (chosen ++ n ∷ [])) s.number_is
@@ -75,7 +75,7 @@ module _ (net : Net) (wired : IsWired net) (names : Names) (inside : ℕ → Boo
   }
 
 -- Where all rows that work at a settled side have one number, each value there suits them.
-module _ (net : Net) (wired : IsWired net) (names : Names) (inside : ℕ → Bool) (turn : ℕ) (p : Place) (now : Family) (row : ℕ)
+module _ (net : Net) (wired : IsWired net) (names : Names) (inside : ℕ → Bool) (turn : ℕ) (p : KeyPlace) (now : Family) (row : ℕ)
     (side_in : side_of_place p < length (all_sides net.primitives)) (in_table : IsRowOf net (side_of_place p) row)
     (settled : IsSettledAt net names now (side_of_place p)) (alone : (r : ℕ) → RowWorks net names now (side_of_place p) r → number_of net turn p r ≡ number_of net turn p row) where
   suits_here : (j : ℕ) (v : JointValue) → j < length net.joints → AtSide net j (side_of_place p) → now j v ≡ true → suits p (value_mark net (side_of_place p) j v) (mark_at_joint net (side_of_place p) row j) ≡ true

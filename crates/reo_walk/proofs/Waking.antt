@@ -16,19 +16,19 @@ use Rattle.reo_side_tables.specs.Listing.{StandsIn}
 use Rattle.reo_side_tables.specs.Marks.{IsJointOf, group_in}
 use Rattle.reo_rows.specs.declared.rows.Rows.{Rows}
 use Rattle.reo_rows.specs.declared.groups.Group.{Group}
-use Rattle.reo_rows.specs.Flags.{flag}
+use Rattle.reo_rows.specs.RowFlags.{flag}
 use Rattle.reo_rows.specs.Sets.{code_of, family_of}
 use Rattle.reo_rows.specs.Groups.{live_in, AreNoted, IsNoted}
 use Rattle.reo_rows.specs.Rows.{AreLive, IsSifted, IsSpared}
 use Rattle.reo_rows.proofs.Thinned.{live_less}
-use Rattle.reo_propagate.specs.declared.queue.Queue.{Queue}
+use Rattle.reo_propagate.specs.declared.queue.WaitingSides.{WaitingSides}
 use Rattle.reo_propagate.specs.Queues.{IsWoken}
 use Rattle.reo_propagate.specs.Narrow.{IsAtRest, IsAwakeOrStays, IsTended, nobody}
 use Rattle.reo_propagate.proofs.Resting.{rests_same}
 use Rattle.reo_walk.proofs.Staying.{stays_at_rest}
 
 -- What is known of sides while a joint lost values: of some sides by what was there before, of the others by what is left.
-pub record AreKept (net : Net) (names : Names) (inside : ℕ → Bool) (todo : ℕ → Bool) (old new : Family) (rows : Rows) (queue : Queue) : Type 0 where
+pub record AreKept (net : Net) (names : Names) (inside : ℕ → Bool) (todo : ℕ → Bool) (old new : Family) (rows : Rows) (queue : WaitingSides) : Type 0 where
   pub one_each : length queue.waits ≡ side_count net
   pub works : (side : ℕ) → inside side ≡ true → AreLive net names (cond (todo side) old new) side rows
   pub at_rest : (side : ℕ) → inside side ≡ true → get_or queue.waits side true ≡ false → IsAtRest net names (cond (todo side) old new) side rows
@@ -60,7 +60,7 @@ abbrev pub without : ℕ → (ℕ → Bool) → ℕ → Bool
 without side todo s = todo s && not (s == side)
 
 module _ (net : Net) (names : Names) (inside : ℕ → Bool) (todo : ℕ → Bool) (old new : Family) (less : (j : ℕ) (v : JointValue) → new j v ≡ true → old j v ≡ true)
-    (side joint : ℕ) (is_in : inside side ≡ true) (open_still : todo side ≡ true) (rows_old rows_new : Rows) (before after : Queue) (lost : Bool)
+    (side joint : ℕ) (is_in : inside side ≡ true) (open_still : todo side ≡ true) (rows_old rows_new : Rows) (before after : WaitingSides) (lost : Bool)
     (kept : AreKept net names inside todo old new rows_old before) where
   other_for : (a b : Bool) → b ≡ false → (a && not b) ≡ a
   other_for true b is = ap not is
@@ -139,7 +139,7 @@ module _ (net : Net) (names : Names) (inside : ℕ → Bool) (todo : ℕ → Boo
   kept_more stays (inr (same, no_flow, slept, s)) = spared same slept s (stays rows_old rows_new (rest_here slept) s no_flow)
 
 -- At first all sides of the joint are to be looked at, and others stay as they are.
-pub kept_first : (net : Net) (names : Names) (inside todo : ℕ → Bool) (old new : Family) (rows : Rows) (queue : Queue) → ((j : ℕ) (v : JointValue) → new j v ≡ true → old j v ≡ true)
+pub kept_first : (net : Net) (names : Names) (inside todo : ℕ → Bool) (old new : Family) (rows : Rows) (queue : WaitingSides) → ((j : ℕ) (v : JointValue) → new j v ≡ true → old j v ≡ true)
     → ((side : ℕ) → todo side ≡ false → (j : ℕ) (v : JointValue) → j < length net.joints → AtSide net j side → new j v ≡ old j v)
     → ((side : ℕ) → inside side ≡ true → AreLive net names old side rows) → ((side : ℕ) → inside side ≡ true → get_or queue.waits side true ≡ false → IsAtRest net names old side rows)
     → length queue.waits ≡ side_count net → ((side : ℕ) → inside side ≡ true → get_or queue.waits side true ≡ true → StandsIn queue.line side) → ((m : ℕ) → m < length queue.line → inside (get_or queue.line m 0) ≡ true)
@@ -161,7 +161,7 @@ kept_first net names inside todo old new rows queue less same live rest one wait
     rest_for side false is r = rests_same net names old new side rows (λ j v lt at. same side is j v lt at) r
 
 -- In the end no side is to be looked at.
-pub kept_last : (net : Net) (names : Names) (inside todo : ℕ → Bool) (old : Family) (alive : List (List Bool)) (rows : Rows) (queue : Queue) → ((side : ℕ) → todo side ≡ false) → AreKept net names inside todo old (family_of alive) rows queue
+pub kept_last : (net : Net) (names : Names) (inside todo : ℕ → Bool) (old : Family) (alive : List (List Bool)) (rows : Rows) (queue : WaitingSides) → ((side : ℕ) → todo side ≡ false) → AreKept net names inside todo old (family_of alive) rows queue
     → IsTended net names inside (nobody net) alive rows queue
 kept_last net names inside todo old alive rows queue none kept = record {
   one_each = kept.one_each;
@@ -234,7 +234,7 @@ module _ (net : Net) (wired : IsWired net) (names : Names) (inside : ℕ → Boo
       let off = neither a b side h in
       elsewhere j (code_of v) (λ e. elim (two side (subst (λ (x : ℕ). AtSide net x side) e at)) [ inl x ↦ off.0 x | inr x ↦ off.1 x ])
 
-  pub kept_begin : (rows : Rows) (queue : Queue) → IsTended net names inside (nobody net) old rows queue → AreKept net names inside (two_sides a b) (family_of old) (family_of new) rows queue
+  pub kept_begin : (rows : Rows) (queue : WaitingSides) → IsTended net names inside (nobody net) old rows queue → AreKept net names inside (two_sides a b) (family_of old) (family_of new) rows queue
   kept_begin rows queue tended =
       kept_first net names inside (two_sides a b) (family_of old) (family_of new) rows queue less_values same_away tended.works
       (λ side is_in slept. tended.at_rest side is_in (λ e. (let lt = slept_in queue.waits side slept in omega (arith, lt, e, tended.one_each))) slept) tended.one_each tended.waiting tended.within
@@ -243,19 +243,19 @@ module _ (net : Net) (wired : IsWired net) (names : Names) (inside : ℕ → Boo
   stays_side side of rows_old rows_new rest spared no_flow =
       stays_at_rest net wired names (family_of old) (family_of new) side joint rows_old rows_new of less_values (λ j n lt at. same_flow no_flow j n) (λ j v lt at off. elsewhere j (code_of v) off) rest spared
 
-  pub kept_one : (r0 r1 : Rows) (q0 q1 : Queue) → AreKept net names inside (two_sides a b) (family_of old) (family_of new) r0 q0 → IsAwakeOrStays net (family_of new) r0 r1 q0 q1 a joint lost
+  pub kept_one : (r0 r1 : Rows) (q0 q1 : WaitingSides) → AreKept net names inside (two_sides a b) (family_of old) (family_of new) r0 q0 → IsAwakeOrStays net (family_of new) r0 r1 q0 q1 a joint lost
       → AreKept net names inside (without a (two_sides a b)) (family_of old) (family_of new) r1 q1
   kept_one r0 r1 q0 q1 kept awake =
       kept_more net names inside (two_sides a b) (family_of old) (family_of new) less_values a joint a_in (two_first a b) r0 r1 q0 q1 lost kept (stays_side a of_a) awake
 
-  pub kept_both : (r1 r2 : Rows) (q1 q2 : Queue) → AreKept net names inside (without a (two_sides a b)) (family_of old) (family_of new) r1 q1 → IsAwakeOrStays net (family_of new) r1 r2 q1 q2 b joint lost
+  pub kept_both : (r1 r2 : Rows) (q1 q2 : WaitingSides) → AreKept net names inside (without a (two_sides a b)) (family_of old) (family_of new) r1 q1 → IsAwakeOrStays net (family_of new) r1 r2 q1 q2 b joint lost
       → IsTended net names inside (nobody net) new r2 q2
   kept_both r1 r2 q1 q2 kept awake =
       kept_last net names inside (without b (without a (two_sides a b))) (family_of old) new r2 q2 (none_left a b)
       (kept_more net names inside (without a (two_sides a b)) (family_of old) (family_of new) less_values b joint b_in (second_left a b apart) r1 r2 q1 q2 lost kept (stays_side b of_b) awake)
 
   -- Where nothing was lost, all stays as it was.
-  pub kept_same : (rows : Rows) (queue : Queue) → ((c : ℕ) → flag new joint c ≡ flag old joint c) → IsTended net names inside (nobody net) old rows queue → IsTended net names inside (nobody net) new rows queue
+  pub kept_same : (rows : Rows) (queue : WaitingSides) → ((c : ℕ) → flag new joint c ≡ flag old joint c) → IsTended net names inside (nobody net) old rows queue → IsTended net names inside (nobody net) new rows queue
   kept_same rows queue same tended = record {
     one_each = tended.one_each;
     works = λ side is_in. live_less net names (family_of old) (family_of new) side rows less_values (tended.works side is_in);

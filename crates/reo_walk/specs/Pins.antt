@@ -1,6 +1,6 @@
 -- Joints of which one value alone may be left.
 use Rattle.std.specs.Prelude.{ℕ, ◌<◌, ◌≤◌, ◌≡◌, ◌≢◌, Bool, true, false, List, slice_index}
-use Rattle.reo_rows.specs.Flags.{flag, AreAlikeTables}
+use Rattle.reo_rows.specs.RowFlags.{flag, AreAlikeTables}
 use Rattle.reo_propagate.specs.declared.thinning.Loss.{Loss}
 
 -- Of the first n values of a joint all but the one have gone, and nothing else.

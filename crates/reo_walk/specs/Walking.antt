@@ -9,15 +9,15 @@ use Rattle.reo_joint_values.specs.Supported.{IsSupported, IsNarrowed}
 use Rattle.reo_joint_values.specs.Chosen.{IsChosen}
 use Rattle.reo_support.specs.Sets.{OneAtLoops}
 use Rattle.reo_joint_values.specs.Works.{RowWorks}
-use Rattle.reo_rows.specs.Flags.{flag}
-use Rattle.reo_walk.specs.declared.place.Place.{Place}
+use Rattle.reo_rows.specs.RowFlags.{flag}
+use Rattle.reo_walk.specs.declared.place.KeyPlace.{KeyPlace}
 use Rattle.reo_walk.specs.declared.walking.Least.{Least}
 use Rattle.reo_walk.specs.Places.{side_of_place, number_of, held_to}
 use Rattle.reo_walk.specs.Settling.{HasChosen, HasNone, Settling}
 
 -- A walk that came to its end: these numbers are settled, and on a knot where each loop joint has one value left, an assignment has
 -- them.
-pub record IsWalked (net : Net) (names : Names) (inside : ℕ → Bool) (turn : ℕ) (start now : Family) (places : List Place)
+pub record IsWalked (net : Net) (names : Names) (inside : ℕ → Bool) (turn : ℕ) (start now : Family) (places : List KeyPlace)
     (chosen : List ℕ) : Type 0 where
   pub settling : Settling (IsChosen net names inside start) (IsChosen net names inside now) net turn places chosen
   pub supported : IsSupported net names inside now
@@ -29,7 +29,7 @@ abbrev pub IsStuck : Net → Names → (ℕ → Bool) → Family → Type 0
 IsStuck net names inside start = IsKnot net inside → OneAtLoops net inside start → HasNone net names inside start
 
 -- How far a walk has come.
-pub record IsWalking (net : Net) (names : Names) (inside : ℕ → Bool) (turn : ℕ) (start now : Family) (places : List Place)
+pub record IsWalking (net : Net) (names : Names) (inside : ℕ → Bool) (turn : ℕ) (start now : Family) (places : List KeyPlace)
     (chosen : List ℕ) : Type 0 where
   pub settling : Settling (IsChosen net names inside start) (IsChosen net names inside now) net turn places chosen
   pub supported : IsSupported net names inside now
@@ -42,7 +42,7 @@ abbrev pub NoneLive : List (List Bool) → ℕ → Type 0
 NoneLive live side = (row : ℕ) → flag live side row ≡ true → ⊥
 
 -- A row with its flag that puts the least number at a place among the first n rows, and whether all of them put that number there.
-pub record IsLeastBelow (net : Net) (turn : ℕ) (p : Place) (live : List (List Bool)) (n : ℕ) (least : Least) : Type 0 where
+pub record IsLeastBelow (net : Net) (turn : ℕ) (p : KeyPlace) (live : List (List Bool)) (n : ℕ) (least : Least) : Type 0 where
   pub below : least.row < n
   pub set : flag live (side_of_place p) least.row ≡ true
   pub number : least.number ≡ number_of net turn p least.row
@@ -51,12 +51,12 @@ pub record IsLeastBelow (net : Net) (turn : ℕ) (p : Place) (live : List (List 
       → number_of net turn p r ≡ number_of net turn p least.row
 
 -- The least of the first n rows of a side, if one has its flag.
-abbrev pub IsBest : Net → ℕ → Place → List (List Bool) → ℕ → Option Least → Type 0
+abbrev pub IsBest : Net → ℕ → KeyPlace → List (List Bool) → ℕ → Option Least → Type 0
 IsBest net turn p live n None = (r : ℕ) → r < n → flag live (side_of_place p) r ≡ true → ⊥
 IsBest net turn p live n (Some least) = IsLeastBelow net turn p live n least
 
 -- One step of a walk: the place is held to the least number of a row that works there, and narrowed.
-pub record IsStepped (net : Net) (names : Names) (inside : ℕ → Bool) (turn : ℕ) (p : Place) (now next : Family) (number : ℕ)
+pub record IsStepped (net : Net) (names : Names) (inside : ℕ → Bool) (turn : ℕ) (p : KeyPlace) (now next : Family) (number : ℕ)
     : Type 0 where
   pub row : ℕ
   pub in_table : IsRowOf net (side_of_place p) row

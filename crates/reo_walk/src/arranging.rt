@@ -10,13 +10,13 @@ ghost use Rattle.reo_rows.specs.Sets.{family_of, names_of};
 ghost use Rattle.reo_propagate.specs.Queues.{among};
 ghost use Rattle.reo_propagate.specs.Basis.{IsSearchOn};
 ghost use Rattle.reo_propagate.specs.ListedSets.{listed, AreInSupply};
-ghost use Rattle.reo_walk.specs.declared.place.Place.{Place as Spot};
+ghost use Rattle.reo_walk.specs.declared.place.KeyPlace.{KeyPlace as Spot};
 ghost use Rattle.reo_walk.specs.Places.{side_of_place};
 ghost use Rattle.reo_walk.specs.Settling.{HasNone, IsFirstWith};
 ghost use Rattle.reo_walk.specs.Arranged.{HasNoAssignment, IsFirstPart};
 
 use crate::part::{Part, part_of};
-use crate::place::Place;
+use crate::place::KeyPlace;
 use crate::places::places_of;
 use crate::walking::walk;
 use reo_knots::Knots;
@@ -38,7 +38,7 @@ pub fn first_by<P: Primitive>(
     basis: &Basis<'_, P>,
     sides: &[usize],
     state: &mut State,
-    places: &[Place],
+    places: &[KeyPlace],
     turn: u64,
 ) -> Result<Option<List<usize>>, NoMemory>
     requires search { let net = net_of P.behaviour basis.now.circuit.now in

@@ -4,18 +4,18 @@ ghost use Rattle.reo_net_base.specs.Net.{net_of, all_sides};
 ghost use Rattle.reo_net_laws.specs.Ends.{IsRowOf};
 ghost use Rattle.reo_net_laws.specs.Parts.{IsClosed};
 ghost use Rattle.reo_side_tables.specs.Marks.{IsJointOf};
-ghost use Rattle.reo_rows.specs.Flags.{flag};
+ghost use Rattle.reo_rows.specs.RowFlags.{flag};
 ghost use Rattle.reo_rows.specs.Sets.{value_of};
 ghost use Rattle.reo_propagate.specs.Basis.{IsSearchOn};
 ghost use Rattle.reo_propagate.specs.Queues.{among};
 ghost use Rattle.reo_walk.specs.Holding.{IsHeldTo, IsHeldSoFar, IsHeld};
 ghost use Rattle.reo_walk.specs.Places.{side_of_place, value_suits};
 
-use crate::place::{Place, side_of_place, suits};
+use crate::place::{KeyPlace, side_of_place, suits};
 use reo_net_base::Primitive;
 use reo_net_circuit::Circuit;
 use reo_propagate::{Loss, State, wake};
-use reo_rows::{Basis, FLOWS, Flags, mark_seen};
+use reo_rows::{Basis, FLOWS, RowFlags, mark_seen};
 use reo_side_tables::{giver_side, mark_at_joint, taker_side};
 use reo_values::NoMemory;
 
@@ -33,8 +33,8 @@ pub(crate) fn one_more(loss: Loss, code: usize) -> Loss
 /// Takes the values of a joint away that do not suit a row at a place.
 fn hold_joint<P: Primitive>(
     circuit: &Circuit<P>,
-    alive: &mut Flags,
-    place: Place,
+    alive: &mut RowFlags,
+    place: KeyPlace,
     row: usize,
     joint: usize,
 ) -> Loss
@@ -66,7 +66,7 @@ fn hold_and_wake<P: Primitive>(
     basis: &Basis<'_, P>,
     sides: &[usize],
     state: &mut State,
-    place: Place,
+    place: KeyPlace,
     row: usize,
     joint: usize,
 ) -> Result<(), NoMemory>
@@ -118,7 +118,7 @@ pub(crate) fn hold<P: Primitive>(
     basis: &Basis<'_, P>,
     sides: &[usize],
     state: &mut State,
-    place: Place,
+    place: KeyPlace,
     row: usize,
 ) -> Result<(), NoMemory>
     requires search { let net = net_of P.behaviour basis.now.circuit.now in

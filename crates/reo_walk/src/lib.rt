@@ -13,6 +13,6 @@ mod walking;
 pub use arranging::{arrange, first_by};
 pub use part::{Part, part_of};
 pub use pinning::pin;
-pub use place::Place;
+pub use place::KeyPlace;
 pub use places::places_of;
 pub use walking::walk;

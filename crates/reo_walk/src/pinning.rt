@@ -10,12 +10,12 @@ ghost use Rattle.reo_walk.specs.Pins.{IsPinnedBelow, IsPinned, ArePinned};
 use crate::hold::one_more;
 use reo_net_base::Primitive;
 use reo_propagate::{Loss, State, wake};
-use reo_rows::{Basis, Flags};
+use reo_rows::{Basis, RowFlags};
 use reo_side_tables::{giver_side, taker_side};
 use reo_values::NoMemory;
 
 /// Takes all values of a joint away but one.
-fn pin_joint(alive: &mut Flags, joint: usize, chosen: usize) -> Loss
+fn pin_joint(alive: &mut RowFlags, joint: usize, chosen: usize) -> Loss
     requires { joint < length alive.old }
     ensures { IsPinnedBelow joint chosen (length (slice_index_or alive.old joint [])) alive.old
         alive.new result }

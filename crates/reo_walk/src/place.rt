@@ -10,34 +10,34 @@ use reo_net_circuit::Circuit;
 
 /// What is made least: the class of a side, or the number of its row.
 #[derive(Clone, Copy, Debug, PartialEq, Eq)]
-pub enum Place {
+pub enum KeyPlace {
     Class(usize),
     Row(usize),
 }
 
 /// The side of a place.
-pub(crate) fn side_of_place(place: Place) -> usize
+pub(crate) fn side_of_place(place: KeyPlace) -> usize
     ensures { result ≡ side_of_place place }
 {
     match place {
-        Place::Class(side) => side,
-        Place::Row(side) => side,
+        KeyPlace::Class(side) => side,
+        KeyPlace::Row(side) => side,
     }
 }
 
 /// Whether one mark is as the other at a place: a class tells flow, no flow and jam apart, a row
 /// all four marks.
-pub(crate) fn suits(place: Place, mark: Mark, other: Mark) -> bool
+pub(crate) fn suits(place: KeyPlace, mark: Mark, other: Mark) -> bool
     ensures { result ≡ suits place mark other }
 {
     match place {
-        Place::Class(_) => match mark {
+        KeyPlace::Class(_) => match mark {
             Mark::F => matches!(other, Mark::F),
             Mark::G => matches!(other, Mark::G | Mark::R),
             Mark::R => matches!(other, Mark::G | Mark::R),
             Mark::J => matches!(other, Mark::J),
         },
-        Place::Row(_) => match mark {
+        KeyPlace::Row(_) => match mark {
             Mark::F => matches!(other, Mark::F),
             Mark::G => matches!(other, Mark::G),
             Mark::R => matches!(other, Mark::R),
@@ -49,7 +49,7 @@ pub(crate) fn suits(place: Place, mark: Mark, other: Mark) -> bool
 /// The number that a row puts at a place: its class in the round of this number, or itself.
 pub(crate) fn number_of<P: Primitive>(
     circuit: &Circuit<P>,
-    place: Place,
+    place: KeyPlace,
     row: usize,
     turn: u64,
 ) -> usize
@@ -59,12 +59,12 @@ pub(crate) fn number_of<P: Primitive>(
     ensures { result ≡ number_of (net_of P.behaviour circuit.now) turn place row }
 {
     match place {
-        Place::Class(side) => {
+        KeyPlace::Class(side) => {
             let owner = circuit.owner(side);
             circuit
                 .primitive(owner.primitive)
                 .class(owner.side, row, turn)
         }
-        Place::Row(_) => row,
+        KeyPlace::Row(_) => row,
     }
 }

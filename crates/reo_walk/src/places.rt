@@ -3,7 +3,7 @@ ghost use Rattle.std.specs.Prelude.{◌≡◌, ◌<◌, ℕ, IfOk, length, slice
 ghost use Rattle.reo_net_base.specs.Net.{net_of, all_sides};
 ghost use Rattle.reo_walk.specs.Places.{places_in};
 
-use crate::place::Place;
+use crate::place::KeyPlace;
 use reo_net_base::Primitive;
 use reo_net_circuit::Circuit;
 use reo_values::{List, NoMemory};
@@ -15,7 +15,7 @@ pub fn places_of<P: Primitive>(
     alloc: Global,
     circuit: &Circuit<P>,
     sides: &[usize],
-) -> Result<List<Place>, NoMemory>
+) -> Result<List<KeyPlace>, NoMemory>
     requires { let net = net_of P.behaviour circuit.now in
         (m : ℕ) → m < length sides.now
         → slice_index sides.now m < length (all_sides net.primitives) }
@@ -25,14 +25,14 @@ pub fn places_of<P: Primitive>(
     let mut places = List::new(alloc);
     for side in sides {
         if circuit.leads(*side) {
-            places.push(Place::Class(*side))?;
+            places.push(KeyPlace::Class(*side))?;
         }
     }
     for side in sides {
-        places.push(Place::Class(*side))?;
+        places.push(KeyPlace::Class(*side))?;
     }
     for side in sides {
-        places.push(Place::Row(*side))?;
+        places.push(KeyPlace::Row(*side))?;
     }
     Ok(places)
 }

@@ -3,21 +3,21 @@ ghost use Rattle.std.specs.Prelude.{◌≡◌, ◌<◌, ◌+◌, ℕ, true, [], 
 ghost use Rattle.reo_net_base.specs.Net.{net_of, all_sides, row_count};
 ghost use Rattle.reo_net_laws.specs.Parts.{IsClosed};
 ghost use Rattle.reo_side_tables.specs.Marks.{side_in};
-ghost use Rattle.reo_rows.specs.Flags.{flag, AreAlikeTables};
+ghost use Rattle.reo_rows.specs.RowFlags.{flag, AreAlikeTables};
 ghost use Rattle.reo_rows.specs.Sets.{family_of, names_of};
 ghost use Rattle.reo_propagate.specs.Basis.{IsSearchOn};
 ghost use Rattle.reo_propagate.specs.Queues.{among};
-ghost use Rattle.reo_walk.specs.declared.place.Place.{Place as Spot};
+ghost use Rattle.reo_walk.specs.declared.place.KeyPlace.{KeyPlace as Spot};
 ghost use Rattle.reo_walk.specs.Places.{side_of_place};
 ghost use Rattle.reo_walk.specs.Settling.{HasNone};
 ghost use Rattle.reo_walk.specs.Walking.{IsWalked, IsStuck, IsStepped, IsBest, IsLeastBelow, NoneLive};
 
 use crate::hold::hold;
-use crate::place::{Place, number_of, side_of_place};
+use crate::place::{KeyPlace, number_of, side_of_place};
 use reo_net_base::Primitive;
 use reo_net_circuit::Circuit;
 use reo_propagate::{State, propagate};
-use reo_rows::{Basis, Flags};
+use reo_rows::{Basis, RowFlags};
 use reo_values::{List, NoMemory};
 use std::alloc::Global;
 
@@ -32,8 +32,8 @@ pub(crate) struct Least {
 /// The least of the first rows, and of one more.
 fn consider<P: Primitive>(
     circuit: &Circuit<P>,
-    live: &Flags,
-    place: Place,
+    live: &RowFlags,
+    place: KeyPlace,
     turn: u64,
     best: Option<Least>,
     row: usize,
@@ -77,8 +77,8 @@ fn consider<P: Primitive>(
 /// The row with its flag that puts the least number at a place.
 pub(crate) fn least_row<P: Primitive>(
     circuit: &Circuit<P>,
-    live: &Flags,
-    place: Place,
+    live: &RowFlags,
+    place: KeyPlace,
     turn: u64,
 ) -> Option<Least>
     requires side { let net = net_of P.behaviour circuit.now in
@@ -105,7 +105,7 @@ fn step<P: Primitive>(
     basis: &Basis<'_, P>,
     sides: &[usize],
     state: &mut State,
-    place: Place,
+    place: KeyPlace,
     turn: u64,
 ) -> Result<Option<usize>, NoMemory>
     requires search { let net = net_of P.behaviour basis.now.circuit.now in
@@ -148,7 +148,7 @@ pub fn walk<P: Primitive>(
     basis: &Basis<'_, P>,
     sides: &[usize],
     state: &mut State,
-    places: &[Place],
+    places: &[KeyPlace],
     turn: u64,
 ) -> Result<Option<List<usize>>, NoMemory>
     requires search { let net = net_of P.behaviour basis.now.circuit.now in
@@ -177,7 +177,7 @@ pub fn walk<P: Primitive>(
             Some(number) => chosen.push(number)?,
         }
     }
-    match least_row(basis.circuit, &state.rows.live, Place::Row(sides[0]), turn) {
+    match least_row(basis.circuit, &state.rows.live, KeyPlace::Row(sides[0]), turn) {
         None => Ok(None),
         Some(_) => Ok(Some(chosen)),
     }

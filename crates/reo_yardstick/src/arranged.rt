@@ -8,7 +8,7 @@ ghost use Rattle.reo_reach.specs.Supplied.{AreShort, IsSupply};
 
 use crate::bounds::{are_within, loops_are_single};
 use crate::sets::sets_of;
-use crate::tally::{Tally, count};
+use crate::tally::{SearchTally, count};
 use reo_kinds::Kind;
 use reo_knots::{Knots, find_knots};
 use reo_net_base::Colouring;
@@ -95,7 +95,7 @@ pub fn all_arranged<L: Ledger>(
     plain: &Colouring,
     turn: u64,
     steps: &mut Steps<L>,
-    tally: &mut Tally,
+    tally: &mut SearchTally,
 ) -> Result<bool, NoMemory>
     requires { IsColouring (net_of behaviour_of circuit.now) plain.now.rows plain.now.items }
 {

@@ -19,7 +19,7 @@ mod values;
 use crate::chance::Chance;
 use crate::engines::engine_of;
 use crate::rounds::rounds_agree;
-use crate::tally::{Tally, count, empty_tally};
+use crate::tally::{SearchTally, count, empty_tally};
 use crate::texts::text_of;
 use reo_engine::PlanFault;
 use reo_runner::release_engine;
@@ -35,7 +35,7 @@ fn agree_on<L: Ledger>(
     text: &str,
     steps: &mut Steps<L>,
     chance: &mut Chance,
-    tally: &mut Tally,
+    tally: &mut SearchTally,
 ) -> Result<bool, PlanFault> {
     match engine_of(alloc, text.as_bytes()) {
         Some(engine) => {
@@ -57,7 +57,7 @@ fn compare<L: Ledger>(
     rt: &HostRuntime,
     steps: &mut Steps<L>,
     chance: &mut Chance,
-    tally: &mut Tally,
+    tally: &mut SearchTally,
 ) -> io::Result<()> {
     let text = text_of(rt.alloc(), chance)?;
     match agree_on(rt.alloc(), text.as_str(), steps, chance, tally) {
@@ -85,7 +85,7 @@ fn compare_all<L: Ledger>(rt: &HostRuntime, blank: Blank) -> io::Result<()>
     for _ in 0..1000 {
         compare(rt, &mut steps, &mut chance, &mut tally)?;
     }
-    let Tally {
+    let SearchTally {
         refused,
         circuits,
         rounds,

@@ -5,7 +5,7 @@ ghost use Rattle.reo_kinds.specs.Kinds.{behaviour_of};
 ghost use Rattle.reo_net_laws.specs.Knots.{AreKnots, knot_count};
 ghost use Rattle.reo_reach.specs.Supplied.{AreShort, IsSupply};
 
-use crate::tally::{Tally, count};
+use crate::tally::{SearchTally, count};
 use reo_kinds::Kind;
 use reo_knots::{Knots, find_knots};
 use reo_net_circuit::Circuit;
@@ -41,7 +41,7 @@ pub fn count_parts<L: Ledger>(
     alloc: Global,
     circuit: &Circuit<Kind>,
     steps: &mut Steps<L>,
-    tally: &mut Tally,
+    tally: &mut SearchTally,
 ) -> Result<(), NoMemory> {
     let knots = find_knots(alloc, circuit)?;
     let supply = reach(alloc, circuit)?;

@@ -2,7 +2,7 @@
 use crate::arranged::all_arranged;
 use crate::chance::Chance;
 use crate::parts::count_parts;
-use crate::tally::{Tally, count};
+use crate::tally::{SearchTally, count};
 use reo_engine::{Engine, Plan, PlanFault};
 use reo_kinds::Kind;
 use reo_net::plain_first;
@@ -79,7 +79,7 @@ fn all_agree<L: Ledger>(
     engine: &mut Engine<Kind>,
     steps: &mut Steps<L>,
     prepared: bool,
-    tally: &mut Tally,
+    tally: &mut SearchTally,
 ) -> Result<bool, PlanFault> {
     engine.known();
     let turn = engine.rounds() + 1;
@@ -108,7 +108,7 @@ fn change_offer(engine: &mut Engine<Kind>, chance: &mut Chance, port: usize) {
 }
 
 /// Makes a round of a plan, if it suits.
-fn make(engine: &mut Engine<Kind>, plan: Plan, tally: &mut Tally) {
+fn make(engine: &mut Engine<Kind>, plan: Plan, tally: &mut SearchTally) {
     if engine.suits(&plan) && engine.rounds() < 1000 {
         count(&mut tally.rounds, true);
         count(&mut tally.idle, plan.idle);
@@ -123,7 +123,7 @@ pub fn rounds_agree<L: Ledger>(
     engine: &mut Engine<Kind>,
     steps: &mut Steps<L>,
     chance: &mut Chance,
-    tally: &mut Tally,
+    tally: &mut SearchTally,
 ) -> Result<bool, PlanFault> {
     for _ in 0..8 {
         for port in 0..engine.circuit().ports() {

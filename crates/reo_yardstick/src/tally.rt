@@ -2,7 +2,7 @@
 
 /// How much was compared, and what came about.
 #[derive(Drop)]
-pub struct Tally {
+pub struct SearchTally {
     /// Texts that are no circuits, or too large ones.
     pub refused: u64,
     pub circuits: u64,
@@ -24,8 +24,8 @@ pub struct Tally {
 }
 
 /// Nothing was compared.
-pub fn empty_tally() -> Tally {
-    Tally {
+pub fn empty_tally() -> SearchTally {
+    SearchTally {
         refused: 0,
         circuits: 0,
         rounds: 0,

@@ -1,8 +1,8 @@
 -- Lifted programs stand for themselves.
 use Rattle.std.proofs.Common.{◌≡◌, ◌∙◌, ℕ, List, [], ◌∷◌, ◌++◌, map, refl, ap}
 use Rattle.reo_trees.specs.declared.items.Item.{Item}
-use Rattle.reo_trees.specs.declared.items.Form.{Form}
-use Rattle.reo_trees.specs.declared.items.Form.TheVariants as plain
+use Rattle.reo_trees.specs.declared.items.ItemForm.{ItemForm}
+use Rattle.reo_trees.specs.declared.items.ItemForm.TheVariants as plain
 use Rattle.reo_trees.specs.declared.programs.Connector.{Connector}
 use Rattle.reo_trees.specs.declared.programs.Declaration.{Declaration}
 use Rattle.reo_trees.specs.declared.programs.Declaration.TheVariants as declarations
@@ -13,7 +13,7 @@ names-lifted : (names : List (List ℕ)) → map (ref_name []) (map lifted_ref n
 names-lifted [] = refl
 names-lifted (n ∷ ns) = ap (λ l. n ∷ l) (names-lifted ns)
 
-form-lifted : (line : ℕ) (f : Form) → items_of [] line (lifted_form f) ≡ on_line line f ∷ []
+form-lifted : (line : ℕ) (f : ItemForm) → items_of [] line (lifted_form f) ≡ on_line line f ∷ []
 form-lifted line (plain.Node name term) = refl
 form-lifted line (plain.Joined channel first second) = refl
 form-lifted line (plain.Used name arguments) = ap (λ l. on_line line (plain.Used name l) ∷ []) (names-lifted arguments)

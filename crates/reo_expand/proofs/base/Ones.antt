@@ -4,8 +4,8 @@ use Rattle.std.proofs.lemmas.Bool.Decides.{nat_tests}
 use Rattle.std.specs.Prelude.{flat_map, bytes_eq}
 use Rattle.std.specs.List.{list_all}
 use Rattle.reo_trees.specs.declared.items.Item.{Item}
-use Rattle.reo_trees.specs.declared.items.Form.{Form}
-use Rattle.reo_trees.specs.declared.items.Form.TheVariants as plain
+use Rattle.reo_trees.specs.declared.items.ItemForm.{ItemForm}
+use Rattle.reo_trees.specs.declared.items.ItemForm.TheVariants as plain
 use Rattle.reo_trees.specs.declared.programs.Connector.{Connector}
 use Rattle.reo_trees.specs.declared.programs.Declaration.{Declaration}
 use Rattle.reo_trees.specs.declared.programs.Declaration.TheVariants as declarations
@@ -55,7 +55,7 @@ no-refs : (line : ℕ) (names : List (List ℕ)) → flat_map (ref_steps [] line
 no-refs line [] = refl
 no-refs line (n ∷ ns) = no-refs line ns
 
-form-steps : (before : List ConnectorTwo) (line : ℕ) (f : Form) → ArePlain before → steps_of before [] line (lifted_form f) ≡ ones 1
+form-steps : (before : List ConnectorTwo) (line : ℕ) (f : ItemForm) → ArePlain before → steps_of before [] line (lifted_form f) ≡ ones 1
 form-steps before line (plain.Node name term) h = refl
 form-steps before line (plain.Joined channel first second) h = refl
 form-steps before line (plain.Used name arguments) h =

@@ -8,7 +8,7 @@ use Rattle.std.specs.Prelude.{pos, Option, Some, None, Result, Ok, Err, nat_lt, 
 use Rattle.std.specs.List.{All}
 use Rattle.reo_trees.specs.declared.indexes.Index.{Index}
 use Rattle.reo_trees.specs.declared.items.Item.{Item}
-use Rattle.reo_trees.specs.declared.items.Form.TheVariants as plain
+use Rattle.reo_trees.specs.declared.items.ItemForm.TheVariants as plain
 use Rattle.reo_trees.specs.declared.items_two.ItemTwo.{ItemTwo}
 use Rattle.reo_trees.specs.declared.items_two.FormTwo as form
 use Rattle.reo_trees.specs.declared.items_two.FormTwo.{FormTwo}

@@ -5,7 +5,7 @@ use Rattle.std.specs.Prelude.{pos, Option, Some, None, flat_map}
 use Rattle.std.specs.List.{All, range_with_len}
 use Rattle.reo_trees.specs.declared.indexes.Index.{Index}
 use Rattle.reo_trees.specs.declared.indexes.Ref.{Ref}
-use Rattle.reo_trees.specs.declared.items.Form.TheVariants as plain
+use Rattle.reo_trees.specs.declared.items.ItemForm.TheVariants as plain
 use Rattle.reo_trees.specs.declared.items_two.ItemTwo.{ItemTwo}
 use Rattle.reo_trees.specs.declared.items_two.FormTwo as form
 use Rattle.reo_trees.specs.declared.items_two.FormTwo.{FormTwo}

@@ -5,8 +5,8 @@ use Rattle.std.specs.Fmt.{signed_decimal}
 use Rattle.reo_trees.specs.declared.indexes.Index.{Index}
 use Rattle.reo_trees.specs.declared.indexes.Ref.{Ref}
 use Rattle.reo_trees.specs.declared.items.Item.{Item}
-use Rattle.reo_trees.specs.declared.items.Form.{Form}
-use Rattle.reo_trees.specs.declared.items.Form.TheVariants as plain
+use Rattle.reo_trees.specs.declared.items.ItemForm.{ItemForm}
+use Rattle.reo_trees.specs.declared.items.ItemForm.TheVariants as plain
 use Rattle.reo_trees.specs.declared.items_two.ItemTwo.{ItemTwo}
 use Rattle.reo_trees.specs.declared.items_two.FormTwo as form
 use Rattle.reo_trees.specs.declared.items_two.FormTwo.{FormTwo}
@@ -42,7 +42,7 @@ abbrev pub used_name : List Bound → List ℕ → Option Index → List ℕ
 used_name bound name None = name
 used_name bound name (Some i) = numbered_name name (value_of bound i)
 
-abbrev pub on_line : ℕ → Form → Item
+abbrev pub on_line : ℕ → ItemForm → Item
 on_line line f = record { line = line; form = f }
 
 -- The nodes of an array, or the one node.
@@ -72,7 +72,7 @@ abbrev pub connector_for : ConnectorTwo → Instance → Connector
 connector_for c i = record { line = c.line; name = i.name; parameters = c.parameters; items = items_in i.bound c.items }
 
 -- An item uses the connector of this name.
-abbrev pub is_use_of : List ℕ → Form → Bool
+abbrev pub is_use_of : List ℕ → ItemForm → Bool
 is_use_of name (plain.Used n arguments) = bytes_eq name n
 is_use_of name f = false
 

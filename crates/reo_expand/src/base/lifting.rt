@@ -3,7 +3,7 @@ ghost use Rattle.std.specs.Prelude.{◌≡◌, IfOk, map};
 ghost use Rattle.reo_expand.specs.base.Lifted.{lifted, lifted_ref, lifted_form, lifted_item, lifted_connector, lifted_declaration};
 
 use reo_trees::{
-    Connector, ConnectorTwo, Declaration, DeclarationTwo, Form, FormTwo, Item, ItemTwo, Program,
+    Connector, ConnectorTwo, Declaration, DeclarationTwo, ItemForm, FormTwo, Item, ItemTwo, Program,
     ProgramTwo, Ref,
 };
 use reo_values::{Bytes, Copies, List, NoMemory};
@@ -27,11 +27,11 @@ fn lift_names(alloc: Global, names: &[Bytes]) -> Result<List<Ref>, NoMemory>
     Ok(refs)
 }
 
-fn lift_form(alloc: Global, form: &Form) -> Result<FormTwo, NoMemory>
+fn lift_form(alloc: Global, form: &ItemForm) -> Result<FormTwo, NoMemory>
     ensures { IfOk result (λ f. f ≡ lifted_form form.now) }
 {
     match form {
-        Form::Node { name, term } => {
+        ItemForm::Node { name, term } => {
             let name = name.copy(alloc)?;
             let term = term.copied(alloc)?;
             Ok(FormTwo::Node {
@@ -40,7 +40,7 @@ fn lift_form(alloc: Global, form: &Form) -> Result<FormTwo, NoMemory>
                 term,
             })
         }
-        Form::Joined {
+        ItemForm::Joined {
             channel,
             first,
             second,
@@ -54,7 +54,7 @@ fn lift_form(alloc: Global, form: &Form) -> Result<FormTwo, NoMemory>
                 second,
             })
         }
-        Form::Used { name, arguments } => {
+        ItemForm::Used { name, arguments } => {
             let name = name.copy(alloc)?;
             let arguments = lift_names(alloc, arguments.as_slice())?;
             Ok(FormTwo::Used {

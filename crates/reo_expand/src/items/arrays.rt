@@ -1,7 +1,7 @@
 //! The nodes of arrays.
 ghost use Rattle.std.specs.Prelude.{◌≡◌, ◌≤◌, ◌++◌, pos, IfOk, OnOk, map, length};
 ghost use Rattle.std.specs.List.{range_with_len};
-ghost use Rattle.reo_trees.specs.declared.items.Form.TheVariants as forms;
+ghost use Rattle.reo_trees.specs.declared.items.ItemForm.TheVariants as forms;
 ghost use Rattle.reo_expand.specs.base.Expansion.{placed_name as placed, node_names, on_line};
 ghost use Rattle.reo_expand.specs.base.Steps.{index_steps, size_count};
 ghost use Rattle.reo_expand.specs.base.Judged.{Judges};
@@ -9,7 +9,7 @@ ghost use Rattle.reo_expand.specs.base.Judged.{Judges};
 use crate::base::{Bound, ExpandFault};
 use crate::items::copying::copied_type;
 use crate::parts::{Room, number_within, placed_name};
-use reo_trees::{Form, Index, Item, TypeTerm};
+use reo_trees::{ItemForm, Index, Item, TypeTerm};
 use reo_values::{Bytes, List, NoMemory};
 use std::alloc::Global;
 
@@ -79,7 +79,7 @@ pub(crate) fn put_nodes(
         let term = copied_type(alloc, room, term)?;
         out.push(Item {
             line,
-            form: Form::Node { name, term },
+            form: ItemForm::Node { name, term },
         })?;
     }
     Ok(())

@@ -11,7 +11,7 @@ use crate::items::Walk;
 use crate::items::arrays::{names_of, put_nodes};
 use crate::items::copying::copied_channel;
 use crate::parts::{node_name, node_names, used_name};
-use reo_trees::{Channel, Form, Index, Item, Ref, TypeTerm};
+use reo_trees::{Channel, ItemForm, Index, Item, Ref, TypeTerm};
 use reo_values::{Bytes, List};
 use std::alloc::Global;
 
@@ -64,7 +64,7 @@ impl Walk {
         let channel = copied_channel(alloc, &mut self.room, channel)?;
         out.push(Item {
             line,
-            form: Form::Joined {
+            form: ItemForm::Joined {
                 channel,
                 first,
                 second,
@@ -101,7 +101,7 @@ impl Walk {
         self.counted(1)?;
         out.push(Item {
             line,
-            form: Form::Used { name, arguments },
+            form: ItemForm::Used { name, arguments },
         })?;
         Ok(())
     }

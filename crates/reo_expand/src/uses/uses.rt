@@ -8,7 +8,7 @@ ghost use Rattle.reo_expand.specs.uses.Numbers.{numbers_below};
 
 use crate::parts::numbered_name;
 use reo_rules::Names;
-use reo_trees::{Form, Item};
+use reo_trees::{ItemForm, Item};
 use reo_values::{List, NoMemory};
 use std::alloc::Global;
 
@@ -37,9 +37,9 @@ impl Uses {
             ≡ (has_name self.old.names n || is_use_of n item.now.form)) }
     {
         match &item.form {
-            Form::Node { .. } => Ok(()),
-            Form::Joined { .. } => Ok(()),
-            Form::Used { name, .. } => {
+            ItemForm::Node { .. } => Ok(()),
+            ItemForm::Joined { .. } => Ok(()),
+            ItemForm::Used { name, .. } => {
                 self.names.note(alloc, name.as_slice())?;
                 Ok(())
             }

@@ -5,8 +5,8 @@ use Rattle.std.proofs.lemmas.List.{append-nil, length-map, map-append}
 use Rattle.std.proofs.lemmas.List.Elements.{All-append}
 use Rattle.std.proofs.lemmas.Bool.{eqb-true}
 use Rattle.reo_trees.specs.declared.items.Item.{Item}
-use Rattle.reo_trees.specs.declared.items.Form.{Form}
-use Rattle.reo_trees.specs.declared.items.Form.TheVariants as forms
+use Rattle.reo_trees.specs.declared.items.ItemForm.{ItemForm}
+use Rattle.reo_trees.specs.declared.items.ItemForm.TheVariants as forms
 use Rattle.reo_trees.specs.declared.programs.Parameter.{Parameter}
 use Rattle.reo_trees.specs.declared.programs.Connector.{Connector}
 use Rattle.reo_rules.specs.declared.fault.FlatFault.TheVariants as faults
@@ -45,7 +45,7 @@ module _ (cs : List Connector) (ms : List Meaning) (matches : Matches cs ms) (de
     arguments_there nodes line flat (x ∷ xs) none n (inl is) = subst (In total) (sym is) (flat x (known_name nodes line x (left_none (missing nodes line x) _ none)))
     arguments_there nodes line flat (x ∷ xs) none n (inr rest) = arguments_there nodes line flat xs (right_none (missing nodes line x) _ none) n rest
 
-    one_item : (before : List Item) (line : ℕ) (f : Form) → ((n : List ℕ) → In (own (node_names before)) n → In total n) → ((n : List ℕ) → In (nodes_in ms path before f) n → In total n)
+    one_item : (before : List Item) (line : ℕ) (f : ItemForm) → ((n : List ℕ) → In (own (node_names before)) n → In total n) → ((n : List ℕ) → In (nodes_in ms path before f) n → In total n)
         → unknown_in_item declared connectors (parameter_names ps ++ node_names before) line f ≡ [] → arity_in_item cs line f ≡ [] → Inside total (channels_in ms types scope path (flat_name path ps arguments) before f)
     one_item before line (forms.Node name term) mine here none fits = none_inside _
     one_item before line (forms.Joined channel first second) mine here none fits =
@@ -68,7 +68,7 @@ module _ (cs : List Connector) (ms : List Meaning) (matches : Matches cs ms) (de
         widen _ total _ (λ n there. elim (in_either (map (flat_name path ps arguments) names) (used.nodes (use_path path before name)) n there) [ inl a ↦ passed n a | inr m ↦ here n m ]) inner
 
     -- The node that an item declares is among those that it comes to.
-    declared_here : (before : List Item) (f : Form) (n : List ℕ) → In (own (node_names_in f)) n → In (nodes_in ms path before f) n
+    declared_here : (before : List Item) (f : ItemForm) (n : List ℕ) → In (own (node_names_in f)) n → In (nodes_in ms path before f) n
     declared_here before (forms.Node name term) n there = there
     declared_here before (forms.Joined channel first second) n there = absurd there
     declared_here before (forms.Used name names) n there = absurd there

@@ -2,8 +2,8 @@
 use Rattle.std.proofs.Common.{◌≡◌, ◌∙◌, ℕ, List, [], ◌∷◌, ◌++◌, Bool, true, false, inl, inr, sym, ap, subst}
 use Rattle.std.proofs.lemmas.List.{append-nil, append_assoc, map-append}
 use Rattle.reo_trees.specs.declared.items.Item.{Item}
-use Rattle.reo_trees.specs.declared.items.Form.{Form}
-use Rattle.reo_trees.specs.declared.items.Form.TheVariants as forms
+use Rattle.reo_trees.specs.declared.items.ItemForm.{ItemForm}
+use Rattle.reo_trees.specs.declared.items.ItemForm.TheVariants as forms
 use Rattle.reo_trees.specs.declared.programs.Parameter.{Parameter}
 use Rattle.reo_trees.specs.declared.programs.Connector.{Connector}
 use Rattle.reo_rules.specs.declared.fault.FlatFault.{FlatFault}
@@ -39,7 +39,7 @@ parameters_once before (p ∷ ps) once none =
 names_behind : (before : List Item) (i : Item) → node_names (before ++ i ∷ []) ≡ node_names before ++ node_names_in i.form
 names_behind before i = flat_map-append (λ (k : Item). node_names_in k.form) before (i ∷ []) ∙ ap (λ ns. node_names before ++ ns) (append-nil (node_names_in i.form))
 
-one_behind : (ps : List Parameter) (before : List Item) (line : ℕ) (f : Form) → Once (parameter_names ps ++ node_names before) → twice_in_item ps before line f ≡ [] → Once ((parameter_names ps ++ node_names before) ++ node_names_in f)
+one_behind : (ps : List Parameter) (before : List Item) (line : ℕ) (f : ItemForm) → Once (parameter_names ps ++ node_names before) → twice_in_item ps before line f ≡ [] → Once ((parameter_names ps ++ node_names before) ++ node_names_in f)
 one_behind ps before line (forms.Node name term) once none = new_name (parameter_names ps ++ node_names before) line name once (left_none (twice_among (parameter_names ps ++ node_names before) line name) (twice_in_type term) none)
 one_behind ps before line (forms.Joined channel first second) once none = subst Once (sym (append-nil (parameter_names ps ++ node_names before))) once
 one_behind ps before line (forms.Used name names) once none = subst Once (sym (append-nil (parameter_names ps ++ node_names before))) once

@@ -8,8 +8,8 @@ use Rattle.std.proofs.lemmas.Slice.Eq.{bytes_eq-Decides}
 pub use Rattle.reo_values.proofs.Truths.{and_both as each}
 use Rattle.reo_values.proofs.Truths.{either}
 use Rattle.reo_trees.specs.declared.items.Item.{Item}
-use Rattle.reo_trees.specs.declared.items.Form.{Form}
-use Rattle.reo_trees.specs.declared.items.Form.TheVariants as forms
+use Rattle.reo_trees.specs.declared.items.ItemForm.{ItemForm}
+use Rattle.reo_trees.specs.declared.items.ItemForm.TheVariants as forms
 use Rattle.reo_trees.specs.declared.programs.Parameter.{Parameter}
 use Rattle.reo_trees.specs.declared.programs.Connector.{Connector}
 use Rattle.reo_rules.specs.Lists.{each_after}
@@ -87,7 +87,7 @@ module _ (cs : List Connector) (ms : List Meaning) (serving : AreServing cs ms) 
     step (inr later) rest = rest later
 
   -- A name that an item touches has an end there.
-  one_touch : (before : List Item) (line : ℕ) (f : Form) → arity_in_item cs line f ≡ [] → (name : List ℕ) (w : Bool) → is_touched (touches_in cs f) name w ≡ true → HasEnd w (flat name) (channels_in ms types scope path (flat_name path ps arguments) before f)
+  one_touch : (before : List Item) (line : ℕ) (f : ItemForm) → arity_in_item cs line f ≡ [] → (name : List ℕ) (w : Bool) → is_touched (touches_in cs f) name w ≡ true → HasEnd w (flat name) (channels_in ms types scope path (flat_name path ps arguments) before f)
   one_touch before line (forms.Node x term) fits name w is = absurd (cc)
   one_touch before line (forms.Joined channel first second) fits name w is =
       step (either (bytes_eq name first && bool_eq true w) ((bytes_eq name second && bool_eq (is_drain channel) w) || false) is) where
@@ -118,7 +118,7 @@ module _ (cs : List Connector) (ms : List Meaning) (serving : AreServing cs ms) 
   abbrev IsWhole : List Placed → List ℕ → Type 0
   IsWhole all n = HasEnd true n all × HasEnd false n all
 
-  own_here : (all : List Placed) (before : List Item) (line : ℕ) (f : Form) → arity_in_item cs line f ≡ [] → ((w : Bool) (n : List ℕ) → HasEnd w n (channels_in ms types scope path (flat_name path ps arguments) before f) → HasEnd w n all)
+  own_here : (all : List Placed) (before : List Item) (line : ℕ) (f : ItemForm) → arity_in_item cs line f ≡ [] → ((w : Bool) (n : List ℕ) → HasEnd w n (channels_in ms types scope path (flat_name path ps arguments) before f) → HasEnd w n all)
       → ((x : List ℕ) → In (node_names_in f) x → IsWhole all (path ++ x)) → (n : List ℕ) → In (nodes_in ms path before f) n → IsWhole all n
   own_here all before line (forms.Node x term) fits wider nodes n (inl is) = subst (IsWhole all) (sym is) (nodes x (inl refl))
   own_here all before line (forms.Node x term) fits wider nodes n (inr none) = absurd none
@@ -140,7 +140,7 @@ module _ (cs : List Connector) (ms : List Meaning) (serving : AreServing cs ms) 
             own_here all before i.line i.form (left_none (arity_in_item cs i.line i.form) _ fits) (λ w m e. wider w m (end_left w m (channels_at before i) _ e)) (λ x t. nodes x (in_left (node_names_in i.form) (node_names is') x t)) n here
         step (inr later) rest = rest later
 
-  one_node : (ts : List Touch) (line : ℕ) (f : Form) → dangling_in_item ts line f ≡ [] → (x : List ℕ) → In (node_names_in f) x → (is_touched ts x true ≡ true) × (is_touched ts x false ≡ true)
+  one_node : (ts : List Touch) (line : ℕ) (f : ItemForm) → dangling_in_item ts line f ≡ [] → (x : List ℕ) → In (node_names_in f) x → (is_touched ts x true ≡ true) × (is_touched ts x false ≡ true)
   one_node ts line (forms.Node name term) none x (inl is) =
       subst (λ y. (is_touched ts y true ≡ true) × (is_touched ts y false ≡ true)) (sym is) (each (is_touched ts name true) (is_touched ts name false) (holds _ _ none))
   one_node ts line (forms.Node name term) none x (inr none') = absurd none'

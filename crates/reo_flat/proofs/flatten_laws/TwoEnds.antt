@@ -12,8 +12,8 @@ use Rattle.reo_net_base.specs.declared.port.Way.{Way}
 use Rattle.reo_net_base.specs.declared.port.Way.TheVariants.{In as InWay, Out}
 use Rattle.reo_kinds.specs.Kinds.{behaviour_of}
 use Rattle.reo_trees.specs.declared.items.Item.{Item}
-use Rattle.reo_trees.specs.declared.items.Form.{Form}
-use Rattle.reo_trees.specs.declared.items.Form.TheVariants as forms
+use Rattle.reo_trees.specs.declared.items.ItemForm.{ItemForm}
+use Rattle.reo_trees.specs.declared.items.ItemForm.TheVariants as forms
 use Rattle.reo_trees.specs.declared.items.Channel.{Channel}
 use Rattle.reo_trees.specs.declared.items.Channel.TheVariants as channels
 use Rattle.reo_trees.specs.declared.programs.Declaration.{Declaration}
@@ -96,7 +96,7 @@ module _ (P : Placed → Type 0) (of_port : (p : Port) → P (port_placed p)) (o
     step true rest = all.0
     step false rest = rest
 
-  one : (known : List Meaning) → AllByRecursion HoldsAll known → (types scope : List Typed) (path : List ℕ) (flat : List ℕ → List ℕ) (before : List Item) (f : Form) → AllByRecursion P (channels_in known types scope path flat before f)
+  one : (known : List Meaning) → AllByRecursion HoldsAll known → (types scope : List Typed) (path : List ℕ) (flat : List ℕ → List ℕ) (before : List Item) (f : ItemForm) → AllByRecursion P (channels_in known types scope path flat before f)
   one known all types scope path flat before (forms.Node name term) = tt
   one known all types scope path flat before (forms.Joined channel first second) = (of_channel types _ channel (flat first) (flat second), tt)
   one known all types scope path flat before (forms.Used name arguments) = named known all name _ (map flat arguments)

@@ -11,8 +11,8 @@ use Rattle.reo_values.specs.declared.kindred.Kindred.TheVariants as kinds
 use Rattle.reo_values.specs.Valid.{IsValid}
 use Rattle.reo_values.proofs.Truths.{not_false}
 use Rattle.reo_trees.specs.declared.items.Item.{Item}
-use Rattle.reo_trees.specs.declared.items.Form.{Form}
-use Rattle.reo_trees.specs.declared.items.Form.TheVariants as forms
+use Rattle.reo_trees.specs.declared.items.ItemForm.{ItemForm}
+use Rattle.reo_trees.specs.declared.items.ItemForm.TheVariants as forms
 use Rattle.reo_trees.specs.declared.items.Channel.{Channel}
 use Rattle.reo_trees.specs.declared.items.Channel.TheVariants as channels
 use Rattle.reo_trees.specs.declared.programs.Parameter.{Parameter}
@@ -189,7 +189,7 @@ module _ (cs : List Connector) (ms : List Meaning) (ts : List Typing) (types : L
   abbrev typed_at : List Item → Item → List Typed
   typed_at before i = typed_in ts types path before i.form
 
-  valid_in : (before : List Item) (line : ℕ) (f : Form) → IsSpelledForm f → twice_in_item ps before line f ≡ [] → range_in_item types scope line f ≡ [] → AreValid (typed_in ts types path before f)
+  valid_in : (before : List Item) (line : ℕ) (f : ItemForm) → IsSpelledForm f → twice_in_item ps before line f ≡ [] → range_in_item types scope line f ≡ [] → AreValid (typed_in ts types path before f)
   valid_in before line (forms.Node name term) spelled once bound =
       (valid_type types valid term spelled.1 (right_none (twice_among (parameter_names ps ++ node_names before) line name) (twice_in_type term) once) bound, tt)
   valid_in before line (forms.Joined channel first second) spelled once bound = tt
@@ -226,7 +226,7 @@ module _ (cs : List Connector) (ms : List Meaning) (ts : List Typing) (types : L
         let here = known_type nodes mine line n (left_none (missing (parameter_names ps ++ nodes) line n) _ known) in
         (here ∙ same_types (type_named scope n) (resolved types q.term.shape) (not_false _ one.0), passed nodes mine line ns qs (right_none (missing (parameter_names ps ++ nodes) line n) _ known) one.1)
 
-    one_fits : (before : List Item) (line : ℕ) (f : Form) → ((n : List ℕ) → In (node_names before) n → In (names_of own) n) → IsSpelledForm f → unknown_in_item types connectors (parameter_names ps ++ node_names before) line f ≡ []
+    one_fits : (before : List Item) (line : ℕ) (f : ItemForm) → ((n : List ℕ) → In (node_names before) n → In (names_of own) n) → IsSpelledForm f → unknown_in_item types connectors (parameter_names ps ++ node_names before) line f ≡ []
         → is_mistyped types cs scope f ≡ false → range_in_item types scope line f ≡ [] → arity_in_item cs line f ≡ [] → HasTypes T (typed_in ts types path before f)
         → AllByRecursion (FitsAt T) (channels_in ms types scope path (flat_name path ps arguments) before f)
     one_fits before line (forms.Node name term) mine spelled known typed bound fit nodes = tt

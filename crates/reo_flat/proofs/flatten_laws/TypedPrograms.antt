@@ -5,8 +5,8 @@ use Rattle.std.proofs.lemmas.List.{append-nil, append_assoc}
 use Rattle.reo_values.specs.declared.kindred.Kindred.{Kindred}
 use Rattle.reo_values.specs.Valid.{IsValid}
 use Rattle.reo_trees.specs.declared.items.Item.{Item}
-use Rattle.reo_trees.specs.declared.items.Form.{Form}
-use Rattle.reo_trees.specs.declared.items.Form.TheVariants as forms
+use Rattle.reo_trees.specs.declared.items.ItemForm.{ItemForm}
+use Rattle.reo_trees.specs.declared.items.ItemForm.TheVariants as forms
 use Rattle.reo_trees.specs.declared.programs.Parameter.{Parameter}
 use Rattle.reo_trees.specs.declared.programs.Connector.{Connector}
 use Rattle.reo_trees.specs.declared.programs.Declaration.{Declaration}
@@ -64,7 +64,7 @@ own_have ts types path T before [] has = tt
 own_have ts types path T before (i ∷ is) has =
     both (λ (e : Typed). T (path ++ e.name) ≡ e.kindred) (node_types_in types i.form) (own_of types is)
     (one i.form (all_left (λ (e : Typed). T e.name ≡ e.kindred) (typed_in ts types path before i.form) _ has)) (own_have ts types path T (before ++ i ∷ []) is (all_right (λ (e : Typed). T e.name ≡ e.kindred) (typed_in ts types path before i.form) _ has)) where
-      one : (f : Form) → HasTypes T (typed_in ts types path before f) → AllByRecursion (λ (e : Typed). T (path ++ e.name) ≡ e.kindred) (node_types_in types f)
+      one : (f : ItemForm) → HasTypes T (typed_in ts types path before f) → AllByRecursion (λ (e : Typed). T (path ++ e.name) ≡ e.kindred) (node_types_in types f)
       one (forms.Node name term) here = here
       one (forms.Joined channel first second) here = tt
       one (forms.Used name arguments) here = tt
@@ -72,7 +72,7 @@ own_have ts types path T before (i ∷ is) has =
 own_named : (types : List Typed) (items : List Item) (n : List ℕ) → In (node_names items) n → In (names_of (own_of types items)) n
 own_named types [] n there = there
 own_named types (i ∷ is) n there = one i.form there (own_named types is n) where
-  one : (f : Form) → In (node_names_in f ++ node_names is) n → (In (node_names is) n → In (names_of (own_of types is)) n) → In (names_of (node_types_in types f ++ own_of types is)) n
+  one : (f : ItemForm) → In (node_names_in f ++ node_names is) n → (In (node_names is) n → In (names_of (own_of types is)) n) → In (names_of (node_types_in types f ++ own_of types is)) n
   one (forms.Node name term) (inl here) rest = inl here
   one (forms.Node name term) (inr later) rest = inr (rest later)
   one (forms.Joined channel first second) later rest = rest later

@@ -6,8 +6,8 @@ use Rattle.std.specs.List.{AllByRecursion}
 use Rattle.std.proofs.lemmas.List.{append_assoc, map-append}
 use Rattle.std.proofs.lemmas.List.Sums.{sum_by-append}
 use Rattle.reo_trees.specs.declared.items.Item.{Item}
-use Rattle.reo_trees.specs.declared.items.Form.{Form}
-use Rattle.reo_trees.specs.declared.items.Form.TheVariants as forms
+use Rattle.reo_trees.specs.declared.items.ItemForm.{ItemForm}
+use Rattle.reo_trees.specs.declared.items.ItemForm.TheVariants as forms
 use Rattle.reo_trees.specs.declared.programs.Parameter.{Parameter}
 use Rattle.reo_trees.specs.declared.programs.Connector.{Connector}
 use Rattle.reo_rules.specs.Lists.{each_after}
@@ -80,7 +80,7 @@ module _ (cs : List Connector) (ms : List Meaning) (apart : AreApart cs ms) wher
   abbrev pub nodes_at : List ℕ → List Item → Item → List (List ℕ)
   nodes_at path before i = nodes_in ms path before i.form
 
-  one_shift : (path : List ℕ) (before : List Item) (f : Form) → nodes_in ms path before f ≡ map (λ n. path ++ n) (nodes_in ms [] before f)
+  one_shift : (path : List ℕ) (before : List Item) (f : ItemForm) → nodes_in ms path before f ≡ map (λ n. path ++ n) (nodes_in ms [] before f)
   one_shift path before (forms.Node name term) = refl
   one_shift path before (forms.Joined channel first second) = refl
   one_shift path before (forms.Used name names) =
@@ -103,7 +103,7 @@ module _ (cs : List Connector) (ms : List Meaning) (apart : AreApart cs ms) wher
   abbrev pub Origin : List Item → List (List ℕ) → ℕ → List ℕ → Type 0
   Origin before names uses n = (Free 64 n × In names n) ⊎ ((k : ℕ) × (uses_among before < k) × (k ≤ uses_among before + uses) × FromUse k n)
 
-  one_origin : (before : List Item) (f : Form) (later : List (List ℕ)) (uses : ℕ) → HasPlainName f → (n : List ℕ) → In (nodes_in ms [] before f) n → Origin before (node_names_in f ++ later) (1 + uses) n
+  one_origin : (before : List Item) (f : ItemForm) (later : List (List ℕ)) (uses : ℕ) → HasPlainName f → (n : List ℕ) → In (nodes_in ms [] before f) n → Origin before (node_names_in f ++ later) (1 + uses) n
   one_origin before (forms.Node name term) later uses plain n (inl is) = inl (subst (Free 64) (sym is) (by_recursion (λ b. b ≡ 64 → ⊥) name plain), inl is)
   one_origin before (forms.Node name term) later uses plain n (inr none) = absurd none
   one_origin before (forms.Joined channel first second) later uses plain n there = absurd there
@@ -136,7 +136,7 @@ module _ (cs : List Connector) (ms : List Meaning) (apart : AreApart cs ms) wher
         subst (λ u. Origin before (node_names (i ∷ is)) u n) count (one_origin before i.form (node_names is) (length is) plain.0 n here)
     step (inr later) rest = onward (rest later)
 
-  one_once : (before : List Item) (f : Form) → Once (nodes_in ms [] before f)
+  one_once : (before : List Item) (f : ItemForm) → Once (nodes_in ms [] before f)
   one_once before (forms.Node name term) = ((λ none. none), tt)
   one_once before (forms.Joined channel first second) = tt
   one_once before (forms.Used name names) =
@@ -146,7 +146,7 @@ module _ (cs : List Connector) (ms : List Meaning) (apart : AreApart cs ms) wher
       (once_mapped (λ z. use_path [] before name ++ z) (λ a b e. behind (use_path [] before name) a b e) ns (once_right (parameter_names (parameters_named cs name)) ns used.1))
 
   -- What an item declares comes from no later item.
-  here_there : (before : List Item) (f : Form) (names : List (List ℕ)) (count : ℕ) → count ≡ uses_among before + cond (is_use f) 1 0 → HasPlainName f → Once (node_names_in f ++ names) → (n : List ℕ) → In (nodes_in ms [] before f) n
+  here_there : (before : List Item) (f : ItemForm) (names : List (List ℕ)) (count : ℕ) → count ≡ uses_among before + cond (is_use f) 1 0 → HasPlainName f → Once (node_names_in f ++ names) → (n : List ℕ) → In (nodes_in ms [] before f) n
       → (Free 64 n × In names n) ⊎ ((k : ℕ) × (count < k) × (k < 2 ^ 64) × FromUse k n) → ⊥
   here_there before (forms.Node name term) names count is plain once n (inl same) (inl later) = once.0 (subst (In names) same later.1)
   here_there before (forms.Node name term) names count is plain once n (inl same) (inr later) = not_plain later.0 n (subst (Free 64) (sym same) (by_recursion (λ b. b ≡ 64 → ⊥) name plain)) later.3

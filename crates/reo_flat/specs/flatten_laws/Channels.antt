@@ -7,8 +7,8 @@ use Rattle.reo_kinds.specs.declared.kind.Kind.{Kind}
 use Rattle.reo_kinds.specs.declared.kind.Kind.TheVariants as primitives
 use Rattle.reo_trees.specs.declared.literals.Literal.{Literal}
 use Rattle.reo_trees.specs.declared.items.Item.{Item}
-use Rattle.reo_trees.specs.declared.items.Form.{Form}
-use Rattle.reo_trees.specs.declared.items.Form.TheVariants as forms
+use Rattle.reo_trees.specs.declared.items.ItemForm.{ItemForm}
+use Rattle.reo_trees.specs.declared.items.ItemForm.TheVariants as forms
 use Rattle.reo_trees.specs.declared.items.Channel.{Channel}
 use Rattle.reo_trees.specs.declared.items.Channel.TheVariants as channels
 use Rattle.reo_trees.specs.declared.programs.Connector.{Connector}
@@ -45,7 +45,7 @@ IsFor types of (channels.Quota number) (primitives.Quota left) = left ≡ number
 IsFor types of _ _ = ⊥
 
 -- So is the channel of an item, by the types before its connector and the names in it.
-abbrev pub IsForItem : List Typed → List Typed → Form → Type 0
+abbrev pub IsForItem : List Typed → List Typed → ItemForm → Type 0
 IsForItem types scope (forms.Joined channel first second) = IsFor types (type_named scope first) channel (channel_kind types (type_named scope first) channel)
 IsForItem types scope f = Unit {0}
 

@@ -2,8 +2,8 @@
 use Rattle.std.specs.Prelude.{ℕ, ◌≡◌, List, [], ◌∷◌, ◌++◌, map, unwrap_or, bytes_eq, codes}
 use Rattle.std.specs.List.{find}
 use Rattle.reo_trees.specs.declared.items.Item.{Item}
-use Rattle.reo_trees.specs.declared.items.Form.{Form}
-use Rattle.reo_trees.specs.declared.items.Form.TheVariants as forms
+use Rattle.reo_trees.specs.declared.items.ItemForm.{ItemForm}
+use Rattle.reo_trees.specs.declared.items.ItemForm.TheVariants as forms
 use Rattle.reo_trees.specs.declared.programs.Connector.{Connector}
 use Rattle.reo_trees.specs.declared.programs.Declaration.{Declaration}
 use Rattle.reo_trees.specs.declared.programs.Declaration.TheVariants as declarations
@@ -25,7 +25,7 @@ abbrev pub typing_named : List Typing → List ℕ → Typing
 typing_named known name = unwrap_or (find (λ (t : Typing). bytes_eq name t.name) known) no_typing
 
 -- Those that an item declares behind these.
-abbrev pub typed_in : List Typing → List Typed → List ℕ → List Item → Form → List Typed
+abbrev pub typed_in : List Typing → List Typed → List ℕ → List Item → ItemForm → List Typed
 typed_in known types path before (forms.Node name term) = record { name = path ++ name; kindred = resolved types term.shape } ∷ []
 typed_in known types path before (forms.Joined channel first second) = []
 typed_in known types path before (forms.Used name arguments) = (typing_named known name).nodes (use_path path before name)

@@ -2,8 +2,8 @@
 use Rattle.std.specs.Prelude.{ℕ, ◌^◌, ◌≢◌, ◌<◌, List, length}
 use Rattle.std.specs.List.{All}
 use Rattle.reo_trees.specs.declared.items.Item.{Item}
-use Rattle.reo_trees.specs.declared.items.Form.{Form}
-use Rattle.reo_trees.specs.declared.items.Form.TheVariants as forms
+use Rattle.reo_trees.specs.declared.items.ItemForm.{ItemForm}
+use Rattle.reo_trees.specs.declared.items.ItemForm.TheVariants as forms
 use Rattle.reo_trees.specs.declared.programs.Parameter.{Parameter}
 use Rattle.reo_trees.specs.declared.programs.Connector.{Connector}
 
@@ -12,7 +12,7 @@ abbrev pub IsPlainName : List ℕ → Type 0
 IsPlainName name = All (λ b. b ≢ 64) name
 
 -- The name of the node that an item declares, or of the connector that it uses, is such.
-abbrev pub HasPlainName : Form → Type 0
+abbrev pub HasPlainName : ItemForm → Type 0
 HasPlainName (forms.Node name term) = IsPlainName name
 HasPlainName (forms.Joined channel first second) = Unit {0}
 HasPlainName (forms.Used name arguments) = IsPlainName name

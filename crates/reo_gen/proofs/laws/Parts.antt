@@ -10,8 +10,8 @@ use Rattle.reo_trees.specs.declared.types.Shape.{Shape}
 use Rattle.reo_trees.specs.declared.types.Shape.TheVariants as shapes
 use Rattle.reo_trees.specs.declared.types.TypeTerm.{TypeTerm}
 use Rattle.reo_trees.specs.declared.items.Item.{Item}
-use Rattle.reo_trees.specs.declared.items.Form.{Form}
-use Rattle.reo_trees.specs.declared.items.Form.TheVariants as forms
+use Rattle.reo_trees.specs.declared.items.ItemForm.{ItemForm}
+use Rattle.reo_trees.specs.declared.items.ItemForm.TheVariants as forms
 use Rattle.reo_trees.specs.declared.items.Channel.{Channel}
 use Rattle.reo_trees.specs.declared.items.Channel.TheVariants as channels
 use Rattle.reo_trees.specs.declared.programs.Parameter.{Parameter}
@@ -86,26 +86,26 @@ the-end : (gap r : List ℕ) → is_end gap ≡ true → Circuit (word (codes ";
 the-end gap r f = reads-word (codes ";") gap r within_body f (end-cut (gap ++ r))
 
 -- A form is an item with a line.
-item-of : (form : Form) (l : ℕ) (f : Form) → f ≡ form → IsBy {X = Item} (λ (k : Lines). record { line = k.0; form = form }) (record { line = l; form = f })
-item-of form l f e = ((l, 0), ap (λ (z : Form). record { line = l; form = z }) e)
+item-of : (form : ItemForm) (l : ℕ) (f : ItemForm) → f ≡ form → IsBy {X = Item} (λ (k : Lines). record { line = k.0; form = form }) (record { line = l; form = f })
+item-of form l f e = ((l, 0), ap (λ (z : ItemForm). record { line = l; form = z }) e)
 
 pub reads-node : (name gap r : List ℕ) → IsNamed name → is_end gap ≡ true → Circuit item_form (codes "node " ++ ((name ++ codes ": ") ++ (codes "t" ++ (codes ";" ++ gap)))) r (IsBy (node_by name)) within_body within_body
 reads-node name gap r n f =
     reads-lined (IsBy (node_by name))
-    (reads-left (reads-both (λ (x : Form). (m : ℕ) × (x ≡ forms.Node name (t_type m))) (reads-word (codes "node") (codes " ") _ within_body refl refl)
-    (reads-both (λ (x : Form). (m : ℕ) × (x ≡ forms.Node name (t_type m)))
+    (reads-left (reads-both (λ (x : ItemForm). (m : ℕ) × (x ≡ forms.Node name (t_type m))) (reads-word (codes "node") (codes " ") _ within_body refl refl)
+    (reads-both (λ (x : ItemForm). (m : ℕ) × (x ≡ forms.Node name (t_type m)))
     (reads-both (λ y. name ≡ y) (bare-name name (codes ": " ++ ((codes "t" ++ (codes ";" ++ gap)) ++ r)) within_body n refl refl) (reads-word (codes ":") (codes " ") ((codes "t" ++ (codes ";" ++ gap)) ++ r) within_body refl refl) (λ y z e k. e))
     (reads-both (λ (t : TypeTerm). (m : ℕ) × (t ≡ t_type m)) (reads-t [] ((codes ";" ++ gap) ++ r) within_body refl refl refl) (the-end gap r f) (λ x y e k. e))
     (λ y t e k. (k.0, λ j. forms.Node (sym e j) (k.1 j))))
     (λ x y e k. k)))
-    (λ l x k. ((l, k.0), ap (λ (z : Form). record { line = l; form = z }) k.1))
+    (λ l x k. ((l, k.0), ap (λ (z : ItemForm). record { line = l; form = z }) k.1))
 
 -- The names of two nodes, and the end.
 reads-nodes : (c : Channel) (x y gap r : List ℕ) → IsNamed x → IsNamed y → is_end gap ≡ true
-    → Circuit {A = Channel → Form} (both (λ x y (c : Channel). forms.Joined c x y) name_form (name_form ◂ word (codes ";"))) ((x ++ codes " ") ++ (y ++ (codes ";" ++ gap))) r
+    → Circuit {A = Channel → ItemForm} (both (λ x y (c : Channel). forms.Joined c x y) name_form (name_form ◂ word (codes ";"))) ((x ++ codes " ") ++ (y ++ (codes ";" ++ gap))) r
     (λ f. (d : Channel) → f d ≡ forms.Joined d x y) within_body within_body
 reads-nodes c x y gap r n m f =
-    reads-both (λ (f : Channel → Form). (d : Channel) → f d ≡ forms.Joined d x y) (reads-name x (codes " ") ((y ++ (codes ";" ++ gap)) ++ r) within_body n refl refl refl)
+    reads-both (λ (f : Channel → ItemForm). (d : Channel) → f d ≡ forms.Joined d x y) (reads-name x (codes " ") ((y ++ (codes ";" ++ gap)) ++ r) within_body n refl refl refl)
     (reads-both (λ z. y ≡ z) (bare-name y ((codes ";" ++ gap) ++ r) within_body m refl refl) (the-end gap r f) (λ y z e k. e))
     (λ a b p q d i. forms.Joined d (sym p i) (sym q i))
 
@@ -133,11 +133,11 @@ reads-drain x y gap r n m f =
 
 pub reads-buffer : (x y gap r : List ℕ) → IsNamed x → IsNamed y → is_end gap ≡ true → Circuit item_form (codes "fifo1 " ++ ((x ++ codes " ") ++ (y ++ (codes ";" ++ gap)))) r (IsBy (channel_by (channels.Fifo1 None) x y)) within_body within_body
 reads-buffer x y gap r n m f =
-    let Z : Form = forms.Joined (channels.Fifo1 None) x y in
+    let Z : ItemForm = forms.Joined (channels.Fifo1 None) x y in
     reads-lined (IsBy (channel_by (channels.Fifo1 None) x y))
     (reads-right (reads-right (reads-left (reads-both (λ z. z ≡ Z) (reads-word (codes "fifo1") (codes " ") _ within_body refl refl)
     (reads-both (λ z. z ≡ Z) (reads-name x (codes " ") ((y ++ (codes ";" ++ gap)) ++ r) within_body n refl refl refl)
-    (reads-both (λ (g : List ℕ → Form). (a : List ℕ) → g a ≡ forms.Joined (channels.Fifo1 None) a y) (bare-name y ((codes ";" ++ gap) ++ r) within_body m refl refl)
+    (reads-both (λ (g : List ℕ → ItemForm). (a : List ℕ) → g a ≡ forms.Joined (channels.Fifo1 None) a y) (bare-name y ((codes ";" ++ gap) ++ r) within_body m refl refl)
     (reads-both (λ (o : Option Literal). o ≡ None) (reads-right (reads-nothing None _ (λ (o : Option Literal). o ≡ None) within_body refl)) (the-end gap r f) (λ o u e k. e))
     (λ b o e k a i. forms.Joined (channels.Fifo1 (k i)) a (sym e i)))
     (λ a g e k. k a ∙ ap (λ b. forms.Joined (channels.Fifo1 None) b y) (sym e)))
@@ -165,7 +165,7 @@ named_stage = record { spelled = refl; free = refl }
 pub reads-use : (x y z gap r : List ℕ) → IsNamed x → IsNamed y → IsNamed z → is_end gap ≡ true
     → Circuit item_form (codes "use " ++ ((codes "stage" ++ codes "(") ++ ((((x ++ (codes ", " ++ y)) ++ (codes ", " ++ z)) ++ codes ")") ++ (codes ";" ++ gap)))) r (IsBy (use_by x y z)) within_body within_body
 reads-use x y z gap r n m k f =
-    let U : Form = forms.Used (codes "stage") (x ∷ y ∷ z ∷ []) in
+    let U : ItemForm = forms.Used (codes "stage") (x ∷ y ∷ z ∷ []) in
     reads-lined (IsBy (use_by x y z))
     (reads-right (reads-right (reads-right (reads-right (reads-right (reads-right
     (reads-both (λ u. u ≡ U) (reads-word (codes "use") (codes " ") _ within_body refl refl)

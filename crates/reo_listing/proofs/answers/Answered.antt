@@ -12,7 +12,7 @@ use Rattle.reo_kinds.specs.declared.kind.Kind.TheVariants as kinds
 use Rattle.reo_open.specs.Opened.{open_net, HasNoFilter}
 use Rattle.reo_open.proofs.FaultLemmas.{open_wired}
 use Rattle.reo_weights.proofs.PartLists.{part_numbers}
-use Rattle.reo_listing.specs.declared.base.table.Table.{Table}
+use Rattle.reo_listing.specs.declared.base.table.BoundaryTable.{BoundaryTable}
 use Rattle.reo_listing.specs.declared.base.fault.ListFault.{ListFault}
 use Rattle.reo_listing.specs.declared.base.fault.ListFault.TheVariants.{Filter, Spent, Rows, NoMemory}
 use Rattle.reo_listing.specs.base.Listed.{IsFirstFilter, ListsParts, ListsOpen, Lists}
@@ -20,7 +20,7 @@ use Rattle.reo_listing.specs.answers.Laws.{ListingIsOne}
 use Rattle.reo_listing.proofs.answers.PartTables.{one_list, not_found, IsLast, one_last}
 
 abbrev Answer : Type 0
-Answer = Result (List Table) ListFault
+Answer = Result (List BoundaryTable) ListFault
 
 -- By one numbering of the parts.
 module _ (net : Net) (wired : IsWired net) (ports budget : ℕ) (numbers : List ℕ) (count : ℕ) (are : AreNumbers (SameKnot net) (side_count net) numbers count) where
@@ -30,7 +30,7 @@ module _ (net : Net) (wired : IsWired net) (ports budget : ℕ) (numbers : List 
   last_of (Rows part) some it = record { part = part; next = it.0; stopped = (refl, it.1, it.2) }
   last_of NoMemory some it = absurd (some refl)
 
-  apart : (tables : List Table) (fault : ListFault) → ListsParts net ports budget numbers count (Ok tables) → IsLast net wired ports budget numbers count are fault → ⊥
+  apart : (tables : List BoundaryTable) (fault : ListFault) → ListsParts net ports budget numbers count (Ok tables) → IsLast net wired ports budget numbers count are fault → ⊥
   apart tables fault they it = not_found net wired ports budget numbers count are count tables they it.part it.next.in_range it.next.in_range it.next.has fault it.stopped
 
   by_parts : (x y : Answer) → x ≢ Err NoMemory → y ≢ Err NoMemory → ListsParts net ports budget numbers count x → ListsParts net ports budget numbers count y → x ≡ y

@@ -13,7 +13,7 @@ use Rattle.reo_net_laws.proofs.Knots.{knot}
 use Rattle.reo_weights.specs.Over.{IsWithin, IsSpent}
 use Rattle.reo_weights.proofs.Listings.{in_filter}
 use Rattle.reo_weights.proofs.WeightLemmas.{one_weight}
-use Rattle.reo_listing.specs.declared.base.table.Table.{Table}
+use Rattle.reo_listing.specs.declared.base.table.BoundaryTable.{BoundaryTable}
 use Rattle.reo_listing.specs.declared.base.fault.ListFault.{ListFault}
 use Rattle.reo_listing.specs.declared.base.fault.ListFault.TheVariants.{Filter, Spent, Rows, NoMemory}
 use Rattle.reo_listing.specs.base.Tables.{IsTable, HasMany}
@@ -30,17 +30,17 @@ in_range from (suc n) k le lt = elim (cases_lt from k) [
       subst (Contains (range_with_len from (suc n))) same (here from (range_with_len (from + 1) n))
 ]
 
-no_table : Table
+no_table : BoundaryTable
 no_table = record { part = 0; ports = []; rows = [] }
 
-abbrev part_of : Table → ℕ
+abbrev part_of : BoundaryTable → ℕ
 part_of t = t.part
 
 module _ (net : Net) (wired : IsWired net) (ports budget : ℕ) (numbers : List ℕ) (count : ℕ) (are : AreNumbers (SameKnot net) (side_count net) numbers count) where
-  abbrev IsPartsTable : Table → Type 0
+  abbrev IsPartsTable : BoundaryTable → Type 0
   IsPartsTable t = IsTableOf net ports budget numbers t
 
-  one_of_part : (t u : Table) → t.part ≡ u.part → IsPartsTable t → IsPartsTable u → t ≡ u
+  one_of_part : (t u : BoundaryTable) → t.part ≡ u.part → IsPartsTable t → IsPartsTable u → t ≡ u
   one_of_part t u same p q =
       let ports_same : t.ports ≡ u.ports = p.ports_are ∙ ap (ports_of net ports budget numbers) same ∙ sym q.ports_are in
       let table : IsTable net (in_knot numbers t.part) t.ports u.rows =
@@ -48,23 +48,23 @@ module _ (net : Net) (wired : IsWired net) (ports budget : ℕ) (numbers : List 
       let rows_same : t.rows ≡ u.rows = one_table net (in_knot numbers t.part) t.ports t.rows u.rows p.is_table table in
       (λ i. record { part = same i; ports = ports_same i; rows = rows_same i })
 
-  same_tables : (xs ys : List Table) → map part_of xs ≡ map part_of ys → ((m : ℕ) (d : Table) → m < length xs → IsPartsTable (get_or xs m d))
-      → ((m : ℕ) (d : Table) → m < length ys → IsPartsTable (get_or ys m d)) → xs ≡ ys
+  same_tables : (xs ys : List BoundaryTable) → map part_of xs ≡ map part_of ys → ((m : ℕ) (d : BoundaryTable) → m < length xs → IsPartsTable (get_or xs m d))
+      → ((m : ℕ) (d : BoundaryTable) → m < length ys → IsPartsTable (get_or ys m d)) → xs ≡ ys
   same_tables [] [] same each other = refl
   same_tables [] (y ∷ ys) same each other = absurd (let long = ap length same in omega (arith, long))
   same_tables (x ∷ xs) [] same each other = absurd (let long = ap length same in omega (arith, long))
   same_tables (x ∷ xs) (y ∷ ys) same each other =
       let first : x.part ≡ y.part = ap (λ (ns : List ℕ). get_or ns 0 0) same in
       let rest : map part_of xs ≡ map part_of ys = ap (λ (ns : List ℕ). drop 1 ns) same in
-      ap (λ (t : Table). t ∷ xs) (one_of_part x y first (each 0 x (omega arith)) (other 0 y (omega arith)))
-      ∙ ap (λ (ts : List Table). y ∷ ts) (same_tables xs ys rest (λ m d lt. each (suc m) d (omega (arith, lt))) (λ m d lt. other (suc m) d (omega (arith, lt))))
+      ap (λ (t : BoundaryTable). t ∷ xs) (one_of_part x y first (each 0 x (omega arith)) (other 0 y (omega arith)))
+      ∙ ap (λ (ts : List BoundaryTable). y ∷ ts) (same_tables xs ys rest (λ m d lt. each (suc m) d (omega (arith, lt))) (λ m d lt. other (suc m) d (omega (arith, lt))))
 
-  pub one_list : (n : ℕ) (xs ys : List Table) → AreTables net ports budget numbers n xs → AreTables net ports budget numbers n ys → xs ≡ ys
+  pub one_list : (n : ℕ) (xs ys : List BoundaryTable) → AreTables net ports budget numbers n xs → AreTables net ports budget numbers n ys → xs ≡ ys
   one_list n xs ys p q = same_tables xs ys (p.parts ∙ sym q.parts) p.each q.each
 
   -- Each part with ports has its table.
-  found : (n : ℕ) (tables : List Table) → AreTables net ports budget numbers n tables → (part : ℕ) → part < n → has_ports net ports budget numbers part ≡ true
-      → (t : Table) × (t.part ≡ part) × IsPartsTable t
+  found : (n : ℕ) (tables : List BoundaryTable) → AreTables net ports budget numbers n tables → (part : ℕ) → part < n → has_ports net ports budget numbers part ≡ true
+      → (t : BoundaryTable) × (t.part ≡ part) × IsPartsTable t
   found n tables they part lt has =
       let among : Contains (map part_of tables) part =
       subst (λ (ns : List ℕ). Contains ns part) (sym they.parts) ((in_filter (has_ports net ports budget numbers) (range_with_len 0 n) part).1 (in_range 0 n part (omega arith) (omega (arith, lt)), has)) in
@@ -88,7 +88,7 @@ module _ (net : Net) (wired : IsWired net) (ports budget : ℕ) (numbers : List 
       let many = spent.many in
       omega (arith, same, few, many)
 
-  not_here : (t : Table) → t.part < count → IsPartsTable t → (fault : ListFault) → IsStopped t.part fault → ⊥
+  not_here : (t : BoundaryTable) → t.part < count → IsPartsTable t → (fault : ListFault) → IsStopped t.part fault → ⊥
   not_here t lt is (Filter i) it = it
   not_here t lt is (Spent k weight) it = not_both t.part lt weight is.within it.1
   not_here t lt is (Rows k) it =
@@ -97,7 +97,7 @@ module _ (net : Net) (wired : IsWired net) (ports budget : ℕ) (numbers : List 
   not_here t lt is NoMemory it = it
 
   -- A part with ports that is stopped has no table.
-  pub not_found : (n : ℕ) (tables : List Table) → AreTables net ports budget numbers n tables → (part : ℕ) → part < n → part < count → has_ports net ports budget numbers part ≡ true
+  pub not_found : (n : ℕ) (tables : List BoundaryTable) → AreTables net ports budget numbers n tables → (part : ℕ) → part < n → part < count → has_ports net ports budget numbers part ≡ true
       → (fault : ListFault) → IsStopped part fault → ⊥
   not_found n tables they part lt in_count has fault stopped =
       let it = found n tables they part lt has in

@@ -13,7 +13,7 @@ use Rattle.reo_net_circuit.proofs.Cases.{lt_cases}
 use Rattle.reo_kinds.specs.declared.kind.Kind.{Kind}
 use Rattle.reo_kinds.specs.declared.kind.Kind.TheVariants.{Writer, Taker, Sync, Merger, Replicator}
 use Rattle.reo_kinds.specs.Kinds.{behaviour_of}
-use Rattle.reo_open.specs.declared.gate.Allowed.TheVariants.{All}
+use Rattle.reo_open.specs.declared.gate.GateRows.TheVariants.{All}
 use Rattle.reo_open.specs.declared.opens.Open.{Open}
 use Rattle.reo_open.specs.Opened.{opened, open_wiring, open_net}
 use Rattle.reo_listing.specs.base.Tables.{ports_in}

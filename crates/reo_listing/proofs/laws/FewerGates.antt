@@ -9,7 +9,7 @@ use Rattle.reo_net_base.specs.Wired.{IsWired, IsOrder}
 use Rattle.reo_net_circuit.proofs.Cases.{eq_cases}
 use Rattle.reo_net_circuit.proofs.ReshapeLemmas.{order_same}
 use Rattle.reo_net_laws.specs.Parts.{IsClosed}
-use Rattle.reo_open.specs.declared.gate.Allowed.TheVariants.{All}
+use Rattle.reo_open.specs.declared.gate.GateRows.TheVariants.{All}
 use Rattle.reo_open.specs.declared.opens.Open.{Open}
 use Rattle.reo_open.specs.Gates.{gate_rows, gate_behaviour}
 use Rattle.reo_open.specs.Opens.{open_behaviour}

@@ -14,8 +14,8 @@ use Rattle.reo_net_circuit.proofs.ReshapeLemmas.{side_same}
 use Rattle.reo_net_circuit.proofs.PortLemmas.{change_length}
 use Rattle.reo_net_laws.specs.Jams.{IsThreeColouring}
 use Rattle.reo_net_laws.specs.Parts.{IsClosed}
-use Rattle.reo_open.specs.declared.gate.Allowed.{Allowed}
-use Rattle.reo_open.specs.declared.gate.Allowed.TheVariants.{All}
+use Rattle.reo_open.specs.declared.gate.GateRows.{GateRows}
+use Rattle.reo_open.specs.declared.gate.GateRows.TheVariants.{All}
 use Rattle.reo_open.specs.declared.opens.Open.{Open}
 use Rattle.reo_open.specs.Opens.{open_behaviour}
 use Rattle.reo_listing.specs.base.Tables.{IsMet, AreMet, IsTable, StandsBefore, marks_at, mark_of, mark_number}
@@ -57,7 +57,7 @@ put_other q (p ∷ ps) zero (suc k) d ne = refl
 put_other q (p ∷ ps) (suc i) zero d ne = refl
 put_other q (p ∷ ps) (suc i) (suc k) d ne = put_other q ps i k d (λ e. ne (ap suc e))
 
-gate_other : (w : Wiring Open) (q : Open) (port other : ℕ) (takes : Bool) (allowed : Allowed) → other ≢ port → IsGate w other takes allowed → IsGate (put_at w port q) other takes allowed
+gate_other : (w : Wiring Open) (q : Open) (port other : ℕ) (takes : Bool) (allowed : GateRows) → other ≢ port → IsGate w other takes allowed → IsGate (put_at w port q) other takes allowed
 gate_other w q port other takes allowed ne gate = record {
   in_range = rw (change_length (λ _. q) w.primitives port) gate.in_range;
   is = λ d. put_other q w.primitives port other d ne ∙ gate.is d;
@@ -128,7 +128,7 @@ module _ (w : Wiring Open) (wired : IsWired (net_of open_behaviour w)) (inside :
       let gate = are.gates k k_in in
       met_mark net inside ports marks it k k_in
       ∙ fixed_mark w wired inside (get_or ports k 0) gate.0 (mark_of front k) (are.plain k lt)
-      (subst (λ (a : Allowed). IsGate w (get_or ports k 0) gate.0 a) (front_says front k lt) gate.1)
+      (subst (λ (a : GateRows). IsGate w (get_or ports k 0) gate.0 a) (front_says front k lt) gate.1)
       (are.here k k_in) it.rows it.items it.without_jam
 
   -- Where the front is whole, it is all that is met.
@@ -153,7 +153,7 @@ module _ (w : Wiring Open) (wired : IsWired (net_of open_behaviour w)) (inside :
     next_port = get_or ports (length front) 0
 
     pub next_gate : (takes : Bool) × IsGate w next_port takes All
-    next_gate = let gate = are.gates (length front) short in (gate.0, subst (λ (a : Allowed). IsGate w next_port gate.0 a) (behind front (length front) (omega arith)) gate.1)
+    next_gate = let gate = are.gates (length front) short in (gate.0, subst (λ (a : GateRows). IsGate w next_port gate.0 a) (behind front (length front) (omega arith)) gate.1)
 
     module _ (closed : IsClosed net inside) (takes : Bool) (gate : IsGate w next_port takes All) (m : Mark) (plain : IsPlain m) (held_wired : IsWired (net_of open_behaviour (put_at w next_port (gate_of takes (allowed_for m))))) where
       abbrev held : Net
@@ -170,12 +170,12 @@ module _ (w : Wiring Open) (wired : IsWired (net_of open_behaviour w)) (inside :
         | inl is ↦ (
           takes,
           subst (λ (n : ℕ). IsGate (put_at w next_port (gate_of takes (allowed_for m))) (get_or ports n 0) takes (allowed_at (front ++ m ∷ []) n)) (sym is)
-              (subst (λ (a : Allowed). IsGate (put_at w next_port (gate_of takes (allowed_for m))) next_port takes a) (sym (pushed_here front m)) (gate_put w next_port takes (allowed_for m) gate.in_range)),
+              (subst (λ (a : GateRows). IsGate (put_at w next_port (gate_of takes (allowed_for m))) next_port takes a) (sym (pushed_here front m)) (gate_put w next_port takes (allowed_for m) gate.in_range)),
         )
         | inr ne ↦
             let old = are.gates k lt in (
               old.0,
-              subst (λ (a : Allowed). IsGate (put_at w next_port (gate_of takes (allowed_for m))) (get_or ports k 0) old.0 a) (sym (pushed_other front m k ne))
+              subst (λ (a : GateRows). IsGate (put_at w next_port (gate_of takes (allowed_for m))) (get_or ports k 0) old.0 a) (sym (pushed_other front m k ne))
                   (gate_other w (gate_of takes (allowed_for m)) next_port (get_or ports k 0) old.0 (allowed_at front k) (apart_from k lt ne) old.1),
             )
       ]

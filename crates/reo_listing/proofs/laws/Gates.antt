@@ -22,8 +22,8 @@ use Rattle.reo_net_laws.specs.Jams.{IsThreeColouring}
 use Rattle.reo_net_laws.specs.Parts.{IsClosed}
 use Rattle.reo_net_laws.proofs.Sides.{side_at_is, side_at_place, side_in, side_in_range, row_is}
 use Rattle.reo_net_laws.proofs.Shapes.{shapes_back}
-use Rattle.reo_open.specs.declared.gate.Allowed.{Allowed}
-use Rattle.reo_open.specs.declared.gate.Allowed.TheVariants.{All}
+use Rattle.reo_open.specs.declared.gate.GateRows.{GateRows}
+use Rattle.reo_open.specs.declared.gate.GateRows.TheVariants.{All}
 use Rattle.reo_open.specs.declared.gate.Gate.{Gate}
 use Rattle.reo_open.specs.declared.opens.Open.{Open}
 use Rattle.reo_open.specs.Gates.{gate_rows, gate_behaviour}
@@ -49,12 +49,12 @@ module _ (q : Open) where
   changed_other (p ∷ ps) (suc i) (suc k) ne = changed_other ps i k (λ e. ne (ap suc e))
 
 -- The behaviour of a gate.
-pub gate_is : (w : Wiring Open) (port : ℕ) (takes : Bool) (allowed : Allowed) → IsGate w port takes allowed
+pub gate_is : (w : Wiring Open) (port : ℕ) (takes : Bool) (allowed : GateRows) → IsGate w port takes allowed
     → behaviour_at (net_of open_behaviour w).primitives port ≡ gate_behaviour (record { takes = takes; allowed = allowed })
 gate_is w port takes allowed gate =
     get_or-map open_behaviour w.primitives port (gate_of takes allowed) nothing gate.in_range ∙ ap open_behaviour (gate.is (gate_of takes allowed))
 
-pub gate_end : (w : Wiring Open) (port : ℕ) (takes : Bool) (allowed : Allowed) → IsGate w port takes allowed → IsEnd (net_of open_behaviour w).primitives (end_of port 0)
+pub gate_end : (w : Wiring Open) (port : ℕ) (takes : Bool) (allowed : GateRows) → IsGate w port takes allowed → IsEnd (net_of open_behaviour w).primitives (end_of port 0)
 gate_end w port takes allowed gate = (
   rw (length-map w.primitives open_behaviour) gate.in_range,
   rw (gate_is w port takes allowed gate) (omega arith),
@@ -64,7 +64,7 @@ least : (row n m : ℕ) → row < n → row + 1 ≢ n → n ≡ m + 1 → row < 
 least row n m lt ne e = elim (lt_cases row m) [ inl h ↦ h | inr h ↦ absurd (ne (omega arith)) ]
 
 -- The row of a gate of a set that is not jammed.
-module _ (w : Wiring Open) (wired : IsWired (net_of open_behaviour w)) (inside : ℕ → Bool) (port : ℕ) (takes : Bool) (allowed : Allowed) (gate : IsGate w port takes allowed)
+module _ (w : Wiring Open) (wired : IsWired (net_of open_behaviour w)) (inside : ℕ → Bool) (port : ℕ) (takes : Bool) (allowed : GateRows) (gate : IsGate w port takes allowed)
     (here : inside (side_at (net_of open_behaviour w) (end_of port 0)) ≡ true) (rows : List ℕ) (items : List (Option Value)) (is : IsThreeColouring (net_of open_behaviour w) inside rows items) where
   abbrev net : Net
   net = net_of open_behaviour w
@@ -158,19 +158,19 @@ put_is q (p ∷ ps) zero d lt = refl
 put_is q (p ∷ ps) (suc i) d lt = put_is q ps i d (omega arith)
 
 -- What is put at a place stands there.
-pub gate_put : (w : Wiring Open) (port : ℕ) (takes : Bool) (allowed : Allowed) → port < length w.primitives → IsGate (put_at w port (gate_of takes allowed)) port takes allowed
+pub gate_put : (w : Wiring Open) (port : ℕ) (takes : Bool) (allowed : GateRows) → port < length w.primitives → IsGate (put_at w port (gate_of takes allowed)) port takes allowed
 gate_put w port takes allowed lt = record {
   in_range = rw (change_length (λ _. gate_of takes allowed) w.primitives port) lt;
   is = λ d. put_is (gate_of takes allowed) w.primitives port d lt;
 }
 
 -- The side of a gate is the first of its primitive.
-gate_place : (w : Wiring Open) (port : ℕ) (takes : Bool) (allowed : Allowed) → IsGate w port takes allowed → side_at (net_of open_behaviour w) (end_of port 0) ≡ first_side (net_of open_behaviour w).primitives port
+gate_place : (w : Wiring Open) (port : ℕ) (takes : Bool) (allowed : GateRows) → IsGate w port takes allowed → side_at (net_of open_behaviour w) (end_of port 0) ≡ first_side (net_of open_behaviour w).primitives port
 gate_place w port takes allowed gate =
     let number : (behaviour_at (net_of open_behaviour w).primitives port).side_of 0 ≡ 0 = ap (λ (b : Behaviour). b.side_of 0) (gate_is w port takes allowed gate) in
     omega (arith, side_at_place (net_of open_behaviour w) (end_of port 0), number)
 
-some_side : (w : Wiring Open) (port : ℕ) (takes : Bool) (allowed : Allowed) → IsGate w port takes allowed → 0 < (behaviour_at (net_of open_behaviour w).primitives port).sides
+some_side : (w : Wiring Open) (port : ℕ) (takes : Bool) (allowed : GateRows) → IsGate w port takes allowed → 0 < (behaviour_at (net_of open_behaviour w).primitives port).sides
 some_side w port takes allowed gate = rw (gate_is w port takes allowed gate) (omega arith)
 
 -- A gate with all rows, and the circuit in which it says one thing.

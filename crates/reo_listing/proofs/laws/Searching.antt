@@ -12,7 +12,7 @@ use Rattle.reo_net_base.specs.Step.{change_at}
 use Rattle.reo_net_circuit.proofs.PortLemmas.{replaced}
 use Rattle.reo_net_laws.specs.Parts.{IsClosed}
 use Rattle.reo_net_laws.specs.Knots.{Knotted, in_knot}
-use Rattle.reo_open.specs.declared.gate.Allowed.TheVariants.{All}
+use Rattle.reo_open.specs.declared.gate.GateRows.TheVariants.{All}
 use Rattle.reo_open.specs.declared.opens.Open.{Open}
 use Rattle.reo_open.specs.GateLaws.{gate_shape}
 use Rattle.reo_open.specs.Opens.{open_behaviour}

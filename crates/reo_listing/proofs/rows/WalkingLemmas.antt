@@ -7,8 +7,8 @@ use Rattle.reo_net_base.specs.Net.{Net, Wiring, net_of}
 use Rattle.reo_net_base.specs.Step.{change_at}
 use Rattle.reo_net_circuit.proofs.Cases.{lt_cases}
 use Rattle.reo_net_laws.specs.Knots.{Knotted, in_knot}
-use Rattle.reo_open.specs.declared.gate.Allowed.{Allowed}
-use Rattle.reo_open.specs.declared.gate.Allowed.TheVariants.{All}
+use Rattle.reo_open.specs.declared.gate.GateRows.{GateRows}
+use Rattle.reo_open.specs.declared.gate.GateRows.TheVariants.{All}
 use Rattle.reo_open.specs.declared.opens.Open.{Open}
 use Rattle.reo_open.specs.Opens.{open_behaviour}
 use Rattle.reo_search.specs.First.{HasNoThreeColouring}
@@ -116,15 +116,15 @@ module _ (knots : Knotted) (part budget : ℕ) (ports : List ℕ) where
 
       -- A gate that says one mark, and then has all rows again.
       module _ (m : Mark) (plain : IsPlain m) (p : ℕ) (p_is : p ≡ length front) where
-        pub gate_here : (takes : Bool) × (before : Allowed) × IsGate w (get_or ports p 0) takes before
-        gate_here = subst (λ (k : ℕ). (takes : Bool) × (before : Allowed) × IsGate w (get_or ports k 0) takes before) (sym p_is) (a_gate.0, All, a_gate.1)
+        pub gate_here : (takes : Bool) × (before : GateRows) × IsGate w (get_or ports p 0) takes before
+        gate_here = subst (λ (k : ℕ). (takes : Bool) × (before : GateRows) × IsGate w (get_or ports k 0) takes before) (sym p_is) (a_gate.0, All, a_gate.1)
 
-        module _ (allowed : Allowed) (allowed_is : allowed ≡ allowed_for m) (v : Wiring Open)
-            (put : (takes : Bool) (before : Allowed) → IsGate w (get_or ports p 0) takes before → v ≡ put_at w (get_or ports p 0) (gate_of takes allowed)) where
+        module _ (allowed : GateRows) (allowed_is : allowed ≡ allowed_for m) (v : Wiring Open)
+            (put : (takes : Bool) (before : GateRows) → IsGate w (get_or ports p 0) takes before → v ≡ put_at w (get_or ports p 0) (gate_of takes allowed)) where
           v_is : (takes : Bool) → IsGate w port takes All → v ≡ put_at w port (gate_of takes (allowed_for m))
           v_is takes one =
               subst (λ (k : ℕ). v ≡ put_at w (get_or ports k 0) (gate_of takes (allowed_for m))) p_is
-              (subst (λ (a : Allowed). v ≡ put_at w (get_or ports p 0) (gate_of takes a)) allowed_is (put takes All (subst (λ (k : ℕ). IsGate w (get_or ports k 0) takes All) (sym p_is) one)))
+              (subst (λ (a : GateRows). v ≡ put_at w (get_or ports p 0) (gate_of takes a)) allowed_is (put takes All (subst (λ (k : ℕ). IsGate w (get_or ports k 0) takes All) (sym p_is) one)))
 
           pub searched : (longer : List Mark) → longer ≡ front ++ m ∷ [] → IsSearched v knots part budget ports longer
           searched longer longer_is =
@@ -139,13 +139,13 @@ module _ (knots : Knotted) (part budget : ℕ) (ports : List ℕ) where
 
           -- The gate stands there again.
           module _ (u : Wiring Open) (u_is : u ≡ v) where
-            pub gate_again : (takes : Bool) × (before : Allowed) × IsGate u (get_or ports p 0) takes before
+            pub gate_again : (takes : Bool) × (before : GateRows) × IsGate u (get_or ports p 0) takes before
             gate_again =
-                subst (λ (x : Wiring Open). (takes : Bool) × (before : Allowed) × IsGate x (get_or ports p 0) takes before) (sym (u_is ∙ v_is a_gate.0 a_gate.1))
-                (subst (λ (k : ℕ). (takes : Bool) × (before : Allowed) × IsGate (put_at w port (gate_of a_gate.0 (allowed_for m))) (get_or ports k 0) takes before) (sym p_is)
+                subst (λ (x : Wiring Open). (takes : Bool) × (before : GateRows) × IsGate x (get_or ports p 0) takes before) (sym (u_is ∙ v_is a_gate.0 a_gate.1))
+                (subst (λ (k : ℕ). (takes : Bool) × (before : GateRows) × IsGate (put_at w port (gate_of a_gate.0 (allowed_for m))) (get_or ports k 0) takes before) (sym p_is)
                 (a_gate.0, allowed_for m, gate_put w port a_gate.0 (allowed_for m) a_gate.1.in_range))
 
-            pub back : (x : Wiring Open) → ((takes : Bool) (before : Allowed) → IsGate u (get_or ports p 0) takes before → x ≡ put_at u (get_or ports p 0) (gate_of takes All)) → x ≡ w
+            pub back : (x : Wiring Open) → ((takes : Bool) (before : GateRows) → IsGate u (get_or ports p 0) takes before → x ≡ put_at u (get_or ports p 0) (gate_of takes All)) → x ≡ w
             back x again =
                 let takes : Bool = a_gate.0 in
                 let one : Wiring Open = put_at w port (gate_of takes (allowed_for m)) in

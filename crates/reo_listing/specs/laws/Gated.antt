@@ -4,25 +4,25 @@ use Rattle.reo_net_base.specs.declared.mark.Mark.{Mark}
 use Rattle.reo_net_base.specs.declared.mark.Mark.TheVariants.{F, G, R, J}
 use Rattle.reo_net_base.specs.Net.{Wiring, net_of, side_at, end_of}
 use Rattle.reo_net_base.specs.Step.{change_at}
-use Rattle.reo_open.specs.declared.gate.Allowed.{Allowed}
-use Rattle.reo_open.specs.declared.gate.Allowed.TheVariants.{All, Flow, Given, Required}
+use Rattle.reo_open.specs.declared.gate.GateRows.{GateRows}
+use Rattle.reo_open.specs.declared.gate.GateRows.TheVariants.{All, Flow, Given, Required}
 use Rattle.reo_open.specs.declared.opens.Open.{Open}
 use Rattle.reo_open.specs.declared.opens.Open.TheVariants.{Border}
 use Rattle.reo_open.specs.Opens.{open_behaviour}
 use Rattle.reo_listing.specs.base.Tables.{mark_of}
 
 -- The rows of a gate that says this alone.
-abbrev pub allowed_for : Mark → Allowed
+abbrev pub allowed_for : Mark → GateRows
 allowed_for F = Flow
 allowed_for G = Given
 allowed_for R = Required
 allowed_for J = All
 
-abbrev pub gate_of : Bool → Allowed → Open
+abbrev pub gate_of : Bool → GateRows → Open
 gate_of takes allowed = Border (record { takes = takes; allowed = allowed })
 
 -- A gate with these rows stands at a place.
-pub record IsGate (w : Wiring Open) (port : ℕ) (takes : Bool) (allowed : Allowed) : Type 0 where
+pub record IsGate (w : Wiring Open) (port : ℕ) (takes : Bool) (allowed : GateRows) : Type 0 where
   pub in_range : port < length w.primitives
   pub is : (d : Open) → slice_index_or w.primitives port d ≡ gate_of takes allowed
 
@@ -31,7 +31,7 @@ abbrev pub put_at : Wiring Open → ℕ → Open → Wiring Open
 put_at w port gate = record w { primitives = change_at (λ _. gate) w.primitives port }
 
 -- The rows that a gate has at a place of some ports: what the front says there, and behind the front all.
-abbrev pub allowed_at : List Mark → ℕ → Allowed
+abbrev pub allowed_at : List Mark → ℕ → GateRows
 allowed_at [] place = All
 allowed_at (m ∷ front) zero = allowed_for m
 allowed_at (m ∷ front) (suc place) = allowed_at front place

@@ -6,7 +6,7 @@ use Rattle.reo_net_base.specs.declared.mark.Mark.{Mark}
 use Rattle.reo_net_base.specs.declared.mark.Mark.TheVariants.{F, G, R, J}
 use Rattle.reo_net_base.specs.declared.port.Port.{Port}
 use Rattle.reo_trace.specs.Spaced.{spaced}
-use Rattle.reo_listing.specs.declared.base.table.Table.{Table}
+use Rattle.reo_listing.specs.declared.base.table.BoundaryTable.{BoundaryTable}
 
 -- The letter of a mark.
 abbrev pub letter : Mark → ℕ
@@ -34,9 +34,9 @@ abbrev pub names_text : List Port → List ℕ → List ℕ
 names_text ports numbers = spaced (port_name ports) numbers
 
 -- The line of a part: its number, and the names of its ports.
-unfoldable pub part_line : List Port → Table → List ℕ
+unfoldable pub part_line : List Port → BoundaryTable → List ℕ
 part_line ports table = codes "part " ++ decimal table.part ++ codes ": " ++ names_text ports table.ports ++ codes "\n"
 
 -- The line of the part, and a line for each list.
-abbrev pub table_text : List Port → Table → List ℕ
+abbrev pub table_text : List Port → BoundaryTable → List ℕ
 table_text ports table = part_line ports table ++ rows_text table.rows

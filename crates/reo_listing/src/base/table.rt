@@ -6,7 +6,7 @@ use reo_values::List;
 /// have in its assignments without a jam row. Lists are ordered by their first difference, F
 /// before G before R.
 #[derive(Drop)]
-pub struct Table {
+pub struct BoundaryTable {
     pub part: usize,
     pub ports: List<usize>,
     pub rows: List<List<Mark>>,

@@ -2,7 +2,7 @@
 ghost use Rattle.std.specs.Prelude.{◌≡◌, ◌≢◌, ◌<◌, ◌≤◌, ◌-◌, ◌^◌, Bool, OnOk, MatchResult, length, slice_index};
 ghost use Rattle.reo_net_base.specs.Net.{net_of};
 ghost use Rattle.reo_net_laws.specs.Knots.{in_knot};
-ghost use Rattle.reo_open.specs.declared.gate.Allowed.TheVariants.{All};
+ghost use Rattle.reo_open.specs.declared.gate.GateRows.TheVariants.{All};
 ghost use Rattle.reo_open.specs.Opens.{open_behaviour};
 ghost use Rattle.reo_listing.specs.laws.Extended.{Extends, IsExtendFault};
 ghost use Rattle.reo_listing.specs.laws.Gated.{allowed_for, gate_of, IsGate, put_at};
@@ -15,7 +15,7 @@ use crate::rows::meeting::meets;
 use reo_knots::Knots;
 use reo_net_base::Mark;
 use reo_net_circuit::Circuit;
-use reo_open::{Allowed, Open};
+use reo_open::{GateRows, Open};
 use reo_steps::Steps;
 use reo_values::List;
 use std::alloc::Global;
@@ -132,7 +132,7 @@ fn say<L: Ledger>(
         Err(fault) => Err(fault),
         Ok(()) => {
             front.truncate(place);
-            allow(circuit, port, Allowed::All);
+            allow(circuit, port, GateRows::All);
             Ok(())
         }
     }

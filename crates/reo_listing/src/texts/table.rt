@@ -3,7 +3,7 @@ ghost use Rattle.std.specs.Prelude.{◌≡◌, ◌++◌, OnOk};
 ghost use Rattle.reo_trace.specs.Spaced.{gap};
 ghost use Rattle.reo_listing.specs.texts.TableTexts.{letter, letters, names_text, port_name, part_line, row_line, rows_text, table_text};
 
-use crate::base::Table;
+use crate::base::BoundaryTable;
 use crate::texts::numbers::append_numbered;
 use reo_net_base::{Mark, Port};
 use reo_values::{Bytes, List, NoMemory};
@@ -83,7 +83,7 @@ fn append_part(
     alloc: Global,
     text: &mut Bytes,
     ports: &[Port],
-    table: &Table,
+    table: &BoundaryTable,
 ) -> Result<(), NoMemory>
     ensures { OnOk result (text.new ≡ text.old ++ part_line ports.now table.now) }
 {
@@ -98,7 +98,7 @@ pub(crate) fn append_table(
     alloc: Global,
     text: &mut Bytes,
     ports: &[Port],
-    table: &Table,
+    table: &BoundaryTable,
 ) -> Result<(), NoMemory>
     ensures { OnOk result (text.new ≡ text.old ++ table_text ports.now table.now) }
 {

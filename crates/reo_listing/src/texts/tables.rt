@@ -4,7 +4,7 @@ ghost use Rattle.std.specs.List.{flat_map};
 ghost use Rattle.reo_listing.specs.texts.TableTexts.{table_text};
 ghost use Rattle.reo_listing.specs.texts.TablesText.{row_count, count_line, tables_text};
 
-use crate::base::Table;
+use crate::base::BoundaryTable;
 use crate::texts::numbers::append_numbered;
 use crate::texts::table::append_table;
 use reo_net_base::Port;
@@ -16,7 +16,7 @@ fn append_tables(
     alloc: Global,
     text: &mut Bytes,
     ports: &[Port],
-    tables: &[Table],
+    tables: &[BoundaryTable],
 ) -> Result<(), NoMemory>
     ensures { OnOk result (text.new ≡ text.old ++ flat_map (table_text ports.now) tables.now) }
 {
@@ -27,7 +27,7 @@ fn append_tables(
 }
 
 /// How many lists some tables have.
-fn row_count(tables: &[Table]) -> u128
+fn row_count(tables: &[BoundaryTable]) -> u128
     ensures { result ≡ row_count tables.now }
 {
     let mut count = 0u128;
@@ -39,7 +39,7 @@ fn row_count(tables: &[Table]) -> u128
 
 /// Adds how many tables and lists there are.
 #[tactic(auto, unfolding(crate::specs::texts::TablesText::count_line))]
-fn append_counts(alloc: Global, text: &mut Bytes, tables: &[Table]) -> Result<(), NoMemory>
+fn append_counts(alloc: Global, text: &mut Bytes, tables: &[BoundaryTable]) -> Result<(), NoMemory>
     ensures { OnOk result (text.new ≡ text.old ++ count_line (length tables.now)
         (row_count tables.now)) }
 {
@@ -51,7 +51,7 @@ fn append_counts(alloc: Global, text: &mut Bytes, tables: &[Table]) -> Result<()
 /// The text of boundary tables: for each table a line with its part and the names of its ports and
 /// a line for each of its lists, and then how many tables and lists there are. `NoMemory` is out
 /// of memory.
-pub fn tables_text(alloc: Global, ports: &[Port], tables: &[Table]) -> Result<Bytes, NoMemory>
+pub fn tables_text(alloc: Global, ports: &[Port], tables: &[BoundaryTable]) -> Result<Bytes, NoMemory>
     ensures { IfOk result (λ text. text ≡ tables_text ports.now tables.now) }
 {
     let mut text = Bytes::new(alloc);

@@ -1,5 +1,5 @@
 //! What is answered.
-use crate::base::LineFault;
+use crate::base::EventFault;
 use reo_trace::RoundLine;
 
 /// An answer: one line. Rounds and lines are counted from 1.
@@ -8,7 +8,7 @@ pub enum Answer {
     /// The line of this number is refused, and changes nothing.
     Refused {
         line: u64,
-        fault: LineFault,
+        fault: EventFault,
     },
     /// A round was made, and this line shows it.
     Made {

@@ -13,7 +13,7 @@ use reo_joint_values::JointValue;
 use reo_net_base::Primitive;
 use reo_net_circuit::Circuit;
 use reo_refute_live::{Column, Live, has_support};
-use reo_refute_parts::Allowed;
+use reo_refute_parts::AllowedRows;
 use reo_values::{List, NoMemory, Value};
 
 /// Whether a side is at a joint.
@@ -35,7 +35,7 @@ pub(crate) fn lacks_support<P: Primitive>(
     number: usize,
     lists: &[List<Value>],
     tables: &List<List<Column>>,
-    allowed: &Allowed,
+    allowed: &AllowedRows,
     live: &Live,
     joint: usize,
     value: JointValue,
@@ -81,7 +81,7 @@ pub(crate) fn may_go<P: Primitive>(
     number: usize,
     lists: &[List<Value>],
     tables: &List<List<Column>>,
-    allowed: &Allowed,
+    allowed: &AllowedRows,
     live: &Live,
     joint: usize,
     value: JointValue,

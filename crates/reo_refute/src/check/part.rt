@@ -16,7 +16,7 @@ use reo_net_base::Primitive;
 use reo_net_circuit::Circuit;
 use reo_refute_base::LogLine;
 use reo_refute_live::{Column, Live};
-use reo_refute_parts::Allowed;
+use reo_refute_parts::AllowedRows;
 use reo_values::{List, Value};
 use std::alloc::Global;
 
@@ -60,7 +60,7 @@ pub(crate) fn check_part<P: Primitive>(
     number: usize,
     lists: &[List<Value>],
     tables: &List<List<Column>>,
-    allowed: &Allowed,
+    allowed: &AllowedRows,
     live: &mut Live,
     lines: &mut Lines,
     rows: &mut Vec<u8>,

@@ -17,7 +17,7 @@ use crate::check::stop::Stop;
 use reo_net_base::Primitive;
 use reo_net_circuit::Circuit;
 use reo_refute_live::{Column, Live};
-use reo_refute_parts::{Allowed, KeyPlace};
+use reo_refute_parts::{AllowedRows, KeyPlace};
 use reo_values::{List, Value};
 use std::alloc::Global;
 
@@ -30,7 +30,7 @@ fn check_live<P: Primitive>(
     number: usize,
     lists: &[List<Value>],
     tables: &List<List<Column>>,
-    allowed: &Allowed,
+    allowed: &AllowedRows,
     live: &mut Live,
     lines: &mut Lines,
     rows: &mut Vec<u8>,
@@ -65,7 +65,7 @@ fn check_place<P: Primitive>(
     place: KeyPlace,
     lists: &[List<Value>],
     tables: &List<List<Column>>,
-    allowed: &mut Allowed,
+    allowed: &mut AllowedRows,
     live: &mut Live,
     lines: &mut Lines,
     rows: &mut Vec<u8>,
@@ -115,7 +115,7 @@ pub(crate) fn check_parts<P: Primitive>(
     ensures { let net = net_of P.behaviour circuit.now in
         ArePartsTaken net turn given.now lists.now lines.old result }
 {
-    let mut allowed = Allowed::new(alloc, circuit)?;
+    let mut allowed = AllowedRows::new(alloc, circuit)?;
     let mut live = Live::new(alloc, lists)?;
     let mut rows = Vec::new(alloc);
     for number in 0..places.len() {

@@ -15,7 +15,7 @@ use reo_joint_values::JointValue;
 use reo_net_base::Primitive;
 use reo_net_circuit::Circuit;
 use reo_refute_live::{Column, Live, has_support};
-use reo_refute_parts::Allowed;
+use reo_refute_parts::AllowedRows;
 use reo_values::{List, NoMemory, Value};
 
 /// Whether a live value at a joint has support at a side of it, by the rows that are allowed at a
@@ -27,7 +27,7 @@ fn is_supported<P: Primitive>(
     number: usize,
     lists: &[List<Value>],
     tables: &List<List<Column>>,
-    allowed: &Allowed,
+    allowed: &AllowedRows,
     live: &Live,
     joint: usize,
     value: JointValue,
@@ -76,7 +76,7 @@ pub(crate) fn may_go<P: Primitive>(
     number: usize,
     lists: &[List<Value>],
     tables: &List<List<Column>>,
-    allowed: &Allowed,
+    allowed: &AllowedRows,
     live: &Live,
     joint: usize,
     value: JointValue,

@@ -18,7 +18,7 @@ use reo_net_base::Primitive;
 use reo_net_circuit::Circuit;
 use reo_refute_base::LogLine;
 use reo_refute_live::{Column, Live};
-use reo_refute_parts::Allowed;
+use reo_refute_parts::AllowedRows;
 use reo_values::{List, NoMemory, Value};
 
 /// A value of a joint that may go at a side of it, if there is one. `NoMemory` is out of memory.
@@ -29,7 +29,7 @@ fn goes_at<P: Primitive>(
     number: usize,
     lists: &[List<Value>],
     tables: &List<List<Column>>,
-    allowed: &Allowed,
+    allowed: &AllowedRows,
     live: &Live,
     joint: usize,
     side: usize,
@@ -69,7 +69,7 @@ fn line_at_side<P: Primitive>(
     number: usize,
     lists: &[List<Value>],
     tables: &List<List<Column>>,
-    allowed: &Allowed,
+    allowed: &AllowedRows,
     live: &Live,
     joint: usize,
     side: usize,
@@ -106,7 +106,7 @@ pub(crate) fn line_at<P: Primitive>(
     number: usize,
     lists: &[List<Value>],
     tables: &List<List<Column>>,
-    allowed: &Allowed,
+    allowed: &AllowedRows,
     live: &Live,
     joint: usize,
     rows: &mut Vec<u8>,

@@ -16,7 +16,7 @@ use reo_net_base::Primitive;
 use reo_net_circuit::Circuit;
 use reo_refute_base::LogLine;
 use reo_refute_live::{Column, Live};
-use reo_refute_parts::Allowed;
+use reo_refute_parts::AllowedRows;
 use reo_values::{List, NoMemory, Value};
 
 /// The line of the first joint of some in a row at which no value is live, or one may go, if there
@@ -28,7 +28,7 @@ fn kept_or_line<P: Primitive>(
     number: usize,
     lists: &[List<Value>],
     tables: &List<List<Column>>,
-    allowed: &Allowed,
+    allowed: &AllowedRows,
     live: &Live,
     from: usize,
     to: usize,
@@ -88,7 +88,7 @@ pub fn next_line<P: Primitive>(
     number: usize,
     lists: &[List<Value>],
     tables: &List<List<Column>>,
-    allowed: &Allowed,
+    allowed: &AllowedRows,
     live: &Live,
     from: usize,
     rows: &mut Vec<u8>,

@@ -13,7 +13,7 @@ use reo_net_base::Primitive;
 use reo_net_circuit::Circuit;
 use reo_refute_base::LogLine;
 use reo_refute_live::{Column, Live};
-use reo_refute_parts::{Allowed, put_line};
+use reo_refute_parts::{AllowedRows, put_line};
 use reo_values::{Bytes, List, NoMemory, Value};
 use std::alloc::Global;
 
@@ -48,7 +48,7 @@ fn put_next<P: Primitive>(
     number: usize,
     lists: &[List<Value>],
     tables: &List<List<Column>>,
-    allowed: &Allowed,
+    allowed: &AllowedRows,
     live: &mut Live,
     near: &mut usize,
     rows: &mut Vec<u8>,
@@ -91,7 +91,7 @@ pub(crate) fn put_branch<P: Primitive>(
     number: usize,
     lists: &[List<Value>],
     tables: &List<List<Column>>,
-    allowed: &Allowed,
+    allowed: &AllowedRows,
     rows: &mut Vec<u8>,
     out: &mut Bytes,
 ) -> Result<(), NoMemory>

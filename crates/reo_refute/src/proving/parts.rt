@@ -16,7 +16,7 @@ use reo_net_circuit::Circuit;
 use reo_net_laws::rows_differ;
 use reo_refute_base::LogLine;
 use reo_refute_live::Column;
-use reo_refute_parts::{Allowed, KeyPlace, put_line};
+use reo_refute_parts::{AllowedRows, KeyPlace, put_line};
 use reo_values::{Bytes, List, NoMemory, Value};
 use std::alloc::Global;
 
@@ -29,7 +29,7 @@ fn put_live<P: Primitive>(
     number: usize,
     lists: &[List<Value>],
     tables: &List<List<Column>>,
-    allowed: &Allowed,
+    allowed: &AllowedRows,
     rows: &mut Vec<u8>,
     out: &mut Bytes,
 ) -> Result<(), NoMemory>
@@ -67,7 +67,7 @@ fn put_place<P: Primitive>(
     place: KeyPlace,
     lists: &[List<Value>],
     tables: &List<List<Column>>,
-    allowed: &mut Allowed,
+    allowed: &mut AllowedRows,
     rows: &mut Vec<u8>,
     out: &mut Bytes,
 ) -> Result<(), NoMemory>
@@ -117,7 +117,7 @@ pub(crate) fn put_parts<P: Primitive>(
         OnOk result (ArePartsMade net turn given.now lists.now 0 (length (positions net turn))
         out.old out.new) }
 {
-    let mut allowed = Allowed::new(alloc, circuit)?;
+    let mut allowed = AllowedRows::new(alloc, circuit)?;
     let mut rows = Vec::new(alloc);
     for number in 0..places.len() {
         let place = places[number];

@@ -13,8 +13,8 @@ use Rattle.reo_refute_base.specs.Items.{Lists, items_at, IsVisited, AreVisited, 
 use Rattle.reo_refute_base.specs.Items.AreVisited.{next}
 use Rattle.reo_refute_base.specs.Items.ArePassed.{empty, pass}
 use Rattle.reo_refute_base.proofs.laws.Standing.{items_are_listed, passed_sound, passed_length}
-use Rattle.reo_refute_parts.specs.declared.lists.visits.Found.{Found}
-use Rattle.reo_refute_parts.specs.declared.lists.visits.Found.TheVariants.{Nothing, Items, Many}
+use Rattle.reo_refute_parts.specs.declared.lists.visits.Brought.{Brought}
+use Rattle.reo_refute_parts.specs.declared.lists.visits.Brought.TheVariants.{Nothing, Items, Many}
 use Rattle.reo_refute_parts.specs.lists.Visits.{AreGood, total}
 use Rattle.reo_refute_base.specs.Wide.{IsWide}
 use Rattle.reo_refute_parts.specs.lists.Passes.{SoFar, Passes}
@@ -46,17 +46,17 @@ begun_good net lists is =
 pub one_more : (net : Net) (n : ℕ) (a b c : Lists) → AreVisited net n a b → IsVisited net n b c → AreVisited net (n + 1) a c
 one_more net n a b c before visit = rw add-one (next n a b c before visit)
 
-pub stayed : (a b c : Lists) (found : Found) → SoFar a b found → c ≡ b → SoFar a c found
+pub stayed : (a b c : Lists) (found : Brought) → SoFar a b found → c ≡ b → SoFar a c found
 stayed a b c Nothing so same = same ∙ so
 stayed a b c Items so same = subst (λ (l : Lists). total a < total l) (sym same) so
 stayed a b c Many so same = absurd so
 
-pub grew : (a b c : Lists) (found : Found) → SoFar a b found → total b < total c → total a < total c
+pub grew : (a b c : Lists) (found : Brought) → SoFar a b found → total b < total c → total a < total c
 grew a b c Nothing so more = subst (λ (l : Lists). total l < total c) so more
 grew a b c Items so more = omega (arith, so, more)
 grew a b c Many so more = absurd so
 
-pub all_passed : (net : Net) (n : ℕ) (a b : Lists) (found : Found) → n ≡ length net.joints → AreVisited net n a b → AreGood net b → SoFar a b found → Passes net a b found
+pub all_passed : (net : Net) (n : ℕ) (a b : Lists) (found : Brought) → n ≡ length net.joints → AreVisited net n a b → AreGood net b → SoFar a b found → Passes net a b found
 all_passed net n a b Nothing is visited good so = (subst (λ (k : ℕ). AreVisited net k a b) is visited, good, so)
 all_passed net n a b Items is visited good so = (subst (λ (k : ℕ). AreVisited net k a b) is visited, good, so)
 all_passed net n a b Many is visited good so = absurd so

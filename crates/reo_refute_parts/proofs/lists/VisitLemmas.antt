@@ -14,7 +14,7 @@ use Rattle.reo_joint_values.specs.Many.{AreDistinct, HasMany}
 use Rattle.reo_refute_base.specs.Items.{Lists, items_at, given_by, plain_rows, offered_at, IsAdded, IsVisited}
 use Rattle.reo_refute_base.proofs.laws.Standing.{added_from, offered_stand, visit_sound}
 use Rattle.reo_refute_parts.specs.lists.Noted.{IsNoted}
-use Rattle.reo_refute_parts.specs.declared.lists.visits.Found.TheVariants.{Nothing, Items}
+use Rattle.reo_refute_parts.specs.declared.lists.visits.Brought.TheVariants.{Nothing, Items}
 use Rattle.reo_refute_parts.specs.lists.Visits.{AreGood, IsNew, Comes, total}
 use Rattle.reo_refute_parts.proofs.lists.NotedLemmas.{added_distinct}
 

@@ -6,8 +6,8 @@ use Rattle.reo_net_base.specs.Net.{Net}
 use Rattle.reo_joint_values.specs.Standing.{CanStand}
 use Rattle.reo_joint_values.specs.Many.{AreDistinct, HasMany}
 use Rattle.reo_refute_base.specs.Items.{Lists, items_at, offered_at, IsAdded, IsVisited}
-use Rattle.reo_refute_parts.specs.declared.lists.visits.Found.{Found}
-use Rattle.reo_refute_parts.specs.declared.lists.visits.Found.TheVariants.{Nothing, Items, Many}
+use Rattle.reo_refute_parts.specs.declared.lists.visits.Brought.{Brought}
+use Rattle.reo_refute_parts.specs.declared.lists.visits.Brought.TheVariants.{Nothing, Items, Many}
 
 -- A list for each joint, of at most 256 items that can stand there, none twice.
 pub record AreGood (net : Net) (lists : Lists) : Type 0 where
@@ -27,7 +27,7 @@ abbrev pub total : Lists → ℕ
 total lists = sum_by length lists
 
 -- What a visit of a joint has brought.
-abbrev pub Comes : Net → ℕ → Lists → Lists → Found → Type 0
+abbrev pub Comes : Net → ℕ → Lists → Lists → Brought → Type 0
 Comes net j old new Nothing = IsVisited net j old new × AreGood net new × (new ≡ old)
 Comes net j old new Items = IsVisited net j old new × AreGood net new × (total old < total new)
 Comes net j old new Many = HasMany net j

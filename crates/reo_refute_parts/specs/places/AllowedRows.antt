@@ -4,7 +4,7 @@ use Rattle.reo_net_base.specs.Net.{Net, Side, all_sides, row_count}
 use Rattle.reo_net_base.specs.Sides.{side_count}
 use Rattle.reo_net_laws.specs.Ends.{IsRowOf}
 use Rattle.reo_refute_base.specs.Places.{place_at, IsAllowed}
-use Rattle.reo_refute_parts.specs.declared.places.allowed.Allowed.{Allowed}
+use Rattle.reo_refute_parts.specs.declared.places.allowed.AllowedRows.{AllowedRows}
 
 -- A byte for each of so many rows, which is not 0 exactly where the row passes a test.
 pub record AreMarked (count : ℕ) (test : ℕ → Type 0) (bytes : List ℕ) : Type 0 where
@@ -30,7 +30,7 @@ pub record AreAgreeing (net : Net) (turn : ℕ) (given : List ℕ) (p : ℕ) (by
       → AreBytes net side (Agrees net turn given p side) (slice_index_or bytes side [])
 
 -- The rows that are allowed at a place.
-pub record AreAllowedRows (net : Net) (turn : ℕ) (given : List ℕ) (p : ℕ) (allowed : Allowed)
+pub record AreAllowedRows (net : Net) (turn : ℕ) (given : List ℕ) (p : ℕ) (allowed : AllowedRows)
     : Type 0 where
   pub agreeing : AreAgreeing net turn given p allowed.agreeing
   pub side : allowed.side ≡ (place_at net turn p).side

@@ -7,7 +7,7 @@ ghost use Rattle.reo_refute_parts.specs.lists.Visits.{AreGood};
 ghost use Rattle.reo_refute_base.specs.Wide.{IsWide};
 ghost use Rattle.reo_refute_parts.specs.lists.Passes.{Passes};
 
-use crate::lists::visits::{Found, visit};
+use crate::lists::visits::{Brought, visit};
 use reo_net_base::Primitive;
 use reo_net_circuit::{Circuit, Ends};
 use reo_values::{List, NoMemory, Value};
@@ -31,18 +31,18 @@ fn pass<P: Primitive>(
     circuit: &Circuit<P>,
     ends: &Ends,
     lists: &mut Vec<List<Value>>,
-) -> Result<Found, NoMemory>
+) -> Result<Brought, NoMemory>
     requires ends { AreEnds (net_of P.behaviour circuit.now) ends.now }
     requires lists { AreGood (net_of P.behaviour circuit.now) lists.old.items }
     ensures { let net = net_of P.behaviour circuit.now in
         IfOk result (Passes net lists.old.items lists.new.items) }
 {
-    let mut found = Found::Nothing;
+    let mut found = Brought::Nothing;
     for joint in 0..circuit.joint_count() {
         match visit(alloc, circuit, ends, joint, lists)? {
-            Found::Many => return Ok(Found::Many),
-            Found::Items => found = Found::Items,
-            Found::Nothing => {}
+            Brought::Many => return Ok(Brought::Many),
+            Brought::Items => found = Brought::Items,
+            Brought::Nothing => {}
         }
     }
     Ok(found)
@@ -64,9 +64,9 @@ pub fn item_lists<P: Primitive>(
     let mut lists = no_items(alloc, circuit.joint_count())?;
     'passes: loop {
         match pass(alloc, circuit, ends, &mut lists)? {
-            Found::Many => return Ok(None),
-            Found::Nothing => return Ok(Some(List::from_vec(lists))),
-            Found::Items => {}
+            Brought::Many => return Ok(None),
+            Brought::Nothing => return Ok(Some(List::from_vec(lists))),
+            Brought::Items => {}
         }
     }
 }

@@ -56,7 +56,7 @@ fn new_items<P: Primitive>(
 
 /// What a visit or a pass brings.
 #[derive(Clone, Copy, Debug, PartialEq, Eq)]
-pub(crate) enum Found {
+pub(crate) enum Brought {
     /// No item is new.
     Nothing,
     /// Items came at the back.
@@ -72,7 +72,7 @@ pub(crate) fn visit<P: Primitive>(
     ends: &Ends,
     joint: usize,
     lists: &mut Vec<List<Value>>,
-) -> Result<Found, NoMemory>
+) -> Result<Brought, NoMemory>
     requires ends { AreEnds (net_of P.behaviour circuit.now) ends.now }
     requires lists { AreGood (net_of P.behaviour circuit.now) lists.old.items }
     requires joint { joint < length circuit.now.joints }
@@ -81,12 +81,12 @@ pub(crate) fn visit<P: Primitive>(
 {
     circuit.known();
     match new_items(alloc, circuit, ends, lists.as_slice(), joint)? {
-        None => Ok(Found::Many),
+        None => Ok(Brought::Many),
         Some(new) => {
             let found = if new.is_empty() {
-                Found::Nothing
+                Brought::Nothing
             } else {
-                Found::Items
+                Brought::Items
             };
             lists[joint].append(new)?;
             Ok(found)

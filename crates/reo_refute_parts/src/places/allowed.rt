@@ -16,7 +16,7 @@ use std::alloc::Global;
 
 /// For each side a byte for each row, which is not 0 exactly where the row is allowed.
 #[derive(Drop)]
-pub struct Allowed {
+pub struct AllowedRows {
     /// The rows that put the numbers of the given rows at all places before.
     pub agreeing: List<List<u8>>,
     /// The side of the present place.
@@ -25,9 +25,9 @@ pub struct Allowed {
     pub smaller: List<u8>,
 }
 
-impl Allowed {
+impl AllowedRows {
     /// Before the first place each row agrees. `NoMemory` is out of memory.
-    pub fn new<P: Primitive>(alloc: Global, circuit: &Circuit<P>) -> Result<Allowed, NoMemory>
+    pub fn new<P: Primitive>(alloc: Global, circuit: &Circuit<P>) -> Result<AllowedRows, NoMemory>
         ensures { let net = net_of P.behaviour circuit.now in
             IfOk result (λ allowed. (turn : ℕ) (given : List ℕ)
             → AreAgreeing net turn given 0 allowed.agreeing) }
@@ -36,7 +36,7 @@ impl Allowed {
         for side in 0..circuit.sides() {
             agreeing.push(all_marked(alloc, circuit.rows(side))?)?;
         }
-        Ok(Allowed {
+        Ok(AllowedRows {
             agreeing,
             side: circuit.sides(),
             smaller: List::new(alloc),

@@ -3,8 +3,8 @@ use Rattle.std.proofs.Common.{ℕ, List, [], ◌∷◌, ◌++◌, map, Bool, tru
 use Rattle.std.specs.Prelude.{unwrap_or}
 use Rattle.std.specs.List.{AllByRecursion}
 use Rattle.reo_trees.specs.declared.items.Item.{Item}
-use Rattle.reo_trees.specs.declared.items.Form.{Form}
-use Rattle.reo_trees.specs.declared.items.Form.TheVariants as forms
+use Rattle.reo_trees.specs.declared.items.ItemForm.{ItemForm}
+use Rattle.reo_trees.specs.declared.items.ItemForm.TheVariants as forms
 use Rattle.reo_trees.specs.declared.programs.Declaration.{Declaration}
 use Rattle.reo_trees.specs.declared.programs.Declaration.TheVariants as declarations
 use Rattle.reo_rules.specs.Lists.{each_after}
@@ -29,7 +29,7 @@ named (m ∷ ms) all name = step (bytes_eq name m.name) (named ms all.1 name) wh
   step false rest = rest
 
 module _ (known : List Meaning) (all : AllByRecursion IsInner known) (types scope : List Typed) (path : List ℕ) (flat : List ℕ → List ℕ) where
-  of_form : (before : List Item) (f : Form) → AllByRecursion Inner (channels_in known types scope path flat before f)
+  of_form : (before : List Item) (f : ItemForm) → AllByRecursion Inner (channels_in known types scope path flat before f)
   of_form before (forms.Node name term) = tt
   of_form before (forms.Joined channel first second) = (of_channel types _ channel, tt)
   of_form before (forms.Used name arguments) = named known all name _ (map flat arguments)

@@ -6,7 +6,7 @@ use Rattle.std.specs.Cmp.Lexicographic.{slice_cmp}
 use Rattle.std.proofs.lemmas.Cmp.{nat_list_cmp_total}
 use Rattle.reo_net_base.specs.Net.{Net}
 use Rattle.reo_joint_values.specs.Values.{Choice}
-use Rattle.reo_walk.specs.declared.place.Place.{Place}
+use Rattle.reo_walk.specs.declared.place.KeyPlace.{KeyPlace}
 use Rattle.reo_walk.specs.Places.{numbers}
 use Rattle.reo_search.specs.choices.Trying.{IsLeastOf, IsFirstOf}
 use Rattle.reo_search.specs.choices.Best.{IsBefore, IsKept, NoneBefore, IsBetter}
@@ -26,7 +26,7 @@ before_twice : (a b : List ℕ) (old : Option (List ℕ)) → slice_cmp nat_cmp 
 before_twice a b None lt h = tt
 before_twice a b (Some best) lt h = nat_list_cmp_total.trans a b best lt h
 
-module _ (net : Net) (turn : ℕ) (places : List Place) where
+module _ (net : Net) (turn : ℕ) (places : List KeyPlace) where
   -- Where there are none, none stands before any.
   pub none_at_all : (Of : (ℕ → ℕ) → Choice → Type 0) → ((rows : ℕ → ℕ) (choice : Choice) → Of rows choice → ⊥) → (best : Option (List ℕ)) → NoneBefore Of net turn places best
   none_at_all Of none None = none

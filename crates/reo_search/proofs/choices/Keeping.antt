@@ -7,9 +7,9 @@ use Rattle.std.proofs.lemmas.List.{get_or_append_left, get_or_past}
 use Rattle.reo_net_base.specs.Net.{Net}
 use Rattle.reo_joint_values.specs.Values.{Names, Choice, giver_side}
 use Rattle.reo_weights.proofs.Listings.{in_filter}
-use Rattle.reo_rows.specs.Flags.{flag}
+use Rattle.reo_rows.specs.RowFlags.{flag}
 use Rattle.reo_rows.specs.Sets.{code_of}
-use Rattle.reo_walk.specs.declared.place.Place.{Place}
+use Rattle.reo_walk.specs.declared.place.KeyPlace.{KeyPlace}
 use Rattle.reo_search.specs.choices.Remaining.{AreLoopsIn, AreKept, HasEmpty, kept_from, choices_of}
 use Rattle.reo_search.specs.choices.Trying.{HasCodes, AreLeftWith, CoverWith, IsOpen}
 use Rattle.reo_search.specs.choices.Best.{IsBetter}
@@ -97,7 +97,7 @@ module _ (net : Net) (names : Names) (inside : ℕ → Bool) (loops codes : List
       )
 
   -- Where none stays at a joint, there is no assignment with these values.
-  pub none_kept : HasEmpty alive loops left → (turn : ℕ) (places : List Place) (best : Option (List ℕ)) → IsBetter (HasCodes net names inside loops codes) net turn places best best
+  pub none_kept : HasEmpty alive loops left → (turn : ℕ) (places : List KeyPlace) (best : Option (List ℕ)) → IsBetter (HasCodes net names inside loops codes) net turn places best best
   none_kept (m, lt, is) turn places best = inl (refl, none_at_all net turn places (HasCodes net names inside loops codes) none best)
     where
       none : (rows : ℕ → ℕ) (choice : Choice) → HasCodes net names inside loops codes rows choice → ⊥

@@ -8,12 +8,12 @@ use Rattle.reo_support.specs.Sets.{OneAtLoops}
 use Rattle.reo_joint_values.proofs.Narrowing.{chosen_stays, chosen_was}
 use Rattle.reo_weights.specs.Weights.{all_values}
 use Rattle.reo_side_tables.specs.declared.board.Board.{Board}
-use Rattle.reo_rows.specs.Flags.{flag}
+use Rattle.reo_rows.specs.RowFlags.{flag}
 use Rattle.reo_rows.specs.Sets.{code_of, family_of, names_of, IsReady}
 use Rattle.reo_propagate.specs.Beginning.{IsSearch}
 use Rattle.reo_propagate.specs.Narrow.{IsReduced}
 use Rattle.reo_propagate.specs.declared.state.State.{State}
-use Rattle.reo_walk.specs.declared.place.Place.{Place}
+use Rattle.reo_walk.specs.declared.place.KeyPlace.{KeyPlace}
 use Rattle.reo_walk.specs.Settling.{HasNone, IsFirstWith}
 use Rattle.reo_walk.specs.Pins.{ArePinned}
 use Rattle.reo_search.specs.choices.Remaining.{AreLoopsIn, AllAreThere, IsLeftOfAll}
@@ -27,7 +27,7 @@ pub may_restart : (net : Net) (boards : List Board) (ends : List (List ℕ)) (it
 may_restart net boards ends items inside state search = record { ready = search.ready; tables = search.tables; waits = search.tended.one_each }
 
 -- A first assignment, by what it is.
-pub least_of : (net : Net) (names : Names) (inside : ℕ → Bool) (turn : ℕ) (sets : Family) (places : List Place) (chosen : List ℕ) → IsFirstWith net names inside turn sets places chosen
+pub least_of : (net : Net) (names : Names) (inside : ℕ → Bool) (turn : ℕ) (sets : Family) (places : List KeyPlace) (chosen : List ℕ) → IsFirstWith net names inside turn sets places chosen
     → IsLeastOf (IsChosen net names inside sets) net turn places chosen
 least_of net names inside turn sets places chosen f = record { rows = f.first.rows; choice = f.first.choice; is_of = f.first.chosen; numbers_are = f.numbers_are; least = f.least }
 
@@ -73,23 +73,23 @@ module _ (net : Net) (names : Names) (inside : ℕ → Bool) (loops codes : List
   one_alone are one_each = one_at_loops net inside alive loops are (λ m lt c d a b. let m_lt : m < length codes = omega (arith, lt, one_each) in left.alone m c m_lt a ∙ sym (left.alone m d m_lt b))
 
   -- The best of what is left is the best with these values.
-  pub better_with : (turn : ℕ) (places : List Place) (old new : Option (List ℕ)) → IsBetter (IsChosen net names inside (family_of alive)) net turn places old new
+  pub better_with : (turn : ℕ) (places : List KeyPlace) (old new : Option (List ℕ)) → IsBetter (IsChosen net names inside (family_of alive)) net turn places old new
       → IsBetter (HasCodes net names inside loops codes) net turn places old new
   better_with turn places old new b =
       better_same net turn places (IsChosen net names inside (family_of alive)) (HasCodes net names inside loops codes) left.only left.kept old new b
 
   -- Where none is left, there is none with these values.
-  pub none_with : (turn : ℕ) (places : List Place) (best : Option (List ℕ)) → HasNone net names inside (family_of alive) → IsBetter (HasCodes net names inside loops codes) net turn places best best
+  pub none_with : (turn : ℕ) (places : List KeyPlace) (best : Option (List ℕ)) → HasNone net names inside (family_of alive) → IsBetter (HasCodes net names inside loops codes) net turn places best best
   none_with turn places best none = inl (refl, none_at_all net turn places (HasCodes net names inside loops codes) (λ rows choice h. none rows choice (left.kept rows choice h)) best)
 
   -- The first of what is left is the first with these values.
-  pub first_with : (turn : ℕ) (places : List Place) (found : List ℕ) (old new : Option (List ℕ)) → IsFirstWith net names inside turn (family_of alive) places found → IsKept old found new
+  pub first_with : (turn : ℕ) (places : List KeyPlace) (found : List ℕ) (old new : Option (List ℕ)) → IsFirstWith net names inside turn (family_of alive) places found → IsKept old found new
       → IsBetter (HasCodes net names inside loops codes) net turn places old new
   first_with turn places found old new f kept =
       better_with turn places old new (better_kept net turn places (IsChosen net names inside (family_of alive)) found old new (least_of net names inside turn (family_of alive) places found f) kept)
 
 -- What is left out of all values are all assignments: the best of them is the first of all.
-pub first_all : (net : Net) (names : Names) (inside : ℕ → Bool) (turn : ℕ) (alive : List (List Bool)) (places : List Place) (new : Option (List ℕ)) → IsLeftOfAll net names inside alive
+pub first_all : (net : Net) (names : Names) (inside : ℕ → Bool) (turn : ℕ) (alive : List (List Bool)) (places : List KeyPlace) (new : Option (List ℕ)) → IsLeftOfAll net names inside alive
     → IsBetter (IsChosen net names inside (family_of alive)) net turn places None new → IsFirstOf (IsChosen net names inside (all_values names)) net turn places new
 first_all net names inside turn alive places new left b =
     better_first net turn places (IsChosen net names inside (all_values names)) new
@@ -98,7 +98,7 @@ first_all net names inside turn alive places new left b =
     (λ rows choice a. chosen_stays net names inside (all_values names) (family_of alive) rows choice left.narrowed a) None new b)
 
 -- Those with no value given are all.
-pub first_none : (net : Net) (names : Names) (inside : ℕ → Bool) (loops codes : List ℕ) → codes ≡ [] → (turn : ℕ) (places : List Place) (new : Option (List ℕ)) → IsBetter (HasCodes net names inside loops codes) net turn places None new
+pub first_none : (net : Net) (names : Names) (inside : ℕ → Bool) (loops codes : List ℕ) → codes ≡ [] → (turn : ℕ) (places : List KeyPlace) (new : Option (List ℕ)) → IsBetter (HasCodes net names inside loops codes) net turn places None new
     → IsFirstOf (IsChosen net names inside (all_values names)) net turn places new
 first_none net names inside loops codes none turn places new b =
     better_first net turn places (IsChosen net names inside (all_values names)) new

@@ -22,7 +22,7 @@ use Rattle.reo_joint_values.specs.Supported.{IsNarrowed}
 use Rattle.reo_support.specs.Sets.{OneAtLoops}
 use Rattle.reo_joint_values.proofs.Narrowing.{narrowed_whole, chosen_stays}
 use Rattle.reo_side_tables.specs.declared.board.Board.{Board}
-use Rattle.reo_rows.specs.Flags.{flag}
+use Rattle.reo_rows.specs.RowFlags.{flag}
 use Rattle.reo_rows.specs.Sets.{code_of, value_of, family_of, names_of, IsReady}
 use Rattle.reo_rows.proofs.Codes.{code_value, value_code, flag_in}
 use Rattle.reo_search.specs.choices.Remaining.{AreLoopsIn, AllAreThere, IsLeftOfAll, HasOneAt, AreCodesAt, AreCodes, choices_of, CoverAll}

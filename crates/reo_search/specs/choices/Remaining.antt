@@ -9,7 +9,7 @@ use Rattle.reo_joint_values.specs.Values.{Names, Choice, giver_side}
 use Rattle.reo_joint_values.specs.Supported.{IsSupported, IsNarrowed}
 use Rattle.reo_joint_values.specs.Chosen.{IsChosen}
 use Rattle.reo_side_tables.specs.Marks.{IsJointOf}
-use Rattle.reo_rows.specs.Flags.{flag}
+use Rattle.reo_rows.specs.RowFlags.{flag}
 use Rattle.reo_rows.specs.Sets.{code_of, family_of}
 
 -- The loop joints of a set of sides.

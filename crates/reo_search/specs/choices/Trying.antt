@@ -13,11 +13,11 @@ use Rattle.reo_joint_values.specs.Chosen.{IsChosen}
 use Rattle.reo_side_tables.specs.declared.board.Board.{Board}
 use Rattle.reo_rows.specs.declared.basis.Basis.{Basis}
 use Rattle.reo_rows.specs.Rows.{AreTables}
-use Rattle.reo_rows.specs.Flags.{flag}
+use Rattle.reo_rows.specs.RowFlags.{flag}
 use Rattle.reo_rows.specs.Sets.{code_of, family_of, IsReady}
 use Rattle.reo_propagate.specs.declared.state.State.{State}
 use Rattle.reo_propagate.specs.Queues.{among}
-use Rattle.reo_walk.specs.declared.place.Place.{Place}
+use Rattle.reo_walk.specs.declared.place.KeyPlace.{KeyPlace}
 use Rattle.reo_walk.specs.Places.{numbers, side_of_place}
 use Rattle.reo_search.specs.choices.Remaining.{AreLoopsIn, choices_of}
 
@@ -32,15 +32,15 @@ abbrev pub MayRestartOn : {P : Type 0} → Net → Basis P → State → Type 0
 MayRestartOn net basis = MayRestart net basis.boards.now basis.ends.now basis.items.now
 
 -- Some sides are a knot, and these are places there and its loop joints.
-pub record AreOfKnot (net : Net) (sides : List ℕ) (places : List Place) (loops : List ℕ) : Type 0 where
+pub record AreOfKnot (net : Net) (sides : List ℕ) (places : List KeyPlace) (loops : List ℕ) : Type 0 where
   pub knot : IsKnot net (among sides)
   pub sides_are : (s : ℕ) → among sides s ≡ true → s < side_count net
   pub some_side : 0 < length sides
-  pub places_are : (k : ℕ) (d : Place) → k < length places → among sides (side_of_place (slice_index_or places k d)) ≡ true
+  pub places_are : (k : ℕ) (d : KeyPlace) → k < length places → among sides (side_of_place (slice_index_or places k d)) ≡ true
   pub loops_are : AreLoopsIn net (among sides) loops
 
 -- Of the assignments of which something holds, one that is first by the numbers at some places.
-pub record IsLeastOf (Of : (ℕ → ℕ) → Choice → Type 0) (net : Net) (turn : ℕ) (places : List Place) (chosen : List ℕ) : Type 0 where
+pub record IsLeastOf (Of : (ℕ → ℕ) → Choice → Type 0) (net : Net) (turn : ℕ) (places : List KeyPlace) (chosen : List ℕ) : Type 0 where
   pub rows : ℕ → ℕ
   pub choice : Choice
   pub is_of : Of rows choice
@@ -49,7 +49,7 @@ pub record IsLeastOf (Of : (ℕ → ℕ) → Choice → Type 0) (net : Net) (tur
       → slice_cmp nat_cmp (numbers net turn places others) chosen ≢ Less
 
 -- The numbers of the first of them, if there is one.
-abbrev pub IsFirstOf : ((ℕ → ℕ) → Choice → Type 0) → Net → ℕ → List Place → Option (List ℕ) → Type 0
+abbrev pub IsFirstOf : ((ℕ → ℕ) → Choice → Type 0) → Net → ℕ → List KeyPlace → Option (List ℕ) → Type 0
 IsFirstOf Of net turn places None = (rows : ℕ → ℕ) (choice : Choice) → Of rows choice → ⊥
 IsFirstOf Of net turn places (Some chosen) = IsLeastOf Of net turn places chosen
 

@@ -17,7 +17,7 @@ use reo_propagate::State;
 use reo_rows::Basis;
 use reo_steps::Steps;
 use reo_values::{List, NoMemory};
-use reo_walk::{Place, first_by};
+use reo_walk::{KeyPlace, first_by};
 use std::alloc::Global;
 use std::sync::ledger::Ledger;
 
@@ -28,7 +28,7 @@ fn try_choice<P: Primitive, L: Ledger>(
     basis: &Basis<'_, P>,
     sides: &[usize],
     state: &mut State,
-    places: &[Place],
+    places: &[KeyPlace],
     turn: u64,
     loops: &[usize],
     codes: &[usize],
@@ -81,7 +81,7 @@ fn improve<P: Primitive, L: Ledger>(
     basis: &Basis<'_, P>,
     sides: &[usize],
     state: &mut State,
-    places: &[Place],
+    places: &[KeyPlace],
     turn: u64,
     loops: &[usize],
     left: &List<List<usize>>,
@@ -160,7 +160,7 @@ pub fn first_over<P: Primitive, L: Ledger>(
     basis: &Basis<'_, P>,
     sides: &[usize],
     state: &mut State,
-    places: &[Place],
+    places: &[KeyPlace],
     turn: u64,
     loops: &[usize],
     left: &List<List<usize>>,

@@ -1,14 +1,14 @@
 //! What is left at joints of lists of values there.
 ghost use Rattle.std.specs.Prelude.{◌≡◌, ◌<◌, ℕ, IsTrue, IfOk, MatchOption, filter, length, slice_index};
-ghost use Rattle.reo_rows.specs.Flags.{flag};
+ghost use Rattle.reo_rows.specs.RowFlags.{flag};
 ghost use Rattle.reo_search.specs.choices.Remaining.{HasOneAt, AreKept, HasEmpty};
 
-use reo_rows::Flags;
+use reo_rows::RowFlags;
 use reo_values::{List, NoMemory};
 use std::alloc::Global;
 
 /// Whether at most one flag is set at a joint. This takes no memory.
-fn has_one(alive: &Flags, joint: usize) -> bool
+fn has_one(alive: &RowFlags, joint: usize) -> bool
     requires { joint < length alive.now }
     ensures { IsTrue result → HasOneAt alive.now joint }
 {
@@ -25,7 +25,7 @@ fn has_one(alive: &Flags, joint: usize) -> bool
 }
 
 /// Whether at most one flag is set at each of some joints. This takes no memory.
-pub(crate) fn have_one(alive: &Flags, joints: &[usize]) -> bool
+pub(crate) fn have_one(alive: &RowFlags, joints: &[usize]) -> bool
     requires { (m : ℕ) → m < length joints.now → slice_index joints.now m < length alive.now }
     ensures { IsTrue result → (m : ℕ) → m < length joints.now
         → HasOneAt alive.now (slice_index joints.now m) }
@@ -41,7 +41,7 @@ pub(crate) fn have_one(alive: &Flags, joints: &[usize]) -> bool
 /// Those of some values whose flags are set at a joint. `NoMemory` is out of memory.
 fn kept_at(
     alloc: Global,
-    alive: &Flags,
+    alive: &RowFlags,
     joint: usize,
     values: &List<usize>,
 ) -> Result<List<usize>, NoMemory>
@@ -62,7 +62,7 @@ fn kept_at(
 /// at one of them. `NoMemory` is out of memory.
 pub(crate) fn kept_of(
     alloc: Global,
-    alive: &Flags,
+    alive: &RowFlags,
     joints: &[usize],
     left: &List<List<usize>>,
 ) -> Result<Option<List<List<usize>>>, NoMemory>

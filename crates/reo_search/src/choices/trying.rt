@@ -16,7 +16,7 @@ use reo_propagate::{State, propagate, restart};
 use reo_rows::Basis;
 use reo_steps::Steps;
 use reo_values::{List, NoMemory};
-use reo_walk::{Place, pin, walk};
+use reo_walk::{KeyPlace, pin, walk};
 use std::alloc::Global;
 use std::sync::ledger::Ledger;
 
@@ -27,7 +27,7 @@ pub(crate) fn narrow_to<P: Primitive>(
     basis: &Basis<'_, P>,
     sides: &[usize],
     state: &mut State,
-    places: &[Place],
+    places: &[KeyPlace],
     loops: &[usize],
     codes: &[usize],
 ) -> Result<(), NoMemory>
@@ -59,7 +59,7 @@ pub(crate) fn settles<P: Primitive, L: Ledger>(
     basis: &Basis<'_, P>,
     sides: &[usize],
     state: &mut State,
-    places: &[Place],
+    places: &[KeyPlace],
     turn: u64,
     loops: &[usize],
     best: &mut Option<List<usize>>,
@@ -103,7 +103,7 @@ pub(crate) fn try_front<P: Primitive, L: Ledger>(
     basis: &Basis<'_, P>,
     sides: &[usize],
     state: &mut State,
-    places: &[Place],
+    places: &[KeyPlace],
     turn: u64,
     loops: &[usize],
     left: &List<List<usize>>,

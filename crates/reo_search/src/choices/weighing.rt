@@ -10,7 +10,7 @@ ghost use Rattle.reo_search.specs.choices.Remaining.{AllAreThere, IsLeftOfAll, A
 
 use reo_net_base::Primitive;
 use reo_propagate::{State, propagate};
-use reo_rows::{Basis, Flags};
+use reo_rows::{Basis, RowFlags};
 use reo_values::{List, NoMemory};
 use std::alloc::Global;
 
@@ -18,7 +18,7 @@ use std::alloc::Global;
 const MOST: u64 = 1_000_000_000_000_000_000;
 
 /// The places of the flags that are set at a joint. `NoMemory` is out of memory.
-fn codes_at(alloc: Global, alive: &Flags, joint: usize) -> Result<List<usize>, NoMemory>
+fn codes_at(alloc: Global, alive: &RowFlags, joint: usize) -> Result<List<usize>, NoMemory>
     requires { joint < length alive.now }
     ensures { IfOk result (AreCodesAt alive.now joint) }
 {
@@ -32,7 +32,7 @@ fn codes_at(alloc: Global, alive: &Flags, joint: usize) -> Result<List<usize>, N
 }
 
 /// The places of the flags that are set at each of some joints. `NoMemory` is out of memory.
-fn codes_of(alloc: Global, alive: &Flags, joints: &[usize]) -> Result<List<List<usize>>, NoMemory>
+fn codes_of(alloc: Global, alive: &RowFlags, joints: &[usize]) -> Result<List<List<usize>>, NoMemory>
     requires { (m : ℕ) → m < length joints.now → slice_index joints.now m < length alive.now }
     ensures { IfOk result (AreCodes alive.now joints.now (length joints.now)) }
 {

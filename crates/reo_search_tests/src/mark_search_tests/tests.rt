@@ -8,7 +8,7 @@ use crate::mark_search_tests::building::put_together;
 use crate::mark_search_tests::cases::{CASES, Case};
 use reo_kinds::Kind;
 use reo_knots::find_knots;
-use reo_mark_search::{Found, MarkSearch};
+use reo_mark_search::{MarkFinding, MarkSearch};
 use reo_net::plain_first;
 use reo_net_circuit::{Circuit, ends_of};
 use reo_values::{List, NoMemory};
@@ -41,9 +41,9 @@ fn searched(
     let mut jammed: usize = 0;
     for part in 0..knots.count() {
         match search.search(circuit, &knots, part, turn, rows) {
-            Found::Rows => {}
-            Found::Jam => jammed = jammed.saturating_add(1),
-            Found::Unknown => return Ok(None),
+            MarkFinding::Rows => {}
+            MarkFinding::Jam => jammed = jammed.saturating_add(1),
+            MarkFinding::Unknown => return Ok(None),
         }
     }
     Ok(Some(jammed))

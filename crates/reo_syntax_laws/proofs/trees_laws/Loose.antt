@@ -1,8 +1,8 @@
 -- Free names have no `@`, so what a text says is spelled.
 use Rattle.std.proofs.Common.{arith, ◌≡◌, ℕ, List, [], ◌∷◌, inl, inr}
 use Rattle.reo_values.specs.Names.{IsName, IsNameStart, IsNameByte}
-use Rattle.reo_trees.specs.declared.items.Form.{Form}
-use Rattle.reo_trees.specs.declared.items.Form.TheVariants as forms
+use Rattle.reo_trees.specs.declared.items.ItemForm.{ItemForm}
+use Rattle.reo_trees.specs.declared.items.ItemForm.TheVariants as forms
 use Rattle.reo_trees.specs.declared.programs.Connector.{Connector}
 use Rattle.reo_trees.specs.declared.programs.Declaration.{Declaration}
 use Rattle.reo_trees.specs.declared.programs.Declaration.TheVariants as declarations
@@ -23,7 +23,7 @@ pub name_plain : (name : List ℕ) → IsName name → IsItemName name
 name_plain [] is = absurd is
 name_plain (b ∷ bs) is = all-cons (λ c. c ≡ 64 → ⊥) b bs (start_plain b is.0) (λ k d below. byte_plain _ (is.1 k d below))
 
-form_loose : (f : Form) → IsFormBy IsFreeName f → IsSpelledForm f
+form_loose : (f : ItemForm) → IsFormBy IsFreeName f → IsSpelledForm f
 form_loose (forms.Node name term) all = (name_plain name all.0.0, all.1)
 form_loose (forms.Joined channel first second) all = (all.0, name_plain first all.1.0, name_plain second all.2.0)
 form_loose (forms.Used name arguments) all = (name_plain name all.0.0, λ k d below. name_plain _ (all.1 k d below).0)

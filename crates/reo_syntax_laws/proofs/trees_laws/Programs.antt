@@ -8,7 +8,7 @@ use Rattle.reo_trees.specs.declared.literals.Literal.{Literal}
 use Rattle.reo_trees.specs.declared.terms.Term.{Term}
 use Rattle.reo_trees.specs.declared.types.TypeTerm.{TypeTerm}
 use Rattle.reo_trees.specs.declared.items.Item.{Item}
-use Rattle.reo_trees.specs.declared.items.Form.{Form}
+use Rattle.reo_trees.specs.declared.items.ItemForm.{ItemForm}
 use Rattle.reo_trees.specs.declared.items.Channel.{Channel}
 use Rattle.reo_trees.specs.declared.programs.Parameter.{Parameter}
 use Rattle.reo_trees.specs.declared.programs.Connector.{Connector}
@@ -30,7 +30,7 @@ use Rattle.reo_syntax_laws.proofs.trees_laws.Literals.{has-literal-form}
 use Rattle.reo_syntax_laws.proofs.trees_laws.Terms.{has-term-form, has-unary-form}
 
 -- All names of nodes and connectors are free.
-abbrev pub IsFreeForm : Form → Type 0
+abbrev pub IsFreeForm : ItemForm → Type 0
 IsFreeForm f = IsFormBy IsFreeName f
 
 abbrev pub IsFreeItem : Item → Type 0
@@ -54,16 +54,16 @@ Held None = Unit {0}
 Held (Some l) = IsSpelledLiteral l
 
 -- What becomes an item behind a name, a size or a channel.
-abbrev Named : (List ℕ → Form) → Type 0
+abbrev Named : (List ℕ → ItemForm) → Type 0
 Named f = (x : List ℕ) → IsFreeName x → IsFreeForm (f x)
 
-abbrev Sized : (ℕ → Form) → Type 0
+abbrev Sized : (ℕ → ItemForm) → Type 0
 Sized f = (n : ℕ) → Lies 1 1024 n → IsFreeForm (f n)
 
-abbrev Between : (List ℕ → ℕ → Form) → Type 0
+abbrev Between : (List ℕ → ℕ → ItemForm) → Type 0
 Between f = (x : List ℕ) (n : ℕ) → IsFreeName x → Lies 1 1024 n → IsFreeForm (f x n)
 
-abbrev Joins : (Channel → Form) → Type 0
+abbrev Joins : (Channel → ItemForm) → Type 0
 Joins f = (c : Channel) → IsSpelledChannel c → IsFreeForm (f c)
 
 -- And what becomes a parameter or a connector.
@@ -82,7 +82,7 @@ MadeOf f = (n : List ℕ) (l : ℕ) → IsFreeName n → IsFreeConnector (f n l)
 abbrev Declared : (ℕ → Declaration) → Type 0
 Declared f = (l : ℕ) → IsFreeDeclaration (f l)
 
-held-one : (x y : List ℕ) (held : Option Literal) → IsFreeName x → IsFreeName y → Held held → IsFreeForm (Rattle.reo_trees.specs.declared.items.Form.TheVariants.Joined (Rattle.reo_trees.specs.declared.items.Channel.TheVariants.Fifo1 held) x y)
+held-one : (x y : List ℕ) (held : Option Literal) → IsFreeName x → IsFreeName y → Held held → IsFreeForm (Rattle.reo_trees.specs.declared.items.ItemForm.TheVariants.Joined (Rattle.reo_trees.specs.declared.items.Channel.TheVariants.Fifo1 held) x y)
 held-one x y None p q h = (tt, p, q)
 held-one x y (Some l) p q h = (h, p, q)
 

@@ -6,7 +6,7 @@ use Rattle.reo_net_base.specs.Wired.{IsWired}
 use Rattle.reo_kinds.specs.Kinds.{behaviour_of}
 use Rattle.reo_listing.specs.declared.base.fault.ListFault.{ListFault}
 use Rattle.reo_listing.specs.declared.base.fault.ListFault.TheVariants.{Filter, Spent, Rows, NoMemory}
-use Rattle.reo_listing.specs.declared.base.table.Table.{Table}
+use Rattle.reo_listing.specs.declared.base.table.BoundaryTable.{BoundaryTable}
 use Rattle.reo_listing.specs.answers.Laws.{ListingIsOne}
 use Rattle.reo_command.specs.declared.command.Command.TheVariants.{Tables}
 use Rattle.reo_command.specs.declared.role.Role.TheVariants.{Circuit}
@@ -18,26 +18,26 @@ use Rattle.reo_command.proofs.top_base.ToldLemmas.{told_status, told_not_three}
 use Rattle.reo_top.specs.tables.Listings.{listing_text, listing_status, IsListing, ListsTables}
 
 -- There is one answer.
-pub only_listing : ListingIsOne → (budget : ℕ) (flat : FlatCircuit) → IsWired (net_of behaviour_of flat.wiring) → (x : Result (List Table) ListFault) → IsListing budget flat x
-    → (y : Result (List Table) ListFault) → IsListing budget flat y → x ≡ y
+pub only_listing : ListingIsOne → (budget : ℕ) (flat : FlatCircuit) → IsWired (net_of behaviour_of flat.wiring) → (x : Result (List BoundaryTable) ListFault) → IsListing budget flat x
+    → (y : Result (List BoundaryTable) ListFault) → IsListing budget flat y → x ≡ y
 only_listing one budget flat wired x is y other = one flat.wiring wired budget x y is.0 other.0 is.1 other.1
 
 -- The statuses of listings.
-status_in : (x : Result (List Table) ListFault) → IsAmong (statuses_of Tables) (listing_status x)
+status_in : (x : Result (List BoundaryTable) ListFault) → IsAmong (statuses_of Tables) (listing_status x)
 status_in (Ok tables) = refl
 status_in (Err (Filter primitive)) = refl
 status_in (Err (Spent part weight)) = refl
 status_in (Err (Rows part)) = refl
 status_in (Err NoMemory) = refl
 
-pub status_not_nine : (x : Result (List Table) ListFault) → listing_status x ≢ 9
+pub status_not_nine : (x : Result (List BoundaryTable) ListFault) → listing_status x ≢ 9
 status_not_nine (Ok tables) e = omega (arith, e)
 status_not_nine (Err (Filter primitive)) e = omega (arith, e)
 status_not_nine (Err (Spent part weight)) e = omega (arith, e)
 status_not_nine (Err (Rows part)) e = omega (arith, e)
 status_not_nine (Err NoMemory) e = omega (arith, e)
 
-status_not_three : (x : Result (List Table) ListFault) → listing_status x ≢ 3
+status_not_three : (x : Result (List BoundaryTable) ListFault) → listing_status x ≢ 3
 status_not_three (Ok tables) e = omega (arith, e)
 status_not_three (Err (Filter primitive)) e = omega (arith, e)
 status_not_three (Err (Spent part weight)) e = omega (arith, e)

@@ -16,7 +16,7 @@ ghost use Rattle.reo_top.specs.runs.ProvedRuns.{ProvesRun};
 ghost use Rattle.reo_top.specs.runs.Traces.{ending_status};
 
 use reo_command::{
-    DONE, LIMIT_REACHED, PART_OVER, STUCK, Status, WRITE_FAULT, Work, no_memory, read_run, refuse,
+    DONE, LIMIT_REACHED, PART_OVER, STUCK, Status, WRITE_FAULT, CircuitAndScript, no_memory, read_run, refuse,
     usual_limits,
 };
 use reo_io::{Files, Sink};
@@ -41,7 +41,7 @@ fn ending_status(ending: Ending) -> u8
 }
 
 /// Runs a script on a circuit, and writes a proved text of the run.
-fn write_proved<S: Sink>(alloc: Global, work: Work, limits: Limits, out: &mut S) -> Status
+fn write_proved<S: Sink>(alloc: Global, work: CircuitAndScript, limits: Limits, out: &mut S) -> Status
     requires some_budget { 1 ≤ limits.budget }
     requires small_budget { limits.budget ≤ 10 ^ 9 }
     requires some_round { 1 ≤ limits.rounds }
@@ -55,7 +55,7 @@ fn write_proved<S: Sink>(alloc: Global, work: Work, limits: Limits, out: &mut S)
     ensures fair { IsFair (sink_change S.told S.faults out.old out.new) result.code }
     ensures tells { TellsFaults (sink_change S.told S.faults out.old out.new) result.code }
 {
-    let Work { flat, script } = work;
+    let CircuitAndScript { flat, script } = work;
     known_order(&flat.circuit);
     one_trace::<Kind>();
     proved_texts_are_of_runs::<Kind>();

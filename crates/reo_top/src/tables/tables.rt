@@ -6,7 +6,7 @@ ghost use Rattle.reo_top.specs.tables.Listings.{listing_status, listing_text};
 
 use reo_command::{DONE, OUT_OF_MEMORY, PART_OVER, TABLES_REFUSED};
 use reo_flatten::Flat;
-use reo_listing::{ListFault, Table, fault_line, list, tables_text};
+use reo_listing::{ListFault, BoundaryTable, fault_line, list, tables_text};
 use reo_net_base::Port;
 use reo_steps::Steps;
 use reo_values::{Bytes, List, NoMemory};
@@ -15,7 +15,7 @@ use std::marker::Brand;
 use std::sync::ledger::{Blank, Ledger};
 
 /// What listing the tables of a circuit answers.
-pub(crate) type Listing = Result<List<Table>, ListFault>;
+pub(crate) type Listing = Result<List<BoundaryTable>, ListFault>;
 
 /// The tables of a circuit, the steps of the search counted in a book.
 fn list_counted<L: Ledger>(alloc: Global, flat: &Flat, budget: u64, blank: Blank) -> Listing

@@ -17,7 +17,7 @@ ghost use Rattle.reo_top.specs.verdicts.Judged.{JudgesProof};
 ghost use Rattle.reo_top.specs.verdicts.ProofStatuses.{proof_status};
 
 use reo_command::{
-    DONE, PROOF_REFUSED, ProofClaim, Status, Work, answer, no_memory, read_proof, refuse,
+    DONE, PROOF_REFUSED, ProofClaim, Status, CircuitAndScript, answer, no_memory, read_proof, refuse,
 };
 use reo_io::{Files, Sink};
 use reo_proof_texts::proof_verdict_line;
@@ -47,7 +47,7 @@ fn write_proof_verdict<S: Sink>(alloc: Global, claim: ProofClaim, out: &mut S) -
     ensures tells { TellsFaults (sink_change S.told S.faults out.old out.new) result.code }
 {
     let ProofClaim {
-        work: Work { flat, script },
+        work: CircuitAndScript { flat, script },
         proof,
     } = claim;
     let verdict = verify_proof(alloc, flat, script, proof.as_slice());

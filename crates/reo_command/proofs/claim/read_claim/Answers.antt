@@ -1,7 +1,7 @@
 use Rattle.std.proofs.Common.{List, [], ◌∷◌, refl}
 use Rattle.reo_trace_reader.specs.texts.Texts.{IsTraceText}
 use Rattle.reo_command.specs.declared.claim.Claim.{Claim}
-use Rattle.reo_command.specs.declared.reading.Work.{Work}
+use Rattle.reo_command.specs.declared.reading.CircuitAndScript.{CircuitAndScript}
 use Rattle.reo_command.specs.declared.role.Role.TheVariants.{Circuit, Script, Trace}
 use Rattle.reo_command.specs.Claims.{TraceStops, ReadsClaim, StopsVerify}
 use Rattle.reo_command.specs.Fetched.{Content}
@@ -13,7 +13,7 @@ use Rattle.reo_command.proofs.WorkLemmas.{run_all, run_here}
 use Rattle.reo_command.proofs.claim.read_claim.Goals as goal
 
 -- What is read, as the code has it.
-abbrev First : List Content → Work → Type 0
+abbrev First : List Content → CircuitAndScript → Type 0
 First answers work = ReadsRun answers (runnable_in work.flat work.script)
 
 abbrev Reads : List Content → Claim → Type 0

@@ -1,7 +1,7 @@
 use Rattle.std.proofs.Common.{ℕ, List, [], ◌∷◌, refl}
 use Rattle.reo_net_base.specs.declared.port.Port.{Port}
 use Rattle.reo_command.specs.declared.claim.ProofClaim.{ProofClaim}
-use Rattle.reo_command.specs.declared.reading.Work.{Work}
+use Rattle.reo_command.specs.declared.reading.CircuitAndScript.{CircuitAndScript}
 use Rattle.reo_command.specs.declared.role.Role.TheVariants.{Circuit, Script, Proof}
 use Rattle.reo_command.specs.declared.stop.Stop.{Stop}
 use Rattle.reo_command.specs.Claims.{IsProofText, NoTextStops, ReadsProof, StopsProof}
@@ -14,7 +14,7 @@ use Rattle.reo_command.proofs.WorkLemmas.{run_all, run_here}
 use Rattle.reo_command.proofs.claim.read_proof.Goals as goal
 
 -- What is read, as the code has it.
-abbrev First : List Content → Work → Type 0
+abbrev First : List Content → CircuitAndScript → Type 0
 First answers work = ReadsRun answers (runnable_in work.flat work.script)
 
 abbrev Reads : List Content → ProofClaim → Type 0

@@ -1,6 +1,6 @@
 use Rattle.std.proofs.Common.{List, [], ◌∷◌, refl}
 use Rattle.reo_flatten.specs.declared.last.Flat.{Flat}
-use Rattle.reo_command.specs.declared.reading.Work.{Work}
+use Rattle.reo_command.specs.declared.reading.CircuitAndScript.{CircuitAndScript}
 use Rattle.reo_command.specs.declared.role.Role.TheVariants.{Circuit, Script}
 use Rattle.reo_command.specs.Fetched.{Content}
 use Rattle.reo_command.specs.Readings.{IsCircuitText, CircuitStops, ReadsCircuit, StopsCheck, ReadsRun, StopsRun}
@@ -14,7 +14,7 @@ use Rattle.reo_command.proofs.reading.read_run.Goals as goal
 abbrev First : List Content → Flat → Type 0
 First answers flat = ReadsCircuit answers (circuit_in flat)
 
-abbrev Reads : List Content → Work → Type 0
+abbrev Reads : List Content → CircuitAndScript → Type 0
 Reads answers work = ReadsRun answers (runnable_in work.flat work.script)
 
 pub returns-in-Err-clause-read : goal.returns-in-Err-clause-read

@@ -2,7 +2,7 @@ use Rattle.std.proofs.Common.{◌≡◌, ◌∙◌, ℕ, ◌<◌, Bool, List, []
 use Rattle.std.proofs.lemmas.List.{get_or_default}
 use Rattle.reo_net_base.specs.Net.{Net, net_of}
 use Rattle.reo_net_laws.specs.Knots.{Knotted, in_knot}
-use Rattle.reo_kept_tables.specs.Tables.{AreRightOn}
+use Rattle.reo_kept_tables.specs.SearchTables.{AreRightOn}
 use Rattle.reo_kept_tables.proofs.PartSets.{is_part, part_real, part_joints, part_apart}
 use Rattle.reo_kept_tables.proofs.Renewed.{on_ok}
 use Rattle.reo_kept_tables.proofs.parts.refresh_part.Goals as goal

@@ -1,6 +1,6 @@
 use Rattle.std.proofs.Common.{ℕ, List}
 use Rattle.reo_net_base.specs.Net.{Net, net_of}
-use Rattle.reo_kept_tables.specs.declared.tables.Tables.{Tables}
+use Rattle.reo_kept_tables.specs.declared.tables.SearchTables.{SearchTables}
 use Rattle.reo_kept_tables.proofs.Renewed.{on_ok}
 use Rattle.reo_kept_tables.proofs.Refreshed.{joints_stay, sides_stay, apart_joints, apart_sides, all_right}
 use Rattle.reo_kept_tables.proofs.refreshing.refresh.Goals as goal
@@ -22,6 +22,6 @@ returns-clause-others g c other closed apart right =
     let net : Net = net_of g.P.Primitive.behaviour c.args.circuit.now in
     let sides : List ℕ = c.args.sides.now in
     let joints : List ℕ = c.args.joints.now in
-    let mid : Tables = c.renew_joints.new.tables in
+    let mid : SearchTables = c.renew_joints.new.tables in
     sides_stay net other sides mid c.renew_sides.new.tables c.renew_joints.ensures.room c.renew_sides.ensures.only (apart_sides sides other apart)
     (joints_stay net other c.known.ensures.wired closed joints c.args.tables.now mid c.requires.room c.renew_joints.ensures.only (apart_joints net sides joints other c.requires.joints apart) right)

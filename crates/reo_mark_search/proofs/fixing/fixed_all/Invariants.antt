@@ -1,7 +1,7 @@
 use Rattle.std.proofs.Common.{[], slice_index_or}
 use Rattle.reo_net_base.specs.Net.{net_of}
 use Rattle.reo_net_laws.specs.Knots.{in_knot}
-use Rattle.reo_mark_search.specs.Found.{AreRowsElsewhere}
+use Rattle.reo_mark_search.specs.MarkFinding.{AreRowsElsewhere}
 use Rattle.reo_mark_search.specs.Walking.{AreFixed}
 use Rattle.reo_mark_search.proofs.fixing.fixed_all.Given as goal
 

@@ -3,7 +3,7 @@ use Rattle.std.specs.Prelude.{Contains}
 use Rattle.reo_net_base.specs.Net.{Net, net_of}
 use Rattle.reo_net_base.specs.Sides.{side_count}
 use Rattle.reo_net_laws.specs.Knots.{in_knot}
-use Rattle.reo_mark_sets.specs.declared.marks.Marks.{Marks}
+use Rattle.reo_mark_sets.specs.declared.marks.PlainMarks.{PlainMarks}
 use Rattle.reo_mark_search.specs.Fitting.{IsRival}
 use Rattle.reo_mark_search.specs.Places.{lead_places, class_places, row_places}
 use Rattle.reo_mark_search.specs.Walking.{GoesOn}
@@ -30,7 +30,7 @@ returns-then-fixed_all-clause-found g c =
     let net : Net = net_of g.P.Primitive.behaviour c.args.circuit.now in
     let inside : ℕ → Bool = in_knot c.args.knots.now.numbers c.args.part in
     let sides : List ℕ = slice_index_or c.args.knots.now.sides c.args.part [] in
-    let last : List Marks = c.lead_all.new.sets in
+    let last : List PlainMarks = c.lead_all.new.sets in
     let rows : List ℕ = c.fixed_all.new.rows in
     let fixed = c.fixed_all.ensures.fixed c.if-fixed_all.true in
     let whole : take (length sides) sides ≡ sides = take_all (length sides) sides (le_refl (length sides)) in

@@ -1,7 +1,7 @@
 use Rattle.std.proofs.Common.{◌≡◌, ◌∙◌, List, subst}
 use Rattle.reo_net_base.specs.Net.{Net, net_of}
 use Rattle.reo_net_laws.specs.Knots.{in_knot}
-use Rattle.reo_mark_sets.specs.declared.marks.Marks.{Marks}
+use Rattle.reo_mark_sets.specs.declared.marks.PlainMarks.{PlainMarks}
 use Rattle.reo_mark_search.specs.Fitting.{AreReduced}
 use Rattle.reo_mark_search.specs.Places.{class_place}
 use Rattle.reo_mark_search.proofs.Seated.{classed_taken}
@@ -19,4 +19,4 @@ returns-clause-goes_on g c =
     (classed_taken net c.known.ensures.wired c.args.spots.now c.requires.spots inside (c.requires.knots.are_knots c.args.part c.requires.part).closed
     seat.primitive seat.side seat.primitive_in seat.side_in c.args.side seat.number c.requires.here c.seat_at-seat.result.form seat.form_is c.seat_at-seat.result.places.now seat.ends
     c.args.turn c.args.sets.now c.take_class.new.self c.take_class.ensures)
-    (subst (λ (s : List Marks). AreReduced net inside s c.settle.new.sets) mid c.settle.ensures.reduced)
+    (subst (λ (s : List PlainMarks). AreReduced net inside s c.settle.new.sets) mid c.settle.ensures.reduced)

@@ -2,7 +2,7 @@ use Rattle.std.proofs.Common.{◌≡◌, ◌<◌, ℕ, slice_index}
 use Rattle.reo_net_base.specs.Net.{net_of}
 use Rattle.reo_net_laws.specs.Knots.{in_knot}
 use Rattle.reo_net_laws.specs.JamRows.{jam_rows}
-use Rattle.reo_mark_search.specs.Found.{AreRowsElsewhere}
+use Rattle.reo_mark_search.specs.MarkFinding.{AreRowsElsewhere}
 use Rattle.reo_mark_search.proofs.walking.jam_all.Given as goal
 
 -- The sides so far have their jam rows.

@@ -4,7 +4,7 @@ use Rattle.reo_net_base.specs.First.{is_leading}
 use Rattle.reo_net_base.specs.Net.{Net, net_of, no_side}
 use Rattle.reo_net_laws.specs.Keys.{leads_at}
 use Rattle.reo_net_laws.specs.Knots.{in_knot}
-use Rattle.reo_mark_sets.specs.declared.marks.Marks.{Marks}
+use Rattle.reo_mark_sets.specs.declared.marks.PlainMarks.{PlainMarks}
 use Rattle.reo_mark_search.specs.Places.{lead_places}
 use Rattle.reo_mark_search.specs.Walking.{GoesOn}
 use Rattle.reo_mark_search.proofs.Parts.{side_here, side_below}
@@ -36,14 +36,14 @@ loop-index-preserved g c =
     elim c.else-leads.branch [
       | else-leads-via-then-leads+else-not-class_at w ↦
           record {
-            one_each = ap (λ (s : List Marks). length s) w.sets-is ∙ w.class_at.ensures.one_each ∙ inv.one_each;
-            goes_on = subst (λ (s : List Marks). GoesOn net inside (lead_places net c.args.turn (take (n + 1) sides)) c.args.sets.now s) (sym w.sets-is)
+            one_each = ap (λ (s : List PlainMarks). length s) w.sets-is ∙ w.class_at.ensures.one_each ∙ inv.one_each;
+            goes_on = subst (λ (s : List PlainMarks). GoesOn net inside (lead_places net c.args.turn (take (n + 1) sides)) c.args.sets.now s) (sym w.sets-is)
                 (lead_next net c.args.turn inside sides n (omega arith) c.args.sets.now c.loop-index.sets w.class_at.new.sets (leads ∙ w.if-leads.true) inv.goes_on w.class_at.ensures.goes_on);
           }
       | else-leads-via-else-leads w ↦
           record {
-            one_each = ap (λ (s : List Marks). length s) w.sets-is ∙ inv.one_each;
-            goes_on = subst (λ (s : List Marks). GoesOn net inside (lead_places net c.args.turn (take (n + 1) sides)) c.args.sets.now s) (sym w.sets-is)
+            one_each = ap (λ (s : List PlainMarks). length s) w.sets-is ∙ inv.one_each;
+            goes_on = subst (λ (s : List PlainMarks). GoesOn net inside (lead_places net c.args.turn (take (n + 1) sides)) c.args.sets.now s) (sym w.sets-is)
                 (lead_skip net c.args.turn inside sides n (omega arith) c.args.sets.now c.loop-index.sets c.loop-index.sets (leads ∙ w.if-leads.false) inv.goes_on);
           }
     ]

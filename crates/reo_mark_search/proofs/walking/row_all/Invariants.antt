@@ -2,7 +2,7 @@ use Rattle.std.proofs.Common.{◌≡◌, [], length, take, slice_index_or}
 use Rattle.reo_net_base.specs.Net.{net_of}
 use Rattle.reo_net_laws.specs.Knots.{in_knot}
 use Rattle.reo_mark_search.specs.Fitting.{ArePinned}
-use Rattle.reo_mark_search.specs.Found.{AreRowsElsewhere}
+use Rattle.reo_mark_search.specs.MarkFinding.{AreRowsElsewhere}
 use Rattle.reo_mark_search.specs.Places.{row_places}
 use Rattle.reo_mark_search.specs.Walking.{GoesOn}
 use Rattle.reo_mark_search.proofs.walking.row_all.Given as goal

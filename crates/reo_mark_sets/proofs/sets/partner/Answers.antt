@@ -2,7 +2,7 @@ use Rattle.std.proofs.Common.{◌≡◌, ℕ, ◌%◌, arith}
 use Rattle.std.proofs.lemmas.Bool.Decides.{nat_tests}
 use Rattle.std.proofs.lemmas.Nat.{and_mask}
 use Rattle.std.specs.Int.Bits.{bit_and, bit_xor, xor_add_and}
-use Rattle.reo_mark_sets.specs.Marks.{partner}
+use Rattle.reo_mark_sets.specs.PlainMarks.{partner}
 use Rattle.reo_mark_sets.proofs.sets.partner.Goals as goal
 
 partner_is : (place : ℕ) → bit_xor place 1 ≡ partner place

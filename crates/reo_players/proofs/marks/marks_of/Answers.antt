@@ -1,6 +1,6 @@
 use Rattle.std.proofs.Common.{◌≡◌, ◌∙◌, ◌<◌, List, length, map, set, get_or, ap, sym, arith}
 use Rattle.std.proofs.lemmas.List.{get_or-map, length-map}
-use Rattle.reo_players.specs.declared.marks.Mark.{Mark}
+use Rattle.reo_players.specs.declared.marks.Pace.{Pace}
 use Rattle.reo_players.specs.Players.{Player, no_player, counts}
 use Rattle.reo_players.specs.Idle.{is_awake, is_left}
 use Rattle.reo_players.specs.Pacing.{player_in}
@@ -19,9 +19,9 @@ loop-component-preserved c =
     let lt : n < length players = omega (arith, length-map paced player_in) in
     let is : p ≡ get_or players n no_player = sym (get_or-map player_in paced n x no_player within) in
     record {
-      awake = one_more_marked is_awake players n old.awake c.put.new.self.awake p (c.put.ensures.awake ∙ ap (λ (m : Mark). set old.awake n m.awake) c.of.ensures) is lt c.loop-component.invariant.awake;
-      counting = one_more_marked counts players n old.counting c.put.new.self.counting p (c.put.ensures.counting ∙ ap (λ (m : Mark). set old.counting n m.counting) c.of.ensures) is lt c.loop-component.invariant.counting;
-      left = one_more_marked is_left players n old.left c.put.new.self.left p (c.put.ensures.left ∙ ap (λ (m : Mark). set old.left n m.left) c.of.ensures) is lt c.loop-component.invariant.left;
+      awake = one_more_marked is_awake players n old.awake c.put.new.self.awake p (c.put.ensures.awake ∙ ap (λ (m : Pace). set old.awake n m.awake) c.of.ensures) is lt c.loop-component.invariant.awake;
+      counting = one_more_marked counts players n old.counting c.put.new.self.counting p (c.put.ensures.counting ∙ ap (λ (m : Pace). set old.counting n m.counting) c.of.ensures) is lt c.loop-component.invariant.counting;
+      left = one_more_marked is_left players n old.left c.put.new.self.left p (c.put.ensures.left ∙ ap (λ (m : Pace). set old.left n m.left) c.of.ensures) is lt c.loop-component.invariant.left;
     }
 
 pub returns : goal.returns

@@ -1,6 +1,6 @@
 use Rattle.std.proofs.Common.{◌+◌, length}
 use Rattle.reo_net_base.specs.Net.{net_of}
-use Rattle.reo_rows.specs.Flags.{count_set}
+use Rattle.reo_rows.specs.RowFlags.{count_set}
 use Rattle.reo_rows.specs.Sets.{names_of}
 use Rattle.reo_propagate.specs.Queues.{among}
 use Rattle.reo_propagate.specs.Narrow.{IsReduced}

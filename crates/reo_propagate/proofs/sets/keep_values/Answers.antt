@@ -2,7 +2,7 @@ use Rattle.std.proofs.Common.{◌≡◌, ◌∙◌, ◌<◌, ◌≤◌, ◌+◌,
 use Rattle.std.proofs.lemmas.Bool.{ltb-true, lt-ltb}
 use Rattle.std.proofs.lemmas.List.{length-take-le}
 use Rattle.reo_joint_values.specs.declared.value.JointValue.{JointValue}
-use Rattle.reo_rows.specs.Flags.{flag}
+use Rattle.reo_rows.specs.RowFlags.{flag}
 use Rattle.reo_rows.specs.Sets.{family_of}
 use Rattle.reo_propagate.specs.ListedSets.{in_set}
 use Rattle.reo_propagate.proofs.Listed.{IsKeeping, in_set_at, some_in, keeping_more, keeping_less}

@@ -3,7 +3,7 @@ use Rattle.std.proofs.lemmas.Bool.{both_ways}
 use Rattle.reo_net_base.specs.Net.{Net, net_of}
 use Rattle.reo_joint_values.specs.Values.{Names}
 use Rattle.reo_rows.specs.declared.rows.Rows.{Rows}
-use Rattle.reo_rows.specs.Flags.{flag}
+use Rattle.reo_rows.specs.RowFlags.{flag}
 use Rattle.reo_rows.specs.Sets.{names_of}
 use Rattle.reo_propagate.specs.declared.thinning.Loss.{Loss}
 use Rattle.reo_propagate.proofs.Thinned.{IsThinning, thinning_keep, thinning_clear}

@@ -1,7 +1,7 @@
 use Rattle.std.proofs.Common.{◌≡◌, ◌<◌, ◌≤◌, ℕ, true, option_copied}
 use Rattle.reo_net_base.specs.Net.{net_of}
 use Rattle.reo_joint_values.specs.Works.{IsGivenAs}
-use Rattle.reo_rows.specs.Flags.{flag}
+use Rattle.reo_rows.specs.RowFlags.{flag}
 use Rattle.reo_rows.specs.Sets.{value_of, names_of}
 use Rattle.reo_rows.proofs.flows.is_flow_given.Given as goal
 

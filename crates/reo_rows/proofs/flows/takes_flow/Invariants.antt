@@ -2,7 +2,7 @@ use Rattle.std.proofs.Common.{◌≡◌, ◌<◌, ◌≤◌, ◌-◌, ℕ, true}
 use Rattle.reo_net_base.specs.Net.{net_of}
 use Rattle.reo_joint_values.specs.declared.value.JointValue.TheVariants.{Flow}
 use Rattle.reo_joint_values.specs.Works.{TakerWorks}
-use Rattle.reo_rows.specs.Flags.{flag}
+use Rattle.reo_rows.specs.RowFlags.{flag}
 use Rattle.reo_rows.specs.Sets.{family_of, names_of}
 use Rattle.reo_rows.proofs.flows.takes_flow.Given as goal
 

@@ -2,7 +2,7 @@ use Rattle.std.proofs.Common.{◌≡◌, ◌<◌, ◌≤◌, ℕ, false, List, [
 use Rattle.reo_net_base.specs.Net.{Net, net_of, no_side}
 use Rattle.reo_joint_values.specs.Values.{Names, Family}
 use Rattle.reo_side_tables.specs.Marks.{IsJointOf}
-use Rattle.reo_rows.specs.Flags.{flag}
+use Rattle.reo_rows.specs.RowFlags.{flag}
 use Rattle.reo_rows.specs.Seeing.{LiveRowUse}
 use Rattle.reo_rows.specs.Sets.{family_of, names_of}
 use Rattle.reo_rows.proofs.Reading.{board_is}

@@ -1,5 +1,5 @@
 use Rattle.std.proofs.Common.{◌≡◌, ◌≢◌, ◌<◌, ◌≤◌, ℕ, false}
-use Rattle.reo_rows.specs.Flags.{flag, AreAlikeTables}
+use Rattle.reo_rows.specs.RowFlags.{flag, AreAlikeTables}
 use Rattle.reo_rows.proofs.seeing.unsee.Given as goal
 
 abbrev pub invariant-loop-code : goal.invariant-loop-code

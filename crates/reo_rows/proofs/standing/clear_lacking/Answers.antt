@@ -1,7 +1,7 @@
 use Rattle.std.proofs.Common.{◌+◌, ◌∙◌, ℕ, List, Bool, subst, sym, arith}
 use Rattle.std.proofs.lemmas.Bool.{both_ways}
 use Rattle.reo_net_base.specs.Net.{Net, net_of}
-use Rattle.reo_rows.specs.Flags.{AreAlikeTables}
+use Rattle.reo_rows.specs.RowFlags.{AreAlikeTables}
 use Rattle.reo_rows.specs.Sparing.{AreCleared}
 use Rattle.reo_rows.proofs.Idle.{cleared_keep, cleared_more}
 use Rattle.reo_rows.proofs.standing.clear_lacking.Goals.{then-lacks_mark, else-lacks_mark}

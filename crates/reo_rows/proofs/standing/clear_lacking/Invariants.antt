@@ -1,5 +1,5 @@
 use Rattle.reo_net_base.specs.Net.{net_of}
-use Rattle.reo_rows.specs.Flags.{AreAlikeTables}
+use Rattle.reo_rows.specs.RowFlags.{AreAlikeTables}
 use Rattle.reo_rows.specs.Sparing.{AreCleared}
 use Rattle.reo_rows.proofs.standing.clear_lacking.Given as goal
 

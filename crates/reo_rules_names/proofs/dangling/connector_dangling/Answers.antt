@@ -3,7 +3,7 @@ use Rattle.std.proofs.Common.{subst}
 use Rattle.std.specs.List.{flat_map}
 use Rattle.reo_trees.specs.declared.items.Item.{Item}
 use Rattle.reo_rules.specs.Touches.{touches_in, touches_of}
-use Rattle.reo_rules_names.specs.Ends.{AreEnds}
+use Rattle.reo_rules_names.specs.EndsAtNames.{AreEnds}
 use Rattle.reo_rules_names.proofs.dangling.connector_dangling.Goals as goal
 
 pub returns : goal.returns

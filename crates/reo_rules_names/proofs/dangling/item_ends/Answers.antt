@@ -5,7 +5,7 @@ use Rattle.std.proofs.lemmas.List.{take_all}
 use Rattle.reo_trees.specs.declared.items.Item.{Item}
 use Rattle.reo_rules.specs.Touches.{touches_in}
 use Rattle.reo_rules.proofs.AfterLemmas.{more_flat}
-use Rattle.reo_rules_names.specs.Ends.{AreEnds}
+use Rattle.reo_rules_names.specs.EndsAtNames.{AreEnds}
 use Rattle.reo_rules_names.proofs.dangling.item_ends.Goals as goal
 
 pub loop-item-preserved : goal.loop-item-preserved

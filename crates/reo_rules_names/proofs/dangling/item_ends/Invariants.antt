@@ -5,7 +5,7 @@ use Rattle.reo_trees.specs.declared.items.Item.{Item}
 use Rattle.reo_trees.specs.declared.programs.Connector.{Connector}
 use Rattle.reo_rules.specs.Touches.{touches_in}
 use Rattle.reo_rules_names.specs.Connectors.{AreConnectors}
-use Rattle.reo_rules_names.specs.Ends.{AreEnds}
+use Rattle.reo_rules_names.specs.EndsAtNames.{AreEnds}
 use Rattle.reo_rules_names.proofs.dangling.item_ends.Given as goal
 
 abbrev pub invariant-loop-item : goal.invariant-loop-item

@@ -6,7 +6,7 @@ use Rattle.std.specs.Iterator.Adapters.{zip_first, zip_second}
 use Rattle.std.proofs.lemmas.List.{append-nil, append_assoc}
 use Rattle.std.proofs.lemmas.Slice.Zip.{either_empty_from_Zip}
 use Rattle.reo_rules.specs.Touches.{touch}
-use Rattle.reo_rules_names.specs.Ends.{AreEnds}
+use Rattle.reo_rules_names.specs.EndsAtNames.{AreEnds}
 use Rattle.reo_rules_names.proofs.EndLemmas.{zip_over}
 use Rattle.reo_rules_names.proofs.dangling.note_arguments.Goals as goal
 

@@ -6,7 +6,7 @@ use Rattle.std.proofs.lemmas.Result.{on_ok_weaker}
 use Rattle.reo_trees.specs.declared.programs.Parameter.{Parameter}
 use Rattle.reo_rules.specs.Scopes.{parameters_named}
 use Rattle.reo_rules.specs.Touches.{touch, touches_in}
-use Rattle.reo_rules_names.specs.Ends.{AreEnds}
+use Rattle.reo_rules_names.specs.EndsAtNames.{AreEnds}
 use Rattle.reo_rules_names.proofs.EndLemmas.{used_touches}
 use Rattle.reo_rules_names.proofs.dangling.note_item.Goals as goal
 

@@ -2,7 +2,7 @@
 use Rattle.std.proofs.Common.{◌≡◌, List, [], take}
 use Rattle.std.specs.List.{flat_map}
 use Rattle.reo_rules.specs.Touches.{Touch}
-use Rattle.reo_rules_names.specs.Ends.{AreEnds}
+use Rattle.reo_rules_names.specs.EndsAtNames.{AreEnds}
 use Rattle.reo_rules.specs.Dangling.{dangling_parameter}
 use Rattle.reo_rules_names.proofs.dangling.parameters_dangling.Given as goal
 

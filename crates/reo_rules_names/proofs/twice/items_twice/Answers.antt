@@ -5,8 +5,8 @@ use Rattle.reo_values.proofs.Sequences.{both_none}
 use Rattle.reo_trees.specs.declared.types.TypeTerm.{TypeTerm}
 use Rattle.reo_trees.specs.declared.programs.Parameter.{Parameter}
 use Rattle.reo_trees.specs.declared.items.Item.{Item}
-use Rattle.reo_trees.specs.declared.items.Form.{Form}
-use Rattle.reo_trees.specs.declared.items.Form.TheVariants as forms
+use Rattle.reo_trees.specs.declared.items.ItemForm.{ItemForm}
+use Rattle.reo_trees.specs.declared.items.ItemForm.TheVariants as forms
 use Rattle.reo_rules.specs.Scopes.{parameter_names, node_names, node_names_in}
 use Rattle.reo_rules.specs.Twice.{twice_among, twice_in_type, twice_in_item}
 use Rattle.reo_rules.specs.Judged.{IsFirst}
@@ -15,12 +15,12 @@ use Rattle.reo_rules_names.proofs.twice.items_twice.Goals as goal
 use Rattle.reo_rules_names.proofs.twice.items_twice.Goals.{in-Node+in_ok-once+in_ok-type_twice, in_default}
 
 -- An item that is no node declares none, and no name in it stands twice.
-no_node : (f : Form) → ((x : List ℕ) (t : TypeTerm) → f ≡ forms.Node x t → ⊥) → node_names_in f ≡ []
+no_node : (f : ItemForm) → ((x : List ℕ) (t : TypeTerm) → f ≡ forms.Node x t → ⊥) → node_names_in f ≡ []
 no_node (forms.Node x t) not = absurd (not x t refl)
 no_node (forms.Joined channel first second) not = refl
 no_node (forms.Used name arguments) not = refl
 
-no_break : (ps : List Parameter) (before : List Item) (line : ℕ) (f : Form) → ((x : List ℕ) (t : TypeTerm) → f ≡ forms.Node x t → ⊥) → twice_in_item ps before line f ≡ []
+no_break : (ps : List Parameter) (before : List Item) (line : ℕ) (f : ItemForm) → ((x : List ℕ) (t : TypeTerm) → f ≡ forms.Node x t → ⊥) → twice_in_item ps before line f ≡ []
 no_break ps before line (forms.Node x t) not = absurd (not x t refl)
 no_break ps before line (forms.Joined channel first second) not = refl
 no_break ps before line (forms.Used name arguments) not = refl

@@ -3,8 +3,8 @@ use Rattle.std.proofs.Common.{◌≡◌, ◌∙◌, ℕ, List, [], ◌++◌, ◌
 use Rattle.std.specs.List.{flat_map}
 use Rattle.std.proofs.lemmas.List.{append-nil, append_assoc}
 use Rattle.reo_trees.specs.declared.items.Item.{Item}
-use Rattle.reo_trees.specs.declared.items.Form.{Form}
-use Rattle.reo_trees.specs.declared.items.Form.TheVariants as forms
+use Rattle.reo_trees.specs.declared.items.ItemForm.{ItemForm}
+use Rattle.reo_trees.specs.declared.items.ItemForm.TheVariants as forms
 use Rattle.reo_rules.specs.Lists.{has_name}
 use Rattle.reo_rules.specs.Types.{Typed}
 use Rattle.reo_rules.specs.Scopes.{node_types_in}
@@ -36,7 +36,7 @@ pub declare-requires-clause-known : goal.declare-requires-clause-known
 declare-requires-clause-known c = known_kept c.args.types.now c.loop-item.types c.loop-item.invariant.0 c.args.declared.now c.requires.known
 
 -- An item that is no node adds none.
-no_node : (known : List Typed) (f : Form) → ((x : List ℕ) (t : TypeTerm) → f ≡ forms.Node x t → ⊥) → node_types_in known f ≡ []
+no_node : (known : List Typed) (f : ItemForm) → ((x : List ℕ) (t : TypeTerm) → f ≡ forms.Node x t → ⊥) → node_types_in known f ≡ []
 no_node known (forms.Node x t) not = absurd (not x t refl)
 no_node known (forms.Joined channel first second) not = refl
 no_node known (forms.Used name arguments) not = refl

@@ -1,8 +1,8 @@
 -- One level less in each part of a pair.
 use Rattle.std.proofs.Common.{◌≡◌, ◌∙◌, ℕ, List, Some, slice_get, nat_lt, max, ◌+◌, sym, ap}
 use Rattle.reo_values.specs.declared.kindred.Kindred.{Kindred}
-use Rattle.reo_rules_types.specs.declared.cell.Cell.{Cell}
-use Rattle.reo_rules_types.specs.declared.cell.Cell.TheVariants as cells
+use Rattle.reo_rules_types.specs.declared.cell.TypeParts.{TypeParts}
+use Rattle.reo_rules_types.specs.declared.cell.TypeParts.TheVariants as cells
 use Rattle.reo_values.specs.declared.kindred.Twins.{Twins}
 use Rattle.reo_rules.specs.Types.{depth_of}
 use Rattle.reo_rules_types.specs.Cells.{type_at, kindred_of}
@@ -11,7 +11,7 @@ use Rattle.reo_rules_types.proofs.Ranged.{depth-Pair, no_level, left_deeper, rig
 use Rattle.reo_rules_types.proofs.trees.+is_deeper.Goals as goal
 
 -- The depth of a pair by its cell.
-depth : (types : List Kindred) (n : ℕ) (c : Cell) (l r : ℕ) → slice_get types n ≡ Some (kindred_of types c) → c ≡ cells.Pair l r → depth_of (type_at types n) ≡ 1 + max (depth_of (type_at types l)) (depth_of (type_at types r))
+depth : (types : List Kindred) (n : ℕ) (c : TypeParts) (l r : ℕ) → slice_get types n ≡ Some (kindred_of types c) → c ≡ cells.Pair l r → depth_of (type_at types n) ≡ 1 + max (depth_of (type_at types l)) (depth_of (type_at types r))
 depth types n c l r is pair =
     let twins : Twins = record { left = type_at types l; right = type_at types r } in
     ap depth_of (of_cell types n c is ∙ ap (kindred_of types) pair) ∙ depth-Pair twins

@@ -12,7 +12,7 @@ use Rattle.reo_joint_values.specs.Values.{Names}
 use Rattle.reo_joint_values.specs.Chosen.{IsChosen}
 use Rattle.reo_rows.specs.Sets.{names_of}
 use Rattle.reo_propagate.specs.Queues.{among}
-use Rattle.reo_walk.specs.declared.place.Place.{Place}
+use Rattle.reo_walk.specs.declared.place.KeyPlace.{KeyPlace}
 use Rattle.reo_walk.specs.Places.{places_in}
 use Rattle.reo_search.specs.choices.Remaining.{AreLoopsIn, IsLeftOfAll, CoverAll, choices_of}
 use Rattle.reo_search.specs.choices.Trying.{IsLeastOf}
@@ -190,7 +190,7 @@ part_of-requires-clause-in_tables g c =
     let chosen_is : chosen ≡ c.in_ok-chosen.chosen = c.as_slice-2.ensures in
     let found : IsLeastOf (IsChosen net names inside (all_values names)) net c.args.turn (places_in net sides) chosen =
     subst (λ (f : ℕ → Bool). IsLeastOf (IsChosen net names f (all_values names)) net c.args.turn (places_in net sides) chosen) same
-    (subst (λ (ps : List Place). IsLeastOf (IsChosen net names (among sides) (all_values names)) net c.args.turn ps chosen) places_are
+    (subst (λ (ps : List KeyPlace). IsLeastOf (IsChosen net names (among sides) (all_values names)) net c.args.turn ps chosen) places_are
     (subst (λ (ns : List ℕ). IsLeastOf (IsChosen net names (among sides) (all_values names)) net c.args.turn c.as_slice.result.now ns) (sym chosen_is) c.in_ok-chosen.ensures.first)) in
     let sides_are = listed_sides net knots c.args.knot sides c.requires.knots c.requires.knot c.sides-sides.ensures in
     let real_in = real net knots c.args.knot sides c.requires.knots c.requires.knot c.sides-sides.ensures in
@@ -255,7 +255,7 @@ returns-clause-exact g c =
     let chosen_is : chosen ≡ c.in_ok-chosen.chosen = c.as_slice-2.ensures in
     let found : IsLeastOf (IsChosen net names inside (all_values names)) net c.args.turn (places_in net sides) chosen =
     subst (λ (f : ℕ → Bool). IsLeastOf (IsChosen net names f (all_values names)) net c.args.turn (places_in net sides) chosen) same
-    (subst (λ (ps : List Place). IsLeastOf (IsChosen net names (among sides) (all_values names)) net c.args.turn ps chosen) places_are
+    (subst (λ (ps : List KeyPlace). IsLeastOf (IsChosen net names (among sides) (all_values names)) net c.args.turn ps chosen) places_are
     (subst (λ (ns : List ℕ). IsLeastOf (IsChosen net names (among sides) (all_values names)) net c.args.turn c.as_slice.result.now ns) (sym chosen_is) c.in_ok-chosen.ensures.first)) in
     let sides_are = listed_sides net knots c.args.knot sides c.requires.knots c.requires.knot c.sides-sides.ensures in
     let real_in = real net knots c.args.knot sides c.requires.knots c.requires.knot c.sides-sides.ensures in
@@ -290,7 +290,7 @@ returns-clause-jammed g c =
     let chosen_is : chosen ≡ c.in_ok-chosen.chosen = c.as_slice-2.ensures in
     let found : IsLeastOf (IsChosen net names inside (all_values names)) net c.args.turn (places_in net sides) chosen =
     subst (λ (f : ℕ → Bool). IsLeastOf (IsChosen net names f (all_values names)) net c.args.turn (places_in net sides) chosen) same
-    (subst (λ (ps : List Place). IsLeastOf (IsChosen net names (among sides) (all_values names)) net c.args.turn ps chosen) places_are
+    (subst (λ (ps : List KeyPlace). IsLeastOf (IsChosen net names (among sides) (all_values names)) net c.args.turn ps chosen) places_are
     (subst (λ (ns : List ℕ). IsLeastOf (IsChosen net names (among sides) (all_values names)) net c.args.turn c.as_slice.result.now ns) (sym chosen_is) c.in_ok-chosen.ensures.first)) in
     let sides_are = listed_sides net knots c.args.knot sides c.requires.knots c.requires.knot c.sides-sides.ensures in
     let real_in = real net knots c.args.knot sides c.requires.knots c.requires.knot c.sides-sides.ensures in

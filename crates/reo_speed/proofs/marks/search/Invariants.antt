@@ -1,6 +1,6 @@
 use Rattle.std.proofs.Common.{◌≡◌, length}
 use Rattle.reo_net_base.specs.Net.{net_of}
-use Rattle.reo_mark_search.specs.Found.{IsMarkSearch}
+use Rattle.reo_mark_search.specs.MarkFinding.{IsMarkSearch}
 use Rattle.reo_speed.proofs.marks.search.Given as goal
 
 -- What a search keeps stays what it is.

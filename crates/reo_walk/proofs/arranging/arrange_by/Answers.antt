@@ -3,7 +3,7 @@ use Rattle.reo_net_base.specs.Net.{Net, net_of}
 use Rattle.reo_rows.specs.Sets.{family_of, names_of}
 use Rattle.reo_propagate.specs.Queues.{among}
 use Rattle.reo_propagate.specs.ListedSets.{listed}
-use Rattle.reo_walk.specs.declared.place.Place.{Place}
+use Rattle.reo_walk.specs.declared.place.KeyPlace.{KeyPlace}
 use Rattle.reo_walk.specs.Places.{places_in}
 use Rattle.reo_walk.specs.Settling.{IsFirstWith}
 use Rattle.reo_walk.proofs.Knotted.{AllOf, all_places}
@@ -60,7 +60,7 @@ part_of-requires-clause-in_tables g c =
     let numbers = c.requires.numbers in
     let are : c.as_slice.result.now ≡ places_in net c.sides-sides.result.now = c.as_slice.ensures ∙ c.in_ok-places.ensures in
     let found = rw (c.in-Some.is) at c.in_ok-first_by.ensures.first in
-    let placed = subst (λ (ps : List Place). IsFirstWith net (names_of c.args.basis.now.items.now) (among c.sides-sides.result.now) c.args.turn (family_of c.in_ok-state.state.alive) ps c.in-Some.chosen) are found in
+    let placed = subst (λ (ps : List KeyPlace). IsFirstWith net (names_of c.args.basis.now.items.now) (among c.sides-sides.result.now) c.args.turn (family_of c.in_ok-state.state.alive) ps c.in-Some.chosen) are found in
     let chosen_is : c.as_slice-in-Some.result.now ≡ c.in-Some.chosen = c.as_slice-in-Some.ensures in
     in_tables net c.args.knots.now c.args.knot c.sides-sides.result.now c.requires.knots c.requires.knot c.sides-sides.ensures
     c.known.ensures.wired _ _ c.args.basis.now.items.now c.in_ok-state.state.alive c.in_ok-state.ensures.search.ready (listed c.args.sets.now.values) c.in_ok-state.ensures.values numbers
@@ -73,7 +73,7 @@ returns g c =
     let numbers = c.requires.numbers in
     let are : c.as_slice.result.now ≡ places_in net c.sides-sides.result.now = c.as_slice.ensures ∙ c.in_ok-places.ensures in
     let found = rw (c.in-Some.is) at c.in_ok-first_by.ensures.first in
-    let placed = subst (λ (ps : List Place). IsFirstWith net (names_of c.args.basis.now.items.now) (among c.sides-sides.result.now) c.args.turn (family_of c.in_ok-state.state.alive) ps c.in-Some.chosen) are found in
+    let placed = subst (λ (ps : List KeyPlace). IsFirstWith net (names_of c.args.basis.now.items.now) (among c.sides-sides.result.now) c.args.turn (family_of c.in_ok-state.state.alive) ps c.in-Some.chosen) are found in
     let chosen_is : c.as_slice-in-Some.result.now ≡ c.in-Some.chosen = c.as_slice-in-Some.ensures in
     record {
       first = is_first net c.args.knots.now c.args.knot c.sides-sides.result.now c.requires.knots c.requires.knot c.sides-sides.ensures

@@ -2,7 +2,7 @@ use Rattle.std.proofs.Common.{inl, inr, ℕ, ◌+◌, Bool, List, sym, ◌∙◌
 use Rattle.reo_net_base.specs.Net.{Net, net_of}
 use Rattle.reo_propagate.specs.declared.thinning.Loss.{Loss}
 use Rattle.reo_rows.specs.Sets.{value_of}
-use Rattle.reo_walk.specs.declared.place.Place.{Place}
+use Rattle.reo_walk.specs.declared.place.KeyPlace.{KeyPlace}
 use Rattle.reo_walk.specs.Holding.{IsHeldTo}
 use Rattle.reo_walk.proofs.Holding.{hold_keep, hold_clear, suits_is}
 use Rattle.reo_walk.proofs.hold.hold_joint.Goals as goal
@@ -11,7 +11,7 @@ use Rattle.reo_walk.proofs.hold.hold_joint.Goals.{then-is_set+then-not-suits, el
 pub loop-code-preserved : goal.loop-code-preserved
 loop-code-preserved g c =
     let net : Net = net_of g.P.Primitive.behaviour c.args.circuit.now in
-    let p : Place = c.args.place in
+    let p : KeyPlace = c.args.place in
     let row : ℕ = c.args.row in
     let joint : ℕ = c.args.joint in
     let code : ℕ = c.loop-code.code in

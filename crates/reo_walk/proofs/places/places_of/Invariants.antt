@@ -2,7 +2,7 @@ use Rattle.std.proofs.Common.{◌≡◌, ◌++◌, take}
 use Rattle.std.specs.Prelude.{map, filter}
 use Rattle.reo_net_base.specs.Net.{net_of}
 use Rattle.reo_net_laws.specs.Keys.{leads_at}
-use Rattle.reo_walk.specs.declared.place.Place.TheVariants.{Class, Row}
+use Rattle.reo_walk.specs.declared.place.KeyPlace.TheVariants.{Class, Row}
 use Rattle.reo_walk.proofs.places.places_of.Given as goal
 
 abbrev pub invariant-loop-side : goal.invariant-loop-side

@@ -4,8 +4,8 @@ use Rattle.reo_net_base.specs.Net.{Net, net_of}
 use Rattle.reo_joint_values.specs.Values.{Names}
 use Rattle.reo_rows.specs.Sets.{code_of, family_of, names_of}
 use Rattle.reo_propagate.specs.Queues.{among}
-use Rattle.reo_walk.specs.declared.place.Place.{Place}
-use Rattle.reo_walk.specs.declared.place.Place.TheVariants.{Class, Row}
+use Rattle.reo_walk.specs.declared.place.KeyPlace.{KeyPlace}
+use Rattle.reo_walk.specs.declared.place.KeyPlace.TheVariants.{Class, Row}
 use Rattle.reo_walk.specs.Places.{side_of_place}
 use Rattle.reo_walk.specs.Walking.{IsWalked}
 use Rattle.reo_walk.proofs.Stepping.{walk_begin, walking_more, walk_stuck, walk_end}
@@ -41,7 +41,7 @@ loop-index-preserved g c =
     let inside : ℕ → Bool = among c.args.sides.now in
     let i : ℕ = c.loop-index.index in
     let lt : i < length c.args.places.now = omega arith in
-    let p : Place = get_or c.args.places.now i (Class 0) in
+    let p : KeyPlace = get_or c.args.places.now i (Class 0) in
     let stepped = rw (c.in-Some.is) at c.in_ok-step.ensures.found in
     let is_in = c.requires.places i (Class 0) lt in
     record {
@@ -80,6 +80,6 @@ returns-in-Some-least_row-clause-found g c =
     let kept = c.loop-index.invariant in
     let rest = rest_of net names inside c.loop-index.state.alive c.loop-index.state.rows c.loop-index.state.queue kept.search.tended kept.empty side is_in (c.requires.sides side is_in) in
     let whole : take c.loop-index.index c.args.places.now ≡ c.args.places.now = take_all c.loop-index.index c.args.places.now (omega arith) in
-    subst (λ (ps : List Place). IsWalked net names inside c.args.turn (family_of c.args.state.now.alive) (family_of c.loop-index.state.alive) ps c.loop-index.chosen) whole
+    subst (λ (ps : List KeyPlace). IsWalked net names inside c.args.turn (family_of c.args.state.now.alive) (family_of c.loop-index.state.alive) ps c.loop-index.chosen) whole
     (walk_end net c.known.ensures.wired names inside c.args.turn (family_of c.args.state.now.alive) (family_of c.loop-index.state.alive) (take c.loop-index.index c.args.places.now) c.loop-index.chosen kept.walking
     side c.in-Some-least_row.field-0.row is_in (rest.sifted.only c.in-Some-least_row.field-0.row least.set))

@@ -1,6 +1,6 @@
 use Rattle.std.proofs.Common.{◌≡◌, [], take}
 use Rattle.reo_net_base.specs.Net.{net_of}
-use Rattle.reo_rows.specs.Flags.{AreAlikeTables}
+use Rattle.reo_rows.specs.RowFlags.{AreAlikeTables}
 use Rattle.reo_rows.specs.Sets.{family_of, names_of}
 use Rattle.reo_propagate.specs.Queues.{among}
 use Rattle.reo_propagate.specs.Basis.{IsSearchOn}

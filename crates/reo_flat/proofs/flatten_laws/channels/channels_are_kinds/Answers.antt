@@ -2,8 +2,8 @@
 use Rattle.std.proofs.Common.{◌≡◌, ◌∙◌, List, [], ◌∷◌, sym, ap}
 use Rattle.std.specs.List.{AllByRecursion, flat_map}
 use Rattle.reo_trees.specs.declared.items.Item.{Item}
-use Rattle.reo_trees.specs.declared.items.Form.{Form}
-use Rattle.reo_trees.specs.declared.items.Form.TheVariants as forms
+use Rattle.reo_trees.specs.declared.items.ItemForm.{ItemForm}
+use Rattle.reo_trees.specs.declared.items.ItemForm.TheVariants as forms
 use Rattle.reo_trees.specs.declared.programs.Parameter.{Parameter}
 use Rattle.reo_trees.specs.declared.programs.Connector.{Connector}
 use Rattle.reo_trees.specs.declared.programs.Declaration.TheVariants as declarations
@@ -22,7 +22,7 @@ use Rattle.reo_flat.proofs.flatten_laws.channels.channels_are_kinds.Goals as goa
 
 one : (types : List Typed) (cs : List Connector) (scope : List Typed) (i : Item) → where_true (is_mistyped types cs scope i.form) (faults.Mistyped i.line) ≡ [] → range_in_item types scope i.line i.form ≡ [] → IsForItem types scope i.form
 one types cs scope i typed bound = step i.form (where_false _ _ typed) bound where
-  step : (f : Form) → is_mistyped types cs scope f ≡ Rattle.std.proofs.Common.false → range_in_item types scope i.line f ≡ [] → IsForItem types scope f
+  step : (f : ItemForm) → is_mistyped types cs scope f ≡ Rattle.std.proofs.Common.false → range_in_item types scope i.line f ≡ [] → IsForItem types scope f
   step (forms.Node name term) t b = tt
   step (forms.Joined channel first second) t b = channel_is types (type_named scope first) (type_named scope second) channel t (where_false _ _ b)
   step (forms.Used name arguments) t b = tt

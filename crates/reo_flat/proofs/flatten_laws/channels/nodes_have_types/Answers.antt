@@ -3,8 +3,8 @@ use Rattle.std.proofs.Common.{◌≡◌, ◌∙◌, ℕ, List, [], ◌∷◌, �
 use Rattle.std.specs.Prelude.{unwrap_or}
 use Rattle.std.proofs.lemmas.List.{map-append}
 use Rattle.reo_trees.specs.declared.items.Item.{Item}
-use Rattle.reo_trees.specs.declared.items.Form.{Form}
-use Rattle.reo_trees.specs.declared.items.Form.TheVariants as forms
+use Rattle.reo_trees.specs.declared.items.ItemForm.{ItemForm}
+use Rattle.reo_trees.specs.declared.items.ItemForm.TheVariants as forms
 use Rattle.reo_trees.specs.declared.programs.Parameter.{Parameter}
 use Rattle.reo_trees.specs.declared.programs.Declaration.{Declaration}
 use Rattle.reo_trees.specs.declared.programs.Declaration.TheVariants as declarations
@@ -37,7 +37,7 @@ named (m ∷ ms) (t ∷ ts) all name =
       step true rest = all.1
       step false rest = rest
 
-one : (ms : List Meaning) (ts : List Typing) → AllNamed ms ts → (types : List Typed) (path : List ℕ) (before : List Item) (f : Form) → names_of (typed_in ts types path before f) ≡ nodes_in ms path before f
+one : (ms : List Meaning) (ts : List Typing) → AllNamed ms ts → (types : List Typed) (path : List ℕ) (before : List Item) (f : ItemForm) → names_of (typed_in ts types path before f) ≡ nodes_in ms path before f
 one ms ts all types path before (forms.Node name term) = refl
 one ms ts all types path before (forms.Joined channel first second) = refl
 one ms ts all types path before (forms.Used name arguments) = named ms ts all name (use_path path before name)

@@ -5,8 +5,8 @@ use Rattle.std.specs.List.{AllByRecursion}
 use Rattle.std.proofs.lemmas.List.Sums.{sum_by-cons}
 use Rattle.std.proofs.lemmas.List.{length-append}
 use Rattle.reo_trees.specs.declared.items.Item.{Item}
-use Rattle.reo_trees.specs.declared.items.Form.{Form}
-use Rattle.reo_trees.specs.declared.items.Form.TheVariants as forms
+use Rattle.reo_trees.specs.declared.items.ItemForm.{ItemForm}
+use Rattle.reo_trees.specs.declared.items.ItemForm.TheVariants as forms
 use Rattle.reo_trees.specs.declared.programs.Declaration.{Declaration}
 use Rattle.reo_trees.specs.declared.programs.Declaration.TheVariants as declarations
 use Rattle.reo_rules.specs.Lists.{each_after}
@@ -30,7 +30,7 @@ counted_after f g each before [] = refl
 counted_after f g each before (x ∷ xs) =
     length-append (f before x) _ ∙ (λ i. each before x i + counted_after f g each (before ++ x ∷ []) xs i) ∙ sym (sum_by-cons g x xs)
 
-one : (known : List Meaning) → AllByRecursion Counted known → (types scope : List Typed) (path : List ℕ) (flat : List ℕ → List ℕ) (before : List Item) (f : Form) → length (channels_in known types scope path flat before f) ≡ placed_in known f
+one : (known : List Meaning) → AllByRecursion Counted known → (types scope : List Typed) (path : List ℕ) (flat : List ℕ → List ℕ) (before : List Item) (f : ItemForm) → length (channels_in known types scope path flat before f) ≡ placed_in known f
 one known all types scope path flat before (forms.Node name term) = refl
 one known all types scope path flat before (forms.Joined channel first second) = refl
 one known all types scope path flat before (forms.Used name arguments) = named known all name _ (map flat arguments)

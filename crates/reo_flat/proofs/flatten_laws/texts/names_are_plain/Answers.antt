@@ -1,8 +1,8 @@
 -- A name has no byte but letters, digits and `_`.
 use Rattle.std.proofs.Common.{arith, ℕ, ◌<◌, ◌≤◌, ◌^◌, List, [], ◌∷◌, length}
 use Rattle.std.specs.List.{AllByRecursion}
-use Rattle.reo_trees.specs.declared.items.Form.{Form}
-use Rattle.reo_trees.specs.declared.items.Form.TheVariants as forms
+use Rattle.reo_trees.specs.declared.items.ItemForm.{ItemForm}
+use Rattle.reo_trees.specs.declared.items.ItemForm.TheVariants as forms
 use Rattle.reo_trees.specs.declared.programs.Connector.{Connector}
 use Rattle.reo_trees.specs.declared.programs.Declaration.{Declaration}
 use Rattle.reo_trees.specs.declared.programs.Declaration.TheVariants as declarations
@@ -14,7 +14,7 @@ use Rattle.reo_flat.specs.flatten_laws.Plain.{HasPlainName, HasPlainNames}
 use Rattle.reo_flat.proofs.flatten_laws.Each.{by_recursion, each_of}
 use Rattle.reo_flat.proofs.flatten_laws.texts.names_are_plain.Goals as goal
 
-form_plain : (f : Form) → IsSpelledForm f → HasPlainName f
+form_plain : (f : ItemForm) → IsSpelledForm f → HasPlainName f
 form_plain (forms.Node name term) spelled = spelled.0
 form_plain (forms.Joined channel first second) spelled = tt
 form_plain (forms.Used name arguments) spelled = spelled.0

@@ -1,7 +1,7 @@
 -- It is brought up to its clock, and marked anew.
 use Rattle.std.proofs.Common.{◌≡◌, ◌∙◌, ◌<◌, ◌≤◌, ◌-◌, ◌||◌, ℕ, length, false, true≢false, refl, sym, ap, subst, arith}
 use Rattle.reo_values.proofs.Truths.{either_false}
-use Rattle.reo_players.specs.declared.marks.Mark.{Mark}
+use Rattle.reo_players.specs.declared.marks.Pace.{Pace}
 use Rattle.reo_players.specs.Players.{Player, counts, after, step_of}
 use Rattle.reo_players.specs.Pacing.{clock_at, due_of, later, shown}
 use Rattle.reo_players.proofs.Paces.{uncounted_due}
@@ -63,9 +63,9 @@ put_due-requires-clause-same c = λ without.
       | then-before w ↦ absurd (true≢false (sym w.if-before.true ∙ sym w.counts-is ∙ without))
       | else-before w ↦ ap (λ b. b || c.of-mark.result.counting) w.if-before.false ∙ sym w.counts-is ∙ without
     ] in
-    let before : counts x.player ≡ false = ap (λ (m : Mark). m.counting) (sym c.of-before.ensures) ∙ either_false c.of-before.result.counting c.of-mark.result.counting neither in
+    let before : counts x.player ≡ false = ap (λ (m : Pace). m.counting) (sym c.of-before.ensures) ∙ either_false c.of-before.result.counting c.of-mark.result.counting neither in
     let now : counts y.player ≡ false =
-    ap (λ (m : Mark). m.counting) (sym c.of-mark.ensures) ∙ (sym (ap (λ b. b || c.of-mark.result.counting) (either_false c.of-before.result.counting c.of-mark.result.counting neither)) ∙ neither) in
+    ap (λ (m : Pace). m.counting) (sym c.of-mark.ensures) ∙ (sym (ap (λ b. b || c.of-mark.result.counting) (either_false c.of-before.result.counting c.of-mark.result.counting neither)) ∙ neither) in
     due_at p.clock p.passed p.players p.marks p.dues are i x lt c.at_mut-paced.ensures.value ∙ uncounted_due x before ∙ sym (uncounted_due y now)
 
 pub advance-step-requires : goal.advance-step-requires
@@ -83,7 +83,7 @@ change-requires-clause-was_awake c =
     let are = c.self.invariant in
     let i = c.args.component in
     let lt : i < length p.players = omega (arith, c.requires, ap length c.self.view_is, shown_long p.clock p.passed p.players p.marks p.dues are) in
-    was_awake p.clock p.passed p.players p.marks p.dues are i c.at_mut-paced.result.now lt c.at_mut-paced.ensures.value ∙ sym (ap (λ (m : Mark). m.awake) c.of-before.ensures)
+    was_awake p.clock p.passed p.players p.marks p.dues are i c.at_mut-paced.result.now lt c.at_mut-paced.ensures.value ∙ sym (ap (λ (m : Pace). m.awake) c.of-before.ensures)
 
 pub change-requires-clause-was_counting : goal.change-requires-clause-was_counting
 change-requires-clause-was_counting c =
@@ -91,7 +91,7 @@ change-requires-clause-was_counting c =
     let are = c.self.invariant in
     let i = c.args.component in
     let lt : i < length p.players = omega (arith, c.requires, ap length c.self.view_is, shown_long p.clock p.passed p.players p.marks p.dues are) in
-    was_counting p.clock p.passed p.players p.marks p.dues are i c.at_mut-paced.result.now lt c.at_mut-paced.ensures.value ∙ sym (ap (λ (m : Mark). m.counting) c.of-before.ensures)
+    was_counting p.clock p.passed p.players p.marks p.dues are i c.at_mut-paced.result.now lt c.at_mut-paced.ensures.value ∙ sym (ap (λ (m : Pace). m.counting) c.of-before.ensures)
 
 pub change-requires-clause-was_left : goal.change-requires-clause-was_left
 change-requires-clause-was_left c =
@@ -99,7 +99,7 @@ change-requires-clause-was_left c =
     let are = c.self.invariant in
     let i = c.args.component in
     let lt : i < length p.players = omega (arith, c.requires, ap length c.self.view_is, shown_long p.clock p.passed p.players p.marks p.dues are) in
-    was_left p.clock p.passed p.players p.marks p.dues are i c.at_mut-paced.result.now lt c.at_mut-paced.ensures.value ∙ sym (ap (λ (m : Mark). m.left) c.of-before.ensures)
+    was_left p.clock p.passed p.players p.marks p.dues are i c.at_mut-paced.result.now lt c.at_mut-paced.ensures.value ∙ sym (ap (λ (m : Pace). m.left) c.of-before.ensures)
 
 pub invariant_of-self : goal.invariant_of-self
 invariant_of-self c =

@@ -1,6 +1,6 @@
 use Rattle.std.proofs.Common.{◌∙◌, ℕ, ap, sym}
 use Rattle.std.specs.Prelude.{nat_eq}
-use Rattle.reo_players.specs.declared.marks.Marks.{Marks}
+use Rattle.reo_players.specs.declared.marks.Paces.{Paces}
 use Rattle.reo_players.specs.Pacing.{clock_at, each_shown}
 use Rattle.reo_players.proofs.Marked.{left_is}
 use Rattle.reo_players.proofs.Paces.{length-shown, marks-shown}
@@ -13,4 +13,4 @@ returns c =
     rw (← c.self.view_is)
     (ap (λ (n : ℕ). nat_eq c.next_set.result n) (c.len.ensures ∙ sym (length-shown clock p.players))
     ∙ left_is (each_shown clock p.players) p.marks.left c.next_set.result
-    (ap (λ (m : Marks). m.left) (c.self.invariant.marks_are ∙ sym (marks-shown clock p.players))) c.next_set.ensures)
+    (ap (λ (m : Paces). m.left) (c.self.invariant.marks_are ∙ sym (marks-shown clock p.players))) c.next_set.ensures)

@@ -4,8 +4,8 @@ use Rattle.std.proofs.lemmas.Bool.Decides.{nat_tests}
 use Rattle.reo_values.specs.declared.value.Value.{Value}
 use Rattle.reo_net_base.specs.Net.{Net, net_of}
 use Rattle.reo_refute_base.specs.Items.{Lists, items_at}
-use Rattle.reo_refute_parts.specs.declared.lists.visits.Found.{Found}
-use Rattle.reo_refute_parts.specs.declared.lists.visits.Found.TheVariants.{Nothing, Items}
+use Rattle.reo_refute_parts.specs.declared.lists.visits.Brought.{Brought}
+use Rattle.reo_refute_parts.specs.declared.lists.visits.Brought.TheVariants.{Nothing, Items}
 use Rattle.reo_refute_parts.specs.lists.Visits.{IsNew, Comes}
 use Rattle.reo_refute_parts.proofs.lists.VisitLemmas.{nothing_comes, items_come}
 use Rattle.reo_refute_parts.proofs.lists.visits.visit.Goals as goal
@@ -24,8 +24,8 @@ returns-in_ok-append-in-Some g c =
     elim c.if-is_empty.branch [
       | then-is_empty w ↦
           let none : length c.in-Some.new ≡ 0 = grind (arith, nat_tests, c.is_empty.ensures, w.if-is_empty.true) in
-          subst (λ (f : Found). Comes net joint lists (set lists joint c.append.new.self) f) (sym w.found-is) (nothing_comes net lists c.requires.lists joint c.requires.joint c.in-Some.new is c.append.new.self here none)
+          subst (λ (f : Brought). Comes net joint lists (set lists joint c.append.new.self) f) (sym w.found-is) (nothing_comes net lists c.requires.lists joint c.requires.joint c.in-Some.new is c.append.new.self here none)
       | else-is_empty w ↦
           let some : 0 < length c.in-Some.new = grind (arith, nat_tests, c.is_empty.ensures, w.if-is_empty.false) in
-          subst (λ (f : Found). Comes net joint lists (set lists joint c.append.new.self) f) (sym w.found-is) (items_come net lists c.requires.lists joint c.requires.joint c.in-Some.new is c.append.new.self here some)
+          subst (λ (f : Brought). Comes net joint lists (set lists joint c.append.new.self) f) (sym w.found-is) (items_come net lists c.requires.lists joint c.requires.joint c.in-Some.new is c.append.new.self here some)
     ]

@@ -1,5 +1,5 @@
 use Rattle.std.proofs.Common.{ℕ, Bool, sym, ◌∙◌, subst, arith}
-use Rattle.reo_rows.specs.Flags.{flag}
+use Rattle.reo_rows.specs.RowFlags.{flag}
 use Rattle.reo_search.specs.choices.Remaining.{AreCodesAt}
 use Rattle.reo_search.proofs.choices.Remains.{picked_yes, picked_no, codes_end}
 use Rattle.reo_search.proofs.choices.weighing.codes_at.Goals as goal

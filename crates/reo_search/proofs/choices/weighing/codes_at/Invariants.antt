@@ -1,6 +1,6 @@
 use Rattle.std.proofs.Common.{◌≡◌, ℕ}
 use Rattle.std.specs.List.{filter, range_with_len}
-use Rattle.reo_rows.specs.Flags.{flag}
+use Rattle.reo_rows.specs.RowFlags.{flag}
 use Rattle.reo_search.proofs.choices.weighing.codes_at.Given as goal
 
 abbrev pub invariant-loop-code : goal.invariant-loop-code

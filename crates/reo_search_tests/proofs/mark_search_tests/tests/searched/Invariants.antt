@@ -1,6 +1,6 @@
 use Rattle.std.proofs.Common.{◌≡◌, length}
 use Rattle.reo_kinds.specs.Kinds.{behaviour_of}
-use Rattle.reo_mark_search.specs.Found.{IsMarkSearch}
+use Rattle.reo_mark_search.specs.MarkFinding.{IsMarkSearch}
 use Rattle.reo_net_base.specs.Net.{net_of}
 use Rattle.reo_net_base.specs.Sides.{side_count}
 use Rattle.reo_search_tests.proofs.mark_search_tests.tests.searched.Given as goal

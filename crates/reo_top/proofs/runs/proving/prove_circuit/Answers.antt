@@ -2,7 +2,7 @@ use Rattle.std.proofs.Common.{List, [], ◌∷◌, true, refl, subst}
 use Rattle.reo_runner.specs.declared.outcome.Limits.{Limits}
 use Rattle.reo_command.specs.declared.command.Command.TheVariants.{Prove}
 use Rattle.reo_command.specs.declared.role.Role.TheVariants.{Circuit, Script}
-use Rattle.reo_command.specs.declared.reading.Work.{Work}
+use Rattle.reo_command.specs.declared.reading.CircuitAndScript.{CircuitAndScript}
 use Rattle.reo_command.specs.Fetched.{Content}
 use Rattle.reo_command.specs.Limits.{usual_limits}
 use Rattle.reo_command.specs.Readings.{Runnable, ReadsRun, StopsRun}
@@ -19,7 +19,7 @@ use Rattle.reo_top.proofs.runs.ProveLemmas.{proved_status, proved_not_three}
 use Rattle.reo_top.proofs.runs.proving.prove_circuit.Goals as goal
 
 -- What is read, as the code has it.
-abbrev Reads : List Content → Work → Type 0
+abbrev Reads : List Content → CircuitAndScript → Type 0
 Reads answers work = ReadsRun answers (runnable_in work.flat work.script)
 
 pub returns-in-Ok-clause-answered : goal.returns-in-Ok-clause-answered

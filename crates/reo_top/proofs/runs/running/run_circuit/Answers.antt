@@ -2,7 +2,7 @@ use Rattle.std.proofs.Common.{List, [], ◌∷◌, refl}
 use Rattle.reo_command.specs.declared.command.Command.TheVariants.{Run}
 use Rattle.reo_command.specs.declared.role.Role.TheVariants.{Circuit, Script}
 use Rattle.reo_top.specs.runs.Traces.{TracesRun}
-use Rattle.reo_command.specs.declared.reading.Work.{Work}
+use Rattle.reo_command.specs.declared.reading.CircuitAndScript.{CircuitAndScript}
 use Rattle.reo_command.specs.Fetched.{Content}
 use Rattle.reo_command.specs.Readings.{ReadsRun, StopsRun}
 use Rattle.reo_command.specs.ReadSteps.{runnable_in}
@@ -14,7 +14,7 @@ use Rattle.reo_command.proofs.WorkLemmas.{run_reading}
 use Rattle.reo_top.proofs.runs.running.run_circuit.Goals as goal
 
 -- What is read, as the code has it.
-abbrev Reads : List Content → Work → Type 0
+abbrev Reads : List Content → CircuitAndScript → Type 0
 Reads answers work = ReadsRun answers (runnable_in work.flat work.script)
 
 pub returns-in-Ok-clause-answered : goal.returns-in-Ok-clause-answered
