@@ -35,12 +35,12 @@ use Rattle.reo_settling.proofs.Plannings.{told_by_joints, number_is, all_served,
 use Rattle.reo_joint_values.specs.Standing.{giver_of, no_joint}
 use Rattle.reo_flows.specs.stepping.Clearing.{ComesNoItem}
 use Rattle.reo_flows.specs.stepping.Flowing.{AreFlowing}
-use Rattle.reo_standing.specs.Feeds.{AreFeeds}
-use Rattle.reo_standing.proofs.FeedLemmas.{feeds_same}
-use Rattle.reo_standing.specs.Filling.{AreHeldAmong, AreMoving, HaveColouring}
-use Rattle.reo_standing.proofs.Putting.{giver_flows, others_none}
-use Rattle.reo_standing.specs.Standing.{HaveFirstItems}
-use Rattle.reo_standing.proofs.Filled.{past_none}
+use Rattle.reo_round.specs.Feeds.{AreFeeds}
+use Rattle.reo_round.proofs.FeedLemmas.{feeds_same}
+use Rattle.reo_round.specs.Filling.{AreHeldAmong, AreMoving, HaveColouring}
+use Rattle.reo_round.proofs.Putting.{giver_flows, others_none}
+use Rattle.reo_round.specs.Standing.{HaveFirstItems}
+use Rattle.reo_round.proofs.Filled.{past_none}
 use Rattle.reo_engine.specs.declared.flows.Flows.{Flows}
 use Rattle.reo_engine.specs.Flows.{AreFlows, AreKeptShown, AreFlaggedShown, AreShownAt, AreWrittenAt, HasNoSheet, MayBeBlank, MayBeMarks, MayBeRows}
 use Rattle.reo_engine.specs.Resting.{part_of}

@@ -7,8 +7,8 @@ use Rattle.reo_trace.specs.declared.cells.cells.Cells.{Cells}
 use Rattle.reo_trace.specs.cells.Cells.{AreCells, IsShown}
 use Rattle.reo_net_laws.specs.Knots.{Knotted, knot_count}
 use Rattle.reo_settling.specs.Plannings.{Kept, is_settled}
-use Rattle.reo_standing.specs.Feeds.{AreFeeds}
-use Rattle.reo_standing.specs.Filling.{AreBlank}
+use Rattle.reo_round.specs.Feeds.{AreFeeds}
+use Rattle.reo_round.specs.Filling.{AreBlank}
 use Rattle.reo_engine.specs.declared.flows.Flows.{Flows}
 use Rattle.reo_engine.specs.Resting.{AreDoneAt, part_of}
 

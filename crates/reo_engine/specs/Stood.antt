@@ -4,9 +4,9 @@ use Rattle.reo_net_base.specs.Net.{Net}
 use Rattle.reo_net_laws.specs.Knots.{Knotted, knot_count}
 use Rattle.reo_weights.specs.Over.{Cause, IsOver}
 use Rattle.reo_settling.specs.Plannings.{Kept, AllServe}
-pub use Rattle.reo_standing.specs.declared.standing.Standing.{Standing}
-use Rattle.reo_standing.specs.Standing.{HaveFirstItems}
-pub use Rattle.reo_standing.specs.Standing.{Stands}
+pub use Rattle.reo_round.specs.declared.standing.Standing.{Standing}
+use Rattle.reo_round.specs.Standing.{HaveFirstItems}
+pub use Rattle.reo_round.specs.Standing.{Stands}
 
 -- No part is over, and what stands is the first colouring.
 pub record IsStood (budget : ℕ) (net : Net) (ports turn : ℕ) (s : Standing) : Type 0 where

@@ -24,4 +24,4 @@ pub use engine::Engine;
 pub use laws::plans_suit;
 pub use planning::plan_with;
 pub use reo_rounds::{Declined, Done, OfferFault, Plan, PlanFault, PlannedRound};
-pub use reo_standing::Standing;
+pub use reo_round::Standing;

@@ -13,7 +13,7 @@ use Rattle.reo_net_laws.specs.Knots.{Knotted, AreKnots, in_knot, knot_count}
 use Rattle.reo_weights.specs.still.Still.{IsStill}
 use Rattle.reo_weights.proofs.still.Rounds.{still_stay_first}
 use Rattle.reo_weights.proofs.still.WithinLemmas.{alike_weigh}
-use Rattle.reo_kept_tables.proofs.Staying.{same_side}
+use Rattle.reo_search_tables.proofs.Staying.{same_side}
 use Rattle.reo_planning.specs.declared.kept.Kept.{Kept}
 use Rattle.reo_planning.specs.Keeping.{is_settled, is_moving, FlowsIn, HasSizes, IsKnown, IsKept}
 use Rattle.reo_planning.specs.Unsettling.{AreFewer, IsElsewhere, KeptElsewhere, KeptLater}

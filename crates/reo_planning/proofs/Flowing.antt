@@ -20,8 +20,8 @@ use Rattle.reo_joint_values.specs.Standing.{no_joint, giver_of, taker_of}
 use Rattle.reo_joint_values.specs.InOrder.{joints_in}
 use Rattle.reo_flows.specs.flowing.Flowing.{AreFlowingOf, flowing_of, flows_by}
 use Rattle.reo_flows.proofs.flowing.Passing.{next_from, nothing_there}
-use Rattle.reo_kept_tables.specs.Orders.{AreJointsOf}
-use Rattle.reo_kept_tables.proofs.Sorted.{joints_of_set}
+use Rattle.reo_search_tables.specs.Orders.{AreJointsOf}
+use Rattle.reo_search_tables.proofs.Sorted.{joints_of_set}
 use Rattle.reo_weights.specs.still.Still.{IsStill}
 use Rattle.reo_planning.specs.Keeping.{FlowsIn}
 use Rattle.reo_planning.specs.Marked.{TellsFlow}

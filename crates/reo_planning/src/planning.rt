@@ -5,7 +5,7 @@ ghost use Rattle.reo_net_base.specs.Colouring.{RowsFit};
 ghost use Rattle.reo_net_circuit.specs.found_ends.Ends.{AreEnds};
 ghost use Rattle.reo_net_laws.specs.Knots.{AreKnots, knot_count};
 ghost use Rattle.reo_rounds.specs.Plans.{IsPlanFault};
-ghost use Rattle.reo_kept_tables.specs.SearchTables.{AreReady};
+ghost use Rattle.reo_search_tables.specs.SearchTables.{AreReady};
 ghost use Rattle.reo_planning.specs.Keeping.{AllServe, IsKept};
 ghost use Rattle.reo_planning.specs.Planned.{ArePlanned, IsFirstBy, AreWeights, sum_below, weight_left};
 
@@ -13,7 +13,7 @@ use crate::kept::Kept;
 use crate::parts::plan_part;
 use crate::rows::copied;
 use crate::tables::tables_of;
-use reo_kept_tables::SearchTables;
+use reo_search_tables::SearchTables;
 use reo_knots::Knots;
 use reo_net::fill_with;
 use reo_net_base::{Colouring, Primitive};

@@ -2,9 +2,9 @@
 ghost use Rattle.std.specs.Prelude.{◌≡◌, ◌<◌, IfOk, length};
 ghost use Rattle.reo_net_base.specs.Net.{net_of};
 ghost use Rattle.reo_net_circuit.specs.found_ends.Ends.{AreEnds};
-ghost use Rattle.reo_kept_tables.specs.SearchTables.{AreReady};
+ghost use Rattle.reo_search_tables.specs.SearchTables.{AreReady};
 
-use reo_kept_tables::SearchTables;
+use reo_search_tables::SearchTables;
 use reo_net_base::Primitive;
 use reo_net_circuit::{Circuit, Ends};
 use reo_propagate::begin;

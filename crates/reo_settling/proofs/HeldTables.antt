@@ -10,13 +10,13 @@ use Rattle.reo_net_base.specs.Wired.{IsWired}
 use Rattle.reo_net_circuit.proofs.Cases.{eq_cases}
 use Rattle.reo_net_circuit.specs.found_ends.Ends.{AreEnds}
 use Rattle.reo_net_laws.specs.Knots.{Knotted, AreKnots, in_knot, knot_count}
-use Rattle.reo_kept_tables.specs.declared.tables.SearchTables.{SearchTables}
-use Rattle.reo_kept_tables.specs.SearchTables.{HasRoom, AreReady, AreRightOn}
-use Rattle.reo_kept_tables.specs.Laws.{IsSameOn}
-use Rattle.reo_kept_tables.specs.Orders.{AreOrders}
-use Rattle.reo_kept_tables.proofs.Readied.{ready_tables_are_right, right_parts_are_ready}
-use Rattle.reo_kept_tables.proofs.Sorted.{orders_stay}
-use Rattle.reo_kept_tables.proofs.Staying.{right_tables_stay, room_stays}
+use Rattle.reo_search_tables.specs.declared.tables.SearchTables.{SearchTables}
+use Rattle.reo_search_tables.specs.SearchTables.{HasRoom, AreReady, AreRightOn}
+use Rattle.reo_search_tables.specs.Laws.{IsSameOn}
+use Rattle.reo_search_tables.specs.Orders.{AreOrders}
+use Rattle.reo_search_tables.proofs.Readied.{ready_tables_are_right, right_parts_are_ready}
+use Rattle.reo_search_tables.proofs.Sorted.{orders_stay}
+use Rattle.reo_search_tables.proofs.Staying.{right_tables_stay, room_stays}
 use Rattle.reo_flows.specs.flowing.Flowing.{AreFlowingIn}
 use Rattle.reo_part_plans.specs.Plannings.{Kept, is_settled, AreFewer, IsElsewhere}
 use Rattle.reo_part_plans.proofs.Plannings.{number_is}

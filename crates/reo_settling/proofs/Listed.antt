@@ -13,8 +13,8 @@ use Rattle.reo_net_circuit.proofs.ReshapeLemmas.{first_same}
 use Rattle.reo_net_laws.proofs.Sides.{side_at_place}
 use Rattle.reo_net_laws.specs.Knots.{Knotted, AreKnots, in_knot, knot_count}
 use Rattle.reo_weights.specs.still.Joining.{HasFirst}
-use Rattle.reo_kept_tables.specs.Orders.{AreJointsOf, AreOrders}
-use Rattle.reo_kept_tables.proofs.Sorted.{orders_are_of_parts}
+use Rattle.reo_search_tables.specs.Orders.{AreJointsOf, AreOrders}
+use Rattle.reo_search_tables.proofs.Sorted.{orders_are_of_parts}
 use Rattle.reo_flows.specs.flowing.Flowing.{AreFlowingIn, AreFlowingOf, AreJointsIn, AreRowsIn, flowing_of}
 use Rattle.reo_flows.proofs.flowing.Staying.{flowing_stay}
 use Rattle.reo_part_plans.specs.Plannings.{Kept, is_settled, IsPartPlanned, AreFewer, IsElsewhere}
@@ -22,7 +22,7 @@ use Rattle.reo_part_plans.proofs.Plannings.{mark_same, elsewhere, number_is, mar
 use Rattle.reo_part_plans.proofs.Recalled.{same_shapes}
 use Rattle.reo_settling.specs.declared.lookups.Lookups.{Lookups}
 use Rattle.reo_settling.specs.Lookups.{AreListed, AreToldFor, IsListedAt}
-pub use Rattle.reo_kept_tables.proofs.Renewed.{on_ok as map_ok}
+pub use Rattle.reo_search_tables.proofs.Renewed.{on_ok as map_ok}
 
 -- The joints that flow in a part are the same by rows that are the same there.
 pub flowing_same : (net : Net) → IsWired net → (inside : ℕ → Bool) (rows others : List ℕ) → ((s : ℕ) → s < side_count net → inside s ≡ true → get_or others s 0 ≡ get_or rows s 0)

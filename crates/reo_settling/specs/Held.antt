@@ -2,8 +2,8 @@
 use Rattle.std.specs.Prelude.{ℕ, ◌<◌, ◌≡◌, Bool, true, false, List, Option, Some, None, slice_index_or}
 use Rattle.reo_net_base.specs.Net.{Net}
 use Rattle.reo_net_laws.specs.Knots.{Knotted, in_knot, knot_count}
-use Rattle.reo_kept_tables.specs.declared.tables.SearchTables.{SearchTables}
-use Rattle.reo_kept_tables.specs.SearchTables.{AreRightOn, HasRoom}
+use Rattle.reo_search_tables.specs.declared.tables.SearchTables.{SearchTables}
+use Rattle.reo_search_tables.specs.SearchTables.{AreRightOn, HasRoom}
 use Rattle.reo_part_plans.specs.Plannings.{Kept, is_settled}
 
 -- Whether the tables were made for the state of a part.

@@ -4,7 +4,7 @@ use Rattle.reo_net_base.specs.Net.{Net}
 use Rattle.reo_net_base.specs.Shapes.{TreatAlike}
 use Rattle.reo_net_base.specs.Wired.{IsWired}
 use Rattle.reo_net_laws.specs.Knots.{Knotted, AreKnots, knot_count}
-use Rattle.reo_kept_tables.specs.Orders.{AreOrders}
+use Rattle.reo_search_tables.specs.Orders.{AreOrders}
 use Rattle.reo_flows.specs.flowing.Flowing.{AreFlowingIn}
 use Rattle.reo_part_plans.specs.Plannings.{Kept, AreFewer, IsElsewhere, is_settled, serves}
 use Rattle.reo_mark_search.specs.MarkFinding.{IsMarkSearch}

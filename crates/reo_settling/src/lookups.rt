@@ -8,7 +8,7 @@ ghost use Rattle.reo_settling.specs.Lookups.{AreLookups};
 
 use reo_flags::Flags;
 use reo_item_bounds::Bounds;
-use reo_kept_tables::{SearchTables, orders_of};
+use reo_search_tables::{SearchTables, orders_of};
 use reo_knots::Knots;
 use reo_mark_search::MarkSearch;
 use reo_net_base::Primitive;

@@ -3,12 +3,12 @@ ghost use Rattle.std.specs.Prelude.{◌≡◌, IfOk, OnOk, length};
 ghost use Rattle.reo_net_base.specs.Net.{net_of};
 ghost use Rattle.reo_net_circuit.specs.found_ends.Ends.{AreEnds};
 ghost use Rattle.reo_net_laws.specs.Knots.{AreKnots, knot_count};
-ghost use Rattle.reo_kept_tables.specs.Orders.{AreOrders};
-ghost use Rattle.reo_kept_tables.specs.SearchTables.{AreReady};
+ghost use Rattle.reo_search_tables.specs.Orders.{AreOrders};
+ghost use Rattle.reo_search_tables.specs.SearchTables.{AreReady};
 ghost use Rattle.reo_settling.specs.Held.{AreFreshTables, MayBeFresh};
 
 use reo_flags::Flags;
-use reo_kept_tables::{SearchTables, refresh_part};
+use reo_search_tables::{SearchTables, refresh_part};
 use reo_knots::Knots;
 use reo_net_base::Primitive;
 use reo_net_circuit::{Circuit, Ends};

@@ -1,7 +1,7 @@
 use Rattle.std.proofs.Common.{◌+◌, ◌≤◌, ℕ}
 use Rattle.reo_net_base.specs.Net.{net_of}
 use Rattle.reo_planning.specs.Planned.{AreWeights, sum_below, weight_left}
-use Rattle.reo_kept_tables.specs.SearchTables.{AreReady}
+use Rattle.reo_search_tables.specs.SearchTables.{AreReady}
 use Rattle.reo_planning.proofs.Parting.{ArePlannedSoFar}
 use Rattle.reo_planning.proofs.planning.rows_with.Given as goal
 

@@ -2,7 +2,7 @@ use Rattle.std.proofs.Common.{◌≡◌, ◌∙◌, ◌+◌, Bool, List, length,
 use Rattle.std.proofs.lemmas.List.{length-map}
 use Rattle.reo_net_base.specs.declared.joint.Joint.{Joint}
 use Rattle.reo_net_base.specs.Net.{Net, Wiring, net_of}
-use Rattle.reo_standing.specs.Filling.{AreBlank}
+use Rattle.reo_round.specs.Filling.{AreBlank}
 use Rattle.reo_engine.proofs.Between.{marked_unsettled, moving_again}
 use Rattle.reo_engine.proofs.Others.{others_stay}
 use Rattle.reo_engine.proofs.FlowsLemmas.{flows_stay, held_among}

@@ -2,8 +2,8 @@ use Rattle.std.proofs.Common.{◌≡◌, ◌∙◌, ◌<◌, [], length, get_or,
 use Rattle.std.proofs.lemmas.List.{get_or_default}
 use Rattle.reo_net_base.specs.Net.{Net, net_of}
 use Rattle.reo_net_laws.specs.Knots.{in_knot}
-use Rattle.reo_kept_tables.specs.Orders.{AreJointsOf}
-use Rattle.reo_kept_tables.proofs.Sorted.{orders_are_of_parts}
+use Rattle.reo_search_tables.specs.Orders.{AreJointsOf}
+use Rattle.reo_search_tables.proofs.Sorted.{orders_are_of_parts}
 use Rattle.reo_settling.proofs.lookups.Lookups.search.Goals as goal
 
 pub most_choices-found-requires-clause-joints : goal.most_choices-found-requires-clause-joints

@@ -1,5 +1,0 @@
-use Rattle.reo_kept_tables.proofs.Sorted.{orders_stay}
-use Rattle.reo_kept_tables.proofs.laws.orders_stay.Goals as goal
-
-pub returns : goal.returns
-returns c = orders_stay

@@ -1,5 +1,0 @@
-use Rattle.reo_kept_tables.proofs.Readied.{ready_tables_are_right}
-use Rattle.reo_kept_tables.proofs.laws.ready_tables_are_right.Goals as goal
-
-pub returns : goal.returns
-returns c = ready_tables_are_right

@@ -1,5 +1,0 @@
-use Rattle.reo_kept_tables.proofs.Staying.{room_stays}
-use Rattle.reo_kept_tables.proofs.laws.room_stays.Goals as goal
-
-pub returns : goal.returns
-returns c = room_stays
