@@ -39,12 +39,12 @@ use Rattle.reo_round.specs.Feeds.{AreFeeds}
 use Rattle.reo_round.proofs.FeedLemmas.{feeds_same}
 use Rattle.reo_round.specs.Filling.{AreHeldAmong, AreMoving, HaveColouring}
 use Rattle.reo_round.proofs.Putting.{giver_flows, others_none}
-use Rattle.reo_round.specs.Standing.{HaveFirstItems}
+use Rattle.reo_round.specs.MadeRound.{HaveFirstItems}
 use Rattle.reo_round.proofs.Filled.{past_none}
 use Rattle.reo_engine.specs.declared.flows.Flows.{Flows}
 use Rattle.reo_engine.specs.Flows.{AreFlows, AreKeptShown, AreFlaggedShown, AreShownAt, AreWrittenAt, HasNoSheet, MayBeBlank, MayBeMarks, MayBeRows}
 use Rattle.reo_engine.specs.Resting.{part_of}
-use Rattle.reo_engine.specs.Stood.{AreRenewed}
+use Rattle.reo_engine.specs.MadeWithin.{AreRenewed}
 use Rattle.reo_engine.proofs.Resting.{in_own}
 
 -- The code of a cell, by its row and how many rows its side has.

@@ -37,10 +37,10 @@ done_over net knots flags n next flagged Done Stays at = record {
 
 -- One part more, which is not flagged, and of which all sides were done.
 pub done_more : (net : Net) (knots : Knotted) → AreKnots net knots → (flags : List Bool) (n : ℕ) → n < knot_count knots → get_or flags n false ≡ false → (sides : List ℕ) → sides ≡ get_or knots.sides n []
-    → (Done Stays Did Stood : ℕ → Type 0) → AreDoneAt net knots flags n Done Stays
-    → ((m : ℕ) → m < length sides → Did (get_or sides m 0)) → ((s : ℕ) → Done s → Did s) → ((s : ℕ) → ((m : ℕ) → m < length sides → get_or sides m 0 ≢ s) → Stays s → Stood s)
-    → AreDoneAt net knots flags (n + 1) Did Stood
-done_more net knots are flags n lt clear sides is Done Stays Did Stood at did stay other = record {
+    → (Done Stays Did MadeWithin : ℕ → Type 0) → AreDoneAt net knots flags n Done Stays
+    → ((m : ℕ) → m < length sides → Did (get_or sides m 0)) → ((s : ℕ) → Done s → Did s) → ((s : ℕ) → ((m : ℕ) → m < length sides → get_or sides m 0 ≢ s) → Stays s → MadeWithin s)
+    → AreDoneAt net knots flags (n + 1) Did MadeWithin
+done_more net knots are flags n lt clear sides is Done Stays Did MadeWithin at did stay other = record {
   here = λ s s_in below not. elim (eq_cases (part_of knots s) n) [
     | inl e ↦
         let there = side_listed net knots are n lt sides is s s_in (in_own net knots are s n s_in e) in

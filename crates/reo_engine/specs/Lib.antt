@@ -3,7 +3,7 @@ pub mod Changes
 pub mod Suited
 pub mod Isolation
 pub mod Settled
-pub mod Stood
+pub mod MadeWithin
 pub mod Flows
 pub mod Goers
 pub mod Resting

@@ -1,6 +1,6 @@
 //! The engine: a circuit that takes offers at its ports and goes on round by round.
 //!
-//! A round is planned and then made by `plan` and `commit`; `stand` and `go_on` do the same at the
+//! A round is planned and then made by `plan` and `commit`; `make_round` and `finish_round` do the same at the
 //! cost of what flows. Making a round takes no memory, so one that was planned, or that stands, can
 //! always be made. The rows of parts in which nothing changes are kept from round to round.
 #![tactic(auto)]
@@ -18,10 +18,10 @@ mod offers;
 mod planning;
 mod renewing;
 mod rounds;
-mod standing;
+mod made_round;
 
 pub use engine::Engine;
 pub use laws::plans_suit;
 pub use planning::plan_with;
 pub use reo_rounds::{Declined, Done, OfferFault, Plan, PlanFault, PlannedRound};
-pub use reo_round::Standing;
+pub use reo_round::MadeRound;

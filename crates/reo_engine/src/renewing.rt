@@ -8,7 +8,7 @@ ghost use Rattle.reo_settling.specs.Plannings.{AllServe, IsKept, AreWeights, sum
 ghost use Rattle.reo_settling.specs.Lookups.{AreLookups};
 ghost use Rattle.reo_trace.specs.cells.Cells.{AreShown};
 ghost use Rattle.reo_engine.specs.Flows.{AreFlows, MayBeRows};
-ghost use Rattle.reo_engine.specs.Stood.{AreRenewed};
+ghost use Rattle.reo_engine.specs.MadeWithin.{AreRenewed};
 
 use crate::flows::{Flows, flag_shown, show_rest, take_rows};
 use reo_knots::Knots;

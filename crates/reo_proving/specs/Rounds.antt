@@ -46,7 +46,7 @@ module _ (net : Net) (turn : ℕ) (rows : List ℕ) (ports : List Port) (line : 
 module _ {P : Type 0} (r : Rules P) (ports : List Port) (budget limit turn : ℕ) (a : State P) where
   -- A round was made, and it was written with its log: how the run is over after it, if it is. The
   -- circuit and the components are as it left them, but for offers.
-  pub record MadeRound (before now : Option (List ℕ)) (w : Wiring P) (players : List Player) (over : Option Ending) : Type 0 where
+  pub record PlayedRound (before now : Option (List ℕ)) (w : Wiring P) (players : List Player) (over : Option Ending) : Type 0 where
     pub logged : LoggedRound
     pub next : State P
     pub proven : IsProven (firsts budget limit) r turn a logged next
@@ -64,7 +64,7 @@ module _ {P : Type 0} (r : Rules P) (ports : List Port) (budget limit turn : ℕ
 
   -- The run went on by a round, or stops.
   abbrev pub Went : Option (List ℕ) → Option (List ℕ) → Wiring P → List Player → Option Ending → Type 0
-  Went before now w players over = StopsHere before now over ⊎ MadeRound before now w players over
+  Went before now w players over = StopsHere before now over ⊎ PlayedRound before now w players over
 
   -- The sink has got a part of such a round with its log.
   pub record CutRound (before now : Option (List ℕ)) : Type 0 where

@@ -50,7 +50,7 @@ fn ending_for(turn: u64, budget: u64, fault: PlanFault) -> Option<Ending>
 /// `Failed` comes only where the sink's count of faults rose, and it rises nowhere else: a front of
 /// the round with its log was taken, and not the whole. `NoMemory` is out of memory: the sink stays
 /// as it was. No round was made.
-fn make_round<P: Restoring, S: Sink>(
+fn log_round<P: Restoring, S: Sink>(
     alloc: Global,
     engine: &mut Engine<P>,
     players: &mut Players,
@@ -108,8 +108,8 @@ fn make_round<P: Restoring, S: Sink>(
 ///
 /// # Errors
 ///
-/// As those of `make_round`.
-pub(crate) fn go_on<P: Restoring, L: Ledger, S: Sink>(
+/// As those of `log_round`.
+pub(crate) fn log_next<P: Restoring, L: Ledger, S: Sink>(
     alloc: Global,
     engine: &mut Engine<P>,
     players: &mut Players,
@@ -152,7 +152,7 @@ pub(crate) fn go_on<P: Restoring, L: Ledger, S: Sink>(
     offer_all(engine, ports, players)?;
     match engine.plan_round(alloc, limits.budget, steps) {
         Ok(planned) => {
-            let over = make_round(alloc, engine, players, ports, limits.budget, planned, out)?;
+            let over = log_round(alloc, engine, players, ports, limits.budget, planned, out)?;
             Ok(over)
         }
         Err(fault) => match ending_for(made + 1, limits.budget, fault) {

@@ -11,7 +11,7 @@ ghost use Rattle.reo_runner.specs.at_ports.Kinds.{kind_rules};
 ghost use Rattle.reo_runner.specs.at_ports.Runnable.{CanRun};
 ghost use Rattle.reo_proving.specs.Proving.{HasCome, HaveProofs};
 
-use crate::round::go_on;
+use crate::round::log_next;
 use reo_flatten::Flat;
 use reo_io::Sink;
 use reo_net_base::{Ported, Ports, Restoring};
@@ -38,7 +38,7 @@ fn have_proofs<P: Ported>(circuit: &Circuit<P>)
 }
 
 /// The rounds of a run of which some component is not done, with their logs, and its ending.
-fn make_rounds<P: Restoring, L: Ledger, S: Sink>(
+fn log_rounds<P: Restoring, L: Ledger, S: Sink>(
     alloc: Global,
     engine: &mut Engine<P>,
     players: &mut Players,
@@ -63,7 +63,7 @@ fn make_rounds<P: Restoring, L: Ledger, S: Sink>(
 {
     have_proofs(engine.circuit());
     loop {
-        if let Some(ending) = go_on(alloc, engine, players, ports, limits, steps, out)? {
+        if let Some(ending) = log_next(alloc, engine, players, ports, limits, steps, out)? {
             write_ending(alloc, &ending, out)?;
             return Ok(ending);
         }
@@ -103,7 +103,7 @@ fn run_counted<P: Restoring, L: Ledger, S: Sink>(
     }
     let mut engine = Engine::new(alloc, circuit)?;
     let mut steps = Steps::<L>::new(blank);
-    let ending = make_rounds(
+    let ending = log_rounds(
         alloc,
         &mut engine,
         &mut players,

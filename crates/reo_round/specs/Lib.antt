@@ -1,4 +1,4 @@
 pub mod FeedLaws
 pub mod Feeds
 pub mod Filling
-pub mod Standing
+pub mod MadeRound

@@ -8,8 +8,8 @@ mod filling;
 mod giving;
 mod laws;
 mod moving;
-mod standing;
+mod made_round;
 
 pub use feeds::Feeds;
 pub use laws::{feeds_are_one, feeds_stay};
-pub use standing::{Sheet, Standing, blank, cleared, stand};
+pub use made_round::{Sheet, MadeRound, blank, cleared, make_round};

@@ -12,7 +12,7 @@ use Rattle.reo_trace.specs.Entries.{line_for}
 use Rattle.reo_rounds.specs.declared.plan.Plan.{Plan}
 use Rattle.reo_weights.specs.Over.{IsOver}
 use Rattle.reo_rounds.specs.Plans.{IsPlan, jammed_sides}
-use Rattle.reo_runner.specs.at_ports.Engines.{IsStood, Standing}
+use Rattle.reo_runner.specs.at_ports.Engines.{IsMadeWithin, MadeRound}
 use Rattle.reo_rounds.specs.Ready.{ready}
 use Rattle.reo_rounds.specs.Rules.{Rules}
 use Rattle.reo_runs.specs.Round.{State, RoundOf, advanced}
@@ -48,16 +48,16 @@ pub tallied_by : (net : Net) (turn : ℕ) (p : Plan) (ports : List Port) (line :
 tallied_by net turn p ports line old new line_is tallied = subst (λ ms. IsTallied ports ms old new) (sym (ap (λ (l : RoundLine). l.moves) line_is)) tallied
 
 -- What stands, as a plan.
-abbrev pub plan_of : Net → Standing → Plan
+abbrev pub plan_of : Net → MadeRound → Plan
 plan_of net s = record { colouring = s.colouring; moves = s.line.moves; idle = s.line.idle; jammed = jammed_sides net s.colouring.rows }
 
-pub stood_plan : (budget : ℕ) (net : Net) (ports turn : ℕ) (s : Standing) → IsStood budget net ports turn s → IsPlan budget net ports turn (plan_of net s)
+pub stood_plan : (budget : ℕ) (net : Net) (ports turn : ℕ) (s : MadeRound) → IsMadeWithin budget net ports turn s → IsPlan budget net ports turn (plan_of net s)
 stood_plan budget net ports turn s is = record {
   within = is.within;
-  first = is.stands.first;
+  first = is.is_made.first;
   shows = record {
-    moves = ap (λ (l : RoundLine). l.moves) is.stands.line;
-    idle = ap (λ (l : RoundLine). l.idle) is.stands.line;
+    moves = ap (λ (l : RoundLine). l.moves) is.is_made.line;
+    idle = ap (λ (l : RoundLine). l.idle) is.is_made.line;
     jammed = refl;
   };
 }

@@ -30,8 +30,8 @@ use Rattle.reo_runner.specs.declared.outcome.Tally.{Tally}
 use Rattle.reo_runner.specs.declared.outcome.End2.{End2}
 use Rattle.reo_runner.specs.declared.outcome.End2.TheVariants as ends
 use Rattle.reo_runner.specs.Outcome.{Counts, tally_of, outcome_end, Closes, ClosesAs, StopsAs, Wrote, CameTo}
-use Rattle.reo_runner.specs.Rounds.{IsTallied, MadeRound, CutRound, IsRoundFault}
-use Rattle.reo_runner.specs.declared.round.Made.{Made}
+use Rattle.reo_runner.specs.Rounds.{IsTallied, PlayedRound, CutRound, IsRoundFault}
+use Rattle.reo_runner.specs.declared.round.Played.{Played}
 use Rattle.reo_runner.specs.declared.planning.RoundFault.{RoundFault}
 use Rattle.reo_runner.specs.declared.planning.RoundFault.TheVariants as faults
 use Rattle.reo_runner.proofs.SoFar.{SoFar}
@@ -208,7 +208,7 @@ module _ {P : Type 0} (r : Rules P) (ports : List Port) (budget limit : ℕ) (st
     stopped_by runs between now o faults.NoMemory within why stops =
         subst (λ z. CameTo r ports budget limit start before z o) (sym (stops.0 ∙ why)) (kept runs o stops.1 stops.2)
 
-    module _ (now : Option (List ℕ)) (v : Wiring P) (others : List Player) (one : Made) (round : MadeRound r ports budget limit (rounds_made + 1) now_at mid now t v others one) where
+    module _ (now : Option (List ℕ)) (v : Wiring P) (others : List Player) (one : Played) (round : PlayedRound r ports budget limit (rounds_made + 1) now_at mid now t v others one) where
       -- The rounds with one more.
       leads_more : Leads (firsts budget limit) r 1 start (so_far.lines ++ round.line ∷ []) (place_after (rounds_made + 1) round.line now_at round.next)
       leads_more =

@@ -18,7 +18,7 @@ use Rattle.reo_runs.specs.Run.{firsts, over_after}
 use Rattle.reo_runs.specs.Written.{goes, is_in, is_out}
 use Rattle.reo_runner.specs.at_ports.Pending.{IsButForOffers}
 use Rattle.reo_runner.specs.declared.outcome.Tally.{Tally}
-use Rattle.reo_runner.specs.declared.round.Made.{Made}
+use Rattle.reo_runner.specs.declared.round.Played.{Played}
 use Rattle.reo_runner.specs.declared.planning.RoundFault.{RoundFault}
 use Rattle.reo_runner.specs.declared.planning.RoundFault.TheVariants as faults
 
@@ -49,7 +49,7 @@ pub record IsSmall (t : Tally) : Type 0 where
 
 module _ {P : Type 0} (r : Rules P) (ports : List Port) (budget limit turn : ℕ) (a : State P) where
   -- A round of a run was made and its line written, and the circuit and the components are as it left them, but for offers.
-  pub record MadeRound (before now : Option (List ℕ)) (old : Tally) (w : Wiring P) (players : List Player) (made : Made) : Type 0 where
+  pub record PlayedRound (before now : Option (List ℕ)) (old : Tally) (w : Wiring P) (players : List Player) (made : Played) : Type 0 where
     pub line : RoundLine
     pub next : State P
     pub round : RoundOf (firsts budget limit) r turn a line next

@@ -3,7 +3,7 @@ ghost use Rattle.std.specs.Prelude.{◌≡◌, ◌<◌, ◌+◌, ◌^◌, IfOk, 
 ghost use Rattle.reo_net_base.specs.Net.{net_of};
 ghost use Rattle.reo_trace.specs.Entries.{line_for};
 ghost use Rattle.reo_trace.specs.RoundText.{round_text};
-ghost use Rattle.reo_runner.specs.at_ports.Engines.{IsStood};
+ghost use Rattle.reo_runner.specs.at_ports.Engines.{IsMadeWithin};
 ghost use Rattle.reo_runner.specs.Rounds.{IsUnplanned, fault_of_plan};
 ghost use Rattle.reo_runner.specs.declared.planning.RoundFault.TheVariants.{NoMemory as OutOfMemory};
 
@@ -54,7 +54,7 @@ fn round_fault(fault: PlanFault) -> RoundFault
 
 /// Has the engine look at the round that stands next, and make the text of its line. What was found
 /// of its parts is kept for rounds to come.
-pub(crate) fn stand_next<P: Ported, L: Ledger>(
+pub(crate) fn make_next<P: Ported, L: Ledger>(
     alloc: Global,
     engine: &mut Engine<P>,
     ports: &Ports,
@@ -64,7 +64,7 @@ pub(crate) fn stand_next<P: Ported, L: Ledger>(
     requires small { budget < 10 ^ 18 }
     ensures exact { let net = net_of P.behaviour engine.old.circuit in
         let turn = engine.old.rounds + 1 in
-        MatchResult result (λ made. IsStood budget net engine.old.circuit.ports turn made.0)
+        MatchResult result (λ made. IsMadeWithin budget net engine.old.circuit.ports turn made.0)
         (IsUnplanned budget net) }
     ensures text { let net = net_of P.behaviour engine.old.circuit in
         let turn = engine.old.rounds + 1 in IfOk result (λ made.
@@ -74,7 +74,7 @@ pub(crate) fn stand_next<P: Ported, L: Ledger>(
     ensures rounds { engine.new.rounds ≡ engine.old.rounds }
     ensures same { IfOk result (λ made. made.0.colouring.rows ≡ engine.new.kept.rows) }
 {
-    match engine.stand(alloc, ports, budget, steps) {
+    match engine.make_round(alloc, ports, budget, steps) {
         Ok(made) => Ok(made),
         Err(fault) => Err(round_fault(fault)),
     }

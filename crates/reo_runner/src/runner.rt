@@ -19,7 +19,7 @@ use crate::at_ports::{Engine, release_circuit, release_players, release_run};
 use crate::ending::close;
 use crate::outcome::{End2, Limits, Outcome, Tally};
 use crate::planning::RoundFault;
-use crate::round::make_round;
+use crate::round::play_round;
 use reo_flatten::Flat;
 use reo_io::Sink;
 use reo_net_base::{Ported, Ports, Restoring};
@@ -76,7 +76,7 @@ fn stop<S: Sink>(
 }
 
 /// The rounds of a run of which some component is not done, and its ending.
-fn make_rounds<P: Restoring, L: Ledger, S: Sink>(
+fn play_rounds<P: Restoring, L: Ledger, S: Sink>(
     alloc: Global,
     engine: &mut Engine<P>,
     players: &mut Players,
@@ -107,7 +107,7 @@ fn make_rounds<P: Restoring, L: Ledger, S: Sink>(
             let ending = Ending::Limit { rounds: made };
             return close(alloc, ending, tally, out);
         }
-        let round = make_round(alloc, engine, players, ports, limits, tally, steps, out);
+        let round = play_round(alloc, engine, players, ports, limits, tally, steps, out);
         match round {
             Ok(made) => {
                 tally = made.tally;
@@ -160,7 +160,7 @@ fn run_counted<P: Restoring, L: Ledger, S: Sink>(
         return tally.outcome(End2::NoMemory);
     };
     let mut steps = Steps::<L>::new(blank);
-    let outcome = make_rounds(
+    let outcome = play_rounds(
         alloc,
         &mut engine,
         &mut players,

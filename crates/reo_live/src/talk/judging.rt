@@ -12,7 +12,7 @@ ghost use Rattle.reo_live.specs.talk.Talks.{stand_of, told_by};
 
 use crate::base::{Answer, EventFault};
 use crate::talk::offers::{is_pending, make_offer, take_back};
-use crate::talk::rounds::make_round;
+use crate::talk::rounds::answer_round;
 use reo_engine::Engine;
 use reo_net_base::{Offer, Ported, Ports};
 use reo_script::{Event, EventFault, read_event};
@@ -104,7 +104,7 @@ fn happen<P: Ported>(
             let cause = cause_unless(take_back(engine, port));
             Ok(refusal_if(lines + 1, cause))
         }
-        Event::Round => Ok(Some(make_round(alloc, engine, budget)?)),
+        Event::Round => Ok(Some(answer_round(alloc, engine, budget)?)),
         Event::End => {
             let rounds = engine.rounds();
             Ok(Some(Answer::Ended { rounds }))

@@ -82,7 +82,7 @@ fn stop(round: u64, budget: u64, fault: PlanFault) -> Result<Answer, NoMemory>
 
 /// Makes the round that comes next, and answers its line; where it cannot be planned, why.
 /// `NoMemory` is out of memory.
-pub(crate) fn make_round<P: Ported>(
+pub(crate) fn answer_round<P: Ported>(
     alloc: Global,
     engine: &mut Engine<P>,
     budget: u64,

@@ -8,14 +8,14 @@ ghost use Rattle.reo_players.specs.Players.{all_done};
 ghost use Rattle.reo_trace.specs.declared.line.Ending.TheVariants.{Done as IsDone, Stuck as IsStuck};
 ghost use Rattle.reo_rounds.specs.Plans.{Suits};
 ghost use Rattle.reo_rounds.specs.Rules.{rules_of};
-ghost use Rattle.reo_engine.specs.Stood.{Stands};
+ghost use Rattle.reo_engine.specs.MadeWithin.{IsMadeRound};
 ghost use Rattle.reo_runs.specs.Round.{advanced};
 ghost use Rattle.reo_runs.specs.Run.{over_after};
 ghost use Rattle.reo_runner.specs.at_ports.Pending.{IsButForOffers};
 ghost use Rattle.reo_runner.specs.at_ports.Between.{AreBetween, AreStarted};
 
 use crate::at_ports::advancing::advance_all;
-use reo_engine::{Done, Engine, Plan, Standing};
+use reo_engine::{Done, Engine, Plan, MadeRound};
 use reo_kinds_laws::moves_are_flows;
 use reo_net_base::{Move, Ported, Ports, Restoring};
 use reo_players::Players;
@@ -100,28 +100,28 @@ pub fn carry_on<P: Restoring>(
     engine: &mut Engine<P>,
     players: &mut Players,
     ports: &Ports,
-    standing: Standing,
+    made_round: MadeRound,
 ) -> Carried
     requires started { let old = engine.old.circuit in
         AreStarted ports.now.list old.ports players.old (map P.port_state old.primitives) }
-    requires stands { let net = net_of P.behaviour engine.old.circuit in
+    requires is_made { let net = net_of P.behaviour engine.old.circuit in
         let turn = engine.old.rounds + 1 in
-        Stands net engine.old.circuit.ports turn standing }
-    requires same { standing.colouring.rows ≡ engine.old.kept.rows }
+        IsMadeRound net engine.old.circuit.ports turn made_round }
+    requires same { made_round.colouring.rows ≡ engine.old.kept.rows }
     requires few { engine.old.rounds < 2 ^ 63 }
     ensures players { let net = net_of P.behaviour engine.old.circuit in
-        players.new ≡ advanced net standing.colouring.rows players.old }
+        players.new ≡ advanced net made_round.colouring.rows players.old }
     ensures circuit { let r = rules_of P.behaviour P.settled P.port_state P.placed P.withdrawn in
         let old = engine.old.circuit in
-        let colouring = standing.colouring in
+        let colouring = made_round.colouring in
         let primitives = stepped P.behaviour P.settled old colouring.rows colouring.items in
         IsButForOffers r (record old { primitives = primitives }) engine.new.circuit }
     ensures between { let new = engine.new.circuit in
         AreBetween ports.now.list new.ports players.new (map P.port_state new.primitives) }
     ensures rounds { engine.new.rounds ≡ engine.old.rounds + 1 }
     ensures over { let turn = engine.old.rounds + 1 in
-        result.over ≡ over_after turn standing.line.idle players.old players.new }
-    ensures moves { result.moves ≡ standing.line.moves }
+        result.over ≡ over_after turn made_round.line.idle players.old players.new }
+    ensures moves { result.moves ≡ made_round.line.moves }
 {
     let counted = players.someone_counts();
     known(engine);
@@ -130,7 +130,7 @@ pub fn carry_on<P: Restoring>(
         idle,
         moves,
         entries,
-    } = engine.go_on(standing);
+    } = engine.finish_round(made_round);
     let _ = (round, entries);
     advance_all(engine, ports, players, moves.as_slice());
     let over = over_after(engine.rounds(), idle, counted, players);

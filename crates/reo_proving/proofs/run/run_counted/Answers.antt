@@ -52,8 +52,8 @@ returns-in_err-engine-clause-came g c =
     (λ is. absurd (cc))
     (λ is. kept_by r c.args.ports.now.list c.args.limits.budget c.args.limits.rounds start have _ _ [] start refl (Appended-none _))
 
-pub make_rounds-ending-requires-clause-between : goal.make_rounds-ending-requires-clause-between
-make_rounds-ending-requires-clause-between g c =
+pub log_rounds-ending-requires-clause-between : goal.log_rounds-ending-requires-clause-between
+log_rounds-ending-requires-clause-between g c =
     let first = between_first (map g.P.Ported.port_state c.args.circuit.primitives) c.args.circuit.ports c.args.ports.now.list c.args.script.components c.requires.fit in
     let players = subst (λ ps. AreBetween c.args.ports.now.list c.args.circuit.ports ps (map g.P.Ported.port_state c.args.circuit.primitives)) (sym c.in_ok-players.ensures) first in
     subst (λ (w : Wiring g.row.P.Denot). AreBetween c.args.ports.now.list w.ports c.in_ok-players.players (map g.P.Ported.port_state w.primitives)) (sym c.in_ok-engine.ensures.circuit) players
@@ -61,6 +61,6 @@ make_rounds-ending-requires-clause-between g c =
 pub returns-clause-came : goal.returns-clause-came
 returns-clause-came g c =
     let r = rules_of g.P.Primitive.behaviour g.P.Primitive.settled g.P.Ported.port_state g.P.Ported.placed g.P.Ported.withdrawn in
-    begun (λ (s : Place g.row.P.Denot). HasCome (firsts c.args.limits.budget c.args.limits.rounds) r c.args.ports.now.list s (g.S.Sink.told c.args.out.now) (g.S.Sink.told c.make_rounds-ending.new.out) c.make_rounds-ending.result)
+    begun (λ (s : Place g.row.P.Denot). HasCome (firsts c.args.limits.budget c.args.limits.rounds) r c.args.ports.now.list s (g.S.Sink.told c.args.out.now) (g.S.Sink.told c.log_rounds-ending.new.out) c.log_rounds-ending.result)
     c.args.circuit c.in_ok-engine.engine.circuit c.args.script.components c.in_ok-players.players
-    (sym (ap all_done c.in_ok-players.ensures) ∙ sym c.all_done.ensures ∙ c.if-all_done.false) c.in_ok-players.ensures c.in_ok-engine.ensures.circuit c.make_rounds-ending.ensures.came
+    (sym (ap all_done c.in_ok-players.ensures) ∙ sym c.all_done.ensures ∙ c.if-all_done.false) c.in_ok-players.ensures c.in_ok-engine.ensures.circuit c.log_rounds-ending.ensures.came

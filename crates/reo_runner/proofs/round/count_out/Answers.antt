@@ -12,9 +12,9 @@ use Rattle.reo_runner.proofs.round.count_out.Goals as goal
 pub after-tally-requires-clause-few : goal.after-tally-requires-clause-few
 after-tally-requires-clause-few g c =
     let w : Wiring g.row.P.Denot = c.args.engine.now.circuit in
-    let moves : c.as_slice.result.now ≡ c.args.standing.line.moves = c.as_slice.ensures ∙ c.carry_on-moves.ensures.moves in
-    let same : length c.as_slice.result.now ≡ length _ = ap (λ (ms : List Move). length ms) (moves ∙ ap (λ (l : RoundLine). l.moves) c.requires.stands.line) in
-    let few = moves_few (net_of g.P.Primitive.behaviour w) w.ports c.args.standing.colouring.rows c.args.standing.colouring.items in
+    let moves : c.as_slice.result.now ≡ c.args.made_round.line.moves = c.as_slice.ensures ∙ c.carry_on-moves.ensures.moves in
+    let same : length c.as_slice.result.now ≡ length _ = ap (λ (ms : List Move). length ms) (moves ∙ ap (λ (l : RoundLine). l.moves) c.requires.is_made.line) in
+    let few = moves_few (net_of g.P.Primitive.behaviour w) w.ports c.args.made_round.colouring.rows c.args.made_round.colouring.items in
     let few_ports = subst (λ (v : Wiring g.row.P.Denot). v.ports < 2 ^ 31) c.circuit.ensures c.known.ensures.few_ports in omega (arith, same, few, few_ports)
 
 pub returns-clause-small : goal.returns-clause-small
@@ -22,9 +22,9 @@ returns-clause-small g c =
     let w : Wiring g.row.P.Denot = c.args.engine.now.circuit in
     let ports : List Port = c.args.ports.now.list in
     let ms : List Move = c.as_slice.result.now in
-    let moves : ms ≡ c.args.standing.line.moves = c.as_slice.ensures ∙ c.carry_on-moves.ensures.moves in
-    let same : length ms ≡ length _ = ap (λ (ms : List Move). length ms) (moves ∙ ap (λ (l : RoundLine). l.moves) c.requires.stands.line) in
-    let few = moves_few (net_of g.P.Primitive.behaviour w) w.ports c.args.standing.colouring.rows c.args.standing.colouring.items in
+    let moves : ms ≡ c.args.made_round.line.moves = c.as_slice.ensures ∙ c.carry_on-moves.ensures.moves in
+    let same : length ms ≡ length _ = ap (λ (ms : List Move). length ms) (moves ∙ ap (λ (l : RoundLine). l.moves) c.requires.is_made.line) in
+    let few = moves_few (net_of g.P.Primitive.behaviour w) w.ports c.args.made_round.colouring.rows c.args.made_round.colouring.items in
     let few_ports = subst (λ (v : Wiring g.row.P.Denot). v.ports < 2 ^ 31) c.circuit.ensures c.known.ensures.few_ports in
     let most_in : count_by (goes is_in ports) ms ≤ length ms = count_by-le-length (goes is_in ports) ms in
     let most_out : count_by (goes is_out ports) ms ≤ length ms = count_by-le-length (goes is_out ports) ms in

@@ -30,8 +30,8 @@ returns-in_default-new-clause-came g c =
     kept_none r c.args.ports.now.list c.args.limits.budget c.args.limits.rounds (start_of c.args.circuit c.args.script.components) (c.has_runs.ensures c.args.limits.budget c.args.limits.rounds _ refl)
     _ c.outcome-in_default-new.result c.new-tally.result c.new-tally.ensures.rounds c.new-tally.ensures.written c.new-tally.ensures.delivered c.outcome-in_default-new.ensures.tally c.outcome-in_default-new.ensures.end
 
-pub make_rounds-outcome-requires-clause-between : goal.make_rounds-outcome-requires-clause-between
-make_rounds-outcome-requires-clause-between g c =
+pub play_rounds-outcome-requires-clause-between : goal.play_rounds-outcome-requires-clause-between
+play_rounds-outcome-requires-clause-between g c =
     let first = between_first (map g.P.Ported.port_state c.args.circuit.primitives) c.args.circuit.ports c.args.ports.now.list c.args.script.components c.requires.fit in
     let players = subst (λ ps. AreBetween c.args.ports.now.list c.args.circuit.ports ps (map g.P.Ported.port_state c.args.circuit.primitives)) (sym c.in-Ok.ensures) first in
     subst (λ (w : Wiring g.row.P.Denot). AreBetween c.args.ports.now.list w.ports c.in-Ok.players (map g.P.Ported.port_state w.primitives)) (sym c.in-Ok-new.ensures.circuit) players

@@ -8,17 +8,17 @@ use Rattle.reo_runner.proofs.at_ports.carrying.carry_on.Goals as goal
 pub advance_all-requires-clause-stepped : goal.advance_all-requires-clause-stepped
 advance_all-requires-clause-stepped g c =
     let w : Wiring g.row.P.Denot = c.args.engine.now.circuit in
-    subst (λ (n : ℕ). AreStepped c.args.ports.now.list n c.args.players.now (map g.P.Ported.port_state c.go_on-round.new.self.circuit.primitives)) (sym (ap (λ (v : Wiring g.row.P.Denot). v.ports) c.go_on-round.ensures.circuit))
-    (stepped_at (net_of g.P.Primitive.behaviour w) c.args.standing.colouring.rows c.args.ports.now.list w.ports c.args.players.now _ _ c.requires.started c.go_on-round.ensures.offers)
+    subst (λ (n : ℕ). AreStepped c.args.ports.now.list n c.args.players.now (map g.P.Ported.port_state c.finish_round-round.new.self.circuit.primitives)) (sym (ap (λ (v : Wiring g.row.P.Denot). v.ports) c.finish_round-round.ensures.circuit))
+    (stepped_at (net_of g.P.Primitive.behaviour w) c.args.made_round.colouring.rows c.args.ports.now.list w.ports c.args.players.now _ _ c.requires.started c.finish_round-round.ensures.offers)
 
 pub advance_all-requires-clause-moved : goal.advance_all-requires-clause-moved
 advance_all-requires-clause-moved g c =
     let w : Wiring g.row.P.Denot = c.args.engine.now.circuit in
-    moved_at c.known.ensures.flows (net_of g.P.Primitive.behaviour w) c.args.standing.colouring.rows c.args.standing.colouring.items c.args.ports.now.list w.ports c.args.players.now _ _
-    c.known.ensures.wired c.known.ensures.ports c.requires.stands.first.colouring c.requires.started c.go_on-round.ensures.offers _ (c.as_slice.ensures ∙ ap (λ (l : RoundLine). l.moves) (c.go_on-round.ensures.line ∙ c.requires.stands.line))
+    moved_at c.known.ensures.flows (net_of g.P.Primitive.behaviour w) c.args.made_round.colouring.rows c.args.made_round.colouring.items c.args.ports.now.list w.ports c.args.players.now _ _
+    c.known.ensures.wired c.known.ensures.ports c.requires.is_made.first.colouring c.requires.started c.finish_round-round.ensures.offers _ (c.as_slice.ensures ∙ ap (λ (l : RoundLine). l.moves) (c.finish_round-round.ensures.line ∙ c.requires.is_made.line))
 
 pub returns-clause-players : goal.returns-clause-players
 returns-clause-players g c =
     let w : Wiring g.row.P.Denot = c.args.engine.now.circuit in
     c.advance_all.ensures.players
-    ∙ gone_as_said (net_of g.P.Primitive.behaviour w) c.args.standing.colouring.rows c.args.ports.now.list w.ports c.args.players.now _ _ c.requires.started c.go_on-round.ensures.offers
+    ∙ gone_as_said (net_of g.P.Primitive.behaviour w) c.args.made_round.colouring.rows c.args.ports.now.list w.ports c.args.players.now _ _ c.requires.started c.finish_round-round.ensures.offers

@@ -1,6 +1,0 @@
-use Rattle.reo_round.specs.Filling.{AreBlank}
-use Rattle.reo_round.proofs.standing.blank.Given as goal
-
--- So many places have none.
-abbrev pub invariant-loop : goal.invariant-loop
-invariant-loop l = AreBlank l.counter l.items
