@@ -16,7 +16,7 @@ ghost use Rattle.reo_draw_command.specs.Rounds.{IsNumberOf, DrawsRound, shown_te
 
 use reo_circuit_texts::{circuit_names_are_plain, circuits_are_spelled};
 use reo_command::{
-    Claim, DONE, Status, TRACE_REFUSED, CircuitAndScript, answer, no_memory, read_claim, refuse,
+    CircuitAndScript, Claim, DONE, Status, TRACE_REFUSED, answer, no_memory, read_claim, refuse,
 };
 use reo_draw_replay::{Shown, show_round};
 use reo_io::{Files, Sink};

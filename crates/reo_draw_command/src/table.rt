@@ -15,7 +15,7 @@ ghost use Rattle.reo_draw_command.specs.Tabled.{tabled_text, TablesTrace};
 ghost use Rattle.reo_draw_command.specs.DrawStatuses.{statuses_of_table};
 
 use reo_circuit_texts::{circuit_names_are_plain, circuits_are_spelled};
-use reo_command::{Claim, Status, CircuitAndScript, answer, no_memory, read_claim, refuse};
+use reo_command::{CircuitAndScript, Claim, Status, answer, no_memory, read_claim, refuse};
 use reo_draw_rounds::table_text;
 use reo_io::{Files, Sink};
 use reo_runs::ports_are_told;

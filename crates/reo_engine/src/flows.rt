@@ -14,8 +14,8 @@ use reo_flags::Flags;
 use reo_knots::Knots;
 use reo_net_base::{Move, Primitive};
 use reo_net_circuit::Circuit;
-use reo_settling::{Kept, written_over};
 use reo_round::{Feeds, Sheet, blank};
+use reo_settling::{Kept, written_over};
 use reo_trace::Cells;
 use reo_values::{Bytes, List, NoMemory, Value};
 use std::alloc::Global;
@@ -127,9 +127,9 @@ fn show_part<P: Primitive>(
     circuit.known();
     let sides = knots.sides(part);
     if first_is_plain(circuit, rows, sides) {
-        cells.bring_plain(circuit, rows, sides, list);
+        cells.renew_plain(circuit, rows, sides, list);
     } else {
-        cells.bring(circuit, rows, sides, list);
+        cells.renew(circuit, rows, sides, list);
     }
 }
 

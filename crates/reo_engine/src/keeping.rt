@@ -55,7 +55,7 @@ impl<P: Ported> Engine<P> {
             return Ok(());
         }
         let over = take_rows(alloc, &mut self.flows.rows, self.kept.rows())?;
-        let rows = self.lookups.settle(
+        let rows = self.lookups.find_rows(
             alloc,
             &self.circuit,
             &self.knots,

@@ -12,16 +12,16 @@ mod flows;
 mod goers;
 mod keeping;
 mod laws;
+mod made_round;
 mod next;
 mod offering;
 mod offers;
 mod planning;
 mod renewing;
 mod rounds;
-mod made_round;
 
 pub use engine::Engine;
 pub use laws::plans_suit;
 pub use planning::plan_with;
-pub use reo_rounds::{Declined, Done, OfferFault, Plan, PlanFault, PlannedRound};
 pub use reo_round::MadeRound;
+pub use reo_rounds::{Declined, Done, OfferFault, Plan, PlanFault, PlannedRound};

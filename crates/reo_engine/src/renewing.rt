@@ -69,7 +69,7 @@ fn renew<P: Primitive, L: Ledger>(
     if kept.all_serve(budget) && lookups.is_told() {
         return Ok(over);
     }
-    let rows = lookups.settle(alloc, circuit, knots, ends, kept, turn, budget, steps, over)?;
+    let rows = lookups.find_rows(alloc, circuit, knots, ends, kept, turn, budget, steps, over)?;
     Ok(kept.store(circuit, knots, lookups.flowing(), rows, budget))
 }
 

@@ -12,7 +12,7 @@ mod rows;
 mod texts;
 
 pub use answers::one_listing;
-pub use base::{ListFault, BoundaryTable, open_parts_are_narrow};
+pub use base::{BoundaryTable, ListFault, open_parts_are_narrow};
 pub use gates::open_ports_are_gates;
 pub use laws::knots_stay_with_shape;
 pub use listing::list;

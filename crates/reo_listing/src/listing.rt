@@ -3,7 +3,7 @@ ghost use Rattle.std.specs.Prelude.{◌<◌, ◌^◌};
 ghost use Rattle.reo_open.specs.Opened.{HasNoFilter};
 ghost use Rattle.reo_listing.specs.base.Listed.{Lists};
 
-use crate::base::{ListFault, BoundaryTable, open_parts_are_narrow};
+use crate::base::{BoundaryTable, ListFault, open_parts_are_narrow};
 use crate::gates::open_ports_are_gates;
 use crate::parts::list_parts;
 use crate::ports::first_filter;

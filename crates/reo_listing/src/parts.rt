@@ -9,7 +9,7 @@ ghost use Rattle.reo_listing.specs.rows.PartTables.{IsPartFault};
 ghost use Rattle.reo_listing.specs.Listable.{IsListable};
 ghost use Rattle.reo_listing.specs.Parts.{IsPartsTable, StopsAt};
 
-use crate::base::{ListFault, BoundaryTable};
+use crate::base::{BoundaryTable, ListFault};
 use crate::ports::ports_of;
 use crate::rows::rows_of;
 use reo_knots::Knots;

@@ -73,7 +73,7 @@ fn turn_to<P: Primitive>(
 
 /// Narrows at the sides that wait, until none waits any more. The answer is whether some row works
 /// at each of them.
-pub(crate) fn settle<P: Primitive>(
+pub(crate) fn narrow_waiting<P: Primitive>(
     circuit: &Circuit<P>,
     knots: &Knots,
     spots: &List<List<usize>>,

@@ -9,7 +9,7 @@ ghost use Rattle.reo_mark_search.specs.Spots.{AreSpots};
 
 use crate::fixing::fixed_all;
 use crate::found::MarkFinding;
-use crate::narrowing::settle;
+use crate::narrowing::narrow_waiting;
 use crate::noting::note_all;
 use crate::spots::{keepers_of, spots_of};
 use crate::walking::{class_all, jam_all, lead_all, meets_all, row_all};
@@ -68,7 +68,7 @@ fn search_part<P: Primitive>(
         sets.calm();
         return MarkFinding::Unknown;
     }
-    if !settle(circuit, knots, spots, forms, sets, part) {
+    if !narrow_waiting(circuit, knots, spots, forms, sets, part) {
         jam_all(circuit, knots, part, rows);
         return MarkFinding::Jam;
     }

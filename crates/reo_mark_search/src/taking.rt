@@ -9,7 +9,7 @@ ghost use Rattle.reo_mark_search.specs.Places.{class_place, row_place};
 ghost use Rattle.reo_mark_search.specs.Spots.{AreSpots};
 ghost use Rattle.reo_mark_search.specs.Walking.{GoesOn};
 
-use crate::narrowing::settle;
+use crate::narrowing::narrow_waiting;
 use crate::seats::seat_at;
 use reo_knots::Knots;
 use reo_mark_sets::MarkSets;
@@ -54,7 +54,7 @@ pub(crate) fn class_at<P: Primitive>(
     if is_late(seat.form) {
         sets.wait(side);
     }
-    settle(circuit, knots, spots, forms, sets, part)
+    narrow_waiting(circuit, knots, spots, forms, sets, part)
 }
 
 /// Takes the first row at a side, notes it, and narrows. The answer is whether some row is left
@@ -94,5 +94,5 @@ pub(crate) fn row_at<P: Primitive>(
     let seat = seat_at(circuit, knots, spots, forms, part, side);
     let row = sets.take_row(seat.form, seat.places);
     *rows.at_mut(side) = row as u32;
-    settle(circuit, knots, spots, forms, sets, part)
+    narrow_waiting(circuit, knots, spots, forms, sets, part)
 }

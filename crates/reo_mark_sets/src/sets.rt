@@ -3,7 +3,7 @@ ghost use Rattle.std.specs.Prelude.{◌≡◌, ◌<◌, ◌+◌, ◌*◌, ℕ, I
 ghost use Rattle.reo_mark_sets.specs.PlainMarks.{marks_at, open_at, partner, both, all_marks};
 ghost use Rattle.reo_mark_sets.specs.Standing.{AreAll, width_by};
 
-use crate::line::{WaitingLine, Rank};
+use crate::line::{Rank, WaitingLine};
 use crate::marks::PlainMarks;
 use reo_net_base::{Form, Table};
 use reo_values::{List, NoMemory};

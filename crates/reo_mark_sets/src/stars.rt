@@ -79,7 +79,14 @@ impl Star {
     }
 
     /// What is left at another end.
-    fn spoke_left(self, aparts: Multiplicity, rests: bool, others: bool, marks: PlainMarks, end: usize) -> PlainMarks
+    fn spoke_left(
+        self,
+        aparts: Multiplicity,
+        rests: bool,
+        others: bool,
+        marks: PlainMarks,
+        end: usize,
+    ) -> PlainMarks
         ensures { result ≡ spoke_left self aparts rests others marks end }
     {
         let (here, another) = match aparts {
@@ -119,11 +126,21 @@ impl MarkSets {
         ensures { IsTrue result ↔ ((o : ℕ) → from ≤ o → o < to
             → has (open_at self.now (slice_index places.now o)) mark ≡ true) }
     {
-        matches!(self.tally(places, mark, false, from, to), Multiplicity::Nowhere)
+        matches!(
+            self.tally(places, mark, false, from, to),
+            Multiplicity::Nowhere
+        )
     }
 
     /// The ends that may be apart, where all ends give reasons but those of a tally.
-    fn aparts(&self, star: Star, places: &[usize], center: usize, from: usize, to: usize) -> Multiplicity
+    fn aparts(
+        &self,
+        star: Star,
+        places: &[usize],
+        center: usize,
+        from: usize,
+        to: usize,
+    ) -> Multiplicity
         requires places { ArePlaces (length self.now) places.now }
         requires star { IsStar (length places.now) center from to }
         ensures { AreAparts star center from to places.now self.now result }

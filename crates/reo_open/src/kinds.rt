@@ -2,7 +2,7 @@
 ghost use Rattle.std.specs.Prelude.{◌≡◌, false, IfOk, map, replicate};
 ghost use Rattle.reo_open.specs.Opened.{opened, is_filter, unit_held, unit_stored, HasNoFilter};
 
-use crate::gate::{GateRows, Gate};
+use crate::gate::{Gate, GateRows};
 use crate::opens::Open;
 use reo_buffers::Buffer;
 use reo_kinds::Kind;

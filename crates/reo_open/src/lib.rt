@@ -9,5 +9,5 @@ mod port;
 mod primitive;
 
 pub use circuit::open_circuit;
-pub use gate::{GateRows, Gate};
+pub use gate::{Gate, GateRows};
 pub use opens::Open;

@@ -4,11 +4,11 @@ ghost use Rattle.reo_net_base.specs.Net.{net_of};
 ghost use Rattle.reo_net_circuit.specs.found_ends.Ends.{AreEnds};
 ghost use Rattle.reo_search_tables.specs.SearchTables.{AreReady};
 
-use reo_search_tables::SearchTables;
 use reo_net_base::Primitive;
 use reo_net_circuit::{Circuit, Ends};
 use reo_propagate::begin;
 use reo_reach::reach;
+use reo_search_tables::SearchTables;
 use reo_side_tables::boards_of;
 use reo_values::NoMemory;
 use std::alloc::Global;

@@ -36,7 +36,11 @@ fn all_values(alloc: Global, items: &[List<Value>]) -> Result<RowFlags, NoMemory
 }
 
 /// So many sides wait, and these stand in the line. `NoMemory` is out of memory.
-pub(crate) fn all_waiting(alloc: Global, count: usize, sides: &[usize]) -> Result<WaitingSides, NoMemory>
+pub(crate) fn all_waiting(
+    alloc: Global,
+    count: usize,
+    sides: &[usize],
+) -> Result<WaitingSides, NoMemory>
     ensures waits { IfOk result (λ queue. queue.waits ≡ replicate count true) }
     ensures line { IfOk result (λ queue. queue.line ≡ sides.now) }
 {

@@ -85,7 +85,7 @@ pub(crate) fn clear(table: &mut List<LiveAt>, joint: usize, value: JointValue)
 }
 
 /// A value of a joint comes back.
-fn bring_back_at(live: &mut LiveAt, value: JointValue)
+fn restore_at(live: &mut LiveAt, value: JointValue)
     requires { (n : ℕ) → value ≡ Flow n → n < length live.old.flows }
     ensures flags { length live.new.flows ≡ length live.old.flows }
     ensures back { (w : Standing) → has live.new w ≡ (has live.old w || value_eq w value) }
@@ -100,7 +100,7 @@ fn bring_back_at(live: &mut LiveAt, value: JointValue)
 }
 
 /// A value comes back.
-pub(crate) fn bring_back(table: &mut List<LiveAt>, joint: usize, value: JointValue)
+pub(crate) fn restore(table: &mut List<LiveAt>, joint: usize, value: JointValue)
     requires joint { joint < length table.old }
     requires flag { (n : ℕ) → value ≡ Flow n
         → n < length (slice_index_or table.old joint none_gone).flows }
@@ -108,5 +108,5 @@ pub(crate) fn bring_back(table: &mut List<LiveAt>, joint: usize, value: JointVal
     ensures back { family_of table.new ≡ with_back (family_of table.old)
         (record { joint = joint; value = value }) }
 {
-    bring_back_at(table.at_mut(joint), value);
+    restore_at(table.at_mut(joint), value);
 }

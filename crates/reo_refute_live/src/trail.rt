@@ -6,7 +6,7 @@ ghost use Rattle.reo_refute_live.specs.support.Families.{family_of};
 ghost use Rattle.reo_refute_live.specs.Trail.{AreKept, HasLost};
 
 use crate::support::LiveAt;
-use crate::table::{bring_back, clear, is_live};
+use crate::table::{clear, is_live, restore};
 use reo_joint_values::JointValue;
 use reo_values::{List, NoMemory, Value};
 
@@ -55,7 +55,7 @@ pub(crate) fn come_back(
     let _ = lists;
     while count < gone.len() {
         match gone.pop() {
-            Some(last) => bring_back(table, last.joint, last.value),
+            Some(last) => restore(table, last.joint, last.value),
             None => unreachable!(),
         }
     }

@@ -7,9 +7,9 @@ mod feeds;
 mod filling;
 mod giving;
 mod laws;
-mod moving;
 mod made_round;
+mod moving;
 
 pub use feeds::Feeds;
 pub use laws::{feeds_are_one, feeds_stay};
-pub use made_round::{Sheet, MadeRound, blank, cleared, make_round};
+pub use made_round::{MadeRound, Sheet, blank, cleared, make_round};

@@ -9,7 +9,7 @@ ghost use Rattle.reo_rules_names.specs.Connectors.{AreConnectors};
 
 use crate::connectors::Connectors;
 use reo_rules::FlatFault;
-use reo_trees::{Declaration, ItemForm, Item, Program};
+use reo_trees::{Declaration, Item, ItemForm, Program};
 use std::alloc::Global;
 
 /// An item.

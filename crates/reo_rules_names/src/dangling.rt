@@ -13,7 +13,7 @@ ghost use Rattle.reo_rules_names.specs.Loose.{lacking_ends};
 use crate::connectors::Connectors;
 use crate::ends::{EndsAtNames, is_drain};
 use reo_rules::FlatFault;
-use reo_trees::{Connector, Declaration, ItemForm, Item, Parameter, Program};
+use reo_trees::{Connector, Declaration, Item, ItemForm, Parameter, Program};
 use reo_values::{Bytes, NoMemory};
 use std::alloc::Global;
 
@@ -63,7 +63,11 @@ fn note_item(
 }
 
 /// The ends of all items.
-fn item_ends(alloc: Global, connectors: &Connectors, items: &[Item]) -> Result<EndsAtNames, NoMemory>
+fn item_ends(
+    alloc: Global,
+    connectors: &Connectors,
+    items: &[Item],
+) -> Result<EndsAtNames, NoMemory>
     ensures { IfOk result (λ ends. (known : List AConnector) → AreConnectors known connectors.now
         → AreEnds (flat_map (λ (i : AnItem). touches_in known i.form) items.now) ends) }
 {
@@ -75,7 +79,11 @@ fn item_ends(alloc: Global, connectors: &Connectors, items: &[Item]) -> Result<E
 }
 
 /// A parameter.
-fn parameter_dangling(alloc: Global, ends: &EndsAtNames, parameter: &Parameter) -> Result<(), FlatFault>
+fn parameter_dangling(
+    alloc: Global,
+    ends: &EndsAtNames,
+    parameter: &Parameter,
+) -> Result<(), FlatFault>
     ensures { (touches : List Touch) → AreEnds touches ends.now
         → IsJudged (dangling_parameter touches parameter.now) result }
 {
@@ -104,7 +112,12 @@ fn parameters_dangling(
 }
 
 /// An item: only nodes have to have ends.
-fn item_dangling(alloc: Global, ends: &EndsAtNames, line: u32, form: &ItemForm) -> Result<(), FlatFault>
+fn item_dangling(
+    alloc: Global,
+    ends: &EndsAtNames,
+    line: u32,
+    form: &ItemForm,
+) -> Result<(), FlatFault>
     ensures { (touches : List Touch) → AreEnds touches ends.now
         → IsJudged (dangling_in_item touches line form.now) result }
 {

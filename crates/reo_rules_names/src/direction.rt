@@ -13,7 +13,7 @@ ghost use Rattle.reo_rules_names.specs.Closed.{AreClosed, against};
 use crate::connectors::Connectors;
 use crate::ends::{EndsAtNames, is_drain};
 use reo_rules::FlatFault;
-use reo_trees::{Connector, Declaration, ItemForm, Item, Parameter, Program};
+use reo_trees::{Connector, Declaration, Item, ItemForm, Parameter, Program};
 use reo_values::{Bytes, NoMemory};
 use std::alloc::Global;
 

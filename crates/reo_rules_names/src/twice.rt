@@ -10,7 +10,7 @@ ghost use Rattle.reo_rules.specs.Twice.{twice_among, twice_in_part, twice_in_par
 ghost use Rattle.reo_rules.specs.Judged.{IsJudged};
 
 use reo_rules::{FlatFault, Names};
-use reo_trees::{Connector, Declaration, ItemForm, Item, Parameter, Program, Shape};
+use reo_trees::{Connector, Declaration, Item, ItemForm, Parameter, Program, Shape};
 use reo_values::Bytes;
 use std::alloc::Global;
 

@@ -15,7 +15,9 @@ ghost use Rattle.reo_rules_names.specs.Symbols.{AreTypes};
 
 use crate::types::DeclaredTypes;
 use reo_rules::{FlatFault, Names};
-use reo_trees::{Channel, Connector, Declaration, ItemForm, Item, Parameter, Program, Shape, TermForm};
+use reo_trees::{
+    Channel, Connector, Declaration, Item, ItemForm, Parameter, Program, Shape, TermForm,
+};
 use reo_values::{Bytes, NoMemory};
 use std::alloc::Global;
 
@@ -78,7 +80,12 @@ fn symbol_unknown(
 }
 
 /// An expression: the symbols that it names, from left to right.
-fn term_unknown(alloc: Global, types: &DeclaredTypes, line: u32, form: &TermForm) -> Result<(), FlatFault>
+fn term_unknown(
+    alloc: Global,
+    types: &DeclaredTypes,
+    line: u32,
+    form: &TermForm,
+) -> Result<(), FlatFault>
     ensures { (known : List Typed) → AreTypes known types.now
         → IsJudged (flat_map (unknown_symbol known) (symbols_in line form.now)) result }
 {

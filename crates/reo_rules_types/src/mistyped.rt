@@ -23,7 +23,7 @@ use crate::scope::Scope;
 use crate::scopes::{declare_type, read_scope};
 use crate::types::TypeStore;
 use reo_rules::{FlatFault, Names};
-use reo_trees::{Connector, Declaration, ItemForm, Item, Program};
+use reo_trees::{Connector, Declaration, Item, ItemForm, Program};
 use reo_values::{Bytes, List, NoMemory};
 use std::alloc::Global;
 

@@ -24,7 +24,7 @@ use crate::types::TypeStore;
 use reo_exprs::{Expr, TypeFault, lies_inside, type_of};
 use reo_rules::FlatFault;
 use reo_trees::{
-    Channel, Connector, Declaration, ItemForm, Item, Parameter, Program, Shape, TermForm, TypeTerm,
+    Channel, Connector, Declaration, Item, ItemForm, Parameter, Program, Shape, TermForm, TypeTerm,
 };
 use reo_values::{Kindred, NoMemory};
 use std::alloc::Global;
@@ -111,7 +111,12 @@ fn lies_outside(
 }
 
 // Whether an expression has no type, over items of a type.
-fn filter_untyped(alloc: Global, types: &TypeStore, expr: &Expr, of: usize) -> Result<bool, NoMemory>
+fn filter_untyped(
+    alloc: Global,
+    types: &TypeStore,
+    expr: &Expr,
+    of: usize,
+) -> Result<bool, NoMemory>
     requires { of < length types.now }
     ensures { IfOk result (λ r. r ≡ is_none (type_of_expr expr.now (type_at types.now of))) }
 {

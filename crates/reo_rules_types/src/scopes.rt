@@ -15,7 +15,7 @@ ghost use Rattle.reo_rules_types.specs.Signed.{AreOf, parameter_types};
 use crate::scope::Scope;
 use crate::shapes::number_of;
 use crate::types::TypeStore;
-use reo_trees::{Connector, ItemForm, Item, Parameter, Shape};
+use reo_trees::{Connector, Item, ItemForm, Parameter, Shape};
 use reo_values::{Bytes, List, NoMemory};
 use std::alloc::Global;
 

@@ -90,7 +90,12 @@ impl TypeStore {
 
     /// The number of the type of a cell, which is added where it is not there. Its kind is there
     /// already, or it is its own kind.
-    fn keep(&mut self, alloc: Global, cell: TypeParts, kind: Option<usize>) -> Result<usize, NoMemory>
+    fn keep(
+        &mut self,
+        alloc: Global,
+        cell: TypeParts,
+        kind: Option<usize>,
+    ) -> Result<usize, NoMemory>
         requires fits { Fits (length self.old) cell }
         requires kind { let of = kindred_of self.old cell in MatchOption kind (kind_of of ≡ of)
             (λ n. slice_get self.old n ≡ Some (kind_of of)) }
@@ -123,7 +128,10 @@ impl TypeStore {
             TypeParts::Unit | TypeParts::Bool | TypeParts::Sym(_) => None,
             TypeParts::Int(_, _) => Some(TypeParts::Int(0, 0)),
             TypeParts::Text(_) => Some(TypeParts::Text(0)),
-            TypeParts::Pair(left, right) => Some(TypeParts::Pair(self.kind(*left), self.kind(*right))),
+            TypeParts::Pair(left, right) => Some(TypeParts::Pair(
+                self.kind(*left),
+                self.kind(*right),
+            )),
         }
     }
 

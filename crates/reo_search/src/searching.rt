@@ -26,7 +26,7 @@ use reo_rows::Basis;
 use reo_side_tables::{Board, boards_of};
 use reo_steps::Steps;
 use reo_values::{List, NoMemory};
-use reo_walk::{Part, KeyPlace, part_of, places_of};
+use reo_walk::{KeyPlace, Part, part_of, places_of};
 use std::alloc::Global;
 use std::sync::ledger::Ledger;
 

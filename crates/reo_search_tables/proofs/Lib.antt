@@ -1,5 +1,5 @@
 pub mod Renewed
-pub mod Refreshed
+pub mod RenewedSides
 pub mod Readied
 pub mod Staying
 pub mod Sorted

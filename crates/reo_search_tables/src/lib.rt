@@ -6,7 +6,7 @@ mod laws;
 mod notes;
 mod orders;
 mod parts;
-mod refreshing;
+mod renewing;
 mod tables;
 mod values;
 
@@ -15,5 +15,5 @@ pub use laws::{
     right_tables_stay, room_stays,
 };
 pub use orders::orders_of;
-pub use parts::refresh_part;
+pub use parts::renew_part;
 pub use tables::SearchTables;

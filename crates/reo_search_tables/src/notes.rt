@@ -7,7 +7,7 @@ ghost use Rattle.reo_search_tables.specs.Renewing.{AreRightAt, StaysBesides};
 
 use reo_net_base::Primitive;
 use reo_net_circuit::Circuit;
-use reo_rows::{RowFlags, Group};
+use reo_rows::{Group, RowFlags};
 use reo_values::{List, NoMemory};
 use std::alloc::Global;
 

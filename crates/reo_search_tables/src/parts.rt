@@ -6,7 +6,7 @@ ghost use Rattle.reo_net_laws.specs.Knots.{AreKnots, in_knot, knot_count};
 ghost use Rattle.reo_search_tables.specs.SearchTables.{HasRoom, AreRightOn};
 ghost use Rattle.reo_search_tables.specs.Orders.{AreOrders};
 
-use crate::refreshing::refresh;
+use crate::renewing::renew;
 use crate::tables::SearchTables;
 use reo_knots::Knots;
 use reo_net_base::Primitive;
@@ -16,7 +16,7 @@ use std::alloc::Global;
 
 /// Makes the tables of a part anew, for the present state of the circuit. What is right on other
 /// parts stays so, also after `NoMemory`, which is out of memory. It costs what the part has.
-pub fn refresh_part<P: Primitive>(
+pub fn renew_part<P: Primitive>(
     alloc: Global,
     circuit: &Circuit<P>,
     ends: &Ends,
@@ -40,5 +40,5 @@ pub fn refresh_part<P: Primitive>(
 {
     circuit.known();
     let joints = orders.at(part).as_slice();
-    refresh(alloc, circuit, ends, knots.sides(part), joints, tables)
+    renew(alloc, circuit, ends, knots.sides(part), joints, tables)
 }

@@ -8,12 +8,12 @@ ghost use Rattle.reo_settling.specs.Lookups.{AreLookups};
 
 use reo_flags::Flags;
 use reo_item_bounds::Bounds;
-use reo_search_tables::{SearchTables, orders_of};
 use reo_knots::Knots;
 use reo_mark_search::MarkSearch;
 use reo_net_base::Primitive;
 use reo_net_circuit::{Circuit, Ends};
 use reo_part_plans::Remembered;
+use reo_search_tables::{SearchTables, orders_of};
 use reo_values::{List, NoMemory};
 use std::alloc::Global;
 

@@ -326,7 +326,7 @@ impl Lookups {
     /// Writes the rows of the first assignment of a part down, and lists its joints that flow by
     /// them: those that are kept stand there already, where they serve; else they are remembered,
     /// or the part is searched.
-    pub(crate) fn settle_part<P: Primitive, L: Ledger>(
+    pub(crate) fn find_part<P: Primitive, L: Ledger>(
         &mut self,
         alloc: Global,
         circuit: &Circuit<P>,

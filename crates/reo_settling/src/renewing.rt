@@ -8,11 +8,11 @@ ghost use Rattle.reo_search_tables.specs.SearchTables.{AreReady};
 ghost use Rattle.reo_settling.specs.Held.{AreFreshTables, MayBeFresh};
 
 use reo_flags::Flags;
-use reo_search_tables::{SearchTables, refresh_part};
 use reo_knots::Knots;
 use reo_net_base::Primitive;
 use reo_net_circuit::{Circuit, Ends};
 use reo_part_plans::tables_of;
+use reo_search_tables::{SearchTables, renew_part};
 use reo_values::{List, NoMemory};
 use std::alloc::Global;
 
@@ -37,7 +37,7 @@ fn renew<P: Primitive>(
     circuit.known();
     let mut part = fresh.next_clear(0);
     while part < fresh.len() {
-        refresh_part(alloc, circuit, ends, knots, orders, part, tables)?;
+        renew_part(alloc, circuit, ends, knots, orders, part, tables)?;
         part = fresh.next_clear(part + 1);
     }
     Ok(())

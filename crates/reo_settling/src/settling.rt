@@ -52,7 +52,7 @@ impl Lookups {
     ///
     /// `Wide` and `Spent` come exactly where a part is over, for the least such part. `NoMemory` is
     /// out of memory.
-    pub fn settle<P: Primitive, L: Ledger>(
+    pub fn find_rows<P: Primitive, L: Ledger>(
         &mut self,
         alloc: Global,
         circuit: &Circuit<P>,
@@ -93,7 +93,7 @@ impl Lookups {
         let mut rows = list;
         let mut part = next_to_settle(kept, budget, told, 0);
         while part < knots.count() {
-            self.settle_part(
+            self.find_part(
                 alloc, circuit, knots, ends, kept, part, turn, budget, told, steps, &mut rows,
             )?;
             part = next_to_settle(kept, budget, told, part + 1);

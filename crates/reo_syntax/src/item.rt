@@ -7,7 +7,7 @@ use crate::literal::{append_literal, append_literals};
 use crate::spread::append_names;
 use crate::term::append_term;
 use crate::type_term::append_type;
-use reo_trees::{Channel, ItemForm, Item, Literal};
+use reo_trees::{Channel, Item, ItemForm, Literal};
 use reo_values::{Bytes, NoMemory, append_number};
 use std::alloc::Global;
 

@@ -15,9 +15,9 @@ pub use item::{append_head, append_tail};
 pub use laws::canonical_text_says_the_program;
 pub use program::{append_parameters, print};
 pub use reo_trees::{
-    Binary, Channel, Circuits, Connector, Constant, Declaration, ItemForm, Item, Literal, LiteralPair,
-    Opened, Parameter, Program, Shape, Term, TermForm, TermPair, TermTriple, TypePair, TypeTerm,
-    Unary, one_program,
+    Binary, Channel, Circuits, Connector, Constant, Declaration, Item, ItemForm, Literal,
+    LiteralPair, Opened, Parameter, Program, Shape, Term, TermForm, TermPair, TermTriple, TypePair,
+    TypeTerm, Unary, one_program,
 };
 pub use spread::append_comma;
 pub use two::print_two;

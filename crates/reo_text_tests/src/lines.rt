@@ -1,7 +1,7 @@
 //! The lines of trees.
 use crate::checks::is;
 use reo_parser::{ParseFault, parse};
-use reo_trees::{Binary, Channel, Connector, Declaration, ItemForm, Item, Program, Term, TermForm};
+use reo_trees::{Binary, Channel, Connector, Declaration, Item, ItemForm, Program, Term, TermForm};
 use std::alloc::Global;
 
 /// The program of a short text.

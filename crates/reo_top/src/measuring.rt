@@ -12,7 +12,9 @@ ghost use Rattle.reo_command.specs.Statuses.{IsAmong, statuses_of};
 ghost use Rattle.reo_command.specs.top_base.Cases.{Cases, IsExact, IsFair, TellsFaults};
 ghost use Rattle.reo_top.specs.Measures.{measure_text, measure_line, measure_status, MeasuresRun, MeasuresMade, ending_for};
 
-use reo_command::{DONE, PART_OVER, Status, CircuitAndScript, answer, make_run, no_memory, usual_limits};
+use reo_command::{
+    CircuitAndScript, DONE, PART_OVER, Status, answer, make_run, no_memory, usual_limits,
+};
 use reo_io::{NullSink, Sink};
 use reo_kinds::Kind;
 use reo_proof_texts::append_numbered;

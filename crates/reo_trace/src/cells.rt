@@ -2,11 +2,11 @@
 //!
 //! From round to round few cells change: those are patched, and a line is made by one copy.
 
-mod bringing;
 mod cells;
 mod code;
 mod laws;
 mod line;
+mod renewing;
 
 pub use cells::Cells;
 pub use laws::cells_stay;

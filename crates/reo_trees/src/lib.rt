@@ -21,7 +21,7 @@ mod types;
 pub use circuits::Circuits;
 pub use circuits_two::CircuitsTwo;
 pub use indexes::{Index, IndexUnit, Ref, SignedUnit};
-pub use items::{Channel, ItemForm, Item};
+pub use items::{Channel, Item, ItemForm};
 pub use items_two::{FormTwo, ItemTwo};
 pub use laws::{one_program, one_program_of_any};
 pub use literals::{Constant, Literal, LiteralPair};

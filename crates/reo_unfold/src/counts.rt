@@ -7,7 +7,7 @@ ghost use Rattle.reo_flat.specs.Counts.{IsSizeOf, AreSizes};
 
 use reo_flat::Sizes;
 use reo_rules::Names;
-use reo_trees::{ItemForm, Item};
+use reo_trees::{Item, ItemForm};
 
 /// What an item unfolds to, by the sizes of the connectors before.
 fn item_sizes(names: &Names, table: &[Sizes], form: &ItemForm) -> Sizes

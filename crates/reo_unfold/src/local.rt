@@ -10,7 +10,7 @@ ghost use Rattle.reo_unfold.specs.Fits.{IsFew, FormFits, IsFit};
 ghost use Rattle.reo_unfold.specs.Local.{IsNew, IsLocal, node_place, shape_in};
 
 use reo_rules::Names;
-use reo_trees::{Connector, ItemForm, Item, Parameter, Shape};
+use reo_trees::{Connector, Item, ItemForm, Parameter, Shape};
 use reo_values::{Bytes, List, NoMemory};
 use std::alloc::Global;
 

@@ -177,7 +177,12 @@ pub fn walk<P: Primitive>(
             Some(number) => chosen.push(number)?,
         }
     }
-    match least_row(basis.circuit, &state.rows.live, KeyPlace::Row(sides[0]), turn) {
+    match least_row(
+        basis.circuit,
+        &state.rows.live,
+        KeyPlace::Row(sides[0]),
+        turn,
+    ) {
         None => Ok(None),
         Some(_) => Ok(Some(chosen)),
     }

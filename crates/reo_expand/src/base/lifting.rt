@@ -3,8 +3,8 @@ ghost use Rattle.std.specs.Prelude.{◌≡◌, IfOk, map};
 ghost use Rattle.reo_expand.specs.base.Lifted.{lifted, lifted_ref, lifted_form, lifted_item, lifted_connector, lifted_declaration};
 
 use reo_trees::{
-    Connector, ConnectorTwo, Declaration, DeclarationTwo, ItemForm, FormTwo, Item, ItemTwo, Program,
-    ProgramTwo, Ref,
+    Connector, ConnectorTwo, Declaration, DeclarationTwo, FormTwo, Item, ItemForm, ItemTwo,
+    Program, ProgramTwo, Ref,
 };
 use reo_values::{Bytes, Copies, List, NoMemory};
 use std::alloc::Global;

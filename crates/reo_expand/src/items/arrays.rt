@@ -9,7 +9,7 @@ ghost use Rattle.reo_expand.specs.base.Judged.{Judges};
 use crate::base::{Bound, ExpandFault};
 use crate::items::copying::copied_type;
 use crate::parts::{Room, number_within, placed_name};
-use reo_trees::{ItemForm, Index, Item, TypeTerm};
+use reo_trees::{Index, Item, ItemForm, TypeTerm};
 use reo_values::{Bytes, List, NoMemory};
 use std::alloc::Global;
 

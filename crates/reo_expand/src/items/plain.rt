@@ -11,7 +11,7 @@ use crate::items::Walk;
 use crate::items::arrays::{names_of, put_nodes};
 use crate::items::copying::copied_channel;
 use crate::parts::{node_name, node_names, used_name};
-use reo_trees::{Channel, ItemForm, Index, Item, Ref, TypeTerm};
+use reo_trees::{Channel, Index, Item, ItemForm, Ref, TypeTerm};
 use reo_values::{Bytes, List};
 use std::alloc::Global;
 

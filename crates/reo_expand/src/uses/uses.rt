@@ -8,7 +8,7 @@ ghost use Rattle.reo_expand.specs.uses.Numbers.{numbers_below};
 
 use crate::parts::numbered_name;
 use reo_rules::Names;
-use reo_trees::{ItemForm, Item};
+use reo_trees::{Item, ItemForm};
 use reo_values::{List, NoMemory};
 use std::alloc::Global;
 

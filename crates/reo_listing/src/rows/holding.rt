@@ -5,7 +5,7 @@ ghost use Rattle.reo_listing.specs.laws.Gated.{allowed_for, gate_of, IsGate, put
 
 use reo_net_base::{Mark, Primitive};
 use reo_net_circuit::Circuit;
-use reo_open::{GateRows, Gate, Open};
+use reo_open::{Gate, GateRows, Open};
 
 /// The rows of a gate that says this alone.
 pub(crate) fn allowed_for(mark: Mark) -> GateRows

@@ -51,7 +51,11 @@ fn append_counts(alloc: Global, text: &mut Bytes, tables: &[BoundaryTable]) -> R
 /// The text of boundary tables: for each table a line with its part and the names of its ports and
 /// a line for each of its lists, and then how many tables and lists there are. `NoMemory` is out
 /// of memory.
-pub fn tables_text(alloc: Global, ports: &[Port], tables: &[BoundaryTable]) -> Result<Bytes, NoMemory>
+pub fn tables_text(
+    alloc: Global,
+    ports: &[Port],
+    tables: &[BoundaryTable],
+) -> Result<Bytes, NoMemory>
     ensures { IfOk result (λ text. text ≡ tables_text ports.now tables.now) }
 {
     let mut text = Bytes::new(alloc);

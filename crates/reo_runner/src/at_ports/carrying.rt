@@ -15,7 +15,7 @@ ghost use Rattle.reo_runner.specs.at_ports.Pending.{IsButForOffers};
 ghost use Rattle.reo_runner.specs.at_ports.Between.{AreBetween, AreStarted};
 
 use crate::at_ports::advancing::advance_all;
-use reo_engine::{Done, Engine, Plan, MadeRound};
+use reo_engine::{Done, Engine, MadeRound, Plan};
 use reo_kinds_laws::moves_are_flows;
 use reo_net_base::{Move, Ported, Ports, Restoring};
 use reo_players::Players;

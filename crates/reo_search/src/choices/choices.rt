@@ -11,7 +11,7 @@ ghost use Rattle.reo_search.specs.choices.Trying.{AreOfKnot, HasCodes, CoverWith
 ghost use Rattle.reo_search.specs.choices.Best.{IsBetter};
 
 use crate::choices::best::keep;
-use crate::choices::trying::{narrow_to, settles, try_front};
+use crate::choices::trying::{decides, narrow_to, try_front};
 use reo_net_base::Primitive;
 use reo_propagate::State;
 use reo_rows::Basis;
@@ -184,7 +184,7 @@ pub fn first_over<P: Primitive, L: Ledger>(
     ensures ticks { steps.new ≤ steps.old + choices_of left.now }
 {
     let mut best = None;
-    let done = settles(
+    let done = decides(
         alloc, basis, sides, state, places, turn, loops, &mut best, steps,
     )?;
     if done {

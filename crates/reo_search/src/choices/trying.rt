@@ -54,7 +54,7 @@ pub(crate) fn narrow_to<P: Primitive>(
 /// it and it stands before the best so far. `true` where nothing more of what is left is to be
 /// looked for: that is so too where nothing of it can stand before the best. It ticks at most once,
 /// and where it answers `false` it has only looked. `NoMemory` is out of memory.
-pub(crate) fn settles<P: Primitive, L: Ledger>(
+pub(crate) fn decides<P: Primitive, L: Ledger>(
     alloc: Global,
     basis: &Basis<'_, P>,
     sides: &[usize],
@@ -134,7 +134,7 @@ pub(crate) fn try_front<P: Primitive, L: Ledger>(
     match kept_of(alloc, &state.alive, loops, left)? {
         None => Ok(None),
         Some(kept) => {
-            let done = settles(alloc, basis, sides, state, places, turn, loops, best, steps)?;
+            let done = decides(alloc, basis, sides, state, places, turn, loops, best, steps)?;
             if done { Ok(None) } else { Ok(Some(kept)) }
         }
     }

@@ -32,7 +32,11 @@ fn codes_at(alloc: Global, alive: &RowFlags, joint: usize) -> Result<List<usize>
 }
 
 /// The places of the flags that are set at each of some joints. `NoMemory` is out of memory.
-fn codes_of(alloc: Global, alive: &RowFlags, joints: &[usize]) -> Result<List<List<usize>>, NoMemory>
+fn codes_of(
+    alloc: Global,
+    alive: &RowFlags,
+    joints: &[usize],
+) -> Result<List<List<usize>>, NoMemory>
     requires { (m : ℕ) → m < length joints.now → slice_index joints.now m < length alive.now }
     ensures { IfOk result (AreCodes alive.now joints.now (length joints.now)) }
 {

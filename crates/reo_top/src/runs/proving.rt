@@ -16,8 +16,8 @@ ghost use Rattle.reo_top.specs.runs.ProvedRuns.{ProvesRun};
 ghost use Rattle.reo_top.specs.runs.Traces.{ending_status};
 
 use reo_command::{
-    DONE, LIMIT_REACHED, PART_OVER, STUCK, Status, WRITE_FAULT, CircuitAndScript, no_memory, read_run, refuse,
-    usual_limits,
+    CircuitAndScript, DONE, LIMIT_REACHED, PART_OVER, STUCK, Status, WRITE_FAULT, no_memory,
+    read_run, refuse, usual_limits,
 };
 use reo_io::{Files, Sink};
 use reo_kinds::Kind;
@@ -41,7 +41,12 @@ fn ending_status(ending: Ending) -> u8
 }
 
 /// Runs a script on a circuit, and writes a proved text of the run.
-fn write_proved<S: Sink>(alloc: Global, work: CircuitAndScript, limits: Limits, out: &mut S) -> Status
+fn write_proved<S: Sink>(
+    alloc: Global,
+    work: CircuitAndScript,
+    limits: Limits,
+    out: &mut S,
+) -> Status
     requires some_budget { 1 ≤ limits.budget }
     requires small_budget { limits.budget ≤ 10 ^ 9 }
     requires some_round { 1 ≤ limits.rounds }

@@ -14,7 +14,8 @@ ghost use Rattle.reo_command.specs.States.{files_change, sink_change};
 ghost use Rattle.reo_command.specs.Statuses.{IsAmong, statuses_of};
 
 use reo_command::{
-    DONE, LIMIT_REACHED, PART_OVER, STUCK, Status, WRITE_FAULT, CircuitAndScript, no_memory, read_run, refuse,
+    CircuitAndScript, DONE, LIMIT_REACHED, PART_OVER, STUCK, Status, WRITE_FAULT, no_memory,
+    read_run, refuse,
 };
 use reo_io::{Files, Sink};
 use reo_kinds::Kind;
@@ -23,7 +24,12 @@ use reo_runs::{known_order, one_trace};
 use std::alloc::Global;
 
 /// Runs a script on a circuit, and writes the trace.
-fn write_trace<S: Sink>(alloc: Global, work: CircuitAndScript, limits: Limits, out: &mut S) -> Status
+fn write_trace<S: Sink>(
+    alloc: Global,
+    work: CircuitAndScript,
+    limits: Limits,
+    out: &mut S,
+) -> Status
     requires some_budget { 1 ≤ limits.budget }
     requires small_budget { limits.budget ≤ 10 ^ 9 }
     requires some_round { 1 ≤ limits.rounds }

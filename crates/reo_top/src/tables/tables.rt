@@ -6,7 +6,7 @@ ghost use Rattle.reo_top.specs.tables.Listings.{listing_status, listing_text};
 
 use reo_command::{DONE, OUT_OF_MEMORY, PART_OVER, TABLES_REFUSED};
 use reo_flatten::Flat;
-use reo_listing::{ListFault, BoundaryTable, fault_line, list, tables_text};
+use reo_listing::{BoundaryTable, ListFault, fault_line, list, tables_text};
 use reo_net_base::Port;
 use reo_steps::Steps;
 use reo_values::{Bytes, List, NoMemory};

@@ -17,7 +17,8 @@ ghost use Rattle.reo_top.specs.verdicts.Judged.{JudgesProof};
 ghost use Rattle.reo_top.specs.verdicts.ProofStatuses.{proof_status};
 
 use reo_command::{
-    DONE, PROOF_REFUSED, ProofClaim, Status, CircuitAndScript, answer, no_memory, read_proof, refuse,
+    CircuitAndScript, DONE, PROOF_REFUSED, ProofClaim, Status, answer, no_memory, read_proof,
+    refuse,
 };
 use reo_io::{Files, Sink};
 use reo_proof_texts::proof_verdict_line;

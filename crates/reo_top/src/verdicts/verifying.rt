@@ -17,7 +17,7 @@ ghost use Rattle.reo_command.specs.Statuses.{IsAmong, statuses_of};
 
 use crate::verdicts::verdict::{verdict_line, verdict_status};
 use reo_circuit_texts::{circuit_names_are_plain, circuits_are_spelled};
-use reo_command::{Claim, Status, CircuitAndScript, answer, no_memory, read_claim, refuse};
+use reo_command::{CircuitAndScript, Claim, Status, answer, no_memory, read_claim, refuse};
 use reo_io::{Files, Sink};
 use reo_runs::ports_are_told;
 use reo_trace_reader::one_trace_answer;

@@ -7,16 +7,16 @@ pub first_is_plain-requires-clause-sides : goal.first_is_plain-requires-clause-s
 first_is_plain-requires-clause-sides g c =
     side_below (net_of g.P.Primitive.behaviour c.args.circuit.now) c.args.knots.now c.requires.knots c.args.part c.requires.part c.sides-sides.result.now c.sides-sides.ensures
 
-pub bring-requires-clause-sides : goal.bring-requires-clause-sides
-bring-requires-clause-sides g c =
+pub renew-requires-clause-sides : goal.renew-requires-clause-sides
+renew-requires-clause-sides g c =
     side_below (net_of g.P.Primitive.behaviour c.args.circuit.now) c.args.knots.now c.requires.knots c.args.part c.requires.part c.sides-sides.result.now c.sides-sides.ensures
 
-pub bring_plain-requires-clause-sides : goal.bring_plain-requires-clause-sides
-bring_plain-requires-clause-sides g c =
+pub renew_plain-requires-clause-sides : goal.renew_plain-requires-clause-sides
+renew_plain-requires-clause-sides g c =
     side_below (net_of g.P.Primitive.behaviour c.args.circuit.now) c.args.knots.now c.requires.knots c.args.part c.requires.part c.sides-sides.result.now c.sides-sides.ensures
 
-pub bring_plain-requires-clause-plain : goal.bring_plain-requires-clause-plain
-bring_plain-requires-clause-plain g c =
+pub renew_plain-requires-clause-plain : goal.renew_plain-requires-clause-plain
+renew_plain-requires-clause-plain g c =
     let net : Net = net_of g.P.Primitive.behaviour c.args.circuit.now in
     jams_as_first net c.known.ensures.wired c.args.knots.now c.requires.knots c.args.rows.now c.requires.coloured c.args.part c.requires.part c.sides-sides.result.now c.sides-sides.ensures
     (c.first_is_plain.ensures c.if-first_is_plain.true)

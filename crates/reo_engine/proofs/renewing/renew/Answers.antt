@@ -9,7 +9,7 @@ pub returns-in_err-rows-clause-lookups : goal.returns-in_err-rows-clause-lookups
 returns-in_err-rows-clause-lookups g c = c.in_err-rows.ensures.refused c.args.kept.now
 
 pub store-requires-clause-flowing : goal.store-requires-clause-flowing
-store-requires-clause-flowing g c = rw c.flowing.ensures (told_by_test (net_of g.P.Primitive.behaviour c.args.circuit.now) c.args.knots.now c.in_ok-rows.rows c.settle.new.self.flowing c.in_ok-rows.ensures.flowing (is_open c.args.kept.now))
+store-requires-clause-flowing g c = rw c.flowing.ensures (told_by_test (net_of g.P.Primitive.behaviour c.args.circuit.now) c.args.knots.now c.in_ok-rows.rows c.find_rows.new.self.flowing c.in_ok-rows.ensures.flowing (is_open c.args.kept.now))
 
 pub returns-clause-kept : goal.returns-clause-kept
 returns-clause-kept g c = c.store.ensures.kept c.args.turn c.requires.kept c.in_ok-rows.ensures.exact

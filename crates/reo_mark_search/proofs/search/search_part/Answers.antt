@@ -12,15 +12,15 @@ use Rattle.reo_mark_search.proofs.Parts.{side_listed, knot_below}
 use Rattle.reo_mark_search.proofs.Finding.{noted_walked, rows_found}
 use Rattle.reo_mark_search.proofs.search.search_part.Goals as goal
 
-pub returns-then-not-settle-clause-found : goal.returns-then-not-settle-clause-found
-returns-then-not-settle-clause-found g c =
+pub returns-then-not-narrow_waiting-clause-found : goal.returns-then-not-narrow_waiting-clause-found
+returns-then-not-narrow_waiting-clause-found g c =
     let net : Net = net_of g.P.Primitive.behaviour c.args.circuit.now in
     let inside : ℕ → Bool = in_knot c.args.knots.now.numbers c.args.part in
     let sides : List ℕ = slice_index_or c.args.knots.now.sides c.args.part [] in
     let below : (k : ℕ) → inside k ≡ true → k < side_count net = knot_below net c.args.knots.now c.requires.knots c.args.part in
     let all : (k : ℕ) → inside k ≡ true → Contains sides k = λ k h. side_listed net c.args.knots.now c.requires.knots c.args.part c.requires.part sides refl k (below k h) h in
     let knot = c.requires.knots.are_knots c.args.part c.requires.part in
-    let none : (others : List ℕ) → IsRival net inside others → ⊥ = λ others rival. c.settle.ensures.none c.if-not-settle.true others rival (c.note_all.ensures.all c.if-not-note_all.false others rival) in (
+    let none : (others : List ℕ) → IsRival net inside others → ⊥ = λ others rival. c.narrow_waiting.ensures.none c.if-not-narrow_waiting.true others rival (c.note_all.ensures.all c.if-not-note_all.false others rival) in (
       jam_first net c.known.ensures.wired inside knot sides all c.args.turn none c.jam_all.new.rows c.jam_all.ensures.here below,
       no_colouring net c.known.ensures.wired inside knot sides all c.args.turn none,
     )
@@ -34,7 +34,7 @@ returns-then-fixed_all-clause-found g c =
     let rows : List ℕ = c.fixed_all.new.rows in
     let fixed = c.fixed_all.ensures.fixed c.if-fixed_all.true in
     let whole : take (length sides) sides ≡ sides = take_all (length sides) sides (le_refl (length sides)) in
-    let begun = noted_walked net inside c.note_all.new.sets c.settle.new.sets (c.note_all.ensures.all c.if-not-note_all.false) c.settle.ensures.reduced in
+    let begun = noted_walked net inside c.note_all.new.sets c.narrow_waiting.new.sets (c.note_all.ensures.all c.if-not-note_all.false) c.narrow_waiting.ensures.reduced in
     let led = c.lead_all.ensures.goes_on c.if-not-lead_all.false [] begun in
     let classed : GoesOn net inside (class_places net c.args.turn sides) last last = subst (λ (xs : List ℕ). GoesOn net inside (class_places net c.args.turn xs) last last) whole (fixed.classes c.args.turn) in
     let numbered : GoesOn net inside (row_places sides) last last = subst (λ (xs : List ℕ). GoesOn net inside (row_places xs) last last) whole fixed.numbers in
@@ -47,7 +47,7 @@ returns-clause-found g c =
     let net : Net = net_of g.P.Primitive.behaviour c.args.circuit.now in
     let inside : ℕ → Bool = in_knot c.args.knots.now.numbers c.args.part in
     let sides : List ℕ = slice_index_or c.args.knots.now.sides c.args.part [] in
-    let begun = noted_walked net inside c.note_all.new.sets c.settle.new.sets (c.note_all.ensures.all c.if-not-note_all.false) c.settle.ensures.reduced in
+    let begun = noted_walked net inside c.note_all.new.sets c.narrow_waiting.new.sets (c.note_all.ensures.all c.if-not-note_all.false) c.narrow_waiting.ensures.reduced in
     let led = c.lead_all.ensures.goes_on c.if-not-lead_all.false [] begun in
     let classed = c.class_all.ensures.goes_on c.if-not-class_all.false (lead_places net c.args.turn sides) led in
     rows_found net c.known.ensures.wired c.args.knots.now c.requires.knots c.args.part c.requires.part c.args.spots.now c.requires.spots c.order-order.result.now c.order-order.ensures

@@ -15,8 +15,8 @@ returns-clause-goes_on g c =
     let inside = in_knot c.args.knots.now.numbers c.args.part in
     let seat = c.seat_at-seat.ensures in
     let mid : c.if-is_late.sets ≡ c.take_class.new.self = elim c.if-is_late.branch [ then-is_late w ↦ w.sets-is ∙ w.wait.ensures | else-is_late w ↦ w.sets-is ] in
-    taken_goes_on net inside (class_place net c.args.turn c.args.side) c.args.sets.now c.take_class.new.self c.settle.new.sets
+    taken_goes_on net inside (class_place net c.args.turn c.args.side) c.args.sets.now c.take_class.new.self c.narrow_waiting.new.sets
     (classed_taken net c.known.ensures.wired c.args.spots.now c.requires.spots inside (c.requires.knots.are_knots c.args.part c.requires.part).closed
     seat.primitive seat.side seat.primitive_in seat.side_in c.args.side seat.number c.requires.here c.seat_at-seat.result.form seat.form_is c.seat_at-seat.result.places.now seat.ends
     c.args.turn c.args.sets.now c.take_class.new.self c.take_class.ensures)
-    (subst (λ (s : List PlainMarks). AreReduced net inside s c.settle.new.sets) mid c.settle.ensures.reduced)
+    (subst (λ (s : List PlainMarks). AreReduced net inside s c.narrow_waiting.new.sets) mid c.narrow_waiting.ensures.reduced)

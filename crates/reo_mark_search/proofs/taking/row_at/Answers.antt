@@ -34,12 +34,12 @@ returns-clause-goes_on g c =
     let lt : c.args.index < length sides = subst (λ (xs : List ℕ). c.args.index < length xs) (sym c.sides.ensures) c.requires.index in
     let here = side_here net c.args.knots.now c.requires.knots c.args.part c.requires.part sides c.sides.ensures c.args.index lt in
     let seat = c.seat_at-seat.ensures in
-    subst (λ (xs : List ℕ). GoesOn net inside (row_place (slice_index xs c.args.index) ∷ []) c.args.sets.now c.settle.new.sets) c.sides.ensures
-    (taken_goes_on net inside (row_place (slice_index sides c.args.index)) c.args.sets.now c.take_row-row.new.self c.settle.new.sets
+    subst (λ (xs : List ℕ). GoesOn net inside (row_place (slice_index xs c.args.index) ∷ []) c.args.sets.now c.narrow_waiting.new.sets) c.sides.ensures
+    (taken_goes_on net inside (row_place (slice_index sides c.args.index)) c.args.sets.now c.take_row-row.new.self c.narrow_waiting.new.sets
     (chosen_taken net c.known.ensures.wired c.args.spots.now c.requires.spots inside (c.requires.knots.are_knots c.args.part c.requires.part).closed
     seat.primitive seat.side seat.primitive_in seat.side_in (slice_index sides c.args.index) seat.number here c.seat_at-seat.result.form seat.form_is c.seat_at-seat.result.places.now seat.ends
     c.take_row-row.result c.args.sets.now c.take_row-row.new.self c.take_row-row.ensures)
-    c.settle.ensures.reduced)
+    c.narrow_waiting.ensures.reduced)
 
 pub returns-clause-pinned : goal.returns-clause-pinned
 returns-clause-pinned g c = λ before.
@@ -55,8 +55,8 @@ returns-clause-pinned g c = λ before.
     seat.primitive seat.side seat.primitive_in seat.side_in (slice_index sides c.args.index) seat.number here c.seat_at-seat.result.form seat.form_is c.seat_at-seat.result.places.now seat.ends
     c.take_row-row.result c.args.sets.now c.take_row-row.new.self c.take_row-row.ensures in
     let old : ArePinned net c.args.spots.now sides c.args.index c.args.sets.now c.args.rows.now = subst (λ (xs : List ℕ). ArePinned net c.args.spots.now xs c.args.index c.args.sets.now c.args.rows.now) (sym c.sides.ensures) before in
-    subst (λ (xs : List ℕ). ArePinned net c.args.spots.now xs (c.args.index + 1) c.settle.new.sets rows) c.sides.ensures
-    (pinned_next net c.known.ensures.wired c.args.spots.now c.requires.spots sides c.args.index c.args.sets.now c.take_row-row.new.self c.settle.new.sets c.args.rows.now c.take_row-row.result c.seat_at-seat.result.form c.seat_at-seat.result.places.now seat c.take_row-row.ensures c.settle.ensures.reduced.fewer fewer
+    subst (λ (xs : List ℕ). ArePinned net c.args.spots.now xs (c.args.index + 1) c.narrow_waiting.new.sets rows) c.sides.ensures
+    (pinned_next net c.known.ensures.wired c.args.spots.now c.requires.spots sides c.args.index c.args.sets.now c.take_row-row.new.self c.narrow_waiting.new.sets c.args.rows.now c.take_row-row.result c.seat_at-seat.result.form c.seat_at-seat.result.places.now seat c.take_row-row.ensures c.narrow_waiting.ensures.reduced.fewer fewer
     (omega (arith, below, c.requires.rows)) old)
 
 pub returns-clause-others : goal.returns-clause-others

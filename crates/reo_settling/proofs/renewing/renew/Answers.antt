@@ -20,11 +20,11 @@ loop-part-preserved g c =
     let net : Net = net_of g.P.Primitive.behaviour c.args.circuit.now in
     let n : ℕ = c.loop-part.part in
     let lt : n < knot_count c.args.knots.now = omega (arith, c.requires.one_each) in
-    let more = renewed_more net c.args.knots.now c.args.fresh.now n c.loop-part.tables c.refresh_part.new.tables lt c.loop-part.invariant.far c.refresh_part.ensures.room c.in_ok-refresh_part.ensures.right c.refresh_part.ensures.others in
+    let more = renewed_more net c.args.knots.now c.args.fresh.now n c.loop-part.tables c.renew_part.new.tables lt c.loop-part.invariant.far c.renew_part.ensures.room c.in_ok-renew_part.ensures.right c.renew_part.ensures.others in
     let next : ℕ = c.next_clear-part-in-loop-part.result in
     let is = c.next_clear-part-in-loop-part.ensures in
     let next_in : next ≤ knot_count c.args.knots.now = omega (arith, is.in_range, c.requires.one_each) in
-    record { in_range = is.in_range; far = renewed_next net c.args.knots.now c.args.fresh.now (n + 1) next c.refresh_part.new.tables next_in is more }
+    record { in_range = is.in_range; far = renewed_next net c.args.knots.now c.args.fresh.now (n + 1) next c.renew_part.new.tables next_in is more }
 
 pub returns : goal.returns
 returns g c =

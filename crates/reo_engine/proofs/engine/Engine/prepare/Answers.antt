@@ -34,7 +34,7 @@ returns-in_err-rows-clause-none g c = rw (← c.self.view_is) (λ all.
     absurd (not_all c.self.inside.kept c.args.budget (knot_count c.self.inside.knots) c.all_serve.result c.self.invariant.3.is_kept.sizes.one_each c.if-all_serve.false c.all_serve.ensures.1 all))
 
 pub store-list-requires-clause-flowing : goal.store-list-requires-clause-flowing
-store-list-requires-clause-flowing g c = rw c.flowing-flowing.ensures (told_by_test (net_of g.P.Primitive.behaviour c.self.inside.circuit) c.self.inside.knots c.in_ok-rows.rows c.settle.new.self.flowing c.in_ok-rows.ensures.flowing (is_open c.self.inside.kept))
+store-list-requires-clause-flowing g c = rw c.flowing-flowing.ensures (told_by_test (net_of g.P.Primitive.behaviour c.self.inside.circuit) c.self.inside.knots c.in_ok-rows.rows c.find_rows.new.self.flowing c.in_ok-rows.ensures.flowing (is_open c.self.inside.kept))
 
 pub take_rows-requires : goal.take_rows-requires
 take_rows-requires g c = rw c.rows.ensures c.self.invariant.5.rows

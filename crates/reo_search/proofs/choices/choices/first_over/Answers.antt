@@ -13,7 +13,7 @@ returns-then-done-clause-first g c =
     let net : Net = net_of g.P.Primitive.behaviour c.args.basis.now.circuit.now in
     let names : Names = names_of c.args.basis.now.items.now in
     let inside : ℕ → Bool = among c.args.sides.now in
-    first_all net names inside c.args.turn c.args.state.now.alive c.args.places.now c.settles.new.best c.requires.alive (c.in_ok-done.ensures.better c.if-done.true)
+    first_all net names inside c.args.turn c.args.state.now.alive c.args.places.now c.decides.new.best c.requires.alive (c.in_ok-done.ensures.better c.if-done.true)
 
 pub improve-requires-clause-cover : goal.improve-requires-clause-cover
 improve-requires-clause-cover g c = λ rows choice h. c.requires.cover rows choice h.chosen

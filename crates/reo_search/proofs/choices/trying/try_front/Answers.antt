@@ -14,7 +14,7 @@ returns-in_err-done-in-Some-clause-ticks g c =
     let inside : ℕ → Bool = among c.args.sides.now in
     let all = rw (c.in-Some.is) at c.in_ok-kept_of.ensures in
     let some = some_kept net names inside c.args.loops.now c.args.codes.now c.requires.knot.loops_are c.narrow_to.new.state.alive c.in_ok-narrow_to.ensures.left c.args.left.now c.requires.cover c.requires.left c.in-Some.kept all in
-    omega (arith, some, c.settles.ensures.ticks)
+    omega (arith, some, c.decides.ensures.ticks)
 
 pub returns-in-None-clause-found : goal.returns-in-None-clause-found
 returns-in-None-clause-found g c =
@@ -29,7 +29,7 @@ returns-then-done-clause-found g c =
     let net : Net = net_of g.P.Primitive.behaviour c.args.basis.now.circuit.now in
     let names : Names = names_of c.args.basis.now.items.now in
     let inside : ℕ → Bool = among c.args.sides.now in
-    better_with net names inside c.args.loops.now c.args.codes.now c.narrow_to.new.state.alive c.in_ok-narrow_to.ensures.left c.args.turn c.args.places.now c.args.best.now c.settles.new.best
+    better_with net names inside c.args.loops.now c.args.codes.now c.narrow_to.new.state.alive c.in_ok-narrow_to.ensures.left c.args.turn c.args.places.now c.args.best.now c.decides.new.best
     (c.in_ok-done-in-Some.ensures.better c.if-done.true)
 
 pub returns-then-done-clause-ticks : goal.returns-then-done-clause-ticks
@@ -39,7 +39,7 @@ returns-then-done-clause-ticks g c =
     let inside : ℕ → Bool = among c.args.sides.now in
     let all = rw (c.in-Some.is) at c.in_ok-kept_of.ensures in
     let some = some_kept net names inside c.args.loops.now c.args.codes.now c.requires.knot.loops_are c.narrow_to.new.state.alive c.in_ok-narrow_to.ensures.left c.args.left.now c.requires.cover c.requires.left c.in-Some.kept all in
-    omega (arith, some, c.settles.ensures.ticks)
+    omega (arith, some, c.decides.ensures.ticks)
 
 pub returns-else-done-clause-found : goal.returns-else-done-clause-found
 returns-else-done-clause-found g c =

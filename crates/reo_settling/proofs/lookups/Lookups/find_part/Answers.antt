@@ -2,7 +2,7 @@ use Rattle.std.proofs.Common.{◌∙◌, ◌+◌, ◌≤◌, Bool, cond, sym, su
 use Rattle.reo_net_base.specs.Net.{Net, net_of}
 use Rattle.reo_part_plans.proofs.Plannings.{served}
 use Rattle.reo_settling.proofs.Listed.{first_in_tables}
-use Rattle.reo_settling.proofs.lookups.Lookups.settle_part.Goals as goal
+use Rattle.reo_settling.proofs.lookups.Lookups.find_part.Goals as goal
 
 pub returns-then-serves-clause-exact : goal.returns-then-serves-clause-exact
 returns-then-serves-clause-exact g c =

@@ -1,7 +1,7 @@
 use Rattle.reo_net_base.specs.Net.{net_of}
 use Rattle.reo_net_laws.specs.Knots.{in_knot}
 use Rattle.reo_mark_search.specs.Fitting.{AreReduced}
-use Rattle.reo_mark_search.proofs.narrowing.settle.Given as goal
+use Rattle.reo_mark_search.proofs.narrowing.narrow_waiting.Given as goal
 
 -- No marks went that rows have which fit.
 abbrev pub invariant-loop : goal.invariant-loop

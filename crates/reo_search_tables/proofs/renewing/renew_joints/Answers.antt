@@ -1,8 +1,8 @@
 use Rattle.std.proofs.Common.{arith}
 use Rattle.reo_net_base.specs.Net.{Net, net_of}
 use Rattle.reo_search_tables.proofs.Renewed.{on_ok}
-use Rattle.reo_search_tables.proofs.Refreshed.{joint_in, joints_right}
-use Rattle.reo_search_tables.proofs.refreshing.renew_joints.Goals as goal
+use Rattle.reo_search_tables.proofs.RenewedSides.{joint_in, joints_right}
+use Rattle.reo_search_tables.proofs.renewing.renew_joints.Goals as goal
 
 pub renew_values-requires-clause-joints : goal.renew_values-requires-clause-joints
 renew_values-requires-clause-joints g c j h =

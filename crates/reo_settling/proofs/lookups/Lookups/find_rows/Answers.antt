@@ -7,21 +7,21 @@ use Rattle.reo_part_plans.proofs.Plannings.{least_over, planned_more, planned_no
 use Rattle.reo_settling.proofs.HeldTables.{forgotten_steady, refused_by, told_is, untold_is}
 use Rattle.reo_settling.proofs.Listed.{flowing_same, listed_all, listed_more, listed_none, told_of_some}
 use Rattle.reo_settling.proofs.Served.{AreSettledFar, settled_next}
-use Rattle.reo_settling.proofs.lookups.Lookups.settle.Goals as goal
+use Rattle.reo_settling.proofs.lookups.Lookups.find_rows.Goals as goal
 
-pub returns-in_err-settle_part-clause-exact : goal.returns-in_err-settle_part-clause-exact
-returns-in_err-settle_part-clause-exact g c =
+pub returns-in_err-find_part-clause-exact : goal.returns-in_err-find_part-clause-exact
+returns-in_err-find_part-clause-exact g c =
     let net : Net = net_of g.P.Primitive.behaviour c.args.circuit.now in
     let lt : c.loop-part.part < knot_count c.args.knots.now = omega arith in
-    passed_on c.from_residual.result c.in_err-settle_part.field-0.0
+    passed_on c.from_residual.result c.in_err-find_part.field-0.0
     (ArePlanned c.args.budget net c.args.knots.now c.args.turn (knot_count c.args.knots.now)) (IsPlanFault c.args.budget net) c.from_residual.ensures
-    (least_over c.args.budget net c.args.knots.now c.requires.knots c.args.turn c.loop-part.part lt c.loop-part.rows c.loop-part.invariant.far.planned.planned c.in_err-settle_part.field-0.0 c.in_err-settle_part.ensures.exact)
+    (least_over c.args.budget net c.args.knots.now c.requires.knots c.args.turn c.loop-part.part lt c.loop-part.rows c.loop-part.invariant.far.planned.planned c.in_err-find_part.field-0.0 c.in_err-find_part.ensures.exact)
 
-pub returns-in_err-settle_part-clause-ticks : goal.returns-in_err-settle_part-clause-ticks
-returns-in_err-settle_part-clause-ticks g c = λ weights are.
+pub returns-in_err-find_part-clause-ticks : goal.returns-in_err-find_part-clause-ticks
+returns-in_err-find_part-clause-ticks g c = λ weights are.
     let lt : c.loop-part.part < knot_count c.args.knots.now = omega arith in
-    ticked_all (weight_left c.args.kept.now c.args.budget weights) c.loop-part.part (knot_count c.args.knots.now) c.args.steps.now c.loop-part.steps c.settle_part.new.steps
-    lt (c.loop-part.invariant.ticks weights are) (c.settle_part.ensures.ticks (weights c.loop-part.part) (are c.loop-part.part lt))
+    ticked_all (weight_left c.args.kept.now c.args.budget weights) c.loop-part.part (knot_count c.args.knots.now) c.args.steps.now c.loop-part.steps c.find_part.new.steps
+    lt (c.loop-part.invariant.ticks weights are) (c.find_part.ensures.ticks (weights c.loop-part.part) (are c.loop-part.part lt))
 
 pub loop-part-init : goal.loop-part-init
 loop-part-init g c =
@@ -61,20 +61,20 @@ loop-part-preserved g c =
     let to = c.next_to_settle-part-in-loop-part.ensures in
     let lt : n < knot_count c.args.knots.now = omega arith in
     let next_in : next ≤ knot_count c.args.knots.now = omega (arith, to.in_range, c.requires.kept.sizes.one_each) in
-    let more : AreSettledFar c.args.budget net c.args.knots.now c.args.turn c.args.kept.now c.replace-told.result (n + 1) c.settle_part.new.rows c.settle_part.new.self.flowing = record {
-      planned = planned_more c.args.budget net c.args.knots.now c.args.turn n c.args.kept.now.rows c.loop-part.rows c.settle_part.new.rows c.loop-part.invariant.far.planned c.in_ok-settle_part.ensures.exact;
-      listed = listed_more net c.known.ensures.wired c.args.knots.now c.args.kept.now c.replace-told.result c.args.budget c.args.turn n c.loop-part.rows c.settle_part.new.rows c.loop-part.self c.settle_part.new.self
-          c.loop-part.invariant.far.listed c.in_ok-settle_part.ensures.exact c.settle_part.ensures.listed c.in_ok-settle_part.ensures.flowing;
+    let more : AreSettledFar c.args.budget net c.args.knots.now c.args.turn c.args.kept.now c.replace-told.result (n + 1) c.find_part.new.rows c.find_part.new.self.flowing = record {
+      planned = planned_more c.args.budget net c.args.knots.now c.args.turn n c.args.kept.now.rows c.loop-part.rows c.find_part.new.rows c.loop-part.invariant.far.planned c.in_ok-find_part.ensures.exact;
+      listed = listed_more net c.known.ensures.wired c.args.knots.now c.args.kept.now c.replace-told.result c.args.budget c.args.turn n c.loop-part.rows c.find_part.new.rows c.loop-part.self c.find_part.new.self
+          c.loop-part.invariant.far.listed c.in_ok-find_part.ensures.exact c.find_part.ensures.listed c.in_ok-find_part.ensures.flowing;
     } in
     record {
       in_range = next_in;
-      far = settled_next c.args.budget net c.known.ensures.wired c.args.knots.now c.requires.knots c.args.turn c.args.kept.now c.requires.kept c.replace-told.result c.settle_part.new.rows c.settle_part.new.self.flowing (n + 1) next next_in to more;
-      untold = c.settle_part.ensures.listed.told ∙ c.loop-part.invariant.untold;
-      steady = c.settle_part.ensures.steady;
+      far = settled_next c.args.budget net c.known.ensures.wired c.args.knots.now c.requires.knots c.args.turn c.args.kept.now c.requires.kept c.replace-told.result c.find_part.new.rows c.find_part.new.self.flowing (n + 1) next next_in to more;
+      untold = c.find_part.ensures.listed.told ∙ c.loop-part.invariant.untold;
+      steady = c.find_part.ensures.steady;
       ticks = λ weights are.
-          ticked_over (weight_left c.args.kept.now c.args.budget weights) (n + 1) next c.args.steps.now c.settle_part.new.steps (omega (arith, to.from_on))
-          (ticked_more (weight_left c.args.kept.now c.args.budget weights) n c.args.steps.now c.loop-part.steps c.settle_part.new.steps
-          (c.loop-part.invariant.ticks weights are) (c.settle_part.ensures.ticks (weights n) (are n lt)));
+          ticked_over (weight_left c.args.kept.now c.args.budget weights) (n + 1) next c.args.steps.now c.find_part.new.steps (omega (arith, to.from_on))
+          (ticked_more (weight_left c.args.kept.now c.args.budget weights) n c.args.steps.now c.loop-part.steps c.find_part.new.steps
+          (c.loop-part.invariant.ticks weights are) (c.find_part.ensures.ticks (weights n) (are n lt)));
     }
 
 pub returns-clause-fit : goal.returns-clause-fit
@@ -84,17 +84,17 @@ returns-clause-fit g c =
     planned_fit c.args.budget net c.known.ensures.wired c.args.knots.now c.requires.knots c.args.turn c.loop-part.rows
     (subst (λ (n : ℕ). ArePlanned c.args.budget net c.args.knots.now c.args.turn n c.loop-part.rows) last c.loop-part.invariant.far.planned.planned)
 
-pub settle_part-requires-clause-told : goal.settle_part-requires-clause-told
-settle_part-requires-clause-told g c = λ told settled.
+pub find_part-requires-clause-told : goal.find_part-requires-clause-told
+find_part-requires-clause-told g c = λ told settled.
     let net : Net = net_of g.P.Primitive.behaviour c.args.circuit.now in
     let lt : c.loop-part.part < knot_count c.args.knots.now = omega arith in
     flowing_same net c.known.ensures.wired (in_knot c.args.knots.now.numbers c.loop-part.part) c.args.kept.now.rows c.loop-part.rows
     (λ s s_in h. c.loop-part.invariant.far.planned.rest c.loop-part.part s (omega arith) h) (get_or c.loop-part.self.flowing c.loop-part.part [])
     (c.loop-part.invariant.far.listed.rest told c.loop-part.part (omega arith) lt settled)
 
-pub returns-in_err-settle_part-clause-refused : goal.returns-in_err-settle_part-clause-refused
-returns-in_err-settle_part-clause-refused g c = refused_by c.from_residual.result (λ later.
-    untold_is (net_of g.P.Primitive.behaviour c.args.circuit.now) c.args.knots.now later c.settle_part.new.self c.settle_part.ensures.steady (c.settle_part.ensures.listed.told ∙ c.loop-part.invariant.untold))
+pub returns-in_err-find_part-clause-refused : goal.returns-in_err-find_part-clause-refused
+returns-in_err-find_part-clause-refused g c = refused_by c.from_residual.result (λ later.
+    untold_is (net_of g.P.Primitive.behaviour c.args.circuit.now) c.args.knots.now later c.find_part.new.self c.find_part.ensures.steady (c.find_part.ensures.listed.told ∙ c.loop-part.invariant.untold))
 
 pub returns-clause-lookups : goal.returns-clause-lookups
 returns-clause-lookups g c = λ later same.

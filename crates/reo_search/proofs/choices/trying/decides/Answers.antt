@@ -8,7 +8,7 @@ use Rattle.reo_walk.proofs.Settling.{walked_first}
 use Rattle.reo_search.proofs.choices.Remains.{one_at_loops}
 use Rattle.reo_search.proofs.choices.Bettering.{none_behind, better_kept}
 use Rattle.reo_search.proofs.choices.Matched.{least_of}
-use Rattle.reo_search.proofs.choices.trying.settles.Goals as goal
+use Rattle.reo_search.proofs.choices.trying.decides.Goals as goal
 
 pub returns-then-not-is_before-clause-better : goal.returns-then-not-is_before-clause-better
 returns-then-not-is_before-clause-better g c = λ _.

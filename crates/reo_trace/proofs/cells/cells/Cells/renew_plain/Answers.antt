@@ -3,7 +3,7 @@ use Rattle.reo_net_base.specs.Net.{Net, all_sides, net_of}
 use Rattle.reo_net_laws.proofs.Sides.{rows_length}
 use Rattle.reo_trace.specs.cells.Cells.{code_at}
 use Rattle.reo_trace.proofs.cells.Brought.{none_yet, one_more, plain_code}
-use Rattle.reo_trace.proofs.cells.cells.Cells.bring_plain.Goals as goal
+use Rattle.reo_trace.proofs.cells.cells.Cells.renew_plain.Goals as goal
 
 pub loop-index-init : goal.loop-index-init
 loop-index-init g c =

@@ -4,7 +4,7 @@ use Rattle.reo_net_laws.specs.Knots.{knot_count}
 use Rattle.reo_part_plans.specs.Plannings.{AreWeights, sum_below, weight_left}
 use Rattle.reo_settling.specs.Lookups.{AreSteady}
 use Rattle.reo_settling.proofs.Served.{AreSettledFar}
-use Rattle.reo_settling.proofs.lookups.Lookups.settle.Given as goal
+use Rattle.reo_settling.proofs.lookups.Lookups.find_rows.Given as goal
 
 -- The parts so far are planned, and those that come have the rows that are kept.
 abbrev pub invariant-loop-part : goal.invariant-loop-part

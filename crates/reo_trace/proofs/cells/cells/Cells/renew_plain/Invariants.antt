@@ -1,7 +1,7 @@
 use Rattle.std.proofs.Common.{slice_index}
 use Rattle.reo_net_base.specs.Net.{net_of}
 use Rattle.reo_trace.specs.cells.Cells.{AreCells, IsBrought, code_at}
-use Rattle.reo_trace.proofs.cells.cells.Cells.bring.Given as goal
+use Rattle.reo_trace.proofs.cells.cells.Cells.renew_plain.Given as goal
 
 -- The cells of the first of these sides are brought, and their rows written.
 abbrev pub invariant-loop-index : goal.invariant-loop-index

@@ -1,7 +1,7 @@
 use Rattle.reo_net_base.specs.Net.{Net, net_of}
 use Rattle.reo_search_tables.proofs.Renewed.{on_ok}
-use Rattle.reo_search_tables.proofs.Refreshed.{sides_right}
-use Rattle.reo_search_tables.proofs.refreshing.renew_sides.Goals as goal
+use Rattle.reo_search_tables.proofs.RenewedSides.{sides_right}
+use Rattle.reo_search_tables.proofs.renewing.renew_sides.Goals as goal
 
 pub returns-clause-right : goal.returns-clause-right
 returns-clause-right g c =

@@ -5,14 +5,14 @@ use Rattle.reo_net_laws.specs.Knots.{Knotted, in_knot}
 use Rattle.reo_search_tables.specs.SearchTables.{AreRightOn}
 use Rattle.reo_search_tables.proofs.PartSets.{is_part, part_real, part_joints, part_apart}
 use Rattle.reo_search_tables.proofs.Renewed.{on_ok}
-use Rattle.reo_search_tables.proofs.parts.refresh_part.Goals as goal
+use Rattle.reo_search_tables.proofs.parts.renew_part.Goals as goal
 
-pub refresh-requires-clause-sides : goal.refresh-requires-clause-sides
-refresh-requires-clause-sides g c =
+pub renew-requires-clause-sides : goal.renew-requires-clause-sides
+renew-requires-clause-sides g c =
     part_real (net_of g.P.Primitive.behaviour c.args.circuit.now) c.args.knots.now c.requires.knots c.args.part c.requires.part c.sides.result.now c.sides.ensures
 
-pub refresh-requires-clause-joints : goal.refresh-requires-clause-joints
-refresh-requires-clause-joints g c =
+pub renew-requires-clause-joints : goal.renew-requires-clause-joints
+renew-requires-clause-joints g c =
     let net : Net = net_of g.P.Primitive.behaviour c.args.circuit.now in
     let orders : List (List ℕ) = c.args.orders.now in
     let part : ℕ = c.args.part in
@@ -24,12 +24,12 @@ refresh-requires-clause-joints g c =
 pub returns-clause-right : goal.returns-clause-right
 returns-clause-right g c =
     let net : Net = net_of g.P.Primitive.behaviour c.args.circuit.now in
-    on_ok c.refresh.result c.refresh.ensures.right
-    (λ right. subst (λ (inside : ℕ → Bool). AreRightOn net inside c.refresh.new.tables) (is_part net c.args.knots.now c.requires.knots c.args.part c.requires.part c.sides.result.now c.sides.ensures) right)
+    on_ok c.renew.result c.renew.ensures.right
+    (λ right. subst (λ (inside : ℕ → Bool). AreRightOn net inside c.renew.new.tables) (is_part net c.args.knots.now c.requires.knots c.args.part c.requires.part c.sides.result.now c.sides.ensures) right)
 
 pub returns-clause-others : goal.returns-clause-others
 returns-clause-others g c k lt ne right =
     let net : Net = net_of g.P.Primitive.behaviour c.args.circuit.now in
     let knots : Knotted = c.args.knots.now in
-    c.refresh.ensures.others (in_knot knots.numbers k) (c.requires.knots.are_knots k lt).closed
+    c.renew.ensures.others (in_knot knots.numbers k) (c.requires.knots.are_knots k lt).closed
     (part_apart net knots c.requires.knots c.args.part c.requires.part c.sides.result.now c.sides.ensures k ne) right

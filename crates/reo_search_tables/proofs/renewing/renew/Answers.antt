@@ -2,8 +2,8 @@ use Rattle.std.proofs.Common.{ℕ, List}
 use Rattle.reo_net_base.specs.Net.{Net, net_of}
 use Rattle.reo_search_tables.specs.declared.tables.SearchTables.{SearchTables}
 use Rattle.reo_search_tables.proofs.Renewed.{on_ok}
-use Rattle.reo_search_tables.proofs.Refreshed.{joints_stay, sides_stay, apart_joints, apart_sides, all_right}
-use Rattle.reo_search_tables.proofs.refreshing.refresh.Goals as goal
+use Rattle.reo_search_tables.proofs.RenewedSides.{joints_stay, sides_stay, apart_joints, apart_sides, all_right}
+use Rattle.reo_search_tables.proofs.renewing.renew.Goals as goal
 
 pub returns-in_err-renew_joints-clause-others : goal.returns-in_err-renew_joints-clause-others
 returns-in_err-renew_joints-clause-others g c other closed apart right =

@@ -68,7 +68,7 @@ fn renew_sides<P: Primitive>(
 /// these sides and the flags of their rows, and the items of their joints and the flags of these.
 /// What they have of other sides and joints stays, and so does what is right there, also after
 /// `NoMemory`, which is out of memory. It costs what the set has.
-pub(crate) fn refresh<P: Primitive>(
+pub(crate) fn renew<P: Primitive>(
     alloc: Global,
     circuit: &Circuit<P>,
     ends: &Ends,

@@ -60,7 +60,7 @@ impl Cells {
 
     /// The cells of these sides become those of these rows, and a list takes these rows there. A
     /// cell that is as it was costs no more than a look. This takes no memory.
-    pub fn bring<P: Primitive>(
+    pub fn renew<P: Primitive>(
         &mut self,
         circuit: &Circuit<P>,
         rows: &[u32],
@@ -87,7 +87,7 @@ impl Cells {
     /// The cells of these sides, none of which has its jam row, become those of these rows, and a
     /// list takes these rows there. A cell that is as it was costs no more than a look. This takes
     /// no memory.
-    pub fn bring_plain<P: Primitive>(
+    pub fn renew_plain<P: Primitive>(
         &mut self,
         circuit: &Circuit<P>,
         rows: &[u32],
