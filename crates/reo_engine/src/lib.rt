@@ -1,8 +1,8 @@
 //! The engine: a circuit that takes offers at its ports and goes on round by round.
 //!
-//! A round is planned and then made by `plan` and `commit`; `make_round` and `finish_round` do the same at the
-//! cost of what flows. Making a round takes no memory, so one that was planned, or that stands, can
-//! always be made. The rows of parts in which nothing changes are kept from round to round.
+//! A round is planned by `plan` and made by `commit`; `make_round` and `finish_round` do the same
+//! at the cost of what flows. To make a round that was planned takes no memory, so it can always be
+//! made. The rows of parts in which nothing changes are kept from round to round.
 #![tactic(auto)]
 
 mod beginning;

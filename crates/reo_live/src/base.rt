@@ -5,5 +5,5 @@ mod fault;
 mod laws;
 
 pub use answer::Answer;
-pub use fault::EventFault;
+pub use fault::LineRefusal;
 pub use laws::{cuts_change_nothing, ending_exists, hearing_exists, hearing_is_one};

@@ -7,7 +7,7 @@ mod hearing;
 mod talk;
 
 pub use base::{
-    Answer, EventFault, cuts_change_nothing, ending_exists, hearing_exists, hearing_is_one,
+    Answer, LineRefusal, cuts_change_nothing, ending_exists, hearing_exists, hearing_is_one,
 };
 pub use closings::{closing_exists, closing_is_one};
 pub use hearing::{Heard, hear};

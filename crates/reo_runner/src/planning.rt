@@ -7,7 +7,7 @@ ghost use Rattle.reo_runner.specs.at_ports.Engines.{IsMadeWithin};
 ghost use Rattle.reo_runner.specs.Rounds.{IsUnplanned, fault_of_plan};
 ghost use Rattle.reo_runner.specs.declared.planning.RoundFault.TheVariants.{NoMemory as OutOfMemory};
 
-use crate::at_ports::{Engine, PlanFault, Standing};
+use crate::at_ports::{Engine, PlanFault, MadeRound};
 use reo_net_base::{Ported, Ports};
 use reo_steps::Steps;
 use reo_values::{Bytes, NoMemory};
@@ -60,7 +60,7 @@ pub(crate) fn make_next<P: Ported, L: Ledger>(
     ports: &Ports,
     budget: u64,
     steps: &mut Steps<L>,
-) -> Result<(Standing, Bytes), RoundFault>
+) -> Result<(MadeRound, Bytes), RoundFault>
     requires small { budget < 10 ^ 18 }
     ensures exact { let net = net_of P.behaviour engine.old.circuit in
         let turn = engine.old.rounds + 1 in

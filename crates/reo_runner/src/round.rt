@@ -14,7 +14,7 @@ ghost use Rattle.reo_runner.specs.at_ports.Between.{AreBetween, AreStarted};
 ghost use Rattle.reo_runner.specs.Rounds.{PlayedRound, IsRoundFault, IsTallied, IsSmall};
 ghost use Rattle.reo_runner.specs.declared.planning.RoundFault.TheVariants.{Failed as SinkFailed};
 
-use crate::at_ports::{Carried, Engine, Standing, carry_on, offer_all};
+use crate::at_ports::{Carried, Engine, MadeRound, carry_on, offer_all};
 use crate::outcome::{Limits, Tally};
 use crate::planning::{RoundFault, make_next};
 use reo_io::{Sink, SinkFault, put_all};
@@ -37,7 +37,7 @@ fn count_out<P: Restoring>(
     engine: &mut Engine<P>,
     players: &mut Players,
     ports: &Ports,
-    made_round: Standing,
+    made_round: MadeRound,
     tally: Tally,
 ) -> Played
     requires started { let old = engine.old.circuit in

@@ -17,7 +17,7 @@ use Rattle.reo_live.specs.base.Answers.{stopped_by}
 use Rattle.reo_rounds.proofs.OrderLemmas.{KeepsShape}
 use Rattle.reo_rounds.proofs.RoundLemmas.{round_exists}
 use Rattle.reo_live.specs.base.Events.{Told, Does, effect, closing, refusing}
-use Rattle.reo_live.specs.declared.base.fault.EventFault.TheVariants as faults
+use Rattle.reo_live.specs.declared.base.fault.LineRefusal.TheVariants as faults
 use Rattle.reo_live.specs.base.Hearing.{Judges, HearsAll, After, ClosesLine, Last, cleaned}
 use Rattle.reo_script.specs.scripts.Events.{EachLineIsAnswered}
 use Rattle.reo_rounds.specs.Order.{HasOrder}

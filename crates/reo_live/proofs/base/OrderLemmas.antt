@@ -19,7 +19,7 @@ use Rattle.reo_live.specs.base.Held.{Held, short, long, joined}
 use Rattle.reo_live.specs.base.Live.{Stand, Live, fresh}
 use Rattle.reo_live.specs.declared.base.answer.Answer.{Answer}
 use Rattle.reo_live.specs.base.Events.{Told, Does, effect, is_pending, placed_at, withdrawn_at, declined, offered_by}
-use Rattle.reo_live.specs.declared.base.fault.EventFault.{EventFault}
+use Rattle.reo_live.specs.declared.base.fault.LineRefusal.{LineRefusal}
 use Rattle.reo_live.specs.base.Hearing.{Judges, HearsAll, cleaned}
 use Rattle.reo_rounds.specs.Order.{HasOrder}
 use Rattle.reo_rounds.specs.RoundOn.{first_within}
@@ -49,7 +49,7 @@ module _ {P : Type 0} (r : Rules P) (k : KeepsShape r) where
   one_of_two true x y h g = h
   one_of_two false x y h g = g
 
-  offered_order : (o : Option EventFault) (a : Stand P) (port : ℕ) (offer : Offer) → HasOrder (net_of r.behaviour a.circuit) → Ordered (offered_by r o a port offer)
+  offered_order : (o : Option LineRefusal) (a : Stand P) (port : ℕ) (offer : Offer) → HasOrder (net_of r.behaviour a.circuit) → Ordered (offered_by r o a port offer)
   offered_order None a port offer old = placed_order a.circuit port offer old
   offered_order (Some fault) a port offer old = old
 

@@ -10,15 +10,15 @@ use Rattle.reo_weights.specs.Over.{Cause}
 use Rattle.reo_weights.specs.Over.Cause.{spent, wide}
 use Rattle.reo_live.specs.declared.base.answer.Answer.{Answer}
 use Rattle.reo_live.specs.declared.base.answer.Answer.TheVariants as answers
-use Rattle.reo_live.specs.declared.base.fault.EventFault.{EventFault}
-use Rattle.reo_live.specs.declared.base.fault.EventFault.TheVariants as faults
+use Rattle.reo_live.specs.declared.base.fault.LineRefusal.{LineRefusal}
+use Rattle.reo_live.specs.declared.base.fault.LineRefusal.TheVariants as faults
 
 -- The answer that says why the round of a number cannot be planned.
 abbrev pub stopped_by : ℕ → Cause → Answer
 stopped_by round (wide knot) = answers.Wide round knot
 stopped_by round (spent knot weight budget) = answers.Spent round knot weight budget
 
-abbrev pub fault_text : EventFault → List ℕ
+abbrev pub fault_text : LineRefusal → List ℕ
 fault_text faults.Long = codes "long"
 fault_text faults.Form = codes "form"
 fault_text faults.Port = codes "port"
@@ -28,7 +28,7 @@ fault_text faults.Outside = codes "outside"
 fault_text faults.Nothing = codes "none"
 
 -- The line of a refusal.
-unfoldable pub refusal_text : (line : ℕ) → EventFault → List ℕ
+unfoldable pub refusal_text : (line : ℕ) → LineRefusal → List ℕ
 refusal_text line fault =
     codes "line " ++ (decimal line ++ (codes ": " ++ (fault_text fault ++ codes "\n")))
 

@@ -17,8 +17,8 @@ use Rattle.reo_rounds.specs.Rules.{Rules}
 use Rattle.reo_rounds.specs.RoundOn.{RoundOn, first_within}
 use Rattle.reo_live.specs.declared.base.answer.Answer.{Answer}
 use Rattle.reo_live.specs.declared.base.answer.Answer.TheVariants as answers
-use Rattle.reo_live.specs.declared.base.fault.EventFault.{EventFault}
-use Rattle.reo_live.specs.declared.base.fault.EventFault.TheVariants as faults
+use Rattle.reo_live.specs.declared.base.fault.LineRefusal.{LineRefusal}
+use Rattle.reo_live.specs.declared.base.fault.LineRefusal.TheVariants as faults
 use Rattle.reo_live.specs.base.Live.{Stand, with_circuit, after_round, closed}
 use Rattle.reo_live.specs.base.Answers.{stopped_by}
 
@@ -55,7 +55,7 @@ module _ {P : Type 0} (r : Rules P) where
   withdrawn_at w port = record w { primitives = change_at r.withdrawn w.primitives port }
 
   -- A line that is refused changes nothing but the number of lines.
-  abbrev pub refusing : Stand P → EventFault → Told P
+  abbrev pub refusing : Stand P → LineRefusal → Told P
   refusing a fault = record {
     stand = with_circuit a a.circuit;
     answers = answers.Refused (a.lines + 1) fault ∷ [];
@@ -67,7 +67,7 @@ module _ {P : Type 0} (r : Rules P) where
 
   -- Why an offer is declined, the first of these that holds: no such port, another way, pending, or
   -- outside its type.
-  abbrev pub declined : Wiring P → ℕ → Offer → Option EventFault
+  abbrev pub declined : Wiring P → ℕ → Offer → Option LineRefusal
   declined w port offer =
       cond (not (nat_lt port w.ports)) (Some faults.Port)
       (cond (not (goes (port_at w port).way (way_of offer))) (Some faults.Way)
@@ -75,7 +75,7 @@ module _ {P : Type 0} (r : Rules P) where
       (cond (accepts (port_at w port) offer) None (Some faults.Outside))))
 
   -- An offer, where it is not declined.
-  abbrev pub offered_by : Option EventFault → Stand P → ℕ → Offer → Told P
+  abbrev pub offered_by : Option LineRefusal → Stand P → ℕ → Offer → Told P
   offered_by (Some fault) a port offer = refusing a fault
   offered_by None a port offer = silent a (placed_at a.circuit port offer)
 

@@ -7,7 +7,7 @@ use Rattle.reo_script.specs.scripts.Events.{AnswersEvent}
 use Rattle.reo_rounds.specs.Rules.{Rules}
 use Rattle.reo_live.specs.declared.base.answer.Answer.{Answer}
 use Rattle.reo_live.specs.declared.base.answer.Answer.TheVariants.{Ended}
-use Rattle.reo_live.specs.declared.base.fault.EventFault.TheVariants as faults
+use Rattle.reo_live.specs.declared.base.fault.LineRefusal.TheVariants as faults
 use Rattle.reo_live.specs.base.Lines.{ended_lines, open_line}
 use Rattle.reo_live.specs.base.Held.{Held, short, long, joined}
 use Rattle.reo_live.specs.base.Live.{Stand, Live, fresh, held_open}

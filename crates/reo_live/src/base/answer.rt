@@ -1,5 +1,5 @@
 //! What is answered.
-use crate::base::EventFault;
+use crate::base::LineRefusal;
 use reo_trace::RoundLine;
 
 /// An answer: one line. Rounds and lines are counted from 1.
@@ -8,7 +8,7 @@ pub enum Answer {
     /// The line of this number is refused, and changes nothing.
     Refused {
         line: u64,
-        fault: EventFault,
+        fault: LineRefusal,
     },
     /// A round was made, and this line shows it.
     Made {

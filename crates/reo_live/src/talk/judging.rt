@@ -6,11 +6,11 @@ ghost use Rattle.reo_rounds.specs.Rules.{rules_of};
 ghost use Rattle.reo_live.specs.base.Events.{Does};
 ghost use Rattle.reo_live.specs.base.Held.{short};
 ghost use Rattle.reo_live.specs.base.Hearing.{Judges};
-ghost use Rattle.reo_live.specs.declared.base.fault.EventFault.TheVariants as wrongs;
+ghost use Rattle.reo_live.specs.declared.base.fault.LineRefusal.TheVariants as wrongs;
 ghost use Rattle.reo_live.specs.talk.Offers.{IsCauseOf, refusal_if};
 ghost use Rattle.reo_live.specs.talk.Talks.{stand_of, told_by};
 
-use crate::base::{Answer, EventFault};
+use crate::base::{Answer, LineRefusal};
 use crate::talk::offers::{is_pending, make_offer, take_back};
 use crate::talk::rounds::answer_round;
 use reo_engine::Engine;
@@ -23,12 +23,12 @@ use std::alloc::Global;
 pub(crate) fn too_long(line: u64) -> Answer
     ensures { result ≡ Answer.Refused line wrongs.Long }
 {
-    let fault = EventFault::Long;
+    let fault = LineRefusal::Long;
     Answer::Refused { line, fault }
 }
 
 /// The refusal of a line, where there is a cause.
-fn refusal_if(line: u64, cause: Option<EventFault>) -> Option<Answer>
+fn refusal_if(line: u64, cause: Option<LineRefusal>) -> Option<Answer>
     ensures { result ≡ refusal_if line cause }
 {
     match cause {
@@ -38,37 +38,37 @@ fn refusal_if(line: u64, cause: Option<EventFault>) -> Option<Answer>
 }
 
 /// The cause of a withdraw at whose port nothing was pending.
-fn cause_unless(was_pending: bool) -> Option<EventFault>
+fn cause_unless(was_pending: bool) -> Option<LineRefusal>
     ensures { result ≡ cond was_pending None (Some wrongs.Nothing) }
 {
     if was_pending {
         None
     } else {
-        Some(EventFault::Nothing)
+        Some(LineRefusal::Nothing)
     }
 }
 
 /// The cause of a write whose literal is outside the port's type.
-fn cause_outside<P: Ported>(engine: &Engine<P>, port: usize) -> EventFault
+fn cause_outside<P: Ported>(engine: &Engine<P>, port: usize) -> LineRefusal
     ensures { let r = rules_of P.behaviour P.settled P.port_state P.placed P.withdrawn in
         IsCauseOf r engine.now.circuit (EventFault.ItemOutside port) result }
 {
     if is_pending(engine, port) {
-        EventFault::Pending
+        LineRefusal::Pending
     } else {
-        EventFault::Outside
+        LineRefusal::Outside
     }
 }
 
 /// The cause of a line that is no event for the ports. `NoMemory` is out of memory.
-fn cause_of<P: Ported>(engine: &Engine<P>, fault: EventFault) -> Result<EventFault, NoMemory>
+fn cause_of<P: Ported>(engine: &Engine<P>, fault: EventFault) -> Result<LineRefusal, NoMemory>
     ensures { let r = rules_of P.behaviour P.settled P.port_state P.placed P.withdrawn in
         IfOk result (IsCauseOf r engine.now.circuit fault) }
 {
     match fault {
-        EventFault::Form => Ok(EventFault::Form),
-        EventFault::NoPort => Ok(EventFault::Port),
-        EventFault::WrongWay => Ok(EventFault::Way),
+        EventFault::Form => Ok(LineRefusal::Form),
+        EventFault::NoPort => Ok(LineRefusal::Port),
+        EventFault::WrongWay => Ok(LineRefusal::Way),
         EventFault::ItemOutside { port } => Ok(cause_outside(engine, port)),
         EventFault::NoMemory => Err(NoMemory),
     }

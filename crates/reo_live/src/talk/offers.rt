@@ -4,19 +4,19 @@ ghost use Rattle.reo_rounds.specs.Rules.{rules_of};
 ghost use Rattle.reo_live.specs.base.Events.{is_pending, withdrawn_at};
 ghost use Rattle.reo_live.specs.talk.Offers.{cause_of, IsOffered};
 
-use crate::base::EventFault;
+use crate::base::LineRefusal;
 use reo_engine::{Engine, OfferFault};
 use reo_net_base::{Offer, Ported};
 
 /// The cause of a line whose offer is declined.
-fn cause_of(fault: OfferFault) -> EventFault
+fn cause_of(fault: OfferFault) -> LineRefusal
     ensures { result ≡ cause_of fault }
 {
     match fault {
-        OfferFault::NoPort => EventFault::Port,
-        OfferFault::WrongWay => EventFault::Way,
-        OfferFault::Pending => EventFault::Pending,
-        OfferFault::ItemOutside => EventFault::Outside,
+        OfferFault::NoPort => LineRefusal::Port,
+        OfferFault::WrongWay => LineRefusal::Way,
+        OfferFault::Pending => LineRefusal::Pending,
+        OfferFault::ItemOutside => LineRefusal::Outside,
     }
 }
 
@@ -25,7 +25,7 @@ pub(crate) fn make_offer<P: Ported>(
     engine: &mut Engine<P>,
     port: usize,
     offer: Offer,
-) -> Option<EventFault>
+) -> Option<LineRefusal>
     ensures offered { let r = rules_of P.behaviour P.settled P.port_state P.placed P.withdrawn in
         IsOffered r engine.old.circuit port offer engine.new.circuit result }
     ensures rounds { engine.new.rounds ≡ engine.old.rounds }

@@ -5,24 +5,24 @@ ghost use Rattle.reo_trace.specs.EndingText.{ending_text};
 ghost use Rattle.reo_trace.specs.declared.line.Ending.TheVariants as endings;
 ghost use Rattle.reo_live.specs.base.Answers.{answer_text, end_text, fault_text, refusal_text};
 
-use crate::base::{Answer, EventFault};
+use crate::base::{Answer, LineRefusal};
 use reo_net_base::Ports;
 use reo_trace::{Ending, ending_line_text, round_line_text};
 use reo_values::{Bytes, NoMemory};
 use std::alloc::Global;
 
 /// The word of a cause.
-fn fault_text(fault: EventFault) -> &'static [u8]
+fn fault_text(fault: LineRefusal) -> &'static [u8]
     ensures { result.now ≡ fault_text fault }
 {
     match fault {
-        EventFault::Long => b"long",
-        EventFault::Form => b"form",
-        EventFault::Port => b"port",
-        EventFault::Way => b"way",
-        EventFault::Pending => b"pending",
-        EventFault::Outside => b"outside",
-        EventFault::Nothing => b"none",
+        LineRefusal::Long => b"long",
+        LineRefusal::Form => b"form",
+        LineRefusal::Port => b"port",
+        LineRefusal::Way => b"way",
+        LineRefusal::Pending => b"pending",
+        LineRefusal::Outside => b"outside",
+        LineRefusal::Nothing => b"none",
     }
 }
 
@@ -38,7 +38,7 @@ fn append_number(alloc: Global, text: &mut Bytes, number: u64) -> Result<(), NoM
 
 /// The line of a refusal.
 #[tactic(auto, unfolding(crate::specs::base::Answers::refusal_text))]
-fn refusal_text(alloc: Global, line: u64, fault: EventFault) -> Result<Bytes, NoMemory>
+fn refusal_text(alloc: Global, line: u64, fault: LineRefusal) -> Result<Bytes, NoMemory>
     ensures { IfOk result (λ text. text ≡ refusal_text line fault) }
 {
     let mut text = Bytes::from_slice(alloc, b"line ")?;
