@@ -54,8 +54,8 @@ impl Copies for Value {
 }
 
 impl Copies for Kindred {
-    fn copied(&self, alloc: Global) -> Result<Self, NoMemory> {
-        copy_kindred(alloc, self)
+    fn copied(&self, _alloc: Global) -> Result<Self, NoMemory> {
+        copy_kindred(self)
     }
 }
 

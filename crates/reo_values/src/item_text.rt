@@ -24,7 +24,7 @@ fn append_text(
             }
         }
         (Value::Int(number), Kindred::Int(_, _)) => append_number(alloc, out, *number),
-        (Value::Sym(place), Kindred::Sym(names)) => match names.get(*place as usize) {
+        (Value::Sym(place), Kindred::Sym(names)) => match names.get().get(*place as usize) {
             Some(name) => out.append(name.as_slice()),
             None => Ok(()),
         },

@@ -3,10 +3,10 @@ ghost use Rattle.std.specs.Prelude.{◌≡◌, ◌↔◌, IfOk, IsTrue};
 ghost use Rattle.std.specs.List.{All};
 ghost use Rattle.reo_values.specs.Kind.{IsIn, IsPlain};
 
-use crate::{Boxed, Bytes, Copies, List, NoMemory, Value};
-use std::alloc::Global;
+use crate::{Bytes, List, NoMemory, Shared, Value};
 
-/// A type of items.
+/// A type of items. Names and pairs are shared: however many copies of a type there are, its names
+/// and its two types lie in memory once.
 #[cycle(kindred)]
 #[derive(Drop)]
 pub enum Kindred {
@@ -17,11 +17,11 @@ pub enum Kindred {
     /// The whole numbers from the first bound to the second, both included.
     Int(i64, i64),
     /// One item for each name.
-    Sym(List<Bytes>),
+    Sym(Shared<List<Bytes>>),
     /// The texts of at most so many bytes, each from the space to the tilde.
     Text(u16),
     /// The pairs of an item of each of two types.
-    Pair(Boxed<Twins>),
+    Pair(Shared<Twins>),
 }
 
 /// The types of a pair's two items.
@@ -47,7 +47,7 @@ pub fn is_in(item: &Value, kindred: &Kindred) -> bool
         (Value::Unit, Kindred::Unit) => true,
         (Value::Bool(_), Kindred::Bool) => true,
         (Value::Int(number), Kindred::Int(low, high)) => *low <= *number && *number <= *high,
-        (Value::Sym(place), Kindred::Sym(names)) => (*place as usize) < names.len(),
+        (Value::Sym(place), Kindred::Sym(names)) => (*place as usize) < names.get().len(),
         (Value::Text(text), Kindred::Text(most)) => {
             let bytes = text.get();
             bytes.len() <= *most as usize && all_plain(bytes.as_slice())
@@ -60,21 +60,17 @@ pub fn is_in(item: &Value, kindred: &Kindred) -> bool
     }
 }
 
-/// An equal type. `NoMemory` means out of memory.
-pub fn copy_kindred(alloc: Global, kindred: &Kindred) -> Result<Kindred, NoMemory>
+/// An equal type. Its names, or its two types, are shared with the first, so that this takes no
+/// memory: `NoMemory` means that more share them than can be counted.
+pub fn copy_kindred(kindred: &Kindred) -> Result<Kindred, NoMemory>
     ensures { IfOk result (λ made. made ≡ kindred.now) }
 {
     match kindred {
         Kindred::Unit => Ok(Kindred::Unit),
         Kindred::Bool => Ok(Kindred::Bool),
         Kindred::Int(low, high) => Ok(Kindred::Int(*low, *high)),
-        Kindred::Sym(names) => Ok(Kindred::Sym(names.copied(alloc)?)),
+        Kindred::Sym(names) => Ok(Kindred::Sym(names.share()?)),
         Kindred::Text(most) => Ok(Kindred::Text(*most)),
-        Kindred::Pair(twins) => {
-            let twins = twins.get();
-            let left = copy_kindred(alloc, &twins.left)?;
-            let right = copy_kindred(alloc, &twins.right)?;
-            Ok(Kindred::Pair(Boxed::new(alloc, Twins { left, right })?))
-        }
+        Kindred::Pair(twins) => Ok(Kindred::Pair(twins.share()?)),
     }
 }

@@ -109,7 +109,7 @@ fn word_item(alloc: Global, word: &[u8], kindred: &Kindred) -> Result<Value, Rea
         }
         Kindred::Bool => Ok(Value::Bool(read_truth(word)?)),
         Kindred::Int(low, high) => Ok(Value::Int(read_number(alloc, word, *low, *high)?)),
-        Kindred::Sym(names) => Ok(Value::Sym(read_name(names.as_slice(), word)?)),
+        Kindred::Sym(names) => Ok(Value::Sym(read_name(names.get().as_slice(), word)?)),
         _ => Err(ReadFault::NotALiteral),
     }
 }

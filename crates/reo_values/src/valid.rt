@@ -57,7 +57,7 @@ pub fn is_valid(kindred: &Kindred) -> bool
         Kindred::Bool => true,
         Kindred::Int(low, high) => *low <= *high,
         Kindred::Sym(names) => {
-            let names = names.as_slice();
+            let names = names.get().as_slice();
             names.len() <= 1024
                 && names.iter().all(|name| is_name(name.as_slice()))
                 && are_distinct(names)

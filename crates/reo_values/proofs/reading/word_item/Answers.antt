@@ -26,4 +26,4 @@ returns-in_err-read_number-in-Int-clause-none c failed item h e =
 pub returns-in_err-read_name-in-Sym-clause-none : goal.returns-in_err-read_name-in-Sym-clause-none
 returns-in_err-read_name-in-Sym-clause-none c failed item h e =
     let fault = passed_on c.from_residual-in_err-read_name-in-Sym.result c.in_err-read_name-in-Sym.field-0.0 _ c.from_residual-in_err-read_name-in-Sym.ensures failed in
-    sym_none c.args.kindred.now item c.args.word.now h e c.in-Sym.names c.in-Sym.is (rw c.as_slice.ensures at (c.in_err-read_name-in-Sym.ensures.none fault))
+    sym_none c.args.kindred.now item c.args.word.now h e c.in-Sym.names c.in-Sym.is (rw (c.as_slice.ensures, c.get.ensures) at (c.in_err-read_name-in-Sym.ensures.none fault))
