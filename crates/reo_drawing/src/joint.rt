@@ -3,11 +3,11 @@ ghost use Rattle.std.specs.Prelude.{◌≡◌, ◌++◌, OnOk, [], option_copied
 ghost use Rattle.reo_drawing.specs.Joints.{giver_mark, taker_mark, arrow_text, mark_arrow, mark_width, attributes_text, link_text, member_text, giver_text, onward_text, backward_text, taker_text, item_point, still_point, marked_point, point_text, place_text, spot_text, sides_text, joint_line};
 ghost use Rattle.reo_drawing.specs.Strands.{source_arrow};
 
-use crate::label_texts::{append_item, append_label, append_number};
+use crate::label_texts::{append_item, append_label};
 use crate::marks::JointMarks;
 use crate::strand::Strand;
 use reo_net_base::{End, Joint, Mark};
-use reo_values::{Bytes, NoMemory, Value};
+use reo_values::{Bytes, NoMemory, Value, append_decimal};
 use std::alloc::Global;
 
 /// The arrow of a mark at a joint: who gives a reason has an open one, and who jams a box.
@@ -89,9 +89,9 @@ fn append_link(
         (text.new ≡ text.old ++ link_text from.now first to.now second) }
 {
     text.append(from)?;
-    append_number(alloc, text, first)?;
+    append_decimal(alloc, text, first as u128)?;
     text.append(to)?;
-    append_number(alloc, text, second)
+    append_decimal(alloc, text, second as u128)
 }
 
 /// Adds the arrow of a mark and that of a strand at one point.
@@ -256,7 +256,7 @@ fn append_member(
         return Ok(());
     }
     text.append(b" p")?;
-    append_number(alloc, text, primitive)?;
+    append_decimal(alloc, text, primitive as u128)?;
     text.append(b";")
 }
 
@@ -274,9 +274,9 @@ fn append_place(
         (option_copied item.entry)) }
 {
     text.append(b"  subgraph cluster_")?;
-    append_number(alloc, text, home)?;
+    append_decimal(alloc, text, home as u128)?;
     text.append(b" { j")?;
-    append_number(alloc, text, number)?;
+    append_decimal(alloc, text, number as u128)?;
     text.append(b" [")?;
     append_point(alloc, text, marks, item)?;
     text.append(b"];")

@@ -3,10 +3,10 @@ ghost use Rattle.std.specs.Prelude.{◌≡◌, ◌++◌, OnOk};
 ghost use Rattle.std.specs.List.{flat_map};
 ghost use Rattle.reo_drawing.specs.Labels.{offer_text, take_text, line_text, lines_text, size_text, buffer_text, variable_text, kind_text};
 
-use crate::label_texts::{append_expr, append_item, append_number};
+use crate::label_texts::{append_expr, append_item};
 use reo_buffers::Buffer;
 use reo_kinds::{Kind, WriterPort};
-use reo_values::{Bytes, NoMemory, Value, value_text};
+use reo_values::{Bytes, NoMemory, Value, append_decimal, value_text};
 use std::alloc::Global;
 
 /// Adds the item that is offered at a port, if one is.
@@ -51,7 +51,7 @@ fn append_size(alloc: Global, text: &mut Bytes, word: &[u8], size: usize) -> Res
     ensures { OnOk result (text.new ≡ text.old ++ size_text word.now size) }
 {
     text.append(word)?;
-    append_number(alloc, text, size)
+    append_decimal(alloc, text, size as u128)
 }
 
 /// Adds a buffer: its word, how many places it has, and its items, that at the front first.

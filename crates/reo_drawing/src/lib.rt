@@ -11,6 +11,6 @@ mod picture;
 mod strand;
 mod vertex;
 
-pub use label_texts::{append_expr, append_item, append_label, append_number, labels_stay_shut};
+pub use label_texts::{append_expr, append_item, append_label, labels_stay_shut};
 pub use marks::JointMarks;
 pub use picture::{Scene, picture_text};

@@ -3,13 +3,13 @@ ghost use Rattle.std.specs.Prelude.{◌≡◌, ◌++◌, IfOk, OnOk, slice_get, 
 ghost use Rattle.reo_drawing.specs.Pictures.{node_line, node_lines, name_of, primitive_lines, item_at, joint_lines, head_text, picture_text};
 
 use crate::joint::append_joint;
-use crate::label_texts::{append_label, append_number};
+use crate::label_texts::{append_label};
 use crate::marks::JointMarks;
 use crate::strand::strand_of;
 use crate::vertex::append_vertex;
 use reo_kinds::Kind;
 use reo_net_base::{Joint, Port};
-use reo_values::{Bytes, List, NoMemory, Value};
+use reo_values::{Bytes, List, NoMemory, Value, append_decimal};
 use std::alloc::Global;
 
 /// What is shown of a round beside the circuit: nothing where the lists are empty.
@@ -29,7 +29,7 @@ fn append_node(alloc: Global, text: &mut Bytes, number: usize, name: &[u8]) -> R
     ensures { OnOk result (text.new ≡ text.old ++ node_line number name.now) }
 {
     text.append(b"  subgraph cluster_")?;
-    append_number(alloc, text, number)?;
+    append_decimal(alloc, text, number as u128)?;
     text.append(b" { label=")?;
     append_label(alloc, text, name)?;
     text.append(b"; }\n")

@@ -3,9 +3,9 @@ ghost use Rattle.std.specs.Prelude.{◌≡◌, ◌++◌, OnOk};
 ghost use Rattle.reo_drawing.specs.Vertices.{shape_text, lost_text, vertex_line};
 
 use crate::label::append_kind;
-use crate::label_texts::{append_label, append_number};
+use crate::label_texts::{append_label};
 use reo_kinds::Kind;
-use reo_values::{Bytes, NoMemory};
+use reo_values::{Bytes, NoMemory, append_decimal};
 use std::alloc::Global;
 
 /// The shape of a primitive.
@@ -51,7 +51,7 @@ pub(crate) fn append_vertex(
     let mut words = Bytes::new(alloc);
     append_kind(alloc, &mut words, name, kind)?;
     text.append(b"  p")?;
-    append_number(alloc, text, number)?;
+    append_decimal(alloc, text, number as u128)?;
     text.append(b" [shape=")?;
     text.append(shape_text(kind))?;
     text.append(b" label=")?;

@@ -2,25 +2,13 @@
 ghost use Rattle.std.specs.Prelude.{◌≡◌, ◌<◌, ◌≤◌, ◌↔◌, IsTrue, OnOk, Contains, length, nat_lt};
 ghost use Rattle.reo_reach.specs.Added.{AreAdded};
 
-use reo_values::{List, NoMemory, Value, same_item};
+use reo_values::{List, NoMemory, Value, is_among, same_item};
 
 /// Whether there are more than 256 items.
 pub(crate) fn is_full(items: &[Value]) -> bool
     ensures { result ≡ nat_lt 256 (length items.now) }
 {
     items.len() > 256
-}
-
-/// Whether an item is in a list.
-fn is_among(items: &[Value], item: &Value) -> bool
-    ensures { IsTrue result ↔ Contains items.now item.now }
-{
-    for other in items {
-        if same_item(other, item) {
-            return true;
-        }
-    }
-    false
 }
 
 /// Adds an item to a list that is not full, unless it is there.

@@ -5,7 +5,7 @@ ghost use Rattle.reo_reach.specs.Supplied.{items_at, is_wide, supplied_of, AreSh
 ghost use Rattle.reo_reach.specs.Added.{renewed};
 
 use crate::stock::is_full;
-use reo_values::{List, NoMemory, Value};
+use reo_values::{List, NoMemory, Value, empty_lists};
 use std::alloc::Global;
 use std::marker::Model;
 
@@ -32,18 +32,6 @@ impl Model for Supply {
     ghost invariant = { λ s. length s.wide.items ≡ length s.items.items };
 }
 
-/// So many empty lists.
-fn no_lists(alloc: Global, count: usize) -> Result<Vec<List<Value>>, NoMemory>
-    ensures { IfOk result (λ lists. lists.items ≡ replicate count []) }
-{
-    let mut lists = List::new(alloc);
-    for index in 0..count {
-        let _ = index;
-        lists.push(List::new(alloc))?;
-    }
-    Ok(lists.into_vec())
-}
-
 /// No mark at so many joints.
 fn no_marks(alloc: Global, count: usize) -> Result<Vec<bool>, NoMemory>
     ensures { IfOk result (λ marks. length marks.items ≡ count) }
@@ -61,7 +49,7 @@ impl Supply {
         ensures marks { IfOk result (λ supply. length supply.wide ≡ joints) }
         ensures short { IfOk result AreShort }
     {
-        let items = no_lists(alloc, joints)?;
+        let items = empty_lists(alloc, joints)?.into_vec();
         let wide = no_marks(alloc, joints)?;
         Ok(Supply { items, wide })
     }

@@ -8,20 +8,9 @@ ghost use Rattle.reo_search_tables.specs.Orders.{AreOrders};
 use reo_knots::Knots;
 use reo_net_base::Primitive;
 use reo_net_circuit::Circuit;
-use reo_side_tables::giver_side;
+use reo_side_tables::{giver_side, empty_lists};
 use reo_values::{List, NoMemory};
 use std::alloc::Global;
-
-/// So many lists, all empty.
-fn no_orders(alloc: Global, count: usize) -> Result<List<List<usize>>, NoMemory>
-    ensures { IfOk result (AreEmpty count) }
-{
-    let mut lists = List::new(alloc);
-    for _index in 0..count {
-        lists.push(List::new(alloc))?;
-    }
-    Ok(lists)
-}
 
 /// Adds a joint to the list of a part.
 fn add(lists: &mut List<List<usize>>, part: usize, joint: usize) -> Result<(), NoMemory>
@@ -45,7 +34,7 @@ pub fn orders_of<P: Primitive>(
 {
     circuit.known();
     let order = circuit.order();
-    let mut orders = no_orders(alloc, knots.count())?;
+    let mut orders = empty_lists(alloc, knots.count())?;
     for joint in order {
         let part = knots.knot_of(giver_side(circuit, *joint));
         add(&mut orders, part, *joint)?;

@@ -14,7 +14,7 @@ use reo_net_base::Primitive;
 use reo_net_circuit::{Circuit, Ends};
 use reo_part_plans::Remembered;
 use reo_search_tables::{SearchTables, orders_of};
-use reo_values::{List, NoMemory};
+use reo_values::{List, NoMemory, empty_lists};
 use std::alloc::Global;
 
 /// What is looked up when parts are settled: the joints of each part, in order, and those of them
@@ -33,17 +33,6 @@ pub struct Lookups {
     pub(crate) marks: MarkSearch,
 }
 
-/// So many lists of no joints.
-fn none_flowing(alloc: Global, count: usize) -> Result<List<List<usize>>, NoMemory>
-    ensures { IfOk result (λ made. length made ≡ count) }
-{
-    let mut made = List::new(alloc);
-    for _ in 0..count {
-        made.push(List::new(alloc))?;
-    }
-    Ok(made)
-}
-
 impl Lookups {
     /// For a circuit of which nothing was looked up. `NoMemory` is out of memory.
     pub fn new<P: Primitive>(
@@ -58,7 +47,7 @@ impl Lookups {
             → AreLookups (net_of P.behaviour circuit.now) knots.now kept made) }
     {
         let orders = orders_of(alloc, circuit, knots)?;
-        let flowing = none_flowing(alloc, knots.count())?;
+        let flowing = empty_lists(alloc, knots.count())?;
         let fresh = Flags::new(alloc, knots.count(), false)?;
         let bounds = Bounds::new(alloc, circuit)?;
         let plans = Remembered::new(alloc, knots.count())?;

@@ -11,7 +11,7 @@ use reo_values::{List, NoMemory};
 use std::alloc::Global;
 
 /// So many lists, all empty.
-pub(crate) fn empty_lists(alloc: Global, count: usize) -> Result<List<List<usize>>, NoMemory>
+pub fn empty_lists(alloc: Global, count: usize) -> Result<List<List<usize>>, NoMemory>
     ensures { IfOk result (AreEmpty count) }
 {
     let mut lists = List::new(alloc);

@@ -9,14 +9,24 @@ ghost use Rattle.reo_trace_reader.specs.Ends.{EndsLine};
 ghost use Rattle.reo_trace_reader.specs.Reads.{Stood, ReadsAgain};
 
 use crate::number::number;
-use crate::reader::Reader;
 use crate::texts::LineFault;
 use reo_trace::{Cell, Entry};
-use reo_values::List;
+use reo_values::{List, Unread};
 use std::alloc::Global;
 
+/// Whether the line ends here: nothing is left, or a line feed is next.
+fn ends_line(reader: &Unread) -> bool
+    ensures yes { result ≡ true → EndsLine reader.now }
+    ensures no { result ≡ false → EndsLine reader.now → ⊥ }
+{
+    match reader.left() {
+        [] => true,
+        [byte, ..] => *byte == b'\n',
+    }
+}
+
 /// The row of one side.
-fn cell(reader: &mut Reader) -> Result<Cell, LineFault>
+fn cell(reader: &mut Unread) -> Result<Cell, LineFault>
     ensures stood { Stood IsCell cell_text result reader.old reader.new }
     ensures again { ReadsAgain IsCell cell_text NoDigit result reader.old reader.new }
 {
@@ -32,7 +42,7 @@ fn cell(reader: &mut Reader) -> Result<Cell, LineFault>
 }
 
 /// The rows of one primitive.
-fn entry(reader: &mut Reader) -> Result<Entry, LineFault>
+fn entry(reader: &mut Unread) -> Result<Entry, LineFault>
     ensures stood { Stood IsEntry entry_text result reader.old reader.new }
     ensures again { ReadsAgain IsEntry entry_text EndsEntry result reader.old reader.new }
 {
@@ -46,13 +56,13 @@ fn entry(reader: &mut Reader) -> Result<Entry, LineFault>
 }
 
 /// The rows of all primitives, to the end of the line.
-pub(crate) fn entries(alloc: Global, reader: &mut Reader) -> Result<List<Entry>, LineFault>
+pub(crate) fn entries(alloc: Global, reader: &mut Unread) -> Result<List<Entry>, LineFault>
     ensures stood { Stood (All IsEntry) (spaced entry_text) result reader.old reader.new }
     ensures again { ReadsAgain (All IsEntry) (spaced entry_text) EndsLine
         result reader.old reader.new }
 {
     let mut made = List::new(alloc);
-    if reader.ends_line() {
+    if ends_line(reader) {
         return Ok(made);
     }
     let first = entry(reader)?;

@@ -7,9 +7,8 @@ ghost use Rattle.reo_trace_reader.specs.Fronts.{IsItem, item_text};
 ghost use Rattle.reo_trace_reader.specs.ItemEnd.{after as spot_after, is_outside, bytes_of_item};
 ghost use Rattle.reo_trace_reader.specs.Reads.{Stood, ReadsAgain};
 
-use crate::reader::Reader;
 use crate::texts::LineFault;
-use reo_values::{Kindred, ReadFault, Value, read_value};
+use reo_values::{Kindred, ReadFault, Unread, Value, read_value};
 use std::alloc::Global;
 
 /// Where a byte of an item stands.
@@ -64,7 +63,7 @@ fn item_length(text: &[u8]) -> usize
 /// An item of a type, before a space.
 pub(crate) fn item(
     alloc: Global,
-    reader: &mut Reader,
+    reader: &mut Unread,
     kindred: &Kindred,
 ) -> Result<Value, LineFault>
     requires { IsValid kindred.now }

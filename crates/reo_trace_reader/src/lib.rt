@@ -7,7 +7,6 @@ mod item;
 mod lines;
 mod moves;
 mod number;
-mod reader;
 mod reading;
 mod texts;
 

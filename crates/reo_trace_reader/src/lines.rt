@@ -7,17 +7,17 @@ ghost use Rattle.reo_trace_reader.specs.Ends.{Anything, BeginsNoDigit, EndsLine}
 ghost use Rattle.reo_trace_reader.specs.Fronts.{IsAnyLine, IsPart, IsLoad, IsSpent, heading_text, round_front, part_text, load_text, spent_text, ending_front};
 ghost use Rattle.reo_trace_reader.specs.Reads.{Stood, ReadsAgain};
 
+use reo_values::Unread;
 use crate::cells::entries;
 use crate::moves::read_flows;
 use crate::number::number;
-use crate::reader::Reader;
 use crate::texts::LineFault;
 use reo_net_base::Ports;
 use reo_trace::{Ending, RoundLine};
 use std::alloc::Global;
 
 /// A number behind this word.
-fn number_after(reader: &mut Reader, word: &[u8]) -> Result<u64, LineFault>
+fn number_after(reader: &mut Unread, word: &[u8]) -> Result<u64, LineFault>
     ensures stood { Stood IsSmall (λ n. word.now ++ decimal n) result reader.old reader.new }
     ensures again { ReadsAgain IsSmall (λ n. word.now ++ decimal n) NoDigit
         result reader.old reader.new }
@@ -31,7 +31,7 @@ fn number_after(reader: &mut Reader, word: &[u8]) -> Result<u64, LineFault>
 }
 
 /// A number before this word, which begins with no digit.
-fn number_before(reader: &mut Reader, word: &[u8]) -> Result<u64, LineFault>
+fn number_before(reader: &mut Unread, word: &[u8]) -> Result<u64, LineFault>
     requires { BeginsNoDigit word.now }
     ensures stood { Stood IsSmall (λ n. decimal n ++ word.now) result reader.old reader.new }
     ensures again { ReadsAgain IsSmall (λ n. decimal n ++ word.now) Anything
@@ -47,7 +47,7 @@ fn number_before(reader: &mut Reader, word: &[u8]) -> Result<u64, LineFault>
 }
 
 /// The number of a round at the head of its line.
-fn heading(reader: &mut Reader) -> Result<u64, LineFault>
+fn heading(reader: &mut Unread) -> Result<u64, LineFault>
     ensures stood { Stood IsSmall heading_text result reader.old reader.new }
     ensures again { ReadsAgain IsSmall heading_text Anything result reader.old reader.new }
 {
@@ -61,7 +61,7 @@ fn heading(reader: &mut Reader) -> Result<u64, LineFault>
 /// The line of a round, of any number.
 pub(crate) fn round(
     alloc: Global,
-    reader: &mut Reader,
+    reader: &mut Unread,
     ports: &Ports,
 ) -> Result<RoundLine, LineFault>
     requires { AreTold ports.now.list }
@@ -89,7 +89,7 @@ pub(crate) struct PartNumbers {
 }
 
 /// The numbers of a round and of a part, with the words between.
-fn read_part(reader: &mut Reader) -> Result<PartNumbers, LineFault>
+fn read_part(reader: &mut Unread) -> Result<PartNumbers, LineFault>
     ensures stood { Stood IsPart part_text result reader.old reader.new }
     ensures again { ReadsAgain IsPart part_text NoDigit result reader.old reader.new }
     ensures fault { IfErr result (λ fault. fault ≡ LineFault.Form) }
@@ -107,7 +107,7 @@ pub(crate) struct Load {
 }
 
 /// A weight and a budget, with the words before them.
-fn read_load(reader: &mut Reader) -> Result<Load, LineFault>
+fn read_load(reader: &mut Unread) -> Result<Load, LineFault>
     ensures stood { Stood IsLoad load_text result reader.old reader.new }
     ensures again { ReadsAgain IsLoad load_text NoDigit result reader.old reader.new }
     ensures fault { IfErr result (λ fault. fault ≡ LineFault.Form) }
@@ -118,7 +118,7 @@ fn read_load(reader: &mut Reader) -> Result<Load, LineFault>
 }
 
 /// The ending of a part that is too heavy, behind its first words.
-fn spent(reader: &mut Reader) -> Result<Ending, LineFault>
+fn spent(reader: &mut Unread) -> Result<Ending, LineFault>
     ensures stood { Stood IsSpent spent_text result reader.old reader.new }
     ensures again { ReadsAgain IsSpent spent_text NoDigit result reader.old reader.new }
     ensures fault { IfErr result (λ fault. fault ≡ LineFault.Form) }
@@ -134,7 +134,7 @@ fn spent(reader: &mut Reader) -> Result<Ending, LineFault>
 }
 
 /// An ending.
-pub(crate) fn ending(reader: &mut Reader) -> Result<Ending, LineFault>
+pub(crate) fn ending(reader: &mut Unread) -> Result<Ending, LineFault>
     ensures stood { Stood IsEnding ending_front result reader.old reader.new }
     ensures again { ReadsAgain IsEnding ending_front EndsLine result reader.old reader.new }
     ensures fault { IfErr result (λ fault. fault ≡ LineFault.Form) }

@@ -8,10 +8,9 @@ ghost use Rattle.reo_trace_reader.specs.Fronts.{AreFlows, AreMoves, IsMoveFrom, 
 ghost use Rattle.reo_trace_reader.specs.Reads.{Stood, ReadsAgain};
 
 use crate::item::item;
-use crate::reader::Reader;
 use crate::texts::LineFault;
 use reo_net_base::{Move, Port, Ports, Way};
-use reo_values::List;
+use reo_values::{List, Unread};
 use std::alloc::Global;
 
 /// What flowed at the ports in a round.
@@ -22,7 +21,7 @@ pub(crate) struct PortFlows {
 }
 
 /// Takes the name of a port with the sign of its way, or answers false where it is not next.
-fn is_next(reader: &mut Reader, port: &Port) -> bool
+fn is_next(reader: &mut Unread, port: &Port) -> bool
     ensures taken { result ≡ true → reader.old ≡ port_text (Some port.now) ++ reader.new }
     ensures stays { result ≡ false → reader.new ≡ reader.old }
     ensures none { result ≡ false → (rest : List ℕ)
@@ -35,7 +34,7 @@ fn is_next(reader: &mut Reader, port: &Port) -> bool
 }
 
 /// The number of a port, from this number on.
-fn port(reader: &mut Reader, ports: &Ports, from: usize) -> Result<usize, LineFault>
+fn port(reader: &mut Unread, ports: &Ports, from: usize) -> Result<usize, LineFault>
     requires { AreTold ports.now.list }
     ensures stood { Stood (IsPortFrom ports.now.list from) (text_at ports.now.list)
         result reader.old reader.new }
@@ -55,7 +54,7 @@ fn port(reader: &mut Reader, ports: &Ports, from: usize) -> Result<usize, LineFa
 /// A move at a port, from this number on.
 fn one_move(
     alloc: Global,
-    reader: &mut Reader,
+    reader: &mut Unread,
     ports: &Ports,
     from: usize,
 ) -> Result<Move, LineFault>
@@ -81,7 +80,7 @@ fn number_behind(ports: &Ports, one: &Move) -> usize
 }
 
 /// The moves of a round, at least one, up to the entries.
-fn moves(alloc: Global, reader: &mut Reader, ports: &Ports) -> Result<List<Move>, LineFault>
+fn moves(alloc: Global, reader: &mut Unread, ports: &Ports) -> Result<List<Move>, LineFault>
     requires { AreTold ports.now.list }
     ensures stood { Stood (AreMoves ports.now.list) (moves_front ports.now.list)
         result reader.old reader.new }
@@ -106,7 +105,7 @@ fn moves(alloc: Global, reader: &mut Reader, ports: &Ports) -> Result<List<Move>
 /// What flowed at the ports in a round, up to the entries.
 pub(crate) fn read_flows(
     alloc: Global,
-    reader: &mut Reader,
+    reader: &mut Unread,
     ports: &Ports,
 ) -> Result<PortFlows, LineFault>
     requires { AreTold ports.now.list }

@@ -16,17 +16,16 @@ ghost use Rattle.reo_trace_reader.specs.Reads.{Stood, ReadsAgain};
 ghost use Rattle.reo_trace_reader.specs.texts.Answers.{Answers, IsRead, IsThis, LineAnswers, IsLineRead, IsThisLine};
 
 use crate::lines::{ending, round};
-use crate::reader::Reader;
 use crate::texts::{LineFault, Trace, TraceFault, TraceLine, one_line_answer, one_trace_answer};
 use reo_net_base::Ports;
 use reo_trace::{Ending, RoundLine};
-use reo_values::{List, NoMemory};
+use reo_values::{List, NoMemory, Unread};
 use std::alloc::Global;
 
 /// The line of the round of this number, with its line feed.
 fn numbered_round(
     alloc: Global,
-    reader: &mut Reader,
+    reader: &mut Unread,
     ports: &Ports,
     number: u64,
 ) -> Result<RoundLine, LineFault>
@@ -51,7 +50,7 @@ fn numbered_round(
 /// nothing is taken.
 fn next_round<'a>(
     alloc: Global,
-    reader: &mut Reader<'a>,
+    reader: &mut Unread<'a>,
     ports: &Ports,
     number: u64,
 ) -> Result<Option<RoundLine>, NoMemory>
@@ -62,7 +61,7 @@ fn next_round<'a>(
     match numbered_round(alloc, reader, ports, number) {
         Ok(line) => Ok(Some(line)),
         Err(LineFault::Form) => {
-            *reader = Reader::new(before);
+            *reader = Unread::new(before);
             Ok(None)
         }
         Err(LineFault::NoMemory) => Err(NoMemory),
@@ -70,7 +69,7 @@ fn next_round<'a>(
 }
 
 /// An ending, with its line feed.
-fn ended(reader: &mut Reader) -> Result<Ending, LineFault>
+fn ended(reader: &mut Unread) -> Result<Ending, LineFault>
     ensures stood { Stood IsEnding ending_text result reader.old reader.new }
     ensures again { ReadsAgain IsEnding ending_text Anything result reader.old reader.new }
     ensures fault { IfErr result (λ fault. fault ≡ LineFault.Form) }
@@ -88,7 +87,7 @@ fn last_line(text: &[u8]) -> Option<Ending>
     ensures { MatchOption result (NoEnding text.now)
         (λ ending. IsEnding ending × (text.now ≡ ending_text ending)) }
 {
-    let mut reader = Reader::new(text);
+    let mut reader = Unread::new(text);
     let Ok(ending) = ended(&mut reader) else {
         return None;
     };
@@ -100,7 +99,7 @@ fn whole_ending(line: &[u8]) -> Option<Ending>
     ensures { MatchOption result ((ending : AnEnding) → IsEndingText line.now ending → ⊥)
         (λ ending. IsEndingText line.now ending) }
 {
-    let mut reader = Reader::new(line);
+    let mut reader = Unread::new(line);
     let Ok(ending) = ending(&mut reader) else {
         return None;
     };
@@ -114,7 +113,7 @@ fn whole_round(alloc: Global, line: &[u8], ports: &Ports) -> Result<RoundLine, L
     ensures none { IsErrOf result LineFault.Form → (round : ARound)
         → IsRoundText ports.now.list line.now round → ⊥ }
 {
-    let mut reader = Reader::new(line);
+    let mut reader = Unread::new(line);
     let found = round(alloc, &mut reader, ports)?;
     if reader.is_done() {
         Ok(found)
@@ -140,7 +139,7 @@ pub fn read_trace(alloc: Global, text: &[u8], ports: &Ports) -> Result<Trace, Tr
 {
     one_trace_answer();
     let mut rounds = List::new(alloc);
-    let mut reader = Reader::new(text);
+    let mut reader = Unread::new(text);
     let mut number = 1;
     while let Some(line) = next_round(alloc, &mut reader, ports, number)? {
         rounds.push(line)?;

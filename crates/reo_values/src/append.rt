@@ -1,7 +1,7 @@
 //! Numbers and texts in quotes at the end of other bytes.
 ghost use Rattle.std.specs.Prelude.{◌≡◌, ◌++◌, length, take, OnErr, OnOk};
 ghost use Rattle.std.specs.List.{flat_map};
-ghost use Rattle.std.specs.Fmt.{signed_decimal};
+ghost use Rattle.std.specs.Fmt.{decimal, signed_decimal};
 ghost use Rattle.reo_values.specs.ItemText.{escape, quoted};
 
 use crate::{Bytes, NoMemory, number_text};
@@ -52,4 +52,15 @@ pub fn append_number(alloc: Global, out: &mut Bytes, number: i64) -> Result<(), 
 {
     let text = number_text(alloc, number)?;
     out.append(text.as_slice())
+}
+
+/// Adds a whole number in decimal. After `NoMemory`, out of memory, nothing has been added.
+pub fn append_decimal(alloc: Global, out: &mut Bytes, number: u128) -> Result<(), NoMemory>
+    ensures ok { OnOk result (out.new ≡ out.old ++ decimal number) }
+    ensures err { OnErr result (out.new ≡ out.old) }
+{
+    match number.to_string(alloc) {
+        Ok(digits) => out.append(digits.as_bytes()),
+        Err(_) => Err(NoMemory),
+    }
 }

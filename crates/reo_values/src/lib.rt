@@ -16,15 +16,17 @@ mod item_text;
 mod kindred;
 mod laws;
 mod list;
+mod lists;
 mod number;
 mod operator;
 mod reader;
 mod reading;
 mod shared;
+mod unread;
 mod valid;
 mod value;
 
-pub use append::{append_number, append_quoted};
+pub use append::{append_decimal, append_number, append_quoted};
 pub use boxed::Boxed;
 pub use bytes::Bytes;
 pub use copies::Copies;
@@ -32,15 +34,17 @@ pub use decimals::{digits_length, number_of};
 pub use fault::ReadFault;
 pub use filling::Filling;
 pub use item_text::value_text;
-pub use kindred::{Kindred, Twins, copy_kindred, is_in};
+pub use kindred::{Kindred, Twins, all_plain, copy_kindred, is_in};
 pub use laws::{item_test_is_exact, name_test_is_exact, one_item_for_each_text};
 pub use list::List;
+pub use lists::empty_lists;
 pub use number::{number_text, read_number};
 pub use operator::{Binary, Unary};
 pub use reading::read_value;
 pub use shared::Shared;
+pub use unread::Unread;
 pub use valid::{is_name, is_valid};
-pub use value::{Couple, Value, copy, same_item};
+pub use value::{Couple, Value, copy, is_among, same_item};
 
 /// Out of memory.
 #[derive(Clone, Copy, Debug, PartialEq, Eq)]

@@ -1,5 +1,5 @@
 //! Items.
-ghost use Rattle.std.specs.Prelude.{◌≡◌, ◌↔◌, IfOk, IsTrue};
+ghost use Rattle.std.specs.Prelude.{◌≡◌, ◌↔◌, Contains, IfOk, IsTrue};
 
 use crate::{Bytes, NoMemory, Shared};
 use std::alloc::Global;
@@ -47,6 +47,18 @@ pub fn same_item(a: &Value, b: &Value) -> bool
         }
         _ => false,
     }
+}
+
+/// Whether an item is in a list. This takes no memory.
+pub fn is_among(items: &[Value], item: &Value) -> bool
+    ensures { IsTrue result ↔ Contains items.now item.now }
+{
+    for other in items {
+        if same_item(other, item) {
+            return true;
+        }
+    }
+    false
 }
 
 /// An equal item. Its text, or its two items, are shared with the first, so that this takes no

@@ -4,18 +4,8 @@ ghost use Rattle.std.specs.Fmt.{decimal};
 ghost use Rattle.std.specs.List.{flat_map};
 ghost use Rattle.reo_drawing.specs.label_texts.Escape.{code_text, escape, label};
 
-use reo_values::{Bytes, NoMemory};
+use reo_values::{Bytes, NoMemory, append_decimal};
 use std::alloc::Global;
-
-/// Adds a number in decimal. `NoMemory` is out of memory.
-pub fn append_number(alloc: Global, text: &mut Bytes, number: usize) -> Result<(), NoMemory>
-    ensures { OnOk result (text.new ≡ text.old ++ decimal number) }
-{
-    match number.to_string(alloc) {
-        Ok(digits) => text.append(digits.as_bytes()),
-        Err(_) => Err(NoMemory),
-    }
-}
 
 /// Adds a byte by its number.
 #[tactic(auto, unfolding(crate::specs::label_texts::Escape::code_text))]
@@ -23,7 +13,7 @@ fn append_code(alloc: Global, text: &mut Bytes, byte: u8) -> Result<(), NoMemory
     ensures { OnOk result (text.new ≡ text.old ++ code_text byte) }
 {
     text.append(b"&#")?;
-    append_number(alloc, text, byte as usize)?;
+    append_decimal(alloc, text, byte as u128)?;
     text.append(b";")
 }
 

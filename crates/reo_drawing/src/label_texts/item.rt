@@ -2,8 +2,7 @@
 ghost use Rattle.std.specs.Prelude.{◌≡◌, ◌++◌, OnOk};
 ghost use Rattle.reo_drawing.specs.label_texts.Items.{item_text};
 
-use crate::label_texts::escape::append_number as append_place;
-use reo_values::{Bytes, NoMemory, Value, append_number, append_quoted};
+use reo_values::{Bytes, NoMemory, Value, append_decimal, append_number, append_quoted};
 use std::alloc::Global;
 
 /// Adds an item as it is written where its type is not at hand: a name by its place among the names
@@ -18,7 +17,7 @@ pub fn append_item(alloc: Global, text: &mut Bytes, item: &Value) -> Result<(), 
         Value::Int(number) => append_number(alloc, text, *number),
         Value::Sym(place) => {
             text.append(b"#")?;
-            append_place(alloc, text, *place as usize)
+            append_decimal(alloc, text, *place as u128)
         }
         Value::Text(bytes) => append_quoted(text, bytes.get().as_slice()),
         Value::Pair(couple) => {

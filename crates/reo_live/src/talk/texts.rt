@@ -8,7 +8,7 @@ ghost use Rattle.reo_live.specs.base.Answers.{answer_text, end_text, fault_text,
 use crate::base::{Answer, LineRefusal};
 use reo_net_base::Ports;
 use reo_trace::{Ending, ending_line_text, round_line_text};
-use reo_values::{Bytes, NoMemory};
+use reo_values::{Bytes, NoMemory, append_decimal};
 use std::alloc::Global;
 
 /// The word of a cause.
@@ -26,23 +26,13 @@ fn fault_text(fault: LineRefusal) -> &'static [u8]
     }
 }
 
-/// Adds a number in decimal.
-fn append_number(alloc: Global, text: &mut Bytes, number: u64) -> Result<(), NoMemory>
-    ensures { OnOk result (text.new ≡ text.old ++ decimal number) }
-{
-    match number.to_string(alloc) {
-        Ok(digits) => text.append(digits.as_bytes()),
-        Err(_) => Err(NoMemory),
-    }
-}
-
 /// The line of a refusal.
 #[tactic(auto, unfolding(crate::specs::base::Answers::refusal_text))]
 fn refusal_text(alloc: Global, line: u64, fault: LineRefusal) -> Result<Bytes, NoMemory>
     ensures { IfOk result (λ text. text ≡ refusal_text line fault) }
 {
     let mut text = Bytes::from_slice(alloc, b"line ")?;
-    append_number(alloc, &mut text, line)?;
+    append_decimal(alloc, &mut text, line as u128)?;
     text.append(b": ")?;
     text.append(fault_text(fault))?;
     text.append(b"\n")?;
@@ -55,7 +45,7 @@ fn end_text(alloc: Global, rounds: u64) -> Result<Bytes, NoMemory>
     ensures { IfOk result (λ text. text ≡ end_text rounds) }
 {
     let mut text = Bytes::from_slice(alloc, b"end after ")?;
-    append_number(alloc, &mut text, rounds)?;
+    append_decimal(alloc, &mut text, rounds as u128)?;
     text.append(b" rounds\n")?;
     Ok(text)
 }

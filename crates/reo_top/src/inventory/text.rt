@@ -9,18 +9,8 @@ use crate::inventory::ends::homes_of_ends;
 use crate::inventory::kind::{has_two, number_of, word_of};
 use reo_kinds::Kind;
 use reo_net_circuit::Circuit;
-use reo_values::{Bytes, NoMemory};
+use reo_values::{Bytes, NoMemory, append_decimal};
 use std::alloc::Global;
-
-/// Adds a number in decimal.
-fn append_number(alloc: Global, text: &mut Bytes, number: usize) -> Result<(), NoMemory>
-    ensures { OnOk result (text.new ≡ text.old ++ decimal number) }
-{
-    match number.to_string(alloc) {
-        Ok(digits) => text.append(digits.as_bytes()),
-        Err(_) => Err(NoMemory),
-    }
-}
 
 /// Adds the number behind a word, where there is one.
 fn append_some(alloc: Global, text: &mut Bytes, number: Option<usize>) -> Result<(), NoMemory>
@@ -29,7 +19,7 @@ fn append_some(alloc: Global, text: &mut Bytes, number: Option<usize>) -> Result
     let Some(number) = number else {
         return Ok(());
     };
-    append_number(alloc, text, number)?;
+    append_decimal(alloc, text, number as u128)?;
     text.append(b" ")
 }
 
@@ -57,7 +47,7 @@ fn append_line(
 ) -> Result<(), NoMemory>
     ensures { OnOk result (text.new ≡ text.old ++ line_of number kind.now first.now second.now) }
 {
-    append_number(alloc, text, number)?;
+    append_decimal(alloc, text, number as u128)?;
     text.append(b" ")?;
     text.append(word_of(kind))?;
     text.append(b" ")?;
@@ -77,9 +67,9 @@ fn append_counts(
     ensures { OnOk result (text.new ≡ text.old ++ count_line primitives joints) }
 {
     text.append(b"accepted: ")?;
-    append_number(alloc, text, primitives)?;
+    append_decimal(alloc, text, primitives as u128)?;
     text.append(b" primitives, ")?;
-    append_number(alloc, text, joints)?;
+    append_decimal(alloc, text, joints as u128)?;
     text.append(b" joints\n")
 }
 

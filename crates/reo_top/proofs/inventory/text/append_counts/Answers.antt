@@ -20,5 +20,5 @@ returns c =
     let k = codes " primitives, " in
     let d = decimal c.args.joints in
     let e = codes " joints\n" in
-    then c.append-3.result _ _ (λ last. last ∙ ap (λ t. t ++ e) c.in_ok-append_number-2.ensures ∙ ap (λ t. (t ++ d) ++ e) c.in_ok-append-2.ensures.ok
-    ∙ ap (λ t. ((t ++ k) ++ d) ++ e) c.in_ok-append_number.ensures ∙ ap (λ t. (((t ++ b) ++ k) ++ d) ++ e) c.in_ok-append.ensures.ok ∙ five c.args.text.now a b k d e) c.append-3.ensures.ok
+    then c.append-3.result _ _ (λ last. last ∙ ap (λ t. t ++ e) c.in_ok-append_decimal-2.ensures.ok ∙ ap (λ t. (t ++ d) ++ e) c.in_ok-append-2.ensures.ok
+    ∙ ap (λ t. ((t ++ k) ++ d) ++ e) c.in_ok-append_decimal.ensures.ok ∙ ap (λ t. (((t ++ b) ++ k) ++ d) ++ e) c.in_ok-append.ensures.ok ∙ five c.args.text.now a b k d e) c.append-3.ensures.ok

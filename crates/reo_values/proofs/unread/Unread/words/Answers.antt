@@ -1,7 +1,7 @@
 use Rattle.std.proofs.Common.{◌∙◌, sym}
 use Rattle.std.proofs.lemmas.List.{append_cancel_left}
-use Rattle.reo_trace_reader.proofs.reader.Reader.words.Goals as goal
-use Rattle.reo_trace_reader.proofs.reader.Reader.words.Goals.{else-word-via-then-word+else-word-2, else-word-via-else-word}
+use Rattle.reo_values.proofs.unread.Unread.words.Goals as goal
+use Rattle.reo_values.proofs.unread.Unread.words.Goals.{else-word-via-then-word+else-word-2, else-word-via-else-word}
 
 pub returns-else-word-clause-none : goal.returns-else-word-clause-none
 returns-else-word-clause-none c t rest e =
