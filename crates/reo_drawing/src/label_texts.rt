@@ -6,7 +6,7 @@ mod expr;
 mod item;
 mod laws;
 
-pub use escape::{append_label};
+pub use escape::append_label;
 pub use expr::append_expr;
 pub use item::append_item;
 pub use laws::labels_stay_shut;

@@ -3,7 +3,7 @@ ghost use Rattle.std.specs.Prelude.{◌≡◌, ◌++◌, IfOk, OnOk, slice_get, 
 ghost use Rattle.reo_drawing.specs.Pictures.{node_line, node_lines, name_of, primitive_lines, item_at, joint_lines, head_text, picture_text};
 
 use crate::joint::append_joint;
-use crate::label_texts::{append_label};
+use crate::label_texts::append_label;
 use crate::marks::JointMarks;
 use crate::strand::strand_of;
 use crate::vertex::append_vertex;

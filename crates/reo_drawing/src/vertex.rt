@@ -3,7 +3,7 @@ ghost use Rattle.std.specs.Prelude.{◌≡◌, ◌++◌, OnOk};
 ghost use Rattle.reo_drawing.specs.Vertices.{shape_text, lost_text, vertex_line};
 
 use crate::label::append_kind;
-use crate::label_texts::{append_label};
+use crate::label_texts::append_label;
 use reo_kinds::Kind;
 use reo_values::{Bytes, NoMemory, append_decimal};
 use std::alloc::Global;

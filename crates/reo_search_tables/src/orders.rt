@@ -8,7 +8,7 @@ ghost use Rattle.reo_search_tables.specs.Orders.{AreOrders};
 use reo_knots::Knots;
 use reo_net_base::Primitive;
 use reo_net_circuit::Circuit;
-use reo_side_tables::{giver_side, empty_lists};
+use reo_side_tables::{empty_lists, giver_side};
 use reo_values::{List, NoMemory};
 use std::alloc::Global;
 

@@ -7,13 +7,13 @@ ghost use Rattle.reo_trace_reader.specs.Ends.{Anything, BeginsNoDigit, EndsLine}
 ghost use Rattle.reo_trace_reader.specs.Fronts.{IsAnyLine, IsPart, IsLoad, IsSpent, heading_text, round_front, part_text, load_text, spent_text, ending_front};
 ghost use Rattle.reo_trace_reader.specs.Reads.{Stood, ReadsAgain};
 
-use reo_values::Unread;
 use crate::cells::entries;
 use crate::moves::read_flows;
 use crate::number::number;
 use crate::texts::LineFault;
 use reo_net_base::Ports;
 use reo_trace::{Ending, RoundLine};
+use reo_values::Unread;
 use std::alloc::Global;
 
 /// A number behind this word.

@@ -1,5 +1,5 @@
 -- Laws of comparisons of numbers that several crates use.
-use Rattle.std.proofs.Common.{arith, ◌<◌, nat_lt, true, ℕ, ◌-◌, ◌≡◌, ◌==◌, refl, ◌⊎◌, false, ◌≤◌, inr, inl, ◌≢◌, ◌∷◌, ap, ◌++◌, zero, [], ◌∙◌, List, suc, ◌+◌}
+use Rattle.std.proofs.Common.{arith, ◌<◌, nat_lt, true, ℕ, ◌≡◌, ◌==◌, refl, ◌⊎◌, false, ◌≤◌, inr, inl, ◌≢◌, ◌∷◌, ap, ◌++◌, zero, [], ◌∙◌, List, suc, ◌+◌}
 use Rattle.std.proofs.lemmas.Bool.Decides.{nat_tests, leb_tells}
 use Rattle.std.specs.Prelude.{nat_lt}
 use Rattle.std.specs.Bool.{◌==◌}

@@ -1,20 +1,12 @@
 -- The text of an item.
-use Rattle.std.specs.Prelude.{ℕ, Bool, List, [], ◌∷◌, ◌++◌, codes, slice_index_or, if◌then◌else◌, ◌==◌, ◌||◌}
-use Rattle.std.specs.List.{flat_map}
+use Rattle.std.specs.Prelude.{ℕ, Bool, List, [], ◌∷◌, ◌++◌, codes, slice_index_or, if◌then◌else◌}
 use Rattle.std.specs.Fmt.{signed_decimal}
-use Rattle.reo_values.specs.Bytes.{quote, backslash, opening, comma, closing}
+use Rattle.reo_values.specs.Bytes.{opening, comma, closing}
+pub use Rattle.reo_values.specs.Quoted.{escape, quoted}
 use Rattle.reo_values.specs.declared.value.Value as value
 use Rattle.reo_values.specs.declared.kindred.Kindred as kindred
 use Rattle.reo_values.specs.declared.value.Value.{Value}
 use Rattle.reo_values.specs.declared.kindred.Kindred.{Kindred}
-
--- a quote and a backslash have a backslash before them
-abbrev pub escape : ℕ → List ℕ
-escape byte = if (byte == quote) || (byte == backslash) then backslash ∷ byte ∷ [] else byte ∷ []
-
--- bytes between quotes
-abbrev pub quoted : List ℕ → List ℕ
-quoted bytes = quote ∷ flat_map escape bytes ++ quote ∷ []
 
 -- a truth value's word
 abbrev pub truth_text : Bool → List ℕ

@@ -5,6 +5,7 @@ pub mod Kind
 pub mod Lends
 pub mod Names
 pub mod Pair
+pub mod Quoted
 pub mod Reading
 pub mod Valid
 pub mod formers

@@ -3,7 +3,7 @@ ghost use Rattle.std.specs.Prelude.{◌≡◌, ◌↔◌, IfOk, IsTrue};
 ghost use Rattle.std.specs.List.{All};
 ghost use Rattle.reo_values.specs.Kind.{IsIn, IsPlain};
 
-use crate::{Bytes, List, NoMemory, Shared, Value};
+use crate::{NoMemory, Shared, Symbols, Value};
 
 /// A type of items. Names and pairs are shared: however many copies of a type there are, its names
 /// and its two types lie in memory once.
@@ -17,7 +17,7 @@ pub enum Kindred {
     /// The whole numbers from the first bound to the second, both included.
     Int(i64, i64),
     /// One item for each name.
-    Sym(Shared<List<Bytes>>),
+    Sym(Shared<Symbols>),
     /// The texts of at most so many bytes, each from the space to the tilde.
     Text(u16),
     /// The pairs of an item of each of two types.
