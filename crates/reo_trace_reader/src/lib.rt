@@ -8,7 +8,7 @@ mod lines;
 mod moves;
 mod number;
 mod reading;
-mod texts;
+pub mod texts;
 
 pub use reading::{read_line, read_trace};
 pub use reo_trace::{
