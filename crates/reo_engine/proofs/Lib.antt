@@ -9,3 +9,4 @@ mod Fresh
 pub mod Treating
 pub mod Going
 pub mod Resting
+pub mod MadeLemmas

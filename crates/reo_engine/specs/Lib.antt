@@ -3,6 +3,7 @@ pub mod Changes
 pub mod Suited
 pub mod Isolation
 pub mod Settled
+pub mod MadeRounds
 pub mod MadeWithin
 pub mod Flows
 pub mod Goers

@@ -21,7 +21,7 @@ mod renewing;
 mod rounds;
 
 pub use engine::Engine;
-pub use laws::plans_suit;
+pub use laws::{made_rounds_are_rounds, plans_suit};
 pub use planning::plan_with;
 pub use reo_round::MadeRound;
 pub use reo_rounds::{Declined, Done, OfferFault, Plan, PlanFault, PlannedRound};

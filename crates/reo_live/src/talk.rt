@@ -10,6 +10,7 @@ mod lines;
 mod live;
 mod offers;
 mod open_line;
+mod reply;
 mod rounds;
 mod texts;
 

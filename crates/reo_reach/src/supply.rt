@@ -49,7 +49,8 @@ impl Supply {
         ensures marks { IfOk result (λ supply. length supply.wide ≡ joints) }
         ensures short { IfOk result AreShort }
     {
-        let items = empty_lists(alloc, joints)?.into_vec();
+        let lists = empty_lists(alloc, joints)?;
+        let items = lists.into_vec();
         let wide = no_marks(alloc, joints)?;
         Ok(Supply { items, wide })
     }

@@ -1,51 +1,71 @@
 //! Answers that are written.
-ghost use Rattle.std.specs.Prelude.{◌≡◌, ◌<◌, ◌≤◌, OnOk, IsErrOf, Err};
+ghost use Rattle.std.specs.Prelude.{◌≡◌, ◌<◌, ◌≤◌, List, Option, IfOk, OnOk, IsErrOf, Err};
 ghost use Rattle.reo_io.specs.Causes.{Rose};
 ghost use Rattle.reo_io.specs.Sinks.{Appended, TookPart};
+ghost use Rattle.reo_net_base.specs.declared.port.Port.{Port as APort};
 ghost use Rattle.reo_live.specs.base.Answers.{answer_text};
+ghost use Rattle.reo_live.specs.declared.base.answer.Answer.{Answer as AnAnswer};
+ghost use Rattle.reo_live.specs.talk.Replies.{Tells, TellsIf};
 ghost use Rattle.reo_live.specs.talk.Fed.{Responds};
 ghost use Rattle.reo_live.specs.talk.Outcomes.{outcome_of};
 ghost use Rattle.reo_live.specs.declared.talk.fault.LiveFault.TheVariants as faults;
 
 use crate::base::Answer;
 use crate::talk::fault::{Going, LiveFault};
+use crate::talk::reply::Reply;
 use crate::talk::texts::answer_text;
 use reo_io::{Sink, put_all};
 use reo_net_base::Ports;
 use reo_trace::WriteFault;
+use reo_values::{Bytes, NoMemory};
 use std::alloc::Global;
 
-/// Writes an answer. The whole line is made first, and then put.
-fn write_answer<S: Sink>(
+/// The text of what is told, line feed included. `NoMemory` is out of memory.
+fn text_of(alloc: Global, ports: &Ports, reply: Reply) -> Result<Bytes, NoMemory>
+    ensures { (answer : AnAnswer) → Tells ports.now.list reply answer
+        → IfOk result (λ text. text ≡ answer_text ports.now.list answer) }
+{
+    match reply {
+        Reply::Made(text) => Ok(text),
+        Reply::Other(answer) => answer_text(alloc, ports, &answer),
+    }
+}
+
+/// Writes what is told. The whole line is made first, and then put.
+fn write_reply<S: Sink>(
     alloc: Global,
     ports: &Ports,
-    answer: &Answer,
+    reply: Reply,
     out: &mut S,
 ) -> Result<(), WriteFault>
-    ensures ok { OnOk result (Appended (S.told out.old) (S.told out.new)
-        (answer_text ports.now.list answer.now)) }
-    ensures failed { IsErrOf result WriteFault.Failed
-        → TookPart (S.told out.old) (S.told out.new) (answer_text ports.now.list answer.now) }
+    ensures ok { (answer : AnAnswer) → Tells ports.now.list reply answer
+        → OnOk result (Appended (S.told out.old) (S.told out.new)
+        (answer_text ports.now.list answer)) }
+    ensures failed { (answer : AnAnswer) → Tells ports.now.list reply answer
+        → IsErrOf result WriteFault.Failed
+        → TookPart (S.told out.old) (S.told out.new) (answer_text ports.now.list answer) }
     ensures cause { IsErrOf result WriteFault.Failed → Rose (S.faults out.old) (S.faults out.new) }
     ensures memory { IsErrOf result WriteFault.NoMemory → out.new ≡ out.old }
     ensures count { S.faults out.old ≤ S.faults out.new }
     ensures risen { S.faults out.old < S.faults out.new → IsErrOf result WriteFault.Failed }
 {
-    let text = answer_text(alloc, ports, answer)?;
+    let text = text_of(alloc, ports, reply)?;
     put_all(text.as_slice(), out)?;
     Ok(())
 }
 
-/// What is returned behind an answer that was written.
-fn outcome_of(answer: &Answer) -> Result<Going, LiveFault>
-    ensures { result ≡ outcome_of answer.now }
+/// What is returned behind what was told.
+fn outcome_of(reply: &Reply) -> Result<Going, LiveFault>
+    ensures { (ports : List APort) (answer : AnAnswer) → Tells ports reply.now answer
+        → result ≡ outcome_of answer }
 {
-    match answer {
-        Answer::Refused { .. } => Ok(Going::More),
-        Answer::Made { .. } => Ok(Going::More),
-        Answer::Ended { .. } => Ok(Going::Ended),
-        Answer::Wide { knot, .. } => Err(LiveFault::Wide { knot: *knot }),
-        Answer::Spent { knot, weight, .. } => {
+    match reply {
+        Reply::Made(_) => Ok(Going::More),
+        Reply::Other(Answer::Refused { .. }) => Ok(Going::More),
+        Reply::Other(Answer::Made { .. }) => Ok(Going::More),
+        Reply::Other(Answer::Ended { .. }) => Ok(Going::Ended),
+        Reply::Other(Answer::Wide { knot, .. }) => Err(LiveFault::Wide { knot: *knot }),
+        Reply::Other(Answer::Spent { knot, weight, .. }) => {
             let weight = *weight;
             Err(LiveFault::Spent {
                 knot: *knot,
@@ -55,24 +75,25 @@ fn outcome_of(answer: &Answer) -> Result<Going, LiveFault>
     }
 }
 
-/// Writes the answer to a line, where it has one.
+/// Writes what is told of a line, where it has an answer.
 pub(crate) fn respond<S: Sink>(
     alloc: Global,
     ports: &Ports,
-    answer: &Option<Answer>,
+    reply: Option<Reply>,
     out: &mut S,
 ) -> Result<Going, LiveFault>
-    ensures responds { Responds ports.now.list (S.told out.old) (S.told out.new)
-        answer.now result }
+    ensures responds { (answer : Option AnAnswer) → TellsIf ports.now.list reply answer
+        → Responds ports.now.list (S.told out.old) (S.told out.new) answer result }
     ensures cause { result ≡ Err faults.Failed → Rose (S.faults out.old) (S.faults out.new) }
     ensures later { S.faults out.old ≤ S.faults out.new }
     ensures risen { S.faults out.old < S.faults out.new → result ≡ Err faults.Failed }
 {
-    let Some(answer) = answer else {
+    let Some(reply) = reply else {
         return Ok(Going::More);
     };
-    match write_answer(alloc, ports, answer, out) {
-        Ok(()) => outcome_of(answer),
+    let outcome = outcome_of(&reply);
+    match write_reply(alloc, ports, reply, out) {
+        Ok(()) => outcome,
         Err(WriteFault::Failed) => Err(LiveFault::Failed),
         Err(WriteFault::NoMemory) => Err(LiveFault::NoMemory),
     }

@@ -1,10 +1,12 @@
 //! The end of the input.
-ghost use Rattle.std.specs.Prelude.{◌≡◌, ◌<◌, ◌≤◌, ◌+◌, ◌^◌, All, false, IfOk, Err};
+ghost use Rattle.std.specs.Prelude.{◌≡◌, ◌<◌, ◌≤◌, ◌+◌, ◌^◌, All, false, IfOk, Err, ◌×◌, Option};
 ghost use Rattle.reo_io.specs.Causes.{Rose};
 ghost use Rattle.reo_rules.specs.literals.Items.{HasFewNames};
 ghost use Rattle.reo_net_base.specs.declared.port.Port.{Port as APort};
 ghost use Rattle.reo_rounds.specs.Rules.{rules_of};
 ghost use Rattle.reo_live.specs.base.Hearing.{Judges};
+ghost use Rattle.reo_live.specs.declared.base.answer.Answer.{Answer as AnAnswer};
+ghost use Rattle.reo_live.specs.talk.Replies.{TellsIf};
 ghost use Rattle.reo_live.specs.talk.Fed.{IsClosed, IsFinished, Judged};
 ghost use Rattle.reo_live.specs.talk.Outcomes.{is_over};
 ghost use Rattle.reo_live.specs.talk.Talks.{stand_of, live_of, told_by};
@@ -15,6 +17,7 @@ use crate::talk::answering::respond;
 use crate::talk::fault::{Going, LiveFault};
 use crate::talk::judging::{judge, too_long};
 use crate::talk::open_line::OpenLine;
+use crate::talk::reply::Reply;
 use reo_engine::Engine;
 use reo_io::Sink;
 use reo_net_base::{Ported, Ports};
@@ -30,14 +33,15 @@ fn judge_last<P: Ported>(
     budget: u64,
     lines: u64,
     line: &OpenLine,
-) -> Result<Option<Answer>, NoMemory>
+) -> Result<Option<Reply>, NoMemory>
     requires small { budget < 10 ^ 18 }
     requires few { engine.old.rounds < 2 ^ 63 }
     requires fewer { lines + 1 < 2 ^ 63 }
     requires names { All (λ (p : APort). HasFewNames p.kindred) ports.now.list }
     ensures judges { let r = rules_of P.behaviour P.settled P.port_state P.placed P.withdrawn in
         let stand = stand_of engine.old lines false in
-        IfOk result (λ answer. Judges r ports.now.list budget stand line.now
+        IfOk result (λ reply. (answer : Option AnAnswer) × TellsIf ports.now.list reply answer
+        × Judges r ports.now.list budget stand line.now
         (told_by engine.new (lines + 1) answer)) }
     ensures rounds { engine.new.rounds ≤ engine.old.rounds + 1 }
 {
@@ -70,8 +74,8 @@ fn hear_last<P: Ported, S: Sink>(
     ensures later { S.faults out.old ≤ S.faults out.new }
     ensures risen { S.faults out.old < S.faults out.new → result ≡ Err faults.Failed }
 {
-    let answer = judge_last(alloc, engine, ports, budget, lines, line)?;
-    respond(alloc, ports, &answer, out)
+    let reply = judge_last(alloc, engine, ports, budget, lines, line)?;
+    respond(alloc, ports, reply, out)
 }
 
 /// Writes that nothing further is judged, after so many rounds.
@@ -81,8 +85,8 @@ fn close<S: Sink>(alloc: Global, ports: &Ports, rounds: u64, out: &mut S) -> Res
     ensures later { S.faults out.old ≤ S.faults out.new }
     ensures risen { S.faults out.old < S.faults out.new → result ≡ Err faults.Failed }
 {
-    let answer = Some(Answer::Ended { rounds });
-    match respond(alloc, ports, &answer, out) {
+    let reply = Some(Reply::Other(Answer::Ended { rounds }));
+    match respond(alloc, ports, reply, out) {
         Ok(_) => Ok(()),
         Err(fault) => Err(fault),
     }

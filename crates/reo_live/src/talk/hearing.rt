@@ -1,22 +1,25 @@
 //! Lines that are heard, and pieces.
-ghost use Rattle.std.specs.Prelude.{◌≡◌, ◌<◌, ◌≤◌, ◌+◌, ◌^◌, ◌⊎◌, length, All, [], false, IfOk, Err};
+ghost use Rattle.std.specs.Prelude.{◌≡◌, ◌<◌, ◌≤◌, ◌+◌, ◌^◌, ◌⊎◌, length, All, [], false, IfOk, Err, ◌×◌, Option};
 ghost use Rattle.reo_io.specs.Causes.{Rose};
 ghost use Rattle.reo_rules.specs.literals.Items.{HasFewNames};
 ghost use Rattle.reo_net_base.specs.declared.port.Port.{Port as APort};
 ghost use Rattle.reo_rounds.specs.Rules.{rules_of};
 ghost use Rattle.reo_live.specs.base.Held.{short, joined};
 ghost use Rattle.reo_live.specs.base.Hearing.{Judges, cleaned};
+ghost use Rattle.reo_live.specs.declared.base.answer.Answer.{Answer as AnAnswer};
+ghost use Rattle.reo_live.specs.talk.Replies.{TellsIf};
 ghost use Rattle.reo_live.specs.talk.Fed.{Judged, IsFed};
 ghost use Rattle.reo_live.specs.talk.Outcomes.{is_over};
 ghost use Rattle.reo_live.specs.talk.Talks.{stand_of, live_of, told_by};
 ghost use Rattle.reo_live.specs.declared.talk.fault.LiveFault.TheVariants as faults;
 
-use crate::base::{Answer, hearing_exists};
+use crate::base::hearing_exists;
 use crate::talk::answering::respond;
 use crate::talk::fault::{Going, LiveFault};
 use crate::talk::judging::{judge, too_long};
 use crate::talk::lines::{cut_line, without_return};
 use crate::talk::open_line::OpenLine;
+use crate::talk::reply::Reply;
 use reo_engine::Engine;
 use reo_io::Sink;
 use reo_net_base::{Ported, Ports};
@@ -32,14 +35,15 @@ fn judge_ended<P: Ported>(
     budget: u64,
     lines: u64,
     line: &OpenLine,
-) -> Result<Option<Answer>, NoMemory>
+) -> Result<Option<Reply>, NoMemory>
     requires small { budget < 10 ^ 18 }
     requires few { engine.old.rounds < 2 ^ 63 }
     requires fewer { lines + 1 < 2 ^ 63 }
     requires names { All (λ (p : APort). HasFewNames p.kindred) ports.now.list }
     ensures judges { let r = rules_of P.behaviour P.settled P.port_state P.placed P.withdrawn in
         let stand = stand_of engine.old lines false in
-        IfOk result (λ answer. Judges r ports.now.list budget stand (cleaned line.now)
+        IfOk result (λ reply. (answer : Option AnAnswer) × TellsIf ports.now.list reply answer
+        × Judges r ports.now.list budget stand (cleaned line.now)
         (told_by engine.new (lines + 1) answer)) }
     ensures rounds { engine.new.rounds ≤ engine.old.rounds + 1 }
 {
@@ -79,9 +83,9 @@ fn hear_line<P: Ported, S: Sink>(
     line.join(bytes)?;
     let before = *lines;
     *lines += 1;
-    let answer = judge_ended(alloc, engine, ports, budget, before, line)?;
+    let reply = judge_ended(alloc, engine, ports, budget, before, line)?;
     line.clear();
-    respond(alloc, ports, &answer, out)
+    respond(alloc, ports, reply, out)
 }
 
 /// Hears a piece, and writes the answers to the lines that it ends.

@@ -1,64 +1,81 @@
 //! Rounds that are made by events.
-ghost use Rattle.std.specs.Prelude.{◌≡◌, ◌<◌, ◌≤◌, ◌+◌, ◌^◌, ℕ, IfOk, Ok, Some, MatchResult, false};
-ghost use Rattle.reo_rounds.specs.Plans.{IsPlannedRound, IsPlanFault};
+ghost use Rattle.std.specs.Prelude.{◌≡◌, ◌<◌, ◌≤◌, ◌+◌, ◌^◌, ◌×◌, ℕ, IfOk, Ok, Some, MatchResult, false};
+ghost use Rattle.reo_trace.specs.Entries.{line_for};
+ghost use Rattle.reo_trace.specs.RoundText.{round_text};
+ghost use Rattle.reo_rounds.specs.Plans.{IsPlanFault};
 ghost use Rattle.reo_rounds.specs.Rules.{rules_of};
 ghost use Rattle.reo_script.specs.declared.scripts.event.Event.TheVariants.{Round as RoundEvent};
 ghost use Rattle.reo_engine.specs.Engine.{net_now};
+ghost use Rattle.reo_engine.specs.MadeWithin.{IsMadeWithin};
 ghost use Rattle.reo_live.specs.base.Events.{Does};
+ghost use Rattle.reo_live.specs.declared.base.answer.Answer.{Answer as AnAnswer};
+ghost use Rattle.reo_live.specs.talk.Replies.{Tells};
 ghost use Rattle.reo_live.specs.talk.Rounds.{IsStopOf};
 ghost use Rattle.reo_live.specs.talk.Talks.{stand_of, told_by};
 
 use crate::base::Answer;
-use reo_engine::{Engine, PlanFault, PlannedRound};
-use reo_net_base::Ported;
-use reo_rounds::planned_rounds_are_made;
+use crate::talk::reply::Reply;
+use reo_engine::{Engine, MadeRound, PlanFault, made_rounds_are_rounds};
+use reo_net_base::{Ported, Ports};
 use reo_steps::Steps;
-use reo_values::NoMemory;
+use reo_values::{Bytes, NoMemory};
 use std::alloc::Global;
 use std::marker::Brand;
 use std::sync::ledger::{Blank, Ledger};
 
-/// The plan of the round that comes next, its steps counted in a book.
-fn plan_counted<P: Ported, L: Ledger>(
+/// What the round that comes next makes, and the text of its line, its steps counted in a book.
+fn make_counted<P: Ported, L: Ledger>(
     alloc: Global,
     engine: &mut Engine<P>,
+    ports: &Ports,
     budget: u64,
     blank: Blank,
-) -> Result<PlannedRound, PlanFault>
+) -> Result<(MadeRound, Bytes), PlanFault>
     requires name { blank.name ≡ L.name }
     requires parts { blank.parts ≡ L.parts }
     requires some_part { 0 < L.parts }
     requires small { budget < 10 ^ 18 }
     ensures exact { let net = net_now P.behaviour engine.old in
         let turn = engine.old.rounds + 1 in
-        MatchResult result (IsPlannedRound budget net engine.old.circuit.ports turn)
+        MatchResult result (λ made. IsMadeWithin budget net engine.old.circuit.ports turn made.0)
         (IsPlanFault budget net) }
-    ensures circuit { engine.new.circuit ≡ engine.old.circuit }
-    ensures rounds { engine.new.rounds ≡ engine.old.rounds }
+    ensures text { let net = net_now P.behaviour engine.old in
+        let turn = engine.old.rounds + 1 in
+        IfOk result (λ made.
+        let line = line_for net turn made.0.colouring.rows made.0.line.moves in
+        made.1 ≡ round_text ports.now.list line) }
+    ensures stays { engine.new ≡ record engine.old { kept = engine.new.kept } }
+    ensures same { IfOk result (λ made. made.0.colouring.rows ≡ engine.new.kept.rows) }
 {
     let mut steps = Steps::<L>::new(blank);
-    engine.plan_round(alloc, budget, &mut steps)
+    engine.make_round(alloc, ports, budget, &mut steps)
 }
 
-/// The plan of the round that comes next.
-fn plan_next<P: Ported>(
+/// What the round that comes next makes, and the text of its line.
+fn make_next<P: Ported>(
     alloc: Global,
     engine: &mut Engine<P>,
+    ports: &Ports,
     budget: u64,
-) -> Result<PlannedRound, PlanFault>
+) -> Result<(MadeRound, Bytes), PlanFault>
     requires small { budget < 10 ^ 18 }
     ensures exact { let net = net_now P.behaviour engine.old in
         let turn = engine.old.rounds + 1 in
-        MatchResult result (IsPlannedRound budget net engine.old.circuit.ports turn)
+        MatchResult result (λ made. IsMadeWithin budget net engine.old.circuit.ports turn made.0)
         (IsPlanFault budget net) }
-    ensures circuit { engine.new.circuit ≡ engine.old.circuit }
-    ensures rounds { engine.new.rounds ≡ engine.old.rounds }
+    ensures text { let net = net_now P.behaviour engine.old in
+        let turn = engine.old.rounds + 1 in
+        IfOk result (λ made.
+        let line = line_for net turn made.0.colouring.rows made.0.line.moves in
+        made.1 ≡ round_text ports.now.list line) }
+    ensures stays { engine.new ≡ record engine.old { kept = engine.new.kept } }
+    ensures same { IfOk result (λ made. made.0.colouring.rows ≡ engine.new.kept.rows) }
 {
     let blank = Blank::new(1);
-    plan_counted::<P, Brand>(alloc, engine, budget, blank)
+    make_counted::<P, Brand>(alloc, engine, ports, budget, blank)
 }
 
-/// The answer that says why the round of a number cannot be planned.
+/// The answer that says why the round of a number cannot be made.
 fn stop(round: u64, budget: u64, fault: PlanFault) -> Result<Answer, NoMemory>
     ensures { IfOk result (IsStopOf round budget fault) }
 {
@@ -80,27 +97,29 @@ fn stop(round: u64, budget: u64, fault: PlanFault) -> Result<Answer, NoMemory>
     }
 }
 
-/// Makes the round that comes next, and answers its line; where it cannot be planned, why.
-/// `NoMemory` is out of memory.
+/// Makes the round that comes next, and answers its line; where it cannot be made, why. `NoMemory`
+/// is out of memory.
 pub(crate) fn answer_round<P: Ported>(
     alloc: Global,
     engine: &mut Engine<P>,
+    ports: &Ports,
     budget: u64,
-) -> Result<Answer, NoMemory>
+) -> Result<Reply, NoMemory>
     requires small { budget < 10 ^ 18 }
     requires few { engine.old.rounds < 2 ^ 63 }
     ensures does { let r = rules_of P.behaviour P.settled P.port_state P.placed P.withdrawn in
-        (lines : ℕ) → IfOk result (λ answer. Does r budget (stand_of engine.old lines false)
-        (Ok RoundEvent) (told_by engine.new (lines + 1) (Some answer))) }
+        (lines : ℕ) → IfOk result (λ reply. (answer : AnAnswer) × Tells ports.now.list reply answer
+        × Does r budget (stand_of engine.old lines false) (Ok RoundEvent)
+        (told_by engine.new (lines + 1) (Some answer))) }
     ensures rounds { engine.new.rounds ≤ engine.old.rounds + 1 }
 {
-    planned_rounds_are_made::<P>();
-    match plan_next(alloc, engine, budget) {
-        Ok(planned) => {
-            let PlannedRound { plan, line } = planned;
-            let _done = engine.commit(plan);
-            Ok(Answer::Made { line })
+    made_rounds_are_rounds::<P>();
+    match make_next(alloc, engine, ports, budget) {
+        Ok(made) => {
+            let (round, text) = made;
+            let _line = engine.finish_round(round);
+            Ok(Reply::Made(text))
         }
-        Err(fault) => stop(engine.rounds() + 1, budget, fault),
+        Err(fault) => Ok(Reply::Other(stop(engine.rounds() + 1, budget, fault)?)),
     }
 }

@@ -10,5 +10,6 @@ returns-clause-judged g c =
     let r = rules_of g.P.Primitive.behaviour g.P.Primitive.settled g.P.Ported.port_state g.P.Ported.placed g.P.Ported.withdrawn in
     let ports = c.args.ports.now.list in
     let stand = stand_of c.args.engine.now c.args.lines false in
+    let is = c.in_ok-reply.ensures.judges in
     responded (Judges r ports c.args.budget stand c.args.line.now) ports (g.S.Sink.told c.args.out.now) (g.S.Sink.told c.respond.new.out) c.judge_last.new.engine (c.args.lines + 1)
-    c.in_ok-answer.answer c.in_ok-answer.ensures.judges c.respond.result c.respond.ensures.responds
+    is.0 is.2 c.respond.result (c.respond.ensures.responds is.0 is.1)

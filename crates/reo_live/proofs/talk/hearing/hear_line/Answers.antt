@@ -12,7 +12,8 @@ returns-clause-judged g c =
     let ports = c.args.ports.now.list in
     let budget = c.args.budget in
     let stand = stand_of c.args.engine.now c.args.lines.now false in
-    let told = told_by c.judge_ended.new.engine (c.args.lines.now + 1) c.in_ok-answer.answer in
-    let judges = subst (λ (h : Held). Judges r ports budget stand (cleaned h) told) c.in_ok-join.ensures c.in_ok-answer.ensures.judges in
+    let is = c.in_ok-reply.ensures.judges in
+    let told = told_by c.judge_ended.new.engine (c.args.lines.now + 1) is.0 in
+    let judges = subst (λ (h : Held). Judges r ports budget stand (cleaned h) told) c.in_ok-join.ensures is.2 in
     responded (Judges r ports budget stand (cleaned (joined c.args.line.now c.args.bytes.now))) ports (g.S.Sink.told c.args.out.now) (g.S.Sink.told c.respond.new.out)
-    c.judge_ended.new.engine (c.args.lines.now + 1) c.in_ok-answer.answer judges c.respond.result c.respond.ensures.responds
+    c.judge_ended.new.engine (c.args.lines.now + 1) is.0 judges c.respond.result (c.respond.ensures.responds is.0 is.1)

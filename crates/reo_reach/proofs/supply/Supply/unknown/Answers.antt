@@ -11,7 +11,7 @@ empty_short (suc n) zero = omega arith
 empty_short (suc n) (suc j) = empty_short n j
 
 pub returns-clause-lists : goal.returns-clause-lists
-returns-clause-lists c = ap length c.in_ok-items.ensures ∙ length-replicate c.args.joints []
+returns-clause-lists c = ap length (c.into_vec-items.ensures ∙ c.in_ok-lists.ensures) ∙ length-replicate c.args.joints []
 
 pub returns-clause-short : goal.returns-clause-short
-returns-clause-short c j = subst (λ (xs : List (List Value)). length (get_or xs j []) ≤ 257) (sym c.in_ok-items.ensures) (empty_short c.args.joints j)
+returns-clause-short c j = subst (λ (xs : List (List Value)). length (get_or xs j []) ≤ 257) (sym (c.into_vec-items.ensures ∙ c.in_ok-lists.ensures)) (empty_short c.args.joints j)
