@@ -1,5 +1,5 @@
 -- What is seen of the value of an expression.
-use Rattle.std.proofs.Common.{Bor, ◌+◌, Bool, true, false, ◌&&◌, ◌≡◌, ◌≢◌, ◌∙◌, ℤ, pos, Some, ap, sym, subst, refl, arith}
+use Rattle.std.proofs.Common.{Bor, ◌+◌, true, false, ◌&&◌, ◌≡◌, ◌≢◌, ◌∙◌, ℤ, pos, Some, ap, sym, subst, refl, arith}
 use Rattle.std.specs.Prelude.{◌≤ℤ◌, int_le, option_and_then}
 use Rattle.std.proofs.lemmas.Int.{ints}
 use denote.Hole.Carrier.{hidden}

@@ -1,5 +1,5 @@
 //! Expressions over an item.
-use reo_values::{Binary, Boxed, Bytes, List, Unary};
+use reo_values::{Binary, Boxed, Bytes, Shared, Symbols, Unary};
 
 /// An expression over the item `it`, its names resolved.
 #[cycle(expr)]
@@ -15,8 +15,8 @@ pub enum Expr {
     Int(i64),
     /// A text of printable bytes.
     Text(Bytes),
-    /// The name at this place, from 0, among the names of its type.
-    Sym(List<Bytes>, u16),
+    /// The name at this place, from 0, among the names of its type, which are shared.
+    Sym(Shared<Symbols>, u16),
     /// An operator with its operand.
     One(Unary, Boxed<Expr>),
     /// An operator with its two operands.

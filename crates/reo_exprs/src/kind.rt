@@ -6,21 +6,21 @@ ghost use Rattle.reo_exprs.specs.Typing.{unary_kind, binary_kind, if_kind, kind_
 use crate::Expr;
 use crate::kinds::{interval_of, is_bool, joins, kind_of};
 use crate::parts::{left_type, may_choose, provided, right_type};
-use reo_values::{Binary, Boxed, Copies, Kindred, NoMemory, Twins, Unary};
+use reo_values::{Binary, Kindred, NoMemory, Shared, Twins, Unary};
 use std::alloc::Global;
 
-fn one_kind(op: Unary, x: Kindred) -> Option<Kindred>
-    requires { bare x ≡ x }
-    ensures { result ≡ unary_kind op x }
+fn one_kind(op: Unary, x: &Kindred) -> Result<Option<Kindred>, NoMemory>
+    requires { bare x.now ≡ x.now }
+    ensures { IfOk result (λ made. made ≡ unary_kind op x.now) }
 {
     match op {
-        Unary::Not => provided(is_bool(&x), Kindred::Bool),
-        Unary::Minus => provided(interval_of(&x).is_some(), Kindred::Int(0, 0)),
+        Unary::Not => Ok(provided(is_bool(x), Kindred::Bool)),
+        Unary::Minus => Ok(provided(interval_of(x).is_some(), Kindred::Int(0, 0))),
         Unary::First => left_type(x),
         Unary::Second => right_type(x),
         Unary::Length => match x {
-            Kindred::Text(_) => Some(Kindred::Int(0, 0)),
-            _ => None,
+            Kindred::Text(_) => Ok(Some(Kindred::Int(0, 0))),
+            _ => Ok(None),
         },
     }
 }
@@ -47,7 +47,7 @@ fn two_kind(alloc: Global, op: Binary, x: Kindred, y: Kindred) -> Result<Option<
     match op {
         Binary::Pair => {
             let twins = Twins { left: x, right: y };
-            Ok(Some(Kindred::Pair(Boxed::new(alloc, twins)?)))
+            Ok(Some(Kindred::Pair(Shared::new(alloc, twins)?)))
         }
         _ => Ok(flat_kind(op, &x, &y)),
     }
@@ -72,9 +72,9 @@ pub fn kind_of_expr(alloc: Global, expr: &Expr, of: &Kindred) -> Result<Option<K
         Expr::Bool(_) => Ok(Some(Kindred::Bool)),
         Expr::Int(_) => Ok(Some(Kindred::Int(0, 0))),
         Expr::Text(_) => Ok(Some(Kindred::Text(0))),
-        Expr::Sym(names, _) => Ok(Some(Kindred::Sym(names.copied(alloc)?))),
+        Expr::Sym(names, _) => Ok(Some(Kindred::Sym(names.share()?))),
         Expr::One(op, operand) => match kind_of_expr(alloc, operand.get(), of)? {
-            Some(x) => Ok(one_kind(*op, x)),
+            Some(x) => one_kind(*op, &x),
             None => Ok(None),
         },
         Expr::Two(op, pair) => {

@@ -1,10 +1,9 @@
 //! Kinds of types, and types that join.
-ghost use Rattle.std.specs.Prelude.{◌≡◌, ◌↔◌, IfOk, IsTrue, Some, None, bytes_eq};
-ghost use Rattle.std.specs.Cmp.Lexicographic.{pointwise};
+ghost use Rattle.std.specs.Prelude.{◌≡◌, ◌↔◌, IfOk, IsTrue, Some, None};
 ghost use Rattle.reo_exprs.specs.Kinds.{kind_of, joins, join_of, LiesInside, is_within, interval_of, is_bool};
 
 use crate::interval::{Interval, is_near};
-use reo_values::{Boxed, Bytes, Copies, Kindred, NoMemory, Twins, copy_kindred};
+use reo_values::{Kindred, NoMemory, Shared, Twins, copy_kindred};
 use std::alloc::Global;
 
 /// The kind of a type: the type with each bound and each length 0. `NoMemory` means out of memory.
@@ -15,24 +14,14 @@ pub fn kind_of(alloc: Global, kindred: &Kindred) -> Result<Kindred, NoMemory>
         Kindred::Unit => Ok(Kindred::Unit),
         Kindred::Bool => Ok(Kindred::Bool),
         Kindred::Int(_, _) => Ok(Kindred::Int(0, 0)),
-        Kindred::Sym(names) => Ok(Kindred::Sym(names.copied(alloc)?)),
+        Kindred::Sym(names) => Ok(Kindred::Sym(names.share()?)),
         Kindred::Text(_) => Ok(Kindred::Text(0)),
         Kindred::Pair(twins) => {
             let twins = twins.get();
             let left = kind_of(alloc, &twins.left)?;
             let right = kind_of(alloc, &twins.right)?;
-            Ok(Kindred::Pair(Boxed::new(alloc, Twins { left, right })?))
+            Ok(Kindred::Pair(Shared::new(alloc, Twins { left, right })?))
         }
-    }
-}
-
-fn same_names(a: &[Bytes], b: &[Bytes]) -> bool
-    ensures { result ≡ pointwise bytes_eq a.now b.now }
-{
-    match (a.split_first(), b.split_first()) {
-        (Some((x, xs)), Some((y, ys))) => x.as_slice() == y.as_slice() && same_names(xs, ys),
-        (None, None) => true,
-        _ => false,
     }
 }
 
@@ -44,7 +33,7 @@ pub fn joins(a: &Kindred, b: &Kindred) -> bool
         (Kindred::Unit, Kindred::Unit) => true,
         (Kindred::Bool, Kindred::Bool) => true,
         (Kindred::Int(_, _), Kindred::Int(_, _)) => true,
-        (Kindred::Sym(x), Kindred::Sym(y)) => same_names(x.as_slice(), y.as_slice()),
+        (Kindred::Sym(x), Kindred::Sym(y)) => x.get().same(y.get()),
         (Kindred::Text(_), Kindred::Text(_)) => true,
         (Kindred::Pair(x), Kindred::Pair(y)) => {
             let (x, y) = (x.get(), y.get());
@@ -65,25 +54,25 @@ pub fn join(alloc: Global, a: &Kindred, b: &Kindred) -> Result<Kindred, NoMemory
                 let (low, high, low2, high2) = (*low, *high, *low2, *high2);
                 Ok(Kindred::Int(low.min(low2), high.max(high2)))
             }
-            _ => copy_kindred(alloc, a),
+            _ => copy_kindred(a),
         },
         Kindred::Text(most) => match b {
             Kindred::Text(most2) => {
                 let (most, most2) = (*most, *most2);
                 Ok(Kindred::Text(most.max(most2)))
             }
-            _ => copy_kindred(alloc, a),
+            _ => copy_kindred(a),
         },
         Kindred::Pair(x) => match b {
             Kindred::Pair(y) => {
                 let (x, y) = (x.get(), y.get());
                 let left = join(alloc, &x.left, &y.left)?;
                 let right = join(alloc, &x.right, &y.right)?;
-                Ok(Kindred::Pair(Boxed::new(alloc, Twins { left, right })?))
+                Ok(Kindred::Pair(Shared::new(alloc, Twins { left, right })?))
             }
-            _ => copy_kindred(alloc, a),
+            _ => copy_kindred(a),
         },
-        _ => copy_kindred(alloc, a),
+        _ => copy_kindred(a),
     }
 }
 
@@ -96,7 +85,7 @@ pub fn lies_inside(a: &Kindred, b: &Kindred) -> bool
         (Kindred::Unit, Kindred::Unit) => true,
         (Kindred::Bool, Kindred::Bool) => true,
         (Kindred::Int(low, high), Kindred::Int(low2, high2)) => *low2 <= *low && *high <= *high2,
-        (Kindred::Sym(x), Kindred::Sym(y)) => same_names(x.as_slice(), y.as_slice()),
+        (Kindred::Sym(x), Kindred::Sym(y)) => x.get().same(y.get()),
         (Kindred::Text(most), Kindred::Text(most2)) => *most <= *most2,
         (Kindred::Pair(x), Kindred::Pair(y)) => {
             let (x, y) = (x.get(), y.get());

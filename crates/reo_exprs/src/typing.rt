@@ -10,7 +10,7 @@ use crate::kind::kind_of_expr;
 use crate::kinds::{interval_of, is_bool, is_within, join, joins};
 use crate::parts::{left_type, may_choose, provided, right_type};
 use crate::{Expr, TypeFault};
-use reo_values::{Binary, Boxed, Copies, Kindred, NoMemory, Twins, Unary, copy_kindred};
+use reo_values::{Binary, Kindred, NoMemory, Shared, Twins, Unary, copy_kindred};
 use std::alloc::Global;
 
 // The type, where its bounds lie from -10^18 to 10^18.
@@ -29,18 +29,18 @@ fn minus_type(x: &Kindred) -> Option<Kindred>
     Some(Kindred::Int(made.low, made.high))
 }
 
-fn one_type(op: Unary, x: Kindred) -> Option<Kindred>
-    requires { IsTrue (is_within x) }
-    ensures { result ≡ unary_within op x }
+fn one_type(op: Unary, x: &Kindred) -> Result<Option<Kindred>, NoMemory>
+    requires { IsTrue (is_within x.now) }
+    ensures { IfOk result (λ made. made ≡ unary_within op x.now) }
 {
     match op {
-        Unary::Not => provided(is_bool(&x), Kindred::Bool),
-        Unary::Minus => minus_type(&x),
+        Unary::Not => Ok(provided(is_bool(x), Kindred::Bool)),
+        Unary::Minus => Ok(minus_type(x)),
         Unary::First => left_type(x),
         Unary::Second => right_type(x),
         Unary::Length => match x {
-            Kindred::Text(most) => Some(Kindred::Int(0, most as i64)),
-            _ => None,
+            Kindred::Text(most) => Ok(Some(Kindred::Int(0, *most as i64))),
+            _ => Ok(None),
         },
     }
 }
@@ -110,7 +110,7 @@ fn two_type(alloc: Global, op: Binary, x: Kindred, y: Kindred) -> Result<Option<
     match op {
         Binary::Pair => {
             let twins = Twins { left: x, right: y };
-            Ok(Some(Kindred::Pair(Boxed::new(alloc, twins)?)))
+            Ok(Some(Kindred::Pair(Shared::new(alloc, twins)?)))
         }
         _ => Ok(flat_type(op, &x, &y)),
     }
@@ -148,14 +148,14 @@ fn type_within(alloc: Global, expr: &Expr, of: &Kindred) -> Result<Option<Kindre
     ensures { IfOk result (λ made. made ≡ type_of_expr expr.now of.now) }
 {
     match expr {
-        Expr::It => Ok(within(copy_kindred(alloc, of)?)),
+        Expr::It => Ok(within(copy_kindred(of)?)),
         Expr::Unit => Ok(Some(Kindred::Unit)),
         Expr::Bool(_) => Ok(Some(Kindred::Bool)),
         Expr::Int(number) => Ok(within(Kindred::Int(*number, *number))),
         Expr::Text(bytes) => Ok(literal_text_type(bytes.len())),
-        Expr::Sym(names, _) => Ok(Some(Kindred::Sym(names.copied(alloc)?))),
+        Expr::Sym(names, _) => Ok(Some(Kindred::Sym(names.share()?))),
         Expr::One(op, operand) => match type_within(alloc, operand.get(), of)? {
-            Some(x) => Ok(one_type(*op, x)),
+            Some(x) => one_type(*op, &x),
             None => Ok(None),
         },
         Expr::Two(op, pair) => {

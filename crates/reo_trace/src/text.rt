@@ -46,7 +46,7 @@ fn append_item(
         (Value::Bool(true), Kindred::Bool) => text.append(b"true"),
         (Value::Bool(false), Kindred::Bool) => text.append(b"false"),
         (Value::Int(number), Kindred::Int(_, _)) => append_int(text, *number),
-        (Value::Sym(place), Kindred::Sym(names)) => match names.get(*place as usize) {
+        (Value::Sym(place), Kindred::Sym(names)) => match names.get().get(*place as usize) {
             Some(name) => text.append(name.as_slice()),
             None => Ok(()),
         },

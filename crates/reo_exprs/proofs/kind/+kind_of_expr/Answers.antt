@@ -1,7 +1,7 @@
 use Rattle.std.proofs.Common.{◌∙◌, ◌≡◌, None, ap, sym, subst, refl}
 use Rattle.std.specs.Prelude.{IfOk}
 use Rattle.reo_exprs.specs.declared.expr.Expr.TheVariants as exprs
-use Rattle.reo_exprs.specs.Typing.{kind_of_expr, binary_kind}
+use Rattle.reo_exprs.specs.Typing.{kind_of_expr, unary_kind, binary_kind}
 use Rattle.reo_exprs.proofs.Steps.{is_kind, one_kinded, one_unkinded, two_kinded, two_unkinded, if_kinded, if_unkinded}
 use Rattle.reo_exprs.proofs.kind.+kind_of_expr.Goals as goal
 
@@ -12,7 +12,10 @@ pub one_kind-requires : goal.one_kind-requires
 one_kind-requires t c = is_kind c.get.result.now c.args.of.now c.in-Some.x (sym c.in_ok-x-in-One.ensures ∙ c.in-Some.is)
 
 pub returns-in-Some : goal.returns-in-Some
-returns-in-Some t c = one_kinded c.args.expr.now c.args.of.now c.one_kind.result c.in-One.op c.get.result.now c.in-Some.x (c.in-One.is ∙ ap (λ x. exprs.One c.in-One.op x) (sym c.get.ensures)) (sym c.in-Some.is ∙ c.in_ok-x-in-One.ensures) c.one_kind.ensures
+returns-in-Some t c =
+    let whole : unary_kind c.in-One.op c.in-Some.x ≡ kind_of_expr c.args.expr.now c.args.of.now =
+    one_kinded c.args.expr.now c.args.of.now (unary_kind c.in-One.op c.in-Some.x) c.in-One.op c.get.result.now c.in-Some.x (c.in-One.is ∙ ap (λ x. exprs.One c.in-One.op x) (sym c.get.ensures)) (sym c.in-Some.is ∙ c.in_ok-x-in-One.ensures) refl in
+    subst (λ k. IfOk c.one_kind.result (λ made. made ≡ k)) whole c.one_kind.ensures
 
 pub returns-in_default : goal.returns-in_default
 returns-in_default t c = two_unkinded c.args.expr.now c.args.of.now None c.in-Two.op c.get-pair.result.now c.in_ok-x-in-Two.field-0 (kind_of_expr c.get-pair.result.now.right c.args.of.now) (c.in-Two.is ∙ ap (λ p. exprs.Two c.in-Two.op p) (sym c.get-pair.ensures)) c.in_ok-x-in-Two.ensures refl (λ x y f h. c.in_default.not-Some x f)

@@ -15,4 +15,4 @@ pub returns-in_default-6 : goal.returns-in_default-6
 returns-in_default-6 t c = (λ h. absurd (search rules), λ h. absurd (inside_Pair-other _ _ c.in_default.not-Pair-1 (rw c.in_default.is-0 at h)))
 
 pub returns-in-Sym-Sym : goal.returns-in-Sym-Sym
-returns-in-Sym-Sym t c = sym_inside c.args.a.now c.args.b.now _ _ c.same_names.result c.in-Sym-Sym.is-0 c.in-Sym-Sym.is-1 (c.same_names.ensures ∙ (λ i. pointwise bytes_eq (c.as_slice.ensures i) (c.as_slice-in-Sym-Sym.ensures i)))
+returns-in-Sym-Sym t c = sym_inside c.args.a.now c.args.b.now _ _ c.same.result c.in-Sym-Sym.is-0 c.in-Sym-Sym.is-1 (c.same.ensures ∙ (λ i. pointwise bytes_eq (c.get.ensures i) (c.get-in-Sym-Sym.ensures i)))

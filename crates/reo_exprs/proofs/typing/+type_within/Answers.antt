@@ -1,7 +1,7 @@
 use Rattle.std.proofs.Common.{◌∙◌, ◌≡◌, None, ap, sym, subst, refl}
 use Rattle.std.specs.Prelude.{IfOk}
 use Rattle.reo_exprs.specs.declared.expr.Expr.TheVariants as exprs
-use Rattle.reo_exprs.specs.Typing.{type_of_expr, binary_within, if_within}
+use Rattle.reo_exprs.specs.Typing.{type_of_expr, unary_within, binary_within, if_within}
 use Rattle.reo_exprs.proofs.NearType.{type_near}
 use Rattle.reo_exprs.proofs.Steps.{one_typed, one_untyped, two_typed, two_untyped, if_typed, if_untyped}
 use Rattle.reo_exprs.proofs.typing.+type_within.Goals as goal
@@ -13,7 +13,10 @@ pub one_type-requires : goal.one_type-requires
 one_type-requires t c = type_near c.get.result.now c.args.of.now c.in-Some.x (sym c.in_ok-x-in-One.ensures ∙ c.in-Some.is)
 
 pub returns-in-Some : goal.returns-in-Some
-returns-in-Some t c = one_typed c.args.expr.now c.args.of.now c.one_type.result c.in-One.op c.get.result.now c.in-Some.x (c.in-One.is ∙ ap (λ x. exprs.One c.in-One.op x) (sym c.get.ensures)) (sym c.in-Some.is ∙ c.in_ok-x-in-One.ensures) c.one_type.ensures
+returns-in-Some t c =
+    let whole : unary_within c.in-One.op c.in-Some.x ≡ type_of_expr c.args.expr.now c.args.of.now =
+    one_typed c.args.expr.now c.args.of.now (unary_within c.in-One.op c.in-Some.x) c.in-One.op c.get.result.now c.in-Some.x (c.in-One.is ∙ ap (λ x. exprs.One c.in-One.op x) (sym c.get.ensures)) (sym c.in-Some.is ∙ c.in_ok-x-in-One.ensures) refl in
+    subst (λ k. IfOk c.one_type.result (λ made. made ≡ k)) whole c.one_type.ensures
 
 pub returns-in_default : goal.returns-in_default
 returns-in_default t c = two_untyped c.args.expr.now c.args.of.now None c.in-Two.op c.get-pair.result.now c.in_ok-x-in-Two.field-0 (type_of_expr c.get-pair.result.now.right c.args.of.now) (c.in-Two.is ∙ ap (λ p. exprs.Two c.in-Two.op p) (sym c.get-pair.ensures)) c.in_ok-x-in-Two.ensures refl (λ x y f h. c.in_default.not-Some x f)

@@ -3,4 +3,4 @@ use Rattle.reo_values.proofs.Pairs.{get_or-none}
 use Rattle.reo_trace.proofs.text.append_item.Goals as goal
 
 pub returns-in-None : goal.returns-in-None
-returns-in-None c = rw (c.in-Sym-Sym.is-0, c.in-Sym-Sym.is-1, get_or-none c.in-Sym-Sym.names c.in-Sym-Sym.place c.in-None.ensures) (sym (append-nil c.args.text.now))
+returns-in-None c = rw (c.in-Sym-Sym.is-0, c.in-Sym-Sym.is-1, ← c.get.ensures, get_or-none c.get.result.now c.in-Sym-Sym.place c.in-None.ensures) (sym (append-nil c.args.text.now))
