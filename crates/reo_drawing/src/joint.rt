@@ -282,45 +282,54 @@ fn append_place(
     text.append(b"];")
 }
 
+/// A joint as it is drawn: its number and the node that it is at, how lines go to the primitives on
+/// both sides, and the marks that are shown.
+#[derive(Clone, Copy)]
+pub(crate) struct Spot {
+    pub number: usize,
+    pub home: usize,
+    pub joint: Joint,
+    pub giver: Strand,
+    pub taker: Strand,
+    pub marks: Option<JointMarks>,
+}
+
 /// Adds the point of a joint in its node, and what else stands at it there.
 #[tactic(auto, unfolding(crate::specs::Joints::spot_text))]
 fn append_spot(
     alloc: Global,
     text: &mut Bytes,
-    number: usize,
-    home: usize,
-    joint: Joint,
-    giver: Strand,
-    taker: Strand,
-    marks: Option<JointMarks>,
+    spot: Spot,
     item: Option<&Value>,
 ) -> Result<(), NoMemory>
-    ensures { OnOk result (text.new ≡ text.old ++ spot_text number home joint giver taker marks
-        (option_copied item.entry)) }
+    ensures { OnOk result (text.new ≡ text.old ++ spot_text spot.number spot.home spot.joint
+        spot.giver spot.taker spot.marks (option_copied item.entry)) }
 {
-    append_place(alloc, text, number, home, marks, item)?;
-    append_member(alloc, text, joint.giver.primitive, giver)?;
-    append_member(alloc, text, joint.taker.primitive, taker)?;
+    append_place(alloc, text, spot.number, spot.home, spot.marks, item)?;
+    append_member(alloc, text, spot.joint.giver.primitive, spot.giver)?;
+    append_member(alloc, text, spot.joint.taker.primitive, spot.taker)?;
     text.append(b" }")
 }
 
 /// Adds the lines from a joint to the primitives on both sides.
 #[tactic(auto, unfolding(crate::specs::Joints::sides_text))]
-fn append_sides(
-    alloc: Global,
-    text: &mut Bytes,
-    number: usize,
-    joint: Joint,
-    giver: Strand,
-    taker: Strand,
-    first: Option<Mark>,
-    second: Option<Mark>,
-) -> Result<(), NoMemory>
-    ensures { OnOk result
-        (text.new ≡ text.old ++ sides_text number joint giver taker first second) }
+fn append_sides(alloc: Global, text: &mut Bytes, spot: Spot) -> Result<(), NoMemory>
+    ensures { let first = giver_mark spot.marks in let second = taker_mark spot.marks in
+        OnOk result (text.new ≡ text.old
+        ++ sides_text spot.number spot.joint spot.giver spot.taker first second) }
 {
-    append_giver(alloc, text, number, joint.giver.primitive, giver, first)?;
-    append_taker(alloc, text, number, joint.taker, taker, second)?;
+    let first = giver_mark(spot.marks);
+    let second = taker_mark(spot.marks);
+    let giver = spot.joint.giver.primitive;
+    append_giver(alloc, text, spot.number, giver, spot.giver, first)?;
+    append_taker(
+        alloc,
+        text,
+        spot.number,
+        spot.joint.taker,
+        spot.taker,
+        second,
+    )?;
     text.append(b"\n")
 }
 
@@ -330,19 +339,12 @@ fn append_sides(
 pub(crate) fn append_joint(
     alloc: Global,
     text: &mut Bytes,
-    number: usize,
-    home: usize,
-    joint: Joint,
-    giver: Strand,
-    taker: Strand,
-    marks: Option<JointMarks>,
+    spot: Spot,
     item: Option<&Value>,
 ) -> Result<(), NoMemory>
-    ensures { OnOk result (text.new ≡ text.old ++ joint_line number home joint giver taker marks
-        (option_copied item.entry)) }
+    ensures { OnOk result (text.new ≡ text.old ++ joint_line spot.number spot.home spot.joint
+        spot.giver spot.taker spot.marks (option_copied item.entry)) }
 {
-    let first = giver_mark(marks);
-    let second = taker_mark(marks);
-    append_spot(alloc, text, number, home, joint, giver, taker, marks, item)?;
-    append_sides(alloc, text, number, joint, giver, taker, first, second)
+    append_spot(alloc, text, spot, item)?;
+    append_sides(alloc, text, spot)
 }
