@@ -5,7 +5,7 @@ ghost use Rattle.reo_connector.specs.Rounds.{IsMade};
 ghost use Rattle.reo_rounds.specs.Plans.{IsPlanFault};
 
 use crate::connector::Connector;
-use reo_rounds::{Done, PlanFault};
+use reo_rounds::{Done, Exceeds};
 use reo_steps::Steps;
 use std::alloc::Global;
 use std::marker::Brand;
@@ -18,7 +18,7 @@ impl Connector {
         alloc: Global,
         budget: u64,
         blank: Blank,
-    ) -> Result<Done, PlanFault>
+    ) -> Result<Done, Exceeds>
         requires name { blank.name ≡ L.name }
         requires parts { blank.parts ≡ L.parts }
         requires some_part { 0 < L.parts }
@@ -45,7 +45,7 @@ impl Connector {
     ///
     /// `Wide` and `Spent`: exactly where a part of the circuit is over the budget, for the least
     /// such part. `NoMemory` is out of memory. Nothing changes, and the call may be made again.
-    pub fn round(&mut self, alloc: Global, budget: u64) -> Result<Done, PlanFault>
+    pub fn round(&mut self, alloc: Global, budget: u64) -> Result<Done, Exceeds>
         requires small { budget < 10 ^ 18 }
         requires few { self.old.rounds < 2 ^ 63 }
         ensures exact { MatchResult result (IsMade budget self.old self.new)

@@ -2,7 +2,7 @@
 use crate::offers::{are_moves, are_written, is_answered};
 use reo_connector::{Connector, ItemFault};
 use reo_net_base::Way;
-use reo_rounds::{Done, OfferFault, PlanFault};
+use reo_rounds::{Done, Exceeds, OfferFault};
 use reo_values::{NoMemory, Value};
 use std::alloc::Global;
 
@@ -27,7 +27,7 @@ pub enum Act {
     /// Whether an offer was there to be taken back.
     Withdraw(usize, bool),
     /// A round within a budget, or why there is none, and how many rounds were made then.
-    Round(u64, Result<Shown, PlanFault>, u64),
+    Round(u64, Result<Shown, Exceeds>, u64),
 }
 
 /// Whether the port of a number has this name and this way.
@@ -55,7 +55,7 @@ fn is_item(alloc: Global, held: &Connector, port: usize, text: &[u8], answer: bo
 }
 
 /// Whether this was done in a round, or this is why there was none.
-fn shows(made: &Result<Done, PlanFault>, want: Result<Shown, PlanFault>) -> bool {
+fn shows(made: &Result<Done, Exceeds>, want: Result<Shown, Exceeds>) -> bool {
     match (made, want) {
         (Ok(done), Ok((moves, idle, jammed))) => {
             are_moves(done.moves.as_slice(), moves) && done.idle == idle && done.jammed == jammed
@@ -66,12 +66,7 @@ fn shows(made: &Result<Done, PlanFault>, want: Result<Shown, PlanFault>) -> bool
 }
 
 /// Whether a round comes to this.
-fn is_made(
-    alloc: Global,
-    held: &mut Connector,
-    budget: u64,
-    want: Result<Shown, PlanFault>,
-) -> bool {
+fn is_made(alloc: Global, held: &mut Connector, budget: u64, want: Result<Shown, Exceeds>) -> bool {
     if 1_000_000_000 < budget || 1_000 < held.rounds() {
         return false;
     }

@@ -6,7 +6,7 @@ use crate::opening::Want::{Acts, Refused, TooLong};
 use crate::opening::{Want, is_so};
 use reo_connector::MOST_BYTES;
 use reo_net_base::Way;
-use reo_rounds::{OfferFault, PlanFault};
+use reo_rounds::{Exceeds, OfferFault};
 use reo_values::{Bytes, NoMemory};
 use std::alloc::Global;
 use std::str::from_utf8;
@@ -157,7 +157,7 @@ const DRAIN: &[u8] = b"connector main(in a: int 0..9) { syncdrain a a; }";
 /// The loop joint has five values: the item, jam, and three ways to rest.
 const SPENT: &[Act] = &[
     Offer(0, Some(1), None),
-    Round(4, Err(PlanFault::Spent { knot: 0, weight: 5 }), 0),
+    Round(4, Err(Exceeds::Spent { knot: 0, weight: 5 }), 0),
     // nothing has changed
     Offer(0, Some(1), Some(OfferFault::Pending)),
     Round(5, Ok((&[(0, 1)], false, 0)), 1),
@@ -168,7 +168,7 @@ const SPENT: &[Act] = &[
 const WIDE: &[Act] = &[
     WriteAll(257),
     Offer(257, None, None),
-    Round(1_000_000_000, Err(PlanFault::Wide { knot: 0 }), 0),
+    Round(1_000_000_000, Err(Exceeds::Wide { knot: 0 }), 0),
     Withdraw(257, true),
     Withdraw(0, true),
 ];

@@ -9,7 +9,7 @@ ghost use Rattle.reo_engine.specs.Engine.{net_now};
 use crate::engine::Engine;
 use crate::flows::{rewritten, take_rows};
 use reo_net_base::Ported;
-use reo_rounds::PlanFault;
+use reo_rounds::Exceeds;
 use reo_steps::Steps;
 use std::alloc::Global;
 use std::sync::ledger::Ledger;
@@ -35,7 +35,7 @@ impl<P: Ported> Engine<P> {
         alloc: Global,
         budget: u64,
         steps: &mut Steps<L>,
-    ) -> Result<(), PlanFault>
+    ) -> Result<(), Exceeds>
         requires { budget < 10 ^ 18 }
         ensures exact { let net = net_now P.behaviour self.old in
             MatchResult result (λ _. (cause : Cause) → IsOver budget net cause → ⊥)

@@ -27,7 +27,7 @@ use reo_knots::Knots;
 use reo_net_base::{Colouring, Move, Ported, Ports, Primitive};
 use reo_net_circuit::{Circuit, Ends};
 use reo_round::{MadeRound, cleared, make_round};
-use reo_rounds::PlanFault;
+use reo_rounds::Exceeds;
 use reo_settling::Kept;
 use reo_steps::Steps;
 use reo_trace::RoundLine;
@@ -90,7 +90,7 @@ impl<P: Ported> Engine<P> {
         ports: &Ports,
         budget: u64,
         steps: &mut Steps<L>,
-    ) -> Result<(MadeRound, Bytes), PlanFault>
+    ) -> Result<(MadeRound, Bytes), Exceeds>
         requires { budget < 10 ^ 18 }
         ensures exact { let net = net_now P.behaviour self.old in
             let turn = self.old.rounds + 1 in

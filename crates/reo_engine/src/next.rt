@@ -7,7 +7,7 @@ ghost use Rattle.reo_engine.specs.Engine.{net_now};
 
 use crate::engine::Engine;
 use reo_net_base::Ported;
-use reo_rounds::{PlanFault, PlannedRound};
+use reo_rounds::{Exceeds, PlannedRound};
 use reo_steps::Steps;
 use reo_trace::line_of;
 use std::alloc::Global;
@@ -30,7 +30,7 @@ impl<P: Ported> Engine<P> {
         alloc: Global,
         budget: u64,
         steps: &mut Steps<L>,
-    ) -> Result<PlannedRound, PlanFault>
+    ) -> Result<PlannedRound, Exceeds>
         requires { budget < 10 ^ 18 }
         ensures exact { let net = net_now P.behaviour self.old in
             let turn = self.old.rounds + 1 in

@@ -14,7 +14,7 @@ use crate::flows::{Flows, flag_shown, show_rest, take_rows};
 use reo_knots::Knots;
 use reo_net_base::Primitive;
 use reo_net_circuit::{Circuit, Ends};
-use reo_rounds::PlanFault;
+use reo_rounds::Exceeds;
 use reo_settling::{Kept, Lookups};
 use reo_steps::Steps;
 use reo_values::List;
@@ -41,7 +41,7 @@ fn renew<P: Primitive, L: Ledger>(
     budget: u64,
     steps: &mut Steps<L>,
     list: &mut Option<List<u32>>,
-) -> Result<List<u32>, PlanFault>
+) -> Result<List<u32>, Exceeds>
     requires knots { AreKnots (net_of P.behaviour circuit.now) knots.now }
     requires ends { AreEnds (net_of P.behaviour circuit.now) ends.now }
     requires turn { 1 ≤ turn }
@@ -90,7 +90,7 @@ pub(crate) fn renew_marked<P: Primitive, L: Ledger>(
     turn: u64,
     budget: u64,
     steps: &mut Steps<L>,
-) -> Result<(), PlanFault>
+) -> Result<(), Exceeds>
     requires knots { AreKnots (net_of P.behaviour circuit.now) knots.now }
     requires ends { AreEnds (net_of P.behaviour circuit.now) ends.now }
     requires turn { 1 ≤ turn }

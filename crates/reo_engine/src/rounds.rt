@@ -15,7 +15,7 @@ use crate::changes::mark_flowing;
 use crate::engine::Engine;
 use crate::planning::{plan_with, suits};
 use reo_net_base::Ported;
-use reo_rounds::{Done, Plan, PlanFault};
+use reo_rounds::{Done, Exceeds, Plan};
 use reo_settling::first_colouring;
 use reo_steps::Steps;
 use std::alloc::Global;
@@ -39,7 +39,7 @@ impl<P: Ported> Engine<P> {
         alloc: Global,
         budget: u64,
         steps: &mut Steps<L>,
-    ) -> Result<Plan, PlanFault>
+    ) -> Result<Plan, Exceeds>
         requires { budget < 10 ^ 18 }
         ensures exact { let net = net_now P.behaviour self.now in
             MatchResult result (IsPlan budget net self.now.circuit.ports (self.now.rounds + 1))

@@ -2,8 +2,8 @@
 use Rattle.std.specs.Prelude.{ℕ, ◌≡◌, ◌≤◌, ◌^◌, Some, length}
 use Rattle.reo_rounds.specs.Plans.{IsPlanFault}
 use Rattle.reo_rounds.specs.declared.plan.Done.{Done}
-use Rattle.reo_rounds.specs.declared.plan.PlanFault.{PlanFault}
-use Rattle.reo_rounds.specs.declared.plan.PlanFault.TheVariants as faults
+use Rattle.reo_weights.specs.declared.exceeds.Exceeds.{Exceeds}
+use Rattle.reo_weights.specs.declared.exceeds.Exceeds.TheVariants as faults
 use Rattle.reo_connector.specs.Held.{net_in}
 use Rattle.reo_connector.specs.Rounds.{IsMade}
 use Rattle.reo_handles.specs.declared.rounds.Round.{Round}
@@ -16,7 +16,7 @@ abbrev pub summary : ℕ → Done → Round
 summary number done = record { number = number; moves = length done.moves; jammed = done.jammed; idle = done.idle }
 
 -- What a round that cannot be planned answers.
-abbrev pub refused : PlanFault → CallStatus
+abbrev pub refused : Exceeds → CallStatus
 refused (faults.Wide knot) = statuses.Wide
 refused (faults.Spent knot weight) = statuses.Spent
 refused faults.NoMemory = statuses.NoMemory

@@ -6,7 +6,7 @@ ghost use Rattle.reo_handles.specs.Statuses.{AtOpen};
 use crate::handle::{Handle, put, taken};
 use crate::session::Session;
 use crate::status::CallStatus;
-use reo_rounds::{Done, PlanFault};
+use reo_rounds::{Done, Exceeds};
 use std::alloc::Global;
 
 /// A budget is below this.
@@ -42,13 +42,13 @@ fn summary(number: u64, done: &Done) -> Round
 }
 
 /// What a round that cannot be planned answers.
-fn refused(fault: PlanFault) -> CallStatus
+fn refused(fault: Exceeds) -> CallStatus
     ensures { result ≡ refused fault }
 {
     match fault {
-        PlanFault::Wide { .. } => CallStatus::Wide,
-        PlanFault::Spent { .. } => CallStatus::Spent,
-        PlanFault::NoMemory => CallStatus::NoMemory,
+        Exceeds::Wide { .. } => CallStatus::Wide,
+        Exceeds::Spent { .. } => CallStatus::Spent,
+        Exceeds::NoMemory => CallStatus::NoMemory,
     }
 }
 

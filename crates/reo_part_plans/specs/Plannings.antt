@@ -1,5 +1,5 @@
 -- What is planned of parts, for crates that stand on plans of parts.
-pub use Rattle.reo_planning.specs.Faults.{IsPartFault}
+pub use Rattle.reo_planning.specs.Faults.{IsSearchFault}
 pub use Rattle.reo_planning.specs.Keeping.{AllServe, HasSizes, IsFresh, IsKept, is_moving, is_open, is_settled, serves}
 pub use Rattle.reo_planning.specs.Planned.{ArePlanned, AreWeights, IsPartPlanned, sum_below, weight_left}
 pub use Rattle.reo_planning.specs.Unsettling.{AreApart, AreBetweenUnsettled, AreFewer, AreMarkedUnsettled, AreMovingUnsettled, AreUnsettled, IsElsewhere, IsMarked, IsUnsettled, part_at}

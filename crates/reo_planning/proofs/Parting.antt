@@ -10,16 +10,13 @@ use Rattle.reo_net_laws.specs.Sublists.{part_rows}
 use Rattle.reo_net_laws.specs.Knots.{Knotted, AreKnots, in_knot, knot_count}
 use Rattle.reo_weights.specs.still.Joining.{HasFirst}
 use Rattle.reo_weights.specs.Over.{IsWithin}
-use Rattle.reo_rounds.specs.declared.plan.PlanFault.{PlanFault}
-use Rattle.reo_rounds.specs.declared.plan.PlanFault.TheVariants as plans
+use Rattle.reo_weights.specs.declared.exceeds.Exceeds.{Exceeds}
+use Rattle.reo_weights.specs.declared.exceeds.Exceeds.TheVariants as plans
 use Rattle.reo_rounds.specs.Plans.{IsPlanFault}
 use Rattle.reo_propagate.specs.Queues.{among}
-use Rattle.reo_search.specs.declared.fault.SearchFault.{SearchFault}
-use Rattle.reo_search.specs.declared.fault.SearchFault.TheVariants as searches
 use Rattle.reo_search.specs.First.{Part, IsFirstWithin, IsSearchFault}
 use Rattle.reo_search.proofs.Walked.{among_sides, sides_below}
 use Rattle.reo_planning.specs.declared.kept.Kept.{Kept}
-use Rattle.reo_planning.specs.Faults.{SaysSame, IsPartFault}
 use Rattle.reo_planning.specs.Keeping.{is_settled, serves, AllServe, IsKept}
 use Rattle.reo_planning.specs.Planned.{ArePlanned, IsPartPlanned}
 use Rattle.reo_planning.specs.Written.{AreWritten}
@@ -81,12 +78,6 @@ module _ (budget : ℕ) (net : Net) (knots : Knotted) (are : AreKnots net knots)
         others = λ s h. refl;
       }
 
--- A fault of a search is one of the part.
-pub part_fault : (budget : ℕ) (net : Net) (inside : ℕ → Bool) (knot : ℕ) (fault : SearchFault) (plan : PlanFault) → IsSearchFault budget net inside knot fault → SaysSame fault plan → IsPartFault budget net inside knot plan
-part_fault budget net inside knot (searches.Wide k) plan is same = subst (IsPartFault budget net inside knot) (sym same) is
-part_fault budget net inside knot (searches.Spent k weight) plan is same = subst (IsPartFault budget net inside knot) (sym same) is
-part_fault budget net inside knot searches.NoMemory plan is same = subst (IsPartFault budget net inside knot) (sym same) tt
-
 -- The rows below the n-th part are planned, and the others are those of a list.
 pub record ArePlannedSoFar (budget : ℕ) (net : Net) (knots : Knotted) (turn n : ℕ) (from rows : List ℕ) : Type 0 where
   pub planned : ArePlanned budget net knots turn n rows
@@ -130,7 +121,7 @@ planned_more budget net knots turn n from rows new far more = record {
 
 -- A part that is over is the least one where each before it is within the budget.
 pub least_over : (budget : ℕ) (net : Net) (knots : Knotted) → AreKnots net knots → (turn n : ℕ) → n < knot_count knots → (rows : List ℕ) → ArePlanned budget net knots turn n rows
-    → (fault : PlanFault) → IsPartFault budget net (in_knot knots.numbers n) n fault → IsPlanFault budget net fault
+    → (fault : Exceeds) → IsSearchFault budget net (in_knot knots.numbers n) n fault → IsPlanFault budget net fault
 least_over budget net knots are turn n lt rows planned (plans.Wide k) is = record {
   numbers = knots.numbers;
   count = knot_count knots;

@@ -1,7 +1,6 @@
 //! The first colouring of a circuit, part by part, with what is kept of parts from round to round.
 #![tactic(auto)]
 
-mod faults;
 mod keeping;
 mod kept;
 mod laws;

@@ -5,17 +5,16 @@ ghost use Rattle.reo_net_base.specs.Sides.{side_count};
 ghost use Rattle.reo_net_laws.specs.Knots.{AreKnots, in_knot, knot_count};
 ghost use Rattle.reo_weights.specs.Weights.{IsWeight};
 ghost use Rattle.reo_search_tables.specs.SearchTables.{AreReady};
-ghost use Rattle.reo_planning.specs.Faults.{IsPartFault};
+ghost use Rattle.reo_planning.specs.Faults.{IsSearchFault};
 ghost use Rattle.reo_planning.specs.Keeping.{IsKept, serves};
 ghost use Rattle.reo_planning.specs.Planned.{IsPartPlanned};
 
-use crate::faults::plan_fault;
 use crate::kept::Kept;
 use crate::rows::put_rows;
 use reo_knots::Knots;
 use reo_net_base::Primitive;
 use reo_net_circuit::{Circuit, Ends};
-use reo_rounds::PlanFault;
+use reo_rounds::Exceeds;
 use reo_search::first_with;
 use reo_search_tables::SearchTables;
 use reo_steps::Steps;
@@ -40,7 +39,7 @@ pub fn search_part<P: Primitive, L: Ledger>(
     budget: u64,
     steps: &mut Steps<L>,
     rows: &mut List<u32>,
-) -> Result<(), PlanFault>
+) -> Result<(), Exceeds>
     requires knots { AreKnots (net_of P.behaviour circuit.now) knots.now }
     requires knot { knot < knot_count knots.now }
     requires tables { AreReady (net_of P.behaviour circuit.now) ends.now tables.old }
@@ -48,7 +47,7 @@ pub fn search_part<P: Primitive, L: Ledger>(
     requires rows { length rows.old ≡ side_count (net_of P.behaviour circuit.now) }
     ensures exact { let net = net_of P.behaviour circuit.now in
         MatchResult result (λ _. IsPartPlanned budget net knots.now turn knot rows.old rows.new)
-        (IsPartFault budget net (in_knot knots.now.numbers knot) knot) }
+        (IsSearchFault budget net (in_knot knots.now.numbers knot) knot) }
     ensures tables { OnOk result (AreReady (net_of P.behaviour circuit.now) ends.now tables.new) }
     ensures ticks { let net = net_of P.behaviour circuit.now in
         (w : ℕ) → IsWeight net (in_knot knots.now.numbers knot) w → steps.new ≤ steps.old + w }
@@ -70,7 +69,7 @@ pub fn search_part<P: Primitive, L: Ledger>(
             put_rows(rows, part.sides.as_slice(), part.rows.as_slice());
             Ok(())
         }
-        Err(fault) => Err(plan_fault(fault)),
+        Err(fault) => Err(fault),
     }
 }
 
@@ -88,7 +87,7 @@ pub(crate) fn plan_part<P: Primitive, L: Ledger>(
     budget: u64,
     steps: &mut Steps<L>,
     rows: &mut List<u32>,
-) -> Result<(), PlanFault>
+) -> Result<(), Exceeds>
     requires knots { AreKnots (net_of P.behaviour circuit.now) knots.now }
     requires knot { knot < knot_count knots.now }
     requires kept { IsKept (net_of P.behaviour circuit.now) knots.now turn kept.now }
@@ -99,7 +98,7 @@ pub(crate) fn plan_part<P: Primitive, L: Ledger>(
         → slice_index rows.old s ≡ slice_index kept.now.rows s }
     ensures exact { let net = net_of P.behaviour circuit.now in
         MatchResult result (λ _. IsPartPlanned budget net knots.now turn knot rows.old rows.new)
-        (IsPartFault budget net (in_knot knots.now.numbers knot) knot) }
+        (IsSearchFault budget net (in_knot knots.now.numbers knot) knot) }
     ensures tables { OnOk result (AreReady (net_of P.behaviour circuit.now) ends.now tables.new) }
     ensures ticks { let net = net_of P.behaviour circuit.now in
         (w : ℕ) → IsWeight net (in_knot knots.now.numbers knot) w

@@ -17,7 +17,7 @@ use reo_knots::Knots;
 use reo_net::fill_with;
 use reo_net_base::{Colouring, Primitive};
 use reo_net_circuit::{Circuit, Ends};
-use reo_rounds::PlanFault;
+use reo_rounds::Exceeds;
 use reo_search_tables::SearchTables;
 use reo_steps::Steps;
 use reo_values::List;
@@ -35,7 +35,7 @@ fn rows_with<P: Primitive, L: Ledger>(
     turn: u64,
     budget: u64,
     steps: &mut Steps<L>,
-) -> Result<List<u32>, PlanFault>
+) -> Result<List<u32>, Exceeds>
     requires knots { AreKnots (net_of P.behaviour circuit.now) knots.now }
     requires tables { AreReady (net_of P.behaviour circuit.now) ends.now tables.old }
     requires kept { IsKept (net_of P.behaviour circuit.now) knots.now turn kept.now }
@@ -71,7 +71,7 @@ fn rows_by_parts<P: Primitive, L: Ledger>(
     turn: u64,
     budget: u64,
     steps: &mut Steps<L>,
-) -> Result<List<u32>, PlanFault>
+) -> Result<List<u32>, Exceeds>
     requires knots { AreKnots (net_of P.behaviour circuit.now) knots.now }
     requires ends { AreEnds (net_of P.behaviour circuit.now) ends.now }
     requires kept { IsKept (net_of P.behaviour circuit.now) knots.now turn kept.now }
@@ -120,7 +120,7 @@ pub fn first_colouring<P: Primitive, L: Ledger>(
     turn: u64,
     budget: u64,
     steps: &mut Steps<L>,
-) -> Result<Colouring, PlanFault>
+) -> Result<Colouring, Exceeds>
     requires knots { AreKnots (net_of P.behaviour circuit.now) knots.now }
     requires ends { AreEnds (net_of P.behaviour circuit.now) ends.now }
     requires kept { IsKept (net_of P.behaviour circuit.now) knots.now turn kept.now }

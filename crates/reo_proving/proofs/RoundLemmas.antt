@@ -15,8 +15,8 @@ use Rattle.reo_trace.specs.declared.line.Ending.TheVariants as endings
 use Rattle.reo_trace.specs.Entries.{line_for}
 use Rattle.reo_trace.specs.RoundText.{round_text}
 use Rattle.reo_rounds.specs.declared.plan.Plan.{Plan}
-use Rattle.reo_rounds.specs.declared.plan.PlanFault.{PlanFault}
-use Rattle.reo_rounds.specs.declared.plan.PlanFault.TheVariants as faults
+use Rattle.reo_weights.specs.declared.exceeds.Exceeds.{Exceeds}
+use Rattle.reo_weights.specs.declared.exceeds.Exceeds.TheVariants as faults
 use Rattle.reo_rounds.specs.declared.plan.PlannedRound.{PlannedRound}
 use Rattle.reo_rounds.specs.Plans.{IsPlannedRound, IsPlanFault}
 use Rattle.reo_rounds.specs.Ready.{ready}
@@ -41,7 +41,7 @@ pub same_rounds : {P : Type 0} (x y : Running P) → x ≡ record y { kept = x.k
 same_rounds x y is = ap (λ (e : Running _). e.rounds) is
 
 -- Why the next round cannot be planned is why the run stops in place of it.
-stops_by : {P : Type 0} (r : Rules P) (budget limit turn : ℕ) (a : State P) (fault : PlanFault) (ending : Ending) → turn ≤ limit → IsPlanFault budget (net_ready r a) fault → ending_for turn budget fault ≡ Some ending
+stops_by : {P : Type 0} (r : Rules P) (budget limit turn : ℕ) (a : State P) (fault : Exceeds) (ending : Ending) → turn ≤ limit → IsPlanFault budget (net_ready r a) fault → ending_for turn budget fault ≡ Some ending
     → (firsts budget limit).stops (net_ready r a) turn ending
 stops_by r budget limit turn a (faults.Wide knot) ending within over is =
     let same : ending ≡ endings.Wide turn knot = cc in
@@ -53,7 +53,7 @@ stops_by r budget limit turn a faults.NoMemory ending within over is = absurd (c
 
 module _ {P : Type 0} (r : Rules P) (ports : List Port) (budget limit turn : ℕ) (a : State P) where
   -- The run stops in place of a round that cannot be planned.
-  pub stopped_for : (w v : Wiring P) (players : List Player) (told : Option (List ℕ)) (fault : PlanFault) (ending : Ending) → turn ≤ limit → v ≡ ready r (offer_for a.players) a.circuit
+  pub stopped_for : (w v : Wiring P) (players : List Player) (told : Option (List ℕ)) (fault : Exceeds) (ending : Ending) → turn ≤ limit → v ≡ ready r (offer_for a.players) a.circuit
       → IsPlanFault budget (net_of r.behaviour v) fault → Some ending ≡ ending_for turn budget fault → Went r ports budget limit turn a told told w players (Some ending)
   stopped_for w v players told fault ending within started over is =
       inl (record {

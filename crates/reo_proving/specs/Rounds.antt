@@ -8,8 +8,8 @@ use Rattle.reo_trace.specs.declared.line.RoundLine.{RoundLine}
 use Rattle.reo_trace.specs.declared.line.Ending.{Ending}
 use Rattle.reo_trace.specs.declared.line.Ending.TheVariants as endings
 use Rattle.reo_trace.specs.RoundText.{round_text}
-use Rattle.reo_rounds.specs.declared.plan.PlanFault.{PlanFault}
-use Rattle.reo_rounds.specs.declared.plan.PlanFault.TheVariants as faults
+use Rattle.reo_weights.specs.declared.exceeds.Exceeds.{Exceeds}
+use Rattle.reo_weights.specs.declared.exceeds.Exceeds.TheVariants as faults
 use Rattle.reo_rounds.specs.Rules.{Rules}
 use Rattle.reo_runs.specs.Round.{State, net_ready}
 use Rattle.reo_runs.specs.Run.{firsts, over_after}
@@ -19,7 +19,7 @@ use Rattle.reo_proof_texts.specs.Cuts.{LoggedRound, logged_text}
 use Rattle.reo_proof_texts.specs.Proven.{IsProven}
 
 -- The ending that stands in place of the round of a number, where a part is over.
-abbrev pub ending_for : ℕ → ℕ → PlanFault → Option Ending
+abbrev pub ending_for : ℕ → ℕ → Exceeds → Option Ending
 ending_for turn budget (faults.Wide knot) = Some (endings.Wide turn knot)
 ending_for turn budget (faults.Spent knot weight) = Some (endings.Spent turn knot weight budget)
 ending_for turn budget faults.NoMemory = None

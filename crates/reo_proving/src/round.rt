@@ -17,7 +17,7 @@ use reo_io::Sink;
 use reo_net_base::{Ports, Restoring};
 use reo_players::Players;
 use reo_proof_laws::{logs_are_lines, within_is_narrow};
-use reo_runner::{Carried, Engine, Limits, PlanFault, PlannedRound, carry_out, offer_all};
+use reo_runner::{Carried, Engine, Exceeds, Limits, PlannedRound, carry_out, offer_all};
 use reo_runs::known_order;
 use reo_steps::Steps;
 use reo_trace::{Ending, WriteFault};
@@ -25,21 +25,21 @@ use std::alloc::Global;
 use std::sync::ledger::Ledger;
 
 /// The ending that stands in place of the round of a number, where a part is over.
-fn ending_for(turn: u64, budget: u64, fault: PlanFault) -> Option<Ending>
+fn ending_for(turn: u64, budget: u64, fault: Exceeds) -> Option<Ending>
     ensures { result ≡ ending_for turn budget fault }
 {
     match fault {
-        PlanFault::Wide { knot } => Some(Ending::Wide {
+        Exceeds::Wide { knot } => Some(Ending::Wide {
             round: turn,
             knot: knot as u64,
         }),
-        PlanFault::Spent { knot, weight } => Some(Ending::Spent {
+        Exceeds::Spent { knot, weight } => Some(Ending::Spent {
             round: turn,
             knot: knot as u64,
             weight,
             budget,
         }),
-        PlanFault::NoMemory => None,
+        Exceeds::NoMemory => None,
     }
 }
 

@@ -10,8 +10,8 @@ use Rattle.reo_net_laws.specs.Jams.{jams}
 use Rattle.reo_trace.specs.Entries.{is_idle, line_for}
 use Rattle.reo_rounds.specs.declared.plan.Plan.{Plan}
 use Rattle.reo_rounds.specs.declared.plan.PlannedRound.{PlannedRound}
-use Rattle.reo_rounds.specs.declared.plan.PlanFault.{PlanFault}
-use Rattle.reo_rounds.specs.declared.plan.PlanFault.TheVariants as faults
+use Rattle.reo_weights.specs.declared.exceeds.Exceeds.{Exceeds}
+use Rattle.reo_weights.specs.declared.exceeds.Exceeds.TheVariants as faults
 use Rattle.reo_weights.specs.Over.{Cause, IsOver}
 use Rattle.reo_weights.specs.Over.Cause.{spent, wide}
 
@@ -42,7 +42,7 @@ pub record IsPlannedRound (budget : ℕ) (net : Net) (ports turn : ℕ) (p : Pla
   pub line_is : p.line ≡ line_for net turn p.plan.colouring.rows p.plan.moves
 
 -- The round cannot be planned so. `NoMemory` may come at any time.
-abbrev pub IsPlanFault : ℕ → Net → PlanFault → Type 0
+abbrev pub IsPlanFault : ℕ → Net → Exceeds → Type 0
 IsPlanFault budget net (faults.Wide knot) = IsOver budget net (wide knot)
 IsPlanFault budget net (faults.Spent knot weight) = IsOver budget net (spent knot weight budget)
 IsPlanFault budget net faults.NoMemory = Unit {0}

@@ -7,4 +7,5 @@ mod plan;
 
 pub use laws::{known_order, planned_rounds_are_made};
 pub use offer::{Declined, OfferFault};
-pub use plan::{Done, Plan, PlanFault, PlannedRound};
+pub use plan::{Done, Plan, PlannedRound};
+pub use reo_weights::{Exceeds, Exceeds as PlanFault};

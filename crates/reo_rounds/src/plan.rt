@@ -1,7 +1,7 @@
 //! Rounds that are planned and made.
 use reo_net_base::{Colouring, Move};
 use reo_trace::RoundLine;
-use reo_values::{List, NoMemory};
+use reo_values::List;
 
 /// What a round will be.
 #[derive(Drop)]
@@ -34,26 +34,4 @@ pub struct Done {
     pub idle: bool,
     /// How many sides jammed.
     pub jammed: usize,
-}
-
-/// Why a round cannot be planned.
-#[derive(Clone, Copy, Debug, PartialEq, Eq)]
-pub enum PlanFault {
-    /// At a joint of this part, the least that is over, too many items can stand.
-    Wide { knot: usize },
-    /// The weight of this part, the least that is over, is above the budget.
-    Spent { knot: usize, weight: u64 },
-    /// Out of memory.
-    NoMemory,
-}
-
-impl From<NoMemory> for PlanFault {
-    ghost use Rattle.std.specs.Prelude.{◌≡◌};
-    ghost use Rattle.reo_rounds.specs.declared.plan.PlanFault.TheVariants.{NoMemory as OutOfMemory};
-
-    ghost from_gives = { λ _ fault. fault ≡ OutOfMemory };
-
-    fn from(_: NoMemory) -> Self {
-        PlanFault::NoMemory
-    }
 }

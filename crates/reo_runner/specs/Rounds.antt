@@ -8,8 +8,8 @@ use Rattle.reo_net_base.specs.Net.{Net, Wiring}
 use Rattle.reo_players.specs.Players.{Player}
 use Rattle.reo_trace.specs.declared.line.RoundLine.{RoundLine}
 use Rattle.reo_trace.specs.RoundText.{round_text}
-use Rattle.reo_rounds.specs.declared.plan.PlanFault.{PlanFault}
-use Rattle.reo_rounds.specs.declared.plan.PlanFault.TheVariants as plans
+use Rattle.reo_weights.specs.declared.exceeds.Exceeds.{Exceeds}
+use Rattle.reo_weights.specs.declared.exceeds.Exceeds.TheVariants as plans
 use Rattle.reo_rounds.specs.Rules.{Rules}
 use Rattle.reo_weights.specs.Over.{IsOver}
 use Rattle.reo_weights.specs.Over.Cause.{spent, wide}
@@ -30,7 +30,7 @@ IsUnplanned budget net faults.Failed = ⊥
 IsUnplanned budget net faults.NoMemory = Unit {0}
 
 -- Why a round is not made, by why it is not planned.
-abbrev pub fault_of_plan : PlanFault → RoundFault
+abbrev pub fault_of_plan : Exceeds → RoundFault
 fault_of_plan (plans.Wide knot) = faults.Wide knot
 fault_of_plan (plans.Spent knot weight) = faults.Spent knot weight
 fault_of_plan plans.NoMemory = faults.NoMemory

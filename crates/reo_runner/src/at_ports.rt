@@ -10,4 +10,4 @@ pub use advancing::advance_all;
 pub use carrying::{Carried, carry_on, carry_out};
 pub use offering::offer_all;
 pub use release::{release_circuit, release_engine, release_players, release_run};
-pub use reo_engine::{Engine, MadeRound, PlanFault, PlannedRound};
+pub use reo_engine::{Engine, Exceeds, MadeRound, PlannedRound};

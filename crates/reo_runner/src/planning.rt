@@ -7,7 +7,7 @@ ghost use Rattle.reo_runner.specs.at_ports.Engines.{IsMadeWithin};
 ghost use Rattle.reo_runner.specs.Rounds.{IsUnplanned, fault_of_plan};
 ghost use Rattle.reo_runner.specs.declared.planning.RoundFault.TheVariants.{NoMemory as OutOfMemory};
 
-use crate::at_ports::{Engine, PlanFault, MadeRound};
+use crate::at_ports::{Engine, Exceeds, MadeRound};
 use reo_net_base::{Ported, Ports};
 use reo_steps::Steps;
 use reo_values::{Bytes, NoMemory};
@@ -39,16 +39,16 @@ impl From<NoMemory> for RoundFault {
 }
 
 /// Why a round was not made, where it cannot be planned.
-fn round_fault(fault: PlanFault) -> RoundFault
+fn round_fault(fault: Exceeds) -> RoundFault
     ensures { result ≡ fault_of_plan fault }
 {
     match fault {
-        PlanFault::Wide { knot } => RoundFault::Wide { knot: knot as u64 },
-        PlanFault::Spent { knot, weight } => RoundFault::Spent {
+        Exceeds::Wide { knot } => RoundFault::Wide { knot: knot as u64 },
+        Exceeds::Spent { knot, weight } => RoundFault::Spent {
             knot: knot as u64,
             weight,
         },
-        PlanFault::NoMemory => RoundFault::NoMemory,
+        Exceeds::NoMemory => RoundFault::NoMemory,
     }
 }
 

@@ -8,8 +8,8 @@ use Rattle.reo_net_laws.specs.Sublists.{sides_in, part_rows}
 use Rattle.reo_weights.specs.Over.{IsWithin, IsOverBy}
 use Rattle.reo_weights.specs.Over.Cause.{spent, wide}
 pub use Rattle.reo_walk.specs.declared.part.Part.{Part}
-use Rattle.reo_search.specs.declared.fault.SearchFault.{SearchFault}
-use Rattle.reo_search.specs.declared.fault.SearchFault.TheVariants as faults
+use Rattle.reo_weights.specs.declared.exceeds.Exceeds.{Exceeds}
+use Rattle.reo_weights.specs.declared.exceeds.Exceeds.TheVariants as faults
 use Rattle.reo_walk.specs.Arranged.{IsJamRow}
 
 -- The part tells the sides of a set and the rows there of its first assignment, and whether one of them is a jam row.
@@ -31,7 +31,7 @@ abbrev pub HasNoThreeColouring : Net → (ℕ → Bool) → Type 0
 HasNoThreeColouring net inside = (rows : List ℕ) (items : List (Option Value)) → IsThreeColouring net inside rows items → ⊥
 
 -- Why the part of a number is not searched. `NoMemory` may come at any time.
-abbrev pub IsSearchFault : ℕ → Net → (ℕ → Bool) → ℕ → SearchFault → Type 0
+abbrev pub IsSearchFault : ℕ → Net → (ℕ → Bool) → ℕ → Exceeds → Type 0
 IsSearchFault budget net inside knot (faults.Wide k) = IsOverBy budget net inside knot (wide k)
 IsSearchFault budget net inside knot (faults.Spent k weight) = IsOverBy budget net inside knot (spent k weight budget)
 IsSearchFault budget net inside knot faults.NoMemory = Unit {0}

@@ -15,7 +15,6 @@ ghost use Rattle.reo_search.specs.choices.Trying.{AreOfKnot, IsLeastOf, MayResta
 ghost use Rattle.reo_search.specs.First.{IsFirstWithin, IsSearchFault, HasNoThreeColouring};
 
 use crate::choices::{first_over, narrow_all, weight_of};
-use crate::fault::SearchFault;
 use crate::widths::has_wide;
 use reo_knots::Knots;
 use reo_net_base::Primitive;
@@ -27,6 +26,7 @@ use reo_side_tables::{Board, boards_of};
 use reo_steps::Steps;
 use reo_values::{List, NoMemory};
 use reo_walk::{KeyPlace, Part, part_of, places_of};
+use reo_weights::Exceeds;
 use std::alloc::Global;
 use std::sync::ledger::Ledger;
 
@@ -120,7 +120,7 @@ pub fn first_with<P: Primitive, L: Ledger>(
     turn: u64,
     budget: u64,
     steps: &mut Steps<L>,
-) -> Result<Part, SearchFault>
+) -> Result<Part, Exceeds>
     requires knots { AreKnots (net_of P.behaviour circuit.now) knots.now }
     requires knot { knot < knot_count knots.now }
     requires reached { let net = net_of P.behaviour circuit.now in
@@ -151,7 +151,7 @@ pub fn first_with<P: Primitive, L: Ledger>(
     let _order = circuit.order();
     let sides = knots.sides(knot);
     if has_wide(circuit, boards, supply, sides) {
-        return Err(SearchFault::Wide { knot });
+        return Err(Exceeds::Wide { knot });
     }
     let items = supply.lists();
     let loops = knots.loop_joints(knot);
@@ -165,7 +165,7 @@ pub fn first_with<P: Primitive, L: Ledger>(
     let left = narrow_all(alloc, &basis, sides, state, loops)?;
     let weight = weight_of(&left);
     if weight > budget {
-        return Err(SearchFault::Spent { knot, weight });
+        return Err(Exceeds::Spent { knot, weight });
     }
     let places = places_of(alloc, circuit, sides)?;
     let chosen = first_numbers(
@@ -200,7 +200,7 @@ pub fn first<P: Primitive, L: Ledger>(
     turn: u64,
     budget: u64,
     steps: &mut Steps<L>,
-) -> Result<Part, SearchFault>
+) -> Result<Part, Exceeds>
     requires knots { AreKnots (net_of P.behaviour circuit.now) knots.now }
     requires knot { knot < knot_count knots.now }
     requires supply { IsSupply (net_of P.behaviour circuit.now) supply.now }

@@ -11,7 +11,7 @@ use reo_knots::Knots;
 use reo_net_base::Primitive;
 use reo_net_circuit::Circuit;
 use reo_reach::Supply;
-use reo_search::{Part, SearchFault, first, weight};
+use reo_search::{Exceeds, Part, first, weight};
 use reo_steps::Steps;
 use std::alloc::Global;
 use std::sync::ledger::Ledger;
@@ -23,10 +23,10 @@ pub const MOST: u64 = 999_999_999_999_999_999;
 #[derive(Clone, Copy)]
 enum Answer<'a> {
     Rows(&'a [u32]),
-    Fault(SearchFault),
+    Fault(Exceeds),
 }
 
-fn is_answer(answer: &Result<Part, SearchFault>, want: Answer<'_>) -> bool {
+fn is_answer(answer: &Result<Part, Exceeds>, want: Answer<'_>) -> bool {
     match answer {
         Ok(part) => match want {
             Answer::Rows(rows) => is_part(part, rows, false),
@@ -87,7 +87,7 @@ pub fn searched<P: Primitive, L: Ledger>(
         return false;
     };
     let want = if budget < weighs {
-        Answer::Fault(SearchFault::Spent {
+        Answer::Fault(Exceeds::Spent {
             knot: 0,
             weight: weighs,
         })
@@ -111,6 +111,6 @@ pub fn is_wide<P: Primitive, L: Ledger>(
     requires supply { IsSupply (net_of P.behaviour circuit.now) supply.now }
     requires short { AreShort supply.now }
 {
-    let wide = Answer::Fault(SearchFault::Wide { knot: 0 });
+    let wide = Answer::Fault(Exceeds::Wide { knot: 0 });
     !none_wide(supply) && answers(alloc, circuit, knots, supply, budget, wide, steps)
 }

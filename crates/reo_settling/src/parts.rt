@@ -7,7 +7,7 @@ ghost use Rattle.reo_net_laws.specs.Knots.{AreKnots, in_knot, knot_count};
 ghost use Rattle.reo_weights.specs.Weights.{IsWeight};
 ghost use Rattle.reo_mark_search.specs.MarkFinding.{AreRowsElsewhere, HasFirstRows};
 ghost use Rattle.reo_item_bounds.specs.Bounds.{HasBounds};
-ghost use Rattle.reo_part_plans.specs.Plannings.{IsPartFault, IsKept, is_settled, serves, IsPartPlanned};
+ghost use Rattle.reo_part_plans.specs.Plannings.{IsSearchFault, IsKept, is_settled, serves, IsPartPlanned};
 ghost use Rattle.reo_weights.specs.still.Joining.{HasFirst};
 ghost use Rattle.reo_flows.specs.flowing.Flowing.{AreFlowingOf, AreRowsIn};
 ghost use Rattle.reo_settling.specs.Lookups.{AreListed, AreSteady, IsListedAt};
@@ -20,7 +20,7 @@ use reo_mark_search::MarkFinding;
 use reo_net_base::Primitive;
 use reo_net_circuit::{Circuit, Ends};
 use reo_part_plans::{Kept, search_part};
-use reo_rounds::PlanFault;
+use reo_rounds::Exceeds;
 use reo_steps::Steps;
 use reo_values::{List, NoMemory};
 use std::alloc::Global;
@@ -40,7 +40,7 @@ impl Lookups {
         budget: u64,
         steps: &mut Steps<L>,
         rows: &mut List<u32>,
-    ) -> Result<(), PlanFault>
+    ) -> Result<(), Exceeds>
         requires knots { AreKnots (net_of P.behaviour circuit.now) knots.now }
         requires ends { AreEnds (net_of P.behaviour circuit.now) ends.now }
         requires part { part < knot_count knots.now }
@@ -51,7 +51,7 @@ impl Lookups {
         ensures listed { AreListed self.old self.new }
         ensures exact { let net = net_of P.behaviour circuit.now in
             MatchResult result (λ _. IsPartPlanned budget net knots.now turn part rows.old rows.new)
-            (IsPartFault budget net (in_knot knots.now.numbers part) part) }
+            (IsSearchFault budget net (in_knot knots.now.numbers part) part) }
         ensures ticks { let net = net_of P.behaviour circuit.now in
             (w : ℕ) → IsWeight net (in_knot knots.now.numbers part) w
             → steps.new ≤ steps.old + w }
@@ -110,7 +110,7 @@ impl Lookups {
         budget: u64,
         steps: &mut Steps<L>,
         rows: &mut List<u32>,
-    ) -> Result<(), PlanFault>
+    ) -> Result<(), Exceeds>
         requires knots { AreKnots (net_of P.behaviour circuit.now) knots.now }
         requires ends { AreEnds (net_of P.behaviour circuit.now) ends.now }
         requires part { part < knot_count knots.now }
@@ -123,7 +123,7 @@ impl Lookups {
         ensures listed { AreListed self.old self.new }
         ensures exact { let net = net_of P.behaviour circuit.now in
             MatchResult result (λ _. IsPartPlanned budget net knots.now turn part rows.old rows.new)
-            (IsPartFault budget net (in_knot knots.now.numbers part) part) }
+            (IsSearchFault budget net (in_knot knots.now.numbers part) part) }
         ensures ticks { let net = net_of P.behaviour circuit.now in
             (w : ℕ) → IsWeight net (in_knot knots.now.numbers part) w
             → steps.new ≤ steps.old + w }
@@ -155,7 +155,7 @@ impl Lookups {
         budget: u64,
         steps: &mut Steps<L>,
         rows: &mut List<u32>,
-    ) -> Result<Option<u64>, PlanFault>
+    ) -> Result<Option<u64>, Exceeds>
         requires knots { AreKnots (net_of P.behaviour circuit.now) knots.now }
         requires ends { AreEnds (net_of P.behaviour circuit.now) ends.now }
         requires part { part < knot_count knots.now }
@@ -168,7 +168,7 @@ impl Lookups {
             IfOk result (λ found. IfSome found (HasBounds net (in_knot knots.now.numbers part))) }
         ensures exact { let net = net_of P.behaviour circuit.now in
             MatchResult result (λ _. IsPartPlanned budget net knots.now turn part rows.old rows.new)
-            (IsPartFault budget net (in_knot knots.now.numbers part) part) }
+            (IsSearchFault budget net (in_knot knots.now.numbers part) part) }
         ensures ticks { let net = net_of P.behaviour circuit.now in
             (w : ℕ) → IsWeight net (in_knot knots.now.numbers part) w
             → steps.new ≤ steps.old + w }
@@ -264,7 +264,7 @@ impl Lookups {
         budget: u64,
         steps: &mut Steps<L>,
         rows: &mut List<u32>,
-    ) -> Result<(), PlanFault>
+    ) -> Result<(), Exceeds>
         requires knots { AreKnots (net_of P.behaviour circuit.now) knots.now }
         requires ends { AreEnds (net_of P.behaviour circuit.now) ends.now }
         requires part { part < knot_count knots.now }
@@ -280,7 +280,7 @@ impl Lookups {
             OnOk result (AreFlowingOf net inside rows.new list) }
         ensures exact { let net = net_of P.behaviour circuit.now in
             MatchResult result (λ _. IsPartPlanned budget net knots.now turn part rows.old rows.new)
-            (IsPartFault budget net (in_knot knots.now.numbers part) part) }
+            (IsSearchFault budget net (in_knot knots.now.numbers part) part) }
         ensures ticks { let net = net_of P.behaviour circuit.now in
             (w : ℕ) → IsWeight net (in_knot knots.now.numbers part) w
             → steps.new ≤ steps.old + w }
@@ -339,7 +339,7 @@ impl Lookups {
         told: bool,
         steps: &mut Steps<L>,
         rows: &mut List<u32>,
-    ) -> Result<(), PlanFault>
+    ) -> Result<(), Exceeds>
         requires knots { AreKnots (net_of P.behaviour circuit.now) knots.now }
         requires ends { AreEnds (net_of P.behaviour circuit.now) ends.now }
         requires part { part < knot_count knots.now }
@@ -362,7 +362,7 @@ impl Lookups {
             OnOk result (AreFlowingOf net inside rows.new list) }
         ensures exact { let net = net_of P.behaviour circuit.now in
             MatchResult result (λ _. IsPartPlanned budget net knots.now turn part rows.old rows.new)
-            (IsPartFault budget net (in_knot knots.now.numbers part) part) }
+            (IsSearchFault budget net (in_knot knots.now.numbers part) part) }
         ensures ticks { let net = net_of P.behaviour circuit.now in
             (w : ℕ) → IsWeight net (in_knot knots.now.numbers part) w
             → steps.new ≤ steps.old + cond (serves kept.now budget part) 0 w }

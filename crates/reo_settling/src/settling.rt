@@ -14,7 +14,7 @@ use reo_knots::Knots;
 use reo_net_base::Primitive;
 use reo_net_circuit::{Circuit, Ends};
 use reo_part_plans::Kept;
-use reo_rounds::PlanFault;
+use reo_rounds::Exceeds;
 use reo_steps::Steps;
 use reo_values::List;
 use std::alloc::Global;
@@ -63,7 +63,7 @@ impl Lookups {
         budget: u64,
         steps: &mut Steps<L>,
         list: List<u32>,
-    ) -> Result<List<u32>, PlanFault>
+    ) -> Result<List<u32>, Exceeds>
         requires knots { AreKnots (net_of P.behaviour circuit.now) knots.now }
         requires ends { AreEnds (net_of P.behaviour circuit.now) ends.now }
         requires turn { 1 ≤ turn }

@@ -11,7 +11,7 @@ use reo_net_base::Primitive;
 use reo_net_circuit::{Circuit, Ends, ends_of};
 use reo_propagate::{State, begin};
 use reo_reach::{Supply, reach};
-use reo_search::{Part, SearchFault, first_with};
+use reo_search::{Exceeds, Part, first_with};
 use reo_side_tables::{Board, boards_of};
 use reo_steps::Steps;
 use reo_values::List;
@@ -34,7 +34,7 @@ fn colour_with<P: Primitive, L: Ledger>(
     knot: usize,
     times: u32,
     steps: &mut Steps<L>,
-) -> Result<Part, SearchFault>
+) -> Result<Part, Exceeds>
     requires knots { AreKnots (net_of P.behaviour circuit.now) knots.now }
     requires knot { knot < knot_count knots.now }
     requires supply { IsSupply (net_of P.behaviour circuit.now) supply.now }
@@ -66,7 +66,7 @@ pub fn colour<P: Primitive, L: Ledger>(
     knot: usize,
     times: u32,
     steps: &mut Steps<L>,
-) -> Result<Part, SearchFault>
+) -> Result<Part, Exceeds>
     requires knots { AreKnots (net_of P.behaviour circuit.now) knots.now }
     requires knot { knot < knot_count knots.now }
 {

@@ -25,7 +25,7 @@ use crate::texts::text_of;
 use reo_kinds::Kind;
 use reo_knots::find_knots;
 use reo_net_circuit::Circuit;
-use reo_search::SearchFault;
+use reo_search::Exceeds;
 use reo_steps::Steps;
 use reo_values::{List, NoMemory};
 use std::alloc::Global;
@@ -56,7 +56,7 @@ fn first_rows<L: Ledger>(
     times: u32,
     by: By,
     steps: &mut Steps<L>,
-) -> Result<Option<List<u32>>, SearchFault> {
+) -> Result<Option<List<u32>>, Exceeds> {
     let knots = find_knots(alloc, circuit)?;
     if knots.count() == 0 {
         return Ok(None);
@@ -75,7 +75,7 @@ fn rows_for<L: Ledger>(
     alloc: Global,
     line: &str,
     steps: &mut Steps<L>,
-) -> Result<Option<List<u32>>, SearchFault> {
+) -> Result<Option<List<u32>>, Exceeds> {
     let Some(request) = request_of(line) else {
         return Ok(None);
     };
@@ -86,11 +86,7 @@ fn rows_for<L: Ledger>(
 }
 
 /// Shows what a line gives behind it.
-fn show(
-    rt: &HostRuntime,
-    line: &str,
-    found: Result<Option<List<u32>>, SearchFault>,
-) -> io::Result<()> {
+fn show(rt: &HostRuntime, line: &str, found: Result<Option<List<u32>>, Exceeds>) -> io::Result<()> {
     print!(rt; "{line}:")?;
     match found {
         Ok(Some(rows)) => show_rows(rt, rows.as_slice()),

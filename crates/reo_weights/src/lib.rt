@@ -1,8 +1,9 @@
-//! Widths, weights and budgets of the parts of a circuit, as mathematics. Each function is empty:
-//! its contract is a law.
+//! Widths, weights and budgets of the parts of a circuit, as mathematics, and what is said of a part
+//! that exceeds them. Each function is empty: its contract is a law.
 #![tactic(auto)]
 
 mod bounds;
+mod exceeds;
 mod fewer;
 mod numbers;
 mod over;
@@ -10,6 +11,7 @@ pub mod still;
 mod weights;
 
 pub use bounds::{bounded_parts_are_within, few_items_stand, weight_is_at_most};
+pub use exceeds::Exceeds;
 pub use fewer::{fewer_rows_stay_within, fewer_rows_weigh_no_more};
 pub use numbers::numbers_are_one;
 pub use over::{cause_is_one, causes_are_small, over_is_decided, within_is_not_over};

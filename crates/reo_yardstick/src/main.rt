@@ -21,7 +21,7 @@ use crate::engines::engine_of;
 use crate::rounds::rounds_agree;
 use crate::tally::{SearchTally, count, empty_tally};
 use crate::texts::text_of;
-use reo_engine::PlanFault;
+use reo_engine::Exceeds;
 use reo_runner::release_engine;
 use reo_steps::Steps;
 use std::alloc::Global;
@@ -36,7 +36,7 @@ fn agree_on<L: Ledger>(
     steps: &mut Steps<L>,
     chance: &mut Chance,
     tally: &mut SearchTally,
-) -> Result<bool, PlanFault> {
+) -> Result<bool, Exceeds> {
     match engine_of(alloc, text.as_bytes()) {
         Some(engine) => {
             let mut engine = engine;

@@ -10,7 +10,7 @@ use reo_kinds::Kind;
 use reo_knots::{Knots, find_knots};
 use reo_net_circuit::Circuit;
 use reo_reach::{Supply, reach};
-use reo_search::{SearchFault, first};
+use reo_search::{Exceeds, first};
 use reo_steps::Steps;
 use reo_values::NoMemory;
 use std::alloc::Global;
@@ -31,7 +31,7 @@ fn weight_of<L: Ledger>(
     requires short { AreShort supply.now }
 {
     match first(alloc, circuit, knots, supply, knot, 1, 1, steps) {
-        Err(SearchFault::Spent { weight, .. }) => weight,
+        Err(Exceeds::Spent { weight, .. }) => weight,
         _ => 1,
     }
 }

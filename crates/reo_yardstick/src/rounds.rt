@@ -3,7 +3,7 @@ use crate::arranged::all_arranged;
 use crate::chance::Chance;
 use crate::parts::count_parts;
 use crate::tally::{SearchTally, count};
-use reo_engine::{Engine, Plan, PlanFault};
+use reo_engine::{Engine, Exceeds, Plan};
 use reo_kinds::Kind;
 use reo_net::plain_first;
 use reo_net_base::{Colouring, Offer};
@@ -49,7 +49,7 @@ fn agrees<L: Ledger>(
     engine: &Engine<Kind>,
     steps: &mut Steps<L>,
     plain: &Colouring,
-) -> Result<bool, PlanFault> {
+) -> Result<bool, Exceeds> {
     let plan = engine.plan(alloc, BUDGET, steps)?;
     Ok(same(&plan.colouring, plain))
 }
@@ -62,7 +62,7 @@ fn plans_agree<L: Ledger>(
     steps: &mut Steps<L>,
     plain: &Colouring,
     prepared: bool,
-) -> Result<bool, PlanFault> {
+) -> Result<bool, Exceeds> {
     if !agrees(alloc, engine, steps, plain)? {
         return Ok(false);
     }
@@ -80,7 +80,7 @@ fn all_agree<L: Ledger>(
     steps: &mut Steps<L>,
     prepared: bool,
     tally: &mut SearchTally,
-) -> Result<bool, PlanFault> {
+) -> Result<bool, Exceeds> {
     engine.known();
     let turn = engine.rounds() + 1;
     let plain = plain_first(alloc, engine.circuit(), turn)?;
@@ -124,7 +124,7 @@ pub fn rounds_agree<L: Ledger>(
     steps: &mut Steps<L>,
     chance: &mut Chance,
     tally: &mut SearchTally,
-) -> Result<bool, PlanFault> {
+) -> Result<bool, Exceeds> {
     for _ in 0..8 {
         for port in 0..engine.circuit().ports() {
             change_offer(engine, chance, port);

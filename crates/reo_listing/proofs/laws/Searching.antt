@@ -21,7 +21,7 @@ use Rattle.reo_search.specs.First.{HasNoThreeColouring}
 use Rattle.reo_listing.specs.declared.base.fault.ListFault.{ListFault}
 use Rattle.reo_listing.specs.declared.base.fault.ListFault.TheVariants as faults
 use Rattle.reo_listing.specs.base.Tables.{AreMet, IsTable, mark_number, most_rows}
-use Rattle.reo_listing.specs.laws.Extended.{Extends, Exceeds, IsExtendFault}
+use Rattle.reo_listing.specs.laws.Extended.{Extends, HasMoreThanMost, IsExtendFault}
 use Rattle.reo_listing.specs.laws.Gated.{allowed_for, gate_of, IsGate, put_at, AreHeld}
 use Rattle.reo_listing.specs.laws.Searched.{IsSearched, HasThreeColouring}
 use Rattle.reo_listing.proofs.laws.FewerGates.{still_within}
@@ -43,7 +43,7 @@ module _ (w : Wiring Open) (knots : Knotted) (part budget : ℕ) (ports : List �
   pub front_added : length front ≡ length ports → HasThreeColouring net inside → (old new : List (List Mark)) → new ≡ old ++ front ∷ [] → Extends net inside ports old new
   front_added long three old new new_is = record { more = front ∷ []; new_is = new_is; table = front_table w is.wired inside ports front is.held long three.0 three.1 three.2 }
 
-  pub front_exceeds : length front ≡ length ports → HasThreeColouring net inside → (old : List (List Mark)) → most_rows ≤ length old → Exceeds net inside ports old
+  pub front_exceeds : length front ≡ length ports → HasThreeColouring net inside → (old : List (List Mark)) → most_rows ≤ length old → HasMoreThanMost net inside ports old
   front_exceeds long three old full = record { more = front ∷ []; are = (front_table w is.wired inside ports front is.held long three.0 three.1 three.2).are; many = omega (arith, full) }
 
   -- Nothing is met.
@@ -115,7 +115,7 @@ module _ (w : Wiring Open) (knots : Knotted) (part budget : ℕ) (ports : List �
             up_to = up_to_more w is.wired inside ports front is.held short is_closed gate.0 gate.1 m plain (held_wired gate.0 gate.1 m) added.more ex.more added.up_to ex.table;
           }
 
-      exceeds_more : Exceeds now inside ports new → Exceeds net inside ports old
+      exceeds_more : HasMoreThanMost now inside ports new → HasMoreThanMost net inside ports old
       exceeds_more ex = record {
         more = added.more ++ ex.more;
         are = met_more w is.wired inside ports front is.held short is_closed gate.0 gate.1 m plain (held_wired gate.0 gate.1 m) added.more ex.more added.up_to ex.are;

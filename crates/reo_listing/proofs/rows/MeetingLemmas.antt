@@ -8,8 +8,8 @@ use Rattle.reo_net_laws.specs.Jams.{jams}
 use Rattle.reo_net_laws.specs.Parts.{IsClosed, IsKnot}
 use Rattle.reo_weights.specs.Laws.{WeightIsOne}
 use Rattle.reo_weights.specs.Over.{IsWithin}
-use Rattle.reo_search.specs.declared.fault.SearchFault.{SearchFault}
-use Rattle.reo_search.specs.declared.fault.SearchFault.TheVariants as faults
+use Rattle.reo_weights.specs.declared.exceeds.Exceeds.{Exceeds}
+use Rattle.reo_weights.specs.declared.exceeds.Exceeds.TheVariants as faults
 use Rattle.reo_search.specs.First.{IsFirstWithin, IsSearchFault, HasNoThreeColouring}
 use Rattle.reo_walk.specs.declared.part.Part.{Part}
 use Rattle.reo_listing.specs.rows.Meeting.{IsMeeting}
@@ -36,7 +36,7 @@ module _ (net : Net) (inside : ℕ → Bool) (wired : IsWired net) (is_knot : Is
   meeting says = met_by part.jammed says.0 says.1
 
 -- A part within the budget is searched, unless memory runs out.
-pub only_memory : (net : Net) (inside : ℕ → Bool) → IsWired net → IsClosed net inside → WeightIsOne → (budget knot : ℕ) → IsWithin budget net inside → (fault : SearchFault) → IsSearchFault budget net inside knot fault → fault ≡ faults.NoMemory
+pub only_memory : (net : Net) (inside : ℕ → Bool) → IsWired net → IsClosed net inside → WeightIsOne → (budget knot : ℕ) → IsWithin budget net inside → (fault : Exceeds) → IsSearchFault budget net inside knot fault → fault ≡ faults.NoMemory
 only_memory net inside wired closed one budget knot within (faults.Wide k) is = absurd (within.narrow is.1)
 only_memory net inside wired closed one budget knot within (faults.Spent k weight) is =
     let same = one net wired inside closed within.weight weight within.weighs is.2.weighs in

@@ -13,7 +13,7 @@ pub record Extends (net : Net) (inside : ℕ → Bool) (ports : List ℕ) (old n
   pub table : IsTable net inside ports more
 
 -- With lists of the set there would be too many.
-pub record Exceeds (net : Net) (inside : ℕ → Bool) (ports : List ℕ) (old : List (List Mark)) : Type 0 where
+pub record HasMoreThanMost (net : Net) (inside : ℕ → Bool) (ports : List ℕ) (old : List (List Mark)) : Type 0 where
   pub more : List (List Mark)
   pub are : AreMet net inside ports more
   pub many : most_rows < length old + length more
@@ -22,5 +22,5 @@ pub record Exceeds (net : Net) (inside : ℕ → Bool) (ports : List ℕ) (old :
 abbrev pub IsExtendFault : Net → (ℕ → Bool) → List ℕ → List (List Mark) → ℕ → ListFault → Type 0
 IsExtendFault net inside ports old part (Filter i) = ⊥
 IsExtendFault net inside ports old part (Spent k weight) = ⊥
-IsExtendFault net inside ports old part (Rows k) = (k ≡ part) × Exceeds net inside ports old
+IsExtendFault net inside ports old part (Rows k) = (k ≡ part) × HasMoreThanMost net inside ports old
 IsExtendFault net inside ports old part NoMemory = Unit {0}

@@ -11,7 +11,7 @@ use reo_net_circuit::Circuit;
 use reo_net_laws::knot_jams_exactly;
 use reo_open::Open;
 use reo_reach::reach;
-use reo_search::{SearchFault, first};
+use reo_search::{Exceeds, first};
 use reo_steps::Steps;
 use reo_values::NoMemory;
 use reo_weights::weight_is_one;
@@ -19,8 +19,8 @@ use std::alloc::Global;
 use std::sync::ledger::Ledger;
 
 /// Out of memory, which is the one fault of a part within the budget.
-fn only_memory(fault: SearchFault) -> NoMemory
-    requires { fault ≡ SearchFault.NoMemory }
+fn only_memory(fault: Exceeds) -> NoMemory
+    requires { fault ≡ Exceeds.NoMemory }
 {
     let _ = fault;
     NoMemory

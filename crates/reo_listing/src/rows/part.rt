@@ -17,7 +17,7 @@ use reo_net_circuit::Circuit;
 use reo_net_laws::knot_jams_exactly;
 use reo_open::Open;
 use reo_reach::reach;
-use reo_search::{SearchFault, first};
+use reo_search::{Exceeds, first};
 use reo_steps::Steps;
 use reo_values::List;
 use std::alloc::Global;
@@ -51,9 +51,9 @@ fn begin<L: Ledger>(
     let supply = reach(alloc, circuit)?;
     match first(alloc, circuit, knots, &supply, part, 1, budget, steps) {
         Ok(found) => Ok(!found.jammed),
-        Err(SearchFault::Spent { knot, weight }) => Err(ListFault::Spent { part: knot, weight }),
-        Err(SearchFault::Wide { .. }) => unreachable!(),
-        Err(SearchFault::NoMemory) => Err(ListFault::NoMemory),
+        Err(Exceeds::Spent { knot, weight }) => Err(ListFault::Spent { part: knot, weight }),
+        Err(Exceeds::Wide { .. }) => unreachable!(),
+        Err(Exceeds::NoMemory) => Err(ListFault::NoMemory),
     }
 }
 

@@ -15,7 +15,7 @@ ghost use Rattle.reo_live.specs.talk.Talks.{stand_of, told_by};
 
 use crate::base::Answer;
 use crate::talk::reply::Reply;
-use reo_engine::{Engine, MadeRound, PlanFault, made_rounds_are_rounds};
+use reo_engine::{Engine, Exceeds, MadeRound, made_rounds_are_rounds};
 use reo_net_base::{Ported, Ports};
 use reo_steps::Steps;
 use reo_values::{Bytes, NoMemory};
@@ -30,7 +30,7 @@ fn make_counted<P: Ported, L: Ledger>(
     ports: &Ports,
     budget: u64,
     blank: Blank,
-) -> Result<(MadeRound, Bytes), PlanFault>
+) -> Result<(MadeRound, Bytes), Exceeds>
     requires name { blank.name ≡ L.name }
     requires parts { blank.parts ≡ L.parts }
     requires some_part { 0 < L.parts }
@@ -57,7 +57,7 @@ fn make_next<P: Ported>(
     engine: &mut Engine<P>,
     ports: &Ports,
     budget: u64,
-) -> Result<(MadeRound, Bytes), PlanFault>
+) -> Result<(MadeRound, Bytes), Exceeds>
     requires small { budget < 10 ^ 18 }
     ensures exact { let net = net_now P.behaviour engine.old in
         let turn = engine.old.rounds + 1 in
@@ -76,15 +76,15 @@ fn make_next<P: Ported>(
 }
 
 /// The answer that says why the round of a number cannot be made.
-fn stop(round: u64, budget: u64, fault: PlanFault) -> Result<Answer, NoMemory>
+fn stop(round: u64, budget: u64, fault: Exceeds) -> Result<Answer, NoMemory>
     ensures { IfOk result (IsStopOf round budget fault) }
 {
     match fault {
-        PlanFault::Wide { knot } => {
+        Exceeds::Wide { knot } => {
             let knot = knot as u64;
             Ok(Answer::Wide { round, knot })
         }
-        PlanFault::Spent { knot, weight } => {
+        Exceeds::Spent { knot, weight } => {
             let knot = knot as u64;
             Ok(Answer::Spent {
                 round,
@@ -93,7 +93,7 @@ fn stop(round: u64, budget: u64, fault: PlanFault) -> Result<Answer, NoMemory>
                 budget,
             })
         }
-        PlanFault::NoMemory => Err(NoMemory),
+        Exceeds::NoMemory => Err(NoMemory),
     }
 }
 

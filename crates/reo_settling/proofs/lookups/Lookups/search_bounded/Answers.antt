@@ -1,7 +1,7 @@
 use Rattle.std.proofs.Common.{◌≤◌, arith}
 use Rattle.reo_net_base.specs.Net.{Net, net_of}
 use Rattle.reo_net_laws.specs.Knots.{in_knot}
-use Rattle.reo_part_plans.specs.Plannings.{IsPartFault}
+use Rattle.reo_part_plans.specs.Plannings.{IsSearchFault}
 use Rattle.reo_settling.proofs.Found.{found_planned, searched_after}
 use Rattle.reo_settling.proofs.lookups.Lookups.search_bounded.Goals as goal
 
@@ -15,5 +15,5 @@ returns-then-search_by_marks-clause-exact g c =
 pub returns-clause-exact : goal.returns-clause-exact
 returns-clause-exact g c =
     let net : Net = net_of g.P.Primitive.behaviour c.args.circuit.now in
-    searched_after c.search_by_values-2.result (IsPartFault c.args.budget net (in_knot c.args.knots.now.numbers c.args.part) c.args.part) c.args.budget net c.args.knots.now c.args.turn c.args.part
+    searched_after c.search_by_values-2.result (IsSearchFault c.args.budget net (in_knot c.args.knots.now.numbers c.args.part) c.args.part) c.args.budget net c.args.knots.now c.args.turn c.args.part
     c.args.rows.now c.search_by_marks.new.rows c.search_by_values-2.new.rows c.search_by_marks.ensures.elsewhere c.search_by_values-2.ensures.exact
