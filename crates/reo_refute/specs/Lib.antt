@@ -1,3 +1,4 @@
 pub mod check
 pub mod next
 pub mod proving
+pub mod Round

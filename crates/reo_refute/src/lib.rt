@@ -4,6 +4,7 @@
 pub mod check;
 mod next;
 pub mod proving;
+mod round;
 
 pub use check::check_proof;
 pub use next::next_line;

@@ -9,7 +9,7 @@ use Rattle.reo_joint_values.specs.declared.value.JointValue.{JointValue}
 use Rattle.reo_joint_values.specs.Values.{Family}
 use Rattle.reo_refute_base.specs.Items.{Lists}
 use Rattle.reo_refute_base.specs.Live.{alone, live_at}
-use Rattle.reo_refute_live.specs.declared.live.Split.{Split}
+use Rattle.reo_refute_live.specs.declared.branches.Split.{Split}
 use Rattle.reo_refute_live.specs.declared.trail.Gone.{Gone}
 use Rattle.reo_refute_live.specs.Trail.{HasLost}
 use Rattle.reo_refute_live.specs.Open.{at_split, to_come, all_to_come, IsSplit, AreNested}

@@ -1,5 +1,7 @@
 pub mod Columns
 pub mod Families
 pub mod Flows
+pub mod Asked
 pub mod Marks
-pub mod Ends
+pub use Rattle.reo_joint_values.specs.Fitting.{given_for}
+pub use Rattle.reo_net_laws.specs.Ends.{mark_in}

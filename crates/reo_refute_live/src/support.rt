@@ -1,5 +1,6 @@
 //! Whether a value at a joint has support at a side, by columns of marks.
 
+mod asked;
 mod columns;
 mod flows;
 mod items;

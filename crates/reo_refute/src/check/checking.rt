@@ -8,6 +8,7 @@ use crate::check::colouring::check_rows;
 use crate::check::lines::Lines;
 use crate::check::parts::check_parts;
 use crate::check::stop::Stop;
+use crate::round::Round;
 use reo_net_base::Primitive;
 use reo_net_circuit::{Circuit, ends_of};
 use reo_refute_base::{ProofFault, items_are_listed, right_logs_refute};
@@ -48,16 +49,16 @@ fn judge<P: Primitive>(
             let tables = tables_of(alloc, circuit)?;
             let places = key_places(alloc, circuit)?;
             let mut lines = Lines::new(log);
-            check_parts(
+            let round = Round {
                 alloc,
                 circuit,
                 turn,
-                rows,
-                places.as_slice(),
-                lists.as_slice(),
-                &tables,
-                &mut lines,
-            )
+                given: rows,
+                places: places.as_slice(),
+                lists: lists.as_slice(),
+                tables: &tables,
+            };
+            check_parts(&round, &mut lines)
         }
     }
 }

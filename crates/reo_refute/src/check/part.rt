@@ -2,10 +2,8 @@
 ghost use Rattle.reo_refute_base.specs.declared.line.LogLine.TheVariants.{At as AtPlace};
 ghost use Rattle.std.specs.Prelude.{◌≢◌, true, false, ◌≡◌, ◌<◌, ℕ, List, OnOk, length};
 ghost use Rattle.reo_net_base.specs.Net.{net_of};
-ghost use Rattle.reo_refute_base.specs.Places.{IsAllowed};
-ghost use Rattle.reo_refute_parts.specs.places.AllowedRows.{AreAllowedRows};
-ghost use Rattle.reo_refute_live.specs.support.Columns.{AreTables};
-ghost use Rattle.reo_refute_live.specs.Open.{AreSmall, IsClosed};
+ghost use Rattle.reo_refute_live.specs.Judged.{IsJudged, allowed_in};
+ghost use Rattle.reo_refute_live.specs.Open.{IsClosed};
 ghost use Rattle.reo_refute.specs.check.Judging.{IsPartTaken};
 ghost use Rattle.reo_refute.specs.check.Reading.{IsShort, IsAtTaken};
 
@@ -13,11 +11,8 @@ use crate::check::lines::Lines;
 use crate::check::step::step;
 use crate::check::stop::Stop;
 use reo_net_base::Primitive;
-use reo_net_circuit::Circuit;
 use reo_refute_base::LogLine;
-use reo_refute_live::{Column, Live};
-use reo_refute_parts::AllowedRows;
-use reo_values::{List, Value};
+use reo_refute_live::{Judged, Open};
 use std::alloc::Global;
 
 /// Whether a line begins the part of a place.
@@ -54,34 +49,23 @@ pub(crate) fn take_at(lines: &mut Lines, number: usize) -> Result<(), Stop>
 /// splits, to the last of them.
 pub(crate) fn check_part<P: Primitive>(
     alloc: Global,
-    circuit: &Circuit<P>,
-    turn: u64,
-    given: &[u32],
-    number: usize,
-    lists: &[List<Value>],
-    tables: &List<List<Column>>,
-    allowed: &AllowedRows,
-    live: &mut Live,
+    judged: &Judged<'_, P>,
+    live: &mut Open,
     lines: &mut Lines,
     rows: &mut Vec<u8>,
 ) -> Result<(), Stop>
-    requires tables { AreTables (net_of P.behaviour circuit.now) tables.now }
-    requires lists { length lists.now ≡ length circuit.now.joints }
-    requires small { AreSmall lists.now }
-    requires allowed { AreAllowedRows (net_of P.behaviour circuit.now) turn given.now number
-        allowed.now }
-    requires closed { IsClosed lists.now live.old }
+    requires judged { IsJudged (net_of P.behaviour judged.now.circuit.now) judged.now }
+    requires closed { IsClosed judged.now.lists.now live.old }
     requires short { IsShort lines.old }
-    ensures part { let net = net_of P.behaviour circuit.now in
-        IsPartTaken net lists.now (IsAllowed net turn given.now number) lines.old lines.new result }
-    ensures closed { OnOk result (IsClosed lists.now live.new) }
+    ensures part { let net = net_of P.behaviour judged.now.circuit.now in
+        IsPartTaken net judged.now.lists.now (allowed_in net judged.now) lines.old lines.new
+        result }
+    ensures closed { OnOk result (IsClosed judged.now.lists.now live.new) }
 {
-    live.restart(lists);
+    live.restart(judged.lists);
     let mut open = true;
     while open {
-        match step(
-            alloc, circuit, turn, given, number, lists, tables, allowed, live, lines, rows,
-        ) {
+        match step(alloc, judged, live, lines, rows) {
             Ok(more) => open = more,
             Err(stop) => return Err(stop),
         }

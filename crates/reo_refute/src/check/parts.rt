@@ -1,139 +1,102 @@
 //! The parts of a log, one for each live place.
 ghost use Rattle.std.specs.Prelude.{◌≡◌, ◌<◌, ◌+◌, ℕ, List, OnOk, map, length};
 ghost use Rattle.reo_net_base.specs.Net.{net_of};
-ghost use Rattle.reo_net_base.specs.First.{positions};
-ghost use Rattle.reo_net_base.specs.Sides.{AreRowsOf};
 ghost use Rattle.reo_refute_base.specs.Places.{IsLive};
 ghost use Rattle.reo_refute_parts.specs.places.AllowedRows.{AreAgreeing, AreAllowedRows};
-ghost use Rattle.reo_refute_parts.specs.places.KeyPlaces.{IsPlace, position_of};
-ghost use Rattle.reo_refute_live.specs.support.Columns.{AreTables};
-ghost use Rattle.reo_refute_live.specs.Open.{AreSmall, IsClosed};
+ghost use Rattle.reo_refute_live.specs.Open.{IsClosed};
 ghost use Rattle.reo_refute.specs.check.Judging.{IsPlaceTaken, ArePartsTaken};
 ghost use Rattle.reo_refute.specs.check.Reading.{IsShort};
+ghost use Rattle.reo_refute.specs.Round.{IsRound};
 
 use crate::check::lines::Lines;
 use crate::check::part::{check_part, take_at};
 use crate::check::stop::Stop;
+use crate::round::Round;
 use reo_net_base::Primitive;
-use reo_net_circuit::Circuit;
-use reo_refute_live::{Column, Live};
-use reo_refute_parts::{AllowedRows, KeyPlace};
-use reo_values::{List, Value};
-use std::alloc::Global;
+use reo_refute_live::{Judged, Open};
+use reo_refute_parts::AllowedRows;
 
 /// Takes the part of a live place: the line that begins it, and its branch.
 fn check_live<P: Primitive>(
-    alloc: Global,
-    circuit: &Circuit<P>,
-    turn: u64,
-    given: &[u32],
+    round: &Round<'_, P>,
     number: usize,
-    lists: &[List<Value>],
-    tables: &List<List<Column>>,
     allowed: &AllowedRows,
-    live: &mut Live,
+    live: &mut Open,
     lines: &mut Lines,
     rows: &mut Vec<u8>,
 ) -> Result<(), Stop>
-    requires tables { AreTables (net_of P.behaviour circuit.now) tables.now }
-    requires lists { length lists.now ≡ length circuit.now.joints }
-    requires small { AreSmall lists.now }
-    requires allowed { AreAllowedRows (net_of P.behaviour circuit.now) turn given.now number
-        allowed.now }
-    requires closed { IsClosed lists.now live.old }
-    requires live { IsLive (net_of P.behaviour circuit.now) turn given.now number }
+    requires round { IsRound (net_of P.behaviour round.now.circuit.now) round.now }
+    requires allowed { AreAllowedRows (net_of P.behaviour round.now.circuit.now) round.now.turn
+        round.now.given.now number allowed.now }
+    requires closed { IsClosed round.now.lists.now live.old }
+    requires live { IsLive (net_of P.behaviour round.now.circuit.now) round.now.turn
+        round.now.given.now number }
     requires short { IsShort lines.old }
-    ensures taken { let net = net_of P.behaviour circuit.now in
-        IsPlaceTaken net turn given.now lists.now number lines.old lines.new result }
-    ensures closed { OnOk result (IsClosed lists.now live.new) }
+    ensures taken { let net = net_of P.behaviour round.now.circuit.now in
+        IsPlaceTaken net round.now.turn round.now.given.now round.now.lists.now number lines.old
+        lines.new result }
+    ensures closed { OnOk result (IsClosed round.now.lists.now live.new) }
 {
     match take_at(lines, number) {
         Err(stop) => Err(stop),
-        Ok(()) => check_part(
-            alloc, circuit, turn, given, number, lists, tables, allowed, live, lines, rows,
-        ),
+        Ok(()) => {
+            let judged = Judged {
+                circuit: round.circuit,
+                turn: round.turn,
+                given: round.given,
+                number,
+                allowed,
+                lists: round.lists,
+                tables: round.tables,
+            };
+            check_part(round.alloc, &judged, live, lines, rows)
+        }
     }
 }
 
 /// Takes the part of a place, if it is live, and goes past the place.
 fn check_place<P: Primitive>(
-    alloc: Global,
-    circuit: &Circuit<P>,
-    turn: u64,
-    given: &[u32],
+    round: &Round<'_, P>,
     number: usize,
-    place: KeyPlace,
-    lists: &[List<Value>],
-    tables: &List<List<Column>>,
     allowed: &mut AllowedRows,
-    live: &mut Live,
+    live: &mut Open,
     lines: &mut Lines,
     rows: &mut Vec<u8>,
 ) -> Result<(), Stop>
-    requires given { AreRowsOf (net_of P.behaviour circuit.now) given.now }
-    requires place { IsPlace (net_of P.behaviour circuit.now) turn number place }
-    requires tables { AreTables (net_of P.behaviour circuit.now) tables.now }
-    requires lists { length lists.now ≡ length circuit.now.joints }
-    requires small { AreSmall lists.now }
-    requires agreeing { AreAgreeing (net_of P.behaviour circuit.now) turn given.now number
-        allowed.old.agreeing }
-    requires closed { IsClosed lists.now live.old }
+    requires round { IsRound (net_of P.behaviour round.now.circuit.now) round.now }
+    requires number { number < length round.now.places.now }
+    requires agreeing { AreAgreeing (net_of P.behaviour round.now.circuit.now) round.now.turn
+        round.now.given.now number allowed.old.agreeing }
+    requires closed { IsClosed round.now.lists.now live.old }
     requires short { IsShort lines.old }
-    ensures taken { let net = net_of P.behaviour circuit.now in
-        IsPlaceTaken net turn given.now lists.now number lines.old lines.new result }
-    ensures agreeing { let net = net_of P.behaviour circuit.now in
-        OnOk result (AreAgreeing net turn given.now (number + 1) allowed.new.agreeing) }
-    ensures closed { OnOk result (IsClosed lists.now live.new) }
+    ensures taken { let net = net_of P.behaviour round.now.circuit.now in
+        IsPlaceTaken net round.now.turn round.now.given.now round.now.lists.now number lines.old
+        lines.new result }
+    ensures agreeing { let net = net_of P.behaviour round.now.circuit.now in
+        OnOk result (AreAgreeing net round.now.turn round.now.given.now (number + 1)
+        allowed.new.agreeing) }
+    ensures closed { OnOk result (IsClosed round.now.lists.now live.new) }
 {
-    if allowed.come_to(circuit, turn, given, number, place)? {
-        check_live(
-            alloc, circuit, turn, given, number, lists, tables, allowed, live, lines, rows,
-        )?;
+    let place = round.places[number];
+    if allowed.come_to(round.circuit, round.turn, round.given, number, place)? {
+        check_live(round, number, allowed, live, lines, rows)?;
     }
-    allowed.pass(circuit, turn, given, number, place);
+    allowed.pass(round.circuit, round.turn, round.given, number, place);
     Ok(())
 }
 
 /// Takes all parts, behind which no line is left.
-pub(crate) fn check_parts<P: Primitive>(
-    alloc: Global,
-    circuit: &Circuit<P>,
-    turn: u64,
-    given: &[u32],
-    places: &[KeyPlace],
-    lists: &[List<Value>],
-    tables: &List<List<Column>>,
-    lines: &mut Lines,
-) -> Result<(), Stop>
-    requires given { AreRowsOf (net_of P.behaviour circuit.now) given.now }
-    requires places { let net = net_of P.behaviour circuit.now in
-        map (position_of net turn) places.now ≡ positions net turn }
-    requires tables { AreTables (net_of P.behaviour circuit.now) tables.now }
-    requires lists { length lists.now ≡ length circuit.now.joints }
-    requires small { AreSmall lists.now }
+pub(crate) fn check_parts<P: Primitive>(round: &Round<'_, P>, lines: &mut Lines) -> Result<(), Stop>
+    requires round { IsRound (net_of P.behaviour round.now.circuit.now) round.now }
     requires short { IsShort lines.old }
-    ensures { let net = net_of P.behaviour circuit.now in
-        ArePartsTaken net turn given.now lists.now lines.old result }
+    ensures { let net = net_of P.behaviour round.now.circuit.now in
+        ArePartsTaken net round.now.turn round.now.given.now round.now.lists.now lines.old result }
 {
-    let mut allowed = AllowedRows::new(alloc, circuit)?;
-    let mut live = Live::new(alloc, lists)?;
-    let mut rows = Vec::new(alloc);
-    for number in 0..places.len() {
-        let place = places[number];
-        match check_place(
-            alloc,
-            circuit,
-            turn,
-            given,
-            number,
-            place,
-            lists,
-            tables,
-            &mut allowed,
-            &mut live,
-            lines,
-            &mut rows,
-        ) {
+    let mut allowed = AllowedRows::new(round.alloc, round.circuit)?;
+    let mut live = Open::new(round.alloc, round.lists)?;
+    let mut rows = Vec::new(round.alloc);
+    for number in 0..round.places.len() {
+        match check_place(round, number, &mut allowed, &mut live, lines, &mut rows) {
             Err(stop) => return Err(stop),
             Ok(()) => {}
         }

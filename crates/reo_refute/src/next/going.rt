@@ -5,104 +5,66 @@ ghost use Rattle.reo_joint_values.specs.Values.{AtSide};
 ghost use Rattle.reo_refute_base.specs.Items.{numbered};
 ghost use Rattle.reo_refute_base.specs.Live.{HasSupport};
 ghost use Rattle.reo_refute_base.specs.Logs.{MayGo};
-ghost use Rattle.reo_refute_base.specs.Places.{IsAllowed};
-ghost use Rattle.reo_refute_parts.specs.places.AllowedRows.{AreAllowedRows};
-ghost use Rattle.reo_refute_live.specs.support.Columns.{AreTables};
+ghost use Rattle.reo_refute_live.specs.Judged.{IsJudged, allowed_in};
 ghost use Rattle.reo_refute_live.specs.support.Families.{family_of};
 ghost use Rattle.reo_refute_live.specs.Open.{IsOpen};
 
 use reo_joint_values::JointValue;
 use reo_net_base::Primitive;
-use reo_net_circuit::Circuit;
-use reo_refute_live::{Column, Live, has_support};
-use reo_refute_parts::AllowedRows;
-use reo_values::{List, NoMemory, Value};
+use reo_refute_live::{Judged, Open, has_support};
+use reo_values::NoMemory;
 
 /// Whether a live value at a joint has support at a side of it, by the rows that are allowed at a
 /// place. `NoMemory` is out of memory.
 fn is_supported<P: Primitive>(
-    circuit: &Circuit<P>,
-    turn: u64,
-    given: &[u32],
-    number: usize,
-    lists: &[List<Value>],
-    tables: &List<List<Column>>,
-    allowed: &AllowedRows,
-    live: &Live,
+    judged: &Judged<'_, P>,
+    live: &Open,
     joint: usize,
     value: JointValue,
     side: usize,
     rows: &mut Vec<u8>,
 ) -> Result<bool, NoMemory>
-    requires tables { AreTables (net_of P.behaviour circuit.now) tables.now }
-    requires lists { length lists.now ≡ length circuit.now.joints }
-    requires open { IsOpen lists.now live.now }
-    requires allowed { AreAllowedRows (net_of P.behaviour circuit.now) turn given.now number
-        allowed.now }
-    requires joint { joint < length circuit.now.joints }
-    requires at { AtSide (net_of P.behaviour circuit.now) joint side }
+    requires judged { IsJudged (net_of P.behaviour judged.now.circuit.now) judged.now }
+    requires open { IsOpen judged.now.lists.now live.now }
+    requires joint { joint < length judged.now.circuit.now.joints }
+    requires at { AtSide (net_of P.behaviour judged.now.circuit.now) joint side }
     requires is_live { family_of live.now.table joint value ≡ true }
-    ensures stays { let net = net_of P.behaviour circuit.now in
-        IfOk result (λ stays. stays ≡ true → HasSupport net (numbered lists.now)
-        (IsAllowed net turn given.now number) (family_of live.now.table) side joint value) }
-    ensures goes { let net = net_of P.behaviour circuit.now in
-        IfOk result (λ stays. stays ≡ false → MayGo net lists.now
-        (IsAllowed net turn given.now number) (family_of live.now.table) joint value side) }
+    ensures stays { let net = net_of P.behaviour judged.now.circuit.now in
+        IfOk result (λ stays. stays ≡ true → HasSupport net (numbered judged.now.lists.now)
+        (allowed_in net judged.now) (family_of live.now.table) side joint value) }
+    ensures goes { let net = net_of P.behaviour judged.now.circuit.now in
+        IfOk result (λ stays. stays ≡ false → MayGo net judged.now.lists.now
+        (allowed_in net judged.now) (family_of live.now.table) joint value side) }
 {
-    circuit.known();
-    let _ = turn;
-    let _ = given;
-    let _ = number;
-    let stays = has_support(
-        circuit,
-        lists,
-        tables,
-        live.table(),
-        allowed.rows(side),
-        side,
-        joint,
-        value,
-        rows,
-    )?;
+    let stays = has_support(judged, live.table(), joint, value, side, rows)?;
     Ok(stays)
 }
 
 /// Whether a value at a joint is live and has no support at a side of it, by the rows that are
 /// allowed at a place. `NoMemory` is out of memory.
 pub(crate) fn may_go<P: Primitive>(
-    circuit: &Circuit<P>,
-    turn: u64,
-    given: &[u32],
-    number: usize,
-    lists: &[List<Value>],
-    tables: &List<List<Column>>,
-    allowed: &AllowedRows,
-    live: &Live,
+    judged: &Judged<'_, P>,
+    live: &Open,
     joint: usize,
     value: JointValue,
     side: usize,
     rows: &mut Vec<u8>,
 ) -> Result<bool, NoMemory>
-    requires tables { AreTables (net_of P.behaviour circuit.now) tables.now }
-    requires lists { length lists.now ≡ length circuit.now.joints }
-    requires open { IsOpen lists.now live.now }
-    requires allowed { AreAllowedRows (net_of P.behaviour circuit.now) turn given.now number
-        allowed.now }
-    requires joint { joint < length circuit.now.joints }
-    requires at { AtSide (net_of P.behaviour circuit.now) joint side }
-    ensures goes { let net = net_of P.behaviour circuit.now in
-        IfOk result (λ goes. goes ≡ true → MayGo net lists.now
-        (IsAllowed net turn given.now number) (family_of live.now.table) joint value side) }
-    ensures stays { let net = net_of P.behaviour circuit.now in
+    requires judged { IsJudged (net_of P.behaviour judged.now.circuit.now) judged.now }
+    requires open { IsOpen judged.now.lists.now live.now }
+    requires joint { joint < length judged.now.circuit.now.joints }
+    requires at { AtSide (net_of P.behaviour judged.now.circuit.now) joint side }
+    ensures goes { let net = net_of P.behaviour judged.now.circuit.now in
+        IfOk result (λ goes. goes ≡ true → MayGo net judged.now.lists.now
+        (allowed_in net judged.now) (family_of live.now.table) joint value side) }
+    ensures stays { let net = net_of P.behaviour judged.now.circuit.now in
         IfOk result (λ goes. goes ≡ false → family_of live.now.table joint value ≡ true
-        → HasSupport net (numbered lists.now) (IsAllowed net turn given.now number)
+        → HasSupport net (numbered judged.now.lists.now) (allowed_in net judged.now)
         (family_of live.now.table) side joint value) }
 {
-    if !live.is_live(lists, joint, value) {
+    if !live.is_live(judged.lists, joint, value) {
         return Ok(false);
     }
-    let stays = is_supported(
-        circuit, turn, given, number, lists, tables, allowed, live, joint, value, side, rows,
-    )?;
+    let stays = is_supported(judged, live, joint, value, side, rows)?;
     Ok(!stays)
 }

@@ -10,11 +10,11 @@ ghost use Rattle.reo_refute.specs.next.Next.{HasOne};
 
 use crate::next::values::{value_at, value_count};
 use reo_joint_values::JointValue;
-use reo_refute_live::Live;
+use reo_refute_live::Open;
 use reo_values::{List, Value};
 
 /// The first value that is live at a joint, if there is one.
-fn first_live(lists: &[List<Value>], live: &Live, joint: usize) -> Option<JointValue>
+fn first_live(lists: &[List<Value>], live: &Open, joint: usize) -> Option<JointValue>
     requires open { IsOpen lists.now live.now }
     requires small { AreSmall lists.now }
     requires joint { joint < length lists.now }
@@ -33,7 +33,7 @@ fn first_live(lists: &[List<Value>], live: &Live, joint: usize) -> Option<JointV
 /// Whether a value is live at a joint, and is another than this.
 fn is_other(
     lists: &[List<Value>],
-    live: &Live,
+    live: &Open,
     joint: usize,
     value: JointValue,
     first: JointValue,
@@ -46,7 +46,7 @@ fn is_other(
 }
 
 /// Whether another value than this is live at a joint.
-fn has_other(lists: &[List<Value>], live: &Live, joint: usize, first: JointValue) -> bool
+fn has_other(lists: &[List<Value>], live: &Open, joint: usize, first: JointValue) -> bool
     requires open { IsOpen lists.now live.now }
     requires small { AreSmall lists.now }
     requires joint { joint < length lists.now }
@@ -64,7 +64,7 @@ fn has_other(lists: &[List<Value>], live: &Live, joint: usize, first: JointValue
 }
 
 /// Whether two values are live at a joint.
-pub(crate) fn has_two(lists: &[List<Value>], live: &Live, joint: usize) -> bool
+pub(crate) fn has_two(lists: &[List<Value>], live: &Open, joint: usize) -> bool
     requires open { IsOpen lists.now live.now }
     requires small { AreSmall lists.now }
     requires joint { joint < length lists.now }

@@ -2,10 +2,8 @@
 ghost use Rattle.std.specs.Prelude.{◌≡◌, ◌≢◌, ◌<◌, ◌≤◌, ◌^◌, ℕ, List, [], IfOk, MatchOption, length};
 ghost use Rattle.reo_net_base.specs.Net.{net_of};
 ghost use Rattle.reo_refute_base.specs.Live.{live_at};
-ghost use Rattle.reo_refute_base.specs.Places.{IsAllowed};
 ghost use Rattle.reo_refute_base.specs.measure.Owed.{AreTwo};
-ghost use Rattle.reo_refute_parts.specs.places.AllowedRows.{AreAllowedRows};
-ghost use Rattle.reo_refute_live.specs.support.Columns.{AreTables};
+ghost use Rattle.reo_refute_live.specs.Judged.{IsJudged, allowed_in};
 ghost use Rattle.reo_refute_live.specs.support.Families.{family_of};
 ghost use Rattle.reo_refute_live.specs.Open.{IsOpen, AreSmall};
 ghost use Rattle.reo_refute.specs.next.Next.{HasOne, IsKept, IsNextLine, LeadsOn};
@@ -13,45 +11,31 @@ ghost use Rattle.reo_refute.specs.next.Next.{HasOne, IsKept, IsNextLine, LeadsOn
 use crate::next::joint::line_at;
 use crate::next::looking::has_two;
 use reo_net_base::Primitive;
-use reo_net_circuit::Circuit;
 use reo_refute_base::LogLine;
-use reo_refute_live::{Column, Live};
-use reo_refute_parts::AllowedRows;
+use reo_refute_live::{Judged, Open};
 use reo_values::{List, NoMemory, Value};
 
 /// The line of the first joint of some in a row at which no value is live, or one may go, if there
 /// is such a joint.
 fn kept_or_line<P: Primitive>(
-    circuit: &Circuit<P>,
-    turn: u64,
-    given: &[u32],
-    number: usize,
-    lists: &[List<Value>],
-    tables: &List<List<Column>>,
-    allowed: &AllowedRows,
-    live: &Live,
+    judged: &Judged<'_, P>,
+    live: &Open,
     from: usize,
     to: usize,
     rows: &mut Vec<u8>,
 ) -> Result<Option<LogLine>, NoMemory>
-    requires tables { AreTables (net_of P.behaviour circuit.now) tables.now }
-    requires lists { length lists.now ≡ length circuit.now.joints }
-    requires open { IsOpen lists.now live.now }
-    requires allowed { AreAllowedRows (net_of P.behaviour circuit.now) turn given.now number
-        allowed.now }
-    requires small { AreSmall lists.now }
-    requires to { to ≤ length circuit.now.joints }
-    ensures { let net = net_of P.behaviour circuit.now in
+    requires judged { IsJudged (net_of P.behaviour judged.now.circuit.now) judged.now }
+    requires open { IsOpen judged.now.lists.now live.now }
+    requires to { to ≤ length judged.now.circuit.now.joints }
+    ensures { let net = net_of P.behaviour judged.now.circuit.now in
         let family = family_of live.now.table in
         IfOk result (λ found. MatchOption found
         ((j : ℕ) → from ≤ j → j < to
-        → IsKept net lists.now (IsAllowed net turn given.now number) family j)
-        (LeadsOn net lists.now (IsAllowed net turn given.now number) family)) }
+        → IsKept net judged.now.lists.now (allowed_in net judged.now) family j)
+        (LeadsOn net judged.now.lists.now (allowed_in net judged.now) family)) }
 {
     for joint in from..to {
-        match line_at(
-            circuit, turn, given, number, lists, tables, allowed, live, joint, rows,
-        )? {
+        match line_at(judged, live, joint, rows)? {
             Some(line) => return Ok(Some(line)),
             None => {}
         }
@@ -60,7 +44,7 @@ fn kept_or_line<P: Primitive>(
 }
 
 /// The first joint at which two values are live, if there is one.
-fn first_double(lists: &[List<Value>], live: &Live) -> Option<usize>
+fn first_double(lists: &[List<Value>], live: &Open) -> Option<usize>
     requires open { IsOpen lists.now live.now }
     requires small { AreSmall lists.now }
     ensures { let family = family_of live.now.table in MatchOption result
@@ -82,38 +66,24 @@ fn first_double(lists: &[List<Value>], live: &Live) -> Option<usize>
 /// number on, which may be any, and then those before it. What the buffer held does not matter.
 /// `NoMemory` is out of memory.
 pub fn next_line<P: Primitive>(
-    circuit: &Circuit<P>,
-    turn: u64,
-    given: &[u32],
-    number: usize,
-    lists: &[List<Value>],
-    tables: &List<List<Column>>,
-    allowed: &AllowedRows,
-    live: &Live,
+    judged: &Judged<'_, P>,
+    live: &Open,
     from: usize,
     rows: &mut Vec<u8>,
 ) -> Result<Option<LogLine>, NoMemory>
-    requires tables { AreTables (net_of P.behaviour circuit.now) tables.now }
-    requires lists { length lists.now ≡ length circuit.now.joints }
-    requires open { IsOpen lists.now live.now }
-    requires allowed { AreAllowedRows (net_of P.behaviour circuit.now) turn given.now number
-        allowed.now }
-    requires small { AreSmall lists.now }
-    ensures { let net = net_of P.behaviour circuit.now in
-        IfOk result (IsNextLine net lists.now (IsAllowed net turn given.now number)
+    requires judged { IsJudged (net_of P.behaviour judged.now.circuit.now) judged.now }
+    requires open { IsOpen judged.now.lists.now live.now }
+    ensures { let net = net_of P.behaviour judged.now.circuit.now in
+        IfOk result (IsNextLine net judged.now.lists.now (allowed_in net judged.now)
         (family_of live.now.table)) }
 {
-    let count = circuit.joint_count();
+    let count = judged.circuit.joint_count();
     let from = from.min(count);
-    match kept_or_line(
-        circuit, turn, given, number, lists, tables, allowed, live, from, count, rows,
-    )? {
+    match kept_or_line(judged, live, from, count, rows)? {
         Some(line) => Ok(Some(line)),
-        None => match kept_or_line(
-            circuit, turn, given, number, lists, tables, allowed, live, 0, from, rows,
-        )? {
+        None => match kept_or_line(judged, live, 0, from, rows)? {
             Some(line) => Ok(Some(line)),
-            None => match first_double(lists, live) {
+            None => match first_double(judged.lists, live) {
                 Some(joint) => Ok(Some(LogLine::Split(joint))),
                 None => Ok(None),
             },

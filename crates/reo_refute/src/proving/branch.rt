@@ -1,20 +1,17 @@
 //! One branch of a log.
 ghost use Rattle.std.specs.Prelude.{◌^◌, ◌≡◌, ◌≤◌, ◌<◌, ℕ, List, [], IfOk, OnOk, IsTrue, cond, length};
 ghost use Rattle.reo_net_base.specs.Net.{net_of};
-ghost use Rattle.reo_refute_base.specs.Places.{IsAllowed};
-ghost use Rattle.reo_refute_parts.specs.places.AllowedRows.{AreAllowedRows};
-ghost use Rattle.reo_refute_live.specs.support.Columns.{AreTables};
+ghost use Rattle.reo_refute_live.specs.Judged.{IsJudged, allowed_in};
 ghost use Rattle.reo_refute_live.specs.Open.{open_in, IsOpen};
 ghost use Rattle.reo_refute.specs.proving.Making.{AreFew, NeverSettles, IsLineMade, IsBranchMade};
 
 use crate::next::next_line;
 use crate::proving::going::go_on;
 use reo_net_base::Primitive;
-use reo_net_circuit::Circuit;
 use reo_refute_base::LogLine;
-use reo_refute_live::{Column, Live};
-use reo_refute_parts::{AllowedRows, put_line};
-use reo_values::{Bytes, List, NoMemory, Value};
+use reo_refute_live::{Column, Judged, Open};
+use reo_refute_parts::put_line;
+use reo_values::{Bytes, List, NoMemory};
 use std::alloc::Global;
 
 /// How many joints before the one of a line are looked at first for the next.
@@ -42,40 +39,29 @@ fn count_sides(tables: &[List<Column>]) -> usize
 /// Writes the next line of a branch: whether a branch is open behind it.
 fn put_next<P: Primitive>(
     alloc: Global,
-    circuit: &Circuit<P>,
-    turn: u64,
-    given: &[u32],
-    number: usize,
-    lists: &[List<Value>],
-    tables: &List<List<Column>>,
-    allowed: &AllowedRows,
-    live: &mut Live,
+    judged: &Judged<'_, P>,
+    live: &mut Open,
     near: &mut usize,
     rows: &mut Vec<u8>,
     out: &mut Bytes,
 ) -> Result<bool, NoMemory>
-    requires tables { AreTables (net_of P.behaviour circuit.now) tables.now }
-    requires lists { length lists.now ≡ length circuit.now.joints }
-    requires few { AreFew lists.now }
-    requires allowed { AreAllowedRows (net_of P.behaviour circuit.now) turn given.now number
-        allowed.now }
-    requires never { NeverSettles (net_of P.behaviour circuit.now) lists.now
-        (IsAllowed (net_of P.behaviour circuit.now) turn given.now number) }
-    requires open { IsOpen lists.now live.old }
-    ensures open { IfOk result (λ more. IsTrue more → IsOpen lists.now live.new) }
-    ensures made { let net = net_of P.behaviour circuit.now in
-        IfOk result (λ more. IsLineMade net lists.now (IsAllowed net turn given.now number)
+    requires judged { IsJudged (net_of P.behaviour judged.now.circuit.now) judged.now }
+    requires few { AreFew judged.now.lists.now }
+    requires never { NeverSettles (net_of P.behaviour judged.now.circuit.now) judged.now.lists.now
+        (allowed_in (net_of P.behaviour judged.now.circuit.now) judged.now) }
+    requires open { IsOpen judged.now.lists.now live.old }
+    ensures open { IfOk result (λ more. IsTrue more → IsOpen judged.now.lists.now live.new) }
+    ensures made { let net = net_of P.behaviour judged.now.circuit.now in
+        IfOk result (λ more. IsLineMade net judged.now.lists.now (allowed_in net judged.now)
         (open_in live.old) (cond more (open_in live.new) []) out.old out.new) }
 {
-    circuit.known();
-    let _sides = count_sides(tables.as_slice());
-    match next_line(
-        circuit, turn, given, number, lists, tables, allowed, live, *near, rows,
-    )? {
+    judged.circuit.known();
+    let _sides = count_sides(judged.tables.as_slice());
+    match next_line(judged, live, *near, rows)? {
         Some(line) => {
             *near = near_of(line);
             put_line(alloc, out, line)?;
-            let more = go_on(alloc, circuit, turn, given, number, lists, live, line)?;
+            let more = go_on(alloc, judged, live, line)?;
             Ok(more)
         }
         None => Ok(false),
@@ -85,35 +71,23 @@ fn put_next<P: Primitive>(
 /// Writes a branch in which all values are live first.
 pub(crate) fn put_branch<P: Primitive>(
     alloc: Global,
-    circuit: &Circuit<P>,
-    turn: u64,
-    given: &[u32],
-    number: usize,
-    lists: &[List<Value>],
-    tables: &List<List<Column>>,
-    allowed: &AllowedRows,
+    judged: &Judged<'_, P>,
     rows: &mut Vec<u8>,
     out: &mut Bytes,
 ) -> Result<(), NoMemory>
-    requires tables { AreTables (net_of P.behaviour circuit.now) tables.now }
-    requires lists { length lists.now ≡ length circuit.now.joints }
-    requires few { AreFew lists.now }
-    requires allowed { AreAllowedRows (net_of P.behaviour circuit.now) turn given.now number
-        allowed.now }
-    requires never { NeverSettles (net_of P.behaviour circuit.now) lists.now
-        (IsAllowed (net_of P.behaviour circuit.now) turn given.now number) }
-    ensures { let net = net_of P.behaviour circuit.now in
-        OnOk result (IsBranchMade net lists.now (IsAllowed net turn given.now number) out.old
+    requires judged { IsJudged (net_of P.behaviour judged.now.circuit.now) judged.now }
+    requires few { AreFew judged.now.lists.now }
+    requires never { NeverSettles (net_of P.behaviour judged.now.circuit.now) judged.now.lists.now
+        (allowed_in (net_of P.behaviour judged.now.circuit.now) judged.now) }
+    ensures { let net = net_of P.behaviour judged.now.circuit.now in
+        OnOk result (IsBranchMade net judged.now.lists.now (allowed_in net judged.now) out.old
         out.new) }
 {
-    let mut live = Live::new(alloc, lists)?;
+    let mut live = Open::new(alloc, judged.lists)?;
     let mut open = true;
     let mut near = 0;
     while open {
-        open = put_next(
-            alloc, circuit, turn, given, number, lists, tables, allowed, &mut live, &mut near,
-            rows, out,
-        )?;
+        open = put_next(alloc, judged, &mut live, &mut near, rows, out)?;
     }
     Ok(())
 }

@@ -6,6 +6,7 @@ ghost use Rattle.reo_refute_base.specs.faults.Faults.{IsProof};
 ghost use Rattle.reo_refute.specs.check.Judging.{IsFirstRows};
 
 use crate::proving::parts::put_parts;
+use crate::round::Round;
 use reo_net_base::Primitive;
 use reo_net_circuit::{Circuit, ends_of};
 use reo_refute_base::items_are_listed;
@@ -36,16 +37,16 @@ pub fn prove<P: Primitive>(
         Some(lists) => {
             let tables = tables_of(alloc, circuit)?;
             let places = key_places(alloc, circuit)?;
-            put_parts(
+            let round = Round {
                 alloc,
                 circuit,
                 turn,
-                rows,
-                places.as_slice(),
-                lists.as_slice(),
-                &tables,
-                &mut out,
-            )?;
+                given: rows,
+                places: places.as_slice(),
+                lists: lists.as_slice(),
+                tables: &tables,
+            };
+            put_parts(&round, &mut out)?;
             Ok(out)
         }
     }

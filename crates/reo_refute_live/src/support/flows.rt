@@ -4,48 +4,47 @@ ghost use Rattle.reo_net_base.specs.Net.{net_of};
 ghost use Rattle.reo_net_laws.specs.Ends.{IsRowOf};
 ghost use Rattle.reo_joint_values.specs.Works.{Follows, IsGivenIn, TakerHas};
 ghost use Rattle.reo_refute_base.specs.Items.{numbered};
-ghost use Rattle.reo_refute_base.specs.Live.{alone};
+ghost use Rattle.reo_refute_live.specs.support.Asked.{IsAsked, held_in};
 ghost use Rattle.reo_refute_live.specs.support.Columns.{IsColumn};
-ghost use Rattle.reo_refute_live.specs.support.Families.{family_of};
-ghost use Rattle.reo_refute_live.specs.support.Flows.{AreReady, GivesFlow, TakesFlow, IsPassedOn, FlowStands, FlowsStand};
+ghost use Rattle.reo_refute_live.specs.support.Flows.{GivesFlow, TakesFlow, IsPassedOn, FlowStands, FlowsStand};
 
+use crate::support::asked::Asked;
 use crate::support::columns::Column;
 use crate::support::items::{gives_item, lets_in, source_of};
-use crate::support::live::{LiveAt, may_flow};
-use reo_joint_values::JointValue;
+use crate::support::live::may_flow;
 use reo_net_base::Primitive;
 use reo_net_circuit::Circuit;
-use reo_values::{List, Value};
+use reo_values::Value;
 
 /// The byte of flow.
 const FLOW: u8 = 1;
 
 /// Whether at a joint some item that may flow is what a row gives there for what it takes.
 fn gives_some<P: Primitive>(
-    circuit: &Circuit<P>,
-    lists: &[List<Value>],
-    columns: &[Column],
-    live: &[LiveAt],
-    held: usize,
-    value: JointValue,
-    side: usize,
+    asked: &Asked<'_, P>,
     row: usize,
     joint: usize,
     taken: Option<&Value>,
 ) -> bool
-    requires ready { let net = net_of P.behaviour circuit.now in
-        AreReady net side lists.now columns.now live.now }
-    requires row { IsRowOf (net_of P.behaviour circuit.now) side row }
-    requires gives { GivesFlow (net_of P.behaviour circuit.now) side row joint }
-    ensures { let net = net_of P.behaviour circuit.now in
-        IsTrue result ↔ IsGivenIn net (numbered lists.now) (alone (family_of live.now) held value)
+    requires ready { IsAsked (net_of P.behaviour asked.now.circuit.now) asked.now }
+    requires row { IsRowOf (net_of P.behaviour asked.now.circuit.now) asked.now.side row }
+    requires gives { GivesFlow (net_of P.behaviour asked.now.circuit.now) asked.now.side row joint }
+    ensures { let net = net_of P.behaviour asked.now.circuit.now in
+        IsTrue result ↔ IsGivenIn net (numbered asked.now.lists.now) (held_in asked.now)
         row joint (option_copied taken.entry) }
 {
-    let _ = columns;
+    let lists = asked.lists;
     let items = &lists[joint];
     for number in 0..items.len() {
-        if may_flow(live, held, value, joint, number)
-            && gives_item(circuit, side, row, joint, taken, items.at(number))
+        if may_flow(asked.live, asked.held, asked.value, joint, number)
+            && gives_item(
+                asked.circuit,
+                asked.side,
+                row,
+                joint,
+                taken,
+                items.at(number),
+            )
         {
             return true;
         }
@@ -80,44 +79,22 @@ fn flows_at(column: &Column, row: usize) -> bool
 }
 
 /// Whether some item may flow at each joint where a row gives for an item that it takes in.
-fn passes_on<P: Primitive>(
-    circuit: &Circuit<P>,
-    lists: &[List<Value>],
-    columns: &[Column],
-    live: &[LiveAt],
-    held: usize,
-    value: JointValue,
-    side: usize,
-    row: usize,
-    joint: usize,
-    item: &Value,
-) -> bool
-    requires ready { let net = net_of P.behaviour circuit.now in
-        AreReady net side lists.now columns.now live.now }
-    requires row { IsRowOf (net_of P.behaviour circuit.now) side row }
-    requires takes { TakesFlow (net_of P.behaviour circuit.now) side row joint }
-    ensures { let net = net_of P.behaviour circuit.now in
-        IsTrue result ↔ IsPassedOn net (numbered lists.now) (alone (family_of live.now) held value)
-        side row joint (Some item.now) }
+fn passes_on<P: Primitive>(asked: &Asked<'_, P>, row: usize, joint: usize, item: &Value) -> bool
+    requires ready { IsAsked (net_of P.behaviour asked.now.circuit.now) asked.now }
+    requires row { IsRowOf (net_of P.behaviour asked.now.circuit.now) asked.now.side row }
+    requires takes { TakesFlow (net_of P.behaviour asked.now.circuit.now) asked.now.side row joint }
+    ensures { let net = net_of P.behaviour asked.now.circuit.now in
+        IsTrue result ↔ IsPassedOn net (numbered asked.now.lists.now) (held_in asked.now)
+        asked.now.side row joint (Some item.now) }
 {
-    circuit.known();
+    asked.circuit.known();
+    let columns = asked.columns;
     for index in 0..columns.len() {
         let other = &columns[index];
         if other.gives
             && flows_at(other, row)
-            && follows(circuit, side, row, other.joint, joint)
-            && !gives_some(
-                circuit,
-                lists,
-                columns,
-                live,
-                held,
-                value,
-                side,
-                row,
-                other.joint,
-                Some(item),
-            )
+            && follows(asked.circuit, asked.side, row, other.joint, joint)
+            && !gives_some(asked, row, other.joint, Some(item))
         {
             return false;
         }
@@ -126,33 +103,21 @@ fn passes_on<P: Primitive>(
 }
 
 /// Whether at a joint a row lets in some item that may flow and for which it gives items that may.
-fn takes_some<P: Primitive>(
-    circuit: &Circuit<P>,
-    lists: &[List<Value>],
-    columns: &[Column],
-    live: &[LiveAt],
-    held: usize,
-    value: JointValue,
-    side: usize,
-    row: usize,
-    joint: usize,
-) -> bool
-    requires ready { let net = net_of P.behaviour circuit.now in
-        AreReady net side lists.now columns.now live.now }
-    requires row { IsRowOf (net_of P.behaviour circuit.now) side row }
-    requires takes { TakesFlow (net_of P.behaviour circuit.now) side row joint }
-    ensures { let net = net_of P.behaviour circuit.now in
-        IsTrue result ↔ TakerHas net (numbered lists.now) (alone (family_of live.now) held value)
-        side row joint }
+fn takes_some<P: Primitive>(asked: &Asked<'_, P>, row: usize, joint: usize) -> bool
+    requires ready { IsAsked (net_of P.behaviour asked.now.circuit.now) asked.now }
+    requires row { IsRowOf (net_of P.behaviour asked.now.circuit.now) asked.now.side row }
+    requires takes { TakesFlow (net_of P.behaviour asked.now.circuit.now) asked.now.side row joint }
+    ensures { let net = net_of P.behaviour asked.now.circuit.now in
+        IsTrue result ↔ TakerHas net (numbered asked.now.lists.now) (held_in asked.now)
+        asked.now.side row joint }
 {
+    let lists = asked.lists;
     let items = &lists[joint];
     for number in 0..items.len() {
         let item = items.at(number);
-        if may_flow(live, held, value, joint, number)
-            && lets_in(circuit, side, row, joint, item)
-            && passes_on(
-                circuit, lists, columns, live, held, value, side, row, joint, item,
-            )
+        if may_flow(asked.live, asked.held, asked.value, joint, number)
+            && lets_in(asked.circuit, asked.side, row, joint, item)
+            && passes_on(asked, row, joint, item)
         {
             return true;
         }
@@ -161,64 +126,41 @@ fn takes_some<P: Primitive>(
 }
 
 /// Whether what a row takes in or gives by a column, where it flows there, may stand.
-fn flow_stands<P: Primitive>(
-    circuit: &Circuit<P>,
-    lists: &[List<Value>],
-    columns: &[Column],
-    live: &[LiveAt],
-    held: usize,
-    value: JointValue,
-    side: usize,
-    row: usize,
-    column: &Column,
-) -> bool
-    requires ready { let net = net_of P.behaviour circuit.now in
-        AreReady net side lists.now columns.now live.now }
-    requires row { IsRowOf (net_of P.behaviour circuit.now) side row }
-    requires column { IsColumn (net_of P.behaviour circuit.now) side column.now }
-    ensures { let net = net_of P.behaviour circuit.now in
-        IsTrue result ↔ FlowStands net (numbered lists.now) (alone (family_of live.now) held value)
-        side row column.now }
+fn flow_stands<P: Primitive>(asked: &Asked<'_, P>, row: usize, column: &Column) -> bool
+    requires ready { IsAsked (net_of P.behaviour asked.now.circuit.now) asked.now }
+    requires row { IsRowOf (net_of P.behaviour asked.now.circuit.now) asked.now.side row }
+    requires column { let net = net_of P.behaviour asked.now.circuit.now in
+        IsColumn net asked.now.side column.now }
+    ensures { let net = net_of P.behaviour asked.now.circuit.now in
+        IsTrue result ↔ FlowStands net (numbered asked.now.lists.now) (held_in asked.now)
+        asked.now.side row column.now }
 {
-    circuit.known();
+    asked.circuit.known();
     if !flows_at(column, row) {
         return true;
     }
     let joint = column.joint;
     if !column.gives {
-        return takes_some(circuit, lists, columns, live, held, value, side, row, joint);
+        return takes_some(asked, row, joint);
     }
-    match source_of(circuit, side, row, joint) {
+    match source_of(asked.circuit, asked.side, row, joint) {
         Some(_) => true,
-        None => gives_some(
-            circuit, lists, columns, live, held, value, side, row, joint, None,
-        ),
+        None => gives_some(asked, row, joint, None),
     }
 }
 
 /// Whether what a row takes in and gives with flow may stand at each column.
-pub(crate) fn flows_stand<P: Primitive>(
-    circuit: &Circuit<P>,
-    lists: &[List<Value>],
-    columns: &[Column],
-    live: &[LiveAt],
-    held: usize,
-    value: JointValue,
-    side: usize,
-    row: usize,
-) -> bool
-    requires ready { let net = net_of P.behaviour circuit.now in
-        AreReady net side lists.now columns.now live.now }
-    requires row { IsRowOf (net_of P.behaviour circuit.now) side row }
-    ensures { let net = net_of P.behaviour circuit.now in
-        IsTrue result ↔ FlowsStand net (numbered lists.now) (alone (family_of live.now) held value)
-        side row columns.now }
+pub(crate) fn flows_stand<P: Primitive>(asked: &Asked<'_, P>, row: usize) -> bool
+    requires ready { IsAsked (net_of P.behaviour asked.now.circuit.now) asked.now }
+    requires row { IsRowOf (net_of P.behaviour asked.now.circuit.now) asked.now.side row }
+    ensures { let net = net_of P.behaviour asked.now.circuit.now in
+        IsTrue result ↔ FlowsStand net (numbered asked.now.lists.now) (held_in asked.now)
+        asked.now.side row asked.now.columns.now }
 {
+    let columns = asked.columns;
     for index in 0..columns.len() {
         let column = &columns[index];
-        if !flow_stands(
-            circuit, lists, columns, live, held, value, side, row, column,
-        ) {
+        if !flow_stands(asked, row, column) {
             return false;
         }
     }

@@ -52,7 +52,7 @@ pub(crate) fn lets_in<P: Primitive>(
 }
 
 /// Whether an item is what a row gives with flow at a joint for what it takes.
-#[tactic(auto, unfolding(crate::specs::support::Ends::given_for, crate::specs::support::Ends::mark_in))]
+#[tactic(auto, unfolding(crate::specs::support::given_for, crate::specs::support::mark_in))]
 pub(crate) fn gives_item<P: Primitive>(
     circuit: &Circuit<P>,
     side: usize,

@@ -1,13 +1,13 @@
 -- What a pass over the joints brings.
-use Rattle.std.proofs.Common.{◌≡◌, ℕ, zero, suc, ◌+◌, ◌-◌, ◌*◌, ◌<◌, ◌≤◌, List, [], ◌∷◌, length, get_or, map, refl, ap, sym, ◌∙◌, subst, arith, add-one}
-use Rattle.std.specs.Prelude.{Contains, replicate}
+use Rattle.std.proofs.Common.{◌≡◌, ℕ, zero, suc, ◌+◌, ◌-◌, ◌*◌, ◌<◌, ◌≤◌, List, [], ◌∷◌, length, map, refl, ap, sym, ◌∙◌, subst, arith, add-one}
+use Rattle.std.specs.Prelude.{replicate}
 use Rattle.std.specs.List.{sum_by}
 use Rattle.std.proofs.lemmas.List.Sums.{sum_by-cons}
 use Rattle.reo_values.specs.declared.value.Value.{Value}
 use Rattle.reo_net_base.specs.declared.joint.Joint.{Joint}
 use Rattle.reo_net_base.specs.Net.{Net}
 use Rattle.reo_net_base.specs.Wired.{IsWired}
-use Rattle.reo_joint_values.specs.Many.{AreDistinct, HasMany}
+use Rattle.reo_joint_values.specs.Many.{AreDistinct}
 use Rattle.reo_joint_values.proofs.Distinct.{distinct_fewer}
 use Rattle.reo_refute_base.specs.Items.{Lists, items_at, IsVisited, AreVisited, IsPass, ArePassed, AreItemLists}
 use Rattle.reo_refute_base.specs.Items.AreVisited.{next}

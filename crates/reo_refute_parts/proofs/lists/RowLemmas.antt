@@ -1,5 +1,5 @@
 -- What a row gives at an end, noted.
-use Rattle.std.proofs.Common.{◌≡◌, ◌≢◌, inl, inr, ℕ, ◌+◌, ◌<◌, List, [], ◌∷◌, ◌++◌, Bool, true, false, cond, Option, None, Some, length, get_or, refl, ap, sym, ◌∙◌, subst, arith}
+use Rattle.std.proofs.Common.{◌≡◌, ◌≢◌, ℕ, List, [], ◌∷◌, ◌++◌, Bool, true, false, cond, Option, None, Some, refl, ap, sym, ◌∙◌, subst, arith}
 use Rattle.std.specs.Prelude.{IsSome}
 use Rattle.std.specs.List.{flat_map}
 use Rattle.reo_values.specs.declared.value.Value.{Value}
@@ -15,9 +15,9 @@ use Rattle.reo_net_base.specs.Wired.{IsWired}
 use Rattle.reo_net_laws.specs.Ends.{mark_in, from_in}
 use Rattle.reo_net_circuit.specs.found_ends.Ends.{joint_at, AreEnds}
 use Rattle.reo_net_circuit.proofs.found_ends.EndLemmas.{taker_at}
-use Rattle.reo_joint_values.specs.Standing.{no_joint, taker_of, FlowsAt}
+use Rattle.reo_joint_values.specs.Standing.{no_joint, FlowsAt}
 use Rattle.reo_joint_values.specs.Fitting.{given_for, passes_in}
-use Rattle.reo_refute_base.specs.Items.{Lists, items_at, joint_into, listed, given_on, given_from, IsAdded}
+use Rattle.reo_refute_base.specs.Items.{Lists, items_at, joint_into, listed, given_on, given_from}
 use Rattle.reo_refute_base.specs.Items.IsAdded.{none}
 use Rattle.reo_refute_base.proofs.laws.Listing.{joint_is}
 use Rattle.reo_refute_parts.specs.lists.Noted.{IsNoted}

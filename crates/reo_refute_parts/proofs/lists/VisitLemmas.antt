@@ -1,5 +1,5 @@
 -- What a visit of a joint brings.
-use Rattle.std.proofs.Common.{◌≡◌, ◌⊎◌, inl, inr, ℕ, zero, suc, ◌+◌, ◌-◌, ◌*◌, ◌<◌, ◌≤◌, List, [], ◌∷◌, ◌++◌, length, get_or, set, refl, ap, sym, ◌∙◌, subst, arith, length-append}
+use Rattle.std.proofs.Common.{◌≡◌, inl, inr, ℕ, zero, suc, ◌+◌, ◌-◌, ◌<◌, ◌≤◌, List, [], ◌++◌, length, set, refl, ap, sym, ◌∙◌, subst, arith, length-append}
 use Rattle.std.specs.Prelude.{Contains}
 use Rattle.std.specs.List.{flat_map, range_with_len, sum_by}
 use Rattle.std.proofs.lemmas.List.{append-nil, nil_from_length, flat_map_more, get_or-set_same, get_or-set_other, length-set, ext_get_or}
@@ -9,7 +9,7 @@ use Rattle.std.proofs.lemmas.Bool.{cases_eq}
 use Rattle.reo_values.specs.declared.value.Value.{Value}
 use Rattle.reo_net_base.specs.Net.{Net}
 use Rattle.reo_net_laws.proofs.Ranges.{range_plus_one}
-use Rattle.reo_joint_values.specs.Standing.{giver_of, CanStand}
+use Rattle.reo_joint_values.specs.Standing.{giver_of}
 use Rattle.reo_joint_values.specs.Many.{AreDistinct, HasMany}
 use Rattle.reo_refute_base.specs.Items.{Lists, items_at, given_by, plain_rows, offered_at, IsAdded, IsVisited}
 use Rattle.reo_refute_base.proofs.laws.Standing.{added_from, offered_stand, visit_sound}

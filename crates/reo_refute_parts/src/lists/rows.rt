@@ -18,77 +18,90 @@ use reo_net_circuit::{Circuit, Ends};
 use reo_values::{List, NoMemory, Value};
 use std::alloc::Global;
 
+/// A row at an end that gives, in a circuit with the joint at each end and the items that stand at
+/// each joint so far.
+#[derive(Drop)]
+pub(crate) struct Giving<'a, P: Primitive> {
+    pub(crate) circuit: &'a Circuit<P>,
+    pub(crate) ends: &'a Ends,
+    pub(crate) lists: &'a [List<Value>],
+    pub(crate) giver: End,
+    pub(crate) row: usize,
+}
+
 /// Notes the item that a row gives by the state alone.
 fn note_alone<P: Primitive>(
     alloc: Global,
-    circuit: &Circuit<P>,
-    giver: End,
-    row: usize,
+    giving: &Giving<'_, P>,
     old: &[Value],
     new: &mut List<Value>,
 ) -> Result<(), NoMemory>
-    requires giver { IsGiver (net_of P.behaviour circuit.now) giver }
-    requires flows { FlowsAt (net_of P.behaviour circuit.now) giver row }
-    requires alone { from_in (net_of P.behaviour circuit.now) row giver ≡ None }
-    ensures { let net = net_of P.behaviour circuit.now in
-        OnOk result (IsNoted old.now new.old (listed (given_for net row giver None)) new.new) }
+    requires giver { IsGiver (net_of P.behaviour giving.now.circuit.now) giving.now.giver }
+    requires flows { FlowsAt (net_of P.behaviour giving.now.circuit.now) giving.now.giver
+        giving.now.row }
+    requires alone { from_in (net_of P.behaviour giving.now.circuit.now) giving.now.row
+        giving.now.giver ≡ None }
+    ensures { let net = net_of P.behaviour giving.now.circuit.now in
+        OnOk result (IsNoted old.now new.old (listed (given_for net giving.now.row giving.now.giver
+        None)) new.new) }
 {
-    circuit.known();
-    let primitive = circuit.primitive(giver.primitive);
-    let side = primitive.side_of(giver.end);
-    let item = primitive.gives(alloc, side, row, giver.end, None)?;
+    giving.circuit.known();
+    let primitive = giving.circuit.primitive(giving.giver.primitive);
+    let side = primitive.side_of(giving.giver.end);
+    let item = primitive.gives(alloc, side, giving.row, giving.giver.end, None)?;
     note(old, new, item)
 }
 
 /// Notes the item that a row gives for one that it takes, if it lets that one in.
 fn note_for<P: Primitive>(
     alloc: Global,
-    circuit: &Circuit<P>,
-    giver: End,
-    row: usize,
+    giving: &Giving<'_, P>,
     from: usize,
     taken: &Value,
     old: &[Value],
     new: &mut List<Value>,
 ) -> Result<(), NoMemory>
-    requires giver { IsGiver (net_of P.behaviour circuit.now) giver }
-    requires flows { FlowsAt (net_of P.behaviour circuit.now) giver row }
-    requires decides { from_in (net_of P.behaviour circuit.now) row giver ≡ Some from }
-    ensures { let net = net_of P.behaviour circuit.now in
-        let source = end_of giver.primitive from in
-        OnOk result (IsNoted old.now new.old (given_on net row giver source taken.now) new.new) }
+    requires giver { IsGiver (net_of P.behaviour giving.now.circuit.now) giving.now.giver }
+    requires flows { FlowsAt (net_of P.behaviour giving.now.circuit.now) giving.now.giver
+        giving.now.row }
+    requires decides { from_in (net_of P.behaviour giving.now.circuit.now) giving.now.row
+        giving.now.giver ≡ Some from }
+    ensures { let net = net_of P.behaviour giving.now.circuit.now in
+        let source = end_of giving.now.giver.primitive from in
+        OnOk result (IsNoted old.now new.old (given_on net giving.now.row giving.now.giver source
+        taken.now) new.new) }
 {
-    circuit.known();
-    let primitive = circuit.primitive(giver.primitive);
-    let side = primitive.side_of(giver.end);
-    if !primitive.passes(side, row, from, taken) {
+    giving.circuit.known();
+    let primitive = giving.circuit.primitive(giving.giver.primitive);
+    let side = primitive.side_of(giving.giver.end);
+    if !primitive.passes(side, giving.row, from, taken) {
         return Ok(());
     }
-    let item = primitive.gives(alloc, side, row, giver.end, Some(taken))?;
+    let item = primitive.gives(alloc, side, giving.row, giving.giver.end, Some(taken))?;
     note(old, new, item)
 }
 
 /// Notes the items that a row gives for those that it takes.
 fn note_passed<P: Primitive>(
     alloc: Global,
-    circuit: &Circuit<P>,
-    giver: End,
-    row: usize,
+    giving: &Giving<'_, P>,
     from: usize,
     taken: &[Value],
     old: &[Value],
     new: &mut List<Value>,
 ) -> Result<(), NoMemory>
-    requires giver { IsGiver (net_of P.behaviour circuit.now) giver }
-    requires flows { FlowsAt (net_of P.behaviour circuit.now) giver row }
-    requires decides { from_in (net_of P.behaviour circuit.now) row giver ≡ Some from }
-    ensures { let net = net_of P.behaviour circuit.now in
-        let source = end_of giver.primitive from in
-        OnOk result (IsNoted old.now new.old (flat_map (given_on net row giver source) taken.now)
-        new.new) }
+    requires giver { IsGiver (net_of P.behaviour giving.now.circuit.now) giving.now.giver }
+    requires flows { FlowsAt (net_of P.behaviour giving.now.circuit.now) giving.now.giver
+        giving.now.row }
+    requires decides { from_in (net_of P.behaviour giving.now.circuit.now) giving.now.row
+        giving.now.giver ≡ Some from }
+    ensures { let net = net_of P.behaviour giving.now.circuit.now in
+        let source = end_of giving.now.giver.primitive from in
+        OnOk result (IsNoted old.now new.old (flat_map (given_on net giving.now.row giving.now.giver
+        source) taken.now) new.new) }
 {
     for index in 0..taken.len() {
-        note_for(alloc, circuit, giver, row, from, &taken[index], old, new)?;
+        note_for(alloc, giving, from, &taken[index], old, new)?;
     }
     Ok(())
 }
@@ -96,34 +109,32 @@ fn note_passed<P: Primitive>(
 /// Notes the items that a row gives at an end by which it flows.
 fn note_given<P: Primitive>(
     alloc: Global,
-    circuit: &Circuit<P>,
-    ends: &Ends,
-    lists: &[List<Value>],
-    giver: End,
-    row: usize,
+    giving: &Giving<'_, P>,
     old: &[Value],
     new: &mut List<Value>,
 ) -> Result<(), NoMemory>
-    requires ends { AreEnds (net_of P.behaviour circuit.now) ends.now }
-    requires lists { length lists.now ≡ length circuit.now.joints }
-    requires giver { IsGiver (net_of P.behaviour circuit.now) giver }
-    requires flows { FlowsAt (net_of P.behaviour circuit.now) giver row }
-    ensures { let net = net_of P.behaviour circuit.now in
+    requires ends { AreEnds (net_of P.behaviour giving.now.circuit.now) giving.now.ends.now }
+    requires lists { length giving.now.lists.now ≡ length giving.now.circuit.now.joints }
+    requires giver { IsGiver (net_of P.behaviour giving.now.circuit.now) giving.now.giver }
+    requires flows { FlowsAt (net_of P.behaviour giving.now.circuit.now) giving.now.giver
+        giving.now.row }
+    ensures { let net = net_of P.behaviour giving.now.circuit.now in
         OnOk result (IsNoted old.now new.old
-        (given_from net lists.now row giver (from_in net row giver)) new.new) }
+        (given_from net giving.now.lists.now giving.now.row giving.now.giver
+        (from_in net giving.now.row giving.now.giver)) new.new) }
 {
-    circuit.known();
-    let primitive = circuit.primitive(giver.primitive);
-    let side = primitive.side_of(giver.end);
-    match primitive.from(side, row, giver.end) {
-        None => note_alone(alloc, circuit, giver, row, old, new),
+    giving.circuit.known();
+    let primitive = giving.circuit.primitive(giving.giver.primitive);
+    let side = primitive.side_of(giving.giver.end);
+    match primitive.from(side, giving.row, giving.giver.end) {
+        None => note_alone(alloc, giving, old, new),
         Some(from) => {
             let source = End {
-                primitive: giver.primitive,
+                primitive: giving.giver.primitive,
                 end: from,
             };
-            let taken = lists[ends.joint_at(source)].as_slice();
-            note_passed(alloc, circuit, giver, row, from, taken, old, new)
+            let taken = giving.lists[giving.ends.joint_at(source)].as_slice();
+            note_passed(alloc, giving, from, taken, old, new)
         }
     }
 }
@@ -131,27 +142,28 @@ fn note_given<P: Primitive>(
 /// Notes the items that a row gives at an end, if it flows there.
 pub(crate) fn note_row<P: Primitive>(
     alloc: Global,
-    circuit: &Circuit<P>,
-    ends: &Ends,
-    lists: &[List<Value>],
-    giver: End,
-    row: usize,
+    giving: &Giving<'_, P>,
     old: &[Value],
     new: &mut List<Value>,
 ) -> Result<(), NoMemory>
-    requires ends { AreEnds (net_of P.behaviour circuit.now) ends.now }
-    requires lists { length lists.now ≡ length circuit.now.joints }
-    requires giver { IsGiver (net_of P.behaviour circuit.now) giver }
-    requires row { let net = net_of P.behaviour circuit.now in
-        let b = behaviour_at net.primitives giver.primitive in
-        IsPlainRow b (b.side_of giver.end) row }
-    ensures { let net = net_of P.behaviour circuit.now in
-        OnOk result (IsNoted old.now new.old (given_at net lists.now giver row) new.new) }
+    requires ends { AreEnds (net_of P.behaviour giving.now.circuit.now) giving.now.ends.now }
+    requires lists { length giving.now.lists.now ≡ length giving.now.circuit.now.joints }
+    requires giver { IsGiver (net_of P.behaviour giving.now.circuit.now) giving.now.giver }
+    requires row { let net = net_of P.behaviour giving.now.circuit.now in
+        let b = behaviour_at net.primitives giving.now.giver.primitive in
+        IsPlainRow b (b.side_of giving.now.giver.end) giving.now.row }
+    ensures { let net = net_of P.behaviour giving.now.circuit.now in
+        OnOk result (IsNoted old.now new.old (given_at net giving.now.lists.now giving.now.giver
+        giving.now.row) new.new) }
 {
-    circuit.known();
-    let primitive = circuit.primitive(giver.primitive);
-    match primitive.mark(primitive.side_of(giver.end), row, giver.end) {
-        Mark::F => note_given(alloc, circuit, ends, lists, giver, row, old, new),
+    giving.circuit.known();
+    let primitive = giving.circuit.primitive(giving.giver.primitive);
+    match primitive.mark(
+        primitive.side_of(giving.giver.end),
+        giving.row,
+        giving.giver.end,
+    ) {
+        Mark::F => note_given(alloc, giving, old, new),
         _ => Ok(()),
     }
 }

@@ -9,9 +9,9 @@ use Rattle.reo_refute.proofs.check.part.check_part.Given as goal
 -- The lines so far lead a reader from one branch to those that are open.
 abbrev pub invariant-loop-open : goal.invariant-loop-open
 invariant-loop-open g l = record {
-  open_is : IsTrue l.open → IsOpen l.lists l.live;
-  closed_is : l.open ≡ false → IsClosed l.lists l.live;
-  leads : Leads (net_of g.P.Primitive.behaviour l.circuit) l.lists (IsAllowed (net_of g.P.Primitive.behaviour l.circuit) l.turn l.given l.number) l.initial.lines l.lines (cond l.open (open_in l.live) []);
+  open_is : IsTrue l.open → IsOpen l.judged.lists.now l.live;
+  closed_is : l.open ≡ false → IsClosed l.judged.lists.now l.live;
+  leads : Leads (net_of g.P.Primitive.behaviour l.judged.circuit.now) l.judged.lists.now (IsAllowed (net_of g.P.Primitive.behaviour l.judged.circuit.now) l.judged.turn l.judged.given.now l.judged.number) l.initial.lines l.lines (cond l.open (open_in l.live) []);
 }
 
 abbrev pub decreases-loop-open : goal.decreases-loop-open

@@ -7,7 +7,7 @@ use Rattle.reo_refute.proofs.check.parts.check_parts.Given as goal
 -- The lines so far go past the places so far.
 abbrev pub invariant-loop-number : goal.invariant-loop-number
 invariant-loop-number g l = record {
-  agreeing : AreAgreeing (net_of g.P.Primitive.behaviour l.circuit) l.turn l.given l.number l.allowed.agreeing;
-  closed : IsClosed l.lists l.live;
-  passed : ArePassed (net_of g.P.Primitive.behaviour l.circuit) l.turn l.given l.lists 0 l.number l.initial.lines l.lines;
+  agreeing : AreAgreeing (net_of g.P.Primitive.behaviour l.round.circuit.now) l.round.turn l.round.given.now l.number l.allowed.agreeing;
+  closed : IsClosed l.round.lists.now l.live;
+  passed : ArePassed (net_of g.P.Primitive.behaviour l.round.circuit.now) l.round.turn l.round.given.now l.round.lists.now 0 l.number l.initial.lines l.lines;
 }

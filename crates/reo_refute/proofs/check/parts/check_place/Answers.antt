@@ -8,12 +8,12 @@ use Rattle.reo_refute.proofs.check.parts.check_place.Goals.{then-branch+in_ok-ch
 
 pub returns-clause-taken : goal.returns-clause-taken
 returns-clause-taken g c =
-    let net : Net = net_of g.P.Primitive.behaviour c.args.circuit.now in
+    let net : Net = net_of g.P.Primitive.behaviour c.args.round.now.circuit.now in
     elim c.if-branch.branch [
       | then-branch+in_ok-check_live w ↦
-          subst (λ (l : Lines). ArePassed net c.args.turn c.args.given.now c.args.lists.now c.args.number (c.args.number + 1) c.args.lines.now l) (sym w.lines-is) w.in_ok-check_live.ensures.taken
+          subst (λ (l : Lines). ArePassed net c.args.round.now.turn c.args.round.now.given.now c.args.round.now.lists.now c.args.number (c.args.number + 1) c.args.lines.now l) (sym w.lines-is) w.in_ok-check_live.ensures.taken
       | else-branch w ↦
-          subst (λ (l : Lines). ArePassed net c.args.turn c.args.given.now c.args.lists.now c.args.number (c.args.number + 1) c.args.lines.now l) (sym w.lines-is)
-          (passed_dead net c.args.turn c.args.given.now c.args.lists.now c.args.number c.args.lines.now c.requires.short
+          subst (λ (l : Lines). ArePassed net c.args.round.now.turn c.args.round.now.given.now c.args.round.now.lists.now c.args.number (c.args.number + 1) c.args.lines.now l) (sym w.lines-is)
+          (passed_dead net c.args.round.now.turn c.args.round.now.given.now c.args.round.now.lists.now c.args.number c.args.lines.now c.requires.short
           (λ live. let wrong : false ≡ true = sym w.if-branch.false ∙ c.in_ok-come_to.ensures.live.1 live in cc))
     ]

@@ -10,5 +10,5 @@ use Rattle.reo_refute.proofs.next.joint.goes_at.Given as goal
 -- The live values so far have support.
 abbrev pub invariant-loop-place : goal.invariant-loop-place
 invariant-loop-place g l = (k : ℕ) → k < l.place
-    → family_of l.live.table l.joint (get_or (values_of l.lists l.joint) k Jam) ≡ true
-    → HasSupport (net_of g.P.Primitive.behaviour l.circuit) (numbered l.lists) (IsAllowed (net_of g.P.Primitive.behaviour l.circuit) l.turn l.given l.number) (family_of l.live.table) l.side l.joint (get_or (values_of l.lists l.joint) k Jam)
+    → family_of l.live.table l.joint (get_or (values_of l.judged.lists.now l.joint) k Jam) ≡ true
+    → HasSupport (net_of g.P.Primitive.behaviour l.judged.circuit.now) (numbered l.judged.lists.now) (IsAllowed (net_of g.P.Primitive.behaviour l.judged.circuit.now) l.judged.turn l.judged.given.now l.judged.number) (family_of l.live.table) l.side l.joint (get_or (values_of l.judged.lists.now l.joint) k Jam)

@@ -8,4 +8,4 @@ use Rattle.reo_refute.proofs.next.next.kept_or_line.Given as goal
 -- At each of the joints so far some value is live, and none may go.
 abbrev pub invariant-loop-joint : goal.invariant-loop-joint
 invariant-loop-joint g l = (j : ℕ) → l.from ≤ j → j < l.joint
-    → IsKept (net_of g.P.Primitive.behaviour l.circuit) l.lists (IsAllowed (net_of g.P.Primitive.behaviour l.circuit) l.turn l.given l.number) (family_of l.live.table) j
+    → IsKept (net_of g.P.Primitive.behaviour l.judged.circuit.now) l.judged.lists.now (IsAllowed (net_of g.P.Primitive.behaviour l.judged.circuit.now) l.judged.turn l.judged.given.now l.judged.number) (family_of l.live.table) j

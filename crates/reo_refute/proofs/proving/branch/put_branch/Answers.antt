@@ -8,29 +8,29 @@ use Rattle.reo_refute.proofs.proving.branch.put_branch.Goals as goal
 
 pub loop-open-init : goal.loop-open-init
 loop-open-init g c =
-    let net : Net = net_of g.P.Primitive.behaviour c.args.circuit.now in
+    let net : Net = net_of g.P.Primitive.behaviour c.args.judged.now.circuit.now in
     record {
       open_is = λ _. c.in_ok-live.ensures.open;
-      leads = leads_none net c.args.lists.now (IsAllowed net c.args.turn c.args.given.now c.args.number) c.args.out.now (open_in c.in_ok-live.live) c.in_ok-live.ensures.all;
+      leads = leads_none net c.args.judged.now.lists.now (IsAllowed net c.args.judged.now.turn c.args.judged.now.given.now c.args.judged.now.number) c.args.out.now (open_in c.in_ok-live.live) c.in_ok-live.ensures.all;
     }
 
 pub loop-open-preserved : goal.loop-open-preserved
 loop-open-preserved g c =
-    let net : Net = net_of g.P.Primitive.behaviour c.args.circuit.now in
-    let leads : Leads net c.args.lists.now (IsAllowed net c.args.turn c.args.given.now c.args.number) c.args.out.now c.loop-open.out (open_in c.loop-open.live) =
-    subst (λ (b : Bool). Leads net c.args.lists.now (IsAllowed net c.args.turn c.args.given.now c.args.number) c.args.out.now c.loop-open.out (cond b (open_in c.loop-open.live) [])) c.loop-open-test.true c.loop-open.invariant.leads in
+    let net : Net = net_of g.P.Primitive.behaviour c.args.judged.now.circuit.now in
+    let leads : Leads net c.args.judged.now.lists.now (IsAllowed net c.args.judged.now.turn c.args.judged.now.given.now c.args.judged.now.number) c.args.out.now c.loop-open.out (open_in c.loop-open.live) =
+    subst (λ (b : Bool). Leads net c.args.judged.now.lists.now (IsAllowed net c.args.judged.now.turn c.args.judged.now.given.now c.args.judged.now.number) c.args.out.now c.loop-open.out (cond b (open_in c.loop-open.live) [])) c.loop-open-test.true c.loop-open.invariant.leads in
     record {
       open_is = c.in_ok-open.ensures.open;
-      leads = leads_more net c.args.lists.now (IsAllowed net c.args.turn c.args.given.now c.args.number) c.args.out.now c.loop-open.out c.put_next.new.out (open_in c.loop-open.live) _ leads c.in_ok-open.ensures.made;
+      leads = leads_more net c.args.judged.now.lists.now (IsAllowed net c.args.judged.now.turn c.args.judged.now.given.now c.args.judged.now.number) c.args.out.now c.loop-open.out c.put_next.new.out (open_in c.loop-open.live) _ leads c.in_ok-open.ensures.made;
     }
 
 pub loop-open-smaller : goal.loop-open-smaller
 loop-open-smaller g c =
-    let net : Net = net_of g.P.Primitive.behaviour c.args.circuit.now in
-    subst (λ (b : Bool). owed net c.args.lists.now (cond c.in_ok-open.open (open_in c.put_next.new.live) []) < owed net c.args.lists.now (cond b (open_in c.loop-open.live) [])) (sym c.loop-open-test.true) c.in_ok-open.ensures.made.leads.less
+    let net : Net = net_of g.P.Primitive.behaviour c.args.judged.now.circuit.now in
+    subst (λ (b : Bool). owed net c.args.judged.now.lists.now (cond c.in_ok-open.open (open_in c.put_next.new.live) []) < owed net c.args.judged.now.lists.now (cond b (open_in c.loop-open.live) [])) (sym c.loop-open-test.true) c.in_ok-open.ensures.made.leads.less
 
 pub returns : goal.returns
 returns g c =
-    let net : Net = net_of g.P.Primitive.behaviour c.args.circuit.now in
-    branch_made net c.args.turn c.args.given.now c.args.lists.now c.args.number c.args.out.now c.loop-open.out
-    (subst (λ (b : Bool). Leads net c.args.lists.now (IsAllowed net c.args.turn c.args.given.now c.args.number) c.args.out.now c.loop-open.out (cond b (open_in c.loop-open.live) [])) c.loop-open-test.false c.loop-open.invariant.leads)
+    let net : Net = net_of g.P.Primitive.behaviour c.args.judged.now.circuit.now in
+    branch_made net c.args.judged.now.turn c.args.judged.now.given.now c.args.judged.now.lists.now c.args.judged.now.number c.args.out.now c.loop-open.out
+    (subst (λ (b : Bool). Leads net c.args.judged.now.lists.now (IsAllowed net c.args.judged.now.turn c.args.judged.now.given.now c.args.judged.now.number) c.args.out.now c.loop-open.out (cond b (open_in c.loop-open.live) [])) c.loop-open-test.false c.loop-open.invariant.leads)

@@ -1,25 +1,30 @@
-use Rattle.std.proofs.Common.{◌∙◌, length, ap, sym, subst}
+use Rattle.std.proofs.Common.{◌∙◌, length, map, ap, sym, subst}
 use Rattle.reo_net_base.specs.Net.{Net, net_of}
 use Rattle.reo_net_base.specs.First.{positions}
 use Rattle.reo_refute_base.specs.Items.{Lists, AreItemLists}
 use Rattle.reo_refute_base.specs.Wide.{IsWide}
-use Rattle.reo_refute.proofs.check.Judged.{lists_length}
+use Rattle.reo_refute_parts.specs.places.KeyPlaces.{position_of}
+use Rattle.reo_refute_live.specs.Open.{AreSmall}
+use Rattle.reo_refute.proofs.check.Judged.{lists_length, lists_small}
 use Rattle.reo_refute.specs.proving.Making.{AreFew, ArePartsMade}
 use Rattle.reo_refute.proofs.proving.FewItems.{lists_few}
 use Rattle.reo_refute.proofs.proving.Proved.{proved}
 use Rattle.reo_refute.proofs.proving.making.prove.Goals as goal
 
-pub put_parts-requires-clause-given : goal.put_parts-requires-clause-given
-put_parts-requires-clause-given g c = c.requires.first.1.colouring.rows_fit.in_tables
+pub put_parts-requires-clause-round : goal.put_parts-requires-clause-round
+put_parts-requires-clause-round g c =
+    let net : Net = net_of g.P.Primitive.behaviour c.args.circuit.now in
+    let are : AreItemLists net c.in-Some.lists × (IsWide net → ⊥) = rw c.in-Some.is at c.in_ok-item_lists.ensures in
+    record {
+      given = c.requires.first.1.colouring.rows_fit.in_tables;
+      places = ap (map (position_of net c.args.turn)) c.as_slice.ensures ∙ c.in_ok-places-in-Some.ensures c.args.turn;
+      tables = c.in_ok-tables-in-Some.ensures;
+      supply = ap (λ (l : Lists). length l) c.as_slice-in-Some.ensures ∙ lists_length net c.in-Some.lists are.0;
+      small = subst AreSmall (sym c.as_slice-in-Some.ensures) (lists_small c.items_are_listed.ensures net c.known.ensures.wired c.in-Some.lists are.0 are.1);
+    }
 
 pub put_parts-requires-clause-first : goal.put_parts-requires-clause-first
 put_parts-requires-clause-first g c = c.requires.first.1.least
-
-pub put_parts-requires-clause-lists : goal.put_parts-requires-clause-lists
-put_parts-requires-clause-lists g c =
-    let net : Net = net_of g.P.Primitive.behaviour c.args.circuit.now in
-    let are : AreItemLists net c.in-Some.lists × (IsWide net → ⊥) = rw c.in-Some.is at c.in_ok-item_lists.ensures in
-    ap (λ (l : Lists). length l) c.as_slice-in-Some.ensures ∙ lists_length net c.in-Some.lists are.0
 
 pub put_parts-requires-clause-few : goal.put_parts-requires-clause-few
 put_parts-requires-clause-few g c =

@@ -9,23 +9,23 @@ use Rattle.reo_refute.proofs.proving.parts.put_parts.Goals as goal
 
 pub loop-number-init : goal.loop-number-init
 loop-number-init g c =
-    let net : Net = net_of g.P.Primitive.behaviour c.args.circuit.now in
+    let net : Net = net_of g.P.Primitive.behaviour c.args.round.now.circuit.now in
     record {
-      agreeing = c.in_ok-allowed.ensures c.args.turn c.args.given.now;
-      made = none_made net c.args.turn c.args.given.now c.args.lists.now 0 c.args.out.now;
+      agreeing = c.in_ok-allowed.ensures c.args.round.now.turn c.args.round.now.given.now;
+      made = none_made net c.args.round.now.turn c.args.round.now.given.now c.args.round.now.lists.now 0 c.args.out.now;
     }
 
 pub loop-number-preserved : goal.loop-number-preserved
 loop-number-preserved g c =
-    let net : Net = net_of g.P.Primitive.behaviour c.args.circuit.now in
+    let net : Net = net_of g.P.Primitive.behaviour c.args.round.now.circuit.now in
     record {
       agreeing = c.in_ok-put_place.ensures.agreeing;
-      made = both_made net c.args.turn c.args.given.now c.args.lists.now 0 c.loop-number.number (c.loop-number.number + 1) c.args.out.now c.loop-number.out c.put_place.new.out c.loop-number.invariant.made c.in_ok-put_place.ensures.made;
+      made = both_made net c.args.round.now.turn c.args.round.now.given.now c.args.round.now.lists.now 0 c.loop-number.number (c.loop-number.number + 1) c.args.out.now c.loop-number.out c.put_place.new.out c.loop-number.invariant.made c.in_ok-put_place.ensures.made;
     }
 
 pub returns : goal.returns
 returns g c =
-    let net : Net = net_of g.P.Primitive.behaviour c.args.circuit.now in
-    let all : c.loop-number.number ≡ length (positions net c.args.turn) =
-    omega (arith, ap (λ (l : List Position). length l) c.requires.places, length-map c.args.places.now (position_of net c.args.turn), c.loop-number-test.false, c.loop-number.auto.number-end) in
-    subst (λ (n : ℕ). ArePartsMade net c.args.turn c.args.given.now c.args.lists.now 0 n c.args.out.now c.loop-number.out) all c.loop-number.invariant.made
+    let net : Net = net_of g.P.Primitive.behaviour c.args.round.now.circuit.now in
+    let all : c.loop-number.number ≡ length (positions net c.args.round.now.turn) =
+    omega (arith, ap (λ (l : List Position). length l) c.requires.round.places, length-map c.args.round.now.places.now (position_of net c.args.round.now.turn), c.loop-number-test.false, c.loop-number.auto.number-end) in
+    subst (λ (n : ℕ). ArePartsMade net c.args.round.now.turn c.args.round.now.given.now c.args.round.now.lists.now 0 n c.args.out.now c.loop-number.out) all c.loop-number.invariant.made

@@ -6,6 +6,6 @@ use Rattle.reo_refute.proofs.proving.parts.put_parts.Given as goal
 -- The lines so far go past the places so far.
 abbrev pub invariant-loop-number : goal.invariant-loop-number
 invariant-loop-number g l = record {
-  agreeing : AreAgreeing (net_of g.P.Primitive.behaviour l.circuit) l.turn l.given l.number l.allowed.agreeing;
-  made : ArePartsMade (net_of g.P.Primitive.behaviour l.circuit) l.turn l.given l.lists 0 l.number l.initial.out l.out;
+  agreeing : AreAgreeing (net_of g.P.Primitive.behaviour l.round.circuit.now) l.round.turn l.round.given.now l.number l.allowed.agreeing;
+  made : ArePartsMade (net_of g.P.Primitive.behaviour l.round.circuit.now) l.round.turn l.round.given.now l.round.lists.now 0 l.number l.initial.out l.out;
 }

@@ -10,4 +10,4 @@ use Rattle.reo_refute_live.proofs.support.flows.flows_stand.Given as goal
 -- What flows by the columns so far may stand.
 abbrev pub invariant-loop-index : goal.invariant-loop-index
 invariant-loop-index g l = (m : ℕ) → m < l.index
-    → FlowStands (net_of g.P.Primitive.behaviour l.circuit) (numbered l.lists) (alone (family_of l.live) l.held l.value) l.side l.row (get_or l.columns m no_column)
+    → FlowStands (net_of g.P.Primitive.behaviour l.asked.circuit.now) (numbered l.asked.lists.now) (alone (family_of l.asked.live.now) l.asked.held l.asked.value) l.asked.side l.row (get_or l.asked.columns.now m no_column)

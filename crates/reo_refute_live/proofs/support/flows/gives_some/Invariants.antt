@@ -10,5 +10,5 @@ use Rattle.reo_refute_live.proofs.support.flows.gives_some.Given as goal
 
 -- None of the items so far is given and may flow.
 abbrev pub invariant-loop-number : goal.invariant-loop-number
-invariant-loop-number g l = (n : ℕ) → n < l.number → alone (family_of l.live) l.held l.value l.joint (Flow n) ≡ true
-    → given_for (net_of g.P.Primitive.behaviour l.circuit) l.row (joint_of (net_of g.P.Primitive.behaviour l.circuit) l.joint).giver (option_copied l.taken) ≡ numbered l.lists l.joint n → ⊥
+invariant-loop-number g l = (n : ℕ) → n < l.number → alone (family_of l.asked.live.now) l.asked.held l.asked.value l.joint (Flow n) ≡ true
+    → given_for (net_of g.P.Primitive.behaviour l.asked.circuit.now) l.row (joint_of (net_of g.P.Primitive.behaviour l.asked.circuit.now) l.joint).giver (option_copied l.taken) ≡ numbered l.asked.lists.now l.joint n → ⊥

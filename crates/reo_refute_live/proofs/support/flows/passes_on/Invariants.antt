@@ -9,6 +9,6 @@ use Rattle.reo_refute_live.proofs.support.flows.passes_on.Given as goal
 
 -- What follows by the columns so far may stand.
 abbrev pub invariant-loop-index : goal.invariant-loop-index
-invariant-loop-index g l = (m : ℕ) → m < l.index → (get_or l.columns m no_column).gives ≡ true
-    → Follows (net_of g.P.Primitive.behaviour l.circuit) l.row (get_or l.columns m no_column).joint l.joint
-    → IsGivenIn (net_of g.P.Primitive.behaviour l.circuit) (numbered l.lists) (alone (family_of l.live) l.held l.value) l.row (get_or l.columns m no_column).joint (Some l.item)
+invariant-loop-index g l = (m : ℕ) → m < l.index → (get_or l.asked.columns.now m no_column).gives ≡ true
+    → Follows (net_of g.P.Primitive.behaviour l.asked.circuit.now) l.row (get_or l.asked.columns.now m no_column).joint l.joint
+    → IsGivenIn (net_of g.P.Primitive.behaviour l.asked.circuit.now) (numbered l.asked.lists.now) (alone (family_of l.asked.live.now) l.asked.held l.asked.value) l.row (get_or l.asked.columns.now m no_column).joint (Some l.item)

@@ -10,4 +10,4 @@ use Rattle.reo_refute_live.proofs.support.flows.takes_some.Given as goal
 -- None of the items so far may be taken in.
 abbrev pub invariant-loop-number : goal.invariant-loop-number
 invariant-loop-number g l = (n : ℕ) → n < l.number
-    → TakerWorks (net_of g.P.Primitive.behaviour l.circuit) (numbered l.lists) (alone (family_of l.live) l.held l.value) l.side l.row l.joint (Flow n) → ⊥
+    → TakerWorks (net_of g.P.Primitive.behaviour l.asked.circuit.now) (numbered l.asked.lists.now) (alone (family_of l.asked.live.now) l.asked.held l.asked.value) l.asked.side l.row l.joint (Flow n) → ⊥

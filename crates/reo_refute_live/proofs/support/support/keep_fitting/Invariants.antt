@@ -6,4 +6,4 @@ use Rattle.reo_refute_live.proofs.support.support.keep_fitting.Given as goal
 
 -- The bytes that are left behind the columns so far.
 abbrev pub invariant-loop-index : goal.invariant-loop-index
-invariant-loop-index g l = AreLeft (net_of g.P.Primitive.behaviour l.circuit) (alone (family_of l.live) l.held l.value) l.columns l.index l.initial.rows l.rows
+invariant-loop-index g l = AreLeft (net_of g.P.Primitive.behaviour l.asked.circuit.now) (alone (family_of l.asked.live.now) l.asked.held l.asked.value) l.asked.columns.now l.index l.initial.rows l.rows

@@ -9,4 +9,4 @@ use Rattle.reo_refute_live.proofs.support.support.some_stands.Given as goal
 -- None of the rows so far stands.
 abbrev pub invariant-loop-row : goal.invariant-loop-row
 invariant-loop-row g l = (k : ℕ) → k < l.row → get_or l.rows k 0 ≢ 0
-    → FlowsStand (net_of g.P.Primitive.behaviour l.circuit) (numbered l.lists) (alone (family_of l.live) l.held l.value) l.side k l.columns → ⊥
+    → FlowsStand (net_of g.P.Primitive.behaviour l.asked.circuit.now) (numbered l.asked.lists.now) (alone (family_of l.asked.live.now) l.asked.held l.asked.value) l.asked.side k l.asked.columns.now → ⊥

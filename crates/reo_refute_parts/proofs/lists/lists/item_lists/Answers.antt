@@ -1,4 +1,4 @@
-use Rattle.std.proofs.Common.{◌≡◌, ◌∙◌, ℕ, List, [], length, sym, ap, subst}
+use Rattle.std.proofs.Common.{◌≡◌, ◌∙◌, ℕ, [], length, sym, ap, subst}
 use Rattle.std.specs.Prelude.{replicate}
 use Rattle.reo_net_base.specs.Net.{Net, net_of}
 use Rattle.reo_refute_base.specs.Items.{Lists, AreItemLists}

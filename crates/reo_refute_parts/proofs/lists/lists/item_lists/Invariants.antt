@@ -1,4 +1,4 @@
-use Rattle.std.proofs.Common.{ℕ, ◌-◌, ◌*◌, length}
+use Rattle.std.proofs.Common.{◌-◌, ◌*◌, length}
 use Rattle.reo_net_base.specs.Net.{net_of}
 use Rattle.reo_refute_base.specs.Items.{ArePassed}
 use Rattle.reo_refute_parts.specs.lists.Visits.{AreGood, total}

@@ -1,8 +1,7 @@
-use Rattle.std.proofs.Common.{◌≡◌, ◌∙◌, ℕ, ◌+◌, ◌<◌, List, length, refl, sym, ap, subst, arith}
+use Rattle.std.proofs.Common.{refl, sym, subst, arith}
 use Rattle.reo_net_base.specs.Net.{Net, net_of}
 use Rattle.reo_refute_base.specs.Items.{Lists}
 use Rattle.reo_refute_base.specs.Items.AreVisited.{begun}
-use Rattle.reo_refute_parts.specs.declared.lists.visits.Brought.{Brought}
 use Rattle.reo_refute_parts.specs.lists.Passes.{SoFar}
 use Rattle.reo_refute_parts.proofs.lists.PassLemmas.{one_more, stayed, grew, all_passed}
 use Rattle.reo_refute_parts.proofs.lists.lists.pass.Goals as goal

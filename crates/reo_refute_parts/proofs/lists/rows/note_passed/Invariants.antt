@@ -8,4 +8,4 @@ use Rattle.reo_refute_parts.proofs.lists.rows.note_passed.Given as goal
 -- What is given for the items so far is noted.
 abbrev pub invariant-loop-index : goal.invariant-loop-index
 invariant-loop-index g l =
-    IsNoted l.old l.initial.new (flat_map (given_on (net_of g.P.Primitive.behaviour l.circuit) l.row l.giver (end_of l.giver.primitive l.from)) (take l.index l.taken)) l.new
+    IsNoted l.old l.initial.new (flat_map (given_on (net_of g.P.Primitive.behaviour l.giving.circuit.now) l.giving.row l.giving.giver (end_of l.giving.giver.primitive l.from)) (take l.index l.taken)) l.new

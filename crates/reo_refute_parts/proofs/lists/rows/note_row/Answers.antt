@@ -15,15 +15,15 @@ note_given-requires-clause-flows g c = record {
 pub returns-in-F : goal.returns-in-F
 unfolding mark_in
 returns-in-F g c =
-    let net : Net = net_of g.P.Primitive.behaviour c.args.circuit.now in
+    let net : Net = net_of g.P.Primitive.behaviour c.args.giving.now.circuit.now in
     let flows = sym (rw (c.side_of.ensures, c.primitive-primitive.ensures.behaviour) at c.in-F.ensures) in
     on_ok_weaker c.note_given.result
-    (noted_flow net c.args.lists.now c.args.giver c.args.row flows c.args.old.now c.args.new.now c.note_given.new.new)
+    (noted_flow net c.args.giving.now.lists.now c.args.giving.now.giver c.args.giving.now.row flows c.args.old.now c.args.new.now c.note_given.new.new)
     c.note_given.ensures
 
 pub returns-in_default : goal.returns-in_default
 unfolding mark_in
 returns-in_default g c =
-    let net : Net = net_of g.P.Primitive.behaviour c.args.circuit.now in
+    let net : Net = net_of g.P.Primitive.behaviour c.args.giving.now.circuit.now in
     let mark = rw (c.side_of.ensures, c.primitive-primitive.ensures.behaviour) at c.mark.ensures in
-    noted_none net c.args.lists.now c.args.giver c.args.row (λ flows. c.in_default.not-F (mark ∙ flows)) c.args.old.now c.args.new.now
+    noted_none net c.args.giving.now.lists.now c.args.giving.now.giver c.args.giving.now.row (λ flows. c.in_default.not-F (mark ∙ flows)) c.args.old.now c.args.new.now

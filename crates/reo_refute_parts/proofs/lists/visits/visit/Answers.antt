@@ -1,11 +1,10 @@
-use Rattle.std.proofs.Common.{◌≡◌, ◌∙◌, ℕ, ◌+◌, ◌<◌, ◌≤◌, List, [], ◌++◌, length, set, sym, ap, subst, arith}
+use Rattle.std.proofs.Common.{◌≡◌, ◌∙◌, ℕ, ◌<◌, List, [], ◌++◌, length, set, sym, ap, subst, arith}
 use Rattle.std.proofs.lemmas.List.{get_or_default}
 use Rattle.std.proofs.lemmas.Bool.Decides.{nat_tests}
 use Rattle.reo_values.specs.declared.value.Value.{Value}
 use Rattle.reo_net_base.specs.Net.{Net, net_of}
 use Rattle.reo_refute_base.specs.Items.{Lists, items_at}
 use Rattle.reo_refute_parts.specs.declared.lists.visits.Brought.{Brought}
-use Rattle.reo_refute_parts.specs.declared.lists.visits.Brought.TheVariants.{Nothing, Items}
 use Rattle.reo_refute_parts.specs.lists.Visits.{IsNew, Comes}
 use Rattle.reo_refute_parts.proofs.lists.VisitLemmas.{nothing_comes, items_come}
 use Rattle.reo_refute_parts.proofs.lists.visits.visit.Goals as goal

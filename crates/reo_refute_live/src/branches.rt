@@ -30,7 +30,7 @@ pub struct Split {
 /// which it stands, the outermost first. What went since a split comes back when its next branch
 /// begins, so that no split keeps a table of its own.
 #[derive(Drop)]
-pub struct Live {
+pub struct Open {
     /// What is live in the present branch.
     pub table: List<LiveAt>,
     /// The values that went, in their order.
@@ -39,15 +39,15 @@ pub struct Live {
     pub splits: List<Split>,
 }
 
-impl Live {
+impl Open {
     /// One branch, in which all values are live. `NoMemory` is out of memory.
-    pub fn new(alloc: Global, lists: &[List<Value>]) -> Result<Live, NoMemory>
+    pub fn new(alloc: Global, lists: &[List<Value>]) -> Result<Open, NoMemory>
         ensures open { IfOk result (IsOpen lists.now) }
         ensures closed { IfOk result (IsClosed lists.now) }
         ensures all { IfOk result (λ live. open_in live ≡ all_live lists.now ∷ []) }
     {
         let table = all_values(alloc, lists)?;
-        Ok(Live {
+        Ok(Open {
             table,
             gone: List::new(alloc),
             splits: List::new(alloc),

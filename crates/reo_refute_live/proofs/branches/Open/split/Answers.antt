@@ -4,11 +4,11 @@ use Rattle.reo_joint_values.specs.declared.value.JointValue.{JointValue}
 use Rattle.reo_joint_values.specs.Values.{Family}
 use Rattle.reo_refute_base.specs.Live.{alone, live_at}
 use Rattle.reo_refute_live.specs.support.Families.{family_of}
-use Rattle.reo_refute_live.specs.declared.live.Split.{Split}
+use Rattle.reo_refute_live.specs.declared.branches.Split.{Split}
 use Rattle.reo_refute_live.specs.Open.{all_to_come, IsSplit, AreNested}
 use Rattle.reo_refute_live.proofs.OpenLemmas.{split_open, split_after, splits_after, all_since, nested_more, some_first}
 use Rattle.reo_refute_live.proofs.TrailLemmas.{all_more, none_since}
-use Rattle.reo_refute_live.proofs.live.Live.split.Goals as goal
+use Rattle.reo_refute_live.proofs.branches.Open.split.Goals as goal
 
 pub returns-clause-open : goal.returns-clause-open
 returns-clause-open c =

@@ -3,7 +3,7 @@ use Rattle.std.specs.List.{All}
 use Rattle.reo_refute_live.specs.support.Families.{family_of}
 use Rattle.reo_refute_live.specs.Trail.{AreKept}
 use Rattle.reo_refute_live.specs.Open.{still_open, IsSplit, AreNested}
-use Rattle.reo_refute_live.proofs.live.Live.close.Given as goal
+use Rattle.reo_refute_live.proofs.branches.Open.close.Given as goal
 
 -- Nothing is to come of the splits that went.
 abbrev pub invariant-loop-split : goal.invariant-loop-split
