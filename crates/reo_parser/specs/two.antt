@@ -1,3 +1,3 @@
-pub mod Depth
+pub mod LoopDepth
 pub mod Reading
 pub mod ParsedAny

@@ -1,4 +1,4 @@
-pub mod Depth
+pub mod RepeatDepth
 pub mod Reading
 pub mod Places
 pub mod Lines

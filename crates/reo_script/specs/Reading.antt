@@ -3,8 +3,8 @@ use Rattle.std.specs.Prelude.{◌≤◌, List, length, drop}
 use Rattle.reo_grammar.specs.Tokens.{Lexeme}
 use Rattle.reo_grammar.specs.Grammar.{Says, Refused}
 use Rattle.reo_script.specs.scripts.ScriptForms.{script_rules, script_form}
-use Rattle.reo_script.specs.declared.texts.Outcome.{Outcome as Answer}
-use Rattle.reo_script.specs.declared.texts.Outcome.TheVariants as outcomes
+use Rattle.reo_script.specs.declared.texts.ScriptReading.{ScriptReading as Answer}
+use Rattle.reo_script.specs.declared.texts.ScriptReading.TheVariants as outcomes
 
 -- The tokens say the components, or are refused at the place, which is past the last one where they only begin a script.
 abbrev pub IsRead : List Lexeme → Answer → Type 0

@@ -6,7 +6,7 @@ ghost use Rattle.reo_lexer.specs.Lexing.{Lies, lexemes_of};
 ghost use Rattle.reo_cursor.specs.Reading.{lexeme_seen};
 ghost use Rattle.reo_terms.specs.Refused.{IsFirstDeep};
 ghost use Rattle.reo_script.specs.scripts.ScriptAnswers.{IsDeep, IsNested};
-ghost use Rattle.reo_script.specs.Depth.{Deepens};
+ghost use Rattle.reo_script.specs.RepeatDepth.{Deepens};
 
 use reo_cursor::{Seen, seen_of};
 use reo_lexer::Token;
@@ -17,7 +17,7 @@ const MOST_REPEATS: u64 = 16;
 
 /// What is counted over the tokens up to one.
 #[derive(Clone, Copy)]
-pub struct Depth {
+pub struct RepeatDepth {
     /// The levels of parentheses and operators.
     pub levels: Levels,
     /// How many `{` there are.
@@ -28,12 +28,12 @@ pub struct Depth {
     pub repeated: bool,
 }
 
-impl Depth {
+impl RepeatDepth {
     /// Before all tokens.
-    fn new() -> Depth
+    fn new() -> RepeatDepth
         ensures { Deepens result [] }
     {
-        Depth {
+        RepeatDepth {
             levels: Levels::new(),
             opened: 0,
             closed: 0,
@@ -42,7 +42,7 @@ impl Depth {
     }
 
     /// With one more token.
-    fn after(self, seen: Seen) -> Depth
+    fn after(self, seen: Seen) -> RepeatDepth
         requires parentheses { self.levels.opened < 2 ^ 63 }
         requires closing { self.levels.closed < 2 ^ 63 }
         requires operators { self.levels.operators < 2 ^ 63 }
@@ -51,7 +51,7 @@ impl Depth {
         ensures { (ts : List Lexeme) → Deepens self ts
             → Deepens result (ts ++ lexeme_seen seen.entry ∷ []) }
     {
-        Depth {
+        RepeatDepth {
             levels: self.levels.after(seen),
             opened: if seen.is(b"{") { 1 } else { 0 } + self.opened,
             closed: if seen.is(b"}") { 1 } else { 0 } + self.closed,
@@ -86,7 +86,7 @@ pub fn first_deep(text: &[u8], tokens: &[Token]) -> Option<usize>
     ensures { MatchOption result (Nowhere IsDeep (lexemes_of text.now tokens.now))
         (λ place. IsFirstDeep IsDeep (lexemes_of text.now tokens.now) place) }
 {
-    let mut depth = Depth::new();
+    let mut depth = RepeatDepth::new();
     for (place, token) in tokens.iter().enumerate() {
         depth = depth.after(seen_of(text, *token));
         if depth.is_deep() {

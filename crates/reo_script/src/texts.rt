@@ -18,14 +18,14 @@ use std::alloc::Global;
 
 /// What reading all of a list of tokens comes to.
 #[derive(Drop)]
-pub enum Outcome {
+pub enum ScriptReading {
     /// They say these components.
     Said(List<ComponentForm>),
     /// They are refused at this place, which is past the last one where they only begin a text.
     Refused { place: usize },
 }
 
-fn read_all(alloc: Global, text: &[u8], tokens: &[Token]) -> Result<Outcome, NoMemory>
+fn read_all(alloc: Global, text: &[u8], tokens: &[Token]) -> Result<ScriptReading, NoMemory>
     requires spans { All (Lies text.now) tokens.now }
     requires real { AreReal (lexemes_of text.now tokens.now) }
     requires few { length tokens.now < 2 ^ 32 }
@@ -35,14 +35,14 @@ fn read_all(alloc: Global, text: &[u8], tokens: &[Token]) -> Result<Outcome, NoM
     match components(&mut cursor, alloc, tokens.len() + 1) {
         Ok(components) => {
             if cursor.left() == 0 {
-                Ok(Outcome::Said(components))
+                Ok(ScriptReading::Said(components))
             } else {
-                Ok(Outcome::Refused {
+                Ok(ScriptReading::Refused {
                     place: tokens.len() - cursor.left(),
                 })
             }
         }
-        Err(Halt::Syntax) => Ok(Outcome::Refused {
+        Err(Halt::Syntax) => Ok(ScriptReading::Refused {
             place: tokens.len() - cursor.left(),
         }),
         Err(Halt::Room) => unreachable!(),
@@ -64,8 +64,8 @@ fn said_within(
     ensures { IsSaid text.now result }
 {
     match read_all(alloc, text, tokens)? {
-        Outcome::Said(components) => Ok(components),
-        Outcome::Refused { place } => Err(ScriptFault::Syntax {
+        ScriptReading::Said(components) => Ok(components),
+        ScriptReading::Refused { place } => Err(ScriptFault::Syntax {
             line: line_of_refusal(tokens, place),
         }),
     }
@@ -90,8 +90,8 @@ fn said_above(
         line: tokens[place].line,
     };
     match read_all(alloc, text, &tokens[..place + 1])? {
-        Outcome::Said(_) => Err(too_deep),
-        Outcome::Refused { place: refused } => {
+        ScriptReading::Said(_) => Err(too_deep),
+        ScriptReading::Refused { place: refused } => {
             if refused <= place {
                 Err(ScriptFault::Syntax {
                     line: tokens[refused].line,

@@ -4,8 +4,8 @@ use Rattle.reo_grammar.specs.Tokens.{Lexeme}
 use Rattle.reo_grammar.specs.Grammar.{Says, Refused}
 use Rattle.reo_trees.specs.Rules.{circuit_rules}
 use Rattle.reo_trees.specs.ProgramsTwo.{program_two}
-use Rattle.reo_parser.specs.declared.two.texts.Outcome.{Outcome as Answer}
-use Rattle.reo_parser.specs.declared.two.texts.Outcome.TheVariants as outcomes
+use Rattle.reo_parser.specs.declared.two.texts.Parsing.{Parsing as Answer}
+use Rattle.reo_parser.specs.declared.two.texts.Parsing.TheVariants as outcomes
 
 -- The tokens say the program, or are refused at the place, which is past the last one where they only begin a text.
 abbrev pub IsRead : List Lexeme → Answer → Type 0

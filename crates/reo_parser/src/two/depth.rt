@@ -7,7 +7,7 @@ ghost use Rattle.reo_cursor.specs.Reading.{lexeme_seen};
 ghost use Rattle.reo_trees.specs.SaysTwo.{IsDeepTwo, IsLooped, item_starts, most_loops};
 ghost use Rattle.reo_trees.specs.loops.Places.{is_for};
 ghost use Rattle.reo_terms.specs.Refused.{IsFirstDeep};
-ghost use Rattle.reo_parser.specs.two.Depth.{Deepens};
+ghost use Rattle.reo_parser.specs.two.LoopDepth.{Deepens};
 
 use reo_cursor::{Seen, seen_of};
 use reo_lexer::{Token, TokenKind};
@@ -18,7 +18,7 @@ const MOST_LOOPS: u64 = 8;
 
 /// What is counted over the tokens up to one.
 #[derive(Clone, Copy)]
-pub struct Depth {
+pub struct LoopDepth {
     /// The levels of parentheses and operators.
     pub levels: Levels,
     /// How many `{` there are.
@@ -46,12 +46,12 @@ fn is_name_of_loops(seen: Seen) -> bool
     seen.kind == TokenKind::Name && seen.bytes == b"for".as_slice()
 }
 
-impl Depth {
+impl LoopDepth {
     /// Before all tokens.
-    fn new() -> Depth
+    fn new() -> LoopDepth
         ensures { Deepens result [] }
     {
-        Depth {
+        LoopDepth {
             levels: Levels::new(),
             opened: 0,
             closed: 0,
@@ -61,7 +61,7 @@ impl Depth {
     }
 
     /// With one more token.
-    fn after(self, seen: Seen) -> Depth
+    fn after(self, seen: Seen) -> LoopDepth
         requires parentheses { self.levels.opened < 2 ^ 63 }
         requires closing { self.levels.closed < 2 ^ 63 }
         requires operators { self.levels.operators < 2 ^ 63 }
@@ -70,7 +70,7 @@ impl Depth {
         ensures { (ts : List Lexeme) → Deepens self ts
             → Deepens result (ts ++ lexeme_seen seen.entry ∷ []) }
     {
-        Depth {
+        LoopDepth {
             levels: self.levels.after(seen),
             opened: if seen.is(b"{") { 1 } else { 0 } + self.opened,
             closed: if seen.is(b"}") { 1 } else { 0 } + self.closed,
@@ -106,7 +106,7 @@ pub fn first_deep(text: &[u8], tokens: &[Token]) -> Option<usize>
     ensures { MatchOption result (Nowhere IsDeepTwo (lexemes_of text.now tokens.now))
         (λ place. IsFirstDeep IsDeepTwo (lexemes_of text.now tokens.now) place) }
 {
-    let mut depth = Depth::new();
+    let mut depth = LoopDepth::new();
     for (place, token) in tokens.iter().enumerate() {
         depth = depth.after(seen_of(text, *token));
         if depth.is_deep() {

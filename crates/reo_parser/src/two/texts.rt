@@ -23,14 +23,14 @@ use std::alloc::Global;
 
 /// What reading all of a list of tokens comes to.
 #[derive(Drop)]
-pub enum Outcome {
+pub enum Parsing {
     /// They say this program.
     Said(ProgramTwo),
     /// They are refused at this place, which is past the last one where they only begin a text.
     Refused { place: usize },
 }
 
-fn read_all(alloc: Global, text: &[u8], tokens: &[Token]) -> Result<Outcome, NoMemory>
+fn read_all(alloc: Global, text: &[u8], tokens: &[Token]) -> Result<Parsing, NoMemory>
     requires spans { All (Lies text.now) tokens.now }
     requires real { AreReal (lexemes_of text.now tokens.now) }
     requires few { length tokens.now < 2 ^ 32 }
@@ -40,14 +40,14 @@ fn read_all(alloc: Global, text: &[u8], tokens: &[Token]) -> Result<Outcome, NoM
     match program(&mut cursor, alloc, tokens.len() + 1) {
         Ok(program) => {
             if cursor.left() == 0 {
-                Ok(Outcome::Said(program))
+                Ok(Parsing::Said(program))
             } else {
-                Ok(Outcome::Refused {
+                Ok(Parsing::Refused {
                     place: tokens.len() - cursor.left(),
                 })
             }
         }
-        Err(Halt::Syntax) => Ok(Outcome::Refused {
+        Err(Halt::Syntax) => Ok(Parsing::Refused {
             place: tokens.len() - cursor.left(),
         }),
         Err(Halt::Room) => unreachable!(),
@@ -66,8 +66,8 @@ fn answer_within(alloc: Global, text: &[u8], tokens: &[Token]) -> Result<AnyProg
     ensures { IsParsedAny text.now result }
 {
     match read_all(alloc, text, tokens)? {
-        Outcome::Said(program) => Ok(AnyProgram::Two(program)),
-        Outcome::Refused { place } => Err(ParseFault::Syntax {
+        Parsing::Said(program) => Ok(AnyProgram::Two(program)),
+        Parsing::Refused { place } => Err(ParseFault::Syntax {
             line: line_of_refusal(tokens, place),
         }),
     }
@@ -93,8 +93,8 @@ fn answer_above(
         line: tokens[place].line,
     };
     match read_all(alloc, text, &tokens[..place + 1])? {
-        Outcome::Said(_) => Err(too_deep),
-        Outcome::Refused { place: refused } => {
+        Parsing::Said(_) => Err(too_deep),
+        Parsing::Refused { place: refused } => {
             if refused <= place {
                 Err(ParseFault::Syntax {
                     line: tokens[refused].line,

@@ -20,8 +20,8 @@ use Rattle.reo_refute_parts.proofs.lists.NotedLemmas.{added_distinct}
 use Rattle.reo_refute_base.specs.faults.Faults.{HasColouring, IsProof}
 use Rattle.reo_refute_live.specs.Open.{AreSmall}
 use Rattle.reo_refute.specs.declared.check.lines.Lines.{Lines}
-use Rattle.reo_refute.specs.declared.check.stop.Stop.{Stop}
-use Rattle.reo_refute.specs.declared.check.stop.Stop.TheVariants.{Colouring, Wide, Line, NoMemory}
+use Rattle.reo_refute.specs.declared.check.stop.LogStop.{LogStop}
+use Rattle.reo_refute.specs.declared.check.stop.LogStop.TheVariants.{Colouring, Wide, Line, NoMemory}
 use Rattle.reo_refute.specs.check.Judging.{AreAllRead, ArePartsTaken, IsColoured, IsJudged, IsFirstRows}
 
 -- No list has an item twice.
@@ -87,7 +87,7 @@ module _ (net : Net) (turn : ℕ) (rows log : List ℕ) (lists : Lists) (are : A
     };
   }
 
-  pub judged_wrong : (stop : Stop) → ArePartsTaken net turn rows lists lines (Err stop) → IsJudged net turn rows log (Err stop)
+  pub judged_wrong : (stop : LogStop) → ArePartsTaken net turn rows lists lines (Err stop) → IsJudged net turn rows log (Err stop)
   judged_wrong (Line line) s = (
     colouring,
     narrow,
@@ -107,11 +107,11 @@ module _ (net : Net) (turn : ℕ) (rows log : List ℕ) (lists : Lists) (are : A
   judged_wrong Wide s = absurd s
   judged_wrong NoMemory s = tt
 
-  pub judged : (result : Result (Unit {0}) Stop) → ArePartsTaken net turn rows lists lines result → IsJudged net turn rows log result
+  pub judged : (result : Result (Unit {0}) LogStop) → ArePartsTaken net turn rows lists lines result → IsJudged net turn rows log result
   judged (Ok done) s = judged_right s
   judged (Err stop) s = judged_wrong stop s
 
-pub rows_stop : (net : Net) (turn : ℕ) (rows log : List ℕ) (stop : Stop) → IsColoured net rows (Err stop) → IsJudged net turn rows log (Err stop)
+pub rows_stop : (net : Net) (turn : ℕ) (rows log : List ℕ) (stop : LogStop) → IsColoured net rows (Err stop) → IsJudged net turn rows log (Err stop)
 rows_stop net turn rows log (Line line) s = absurd s
 rows_stop net turn rows log (Colouring wrong) s = s
 rows_stop net turn rows log Wide s = absurd s

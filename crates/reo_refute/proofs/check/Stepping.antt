@@ -15,8 +15,8 @@ use Rattle.reo_refute_live.specs.support.Families.{family_of}
 use Rattle.reo_refute_live.specs.declared.branches.Open.{Open}
 use Rattle.reo_refute_live.specs.Open.{open_in, still_open}
 use Rattle.reo_refute.specs.declared.check.lines.Lines.{Lines}
-use Rattle.reo_refute.specs.declared.check.stop.Stop.{Stop}
-use Rattle.reo_refute.specs.declared.check.stop.Stop.TheVariants.{Line}
+use Rattle.reo_refute.specs.declared.check.stop.LogStop.{LogStop}
+use Rattle.reo_refute.specs.declared.check.stop.LogStop.TheVariants.{Line}
 use Rattle.reo_refute.specs.check.Reading.{IsNext, Takes}
 use Rattle.reo_refute.specs.check.Judging.{IsStepRead, IsStepTaken}
 use Rattle.reo_refute.proofs.check.Determined.{step_at}
@@ -65,31 +65,31 @@ module _ (net : Net) (lists : Lists) (allowed : ℕ → ℕ → Type 0) where
 
   module _ (live after : Open) (old new : Lines) where
     -- A line was read that does not go on.
-    pub stuck_taken : (line : LogLine) → IsNext old new line → ((now : List Family) → IsStep net lists allowed (open_in live) line now → ⊥) → (stop : Stop) → stop ≡ Line new.count
+    pub stuck_taken : (line : LogLine) → IsNext old new line → ((now : List Family) → IsStep net lists allowed (open_in live) line now → ⊥) → (stop : LogStop) → stop ≡ Line new.count
         → IsStepTaken net lists allowed live after old new (Err stop)
     stuck_taken line next none_on stop e =
-        subst (λ (s : Stop). IsStepTaken net lists allowed live after old new (Err s)) (sym e)
+        subst (λ (s : LogStop). IsStepTaken net lists allowed live after old new (Err s)) (sym e)
         (next.count, λ other more numbered text now is. none_on now (subst (λ (l : LogLine). IsStep net lists allowed (open_in live) l now) (sym (only_line old new line other more next numbered text)) is))
 
     -- No line stands there.
-    pub none_taken : Takes old new None → (stop : Stop) → stop ≡ Line new.count → IsStepTaken net lists allowed live after old new (Err stop)
+    pub none_taken : Takes old new None → (stop : LogStop) → stop ≡ Line new.count → IsStepTaken net lists allowed live after old new (Err stop)
     none_taken taken stop e =
-        subst (λ (s : Stop). IsStepTaken net lists allowed live after old new (Err s)) (sym e) (taken.0, λ other more numbered text now is. taken.1 other more numbered text)
+        subst (λ (s : LogStop). IsStepTaken net lists allowed live after old new (Err s)) (sym e) (taken.0, λ other more numbered text now is. taken.1 other more numbered text)
 
-    pub at_taken : (p : ℕ) → IsNext old new (At p) → (stop : Stop) → stop ≡ Line new.count → IsStepTaken net lists allowed live after old new (Err stop)
+    pub at_taken : (p : ℕ) → IsNext old new (At p) → (stop : LogStop) → stop ≡ Line new.count → IsStepTaken net lists allowed live after old new (Err stop)
     at_taken p next stop e = stuck_taken (At p) next (λ now is. step_at net lists allowed (open_in live) now (At p) is p refl) stop e
 
-    pub drop_stuck : (j : ℕ) (v : JointValue) (side : ℕ) → IsNext old new (Drop j v side) → (MayGo net lists allowed (family_of live.table) j v side → ⊥) → (stop : Stop) → stop ≡ Line new.count
+    pub drop_stuck : (j : ℕ) (v : JointValue) (side : ℕ) → IsNext old new (Drop j v side) → (MayGo net lists allowed (family_of live.table) j v side → ⊥) → (stop : LogStop) → stop ≡ Line new.count
         → IsStepTaken net lists allowed live after old new (Err stop)
     drop_stuck j v side next h stop e =
         stuck_taken (Drop j v side) next (λ now is. h (drop_asks (open_in live) now (Drop j v side) is (family_of live.table) (still_open live) j v side refl refl)) stop e
 
-    pub empty_stuck : (j : ℕ) → IsNext old new (Empty j) → (IsEmpty net lists (family_of live.table) j → ⊥) → (stop : Stop) → stop ≡ Line new.count
+    pub empty_stuck : (j : ℕ) → IsNext old new (Empty j) → (IsEmpty net lists (family_of live.table) j → ⊥) → (stop : LogStop) → stop ≡ Line new.count
         → IsStepTaken net lists allowed live after old new (Err stop)
     empty_stuck j next h stop e =
         stuck_taken (Empty j) next (λ now is. h (empty_asks (open_in live) now (Empty j) is (family_of live.table) (still_open live) j refl refl)) stop e
 
-    pub split_stuck : (j : ℕ) → IsNext old new (Split j) → (MaySplit net lists (family_of live.table) j → ⊥) → (stop : Stop) → stop ≡ Line new.count
+    pub split_stuck : (j : ℕ) → IsNext old new (Split j) → (MaySplit net lists (family_of live.table) j → ⊥) → (stop : LogStop) → stop ≡ Line new.count
         → IsStepTaken net lists allowed live after old new (Err stop)
     split_stuck j next h stop e =
         stuck_taken (Split j) next (λ now is. h (split_asks (open_in live) now (Split j) is (family_of live.table) (still_open live) j refl refl)) stop e

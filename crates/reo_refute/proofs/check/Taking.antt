@@ -23,8 +23,8 @@ use Rattle.reo_refute_base.proofs.laws.Reading.{branches_are_read}
 use Rattle.reo_refute_live.specs.declared.branches.Open.{Open}
 use Rattle.reo_refute_live.specs.Open.{open_in}
 use Rattle.reo_refute.specs.declared.check.lines.Lines.{Lines}
-use Rattle.reo_refute.specs.declared.check.stop.Stop.{Stop}
-use Rattle.reo_refute.specs.declared.check.stop.Stop.TheVariants.{Colouring, Wide, Line, NoMemory}
+use Rattle.reo_refute.specs.declared.check.stop.LogStop.{LogStop}
+use Rattle.reo_refute.specs.declared.check.stop.LogStop.TheVariants.{Colouring, Wide, Line, NoMemory}
 use Rattle.reo_refute.specs.check.Reading.{IsShort, IsNext, HasRead, IsAtTaken, Takes}
 use Rattle.reo_refute.specs.check.Judging.{NoneGoesOn, IsStepRead, IsBranchRead, IsBranchStuck, IsPartTaken, ArePassed, AreStuck, IsPlaceTaken, AreAllRead, IsStepTaken, ArePartsTaken}
 use Rattle.reo_refute.proofs.check.Determined.{steps_join, step_of, steps_cut, steps_same}
@@ -227,7 +227,7 @@ branch_read net turn given lists p old new l = record {
 }
 
 -- Where a step stops, the part does.
-pub part_stops : (net : Net) (lists : Lists) (allowed : ℕ → ℕ → Type 0) (start old new after : Lines) (live next : Open) (stop : Stop) → Leads net lists allowed start old (open_in live)
+pub part_stops : (net : Net) (lists : Lists) (allowed : ℕ → ℕ → Type 0) (start old new after : Lines) (live next : Open) (stop : LogStop) → Leads net lists allowed start old (open_in live)
     → IsStepTaken net lists allowed live next old new (Err stop) → IsPartTaken net lists allowed start after (Err stop)
 part_stops net lists allowed start old new after live next (Line line) l s = branch_stuck net lists allowed start old (open_in live) line l (λ e. cc) s.0 s.1
 part_stops net lists allowed start old new after live next (Colouring wrong) l s = s
@@ -236,25 +236,25 @@ part_stops net lists allowed start old new after live next NoMemory l s = tt
 
 module _ (net : Net) (turn : ℕ) (given : List ℕ) (lists : Lists) (n : ℕ) where
   -- Where the line that begins a part, or the part, stops, so does its place.
-  pub at_stops : IsLive net turn given n → (old new after : Lines) (stop : Stop) → IsAtTaken n old new (Err stop) → IsPlaceTaken net turn given lists n old after (Err stop)
+  pub at_stops : IsLive net turn given n → (old new after : Lines) (stop : LogStop) → IsAtTaken n old new (Err stop) → IsPlaceTaken net turn given lists n old after (Err stop)
   at_stops live old new after (Line line) a = at_stuck net turn given lists n live old line a.0 a.1
   at_stops live old new after (Colouring wrong) a = a
   at_stops live old new after Wide a = a
   at_stops live old new after NoMemory a = tt
 
-  pub place_stops : IsLive net turn given n → (old at new after : Lines) (stop : Stop) → IsNext old at (At n) → IsPartTaken net lists (IsAllowed net turn given n) at new (Err stop)
+  pub place_stops : IsLive net turn given n → (old at new after : Lines) (stop : LogStop) → IsNext old at (At n) → IsPartTaken net lists (IsAllowed net turn given n) at new (Err stop)
       → IsPlaceTaken net turn given lists n old after (Err stop)
   place_stops live old at new after (Line line) next p = part_stuck net turn given lists n live old at line next p
   place_stops live old at new after (Colouring wrong) next p = p
   place_stops live old at new after Wide next p = p
   place_stops live old at new after NoMemory next p = tt
 
-  pub place_taken : IsLive net turn given n → (old at new : Lines) → IsNext old at (At n) → (result : Result (Unit {0}) Stop) → IsPartTaken net lists (IsAllowed net turn given n) at new result
+  pub place_taken : IsLive net turn given n → (old at new : Lines) → IsNext old at (At n) → (result : Result (Unit {0}) LogStop) → IsPartTaken net lists (IsAllowed net turn given n) at new result
       → IsPlaceTaken net turn given lists n old new result
   place_taken live old at new next (Ok done) p = part_passed net turn given lists n live old at new next p
   place_taken live old at new next (Err stop) p = place_stops live old at new new stop next p
 
-  pub parts_stop : (start old new : Lines) (stop : Stop) → ArePassed net turn given lists 0 n start old → IsPlaceTaken net turn given lists n old new (Err stop) → ArePartsTaken net turn given lists start (Err stop)
+  pub parts_stop : (start old new : Lines) (stop : LogStop) → ArePassed net turn given lists 0 n start old → IsPlaceTaken net turn given lists n old new (Err stop) → ArePartsTaken net turn given lists start (Err stop)
   parts_stop start old new (Line line) p s = stuck_behind net turn given lists 0 n start old line p s
   parts_stop start old new (Colouring wrong) p s = s
   parts_stop start old new Wide p s = s
@@ -267,9 +267,9 @@ end_stops net turn given lists n past_all start old line p line_is some =
     stuck_behind net turn given lists 0 n start old line p (end_stuck net turn given lists n past_all old line line_is some)
 
 -- The line that begins a part does not stand there.
-pub at_none : (n : ℕ) (old new : Lines) → Takes old new None → (stop : Stop) → stop ≡ Line new.count → IsAtTaken n old new (Err stop)
-at_none n old new taken stop e = subst (λ (s : Stop). IsAtTaken n old new (Err s)) (sym e) (taken.0, λ more numbered text. taken.1 (At n) more numbered text)
+pub at_none : (n : ℕ) (old new : Lines) → Takes old new None → (stop : LogStop) → stop ≡ Line new.count → IsAtTaken n old new (Err stop)
+at_none n old new taken stop e = subst (λ (s : LogStop). IsAtTaken n old new (Err s)) (sym e) (taken.0, λ more numbered text. taken.1 (At n) more numbered text)
 
-pub at_other : (n : ℕ) (old new : Lines) (line : LogLine) → IsNext old new line → (line ≡ At n → ⊥) → (stop : Stop) → stop ≡ Line new.count → IsAtTaken n old new (Err stop)
+pub at_other : (n : ℕ) (old new : Lines) (line : LogLine) → IsNext old new line → (line ≡ At n → ⊥) → (stop : LogStop) → stop ≡ Line new.count → IsAtTaken n old new (Err stop)
 at_other n old new line next other stop e =
-    subst (λ (s : Stop). IsAtTaken n old new (Err s)) (sym e) (next.count, λ more numbered text. other (only_line old new line (At n) more next numbered text))
+    subst (λ (s : LogStop). IsAtTaken n old new (Err s)) (sym e) (next.count, λ more numbered text. other (only_line old new line (At n) more next numbered text))

@@ -18,8 +18,8 @@ use Rattle.reo_refute_base.specs.declared.faults.fault.ProofFault.{ProofFault}
 use Rattle.reo_refute_base.specs.declared.faults.fault.ProofFault.TheVariants.{Colouring as NoColouring, Wide as TooWide, Line as WrongLine, NoMemory as OutOfMemory}
 use Rattle.reo_refute_base.specs.faults.Faults.{HasColouring, AreNoColouring, IsProof, IsProofFault}
 use Rattle.reo_refute.specs.declared.check.lines.Lines.{Lines}
-use Rattle.reo_refute.specs.declared.check.stop.Stop.{Stop}
-use Rattle.reo_refute.specs.declared.check.stop.Stop.TheVariants.{Colouring, Wide, Line, NoMemory}
+use Rattle.reo_refute.specs.declared.check.stop.LogStop.{LogStop}
+use Rattle.reo_refute.specs.declared.check.stop.LogStop.TheVariants.{Colouring, Wide, Line, NoMemory}
 use Rattle.reo_refute.specs.check.Reading.{IsNext, HasRead}
 
 -- No line that stands next can be read where these branches are open.
@@ -37,7 +37,7 @@ pub record IsStepRead (net : Net) (lists : Lists) (allowed : ℕ → ℕ → Typ
 
 -- One line of a branch was taken, or none that stands there goes on.
 abbrev pub IsStepTaken : Net → Lists → (ℕ → ℕ → Type 0) → Open → Open → Lines → Lines
-    → Result Bool Stop → Type 0
+    → Result Bool LogStop → Type 0
 IsStepTaken net lists allowed before after old new (Ok more) =
     IsStepRead net lists allowed (open_in before) (cond more (open_in after) []) old new
 IsStepTaken net lists allowed before after old new (Err (Line line)) =
@@ -68,7 +68,7 @@ pub record IsBranchStuck (net : Net) (lists : Lists) (allowed : ℕ → ℕ → 
 
 -- The branch of a part was read, or its first line that is not right was found.
 abbrev pub IsPartTaken : Net → Lists → (ℕ → ℕ → Type 0) → Lines → Lines
-    → Result (Unit {0}) Stop → Type 0
+    → Result (Unit {0}) LogStop → Type 0
 IsPartTaken net lists allowed old new (Ok done) = IsBranchRead net lists allowed old new
 IsPartTaken net lists allowed old new (Err (Line line)) = IsBranchStuck net lists allowed old line
 IsPartTaken net lists allowed old new (Err (Colouring wrong)) = ⊥
@@ -106,7 +106,7 @@ pub record AreStuck (net : Net) (turn : ℕ) (given : List ℕ) (lists : Lists) 
 
 -- The part of a place was read, or its first line that is not right was found.
 abbrev pub IsPlaceTaken : Net → ℕ → List ℕ → Lists → ℕ → Lines → Lines
-    → Result (Unit {0}) Stop → Type 0
+    → Result (Unit {0}) LogStop → Type 0
 IsPlaceTaken net turn given lists number old new (Ok done) =
     ArePassed net turn given lists number (number + 1) old new
 IsPlaceTaken net turn given lists number old new (Err (Line line)) =
@@ -124,7 +124,7 @@ pub record AreAllRead (net : Net) (turn : ℕ) (given : List ℕ) (lists : Lists
   pub parts : AreParts net turn given lists 0 lines
 
 -- All parts were read, or the first line that is not right was found.
-abbrev pub ArePartsTaken : Net → ℕ → List ℕ → Lists → Lines → Result (Unit {0}) Stop
+abbrev pub ArePartsTaken : Net → ℕ → List ℕ → Lists → Lines → Result (Unit {0}) LogStop
     → Type 0
 ArePartsTaken net turn given lists old (Ok done) = AreAllRead net turn given lists old
 ArePartsTaken net turn given lists old (Err (Line line)) = AreStuck net turn given lists 0 old line
@@ -133,7 +133,7 @@ ArePartsTaken net turn given lists old (Err Wide) = ⊥
 ArePartsTaken net turn given lists old (Err NoMemory) = Unit {0}
 
 -- The rows are those of a colouring, or what is wrong first was found.
-abbrev pub IsColoured : Net → List ℕ → Result (Unit {0}) Stop → Type 0
+abbrev pub IsColoured : Net → List ℕ → Result (Unit {0}) LogStop → Type 0
 IsColoured net rows (Ok done) = HasColouring net rows
 IsColoured net rows (Err (Colouring wrong)) = AreNoColouring net rows wrong
 IsColoured net rows (Err (Line line)) = ⊥
@@ -141,14 +141,14 @@ IsColoured net rows (Err Wide) = ⊥
 IsColoured net rows (Err NoMemory) = Unit {0}
 
 -- The fault for which checking stops.
-abbrev pub fault_of : Stop → ProofFault
+abbrev pub fault_of : LogStop → ProofFault
 fault_of (Colouring wrong) = NoColouring wrong
 fault_of Wide = TooWide
 fault_of (Line line) = WrongLine line
 fault_of NoMemory = OutOfMemory
 
 -- The log shows that the rows are first, or why not was found.
-abbrev pub IsJudged : Net → ℕ → List ℕ → List ℕ → Result (Unit {0}) Stop → Type 0
+abbrev pub IsJudged : Net → ℕ → List ℕ → List ℕ → Result (Unit {0}) LogStop → Type 0
 IsJudged net turn rows log (Ok done) = IsProof net turn rows log
 IsJudged net turn rows log (Err stop) = IsProofFault net turn rows log (fault_of stop)
 

@@ -5,8 +5,8 @@ use Rattle.reo_refute_base.specs.declared.line.LogLine.{LogLine}
 use Rattle.reo_refute_base.specs.declared.line.LogLine.TheVariants.{At}
 use Rattle.reo_refute_base.specs.Texts.{IsNumbered, line_text, log_text}
 use Rattle.reo_refute.specs.declared.check.lines.Lines.{Lines}
-use Rattle.reo_refute.specs.declared.check.stop.Stop.{Stop}
-use Rattle.reo_refute.specs.declared.check.stop.Stop.TheVariants.{Colouring, Wide, Line, NoMemory}
+use Rattle.reo_refute.specs.declared.check.stop.LogStop.{LogStop}
+use Rattle.reo_refute.specs.declared.check.stop.LogStop.TheVariants.{Colouring, Wide, Line, NoMemory}
 
 -- The lines that were taken, with the bytes that are left, are few enough to be counted.
 abbrev pub IsShort : Lines → Type 0
@@ -34,7 +34,7 @@ pub record HasRead (old new : Lines) (lines : List LogLine) : Type 0 where
   pub short : IsShort new
 
 -- The line that is next begins the part of a place, and was taken, or it does not.
-abbrev pub IsAtTaken : ℕ → Lines → Lines → Result (Unit {0}) Stop → Type 0
+abbrev pub IsAtTaken : ℕ → Lines → Lines → Result (Unit {0}) LogStop → Type 0
 IsAtTaken number old new (Ok done) = IsNext old new (At number)
 IsAtTaken number old new (Err (Line line)) = (line ≡ old.count + 1)
     × ((more : List ℕ) → IsNumbered (At number) → old.left ≡ line_text (At number) ++ more → ⊥)

@@ -7,7 +7,7 @@ ghost use Rattle.reo_refute.specs.check.Judging.{IsJudged, fault_of, IsFirstRows
 use crate::check::colouring::check_rows;
 use crate::check::lines::Lines;
 use crate::check::parts::check_parts;
-use crate::check::stop::Stop;
+use crate::check::stop::LogStop;
 use crate::round::Round;
 use reo_net_base::Primitive;
 use reo_net_circuit::{Circuit, ends_of};
@@ -17,14 +17,14 @@ use reo_refute_parts::{item_lists, key_places};
 use std::alloc::Global;
 
 /// The fault for which checking stops.
-fn fault_of(stop: Stop) -> ProofFault
+fn fault_of(stop: LogStop) -> ProofFault
     ensures { result ≡ fault_of stop }
 {
     match stop {
-        Stop::Colouring(wrong) => ProofFault::Colouring(wrong),
-        Stop::Wide => ProofFault::Wide,
-        Stop::Line(line) => ProofFault::Line { line },
-        Stop::NoMemory => ProofFault::NoMemory,
+        LogStop::Colouring(wrong) => ProofFault::Colouring(wrong),
+        LogStop::Wide => ProofFault::Wide,
+        LogStop::Line(line) => ProofFault::Line { line },
+        LogStop::NoMemory => ProofFault::NoMemory,
     }
 }
 
@@ -35,7 +35,7 @@ fn judge<P: Primitive>(
     turn: u64,
     rows: &[u32],
     log: &[u8],
-) -> Result<(), Stop>
+) -> Result<(), LogStop>
     ensures { let net = net_of P.behaviour circuit.now in
         IsJudged net turn rows.now log.now result }
 {
@@ -44,7 +44,7 @@ fn judge<P: Primitive>(
     let ends = ends_of(alloc, circuit)?;
     check_rows(alloc, circuit, &ends, rows)?;
     match item_lists(alloc, circuit, &ends)? {
-        None => Err(Stop::Wide),
+        None => Err(LogStop::Wide),
         Some(lists) => {
             let tables = tables_of(alloc, circuit)?;
             let places = key_places(alloc, circuit)?;

@@ -4,7 +4,7 @@ ghost use Rattle.reo_net_base.specs.Net.{net_of};
 ghost use Rattle.reo_net_circuit.specs.found_ends.Ends.{AreEnds};
 ghost use Rattle.reo_refute.specs.check.Judging.{IsColoured};
 
-use crate::check::stop::Stop;
+use crate::check::stop::LogStop;
 use reo_checker::{Wrong, check_marks, item_fault};
 use reo_net::fill_with;
 use reo_net_base::Primitive;
@@ -28,17 +28,17 @@ pub(crate) fn check_rows<P: Primitive>(
     circuit: &Circuit<P>,
     ends: &Ends,
     rows: &[u32],
-) -> Result<(), Stop>
+) -> Result<(), LogStop>
     requires { AreEnds (net_of P.behaviour circuit.now) ends.now }
     ensures { IsColoured (net_of P.behaviour circuit.now) rows.now result }
 {
     match check_marks(circuit, rows) {
-        Err(wrong) => Err(Stop::Colouring(wrong)),
+        Err(wrong) => Err(LogStop::Colouring(wrong)),
         Ok(()) => {
             let filled = fill_with(alloc, circuit, ends, copy_rows(alloc, rows)?)?;
             match item_fault(circuit, rows, filled.items.as_slice()) {
                 None => Ok(()),
-                Some(joint) => Err(Stop::Colouring(Wrong::Item { joint })),
+                Some(joint) => Err(LogStop::Colouring(Wrong::Item { joint })),
             }
         }
     }

@@ -1,9 +1,9 @@
 //! The lines of a log, counted.
 ghost use Rattle.std.specs.Prelude.{◌≡◌, ◌+◌, ◌<◌, ◌^◌, length};
-ghost use Rattle.reo_refute.specs.declared.check.stop.Stop.TheVariants.{Line as AtLine};
+ghost use Rattle.reo_refute.specs.declared.check.stop.LogStop.TheVariants.{Line as AtLine};
 ghost use Rattle.reo_refute.specs.check.Reading.{Takes, IsShort};
 
-use crate::check::stop::Stop;
+use crate::check::stop::LogStop;
 use reo_refute_base::LogLine;
 use reo_refute_parts::{Reader, line};
 
@@ -38,9 +38,9 @@ impl<'a> Lines<'a> {
     }
 
     /// The line that was taken last is not right.
-    pub(crate) fn wrong(&self) -> Stop
+    pub(crate) fn wrong(&self) -> LogStop
         ensures { result ≡ AtLine self.now.count }
     {
-        Stop::Line(self.count)
+        LogStop::Line(self.count)
     }
 }

@@ -9,7 +9,7 @@ ghost use Rattle.reo_refute.specs.check.Reading.{IsShort, IsAtTaken};
 
 use crate::check::lines::Lines;
 use crate::check::step::step;
-use crate::check::stop::Stop;
+use crate::check::stop::LogStop;
 use reo_net_base::Primitive;
 use reo_refute_base::LogLine;
 use reo_refute_live::{Judged, Open};
@@ -29,7 +29,7 @@ fn is_at(line: LogLine, number: usize) -> bool
 }
 
 /// Takes the line that begins the part of a place.
-pub(crate) fn take_at(lines: &mut Lines, number: usize) -> Result<(), Stop>
+pub(crate) fn take_at(lines: &mut Lines, number: usize) -> Result<(), LogStop>
     requires { IsShort lines.old }
     ensures { IsAtTaken number lines.old lines.new result }
 {
@@ -53,7 +53,7 @@ pub(crate) fn check_part<P: Primitive>(
     live: &mut Open,
     lines: &mut Lines,
     rows: &mut Vec<u8>,
-) -> Result<(), Stop>
+) -> Result<(), LogStop>
     requires judged { IsJudged (net_of P.behaviour judged.now.circuit.now) judged.now }
     requires closed { IsClosed judged.now.lists.now live.old }
     requires short { IsShort lines.old }

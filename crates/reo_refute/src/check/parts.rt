@@ -10,7 +10,7 @@ ghost use Rattle.reo_refute.specs.Round.{IsRound};
 
 use crate::check::lines::Lines;
 use crate::check::part::{check_part, take_at};
-use crate::check::stop::Stop;
+use crate::check::stop::LogStop;
 use crate::round::Round;
 use reo_net_base::Primitive;
 use reo_refute_live::{Judged, Open};
@@ -24,7 +24,7 @@ fn check_live<P: Primitive>(
     live: &mut Open,
     lines: &mut Lines,
     rows: &mut Vec<u8>,
-) -> Result<(), Stop>
+) -> Result<(), LogStop>
     requires round { IsRound (net_of P.behaviour round.now.circuit.now) round.now }
     requires allowed { AreAllowedRows (net_of P.behaviour round.now.circuit.now) round.now.turn
         round.now.given.now number allowed.now }
@@ -62,7 +62,7 @@ fn check_place<P: Primitive>(
     live: &mut Open,
     lines: &mut Lines,
     rows: &mut Vec<u8>,
-) -> Result<(), Stop>
+) -> Result<(), LogStop>
     requires round { IsRound (net_of P.behaviour round.now.circuit.now) round.now }
     requires number { number < length round.now.places.now }
     requires agreeing { AreAgreeing (net_of P.behaviour round.now.circuit.now) round.now.turn
@@ -86,7 +86,10 @@ fn check_place<P: Primitive>(
 }
 
 /// Takes all parts, behind which no line is left.
-pub(crate) fn check_parts<P: Primitive>(round: &Round<'_, P>, lines: &mut Lines) -> Result<(), Stop>
+pub(crate) fn check_parts<P: Primitive>(
+    round: &Round<'_, P>,
+    lines: &mut Lines,
+) -> Result<(), LogStop>
     requires round { IsRound (net_of P.behaviour round.now.circuit.now) round.now }
     requires short { IsShort lines.old }
     ensures { let net = net_of P.behaviour round.now.circuit.now in
@@ -104,6 +107,6 @@ pub(crate) fn check_parts<P: Primitive>(round: &Round<'_, P>, lines: &mut Lines)
     if lines.left.is_done() {
         Ok(())
     } else {
-        Err(Stop::Line(lines.count + 1))
+        Err(LogStop::Line(lines.count + 1))
     }
 }

@@ -8,7 +8,7 @@ ghost use Rattle.reo_refute.specs.check.Reading.{IsShort};
 
 use crate::check::going::may_go;
 use crate::check::lines::Lines;
-use crate::check::stop::Stop;
+use crate::check::stop::LogStop;
 use reo_net_base::Primitive;
 use reo_refute_base::LogLine;
 use reo_refute_live::{Judged, Open};
@@ -21,7 +21,7 @@ pub(crate) fn step<P: Primitive>(
     live: &mut Open,
     lines: &mut Lines,
     rows: &mut Vec<u8>,
-) -> Result<bool, Stop>
+) -> Result<bool, LogStop>
     requires judged { IsJudged (net_of P.behaviour judged.now.circuit.now) judged.now }
     requires open { IsOpen judged.now.lists.now live.old }
     requires short { IsShort lines.old }

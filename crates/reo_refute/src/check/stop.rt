@@ -4,7 +4,7 @@ use reo_values::NoMemory;
 
 /// Why checking stops.
 #[derive(Clone, Copy, Debug, PartialEq, Eq)]
-pub(crate) enum Stop {
+pub(crate) enum LogStop {
     /// The rows, with the items that they determine, are no colouring.
     Colouring(Wrong),
     /// More than 256 items can stand at some joint.
@@ -15,13 +15,13 @@ pub(crate) enum Stop {
     NoMemory,
 }
 
-impl From<NoMemory> for Stop {
+impl From<NoMemory> for LogStop {
     ghost use Rattle.std.specs.Prelude.{◌≡◌};
-    ghost use Rattle.reo_refute.specs.declared.check.stop.Stop.TheVariants.{NoMemory as OutOfMemory};
+    ghost use Rattle.reo_refute.specs.declared.check.stop.LogStop.TheVariants.{NoMemory as OutOfMemory};
 
     ghost from_gives = { λ _ stop. stop ≡ OutOfMemory };
 
     fn from(_: NoMemory) -> Self {
-        Stop::NoMemory
+        LogStop::NoMemory
     }
 }

@@ -5,7 +5,7 @@ use Rattle.reo_cursor.specs.Reading.{lexeme_seen}
 use Rattle.reo_terms.proofs.Counts.{operators-small, above-yes, above-no}
 use Rattle.reo_terms.proofs.Fronts.{take-next, nowhere-none, nowhere-more, lexemes-length}
 use Rattle.reo_script.specs.scripts.ScriptAnswers.{IsDeep}
-use Rattle.reo_script.specs.Depth.{Deepens}
+use Rattle.reo_script.specs.RepeatDepth.{Deepens}
 use Rattle.reo_script.proofs.Deepening.{deepens-next}
 use Rattle.reo_script.proofs.depth.first_deep.Goals as goal
 

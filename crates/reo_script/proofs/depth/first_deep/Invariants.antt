@@ -2,7 +2,7 @@ use Rattle.std.proofs.Common.{take}
 use Rattle.reo_grammar.specs.Levels.{Nowhere}
 use Rattle.reo_lexer.specs.Lexing.{lexemes_of}
 use Rattle.reo_script.specs.scripts.ScriptAnswers.{IsDeep}
-use Rattle.reo_script.specs.Depth.{Deepens}
+use Rattle.reo_script.specs.RepeatDepth.{Deepens}
 use Rattle.reo_script.proofs.depth.first_deep.Given as goal
 
 abbrev pub invariant-loop-place : goal.invariant-loop-place

@@ -5,7 +5,7 @@ use Rattle.reo_cursor.specs.Reading.{lexeme_seen}
 use Rattle.reo_terms.proofs.Counts.{operators-small, above-yes, above-no}
 use Rattle.reo_terms.proofs.Fronts.{take-next, nowhere-none, nowhere-more, lexemes-length}
 use Rattle.reo_trees.specs.SaysTwo.{IsDeepTwo}
-use Rattle.reo_parser.specs.two.Depth.{Deepens}
+use Rattle.reo_parser.specs.two.LoopDepth.{Deepens}
 use Rattle.reo_parser.proofs.two.Loops.{deepens-next}
 use Rattle.reo_parser.proofs.two.depth.first_deep.Goals as goal
 

@@ -5,7 +5,7 @@ use Rattle.reo_grammar.specs.Tokens.Class.{fixed}
 use Rattle.reo_grammar.specs.Levels.{count_of}
 use Rattle.reo_trees.specs.loops.Places.{lets_item, begins_loop}
 use Rattle.reo_terms.specs.Counting.{Counts}
-use Rattle.reo_parser.specs.declared.two.depth.Depth.{Depth as ADepth}
+use Rattle.reo_parser.specs.declared.two.depth.LoopDepth.{LoopDepth as ADepth}
 
 -- The counts of these tokens.
 pub record Deepens (d : ADepth) (ts : List Lexeme) : Type 0 where

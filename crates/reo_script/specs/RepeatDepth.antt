@@ -4,7 +4,7 @@ use Rattle.reo_grammar.specs.Tokens.{Lexeme, matches}
 use Rattle.reo_grammar.specs.Tokens.Class.{fixed}
 use Rattle.reo_grammar.specs.Levels.{count_of}
 use Rattle.reo_terms.specs.Counting.{Counts}
-use Rattle.reo_script.specs.declared.depth.Depth.{Depth as ADepth}
+use Rattle.reo_script.specs.declared.depth.RepeatDepth.{RepeatDepth as ADepth}
 
 -- Whether the last of the tokens is a `repeat`.
 abbrev pub EndsRepeated : Bool → List Lexeme → Type 0

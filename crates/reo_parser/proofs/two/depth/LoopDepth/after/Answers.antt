@@ -2,7 +2,7 @@ use Rattle.std.proofs.Common.{rules, arith}
 use Rattle.std.proofs.lemmas.Grind.{common_steps}
 use Rattle.reo_cursor.specs.Reading.{lexeme_seen}
 use Rattle.reo_parser.proofs.two.Loops.{starts-next, begins-here, begins-nowhere}
-use Rattle.reo_parser.proofs.two.depth.Depth.after.Goals as goal
+use Rattle.reo_parser.proofs.two.depth.LoopDepth.after.Goals as goal
 
 pub returns-then-self : goal.returns-then-self
 returns-then-self c ts h =
