@@ -68,7 +68,7 @@ fn port_kind(alloc: Global, port: &Port) -> Result<Kind, NoMemory>
 {
     match port.way {
         Way::In => {
-            let kindred = copy_kindred(alloc, &port.kindred)?;
+            let kindred = copy_kindred(&port.kindred)?;
             Ok(Kind::Writer(WriterPort::new(kindred)))
         }
         Way::Out => Ok(Kind::Taker(TakerPort::new())),

@@ -46,7 +46,7 @@ fn type_twice(alloc: Global, line: u32, shape: &Shape) -> Result<(), FlatFault>
         (parts_of line shape.now)) result }
 {
     match shape {
-        Shape::Sym(names) => symbols_twice(alloc, line, names.as_slice()),
+        Shape::Sym(names) => symbols_twice(alloc, line, names.get().as_slice()),
         Shape::Pair(pair) => {
             let pair = pair.get();
             type_twice(alloc, pair.left.line, &pair.left.shape)?;

@@ -66,7 +66,7 @@ impl DeclaredTypes {
     {
         match shape {
             Shape::Sym(symbols) => {
-                let set = set_of(alloc, symbols.as_slice())?;
+                let set = set_of(alloc, symbols.get().as_slice())?;
                 let number = self.sets.len();
                 self.sets.push(set)?;
                 Ok(Some(number))

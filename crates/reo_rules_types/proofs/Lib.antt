@@ -5,6 +5,7 @@ pub mod Kept
 pub mod Same
 pub mod Places
 pub mod Cells
+pub mod Leaves
 pub mod OfKinds
 pub mod OfLiterals
 pub mod Scoped

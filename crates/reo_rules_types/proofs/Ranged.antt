@@ -1,9 +1,8 @@
 -- Types and expressions out of bounds.
-use Rattle.std.proofs.Common.{arith, ◌≡◌, ◌∙◌, ℕ, ◌+◌, ◌-◌, max, Bool, true, false, not, ◌||◌, Some, List, [], ◌++◌, nat_lt, refl, sym, ap, inr, bytes_eq, map, position}
+use Rattle.std.proofs.Common.{arith, ◌≡◌, ◌∙◌, ℕ, ◌+◌, ◌-◌, max, Bool, true, false, not, ◌||◌, Some, List, [], ◌++◌, nat_lt, refl, sym, ap, inr}
 use Rattle.std.specs.Prelude.{IsTrue, ◌↔◌}
-use Rattle.std.specs.List.{flat_map, position_from}
+use Rattle.std.specs.List.{flat_map}
 use Rattle.std.proofs.lemmas.Bool.Decides.{nat_tests}
-use Rattle.std.proofs.lemmas.Iterator.Adapters.{position_from-zero}
 use denote.Hole.Carrier.{hidden}
 use Rattle.reo_values.specs.declared.kindred.Kindred.{Kindred}
 use Rattle.reo_values.specs.declared.kindred.Kindred.TheVariants as kinds
@@ -23,7 +22,6 @@ use Rattle.reo_rules.specs.Types.{Typed, resolved, parts_of, depth_of}
 use Rattle.reo_rules.specs.Ranges.{is_out, is_inside, range_in_type}
 use Rattle.reo_rules.specs.Judged.{IsFirst}
 use Rattle.reo_rules.proofs.Parts.{over_parts-Pair, resolved-Pair}
-use Rattle.reo_rules.proofs.Mapped.{position-map}
 use Rattle.reo_rules.proofs.Same.{inside_told}
 use Rattle.reo_rules_types.specs.declared.cell.TypeParts.{TypeParts}
 use Rattle.reo_rules_types.specs.declared.cell.TypeParts.TheVariants as cells
@@ -95,10 +93,6 @@ first_part known line s deep =
 
 pub too_deep : (known : List Typed) (t : TypeTerm) → nat_lt 8 (depth_of (resolved known t.shape)) ≡ true → IsFirst (range_in_type known t) (faults.Range t.line)
 too_deep known t deep = inr (first_part known t.line t.shape deep)
-
--- The place of a symbol.
-pub place_is : {X : Type 0} (f : X → List ℕ) (name : List ℕ) (xs : List X) → position (λ x. bytes_eq name (f x)) xs ≡ position_from (bytes_eq name) 0 (map f xs)
-place_is f name xs = sym (position-map f (bytes_eq name) xs) ∙ position_from-zero (bytes_eq name) (map f xs)
 
 none : (n : ℕ) → nat_lt n 0 ≡ false
 none n = grind (arith, nat_tests)

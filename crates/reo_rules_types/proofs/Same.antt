@@ -1,5 +1,5 @@
 -- When two types are the same.
-use Rattle.std.proofs.Common.{arith, ◌≡◌, ℤ, Bool, true, refl, ◌≤ℤ◌}
+use Rattle.std.proofs.Common.{arith, ◌≡◌, ℤ, true, refl, ◌≤ℤ◌}
 use Rattle.std.specs.Int.Signed.{le_z}
 use Rattle.std.proofs.lemmas.Int.{ints}
 use denote.Hole.Carrier.{hidden}

@@ -12,7 +12,7 @@ use Rattle.reo_rules.specs.Lists.{has_name}
 use Rattle.reo_rules_types.specs.declared.cell.TypeParts.{TypeParts}
 use Rattle.reo_rules_types.specs.declared.cell.TypeParts.TheVariants as cells
 use Rattle.reo_rules_types.specs.declared.types.Facts.{Facts}
-use Rattle.reo_rules_types.specs.Cells.{kindred_of, kindreds_of, is_symbol, Fits}
+use Rattle.reo_rules_types.specs.Cells.{kindred_of, kindreds_of, leaf, is_symbol, Fits}
 use Rattle.reo_rules_types.specs.Table.{IsCell, AreCells}
 use Rattle.reo_rules_types.proofs.Lists.{more_keeps, last_is, old_or_last, fold_push}
 use Rattle.reo_rules_types.proofs.Told.{cell_eq, alike, told}
@@ -51,7 +51,7 @@ none_at t (e ∷ es) none zero k x at = sym (ap (λ p. t p.0) (same_Some e (k, x
 none_at t (e ∷ es) none (suc n) k x at = none_at t es (missed (t e.0) e.1 (lookup t es) none).1 n k x at
 
 no_facts : Facts
-no_facts = record { kind = 0; symbols = [] }
+no_facts = record { kind = 0; symbols = []; leaf = kinds.Unit }
 
 module _ (types : List Kindred) (es : List (TypeParts × Facts)) (are : AreCells types es) where
   -- The cell with a number.
@@ -88,8 +88,8 @@ module _ (types : List Kindred) (es : List (TypeParts × Facts)) (are : AreCells
     k = kindred_of types c
 
     -- One more cell, whose type is not there.
-    pub added : slice_get (types ++ k ∷ []) f.kind ≡ Some (kind_of k) → ((name : List ℕ) → has_name f.symbols name ≡ is_symbol k name) → ((n : ℕ) → slice_get types n ≡ Some k → ⊥) → AreCells (types ++ k ∷ []) (es ++ (c, f) ∷ [])
-    added kind symbols new = record { each = each; once = once; as_many = length_push types k ∙ ap (λ n. n + 1) are.as_many ∙ sym (length_push es (c, f)) }
+    pub added : slice_get (types ++ k ∷ []) f.kind ≡ Some (kind_of k) → ((name : List ℕ) → has_name f.symbols name ≡ is_symbol k name) → f.leaf ≡ leaf k → ((n : ℕ) → slice_get types n ≡ Some k → ⊥) → AreCells (types ++ k ∷ []) (es ++ (c, f) ∷ [])
+    added kind symbols own new = record { each = each; once = once; as_many = length_push types k ∙ ap (λ n. n + 1) are.as_many ∙ sym (length_push es (c, f)) }
       where
         same : kindred_of (types ++ k ∷ []) c ≡ k
         same = kindred_kept types (k ∷ []) c fits
@@ -100,6 +100,7 @@ module _ (types : List Kindred) (es : List (TypeParts × Facts)) (are : AreCells
           is = subst (λ n. slice_get (types ++ k ∷ []) n ≡ Some k) are.as_many (last_is types k) ∙ ap Some (sym same);
           kind = kind ∙ ap (λ t. Some (kind_of t)) (sym same);
           symbols = λ name. symbols name ∙ ap (λ t. is_symbol t name) (sym same);
+          leaf = own ∙ ap leaf (sym same);
         }
 
         earlier : (n : ℕ) (d : TypeParts) (g : Facts) → n < length es → IsCell types n d g → IsCell (types ++ k ∷ []) n d g
@@ -110,6 +111,7 @@ module _ (types : List Kindred) (es : List (TypeParts × Facts)) (are : AreCells
               is = more_keeps types (k ∷ []) n _ is.is ∙ ap Some (sym kept);
               kind = more_keeps types (k ∷ []) g.kind _ is.kind ∙ ap (λ t. Some (kind_of t)) (sym kept);
               symbols = λ name. is.symbols name ∙ ap (λ t. is_symbol t name) (sym kept);
+              leaf = is.leaf ∙ ap leaf (sym kept);
             }
 
         each : (n : ℕ) (d : TypeParts) (g : Facts) → slice_get (es ++ (c, f) ∷ []) n ≡ Some (d, g) → IsCell (types ++ k ∷ []) n d g

@@ -1,5 +1,6 @@
 -- Types by number: each is a cell, whose parts are numbers of types before it.
 use Rattle.std.specs.Prelude.{◌≡◌, ℕ, ◌<◌, Bool, false, List, [], ◌∷◌, ◌++◌, map, fold, Some, slice_get, slice_index_or}
+use Rattle.reo_values.specs.declared.kindred.Kindred as kindred
 use Rattle.reo_values.specs.declared.kindred.Kindred.{Kindred}
 use Rattle.reo_values.specs.declared.kindred.Kindred.TheVariants as kinds
 use Rattle.reo_rules.specs.Lists.{has_name}
@@ -18,6 +19,11 @@ kindred_of types (cells.Int low high) = kinds.Int low high
 kindred_of types (cells.Sym names) = kinds.Sym (map (λ v. v.items) names.items)
 kindred_of types (cells.Text most) = kinds.Text most
 kindred_of types (cells.Pair left right) = kinds.Pair (record { left = type_at types left; right = type_at types right })
+
+-- A type that is no pair, and `unit` for a pair.
+abbrev pub leaf : Kindred → Kindred
+leaf (kindred.Pair' n (kindred.more_of-Twins a b _)) = kinds.Unit
+leaf k = k
 
 -- The types of cells, each by those before it.
 abbrev pub kindreds_of : List TypeParts → List Kindred

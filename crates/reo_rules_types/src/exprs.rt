@@ -1,45 +1,33 @@
 //! Expressions, their names resolved.
-ghost use Rattle.std.specs.Prelude.{◌≡◌, ◌<◌, length, map, Some, IfOk, bytes_eq, position};
+ghost use Rattle.std.specs.Prelude.{◌≡◌, ◌<◌, length, Some, IfOk};
 ghost use Rattle.reo_rules.specs.Terms.{symbol_in, expr_of};
 ghost use Rattle.reo_rules_types.specs.Cells.{type_at};
 ghost use Rattle.reo_rules_types.specs.Resolved.{pair_of};
 ghost use Rattle.reo_rules_types.specs.Scoped.{typed, AreKnown};
 
-use crate::cell::TypeParts;
 use crate::scope::Scope;
-use crate::trees::names_of;
 use crate::types::TypeStore;
 use reo_exprs::{Expr, ExprPair, ExprTriple};
+use reo_rules::place_of;
 use reo_trees::{Binary, Term, TermForm, Unary};
-use reo_values::{Boxed, NoMemory};
+use reo_values::{Boxed, Kindred, NoMemory};
 use std::alloc::Global;
 
-fn place_of(names: &[Vec<u8>], name: &[u8]) -> Option<usize>
-    ensures { result ≡ position (λ v. bytes_eq name.now v.items) names.now }
-{
-    names.iter().position(|other| name == other.as_slice())
-}
-
 // The symbol of a type of this name. Out of memory also where its place is above 65,535.
-fn symbol_expr(
-    alloc: Global,
-    types: &TypeStore,
-    number: usize,
-    name: &[u8],
-) -> Result<Option<Expr>, NoMemory>
+fn symbol_expr(types: &TypeStore, number: usize, name: &[u8]) -> Result<Option<Expr>, NoMemory>
     requires { number < length types.now }
     ensures { IfOk result (λ made. made ≡ symbol_in (type_at types.now number) name.now) }
 {
-    let TypeParts::Sym(names) = types.cell(number) else {
+    let Kindred::Sym(names) = types.leaf(number) else {
         return Ok(None);
     };
-    let Some(place) = place_of(names, name) else {
+    let Some(place) = place_of(names.get().as_slice(), name) else {
         return Ok(None);
     };
     if place > 65_535 {
         return Err(NoMemory);
     }
-    Ok(Some(Expr::Sym(names_of(alloc, names)?, place as u16)))
+    Ok(Some(Expr::Sym(names.share()?, place as u16)))
 }
 
 fn one_expr(alloc: Global, op: Unary, operand: Expr) -> Result<Option<Expr>, NoMemory>
@@ -111,7 +99,7 @@ pub(crate) fn expr_of_term(
         TermForm::Text(bytes) => Ok(Some(Expr::Text(bytes.copy(alloc)?))),
         TermForm::Sym(name, symbol) => {
             let number = declared.find(name.as_slice());
-            symbol_expr(alloc, types, number, symbol.as_slice())
+            symbol_expr(types, number, symbol.as_slice())
         }
         TermForm::One(op, operand) => {
             match expr_of_term(alloc, types, declared, &operand.get().form)? {

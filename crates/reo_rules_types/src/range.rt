@@ -53,7 +53,7 @@ fn shape_range(line: u32, shape: &Shape) -> Result<(), FlatFault>
 {
     match shape {
         Shape::Int(low, high) => range_where(!(*low <= *high), line),
-        Shape::Sym(names) => range_where(MOST_SYMBOLS < names.len(), line),
+        Shape::Sym(names) => range_where(MOST_SYMBOLS < names.get().len(), line),
         Shape::Pair(pair) => {
             let pair = pair.get();
             shape_range(pair.left.line, &pair.left.shape)?;

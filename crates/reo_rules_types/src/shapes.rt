@@ -28,7 +28,7 @@ pub(crate) fn number_of(
         Shape::Unit => types.put(alloc, TypeParts::Unit),
         Shape::Bool => types.put(alloc, TypeParts::Bool),
         Shape::Int(low, high) => types.put(alloc, TypeParts::Int(*low, *high)),
-        Shape::Sym(names) => types.put_names(alloc, names.as_slice()),
+        Shape::Sym(names) => types.put_names(alloc, names.get().as_slice()),
         Shape::Text(most) => types.put(alloc, TypeParts::Text(*most)),
         Shape::Named(name) => Ok(declared.find(name.as_slice())),
         Shape::Pair(pair) => {

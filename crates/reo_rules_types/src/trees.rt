@@ -1,11 +1,11 @@
 //! Types as trees, for programs that keep the bounds of types.
-ghost use Rattle.std.specs.Prelude.{◌≡◌, ◌<◌, length, slice_get, map, nat_lt, Some, IfOk};
+ghost use Rattle.std.specs.Prelude.{◌≡◌, ◌<◌, length, slice_get, nat_lt, Some, IfOk};
 ghost use Rattle.reo_rules.specs.Types.{depth_of};
 ghost use Rattle.reo_rules_types.specs.Cells.{type_at};
 
 use crate::cell::TypeParts;
 use crate::types::TypeStore;
-use reo_values::{Boxed, Bytes, Kindred, List, NoMemory, Twins};
+use reo_values::{Kindred, NoMemory, Shared, Twins, copy_kindred};
 use std::alloc::Global;
 
 /// Whether pairs are nested more than so many deep in a type.
@@ -24,32 +24,17 @@ pub(crate) fn is_deeper(types: &TypeStore, number: usize, levels: usize) -> bool
     }
 }
 
-/// A copy of names. `NoMemory` means out of memory.
-pub(crate) fn names_of(alloc: Global, names: &[Vec<u8>]) -> Result<List<Bytes>, NoMemory>
-    ensures { IfOk result (λ made. made ≡ map (λ v. v.items) names.now) }
-{
-    let mut made = List::new(alloc);
-    for name in names {
-        made.push(Bytes::from_slice(alloc, name.as_slice())?)?;
-    }
-    Ok(made)
-}
-
-/// A type as a tree. `NoMemory` means out of memory.
+/// A type as a tree, in which names are shared with the table. `NoMemory` means out of memory.
 pub(crate) fn tree_of(alloc: Global, types: &TypeStore, number: usize) -> Result<Kindred, NoMemory>
     requires { number < length types.now }
     ensures { IfOk result (λ made. made ≡ type_at types.now number) }
 {
     match types.cell(number) {
-        TypeParts::Unit => Ok(Kindred::Unit),
-        TypeParts::Bool => Ok(Kindred::Bool),
-        TypeParts::Int(low, high) => Ok(Kindred::Int(*low, *high)),
-        TypeParts::Sym(names) => Ok(Kindred::Sym(names_of(alloc, names)?)),
-        TypeParts::Text(most) => Ok(Kindred::Text(*most)),
         TypeParts::Pair(left, right) => {
             let left = tree_of(alloc, types, *left)?;
             let right = tree_of(alloc, types, *right)?;
-            Ok(Kindred::Pair(Boxed::new(alloc, Twins { left, right })?))
+            Ok(Kindred::Pair(Shared::new(alloc, Twins { left, right })?))
         }
+        _ => copy_kindred(types.leaf(number)),
     }
 }

@@ -4,20 +4,21 @@ ghost use Rattle.reo_exprs.specs.Kinds.{kind_of};
 ghost use Rattle.reo_rules.specs.Lists.{has_name};
 ghost use Rattle.reo_rules.specs.Types.{is_same};
 ghost use Rattle.reo_values.specs.declared.kindred.Kindred.{Kindred as AType};
-ghost use Rattle.reo_rules_types.specs.Cells.{type_at, kindred_of, is_symbol, Fits, Keeps};
+ghost use Rattle.reo_rules_types.specs.Cells.{type_at, kindred_of, leaf, is_symbol, Fits, Keeps};
 
 use crate::cell::TypeParts;
 use indexmap::IndexMap;
 use reo_rules::Names;
-use reo_values::{Bytes, NoMemory};
+use reo_values::{Bytes, Kindred, List, NoMemory, Shared, Symbols};
 use std::alloc::Global;
 use std::marker::Model;
 
-/// What is known of a type: the number of its kind, and its symbols.
+/// What is known of a type: the number of its kind, its symbols, and itself where it is no pair.
 #[derive(Drop)]
 pub(crate) struct Facts {
     pub(crate) kind: usize,
     pub(crate) symbols: Names,
+    pub(crate) leaf: Kindred,
 }
 
 /// Types, each once: two are the same exactly where their numbers are equal.
@@ -76,6 +77,35 @@ fn symbols_of(alloc: Global, cell: &TypeParts) -> Result<Names, NoMemory>
     Ok(symbols)
 }
 
+/// A copy of names. `NoMemory` means out of memory.
+fn names_of(alloc: Global, names: &[Vec<u8>]) -> Result<List<Bytes>, NoMemory>
+    ensures { IfOk result (λ made. made ≡ map (λ v. v.items) names.now) }
+{
+    let mut made = List::new(alloc);
+    for name in names {
+        made.push(Bytes::from_slice(alloc, name.as_slice())?)?;
+    }
+    Ok(made)
+}
+
+/// The type of a cell that is no pair, and `unit` for a pair.
+fn leaf_of(alloc: Global, cell: &TypeParts) -> Result<Kindred, NoMemory>
+    ensures { IfOk result
+        (λ made. (types : List AType) → made ≡ leaf (kindred_of types cell.now)) }
+{
+    match cell {
+        TypeParts::Unit => Ok(Kindred::Unit),
+        TypeParts::Bool => Ok(Kindred::Bool),
+        TypeParts::Int(low, high) => Ok(Kindred::Int(*low, *high)),
+        TypeParts::Sym(names) => {
+            let symbols = Symbols::new(alloc, names_of(alloc, names)?)?;
+            Ok(Kindred::Sym(Shared::new(alloc, symbols)?))
+        }
+        TypeParts::Text(most) => Ok(Kindred::Text(*most)),
+        TypeParts::Pair(_, _) => Ok(Kindred::Unit),
+    }
+}
+
 impl TypeStore {
     /// The type `unit`, with the number 0. `NoMemory` means out of memory.
     pub(crate) fn new(alloc: Global) -> Result<Self, NoMemory>
@@ -107,10 +137,12 @@ impl TypeStore {
             return Ok(number);
         }
         let symbols = symbols_of(alloc, &cell)?;
+        let leaf = leaf_of(alloc, &cell)?;
         let number = self.map.len();
         let facts = Facts {
             kind: kind.unwrap_or(number),
             symbols,
+            leaf,
         };
         match self.map.insert(cell, facts) {
             Ok(_) => Ok(number),
@@ -168,6 +200,17 @@ impl TypeStore {
     {
         match self.map.get_index(number) {
             Some((cell, _)) => cell,
+            None => unreachable!(),
+        }
+    }
+
+    /// A type that is no pair, and `unit` for a pair.
+    pub(crate) fn leaf(&self, number: usize) -> &Kindred
+        requires { number < length self.now }
+        ensures { result.now ≡ leaf (type_at self.now number) }
+    {
+        match self.map.get_index(number) {
+            Some((_, facts)) => &facts.leaf,
             None => unreachable!(),
         }
     }

@@ -11,7 +11,7 @@ ghost use Rattle.reo_terms.specs.Reading.{read_plain};
 
 use reo_cursor::{Cursor, Halt};
 use reo_trees::{Shape, TypePair, TypeTerm};
-use reo_values::{Boxed, Bytes, List};
+use reo_values::{Boxed, Bytes, List, Shared, Symbols};
 use std::alloc::Global;
 
 /// The greatest bound of an int type.
@@ -65,7 +65,8 @@ fn sym_shape(cursor: &mut Cursor, alloc: Global) -> Result<Shape, Halt>
     cursor.expect(b"{")?;
     let names = names(cursor, alloc)?;
     cursor.expect(b"}")?;
-    Ok(Shape::Sym(names))
+    let symbols = Symbols::new(alloc, names)?;
+    Ok(Shape::Sym(Shared::new(alloc, symbols)?))
 }
 
 fn text_shape(cursor: &mut Cursor) -> Result<Shape, Halt>

@@ -43,7 +43,7 @@ fn copy_shape(alloc: Global, shape: &Shape) -> Result<Shape, NoMemory>
         Shape::Unit => Ok(Shape::Unit),
         Shape::Bool => Ok(Shape::Bool),
         Shape::Int(low, high) => Ok(Shape::Int(*low, *high)),
-        Shape::Sym(names) => Ok(Shape::Sym(names.copied(alloc)?)),
+        Shape::Sym(names) => Ok(Shape::Sym(names.share()?)),
         Shape::Text(most) => Ok(Shape::Text(*most)),
         Shape::Pair(pair) => {
             let pair = copy_pair(alloc, pair.get())?;

@@ -10,17 +10,17 @@ use crate::types::NamedTypes;
 use reo_exprs::{Expr, ExprPair, ExprTriple};
 use reo_rules::place_of;
 use reo_trees::TermForm;
-use reo_values::{Boxed, Bytes, Copies, Kindred, NoMemory};
+use reo_values::{Boxed, Bytes, Kindred, NoMemory};
 use std::alloc::Global;
 
 /// The expression of a symbol of a type, if it is one.
-fn symbol_of(alloc: Global, kindred: &Kindred, symbol: &Bytes) -> Result<Option<Expr>, NoMemory>
+fn symbol_of(kindred: &Kindred, symbol: &Bytes) -> Result<Option<Expr>, NoMemory>
     requires { HasFewNames kindred.now }
     ensures { IfOk result (λ made. made ≡ symbol_in kindred.now symbol.now) }
 {
     match kindred {
-        Kindred::Sym(names) => match place_of(names.as_slice(), symbol.as_slice()) {
-            Some(place) => Ok(Some(Expr::Sym(names.copied(alloc)?, place as u16))),
+        Kindred::Sym(names) => match place_of(names.get().as_slice(), symbol.as_slice()) {
+            Some(place) => Ok(Some(Expr::Sym(names.share()?, place as u16))),
             None => Ok(None),
         },
         _ => Ok(None),
@@ -46,7 +46,7 @@ pub(crate) fn expr_of(
         TermForm::Int(number) => Ok(Some(Expr::Int(*number))),
         TermForm::Text(bytes) => Ok(Some(Expr::Text(bytes.copy(alloc)?))),
         TermForm::Sym(name, symbol) => match types.named(known, name.as_slice()) {
-            Some(kindred) => symbol_of(alloc, kindred, symbol),
+            Some(kindred) => symbol_of(kindred, symbol),
             None => Ok(None),
         },
         TermForm::One(op, operand) => match expr_of(alloc, types, known, &operand.get().form)? {

@@ -10,7 +10,7 @@ ghost use Rattle.reo_unfold.specs.Fits.{IsFew};
 
 use reo_rules::Names;
 use reo_trees::Shape;
-use reo_values::{Boxed, Bytes, Copies, Kindred, List, NoMemory, Twins, copy_kindred};
+use reo_values::{Bytes, Kindred, List, NoMemory, Shared, Twins, copy_kindred};
 use std::alloc::Global;
 
 /// Types by name, in the order in which they are declared.
@@ -78,16 +78,16 @@ pub fn kindred_of(
         Shape::Unit => Ok(Kindred::Unit),
         Shape::Bool => Ok(Kindred::Bool),
         Shape::Int(low, high) => Ok(Kindred::Int(*low, *high)),
-        Shape::Sym(names) => Ok(Kindred::Sym(names.copied(alloc)?)),
+        Shape::Sym(names) => Ok(Kindred::Sym(names.share()?)),
         Shape::Text(most) => Ok(Kindred::Text(*most)),
         Shape::Pair(pair) => {
             let pair = pair.get();
             let left = kindred_of(alloc, types, known, &pair.left.shape)?;
             let right = kindred_of(alloc, types, known, &pair.right.shape)?;
-            Ok(Kindred::Pair(Boxed::new(alloc, Twins { left, right })?))
+            Ok(Kindred::Pair(Shared::new(alloc, Twins { left, right })?))
         }
         Shape::Named(name) => match types.named(known, name.as_slice()) {
-            Some(kindred) => copy_kindred(alloc, kindred),
+            Some(kindred) => copy_kindred(kindred),
             None => Ok(Kindred::Unit),
         },
     }

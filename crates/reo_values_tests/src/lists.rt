@@ -1,6 +1,8 @@
 //! Lists, boxes and copies at types of their own.
 use crate::checks::is;
-use reo_values::{Boxed, Bytes, Copies, Filling, List, NoMemory, Shared, Value, same_item};
+use reo_values::{
+    Boxed, Bytes, Copies, Filling, List, NoMemory, Shared, Symbols, Value, same_item,
+};
 use std::alloc::Global;
 
 fn add_three(alloc: Global, list: &mut List<u32>) -> Result<(), NoMemory> {
@@ -74,6 +76,25 @@ fn is_shared(alloc: Global) -> bool {
     matches!(outlives_its_first_owner(alloc), Ok(true))
 }
 
+/// The symbols of two names.
+fn two_symbols(alloc: Global, first: &[u8], second: &[u8]) -> Result<Symbols, NoMemory> {
+    let mut names = List::new(alloc);
+    names.push(Bytes::from_slice(alloc, first)?)?;
+    names.push(Bytes::from_slice(alloc, second)?)?;
+    Symbols::new(alloc, names)
+}
+
+fn are_told_apart(alloc: Global) -> Result<bool, NoMemory> {
+    let one = two_symbols(alloc, b"a", b"bc")?;
+    let again = two_symbols(alloc, b"a", b"bc")?;
+    let other = two_symbols(alloc, b"ab", b"c")?;
+    Ok(one.same(&again) && !one.same(&other) && one.len() == 2 && one.get(2).is_none())
+}
+
+fn symbols_compared(alloc: Global) -> bool {
+    matches!(are_told_apart(alloc), Ok(true))
+}
+
 #[test]
 fn lists_and_boxes(rt: HostRuntime) {
     let alloc = rt.alloc();
@@ -81,6 +102,7 @@ fn lists_and_boxes(rt: HostRuntime) {
     is(&rt, is_filled(alloc), "reserved room");
     is(&rt, is_boxed(alloc), "a box");
     is(&rt, is_shared(alloc), "a shared value");
+    is(&rt, symbols_compared(alloc), "symbols");
 }
 
 fn is_cut(alloc: Global, bytes: &mut Bytes) -> Result<bool, NoMemory> {

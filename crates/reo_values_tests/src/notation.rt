@@ -1,7 +1,7 @@
 //! Types and items as words: behind the words of a pair's left part and of its right part stands a
 //! comma. What words say is added to a list.
 use reo_values::{
-    Boxed, Bytes, Couple, Kindred, List, NoMemory, Shared, Twins, Value, append_number,
+    Bytes, Couple, Kindred, List, NoMemory, Shared, Symbols, Twins, Value, append_number,
 };
 use std::alloc::Global;
 
@@ -73,6 +73,12 @@ fn interval(word: &str) -> Option<(i64, i64)> {
     }
 }
 
+/// The type of these names.
+fn sym_type(alloc: Global, names: List<Bytes>) -> Result<Kindred, NoMemory> {
+    let symbols = Symbols::new(alloc, names)?;
+    Ok(Kindred::Sym(Shared::new(alloc, symbols)?))
+}
+
 /// `0..9`, `text3`, `red/green`, or `names1024` for so many names.
 fn other_type(alloc: Global, word: &str) -> Result<Kindred, NoMemory> {
     if let Some((low, high)) = interval(word) {
@@ -80,16 +86,16 @@ fn other_type(alloc: Global, word: &str) -> Result<Kindred, NoMemory> {
     } else if let Some(most) = behind(word, "text") {
         Ok(Kindred::Text(most))
     } else if let Some(count) = behind(word, "names") {
-        Ok(Kindred::Sym(numbered(alloc, count)?))
+        sym_type(alloc, numbered(alloc, count)?)
     } else {
-        Ok(Kindred::Sym(names(alloc, word)?))
+        sym_type(alloc, names(alloc, word)?)
     }
 }
 
 fn pair_type(alloc: Global, types: &mut List<Kindred>) -> Result<Kindred, Unread> {
     let right = last(types)?;
     let left = last(types)?;
-    Ok(Kindred::Pair(Boxed::new(alloc, Twins { left, right })?))
+    Ok(Kindred::Pair(Shared::new(alloc, Twins { left, right })?))
 }
 
 fn next_type(alloc: Global, types: &mut List<Kindred>, word: &str) -> Result<Kindred, Unread> {

@@ -2,7 +2,7 @@
 //! expressions that it chooses from and, last, its condition.
 use crate::notation::{Unread, behind, last, numbered, spaced};
 use reo_exprs::{Expr, ExprPair, ExprTriple};
-use reo_values::{Binary, Boxed, Bytes, List, NoMemory, Unary};
+use reo_values::{Binary, Boxed, Bytes, List, NoMemory, Shared, Symbols, Unary};
 use std::alloc::Global;
 
 /// A text of so many letters.
@@ -21,7 +21,8 @@ fn other(alloc: Global, word: &str) -> Result<Expr, Unread> {
     } else if let Some(count) = behind(word, "text") {
         Ok(Expr::Text(long(alloc, count)?))
     } else if let Some(count) = behind(word, "names") {
-        Ok(Expr::Sym(numbered(alloc, count)?, count.wrapping_sub(1)))
+        let names = Symbols::new(alloc, numbered(alloc, count)?)?;
+        Ok(Expr::Sym(Shared::new(alloc, names)?, count.wrapping_sub(1)))
     } else {
         match word.parse::<i64>() {
             Ok(number) => Ok(Expr::Int(number)),

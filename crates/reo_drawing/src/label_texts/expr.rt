@@ -148,7 +148,7 @@ fn append_form(alloc: Global, text: &mut Bytes, inner: bool, expr: &Expr) -> Res
         Expr::Bool(truth) => append_truth(text, *truth),
         Expr::Int(number) => append_number(alloc, text, *number),
         Expr::Text(bytes) => append_quoted(text, bytes.as_slice()),
-        Expr::Sym(names, place) => append_symbol(text, names.as_slice(), *place as usize),
+        Expr::Sym(names, place) => append_symbol(text, names.get().as_slice(), *place as usize),
         Expr::One(operator, operand) => {
             append_applied(alloc, text, inner, *operator, operand.get())
         }

@@ -79,7 +79,7 @@ fn names_weight(names: &[Bytes]) -> u64 {
 /// A type.
 pub(crate) fn shape_weight(shape: &Shape) -> u64 {
     match shape {
-        Shape::Sym(names) => names_weight(names.as_slice()),
+        Shape::Sym(names) => names_weight(names.get().as_slice()),
         Shape::Named(name) => bytes_weight(name),
         Shape::Pair(pair) => {
             let pair = pair.get();

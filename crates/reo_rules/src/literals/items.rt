@@ -31,7 +31,7 @@ fn is_item_in(kindred: &Kindred, constant: &Constant) -> bool
         (Constant::Bool(_), Kindred::Bool) => true,
         (Constant::Int(number), Kindred::Int(low, high)) => *low <= *number && *number <= *high,
         (Constant::Name(name), Kindred::Sym(names)) => {
-            place_of(names.as_slice(), name.as_slice()).is_some()
+            place_of(names.get().as_slice(), name.as_slice()).is_some()
         }
         (Constant::Text(bytes), Kindred::Text(most)) => {
             bytes.len() <= *most as usize && are_plain(bytes.as_slice())
@@ -51,7 +51,7 @@ fn symbol_in(kindred: &Kindred, name: &Bytes) -> Value
     ensures { item_in kindred.now (Constant.Name name.now) ≡ Some result }
 {
     match kindred {
-        Kindred::Sym(names) => match place_of(names.as_slice(), name.as_slice()) {
+        Kindred::Sym(names) => match place_of(names.get().as_slice(), name.as_slice()) {
             Some(place) => Value::Sym(place as u16),
             None => unreachable!(),
         },

@@ -8,7 +8,7 @@ use Rattle.reo_rules.proofs.literals.items.+is_item_in.Goals as goal
 
 pub returns-in-Name-Sym : goal.returns-in-Name-Sym
 returns-in-Name-Sym t c =
-    c.is_some.ensures ∙ ap is_some (c.place_of.ensures ∙ (λ i. position_from (bytes_eq (c.as_slice-in-Name-Sym.ensures i)) 0 (c.as_slice.ensures i)))
+    c.is_some.ensures ∙ ap is_some (c.place_of.ensures ∙ (λ i. position_from (bytes_eq (c.as_slice-in-Name-Sym.ensures i)) 0 ((c.as_slice.ensures ∙ c.get.ensures) i)))
     ∙ sym (is_some-map (λ k. values.Sym k) _)
     ∙ ap is_some (sym (item_in-Name c.in-Name-Sym.names c.in-Name-Sym.name) ∙ (λ i. item_in (sym c.in-Name-Sym.is-1 i) (sym c.in-Name-Sym.is-0 i)))
 

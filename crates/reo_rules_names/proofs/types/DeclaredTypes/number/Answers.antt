@@ -12,7 +12,7 @@ returns-in_ok-push-in-Sym c known are =
     let t = c.args.self.now in
     let set = c.in_ok-set-in-Sym.set in
     let pushed = c.in_ok-push-in-Sym.ensures.ok in
-    let same = subst (λ ns. SameNames set ns) c.as_slice.ensures c.in_ok-set-in-Sym.ensures in (
+    let same = subst (λ ns. SameNames set ns) (c.as_slice.ensures ∙ c.get.ensures) c.in_ok-set-in-Sym.ensures in (
       types_kept known t set c.push.new.self pushed are,
       subst (λ k. IsSetOf c.push.new.self (Some c.len-number.result) k) (ap (resolved known) (sym c.in-Sym.is)) (new_set t.sets c.push.new.self set c.in-Sym.symbols c.len-number.result pushed c.len-number.ensures same),
     )

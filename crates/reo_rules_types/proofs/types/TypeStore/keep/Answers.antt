@@ -36,7 +36,7 @@ module _ (c : goal.Joined-insert-2) where
   types = kindreds_of (keys_of es)
 
   abbrev facts : Facts
-  facts = record { kind = c.unwrap_or.result; symbols = c.in_ok-symbols.symbols }
+  facts = record { kind = c.unwrap_or.result; symbols = c.in_ok-symbols.symbols; leaf = c.in_ok-leaf.leaf }
 
   abbrev k : Kindred
   k = kindred_of types c.args.cell
@@ -53,7 +53,7 @@ invariant_of-self c =
     let fits = subst (λ t. Fits (length t) cell) (sym c.self.view_is) c.requires.fits in
     let given = subst (λ t. MatchOption c.args.kind (kind_of (kindred_of t cell) ≡ kindred_of t cell) (λ n. slice_get t n ≡ Some (kind_of (kindred_of t cell)))) (sym c.self.view_is) c.requires.kind in
     let kind = kind_given (types c) (k c) c.args.kind c.unwrap_or.result given (c.unwrap_or.ensures ∙ ap (unwrap_or c.args.kind) (number_is c)) in
-    let made = added (types c) (es c) c.self.invariant cell (facts c) fits kind (c.in_ok-symbols.ensures (types c)) (not_there (types c) (es c) c.self.invariant cell fits c.in_default.ensures.found) in
+    let made = added (types c) (es c) c.self.invariant cell (facts c) fits kind (c.in_ok-symbols.ensures (types c)) (c.in_ok-leaf.ensures (types c)) (not_there (types c) (es c) c.self.invariant cell fits c.in_default.ensures.found) in
     subst (λ (fs : List (TypeParts × Facts)). AreCells (kindreds_of (keys_of fs)) fs) (sym (more c))
     (subst (λ t. AreCells t (es c ++ (cell, facts c) ∷ [])) (sym (types_push (es c) cell (facts c))) made)
 
