@@ -1,7 +1,7 @@
 //! A run of a script on a circuit, and its trace.
 #![tactic(auto)]
 
-mod at_ports;
+pub mod at_ports;
 mod ending;
 mod outcome;
 mod planning;

@@ -3,8 +3,8 @@
 
 mod laws;
 mod run_premises;
-mod run_texts;
-mod verdicts;
+pub mod run_texts;
+pub mod verdicts;
 
 pub use laws::{one_trace, rounds_start, runs_are_justified, trace_exists};
 pub use reo_rounds::known_order;

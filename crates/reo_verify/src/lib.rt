@@ -3,7 +3,7 @@
 #![tactic(auto)]
 
 mod jams;
-mod judging;
+pub mod judging;
 mod replay;
 mod verifying;
 
