@@ -1,5 +1,4 @@
 pub mod Adding
-pub mod Bytes
 pub mod Giving
 pub mod Keeping
 pub mod LiveLemmas

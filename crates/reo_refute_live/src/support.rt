@@ -3,7 +3,6 @@
 mod asked;
 mod columns;
 mod flows;
-mod items;
 mod live;
 mod marks;
 mod support;

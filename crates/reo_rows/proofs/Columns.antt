@@ -1,8 +1,5 @@
 -- Groups that are held against the columns of a board.
-use Rattle.std.proofs.Common.{◌≡◌, ◌≢◌, ◌↔◌, inl, inr, ℕ, ◌+◌, ◌*◌, ◌-◌, ◌<◌, ◌≤◌, true, false, not, List, length, get_or, take, drop, replicate, ap, sym, ◌∙◌, subst, arith, below_more, mul-le-mul_right, length-take, length-drop, get_or-take, get_or-drop}
-use Rattle.std.specs.Bool.{◌==◌}
-use Rattle.std.specs.Prelude.{bit_and}
-use Rattle.std.proofs.lemmas.Bool.{cases_Bool, cond-true, cond-false}
+use Rattle.std.proofs.Common.{◌≡◌, ◌≢◌, ◌↔◌, ℕ, ◌+◌, ◌*◌, ◌-◌, ◌<◌, ◌≤◌, true, List, length, get_or, take, drop, replicate, ap, sym, ◌∙◌, subst, arith, below_more, mul-le-mul_right, length-take, length-drop, get_or-take, get_or-drop}
 use Rattle.std.proofs.lemmas.List.{length-replicate, get_or-replicate}
 use Rattle.std.proofs.lemmas.Simd.{length-zip2, get_or-zip2}
 use Rattle.reo_net_base.specs.declared.mark.Mark.{Mark}
@@ -11,28 +8,16 @@ use Rattle.reo_lanes.specs.Rows.{kept_row, kept_rows}
 use Rattle.reo_joint_values.specs.Values.{Family}
 use Rattle.reo_side_tables.specs.Boards.{AreColumns}
 use Rattle.reo_side_tables.specs.Marks.{byte_of, groups_in, common_at_joint}
-use Rattle.reo_rows.specs.declared.marks.Marks.{Marks}
-use Rattle.reo_rows.specs.Stands.{HasMark, marks_has, marks_byte}
-use Rattle.reo_rows.proofs.Bytes.{byte_shares}
+use Rattle.reo_side_tables.specs.declared.sets.Marks.{Marks}
+use Rattle.reo_rows.specs.Stands.{HasMark}
+use Rattle.reo_side_tables.specs.Sets.{marks_has, marks_byte}
+use Rattle.reo_side_tables.proofs.Bytes.{kept_byte}
 
 -- The bytes of the groups that stand at the first n joints are not 0.
 pub record AreFitBelow (net : Net) (family : Family) (side : ℕ) (joints : List ℕ) (n : ℕ) (bytes : List ℕ) : Type 0 where
   pub one_each : length bytes ≡ groups_in net side
   pub fits : (group : ℕ) → group < groups_in net side → (get_or bytes group 0 ≢ 0)
       ↔ ((m : ℕ) → m < n → HasMark net family side (get_or joints m 0) (common_at_joint net side group (get_or joints m 0)))
-
--- A byte that is kept is that of a mark that is left.
-kept_byte : (m : Mark) (s : Marks) (byte : ℕ) → (kept_row (marks_byte s) (byte_of m) byte ≢ 0) ↔ ((byte ≢ 0) × (marks_has s m ≡ true))
-kept_byte m s byte = elim (cases_Bool (marks_has s m)) [
-  | inl has ↦
-      let test : (bit_and (byte_of m) (marks_byte s) == 0) ≡ false = byte_shares m s ∙ ap not has in
-      let is : kept_row (marks_byte s) (byte_of m) byte ≡ byte = cond-false (bit_and (byte_of m) (marks_byte s) == 0) 0 byte test in
-      (λ h. (λ e. h (is ∙ e), has), λ h e. h.0 (sym is ∙ e))
-  | inr not_has ↦
-      let test : (bit_and (byte_of m) (marks_byte s) == 0) ≡ true = byte_shares m s ∙ ap not not_has in
-      let is : kept_row (marks_byte s) (byte_of m) byte ≡ 0 = cond-true (bit_and (byte_of m) (marks_byte s) == 0) 0 byte test in
-      (λ h. absurd (h is), λ h. let wrong : true ≡ false = sym h.1 ∙ not_has in absurd cc)
-]
 
 module _ (net : Net) (family : Family) (side : ℕ) (joints : List ℕ) where
   pub fit_none : (bytes : List ℕ) → bytes ≡ replicate (groups_in net side) 1 → AreFitBelow net family side joints 0 bytes

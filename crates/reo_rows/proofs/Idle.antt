@@ -9,9 +9,9 @@ use Rattle.reo_side_tables.specs.declared.board.Flow.{Flow}
 use Rattle.reo_side_tables.specs.Boards.{IsFlow}
 use Rattle.reo_side_tables.specs.Listing.{StandsIn}
 use Rattle.reo_side_tables.specs.Marks.{mark_at_joint, IsJointOf}
-use Rattle.reo_rows.specs.declared.marks.Marks.{Marks}
+use Rattle.reo_side_tables.specs.declared.sets.Marks.{Marks}
 use Rattle.reo_rows.specs.RowFlags.{flag}
-use Rattle.reo_rows.specs.Stands.{marks_has}
+use Rattle.reo_side_tables.specs.Sets.{marks_has}
 use Rattle.reo_rows.specs.Sparing.{IsLacking, AreCleared}
 use Rattle.reo_rows.proofs.Plain.{giver_says, taker_says}
 use Rattle.reo_rows.proofs.Clearing.{was_set, other_row, other_place, gone_flag}

@@ -7,8 +7,9 @@ use Rattle.reo_net_base.specs.Net.{Net}
 use Rattle.reo_joint_values.specs.declared.value.JointValue.{JointValue}
 use Rattle.reo_joint_values.specs.declared.value.JointValue.TheVariants.{Flow, RG, GR, GG, Jam}
 use Rattle.reo_joint_values.specs.Values.{giver_mark, taker_mark, Family}
-use Rattle.reo_rows.specs.declared.marks.Marks.{Marks}
-use Rattle.reo_rows.specs.Stands.{value_mark, HasMark, marks_has}
+use Rattle.reo_side_tables.specs.declared.sets.Marks.{Marks}
+use Rattle.reo_rows.specs.Stands.{value_mark, HasMark}
+use Rattle.reo_side_tables.specs.Sets.{marks_has}
 
 abbrev pub HasFlow : Family → ℕ → Type 0
 HasFlow family j = (n : ℕ) × (family j (Flow n) ≡ true)

@@ -4,7 +4,6 @@ pub mod Optional
 pub mod Pushing
 pub mod Giving
 pub mod Left
-pub mod Bytes
 pub mod Columns
 pub mod Plain
 pub mod Working

@@ -14,10 +14,11 @@ use Rattle.reo_side_tables.specs.Listing.{Lists}
 use Rattle.reo_side_tables.specs.Marks.{group_in, apart_in, end_at, mark_at_joint, common_at_joint, IsJointOf, IsApartAt}
 use Rattle.reo_side_tables.proofs.Sides.{group_below, whole_row}
 use Rattle.reo_rows.specs.declared.groups.Group.{Group}
-use Rattle.reo_rows.specs.declared.marks.Marks.{Marks}
+use Rattle.reo_side_tables.specs.declared.sets.Marks.{Marks}
 use Rattle.reo_rows.specs.declared.rows.Rows.{Rows}
 use Rattle.reo_rows.specs.RowFlags.{flag}
-use Rattle.reo_rows.specs.Stands.{HasMark, marks_has}
+use Rattle.reo_rows.specs.Stands.{HasMark}
+use Rattle.reo_side_tables.specs.Sets.{marks_has}
 use Rattle.reo_rows.specs.Groups.{live_in, AreNoted}
 use Rattle.reo_rows.specs.Sparing.{IsIdle, IsLacking, CanSpare, AreCleared, GroupsHave}
 use Rattle.reo_rows.specs.Rows.{AreTables, IsSpare, IsSpared}

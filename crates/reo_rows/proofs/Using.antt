@@ -20,13 +20,14 @@ use Rattle.reo_side_tables.specs.Listing.{Lists}
 use Rattle.reo_side_tables.specs.Marks.{groups_in, group_in, apart_in, common_in, end_at, mark_at_joint, common_at_joint, IsJointOf, IsApartAt}
 use Rattle.reo_side_tables.proofs.Sides.{mark_as_group, group_below}
 use Rattle.reo_rows.specs.declared.groups.Group.{Group}
-use Rattle.reo_rows.specs.declared.marks.Marks.{Marks}
+use Rattle.reo_side_tables.specs.declared.sets.Marks.{Marks}
 use Rattle.reo_rows.specs.declared.rows.Rows.{Rows}
 use Rattle.reo_rows.specs.RowFlags.{flag}
 use Rattle.reo_rows.specs.Groups.{live_in, IsNotedOf, AreNoted}
 use Rattle.reo_rows.specs.Rows.{AreTables, IsSifted, IsSeen}
 use Rattle.reo_rows.specs.Sets.{value_of}
-use Rattle.reo_rows.specs.Stands.{value_mark, marks_has}
+use Rattle.reo_rows.specs.Stands.{value_mark}
+use Rattle.reo_side_tables.specs.Sets.{marks_has}
 use Rattle.reo_rows.specs.Usage.{HasCommonRow, IsCommonMark, IsListedMark}
 use Rattle.reo_rows.proofs.Codes.{plain_code}
 use Rattle.reo_rows.proofs.Optional.{is_some_or_not}

@@ -10,4 +10,3 @@ pub mod Beginning
 pub mod Sifting
 pub mod Usage
 pub mod Seeing
-pub mod Ends

@@ -5,9 +5,9 @@ use Rattle.reo_net_base.specs.Net.{Net}
 use Rattle.reo_side_tables.specs.Listing.{StandsIn}
 use Rattle.reo_side_tables.specs.Marks.{groups_in, group_in, mark_at_joint, common_at_joint, IsJointOf}
 use Rattle.reo_rows.specs.declared.groups.Group.{Group}
-use Rattle.reo_rows.specs.declared.marks.Marks.{Marks}
+use Rattle.reo_side_tables.specs.declared.sets.Marks.{Marks}
 use Rattle.reo_rows.specs.RowFlags.{flag}
-use Rattle.reo_rows.specs.Stands.{marks_has}
+use Rattle.reo_side_tables.specs.Sets.{marks_has}
 
 -- A row that flows nowhere and is not noted of its group, where these are the notes of its side.
 pub record IsIdle (net : Net) (side row : ℕ) (notes : List Group) : Type 0 where

@@ -1,14 +1,12 @@
 -- Which rows can stand, by their marks and by their flows.
-use Rattle.std.specs.Prelude.{ℕ, ◌≡◌, ◌≢◌, ◌==◌, Bool, true, cond, ◌+◌, Option, Some, None}
+use Rattle.std.specs.Prelude.{ℕ, ◌≡◌, ◌≢◌, ◌==◌, true, cond, Option, Some, None}
 use Rattle.reo_net_base.specs.declared.mark.Mark.{Mark}
-use Rattle.reo_net_base.specs.declared.mark.Mark.TheVariants.{F, G, R, J}
 use Rattle.reo_net_base.specs.Net.{Net}
 use Rattle.reo_net_laws.specs.Ends.{from_in}
 use Rattle.reo_joint_values.specs.declared.value.JointValue.{JointValue}
 use Rattle.reo_joint_values.specs.Values.{Names, Family, giver_mark, taker_mark, joint_of, giver_side}
 use Rattle.reo_joint_values.specs.Works.{IsGivenIn, TakerHas}
 use Rattle.reo_side_tables.specs.Marks.{end_at, mark_at_joint, common_at_joint, IsJointOf, TakesFlow, GivesFlow}
-use Rattle.reo_rows.specs.declared.marks.Marks.{Marks}
 
 -- The mark of a value of a joint, as a side of the joint sees it.
 abbrev pub value_mark : Net → ℕ → ℕ → JointValue → Mark
@@ -48,14 +46,3 @@ GroupStandsBesides net family side group besides = (j : ℕ) → IsJointOf net s
 pub record FlowsStand (net : Net) (names : Names) (family : Family) (side row : ℕ) : Type 0 where
   pub takes : (j : ℕ) → TakesFlow net side row j → TakerHas net names family side row j
   pub gives : (k : ℕ) → GivesFlow net side row k → from_in net row (joint_of net k).giver ≡ None → IsGivenIn net names family row k None
-
--- Whether a set of marks has a mark.
-abbrev pub marks_has : Marks → Mark → Bool
-marks_has marks F = marks.flow
-marks_has marks G = marks.given
-marks_has marks R = marks.required
-marks_has marks J = marks.jam
-
--- The bytes of the marks of a set together.
-abbrev pub marks_byte : Marks → ℕ
-marks_byte marks = cond marks.flow 1 0 + (cond marks.given 2 0 + (cond marks.required 4 0 + cond marks.jam 8 0))

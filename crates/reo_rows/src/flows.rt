@@ -16,11 +16,11 @@ ghost use Rattle.reo_rows.specs.Flows.{IsPassedOn};
 
 use crate::basis::Basis;
 use crate::flags::RowFlags;
-use crate::items::{gives_value, lets_in, source_of};
+use crate::items::gives_value;
 use crate::marks::FLOWS;
 use reo_net_base::Primitive;
 use reo_net_circuit::Circuit;
-use reo_side_tables::Flow;
+use reo_side_tables::{Flow, follows, lets_in, source_of};
 use reo_values::Value;
 
 /// Whether a joint has the item that a row gives there with flow for what it takes.
@@ -48,25 +48,6 @@ fn is_flow_given<P: Primitive>(
         }
     }
     false
-}
-
-/// Whether what a row gives with flow at the one joint hangs on what it takes in at the other.
-pub(crate) fn follows<P: Primitive>(
-    circuit: &Circuit<P>,
-    side: usize,
-    row: usize,
-    joint: usize,
-    source: usize,
-) -> bool
-    requires row { IsRowOf (net_of P.behaviour circuit.now) side row }
-    requires gives { GivesFlow (net_of P.behaviour circuit.now) side row joint }
-    requires source { source < length circuit.now.joints }
-    requires at { taker_side (net_of P.behaviour circuit.now) source ≡ side }
-    ensures { IsTrue result ↔ Follows (net_of P.behaviour circuit.now) row joint source }
-{
-    let taker = circuit.joint(source).taker;
-    circuit.joint(joint).giver.primitive == taker.primitive
-        && source_of(circuit, side, row, joint) == Some(taker.end)
 }
 
 /// Whether each joint has what a row gives there for an item that it takes in at a joint.

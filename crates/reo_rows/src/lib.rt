@@ -17,7 +17,7 @@ mod usage;
 pub use basis::Basis;
 pub use flags::RowFlags;
 pub use groups::{Group, Odd};
-pub use marks::{FLOWS, Marks, mark_seen, marks_left};
+pub use marks::{FLOWS, mark_seen, marks_left};
 pub use rows::{Rows, all_rows};
 pub use seeing::see;
 pub use sifting::sift;

@@ -1,19 +1,19 @@
-//! Sets of marks, and the marks of the values of a joint.
-ghost use Rattle.std.specs.Prelude.{◌≡◌, ◌↔◌, ◌<◌, ◌||◌, ℕ, true, false, IsTrue, length, slice_index_or, []};
+//! The marks of the values of a joint.
+ghost use Rattle.std.specs.Prelude.{◌≡◌, ◌↔◌, ◌<◌, ℕ, true, IsTrue, length};
 ghost use Rattle.reo_net_base.specs.declared.mark.Mark.{Mark as Said};
 ghost use Rattle.reo_net_base.specs.Net.{net_of};
-ghost use Rattle.reo_net_laws.specs.Ends.{same_mark};
 ghost use Rattle.reo_joint_values.specs.declared.value.JointValue.TheVariants.{Flow};
 ghost use Rattle.reo_joint_values.specs.Values.{giver_mark, taker_mark};
 ghost use Rattle.reo_rows.specs.Sets.{value_of, family_of};
 ghost use Rattle.reo_rows.specs.Basis.{IsReadyOn};
-ghost use Rattle.reo_rows.specs.Stands.{value_mark, HasMark, marks_has, marks_byte};
+ghost use Rattle.reo_rows.specs.Stands.{value_mark, HasMark};
+ghost use Rattle.reo_side_tables.specs.Sets.{marks_has};
 
 use crate::basis::Basis;
 use crate::flags::RowFlags;
 use reo_net_base::{Mark, Primitive};
 use reo_net_circuit::Circuit;
-use reo_side_tables::giver_side;
+use reo_side_tables::{Marks, giver_side, marks_of};
 
 /// The places of the values of a joint: without flow, where the giver requires a reason, where the
 /// taker does, where neither does, and jam; from `FLOWS` on the values with flow.
@@ -26,75 +26,6 @@ pub const NEITHER_REQUIRES: usize = 2;
 pub const JAM: usize = 3;
 
 pub const FLOWS: usize = 4;
-
-/// A set of marks.
-#[derive(Clone, Copy, Debug, PartialEq, Eq)]
-pub struct Marks {
-    pub flow: bool,
-    pub given: bool,
-    pub required: bool,
-    pub jam: bool,
-}
-
-impl Marks {
-    /// No marks.
-    pub fn none() -> Marks
-        ensures { (m : Said) → marks_has result m ≡ false }
-    {
-        Marks {
-            flow: false,
-            given: false,
-            required: false,
-            jam: false,
-        }
-    }
-
-    /// Whether the set has a mark.
-    pub fn has(self, mark: Mark) -> bool
-        ensures { result ≡ marks_has self mark }
-    {
-        match mark {
-            Mark::F => self.flow,
-            Mark::G => self.given,
-            Mark::R => self.required,
-            Mark::J => self.jam,
-        }
-    }
-
-    /// The set with one mark more.
-    pub fn with(self, mark: Mark) -> Marks
-        ensures { (m : Said) → marks_has result m ≡ (same_mark mark m || marks_has self m) }
-    {
-        let mut marks = self;
-        match mark {
-            Mark::F => marks.flow = true,
-            Mark::G => marks.given = true,
-            Mark::R => marks.required = true,
-            Mark::J => marks.jam = true,
-        }
-        marks
-    }
-
-    /// The bytes of its marks together.
-    pub fn byte(self) -> u8
-        ensures { result ≡ marks_byte self }
-    {
-        let mut byte = 0;
-        if self.flow {
-            byte += 1;
-        }
-        if self.given {
-            byte += 2;
-        }
-        if self.required {
-            byte += 4;
-        }
-        if self.jam {
-            byte += 8;
-        }
-        byte
-    }
-}
 
 /// The mark of a value, by its place, at the giver of its joint.
 fn mark_given(code: usize) -> Mark
@@ -143,25 +74,6 @@ fn has_flow(alive: &RowFlags, joint: usize) -> bool
         }
     }
     false
-}
-
-/// The marks at one end of a joint: there a reason is given where the other end requires one, or
-/// neither does.
-fn marks_of(flow: bool, other: bool, neither: bool, required: bool, jam: bool) -> Marks
-    ensures { result ≡ record {
-      flow = flow;
-      given = other || neither;
-      required = required;
-      jam =
-          jam;
-    } }
-{
-    Marks {
-        flow,
-        given: other || neither,
-        required,
-        jam,
-    }
 }
 
 /// The marks that the values of a joint have, as a side of the joint sees them.

@@ -13,13 +13,13 @@ ghost use Rattle.reo_rows.specs.Sets.{family_of, names_of};
 
 use crate::basis::Basis;
 use crate::flags::RowFlags;
-use crate::flows::{flow_works, follows};
-use crate::items::{gives_value, source_of};
+use crate::flows::flow_works;
+use crate::items::gives_value;
 use crate::marks::FLOWS;
 use crate::rows::Rows;
 use reo_net_base::Primitive;
 use reo_net_circuit::Circuit;
-use reo_side_tables::Flow;
+use reo_side_tables::{Flow, follows, source_of};
 use reo_values::{List, Value};
 
 /// No value with flow of a joint is seen.

@@ -18,12 +18,12 @@ use crate::basis::Basis;
 use crate::flags::RowFlags;
 use crate::groups::{Group, Odd};
 use crate::lists::apart_there;
-use crate::marks::{Marks, marks_left};
+use crate::marks::marks_left;
 use crate::rows::Rows;
 use reo_lanes::keep_rows;
 use reo_net_base::{End, Primitive};
 use reo_net_circuit::{Circuit, Ends};
-use reo_side_tables::{Board, Flow, end_at, mark_at_joint};
+use reo_side_tables::{Board, Flow, Marks, end_at, mark_at_joint};
 use reo_values::{List, NoMemory};
 
 /// So many ones in the place of all bytes. `NoMemory` is out of memory.

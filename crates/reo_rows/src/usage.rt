@@ -11,17 +11,17 @@ ghost use Rattle.reo_rows.specs.RowFlags.{flag};
 ghost use Rattle.reo_rows.specs.Groups.{IsNotedOf, AreNoted};
 ghost use Rattle.reo_rows.specs.Rows.{AreTables, IsSifted, IsSeen};
 ghost use Rattle.reo_rows.specs.Sets.{value_of, names_of};
-ghost use Rattle.reo_rows.specs.Stands.{marks_has};
+ghost use Rattle.reo_side_tables.specs.Sets.{marks_has};
 ghost use Rattle.reo_rows.specs.Usage.{HasCommonRow, IsCommonMark, IsListedMark};
 
 use crate::flags::RowFlags;
 use crate::groups::Group;
 use crate::lists::apart_there;
-use crate::marks::{FLOWS, Marks, mark_seen};
+use crate::marks::{FLOWS, mark_seen};
 use crate::rows::Rows;
 use reo_net_base::Primitive;
 use reo_net_circuit::Circuit;
-use reo_side_tables::{Board, end_at, mark_at_joint};
+use reo_side_tables::{Board, Marks, end_at, mark_at_joint};
 use reo_values::{List, Value};
 
 /// Whether some row is as its group at an end, by what is noted of the rows.

@@ -3,3 +3,4 @@ pub mod Growing
 pub mod Found
 pub mod Cells
 pub mod Adding
+pub mod Bytes

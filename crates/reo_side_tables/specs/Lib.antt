@@ -3,3 +3,5 @@ pub mod Marks
 pub mod Grouping
 pub mod Flowing
 pub mod Boards
+pub mod Ends
+pub mod Sets

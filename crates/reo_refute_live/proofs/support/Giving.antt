@@ -12,7 +12,8 @@ use Rattle.reo_joint_values.specs.Fitting.{given_for, passes_in}
 use Rattle.reo_joint_values.specs.Works.{IsGivenIn, TakerWorks, TakerHas}
 use Rattle.reo_joint_values.proofs.Marks.{flow_number}
 use Rattle.reo_refute_base.specs.Items.{Lists, numbered}
-use Rattle.reo_refute_live.specs.support.Flows.{TakesFlow, GivesFlow, IsPassedOn}
+use Rattle.reo_refute_live.specs.support.Flows.{IsPassedOn}
+use Rattle.reo_side_tables.specs.Marks.{TakesFlow, GivesFlow}
 
 -- The item of a number.
 pub item_at : (lists : Lists) (j n : ℕ) (list : List Value) (item : Value) → j < length lists → list ≡ get_or lists j list → n < length list → item ≡ get_or list n item

@@ -11,11 +11,13 @@ use Rattle.reo_lanes.specs.Rows.{kept_row, kept_rows}
 use Rattle.reo_joint_values.specs.Values.{Family, no_joint}
 use Rattle.reo_refute_parts.specs.places.AllowedRows.{AreMarked}
 use Rattle.reo_refute_live.specs.declared.support.columns.Column.{Column}
-use Rattle.reo_refute_live.specs.declared.support.marks.Marks.{Marks}
+use Rattle.reo_side_tables.specs.declared.sets.Marks.{Marks}
 use Rattle.reo_refute_live.specs.support.Columns.{HasBytes, IsColumn, joint_end, no_column}
 use Rattle.reo_refute_live.specs.support.Flows.{MarkStands}
-use Rattle.reo_refute_live.specs.support.Marks.{byte_of, marks_has, marks_byte, HasMark}
-use Rattle.reo_refute_live.proofs.support.Bytes.{kept_byte}
+use Rattle.reo_refute_live.specs.support.Marks.{HasMark}
+use Rattle.reo_side_tables.specs.Marks.{byte_of}
+use Rattle.reo_side_tables.specs.Sets.{marks_has, marks_byte}
+use Rattle.reo_side_tables.proofs.Bytes.{kept_byte}
 
 -- The end of a column is one of the circuit.
 pub end_in : (net : Net) → IsWired net → (j : ℕ) → j < length net.joints → (gives : Bool) → IsEnd net.primitives (joint_end net j gives)

@@ -15,9 +15,10 @@ use Rattle.reo_joint_values.specs.Values.{Family, value_eq}
 use Rattle.reo_joint_values.proofs.Narrowing.{value_same, same_value}
 use Rattle.reo_refute_base.specs.Live.{alone}
 use Rattle.reo_refute_live.specs.declared.support.live.LiveAt.{LiveAt}
-use Rattle.reo_refute_live.specs.declared.support.marks.Marks.{Marks}
+use Rattle.reo_side_tables.specs.declared.sets.Marks.{Marks}
 use Rattle.reo_refute_live.specs.support.Families.{has}
-use Rattle.reo_refute_live.specs.support.Marks.{marks_has, value_mark, HasMark, IsMarkOf}
+use Rattle.reo_refute_live.specs.support.Marks.{value_mark, HasMark, IsMarkOf}
+use Rattle.reo_side_tables.specs.Sets.{marks_has}
 
 -- A flag that is set is in its list.
 pub flag_in : (flags : List Bool) (n : ℕ) → get_or flags n false ≡ true → n < length flags

@@ -13,8 +13,8 @@ use Rattle.reo_net_laws.proofs.Sides.{below_or}
 use Rattle.reo_joint_values.specs.Values.{joint_of}
 use Rattle.reo_refute_live.specs.declared.support.columns.Column.{Column}
 use Rattle.reo_refute_live.specs.support.Columns.{IsColumn, joint_end, no_column, AreColumns}
-use Rattle.reo_refute_live.specs.support.Flows.{TakesFlow, GivesFlow}
-use Rattle.reo_refute_live.specs.support.Marks.{byte_of}
+use Rattle.reo_side_tables.specs.Marks.{TakesFlow, GivesFlow}
+use Rattle.reo_side_tables.specs.Marks.{byte_of}
 use Rattle.reo_refute_live.proofs.support.Keeping.{column_rows}
 
 pub mark_is : (net : Net) (e : End) (row : ℕ) (b : Behaviour) (s : ℕ) → b ≡ behaviour_at net.primitives e.primitive → s ≡ b.side_of e.end → b.mark s row e.end ≡ mark_in net row e

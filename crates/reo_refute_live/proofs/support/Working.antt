@@ -14,7 +14,8 @@ use Rattle.reo_joint_values.proofs.Fitting.Decided.{by_none, by_joint}
 use Rattle.reo_joint_values.proofs.Marks.{no_item}
 use Rattle.reo_refute_live.specs.declared.support.columns.Column.{Column}
 use Rattle.reo_refute_live.specs.support.Columns.{IsColumn, HasColumn, AreColumns, joint_end, no_column}
-use Rattle.reo_refute_live.specs.support.Flows.{FlowStands, FlowsStand, MarkStands, MarksStand, TakesFlow, GivesFlow}
+use Rattle.reo_refute_live.specs.support.Flows.{FlowStands, FlowsStand, MarkStands, MarksStand}
+use Rattle.reo_side_tables.specs.Marks.{TakesFlow, GivesFlow}
 use Rattle.reo_refute_live.specs.support.Marks.{value_mark}
 
 module _ (net : Net) (wired : IsWired net) (names : Names) (family : Family) (side row : ℕ) where

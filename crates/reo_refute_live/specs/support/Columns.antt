@@ -6,7 +6,7 @@ use Rattle.reo_net_base.specs.Sides.{side_count}
 use Rattle.reo_net_laws.specs.Ends.{mark_in}
 use Rattle.reo_joint_values.specs.Values.{joint_of, giver_side, taker_side}
 use Rattle.reo_refute_live.specs.declared.support.columns.Column.{Column}
-use Rattle.reo_refute_live.specs.support.Marks.{byte_of}
+use Rattle.reo_side_tables.specs.Marks.{byte_of}
 
 -- The giver of a joint, or its taker.
 abbrev pub joint_end : Net → ℕ → Bool → End

@@ -1,11 +1,11 @@
 -- Rows that may stand, by their marks and by their flows.
 use Rattle.std.specs.Prelude.{ℕ, ◌<◌, ◌≡◌, ◌≢◌, true, false, Option, None, List, length, slice_index, slice_index_or}
 use Rattle.reo_values.specs.declared.value.Value.{Value}
-use Rattle.reo_net_base.specs.declared.mark.Mark.TheVariants.{F}
 use Rattle.reo_net_base.specs.Net.{Net}
 use Rattle.reo_net_laws.specs.Ends.{mark_in, from_in}
-use Rattle.reo_joint_values.specs.Values.{Names, Family, joint_of, giver_side, taker_side}
+use Rattle.reo_joint_values.specs.Values.{Names, Family, joint_of, giver_side}
 use Rattle.reo_joint_values.specs.Works.{Follows, IsGivenIn, TakerHas}
+use Rattle.reo_side_tables.specs.Marks.{TakesFlow, GivesFlow}
 use Rattle.reo_refute_base.specs.Items.{Lists}
 use Rattle.reo_refute_live.specs.declared.support.columns.Column.{Column}
 use Rattle.reo_refute_live.specs.declared.support.live.LiveAt.{LiveAt}
@@ -19,18 +19,6 @@ pub record AreReady (net : Net) (side : ℕ) (lists : Lists) (columns : List Col
   pub supply : length lists ≡ length net.joints
   pub columns_are : AreColumns net side columns
   pub live_are : AreLive lists live
-
--- A row takes an item in at a joint of its side.
-pub record TakesFlow (net : Net) (side row j : ℕ) : Type 0 where
-  pub in_range : j < length net.joints
-  pub here : taker_side net j ≡ side
-  pub flows : mark_in net row (joint_of net j).taker ≡ F
-
--- A row gives an item at a joint of its side.
-pub record GivesFlow (net : Net) (side row j : ℕ) : Type 0 where
-  pub in_range : j < length net.joints
-  pub here : giver_side net j ≡ side
-  pub flows : mark_in net row (joint_of net j).giver ≡ F
 
 -- What a row gives for what it takes in at a joint may stand where it is given.
 abbrev pub IsPassedOn : Net → Names → Family → ℕ → ℕ → ℕ → Option Value → Type 0

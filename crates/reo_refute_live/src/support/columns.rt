@@ -4,9 +4,9 @@ ghost use Rattle.reo_net_base.specs.Net.{net_of};
 ghost use Rattle.reo_net_base.specs.Wired.{IsEnd};
 ghost use Rattle.reo_refute_live.specs.support.Columns.{AreMarksAt, IsColumnOf, joint_end};
 
-use crate::support::marks::byte_of;
 use reo_net_base::{End, Primitive};
 use reo_net_circuit::Circuit;
+use reo_side_tables::byte_of;
 use reo_values::{List, NoMemory};
 use std::alloc::Global;
 

@@ -2,18 +2,18 @@
 ghost use Rattle.std.specs.Prelude.{◌≡◌, ◌↔◌, ◌<◌, IsTrue, Some, None, true, false, length, option_copied, slice_index};
 ghost use Rattle.reo_net_base.specs.Net.{net_of};
 ghost use Rattle.reo_net_laws.specs.Ends.{IsRowOf};
-ghost use Rattle.reo_joint_values.specs.Works.{Follows, IsGivenIn, TakerHas};
+ghost use Rattle.reo_joint_values.specs.Works.{IsGivenIn, TakerHas};
+ghost use Rattle.reo_side_tables.specs.Marks.{GivesFlow, TakesFlow};
 ghost use Rattle.reo_refute_base.specs.Items.{numbered};
 ghost use Rattle.reo_refute_live.specs.support.Asked.{IsAsked, held_in};
 ghost use Rattle.reo_refute_live.specs.support.Columns.{IsColumn};
-ghost use Rattle.reo_refute_live.specs.support.Flows.{GivesFlow, TakesFlow, IsPassedOn, FlowStands, FlowsStand};
+ghost use Rattle.reo_refute_live.specs.support.Flows.{IsPassedOn, FlowStands, FlowsStand};
 
 use crate::support::asked::Asked;
 use crate::support::columns::Column;
-use crate::support::items::{gives_item, lets_in, source_of};
 use crate::support::live::may_flow;
 use reo_net_base::Primitive;
-use reo_net_circuit::Circuit;
+use reo_side_tables::{follows, gives_item, lets_in, source_of};
 use reo_values::Value;
 
 /// The byte of flow.
@@ -50,24 +50,6 @@ fn gives_some<P: Primitive>(
         }
     }
     false
-}
-
-/// Whether what a row gives with flow at the one joint hangs on what it takes in at the other.
-fn follows<P: Primitive>(
-    circuit: &Circuit<P>,
-    side: usize,
-    row: usize,
-    joint: usize,
-    source: usize,
-) -> bool
-    requires row { IsRowOf (net_of P.behaviour circuit.now) side row }
-    requires gives { GivesFlow (net_of P.behaviour circuit.now) side row joint }
-    requires source { source < length circuit.now.joints }
-    ensures { IsTrue result ↔ Follows (net_of P.behaviour circuit.now) row joint source }
-{
-    let taker = circuit.joint(source).taker;
-    circuit.joint(joint).giver.primitive == taker.primitive
-        && source_of(circuit, side, row, joint) == Some(taker.end)
 }
 
 /// Whether a row flows at a column.

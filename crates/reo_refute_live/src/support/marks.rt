@@ -1,57 +1,16 @@
-//! Sets of marks, and the marks of the values that are live at a joint.
-ghost use Rattle.std.specs.Prelude.{◌≡◌, ◌↔◌, ◌<◌, ◌||◌, ℕ, true, false, IsTrue, length, slice_index_or, []};
+//! The marks of the values that are live at a joint.
+ghost use Rattle.std.specs.Prelude.{◌≡◌, ◌↔◌, ◌<◌, ℕ, true, false, IsTrue, length, slice_index_or, []};
 ghost use Rattle.reo_net_base.specs.declared.mark.Mark.{Mark as Said};
 ghost use Rattle.reo_joint_values.specs.declared.value.JointValue.TheVariants.{Flow};
 ghost use Rattle.reo_refute_base.specs.Live.{alone};
 ghost use Rattle.reo_refute_live.specs.support.Families.{family_of, has};
-ghost use Rattle.reo_refute_live.specs.support.Marks.{byte_of, marks_has, marks_byte, value_mark, HasMark, IsMarkOf};
+ghost use Rattle.reo_refute_live.specs.support.Marks.{value_mark, HasMark, IsMarkOf};
+ghost use Rattle.reo_side_tables.specs.Sets.{marks_has};
 
 use crate::support::live::LiveAt;
 use reo_joint_values::JointValue;
 use reo_net_base::Mark;
-
-/// The byte of a mark: 1 is flow, 2 gives a reason, 4 requires one, 8 is jam.
-pub(crate) fn byte_of(mark: Mark) -> u8
-    ensures { result ≡ byte_of mark }
-{
-    match mark {
-        Mark::F => 1,
-        Mark::G => 2,
-        Mark::R => 4,
-        Mark::J => 8,
-    }
-}
-
-/// A set of marks.
-#[derive(Clone, Copy, Debug, PartialEq, Eq)]
-pub(crate) struct Marks {
-    pub(crate) flow: bool,
-    pub(crate) given: bool,
-    pub(crate) required: bool,
-    pub(crate) jam: bool,
-}
-
-impl Marks {
-    /// The bytes of its marks together.
-    pub(crate) fn byte(self) -> u8
-        ensures { result ≡ marks_byte self }
-    {
-        let mut byte = 0;
-        if self.flow {
-            byte += 1;
-        }
-        if self.given {
-            byte += 2;
-        }
-        if self.required {
-            byte += 4;
-        }
-        if self.jam {
-            byte += 8;
-        }
-        byte
-    }
-}
+use reo_side_tables::{Marks, marks_of};
 
 /// Whether some item may flow.
 fn has_flow(flows: &[bool]) -> bool
@@ -63,23 +22,6 @@ fn has_flow(flows: &[bool]) -> bool
         }
     }
     false
-}
-
-/// The marks at one end: a reason is given there where the other end requires one, or none does.
-fn marks_of(flow: bool, other: bool, neither: bool, required: bool, jam: bool) -> Marks
-    ensures { result ≡ record {
-      flow = flow;
-      given = other || neither;
-      required = required;
-      jam = jam;
-    } }
-{
-    Marks {
-        flow,
-        given: other || neither,
-        required,
-        jam,
-    }
 }
 
 /// The marks that the live values of a joint put at its giver or at its taker.

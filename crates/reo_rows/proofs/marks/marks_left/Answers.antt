@@ -1,8 +1,9 @@
 use Rattle.std.proofs.Common.{◌≡◌, ◌↔◌, ◌∙◌, true, refl, sym, subst}
 use Rattle.reo_net_base.specs.Net.{Net, net_of}
 use Rattle.reo_joint_values.specs.Values.{Family}
-use Rattle.reo_rows.specs.declared.marks.Marks.{Marks}
-use Rattle.reo_rows.specs.Stands.{HasMark, marks_has}
+use Rattle.reo_side_tables.specs.declared.sets.Marks.{Marks}
+use Rattle.reo_rows.specs.Stands.{HasMark}
+use Rattle.reo_side_tables.specs.Sets.{marks_has}
 use Rattle.reo_rows.specs.Sets.{family_of}
 use Rattle.reo_rows.proofs.Left.{giver_left, taker_left, givers, takers}
 use Rattle.reo_rows.proofs.Plain.{giver_seen, other_seen}

@@ -3,7 +3,8 @@ use Rattle.reo_net_base.specs.Net.{Net, net_of, no_side}
 use Rattle.reo_lanes.specs.Rows.{kept_rows}
 use Rattle.reo_joint_values.specs.Values.{Family}
 use Rattle.reo_rows.specs.Sets.{family_of}
-use Rattle.reo_rows.specs.Stands.{HasMark, marks_has}
+use Rattle.reo_rows.specs.Stands.{HasMark}
+use Rattle.reo_side_tables.specs.Sets.{marks_has}
 use Rattle.reo_rows.proofs.Columns.{AreFitBelow, fit_more, column_cut, cut_length, cut_cell}
 use Rattle.reo_rows.proofs.Reading.{board_is, read}
 use Rattle.reo_rows.proofs.standing.clear_unfit.Goals as goal

@@ -2,7 +2,7 @@ use Rattle.std.proofs.Common.{◌≡◌, ◌≢◌, ◌<◌, ℕ, true, get_or, 
 use Rattle.reo_net_base.specs.Net.{net_of}
 use Rattle.reo_side_tables.specs.Marks.{common_at_joint}
 use Rattle.reo_rows.specs.declared.groups.Group.{Group}
-use Rattle.reo_rows.specs.Stands.{marks_has}
+use Rattle.reo_side_tables.specs.Sets.{marks_has}
 use Rattle.reo_rows.proofs.standing.groups_have.Given as goal
 
 abbrev pub invariant-loop-group : goal.invariant-loop-group

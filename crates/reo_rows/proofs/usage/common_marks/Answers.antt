@@ -4,9 +4,9 @@ use Rattle.reo_net_base.specs.declared.mark.Mark.{Mark}
 use Rattle.reo_net_base.specs.declared.joint.End.{End}
 use Rattle.reo_net_base.specs.Net.{Net, net_of, no_side}
 use Rattle.reo_side_tables.specs.Marks.{groups_in, common_at_joint}
-use Rattle.reo_rows.specs.declared.marks.Marks.{Marks}
+use Rattle.reo_side_tables.specs.declared.sets.Marks.{Marks}
 use Rattle.reo_rows.specs.Groups.{live_in, IsNotedOf}
-use Rattle.reo_rows.specs.Stands.{marks_has}
+use Rattle.reo_side_tables.specs.Sets.{marks_has}
 use Rattle.reo_rows.specs.Usage.{HasCommonRow, IsCommonMark}
 use Rattle.reo_rows.proofs.Reading.{end_read, common_read}
 use Rattle.reo_rows.proofs.Using.{noted_read, first_read, with_common, without_common}

@@ -1,7 +1,7 @@
 use Rattle.std.proofs.Common.{◌≡◌, ◌↔◌, true}
 use Rattle.reo_net_base.specs.declared.mark.Mark.{Mark}
 use Rattle.reo_net_base.specs.Net.{net_of}
-use Rattle.reo_rows.specs.Stands.{marks_has}
+use Rattle.reo_side_tables.specs.Sets.{marks_has}
 use Rattle.reo_rows.specs.Usage.{IsListedMark}
 use Rattle.reo_rows.proofs.usage.listed_marks.Given as goal
 

@@ -1,7 +1,7 @@
 use Rattle.std.proofs.Common.{◌≡◌, ◌∙◌, ℕ, ap}
 use Rattle.reo_net_base.specs.Net.{Net, net_of}
 use Rattle.reo_net_laws.specs.Ends.{mark_in}
-use Rattle.reo_refute_live.specs.support.Marks.{byte_of}
+use Rattle.reo_side_tables.specs.Marks.{byte_of}
 use Rattle.reo_refute_live.proofs.support.Reading.{mark_is, byte_more, byte_length}
 use Rattle.reo_refute_live.proofs.support.columns.marks_at.Goals as goal
 

@@ -1,7 +1,7 @@
 use Rattle.std.proofs.Common.{◌≡◌, ◌<◌, ℕ, length, get_or}
 use Rattle.reo_net_base.specs.Net.{net_of}
 use Rattle.reo_net_laws.specs.Ends.{mark_in}
-use Rattle.reo_refute_live.specs.support.Marks.{byte_of}
+use Rattle.reo_side_tables.specs.Marks.{byte_of}
 use Rattle.reo_refute_live.proofs.support.columns.marks_at.Given as goal
 
 -- The bytes of the rows so far.

@@ -30,9 +30,13 @@ returns-then-not-column g c =
       λ s. c.takes_some.ensures.1 (s.takes c.if-not-column.true (takes_flow net c.known.ensures.wired c.args.asked.now.side c.args.row c.requires.row c.args.column.now c.requires.column c.if-not-column.true (c.flows_at.ensures.0 c.if-not-flows_at.false))),
     )
 
-pub source_of-requires-clause-gives : goal.source_of-requires-clause-gives
-source_of-requires-clause-gives g c =
-    gives_flow (net_of g.P.Primitive.behaviour c.args.asked.now.circuit.now) c.known.ensures.wired c.args.asked.now.side c.args.row c.requires.row c.args.column.now c.requires.column c.if-not-column.false (c.flows_at.ensures.0 c.if-not-flows_at.false)
+pub source_of-requires-clause-at : goal.source_of-requires-clause-at
+source_of-requires-clause-at g c =
+    (gives_flow (net_of g.P.Primitive.behaviour c.args.asked.now.circuit.now) c.known.ensures.wired c.args.asked.now.side c.args.row c.requires.row c.args.column.now c.requires.column c.if-not-column.false (c.flows_at.ensures.0 c.if-not-flows_at.false)).here
+
+pub source_of-requires-clause-flows : goal.source_of-requires-clause-flows
+source_of-requires-clause-flows g c =
+    (gives_flow (net_of g.P.Primitive.behaviour c.args.asked.now.circuit.now) c.known.ensures.wired c.args.asked.now.side c.args.row c.requires.row c.args.column.now c.requires.column c.if-not-column.false (c.flows_at.ensures.0 c.if-not-flows_at.false)).flows
 
 pub returns-in-None : goal.returns-in-None
 returns-in-None g c =

@@ -1,8 +1,9 @@
 use Rattle.std.proofs.Common.{◌≡◌, ◌↔◌, ℕ, Bool, true, false, List, get_or, sym, subst}
 use Rattle.std.specs.Prelude.{IsTrue}
-use Rattle.reo_refute_live.specs.declared.support.marks.Marks.{Marks}
+use Rattle.reo_side_tables.specs.declared.sets.Marks.{Marks}
 use Rattle.reo_refute_live.specs.support.Families.{has}
-use Rattle.reo_refute_live.specs.support.Marks.{marks_has, IsMarkOf}
+use Rattle.reo_refute_live.specs.support.Marks.{IsMarkOf}
+use Rattle.reo_side_tables.specs.Sets.{marks_has}
 use Rattle.reo_refute_live.proofs.support.LiveLemmas.{giver_exact, taker_exact}
 use Rattle.reo_refute_live.proofs.support.marks.live_marks.Goals as goal
 

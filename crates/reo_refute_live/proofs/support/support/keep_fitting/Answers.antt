@@ -5,7 +5,7 @@ use Rattle.reo_lanes.specs.Rows.{kept_rows}
 use Rattle.reo_refute_base.specs.Live.{alone}
 use Rattle.reo_refute_live.specs.declared.support.columns.Column.{Column}
 use Rattle.reo_refute_live.specs.support.Families.{family_of}
-use Rattle.reo_refute_live.specs.support.Marks.{marks_byte}
+use Rattle.reo_side_tables.specs.Sets.{marks_byte}
 use Rattle.reo_refute_live.proofs.support.Keeping.{AreLeft, column_rows, left_more}
 use Rattle.reo_refute_live.proofs.support.Reading.{column_is, column_same}
 use Rattle.reo_refute_live.proofs.support.support.keep_fitting.Goals as goal

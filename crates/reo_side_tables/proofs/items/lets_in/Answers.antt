@@ -1,7 +1,7 @@
 use Rattle.reo_net_base.specs.Net.{net_of}
 use Rattle.reo_joint_values.specs.Values.{no_joint}
 use Rattle.reo_joint_values.proofs.Fitting.{taker_row}
-use Rattle.reo_rows.proofs.items.lets_in.Goals as goal
+use Rattle.reo_side_tables.proofs.items.lets_in.Goals as goal
 
 pub passes-requires-clause-row : goal.passes-requires-clause-row
 passes-requires-clause-row g c =

@@ -1,7 +1,7 @@
 use Rattle.reo_net_base.specs.Net.{net_of}
 use Rattle.reo_joint_values.specs.Values.{no_joint}
 use Rattle.reo_joint_values.proofs.Fitting.{giver_row}
-use Rattle.reo_rows.proofs.items.source_of.Goals as goal
+use Rattle.reo_side_tables.proofs.items.source_of.Goals as goal
 
 pub from-requires-clause-row : goal.from-requires-clause-row
 from-requires-clause-row g c =

@@ -1,7 +1,7 @@
 use Rattle.reo_net_base.specs.Net.{net_of}
 use Rattle.reo_joint_values.specs.Values.{no_joint}
 use Rattle.reo_joint_values.proofs.Fitting.{giver_row}
-use Rattle.reo_rows.proofs.items.gives_item.Goals as goal
+use Rattle.reo_side_tables.proofs.items.gives_item.Goals as goal
 
 pub agrees-requires-clause-row : goal.agrees-requires-clause-row
 agrees-requires-clause-row g c =

@@ -1,12 +1,14 @@
 -- Marks as bits of a byte.
-use Rattle.std.proofs.Common.{◌≡◌, Bool, true, false, not, refl}
+use Rattle.std.proofs.Common.{◌≡◌, ◌≢◌, ◌↔◌, inl, inr, ℕ, Bool, true, false, not, refl, ap, sym, ◌∙◌}
 use Rattle.std.specs.Bool.{◌==◌}
 use Rattle.std.specs.Prelude.{bit_and}
 use Rattle.reo_net_base.specs.declared.mark.Mark.{Mark}
 use Rattle.reo_net_base.specs.declared.mark.Mark.TheVariants.{F, G, R, J}
 use Rattle.reo_side_tables.specs.Marks.{byte_of}
-use Rattle.reo_rows.specs.declared.marks.Marks.{Marks}
-use Rattle.reo_rows.specs.Stands.{marks_has, marks_byte}
+use Rattle.reo_side_tables.specs.declared.sets.Marks.{Marks}
+use Rattle.reo_side_tables.specs.Sets.{marks_has, marks_byte}
+use Rattle.reo_lanes.specs.Rows.{kept_row}
+use Rattle.std.proofs.lemmas.Bool.{cases_Bool, cond-true, cond-false}
 
 abbrev set_of : Bool → Bool → Bool → Bool → Marks
 set_of f g r j = record { flow = f; given = g; required = r; jam = j }
@@ -39,5 +41,18 @@ shares J true false r j = by_two J true false refl refl refl refl r j
 shares J false true r j = by_two J false true refl refl refl refl r j
 shares J false false r j = by_two J false false refl refl refl refl r j
 
-pub byte_shares : (m : Mark) (s : Marks) → (bit_and (byte_of m) (marks_byte s) == 0) ≡ not (marks_has s m)
+byte_shares : (m : Mark) (s : Marks) → (bit_and (byte_of m) (marks_byte s) == 0) ≡ not (marks_has s m)
 byte_shares m s = shares m s.flow s.given s.required s.jam
+
+-- A byte that is kept is that of a mark that is left.
+pub kept_byte : (m : Mark) (s : Marks) (byte : ℕ) → (kept_row (marks_byte s) (byte_of m) byte ≢ 0) ↔ ((byte ≢ 0) × (marks_has s m ≡ true))
+kept_byte m s byte = elim (cases_Bool (marks_has s m)) [
+  | inl has ↦
+      let test : (bit_and (byte_of m) (marks_byte s) == 0) ≡ false = byte_shares m s ∙ ap not has in
+      let is : kept_row (marks_byte s) (byte_of m) byte ≡ byte = cond-false (bit_and (byte_of m) (marks_byte s) == 0) 0 byte test in
+      (λ h. (λ e. h (is ∙ e), has), λ h e. h.0 (sym is ∙ e))
+  | inr not_has ↦
+      let test : (bit_and (byte_of m) (marks_byte s) == 0) ≡ true = byte_shares m s ∙ ap not not_has in
+      let is : kept_row (marks_byte s) (byte_of m) byte ≡ 0 = cond-true (bit_and (byte_of m) (marks_byte s) == 0) 0 byte test in
+      (λ h. absurd (h is), λ h. let wrong : true ≡ false = sym h.1 ∙ not_has in absurd cc)
+]

@@ -1,9 +1,0 @@
-use Rattle.reo_net_base.specs.Net.{net_of}
-use Rattle.reo_joint_values.specs.Values.{no_joint}
-use Rattle.reo_joint_values.proofs.Fitting.{taker_row}
-use Rattle.reo_refute_live.proofs.support.items.lets_in.Goals as goal
-
-pub passes-requires-clause-row : goal.passes-requires-clause-row
-passes-requires-clause-row g c =
-    let there = taker_row (net_of g.P.Primitive.behaviour c.args.circuit.now) c.known.ensures.wired c.args.side c.args.row c.args.joint c.requires.takes.in_range c.requires.takes.here c.requires.row in
-    rw (c.side_of.ensures, c.primitive-primitive.ensures.behaviour) (rw (c.joint.ensures no_joint) at there)
