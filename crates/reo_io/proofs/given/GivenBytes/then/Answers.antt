@@ -1,4 +1,4 @@
-use Rattle.std.proofs.Common.{◌≡◌, ◌∙◌, ap, []}
+use Rattle.std.proofs.Common.{◌∙◌, ap, []}
 use Rattle.reo_io.specs.Given.{empties}
 use Rattle.reo_io.proofs.Empties.{empties-then}
 use Rattle.reo_io.proofs.given.GivenBytes.then.Goals as goal
