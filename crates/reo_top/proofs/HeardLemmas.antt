@@ -225,13 +225,13 @@ misses_said source sink code heard is closed =
 pub heard_on : (budget : ℕ) (flat : FlatCircuit) (source : SourceChange) (old mid new : SinkState) (code : ℕ) (heard : Heard) → ClosingIsOne kind_rules → HasOrder (net_of behaviour_of flat.wiring)
     → old.faults ≤ mid.faults → HeardFrom kind_rules flat.ports budget flat.wiring old.told mid.told source heard → (heard ≡ heards.Broken → Rose old.faults mid.faults)
     → (source.old.faults < source.new.faults → heard ≡ heards.Missed) → IsClosedAs heard (record { old = mid; new = new }) code → IsHeardOn budget flat source (record { old = old; new = new }) code
-heard_on budget flat source old mid new code heard one order later from cause missed closed =
+heard_on budget flat source old mid new code heard one order later from cause when_missed closed =
     let owed = is_owed budget flat from.events one order old mid new code later heard from.come cause closed in
     record {
       events = from.events;
       taken = from.taken;
       few = few_taken source (record { old = mid; new = new }) code heard from.few closed;
-      misses = λ rose. misses_said source (record { old = mid; new = new }) code heard (missed rose) closed;
+      misses = λ rose. misses_said source (record { old = mid; new = new }) code heard (when_missed rose) closed;
       cases = owed.cases;
       exact = owed.exact;
       whatever = λ here. elim (from.whatever here) [
